@@ -6,3 +6,4 @@ pub mod Contexts
 pub mod Places
 pub mod Loops
 pub mod Limits
+pub mod OrderLaws
