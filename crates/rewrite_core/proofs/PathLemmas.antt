@@ -1,6 +1,6 @@
 -- Paths step by step.
 use Rattle.std.specs.Prelude.{◌==◌}
-use Rattle.std.proofs.Common.{◌≡◌, ◌≢◌, ℕ, ◌+◌, ◌<◌, ◌≤◌, suc, Bool, true, false, List, [], ◌∷◌, length, take, drop, get_or, Option, Some, None, Result, Ok, Err, IfSome, IfNone, is_some, IsTrue, add-one, drop-cons, refl, ap, sym, subst, ◌∙◌}
+use Rattle.std.proofs.Common.{◌≡◌, ◌≢◌, ℕ, ◌+◌, ◌<◌, ◌≤◌, suc, Bool, true, false, List, [], ◌∷◌, length, take, drop, get_or, Option, Some, None, Ok, Err, IfSome, is_some, IsTrue, add-one, drop-cons, refl, ap, sym, subst, ◌∙◌}
 use Rattle.std.proofs.lemmas.List.{take_more, take_all}
 use Rattle.std.proofs.lemmas.Option.{slice_get_read}
 use Rattle.std.specs.Ordering.{nat_cmp}
@@ -8,7 +8,7 @@ use Rattle.std.specs.FinMap.{FinMap}
 use Rattle.trs_defs.specs.Tree.{Tree}
 use Rattle.trs_defs.specs.Size.{within_limits}
 use Rattle.trs_defs.specs.WellFormed.{IsWellFormed}
-use Rattle.trs_defs.specs.Substitution.{apply, bound, IsInstance}
+use Rattle.trs_defs.specs.Substitution.{apply, bound}
 use Rattle.trs_defs.specs.Position.{subterm_at}
 use Rattle.trs_defs.specs.System.{RewriteRule, System, IsSystem}
 use Rattle.trs_defs.specs.Path.{PlacedRule, StepsAt, Follows}

@@ -1,5 +1,5 @@
 -- Terms put at positions, and their measure.
-use Rattle.std.proofs.Common.{◌≡◌, ◌≢◌, ℕ, ◌+◌, ◌-◌, ◌≤◌, ◌<◌, ◌⊎◌, inl, inr, Bool, true, false, cond, List, length, Option, Some, None, min, refl, arith, IsTrue}
+use Rattle.std.proofs.Common.{◌≡◌, ◌≢◌, ℕ, ◌+◌, ◌-◌, ◌≤◌, ◌<◌, ◌⊎◌, inl, inr, Bool, true, false, cond, List, length, Some, None, min, arith, IsTrue}
 use Rattle.trs_defs.specs.Tree.{Tree}
 use Rattle.trs_defs.specs.Size.{size_of, depth_of, within_limits}
 use Rattle.trs_defs.specs.Position.{subterm_at, replaced_at}
@@ -68,7 +68,11 @@ module _ (p : List ℕ) (t by : Tree) (nodes redex size depth : ℕ) (measured :
   changed_and_large h =
       let put = replaced_somehow p t part.part by part.there in
       let w = whole put.0 put.1 in
-      record { result = put.0; put = put.1; large = elim h as (λ _. within_limits put.0 ≡ false) [
-        | inl k ↦ limits_passed_by_size put.0 (omega arith)
-        | inr k ↦ limits_passed_by_depth put.0 (omega arith)
-      ] }
+      record {
+        result = put.0;
+        put = put.1;
+        large = elim h as (λ _. within_limits put.0 ≡ false) [
+          | inl k ↦ limits_passed_by_size put.0 (omega arith)
+          | inr k ↦ limits_passed_by_depth put.0 (omega arith)
+        ];
+      }

@@ -4,5 +4,4 @@ ghost use Rattle.rewrite_core.specs.Laws.{EachStepHasAPlace};
 /// number. So the results of `step_at` are the terms one step away that keep the limits.
 pub fn each_step_has_a_place()
     ensures { EachStepHasAPlace }
-{
-}
+{}
