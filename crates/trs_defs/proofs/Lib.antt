@@ -1,1 +1,4 @@
+pub mod ArgumentLists
+pub mod BindingLaws
 pub mod OrderLaws
+pub mod VariableLaws
