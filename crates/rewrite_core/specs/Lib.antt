@@ -1,0 +1,4 @@
+pub mod Steps
+pub mod Current
+pub mod Paths
+pub mod Laws
