@@ -1,0 +1,5 @@
+pub mod Bytes
+pub mod Once
+pub mod Viewing
+pub mod Stack
+pub mod Again
