@@ -2,3 +2,4 @@ pub mod Steps
 pub mod Current
 pub mod Paths
 pub mod Laws
+pub mod LoopRefusal

@@ -3,12 +3,16 @@
 #![tactic(auto)]
 
 mod current;
+mod forks;
 mod laws;
 mod loops;
 mod paths;
+mod refusals;
 mod steps;
 
+pub use forks::ForkTest;
 pub use laws::each_step_has_a_place;
 pub use loops::loop_check;
 pub use paths::{PathFault, PathStep, run_path};
+pub use refusals::{CheckFault, StepRefused};
 pub use steps::{StepFault, step_at};
