@@ -1,0 +1,16 @@
+-- Usable symbols and usable rules. (Arts and Giesl, 2000, section 3.2; Hirokawa and Middeldorp, 2007; Giesl, Thiemann,
+-- Schneider-Kamp and Falke, 2006.)
+use Rattle.std.specs.Prelude.{ℕ, List}
+use Rattle.trs_defs.specs.Member.{In}
+use Rattle.trs_defs.specs.Tree.{Tree, Trees, app}
+use Rattle.trs_defs.specs.System.{RewriteRule, Among}
+use Rattle.trs_defs.specs.Subterm.{Sub, Subs}
+use Rattle.trs_defs.specs.DependencyPair.{DependencyPair, IsDefined}
+
+-- the least set of symbols that has each defined symbol below the root of a pair's right side and, with the root of a
+-- rule, each defined symbol of its right side
+pub data IsUsable (rules : List RewriteRule) (pairs : List DependencyPair) : ℕ → Type 0 where
+  in_pair : (p : DependencyPair) (g : ℕ) (us : Trees) → In p pairs → Subs (app g us) p.to.args → IsDefined (Among rules) g
+      → IsUsable rules pairs g
+  in_rule : (f g : ℕ) (ls us : Trees) (r : Tree) → IsUsable rules pairs f → Among rules (app f ls) r → Sub (app g us) r
+      → IsDefined (Among rules) g → IsUsable rules pairs g
