@@ -277,7 +277,7 @@ module _ (ar w rank : ℕ → ℕ)
 
       steps_heavy : {ss ts : Trees} → ArgumentStep rule ss ts → AreWellFormed ar ss → Sums ss ts
       steps_heavy (first {ts = ts} s) v = first_sums ts (step_heavy s v.0)
-      steps_heavy (later {s = s} st) v = later_sums s (steps_heavy st v.1)
+      steps_heavy (later {t = s} st) v = later_sums s (steps_heavy st v.1)
 
     pub falling_terminates : (t : Tree) → IsWellFormed ar t → Terminates rule t
     falling_terminates t v = acc_induction {P = λ t. IsWellFormed ar t → Terminates rule t}

@@ -58,7 +58,7 @@ module _ (ar w rank : ℕ → ℕ) (constants_weigh : (f : ℕ) → ar f ≡ 0 �
 
       weak_steps : {us vs : _} → ArgumentStep (Among ws) us vs → Run (ArgumentStep (Among system)) us vs
       weak_steps (first {ts = ts} s) = run_map (λ t. cons t ts) (λ x y s. first s) (weak_step s)
-      weak_steps (later {s = s} st) = run_map (cons s) (λ x y s. later s) (weak_steps st)
+      weak_steps (later {t = s} st) = run_map (cons s) (λ x y s. later s) (weak_steps st)
 
     after_star : (n : ℕ) {s t : Tree} → Run (StepBy (Among system)) s t → IsBoundedBy (StepBy (Among system)) n s → IsBoundedBy (StepBy (Among system)) n t
     after_star n Stay b = b

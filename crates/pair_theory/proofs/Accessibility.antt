@@ -26,6 +26,14 @@ pub run_then : {A : Type 0} {r : A → A → Type 0} {x y z : A} → Run r x y �
 run_then Stay q = Go q Stay
 run_then (Go p ps) q = Go p (run_then ps q)
 
+pub run_on : {A : Type 0} {r : A → A → Type 0} {x y z : A} → Run r x y → Run r y z → Run r x z
+run_on Stay q = q
+run_on (Go s p) q = Go s (run_on p q)
+
+pub run_map : {A B : Type 0} {r : A → A → Type 0} {s : B → B → Type 0} (f : A → B) → ((x y : A) → r x y → s (f x) (f y)) → {x y : A} → Run r x y → Run s (f x) (f y)
+run_map f k Stay = Stay
+run_map f k (Go p ps) = Go (k _ _ p) (run_map f k ps)
+
 pub every_map : {P Q : Tree → Type 0} → ((t : Tree) → P t → Q t) → {ts : Trees} → Every P ts → Every Q ts
 every_map f every_nil = every_nil
 every_map f (every_cons {t = t} p ps) = every_cons (f t p) (every_map f ps)

@@ -5,3 +5,14 @@ pub mod PairTheorem
 pub mod Matching
 pub mod Bounds
 pub mod Finiteness
+pub mod Systems
+pub mod Termination
+pub mod Chains
+pub mod Removal
+pub mod Erasing
+pub mod Caps
+pub mod SubtermCriterion
+pub mod PairList
+pub mod Problems
+pub mod Groups
+pub mod Projections

@@ -55,7 +55,7 @@ module _ (rule : Tree → Tree → Type 0)
   var_step e (here (l, r, σ, h, e', e'')) = var_no_left l σ h (sym e ∙ e')
   var_step e (deep s) = cc
 
-  var_normal : (x : ℕ) → Terminates rule (var x)
+  pub var_normal : (x : ℕ) → Terminates rule (var x)
   var_normal x = acc (λ u s. absurd (var_step refl s))
 
   -- a term whose root is no rule's root steps inside only

@@ -33,3 +33,5 @@ pub mod PathTest
 pub mod LinearInterpretation
 pub mod KnuthBendix
 pub mod UsableRules
+pub mod SubtermCriterion
+pub mod PairGraph

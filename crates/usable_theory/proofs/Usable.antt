@@ -209,7 +209,7 @@ module _ (c : ℕ) (hidden : ℕ → Bool) (rs : List RewriteRule) (fine : (p : 
             → Run (ArgumentStep (Among ws)) (map_args ss (λ u m. interp u (k u m))) (map_args ts (λ u m. interp u (k' u m)))
         steps_interp (first {ts = ts} s) k k' = cons_go (step_interp s (k _ (in_head itself)) (k' _ (in_head itself)))
             (same_star (same_each ts (λ u m. k u (in_tail m)) (λ u m. k' u (in_tail m))))
-        steps_interp (later {s = s} st) k k' = cons_go (same_goes (same_interp s (k _ (in_head itself)) (k' _ (in_head itself))))
+        steps_interp (later {t = s} st) k k' = cons_go (same_goes (same_interp s (k _ (in_head itself)) (k' _ (in_head itself))))
             (steps_interp st (λ u m. k u (in_tail m)) (λ u m. k' u (in_tail m)))
 
       step_k : {ss ts : Trees} → ArgumentStep (Among rs) ss ts → ((u : Tree) → Subs u ss → Acc To u) → (u : Tree) → Subs u ts → Acc To u
