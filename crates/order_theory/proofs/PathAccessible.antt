@@ -1,9 +1,10 @@
 -- The path order is well-founded: each term is accessible.
-use Rattle.std.proofs.Common.{◌≡◌, ℕ, zero, suc, ◌<◌, refl, sym, ap, subst, arith, ◌∙◌}
+use Rattle.std.proofs.Common.{◌≡◌, ℕ, zero, suc, ◌+◌, ◌<◌, refl, sym, ap, subst, arith, ◌∙◌}
 use Rattle.trs_defs.specs.Tree.{Tree, var, app, Trees, nil, cons, count}
 use Rattle.trs_defs.specs.Accessible.{Acc, acc}
 use Rattle.trs_defs.specs.Every.{Every, every_nil, every_cons}
 use Rattle.trs_defs.specs.PathOrder.{PathGreater, by_arg, by_rank, by_lex, SomeAtLeast, equal_here, greater_here, further, GreaterThanAll, all_cons, LexGreater, lex_here, lex_later}
+use Rattle.pair_theory.proofs.Terms.{app_root, app_args}
 use Rattle.pair_theory.proofs.Accessibility.{down, acc_induction}
 
 greater_case : (P : Type 0) {rank : ℕ → ℕ} {f : ℕ} {ss : Trees} {t : Tree} → PathGreater rank (app f ss) t
@@ -30,24 +31,8 @@ every_tail : {P : Tree → Type 0} {t : Tree} {ts : Trees} → Every P (cons t t
 every_tail (every_cons h hs) = hs
 
 pub lex_count : {rank : ℕ → ℕ} {ss ts : Trees} → LexGreater rank ss ts → count ss ≡ count ts
-lex_count (lex_here g e) = ap suc e
-lex_count (lex_later l) = ap suc (lex_count l)
-
-root_of : Tree → ℕ
-root_of (var x) = x
-root_of (app f ts) = f
-
-args_of : Tree → Trees
-args_of (var x) = nil
-args_of (app f ts) = ts
-
-pub app_root : {f g : ℕ} {ss ts : Trees} → app f ss ≡ app g ts → f ≡ g
-unfolding root_of
-app_root e = ap root_of e
-
-pub app_args : {f g : ℕ} {ss ts : Trees} → app f ss ≡ app g ts → ss ≡ ts
-unfolding args_of
-app_args e = ap args_of e
+lex_count (lex_here g e) = ap (λ n. 1 + n) e
+lex_count (lex_later l) = ap (λ n. 1 + n) (lex_count l)
 
 all_head : {rank : ℕ → ℕ} {s t : Tree} {ts : Trees} → GreaterThanAll rank s (cons t ts) → PathGreater rank s t
 all_head (all_cons g gs) = g
@@ -76,7 +61,7 @@ module _ (rank : ℕ → ℕ) where
 
   pub lex_acc : (n : ℕ) (ss : Trees) → count ss ≡ n → Every (Acc (PathGreater rank)) ss → Acc LexTo ss
   lex_acc n nil e h = nil_acc
-  lex_acc zero (cons s ss) e h = absurd (cc)
+  lex_acc zero (cons s ss) e h = absurd (omega arith)
   lex_acc (suc n) (cons s ss) e (every_cons h hs) =
       let m : count ss ≡ n = omega arith in lex_cons n (lex_acc n) h ss m (lex_acc n ss m hs)
 

@@ -5,6 +5,7 @@ use Rattle.trs_defs.specs.Accessible.{Acc, acc}
 use Rattle.trs_defs.specs.Every.{Every, every_nil, every_cons}
 use Rattle.trs_defs.specs.PathOrder.{PathGreater, by_arg, by_rank, by_lex, SomeAtLeast, equal_here, greater_here, further, GreaterThanAll, all_nil, all_cons, LexGreater, lex_here, lex_later}
 use Rattle.trs_defs.specs.PathTest.{same_tree, same_trees, some_at_least, lex_greater, app_greater, app_greater_than_all, path_greater, path_greater_each}
+use Rattle.pair_theory.proofs.Terms.{join_app, join_cons}
 use Rattle.order_theory.proofs.PathAccessible.{path_acc}
 
 or_case : {P : Type 0} (a b : Bool) → (a || b) ≡ true → (a ≡ true → P) → (b ≡ true → P) → P
@@ -41,12 +42,6 @@ nat_lt_is m n e = grind arith
 
 nat_lt_of : (m n : ℕ) → m < n → nat_lt m n ≡ true
 nat_lt_of m n e = grind arith
-
-join_app : {f g : ℕ} {ss ts : Trees} → f ≡ g → ss ≡ ts → app f ss ≡ app g ts
-join_app e e' = cc
-
-join_cons : {s t : Tree} {ss ts : Trees} → s ≡ t → ss ≡ ts → cons s ss ≡ cons t ts
-join_cons e e' = cc
 
 mutual
   pub same_is : (s t : Tree) → same_tree s t ≡ true → s ≡ t

@@ -7,22 +7,13 @@ use Rattle.trs_defs.specs.Terminates.{ArgumentStep, Terminates}
 use Rattle.trs_defs.specs.Subterm.{Sub, under, Subs, in_head, in_tail}
 use Rattle.trs_defs.specs.Every.{Every, every_nil, every_cons}
 use Rattle.trs_defs.specs.PathOrder.{PathGreater, by_arg, by_rank, by_lex, SomeAtLeast, equal_here, greater_here, further, GreaterThanAll, all_nil, all_cons, LexGreater, lex_here, lex_later}
+use Rattle.pair_theory.proofs.Terms.{count_apply_all, not_in_nil, below_root}
 use Rattle.pair_theory.proofs.Accessibility.{acc_image}
 use Rattle.order_theory.proofs.PathAccessible.{path_acc, lex_count}
-
-pub count_applies : (σ : ℕ → Tree) (ts : Trees) → count (apply_all σ ts) ≡ count ts
-count_applies σ nil = refl
-count_applies σ (cons t ts) = ap suc (count_applies σ ts)
 
 pub data Mem : Tree → Trees → Type 0 where
   mem_head : {t : Tree} {ts : Trees} → Mem t (cons t ts)
   mem_tail : {s t : Tree} {ts : Trees} → Mem t ts → Mem t (cons s ts)
-
-not_in_nil : {s : Tree} → Subs s nil → ⊥
-not_in_nil p = elim p [ ]
-
-inner : {x f : ℕ} {ts : Trees} → Sub (var x) (app f ts) → Subs (var x) ts
-inner (under p) = p
 
 module _ (rank : ℕ → ℕ) where
   mutual
@@ -41,7 +32,7 @@ module _ (rank : ℕ → ℕ) where
     all_apply σ (all_cons g gs) = all_cons (greater_apply σ g) (all_apply σ gs)
 
     lex_apply : (σ : ℕ → Tree) {ss ts : Trees} → LexGreater rank ss ts → LexGreater rank (apply_all σ ss) (apply_all σ ts)
-    lex_apply σ (lex_here {ss = ss} {ts = ts} g e) = lex_here (greater_apply σ g) (count_applies σ ss ∙ e ∙ sym (count_applies σ ts))
+    lex_apply σ (lex_here {ss = ss} {ts = ts} g e) = lex_here (greater_apply σ g) (count_apply_all σ ss ∙ e ∙ sym (count_apply_all σ ts))
     lex_apply σ (lex_later l) = lex_later (lex_apply σ l)
 
   pub all_of : (f : ℕ) (us ts : Trees) → ((t : Tree) → Mem t ts → SomeAtLeast rank us t) → GreaterThanAll rank (app f us) ts
@@ -64,7 +55,7 @@ module _ (rank : ℕ → ℕ) where
 
     mutual
       pub step_greater : {s t : Tree} → StepBy rule s t → PathGreater rank s t
-      step_greater (root {t = t'} l r σ h e e') = subst (λ z. PathGreater rank z t') (sym e) (subst (PathGreater rank (apply σ l)) (sym e') (greater_apply σ (falls l r h)))
+      step_greater (here {t = t'} (l, r, σ, h, e, e')) = subst (λ z. PathGreater rank z t') (sym e) (subst (PathGreater rank (apply σ l)) (sym e') (greater_apply σ (falls l r h)))
       step_greater (deep {ss = ss} {ts = ts} s) = by_lex (steps_lex s) (all_of _ ss ts (λ t m. steps_some s t m))
 
       steps_lex : {ss ts : Trees} → ArgumentStep rule ss ts → LexGreater rank ss ts
@@ -138,8 +129,8 @@ module _ (rank : ℕ → ℕ) where
   mutual
     pub greater_vars : {s t : Tree} → PathGreater rank s t → (x : ℕ) → Sub (var x) t → Sub (var x) s
     greater_vars (by_arg p) x q = under (some_vars p x q)
-    greater_vars (by_rank r all) x q = all_vars all x (inner q)
-    greater_vars (by_lex l all) x q = all_vars all x (inner q)
+    greater_vars (by_rank r all) x q = all_vars all x (below_root q)
+    greater_vars (by_lex l all) x q = all_vars all x (below_root q)
 
     some_vars : {ss : Trees} {t : Tree} → SomeAtLeast rank ss t → (x : ℕ) → Sub (var x) t → Subs (var x) ss
     some_vars equal_here x q = in_head q

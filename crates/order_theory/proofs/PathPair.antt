@@ -1,10 +1,13 @@
 -- The laws of the path order on filtered terms.
-use Rattle.std.proofs.Common.{◌≡◌, ℕ, zero, suc, refl, sym, ap, subst, ◌∙◌, ◌⊎◌, inl, inr, List, [], ◌∷◌}
+use Rattle.std.proofs.Common.{◌≡◌, ℕ, zero, suc, ◌+◌, ◌-◌, refl, sym, ap, subst, ◌∙◌, ◌⊎◌, inl, inr, List, [], ◌∷◌}
 use Rattle.trs_defs.specs.Tree.{Tree, app, Trees, nil, cons, count}
 use Rattle.trs_defs.specs.Substitution.{apply}
 use Rattle.trs_defs.specs.PathOrder.{PathGreater, by_lex, SomeAtLeast, equal_here, greater_here, further, LexGreater, lex_here, lex_later}
 use Rattle.trs_defs.specs.ArgumentFilter.{ArgumentFilter, To, Keep, item_or, keep_one, select, by_filter, filtered, filtered_all, PathStrict, PathWeak}
-use Rattle.order_theory.proofs.Filters.{after, filtered_apply}
+use Rattle.trs_defs.specs.Step.{Inside, InsideOne, here, deep, first, later}
+use Rattle.trs_defs.specs.Every.{Every, every_nil, every_cons}
+use Rattle.trs_defs.specs.ReductionPair.{ReductionPair, AllTerms}
+use Rattle.order_theory.proofs.Filters.{path_well_founded, after, filtered_apply}
 use Rattle.order_theory.proofs.PathLaws.{greater_apply, greater_trans, Mem, mem_head, mem_tail, all_of}
 
 module _ (rank : ℕ → ℕ) where
@@ -32,11 +35,11 @@ module _ (rank : ℕ → ℕ) where
 
   ge_select : (is : List ℕ) {ss ts : Trees} → GeEach ss ts → GeEach (select is ss) (select is ts)
   ge_select [] p = ge_nil
-  ge_select (i ∷ is) p = ge_keep i p (ge_select is p)
+  ge_select (i ∷ is) p = ge_keep (i - 1) p (ge_select is p)
 
   ge_count : {ss ts : Trees} → GeEach ss ts → count ss ≡ count ts
   ge_count ge_nil = refl
-  ge_count (ge_cons p ps) = ap suc (ge_count ps)
+  ge_count (ge_cons p ps) = ap (λ n. 1 + n) (ge_count ps)
 
   ge_lex : {ss ts : Trees} → GeEach ss ts → (ss ≡ ts) ⊎ LexGreater rank ss ts
   ge_lex ge_nil = inl refl
@@ -54,21 +57,18 @@ module _ (rank : ℕ → ℕ) where
   ge_app f {ss} {ts} p = elim (ge_lex p) [ inl e ↦ inl (ap (app f) e) | inr l ↦ inr (by_lex l (all_of rank f ss ts (ge_mem p))) ]
 
   ge_filter : (f : ℕ) (φ : ArgumentFilter) {ss ts : Trees} → GeEach ss ts → Ge (by_filter f φ ss) (by_filter f φ ts)
-  ge_filter f (To i) p = ge_at i (app f nil) p
+  ge_filter f (To i) p = ge_at (i - 1) (app f nil) p
   ge_filter f (Keep is) p = ge_app f (ge_select is p)
 
-  -- two lists that differ item_or one place
-  pub data AtOne (s t : Tree) : Trees → Trees → Type 0 where
-    at_first : {ts : Trees} → AtOne s t (cons s ts) (cons t ts)
-    at_later : {u : Tree} {us vs : Trees} → AtOne s t us vs → AtOne s t (cons u us) (cons u vs)
-
   module _ (π : ℕ → ArgumentFilter) where
-    one_each : {s t : Tree} {us vs : Trees} → PathWeak rank π s t → AtOne s t us vs → GeEach (filtered_all π us) (filtered_all π vs)
-    one_each w (at_first {ts = ts}) = ge_cons w (ge_same (filtered_all π ts))
-    one_each w (at_later o) = ge_cons (inl refl) (one_each w o)
+    mutual
+      pub weak_context : {s t : Tree} → Inside (PathWeak rank π) s t → PathWeak rank π s t
+      weak_context (here w) = w
+      weak_context (deep {f = f} p) = ge_filter f (π f) (weak_contexts p)
 
-    pub weak_context : (f : ℕ) {s t : Tree} {us vs : Trees} → AtOne s t us vs → PathWeak rank π s t → PathWeak rank π (app f us) (app f vs)
-    weak_context f o w = ge_filter f (π f) (one_each w o)
+      weak_contexts : {ss ts : Trees} → InsideOne (PathWeak rank π) ss ts → GeEach (filtered_all π ss) (filtered_all π ts)
+      weak_contexts (first {ts = ts} p) = ge_cons (weak_context p) (ge_same (filtered_all π ts))
+      weak_contexts (later p) = ge_cons (inl refl) (weak_contexts p)
 
     pub strict_apply : (σ : ℕ → Tree) (s t : Tree) → PathStrict rank π s t → PathStrict rank π (apply σ s) (apply σ t)
     strict_apply σ s t g = rw (filtered_apply π σ s, filtered_apply π σ t) (greater_apply rank (after π σ) g)
@@ -84,3 +84,22 @@ module _ (rank : ℕ → ℕ) where
     pub weak_trans : (s t u : Tree) → PathWeak rank π s t → PathWeak rank π t u → PathWeak rank π s u
     weak_trans s t u w (inl e) = subst (λ z. (filtered π s ≡ z) ⊎ PathGreater rank (filtered π s) z) e w
     weak_trans s t u w (inr g) = inr (weak_strict s t u w g)
+
+pub each_term : (ts : Trees) → Every AllTerms ts
+each_term nil = every_nil
+each_term (cons t ts) = every_cons tt (each_term ts)
+
+-- the path order with ranks and filters
+pub path_pair : (rank : ℕ → ℕ) (filter : ℕ → ArgumentFilter) → ReductionPair (PathWeak rank filter) (PathStrict rank filter) AllTerms
+path_pair rank filter = record {
+  spoken_var = λ v. tt;
+  spoken_args = λ f ts w. each_term ts;
+  spoken_apply = λ σ t k w. tt;
+  weak_refl = λ t. inl refl;
+  weak_trans = λ s t u k l m. weak_trans rank filter s t u;
+  weak_context = λ s t k l. weak_context rank filter;
+  weak_apply = λ σ s t k l m. weak_apply rank filter σ s t;
+  strict_apply = λ σ s t k l m. strict_apply rank filter σ s t;
+  weak_strict = λ s t u k l m. weak_strict rank filter s t u;
+  well_founded = path_well_founded rank filter;
+}

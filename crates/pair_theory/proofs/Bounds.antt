@@ -61,7 +61,7 @@ uniform_image {A} {B} f R u Q h = (m.0, λ b r. subst (Q.holds m.0) (sym r.2) (m
 uniform_same : {A : Type 0} (R S : A → Type 0) → ((a : A) → R a → S a) → ((a : A) → S a → R a) → Uniform R → Uniform S
 uniform_same {A} R S to from u Q h = let m : (n : ℕ) × ((a : A) → R a → Q.holds n a) = u Q (λ a r. h a (to a r)) in (m.0, λ a s. m.1 a (from a s))
 
--- s goes to u item_or the root by this rule
+-- s goes to u at the root by this rule
 abbrev pub ByRule : RewriteRule → Tree → Tree → Type 0
 ByRule p s u = (σ : ℕ → Tree) × (s ≡ apply σ p.left) × (u ≡ apply σ p.right)
 

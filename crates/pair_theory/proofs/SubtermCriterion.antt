@@ -114,7 +114,7 @@ module _ (rule : Tree → Tree → Type 0) where
   proper_apply σ (proper p) = proper (subs_apply σ p)
 
   module _ (place : ℕ → ℕ) where
-    -- the argument that is looked item_or
+    -- the argument that is looked at
     abbrev pub proj : Marked → Tree
     proj m = item_or (place m.symbol) m.args (var 0)
 

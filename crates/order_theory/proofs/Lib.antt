@@ -1,0 +1,7 @@
+pub mod PathAccessible
+pub mod PathLaws
+pub mod Fallers
+pub mod Filters
+pub mod PathPair
+pub mod PathDecides
+pub mod Linear
