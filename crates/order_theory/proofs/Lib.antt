@@ -5,3 +5,4 @@ pub mod Filters
 pub mod PathPair
 pub mod PathDecides
 pub mod Linear
+pub mod Coefficients

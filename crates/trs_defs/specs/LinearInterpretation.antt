@@ -40,3 +40,10 @@ abbrev mutual
   pub coefficients : (ℕ → ℕ → ℕ) → ℕ → ℕ → ℕ → Trees → ℕ
   coefficients c x f i nil = 0
   coefficients c x f i (cons t ts) = c f i * coefficient c x t + coefficients c x f (suc i) ts
+
+-- constant and coefficients are at least as great: how two polynomials are compared
+abbrev pub CoefficientWeak : (ℕ → ℕ → ℕ) → Tree → Tree → Type 0
+CoefficientWeak c s t = (constant c t ≤ constant c s) × ((x : ℕ) → coefficient c x t ≤ coefficient c x s)
+
+abbrev pub CoefficientStrict : (ℕ → ℕ → ℕ) → Tree → Tree → Type 0
+CoefficientStrict c s t = (constant c t < constant c s) × ((x : ℕ) → coefficient c x t ≤ coefficient c x s)
