@@ -6,3 +6,7 @@ pub mod PathPair
 pub mod PathDecides
 pub mod Linear
 pub mod Coefficients
+pub mod KnuthAccessible
+pub mod Over
+pub mod KnuthLaws
+pub mod KnuthPair

@@ -13,7 +13,7 @@ use Rattle.pair_theory.proofs.Members.{in_case, no_in}
 use Rattle.pair_theory.proofs.Accessibility.{acc_induction, looser}
 use Rattle.pair_theory.proofs.Matching.{found, matched, matches, same_apply}
 
--- numbers that hold Go widely as they rise
+-- numbers that hold more widely as they rise
 pub record Rising (A : Type 0) : Type 1 where
   pub holds : ℕ → A → Type 0
   pub rise : (n : ℕ) (a : A) → holds n a → holds (suc n) a
