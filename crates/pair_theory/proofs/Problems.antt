@@ -32,16 +32,16 @@ pub listed_theorem : (system : System) → IsSystem system → IsFiniteProblem s
 listed_theorem system ok all = pair_theorem system ok
     (λ u v small. fewer (Among system.rules) (IsDependencyPair (Among system.rules)) (PairAmong (dependency_pairs system.rules)) (pairs_listed system.rules) (all u v small))
 
-abbrev mark_rules : List DependencyPair → List RewriteRule
+abbrev pub mark_rules : List DependencyPair → List RewriteRule
 mark_rules [] = []
 mark_rules (p ∷ ps) = record { left = mark p.from; right = mark p.to } ∷ mark_rules ps
 
-marked_in : (ps : List DependencyPair) {p : DependencyPair} → In p ps → In (record { left = mark p.from; right = mark p.to }) (mark_rules ps)
+pub marked_in : (ps : List DependencyPair) {p : DependencyPair} → In p ps → In (record { left = mark p.from; right = mark p.to }) (mark_rules ps)
 marked_in [] i = elim i [ ]
 marked_in (p ∷ ps) in_first = in_first
 marked_in (q ∷ ps) (in_rest i) = in_rest (marked_in ps i)
 
-each_mark : (P : RewriteRule → Type 0) (ps : List DependencyPair) → ((p : DependencyPair) → In p ps → P (record { left = mark p.from; right = mark p.to })) → (q : RewriteRule) → In q (mark_rules ps) → P q
+pub each_mark : (P : RewriteRule → Type 0) (ps : List DependencyPair) → ((p : DependencyPair) → In p ps → P (record { left = mark p.from; right = mark p.to })) → (q : RewriteRule) → In q (mark_rules ps) → P q
 each_mark P [] k q i = elim i [ ]
 each_mark P (p ∷ ps) k q i = go (in_or i) (each_mark P ps (λ p j. k p (in_rest j)) q)
   where

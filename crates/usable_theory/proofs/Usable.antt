@@ -8,18 +8,19 @@ use Rattle.trs_defs.specs.Step.{StepBy, here, deep, first, later}
 use Rattle.trs_defs.specs.Terminates.{ArgumentStep, Terminates}
 use Rattle.trs_defs.specs.System.{RewriteRule, Among}
 use Rattle.trs_defs.specs.Member.{In, in_first, in_rest}
-use Rattle.trs_defs.specs.Subterm.{Sub, itself, under, Subs, in_head, in_tail}
+use Rattle.trs_defs.specs.Subterm.{proper, Sub, itself, under, Subs, in_head, in_tail}
 use Rattle.trs_defs.specs.Every.{Every, every_nil, every_cons}
 use Rattle.trs_defs.specs.Run.{Run, Stay, Go}
 use Rattle.trs_defs.specs.Marked.{Marked, plain, mark}
 use Rattle.trs_defs.specs.Chain.{ChainStep, link}
 use Rattle.trs_defs.specs.Moves.{Moves, no_moves, weakly, strictly}
-use Rattle.pair_theory.proofs.Accessibility.{down}
-use Rattle.pair_theory.proofs.Matching.{occurs, join_cons}
+use Rattle.pair_theory.proofs.Accessibility.{down, run_on, run_map}
+use Rattle.pair_theory.proofs.Matching.{occurs}
+use Rattle.pair_theory.proofs.Terms.{join_cons}
 use Rattle.pair_theory.proofs.Bounds.{NoNewVariables}
 use Rattle.pair_theory.proofs.Finiteness.{reducts}
 use Rattle.pair_theory.proofs.Removal.{removal_by}
-use Rattle.pair_theory.proofs.SubtermCriterion.{proper, Down, run_on, run_map, down_acc, sub_apply, subs_apply}
+use Rattle.pair_theory.proofs.SubtermCriterion.{Down, down_acc, sub_apply, subs_apply}
 
 -- two proofs that an element is accessible are equal
 pub acc_prop : {A : Type 0} {r : A → A → Type 0} {x : A} (a b : Acc r x) → a ≡ b
@@ -108,11 +109,11 @@ module _ (c : ℕ) (hidden : ℕ → Bool) (rs : List RewriteRule) (fine : (p : 
 
     choose_left : (s t : Tree) → StepBy (Among ws) (app c (cons s (cons t nil))) s
     unfolding two
-    choose_left s t = root _ _ (two s t) (chosen _ in_first) refl refl
+    choose_left s t = here (_, _, two s t, chosen _ in_first, refl, refl)
 
     choose_right : (s t : Tree) → StepBy (Among ws) (app c (cons s (cons t nil))) t
     unfolding two
-    choose_right s t = root _ _ (two s t) (chosen _ (in_rest in_first)) refl refl
+    choose_right s t = here (_, _, two s t, chosen _ (in_rest in_first), refl, refl)
 
     listed_last : (a : Tree) (bs : List Tree) → Goes (listed c a bs) a
     listed_last a [] = Stay
@@ -177,12 +178,12 @@ module _ (c : ℕ) (hidden : ℕ → Bool) (rs : List RewriteRule) (fine : (p : 
       root_goes : (l r : Tree) (σ : ℕ → Tree) → Among rs l r → (a : Acc To (apply σ l)) (b : Acc To (apply σ r)) → Goes (interp (apply σ l) a) (interp (apply σ r) b)
       root_goes (var x) r σ i a b = absurd (rooted _ _ i x refl)
       root_goes (app f ls) r σ i a b = bool_case (hidden f)
-          (λ e. hidden_goes f (apply_all σ ls) e a (apply σ r) (root (app f ls) r σ i refl refl) b)
+          (λ e. hidden_goes f (apply_all σ ls) e a (apply σ r) (here (app f ls, r, σ, i, refl, refl)) b)
           (λ e. let u : Among ws (app f ls) r × Free r = usable f ls r i e in
-          let at_var : (x : ℕ) → Sub (var x) (app f ls) → Acc To (σ x) = λ x p. sub_acc (sub_apply (Among rs) σ p) a in
+          let at_var : (x : ℕ) → Sub (var x) (app f ls) → Acc To (σ x) = λ x p. sub_acc (sub_apply σ p) a in
           let vs : ℕ → Tree = chosen_at σ (app f ls) at_var in
           run_on (goes_interp σ vs (app f ls) (agrees σ (app f ls) at_var) a)
-          (Go (root (app f ls) r vs u.0 refl refl)
+          (Go (here (app f ls, r, vs, u.0, refl, refl))
           (subst (Goes (apply vs r)) (sym (free_interp σ vs r u.1 (λ x p. agrees σ (app f ls) at_var x (fine _ i x p)) b)) Stay)))
 
       same_goes : {s t : Tree} → s ≡ t → Goes s t
@@ -198,7 +199,7 @@ module _ (c : ℕ) (hidden : ℕ → Bool) (rs : List RewriteRule) (fine : (p : 
 
       mutual
         step_interp : {s t : Tree} → StepBy (Among rs) s t → (a : Acc To s) (b : Acc To t) → Goes (interp s a) (interp t b)
-        step_interp (root {s = s} {t = t} l r σ i e e') a b =
+        step_interp (here {s = s} {t = t} (l, r, σ, i, e, e')) a b =
             subst (λ s. (a : Acc To s) → Goes (interp s a) (interp t b)) (sym e)
             (λ a. subst (λ t. (b : Acc To t) → Goes (interp (apply σ l) a) (interp t b)) (sym e') (λ b. root_goes l r σ i a b) b) a
         step_interp (deep {f = f} {ss = ss} {ts = ts} st) (acc h) (acc h') = bool_case (hidden f)
@@ -255,7 +256,7 @@ module _ (c : ℕ) (hidden : ℕ → Bool) (rs : List RewriteRule) (fine : (p : 
             k2 = star_k reach ku
 
             at_var : (x : ℕ) → Sub (var x) (plain l) → Acc To (σ x)
-            at_var x (under p) = k2 (σ x) (subs_apply (Among rs) σ p)
+            at_var x (under p) = k2 (σ x) (subs_apply σ p)
 
             vs : ℕ → Tree
             vs = chosen_at σ (plain l) at_var
@@ -289,12 +290,12 @@ module _ (c : ℕ) (hidden : ℕ → Bool) (rs : List RewriteRule) (fine : (p : 
         stay_moves : {u v : Marked} {m : ℕ} {t : Tree} → ChainStep (Among rs) stay u v → (ku : (t : Tree) → Subs t u.args → Acc To t) (kv : (t : Tree) → Subs t v.args → Acc To t)
             → Moves ws ss m (imark v kv) t → Moves ws ss m (imark u ku) t
         stay_moves {m = m} {t = t} c' ku kv ms = let w : _ = chain_moves ss stay free_stay vars_stay c' ku kv in
-            moves_goes ss w.4 (weakly (root (mark w.0) (mark w.1) w.2 (stay_in w.0 w.1 w.3) refl refl) (subst (λ z. Moves ws ss m z t) (sym w.5) ms))
+            moves_goes ss w.4 (weakly (here (mark w.0, mark w.1, w.2, stay_in w.0 w.1 w.3, refl, refl)) (subst (λ z. Moves ws ss m z t) (sym w.5) ms))
 
         gone_moves : {u v : Marked} {m : ℕ} {t : Tree} → ChainStep (Among rs) gone u v → (ku : (t : Tree) → Subs t u.args → Acc To t) (kv : (t : Tree) → Subs t v.args → Acc To t)
             → Moves ws ss m (imark v kv) t → Moves ws ss (suc m) (imark u ku) t
         gone_moves {m = m} {t = t} c' ku kv ms = let w : _ = chain_moves ss gone free_gone vars_gone c' ku kv in
-            moves_goes ss w.4 (strictly (record { left = mark w.0; right = mark w.1 }) w.2 (gone_in w.0 w.1 w.3) refl refl (subst (λ z. Moves ws ss m z t) (sym w.5) ms))
+            moves_goes ss w.4 (strictly (mark w.0, mark w.1, w.2, gone_in w.0 w.1 w.3, refl, refl) (subst (λ z. Moves ws ss m z t) (sym w.5) ms))
 
         moves_k : (v : Marked) (k k' : (t : Tree) → Subs t v.args → Acc To t) (m : ℕ) (t : Tree) → Moves ws ss m (imark v k) t → Moves ws ss m (imark v k') t
         moves_k v k k' m t ms = subst (λ z. Moves ws ss m (app (v.symbol + 4096) z) t) (same_each v.args k k') ms
