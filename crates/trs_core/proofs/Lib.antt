@@ -1,0 +1,5 @@
+pub mod Comparing
+pub mod Lookups
+pub mod MatchSteps
+pub mod Arities
+pub mod Putting

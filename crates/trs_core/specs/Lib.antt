@@ -1,0 +1,4 @@
+pub mod Limits
+pub mod Matching
+pub mod View
+pub mod ViewFalls
