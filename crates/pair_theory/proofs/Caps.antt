@@ -6,42 +6,22 @@ use Rattle.trs_defs.specs.Step.{StepBy, here, deep, first, later}
 use Rattle.trs_defs.specs.Terminates.{ArgumentStep}
 use Rattle.trs_defs.specs.Run.{Run, Stay, Go}
 use Rattle.trs_defs.specs.Marked.{Marked, marked}
+use Rattle.trs_defs.specs.Cap.{Fits, fits_variable, fits_symbol, EachFits, fits_nil, fits_cons, Cap, cap_variable, cap_open, cap_symbol, Caps, caps_nil, caps_cons}
 use Rattle.trs_defs.specs.Chain.{ChainStep, link}
-
--- u is an instance of c, whose variables stand for anything
-mutual
-  pub data Fits : Tree → Tree → Type 0 where
-    fits_var : {x : ℕ} {u : Tree} → Fits (var x) u
-    fits_app : {f : ℕ} {cs us : Trees} → FitEach cs us → Fits (app f cs) (app f us)
-
-  pub data FitEach : Trees → Trees → Type 0 where
-    fit_nil : FitEach nil nil
-    fit_cons : {c u : Tree} {cs us : Trees} → Fits c u → FitEach cs us → FitEach (cons c cs) (cons u us)
-
--- c is a cap of t
-mutual
-  pub data Cap (rule : Tree → Tree → Type 0) : Tree → Tree → Type 0 where
-    cap_var : {x y : ℕ} → Cap rule (var x) (var y)
-    cap_hole : {f y : ℕ} {ts : Trees} → Cap rule (app f ts) (var y)
-    cap_app : {f : ℕ} {ts cs : Trees} → Caps rule ts cs → ((l r : Tree) (σ : ℕ → Tree) → rule l r → Fits (app f cs) (apply σ l) → ⊥) → Cap rule (app f ts) (app f cs)
-
-  pub data Caps (rule : Tree → Tree → Type 0) : Trees → Trees → Type 0 where
-    caps_nil : Caps rule nil nil
-    caps_cons : {t c : Tree} {ts cs : Trees} → Cap rule t c → Caps rule ts cs → Caps rule (cons t ts) (cons c cs)
 
 module _ (rule : Tree → Tree → Type 0) where
   mutual
     instance_fits : (σ : ℕ → Tree) {t c : Tree} → Cap rule t c → Fits c (apply σ t)
-    instance_fits σ cap_var = fits_var
-    instance_fits σ cap_hole = fits_var
-    instance_fits σ (cap_app k none) = fits_app (instances_fit σ k)
+    instance_fits σ cap_variable = fits_variable
+    instance_fits σ cap_open = fits_variable
+    instance_fits σ (cap_symbol k none) = fits_symbol (instances_fit σ k)
 
-    instances_fit : (σ : ℕ → Tree) {ts cs : Trees} → Caps rule ts cs → FitEach cs (apply_all σ ts)
-    instances_fit σ caps_nil = fit_nil
-    instances_fit σ (caps_cons k ks) = fit_cons (instance_fits σ k) (instances_fit σ ks)
+    instances_fit : (σ : ℕ → Tree) {ts cs : Trees} → Caps rule ts cs → EachFits cs (apply_all σ ts)
+    instances_fit σ caps_nil = fits_nil
+    instances_fit σ (caps_cons k ks) = fits_cons (instance_fits σ k) (instances_fit σ ks)
 
-  app_case : (P : Type 0) {f : ℕ} {cs : Trees} {u : Tree} → Fits (app f cs) u → ((us : Trees) → u ≡ app f us → FitEach cs us → P) → P
-  app_case P (fits_app k) a = a _ refl k
+  app_case : (P : Type 0) {f : ℕ} {cs : Trees} {u : Tree} → Fits (app f cs) u → ((us : Trees) → u ≡ app f us → EachFits cs us → P) → P
+  app_case P (fits_symbol k) a = a _ refl k
 
   step_from : (P : Type 0) {f : ℕ} {us : Trees} {u' : Tree} → StepBy rule (app f us) u'
       → ((l r : Tree) (σ : ℕ → Tree) → rule l r → app f us ≡ apply σ l → P)
@@ -56,26 +36,32 @@ module _ (rule : Tree → Tree → Type 0) where
 
   mutual
     step_fits : {t c : Tree} → Cap rule t c → (u u' : Tree) → Fits c u → StepBy rule u u' → Fits c u'
-    step_fits cap_var u u' p s = fits_var
-    step_fits cap_hole u u' p s = fits_var
-    step_fits (cap_app {f = f} {cs = cs} k none) u u' p s = app_case (Fits (app f cs) u') p (λ us e q.
+    step_fits cap_variable u u' p s = fits_variable
+    step_fits cap_open u u' p s = fits_variable
+    step_fits (cap_symbol {f = f} {cs = cs} k none) u u' p s = app_case (Fits (app f cs) u') p (λ us e q.
         step_from (Fits (app f cs) u') (subst (λ z. StepBy rule z u') e s)
-        (λ l r σ h e'. absurd (none l r σ h (subst (Fits (app f cs)) e' (fits_app q))))
-        (λ us' s' e'. subst (Fits (app f cs)) e' (fits_app (steps_fit k us us' q s'))))
+        (λ l r σ h e'. absurd (none l r σ h (subst (Fits (app f cs)) e' (fits_symbol q))))
+        (λ us' s' e'. subst (Fits (app f cs)) e' (fits_symbol (steps_fit k us us' q s'))))
 
-    steps_fit : {ts cs : Trees} → Caps rule ts cs → (us us' : Trees) → FitEach cs us → ArgumentStep rule us us' → FitEach cs us'
-    steps_fit caps_nil us us' fit_nil s = elim s [ ]
-    steps_fit (caps_cons {c = c} {cs = cs} k ks) us us' (fit_cons {u = u} {us = vs} p ps) s = fit_case (FitEach (cons c cs)) s
-        (λ u' s'. fit_cons (step_fits k u u' p s') ps)
-        (λ vs' s'. fit_cons p (steps_fit ks vs vs' ps s'))
+    steps_fit : {ts cs : Trees} → Caps rule ts cs → (us us' : Trees) → EachFits cs us → ArgumentStep rule us us' → EachFits cs us'
+    steps_fit caps_nil us us' fits_nil s = elim s [ ]
+    steps_fit (caps_cons {c = c} {cs = cs} k ks) us us' (fits_cons {t = u} {ts = vs} p ps) s = fit_case (EachFits (cons c cs)) s
+        (λ u' s'. fits_cons (step_fits k u u' p s') ps)
+        (λ vs' s'. fits_cons p (steps_fit ks vs vs' ps s'))
 
-  star_fit : {ts cs us us' : Trees} → Caps rule ts cs → FitEach cs us → Run (ArgumentStep rule) us us' → FitEach cs us'
-  star_fit k p Stay = p
-  star_fit k p (Go s ss) = star_fit k (steps_fit k _ _ p s) ss
+  run_fits : {ts cs us us' : Trees} → Caps rule ts cs → EachFits cs us → Run (ArgumentStep rule) us us' → EachFits cs us'
+  run_fits k p Stay = p
+  run_fits k p (Go s ss) = run_fits k (steps_fit k _ _ p s) ss
 
-  -- the cap of the right side, its marked root kept, unifies with the next left side
-  pub data Edge (r l : Marked) (cs : Trees) : Type 0 where
-    edge : r.symbol ≡ l.symbol → (σ : ℕ → Tree) → FitEach cs (apply_all σ l.args) → Edge r l cs
+  -- some instance of the next left side's arguments fits the caps of the right side's
+  abbrev pub Edge : Marked → Marked → Trees → Type 0
+  Edge r l cs = (r.symbol ≡ l.symbol) × (σ : ℕ → Tree) × EachFits cs (apply_all σ l.args)
+
+  module _ (p q : Marked → Marked → Type 0) (r l : Marked) (is_r : (l' r' : Marked) → p l' r' → r' ≡ r) (is_l : (l' r' : Marked) → q l' r' → l' ≡ l) where
+    pub edge_root : (u v w : Marked) → ChainStep rule p u v → ChainStep rule q v w → r.symbol ≡ l.symbol
+    edge_root u v w (link l₁ r₁ σ h e reach to small) (link l₂ r₂ τ h' e' reach' to' small') =
+        let v_is : v ≡ marked r.symbol (apply_all σ r.args) = subst (λ z. v ≡ marked z.symbol (apply_all σ z.args)) (is_r l₁ r₁ h) to in
+        sym (ap (λ z. z.symbol) v_is) ∙ subst (λ z. v.symbol ≡ z.symbol) (is_l l₂ r₂ h') e'
 
   pub edge_covers : (p q : Marked → Marked → Type 0) (r l : Marked) (cs : Trees) → Caps rule r.args cs
       → ((l' r' : Marked) → p l' r' → r' ≡ r) → ((l' r' : Marked) → q l' r' → l' ≡ l)
@@ -85,4 +71,4 @@ module _ (rule : Tree → Tree → Type 0) where
       let root_is : v.symbol ≡ l.symbol = subst (λ z. v.symbol ≡ z.symbol) (is_l l₂ r₂ h') e' in
       let goes : Run (ArgumentStep rule) (apply_all σ r.args) (apply_all τ l.args) =
       subst (λ z. Run (ArgumentStep rule) z.args (apply_all τ l.args)) v_is (subst (λ z. Run (ArgumentStep rule) v.args (apply_all τ z.args)) (is_l l₂ r₂ h') reach') in
-      edge (sym (ap (λ z. z.symbol) v_is) ∙ root_is) τ (star_fit k (instances_fit σ k) goes)
+      (sym (ap (λ z. z.symbol) v_is) ∙ root_is, τ, run_fits k (instances_fit σ k) goes)

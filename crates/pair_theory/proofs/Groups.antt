@@ -1,20 +1,36 @@
 -- Groups of numbered pairs along a graph: where each group is done, the problem is finite.
-use Rattle.std.proofs.Common.{◌≡◌, ℕ, ◌+◌, ◌≤◌, ◌<◌, refl, sym, ap, subst, arith, List, Bool, Some, IsTrue, slice_get}
+use Rattle.std.proofs.Common.{◌≡◌, ℕ, ◌+◌, ◌≤◌, ◌<◌, refl, sym, ap, subst, arith, ◌∙◌, List, Bool, Some, IsTrue, slice_get}
 use native.Mathlib.Decide.{dec_lt}
 use Rattle.trs_defs.specs.Accessible.{Acc, acc}
 use Rattle.trs_defs.specs.Member.{In}
+use Rattle.trs_defs.specs.Tree.{Tree, Trees}
+use Rattle.trs_defs.specs.Substitution.{apply_all}
+use Rattle.trs_defs.specs.Cap.{Caps, EachFits}
 use Rattle.trs_defs.specs.System.{System, IsSystem, Among}
 use Rattle.trs_defs.specs.Marked.{Marked}
 use Rattle.trs_defs.specs.DependencyPair.{DependencyPair}
 use Rattle.trs_defs.specs.Chain.{ChainStep, link}
 use Rattle.trs_defs.specs.PairProblem.{PairAmong, IsFiniteProblem, IsPair}
-use Rattle.trs_defs.specs.PairGraph.{PairNumbered, CoversSteps, GroupEnds, by_problem, by_no_edge, IsGrouped}
-use Rattle.pair_theory.proofs.Systems.{get_of_in, in_of_get}
+use Rattle.trs_defs.specs.PairGraph.{PairNumbered, CoversSteps, IsCapEstimate, GroupEnds, by_problem, by_no_edge, IsGrouped}
+use Rattle.trs_defs.proofs.Members.{get_of_in, in_of_get}
+use Rattle.pair_theory.proofs.Caps.{Edge, edge_root, edge_covers}
 use Rattle.pair_theory.proofs.Chains.{groups, All, OfGroup}
 use Rattle.pair_theory.proofs.Problems.{Ready, chain_ready, fewer}
 
 of_link : {rule : _} {pair : Marked → Marked → Type 0} {u v : Marked} → ChainStep rule pair u v → (l : Marked) × (r : Marked) × pair l r
 of_link (link l r σ h e reach to small) = (l, r, h)
+
+numbered_pair : (pairs : List DependencyPair) (i : ℕ) {rule : _} {u v : Marked} → ChainStep rule (PairNumbered pairs i) u v → (p : DependencyPair) × (slice_get pairs i ≡ Some p)
+numbered_pair pairs i c = let h : (l : Marked) × (r : Marked) × PairNumbered pairs i l r = of_link c in (record { from = h.0; to = h.1 }, h.2)
+
+same_pair : {p q : DependencyPair} → Some p ≡ Some q → p ≡ q
+same_pair e = cc
+
+to_of : {l r : Marked} {p : DependencyPair} → Some (record { from = l; to = r }) ≡ Some p → r ≡ p.to
+to_of e = ap (λ q. q.to) (same_pair e)
+
+from_of : {l r : Marked} {p : DependencyPair} → Some (record { from = l; to = r }) ≡ Some p → l ≡ p.from
+from_of e = ap (λ q. q.from) (same_pair e)
 
 module _ (system : System) (ok : IsSystem system) (pairs : List DependencyPair) (good : (p : DependencyPair) → In p pairs → IsPair system.arities p)
     (edge : ℕ → ℕ → Bool) (covers : CoversSteps system pairs edge) (group : ℕ → ℕ) (number : ℕ)
@@ -23,7 +39,7 @@ module _ (system : System) (ok : IsSystem system) (pairs : List DependencyPair) 
   Step = ChainStep (Among system.rules)
 
   pair_of : (i : ℕ) (u v : Marked) → Step (PairNumbered pairs i) u v → (p : DependencyPair) × (slice_get pairs i ≡ Some p)
-  pair_of i u v c = let h : (l : Marked) × (r : Marked) × PairNumbered pairs i l r = of_link c in (record { from = h.0; to = h.1 }, h.2)
+  pair_of i u v c = numbered_pair pairs i c
 
   keeps : (i : ℕ) (u v : Marked) → Ready system u → Step (PairNumbered pairs i) u v → Ready system v
   keeps i = chain_ready system ok (PairNumbered pairs i) (λ l r e. good _ (in_of_get pairs i _ e))
@@ -68,3 +84,16 @@ module _ (system : System) (ok : IsSystem system) (pairs : List DependencyPair) 
       fewer (Among system.rules) (PairAmong pairs) (All (Among system.rules) (Ready system) (PairNumbered pairs) group keeps onward)
       (λ l r i. get_of_in i)
       (groups (Among system.rules) (Ready system) (PairNumbered pairs) group keeps onward number below parts u (w, small))
+
+-- the estimate by caps covers
+pub cap_estimate_covers : (system : System) (pairs : List DependencyPair) (edge : ℕ → ℕ → Bool) → IsCapEstimate system pairs edge → CoversSteps system pairs edge
+cap_estimate_covers system pairs edge estimate i j u v w c c' =
+    let p : (p : DependencyPair) × (slice_get pairs i ≡ Some p) = numbered_pair pairs i c in
+    let q : (q : DependencyPair) × (slice_get pairs j ≡ Some q) = numbered_pair pairs j c' in
+    let same_root : p.0.to.symbol ≡ q.0.from.symbol = edge_root (Among system.rules) (PairNumbered pairs i) (PairNumbered pairs j) p.0.to q.0.from
+    (λ l r e. to_of (sym e ∙ p.1)) (λ l r e. from_of (sym e ∙ q.1)) u v w c c' in
+    let e : (cs : Trees) × Caps (Among system.rules) p.0.to.args cs × ((σ : ℕ → Tree) → EachFits cs (apply_all σ q.0.from.args) → IsTrue (edge i j)) =
+    estimate i j p.0 q.0 p.1 q.1 same_root in
+    let fits : Edge (Among system.rules) p.0.to q.0.from e.0 = edge_covers (Among system.rules) (PairNumbered pairs i) (PairNumbered pairs j) p.0.to q.0.from e.0 e.1
+    (λ l r m. to_of (sym m ∙ p.1)) (λ l r m. from_of (sym m ∙ q.1)) u v w c c' in
+    e.2 fits.1 fits.2

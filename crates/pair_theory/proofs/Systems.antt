@@ -5,16 +5,8 @@ use Rattle.trs_defs.specs.Tree.{Tree, var}
 use Rattle.trs_defs.specs.WellFormed.{IsWellFormed}
 use Rattle.trs_defs.specs.System.{RewriteRule, System, IsRule, IsSystem, Among}
 use Rattle.trs_defs.specs.Subterm.{Sub}
+use Rattle.trs_defs.proofs.Members.{get_of_in}
 use Rattle.pair_theory.proofs.Terms.{sub_of_has, has_of_sub}
-
-pub get_of_in : {A : Type 0} {x : A} {xs : List A} → In x xs → (k : ℕ) × (slice_get xs k ≡ Some x)
-get_of_in in_first = (0, refl)
-get_of_in (in_rest i) = let found : (k : ℕ) × (slice_get _ k ≡ Some _) = get_of_in i in (suc found.0, found.1)
-
-pub in_of_get : {A : Type 0} (xs : List A) (k : ℕ) (x : A) → slice_get xs k ≡ Some x → In x xs
-in_of_get [] k x e = absurd cc
-in_of_get (y ∷ xs) zero x e = let same : x ≡ y = cc in rw same in_first
-in_of_get (y ∷ xs) (suc k) x e = in_rest (in_of_get xs k x e)
 
 module _ (system : System) (ok : IsSystem system) where
   pub rule_among : (p : RewriteRule) → In p system.rules → IsRule system.arities p

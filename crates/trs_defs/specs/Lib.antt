@@ -33,5 +33,6 @@ pub mod PathTest
 pub mod LinearInterpretation
 pub mod KnuthBendix
 pub mod UsableRules
+pub mod Cap
 pub mod SubtermCriterion
 pub mod PairGraph

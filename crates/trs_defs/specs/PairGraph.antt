@@ -2,6 +2,9 @@
 -- dependency graph processor.)
 use Rattle.std.specs.Prelude.{◌≡◌, ◌≤◌, ◌<◌, ℕ, List, Bool, Some, IsTrue, slice_get}
 use Rattle.trs_defs.specs.Member.{In}
+use Rattle.trs_defs.specs.Tree.{Tree, Trees}
+use Rattle.trs_defs.specs.Substitution.{apply_all}
+use Rattle.trs_defs.specs.Cap.{Caps, EachFits}
 use Rattle.trs_defs.specs.System.{System, Among}
 use Rattle.trs_defs.specs.Marked.{Marked}
 use Rattle.trs_defs.specs.DependencyPair.{DependencyPair}
@@ -32,3 +35,11 @@ pub record IsGrouped (system : System) (pairs : List DependencyPair) (edge : ℕ
   pub onward : (i j : ℕ) (p q : DependencyPair) → slice_get pairs i ≡ Some p → slice_get pairs j ≡ Some q → IsTrue (edge i j)
       → group i ≤ group j
   pub done : (k : ℕ) → k < groups → GroupEnds system pairs edge group k
+
+-- the estimate by caps: where the roots agree, and some instance of the next left side's arguments fits the caps of the
+-- right side's arguments, there is an edge (Giesl, Thiemann and Schneider-Kamp, 2005)
+abbrev pub IsCapEstimate : System → List DependencyPair → (ℕ → ℕ → Bool) → Type 0
+IsCapEstimate system pairs edge =
+    (i j : ℕ) (p q : DependencyPair) → slice_get pairs i ≡ Some p → slice_get pairs j ≡ Some q
+    → p.to.symbol ≡ q.from.symbol → (cs : Trees) × Caps (Among system.rules) p.to.args cs
+    × ((σ : ℕ → Tree) → EachFits cs (apply_all σ q.from.args) → IsTrue (edge i j))
