@@ -1,7 +1,7 @@
 -- The steps on problems that are lists of pairs.
 use Rattle.std.proofs.Common.{◌≡◌, ℕ, refl, sym, subst, arith, ◌⊎◌, inl, inr, List, [], ◌∷◌, ◌++◌}
 use Rattle.trs_defs.specs.Tree.{Tree, var, app, Trees}
-use Rattle.trs_defs.specs.Accessible.{Acc}
+use Rattle.trs_defs.specs.Accessible.{Acc, acc}
 use Rattle.trs_defs.specs.System.{RewriteRule, Among, System, IsSystem}
 use Rattle.trs_defs.specs.Member.{In, in_first, in_rest}
 use Rattle.trs_defs.specs.Subterm.{Sub, itself, under, Subs, in_head, in_tail}
@@ -9,7 +9,7 @@ use Rattle.trs_defs.specs.Every.{Every}
 use Rattle.trs_defs.specs.Terminates.{Terminates}
 use Rattle.trs_defs.specs.WellFormed.{IsWellFormed}
 use Rattle.trs_defs.specs.Marked.{Marked, marked, plain, mark}
-use Rattle.trs_defs.specs.Chain.{ChainStep}
+use Rattle.trs_defs.specs.Chain.{ChainStep, link}
 use Rattle.trs_defs.specs.DependencyPair.{IsDefined, IsDependencyPair, from_rule, DependencyPair, subterms, subterms_of_all, has_root, is_defined, keep_if, pairs_to, pairs_of, pairs_of_each, dependency_pairs}
 use Rattle.trs_defs.specs.PairProblem.{ChainsEnd, PairAmong, IsFiniteProblem, IsPair}
 use Rattle.trs_defs.specs.Moves.{IsWellFounded, IsOrdered}
@@ -31,6 +31,17 @@ fewer rule p q f {u} a = acc_image (λ x. x) (ChainStep rule p) (ChainStep rule 
 pub listed_theorem : (system : System) → IsSystem system → IsFiniteProblem system (dependency_pairs system.rules) → IsTerminating system
 listed_theorem system ok all = pair_theorem system ok
     (λ u v small. fewer (Among system.rules) (IsDependencyPair (Among system.rules)) (PairAmong (dependency_pairs system.rules)) (pairs_listed system.rules) (all u v small))
+
+pub more_pairs_end : (system : System) (pairs more : List DependencyPair) → ((p : DependencyPair) → In p pairs → In p more)
+    → IsFiniteProblem system more → IsFiniteProblem system pairs
+more_pairs_end system pairs more within ends u w small =
+    fewer (Among system.rules) (PairAmong pairs) (PairAmong more) (λ l r i. within (record { from = l; to = r }) i) (ends u w small)
+
+pair_of : {rule : _} {pair : Marked → Marked → Type 0} {u v : Marked} → ChainStep rule pair u v → (l : Marked) × (r : Marked) × pair l r
+pair_of (link l r σ h e reach to small) = (l, r, h)
+
+pub no_pairs_end : (system : System) (pairs : List DependencyPair) → ((p : DependencyPair) → In p pairs → ⊥) → IsFiniteProblem system pairs
+no_pairs_end system pairs none u w small = acc (λ v c. let h : (l : Marked) × (r : Marked) × PairAmong pairs l r = pair_of c in absurd (none (record { from = h.0; to = h.1 }) h.2))
 
 abbrev pub mark_rules : List DependencyPair → List RewriteRule
 mark_rules [] = []

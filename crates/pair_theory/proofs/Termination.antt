@@ -1,5 +1,5 @@
 -- That the chains of all dependency pairs end gives a bound for each well-formed term.
-use Rattle.std.proofs.Common.{◌≡◌, ℕ, refl, sym, ap, subst, ◌⊎◌, inl, inr, List, [], ◌∷◌}
+use Rattle.std.proofs.Common.{◌≡◌, ℕ, refl, sym, ap, subst, ◌⊎◌, inl, inr, List, [], ◌∷◌, IsTrue}
 use native.Mathlib.Decide.{ℕ_discrete}
 use Rattle.trs_defs.specs.Tree.{Tree, var, app, Trees}
 use Rattle.trs_defs.specs.System.{RewriteRule, Among}
@@ -11,8 +11,10 @@ use Rattle.trs_defs.specs.DependencyPair.{IsDependencyPair}
 use Rattle.trs_defs.specs.PairProblem.{ChainsEnd}
 use Rattle.trs_defs.specs.WellFormed.{IsWellFormed}
 use Rattle.trs_defs.specs.Step.{StepBy}
+use Rattle.trs_defs.specs.Variable.{has_var}
+use Rattle.trs_defs.specs.Terminates.{Terminates}
 use Rattle.trs_defs.specs.Bounded.{IsBounded}
-use Rattle.pair_theory.proofs.Terms.{app_root}
+use Rattle.pair_theory.proofs.Terms.{app_root, sub_of_has, has_of_sub}
 use Rattle.pair_theory.proofs.Members.{in_or, no_in}
 use Rattle.pair_theory.proofs.Systems.{left_rooted, no_new_variables}
 use Rattle.pair_theory.proofs.PairTheorem.{terminating}
@@ -45,3 +47,8 @@ decide_defined (p ∷ rs) g = go (rooted_at g p.left) (decide_defined rs g)
 pub pair_theorem : (system : System) → IsSystem system → ChainsEnd system.arities (Among system.rules) (IsDependencyPair (Among system.rules)) → IsTerminating system
 pair_theorem system ok all t w = bounded system.rules (λ p i. no_new_variables system ok p.left p.right i)
     (terminating (Among system.rules) (left_rooted system ok) (no_new_variables system ok) (decide_defined system.rules) system.arities all t w)
+
+pub terminating_is_bounded : (rules : List RewriteRule) (t : Tree)
+    → ((r : RewriteRule) → In r rules → (v : ℕ) → IsTrue (has_var v r.right) → IsTrue (has_var v r.left))
+    → Terminates (Among rules) t → IsBounded (StepBy (Among rules)) t
+terminating_is_bounded rules t vars ends = bounded rules (λ p i x q. sub_of_has x p.left (vars p i x (has_of_sub x p.right q))) ends

@@ -1,4 +1,4 @@
--- Argument filters, and the path order on filtered terms. (Arts and Giesl, 2000, definition 11; Kusakari, Nakamura and
+-- Argument filters, and the path order on filtered terms. (Arts and Giesl, 2000; Kusakari, Nakamura and
 -- Toyama, 1999.) Places are counted from 1.
 use Rattle.std.specs.Prelude.{◌≡◌, ℕ, ◌-◌, ◌⊎◌, List, [], ◌∷◌}
 use Rattle.std.proofs.Common.{zero, suc}

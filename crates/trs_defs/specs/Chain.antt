@@ -1,4 +1,4 @@
--- Chain steps. (Arts and Giesl, 2000, definition 6; minimal chains: Hirokawa and Middeldorp, Giesl, Thiemann and
+-- Chain steps. (Arts and Giesl, 2000; minimal chains: Hirokawa and Middeldorp, Giesl, Thiemann and
 -- Schneider-Kamp, 2005.)
 use Rattle.std.specs.Prelude.{◌≡◌, ℕ}
 use Rattle.trs_defs.specs.Run.{Run}

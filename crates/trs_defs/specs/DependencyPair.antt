@@ -1,4 +1,4 @@
--- Dependency pairs. (Arts and Giesl, 2000, definition 3. Pairs whose right side is a proper subterm of the left side
+-- Dependency pairs. (Arts and Giesl, 2000. Pairs whose right side is a proper subterm of the left side
 -- stay.)
 use Rattle.std.specs.Prelude.{ℕ, List, [], ◌∷◌, ◌++◌, Bool, true, false, ◌||◌, ◌==◌}
 use Rattle.trs_defs.specs.Tree.{Tree, Trees, var, app, nil, cons}

@@ -1,5 +1,5 @@
 -- The Knuth-Bendix order, by weights and ranks of symbols; a variable weighs 1. (Knuth and Bendix, 1970; Baader and
--- Nipkow, definition 5.4.18.)
+-- Nipkow, section 5.4.)
 use Rattle.std.specs.Prelude.{◌≡◌, ◌≢◌, ℕ, ◌+◌, ◌-◌, ◌≤◌, ◌<◌, ◌⊎◌, List, Option, Some, if◌then◌else◌, nat_lt, slice_get}
 use Rattle.trs_defs.specs.Tree.{Tree, Trees, var, app, nil, cons, count}
 use Rattle.trs_defs.specs.Variable.{occurrences}

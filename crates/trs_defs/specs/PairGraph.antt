@@ -1,4 +1,4 @@
--- Groups of pairs along a graph. (Arts and Giesl, 2000, section 2.4; Giesl, Thiemann and Schneider-Kamp, 2005: the
+-- Groups of pairs along a graph. (Arts and Giesl, 2000; Giesl, Thiemann and Schneider-Kamp, 2005: the
 -- dependency graph processor.)
 use Rattle.std.specs.Prelude.{◌≡◌, ◌≤◌, ◌<◌, ℕ, List, Bool, Some, IsTrue, slice_get}
 use Rattle.trs_defs.specs.Member.{In}

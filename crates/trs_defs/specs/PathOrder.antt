@@ -1,4 +1,4 @@
--- The lexicographic path order, with a rank for each symbol. (Baader and Nipkow, definition 5.4.12. Ranks may be equal;
+-- The lexicographic path order, with a rank for each symbol. (Baader and Nipkow, section 5.4. Ranks may be equal;
 -- symbols of one rank compare only with themselves.)
 use Rattle.std.specs.Prelude.{◌≡◌, ℕ, ◌<◌}
 use Rattle.trs_defs.specs.Tree.{Tree, Trees, app, nil, cons, count}

@@ -1,4 +1,4 @@
--- Reduction pairs. (Arts and Giesl, 2000, section 2.3; Baader and Nipkow, section 5.2, for one order.)
+-- Reduction pairs. (Arts and Giesl, 2000; Baader and Nipkow, section 5.2, for one order.)
 use Rattle.std.specs.Prelude.{ℕ, List}
 use Rattle.trs_defs.specs.Tree.{Tree, Trees, var, app}
 use Rattle.trs_defs.specs.Substitution.{apply}

@@ -1,4 +1,4 @@
--- What the subterm criterion asks of a pair. (Hirokawa and Middeldorp, Tyrolean termination tool, 2007, section 3.)
+-- What the subterm criterion asks of a pair. (Hirokawa and Middeldorp, Tyrolean termination tool: techniques and features, 2007.)
 use Rattle.std.specs.Prelude.{◌≡◌, ℕ, Some}
 use Rattle.trs_defs.specs.Tree.{Tree}
 use Rattle.trs_defs.specs.Position.{argument_at}

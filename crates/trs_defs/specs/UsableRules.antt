@@ -1,4 +1,4 @@
--- Usable symbols and usable rules. (Arts and Giesl, 2000, section 3.2; Hirokawa and Middeldorp, 2007; Giesl, Thiemann,
+-- Usable symbols and usable rules. (Arts and Giesl, 2000; Hirokawa and Middeldorp, 2007; Giesl, Thiemann,
 -- Schneider-Kamp and Falke, 2006.)
 use Rattle.std.specs.Prelude.{ℕ, List, [], ◌∷◌, Bool, IsTrue}
 use Rattle.trs_defs.specs.Member.{In}
