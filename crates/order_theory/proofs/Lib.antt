@@ -10,3 +10,4 @@ pub mod KnuthAccessible
 pub mod Over
 pub mod KnuthLaws
 pub mod KnuthPair
+pub mod Removals

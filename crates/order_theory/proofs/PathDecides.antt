@@ -185,8 +185,8 @@ module _ (rank : ℕ → ℕ) where
   mutual
     pub path_decides : (s : Tree) → Tested s
     path_decides (var x) t = ((λ e. absurd (true≢false (sym e))), (λ g. absurd (var_least g)))
-    path_decides (app f ss) t = let ks : Every Tested ss = gts_decide ss in (above_is f ss ks t, is_above f ss ks t)
+    path_decides (app f ss) t = let ks : Every Tested ss = each_decides ss in (above_is f ss ks t, is_above f ss ks t)
 
-    gts_decide : (ss : Trees) → Every Tested ss
-    gts_decide nil = every_nil
-    gts_decide (cons s ss) = every_cons (path_decides s) (gts_decide ss)
+    each_decides : (ss : Trees) → Every Tested ss
+    each_decides nil = every_nil
+    each_decides (cons s ss) = every_cons (path_decides s) (each_decides ss)
