@@ -1,6 +1,6 @@
 -- Usable symbols and usable rules. (Arts and Giesl, 2000; Hirokawa and Middeldorp, 2007; Giesl, Thiemann,
 -- Schneider-Kamp and Falke, 2006.)
-use Rattle.std.specs.Prelude.{ℕ, List, [], ◌∷◌, Bool, IsTrue}
+use Rattle.std.specs.Prelude.{ℕ, List, [], ◌∷◌, Bool, false, IsTrue}
 use Rattle.trs_defs.specs.Member.{In}
 use Rattle.trs_defs.specs.Tree.{Tree, Trees, var, app, nil, cons}
 use Rattle.trs_defs.specs.System.{RewriteRule, Among}
@@ -21,6 +21,11 @@ pub record HasUsable (rules : List RewriteRule) (pairs : List DependencyPair) (u
       → IsDefined (Among rules) g → IsTrue (usable g)
   pub of_rules : (f g : ℕ) (ls us : Trees) (r : Tree) → IsTrue (usable f) → Among rules (app f ls) r → Sub (app g us) r
       → IsDefined (Among rules) g → IsTrue (usable g)
+
+-- whether the root is in a set: the usable rules are those whose left side's root is a usable symbol
+abbrev pub root_in : (ℕ → Bool) → Tree → Bool
+root_in usable (var x) = false
+root_in usable (app f ts) = usable f
 
 -- the rules C(x, y) -> x and C(x, y) -> y of a symbol that no system has, which an order has to make fall too
 abbrev pub choices : List RewriteRule

@@ -7,10 +7,13 @@ use Rattle.trs_defs.specs.Subterm.{Sub, itself, under, Subs, in_head, in_tail}
 use Rattle.trs_defs.specs.Marked.{Marked, plain, mark}
 use Rattle.trs_defs.specs.DependencyPair.{DependencyPair, IsDefined, is_defined}
 use Rattle.trs_defs.specs.Chain.{ChainStep}
-use Rattle.trs_defs.specs.Moves.{IsOrdered, MovesAtMost}
-use Rattle.trs_defs.specs.ReductionPair.{ReductionPair, AllTerms}
+use Rattle.trs_defs.specs.Moves.{IsOrdered, IsWellFounded, MovesAtMost}
+use Rattle.trs_defs.specs.ReductionPair.{AllTerms}
 use Rattle.trs_defs.specs.PairProblem.{PairAmong, IsFiniteProblem, IsPair}
-use Rattle.trs_defs.specs.UsableRules.{IsUsable, in_pair, in_rule, HasUsable, choices}
+use Rattle.trs_defs.specs.UsableRules.{IsUsable, in_pair, in_rule, HasUsable, root_in, choices}
+use Rattle.trs_defs.specs.LinearInterpretation.{LinearWeak, LinearStrict, CoefficientWeak, CoefficientStrict}
+use Rattle.order_theory.proofs.Linear.{linear_well_founded}
+use Rattle.order_theory.proofs.Coefficients.{weak_by_coefficients, strict_by_coefficients}
 use Rattle.pair_theory.proofs.Members.{no_in, in_or, in_left, in_right, in_either}
 use Rattle.pair_theory.proofs.Terms.{below_root, subs_of_has, has_of_subs, var_in_var}
 use Rattle.pair_theory.proofs.PairList.{defined_true, true_defined}
@@ -18,11 +21,6 @@ use Rattle.pair_theory.proofs.Systems.{left_rooted, no_new_variables}
 use Rattle.pair_theory.proofs.Problems.{Ready, chain_ready, fewer, Parted, parted, mark_rules, marked_in, each_mark}
 use Rattle.pair_theory.proofs.Termination.{decide_defined}
 use Rattle.usable_theory.proofs.Usable.{Free, FreeEach, usable_removal}
-
--- whether the root is in a set; variables are not
-abbrev pub root_in : (ℕ → Bool) → Tree → Bool
-root_in usable (var x) = false
-root_in usable (app f ts) = usable f
 
 bool_cases : {P : Type 0} (b : Bool) → (b ≡ true → P) → (b ≡ false → P) → P
 bool_cases true f g = f refl
@@ -59,7 +57,7 @@ module _ (rules : List RewriteRule) (pairs : List DependencyPair) where
 
 module _ (system : System) (ok : IsSystem system) (pairs stays : List DependencyPair)
     (good : (p : DependencyPair) → In p pairs → IsPair system.arities p) (usable : ℕ → Bool)
-    (has : HasUsable system.rules pairs usable) (weak strict : Tree → Tree → Type 0) (laws : ReductionPair weak strict AllTerms)
+    (has : HasUsable system.rules pairs usable) (weak strict : Tree → Tree → Type 0) (well_founded : IsWellFounded weak strict AllTerms)
     (falls : (p : RewriteRule) → In p system.rules → IsTrue (root_in usable p.left) → weak p.left p.right)
     (chooses : (p : RewriteRule) → In p choices → weak p.left p.right)
     (class : (p : DependencyPair) → In p pairs → (In p stays × weak (mark p.from) (mark p.to)) ⊎ strict (mark p.from) (mark p.to)) where
@@ -182,5 +180,27 @@ module _ (system : System) (ok : IsSystem system) (pairs stays : List Dependency
       (chain_ready system ok Either (λ l r i. good _ (one_of_pairs l r i)))
       (λ u ready. ready.1)
       (λ u ready. fewer Rule (PairAmong pairs_parted.ones) (PairAmong stays) (λ l r i. (pairs_parted.each_one _ i).1.0) (rest u ready.0 ready.1))
-      (λ t. laws.well_founded weaks stricts weak_ordered strict_ordered t tt)
+      (λ t. well_founded weaks stricts weak_ordered strict_ordered t tt)
       u (w, small))
+
+-- an order that speaks of all terms, however it says so
+pub on_all_terms : {weak strict : Tree → Tree → Type 0} {speaks_of : Tree → Type 0} → ((t : Tree) → speaks_of t)
+    → IsWellFounded weak strict speaks_of → IsWellFounded weak strict AllTerms
+on_all_terms {weak} {strict} {speaks_of} all wf ws ss ordered ordered' t spoken = wf ws ss (λ p i. put weak p (ordered p i)) (λ p i. put strict p (ordered' p i)) t (all t)
+  where
+    put : (order : Tree → Tree → Type 0) (p : RewriteRule) → IsOrdered AllTerms order p → IsOrdered speaks_of order p
+    put order p h = record { left_spoken = all p.left; right_spoken = all p.right; ordered = h.ordered; variables = h.variables }
+
+pub usable_by_interpretation : (system : System) (pairs stays : List DependencyPair) (usable : ℕ → Bool) (c : ℕ → ℕ → ℕ) → IsSystem system
+    → ((p : DependencyPair) → In p pairs → IsPair system.arities p) → HasUsable system.rules pairs usable
+    → ((r : RewriteRule) → In r system.rules → IsTrue (root_in usable r.left) → CoefficientWeak c r.left r.right)
+    → ((r : RewriteRule) → In r choices → CoefficientWeak c r.left r.right)
+    → ((p : DependencyPair) → In p pairs → (In p stays × CoefficientWeak c (mark p.from) (mark p.to)) ⊎ CoefficientStrict c (mark p.from) (mark p.to))
+    → IsFiniteProblem system stays → IsFiniteProblem system pairs
+usable_by_interpretation system pairs stays usable c ok good has falls chooses class =
+    usable_theorem system ok pairs stays good usable has (LinearWeak c) (LinearStrict c) (linear_well_founded c)
+    (λ r i u. weak_by_coefficients c r.left r.right (falls r i u)) (λ r i. weak_by_coefficients c r.left r.right (chooses r i))
+    (λ p i. elim (class p i) [
+      | inl h ↦ inl (h.0, weak_by_coefficients c (mark p.from) (mark p.to) h.1)
+      | inr h ↦ inr (strict_by_coefficients c (mark p.from) (mark p.to) h)
+    ])
