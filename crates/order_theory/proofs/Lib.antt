@@ -11,3 +11,4 @@ pub mod Over
 pub mod KnuthLaws
 pub mod KnuthPair
 pub mod Removals
+pub mod Examples

@@ -1,6 +1,7 @@
 -- Subterms whose root an order does not know are read as one variable: bounds on terms that it knows give bounds on all.
-use Rattle.std.proofs.Common.{◌≡◌, ℕ, ◌≤◌, refl, sym, ap, subst, ◌∙◌, ◌⊎◌, inl, inr, List, Bool, true, false}
-use Rattle.trs_defs.specs.Tree.{Tree, var, app, Trees, nil, cons}
+use Rattle.std.proofs.Common.{◌≡◌, ℕ, ◌≤◌, refl, sym, ap, subst, ◌∙◌, ◌⊎◌, inl, inr, List, Bool, true, false, ◌+◌, Some}
+use Rattle.trs_defs.specs.Tree.{Tree, var, app, Trees, nil, cons, count}
+use Rattle.trs_defs.specs.WellFormed.{IsWellFormed, AreWellFormed}
 use Rattle.trs_defs.specs.Substitution.{apply, apply_all}
 use Rattle.trs_defs.specs.Step.{StepBy, here, deep, first, later}
 use Rattle.trs_defs.specs.Terminates.{ArgumentStep}
@@ -45,6 +46,25 @@ module _ (has : ℕ → Bool) where
     erased_known_each : (ts : Trees) → KnownEach (erases ts)
     erased_known_each nil = tt
     erased_known_each (cons t ts) = (erased_known t, erased_known_each ts)
+
+  -- erasing keeps well-formed terms
+  module _ (arities : List ℕ) where
+    count_erases : (ts : Trees) → count (erases ts) ≡ count ts
+    count_erases nil = refl
+    count_erases (cons t ts) = ap (λ n. 1 + n) (count_erases ts)
+
+    erased_root : (b : Bool) (f : ℕ) (ts : Trees) → IsWellFormed arities (app f ts) → IsWellFormed arities (by_root b (app f ts))
+    erased_root true f ts w = w
+    erased_root false f ts w = tt
+
+    mutual
+      pub erased_well_formed : (t : Tree) → IsWellFormed arities t → IsWellFormed arities (erase t)
+      erased_well_formed (var x) w = tt
+      erased_well_formed (app f ts) w = erased_root (has f) f (erases ts) (w.0 ∙ ap Some (sym (count_erases ts)), erased_well_formed_all ts w.1)
+
+      erased_well_formed_all : (ts : Trees) → AreWellFormed arities ts → AreWellFormed arities (erases ts)
+      erased_well_formed_all nil w = tt
+      erased_well_formed_all (cons t ts) w = (erased_well_formed t w.0, erased_well_formed_all ts w.1)
 
   mutual
     erase_apply : (σ : ℕ → Tree) (t : Tree) → Known t → erase (apply σ t) ≡ apply (λ x. erase (σ x)) t
