@@ -18,3 +18,16 @@ pub mod Claims
 pub mod Path
 pub mod Loop
 pub mod Answers
+pub mod Confluence
+pub mod Ranks
+pub mod LabelledPath
+pub mod RanksFit
+pub mod ParallelStep
+pub mod Linear
+pub mod Overlap
+pub mod Peak
+pub mod Unifier
+pub mod CriticalPeak
+pub mod RuleRanks
+pub mod Cap
+pub mod UniqueNormalForms
