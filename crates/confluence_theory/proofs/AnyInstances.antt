@@ -71,9 +71,9 @@ mutual
       let P : Tree → Type 0 = λ z. Run (Inside R) u z in
       inr (record { x = x; y = u; step = d; others = subst P (sym (but_at σ x u)) Stay })
   split_any R σ (app f ls) u (here r) = inl (overlap_here r)
-  split_any R σ (app f ls) u (deep {us = us} d) = caught_deep (split_any_all R σ ls us d)
+  split_any R σ (app f ls) u (deep {ts = us} d) = caught_deep (split_any_all R σ ls us d)
 
   pub split_any_all : (R : Tree → Tree → Type 0) (σ : ℕ → Tree) (ls us : Trees) → InsideOne R (apply_all σ ls) us → OverlapOne R σ ls us ⊎ CaughtOne R σ ls us
   split_any_all R σ nil us d = elim d [ ]
-  split_any_all R σ (cons l ls) us (first {u = u} d) = caught_first (split_any R σ l u d)
-  split_any_all R σ (cons l ls) us (later {us = vs} d) = caught_later (split_any_all R σ ls vs d)
+  split_any_all R σ (cons l ls) us (first {t = u} d) = caught_first (split_any R σ l u d)
+  split_any_all R σ (cons l ls) us (later {ts = vs} d) = caught_later (split_any_all R σ ls vs d)

@@ -1,25 +1,29 @@
--- Lists of rules as systems.
-use Rattle.std.proofs.Common.{◌≡◌, inl, inr, sym, ◌∙◌, ap, List, Option, Some, None}
-use ??.{rule_of, AreRules}
-use Rattle.confluence_theory.proofs.Families.{IsFamily}
-use Rattle.trs_defs.specs.Tree.{Tree}
-use Rattle.confluence_theory.proofs.Substitutions.{agree, instance_eq}
+-- Rules by their numbers, what the proofs use of them, and peaks as a relation.
+use Rattle.std.proofs.Common.{ℕ, ◌≡◌}
+use Rattle.trs_defs.specs.Tree.{Tree, Trees, app}
+use Rattle.trs_defs.specs.Substitution.{apply}
+use Rattle.trs_defs.specs.Step.{RootStep, StepBy}
+use Rattle.trs_defs.specs.Overlap.{OverlapOne}
 
-some_of : {A : Type 0} → A → Option A → A
-some_of x None = x
-some_of x (Some y) = y
+-- a step of some rule
+abbrev pub AnyRule : (ℕ → Tree → Tree → Type 0) → Tree → Tree → Type 0
+AnyRule rule s t = (i : ℕ) × StepBy (rule i) s t
 
-some_eq : {A : Type 0} {x y : A} → Some x ≡ Some y → x ≡ y
-unfolding some_of
-some_eq {x = x} e = ap (some_of x) e
+abbrev pub AnyRoot : (ℕ → Tree → Tree → Type 0) → Tree → Tree → Type 0
+AnyRoot rule s t = (i : ℕ) × RootStep (rule i) s t
 
-pub system : (rules : List (Tree × Tree)) → AreRules rules → IsFamily (rule_of rules)
-system rules h =
-    record {
-      root = λ i l r k. (h i l r k).root;
-      one = λ i l r l' r' k k'.
-          let e : (l, r) ≡ (l', r') = some_eq (sym k ∙ k') in
-          (ap (λ p. p.0) e, ap (λ p. p.1) e);
-      same = λ i l r k σ τ e.
-          instance_eq σ τ r (λ x. elim (agree σ τ x l e) [ inl f ↦ inl ((h i l r k).variables x f) | inr q ↦ inr q ]);
-    }
+-- each number has at most one rule, of which the left side is no variable and has the variables of the right one
+pub record IsFamily (rule : ℕ → Tree → Tree → Type 0) : Type 0 where
+  pub root : (i : ℕ) (l r : Tree) → rule i l r → (f : ℕ) × (ts : Trees) × (l ≡ app f ts)
+  pub one : (i : ℕ) (l r l' r' : Tree) → rule i l r → rule i l' r' → (l ≡ l') × (r ≡ r')
+  pub same : (i : ℕ) (l r : Tree) → rule i l r → (σ τ : ℕ → Tree) → apply σ l ≡ apply τ l → apply σ r ≡ apply τ r
+
+-- peaks i j top left right: a peak whose inner step, of rule i, goes to left, and whose outer step, of rule j, to right
+abbrev pub HasInstance : (ℕ → ℕ → Tree → Tree → Tree → Type 0) → ℕ → ℕ → Tree → Tree → Tree → Type 0
+HasInstance peaks i j s t u =
+    (top : Tree) × (left : Tree) × (right : Tree) × (τ : ℕ → Tree)
+    × peaks i j top left right × (s ≡ apply τ top) × (t ≡ apply τ left) × (u ≡ apply τ right)
+
+pub record CoversBy (rule : ℕ → Tree → Tree → Type 0) (peaks : ℕ → ℕ → Tree → Tree → Tree → Type 0) : Type 0 where
+  pub at_root : (i j : ℕ) (l r t : Tree) (σ : ℕ → Tree) → rule j l r → ¬ (i ≡ j) → RootStep (rule i) (apply σ l) t → HasInstance peaks i j (apply σ l) t (apply σ r)
+  pub below_root : (i j f : ℕ) (ls us : Trees) (r : Tree) (σ : ℕ → Tree) → rule j (app f ls) r → OverlapOne (RootStep (rule i)) σ ls us → HasInstance peaks i j (apply σ (app f ls)) (app f us) (apply σ r)

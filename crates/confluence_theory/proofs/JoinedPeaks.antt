@@ -10,7 +10,8 @@ use Rattle.trs_defs.specs.Tree.{Tree, Trees, app, cons}
 use Rattle.abstract_confluence.proofs.Runs.{one, then, each}
 use Rattle.abstract_confluence.proofs.Maps.{run_along}
 use Rattle.abstract_confluence.proofs.BoundedRuns.{joins_within}
-use Rattle.confluence_theory.proofs.Substitutions.{but, step_instance}
+use Rattle.trs_defs.proofs.Substitutions.{step_closed}
+use Rattle.confluence_theory.proofs.Substitutions.{but}
 use Rattle.confluence_theory.proofs.AnyInstances.{split_any_all, copies_any}
 use Rattle.confluence_theory.proofs.RulePeaks.{peak}
 
@@ -43,7 +44,7 @@ module _ (rule : ℕ → Tree → Tree → Type 0) where
       joins_listed : (i j : ℕ) (s t u : Tree) → HasInstance peaks i j s t u → Joins (AnyRule rule) t u
       joins_listed i j s t u (top, left, right, τ, p, e, e', e'') =
           let d : Joins (AnyRule rule) (apply τ left) (apply τ right) =
-          joins_along (AnyRule rule) (AnyRule rule) (apply τ) (λ s t (k, r). (k, step_instance rule k τ r)) (listed i j top left right p) in
+          joins_along (AnyRule rule) (AnyRule rule) (apply τ) (λ s t (k, r). (k, (step_closed (rule k)).instance τ s t r)) (listed i j top left right p) in
           let P : Tree → Type 0 = λ z. Joins (AnyRule rule) z u in
           let Q : Tree → Type 0 = λ z. Joins (AnyRule rule) (apply τ left) z in
           subst P (sym e') (subst Q (sym e'') d)

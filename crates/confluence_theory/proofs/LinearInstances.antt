@@ -57,12 +57,12 @@ mutual
   pub split : (R : Tree → Tree → Type 0) (σ : ℕ → Tree) (l u : Tree) → IsSeparate l → Inside R (apply σ l) u → Overlap R σ l u ⊎ Moved R σ l u
   split R σ (var x) u h d = inr (record { x = x; y = u; step = d; occurs = λ k. k refl; moved = sym (but_at σ x u) })
   split R σ (app f ls) u h (here r) = inl (overlap_here r)
-  split R σ (app f ls) u h (deep {us = us} d) = moved_deep (split_all R σ ls us h d)
+  split R σ (app f ls) u h (deep {ts = us} d) = moved_deep (split_all R σ ls us h d)
 
   pub split_all : (R : Tree → Tree → Type 0) (σ : ℕ → Tree) (ls us : Trees) → AreSeparate ls → InsideOne R (apply_all σ ls) us → OverlapOne R σ ls us ⊎ MovedOne R σ ls us
   split_all R σ nil us h d = elim d [ ]
-  split_all R σ (cons l ls) us h (first {u = u} d) = moved_first h.2 (split R σ l u h.0 d)
-  split_all R σ (cons l ls) us h (later {us = vs} d) = moved_later h.2 (split_all R σ ls vs h.1 d)
+  split_all R σ (cons l ls) us h (first {t = u} d) = moved_first h.2 (split R σ l u h.0 d)
+  split_all R σ (cons l ls) us h (later {ts = vs} d) = moved_later h.2 (split_all R σ ls vs h.1 d)
 
 deep_once : {R : Tree → Tree → Type 0} (f : ℕ) {ts us : Trees} → AtMostOne (InsideOne R) ts us → AtMostOne (Inside R) (app f ts) (app f us)
 deep_once f Same = Same

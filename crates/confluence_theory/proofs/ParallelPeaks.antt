@@ -12,10 +12,11 @@ use Rattle.trs_defs.specs.Size.{size_of, size_of_all}
 use Rattle.trs_defs.specs.Step.{Inside, InsideOne, here, deep, first, later, RootStep}
 use Rattle.trs_defs.specs.Substitution.{apply, apply_all}
 use Rattle.trs_defs.specs.Tree.{Tree, Trees, var, app, nil, cons}
+use Rattle.trs_defs.proofs.Substitutions.{root_step_closed}
 use Rattle.abstract_confluence.proofs.Runs.{one, then}
 use Rattle.abstract_confluence.proofs.Maps.{run_along}
 use Rattle.abstract_confluence.proofs.BetweenRuns.{between_confluent}
-use Rattle.confluence_theory.proofs.Substitutions.{but, but_at, fun_head_eq, fun_args_eq, instance_eq, instances_eq, root_instance}
+use Rattle.confluence_theory.proofs.Substitutions.{but, but_at, fun_head_eq, fun_args_eq, instance_eq, instances_eq}
 
 -- a parallel step with the sizes of its redexes added up
 mutual
@@ -210,8 +211,8 @@ module _ (rule : ℕ → Tree → Tree → Type 0) where
   module _ (τ : ℕ → Tree) where
     mutual
       par_instance : {s t : Tree} → ParallelStep R s t → ParallelStep R (apply τ s) (apply τ t)
-      par_instance (at_variable {x = x}) = rest R (τ x)
-      par_instance (at_root {s = s} {t = t} (i, r)) = at_root (i, root_instance rule i τ s t r)
+      par_instance (at_variable {v = x}) = rest R (τ x)
+      par_instance (at_root {s = s} {t = t} (i, r)) = at_root (i, (root_step_closed (rule i)).instance τ s t r)
       par_instance (below_root d) = below_root (par_instance_all d)
 
       par_instance_all : {ts us : Trees} → ParallelSteps R ts us → ParallelSteps R (apply_all τ ts) (apply_all τ us)
@@ -239,7 +240,7 @@ module _ (rule : ℕ → Tree → Tree → Type 0) where
 
     par_run_all : {ts us : Trees} → ParallelSteps R ts us → Run AnyOne ts us
     par_run_all no_more = Stay
-    par_run_all (one_more {u = u} {ts = ts} d e) =
+    par_run_all (one_more {t = u} {ss = ts} d e) =
         then (run_along (λ t. cons t ts) (λ s t (i, r). (i, first r)) (par_run d)) (run_along (λ ts. cons u ts) (λ ts us (i, r). (i, later r)) (par_run_all e))
 
   abbrev Joined : Tree → Tree → Type 0

@@ -1,20 +1,27 @@
 -- A linear system whose critical peaks have decreasing sides is confluent.
 use Rattle.std.proofs.Common.{ℕ, ◌≡◌, refl, sym, subst}
-use ??.{Ranked, Sides}
 use Rattle.abstract_confluence.proofs.Joins.{RunsJoin}
 use Rattle.confluence_theory.proofs.Families.{AnyRule, HasInstance, CoversBy, IsFamily}
 use Rattle.confluence_theory.proofs.Free.{IsSeparate}
 use Rattle.trs_defs.specs.Ranks.{Side, IsLocallyDecreasing}
 use Rattle.trs_defs.specs.Run.{Stay, AtMostOne, Same, Once}
-use Rattle.trs_defs.specs.Step.{Inside, InsideOne, here, deep, first, later, RootStep}
+use Rattle.trs_defs.specs.Step.{Inside, InsideOne, here, deep, first, later, RootStep, StepBy}
 use Rattle.trs_defs.specs.Substitution.{apply}
 use Rattle.trs_defs.specs.Tree.{Tree, Trees, app, cons}
 use Rattle.abstract_confluence.proofs.Runs.{each}
 use Rattle.abstract_confluence.proofs.Maps.{once_along, side_along}
 use Rattle.abstract_confluence.proofs.Decreasing.{decreasing_confluent}
-use Rattle.confluence_theory.proofs.Substitutions.{step_instance}
+use Rattle.trs_defs.proofs.Substitutions.{step_closed}
 use Rattle.confluence_theory.proofs.RulePeaks.{peak}
 use Rattle.confluence_theory.proofs.NestedSteps.{linear_nested}
+
+-- a step whose rule has the rank
+abbrev pub Ranked : (ℕ → Tree → Tree → Type 0) → (ℕ → ℕ) → ℕ → Tree → Tree → Type 0
+Ranked rule rank a s t = (i : ℕ) × (rank i ≡ a) × StepBy (rule i) s t
+
+-- the two sides of a peak of rules i and j
+abbrev pub Sides : (ℕ → Tree → Tree → Type 0) → (ℕ → ℕ) → ℕ → ℕ → Tree → Tree → Type 0
+Sides rule rank i j t u = (v : Tree) × Side (Ranked rule rank) (rank i) (rank j) t v × Side (Ranked rule rank) (rank j) (rank i) u v
 
 module _ (rule : ℕ → Tree → Tree → Type 0) (rank : ℕ → ℕ) where
   abbrev RankedOne : ℕ → Trees → Trees → Type 0
@@ -51,8 +58,8 @@ module _ (rule : ℕ → Tree → Tree → Type 0) (rank : ℕ → ℕ) where
   sides_instance : (i j : ℕ) (τ : ℕ → Tree) (t u : Tree) → Sides rule rank i j t u → Sides rule rank i j (apply τ t) (apply τ u)
   sides_instance i j τ t u (v, tv, uv) = (
     apply τ v,
-    side_along (Ranked rule rank) (Ranked rule rank) (apply τ) (λ a s t (k, e, r). (k, e, step_instance rule k τ r)) (rank i) (rank j) tv,
-    side_along (Ranked rule rank) (Ranked rule rank) (apply τ) (λ a s t (k, e, r). (k, e, step_instance rule k τ r)) (rank j) (rank i) uv,
+    side_along (Ranked rule rank) (Ranked rule rank) (apply τ) (λ a s t (k, e, r). (k, e, (step_closed (rule k)).instance τ s t r)) (rank i) (rank j) tv,
+    side_along (Ranked rule rank) (Ranked rule rank) (apply τ) (λ a s t (k, e, r). (k, e, (step_closed (rule k)).instance τ s t r)) (rank j) (rank i) uv,
   )
 
   module _ (peaks : ℕ → ℕ → Tree → Tree → Tree → Type 0) (sys : IsFamily rule) (linear : (i : ℕ) (l r : Tree) → rule i l r → IsSeparate l × IsSeparate r)

@@ -4,13 +4,8 @@ use native.Mathlib.Decide.{ℕ_discrete}
 use Rattle.trs_defs.specs.Step.{Inside, InsideOne, here, deep, first, later, RootStep}
 use Rattle.trs_defs.specs.Substitution.{apply, apply_all}
 use Rattle.trs_defs.specs.Tree.{Tree, Trees, app, cons}
+use Rattle.confluence_theory.proofs.Families.{IsFamily}
 use Rattle.confluence_theory.proofs.Substitutions.{fun_head_eq, fun_args_eq}
-
--- what the peaks use of a system
-pub record IsFamily (rule : ℕ → Tree → Tree → Type 0) : Type 0 where
-  pub root : (i : ℕ) (l r : Tree) → rule i l r → (f : ℕ) × (ts : Trees) × (l ≡ app f ts)
-  pub one : (i : ℕ) (l r l' r' : Tree) → rule i l r → rule i l' r' → (l ≡ l') × (r ≡ r')
-  pub same : (i : ℕ) (l r : Tree) → rule i l r → (σ τ : ℕ → Tree) → apply σ l ≡ apply τ l → apply σ r ≡ apply τ r
 
 module _ (rule : ℕ → Tree → Tree → Type 0) (sys : IsFamily rule) (closed : ℕ → ℕ → Tree → Tree → Type 0)
     (mirror : (i j : ℕ) (t u : Tree) → closed i j t u → closed j i u t)
@@ -58,12 +53,12 @@ module _ (rule : ℕ → Tree → Tree → Type 0) (sys : IsFamily rule) (closed
       mutual
         pub peak : {s t u : Tree} → Inside (RootStep (rule i)) s t → Inside (RootStep (rule j)) s u → closed i j t u
         peak {s} {t} {u} (here a) (here b) = at_root i j s t u a b
-        peak {u = u} (deep {f = f} {ts = ts} {us = us} d) (here b) = nested i j f ts us u d b
-        peak {t = t} (here a) (deep {f = f} {ts = ts} {us = us} d) = mirror j i (app f us) t (nested j i f ts us t d a)
-        peak (deep {f = f} {us = us} d) (deep {us = us'} e) = deep_case i j f us us' (peak_all d e)
+        peak {u = u} (deep {f = f} {ss = ts} {ts = us} d) (here b) = nested i j f ts us u d b
+        peak {t = t} (here a) (deep {f = f} {ss = ts} {ts = us} d) = mirror j i (app f us) t (nested j i f ts us t d a)
+        peak (deep {f = f} {ts = us} d) (deep {ts = us'} e) = deep_case i j f us us' (peak_all d e)
 
         pub peak_all : {ts us us' : Trees} → InsideOne (RootStep (rule i)) ts us → InsideOne (RootStep (rule j)) ts us' → InsideOne (closed i j) us us' ⊎ ((vs : Trees) × InsideOne (RootStep (rule j)) us vs × InsideOne (RootStep (rule i)) us' vs)
         peak_all (first d) (first e) = inl (first (here (peak d e)))
-        peak_all (first {u = u} d) (later {us = us'} e) = inr (cons u us', later e, first d)
-        peak_all (later {us = us} d) (first {u = u} e) = inr (cons u us, first e, later d)
-        peak_all (later {t = t} {us = us} d) (later {us = us'} e) = later_case i j t us us' (peak_all d e)
+        peak_all (first {t = u} d) (later {ts = us'} e) = inr (cons u us', later e, first d)
+        peak_all (later {ts = us} d) (first {t = u} e) = inr (cons u us, first e, later d)
+        peak_all (later {t = t} {ts = us} d) (later {ts = us'} e) = later_case i j t us us' (peak_all d e)

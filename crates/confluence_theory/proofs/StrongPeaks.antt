@@ -10,7 +10,7 @@ use Rattle.trs_defs.specs.Tree.{Tree, Trees, app, cons}
 use Rattle.abstract_confluence.proofs.Runs.{one}
 use Rattle.abstract_confluence.proofs.Maps.{run_along, once_along}
 use Rattle.abstract_confluence.proofs.Strong.{strong_confluent}
-use Rattle.confluence_theory.proofs.Substitutions.{step_instance}
+use Rattle.trs_defs.proofs.Substitutions.{step_closed}
 use Rattle.confluence_theory.proofs.RulePeaks.{peak}
 use Rattle.confluence_theory.proofs.NestedSteps.{linear_nested}
 
@@ -57,7 +57,7 @@ module _ (rule : ℕ → Tree → Tree → Type 0) where
       both_listed : (i j : ℕ) (s t u : Tree) → HasInstance peaks i j s t u → Both (AnyRule rule) t u
       both_listed i j s t u (top, left, right, τ, p, e, e', e'') =
           let d : Both (AnyRule rule) (apply τ left) (apply τ right) =
-          both_along (AnyRule rule) (AnyRule rule) (apply τ) (λ s t (k, r). (k, step_instance rule k τ r)) (listed i j top left right p) in
+          both_along (AnyRule rule) (AnyRule rule) (apply τ) (λ s t (k, r). (k, (step_closed (rule k)).instance τ s t r)) (listed i j top left right p) in
           let P : Tree → Type 0 = λ z. Both (AnyRule rule) z u in
           let Q : Tree → Type 0 = λ z. Both (AnyRule rule) (apply τ left) z in
           subst P (sym e') (subst Q (sym e'') d)

@@ -2,7 +2,6 @@
 use Rattle.std.proofs.Common.{ℕ, ◌≡◌, ◌⊎◌, inl, inr, refl, sym, ◌∙◌, ap, subst}
 use native.Mathlib.Decide.{ℕ_discrete}
 use Rattle.confluence_theory.proofs.Free.{IsFree, AreFree}
-use Rattle.trs_defs.specs.Step.{Inside, InsideOne, here, deep, first, later, RootStep}
 use Rattle.trs_defs.specs.Substitution.{apply, apply_all}
 use Rattle.trs_defs.specs.Tree.{Tree, Trees, var, app, nil, cons}
 
@@ -42,38 +41,6 @@ mutual
   apply_all_free σ x y (cons t ts) h =
       ap (λ u. cons u (apply_all (but σ x y) ts)) (apply_free σ x y t h.0) ∙ ap (λ us. cons (apply σ t) us) (apply_all_free σ x y ts h.1)
 
-tree_first : Tree → Trees → Tree
-tree_first t nil = t
-tree_first t (cons u us) = u
-
-tree_rest : Trees → Trees
-tree_rest nil = nil
-tree_rest (cons u us) = us
-
-first_eq : {t u : Tree} {ts us : Trees} → cons t ts ≡ cons u us → t ≡ u
-unfolding tree_first
-first_eq {t = t} e = ap (tree_first t) e
-
-rest_eq : {t u : Tree} {ts us : Trees} → cons t ts ≡ cons u us → ts ≡ us
-unfolding tree_rest
-rest_eq e = ap tree_rest e
-
-either : {A B E : Type 0} → A ⊎ E → B ⊎ E → (A × B) ⊎ E
-either (inl a) (inl b) = inl (a, b)
-either (inl a) (inr e) = inr e
-either (inr e) b = inr e
-
--- equal instances of a term agree at its variables
-mutual
-  pub agree : (σ τ : ℕ → Tree) (x : ℕ) (t : Tree) → apply σ t ≡ apply τ t → IsFree x t ⊎ (σ x ≡ τ x)
-  agree σ τ x (var y) e =
-      elim (ℕ_discrete x y) [ yes k ↦ inr (let P : ℕ → Type 0 = λ z. σ z ≡ τ z in subst P (sym k) e) | no k ↦ inl k ]
-  agree σ τ x (app f ts) e = agree_all σ τ x ts (fun_args_eq e)
-
-  pub agree_all : (σ τ : ℕ → Tree) (x : ℕ) (ts : Trees) → apply_all σ ts ≡ apply_all τ ts → AreFree x ts ⊎ (σ x ≡ τ x)
-  agree_all σ τ x nil e = inl tt
-  agree_all σ τ x (cons t ts) e = either (agree σ τ x t (first_eq e)) (agree_all σ τ x ts (rest_eq e))
-
 drop_first : {A B E : Type 0} → (A × B) ⊎ E → B ⊎ E
 drop_first (inl p) = inl p.1
 drop_first (inr e) = inr e
@@ -92,29 +59,3 @@ mutual
   instances_eq σ τ (cons t ts) h =
       ap (λ u. cons u (apply_all σ ts)) (instance_eq σ τ t (λ x. drop_second (h x)))
       ∙ ap (λ us. cons (apply τ t) us) (instances_eq σ τ ts (λ x. drop_first (h x)))
-
--- one substitution after another
-mutual
-  pub apply_apply : (τ σ : ℕ → Tree) (t : Tree) → apply τ (apply σ t) ≡ apply (λ x. apply τ (σ x)) t
-  apply_apply τ σ (var x) = refl
-  apply_apply τ σ (app f ts) = ap (λ us. app f us) (apply_apply_all τ σ ts)
-
-  pub apply_apply_all : (τ σ : ℕ → Tree) (ts : Trees) → apply_all τ (apply_all σ ts) ≡ apply_all (λ x. apply τ (σ x)) ts
-  apply_apply_all τ σ nil = refl
-  apply_apply_all τ σ (cons t ts) =
-      ap (λ u. cons u (apply_all τ (apply_all σ ts))) (apply_apply τ σ t) ∙ ap (λ us. cons (apply (λ x. apply τ (σ x)) t) us) (apply_apply_all τ σ ts)
-
--- a step's instance is a step
-pub root_instance : (rule : ℕ → Tree → Tree → Type 0) (i : ℕ) (τ : ℕ → Tree) (s t : Tree) → RootStep (rule i) s t → RootStep (rule i) (apply τ s) (apply τ t)
-root_instance rule i τ s t (l, r, σ, h, e, e') =
-    (l, r, (λ x. apply τ (σ x)), h, ap (apply τ) e ∙ apply_apply τ σ l, ap (apply τ) e' ∙ apply_apply τ σ r)
-
-module _ (rule : ℕ → Tree → Tree → Type 0) (i : ℕ) (τ : ℕ → Tree) where
-  mutual
-    pub step_instance : {s t : Tree} → Inside (RootStep (rule i)) s t → Inside (RootStep (rule i)) (apply τ s) (apply τ t)
-    step_instance (here {s = s} {t = t} r) = here (root_instance rule i τ s t r)
-    step_instance (deep d) = deep (step_instance_all d)
-
-    step_instance_all : {ts us : Trees} → InsideOne (RootStep (rule i)) ts us → InsideOne (RootStep (rule i)) (apply_all τ ts) (apply_all τ us)
-    step_instance_all (first d) = first (step_instance d)
-    step_instance_all (later d) = later (step_instance_all d)

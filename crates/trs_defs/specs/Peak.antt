@@ -17,16 +17,16 @@ pub record Peak : Type 0 where
   pub left : Tree
   pub right : Tree
 
--- some peak of rules i and j in the list has, under one substitution, the top s and the results t and u
+-- a listed peak of rules i and j has, under one substitution, the top s and the results t and u
 pub record HasPeak (peaks : List Peak) (i j : ℕ) (s t u : Tree) : Type 0 where
-  pub peak : Peak
-  pub listed : In peak peaks
-  pub inner : peak.inner ≡ i
-  pub outer : peak.outer ≡ j
+  pub top : Tree
+  pub left : Tree
+  pub right : Tree
+  pub listed : In (record { inner = i; outer = j; top = top; left = left; right = right }) peaks
   pub substitution : ℕ → Tree
-  pub top : s ≡ apply substitution peak.top
-  pub left : t ≡ apply substitution peak.left
-  pub right : u ≡ apply substitution peak.right
+  pub from : s ≡ apply substitution top
+  pub inner_to : t ≡ apply substitution left
+  pub outer_to : u ≡ apply substitution right
 
 -- for rules i and j, and each place that is no variable of the left side of rule j at which a step of rule i can be made
 -- in an instance of it, there is a listed peak; a rule with itself at the root is excepted
