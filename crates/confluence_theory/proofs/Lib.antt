@@ -10,3 +10,4 @@ pub mod RankedPeaks
 pub mod StrongPeaks
 pub mod JoinedPeaks
 pub mod ParallelPeaks
+pub mod Claims
