@@ -11,3 +11,4 @@ pub mod StrongPeaks
 pub mod JoinedPeaks
 pub mod ParallelPeaks
 pub mod Claims
+pub mod CriticalCover
