@@ -248,8 +248,8 @@ module _ (system : System) (peaks : List Peak) (is_system : IsSystem system) (li
         outer_to = sym (same_instance θ σ r right_agrees) ∙ renumbered θ τ c.unifier c.names r peak.right e c.right;
       }
 
-  pub critical_peaks_cover : Covers system.rules peaks
-  critical_peaks_cover =
+  pub covered : Covers system.rules peaks
+  covered =
       record {
         at_root = λ i j l r t σ h n d.
             cover i j l r t σ h

@@ -12,3 +12,5 @@ pub mod JoinedPeaks
 pub mod ParallelPeaks
 pub mod Claims
 pub mod CriticalCover
+pub mod CapFits
+pub mod NormalForms

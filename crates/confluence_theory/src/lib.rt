@@ -1,2 +1,107 @@
-//! x
+//! Confluence of term rewriting systems by lists of peaks, and what shows that a system is not
+//! confluent. Each function is a theorem: its contract is the statement, and it does nothing.
 #![tactic(auto)]
+
+ghost use Rattle.std.specs.Prelude.{◌≡◌, ◌≢◌, ℕ, List};
+ghost use Rattle.trs_defs.specs.Member.{In};
+ghost use Rattle.trs_defs.specs.Tree.{Tree};
+ghost use Rattle.trs_defs.specs.Substitution.{apply};
+ghost use Rattle.trs_defs.specs.WellFormed.{IsWellFormed};
+ghost use Rattle.trs_defs.specs.System.{RewriteRule, System, IsSystem, Among};
+ghost use Rattle.trs_defs.specs.Derivation.{Reaches};
+ghost use Rattle.trs_defs.specs.Joinable.{IsJoinable};
+ghost use Rattle.trs_defs.specs.NormalForm.{IsNormalForm};
+ghost use Rattle.trs_defs.specs.Step.{Step};
+ghost use Rattle.trs_defs.specs.Claims.{IsTerminating, IsConfluent, IsForked};
+ghost use Rattle.trs_defs.specs.Confluence.{JoinsStrongly};
+ghost use Rattle.trs_defs.specs.ParallelStep.{ParallelStepBy};
+ghost use Rattle.trs_defs.specs.Linear.{AreLeftLinear, AreRightLinear};
+ghost use Rattle.trs_defs.specs.Peak.{Peak, Covers};
+ghost use Rattle.trs_defs.specs.CriticalPeak.{HasCriticalPeaks};
+ghost use Rattle.trs_defs.specs.RuleRanks.{IsDecreasing};
+ghost use Rattle.trs_defs.specs.Cap.{Cap, Fits};
+ghost use Rattle.trs_defs.specs.UniqueNormalForms.{HasUniqueNormalForms, IsSplit};
+
+/// Knuth and Bendix's theorem (Baader and Nipkow, theorem 6.2.4 and corollary 6.2.5): a terminating
+/// system is confluent if the sides of each peak of a list that covers it are joinable.
+pub fn joined_peaks()
+    ensures confluent { (system : System) (peaks : List Peak) →
+        IsSystem system → Covers system.rules peaks →
+        ((peak : Peak) → In peak peaks → IsJoinable (Step system.rules) peak.left peak.right) →
+        IsTerminating system → IsConfluent system }
+{}
+
+/// Huet's theorem on parallel closed systems (Baader and Nipkow, theorem 6.4.7): a left-linear
+/// system is confluent if one parallel step leads from the left to the right of each peak of a list
+/// that covers it.
+pub fn parallel_closed_peaks()
+    ensures confluent { (system : System) (peaks : List Peak) →
+        IsSystem system → AreLeftLinear system.rules → Covers system.rules peaks →
+        ((peak : Peak) → In peak peaks → ParallelStepBy system.rules peak.left peak.right) →
+        IsConfluent system }
+{}
+
+/// Huet's theorem on strongly closed systems (Baader and Nipkow, lemma 6.3.2 and corollary 6.3.3):
+/// a linear system is confluent if the sides of each peak of a list that covers it join strongly,
+/// in both directions.
+pub fn strongly_closed_peaks()
+    ensures confluent { (system : System) (peaks : List Peak) →
+        IsSystem system → AreLeftLinear system.rules → AreRightLinear system.rules → Covers system.rules peaks →
+        ((peak : Peak) → In peak peaks →
+        JoinsStrongly (Step system.rules) peak.left peak.right × JoinsStrongly (Step system.rules) peak.right peak.left) →
+        IsConfluent system }
+{}
+
+/// The rule labelling (van Oostrom, Confluence by decreasing diagrams, 2008): a linear system is
+/// confluent if the rules have ranks such that each peak of a list that covers it is decreasing.
+pub fn decreasing_peaks()
+    ensures confluent { (system : System) (ranks : List ℕ) (peaks : List Peak) →
+        IsSystem system → AreLeftLinear system.rules → AreRightLinear system.rules → Covers system.rules peaks →
+        ((peak : Peak) → In peak peaks → IsDecreasing system.rules ranks peak) →
+        IsConfluent system }
+{}
+
+/// The critical pair lemma's first half (Baader and Nipkow, lemma 6.2.3): a list with all critical
+/// peaks covers the system.
+pub fn critical_peaks_cover()
+    ensures covers { (system : System) (peaks : List Peak) →
+        IsSystem system → HasCriticalPeaks system.rules peaks → Covers system.rules peaks }
+{}
+
+/// Two different normal forms are not joinable, so a system is forked where a term reaches both.
+pub fn different_normal_forms()
+    ensures apart { (rules : List RewriteRule) (t u : Tree) →
+        IsNormalForm (Step rules) t → IsNormalForm (Step rules) u → t ≢ u → IsJoinable (Step rules) t u → ⊥ }
+    ensures forked { (system : System) (s t u : Tree) → IsWellFormed system.arities s →
+        Reaches (Step system.rules) s t → Reaches (Step system.rules) s u →
+        IsNormalForm (Step system.rules) t → IsNormalForm (Step system.rules) u → t ≢ u → IsForked system }
+    ensures split { (system : System) → IsSplit system → IsForked system }
+{}
+
+/// What the instances of a term reach fits the term's cap (Giesl, Thiemann and Schneider-Kamp,
+/// 2005). So two terms are not joinable, if no term fits both the caps that they have when their
+/// variables are read by one substitution, as by fresh constants (Aoto, Disproving confluence of
+/// term rewriting systems by interpretation and ordering, 2013; Zankl, Felgenhauer and Middeldorp,
+/// CSI, 2011).
+pub fn caps_apart()
+    ensures fits { (rules : List RewriteRule) (t cap v : Tree) (instance : ℕ → Tree) →
+        Cap (Among rules) t cap → Reaches (Step rules) (apply instance t) v → Fits cap v }
+    ensures apart { (rules : List RewriteRule) (t u c d : Tree) (read : ℕ → Tree) →
+        Cap (Among rules) (apply read t) c → Cap (Among rules) (apply read u) d →
+        ((v : Tree) → Fits c v → Fits d v → ⊥) → IsJoinable (Step rules) t u → ⊥ }
+    ensures forked { (system : System) (s t u c d : Tree) (read : ℕ → Tree) → IsWellFormed system.arities s →
+        Reaches (Step system.rules) s t → Reaches (Step system.rules) s u →
+        Cap (Among system.rules) (apply read t) c → Cap (Among system.rules) (apply read u) d →
+        ((v : Tree) → Fits c v → Fits d v → ⊥) → IsForked system }
+{}
+
+/// In a confluent system each well-formed term has at most one normal form (Baader and Nipkow,
+/// corollary 2.1.6).
+pub fn unique_normal_forms()
+    ensures unique { (system : System) → IsConfluent system → HasUniqueNormalForms system }
+{}
+
+/// A forked system is not confluent.
+pub fn forked_is_not_confluent()
+    ensures contradiction { (system : System) → IsForked system → IsConfluent system → ⊥ }
+{}
