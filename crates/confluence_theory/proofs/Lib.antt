@@ -14,3 +14,4 @@ pub mod Claims
 pub mod CriticalCover
 pub mod CapFits
 pub mod NormalForms
+mod Examples
