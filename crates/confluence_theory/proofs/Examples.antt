@@ -1,16 +1,23 @@
 -- Each theorem used once on a small system, so that its premises can be met.
-use Rattle.std.specs.Prelude.{◌≡◌, ◌≢◌, ◌≤◌, ℕ, List, [], ◌∷◌, Some, slice_get}
+use Rattle.std.specs.Prelude.{◌≡◌, ◌≢◌, ◌≤◌, ◌<◌, ℕ, List, [], ◌∷◌, Some, slice_get}
 use Rattle.std.proofs.Common.{zero, suc, refl, sym, ◌∙◌, ap, subst, inl, inr, arith}
 use Rattle.trs_defs.specs.Member.{In, in_first, in_rest}
-use Rattle.trs_defs.specs.Tree.{Tree, Trees, var, app, nil, cons}
+use Rattle.trs_defs.specs.Tree.{Tree, Trees, var, app, nil, cons, count}
 use Rattle.trs_defs.specs.Substitution.{apply}
 use Rattle.trs_defs.specs.System.{RewriteRule, System, IsRule, IsSystem, Numbered, Among}
 use Rattle.trs_defs.specs.Linear.{AreLeftLinear, AreRightLinear}
 use Rattle.trs_defs.specs.Overlap.{Overlap, OverlapOne, overlap_first, overlap_later}
 use Rattle.trs_defs.specs.Peak.{Peak, HasPeak, Covers}
 use Rattle.trs_defs.specs.Step.{Inside, InsideOne, here, deep, first, later, RootStep, Step}
-use Rattle.trs_defs.specs.RuleRanks.{IsDecreasing}
+use Rattle.trs_defs.specs.RuleRanks.{NumberedStep, IsDecreasing}
+use Rattle.trs_defs.specs.Run.{Same}
+use Rattle.trs_defs.specs.Bounded.{IsBoundedBy}
+use Rattle.trs_defs.specs.Joinable.{IsJoinable}
+use Rattle.trs_defs.specs.NormalForm.{IsNormalForm}
+use Rattle.trs_defs.specs.Confluence.{JoinsStrongly}
+use Rattle.trs_defs.proofs.Members.{in_of_get, get_of_in}
 use Rattle.trs_defs.specs.Claims.{IsConfluent, IsForked, IsTerminating}
+use Rattle.confluence_theory.proofs.NormalForms.{split_forked}
 use Rattle.confluence_theory.proofs.Claims.{joined, parallel_closed, strongly_closed, decreasing}
 
 -- Systems of constants.
@@ -131,3 +138,181 @@ four_listed (suc (suc (suc zero))) (suc (suc (suc zero))) f g h e e' n = absurd 
 four_listed (suc (suc (suc (suc i)))) j f g h e e' n = absurd cc
 four_listed i (suc (suc (suc (suc j)))) f g h e e' n = absurd cc
 four_listed i j f g h e e' n = let (p, q) = symbols_of _ _ _ _ e in let (p', q') = symbols_of _ _ _ _ e' in absurd (omega arith)
+
+each_of_two : (P : Peak → Type 0) (p q : Peak) → P p → P q → (peak : Peak) → In peak (p ∷ q ∷ []) → P peak
+each_of_two P p q a b peak in_first = a
+each_of_two P p q a b peak (in_rest in_first) = b
+each_of_two P p q a b peak (in_rest (in_rest h)) = elim h [ ]
+
+-- rule number k makes this step
+constant_step : (rules : List RewriteRule) (k f g : ℕ) → slice_get rules k ≡ Some (rewrites f g) → NumberedStep rules k (constant f) (constant g)
+constant_step rules k f g e = here (constant f, constant g, λ v. var v, e, refl, refl)
+
+constant_reaches : (rules : List RewriteRule) (k f g : ℕ) → slice_get rules k ≡ Some (rewrites f g) → Step rules (constant f) (constant g)
+constant_reaches rules k f g e = here (constant f, constant g, λ v. var v, in_of_get rules k (rewrites f g) e, refl, refl)
+
+b_c_decreasing : IsDecreasing four (1 ∷ 1 ∷ 0 ∷ 0 ∷ []) (peak_of 0 1 0 1 2)
+b_c_decreasing =
+    record {
+      end = constant 3;
+      left_path = 2 ∷ [];
+      left_steps = (constant 3, constant_step four 2 1 3 refl, refl);
+      left_fits = inl (omega arith, tt);
+      right_path = 3 ∷ [];
+      right_steps = (constant 3, constant_step four 3 2 3 refl, refl);
+      right_fits = inl (omega arith, tt);
+    }
+
+c_b_decreasing : IsDecreasing four (1 ∷ 1 ∷ 0 ∷ 0 ∷ []) (peak_of 1 0 0 2 1)
+c_b_decreasing =
+    record {
+      end = constant 3;
+      left_path = 3 ∷ [];
+      left_steps = (constant 3, constant_step four 3 2 3 refl, refl);
+      left_fits = inl (omega arith, tt);
+      right_path = 2 ∷ [];
+      right_steps = (constant 3, constant_step four 2 1 3 refl, refl);
+      right_fits = inl (omega arith, tt);
+    }
+
+four_confluent : IsConfluent (record { arities = nullary; rules = four })
+four_confluent =
+    decreasing (record { arities = nullary; rules = four }) (1 ∷ 1 ∷ 0 ∷ 0 ∷ []) four_peaks (constant_system four four_constant)
+    (constant_left four four_constant) (constant_right four four_constant) (constant_covers four four_peaks four_constant four_listed)
+    (each_of_two (IsDecreasing four (1 ∷ 1 ∷ 0 ∷ 0 ∷ [])) (peak_of 0 1 0 1 2) (peak_of 1 0 0 2 1) b_c_decreasing c_b_decreasing)
+
+-- Joined peaks: the same system, which terminates.
+
+-- what a constant goes to
+constant_next : (rules : List RewriteRule) → AreConstant rules → (f : ℕ) (u : Tree) → Step rules (constant f) u
+    → (k : ℕ) × (g : ℕ) × (slice_get rules k ≡ Some (rewrites f g)) × (u ≡ constant g)
+constant_next rules c f u (here (l, r, σ, h, e, e')) =
+    let (k, at) = get_of_in h in
+    let (f', g, same, fs, gs) = c k (record { left = l; right = r }) at in
+    let to : apply σ l ≡ constant f' = ap (λ z. apply σ z.left) same in
+    let f_is : f' ≡ f = cc (e, to) in
+    (k, g, at ∙ (ap Some same ∙ ap (λ z. Some (rewrites z g)) f_is), e' ∙ ap (λ z. apply σ z.right) same)
+constant_next rules c f u (deep d) = elim d [ ]
+
+-- how many steps may follow
+abbrev height : ℕ → ℕ
+height zero = 2
+height (suc zero) = 1
+height (suc (suc zero)) = 1
+height (suc (suc (suc k))) = 0
+
+four_lower : (k f g : ℕ) → slice_get four k ≡ Some (rewrites f g) → height g < height f
+four_lower zero f g e = let (p, q) = symbols_of _ _ _ _ e in rw (← p, ← q) (omega arith)
+four_lower (suc zero) f g e = let (p, q) = symbols_of _ _ _ _ e in rw (← p, ← q) (omega arith)
+four_lower (suc (suc zero)) f g e = let (p, q) = symbols_of _ _ _ _ e in rw (← p, ← q) (omega arith)
+four_lower (suc (suc (suc zero))) f g e = let (p, q) = symbols_of _ _ _ _ e in rw (← p, ← q) (omega arith)
+four_lower (suc (suc (suc (suc k)))) f g e = absurd cc
+
+four_bounded : (n f : ℕ) → height f ≤ n → IsBoundedBy (Step four) n (constant f)
+four_bounded zero f h = λ u s.
+    let (k, g, e, same) = constant_next four four_constant f u s in
+    let lower = four_lower k f g e in absurd (omega arith)
+four_bounded (suc n) f h = λ u s.
+    let (k, g, e, same) = constant_next four four_constant f u s in
+    let lower = four_lower k f g e in
+    subst (IsBoundedBy (Step four) n) (sym same) (four_bounded n g (omega arith))
+
+variable_normal : (rules : List RewriteRule) → AreConstant rules → (v : ℕ) → IsNormalForm (Step rules) (var v)
+variable_normal rules c v u (here (l, r, σ, h, e, e')) =
+    let (k, at) = get_of_in h in
+    let (f, g, same, fs, gs) = c k (record { left = l; right = r }) at in
+    let to : apply σ l ≡ constant f = ap (λ z. apply σ z.left) same in
+    absurd (cc (e, to))
+
+nullary_arity : (f n : ℕ) → slice_get nullary f ≡ Some n → n ≡ zero
+nullary_arity zero n e = cc
+nullary_arity (suc zero) n e = cc
+nullary_arity (suc (suc zero)) n e = cc
+nullary_arity (suc (suc (suc zero))) n e = cc
+nullary_arity (suc (suc (suc (suc f)))) n e = absurd cc
+
+four_terminating : IsTerminating (record { arities = nullary; rules = four })
+four_terminating (var v) well = (0, variable_normal four four_constant v)
+four_terminating (app f nil) well = (height f, four_bounded (height f) f (omega arith))
+four_terminating (app f (cons t ts)) well = let no = nullary_arity f (count (cons t ts)) well.0 in absurd (omega arith)
+
+b_c_join : IsJoinable (Step four) (constant 1) (constant 2)
+b_c_join =
+    (constant 3, (1, (constant 3, constant_reaches four 2 1 3 refl, refl)), (1, (constant 3, constant_reaches four 3 2 3 refl, refl)))
+
+c_b_join : IsJoinable (Step four) (constant 2) (constant 1)
+c_b_join =
+    (constant 3, (1, (constant 3, constant_reaches four 3 2 3 refl, refl)), (1, (constant 3, constant_reaches four 2 1 3 refl, refl)))
+
+four_joined : IsConfluent (record { arities = nullary; rules = four })
+four_joined =
+    joined (record { arities = nullary; rules = four }) four_peaks (constant_system four four_constant)
+    (constant_covers four four_peaks four_constant four_listed)
+    (each_of_two (λ p. IsJoinable (Step four) p.left p.right) (peak_of 0 1 0 1 2) (peak_of 1 0 0 2 1) b_c_join c_b_join) four_terminating
+
+-- Strongly closed: a -> b, a -> c, b -> c, c -> b, which does not terminate.
+
+abbrev turning : List RewriteRule
+turning = rewrites 0 1 ∷ rewrites 0 2 ∷ rewrites 1 2 ∷ rewrites 2 1 ∷ []
+
+turning_constant : AreConstant turning
+turning_constant zero r e = (0, 1, cc e, refl, refl)
+turning_constant (suc zero) r e = (0, 2, cc e, refl, refl)
+turning_constant (suc (suc zero)) r e = (1, 2, cc e, refl, refl)
+turning_constant (suc (suc (suc zero))) r e = (2, 1, cc e, refl, refl)
+turning_constant (suc (suc (suc (suc k)))) r e = absurd cc
+
+turning_listed : HasConstantPeaks turning four_peaks
+turning_listed zero zero f g h e e' n = absurd (n refl)
+turning_listed zero (suc zero) f g h e e' n = listed_at 0 1 0 1 2 f g h four_peaks e e' in_first
+turning_listed (suc zero) zero f g h e e' n = listed_at 1 0 0 2 1 f g h four_peaks e e' (in_rest in_first)
+turning_listed (suc zero) (suc zero) f g h e e' n = absurd (n refl)
+turning_listed (suc (suc zero)) (suc (suc zero)) f g h e e' n = absurd (n refl)
+turning_listed (suc (suc (suc zero))) (suc (suc (suc zero))) f g h e e' n = absurd (n refl)
+turning_listed (suc (suc (suc (suc i)))) j f g h e e' n = absurd cc
+turning_listed i (suc (suc (suc (suc j)))) f g h e e' n = absurd cc
+turning_listed i j f g h e e' n = let (p, q) = symbols_of _ _ _ _ e in let (p', q') = symbols_of _ _ _ _ e' in absurd (omega arith)
+
+b_to_c : JoinsStrongly (Step turning) (constant 1) (constant 2)
+b_to_c = (constant 2, (1, (constant 2, constant_reaches turning 2 1 2 refl, refl)), Same)
+
+c_to_b : JoinsStrongly (Step turning) (constant 2) (constant 1)
+c_to_b = (constant 1, (1, (constant 1, constant_reaches turning 3 2 1 refl, refl)), Same)
+
+turning_confluent : IsConfluent (record { arities = nullary; rules = turning })
+turning_confluent =
+    strongly_closed (record { arities = nullary; rules = turning }) four_peaks (constant_system turning turning_constant)
+    (constant_left turning turning_constant) (constant_right turning turning_constant)
+    (constant_covers turning four_peaks turning_constant turning_listed)
+    (each_of_two (λ p. JoinsStrongly (Step turning) p.left p.right × JoinsStrongly (Step turning) p.right p.left) (peak_of 0 1 0 1 2) (peak_of 1 0 0 2 1)
+    (b_to_c, c_to_b) (c_to_b, b_to_c))
+
+-- Forked by normal forms: a -> b, a -> c.
+
+abbrev fork : List RewriteRule
+fork = rewrites 0 1 ∷ rewrites 0 2 ∷ []
+
+fork_constant : AreConstant fork
+fork_constant zero r e = (0, 1, cc e, refl, refl)
+fork_constant (suc zero) r e = (0, 2, cc e, refl, refl)
+fork_constant (suc (suc k)) r e = absurd cc
+
+only_from_a : (k f g : ℕ) → slice_get fork k ≡ Some (rewrites f g) → f ≡ zero
+only_from_a zero f g e = let (p, q) = symbols_of _ _ _ _ e in omega arith
+only_from_a (suc zero) f g e = let (p, q) = symbols_of _ _ _ _ e in omega arith
+only_from_a (suc (suc k)) f g e = absurd cc
+
+fork_normal : (f : ℕ) → f ≢ zero → IsNormalForm (Step fork) (constant f)
+fork_normal f n u s = let (k, g, e, same) = constant_next fork fork_constant f u s in n (only_from_a k f g e)
+
+fork_forked : IsForked (record { arities = nullary; rules = fork })
+fork_forked =
+    split_forked (record { arities = nullary; rules = fork }) (
+      constant 0,
+      constant 1,
+      constant 2,
+      (refl, tt),
+      ((1, (constant 1, constant_reaches fork 0 0 1 refl, refl)), fork_normal 1 (λ e. absurd (omega arith))),
+      ((1, (constant 2, constant_reaches fork 1 0 2 refl, refl)), fork_normal 2 (λ e. absurd (omega arith))),
+      λ e. absurd (cc e),
+    )
