@@ -14,4 +14,7 @@ pub mod Claims
 pub mod CriticalCover
 pub mod CapFits
 pub mod NormalForms
+mod Constants
 mod Examples
+mod ParallelExample
+mod CapExample
