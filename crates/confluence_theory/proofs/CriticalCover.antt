@@ -194,6 +194,28 @@ module _ (rule : Tree → Tree → Type 0) (σ : ℕ → Tree) where
     spot_one (overlap_first {p = l} {t = t} {ps = ls} d) = spot_first l t ls (spot d)
     spot_one (overlap_later {p = l} {ps = ls} {ts = ts} d) = spot_later l ls ts (spot_one d)
 
+-- the variables of a subterm are the term's
+item_variable : (p : List ℕ) (ts : Trees) (i : ℕ) (part : Tree) (v : ℕ) → option_and_then (subterm_at p) (slice_get (items ts) i) ≡ Some part
+    → ((a : Tree) → subterm_at p a ≡ Some part → IsTrue (has_var v a)) → IsTrue (some_has_var v ts)
+item_variable p nil i part v e h = absurd cc
+item_variable p (cons t ts) zero part v e h = or_left (has_var v t) (some_has_var v ts) (h t e)
+item_variable p (cons t ts) (suc i) part v e h = or_right (has_var v t) (some_has_var v ts) (item_variable p ts i part v e h)
+
+part_variable : (p : List ℕ) (t part : Tree) (v : ℕ) → subterm_at p t ≡ Some part → IsTrue (has_var v part) → IsTrue (has_var v t)
+part_variable [] t part v e h = let same : part ≡ t = cc e in subst (λ z. IsTrue (has_var v z)) same h
+part_variable (place ∷ p) (var n) part v e h = absurd cc
+part_variable (zero ∷ p) (app f ts) part v e h = absurd cc
+part_variable (suc i ∷ p) (app f ts) part v e h = item_variable p ts i part v e (λ a k. part_variable p a part v k h)
+
+-- where rules overlap, they have a unifier once the inner one is renamed apart
+pub overlap_unifies : (rules : List RewriteRule) (i j : ℕ) (inner outer : RewriteRule) (p : List ℕ) (o : Overlaps rules i j inner outer p) (k : ℕ)
+    → ((v : ℕ) → IsTrue (has_var v outer.left) → v < k) → (θ : ℕ → Tree) × (apply θ o.part ≡ apply θ (shifted k inner.left))
+overlap_unifies rules i j inner outer p o k low =
+    let θ : ℕ → Tree = glue k o.outer_instance o.inner_instance in
+    let agrees : Agrees θ o.outer_instance o.part =
+    λ v has. glue_low k o.outer_instance o.inner_instance v (low v (part_variable p outer.left o.part v o.there has)) in
+    (θ, same_instance θ o.outer_instance o.part agrees ∙ (o.meet ∙ sym (apply_high k o.outer_instance o.inner_instance inner.left)))
+
 listed_as : (peaks : List Peak) (peak : Peak) (i j : ℕ) → In peak peaks → peak.inner ≡ i → peak.outer ≡ j
     → In (record { inner = i; outer = j; top = peak.top; left = peak.left; right = peak.right }) peaks
 listed_as peaks peak i j h e e' =

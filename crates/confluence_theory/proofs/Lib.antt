@@ -18,3 +18,4 @@ mod Constants
 mod Examples
 mod ParallelExample
 mod CapExample
+pub mod FollowedPaths

@@ -2,9 +2,10 @@
 //! confluent. Each function is a theorem: its contract is the statement, and it does nothing.
 #![tactic(auto)]
 
-ghost use Rattle.std.specs.Prelude.{◌≡◌, ◌≢◌, ℕ, List};
+ghost use Rattle.std.specs.Prelude.{◌≡◌, ◌≢◌, ◌<◌, ℕ, List, map, IsTrue};
 ghost use Rattle.trs_defs.specs.Member.{In};
 ghost use Rattle.trs_defs.specs.Tree.{Tree};
+ghost use Rattle.trs_defs.specs.Variable.{has_var};
 ghost use Rattle.trs_defs.specs.Substitution.{apply};
 ghost use Rattle.trs_defs.specs.WellFormed.{IsWellFormed};
 ghost use Rattle.trs_defs.specs.System.{RewriteRule, System, IsSystem, Among};
@@ -17,8 +18,10 @@ ghost use Rattle.trs_defs.specs.Confluence.{JoinsStrongly};
 ghost use Rattle.trs_defs.specs.ParallelStep.{ParallelStepBy};
 ghost use Rattle.trs_defs.specs.Linear.{AreLeftLinear, AreRightLinear};
 ghost use Rattle.trs_defs.specs.Peak.{Peak, Covers};
-ghost use Rattle.trs_defs.specs.CriticalPeak.{HasCriticalPeaks};
-ghost use Rattle.trs_defs.specs.RuleRanks.{IsDecreasing};
+ghost use Rattle.trs_defs.specs.CriticalPeak.{shifted, Overlaps, HasCriticalPeaks};
+ghost use Rattle.trs_defs.specs.RuleRanks.{NumberedStep, IsDecreasing};
+ghost use Rattle.trs_defs.specs.LabelledPath.{LabelledPath};
+ghost use Rattle.trs_defs.specs.Path.{PlacedRule, Follows};
 ghost use Rattle.trs_defs.specs.Cap.{Cap, Fits};
 ghost use Rattle.trs_defs.specs.UniqueNormalForms.{HasUniqueNormalForms, IsSplit};
 
@@ -66,6 +69,21 @@ pub fn decreasing_peaks()
 pub fn critical_peaks_cover()
     ensures covers { (system : System) (peaks : List Peak) →
         IsSystem system → HasCriticalPeaks system.rules peaks → Covers system.rules peaks }
+{}
+
+/// Where two rules overlap, the subterm of the outer left side and the inner left side have a
+/// unifier once the variables of the inner rule are moved past those of the outer left side.
+pub fn overlaps_unify()
+    ensures unified { (rules : List RewriteRule) (i j : ℕ) (inner outer : RewriteRule) (p : List ℕ) →
+        (overlap : Overlaps rules i j inner outer p) (offset : ℕ) →
+        ((v : ℕ) → IsTrue (has_var v outer.left) → v < offset) →
+        (σ : ℕ → Tree) × (apply σ overlap.part ≡ apply σ (shifted offset inner.left)) }
+{}
+
+/// A path by positions is a path by the numbers of its rules, as a decreasing peak wants it.
+pub fn followed_paths()
+    ensures labelled { (rules : List RewriteRule) (path : List PlacedRule) (t u : Tree) → Follows rules path t u →
+        LabelledPath (NumberedStep rules) (map (λ s. s.rule) path) t u }
 {}
 
 /// Two different normal forms are not joinable, so a system is forked where a term reaches both.
