@@ -1,5 +1,5 @@
 -- A path whose ranks fit is a side.
-use Rattle.std.proofs.Common.{ℕ, ◌≡◌, List, [], ◌∷◌, inl, inr, subst}
+use Rattle.std.proofs.Common.{ℕ, List, [], ◌∷◌, inl, inr, subst}
 use Rattle.trs_defs.specs.Run.{Run, Stay, Go, Same, Once}
 use Rattle.trs_defs.specs.Ranks.{BelowOne, Side}
 use Rattle.trs_defs.specs.LabelledPath.{LabelledPath}

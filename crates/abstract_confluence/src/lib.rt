@@ -20,6 +20,7 @@ pub trait Relation {
 /// Two relations on the values of a type.
 pub trait Refined {
     ghost fine: { Self → Self → Type 0 };
+
     ghost coarse: { Self → Self → Type 0 };
 }
 

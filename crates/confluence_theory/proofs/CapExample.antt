@@ -1,11 +1,11 @@
 -- Caps apart: f(x, y) -> x, f(x, y) -> y, from f(x, y). With x and y read as two constants no term fits both caps.
-use Rattle.std.specs.Prelude.{◌≡◌, ℕ, List, [], ◌∷◌, Some, slice_get}
-use Rattle.std.proofs.Common.{zero, suc, refl, ap, subst, arith}
+use Rattle.std.specs.Prelude.{◌≡◌, ℕ, [], ◌∷◌}
+use Rattle.std.proofs.Common.{zero, suc, refl, subst, arith}
 use Rattle.trs_defs.specs.Member.{In, in_first, in_rest}
 use Rattle.trs_defs.specs.Tree.{Tree, Trees, var, app, nil, cons}
 use Rattle.trs_defs.specs.Substitution.{apply}
 use Rattle.trs_defs.specs.System.{RewriteRule, System, Among}
-use Rattle.trs_defs.specs.Step.{here, Step}
+use Rattle.trs_defs.specs.Step.{here}
 use Rattle.trs_defs.specs.Cap.{Fits, fits_symbol, Cap, cap_symbol, caps_nil, constants_from}
 use Rattle.trs_defs.specs.Claims.{IsForked}
 use Rattle.confluence_theory.proofs.CapFits.{caps_apart_forked}

@@ -1,6 +1,6 @@
 -- What an instance of a term reaches fits the term's cap.
-use Rattle.std.proofs.Common.{◌≡◌, ℕ, List, refl, subst}
-use Rattle.trs_defs.specs.Tree.{Tree, Trees, var, app, nil, cons}
+use Rattle.std.proofs.Common.{ℕ, List, subst}
+use Rattle.trs_defs.specs.Tree.{Tree, Trees, app}
 use Rattle.trs_defs.specs.Substitution.{apply, apply_all}
 use Rattle.trs_defs.specs.WellFormed.{IsWellFormed}
 use Rattle.trs_defs.specs.System.{RewriteRule, System, Among}

@@ -1,10 +1,9 @@
 -- The theorems on rules by their numbers as claims on systems.
-use Rattle.std.specs.Prelude.{◌≡◌, ℕ, List, [], ◌∷◌, map}
-use Rattle.std.proofs.Common.{zero, suc, refl, subst}
+use Rattle.std.specs.Prelude.{ℕ, List, [], ◌∷◌, map}
+use Rattle.std.proofs.Common.{zero, suc, refl}
 use Rattle.trs_defs.specs.Member.{In}
 use Rattle.trs_defs.specs.Tree.{Tree, Trees}
 use Rattle.trs_defs.specs.System.{RewriteRule, System, IsSystem, Numbered, Among}
-use Rattle.trs_defs.specs.Run.{AtMostOne}
 use Rattle.trs_defs.specs.Bounded.{IsBoundedBy}
 use Rattle.trs_defs.specs.Joinable.{IsJoinable}
 use Rattle.trs_defs.specs.Confluence.{JoinsStrongly}
@@ -95,9 +94,9 @@ sides_of rules ranks peak d =
     let step : ℕ → Tree → Tree → Type 0 = Ranked (Numbered rules) (rank_of ranks) in (
       d.end,
       side_of_path step (rank_of ranks peak.inner) (rank_of ranks peak.outer) (map (rank_of ranks) d.left_path) peak.left d.end d.left_fits
-      (ranked_path rules ranks d.left_path peak.left d.end d.left_steps),
+          (ranked_path rules ranks d.left_path peak.left d.end d.left_steps),
       side_of_path step (rank_of ranks peak.outer) (rank_of ranks peak.inner) (map (rank_of ranks) d.right_path) peak.right d.end d.right_fits
-      (ranked_path rules ranks d.right_path peak.right d.end d.right_steps),
+          (ranked_path rules ranks d.right_path peak.right d.end d.right_steps),
     )
 
 pub decreasing : (system : System) (ranks : List ℕ) (peaks : List Peak) → IsSystem system → AreLeftLinear system.rules → AreRightLinear system.rules

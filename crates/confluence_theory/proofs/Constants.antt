@@ -1,23 +1,18 @@
 -- Systems of constants, for examples: each rule leads from a constant to a constant.
-use Rattle.std.specs.Prelude.{◌≡◌, ◌≢◌, ◌≤◌, ◌<◌, ℕ, List, [], ◌∷◌, Some, slice_get}
-use Rattle.std.proofs.Common.{zero, suc, refl, sym, ◌∙◌, ap, subst, inl, inr, arith}
+use Rattle.std.specs.Prelude.{◌≡◌, ◌≢◌, ℕ, List, [], ◌∷◌, Some, slice_get}
+use Rattle.std.proofs.Common.{zero, suc, refl, sym, ◌∙◌, ap, subst, arith}
 use Rattle.trs_defs.specs.Member.{In, in_first, in_rest}
-use Rattle.trs_defs.specs.Tree.{Tree, Trees, var, app, nil, cons, count}
+use Rattle.trs_defs.specs.Tree.{Tree, var, app, nil}
 use Rattle.trs_defs.specs.Substitution.{apply}
-use Rattle.trs_defs.specs.System.{RewriteRule, System, IsRule, IsSystem, Numbered, Among}
+use Rattle.trs_defs.specs.System.{RewriteRule, IsRule, IsSystem}
 use Rattle.trs_defs.specs.Linear.{AreLeftLinear, AreRightLinear}
 use Rattle.trs_defs.specs.Peak.{Peak, Covers}
 use Rattle.trs_defs.specs.Position.{subterm_at}
-use Rattle.trs_defs.specs.CriticalPeak.{IsCriticalPeak, Overlaps, HasCriticalPeaks}
-use Rattle.trs_defs.specs.Step.{Inside, InsideOne, here, deep, first, later, RootStep, Step}
-use Rattle.trs_defs.specs.RuleRanks.{NumberedStep, IsDecreasing}
-use Rattle.trs_defs.specs.Run.{Same}
-use Rattle.trs_defs.specs.Bounded.{IsBoundedBy}
-use Rattle.trs_defs.specs.Joinable.{IsJoinable}
+use Rattle.trs_defs.specs.CriticalPeak.{IsCriticalPeak, HasCriticalPeaks}
+use Rattle.trs_defs.specs.Step.{here, deep, Step}
+use Rattle.trs_defs.specs.RuleRanks.{NumberedStep}
 use Rattle.trs_defs.specs.NormalForm.{IsNormalForm}
-use Rattle.trs_defs.specs.Confluence.{JoinsStrongly}
 use Rattle.trs_defs.proofs.Members.{in_of_get, get_of_in}
-use Rattle.trs_defs.specs.Claims.{IsConfluent, IsForked, IsTerminating}
 use Rattle.confluence_theory.proofs.CriticalCover.{covered}
 
 abbrev pub constant : ℕ → Tree

@@ -1,25 +1,21 @@
 -- Each theorem used once on a small system, so that its premises can be met.
 use Rattle.std.specs.Prelude.{◌≡◌, ◌≢◌, ◌≤◌, ◌<◌, ℕ, List, [], ◌∷◌, Some, slice_get}
-use Rattle.std.proofs.Common.{zero, suc, refl, sym, ◌∙◌, ap, subst, inl, inr, arith}
-use Rattle.trs_defs.specs.Member.{In, in_first, in_rest}
-use Rattle.trs_defs.specs.Tree.{Tree, Trees, var, app, nil, cons, count}
-use Rattle.trs_defs.specs.Substitution.{apply}
-use Rattle.trs_defs.specs.System.{RewriteRule, System, IsRule, IsSystem, Numbered, Among}
-use Rattle.trs_defs.specs.Linear.{AreLeftLinear, AreRightLinear}
-use Rattle.trs_defs.specs.Overlap.{Overlap, OverlapOne, overlap_first, overlap_later}
-use Rattle.trs_defs.specs.Peak.{Peak, HasPeak, Covers}
-use Rattle.trs_defs.specs.Step.{Inside, InsideOne, here, deep, first, later, RootStep, Step}
-use Rattle.trs_defs.specs.RuleRanks.{NumberedStep, IsDecreasing}
+use Rattle.std.proofs.Common.{zero, suc, refl, sym, subst, inl, arith}
+use Rattle.trs_defs.specs.Member.{in_first, in_rest}
+use Rattle.trs_defs.specs.Tree.{var, app, nil, cons, count}
+use Rattle.trs_defs.specs.System.{RewriteRule}
+use Rattle.trs_defs.specs.Peak.{Peak}
+use Rattle.trs_defs.specs.Step.{Step}
+use Rattle.trs_defs.specs.RuleRanks.{IsDecreasing}
 use Rattle.trs_defs.specs.Run.{Same}
 use Rattle.trs_defs.specs.Bounded.{IsBoundedBy}
 use Rattle.trs_defs.specs.Joinable.{IsJoinable}
 use Rattle.trs_defs.specs.NormalForm.{IsNormalForm}
 use Rattle.trs_defs.specs.Confluence.{JoinsStrongly}
-use Rattle.trs_defs.proofs.Members.{in_of_get, get_of_in}
 use Rattle.trs_defs.specs.Claims.{IsConfluent, IsForked, IsTerminating}
 use Rattle.confluence_theory.proofs.NormalForms.{split_forked}
-use Rattle.confluence_theory.proofs.Claims.{joined, parallel_closed, strongly_closed, decreasing}
-use Rattle.confluence_theory.proofs.Constants.{constant, rewrites, peak_of, nullary, AreConstant, constant_rule, constant_system, constant_left, constant_right, symbols_of, HasConstantPeaks, listed_at, root_only, critical_peak, constant_critical, constant_covers, each_of_two, constant_step, constant_reaches, constant_next, nullary_arity, variable_normal}
+use Rattle.confluence_theory.proofs.Claims.{joined, strongly_closed, decreasing}
+use Rattle.confluence_theory.proofs.Constants.{constant, rewrites, peak_of, nullary, AreConstant, constant_system, constant_left, constant_right, symbols_of, HasConstantPeaks, listed_at, constant_covers, each_of_two, constant_step, constant_reaches, constant_next, nullary_arity, variable_normal}
 
 -- Decreasing ranks: a -> b, a -> c, b -> d, c -> d with the ranks 1, 1, 0, 0.
 

@@ -1,6 +1,6 @@
 -- Terms in which a variable does not occur, and terms in which none occurs twice.
-use Rattle.std.specs.Prelude.{◌≡◌, ◌≤◌, ℕ, ◌+◌, Bool, true, false, ◌||◌, ◌==◌, if◌then◌else◌, ◌⊎◌, IsTrue, refl}
-use Rattle.std.proofs.Common.{arith, inl, inr, zero, suc}
+use Rattle.std.specs.Prelude.{◌≡◌, ◌≤◌, ℕ, ◌+◌, Bool, true, false, ◌==◌, if◌then◌else◌, ◌⊎◌, IsTrue}
+use Rattle.std.proofs.Common.{arith, inl, inr, zero}
 use Rattle.std.proofs.lemmas.Bool.Decides.{nat_tests}
 use native.Mathlib.Decide.{ℕ_discrete}
 use Rattle.trs_defs.specs.Tree.{Tree, Trees, var, app, nil, cons}

@@ -1,7 +1,7 @@
 -- Two different normal forms are not joinable.
-use Rattle.std.specs.Prelude.{◌≡◌, ◌≢◌, ℕ, List}
+use Rattle.std.specs.Prelude.{◌≡◌, ℕ}
 use Rattle.std.proofs.Common.{zero, suc, sym, ◌∙◌}
-use Rattle.trs_defs.specs.Derivation.{Derivation, Reaches}
+use Rattle.trs_defs.specs.Derivation.{Derivation}
 use Rattle.trs_defs.specs.Joinable.{IsJoinable}
 use Rattle.trs_defs.specs.NormalForm.{IsNormalForm}
 use Rattle.trs_defs.specs.Claims.{IsConfluent, IsForked}

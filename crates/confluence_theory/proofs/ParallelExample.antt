@@ -7,7 +7,7 @@ use Rattle.trs_defs.specs.Variable.{has_var, IsLinear}
 use Rattle.trs_defs.specs.Substitution.{apply}
 use Rattle.trs_defs.specs.System.{RewriteRule, System, IsRule, IsSystem, Numbered}
 use Rattle.trs_defs.specs.Linear.{AreLeftLinear}
-use Rattle.trs_defs.specs.Overlap.{Overlap, OverlapOne, overlap_first, overlap_later}
+use Rattle.trs_defs.specs.Overlap.{OverlapOne, overlap_first, overlap_later}
 use Rattle.trs_defs.specs.ParallelStep.{ParallelStepBy, below_root, no_more}
 use Rattle.trs_defs.specs.Peak.{Peak, HasPeak, Covers}
 use Rattle.trs_defs.specs.Step.{RootStep}

@@ -1,14 +1,13 @@
 -- The rules of a system by their numbers, and what is proved of them as a claim on the system.
-use Rattle.std.specs.Prelude.{◌≡◌, ℕ, List, Some, slice_get}
-use Rattle.std.proofs.Common.{refl, sym, ◌∙◌, ap}
+use Rattle.std.specs.Prelude.{◌≡◌, ℕ, List}
+use Rattle.std.proofs.Common.{refl, ap}
 use Rattle.trs_defs.specs.Member.{In}
 use Rattle.trs_defs.specs.Tree.{Tree, Trees, var, app}
 use Rattle.trs_defs.specs.Variable.{IsVariable}
 use Rattle.trs_defs.specs.Substitution.{apply}
 use Rattle.trs_defs.specs.System.{RewriteRule, System, IsSystem, Numbered, Among}
-use Rattle.trs_defs.specs.Run.{Run}
 use Rattle.trs_defs.specs.Joinable.{IsJoinable}
-use Rattle.trs_defs.specs.Step.{Inside, InsideOne, here, deep, first, later, RootStep, StepBy, Step}
+use Rattle.trs_defs.specs.Step.{Inside, InsideOne, here, deep, first, later, RootStep, Step}
 use Rattle.trs_defs.specs.Claims.{IsConfluent}
 use Rattle.trs_defs.specs.Peak.{Peak, HasPeak, Covers}
 use Rattle.trs_defs.proofs.Members.{in_of_get, get_of_in}
