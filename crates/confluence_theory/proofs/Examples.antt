@@ -14,7 +14,7 @@ use Rattle.trs_defs.specs.NormalForm.{IsNormalForm}
 use Rattle.trs_defs.specs.Confluence.{JoinsStrongly}
 use Rattle.trs_defs.specs.Claims.{IsConfluent, IsForked, IsTerminating}
 use Rattle.confluence_theory.proofs.NormalForms.{split_forked}
-use Rattle.confluence_theory.proofs.Claims.{joined, strongly_closed, decreasing}
+use Rattle.peak_theory.proofs.Claims.{joined, strongly_closed, decreasing}
 use Rattle.confluence_theory.proofs.Constants.{constant, rewrites, peak_of, nullary, AreConstant, constant_system, constant_left, constant_right, symbols_of, HasConstantPeaks, listed_at, constant_covers, each_of_two, constant_step, constant_reaches, constant_next, nullary_arity, variable_normal}
 
 -- Decreasing ranks: a -> b, a -> c, b -> d, c -> d with the ranks 1, 1, 0, 0.

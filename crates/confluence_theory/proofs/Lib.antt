@@ -1,21 +1,8 @@
-pub mod Free
-pub mod Families
-pub mod Systems
-pub mod Substitutions
-pub mod LinearInstances
-pub mod AnyInstances
-pub mod RulePeaks
-pub mod NestedSteps
-pub mod RankedPeaks
-pub mod StrongPeaks
-pub mod JoinedPeaks
-pub mod ParallelPeaks
-pub mod Claims
 pub mod CriticalCover
 pub mod CapFits
 pub mod NormalForms
+pub mod FollowedPaths
 mod Constants
 mod Examples
 mod ParallelExample
 mod CapExample
-pub mod FollowedPaths

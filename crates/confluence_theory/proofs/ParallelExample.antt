@@ -12,7 +12,7 @@ use Rattle.trs_defs.specs.ParallelStep.{ParallelStepBy, below_root, no_more}
 use Rattle.trs_defs.specs.Peak.{Peak, HasPeak, Covers}
 use Rattle.trs_defs.specs.Step.{RootStep}
 use Rattle.trs_defs.specs.Claims.{IsConfluent}
-use Rattle.confluence_theory.proofs.Claims.{parallel_closed}
+use Rattle.peak_theory.proofs.Claims.{parallel_closed}
 use Rattle.confluence_theory.proofs.Constants.{constant, rewrites, peak_of, each_of_two}
 
 abbrev copying : RewriteRule

@@ -1,8 +1,8 @@
 -- A linear system whose critical peaks join strongly is confluent.
 use Rattle.std.proofs.Common.{ℕ, sym, subst}
 use Rattle.abstract_confluence.proofs.Joins.{RunsJoin}
-use Rattle.confluence_theory.proofs.Families.{AnyRule, HasInstance, CoversBy, IsFamily}
-use Rattle.confluence_theory.proofs.Free.{IsSeparate}
+use Rattle.peak_theory.proofs.Families.{AnyRule, HasInstance, CoversBy, IsFamily}
+use Rattle.peak_theory.proofs.Free.{IsSeparate}
 use Rattle.trs_defs.specs.Run.{Run, Stay, AtMostOne, Same, Once}
 use Rattle.trs_defs.specs.Step.{Inside, InsideOne, here, deep, first, later, RootStep}
 use Rattle.trs_defs.specs.Substitution.{apply}
@@ -11,8 +11,8 @@ use Rattle.abstract_confluence.proofs.Runs.{one}
 use Rattle.abstract_confluence.proofs.Maps.{run_along, once_along}
 use Rattle.abstract_confluence.proofs.Strong.{strong_confluent}
 use Rattle.trs_defs.proofs.Substitutions.{step_closed}
-use Rattle.confluence_theory.proofs.RulePeaks.{peak}
-use Rattle.confluence_theory.proofs.NestedSteps.{linear_nested}
+use Rattle.peak_theory.proofs.RulePeaks.{peak}
+use Rattle.peak_theory.proofs.NestedSteps.{linear_nested}
 
 -- joined by a run on one side and at most one step on the other
 abbrev pub Half : {T : Type 0} → (T → T → Type 0) → T → T → Type 0

@@ -18,13 +18,13 @@ use Rattle.trs_defs.proofs.Derivations.{run_of_reaches}
 use Rattle.abstract_confluence.proofs.Maps.{once_along}
 use Rattle.abstract_confluence.proofs.Paths.{side_of_path}
 use Rattle.abstract_confluence.proofs.Runs.{each}
-use Rattle.confluence_theory.proofs.Free.{IsSeparate, separate_linear}
-use Rattle.confluence_theory.proofs.Families.{AnyRule, AnyRoot}
-use Rattle.confluence_theory.proofs.Systems.{step_of_any, Listed, family_of, covers_by, numbered_root, any_of_step, joins_any, joinable_any, confluent_system}
-use Rattle.confluence_theory.proofs.JoinedPeaks.{newman_system}
-use Rattle.confluence_theory.proofs.StrongPeaks.{Half, strong_system}
-use Rattle.confluence_theory.proofs.RankedPeaks.{Ranked, Sides, ranks_confluent}
-use Rattle.confluence_theory.proofs.ParallelPeaks.{parallel_system}
+use Rattle.peak_theory.proofs.Free.{IsSeparate, separate_linear}
+use Rattle.peak_theory.proofs.Families.{AnyRule, AnyRoot}
+use Rattle.peak_theory.proofs.Systems.{step_of_any, Listed, family_of, covers_by, numbered_root, any_of_step, joins_any, joinable_any, confluent_system}
+use Rattle.peak_theory.proofs.JoinedPeaks.{newman_system}
+use Rattle.peak_theory.proofs.StrongPeaks.{Half, strong_system}
+use Rattle.peak_theory.proofs.RankedPeaks.{Ranked, Sides, ranks_confluent}
+use Rattle.peak_theory.proofs.ParallelPeaks.{parallel_system}
 
 bounded_any : (rules : List RewriteRule) (n : ℕ) (s : Tree) → IsBoundedBy (Step rules) n s → IsBoundedBy (AnyRule (Numbered rules)) n s
 bounded_any rules zero s b = λ t r. b t (step_of_any rules s t r)

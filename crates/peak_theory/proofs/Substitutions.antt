@@ -1,7 +1,7 @@
 -- Substitutions, and the equations of terms.
 use Rattle.std.proofs.Common.{ℕ, ◌≡◌, ◌⊎◌, inl, inr, refl, ◌∙◌, ap}
 use native.Mathlib.Decide.{ℕ_discrete}
-use Rattle.confluence_theory.proofs.Free.{IsFree, AreFree}
+use Rattle.peak_theory.proofs.Free.{IsFree, AreFree}
 use Rattle.trs_defs.specs.Substitution.{apply, apply_all}
 use Rattle.trs_defs.specs.Tree.{Tree, Trees, var, app, nil, cons}
 

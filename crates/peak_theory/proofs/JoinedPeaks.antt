@@ -1,7 +1,7 @@
 -- A system whose critical peaks join is locally confluent, linear or not.
 use Rattle.std.proofs.Common.{ℕ, inl, inr, refl, sym, subst}
 use Rattle.abstract_confluence.proofs.Joins.{Joins, StepsJoin}
-use Rattle.confluence_theory.proofs.Families.{AnyRule, HasInstance, CoversBy, IsFamily}
+use Rattle.peak_theory.proofs.Families.{AnyRule, HasInstance, CoversBy, IsFamily}
 use Rattle.trs_defs.specs.Bounded.{IsBoundedBy}
 use Rattle.trs_defs.specs.Run.{Run, Stay}
 use Rattle.trs_defs.specs.Step.{Inside, InsideOne, here, deep, first, later, RootStep}
@@ -11,9 +11,9 @@ use Rattle.abstract_confluence.proofs.Runs.{one, then, each}
 use Rattle.abstract_confluence.proofs.Maps.{run_along}
 use Rattle.abstract_confluence.proofs.BoundedRuns.{joins_within}
 use Rattle.trs_defs.proofs.Substitutions.{step_closed}
-use Rattle.confluence_theory.proofs.Substitutions.{but}
-use Rattle.confluence_theory.proofs.AnyInstances.{split_any_all, copies_any}
-use Rattle.confluence_theory.proofs.RulePeaks.{peak}
+use Rattle.peak_theory.proofs.Substitutions.{but}
+use Rattle.peak_theory.proofs.AnyInstances.{split_any_all, copies_any}
+use Rattle.peak_theory.proofs.RulePeaks.{peak}
 
 joins_along : {T U : Type 0} (R : T → T → Type 0) (Q : U → U → Type 0) (F : T → U) → ((s t : T) → R s t → Q (F s) (F t)) → {t u : T} → Joins R t u → Joins Q (F t) (F u)
 joins_along R Q F f (v, tv, uv) = (F v, run_along F f tv, run_along F f uv)

@@ -1,8 +1,8 @@
 -- A linear system whose critical peaks have decreasing sides is confluent.
 use Rattle.std.proofs.Common.{ℕ, ◌≡◌, refl, sym, subst}
 use Rattle.abstract_confluence.proofs.Joins.{RunsJoin}
-use Rattle.confluence_theory.proofs.Families.{AnyRule, HasInstance, CoversBy, IsFamily}
-use Rattle.confluence_theory.proofs.Free.{IsSeparate}
+use Rattle.peak_theory.proofs.Families.{AnyRule, HasInstance, CoversBy, IsFamily}
+use Rattle.peak_theory.proofs.Free.{IsSeparate}
 use Rattle.trs_defs.specs.Ranks.{Side, IsLocallyDecreasing}
 use Rattle.trs_defs.specs.Run.{Stay, AtMostOne, Same, Once}
 use Rattle.trs_defs.specs.Step.{Inside, InsideOne, here, deep, first, later, RootStep, StepBy}
@@ -12,8 +12,8 @@ use Rattle.abstract_confluence.proofs.Runs.{each}
 use Rattle.abstract_confluence.proofs.Maps.{once_along, side_along}
 use Rattle.abstract_confluence.proofs.Decreasing.{decreasing_confluent}
 use Rattle.trs_defs.proofs.Substitutions.{step_closed}
-use Rattle.confluence_theory.proofs.RulePeaks.{peak}
-use Rattle.confluence_theory.proofs.NestedSteps.{linear_nested}
+use Rattle.peak_theory.proofs.RulePeaks.{peak}
+use Rattle.peak_theory.proofs.NestedSteps.{linear_nested}
 
 -- a step whose rule has the rank
 abbrev pub Ranked : (ℕ → Tree → Tree → Type 0) → (ℕ → ℕ) → ℕ → Tree → Tree → Type 0

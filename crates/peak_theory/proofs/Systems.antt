@@ -15,7 +15,7 @@ use Rattle.trs_defs.proofs.Substitutions.{same_values, same_instance}
 use Rattle.trs_defs.proofs.Derivations.{run_of_reaches}
 use Rattle.abstract_confluence.proofs.Joins.{Joins, RunsJoin, joinable_of}
 use Rattle.abstract_confluence.proofs.Runs.{each}
-use Rattle.confluence_theory.proofs.Families.{AnyRule, AnyRoot, IsFamily, HasInstance, CoversBy}
+use Rattle.peak_theory.proofs.Families.{AnyRule, AnyRoot, IsFamily, HasInstance, CoversBy}
 
 rooted : (t : Tree) → (IsVariable t → ⊥) → (f : ℕ) × (ts : Trees) × (t ≡ app f ts)
 rooted (var n) h = absurd (h (n, refl))

@@ -4,8 +4,8 @@ use native.Mathlib.Decide.{ℕ_discrete}
 use Rattle.trs_defs.specs.Step.{Inside, InsideOne, here, deep, first, later, RootStep}
 use Rattle.trs_defs.specs.Substitution.{apply, apply_all}
 use Rattle.trs_defs.specs.Tree.{Tree, Trees, app, cons}
-use Rattle.confluence_theory.proofs.Families.{IsFamily}
-use Rattle.confluence_theory.proofs.Substitutions.{fun_head_eq, fun_args_eq}
+use Rattle.peak_theory.proofs.Families.{IsFamily}
+use Rattle.peak_theory.proofs.Substitutions.{fun_head_eq, fun_args_eq}
 
 module _ (rule : ℕ → Tree → Tree → Type 0) (sys : IsFamily rule) (closed : ℕ → ℕ → Tree → Tree → Type 0)
     (mirror : (i j : ℕ) (t u : Tree) → closed i j t u → closed j i u t)

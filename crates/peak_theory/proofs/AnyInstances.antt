@@ -8,7 +8,7 @@ use Rattle.trs_defs.specs.Substitution.{apply, apply_all}
 use Rattle.trs_defs.specs.Tree.{Tree, Trees, var, app, nil, cons}
 use Rattle.abstract_confluence.proofs.Runs.{then}
 use Rattle.abstract_confluence.proofs.Maps.{run_along}
-use Rattle.confluence_theory.proofs.Substitutions.{but, but_at}
+use Rattle.peak_theory.proofs.Substitutions.{but, but_at}
 
 -- a step below a variable leads to a run in any instance
 mutual

@@ -1,13 +1,13 @@
 -- A step inside a redex of a linear rule.
 use Rattle.std.proofs.Common.{ℕ, inl, inr, refl, ap}
-use Rattle.confluence_theory.proofs.Free.{IsSeparate}
+use Rattle.peak_theory.proofs.Free.{IsSeparate}
 use Rattle.trs_defs.specs.Overlap.{OverlapOne}
 use Rattle.trs_defs.specs.Run.{AtMostOne}
 use Rattle.trs_defs.specs.Step.{Inside, InsideOne, here, RootStep}
 use Rattle.trs_defs.specs.Substitution.{apply, apply_all}
 use Rattle.trs_defs.specs.Tree.{Tree, Trees, app}
-use Rattle.confluence_theory.proofs.Substitutions.{but}
-use Rattle.confluence_theory.proofs.LinearInstances.{split_all, copies}
+use Rattle.peak_theory.proofs.Substitutions.{but}
+use Rattle.peak_theory.proofs.LinearInstances.{split_all, copies}
 
 module _ (rule : ℕ → Tree → Tree → Type 0) (closed : ℕ → ℕ → Tree → Tree → Type 0)
     (linear : (i : ℕ) (l r : Tree) → rule i l r → IsSeparate l × IsSeparate r)

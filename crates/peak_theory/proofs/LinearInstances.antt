@@ -1,13 +1,13 @@
 -- A step in an instance of a linear pattern, and its copies in an instance of a linear term.
 use Rattle.std.proofs.Common.{ℕ, ◌≡◌, ◌⊎◌, inl, inr, refl, sym, ◌∙◌, ap, subst}
 use native.Mathlib.Decide.{ℕ_discrete}
-use Rattle.confluence_theory.proofs.Free.{IsFree, AreFree, IsSeparate, AreSeparate}
+use Rattle.peak_theory.proofs.Free.{IsFree, AreFree, IsSeparate, AreSeparate}
 use Rattle.trs_defs.specs.Overlap.{Overlap, OverlapOne, overlap_here, overlap_deep, overlap_first, overlap_later}
 use Rattle.trs_defs.specs.Run.{AtMostOne, Same, Once}
 use Rattle.trs_defs.specs.Step.{Inside, InsideOne, here, deep, first, later}
 use Rattle.trs_defs.specs.Substitution.{apply, apply_all}
 use Rattle.trs_defs.specs.Tree.{Tree, Trees, var, app, nil, cons}
-use Rattle.confluence_theory.proofs.Substitutions.{but, but_at, apply_free, apply_all_free}
+use Rattle.peak_theory.proofs.Substitutions.{but, but_at, apply_free, apply_all_free}
 
 -- a step below a variable of the pattern
 pub record Moved (R : Tree → Tree → Type 0) (σ : ℕ → Tree) (l u : Tree) : Type 0 where

@@ -2,8 +2,8 @@
 use Rattle.std.proofs.Common.{ℕ, zero, suc, ◌+◌, ◌<◌, ◌≤◌, ◌≡◌, ◌⊎◌, inl, inr, refl, sym, ◌∙◌, ap, subst, arith}
 use native.Mathlib.Decide.{ℕ_discrete}
 use Rattle.abstract_confluence.proofs.Joins.{RunsJoin}
-use Rattle.confluence_theory.proofs.Families.{AnyRule, HasInstance, CoversBy, AnyRoot, IsFamily}
-use Rattle.confluence_theory.proofs.Free.{IsFree, AreFree, IsSeparate, AreSeparate}
+use Rattle.peak_theory.proofs.Families.{AnyRule, HasInstance, CoversBy, AnyRoot, IsFamily}
+use Rattle.peak_theory.proofs.Free.{IsFree, AreFree, IsSeparate, AreSeparate}
 use Rattle.trs_defs.specs.Confluence.{HasDiamond}
 use Rattle.trs_defs.specs.Overlap.{Overlap, OverlapOne, overlap_here, overlap_deep, overlap_first, overlap_later}
 use Rattle.trs_defs.specs.ParallelStep.{ParallelStep, ParallelSteps, at_variable, at_root, below_root, no_more, one_more}
@@ -16,7 +16,7 @@ use Rattle.trs_defs.proofs.Substitutions.{root_step_closed}
 use Rattle.abstract_confluence.proofs.Runs.{one, then}
 use Rattle.abstract_confluence.proofs.Maps.{run_along}
 use Rattle.abstract_confluence.proofs.BetweenRuns.{between_confluent}
-use Rattle.confluence_theory.proofs.Substitutions.{but, but_at, fun_head_eq, fun_args_eq, instance_eq, instances_eq}
+use Rattle.peak_theory.proofs.Substitutions.{but, but_at, fun_head_eq, fun_args_eq, instance_eq, instances_eq}
 
 -- a parallel step with the sizes of its redexes added up
 mutual
