@@ -9,6 +9,8 @@ use Rattle.rewrite_core.specs.declared.steps.StepFault.{StepFault}
 use Rattle.rewrite_core.specs.declared.steps.StepFault.TheVariants as step
 use Rattle.rewrite_core.specs.declared.refusals.StepRefused.{StepRefused}
 use Rattle.rewrite_core.specs.declared.refusals.StepRefused.TheVariants.{Path, NoSteps, NoPlace, NotInstance}
+use Rattle.rewrite_core.specs.declared.refusals.CheckFault.{CheckFault}
+use Rattle.rewrite_core.specs.declared.refusals.CheckFault.TheVariants.{Refused, OutOfMemory}
 use Rattle.rewrite_core.specs.Paths.{StopsAt}
 
 abbrev pub number_of_fault : StepFault → ℕ
@@ -48,3 +50,8 @@ IsLoopRefusal rules start path place (Path item number k fault) =
 IsLoopRefusal rules start path place NoPlace = HasNoPlace rules start path place
 IsLoopRefusal rules start path place NotInstance = HasNoInstance rules start path place
 IsLoopRefusal rules start path place _ = ⊥
+
+-- what is said of the reason, where a check refuses; want of memory needs none
+abbrev pub RefusedFor : (StepRefused → Type 0) → CheckFault → Type 0
+RefusedFor reason (Refused refused) = reason refused
+RefusedFor reason OutOfMemory = Unit {0}
