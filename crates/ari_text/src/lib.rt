@@ -1,0 +1,6 @@
+//! Problem texts: the ARI format of the termination and confluence competitions, format TRS, read and printed.
+#![tactic(auto)]
+
+mod fault;
+
+pub use fault::AriFault;

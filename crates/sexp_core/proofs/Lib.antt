@@ -1,0 +1,5 @@
+pub mod Viewing
+pub mod Bytes
+pub mod Stack
+pub mod Once
+pub mod Again
