@@ -1,1 +1,2 @@
 pub mod VariableNames
+pub mod Leasts
