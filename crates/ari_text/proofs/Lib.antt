@@ -1,2 +1,3 @@
 pub mod VariableNames
 pub mod Leasts
+pub mod OneSystem
