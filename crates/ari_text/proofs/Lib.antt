@@ -1,3 +1,4 @@
 pub mod VariableNames
 pub mod Leasts
 pub mod OneSystem
+pub mod SymbolTables
