@@ -2,3 +2,4 @@ pub mod VariableNames
 pub mod Leasts
 pub mod OneSystem
 pub mod SymbolTables
+pub mod NoFaults
