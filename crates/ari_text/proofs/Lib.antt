@@ -3,3 +3,4 @@ pub mod Leasts
 pub mod OneSystem
 pub mod SymbolTables
 pub mod NoFaults
+pub mod NumberedTerms
