@@ -4,3 +4,4 @@ pub mod OneSystem
 pub mod SymbolTables
 pub mod NoFaults
 pub mod NumberedTerms
+pub mod TermReadings
