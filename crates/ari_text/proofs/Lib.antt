@@ -5,3 +5,5 @@ pub mod SymbolTables
 pub mod NoFaults
 pub mod NumberedTerms
 pub mod TermReadings
+pub mod SideReadings
+pub mod RuleCounts

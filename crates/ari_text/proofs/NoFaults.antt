@@ -22,7 +22,7 @@ pub none_of : (xs ys : List AriFault) → xs ++ ys ≡ [] → (xs ≡ []) × (ys
 none_of [] ys e = (refl, e)
 none_of (x ∷ xs) ys e = absurd cc
 
-none_last : (xs : List AriFault) (x : AriFault) → xs ++ x ∷ [] ≡ [] → ⊥
+pub none_last : (xs : List AriFault) (x : AriFault) → xs ++ x ∷ [] ≡ [] → ⊥
 none_last [] x e = cc
 none_last (y ∷ xs) x e = cc
 

@@ -23,11 +23,11 @@ use Rattle.ari_text.proofs.NoFaults.{none_of}
 -- ---- words and heads
 
 -- a lone word that is a constant, or a variable that may occur there
-abbrev IsWordOf : List Declared → Scope → List ℕ → ℕ → Type 0
+abbrev pub IsWordOf : List Declared → Scope → List ℕ → ℕ → Type 0
 IsWordOf symbols scope name at =
     IsSymbol symbols name 0 ⊎ ((number_among (names_of symbols) name ≡ None) × (variable_faults scope name at ≡ []))
 
-word_known : (symbols : List Declared) (scope : Scope) (name : List ℕ) (at : ℕ) → word_faults scope name at (arity_of symbols name) ≡ [] → IsWordOf symbols scope name at
+pub word_known : (symbols : List Declared) (scope : Scope) (name : List ℕ) (at : ℕ) → word_faults scope name at (arity_of symbols name) ≡ [] → IsWordOf symbols scope name at
 word_known symbols scope name at e = go (arity_of symbols name) refl e
   where
     go : (o : Option ℕ) → arity_of symbols name ≡ o → word_faults scope name at o ≡ [] → IsWordOf symbols scope name at
@@ -39,7 +39,7 @@ same_number : (b : Bool) (m n at : ℕ) → (m == n) ≡ b → cond b [] (WrongA
 same_number true m n at is e = eqb-true m n is
 same_number false m n at is e = absurd cc
 
-head_known : (symbols : List Declared) (name : List ℕ) (at head_at args : ℕ) → head_faults at head_at args (arity_of symbols name) ≡ [] → IsSymbol symbols name args
+pub head_known : (symbols : List Declared) (name : List ℕ) (at head_at args : ℕ) → head_faults at head_at args (arity_of symbols name) ≡ [] → IsSymbol symbols name args
 head_known symbols name at head_at args e = go (arity_of symbols name) refl e
   where
     go : (o : Option ℕ) → arity_of symbols name ≡ o → head_faults at head_at args o ≡ [] → IsSymbol symbols name args
