@@ -7,3 +7,4 @@ pub mod NumberedTerms
 pub mod TermReadings
 pub mod SideReadings
 pub mod RuleCounts
+pub mod Faultless
