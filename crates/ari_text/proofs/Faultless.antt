@@ -1,23 +1,20 @@
 -- A text with no faults says a system whose symbols have names.
-use Rattle.std.proofs.Common.{◌≡◌, ℕ, zero, suc, ◌+◌, ◌<◌, ◌≤◌, ◌&&◌, Bool, true, false, nat_le, List, [], ◌∷◌, ◌++◌, length, Option, Some, None, IsTrue, slice_get, refl, sym, ap, arith, inl, inr}
+use Rattle.std.proofs.Common.{◌≡◌, ℕ, zero, suc, ◌≤◌, true, nat_le, List, [], ◌∷◌, length, Option, Some, None, slice_get, refl, arith}
 use Rattle.std.specs.List.{list_all, All, AllByRecursion}
 use Rattle.std.specs.Option.{is_some, option_or}
 use Rattle.std.proofs.lemmas.Bool.{and_from, and_parts, le-leb, leb-true}
 use Rattle.std.proofs.lemmas.List.{length-map}
 use Rattle.std.proofs.lemmas.List.Elements.{All-from_recursion}
-use Rattle.sexp_core.specs.Items.{Item, a_word, a_list, Items, no_items, item}
+use Rattle.sexp_core.specs.Items.{Item, Items, no_items, item}
 use Rattle.sexp_core.specs.Reads.{Reads}
 use Rattle.sexp_core.specs.Printed.{AreWords}
 use Rattle.sexp_core.proofs.Words.{words_of_reading}
-use Rattle.trs_defs.specs.Tree.{Tree}
 use Rattle.trs_defs.specs.Size.{size_of, depth_of}
-use Rattle.trs_defs.specs.Variable.{has_var}
-use Rattle.trs_defs.specs.System.{RewriteRule, IsRule, IsSystem}
-use Rattle.trs_core.specs.SystemLimits.{IsShallow, IsWithinLimits, HasSmallVariables, HaveSmallVariables, nodes_of as nodes_of_rules}
-use Rattle.trs_core.specs.Valid.{IsValid}
+use Rattle.trs_defs.specs.System.{RewriteRule, IsRule}
+use Rattle.trs_core.specs.SystemLimits.{IsShallow, HasSmallVariables, nodes_of as nodes_of_rules}
 use Rattle.ari_text.specs.declared.fault.AriFault.{AriFault}
 use Rattle.ari_text.specs.Symbols.{Declared, names_of, arities_of}
-use Rattle.ari_text.specs.Named.{NamedSystem, IsNamed, is_word, is_shallow, is_numbered, next_number}
+use Rattle.ari_text.specs.Named.{IsNamed, is_shallow, is_numbered, next_number}
 use Rattle.ari_text.specs.Entries.{Saying, declares, rewrites, attributed, says_nothing, entry_of}
 use Rattle.ari_text.specs.Terms.{variables_after, term_of, rule_of, with_rule, rules_of}
 use Rattle.ari_text.specs.Least.{noted}
@@ -27,8 +24,8 @@ use Rattle.ari_text.proofs.Leasts.{is_none}
 use Rattle.ari_text.proofs.NoFaults.{none_of, no_symbols, are_symbols, symbols_length}
 use Rattle.ari_text.proofs.SymbolTables.{same_count}
 use Rattle.ari_text.proofs.TermReadings.{is_term}
-use Rattle.ari_text.proofs.SideReadings.{right_below, left_next_number, left_symbol}
-use Rattle.ari_text.proofs.NumberedTerms.{numbers_grow, has_below, below_has}
+use Rattle.ari_text.proofs.SideReadings.{right_below, left_next_number, left_has, left_symbol}
+use Rattle.ari_text.proofs.NumberedTerms.{numbers_grow, has_below}
 use Rattle.ari_text.proofs.RuleCounts.{rules_fit}
 
 -- ---- rules
@@ -54,10 +51,7 @@ good_rule symbols left right e =
         left_well_formed = on_left.well_formed;
         right_well_formed = on_right.well_formed;
         left_no_variable = left_symbol symbols variables 1 left parts.0 sides.0;
-        variables = λ v h. elim (below_has 0 l (length variables) next v (right_below symbols variables 1 right sides.1 v h)) as (λ _. IsTrue (has_var v l)) [
-          | inl none ↦ absurd (omega arith)
-          | inr there ↦ there
-        ];
+        variables = λ v h. left_has symbols left sides.0 v (right_below symbols variables 1 right sides.1 v h);
       };
       shallow = and_from (nat_le (depth_of l) 256) (nat_le (depth_of r) 256) (le-leb (depth_of l) 256 (omega (arith, on_left.shallow))) (le-leb (depth_of r) 256 (omega (arith, on_right.shallow)));
       numbered = rw next refl;
@@ -125,6 +119,12 @@ pub record IsFaultless (items : Items) : Type 0 where
   pub declarations : all_declaration_faults [] whole_room items ≡ []
   pub rules : all_rule_faults (symbols_of [] items) items ≡ []
 
+pub few_symbols : (items : Items) → IsFaultless items → length (symbols_of [] items) ≤ 4095
+few_symbols items h = omega (arith, symbols_length [] whole_room items h.declarations (omega arith))
+
+pub small_arities : (items : Items) → IsFaultless items → All (λ a. a ≤ 255) (arities_of (symbols_of [] items))
+small_arities items h = All-from_recursion (λ a. a ≤ 255) (arities_of (symbols_of [] items)) (are_symbols [] items h.words no_symbols).small
+
 pub is_named : (items : Items) → IsFaultless items → IsNamed (system_of items)
 is_named items h =
     let symbols = symbols_of [] items in
@@ -134,7 +134,6 @@ is_named items h =
     let good = good_rules symbols items h.rules in
     let fit = rules_fit [] (names_of symbols) whole_room items h.declarations (omega arith) in
     let nodes : nodes_of_rules rules ≤ 65536 = fit.nodes 65536 refl in
-    let few : length symbols + 1 ≤ 4096 = symbols_length [] whole_room items h.declarations (omega arith) in
     record {
       counts = same_count symbols;
       words = tables.words;
@@ -142,7 +141,7 @@ is_named items h =
       valid = record {
         is_system = record { each = λ k r e. (good_at arities rules k r good e).is_rule };
         within_limits = record {
-          symbols = omega (arith, length-map symbols (λ (s : Declared). s.1));
+          symbols = omega (arith, few_symbols items h, length-map symbols (λ (s : Declared). s.1));
           rules = omega (arith, fit.count);
           nodes = nodes;
           shallow = All-from_recursion IsShallow rules (shallow_rules arities rules good);

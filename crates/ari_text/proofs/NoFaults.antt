@@ -1,21 +1,19 @@
 -- What no faults say of the declarations of items.
-use Rattle.std.proofs.Common.{◌≡◌, ◌≢◌, ℕ, zero, suc, ◌+◌, ◌-◌, ◌≤◌, ◌==◌, ◌&&◌, ◌||◌, Bool, true, false, not, cond, nat_le, codes, List, [], ◌∷◌, ◌++◌, length, map, Option, Some, None, refl, arith}
+use Rattle.std.proofs.Common.{◌≡◌, ◌≢◌, ℕ, ◌+◌, ◌≤◌, ◌==◌, Bool, true, false, cond, codes, List, [], ◌∷◌, ◌++◌, length, Option, Some, None, refl, arith}
 use Rattle.std.specs.List.{list_all, AllByRecursion}
 use Rattle.std.specs.Str.{bytes_eq}
-use Rattle.std.proofs.lemmas.Bool.{eqb-false, leb-true, and_parts, and_from, or_parts}
+use Rattle.std.proofs.lemmas.Bool.{and_parts, and_from}
 use Rattle.std.proofs.lemmas.List.{length-append, map-append}
 use Rattle.sexp_core.specs.Tokens.{class_of, is_letter}
 use Rattle.sexp_core.specs.Items.{Item, a_word, a_list, Items, no_items, item}
 use Rattle.sexp_core.specs.Printed.{IsWord, HasWords, AreWords}
-use Rattle.trs_defs.specs.System.{RewriteRule}
 use Rattle.ari_text.specs.declared.fault.AriFault.{AriFault}
 use Rattle.ari_text.specs.declared.fault.AriFault.TheVariants.{TooMany, Attribute}
 use Rattle.ari_text.specs.Names.{are_distinct, digits_value}
 use Rattle.ari_text.specs.Symbols.{Declared, names_of, arities_of, arity_of}
 use Rattle.ari_text.specs.Named.{is_word}
 use Rattle.ari_text.specs.Entries.{Saying, declares, rewrites, attributed, says_nothing, place_of, declaration, begins_with_colon, ended, three, list_entry, entry_of}
-use Rattle.ari_text.specs.Terms.{nodes_of, rules_of}
-use Rattle.ari_text.specs.Faults.{Room, declaration_faults, with_symbol, symbols_after, symbols_of, nodes_left, room_after, passes, count_faults, all_declaration_faults}
+use Rattle.ari_text.specs.Faults.{Room, declaration_faults, with_symbol, symbols_after, symbols_of, room_after, count_faults, all_declaration_faults}
 use Rattle.ari_text.proofs.SymbolTables.{distinct_symbol, digits_within}
 
 pub none_of : (xs ys : List AriFault) → xs ++ ys ≡ [] → (xs ≡ []) × (ys ≡ [])

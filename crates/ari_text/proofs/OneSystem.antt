@@ -1,5 +1,5 @@
 -- A text has one reading: at most one system or fault.
-use Rattle.std.proofs.Common.{◌≡◌, ◌≢◌, ◌⊎◌, inl, inr, ℕ, List, Some, None, refl, sym, ap, ◌∙◌}
+use Rattle.std.proofs.Common.{◌≡◌, ◌≢◌, ◌⊎◌, inl, inr, ℕ, List, Some, refl, sym, ap, ◌∙◌}
 use Rattle.sexp_core.specs.Items.{Items}
 use Rattle.sexp_core.specs.Reads.{Reads, fault_of}
 use Rattle.sexp_core.specs.declared.fault.TextFault.{TextFault}
@@ -7,7 +7,7 @@ use Rattle.sexp_core.proofs.Once.{one_reading}
 use Rattle.ari_text.specs.declared.fault.AriFault.{AriFault}
 use Rattle.ari_text.specs.declared.fault.AriFault.TheVariants as fault
 use Rattle.ari_text.specs.Named.{NamedSystem}
-use Rattle.ari_text.specs.Problem.{problem_fault, later_items, system_of, SaysSystem, HasFault, IsRefused}
+use Rattle.ari_text.specs.Problem.{later_items, system_of, SaysSystem, HasFault, IsRefused}
 
 pub same_items : (text : List ℕ) (xs ys : Items) → Reads text xs → Reads text ys → xs ≡ ys
 same_items text xs ys h k = one_reading xs ys (sym h ∙ k)

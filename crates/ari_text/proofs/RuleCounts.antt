@@ -1,19 +1,18 @@
 -- How many rules and nodes items have, where no item is too many.
 use Rattle.std.proofs.Common.{◌≡◌, ◌≢◌, ℕ, ◌+◌, ◌-◌, ◌≤◌, ◌==◌, ◌||◌, Bool, true, false, not, cond, nat_le, List, [], ◌∷◌, length, Option, Some, None, refl, arith}
-use Rattle.std.proofs.lemmas.Bool.{eqb-false, leb-true, le-leb, or_parts, not-false}
+use Rattle.std.proofs.lemmas.Bool.{eqb-false, leb-true, or_parts, not-false}
 use Rattle.sexp_core.specs.Items.{Item, a_word, a_list, Items, no_items, item}
-use Rattle.trs_defs.specs.Tree.{Tree, Trees, var, app, nil, cons}
+use Rattle.trs_defs.specs.Tree.{Trees}
 use Rattle.trs_defs.specs.Size.{size_of, size_of_all}
 use Rattle.trs_defs.specs.System.{RewriteRule}
 use Rattle.trs_core.specs.SystemLimits.{nodes_of as nodes_of_rules}
-use Rattle.ari_text.specs.declared.fault.AriFault.{AriFault}
 use Rattle.ari_text.specs.declared.fault.AriFault.TheVariants.{TooMany, Attribute}
 use Rattle.ari_text.specs.Names.{number_among}
 use Rattle.ari_text.specs.Symbols.{Declared}
 use Rattle.ari_text.specs.Entries.{Saying, declares, rewrites, attributed, says_nothing, place_of, entry_of}
-use Rattle.ari_text.specs.Terms.{variables_after, variable, word_term, applied, term_of, list_term, terms_of, rule_of, with_rule, rules_of, nodes_of, nodes_behind, nodes_of_all}
+use Rattle.ari_text.specs.Terms.{variables_after, variable, word_term, applied, term_of, terms_of, rule_of, with_rule, rules_of, nodes_of, nodes_of_all}
 use Rattle.ari_text.specs.Faults.{Room, declaration_faults, symbols_after, nodes_left, room_after, passes, count_faults, all_declaration_faults}
-use Rattle.ari_text.proofs.NoFaults.{none_last, NoneOf, none_of_items}
+use Rattle.ari_text.proofs.NoFaults.{none_last, none_of_items}
 
 -- ---- a term has at most one node for each of its item
 

@@ -1,23 +1,22 @@
 -- What no faults say of the variables of left and right sides.
-use Rattle.std.proofs.Common.{◌≡◌, ◌≢◌, ◌⊎◌, inl, inr, ℕ, zero, suc, ◌+◌, ◌<◌, ◌≤◌, ◌==◌, ◌||◌, Bool, true, false, cond, nat_lt, List, [], ◌∷◌, ◌++◌, length, Option, Some, None, IsTrue, refl, sym, ap, ◌∙◌, append_assoc, arith}
+use Rattle.std.proofs.Common.{◌≡◌, inl, inr, ℕ, suc, ◌<◌, Bool, true, false, cond, List, [], ◌∷◌, ◌++◌, length, Option, Some, None, IsTrue, refl, sym, ap, ◌∙◌, append_assoc, arith}
 use Rattle.std.specs.List.{list_any}
-use Rattle.std.specs.Option.{option_and_then}
 use Rattle.std.specs.Str.{bytes_eq}
 use Rattle.std.proofs.lemmas.Bool.{eqb-true, lt-ltb, le-ltb, eq-eqb, or_cases}
 use Rattle.std.proofs.lemmas.List.{append-nil, length_push}
 use Rattle.sexp_core.specs.Items.{Item, a_word, a_list, Items, no_items, item}
-use Rattle.trs_defs.specs.Tree.{Tree, Trees, var, app, nil, cons}
+use Rattle.trs_defs.specs.Tree.{Tree, Trees, var, app, nil}
 use Rattle.trs_defs.specs.Variable.{has_var, some_has_var, IsVariable}
-use Rattle.ari_text.specs.declared.fault.AriFault.{AriFault}
 use Rattle.ari_text.specs.declared.fault.AriFault.TheVariants.{ExtraVariable}
-use Rattle.ari_text.specs.Names.{number_among, with_name}
+use Rattle.ari_text.specs.Names.{number_among}
 use Rattle.ari_text.specs.Symbols.{Declared, names_of, arity_of}
 use Rattle.ari_text.specs.Named.{next_number, next_number_behind}
-use Rattle.ari_text.specs.Terms.{with_variable, variables_after, all_variables_after, variable, word_term, applied, term_of, terms_of}
-use Rattle.ari_text.specs.Faults.{count as count_of, Scope, left_side, right_side, variable_faults, head_faults, depth_faults, term_faults, args_faults, lone_faults, left_faults}
-use Rattle.ari_text.proofs.SymbolTables.{IsSymbol, is_symbol}
-use Rattle.ari_text.proofs.VariableNames.{listed, number_stays, new_number, variables_extend, all_variables_extend}
+use Rattle.ari_text.specs.Terms.{with_variable, variables_after, all_variables_after, variable, word_term, term_of, terms_of}
+use Rattle.ari_text.specs.Faults.{count as count_of, left_side, right_side, head_faults, depth_faults, term_faults, args_faults, lone_faults, left_faults}
+use Rattle.ari_text.proofs.SymbolTables.{is_symbol}
+use Rattle.ari_text.proofs.VariableNames.{listed, number_stays, new_number, all_variables_extend}
 use Rattle.ari_text.proofs.NoFaults.{none_of}
+use Rattle.ari_text.proofs.NumberedTerms.{below_has}
 use Rattle.ari_text.proofs.TermReadings.{IsWordOf, word_known, head_known}
 
 -- ---- right sides: each variable has a number below the count of names
@@ -120,6 +119,17 @@ pub left_next_number : (symbols : List Declared) (left : Item) → term_faults s
     → next_number 0 (term_of (names_of symbols) (variables_after (names_of symbols) [] left) left) ≡ Some (length (variables_after (names_of symbols) [] left))
 left_next_number symbols left e =
     left_numbered symbols [] [] (variables_after (names_of symbols) [] left) 1 left e (sym (append-nil (variables_after (names_of symbols) [] left)))
+
+-- each number below the count of names is a variable of the left side, and so each variable of the right side is one
+pub left_has : (symbols : List Declared) (left : Item) → term_faults symbols left_side 1 left ≡ []
+    → (v : ℕ) → v < length (variables_after (names_of symbols) [] left) → IsTrue (has_var v (term_of (names_of symbols) (variables_after (names_of symbols) [] left) left))
+left_has symbols left e v lt =
+    let variables = variables_after (names_of symbols) [] left in
+    let t = term_of (names_of symbols) variables left in
+    elim (below_has 0 t (length variables) (left_next_number symbols left e) v lt) as (λ _. IsTrue (has_var v t)) [
+      | inl none ↦ absurd (omega arith)
+      | inr there ↦ there
+    ]
 
 -- ---- a left side is no variable
 

@@ -1,23 +1,16 @@
 -- What no faults say of the terms that items write.
-use Rattle.std.proofs.Common.{◌≡◌, ◌≢◌, ◌⊎◌, inl, inr, ℕ, zero, suc, ◌+◌, ◌<◌, ◌≤◌, ◌==◌, ◌||◌, Bool, true, false, cond, nat_lt, List, [], ◌∷◌, ◌++◌, length, Option, Some, None, IsTrue, slice_get, refl, sym, ap, ◌∙◌, append_assoc, arith}
-use Rattle.std.specs.List.{list_any}
-use Rattle.std.specs.Option.{option_and_then}
-use Rattle.std.specs.Str.{bytes_eq}
-use Rattle.std.proofs.lemmas.Bool.{eqb-true, lt-ltb, le-ltb, eq-eqb, or_cases}
+use Rattle.std.proofs.Common.{◌≡◌, ◌≢◌, ◌⊎◌, inl, inr, ℕ, zero, suc, ◌+◌, ◌≤◌, ◌==◌, Bool, true, false, cond, List, [], ◌∷◌, Option, Some, None, slice_get, refl, sym, ap, ◌∙◌, arith}
+use Rattle.std.proofs.lemmas.Bool.{eqb-true, eq-eqb}
 use Rattle.sexp_core.specs.Items.{Item, a_word, a_list, Items, no_items, item}
-use Rattle.trs_defs.specs.Tree.{Tree, Trees, var, app, nil, cons, count}
+use Rattle.trs_defs.specs.Tree.{Tree, Trees, app, nil, count}
 use Rattle.trs_defs.specs.Size.{size_of, size_of_all, depth_of, depth_of_all}
-use Rattle.trs_defs.specs.Variable.{has_var, some_has_var}
 use Rattle.trs_defs.specs.WellFormed.{IsWellFormed, AreWellFormed}
-use Rattle.ari_text.specs.declared.fault.AriFault.{AriFault}
-use Rattle.ari_text.specs.declared.fault.AriFault.TheVariants.{WrongArity, ExtraVariable, TooDeep}
-use Rattle.ari_text.specs.Names.{number_among, with_name}
+use Rattle.ari_text.specs.declared.fault.AriFault.TheVariants.{WrongArity, TooDeep}
+use Rattle.ari_text.specs.Names.{number_among}
 use Rattle.ari_text.specs.Symbols.{Declared, names_of, arities_of, arity_of}
-use Rattle.ari_text.specs.Named.{next_number, next_number_behind}
-use Rattle.ari_text.specs.Terms.{with_variable, variables_after, variables_behind, all_variables_after, variable, word_term, applied, term_of, list_term, terms_of, nodes_of, nodes_of_all}
-use Rattle.ari_text.specs.Faults.{count as count_of, Scope, left_side, right_side, variable_faults, word_faults, head_faults, depth_faults, term_faults, list_faults, args_faults}
+use Rattle.ari_text.specs.Terms.{variable, word_term, applied, term_of, terms_of, nodes_of, nodes_of_all}
+use Rattle.ari_text.specs.Faults.{count as count_of, Scope, variable_faults, word_faults, head_faults, depth_faults, term_faults, args_faults}
 use Rattle.ari_text.proofs.SymbolTables.{IsSymbol, is_symbol, no_symbol}
-use Rattle.ari_text.proofs.VariableNames.{IsListed, listed, number_stays, new_number, Extends, variables_extend, all_variables_extend}
 use Rattle.ari_text.proofs.NoFaults.{none_of}
 
 -- ---- words and heads

@@ -6,7 +6,7 @@ use Rattle.std.proofs.lemmas.List.{append-nil, length-append}
 use Rattle.std.proofs.lemmas.Bool.{or_parts}
 use Rattle.std.proofs.lemmas.Slice.Eq.{bytes_eq-Decides}
 use Rattle.sexp_core.specs.Items.{Item, a_word, a_list, Items, no_items, item}
-use Rattle.ari_text.specs.Names.{number_among, with_name}
+use Rattle.ari_text.specs.Names.{number_among}
 use Rattle.ari_text.specs.Terms.{with_variable, variables_after, variables_behind, all_variables_after, nodes_of, nodes_behind, nodes_of_all}
 
 -- ---- how many they are

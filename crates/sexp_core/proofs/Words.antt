@@ -1,5 +1,5 @@
 -- Every word of the items that a text is read as is one or more letters.
-use Rattle.std.proofs.Common.{◌≡◌, ℕ, ◌+◌, Bool, true, false, List, [], ◌∷◌, ◌++◌, map, refl, subst, sym, ap, ◌∙◌}
+use Rattle.std.proofs.Common.{◌≡◌, ℕ, ◌+◌, Bool, true, false, List, [], ◌∷◌, ◌++◌, map, refl, subst, ap}
 use Rattle.sexp_core.specs.Tokens.{Token, opens, closes, word, control, tokens, with_byte, with_letter, lengthened, seen_as, comment_after, begins_word, class_of, is_letter}
 use Rattle.sexp_core.specs.Items.{Item, a_word, a_list, Items, no_items, item, spelled, spelled_all}
 use Rattle.sexp_core.specs.Reads.{Reads, shape}
