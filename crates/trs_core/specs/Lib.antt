@@ -7,3 +7,5 @@ pub mod SystemLimits
 pub mod Valid
 pub mod View
 pub mod ViewFalls
+pub mod SystemLimits
+pub mod Valid
