@@ -3,3 +3,4 @@ pub mod Once
 pub mod Viewing
 pub mod Stack
 pub mod Again
+pub mod Words
