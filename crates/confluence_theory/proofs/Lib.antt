@@ -2,6 +2,7 @@ pub mod CriticalCover
 pub mod CapFits
 pub mod NormalForms
 pub mod FollowedPaths
+pub mod ParallelPaths
 mod Constants
 mod Examples
 mod ParallelExample

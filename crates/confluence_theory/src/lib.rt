@@ -20,6 +20,8 @@ ghost use Rattle.trs_defs.specs.CriticalPeak.{shifted, Overlaps, HasCriticalPeak
 ghost use Rattle.trs_defs.specs.RuleRanks.{NumberedStep};
 ghost use Rattle.trs_defs.specs.LabelledPath.{LabelledPath};
 ghost use Rattle.trs_defs.specs.Path.{PlacedRule, Follows};
+ghost use Rattle.trs_defs.specs.ParallelPositions.{ArePairwiseParallel};
+ghost use Rattle.trs_defs.specs.ParallelStep.{ParallelStepBy};
 ghost use Rattle.trs_defs.specs.Cap.{Cap, Fits};
 ghost use Rattle.trs_defs.specs.UniqueNormalForms.{HasUniqueNormalForms, IsSplit};
 
@@ -43,6 +45,13 @@ pub fn overlaps_unify()
 pub fn followed_paths()
     ensures labelled { (rules : List RewriteRule) (path : List PlacedRule) (t u : Tree) → Follows rules path t u →
         LabelledPath (NumberedStep rules) (map (λ s. s.rule) path) t u }
+{}
+
+/// A path whose positions are pairwise parallel is one parallel step, as a parallel closed peak
+/// wants it.
+pub fn parallel_paths()
+    ensures parallel { (rules : List RewriteRule) (path : List PlacedRule) (t u : Tree) →
+        ArePairwiseParallel path → Follows rules path t u → ParallelStepBy rules t u }
 {}
 
 /// Two different normal forms are not joinable, so a system is forked where a term reaches both.

@@ -31,3 +31,4 @@ pub mod CriticalPeak
 pub mod RuleRanks
 pub mod Cap
 pub mod UniqueNormalForms
+pub mod ParallelPositions
