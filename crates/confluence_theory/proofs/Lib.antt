@@ -7,3 +7,4 @@ mod Constants
 mod Examples
 mod ParallelExample
 mod CapExample
+mod Counterexamples
