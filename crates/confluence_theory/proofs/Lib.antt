@@ -8,3 +8,4 @@ mod Examples
 mod ParallelExample
 mod CapExample
 mod Counterexamples
+mod LeftLinearNeeded
