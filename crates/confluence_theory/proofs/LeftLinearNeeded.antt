@@ -15,7 +15,7 @@ use Rattle.trs_defs.specs.Peak.{HasPeak, Covers}
 use Rattle.trs_defs.specs.Step.{here, deep, first, later, RootStep, Step}
 use Rattle.trs_defs.specs.Claims.{IsForked}
 use Rattle.confluence_theory.proofs.NormalForms.{split_forked}
-use Rattle.confluence_theory.proofs.Constants.{constant}
+use Rattle.confluence_theory.proofs.Constants.{sides, constant}
 
 abbrev g : Tree → Tree
 g t = app 3 (cons t nil)
@@ -74,13 +74,6 @@ growing_right = each_rule (λ r. (v : ℕ) → occurrences v r.right ≤ 1) (λ 
 no_own_argument : (t : Tree) → t ≡ g t → ⊥
 no_own_argument t e = let k : size_of t ≡ size_of (g t) = ap size_of e in absurd (omega arith)
 
--- a left side's root, and what its instances are
-sides : (rule : RewriteRule) (l r : Tree) → Some rule ≡ Some (record { left = l; right = r }) → l ≡ rule.left
-sides rule l r e =
-    let other : RewriteRule = record { left = l; right = r } in
-    let k : other ≡ rule = cc e in
-    ap (λ z. z.left) k
-
 same_is_not_next : (σ ρ : ℕ → Tree) → f (σ 0) (σ 0) ≡ f (ρ 0) (g (ρ 0)) → ⊥
 same_is_not_next σ ρ e = no_own_argument (ρ 0) (cc e)
 
@@ -88,27 +81,27 @@ same_is_not_next σ ρ e = no_own_argument (ρ 0) (cc e)
 apart : (i j : ℕ) (l r l' r' : Tree) (σ ρ : ℕ → Tree) → Numbered growing.rules j l r → Numbered growing.rules i l' r' → i ≢ j → apply σ l ≡ apply ρ l' → ⊥
 apart zero zero l r l' r' σ ρ h h' n e = n refl
 apart zero (suc zero) l r l' r' σ ρ h h' n e =
-    same_is_not_next ρ σ (sym (ap (apply ρ) (sides same_rule l' r' h')) ∙ (sym e ∙ ap (apply σ) (sides next_rule l r h)))
+    same_is_not_next ρ σ (sym (ap (apply ρ) (sides same_rule l' r' h').0) ∙ (sym e ∙ ap (apply σ) (sides next_rule l r h).0))
 apart (suc zero) zero l r l' r' σ ρ h h' n e =
-    same_is_not_next σ ρ (sym (ap (apply σ) (sides same_rule l r h)) ∙ (e ∙ ap (apply ρ) (sides next_rule l' r' h')))
+    same_is_not_next σ ρ (sym (ap (apply σ) (sides same_rule l r h).0) ∙ (e ∙ ap (apply ρ) (sides next_rule l' r' h').0))
 apart (suc zero) (suc zero) l r l' r' σ ρ h h' n e = n refl
 apart (suc (suc zero)) (suc (suc zero)) l r l' r' σ ρ h h' n e = n refl
 apart (suc (suc (suc i))) j l r l' r' σ ρ h h' n e = absurd cc
 apart i (suc (suc (suc j))) l r l' r' σ ρ h h' n e = absurd cc
 apart zero (suc (suc zero)) l r l' r' σ ρ h h' n e =
-    let k : constant 2 ≡ f (ρ 0) (ρ 0) = sym (ap (apply σ) (sides grow_rule l r h)) ∙ (e ∙ ap (apply ρ) (sides same_rule l' r' h')) in absurd (cc k)
+    let k : constant 2 ≡ f (ρ 0) (ρ 0) = sym (ap (apply σ) (sides grow_rule l r h).0) ∙ (e ∙ ap (apply ρ) (sides same_rule l' r' h').0) in absurd (cc k)
 apart (suc zero) (suc (suc zero)) l r l' r' σ ρ h h' n e =
-    let k : constant 2 ≡ f (ρ 0) (g (ρ 0)) = sym (ap (apply σ) (sides grow_rule l r h)) ∙ (e ∙ ap (apply ρ) (sides next_rule l' r' h')) in absurd (cc k)
+    let k : constant 2 ≡ f (ρ 0) (g (ρ 0)) = sym (ap (apply σ) (sides grow_rule l r h).0) ∙ (e ∙ ap (apply ρ) (sides next_rule l' r' h').0) in absurd (cc k)
 apart (suc (suc zero)) zero l r l' r' σ ρ h h' n e =
-    let k : constant 2 ≡ f (σ 0) (σ 0) = sym (ap (apply ρ) (sides grow_rule l' r' h')) ∙ (sym e ∙ ap (apply σ) (sides same_rule l r h)) in absurd (cc k)
+    let k : constant 2 ≡ f (σ 0) (σ 0) = sym (ap (apply ρ) (sides grow_rule l' r' h').0) ∙ (sym e ∙ ap (apply σ) (sides same_rule l r h).0) in absurd (cc k)
 apart (suc (suc zero)) (suc zero) l r l' r' σ ρ h h' n e =
-    let k : constant 2 ≡ f (σ 0) (g (σ 0)) = sym (ap (apply ρ) (sides grow_rule l' r' h')) ∙ (sym e ∙ ap (apply σ) (sides next_rule l r h)) in absurd (cc k)
+    let k : constant 2 ≡ f (σ 0) (g (σ 0)) = sym (ap (apply ρ) (sides grow_rule l' r' h').0) ∙ (sym e ∙ ap (apply σ) (sides next_rule l r h).0) in absurd (cc k)
 
 -- no left side has an instance with the root g
 g_no_left : (i : ℕ) (l r t : Tree) (σ : ℕ → Tree) → Numbered growing.rules i l r → g t ≡ apply σ l → ⊥
-g_no_left zero l r t σ h e = let k : g t ≡ f (σ 0) (σ 0) = e ∙ ap (apply σ) (sides same_rule l r h) in absurd (cc k)
-g_no_left (suc zero) l r t σ h e = let k : g t ≡ f (σ 0) (g (σ 0)) = e ∙ ap (apply σ) (sides next_rule l r h) in absurd (cc k)
-g_no_left (suc (suc zero)) l r t σ h e = let k : g t ≡ constant 2 = e ∙ ap (apply σ) (sides grow_rule l r h) in absurd (cc k)
+g_no_left zero l r t σ h e = let k : g t ≡ f (σ 0) (σ 0) = e ∙ ap (apply σ) (sides same_rule l r h).0 in absurd (cc k)
+g_no_left (suc zero) l r t σ h e = let k : g t ≡ f (σ 0) (g (σ 0)) = e ∙ ap (apply σ) (sides next_rule l r h).0 in absurd (cc k)
+g_no_left (suc (suc zero)) l r t σ h e = let k : g t ≡ constant 2 = e ∙ ap (apply σ) (sides grow_rule l r h).0 in absurd (cc k)
 g_no_left (suc (suc (suc i))) l r t σ h e = absurd cc
 
 in_same : (R : Tree → Tree → Type 0) (σ : ℕ → Tree) (ts : Trees) → OverlapOne R σ (cons (var 0) (cons (var 0) nil)) ts → ⊥
@@ -131,13 +124,13 @@ in_nothing R σ ts d = elim d [ ]
 
 arguments : (i j s : ℕ) (ls ts : Trees) (r : Tree) (σ : ℕ → Tree) → Numbered growing.rules j (app s ls) r → OverlapOne (RootStep (Numbered growing.rules i)) σ ls ts → ⊥
 arguments i zero s ls ts r σ h d =
-    let e : app s ls ≡ same_rule.left = sides same_rule (app s ls) r h in
+    let e : app s ls ≡ same_rule.left = (sides same_rule (app s ls) r h).0 in
     in_same (RootStep (Numbered growing.rules i)) σ ts (subst (λ z. OverlapOne (RootStep (Numbered growing.rules i)) σ z ts) (cc e) d)
 arguments i (suc zero) s ls ts r σ h d =
-    let e : app s ls ≡ next_rule.left = sides next_rule (app s ls) r h in
+    let e : app s ls ≡ next_rule.left = (sides next_rule (app s ls) r h).0 in
     in_next i σ ts (subst (λ z. OverlapOne (RootStep (Numbered growing.rules i)) σ z ts) (cc e) d)
 arguments i (suc (suc zero)) s ls ts r σ h d =
-    let e : app s ls ≡ constant 2 = sides grow_rule (app s ls) r h in
+    let e : app s ls ≡ constant 2 = (sides grow_rule (app s ls) r h).0 in
     in_nothing (RootStep (Numbered growing.rules i)) σ ts (subst (λ z. OverlapOne (RootStep (Numbered growing.rules i)) σ z ts) (cc e) d)
 arguments i (suc (suc (suc j))) s ls ts r σ h d = absurd cc
 

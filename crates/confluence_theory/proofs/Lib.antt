@@ -9,3 +9,4 @@ mod ParallelExample
 mod CapExample
 mod Counterexamples
 mod LeftLinearNeeded
+mod StrongHalfNeeded
