@@ -1,6 +1,6 @@
 -- Without left-linearity: f(x, x) -> a, f(x, g(x)) -> b, c -> g(c) has no critical peaks and linear right sides, and is not
 -- confluent: f(c, c) goes to a, and by f(c, g(c)) to b.
-use Rattle.std.specs.Prelude.{◌≡◌, ◌≢◌, ◌≤◌, ℕ, ◌+◌, List, [], ◌∷◌, Some, IsTrue, slice_get}
+use Rattle.std.specs.Prelude.{◌≡◌, ◌≢◌, ◌≤◌, ℕ, [], ◌∷◌, Some, IsTrue, slice_get}
 use Rattle.std.proofs.Common.{zero, suc, refl, sym, ◌∙◌, ap, subst, arith}
 use Rattle.trs_defs.specs.Member.{In, in_first, in_rest}
 use Rattle.trs_defs.specs.Tree.{Tree, Trees, var, app, nil, cons}
@@ -8,10 +8,10 @@ use Rattle.trs_defs.specs.Size.{size_of}
 use Rattle.trs_defs.specs.Variable.{has_var, occurrences}
 use Rattle.trs_defs.specs.Substitution.{apply}
 use Rattle.trs_defs.specs.NormalForm.{IsNormalForm}
-use Rattle.trs_defs.specs.System.{RewriteRule, System, IsRule, IsSystem, Numbered, Among}
+use Rattle.trs_defs.specs.System.{RewriteRule, System, IsRule, IsSystem, Numbered}
 use Rattle.trs_defs.specs.Linear.{AreRightLinear}
 use Rattle.trs_defs.specs.Overlap.{Overlap, OverlapOne, overlap_here, overlap_deep, overlap_first, overlap_later}
-use Rattle.trs_defs.specs.Peak.{HasPeak, Covers}
+use Rattle.trs_defs.specs.Peak.{Covers}
 use Rattle.trs_defs.specs.Step.{here, deep, first, later, RootStep, Step}
 use Rattle.trs_defs.specs.Claims.{IsForked}
 use Rattle.confluence_theory.proofs.NormalForms.{split_forked}

@@ -10,3 +10,4 @@ mod CapExample
 mod Counterexamples
 mod LeftLinearNeeded
 mod StrongHalfNeeded
+mod RightLinearNeeded

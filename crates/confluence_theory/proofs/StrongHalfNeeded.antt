@@ -1,19 +1,19 @@
 -- Strongly closed peaks by one half: p -> q, q -> p, f(p) -> a, f(q) -> d is linear, the left of each peak reaches the right,
 -- and it is not confluent: f(p) goes to a, and by f(q) to d.
-use Rattle.std.specs.Prelude.{◌≡◌, ◌≢◌, ◌≤◌, ℕ, List, [], ◌∷◌, Some, IsTrue, slice_get}
+use Rattle.std.specs.Prelude.{◌≡◌, ◌≢◌, ◌≤◌, ℕ, List, [], ◌∷◌, Some, slice_get}
 use Rattle.std.proofs.Common.{zero, suc, refl, sym, ◌∙◌, ap, subst, arith}
 use Rattle.trs_defs.specs.Member.{In, in_first, in_rest}
 use Rattle.trs_defs.specs.Tree.{Tree, Trees, var, app, nil, cons}
-use Rattle.trs_defs.specs.Variable.{has_var, occurrences}
+use Rattle.trs_defs.specs.Variable.{occurrences}
 use Rattle.trs_defs.specs.Substitution.{apply}
 use Rattle.trs_defs.specs.NormalForm.{IsNormalForm}
 use Rattle.trs_defs.specs.Run.{Same}
 use Rattle.trs_defs.specs.Confluence.{JoinsStrongly}
-use Rattle.trs_defs.specs.System.{RewriteRule, System, IsRule, IsSystem, Numbered, Among}
+use Rattle.trs_defs.specs.System.{RewriteRule, System, IsRule, IsSystem, Numbered}
 use Rattle.trs_defs.specs.Linear.{AreLeftLinear, AreRightLinear}
 use Rattle.trs_defs.specs.Overlap.{Overlap, OverlapOne, overlap_here, overlap_deep, overlap_first, overlap_later}
 use Rattle.trs_defs.specs.Peak.{Peak, HasPeak, Covers}
-use Rattle.trs_defs.specs.Step.{here, deep, first, later, RootStep, Step}
+use Rattle.trs_defs.specs.Step.{here, deep, first, RootStep, Step}
 use Rattle.trs_defs.specs.Claims.{IsForked}
 use Rattle.confluence_theory.proofs.NormalForms.{split_forked}
 use Rattle.confluence_theory.proofs.Constants.{constant, rewrites, each_of_two, sides}
