@@ -1,5 +1,6 @@
 pub mod CriticalCover
 pub mod CapFits
+pub mod CapClash
 pub mod NormalForms
 pub mod FollowedPaths
 pub mod ParallelPaths

@@ -23,6 +23,7 @@ ghost use Rattle.trs_defs.specs.Path.{PlacedRule, Follows};
 ghost use Rattle.trs_defs.specs.ParallelPositions.{ArePairwiseParallel};
 ghost use Rattle.trs_defs.specs.ParallelStep.{ParallelStepBy};
 ghost use Rattle.trs_defs.specs.Cap.{Cap, Fits};
+ghost use Rattle.trs_defs.specs.Clash.{clash};
 ghost use Rattle.trs_defs.specs.UniqueNormalForms.{HasUniqueNormalForms, IsSplit};
 
 /// The critical pair lemma's first half (Baader and Nipkow, section 6.2): a list with all critical
@@ -79,6 +80,12 @@ pub fn caps_apart()
         Reaches (Step system.rules) s t → Reaches (Step system.rules) s u →
         Cap (Among system.rules) (apply read t) c → Cap (Among system.rules) (apply read u) d →
         ((v : Tree) → Fits c v → Fits d v → ⊥) → IsForked system }
+{}
+
+/// Caps clash exactly where no term fits both.
+pub fn clashing_caps()
+    ensures apart { (c d v : Tree) → IsTrue (clash c d) → Fits c v → Fits d v → ⊥ }
+    ensures together { (c d : Tree) → (IsTrue (clash c d) → ⊥) → (v : Tree) × Fits c v × Fits d v }
 {}
 
 /// In a confluent system each well-formed term has at most one normal form (Baader and Nipkow,

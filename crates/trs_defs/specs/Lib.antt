@@ -30,5 +30,6 @@ pub mod Unifier
 pub mod CriticalPeak
 pub mod RuleRanks
 pub mod Cap
+pub mod Clash
 pub mod UniqueNormalForms
 pub mod ParallelPositions
