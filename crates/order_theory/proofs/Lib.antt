@@ -1,0 +1,14 @@
+pub mod PathAccessible
+pub mod PathLaws
+pub mod Fallers
+pub mod Filters
+pub mod PathPair
+pub mod PathDecides
+pub mod Linear
+pub mod Coefficients
+pub mod KnuthAccessible
+pub mod Over
+pub mod KnuthLaws
+pub mod KnuthPair
+pub mod Removals
+pub mod Examples

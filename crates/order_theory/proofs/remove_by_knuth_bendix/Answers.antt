@@ -1,0 +1,5 @@
+use Rattle.order_theory.proofs.Removals.{remove_by_knuth_bendix}
+use Rattle.order_theory.proofs.remove_by_knuth_bendix.Goals as goal
+
+pub returns : goal.returns
+returns c = record { finite = remove_by_knuth_bendix }

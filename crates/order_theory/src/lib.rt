@@ -1,0 +1,75 @@
+//! Orders for termination: the lexicographic path order, linear interpretations and the
+//! Knuth-Bendix order. Each function is a theorem: its contract is the statement, and it does nothing.
+#![tactic(auto)]
+
+ghost use Rattle.std.specs.Prelude.{◌≤◌, ℕ, List, Option, ◌⊎◌, ◌↔◌, IsTrue, length};
+ghost use Rattle.trs_defs.specs.Member.{In};
+ghost use Rattle.trs_defs.specs.Tree.{Tree};
+ghost use Rattle.trs_defs.specs.System.{RewriteRule, System, IsSystem};
+ghost use Rattle.trs_defs.specs.Marked.{mark};
+ghost use Rattle.trs_defs.specs.DependencyPair.{DependencyPair};
+ghost use Rattle.trs_defs.specs.PairProblem.{IsFiniteProblem, IsPair};
+ghost use Rattle.trs_defs.specs.ReductionPair.{ReductionPair, Speaks, AllTerms};
+ghost use Rattle.trs_defs.specs.PathOrder.{PathGreater};
+ghost use Rattle.trs_defs.specs.PathTest.{path_greater};
+ghost use Rattle.trs_defs.specs.ArgumentFilter.{ArgumentFilter, PathStrict, PathWeak};
+ghost use Rattle.trs_defs.specs.LinearInterpretation.{LinearWeak, LinearStrict, CoefficientWeak, CoefficientStrict};
+ghost use Rattle.trs_defs.specs.KnuthBendix.{KnuthGreater, KnuthWeak, IsOver, arity_with_marks, IsAdmissible};
+
+/// The lexicographic path order with argument filters is a reduction pair on all terms (Kamin and
+/// Lévy; Baader and Nipkow, section 5.4; well-foundedness as in Buchholz, Proof-theoretic analysis
+/// of termination proofs, 1995), and its test decides it.
+pub fn path_order_laws()
+    ensures pair { (rank : ℕ → ℕ) (filter : ℕ → ArgumentFilter) →
+        ReductionPair (PathWeak rank filter) (PathStrict rank filter) AllTerms }
+    ensures test { (rank : ℕ → ℕ) (s t : Tree) → IsTrue (path_greater rank s t) ↔ PathGreater rank s t }
+{}
+
+/// A linear interpretation over the naturals is a reduction pair on all terms (Baader and Nipkow,
+/// section 5.3), and comparing coefficients decides it.
+pub fn interpretation_laws()
+    ensures pair { (c : ℕ → ℕ → ℕ) → ReductionPair (LinearWeak c) (LinearStrict c) AllTerms }
+    ensures weak { (c : ℕ → ℕ → ℕ) (s t : Tree) → CoefficientWeak c s t ↔ LinearWeak c s t }
+    ensures strict { (c : ℕ → ℕ → ℕ) (s t : Tree) → CoefficientStrict c s t ↔ LinearStrict c s t }
+{}
+
+/// The Knuth-Bendix order is a reduction pair on the terms of an arity function, if it is admissible
+/// (Knuth and Bendix, 1970; Baader and Nipkow, section 5.4); with the arities of marked symbols it
+/// speaks of all terms of a system with at most 4096 symbols.
+pub fn knuth_bendix_laws()
+    ensures pair { (arity : ℕ → Option ℕ) (weight rank : ℕ → ℕ) → IsAdmissible arity weight rank →
+        ReductionPair (KnuthWeak weight rank) (KnuthGreater weight rank) (IsOver arity) }
+    ensures speaks { (arities : List ℕ) → length arities ≤ 4096 →
+        Speaks arities (IsOver (arity_with_marks arities)) }
+{}
+
+/// Removal of pairs by a path order with filters.
+pub fn remove_by_path_order()
+    ensures finite { (system : System) (pairs stays : List DependencyPair) (rank : ℕ → ℕ) (filter : ℕ → ArgumentFilter) →
+        IsSystem system → ((p : DependencyPair) → In p pairs → IsPair system.arities p) →
+        ((r : RewriteRule) → In r system.rules → PathWeak rank filter r.left r.right) →
+        ((p : DependencyPair) → In p pairs →
+        (In p stays × PathWeak rank filter (mark p.from) (mark p.to)) ⊎ PathStrict rank filter (mark p.from) (mark p.to)) →
+        IsFiniteProblem system stays → IsFiniteProblem system pairs }
+{}
+
+/// Removal of pairs by a linear interpretation, whose coefficients are compared.
+pub fn remove_by_interpretation()
+    ensures finite { (system : System) (pairs stays : List DependencyPair) (c : ℕ → ℕ → ℕ) →
+        IsSystem system → ((p : DependencyPair) → In p pairs → IsPair system.arities p) →
+        ((r : RewriteRule) → In r system.rules → CoefficientWeak c r.left r.right) →
+        ((p : DependencyPair) → In p pairs →
+        (In p stays × CoefficientWeak c (mark p.from) (mark p.to)) ⊎ CoefficientStrict c (mark p.from) (mark p.to)) →
+        IsFiniteProblem system stays → IsFiniteProblem system pairs }
+{}
+
+/// Removal of pairs by an admissible Knuth-Bendix order.
+pub fn remove_by_knuth_bendix()
+    ensures finite { (system : System) (pairs stays : List DependencyPair) (weight rank : ℕ → ℕ) →
+        IsSystem system → ((p : DependencyPair) → In p pairs → IsPair system.arities p) →
+        length system.arities ≤ 4096 → IsAdmissible (arity_with_marks system.arities) weight rank →
+        ((r : RewriteRule) → In r system.rules → KnuthWeak weight rank r.left r.right) →
+        ((p : DependencyPair) → In p pairs →
+        (In p stays × KnuthWeak weight rank (mark p.from) (mark p.to)) ⊎ KnuthGreater weight rank (mark p.from) (mark p.to)) →
+        IsFiniteProblem system stays → IsFiniteProblem system pairs }
+{}

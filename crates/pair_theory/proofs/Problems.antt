@@ -1,0 +1,187 @@
+-- The steps on problems that are lists of pairs.
+use Rattle.std.proofs.Common.{◌≡◌, ℕ, refl, sym, subst, arith, ◌⊎◌, inl, inr, List, [], ◌∷◌, ◌++◌}
+use Rattle.trs_defs.specs.Tree.{Tree, var, app, Trees}
+use Rattle.trs_defs.specs.Accessible.{Acc, acc}
+use Rattle.trs_defs.specs.System.{RewriteRule, Among, System, IsSystem}
+use Rattle.trs_defs.specs.Member.{In, in_first, in_rest}
+use Rattle.trs_defs.specs.Subterm.{Sub, itself, under, Subs, in_head, in_tail}
+use Rattle.trs_defs.specs.Every.{Every}
+use Rattle.trs_defs.specs.Terminates.{Terminates}
+use Rattle.trs_defs.specs.WellFormed.{IsWellFormed}
+use Rattle.trs_defs.specs.Marked.{Marked, marked, plain, mark}
+use Rattle.trs_defs.specs.Chain.{ChainStep, link}
+use Rattle.trs_defs.specs.DependencyPair.{IsDefined, IsDependencyPair, from_rule, DependencyPair, subterms, subterms_of_all, has_root, is_defined, keep_if, pairs_to, pairs_of, pairs_of_each, dependency_pairs}
+use Rattle.trs_defs.specs.PairProblem.{ChainsEnd, PairAmong, IsFiniteProblem, IsPair}
+use Rattle.trs_defs.specs.Moves.{IsWellFounded, IsOrdered}
+use Rattle.trs_defs.specs.Claims.{IsTerminating}
+use Rattle.pair_theory.proofs.Accessibility.{acc_image}
+use Rattle.pair_theory.proofs.Chains.{chain_map, chain_small, chain_well_formed}
+use Rattle.pair_theory.proofs.Removal.{removal}
+use Rattle.pair_theory.proofs.Termination.{pair_theorem}
+use Rattle.pair_theory.proofs.PairList.{pairs_listed}
+use Rattle.pair_theory.proofs.Members.{no_in, in_or, in_left, in_right, each_of_both}
+use Rattle.pair_theory.proofs.Terms.{below_root, subs_of_has, has_of_subs}
+use Rattle.pair_theory.proofs.Systems.{left_over, right_over, no_new_variables}
+use Rattle.trs_defs.specs.ReductionPair.{Speaks}
+
+-- fewer pairs have fewer chains
+pub fewer : (rule : Tree → Tree → Type 0) (p q : Marked → Marked → Type 0) → ((l r : Marked) → p l r → q l r) → {u : Marked} → Acc (ChainStep rule q) u → Acc (ChainStep rule p) u
+fewer rule p q f {u} a = acc_image (λ x. x) (ChainStep rule p) (ChainStep rule q) (λ x y c. chain_map f c) a u refl
+
+pub listed_theorem : (system : System) → IsSystem system → IsFiniteProblem system (dependency_pairs system.rules) → IsTerminating system
+listed_theorem system ok all = pair_theorem system ok
+    (λ u v small. fewer (Among system.rules) (IsDependencyPair (Among system.rules)) (PairAmong (dependency_pairs system.rules)) (pairs_listed system.rules) (all u v small))
+
+pub more_pairs_end : (system : System) (pairs more : List DependencyPair) → ((p : DependencyPair) → In p pairs → In p more)
+    → IsFiniteProblem system more → IsFiniteProblem system pairs
+more_pairs_end system pairs more within ends u w small =
+    fewer (Among system.rules) (PairAmong pairs) (PairAmong more) (λ l r i. within (record { from = l; to = r }) i) (ends u w small)
+
+pair_of : {rule : _} {pair : Marked → Marked → Type 0} {u v : Marked} → ChainStep rule pair u v → (l : Marked) × (r : Marked) × pair l r
+pair_of (link l r σ h e reach to small) = (l, r, h)
+
+pub no_pairs_end : (system : System) (pairs : List DependencyPair) → ((p : DependencyPair) → In p pairs → ⊥) → IsFiniteProblem system pairs
+no_pairs_end system pairs none u w small = acc (λ v c. let h : (l : Marked) × (r : Marked) × PairAmong pairs l r = pair_of c in absurd (none (record { from = h.0; to = h.1 }) h.2))
+
+abbrev pub mark_rules : List DependencyPair → List RewriteRule
+mark_rules [] = []
+mark_rules (p ∷ ps) = record { left = mark p.from; right = mark p.to } ∷ mark_rules ps
+
+pub marked_in : (ps : List DependencyPair) {p : DependencyPair} → In p ps → In (record { left = mark p.from; right = mark p.to }) (mark_rules ps)
+marked_in [] i = elim i [ ]
+marked_in (p ∷ ps) in_first = in_first
+marked_in (q ∷ ps) (in_rest i) = in_rest (marked_in ps i)
+
+pub each_mark : (P : RewriteRule → Type 0) (ps : List DependencyPair) → ((p : DependencyPair) → In p ps → P (record { left = mark p.from; right = mark p.to })) → (q : RewriteRule) → In q (mark_rules ps) → P q
+each_mark P [] k q i = elim i [ ]
+each_mark P (p ∷ ps) k q i = go (in_or i) (each_mark P ps (λ p j. k p (in_rest j)) q)
+  where
+    go : (q ≡ record { left = mark p.from; right = mark p.to }) ⊎ In q (mark_rules ps) → (In q (mark_rules ps) → P q) → P q
+    go (inl e) f = subst P (sym e) (k p in_first)
+    go (inr j) f = f j
+
+abbrev Either : List DependencyPair → List DependencyPair → Marked → Marked → Type 0
+Either stays goes l r = PairAmong stays l r ⊎ PairAmong goes l r
+
+-- the pairs of one list and those of another, each with what is known of it
+pub record Parted (A : Type 0) (P Q : A → Type 0) (xs : List A) : Type 0 where
+  pub ones : List A
+  pub others : List A
+  pub each_one : (x : A) → In x ones → In x xs × P x
+  pub each_other : (x : A) → In x others → In x xs × Q x
+  pub covers : (x : A) → In x xs → In x ones ⊎ In x others
+
+pub parted : {A : Type 0} (P Q : A → Type 0) (xs : List A) → ((x : A) → In x xs → P x ⊎ Q x) → Parted A P Q xs
+parted P Q [] k = record { ones = []; others = []; each_one = λ x i. absurd (no_in i); each_other = λ x i. absurd (no_in i); covers = λ x i. absurd (no_in i) }
+parted {A} P Q (y ∷ xs) k = go (k y in_first) (parted P Q xs (λ x i. k x (in_rest i)))
+  where
+    with_first : (R : A → Type 0) (zs : List A) → R y → ((x : A) → In x zs → In x xs × R x) → (x : A) → In x (y ∷ zs) → In x (y ∷ xs) × R x
+    with_first R zs r f x i = elim (in_or i) [
+      | inl e ↦ (subst (λ z. In z (y ∷ xs)) (sym e) in_first, subst R (sym e) r)
+      | inr j ↦ (in_rest (f x j).0, (f x j).1)
+    ]
+
+    go : P y ⊎ Q y → Parted A P Q xs → Parted A P Q (y ∷ xs)
+    go (inl p) r = record {
+      ones = y ∷ r.ones;
+      others = r.others;
+      each_one = with_first P r.ones p r.each_one;
+      each_other = λ x i. (in_rest (r.each_other x i).0, (r.each_other x i).1);
+      covers = λ x i. elim (in_or i) [
+        | inl e ↦ inl (subst (λ z. In z (y ∷ r.ones)) (sym e) in_first)
+        | inr j ↦ elim (r.covers x j) [ inl m ↦ inl (in_rest m) | inr m ↦ inr m ]
+      ];
+    }
+    go (inr q) r = record {
+      ones = r.ones;
+      others = y ∷ r.others;
+      each_one = λ x i. (in_rest (r.each_one x i).0, (r.each_one x i).1);
+      each_other = with_first Q r.others q r.each_other;
+      covers = λ x i. elim (in_or i) [
+        | inl e ↦ inr (subst (λ z. In z (y ∷ r.others)) (sym e) in_first)
+        | inr j ↦ elim (r.covers x j) [ inl m ↦ inl m | inr m ↦ inr (in_rest m) ]
+      ];
+    }
+
+-- a well-formed marked term with terminating arguments
+abbrev pub Ready : System → Marked → Type 0
+Ready system u = IsWellFormed system.arities (plain u) × Every (Terminates (Among system.rules)) u.args
+
+-- chains of pairs over the arities keep to such terms
+pub chain_ready : (system : System) → IsSystem system → (pair : Marked → Marked → Type 0)
+    → ((l r : Marked) → pair l r → IsPair system.arities (record { from = l; to = r }))
+    → (u v : Marked) → Ready system u → ChainStep (Among system.rules) pair u v → Ready system v
+chain_ready system ok pair good u v ready c = (
+  chain_well_formed system.arities (Among system.rules) (right_over system ok) (no_new_variables system ok)
+  (λ l r h. (good l r h).to_well_formed)
+  (λ l r h x p. subs_of_has x l.args ((good l r h).variables x (has_of_subs x r.args p))) c ready.0,
+  chain_small c,
+)
+
+module _ (system : System) (ok : IsSystem system) (weak strict : Tree → Tree → Type 0) (speaks_of : Tree → Type 0)
+    (wf : IsWellFounded weak strict speaks_of) (speaks : Speaks system.arities speaks_of)
+    (falls : (p : RewriteRule) → In p system.rules → weak p.left p.right) where
+  abbrev pub WeakPair : DependencyPair → Type 0
+  WeakPair p = IsPair system.arities p × weak (mark p.from) (mark p.to)
+
+  abbrev pub StrictPair : DependencyPair → Type 0
+  StrictPair p = IsPair system.arities p × strict (mark p.from) (mark p.to)
+
+  ordered_rule : (p : RewriteRule) → In p system.rules → IsOrdered speaks_of weak p
+  ordered_rule p i = record {
+    left_spoken = speaks.of_terms p.left (left_over system ok p.left p.right i);
+    right_spoken = speaks.of_terms p.right (right_over system ok p.left p.right i);
+    ordered = falls p i;
+    variables = no_new_variables system ok p.left p.right i;
+  }
+
+  ordered_pair : (order : Tree → Tree → Type 0) (p : DependencyPair) → IsPair system.arities p → order (mark p.from) (mark p.to)
+      → IsOrdered speaks_of order (record { left = mark p.from; right = mark p.to })
+  ordered_pair order p good h = record {
+    left_spoken = speaks.of_marked p.from good.from_well_formed;
+    right_spoken = speaks.of_marked p.to good.to_well_formed;
+    ordered = h;
+    variables = λ v q. under (subs_of_has v p.from.args (good.variables v (has_of_subs v p.to.args (below_root q))));
+  }
+
+  -- with an order, the strict pairs go
+  pub order_step : (stays goes : List DependencyPair) → ((p : DependencyPair) → In p stays → WeakPair p)
+      → ((p : DependencyPair) → In p goes → StrictPair p)
+      → IsFiniteProblem system stays → ChainsEnd system.arities (Among system.rules) (Either stays goes)
+  order_step stays goes stay go all u v small =
+      removal (Among system.rules) (PairAmong stays) (PairAmong goes) ws ss (λ l r i. in_left (mark_rules stays) i)
+      (λ l r i. in_right system.rules (marked_in stays i)) (λ l r i. marked_in goes i)
+      (Ready system) (chain_ready system ok (Either stays goes) good) (λ u ready. all u ready.0 ready.1)
+      spoken
+      (λ t w. wf ws ss
+      (each_of_both (IsOrdered speaks_of weak) system.rules (mark_rules stays) ordered_rule
+      (each_mark (IsOrdered speaks_of weak) stays (λ p i. ordered_pair weak p (stay p i).0 (stay p i).1)))
+      (each_mark (IsOrdered speaks_of strict) goes (λ p i. ordered_pair strict p (go p i).0 (go p i).1))
+      t w)
+      u (v, small)
+    where
+      ws : List RewriteRule
+      ws = system.rules ++ mark_rules stays
+
+      ss : List RewriteRule
+      ss = mark_rules goes
+
+      good : (l r : Marked) → Either stays goes l r → IsPair system.arities (record { from = l; to = r })
+      good l r (inl i) = (stay _ i).0
+      good l r (inr i) = (go _ i).0
+
+      spoken : (u : Marked) → Ready system u → speaks_of (mark u)
+      spoken u ready = speaks.of_marked u ready.0
+
+  pub removal_theorem : (pairs stays : List DependencyPair) → ((p : DependencyPair) → In p pairs → IsPair system.arities p)
+      → ((p : DependencyPair) → In p pairs → (In p stays × weak (mark p.from) (mark p.to)) ⊎ strict (mark p.from) (mark p.to))
+      → IsFiniteProblem system stays → IsFiniteProblem system pairs
+  removal_theorem pairs stays good class rest =
+      let split : Parted DependencyPair (λ p. In p stays × weak (mark p.from) (mark p.to)) (λ p. strict (mark p.from) (mark p.to)) pairs =
+      parted (λ p. In p stays × weak (mark p.from) (mark p.to)) (λ p. strict (mark p.from) (mark p.to)) pairs class in
+      λ u w small. fewer (Among system.rules) (PairAmong pairs) (Either split.ones split.others) (λ l r i. split.covers _ i)
+      (order_step split.ones split.others
+      (λ p i. let h : In p pairs × (In p stays × weak (mark p.from) (mark p.to)) = split.each_one p i in (good p h.0, h.1.1))
+      (λ p i. let h : In p pairs × strict (mark p.from) (mark p.to) = split.each_other p i in (good p h.0, h.1))
+      (λ u w small. fewer (Among system.rules) (PairAmong split.ones) (PairAmong stays) (λ l r i. (split.each_one _ i).1.0) (rest u w small))
+      u w small)

@@ -1,0 +1,8 @@
+use Rattle.std.proofs.Common.{◌≡◌, ◌+◌, ◌-◌, ◌<◌, ◌^◌, min, drop}
+use Rattle.trs_defs.specs.Size.{size_of, size_of_all}
+use Rattle.trs_core.specs.View.{tree, forest}
+use Rattle.trs_core.proofs.terms.Term.+size.Given as goal
+
+abbrev pub invariant-loop-arg : goal.invariant-loop-arg
+invariant-loop-arg l =
+    (l.total < 2 ^ 64) × (min (l.total + size_of_all (forest (drop l.arg-index l.arg-items))) (2 ^ 64 - 1) ≡ min (size_of (tree l.self)) (2 ^ 64 - 1))

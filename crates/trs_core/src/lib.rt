@@ -1,0 +1,27 @@
+//! Terms, positions, substitutions, rules and systems.
+//!
+//! Contracts see a term as a tree: `tree t.now`. (Baader and Nipkow, Term Rewriting and All That, chapter 3.)
+#![tactic(auto)]
+
+mod applying;
+mod bindings;
+mod checking;
+mod extra;
+mod faults;
+mod limits;
+mod matching;
+mod memory;
+mod positions;
+mod replacing;
+mod rules;
+mod terms;
+
+pub use applying::ApplySize;
+pub use bindings::Subst;
+pub use faults::TrsFault;
+pub use matching::match_term;
+pub use memory::OutOfMemory;
+pub use positions::Position;
+pub use replacing::ReplaceFault;
+pub use rules::{Rule, Trs};
+pub use terms::{Args, Term};
