@@ -9,7 +9,7 @@ use Rattle.trs_defs.specs.System.{System}
 use Rattle.trs_defs.specs.Step.{Step}
 use Rattle.trs_defs.specs.UniqueNormalForms.{HasUniqueNormalForms, IsSplit}
 
-stays : {T : Type 0} (R : T → T → Type 0) (t : T) → IsNormalForm R t → (n : ℕ) (v : T) → Derivation R n t v → t ≡ v
+pub stays : {T : Type 0} (R : T → T → Type 0) (t : T) → IsNormalForm R t → (n : ℕ) (v : T) → Derivation R n t v → t ≡ v
 stays R t normal zero v e = e
 stays R t normal (suc n) v (m, step, d) = absurd (normal m step)
 

@@ -47,4 +47,6 @@ pub mod Peak
 pub mod Unifier
 pub mod CriticalPeak
 pub mod RuleRanks
+pub mod Clash
 pub mod UniqueNormalForms
+pub mod ParallelPositions
