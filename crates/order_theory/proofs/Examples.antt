@@ -1,17 +1,15 @@
 -- Addition terminates: by a linear interpretation, by the subterm criterion and by a path order.
-use Rattle.std.proofs.Common.{◌≡◌, ℕ, ◌+◌, ◌*◌, ◌≤◌, ◌<◌, refl, subst, arith, ◌⊎◌, inl, inr, List, [], ◌∷◌, Bool, true, ◌==◌, if◌then◌else◌, IsTrue, Some, slice_get}
+use Rattle.std.proofs.Common.{◌≡◌, ℕ, refl, arith, ◌⊎◌, inr, [], ◌∷◌, true, ◌==◌, if◌then◌else◌}
 use Rattle.trs_defs.specs.Member.{In, in_first, in_rest}
-use Rattle.trs_defs.specs.Tree.{Tree, Trees, var, app, nil, cons}
-use Rattle.trs_defs.specs.Variable.{has_var, some_has_var, IsVariable}
+use Rattle.trs_defs.specs.Tree.{Tree, var, app, nil, cons}
 use Rattle.trs_defs.specs.System.{RewriteRule, System, IsRule, IsSystem}
 use Rattle.trs_defs.specs.Claims.{IsTerminating}
-use Rattle.trs_defs.specs.Subterm.{ProperSubterm, proper, itself, Subs, in_head}
-use Rattle.trs_defs.specs.Marked.{marked, plain, mark}
+use Rattle.trs_defs.specs.Subterm.{ProperSubterm, proper, itself, in_head}
+use Rattle.trs_defs.specs.Marked.{marked, mark}
 use Rattle.trs_defs.specs.DependencyPair.{DependencyPair, dependency_pairs}
-use Rattle.trs_defs.specs.PairProblem.{IsFiniteProblem, IsPair}
+use Rattle.trs_defs.specs.PairProblem.{IsFiniteProblem}
 use Rattle.trs_defs.specs.SubtermCriterion.{Projects}
-use Rattle.trs_defs.specs.LinearInterpretation.{CoefficientWeak, CoefficientStrict, constant, coefficient}
-use Rattle.trs_defs.specs.PathOrder.{PathGreater}
+use Rattle.trs_defs.specs.LinearInterpretation.{CoefficientWeak, CoefficientStrict}
 use Rattle.trs_defs.specs.PathTest.{path_greater}
 use Rattle.trs_defs.specs.ArgumentFilter.{ArgumentFilter, Keep, filtered, PathWeak, PathStrict}
 use Rattle.trs_defs.specs.KnuthBendix.{KnuthGreater, by_weight, by_head, KnuthWeak, IsAdmissible, arity_with_marks}

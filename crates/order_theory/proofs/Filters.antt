@@ -6,11 +6,11 @@ use Rattle.trs_defs.specs.Step.{RootStep, StepBy, here, deep, first, later}
 use Rattle.trs_defs.specs.Terminates.{ArgumentStep, Terminates}
 use Rattle.trs_defs.specs.Bounded.{IsBoundedBy}
 use Rattle.trs_defs.specs.System.{RewriteRule, Among}
-use Rattle.trs_defs.specs.Member.{In, in_first, in_rest}
+use Rattle.trs_defs.specs.Member.{In}
 use Rattle.trs_defs.specs.Run.{Run, Stay, Go}
 use Rattle.trs_defs.specs.PathOrder.{PathGreater}
 use Rattle.trs_defs.specs.ArgumentFilter.{ArgumentFilter, To, Keep, item_or, keep_one, select, by_filter, filtered, filtered_all, PathStrict, PathWeak}
-use Rattle.trs_defs.specs.Moves.{Moves, no_moves, weakly, strictly, MovesAtMost, IsWellFounded, IsOrdered}
+use Rattle.trs_defs.specs.Moves.{Moves, no_moves, weakly, strictly, MovesAtMost, IsWellFounded}
 use Rattle.trs_defs.specs.ReductionPair.{AllTerms}
 use Rattle.pair_theory.proofs.Accessibility.{looser, run_on, run_map}
 use Rattle.pair_theory.proofs.Terms.{join_cons}
@@ -140,8 +140,14 @@ module _ (rank : ℕ → ℕ) (π : ℕ → ArgumentFilter) (ws ss : List Rewrit
   after_star (suc n) (Go p ps) b = looser (Among system) n _ (after_star n ps (b _ p))
 
   strict_step : {s t : Tree} → RootStep (Among ss) s t → StepBy (Among system) (filtered π s) (filtered π t)
-  strict_step (l, r, σ, i, e, e') = here (filtered π l, filtered π r, after π σ, base_in (filtered π) (images (filtered π) ss) ws (image_in (filtered π) ss i),
-      ap (filtered π) e ∙ filtered_apply π σ l, ap (filtered π) e' ∙ filtered_apply π σ r)
+  strict_step (l, r, σ, i, e, e') = here (
+    filtered π l,
+    filtered π r,
+    after π σ,
+    base_in (filtered π) (images (filtered π) ss) ws (image_in (filtered π) ss i),
+    ap (filtered π) e ∙ filtered_apply π σ l,
+    ap (filtered π) e' ∙ filtered_apply π σ r,
+  )
 
   few_moves : (n : ℕ) {m : ℕ} {s u : Tree} → Moves ws ss m s u → IsBoundedBy (StepBy (Among system)) n (filtered π s) → m ≤ n
   few_moves n no_moves b = omega arith

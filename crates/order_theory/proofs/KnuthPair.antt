@@ -1,5 +1,5 @@
 -- The Knuth-Bendix order is well-founded in the finite sense, on well-formed terms.
-use Rattle.std.proofs.Common.{◌≡◌, ℕ, zero, suc, ◌+◌, ◌-◌, ◌≤◌, ◌<◌, refl, sym, ap, subst, arith, ◌∙◌, ◌⊎◌, inl, inr, List, [], ◌∷◌, Bool, true, false, Option, Some, slice_get, length, nat_lt, if◌then◌else◌}
+use Rattle.std.proofs.Common.{◌≡◌, ℕ, zero, suc, ◌+◌, ◌-◌, ◌≤◌, ◌<◌, refl, sym, ap, subst, arith, ◌∙◌, ◌⊎◌, inl, inr, List, [], ◌∷◌, true, false, Option, Some, slice_get, length, nat_lt}
 use Rattle.trs_defs.specs.Tree.{Tree, Trees, var, app, nil, cons, count}
 use Rattle.trs_defs.specs.Substitution.{apply}
 use Rattle.trs_defs.specs.Step.{RootStep, StepBy, here, deep, first, later}
@@ -14,7 +14,6 @@ use Rattle.trs_defs.specs.Moves.{Moves, no_moves, weakly, strictly, MovesAtMost,
 use Rattle.pair_theory.proofs.Accessibility.{looser, run_map}
 use Rattle.pair_theory.proofs.Bounds.{bounded}
 use Rattle.order_theory.proofs.Fallers.{fallers, images, base_in, faller, origin, Origin, image_in, of_image}
-use Rattle.trs_defs.specs.Marked.{Marked, plain, mark}
 use Rattle.trs_defs.specs.ReductionPair.{ReductionPair, Speaks}
 use Rattle.trs_defs.specs.KnuthBendix.{KnuthGreater, KnuthWeak, IsAdmissible, IsOver, AreOver, arity_with_marks}
 use Rattle.order_theory.proofs.Over.{over_apply, each_over}

@@ -1,16 +1,16 @@
 -- The steps on problems that are lists of pairs.
-use Rattle.std.proofs.Common.{◌≡◌, ℕ, refl, sym, subst, arith, ◌⊎◌, inl, inr, List, [], ◌∷◌, ◌++◌}
-use Rattle.trs_defs.specs.Tree.{Tree, var, app, Trees}
+use Rattle.std.proofs.Common.{◌≡◌, refl, sym, subst, ◌⊎◌, inl, inr, List, [], ◌∷◌, ◌++◌}
+use Rattle.trs_defs.specs.Tree.{Tree}
 use Rattle.trs_defs.specs.Accessible.{Acc, acc}
 use Rattle.trs_defs.specs.System.{RewriteRule, Among, System, IsSystem}
 use Rattle.trs_defs.specs.Member.{In, in_first, in_rest}
-use Rattle.trs_defs.specs.Subterm.{Sub, itself, under, Subs, in_head, in_tail}
+use Rattle.trs_defs.specs.Subterm.{under}
 use Rattle.trs_defs.specs.Every.{Every}
 use Rattle.trs_defs.specs.Terminates.{Terminates}
 use Rattle.trs_defs.specs.WellFormed.{IsWellFormed}
-use Rattle.trs_defs.specs.Marked.{Marked, marked, plain, mark}
+use Rattle.trs_defs.specs.Marked.{Marked, plain, mark}
 use Rattle.trs_defs.specs.Chain.{ChainStep, link}
-use Rattle.trs_defs.specs.DependencyPair.{IsDefined, IsDependencyPair, from_rule, DependencyPair, subterms, subterms_of_all, has_root, is_defined, keep_if, pairs_to, pairs_of, pairs_of_each, dependency_pairs}
+use Rattle.trs_defs.specs.DependencyPair.{IsDependencyPair, DependencyPair, dependency_pairs}
 use Rattle.trs_defs.specs.PairProblem.{ChainsEnd, PairAmong, IsFiniteProblem, IsPair}
 use Rattle.trs_defs.specs.Moves.{IsWellFounded, IsOrdered}
 use Rattle.trs_defs.specs.Claims.{IsTerminating}
@@ -113,8 +113,8 @@ pub chain_ready : (system : System) → IsSystem system → (pair : Marked → M
     → (u v : Marked) → Ready system u → ChainStep (Among system.rules) pair u v → Ready system v
 chain_ready system ok pair good u v ready c = (
   chain_well_formed system.arities (Among system.rules) (right_over system ok) (no_new_variables system ok)
-  (λ l r h. (good l r h).to_well_formed)
-  (λ l r h x p. subs_of_has x l.args ((good l r h).variables x (has_of_subs x r.args p))) c ready.0,
+      (λ l r h. (good l r h).to_well_formed)
+      (λ l r h x p. subs_of_has x l.args ((good l r h).variables x (has_of_subs x r.args p))) c ready.0,
   chain_small c,
 )
 

@@ -1,12 +1,10 @@
 -- The subterm criterion, on problems of listed pairs.
-use Rattle.std.proofs.Common.{◌≡◌, ℕ, zero, suc, ◌-◌, ◌<◌, refl, sym, ap, subst, arith, ◌∙◌, ◌⊎◌, inl, inr, List, [], ◌∷◌, Option, Some, None, slice_get}
-use Rattle.trs_defs.specs.Accessible.{Acc}
+use Rattle.std.proofs.Common.{◌≡◌, ℕ, zero, suc, ◌-◌, ◌<◌, sym, subst, arith, ◌⊎◌, inl, inr, List, Some, slice_get}
 use Rattle.trs_defs.specs.Member.{In}
-use Rattle.trs_defs.specs.Tree.{Tree, Trees, var, app, nil, cons, count, items}
+use Rattle.trs_defs.specs.Tree.{Tree, Trees, var, nil, cons, count, items}
 use Rattle.trs_defs.specs.Position.{argument_at}
 use Rattle.trs_defs.specs.System.{System, IsSystem, Among}
 use Rattle.trs_defs.specs.Subterm.{ProperSubterm}
-use Rattle.trs_defs.specs.Terminates.{Terminates}
 use Rattle.trs_defs.specs.Marked.{Marked, plain}
 use Rattle.trs_defs.specs.DependencyPair.{DependencyPair}
 use Rattle.trs_defs.specs.ArgumentFilter.{item_or}

@@ -11,7 +11,7 @@ use Rattle.trs_defs.specs.Run.{Run, Stay, Go}
 use Rattle.trs_defs.specs.Marked.{Marked, marked}
 use Rattle.trs_defs.specs.Chain.{ChainStep, link}
 use Rattle.trs_defs.specs.ArgumentFilter.{item_or}
-use Rattle.pair_theory.proofs.Accessibility.{down, acc_induction, run_on, run_map}
+use Rattle.pair_theory.proofs.Accessibility.{down, acc_induction, run_on}
 
 pub data Plus {A : Type 0} (r : A → A → Type 0) : A → A → Type 0 where
   once : {x y : A} → r x y → Plus r x y
