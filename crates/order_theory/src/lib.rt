@@ -2,7 +2,7 @@
 //! Knuth-Bendix order. Each function is a theorem: its contract is the statement, and it does nothing.
 #![tactic(auto)]
 
-ghost use Rattle.std.specs.Prelude.{◌≤◌, ℕ, List, Option, ◌⊎◌, ◌↔◌, IsTrue, length};
+ghost use Rattle.std.specs.Prelude.{◌≡◌, ◌≤◌, Some, ℕ, List, Option, ◌⊎◌, ◌↔◌, IsTrue, length};
 ghost use Rattle.trs_defs.specs.Member.{In};
 ghost use Rattle.trs_defs.specs.Tree.{Tree};
 ghost use Rattle.trs_defs.specs.System.{RewriteRule, System, IsSystem};
@@ -63,12 +63,18 @@ pub fn remove_by_interpretation()
         IsFiniteProblem system stays → IsFiniteProblem system pairs }
 {}
 
-/// Removal of pairs by an admissible Knuth-Bendix order.
+/// Removal of pairs by an admissible Knuth-Bendix order, with entries for all symbols of the rules
+/// and pairs: `arity` is the entries' number of arguments, which is that of the system. Symbols above
+/// 4095 are the marked ones.
 pub fn remove_by_knuth_bendix()
-    ensures finite { (system : System) (pairs stays : List DependencyPair) (weight rank : ℕ → ℕ) →
+    ensures finite { (system : System) (pairs stays : List DependencyPair) (arity : ℕ → Option ℕ) (weight rank : ℕ → ℕ) →
         IsSystem system → ((p : DependencyPair) → In p pairs → IsPair system.arities p) →
-        length system.arities ≤ 4096 → IsAdmissible (arity_with_marks system.arities) weight rank →
-        ((r : RewriteRule) → In r system.rules → KnuthWeak weight rank r.left r.right) →
+        length system.arities ≤ 4096 →
+        ((f n : ℕ) → arity f ≡ Some n → arity_with_marks system.arities f ≡ Some n) →
+        IsAdmissible arity weight rank →
+        ((r : RewriteRule) → In r system.rules →
+        IsOver arity r.left × IsOver arity r.right × KnuthWeak weight rank r.left r.right) →
+        ((p : DependencyPair) → In p pairs → IsOver arity (mark p.from) × IsOver arity (mark p.to)) →
         ((p : DependencyPair) → In p pairs →
         (In p stays × KnuthWeak weight rank (mark p.from) (mark p.to)) ⊎ KnuthGreater weight rank (mark p.from) (mark p.to)) →
         IsFiniteProblem system stays → IsFiniteProblem system pairs }

@@ -36,3 +36,4 @@ pub mod UsableRules
 pub mod Cap
 pub mod SubtermCriterion
 pub mod PairGraph
+pub mod Erased
