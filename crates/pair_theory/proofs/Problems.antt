@@ -210,10 +210,13 @@ module _ (system : System) (ok : IsSystem system) (weak strict : Tree → Tree �
         → ((p : DependencyPair) → In p pairs → (In p stays × weak (mark p.from) (mark p.to)) ⊎ strict (mark p.from) (mark p.to))
         → IsFiniteProblem system stays → IsFiniteProblem system pairs
     removal_theorem pairs stays good class rest = removal_erased always speaks_erased pairs stays
-        (λ p i. (good p i, (
-          speaks.of_marked p.from (good p i).from_well_formed,
-          speaks.of_marked p.to (good p i).to_well_formed,
-          all_have (mark p.from),
-          all_have (mark p.to),
-        )))
+        (λ p i. (
+          good p i,
+          (
+            speaks.of_marked p.from (good p i).from_well_formed,
+            speaks.of_marked p.to (good p i).to_well_formed,
+            all_have (mark p.from),
+            all_have (mark p.to),
+          ),
+        ))
         class rest

@@ -1,6 +1,6 @@
 -- Terms as an order sees them that has entries for some symbols only: a subterm whose root has no entry is read as one
 -- variable.
-use Rattle.std.specs.Prelude.{◌≡◌, ℕ, Bool, true, false, IsTrue}
+use Rattle.std.specs.Prelude.{ℕ, Bool, true, false, IsTrue}
 use Rattle.trs_defs.specs.Tree.{Tree, Trees, var, app, nil, cons}
 
 -- each symbol of the term has an entry
