@@ -98,6 +98,7 @@ pub fn remove_pairs<O: ReductionOrder>(order: &O)
 /// of its derivations (Baader and Nipkow, section 2.2).
 pub fn terminating_terms_are_bounded()
     ensures bounded { (rules : List RewriteRule) (t : Tree) →
-        ((r : RewriteRule) → In r rules → (v : ℕ) → IsTrue (has_var v r.right) → IsTrue (has_var v r.left)) →
+        ((r : RewriteRule) → In r rules → (v : ℕ) →
+        IsTrue (has_var v r.right) → IsTrue (has_var v r.left)) →
         Terminates (Among rules) t → IsBounded (StepBy (Among rules)) t }
 {}
