@@ -1,5 +1,5 @@
 -- A variable that does not occur has no coefficient and no occurrences, so that comparing the variables that occur is enough.
-use Rattle.std.proofs.Common.{◌≡◌, ℕ, ◌+◌, ◌*◌, suc, refl, arith, Bool, true, false, ◌||◌, ◌==◌, if◌then◌else◌}
+use Rattle.std.proofs.Common.{◌≡◌, ℕ, ◌*◌, suc, refl, arith, Bool, true, false, ◌||◌, ◌==◌, if◌then◌else◌}
 use Rattle.trs_defs.specs.Tree.{Tree, Trees, var, app, nil, cons}
 use Rattle.trs_defs.specs.Variable.{has_var, some_has_var, occurrences, occurrences_in_all}
 use Rattle.trs_defs.specs.LinearInterpretation.{coefficient, coefficients}
