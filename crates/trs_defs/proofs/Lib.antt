@@ -7,3 +7,6 @@ pub mod Places
 pub mod Loops
 pub mod Limits
 pub mod OrderLaws
+pub mod ArgumentLists
+pub mod BindingLaws
+pub mod VariableLaws

@@ -1,5 +1,5 @@
 -- The size and the depth of a term with another subterm at a position.
-use Rattle.std.specs.Prelude.{◌≡◌, ◌↔◌, ℕ, ◌+◌, ◌≤◌, max, Bool, true, false, ◌&&◌, nat_le, List, [], ◌∷◌, length, Some, slice_get, slice_set, refl}
+use Rattle.std.specs.Prelude.{◌≡◌, ◌↔◌, ℕ, ◌+◌, ◌≤◌, ◌<◌, max, Bool, true, false, ◌&&◌, nat_le, List, [], ◌∷◌, length, IsTrue, Some, slice_get, slice_set, refl}
 use Rattle.std.proofs.Common.{zero, suc, ap, subst, arith}
 use Rattle.std.proofs.lemmas.Bool.Decides.{nat_tests}
 use Rattle.trs_defs.specs.Tree.{Tree, var, app, trees, items, trees_items}
@@ -99,3 +99,36 @@ pub too_large_inside : (p : List ℕ) (t part new u : Tree) → subterm_at p t �
 too_large_inside p t part new u at e h =
     let k = replaced_measured p t part new u at e in
     not_within _ _ _ _ h (smaller_within (size_of new) (size_of u) 65536 (omega arith)) (smaller_within (depth_of new) (depth_of u) 1024 (omega arith))
+
+both : (a b : Bool) → IsTrue (a && b) → IsTrue a × IsTrue b
+both true b h = (refl, h)
+both false b h = absurd cc
+
+at_most : (m n : ℕ) → IsTrue (nat_le m n) → m ≤ n
+at_most m n h = grind (arith, nat_tests)
+
+test_of : (m n : ℕ) → m ≤ n → nat_le m n ≡ true
+test_of m n h = grind (arith, nat_tests)
+
+no_test_of : (m n : ℕ) → n < m → nat_le m n ≡ false
+no_test_of m n h = grind (arith, nat_tests)
+
+and_false : (a b : Bool) → b ≡ false → (a && b) ≡ false
+and_false true b e = e
+and_false false b e = refl
+
+-- The limits as a test, and as facts on the size and the depth.
+pub limits_size : (t : Tree) → IsTrue (within_limits t) → size_of t ≤ 65536
+limits_size t h = at_most (size_of t) 65536 (both (nat_le (size_of t) 65536) (nat_le (depth_of t) 1024) h).0
+
+pub limits_depth : (t : Tree) → IsTrue (within_limits t) → depth_of t ≤ 1024
+limits_depth t h = at_most (depth_of t) 1024 (both (nat_le (size_of t) 65536) (nat_le (depth_of t) 1024) h).1
+
+pub limits_kept : (t : Tree) → size_of t ≤ 65536 → depth_of t ≤ 1024 → IsTrue (within_limits t)
+limits_kept t h k = rw (test_of (size_of t) 65536 h, test_of (depth_of t) 1024 k) refl
+
+pub limits_passed_by_size : (t : Tree) → 65536 < size_of t → within_limits t ≡ false
+limits_passed_by_size t h = rw (no_test_of (size_of t) 65536 h) refl
+
+pub limits_passed_by_depth : (t : Tree) → 1024 < depth_of t → within_limits t ≡ false
+limits_passed_by_depth t h = and_false (nat_le (size_of t) 65536) (nat_le (depth_of t) 1024) (no_test_of (depth_of t) 1024 h)

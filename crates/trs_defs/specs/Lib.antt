@@ -37,3 +37,15 @@ pub mod Cap
 pub mod SubtermCriterion
 pub mod PairGraph
 pub mod Erased
+pub mod Confluence
+pub mod Ranks
+pub mod LabelledPath
+pub mod RanksFit
+pub mod ParallelStep
+pub mod Linear
+pub mod Overlap
+pub mod Peak
+pub mod Unifier
+pub mod CriticalPeak
+pub mod RuleRanks
+pub mod UniqueNormalForms

@@ -1,0 +1,11 @@
+pub mod Joins
+pub mod Runs
+pub mod BoundedRuns
+pub mod BetweenRuns
+pub mod Strong
+pub mod Tiles
+pub mod Decreasing
+pub mod Within
+pub mod Maps
+pub mod Paths
+pub mod Example

@@ -1,0 +1,10 @@
+pub mod VariableNames
+pub mod Leasts
+pub mod OneSystem
+pub mod SymbolTables
+pub mod NoFaults
+pub mod NumberedTerms
+pub mod TermReadings
+pub mod SideReadings
+pub mod RuleCounts
+pub mod Faultless

@@ -1,0 +1,4 @@
+pub mod ProofProblem
+pub mod ProofStep
+pub mod Applies
+pub mod Refused

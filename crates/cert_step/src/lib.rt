@@ -1,0 +1,12 @@
+//! Claims, the problems that a proof splits them into, and one step of a proof: what it asks, what
+//! it leaves, and why it is sound. Each kind of step has a file of its own, by the step's word.
+#![tactic(auto)]
+
+mod claim;
+mod problem;
+mod step;
+
+pub use claim::Claim;
+pub use problem::Problem;
+pub use rewrite_core::ForkTest;
+pub use step::{NodeStep, Step};

@@ -1,0 +1,80 @@
+-- What the words of the command line ask for.
+use Rattle.std.specs.Prelude.{◌≡◌, ℕ, ◌&&◌, Bool, true, false, nat_le, List, [], ◌∷◌, Option, Some, None, Result, Ok, Err, codes, if◌then◌else◌}
+use Rattle.std.specs.Str.{bytes_eq}
+use Rattle.clap.specs.Words.{App, Row, Rule, Text, Kinds, fault_of, first_of, matches_of, new_app, new_rule, with_rule}
+use Rattle.clap.specs.Simple.{on_top}
+use Rattle.numerals.specs.Numerals.{numeral_value}
+use Rattle.command_line.specs.declared.Request.{Request}
+use Rattle.command_line.specs.declared.Request.TheVariants as request
+use Rattle.command_line.specs.declared.Refused.{Refused}
+use Rattle.command_line.specs.declared.Refused.TheVariants.{Usage, OutOfMemory}
+
+abbrev pub required_rule : Text → Rule
+required_rule id = record (new_rule id) { required = true }
+
+abbrev pub option_rule : Text → Rule
+option_rule id = record (new_rule id) { long = Some id }
+
+-- no word names the program, and there is no help and no version flag
+abbrev pub plain_app : App
+plain_app =
+    on_top (λ s. record s { no_binary_name = true; disable_help_flag = true; disable_version_flag = true })
+    (new_app (codes "trsprove"))
+
+-- the simple command <action> <problem> [certificate] [--workers N] [--budget B]
+unfoldable pub command_app : App
+command_app =
+    with_rule (with_rule (with_rule (with_rule (with_rule plain_app
+    (required_rule (codes "action"))) (required_rule (codes "problem"))) (new_rule (codes "certificate")))
+    (option_rule (codes "workers"))) (option_rule (codes "budget"))
+
+-- what is asked for, as texts
+pub data Asked : Type 0 where
+  certifies : (problem certificate : Text) → Asked
+
+abbrev pub is_at_least_one : Option ℕ → Bool
+is_at_least_one None = false
+is_at_least_one (Some n) = nat_le 1 n
+
+-- the value of an option is left out, or a whole number from 1 to a limit
+abbrev pub is_good : ℕ → Option Text → Bool
+is_good limit None = true
+is_good limit (Some w) = is_at_least_one (numeral_value limit w)
+
+-- an action with its texts, where the options are good
+unfoldable pub certification : Bool → Text → Text → Text → Option Asked
+certification good action problem certificate =
+    if good && bytes_eq action (codes "certify") then Some (certifies problem certificate) else None
+
+abbrev pub asked_by_texts : Bool → Option Text → Option Text → Option Text → Option Asked
+asked_by_texts good None problem certificate = None
+asked_by_texts good (Some action) None certificate = None
+asked_by_texts good (Some action) (Some problem) None = None
+asked_by_texts good (Some action) (Some problem) (Some certificate) = certification good action problem certificate
+
+-- one worker, and a budget of at most a million steps
+abbrev pub asked_with : Option Text → Option Text → Option Text → Option Text → Option Text → Option Asked
+asked_with action problem certificate workers budget =
+    asked_by_texts (is_good 1 workers && is_good 1000000 budget) action problem certificate
+
+abbrev pub asked_by : List Row → Option Asked
+asked_by rows =
+    asked_with (first_of (codes "action") rows) (first_of (codes "problem") rows) (first_of (codes "certificate") rows)
+    (first_of (codes "workers") rows) (first_of (codes "budget") rows)
+
+-- where clap has no fault to find
+abbrev pub where_none : Kinds → Option Asked → Option Asked
+where_none [] asked = asked
+where_none (k ∷ ks) asked = None
+
+-- what the words ask for, if anything: what clap's rules for the simple command match, by the rules of the product
+unfoldable pub request_of : List Text → Option Asked
+request_of words = where_none (fault_of command_app words) (asked_by (matches_of command_app words))
+
+abbrev pub request_view : Request → Asked
+request_view (request.Certify problem certificate) = certifies problem.now certificate.now
+
+abbrev pub Answers : Result Request Refused → Option Asked → Type 0
+Answers (Ok r) asked = asked ≡ Some (request_view r)
+Answers (Err Usage) asked = asked ≡ None
+Answers (Err OutOfMemory) asked = Unit {0}

@@ -1,0 +1,13 @@
+pub mod Free
+pub mod Families
+pub mod Systems
+pub mod Substitutions
+pub mod LinearInstances
+pub mod AnyInstances
+pub mod RulePeaks
+pub mod NestedSteps
+pub mod RankedPeaks
+pub mod StrongPeaks
+pub mod JoinedPeaks
+pub mod ParallelPeaks
+pub mod Claims

@@ -1,0 +1,3 @@
+pub mod StepLemmas
+pub mod PutLemmas
+pub mod PathLemmas

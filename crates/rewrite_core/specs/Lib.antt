@@ -1,0 +1,5 @@
+pub mod Steps
+pub mod Current
+pub mod Paths
+pub mod Laws
+pub mod LoopRefusal

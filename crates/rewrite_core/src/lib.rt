@@ -1,0 +1,18 @@
+//! Steps of a system at positions, paths of steps, and loops.
+//! (Baader and Nipkow, Term Rewriting and All That, definition 3.1.8 and section 5.1.)
+#![tactic(auto)]
+
+mod current;
+mod forks;
+mod laws;
+mod loops;
+mod paths;
+mod refusals;
+mod steps;
+
+pub use forks::ForkTest;
+pub use laws::each_step_has_a_place;
+pub use loops::loop_check;
+pub use paths::{PathFault, PathStep, run_path};
+pub use refusals::{CheckFault, StepRefused};
+pub use steps::{StepFault, step_at};

@@ -1,0 +1,6 @@
+pub mod Bytes
+pub mod Once
+pub mod Viewing
+pub mod Stack
+pub mod Again
+pub mod Words
