@@ -36,6 +36,7 @@ pub mod UsableRules
 pub mod Cap
 pub mod SubtermCriterion
 pub mod PairGraph
+pub mod Erased
 pub mod Confluence
 pub mod Ranks
 pub mod LabelledPath
