@@ -12,3 +12,8 @@ pub use laws::each_step_has_a_place;
 pub use loops::loop_check;
 pub use paths::{PathFault, PathStep, run_path};
 pub use steps::{StepFault, step_at};
+
+#[cfg(test)]
+mod slow;
+#[cfg(test)]
+mod tests;
