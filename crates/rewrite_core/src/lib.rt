@@ -8,7 +8,7 @@ mod loops;
 mod paths;
 mod steps;
 
-pub use laws::each_step_has_a_place;
+pub use laws::{each_position_has_small_places, each_step_has_a_place};
 pub use loops::loop_check;
 pub use paths::{PathFault, PathStep, run_path};
 pub use steps::{StepFault, step_at};

@@ -10,3 +10,4 @@ pub mod ArgumentLists
 pub mod BindingLaws
 pub mod OrderLaws
 pub mod VariableLaws
+pub mod WellFormedness
