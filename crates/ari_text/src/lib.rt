@@ -2,5 +2,6 @@
 #![tactic(auto)]
 
 mod fault;
+mod names;
 
 pub use fault::AriFault;
