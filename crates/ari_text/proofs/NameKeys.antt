@@ -54,7 +54,7 @@ distinct_last (n ∷ ns) name h e =
     rw (list_any-append (bytes_eq n) ns (name ∷ []), nat_list_eq_equiv.symm n name)
     (last_behind (list_any (bytes_eq n) ns) (are_distinct ns) (bytes_eq name n) (list_any (bytes_eq name) ns) _ h e (distinct_last ns name))
 
-abbrev Key : Type 0
+abbrev pub Key : Type 0
 Key = Vec ℕ Global
 
 abbrev pub texts : List Key → List (List ℕ)

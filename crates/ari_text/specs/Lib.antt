@@ -6,3 +6,4 @@ pub mod Least
 pub mod Faults
 pub mod Named
 pub mod Problem
+pub mod NameTable
