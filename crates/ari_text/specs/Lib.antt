@@ -7,3 +7,4 @@ pub mod Faults
 pub mod Named
 pub mod Problem
 pub mod NameTable
+pub mod FaultParts
