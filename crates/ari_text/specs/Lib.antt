@@ -8,3 +8,4 @@ pub mod Named
 pub mod Problem
 pub mod NameTable
 pub mod FaultParts
+pub mod EntryView

@@ -1,7 +1,11 @@
 //! Problem texts: the ARI format of the termination and confluence competitions, format TRS, read and printed.
 #![tactic(auto)]
 
+mod digits;
+mod entry;
 mod fault;
 mod names;
+mod symbols;
 
+pub use digits::digits_value;
 pub use fault::AriFault;
