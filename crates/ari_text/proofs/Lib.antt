@@ -1,2 +1,4 @@
 pub mod NameKeys
 pub mod SymbolPairs
+pub mod Rooms
+pub mod VariableKeys

@@ -9,3 +9,4 @@ pub mod Problem
 pub mod NameTable
 pub mod FaultParts
 pub mod EntryView
+pub mod Counted

@@ -1,11 +1,13 @@
 //! Problem texts: the ARI format of the termination and confluence competitions, format TRS, read and printed.
 #![tactic(auto)]
 
+mod counting;
 mod digits;
 mod entry;
 mod fault;
 mod names;
 mod symbols;
+mod variables;
 
 pub use digits::digits_value;
 pub use fault::AriFault;
