@@ -1,4 +1,5 @@
 pub mod NameKeys
 pub mod SymbolPairs
 pub mod Rooms
+pub mod Noting
 pub mod VariableKeys

@@ -10,3 +10,4 @@ pub mod NameTable
 pub mod FaultParts
 pub mod EntryView
 pub mod Counted
+pub mod ScopeView

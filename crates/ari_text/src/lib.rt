@@ -1,6 +1,7 @@
 //! Problem texts: the ARI format of the termination and confluence competitions, format TRS, read and printed.
 #![tactic(auto)]
 
+mod checking;
 mod counting;
 mod digits;
 mod entry;
