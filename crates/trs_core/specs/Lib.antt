@@ -1,6 +1,9 @@
+pub mod Faults
 pub mod Limits
 pub mod Matching
-pub mod View
-pub mod ViewFalls
+pub mod Occurrences
+pub mod RuleChecks
 pub mod SystemLimits
 pub mod Valid
+pub mod View
+pub mod ViewFalls

@@ -6,6 +6,9 @@
 mod applying;
 mod bindings;
 mod checking;
+mod extra;
+mod faults;
+mod limits;
 mod matching;
 mod memory;
 mod positions;
@@ -15,6 +18,7 @@ mod terms;
 
 pub use applying::ApplySize;
 pub use bindings::Subst;
+pub use faults::TrsFault;
 pub use matching::match_term;
 pub use memory::OutOfMemory;
 pub use positions::Position;

@@ -1,7 +1,8 @@
 use Rattle.std.proofs.Common.{◌∙◌, ap, sym, arith}
 use Rattle.trs_defs.specs.Tree.{trees}
 use Rattle.trs_core.specs.View.{tree}
-use Rattle.trs_core.proofs.Comparing.{applications, AreApplications, next_pair, then_unequal, then_first_equal}
+use Rattle.trs_core.proofs.Comparing.{applications, AreApplications, next_pair, then_first_equal}
+use Rattle.trs_defs.proofs.OrderLaws.{then_unequal}
 use Rattle.trs_core.proofs.terms.Term.+compare.Goals.{After-then}
 use Rattle.trs_core.proofs.terms.Term.+compare.Goals as goal
 
