@@ -1,12 +1,14 @@
 -- The least fault of two lists.
-use Rattle.std.proofs.Common.{◌≡◌, ◌∙◌, sym, Vec, Global, ◌⊎◌, inl, inr, ◌-◌, ◌^◌, ℕ, suc, ◌+◌, ◌<◌, ◌≤◌, min, ap, ap₂, length, List, [], ◌∷◌, ◌++◌, Option, refl, arith, cond, true, false}
+use Rattle.std.proofs.Common.{◌≡◌, ◌∙◌, sym, Vec, Global, ◌⊎◌, inl, inr, ◌-◌, ◌^◌, ℕ, suc, ◌+◌, ◌<◌, ◌≤◌, min, ap, ap₂, length, List, [], ◌∷◌, ◌++◌, Option, Some, None, refl, arith, cond, true, false}
 use Rattle.std.proofs.lemmas.Bool.Decides.{nat_tests}
 use Rattle.sexp_core.specs.declared.sexp.Sexp.{Sexp, List as list_of, Word as word_of}
 use Rattle.sexp_core.proofs.Viewing.{view_list, view_word}
 use Rattle.sexp_core.specs.Items.{Item, a_word, a_list, Items, no_items, item, view, views}
+use Rattle.ari_text.specs.Entries.{Saying}
+use Rattle.ari_text.specs.EntryView.{with_attribute}
 use Rattle.ari_text.specs.ScopeView.{IsBelow}
 use Rattle.ari_text.specs.Symbols.{Declared, arity_of}
-use Rattle.ari_text.specs.Faults.{count, Scope, depth_faults, word_faults, head_faults, term_faults, list_faults, args_faults}
+use Rattle.ari_text.specs.Faults.{count, Scope, depth_faults, word_faults, head_faults, term_faults, list_faults, args_faults, rule_faults}
 use Rattle.ari_text.specs.declared.fault.AriFault.{AriFault}
 use Rattle.ari_text.specs.Least.{earlier, noted}
 
@@ -58,3 +60,8 @@ noted_list symbols scope d m at p v head args w x y z e b hx hy hz =
     let term : view (list_of v at) ≡ a_list (item (a_word head.items p) (views args)) at = view_list v at ∙ ap (λ xs. a_list xs at) members in
     rw (term, hz, args_below symbols scope d m (views args) b, hy, hx)
     (sym (noted_append w (depth_faults d at) (H ++ A) ∙ noted_append (noted w (depth_faults d at)) H A))
+
+-- an attribute does not change the faults of the terms
+pub rule_faults_aside : (symbols : List Declared) (s : Saying) (attribute : Option ℕ) → rule_faults symbols (with_attribute s attribute) ≡ rule_faults symbols s
+rule_faults_aside symbols s None = refl
+rule_faults_aside symbols s (Some at) = refl

@@ -14,7 +14,7 @@ note_term-returns-in-Some-Word-default t c =
     let arm = c.in-Some-Word-default in
     let before = c.note_depth-in-List.new.least in
     let members : c.in-List.members.items ≡ word_of arm.head arm.head_at ∷ arm.args.now =
-        sym c.deref-in-List.ensures.value ∙ arm.ensures.cases.0 ∙ ap (λ (i : Sexp). i ∷ arm.args.now) arm.field-0-0-is in
+    sym c.deref-in-List.ensures.value ∙ arm.ensures.cases.0 ∙ ap (λ (i : Sexp). i ∷ arm.args.now) arm.field-0-0-is in
     let head : c.note_head.new.least ≡ noted before (head_faults c.in-List.at arm.head_at (count (views arm.args.now)) (arity_of symbols arm.head.items)) = search rules in
     let all = noted_list symbols (scope_view c.args.scope.now) c.args.depth c.below.result c.in-List.at arm.head_at c.in-List.members arm.head arm.args.now c.args.least.now before _ _ members
     c.below.ensures c.note_depth-in-List.ensures head c.note_args.ensures in
