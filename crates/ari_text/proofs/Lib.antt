@@ -3,3 +3,13 @@ pub mod SymbolPairs
 pub mod Rooms
 pub mod Noting
 pub mod VariableKeys
+pub mod VariableNames
+pub mod Leasts
+pub mod OneSystem
+pub mod SymbolTables
+pub mod NoFaults
+pub mod NumberedTerms
+pub mod TermReadings
+pub mod SideReadings
+pub mod RuleCounts
+pub mod Faultless

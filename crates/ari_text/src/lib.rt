@@ -9,6 +9,8 @@ mod fault;
 mod names;
 mod symbols;
 mod variables;
+mod laws;
 
 pub use digits::digits_value;
 pub use fault::AriFault;
+pub use laws::least_is_least;
