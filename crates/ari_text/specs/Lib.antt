@@ -7,3 +7,6 @@ pub mod Faults
 pub mod Named
 pub mod Problem
 pub mod NameTable
+pub mod VariableNames
+pub mod PrintedProblem
+pub mod NamesFault

@@ -3,5 +3,9 @@
 
 mod fault;
 mod names;
+mod named;
+mod names_fault;
 
 pub use fault::AriFault;
+pub use named::NamedTrs;
+pub use names_fault::NamesFault;

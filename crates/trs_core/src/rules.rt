@@ -1,5 +1,6 @@
 ghost use Rattle.std.specs.Prelude.{◌≡◌};
 ghost use Rattle.trs_defs.specs.System.{IsSystem};
+ghost use Rattle.trs_core.specs.SystemLimits.{IsWithinLimits, HaveSmallVariables};
 
 use crate::Term;
 use std::marker::Model;
@@ -30,7 +31,8 @@ pub struct Trs {
 }
 
 impl Model for Trs {
-    ghost use Rattle.trs_defs.specs.System.{System, system_code, IsSystem};
+    ghost use Rattle.trs_defs.specs.System.{System, system_code};
+    ghost use Rattle.trs_core.specs.Valid.{IsValid};
 
     ghost Value = { System };
 
@@ -38,7 +40,7 @@ impl Model for Trs {
 
     ghost view = { λ a. record { arities = a.arities.items; rules = a.rules.items } };
 
-    ghost invariant = { λ a. IsSystem (record { arities = a.arities.items; rules = a.rules.items }) };
+    ghost invariant = { λ a. IsValid (record { arities = a.arities.items; rules = a.rules.items }) };
 }
 
 impl Trs {
@@ -51,6 +53,8 @@ impl Trs {
     pub fn rules(&self) -> &[Rule]
         ensures rules { result.now ≡ self.now.rules }
         ensures valid { IsSystem self.now }
+        ensures limits { IsWithinLimits self.now }
+        ensures variables { HaveSmallVariables self.now.rules }
     {
         &self.rules
     }
