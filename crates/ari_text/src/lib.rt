@@ -2,10 +2,14 @@
 #![tactic(auto)]
 
 mod fault;
-mod names;
 mod named;
+mod names;
 mod names_fault;
+mod printing;
+mod variable_names;
 
 pub use fault::AriFault;
 pub use named::NamedTrs;
 pub use names_fault::NamesFault;
+pub use printing::{print_problem, put_term};
+pub use variable_names::{put_variable, underscores};

@@ -3,3 +3,4 @@ pub mod Bytes
 pub mod Stack
 pub mod Once
 pub mod Again
+pub mod Existence
