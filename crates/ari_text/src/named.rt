@@ -1,8 +1,10 @@
-ghost use Rattle.std.specs.Prelude.{◌≡◌, ◌+◌, ◌<◌, ◌≤◌, map, length, slice_get, Some, IfOk};
+ghost use Rattle.std.specs.Prelude.{◌≡◌, ◌+◌, ◌<◌, ◌≤◌, map, length, slice_get, Some, option_map, IfOk, List, [], ℕ};
+ghost use Rattle.std.specs.List.{list_all};
 ghost use Rattle.sexp_core.specs.Tokens.{class_of, is_letter};
 ghost use Rattle.trs_core.specs.View.{tree};
 ghost use Rattle.ari_text.specs.Names.{number_among};
 ghost use Rattle.ari_text.specs.Named.{IsNamed, is_word, is_shallow, is_numbered, next_number};
+ghost use Rattle.ari_text.specs.declared.names_fault.NamesFault.TheVariants.{BadName};
 ghost use Rattle.ari_text.specs.NamesFault.{names_fault, first_bad_name, AnswersBy};
 
 use crate::names::Names;
@@ -92,10 +94,17 @@ fn distinct_words(alloc: Global, names: Vec<Vec<u8>>) -> Result<Names, NamesFaul
     Ok(known)
 }
 
+#[tactic(auto, using(crate::proofs::NamedSteps::word_test))]
 fn is_word(name: &[u8]) -> bool
     ensures { result ≡ is_word name.now }
 {
-    !name.is_empty() && name.iter().all(|b| is_letter(*b))
+    !name.is_empty() && are_letters(name)
+}
+
+fn are_letters(name: &[u8]) -> bool
+    ensures { result ≡ list_all (λ x. is_letter (class_of x)) name.now }
+{
+    name.iter().all(|b| is_letter(*b))
 }
 
 /// Whether a byte may stand in a word.

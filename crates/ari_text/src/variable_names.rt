@@ -10,8 +10,9 @@ use trs_core::OutOfMemory;
 pub fn underscores(system: &NamedTrs) -> usize
     ensures { result ≡ underscores system.now.names }
 {
+    let symbols = system.trs().arities().len() as u32;
     let mut most = 1;
-    for f in 0..system.trs().arities().len() as u32 {
+    for f in 0..symbols {
         most = most.max(leading_underscores(system.name(f)) + 1);
     }
     most
@@ -36,7 +37,7 @@ fn leading_underscores(name: &[u8]) -> usize
 pub fn put_variable(out: &mut Vec<u8>, underscores: usize, variable: u32) -> Result<(), OutOfMemory>
     ensures { OnOk result (out.new.items ≡ out.old.items ++ variable_name underscores variable) }
 {
-    for _ in 0..underscores {
+    for _i in 0..underscores {
         out.push(b'_')?;
     }
     let mut buffer = Buffer::new();
