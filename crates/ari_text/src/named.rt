@@ -1,11 +1,11 @@
-ghost use Rattle.std.specs.Prelude.{◌≡◌, ◌+◌, ◌<◌, ◌≤◌, map, length, slice_get, Some, option_map, IfOk, List, [], ℕ};
+ghost use Rattle.std.specs.Prelude.{◌≡◌, ◌+◌, ◌<◌, ◌≤◌, map, length, slice_get, Some, option_map, position, not, IfOk, IfSome, List, [], ℕ};
 ghost use Rattle.std.specs.List.{list_all};
 ghost use Rattle.sexp_core.specs.Tokens.{class_of, is_letter};
 ghost use Rattle.trs_core.specs.View.{tree};
 ghost use Rattle.ari_text.specs.Names.{number_among};
 ghost use Rattle.ari_text.specs.Named.{IsNamed, is_word, is_shallow, is_numbered, next_number};
 ghost use Rattle.ari_text.specs.declared.names_fault.NamesFault.TheVariants.{BadName};
-ghost use Rattle.ari_text.specs.NamesFault.{names_fault, first_bad_name, AnswersBy};
+ghost use Rattle.ari_text.specs.NamesFault.{names_fault, rules_fault, first_bad_name, AnswersBy};
 
 use crate::names::Names;
 use crate::names_fault::NamesFault;
@@ -43,13 +43,10 @@ impl NamedTrs {
             return Err(NamesFault::Count);
         }
         let names = distinct_words(alloc, names)?;
-        if let Some(i) = trs.rules().iter().position(|rule| !is_shallow(rule)) {
-            return Err(NamesFault::TooDeep(i as u32));
+        match rules_fault(trs.rules()) {
+            Some(fault) => Err(fault),
+            None => Ok(NamedTrs { names, trs }),
         }
-        if let Some(i) = trs.rules().iter().position(|rule| !is_numbered(rule)) {
-            return Err(NamesFault::BadNumbering(i as u32));
-        }
-        Ok(NamedTrs { names, trs })
     }
 
     pub fn trs(&self) -> &Trs
@@ -113,6 +110,34 @@ fn is_letter(b: u8) -> bool
     ensures { result ≡ is_letter (class_of b) }
 {
     !matches!(b, b' ' | b'\t' | b'\n' | b'\r' | b';' | b'(' | b')' | 0..=31 | 127)
+}
+
+/// The fault of the first rule that has one.
+fn rules_fault(rules: &[Rule]) -> Option<NamesFault>
+    requires { length rules.now ≤ 4095 }
+    ensures { result ≡ rules_fault rules.now }
+{
+    match first_deep(rules) {
+        Some(i) => Some(NamesFault::TooDeep(i as u32)),
+        None => match first_unnumbered(rules) {
+            Some(i) => Some(NamesFault::BadNumbering(i as u32)),
+            None => None,
+        },
+    }
+}
+
+fn first_deep(rules: &[Rule]) -> Option<usize>
+    ensures first { result ≡ position (λ r. not (is_shallow r)) rules.now }
+    ensures within { IfSome result (λ i. i < length rules.now) }
+{
+    rules.iter().position(|rule| !is_shallow(rule))
+}
+
+fn first_unnumbered(rules: &[Rule]) -> Option<usize>
+    ensures first { result ≡ position (λ r. not (is_numbered r)) rules.now }
+    ensures within { IfSome result (λ i. i < length rules.now) }
+{
+    rules.iter().position(|rule| !is_numbered(rule))
 }
 
 fn is_shallow(rule: &Rule) -> bool
