@@ -1,3 +1,4 @@
 pub mod NameKeys
 pub mod PrintedText
 pub mod NamedSteps
+pub mod Placeless
