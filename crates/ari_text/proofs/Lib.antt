@@ -13,3 +13,6 @@ pub mod TermReadings
 pub mod SideReadings
 pub mod RuleCounts
 pub mod Faultless
+pub mod PrintedText
+pub mod NamedSteps
+pub mod Placeless

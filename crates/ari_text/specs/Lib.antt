@@ -11,3 +11,6 @@ pub mod FaultParts
 pub mod EntryView
 pub mod Counted
 pub mod ScopeView
+pub mod VariableNames
+pub mod PrintedProblem
+pub mod NamesFault

@@ -4,3 +4,4 @@ pub mod Stack
 pub mod Once
 pub mod Again
 pub mod Words
+pub mod Existence
