@@ -2,6 +2,7 @@ pub mod NameKeys
 pub mod SymbolPairs
 pub mod Rooms
 pub mod Noting
+pub mod BuiltTerms
 pub mod VariableKeys
 pub mod VariableNames
 pub mod Leasts

@@ -1,6 +1,7 @@
 //! Problem texts: the ARI format of the termination and confluence competitions, format TRS, read and printed.
 #![tactic(auto)]
 
+mod building;
 mod checking;
 mod counting;
 mod digits;
