@@ -17,3 +17,5 @@ pub mod Faultless
 pub mod PrintedText
 pub mod NamedSteps
 pub mod Placeless
+pub mod ItemFaults
+pub mod Refusals

@@ -14,3 +14,4 @@ pub mod ScopeView
 pub mod VariableNames
 pub mod PrintedProblem
 pub mod NamesFault
+pub mod PartsView

@@ -241,16 +241,16 @@ fn note_count(least: &mut Option<AriFault>, room: &mut Room, at: u32, entry: &En
     }
 }
 
-/// What the items declare: the symbols, and the least of the faults up to here.
+/// The declared symbols, and the least of the faults so far.
 #[derive(Drop)]
-pub struct Declarations {
+pub struct Checked {
     pub symbols: Symbols,
     pub least: Option<AriFault>,
 }
 
-/// What the items declare, with the faults of the declarations.
+// What the items declare, and the least of the faults of that.
 #[tactic(auto, using(crate::proofs::Noting::noted_append, std::proofs::lemmas::Grind::common_steps))]
-pub fn read_declarations(alloc: Global, items: &[Sexp]) -> Result<Declarations, AllocError>
+fn check_declarations(alloc: Global, items: &[Sexp]) -> Result<Checked, AllocError>
     ensures symbols { IfOk result (λ d. d.symbols ≡ symbols_of [] (views items.now)) }
     ensures least { IfOk result (λ d. d.least ≡ noted None (all_declaration_faults [] whole_room (views items.now))) }
 {
@@ -264,12 +264,12 @@ pub fn read_declarations(alloc: Global, items: &[Sexp]) -> Result<Declarations, 
         note_entry(&mut least, &symbols, at, &entry);
         declare(&mut symbols, alloc, &entry)?;
     }
-    Ok(Declarations { symbols, least })
+    Ok(Checked { symbols, least })
 }
 
-/// The least of a fault that is known, if any, and those of the terms.
+// Notes the faults of the terms.
 #[tactic(auto, using(crate::proofs::Noting::noted_append, std::proofs::lemmas::Grind::common_steps))]
-pub fn note_rules(
+fn note_rules(
     least: &mut Option<AriFault>,
     alloc: Global,
     symbols: &Symbols,
@@ -281,4 +281,15 @@ pub fn note_rules(
         note_rule(least, alloc, symbols, item)?;
     }
     Ok(())
+}
+
+/// The symbols that the items behind the format declare, and the least of all faults of these items.
+#[tactic(auto, using(crate::proofs::Noting::noted_append, std::proofs::lemmas::Grind::common_steps))]
+pub fn check(alloc: Global, items: &[Sexp]) -> Result<Checked, AllocError>
+    ensures symbols { IfOk result (λ c. c.symbols ≡ symbols_of [] (views items.now)) }
+    ensures least { IfOk result (λ c. c.least ≡ noted None (faults_of (views items.now))) }
+{
+    let mut checked = check_declarations(alloc, items)?;
+    note_rules(&mut checked.least, alloc, &checked.symbols, items)?;
+    Ok(checked)
 }

@@ -49,6 +49,14 @@ impl NamedTrs {
         }
     }
 
+    /// The system of these parts.
+    pub fn from_parts(names: Names, trs: Trs) -> NamedTrs
+        requires { IsNamed (record { names = names; system = trs }) }
+        ensures { result ≡ record { names = names; system = trs } }
+    {
+        NamedTrs { names, trs }
+    }
+
     pub fn trs(&self) -> &Trs
         ensures trs { result.now ≡ self.now.system }
         ensures named { IsNamed self.now }
@@ -109,7 +117,10 @@ fn are_letters(name: &[u8]) -> bool
 fn is_letter(b: u8) -> bool
     ensures { result ≡ is_letter (class_of b) }
 {
-    !matches!(b, b' ' | b'\t' | b'\n' | b'\r' | b';' | b'(' | b')' | 0..=31 | 127)
+    !matches!(
+        b,
+        b' ' | b'\t' | b'\n' | b'\r' | b';' | b'(' | b')' | 0..=31 | 127
+    )
 }
 
 /// The fault of the first rule that has one.

@@ -2,7 +2,7 @@ use Rattle.std.proofs.Common.{◌≡◌, drop, [], None}
 use Rattle.sexp_core.specs.Items.{views}
 use Rattle.ari_text.specs.Least.{noted}
 use Rattle.ari_text.specs.Faults.{symbols_of, all_declaration_faults, whole_room}
-use Rattle.ari_text.proofs.checking.read_declarations.Given as goal
+use Rattle.ari_text.proofs.checking.check_declarations.Given as goal
 
 abbrev pub invariant-loop-item : goal.invariant-loop-item
 invariant-loop-item l = record {
