@@ -25,3 +25,6 @@ pub use names_fault::NamesFault;
 pub use printing::{print_problem, put_term};
 pub use reading::read_problem;
 pub use variable_names::{put_variable, underscores};
+
+#[cfg(test)]
+mod reading_tests;
