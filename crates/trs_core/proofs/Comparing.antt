@@ -7,7 +7,7 @@ use Rattle.std.specs.Ordering.{ordering_then, ordering_index}
 use Rattle.std.specs.FinMap.{nat_cmp-IsAntisymmetric}
 use Rattle.trs_defs.specs.Tree.{Tree, app, count}
 use Rattle.trs_defs.specs.Order.{tree_cmp, trees_cmp}
-use Rattle.trs_defs.proofs.OrderLaws.{tree_cmp_equal, tree_cmp_same}
+use Rattle.trs_defs.proofs.OrderLaws.{tree_cmp_equal, tree_cmp_same, then_assoc, both_equal}
 use Rattle.trs_core.specs.declared.terms.Term.{Term}
 use Rattle.trs_core.specs.View.{tree, forest}
 
@@ -15,26 +15,11 @@ pub count_forest : (ts : List Term) → count (forest ts) ≡ length ts
 count_forest [] = refl
 count_forest (t ∷ ts) = omega (arith, count_forest ts)
 
-pub then_both : (a b : Ordering) → ordering_then a b ≡ Equal → (a ≡ Equal) × (b ≡ Equal)
-then_both Less b e = absurd cc
-then_both Greater b e = absurd cc
-then_both Equal b e = (refl, e)
-
-pub then_unequal : (a b : Ordering) → (a ≡ Equal → ⊥) → ordering_then a b ≡ a
-then_unequal Less b n = refl
-then_unequal Greater b n = refl
-then_unequal Equal b n = absurd (n refl)
-
-pub then_assoc : (a b c : Ordering) → ordering_then (ordering_then a b) c ≡ ordering_then a (ordering_then b c)
-then_assoc Less b c = refl
-then_assoc Equal b c = refl
-then_assoc Greater b c = refl
-
 pub app_cmp : (f g : ℕ) (ts us : List Term) → tree_cmp (app f (forest ts)) (app g (forest us)) ≡ ordering_then (ordering_then (nat_cmp f g) (nat_cmp (length ts) (length us))) (trees_cmp (forest ts) (forest us))
 app_cmp f g ts us = rw (count_forest ts, count_forest us) (sym (then_assoc (nat_cmp f g) (nat_cmp (length ts) (length us)) (trees_cmp (forest ts) (forest us))))
 
 pub same_heads : (f g n m : ℕ) → ordering_then (nat_cmp f g) (nat_cmp n m) ≡ Equal → n ≡ m
-same_heads f g n m e = nat_cmp-IsAntisymmetric n m (then_both (nat_cmp f g) (nat_cmp n m) e).1
+same_heads f g n m e = nat_cmp-IsAntisymmetric n m (both_equal (nat_cmp f g) (nat_cmp n m) e).1
 
 -- the order of the rest of two lists, from the next two items
 pub trees_cmp_drop : (ts us : List Term) (i : ℕ) (d e : Term) → i < length ts → i < length us

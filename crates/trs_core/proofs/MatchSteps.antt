@@ -1,40 +1,15 @@
 -- The steps of matching.
-use Rattle.std.proofs.Common.{◌≡◌, ℕ, suc, ◌+◌, ◌<◌, ◌≤◌, ◌⊎◌, inl, inr, Bool, true, false, cond, IsTrue, ◌↔◌, List, [], ◌∷◌, length, drop, get_or, Some, None, refl, ap, sym, ◌∙◌, arith, add-one, drop-cons, nat_cmp}
-use Rattle.std.specs.declared.cmp.Ordering.{Ordering}
-use Rattle.std.specs.declared.cmp.Ordering.TheVariants.{Less, Equal, Greater}
-use Rattle.std.specs.Ordering.{eq_by_cmp, is_eq}
-use Rattle.std.specs.Cmp.{nat_cmp_total, eq_by_cmp_equiv}
-use Rattle.std.specs.FinMap.{FinMap, insert, get, empty, get-insert, get-empty, nat_cmp-IsAntisymmetric}
+use Rattle.std.proofs.Common.{◌≡◌, ℕ, ◌+◌, ◌<◌, ◌≤◌, inl, inr, Bool, true, false, IsTrue, ◌↔◌, List, [], ◌∷◌, length, drop, get_or, Some, None, refl, ap, sym, ◌∙◌, arith, nat_cmp}
+use Rattle.std.specs.FinMap.{FinMap, insert, get, empty}
 use Rattle.std.proofs.lemmas.List.{drop_all}
-use Rattle.trs_defs.specs.Tree.{Tree, Trees, var, app, nil, cons, count}
+use Rattle.trs_defs.specs.Tree.{Tree, var, app, count}
 use Rattle.trs_defs.specs.Substitution.{apply, apply_all, Agrees, bound, IsInstance}
 use Rattle.trs_core.specs.declared.terms.Term.{Term}
 use Rattle.trs_core.specs.View.{tree, forest}
 use Rattle.trs_core.specs.Matching.{Narrows, Refutes, Matches}
+use Rattle.trs_defs.proofs.ArgumentLists.{cell, count_apply_all}
+use Rattle.trs_defs.proofs.BindingLaws.{get_insert_same, get_insert_cases, get_insert_older, agrees_empty, agrees_bound}
 use Rattle.trs_core.proofs.Comparing.{count_forest}
-
-equal_numbers : (w v : ℕ) (o : Ordering) → nat_cmp w v ≡ o → is_eq o ≡ true → w ≡ v
-equal_numbers w v Less e h = absurd cc
-equal_numbers w v Equal e h = nat_cmp-IsAntisymmetric w v e
-equal_numbers w v Greater e h = absurd cc
-
-get_insert_same : (m : FinMap nat_cmp Tree) (v : ℕ) (t : Tree) → get (insert m v t) v ≡ Some t
-get_insert_same m v t = get-insert nat_cmp_total m v t v ∙ ap (λ b. cond b (Some t) (get m v)) ((eq_by_cmp_equiv nat_cmp_total).refl v)
-
--- an entry after a binding is added: the new one, or an older one
-get_insert_cases : (m : FinMap nat_cmp Tree) (v w : ℕ) (t u : Tree) → get (insert m v t) w ≡ Some u → ((w ≡ v) × (t ≡ u)) ⊎ (get m w ≡ Some u)
-get_insert_cases m v w t u e = go (eq_by_cmp nat_cmp w v) refl (sym (get-insert nat_cmp_total m v t w) ∙ e)
-  where
-    go : (b : Bool) → eq_by_cmp nat_cmp w v ≡ b → cond b (Some t) (get m w) ≡ Some u → ((w ≡ v) × (t ≡ u)) ⊎ (get m w ≡ Some u)
-    go true is h = inl (equal_numbers w v (nat_cmp w v) refl is, cc)
-    go false is h = inr h
-
-get_insert_older : (m : FinMap nat_cmp Tree) (v w : ℕ) (t u : Tree) → get m v ≡ None → get m w ≡ Some u → get (insert m v t) w ≡ Some u
-get_insert_older m v w t u none e = get-insert nat_cmp_total m v t w ∙ go (eq_by_cmp nat_cmp w v) refl
-  where
-    go : (b : Bool) → eq_by_cmp nat_cmp w v ≡ b → cond b (Some t) (get m w) ≡ Some u
-    go true is = let same : w ≡ v = equal_numbers w v (nat_cmp w v) refl is in absurd cc
-    go false is = e
 
 bind_added : (m : FinMap nat_cmp Tree) (v : ℕ) (t : Tree) → get m v ≡ None → Narrows (var v) t m (insert m v t)
 bind_added m v t none = record {
@@ -74,9 +49,6 @@ one_less old m new ps ts qs us p t same narrows = record {
   back = λ s h. let k = narrows.sound s h.0 in same.back s (k.0, cc (k.1, h.1));
 }
 
-cell : (xs : List Term) (i : ℕ) (x : Term) → i < length xs → x ≡ get_or xs i x → drop i xs ≡ x ∷ drop (i + 1) xs
-cell xs i x h e = rw (add-one, drop-cons xs i x) (ap (λ y. y ∷ drop (suc i) xs) (sym e))
-
 with_cells : (old m : FinMap nat_cmp Tree) (ps ts : List Term) (i : ℕ) (p t : Term)
     → length ps ≡ length ts → i < length ps → p ≡ get_or ps i p → t ≡ get_or ts i t
     → SameMatches old ps ts m (drop i ps) (drop i ts) → SameMatches old ps ts m (p ∷ drop (i + 1) ps) (t ∷ drop (i + 1) ts)
@@ -106,10 +78,6 @@ no_more old m ps ts i f g same_symbol l h same =
       complete = λ s agrees is. (done.onward s (agrees, cc)).0;
     }
 
-count_apply_all : (s : ℕ → Tree) (ts : Trees) → count (apply_all s ts) ≡ count ts
-count_apply_all s nil = refl
-count_apply_all s (cons t ts) = omega (arith, count_apply_all s ts)
-
 pub clash : (m : FinMap nat_cmp Tree) (ps ts : List Term) (f g : ℕ) → (f ≡ g → length ps ≡ length ts → ⊥) → Refutes (app f (forest ps)) (app g (forest ts)) m
 clash m ps ts f g differ = record {
   none = λ s agrees is.
@@ -120,13 +88,6 @@ clash m ps ts f g differ = record {
 
 pub no_application : (m : FinMap nat_cmp Tree) (f n : ℕ) (ps : List Term) → Refutes (app f (forest ps)) (var n) m
 no_application m f n ps = record { none = λ s agrees is. cc }
-
--- each substitution has the bindings of the empty map
-agrees_empty : (m : FinMap nat_cmp Tree) (s : ℕ → Tree) → m ≡ empty → Agrees m s
-agrees_empty m s is v t e = let none : get m v ≡ None = rw is (get-empty nat_cmp v) in absurd cc
-
-agrees_bound : (m : FinMap nat_cmp Tree) → Agrees m (bound m)
-agrees_bound m v t e = rw e refl
 
 pub found_one : (p t : Tree) (m new : FinMap nat_cmp Tree) → Narrows p t m new → apply (bound new) p ≡ t
 found_one p t m new narrows = (narrows.sound (bound new) (agrees_bound new)).1

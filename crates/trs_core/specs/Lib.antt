@@ -1,5 +1,10 @@
+pub mod Faults
 pub mod Limits
 pub mod Matching
+pub mod Occurrences
+pub mod RuleChecks
+pub mod SystemLimits
+pub mod Valid
 pub mod View
 pub mod ViewFalls
 pub mod SystemLimits

@@ -1,13 +1,16 @@
-ghost use Rattle.std.specs.Prelude.{◌↔◌, ℕ, IsTrue};
-ghost use Rattle.trs_defs.specs.Variable.{has_var};
-ghost use Rattle.trs_defs.specs.WellFormed.{IsWellFormed};
-ghost use Rattle.trs_defs.specs.System.{IsRule};
+ghost use Rattle.std.specs.Prelude.{◌≡◌, ◌↔◌, ℕ, IsTrue, IfOk, IfErr};
 ghost use Rattle.trs_defs.specs.Variable.{IsVariable};
+ghost use Rattle.trs_defs.specs.WellFormed.{IsWellFormed};
+ghost use Rattle.trs_core.specs.SystemLimits.{HasSmallVariables};
+ghost use Rattle.trs_core.specs.RuleChecks.{IsFaultless, IsFirstRuleFault};
 ghost use Rattle.trs_core.specs.View.{tree};
 
-use crate::{Rule, Term};
+use crate::extra::extra_variable;
+use crate::{Rule, Term, TrsFault};
+use std::alloc::Global;
 
-pub fn is_well_formed(t: &Term, arities: &[u8]) -> bool
+/// Whether each symbol is declared, and has as many arguments as the table says.
+fn is_well_formed(t: &Term, arities: &[u8]) -> bool
     ensures { IsTrue result ↔ IsWellFormed arities.now (tree t.now) }
 {
     match t {
@@ -31,15 +34,14 @@ pub fn is_well_formed(t: &Term, arities: &[u8]) -> bool
     }
 }
 
-/// Whether each variable of the term is one of the other term.
-pub fn vars_within(t: &Term, other: &Term) -> bool
-    ensures { IsTrue result ↔ ((v : ℕ) → IsTrue (has_var v (tree t.now)) → IsTrue (has_var v (tree other.now))) }
+fn has_small_variables(t: &Term) -> bool
+    ensures { IsTrue result ↔ HasSmallVariables (tree t.now) }
 {
     match t {
-        Term::Var(n) => other.has_var(*n),
+        Term::Var(v) => *v < 65_536,
         Term::App(_, args) => {
             for arg in &args.items {
-                if !vars_within(arg, other) {
+                if !has_small_variables(arg) {
                     return false;
                 }
             }
@@ -48,17 +50,28 @@ pub fn vars_within(t: &Term, other: &Term) -> bool
     }
 }
 
-pub fn is_rule(rule: &Rule, arities: &[u8]) -> bool
-    ensures { IsTrue result ↔ IsRule arities.now rule.now }
-{
-    is_well_formed(&rule.left, arities)
-        && is_well_formed(&rule.right, arities)
-        && !is_variable(&rule.left)
-        && vars_within(&rule.right, &rule.left)
-}
-
-pub fn is_variable(t: &Term) -> bool
+fn is_variable(t: &Term) -> bool
     ensures { IsTrue result ↔ IsVariable (tree t.now) }
 {
     matches!(t, Term::Var(_))
+}
+
+/// Looks for the first fault of a rule, number `i`.
+pub(crate) fn check_rule(alloc: Global, arities: &[u8], rule: &Rule, i: u32) -> Result<(), TrsFault>
+    ensures faultless { IfOk result (λ _. IsFaultless arities.now rule.now) }
+    ensures fault { IfErr result (IsFirstRuleFault arities.now rule.now i) }
+{
+    if is_variable(&rule.left) {
+        return Err(TrsFault::LeftIsVariable(i));
+    }
+    if let Some(v) = extra_variable(alloc, rule)? {
+        return Err(TrsFault::ExtraVariable(i, v));
+    }
+    if !is_well_formed(&rule.left, arities) || !is_well_formed(&rule.right, arities) {
+        return Err(TrsFault::WrongArity(i));
+    }
+    if !has_small_variables(&rule.left) || !has_small_variables(&rule.right) {
+        return Err(TrsFault::BadVariable(i));
+    }
+    Ok(())
 }

@@ -6,6 +6,9 @@
 mod applying;
 mod bindings;
 mod checking;
+mod extra;
+mod faults;
+mod limits;
 mod matching;
 mod memory;
 mod positions;
@@ -15,9 +18,13 @@ mod terms;
 
 pub use applying::ApplySize;
 pub use bindings::Subst;
+pub use faults::TrsFault;
 pub use matching::match_term;
 pub use memory::OutOfMemory;
 pub use positions::Position;
 pub use replacing::ReplaceFault;
 pub use rules::{Rule, Trs};
 pub use terms::{Args, Term};
+
+#[cfg(test)]
+mod tests;

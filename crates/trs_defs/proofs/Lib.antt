@@ -6,4 +6,7 @@ pub mod Contexts
 pub mod Places
 pub mod Loops
 pub mod Limits
+pub mod ArgumentLists
+pub mod BindingLaws
 pub mod OrderLaws
+pub mod VariableLaws

@@ -21,7 +21,7 @@ abbrev mutual
   keys nil = []
   keys (cons t ts) = key t ++ keys ts
 
-then_assoc : (a b c : Ordering) → ordering_then (ordering_then a b) c ≡ ordering_then a (ordering_then b c)
+pub then_assoc : (a b c : Ordering) → ordering_then (ordering_then a b) c ≡ ordering_then a (ordering_then b c)
 then_assoc Less b c = refl
 then_assoc Equal b c = refl
 then_assoc Greater b c = refl
@@ -64,10 +64,17 @@ tree_cmp_key t u = key_cmp t u [] [] ∙ then_equal (tree_cmp t u)
 pub tree_cmp_total : IsTotalOrder tree_cmp
 tree_cmp_total = subst IsTotalOrder (λ i t u. tree_cmp_key t u i) (on_total (λ t. key t ++ []) nat_list_cmp_total)
 
-both_equal : (a b : Ordering) → ordering_then a b ≡ Equal → (a ≡ Equal) × (b ≡ Equal)
+-- where one comparison decides after another, both tie
+pub both_equal : (a b : Ordering) → ordering_then a b ≡ Equal → (a ≡ Equal) × (b ≡ Equal)
 both_equal Less b e = absurd cc
 both_equal Greater b e = absurd cc
 both_equal Equal b e = (refl, e)
+
+-- the first comparison decides where it does not tie
+pub then_unequal : (a b : Ordering) → (a ≡ Equal → ⊥) → ordering_then a b ≡ a
+then_unequal Less b n = refl
+then_unequal Greater b n = refl
+then_unequal Equal b n = absurd (n refl)
 
 mutual
   -- only equal terms tie

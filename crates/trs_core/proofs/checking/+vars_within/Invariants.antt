@@ -1,9 +1,0 @@
-use Rattle.std.proofs.Common.{ℕ, ◌↔◌, IsTrue, drop}
-use Rattle.trs_defs.specs.Variable.{has_var, some_has_var}
-use Rattle.trs_core.specs.View.{tree, forest}
-use Rattle.trs_core.proofs.checking.+vars_within.Given as goal
-
-abbrev pub invariant-loop-arg : goal.invariant-loop-arg
-invariant-loop-arg l =
-    ((v : ℕ) → IsTrue (some_has_var v (forest (drop l.arg-index l.arg-items))) → IsTrue (has_var v (tree l.other)))
-    ↔ ((v : ℕ) → IsTrue (has_var v (tree l.t)) → IsTrue (has_var v (tree l.other)))
