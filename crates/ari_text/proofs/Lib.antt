@@ -2,3 +2,4 @@ pub mod NameKeys
 pub mod PrintedText
 pub mod NamedSteps
 pub mod Placeless
+pub mod PrintedNames
