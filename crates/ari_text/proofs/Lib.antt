@@ -3,3 +3,4 @@ pub mod PrintedText
 pub mod NamedSteps
 pub mod Placeless
 pub mod PrintedNames
+pub mod PrintedTerms
