@@ -4,3 +4,5 @@ pub mod NamedSteps
 pub mod Placeless
 pub mod PrintedNames
 pub mod PrintedTerms
+pub mod PrintedItems
+pub mod ReadBack

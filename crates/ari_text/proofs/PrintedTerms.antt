@@ -143,7 +143,7 @@ module _ (k : ℕ) (names : List (List ℕ)) (arities : List ℕ) (fit : FitName
 
   -- ---- no faults
 
-  symbol_arity : (f n : ℕ) → slice_get arities f ≡ Some n → arity_of (paired names arities) (get_or names f []) ≡ Some n
+  pub symbol_arity : (f n : ℕ) → slice_get arities f ≡ Some n → arity_of (paired names arities) (get_or names f []) ≡ Some n
   symbol_arity f n e = arity_by_number names arities (get_or names f []) fit.counts ∙ rw (symbol_found f n e) e
 
   variable_arity : (v : ℕ) → arity_of (paired names arities) (variable_name k v) ≡ None
