@@ -19,3 +19,7 @@ pub mod NamedSteps
 pub mod Placeless
 pub mod ItemFaults
 pub mod Refusals
+pub mod PrintedNames
+pub mod PrintedTerms
+pub mod PrintedItems
+pub mod ReadBack

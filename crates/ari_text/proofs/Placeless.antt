@@ -169,9 +169,13 @@ mutual
   args_faults_bare symbols scope depth (item x xs) =
       both_lengths _ _ _ _ (term_faults_bare symbols scope depth x) (args_faults_bare symbols scope depth xs)
 
+lone_at : (p q : ℕ) (o : Option ℕ) → length (lone_faults p o) ≡ length (lone_faults q o)
+lone_at p q None = refl
+lone_at p q (Some n) = refl
+
 left_faults_bare : (symbols : List Declared) (x : Item) → length (left_faults symbols (bare x)) ≡ length (left_faults symbols x)
 left_faults_bare symbols (a_list xs p) = refl
-left_faults_bare symbols (a_word w p) = elim arity_of symbols w as (λ o. length (lone_faults 0 o) ≡ length (lone_faults p o)) [ None ↦ refl | Some n ↦ refl ]
+left_faults_bare symbols (a_word w p) = lone_at 0 p (arity_of symbols w)
 
 sides_faults_bare : (symbols : List Declared) (left right : Item) → length (sides_faults symbols (bare left) (bare right)) ≡ length (sides_faults symbols left right)
 sides_faults_bare symbols left right =
