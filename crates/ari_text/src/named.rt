@@ -57,6 +57,13 @@ impl NamedTrs {
         NamedTrs { names, trs }
     }
 
+    /// The names of the symbols.
+    pub fn names(&self) -> &Names
+        ensures { result.now ≡ self.now.names }
+    {
+        &self.names
+    }
+
     pub fn trs(&self) -> &Trs
         ensures trs { result.now ≡ self.now.system }
         ensures named { IsNamed self.now }
