@@ -13,3 +13,6 @@ pub use named::NamedTrs;
 pub use names_fault::NamesFault;
 pub use printing::{print_problem, put_term};
 pub use variable_names::{put_variable, underscores};
+
+#[cfg(test)]
+mod printing_tests;
