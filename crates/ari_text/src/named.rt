@@ -126,7 +126,10 @@ fn are_letters(name: &[u8]) -> bool
 fn is_letter(b: u8) -> bool
     ensures { result ≡ is_letter (class_of b) }
 {
-    !matches!(b, b' ' | b'\t' | b'\n' | b'\r' | b';' | b'(' | b')' | 0..=31 | 127)
+    !matches!(
+        b,
+        b' ' | b'\t' | b'\n' | b'\r' | b';' | b'(' | b')' | 0..=31 | 127
+    )
 }
 
 /// The fault of the first rule that has one.

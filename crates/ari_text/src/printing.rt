@@ -28,11 +28,7 @@ pub fn print_problem(alloc: Global, system: &NamedTrs) -> Result<Vec<u8>, OutOfM
     Ok(out)
 }
 
-fn put_symbols(
-    out: &mut Vec<u8>,
-    system: &NamedTrs,
-    arities: &[u8],
-) -> Result<(), OutOfMemory>
+fn put_symbols(out: &mut Vec<u8>, system: &NamedTrs, arities: &[u8]) -> Result<(), OutOfMemory>
     requires { arities.now ≡ system.now.system.arities }
     ensures { OnOk result (out.new.items ≡ out.old.items ++ lines (symbol_items system.now.names system.now.system.arities no_items)) }
 {

@@ -44,7 +44,8 @@ fn addition(alloc: Global, names: [&[u8]; 3]) -> Result<Result<NamedTrs, NamesFa
 fn addition_is_printed(rt: HostRuntime) -> Result<(), Fail> {
     let alloc = rt.alloc();
     let named = addition(alloc, [b"0", b"s", b"+"])??;
-    let text = b"(format TRS)\n(fun 0 0)\n(fun s 1)\n(fun + 2)\n(rule (+ _0 0) _0)\n(rule (+ _0 (s _1)) (s (+ _0 _1)))\n";
+    let text =
+        b"(format TRS)\n(fun 0 0)\n(fun s 1)\n(fun + 2)\n(rule (+ _0 0) _0)\n(rule (+ _0 (s _1)) (s (+ _0 _1)))\n";
     assert_eq!(rt; print_problem(alloc, &named)?.as_slice(), text.as_slice());
     assert_eq!(rt; named.find(b"+"), Some(2));
     let refused = addition(alloc, [b"0", b"s", b"s"])?;
