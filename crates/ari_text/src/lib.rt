@@ -30,3 +30,4 @@ pub use variable_names::{put_variable, underscores};
 
 #[cfg(test)]
 mod reading_tests;
+mod printing_tests;
