@@ -7,5 +7,3 @@ pub mod SystemLimits
 pub mod Valid
 pub mod View
 pub mod ViewFalls
-pub mod SystemLimits
-pub mod Valid
