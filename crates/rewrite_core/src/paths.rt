@@ -34,6 +34,7 @@ pub enum PathFault {
     /// The number of the first step that is refused, counted from 0, and why it is. That is never
     /// `StepFault::OutOfMemory`.
     At(u64, StepFault),
+    /// There was no memory left.
     OutOfMemory,
 }
 
