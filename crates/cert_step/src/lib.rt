@@ -3,10 +3,12 @@
 #![tactic(auto)]
 
 mod claim;
+mod laws;
 mod problem;
 mod step;
 
 pub use claim::Claim;
+pub use laws::steps_are_sound;
 pub use problem::Problem;
 pub use rewrite_core::ForkTest;
 pub use step::{NodeStep, Step};

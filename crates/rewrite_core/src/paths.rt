@@ -28,6 +28,17 @@ impl Model for PathStep {
     ghost view = { λ a. record { place = a.place; rule = a.rule } };
 }
 
+impl PathStep {
+    pub fn copy(&self, alloc: Global) -> Result<PathStep, OutOfMemory>
+        ensures { IfOk result (λ s. s ≡ self.now) }
+    {
+        Ok(PathStep {
+            place: self.place.copy(alloc)?,
+            rule: self.rule,
+        })
+    }
+}
+
 /// Why a path is not followed to its end.
 #[derive(Clone, Copy, Debug, PartialEq, Eq)]
 pub enum PathFault {

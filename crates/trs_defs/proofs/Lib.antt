@@ -10,3 +10,4 @@ pub mod OrderLaws
 pub mod ArgumentLists
 pub mod BindingLaws
 pub mod VariableLaws
+pub mod NormalForms
