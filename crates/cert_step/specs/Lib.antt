@@ -4,3 +4,4 @@ pub mod Applies
 pub mod Refused
 pub mod ProblemsLeft
 pub mod Laws
+pub mod Ends
