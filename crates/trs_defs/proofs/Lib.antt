@@ -11,3 +11,4 @@ pub mod ArgumentLists
 pub mod BindingLaws
 pub mod VariableLaws
 pub mod NormalForms
+pub mod WellFormedness
