@@ -5,7 +5,7 @@ use Rattle.std.specs.Str.{bytes_eq}
 use Rattle.std.proofs.lemmas.List.{length-append}
 use Rattle.sexp_core.specs.Items.{Item, a_word, a_list, Items, no_items, item}
 use Rattle.sexp_core.specs.Printed.{bare, placeless}
-use Rattle.trs_defs.specs.Tree.{cons}
+use Rattle.trs_defs.specs.Tree.{Tree, cons}
 use Rattle.trs_defs.specs.System.{RewriteRule}
 use Rattle.ari_text.specs.declared.fault.AriFault.{AriFault}
 use Rattle.ari_text.specs.declared.fault.AriFault.TheVariants as fault
@@ -96,7 +96,11 @@ count_bare no_items = refl
 count_bare (item x xs) = ap suc (count_bare xs)
 
 rule_bare : (symbols : List (List ℕ)) (left right : Item) → rule_of symbols (bare left) (bare right) ≡ rule_of symbols left right
-rule_bare symbols left right = rw (variables_bare symbols [] left, term_bare, term_bare) refl
+rule_bare symbols left right =
+    let both : Tree → Tree → RewriteRule = λ x y. record { left = x; right = y } in
+    ap₂ both
+    (ap (λ vs. term_of symbols vs (bare left)) (variables_bare symbols [] left) ∙ term_bare symbols (variables_after symbols [] left) left)
+    (ap (λ vs. term_of symbols vs (bare right)) (variables_bare symbols [] left) ∙ term_bare symbols (variables_after symbols [] left) right)
 
 with_rule_bare : (symbols : List (List ℕ)) (s : Saying) (rules : List RewriteRule) → with_rule symbols (bare_saying s) rules ≡ with_rule symbols s rules
 with_rule_bare symbols (declares name q arity r) rules = refl
