@@ -1,20 +1,20 @@
 -- What items say, and whether they have a fault, does not depend on their places.
-use Rattle.std.proofs.Common.{◌≡◌, ℕ, zero, suc, ◌+◌, ◌-◌, ◌||◌, Bool, true, false, cond, List, [], ◌∷◌, ◌++◌, length, codes, Option, Some, None, refl, ap, ap₂, sym, ◌∙◌, arith, nat_eq}
+use Rattle.std.proofs.Common.{◌≡◌, ℕ, zero, suc, ◌+◌, ◌||◌, Bool, true, false, cond, List, [], ◌∷◌, ◌++◌, length, codes, Option, Some, None, refl, ap, ap₂, sym, ◌∙◌, arith, nat_eq}
 use Rattle.std.specs.List.{list_any}
 use Rattle.std.specs.Str.{bytes_eq}
 use Rattle.std.proofs.lemmas.List.{length-append}
 use Rattle.sexp_core.specs.Items.{Item, a_word, a_list, Items, no_items, item}
 use Rattle.sexp_core.specs.Printed.{bare, placeless}
-use Rattle.trs_defs.specs.Tree.{Tree, Trees, cons}
+use Rattle.trs_defs.specs.Tree.{cons}
 use Rattle.trs_defs.specs.System.{RewriteRule}
 use Rattle.ari_text.specs.declared.fault.AriFault.{AriFault}
 use Rattle.ari_text.specs.declared.fault.AriFault.TheVariants as fault
 use Rattle.ari_text.specs.Names.{digits_value, number_among}
 use Rattle.ari_text.specs.Symbols.{Declared, arity_of, names_of}
 use Rattle.ari_text.specs.Entries.{Saying, declares, rewrites, attributed, says_nothing, place_of, declaration, three, begins_with_colon, ended, list_entry, entry_of}
-use Rattle.ari_text.specs.Terms.{variables_after, variables_behind, all_variables_after, term_of, list_term, terms_of, applied, rule_of, with_rule, rules_of, nodes_of, nodes_behind, nodes_of_all}
-use Rattle.ari_text.specs.Faults.{Scope, left_side, right_side, count, variable_faults, word_faults, head_faults, depth_faults, term_faults, list_faults, args_faults, lone_faults, left_faults, sides_faults, rule_faults, twice_faults, arity_faults, declaration_faults, symbols_after, symbols_of, Room, whole_room, room_after, passes, count_faults, all_declaration_faults, all_rule_faults, faults_of, nodes_left}
-use Rattle.ari_text.specs.Problem.{is_trs, format_list_fault, format_fault}
+use Rattle.ari_text.specs.Terms.{variables_after, all_variables_after, term_of, terms_of, applied, rule_of, with_rule, rules_of, nodes_of, nodes_of_all}
+use Rattle.ari_text.specs.Faults.{Scope, left_side, right_side, count, variable_faults, word_faults, head_faults, depth_faults, term_faults, args_faults, lone_faults, left_faults, sides_faults, rule_faults, twice_faults, arity_faults, declaration_faults, symbols_after, symbols_of, Room, whole_room, room_after, passes, count_faults, all_declaration_faults, all_rule_faults, faults_of}
+use Rattle.ari_text.specs.Problem.{is_trs, format_fault}
 
 -- ---- sayings
 

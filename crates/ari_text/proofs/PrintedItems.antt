@@ -1,29 +1,26 @@
 -- Printed symbols and rules, and what is read of them.
-use Rattle.std.proofs.Common.{◌≡◌, ℕ, zero, suc, ◌+◌, ◌-◌, ◌^◌, ◌<◌, ◌≤◌, max, Bool, true, false, cond, not, ◌||◌, ◌&&◌, List, [], ◌∷◌, ◌++◌, length, map, get_or, All, Option, Some, None, IsTrue, slice_get, codes, decimal, nat_eq, nat_le, refl, ap, ap₂, sym, ◌∙◌, append_assoc, arith, eq-eqb, is_some}
+use Rattle.std.proofs.Common.{◌≡◌, ℕ, suc, ◌+◌, ◌-◌, ◌^◌, ◌<◌, ◌≤◌, true, false, not, ◌||◌, List, [], ◌∷◌, ◌++◌, length, get_or, Option, Some, None, slice_get, codes, decimal, nat_le, refl, ap, ap₂, sym, ◌∙◌, append_assoc, arith, is_some}
 use Rattle.std.specs.List.{list_any, list_all, AllByRecursion}
 use Rattle.std.specs.Str.{bytes_eq}
 use Rattle.std.proofs.lemmas.Bool.{ne_eqb, le-leb, leb-true, and_parts, or_parts, or_from, not-true}
 use Rattle.std.proofs.lemmas.Cmp.{nat_list_eq_equiv}
 use Rattle.std.proofs.lemmas.List.{append-nil, map-append}
-use Rattle.std.proofs.lemmas.List.Elements.{All-head}
 use Rattle.std.proofs.lemmas.List.Folds.{list_any-append}
-use Rattle.sexp_core.specs.Tokens.{class_of, is_letter}
-use Rattle.sexp_core.specs.Items.{Item, a_word, a_list, Items, no_items, item}
-use Rattle.sexp_core.specs.Printed.{IsWord, HasWords, AreWords, depth_of as depth_of_item, nesting, bare, placeless}
-use Rattle.trs_defs.specs.Tree.{Tree, Trees, var, app, nil, cons, count as count_trees}
+use Rattle.sexp_core.specs.Tokens.{class_of}
+use Rattle.sexp_core.specs.Items.{a_word, a_list, Items, item}
+use Rattle.sexp_core.specs.Printed.{AreWords, nesting, bare, placeless}
+use Rattle.trs_defs.specs.Tree.{Tree, Trees, var, app, nil, cons}
 use Rattle.trs_defs.specs.Size.{size_of, depth_of}
-use Rattle.trs_defs.specs.Variable.{has_var}
 use Rattle.trs_defs.specs.WellFormed.{IsWellFormed}
 use Rattle.trs_defs.specs.System.{RewriteRule, IsRule}
 use Rattle.trs_core.specs.SystemLimits.{HasSmallVariables, HaveSmallVariables, nodes_of as nodes_of_rules}
-use Rattle.ari_text.specs.declared.fault.AriFault.{AriFault}
-use Rattle.ari_text.specs.Names.{number_among, are_distinct, digits_value}
+use Rattle.ari_text.specs.Names.{are_distinct, digits_value}
 use Rattle.ari_text.specs.Symbols.{Declared, paired, names_of, arities_of, arity_of}
 use Rattle.ari_text.specs.Named.{is_word, is_shallow, is_numbered, next_number}
 use Rattle.ari_text.specs.Terms.{variables_after, term_of, rule_of, rules_of, nodes_of}
-use Rattle.ari_text.specs.Faults.{Scope, left_side, right_side, variable_faults, term_faults, lone_faults, left_faults, sides_faults, Room, passes, all_declaration_faults, all_rule_faults, with_symbol, symbols_of}
+use Rattle.ari_text.specs.Faults.{left_side, right_side, term_faults, left_faults, sides_faults, all_declaration_faults, all_rule_faults, with_symbol, symbols_of}
 use Rattle.ari_text.specs.VariableNames.{variable_name}
-use Rattle.ari_text.specs.PrintedProblem.{applied_item, term_item, term_items, three_members, rule_items, symbol_items, format_item}
+use Rattle.ari_text.specs.PrintedProblem.{term_item, term_items, three_members, rule_items, symbol_items}
 use Rattle.ari_text.proofs.PrintedNames.{arity_read, decimal_word, symbol_word, present, variables_to, variable_number}
 use Rattle.ari_text.proofs.PrintedTerms.{FitNames, IsBelow, below_from, numbered_below, variables_read, term_read, term_faultless, symbol_arity, term_words, term_nodes, term_nesting}
 
@@ -43,14 +40,15 @@ AreGoodRules arities (r ∷ rs) = IsGoodRule arities r × AreGoodRules arities r
 pub good_rules : (arities : List ℕ) (rs : List RewriteRule) → ((i : ℕ) (r : RewriteRule) → slice_get rs i ≡ Some r → IsRule arities r)
     → HaveSmallVariables rs → list_all is_shallow rs ≡ true → list_all is_numbered rs ≡ true → AreGoodRules arities rs
 good_rules arities [] each small shallow numbered = tt
-good_rules arities (r ∷ rs) each small shallow numbered =
-    (record {
-      is_rule = each 0 r refl;
-      shallow = (and_parts (is_shallow r) _ shallow).0;
-      numbered = (and_parts (is_numbered r) _ numbered).0;
-      small = small 0 r (omega arith);
-    },
-    good_rules arities rs (λ i q e. each (suc i) q e) (λ i d lt. small (suc i) d (omega arith)) (and_parts (is_shallow r) _ shallow).1 (and_parts (is_numbered r) _ numbered).1)
+good_rules arities (r ∷ rs) each small shallow numbered = (
+  record {
+    is_rule = each 0 r refl;
+    shallow = (and_parts (is_shallow r) _ shallow).0;
+    numbered = (and_parts (is_numbered r) _ numbered).0;
+    small = small 0 r (omega arith);
+  },
+  good_rules arities rs (λ i q e. each (suc i) q e) (λ i d lt. small (suc i) d (omega arith)) (and_parts (is_shallow r) _ shallow).1 (and_parts (is_numbered r) _ numbered).1,
+)
 
 numbered_some : (o : Option ℕ) → is_some o ≡ true → (m : ℕ) × (o ≡ Some m)
 numbered_some None e = absurd cc
@@ -147,9 +145,16 @@ module _ (k : ℕ) (names : List (List ℕ)) (arities : List ℕ) (fit : FitName
   unfolding class_of
   rules_words [] g = tt
   rules_words (r ∷ rs) g =
-      let n = numbers r g.0 in
-      ((symbol_word (codes "rule") refl, (term_words k names arities fit r.left g.0.is_rule.left_well_formed n.left_small,
-      (term_words k names arities fit r.right g.0.is_rule.right_well_formed n.right_small, tt))), rules_words rs g.1)
+      let n = numbers r g.0 in (
+        (
+          symbol_word (codes "rule") refl,
+          (
+            term_words k names arities fit r.left g.0.is_rule.left_well_formed n.left_small,
+            (term_words k names arities fit r.right g.0.is_rule.right_well_formed n.right_small, tt),
+          ),
+        ),
+        rules_words rs g.1,
+      )
 
   pub rules_nesting : (rs : List RewriteRule) → AreGoodRules arities rs → nesting (rule_items k names rs) ≤ 300
   rules_nesting [] g = omega arith

@@ -1,5 +1,5 @@
 -- The names of symbols and of variables in a printed problem.
-use Rattle.std.proofs.Common.{◌≡◌, ℕ, zero, suc, ◌+◌, ◌-◌, ◌*◌, ◌^◌, ◌<◌, ◌≤◌, max, Bool, true, false, cond, not, ◌||◌, ◌&&◌, List, [], ◌∷◌, ◌++◌, length, get_or, replicate, Option, Some, None, option_map, slice_get, decimal, nat_eq, nat_le, refl, ap, sym, ◌∙◌, subst, ⊎_elim, inl, inr, arith, rules, eq-eqb}
+use Rattle.std.proofs.Common.{◌≡◌, ℕ, zero, suc, ◌+◌, ◌-◌, ◌*◌, ◌^◌, ◌<◌, ◌≤◌, Bool, true, false, cond, not, ◌||◌, List, [], ◌∷◌, ◌++◌, length, get_or, replicate, Option, Some, None, option_map, slice_get, decimal, nat_le, refl, ap, ◌∙◌, ⊎_elim, arith, rules}
 use Rattle.std.specs.List.{list_any, list_all, AllByRecursion}
 use Rattle.std.specs.Option.{option_or, option_and_then}
 use Rattle.std.specs.Char.{is_ascii_digit}
@@ -13,8 +13,8 @@ use Rattle.std.proofs.lemmas.Slice.Eq.{bytes_eq-Decides}
 use Rattle.std.proofs.lemmas.Str.Parse.{IsNumeralModel, numerals_by_fold, tells_all_ascii_digits}
 use Rattle.sexp_core.specs.Tokens.{class_of, is_letter}
 use Rattle.sexp_core.specs.Printed.{IsWord}
-use Rattle.ari_text.specs.Names.{number_among, with_name, are_distinct, digits_behind, digits_value}
-use Rattle.ari_text.specs.Symbols.{Declared, paired, arity_of}
+use Rattle.ari_text.specs.Names.{number_among, are_distinct, digits_behind, digits_value}
+use Rattle.ari_text.specs.Symbols.{paired, arity_of}
 use Rattle.ari_text.specs.Named.{is_word}
 use Rattle.ari_text.specs.VariableNames.{leading_underscores, underscores, variable_name}
 
@@ -61,8 +61,17 @@ digit_letter d e =
     let parts = and_parts (nat_le 48 d) (nat_le d 57) e in
     let low : 48 ≤ d = leb-true 48 d parts.0 in
     let high : d ≤ 57 = leb-true d 57 parts.1 in
-    rw (ne_eqb d 32 (λ h. absurd (omega arith)), ne_eqb d 9 (λ h. absurd (omega arith)), ne_eqb d 10 (λ h. absurd (omega arith)), ne_eqb d 13 (λ h. absurd (omega arith)),
-    ne_eqb d 59 (λ h. absurd (omega arith)), ne_eqb d 40 (λ h. absurd (omega arith)), ne_eqb d 41 (λ h. absurd (omega arith)), le-ltb d 32 (omega arith), ne_eqb d 127 (λ h. absurd (omega arith))) refl
+    rw (
+      ne_eqb d 32 (λ h. absurd (omega arith)),
+      ne_eqb d 9 (λ h. absurd (omega arith)),
+      ne_eqb d 10 (λ h. absurd (omega arith)),
+      ne_eqb d 13 (λ h. absurd (omega arith)),
+      ne_eqb d 59 (λ h. absurd (omega arith)),
+      ne_eqb d 40 (λ h. absurd (omega arith)),
+      ne_eqb d 41 (λ h. absurd (omega arith)),
+      le-ltb d 32 (omega arith),
+      ne_eqb d 127 (λ h. absurd (omega arith)),
+    ) refl
 
 underscore_letter : is_letter (class_of 95) ≡ true
 unfolding class_of

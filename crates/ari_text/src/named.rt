@@ -1,4 +1,4 @@
-ghost use Rattle.std.specs.Prelude.{◌≡◌, ◌+◌, ◌<◌, ◌≤◌, map, length, slice_get, Some, option_map, position, not, IfOk, IfSome, List, [], ℕ};
+ghost use Rattle.std.specs.Prelude.{◌≡◌, ◌+◌, ◌<◌, ◌≤◌, map, length, slice_get, All, Some, option_map, position, not, IfOk, IfSome, List, [], ℕ};
 ghost use Rattle.std.specs.List.{list_all};
 ghost use Rattle.sexp_core.specs.Tokens.{class_of, is_letter};
 ghost use Rattle.trs_core.specs.View.{tree};
@@ -50,7 +50,7 @@ impl NamedTrs {
     }
 
     /// The system of these parts.
-    pub fn from_parts(names: Names, trs: Trs) -> NamedTrs
+    pub(crate) fn from_parts(names: Names, trs: Trs) -> NamedTrs
         requires { IsNamed (record { names = names; system = trs }) }
         ensures { result ≡ record { names = names; system = trs } }
     {
@@ -58,7 +58,7 @@ impl NamedTrs {
     }
 
     /// The names of the symbols.
-    pub fn names(&self) -> &Names
+    pub(crate) fn names(&self) -> &Names
         ensures { result.now ≡ self.now.names }
     {
         &self.names
@@ -69,6 +69,23 @@ impl NamedTrs {
         ensures named { IsNamed self.now }
     {
         &self.trs
+    }
+
+    /// The number of symbols.
+    pub fn symbols(&self) -> u32
+        ensures symbols { result ≡ length self.now.system.arities }
+        ensures names { result ≡ length self.now.names }
+    {
+        self.trs.arities().len() as u32
+    }
+
+    /// For each symbol, by its number, how many arguments it has.
+    pub fn arities(&self) -> &[u8]
+        ensures arities { result.now ≡ self.now.system.arities }
+        ensures bytes { All (λ a. a ≤ 255) result.now }
+    {
+        let arities = self.trs.arities();
+        arities
     }
 
     /// The name of a symbol.
