@@ -50,7 +50,7 @@ impl NamedTrs {
     }
 
     /// The system of these parts.
-    pub fn from_parts(names: Names, trs: Trs) -> NamedTrs
+    pub(crate) fn from_parts(names: Names, trs: Trs) -> NamedTrs
         requires { IsNamed (record { names = names; system = trs }) }
         ensures { result ≡ record { names = names; system = trs } }
     {
@@ -58,7 +58,7 @@ impl NamedTrs {
     }
 
     /// The names of the symbols.
-    pub fn names(&self) -> &Names
+    pub(crate) fn names(&self) -> &Names
         ensures { result.now ≡ self.now.names }
     {
         &self.names
