@@ -166,7 +166,7 @@ root_at rules t s here r ss h =
     let part : t ≡ r.part = cc in
     let e : 0 + s.rule ≡ s.rule = omega arith in
     let found : In (record { place = []; rule = s.rule }) ss =
-        subst (λ k. In (record { place = []; rule = k }) ss) e (root_all rules 0 t ss h s.rule r.rule r.numbered (rw part r.instance)) in
+    subst (λ k. In (record { place = []; rule = k }) ss) e (root_all rules 0 t ss h s.rule r.rule r.numbered (rw part r.instance)) in
     subst (λ p. In (record { place = p; rule = s.rule }) ss) (sym here) found
 
 -- Each redex is listed: by recursion on its position.
@@ -184,9 +184,10 @@ redexes_all rules (place ∷ p) (app f ts) ss h k r =
 
 ascend_joined : (xs ys : List PlacedRule) → Ascend xs → Ascend ys → ((x y : PlacedRule) → In x xs → In y ys → ComesBefore x y) → Ascend (xs ++ ys)
 ascend_joined [] ys a b h = b
-ascend_joined (x ∷ xs) ys a b h =
-    ((λ u is. elim (in_either u xs ys is) as (λ _. ComesBefore x u) [ inl k ↦ a.0 u k | inr k ↦ h x u in_first k ]),
-     ascend_joined xs ys a.1 b (λ v w k l. h v w (in_rest k) l))
+ascend_joined (x ∷ xs) ys a b h = (
+  (λ u is. elim (in_either u xs ys is) as (λ _. ComesBefore x u) [ inl k ↦ a.0 u k | inr k ↦ h x u in_first k ]),
+  ascend_joined xs ys a.1 b (λ v w k l. h v w (in_rest k) l),
+)
 
 before_below : (place : ℕ) (s u : PlacedRule) → ComesBefore s u → ComesBefore (below (place ∷ []) s) (below (place ∷ []) u)
 before_below place s u (inl h) = inl (inr (refl, h))

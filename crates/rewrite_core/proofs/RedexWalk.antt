@@ -87,9 +87,11 @@ pub root_then_arguments : (rules : List RewriteRule) (place : List ℕ) (ts : Li
 root_then_arguments rules place ts f args t old new rest listed is g h =
     let same : app f (forest ts) ≡ t = rw (listed, is) refl in
     let root : AreRootRedexes rules 0 (app f (forest ts)) g.0 = subst (λ u. AreRootRedexes rules 0 u g.0) (sym same) g.1 in
-    let all : AreRedexes rules (app f (forest ts)) (g.0 ++ rest) = (g.0, rest, root, h, refl) in
-    (g.0 ++ rest, subst (λ u. AreRedexes rules u (g.0 ++ rest)) same all,
-     rw (g.2, map-append (below place) g.0 rest, append_assoc old (map (below place) g.0) (map (below place) rest)) refl)
+    let all : AreRedexes rules (app f (forest ts)) (g.0 ++ rest) = (g.0, rest, root, h, refl) in (
+      g.0 ++ rest,
+      subst (λ u. AreRedexes rules u (g.0 ++ rest)) same all,
+      rw (g.2, map-append (below place) g.0 rest, append_assoc old (map (below place) g.0) (map (below place) rest)) refl,
+    )
 
 -- one argument after another
 pub argument_then_rest : (rules : List RewriteRule) (place inner : List ℕ) (ts : List Term) (i : ℕ) (t : Term) (P : List PlacedRule → Type 0) (old new newer rest : List PlacedRule)
@@ -102,7 +104,7 @@ argument_then_rest rules place inner ts i t P old new newer rest within read is 
     let all : AreRedexesOfAll rules (i + 1) (forest (drop i ts)) (first ++ rest) = rw (next_argument ts i t within read) (g.0, rest, g.1, h, refl) in
     let grown : newer ≡ new ++ map (below place) first = g.2 ∙ rw (is, below_below place (i + 1) g.0) refl in
     let e : new ++ map (below place) (first ++ rest) ≡ newer ++ map (below place) rest =
-        rw (grown, map-append (below place) first rest, append_assoc new (map (below place) first) (map (below place) rest)) refl in
+    rw (grown, map-append (below place) first rest, append_assoc new (map (below place) first) (map (below place) rest)) refl in
     grown_same place P old (new ++ map (below place) (first ++ rest)) (newer ++ map (below place) rest) e (before (first ++ rest) all)
 
 pub no_argument_left : (rules : List RewriteRule) (ts : List Term) (i : ℕ) → length ts ≤ i → AreRedexesOfAll rules (i + 1) (forest (drop i ts)) []

@@ -1,6 +1,6 @@
 use crate::{
-    CheckFault, PathFault, PathStep, StepFault, StepRefused, is_normal, loop_check, redexes, run_path, slow,
-    step_at,
+    CheckFault, PathFault, PathStep, StepFault, StepRefused, is_normal, loop_check, redexes,
+    run_path, slow, step_at,
 };
 use std::alloc::Global;
 use std::test::Fail;
