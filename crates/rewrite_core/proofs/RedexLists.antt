@@ -1,13 +1,13 @@
 -- Lists of redexes: which they have, and in which order.
-use Rattle.std.proofs.Common.{◌≡◌, ◌≢◌, ℕ, ◌+◌, ◌<◌, ◌≤◌, ◌⊎◌, inl, inr, List, [], ◌∷◌, ◌++◌, map, Option, Some, None, slice_get, All, zero, suc, refl, sym, subst, ap, arith, append_assoc}
+use Rattle.std.proofs.Common.{◌≡◌, ℕ, ◌+◌, ◌⊎◌, inl, inr, List, [], ◌∷◌, ◌++◌, map, Option, Some, None, slice_get, zero, suc, refl, sym, subst, ap, arith}
 use Rattle.std.specs.Option.{option_and_then}
 use Rattle.trs_defs.specs.Member.{In, in_first, in_rest}
 use Rattle.trs_defs.specs.Tree.{Tree, Trees, var, app, nil, cons, items}
 use Rattle.trs_defs.specs.Substitution.{IsInstance}
-use Rattle.trs_defs.specs.Position.{argument_at, subterm_at}
+use Rattle.trs_defs.specs.Position.{subterm_at}
 use Rattle.trs_defs.specs.System.{RewriteRule}
 use Rattle.trs_defs.specs.Path.{PlacedRule}
-use Rattle.rewrite_core.specs.Redexes.{IsRedexAt, IsEarlier, ComesBefore, Ascend, below, AreRootRedexes, AreRedexes, AreRedexesOfAll, Grows}
+use Rattle.rewrite_core.specs.Redexes.{IsRedexAt, ComesBefore, Ascend, below, AreRootRedexes, AreRedexes, AreRedexesOfAll, Grows}
 
 in_left : {T : Type 0} (x : T) (xs ys : List T) → In x xs → In x (xs ++ ys)
 in_left x [] ys h = elim h [ ]

@@ -85,7 +85,10 @@ fn a_growing_term(rt: HostRuntime) -> Result<(), Fail> {
     let found = redexes(alloc, &trs, &Term::App(0, Args { items }))?;
     assert_eq!(rt; found.len(), 1);
     assert_eq!(rt; StepRefused::EdgeBack(7, 9).number(), 9);
-    assert_eq!(rt; StepRefused::EdgeBack(7, 9).fields().as_slice(), [7, 9].as_slice());
+    assert_eq!(rt;
+        StepRefused::EdgeBack(7, 9).fields().as_slice(),
+        [7, 9].as_slice()
+    );
 
     let deep = tower(alloc, 0, 1_022, Term::Var(0))?;
     let deepest = step_at(alloc, &trs, &deep, &ones(alloc, 1_000)?, 0)?;
