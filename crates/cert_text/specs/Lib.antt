@@ -1,0 +1,4 @@
+pub mod ProofText
+pub mod Written
+pub mod TextFaults
+pub mod CertificateText

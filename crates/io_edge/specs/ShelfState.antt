@@ -1,0 +1,48 @@
+-- What a shelf in memory is.
+use Rattle.std.specs.Prelude.{ℕ, Bool, List, map, length, Vec, String, string_bytes, Option, Some, None, nat_eq, nat_le, if◌then◌else◌}
+use Rattle.std.specs.declared.alloc.Global.{Global}
+use Rattle.std.specs.List.{list_any}
+use Rattle.io_edge.specs.Named.{first_under}
+use Rattle.io_edge.specs.declared.counts.Tally.{Tally}
+
+pub record ShelfState : Type 0 where
+  -- texts under names
+  pub texts : List (List ℕ × List ℕ)
+  -- the numbers of the calls that fail, from 0
+  pub failing : List ℕ
+  -- how many calls there were
+  pub calls : ℕ
+  -- counts of faults and of bytes read under names
+  pub tallies : List (List ℕ × Tally)
+
+-- texts under names, as they lie in memory
+abbrev pub texts_of : List (String Global × Vec ℕ Global) → List (List ℕ × List ℕ)
+texts_of ts = map (λ t. (string_bytes t.0, t.1.items)) ts
+
+-- the call of this number is to fail
+abbrev pub is_failing : List ℕ → ℕ → Bool
+is_failing failing call = list_any (λ n. nat_eq n call) failing
+
+-- what a call answers: the text, or why there is none
+pub data Answer : Type 0 where
+  text : List ℕ → Answer
+  too_long : Answer
+  failed : Answer
+
+abbrev pub within_limit : Option (List ℕ) → ℕ → Answer
+within_limit None limit = failed
+within_limit (Some t) limit = if nat_le (length t) limit then text t else too_long
+
+-- what the next call answers, want of memory aside
+abbrev pub answer_to : ShelfState → List ℕ → ℕ → Answer
+answer_to s name limit =
+    if is_failing s.failing s.calls then failed else within_limit (first_under s.texts name) limit
+
+-- how many bytes a call finds under a name
+abbrev pub bytes_found : Option (List ℕ) → ℕ
+bytes_found None = 0
+bytes_found (Some t) = length t
+
+-- how many bytes the next call counts as read
+abbrev pub bytes_read : ShelfState → List ℕ → ℕ
+bytes_read s name = if is_failing s.failing s.calls then 0 else bytes_found (first_under s.texts name)

@@ -1,0 +1,102 @@
+ghost use Rattle.std.specs.Prelude.{◌≡◌, ◌≤◌, ◌++◌, ℕ, List, [], true, false, IfOk, OnOk, OnErr, Some};
+ghost use Rattle.io_edge.specs.Edge.{Rose, AppendsTo, AppendsPrefix, next_count};
+ghost use Rattle.io_edge.specs.SinkState.{refuses};
+
+use crate::fault::{OutOfMemory, SinkFailed};
+use crate::sink::Sink;
+use std::alloc::Global;
+use std::marker::Model;
+
+/// Bytes in memory, with room for so many. The calls of `put` are counted from 0, and those whose
+/// numbers it was given fail.
+#[derive(Drop)]
+pub struct MemorySink {
+    room: usize,
+    failing: Vec<u64>,
+    calls: u64,
+    bytes: Vec<u8>,
+    faults: u64,
+}
+
+impl Model for MemorySink {
+    ghost use Rattle.std.specs.Prelude.{◌≤◌, vec_len, vec_capacity};
+    ghost use Rattle.io_edge.specs.SinkState.{SinkState};
+
+    ghost Value = { SinkState };
+
+    ghost view = { λ s. record {
+      room = s.room;
+      failing = s.failing.items;
+      calls = s.calls;
+      bytes = s.bytes.items;
+      faults = s.faults;
+    } };
+
+    // What there is room for was taken from memory.
+    ghost invariant = { λ s. (vec_len s.bytes ≤ s.room) × (s.room ≤ vec_capacity s.bytes) };
+}
+
+impl MemorySink {
+    /// An empty sink, which takes the memory for `room` bytes at once.
+    pub fn new(alloc: Global, room: u64, failing: Vec<u64>) -> Result<MemorySink, OutOfMemory>
+        ensures room { IfOk result (λ s. s.room ≡ room) }
+        ensures failing { IfOk result (λ s. s.failing ≡ failing.items) }
+        ensures calls { IfOk result (λ s. s.calls ≡ 0) }
+        ensures bytes { IfOk result (λ s. s.bytes ≡ []) }
+        ensures faults { IfOk result (λ s. s.faults ≡ 0) }
+    {
+        let room = room as usize;
+        let bytes = Vec::with_capacity(alloc, room)?;
+        Ok(MemorySink {
+            room,
+            failing,
+            calls: 0,
+            bytes,
+            faults: 0,
+        })
+    }
+
+    /// The bytes that it has taken.
+    pub fn taken(&self) -> &[u8]
+        ensures { result.now ≡ self.now.bytes }
+    {
+        &self.bytes
+    }
+}
+
+impl Sink for MemorySink {
+    ghost taken = { λ s. Some s.bytes };
+
+    ghost faults = { λ s. s.faults };
+
+    /// Each call is counted, whatever its answer. No memory is taken.
+    fn put(&mut self, piece: &[u8]) -> Result<(), SinkFailed>
+        ensures whole { OnOk result (AppendsTo (Some self.old.bytes) piece.now (Some self.new.bytes)) }
+        ensures part { OnErr result (AppendsPrefix (Some self.old.bytes) piece.now (Some self.new.bytes)) }
+        ensures faults { self.old.faults ≤ self.new.faults }
+        ensures failed { OnErr result (Rose self.old.faults self.new.faults) }
+
+        // Which calls fail, and how the sink stands then.
+        ensures accepted { OnOk result (refuses self.old piece.now ≡ false) }
+        ensures refused { OnErr result (refuses self.old piece.now ≡ true) }
+        ensures appended { OnOk result (self.new ≡ record self.old {
+          calls = next_count self.old.calls;
+          bytes = self.old.bytes ++ piece.now;
+        }) }
+        ensures unappended { OnErr result (self.new ≡ record self.old {
+          calls = next_count self.old.calls;
+          faults = next_count self.old.faults;
+        }) }
+    {
+        let call = self.calls;
+        self.calls = call.saturating_add(1);
+        if self.failing.contains(&call) || piece.len() > self.room - self.bytes.len() {
+            self.faults = self.faults.saturating_add(1);
+            return Err(SinkFailed);
+        }
+        let Ok(()) = self.bytes.extend_from_slice(piece) else {
+            unreachable!()
+        };
+        Ok(())
+    }
+}
