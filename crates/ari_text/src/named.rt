@@ -64,6 +64,13 @@ impl NamedTrs {
         &self.trs
     }
 
+    /// The names, in the order of the symbols' numbers.
+    pub(crate) fn names(&self) -> &Names
+        ensures { result.now ≡ self.now.names }
+    {
+        &self.names
+    }
+
     /// The name of a symbol.
     pub fn name(&self, f: u32) -> &[u8]
         requires { f < length self.now.names }
