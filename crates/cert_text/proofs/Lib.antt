@@ -1,0 +1,5 @@
+pub mod NotedPlaces
+pub mod NumeralBounds
+pub mod Depths
+pub mod Faultless
+pub mod Certificates

@@ -2,7 +2,14 @@
 #![tactic(auto)]
 
 mod certificate;
+mod checking;
 mod fault;
+mod numbers;
+mod paths;
+mod reading;
+mod steps;
+mod terms;
 
 pub use certificate::Certificate;
 pub use fault::CertFault;
+pub use reading::read_certificate;
