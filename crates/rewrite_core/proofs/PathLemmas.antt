@@ -1,6 +1,6 @@
 -- Paths step by step.
 use Rattle.std.specs.Prelude.{◌==◌}
-use Rattle.std.proofs.Common.{◌≡◌, ◌≢◌, ℕ, ◌+◌, ◌<◌, ◌≤◌, suc, Bool, true, false, List, [], ◌∷◌, length, take, drop, get_or, Option, Some, None, Ok, Err, IfSome, is_some, IsTrue, add-one, drop-cons, refl, ap, sym, subst, ◌∙◌}
+use Rattle.std.proofs.Common.{◌≡◌, ◌≢◌, ℕ, ◌+◌, ◌<◌, ◌≤◌, Bool, true, false, List, [], ◌∷◌, length, take, drop, get_or, Option, Some, None, Ok, Err, IfSome, is_some, IsTrue, refl, sym, subst, ◌∙◌}
 use Rattle.std.proofs.lemmas.List.{take_more, take_all}
 use Rattle.std.proofs.lemmas.Option.{slice_get_read}
 use Rattle.std.specs.Ordering.{nat_cmp}
@@ -14,6 +14,7 @@ use Rattle.trs_defs.specs.System.{RewriteRule, System, IsSystem}
 use Rattle.trs_defs.specs.Path.{PlacedRule, StepsAt, Follows}
 use Rattle.trs_defs.specs.Loop.{IsLoop}
 use Rattle.trs_defs.specs.Claims.{IsEndless}
+use Rattle.trs_defs.proofs.ArgumentLists.{cell}
 use Rattle.trs_defs.proofs.Places.{follows_joined, steps_at_once}
 use Rattle.trs_defs.proofs.Loops.{endless_of_loop}
 use Rattle.trs_core.specs.Limits.{Gives}
@@ -28,9 +29,6 @@ use Rattle.rewrite_core.proofs.StepLemmas.{fault_excludes}
 pub read_step : (path : List PlacedRule) (k : ℕ) (place : List ℕ) (rule : ℕ) (item : PlacedRule)
     → record { place = place; rule = rule } ≡ item → item ≡ get_or path k item → record { place = place; rule = rule } ≡ get_or path k (record { place = place; rule = rule })
 read_step path k place rule item e is = rw e is
-
-cell : (xs : List PlacedRule) (i : ℕ) (x : PlacedRule) → i < length xs → x ≡ get_or xs i x → drop i xs ≡ x ∷ drop (i + 1) xs
-cell xs i x h e = rw (add-one, drop-cons xs i x) (ap (λ y. y ∷ drop (suc i) xs) (sym e))
 
 -- step number k of the path, which is read
 module _ (system : System) (path : List PlacedRule) (k : ℕ) (s : PlacedRule) (within : k < length path) (is : s ≡ get_or path k s) where

@@ -1,3 +1,4 @@
+pub mod Absent
 pub mod Arities
 pub mod Comparing
 pub mod Lookups

@@ -7,8 +7,10 @@ ghost use Rattle.trs_core.specs.View.{tree};
 use crate::{Args, OutOfMemory, Subst, Term};
 use std::alloc::Global;
 
+/// Why an instance was not made.
 #[derive(Clone, Copy, Debug, PartialEq, Eq)]
 pub enum ApplySize {
+    /// It would have more than 65,536 nodes, or be deeper than 1,024.
     TooLarge,
     OutOfMemory,
 }
@@ -25,7 +27,7 @@ impl From<OutOfMemory> for ApplySize {
 }
 
 impl Subst {
-    /// The instance of a term. A variable without an entry stays.
+    /// The instance of a term. Its size is known before it is built, so that `TooLarge` takes no memory.
     pub fn apply(&self, alloc: Global, t: &Term) -> Result<Term, ApplySize>
         ensures { Gives ApplySize.OutOfMemory result (instance self.now (tree t.now)) }
     {

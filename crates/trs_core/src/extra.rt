@@ -38,7 +38,8 @@ fn first_unknown(t: &Term, known: &BTreeSet<u32>) -> Option<u32>
     ensures { result ≡ find (λ v. not (contains nat_cmp known.now v)) (variables_of (tree t.now)) }
 {
     match t {
-        Term::Var(v) => { if known.contains(v) { None } else { Some(*v) } }
+        Term::Var(v) if known.contains(v) => None,
+        Term::Var(v) => Some(*v),
         Term::App(_, args) => {
             for arg in &args.items {
                 let found = first_unknown(arg, known);

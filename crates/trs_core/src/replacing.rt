@@ -1,6 +1,6 @@
-ghost use Rattle.std.specs.Prelude.{◌≡◌, ◌≢◌, IfOk, None, Some, cond, false};
+ghost use Rattle.std.specs.Prelude.{◌≡◌, ◌≢◌, ◌↔◌, IfOk, None, Some, Err, cond, false};
 ghost use Rattle.std.specs.Option.{option_map};
-ghost use Rattle.trs_defs.specs.Position.{argument_at, replaced_at, with_argument as argument_changed};
+ghost use Rattle.trs_defs.specs.Position.{argument_at, subterm_at, replaced_at, with_argument as argument_changed};
 ghost use Rattle.trs_core.specs.Limits.{Gives, replacement};
 ghost use Rattle.trs_core.specs.View.{tree};
 
@@ -29,10 +29,12 @@ impl From<OutOfMemory> for ReplaceFault {
 }
 
 impl Term {
-    /// The term with another subterm at a position. `NoPosition` exactly where `at` gives `None`.
-    /// (Baader and Nipkow, definition 3.1.3.)
+    /// The term with another subterm at a position. (Baader and Nipkow, definition 3.1.3.)
+    #[tactic(auto, using(crate::proofs::Absent::no_position))]
     pub fn replace(&self, alloc: Global, p: &Position, by: &Term) -> Result<Term, ReplaceFault>
-        ensures { Gives ReplaceFault.OutOfMemory result (replacement p.now (tree self.now) (tree by.now)) }
+        ensures answer { Gives ReplaceFault.OutOfMemory result (replacement p.now (tree self.now) (tree by.now)) }
+        // The answer is `NoPosition` exactly where `at` gives `None`.
+        ensures no_position { replacement p.now (tree self.now) (tree by.now) ≡ Err ReplaceFault.NoPosition ↔ subterm_at p.now (tree self.now) ≡ None }
     {
         match replaced(alloc, self, p.places(), by)? {
             None => Err(ReplaceFault::NoPosition),
@@ -46,10 +48,11 @@ impl Term {
         }
     }
 
-    /// Puts another subterm at a position, in place. `false` exactly where the position is not in the
-    /// term. It takes no memory, and no more steps than the position has places.
+    /// Puts another subterm at a position, in place, and says whether the position is in the term.
+    /// It takes no memory, and as many steps as the position has places.
     pub fn put(&mut self, p: &Position, by: Term) -> bool
         ensures put { replaced_at p.now (tree self.old) (tree by) ≡ cond result (Some (tree self.new)) None }
+        ensures no_position { result ≡ false ↔ subterm_at p.now (tree self.old) ≡ None }
         ensures kept { result ≡ false → self.new ≡ self.old }
     {
         put_at(self, p.places(), by)

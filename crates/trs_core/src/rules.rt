@@ -53,10 +53,11 @@ impl Trs {
     /// The system of an arity table and rules, or its first fault.
     pub fn new(arities: Vec<u8>, rules: Vec<Rule>) -> Result<Trs, TrsFault>
         ensures system { IfOk result (λ s. s ≡ system arities.items rules.items) }
+        ensures within { IfOk result (λ s. IsValid s) }
         ensures faultless { IfOk result (λ _. (fault : Fault) → HasFault (system arities.items rules.items) fault → ⊥) }
         ensures fault { IfErr result (λ fault. fault ≢ TrsFault.OutOfMemory → IsFirstFault (system arities.items rules.items) fault) }
         // What is a system within the limits has no fault.
-        ensures valid { IsValid (system arities.items rules.items) → IsOkUnless result TrsFault.OutOfMemory }
+        ensures only { IsValid (system arities.items rules.items) → IsOkUnless result TrsFault.OutOfMemory }
     {
         if !are_within_limits(&arities, &rules) {
             return Err(TrsFault::TooMany);
@@ -75,6 +76,7 @@ impl Trs {
         &self.arities
     }
 
+    /// The rules, by their numbers from 0.
     pub fn rules(&self) -> &[Rule]
         ensures rules { result.now ≡ self.now.rules }
         ensures valid { IsSystem self.now }

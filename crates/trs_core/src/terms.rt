@@ -2,6 +2,8 @@ ghost use Rattle.std.specs.Prelude.{◌≡◌, ◌↔◌, min, map, length, IfOk
 ghost use Rattle.trs_defs.specs.Size.{size_of, depth_of, within_limits};
 ghost use Rattle.trs_defs.specs.Variable.{has_var as occurs};
 ghost use Rattle.std.specs.Option.{option_copied, option_map};
+ghost use Rattle.std.specs.Cmp.{IsTotalOrder};
+ghost use Rattle.std.specs.declared.cmp.Ordering.TheVariants.{Equal};
 ghost use Rattle.trs_defs.specs.Order.{tree_cmp};
 ghost use Rattle.trs_defs.specs.Position.{argument_at, subterm_at};
 ghost use Rattle.trs_core.specs.View.{tree};
@@ -11,7 +13,9 @@ use std::alloc::Global;
 use std::cmp::Ordering;
 use std::marker::Model;
 
-/// A term. Contracts speak of its `tree`.
+/// A term: a variable by its number, or a symbol by its number with arguments. Contracts speak of
+/// its `tree`. Symbols are numbered from 0, by their places in an arity table.
+/// (Baader and Nipkow, definition 3.1.2.)
 #[cycle(term)]
 #[derive(Drop)]
 pub enum Term {
@@ -49,6 +53,7 @@ impl Model for Args {
 }
 
 impl Args {
+    /// The arguments, from the left.
     pub fn new(items: Vec<Term>) -> Args
         ensures { result ≡ map tree items.items }
     {
@@ -62,12 +67,14 @@ impl Args {
         self.items
     }
 
+    /// The terms, from the left. Code that recurses over terms reads `items`.
     pub fn as_slice(&self) -> &[Term]
         ensures { map tree result.now ≡ self.now }
     {
         &self.items
     }
 
+    /// The number of arguments.
     pub fn len(&self) -> usize
         ensures { result ≡ length self.now }
     {
@@ -108,13 +115,14 @@ impl Term {
         }
     }
 
-    /// Whether the term keeps the limits on computed terms.
+    /// Whether the term has at most 65,536 nodes, and a depth of at most 1,024.
     pub fn is_within_limits(&self) -> bool
         ensures { result ≡ within_limits (tree self.now) }
     {
         self.size() <= 65_536 && self.depth() <= 1_024
     }
 
+    /// Whether the variable occurs in the term.
     pub fn has_var(&self, v: u32) -> bool
         ensures { result ≡ occurs v (tree self.now) }
     {
@@ -131,8 +139,17 @@ impl Term {
         }
     }
 
-    /// Variables come first. The rest goes by symbol, number of arguments, and arguments from the left.
+    /// The total order of terms: variables come first, by number; then applications by symbol, by
+    /// the number of arguments, and by the arguments from the left.
     pub fn compare(&self, other: &Term) -> Ordering
+        ensures order { result ≡ tree_cmp (tree self.now) (tree other.now) }
+        ensures total { IsTotalOrder tree_cmp }
+        ensures equal { result ≡ Equal ↔ (tree self.now ≡ tree other.now) }
+    {
+        self.order(other)
+    }
+
+    fn order(&self, other: &Term) -> Ordering
         ensures { result ≡ tree_cmp (tree self.now) (tree other.now) }
     {
         match (self, other) {
@@ -145,8 +162,8 @@ impl Term {
                     order => return order,
                 }
                 for (i, t) in ts.items.iter().enumerate() {
-                    match t.compare(&us.items[i]) {
-                        Ordering::Equal => {}
+                    match t.order(&us.items[i]) {
+                        Ordering::Equal => continue,
                         order => return order,
                     }
                 }
@@ -155,13 +172,14 @@ impl Term {
         }
     }
 
+    /// Whether both are the same term.
     pub fn same(&self, other: &Term) -> bool
         ensures { IsTrue result ↔ (tree self.now ≡ tree other.now) }
     {
         self.compare(other) == Ordering::Equal
     }
 
-    /// The argument at a place, counted from 1.
+    /// The argument at a place. Places are counted from 1.
     pub fn argument(&self, place: u8) -> Option<&Term>
         ensures { option_map tree (option_copied result) ≡ argument_at (tree self.now) place }
     {
@@ -177,6 +195,7 @@ impl Term {
     }
 
     /// The subterm at a position. `None` exactly where the position is not in the term.
+    /// (Baader and Nipkow, definition 3.1.3.)
     pub fn at(&self, p: &Position) -> Option<&Term>
         ensures { option_map tree (option_copied result) ≡ subterm_at p.now (tree self.now) }
     {
@@ -190,6 +209,7 @@ impl Term {
         Some(current)
     }
 
+    /// A copy of the term.
     pub fn copy(&self, alloc: Global) -> Result<Term, OutOfMemory>
         ensures { IfOk result (λ t. t ≡ self.now) }
     {

@@ -10,3 +10,5 @@ pub mod OrderLaws
 pub mod ArgumentLists
 pub mod BindingLaws
 pub mod VariableLaws
+pub mod NormalForms
+pub mod WellFormedness

@@ -1,10 +1,10 @@
 -- Instances: one substitution after another, steps under substitutions, and what two equal instances share.
-use Rattle.std.specs.Prelude.{◌≡◌, ℕ, Bool, true, false, ◌||◌, ◌==◌, ◌⊎◌, IsTrue, refl}
-use Rattle.std.proofs.Common.{ap, ◌∙◌, arith, inl, inr}
-use Rattle.std.proofs.lemmas.Bool.Decides.{nat_tests}
+use Rattle.std.specs.Prelude.{◌≡◌, ℕ, IsTrue, refl}
+use Rattle.std.proofs.Common.{ap, ◌∙◌, inl, inr}
 use Rattle.trs_defs.specs.Tree.{Tree, Trees, var, app, nil, cons}
 use Rattle.trs_defs.specs.Variable.{has_var, some_has_var}
 use Rattle.trs_defs.specs.Substitution.{apply, apply_all}
+use Rattle.trs_defs.proofs.VariableLaws.{or_left, or_right, or_cases, has_var_same, has_var_self}
 use Rattle.trs_defs.specs.Step.{Inside, InsideOne, here, deep, first, later, RootStep, StepBy}
 
 -- one substitution after another
@@ -50,33 +50,15 @@ module _ (R : Tree → Tree → Type 0) (closed : IsClosedUnderSubstitutions R) 
 pub step_closed : (rule : Tree → Tree → Type 0) → IsClosedUnderSubstitutions (StepBy rule)
 step_closed rule = inside_closed (RootStep rule) (root_step_closed rule)
 
-or_left : (a b : Bool) → IsTrue a → IsTrue (a || b)
-or_left true b h = refl
-or_left false b h = absurd cc
-
-or_right : (a b : Bool) → IsTrue b → IsTrue (a || b)
-or_right true b h = refl
-or_right false b h = h
-
-or_split : (a b : Bool) → IsTrue (a || b) → IsTrue a ⊎ IsTrue b
-or_split true b h = inl refl
-or_split false b h = inr h
-
-equal_numbers : (n v : ℕ) → IsTrue (n == v) → n ≡ v
-equal_numbers n v h = grind (arith, nat_tests)
-
-equal_to_itself : (n : ℕ) → IsTrue (n == n)
-equal_to_itself n = grind (arith, nat_tests)
-
 mutual
   -- Where two instances are equal, the substitutions agree on the variables.
   pub same_values : (s r : ℕ → Tree) (t : Tree) (v : ℕ) → apply s t ≡ apply r t → IsTrue (has_var v t) → s v ≡ r v
-  same_values s r (var n) v e h = rw (← equal_numbers n v h) e
+  same_values s r (var n) v e h = rw (← has_var_same v n h) e
   same_values s r (app f ts) v e h = same_values_in_all s r ts v (cc) h
 
   pub same_values_in_all : (s r : ℕ → Tree) (ts : Trees) (v : ℕ) → apply_all s ts ≡ apply_all r ts → IsTrue (some_has_var v ts) → s v ≡ r v
   same_values_in_all s r nil v e h = absurd cc
-  same_values_in_all s r (cons t ts) v e h = elim (or_split (has_var v t) (some_has_var v ts) h) as (λ _. s v ≡ r v) [
+  same_values_in_all s r (cons t ts) v e h = elim (or_cases (has_var v t) (some_has_var v ts) h) as (λ _. s v ≡ r v) [
     | inl k ↦ same_values s r t v (cc) k
     | inr k ↦ same_values_in_all s r ts v (cc) k
   ]
@@ -84,7 +66,7 @@ mutual
 mutual
   -- Substitutions that agree on the variables of a term give it one instance.
   pub same_instance : (s r : ℕ → Tree) (t : Tree) → ((v : ℕ) → IsTrue (has_var v t) → s v ≡ r v) → apply s t ≡ apply r t
-  same_instance s r (var n) h = h n (equal_to_itself n)
+  same_instance s r (var n) h = h n (has_var_self n)
   same_instance s r (app f ts) h = ap (app f) (same_instances s r ts h)
 
   pub same_instances : (s r : ℕ → Tree) (ts : Trees) → ((v : ℕ) → IsTrue (some_has_var v ts) → s v ≡ r v) → apply_all s ts ≡ apply_all r ts

@@ -26,8 +26,8 @@ returns-in_err-check_rule-clause-fault c =
     let p = err_from_is_err_and c.from_residual.result c.from_residual.ensures.1 in
     rw (p.1, p.2) (first c)
 
-pub returns-in_err-check_rule-clause-valid : goal.returns-in_err-check_rule-clause-valid
-returns-in_err-check_rule-clause-valid c =
+pub returns-in_err-check_rule-clause-only : goal.returns-in_err-check_rule-clause-only
+returns-in_err-check_rule-clause-only c =
     let p = err_from_is_err_and c.from_residual.result c.from_residual.ensures.1 in
     rw (p.1, p.2) (λ valid. only_memory _ valid c.in_err-check_rule.field-0.0 (first c))
 
@@ -45,3 +45,8 @@ pub returns-clause-faultless : goal.returns-clause-faultless
 returns-clause-faultless c =
     rw (← c.deref-rule-items.ensures.value)
     (no_fault _ _ c.loop-i.i c.loop-i.invariant c.loop-i-test.false (limits (goal.at.returns-clause-faultless c).After-deref-rule-items))
+
+pub returns-clause-within : goal.returns-clause-within
+returns-clause-within c =
+    rw (← c.deref-rule-items.ensures.value)
+    (all_rules _ _ c.loop-i.i c.loop-i.invariant c.loop-i-test.false (limits (goal.at.returns-clause-within c).After-deref-rule-items))
