@@ -5,11 +5,11 @@ ghost use Rattle.trs_defs.specs.WellFormed.{IsWellFormed};
 ghost use Rattle.trs_defs.specs.Path.{Follows};
 ghost use Rattle.trs_defs.specs.Claims.{IsForked};
 ghost use Rattle.rewrite_core.specs.LoopRefusal.{RefusedFor};
-ghost use Rattle.cert_step.specs.ProofProblem.{ProofProblem, problem_of};
-ghost use Rattle.cert_step.specs.ProofStep.{fork};
+ghost use Rattle.cert_step.specs.ProofProblem.{ProofProblem, problem_of, Means};
+ghost use Rattle.cert_step.specs.ProofStep.{fork, IsWellMade};
 ghost use Rattle.cert_step.specs.Applies.{Applies, IsNormalFork};
 ghost use Rattle.cert_step.specs.Refused.{IsRefused, IsForkRefusal};
-ghost use Rattle.cert_step.specs.ProblemsLeft.{GivesProblems};
+ghost use Rattle.cert_step.specs.ProblemsLeft.{EachMeans, GivesProblems};
 ghost use Rattle.cert_step.specs.Ends.{GivesEnd, IsEndRefusal};
 
 use crate::Problem;
@@ -29,13 +29,14 @@ pub(crate) fn apply_fork(
     right: &[PathStep],
     test: ForkTest,
 ) -> Result<Vec<Problem>, CheckFault>
-    requires { test ≡ ForkTest.Normal }
+    requires { IsWellMade trs.now (fork (tree start.now) left.now right.now test) }
     ensures ok { IfOk result (λ left_over. Applies trs.now (problem_of problem.now) (fork (tree start.now) left.now right.now test)
         (map problem_of left_over.items)) }
     ensures refused { IfErr result (RefusedFor (IsRefused trs.now (problem_of problem.now)
         (fork (tree start.now) left.now right.now test))) }
     ensures only { (left_over : List ProofProblem) → Applies trs.now (problem_of problem.now)
         (fork (tree start.now) left.now right.now test) left_over → GivesProblems result left_over }
+    ensures sound { IfOk result (λ left_over. EachMeans trs.now (map problem_of left_over.items) → Means trs.now (problem_of problem.now)) }
 {
     match problem {
         Problem::Fork => {
