@@ -71,13 +71,6 @@ impl NamedTrs {
         &self.trs
     }
 
-    /// The names, in the order of the symbols' numbers.
-    pub(crate) fn names(&self) -> &Names
-        ensures { result.now ≡ self.now.names }
-    {
-        &self.names
-    }
-
     /// The number of symbols.
     pub fn symbols(&self) -> u32
         ensures symbols { result ≡ length self.now.system.arities }

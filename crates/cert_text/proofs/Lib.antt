@@ -3,3 +3,7 @@ pub mod NumeralBounds
 pub mod Depths
 pub mod Faultless
 pub mod Certificates
+pub mod LeastPlaces
+pub mod OneCertificate
+pub mod WellMadeTerms
+pub mod WellMadeSteps

@@ -5,3 +5,4 @@ pub mod CertificateText
 pub mod HeadClaim
 pub mod Unreadable
 pub mod StepMembers
+pub mod NumbersInRange

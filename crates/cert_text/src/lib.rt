@@ -4,6 +4,7 @@
 mod certificate;
 mod checking;
 mod fault;
+mod laws;
 mod numbers;
 mod paths;
 mod reading;
@@ -12,4 +13,5 @@ mod terms;
 
 pub use certificate::Certificate;
 pub use fault::CertFault;
+pub use laws::least_place_is_least;
 pub use reading::read_certificate;
