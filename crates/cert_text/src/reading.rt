@@ -1,19 +1,19 @@
-ghost use Rattle.std.specs.Prelude.{◌≡◌, ◌≤◌, ◌^◌, [], None, Some, length, map, IfOk, IfErr, MatchResult};
+ghost use Rattle.std.specs.Prelude.{◌≡◌, ◌≤◌, ◌^◌, [], length, All, IfOk, IfErr, MatchResult};
 ghost use Rattle.sexp_core.specs.Items.{view, views};
 ghost use Rattle.ari_text.specs.Named.{NamedSystem};
-ghost use Rattle.cert_step.specs.ProofStep.{step_at_of};
+ghost use Rattle.cert_step.specs.ProofStep.{IsWellMade};
 ghost use Rattle.cert_text.specs.ProofText.{ProofText, proof_text_of};
-ghost use Rattle.cert_text.specs.Written.{claim_word as word_claim, steps_of};
-ghost use Rattle.cert_text.specs.TextFaults.{claim_faults, steps_faults};
+ghost use Rattle.cert_text.specs.Written.{claim_word as word_claim};
+ghost use Rattle.cert_text.specs.TextFaults.{steps_faults};
 ghost use Rattle.cert_text.specs.HeadClaim.{claim_in_head};
-ghost use Rattle.cert_text.specs.CertificateText.{least_place, is_headline as headline_word, headline_fault as fault_of_headline, body_fault as fault_of_body, numbered_fault as fault_behind_number, head_list_fault as fault_of_head_list, head_fault as fault_of_head, later_fault as fault_of_later, certificate_fault, is_yes as says_yes, claim_of as claim_said, step_items as items_of_steps, proof_text_of_items, SaysCertificate, IsRefused};
+ghost use Rattle.cert_text.specs.CertificateText.{is_headline as headline_word, headline_fault as fault_of_headline, body_fault as fault_of_body, numbered_fault as fault_behind_number, head_list_fault as fault_of_head_list, head_fault as fault_of_head, later_fault as fault_of_later, certificate_fault, is_yes as says_yes, claim_of as claim_said, step_items as items_of_steps, proof_text_of_items, SaysCertificate, IsRefused};
 
 use crate::certificate::Certificate;
 use crate::checking::note_unless;
 use crate::fault::CertFault;
 use crate::steps::{build_steps, note_steps};
 use ari_text::NamedTrs;
-use cert_step::{Claim, NodeStep};
+use cert_step::Claim;
 use numerals::numeral_value;
 use sexp_core::{Sexp, read_all};
 use std::alloc::Global;
@@ -217,7 +217,7 @@ fn build_certificate(
 /// What a certificate text says over the symbols of a system. Places are byte offsets from 0. The text is refused for its
 /// fault as a list of items, else for its headline, else for its head, else for another version than 1, else for the
 /// least place of what can't stand where it does.
-#[tactic(auto, using(crate::proofs::Certificates::refused_text, crate::proofs::Certificates::refused_items, crate::proofs::Certificates::steps_faultless))]
+#[tactic(auto, using(crate::proofs::Certificates::refused_text, crate::proofs::Certificates::refused_items, crate::proofs::WellMadeSteps::steps_faultless))]
 pub fn read_certificate(
     alloc: Global,
     system: &NamedTrs,
@@ -226,8 +226,11 @@ pub fn read_certificate(
     requires size { length text.now ≤ 2 ^ 31 }
     ensures found { IfOk result (λ c. SaysCertificate system.now text.now (proof_text_of c)) }
     ensures refused { IfErr result (IsRefused system.now text.now) }
+    ensures well_made { IfOk result (λ c. All (λ s. IsWellMade system.now.system s.step) (proof_text_of c).steps) }
     ensures only { (says : ProofText) → SaysCertificate system.now text.now says → MatchResult result (λ c. proof_text_of c ≡ says) (λ e. e ≡ CertFault.OutOfMemory) }
 {
+    // The system is named, by the contract of `trs`.
+    let _trs = system.trs();
     let items = read_all(alloc, text, 1_040)?;
     match items_fault(system, text.len() as u32, &items) {
         Some(fault) => Err(fault),

@@ -31,7 +31,6 @@ fn note_word(least: &mut Option<u32>, at: u32, arity: Option<u8>)
 }
 
 // The arguments of a term at a place, where its head wants so many.
-#[tactic(auto, using(crate::proofs::NotedPlaces::count_by_extra))]
 fn note_count(least: &mut Option<u32>, at: u32, arity: u8, args: &[Sexp])
     ensures { least.new ≡ least_place least.old (count_faults at arity (views args.now)) }
 {
