@@ -1,16 +1,15 @@
 -- Why a certificate text is refused, and what it claims.
-use Rattle.std.proofs.Common.{◌≡◌, ℕ, Bool, true, false, cond, List, [], ◌∷◌, ◌++◌, length, nat_lt, Option, Some, None, inl, inr, refl}
+use Rattle.std.proofs.Common.{◌≡◌, ℕ, List, length, Some, None, inl, inr, refl}
 use Rattle.sexp_core.specs.declared.fault.TextFault.{TextFault}
 use Rattle.sexp_core.specs.declared.fault.TextFault.TheVariants as text
 use Rattle.sexp_core.specs.Items.{Item, a_word, a_list, Items, no_items, item}
 use Rattle.sexp_core.specs.Reads.{Reads, Fails, fault_of}
 use Rattle.ari_text.specs.Named.{NamedSystem}
-use Rattle.cert_step.specs.declared.claim.Claim.{Claim}
 use Rattle.cert_text.specs.declared.fault.CertFault.{CertFault}
 use Rattle.cert_text.specs.declared.fault.CertFault.TheVariants.{Text, Version, OutOfMemory}
 use Rattle.cert_text.specs.Unreadable.{from_text}
 use Rattle.cert_text.specs.HeadClaim.{claim_in_head}
-use Rattle.cert_text.specs.CertificateText.{place_of_text_fault, certificate_fault, claim_of, HasFault, IsUnreadable, IsRefused}
+use Rattle.cert_text.specs.CertificateText.{place_of_text_fault, certificate_fault, claim_of, HasFault, IsRefused}
 
 -- ---- refusals
 

@@ -1,10 +1,10 @@
 -- The least place of two lists, and the faults of a number of arguments by the first that is too many.
-use Rattle.std.proofs.Common.{◌≡◌, ℕ, zero, suc, ◌==◌, Bool, true, false, List, [], ◌∷◌, ◌++◌, length, Option, Some, None, refl, sym, ap, ◌∙◌, Vec, Global}
+use Rattle.std.proofs.Common.{◌≡◌, ℕ, zero, suc, ◌==◌, Bool, List, [], ◌∷◌, ◌++◌, length, Option, Some, None, refl, sym, ap, ◌∙◌, Vec, Global}
 use Rattle.std.proofs.Math.Dec.{eqb-zero-suc, eqb-suc-suc}
-use Rattle.std.specs.Prelude.{slice_get, option_map}
+use Rattle.std.specs.Prelude.{slice_get}
 use Rattle.sexp_core.specs.declared.sexp.Sexp.{Sexp, List as list_of, Word as word_of}
 use Rattle.sexp_core.proofs.Viewing.{view_list, view_word}
-use Rattle.sexp_core.specs.Items.{Item, a_word, a_list, Items, no_items, item, view, views}
+use Rattle.sexp_core.specs.Items.{a_word, a_list, item, view, views}
 use Rattle.ari_text.specs.Named.{NamedSystem}
 use Rattle.ari_text.specs.Entries.{place_of}
 use Rattle.cert_text.specs.CertificateText.{lesser, least_place}

@@ -15,3 +15,6 @@ pub use certificate::Certificate;
 pub use fault::CertFault;
 pub use laws::least_place_is_least;
 pub use reading::read_certificate;
+
+#[cfg(test)]
+mod reading_tests;

@@ -34,13 +34,7 @@ fn headline_fault(item: &Sexp) -> Option<u32>
 {
     match item {
         Sexp::List(_, at) => Some(*at),
-        Sexp::Word(word, at) => {
-            if is_headline(word) {
-                None
-            } else {
-                Some(*at)
-            }
-        }
+        Sexp::Word(word, at) => { if is_headline(word) { None } else { Some(*at) } }
     }
 }
 

@@ -266,7 +266,11 @@ fn build_step(alloc: Global, system: &NamedTrs, item: &Sexp) -> Result<NodeStep,
 
 /// The steps that faultless items write.
 #[tactic(auto, using(crate::proofs::Faultless::left_empty, crate::proofs::Faultless::right_empty, crate::proofs::Faultless::steps_push, std::proofs::lemmas::Grind::common_steps))]
-pub fn build_steps(alloc: Global, system: &NamedTrs, items: &[Sexp]) -> Result<Vec<NodeStep>, OutOfMemory>
+pub fn build_steps(
+    alloc: Global,
+    system: &NamedTrs,
+    items: &[Sexp],
+) -> Result<Vec<NodeStep>, OutOfMemory>
     requires { steps_faults system.now (views items.now) ≡ [] }
     ensures { IfOk result (λ steps. map step_at_of steps.items ≡ steps_of system.now.names (views items.now)) }
 {

@@ -9,6 +9,7 @@ use sexp_core::Sexp;
 
 /// The most nodes and the greatest depth of a term.
 const MOST_NODES: u32 = 65_536;
+
 const GREATEST_DEPTH: u32 = 1_024;
 
 fn arity(system: &NamedTrs, name: &[u8]) -> Option<u8>

@@ -1,7 +1,7 @@
 use Rattle.std.proofs.Common.{◌≡◌, ◌∙◌, ◌==◌, ◌∷◌, [], length, Some, None, refl, sym, ap, rules}
 use Rattle.std.proofs.lemmas.Option.{slice_get_read, slice_get_past}
 use Rattle.std.specs.Prelude.{slice_get}
-use Rattle.sexp_core.specs.Items.{view, views}
+use Rattle.sexp_core.specs.Items.{view}
 use Rattle.ari_text.specs.Entries.{place_of}
 use Rattle.cert_text.specs.CertificateText.{least_place}
 use Rattle.cert_text.specs.TextFaults.{none_if}
