@@ -1,7 +1,6 @@
 use super::*;
 use ari_text::{NamedTrs, read_problem};
-use cert_step::{Claim, NodeStep, Step};
-use rewrite_core::PathStep;
+use cert_step::{Claim, Step};
 use std::test::*;
 
 /// One symbol, `f` of arity 1, and no rules.
@@ -70,19 +69,19 @@ fn reads_a_loop(rt: HostRuntime) -> Result<(), Fail> {
         .ok_or("a certificate")?;
     assert_eq!(rt; certificate.headline, false);
     assert_eq!(rt; certificate.claim, Claim::Nonterminating);
-    let [
-        NodeStep {
-            node: 0,
-            step: Step::Loop { path, place, .. },
-        },
-    ] = certificate.steps.as_slice()
-    else {
-        return Err(Fail::new("one loop"));
+    assert_eq!(rt; certificate.steps.len(), 1);
+    let Some(step) = certificate.steps.first() else {
+        return Err(Fail::new("a step"));
+    };
+    assert_eq!(rt; step.node, 0);
+    let Step::Loop { path, place, .. } = &step.step else {
+        return Err(Fail::new("a loop"));
     };
     assert_eq!(rt; place.places().len(), 0);
-    let [PathStep { place, rule: 0 }] = path.as_slice() else {
-        return Err(Fail::new("one step"));
+    let Some(first) = path.first() else {
+        return Err(Fail::new("a step of the path"));
     };
-    assert_eq!(rt; place.places(), [1u8].as_slice());
+    assert_eq!(rt; (path.len(), first.rule), (1, 0));
+    assert_eq!(rt; first.place.places(), [1u8].as_slice());
     Ok(())
 }
