@@ -1,10 +1,11 @@
-ghost use Rattle.std.specs.Prelude.{◌≡◌, IfOk};
+ghost use Rattle.std.specs.Prelude.{◌≡◌, [], IfOk};
 ghost use Rattle.sexp_core.specs.Items.{view, views};
 ghost use Rattle.trs_core.specs.View.{tree, forest};
 ghost use Rattle.ari_text.specs.Names.{number_among};
-ghost use Rattle.ari_text.specs.Terms.{word_term, applied, term_of, terms_of, rule_of, rules_of};
+ghost use Rattle.ari_text.specs.Terms.{variables_after, word_term, applied, term_of, terms_of, rule_of, rules_of};
 
 use crate::entry::{Saying, read_entry};
+use crate::named::NamedTrs;
 use crate::names::Names;
 use crate::variables::{Variables, variables_of};
 use sexp_core::Sexp;
@@ -72,6 +73,15 @@ fn build_terms<'a>(
         terms.push(build_term(alloc, symbols, variables, item)?)?;
     }
     Ok(terms)
+}
+
+/// The term that an item writes over the symbols of a system. Its variables are numbered from 0 in the order of their
+/// first occurrences in it.
+pub fn own_term(alloc: Global, system: &NamedTrs, item: &Sexp) -> Result<Term, OutOfMemory>
+    ensures { IfOk result (λ t. tree t ≡ term_of system.now.names (variables_after system.now.names [] (view item.now)) (view item.now)) }
+{
+    let variables = variables_of(alloc, system.names(), item)?;
+    build_term(alloc, system.names(), &variables, item)
 }
 
 // The rule that two items write.

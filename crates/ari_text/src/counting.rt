@@ -68,10 +68,10 @@ fn without_sides(left: &Sexp, right: &Sexp, room: Option<u32>) -> Option<u32>
     without_term(right, without_term(left, room))
 }
 
-// The nodes that are left behind a term.
+/// The nodes that are left of so many behind a term.
 #[cycle(nodes)]
 #[tactic(auto, using(crate::proofs::Rooms::nodes_left_sum, crate::proofs::Rooms::nodes_left_nothing, std::proofs::lemmas::Grind::common_steps))]
-fn without_term(term: &Sexp, room: Option<u32>) -> Option<u32>
+pub fn without_term(term: &Sexp, room: Option<u32>) -> Option<u32>
     ensures { result ≡ nodes_left (nodes_of (view term.now)) room }
 {
     let room = room?.checked_sub(1)?;

@@ -27,6 +27,7 @@ const SAYS_NOTHING: Entry<'static> = Entry {
     attribute: None,
 };
 
+/// The place of an item in its text.
 pub fn place(item: &Sexp) -> u32
     ensures { result ≡ place_of (view item.now) }
 {

@@ -18,7 +18,10 @@ mod symbols;
 mod variable_names;
 mod variables;
 
+pub use building::own_term;
+pub use counting::without_term;
 pub use digits::digits_value;
+pub use entry::place;
 pub use fault::AriFault;
 pub use laws::least_is_least;
 pub use lone_term::read_term;

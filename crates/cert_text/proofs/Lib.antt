@@ -1,0 +1,9 @@
+pub mod NotedPlaces
+pub mod NumeralBounds
+pub mod Depths
+pub mod Faultless
+pub mod Certificates
+pub mod LeastPlaces
+pub mod OneCertificate
+pub mod WellMadeTerms
+pub mod WellMadeSteps
