@@ -1,3 +1,9 @@
+pub mod NameKeys
+pub mod SymbolPairs
+pub mod Rooms
+pub mod Noting
+pub mod BuiltTerms
+pub mod VariableKeys
 pub mod VariableNames
 pub mod Leasts
 pub mod OneSystem
@@ -8,3 +14,13 @@ pub mod TermReadings
 pub mod SideReadings
 pub mod RuleCounts
 pub mod Faultless
+pub mod PrintedText
+pub mod NamedSteps
+pub mod Placeless
+pub mod ItemFaults
+pub mod Refusals
+pub mod PrintedNames
+pub mod PrintedTerms
+pub mod PrintedItems
+pub mod ReadBack
+pub mod LoneTerms

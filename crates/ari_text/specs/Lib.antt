@@ -6,3 +6,13 @@ pub mod Least
 pub mod Faults
 pub mod Named
 pub mod Problem
+pub mod NameTable
+pub mod FaultParts
+pub mod EntryView
+pub mod Counted
+pub mod ScopeView
+pub mod VariableNames
+pub mod PrintedProblem
+pub mod NamesFault
+pub mod PartsView
+pub mod ReadTerm

@@ -1,4 +1,11 @@
+ghost use Rattle.std.specs.Prelude.{◌≡◌};
+ghost use Rattle.std.specs.Option.{option_copied};
+ghost use Rattle.ari_text.specs.Least.{comes_before, place_of_fault, number_of_fault, earlier};
+ghost use Rattle.ari_text.specs.FaultParts.{from_text, text_number, text_place, shown_place, text_number_of};
+ghost use Rattle.ari_text.specs.declared.fault.AriFault.TheVariants.{OutOfMemory as no_memory};
+
 use sexp_core::TextFault;
+use std::alloc::{AllocError, AllocFailed};
 
 /// Why a problem text has no system. Places are byte offsets from 0. The numbers 1 to 14 are in the order of the
 /// variants.
@@ -31,4 +38,160 @@ pub enum AriFault {
     /// A subterm at depth 257, where a side stands at depth 1.
     TooDeep(u32),
     OutOfMemory,
+}
+
+impl AriFault {
+    /// The number of the fault, 1 to 14.
+    pub fn number(&self) -> u8
+        ensures { result ≡ number_of_fault self.now }
+    {
+        match self {
+            AriFault::Text(_) => 1,
+            AriFault::NoFormat => 2,
+            AriFault::OtherFormat(_) => 3,
+            AriFault::BadItem(_) => 4,
+            AriFault::Twice(_) => 5,
+            AriFault::BadArity(_) => 6,
+            AriFault::Unknown(_) => 7,
+            AriFault::WrongArity(_) => 8,
+            AriFault::LeftIsVariable(_) => 9,
+            AriFault::ExtraVariable(_) => 10,
+            AriFault::Attribute(_) => 11,
+            AriFault::TooMany(_) => 12,
+            AriFault::TooDeep(_) => 13,
+            AriFault::OutOfMemory => 14,
+        }
+    }
+
+    /// The place of the fault in the text, where it has one; of a text fault its own place.
+    pub fn place(&self) -> Option<u32>
+        ensures { result ≡ shown_place self.now }
+    {
+        match self {
+            AriFault::Text(fault) => text_place_of(fault),
+            AriFault::NoFormat | AriFault::OutOfMemory => None,
+            AriFault::OtherFormat(at)
+            | AriFault::BadItem(at)
+            | AriFault::Twice(at)
+            | AriFault::BadArity(at)
+            | AriFault::Unknown(at)
+            | AriFault::WrongArity(at)
+            | AriFault::LeftIsVariable(at)
+            | AriFault::ExtraVariable(at)
+            | AriFault::Attribute(at)
+            | AriFault::TooMany(at)
+            | AriFault::TooDeep(at) => Some(*at),
+        }
+    }
+
+    /// The number of a text fault among its like, 1 to 5.
+    pub fn text_number(&self) -> Option<u8>
+        ensures { result ≡ text_number_of self.now }
+    {
+        let AriFault::Text(fault) = self else {
+            return None;
+        };
+        Some(text_number_of(fault))
+    }
+
+    // The place by which faults are compared.
+    fn offset(&self) -> u32
+        ensures { result ≡ place_of_fault self.now }
+    {
+        match self {
+            AriFault::Text(_) | AriFault::NoFormat | AriFault::OutOfMemory => 0,
+            AriFault::OtherFormat(at)
+            | AriFault::BadItem(at)
+            | AriFault::Twice(at)
+            | AriFault::BadArity(at)
+            | AriFault::Unknown(at)
+            | AriFault::WrongArity(at)
+            | AriFault::LeftIsVariable(at)
+            | AriFault::ExtraVariable(at)
+            | AriFault::Attribute(at)
+            | AriFault::TooMany(at)
+            | AriFault::TooDeep(at) => *at,
+        }
+    }
+
+    #[tactic(auto, unfolding(crate::specs::Least::comes_before))]
+    fn comes_before(&self, other: &AriFault) -> bool
+        ensures { result ≡ comes_before self.now other.now }
+    {
+        self.offset() < other.offset()
+            || self.offset() == other.offset() && self.number() < other.number()
+    }
+}
+
+fn text_number_of(fault: &TextFault) -> u8
+    ensures { result ≡ text_number fault.now }
+{
+    match fault {
+        TextFault::BadByte(_) => 1,
+        TextFault::UnclosedAt(_) => 2,
+        TextFault::ExtraClose(_) => 3,
+        TextFault::TooDeep(_) => 4,
+        TextFault::OutOfMemory => 5,
+    }
+}
+
+fn text_place_of(fault: &TextFault) -> Option<u32>
+    ensures { result ≡ text_place fault.now }
+{
+    match fault {
+        TextFault::BadByte(at)
+        | TextFault::UnclosedAt(at)
+        | TextFault::ExtraClose(at)
+        | TextFault::TooDeep(at) => Some(*at),
+        TextFault::OutOfMemory => None,
+    }
+}
+
+/// Keeps the fault with the least place, and at one place with the least number.
+pub fn note(least: &mut Option<AriFault>, fault: AriFault)
+    ensures { least.new ≡ earlier least.old fault }
+{
+    match least {
+        None => *least = Some(fault),
+        Some(known) => {
+            if fault.comes_before(known) {
+                *least = Some(fault);
+            }
+        }
+    }
+}
+
+impl From<AllocError> for AriFault {
+    ghost from_gives = { λ _ e. e ≡ no_memory };
+
+    fn from(_e: AllocError) -> AriFault {
+        AriFault::OutOfMemory
+    }
+}
+
+impl<T: Drop> From<AllocFailed<T>> for AriFault {
+    ghost from_gives = { λ _ e. e ≡ no_memory };
+
+    fn from(_e: AllocFailed<T>) -> AriFault {
+        AriFault::OutOfMemory
+    }
+}
+
+impl From<trs_core::OutOfMemory> for AriFault {
+    ghost from_gives = { λ _ e. e ≡ no_memory };
+
+    fn from(_e: trs_core::OutOfMemory) -> AriFault {
+        AriFault::OutOfMemory
+    }
+}
+
+impl From<TextFault> for AriFault {
+    ghost from_gives = { λ f e. e ≡ from_text f };
+
+    fn from(fault: TextFault) -> AriFault {
+        match fault {
+            TextFault::OutOfMemory => AriFault::OutOfMemory,
+            fault => AriFault::Text(fault),
+        }
+    }
 }

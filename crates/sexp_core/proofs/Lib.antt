@@ -4,3 +4,4 @@ pub mod Viewing
 pub mod Stack
 pub mod Again
 pub mod Words
+pub mod Existence

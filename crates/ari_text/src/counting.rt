@@ -1,0 +1,99 @@
+ghost use Rattle.std.specs.Prelude.{◌≡◌, ◌+◌};
+ghost use Rattle.sexp_core.specs.Items.{view, views};
+ghost use Rattle.ari_text.specs.EntryView.{entry_view, saying_view};
+ghost use Rattle.ari_text.specs.Faults.{whole_room, room_after, nodes_left};
+ghost use Rattle.ari_text.specs.Terms.{nodes_of, nodes_behind, nodes_of_all};
+ghost use Rattle.ari_text.specs.Counted.{is_too_many};
+
+use crate::entry::{Entry, Saying};
+use sexp_core::Sexp;
+use std::marker::Model;
+
+/// How many `fun` and `rule` items come up to the first that is too many, and how many nodes may still come.
+#[derive(Drop)]
+pub struct Room {
+    funs: u32,
+    rules: u32,
+    nodes: Option<u32>,
+}
+
+impl Model for Room {
+    ghost use Rattle.ari_text.specs.Faults.{Room as Counts};
+
+    ghost Value = { Counts };
+
+    ghost view = { λ r. record { funs = r.funs; rules = r.rules; nodes = r.nodes } };
+}
+
+impl Room {
+    pub fn new() -> Room
+        ensures { result ≡ whole_room }
+    {
+        Room {
+            funs: 4_096,
+            rules: 4_096,
+            nodes: Some(65_536),
+        }
+    }
+
+    /// Counts an item, and says whether it is too many.
+    pub fn count(&mut self, entry: &Entry<'_>) -> bool
+        ensures room { self.new ≡ room_after self.old (entry_view entry.now) }
+        ensures too_many { result ≡ is_too_many self.old (entry_view entry.now) }
+    {
+        match &entry.saying {
+            Saying::Nothing => false,
+            Saying::Declares(_, _, _, _) => {
+                let is_last = self.funs == 1;
+                self.funs = self.funs.saturating_sub(1);
+                is_last
+            }
+            Saying::Rewrites(left, right) => {
+                let is_last = self.rules == 1;
+                self.rules = self.rules.saturating_sub(1);
+                let nodes = without_sides(left, right, self.nodes);
+                let passes = self.nodes.is_some() && nodes.is_none();
+                self.nodes = nodes;
+                is_last || passes
+            }
+        }
+    }
+}
+
+// The nodes that are left behind both sides of a rule.
+#[tactic(auto, using(crate::proofs::Rooms::nodes_left_sum))]
+fn without_sides(left: &Sexp, right: &Sexp, room: Option<u32>) -> Option<u32>
+    ensures { result ≡ nodes_left (nodes_of (view left.now) + nodes_of (view right.now)) room }
+{
+    without_term(right, without_term(left, room))
+}
+
+// The nodes that are left behind a term.
+#[cycle(nodes)]
+#[tactic(auto, using(crate::proofs::Rooms::nodes_left_sum, crate::proofs::Rooms::nodes_left_nothing, std::proofs::lemmas::Grind::common_steps))]
+fn without_term(term: &Sexp, room: Option<u32>) -> Option<u32>
+    ensures { result ≡ nodes_left (nodes_of (view term.now)) room }
+{
+    let room = room?.checked_sub(1)?;
+    match term {
+        Sexp::Word(_, _) => Some(room),
+        Sexp::List(members, _) => {
+            let Some((_, args)) = members.split_first() else {
+                return Some(room);
+            };
+            without_terms(args, Some(room))
+        }
+    }
+}
+
+#[cycle(nodes)]
+#[tactic(auto, using(crate::proofs::Rooms::nodes_left_sum, crate::proofs::Rooms::nodes_left_nothing, std::proofs::lemmas::Grind::common_steps))]
+fn without_terms(terms: &[Sexp], room: Option<u32>) -> Option<u32>
+    ensures { result ≡ nodes_left (nodes_of_all (views terms.now)) room }
+{
+    let mut room = room;
+    for term in terms {
+        room = without_term(term, room);
+    }
+    room
+}

@@ -1,0 +1,113 @@
+ghost use Rattle.std.specs.Prelude.{◌≡◌, ◌++◌, ◌∷◌, [], slice_index_or, OnOk, IfOk};
+ghost use Rattle.sexp_core.specs.Items.{item, no_items};
+ghost use Rattle.sexp_core.specs.Printed.{text_of, lines};
+ghost use Rattle.trs_core.specs.View.{tree};
+ghost use Rattle.ari_text.specs.PrintedProblem.{term_item, symbol_items, rule_items, problem_items};
+
+use crate::named::NamedTrs;
+use crate::variable_names::{put_variable, underscores};
+use itoa::Buffer;
+use std::alloc::Global;
+use trs_core::{OutOfMemory, Rule, Term};
+
+/// The text of a problem: a line `(format TRS)`, a line `(fun name arity)` for each symbol, and a line `(rule left right)`
+/// for each rule, with one blank between members and constants without brackets. Variable i is written as underscores and
+/// i in decimal, so that its name is that of no symbol.
+pub fn print_problem(alloc: Global, system: &NamedTrs) -> Result<Vec<u8>, OutOfMemory>
+    ensures { IfOk result (λ text. text.items ≡ lines (problem_items system.now)) }
+{
+    let mut out = Vec::new(alloc);
+    out.extend_from_slice(b"(format TRS)\n")?;
+    put_symbols(&mut out, system)?;
+    put_rules(&mut out, system, underscores(system), system.trs().rules())?;
+    Ok(out)
+}
+
+fn put_symbols(out: &mut Vec<u8>, system: &NamedTrs) -> Result<(), OutOfMemory>
+    ensures { OnOk result (out.new.items ≡ out.old.items ++ lines (symbol_items system.now.names system.now.system.arities no_items)) }
+{
+    let arities = system.trs().arities();
+    for f in 0..arities.len() {
+        put_symbol(out, system.name(f as u32), arities[f])?;
+    }
+    Ok(())
+}
+
+fn put_symbol(out: &mut Vec<u8>, name: &[u8], arity: u8) -> Result<(), OutOfMemory>
+    ensures { OnOk result (out.new.items ≡ out.old.items ++ lines (symbol_items (name.now ∷ []) (arity ∷ []) no_items)) }
+{
+    let mut buffer = Buffer::new();
+    out.extend_from_slice(b"(fun ")?;
+    out.extend_from_slice(name)?;
+    out.push(b' ')?;
+    out.extend_from_slice(buffer.format(arity).as_bytes())?;
+    out.extend_from_slice(b")\n")?;
+    Ok(())
+}
+
+fn put_rules(
+    out: &mut Vec<u8>,
+    system: &NamedTrs,
+    underscores: usize,
+    rules: &[Rule],
+) -> Result<(), OutOfMemory>
+    ensures { OnOk result (out.new.items ≡ out.old.items ++ lines (rule_items underscores system.now.names rules.now)) }
+{
+    for rule in rules {
+        put_rule(out, system, underscores, rule)?;
+    }
+    Ok(())
+}
+
+fn put_rule(
+    out: &mut Vec<u8>,
+    system: &NamedTrs,
+    underscores: usize,
+    rule: &Rule,
+) -> Result<(), OutOfMemory>
+    ensures { OnOk result (out.new.items ≡ out.old.items ++ lines (rule_items underscores system.now.names (rule.now ∷ []))) }
+{
+    out.extend_from_slice(b"(rule ")?;
+    put_term(out, system, underscores, &rule.left)?;
+    out.push(b' ')?;
+    put_term(out, system, underscores, &rule.right)?;
+    out.extend_from_slice(b")\n")?;
+    Ok(())
+}
+
+/// Appends the text of a term, with so many underscores before each variable. A symbol that the system does not have is
+/// written as no bytes.
+pub fn put_term(
+    out: &mut Vec<u8>,
+    system: &NamedTrs,
+    underscores: usize,
+    term: &Term,
+) -> Result<(), OutOfMemory>
+    ensures { OnOk result (out.new.items ≡ out.old.items ++ text_of (term_item underscores system.now.names (tree term.now))) }
+{
+    match term {
+        Term::Var(v) => put_variable(out, underscores, *v),
+        Term::App(f, args) => {
+            if args.items.is_empty() {
+                return put_name(out, system, *f);
+            }
+            out.push(b'(')?;
+            put_name(out, system, *f)?;
+            for arg in &args.items {
+                out.push(b' ')?;
+                put_term(out, system, underscores, arg)?;
+            }
+            out.push(b')')?;
+            Ok(())
+        }
+    }
+}
+
+fn put_name(out: &mut Vec<u8>, system: &NamedTrs, f: u32) -> Result<(), OutOfMemory>
+    ensures { OnOk result (out.new.items ≡ out.old.items ++ slice_index_or system.now.names f []) }
+{
+    if (f as usize) < system.trs().arities().len() {
+        out.extend_from_slice(system.name(f))?;
+    }
+    Ok(())
+}
