@@ -30,3 +30,5 @@ pub use variable_names::{put_variable, underscores};
 
 #[cfg(test)]
 mod reading_tests;
+#[cfg(test)]
+mod printing_tests;

@@ -6,7 +6,7 @@ use Rattle.trs_defs.specs.System.{RewriteRule, System}
 use Rattle.trs_defs.specs.Step.{Step}
 use Rattle.trs_defs.specs.Path.{PlacedRule, Follows}
 use Rattle.trs_defs.specs.Loop.{IsLoop}
-use Rattle.rewrite_core.specs.declared.forks.ForkTest.TheVariants.{Normal, Apart}
+use Rattle.rewrite_core.specs.declared.forks.ForkTest.TheVariants.{Normal}
 use Rattle.cert_step.specs.ProofProblem as problem
 use Rattle.cert_step.specs.ProofProblem.{ProofProblem}
 use Rattle.cert_step.specs.ProofStep as step

@@ -1,3 +1,9 @@
+ghost use Rattle.std.specs.Prelude.{◌≡◌, ◌↔◌, IfOk, IsTrue};
+ghost use Rattle.cert_step.specs.ProofProblem.{problem_of};
+
+use std::alloc::Global;
+use trs_core::OutOfMemory;
+
 /// What has to be shown of a system at a node of a proof. Contracts see it as a `ProofProblem`, by
 /// `problem_of`.
 #[derive(Debug, Drop)]
@@ -15,4 +21,35 @@ pub enum Problem {
     CrNewman,
     /// It is forked: two terms that some term reaches are not joinable.
     Fork,
+}
+
+impl Problem {
+    pub fn copy(&self, alloc: Global) -> Result<Problem, OutOfMemory>
+        ensures { IfOk result (λ p. problem_of p ≡ problem_of self.now) }
+    {
+        Ok(match self {
+            Problem::Sn => Problem::Sn,
+            Problem::Dp(pairs) => Problem::Dp(pairs.to_vec(alloc)?),
+            Problem::Loop => Problem::Loop,
+            Problem::Cr => Problem::Cr,
+            Problem::CrNewman => Problem::CrNewman,
+            Problem::Fork => Problem::Fork,
+        })
+    }
+
+    pub fn same(&self, other: &Problem) -> bool
+        ensures { IsTrue result ↔ (problem_of self.now ≡ problem_of other.now) }
+    {
+        match self {
+            Problem::Sn => matches!(other, Problem::Sn),
+            Problem::Dp(pairs) => match other {
+                Problem::Dp(others) => pairs == others,
+                _ => false,
+            },
+            Problem::Loop => matches!(other, Problem::Loop),
+            Problem::Cr => matches!(other, Problem::Cr),
+            Problem::CrNewman => matches!(other, Problem::CrNewman),
+            Problem::Fork => matches!(other, Problem::Fork),
+        }
+    }
 }

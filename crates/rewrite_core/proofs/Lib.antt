@@ -1,3 +1,4 @@
 pub mod StepLemmas
 pub mod PutLemmas
 pub mod PathLemmas
+pub mod RedexLemmas

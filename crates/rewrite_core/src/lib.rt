@@ -6,15 +6,19 @@ mod current;
 mod forks;
 mod laws;
 mod loops;
+mod normal;
 mod paths;
+mod reasons;
 mod refusals;
 mod steps;
 
 pub use forks::ForkTest;
 pub use laws::{each_position_has_small_places, each_step_has_a_place};
 pub use loops::loop_check;
+pub use normal::is_normal;
 pub use paths::{PathFault, PathStep, run_path};
-pub use refusals::{CheckFault, StepRefused};
+pub use reasons::RefusalFields;
+pub use refusals::{CheckFault, StepRefused, path_refused};
 pub use steps::{StepFault, step_at};
 
 #[cfg(test)]

@@ -1,35 +1,45 @@
-ghost use Rattle.std.specs.Prelude.{◌↔◌, IsTrue, IfOk};
+ghost use Rattle.std.specs.Prelude.{OnOk, IfErr, IsOkUnless};
 ghost use Rattle.trs_core.specs.View.{tree};
 ghost use Rattle.trs_defs.specs.WellFormed.{IsWellFormed};
 ghost use Rattle.trs_defs.specs.Loop.{IsLoop};
 ghost use Rattle.trs_defs.specs.Claims.{IsEndless};
+ghost use Rattle.rewrite_core.specs.LoopRefusal.{IsLoopRefusal, RefusedFor};
 
-use crate::{PathFault, PathStep, run_path};
+use crate::{CheckFault, PathStep, StepRefused, path_refused, run_path};
 use std::alloc::Global;
-use trs_core::{OutOfMemory, Position, Term, Trs, match_term};
+use trs_core::{Position, Term, Trs, match_term};
 
-/// Whether the path leads from the start, in a step or more, to a term that holds an instance of
-/// the start at the place. Then the system is endless. (Baader and Nipkow, section 5.1.)
+/// Sees that the path leads from the start, in a step or more, to a term that holds an instance of
+/// the start at the place. Then the system is endless. It refuses for `NoSteps`, for the path, which
+/// is path 0 of item 0, for `NoPlace`, or for `NotInstance`, whichever comes first.
+/// (Baader and Nipkow, section 5.1.)
 pub fn loop_check(
     alloc: Global,
     trs: &Trs,
     start: &Term,
     path: &[PathStep],
     place: &Position,
-) -> Result<bool, OutOfMemory>
-    ensures exact { IfOk result (λ yes. IsTrue yes ↔ IsLoop trs.now.rules (tree start.now) path.now place.now) }
-    ensures endless { IfOk result (λ yes. IsTrue yes → IsWellFormed trs.now.arities (tree start.now) → IsEndless trs.now) }
+) -> Result<(), CheckFault>
+    ensures ok { OnOk result (IsLoop trs.now.rules (tree start.now) path.now place.now) }
+    ensures refused { IfErr result (RefusedFor (IsLoopRefusal trs.now.rules (tree start.now) path.now place.now)) }
+
+    // A loop is refused only for want of memory.
+    ensures only { IsLoop trs.now.rules (tree start.now) path.now place.now → IsOkUnless result CheckFault.OutOfMemory }
+    ensures endless { OnOk result (IsWellFormed trs.now.arities (tree start.now) → IsEndless trs.now) }
 {
     if path.is_empty() {
-        return Ok(false);
+        return Err(CheckFault::Refused(StepRefused::NoSteps));
     }
     let end = match run_path(alloc, trs, start, path) {
         Ok(end) => end,
-        Err(PathFault::OutOfMemory) => return Err(OutOfMemory),
-        Err(PathFault::At(_, _)) => return Ok(false),
+        Err(fault) => return Err(path_refused(0, 0, fault)),
     };
-    match end.at(place) {
-        None => Ok(false),
-        Some(part) => Ok(match_term(alloc, start, part)?.is_some()),
+    let Some(part) = end.at(place) else {
+        return Err(CheckFault::Refused(StepRefused::NoPlace));
+    };
+    if match_term(alloc, start, part)?.is_some() {
+        Ok(())
+    } else {
+        Err(CheckFault::Refused(StepRefused::NotInstance))
     }
 }

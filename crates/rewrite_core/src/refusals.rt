@@ -1,3 +1,8 @@
+ghost use Rattle.std.specs.Prelude.{◌≡◌};
+ghost use Rattle.rewrite_core.specs.LoopRefusal.{number_of_fault};
+ghost use Rattle.rewrite_core.specs.PathRefusal.{path_refusal};
+
+use crate::{PathFault, StepFault};
 use trs_core::OutOfMemory;
 
 /// Why a step of a proof does not apply: the first condition that fails. The variants are numbered
@@ -72,5 +77,30 @@ impl From<OutOfMemory> for CheckFault {
 
     fn from(_e: OutOfMemory) -> CheckFault {
         CheckFault::OutOfMemory
+    }
+}
+
+/// What a check answers where a path is not followed: path number `path` of item number `item`, both
+/// counted from 0.
+pub fn path_refused(item: u64, path: u64, fault: PathFault) -> CheckFault
+    ensures { result ≡ path_refusal item path fault }
+{
+    match fault {
+        PathFault::At(k, cause) => {
+            CheckFault::Refused(StepRefused::Path(item, path, k, fault_number(cause)))
+        }
+        PathFault::OutOfMemory => CheckFault::OutOfMemory,
+    }
+}
+
+fn fault_number(fault: StepFault) -> u64
+    ensures { result ≡ number_of_fault fault }
+{
+    match fault {
+        StepFault::NoPosition => 1,
+        StepFault::NoMatch => 2,
+        StepFault::NoRule => 3,
+        StepFault::TooLarge => 4,
+        StepFault::OutOfMemory => 5,
     }
 }

@@ -1,4 +1,7 @@
-use crate::{PathFault, PathStep, StepFault, loop_check, run_path, slow, step_at};
+use crate::{
+    CheckFault, PathFault, PathStep, StepFault, StepRefused, is_normal, loop_check, run_path, slow,
+    step_at,
+};
 use std::alloc::Global;
 use std::test::Fail;
 use trs_core::{Args, OutOfMemory, Position, Rule, Term, Trs};
@@ -64,11 +67,19 @@ fn a_growing_term(rt: HostRuntime) -> Result<(), Fail> {
 
     let start = tower(alloc, 0, 1, Term::Var(7))?;
     let path = repeated(alloc, 1, 0)?;
-    for (place, want) in [(0, true), (1, true), (2, false), (3, false)] {
-        let found = loop_check(alloc, &trs, &start, &path, &ones(alloc, place)?)?;
-        assert_eq!(rt; found, want, "at {place}");
+    for (place, want) in [
+        (0, None),
+        (1, None),
+        (2, Some(StepRefused::NotInstance)),
+        (3, Some(StepRefused::NoPlace)),
+    ] {
+        let found = loop_check(alloc, &trs, &start, &path, &ones(alloc, place)?).err();
+        assert_eq!(rt; found, want.map(CheckFault::Refused), "at {place}");
     }
-    assert!(rt; !loop_check(alloc, &trs, &start, &[], &ones(alloc, 0)?)?);
+    let found = loop_check(alloc, &trs, &start, &[], &ones(alloc, 0)?).err();
+    assert_eq!(rt; found, Some(CheckFault::Refused(StepRefused::NoSteps)));
+    assert!(rt; !is_normal(alloc, &trs, &start)?);
+    assert!(rt; is_normal(alloc, &trs, &Term::Var(7))?);
 
     let deep = tower(alloc, 0, 1_022, Term::Var(0))?;
     let deepest = step_at(alloc, &trs, &deep, &ones(alloc, 1_000)?, 0)?;

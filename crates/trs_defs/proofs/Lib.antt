@@ -10,4 +10,6 @@ pub mod OrderLaws
 pub mod ArgumentLists
 pub mod BindingLaws
 pub mod VariableLaws
+pub mod NormalForms
 pub mod WellFormedness
+pub mod OccurrenceLaws
