@@ -1,0 +1,9 @@
+pub mod OneCertificate
+pub mod PrintedNumbers
+pub mod RenumberedTerms
+pub mod BareItems
+pub mod PrintedPaths
+pub mod PrintedOwnTerms
+pub mod PrintedSteps
+pub mod PrintedWords
+pub mod NumberKeys

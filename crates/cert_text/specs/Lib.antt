@@ -2,3 +2,8 @@ pub mod ProofText
 pub mod Written
 pub mod TextFaults
 pub mod CertificateText
+pub mod NumbersInRange
+pub mod Headline
+pub mod Renumbered
+pub mod PrintedProof
+pub mod Printable

@@ -1,0 +1,58 @@
+-- A certificate text has one reading: at most one proof or fault.
+use Rattle.std.proofs.Common.{◌≡◌, ◌≢◌, ◌⊎◌, inl, inr, ℕ, List, Some, refl, sym, ap, ◌∙◌}
+use Rattle.sexp_core.specs.Items.{Items}
+use Rattle.ari_text.specs.Named.{NamedSystem}
+use Rattle.ari_text.proofs.OneSystem.{same_items}
+use Rattle.cert_text.specs.declared.fault.CertFault.{CertFault}
+use Rattle.cert_text.specs.declared.fault.CertFault.TheVariants.{Text, Version, OutOfMemory}
+use Rattle.cert_text.specs.ProofText.{ProofText}
+use Rattle.cert_text.specs.CertificateText.{place_of_text_fault, proof_text_of_items, SaysCertificate, HasFault, IsUnreadable, IsRefused}
+
+pub one_certificate : (named : NamedSystem) (text : List ℕ) (s t : ProofText) → SaysCertificate named text s → SaysCertificate named text t → s ≡ t
+one_certificate named text s t h k =
+    let same : h.items ≡ k.items = same_items text h.items k.items h.reads k.reads in
+    h.proof_text ∙ ap (λ items. proof_text_of_items named.names items) same ∙ sym k.proof_text
+
+-- the cause of a fault that is not want of memory
+abbrev Cause : NamedSystem → List ℕ → CertFault → Type 0
+Cause named text f = ((p : ℕ) × (f ≡ Text p) × IsUnreadable text p) ⊎ HasFault named text f
+
+memory_or_cause : (named : NamedSystem) (text : List ℕ) (f : CertFault) → IsRefused named text f → (f ≡ OutOfMemory) ⊎ Cause named text f
+memory_or_cause named text (Text p) (inl h) = inr (inl (p, refl, h))
+memory_or_cause named text (Text p) (inr h) = inr (inr h)
+memory_or_cause named text (Version n) h = inr (inr h)
+memory_or_cause named text OutOfMemory h = inl refl
+
+no_cause : (named : NamedSystem) (text : List ℕ) (s : ProofText) (f : CertFault) → SaysCertificate named text s → Cause named text f → ⊥
+no_cause named text s f h (inl k) = let none = h.readable in let some = k.2.fault in cc
+no_cause named text s f h (inr k) =
+    let same : h.items ≡ k.items = same_items text h.items k.items h.reads k.reads in
+    let none = h.faultless in let some = k.fault in cc
+
+-- a text that says a proof is refused for want of memory alone
+pub no_refusal : (named : NamedSystem) (text : List ℕ) (s : ProofText) (f : CertFault) → SaysCertificate named text s → IsRefused named text f → f ≡ OutOfMemory
+no_refusal named text s f h k = elim (memory_or_cause named text f k) as (λ _. f ≡ OutOfMemory) [
+  | inl memory ↦ memory
+  | inr c ↦ absurd (no_cause named text s f h c)
+]
+
+same_cause : (named : NamedSystem) (text : List ℕ) (f g : CertFault) → Cause named text f → Cause named text g → f ≡ g
+same_cause named text f g (inl h) (inl k) =
+    let first = h.2.fault in let second = k.2.fault in
+    let same : h.2.cause ≡ k.2.cause = cc in
+    h.1 ∙ ap (λ p. Text p) (h.2.place ∙ ap place_of_text_fault same ∙ sym k.2.place) ∙ sym k.1
+same_cause named text f g (inl h) (inr k) = let some = h.2.fault in let none = k.readable in absurd cc
+same_cause named text f g (inr h) (inl k) = let none = h.readable in let some = k.2.fault in absurd cc
+same_cause named text f g (inr h) (inr k) =
+    let same : h.items ≡ k.items = same_items text h.items k.items h.reads k.reads in
+    let first = h.fault in let second = k.fault in cc
+
+-- want of memory aside, a text is refused for one fault at most
+pub one_refusal : (named : NamedSystem) (text : List ℕ) (f g : CertFault) → IsRefused named text f → IsRefused named text g → f ≢ OutOfMemory → g ≢ OutOfMemory → f ≡ g
+one_refusal named text f g h k n m = elim (memory_or_cause named text f h) as (λ _. f ≡ g) [
+  | inl memory ↦ absurd (n memory)
+  | inr c ↦ elim (memory_or_cause named text g k) as (λ _. f ≡ g) [
+    | inl memory ↦ absurd (m memory)
+    | inr d ↦ same_cause named text f g c d
+  ]
+]
