@@ -7,3 +7,4 @@ pub mod PrintedOwnTerms
 pub mod PrintedSteps
 pub mod PrintedWords
 pub mod NumberKeys
+pub mod PrintedAgain
