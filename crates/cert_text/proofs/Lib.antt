@@ -8,3 +8,4 @@ pub mod PrintedSteps
 pub mod PrintedWords
 pub mod NumberKeys
 pub mod PrintedAgain
+pub mod NumberRanges

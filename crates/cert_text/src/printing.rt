@@ -1,10 +1,14 @@
-ghost use Rattle.std.specs.Prelude.{◌≡◌, ◌∷◌, ◌++◌, decimal, map, All, OnOk, IfOk};
+ghost use Rattle.std.specs.Prelude.{◌≡◌, ◌<◌, ◌≤◌, ◌∷◌, ◌++◌, decimal, map, All, OnOk, IfOk};
+ghost use Rattle.std.specs.List.{AllByRecursion};
 ghost use Rattle.sexp_core.specs.Printed.{text_of, lines};
 ghost use Rattle.trs_core.specs.View.{tree};
 ghost use Rattle.ari_text.specs.VariableNames.{underscores as underscores_of};
 ghost use Rattle.cert_step.specs.ProofStep.{step_of, step_at_of};
-ghost use Rattle.cert_text.specs.ProofText.{proof_text_of};
+ghost use Rattle.cert_text.specs.ProofText.{ProofText, proof_text_of};
+ghost use Rattle.cert_text.specs.CertificateText.{SaysCertificate};
+ghost use Rattle.cert_text.specs.NumbersInRange.{ArePlaces, IsPlacedInRange, HasNumbersInRange};
 ghost use Rattle.cert_text.specs.Printable.{IsPrintable};
+ghost use Rattle.cert_text.specs.Renumbered.{renumbered};
 ghost use Rattle.cert_text.specs.PrintedProof.{position_item, path_item, own_term_item, test_word, method_item, step_item, step_items, headline_word, claim_text, proof_items};
 
 use crate::Certificate;
@@ -26,14 +30,23 @@ pub fn print_certificate(
     certificate: &Certificate,
 ) -> Result<Vec<u8>, OutOfMemory>
     requires { All (IsPrintable system.now.system) (proof_text_of certificate.now).steps }
-    ensures { IfOk result (λ text. text.items ≡ lines (proof_items system.now (proof_text_of certificate.now))) }
+    ensures text { IfOk result (λ text. text.items ≡ lines (proof_items system.now (proof_text_of certificate.now))) }
+    // It says the certificate, with other numbers of variables, and nothing else.
+    ensures read { IfOk result (λ text. SaysCertificate system.now text.items (renumbered (proof_text_of certificate.now))) }
+    ensures alone { IfOk result (λ text. (other : ProofText) → SaysCertificate system.now text.items other → other ≡ renumbered (proof_text_of certificate.now)) }
 {
     let mut out = Vec::new(alloc);
     out.extend_from_slice(headline_word(certificate.headline))?;
     out.extend_from_slice(b"\n(certificate 1 ")?;
     out.extend_from_slice(claim_word(certificate.claim))?;
     out.extend_from_slice(b")\n")?;
-    put_steps(alloc, &mut out, system, &certificate.steps)?;
+    put_steps(
+        alloc,
+        &mut out,
+        system,
+        underscores(system),
+        &certificate.steps,
+    )?;
     Ok(out)
 }
 
@@ -81,11 +94,13 @@ fn put_steps(
     alloc: Global,
     out: &mut Vec<u8>,
     system: &NamedTrs,
+    underscores: usize,
     steps: &[NodeStep],
 ) -> Result<(), OutOfMemory>
-    ensures { OnOk result (out.new.items ≡ out.old.items ++ lines (step_items system.now (map step_at_of steps.now))) }
+    requires { underscores ≡ underscores_of system.now.names }
+    ensures text { OnOk result (out.new.items ≡ out.old.items ++ lines (step_items system.now (map step_at_of steps.now))) }
+    ensures range { OnOk result (AllByRecursion (λ s. HasNumbersInRange (step_of s.step)) steps.now) }
 {
-    let underscores = underscores(system);
     for step in steps {
         put_step(alloc, out, system, underscores, step)?;
         out.push(b'\n')?;
@@ -101,7 +116,8 @@ fn put_step(
     step: &NodeStep,
 ) -> Result<(), OutOfMemory>
     requires { underscores ≡ underscores_of system.now.names }
-    ensures { OnOk result (out.new.items ≡ out.old.items ++ text_of (step_item system.now (step_at_of step.now))) }
+    ensures text { OnOk result (out.new.items ≡ out.old.items ++ text_of (step_item system.now (step_at_of step.now))) }
+    ensures range { OnOk result (HasNumbersInRange (step_of step.now.step)) }
 {
     out.extend_from_slice(b"(step ")?;
     put_number(out, step.node)?;
@@ -119,7 +135,8 @@ fn put_method(
     step: &Step,
 ) -> Result<(), OutOfMemory>
     requires { underscores ≡ underscores_of system.now.names }
-    ensures { OnOk result (out.new.items ≡ out.old.items ++ text_of (method_item system.now (step_of step.now))) }
+    ensures text { OnOk result (out.new.items ≡ out.old.items ++ text_of (method_item system.now (step_of step.now))) }
+    ensures range { OnOk result (HasNumbersInRange (step_of step.now)) }
 {
     match step {
         Step::Loop { start, path, place } => {
@@ -165,7 +182,8 @@ fn put_own_term(
 
 /// A path, behind a blank.
 fn put_path(out: &mut Vec<u8>, path: &[PathStep]) -> Result<(), OutOfMemory>
-    ensures { OnOk result (out.new.items ≡ out.old.items ++ 32 ∷ text_of (path_item path.now)) }
+    ensures text { OnOk result (out.new.items ≡ out.old.items ++ 32 ∷ text_of (path_item path.now)) }
+    ensures range { OnOk result (AllByRecursion IsPlacedInRange path.now) }
 {
     out.extend_from_slice(b" (path")?;
     for step in path {
@@ -180,10 +198,12 @@ fn put_path(out: &mut Vec<u8>, path: &[PathStep]) -> Result<(), OutOfMemory>
 }
 
 fn put_position(out: &mut Vec<u8>, position: &Position) -> Result<(), OutOfMemory>
-    ensures { OnOk result (out.new.items ≡ out.old.items ++ text_of (position_item position.now)) }
+    ensures text { OnOk result (out.new.items ≡ out.old.items ++ text_of (position_item position.now)) }
+    ensures range { OnOk result (ArePlaces position.now) }
 {
+    let places = places(position);
     out.push(b'(')?;
-    if let Some((first, rest)) = position.places().split_first() {
+    if let Some((first, rest)) = places.split_first() {
         put_number(out, u64::from(*first))?;
         for place in rest {
             out.push(b' ')?;
@@ -192,6 +212,15 @@ fn put_position(out: &mut Vec<u8>, position: &Position) -> Result<(), OutOfMemor
     }
     out.push(b')')?;
     Ok(())
+}
+
+fn places(position: &Position) -> &[u8]
+    ensures places { result.now ≡ position.now }
+    ensures positive { All (λ place. 0 < place) result.now }
+    ensures bytes { All (λ place. place ≤ 255) result.now }
+{
+    let places = position.places();
+    places
 }
 
 fn put_number(out: &mut Vec<u8>, number: u64) -> Result<(), OutOfMemory>
