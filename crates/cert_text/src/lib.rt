@@ -13,3 +13,6 @@ pub use fault::CertFault;
 pub use headline::claim_headline;
 pub use laws::printed_certificate_is_read;
 pub use printing::{print_certificate, print_step};
+
+#[cfg(test)]
+mod printing_tests;
