@@ -1,9 +1,9 @@
 -- What is printed of a certificate is read as this certificate, its variables renumbered.
-use Rattle.std.proofs.Common.{◌≡◌, ℕ, Bool, true, false, List, [], ◌∷◌, ◌++◌, codes, map, decimal, Option, None, option_map, unwrap_or, refl, ap, ap₂, sym, ◌∙◌}
+use Rattle.std.proofs.Common.{◌≡◌, ℕ, Bool, true, false, List, [], ◌∷◌, ◌++◌, codes, map, Option, None, option_map, unwrap_or, refl, ap, ap₂, sym, ◌∙◌}
 use Rattle.std.specs.List.{AllByRecursion}
 use Rattle.std.specs.Str.{bytes_eq}
 use Rattle.sexp_core.specs.Items.{Item, a_word, a_list, Items, no_items, item}
-use Rattle.sexp_core.specs.Reads.{Reads, fault_of}
+use Rattle.sexp_core.specs.Reads.{fault_of}
 use Rattle.sexp_core.specs.Printed.{lines, bare, placeless}
 use Rattle.sexp_core.proofs.Again.{read_again, reads_well}
 use Rattle.sexp_core.proofs.Existence.{is_readable}
@@ -20,12 +20,12 @@ use Rattle.cert_text.specs.declared.fault.CertFault.TheVariants.{Text}
 use Rattle.cert_text.specs.NumbersInRange.{IsWellMadeAt}
 use Rattle.cert_text.specs.ProofText.{ProofText}
 use Rattle.cert_text.specs.Renumbered.{in_order, step_renumbered, renumbered}
-use Rattle.cert_text.specs.PrintedProof.{number_item, place_items, position_item, placed_rule_item, placed_rule_items, path_item, own_term_item, test_word, method_item, step_item, step_items, headline_word, claim_text, certificate_item, proof_items}
+use Rattle.cert_text.specs.PrintedProof.{number_item, place_items, position_item, placed_rule_items, path_item, method_item, step_items, headline_word, claim_text, certificate_item, proof_items}
 use Rattle.cert_text.specs.Written.{claim_word, steps_of}
 use Rattle.cert_text.specs.TextFaults.{claim_faults, steps_faults}
 use Rattle.cert_text.specs.CertificateText as text
 use Rattle.cert_text.specs.CertificateText.{least_place, headline_fault, behind_headline, head_fault, certificate_fault, is_yes, claim_of, proof_text_of_items, SaysCertificate}
-use Rattle.cert_text.proofs.BareItems.{IsWordItem, word_item, list_item, Begins, begins, three}
+use Rattle.cert_text.proofs.BareItems.{word_item, list_item, begins, three}
 use Rattle.cert_text.proofs.OneCertificate.{one_certificate}
 use Rattle.cert_text.proofs.PrintedSteps.{steps_faultless, steps_again}
 use Rattle.cert_text.proofs.PrintedWords.{proof_words, proof_nesting}

@@ -1,5 +1,5 @@
 -- Printed terms of steps are read again.
-use Rattle.std.proofs.Common.{◌≡◌, ℕ, zero, suc, ◌+◌, ◌^◌, ◌≤◌, true, List, [], ◌∷◌, Some, None, max, slice_get, get_or, refl, ap, ap₂, sym, ◌∙◌, arith}
+use Rattle.std.proofs.Common.{◌≡◌, ℕ, zero, suc, ◌+◌, ◌≤◌, List, [], Some, None, max, slice_get, get_or, refl, ap, ap₂, sym, ◌∙◌, arith}
 use Rattle.std.proofs.lemmas.Bool.{le-leb}
 use Rattle.sexp_core.specs.Items.{Item, a_word, a_list, Items, no_items, item}
 use Rattle.sexp_core.specs.Printed.{bare, placeless}

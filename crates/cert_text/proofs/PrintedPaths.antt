@@ -1,8 +1,8 @@
 -- Printed positions and paths are read again.
-use Rattle.std.proofs.Common.{◌≡◌, ℕ, zero, suc, ◌^◌, ◌<◌, ◌≤◌, List, [], ◌∷◌, codes, decimal, nat_le, refl, ap₂, arith}
+use Rattle.std.proofs.Common.{◌≡◌, ℕ, ◌^◌, ◌<◌, ◌≤◌, List, [], ◌∷◌, codes, decimal, refl, ap₂, arith}
 use Rattle.std.specs.List.{AllByRecursion}
 use Rattle.std.proofs.lemmas.Bool.{le-leb}
-use Rattle.sexp_core.specs.Items.{Item, a_word, a_list, Items, no_items, item}
+use Rattle.sexp_core.specs.Items.{Item, a_word, Items, no_items, item}
 use Rattle.sexp_core.specs.Printed.{bare, placeless}
 use Rattle.trs_defs.specs.Path.{PlacedRule}
 use Rattle.cert_text.specs.NumbersInRange.{ArePlaces, IsPlacedInRange}

@@ -1,8 +1,8 @@
 -- The words of printed certificates, and how deep their lists are.
-use Rattle.std.proofs.Common.{◌≡◌, ℕ, ◌+◌, ◌^◌, ◌<◌, ◌≤◌, Bool, true, false, List, [], ◌∷◌, codes, refl, arith}
+use Rattle.std.proofs.Common.{ℕ, ◌≤◌, Bool, true, false, List, [], ◌∷◌, codes, refl, arith}
 use Rattle.std.specs.List.{AllByRecursion}
 use Rattle.sexp_core.specs.Tokens.{class_of}
-use Rattle.sexp_core.specs.Printed.{IsWord, HasWords, AreWords, depth_of, nesting, bare, placeless}
+use Rattle.sexp_core.specs.Printed.{IsWord, HasWords, AreWords, depth_of, nesting}
 use Rattle.trs_defs.specs.Tree.{Tree}
 use Rattle.trs_defs.specs.Path.{PlacedRule}
 use Rattle.ari_text.specs.Named.{NamedSystem, IsNamed}

@@ -1,5 +1,5 @@
 -- Terms whose variables are numbered in the order of their first occurrences.
-use Rattle.std.proofs.Common.{◌≡◌, ℕ, suc, ◌+◌, ◌^◌, ◌<◌, ◌≤◌, ◌||◌, Bool, true, false, cond, List, [], ◌∷◌, ◌++◌, length, Some, IsTrue, slice_get, nat_eq, nat_le, refl, max, ap, ap₂, sym, ◌∙◌, append_assoc, arith, eq-eqb}
+use Rattle.std.proofs.Common.{◌≡◌, ℕ, suc, ◌+◌, ◌^◌, ◌<◌, ◌≤◌, ◌||◌, Bool, true, false, cond, List, [], ◌∷◌, ◌++◌, length, Some, IsTrue, nat_eq, nat_le, refl, max, ap, ap₂, sym, ◌∙◌, append_assoc, arith, eq-eqb}
 use Rattle.std.proofs.lemmas.Bool.{or_parts, and_parts, leb-true, lt-ltb, le-ltb}
 use Rattle.std.proofs.lemmas.List.{append-nil, length-append}
 use Rattle.trs_defs.specs.Tree.{Tree, Trees, var, app, nil, cons, count}

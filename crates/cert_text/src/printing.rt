@@ -51,11 +51,7 @@ pub fn print_certificate(
 }
 
 /// The text of one step, as `print_certificate` writes it, with no line feed.
-pub fn print_step(
-    alloc: Global,
-    system: &NamedTrs,
-    step: &NodeStep,
-) -> Result<Vec<u8>, OutOfMemory>
+pub fn print_step(alloc: Global, system: &NamedTrs, step: &NodeStep) -> Result<Vec<u8>, OutOfMemory>
     requires { IsPrintable system.now.system (step_at_of step.now) }
     ensures { IfOk result (λ text. text.items ≡ text_of (step_item system.now (step_at_of step.now))) }
 {

@@ -54,7 +54,10 @@ fn a_loop_is_printed(rt: HostRuntime) -> Result<(), Fail> {
     let system = growing(alloc)?;
     let step = growing_loop(alloc, &system)?;
     let line = b"(step 0 (loop (f _0) (path (at () 0)) (1)))";
-    assert_eq!(rt; print_step(alloc, &system, &step)?.as_slice(), line.as_slice());
+    assert_eq!(rt;
+        print_step(alloc, &system, &step)?.as_slice(),
+        line.as_slice()
+    );
     let claim = Claim::Nonterminating;
     let headline = claim_headline(claim);
     let steps = Vec::from_array(alloc, [step])?;
@@ -63,8 +66,10 @@ fn a_loop_is_printed(rt: HostRuntime) -> Result<(), Fail> {
         claim,
         steps,
     };
-    let text =
-        b"NO\n(certificate 1 nonterminating)\n(step 0 (loop (f _0) (path (at () 0)) (1)))\n";
-    assert_eq!(rt; print_certificate(alloc, &system, &certificate)?.as_slice(), text.as_slice());
+    let text = b"NO\n(certificate 1 nonterminating)\n(step 0 (loop (f _0) (path (at () 0)) (1)))\n";
+    assert_eq!(rt;
+        print_certificate(alloc, &system, &certificate)?.as_slice(),
+        text.as_slice()
+    );
     Ok(())
 }
