@@ -59,7 +59,7 @@ entry_bare (a_list xs p) = list_entry_bare xs
 -- ---- terms
 
 mutual
-  variables_bare : (symbols variables : List (List ℕ)) (x : Item) → variables_after symbols variables (bare x) ≡ variables_after symbols variables x
+  pub variables_bare : (symbols variables : List (List ℕ)) (x : Item) → variables_after symbols variables (bare x) ≡ variables_after symbols variables x
   variables_bare symbols variables (a_word w p) = refl
   variables_bare symbols variables (a_list no_items p) = refl
   variables_bare symbols variables (a_list (item h args) p) = all_variables_bare symbols variables args
@@ -71,7 +71,7 @@ mutual
       ∙ all_variables_bare symbols (variables_after symbols variables x) xs
 
 mutual
-  term_bare : (symbols variables : List (List ℕ)) (x : Item) → term_of symbols variables (bare x) ≡ term_of symbols variables x
+  pub term_bare : (symbols variables : List (List ℕ)) (x : Item) → term_of symbols variables (bare x) ≡ term_of symbols variables x
   term_bare symbols variables (a_word w p) = refl
   term_bare symbols variables (a_list no_items p) = refl
   term_bare symbols variables (a_list (item (a_list ys q) args) p) = refl
@@ -82,7 +82,7 @@ mutual
   terms_bare symbols variables (item x xs) = ap₂ cons (term_bare symbols variables x) (terms_bare symbols variables xs)
 
 mutual
-  nodes_bare : (x : Item) → nodes_of (bare x) ≡ nodes_of x
+  pub nodes_bare : (x : Item) → nodes_of (bare x) ≡ nodes_of x
   nodes_bare (a_word w p) = refl
   nodes_bare (a_list no_items p) = refl
   nodes_bare (a_list (item h args) p) = ap (λ n. 1 + n) (all_nodes_bare args)

@@ -242,7 +242,7 @@ module _ (more : Items) where
 -- ---- places
 
 mutual
-  term_placeless : (k : ℕ) (names : List (List ℕ)) (t : Tree) → bare (term_item k names t) ≡ term_item k names t
+  pub term_placeless : (k : ℕ) (names : List (List ℕ)) (t : Tree) → bare (term_item k names t) ≡ term_item k names t
   term_placeless k names (var n) = refl
   term_placeless k names (app f nil) = refl
   term_placeless k names (app f (cons t ts)) = ap (λ xs. a_list (item (a_word (get_or names f []) 0) xs) 0) (terms_placeless k names (cons t ts))

@@ -92,7 +92,7 @@ mutual
 -- ---- what a printed term is read as
 
 module _ (k : ℕ) (names : List (List ℕ)) (arities : List ℕ) (fit : FitNames k names arities) where
-  symbol_found : (f n : ℕ) → slice_get arities f ≡ Some n → number_among names (get_or names f []) ≡ Some f
+  pub symbol_found : (f n : ℕ) → slice_get arities f ≡ Some n → number_among names (get_or names f []) ≡ Some f
   symbol_found f n e = symbol_number names f fit.distinct (omega (arith, fit.counts, slice_get_within arities f n e))
 
   new_variable : (n m r : ℕ) → n < 2 ^ 64 → next_number m (var n) ≡ Some r → with_name (variables_to k m) (variable_name k n) ≡ variables_to k r

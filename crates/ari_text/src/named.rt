@@ -75,6 +75,7 @@ impl NamedTrs {
     pub fn symbols(&self) -> u32
         ensures symbols { result ≡ length self.now.system.arities }
         ensures names { result ≡ length self.now.names }
+        ensures named { IsNamed self.now }
     {
         self.trs.arities().len() as u32
     }

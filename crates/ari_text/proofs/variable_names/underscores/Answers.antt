@@ -16,8 +16,8 @@ loop-f-preserved c =
       some = omega (arith, greatest, c.loop-f.invariant.some);
     }
 
-pub returns : goal.returns
-returns c =
+pub returns-clause-underscores : goal.returns-clause-underscores
+returns-clause-underscores c =
     let names = c.args.system.now.names in
     let past : length names ≤ c.loop-f.f = search rules in
     let end : max c.loop-f.most 1 ≡ underscores names = rw (drop_all c.loop-f.f names past) at c.loop-f.invariant.same in
