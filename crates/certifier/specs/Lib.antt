@@ -1,2 +1,5 @@
 pub mod Nodes
+pub mod Causes
+pub mod Checked
 pub mod Acceptance
+pub mod OneAnswer
