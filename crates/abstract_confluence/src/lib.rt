@@ -4,12 +4,7 @@
 ghost use Rattle.std.specs.Prelude.{ℕ};
 ghost use Rattle.trs_defs.specs.Bounded.{IsBounded};
 ghost use Rattle.trs_defs.specs.Run.{Run};
-ghost use Rattle.trs_defs.specs.Confluence.{
-  IsConfluentRelation,
-  IsLocallyConfluent,
-  IsStronglyConfluent,
-  HasDiamond,
-};
+ghost use Rattle.trs_defs.specs.Confluence.{IsConfluentRelation, IsLocallyConfluent, IsStronglyConfluent, HasDiamond};
 ghost use Rattle.trs_defs.specs.Ranks.{AnyRank, IsLocallyDecreasing};
 
 /// A relation on the values of a type.
@@ -29,7 +24,7 @@ pub trait Ranked {
     ghost step: { ℕ → Self → Self → Type 0 };
 }
 
-/// Newman's lemma (Baader and Nipkow, lemma 2.7.2): locally confluent and terminating relations are
+/// Newman's lemma (Baader and Nipkow, section 2.7): locally confluent and terminating relations are
 /// confluent.
 pub fn newman<T: Relation>()
     requires bounded { (s : T) → IsBounded T.step s }
@@ -37,14 +32,14 @@ pub fn newman<T: Relation>()
     ensures confluent { IsConfluentRelation T.step }
 {}
 
-/// Huet's lemma (Baader and Nipkow, lemma 2.7.4): strongly confluent relations are confluent.
+/// Huet's lemma (Baader and Nipkow, section 2.7): strongly confluent relations are confluent.
 pub fn strongly_confluent<T: Relation>()
     requires peaks { IsStronglyConfluent T.step }
     ensures confluent { IsConfluentRelation T.step }
 {}
 
 /// A relation is confluent if a relation with the diamond property lies between it and its runs
-/// (Baader and Nipkow, lemma 2.7.8 and corollary 2.7.7).
+/// (Baader and Nipkow, section 2.7).
 pub fn diamond<T: Refined>()
     requires up { (s t : T) → T.fine s t → T.coarse s t }
     requires down { (s t : T) → T.coarse s t → Run T.fine s t }

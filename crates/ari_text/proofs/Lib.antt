@@ -23,3 +23,4 @@ pub mod PrintedNames
 pub mod PrintedTerms
 pub mod PrintedItems
 pub mod ReadBack
+pub mod LoneTerms

@@ -43,14 +43,15 @@ AreGoodRules arities (r ∷ rs) = IsGoodRule arities r × AreGoodRules arities r
 pub good_rules : (arities : List ℕ) (rs : List RewriteRule) → ((i : ℕ) (r : RewriteRule) → slice_get rs i ≡ Some r → IsRule arities r)
     → HaveSmallVariables rs → list_all is_shallow rs ≡ true → list_all is_numbered rs ≡ true → AreGoodRules arities rs
 good_rules arities [] each small shallow numbered = tt
-good_rules arities (r ∷ rs) each small shallow numbered =
-    (record {
-      is_rule = each 0 r refl;
-      shallow = (and_parts (is_shallow r) _ shallow).0;
-      numbered = (and_parts (is_numbered r) _ numbered).0;
-      small = small 0 r (omega arith);
-    },
-    good_rules arities rs (λ i q e. each (suc i) q e) (λ i d lt. small (suc i) d (omega arith)) (and_parts (is_shallow r) _ shallow).1 (and_parts (is_numbered r) _ numbered).1)
+good_rules arities (r ∷ rs) each small shallow numbered = (
+  record {
+    is_rule = each 0 r refl;
+    shallow = (and_parts (is_shallow r) _ shallow).0;
+    numbered = (and_parts (is_numbered r) _ numbered).0;
+    small = small 0 r (omega arith);
+  },
+  good_rules arities rs (λ i q e. each (suc i) q e) (λ i d lt. small (suc i) d (omega arith)) (and_parts (is_shallow r) _ shallow).1 (and_parts (is_numbered r) _ numbered).1,
+)
 
 numbered_some : (o : Option ℕ) → is_some o ≡ true → (m : ℕ) × (o ≡ Some m)
 numbered_some None e = absurd cc
@@ -147,9 +148,16 @@ module _ (k : ℕ) (names : List (List ℕ)) (arities : List ℕ) (fit : FitName
   unfolding class_of
   rules_words [] g = tt
   rules_words (r ∷ rs) g =
-      let n = numbers r g.0 in
-      ((symbol_word (codes "rule") refl, (term_words k names arities fit r.left g.0.is_rule.left_well_formed n.left_small,
-      (term_words k names arities fit r.right g.0.is_rule.right_well_formed n.right_small, tt))), rules_words rs g.1)
+      let n = numbers r g.0 in (
+        (
+          symbol_word (codes "rule") refl,
+          (
+            term_words k names arities fit r.left g.0.is_rule.left_well_formed n.left_small,
+            (term_words k names arities fit r.right g.0.is_rule.right_well_formed n.right_small, tt),
+          ),
+        ),
+        rules_words rs g.1,
+      )
 
   pub rules_nesting : (rs : List RewriteRule) → AreGoodRules arities rs → nesting (rule_items k names rs) ≤ 300
   rules_nesting [] g = omega arith

@@ -61,8 +61,17 @@ digit_letter d e =
     let parts = and_parts (nat_le 48 d) (nat_le d 57) e in
     let low : 48 ≤ d = leb-true 48 d parts.0 in
     let high : d ≤ 57 = leb-true d 57 parts.1 in
-    rw (ne_eqb d 32 (λ h. absurd (omega arith)), ne_eqb d 9 (λ h. absurd (omega arith)), ne_eqb d 10 (λ h. absurd (omega arith)), ne_eqb d 13 (λ h. absurd (omega arith)),
-    ne_eqb d 59 (λ h. absurd (omega arith)), ne_eqb d 40 (λ h. absurd (omega arith)), ne_eqb d 41 (λ h. absurd (omega arith)), le-ltb d 32 (omega arith), ne_eqb d 127 (λ h. absurd (omega arith))) refl
+    rw (
+      ne_eqb d 32 (λ h. absurd (omega arith)),
+      ne_eqb d 9 (λ h. absurd (omega arith)),
+      ne_eqb d 10 (λ h. absurd (omega arith)),
+      ne_eqb d 13 (λ h. absurd (omega arith)),
+      ne_eqb d 59 (λ h. absurd (omega arith)),
+      ne_eqb d 40 (λ h. absurd (omega arith)),
+      ne_eqb d 41 (λ h. absurd (omega arith)),
+      le-ltb d 32 (omega arith),
+      ne_eqb d 127 (λ h. absurd (omega arith)),
+    ) refl
 
 underscore_letter : is_letter (class_of 95) ≡ true
 unfolding class_of

@@ -169,8 +169,11 @@ module _ (k : ℕ) (names : List (List ℕ)) (arities : List ℕ) (fit : FitName
     term_faultless scope m h (app f nil) d wf lt below le = rw (not_deep d (omega arith), symbol_arity f 0 wf.0) refl
     term_faultless scope m h (app f (cons t ts)) d wf lt below le =
         let args : args_faults (paired names arities) scope (suc d) (term_items k names (cons t ts)) ≡ [] = terms_faultless scope m h (cons t ts) (suc d) wf.1 lt below (omega arith) in
-        rw (not_deep d (omega (arith, depth_pos t)), symbol_arity f (count_trees (cons t ts)) wf.0,
-        eq-eqb (count (term_items k names (cons t ts))) (count_trees (cons t ts)) (count_read (cons t ts))) args
+        rw (
+          not_deep d (omega (arith, depth_pos t)),
+          symbol_arity f (count_trees (cons t ts)) wf.0,
+          eq-eqb (count (term_items k names (cons t ts))) (count_trees (cons t ts)) (count_read (cons t ts)),
+        ) args
 
     terms_faultless : (scope : Scope) (m : ℕ) → ((v : ℕ) → v < 2 ^ 64 → v < m → variable_faults scope (variable_name k v) 0 ≡ [])
         → (ts : Trees) (d : ℕ) → AreWellFormed arities ts → AreBelow (2 ^ 64) ts → AreBelow m ts → d + depth_of_all ts ≤ 257

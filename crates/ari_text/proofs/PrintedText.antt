@@ -50,7 +50,7 @@ symbols_lines (n ∷ ns) (a ∷ as') more =
 pub rules_step : (k : ℕ) (names : List (List ℕ)) (r : RewriteRule) (rs : List RewriteRule) (out all : List ℕ)
     → out ++ lines (rule_items k names (r ∷ rs)) ≡ all
     → (out ++ lines (rule_items k names (r ∷ []))) ++ lines (rule_items k names rs) ≡ all
-rules_step k names r rs out all h = 
+rules_step k names r rs out all h =
     next_lines out all _ _ _ h
     (first_line (three_members (codes "rule") (term_item k names r.left) (term_item k names r.right)) (rule_items k names rs))
 

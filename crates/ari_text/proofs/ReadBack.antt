@@ -57,10 +57,11 @@ module _ (s : NamedSystem) (named : IsNamed s) (bytes : AreBytes s.system.aritie
 
   words : AreWords (problem_items s)
   unfolding class_of
-  words =
-      ((symbol_word (codes "format") refl, (symbol_word (codes "TRS") refl, tt)),
-      symbols_words (printed_rules s) s.names s.system.arities named.words bytes
-      (rules_words (underscores s.names) s.names s.system.arities fit s.system.rules good))
+  words = (
+    (symbol_word (codes "format") refl, (symbol_word (codes "TRS") refl, tt)),
+    symbols_words (printed_rules s) s.names s.system.arities named.words bytes
+        (rules_words (underscores s.names) s.names s.system.arities fit s.system.rules good),
+  )
 
   is_shallow_enough : nesting (problem_items s) ≤ 300
   is_shallow_enough =

@@ -15,3 +15,4 @@ pub mod VariableNames
 pub mod PrintedProblem
 pub mod NamesFault
 pub mod PartsView
+pub mod ReadTerm

@@ -8,6 +8,7 @@ mod digits;
 mod entry;
 mod fault;
 mod laws;
+mod lone_term;
 mod named;
 mod names;
 mod names_fault;
@@ -26,8 +27,11 @@ pub use laws::least_is_least;
 pub use named::NamedTrs;
 pub use names_fault::NamesFault;
 pub use printing::{print_problem, put_term};
+pub use lone_term::read_term;
 pub use reading::read_problem;
 pub use variable_names::{put_variable, underscores};
 
 #[cfg(test)]
 mod reading_tests;
+#[cfg(test)]
+mod printing_tests;

@@ -1,4 +1,4 @@
-ghost use Rattle.std.specs.Prelude.{◌≡◌, ◌+◌, ◌<◌, ◌≤◌, map, length, slice_get, Some, option_map, position, not, IfOk, IfSome, List, [], ℕ};
+ghost use Rattle.std.specs.Prelude.{◌≡◌, ◌+◌, ◌<◌, ◌≤◌, map, length, slice_get, All, Some, option_map, position, not, IfOk, IfSome, List, [], ℕ};
 ghost use Rattle.std.specs.List.{list_all};
 ghost use Rattle.sexp_core.specs.Tokens.{class_of, is_letter};
 ghost use Rattle.trs_core.specs.View.{tree};
@@ -57,6 +57,13 @@ impl NamedTrs {
         NamedTrs { names, trs }
     }
 
+    /// The names of the symbols.
+    pub fn names(&self) -> &Names
+        ensures { result.now ≡ self.now.names }
+    {
+        &self.names
+    }
+
     pub fn trs(&self) -> &Trs
         ensures trs { result.now ≡ self.now.system }
         ensures named { IsNamed self.now }
@@ -64,11 +71,21 @@ impl NamedTrs {
         &self.trs
     }
 
-    /// The names, in the order of the symbols' numbers.
-    pub(crate) fn names(&self) -> &Names
-        ensures { result.now ≡ self.now.names }
+    /// The number of symbols.
+    pub fn symbols(&self) -> u32
+        ensures symbols { result ≡ length self.now.system.arities }
+        ensures names { result ≡ length self.now.names }
     {
-        &self.names
+        self.trs.arities().len() as u32
+    }
+
+    /// For each symbol, by its number, how many arguments it has.
+    pub fn arities(&self) -> &[u8]
+        ensures arities { result.now ≡ self.now.system.arities }
+        ensures bytes { All (λ a. a ≤ 255) result.now }
+    {
+        let arities = self.trs.arities();
+        arities
     }
 
     /// The name of a symbol.

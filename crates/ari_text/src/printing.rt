@@ -2,6 +2,8 @@ ghost use Rattle.std.specs.Prelude.{◌≡◌, ◌++◌, ◌∷◌, [], slice_in
 ghost use Rattle.sexp_core.specs.Items.{item, no_items};
 ghost use Rattle.sexp_core.specs.Printed.{text_of, lines};
 ghost use Rattle.trs_core.specs.View.{tree};
+ghost use Rattle.ari_text.specs.Named.{NamedSystem};
+ghost use Rattle.ari_text.specs.Problem.{SaysSystem};
 ghost use Rattle.ari_text.specs.PrintedProblem.{term_item, symbol_items, rule_items, problem_items};
 
 use crate::named::NamedTrs;
@@ -14,21 +16,24 @@ use trs_core::{OutOfMemory, Rule, Term};
 /// for each rule, with one blank between members and constants without brackets. Variable i is written as underscores and
 /// i in decimal, so that its name is that of no symbol.
 pub fn print_problem(alloc: Global, system: &NamedTrs) -> Result<Vec<u8>, OutOfMemory>
-    ensures { IfOk result (λ text. text.items ≡ lines (problem_items system.now)) }
+    ensures text { IfOk result (λ text. text.items ≡ lines (problem_items system.now)) }
+    // It says the system, and no other.
+    ensures read { IfOk result (λ text. SaysSystem text.items system.now) }
+    ensures alone { IfOk result (λ text. (other : NamedSystem) → SaysSystem text.items other → other ≡ system.now) }
 {
     let mut out = Vec::new(alloc);
     out.extend_from_slice(b"(format TRS)\n")?;
-    put_symbols(&mut out, system)?;
+    put_symbols(&mut out, system, system.arities())?;
     put_rules(&mut out, system, underscores(system), system.trs().rules())?;
     Ok(out)
 }
 
-fn put_symbols(out: &mut Vec<u8>, system: &NamedTrs) -> Result<(), OutOfMemory>
+fn put_symbols(out: &mut Vec<u8>, system: &NamedTrs, arities: &[u8]) -> Result<(), OutOfMemory>
+    requires { arities.now ≡ system.now.system.arities }
     ensures { OnOk result (out.new.items ≡ out.old.items ++ lines (symbol_items system.now.names system.now.system.arities no_items)) }
 {
-    let arities = system.trs().arities();
-    for f in 0..arities.len() {
-        put_symbol(out, system.name(f as u32), arities[f])?;
+    for f in 0..system.symbols() {
+        put_symbol(out, system.name(f), arities[f as usize])?;
     }
     Ok(())
 }
@@ -106,7 +111,7 @@ pub fn put_term(
 fn put_name(out: &mut Vec<u8>, system: &NamedTrs, f: u32) -> Result<(), OutOfMemory>
     ensures { OnOk result (out.new.items ≡ out.old.items ++ slice_index_or system.now.names f []) }
 {
-    if (f as usize) < system.trs().arities().len() {
+    if f < system.symbols() {
         out.extend_from_slice(system.name(f))?;
     }
     Ok(())

@@ -10,9 +10,8 @@ use trs_core::OutOfMemory;
 pub fn underscores(system: &NamedTrs) -> usize
     ensures { result ≡ underscores system.now.names }
 {
-    let symbols = system.trs().arities().len() as u32;
     let mut most = 1;
-    for f in 0..symbols {
+    for f in 0..system.symbols() {
         most = most.max(leading_underscores(system.name(f)) + 1);
     }
     most

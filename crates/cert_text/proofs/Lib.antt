@@ -1,4 +1,8 @@
+pub mod NotedPlaces
 pub mod NumeralBounds
+pub mod Depths
+pub mod Faultless
+pub mod Certificates
 pub mod LeastPlaces
 pub mod OneCertificate
 pub mod WellMadeTerms

@@ -157,3 +157,10 @@ variable_normal rules c v u (here (l, r, σ, h, e, e')) =
     let (f, g, same, fs, gs) = c k (record { left = l; right = r }) at in
     let to : apply σ l ≡ constant f = ap (λ z. apply σ z.left) same in
     absurd (cc (e, to))
+
+-- the sides of a rule that is known
+pub sides : (rule : RewriteRule) (l r : Tree) → Some rule ≡ Some (record { left = l; right = r }) → (l ≡ rule.left) × (r ≡ rule.right)
+sides rule l r e =
+    let other : RewriteRule = record { left = l; right = r } in
+    let k : other ≡ rule = cc e in
+    (ap (λ z. z.left) k, ap (λ z. z.right) k)

@@ -13,7 +13,7 @@ use Rattle.trs_defs.specs.Peak.{Peak, HasPeak, Covers}
 use Rattle.trs_defs.specs.Step.{RootStep}
 use Rattle.trs_defs.specs.Claims.{IsConfluent}
 use Rattle.peak_theory.proofs.Claims.{parallel_closed}
-use Rattle.confluence_theory.proofs.Constants.{constant, rewrites, peak_of, each_of_two}
+use Rattle.confluence_theory.proofs.Constants.{sides, constant, rewrites, peak_of, each_of_two}
 
 abbrev copying : RewriteRule
 copying = record { left = app 2 (cons (var 0) nil); right = app 3 (cons (var 0) (cons (var 0) nil)) }
@@ -54,12 +54,6 @@ once false = omega arith
 
 copier_left : AreLeftLinear copier.rules
 copier_left = each_rule (λ r. IsLinear r.left) (λ v. omega arith) (λ v. once (0 == v))
-
-sides : (rule : RewriteRule) (l r : Tree) → Some rule ≡ Some (record { left = l; right = r }) → (l ≡ rule.left) × (r ≡ rule.right)
-sides rule l r e =
-    let other : RewriteRule = record { left = l; right = r } in
-    let k : other ≡ rule = cc e in
-    (ap (λ z. z.left) k, ap (λ z. z.right) k)
 
 apart : (σ ρ : ℕ → Tree) (l l' : Tree) → l ≡ constant 0 → l' ≡ copying.left → apply σ l ≡ apply ρ l' → ⊥
 apart σ ρ l l' e e' k =

@@ -14,19 +14,19 @@ ghost use Rattle.trs_defs.specs.Derivation.{Reaches};
 ghost use Rattle.trs_defs.specs.Joinable.{IsJoinable};
 ghost use Rattle.trs_defs.specs.NormalForm.{IsNormalForm};
 ghost use Rattle.trs_defs.specs.Step.{Step};
-ghost use Rattle.trs_defs.specs.Claims.{IsTerminating, IsConfluent, IsForked};
-ghost use Rattle.trs_defs.specs.Confluence.{JoinsStrongly};
-ghost use Rattle.trs_defs.specs.ParallelStep.{ParallelStepBy};
-ghost use Rattle.trs_defs.specs.Linear.{AreLeftLinear, AreRightLinear};
+ghost use Rattle.trs_defs.specs.Claims.{IsConfluent, IsForked};
 ghost use Rattle.trs_defs.specs.Peak.{Peak, Covers};
 ghost use Rattle.trs_defs.specs.CriticalPeak.{shifted, Overlaps, HasCriticalPeaks};
-ghost use Rattle.trs_defs.specs.RuleRanks.{NumberedStep, IsDecreasing};
+ghost use Rattle.trs_defs.specs.RuleRanks.{NumberedStep};
 ghost use Rattle.trs_defs.specs.LabelledPath.{LabelledPath};
 ghost use Rattle.trs_defs.specs.Path.{PlacedRule, Follows};
+ghost use Rattle.trs_defs.specs.ParallelPositions.{ArePairwiseParallel};
+ghost use Rattle.trs_defs.specs.ParallelStep.{ParallelStepBy};
 ghost use Rattle.trs_defs.specs.Cap.{Cap, Fits};
+ghost use Rattle.trs_defs.specs.Clash.{clash};
 ghost use Rattle.trs_defs.specs.UniqueNormalForms.{HasUniqueNormalForms, IsSplit};
 
-/// The critical pair lemma's first half (Baader and Nipkow, lemma 6.2.3): a list with all critical
+/// The critical pair lemma's first half (Baader and Nipkow, section 6.2): a list with all critical
 /// peaks covers the system.
 pub fn critical_peaks_cover()
     ensures covers { (system : System) (peaks : List Peak) →
@@ -48,6 +48,13 @@ pub fn followed_paths()
         LabelledPath (NumberedStep rules) (map (λ s. s.rule) path) t u }
 {}
 
+/// A path whose positions are pairwise parallel is one parallel step, as a parallel closed peak
+/// wants it.
+pub fn parallel_paths()
+    ensures parallel { (rules : List RewriteRule) (path : List PlacedRule) (t u : Tree) →
+        ArePairwiseParallel path → Follows rules path t u → ParallelStepBy rules t u }
+{}
+
 /// Two different normal forms are not joinable, so a system is forked where a term reaches both.
 pub fn different_normal_forms()
     ensures apart { (rules : List RewriteRule) (t u : Tree) →
@@ -60,9 +67,9 @@ pub fn different_normal_forms()
 
 /// What the instances of a term reach fits the term's cap (Giesl, Thiemann and Schneider-Kamp,
 /// 2005). So two terms are not joinable, if no term fits both the caps that they have when their
-/// variables are read by one substitution, as by fresh constants (Aoto, Disproving confluence of
-/// term rewriting systems by interpretation and ordering, 2013; Zankl, Felgenhauer and Middeldorp,
-/// CSI, 2011).
+/// variables are read by one substitution, as by fresh constants (Zankl, Felgenhauer and
+/// Middeldorp, CSI, a confluence tool, 2011; Aoto, Disproving confluence of term rewriting systems
+/// by interpretation and ordering, 2013).
 pub fn caps_apart()
     ensures fits { (rules : List RewriteRule) (t cap v : Tree) (instance : ℕ → Tree) →
         Cap (Among rules) t cap → Reaches (Step rules) (apply instance t) v → Fits cap v }
@@ -75,8 +82,14 @@ pub fn caps_apart()
         ((v : Tree) → Fits c v → Fits d v → ⊥) → IsForked system }
 {}
 
+/// Caps clash exactly where no term fits both.
+pub fn clashing_caps()
+    ensures apart { (c d v : Tree) → IsTrue (clash c d) → Fits c v → Fits d v → ⊥ }
+    ensures together { (c d : Tree) → (IsTrue (clash c d) → ⊥) → (v : Tree) × Fits c v × Fits d v }
+{}
+
 /// In a confluent system each well-formed term has at most one normal form (Baader and Nipkow,
-/// corollary 2.1.6).
+/// section 2.1).
 pub fn unique_normal_forms()
     ensures unique { (system : System) → IsConfluent system → HasUniqueNormalForms system }
 {}

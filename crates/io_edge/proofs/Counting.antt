@@ -9,6 +9,7 @@ use Rattle.std.specs.Str.{bytes_eq}
 use Rattle.std.proofs.lemmas.Map.Text.{is_eq-slice_cmp}
 use Rattle.std.proofs.lemmas.Slice.Eq.{bytes_eq-Decides}
 use Rattle.std.proofs.lemmas.Bool.{cases_Bool, false≢true}
+use Rattle.io_edge.specs.declared.counts.Tally.{Tally}
 use Rattle.io_edge.specs.Edge.{CountsRise}
 use Rattle.io_edge.specs.Named.{first_under, by_name}
 
@@ -24,9 +25,9 @@ rises_at before now name rise others = record {
   others = others;
 }
 
-found : (q : List ℕ) (es : List (String Global × ℕ)) → first_under (by_name es) q ≡ lookup (is_at (λ k. slice_cmp nat_cmp q (string_bytes k))) es
+found : {X : Type 0} (q : List ℕ) (es : List (String Global × X)) → first_under (by_name es) q ≡ lookup (is_at (λ k. slice_cmp nat_cmp q (string_bytes k))) es
 found q [] = refl
 found q (e ∷ es) = rw (is_eq-slice_cmp q (string_bytes e.0), found q es) refl
 
-pub found_by_name : (q : List ℕ) (m : BTreeMap (String Global) ℕ) → first_under (by_name m.entries) q ≡ get_by_text m q
+pub found_by_name : (q : List ℕ) (m : BTreeMap (String Global) Tally) → first_under (by_name m.entries) q ≡ get_by_text m q
 found_by_name q m = found q m.entries

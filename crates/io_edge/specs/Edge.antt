@@ -1,9 +1,17 @@
--- Counts of faults that rise, and bytes that are appended.
+-- Counts that rise, and bytes that are appended.
 use Rattle.std.specs.Prelude.{◌≡◌, ◌≢◌, ◌≤◌, ℕ, ◌+◌, ◌-◌, ◌^◌, min, List, ◌++◌, take, Option, Some, None}
 
 -- one more, but a count of 64 bits stays at its last value
 abbrev pub next_count : ℕ → ℕ
 next_count n = min (n + 1) (2 ^ 64 - 1)
+
+-- so much more, but a count of 64 bits stays at its last value
+abbrev pub count_after : ℕ → ℕ → ℕ
+count_after n count = min (count + n) (2 ^ 64 - 1)
+
+-- a count rose by so much at least, or stands at its last value
+abbrev pub RoseBy : ℕ → ℕ → ℕ → Type 0
+RoseBy n before now = count_after n before ≤ now
 
 -- a count rose by one at least, or stands at its last value
 abbrev pub Rose : ℕ → ℕ → Type 0

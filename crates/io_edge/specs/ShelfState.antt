@@ -3,6 +3,7 @@ use Rattle.std.specs.Prelude.{ℕ, Bool, List, map, length, Vec, String, string_
 use Rattle.std.specs.declared.alloc.Global.{Global}
 use Rattle.std.specs.List.{list_any}
 use Rattle.io_edge.specs.Named.{first_under}
+use Rattle.io_edge.specs.declared.counts.Tally.{Tally}
 
 pub record ShelfState : Type 0 where
   -- texts under names
@@ -11,8 +12,8 @@ pub record ShelfState : Type 0 where
   pub failing : List ℕ
   -- how many calls there were
   pub calls : ℕ
-  -- counts of faults under names
-  pub faults : List (List ℕ × ℕ)
+  -- counts of faults and of bytes read under names
+  pub tallies : List (List ℕ × Tally)
 
 -- texts under names, as they lie in memory
 abbrev pub texts_of : List (String Global × Vec ℕ Global) → List (List ℕ × List ℕ)
@@ -22,12 +23,26 @@ texts_of ts = map (λ t. (string_bytes t.0, t.1.items)) ts
 abbrev pub is_failing : List ℕ → ℕ → Bool
 is_failing failing call = list_any (λ n. nat_eq n call) failing
 
--- a text, if it is not longer than the limit
-abbrev pub within_limit : Option (List ℕ) → ℕ → Option (List ℕ)
-within_limit None limit = None
-within_limit (Some text) limit = if nat_le (length text) limit then Some text else None
+-- what a call answers: the text, or why there is none
+pub data Answer : Type 0 where
+  text : List ℕ → Answer
+  too_long : Answer
+  failed : Answer
 
--- the text that the next call answers, or None if it fails
-abbrev pub answer_to : ShelfState → List ℕ → ℕ → Option (List ℕ)
+abbrev pub within_limit : Option (List ℕ) → ℕ → Answer
+within_limit None limit = failed
+within_limit (Some t) limit = if nat_le (length t) limit then text t else too_long
+
+-- what the next call answers, want of memory aside
+abbrev pub answer_to : ShelfState → List ℕ → ℕ → Answer
 answer_to s name limit =
-    if is_failing s.failing s.calls then None else within_limit (first_under s.texts name) limit
+    if is_failing s.failing s.calls then failed else within_limit (first_under s.texts name) limit
+
+-- how many bytes a call finds under a name
+abbrev pub bytes_found : Option (List ℕ) → ℕ
+bytes_found None = 0
+bytes_found (Some t) = length t
+
+-- how many bytes the next call counts as read
+abbrev pub bytes_read : ShelfState → List ℕ → ℕ
+bytes_read s name = if is_failing s.failing s.calls then 0 else bytes_found (first_under s.texts name)

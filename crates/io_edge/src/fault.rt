@@ -6,7 +6,9 @@ use std::alloc::AllocError;
 /// Why a shelf answered no text.
 #[derive(Clone, Copy, Debug, PartialEq, Eq)]
 pub enum FetchFault {
-    /// The text is not there, is too long, or could not be read.
+    /// The text has more bytes than the limit.
+    TooLong,
+    /// The text is not there, or could not be read.
     Failed,
     OutOfMemory,
 }

@@ -1,7 +1,8 @@
-ghost use Rattle.std.specs.Prelude.{◌≡◌, ◌≤◌, ℕ, List, [], length, IfOk, None};
-ghost use Rattle.io_edge.specs.Named.{faults_under};
+ghost use Rattle.std.specs.Prelude.{◌≡◌, ◌<◌, ◌≤◌, ℕ, List, [], length, IfOk, IsErrOf, None};
+ghost use Rattle.io_edge.specs.Named.{faults_under, bytes_under};
+ghost use Rattle.io_edge.specs.declared.fault.FetchFault.TheVariants.{TooLong};
 
-use crate::counts::FaultCounts;
+use crate::counts::{Reading, Tallies};
 use crate::fault::FetchFault;
 use crate::shelf::Shelf;
 use std::alloc::Global;
@@ -15,13 +16,16 @@ use std::rt::Files;
 pub struct FileShelf<'a, R: Files> {
     rt: &'a R,
     alloc: Global,
-    faults: FaultCounts,
+    tallies: Tallies,
 }
 
 impl<'a, R: Files> Model for FileShelf<'a, R> {
-    ghost Value = { List (List ℕ × ℕ) };
+    ghost use Rattle.std.specs.Prelude.{ℕ, List};
+    ghost use Rattle.io_edge.specs.declared.counts.Tally.{Tally as Counted};
 
-    ghost view = { λ s. s.faults };
+    ghost Value = { List (List ℕ × Counted) };
+
+    ghost view = { λ s. s.tallies };
 }
 
 impl<'a, R: Files> FileShelf<'a, R> {
@@ -31,7 +35,7 @@ impl<'a, R: Files> FileShelf<'a, R> {
         FileShelf {
             rt,
             alloc,
-            faults: FaultCounts::new(alloc),
+            tallies: Tallies::new(alloc),
         }
     }
 }
@@ -39,8 +43,9 @@ impl<'a, R: Files> FileShelf<'a, R> {
 const CHUNK: usize = 4096;
 
 // Reads to the end, or one byte past the limit.
-fn read_to_limit<F: Read>(alloc: Global, file: &mut F, limit: u64) -> Result<Vec<u8>, FetchFault>
-    ensures { IfOk result (λ v. length v.items ≤ limit) }
+fn read_to_limit<F: Read>(alloc: Global, file: &mut F, limit: u64) -> Reading
+    ensures bound { IfOk result.outcome (λ v. length v.items ≤ limit) }
+    ensures long { IsErrOf result.outcome TooLong → limit < result.bytes }
 {
     let mut text: Vec<u8> = Vec::new(alloc);
     let mut chunk = [0; CHUNK];
@@ -51,22 +56,38 @@ fn read_to_limit<F: Read>(alloc: Global, file: &mut F, limit: u64) -> Result<Vec
         } else {
             CHUNK
         };
+        let bytes = text.len() as u64;
         let Ok(count) = file.read(&mut chunk[..wanted]) else {
-            return Err(FetchFault::Failed);
+            return Reading {
+                outcome: Err(FetchFault::Failed),
+                bytes,
+            };
         };
         if count == 0 {
-            return Ok(text);
+            return Reading {
+                outcome: Ok(text),
+                bytes,
+            };
         }
-        text.extend_from_slice(&chunk[..count])?;
+        let Ok(()) = text.extend_from_slice(&chunk[..count]) else {
+            return Reading {
+                outcome: Err(FetchFault::OutOfMemory),
+                bytes: bytes + count as u64,
+            };
+        };
     }
-    Err(FetchFault::Failed)
+    Reading {
+        outcome: Err(FetchFault::TooLong),
+        bytes: text.len() as u64,
+    }
 }
 
-fn read_file<R: Files>(rt: &R, alloc: Global, name: &str, limit: u64) -> Result<Vec<u8>, FetchFault>
-    ensures { IfOk result (λ v. length v.items ≤ limit) }
+fn read_file<R: Files>(rt: &R, alloc: Global, name: &str, limit: u64) -> Reading
+    ensures bound { IfOk result.outcome (λ v. length v.items ≤ limit) }
+    ensures long { IsErrOf result.outcome TooLong → limit < result.bytes }
 {
     let Ok(mut file) = fs::open(rt, name) else {
-        return Err(FetchFault::Failed);
+        return Reading::failed();
     };
     read_to_limit(alloc, &mut file, limit)
 }
@@ -76,9 +97,11 @@ impl<'a, R: Files> Shelf for FileShelf<'a, R> {
 
     ghost faults = { λ s. faults_under s };
 
+    ghost bytes = { λ s. bytes_under s };
+
     fn fetch(&mut self, name: &str, limit: u64) -> Result<Vec<u8>, FetchFault> {
-        self.faults.note(self.alloc, name)?;
-        let outcome = read_file(self.rt, self.alloc, name, limit);
-        self.faults.record(name, outcome)
+        self.tallies.note(self.alloc, name)?;
+        let reading = read_file(self.rt, self.alloc, name, limit);
+        self.tallies.record(name, reading)
     }
 }

@@ -1,11 +1,11 @@
-ghost use Rattle.std.specs.Prelude.{◌≡◌, ◌≤◌, ℕ, List, [], map, length, option_map, IfOk, IfSome, IsErrOf, None, Some};
-ghost use Rattle.io_edge.specs.Edge.{CountsRise, Rose, next_count};
-ghost use Rattle.io_edge.specs.Named.{by_name, first_under, faults_under};
-ghost use Rattle.io_edge.specs.Fetched.{CountsFault};
-ghost use Rattle.io_edge.specs.ShelfState.{answer_to, texts_of, within_limit, is_failing};
-ghost use Rattle.io_edge.specs.declared.fault.FetchFault.TheVariants.{Failed};
+ghost use Rattle.std.specs.Prelude.{◌≡◌, ◌+◌, ◌<◌, ◌≤◌, ℕ, List, [], map, length, option_map, IfOk, IfErr, IfSome, IsErrOf, None, Some};
+ghost use Rattle.io_edge.specs.Edge.{CountsRise, Rose, RoseBy, next_count};
+ghost use Rattle.io_edge.specs.Named.{by_name, first_under, faults_under, bytes_under};
+ghost use Rattle.io_edge.specs.Fetched.{CountsFault, CountsBytes};
+ghost use Rattle.io_edge.specs.ShelfState.{answer_to, texts_of, within_limit, is_failing, bytes_found, bytes_read, text as text_answer, too_long as too_long_answer, failed as failed_answer};
+ghost use Rattle.io_edge.specs.declared.fault.FetchFault.TheVariants.{TooLong, Failed};
 
-use crate::counts::FaultCounts;
+use crate::counts::{Reading, Tallies};
 use crate::fault::FetchFault;
 use crate::shelf::Shelf;
 use std::alloc::Global;
@@ -19,7 +19,7 @@ pub struct MemoryShelf {
     texts: Vec<(String, Vec<u8>)>,
     failing: Vec<u64>,
     calls: u64,
-    faults: FaultCounts,
+    tallies: Tallies,
 }
 
 impl Model for MemoryShelf {
@@ -31,7 +31,7 @@ impl Model for MemoryShelf {
       texts = texts_of s.texts.items;
       failing = s.failing.items;
       calls = s.calls;
-      faults = s.faults;
+      tallies = s.tallies;
     } };
 }
 
@@ -47,22 +47,29 @@ fn text_under<'a>(texts: &'a [(String, Vec<u8>)], name: &str) -> Option<&'a [u8]
     None
 }
 
-// A copy of the text under a name.
-fn copy_under(
-    alloc: Global,
-    texts: &[(String, Vec<u8>)],
-    name: &str,
-    limit: u64,
-) -> Result<Vec<u8>, FetchFault>
-    ensures found { IfOk result (λ v. within_limit (first_under (texts_of texts.now) name.now) limit ≡ Some v.items) }
-    ensures failed { IsErrOf result Failed → within_limit (first_under (texts_of texts.now) name.now) limit ≡ None }
+// What a call that does not fail by its number meets under a name.
+fn copy_under(alloc: Global, texts: &[(String, Vec<u8>)], name: &str, limit: u64) -> Reading
+    ensures found { IfOk result.outcome (λ v. within_limit (first_under (texts_of texts.now) name.now) limit ≡ text_answer v.items) }
+    ensures too_long { IsErrOf result.outcome TooLong → within_limit (first_under (texts_of texts.now) name.now) limit ≡ too_long_answer }
+    ensures failed { IsErrOf result.outcome Failed → within_limit (first_under (texts_of texts.now) name.now) limit ≡ failed_answer }
+    ensures bytes { result.bytes ≡ bytes_found (first_under (texts_of texts.now) name.now) }
 {
     let Some(text) = text_under(texts, name) else {
-        return Err(FetchFault::Failed);
+        return Reading::failed();
     };
-    if text.len() as u64 > limit {
-        return Err(FetchFault::Failed);
-    }
+    let bytes = text.len() as u64;
+    let outcome = if bytes > limit {
+        Err(FetchFault::TooLong)
+    } else {
+        copy_of(alloc, text)
+    };
+    Reading { outcome, bytes }
+}
+
+fn copy_of(alloc: Global, text: &[u8]) -> Result<Vec<u8>, FetchFault>
+    ensures copied { IfOk result (λ v. v.items ≡ text.now) }
+    ensures memory { IfErr result (λ e. e ≡ FetchFault.OutOfMemory) }
+{
     Ok(Vec::from_slice(alloc, text)?)
 }
 
@@ -72,14 +79,14 @@ impl MemoryShelf {
         ensures texts { result.texts ≡ texts_of texts.items }
         ensures failing { result.failing ≡ failing.items }
         ensures calls { result.calls ≡ 0 }
-        ensures faults { result.faults ≡ [] }
+        ensures tallies { result.tallies ≡ [] }
     {
         MemoryShelf {
             alloc,
             texts,
             failing,
             calls: 0,
-            faults: FaultCounts::new(alloc),
+            tallies: Tallies::new(alloc),
         }
     }
 }
@@ -87,33 +94,41 @@ impl MemoryShelf {
 impl Shelf for MemoryShelf {
     ghost text = { λ s. first_under s.texts };
 
-    ghost faults = { λ s. faults_under s.faults };
+    ghost faults = { λ s. faults_under s.tallies };
 
-    /// Each call is counted, whatever its answer. Without memory for a new name the counts of
-    /// faults stay as they were.
+    ghost bytes = { λ s. bytes_under s.tallies };
+
+    /// Each call is counted, whatever its answer. Without memory for a new name the counts under names
+    /// stay as they were. The whole length of a text that is found counts as read, also of one that is
+    /// too long.
     fn fetch(&mut self, name: &str, limit: u64) -> Result<Vec<u8>, FetchFault>
         ensures whole { IfOk result (λ v. IfSome (first_under self.old.texts name.now) (λ t. v.items ≡ t)) }
         ensures bound { IfOk result (λ v. length v.items ≤ limit) }
+        ensures too_long { IsErrOf result TooLong → IfSome (first_under self.old.texts name.now) (λ t. limit < length t) }
         ensures told { (q : List ℕ) → first_under self.new.texts q ≡ first_under self.old.texts q }
-        ensures faults { CountsRise (faults_under self.old.faults) (faults_under self.new.faults) name.now }
-        ensures failed { IsErrOf result Failed → Rose (faults_under self.old.faults name.now) (faults_under self.new.faults name.now) }
+        ensures faults { CountsRise (faults_under self.old.tallies) (faults_under self.new.tallies) name.now }
+        ensures read { CountsRise (bytes_under self.old.tallies) (bytes_under self.new.tallies) name.now }
+        ensures failed { IsErrOf result Failed → Rose (faults_under self.old.tallies name.now) (faults_under self.new.tallies name.now) }
+        ensures long { IsErrOf result TooLong → RoseBy (limit + 1) (bytes_under self.old.tallies name.now) (bytes_under self.new.tallies name.now) }
 
-        // Which calls fail, want of memory aside, and how the shelf stands then.
-        ensures answered { IfOk result (λ v. answer_to self.old name.now limit ≡ Some v.items) }
-        ensures refused { IsErrOf result Failed → answer_to self.old name.now limit ≡ None }
-        ensures counted { CountsFault result (faults_under self.old.faults) (faults_under self.new.faults) name.now }
+        // Which calls answer what, want of memory aside, and how the shelf stands then.
+        ensures answered { IfOk result (λ v. answer_to self.old name.now limit ≡ text_answer v.items) }
+        ensures long_answer { IsErrOf result TooLong → answer_to self.old name.now limit ≡ too_long_answer }
+        ensures failed_answer { IsErrOf result Failed → answer_to self.old name.now limit ≡ failed_answer }
+        ensures counted { CountsFault result (faults_under self.old.tallies) (faults_under self.new.tallies) name.now }
+        ensures counted_bytes { CountsBytes result (bytes_read self.old name.now) (bytes_under self.old.tallies name.now) (bytes_under self.new.tallies name.now) }
         ensures calls { self.new.calls ≡ next_count self.old.calls }
         ensures texts { self.new.texts ≡ self.old.texts }
         ensures failing { self.new.failing ≡ self.old.failing }
     {
         let call = self.calls;
         self.calls = call.saturating_add(1);
-        self.faults.note(self.alloc, name)?;
-        let outcome = if self.failing.contains(&call) {
-            Err(FetchFault::Failed)
+        self.tallies.note(self.alloc, name)?;
+        let reading = if self.failing.contains(&call) {
+            Reading::failed()
         } else {
             copy_under(self.alloc, &self.texts, name, limit)
         };
-        self.faults.record(name, outcome)
+        self.tallies.record(name, reading)
     }
 }

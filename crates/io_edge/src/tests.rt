@@ -2,11 +2,15 @@ use super::*;
 use std::fs;
 use std::test::*;
 
-fn answers<S: Shelf>(shelf: &mut S, name: &str, limit: u64, text: Option<&[u8]>) -> bool {
+fn answers<S: Shelf>(
+    shelf: &mut S,
+    name: &str,
+    limit: u64,
+    wanted: Result<&[u8], FetchFault>,
+) -> bool {
     match shelf.fetch(name, limit) {
-        Ok(bytes) => text == Some(bytes.as_slice()),
-        Err(FetchFault::Failed) => text.is_none(),
-        Err(FetchFault::OutOfMemory) => false,
+        Ok(bytes) => wanted == Ok(bytes.as_slice()),
+        Err(fault) => wanted == Err(fault),
     }
 }
 
@@ -20,20 +24,23 @@ fn shelves(rt: HostRuntime) -> Result<(), Fail> {
     fs::write(&rt, "seven", b"7 bytes")?;
     fs::create_dir(&rt, "folder")?;
     let mut files = FileShelf::new(&rt, alloc);
-    assert!(rt; answers(&mut files, "seven", 7, Some(b"7 bytes")));
-    for (name, limit) in [("seven", 6), ("missing", 7), ("folder", 7)] {
-        assert!(rt; answers(&mut files, name, limit, None), "{name}");
+    assert!(rt; answers(&mut files, "seven", 7, Ok(b"7 bytes")));
+    assert!(rt; answers(&mut files, "seven", 6, Err(FetchFault::TooLong)));
+    for name in ["missing", "folder"] {
+        assert!(rt;
+            answers(&mut files, name, 7, Err(FetchFault::Failed)),
+            "{name}"
+        );
     }
 
     let name = String::from_str(alloc, "seven")?;
     let text = Vec::from_slice(alloc, b"7 bytes")?;
     let mut memory = MemoryShelf::new(alloc, vec![in alloc; (name, text)]?, vec![in alloc; 1]?);
-    assert!(rt; answers(&mut memory, "seven", 7, Some(b"7 bytes")));
-    assert!(rt; answers(&mut memory, "seven", 7, None));
-    assert!(rt; answers(&mut memory, "seven", 8, Some(b"7 bytes")));
-    for (name, limit) in [("seven", 6), ("missing", 7)] {
-        assert!(rt; answers(&mut memory, name, limit, None), "{name}");
-    }
+    assert!(rt; answers(&mut memory, "seven", 7, Ok(b"7 bytes")));
+    assert!(rt; answers(&mut memory, "seven", 7, Err(FetchFault::Failed)));
+    assert!(rt; answers(&mut memory, "seven", 8, Ok(b"7 bytes")));
+    assert!(rt; answers(&mut memory, "seven", 6, Err(FetchFault::TooLong)));
+    assert!(rt; answers(&mut memory, "missing", 7, Err(FetchFault::Failed)));
     Ok(())
 }
 

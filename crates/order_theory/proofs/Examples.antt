@@ -1,20 +1,18 @@
 -- Addition terminates: by a linear interpretation, by the subterm criterion and by a path order.
-use Rattle.std.proofs.Common.{◌≡◌, ℕ, ◌+◌, ◌*◌, ◌≤◌, ◌<◌, refl, subst, arith, ◌⊎◌, inl, inr, List, [], ◌∷◌, Bool, true, ◌==◌, if◌then◌else◌, IsTrue, Some, slice_get}
+use Rattle.std.proofs.Common.{◌≡◌, ℕ, refl, arith, Option, Some, slice_get, ◌⊎◌, inr, [], ◌∷◌, true, ◌==◌, if◌then◌else◌}
 use Rattle.trs_defs.specs.Member.{In, in_first, in_rest}
-use Rattle.trs_defs.specs.Tree.{Tree, Trees, var, app, nil, cons}
-use Rattle.trs_defs.specs.Variable.{has_var, some_has_var, IsVariable}
+use Rattle.trs_defs.specs.Tree.{Tree, var, app, nil, cons}
 use Rattle.trs_defs.specs.System.{RewriteRule, System, IsRule, IsSystem}
 use Rattle.trs_defs.specs.Claims.{IsTerminating}
-use Rattle.trs_defs.specs.Subterm.{ProperSubterm, proper, itself, Subs, in_head}
-use Rattle.trs_defs.specs.Marked.{marked, plain, mark}
+use Rattle.trs_defs.specs.Subterm.{ProperSubterm, proper, itself, in_head}
+use Rattle.trs_defs.specs.Marked.{marked, mark}
 use Rattle.trs_defs.specs.DependencyPair.{DependencyPair, dependency_pairs}
-use Rattle.trs_defs.specs.PairProblem.{IsFiniteProblem, IsPair}
+use Rattle.trs_defs.specs.PairProblem.{IsFiniteProblem}
 use Rattle.trs_defs.specs.SubtermCriterion.{Projects}
-use Rattle.trs_defs.specs.LinearInterpretation.{CoefficientWeak, CoefficientStrict, constant, coefficient}
-use Rattle.trs_defs.specs.PathOrder.{PathGreater}
+use Rattle.trs_defs.specs.LinearInterpretation.{CoefficientWeak, CoefficientStrict}
 use Rattle.trs_defs.specs.PathTest.{path_greater}
 use Rattle.trs_defs.specs.ArgumentFilter.{ArgumentFilter, Keep, filtered, PathWeak, PathStrict}
-use Rattle.trs_defs.specs.KnuthBendix.{KnuthGreater, by_weight, by_head, KnuthWeak, IsAdmissible, arity_with_marks}
+use Rattle.trs_defs.specs.KnuthBendix.{KnuthGreater, by_weight, by_head, KnuthWeak, IsAdmissible, IsOver, arity_with_marks}
 use Rattle.trs_defs.proofs.Members.{in_of_get}
 use Rattle.pair_theory.proofs.Members.{no_in}
 use Rattle.pair_theory.proofs.PairList.{listed_are_pairs}
@@ -123,15 +121,24 @@ addition_terminates_by_paths = listed_theorem addition is_system
 abbrev weights : ℕ → ℕ
 weights f = 1
 
-admissible : IsAdmissible (arity_with_marks addition.arities) weights ranks
+-- entries for the three symbols and the marked sum
+abbrev entries : ℕ → Option ℕ
+entries f = if f == 4098 then Some 2 else slice_get addition.arities f
+
+agrees : (f n : ℕ) → entries f ≡ Some n → arity_with_marks addition.arities f ≡ Some n
+agrees f n e = grind arith
+
+admissible : IsAdmissible entries weights ranks
 admissible = record { constants_weigh = λ f e. omega arith; on_top = λ f g n e light e' d. absurd (omega arith) }
 
 pub addition_terminates_by_weights : IsTerminating addition
 addition_terminates_by_weights = listed_theorem addition is_system
-    (remove_by_knuth_bendix addition (dependency_pairs addition.rules) [] weights ranks is_system (listed_are_pairs addition is_system)
-    (omega arith) admissible
-    (two_rules (λ p. KnuthWeak weights ranks p.left p.right)
-    (inr (by_weight (λ v. omega arith) (omega arith))) (inr (by_head (λ v. omega arith) refl (omega arith))))
+    (remove_by_knuth_bendix addition (dependency_pairs addition.rules) [] entries weights ranks is_system (listed_are_pairs addition is_system)
+    (omega arith) agrees admissible
+    (two_rules (λ p. IsOver entries p.left × IsOver entries p.right × KnuthWeak weights ranks p.left p.right)
+    ((refl, ((refl, tt), (tt, tt))), tt, inr (by_weight (λ v. omega arith) (omega arith)))
+    ((refl, ((refl, (tt, tt)), (tt, tt))), (refl, ((refl, (tt, (tt, tt))), tt)), inr (by_head (λ v. omega arith) refl (omega arith))))
+    (only_pair (λ p. IsOver entries (mark p.from) × IsOver entries (mark p.to)) ((refl, ((refl, (tt, tt)), (tt, tt))), (refl, (tt, (tt, tt)))))
     (only_pair (λ p. (In p [] × KnuthWeak weights ranks (mark p.from) (mark p.to)) ⊎ KnuthGreater weights ranks (mark p.from) (mark p.to))
     (inr (by_weight (λ v. omega arith) (omega arith))))
     no_pairs)

@@ -1,5 +1,5 @@
 -- The images under a map of those pairs whose sides it does not make equal.
-use Rattle.std.proofs.Common.{◌≡◌, ℕ, refl, ◌⊎◌, inl, inr, List, [], ◌∷◌}
+use Rattle.std.proofs.Common.{◌≡◌, refl, ◌⊎◌, inl, inr, List, [], ◌∷◌}
 use Rattle.trs_defs.specs.Tree.{Tree}
 use Rattle.trs_defs.specs.System.{RewriteRule}
 use Rattle.trs_defs.specs.Member.{In, in_first, in_rest}

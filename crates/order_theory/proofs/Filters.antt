@@ -6,11 +6,11 @@ use Rattle.trs_defs.specs.Step.{RootStep, StepBy, here, deep, first, later}
 use Rattle.trs_defs.specs.Terminates.{ArgumentStep, Terminates}
 use Rattle.trs_defs.specs.Bounded.{IsBoundedBy}
 use Rattle.trs_defs.specs.System.{RewriteRule, Among}
-use Rattle.trs_defs.specs.Member.{In, in_first, in_rest}
+use Rattle.trs_defs.specs.Member.{In}
 use Rattle.trs_defs.specs.Run.{Run, Stay, Go}
 use Rattle.trs_defs.specs.PathOrder.{PathGreater}
 use Rattle.trs_defs.specs.ArgumentFilter.{ArgumentFilter, To, Keep, item_or, keep_one, select, by_filter, filtered, filtered_all, PathStrict, PathWeak}
-use Rattle.trs_defs.specs.Moves.{Moves, no_moves, weakly, strictly, MovesAtMost, IsWellFounded, IsOrdered}
+use Rattle.trs_defs.specs.Moves.{Moves, no_moves, weakly, strictly, MovesAtMost, IsWellFounded}
 use Rattle.trs_defs.specs.ReductionPair.{AllTerms}
 use Rattle.pair_theory.proofs.Accessibility.{looser, run_on, run_map}
 use Rattle.pair_theory.proofs.Terms.{join_cons}
@@ -73,19 +73,19 @@ module _ (rule : Tree → Tree → Type 0) where
   near_select [] p = near_nil
   near_select (i ∷ is) p = near_keep (i - 1) p (near_select is p)
 
-  near_star : {ss ts : Trees} → Near ss ts → Run (ArgumentStep rule) ss ts
-  near_star near_nil = Stay
-  near_star (near_cons {t = t} {ss = ss} p ps) = run_on (run_map (λ x. cons x ss) (λ x y s. first s) p) (run_map (cons t) (λ x y s. later s) (near_star ps))
+  near_run : {ss ts : Trees} → Near ss ts → Run (ArgumentStep rule) ss ts
+  near_run near_nil = Stay
+  near_run (near_cons {t = t} {ss = ss} p ps) = run_on (run_map (λ x. cons x ss) (λ x y s. first s) p) (run_map (cons t) (λ x y s. later s) (near_run ps))
 
   near_filter : (f : ℕ) (φ : ArgumentFilter) {ss ts : Trees} → Near ss ts → Run (StepBy rule) (by_filter f φ ss) (by_filter f φ ts)
   near_filter f (To i) p = near_at (i - 1) (app f nil) p
-  near_filter f (Keep is) p = run_map (app f) (λ x y s. deep s) (near_star (near_select is p))
+  near_filter f (Keep is) p = run_map (app f) (λ x y s. deep s) (near_run (near_select is p))
 
 -- a system that contains the filtered pairs, but for those whose sides are equal, makes each step
 module _ (π : ℕ → ArgumentFilter) (rule goal : Tree → Tree → Type 0)
     (covers : (l r : Tree) → rule l r → (filtered π l ≡ filtered π r) ⊎ goal (filtered π l) (filtered π r)) where
-  root_star : {s t : Tree} (l r : Tree) (σ : ℕ → Tree) → rule l r → s ≡ apply σ l → t ≡ apply σ r → Run (StepBy goal) (filtered π s) (filtered π t)
-  root_star {s} {t} l r σ h e e' = go (covers l r h)
+  root_run : {s t : Tree} (l r : Tree) (σ : ℕ → Tree) → rule l r → s ≡ apply σ l → t ≡ apply σ r → Run (StepBy goal) (filtered π s) (filtered π t)
+  root_run {s} {t} l r σ h e e' = go (covers l r h)
     where
       left : filtered π s ≡ apply (after π σ) (filtered π l)
       left = ap (filtered π) e ∙ filtered_apply π σ l
@@ -99,7 +99,7 @@ module _ (π : ℕ → ArgumentFilter) (rule goal : Tree → Tree → Type 0)
 
   mutual
     filter_step : {s t : Tree} → StepBy rule s t → Run (StepBy goal) (filtered π s) (filtered π t)
-    filter_step (here (l, r, σ, h, e, e')) = root_star l r σ h e e'
+    filter_step (here (l, r, σ, h, e, e')) = root_run l r σ h e e'
     filter_step (deep {f = f} s) = near_filter goal f (π f) (filter_steps s)
 
     filter_steps : {ss ts : Trees} → ArgumentStep rule ss ts → Near goal (filtered_all π ss) (filtered_all π ts)
@@ -134,18 +134,24 @@ module _ (rank : ℕ → ℕ) (π : ℕ → ArgumentFilter) (ws ss : List Rewrit
   weak_covered : (l r : Tree) → Among ws l r → (filtered π l ≡ filtered π r) ⊎ Among system (filtered π l) (filtered π r)
   weak_covered l r i = faller (filtered π) (images (filtered π) ss) ws _ i
 
-  after_star : (n : ℕ) {s t : Tree} → Run (StepBy (Among system)) s t → IsBoundedBy (StepBy (Among system)) n s → IsBoundedBy (StepBy (Among system)) n t
-  after_star n Stay b = b
-  after_star zero (Go p ps) b = absurd (b _ p)
-  after_star (suc n) (Go p ps) b = looser (Among system) n _ (after_star n ps (b _ p))
+  after_run : (n : ℕ) {s t : Tree} → Run (StepBy (Among system)) s t → IsBoundedBy (StepBy (Among system)) n s → IsBoundedBy (StepBy (Among system)) n t
+  after_run n Stay b = b
+  after_run zero (Go p ps) b = absurd (b _ p)
+  after_run (suc n) (Go p ps) b = looser (Among system) n _ (after_run n ps (b _ p))
 
   strict_step : {s t : Tree} → RootStep (Among ss) s t → StepBy (Among system) (filtered π s) (filtered π t)
-  strict_step (l, r, σ, i, e, e') = here (filtered π l, filtered π r, after π σ, base_in (filtered π) (images (filtered π) ss) ws (image_in (filtered π) ss i),
-      ap (filtered π) e ∙ filtered_apply π σ l, ap (filtered π) e' ∙ filtered_apply π σ r)
+  strict_step (l, r, σ, i, e, e') = here (
+    filtered π l,
+    filtered π r,
+    after π σ,
+    base_in (filtered π) (images (filtered π) ss) ws (image_in (filtered π) ss i),
+    ap (filtered π) e ∙ filtered_apply π σ l,
+    ap (filtered π) e' ∙ filtered_apply π σ r,
+  )
 
   few_moves : (n : ℕ) {m : ℕ} {s u : Tree} → Moves ws ss m s u → IsBoundedBy (StepBy (Among system)) n (filtered π s) → m ≤ n
   few_moves n no_moves b = omega arith
-  few_moves n (weakly s ms) b = few_moves n ms (after_star n (filter_step π (Among ws) (Among system) weak_covered s) b)
+  few_moves n (weakly s ms) b = few_moves n ms (after_run n (filter_step π (Among ws) (Among system) weak_covered s) b)
   few_moves zero (strictly s ms) b = absurd (b _ (strict_step s))
   few_moves (suc n) (strictly {n = k} s ms) b = let h : k ≤ n = few_moves n ms (b _ (strict_step s)) in omega arith
 

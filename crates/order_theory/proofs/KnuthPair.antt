@@ -1,5 +1,5 @@
 -- The Knuth-Bendix order is well-founded in the finite sense, on well-formed terms.
-use Rattle.std.proofs.Common.{◌≡◌, ℕ, zero, suc, ◌+◌, ◌-◌, ◌≤◌, ◌<◌, refl, sym, ap, subst, arith, ◌∙◌, ◌⊎◌, inl, inr, List, [], ◌∷◌, Bool, true, false, Option, Some, slice_get, length, nat_lt, if◌then◌else◌}
+use Rattle.std.proofs.Common.{◌≡◌, ℕ, zero, suc, ◌+◌, ◌-◌, ◌≤◌, ◌<◌, refl, sym, ap, subst, arith, ◌∙◌, ◌⊎◌, inl, inr, List, [], ◌∷◌, true, false, Option, Some, slice_get, length, nat_lt}
 use Rattle.trs_defs.specs.Tree.{Tree, Trees, var, app, nil, cons, count}
 use Rattle.trs_defs.specs.Substitution.{apply}
 use Rattle.trs_defs.specs.Step.{RootStep, StepBy, here, deep, first, later}
@@ -14,7 +14,6 @@ use Rattle.trs_defs.specs.Moves.{Moves, no_moves, weakly, strictly, MovesAtMost,
 use Rattle.pair_theory.proofs.Accessibility.{looser, run_map}
 use Rattle.pair_theory.proofs.Bounds.{bounded}
 use Rattle.order_theory.proofs.Fallers.{fallers, images, base_in, faller, origin, Origin, image_in, of_image}
-use Rattle.trs_defs.specs.Marked.{Marked, plain, mark}
 use Rattle.trs_defs.specs.ReductionPair.{ReductionPair, Speaks}
 use Rattle.trs_defs.specs.KnuthBendix.{KnuthGreater, KnuthWeak, IsAdmissible, IsOver, AreOver, arity_with_marks}
 use Rattle.order_theory.proofs.Over.{over_apply, each_over}
@@ -46,30 +45,30 @@ module _ (arity : ℕ → Option ℕ) (w rank : ℕ → ℕ) (admissible : IsAdm
     system_terminates : (t : Tree) → IsOver arity t → Terminates (Among system) t
     system_terminates = falling_terminates arity w rank admissible (Among system) (λ l r i. (fits _ i).0) (λ l r i. (fits _ i).1.0) (λ l r i. (fits _ i).1.1) (λ l r i. (fits _ i).1.2)
 
-    root_star : {s t : Tree} (l r : Tree) (σ : ℕ → Tree) → (l ≡ r) ⊎ Among system l r → s ≡ apply σ l → t ≡ apply σ r → Run (StepBy (Among system)) s t
-    root_star {s} l r σ (inl same) e e' = subst (Run (StepBy (Among system)) s) (e ∙ ap (apply σ) same ∙ sym e') Stay
-    root_star l r σ (inr i) e e' = Go (here (l, r, σ, i, e, e')) Stay
+    root_run : {s t : Tree} (l r : Tree) (σ : ℕ → Tree) → (l ≡ r) ⊎ Among system l r → s ≡ apply σ l → t ≡ apply σ r → Run (StepBy (Among system)) s t
+    root_run {s} l r σ (inl same) e e' = subst (Run (StepBy (Among system)) s) (e ∙ ap (apply σ) same ∙ sym e') Stay
+    root_run l r σ (inr i) e e' = Go (here (l, r, σ, i, e, e')) Stay
 
     mutual
       weak_step : {s t : Tree} → StepBy (Among ws) s t → Run (StepBy (Among system)) s t
-      weak_step (here (l, r, σ, i, e, e')) = root_star l r σ (faller (λ t. t) (images (λ t. t) ss) ws _ i) e e'
+      weak_step (here (l, r, σ, i, e, e')) = root_run l r σ (faller (λ t. t) (images (λ t. t) ss) ws _ i) e e'
       weak_step (deep {f = f} s) = run_map (app f) (λ x y s. deep s) (weak_steps s)
 
       weak_steps : {us vs : _} → ArgumentStep (Among ws) us vs → Run (ArgumentStep (Among system)) us vs
       weak_steps (first {ts = ts} s) = run_map (λ t. cons t ts) (λ x y s. first s) (weak_step s)
       weak_steps (later {t = s} st) = run_map (cons s) (λ x y s. later s) (weak_steps st)
 
-    after_star : (n : ℕ) {s t : Tree} → Run (StepBy (Among system)) s t → IsBoundedBy (StepBy (Among system)) n s → IsBoundedBy (StepBy (Among system)) n t
-    after_star n Stay b = b
-    after_star zero (Go p ps) b = absurd (b _ p)
-    after_star (suc n) (Go p ps) b = looser (Among system) n _ (after_star n ps (b _ p))
+    after_run : (n : ℕ) {s t : Tree} → Run (StepBy (Among system)) s t → IsBoundedBy (StepBy (Among system)) n s → IsBoundedBy (StepBy (Among system)) n t
+    after_run n Stay b = b
+    after_run zero (Go p ps) b = absurd (b _ p)
+    after_run (suc n) (Go p ps) b = looser (Among system) n _ (after_run n ps (b _ p))
 
     strict_step : {s t : Tree} → RootStep (Among ss) s t → StepBy (Among system) s t
     strict_step (l, r, σ, i, e, e') = here (l, r, σ, base_in (λ t. t) (images (λ t. t) ss) ws (image_in (λ t. t) ss i), e, e')
 
     few_moves : (n : ℕ) {m : ℕ} {s u : Tree} → Moves ws ss m s u → IsBoundedBy (StepBy (Among system)) n s → m ≤ n
     few_moves n no_moves b = omega arith
-    few_moves n (weakly s ms) b = few_moves n ms (after_star n (weak_step s) b)
+    few_moves n (weakly s ms) b = few_moves n ms (after_run n (weak_step s) b)
     few_moves zero (strictly s ms) b = absurd (b _ (strict_step s))
     few_moves (suc n) (strictly {n = k} s ms) b = let h : k ≤ n = few_moves n ms (b _ (strict_step s)) in omega arith
 

@@ -12,3 +12,4 @@ pub mod KnuthLaws
 pub mod KnuthPair
 pub mod Removals
 pub mod Examples
+pub mod Absent

@@ -11,64 +11,64 @@ use Rattle.order_theory.proofs.Filters.{path_well_founded, after, filtered_apply
 use Rattle.order_theory.proofs.PathLaws.{greater_apply, greater_trans, Mem, mem_head, mem_tail, all_of}
 
 module _ (rank : ℕ → ℕ) where
-  abbrev Ge : Tree → Tree → Type 0
-  Ge s t = (s ≡ t) ⊎ PathGreater rank s t
+  abbrev AtLeast : Tree → Tree → Type 0
+  AtLeast s t = (s ≡ t) ⊎ PathGreater rank s t
 
   -- place by place, equal or greater
-  data GeEach : Trees → Trees → Type 0 where
-    ge_nil : GeEach nil nil
-    ge_cons : {s t : Tree} {ss ts : Trees} → Ge s t → GeEach ss ts → GeEach (cons s ss) (cons t ts)
+  data AtLeastEach : Trees → Trees → Type 0 where
+    at_least_nil : AtLeastEach nil nil
+    at_least_cons : {s t : Tree} {ss ts : Trees} → AtLeast s t → AtLeastEach ss ts → AtLeastEach (cons s ss) (cons t ts)
 
-  ge_same : (ts : Trees) → GeEach ts ts
-  ge_same nil = ge_nil
-  ge_same (cons t ts) = ge_cons (inl refl) (ge_same ts)
+  at_least_same : (ts : Trees) → AtLeastEach ts ts
+  at_least_same nil = at_least_nil
+  at_least_same (cons t ts) = at_least_cons (inl refl) (at_least_same ts)
 
-  ge_at : (i : ℕ) {ss ts : Trees} (d : Tree) → GeEach ss ts → Ge (item_or i ss d) (item_or i ts d)
-  ge_at i d ge_nil = inl refl
-  ge_at zero d (ge_cons p ps) = p
-  ge_at (suc i) d (ge_cons p ps) = ge_at i d ps
+  at_least_at : (i : ℕ) {ss ts : Trees} (d : Tree) → AtLeastEach ss ts → AtLeast (item_or i ss d) (item_or i ts d)
+  at_least_at i d at_least_nil = inl refl
+  at_least_at zero d (at_least_cons p ps) = p
+  at_least_at (suc i) d (at_least_cons p ps) = at_least_at i d ps
 
-  ge_keep : (i : ℕ) {ss ts us vs : Trees} → GeEach ss ts → GeEach us vs → GeEach (keep_one i ss us) (keep_one i ts vs)
-  ge_keep i ge_nil q = q
-  ge_keep zero (ge_cons p ps) q = ge_cons p q
-  ge_keep (suc i) (ge_cons p ps) q = ge_keep i ps q
+  at_least_keep : (i : ℕ) {ss ts us vs : Trees} → AtLeastEach ss ts → AtLeastEach us vs → AtLeastEach (keep_one i ss us) (keep_one i ts vs)
+  at_least_keep i at_least_nil q = q
+  at_least_keep zero (at_least_cons p ps) q = at_least_cons p q
+  at_least_keep (suc i) (at_least_cons p ps) q = at_least_keep i ps q
 
-  ge_select : (is : List ℕ) {ss ts : Trees} → GeEach ss ts → GeEach (select is ss) (select is ts)
-  ge_select [] p = ge_nil
-  ge_select (i ∷ is) p = ge_keep (i - 1) p (ge_select is p)
+  at_least_select : (is : List ℕ) {ss ts : Trees} → AtLeastEach ss ts → AtLeastEach (select is ss) (select is ts)
+  at_least_select [] p = at_least_nil
+  at_least_select (i ∷ is) p = at_least_keep (i - 1) p (at_least_select is p)
 
-  ge_count : {ss ts : Trees} → GeEach ss ts → count ss ≡ count ts
-  ge_count ge_nil = refl
-  ge_count (ge_cons p ps) = ap (λ n. 1 + n) (ge_count ps)
+  at_least_count : {ss ts : Trees} → AtLeastEach ss ts → count ss ≡ count ts
+  at_least_count at_least_nil = refl
+  at_least_count (at_least_cons p ps) = ap (λ n. 1 + n) (at_least_count ps)
 
-  ge_lex : {ss ts : Trees} → GeEach ss ts → (ss ≡ ts) ⊎ LexGreater rank ss ts
-  ge_lex ge_nil = inl refl
-  ge_lex (ge_cons {s = s} {ss = ss} {ts = ts} (inl e) ps) = elim (ge_lex ps)
+  at_least_lex : {ss ts : Trees} → AtLeastEach ss ts → (ss ≡ ts) ⊎ LexGreater rank ss ts
+  at_least_lex at_least_nil = inl refl
+  at_least_lex (at_least_cons {s = s} {ss = ss} {ts = ts} (inl e) ps) = elim (at_least_lex ps)
       [ inl e' ↦ inl cc | inr l ↦ inr (subst (λ t. LexGreater rank (cons s ss) (cons t ts)) e (lex_later l)) ]
-  ge_lex (ge_cons (inr g) ps) = inr (lex_here g (ge_count ps))
+  at_least_lex (at_least_cons (inr g) ps) = inr (lex_here g (at_least_count ps))
 
-  ge_mem : {ss ts : Trees} → GeEach ss ts → (t : Tree) → Mem t ts → SomeAtLeast rank ss t
-  ge_mem ge_nil t m = elim m [ ]
-  ge_mem (ge_cons {s = s} {ss = ss} (inl e) ps) t mem_head = subst (SomeAtLeast rank (cons s ss)) e equal_here
-  ge_mem (ge_cons (inr g) ps) t mem_head = greater_here g
-  ge_mem (ge_cons p ps) t (mem_tail m) = further (ge_mem ps t m)
+  at_least_mem : {ss ts : Trees} → AtLeastEach ss ts → (t : Tree) → Mem t ts → SomeAtLeast rank ss t
+  at_least_mem at_least_nil t m = elim m [ ]
+  at_least_mem (at_least_cons {s = s} {ss = ss} (inl e) ps) t mem_head = subst (SomeAtLeast rank (cons s ss)) e equal_here
+  at_least_mem (at_least_cons (inr g) ps) t mem_head = greater_here g
+  at_least_mem (at_least_cons p ps) t (mem_tail m) = further (at_least_mem ps t m)
 
-  ge_app : (f : ℕ) {ss ts : Trees} → GeEach ss ts → Ge (app f ss) (app f ts)
-  ge_app f {ss} {ts} p = elim (ge_lex p) [ inl e ↦ inl (ap (app f) e) | inr l ↦ inr (by_lex l (all_of rank f ss ts (ge_mem p))) ]
+  at_least_app : (f : ℕ) {ss ts : Trees} → AtLeastEach ss ts → AtLeast (app f ss) (app f ts)
+  at_least_app f {ss} {ts} p = elim (at_least_lex p) [ inl e ↦ inl (ap (app f) e) | inr l ↦ inr (by_lex l (all_of rank f ss ts (at_least_mem p))) ]
 
-  ge_filter : (f : ℕ) (φ : ArgumentFilter) {ss ts : Trees} → GeEach ss ts → Ge (by_filter f φ ss) (by_filter f φ ts)
-  ge_filter f (To i) p = ge_at (i - 1) (app f nil) p
-  ge_filter f (Keep is) p = ge_app f (ge_select is p)
+  at_least_filter : (f : ℕ) (φ : ArgumentFilter) {ss ts : Trees} → AtLeastEach ss ts → AtLeast (by_filter f φ ss) (by_filter f φ ts)
+  at_least_filter f (To i) p = at_least_at (i - 1) (app f nil) p
+  at_least_filter f (Keep is) p = at_least_app f (at_least_select is p)
 
   module _ (π : ℕ → ArgumentFilter) where
     mutual
       pub weak_context : {s t : Tree} → Inside (PathWeak rank π) s t → PathWeak rank π s t
       weak_context (here w) = w
-      weak_context (deep {f = f} p) = ge_filter f (π f) (weak_contexts p)
+      weak_context (deep {f = f} p) = at_least_filter f (π f) (weak_contexts p)
 
-      weak_contexts : {ss ts : Trees} → InsideOne (PathWeak rank π) ss ts → GeEach (filtered_all π ss) (filtered_all π ts)
-      weak_contexts (first {ts = ts} p) = ge_cons (weak_context p) (ge_same (filtered_all π ts))
-      weak_contexts (later p) = ge_cons (inl refl) (weak_contexts p)
+      weak_contexts : {ss ts : Trees} → InsideOne (PathWeak rank π) ss ts → AtLeastEach (filtered_all π ss) (filtered_all π ts)
+      weak_contexts (first {ts = ts} p) = at_least_cons (weak_context p) (at_least_same (filtered_all π ts))
+      weak_contexts (later p) = at_least_cons (inl refl) (weak_contexts p)
 
     pub strict_apply : (σ : ℕ → Tree) (s t : Tree) → PathStrict rank π s t → PathStrict rank π (apply σ s) (apply σ t)
     strict_apply σ s t g = rw (filtered_apply π σ s, filtered_apply π σ t) (greater_apply rank (after π σ) g)

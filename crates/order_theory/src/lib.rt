@@ -1,8 +1,9 @@
 //! Orders for termination: the lexicographic path order, linear interpretations and the
-//! Knuth-Bendix order. Each function is a theorem: its contract is the statement, and it does nothing.
+//! Knuth-Bendix order. Each function is a theorem: its contract is the statement, and it does
+//! nothing.
 #![tactic(auto)]
 
-ghost use Rattle.std.specs.Prelude.{◌≤◌, ℕ, List, Option, ◌⊎◌, ◌↔◌, IsTrue, length};
+ghost use Rattle.std.specs.Prelude.{◌≡◌, ◌≤◌, Some, ℕ, List, Option, ◌⊎◌, ◌↔◌, IsTrue, length};
 ghost use Rattle.trs_defs.specs.Member.{In};
 ghost use Rattle.trs_defs.specs.Tree.{Tree};
 ghost use Rattle.trs_defs.specs.System.{RewriteRule, System, IsSystem};
@@ -22,7 +23,8 @@ ghost use Rattle.trs_defs.specs.KnuthBendix.{KnuthGreater, KnuthWeak, IsOver, ar
 pub fn path_order_laws()
     ensures pair { (rank : ℕ → ℕ) (filter : ℕ → ArgumentFilter) →
         ReductionPair (PathWeak rank filter) (PathStrict rank filter) AllTerms }
-    ensures test { (rank : ℕ → ℕ) (s t : Tree) → IsTrue (path_greater rank s t) ↔ PathGreater rank s t }
+    ensures test { (rank : ℕ → ℕ) (s t : Tree) →
+        IsTrue (path_greater rank s t) ↔ PathGreater rank s t }
 {}
 
 /// A linear interpretation over the naturals is a reduction pair on all terms (Baader and Nipkow,
@@ -45,11 +47,13 @@ pub fn knuth_bendix_laws()
 
 /// Removal of pairs by a path order with filters.
 pub fn remove_by_path_order()
-    ensures finite { (system : System) (pairs stays : List DependencyPair) (rank : ℕ → ℕ) (filter : ℕ → ArgumentFilter) →
+    ensures finite { (system : System) (pairs stays : List DependencyPair)
+        (rank : ℕ → ℕ) (filter : ℕ → ArgumentFilter) →
         IsSystem system → ((p : DependencyPair) → In p pairs → IsPair system.arities p) →
         ((r : RewriteRule) → In r system.rules → PathWeak rank filter r.left r.right) →
         ((p : DependencyPair) → In p pairs →
-        (In p stays × PathWeak rank filter (mark p.from) (mark p.to)) ⊎ PathStrict rank filter (mark p.from) (mark p.to)) →
+        (In p stays × PathWeak rank filter (mark p.from) (mark p.to))
+        ⊎ PathStrict rank filter (mark p.from) (mark p.to)) →
         IsFiniteProblem system stays → IsFiniteProblem system pairs }
 {}
 
@@ -59,17 +63,27 @@ pub fn remove_by_interpretation()
         IsSystem system → ((p : DependencyPair) → In p pairs → IsPair system.arities p) →
         ((r : RewriteRule) → In r system.rules → CoefficientWeak c r.left r.right) →
         ((p : DependencyPair) → In p pairs →
-        (In p stays × CoefficientWeak c (mark p.from) (mark p.to)) ⊎ CoefficientStrict c (mark p.from) (mark p.to)) →
+        (In p stays × CoefficientWeak c (mark p.from) (mark p.to))
+        ⊎ CoefficientStrict c (mark p.from) (mark p.to)) →
         IsFiniteProblem system stays → IsFiniteProblem system pairs }
 {}
 
-/// Removal of pairs by an admissible Knuth-Bendix order.
+/// Removal of pairs by an admissible Knuth-Bendix order, with entries for all symbols of the rules
+/// and pairs: `arity` is the entries' number of arguments, which is that of the system. Symbols above
+/// 4095 are the marked ones.
 pub fn remove_by_knuth_bendix()
-    ensures finite { (system : System) (pairs stays : List DependencyPair) (weight rank : ℕ → ℕ) →
+    ensures finite { (system : System) (pairs stays : List DependencyPair)
+        (arity : ℕ → Option ℕ) (weight rank : ℕ → ℕ) →
         IsSystem system → ((p : DependencyPair) → In p pairs → IsPair system.arities p) →
-        length system.arities ≤ 4096 → IsAdmissible (arity_with_marks system.arities) weight rank →
-        ((r : RewriteRule) → In r system.rules → KnuthWeak weight rank r.left r.right) →
+        length system.arities ≤ 4096 →
+        ((f n : ℕ) → arity f ≡ Some n → arity_with_marks system.arities f ≡ Some n) →
+        IsAdmissible arity weight rank →
+        ((r : RewriteRule) → In r system.rules →
+        IsOver arity r.left × IsOver arity r.right × KnuthWeak weight rank r.left r.right) →
         ((p : DependencyPair) → In p pairs →
-        (In p stays × KnuthWeak weight rank (mark p.from) (mark p.to)) ⊎ KnuthGreater weight rank (mark p.from) (mark p.to)) →
+        IsOver arity (mark p.from) × IsOver arity (mark p.to)) →
+        ((p : DependencyPair) → In p pairs →
+        (In p stays × KnuthWeak weight rank (mark p.from) (mark p.to))
+        ⊎ KnuthGreater weight rank (mark p.from) (mark p.to)) →
         IsFiniteProblem system stays → IsFiniteProblem system pairs }
 {}

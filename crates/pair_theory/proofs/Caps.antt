@@ -1,6 +1,6 @@
 -- The cap of a right side covers what it goes to, so that two chain steps in a row make an edge.
 use Rattle.std.proofs.Common.{◌≡◌, ℕ, refl, sym, ap, subst, ◌∙◌}
-use Rattle.trs_defs.specs.Tree.{Tree, var, app, Trees, nil, cons}
+use Rattle.trs_defs.specs.Tree.{Tree, app, Trees, cons}
 use Rattle.trs_defs.specs.Substitution.{apply, apply_all}
 use Rattle.trs_defs.specs.Step.{StepBy, here, deep, first, later}
 use Rattle.trs_defs.specs.Terminates.{ArgumentStep}

@@ -1,5 +1,5 @@
 -- Groups of numbered pairs along a graph: where each group is done, the problem is finite.
-use Rattle.std.proofs.Common.{◌≡◌, ℕ, ◌+◌, ◌≤◌, ◌<◌, refl, sym, ap, subst, arith, ◌∙◌, List, Bool, Some, IsTrue, slice_get}
+use Rattle.std.proofs.Common.{◌≡◌, ℕ, ◌≤◌, ◌<◌, sym, ap, arith, ◌∙◌, List, Bool, Some, IsTrue, slice_get}
 use native.Mathlib.Decide.{dec_lt}
 use Rattle.trs_defs.specs.Accessible.{Acc, acc}
 use Rattle.trs_defs.specs.Member.{In}

@@ -1,5 +1,5 @@
 -- Members of lists.
-use Rattle.std.proofs.Common.{◌≡◌, ℕ, zero, suc, refl, subst, ◌⊎◌, inl, inr, List, [], ◌∷◌, ◌++◌, Some, slice_get}
+use Rattle.std.proofs.Common.{◌≡◌, refl, ◌⊎◌, inl, inr, List, [], ◌∷◌, ◌++◌}
 use Rattle.trs_defs.specs.Member.{In, in_first, in_rest}
 
 pub no_in : {A : Type 0} {x : A} → In x [] → ⊥

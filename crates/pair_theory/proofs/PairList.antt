@@ -95,7 +95,6 @@ among_pairs rs (q ∷ ps) l t r i p e = go (in_or i) (λ j. among_pairs rs ps l 
 pub pairs_listed : (rs : List RewriteRule) (l t : Marked) → IsDependencyPair (Among rs) l t → PairAmong (dependency_pairs rs) l t
 pairs_listed rs l t (from_rule r h p d) = among_pairs rs rs l t r h p (defined_true rs t.symbol d)
 
-
 mutual
   sub_of_listed : {s : Tree} (t : Tree) → In s (subterms t) → Sub s t
   sub_of_listed (var x) i = elim (in_or i) [ inl e ↦ subst (λ z. Sub z (var x)) (sym e) itself | inr j ↦ absurd (no_in j) ]

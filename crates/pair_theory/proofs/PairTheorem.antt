@@ -34,13 +34,13 @@ module _ (rule : Tree → Tree → Type 0)
     (vars : (l r : Tree) → rule l r → (x : ℕ) → Sub (var x) r → Sub (var x) l)
     (decide : (g : ℕ) → Dec (IsDefined rule g)) where
   mutual
-    sn_var : (x : ℕ) (σ : ℕ → Tree) {t : Tree} → Sub (var x) t → Terminates rule (apply σ t) → Terminates rule (σ x)
-    sn_var x σ itself h = h
-    sn_var x σ (under {f = f} {ts = ts} p) h = sn_vars x σ p (each_terminates rule (apply_all σ ts) (terminating_args rule f (apply_all σ ts) h))
+    value_terminates : (x : ℕ) (σ : ℕ → Tree) {t : Tree} → Sub (var x) t → Terminates rule (apply σ t) → Terminates rule (σ x)
+    value_terminates x σ itself h = h
+    value_terminates x σ (under {f = f} {ts = ts} p) h = value_terminates_in_all x σ p (each_terminates rule (apply_all σ ts) (terminating_args rule f (apply_all σ ts) h))
 
-    sn_vars : (x : ℕ) (σ : ℕ → Tree) {ts : Trees} → Subs (var x) ts → Every (Terminates rule) (apply_all σ ts) → Terminates rule (σ x)
-    sn_vars x σ (in_head p) (every_cons h hs) = sn_var x σ p h
-    sn_vars x σ (in_tail p) (every_cons h hs) = sn_vars x σ p hs
+    value_terminates_in_all : (x : ℕ) (σ : ℕ → Tree) {ts : Trees} → Subs (var x) ts → Every (Terminates rule) (apply_all σ ts) → Terminates rule (σ x)
+    value_terminates_in_all x σ (in_head p) (every_cons h hs) = value_terminates x σ p h
+    value_terminates_in_all x σ (in_tail p) (every_cons h hs) = value_terminates_in_all x σ p hs
 
   root_left : {f : ℕ} {ss : Trees} {l r : Tree} {σ : ℕ → Tree} → rule l r → app f ss ≡ apply σ l
       → (P : Type 0) → ((ls : Trees) → l ≡ app f ls → ss ≡ apply_all σ ls → P) → P
@@ -71,7 +71,7 @@ module _ (rule : Tree → Tree → Type 0)
       (f : ℕ) (ls : Trees) (r : Tree) (σ : ℕ → Tree) (h : rule (app f ls) r) (symbol : start.symbol ≡ f)
       (reach : Run (ArgumentStep rule) start.args (apply_all σ ls)) (small : Every (Terminates rule) (apply_all σ ls)) where
     var_terminates : (x : ℕ) → Sub (var x) (app f ls) → Terminates rule (σ x)
-    var_terminates x (under p) = sn_vars x σ p small
+    var_terminates x (under p) = value_terminates_in_all x σ p small
 
     call : (g : ℕ) (us : Trees) → Sub (app g us) r → Dec (IsDefined rule g) → Every (Terminates rule) (apply_all σ us) → Terminates rule (app g (apply_all σ us))
     call g us p (yes d) hs = calls (marked g (apply_all σ us)) (link (marked f ls) (marked g us) σ (from_rule r h p d) symbol reach refl hs)

@@ -1,16 +1,16 @@
 -- The steps on problems that are lists of pairs.
-use Rattle.std.proofs.Common.{◌≡◌, ℕ, refl, sym, subst, arith, ◌⊎◌, inl, inr, List, [], ◌∷◌, ◌++◌}
-use Rattle.trs_defs.specs.Tree.{Tree, var, app, Trees}
+use Rattle.std.proofs.Common.{ℕ, Bool, true, ◌≡◌, refl, sym, subst, ◌⊎◌, inl, inr, List, [], ◌∷◌, ◌++◌}
+use Rattle.trs_defs.specs.Tree.{Tree}
 use Rattle.trs_defs.specs.Accessible.{Acc, acc}
 use Rattle.trs_defs.specs.System.{RewriteRule, Among, System, IsSystem}
 use Rattle.trs_defs.specs.Member.{In, in_first, in_rest}
-use Rattle.trs_defs.specs.Subterm.{Sub, itself, under, Subs, in_head, in_tail}
+use Rattle.trs_defs.specs.Subterm.{under}
 use Rattle.trs_defs.specs.Every.{Every}
 use Rattle.trs_defs.specs.Terminates.{Terminates}
 use Rattle.trs_defs.specs.WellFormed.{IsWellFormed}
-use Rattle.trs_defs.specs.Marked.{Marked, marked, plain, mark}
+use Rattle.trs_defs.specs.Marked.{Marked, plain, mark}
 use Rattle.trs_defs.specs.Chain.{ChainStep, link}
-use Rattle.trs_defs.specs.DependencyPair.{IsDefined, IsDependencyPair, from_rule, DependencyPair, subterms, subterms_of_all, has_root, is_defined, keep_if, pairs_to, pairs_of, pairs_of_each, dependency_pairs}
+use Rattle.trs_defs.specs.DependencyPair.{IsDependencyPair, DependencyPair, dependency_pairs}
 use Rattle.trs_defs.specs.PairProblem.{ChainsEnd, PairAmong, IsFiniteProblem, IsPair}
 use Rattle.trs_defs.specs.Moves.{IsWellFounded, IsOrdered}
 use Rattle.trs_defs.specs.Claims.{IsTerminating}
@@ -22,7 +22,9 @@ use Rattle.pair_theory.proofs.PairList.{pairs_listed}
 use Rattle.pair_theory.proofs.Members.{no_in, in_or, in_left, in_right, each_of_both}
 use Rattle.pair_theory.proofs.Terms.{below_root, subs_of_has, has_of_subs}
 use Rattle.pair_theory.proofs.Systems.{left_over, right_over, no_new_variables}
-use Rattle.trs_defs.specs.ReductionPair.{Speaks}
+use Rattle.trs_defs.specs.ReductionPair.{Speaks, SpeaksOfSides, SpeaksErased, marked_rule}
+use Rattle.trs_defs.specs.Erased.{HasEntries, erased}
+use Rattle.pair_theory.proofs.Erasing.{bound_of_erased, erased_same, all_have}
 
 -- fewer pairs have fewer chains
 pub fewer : (rule : Tree → Tree → Type 0) (p q : Marked → Marked → Type 0) → ((l r : Marked) → p l r → q l r) → {u : Marked} → Acc (ChainStep rule q) u → Acc (ChainStep rule p) u
@@ -113,75 +115,108 @@ pub chain_ready : (system : System) → IsSystem system → (pair : Marked → M
     → (u v : Marked) → Ready system u → ChainStep (Among system.rules) pair u v → Ready system v
 chain_ready system ok pair good u v ready c = (
   chain_well_formed system.arities (Among system.rules) (right_over system ok) (no_new_variables system ok)
-  (λ l r h. (good l r h).to_well_formed)
-  (λ l r h x p. subs_of_has x l.args ((good l r h).variables x (has_of_subs x r.args p))) c ready.0,
+      (λ l r h. (good l r h).to_well_formed)
+      (λ l r h x p. subs_of_has x l.args ((good l r h).variables x (has_of_subs x r.args p))) c ready.0,
   chain_small c,
 )
 
 module _ (system : System) (ok : IsSystem system) (weak strict : Tree → Tree → Type 0) (speaks_of : Tree → Type 0)
-    (wf : IsWellFounded weak strict speaks_of) (speaks : Speaks system.arities speaks_of)
-    (falls : (p : RewriteRule) → In p system.rules → weak p.left p.right) where
-  abbrev pub WeakPair : DependencyPair → Type 0
-  WeakPair p = IsPair system.arities p × weak (mark p.from) (mark p.to)
+    (wf : IsWellFounded weak strict speaks_of) (falls : (p : RewriteRule) → In p system.rules → weak p.left p.right) where
+  module _ (entry : ℕ → Bool) (speaks : SpeaksErased system entry speaks_of) where
+    -- a pair over the arities of whose sides the order speaks
+    abbrev pub Spoken : DependencyPair → Type 0
+    Spoken p = IsPair system.arities p × SpeaksOfSides entry speaks_of (marked_rule p)
 
-  abbrev pub StrictPair : DependencyPair → Type 0
-  StrictPair p = IsPair system.arities p × strict (mark p.from) (mark p.to)
+    ordered_rule : (p : RewriteRule) → In p system.rules → IsOrdered speaks_of weak p
+    ordered_rule p i = record {
+      left_spoken = (speaks.of_rules p i).0;
+      right_spoken = (speaks.of_rules p i).1;
+      ordered = falls p i;
+      variables = no_new_variables system ok p.left p.right i;
+    }
 
-  ordered_rule : (p : RewriteRule) → In p system.rules → IsOrdered speaks_of weak p
-  ordered_rule p i = record {
-    left_spoken = speaks.of_terms p.left (left_over system ok p.left p.right i);
-    right_spoken = speaks.of_terms p.right (right_over system ok p.left p.right i);
-    ordered = falls p i;
-    variables = no_new_variables system ok p.left p.right i;
-  }
+    ordered_pair : (order : Tree → Tree → Type 0) (p : DependencyPair) → Spoken p → order (mark p.from) (mark p.to) → IsOrdered speaks_of order (marked_rule p)
+    ordered_pair order p good h = record {
+      left_spoken = good.1.0;
+      right_spoken = good.1.1;
+      ordered = h;
+      variables = λ v q. under (subs_of_has v p.from.args (good.0.variables v (has_of_subs v p.to.args (below_root q))));
+    }
 
-  ordered_pair : (order : Tree → Tree → Type 0) (p : DependencyPair) → IsPair system.arities p → order (mark p.from) (mark p.to)
-      → IsOrdered speaks_of order (record { left = mark p.from; right = mark p.to })
-  ordered_pair order p good h = record {
-    left_spoken = speaks.of_marked p.from good.from_well_formed;
-    right_spoken = speaks.of_marked p.to good.to_well_formed;
-    ordered = h;
-    variables = λ v q. under (subs_of_has v p.from.args (good.variables v (has_of_subs v p.to.args (below_root q))));
-  }
+    abbrev Sides : RewriteRule → Type 0
+    Sides p = HasEntries entry p.left × HasEntries entry p.right
 
-  -- with an order, the strict pairs go
-  pub order_step : (stays goes : List DependencyPair) → ((p : DependencyPair) → In p stays → WeakPair p)
-      → ((p : DependencyPair) → In p goes → StrictPair p)
-      → IsFiniteProblem system stays → ChainsEnd system.arities (Among system.rules) (Either stays goes)
-  order_step stays goes stay go all u v small =
-      removal (Among system.rules) (PairAmong stays) (PairAmong goes) ws ss (λ l r i. in_left (mark_rules stays) i)
-      (λ l r i. in_right system.rules (marked_in stays i)) (λ l r i. marked_in goes i)
-      (Ready system) (chain_ready system ok (Either stays goes) good) (λ u ready. all u ready.0 ready.1)
-      spoken
-      (λ t w. wf ws ss
-      (each_of_both (IsOrdered speaks_of weak) system.rules (mark_rules stays) ordered_rule
-      (each_mark (IsOrdered speaks_of weak) stays (λ p i. ordered_pair weak p (stay p i).0 (stay p i).1)))
-      (each_mark (IsOrdered speaks_of strict) goes (λ p i. ordered_pair strict p (go p i).0 (go p i).1))
-      t w)
-      u (v, small)
-    where
-      ws : List RewriteRule
-      ws = system.rules ++ mark_rules stays
+    -- with an order, the strict pairs go
+    pub order_step : (stays goes : List DependencyPair) → ((p : DependencyPair) → In p stays → Spoken p × weak (mark p.from) (mark p.to))
+        → ((p : DependencyPair) → In p goes → Spoken p × strict (mark p.from) (mark p.to))
+        → IsFiniteProblem system stays → ChainsEnd system.arities (Among system.rules) (Either stays goes)
+    order_step stays goes stay go all u v small =
+        removal (Among system.rules) (PairAmong stays) (PairAmong goes) ws ss (λ l r i. in_left (mark_rules stays) i)
+        (λ l r i. in_right system.rules (marked_in stays i)) (λ l r i. marked_in goes i)
+        (Ready system) (chain_ready system ok (Either stays goes) good) (λ u ready. all u ready.0 ready.1)
+        (λ u ready. speaks.of_erased u ready.0)
+        (λ t w. bound_of_erased entry ws ss
+        (each_of_both Sides system.rules (mark_rules stays) (λ p i. ((speaks.of_rules p i).2, (speaks.of_rules p i).3))
+        (each_mark Sides stays (λ p i. ((stay p i).0.1.2, (stay p i).0.1.3))))
+        (each_mark Sides goes (λ p i. ((go p i).0.1.2, (go p i).0.1.3)))
+        t
+        (wf ws ss
+        (each_of_both (IsOrdered speaks_of weak) system.rules (mark_rules stays) ordered_rule
+        (each_mark (IsOrdered speaks_of weak) stays (λ p i. ordered_pair weak p (stay p i).0 (stay p i).1)))
+        (each_mark (IsOrdered speaks_of strict) goes (λ p i. ordered_pair strict p (go p i).0 (go p i).1))
+        (erased entry t) w))
+        u (v, small)
+      where
+        ws : List RewriteRule
+        ws = system.rules ++ mark_rules stays
 
-      ss : List RewriteRule
-      ss = mark_rules goes
+        ss : List RewriteRule
+        ss = mark_rules goes
 
-      good : (l r : Marked) → Either stays goes l r → IsPair system.arities (record { from = l; to = r })
-      good l r (inl i) = (stay _ i).0
-      good l r (inr i) = (go _ i).0
+        good : (l r : Marked) → Either stays goes l r → IsPair system.arities (record { from = l; to = r })
+        good l r (inl i) = (stay _ i).0.0
+        good l r (inr i) = (go _ i).0.0
 
-      spoken : (u : Marked) → Ready system u → speaks_of (mark u)
-      spoken u ready = speaks.of_marked u ready.0
+    pub removal_erased : (pairs stays : List DependencyPair) → ((p : DependencyPair) → In p pairs → Spoken p)
+        → ((p : DependencyPair) → In p pairs → (In p stays × weak (mark p.from) (mark p.to)) ⊎ strict (mark p.from) (mark p.to))
+        → IsFiniteProblem system stays → IsFiniteProblem system pairs
+    removal_erased pairs stays good class rest =
+        let split : Parted DependencyPair (λ p. In p stays × weak (mark p.from) (mark p.to)) (λ p. strict (mark p.from) (mark p.to)) pairs =
+        parted (λ p. In p stays × weak (mark p.from) (mark p.to)) (λ p. strict (mark p.from) (mark p.to)) pairs class in
+        λ u w small. fewer (Among system.rules) (PairAmong pairs) (Either split.ones split.others) (λ l r i. split.covers _ i)
+        (order_step split.ones split.others
+        (λ p i. let h : In p pairs × (In p stays × weak (mark p.from) (mark p.to)) = split.each_one p i in (good p h.0, h.1.1))
+        (λ p i. let h : In p pairs × strict (mark p.from) (mark p.to) = split.each_other p i in (good p h.0, h.1))
+        (λ u w small. fewer (Among system.rules) (PairAmong split.ones) (PairAmong stays) (λ l r i. (split.each_one _ i).1.0) (rest u w small))
+        u w small)
 
-  pub removal_theorem : (pairs stays : List DependencyPair) → ((p : DependencyPair) → In p pairs → IsPair system.arities p)
-      → ((p : DependencyPair) → In p pairs → (In p stays × weak (mark p.from) (mark p.to)) ⊎ strict (mark p.from) (mark p.to))
-      → IsFiniteProblem system stays → IsFiniteProblem system pairs
-  removal_theorem pairs stays good class rest =
-      let split : Parted DependencyPair (λ p. In p stays × weak (mark p.from) (mark p.to)) (λ p. strict (mark p.from) (mark p.to)) pairs =
-      parted (λ p. In p stays × weak (mark p.from) (mark p.to)) (λ p. strict (mark p.from) (mark p.to)) pairs class in
-      λ u w small. fewer (Among system.rules) (PairAmong pairs) (Either split.ones split.others) (λ l r i. split.covers _ i)
-      (order_step split.ones split.others
-      (λ p i. let h : In p pairs × (In p stays × weak (mark p.from) (mark p.to)) = split.each_one p i in (good p h.0, h.1.1))
-      (λ p i. let h : In p pairs × strict (mark p.from) (mark p.to) = split.each_other p i in (good p h.0, h.1))
-      (λ u w small. fewer (Among system.rules) (PairAmong split.ones) (PairAmong stays) (λ l r i. (split.each_one _ i).1.0) (rest u w small))
-      u w small)
+  -- an order that speaks of all terms has an entry for each symbol
+  module _ (speaks : Speaks system.arities speaks_of) where
+    abbrev always : ℕ → Bool
+    always f = true
+
+    speaks_erased : SpeaksErased system always speaks_of
+    speaks_erased = record {
+      of_erased = λ u w. subst speaks_of (sym (erased_same always (mark u) (all_have (mark u)))) (speaks.of_marked u w);
+      of_rules = λ p i. (
+        speaks.of_terms p.left (left_over system ok p.left p.right i),
+        speaks.of_terms p.right (right_over system ok p.left p.right i),
+        all_have p.left,
+        all_have p.right,
+      );
+    }
+
+    pub removal_theorem : (pairs stays : List DependencyPair) → ((p : DependencyPair) → In p pairs → IsPair system.arities p)
+        → ((p : DependencyPair) → In p pairs → (In p stays × weak (mark p.from) (mark p.to)) ⊎ strict (mark p.from) (mark p.to))
+        → IsFiniteProblem system stays → IsFiniteProblem system pairs
+    removal_theorem pairs stays good class rest = removal_erased always speaks_erased pairs stays
+        (λ p i. (
+          good p i,
+          (
+            speaks.of_marked p.from (good p i).from_well_formed,
+            speaks.of_marked p.to (good p i).to_well_formed,
+            all_have (mark p.from),
+            all_have (mark p.to),
+          ),
+        ))
+        class rest

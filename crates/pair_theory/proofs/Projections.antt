@@ -1,12 +1,10 @@
 -- The subterm criterion, on problems of listed pairs.
-use Rattle.std.proofs.Common.{◌≡◌, ℕ, zero, suc, ◌-◌, ◌<◌, refl, sym, ap, subst, arith, ◌∙◌, ◌⊎◌, inl, inr, List, [], ◌∷◌, Option, Some, None, slice_get}
-use Rattle.trs_defs.specs.Accessible.{Acc}
+use Rattle.std.proofs.Common.{◌≡◌, ℕ, zero, suc, ◌-◌, ◌<◌, sym, subst, arith, ◌⊎◌, inl, inr, List, Some, slice_get}
 use Rattle.trs_defs.specs.Member.{In}
-use Rattle.trs_defs.specs.Tree.{Tree, Trees, var, app, nil, cons, count, items}
+use Rattle.trs_defs.specs.Tree.{Tree, Trees, var, nil, cons, count, items}
 use Rattle.trs_defs.specs.Position.{argument_at}
 use Rattle.trs_defs.specs.System.{System, IsSystem, Among}
 use Rattle.trs_defs.specs.Subterm.{ProperSubterm}
-use Rattle.trs_defs.specs.Terminates.{Terminates}
 use Rattle.trs_defs.specs.Marked.{Marked, plain}
 use Rattle.trs_defs.specs.DependencyPair.{DependencyPair}
 use Rattle.trs_defs.specs.ArgumentFilter.{item_or}
@@ -15,7 +13,7 @@ use Rattle.trs_defs.specs.SubtermCriterion.{Projects}
 use Rattle.pair_theory.proofs.PairTheorem.{var_normal}
 use Rattle.pair_theory.proofs.Termination.{decide_defined}
 use Rattle.pair_theory.proofs.Systems.{left_rooted, no_new_variables}
-use Rattle.pair_theory.proofs.SubtermCriterion.{proj, criterion}
+use Rattle.pair_theory.proofs.SubtermCriterion.{projected, criterion}
 use Rattle.pair_theory.proofs.Problems.{Ready, chain_ready, fewer}
 
 item_there : (ts : Trees) (i : ℕ) (t d : Tree) → slice_get (items ts) i ≡ Some t → (i < count ts) × (item_or i ts d ≡ t)
@@ -38,13 +36,13 @@ module _ (system : System) (ok : IsSystem system) (pairs stays : List Dependency
   Rule = Among system.rules
 
   abbrev Looks : (Tree → Tree → Type 0) → Marked → Marked → Type 0
-  Looks related l r = (index l.symbol < count l.args) × (index r.symbol < count r.args) × related (proj Rule index l) (proj Rule index r)
+  Looks related l r = (index l.symbol < count l.args) × (index r.symbol < count r.args) × related (projected Rule index l) (projected Rule index r)
 
   looks : (related : Tree → Tree → Type 0) (p : DependencyPair) → Projects place related p → Looks related p.from p.to
   looks related p h =
       let l : (place p.from.symbol - 1 < count p.from.args) × (item_or (place p.from.symbol - 1) p.from.args (var 0) ≡ h.left) = argument_there p.from (place p.from.symbol) h.left (var 0) h.left_there in
       let r : (place p.to.symbol - 1 < count p.to.args) × (item_or (place p.to.symbol - 1) p.to.args (var 0) ≡ h.right) = argument_there p.to (place p.to.symbol) h.right (var 0) h.right_there in
-      (l.0, r.0, subst (λ z. related z (proj Rule index p.to)) (sym l.1) (subst (related h.left) (sym r.1) h.relation))
+      (l.0, r.0, subst (λ z. related z (projected Rule index p.to)) (sym l.1) (subst (related h.left) (sym r.1) h.relation))
 
   abbrev Stay : Marked → Marked → Type 0
   Stay l r = PairAmong pairs l r × PairAmong stays l r × Looks (λ s t. s ≡ t) l r

@@ -32,20 +32,20 @@ module _ (rule : Tree → Tree → Type 0) (stay go : Marked → Marked → Type
   abbrev Bound : ℕ → Marked → Type 0
   Bound n u = (m : ℕ) (t : Tree) → Moves ws ss m (mark u) t → m ≤ n
 
-  moves_star : {f n : ℕ} {us vs : Trees} {t : Tree} → Run (ArgumentStep rule) us vs → Moves ws ss n (app f vs) t → Moves ws ss n (app f us) t
-  moves_star Stay ms = ms
-  moves_star (Go s rest) ms = weakly (deep (steps_map rule (Among ws) rules_in s)) (moves_star rest ms)
+  moves_run : {f n : ℕ} {us vs : Trees} {t : Tree} → Run (ArgumentStep rule) us vs → Moves ws ss n (app f vs) t → Moves ws ss n (app f us) t
+  moves_run Stay ms = ms
+  moves_run (Go s rest) ms = weakly (deep (steps_map rule (Among ws) rules_in s)) (moves_run rest ms)
 
   same_mark : {f g : ℕ} {us : Trees} {n : ℕ} {t : Tree} → f ≡ g → Moves ws ss n (app (g + 4096) us) t → Moves ws ss n (app (f + 4096) us) t
   same_mark {us = us} {n = n} {t = t} e ms = subst (λ k. Moves ws ss n (app (k + 4096) us) t) (sym e) ms
 
   stay_moves : {u v : Marked} {n : ℕ} {t : Tree} → ChainStep rule stay u v → Moves ws ss n (mark v) t → Moves ws ss n (mark u) t
   stay_moves {n = n} {t = t} (link l r σ h e reach to small) ms =
-      same_mark e (moves_star reach (weakly (here (mark l, mark r, σ, stay_in l r h, refl, refl)) (subst (λ v. Moves ws ss n (mark v) t) to ms)))
+      same_mark e (moves_run reach (weakly (here (mark l, mark r, σ, stay_in l r h, refl, refl)) (subst (λ v. Moves ws ss n (mark v) t) to ms)))
 
   go_moves : {u v : Marked} {n : ℕ} {t : Tree} → ChainStep rule go u v → Moves ws ss n (mark v) t → Moves ws ss (suc n) (mark u) t
   go_moves {n = n} {t = t} (link l r σ h e reach to small) ms =
-      same_mark e (moves_star reach (strictly (mark l, mark r, σ, go_in l r h, refl, refl) (subst (λ v. Moves ws ss n (mark v) t) to ms)))
+      same_mark e (moves_run reach (strictly (mark l, mark r, σ, go_in l r h, refl, refl) (subst (λ v. Moves ws ss n (mark v) t) to ms)))
 
   by_which : {u v : Marked} → ChainStep rule Either u v → ChainStep rule stay u v ⊎ ChainStep rule go u v
   by_which (link l r σ (inl h) e reach to small) = inl (link l r σ h e reach to small)

@@ -11,7 +11,7 @@ use Rattle.trs_defs.specs.Run.{Run, Stay, Go}
 use Rattle.trs_defs.specs.Marked.{Marked, marked}
 use Rattle.trs_defs.specs.Chain.{ChainStep, link}
 use Rattle.trs_defs.specs.ArgumentFilter.{item_or}
-use Rattle.pair_theory.proofs.Accessibility.{down, acc_induction, run_on, run_map}
+use Rattle.pair_theory.proofs.Accessibility.{down, acc_induction, run_on}
 
 pub data Plus {A : Type 0} (r : A → A → Type 0) : A → A → Type 0 where
   once : {x y : A} → r x y → Plus r x y
@@ -100,9 +100,9 @@ module _ (rule : Tree → Tree → Type 0) where
   steps_at zero d (later s) = Stay
   steps_at (suc i) d (later s) = steps_at i d s
 
-  star_at : (i : ℕ) (d : Tree) {ss ts : Trees} → Run (ArgumentStep rule) ss ts → Run Down (item_or i ss d) (item_or i ts d)
-  star_at i d Stay = Stay
-  star_at i d (Go s ss) = run_on (steps_at i d s) (star_at i d ss)
+  run_at : (i : ℕ) (d : Tree) {ss ts : Trees} → Run (ArgumentStep rule) ss ts → Run Down (item_or i ss d) (item_or i ts d)
+  run_at i d Stay = Stay
+  run_at i d (Go s ss) = run_on (steps_at i d s) (run_at i d ss)
 
   -- within the arguments, the place's instance is the instance's place
   at_inside : (σ : ℕ → Tree) (i : ℕ) (ts : Trees) (d e : Tree) → i < count ts → item_or i (apply_all σ ts) d ≡ apply σ (item_or i ts e)
@@ -115,31 +115,31 @@ module _ (rule : Tree → Tree → Type 0) where
 
   module _ (place : ℕ → ℕ) where
     -- the argument that is looked at
-    abbrev pub proj : Marked → Tree
-    proj m = item_or (place m.symbol) m.args (var 0)
+    abbrev pub projected : Marked → Tree
+    projected m = item_or (place m.symbol) m.args (var 0)
 
     module _ (stay go : Marked → Marked → Type 0)
-        (stay_at : (l r : Marked) → stay l r → (place l.symbol < count l.args) × (place r.symbol < count r.args) × (proj l ≡ proj r))
-        (go_at : (l r : Marked) → go l r → (place l.symbol < count l.args) × (place r.symbol < count r.args) × ProperSubterm (proj l) (proj r)) where
+        (stay_at : (l r : Marked) → stay l r → (place l.symbol < count l.args) × (place r.symbol < count r.args) × (projected l ≡ projected r))
+        (go_at : (l r : Marked) → go l r → (place l.symbol < count l.args) × (place r.symbol < count r.args) × ProperSubterm (projected l) (projected r)) where
       abbrev pub Either : Marked → Marked → Type 0
       Either l r = stay l r ⊎ go l r
 
-      reach_proj : (u l : Marked) (σ : ℕ → Tree) → u.symbol ≡ l.symbol → Run (ArgumentStep rule) u.args (apply_all σ l.args) → place l.symbol < count l.args
-          → Run Down (proj u) (apply σ (proj l))
-      reach_proj u l σ e reach lt =
-          subst (λ z. Run Down (proj u) z) (at_inside σ (place l.symbol) l.args (var 0) (var 0) lt)
-          (subst (λ k. Run Down (item_or (place k) u.args (var 0)) (item_or (place l.symbol) (apply_all σ l.args) (var 0))) (sym e) (star_at (place l.symbol) (var 0) reach))
+      reach_projected : (u l : Marked) (σ : ℕ → Tree) → u.symbol ≡ l.symbol → Run (ArgumentStep rule) u.args (apply_all σ l.args) → place l.symbol < count l.args
+          → Run Down (projected u) (apply σ (projected l))
+      reach_projected u l σ e reach lt =
+          subst (λ z. Run Down (projected u) z) (at_inside σ (place l.symbol) l.args (var 0) (var 0) lt)
+          (subst (λ k. Run Down (item_or (place k) u.args (var 0)) (item_or (place l.symbol) (apply_all σ l.args) (var 0))) (sym e) (run_at (place l.symbol) (var 0) reach))
 
-      to_proj : (v r : Marked) (σ : ℕ → Tree) → v ≡ marked r.symbol (apply_all σ r.args) → place r.symbol < count r.args → apply σ (proj r) ≡ proj v
-      to_proj v r σ to lt = sym (ap proj to ∙ at_inside σ (place r.symbol) r.args (var 0) (var 0) lt)
+      to_projected : (v r : Marked) (σ : ℕ → Tree) → v ≡ marked r.symbol (apply_all σ r.args) → place r.symbol < count r.args → apply σ (projected r) ≡ projected v
+      to_projected v r σ to lt = sym (ap projected to ∙ at_inside σ (place r.symbol) r.args (var 0) (var 0) lt)
 
-      stay_star : {u v : Marked} → ChainStep rule stay u v → Run Down (proj u) (proj v)
-      stay_star {u} (link l r σ h e reach to small) = let w : _ = stay_at l r h in
-          subst (Run Down (proj u)) (ap (apply σ) w.2 ∙ to_proj _ r σ to w.1) (reach_proj u l σ e reach w.0)
+      stay_run : {u v : Marked} → ChainStep rule stay u v → Run Down (projected u) (projected v)
+      stay_run {u} (link l r σ h e reach to small) = let w : _ = stay_at l r h in
+          subst (Run Down (projected u)) (ap (apply σ) w.2 ∙ to_projected _ r σ to w.1) (reach_projected u l σ e reach w.0)
 
-      go_plus : {u v : Marked} → ChainStep rule go u v → Plus Down (proj u) (proj v)
+      go_plus : {u v : Marked} → ChainStep rule go u v → Plus Down (projected u) (projected v)
       go_plus {u} (link l r σ h e reach to small) = let w : _ = go_at l r h in
-          plus_after (reach_proj u l σ e reach w.0) (once (inr (subst (ProperSubterm (apply σ (proj l))) (to_proj _ r σ to w.1) (proper_apply σ w.2))))
+          plus_after (reach_projected u l σ e reach w.0) (once (inr (subst (ProperSubterm (apply σ (projected l))) (to_projected _ r σ to w.1) (proper_apply σ w.2))))
 
       by_which : {u v : Marked} → ChainStep rule Either u v → ChainStep rule stay u v ⊎ ChainStep rule go u v
       by_which (link l r σ (inl h) e reach to small) = inl (link l r σ h e reach to small)
@@ -148,16 +148,16 @@ module _ (rule : Tree → Tree → Type 0) where
       module _ (Ok : Marked → Type 0) (keeps : (u v : Marked) → Ok u → ChainStep rule Either u v → Ok v)
           (small : (u : Marked) → Ok u → Every (Terminates rule) u.args) (var_ends : Terminates rule (var 0))
           (rest : (u : Marked) → Ok u → Acc (ChainStep rule stay) u) where
-        from_proj : {p : Tree} → Acc (Plus Down) p → (u : Marked) → Run Down p (proj u) → Ok u → Acc (ChainStep rule Either) u
-        from_proj a =
-            acc_induction {P = λ p. (u : Marked) → Run Down p (proj u) → Ok u → Acc (ChainStep rule Either) u}
-            (λ p below rec u reach ok. acc_induction {P = λ u. Run Down p (proj u) → Ok u → Acc (ChainStep rule Either) u}
+        from_projected : {p : Tree} → Acc (Plus Down) p → (u : Marked) → Run Down p (projected u) → Ok u → Acc (ChainStep rule Either) u
+        from_projected a =
+            acc_induction {P = λ p. (u : Marked) → Run Down p (projected u) → Ok u → Acc (ChainStep rule Either) u}
+            (λ p below rec u reach ok. acc_induction {P = λ u. Run Down p (projected u) → Ok u → Acc (ChainStep rule Either) u}
             (λ u below' rec' reach ok. acc (λ v c. elim (by_which c) [
-              | inl c' ↦ rec' v c' (run_on reach (stay_star c')) (keeps u v ok c)
-              | inr c' ↦ rec (proj v) (plus_after reach (go_plus c')) v Stay (keeps u v ok c)
+              | inl c' ↦ rec' v c' (run_on reach (stay_run c')) (keeps u v ok c)
+              | inr c' ↦ rec (projected v) (plus_after reach (go_plus c')) v Stay (keeps u v ok c)
             ]))
             (rest u ok) reach ok)
             a
 
         pub criterion : (u : Marked) → Ok u → Acc (ChainStep rule Either) u
-        criterion u ok = from_proj (acc_plus Down (down_acc (every_at (place u.symbol) (var 0) var_ends (small u ok)))) u Stay ok
+        criterion u ok = from_projected (acc_plus Down (down_acc (every_at (place u.symbol) (var 0) var_ends (small u ok)))) u Stay ok

@@ -1,6 +1,6 @@
 -- What a system's rules keep to.
-use Rattle.std.proofs.Common.{◌≡◌, ℕ, zero, suc, refl, sym, subst, List, [], ◌∷◌, Some, slice_get}
-use Rattle.trs_defs.specs.Member.{In, in_first, in_rest}
+use Rattle.std.proofs.Common.{◌≡◌, ℕ, Some, slice_get}
+use Rattle.trs_defs.specs.Member.{In}
 use Rattle.trs_defs.specs.Tree.{Tree, var}
 use Rattle.trs_defs.specs.WellFormed.{IsWellFormed}
 use Rattle.trs_defs.specs.System.{RewriteRule, System, IsRule, IsSystem, Among}

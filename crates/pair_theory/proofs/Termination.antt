@@ -1,5 +1,5 @@
 -- That the chains of all dependency pairs end gives a bound for each well-formed term.
-use Rattle.std.proofs.Common.{◌≡◌, ℕ, refl, sym, ap, subst, ◌⊎◌, inl, inr, List, [], ◌∷◌, IsTrue}
+use Rattle.std.proofs.Common.{◌≡◌, ℕ, sym, ap, subst, ◌⊎◌, inl, inr, List, [], ◌∷◌, IsTrue}
 use native.Mathlib.Decide.{ℕ_discrete}
 use Rattle.trs_defs.specs.Tree.{Tree, var, app, Trees}
 use Rattle.trs_defs.specs.System.{RewriteRule, Among}
@@ -9,7 +9,6 @@ use Rattle.trs_defs.specs.System.{System, IsSystem}
 use Rattle.trs_defs.specs.Claims.{IsTerminating}
 use Rattle.trs_defs.specs.DependencyPair.{IsDependencyPair}
 use Rattle.trs_defs.specs.PairProblem.{ChainsEnd}
-use Rattle.trs_defs.specs.WellFormed.{IsWellFormed}
 use Rattle.trs_defs.specs.Step.{StepBy}
 use Rattle.trs_defs.specs.Variable.{has_var}
 use Rattle.trs_defs.specs.Terminates.{Terminates}

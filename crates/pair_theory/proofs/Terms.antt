@@ -1,7 +1,7 @@
 -- Terms: roots and arguments, counts, instances, and variables as subterms.
-use Rattle.std.proofs.Common.{◌≡◌, ℕ, suc, ◌+◌, refl, sym, ap, subst, arith, ◌⊎◌, inl, inr, Bool, true, false, ◌||◌, ◌==◌, IsTrue}
+use Rattle.std.proofs.Common.{◌≡◌, ℕ, ◌+◌, refl, sym, ap, subst, arith, ◌⊎◌, inl, inr, Bool, true, false, ◌||◌, IsTrue}
 use Rattle.trs_defs.specs.Tree.{Tree, Trees, var, app, nil, cons, count}
-use Rattle.trs_defs.specs.Substitution.{apply, apply_all}
+use Rattle.trs_defs.specs.Substitution.{apply_all}
 use Rattle.trs_defs.specs.Variable.{has_var, some_has_var}
 use Rattle.trs_defs.specs.Subterm.{Sub, itself, under, Subs, in_head, in_tail}
 

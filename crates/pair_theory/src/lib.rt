@@ -17,7 +17,7 @@ ghost use Rattle.trs_defs.specs.DependencyPair.{DependencyPair, dependency_pairs
 ghost use Rattle.trs_defs.specs.PairProblem.{IsFiniteProblem, IsPair};
 ghost use Rattle.trs_defs.specs.PairGraph.{CoversSteps, IsCapEstimate, IsGrouped};
 ghost use Rattle.trs_defs.specs.SubtermCriterion.{Projects};
-ghost use Rattle.trs_defs.specs.ReductionPair.{ReductionPair, Speaks};
+ghost use Rattle.trs_defs.specs.ReductionPair.{ReductionPair, Speaks, SpeaksOfSides, SpeaksErased, marked_rule};
 
 /// Arts and Giesl's theorem on dependency pairs (2000; for minimal chains, Hirokawa and
 /// Middeldorp, 2007): a system whose dependency pairs are a finite problem terminates.
@@ -73,11 +73,20 @@ pub trait ReductionOrder {
 
 /// Removal of pairs by a reduction pair (Arts and Giesl, 2000; Giesl, Thiemann and
 /// Schneider-Kamp, 2005): where rules are weak, and each pair is weak and stays or is strict, the
-/// pairs that stay suffice.
+/// pairs that stay suffice. `erased`: the same for an order with entries for some symbols only.
 pub fn remove_pairs<O: ReductionOrder>(order: &O)
     ensures finite { (system : System) (pairs stays : List DependencyPair) →
         IsSystem system → ((p : DependencyPair) → In p pairs → IsPair system.arities p) →
         Speaks system.arities (O.speaks_of order.now) →
+        ((r : RewriteRule) → In r system.rules → O.is_weak order.now r.left r.right) →
+        ((p : DependencyPair) → In p pairs →
+        (In p stays × O.is_weak order.now (mark p.from) (mark p.to))
+        ⊎ O.is_strict order.now (mark p.from) (mark p.to)) →
+        IsFiniteProblem system stays → IsFiniteProblem system pairs }
+    ensures erased { (system : System) (pairs stays : List DependencyPair) (entry : ℕ → Bool) →
+        IsSystem system → ((p : DependencyPair) → In p pairs →
+        IsPair system.arities p × SpeaksOfSides entry (O.speaks_of order.now) (marked_rule p)) →
+        SpeaksErased system entry (O.speaks_of order.now) →
         ((r : RewriteRule) → In r system.rules → O.is_weak order.now r.left r.right) →
         ((p : DependencyPair) → In p pairs →
         (In p stays × O.is_weak order.now (mark p.from) (mark p.to))
@@ -89,6 +98,7 @@ pub fn remove_pairs<O: ReductionOrder>(order: &O)
 /// of its derivations (Baader and Nipkow, section 2.2).
 pub fn terminating_terms_are_bounded()
     ensures bounded { (rules : List RewriteRule) (t : Tree) →
-        ((r : RewriteRule) → In r rules → (v : ℕ) → IsTrue (has_var v r.right) → IsTrue (has_var v r.left)) →
+        ((r : RewriteRule) → In r rules → (v : ℕ) →
+        IsTrue (has_var v r.right) → IsTrue (has_var v r.left)) →
         Terminates (Among rules) t → IsBounded (StepBy (Among rules)) t }
 {}

@@ -2,31 +2,21 @@
 //! theorem: its contract is the statement, and it does nothing.
 #![tactic(auto)]
 
-ghost use Rattle.std.specs.Prelude.{◌≡◌, ◌≢◌, ◌<◌, ℕ, List, map, IsTrue};
+ghost use Rattle.std.specs.Prelude.{ℕ, List};
 ghost use Rattle.trs_defs.specs.Member.{In};
-ghost use Rattle.trs_defs.specs.Tree.{Tree};
-ghost use Rattle.trs_defs.specs.Variable.{has_var};
-ghost use Rattle.trs_defs.specs.Substitution.{apply};
-ghost use Rattle.trs_defs.specs.WellFormed.{IsWellFormed};
-ghost use Rattle.trs_defs.specs.System.{RewriteRule, System, IsSystem, Among};
-ghost use Rattle.trs_defs.specs.Derivation.{Reaches};
+ghost use Rattle.trs_defs.specs.System.{System, IsSystem};
 ghost use Rattle.trs_defs.specs.Joinable.{IsJoinable};
-ghost use Rattle.trs_defs.specs.NormalForm.{IsNormalForm};
 ghost use Rattle.trs_defs.specs.Step.{Step};
-ghost use Rattle.trs_defs.specs.Claims.{IsTerminating, IsConfluent, IsForked};
+ghost use Rattle.trs_defs.specs.Claims.{IsTerminating, IsConfluent};
 ghost use Rattle.trs_defs.specs.Confluence.{JoinsStrongly};
 ghost use Rattle.trs_defs.specs.ParallelStep.{ParallelStepBy};
 ghost use Rattle.trs_defs.specs.Linear.{AreLeftLinear, AreRightLinear};
 ghost use Rattle.trs_defs.specs.Peak.{Peak, Covers};
-ghost use Rattle.trs_defs.specs.CriticalPeak.{shifted, Overlaps, HasCriticalPeaks};
-ghost use Rattle.trs_defs.specs.RuleRanks.{NumberedStep, IsDecreasing};
-ghost use Rattle.trs_defs.specs.LabelledPath.{LabelledPath};
-ghost use Rattle.trs_defs.specs.Path.{PlacedRule, Follows};
-ghost use Rattle.trs_defs.specs.Cap.{Cap, Fits};
-ghost use Rattle.trs_defs.specs.UniqueNormalForms.{HasUniqueNormalForms, IsSplit};
+ghost use Rattle.trs_defs.specs.RuleRanks.{IsDecreasing};
 
-/// Knuth and Bendix's theorem (Baader and Nipkow, theorem 6.2.4 and corollary 6.2.5): a terminating
-/// system is confluent if the sides of each peak of a list that covers it are joinable.
+/// Knuth and Bendix's theorem (Baader and Nipkow, section 6.2; Knuth and Bendix, Simple word
+/// problems in universal algebras, 1970): a terminating system is confluent if the sides of each
+/// peak of a list that covers it are joinable.
 pub fn joined_peaks()
     ensures confluent { (system : System) (peaks : List Peak) →
         IsSystem system → Covers system.rules peaks →
@@ -34,9 +24,9 @@ pub fn joined_peaks()
         IsTerminating system → IsConfluent system }
 {}
 
-/// Huet's theorem on parallel closed systems (Baader and Nipkow, theorem 6.4.7): a left-linear
-/// system is confluent if one parallel step leads from the left to the right of each peak of a list
-/// that covers it.
+/// Huet's theorem on parallel closed systems (Confluent reductions, 1980; Baader and Nipkow,
+/// section 6.4): a left-linear system is confluent if one parallel step leads from the left to the
+/// right of each peak of a list that covers it.
 pub fn parallel_closed_peaks()
     ensures confluent { (system : System) (peaks : List Peak) →
         IsSystem system → AreLeftLinear system.rules → Covers system.rules peaks →
@@ -44,9 +34,9 @@ pub fn parallel_closed_peaks()
         IsConfluent system }
 {}
 
-/// Huet's theorem on strongly closed systems (Baader and Nipkow, lemma 6.3.2 and corollary 6.3.3):
-/// a linear system is confluent if the sides of each peak of a list that covers it join strongly,
-/// in both directions.
+/// Huet's theorem on strongly closed systems (Confluent reductions, 1980; Baader and Nipkow,
+/// section 6.3): a linear system is confluent if the sides of each peak of a list that covers it
+/// join strongly, in both directions.
 pub fn strongly_closed_peaks()
     ensures confluent { (system : System) (peaks : List Peak) →
         IsSystem system → AreLeftLinear system.rules → AreRightLinear system.rules → Covers system.rules peaks →

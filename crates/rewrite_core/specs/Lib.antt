@@ -5,3 +5,4 @@ pub mod Laws
 pub mod LoopRefusal
 pub mod PathRefusal
 pub mod Redex
+pub mod RefusalNumbers

@@ -8,6 +8,7 @@ mod laws;
 mod loops;
 mod normal;
 mod paths;
+mod reasons;
 mod refusals;
 mod steps;
 
@@ -16,6 +17,7 @@ pub use laws::{each_position_has_small_places, each_step_has_a_place};
 pub use loops::loop_check;
 pub use normal::is_normal;
 pub use paths::{PathFault, PathStep, run_path};
+pub use reasons::RefusalFields;
 pub use refusals::{CheckFault, StepRefused, path_refused};
 pub use steps::{StepFault, step_at};
 

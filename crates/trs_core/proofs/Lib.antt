@@ -7,3 +7,4 @@ pub mod Putting
 pub mod RuleLists
 pub mod SmallVariables
 pub mod Unknown
+pub mod SeenItems

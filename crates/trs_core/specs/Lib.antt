@@ -7,3 +7,4 @@ pub mod SystemLimits
 pub mod Valid
 pub mod View
 pub mod ViewFalls
+pub mod Seen

@@ -2,7 +2,7 @@ ghost use Rattle.std.specs.Prelude.{◌≡◌, ℕ, ◌||◌, IfOk, OnOk, find, 
 ghost use Rattle.std.specs.Ordering.{nat_cmp};
 ghost use Rattle.std.specs.BTreeSet.{contains};
 ghost use Rattle.trs_defs.specs.Variable.{has_var};
-ghost use Rattle.trs_core.specs.Occurrences.{variables_of, extra_variable as first_extra};
+ghost use Rattle.trs_core.specs.Occurrences.{occurring_in, extra_variable as first_extra};
 ghost use Rattle.trs_core.specs.View.{tree};
 
 use crate::{OutOfMemory, Rule, Term};
@@ -35,7 +35,7 @@ fn collect_variables(t: &Term, known: &mut BTreeSet<u32>) -> Result<(), OutOfMem
 }
 
 fn first_unknown(t: &Term, known: &BTreeSet<u32>) -> Option<u32>
-    ensures { result ≡ find (λ v. not (contains nat_cmp known.now v)) (variables_of (tree t.now)) }
+    ensures { result ≡ find (λ v. not (contains nat_cmp known.now v)) (occurring_in (tree t.now)) }
 {
     match t {
         Term::Var(v) if known.contains(v) => None,

@@ -14,7 +14,9 @@ mod memory;
 mod positions;
 mod replacing;
 mod rules;
+mod systems;
 mod terms;
+mod variables;
 
 pub use applying::ApplySize;
 pub use bindings::Subst;

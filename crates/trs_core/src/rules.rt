@@ -50,7 +50,9 @@ impl Model for Trs {
 }
 
 impl Trs {
-    /// The system of an arity table and rules, or its first fault.
+    /// The system of an arity table and rules, or its first fault. The only memory that it takes,
+    /// from the allocator of the rules, is for the variables of one left side at a time. Its cost is
+    /// linear in the sides, but for a logarithm in the number of those variables.
     pub fn new(arities: Vec<u8>, rules: Vec<Rule>) -> Result<Trs, TrsFault>
         ensures system { IfOk result (λ s. s ≡ system arities.items rules.items) }
         ensures within { IfOk result (λ s. IsValid s) }

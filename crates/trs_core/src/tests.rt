@@ -18,6 +18,8 @@ fn a_match_is_applied(rt: HostRuntime) -> Result<(), Fail> {
     let term = pair(alloc, Term::Var(5), Term::Var(5))?;
     let found = match_term(alloc, &pattern, &term)?.ok_or("no match")?;
     assert!(rt; found.apply(alloc, &pattern)?.same(&term));
+    assert_eq!(rt; term.vars(alloc)?.as_slice(), &[5]);
+    assert!(rt; !term.is_linear());
     Ok(())
 }
 
@@ -47,5 +49,8 @@ fn a_rule_makes_a_system(rt: HostRuntime) -> Result<(), Fail> {
     ]?;
     let trs = Trs::new(vec![in alloc; 2]?, rules)?;
     assert_eq!(rt; trs.rules().len(), 1);
+    assert!(rt; trs.is_defined(0));
+    assert!(rt; !trs.is_defined(1));
+    assert!(rt; trs.same(&trs));
     Ok(())
 }

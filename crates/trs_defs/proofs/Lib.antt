@@ -6,9 +6,10 @@ pub mod Contexts
 pub mod Places
 pub mod Loops
 pub mod Limits
+pub mod OrderLaws
 pub mod ArgumentLists
 pub mod BindingLaws
-pub mod OrderLaws
 pub mod VariableLaws
 pub mod NormalForms
 pub mod WellFormedness
+pub mod OccurrenceLaws

@@ -1,5 +1,6 @@
 -- Argument filters, and the path order on filtered terms. (Arts and Giesl, 2000; Kusakari, Nakamura and
--- Toyama, 1999.) Places are counted from 1.
+-- Toyama, 1999.) Places are counted from 1, and
+-- 0 is read as 1.
 use Rattle.std.specs.Prelude.{◌≡◌, ℕ, ◌-◌, ◌⊎◌, List, [], ◌∷◌}
 use Rattle.std.proofs.Common.{zero, suc}
 use Rattle.trs_defs.specs.Tree.{Tree, Trees, var, app, nil, cons}

@@ -1,5 +1,5 @@
--- Confluent relations, and the conditions on single steps that make them so. (Baader and Nipkow, definitions 2.1.1 and
--- 2.7.1, 2.7.3, 2.7.8; Huet, Confluent reductions, 1980.)
+-- Confluent relations, and the conditions on single steps that make them so. (Baader and Nipkow, sections 2.1 and
+-- 2.7; Huet, Confluent reductions, 1980.)
 use Rattle.trs_defs.specs.Run.{AtMostOne}
 use Rattle.trs_defs.specs.Derivation.{Reaches}
 use Rattle.trs_defs.specs.Joinable.{IsJoinable}

@@ -1,4 +1,4 @@
--- Critical peaks. (Baader and Nipkow, definition 6.2.1.)
+-- Critical peaks. (Baader and Nipkow, section 6.2.)
 use Rattle.std.specs.Prelude.{◌≡◌, ◌≢◌, ◌<◌, ℕ, ◌+◌, List, [], Some, IsTrue, slice_get}
 use Rattle.trs_defs.specs.Member.{In}
 use Rattle.trs_defs.specs.Tree.{Tree, var}

@@ -36,6 +36,7 @@ pub mod UsableRules
 pub mod Cap
 pub mod SubtermCriterion
 pub mod PairGraph
+pub mod Erased
 pub mod Confluence
 pub mod Ranks
 pub mod LabelledPath
@@ -47,4 +48,6 @@ pub mod Peak
 pub mod Unifier
 pub mod CriticalPeak
 pub mod RuleRanks
+pub mod Clash
 pub mod UniqueNormalForms
+pub mod ParallelPositions

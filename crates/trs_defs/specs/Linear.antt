@@ -1,4 +1,4 @@
--- Left-linear and right-linear lists of rules. (Baader and Nipkow, definition 6.3.1.)
+-- Left-linear and right-linear lists of rules. (Baader and Nipkow, section 6.3.)
 use Rattle.std.specs.Prelude.{◌≡◌, ℕ, List, Some, slice_get}
 use Rattle.trs_defs.specs.Variable.{IsLinear}
 use Rattle.trs_defs.specs.System.{RewriteRule}

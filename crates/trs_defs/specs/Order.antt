@@ -1,6 +1,5 @@
 -- A total order of terms: variables before applications; variables by number; applications by symbol, then by the
 -- number of arguments, then by the arguments from the left.
-use Rattle.std.specs.Prelude.{ℕ}
 use Rattle.std.specs.declared.cmp.Ordering.TheVariants.{Less, Equal, Greater}
 use Rattle.std.specs.declared.cmp.Ordering.{Ordering}
 use Rattle.std.specs.Ordering.{nat_cmp, ordering_then}

@@ -1,4 +1,4 @@
--- Parallel steps. (Huet, Confluent reductions, 1980; Baader and Nipkow, definition 6.4.2.)
+-- Parallel steps. (Huet, Confluent reductions, 1980; Baader and Nipkow, section 6.4.)
 use Rattle.std.specs.Prelude.{ℕ, List}
 use Rattle.trs_defs.specs.Tree.{Tree, Trees, var, app, nil, cons}
 use Rattle.trs_defs.specs.System.{RewriteRule, Among}

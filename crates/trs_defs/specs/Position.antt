@@ -2,7 +2,7 @@
 use Rattle.std.specs.Prelude.{ℕ, List, [], ◌∷◌, Option, Some, None, slice_get, slice_set}
 use Rattle.std.specs.Option.{option_and_then, option_map}
 use Rattle.std.proofs.Common.{zero, suc}
-use Rattle.trs_defs.specs.Tree.{Tree, Trees, var, app, trees, items}
+use Rattle.trs_defs.specs.Tree.{Tree, var, app, trees, items}
 
 -- the argument at a place
 abbrev pub argument_at : Tree → ℕ → Option Tree

@@ -1,11 +1,15 @@
 -- Reduction pairs. (Arts and Giesl, 2000; Baader and Nipkow, section 5.2, for one order.)
-use Rattle.std.specs.Prelude.{ℕ, List}
+use Rattle.std.specs.Prelude.{ℕ, List, Bool}
 use Rattle.trs_defs.specs.Tree.{Tree, Trees, var, app}
 use Rattle.trs_defs.specs.Substitution.{apply}
 use Rattle.trs_defs.specs.WellFormed.{IsWellFormed}
+use Rattle.trs_defs.specs.Member.{In}
+use Rattle.trs_defs.specs.System.{RewriteRule, System}
+use Rattle.trs_defs.specs.Erased.{HasEntries, erased}
 use Rattle.trs_defs.specs.Step.{Inside}
 use Rattle.trs_defs.specs.Every.{Every}
 use Rattle.trs_defs.specs.Marked.{Marked, plain, mark}
+use Rattle.trs_defs.specs.DependencyPair.{DependencyPair}
 use Rattle.trs_defs.specs.Moves.{IsWellFounded}
 
 -- the laws of a weak and a strict order, on the terms of which they speak
@@ -34,3 +38,17 @@ pub record Speaks (arities : List ℕ) (speaks_of : Tree → Type 0) : Type 0 wh
 -- an order that speaks of all terms
 abbrev pub AllTerms : Tree → Type 0
 AllTerms t = Unit {0}
+
+-- a dependency pair as the rule that orders see
+abbrev pub marked_rule : DependencyPair → RewriteRule
+marked_rule p = record { left = mark p.from; right = mark p.to }
+
+-- the orders speak of both sides of a pair, whose symbols have entries
+abbrev pub SpeaksOfSides : (ℕ → Bool) → (Tree → Type 0) → RewriteRule → Type 0
+SpeaksOfSides entry speaks_of p =
+    speaks_of p.left × speaks_of p.right × HasEntries entry p.left × HasEntries entry p.right
+
+-- orders with entries for some symbols only: they speak of the erased marked terms, and of the sides of the rules
+pub record SpeaksErased (system : System) (entry : ℕ → Bool) (speaks_of : Tree → Type 0) : Type 0 where
+  pub of_erased : (u : Marked) → IsWellFormed system.arities (plain u) → speaks_of (erased entry (mark u))
+  pub of_rules : (r : RewriteRule) → In r system.rules → SpeaksOfSides entry speaks_of r

@@ -1,4 +1,4 @@
--- Most general unifiers. (Baader and Nipkow, definition 4.5.3.)
+-- Most general unifiers. (Baader and Nipkow, section 4.5.)
 use Rattle.std.specs.Prelude.{◌≡◌, ℕ}
 use Rattle.trs_defs.specs.Tree.{Tree}
 use Rattle.trs_defs.specs.Substitution.{apply}

@@ -1,17 +1,17 @@
 -- Addition terminates with no usable rule: the order need not make its rules fall.
-use Rattle.std.proofs.Common.{◌≡◌, ℕ, ◌+◌, ◌*◌, ◌≤◌, ◌<◌, refl, arith, ◌⊎◌, inl, inr, List, [], ◌∷◌, Bool, false, ◌==◌, if◌then◌else◌, IsTrue}
+use Rattle.std.proofs.Common.{ℕ, arith, ◌⊎◌, inr, [], Bool, false, ◌==◌, if◌then◌else◌, IsTrue}
 use Rattle.trs_defs.specs.Member.{In, in_first, in_rest}
-use Rattle.trs_defs.specs.Tree.{Tree, Trees, var, app, nil, cons}
-use Rattle.trs_defs.specs.System.{RewriteRule, Among}
+use Rattle.trs_defs.specs.Tree.{Trees, var, app, nil, cons}
+use Rattle.trs_defs.specs.System.{RewriteRule}
 use Rattle.trs_defs.specs.Claims.{IsTerminating}
-use Rattle.trs_defs.specs.Subterm.{Sub, Subs, in_head, in_tail}
+use Rattle.trs_defs.specs.Subterm.{Subs, in_head, in_tail}
 use Rattle.trs_defs.specs.Marked.{mark}
-use Rattle.trs_defs.specs.DependencyPair.{DependencyPair, dependency_pairs}
+use Rattle.trs_defs.specs.DependencyPair.{dependency_pairs}
 use Rattle.trs_defs.specs.LinearInterpretation.{CoefficientWeak, CoefficientStrict}
 use Rattle.trs_defs.specs.UsableRules.{HasUsable, root_in, choices}
 use Rattle.pair_theory.proofs.PairList.{listed_are_pairs}
 use Rattle.pair_theory.proofs.Problems.{listed_theorem}
-use Rattle.order_theory.proofs.Examples.{addition, is_system, two_rules, the_pair, only_pair, no_pairs}
+use Rattle.order_theory.proofs.Examples.{addition, is_system, two_rules, only_pair, no_pairs}
 use Rattle.usable_theory.proofs.UsableProblems.{usable_by_interpretation}
 
 abbrev none_usable : ℕ → Bool

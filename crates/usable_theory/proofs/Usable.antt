@@ -65,11 +65,11 @@ module _ (c : ℕ) (hidden : ℕ → Bool) (rs : List RewriteRule) (fine : (p : 
   body (app f ts) rec = top c (hidden f) f (map_args ts (λ u m. rec u (inr (proper m))))
       (map_in (reducts rs fine (app f ts)).0 (λ u i. rec u (inl ((reducts rs fine (app f ts)).2 u i))))
 
-  abbrev pub interp : (t : Tree) → Acc To t → Tree
-  interp t (acc h) = body t (λ u d. interp u (h u d))
+  abbrev pub interpretation : (t : Tree) → Acc To t → Tree
+  interpretation t (acc h) = body t (λ u d. interpretation u (h u d))
 
-  same_interp : (t : Tree) (a b : Acc To t) → interp t a ≡ interp t b
-  same_interp t a b = ap (interp t) (acc_prop a b)
+  same_interpretation : (t : Tree) (a b : Acc To t) → interpretation t a ≡ interpretation t b
+  same_interpretation t a b = ap (interpretation t) (acc_prop a b)
 
   -- no hidden symbol
   abbrev mutual
@@ -83,17 +83,17 @@ module _ (c : ℕ) (hidden : ℕ → Bool) (rs : List RewriteRule) (fine : (p : 
 
   module _ (σ vs : ℕ → Tree) where
     abbrev Agrees : ℕ → Type 0
-    Agrees x = (a : Acc To (σ x)) → interp (σ x) a ≡ vs x
+    Agrees x = (a : Acc To (σ x)) → interpretation (σ x) a ≡ vs x
 
     mutual
-      free_interp : (t : Tree) → Free t → ((x : ℕ) → Sub (var x) t → Agrees x) → (a : Acc To (apply σ t)) → interp (apply σ t) a ≡ apply vs t
-      free_interp (var x) fr k a = k x itself a
-      free_interp (app f ts) fr k (acc h) = rw fr.0 (ap (app f) (free_each ts fr.1 (λ x p. k x (under p)) (λ u m. h u (inr (proper m)))))
+      free_interpretation : (t : Tree) → Free t → ((x : ℕ) → Sub (var x) t → Agrees x) → (a : Acc To (apply σ t)) → interpretation (apply σ t) a ≡ apply vs t
+      free_interpretation (var x) fr k a = k x itself a
+      free_interpretation (app f ts) fr k (acc h) = rw fr.0 (ap (app f) (free_each ts fr.1 (λ x p. k x (under p)) (λ u m. h u (inr (proper m)))))
 
       free_each : (ts : Trees) → FreeEach ts → ((x : ℕ) → Subs (var x) ts → Agrees x) → (k : (u : Tree) → Subs u (apply_all σ ts) → Acc To u)
-          → map_args (apply_all σ ts) (λ u m. interp u (k u m)) ≡ apply_all vs ts
+          → map_args (apply_all σ ts) (λ u m. interpretation u (k u m)) ≡ apply_all vs ts
       free_each nil fr k h = refl
-      free_each (cons t ts) fr k h = join_cons (free_interp t fr.0 (λ x p. k x (in_head p)) (h _ (in_head itself)))
+      free_each (cons t ts) fr k h = join_cons (free_interpretation t fr.0 (λ x p. k x (in_head p)) (h _ (in_head itself)))
           (free_each ts fr.1 (λ x p. k x (in_tail p)) (λ u m. h u (in_tail m)))
 
   abbrev pub chooses : List RewriteRule
@@ -137,31 +137,31 @@ module _ (c : ℕ) (hidden : ℕ → Bool) (rs : List RewriteRule) (fine : (p : 
 
     module _ (σ vs : ℕ → Tree) where
       mutual
-        goes_interp : (t : Tree) → ((x : ℕ) → Sub (var x) t → Agrees σ vs x) → (a : Acc To (apply σ t)) → Goes (interp (apply σ t) a) (apply vs t)
-        goes_interp (var x) k a = subst (Goes (interp (σ x) a)) (k x itself a) Stay
-        goes_interp (app f ts) k (acc h) = run_on (top_goes (hidden f) f _ _) (args_go f (goes_each ts (λ x p. k x (under p)) (λ u m. h u (inr (proper m)))))
+        goes_interpretation : (t : Tree) → ((x : ℕ) → Sub (var x) t → Agrees σ vs x) → (a : Acc To (apply σ t)) → Goes (interpretation (apply σ t) a) (apply vs t)
+        goes_interpretation (var x) k a = subst (Goes (interpretation (σ x) a)) (k x itself a) Stay
+        goes_interpretation (app f ts) k (acc h) = run_on (top_goes (hidden f) f _ _) (args_go f (goes_each ts (λ x p. k x (under p)) (λ u m. h u (inr (proper m)))))
 
         goes_each : (ts : Trees) → ((x : ℕ) → Subs (var x) ts → Agrees σ vs x) → (k : (u : Tree) → Subs u (apply_all σ ts) → Acc To u)
-            → Run (ArgumentStep (Among ws)) (map_args (apply_all σ ts) (λ u m. interp u (k u m))) (apply_all vs ts)
+            → Run (ArgumentStep (Among ws)) (map_args (apply_all σ ts) (λ u m. interpretation u (k u m))) (apply_all vs ts)
         goes_each nil k h = Stay
-        goes_each (cons t ts) k h = cons_go (goes_interp t (λ x p. k x (in_head p)) (h _ (in_head itself)))
+        goes_each (cons t ts) k h = cons_go (goes_interpretation t (λ x p. k x (in_head p)) (h _ (in_head itself)))
             (goes_each ts (λ x p. k x (in_tail p)) (λ u m. h u (in_tail m)))
 
-    same_each : (ts : Trees) (k k' : (u : Tree) → Subs u ts → Acc To u) → map_args ts (λ u m. interp u (k u m)) ≡ map_args ts (λ u m. interp u (k' u m))
+    same_each : (ts : Trees) (k k' : (u : Tree) → Subs u ts → Acc To u) → map_args ts (λ u m. interpretation u (k u m)) ≡ map_args ts (λ u m. interpretation u (k' u m))
     same_each nil k k' = refl
-    same_each (cons t ts) k k' = join_cons (same_interp t (k t (in_head itself)) (k' t (in_head itself))) (same_each ts (λ u m. k u (in_tail m)) (λ u m. k' u (in_tail m)))
+    same_each (cons t ts) k k' = join_cons (same_interpretation t (k t (in_head itself)) (k' t (in_head itself))) (same_each ts (λ u m. k u (in_tail m)) (λ u m. k' u (in_tail m)))
 
     sub_acc : {s t : Tree} → Sub s t → Acc To t → Acc To s
     sub_acc itself a = a
     sub_acc (under p) a = down a (inr (proper p))
 
-    hidden_goes : (f : ℕ) (ts : Trees) → hidden f ≡ true → (a : Acc To (app f ts)) (t : Tree) → StepBy (Among rs) (app f ts) t → (b : Acc To t) → Goes (interp (app f ts) a) (interp t b)
+    hidden_goes : (f : ℕ) (ts : Trees) → hidden f ≡ true → (a : Acc To (app f ts)) (t : Tree) → StepBy (Among rs) (app f ts) t → (b : Acc To t) → Goes (interpretation (app f ts) a) (interpretation t b)
     hidden_goes f ts e (acc h) t s b =
-        let k : (u : Tree) → In u (reducts rs fine (app f ts)).0 → Tree = λ u i. interp u (h u (inl ((reducts rs fine (app f ts)).2 u i))) in
-        let is : Trees = map_args ts (λ u m. interp u (h u (inr (proper m)))) in
+        let k : (u : Tree) → In u (reducts rs fine (app f ts)).0 → Tree = λ u i. interpretation u (h u (inl ((reducts rs fine (app f ts)).2 u i))) in
+        let is : Trees = map_args ts (λ u m. interpretation u (h u (inr (proper m)))) in
         let i : In t (reducts rs fine (app f ts)).0 = (reducts rs fine (app f ts)).1 t s in
-        subst (λ z. Goes (top c z f is (map_in (reducts rs fine (app f ts)).0 k)) (interp t b)) (sym e)
-        (subst (λ z. Goes (listed c (app f is) (map_in (reducts rs fine (app f ts)).0 k)) z) (same_interp t (h t (inl ((reducts rs fine (app f ts)).2 t ((reducts rs fine (app f ts)).1 t s)))) b)
+        subst (λ z. Goes (top c z f is (map_in (reducts rs fine (app f ts)).0 k)) (interpretation t b)) (sym e)
+        (subst (λ z. Goes (listed c (app f is) (map_in (reducts rs fine (app f ts)).0 k)) z) (same_interpretation t (h t (inl ((reducts rs fine (app f ts)).2 t ((reducts rs fine (app f ts)).1 t s)))) b)
         (listed_member (app f is) (reducts rs fine (app f ts)).0 k t i))
 
     module _ (usable : (f : ℕ) (ls : Trees) (r : Tree) → Among rs (app f ls) r → hidden f ≡ false → Among ws (app f ls) r × Free r)
@@ -169,68 +169,68 @@ module _ (c : ℕ) (hidden : ℕ → Bool) (rs : List RewriteRule) (fine : (p : 
       module _ (σ : ℕ → Tree) (l : Tree) (a : (x : ℕ) → Sub (var x) l → Acc To (σ x)) where
         -- the interpretation of what the variables of l stand for
         chosen_at : ℕ → Tree
-        chosen_at x = pick (occurs x l) (λ p. interp (σ x) (a x p)) (var x)
+        chosen_at x = pick (occurs x l) (λ p. interpretation (σ x) (a x p)) (var x)
 
         agrees : (x : ℕ) → Sub (var x) l → Agrees σ chosen_at x
         unfolding chosen_at
-        agrees x p b = pick_yes (occurs x l) (λ p. interp (σ x) (a x p)) (var x) (interp (σ x) b) p (λ q. same_interp (σ x) b (a x q))
+        agrees x p b = pick_yes (occurs x l) (λ p. interpretation (σ x) (a x p)) (var x) (interpretation (σ x) b) p (λ q. same_interpretation (σ x) b (a x q))
 
-      root_goes : (l r : Tree) (σ : ℕ → Tree) → Among rs l r → (a : Acc To (apply σ l)) (b : Acc To (apply σ r)) → Goes (interp (apply σ l) a) (interp (apply σ r) b)
+      root_goes : (l r : Tree) (σ : ℕ → Tree) → Among rs l r → (a : Acc To (apply σ l)) (b : Acc To (apply σ r)) → Goes (interpretation (apply σ l) a) (interpretation (apply σ r) b)
       root_goes (var x) r σ i a b = absurd (rooted _ _ i x refl)
       root_goes (app f ls) r σ i a b = bool_case (hidden f)
           (λ e. hidden_goes f (apply_all σ ls) e a (apply σ r) (here (app f ls, r, σ, i, refl, refl)) b)
           (λ e. let u : Among ws (app f ls) r × Free r = usable f ls r i e in
           let at_var : (x : ℕ) → Sub (var x) (app f ls) → Acc To (σ x) = λ x p. sub_acc (sub_apply σ p) a in
           let vs : ℕ → Tree = chosen_at σ (app f ls) at_var in
-          run_on (goes_interp σ vs (app f ls) (agrees σ (app f ls) at_var) a)
+          run_on (goes_interpretation σ vs (app f ls) (agrees σ (app f ls) at_var) a)
           (Go (here (app f ls, r, vs, u.0, refl, refl))
-          (subst (Goes (apply vs r)) (sym (free_interp σ vs r u.1 (λ x p. agrees σ (app f ls) at_var x (fine _ i x p)) b)) Stay)))
+          (subst (Goes (apply vs r)) (sym (free_interpretation σ vs r u.1 (λ x p. agrees σ (app f ls) at_var x (fine _ i x p)) b)) Stay)))
 
       same_goes : {s t : Tree} → s ≡ t → Goes s t
       same_goes {s} e = subst (Goes s) e Stay
 
-      same_star : {ss ts : Trees} → ss ≡ ts → Run (ArgumentStep (Among ws)) ss ts
-      same_star {ss} e = subst (Run (ArgumentStep (Among ws)) ss) e Stay
+      same_run : {ss ts : Trees} → ss ≡ ts → Run (ArgumentStep (Among ws)) ss ts
+      same_run {ss} e = subst (Run (ArgumentStep (Among ws)) ss) e Stay
 
       inner_goes : (f : ℕ) (ss ts : Trees) → hidden f ≡ false → (h : (u : Tree) → To (app f ss) u → Acc To u) (h' : (u : Tree) → To (app f ts) u → Acc To u)
-          → Run (ArgumentStep (Among ws)) (map_args ss (λ u m. interp u (h u (inr (proper m))))) (map_args ts (λ u m. interp u (h' u (inr (proper m)))))
-          → Goes (interp (app f ss) (acc h)) (interp (app f ts) (acc h'))
+          → Run (ArgumentStep (Among ws)) (map_args ss (λ u m. interpretation u (h u (inr (proper m))))) (map_args ts (λ u m. interpretation u (h' u (inr (proper m)))))
+          → Goes (interpretation (app f ss) (acc h)) (interpretation (app f ts) (acc h'))
       inner_goes f ss ts e h h' st = rw e (args_go f st)
 
       mutual
-        step_interp : {s t : Tree} → StepBy (Among rs) s t → (a : Acc To s) (b : Acc To t) → Goes (interp s a) (interp t b)
-        step_interp (here {s = s} {t = t} (l, r, σ, i, e, e')) a b =
-            subst (λ s. (a : Acc To s) → Goes (interp s a) (interp t b)) (sym e)
-            (λ a. subst (λ t. (b : Acc To t) → Goes (interp (apply σ l) a) (interp t b)) (sym e') (λ b. root_goes l r σ i a b) b) a
-        step_interp (deep {f = f} {ss = ss} {ts = ts} st) (acc h) (acc h') = bool_case (hidden f)
+        step_interpretation : {s t : Tree} → StepBy (Among rs) s t → (a : Acc To s) (b : Acc To t) → Goes (interpretation s a) (interpretation t b)
+        step_interpretation (here {s = s} {t = t} (l, r, σ, i, e, e')) a b =
+            subst (λ s. (a : Acc To s) → Goes (interpretation s a) (interpretation t b)) (sym e)
+            (λ a. subst (λ t. (b : Acc To t) → Goes (interpretation (apply σ l) a) (interpretation t b)) (sym e') (λ b. root_goes l r σ i a b) b) a
+        step_interpretation (deep {f = f} {ss = ss} {ts = ts} st) (acc h) (acc h') = bool_case (hidden f)
             (λ e. hidden_goes f ss e (acc h) (app f ts) (deep st) (acc h'))
-            (λ e. inner_goes f ss ts e h h' (steps_interp st (λ u m. h u (inr (proper m))) (λ u m. h' u (inr (proper m)))))
+            (λ e. inner_goes f ss ts e h h' (steps_interpretation st (λ u m. h u (inr (proper m))) (λ u m. h' u (inr (proper m)))))
 
-        steps_interp : {ss ts : Trees} → ArgumentStep (Among rs) ss ts → (k : (u : Tree) → Subs u ss → Acc To u) (k' : (u : Tree) → Subs u ts → Acc To u)
-            → Run (ArgumentStep (Among ws)) (map_args ss (λ u m. interp u (k u m))) (map_args ts (λ u m. interp u (k' u m)))
-        steps_interp (first {ts = ts} s) k k' = cons_go (step_interp s (k _ (in_head itself)) (k' _ (in_head itself)))
-            (same_star (same_each ts (λ u m. k u (in_tail m)) (λ u m. k' u (in_tail m))))
-        steps_interp (later {t = s} st) k k' = cons_go (same_goes (same_interp s (k _ (in_head itself)) (k' _ (in_head itself))))
-            (steps_interp st (λ u m. k u (in_tail m)) (λ u m. k' u (in_tail m)))
+        steps_interpretation : {ss ts : Trees} → ArgumentStep (Among rs) ss ts → (k : (u : Tree) → Subs u ss → Acc To u) (k' : (u : Tree) → Subs u ts → Acc To u)
+            → Run (ArgumentStep (Among ws)) (map_args ss (λ u m. interpretation u (k u m))) (map_args ts (λ u m. interpretation u (k' u m)))
+        steps_interpretation (first {ts = ts} s) k k' = cons_go (step_interpretation s (k _ (in_head itself)) (k' _ (in_head itself)))
+            (same_run (same_each ts (λ u m. k u (in_tail m)) (λ u m. k' u (in_tail m))))
+        steps_interpretation (later {t = s} st) k k' = cons_go (same_goes (same_interpretation s (k _ (in_head itself)) (k' _ (in_head itself))))
+            (steps_interpretation st (λ u m. k u (in_tail m)) (λ u m. k' u (in_tail m)))
 
-      step_k : {ss ts : Trees} → ArgumentStep (Among rs) ss ts → ((u : Tree) → Subs u ss → Acc To u) → (u : Tree) → Subs u ts → Acc To u
-      step_k (first s) k u (in_head p) = sub_acc p (down (k _ (in_head itself)) (inl s))
-      step_k (first s) k u (in_tail m) = k u (in_tail m)
-      step_k (later s) k u (in_head p) = k u (in_head p)
-      step_k (later s) k u (in_tail m) = step_k s (λ u m. k u (in_tail m)) u m
+      step_keys : {ss ts : Trees} → ArgumentStep (Among rs) ss ts → ((u : Tree) → Subs u ss → Acc To u) → (u : Tree) → Subs u ts → Acc To u
+      step_keys (first s) k u (in_head p) = sub_acc p (down (k _ (in_head itself)) (inl s))
+      step_keys (first s) k u (in_tail m) = k u (in_tail m)
+      step_keys (later s) k u (in_head p) = k u (in_head p)
+      step_keys (later s) k u (in_tail m) = step_keys s (λ u m. k u (in_tail m)) u m
 
-      star_k : {ss ts : Trees} → Run (ArgumentStep (Among rs)) ss ts → ((u : Tree) → Subs u ss → Acc To u) → (u : Tree) → Subs u ts → Acc To u
-      star_k Stay k = k
-      star_k (Go s p) k = star_k p (step_k s k)
+      run_keys : {ss ts : Trees} → Run (ArgumentStep (Among rs)) ss ts → ((u : Tree) → Subs u ss → Acc To u) → (u : Tree) → Subs u ts → Acc To u
+      run_keys Stay k = k
+      run_keys (Go s p) k = run_keys p (step_keys s k)
 
-      star_interp : {ss ts : Trees} → Run (ArgumentStep (Among rs)) ss ts → (k : (u : Tree) → Subs u ss → Acc To u) (k' : (u : Tree) → Subs u ts → Acc To u)
-          → Run (ArgumentStep (Among ws)) (map_args ss (λ u m. interp u (k u m))) (map_args ts (λ u m. interp u (k' u m)))
-      star_interp {ss} Stay k k' = same_star (same_each ss k k')
-      star_interp (Go s p) k k' = run_on (steps_interp s k (step_k s k)) (star_interp p (step_k s k) k')
+      run_interpretation : {ss ts : Trees} → Run (ArgumentStep (Among rs)) ss ts → (k : (u : Tree) → Subs u ss → Acc To u) (k' : (u : Tree) → Subs u ts → Acc To u)
+          → Run (ArgumentStep (Among ws)) (map_args ss (λ u m. interpretation u (k u m))) (map_args ts (λ u m. interpretation u (k' u m)))
+      run_interpretation {ss} Stay k k' = same_run (same_each ss k k')
+      run_interpretation (Go s p) k k' = run_on (steps_interpretation s k (step_keys s k)) (run_interpretation p (step_keys s k) k')
 
       -- the interpretation of a marked term
-      abbrev imark : (u : Marked) → ((t : Tree) → Subs t u.args → Acc To t) → Tree
-      imark u k = app (u.symbol + 4096) (map_args u.args (λ t m. interp t (k t m)))
+      abbrev marked_interpretation : (u : Marked) → ((t : Tree) → Subs t u.args → Acc To t) → Tree
+      marked_interpretation u k = app (u.symbol + 4096) (map_args u.args (λ t m. interpretation t (k t m)))
 
       moves_goes : (ss : List RewriteRule) {s t u : Tree} {n : ℕ} → Goes s t → Moves ws ss n t u → Moves ws ss n s u
       moves_goes ss Stay ms = ms
@@ -240,20 +240,20 @@ module _ (c : ℕ) (hidden : ℕ → Bool) (rs : List RewriteRule) (fine : (p : 
           (vars : (l r : Marked) → P l r → (x : ℕ) → Subs (var x) r.args → Subs (var x) l.args) where
         -- a chain step, as moves before its pair and the pair's instance
         chain_moves : {u v : Marked} → ChainStep (Among rs) P u v → (ku : (t : Tree) → Subs t u.args → Acc To t) (kv : (t : Tree) → Subs t v.args → Acc To t)
-            → (l r : Marked) × (vs : ℕ → Tree) × P l r × Goes (imark u ku) (apply vs (mark l)) × (apply vs (mark r) ≡ imark v kv)
+            → (l r : Marked) × (vs : ℕ → Tree) × P l r × Goes (marked_interpretation u ku) (apply vs (mark l)) × (apply vs (mark r) ≡ marked_interpretation v kv)
         chain_moves {u} {v} (link l r σ h e reach to small) ku kv = (
           l,
           r,
           vs,
           h,
-          subst (λ n. Goes (app (n + 4096) (map_args u.args (λ t m. interp t (ku t m)))) (apply vs (mark l))) (sym e)
-              (args_go (l.symbol + 4096) (run_on (star_interp reach ku k2) (goes_each σ vs l.args agree k2))),
-          subst (λ v. (kv : (t : Tree) → Subs t v.args → Acc To t) → apply vs (mark r) ≡ imark v kv) (sym to)
+          subst (λ n. Goes (app (n + 4096) (map_args u.args (λ t m. interpretation t (ku t m)))) (apply vs (mark l))) (sym e)
+              (args_go (l.symbol + 4096) (run_on (run_interpretation reach ku k2) (goes_each σ vs l.args agree k2))),
+          subst (λ v. (kv : (t : Tree) → Subs t v.args → Acc To t) → apply vs (mark r) ≡ marked_interpretation v kv) (sym to)
               (λ kv. ap (app (r.symbol + 4096)) (sym (free_each σ vs r.args (free l r h) (λ x p. agree x (vars l r h x p)) kv))) kv,
         )
           where
             k2 : (t : Tree) → Subs t (apply_all σ l.args) → Acc To t
-            k2 = star_k reach ku
+            k2 = run_keys reach ku
 
             at_var : (x : ℕ) → Sub (var x) (plain l) → Acc To (σ x)
             at_var x (under p) = k2 (σ x) (subs_apply σ p)
@@ -285,24 +285,24 @@ module _ (c : ℕ) (hidden : ℕ → Bool) (rs : List RewriteRule) (fine : (p : 
         ok_k u ok = each_k (small u ok)
 
         abbrev Bound : ℕ → Marked → Type 0
-        Bound n u = (k : (t : Tree) → Subs t u.args → Acc To t) (m : ℕ) (t : Tree) → Moves ws ss m (imark u k) t → m ≤ n
+        Bound n u = (k : (t : Tree) → Subs t u.args → Acc To t) (m : ℕ) (t : Tree) → Moves ws ss m (marked_interpretation u k) t → m ≤ n
 
         stay_moves : {u v : Marked} {m : ℕ} {t : Tree} → ChainStep (Among rs) stay u v → (ku : (t : Tree) → Subs t u.args → Acc To t) (kv : (t : Tree) → Subs t v.args → Acc To t)
-            → Moves ws ss m (imark v kv) t → Moves ws ss m (imark u ku) t
+            → Moves ws ss m (marked_interpretation v kv) t → Moves ws ss m (marked_interpretation u ku) t
         stay_moves {m = m} {t = t} c' ku kv ms = let w : _ = chain_moves ss stay free_stay vars_stay c' ku kv in
             moves_goes ss w.4 (weakly (here (mark w.0, mark w.1, w.2, stay_in w.0 w.1 w.3, refl, refl)) (subst (λ z. Moves ws ss m z t) (sym w.5) ms))
 
         gone_moves : {u v : Marked} {m : ℕ} {t : Tree} → ChainStep (Among rs) gone u v → (ku : (t : Tree) → Subs t u.args → Acc To t) (kv : (t : Tree) → Subs t v.args → Acc To t)
-            → Moves ws ss m (imark v kv) t → Moves ws ss (suc m) (imark u ku) t
+            → Moves ws ss m (marked_interpretation v kv) t → Moves ws ss (suc m) (marked_interpretation u ku) t
         gone_moves {m = m} {t = t} c' ku kv ms = let w : _ = chain_moves ss gone free_gone vars_gone c' ku kv in
             moves_goes ss w.4 (strictly (mark w.0, mark w.1, w.2, gone_in w.0 w.1 w.3, refl, refl) (subst (λ z. Moves ws ss m z t) (sym w.5) ms))
 
-        moves_k : (v : Marked) (k k' : (t : Tree) → Subs t v.args → Acc To t) (m : ℕ) (t : Tree) → Moves ws ss m (imark v k) t → Moves ws ss m (imark v k') t
+        moves_k : (v : Marked) (k k' : (t : Tree) → Subs t v.args → Acc To t) (m : ℕ) (t : Tree) → Moves ws ss m (marked_interpretation v k) t → Moves ws ss m (marked_interpretation v k') t
         moves_k v k k' m t ms = subst (λ z. Moves ws ss m (app (v.symbol + 4096) z) t) (same_each v.args k k') ms
 
         pub usable_removal : (u : Marked) → Ok u → Acc (ChainStep (Among rs) (λ l r. stay l r ⊎ gone l r)) u
         usable_removal u ok =
-            let b : (n : ℕ) × ((m : ℕ) (t : Tree) → Moves ws ss m (imark u (ok_k u ok)) t → m ≤ n) = bounds (imark u (ok_k u ok)) in
+            let b : (n : ℕ) × ((m : ℕ) (t : Tree) → Moves ws ss m (marked_interpretation u (ok_k u ok)) t → m ≤ n) = bounds (marked_interpretation u (ok_k u ok)) in
             removal_by (Among rs) stay gone Ok keeps rest Bound
             (λ n u v ok c' bound kv m t ms. bound (ok_k u ok) m t (stay_moves c' (ok_k u ok) kv ms))
             (λ n u v ok c' bound kv m t ms. let h : suc m ≤ suc n = bound (ok_k u ok) (suc m) t (gone_moves c' (ok_k u ok) kv ms) in omega arith)

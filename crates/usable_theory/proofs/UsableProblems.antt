@@ -1,25 +1,23 @@
 -- Removal of pairs where only the usable rules need fall.
-use Rattle.std.proofs.Common.{◌≡◌, ℕ, zero, suc, refl, sym, ap, subst, ◌∙◌, ◌⊎◌, inl, inr, List, [], ◌∷◌, ◌++◌, Bool, true, false, ◌&&◌, IsTrue, cond, ◌↔◌}
+use Rattle.std.proofs.Common.{◌≡◌, ℕ, refl, sym, ◌∙◌, ◌⊎◌, inl, inr, List, ◌++◌, Bool, true, false, IsTrue, cond, ◌↔◌}
 use Rattle.trs_defs.specs.Tree.{Tree, Trees, var, app, nil, cons}
 use Rattle.trs_defs.specs.Member.{In, in_first, in_rest}
 use Rattle.trs_defs.specs.System.{RewriteRule, System, IsSystem, Among}
 use Rattle.trs_defs.specs.Subterm.{Sub, itself, under, Subs, in_head, in_tail}
-use Rattle.trs_defs.specs.Marked.{Marked, plain, mark}
+use Rattle.trs_defs.specs.Marked.{Marked, mark}
 use Rattle.trs_defs.specs.DependencyPair.{DependencyPair, IsDefined, is_defined}
-use Rattle.trs_defs.specs.Chain.{ChainStep}
-use Rattle.trs_defs.specs.Moves.{IsOrdered, IsWellFounded, MovesAtMost}
+use Rattle.trs_defs.specs.Moves.{IsOrdered, IsWellFounded}
 use Rattle.trs_defs.specs.ReductionPair.{AllTerms}
 use Rattle.trs_defs.specs.PairProblem.{PairAmong, IsFiniteProblem, IsPair}
 use Rattle.trs_defs.specs.UsableRules.{IsUsable, in_pair, in_rule, HasUsable, root_in, choices}
 use Rattle.trs_defs.specs.LinearInterpretation.{LinearWeak, LinearStrict, CoefficientWeak, CoefficientStrict}
 use Rattle.order_theory.proofs.Linear.{linear_well_founded}
 use Rattle.order_theory.proofs.Coefficients.{weak_by_coefficients, strict_by_coefficients}
-use Rattle.pair_theory.proofs.Members.{no_in, in_or, in_left, in_right, in_either}
-use Rattle.pair_theory.proofs.Terms.{below_root, subs_of_has, has_of_subs, var_in_var}
+use Rattle.pair_theory.proofs.Members.{in_left, in_right, in_either}
+use Rattle.pair_theory.proofs.Terms.{below_root, subs_of_has, has_of_subs}
 use Rattle.pair_theory.proofs.PairList.{defined_true, true_defined}
 use Rattle.pair_theory.proofs.Systems.{left_rooted, no_new_variables}
 use Rattle.pair_theory.proofs.Problems.{Ready, chain_ready, fewer, Parted, parted, mark_rules, marked_in, each_mark}
-use Rattle.pair_theory.proofs.Termination.{decide_defined}
 use Rattle.usable_theory.proofs.Usable.{Free, FreeEach, usable_removal}
 
 bool_cases : {P : Type 0} (b : Bool) → (b ≡ true → P) → (b ≡ false → P) → P
@@ -122,11 +120,13 @@ module _ (system : System) (ok : IsSystem system) (pairs stays : List Dependency
   usable_rule : (f : ℕ) (ls : Trees) (r : Tree) → Rule (app f ls) r → hidden f ≡ false → Among weaks (app f ls) r × Free 8191 hidden system.rules fine r
   unfolding weaks
   usable_rule f ls r i e =
-      let used : usable f ≡ true = inside_use (is_defined system.rules f) (usable f) (defined_true system.rules f (ls, r, i)) e in
-      (in_right choices (in_left (mark_rules pairs_parted.ones) (elim (rules_parted.covers _ i) [
-        | inl j ↦ j
-        | inr j ↦ absurd (let not : usable f ≡ false = (rules_parted.each_other _ j).1 in let clash : true ≡ false = sym used ∙ not in cc)
-      ])), free_of r (λ g us p. shown g (λ d. has.of_rules f g ls us r used i p d)))
+      let used : usable f ≡ true = inside_use (is_defined system.rules f) (usable f) (defined_true system.rules f (ls, r, i)) e in (
+        in_right choices (in_left (mark_rules pairs_parted.ones) (elim (rules_parted.covers _ i) [
+          | inl j ↦ j
+          | inr j ↦ absurd (let not : usable f ≡ false = (rules_parted.each_other _ j).1 in let clash : true ≡ false = sym used ∙ not in cc)
+        ])),
+        free_of r (λ g us p. shown g (λ d. has.of_rules f g ls us r used i p d)),
+      )
 
   stay_among : (l r : Marked) → PairAmong pairs_parted.ones l r → Among weaks (mark l) (mark r)
   unfolding weaks
@@ -151,9 +151,9 @@ module _ (system : System) (ok : IsSystem system) (pairs stays : List Dependency
     | inl j ↦ record { left_spoken = tt; right_spoken = tt; ordered = chooses p j; variables = choice_vars p j }
     | inr j ↦ elim (in_either rules_parted.ones (mark_rules pairs_parted.ones) j) [
       | inl k ↦ let h : In p system.rules × Used p = rules_parted.each_one p k in
-        record { left_spoken = tt; right_spoken = tt; ordered = falls p h.0 h.1; variables = fine p h.0 }
+          record { left_spoken = tt; right_spoken = tt; ordered = falls p h.0 h.1; variables = fine p h.0 }
       | inr k ↦ each_mark (IsOrdered AllTerms weak) pairs_parted.ones
-        (λ q m. let h : In q pairs × StaysWeak q = pairs_parted.each_one q m in pair_ordered weak q h.0 h.1.1) p k
+          (λ q m. let h : In q pairs × StaysWeak q = pairs_parted.each_one q m in pair_ordered weak q h.0 h.1.1) p k
     ]
   ]
 

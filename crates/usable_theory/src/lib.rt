@@ -40,12 +40,15 @@ pub fn remove_by_usable_rules<O: ReductionOrder>(order: &O)
 
 /// The same by a linear interpretation, whose coefficients are compared.
 pub fn remove_by_usable_interpretation()
-    ensures finite { (system : System) (pairs stays : List DependencyPair) (usable : ℕ → Bool) (c : ℕ → ℕ → ℕ) →
+    ensures finite { (system : System) (pairs stays : List DependencyPair)
+        (usable : ℕ → Bool) (c : ℕ → ℕ → ℕ) →
         IsSystem system → ((p : DependencyPair) → In p pairs → IsPair system.arities p) →
         HasUsable system.rules pairs usable →
-        ((r : RewriteRule) → In r system.rules → IsTrue (root_in usable r.left) → CoefficientWeak c r.left r.right) →
+        ((r : RewriteRule) → In r system.rules → IsTrue (root_in usable r.left) →
+        CoefficientWeak c r.left r.right) →
         ((r : RewriteRule) → In r choices → CoefficientWeak c r.left r.right) →
         ((p : DependencyPair) → In p pairs →
-        (In p stays × CoefficientWeak c (mark p.from) (mark p.to)) ⊎ CoefficientStrict c (mark p.from) (mark p.to)) →
+        (In p stays × CoefficientWeak c (mark p.from) (mark p.to))
+        ⊎ CoefficientStrict c (mark p.from) (mark p.to)) →
         IsFiniteProblem system stays → IsFiniteProblem system pairs }
 {}

@@ -1,11 +1,11 @@
 use Rattle.std.proofs.Common.{◌≡◌, find, not, drop}
 use Rattle.std.specs.Ordering.{nat_cmp}
 use Rattle.std.specs.BTreeSet.{contains}
-use Rattle.trs_core.specs.Occurrences.{variables_of, variables_of_all}
+use Rattle.trs_core.specs.Occurrences.{occurring_in, occurring_in_all}
 use Rattle.trs_core.specs.View.{tree, forest}
 use Rattle.trs_core.proofs.extra.+first_unknown.Given as goal
 
 abbrev pub invariant-loop-arg : goal.invariant-loop-arg
 invariant-loop-arg l =
-    find (λ v. not (contains nat_cmp l.known v)) (variables_of_all (forest (drop l.arg-index l.arg-items)))
-    ≡ find (λ v. not (contains nat_cmp l.known v)) (variables_of (tree l.t))
+    find (λ v. not (contains nat_cmp l.known v)) (occurring_in_all (forest (drop l.arg-index l.arg-items)))
+    ≡ find (λ v. not (contains nat_cmp l.known v)) (occurring_in (tree l.t))

@@ -4,7 +4,6 @@ use Rattle.trs_core.specs.Valid.{IsValid}
 use Rattle.ari_text.proofs.NamedSteps.{is_named, fault_of_rules, fails_by}
 use Rattle.ari_text.proofs.named.NamedTrs.new.Goals as goal
 
-
 pub returns-in-Some-clause-exact : goal.returns-in-Some-clause-exact
 returns-in-Some-clause-exact c =
     let l : length (map (λ n. n.items) c.args.names.items) ≡ length c.args.trs.arities =

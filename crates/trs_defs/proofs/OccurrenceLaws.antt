@@ -1,0 +1,29 @@
+-- How often variables occur.
+use Rattle.std.specs.Prelude.{◌≡◌, ◌≤◌, ◌↔◌, ℕ, Bool, true, false, ◌||◌, IsTrue, refl}
+use Rattle.std.proofs.Common.{arith}
+use Rattle.trs_defs.specs.Tree.{Tree, Trees, var, app, nil, cons}
+use Rattle.trs_defs.specs.Variable.{has_var, some_has_var, occurrences, occurrences_in_all, IsLinear}
+
+neither : (a b : Bool) → (a || b) ≡ false → (a ≡ false) × (b ≡ false)
+neither true b e = absurd cc
+neither false b e = (refl, e)
+
+mutual
+  -- a variable that a term lacks does not occur in it
+  pub no_occurrence : (v : ℕ) (t : Tree) → has_var v t ≡ false → occurrences v t ≡ 0
+  no_occurrence v (var n) e = rw e refl
+  no_occurrence v (app f ts) e = no_occurrence_in_all v ts e
+
+  pub no_occurrence_in_all : (v : ℕ) (ts : Trees) → some_has_var v ts ≡ false → occurrences_in_all v ts ≡ 0
+  no_occurrence_in_all v nil e = refl
+  no_occurrence_in_all v (cons t ts) e =
+      let none = neither (has_var v t) (some_has_var v ts) e in
+      omega (arith, no_occurrence v t none.0, no_occurrence_in_all v ts none.1)
+
+-- a term is linear where each variable that it has occurs at most once
+pub linear_by_variables : (t : Tree) → ((v : ℕ) → IsTrue (has_var v t) → occurrences v t ≤ 1) ↔ IsLinear t
+linear_by_variables t = (λ h v. go v (has_var v t) refl h, λ h v _. h v)
+  where
+    go : (v : ℕ) (b : Bool) → has_var v t ≡ b → ((v : ℕ) → IsTrue (has_var v t) → occurrences v t ≤ 1) → occurrences v t ≤ 1
+    go v true e h = h v e
+    go v false e h = omega (arith, no_occurrence v t e)
