@@ -1,6 +1,6 @@
 -- A problem text and a certificate text have one answer.
 use Rattle.std.proofs.Common.{◌≡◌, ◌≢◌, ◌⊎◌, inl, inr, ℕ, List, refl, sym, ap, subst, ◌∙◌}
-use Rattle.trs_defs.specs.System.{System, IsSystem}
+use Rattle.trs_defs.specs.System.{IsSystem}
 use Rattle.ari_text.specs.Named.{NamedSystem, IsNamed}
 use Rattle.ari_text.specs.Problem as problem_text
 use Rattle.ari_text.specs.declared.fault.AriFault.{AriFault}

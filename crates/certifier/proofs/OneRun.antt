@@ -1,10 +1,9 @@
 -- The steps of a proof lead to one answer.
-use Rattle.std.proofs.Common.{◌≡◌, ◌≢◌, ◌⊎◌, inl, inr, ℕ, zero, suc, ◌<◌, ◌≤◌, Bool, true, false, nat_lt, List, [], ◌∷◌, Some, None, take, slice_get, refl, sym, ap, subst, ◌∙◌, arith}
+use Rattle.std.proofs.Common.{◌≡◌, ◌≢◌, ◌⊎◌, inl, inr, ℕ, zero, suc, ◌<◌, Bool, true, false, nat_lt, List, [], ◌∷◌, Some, take, slice_get, refl, sym, ap, subst, ◌∙◌, arith}
 use Rattle.std.proofs.lemmas.Bool.{ltb-true, ltb-false}
 use Rattle.trs_defs.specs.System.{System, IsSystem}
-use Rattle.rewrite_core.specs.declared.refusals.StepRefused.{StepRefused}
 use Rattle.cert_step.specs.declared.claim.Claim.{Claim}
-use Rattle.cert_step.specs.ProofProblem.{ProofProblem, root_of}
+use Rattle.cert_step.specs.ProofProblem.{ProofProblem}
 use Rattle.cert_step.specs.ProofStep.{StepAt}
 use Rattle.cert_step.specs.Applies.{Applies}
 use Rattle.cert_step.specs.Refused.{IsRefused}
@@ -12,7 +11,7 @@ use Rattle.cert_step.proofs.Once.{applies_once, not_both}
 use Rattle.cert_step.proofs.Refusals.{refused_once}
 use Rattle.certifier.specs.declared.rejected.Rejected.{Rejected}
 use Rattle.certifier.specs.declared.rejected.Rejected.TheVariants.{Problem, Text, Version, Headline, NoNode, Decided, Step, Open, OutOfMemory}
-use Rattle.certifier.specs.Nodes.{Node, open_node, nodes_after, Makes, AreDecided, first_nodes, IsAccepted, IsLeftOpen}
+use Rattle.certifier.specs.Nodes.{Node, open_node, nodes_after, Makes, first_nodes, IsAccepted, IsLeftOpen}
 use Rattle.certifier.specs.Checked.{IsStuck, AreRejected}
 use Rattle.certifier.proofs.Soundness.{same_problem}
 
