@@ -1,6 +1,6 @@
 -- What the answers rest on.
-use Rattle.std.proofs.Common.{◌≡◌, ◌≢◌, ◌≤◌, ◌<◌, ◌+◌, ◌-◌, ◌^◌, ◌⊎◌, inl, inr, ℕ, List, [], ◌∷◌, length, min, Option, Some, None, IfSome, refl, sym, ap, subst, ◌∙◌, arith, zero, suc, Bor}
-use Rattle.io_edge.specs.Edge.{Rose, RoseBy, CountsRise, next_count, count_after}
+use Rattle.std.proofs.Common.{◌≡◌, ◌≢◌, ◌≤◌, ◌<◌, ◌⊎◌, inl, inr, ℕ, List, [], ◌∷◌, length, Option, Some, None, IfSome, refl, sym, subst, ◌∙◌, arith, zero, suc}
+use Rattle.io_edge.specs.Edge.{RoseBy}
 use Rattle.ari_text.specs.Named.{NamedSystem}
 use Rattle.ari_text.specs.Problem.{IsRefused}
 use Rattle.ari_text.specs.declared.fault.AriFault.{AriFault}
@@ -10,14 +10,13 @@ use Rattle.certifier.specs.declared.rejected.Rejected.{Rejected}
 use Rattle.certifier.specs.declared.rejected.Rejected.TheVariants as why
 use Rattle.certifier.specs.Acceptance.{IsAcceptance, IsRejection}
 use Rattle.certifier.specs.OneAnswer.{NotBoth, RejectedOnce}
-use Rattle.command_line.specs.Request.{Asked, certifies, request_of}
+use Rattle.command_line.specs.Request.{certifies, request_of}
 use Rattle.trsprove.specs.declared.answer.Answer.{Answer}
 use Rattle.trsprove.specs.declared.answer.Answer.TheVariants as answer
 use Rattle.trsprove.specs.declared.status.Status.{Status}
 use Rattle.trsprove.specs.declared.status.Status.TheVariants as status
-use Rattle.trsprove.specs.Lines.{rejected_line}
 use Rattle.trsprove.specs.Output.{Output, usage, too_long, refused, rejected, accepted, Told, MayBe, AreFetched, IsTooLong, IsNeeded, IsOr, most_bytes}
-use Rattle.trsprove.specs.Answers.{HasCause, IsAccepted, IsDecision, IsTrueClaim, IsRejectedLine, status_of}
+use Rattle.trsprove.specs.Answers.{HasCause, IsDecision, status_of}
 
 -- a text that a shelf may have under a name, longer than a limit
 long_list : (n : ℕ) → (t : List ℕ) × (n < length t)

@@ -1,2 +1,3 @@
 pub mod Putting
 pub mod Answering
+pub mod Running

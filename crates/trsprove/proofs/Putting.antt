@@ -1,10 +1,10 @@
 -- Texts that are put one behind the other.
-use Rattle.std.proofs.Common.{◌≡◌, ◌<◌, ◌≤◌, ◌+◌, ◌-◌, ◌^◌, ℕ, List, [], ◌∷◌, ◌++◌, length, take, Option, Some, None, Result, Ok, Err, OnOk, OnErr, decimal, subst, refl, sym, ap, ◌∙◌, arith, min, append_assoc}
+use Rattle.std.proofs.Common.{◌≡◌, ◌≤◌, ◌+◌, ℕ, List, [], ◌∷◌, ◌++◌, length, take, Option, Some, None, Result, Ok, Err, OnOk, OnErr, decimal, subst, sym, ap, ◌∙◌, arith, append_assoc}
 use native.Mathlib.Decide.{dec_le}
 use Rattle.std.proofs.Math.Nat.{lt_of_not-le}
 use Rattle.std.proofs.lemmas.List.{take-append-le, take_all}
 use Rattle.std.proofs.Math.Seq.{take-append_seam, take-append-add}
-use Rattle.io_edge.specs.Edge.{Rose, AppendsTo, AppendsPrefix, next_count}
+use Rattle.io_edge.specs.Edge.{Rose, AppendsTo, AppendsPrefix}
 use Rattle.trsprove.specs.Puts.{Puts}
 use Rattle.trsprove.specs.Numbers.{fields_text}
 

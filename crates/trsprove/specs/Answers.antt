@@ -16,7 +16,7 @@ use Rattle.trsprove.specs.declared.answer.Answer.TheVariants as answer
 use Rattle.trsprove.specs.declared.status.Status.{Status}
 use Rattle.trsprove.specs.declared.status.Status.TheVariants as status
 use Rattle.trsprove.specs.Lines.{usage_line, accepted_line, rejected_line, refused_line, read_fault_line, too_long_line}
-use Rattle.trsprove.specs.Output.{Output, AreFetched, IsTooLong, IsNeeded, IsOr}
+use Rattle.trsprove.specs.Output.{Output, AreFetched, IsTooLong, IsNeeded}
 
 abbrev pub status_of : Answer → Status
 status_of (answer.Accepted claim) = status.Answered

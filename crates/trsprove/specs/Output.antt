@@ -10,7 +10,7 @@ use Rattle.cert_step.specs.ProofProblem.{Says}
 use Rattle.certifier.specs.declared.rejected.Rejected.{Rejected}
 use Rattle.certifier.specs.declared.rejected.Rejected.TheVariants as why
 use Rattle.certifier.specs.Acceptance.{IsAcceptance, IsRejection}
-use Rattle.command_line.specs.Request.{Asked, certifies, request_of}
+use Rattle.command_line.specs.Request.{certifies, request_of}
 use Rattle.trsprove.specs.declared.status.Status.{Status}
 use Rattle.trsprove.specs.declared.status.Status.TheVariants as status
 use Rattle.trsprove.specs.Lines.{usage_line, accepted_line, rejected_line, refused_line, too_long_line, read_fault_line}
