@@ -110,7 +110,7 @@ symbol_word (b ∷ bs) e = all_letters (b ∷ bs) e
 
 -- ---- names
 
-pub equal_names : (m n : List ℕ) → bytes_eq m n ≡ true → m ≡ n
+equal_names : (m n : List ℕ) → bytes_eq m n ≡ true → m ≡ n
 equal_names m n e = (bytes_eq-Decides m n).0 e
 
 leading : (k : ℕ) (bs : List ℕ) → k ≤ leading_underscores (replicate k 95 ++ bs)
