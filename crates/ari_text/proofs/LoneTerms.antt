@@ -1,16 +1,16 @@
 -- What is read as a single term is well-formed.
-use Rattle.std.proofs.Common.{◌≡◌, ℕ, suc, ◌+◌, ◌==◌, ◌&&◌, Bool, true, false, cond, List, ◌∷◌, length, Option, Some, None, slice_get, Vec, Global, refl, sym, ap, ◌∙◌, arith}
+use Rattle.std.proofs.Common.{◌≡◌, ℕ, ◌&&◌, true, List, ◌∷◌, length, Option, Some, None, Vec, Global, refl, sym, ap, ◌∙◌, arith}
 use Rattle.std.proofs.lemmas.Bool.{eqb-true, and_parts}
 use Rattle.sexp_core.specs.Items.{Item, a_word, a_list, Items, no_items, item, view, views}
 use Rattle.sexp_core.specs.declared.sexp.Sexp.{Sexp, List as list_of, Word as word_of}
 use Rattle.sexp_core.proofs.Viewing.{view_list, view_word}
-use Rattle.trs_defs.specs.Tree.{Tree, Trees, app, nil, count}
+use Rattle.trs_defs.specs.Tree.{Trees, count}
 use Rattle.trs_defs.specs.WellFormed.{IsWellFormed, AreWellFormed}
 use Rattle.ari_text.specs.Names.{number_among}
 use Rattle.ari_text.specs.Symbols.{Declared, paired, names_of, arities_of, arity_of}
-use Rattle.ari_text.specs.Terms.{variable, word_term, applied, term_of, list_term, terms_of}
+use Rattle.ari_text.specs.Terms.{variable, word_term, applied, term_of, terms_of}
 use Rattle.ari_text.specs.Faults.{count as count_of}
-use Rattle.ari_text.specs.ReadTerm.{stands_alone, takes, is_term, is_application, are_terms}
+use Rattle.ari_text.specs.ReadTerm.{stands_alone, takes, is_term, are_terms}
 use Rattle.ari_text.proofs.SymbolTables.{IsSymbol, is_symbol, no_symbol}
 use Rattle.ari_text.proofs.SymbolPairs.{names_paired, arities_paired}
 

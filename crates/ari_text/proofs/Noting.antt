@@ -1,5 +1,5 @@
 -- The least fault of two lists.
-use Rattle.std.proofs.Common.{◌≡◌, ◌∙◌, sym, Vec, Global, ◌⊎◌, inl, inr, ◌-◌, ◌^◌, ℕ, suc, ◌+◌, ◌<◌, ◌≤◌, min, ap, ap₂, length, List, [], ◌∷◌, ◌++◌, Option, Some, None, refl, arith, cond, true, false}
+use Rattle.std.proofs.Common.{◌≡◌, ◌∙◌, sym, Vec, Global, ◌⊎◌, inl, inr, ◌-◌, ◌^◌, ℕ, suc, ◌<◌, min, ap, ap₂, length, List, [], ◌∷◌, ◌++◌, Option, Some, None, refl, arith}
 use Rattle.std.proofs.lemmas.Bool.Decides.{nat_tests}
 use Rattle.sexp_core.specs.declared.sexp.Sexp.{Sexp, List as list_of, Word as word_of}
 use Rattle.sexp_core.proofs.Viewing.{view_list, view_word}

@@ -1,20 +1,20 @@
 -- What items say, and whether they have a fault, does not depend on their places.
-use Rattle.std.proofs.Common.{◌≡◌, ℕ, zero, suc, ◌+◌, ◌-◌, ◌||◌, Bool, true, false, cond, List, [], ◌∷◌, ◌++◌, length, codes, Option, Some, None, refl, ap, ap₂, sym, ◌∙◌, arith, nat_eq}
+use Rattle.std.proofs.Common.{◌≡◌, ℕ, zero, suc, ◌+◌, ◌||◌, Bool, true, false, cond, List, [], ◌∷◌, ◌++◌, length, codes, Option, Some, None, refl, ap, ap₂, sym, ◌∙◌, arith, nat_eq}
 use Rattle.std.specs.List.{list_any}
 use Rattle.std.specs.Str.{bytes_eq}
 use Rattle.std.proofs.lemmas.List.{length-append}
 use Rattle.sexp_core.specs.Items.{Item, a_word, a_list, Items, no_items, item}
 use Rattle.sexp_core.specs.Printed.{bare, placeless}
-use Rattle.trs_defs.specs.Tree.{Tree, Trees, cons}
+use Rattle.trs_defs.specs.Tree.{Tree, cons}
 use Rattle.trs_defs.specs.System.{RewriteRule}
 use Rattle.ari_text.specs.declared.fault.AriFault.{AriFault}
 use Rattle.ari_text.specs.declared.fault.AriFault.TheVariants as fault
 use Rattle.ari_text.specs.Names.{digits_value, number_among}
 use Rattle.ari_text.specs.Symbols.{Declared, arity_of, names_of}
 use Rattle.ari_text.specs.Entries.{Saying, declares, rewrites, attributed, says_nothing, place_of, declaration, three, begins_with_colon, ended, list_entry, entry_of}
-use Rattle.ari_text.specs.Terms.{variables_after, variables_behind, all_variables_after, term_of, list_term, terms_of, applied, rule_of, with_rule, rules_of, nodes_of, nodes_behind, nodes_of_all}
-use Rattle.ari_text.specs.Faults.{Scope, left_side, right_side, count, variable_faults, word_faults, head_faults, depth_faults, term_faults, list_faults, args_faults, lone_faults, left_faults, sides_faults, rule_faults, twice_faults, arity_faults, declaration_faults, symbols_after, symbols_of, Room, whole_room, room_after, passes, count_faults, all_declaration_faults, all_rule_faults, faults_of, nodes_left}
-use Rattle.ari_text.specs.Problem.{is_trs, format_list_fault, format_fault}
+use Rattle.ari_text.specs.Terms.{variables_after, all_variables_after, term_of, terms_of, applied, rule_of, with_rule, rules_of, nodes_of, nodes_of_all}
+use Rattle.ari_text.specs.Faults.{Scope, left_side, right_side, count, variable_faults, word_faults, head_faults, depth_faults, term_faults, args_faults, lone_faults, left_faults, sides_faults, rule_faults, twice_faults, arity_faults, declaration_faults, symbols_after, symbols_of, Room, whole_room, room_after, passes, count_faults, all_declaration_faults, all_rule_faults, faults_of}
+use Rattle.ari_text.specs.Problem.{is_trs, format_fault}
 
 -- ---- sayings
 
@@ -59,7 +59,7 @@ entry_bare (a_list xs p) = list_entry_bare xs
 -- ---- terms
 
 mutual
-  variables_bare : (symbols variables : List (List ℕ)) (x : Item) → variables_after symbols variables (bare x) ≡ variables_after symbols variables x
+  pub variables_bare : (symbols variables : List (List ℕ)) (x : Item) → variables_after symbols variables (bare x) ≡ variables_after symbols variables x
   variables_bare symbols variables (a_word w p) = refl
   variables_bare symbols variables (a_list no_items p) = refl
   variables_bare symbols variables (a_list (item h args) p) = all_variables_bare symbols variables args
@@ -71,7 +71,7 @@ mutual
       ∙ all_variables_bare symbols (variables_after symbols variables x) xs
 
 mutual
-  term_bare : (symbols variables : List (List ℕ)) (x : Item) → term_of symbols variables (bare x) ≡ term_of symbols variables x
+  pub term_bare : (symbols variables : List (List ℕ)) (x : Item) → term_of symbols variables (bare x) ≡ term_of symbols variables x
   term_bare symbols variables (a_word w p) = refl
   term_bare symbols variables (a_list no_items p) = refl
   term_bare symbols variables (a_list (item (a_list ys q) args) p) = refl
@@ -82,7 +82,7 @@ mutual
   terms_bare symbols variables (item x xs) = ap₂ cons (term_bare symbols variables x) (terms_bare symbols variables xs)
 
 mutual
-  nodes_bare : (x : Item) → nodes_of (bare x) ≡ nodes_of x
+  pub nodes_bare : (x : Item) → nodes_of (bare x) ≡ nodes_of x
   nodes_bare (a_word w p) = refl
   nodes_bare (a_list no_items p) = refl
   nodes_bare (a_list (item h args) p) = ap (λ n. 1 + n) (all_nodes_bare args)
@@ -96,7 +96,11 @@ count_bare no_items = refl
 count_bare (item x xs) = ap suc (count_bare xs)
 
 rule_bare : (symbols : List (List ℕ)) (left right : Item) → rule_of symbols (bare left) (bare right) ≡ rule_of symbols left right
-rule_bare symbols left right = rw (variables_bare symbols [] left, term_bare, term_bare) refl
+rule_bare symbols left right =
+    let both : Tree → Tree → RewriteRule = λ x y. record { left = x; right = y } in
+    ap₂ both
+    (ap (λ vs. term_of symbols vs (bare left)) (variables_bare symbols [] left) ∙ term_bare symbols (variables_after symbols [] left) left)
+    (ap (λ vs. term_of symbols vs (bare right)) (variables_bare symbols [] left) ∙ term_bare symbols (variables_after symbols [] left) right)
 
 with_rule_bare : (symbols : List (List ℕ)) (s : Saying) (rules : List RewriteRule) → with_rule symbols (bare_saying s) rules ≡ with_rule symbols s rules
 with_rule_bare symbols (declares name q arity r) rules = refl

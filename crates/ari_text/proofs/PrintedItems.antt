@@ -1,29 +1,26 @@
 -- Printed symbols and rules, and what is read of them.
-use Rattle.std.proofs.Common.{◌≡◌, ℕ, zero, suc, ◌+◌, ◌-◌, ◌^◌, ◌<◌, ◌≤◌, max, Bool, true, false, cond, not, ◌||◌, ◌&&◌, List, [], ◌∷◌, ◌++◌, length, map, get_or, All, Option, Some, None, IsTrue, slice_get, codes, decimal, nat_eq, nat_le, refl, ap, ap₂, sym, ◌∙◌, append_assoc, arith, eq-eqb, is_some}
+use Rattle.std.proofs.Common.{◌≡◌, ℕ, suc, ◌+◌, ◌-◌, ◌^◌, ◌<◌, ◌≤◌, true, false, not, ◌||◌, List, [], ◌∷◌, ◌++◌, length, get_or, Option, Some, None, slice_get, codes, decimal, nat_le, refl, ap, ap₂, sym, ◌∙◌, append_assoc, arith, is_some}
 use Rattle.std.specs.List.{list_any, list_all, AllByRecursion}
 use Rattle.std.specs.Str.{bytes_eq}
 use Rattle.std.proofs.lemmas.Bool.{ne_eqb, le-leb, leb-true, and_parts, or_parts, or_from, not-true}
 use Rattle.std.proofs.lemmas.Cmp.{nat_list_eq_equiv}
 use Rattle.std.proofs.lemmas.List.{append-nil, map-append}
-use Rattle.std.proofs.lemmas.List.Elements.{All-head}
 use Rattle.std.proofs.lemmas.List.Folds.{list_any-append}
-use Rattle.sexp_core.specs.Tokens.{class_of, is_letter}
-use Rattle.sexp_core.specs.Items.{Item, a_word, a_list, Items, no_items, item}
-use Rattle.sexp_core.specs.Printed.{IsWord, HasWords, AreWords, depth_of as depth_of_item, nesting, bare, placeless}
-use Rattle.trs_defs.specs.Tree.{Tree, Trees, var, app, nil, cons, count as count_trees}
+use Rattle.sexp_core.specs.Tokens.{class_of}
+use Rattle.sexp_core.specs.Items.{a_word, a_list, Items, item}
+use Rattle.sexp_core.specs.Printed.{AreWords, nesting, bare, placeless}
+use Rattle.trs_defs.specs.Tree.{Tree, Trees, var, app, nil, cons}
 use Rattle.trs_defs.specs.Size.{size_of, depth_of}
-use Rattle.trs_defs.specs.Variable.{has_var}
 use Rattle.trs_defs.specs.WellFormed.{IsWellFormed}
 use Rattle.trs_defs.specs.System.{RewriteRule, IsRule}
 use Rattle.trs_core.specs.SystemLimits.{HasSmallVariables, HaveSmallVariables, nodes_of as nodes_of_rules}
-use Rattle.ari_text.specs.declared.fault.AriFault.{AriFault}
-use Rattle.ari_text.specs.Names.{number_among, are_distinct, digits_value}
+use Rattle.ari_text.specs.Names.{are_distinct, digits_value}
 use Rattle.ari_text.specs.Symbols.{Declared, paired, names_of, arities_of, arity_of}
 use Rattle.ari_text.specs.Named.{is_word, is_shallow, is_numbered, next_number}
 use Rattle.ari_text.specs.Terms.{variables_after, term_of, rule_of, rules_of, nodes_of}
-use Rattle.ari_text.specs.Faults.{Scope, left_side, right_side, variable_faults, term_faults, lone_faults, left_faults, sides_faults, Room, passes, all_declaration_faults, all_rule_faults, with_symbol, symbols_of}
+use Rattle.ari_text.specs.Faults.{left_side, right_side, term_faults, left_faults, sides_faults, all_declaration_faults, all_rule_faults, with_symbol, symbols_of}
 use Rattle.ari_text.specs.VariableNames.{variable_name}
-use Rattle.ari_text.specs.PrintedProblem.{applied_item, term_item, term_items, three_members, rule_items, symbol_items, format_item}
+use Rattle.ari_text.specs.PrintedProblem.{term_item, term_items, three_members, rule_items, symbol_items}
 use Rattle.ari_text.proofs.PrintedNames.{arity_read, decimal_word, symbol_word, present, variables_to, variable_number}
 use Rattle.ari_text.proofs.PrintedTerms.{FitNames, IsBelow, below_from, numbered_below, variables_read, term_read, term_faultless, symbol_arity, term_words, term_nodes, term_nesting}
 
@@ -245,7 +242,7 @@ module _ (more : Items) where
 -- ---- places
 
 mutual
-  term_placeless : (k : ℕ) (names : List (List ℕ)) (t : Tree) → bare (term_item k names t) ≡ term_item k names t
+  pub term_placeless : (k : ℕ) (names : List (List ℕ)) (t : Tree) → bare (term_item k names t) ≡ term_item k names t
   term_placeless k names (var n) = refl
   term_placeless k names (app f nil) = refl
   term_placeless k names (app f (cons t ts)) = ap (λ xs. a_list (item (a_word (get_or names f []) 0) xs) 0) (terms_placeless k names (cons t ts))

@@ -1,5 +1,5 @@
 -- The names of symbols and of variables in a printed problem.
-use Rattle.std.proofs.Common.{◌≡◌, ℕ, zero, suc, ◌+◌, ◌-◌, ◌*◌, ◌^◌, ◌<◌, ◌≤◌, max, Bool, true, false, cond, not, ◌||◌, ◌&&◌, List, [], ◌∷◌, ◌++◌, length, get_or, replicate, Option, Some, None, option_map, slice_get, decimal, nat_eq, nat_le, refl, ap, sym, ◌∙◌, subst, ⊎_elim, inl, inr, arith, rules, eq-eqb}
+use Rattle.std.proofs.Common.{◌≡◌, ℕ, zero, suc, ◌+◌, ◌-◌, ◌*◌, ◌^◌, ◌<◌, ◌≤◌, Bool, true, false, cond, not, ◌||◌, List, [], ◌∷◌, ◌++◌, length, get_or, replicate, Option, Some, None, option_map, slice_get, decimal, nat_le, refl, ap, ◌∙◌, ⊎_elim, arith, rules}
 use Rattle.std.specs.List.{list_any, list_all, AllByRecursion}
 use Rattle.std.specs.Option.{option_or, option_and_then}
 use Rattle.std.specs.Char.{is_ascii_digit}
@@ -13,8 +13,8 @@ use Rattle.std.proofs.lemmas.Slice.Eq.{bytes_eq-Decides}
 use Rattle.std.proofs.lemmas.Str.Parse.{IsNumeralModel, numerals_by_fold, tells_all_ascii_digits}
 use Rattle.sexp_core.specs.Tokens.{class_of, is_letter}
 use Rattle.sexp_core.specs.Printed.{IsWord}
-use Rattle.ari_text.specs.Names.{number_among, with_name, are_distinct, digits_behind, digits_value}
-use Rattle.ari_text.specs.Symbols.{Declared, paired, arity_of}
+use Rattle.ari_text.specs.Names.{number_among, are_distinct, digits_behind, digits_value}
+use Rattle.ari_text.specs.Symbols.{paired, arity_of}
 use Rattle.ari_text.specs.Named.{is_word}
 use Rattle.ari_text.specs.VariableNames.{leading_underscores, underscores, variable_name}
 
@@ -110,7 +110,7 @@ symbol_word (b ∷ bs) e = all_letters (b ∷ bs) e
 
 -- ---- names
 
-equal_names : (m n : List ℕ) → bytes_eq m n ≡ true → m ≡ n
+pub equal_names : (m n : List ℕ) → bytes_eq m n ≡ true → m ≡ n
 equal_names m n e = (bytes_eq-Decides m n).0 e
 
 leading : (k : ℕ) (bs : List ℕ) → k ≤ leading_underscores (replicate k 95 ++ bs)

@@ -1,25 +1,21 @@
 -- Printed terms, and what is read of them.
-use Rattle.std.proofs.Common.{◌≡◌, ℕ, zero, suc, ◌+◌, ◌-◌, ◌^◌, ◌<◌, ◌≤◌, max, Bool, true, false, cond, ◌||◌, ◌&&◌, List, [], ◌∷◌, ◌++◌, length, get_or, Option, Some, None, IsTrue, slice_get, nat_eq, nat_lt, nat_le, refl, ap, ap₂, sym, ◌∙◌, subst, ◌⊎◌, ⊎_elim, inl, inr, arith, eq-eqb, is_some}
-use Rattle.std.specs.List.{list_any, list_all}
+use Rattle.std.proofs.Common.{◌≡◌, ℕ, zero, suc, ◌+◌, ◌-◌, ◌^◌, ◌<◌, ◌≤◌, Bool, true, false, cond, List, [], ◌∷◌, ◌++◌, length, get_or, Option, Some, None, IsTrue, slice_get, nat_eq, nat_lt, refl, ap, ap₂, ◌∙◌, ◌⊎◌, ⊎_elim, inl, inr, arith, eq-eqb}
+use Rattle.std.specs.List.{list_all}
 use Rattle.std.specs.Option.{option_and_then}
-use Rattle.std.specs.Str.{bytes_eq}
 use Rattle.std.proofs.lemmas.Bool.{ne_eqb, eqb-true, ltb-true, or_left, or_right, or_cases, and_parts}
 use Rattle.std.proofs.lemmas.Option.{slice_get_within}
-use Rattle.sexp_core.specs.Items.{Item, a_word, a_list, Items, no_items, item}
 use Rattle.sexp_core.specs.Printed.{IsWord, HasWords, AreWords, depth_of as depth_of_item, nesting}
 use Rattle.trs_defs.specs.Tree.{Tree, Trees, var, app, nil, cons, count as count_trees}
 use Rattle.trs_defs.specs.Size.{size_of, size_of_all, depth_of, depth_of_all}
 use Rattle.trs_defs.specs.Variable.{has_var, some_has_var}
 use Rattle.trs_defs.specs.WellFormed.{IsWellFormed, AreWellFormed}
-use Rattle.ari_text.specs.declared.fault.AriFault.{AriFault}
-use Rattle.ari_text.specs.declared.fault.AriFault.TheVariants as fault
 use Rattle.ari_text.specs.Names.{number_among, with_name, are_distinct}
-use Rattle.ari_text.specs.Symbols.{Declared, paired, arity_of}
+use Rattle.ari_text.specs.Symbols.{paired, arity_of}
 use Rattle.ari_text.specs.Named.{is_word, next_number, next_number_behind}
-use Rattle.ari_text.specs.Terms.{with_variable, variables_after, all_variables_after, word_term, variable, applied, term_of, terms_of, nodes_of, nodes_of_all}
-use Rattle.ari_text.specs.Faults.{Scope, left_side, right_side, count, variable_faults, word_faults, head_faults, depth_faults, term_faults, args_faults}
+use Rattle.ari_text.specs.Terms.{variables_after, all_variables_after, term_of, terms_of, nodes_of, nodes_of_all}
+use Rattle.ari_text.specs.Faults.{Scope, count, variable_faults, depth_faults, term_faults, args_faults}
 use Rattle.ari_text.specs.VariableNames.{underscores, variable_name}
-use Rattle.ari_text.specs.PrintedProblem.{applied_item, term_item, term_items}
+use Rattle.ari_text.specs.PrintedProblem.{term_item, term_items}
 use Rattle.ari_text.proofs.NameKeys.{absent}
 use Rattle.ari_text.proofs.PrintedNames.{variable_word, symbol_word, no_symbol, present, symbol_number, arity_by_number, variables_to, later_variable, variable_number}
 
@@ -96,7 +92,7 @@ mutual
 -- ---- what a printed term is read as
 
 module _ (k : ℕ) (names : List (List ℕ)) (arities : List ℕ) (fit : FitNames k names arities) where
-  symbol_found : (f n : ℕ) → slice_get arities f ≡ Some n → number_among names (get_or names f []) ≡ Some f
+  pub symbol_found : (f n : ℕ) → slice_get arities f ≡ Some n → number_among names (get_or names f []) ≡ Some f
   symbol_found f n e = symbol_number names f fit.distinct (omega (arith, fit.counts, slice_get_within arities f n e))
 
   new_variable : (n m r : ℕ) → n < 2 ^ 64 → next_number m (var n) ≡ Some r → with_name (variables_to k m) (variable_name k n) ≡ variables_to k r

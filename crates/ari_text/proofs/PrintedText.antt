@@ -1,13 +1,12 @@
 -- Steps of printing.
-use Rattle.std.proofs.Common.{◌≡◌, ◌≢◌, ℕ, suc, ◌+◌, ◌<◌, ◌≤◌, max, List, [], ◌∷◌, ◌++◌, length, map, drop, get_or, Some, slice_get, codes, decimal, refl, ap, sym, ◌∙◌, append_assoc, arith, add-one, drop-cons}
+use Rattle.std.proofs.Common.{◌≡◌, ◌≢◌, ℕ, suc, ◌+◌, ◌<◌, ◌≤◌, max, List, [], ◌∷◌, ◌++◌, length, drop, get_or, Some, slice_get, codes, decimal, refl, ap, sym, ◌∙◌, append_assoc, arith, add-one, drop-cons}
 use Rattle.std.proofs.lemmas.List.{append-nil, drop_all}
 use Rattle.std.proofs.lemmas.Option.{slice_get_within, get_or_from_slice_get}
 use Rattle.sexp_core.specs.Items.{Item, a_word, Items, no_items, item}
 use Rattle.sexp_core.specs.Printed.{text_of, spaced, lines}
-use Rattle.trs_defs.specs.Tree.{Tree, app, trees}
 use Rattle.trs_defs.specs.System.{RewriteRule}
 use Rattle.trs_core.specs.declared.terms.Term.{Term}
-use Rattle.trs_core.specs.View.{tree, forest}
+use Rattle.trs_core.specs.View.{forest}
 use Rattle.ari_text.specs.VariableNames.{leading_underscores, underscores}
 use Rattle.ari_text.specs.PrintedProblem.{term_item, term_items, applied_item, three_members, symbol_items, rule_items, problem_items}
 use Rattle.ari_text.specs.Named.{NamedSystem}

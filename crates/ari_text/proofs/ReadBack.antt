@@ -1,6 +1,5 @@
 -- What is printed of a system with names is read as this system.
-use Rattle.std.proofs.Common.{◌≡◌, ℕ, ◌+◌, ◌<◌, ◌≤◌, max, List, [], ◌∷◌, ◌++◌, length, codes, Option, Some, None, refl, ap, ap₂, sym, ◌∙◌, arith}
-use Rattle.std.specs.Option.{option_or}
+use Rattle.std.proofs.Common.{◌≡◌, ℕ, ◌≤◌, List, [], ◌++◌, codes, Some, None, refl, ap, ap₂, sym, ◌∙◌, arith}
 use Rattle.sexp_core.specs.Tokens.{class_of}
 use Rattle.sexp_core.specs.Items.{Item, Items, no_items, item}
 use Rattle.sexp_core.specs.Reads.{Reads, fault_of}
@@ -8,10 +7,9 @@ use Rattle.sexp_core.specs.Printed.{lines, AreWords, nesting, bare, placeless}
 use Rattle.sexp_core.proofs.Once.{one_reading}
 use Rattle.sexp_core.proofs.Again.{read_again, reads_well}
 use Rattle.sexp_core.proofs.Existence.{is_readable}
-use Rattle.trs_defs.specs.System.{RewriteRule, System}
+use Rattle.trs_defs.specs.System.{RewriteRule}
 use Rattle.ari_text.specs.declared.fault.AriFault.{AriFault}
-use Rattle.ari_text.specs.Symbols.{Declared, paired, names_of, arities_of}
-use Rattle.ari_text.specs.Least.{noted}
+use Rattle.ari_text.specs.Symbols.{paired, names_of, arities_of}
 use Rattle.ari_text.specs.Terms.{rules_of}
 use Rattle.ari_text.specs.Faults.{whole_room, all_declaration_faults, all_rule_faults, symbols_of, faults_of}
 use Rattle.ari_text.specs.Named.{NamedSystem, IsNamed}

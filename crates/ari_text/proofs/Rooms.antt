@@ -1,5 +1,5 @@
 -- Room for nodes.
-use Rattle.std.proofs.Common.{◌≡◌, ℕ, ◌+◌, ◌-◌, ◌≤◌, nat_le, cond, true, false, List, [], ◌∷◌, Option, Some, None, refl, arith}
+use Rattle.std.proofs.Common.{◌≡◌, ℕ, ◌+◌, cond, [], ◌∷◌, Option, Some, None, refl, arith}
 use Rattle.std.proofs.lemmas.Bool.Decides.{nat_tests}
 use Rattle.ari_text.specs.declared.fault.AriFault.TheVariants.{TooMany}
 use Rattle.ari_text.specs.Entries.{Saying, declares, rewrites, attributed, says_nothing}

@@ -1,5 +1,5 @@
 -- Items that are too many.
-use Rattle.std.specs.Prelude.{ℕ, ◌+◌, ◌==◌, ◌||◌, Bool, false}
+use Rattle.std.specs.Prelude.{◌+◌, ◌==◌, ◌||◌, Bool, false}
 use Rattle.ari_text.specs.Entries.{Saying, declares, rewrites, attributed, says_nothing}
 use Rattle.ari_text.specs.Terms.{nodes_of}
 use Rattle.ari_text.specs.Faults.{Room, passes}

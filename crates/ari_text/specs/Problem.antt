@@ -1,11 +1,10 @@
 -- What a problem text says: the ARI format of the termination and confluence competitions, format TRS, in the profile
 -- of docs/PROBLEM-FORMAT.md.
-use Rattle.std.specs.Prelude.{◌≡◌, ℕ, Bool, true, false, List, [], ◌∷◌, Option, Some, None, codes, if◌then◌else◌}
+use Rattle.std.specs.Prelude.{◌≡◌, ℕ, Bool, false, List, [], Option, Some, None, codes, if◌then◌else◌}
 use Rattle.std.specs.Option.{option_or}
 use Rattle.std.specs.Str.{bytes_eq}
 use Rattle.sexp_core.specs.Items.{Item, a_word, a_list, Items, no_items, item}
 use Rattle.sexp_core.specs.Reads.{Reads, fault_of}
-use Rattle.trs_defs.specs.System.{System}
 use Rattle.ari_text.specs.declared.fault.AriFault.{AriFault}
 use Rattle.ari_text.specs.declared.fault.AriFault.TheVariants as fault
 use Rattle.ari_text.specs.Symbols.{names_of, arities_of}

@@ -24,14 +24,14 @@ pub use digits::digits_value;
 pub use entry::place;
 pub use fault::AriFault;
 pub use laws::least_is_least;
+pub use lone_term::read_term;
 pub use named::NamedTrs;
 pub use names_fault::NamesFault;
 pub use printing::{print_problem, put_term};
-pub use lone_term::read_term;
 pub use reading::read_problem;
 pub use variable_names::{put_variable, underscores};
 
 #[cfg(test)]
-mod reading_tests;
-#[cfg(test)]
 mod printing_tests;
+#[cfg(test)]
+mod reading_tests;

@@ -19,11 +19,7 @@ use trs_core::{OutOfMemory, Term};
 /// numbered in the order of their first occurrences. `None` exactly where the item is no term: a head is no symbol or has
 /// another number of arguments, a list is empty or has a list as its head, or the term is past the limits on terms
 /// (65,536 nodes, depth 1,024).
-pub fn read_term(
-    alloc: Global,
-    system: &NamedTrs,
-    item: &Sexp,
-) -> Result<Option<Term>, OutOfMemory>
+pub fn read_term(alloc: Global, system: &NamedTrs, item: &Sexp) -> Result<Option<Term>, OutOfMemory>
     ensures term { IfOk result (λ o. option_map tree o ≡ written_term system.now (view item.now)) }
     ensures well_formed { IfOk result (λ o. IfSome o (λ t. IsWellFormed system.now.system.arities (tree t))) }
     ensures limits { IfOk result (λ o. IfSome o (λ t. IsTrue (within_limits (tree t)))) }

@@ -50,7 +50,7 @@ impl NamedTrs {
     }
 
     /// The system of these parts.
-    pub fn from_parts(names: Names, trs: Trs) -> NamedTrs
+    pub(crate) fn from_parts(names: Names, trs: Trs) -> NamedTrs
         requires { IsNamed (record { names = names; system = trs }) }
         ensures { result ≡ record { names = names; system = trs } }
     {
@@ -58,7 +58,7 @@ impl NamedTrs {
     }
 
     /// The names of the symbols.
-    pub fn names(&self) -> &Names
+    pub(crate) fn names(&self) -> &Names
         ensures { result.now ≡ self.now.names }
     {
         &self.names
@@ -75,6 +75,7 @@ impl NamedTrs {
     pub fn symbols(&self) -> u32
         ensures symbols { result ≡ length self.now.system.arities }
         ensures names { result ≡ length self.now.names }
+        ensures named { IsNamed self.now }
     {
         self.trs.arities().len() as u32
     }

@@ -1,4 +1,5 @@
 ghost use Rattle.std.specs.Prelude.{◌≡◌, ◌≤◌, ◌++◌, length, OnOk};
+ghost use Rattle.ari_text.specs.Named.{IsNamed};
 ghost use Rattle.ari_text.specs.VariableNames.{leading_underscores, underscores, variable_name};
 
 use crate::named::NamedTrs;
@@ -8,7 +9,8 @@ use trs_core::OutOfMemory;
 /// How many underscores a variable's name begins with where a system is written: one more than the greatest number of
 /// those with which a symbol's name begins, or 1 where there is no symbol.
 pub fn underscores(system: &NamedTrs) -> usize
-    ensures { result ≡ underscores system.now.names }
+    ensures underscores { result ≡ underscores system.now.names }
+    ensures named { IsNamed system.now }
 {
     let mut most = 1;
     for f in 0..system.symbols() {

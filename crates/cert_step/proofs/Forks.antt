@@ -1,37 +1,25 @@
 -- What a check of a fork answers.
-use Rattle.std.specs.Prelude.{◌≡◌, ◌≢◌, ℕ, List, Ok, Err, IfOk, IfErr, Result, map, Vec, refl}
-use Rattle.std.proofs.Common.{zero, suc, sym}
+use Rattle.std.specs.Prelude.{◌≢◌, ℕ, List, refl}
 use Rattle.trs_defs.specs.Tree.{Tree}
 use Rattle.trs_defs.specs.NormalForm.{IsNormalForm}
 use Rattle.trs_defs.specs.Step.{Step}
-use Rattle.trs_defs.specs.System.{RewriteRule, System, IsSystem}
+use Rattle.trs_defs.specs.System.{RewriteRule}
 use Rattle.trs_defs.specs.Path.{PlacedRule, Follows}
-use Rattle.trs_core.specs.declared.terms.Term.{Term}
-use Rattle.trs_core.specs.View.{tree}
-use Rattle.trs_core.specs.Limits.{Gives}
 use Rattle.rewrite_core.specs.declared.paths.PathFault.{PathFault}
 use Rattle.rewrite_core.specs.declared.paths.PathFault.TheVariants as path
 use Rattle.rewrite_core.specs.declared.refusals.CheckFault.{CheckFault}
-use Rattle.rewrite_core.specs.declared.refusals.CheckFault.TheVariants.{Refused, OutOfMemory}
-use Rattle.rewrite_core.specs.Paths.{StopsAt, IsPathFault}
+use Rattle.rewrite_core.specs.Paths.{IsPathFault}
 use Rattle.rewrite_core.specs.PathRefusal.{path_refusal}
-use Rattle.rewrite_core.specs.LoopRefusal.{IsStopped, RefusedFor}
+use Rattle.rewrite_core.specs.LoopRefusal.{RefusedFor}
 use Rattle.cert_step.specs.Applies.{IsNormalFork}
-use Rattle.cert_step.specs.Refused.{ForkEnds, IsReducible, IsForkRefusal}
-use Rattle.cert_step.specs.Ends.{IsEndRefusal, stopped, no_memory, GivesEnd}
+use Rattle.cert_step.specs.Refused.{ForkEnds, IsForkRefusal}
+use Rattle.cert_step.specs.Ends.{IsEndRefusal, stopped, no_memory}
 
 -- a path that is not followed refuses the step
 pub end_refusal : (rules : List RewriteRule) (p : List PlacedRule) (start : Tree) (number : ℕ) (fault : PathFault)
     → IsPathFault rules p start fault → IsEndRefusal rules p start number (path_refusal 0 number fault)
 end_refusal rules p start number (path.At k cause) h = stopped k _ (record { cause = cause; stops = h; number = refl })
 end_refusal rules p start number path.OutOfMemory h = no_memory
-
-pub end_only : (number : ℕ) (fault : PathFault) (u : Tree) → Gives path.OutOfMemory (Err fault) (Ok u) → GivesEnd (Err (path_refusal 0 number fault)) u
-end_only number (path.At k cause) u h = let wrong = h (λ e. cc) in absurd cc
-end_only number path.OutOfMemory u h = refl
-
-pub end_given : (t : Term) (u : Tree) → Gives path.OutOfMemory (Ok t) (Ok u) → u ≡ tree t
-end_given t u h = cc
 
 module _ (rules : List RewriteRule) (start : Tree) (left right : List PlacedRule) where
   pub left_stopped : (fault : CheckFault) → IsEndRefusal rules left start 0 fault → RefusedFor (IsForkRefusal rules start left right) fault

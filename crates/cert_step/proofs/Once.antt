@@ -1,18 +1,18 @@
 -- A step has at most one answer.
-use Rattle.std.specs.Prelude.{◌≡◌, ℕ, List, [], true, false, refl}
-use Rattle.std.proofs.Common.{zero, suc, ap, sym, subst, ◌∙◌}
+use Rattle.std.specs.Prelude.{◌≡◌, ℕ, List}
+use Rattle.std.proofs.Common.{zero, suc, sym, subst, ◌∙◌}
 use Rattle.trs_defs.specs.Tree.{Tree}
 use Rattle.trs_defs.specs.NormalForm.{IsNormalForm}
 use Rattle.trs_defs.specs.Substitution.{IsInstance}
 use Rattle.trs_defs.specs.Step.{Step}
 use Rattle.trs_defs.specs.System.{System, IsSystem}
-use Rattle.trs_defs.specs.Path.{PlacedRule, Follows}
+use Rattle.trs_defs.specs.Path.{PlacedRule}
 use Rattle.trs_defs.specs.Loop.{IsLoop}
 use Rattle.trs_defs.proofs.Places.{follows_once}
 use Rattle.rewrite_core.specs.declared.forks.ForkTest.TheVariants.{Normal, Apart}
 use Rattle.rewrite_core.specs.declared.refusals.StepRefused.{StepRefused}
 use Rattle.rewrite_core.specs.declared.refusals.StepRefused.TheVariants.{Path, NoSteps, NoPlace, NotInstance, NotNormal, SameEnds}
-use Rattle.rewrite_core.specs.LoopRefusal.{IsStopped, IsLoopRefusal, HasNoPlace, HasNoInstance}
+use Rattle.rewrite_core.specs.LoopRefusal.{IsLoopRefusal}
 use Rattle.cert_step.specs.ProofProblem as problem
 use Rattle.cert_step.specs.ProofProblem.{ProofProblem}
 use Rattle.cert_step.specs.ProofStep as step

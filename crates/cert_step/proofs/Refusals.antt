@@ -1,9 +1,8 @@
 -- A step is refused for at most one reason.
 use Rattle.std.specs.Prelude.{◌≡◌, ◌≢◌, ℕ, List, [], Bool, true, false, refl}
-use Rattle.std.proofs.Common.{zero, suc, ap, sym, subst, ◌∙◌}
+use Rattle.std.proofs.Common.{zero, suc, sym, subst, ◌∙◌}
 use Rattle.trs_defs.specs.Tree.{Tree}
 use Rattle.trs_defs.specs.NormalForm.{IsNormalForm}
-use Rattle.trs_defs.specs.Substitution.{IsInstance}
 use Rattle.trs_defs.specs.Step.{Step}
 use Rattle.trs_defs.specs.System.{RewriteRule, System, IsSystem}
 use Rattle.trs_defs.specs.Path.{PlacedRule, Follows}

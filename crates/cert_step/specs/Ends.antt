@@ -5,7 +5,6 @@ use Rattle.trs_defs.specs.System.{RewriteRule}
 use Rattle.trs_defs.specs.Path.{PlacedRule}
 use Rattle.trs_core.specs.declared.terms.Term.{Term}
 use Rattle.trs_core.specs.View.{tree}
-use Rattle.rewrite_core.specs.declared.refusals.StepRefused.{StepRefused}
 use Rattle.rewrite_core.specs.declared.refusals.StepRefused.TheVariants.{Path}
 use Rattle.rewrite_core.specs.declared.refusals.CheckFault.{CheckFault}
 use Rattle.rewrite_core.specs.declared.refusals.CheckFault.TheVariants.{Refused, OutOfMemory}

@@ -1,9 +1,9 @@
 -- The least of several places.
-use Rattle.std.proofs.Common.{◌≡◌, ◌⊎◌, inl, inr, ℕ, ◌≤◌, Bool, true, false, cond, nat_lt, List, [], ◌∷◌, Option, Some, None, refl, arith}
+use Rattle.std.proofs.Common.{◌≡◌, ℕ, ◌≤◌, Bool, true, false, cond, nat_lt, List, [], ◌∷◌, Some, None, refl, arith}
 use Rattle.std.specs.List.{AllByRecursion}
 use Rattle.std.proofs.lemmas.Bool.{ltb-true, ltb-false}
 use Rattle.trs_defs.specs.Member.{In, in_first, in_rest}
-use Rattle.cert_text.specs.CertificateText.{lesser, least_place}
+use Rattle.cert_text.specs.CertificateText.{least_place}
 
 -- what holds of the least of a place and others
 abbrev IsLeast : List ℕ → Type 0

@@ -7,3 +7,13 @@ pub mod LeastPlaces
 pub mod OneCertificate
 pub mod WellMadeTerms
 pub mod WellMadeSteps
+pub mod PrintedNumbers
+pub mod RenumberedTerms
+pub mod BareItems
+pub mod PrintedPaths
+pub mod PrintedOwnTerms
+pub mod PrintedSteps
+pub mod PrintedWords
+pub mod NumberKeys
+pub mod PrintedAgain
+pub mod NumberRanges

@@ -1,5 +1,5 @@
 -- The steps of a certificate text with no faults are well-made, and their numbers are in range.
-use Rattle.std.proofs.Common.{◌≡◌, ℕ, ◌+◌, ◌<◌, ◌≤◌, ◌^◌, Bool, true, false, cond, List, [], ◌∷◌, ◌++◌, length, Option, Some, None, map, refl, arith}
+use Rattle.std.proofs.Common.{◌≡◌, ℕ, ◌≤◌, Bool, true, false, cond, List, [], ◌∷◌, ◌++◌, length, Option, Some, None, refl, arith}
 use Rattle.std.specs.Prelude.{◌==◌, codes, option_map}
 use Rattle.std.specs.List.{All, AllByRecursion}
 use Rattle.std.specs.Str.{bytes_eq}
@@ -11,8 +11,8 @@ use Rattle.cert_step.specs.ProofStep.{ProofStep, StepAt, IsWellMade}
 use Rattle.numerals.specs.Numerals.{numeral_value}
 use Rattle.cert_text.specs.declared.fault.CertFault.TheVariants.{Text, Version}
 use Rattle.cert_text.specs.ProofText.{ProofText}
-use Rattle.cert_text.specs.Written.{number_of, places_of, position_of, placed_rule_of, placed_rules_of, path_of, loop_of, fork_of, method_by, method_of, step_of_item, steps_of}
-use Rattle.cert_text.specs.TextFaults.{head_faults, claim_faults, numeral_faults, place_faults, places_faults, position_faults, placed_rule_faults, placed_rules_faults, path_faults, own_term_faults, test_faults, extra_faults, loop_faults, fork_faults, method_faults_by, method_faults, step_faults, steps_faults}
+use Rattle.cert_text.specs.Written.{number_of, places_of, position_of, placed_rule_of, placed_rules_of, path_of, loop_of, fork_of, method_of, step_of_item, steps_of}
+use Rattle.cert_text.specs.TextFaults.{head_faults, claim_faults, numeral_faults, place_faults, places_faults, position_faults, placed_rule_faults, placed_rules_faults, path_faults, own_term_faults, test_faults, extra_faults, loop_faults, fork_faults, method_faults, step_faults, steps_faults}
 use Rattle.cert_text.specs.CertificateText.{numbered_fault, head_list_fault, head_fault, later_fault, behind_headline, headline_fault, certificate_fault, least_place, step_items, SaysCertificate}
 use Rattle.cert_text.specs.NumbersInRange.{ArePlaces, IsPlacedInRange, HasNumbersInRange, IsWellMadeAt}
 use Rattle.cert_text.proofs.LeastPlaces.{is_none}

@@ -7,7 +7,6 @@ use Rattle.sexp_core.specs.declared.fault.TextFault.{TextFault}
 use Rattle.sexp_core.specs.declared.fault.TextFault.TheVariants as text
 use Rattle.numerals.specs.Numerals.{numeral_value}
 use Rattle.ari_text.specs.Named.{NamedSystem}
-use Rattle.ari_text.specs.Entries.{place_of}
 use Rattle.cert_step.specs.declared.claim.Claim.{Claim}
 use Rattle.cert_step.specs.declared.claim.Claim.TheVariants.{Terminating}
 use Rattle.cert_text.specs.declared.fault.CertFault.{CertFault}

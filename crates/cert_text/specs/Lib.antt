@@ -6,3 +6,7 @@ pub mod HeadClaim
 pub mod Unreadable
 pub mod StepMembers
 pub mod NumbersInRange
+pub mod Headline
+pub mod Renumbered
+pub mod PrintedProof
+pub mod Printable

@@ -10,7 +10,6 @@ use Rattle.ari_text.specs.Names.{number_among}
 use Rattle.ari_text.specs.Named.{NamedSystem}
 use Rattle.ari_text.specs.Entries.{place_of}
 use Rattle.ari_text.specs.Terms.{nodes_of}
-use Rattle.ari_text.specs.Faults.{count}
 use Rattle.cert_text.specs.Written.{claim_word}
 
 abbrev pub none_if : Bool → ℕ → List ℕ

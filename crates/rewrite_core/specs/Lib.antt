@@ -6,3 +6,4 @@ pub mod LoopRefusal
 pub mod PathRefusal
 pub mod Redex
 pub mod RefusalNumbers
+pub mod Redexes

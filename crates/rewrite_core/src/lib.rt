@@ -5,6 +5,7 @@
 mod current;
 mod forks;
 mod laws;
+mod listing;
 mod loops;
 mod normal;
 mod paths;
@@ -14,6 +15,7 @@ mod steps;
 
 pub use forks::ForkTest;
 pub use laws::{each_position_has_small_places, each_step_has_a_place};
+pub use listing::redexes;
 pub use loops::loop_check;
 pub use normal::is_normal;
 pub use paths::{PathFault, PathStep, run_path};

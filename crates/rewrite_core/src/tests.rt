@@ -1,6 +1,6 @@
 use crate::{
-    CheckFault, PathFault, PathStep, StepFault, StepRefused, is_normal, loop_check, run_path, slow,
-    step_at,
+    CheckFault, PathFault, PathStep, StepFault, StepRefused, is_normal, loop_check, redexes,
+    run_path, slow, step_at,
 };
 use std::alloc::Global;
 use std::test::Fail;
@@ -80,6 +80,15 @@ fn a_growing_term(rt: HostRuntime) -> Result<(), Fail> {
     assert_eq!(rt; found, Some(CheckFault::Refused(StepRefused::NoSteps)));
     assert!(rt; !is_normal(alloc, &trs, &start)?);
     assert!(rt; is_normal(alloc, &trs, &Term::Var(7))?);
+    let mut items = Vec::new(alloc);
+    items.push(Term::Var(7))?;
+    let found = redexes(alloc, &trs, &Term::App(0, Args { items }))?;
+    assert_eq!(rt; found.len(), 1);
+    assert_eq!(rt; StepRefused::EdgeBack(7, 9).number(), 9);
+    assert_eq!(rt;
+        StepRefused::EdgeBack(7, 9).fields().as_slice(),
+        [7, 9].as_slice()
+    );
 
     let deep = tower(alloc, 0, 1_022, Term::Var(0))?;
     let deepest = step_at(alloc, &trs, &deep, &ones(alloc, 1_000)?, 0)?;

@@ -1,10 +1,10 @@
 -- A text with no fault is read as items.
-use Rattle.std.proofs.Common.{◌≡◌, ℕ, zero, suc, ◌≤◌, Bool, true, false, cond, List, [], ◌∷◌, ◌++◌, length, map, Option, Some, None, option_map, refl, ap, sym, ◌∙◌, append_assoc, arith}
+use Rattle.std.proofs.Common.{◌≡◌, ℕ, zero, suc, ◌≤◌, Bool, true, false, cond, List, [], ◌∷◌, ◌++◌, length, map, Option, Some, None, option_map, refl, ap, sym, ◌∙◌, arith}
 use Rattle.std.specs.Option.{option_or}
 use Rattle.std.proofs.lemmas.List.{append-nil}
 use Rattle.sexp_core.specs.Tokens.{Token, opens, closes, word, control, tokens_from}
-use Rattle.sexp_core.specs.Items.{Item, a_word, a_list, Items, no_items, item, spelled_all}
-use Rattle.sexp_core.specs.Reads.{Reads, shape, first_fault, is_closed_by, first_unclosed, fault_among, fault_of}
+use Rattle.sexp_core.specs.Items.{a_word, a_list, Items, no_items, item, spelled_all}
+use Rattle.sexp_core.specs.Reads.{Reads, shape, first_fault, is_closed_by, first_unclosed, fault_of}
 use Rattle.sexp_core.specs.declared.fault.TextFault.{TextFault}
 use Rattle.sexp_core.specs.declared.fault.TextFault.TheVariants.{UnclosedAt}
 use Rattle.sexp_core.proofs.Stack.{is_closed-items, inner}

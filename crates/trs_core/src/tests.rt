@@ -18,7 +18,7 @@ fn a_match_is_applied(rt: HostRuntime) -> Result<(), Fail> {
     let term = pair(alloc, Term::Var(5), Term::Var(5))?;
     let found = match_term(alloc, &pattern, &term)?.ok_or("no match")?;
     assert!(rt; found.apply(alloc, &pattern)?.same(&term));
-    assert_eq!(rt; term.vars(alloc)?.as_slice(), &[5]);
+    assert_eq!(rt; term.vars(alloc)?.as_slice(), [5].as_slice());
     assert!(rt; !term.is_linear());
     Ok(())
 }

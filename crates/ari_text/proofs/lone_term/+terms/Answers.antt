@@ -12,7 +12,7 @@ is_term-returns-then-takes t c =
     let symbols = paired c.args.names.now c.args.arities.now in
     let arm = c.in-Some-Word-default in
     let members : c.in-List.members.items ≡ word_of arm.head arm.field-0-0-1 ∷ arm.args.now =
-        sym c.deref-in-List.ensures.value ∙ arm.ensures.cases.0 ∙ ap (λ (i : Sexp). i ∷ arm.args.now) arm.field-0-0-is in
+    sym c.deref-in-List.ensures.value ∙ arm.ensures.cases.0 ∙ ap (λ (i : Sexp). i ∷ arm.args.now) arm.field-0-0-is in
     let taken : c.takes.result ≡ takes (count (views arm.args.now)) (arity_of symbols arm.head.items) = search rules in
     let whole = ap (λ i. is_term symbols (view i)) c.in-List.is ∙ application_is symbols c.in-List.members c.in-List.field-1 arm.field-0-0-1 arm.head arm.args.now members in
     c.are_terms.ensures ∙ sym (whole ∙ ap (λ b. b && are_terms symbols (views arm.args.now)) (sym taken ∙ c.if-takes.true))
@@ -22,7 +22,7 @@ is_term-returns-else-takes t c =
     let symbols = paired c.args.names.now c.args.arities.now in
     let arm = c.in-Some-Word-default in
     let members : c.in-List.members.items ≡ word_of arm.head arm.field-0-0-1 ∷ arm.args.now =
-        sym c.deref-in-List.ensures.value ∙ arm.ensures.cases.0 ∙ ap (λ (i : Sexp). i ∷ arm.args.now) arm.field-0-0-is in
+    sym c.deref-in-List.ensures.value ∙ arm.ensures.cases.0 ∙ ap (λ (i : Sexp). i ∷ arm.args.now) arm.field-0-0-is in
     let taken : c.takes.result ≡ takes (count (views arm.args.now)) (arity_of symbols arm.head.items) = search rules in
     let whole = ap (λ i. is_term symbols (view i)) c.in-List.is ∙ application_is symbols c.in-List.members c.in-List.field-1 arm.field-0-0-1 arm.head arm.args.now members in
     c.if-takes.false ∙ sym (whole ∙ ap (λ b. b && are_terms symbols (views arm.args.now)) (sym taken ∙ c.if-takes.false))

@@ -1,5 +1,4 @@
-use Rattle.std.proofs.Common.{◌≡◌, ◌∙◌, sym, ap, get_or, option_map, Some, arith}
-use Rattle.std.proofs.lemmas.List.{get_or_read}
+use Rattle.std.proofs.Common.{◌∙◌, sym, ap, option_map}
 use Rattle.ari_text.proofs.SymbolPairs.{arity_by_number, arity_at}
 use Rattle.ari_text.proofs.lone_term.arity.Goals as goal
 

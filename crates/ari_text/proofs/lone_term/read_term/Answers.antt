@@ -13,5 +13,5 @@ returns-clause-well_formed c =
     let x = view c.args.item.now in
     let written : is_term (paired s.names s.system.arities) x ≡ true = cc in
     let built : tree c.in_ok-term.term ≡ term_of s.names c.in_ok-variables.variables x =
-        c.in_ok-term.ensures ∙ ap (λ names. term_of names c.in_ok-variables.variables x) c.names-3.ensures in
+    c.in_ok-term.ensures ∙ ap (λ names. term_of names c.in_ok-variables.variables x) c.names-3.ensures in
     rw built (lone_well_formed s.names s.system.arities c.in_ok-variables.variables x c.trs.ensures.named.counts written)

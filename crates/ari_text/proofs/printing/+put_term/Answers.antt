@@ -1,6 +1,5 @@
-use Rattle.std.proofs.Common.{◌≡◌, ◌≢◌, [], get_or, length, arith, ap, map, sym, ◌∙◌, rules}
-use Rattle.trs_core.specs.View.{tree}
-use Rattle.ari_text.proofs.PrintedText.{application_text, constant_text}
+use Rattle.std.proofs.Common.{[], get_or, rules}
+use Rattle.ari_text.proofs.PrintedText.{application_text}
 use Rattle.ari_text.proofs.printing.+put_term.Goals as goal
 
 pub returns-in_ok-push-in-App-3 : goal.returns-in_ok-push-in-App-3

@@ -1,8 +1,6 @@
-use Rattle.std.proofs.Common.{◌≡◌, ◌≤◌, List, ℕ, rules, sym, subst}
+use Rattle.std.proofs.Common.{◌≤◌, List, ℕ, rules, sym, subst}
 use Rattle.std.proofs.lemmas.List.Elements.{recursion_from_All}
-use Rattle.sexp_core.specs.Printed.{lines}
 use Rattle.ari_text.specs.Problem.{SaysSystem}
-use Rattle.ari_text.specs.PrintedProblem.{problem_items}
 use Rattle.ari_text.proofs.PrintedText.{problem_text}
 use Rattle.ari_text.proofs.PrintedItems.{AreBytes}
 use Rattle.ari_text.proofs.ReadBack.{says_printed, says_one}

@@ -1,6 +1,6 @@
-use Rattle.std.proofs.Common.{◌≡◌, ap, sym, rules}
+use Rattle.std.proofs.Common.{rules}
 use Rattle.sexp_core.specs.Items.{views}
-use Rattle.ari_text.specs.Problem.{later_items, system_of, IsRefused}
+use Rattle.ari_text.specs.Problem.{IsRefused}
 use Rattle.ari_text.proofs.Faultless.{named_of_faultless}
 use Rattle.ari_text.proofs.Refusals.{refused_items}
 use Rattle.ari_text.proofs.reading.read_problem.Goals as goal

@@ -1,4 +1,4 @@
-use Rattle.std.proofs.Common.{◌≡◌, ◌+◌, ◌≤◌, max, drop, length, [], ◌∙◌, sym, arith, rules}
+use Rattle.std.proofs.Common.{◌≡◌, ◌+◌, ◌≤◌, max, length, arith, rules}
 use Rattle.std.proofs.lemmas.List.{drop_all}
 use Rattle.std.proofs.lemmas.Grind.{common_steps}
 use Rattle.ari_text.specs.VariableNames.{underscores, leading_underscores}
@@ -16,8 +16,8 @@ loop-f-preserved c =
       some = omega (arith, greatest, c.loop-f.invariant.some);
     }
 
-pub returns : goal.returns
-returns c =
+pub returns-clause-underscores : goal.returns-clause-underscores
+returns-clause-underscores c =
     let names = c.args.system.now.names in
     let past : length names ≤ c.loop-f.f = search rules in
     let end : max c.loop-f.most 1 ≡ underscores names = rw (drop_all c.loop-f.f names past) at c.loop-f.invariant.same in

@@ -1,4 +1,4 @@
-use Rattle.std.proofs.Common.{◌≡◌, ◌+◌, Vec, Global, length, map, List, ℕ, arith, rules, ap, sym, ◌∙◌}
+use Rattle.std.proofs.Common.{◌≡◌, length, map, rules, ap, sym, ◌∙◌}
 use Rattle.std.proofs.lemmas.List.{length-map}
 use Rattle.trs_core.specs.Valid.{IsValid}
 use Rattle.ari_text.proofs.NamedSteps.{is_named, fault_of_rules, fails_by}

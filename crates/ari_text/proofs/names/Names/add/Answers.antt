@@ -1,4 +1,4 @@
-use Rattle.std.proofs.Common.{◌≡◌, ◌++◌, ◌∷◌, [], ap, length, arith, length-append, Vec, Global, ℕ}
+use Rattle.std.proofs.Common.{◌∷◌, [], ap, length, arith, length-append}
 use Rattle.std.proofs.lemmas.List.{length-map}
 use Rattle.ari_text.proofs.NameKeys.{absent, distinct_last, inserted, texts, Key}
 use Rattle.ari_text.proofs.names.Names.add.Goals as goal

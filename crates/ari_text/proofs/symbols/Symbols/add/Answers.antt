@@ -1,4 +1,3 @@
-use Rattle.std.proofs.Common.{◌++◌, ◌∷◌, [], rules}
 use Rattle.ari_text.proofs.SymbolPairs.{number_missing, paired_last}
 use Rattle.ari_text.proofs.symbols.Symbols.add.Goals as goal
 

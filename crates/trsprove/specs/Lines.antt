@@ -1,0 +1,65 @@
+-- The lines that the program writes.
+use Rattle.std.specs.Prelude.{ℕ, List, [], ◌∷◌, ◌++◌, codes}
+use Rattle.ari_text.specs.declared.fault.AriFault.{AriFault}
+use Rattle.ari_text.specs.Least.{number_of_fault}
+use Rattle.ari_text.specs.FaultParts.{text_number_of, shown_place}
+use Rattle.rewrite_core.specs.RefusalNumbers.{refusal_number, refusal_fields}
+use Rattle.cert_step.specs.declared.claim.Claim.{Claim}
+use Rattle.cert_step.specs.declared.claim.Claim.TheVariants.{Terminating, Nonterminating, Confluent, Nonconfluent}
+use Rattle.certifier.specs.declared.rejected.Rejected.{Rejected}
+use Rattle.certifier.specs.declared.rejected.Rejected.TheVariants as why
+use Rattle.trsprove.specs.Numbers.{fields_text, listed}
+
+abbrev pub usage_line : List ℕ
+usage_line = codes "usage: trsprove <action> <problem> [certificate] [--workers N] [--budget B]\n"
+
+abbrev pub accepted_line : Claim → List ℕ
+accepted_line Terminating = codes "ACCEPTED terminating\n"
+accepted_line Nonterminating = codes "ACCEPTED nonterminating\n"
+accepted_line Confluent = codes "ACCEPTED confluent\n"
+accepted_line Nonconfluent = codes "ACCEPTED nonconfluent\n"
+
+-- how a line of a rejection begins
+abbrev pub rejected_words : Rejected → List ℕ
+rejected_words (why.Problem f) = codes "REJECTED problem"
+rejected_words (why.Text at) = codes "REJECTED text"
+rejected_words (why.Version n) = codes "REJECTED version"
+rejected_words why.Headline = codes "REJECTED headline"
+rejected_words (why.NoNode i) = codes "REJECTED no-node"
+rejected_words (why.Decided i) = codes "REJECTED decided"
+rejected_words (why.Step i r) = codes "REJECTED step"
+rejected_words (why.Open n) = codes "REJECTED open"
+rejected_words why.OutOfMemory = codes "REJECTED memory"
+
+-- its first number, if it has one
+abbrev pub rejected_numbers : Rejected → List ℕ
+rejected_numbers (why.Problem f) = []
+rejected_numbers (why.Text at) = at ∷ []
+rejected_numbers (why.Version n) = n ∷ []
+rejected_numbers why.Headline = []
+rejected_numbers (why.NoNode i) = i ∷ []
+rejected_numbers (why.Decided i) = i ∷ []
+rejected_numbers (why.Step i r) = i ∷ refusal_number r ∷ []
+rejected_numbers (why.Open n) = n ∷ []
+rejected_numbers why.OutOfMemory = []
+
+-- the fields of the reason, of a step that is refused
+abbrev pub rejected_fields : Rejected → List ℕ
+rejected_fields (why.Step i r) = refusal_fields r
+rejected_fields _ = []
+
+abbrev pub rejected_line : Rejected → List ℕ
+rejected_line r = (rejected_words r ++ fields_text (rejected_numbers r)) ++ (fields_text (rejected_fields r) ++ 10 ∷ [])
+
+-- the number of a fault of a problem text, that of a text fault, and its place, if it has one
+abbrev pub problem_fields : AriFault → List ℕ
+problem_fields f = number_of_fault f ∷ (listed (text_number_of f) ++ listed (shown_place f))
+
+abbrev pub refused_line : AriFault → List ℕ
+refused_line f = codes "problem refused" ++ (fields_text (problem_fields f) ++ 10 ∷ [])
+
+abbrev pub read_fault_line : List ℕ → List ℕ
+read_fault_line name = codes "read fault " ++ (name ++ 10 ∷ [])
+
+abbrev pub too_long_line : List ℕ → List ℕ
+too_long_line name = codes "too long " ++ (name ++ 10 ∷ [])
