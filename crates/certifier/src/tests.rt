@@ -1,3 +1,5 @@
+ghost use Rattle.std.specs.Prelude.{◌≤◌, length};
+
 use super::*;
 use rewrite_core::StepRefused;
 use std::test::*;
@@ -5,10 +7,9 @@ use std::test::*;
 // The system with the one rule f(x) -> f(f(x)).
 const PROBLEM: &[u8] = b"(format TRS)\n(fun f 1)\n(rule (f x) (f (f x)))\n";
 
-fn rejected(rt: &HostRuntime, certificate: &[u8]) -> Option<Rejected> {
-    if certificate.len() > 1_000 {
-        return None;
-    }
+fn rejected(rt: &HostRuntime, certificate: &[u8]) -> Option<Rejected>
+    requires { length certificate.now ≤ 1000 }
+{
     certify(rt.alloc(), PROBLEM, certificate).err()
 }
 
