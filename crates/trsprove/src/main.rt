@@ -8,14 +8,13 @@ mod report;
 mod run;
 mod status;
 
+use crate::run::run;
+use crate::status::Status;
 use io_edge::{FileShelf, StdSink};
 use std::alloc::{AllocError, Global};
 use std::env;
 use std::io::ErrorKind;
 use std::process::ExitCode;
-
-use crate::run::run;
-use crate::status::Status;
 
 fn main(rt: HostRuntime) -> ExitCode {
     ExitCode::from(run_at_host(&rt).code())

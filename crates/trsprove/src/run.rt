@@ -11,12 +11,7 @@ use std::alloc::Global;
 
 /// Runs the program: reads what the words ask for, fetches the texts, and writes one line. The words are those of the
 /// command line, without the program's name.
-pub fn run<S: Shelf, K: Sink>(
-    alloc: Global,
-    words: &[&str],
-    shelf: &mut S,
-    out: &mut K,
-) -> Status
+pub fn run<S: Shelf, K: Sink>(alloc: Global, words: &[&str], shelf: &mut S, out: &mut K) -> Status
     // The line that is written is the defined answer of the words and the texts; a fault has its cause.
     ensures output { Writes (map (λ w. w.now) words.now) (MayBe (S.text shelf.old))
         (λ name. Rose (S.faults shelf.old name) (S.faults shelf.new name))

@@ -20,11 +20,11 @@ returns-in-Ok-fetch-clause-only g c = λ words asked.
 
 pub returns-in-Err-TooLong-fetch-clause-cause : goal.returns-in-Err-TooLong-fetch-clause-cause
 returns-in-Err-TooLong-fetch-clause-cause g c = λ words asked. (
-    cause_long_second words (g.S.Shelf.text c.args.shelf.now) (g.S.Shelf.text c.fetch.new.self) c.args.problem.now c.args.certificate.now c.in-Ok.problem_text.items asked
+  cause_long_second words (g.S.Shelf.text c.args.shelf.now) (g.S.Shelf.text c.fetch.new.self) c.args.problem.now c.args.certificate.now c.in-Ok.problem_text.items asked
       c.in-Ok.ensures.whole c.in-Ok.ensures.bound c.fetch.ensures.told (c.in-Err-TooLong-fetch.ensures.too_long (ap Err c.in-Err-TooLong-fetch.field-0-is)),
-    rose_by_later 1048577 (g.S.Shelf.bytes c.args.shelf.now c.args.certificate.now) (g.S.Shelf.bytes c.fetch.new.self c.args.certificate.now) (g.S.Shelf.bytes c.fetch-in-Ok.new.self c.args.certificate.now)
+  rose_by_later 1048577 (g.S.Shelf.bytes c.args.shelf.now c.args.certificate.now) (g.S.Shelf.bytes c.fetch.new.self c.args.certificate.now) (g.S.Shelf.bytes c.fetch-in-Ok.new.self c.args.certificate.now)
       (c.fetch.ensures.read.later c.args.certificate.now) (c.in-Err-TooLong-fetch.ensures.long (ap Err c.in-Err-TooLong-fetch.field-0-is)),
-  )
+)
 
 pub returns-in-Err-TooLong-clause-cause : goal.returns-in-Err-TooLong-clause-cause
 returns-in-Err-TooLong-clause-cause g c = λ words asked.
