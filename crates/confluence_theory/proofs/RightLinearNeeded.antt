@@ -17,7 +17,7 @@ use Rattle.trs_defs.specs.Peak.{Peak, HasPeak, Covers}
 use Rattle.trs_defs.specs.Step.{here, deep, first, later, RootStep, Step}
 use Rattle.trs_defs.specs.RuleRanks.{NumberedStep, IsDecreasing}
 use Rattle.trs_defs.specs.Claims.{IsForked}
-use Rattle.confluence_theory.proofs.NormalForms.{stays}
+use Rattle.trs_defs.proofs.NormalForms.{normal_stays}
 use Rattle.confluence_theory.proofs.Constants.{constant, rewrites, sides}
 
 abbrev f : Tree → Tree → Tree
@@ -305,7 +305,7 @@ only_itself (suc n) t v e (m, step, d) = only_itself n m v (goes_back m (subst (
 
 not_joinable : IsJoinable (Step copier.rules) c (f b b) → ⊥
 not_joinable (v, (n, d), (m, d')) =
-    let k : c ≡ f b b = stays (Step copier.rules) c (constant_normal 2 (λ e. absurd (omega arith))) n v d ∙ only_itself m (f b b) v refl d' in
+    let k : c ≡ f b b = normal_stays (Step copier.rules) c (constant_normal 2 (λ e. absurd (omega arith))) n v d ∙ only_itself m (f b b) v refl d' in
     absurd (cc k)
 
 a_to_b : Step copier.rules a b
