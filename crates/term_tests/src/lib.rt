@@ -1,0 +1,2 @@
+//! Tests of terms, rules, positions and steps. There is no code here.
+#![tactic(auto)]
