@@ -8,6 +8,7 @@ use Rattle.trs_defs.specs.System.{RewriteRule, System, Among}
 use Rattle.trs_defs.specs.Step.{here}
 use Rattle.trs_defs.specs.Cap.{Fits, fits_symbol, Cap, cap_symbol, caps_nil, constants_from}
 use Rattle.trs_defs.specs.Claims.{IsForked}
+use Rattle.confluence_theory.proofs.CapClash.{clash_apart}
 use Rattle.confluence_theory.proofs.CapFits.{caps_apart_forked}
 use Rattle.confluence_theory.proofs.Constants.{constant}
 
@@ -39,11 +40,7 @@ constant_cap f = cap_symbol caps_nil (λ l r σ h p.
     absurd (omega arith))
 
 none_fits_both : (v : Tree) → Fits (constant 1) v → Fits (constant 2) v → ⊥
-none_fits_both (var n) p q = elim p [ ]
-none_fits_both (app f ts) p q =
-    let e : 1 ≡ f = same_symbol 1 f nil ts p in
-    let e' : 2 ≡ f = same_symbol 2 f nil ts q in
-    absurd (omega arith)
+none_fits_both v = clash_apart (constant 1) (constant 2) v refl
 
 choice_forked : IsForked choice
 choice_forked =

@@ -13,7 +13,8 @@ use Rattle.trs_defs.specs.Joinable.{IsJoinable}
 use Rattle.trs_defs.specs.NormalForm.{IsNormalForm}
 use Rattle.trs_defs.specs.Confluence.{JoinsStrongly}
 use Rattle.trs_defs.specs.Claims.{IsConfluent, IsForked, IsTerminating}
-use Rattle.confluence_theory.proofs.NormalForms.{split_forked}
+use Rattle.trs_defs.specs.UniqueNormalForms.{HasUniqueNormalForms}
+use Rattle.confluence_theory.proofs.NormalForms.{split_forked, confluent_unique, forked_not_confluent}
 use Rattle.peak_theory.proofs.Claims.{joined, strongly_closed, decreasing}
 use Rattle.confluence_theory.proofs.Constants.{constant, rewrites, peak_of, nullary, AreConstant, constant_system, constant_left, constant_right, symbols_of, HasConstantPeaks, listed_at, constant_covers, each_of_two, constant_step, constant_reaches, constant_next, nullary_arity, variable_normal}
 
@@ -72,6 +73,9 @@ four_confluent =
     decreasing (record { arities = nullary; rules = four }) (1 ∷ 1 ∷ 0 ∷ 0 ∷ []) four_peaks (constant_system four four_constant)
     (constant_left four four_constant) (constant_right four four_constant) (constant_covers four four_peaks four_constant four_listed)
     (each_of_two (IsDecreasing four (1 ∷ 1 ∷ 0 ∷ 0 ∷ [])) (peak_of 0 1 0 1 2) (peak_of 1 0 0 2 1) b_c_decreasing c_b_decreasing)
+
+four_unique : HasUniqueNormalForms (record { arities = nullary; rules = four })
+four_unique = confluent_unique (record { arities = nullary; rules = four }) four_confluent
 
 -- Joined peaks: the same system, which terminates.
 
@@ -183,3 +187,6 @@ fork_forked =
       ((1, (constant 2, constant_reaches fork 1 0 2 refl, refl)), fork_normal 2 (λ e. absurd (omega arith))),
       λ e. absurd (cc e),
     )
+
+fork_not_confluent : IsConfluent (record { arities = nullary; rules = fork }) → ⊥
+fork_not_confluent = forked_not_confluent (record { arities = nullary; rules = fork }) fork_forked

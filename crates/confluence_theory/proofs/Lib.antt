@@ -7,6 +7,7 @@ pub mod ParallelPaths
 mod Constants
 mod Examples
 mod ParallelExample
+mod PathExample
 mod CapExample
 mod Counterexamples
 mod LeftLinearNeeded

@@ -18,7 +18,7 @@ use Rattle.confluence_theory.proofs.Constants.{sides, constant, rewrites, peak_o
 abbrev copying : RewriteRule
 copying = record { left = app 2 (cons (var 0) nil); right = app 3 (cons (var 0) (cons (var 0) nil)) }
 
-abbrev copier : System
+abbrev pub copier : System
 copier = record { arities = 0 ∷ 0 ∷ 1 ∷ 2 ∷ []; rules = rewrites 0 1 ∷ rewrites 0 1 ∷ copying ∷ [] }
 
 abbrev copier_peaks : List Peak

@@ -16,3 +16,4 @@ pub mod PairList
 pub mod Problems
 pub mod Groups
 pub mod Projections
+mod Doubling

@@ -1,5 +1,5 @@
 -- That the chains of all dependency pairs end gives a bound for each well-formed term.
-use Rattle.std.proofs.Common.{◌≡◌, ℕ, sym, ap, subst, ◌⊎◌, inl, inr, List, [], ◌∷◌, IsTrue}
+use Rattle.std.proofs.Common.{◌≡◌, ℕ, zero, suc, sym, ap, subst, ◌⊎◌, inl, inr, List, [], ◌∷◌, IsTrue}
 use native.Mathlib.Decide.{ℕ_discrete}
 use Rattle.trs_defs.specs.Tree.{Tree, var, app, Trees}
 use Rattle.trs_defs.specs.System.{RewriteRule, Among}
@@ -12,7 +12,8 @@ use Rattle.trs_defs.specs.PairProblem.{ChainsEnd}
 use Rattle.trs_defs.specs.Step.{StepBy}
 use Rattle.trs_defs.specs.Variable.{has_var}
 use Rattle.trs_defs.specs.Terminates.{Terminates}
-use Rattle.trs_defs.specs.Bounded.{IsBounded}
+use Rattle.trs_defs.specs.Bounded.{IsBoundedBy, IsBounded}
+use Rattle.trs_defs.specs.Accessible.{Acc, acc}
 use Rattle.pair_theory.proofs.Terms.{app_root, sub_of_has, has_of_sub}
 use Rattle.pair_theory.proofs.Members.{in_or, no_in}
 use Rattle.pair_theory.proofs.Systems.{left_rooted, no_new_variables}
@@ -51,3 +52,8 @@ pub terminating_is_bounded : (rules : List RewriteRule) (t : Tree)
     → ((r : RewriteRule) → In r rules → (v : ℕ) → IsTrue (has_var v r.right) → IsTrue (has_var v r.left))
     → Terminates (Among rules) t → IsBounded (StepBy (Among rules)) t
 terminating_is_bounded rules t vars ends = bounded rules (λ p i x q. sub_of_has x p.left (vars p i x (has_of_sub x p.right q))) ends
+
+-- where derivations have a bound, all that the term goes to terminates
+pub bounded_terminates : {T : Type 0} (R : T → T → Type 0) (n : ℕ) (s : T) → IsBoundedBy R n s → Acc R s
+bounded_terminates R zero s h = acc (λ t r. absurd (h t r))
+bounded_terminates R (suc n) s h = acc (λ t r. bounded_terminates R n t (h t r))

@@ -95,10 +95,13 @@ pub fn remove_pairs<O: ReductionOrder>(order: &O)
 {}
 
 /// A term that terminates under finitely many rules with no new variables has a bound on the length
-/// of its derivations (Baader and Nipkow, section 2.2).
+/// of its derivations (Baader and Nipkow, section 2.2), and a term that has one terminates. So
+/// the arguments of a marked term terminate, as chains want it, exactly where they are bounded.
 pub fn terminating_terms_are_bounded()
     ensures bounded { (rules : List RewriteRule) (t : Tree) →
         ((r : RewriteRule) → In r rules → (v : ℕ) →
         IsTrue (has_var v r.right) → IsTrue (has_var v r.left)) →
         Terminates (Among rules) t → IsBounded (StepBy (Among rules)) t }
+    ensures terminating { (rules : List RewriteRule) (t : Tree) →
+        IsBounded (StepBy (Among rules)) t → Terminates (Among rules) t }
 {}
