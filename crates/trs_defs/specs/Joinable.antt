@@ -1,4 +1,4 @@
--- Joinable, and forked. (Baader and Nipkow, definition 2.1.1.)
+-- Joinable. (Baader and Nipkow, definition 2.1.1.)
 use Rattle.trs_defs.specs.Derivation.{Reaches}
 
 -- some t is reached from both
