@@ -7,11 +7,13 @@ mod pieces;
 mod report;
 mod run;
 mod status;
+mod words;
 
 use crate::run::run;
 use crate::status::Status;
+use crate::words::words_of;
 use io_edge::{FileShelf, StdSink};
-use std::alloc::{AllocError, Global};
+use std::alloc::AllocError;
 use std::env;
 use std::io::ErrorKind;
 use std::process::ExitCode;
@@ -37,13 +39,4 @@ fn run_at_host(rt: &HostRuntime) -> Status {
         Ok(words) => run(alloc, &words, &mut shelf, &mut out),
         Err(AllocError) => Status::OutOfMemory,
     }
-}
-
-// The arguments behind the program's name.
-fn words_of<'a>(alloc: Global, arguments: &'a [String]) -> Result<Vec<&'a str>, AllocError> {
-    let mut words = Vec::new(alloc);
-    for argument in arguments.iter().skip(1) {
-        words.push(argument.as_str())?;
-    }
-    Ok(words)
 }
