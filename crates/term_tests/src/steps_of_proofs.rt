@@ -1,29 +1,13 @@
-ghost use Rattle.std.specs.Prelude.{◌≡◌, [], ◌∷◌, map, IfOk};
-ghost use Rattle.trs_defs.specs.Tree.{app, trees};
-ghost use Rattle.trs_core.specs.View.{tree};
+//! Steps of proofs are applied.
+ghost use Rattle.std.specs.Prelude.{◌≡◌, [], ◌∷◌, IfOk};
 ghost use Rattle.cert_step.specs.ProofProblem.{problem_of, IsWellMadeProblem};
 
-use crate::{Problem, Step, apply_step, fork_check};
-use rewrite_core::{CheckFault, PathStep, StepRefused};
+use crate::made::{one_rule, position, step, term};
+use cert_step::{Problem, Step, apply_step, fork_check};
+use rewrite_core::{CheckFault, StepRefused};
 use std::alloc::Global;
 use std::test::Fail;
-use trs_core::{Args, OutOfMemory, Position, Rule, Term, Trs};
-
-fn term<const N: usize>(alloc: Global, symbol: u32, args: [Term; N]) -> Result<Term, OutOfMemory>
-    ensures { IfOk result (λ t. tree t ≡ app symbol (trees (map tree args.entry))) }
-{
-    Ok(Term::App(symbol, Args::new(Vec::from_array(alloc, args)?)))
-}
-
-fn step(alloc: Global, places: &[u8], rule: u32) -> Result<PathStep, OutOfMemory> {
-    let mut place = Position::new(alloc);
-    for n in places {
-        if *n > 0 {
-            place.push(*n)?;
-        }
-    }
-    Ok(PathStep { place, rule })
-}
+use trs_core::{Rule, Term, Trs};
 
 /// `f(x) -> f(f(x))`.
 fn growing(alloc: Global) -> Result<Trs, Fail>
@@ -32,11 +16,10 @@ fn growing(alloc: Global) -> Result<Trs, Fail>
     let left = term(alloc, 0, [Term::Var(0)])?;
     let inner = term(alloc, 0, [Term::Var(0)])?;
     let right = term(alloc, 0, [inner])?;
-    let rules = Vec::from_array(alloc, [Rule { left, right }])?;
-    Ok(Trs::new(Vec::from_array(alloc, [1])?, rules)?)
+    one_rule(alloc, Vec::from_array(alloc, [1])?, left, right)
 }
 
-/// What the loop of one step from `f(x)`, with its instance at the root, answers.
+/// What the loop of one step from `f(x)`, with its instance at the root, answers. Copies are handed in.
 fn growing_loop(
     alloc: Global,
     trs: &Trs,
@@ -47,9 +30,9 @@ fn growing_loop(
 {
     let start = term(alloc, 0, [Term::Var(0)])?;
     let path = Vec::from_array(alloc, [step(alloc, &[], 0)?])?;
-    let place = Position::new(alloc);
-    let step = Step::Loop { start, path, place };
-    Ok(apply_step(alloc, trs, problem, &step))
+    let place = position(alloc, &[])?;
+    let step = Step::Loop { start, path, place }.copy(alloc)?;
+    Ok(apply_step(alloc, trs, &problem.copy(alloc)?, &step))
 }
 
 #[test]
@@ -66,24 +49,21 @@ fn a_loop_is_for_loops(rt: HostRuntime) -> Result<(), Fail> {
 /// `f(x, x) -> a`, `f(x, g(x)) -> b`, `c -> g(c)`, with `c`, `g`, `f`, `a` and `b` numbered from 0.
 /// (Huet, Confluent Reductions, 1980.)
 fn huet(alloc: Global) -> Result<Trs, Fail> {
-    let a = term(alloc, 3, [])?;
-    let b = term(alloc, 4, [])?;
-    let c = term(alloc, 0, [])?;
-    let inner = term(alloc, 0, [])?;
     let below = term(alloc, 1, [Term::Var(0)])?;
+    let inner = term(alloc, 0, [])?;
     let rules = Vec::from_array(
         alloc,
         [
             Rule {
                 left: term(alloc, 2, [Term::Var(0), Term::Var(0)])?,
-                right: a,
+                right: term(alloc, 3, [])?,
             },
             Rule {
                 left: term(alloc, 2, [Term::Var(0), below])?,
-                right: b,
+                right: term(alloc, 4, [])?,
             },
             Rule {
-                left: c,
+                left: term(alloc, 0, [])?,
                 right: term(alloc, 1, [inner])?,
             },
         ],
@@ -95,21 +75,19 @@ fn huet(alloc: Global) -> Result<Trs, Fail> {
 fn a_fork_leads_to_two_normal_forms(rt: HostRuntime) -> Result<(), Fail> {
     let alloc = rt.alloc();
     let trs = huet(alloc)?;
-    let c = term(alloc, 0, [])?;
-    let start = term(alloc, 2, [c, term(alloc, 0, [])?])?;
+    let start = term(alloc, 2, [term(alloc, 0, [])?, term(alloc, 0, [])?])?;
     let to_a = Vec::from_array(alloc, [step(alloc, &[], 0)?])?;
     let to_b = Vec::from_array(alloc, [step(alloc, &[2], 2)?, step(alloc, &[], 1)?])?;
     let early = Vec::from_array(alloc, [step(alloc, &[], 1)?])?;
-
-    assert_eq!(rt; fork_check(alloc, &trs, &start, &to_a, &to_b).err(), None);
     for (left, right, refused) in [
-        (&to_a[..], &to_a[..], StepRefused::SameEnds),
-        (&[], &to_b[..], StepRefused::NotNormal(0)),
-        (&to_a[..], &[], StepRefused::NotNormal(1)),
-        (&to_a[..], &early[..], StepRefused::Path(0, 1, 0, 2)),
+        (&to_a[..], &to_b[..], None),
+        (&to_a[..], &to_a[..], Some(StepRefused::SameEnds)),
+        (&[], &to_b[..], Some(StepRefused::NotNormal(0))),
+        (&to_a[..], &[], Some(StepRefused::NotNormal(1))),
+        (&to_a[..], &early[..], Some(StepRefused::Path(0, 1, 0, 2))),
     ] {
         let fault = fork_check(alloc, &trs, &start, left, right).err();
-        assert_eq!(rt; fault, Some(CheckFault::Refused(refused)));
+        assert_eq!(rt; fault, refused.map(CheckFault::Refused));
     }
     Ok(())
 }

@@ -3,7 +3,7 @@
 
 ghost use Rattle.std.specs.Prelude.{◌≤◌, length};
 
-use crate::step_at;
+use rewrite_core::step_at;
 use std::alloc::Global;
 use std::test::Fail;
 use trs_core::{Args, OutOfMemory, Position, Rule, Term, Trs};
@@ -30,7 +30,7 @@ fn arity(letter: u8) -> u8 {
 }
 
 /// The term that a text begins with; nothing where it begins with none.
-pub fn first_term(text: &[u8]) -> &[u8]
+fn first_term(text: &[u8]) -> &[u8]
     ensures { length result.now ≤ length text.now }
 {
     let mut open: u64 = 1;
@@ -192,7 +192,7 @@ pub fn system(alloc: Global) -> Result<Trs, Fail> {
 }
 
 /// Text number `n` of those with so many letters.
-pub fn text(alloc: Global, letters: u32, n: u32) -> Result<Vec<u8>, OutOfMemory> {
+fn text(alloc: Global, letters: u32, n: u32) -> Result<Vec<u8>, OutOfMemory> {
     let mut made = Vec::new(alloc);
     let mut rest = n;
     for _ in 0..letters {
@@ -208,11 +208,44 @@ pub fn text(alloc: Global, letters: u32, n: u32) -> Result<Vec<u8>, OutOfMemory>
 }
 
 /// Whether both ways give the same terms, and how many they are (with repetitions).
-pub fn agree(alloc: Global, trs: &Trs, text: &[u8]) -> Result<(bool, usize), OutOfMemory> {
+fn agree(alloc: Global, trs: &Trs, text: &[u8]) -> Result<(bool, usize), OutOfMemory> {
     let slow = reducts(alloc, text)?;
     let fast = results(alloc, trs, &read(alloc, text)?)?;
     Ok((
         is_within(&slow, &fast) && is_within(&fast, &slow),
         fast.len(),
     ))
+}
+
+/// Of the texts with so many letters: whether both ways give the same steps of each that is a
+/// term, how many those are, and how many steps there are.
+#[derive(Drop)]
+pub struct Comparison {
+    pub same: bool,
+    pub terms: usize,
+    pub steps: usize,
+}
+
+/// Compares both ways on the first texts with so many letters.
+pub fn compare(
+    alloc: Global,
+    trs: &Trs,
+    letters: u32,
+    texts: u32,
+) -> Result<Comparison, OutOfMemory> {
+    let mut found = Comparison {
+        same: true,
+        terms: 0,
+        steps: 0,
+    };
+    for n in 0..texts {
+        let text = text(alloc, letters, n)?;
+        if first_term(&text).len() == text.len() {
+            let (same, steps) = agree(alloc, trs, &text)?;
+            found.same = found.same && same;
+            found.terms = found.terms.saturating_add(1);
+            found.steps = found.steps.saturating_add(steps);
+        }
+    }
+    Ok(found)
 }
