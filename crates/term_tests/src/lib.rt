@@ -1,4 +1,4 @@
-//! Tests of terms, rules, positions, steps and steps of proofs. There is no code here.
+//! Tests of terms, systems, steps and steps of proofs. There is no code here.
 #![tactic(auto)]
 
 #[cfg(test)]

@@ -120,7 +120,14 @@ fn read(alloc: Global, text: &[u8]) -> Result<Term, OutOfMemory> {
     Ok(stack.pop().unwrap_or(Term::Var(3)))
 }
 
-/// Writes a term over variable 2.
+/// The text of a term over variable 2.
+fn written(alloc: Global, t: &Term) -> Result<Vec<u8>, OutOfMemory> {
+    let mut text = Vec::new(alloc);
+    write(t, &mut text)?;
+    Ok(text)
+}
+
+/// Writes a term over variable 2 behind a text.
 fn write(t: &Term, text: &mut Vec<u8>) -> Result<(), OutOfMemory> {
     match t {
         Term::Var(_) => text.push(b'v')?,
@@ -158,9 +165,7 @@ fn results(alloc: Global, trs: &Trs, t: &Term) -> Result<Vec<Vec<u8>>, OutOfMemo
         let place = position(alloc, number)?;
         for rule in 0..RULES {
             if let Ok(reduct) = step_at(alloc, trs, t, &place, rule) {
-                let mut text = Vec::new(alloc);
-                write(&reduct, &mut text)?;
-                found.push(text)?;
+                found.push(written(alloc, &reduct)?)?;
             }
         }
     }
@@ -174,21 +179,21 @@ fn is_within(texts: &[Vec<u8>], others: &[Vec<u8>]) -> bool {
         .any(|other| other.as_slice() == text.as_slice()))
 }
 
+/// A rule as terms.
+fn read_rule(alloc: Global, number: u32) -> Result<Rule, OutOfMemory> {
+    let (left, right) = rule(number);
+    let left = read(alloc, left)?;
+    let right = read(alloc, right)?;
+    Ok(Rule { left, right })
+}
+
 /// The system of the rules.
 pub fn system(alloc: Global) -> Result<Trs, Fail> {
-    let mut arities = Vec::new(alloc);
-    for letter in b"cgf" {
-        arities.push(arity(*letter))?;
-    }
     let mut rules = Vec::new(alloc);
     for number in 0..RULES {
-        let (left, right) = rule(number);
-        rules.push(Rule {
-            left: read(alloc, left)?,
-            right: read(alloc, right)?,
-        })?;
+        rules.push(read_rule(alloc, number)?)?;
     }
-    Ok(Trs::new(arities, rules)?)
+    Ok(Trs::new(Vec::from_array(alloc, [0, 1, 2])?, rules)?)
 }
 
 /// Text number `n` of those with so many letters.

@@ -16,11 +16,17 @@ fn growing(alloc: Global) -> Result<Trs, Fail> {
     one_rule(alloc, Vec::from_array(alloc, [1])?, left, right)
 }
 
+/// What a loop is refused for, of so many steps from `f(y)`, with its instance under so many symbols.
+fn refused(alloc: Global, steps: u32, place: u32) -> Result<Option<CheckFault>, Fail> {
+    let trs = growing(alloc)?;
+    let start = tower(alloc, 0, 1, Term::Var(7))?;
+    let path = repeated(alloc, steps, 0)?;
+    Ok(loop_check(alloc, &trs, &start, &path, &ones(alloc, place)?).err())
+}
+
 #[test]
 fn a_growing_term_loops(rt: HostRuntime) -> Result<(), Fail> {
     let alloc = rt.alloc();
-    let trs = growing(alloc)?;
-    let start = tower(alloc, 0, 1, Term::Var(7))?;
     for (steps, place, want) in [
         (1, 0, None),
         (1, 1, None),
@@ -28,8 +34,7 @@ fn a_growing_term_loops(rt: HostRuntime) -> Result<(), Fail> {
         (1, 3, Some(StepRefused::NoPlace)),
         (0, 0, Some(StepRefused::NoSteps)),
     ] {
-        let path = repeated(alloc, steps, 0)?;
-        let found = loop_check(alloc, &trs, &start, &path, &ones(alloc, place)?).err();
+        let found = refused(alloc, steps, place)?;
         assert_eq!(rt; found, want.map(CheckFault::Refused), "at {place}");
     }
     Ok(())
@@ -53,12 +58,28 @@ fn a_reason_has_a_number_and_fields(rt: HostRuntime) {
     assert_eq!(rt; reason.fields().as_slice(), [7, 9].as_slice());
 }
 
+/// A term as deep as the limit, by a step from one that is less deep by one.
+fn deepest(alloc: Global, trs: &Trs) -> Result<Term, Fail> {
+    let deep = tower(alloc, 0, 1_022, Term::Var(0))?;
+    Ok(step_at(alloc, trs, &deep, &ones(alloc, 1_000)?, 0)?)
+}
+
+/// Why no step is made under so many symbols.
+fn step_fault(
+    alloc: Global,
+    trs: &Trs,
+    t: &Term,
+    place: u32,
+    rule: u32,
+) -> Result<Option<StepFault>, Fail> {
+    Ok(step_at(alloc, trs, t, &ones(alloc, place)?, rule).err())
+}
+
 #[test]
 fn a_term_is_no_deeper_than_the_limit(rt: HostRuntime) -> Result<(), Fail> {
     let alloc = rt.alloc();
     let trs = growing(alloc)?;
-    let deep = tower(alloc, 0, 1_022, Term::Var(0))?;
-    let deepest = step_at(alloc, &trs, &deep, &ones(alloc, 1_000)?, 0)?;
+    let deepest = deepest(alloc, &trs)?;
     assert_eq!(rt; deepest.depth(), 1_024);
     for (place, rule, want) in [
         (0, 0, StepFault::TooLarge),
@@ -67,7 +88,7 @@ fn a_term_is_no_deeper_than_the_limit(rt: HostRuntime) -> Result<(), Fail> {
         (1_024, 0, StepFault::NoPosition),
         (1_024, 1, StepFault::NoRule),
     ] {
-        let found = step_at(alloc, &trs, &deepest, &ones(alloc, place)?, rule).err();
+        let found = step_fault(alloc, &trs, &deepest, place, rule)?;
         assert_eq!(rt; found, Some(want), "at {place}");
     }
     Ok(())
@@ -90,16 +111,19 @@ fn upward(alloc: Global, steps: u32) -> Result<Vec<PathStep>, OutOfMemory> {
     Ok(path)
 }
 
-/// From 16 times `d` over a constant, step `k` makes a term of 2 ^ (k + 2) - 1 nodes under the
-/// 15 - k symbols `d` that are left.
-#[test]
-fn a_doubling_term_is_no_larger_than_the_limit(rt: HostRuntime) -> Result<(), Fail> {
-    let alloc = rt.alloc();
+/// So many steps from 16 times `d` over a constant. Step `k` makes a term of 2 ^ (k + 2) - 1 nodes
+/// under the 15 - k symbols `d` that are left.
+fn doubled(alloc: Global, steps: u32) -> Result<Result<Term, PathFault>, Fail> {
     let trs = doubling(alloc)?;
     let start = tower(alloc, 0, 16, term(alloc, 2, [])?)?;
-    let end = run_path(alloc, &trs, &start, &upward(alloc, 15)?)?;
-    assert_eq!(rt; end.size(), 65_536);
-    let found = run_path(alloc, &trs, &start, &upward(alloc, 16)?).err();
+    Ok(run_path(alloc, &trs, &start, &upward(alloc, steps)?))
+}
+
+#[test]
+fn a_term_is_no_larger_than_the_limit(rt: HostRuntime) -> Result<(), Fail> {
+    let alloc = rt.alloc();
+    assert_eq!(rt; doubled(alloc, 15)??.size(), 65_536);
+    let found = doubled(alloc, 16)?.err();
     assert_eq!(rt; found, Some(PathFault::At(15, StepFault::TooLarge)));
     Ok(())
 }
@@ -114,17 +138,20 @@ fn large(alloc: Global) -> Result<Term, OutOfMemory> {
     Ok(made)
 }
 
-/// `a -> a`, at the root and at the end of a long branch of a large term.
+/// The nodes after so many steps by `a -> a` under so many symbols.
+fn nodes(alloc: Global, start: &Term, steps: u32, place: u32) -> Result<u64, Fail> {
+    let arities = Vec::from_array(alloc, [0, 1, 2])?;
+    let left = term(alloc, 0, [])?;
+    let trs = one_rule(alloc, arities, left, term(alloc, 0, [])?)?;
+    Ok(run_path(alloc, &trs, start, &repeated(alloc, steps, place)?)?.size())
+}
+
 #[test]
 fn long_paths_are_followed(rt: HostRuntime) -> Result<(), Fail> {
     let alloc = rt.alloc();
-    let arities = Vec::from_array(alloc, [0, 1, 2])?;
-    let trs = one_rule(alloc, arities, term(alloc, 0, [])?, term(alloc, 0, [])?)?;
     let start = term(alloc, 0, [])?;
-    let end = run_path(alloc, &trs, &start, &repeated(alloc, 100_000, 0)?)?;
-    assert_eq!(rt; end.size(), 1);
-    let end = run_path(alloc, &trs, &large(alloc)?, &repeated(alloc, 20_000, 60)?)?;
-    assert_eq!(rt; end.size(), 30_001);
+    assert_eq!(rt; nodes(alloc, &start, 100_000, 0)?, 1);
+    assert_eq!(rt; nodes(alloc, &large(alloc)?, 20_000, 60)?, 30_001);
     Ok(())
 }
 

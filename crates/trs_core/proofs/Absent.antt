@@ -1,5 +1,5 @@
 -- A position that is not in a term.
-use Rattle.std.proofs.Common.{◌≡◌, ℕ, ◌↔◌, Bool, true, false, cond, List, Option, Some, None, Ok, Err, refl}
+use Rattle.std.proofs.Common.{◌≡◌, ℕ, ◌↔◌, Bool, true, false, List, Option, Some, None, Ok, Err, refl}
 use Rattle.std.specs.Prelude.{if◌then◌else◌}
 use Rattle.trs_defs.specs.Tree.{Tree}
 use Rattle.trs_defs.specs.Size.{within_limits}
@@ -19,7 +19,3 @@ no_position p t u = go (replaced_at p t u) (none_replaced p t u) (none_there p t
         small : (b : Bool) → (if b then Ok v else Err replace.TooLarge) ≡ Err replace.NoPosition → ⊥
         small true e = absurd cc
         small false e = absurd cc
-
-pub not_put : (p : List ℕ) (t u v : Tree) (b : Bool) → replaced_at p t u ≡ cond b (Some v) None → b ≡ false ↔ subterm_at p t ≡ None
-not_put p t u v true is = (λ e. absurd cc, λ e. let none = none_replaced p t u e in absurd cc)
-not_put p t u v false is = (λ e. none_there p t u is, λ e. refl)
