@@ -22,8 +22,3 @@ pub use paths::{PathFault, PathStep, run_path};
 pub use reasons::RefusalFields;
 pub use refusals::{CheckFault, StepRefused, path_refused};
 pub use steps::{StepFault, step_at};
-
-#[cfg(test)]
-mod slow;
-#[cfg(test)]
-mod tests;

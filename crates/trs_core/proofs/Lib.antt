@@ -1,10 +1,10 @@
 pub mod Absent
 pub mod Arities
 pub mod Comparing
+pub mod EachVariable
 pub mod Lookups
 pub mod MatchSteps
 pub mod Putting
 pub mod RuleLists
-pub mod SmallVariables
 pub mod Unknown
 pub mod SeenItems

@@ -1,9 +1,9 @@
 -- A `BTreeMap` of terms read as a finite map of trees, and arguments by their places.
-use Rattle.std.proofs.Common.{◌≡◌, ◌≢◌, ℕ, ◌-◌, ◌<◌, map, arith, slice_set, Bool, true, false, cond, List, [], ◌∷◌, Option, Some, None, refl, ap, sym, ◌∙◌, zero, suc, length, sub-one, slice_get}
+use Rattle.std.proofs.Common.{◌≡◌, ℕ, ◌-◌, ◌<◌, map, arith, slice_set, Bool, true, false, cond, List, [], ◌∷◌, Option, Some, None, refl, ap, sym, ◌∙◌, zero, suc, length, sub-one, slice_get}
 use Rattle.std.specs.Borrow.{Bor}
 use Rattle.std.specs.Option.{option_copied, option_map}
 use Rattle.std.specs.Slice.{IsItemAt}
-use Rattle.std.proofs.lemmas.Option.{slice_get_read, slice_get_past, slice_get_within}
+use Rattle.std.proofs.lemmas.Option.{slice_get_read, slice_get_past}
 use Rattle.std.specs.Ordering.{nat_cmp, is_eq, eq_by_cmp}
 use Rattle.std.specs.Cmp.{nat_cmp_total, eq_by_cmp_equiv}
 use Rattle.std.specs.Map.{lookup}
@@ -60,15 +60,6 @@ apply_all_forest s [] [] e = refl
 apply_all_forest s [] (t ∷ ts) e = absurd cc
 apply_all_forest s (u ∷ us) [] e = absurd cc
 apply_all_forest s (u ∷ us) (t ∷ ts) e = let rest : forest us ≡ apply_all s (forest ts) = apply_all_forest s us ts cc in let first : tree u ≡ apply s (tree t) = cc in cc
-
--- an argument that is there stands inside the list
-pub argument_within : (f : ℕ) (ts : List Term) (args : Trees) (place : ℕ) → forest ts ≡ args → argument_at (app f args) place ≢ None → (0 < place) × (place - 1 < length ts)
-argument_within f ts args zero is h = absurd (h refl)
-argument_within f ts args (suc i) is h = (omega arith, rw sub-one (go (slice_get ts i) refl))
-  where
-    go : (o : Option Term) → slice_get ts i ≡ o → i < length ts
-    go None e = let none : slice_get ts (suc i - 1) ≡ None = rw sub-one e in absurd (h (argument_at_past f ts args (suc i) is (λ z. absurd (omega arith)) ∙ ap (option_map tree) none))
-    go (Some t) e = slice_get_within ts i t e
 
 pub with_argument_forest : (f : ℕ) (ts : List Term) (args : Trees) (place : ℕ) (u : Term) → forest ts ≡ args → 0 < place → with_argument (app f args) place (tree u) ≡ app f (forest (slice_set ts (place - 1) u))
 with_argument_forest f ts args zero u is h = absurd (omega arith)

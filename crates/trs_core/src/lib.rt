@@ -27,6 +27,3 @@ pub use positions::Position;
 pub use replacing::ReplaceFault;
 pub use rules::{Rule, Trs};
 pub use terms::{Args, Term};
-
-#[cfg(test)]
-mod tests;

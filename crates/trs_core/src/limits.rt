@@ -31,9 +31,15 @@ fn are_shallow(rules: &[Rule]) -> bool
     ensures { IsTrue result ↔ All IsShallow rules.now }
 {
     for rule in rules {
-        if rule.left.depth() > 1_024 || rule.right.depth() > 1_024 {
+        if !is_shallow(rule) {
             return false;
         }
     }
     true
+}
+
+fn is_shallow(rule: &Rule) -> bool
+    ensures { IsTrue result ↔ IsShallow rule.now }
+{
+    rule.left.depth() <= 1_024 && rule.right.depth() <= 1_024
 }

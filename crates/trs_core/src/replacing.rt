@@ -1,10 +1,9 @@
-ghost use Rattle.std.specs.Prelude.{◌≡◌, ◌≢◌, ◌↔◌, IfOk, None, Some, Err, cond, false};
-ghost use Rattle.std.specs.Option.{option_map};
-ghost use Rattle.trs_defs.specs.Position.{argument_at, subterm_at, replaced_at, with_argument as argument_changed};
+ghost use Rattle.std.specs.Prelude.{◌≡◌, ◌↔◌, None, Some, Err, cond, false};
+ghost use Rattle.trs_defs.specs.Position.{subterm_at, replaced_at};
 ghost use Rattle.trs_core.specs.Limits.{Gives, replacement};
 ghost use Rattle.trs_core.specs.View.{tree};
 
-use crate::{Args, OutOfMemory, Position, Term};
+use crate::{OutOfMemory, Position, Term};
 use std::alloc::Global;
 
 /// Why a replacement was not made.
@@ -36,15 +35,14 @@ impl Term {
         // The answer is `NoPosition` exactly where `at` gives `None`.
         ensures no_position { replacement p.now (tree self.now) (tree by.now) ≡ Err ReplaceFault.NoPosition ↔ subterm_at p.now (tree self.now) ≡ None }
     {
-        match replaced(alloc, self, p.places(), by)? {
-            None => Err(ReplaceFault::NoPosition),
-            Some(found) => {
-                if found.is_within_limits() {
-                    Ok(found)
-                } else {
-                    Err(ReplaceFault::TooLarge)
-                }
-            }
+        let mut made = self.copy(alloc)?;
+        if !made.put(p, by.copy(alloc)?) {
+            return Err(ReplaceFault::NoPosition);
+        }
+        if made.is_within_limits() {
+            Ok(made)
+        } else {
+            Err(ReplaceFault::TooLarge)
         }
     }
 
@@ -78,45 +76,5 @@ fn put_at(term: &mut Term, places: &[u8], by: Term) -> bool
                 put_at(&mut args.items[index - 1], rest, by)
             }
         },
-    }
-}
-
-fn replaced(
-    alloc: Global,
-    term: &Term,
-    places: &[u8],
-    by: &Term,
-) -> Result<Option<Term>, OutOfMemory>
-    ensures { IfOk result (λ found. option_map tree found ≡ replaced_at places.now (tree term.now) (tree by.now)) }
-{
-    match places {
-        [] => Ok(Some(by.copy(alloc)?)),
-        [place, rest @ ..] => {
-            let Some(arg) = term.argument(*place) else {
-                return Ok(None);
-            };
-            match replaced(alloc, arg, rest, by)? {
-                None => Ok(None),
-                Some(new) => Ok(Some(with_argument(alloc, term, *place, new)?)),
-            }
-        }
-    }
-}
-
-/// The term with another argument at a place.
-fn with_argument(alloc: Global, term: &Term, place: u8, new: Term) -> Result<Term, OutOfMemory>
-    requires { argument_at (tree term.now) place ≢ None }
-    ensures { IfOk result (λ u. tree u ≡ argument_changed (tree term.now) place (tree new)) }
-{
-    match term {
-        Term::Var(n) => Ok(Term::Var(*n)),
-        Term::App(f, args) => {
-            let mut copies = Vec::with_capacity(alloc, args.items.len())?;
-            for arg in &args.items {
-                copies.push(arg.copy(alloc)?)?;
-            }
-            copies[usize::from(place) - 1] = new;
-            Ok(Term::App(*f, Args { items: copies }))
-        }
     }
 }

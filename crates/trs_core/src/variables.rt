@@ -1,4 +1,5 @@
 ghost use Rattle.std.specs.Prelude.{◌≡◌, ◌≤◌, ◌↔◌, ℕ, min, IfOk, OnOk, IsTrue};
+ghost use Rattle.trs_defs.specs.Tree.{var};
 ghost use Rattle.trs_defs.specs.Variable.{has_var as occurs, occurrences, variables_of, with_variables, IsLinear};
 ghost use Rattle.trs_core.specs.Seen.{HasItems};
 ghost use Rattle.trs_core.specs.View.{tree};
@@ -34,16 +35,24 @@ fn add_vars(t: &Term, seen: &mut BTreeSet<u32>, vars: &mut Vec<u32>) -> Result<(
     ensures seen { OnOk result (HasItems seen.new vars.new.items) }
 {
     match t {
-        Term::Var(v) => {
-            if seen.insert(*v)? {
-                vars.push(*v)?;
-            }
-        }
+        Term::Var(v) => add_var(*v, seen, vars),
         Term::App(_, args) => {
             for arg in &args.items {
                 add_vars(arg, seen, vars)?;
             }
+            Ok(())
         }
+    }
+}
+
+/// Adds a variable that is not seen yet.
+fn add_var(v: u32, seen: &mut BTreeSet<u32>, vars: &mut Vec<u32>) -> Result<(), OutOfMemory>
+    requires { HasItems seen.old vars.old.items }
+    ensures vars { OnOk result (vars.new.items ≡ with_variables vars.old.items (var v)) }
+    ensures seen { OnOk result (HasItems seen.new vars.new.items) }
+{
+    if seen.insert(v)? {
+        vars.push(v)?;
     }
     Ok(())
 }

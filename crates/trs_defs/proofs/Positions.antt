@@ -1,5 +1,5 @@
 -- Positions: what a term is with another subterm at one.
-use Rattle.std.specs.Prelude.{◌≡◌, ℕ, List, [], ◌∷◌, Option, Some, None, refl}
+use Rattle.std.specs.Prelude.{◌≡◌, ◌≢◌, ◌↔◌, ℕ, Bool, true, false, cond, List, [], ◌∷◌, Option, Some, None, refl}
 use Rattle.std.specs.Option.{option_and_then, option_map}
 use Rattle.std.proofs.Common.{ap}
 use Rattle.trs_defs.specs.Tree.{Tree}
@@ -49,3 +49,13 @@ none_there (place ∷ p) t new e = go (argument_at t place) e (λ a. none_there 
         → ((a : Tree) → replaced_at p a new ≡ None → subterm_at p a ≡ None) → option_and_then (subterm_at p) o ≡ None
     go None h rest = refl
     go (Some a) h rest = inner a (replaced_at p a new) h (rest a)
+
+-- what is put where a subterm is
+pub put_there : (p : List ℕ) (t by u : Tree) (b : Bool) → subterm_at p t ≢ None → replaced_at p t by ≡ cond b (Some u) None → replaced_at p t by ≡ Some u
+put_there p t by u true there is = is
+put_there p t by u false there is = absurd (there (none_there p t by is))
+
+-- nothing is put exactly where no subterm is
+pub not_put : (p : List ℕ) (t by u : Tree) (b : Bool) → replaced_at p t by ≡ cond b (Some u) None → b ≡ false ↔ subterm_at p t ≡ None
+not_put p t by u true is = (λ e. absurd cc, λ e. let none = none_replaced p t by e in absurd cc)
+not_put p t by u false is = (λ e. none_there p t by is, λ e. refl)

@@ -1,5 +1,5 @@
+use Rattle.trs_defs.proofs.Positions.{not_put}
 use Rattle.trs_core.specs.View.{tree}
-use Rattle.trs_core.proofs.Absent.{not_put}
 use Rattle.trs_core.proofs.terms.Term.put.Goals as goal
 
 pub returns-clause-no_position : goal.returns-clause-no_position

@@ -3,7 +3,7 @@
 
 ghost use Rattle.std.specs.Prelude.{◌≤◌, length};
 
-use crate::step_at;
+use rewrite_core::step_at;
 use std::alloc::Global;
 use std::test::Fail;
 use trs_core::{Args, OutOfMemory, Position, Rule, Term, Trs};
@@ -30,7 +30,7 @@ fn arity(letter: u8) -> u8 {
 }
 
 /// The term that a text begins with; nothing where it begins with none.
-pub fn first_term(text: &[u8]) -> &[u8]
+fn first_term(text: &[u8]) -> &[u8]
     ensures { length result.now ≤ length text.now }
 {
     let mut open: u64 = 1;
@@ -120,7 +120,14 @@ fn read(alloc: Global, text: &[u8]) -> Result<Term, OutOfMemory> {
     Ok(stack.pop().unwrap_or(Term::Var(3)))
 }
 
-/// Writes a term over variable 2.
+/// The text of a term over variable 2.
+fn written(alloc: Global, t: &Term) -> Result<Vec<u8>, OutOfMemory> {
+    let mut text = Vec::new(alloc);
+    write(t, &mut text)?;
+    Ok(text)
+}
+
+/// Writes a term over variable 2 behind a text.
 fn write(t: &Term, text: &mut Vec<u8>) -> Result<(), OutOfMemory> {
     match t {
         Term::Var(_) => text.push(b'v')?,
@@ -158,9 +165,7 @@ fn results(alloc: Global, trs: &Trs, t: &Term) -> Result<Vec<Vec<u8>>, OutOfMemo
         let place = position(alloc, number)?;
         for rule in 0..RULES {
             if let Ok(reduct) = step_at(alloc, trs, t, &place, rule) {
-                let mut text = Vec::new(alloc);
-                write(&reduct, &mut text)?;
-                found.push(text)?;
+                found.push(written(alloc, &reduct)?)?;
             }
         }
     }
@@ -174,25 +179,25 @@ fn is_within(texts: &[Vec<u8>], others: &[Vec<u8>]) -> bool {
         .any(|other| other.as_slice() == text.as_slice()))
 }
 
+/// A rule as terms.
+fn read_rule(alloc: Global, number: u32) -> Result<Rule, OutOfMemory> {
+    let (left, right) = rule(number);
+    let left = read(alloc, left)?;
+    let right = read(alloc, right)?;
+    Ok(Rule { left, right })
+}
+
 /// The system of the rules.
 pub fn system(alloc: Global) -> Result<Trs, Fail> {
-    let mut arities = Vec::new(alloc);
-    for letter in b"cgf" {
-        arities.push(arity(*letter))?;
-    }
     let mut rules = Vec::new(alloc);
     for number in 0..RULES {
-        let (left, right) = rule(number);
-        rules.push(Rule {
-            left: read(alloc, left)?,
-            right: read(alloc, right)?,
-        })?;
+        rules.push(read_rule(alloc, number)?)?;
     }
-    Ok(Trs::new(arities, rules)?)
+    Ok(Trs::new(Vec::from_array(alloc, [0, 1, 2])?, rules)?)
 }
 
 /// Text number `n` of those with so many letters.
-pub fn text(alloc: Global, letters: u32, n: u32) -> Result<Vec<u8>, OutOfMemory> {
+fn text(alloc: Global, letters: u32, n: u32) -> Result<Vec<u8>, OutOfMemory> {
     let mut made = Vec::new(alloc);
     let mut rest = n;
     for _ in 0..letters {
@@ -208,11 +213,44 @@ pub fn text(alloc: Global, letters: u32, n: u32) -> Result<Vec<u8>, OutOfMemory>
 }
 
 /// Whether both ways give the same terms, and how many they are (with repetitions).
-pub fn agree(alloc: Global, trs: &Trs, text: &[u8]) -> Result<(bool, usize), OutOfMemory> {
+fn agree(alloc: Global, trs: &Trs, text: &[u8]) -> Result<(bool, usize), OutOfMemory> {
     let slow = reducts(alloc, text)?;
     let fast = results(alloc, trs, &read(alloc, text)?)?;
     Ok((
         is_within(&slow, &fast) && is_within(&fast, &slow),
         fast.len(),
     ))
+}
+
+/// Of the texts with so many letters: whether both ways give the same steps of each that is a
+/// term, how many those are, and how many steps there are.
+#[derive(Drop)]
+pub struct Comparison {
+    pub same: bool,
+    pub terms: usize,
+    pub steps: usize,
+}
+
+/// Compares both ways on the first texts with so many letters.
+pub fn compare(
+    alloc: Global,
+    trs: &Trs,
+    letters: u32,
+    texts: u32,
+) -> Result<Comparison, OutOfMemory> {
+    let mut found = Comparison {
+        same: true,
+        terms: 0,
+        steps: 0,
+    };
+    for n in 0..texts {
+        let text = text(alloc, letters, n)?;
+        if first_term(&text).len() == text.len() {
+            let (same, steps) = agree(alloc, trs, &text)?;
+            found.same = found.same && same;
+            found.terms = found.terms.saturating_add(1);
+            found.steps = found.steps.saturating_add(steps);
+        }
+    }
+    Ok(found)
 }

@@ -1,0 +1,175 @@
+//! Steps, paths and loops, at the limits of terms too.
+use crate::made::{one_rule, ones, repeated, term, tower};
+use crate::slow;
+use rewrite_core::{
+    CheckFault, PathFault, PathStep, StepFault, StepRefused, is_normal, loop_check, redexes,
+    run_path, step_at,
+};
+use std::alloc::Global;
+use std::test::Fail;
+use trs_core::{OutOfMemory, Term, Trs};
+
+/// `f(x) -> f(f(x))`, with the one symbol 0.
+fn growing(alloc: Global) -> Result<Trs, Fail> {
+    let left = tower(alloc, 0, 1, Term::Var(0))?;
+    let right = tower(alloc, 0, 2, Term::Var(0))?;
+    one_rule(alloc, Vec::from_array(alloc, [1])?, left, right)
+}
+
+/// What a loop is refused for, of so many steps from `f(y)`, with its instance under so many symbols.
+fn refused(alloc: Global, steps: u32, place: u32) -> Result<Option<CheckFault>, Fail> {
+    let trs = growing(alloc)?;
+    let start = tower(alloc, 0, 1, Term::Var(7))?;
+    let path = repeated(alloc, steps, 0)?;
+    Ok(loop_check(alloc, &trs, &start, &path, &ones(alloc, place)?).err())
+}
+
+#[test]
+fn a_growing_term_loops(rt: HostRuntime) -> Result<(), Fail> {
+    let alloc = rt.alloc();
+    for (steps, place, want) in [
+        (1, 0, None),
+        (1, 1, None),
+        (1, 2, Some(StepRefused::NotInstance)),
+        (1, 3, Some(StepRefused::NoPlace)),
+        (0, 0, Some(StepRefused::NoSteps)),
+    ] {
+        let found = refused(alloc, steps, place)?;
+        assert_eq!(rt; found, want.map(CheckFault::Refused), "at {place}");
+    }
+    Ok(())
+}
+
+#[test]
+fn a_growing_term_has_a_redex(rt: HostRuntime) -> Result<(), Fail> {
+    let alloc = rt.alloc();
+    let trs = growing(alloc)?;
+    let start = term(alloc, 0, [Term::Var(7)])?;
+    assert!(rt; !is_normal(alloc, &trs, &start)?);
+    assert!(rt; is_normal(alloc, &trs, &Term::Var(7))?);
+    assert_eq!(rt; redexes(alloc, &trs, &start)?.len(), 1);
+    Ok(())
+}
+
+#[test]
+fn a_reason_has_a_number_and_fields(rt: HostRuntime) {
+    let reason = StepRefused::EdgeBack(7, 9);
+    assert_eq!(rt; reason.number(), 9);
+    assert_eq!(rt; reason.fields().as_slice(), [7, 9].as_slice());
+}
+
+/// A term as deep as the limit, by a step from one that is less deep by one.
+fn deepest(alloc: Global, trs: &Trs) -> Result<Term, Fail> {
+    let deep = tower(alloc, 0, 1_022, Term::Var(0))?;
+    Ok(step_at(alloc, trs, &deep, &ones(alloc, 1_000)?, 0)?)
+}
+
+/// Why no step is made under so many symbols.
+fn step_fault(
+    alloc: Global,
+    trs: &Trs,
+    t: &Term,
+    place: u32,
+    rule: u32,
+) -> Result<Option<StepFault>, Fail> {
+    Ok(step_at(alloc, trs, t, &ones(alloc, place)?, rule).err())
+}
+
+#[test]
+fn a_term_is_no_deeper_than_the_limit(rt: HostRuntime) -> Result<(), Fail> {
+    let alloc = rt.alloc();
+    let trs = growing(alloc)?;
+    let deepest = deepest(alloc, &trs)?;
+    assert_eq!(rt; deepest.depth(), 1_024);
+    for (place, rule, want) in [
+        (0, 0, StepFault::TooLarge),
+        (1_022, 0, StepFault::TooLarge),
+        (1_023, 0, StepFault::NoMatch),
+        (1_024, 0, StepFault::NoPosition),
+        (1_024, 1, StepFault::NoRule),
+    ] {
+        let found = step_fault(alloc, &trs, &deepest, place, rule)?;
+        assert_eq!(rt; found, Some(want), "at {place}");
+    }
+    Ok(())
+}
+
+/// `d(x) -> p(x, x)`, with the symbols `d`, `p` and a constant.
+fn doubling(alloc: Global) -> Result<Trs, Fail> {
+    let left = term(alloc, 0, [Term::Var(0)])?;
+    let right = term(alloc, 1, [Term::Var(0), Term::Var(0)])?;
+    one_rule(alloc, Vec::from_array(alloc, [1, 2, 0])?, left, right)
+}
+
+/// Steps from the lowest of 16 symbols upward.
+fn upward(alloc: Global, steps: u32) -> Result<Vec<PathStep>, OutOfMemory> {
+    let mut path = Vec::new(alloc);
+    for k in 0..steps {
+        let place = ones(alloc, 15_u32.saturating_sub(k))?;
+        path.push(PathStep { place, rule: 0 })?;
+    }
+    Ok(path)
+}
+
+/// So many steps from 16 times `d` over a constant. Step `k` makes a term of 2 ^ (k + 2) - 1 nodes
+/// under the 15 - k symbols `d` that are left.
+fn doubled(alloc: Global, steps: u32) -> Result<Result<Term, PathFault>, Fail> {
+    let trs = doubling(alloc)?;
+    let start = tower(alloc, 0, 16, term(alloc, 2, [])?)?;
+    Ok(run_path(alloc, &trs, &start, &upward(alloc, steps)?))
+}
+
+#[test]
+fn a_term_is_no_larger_than_the_limit(rt: HostRuntime) -> Result<(), Fail> {
+    let alloc = rt.alloc();
+    assert_eq!(rt; doubled(alloc, 15)??.size(), 65_536);
+    let found = doubled(alloc, 16)?.err();
+    assert_eq!(rt; found, Some(PathFault::At(15, StepFault::TooLarge)));
+    Ok(())
+}
+
+/// A long branch of the binary symbol 2, with a long branch of the unary symbol 1 at each of its nodes.
+fn large(alloc: Global) -> Result<Term, OutOfMemory> {
+    let mut made = term(alloc, 0, [])?;
+    for _ in 0..60 {
+        let branch = tower(alloc, 1, 498, term(alloc, 0, [])?)?;
+        made = term(alloc, 2, [made, branch])?;
+    }
+    Ok(made)
+}
+
+/// The nodes after so many steps by `a -> a` under so many symbols.
+fn nodes(alloc: Global, start: &Term, steps: u32, place: u32) -> Result<u64, Fail> {
+    let arities = Vec::from_array(alloc, [0, 1, 2])?;
+    let left = term(alloc, 0, [])?;
+    let trs = one_rule(alloc, arities, left, term(alloc, 0, [])?)?;
+    Ok(run_path(alloc, &trs, start, &repeated(alloc, steps, place)?)?.size())
+}
+
+#[test]
+fn long_paths_are_followed(rt: HostRuntime) -> Result<(), Fail> {
+    let alloc = rt.alloc();
+    let start = term(alloc, 0, [])?;
+    assert_eq!(rt; nodes(alloc, &start, 100_000, 0)?, 1);
+    assert_eq!(rt; nodes(alloc, &large(alloc)?, 20_000, 60)?, 30_001);
+    Ok(())
+}
+
+/// The steps of each term of at most five nodes over a constant, a variable, a unary and a binary
+/// symbol are those that a slow search finds.
+#[test]
+fn steps_of_small_terms(rt: HostRuntime) -> Result<(), Fail> {
+    let alloc = rt.alloc();
+    let trs = slow::system(alloc)?;
+    let mut terms: usize = 0;
+    let mut steps: usize = 0;
+    for (letters, texts) in [(1, 4), (2, 16), (3, 64), (4, 256), (5, 1_024)] {
+        let found = slow::compare(alloc, &trs, letters, texts)?;
+        assert!(rt; found.same, "at {letters}");
+        terms = terms.saturating_add(found.terms);
+        steps = steps.saturating_add(found.steps);
+    }
+    assert_eq!(rt; terms, 66);
+    assert!(rt; steps > 40);
+    Ok(())
+}

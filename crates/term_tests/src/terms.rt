@@ -1,0 +1,42 @@
+//! Terms are matched, applied, replaced and copied.
+use crate::made::{position, term};
+use std::alloc::Global;
+use std::test::Fail;
+use trs_core::{Subst, Term, match_term};
+
+#[test]
+fn a_match_is_applied(rt: HostRuntime) -> Result<(), Fail> {
+    let alloc = rt.alloc();
+    let pattern = term(alloc, 0, [Term::Var(0), Term::Var(0)])?;
+    let matched = term(alloc, 0, [Term::Var(5), Term::Var(5)])?;
+    let found = match_term(alloc, &pattern, &matched)?.ok_or("no match")?;
+    assert!(rt; found.apply(alloc, &pattern)?.same(&matched));
+    Ok(())
+}
+
+#[test]
+fn a_variable_is_listed_once(rt: HostRuntime) -> Result<(), Fail> {
+    let alloc = rt.alloc();
+    let pair = term(alloc, 0, [Term::Var(5), Term::Var(5)])?;
+    assert_eq!(rt; pair.vars(alloc)?.as_slice(), [5].as_slice());
+    assert!(rt; !pair.is_linear());
+    Ok(())
+}
+
+/// A pair of variables 0 and 1, copied, with variable 2 in place of the second.
+fn replaced(alloc: Global) -> Result<Term, Fail> {
+    let second = position(alloc, &[2])?.copy(alloc)?;
+    let pair = term(alloc, 0, [Term::Var(0), Term::Var(1)])?.copy(alloc)?;
+    Ok(pair.replace(alloc, &second, &Term::Var(2))?)
+}
+
+#[test]
+fn a_copy_is_replaced(rt: HostRuntime) -> Result<(), Fail> {
+    let alloc = rt.alloc();
+    let mut bindings = Subst::new(alloc);
+    bindings.insert(2, Term::Var(3))?;
+    let last = bindings.apply(alloc, &replaced(alloc)?)?;
+    let want = term(alloc, 0, [Term::Var(0), Term::Var(3)])?;
+    assert!(rt; last.same(&want));
+    Ok(())
+}
