@@ -1,3 +1,4 @@
+pub mod EntrySteps
 pub mod Loops
 pub mod NameKeys
 pub mod SymbolPairs

@@ -37,7 +37,6 @@ fn application(symbols: &Names, head: &[u8], args: Vec<Term>) -> Term
 
 /// The term that an item writes, where symbols and variables have these names.
 #[cycle(build)]
-#[tactic(auto, using(crate::proofs::BuiltTerms::behind_push, crate::proofs::BuiltTerms::behind_none, std::proofs::lemmas::Grind::common_steps))]
 pub fn build_term<'a>(
     alloc: Global,
     symbols: &Names,
@@ -59,7 +58,6 @@ pub fn build_term<'a>(
 }
 
 #[cycle(build)]
-#[tactic(auto, using(crate::proofs::BuiltTerms::behind_push, crate::proofs::BuiltTerms::behind_none, std::proofs::lemmas::Grind::common_steps))]
 fn build_terms<'a>(
     alloc: Global,
     symbols: &Names,

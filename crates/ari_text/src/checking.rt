@@ -119,7 +119,6 @@ fn note_term<'s, 'a>(
 }
 
 #[cycle(terms)]
-#[tactic(auto, using(crate::proofs::Noting::noted_append, std::proofs::lemmas::Grind::common_steps))]
 fn note_args<'s, 'a>(
     least: &mut Option<AriFault>,
     symbols: &Symbols,
@@ -248,7 +247,6 @@ pub struct Checked {
 }
 
 // What the items declare, and the least of the faults of that.
-#[tactic(auto, using(crate::proofs::Noting::noted_append, std::proofs::lemmas::Grind::common_steps))]
 fn check_declarations(alloc: Global, items: &[Sexp]) -> Result<Checked, AllocError>
     ensures symbols { IfOk result (λ d. d.symbols ≡ symbols_of [] (views items.now)) }
     ensures least { IfOk result (λ d. d.least ≡ noted None (all_declaration_faults [] whole_room (views items.now))) }
@@ -267,7 +265,6 @@ fn check_declarations(alloc: Global, items: &[Sexp]) -> Result<Checked, AllocErr
 }
 
 // Notes the faults of the terms.
-#[tactic(auto, using(crate::proofs::Noting::noted_append, std::proofs::lemmas::Grind::common_steps))]
 fn note_rules(
     least: &mut Option<AriFault>,
     alloc: Global,

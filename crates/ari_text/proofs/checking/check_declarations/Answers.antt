@@ -27,9 +27,9 @@ loop-item-preserved c =
     record {
       symbols = rw declared (one_more (λ xs. symbols_of symbols (views xs)) items i c.item-item.result c.loop-item-test.true c.item-item.is ∙ c.loop-item.invariant.symbols);
       least =
-        rw (declared, counted)
-        (noted_next least c.note_count.new.least c.note_entry.new.least (count_faults room (place_of x) (entry_of x)) (declaration_faults symbols (place_of x) (entry_of x))
-        (all_declaration_faults (symbols_after symbols (entry_of x)) (room_after room (entry_of x)) rest) too_many wrong
-        ∙ one_more (λ xs. noted least (all_declaration_faults symbols room (views xs))) items i c.item-item.result c.loop-item-test.true c.item-item.is
-        ∙ c.loop-item.invariant.least);
+          rw (declared, counted)
+          (noted_next least c.note_count.new.least c.note_entry.new.least (count_faults room (place_of x) (entry_of x)) (declaration_faults symbols (place_of x) (entry_of x))
+          (all_declaration_faults (symbols_after symbols (entry_of x)) (room_after room (entry_of x)) rest) too_many wrong
+          ∙ one_more (λ xs. noted least (all_declaration_faults symbols room (views xs))) items i c.item-item.result c.loop-item-test.true c.item-item.is
+          ∙ c.loop-item.invariant.least);
     }
