@@ -2,7 +2,7 @@
 use Rattle.std.proofs.Common.{◌≡◌, ℕ, List, ◌∷◌, Vec, Global, ap, ◌∙◌}
 use Rattle.sexp_core.specs.declared.sexp.Sexp.{Sexp, Word as word_of}
 use Rattle.sexp_core.proofs.Viewing.{view_word}
-use Rattle.sexp_core.specs.Items.{Item, a_word, item, view, views}
+use Rattle.sexp_core.specs.Items.{a_word, item, view, views}
 use Rattle.ari_text.specs.Entries.{three, ended, list_entry}
 
 -- of three members, the first of them a word, and further ones

@@ -1,4 +1,5 @@
 pub mod EntrySteps
+pub mod SystemParts
 pub mod Loops
 pub mod NameKeys
 pub mod SymbolPairs

@@ -1,7 +1,6 @@
-use Rattle.std.proofs.Common.{◌≡◌, ◌∙◌, ◌∷◌, ap, sym, rules}
-use Rattle.sexp_core.specs.declared.sexp.Sexp.{Word as word_of}
+use Rattle.std.proofs.Common.{◌≡◌, ◌∙◌, ap, sym, rules}
 use Rattle.sexp_core.specs.Items.{view, views}
-use Rattle.ari_text.specs.Entries.{three, ended, list_entry}
+use Rattle.ari_text.specs.Entries.{three, ended}
 use Rattle.ari_text.proofs.EntrySteps.{entry_of_three}
 use Rattle.ari_text.proofs.entry.read_list.Goals as goal
 
