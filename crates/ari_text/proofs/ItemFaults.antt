@@ -5,9 +5,9 @@ use Rattle.std.specs.Option.{option_or}
 use Rattle.std.specs.Prelude.{codes}
 use Rattle.std.specs.Str.{bytes_eq}
 use Rattle.sexp_core.specs.Items.{Item, a_word, a_list, Items, no_items, item}
+use Rattle.numerals.specs.Numerals.{digits_value}
 use Rattle.ari_text.specs.declared.fault.AriFault.{AriFault}
 use Rattle.ari_text.specs.declared.fault.AriFault.TheVariants as fault
-use Rattle.ari_text.specs.Names.{digits_value}
 use Rattle.ari_text.specs.Symbols.{Declared, arity_of, names_of}
 use Rattle.ari_text.specs.Entries.{Saying, declares, rewrites, attributed, says_nothing, entry_of, place_of}
 use Rattle.ari_text.specs.Terms.{variables_after, nodes_of}

@@ -1,3 +1,6 @@
+pub mod EntrySteps
+pub mod SystemParts
+pub mod Loops
 pub mod NameKeys
 pub mod SymbolPairs
 pub mod Rooms

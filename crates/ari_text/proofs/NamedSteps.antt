@@ -43,6 +43,28 @@ good_names before (n ∷ ns) d e =
     let rest = good_names (before ++ n ∷ []) ns (distinct_last before n d absent_here) parts.2 in
     (rw parts.0 rest.0, rw append_assoc at rest.1)
 
+next_cases : (b : Bool) (o : Option ℕ) (k : ℕ) → option_map BadName (cond b None (Some k)) ≡ None → cond b o (Some k) ≡ o
+next_cases true o k e = refl
+next_cases false o k e = absurd cc
+
+-- behind a good name
+pub names_next : (before : List (List ℕ)) (n : List ℕ) (ns : List (List ℕ)) → option_map BadName (first_bad_name before (n ∷ [])) ≡ None
+    → first_bad_name before (n ∷ ns) ≡ first_bad_name (before ++ n ∷ []) ns
+names_next before n ns e = next_cases (is_word n && is_none (number_among before n)) (first_bad_name (before ++ n ∷ []) ns) (length before) e
+
+fail_cases : (b : Bool) (o : Option ℕ) (k : ℕ) (f : NamesFault) → option_map BadName (cond b None (Some k)) ≡ Some f → option_map BadName (cond b o (Some k)) ≡ Some f
+fail_cases true o k f e = absurd cc
+fail_cases false o k f e = e
+
+-- a bad name is the first of those that it begins
+pub names_fail : (e : NamesFault) (before : List (List ℕ)) (n : List ℕ) (ns : List (List ℕ)) → FailsBy e (option_map BadName (first_bad_name before (n ∷ [])))
+    → FailsBy e (option_map BadName (first_bad_name before (n ∷ ns)))
+names_fail OutOfMemory before n ns h = tt
+names_fail Count before n ns h = fail_cases (is_word n && is_none (number_among before n)) (first_bad_name (before ++ n ∷ []) ns) (length before) Count h
+names_fail (BadName f) before n ns h = fail_cases (is_word n && is_none (number_among before n)) (first_bad_name (before ++ n ∷ []) ns) (length before) (BadName f) h
+names_fail (TooDeep i) before n ns h = fail_cases (is_word n && is_none (number_among before n)) (first_bad_name (before ++ n ∷ []) ns) (length before) (TooDeep i) h
+names_fail (BadNumbering i) before n ns h = fail_cases (is_word n && is_none (number_among before n)) (first_bad_name (before ++ n ∷ []) ns) (length before) (BadNumbering i) h
+
 -- ---- rules
 
 all_behind : (b rest : Bool) (o : Option ℕ) → cond (not b) (Some 0) (option_map suc o) ≡ None → (o ≡ None → rest ≡ true) → (b && rest) ≡ true

@@ -16,6 +16,10 @@ pub noted_append : (least : Option AriFault) (fs gs : List AriFault) → noted l
 noted_append least [] gs = refl
 noted_append least (f ∷ fs) gs = noted_append (earlier least f) fs gs
 
+-- the faults of an item in two parts, and those behind it
+pub noted_next : (least l1 l2 : Option AriFault) (cs ds rest : List AriFault) → l1 ≡ noted least cs → l2 ≡ noted l1 ds → noted l2 rest ≡ noted least ((cs ++ ds) ++ rest)
+noted_next least l1 l2 cs ds rest e f = rw (f, e) (sym (noted_append least (cs ++ ds) rest ∙ ap (λ l. noted l rest) (noted_append least cs ds)))
+
 pub count_views : (xs : List Sexp) → count (views xs) ≡ length xs
 count_views [] = refl
 count_views (x ∷ xs) = ap suc (count_views xs)

@@ -7,9 +7,10 @@ use Rattle.sexp_core.specs.Items.{Item, a_word, a_list, Items, no_items, item}
 use Rattle.sexp_core.specs.Printed.{bare, placeless}
 use Rattle.trs_defs.specs.Tree.{Tree, cons}
 use Rattle.trs_defs.specs.System.{RewriteRule}
+use Rattle.numerals.specs.Numerals.{digits_value}
 use Rattle.ari_text.specs.declared.fault.AriFault.{AriFault}
 use Rattle.ari_text.specs.declared.fault.AriFault.TheVariants as fault
-use Rattle.ari_text.specs.Names.{digits_value, number_among}
+use Rattle.ari_text.specs.Names.{number_among}
 use Rattle.ari_text.specs.Symbols.{Declared, arity_of, names_of}
 use Rattle.ari_text.specs.Entries.{Saying, declares, rewrites, attributed, says_nothing, place_of, declaration, three, begins_with_colon, ended, list_entry, entry_of}
 use Rattle.ari_text.specs.Terms.{variables_after, all_variables_after, term_of, terms_of, applied, rule_of, with_rule, rules_of, nodes_of, nodes_of_all}

@@ -14,7 +14,8 @@ use Rattle.trs_defs.specs.Size.{size_of, depth_of}
 use Rattle.trs_defs.specs.WellFormed.{IsWellFormed}
 use Rattle.trs_defs.specs.System.{RewriteRule, IsRule}
 use Rattle.trs_core.specs.SystemLimits.{HasSmallVariables, HaveSmallVariables, nodes_of as nodes_of_rules}
-use Rattle.ari_text.specs.Names.{are_distinct, digits_value}
+use Rattle.numerals.specs.Numerals.{digits_value}
+use Rattle.ari_text.specs.Names.{are_distinct}
 use Rattle.ari_text.specs.Symbols.{Declared, paired, names_of, arities_of, arity_of}
 use Rattle.ari_text.specs.Named.{is_word, is_shallow, is_numbered, next_number}
 use Rattle.ari_text.specs.Terms.{variables_after, term_of, rule_of, rules_of, nodes_of}

@@ -1,57 +1,27 @@
 -- The names of symbols and of variables in a printed problem.
-use Rattle.std.proofs.Common.{◌≡◌, ℕ, zero, suc, ◌+◌, ◌-◌, ◌*◌, ◌^◌, ◌<◌, ◌≤◌, Bool, true, false, cond, not, ◌||◌, List, [], ◌∷◌, ◌++◌, length, get_or, replicate, Option, Some, None, option_map, slice_get, decimal, nat_le, refl, ap, ◌∙◌, ⊎_elim, arith, rules}
+use Rattle.std.proofs.Common.{◌≡◌, ℕ, zero, suc, ◌^◌, ◌<◌, ◌≤◌, Bool, true, false, cond, not, ◌||◌, List, [], ◌∷◌, ◌++◌, length, get_or, replicate, Option, Some, None, option_map, slice_get, decimal, nat_le, refl, ap, ◌∙◌, ⊎_elim, arith}
 use Rattle.std.specs.List.{list_any, list_all, AllByRecursion}
 use Rattle.std.specs.Option.{option_or, option_and_then}
 use Rattle.std.specs.Char.{is_ascii_digit}
 use Rattle.std.specs.Str.{bytes_eq, all_ascii_digits}
-use Rattle.std.proofs.lemmas.Bool.{and_parts, le-leb, le-ltb, leb-true, ne_eqb, false_from_ne_true, both_ways, not-true, cases_lt}
+use Rattle.std.proofs.lemmas.Bool.{and_parts, le-ltb, leb-true, ne_eqb, false_from_ne_true, both_ways, not-true, cases_lt}
 use Rattle.std.proofs.lemmas.Cmp.{nat_list_eq_equiv}
-use Rattle.std.proofs.lemmas.Fmt.{decimal_nonempty, decimal_injective, digits_decimal, digits_value-decimal}
+use Rattle.std.proofs.lemmas.Fmt.{decimal_nonempty, decimal_injective}
 use Rattle.std.proofs.lemmas.List.{append_cancel_left, length-append}
 use Rattle.std.proofs.lemmas.List.Folds.{list_any_at}
 use Rattle.std.proofs.lemmas.Slice.Eq.{bytes_eq-Decides}
-use Rattle.std.proofs.lemmas.Str.Parse.{IsNumeralModel, numerals_by_fold, tells_all_ascii_digits}
 use Rattle.sexp_core.specs.Tokens.{class_of, is_letter}
 use Rattle.sexp_core.specs.Printed.{IsWord}
-use Rattle.ari_text.specs.Names.{number_among, are_distinct, digits_behind, digits_value}
+use Rattle.numerals.specs.Numerals.{digits_value}
+use Rattle.numerals.proofs.Printed.{decimal_digits, digits_read}
+use Rattle.ari_text.specs.Names.{number_among, are_distinct}
 use Rattle.ari_text.specs.Symbols.{paired, arity_of}
 use Rattle.ari_text.specs.Named.{is_word}
 use Rattle.ari_text.specs.VariableNames.{leading_underscores, underscores, variable_name}
 
--- ---- digits
-
-abbrev read_on : ℕ → List ℕ → ℕ
-read_on n [] = n
-read_on n (d ∷ ds) = read_on (n * 10 + (d - 48)) ds
-
-own : IsNumeralModel (λ ds. all_ascii_digits ds ≡ true) (read_on 0)
-own = numerals_by_fold _ tells_all_ascii_digits read_on (search rules)
-
-le_read_on : (ds : List ℕ) (n : ℕ) → n ≤ read_on n ds
-le_read_on [] n = omega arith
-le_read_on (d ∷ ds) n = omega (arith, le_read_on ds (n * 10 + (d - 48)))
-
-behind_reads : (limit : ℕ) (ds : List ℕ) (n : ℕ) → all_ascii_digits ds ≡ true → read_on n ds ≤ limit → digits_behind limit n ds ≡ Some (read_on n ds)
-behind_reads limit [] n e le = refl
-behind_reads limit (d ∷ ds) n e le =
-    let parts = and_parts (is_ascii_digit d) (all_ascii_digits ds) e in
-    let next = n * 10 + (d - 48) in
-    let small : nat_le next limit ≡ true = le-leb next limit (omega (arith, le_read_on ds next)) in
-    rw (parts.0, small) (behind_reads limit ds next parts.1 le)
-
-value_reads : (limit : ℕ) (ds : List ℕ) → 0 < length ds → all_ascii_digits ds ≡ true → read_on 0 ds ≤ limit → digits_value limit ds ≡ Some (read_on 0 ds)
-value_reads limit [] lt e le = absurd (omega arith)
-value_reads limit (d ∷ ds) lt e le = behind_reads limit (d ∷ ds) 0 e le
-
-decimal_digits : (n : ℕ) → n < 2 ^ 64 → all_ascii_digits (decimal n) ≡ true
-decimal_digits n lt = digits_decimal own n lt
-
 -- a printed arity is read again
 pub arity_read : (a : ℕ) → a ≤ 255 → digits_value 255 (decimal a) ≡ Some a
-arity_read a le =
-    let lt : a < 2 ^ 64 = omega arith in
-    let value : read_on 0 (decimal a) ≡ a = digits_value-decimal own a lt in
-    value_reads 255 (decimal a) (decimal_nonempty a lt) (decimal_digits a lt) (omega (arith, value)) ∙ ap (λ n. Some n) value
+arity_read a le = digits_read 255 a (omega arith) le
 
 -- ---- words
 

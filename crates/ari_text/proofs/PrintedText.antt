@@ -1,6 +1,6 @@
 -- Steps of printing.
-use Rattle.std.proofs.Common.{◌≡◌, ◌≢◌, ℕ, suc, ◌+◌, ◌<◌, ◌≤◌, max, List, [], ◌∷◌, ◌++◌, length, drop, get_or, Some, slice_get, codes, decimal, refl, ap, sym, ◌∙◌, append_assoc, arith, add-one, drop-cons}
-use Rattle.std.proofs.lemmas.List.{append-nil, drop_all}
+use Rattle.std.proofs.Common.{◌≡◌, ◌≢◌, ℕ, suc, ◌+◌, ◌<◌, ◌≤◌, max, List, [], ◌∷◌, ◌++◌, length, drop, get_or, replicate, Some, slice_get, codes, decimal, refl, ap, sym, ◌∙◌, append_assoc, arith, add-one, drop-cons}
+use Rattle.std.proofs.lemmas.List.{append-nil, drop_all, replicate-append-replicate}
 use Rattle.std.proofs.lemmas.Option.{slice_get_within, get_or_from_slice_get}
 use Rattle.sexp_core.specs.Items.{Item, a_word, Items, no_items, item}
 use Rattle.sexp_core.specs.Printed.{text_of, spaced, lines}
@@ -53,6 +53,10 @@ rules_step k names r rs out all h =
     next_lines out all _ _ _ h
     (first_line (three_members (codes "rule") (term_item k names r.left) (term_item k names r.right)) (rule_items k names rs))
 
+-- one more argument is printed
+pub spaced_step : (out o1 o2 all : List ℕ) (x : Item) (xs : Items) → o1 ≡ out ++ 32 ∷ [] → o2 ≡ o1 ++ text_of x → out ++ spaced (item x xs) ≡ all → o2 ++ spaced xs ≡ all
+spaced_step out o1 o2 all x xs e f g = rw (f, e) (simp append_assoc g)
+
 enclosed : (o name s : List ℕ) → (((o ++ 40 ∷ []) ++ name) ++ s) ++ 41 ∷ [] ≡ o ++ (40 ∷ ((name ++ s) ++ 41 ∷ []))
 enclosed o name s = simp append_assoc
 
@@ -76,6 +80,10 @@ pub constant_text : (k : ℕ) (names : List (List ℕ)) (name : List ℕ) (ts : 
     → text_of (applied_item name (term_items k names (forest ts))) ≡ name
 constant_text k names name [] e = refl
 constant_text k names name (t ∷ ts) e = absurd (omega arith)
+
+-- one more underscore
+pub underscore_step : (out : List ℕ) (i : ℕ) → (out ++ replicate i 95) ++ 95 ∷ [] ≡ out ++ replicate (i + 1) 95
+underscore_step out i = append_assoc out (replicate i 95) (95 ∷ []) ∙ ap (λ (t : List ℕ). out ++ t) (replicate-append-replicate i 1 95)
 
 pub underscores_pos : (ns : List (List ℕ)) → 1 ≤ underscores ns
 underscores_pos [] = omega arith

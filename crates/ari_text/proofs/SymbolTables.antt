@@ -1,12 +1,11 @@
 -- The symbols that items declare, where the items have no faults.
-use Rattle.std.proofs.Common.{◌≡◌, ℕ, suc, ◌+◌, ◌-◌, ◌*◌, ◌≤◌, ◌&&◌, ◌||◌, Bool, true, false, not, cond, nat_le, List, [], ◌∷◌, ◌++◌, length, Option, Some, None, option_map, slice_get, refl, sym, ap, arith}
+use Rattle.std.proofs.Common.{◌≡◌, ℕ, suc, ◌||◌, Bool, true, false, not, cond, List, [], ◌∷◌, ◌++◌, length, Option, Some, None, option_map, slice_get, refl, sym, ap}
 use Rattle.std.specs.List.{list_any}
 use Rattle.std.specs.Str.{bytes_eq}
-use Rattle.std.specs.Char.{is_ascii_digit}
-use Rattle.std.proofs.lemmas.Bool.{leb-true, and_parts, and_from, or_parts, or_from, not-true, false_from_ne_true}
+use Rattle.std.proofs.lemmas.Bool.{and_parts, and_from, or_parts, or_from, not-true, false_from_ne_true}
 use Rattle.std.proofs.lemmas.List.{map-append}
 use Rattle.std.proofs.lemmas.Slice.Eq.{bytes_eq-Decides}
-use Rattle.ari_text.specs.Names.{number_among, are_distinct, digits_behind, digits_value}
+use Rattle.ari_text.specs.Names.{number_among, are_distinct}
 use Rattle.ari_text.specs.Symbols.{Declared, names_of, arities_of, arity_of}
 
 -- ---- a name's number and its arity
@@ -88,20 +87,3 @@ pub distinct_symbol : (symbols : List Declared) (name : List ℕ) (n : ℕ) → 
     → are_distinct (names_of (symbols ++ (name, n) ∷ [])) ≡ true
 distinct_symbol symbols name n e h =
     rw (map-append (λ (s : Declared). s.0) symbols ((name, n) ∷ [])) (distinct_push (names_of symbols) name (absent symbols name e) h)
-
--- ---- arities
-
-step_within : (b : Bool) (limit next m : ℕ) (o : Option ℕ) → cond b o None ≡ Some m → (b ≡ true → next ≤ limit) → (next ≤ limit → o ≡ Some m → m ≤ limit) → m ≤ limit
-step_within true limit next m o e within h = h (within refl) e
-step_within false limit next m o e within h = absurd cc
-
-digits_behind_within : (limit n : ℕ) (ds : List ℕ) (m : ℕ) → n ≤ limit → digits_behind limit n ds ≡ Some m → m ≤ limit
-digits_behind_within limit n [] m h e = let same : n ≡ m = cc in omega arith
-digits_behind_within limit n (d ∷ ds) m h e =
-    let next = n * 10 + (d - 48) in
-    step_within (is_ascii_digit d && nat_le next limit) limit next m (digits_behind limit next ds) e
-    (λ both. leb-true next limit (and_parts (is_ascii_digit d) (nat_le next limit) both).1) (λ within is. digits_behind_within limit next ds m within is)
-
-pub digits_within : (limit : ℕ) (ds : List ℕ) (m : ℕ) → digits_value limit ds ≡ Some m → m ≤ limit
-digits_within limit [] m e = absurd cc
-digits_within limit (d ∷ ds) m e = digits_behind_within limit 0 (d ∷ ds) m (omega arith) e

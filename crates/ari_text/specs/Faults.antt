@@ -4,9 +4,9 @@ use Rattle.std.specs.Prelude.{ℕ, zero, suc, ◌+◌, ◌-◌, ◌==◌, ◌||�
 use Rattle.std.specs.List.{list_any}
 use Rattle.std.specs.Str.{bytes_eq}
 use Rattle.sexp_core.specs.Items.{Item, a_word, a_list, Items, no_items, item}
+use Rattle.numerals.specs.Numerals.{digits_value}
 use Rattle.ari_text.specs.declared.fault.AriFault.{AriFault}
 use Rattle.ari_text.specs.declared.fault.AriFault.TheVariants.{BadItem, Twice, BadArity, Unknown, WrongArity, LeftIsVariable, ExtraVariable, Attribute, TooMany, TooDeep}
-use Rattle.ari_text.specs.Names.{digits_value}
 use Rattle.ari_text.specs.Symbols.{Declared, arity_of, names_of}
 use Rattle.ari_text.specs.Entries.{Saying, declares, rewrites, attributed, says_nothing, entry_of, place_of}
 use Rattle.ari_text.specs.Terms.{variables_after, nodes_of}

@@ -37,7 +37,6 @@ fn application(symbols: &Names, head: &[u8], args: Vec<Term>) -> Term
 
 /// The term that an item writes, where symbols and variables have these names.
 #[cycle(build)]
-#[tactic(auto, using(crate::proofs::BuiltTerms::behind_push, crate::proofs::BuiltTerms::behind_none, std::proofs::lemmas::Grind::common_steps))]
 pub fn build_term<'a>(
     alloc: Global,
     symbols: &Names,
@@ -59,7 +58,6 @@ pub fn build_term<'a>(
 }
 
 #[cycle(build)]
-#[tactic(auto, using(crate::proofs::BuiltTerms::behind_push, crate::proofs::BuiltTerms::behind_none, std::proofs::lemmas::Grind::common_steps))]
 fn build_terms<'a>(
     alloc: Global,
     symbols: &Names,
@@ -94,8 +92,21 @@ fn build_rule(
     ensures { IfOk result (λ r. r ≡ rule_of symbols.now (view left.now) (view right.now)) }
 {
     let variables = variables_of(alloc, symbols, left)?;
-    let left = build_term(alloc, symbols, &variables, left)?;
-    let right = build_term(alloc, symbols, &variables, right)?;
+    build_sides(alloc, symbols, &variables, left, right)
+}
+
+// The rule of two sides, where symbols and variables have these names.
+fn build_sides<'a>(
+    alloc: Global,
+    symbols: &Names,
+    variables: &Variables<'a>,
+    left: &Sexp,
+    right: &Sexp,
+) -> Result<Rule, OutOfMemory>
+    ensures { IfOk result (λ r. r ≡ record { left = term_of symbols.now variables.now (view left.now); right = term_of symbols.now variables.now (view right.now) }) }
+{
+    let left = build_term(alloc, symbols, variables, left)?;
+    let right = build_term(alloc, symbols, variables, right)?;
     Ok(Rule { left, right })
 }
 

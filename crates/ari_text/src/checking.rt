@@ -3,18 +3,17 @@ ghost use Rattle.std.specs.Str.{bytes_eq};
 ghost use Rattle.sexp_core.specs.Items.{view, views};
 ghost use Rattle.ari_text.specs.Entries.{entry_of, place_of};
 ghost use Rattle.ari_text.specs.EntryView.{entry_view, saying_view};
-ghost use Rattle.ari_text.specs.Names.{digits_value as value_of};
 ghost use Rattle.ari_text.specs.Symbols.{arity_of};
 ghost use Rattle.ari_text.specs.ScopeView.{scope_view, IsBelow};
 ghost use Rattle.ari_text.specs.Least.{noted};
 ghost use Rattle.ari_text.specs.Faults.{count, variable_faults, word_faults, depth_faults, head_faults, term_faults, list_faults, args_faults, left_faults, sides_faults, rule_faults, count_faults, declaration_faults, twice_faults, arity_faults, with_symbol, symbols_after, room_after, whole_room, symbols_of, all_declaration_faults, all_rule_faults, faults_of};
 
 use crate::counting::Room;
-use crate::digits::digits_value;
 use crate::entry::{Entry, Saying, place, read_entry};
 use crate::fault::{AriFault, note};
 use crate::symbols::Symbols;
 use crate::variables::{Variables, variables_of};
+use numerals::digits_value;
 use sexp_core::Sexp;
 use std::alloc::{AllocError, Global};
 use trs_core::OutOfMemory;
@@ -120,7 +119,6 @@ fn note_term<'s, 'a>(
 }
 
 #[cycle(terms)]
-#[tactic(auto, using(crate::proofs::Noting::noted_append, std::proofs::lemmas::Grind::common_steps))]
 fn note_args<'s, 'a>(
     least: &mut Option<AriFault>,
     symbols: &Symbols,
@@ -249,7 +247,6 @@ pub struct Checked {
 }
 
 // What the items declare, and the least of the faults of that.
-#[tactic(auto, using(crate::proofs::Noting::noted_append, std::proofs::lemmas::Grind::common_steps))]
 fn check_declarations(alloc: Global, items: &[Sexp]) -> Result<Checked, AllocError>
     ensures symbols { IfOk result (λ d. d.symbols ≡ symbols_of [] (views items.now)) }
     ensures least { IfOk result (λ d. d.least ≡ noted None (all_declaration_faults [] whole_room (views items.now))) }
@@ -268,7 +265,6 @@ fn check_declarations(alloc: Global, items: &[Sexp]) -> Result<Checked, AllocErr
 }
 
 // Notes the faults of the terms.
-#[tactic(auto, using(crate::proofs::Noting::noted_append, std::proofs::lemmas::Grind::common_steps))]
 fn note_rules(
     least: &mut Option<AriFault>,
     alloc: Global,

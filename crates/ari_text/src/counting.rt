@@ -87,7 +87,6 @@ pub fn without_term(term: &Sexp, room: Option<u32>) -> Option<u32>
 }
 
 #[cycle(nodes)]
-#[tactic(auto, using(crate::proofs::Rooms::nodes_left_sum, crate::proofs::Rooms::nodes_left_nothing, std::proofs::lemmas::Grind::common_steps))]
 fn without_terms(terms: &[Sexp], room: Option<u32>) -> Option<u32>
     ensures { result ≡ nodes_left (nodes_of_all (views terms.now)) room }
 {

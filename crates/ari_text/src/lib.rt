@@ -4,7 +4,6 @@
 mod building;
 mod checking;
 mod counting;
-mod digits;
 mod entry;
 mod fault;
 mod laws;
@@ -20,7 +19,6 @@ mod variables;
 
 pub use building::own_term;
 pub use counting::without_term;
-pub use digits::digits_value;
 pub use entry::place;
 pub use fault::AriFault;
 pub use laws::least_is_least;
@@ -30,8 +28,3 @@ pub use names_fault::NamesFault;
 pub use printing::{print_problem, put_term};
 pub use reading::read_problem;
 pub use variable_names::{put_variable, underscores};
-
-#[cfg(test)]
-mod printing_tests;
-#[cfg(test)]
-mod reading_tests;

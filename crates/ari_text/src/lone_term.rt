@@ -7,10 +7,9 @@ ghost use Rattle.ari_text.specs.Symbols.{paired, arity_of};
 ghost use Rattle.ari_text.specs.Faults.{count};
 ghost use Rattle.ari_text.specs.ReadTerm.{stands_alone as alone, takes as takes_args, is_term as writes_term, are_terms as write_terms, lone_term, written_term};
 
-use crate::building::build_term;
+use crate::building::own_term;
 use crate::named::NamedTrs;
 use crate::names::Names;
-use crate::variables::variables_of;
 use sexp_core::Sexp;
 use std::alloc::Global;
 use trs_core::{OutOfMemory, Term};
@@ -27,8 +26,7 @@ pub fn read_term(alloc: Global, system: &NamedTrs, item: &Sexp) -> Result<Option
     if !is_term(system.names(), system.trs().arities(), item) {
         return Ok(None);
     }
-    let variables = variables_of(alloc, system.names(), item)?;
-    let term = build_term(alloc, system.names(), &variables, item)?;
+    let term = own_term(alloc, system, item)?;
     if !term.is_within_limits() {
         return Ok(None);
     }

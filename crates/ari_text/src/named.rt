@@ -1,4 +1,4 @@
-ghost use Rattle.std.specs.Prelude.{◌≡◌, ◌+◌, ◌<◌, ◌≤◌, map, length, slice_get, All, Some, option_map, position, not, IfOk, IfSome, List, [], ℕ};
+ghost use Rattle.std.specs.Prelude.{◌≡◌, ◌+◌, ◌<◌, ◌≤◌, ◌++◌, ◌∷◌, map, length, slice_get, All, Some, option_map, position, not, IfOk, IfSome, OnOk, List, [], ℕ};
 ghost use Rattle.std.specs.List.{list_all};
 ghost use Rattle.sexp_core.specs.Tokens.{class_of, is_letter};
 ghost use Rattle.trs_core.specs.View.{tree};
@@ -109,6 +109,7 @@ impl NamedTrs {
 }
 
 /// The names as a set, where each is a word that does not stand before.
+#[tactic(auto, using(crate::proofs::NamedSteps::names_next, crate::proofs::NamedSteps::names_fail, std::proofs::lemmas::Grind::common_steps))]
 fn distinct_words(alloc: Global, names: Vec<Vec<u8>>) -> Result<Names, NamesFault>
     requires { length names.items ≤ 4095 }
     ensures names { IfOk result (λ known. known ≡ map (λ n. n.items) names.items) }
@@ -116,12 +117,21 @@ fn distinct_words(alloc: Global, names: Vec<Vec<u8>>) -> Result<Names, NamesFaul
 {
     let mut known = Names::new(alloc);
     for name in names {
-        if !is_word(&name) || known.find(&name).is_some() {
-            return Err(NamesFault::BadName(known.len() as u32));
-        }
-        known.add(name)?;
+        add_word(&mut known, name)?;
     }
     Ok(known)
+}
+
+/// One more name, which is to be a word that is not among the others.
+fn add_word(known: &mut Names, name: Vec<u8>) -> Result<(), NamesFault>
+    ensures added { OnOk result (known.new ≡ known.old ++ name.items ∷ []) }
+    ensures exact { AnswersBy result (option_map (λ f. BadName f) (first_bad_name known.old (name.items ∷ []))) }
+{
+    if !is_word(&name) || known.find(&name).is_some() {
+        return Err(NamesFault::BadName(known.len() as u32));
+    }
+    known.add(name)?;
+    Ok(())
 }
 
 #[tactic(auto, using(crate::proofs::NamedSteps::word_test))]

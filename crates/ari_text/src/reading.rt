@@ -7,7 +7,7 @@ ghost use Rattle.ari_text.specs.Problem.{is_trs as is_trs_of, format_list_fault 
 ghost use Rattle.ari_text.specs.PartsView.{parts_view};
 
 use crate::building::build_rules;
-use crate::checking::check;
+use crate::checking::{Checked, check};
 use crate::fault::AriFault;
 use crate::named::NamedTrs;
 use crate::names::Names;
@@ -58,12 +58,12 @@ fn read_later(alloc: Global, items: &[Sexp]) -> Result<Parts, AriFault>
     ensures faultless { OnOk result (noted None (faults_of (views items.now)) ≡ None) }
     ensures fault { IfErr result (λ e. e ≢ AriFault.OutOfMemory → noted None (faults_of (views items.now)) ≡ Some e) }
 {
-    let checked = check(alloc, items)?;
-    if let Some(fault) = checked.least {
+    let Checked { symbols, least } = check(alloc, items)?;
+    if let Some(fault) = least {
         return Err(fault);
     }
-    let (names, arities) = checked.symbols.into_parts();
-    let rules = build_rules(alloc, &names, items)?;
+    let rules = build_rules(alloc, symbols.names(), items)?;
+    let (names, arities) = symbols.into_parts();
     Ok(Parts {
         names,
         arities,

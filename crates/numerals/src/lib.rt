@@ -1,13 +1,14 @@
 //! Decimal numerals: the numbers of problem texts, of certificates and of the command line.
 #![tactic(auto)]
 
-ghost use Rattle.std.specs.Prelude.{◌≡◌};
+ghost use Rattle.std.specs.Prelude.{◌≡◌, ◌≤◌, IfSome};
 ghost use Rattle.numerals.specs.Numerals.{digits_value, numeral_value};
 
 /// The value of a run of decimal digits. `None` exactly where the bytes are none or not all digits,
 /// or where the value passes the limit. Zeros may lead.
 pub fn digits_value(digits: &[u8], limit: u64) -> Option<u64>
-    ensures { result ≡ digits_value limit digits.now }
+    ensures value { result ≡ digits_value limit digits.now }
+    ensures within { IfSome result (λ n. n ≤ limit) }
 {
     if digits.is_empty() {
         return None;

@@ -2,4 +2,8 @@
 #![tactic(auto)]
 
 #[cfg(test)]
+mod named_systems;
+#[cfg(test)]
+mod problem_refusals;
+#[cfg(test)]
 mod problems;
