@@ -2,4 +2,10 @@
 #![tactic(auto)]
 
 #[cfg(test)]
+mod certificates;
+#[cfg(test)]
+mod certifying;
+#[cfg(test)]
+mod printed_certificates;
+#[cfg(test)]
 mod problems;

@@ -1,6 +1,7 @@
+//! Certificates are accepted, or rejected for the first check that fails.
 ghost use Rattle.std.specs.Prelude.{◌≤◌, length};
 
-use super::*;
+use certifier::{Claim, Rejected, certify};
 use rewrite_core::StepRefused;
 use std::test::*;
 
