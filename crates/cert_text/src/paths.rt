@@ -55,23 +55,14 @@ pub fn note_position(least: &mut Option<u32>, item: &Sexp)
 }
 
 // `(at position number)`, by its members.
-#[tactic(auto, using(crate::proofs::NotedPlaces::least_append))]
 fn note_placed_rule_list(least: &mut Option<u32>, at: u32, members: &[Sexp])
     ensures { least.new ≡ least_place least.old (placed_rule_list_faults at (views members.now)) }
 {
-    let Some((head, rest)) = members.split_first() else {
+    let [head, position, rule, more @ ..] = members else {
         note(least, at);
         return;
     };
-    let Some((position, rest)) = rest.split_first() else {
-        note(least, at);
-        return;
-    };
-    let Some((rule, more)) = rest.split_first() else {
-        note(least, at);
-        return;
-    };
-    note_head(least, b"at".as_slice(), head);
+    note_head(least, b"at", head);
     note_position(least, position);
     note_numeral(least, LAST_RULE, rule);
     note_extra(least, more);
@@ -103,7 +94,7 @@ fn note_path_list(least: &mut Option<u32>, at: u32, members: &[Sexp])
         note(least, at);
         return;
     };
-    note_head(least, b"path".as_slice(), head);
+    note_head(least, b"path", head);
     note_placed_rules(least, steps);
 }
 
