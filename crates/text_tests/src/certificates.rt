@@ -1,7 +1,7 @@
 //! Certificates are read, or refused at a place.
 use ari_text::{NamedTrs, read_problem};
-use cert_step::{Claim, Step};
-use cert_text::{CertFault, claim_headline, read_certificate};
+use cert_step::{Claim, NodeStep, Step};
+use cert_text::{CertFault, Certificate, claim_headline, read_certificate};
 use std::test::*;
 
 // One symbol, `f` of arity 1, and no rules.
@@ -64,25 +64,35 @@ fn refuses_with_place(rt: HostRuntime) -> Result<(), Fail> {
     Ok(())
 }
 
+// Whether a step says the loop `(step 0 (loop .. (path (at (1) 0)) ()))`.
+fn is_the_loop(step: &NodeStep) -> bool {
+    let Step::Loop { path, place, .. } = &step.step else {
+        return false;
+    };
+    let [first] = path.as_slice() else {
+        return false;
+    };
+    step.node == 0
+        && place.places().is_empty()
+        && first.rule == 0
+        && first.place.places() == [1u8].as_slice()
+}
+
+// Whether the one step of a certificate of nontermination is the loop.
+fn says_the_loop(certificate: &Certificate) -> bool {
+    let [step] = certificate.steps.as_slice() else {
+        return false;
+    };
+    certificate.claim == Claim::Nonterminating
+        && certificate.headline == claim_headline(Claim::Nonterminating)
+        && is_the_loop(step)
+}
+
 #[test]
 fn reads_a_loop(rt: HostRuntime) -> Result<(), Fail> {
     let system = read_problem(rt.alloc(), PROBLEM)?;
     let text = b"NO\n(certificate 1 nonterminating)\n(step 0 (loop (f x) (path (at (1) 0)) ()))";
     let certificate = read_certificate(rt.alloc(), &system, text)?;
-    assert_eq!(rt; certificate.claim, Claim::Nonterminating);
-    assert_eq!(rt; certificate.headline, claim_headline(Claim::Nonterminating));
-    let Some(step) = certificate.steps.first() else {
-        return Err(Fail::new("a step"));
-    };
-    assert_eq!(rt; (certificate.steps.len(), step.node), (1, 0));
-    let Step::Loop { path, place, .. } = &step.step else {
-        return Err(Fail::new("a loop"));
-    };
-    let Some(first) = path.first() else {
-        return Err(Fail::new("a step of the path"));
-    };
-    assert_eq!(rt; place.places().len(), 0);
-    assert_eq!(rt; (path.len(), first.rule), (1, 0));
-    assert_eq!(rt; first.place.places(), [1u8].as_slice());
+    assert!(rt; says_the_loop(&certificate));
     Ok(())
 }

@@ -33,39 +33,43 @@ fn printed(alloc: Global, system: &NamedTrs, text: &[u8]) -> Result<Vec<u8>, Fai
     Ok(print_certificate(alloc, system, &certificate)?)
 }
 
+fn is_printed_as(
+    alloc: Global,
+    system: &NamedTrs,
+    text: &[u8],
+    expected: &[u8],
+) -> Result<bool, Fail> {
+    let text = printed(alloc, system, text)?;
+    Ok(text.as_slice() == expected)
+}
+
 // The first step of what a text says.
 fn printed_step(alloc: Global, system: &NamedTrs, text: &[u8]) -> Result<Vec<u8>, Fail> {
     if text.len() > 1_000 {
         return Err(Fail::new("a short text"));
     }
+    // The system is named, by the contract of `trs`.
+    let _trs = system.trs();
     let certificate = read_certificate(alloc, system, text)?;
-    let Some(step) = certificate.steps.first() else {
+    let [step, ..] = certificate.steps.as_slice() else {
         return Err(Fail::new("a step"));
     };
-    if step.node > 1_000 {
-        return Err(Fail::new("a small node"));
-    }
     Ok(print_step(alloc, system, step)?)
 }
 
 #[test]
 fn variables_get_numbers(rt: HostRuntime) -> Result<(), Fail> {
-    let alloc = rt.alloc();
-    let system = read_problem(alloc, PROBLEM)?;
+    let system = read_problem(rt.alloc(), PROBLEM)?;
     for (text, expected) in PRINTED {
-        assert_eq!(rt; printed(alloc, &system, text)?.as_slice(), expected);
+        assert!(rt; is_printed_as(rt.alloc(), &system, text, expected)?);
     }
     Ok(())
 }
 
 #[test]
 fn a_step_is_a_line(rt: HostRuntime) -> Result<(), Fail> {
-    let alloc = rt.alloc();
-    let system = read_problem(alloc, PROBLEM)?;
-    let line = b"(step 0 (loop (f _0) (path (at () 0)) (1)))";
-    assert_eq!(rt;
-        printed_step(alloc, &system, PRINTED[0].0)?.as_slice(),
-        line.as_slice()
-    );
+    let system = read_problem(rt.alloc(), PROBLEM)?;
+    let line = printed_step(rt.alloc(), &system, PRINTED[0].0)?;
+    assert!(rt; line.as_slice() == b"(step 0 (loop (f _0) (path (at () 0)) (1)))".as_slice());
     Ok(())
 }
