@@ -5,9 +5,9 @@ use Rattle.sexp_core.specs.Items.{Items, no_items, item, a_list}
 use Rattle.ari_text.specs.Named.{NamedSystem}
 use Rattle.cert_step.specs.declared.step.NodeStep.{NodeStep}
 use Rattle.cert_step.specs.ProofStep.{step_at_of}
-use Rattle.cert_text.specs.Written.{step_of_item}
-use Rattle.cert_text.specs.StepMembers.{step_of_members}
-use Rattle.cert_text.specs.TextFaults.{loop_faults, fork_faults, step_list_faults}
+use Rattle.cert_text.specs.Written.{placed_rule_of, step_of_item}
+use Rattle.cert_text.specs.StepMembers.{step_of_members, placed_rule_of_members}
+use Rattle.cert_text.specs.TextFaults.{placed_rule_list_faults, loop_faults, fork_faults, step_list_faults}
 
 pub left_empty : (xs ys : List ℕ) → xs ++ ys ≡ [] → xs ≡ []
 left_empty [] ys e = refl
@@ -46,3 +46,15 @@ step_by_members names no_items at = refl
 step_by_members names (item h no_items) at = refl
 step_by_members names (item h (item n no_items)) at = refl
 step_by_members names (item h (item n (item m ms))) at = refl
+
+pub placed_rule_faultless : (at : ℕ) (ms : Items) → placed_rule_list_faults at ms ≡ [] → placed_rule_list_faults 0 ms ≡ []
+placed_rule_faultless at no_items e = absurd cc
+placed_rule_faultless at (item h no_items) e = absurd cc
+placed_rule_faultless at (item h (item p no_items)) e = absurd cc
+placed_rule_faultless at (item h (item p (item n ms))) e = e
+
+pub placed_rule_by_members : (ms : Items) (at : ℕ) → placed_rule_of (a_list ms at) ≡ placed_rule_of_members ms
+placed_rule_by_members no_items at = refl
+placed_rule_by_members (item h no_items) at = refl
+placed_rule_by_members (item h (item p no_items)) at = refl
+placed_rule_by_members (item h (item p (item n ms))) at = refl

@@ -2,6 +2,7 @@ pub mod NotedPlaces
 pub mod NumeralBounds
 pub mod Depths
 pub mod Faultless
+pub mod Members
 pub mod Certificates
 pub mod LeastPlaces
 pub mod OneCertificate

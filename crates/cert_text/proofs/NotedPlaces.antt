@@ -14,6 +14,22 @@ pub least_append : (least : Option ℕ) (ps qs : List ℕ) → least_place least
 least_append least [] qs = refl
 least_append least (p ∷ ps) qs = least_append (lesser least p) ps qs
 
+-- the faults of two parts are noted in turn
+noted_two : (o q r : Option ℕ) (ps rest : List ℕ) → q ≡ least_place o ps → r ≡ least_place q rest → r ≡ least_place o (ps ++ rest)
+noted_two o q r ps rest first second = second ∙ ap (λ i. least_place i rest) first ∙ sym (least_append o ps rest)
+
+-- of four parts
+pub noted_four : (o a b c d : Option ℕ) (ps qs rs ss : List ℕ) → a ≡ least_place o ps → b ≡ least_place a qs → c ≡ least_place b rs → d ≡ least_place c ss
+    → d ≡ least_place o (ps ++ (qs ++ (rs ++ ss)))
+noted_four o a b c d ps qs rs ss first second third fourth =
+    noted_two o a d ps (qs ++ (rs ++ ss)) first (noted_two a b d qs (rs ++ ss) second (noted_two b c d rs ss third fourth))
+
+-- of five parts
+pub noted_five : (o a b c d e : Option ℕ) (ps qs rs ss ts : List ℕ) → a ≡ least_place o ps → b ≡ least_place a qs → c ≡ least_place b rs → d ≡ least_place c ss
+    → e ≡ least_place d ts → e ≡ least_place o (ps ++ (qs ++ (rs ++ (ss ++ ts))))
+noted_five o a b c d e ps qs rs ss ts first second third fourth fifth =
+    noted_two o a e ps (qs ++ (rs ++ (ss ++ ts))) first (noted_four a b c d e qs rs ss ts second third fourth fifth)
+
 -- by the first argument that is too many, if any, and whether there are as many as are wanted
 abbrev pub faults_by_extra : ℕ → Bool → Option Sexp → List ℕ
 faults_by_extra at right (Some x) = place_of (view x) ∷ []

@@ -15,9 +15,10 @@ use Rattle.cert_text.specs.Written.{number_of, places_of, position_of, placed_ru
 use Rattle.cert_text.specs.TextFaults.{head_faults, claim_faults, numeral_faults, place_faults, places_faults, position_faults, placed_rule_faults, placed_rules_faults, path_faults, own_term_faults, test_faults, extra_faults, loop_faults, fork_faults, method_faults, step_faults, steps_faults}
 use Rattle.cert_text.specs.CertificateText.{numbered_fault, head_list_fault, head_fault, later_fault, behind_headline, headline_fault, certificate_fault, least_place, step_items, SaysCertificate}
 use Rattle.cert_text.specs.NumbersInRange.{ArePlaces, IsPlacedInRange, HasNumbersInRange, IsWellMadeAt}
+use Rattle.cert_text.proofs.Faultless.{left_empty, right_empty}
 use Rattle.cert_text.proofs.LeastPlaces.{is_none}
 use Rattle.cert_text.proofs.NumeralBounds.{number_within, place_positive}
-use Rattle.cert_text.proofs.WellMadeTerms.{first_empty, rest_empty, own_term_made}
+use Rattle.cert_text.proofs.WellMadeTerms.{own_term_made}
 
 -- ---- numbers
 
@@ -28,8 +29,8 @@ number_at_most limit (a_list xs p) = omega arith
 are_places : (xs : Items) → places_faults xs ≡ [] → ArePlaces (places_of xs)
 are_places no_items e = tt
 are_places (item x xs) e = (
-  (omega (arith, place_positive x (first_empty _ (places_faults xs) e)), number_at_most 255 x),
-  are_places xs (rest_empty (place_faults x) _ e),
+  (omega (arith, place_positive x (left_empty _ (places_faults xs) e)), number_at_most 255 x),
+  are_places xs (right_empty (place_faults x) _ e),
 )
 
 is_position : (x : Item) → position_faults x ≡ [] → ArePlaces (position_of x)
@@ -42,18 +43,18 @@ is_placed (a_list no_items p) e = absurd cc
 is_placed (a_list (item head no_items) p) e = absurd cc
 is_placed (a_list (item head (item position no_items)) p) e = absurd cc
 is_placed (a_list (item head (item position (item number more))) p) e =
-    let behind = rest_empty (head_faults (codes "at") head) _ e in
-    (is_position position (first_empty _ (numeral_faults 4294967295 number ++ extra_faults more) behind), omega (arith, number_at_most 4294967295 number))
+    let behind = right_empty (head_faults (codes "at") head) _ e in
+    (is_position position (left_empty _ (numeral_faults 4294967295 number ++ extra_faults more) behind), omega (arith, number_at_most 4294967295 number))
 
 are_placed : (xs : Items) → placed_rules_faults xs ≡ [] → AllByRecursion IsPlacedInRange (placed_rules_of xs)
 are_placed no_items e = tt
 are_placed (item x xs) e =
-    (is_placed x (first_empty _ (placed_rules_faults xs) e), are_placed xs (rest_empty (placed_rule_faults x) _ e))
+    (is_placed x (left_empty _ (placed_rules_faults xs) e), are_placed xs (right_empty (placed_rule_faults x) _ e))
 
 is_path : (x : Item) → path_faults x ≡ [] → AllByRecursion IsPlacedInRange (path_of x)
 is_path (a_word w p) e = absurd cc
 is_path (a_list no_items p) e = absurd cc
-is_path (a_list (item head steps) p) e = are_placed steps (rest_empty (head_faults (codes "path") head) _ e)
+is_path (a_list (item head steps) p) e = are_placed steps (right_empty (head_faults (codes "path") head) _ e)
 
 -- ---- kinds of steps
 
@@ -66,10 +67,10 @@ loop_made named at no_items counts e = absurd cc
 loop_made named at (item term no_items) counts e = absurd cc
 loop_made named at (item term (item path no_items)) counts e = absurd cc
 loop_made named at (item term (item path (item position more))) counts e =
-    let behind_term = rest_empty (own_term_faults named term) _ e in
-    let behind_path = rest_empty (path_faults path) _ behind_term in (
-      own_term_made named term counts (first_empty _ (path_faults path ++ (position_faults position ++ extra_faults more)) e),
-      (is_path path (first_empty _ (position_faults position ++ extra_faults more) behind_term), is_position position (first_empty _ (extra_faults more) behind_path)),
+    let behind_term = right_empty (own_term_faults named term) _ e in
+    let behind_path = right_empty (path_faults path) _ behind_term in (
+      own_term_made named term counts (left_empty _ (path_faults path ++ (position_faults position ++ extra_faults more)) e),
+      (is_path path (left_empty _ (position_faults position ++ extra_faults more) behind_term), is_position position (left_empty _ (extra_faults more) behind_path)),
     )
 
 fork_made : (named : NamedSystem) (at : ℕ) (members : Items) → length named.names ≡ length named.system.arities → fork_faults named at members ≡ []
@@ -79,13 +80,13 @@ fork_made named at (item term no_items) counts e = absurd cc
 fork_made named at (item term (item left no_items)) counts e = absurd cc
 fork_made named at (item term (item left (item right no_items))) counts e = absurd cc
 fork_made named at (item term (item left (item right (item test more)))) counts e =
-    let behind_term = rest_empty (own_term_faults named term) _ e in
-    let behind_left = rest_empty (path_faults left) _ behind_term in
-    let made = own_term_made named term counts (first_empty _ (path_faults left ++ (path_faults right ++ (test_faults test ++ extra_faults more))) e) in (
+    let behind_term = right_empty (own_term_faults named term) _ e in
+    let behind_left = right_empty (path_faults left) _ behind_term in
+    let made = own_term_made named term counts (left_empty _ (path_faults left ++ (path_faults right ++ (test_faults test ++ extra_faults more))) e) in (
       (made.0, made.1, refl),
       (
-        is_path left (first_empty _ (path_faults right ++ (test_faults test ++ extra_faults more)) behind_term),
-        is_path right (first_empty _ (test_faults test ++ extra_faults more) behind_left),
+        is_path left (left_empty _ (path_faults right ++ (test_faults test ++ extra_faults more)) behind_term),
+        is_path right (left_empty _ (test_faults test ++ extra_faults more) behind_left),
       ),
     )
 
@@ -111,16 +112,16 @@ step_made named (a_list no_items p) counts e = absurd cc
 step_made named (a_list (item head no_items) p) counts e = absurd cc
 step_made named (a_list (item head (item number no_items)) p) counts e = absurd cc
 step_made named (a_list (item head (item number (item method more))) p) counts e =
-    let behind_head = rest_empty (head_faults (codes "step") head) _ e in
-    let behind_number = rest_empty (numeral_faults 9223372036854775807 number) _ behind_head in
-    let made = method_made named method counts (first_empty _ (extra_faults more) behind_number) in
+    let behind_head = right_empty (head_faults (codes "step") head) _ e in
+    let behind_number = right_empty (numeral_faults 9223372036854775807 number) _ behind_head in
+    let made = method_made named method counts (left_empty _ (extra_faults more) behind_number) in
     record { well_made = made.0; node = omega (arith, number_at_most 9223372036854775807 number); numbers = made.1 }
 
 pub steps_made : (named : NamedSystem) (xs : Items) → length named.names ≡ length named.system.arities → steps_faults named xs ≡ []
     → AllByRecursion (IsWellMadeAt named.system) (steps_of named.names xs)
 steps_made named no_items counts e = tt
 steps_made named (item x xs) counts e =
-    (step_made named x counts (first_empty _ (steps_faults named xs) e), steps_made named xs counts (rest_empty (step_faults named x) _ e))
+    (step_made named x counts (left_empty _ (steps_faults named xs) e), steps_made named xs counts (right_empty (step_faults named x) _ e))
 
 -- ---- certificates
 
@@ -130,7 +131,7 @@ no_faults (Some p) e = absurd cc
 
 body_faultless : (b : Bool) (named : NamedSystem) (version : ℕ) (claim : List ℕ) (at : ℕ) (steps : Items)
     → cond b (option_map (λ p. Text p) (least_place None (claim_faults claim at ++ steps_faults named steps))) (Some (Version version)) ≡ None → steps_faults named steps ≡ []
-body_faultless true named version claim at steps e = rest_empty (claim_faults claim at) _ (is_none _ (no_faults _ e))
+body_faultless true named version claim at steps e = right_empty (claim_faults claim at) _ (is_none _ (no_faults _ e))
 body_faultless false named version claim at steps e = absurd cc
 
 numbered_faultless : (named : NamedSystem) (at : ℕ) (version : Option ℕ) (claim : List ℕ) (claim_at : ℕ) (steps : Items) → numbered_fault named at version claim claim_at steps ≡ None → steps_faults named steps ≡ []

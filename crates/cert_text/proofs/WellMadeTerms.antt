@@ -1,5 +1,5 @@
 -- A term that has no faults in a certificate text is well-formed and keeps the limits.
-use Rattle.std.proofs.Common.{◌≡◌, ℕ, zero, suc, ◌+◌, ◌<◌, ◌≤◌, ◌==◌, nat_le, Bool, true, false, cond, List, [], ◌∷◌, ◌++◌, length, Option, Some, None, option_map, slice_get, IsTrue, refl, ap, ◌∙◌, arith}
+use Rattle.std.proofs.Common.{◌≡◌, ℕ, zero, suc, ◌+◌, ◌<◌, ◌≤◌, ◌==◌, nat_le, Bool, true, false, cond, List, [], ◌∷◌, length, Option, Some, None, option_map, slice_get, IsTrue, refl, ap, ◌∙◌, arith}
 use Rattle.std.specs.Option.{option_and_then}
 use Rattle.std.specs.Str.{bytes_eq}
 use Rattle.std.proofs.lemmas.Bool.{eqb-true, leb-true, le-leb, and_parts, and_from}
@@ -16,16 +16,9 @@ use Rattle.ari_text.proofs.RuleCounts.{term_size}
 use Rattle.cert_text.specs.Written.{own_term_of}
 use Rattle.cert_text.specs.TextFaults as text
 use Rattle.cert_text.specs.TextFaults.{none_if, arity_of, word_faults, count_faults, symbol_faults, term_faults, list_faults, args_faults, keeps_limits, own_term_faults}
+use Rattle.cert_text.proofs.Faultless.{left_empty, right_empty}
 
--- ---- lists of faults that are empty
-
-pub first_empty : (xs ys : List ℕ) → xs ++ ys ≡ [] → xs ≡ []
-first_empty [] ys e = refl
-first_empty (x ∷ xs) ys e = absurd cc
-
-pub rest_empty : (xs ys : List ℕ) → xs ++ ys ≡ [] → ys ≡ []
-rest_empty [] ys e = e
-rest_empty (x ∷ xs) ys e = absurd cc
+-- ---- a fault unless something holds
 
 pub is_good : (good : Bool) (at : ℕ) → none_if good at ≡ [] → good ≡ true
 is_good true at e = refl
@@ -107,15 +100,15 @@ mutual
   well_formed named variables (a_list no_items p) counts e = absurd cc
   well_formed named variables (a_list (item (a_list ys q) args) p) counts e = absurd cc
   well_formed named variables (a_list (item (a_word head q) args) p) counts e =
-      applied_well_formed named variables head p q args (first_empty _ (args_faults named args) e)
-      (all_well_formed named variables args counts (rest_empty (symbol_faults p q args (arity_of named head)) _ e))
+      applied_well_formed named variables head p q args (left_empty _ (args_faults named args) e)
+      (all_well_formed named variables args counts (right_empty (symbol_faults p q args (arity_of named head)) _ e))
 
   pub all_well_formed : (named : NamedSystem) (variables : List (List ℕ)) (xs : Items) → length named.names ≡ length named.system.arities
       → args_faults named xs ≡ [] → AreWellFormed named.system.arities (terms_of named.names variables xs)
   all_well_formed named variables no_items counts e = tt
   all_well_formed named variables (item x xs) counts e = (
-    well_formed named variables x counts (first_empty _ (args_faults named xs) e),
-    all_well_formed named variables xs counts (rest_empty (term_faults named x) _ e),
+    well_formed named variables x counts (left_empty _ (args_faults named xs) e),
+    all_well_formed named variables xs counts (right_empty (term_faults named x) _ e),
   )
 
 -- ---- limits
@@ -158,6 +151,6 @@ pub own_term_made : (named : NamedSystem) (x : Item) → length named.names ≡ 
     → IsWellFormed named.system.arities (own_term_of named.names x) × IsTrue (within_limits (own_term_of named.names x))
 own_term_made named x counts e =
     let variables = variables_after named.names [] x in (
-      well_formed named variables x counts (rest_empty (none_if (keeps_limits x) (place_of x)) _ e),
-      limits_kept named.names variables x (is_good (keeps_limits x) (place_of x) (first_empty _ (term_faults named x) e)),
+      well_formed named variables x counts (right_empty (none_if (keeps_limits x) (place_of x)) _ e),
+      limits_kept named.names variables x (is_good (keeps_limits x) (place_of x) (left_empty _ (term_faults named x) e)),
     )

@@ -20,8 +20,3 @@ pub use headline::claim_headline;
 pub use laws::{least_place_is_least, printed_certificate_is_read};
 pub use printing::{print_certificate, print_step};
 pub use reading::read_certificate;
-
-#[cfg(test)]
-mod printing_tests;
-#[cfg(test)]
-mod reading_tests;

@@ -3,6 +3,7 @@ ghost use Rattle.sexp_core.specs.Items.{view, views};
 ghost use Rattle.numerals.specs.Numerals.{numeral_value};
 ghost use Rattle.cert_text.specs.CertificateText.{least_place};
 ghost use Rattle.cert_text.specs.TextFaults.{is_at_least_one, place_faults, places_faults, position_faults, placed_rule_list_faults, placed_rule_faults, placed_rules_faults, path_list_faults, path_faults};
+ghost use Rattle.cert_text.specs.StepMembers.{placed_rule_of_members};
 ghost use Rattle.cert_text.specs.Written.{number_of, places_of, position_of, placed_rule_of, placed_rules_of, path_of};
 
 use crate::checking::{note, note_extra, note_head, note_numeral, note_unless};
@@ -55,23 +56,14 @@ pub fn note_position(least: &mut Option<u32>, item: &Sexp)
 }
 
 // `(at position number)`, by its members.
-#[tactic(auto, using(crate::proofs::NotedPlaces::least_append))]
 fn note_placed_rule_list(least: &mut Option<u32>, at: u32, members: &[Sexp])
     ensures { least.new ≡ least_place least.old (placed_rule_list_faults at (views members.now)) }
 {
-    let Some((head, rest)) = members.split_first() else {
+    let [head, position, rule, more @ ..] = members else {
         note(least, at);
         return;
     };
-    let Some((position, rest)) = rest.split_first() else {
-        note(least, at);
-        return;
-    };
-    let Some((rule, more)) = rest.split_first() else {
-        note(least, at);
-        return;
-    };
-    note_head(least, b"at".as_slice(), head);
+    note_head(least, b"at", head);
     note_position(least, position);
     note_numeral(least, LAST_RULE, rule);
     note_extra(least, more);
@@ -103,7 +95,7 @@ fn note_path_list(least: &mut Option<u32>, at: u32, members: &[Sexp])
         note(least, at);
         return;
     };
-    note_head(least, b"path".as_slice(), head);
+    note_head(least, b"path", head);
     note_placed_rules(least, steps);
 }
 
@@ -150,27 +142,28 @@ pub fn build_position(alloc: Global, item: &Sexp) -> Result<Position, OutOfMemor
     }
 }
 
-#[tactic(auto, using(crate::proofs::Faultless::left_empty, crate::proofs::Faultless::right_empty))]
-fn build_placed_rule(alloc: Global, item: &Sexp) -> Result<PathStep, OutOfMemory>
-    requires { placed_rule_faults (view item.now) ≡ [] }
-    ensures { IfOk result (λ p. p ≡ placed_rule_of (view item.now)) }
+fn build_placed_rule_list(alloc: Global, members: &[Sexp]) -> Result<PathStep, OutOfMemory>
+    requires { placed_rule_list_faults 0 (views members.now) ≡ [] }
+    ensures { IfOk result (λ p. p ≡ placed_rule_of_members (views members.now)) }
 {
-    let Sexp::List(members, _) = item else {
-        unreachable!();
-    };
-    let Some((_, rest)) = members.split_first() else {
-        unreachable!();
-    };
-    let Some((position, rest)) = rest.split_first() else {
-        unreachable!();
-    };
-    let Some((rule, _)) = rest.split_first() else {
+    let [_head, position, rule, ..] = members else {
         unreachable!();
     };
     Ok(PathStep {
         place: build_position(alloc, position)?,
         rule: number(LAST_RULE, rule) as u32,
     })
+}
+
+#[tactic(auto, using(crate::proofs::Faultless::placed_rule_faultless, crate::proofs::Faultless::placed_rule_by_members))]
+fn build_placed_rule(alloc: Global, item: &Sexp) -> Result<PathStep, OutOfMemory>
+    requires { placed_rule_faults (view item.now) ≡ [] }
+    ensures { IfOk result (λ p. p ≡ placed_rule_of (view item.now)) }
+{
+    match item {
+        Sexp::Word(_, _) => unreachable!(),
+        Sexp::List(members, _) => build_placed_rule_list(alloc, members),
+    }
 }
 
 #[tactic(auto, using(crate::proofs::Faultless::left_empty, crate::proofs::Faultless::right_empty, std::proofs::lemmas::Grind::common_steps))]

@@ -1,6 +1,7 @@
-ghost use Rattle.std.specs.Prelude.{◌≡◌, ◌<◌, ◌≤◌, ◌∷◌, ◌++◌, decimal, map, All, OnOk, IfOk};
+ghost use Rattle.std.specs.Prelude.{◌≡◌, ◌<◌, ◌≤◌, [], ◌∷◌, ◌++◌, decimal, map, All, OnOk, IfOk};
 ghost use Rattle.std.specs.List.{AllByRecursion};
-ghost use Rattle.sexp_core.specs.Printed.{text_of, lines};
+ghost use Rattle.sexp_core.specs.Items.{a_word, no_items, item};
+ghost use Rattle.sexp_core.specs.Printed.{text_of, joined, spaced, lines};
 ghost use Rattle.trs_core.specs.View.{tree};
 ghost use Rattle.ari_text.specs.VariableNames.{underscores as underscores_of};
 ghost use Rattle.cert_step.specs.ProofStep.{step_of, step_at_of};
@@ -9,7 +10,7 @@ ghost use Rattle.cert_text.specs.CertificateText.{SaysCertificate};
 ghost use Rattle.cert_text.specs.NumbersInRange.{ArePlaces, IsPlacedInRange, HasNumbersInRange};
 ghost use Rattle.cert_text.specs.Printable.{IsPrintable};
 ghost use Rattle.cert_text.specs.Renumbered.{renumbered};
-ghost use Rattle.cert_text.specs.PrintedProof.{position_item, path_item, own_term_item, test_word, method_item, step_item, step_items, headline_word, claim_text, proof_items};
+ghost use Rattle.cert_text.specs.PrintedProof.{place_items, position_item, placed_rule_item, path_item, own_term_item, test_word, method_item, step_item, step_items, headline_word, claim_text, proof_items};
 
 use crate::Certificate;
 use crate::renumbering::in_order;
@@ -36,10 +37,10 @@ pub fn print_certificate(
     ensures alone { IfOk result (λ text. (other : ProofText) → SaysCertificate system.now text.items other → other ≡ renumbered (proof_text_of certificate.now)) }
 {
     let mut out = Vec::new(alloc);
-    out.extend_from_slice(headline_word(certificate.headline))?;
-    out.extend_from_slice(b"\n(certificate 1 ")?;
-    out.extend_from_slice(claim_word(certificate.claim))?;
-    out.extend_from_slice(b")\n")?;
+    put(&mut out, headline_word(certificate.headline))?;
+    put(&mut out, b"\n(certificate 1 ")?;
+    put(&mut out, claim_word(certificate.claim))?;
+    put(&mut out, b")\n")?;
     put_steps(
         alloc,
         &mut out,
@@ -99,7 +100,7 @@ fn put_steps(
 {
     for step in steps {
         put_step(alloc, out, system, underscores, step)?;
-        out.push(b'\n')?;
+        put(out, b"\n")?;
     }
     Ok(())
 }
@@ -115,12 +116,11 @@ fn put_step(
     ensures text { OnOk result (out.new.items ≡ out.old.items ++ text_of (step_item system.now (step_at_of step.now))) }
     ensures range { OnOk result (HasNumbersInRange (step_of step.now.step)) }
 {
-    out.extend_from_slice(b"(step ")?;
+    put(out, b"(step ")?;
     put_number(out, step.node)?;
-    out.push(b' ')?;
+    put(out, b" ")?;
     put_method(alloc, out, system, underscores, &step.step)?;
-    out.push(b')')?;
-    Ok(())
+    put(out, b")")
 }
 
 fn put_method(
@@ -136,13 +136,9 @@ fn put_method(
 {
     match step {
         Step::Loop { start, path, place } => {
-            out.extend_from_slice(b"(loop ")?;
+            put(out, b"(loop ")?;
             put_own_term(alloc, out, system, underscores, start)?;
-            put_path(out, path)?;
-            out.push(b' ')?;
-            put_position(out, place)?;
-            out.push(b')')?;
-            Ok(())
+            put_loop_end(out, path, place)
         }
         Step::Fork {
             start,
@@ -150,16 +146,41 @@ fn put_method(
             right,
             test,
         } => {
-            out.extend_from_slice(b"(fork ")?;
+            put(out, b"(fork ")?;
             put_own_term(alloc, out, system, underscores, start)?;
-            put_path(out, left)?;
-            put_path(out, right)?;
-            out.push(b' ')?;
-            out.extend_from_slice(test_word(*test))?;
-            out.push(b')')?;
-            Ok(())
+            put_fork_end(out, left, right, *test)
         }
     }
+}
+
+/// What stands behind the term of a loop.
+fn put_loop_end(out: &mut Vec<u8>, path: &[PathStep], place: &Position) -> Result<(), OutOfMemory>
+    ensures text { OnOk result (out.new.items ≡ out.old.items ++ (spaced (item (path_item path.now) (item (position_item place.now) no_items)) ++ 41 ∷ [])) }
+    ensures path { OnOk result (AllByRecursion IsPlacedInRange path.now) }
+    ensures place { OnOk result (ArePlaces place.now) }
+{
+    put_path(out, path)?;
+    put(out, b" ")?;
+    put_position(out, place)?;
+    put(out, b")")
+}
+
+/// What stands behind the term of a fork.
+fn put_fork_end(
+    out: &mut Vec<u8>,
+    left: &[PathStep],
+    right: &[PathStep],
+    test: ForkTest,
+) -> Result<(), OutOfMemory>
+    ensures text { OnOk result (out.new.items ≡ out.old.items ++ (spaced (item (path_item left.now) (item (path_item right.now) (item (a_word (test_word test) 0) no_items))) ++ 41 ∷ [])) }
+    ensures left { OnOk result (AllByRecursion IsPlacedInRange left.now) }
+    ensures right { OnOk result (AllByRecursion IsPlacedInRange right.now) }
+{
+    put_path(out, left)?;
+    put_path(out, right)?;
+    put(out, b" ")?;
+    put(out, test_word(test))?;
+    put(out, b")")
 }
 
 fn put_own_term(
@@ -181,32 +202,46 @@ fn put_path(out: &mut Vec<u8>, path: &[PathStep]) -> Result<(), OutOfMemory>
     ensures text { OnOk result (out.new.items ≡ out.old.items ++ 32 ∷ text_of (path_item path.now)) }
     ensures range { OnOk result (AllByRecursion IsPlacedInRange path.now) }
 {
-    out.extend_from_slice(b" (path")?;
+    put(out, b" (path")?;
     for step in path {
-        out.extend_from_slice(b" (at ")?;
-        put_position(out, &step.place)?;
-        out.push(b' ')?;
-        put_number(out, u64::from(step.rule))?;
-        out.push(b')')?;
+        put_placed_rule(out, step)?;
     }
-    out.push(b')')?;
-    Ok(())
+    put(out, b")")
+}
+
+/// A step of a path, behind a blank.
+fn put_placed_rule(out: &mut Vec<u8>, step: &PathStep) -> Result<(), OutOfMemory>
+    ensures text { OnOk result (out.new.items ≡ out.old.items ++ 32 ∷ text_of (placed_rule_item step.now)) }
+    ensures range { OnOk result (IsPlacedInRange step.now) }
+{
+    put(out, b" (at ")?;
+    put_position(out, &step.place)?;
+    put(out, b" ")?;
+    put_number(out, u64::from(step.rule))?;
+    put(out, b")")
 }
 
 fn put_position(out: &mut Vec<u8>, position: &Position) -> Result<(), OutOfMemory>
     ensures text { OnOk result (out.new.items ≡ out.old.items ++ text_of (position_item position.now)) }
     ensures range { OnOk result (ArePlaces position.now) }
 {
-    let places = places(position);
-    out.push(b'(')?;
-    if let Some((first, rest)) = places.split_first() {
-        put_number(out, u64::from(*first))?;
-        for place in rest {
-            out.push(b' ')?;
-            put_number(out, u64::from(*place))?;
-        }
+    put(out, b"(")?;
+    put_places(out, places(position))?;
+    put(out, b")")
+}
+
+/// Places, with one blank between them.
+fn put_places(out: &mut Vec<u8>, places: &[u8]) -> Result<(), OutOfMemory>
+    ensures { OnOk result (out.new.items ≡ out.old.items ++ joined (place_items places.now)) }
+{
+    let Some((first, rest)) = places.split_first() else {
+        return Ok(());
+    };
+    put_number(out, u64::from(*first))?;
+    for place in rest {
+        put(out, b" ")?;
+        put_number(out, u64::from(*place))?;
     }
-    out.push(b')')?;
     Ok(())
 }
 
@@ -223,6 +258,12 @@ fn put_number(out: &mut Vec<u8>, number: u64) -> Result<(), OutOfMemory>
     ensures { OnOk result (out.new.items ≡ out.old.items ++ decimal number) }
 {
     let mut buffer = Buffer::new();
-    out.extend_from_slice(buffer.format(number).as_bytes())?;
+    put(out, buffer.format(number).as_bytes())
+}
+
+fn put(out: &mut Vec<u8>, bytes: &[u8]) -> Result<(), OutOfMemory>
+    ensures { OnOk result (out.new.items ≡ out.old.items ++ bytes.now) }
+{
+    out.extend_from_slice(bytes)?;
     Ok(())
 }

@@ -32,19 +32,10 @@ fn note_test(least: &mut Option<u32>, item: &Sexp)
 }
 
 // The members behind the word `loop`: term, path, position.
-#[tactic(auto, using(crate::proofs::NotedPlaces::least_append))]
 fn note_loop(least: &mut Option<u32>, system: &NamedTrs, at: u32, members: &[Sexp])
     ensures { least.new ≡ least_place least.old (loop_faults system.now at (views members.now)) }
 {
-    let Some((term, rest)) = members.split_first() else {
-        note(least, at);
-        return;
-    };
-    let Some((path, rest)) = rest.split_first() else {
-        note(least, at);
-        return;
-    };
-    let Some((position, more)) = rest.split_first() else {
+    let [term, path, position, more @ ..] = members else {
         note(least, at);
         return;
     };
@@ -55,23 +46,10 @@ fn note_loop(least: &mut Option<u32>, system: &NamedTrs, at: u32, members: &[Sex
 }
 
 // The members behind the word `fork`: term, path, path, test.
-#[tactic(auto, using(crate::proofs::NotedPlaces::least_append))]
 fn note_fork(least: &mut Option<u32>, system: &NamedTrs, at: u32, members: &[Sexp])
     ensures { least.new ≡ least_place least.old (fork_faults system.now at (views members.now)) }
 {
-    let Some((term, rest)) = members.split_first() else {
-        note(least, at);
-        return;
-    };
-    let Some((left, rest)) = rest.split_first() else {
-        note(least, at);
-        return;
-    };
-    let Some((right, rest)) = rest.split_first() else {
-        note(least, at);
-        return;
-    };
-    let Some((test, more)) = rest.split_first() else {
+    let [term, left, right, test, more @ ..] = members else {
         note(least, at);
         return;
     };
@@ -124,23 +102,14 @@ fn note_method(least: &mut Option<u32>, system: &NamedTrs, method: &Sexp)
 }
 
 // `(step number method)`, by its members.
-#[tactic(auto, using(crate::proofs::NotedPlaces::least_append))]
 fn note_step_list(least: &mut Option<u32>, system: &NamedTrs, at: u32, members: &[Sexp])
     ensures { least.new ≡ least_place least.old (step_list_faults system.now at (views members.now)) }
 {
-    let Some((head, rest)) = members.split_first() else {
+    let [head, node, method, more @ ..] = members else {
         note(least, at);
         return;
     };
-    let Some((node, rest)) = rest.split_first() else {
-        note(least, at);
-        return;
-    };
-    let Some((method, more)) = rest.split_first() else {
-        note(least, at);
-        return;
-    };
-    note_head(least, b"step".as_slice(), head);
+    note_head(least, b"step", head);
     note_numeral(least, LAST_NODE, node);
     note_method(least, system, method);
     note_extra(least, more);
@@ -165,18 +134,11 @@ pub fn note_steps(least: &mut Option<u32>, system: &NamedTrs, items: &[Sexp])
     }
 }
 
-#[tactic(auto, using(crate::proofs::Faultless::left_empty, crate::proofs::Faultless::right_empty))]
 fn build_loop(alloc: Global, system: &NamedTrs, members: &[Sexp]) -> Result<Step, OutOfMemory>
     requires { loop_faults system.now 0 (views members.now) ≡ [] }
     ensures { IfOk result (λ s. step_of s ≡ loop_of system.now.names (views members.now)) }
 {
-    let Some((term, rest)) = members.split_first() else {
-        unreachable!();
-    };
-    let Some((path, rest)) = rest.split_first() else {
-        unreachable!();
-    };
-    let Some((position, _)) = rest.split_first() else {
+    let [term, path, position, ..] = members else {
         unreachable!();
     };
     Ok(Step::Loop {
@@ -186,21 +148,11 @@ fn build_loop(alloc: Global, system: &NamedTrs, members: &[Sexp]) -> Result<Step
     })
 }
 
-#[tactic(auto, using(crate::proofs::Faultless::left_empty, crate::proofs::Faultless::right_empty))]
 fn build_fork(alloc: Global, system: &NamedTrs, members: &[Sexp]) -> Result<Step, OutOfMemory>
     requires { fork_faults system.now 0 (views members.now) ≡ [] }
     ensures { IfOk result (λ s. step_of s ≡ fork_of system.now.names (views members.now)) }
 {
-    let Some((term, rest)) = members.split_first() else {
-        unreachable!();
-    };
-    let Some((left, rest)) = rest.split_first() else {
-        unreachable!();
-    };
-    let Some((right, rest)) = rest.split_first() else {
-        unreachable!();
-    };
-    let Some((_, _)) = rest.split_first() else {
+    let [term, left, right, _test, ..] = members else {
         unreachable!();
     };
     Ok(Step::Fork {
@@ -229,7 +181,6 @@ fn build_method(alloc: Global, system: &NamedTrs, method: &Sexp) -> Result<Step,
     }
 }
 
-#[tactic(auto, using(crate::proofs::Faultless::left_empty, crate::proofs::Faultless::right_empty))]
 fn build_step_list(
     alloc: Global,
     system: &NamedTrs,
@@ -238,13 +189,7 @@ fn build_step_list(
     requires { step_list_faults system.now 0 (views members.now) ≡ [] }
     ensures { IfOk result (λ s. step_at_of s ≡ step_of_members system.now.names (views members.now)) }
 {
-    let Some((_, rest)) = members.split_first() else {
-        unreachable!();
-    };
-    let Some((node, rest)) = rest.split_first() else {
-        unreachable!();
-    };
-    let Some((method, _)) = rest.split_first() else {
+    let [_head, node, method, ..] = members else {
         unreachable!();
     };
     Ok(NodeStep {

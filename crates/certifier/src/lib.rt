@@ -11,6 +11,3 @@ pub use accepted::{Accepted, certify};
 pub use cert_step::Claim;
 pub use laws::one_answer;
 pub use rejected::Rejected;
-
-#[cfg(test)]
-mod tests;

@@ -2,7 +2,13 @@
 #![tactic(auto)]
 
 #[cfg(test)]
+mod certificates;
+#[cfg(test)]
+mod certifying;
+#[cfg(test)]
 mod named_systems;
+#[cfg(test)]
+mod printed_certificates;
 #[cfg(test)]
 mod problem_refusals;
 #[cfg(test)]
