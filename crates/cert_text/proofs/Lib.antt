@@ -8,7 +8,6 @@ pub mod LeastPlaces
 pub mod OneCertificate
 pub mod WellMadeTerms
 pub mod WellMadeSteps
-pub mod PrintedNumbers
 pub mod RenumberedTerms
 pub mod BareItems
 pub mod PrintedPaths

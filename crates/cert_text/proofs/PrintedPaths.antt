@@ -10,7 +10,7 @@ use Rattle.cert_text.specs.PrintedProof.{number_item, place_items, position_item
 use Rattle.cert_text.specs.TextFaults.{numeral_faults, place_faults, places_faults, position_faults, placed_rule_faults, placed_rules_faults, path_faults}
 use Rattle.cert_text.specs.Written.{number_of, places_of, position_of, placed_rule_of, placed_rules_of, path_of}
 use Rattle.cert_text.proofs.BareItems.{word_item, list_item, begins, three}
-use Rattle.cert_text.proofs.PrintedNumbers.{number_read}
+use Rattle.numerals.proofs.Printed.{number_read}
 
 -- ---- numbers
 
