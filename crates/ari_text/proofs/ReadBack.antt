@@ -4,7 +4,6 @@ use Rattle.sexp_core.specs.Tokens.{class_of}
 use Rattle.sexp_core.specs.Items.{Item, Items, no_items, item}
 use Rattle.sexp_core.specs.Reads.{Reads, fault_of}
 use Rattle.sexp_core.specs.Printed.{lines, AreWords, nesting, bare, placeless}
-use Rattle.sexp_core.proofs.Once.{one_reading}
 use Rattle.sexp_core.proofs.Again.{read_again, reads_well}
 use Rattle.sexp_core.proofs.Existence.{is_readable}
 use Rattle.trs_defs.specs.System.{RewriteRule}
@@ -13,7 +12,7 @@ use Rattle.ari_text.specs.Symbols.{paired, names_of, arities_of}
 use Rattle.ari_text.specs.Terms.{rules_of}
 use Rattle.ari_text.specs.Faults.{whole_room, all_declaration_faults, all_rule_faults, symbols_of, faults_of}
 use Rattle.ari_text.specs.Named.{NamedSystem, IsNamed}
-use Rattle.ari_text.specs.Problem.{format_fault, problem_fault, later_items, system_of, SaysSystem}
+use Rattle.ari_text.specs.Problem.{format_fault, problem_fault, system_of, SaysSystem}
 use Rattle.ari_text.specs.VariableNames.{underscores}
 use Rattle.ari_text.specs.PrintedProblem.{rule_items, symbol_items, format_item, problem_items}
 use Rattle.ari_text.proofs.Placeless.{rules_bare, symbols_bare, faultless_bare, format_bare}
@@ -107,8 +106,3 @@ module _ (s : NamedSystem) (named : IsNamed s) (bytes : AreBytes s.system.aritie
       (read_again (problem_items s) some.0 words some.1
       ∙ ap (item format_item) (symbols_placeless (underscores s.names) s.names s.system.rules s.names s.system.arities))
       readable
-
--- a text says one system at most
-pub says_one : (text : List ℕ) (s t : NamedSystem) → SaysSystem text s → SaysSystem text t → t ≡ s
-says_one text s t p q =
-    q.system ∙ ap (λ xs. system_of (later_items xs)) (one_reading q.items p.items (sym q.reads ∙ p.reads)) ∙ sym p.system

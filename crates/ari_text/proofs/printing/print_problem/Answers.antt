@@ -3,7 +3,8 @@ use Rattle.std.proofs.lemmas.List.Elements.{recursion_from_All}
 use Rattle.ari_text.specs.Problem.{SaysSystem}
 use Rattle.ari_text.proofs.PrintedText.{problem_text}
 use Rattle.ari_text.proofs.PrintedItems.{AreBytes}
-use Rattle.ari_text.proofs.ReadBack.{says_printed, says_one}
+use Rattle.ari_text.proofs.OneSystem.{one_system}
+use Rattle.ari_text.proofs.ReadBack.{says_printed}
 use Rattle.ari_text.proofs.printing.print_problem.Goals as goal
 
 pub returns-clause-text : goal.returns-clause-text
@@ -18,4 +19,4 @@ returns-clause-read c =
     subst (λ (text : List ℕ). SaysSystem text system) (sym (returns-clause-text c)) (says_printed system c.trs.ensures.named bytes)
 
 pub returns-clause-alone : goal.returns-clause-alone
-returns-clause-alone c = λ other says. says_one c.put_rules.new.out.items c.args.system.now other (returns-clause-read c) says
+returns-clause-alone c = λ other says. one_system c.put_rules.new.out.items other c.args.system.now says (returns-clause-read c)
