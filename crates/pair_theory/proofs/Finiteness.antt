@@ -7,7 +7,8 @@ use Rattle.trs_defs.specs.Terminates.{ArgumentStep}
 use Rattle.trs_defs.specs.System.{RewriteRule, Among}
 use Rattle.trs_defs.specs.Member.{In, in_first, in_rest}
 use Rattle.pair_theory.proofs.Matching.{found, matched, matches, same_apply}
-use Rattle.pair_theory.proofs.Members.{in_case, no_in, in_left, in_right, in_either}
+use Rattle.trs_defs.proofs.Members.{in_left, in_right, in_either}
+use Rattle.pair_theory.proofs.Members.{in_case, no_in}
 use Rattle.pair_theory.proofs.Bounds.{NoNewVariables, ByRule, AtRoot, var_to, root_only, Inside, app_to, app_from, First, Later, cons_to, cons_from, nil_from}
 
 abbrev pub Finite : {A : Type 0} → (A → Type 0) → Type 0

@@ -8,7 +8,8 @@ use Rattle.trs_defs.specs.Subterm.{Sub, itself, under, Subs, in_head, in_tail}
 use Rattle.trs_defs.specs.Marked.{Marked, marked, plain}
 use Rattle.trs_defs.specs.DependencyPair.{IsDefined, IsDependencyPair, from_rule, DependencyPair, subterms, subterms_of_all, has_root, is_defined, keep_if, pairs_to, pairs_of, pairs_of_each, dependency_pairs}
 use Rattle.trs_defs.specs.PairProblem.{PairAmong, IsPair}
-use Rattle.pair_theory.proofs.Members.{no_in, in_or, in_left, in_right, in_either}
+use Rattle.trs_defs.proofs.Members.{in_left, in_right, in_either}
+use Rattle.pair_theory.proofs.Members.{no_in, in_or}
 use Rattle.pair_theory.proofs.Terms.{below_root, subs_of_has, has_of_subs}
 use Rattle.pair_theory.proofs.Accessibility.{sub_trans}
 use Rattle.pair_theory.proofs.Systems.{left_over, right_over, no_new_variables}

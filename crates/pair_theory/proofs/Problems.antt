@@ -19,7 +19,8 @@ use Rattle.pair_theory.proofs.Chains.{chain_map, chain_small, chain_well_formed}
 use Rattle.pair_theory.proofs.Removal.{removal}
 use Rattle.pair_theory.proofs.Termination.{pair_theorem}
 use Rattle.pair_theory.proofs.PairList.{pairs_listed}
-use Rattle.pair_theory.proofs.Members.{no_in, in_or, in_left, in_right, each_of_both}
+use Rattle.trs_defs.proofs.Members.{in_left, in_right}
+use Rattle.pair_theory.proofs.Members.{no_in, in_or, each_of_both}
 use Rattle.pair_theory.proofs.Terms.{below_root, subs_of_has, has_of_subs}
 use Rattle.pair_theory.proofs.Systems.{left_over, right_over, no_new_variables}
 use Rattle.trs_defs.specs.ReductionPair.{Speaks, SpeaksOfSides, SpeaksErased, marked_rule}

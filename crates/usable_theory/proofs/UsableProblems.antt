@@ -13,7 +13,7 @@ use Rattle.trs_defs.specs.UsableRules.{IsUsable, in_pair, in_rule, HasUsable, ro
 use Rattle.trs_defs.specs.LinearInterpretation.{LinearWeak, LinearStrict, CoefficientWeak, CoefficientStrict}
 use Rattle.order_theory.proofs.Linear.{linear_well_founded}
 use Rattle.order_theory.proofs.Coefficients.{weak_by_coefficients, strict_by_coefficients}
-use Rattle.pair_theory.proofs.Members.{in_left, in_right, in_either}
+use Rattle.trs_defs.proofs.Members.{in_left, in_right, in_either}
 use Rattle.pair_theory.proofs.Terms.{below_root, subs_of_has, has_of_subs}
 use Rattle.pair_theory.proofs.PairList.{defined_true, true_defined}
 use Rattle.pair_theory.proofs.Systems.{left_rooted, no_new_variables}
