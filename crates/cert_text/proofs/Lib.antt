@@ -17,3 +17,4 @@ pub mod PrintedWords
 pub mod NumberKeys
 pub mod PrintedAgain
 pub mod NumberRanges
+pub mod PrintableSteps

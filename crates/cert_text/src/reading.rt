@@ -6,6 +6,7 @@ ghost use Rattle.cert_text.specs.ProofText.{ProofText, proof_text_of};
 ghost use Rattle.cert_text.specs.Written.{claim_word as word_claim};
 ghost use Rattle.cert_text.specs.TextFaults.{steps_faults};
 ghost use Rattle.cert_text.specs.HeadClaim.{claim_in_head};
+ghost use Rattle.cert_text.specs.Printable.{IsPrintable};
 ghost use Rattle.cert_text.specs.CertificateText.{is_headline as headline_word, headline_fault as fault_of_headline, body_fault as fault_of_body, numbered_fault as fault_behind_number, head_list_fault as fault_of_head_list, head_fault as fault_of_head, later_fault as fault_of_later, certificate_fault, is_yes as says_yes, claim_of as claim_said, step_items as items_of_steps, proof_text_of_items, SaysCertificate, IsRefused};
 
 use crate::certificate::Certificate;
@@ -221,6 +222,8 @@ pub fn read_certificate(
     ensures found { IfOk result (λ c. SaysCertificate system.now text.now (proof_text_of c)) }
     ensures refused { IfErr result (IsRefused system.now text.now) }
     ensures well_made { IfOk result (λ c. All (λ s. IsWellMade system.now.system s.step) (proof_text_of c).steps) }
+    // So it can be printed.
+    ensures printable { IfOk result (λ c. All (IsPrintable system.now.system) (proof_text_of c).steps) }
     ensures only { (says : ProofText) → SaysCertificate system.now text.now says → MatchResult result (λ c. proof_text_of c ≡ says) (λ e. e ≡ CertFault.OutOfMemory) }
 {
     // The system is named, by the contract of `trs`.

@@ -1,1 +1,1 @@
-pub mod ReadCertificates
+pub mod FirstSteps

@@ -27,8 +27,6 @@ fn printed(alloc: Global, system: &NamedTrs, text: &[u8]) -> Result<Vec<u8>, Fai
     if text.len() > 1_000 {
         return Err(Fail::new("a short text"));
     }
-    // The system is named, by the contract of `trs`.
-    let _trs = system.trs();
     let certificate = read_certificate(alloc, system, text)?;
     Ok(print_certificate(alloc, system, &certificate)?)
 }
@@ -48,8 +46,6 @@ fn printed_step(alloc: Global, system: &NamedTrs, text: &[u8]) -> Result<Vec<u8>
     if text.len() > 1_000 {
         return Err(Fail::new("a short text"));
     }
-    // The system is named, by the contract of `trs`.
-    let _trs = system.trs();
     let certificate = read_certificate(alloc, system, text)?;
     let [step, ..] = certificate.steps.as_slice() else {
         return Err(Fail::new("a step"));
