@@ -7,7 +7,7 @@ use Rattle.sexp_core.proofs.Once.{one_reading}
 use Rattle.ari_text.specs.declared.fault.AriFault.{AriFault}
 use Rattle.ari_text.specs.declared.fault.AriFault.TheVariants as fault
 use Rattle.ari_text.specs.Named.{NamedSystem}
-use Rattle.ari_text.specs.Problem.{later_items, system_of, SaysSystem, HasFault, IsRefused}
+use Rattle.ari_text.specs.Problem.{later_items, system_of, SaysSystem, HasProblemFault, IsProblemRefused}
 
 pub same_items : (text : List ℕ) (xs ys : Items) → Reads text xs → Reads text ys → xs ≡ ys
 same_items text xs ys h k = one_reading xs ys (sym h ∙ k)
@@ -19,9 +19,9 @@ one_system text s t h k =
 
 -- the cause of a fault that is not want of memory
 abbrev Cause : List ℕ → AriFault → Type 0
-Cause text f = ((g : TextFault) × (f ≡ fault.Text g) × (fault_of 300 text ≡ Some g)) ⊎ HasFault text f
+Cause text f = ((g : TextFault) × (f ≡ fault.Text g) × (fault_of 300 text ≡ Some g)) ⊎ HasProblemFault text f
 
-memory_or_cause : (text : List ℕ) (f : AriFault) → IsRefused text f → (f ≡ fault.OutOfMemory) ⊎ Cause text f
+memory_or_cause : (text : List ℕ) (f : AriFault) → IsProblemRefused text f → (f ≡ fault.OutOfMemory) ⊎ Cause text f
 memory_or_cause text (fault.Text g) h = inr (inl (g, refl, h))
 memory_or_cause text fault.NoFormat h = inr (inr h)
 memory_or_cause text (fault.OtherFormat p) h = inr (inr h)
@@ -44,7 +44,7 @@ no_cause text s f h (inr k) =
     let none = h.faultless in let some = k.fault in cc
 
 -- a text that says a system is refused for want of memory alone
-pub no_refusal : (text : List ℕ) (s : NamedSystem) (f : AriFault) → SaysSystem text s → IsRefused text f → f ≡ fault.OutOfMemory
+pub no_refusal : (text : List ℕ) (s : NamedSystem) (f : AriFault) → SaysSystem text s → IsProblemRefused text f → f ≡ fault.OutOfMemory
 no_refusal text s f h k = elim (memory_or_cause text f k) as (λ _. f ≡ fault.OutOfMemory) [
   | inl memory ↦ memory
   | inr c ↦ absurd (no_cause text s f h c)
@@ -59,7 +59,7 @@ same_cause text f g (inr h) (inr k) =
     let a = h.fault in let b = k.fault in cc
 
 -- want of memory aside, a text is refused for one fault at most
-pub one_refusal : (text : List ℕ) (f g : AriFault) → IsRefused text f → IsRefused text g → f ≢ fault.OutOfMemory → g ≢ fault.OutOfMemory → f ≡ g
+pub one_refusal : (text : List ℕ) (f g : AriFault) → IsProblemRefused text f → IsProblemRefused text g → f ≢ fault.OutOfMemory → g ≢ fault.OutOfMemory → f ≡ g
 one_refusal text f g h k n m = elim (memory_or_cause text f h) as (λ _. f ≡ g) [
   | inl memory ↦ absurd (n memory)
   | inr c ↦ elim (memory_or_cause text g k) as (λ _. f ≡ g) [

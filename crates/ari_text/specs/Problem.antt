@@ -56,14 +56,14 @@ pub record SaysSystem (text : List ℕ) (named : NamedSystem) : Type 0 where
   pub system : named ≡ system_of (later_items items)
 
 -- the text is read as items that have this fault
-pub record HasFault (text : List ℕ) (f : AriFault) : Type 0 where
+pub record HasProblemFault (text : List ℕ) (f : AriFault) : Type 0 where
   pub items : Items
   pub reads : Reads text items
   pub readable : fault_of 300 text ≡ None
   pub fault : problem_fault items ≡ Some f
 
 -- why a text is refused; want of memory needs no cause
-abbrev pub IsRefused : List ℕ → AriFault → Type 0
-IsRefused text (fault.Text f) = fault_of 300 text ≡ Some f
-IsRefused text fault.OutOfMemory = Unit {0}
-IsRefused text f = HasFault text f
+abbrev pub IsProblemRefused : List ℕ → AriFault → Type 0
+IsProblemRefused text (fault.Text f) = fault_of 300 text ≡ Some f
+IsProblemRefused text fault.OutOfMemory = Unit {0}
+IsProblemRefused text f = HasProblemFault text f

@@ -3,7 +3,7 @@ ghost use Rattle.sexp_core.specs.Items.{view, views};
 ghost use Rattle.ari_text.specs.Least.{noted};
 ghost use Rattle.ari_text.specs.Faults.{faults_of};
 ghost use Rattle.ari_text.specs.Named.{NamedSystem, IsNamed};
-ghost use Rattle.ari_text.specs.Problem.{is_trs as is_trs_of, format_list_fault as list_fault, format_fault as fault_of_format, problem_fault, later_items, system_of, SaysSystem, IsRefused};
+ghost use Rattle.ari_text.specs.Problem.{is_trs as is_trs_of, format_list_fault as list_fault, format_fault as fault_of_format, problem_fault, later_items, system_of, SaysSystem, IsProblemRefused};
 ghost use Rattle.ari_text.specs.PartsView.{parts_view};
 
 use crate::building::build_rules;
@@ -30,7 +30,7 @@ pub fn read_problem(alloc: Global, text: &[u8]) -> Result<NamedTrs, AriFault>
     requires size { length text.now ≤ 2 ^ 31 }
     ensures found { IfOk result (λ s. SaysSystem text.now s) }
     ensures only { (s : NamedSystem) → SaysSystem text.now s → MatchResult result (λ r. r ≡ s) (λ e. e ≡ AriFault.OutOfMemory) }
-    ensures refused { IfErr result (λ e. IsRefused text.now e) }
+    ensures refused { IfErr result (λ e. IsProblemRefused text.now e) }
 {
     let items = read_all(alloc, text, 300)?;
     let parts = read_items(alloc, &items)?;

@@ -1,7 +1,9 @@
 pub mod ProofProblem
+pub mod Subproblems
+pub mod Kind
+pub mod LoopKind
+pub mod ForkKind
 pub mod ProofStep
 pub mod Applies
 pub mod Refused
-pub mod ProblemsLeft
 pub mod Laws
-pub mod Ends

@@ -1,16 +1,16 @@
--- The steps of a proof.
-use Rattle.std.specs.Prelude.{◌≡◌, ℕ, List, IsTrue}
+-- The steps of a proof, and the kind of each.
+use Rattle.std.specs.Prelude.{ℕ, List}
 use Rattle.trs_defs.specs.Tree.{Tree}
-use Rattle.trs_defs.specs.Size.{within_limits}
-use Rattle.trs_defs.specs.WellFormed.{IsWellFormed}
 use Rattle.trs_defs.specs.System.{System}
 use Rattle.trs_defs.specs.Path.{PlacedRule}
 use Rattle.trs_core.specs.View.{tree}
 use Rattle.rewrite_core.specs.declared.forks.ForkTest.{ForkTest}
-use Rattle.rewrite_core.specs.declared.forks.ForkTest.TheVariants.{Normal}
 use Rattle.cert_step.specs.declared.step.Step.{Step}
 use Rattle.cert_step.specs.declared.step.Step.TheVariants as code
 use Rattle.cert_step.specs.declared.step.NodeStep.{NodeStep}
+use Rattle.cert_step.specs.Kind.{Kind}
+use Rattle.cert_step.specs.LoopKind.{loop_kind}
+use Rattle.cert_step.specs.ForkKind.{fork_kind}
 
 pub data ProofStep : Type 0 where
   loop : (start : Tree) (path : List PlacedRule) (place : List ℕ) → ProofStep
@@ -20,16 +20,17 @@ abbrev pub step_of : Step → ProofStep
 step_of (code.Loop start path place) = loop (tree start) path.items place
 step_of (code.Fork start left right test) = fork (tree start) left.items right.items test
 
+abbrev pub kind_of : ProofStep → Kind
+kind_of (loop start path place) = loop_kind start path place
+kind_of (fork start left right test) = fork_kind start left right test
+
 -- a step for the problem of a node
-pub record StepAt : Type 0 where
+pub record ProofNodeStep : Type 0 where
   pub node : ℕ
   pub step : ProofStep
 
-abbrev pub step_at_of : NodeStep → StepAt
-step_at_of s = record { node = s.node; step = step_of s.step }
+abbrev pub node_step_of : NodeStep → ProofNodeStep
+node_step_of s = record { node = s.node; step = step_of s.step }
 
--- its term is well-formed and keeps the limits, and its test is one that is built
 abbrev pub IsWellMade : System → ProofStep → Type 0
-IsWellMade system (loop start path place) = IsWellFormed system.arities start × IsTrue (within_limits start)
-IsWellMade system (fork start left right test) =
-    IsWellFormed system.arities start × IsTrue (within_limits start) × (test ≡ Normal)
+IsWellMade system s = (kind_of s).is_well_made system

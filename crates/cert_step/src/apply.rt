@@ -1,15 +1,17 @@
 ghost use Rattle.std.specs.Prelude.{List, map, IfOk, IfErr};
+ghost use Rattle.trs_defs.specs.System.{IsSystem};
+ghost use Rattle.rewrite_core.specs.Check.{Answers};
 ghost use Rattle.rewrite_core.specs.LoopRefusal.{RefusedFor};
-ghost use Rattle.cert_step.specs.ProofProblem.{ProofProblem, problem_of, Means, IsWellMadeProblem};
-ghost use Rattle.cert_step.specs.ProofStep.{step_of, IsWellMade};
-ghost use Rattle.cert_step.specs.Applies.{Applies};
-ghost use Rattle.cert_step.specs.Refused.{IsRefused};
-ghost use Rattle.cert_step.specs.ProblemsLeft.{EachMeans, EachIsWellMade, GivesProblems};
+ghost use Rattle.cert_step.specs.ProofProblem.{ProofProblem, problem_of, Holds, IsWellMadeProblem};
+ghost use Rattle.cert_step.specs.ProofStep.{step_of, kind_of, IsWellMade};
+ghost use Rattle.cert_step.specs.Applies.{Applies, step_conditions};
+ghost use Rattle.cert_step.specs.Refused.{IsStepRefused};
+ghost use Rattle.cert_step.specs.Subproblems.{AllHold, AreWellMadeProblems, GivesSubproblems, problems_of};
 
 use crate::fork_step::apply_fork;
 use crate::loop_step::apply_loop;
 use crate::{Problem, Step};
-use rewrite_core::CheckFault;
+use rewrite_core::{CheckFault, StepRefused};
 use std::alloc::Global;
 use trs_core::Trs;
 
@@ -24,21 +26,58 @@ pub fn apply_step(
     requires well_made_problem { IsWellMadeProblem trs.now (problem_of problem.now) }
     requires well_made_step { IsWellMade trs.now (step_of step.now) }
     ensures ok { IfOk result (λ left. Applies trs.now (problem_of problem.now) (step_of step.now) (map problem_of left.items)) }
-    ensures refused { IfErr result (RefusedFor (IsRefused trs.now (problem_of problem.now) (step_of step.now))) }
+    ensures refused { IfErr result (RefusedFor (IsStepRefused trs.now (problem_of problem.now) (step_of step.now))) }
 
     // A step that applies is refused only for want of memory.
     ensures only { (left : List ProofProblem) → Applies trs.now (problem_of problem.now) (step_of step.now) left
-        → GivesProblems result left }
-    ensures sound { IfOk result (λ left. EachMeans trs.now (map problem_of left.items) → Means trs.now (problem_of problem.now)) }
-    ensures well_made { IfOk result (λ left. EachIsWellMade trs.now (map problem_of left.items)) }
+        → GivesSubproblems result left }
+    ensures sound { IfOk result (λ left. AllHold trs.now (map problem_of left.items) → Holds trs.now (problem_of problem.now)) }
+    ensures well_made { IfOk result (λ left. AreWellMadeProblems trs.now (map problem_of left.items)) }
+{
+    keeps_system(trs);
+    checked(alloc, trs, problem, step)
+}
+
+/// The type of a system keeps that it is one.
+fn keeps_system(trs: &Trs)
+    ensures { IsSystem trs.now }
+{
+    trs.rules();
+}
+
+/// The problems that a step leaves, by its conditions alone.
+fn checked(
+    alloc: Global,
+    trs: &Trs,
+    problem: &Problem,
+    step: &Step,
+) -> Result<Vec<Problem>, CheckFault>
+    requires { IsWellMade trs.now (step_of step.now) }
+    ensures { Answers problems_of (step_conditions trs.now (problem_of problem.now) (step_of step.now)) result }
+{
+    if !step.is_for(problem) {
+        return Err(CheckFault::Refused(StepRefused::WrongProblem));
+    }
+    checked_kind(alloc, trs, problem, step)
+}
+
+/// The problems that a step leaves of a problem that it is for.
+fn checked_kind(
+    alloc: Global,
+    trs: &Trs,
+    problem: &Problem,
+    step: &Step,
+) -> Result<Vec<Problem>, CheckFault>
+    requires { IsWellMade trs.now (step_of step.now) }
+    ensures { Answers problems_of ((kind_of (step_of step.now)).conditions trs.now (problem_of problem.now)) result }
 {
     match step {
-        Step::Loop { start, path, place } => apply_loop(alloc, trs, problem, start, path, place),
+        Step::Loop { start, path, place } => apply_loop(alloc, trs, start, path, place),
         Step::Fork {
             start,
             left,
             right,
             test,
-        } => apply_fork(alloc, trs, problem, start, left, right, *test),
+        } => apply_fork(alloc, trs, start, left, right, *test),
     }
 }

@@ -1,21 +1,15 @@
-ghost use Rattle.std.specs.Prelude.{◌≡◌, ℕ, List, map, OnOk, IfOk, IfErr, IsOkUnless};
+ghost use Rattle.std.specs.Prelude.{◌≡◌, [], OnOk};
 ghost use Rattle.trs_core.specs.View.{tree};
-ghost use Rattle.trs_defs.specs.Tree.{Tree};
 ghost use Rattle.trs_defs.specs.WellFormed.{IsWellFormed};
-ghost use Rattle.trs_defs.specs.Path.{Follows};
 ghost use Rattle.trs_defs.specs.Claims.{IsForked};
-ghost use Rattle.rewrite_core.specs.LoopRefusal.{RefusedFor};
-ghost use Rattle.cert_step.specs.ProofProblem.{ProofProblem, problem_of, Means};
-ghost use Rattle.cert_step.specs.ProofStep.{fork, IsWellMade};
-ghost use Rattle.cert_step.specs.Applies.{Applies, IsNormalFork};
-ghost use Rattle.cert_step.specs.Refused.{IsRefused, IsForkRefusal};
-ghost use Rattle.cert_step.specs.ProblemsLeft.{EachMeans, GivesProblems};
-ghost use Rattle.cert_step.specs.Ends.{GivesEnd, IsEndRefusal};
+ghost use Rattle.rewrite_core.specs.Check.{Answers, Passes};
+ghost use Rattle.cert_step.specs.Kind.{leaves};
+ghost use Rattle.cert_step.specs.Subproblems.{problems_of};
+ghost use Rattle.cert_step.specs.ForkKind.{end_conditions, fork_conditions};
 
 use crate::Problem;
-use rewrite_core::{
-    CheckFault, ForkTest, PathStep, StepRefused, is_normal, path_refused, run_path,
-};
+use crate::problem::no_problem;
+use rewrite_core::{CheckFault, ForkTest, PathStep, StepRefused, end_of_path, is_normal};
 use std::alloc::Global;
 use trs_core::{Term, Trs};
 
@@ -23,30 +17,17 @@ use trs_core::{Term, Trs};
 pub(crate) fn apply_fork(
     alloc: Global,
     trs: &Trs,
-    problem: &Problem,
     start: &Term,
     left: &[PathStep],
     right: &[PathStep],
     test: ForkTest,
 ) -> Result<Vec<Problem>, CheckFault>
-    requires { IsWellMade trs.now (fork (tree start.now) left.now right.now test) }
-    ensures ok { IfOk result (λ left_over. Applies trs.now (problem_of problem.now) (fork (tree start.now) left.now right.now test)
-        (map problem_of left_over.items)) }
-    ensures refused { IfErr result (RefusedFor (IsRefused trs.now (problem_of problem.now)
-        (fork (tree start.now) left.now right.now test))) }
-    ensures only { (left_over : List ProofProblem) → Applies trs.now (problem_of problem.now)
-        (fork (tree start.now) left.now right.now test) left_over → GivesProblems result left_over }
-    ensures sound { IfOk result (λ left_over. EachMeans trs.now (map problem_of left_over.items) → Means trs.now (problem_of problem.now)) }
+    requires { test ≡ ForkTest.Normal }
+    ensures { Answers problems_of (leaves [] (fork_conditions trs.now.rules (tree start.now) left.now right.now test)) result }
 {
-    match problem {
-        Problem::Fork => {
-            match test {
-                ForkTest::Normal => fork_check(alloc, trs, start, left, right)?,
-                ForkTest::Apart => unreachable!(),
-            }
-            Ok(Vec::new(alloc))
-        }
-        _ => Err(CheckFault::Refused(StepRefused::WrongProblem)),
+    match test {
+        ForkTest::Normal => no_problem(alloc, fork_check(alloc, trs, start, left, right)),
+        ForkTest::Apart => unreachable!(),
     }
 }
 
@@ -61,41 +42,31 @@ pub fn fork_check(
     left: &[PathStep],
     right: &[PathStep],
 ) -> Result<(), CheckFault>
-    ensures ok { OnOk result (IsNormalFork trs.now.rules (tree start.now) left.now right.now) }
-    ensures refused { IfErr result (RefusedFor (IsForkRefusal trs.now.rules (tree start.now) left.now right.now)) }
-
-    // Such a fork is refused only for want of memory.
-    ensures only { IsNormalFork trs.now.rules (tree start.now) left.now right.now → IsOkUnless result CheckFault.OutOfMemory }
+    ensures answers { Passes (fork_conditions trs.now.rules (tree start.now) left.now right.now ForkTest.Normal) result }
     ensures forked { OnOk result (IsWellFormed trs.now.arities (tree start.now) → IsForked trs.now) }
 {
-    let left_end = end_of_path(alloc, trs, start, left, 0)?;
-    let right_end = end_of_path(alloc, trs, start, right, 1)?;
-    if !is_normal(alloc, trs, &left_end)? {
+    let left_end = end_of_path(alloc, trs, start, left, 0, 0)?;
+    let right_end = end_of_path(alloc, trs, start, right, 0, 1)?;
+    different_normal_forms(alloc, trs, &left_end, &right_end)
+}
+
+/// Sees that both terms are normal forms, and that they differ.
+fn different_normal_forms(
+    alloc: Global,
+    trs: &Trs,
+    left: &Term,
+    right: &Term,
+) -> Result<(), CheckFault>
+    ensures { Passes (end_conditions trs.now.rules ForkTest.Normal (tree left.now) (tree right.now)) result }
+{
+    if !is_normal(alloc, trs, left)? {
         return Err(CheckFault::Refused(StepRefused::NotNormal(0)));
     }
-    if !is_normal(alloc, trs, &right_end)? {
+    if !is_normal(alloc, trs, right)? {
         return Err(CheckFault::Refused(StepRefused::NotNormal(1)));
     }
-    if left_end.same(&right_end) {
+    if left.same(right) {
         return Err(CheckFault::Refused(StepRefused::SameEnds));
     }
     Ok(())
-}
-
-/// The end of the path of this number, of the step's only item.
-fn end_of_path(
-    alloc: Global,
-    trs: &Trs,
-    start: &Term,
-    path: &[PathStep],
-    number: u64,
-) -> Result<Term, CheckFault>
-    ensures end { IfOk result (λ u. Follows trs.now.rules path.now (tree start.now) (tree u)) }
-    ensures stopped { IfErr result (IsEndRefusal trs.now.rules path.now (tree start.now) number) }
-    ensures only { (u : Tree) → Follows trs.now.rules path.now (tree start.now) u → GivesEnd result u }
-{
-    match run_path(alloc, trs, start, path) {
-        Ok(end) => Ok(end),
-        Err(fault) => Err(path_refused(0, number, fault)),
-    }
 }

@@ -1,6 +1,8 @@
-ghost use Rattle.std.specs.Prelude.{◌≡◌, ◌↔◌, IfOk, IsTrue};
+ghost use Rattle.std.specs.Prelude.{◌≡◌, ◌↔◌, [], IfOk, IsTrue};
 ghost use Rattle.cert_step.specs.ProofProblem.{problem_of};
+ghost use Rattle.cert_step.specs.Subproblems.{Leaves};
 
+use rewrite_core::CheckFault;
 use std::alloc::Global;
 use trs_core::OutOfMemory;
 
@@ -51,5 +53,18 @@ impl Problem {
             Problem::CrNewman => matches!(other, Problem::CrNewman),
             Problem::Fork => matches!(other, Problem::Fork),
         }
+    }
+}
+
+/// What a step answers that leaves no problem where its conditions hold.
+pub(crate) fn no_problem(
+    alloc: Global,
+    checked: Result<(), CheckFault>,
+) -> Result<Vec<Problem>, CheckFault>
+    ensures { Leaves [] checked result }
+{
+    match checked {
+        Ok(()) => Ok(Vec::new(alloc)),
+        Err(fault) => Err(fault),
     }
 }

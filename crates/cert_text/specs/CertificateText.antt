@@ -1,19 +1,21 @@
--- What a certificate text says, and why it is refused. (docs/CERTIFICATE-FORMAT.md has the grammar.)
-use Rattle.std.specs.Prelude.{◌≡◌, ◌⊎◌, ◌||◌, ◌==◌, nat_lt, ℕ, Bool, false, List, [], ◌∷◌, ◌++◌, length, Option, Some, None, option_map, unwrap_or, codes, if◌then◌else◌}
-use Rattle.std.specs.Str.{bytes_eq}
-use Rattle.sexp_core.specs.Items.{Item, a_word, a_list, Items, no_items, item}
+-- What a certificate text says, and why it is refused: how it is read, and how it is printed. (docs/CERTIFICATE-FORMAT.md
+-- has the grammar.)
+use Rattle.std.specs.Prelude.{◌≡◌, ◌⊎◌, ◌==◌, ℕ, Bool, true, false, List, [], ◌∷◌, length, map, Some, None, Result, Ok, Err, codes, if◌then◌else◌}
+use Rattle.sexp_core.specs.Items.{Item, a_word, a_list, Items, no_items, item, items_of}
 use Rattle.sexp_core.specs.Reads.{Reads, fault_of}
 use Rattle.sexp_core.specs.declared.fault.TextFault.{TextFault}
 use Rattle.sexp_core.specs.declared.fault.TextFault.TheVariants as text
-use Rattle.numerals.specs.Numerals.{numeral_value}
 use Rattle.ari_text.specs.Named.{NamedSystem}
 use Rattle.cert_step.specs.declared.claim.Claim.{Claim}
-use Rattle.cert_step.specs.declared.claim.Claim.TheVariants.{Terminating}
+use Rattle.cert_step.specs.declared.claim.Claim.TheVariants.{Terminating, Nonterminating, Confluent, Nonconfluent}
+use Rattle.cert_step.specs.ProofStep.{ProofNodeStep}
+use Rattle.text_reading.specs.Reading.{Read, ◌<*>◌, part, done, keyword, many, list, word, chosen}
+use Rattle.text_reading.specs.Numbers.{number}
+use Rattle.text_reading.specs.Printed.{word_item, list_item}
+use Rattle.step_text.specs.Steps.{step, step_item}
 use Rattle.cert_text.specs.declared.fault.CertFault.{CertFault}
 use Rattle.cert_text.specs.declared.fault.CertFault.TheVariants.{Text, Version, OutOfMemory}
 use Rattle.cert_text.specs.ProofText.{ProofText}
-use Rattle.cert_text.specs.Written.{claim_word, steps_of}
-use Rattle.cert_text.specs.TextFaults.{claim_faults, steps_faults}
 
 -- the place of a text fault
 abbrev pub place_of_text_fault : TextFault → ℕ
@@ -23,89 +25,106 @@ place_of_text_fault (text.ExtraClose p) = p
 place_of_text_fault (text.TooDeep p) = p
 place_of_text_fault text.OutOfMemory = 0
 
-abbrev pub lesser : Option ℕ → ℕ → Option ℕ
-lesser None p = Some p
-lesser (Some q) p = if nat_lt p q then Some p else Some q
+-- ---- headline and head
 
--- the least of a place that is known, if any, and others
-abbrev pub least_place : Option ℕ → List ℕ → Option ℕ
-least_place least [] = least
-least_place least (p ∷ ps) = least_place (lesser least p) ps
+abbrev pub headlines : List (List ℕ × Bool)
+headlines = (codes "YES", true) ∷ (codes "NO", false) ∷ []
 
-abbrev pub is_headline : List ℕ → Bool
-is_headline w = bytes_eq w (codes "YES") || bytes_eq w (codes "NO")
+abbrev pub headline : Item → Read Bool
+headline = word headlines
 
--- the first item is a headline
-abbrev pub headline_fault : Item → Option ℕ
-headline_fault (a_list xs at) = Some at
-headline_fault (a_word w at) = if is_headline w then None else Some at
+abbrev pub headline_word : Bool → List ℕ
+headline_word positive = if positive then codes "YES" else codes "NO"
 
--- what is wrong behind the numbers of the head: another version, or the least place of all others
-abbrev pub body_fault : NamedSystem → ℕ → List ℕ → ℕ → Items → Option CertFault
-body_fault named version claim claim_at steps =
-    if version == 1 then option_map (λ p. Text p) (least_place None (claim_faults claim claim_at ++ steps_faults named steps))
-    else Some (Version version)
+abbrev pub claims : List (List ℕ × Claim)
+claims =
+    (codes "terminating", Terminating) ∷ (codes "nonterminating", Nonterminating) ∷ (codes "confluent", Confluent)
+    ∷ (codes "nonconfluent", Nonconfluent) ∷ []
 
-abbrev pub numbered_fault : NamedSystem → ℕ → Option ℕ → List ℕ → ℕ → Items → Option CertFault
-numbered_fault named at None claim claim_at steps = Some (Text at)
-numbered_fault named at (Some version) claim claim_at steps = body_fault named version claim claim_at steps
+abbrev pub claim_word : Claim → List ℕ
+claim_word Terminating = codes "terminating"
+claim_word Nonterminating = codes "nonterminating"
+claim_word Confluent = codes "confluent"
+claim_word Nonconfluent = codes "nonconfluent"
 
--- the members of the second item are `certificate`, a number and a word
-abbrev pub head_list_fault : NamedSystem → ℕ → Items → Items → Option CertFault
-head_list_fault named at (item (a_word head p) (item (a_word number q) (item (a_word claim r) no_items))) steps =
-    if bytes_eq head (codes "certificate") then numbered_fault named at (numeral_value 9223372036854775807 number) claim r steps
-    else Some (Text at)
-head_list_fault named at _ steps = Some (Text at)
+-- a word, and the claim that it is, which counts only behind the version
+abbrev pub claim_behind : Item → Read (Read Claim)
+claim_behind (a_word w at) = Ok (chosen claims at w)
+claim_behind (a_list xs at) = Err at
 
-abbrev pub head_fault : NamedSystem → Item → Items → Option CertFault
-head_fault named (a_word w at) steps = Some (Text at)
-head_fault named (a_list xs at) steps = head_list_fault named at xs steps
+-- a version and a claim
+pub record Head : Type 0 where
+  pub version : ℕ
+  pub claim : Read Claim
 
--- what is wrong behind a headline of a text of this length
-abbrev pub later_fault : NamedSystem → ℕ → Items → Option CertFault
-later_fault named size no_items = Some (Text size)
-later_fault named size (item head steps) = head_fault named head steps
+abbrev pub head_of : Unit {0} → ℕ → Read Claim → Head
+head_of certificate version claim = record { version = version; claim = claim }
 
-abbrev pub behind_headline : Option ℕ → Option CertFault → Option CertFault
-behind_headline (Some p) later = Some (Text p)
-behind_headline None later = later
+-- an item is judged as a whole
+abbrev pub whole : {A : Type 0} → ℕ → Read A → Read A
+whole at (Ok x) = Ok x
+whole at (Err p) = Err at
 
--- the fault of the items of a text of this length
-abbrev pub certificate_fault : NamedSystem → ℕ → Items → Option CertFault
-certificate_fault named size no_items = Some (Text size)
-certificate_fault named size (item x xs) = behind_headline (headline_fault x) (later_fault named size xs)
+abbrev pub head_list : Item → Read Head
+head_list = list (part (keyword (codes "certificate")) (part (number 9223372036854775807) (part claim_behind done))) head_of
 
-abbrev pub is_yes : Items → Bool
-is_yes (item (a_word w at) more) = bytes_eq w (codes "YES")
-is_yes _ = false
+-- `(certificate number claim)`
+abbrev pub head : Item → Read Head
+head (a_word w at) = Err at
+head (a_list xs at) = whole at (head_list (a_list xs at))
 
-abbrev pub claim_of : Items → Claim
-claim_of (item x (item (a_list (item head (item number (item (a_word claim r) more))) at) steps)) = unwrap_or (claim_word claim) Terminating
-claim_of _ = Terminating
+abbrev pub head_item : Claim → Item
+head_item claim = list_item (word_item (codes "certificate") ∷ word_item (codes "1") ∷ word_item (claim_word claim) ∷ [])
 
-abbrev pub step_items : Items → Items
-step_items (item x (item y steps)) = steps
-step_items _ = no_items
+-- ---- texts
 
--- what faultless items say
-abbrev pub proof_text_of_items : List (List ℕ) → Items → ProofText
-proof_text_of_items names items =
-    record { headline = is_yes items; claim = claim_of items; steps = steps_of names (step_items items) }
+abbrev pub says_of : Bool → Claim → List ProofNodeStep → ProofText
+says_of positive claim steps = record { headline = positive; claim = claim; steps = steps }
+
+abbrev pub at_place : Read ProofText → Result ProofText CertFault
+at_place (Ok says) = Ok says
+at_place (Err p) = Err (Text p)
+
+-- behind a headline and a head of this version: another version, or the least place of all others
+abbrev pub body : NamedSystem → Bool → Head → Items → Result ProofText CertFault
+body named positive h steps =
+    if h.version == 1 then at_place (Ok (says_of positive) <*> h.claim <*> many (step named) steps) else Err (Version h.version)
+
+abbrev pub behind_head : NamedSystem → Bool → Read Head → Items → Result ProofText CertFault
+behind_head named positive (Err p) steps = Err (Text p)
+behind_head named positive (Ok h) steps = body named positive h steps
+
+-- the items behind a headline, in a text of this length
+abbrev pub behind_headline : NamedSystem → ℕ → Read Bool → Items → Result ProofText CertFault
+behind_headline named size (Err p) xs = Err (Text p)
+behind_headline named size (Ok positive) no_items = Err (Text size)
+behind_headline named size (Ok positive) (item x xs) = behind_head named positive (head x) xs
+
+-- what the items of a text of this length say
+abbrev pub certificate : NamedSystem → ℕ → Items → Result ProofText CertFault
+certificate named size no_items = Err (Text size)
+certificate named size (item x xs) = behind_headline named size (headline x) xs
+
+-- the items with which a certificate is printed: the headline, its claim, and the steps in order
+abbrev pub certificate_items : NamedSystem → ProofText → Items
+certificate_items named says =
+    item (word_item (headline_word says.headline)) (item (head_item says.claim) (items_of (map (step_item named) says.steps)))
+
+-- ---- what a text says
 
 -- the text says this, over the symbols of the system
 pub record SaysCertificate (named : NamedSystem) (text : List ℕ) (says : ProofText) : Type 0 where
   pub items : Items
   pub reads : Reads text items
   pub readable : fault_of 1040 text ≡ None
-  pub faultless : certificate_fault named (length text) items ≡ None
-  pub proof_text : says ≡ proof_text_of_items named.names items
+  pub read : certificate named (length text) items ≡ Ok says
 
 -- the text is read as items that have this fault
-pub record HasFault (named : NamedSystem) (text : List ℕ) (f : CertFault) : Type 0 where
+pub record HasCertificateFault (named : NamedSystem) (text : List ℕ) (f : CertFault) : Type 0 where
   pub items : Items
   pub reads : Reads text items
   pub readable : fault_of 1040 text ≡ None
-  pub fault : certificate_fault named (length text) items ≡ Some f
+  pub read : certificate named (length text) items ≡ Err f
 
 -- the text has a fault at this place as a list of items
 pub record IsUnreadable (text : List ℕ) (p : ℕ) : Type 0 where
@@ -114,7 +133,7 @@ pub record IsUnreadable (text : List ℕ) (p : ℕ) : Type 0 where
   pub place : p ≡ place_of_text_fault cause
 
 -- why a certificate text is not read; want of memory needs no cause
-abbrev pub IsRefused : NamedSystem → List ℕ → CertFault → Type 0
-IsRefused named text (Text p) = IsUnreadable text p ⊎ HasFault named text (Text p)
-IsRefused named text (Version n) = HasFault named text (Version n)
-IsRefused named text OutOfMemory = Unit {0}
+abbrev pub IsCertificateRefused : NamedSystem → List ℕ → CertFault → Type 0
+IsCertificateRefused named text (Text p) = IsUnreadable text p ⊎ HasCertificateFault named text (Text p)
+IsCertificateRefused named text (Version n) = HasCertificateFault named text (Version n)
+IsCertificateRefused named text OutOfMemory = Unit {0}

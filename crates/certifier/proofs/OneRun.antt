@@ -4,11 +4,10 @@ use Rattle.std.proofs.lemmas.Bool.{ltb-true, ltb-false}
 use Rattle.trs_defs.specs.System.{System, IsSystem}
 use Rattle.cert_step.specs.declared.claim.Claim.{Claim}
 use Rattle.cert_step.specs.ProofProblem.{ProofProblem}
-use Rattle.cert_step.specs.ProofStep.{StepAt}
+use Rattle.cert_step.specs.ProofStep.{ProofNodeStep}
 use Rattle.cert_step.specs.Applies.{Applies}
-use Rattle.cert_step.specs.Refused.{IsRefused}
-use Rattle.cert_step.proofs.Once.{applies_once, not_both}
-use Rattle.cert_step.proofs.Refusals.{refused_once}
+use Rattle.cert_step.specs.Refused.{IsStepRefused}
+use Rattle.cert_step.proofs.Once.{applies_once, not_both, refused_once}
 use Rattle.certifier.specs.declared.rejected.Rejected.{Rejected}
 use Rattle.certifier.specs.declared.rejected.Rejected.TheVariants.{Problem, Text, Version, Headline, NoNode, Decided, Step, Open, OutOfMemory}
 use Rattle.certifier.specs.Nodes.{Node, open_node, nodes_after, Makes, first_nodes, IsAccepted, IsLeftOpen}
@@ -17,7 +16,7 @@ use Rattle.certifier.proofs.Soundness.{same_problem}
 
 -- ---- steps that are made
 
-pub same_after : (system : System) (nodes : List Node) (s : StepAt) (p q : ProofProblem) (left other : List ProofProblem)
+pub same_after : (system : System) (nodes : List Node) (s : ProofNodeStep) (p q : ProofProblem) (left other : List ProofProblem)
     → slice_get nodes s.node ≡ Some (open_node p) → slice_get nodes s.node ≡ Some (open_node q) → Applies system p s.step left → Applies system q s.step other
     → nodes_after nodes s.node p left ≡ nodes_after nodes s.node q other
 same_after system nodes s p q left other here there a b =
@@ -25,7 +24,7 @@ same_after system nodes s p q left other here there a b =
     let lists : left ≡ other = applies_once system q s.step left other (subst (λ x. Applies system x s.step left) problems a) b in
     cc
 
-pub made_once : (system : System) (steps : List StepAt) (nodes a b : List Node) → Makes system nodes steps a → Makes system nodes steps b → a ≡ b
+pub made_once : (system : System) (steps : List ProofNodeStep) (nodes a b : List Node) → Makes system nodes steps a → Makes system nodes steps b → a ≡ b
 made_once system [] nodes a b h k = sym h ∙ k
 made_once system (s ∷ steps) nodes a b h k =
     let same = same_after system nodes s h.0 k.0 h.1 k.1 h.2 k.2 h.3 k.3 in
@@ -33,24 +32,24 @@ made_once system (s ∷ steps) nodes a b h k =
 
 -- ---- a step that can't be made
 
-abbrev IsHalted : System → List Node → StepAt → Type 0
+abbrev IsHalted : System → List Node → ProofNodeStep → Type 0
 IsHalted system nodes s = (p : ProofProblem) (left : List ProofProblem) → slice_get nodes s.node ≡ Some (open_node p) → Applies system p s.step left → ⊥
 
 -- the steps before number i are made and lead to these nodes, and step i stands there and can't be made
-record Halts (system : System) (nodes : List Node) (steps : List StepAt) (i : ℕ) (mid : List Node) (s : StepAt) : Type 0 where
+record Halts (system : System) (nodes : List Node) (steps : List ProofNodeStep) (i : ℕ) (mid : List Node) (s : ProofNodeStep) : Type 0 where
   makes : Makes system nodes (take i steps) mid
   there : slice_get steps i ≡ Some s
   halted : IsHalted system mid s
 
-halts_here : (system : System) (nodes mid : List Node) (t s : StepAt) (steps : List StepAt) → Halts system nodes (t ∷ steps) 0 mid s → IsHalted system nodes t
+halts_here : (system : System) (nodes mid : List Node) (t s : ProofNodeStep) (steps : List ProofNodeStep) → Halts system nodes (t ∷ steps) 0 mid s → IsHalted system nodes t
 halts_here system nodes mid t s steps h p left e a =
     let step : t ≡ s = cc (h.there) in
     let here : nodes ≡ mid = h.makes in
     h.halted p left
-    (subst (λ (x : StepAt). slice_get mid x.node ≡ Some (open_node p)) step (subst (λ (x : List Node). slice_get x t.node ≡ Some (open_node p)) here e))
-    (subst (λ (x : StepAt). Applies system p x.step left) step a)
+    (subst (λ (x : ProofNodeStep). slice_get mid x.node ≡ Some (open_node p)) step (subst (λ (x : List Node). slice_get x t.node ≡ Some (open_node p)) here e))
+    (subst (λ (x : ProofNodeStep). Applies system p x.step left) step a)
 
-halts_later : (system : System) (nodes mid : List Node) (t s : StepAt) (steps : List StepAt) (i : ℕ) (p : ProofProblem) (left : List ProofProblem)
+halts_later : (system : System) (nodes mid : List Node) (t s : ProofNodeStep) (steps : List ProofNodeStep) (i : ℕ) (p : ProofProblem) (left : List ProofProblem)
     → slice_get nodes t.node ≡ Some (open_node p) → Applies system p t.step left → Halts system nodes (t ∷ steps) (suc i) mid s → Halts system (nodes_after nodes t.node p left) steps i mid s
 halts_later system nodes mid t s steps i p left e a h =
     let same = same_after system nodes t h.makes.0 p h.makes.1 left h.makes.2 e h.makes.3 a in
@@ -60,7 +59,7 @@ halts_later system nodes mid t s steps i p left e a h =
       halted = h.halted;
     }
 
-not_made : (system : System) (steps : List StepAt) (nodes : List Node) (i : ℕ) (mid : List Node) (s : StepAt) (last : List Node) → Halts system nodes steps i mid s → Makes system nodes steps last → ⊥
+not_made : (system : System) (steps : List ProofNodeStep) (nodes : List Node) (i : ℕ) (mid : List Node) (s : ProofNodeStep) (last : List Node) → Halts system nodes steps i mid s → Makes system nodes steps last → ⊥
 not_made system [] nodes i mid s last h makes = let e = h.there in cc
 not_made system (t ∷ steps) nodes zero mid s last h makes = halts_here system nodes mid t s steps h makes.0 makes.1 makes.2 makes.3
 not_made system (t ∷ steps) nodes (suc i) mid s last h makes =
@@ -68,15 +67,15 @@ not_made system (t ∷ steps) nodes (suc i) mid s last h makes =
     (halts_later system nodes mid t s steps i makes.0 makes.1 makes.2 makes.3 h) makes.4
 
 -- two halts are the same
-pub record IsSameHalt (i j : ℕ) (mid other : List Node) (s t : StepAt) : Type 0 where
+pub record IsSameHalt (i j : ℕ) (mid other : List Node) (s t : ProofNodeStep) : Type 0 where
   numbers : i ≡ j
   nodes : mid ≡ other
   steps : s ≡ t
 
-one_later : (i j : ℕ) (mid other : List Node) (s t : StepAt) → IsSameHalt i j mid other s t → IsSameHalt (suc i) (suc j) mid other s t
+one_later : (i j : ℕ) (mid other : List Node) (s t : ProofNodeStep) → IsSameHalt i j mid other s t → IsSameHalt (suc i) (suc j) mid other s t
 one_later i j mid other s t h = record { numbers = ap suc h.numbers; nodes = h.nodes; steps = h.steps }
 
-halts_once : (system : System) (steps : List StepAt) (nodes : List Node) (i j : ℕ) (mid other : List Node) (s t : StepAt)
+halts_once : (system : System) (steps : List ProofNodeStep) (nodes : List Node) (i j : ℕ) (mid other : List Node) (s t : ProofNodeStep)
     → Halts system nodes steps i mid s → Halts system nodes steps j other t → IsSameHalt i j mid other s t
 halts_once system [] nodes i j mid other s t h k = let e = h.there in absurd cc
 halts_once system (r ∷ steps) nodes zero zero mid other s t h k =
@@ -94,7 +93,7 @@ halts_once system (r ∷ steps) nodes (suc i) (suc j) mid other s t h k =
 
 -- ---- why a step is not made
 
-pub stuck_halts : (system : System) (nodes : List Node) (s : StepAt) (i : ℕ) (why : Rejected) → IsSystem system → why ≢ OutOfMemory → IsStuck system nodes s i why → IsHalted system nodes s
+pub stuck_halts : (system : System) (nodes : List Node) (s : ProofNodeStep) (i : ℕ) (why : Rejected) → IsSystem system → why ≢ OutOfMemory → IsStuck system nodes s i why → IsHalted system nodes s
 stuck_halts system nodes s i (NoNode k) valid n h p left e a = let none = h.1 in cc
 stuck_halts system nodes s i (Decided k) valid n h p left e a =
     let closed = h.1.2 in let there = h.1.1 in
@@ -102,11 +101,11 @@ stuck_halts system nodes s i (Decided k) valid n h p left e a =
     let opened = ap (λ (x : Node). x.is_open) same in cc
 stuck_halts system nodes s i (Step k why) valid n h p left e a =
     let same : h.1.0 ≡ p = same_problem nodes s.node h.1.0 p h.1.1 e in
-    not_both system valid p s.step left why a (subst (λ x. IsRefused system x s.step why) same h.1.2)
+    not_both system valid p s.step left why a (subst (λ x. IsStepRefused system x s.step why) same h.1.2)
 stuck_halts system nodes s i OutOfMemory valid n h p left e a = n refl
 stuck_halts system nodes s i _ valid n h p left e a = h
 
-stuck_once : (system : System) (nodes : List Node) (s : StepAt) (i : ℕ) (why other : Rejected) → IsSystem system → why ≢ OutOfMemory → other ≢ OutOfMemory
+stuck_once : (system : System) (nodes : List Node) (s : ProofNodeStep) (i : ℕ) (why other : Rejected) → IsSystem system → why ≢ OutOfMemory → other ≢ OutOfMemory
     → IsStuck system nodes s i why → IsStuck system nodes s i other → why ≡ other
 stuck_once system nodes s i OutOfMemory other valid n m h k = absurd (n refl)
 stuck_once system nodes s i why OutOfMemory valid n m h k = absurd (m refl)
@@ -115,7 +114,7 @@ stuck_once system nodes s i (Decided a) (Decided b) valid n m h k = ap (λ x. De
 stuck_once system nodes s i (Step a why) (Step b other) valid n m h k =
     let same : h.1.0 ≡ k.1.0 = same_problem nodes s.node h.1.0 k.1.0 h.1.1 k.1.1 in
     let numbers : a ≡ b = h.0 ∙ sym k.0 in
-    let reasons : why ≡ other = refused_once system valid k.1.0 s.step why other (subst (λ x. IsRefused system x s.step why) same h.1.2) k.1.2 in
+    let reasons : why ≡ other = refused_once system valid k.1.0 s.step why other (subst (λ x. IsStepRefused system x s.step why) same h.1.2) k.1.2 in
     cc
 stuck_once system nodes s i (NoNode a) (Decided b) valid n m h k = let none = h.1 in let some = k.1.1 in absurd cc
 stuck_once system nodes s i (NoNode a) (Step b other) valid n m h k = let none = h.1 in let some = k.1.1 in absurd cc
@@ -145,20 +144,20 @@ stuck_once system nodes s i why (Open a) valid n m h k = absurd k
 -- ---- answers
 
 -- a step is not made, for this reason
-record IsStopped (system : System) (claim : Claim) (steps : List StepAt) (why : Rejected) : Type 0 where
+record IsStopped (system : System) (claim : Claim) (steps : List ProofNodeStep) (why : Rejected) : Type 0 where
   number : ℕ
   nodes : List Node
-  step : StepAt
+  step : ProofNodeStep
   makes : Makes system (first_nodes claim) (take number steps) nodes
   there : slice_get steps number ≡ Some step
   stuck : IsStuck system nodes step number why
   no_memory : why ≢ OutOfMemory
 
 -- what is rejected, want of memory aside
-abbrev Cause : System → Claim → List StepAt → Rejected → Type 0
+abbrev Cause : System → Claim → List ProofNodeStep → Rejected → Type 0
 Cause system claim steps why = IsStopped system claim steps why ⊎ ((n : ℕ) × (why ≡ Open n) × IsLeftOpen system claim steps n)
 
-cause_of : (system : System) (claim : Claim) (steps : List StepAt) (why : Rejected) → AreRejected system claim steps why → (why ≡ OutOfMemory) ⊎ Cause system claim steps why
+cause_of : (system : System) (claim : Claim) (steps : List ProofNodeStep) (why : Rejected) → AreRejected system claim steps why → (why ≡ OutOfMemory) ⊎ Cause system claim steps why
 cause_of system claim steps (NoNode i) h =
     inr (inl (record { number = i; nodes = h.nodes; step = h.step; makes = h.stops.makes; there = h.stops.there; stuck = (refl, h.none); no_memory = λ e. cc }))
 cause_of system claim steps (Decided i) h =
@@ -169,11 +168,11 @@ cause_of system claim steps (Open n) h = inr (inr (n, refl, h))
 cause_of system claim steps OutOfMemory h = inl refl
 cause_of system claim steps _ h = absurd h
 
-halt_of : (system : System) (claim : Claim) (steps : List StepAt) (why : Rejected) → IsSystem system → (h : IsStopped system claim steps why) → Halts system (first_nodes claim) steps h.number h.nodes h.step
+halt_of : (system : System) (claim : Claim) (steps : List ProofNodeStep) (why : Rejected) → IsSystem system → (h : IsStopped system claim steps why) → Halts system (first_nodes claim) steps h.number h.nodes h.step
 halt_of system claim steps why valid h =
     record { makes = h.makes; there = h.there; halted = stuck_halts system h.nodes h.step h.number why valid h.no_memory h.stuck }
 
-stopped_once : (system : System) (claim : Claim) (steps : List StepAt) (why other : Rejected) → IsSystem system → IsStopped system claim steps why → IsStopped system claim steps other → why ≡ other
+stopped_once : (system : System) (claim : Claim) (steps : List ProofNodeStep) (why other : Rejected) → IsSystem system → IsStopped system claim steps why → IsStopped system claim steps other → why ≡ other
 stopped_once system claim steps why other valid h k =
     let same = halts_once system steps (first_nodes claim) h.number k.number h.nodes k.nodes h.step k.step
     (halt_of system claim steps why valid h) (halt_of system claim steps other valid k) in
@@ -182,13 +181,13 @@ stopped_once system claim steps why other valid h k =
     (subst (λ x. IsStuck system h.nodes x k.number why) same.steps (subst (λ x. IsStuck system h.nodes h.step x why) numbers h.stuck)) in
     stuck_once system k.nodes k.step k.number why other valid h.no_memory k.no_memory stuck k.stuck
 
-not_below : (system : System) (claim : Claim) (steps : List StepAt) (n m : ℕ) → IsLeftOpen system claim steps n → IsLeftOpen system claim steps m → n < m → ⊥
+not_below : (system : System) (claim : Claim) (steps : List ProofNodeStep) (n m : ℕ) → IsLeftOpen system claim steps n → IsLeftOpen system claim steps m → n < m → ⊥
 not_below system claim steps n m h k lt =
     let nodes = made_once system steps (first_nodes claim) h.nodes k.nodes h.makes k.makes in
     let there = subst (λ (x : List Node). slice_get x n ≡ Some (open_node h.problem)) nodes h.there in
     let closed = k.least n (open_node h.problem) lt there in cc
 
-open_once : (system : System) (claim : Claim) (steps : List StepAt) (n m : ℕ) → IsLeftOpen system claim steps n → IsLeftOpen system claim steps m → n ≡ m
+open_once : (system : System) (claim : Claim) (steps : List ProofNodeStep) (n m : ℕ) → IsLeftOpen system claim steps n → IsLeftOpen system claim steps m → n ≡ m
 open_once system claim steps n m h k = go (nat_lt n m) (nat_lt m n) refl refl
   where
     go : (a b : Bool) → nat_lt n m ≡ a → nat_lt m n ≡ b → n ≡ m
@@ -196,7 +195,7 @@ open_once system claim steps n m h k = go (nat_lt n m) (nat_lt m n) refl refl
     go false true is is' = absurd (not_below system claim steps m n k h (ltb-true m n is'))
     go false false is is' = omega (arith, ltb-false n m is, ltb-false m n is')
 
-same_cause : (system : System) (claim : Claim) (steps : List StepAt) (why other : Rejected) → IsSystem system → Cause system claim steps why → Cause system claim steps other → why ≡ other
+same_cause : (system : System) (claim : Claim) (steps : List ProofNodeStep) (why other : Rejected) → IsSystem system → Cause system claim steps why → Cause system claim steps other → why ≡ other
 same_cause system claim steps why other valid (inl h) (inl k) = stopped_once system claim steps why other valid h k
 same_cause system claim steps why other valid (inl h) (inr k) =
     absurd (not_made system steps (first_nodes claim) h.number h.nodes h.step k.2.nodes (halt_of system claim steps why valid h) k.2.makes)
@@ -205,7 +204,7 @@ same_cause system claim steps why other valid (inr h) (inl k) =
 same_cause system claim steps why other valid (inr h) (inr k) = h.1 ∙ ap (λ x. Open x) (open_once system claim steps h.0 k.0 h.2 k.2) ∙ sym k.1
 
 -- want of memory aside, steps are rejected for one reason
-pub rejected_once : (system : System) (claim : Claim) (steps : List StepAt) (why other : Rejected) → IsSystem system → AreRejected system claim steps why → AreRejected system claim steps other
+pub rejected_once : (system : System) (claim : Claim) (steps : List ProofNodeStep) (why other : Rejected) → IsSystem system → AreRejected system claim steps why → AreRejected system claim steps other
     → why ≢ OutOfMemory → other ≢ OutOfMemory → why ≡ other
 rejected_once system claim steps why other valid h k n m = elim (cause_of system claim steps why h) as (λ _. why ≡ other) [
   | inl memory ↦ absurd (n memory)
@@ -215,7 +214,7 @@ rejected_once system claim steps why other valid h k n m = elim (cause_of system
   ]
 ]
 
-no_cause : (system : System) (claim : Claim) (steps : List StepAt) (why : Rejected) → IsSystem system → IsAccepted system claim steps → Cause system claim steps why → ⊥
+no_cause : (system : System) (claim : Claim) (steps : List ProofNodeStep) (why : Rejected) → IsSystem system → IsAccepted system claim steps → Cause system claim steps why → ⊥
 no_cause system claim steps why valid h (inl k) =
     not_made system steps (first_nodes claim) k.number k.nodes k.step h.nodes (halt_of system claim steps why valid k) h.makes
 no_cause system claim steps why valid h (inr k) =
@@ -224,7 +223,7 @@ no_cause system claim steps why valid h (inr k) =
     let closed = h.decided k.0 (open_node k.2.problem) there in cc
 
 -- steps that are accepted are rejected for want of memory alone
-pub accepted_only : (system : System) (claim : Claim) (steps : List StepAt) (why : Rejected) → IsSystem system → IsAccepted system claim steps → AreRejected system claim steps why → why ≡ OutOfMemory
+pub accepted_only : (system : System) (claim : Claim) (steps : List ProofNodeStep) (why : Rejected) → IsSystem system → IsAccepted system claim steps → AreRejected system claim steps why → why ≡ OutOfMemory
 accepted_only system claim steps why valid h k = elim (cause_of system claim steps why k) as (λ _. why ≡ OutOfMemory) [
   | inl memory ↦ memory
   | inr c ↦ absurd (no_cause system claim steps why valid h c)

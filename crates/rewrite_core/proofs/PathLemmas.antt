@@ -1,28 +1,24 @@
 -- Paths step by step.
 use Rattle.std.specs.Prelude.{◌==◌}
-use Rattle.std.proofs.Common.{◌≡◌, ◌≢◌, ℕ, ◌+◌, ◌<◌, ◌≤◌, Bool, true, false, List, [], ◌∷◌, length, take, drop, get_or, Option, Some, None, Ok, Err, IfSome, is_some, IsTrue, refl, sym, subst, ◌∙◌}
+use Rattle.std.proofs.Common.{◌≡◌, ◌≢◌, ℕ, ◌+◌, ◌<◌, ◌≤◌, Bool, true, false, List, [], ◌∷◌, length, take, drop, get_or, Option, Some, None, Ok, Err, IfSome, IfNone, is_some, IsTrue, refl, sym, subst, ◌∙◌}
+use Rattle.std.proofs.lemmas.Bool.{eqb-true}
 use Rattle.std.proofs.lemmas.List.{take_more, take_all}
 use Rattle.std.proofs.lemmas.Option.{slice_get_read}
 use Rattle.std.specs.Ordering.{nat_cmp}
 use Rattle.std.specs.FinMap.{FinMap}
 use Rattle.trs_defs.specs.Tree.{Tree}
 use Rattle.trs_defs.specs.Size.{within_limits}
-use Rattle.trs_defs.specs.WellFormed.{IsWellFormed}
-use Rattle.trs_defs.specs.Substitution.{apply, bound}
-use Rattle.trs_defs.specs.Position.{subterm_at}
+use Rattle.trs_defs.specs.Substitution.{apply, bound, IsInstance}
 use Rattle.trs_defs.specs.System.{RewriteRule, System, IsSystem}
 use Rattle.trs_defs.specs.Path.{PlacedRule, StepsAt, Follows}
-use Rattle.trs_defs.specs.Loop.{IsLoop}
-use Rattle.trs_defs.specs.Claims.{IsEndless}
 use Rattle.trs_defs.proofs.ArgumentLists.{cell}
 use Rattle.trs_defs.proofs.Places.{follows_joined, steps_at_once}
-use Rattle.trs_defs.proofs.Loops.{endless_of_loop}
 use Rattle.trs_core.specs.Limits.{Gives}
 use Rattle.rewrite_core.specs.declared.steps.StepFault.{StepFault}
 use Rattle.rewrite_core.specs.declared.steps.StepFault.TheVariants as steps
 use Rattle.rewrite_core.specs.declared.paths.PathFault.TheVariants as paths
 use Rattle.rewrite_core.specs.Steps.{IsStepFault}
-use Rattle.rewrite_core.specs.Paths.{StopsAt, IsPathFault, fault_at}
+use Rattle.rewrite_core.specs.Paths.{PathStops, IsPathFault, fault_at}
 use Rattle.rewrite_core.proofs.StepLemmas.{fault_excludes}
 
 -- an item of the path as it was read, in its parts
@@ -38,7 +34,7 @@ module _ (system : System) (path : List PlacedRule) (k : ℕ) (s : PlacedRule) (
   one_more_step t u v follows step small =
       rw (take_more path k s within, ← is) (follows_joined system.rules (take k path) (s ∷ []) t u v follows (v, step, small, refl))
 
-  stops : (t u : Tree) (f : StepFault) → Follows system.rules (take k path) t u → IsStepFault system.rules s.place s.rule u f → f ≢ steps.OutOfMemory → StopsAt system.rules path t k f
+  stops : (t u : Tree) (f : StepFault) → Follows system.rules (take k path) t u → IsStepFault system.rules s.place s.rule u f → f ≢ steps.OutOfMemory → PathStops system.rules path t k f
   stops t u f follows why other =
       record { made = u; follows = follows; step = s; there = slice_get_read path (length path) k s refl within is; fault = why; no_memory = other }
 
@@ -78,19 +74,20 @@ module _ (system : System) (path : List PlacedRule) (k : ℕ) (s : PlacedRule) (
 pub all_steps : (rules : List RewriteRule) (path : List PlacedRule) (k : ℕ) (t u : Tree) → length path ≤ k → Follows rules (take k path) t u → Follows rules path t u
 all_steps rules path k t u h follows = rw (take_all k path h) at follows
 
-module _ (system : System) (start : Tree) (path : List PlacedRule) (place : List ℕ) (end part : Tree) (o : Option (FinMap nat_cmp Tree)) (b : Bool)
-    (steps : path ≢ []) (follows : Follows system.rules path start end) (there : subterm_at place end ≡ Some part)
-    (found : IfSome o (λ s. apply (bound s) start ≡ part)) (is : b ≡ is_some o) where
-  pub loop_found : IsTrue b → IsLoop system.rules start path place
-  loop_found h = go o found (sym is ∙ h)
-    where
-      go : (o : Option (FinMap nat_cmp Tree)) → IfSome o (λ s. apply (bound s) start ≡ part) → is_some o ≡ true → IsLoop system.rules start path place
-      go None f e = absurd cc
-      go (Some s) f e = record { steps = steps; end = end; follows = follows; part = part; there = there; instance = (bound s, f) }
+-- a match of a pattern with a term
+module _ (start part : Tree) where
+  pub instance_found : (o : Option (FinMap nat_cmp Tree)) (b : Bool) → IfSome o (λ s. apply (bound s) start ≡ part) → b ≡ is_some o → b ≡ true → IsInstance start part
+  instance_found None b found is e = absurd cc
+  instance_found (Some s) b found is e = (bound s, found)
 
-  pub endless_found : IsTrue b → IsWellFormed system.arities start → IsEndless system
-  endless_found h well_formed = endless_of_loop system start path place well_formed (loop_found h)
+  pub no_instance : (o : Option (FinMap nat_cmp Tree)) (b : Bool) → IfNone o (IsInstance start part → ⊥) → b ≡ is_some o → b ≡ false → IsInstance start part → ⊥
+  no_instance None b none is e = none
+  no_instance (Some s) b none is e = absurd cc
 
 pub not_empty : (path : List PlacedRule) (b : Bool) → b ≡ (length path == 0) → b ≡ false → path ≢ []
 not_empty [] b e f = λ is. absurd cc
 not_empty (s ∷ path) b e f = λ is. cc
+
+pub is_empty : (path : List PlacedRule) (b : Bool) → b ≡ (length path == 0) → b ≡ true → path ≡ []
+is_empty [] b e f = refl
+is_empty (s ∷ path) b e f = let none : length (s ∷ path) ≡ 0 = eqb-true (length (s ∷ path)) 0 (sym e ∙ f) in absurd cc

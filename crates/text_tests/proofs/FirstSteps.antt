@@ -3,18 +3,18 @@ use Rattle.std.proofs.Common.{◌≡◌, ℕ, ◌≤◌, List, [], ◌∷◌, le
 use Rattle.std.specs.List.{All, AllByRecursion}
 use Rattle.std.proofs.lemmas.List.Elements.{recursion_from_All}
 use Rattle.trs_defs.specs.System.{System}
-use Rattle.cert_step.specs.ProofStep.{step_at_of}
+use Rattle.cert_step.specs.ProofStep.{node_step_of}
 use Rattle.cert_step.specs.declared.step.NodeStep.{NodeStep}
 use Rattle.cert_text.specs.ProofText.{proof_text_of}
 use Rattle.cert_text.specs.declared.certificate.Certificate.{Certificate}
 use Rattle.cert_text.specs.Printable.{IsPrintable}
 
 first_of : (system : System) (steps : List NodeStep) (s : NodeStep) → 1 ≤ length steps → s ≡ get_or steps 0 s
-    → AllByRecursion (IsPrintable system) (map step_at_of steps) → IsPrintable system (step_at_of s)
+    → AllByRecursion (IsPrintable system) (map node_step_of steps) → IsPrintable system (node_step_of s)
 first_of system [] s le is h = absurd (omega arith)
 first_of system (t ∷ steps) s le is h = rw is h.0
 
 pub first_printable : (system : System) (c : Certificate) (steps : List NodeStep) (s : NodeStep) → All (IsPrintable system) (proof_text_of c).steps
-    → steps ≡ c.steps.items → 1 ≤ length steps → s ≡ get_or steps 0 s → IsPrintable system (step_at_of s)
+    → steps ≡ c.steps.items → 1 ≤ length steps → s ≡ get_or steps 0 s → IsPrintable system (node_step_of s)
 first_printable system c steps s h same le first =
     first_of system steps s le first (rw same (recursion_from_All (IsPrintable system) (proof_text_of c).steps h))

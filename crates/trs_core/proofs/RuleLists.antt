@@ -7,7 +7,7 @@ use Rattle.trs_defs.specs.Tree.{var}
 use Rattle.trs_defs.specs.System.{RewriteRule, System, IsRule}
 use Rattle.trs_core.specs.SystemLimits.{IsWithinLimits, HasSmallVariables}
 use Rattle.trs_core.specs.RuleChecks.{IsFaultless, IsFirstRuleFault}
-use Rattle.trs_core.specs.Faults.{HasFault, IsRuleFault, IsFirstFault, turn}
+use Rattle.trs_core.specs.Faults.{HasSystemFault, IsRuleFault, IsFirstFault, test_number}
 use Rattle.trs_core.specs.Valid.{system, IsValid}
 use Rattle.trs_core.specs.declared.faults.TrsFault.{TrsFault}
 use Rattle.trs_core.specs.declared.faults.TrsFault.TheVariants.{LeftIsVariable, ExtraVariable, WrongArity, BadVariable, TooMany, OutOfMemory}
@@ -66,7 +66,7 @@ no_fault_at arities rules i before h k fault (r, there, is) =
 
 -- where every rule was checked the system has no fault
 pub no_fault : (arities : List ℕ) (rules : List RewriteRule) (i : ℕ) → AreFaultless arities rules i → length rules ≤ i
-    → IsWithinLimits (system arities rules) → (fault : TrsFault) → HasFault (system arities rules) fault → ⊥
+    → IsWithinLimits (system arities rules) → (fault : TrsFault) → HasSystemFault (system arities rules) fault → ⊥
 no_fault arities rules i before h limits (LeftIsVariable k) is = no_fault_at arities rules i before h k (LeftIsVariable k) is
 no_fault arities rules i before h limits (ExtraVariable k v) is = no_fault_at arities rules i before h k (ExtraVariable k v) is
 no_fault arities rules i before h limits (WrongArity k) is = no_fault_at arities rules i before h k (WrongArity k) is
@@ -112,7 +112,7 @@ comes_later arities rules i j r before here small none k other (q, there, is) =
 
 first_of_rules : (arities : List ℕ) (rules : List RewriteRule) (i j : ℕ) (r : RewriteRule) → AreFaultless arities rules i
     → slice_get rules i ≡ Some r → IsWithinLimits (system arities rules) → j ≤ 4 → NoneBelow arities r j
-    → (other : TrsFault) → HasFault (system arities rules) other → 4 * i + j ≤ turn other
+    → (other : TrsFault) → HasSystemFault (system arities rules) other → 4 * i + j ≤ test_number other
 first_of_rules arities rules i j r before here limits small none (LeftIsVariable k) is = comes_later arities rules i j r before here small none k (LeftIsVariable k) is
 first_of_rules arities rules i j r before here limits small none (ExtraVariable k v) is = comes_later arities rules i j r before here small none k (ExtraVariable k v) is
 first_of_rules arities rules i j r before here limits small none (WrongArity k) is = comes_later arities rules i j r before here small none k (WrongArity k) is
@@ -174,7 +174,7 @@ pub first_fault : (arities : List ℕ) (rules : List RewriteRule) (i : ℕ) (r :
 first_fault arities rules i r before h read limits fault is some =
     at_rule arities rules i r before (slice_get_read rules (length rules) i r refl h read) limits fault is some
 
-valid_no_fault : (s : System) → IsValid s → (fault : TrsFault) → HasFault s fault → ⊥
+valid_no_fault : (s : System) → IsValid s → (fault : TrsFault) → HasSystemFault s fault → ⊥
 valid_no_fault s h (LeftIsVariable k) (r, there, is) = (h.is_system.each k r there).left_no_variable is
 valid_no_fault s h (ExtraVariable k v) (r, there, is) =
     let extra = is_extra r.left r.right v is in

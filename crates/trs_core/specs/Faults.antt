@@ -22,24 +22,24 @@ abbrev HasFaultAt : System → ℕ → TrsFault → Type 0
 HasFaultAt s i fault = (r : RewriteRule) × (slice_get s.rules i ≡ Some r) × IsRuleFault s.arities r fault
 
 -- what the fault says holds of the system; want of memory says nothing of it
-abbrev pub HasFault : System → TrsFault → Type 0
-HasFault s (LeftIsVariable i) = HasFaultAt s i (LeftIsVariable i)
-HasFault s (ExtraVariable i v) = HasFaultAt s i (ExtraVariable i v)
-HasFault s (WrongArity i) = HasFaultAt s i (WrongArity i)
-HasFault s (BadVariable i) = HasFaultAt s i (BadVariable i)
-HasFault s TooMany = IsWithinLimits s → ⊥
-HasFault s OutOfMemory = ⊥
+abbrev pub HasSystemFault : System → TrsFault → Type 0
+HasSystemFault s (LeftIsVariable i) = HasFaultAt s i (LeftIsVariable i)
+HasSystemFault s (ExtraVariable i v) = HasFaultAt s i (ExtraVariable i v)
+HasSystemFault s (WrongArity i) = HasFaultAt s i (WrongArity i)
+HasSystemFault s (BadVariable i) = HasFaultAt s i (BadVariable i)
+HasSystemFault s TooMany = IsWithinLimits s → ⊥
+HasSystemFault s OutOfMemory = ⊥
 
 -- which fault comes first: too many, and then by rules, and in a rule in this order
-abbrev pub turn : TrsFault → ℕ
-turn TooMany = 0
-turn (LeftIsVariable i) = 4 * i + 1
-turn (ExtraVariable i v) = 4 * i + 2
-turn (WrongArity i) = 4 * i + 3
-turn (BadVariable i) = 4 * i + 4
-turn OutOfMemory = 0
+abbrev pub test_number : TrsFault → ℕ
+test_number TooMany = 0
+test_number (LeftIsVariable i) = 4 * i + 1
+test_number (ExtraVariable i v) = 4 * i + 2
+test_number (WrongArity i) = 4 * i + 3
+test_number (BadVariable i) = 4 * i + 4
+test_number OutOfMemory = 0
 
 -- the system has the fault, and none that comes before it
 pub record IsFirstFault (s : System) (fault : TrsFault) : Type 0 where
-  pub holds : HasFault s fault
-  pub first : (other : TrsFault) → HasFault s other → turn fault ≤ turn other
+  pub holds : HasSystemFault s fault
+  pub first : (other : TrsFault) → HasSystemFault s other → test_number fault ≤ test_number other

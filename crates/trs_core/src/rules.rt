@@ -1,7 +1,7 @@
 ghost use Rattle.std.specs.Prelude.{◌≡◌, ◌≢◌, IfOk, IfErr, IsOkUnless};
 ghost use Rattle.trs_defs.specs.System.{IsSystem};
 ghost use Rattle.trs_core.specs.SystemLimits.{IsWithinLimits, HaveSmallVariables};
-ghost use Rattle.trs_core.specs.Faults.{HasFault, IsFirstFault};
+ghost use Rattle.trs_core.specs.Faults.{HasSystemFault, IsFirstFault};
 ghost use Rattle.trs_core.specs.Valid.{system, IsValid};
 ghost use Rattle.trs_core.specs.declared.faults.TrsFault.{TrsFault as Fault};
 
@@ -56,7 +56,7 @@ impl Trs {
     pub fn new(arities: Vec<u8>, rules: Vec<Rule>) -> Result<Trs, TrsFault>
         ensures system { IfOk result (λ s. s ≡ system arities.items rules.items) }
         ensures within { IfOk result (λ s. IsValid s) }
-        ensures faultless { IfOk result (λ _. (fault : Fault) → HasFault (system arities.items rules.items) fault → ⊥) }
+        ensures faultless { IfOk result (λ _. (fault : Fault) → HasSystemFault (system arities.items rules.items) fault → ⊥) }
         ensures fault { IfErr result (λ fault. fault ≢ TrsFault.OutOfMemory → IsFirstFault (system arities.items rules.items) fault) }
         // What is a system within the limits has no fault.
         ensures only { IsValid (system arities.items rules.items) → IsOkUnless result TrsFault.OutOfMemory }

@@ -2,7 +2,7 @@
 use Rattle.std.proofs.Common.{◌≡◌, ◌≢◌, ◌≤◌, ◌<◌, ◌⊎◌, inl, inr, ℕ, List, [], ◌∷◌, length, Option, Some, None, IfSome, refl, sym, subst, ◌∙◌, arith, zero, suc}
 use Rattle.io_edge.specs.Edge.{RoseBy}
 use Rattle.ari_text.specs.Named.{NamedSystem}
-use Rattle.ari_text.specs.Problem.{IsRefused}
+use Rattle.ari_text.specs.Problem.{IsProblemRefused}
 use Rattle.ari_text.specs.declared.fault.AriFault.{AriFault}
 use Rattle.ari_text.specs.declared.fault.AriFault.TheVariants as ari
 use Rattle.cert_step.specs.declared.claim.Claim.{Claim}
@@ -128,7 +128,7 @@ not_too_long words text p c v w name asked tp tc lp lc l =
         let size : most_bytes < length w = subst (λ z. most_bytes < length z) (sym is) l.size in omega arith
 
 module _ (one : RejectedOnce) (both : NotBoth) where
-  problem_is_why : (v w : List ℕ) (f : AriFault) → IsRefused v f → f ≢ ari.OutOfMemory → IsRejection v w (why.Problem f)
+  problem_is_why : (v w : List ℕ) (f : AriFault) → IsProblemRefused v f → f ≢ ari.OutOfMemory → IsRejection v w (why.Problem f)
   problem_is_why v w f r m = (r, m)
 
   by_accepted : (v w : List ℕ) (a : Answer) (claim : Claim) (named : NamedSystem) → IsAcceptance v w claim named → IsDecision v w a → IsOr status.Answered (status_of a)
@@ -149,7 +149,7 @@ module _ (one : RejectedOnce) (both : NotBoth) where
   by_rejected v w (answer.TooLong name) r h np nm d = absurd d
   by_rejected v w answer.OutOfMemory r h np nm d = tt
 
-  by_refused : (v w : List ℕ) (a : Answer) (f : AriFault) → IsRefused v f → f ≢ ari.OutOfMemory → IsDecision v w a → IsOr status.Refused (status_of a)
+  by_refused : (v w : List ℕ) (a : Answer) (f : AriFault) → IsProblemRefused v f → f ≢ ari.OutOfMemory → IsDecision v w a → IsOr status.Refused (status_of a)
   by_refused v w (answer.Accepted c) f h m d = let e : why.Problem f ≡ why.OutOfMemory = both v w c d.named (why.Problem f) d.acceptance (problem_is_why v w f h m) in absurd cc
   by_refused v w (answer.Rejected line) f h m d = absurd (d.not_problem f (one v w d.reason (why.Problem f) d.rejection (problem_is_why v w f h m) d.not_memory (λ e. cc)))
   by_refused v w answer.Usage f h m d = absurd d
@@ -166,7 +166,7 @@ module _ (one : RejectedOnce) (both : NotBoth) where
   decided_only words text p c v w a asked tp tc lp lc d wanted line (too_long name l) = absurd (not_too_long words text p c v w name asked tp tc lp lc l)
   decided_only words text p c v w a asked tp tc lp lc d wanted line (refused x y f fetched r m) =
       let same = told_texts words text p c v w x y asked tp tc fetched in
-      by_refused v w a f (subst (λ z. IsRefused z f) (sym same.0) r) m d
+      by_refused v w a f (subst (λ z. IsProblemRefused z f) (sym same.0) r) m d
   decided_only words text p c v w a asked tp tc lp lc d wanted line (rejected x y why' fetched r n m) =
       let same = told_texts words text p c v w x y asked tp tc fetched in
       by_rejected v w a why' (subst (λ z. IsRejection v z why') (sym same.1) (subst (λ z. IsRejection z y why') (sym same.0) r)) n m d

@@ -1,7 +1,7 @@
 -- What the program knows before it writes.
 use Rattle.std.specs.Prelude.{◌≡◌, ◌≢◌, ℕ, List, [], Option, None}
 use Rattle.io_edge.specs.Edge.{Rose, AppendsTo, AppendsPrefix}
-use Rattle.ari_text.specs.Problem.{IsRefused}
+use Rattle.ari_text.specs.Problem.{IsProblemRefused}
 use Rattle.ari_text.specs.declared.fault.AriFault.{AriFault}
 use Rattle.ari_text.specs.declared.fault.AriFault.TheVariants as ari
 use Rattle.ari_text.specs.Named.{NamedSystem}
@@ -79,6 +79,6 @@ pub record IsRejectedLine (problem certificate line : List ℕ) : Type 0 where
 abbrev pub IsDecision : List ℕ → List ℕ → Answer → Type 0
 IsDecision problem certificate (answer.Accepted claim) = IsTrueClaim problem certificate claim
 IsDecision problem certificate (answer.Rejected line) = IsRejectedLine problem certificate line.items
-IsDecision problem certificate (answer.Refused f) = IsRefused problem f × (f ≢ ari.OutOfMemory)
+IsDecision problem certificate (answer.Refused f) = IsProblemRefused problem f × (f ≢ ari.OutOfMemory)
 IsDecision problem certificate answer.OutOfMemory = Unit {0}
 IsDecision problem certificate _ = ⊥

@@ -2,7 +2,7 @@
 use Rattle.std.specs.Prelude.{◌≡◌, ◌≢◌, ◌⊎◌, ◌<◌, ◌≤◌, ℕ, List, [], Option, Some, None, IfSome, length}
 use Rattle.io_edge.specs.Edge.{AppendsTo, AppendsPrefix}
 use Rattle.ari_text.specs.Named.{NamedSystem}
-use Rattle.ari_text.specs.Problem.{IsRefused}
+use Rattle.ari_text.specs.Problem.{IsProblemRefused}
 use Rattle.ari_text.specs.declared.fault.AriFault.{AriFault}
 use Rattle.ari_text.specs.declared.fault.AriFault.TheVariants as ari
 use Rattle.cert_step.specs.declared.claim.Claim.{Claim}
@@ -52,7 +52,7 @@ pub data Output (words : List (List ℕ)) (under : List ℕ → List ℕ → Typ
   usage : request_of words ≡ None → Output words under status.Usage usage_line
   too_long : (name : List ℕ) → IsTooLong words under name → Output words under status.TooLong (too_long_line name)
   refused : (problem certificate : List ℕ) (fault : AriFault) → AreFetched words under problem certificate
-      → IsRefused problem fault → fault ≢ ari.OutOfMemory → Output words under status.Refused (refused_line fault)
+      → IsProblemRefused problem fault → fault ≢ ari.OutOfMemory → Output words under status.Refused (refused_line fault)
   rejected : (problem certificate : List ℕ) (reason : Rejected) → AreFetched words under problem certificate
       → IsRejection problem certificate reason → ((f : AriFault) → reason ≢ why.Problem f) → reason ≢ why.OutOfMemory
       → Output words under status.Rejected (rejected_line reason)

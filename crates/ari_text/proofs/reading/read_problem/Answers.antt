@@ -1,6 +1,6 @@
 use Rattle.std.proofs.Common.{rules}
 use Rattle.sexp_core.specs.Items.{views}
-use Rattle.ari_text.specs.Problem.{IsRefused}
+use Rattle.ari_text.specs.Problem.{IsProblemRefused}
 use Rattle.ari_text.proofs.Faultless.{named_of_faultless}
 use Rattle.ari_text.proofs.Refusals.{refused_items}
 use Rattle.ari_text.proofs.reading.read_problem.Goals as goal
@@ -8,7 +8,7 @@ use Rattle.ari_text.proofs.reading.read_problem.Goals as goal
 pub returns-in_err-parts-clause-refused : goal.returns-in_err-parts-clause-refused
 returns-in_err-parts-clause-refused c =
     let items = rw c.deref.ensures.value at c.in_err-parts.ensures.fault in
-    let refused : IsRefused c.args.text.now c.in_err-parts.field-0.0 =
+    let refused : IsProblemRefused c.args.text.now c.in_err-parts.field-0.0 =
     refused_items c.args.text.now (views c.in_ok-items.items.items) c.in_err-parts.field-0.0 c.in_ok-items.ensures.found c.in_ok-items.ensures.exact items in
     search rules
 

@@ -1,0 +1,22 @@
+use Rattle.rewrite_core.proofs.Answering.{only_answer}
+use Rattle.cert_step.specs.ProofProblem.{problem_of}
+use Rattle.cert_step.specs.ProofStep.{step_of}
+use Rattle.cert_step.specs.Applies.{step_conditions}
+use Rattle.cert_step.specs.Subproblems.{problems_of}
+use Rattle.cert_step.proofs.Once.{step_once}
+use Rattle.cert_step.proofs.Dispatch.{sound_answer, well_made_answer}
+use Rattle.cert_step.proofs.apply.apply_step.Goals as goal
+
+pub returns-clause-only : goal.returns-clause-only
+returns-clause-only c = λ left applies.
+    only_answer (step_conditions c.args.trs.now (problem_of c.args.problem.now) (step_of c.args.step.now)) problems_of c.checked.result left
+    (step_once c.args.trs.now c.keeps_system.ensures (problem_of c.args.problem.now) (step_of c.args.step.now)) c.checked.ensures applies
+
+pub returns-clause-sound : goal.returns-clause-sound
+returns-clause-sound c =
+    sound_answer c.args.trs.now (problem_of c.args.problem.now) (step_of c.args.step.now) c.checked.result c.keeps_system.ensures c.requires.well_made_step c.checked.ensures
+
+pub returns-clause-well_made : goal.returns-clause-well_made
+returns-clause-well_made c =
+    well_made_answer c.args.trs.now (problem_of c.args.problem.now) (step_of c.args.step.now) c.checked.result c.requires.well_made_problem c.requires.well_made_step
+    c.checked.ensures

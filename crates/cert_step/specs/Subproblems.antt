@@ -1,0 +1,29 @@
+-- The problems that a step leaves, and what an answer is that gives them.
+use Rattle.std.specs.Prelude.{◌≡◌, List, [], ◌∷◌, map, Vec, Result, Ok, Err, MatchResult}
+use Rattle.std.specs.declared.alloc.Global.{Global}
+use Rattle.trs_defs.specs.System.{System}
+use Rattle.rewrite_core.specs.declared.refusals.CheckFault.{CheckFault}
+use Rattle.rewrite_core.specs.declared.refusals.CheckFault.TheVariants.{OutOfMemory}
+use Rattle.cert_step.specs.declared.problem.Problem.{Problem}
+use Rattle.cert_step.specs.ProofProblem.{ProofProblem, problem_of, Holds, IsWellMadeProblem}
+
+-- what each of the problems says of the system
+abbrev pub AllHold : System → List ProofProblem → Type 0
+AllHold system [] = Unit {0}
+AllHold system (p ∷ left) = Holds system p × AllHold system left
+
+abbrev pub AreWellMadeProblems : System → List ProofProblem → Type 0
+AreWellMadeProblems system [] = Unit {0}
+AreWellMadeProblems system (p ∷ left) = IsWellMadeProblem system p × AreWellMadeProblems system left
+
+abbrev pub problems_of : Vec Problem Global → List ProofProblem
+problems_of problems = map problem_of problems.items
+
+-- the answer is these problems, unless memory runs out
+abbrev pub GivesSubproblems : Result (Vec Problem Global) CheckFault → List ProofProblem → Type 0
+GivesSubproblems result left = MatchResult result (λ problems. problems_of problems ≡ left) (λ fault. fault ≡ OutOfMemory)
+
+-- where a check of conditions passed, the answer is these problems, unless memory runs out; where it did not, its fault
+abbrev pub Leaves : List ProofProblem → Result (Unit {0}) CheckFault → Result (Vec Problem Global) CheckFault → Type 0
+Leaves problems (Ok u) result = GivesSubproblems result problems
+Leaves problems (Err fault) result = result ≡ Err fault

@@ -1,9 +1,0 @@
-use Rattle.std.proofs.Common.{◌≡◌, drop}
-use Rattle.sexp_core.specs.Items.{views}
-use Rattle.cert_text.specs.CertificateText.{least_place}
-use Rattle.cert_text.specs.TextFaults.{args_faults}
-use Rattle.cert_text.proofs.terms.+terms.Given as goal
-
-abbrev pub invariant-note_args-loop-arg : goal.invariant-note_args-loop-arg
-invariant-note_args-loop-arg l =
-    least_place l.least (args_faults l.system (views (drop l.arg-index l.args))) ≡ least_place l.fn.least (args_faults l.system (views l.args))

@@ -1,0 +1,23 @@
+use Rattle.std.proofs.Common.{◌∙◌, Ok, codes, refl, sym, ap}
+use Rattle.cert_step.specs.ProofStep.{step_of}
+use Rattle.text_reading.specs.Reading.{keyword, done}
+use Rattle.text_reading.specs.Numbers.{number}
+use Rattle.text_reading.proofs.SeenParts.{first, next, last, as_it_is}
+use Rattle.text_reading.proofs.Members.{three_views, three_lack, list_seen}
+use Rattle.step_text.specs.Steps.{method, node_step, step}
+use Rattle.step_text.proofs.steps.read_step.Goals as goal
+
+pub returns-in_default-as_slice : goal.returns-in_default-as_slice
+returns-in_default-as_slice c =
+    let named = c.args.system.now in
+    sym (ap (step named) (list_seen c.args.item.now c.in-List.members c.in-List.at c.as_slice.result.now _ c.in-List.is c.as_slice.ensures.value refl)
+    ∙ three_lack (keyword (codes "step")) (number 9223372036854775807) (method named) done c.in-List.at (Ok node_step) c.as_slice.result.now c.in_default-as_slice.len_below)
+
+pub returns : goal.returns
+returns c =
+    let members = three_views c.as_slice.result.now c.head-item.result c.node-item.result c.method-item.result c.in-len3-up.len_at_least c.head-item.is c.node-item.is c.method-item.is in
+    let shape = list_seen c.args.item.now c.in-List.members c.in-List.at c.as_slice.result.now _ c.in-List.is c.as_slice.ensures.value members in
+    let head = first node_step (λ x. x) c.keyword-head.result _ (as_it_is _ _ c.keyword-head.ensures) in
+    let node = next _ (λ x. x) c.keyword-head.result c.read_number-node.result c.both.result _ _ head (as_it_is _ _ c.read_number-node.ensures.value) c.both.ensures in
+    let method = next _ step_of c.both.result c.in_ok-method.method c.both-2.result _ _ node c.in_ok-method.ensures c.both-2.ensures in
+    c.node_step.ensures ∙ last _ c.both-2.result c.ended.result _ _ method c.ended.ensures ∙ sym (ap (step c.args.system.now) shape)

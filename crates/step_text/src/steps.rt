@@ -1,0 +1,115 @@
+ghost use Rattle.std.specs.Prelude.{◌≡◌, ◌≤◌, ◌++◌, OnOk, IfOk};
+ghost use Rattle.sexp_core.specs.Items.{view};
+ghost use Rattle.sexp_core.specs.Printed.{text_of};
+ghost use Rattle.ari_text.specs.VariableNames.{underscores as underscores_of};
+ghost use Rattle.cert_step.specs.ProofStep.{step_of, node_step_of};
+ghost use Rattle.text_reading.specs.Seen.{seen};
+ghost use Rattle.step_text.specs.Ranges.{HasNumbersInRange};
+ghost use Rattle.step_text.specs.Steps.{method, method_item, node_step, step, step_item};
+
+use crate::fork_text::{put_fork, read_fork};
+use crate::loop_text::{put_loop, read_loop};
+use ari_text::NamedTrs;
+use cert_step::{NodeStep, Step};
+use sexp_core::Sexp;
+use std::alloc::Global;
+use text_reading::{Read, both, ended, keyword, place, put, put_number, read_number};
+use trs_core::OutOfMemory;
+
+/// The greatest number of a node, 2^63 - 1.
+const LAST_NODE: u64 = 9_223_372_036_854_775_807;
+
+/// A list whose head word says the kind of step.
+fn read_method(alloc: Global, system: &NamedTrs, item: &Sexp) -> Result<Read<Step>, OutOfMemory>
+    ensures { IfOk result (λ r. seen step_of r ≡ method system.now (view item.now)) }
+{
+    let Sexp::List(members, at) = item else {
+        return Ok(Err(place(item)));
+    };
+    let Some((head, members)) = members.split_first() else {
+        return Ok(Err(*at));
+    };
+    let Sexp::Word(word, head_at) = head else {
+        return Ok(Err(place(head)));
+    };
+    if word.as_slice() == b"loop".as_slice() {
+        read_loop(alloc, system, *at, members)
+    } else if word.as_slice() == b"fork".as_slice() {
+        read_fork(alloc, system, *at, members)
+    } else {
+        Ok(Err(*head_at))
+    }
+}
+
+/// `(step number method)`
+pub fn read_step(
+    alloc: Global,
+    system: &NamedTrs,
+    item: &Sexp,
+) -> Result<Read<NodeStep>, OutOfMemory>
+    ensures { IfOk result (λ r. seen node_step_of r ≡ step system.now (view item.now)) }
+{
+    let Sexp::List(members, at) = item else {
+        return Ok(Err(place(item)));
+    };
+    let [head, node, method, more @ ..] = members.as_slice() else {
+        return Ok(Err(*at));
+    };
+    let head = keyword(b"step", head);
+    let node = read_number(LAST_NODE, node);
+    let method = read_method(alloc, system, method)?;
+    Ok(node_step(ended(both(both(head, node), method), more)))
+}
+
+fn node_step(parts: Read<(((), u64), Step)>) -> Read<NodeStep>
+    ensures { seen node_step_of result ≡ seen (λ p. node_step p.0.0 p.0.1 (step_of p.1)) parts }
+{
+    match parts {
+        Ok((((), node), step)) => Ok(NodeStep { node, step }),
+        Err(at) => Err(at),
+    }
+}
+
+fn put_method(
+    alloc: Global,
+    out: &mut Vec<u8>,
+    system: &NamedTrs,
+    underscores: usize,
+    step: &Step,
+) -> Result<(), OutOfMemory>
+    requires { underscores ≡ underscores_of system.now.names }
+    ensures text { OnOk result (out.new.items ≡ out.old.items ++ text_of (method_item system.now (step_of step.now))) }
+    ensures range { OnOk result (HasNumbersInRange (step_of step.now)) }
+{
+    match step {
+        Step::Loop { start, path, place } => {
+            put_loop(alloc, out, system, underscores, start, path, place)
+        }
+        Step::Fork {
+            start,
+            left,
+            right,
+            test,
+        } => put_fork(alloc, out, system, underscores, start, left, right, *test),
+    }
+}
+
+/// Appends the text of a step, with so many underscores before each variable.
+pub fn put_step(
+    alloc: Global,
+    out: &mut Vec<u8>,
+    system: &NamedTrs,
+    underscores: usize,
+    step: &NodeStep,
+) -> Result<(), OutOfMemory>
+    requires { underscores ≡ underscores_of system.now.names }
+    ensures text { OnOk result (out.new.items ≡ out.old.items ++ text_of (step_item system.now (node_step_of step.now))) }
+    ensures range { OnOk result (HasNumbersInRange (step_of step.now.step)) }
+{
+    put(out, b"(step ")?;
+    put_number(out, step.node)?;
+    put(out, b" ")?;
+    put_method(alloc, out, system, underscores, &step.step)?;
+    put(out, b")")?;
+    Ok(())
+}
