@@ -41,16 +41,6 @@ mutual
 abbrev pub KnuthWeak : (ℕ → ℕ) → (ℕ → ℕ) → Tree → Tree → Type 0
 KnuthWeak weight rank s t = (s ≡ t) ⊎ KnuthGreater weight rank s t
 
--- each symbol has as many arguments as the arity function says
-abbrev mutual
-  pub IsOver : (ℕ → Option ℕ) → Tree → Type 0
-  IsOver arity (var x) = Unit {0}
-  IsOver arity (app f ts) = (arity f ≡ Some (count ts)) × AreOver arity ts
-
-  pub AreOver : (ℕ → Option ℕ) → Trees → Type 0
-  AreOver arity nil = Unit {0}
-  AreOver arity (cons t ts) = IsOver arity t × AreOver arity ts
-
 -- the arities of symbols below 4096, and of the marked ones above
 abbrev pub arity_with_marks : List ℕ → ℕ → Option ℕ
 arity_with_marks arities f = if nat_lt f 4096 then slice_get arities f else slice_get arities (f - 4096)

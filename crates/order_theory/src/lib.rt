@@ -15,7 +15,8 @@ ghost use Rattle.order_theory.specs.PathOrder.{PathGreater};
 ghost use Rattle.order_theory.specs.PathTest.{path_greater};
 ghost use Rattle.order_theory.specs.ArgumentFilter.{ArgumentFilter, PathStrict, PathWeak};
 ghost use Rattle.order_theory.specs.LinearInterpretation.{LinearWeak, LinearStrict, CoefficientWeak, CoefficientStrict};
-ghost use Rattle.order_theory.specs.KnuthBendix.{KnuthGreater, KnuthWeak, IsOver, arity_with_marks, IsAdmissible};
+ghost use Rattle.order_theory.specs.KnuthBendix.{KnuthGreater, KnuthWeak, arity_with_marks, IsAdmissible};
+ghost use Rattle.pair_theory.specs.Over.{IsOver};
 
 /// The lexicographic path order with argument filters is a reduction pair on all terms (Kamin and
 /// Lévy; Baader and Nipkow, section 5.4; well-foundedness as in Buchholz, Proof-theoretic analysis

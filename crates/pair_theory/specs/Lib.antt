@@ -1,5 +1,6 @@
 pub mod Accessible
 pub mod Subterm
+pub mod Over
 pub mod Terminates
 pub mod Marked
 pub mod DependencyPair

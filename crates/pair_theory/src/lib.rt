@@ -9,7 +9,7 @@ ghost use Rattle.trs_defs.specs.Variable.{has_var};
 ghost use Rattle.trs_defs.specs.System.{RewriteRule, System, IsSystem, Among};
 ghost use Rattle.trs_defs.specs.Step.{StepBy};
 ghost use Rattle.trs_defs.specs.Bounded.{IsBounded};
-ghost use Rattle.trs_defs.specs.Claims.{IsTerminating};
+ghost use Rattle.trs_defs.specs.Claims.{IsTerminating, IsEndless};
 ghost use Rattle.pair_theory.specs.Subterm.{ProperSubterm};
 ghost use Rattle.pair_theory.specs.Terminates.{Terminates};
 ghost use Rattle.pair_theory.specs.Marked.{mark};
@@ -104,4 +104,9 @@ pub fn terminating_terms_are_bounded()
         Terminates (Among rules) t → IsBounded (StepBy (Among rules)) t }
     ensures terminating { (rules : List RewriteRule) (t : Tree) →
         IsBounded (StepBy (Among rules)) t → Terminates (Among rules) t }
+{}
+
+/// An endless system does not terminate.
+pub fn endless_is_not_terminating()
+    ensures { (system : System) → IsEndless system → IsTerminating system → ⊥ }
 {}

@@ -11,7 +11,7 @@ use Rattle.order_theory.specs.LinearInterpretation.{CoefficientWeak, Coefficient
 use Rattle.usable_theory.specs.UsableRules.{HasUsable, root_in, choices}
 use Rattle.pair_theory.proofs.PairList.{listed_are_pairs}
 use Rattle.pair_theory.proofs.Problems.{listed_theorem}
-use Rattle.order_theory.proofs.Examples.{addition, is_system, two_rules, only_pair, no_pairs}
+use Rattle.pair_theory.proofs.Addition.{addition, is_system, two_rules, only_pair, no_pairs}
 use Rattle.usable_theory.proofs.UsableProblems.{usable_by_interpretation}
 
 abbrev none_usable : ℕ → Bool
@@ -47,4 +47,4 @@ addition_terminates = listed_theorem addition is_system
     choices_fall
     (only_pair (λ p. (In p [] × CoefficientWeak coefficients_of (mark p.from) (mark p.to)) ⊎ CoefficientStrict coefficients_of (mark p.from) (mark p.to))
     (inr (omega arith, λ x. omega arith)))
-    no_pairs)
+    (no_pairs addition))

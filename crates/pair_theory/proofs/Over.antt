@@ -1,13 +1,14 @@
--- Terms over an arity function: instances and steps.
-use Rattle.std.proofs.Common.{◌≡◌, ℕ, ◌+◌, refl, sym, ap, subst, ◌∙◌, Option, Some}
+-- Terms over an arity function: instances, steps, a wider function; well-formed terms are those over the arity table.
+use Rattle.std.proofs.Common.{◌≡◌, ℕ, ◌+◌, refl, sym, ap, subst, ◌∙◌, List, Option, Some, slice_get}
 use Rattle.trs_defs.specs.Tree.{Tree, var, app, Trees, nil, cons, count}
 use Rattle.trs_defs.specs.Substitution.{apply, apply_all}
+use Rattle.trs_defs.specs.WellFormed.{IsWellFormed, AreWellFormed}
 use Rattle.trs_defs.specs.Step.{StepBy, here, deep, first, later}
 use Rattle.trs_defs.specs.Every.{Every, every_nil, every_cons}
 use Rattle.pair_theory.specs.Terminates.{ArgumentStep}
 use Rattle.pair_theory.specs.Subterm.{Sub, itself, under, Subs, in_head, in_tail}
-use Rattle.order_theory.specs.KnuthBendix.{IsOver, AreOver}
-use Rattle.pair_theory.proofs.Terms.{count_apply_all}
+use Rattle.pair_theory.specs.Over.{IsOver, AreOver}
+use Rattle.trs_defs.proofs.ArgumentLists.{count_apply_all}
 
 module _ (arity : ℕ → Option ℕ) where
   mutual
@@ -47,3 +48,36 @@ module _ (arity : ℕ → Option ℕ) where
       pub steps_over : {ss ts : Trees} → ArgumentStep rule ss ts → AreOver arity ss → AreOver arity ts
       steps_over (first s) w = (step_over s w.0, w.1)
       steps_over (later s) w = (w.0, steps_over s w.1)
+
+module _ (arity wider : ℕ → Option ℕ) (agrees : (f n : ℕ) → arity f ≡ Some n → wider f ≡ Some n) where
+  mutual
+    pub over_wider : (t : Tree) → IsOver arity t → IsOver wider t
+    over_wider (var x) w = tt
+    over_wider (app f ts) w = (agrees f (count ts) w.0, over_wider_all ts w.1)
+
+    pub over_wider_all : (ts : Trees) → AreOver arity ts → AreOver wider ts
+    over_wider_all nil w = tt
+    over_wider_all (cons t ts) w = (over_wider t w.0, over_wider_all ts w.1)
+
+module _ (arities : List ℕ) where
+  -- the arity function of the table
+  abbrev pub declared : ℕ → Option ℕ
+  declared f = slice_get arities f
+
+  mutual
+    pub over_of_well_formed : (t : Tree) → IsWellFormed arities t → IsOver declared t
+    over_of_well_formed (var x) w = tt
+    over_of_well_formed (app f ts) w = (w.0, over_of_well_formed_all ts w.1)
+
+    pub over_of_well_formed_all : (ts : Trees) → AreWellFormed arities ts → AreOver declared ts
+    over_of_well_formed_all nil w = tt
+    over_of_well_formed_all (cons t ts) w = (over_of_well_formed t w.0, over_of_well_formed_all ts w.1)
+
+  mutual
+    pub well_formed_of_over : (t : Tree) → IsOver declared t → IsWellFormed arities t
+    well_formed_of_over (var x) w = tt
+    well_formed_of_over (app f ts) w = (w.0, well_formed_of_over_all ts w.1)
+
+    pub well_formed_of_over_all : (ts : Trees) → AreOver declared ts → AreWellFormed arities ts
+    well_formed_of_over_all nil w = tt
+    well_formed_of_over_all (cons t ts) w = (well_formed_of_over t w.0, well_formed_of_over_all ts w.1)
