@@ -1,5 +1,5 @@
 -- Each theorem used once on a small system, so that its premises can be met.
-use Rattle.std.specs.Prelude.{◌≡◌, ◌≢◌, ◌≤◌, ◌<◌, ℕ, List, [], ◌∷◌, Some, slice_get}
+use Rattle.std.specs.Prelude.{◌≡◌, ◌≤◌, ◌<◌, ℕ, List, [], ◌∷◌, Some, slice_get}
 use Rattle.std.proofs.Common.{zero, suc, refl, sym, subst, inl, arith}
 use Rattle.trs_defs.specs.Member.{in_first, in_rest}
 use Rattle.trs_defs.specs.Tree.{var, app, nil, cons, count}
@@ -10,7 +10,6 @@ use Rattle.confluence_theory.specs.RuleRanks.{IsDecreasing}
 use Rattle.trs_defs.specs.Run.{Same}
 use Rattle.trs_defs.specs.Bounded.{IsBoundedBy}
 use Rattle.trs_defs.specs.Joinable.{IsJoinable}
-use Rattle.trs_defs.specs.NormalForm.{IsNormalForm}
 use Rattle.abstract_confluence.specs.Confluence.{JoinsStrongly}
 use Rattle.trs_defs.specs.Claims.{IsConfluent, IsTerminating}
 use Rattle.confluence_theory.proofs.Claims.{joined, strongly_closed, decreasing}

@@ -2,13 +2,17 @@
 use Rattle.std.proofs.Common.{ℕ, ◌≡◌, sym, ◌∙◌, ap, subst}
 use Rattle.trs_defs.specs.Tree.{Tree, Trees, app}
 use Rattle.trs_defs.specs.Substitution.{apply, apply_all}
-use Rattle.trs_defs.specs.Step.{RootStep, StepBy}
+use Rattle.trs_defs.specs.Step.{InsideOne, RootStep, StepBy}
 use Rattle.confluence_theory.specs.Overlap.{OverlapOne}
 use Rattle.trs_defs.proofs.EqualTerms.{app_root, app_args}
 
 -- a step of some rule
 abbrev pub AnyRule : (ℕ → Tree → Tree → Type 0) → Tree → Tree → Type 0
 AnyRule rule s t = (i : ℕ) × StepBy (rule i) s t
+
+-- one in an item of an argument list
+abbrev pub AnyOne : (ℕ → Tree → Tree → Type 0) → Trees → Trees → Type 0
+AnyOne rule ss ts = (i : ℕ) × InsideOne (RootStep (rule i)) ss ts
 
 abbrev pub AnyRoot : (ℕ → Tree → Tree → Type 0) → Tree → Tree → Type 0
 AnyRoot rule s t = (i : ℕ) × RootStep (rule i) s t

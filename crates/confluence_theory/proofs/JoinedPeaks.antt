@@ -1,7 +1,7 @@
 -- A system whose critical peaks join is locally confluent, linear or not.
 use Rattle.std.proofs.Common.{ℕ, inl, inr, refl}
 use Rattle.abstract_confluence.proofs.Joins.{Joins, StepsJoin}
-use Rattle.confluence_theory.proofs.Families.{AnyRule, HasInstance, of_instance, CoversBy, IsFamily}
+use Rattle.confluence_theory.proofs.Families.{AnyRule, AnyOne, HasInstance, of_instance, CoversBy, IsFamily}
 use Rattle.trs_defs.specs.Bounded.{IsBoundedBy}
 use Rattle.trs_defs.specs.Run.{Run, Stay}
 use Rattle.trs_defs.specs.Step.{Inside, InsideOne, here, deep, first, later, RootStep}
@@ -18,9 +18,6 @@ joins_along : {T U : Type 0} (R : T → T → Type 0) (Q : U → U → Type 0) (
 joins_along R Q F f (v, tv, uv) = (F v, run_along F f tv, run_along F f uv)
 
 module _ (rule : ℕ → Tree → Tree → Type 0) where
-  abbrev AnyOne : Trees → Trees → Type 0
-  AnyOne ts us = (i : ℕ) × InsideOne (RootStep (rule i)) ts us
-
   abbrev Closed : ℕ → ℕ → Tree → Tree → Type 0
   Closed i j t u = Joins (AnyRule rule) t u
 
@@ -28,11 +25,11 @@ module _ (rule : ℕ → Tree → Tree → Type 0) where
     mutual
       joins_inside : {t u : Tree} → Inside (Closed i j) t u → Joins (AnyRule rule) t u
       joins_inside (here q) = q
-      joins_inside (deep {f = f} d) = joins_along AnyOne (AnyRule rule) (λ ts. app f ts) (λ s t (k, r). (k, deep r)) (joins_all d)
+      joins_inside (deep {f = f} d) = joins_along (AnyOne rule) (AnyRule rule) (λ ts. app f ts) (λ s t (k, r). (k, deep r)) (joins_all d)
 
-      joins_all : {ts us : Trees} → InsideOne (Closed i j) ts us → Joins AnyOne ts us
-      joins_all (first {ts = ts} d) = joins_along (AnyRule rule) AnyOne (λ t. cons t ts) (λ s t (k, r). (k, first r)) (joins_inside d)
-      joins_all (later {t = t} d) = joins_along AnyOne AnyOne (λ ts. cons t ts) (λ s u (k, r). (k, later r)) (joins_all d)
+      joins_all : {ts us : Trees} → InsideOne (Closed i j) ts us → Joins (AnyOne rule) ts us
+      joins_all (first {ts = ts} d) = joins_along (AnyRule rule) (AnyOne rule) (λ t. cons t ts) (λ s t (k, r). (k, first r)) (joins_inside d)
+      joins_all (later {t = t} d) = joins_along (AnyOne rule) (AnyOne rule) (λ ts. cons t ts) (λ s u (k, r). (k, later r)) (joins_all d)
 
   any_run : (i : ℕ) {t u : Tree} → Run (Inside (RootStep (rule i))) t u → Run (AnyRule rule) t u
   any_run i q = each (λ x y s. (i, s)) q

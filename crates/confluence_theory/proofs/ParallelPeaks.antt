@@ -2,7 +2,7 @@
 use Rattle.std.proofs.Common.{ℕ, zero, suc, ◌+◌, ◌<◌, ◌≤◌, ◌≡◌, ◌⊎◌, inl, inr, refl, sym, ◌∙◌, ap, subst, arith}
 use native.Mathlib.Decide.{ℕ_discrete}
 use Rattle.abstract_confluence.proofs.Joins.{RunsJoin}
-use Rattle.confluence_theory.proofs.Families.{AnyRule, HasInstance, of_instance, CoversBy, AnyRoot, IsFamily, Redex, redex_of, one_result}
+use Rattle.confluence_theory.proofs.Families.{AnyRule, AnyOne, HasInstance, of_instance, CoversBy, AnyRoot, IsFamily, Redex, redex_of, one_result}
 use Rattle.confluence_theory.proofs.Free.{IsFree, AreFree, IsSeparate, AreSeparate}
 use Rattle.abstract_confluence.specs.Confluence.{HasDiamond}
 use Rattle.confluence_theory.specs.Overlap.{Overlap, OverlapOne, overlap_here, overlap_deep, overlap_first, overlap_later}
@@ -228,16 +228,13 @@ module _ (rule : ℕ → Tree → Tree → Type 0) where
       par_step_all (first {ts = ts} d) = one_more (par_step d) (rest_all R ts)
       par_step_all (later {t = t} d) = one_more (rest R t) (par_step_all d)
 
-  abbrev AnyOne : Trees → Trees → Type 0
-  AnyOne ts us = (i : ℕ) × InsideOne (RootStep (rule i)) ts us
-
   mutual
     par_run : {s t : Tree} → ParallelStep R s t → Run (AnyRule rule) s t
     par_run at_variable = Stay
     par_run (at_root (i, r)) = one (i, here r)
     par_run (below_root {f = f} d) = run_along (λ ts. app f ts) (λ ts us (i, r). (i, deep r)) (par_run_all d)
 
-    par_run_all : {ts us : Trees} → ParallelSteps R ts us → Run AnyOne ts us
+    par_run_all : {ts us : Trees} → ParallelSteps R ts us → Run (AnyOne rule) ts us
     par_run_all no_more = Stay
     par_run_all (one_more {t = u} {ss = ts} d e) =
         then (run_along (λ t. cons t ts) (λ s t (i, r). (i, first r)) (par_run d)) (run_along (λ ts. cons u ts) (λ ts us (i, r). (i, later r)) (par_run_all e))

@@ -1,7 +1,7 @@
 -- A linear system whose critical peaks join strongly is confluent.
 use Rattle.std.proofs.Common.{ℕ}
 use Rattle.abstract_confluence.proofs.Joins.{RunsJoin, MeetsStrongly}
-use Rattle.confluence_theory.proofs.Families.{AnyRule, HasInstance, of_instance, CoversBy, IsFamily}
+use Rattle.confluence_theory.proofs.Families.{AnyRule, AnyOne, HasInstance, of_instance, CoversBy, IsFamily}
 use Rattle.confluence_theory.proofs.Free.{IsSeparate}
 use Rattle.trs_defs.specs.Run.{Stay, AtMostOne, Same, Once}
 use Rattle.trs_defs.specs.Step.{Inside, InsideOne, here, deep, first, later, RootStep}
@@ -21,9 +21,6 @@ both_along : {T U : Type 0} (R : T → T → Type 0) (Q : U → U → Type 0) (F
 both_along R Q F f ((v, tv, uv), (w, uw, tw)) = ((F v, run_along F f tv, once_along F f uv), (F w, run_along F f uw, once_along F f tw))
 
 module _ (rule : ℕ → Tree → Tree → Type 0) where
-  abbrev AnyOne : Trees → Trees → Type 0
-  AnyOne ts us = (i : ℕ) × InsideOne (RootStep (rule i)) ts us
-
   abbrev Closed : ℕ → ℕ → Tree → Tree → Type 0
   Closed i j t u = Both (AnyRule rule) t u
 
@@ -31,11 +28,11 @@ module _ (rule : ℕ → Tree → Tree → Type 0) where
     mutual
       strong_inside : {t u : Tree} → Inside (Closed i j) t u → Both (AnyRule rule) t u
       strong_inside (here q) = q
-      strong_inside (deep {f = f} d) = both_along AnyOne (AnyRule rule) (λ ts. app f ts) (λ s t (k, r). (k, deep r)) (strong_all d)
+      strong_inside (deep {f = f} d) = both_along (AnyOne rule) (AnyRule rule) (λ ts. app f ts) (λ s t (k, r). (k, deep r)) (strong_all d)
 
-      strong_all : {ts us : Trees} → InsideOne (Closed i j) ts us → Both AnyOne ts us
-      strong_all (first {ts = ts} d) = both_along (AnyRule rule) AnyOne (λ t. cons t ts) (λ s t (k, r). (k, first r)) (strong_inside d)
-      strong_all (later {t = t} d) = both_along AnyOne AnyOne (λ ts. cons t ts) (λ s u (k, r). (k, later r)) (strong_all d)
+      strong_all : {ts us : Trees} → InsideOne (Closed i j) ts us → Both (AnyOne rule) ts us
+      strong_all (first {ts = ts} d) = both_along (AnyRule rule) (AnyOne rule) (λ t. cons t ts) (λ s t (k, r). (k, first r)) (strong_inside d)
+      strong_all (later {t = t} d) = both_along (AnyOne rule) (AnyOne rule) (λ ts. cons t ts) (λ s u (k, r). (k, later r)) (strong_all d)
 
   any_once : (i : ℕ) {t u : Tree} → AtMostOne (Inside (RootStep (rule i))) t u → AtMostOne (AnyRule rule) t u
   any_once i q = once_along (λ x. x) (λ x y s. (i, s)) q

@@ -16,7 +16,7 @@ use Rattle.trs_defs.proofs.Derivations.{run_of_reaches}
 use Rattle.trs_defs.proofs.StepLaws.{step_of_more}
 use Rattle.abstract_confluence.proofs.Joins.{Joins, RunsJoin, joinable_of}
 use Rattle.trs_defs.proofs.Runs.{each}
-use Rattle.confluence_theory.proofs.Families.{AnyRule, AnyRoot, IsFamily, HasInstance, CoversBy}
+use Rattle.confluence_theory.proofs.Families.{AnyRule, AnyOne, AnyRoot, IsFamily, HasInstance, CoversBy}
 
 rooted : (t : Tree) → (IsVariable t → ⊥) → (f : ℕ) × (ts : Trees) × (t ≡ app f ts)
 rooted (var n) h = absurd (h (n, refl))
@@ -60,15 +60,12 @@ module _ (rules : List RewriteRule) where
   pub numbered_root : {s t : Tree} → RootStep (Among rules) s t → AnyRoot (Numbered rules) s t
   numbered_root (l, r, σ, h, e, e') = let (i, k) = get_of_in h in (i, (l, r, σ, k, e, e'))
 
-  abbrev AnyOne : Trees → Trees → Type 0
-  AnyOne ss ts = (i : ℕ) × InsideOne (RootStep (Numbered rules i)) ss ts
-
   mutual
     numbered_step : {s t : Tree} → Inside (RootStep (Among rules)) s t → AnyRule (Numbered rules) s t
     numbered_step (here r) = let (i, k) = numbered_root r in (i, here k)
     numbered_step (deep d) = let (i, k) = numbered_one d in (i, deep k)
 
-    numbered_one : {ss ts : Trees} → InsideOne (RootStep (Among rules)) ss ts → AnyOne ss ts
+    numbered_one : {ss ts : Trees} → InsideOne (RootStep (Among rules)) ss ts → AnyOne (Numbered rules) ss ts
     numbered_one (first d) = let (i, k) = numbered_step d in (i, first k)
     numbered_one (later d) = let (i, k) = numbered_one d in (i, later k)
 

@@ -1,14 +1,11 @@
 -- Caps clash where no term fits both, and only there.
-use Rattle.std.specs.Prelude.{◌≡◌, ◌⊎◌, ℕ, Bool, true, false, not, ◌||◌, ◌==◌, IsTrue}
+use Rattle.std.specs.Prelude.{◌≡◌, ℕ, Bool, true, false, not, ◌||◌, ◌==◌, IsTrue}
 use Rattle.std.proofs.Common.{refl, inl, inr, arith, subst}
 use Rattle.std.proofs.lemmas.Bool.Decides.{nat_tests}
 use Rattle.trs_defs.specs.Tree.{Tree, Trees, var, app, nil, cons}
+use Rattle.trs_defs.proofs.VariableLaws.{or_cases}
 use Rattle.cap_theory.specs.Cap.{Fits, EachFits, fits_variable, fits_symbol, fits_nil, fits_cons}
 use Rattle.nonconfluence_theory.specs.Clash.{clash, some_clash}
-
-either : (a b : Bool) → IsTrue (a || b) → IsTrue a ⊎ IsTrue b
-either true b h = inl refl
-either false b h = inr h
 
 differ : (f : ℕ) → IsTrue (not (f == f)) → ⊥
 differ f h = grind (arith, nat_tests)
@@ -19,7 +16,7 @@ mutual
   clash_apart (app f cs) (var n) v h p q = absurd cc
   clash_apart (app f cs) (app g ds) (var n) h p q = elim p [ ]
   clash_apart (app f cs) (app g ds) (app k vs) h (fits_symbol p) (fits_symbol q) =
-      elim (either (not (f == f)) (some_clash cs ds) h) [ inl e ↦ differ f e | inr e ↦ some_clash_apart cs ds vs e p q ]
+      elim (or_cases (not (f == f)) (some_clash cs ds) h) [ inl e ↦ differ f e | inr e ↦ some_clash_apart cs ds vs e p q ]
 
   some_clash_apart : (cs ds vs : Trees) → IsTrue (some_clash cs ds) → EachFits cs vs → EachFits ds vs → ⊥
   some_clash_apart nil nil vs h p q = absurd cc
@@ -29,7 +26,7 @@ mutual
   some_clash_apart (cons c cs) nil (cons v vs) h p q = elim q [ ]
   some_clash_apart (cons c cs) (cons d ds) nil h p q = elim p [ ]
   some_clash_apart (cons c cs) (cons d ds) (cons v vs) h (fits_cons p ps) (fits_cons q qs) =
-      elim (either (clash c d) (some_clash cs ds) h) [ inl e ↦ clash_apart c d v e p q | inr e ↦ some_clash_apart cs ds vs e ps qs ]
+      elim (or_cases (clash c d) (some_clash cs ds) h) [ inl e ↦ clash_apart c d v e p q | inr e ↦ some_clash_apart cs ds vs e ps qs ]
 
 neither : (a b : Bool) → (IsTrue (a || b) → ⊥) → (IsTrue a → ⊥) × (IsTrue b → ⊥)
 neither true b h = (λ e. h refl, λ e. h refl)

@@ -1,14 +1,10 @@
 -- Addition terminates: by a linear interpretation, by a path order and by a Knuth-Bendix order.
 use Rattle.std.proofs.Common.{◌≡◌, ℕ, refl, arith, Option, Some, slice_get, ◌⊎◌, inr, [], ◌∷◌, true, ◌==◌, if◌then◌else◌}
-use Rattle.trs_defs.specs.Member.{In, in_first, in_rest}
-use Rattle.trs_defs.specs.Tree.{Tree, var, app, nil, cons}
-use Rattle.trs_defs.specs.System.{RewriteRule, System, IsRule, IsSystem}
+use Rattle.trs_defs.specs.Member.{In}
+use Rattle.trs_defs.specs.Tree.{Tree}
 use Rattle.trs_defs.specs.Claims.{IsTerminating}
-use Rattle.pair_theory.specs.Subterm.{ProperSubterm, proper, itself, in_head}
-use Rattle.pair_theory.specs.Marked.{marked, mark}
-use Rattle.pair_theory.specs.DependencyPair.{DependencyPair, dependency_pairs}
-use Rattle.pair_theory.specs.PairProblem.{IsFiniteProblem}
-use Rattle.pair_theory.specs.SubtermCriterion.{Projects}
+use Rattle.pair_theory.specs.Marked.{mark}
+use Rattle.pair_theory.specs.DependencyPair.{dependency_pairs}
 use Rattle.order_theory.specs.LinearInterpretation.{CoefficientWeak, CoefficientStrict}
 use Rattle.order_theory.specs.PathTest.{path_greater}
 use Rattle.order_theory.specs.ArgumentFilter.{ArgumentFilter, Keep, filtered, PathWeak, PathStrict}

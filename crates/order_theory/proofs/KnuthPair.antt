@@ -1,7 +1,7 @@
 -- The Knuth-Bendix order is well-founded in the finite sense, on well-formed terms.
-use Rattle.std.proofs.Common.{◌≡◌, ℕ, zero, suc, ◌+◌, ◌-◌, ◌≤◌, ◌<◌, refl, sym, ap, subst, arith, ◌∙◌, ◌⊎◌, inl, inr, List, [], ◌∷◌, true, false, Option, Some, slice_get, length, nat_lt}
+use Rattle.std.proofs.Common.{◌≡◌, ℕ, ◌+◌, ◌-◌, ◌≤◌, ◌<◌, refl, sym, ap, subst, arith, ◌⊎◌, inl, inr, List, true, false, Option, Some, slice_get, length, nat_lt}
 use Rattle.std.proofs.lemmas.Option.{slice_get_within}
-use Rattle.trs_defs.specs.Tree.{Tree, Trees, var, app, nil, cons, count}
+use Rattle.trs_defs.specs.Tree.{Tree, Trees, var, count}
 use Rattle.trs_defs.specs.Substitution.{apply}
 use Rattle.trs_defs.specs.Step.{StepBy, here, deep, first, later}
 use Rattle.pair_theory.specs.Terminates.{ArgumentStep, Terminates}
@@ -15,7 +15,7 @@ use Rattle.pair_theory.proofs.Reducts.{bounded}
 use Rattle.order_theory.proofs.Fallers.{system, each_of_system, weak_at_root, moves_bounded}
 use Rattle.pair_theory.specs.ReductionPair.{ReductionPair, Speaks}
 use Rattle.order_theory.specs.KnuthBendix.{KnuthGreater, KnuthWeak, IsAdmissible, arity_with_marks}
-use Rattle.pair_theory.specs.Over.{IsOver, AreOver}
+use Rattle.pair_theory.specs.Over.{IsOver}
 use Rattle.pair_theory.proofs.Over.{over_apply, each_over, over_wider, over_wider_all, declared, over_of_well_formed, over_of_well_formed_all}
 use Rattle.order_theory.proofs.KnuthLaws.{falling_terminates, heavy_apply, heavy_trans, weak_context}
 

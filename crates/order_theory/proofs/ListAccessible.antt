@@ -1,8 +1,8 @@
 -- Lists of accessible terms, compared at the first place where they differ: such lists of one length are accessible.
-use Rattle.std.proofs.Common.{◌≡◌, ℕ, zero, suc, ◌+◌, sym, arith, ◌∙◌}
+use Rattle.std.proofs.Common.{◌≡◌, ℕ, zero, suc, sym, arith, ◌∙◌}
 use Rattle.trs_defs.specs.Tree.{Tree, Trees, nil, cons, count}
 use Rattle.pair_theory.specs.Accessible.{Acc, acc}
-use Rattle.trs_defs.specs.Every.{Every, every_nil, every_cons}
+use Rattle.trs_defs.specs.Every.{Every, every_cons}
 use Rattle.pair_theory.proofs.Accessibility.{acc_induction}
 use Rattle.pair_theory.proofs.Subterms.{every_tail}
 

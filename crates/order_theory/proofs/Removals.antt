@@ -1,5 +1,5 @@
 -- Removal of pairs by each of the orders.
-use Rattle.std.proofs.Common.{◌≡◌, refl, sym, ap, ◌∙◌, ◌+◌, Bool, Option, Some, None, is_some, IsTrue, ◌≤◌, ℕ, List, ◌⊎◌, inl, inr, length}
+use Rattle.std.proofs.Common.{◌≡◌, refl, sym, ap, ◌∙◌, ◌+◌, Bool, Option, Some, None, is_some, IsTrue, ◌≤◌, ℕ, List, inl, inr, length}
 use Rattle.trs_defs.specs.Member.{In}
 use Rattle.trs_defs.specs.Tree.{Tree, Trees, var, app, nil, cons, count}
 use Rattle.pair_theory.specs.Erased.{HasEntries, HaveEntries, by_root, erased, erased_all}

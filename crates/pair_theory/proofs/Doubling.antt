@@ -1,18 +1,16 @@
 -- Doubling by addition terminates: its pair stands alone in a first group, with no edge to itself, and the pair of addition
 -- in a second, which the subterm criterion ends.
-use Rattle.std.proofs.Common.{◌≡◌, ◌≤◌, ◌<◌, ◌⊎◌, inr, ℕ, zero, suc, refl, subst, arith, List, [], ◌∷◌, Bool, IsTrue, ◌==◌, if◌then◌else◌, Some, slice_get}
+use Rattle.std.proofs.Common.{◌≡◌, ◌≤◌, ◌<◌, ℕ, zero, suc, refl, subst, arith, List, [], ◌∷◌, Bool, IsTrue, ◌==◌, if◌then◌else◌, Some, slice_get}
 use Rattle.trs_defs.specs.Member.{In, in_first, in_rest}
 use Rattle.trs_defs.specs.Tree.{Tree, Trees, var, app, nil, cons}
 use Rattle.trs_defs.specs.System.{RewriteRule, System, IsRule, IsSystem, Among}
 use Rattle.trs_defs.specs.Claims.{IsTerminating}
 use Rattle.trs_defs.specs.Substitution.{apply_all}
-use Rattle.pair_theory.specs.Subterm.{ProperSubterm, proper, itself, in_head}
 use Rattle.pair_theory.specs.Marked.{marked}
 use Rattle.pair_theory.specs.DependencyPair.{DependencyPair, dependency_pairs}
 use Rattle.pair_theory.specs.PairProblem.{IsFiniteProblem, IsPair}
 use Rattle.cap_theory.specs.Cap.{Caps, cap_variable, caps_nil, caps_cons, EachFits}
 use Rattle.pair_theory.specs.PairGraph.{IsCapEstimate, IsGrouped, GroupEnds, by_problem, by_no_edge}
-use Rattle.pair_theory.specs.SubtermCriterion.{Projects}
 use Rattle.trs_defs.proofs.Members.{in_of_get}
 use Rattle.pair_theory.proofs.PairList.{listed_are_pairs}
 use Rattle.pair_theory.proofs.Problems.{listed_theorem}

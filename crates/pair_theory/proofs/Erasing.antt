@@ -1,6 +1,6 @@
 -- Subterms whose root an order does not know are read as one variable: bounds on terms of known symbols give bounds on all.
-use Rattle.std.proofs.Common.{◌≡◌, ℕ, refl, sym, ap, subst, ◌∙◌, ◌⊎◌, inl, inr, List, Bool, true, false, ◌+◌, Some}
-use Rattle.trs_defs.specs.Tree.{Tree, var, app, Trees, nil, cons, count}
+use Rattle.std.proofs.Common.{◌≡◌, ℕ, refl, sym, ap, subst, ◌∙◌, ◌⊎◌, inl, inr, List, Bool, true, false}
+use Rattle.trs_defs.specs.Tree.{Tree, var, app, Trees, nil, cons}
 use Rattle.trs_defs.specs.Substitution.{apply, apply_all}
 use Rattle.trs_defs.specs.Step.{StepBy, here, deep, first, later}
 use Rattle.pair_theory.specs.Terminates.{ArgumentStep}

@@ -1,5 +1,5 @@
 -- The steps on problems that are lists of pairs.
-use Rattle.std.proofs.Common.{ℕ, Bool, true, ◌≡◌, refl, sym, subst, ◌⊎◌, inl, inr, List, [], ◌∷◌, ◌++◌, map}
+use Rattle.std.proofs.Common.{ℕ, Bool, true, refl, sym, subst, ◌⊎◌, inl, inr, List, [], ◌∷◌, ◌++◌, map}
 use Rattle.trs_defs.specs.Tree.{Tree, var}
 use Rattle.pair_theory.specs.Accessible.{Acc, acc}
 use Rattle.trs_defs.specs.System.{RewriteRule, Among, System, IsSystem}
@@ -9,7 +9,7 @@ use Rattle.trs_defs.specs.Every.{Every}
 use Rattle.pair_theory.specs.Terminates.{Terminates}
 use Rattle.trs_defs.specs.WellFormed.{IsWellFormed}
 use Rattle.pair_theory.specs.Marked.{Marked, plain, mark}
-use Rattle.pair_theory.specs.Chain.{ChainStep, link}
+use Rattle.pair_theory.specs.Chain.{ChainStep}
 use Rattle.pair_theory.specs.DependencyPair.{IsDependencyPair, DependencyPair, dependency_pairs}
 use Rattle.pair_theory.specs.PairProblem.{ChainsEnd, PairAmong, IsFiniteProblem, IsPair}
 use Rattle.pair_theory.specs.Moves.{IsWellFounded, IsOrdered}

@@ -1,5 +1,5 @@
 -- That the chains of all dependency pairs end gives a bound for each well-formed term.
-use Rattle.std.proofs.Common.{◌≡◌, ℕ, zero, suc, sym, ap, subst, ◌⊎◌, inl, inr, List, [], ◌∷◌, IsTrue}
+use Rattle.std.proofs.Common.{◌≡◌, ℕ, suc, sym, ap, subst, ◌⊎◌, inl, inr, List, [], ◌∷◌, IsTrue}
 use native.Mathlib.Decide.{ℕ_discrete}
 use Rattle.trs_defs.specs.Tree.{Tree, var, app, Trees}
 use Rattle.trs_defs.specs.System.{RewriteRule, Among, IsDefined, System, IsSystem}
