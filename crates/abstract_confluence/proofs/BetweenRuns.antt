@@ -1,6 +1,6 @@
 -- A relation with the diamond property between the steps and their runs gives confluence.
 use Rattle.trs_defs.specs.Run.{Run, Stay, Go}
-use Rattle.trs_defs.specs.Confluence.{HasDiamond}
+use Rattle.abstract_confluence.specs.Confluence.{HasDiamond}
 use Rattle.abstract_confluence.proofs.Joins.{RunsJoin}
 use Rattle.abstract_confluence.proofs.Runs.{flat, each}
 

@@ -1,6 +1,6 @@
 -- Runs and sides along a map that keeps the steps.
 use Rattle.trs_defs.specs.Run.{Run, Stay, Go, AtMostOne, Same, Once}
-use Rattle.trs_defs.specs.Ranks.{Side}
+use Rattle.abstract_confluence.specs.Ranks.{Side}
 use Rattle.std.proofs.Common.{ℕ}
 
 pub run_along : {T U : Type 0} {R : T → T → Type 0} {Q : U → U → Type 0} (F : T → U) → ((s t : T) → R s t → Q (F s) (F t)) → {s t : T} → Run R s t → Run Q (F s) (F t)

@@ -1,9 +1,9 @@
 -- A path whose ranks fit is a side.
 use Rattle.std.proofs.Common.{ℕ, List, [], ◌∷◌, inl, inr, subst}
 use Rattle.trs_defs.specs.Run.{Run, Stay, Go, Same, Once}
-use Rattle.trs_defs.specs.Ranks.{BelowOne, Side}
-use Rattle.trs_defs.specs.LabelledPath.{LabelledPath}
-use Rattle.trs_defs.specs.RanksFit.{AreBelowOne, RanksFit}
+use Rattle.abstract_confluence.specs.Ranks.{BelowOne, Side}
+use Rattle.abstract_confluence.specs.LabelledPath.{LabelledPath}
+use Rattle.abstract_confluence.specs.RanksFit.{AreBelowOne, RanksFit}
 
 low_path : {T : Type 0} (step : ℕ → T → T → Type 0) (a b : ℕ) (ranks : List ℕ) (t v : T) → AreBelowOne a b ranks → LabelledPath step ranks t v → Run (BelowOne step a b) t v
 low_path {T} step a b [] t v h e = let P : T → Type 0 = λ z. Run (BelowOne step a b) t z in subst P e Stay

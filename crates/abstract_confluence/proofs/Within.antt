@@ -1,7 +1,7 @@
 -- The theorems for the terms of which P holds, from those for all terms, at the steps from such terms.
 use Rattle.trs_defs.specs.Run.{Run, Stay, Go, AtMostOne, Same, Once}
 use Rattle.trs_defs.specs.Bounded.{IsBounded, IsBoundedBy}
-use Rattle.trs_defs.specs.Ranks.{AnyRank, Below, BelowOne, Side}
+use Rattle.abstract_confluence.specs.Ranks.{AnyRank, Below, BelowOne, Side}
 use Rattle.abstract_confluence.proofs.Joins.{Joins, RunsJoin}
 use Rattle.std.proofs.Common.{ℕ, zero, suc}
 use Rattle.abstract_confluence.proofs.Runs.{each}

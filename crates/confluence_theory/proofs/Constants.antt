@@ -5,12 +5,12 @@ use Rattle.trs_defs.specs.Member.{In, in_first, in_rest}
 use Rattle.trs_defs.specs.Tree.{Tree, var, app, nil}
 use Rattle.trs_defs.specs.Substitution.{apply}
 use Rattle.trs_defs.specs.System.{RewriteRule, IsRule, IsSystem}
-use Rattle.trs_defs.specs.Linear.{AreLeftLinear, AreRightLinear}
-use Rattle.trs_defs.specs.Peak.{Peak, Covers}
+use Rattle.confluence_theory.specs.Linear.{AreLeftLinear, AreRightLinear}
+use Rattle.confluence_theory.specs.Peak.{Peak, Covers}
 use Rattle.trs_defs.specs.Position.{subterm_at}
-use Rattle.trs_defs.specs.CriticalPeak.{IsCriticalPeak, HasCriticalPeaks}
+use Rattle.confluence_theory.specs.CriticalPeak.{IsCriticalPeak, HasCriticalPeaks}
 use Rattle.trs_defs.specs.Step.{here, deep, Step}
-use Rattle.trs_defs.specs.RuleRanks.{NumberedStep}
+use Rattle.confluence_theory.specs.RuleRanks.{NumberedStep}
 use Rattle.trs_defs.specs.NormalForm.{IsNormalForm}
 use Rattle.trs_defs.proofs.Members.{in_of_get, get_of_in}
 use Rattle.confluence_theory.proofs.CriticalCover.{covered}

@@ -10,9 +10,9 @@ use Rattle.trs_defs.specs.Substitution.{apply, apply_all}
 use Rattle.trs_defs.specs.Position.{subterm_at, with_argument, replaced_at}
 use Rattle.trs_defs.specs.System.{RewriteRule, System, IsSystem, Numbered}
 use Rattle.trs_defs.specs.Step.{RootStep}
-use Rattle.trs_defs.specs.Overlap.{Overlap, OverlapOne, overlap_here, overlap_deep, overlap_first, overlap_later}
-use Rattle.trs_defs.specs.Peak.{Peak, HasPeak, Covers}
-use Rattle.trs_defs.specs.CriticalPeak.{shifted, Overlaps, HasCriticalPeaks}
+use Rattle.confluence_theory.specs.Overlap.{Overlap, OverlapOne, overlap_here, overlap_deep, overlap_first, overlap_later}
+use Rattle.confluence_theory.specs.Peak.{Peak, HasPeak, Covers}
+use Rattle.confluence_theory.specs.CriticalPeak.{shifted, Overlaps, HasCriticalPeaks}
 use Rattle.trs_defs.proofs.Substitutions.{apply_apply, same_instance, same_instances}
 
 -- σ below k, and ρ from there on

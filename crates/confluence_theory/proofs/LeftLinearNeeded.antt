@@ -9,12 +9,12 @@ use Rattle.trs_defs.specs.Variable.{has_var, occurrences}
 use Rattle.trs_defs.specs.Substitution.{apply}
 use Rattle.trs_defs.specs.NormalForm.{IsNormalForm}
 use Rattle.trs_defs.specs.System.{RewriteRule, System, IsRule, IsSystem, Numbered}
-use Rattle.trs_defs.specs.Linear.{AreRightLinear}
-use Rattle.trs_defs.specs.Overlap.{Overlap, OverlapOne, overlap_here, overlap_deep, overlap_first, overlap_later}
-use Rattle.trs_defs.specs.Peak.{Covers}
+use Rattle.confluence_theory.specs.Linear.{AreRightLinear}
+use Rattle.confluence_theory.specs.Overlap.{Overlap, OverlapOne, overlap_here, overlap_deep, overlap_first, overlap_later}
+use Rattle.confluence_theory.specs.Peak.{Covers}
 use Rattle.trs_defs.specs.Step.{here, deep, first, later, RootStep, Step}
 use Rattle.trs_defs.specs.Claims.{IsForked}
-use Rattle.confluence_theory.proofs.NormalForms.{split_forked}
+use Rattle.trs_defs.proofs.NormalForms.{forked_by_normal_forms}
 use Rattle.confluence_theory.proofs.Constants.{sides, constant}
 
 abbrev g : Tree → Tree
@@ -160,25 +160,15 @@ c_grows = here (constant 2, g (constant 2), λ v. var v, in_rest (in_rest in_fir
 
 growing_forked : IsForked growing
 growing_forked =
-    split_forked growing (
-      f (constant 2) (constant 2),
-      constant 0,
-      constant 1,
-      (refl, ((refl, tt), ((refl, tt), tt))),
-      ((1, (constant 0, here (f (var 0) (var 0), constant 0, λ v. constant 2, in_first, refl, refl), refl)), normal 0 (λ e. absurd (omega arith))),
+    forked_by_normal_forms growing (f (constant 2) (constant 2)) (constant 0) (constant 1) (refl, ((refl, tt), ((refl, tt), tt)))
+    (1, (constant 0, here (f (var 0) (var 0), constant 0, λ v. constant 2, in_first, refl, refl), refl)) (
+      2,
       (
-        (
-          2,
-          (
-            f (constant 2) (g (constant 2)),
-            deep (later (first c_grows)),
-            (constant 1, here (f (var 0) (g (var 0)), constant 1, λ v. constant 2, in_rest in_first, refl, refl), refl),
-          ),
-        ),
-        normal 1 (λ e. absurd (omega arith)),
+        f (constant 2) (g (constant 2)),
+        deep (later (first c_grows)),
+        (constant 1, here (f (var 0) (g (var 0)), constant 1, λ v. constant 2, in_rest in_first, refl, refl), refl),
       ),
-      λ e. absurd (cc e),
-    )
+    ) (normal 0 (λ e. absurd (omega arith))) (normal 1 (λ e. absurd (omega arith))) (λ e. absurd (cc e))
 
 -- With no peak to close, the theorems on parallel closed, strongly closed and decreasing peaks want left-linear rules.
 left_linear_is_needed : IsSystem growing × AreRightLinear growing.rules × Covers growing.rules [] × IsForked growing

@@ -6,13 +6,13 @@ use Rattle.trs_defs.specs.Tree.{Tree, Trees, var, app, nil, cons}
 use Rattle.trs_defs.specs.Variable.{has_var, IsLinear}
 use Rattle.trs_defs.specs.Substitution.{apply}
 use Rattle.trs_defs.specs.System.{RewriteRule, System, IsRule, IsSystem, Numbered}
-use Rattle.trs_defs.specs.Linear.{AreLeftLinear}
-use Rattle.trs_defs.specs.Overlap.{OverlapOne, overlap_first, overlap_later}
-use Rattle.trs_defs.specs.ParallelStep.{ParallelStepBy, below_root, no_more}
-use Rattle.trs_defs.specs.Peak.{Peak, HasPeak, Covers}
+use Rattle.confluence_theory.specs.Linear.{AreLeftLinear}
+use Rattle.confluence_theory.specs.Overlap.{OverlapOne, overlap_first, overlap_later}
+use Rattle.confluence_theory.specs.ParallelStep.{ParallelStepBy, below_root, no_more}
+use Rattle.confluence_theory.specs.Peak.{Peak, HasPeak, Covers}
 use Rattle.trs_defs.specs.Step.{RootStep}
 use Rattle.trs_defs.specs.Claims.{IsConfluent}
-use Rattle.peak_theory.proofs.Claims.{parallel_closed}
+use Rattle.confluence_theory.proofs.Claims.{parallel_closed}
 use Rattle.confluence_theory.proofs.Constants.{sides, constant, rewrites, peak_of, each_of_two}
 
 abbrev copying : RewriteRule

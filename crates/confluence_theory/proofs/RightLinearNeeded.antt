@@ -11,11 +11,11 @@ use Rattle.trs_defs.specs.Derivation.{Derivation}
 use Rattle.trs_defs.specs.Joinable.{IsJoinable}
 use Rattle.trs_defs.specs.NormalForm.{IsNormalForm}
 use Rattle.trs_defs.specs.System.{RewriteRule, System, IsRule, IsSystem, Numbered}
-use Rattle.trs_defs.specs.Linear.{AreLeftLinear}
-use Rattle.trs_defs.specs.Overlap.{Overlap, OverlapOne, overlap_here, overlap_deep, overlap_first, overlap_later}
-use Rattle.trs_defs.specs.Peak.{Peak, HasPeak, Covers}
+use Rattle.confluence_theory.specs.Linear.{AreLeftLinear}
+use Rattle.confluence_theory.specs.Overlap.{Overlap, OverlapOne, overlap_here, overlap_deep, overlap_first, overlap_later}
+use Rattle.confluence_theory.specs.Peak.{Peak, HasPeak, Covers}
 use Rattle.trs_defs.specs.Step.{here, deep, first, later, RootStep, Step}
-use Rattle.trs_defs.specs.RuleRanks.{NumberedStep, IsDecreasing}
+use Rattle.confluence_theory.specs.RuleRanks.{NumberedStep, IsDecreasing}
 use Rattle.trs_defs.specs.Claims.{IsForked}
 use Rattle.trs_defs.proofs.NormalForms.{normal_stays}
 use Rattle.confluence_theory.proofs.Constants.{constant, rewrites, sides}

@@ -8,14 +8,14 @@ use Rattle.trs_defs.specs.Variable.{occurrences}
 use Rattle.trs_defs.specs.Substitution.{apply}
 use Rattle.trs_defs.specs.NormalForm.{IsNormalForm}
 use Rattle.trs_defs.specs.Run.{Same}
-use Rattle.trs_defs.specs.Confluence.{JoinsStrongly}
+use Rattle.abstract_confluence.specs.Confluence.{JoinsStrongly}
 use Rattle.trs_defs.specs.System.{RewriteRule, System, IsRule, IsSystem, Numbered}
-use Rattle.trs_defs.specs.Linear.{AreLeftLinear, AreRightLinear}
-use Rattle.trs_defs.specs.Overlap.{Overlap, OverlapOne, overlap_here, overlap_deep, overlap_first, overlap_later}
-use Rattle.trs_defs.specs.Peak.{Peak, HasPeak, Covers}
+use Rattle.confluence_theory.specs.Linear.{AreLeftLinear, AreRightLinear}
+use Rattle.confluence_theory.specs.Overlap.{Overlap, OverlapOne, overlap_here, overlap_deep, overlap_first, overlap_later}
+use Rattle.confluence_theory.specs.Peak.{Peak, HasPeak, Covers}
 use Rattle.trs_defs.specs.Step.{here, deep, first, RootStep, Step}
 use Rattle.trs_defs.specs.Claims.{IsForked}
-use Rattle.confluence_theory.proofs.NormalForms.{split_forked}
+use Rattle.trs_defs.proofs.NormalForms.{forked_by_normal_forms}
 use Rattle.confluence_theory.proofs.Constants.{constant, rewrites, each_of_two, sides}
 
 -- the constants a, d, p, q are 0, 1, 2, 3
@@ -186,15 +186,9 @@ normal s n m u (deep d) = elim d [ ]
 
 turner_forked : IsForked turner
 turner_forked =
-    split_forked turner (
-      f 2,
-      constant 0,
-      constant 1,
-      (refl, ((refl, tt), tt)),
-      ((1, (constant 0, p_a, refl)), normal 0 (λ e. absurd (omega arith)) (λ e. absurd (omega arith))),
-      ((2, (f 3, p_q, (constant 1, q_d, refl))), normal 1 (λ e. absurd (omega arith)) (λ e. absurd (omega arith))),
-      λ e. absurd (cc e),
-    )
+    forked_by_normal_forms turner (f 2) (constant 0) (constant 1) (refl, ((refl, tt), tt)) (1, (constant 0, p_a, refl))
+    (2, (f 3, p_q, (constant 1, q_d, refl))) (normal 0 (λ e. absurd (omega arith)) (λ e. absurd (omega arith)))
+    (normal 1 (λ e. absurd (omega arith)) (λ e. absurd (omega arith))) (λ e. absurd (cc e))
 
 -- Both halves are needed.
 both_halves_are_needed : IsSystem turner × AreLeftLinear turner.rules × AreRightLinear turner.rules × Covers turner.rules turner_peaks

@@ -13,4 +13,3 @@ pub mod VariableLaws
 pub mod NormalForms
 pub mod WellFormedness
 pub mod OccurrenceLaws
-pub mod CapLaws
