@@ -5,7 +5,7 @@ use Rattle.abstract_confluence.specs.Confluence.{HasDiamond}
 use Rattle.abstract_confluence.specs.Ranks.{AnyRank, Side, IsLocallyDecreasing}
 use Rattle.abstract_confluence.proofs.Joins.{RunsJoin, StepsJoin, StepsJoinStrongly}
 use Rattle.std.proofs.Common.{ℕ, inl, arith}
-use Rattle.abstract_confluence.proofs.Runs.{at_most_run}
+use Rattle.trs_defs.proofs.Runs.{at_most_run}
 use Rattle.abstract_confluence.proofs.BoundedRuns.{newman}
 use Rattle.abstract_confluence.proofs.Strong.{strong_confluent}
 use Rattle.abstract_confluence.proofs.BetweenRuns.{between_confluent}

@@ -1,9 +1,14 @@
--- What fits a cap: the instances of the term, and what they step to.
-use Rattle.std.proofs.Common.{ℕ, subst}
+-- What fits a cap: the instances of the term, and what they reach.
+use Rattle.std.proofs.Common.{ℕ, List, subst}
 use Rattle.trs_defs.specs.Tree.{Tree, Trees, app}
 use Rattle.trs_defs.specs.Substitution.{apply, apply_all}
-use Rattle.trs_defs.specs.Step.{Inside, InsideOne, here, deep, first, later, RootStep}
+use Rattle.trs_defs.specs.System.{RewriteRule, Among}
+use Rattle.trs_defs.specs.Run.{Run}
+use Rattle.trs_defs.specs.Derivation.{Reaches}
+use Rattle.trs_defs.specs.Step.{Inside, InsideOne, here, deep, first, later, RootStep, StepBy, Step}
 use Rattle.cap_theory.specs.Cap.{Fits, EachFits, fits_variable, fits_symbol, fits_nil, fits_cons, Cap, Caps, cap_variable, cap_open, cap_symbol, caps_nil, caps_cons}
+use Rattle.trs_defs.proofs.Derivations.{run_of_reaches}
+use Rattle.trs_defs.proofs.Runs.{run_keeps}
 
 module _ (rule : Tree → Tree → Type 0) where
   mutual
@@ -39,3 +44,12 @@ module _ (rule : Tree → Tree → Type 0) where
     steps_fit caps_nil fits_nil s = elim s [ ]
     steps_fit (caps_cons k ks) (fits_cons p ps) (first s) = fits_cons (step_fits k p s) ps
     steps_fit (caps_cons k ks) (fits_cons p ps) (later s) = fits_cons p (steps_fit ks ps s)
+
+  pub run_fits : {t c : Tree} → Cap rule t c → {u v : Tree} → Fits c u → Run (StepBy rule) u v → Fits c v
+  run_fits {c = c} k p run = run_keeps (Fits c) (λ u v q s. step_fits k q s) p run
+
+  pub runs_fit : {ts cs : Trees} → Caps rule ts cs → {us vs : Trees} → EachFits cs us → Run (InsideOne (RootStep rule)) us vs → EachFits cs vs
+  runs_fit {cs = cs} k p run = run_keeps (EachFits cs) (λ us vs q s. steps_fit k q s) p run
+
+pub reached_fits : (rules : List RewriteRule) (t c v : Tree) (σ : ℕ → Tree) → Cap (Among rules) t c → Reaches (Step rules) (apply σ t) v → Fits c v
+reached_fits rules t c v σ k d = run_fits (Among rules) k (instance_fits (Among rules) σ k) (run_of_reaches (Step rules) (apply σ t) v d)

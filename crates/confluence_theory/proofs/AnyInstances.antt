@@ -6,8 +6,7 @@ use Rattle.trs_defs.specs.Run.{Run, Stay, Go}
 use Rattle.trs_defs.specs.Step.{Inside, InsideOne, here, deep, first, later}
 use Rattle.trs_defs.specs.Substitution.{apply, apply_all}
 use Rattle.trs_defs.specs.Tree.{Tree, Trees, var, app, nil, cons}
-use Rattle.abstract_confluence.proofs.Runs.{then}
-use Rattle.abstract_confluence.proofs.Maps.{run_along}
+use Rattle.trs_defs.proofs.StepLaws.{run_in_app, run_in_cons}
 use Rattle.confluence_theory.proofs.Substitutions.{but, but_at}
 
 -- a step below a variable leads to a run in any instance
@@ -18,13 +17,11 @@ mutual
         | yes e ↦ let P : ℕ → Type 0 = λ k. Inside R (σ k) y in Go (subst P e d) Stay
         | no e ↦ Stay
       ]
-  copies_any R σ x y d (app f ts) = run_along (λ us. app f us) (λ us vs r. deep r) (copies_any_all R σ x y d ts)
+  copies_any R σ x y d (app f ts) = run_in_app f (copies_any_all R σ x y d ts)
 
   pub copies_any_all : (R : Tree → Tree → Type 0) (σ : ℕ → Tree) (x : ℕ) (y : Tree) → Inside R (σ x) y → (ts : Trees) → Run (InsideOne R) (apply_all σ ts) (apply_all (but σ x y) ts)
   copies_any_all R σ x y d nil = Stay
-  copies_any_all R σ x y d (cons t ts) =
-      then (run_along (λ u. cons u (apply_all σ ts)) (λ u v r. first r) (copies_any R σ x y d t))
-      (run_along (λ us. cons (apply (but σ x y) t) us) (λ us vs r. later r) (copies_any_all R σ x y d ts))
+  copies_any_all R σ x y d (cons t ts) = run_in_cons (copies_any R σ x y d t) (copies_any_all R σ x y d ts)
 
 -- a step below a variable of the pattern, and the run that makes the other copies of it
 pub record Caught (R : Tree → Tree → Type 0) (σ : ℕ → Tree) (l u : Tree) : Type 0 where
@@ -41,7 +38,7 @@ pub record CaughtOne (R : Tree → Tree → Type 0) (σ : ℕ → Tree) (ls us :
 
 caught_deep : {R : Tree → Tree → Type 0} {σ : ℕ → Tree} {f : ℕ} {ls us : Trees} → OverlapOne R σ ls us ⊎ CaughtOne R σ ls us → Overlap R σ (app f ls) (app f us) ⊎ Caught R σ (app f ls) (app f us)
 caught_deep (inl o) = inl (overlap_deep o)
-caught_deep {f = f} (inr m) = inr (record { x = m.x; y = m.y; step = m.step; others = run_along (λ vs. app f vs) (λ vs ws r. deep r) m.others })
+caught_deep {f = f} (inr m) = inr (record { x = m.x; y = m.y; step = m.step; others = run_in_app f m.others })
 
 caught_first : {R : Tree → Tree → Type 0} {σ : ℕ → Tree} {l u : Tree} {ls : Trees} → Overlap R σ l u ⊎ Caught R σ l u → OverlapOne R σ (cons l ls) (cons u (apply_all σ ls)) ⊎ CaughtOne R σ (cons l ls) (cons u (apply_all σ ls))
 caught_first (inl o) = inl (overlap_first o)
@@ -50,8 +47,7 @@ caught_first {R = R} {σ = σ} {l = l} {u = u} {ls = ls} (inr m) =
       x = m.x;
       y = m.y;
       step = m.step;
-      others = then (run_along (λ v. cons v (apply_all σ ls)) (λ v w r. first r) m.others)
-          (run_along (λ vs. cons (apply (but σ m.x m.y) l) vs) (λ vs ws r. later r) (copies_any_all R σ m.x m.y m.step ls));
+      others = run_in_cons m.others (copies_any_all R σ m.x m.y m.step ls);
     })
 
 caught_later : {R : Tree → Tree → Type 0} {σ : ℕ → Tree} {l : Tree} {ls us : Trees} → OverlapOne R σ ls us ⊎ CaughtOne R σ ls us → OverlapOne R σ (cons l ls) (cons (apply σ l) us) ⊎ CaughtOne R σ (cons l ls) (cons (apply σ l) us)
@@ -61,8 +57,7 @@ caught_later {R = R} {σ = σ} {l = l} {ls = ls} {us = us} (inr m) =
       x = m.x;
       y = m.y;
       step = m.step;
-      others = then (run_along (λ v. cons v us) (λ v w r. first r) (copies_any R σ m.x m.y m.step l))
-          (run_along (λ vs. cons (apply (but σ m.x m.y) l) vs) (λ vs ws r. later r) m.others);
+      others = run_in_cons (copies_any R σ m.x m.y m.step l) m.others;
     })
 
 mutual

@@ -1,10 +1,9 @@
 -- The theorems on rules by their numbers as claims on systems.
 use Rattle.std.specs.Prelude.{ℕ, List, [], ◌∷◌, map}
-use Rattle.std.proofs.Common.{zero, suc, refl}
+use Rattle.std.proofs.Common.{refl}
 use Rattle.trs_defs.specs.Member.{In}
 use Rattle.trs_defs.specs.Tree.{Tree, Trees}
 use Rattle.trs_defs.specs.System.{RewriteRule, System, IsSystem, Numbered, Among}
-use Rattle.trs_defs.specs.Bounded.{IsBoundedBy}
 use Rattle.trs_defs.specs.Joinable.{IsJoinable}
 use Rattle.abstract_confluence.specs.Confluence.{JoinsStrongly}
 use Rattle.abstract_confluence.specs.LabelledPath.{LabelledPath}
@@ -15,20 +14,17 @@ use Rattle.confluence_theory.specs.RuleRanks.{NumberedStep, rank_of, IsDecreasin
 use Rattle.trs_defs.specs.Step.{RootStep, Step}
 use Rattle.trs_defs.specs.Claims.{IsTerminating, IsConfluent}
 use Rattle.trs_defs.proofs.Derivations.{run_of_reaches}
-use Rattle.abstract_confluence.proofs.Maps.{once_along}
-use Rattle.abstract_confluence.proofs.Paths.{side_of_path}
-use Rattle.abstract_confluence.proofs.Runs.{each}
+use Rattle.trs_defs.proofs.BoundLaws.{bound_of_fewer}
+use Rattle.abstract_confluence.proofs.Joins.{MeetsStrongly}
+use Rattle.trs_defs.proofs.Runs.{once_along, each}
+use Rattle.abstract_confluence.proofs.Sides.{side_of_path}
 use Rattle.confluence_theory.proofs.Free.{IsSeparate, separate_linear}
 use Rattle.confluence_theory.proofs.Families.{AnyRule, AnyRoot}
 use Rattle.confluence_theory.proofs.Systems.{step_of_any, Listed, family_of, covers_by, numbered_root, any_of_step, joins_any, joinable_any, confluent_system}
 use Rattle.confluence_theory.proofs.JoinedPeaks.{newman_system}
-use Rattle.confluence_theory.proofs.StrongPeaks.{Half, strong_system}
+use Rattle.confluence_theory.proofs.StrongPeaks.{strong_system}
 use Rattle.confluence_theory.proofs.RankedPeaks.{Ranked, Sides, ranks_confluent}
 use Rattle.confluence_theory.proofs.ParallelPeaks.{parallel_system}
-
-bounded_any : (rules : List RewriteRule) (n : ℕ) (s : Tree) → IsBoundedBy (Step rules) n s → IsBoundedBy (AnyRule (Numbered rules)) n s
-bounded_any rules zero s b = λ t r. b t (step_of_any rules s t r)
-bounded_any rules (suc n) s b = λ t r. bounded_any rules n t (b t (step_of_any rules s t r))
 
 pub joined : (system : System) (peaks : List Peak) → IsSystem system → Covers system.rules peaks
     → ((peak : Peak) → In peak peaks → IsJoinable (Step system.rules) peak.left peak.right) → IsTerminating system → IsConfluent system
@@ -37,7 +33,7 @@ joined system peaks is_system covers close terminating s t u well p q =
     joinable_any system.rules t u
     (newman_system (Numbered system.rules) (Listed system.rules peaks) (family_of system is_system) (covers_by system.rules peaks covers)
     (λ i j top left right h. joins_any system.rules left right (close (record { inner = i; outer = j; top = top; left = left; right = right }) h))
-    s t u n (bounded_any system.rules n s b)
+    s t u n (bound_of_fewer (Step system.rules) (AnyRule (Numbered system.rules)) (step_of_any system.rules) n s b)
     (each (any_of_step system.rules) (run_of_reaches (Step system.rules) s t p))
     (each (any_of_step system.rules) (run_of_reaches (Step system.rules) s u q)))
 
@@ -67,8 +63,8 @@ parallel_closed system peaks is_system linear covers close =
     (covers_by system.rules peaks covers)
     (λ i j top left right h. numbered_parallel system.rules (close (record { inner = i; outer = j; top = top; left = left; right = right }) h)))
 
-half_of : (rules : List RewriteRule) (t u : Tree) → JoinsStrongly (Step rules) t u → Half (AnyRule (Numbered rules)) t u
-half_of rules t u (v, tv, uv) =
+meets_any : (rules : List RewriteRule) (t u : Tree) → JoinsStrongly (Step rules) t u → MeetsStrongly (AnyRule (Numbered rules)) t u
+meets_any rules t u (v, tv, uv) =
     (v, each (any_of_step rules) (run_of_reaches (Step rules) t v tv), once_along (λ x. x) (any_of_step rules) uv)
 
 pub strongly_closed : (system : System) (peaks : List Peak) → IsSystem system → AreLeftLinear system.rules → AreRightLinear system.rules
@@ -81,7 +77,7 @@ strongly_closed system peaks is_system left_linear right_linear covers close =
     (both_separate system.rules left_linear right_linear) (covers_by system.rules peaks covers)
     (λ i j top left right h.
     let (p, q) = close (record { inner = i; outer = j; top = top; left = left; right = right }) h in
-    (half_of system.rules left right p, half_of system.rules right left q)))
+    (meets_any system.rules left right p, meets_any system.rules right left q)))
 
 ranked_path : (rules : List RewriteRule) (ranks numbers : List ℕ) (s t : Tree) → LabelledPath (NumberedStep rules) numbers s t
     → LabelledPath (Ranked (Numbered rules) (rank_of ranks)) (map (rank_of ranks) numbers) s t

@@ -1,14 +1,13 @@
 -- A system whose critical peaks join is locally confluent, linear or not.
-use Rattle.std.proofs.Common.{ℕ, inl, inr, refl, sym, subst}
+use Rattle.std.proofs.Common.{ℕ, inl, inr, refl}
 use Rattle.abstract_confluence.proofs.Joins.{Joins, StepsJoin}
-use Rattle.confluence_theory.proofs.Families.{AnyRule, HasInstance, CoversBy, IsFamily}
+use Rattle.confluence_theory.proofs.Families.{AnyRule, HasInstance, of_instance, CoversBy, IsFamily}
 use Rattle.trs_defs.specs.Bounded.{IsBoundedBy}
 use Rattle.trs_defs.specs.Run.{Run, Stay}
 use Rattle.trs_defs.specs.Step.{Inside, InsideOne, here, deep, first, later, RootStep}
 use Rattle.trs_defs.specs.Substitution.{apply, apply_all}
 use Rattle.trs_defs.specs.Tree.{Tree, Trees, app, cons}
-use Rattle.abstract_confluence.proofs.Runs.{one, then, each}
-use Rattle.abstract_confluence.proofs.Maps.{run_along}
+use Rattle.trs_defs.proofs.Runs.{one, then, each, run_along}
 use Rattle.abstract_confluence.proofs.BoundedRuns.{joins_within}
 use Rattle.trs_defs.proofs.Substitutions.{step_closed}
 use Rattle.confluence_theory.proofs.Substitutions.{but}
@@ -42,12 +41,9 @@ module _ (rule : ℕ → Tree → Tree → Type 0) where
       (covers : CoversBy rule peaks) (listed : (i j : ℕ) (top left right : Tree) → peaks i j top left right → Joins (AnyRule rule) left right)
     where
       joins_listed : (i j : ℕ) (s t u : Tree) → HasInstance peaks i j s t u → Joins (AnyRule rule) t u
-      joins_listed i j s t u (top, left, right, τ, p, e, e', e'') =
-          let d : Joins (AnyRule rule) (apply τ left) (apply τ right) =
-          joins_along (AnyRule rule) (AnyRule rule) (apply τ) (λ s t (k, r). (k, (step_closed (rule k)).instance τ s t r)) (listed i j top left right p) in
-          let P : Tree → Type 0 = λ z. Joins (AnyRule rule) z u in
-          let Q : Tree → Type 0 = λ z. Joins (AnyRule rule) (apply τ left) z in
-          subst P (sym e') (subst Q (sym e'') d)
+      joins_listed =
+          of_instance peaks Closed
+          (λ i j τ t u. joins_along (AnyRule rule) (AnyRule rule) (apply τ) (λ s t (k, r). (k, (step_closed (rule k)).instance τ s t r))) listed
 
       any_nested : (i j f : ℕ) (ls us : Trees) (r : Tree) (σ : ℕ → Tree) → rule j (app f ls) r → InsideOne (RootStep (rule i)) (apply_all σ ls) us → Joins (AnyRule rule) (app f us) (apply σ r)
       any_nested i j f ls us r σ h d =

@@ -18,6 +18,7 @@ mod Constants
 mod Examples
 mod ParallelExample
 mod PathExample
+mod TooGeneral
 mod Counterexamples
 mod LeftLinearNeeded
 mod StrongHalfNeeded

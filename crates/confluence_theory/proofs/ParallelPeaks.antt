@@ -2,7 +2,7 @@
 use Rattle.std.proofs.Common.{ℕ, zero, suc, ◌+◌, ◌<◌, ◌≤◌, ◌≡◌, ◌⊎◌, inl, inr, refl, sym, ◌∙◌, ap, subst, arith}
 use native.Mathlib.Decide.{ℕ_discrete}
 use Rattle.abstract_confluence.proofs.Joins.{RunsJoin}
-use Rattle.confluence_theory.proofs.Families.{AnyRule, HasInstance, CoversBy, AnyRoot, IsFamily}
+use Rattle.confluence_theory.proofs.Families.{AnyRule, HasInstance, of_instance, CoversBy, AnyRoot, IsFamily, Redex, redex_of, one_result}
 use Rattle.confluence_theory.proofs.Free.{IsFree, AreFree, IsSeparate, AreSeparate}
 use Rattle.abstract_confluence.specs.Confluence.{HasDiamond}
 use Rattle.confluence_theory.specs.Overlap.{Overlap, OverlapOne, overlap_here, overlap_deep, overlap_first, overlap_later}
@@ -13,10 +13,9 @@ use Rattle.trs_defs.specs.Step.{Inside, InsideOne, here, deep, first, later, Roo
 use Rattle.trs_defs.specs.Substitution.{apply, apply_all}
 use Rattle.trs_defs.specs.Tree.{Tree, Trees, var, app, nil, cons}
 use Rattle.trs_defs.proofs.Substitutions.{root_step_closed}
-use Rattle.abstract_confluence.proofs.Runs.{one, then}
-use Rattle.abstract_confluence.proofs.Maps.{run_along}
+use Rattle.trs_defs.proofs.Runs.{one, then, run_along}
 use Rattle.abstract_confluence.proofs.BetweenRuns.{between_confluent}
-use Rattle.confluence_theory.proofs.Substitutions.{but, but_at, fun_head_eq, fun_args_eq, instance_eq, instances_eq}
+use Rattle.confluence_theory.proofs.Substitutions.{but, but_at, instance_eq, instances_eq}
 
 -- a parallel step with the sizes of its redexes added up
 mutual
@@ -256,11 +255,7 @@ module _ (rule : ℕ → Tree → Tree → Type 0) where
       (covers : CoversBy rule peaks) (listed : (i j : ℕ) (top left right : Tree) → peaks i j top left right → ParallelStep R left right)
     where
       par_listed : (i j : ℕ) (s t u : Tree) → HasInstance peaks i j s t u → ParallelStep R t u
-      par_listed i j s t u (top, left, right, τ, p, e, e', e'') =
-          let d : ParallelStep R (apply τ left) (apply τ right) = par_instance τ (listed i j top left right p) in
-          let P : Tree → Type 0 = λ z. ParallelStep R z u in
-          let Q : Tree → Type 0 = λ z. ParallelStep R (apply τ left) z in
-          subst P (sym e') (subst Q (sym e'') d)
+      par_listed = of_instance peaks (λ i j. ParallelStep R) (λ i j τ t u d. par_instance τ d) listed
 
       -- what is known of lighter peaks
       abbrev Lighter : ℕ → Type 0
@@ -277,27 +272,18 @@ module _ (rule : ℕ → Tree → Tree → Type 0) where
           ]
 
       inner : (n : ℕ) → Lighter n → (f : ℕ) (ts us : Trees) (t : Tree) (w : ℕ) → R (app f ts) t → EachWeighted R w ts us → w < n → Joined t (app f us)
-      inner n lighter f ts us t w (j, (l, r, σ, h, e, e')) d less =
-          let (g, ls, el) = sys.root j l r h in
-          let k : app f ts ≡ app g (apply_all σ ls) = e ∙ ap (apply σ) el in
-          let hg : rule j (app g ls) r = (let P : Tree → Type 0 = λ z. rule j z r in subst P el h) in
-          let hf : rule j (app f ls) r = (let P : ℕ → Type 0 = λ z. rule j (app z ls) r in subst P (sym (fun_head_eq k)) hg) in
-          let df : EachWeighted R w (apply_all σ ls) us = (let P : Trees → Type 0 = λ z. EachWeighted R w z us in subst P (fun_args_eq k) d) in
+      inner n lighter f ts us t w (j, q) d less =
+          let x : Redex rule j f ts t = redex_of rule sys j f ts t q in
+          let dx : EachWeighted R w (apply_all x.σ x.left) us = (let P : Trees → Type 0 = λ z. EachWeighted R w z us in subst P x.arguments d) in
           let P : Tree → Type 0 = λ z. Joined z (app f us) in
-          subst P (sym e') (inner_at n lighter j f ls us r σ w hf df less)
+          subst P (sym x.reduct) (inner_at n lighter j f x.left us x.right x.σ w x.is_rule dx less)
 
       roots : (s t u : Tree) → R s t → R s u → Joined t u
       roots s t u (i, (l, r, σ, h, e, e')) (j, (l₂, r₂, σ₂, h₂, e₂, e₂')) =
+          let P : Tree → Type 0 = λ z. Joined t z in
           elim (ℕ_discrete i j) [
-            | yes k ↦
-                let h' : rule i l₂ r₂ = (let P : ℕ → Type 0 = λ z. rule z l₂ r₂ in subst P (sym k) h₂) in
-                let (el, er) = sys.one i l r l₂ r₂ h h' in
-                let q : apply σ r ≡ apply σ₂ r = sys.same i l r h σ σ₂ (sym e ∙ (e₂ ∙ ap (apply σ₂) (sym el))) in
-                let w : t ≡ u = e' ∙ (q ∙ (ap (apply σ₂) er ∙ sym e₂')) in
-                let P : Tree → Type 0 = λ z. Joined t z in
-                subst P w (t, rest R t, rest R t)
+            | yes k ↦ subst P (one_result rule sys i j s t u k (l, r, σ, h, e, e') (l₂, r₂, σ₂, h₂, e₂, e₂')) (t, rest R t, rest R t)
             | no k ↦
-                let P : Tree → Type 0 = λ z. Joined t z in
                 subst P (sym e₂') (
                   apply σ₂ r₂,
                   par_listed i j (apply σ₂ l₂) t (apply σ₂ r₂) (covers.at_root i j l₂ r₂ t σ₂ h₂ k (l, r, σ, h, sym e₂ ∙ e, e')),

@@ -1,15 +1,15 @@
 -- A linear system whose critical peaks have decreasing sides is confluent.
-use Rattle.std.proofs.Common.{ℕ, ◌≡◌, refl, sym, subst}
+use Rattle.std.proofs.Common.{ℕ, ◌≡◌, refl, subst}
 use Rattle.abstract_confluence.proofs.Joins.{RunsJoin}
-use Rattle.confluence_theory.proofs.Families.{AnyRule, HasInstance, CoversBy, IsFamily}
+use Rattle.confluence_theory.proofs.Families.{AnyRule, HasInstance, of_instance, CoversBy, IsFamily}
 use Rattle.confluence_theory.proofs.Free.{IsSeparate}
 use Rattle.abstract_confluence.specs.Ranks.{Side, IsLocallyDecreasing}
 use Rattle.trs_defs.specs.Run.{Stay, AtMostOne, Same, Once}
 use Rattle.trs_defs.specs.Step.{Inside, InsideOne, here, deep, first, later, RootStep, StepBy}
 use Rattle.trs_defs.specs.Substitution.{apply}
 use Rattle.trs_defs.specs.Tree.{Tree, Trees, app, cons}
-use Rattle.abstract_confluence.proofs.Runs.{each}
-use Rattle.abstract_confluence.proofs.Maps.{once_along, side_along}
+use Rattle.trs_defs.proofs.Runs.{each, once_along}
+use Rattle.abstract_confluence.proofs.Sides.{side_along}
 use Rattle.abstract_confluence.proofs.Decreasing.{decreasing_confluent}
 use Rattle.trs_defs.proofs.Substitutions.{step_closed}
 use Rattle.confluence_theory.proofs.RulePeaks.{peak}
@@ -66,11 +66,7 @@ module _ (rule : ℕ → Tree → Tree → Type 0) (rank : ℕ → ℕ) where
       (covers : CoversBy rule peaks) (listed : (i j : ℕ) (top left right : Tree) → peaks i j top left right → Sides rule rank i j left right)
     where
       sides_listed : (i j : ℕ) (s t u : Tree) → HasInstance peaks i j s t u → Sides rule rank i j t u
-      sides_listed i j s t u (top, left, right, τ, p, e, e', e'') =
-          let d : Sides rule rank i j (apply τ left) (apply τ right) = sides_instance i j τ left right (listed i j top left right p) in
-          let P : Tree → Type 0 = λ z. Sides rule rank i j z u in
-          let Q : Tree → Type 0 = λ z. Sides rule rank i j (apply τ left) z in
-          subst P (sym e') (subst Q (sym e'') d)
+      sides_listed = of_instance peaks (Sides rule rank) sides_instance listed
 
       sides_peak : (i j : ℕ) {s t u : Tree} → Inside (RootStep (rule i)) s t → Inside (RootStep (rule j)) s u → Sides rule rank i j t u
       sides_peak i j r q =

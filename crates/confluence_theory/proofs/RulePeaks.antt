@@ -4,8 +4,7 @@ use native.Mathlib.Decide.{ℕ_discrete}
 use Rattle.trs_defs.specs.Step.{Inside, InsideOne, here, deep, first, later, RootStep}
 use Rattle.trs_defs.specs.Substitution.{apply, apply_all}
 use Rattle.trs_defs.specs.Tree.{Tree, Trees, app, cons}
-use Rattle.confluence_theory.proofs.Families.{IsFamily}
-use Rattle.confluence_theory.proofs.Substitutions.{fun_head_eq, fun_args_eq}
+use Rattle.confluence_theory.proofs.Families.{IsFamily, Redex, redex_of, one_result}
 
 module _ (rule : ℕ → Tree → Tree → Type 0) (sys : IsFamily rule) (closed : ℕ → ℕ → Tree → Tree → Type 0)
     (mirror : (i j : ℕ) (t u : Tree) → closed i j t u → closed j i u t)
@@ -16,26 +15,19 @@ module _ (rule : ℕ → Tree → Tree → Type 0) (sys : IsFamily rule) (closed
     (nested_at : (i j f : ℕ) (ls us : Trees) (r : Tree) (σ : ℕ → Tree) → rule j (app f ls) r → InsideOne (RootStep (rule i)) (apply_all σ ls) us → closed i j (app f us) (apply σ r))
   where
     nested : (i j f : ℕ) (ts us : Trees) (u : Tree) → InsideOne (RootStep (rule i)) ts us → RootStep (rule j) (app f ts) u → closed i j (app f us) u
-    nested i j f ts us u d (l, r, σ, h, e, e') =
-        let (g, ls, el) = sys.root j l r h in
-        let k : app f ts ≡ app g (apply_all σ ls) = e ∙ ap (apply σ) el in
-        let hg : rule j (app g ls) r = (let P : Tree → Type 0 = λ z. rule j z r in subst P el h) in
-        let hf : rule j (app f ls) r = (let P : ℕ → Type 0 = λ z. rule j (app z ls) r in subst P (sym (fun_head_eq k)) hg) in
-        let df : InsideOne (RootStep (rule i)) (apply_all σ ls) us = (let P : Trees → Type 0 = λ z. InsideOne (RootStep (rule i)) z us in subst P (fun_args_eq k) d) in
+    nested i j f ts us u d q =
+        let x : Redex rule j f ts u = redex_of rule sys j f ts u q in
+        let dx : InsideOne (RootStep (rule i)) (apply_all x.σ x.left) us = (let P : Trees → Type 0 = λ z. InsideOne (RootStep (rule i)) z us in subst P x.arguments d) in
         let P : Tree → Type 0 = λ z. closed i j (app f us) z in
-        subst P (sym e') (nested_at i j f ls us r σ hf df)
+        subst P (sym x.reduct) (nested_at i j f x.left us x.right x.σ x.is_rule dx)
 
     at_root : (i j : ℕ) (s t u : Tree) → RootStep (rule i) s t → RootStep (rule j) s u → closed i j t u
     at_root i j s t u (l, r, σ, h, e, e') (l₂, r₂, σ₂, h₂, e₂, e₂') =
         elim (ℕ_discrete i j) [
           | yes k ↦
-              let h' : rule i l₂ r₂ = (let P : ℕ → Type 0 = λ z. rule z l₂ r₂ in subst P (sym k) h₂) in
-              let (el, er) = sys.one i l r l₂ r₂ h h' in
-              let q : apply σ r ≡ apply σ₂ r = sys.same i l r h σ σ₂ (sym e ∙ (e₂ ∙ ap (apply σ₂) (sym el))) in
-              let w : t ≡ u = e' ∙ (q ∙ (ap (apply σ₂) er ∙ sym e₂')) in
               let P : ℕ → Type 0 = λ z. closed i z t u in
               let Q : Tree → Type 0 = λ z. closed i i t z in
-              subst P k (subst Q w (equal i t))
+              subst P k (subst Q (one_result rule sys i j s t u k (l, r, σ, h, e, e') (l₂, r₂, σ₂, h₂, e₂, e₂')) (equal i t))
           | no k ↦
               let P : Tree → Type 0 = λ z. closed i j t z in
               subst P (sym e₂') (overlap i j l₂ r₂ t σ₂ h₂ k (l, r, σ, h, sym e₂ ∙ e, e'))

@@ -1,25 +1,21 @@
 -- A linear system whose critical peaks join strongly is confluent.
-use Rattle.std.proofs.Common.{ℕ, sym, subst}
-use Rattle.abstract_confluence.proofs.Joins.{RunsJoin}
-use Rattle.confluence_theory.proofs.Families.{AnyRule, HasInstance, CoversBy, IsFamily}
+use Rattle.std.proofs.Common.{ℕ}
+use Rattle.abstract_confluence.proofs.Joins.{RunsJoin, MeetsStrongly}
+use Rattle.confluence_theory.proofs.Families.{AnyRule, HasInstance, of_instance, CoversBy, IsFamily}
 use Rattle.confluence_theory.proofs.Free.{IsSeparate}
-use Rattle.trs_defs.specs.Run.{Run, Stay, AtMostOne, Same, Once}
+use Rattle.trs_defs.specs.Run.{Stay, AtMostOne, Same, Once}
 use Rattle.trs_defs.specs.Step.{Inside, InsideOne, here, deep, first, later, RootStep}
 use Rattle.trs_defs.specs.Substitution.{apply}
 use Rattle.trs_defs.specs.Tree.{Tree, Trees, app, cons}
-use Rattle.abstract_confluence.proofs.Runs.{one}
-use Rattle.abstract_confluence.proofs.Maps.{run_along, once_along}
+use Rattle.trs_defs.proofs.Runs.{one, run_along, once_along, at_most_run}
 use Rattle.abstract_confluence.proofs.Strong.{strong_confluent}
 use Rattle.trs_defs.proofs.Substitutions.{step_closed}
 use Rattle.confluence_theory.proofs.RulePeaks.{peak}
 use Rattle.confluence_theory.proofs.NestedSteps.{linear_nested}
 
--- joined by a run on one side and at most one step on the other
-abbrev pub Half : {T : Type 0} → (T → T → Type 0) → T → T → Type 0
-Half {T} R t u = (v : T) × Run R t v × AtMostOne R u v
-
+-- joined by a run on one side and at most one step on the other, both ways
 abbrev pub Both : {T : Type 0} → (T → T → Type 0) → T → T → Type 0
-Both R t u = Half R t u × Half R u t
+Both R t u = MeetsStrongly R t u × MeetsStrongly R u t
 
 both_along : {T U : Type 0} (R : T → T → Type 0) (Q : U → U → Type 0) (F : T → U) → ((s t : T) → R s t → Q (F s) (F t)) → {t u : T} → Both R t u → Both Q (F t) (F u)
 both_along R Q F f ((v, tv, uv), (w, uw, tw)) = ((F v, run_along F f tv, once_along F f uv), (F w, run_along F f uw, once_along F f tw))
@@ -44,23 +40,16 @@ module _ (rule : ℕ → Tree → Tree → Type 0) where
   any_once : (i : ℕ) {t u : Tree} → AtMostOne (Inside (RootStep (rule i))) t u → AtMostOne (AnyRule rule) t u
   any_once i q = once_along (λ x. x) (λ x y s. (i, s)) q
 
-  once_run : {t u : Tree} → AtMostOne (AnyRule rule) t u → Run (AnyRule rule) t u
-  once_run Same = Stay
-  once_run (Once r) = one r
-
   apart : (i j : ℕ) (t u v : Tree) → Inside (RootStep (rule j)) t v → AtMostOne (Inside (RootStep (rule i))) u v → Both (AnyRule rule) t u
-  apart i j t u v r q = ((v, one (j, r), any_once i q), (v, once_run (any_once i q), Once (j, r)))
+  apart i j t u v r q = ((v, one (j, r), any_once i q), (v, at_most_run (any_once i q), Once (j, r)))
 
   module _ (peaks : ℕ → ℕ → Tree → Tree → Tree → Type 0) (sys : IsFamily rule) (linear : (i : ℕ) (l r : Tree) → rule i l r → IsSeparate l × IsSeparate r)
       (covers : CoversBy rule peaks) (listed : (i j : ℕ) (top left right : Tree) → peaks i j top left right → Both (AnyRule rule) left right)
     where
       both_listed : (i j : ℕ) (s t u : Tree) → HasInstance peaks i j s t u → Both (AnyRule rule) t u
-      both_listed i j s t u (top, left, right, τ, p, e, e', e'') =
-          let d : Both (AnyRule rule) (apply τ left) (apply τ right) =
-          both_along (AnyRule rule) (AnyRule rule) (apply τ) (λ s t (k, r). (k, (step_closed (rule k)).instance τ s t r)) (listed i j top left right p) in
-          let P : Tree → Type 0 = λ z. Both (AnyRule rule) z u in
-          let Q : Tree → Type 0 = λ z. Both (AnyRule rule) (apply τ left) z in
-          subst P (sym e') (subst Q (sym e'') d)
+      both_listed =
+          of_instance peaks Closed
+          (λ i j τ t u. both_along (AnyRule rule) (AnyRule rule) (apply τ) (λ s t (k, r). (k, (step_closed (rule k)).instance τ s t r))) listed
 
       both_peak : (i j : ℕ) {s t u : Tree} → Inside (RootStep (rule i)) s t → Inside (RootStep (rule j)) s u → Both (AnyRule rule) t u
       both_peak i j r q =

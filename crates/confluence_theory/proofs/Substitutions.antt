@@ -1,25 +1,9 @@
--- Substitutions, and the equations of terms.
+-- Substitutions that differ at one variable, and what terms have of them.
 use Rattle.std.proofs.Common.{ℕ, ◌≡◌, ◌⊎◌, inl, inr, refl, ◌∙◌, ap}
 use native.Mathlib.Decide.{ℕ_discrete}
 use Rattle.confluence_theory.proofs.Free.{IsFree, AreFree}
 use Rattle.trs_defs.specs.Substitution.{apply, apply_all}
 use Rattle.trs_defs.specs.Tree.{Tree, Trees, var, app, nil, cons}
-
-fun_head : ℕ → Tree → ℕ
-fun_head n (var x) = n
-fun_head n (app f ts) = f
-
-fun_args : Trees → Tree → Trees
-fun_args us (var x) = us
-fun_args us (app f ts) = ts
-
-pub fun_head_eq : {f g : ℕ} {ts us : Trees} → app f ts ≡ app g us → f ≡ g
-unfolding fun_head
-fun_head_eq {f} e = ap (fun_head f) e
-
-pub fun_args_eq : {f g : ℕ} {ts us : Trees} → app f ts ≡ app g us → ts ≡ us
-unfolding fun_args
-fun_args_eq {ts = ts} e = ap (fun_args ts) e
 
 -- σ with y for x
 abbrev pub but : (ℕ → Tree) → ℕ → Tree → ℕ → Tree

@@ -13,8 +13,9 @@ use Rattle.confluence_theory.specs.Peak.{Peak, HasPeak, Covers}
 use Rattle.trs_defs.proofs.Members.{in_of_get, get_of_in}
 use Rattle.trs_defs.proofs.Substitutions.{same_values, same_instance}
 use Rattle.trs_defs.proofs.Derivations.{run_of_reaches}
+use Rattle.trs_defs.proofs.StepLaws.{step_of_more}
 use Rattle.abstract_confluence.proofs.Joins.{Joins, RunsJoin, joinable_of}
-use Rattle.abstract_confluence.proofs.Runs.{each}
+use Rattle.trs_defs.proofs.Runs.{each}
 use Rattle.confluence_theory.proofs.Families.{AnyRule, AnyRoot, IsFamily, HasInstance, CoversBy}
 
 rooted : (t : Tree) → (IsVariable t → ⊥) → (f : ℕ) × (ts : Trees) × (t ≡ app f ts)
@@ -53,21 +54,11 @@ module _ (rules : List RewriteRule) where
 
   -- a step of rule number i is a step of the rules, and back
 
-  pub among_root : (i : ℕ) {s t : Tree} → RootStep (Numbered rules i) s t → RootStep (Among rules) s t
-  among_root i (l, r, σ, h, e, e') = (l, r, σ, in_of_get rules i (record { left = l; right = r }) h, e, e')
+  among : (i : ℕ) (l r : Tree) → Numbered rules i l r → Among rules l r
+  among i l r h = in_of_get rules i (record { left = l; right = r }) h
 
   pub numbered_root : {s t : Tree} → RootStep (Among rules) s t → AnyRoot (Numbered rules) s t
   numbered_root (l, r, σ, h, e, e') = let (i, k) = get_of_in h in (i, (l, r, σ, k, e, e'))
-
-  module _ (i : ℕ) where
-    mutual
-      among_step : {s t : Tree} → Inside (RootStep (Numbered rules i)) s t → Inside (RootStep (Among rules)) s t
-      among_step (here r) = here (among_root i r)
-      among_step (deep d) = deep (among_one d)
-
-      among_one : {ss ts : Trees} → InsideOne (RootStep (Numbered rules i)) ss ts → InsideOne (RootStep (Among rules)) ss ts
-      among_one (first d) = first (among_step d)
-      among_one (later d) = later (among_one d)
 
   abbrev AnyOne : Trees → Trees → Type 0
   AnyOne ss ts = (i : ℕ) × InsideOne (RootStep (Numbered rules i)) ss ts
@@ -85,7 +76,7 @@ module _ (rules : List RewriteRule) where
   any_of_step s t d = numbered_step d
 
   pub step_of_any : (s t : Tree) → AnyRule (Numbered rules) s t → Step rules s t
-  step_of_any s t (i, d) = among_step i d
+  step_of_any s t (i, d) = step_of_more (Numbered rules i) (Among rules) (among i) d
 
   pub joins_any : (t u : Tree) → IsJoinable (Step rules) t u → Joins (AnyRule (Numbered rules)) t u
   joins_any t u (v, tv, uv) = (v, each any_of_step (run_of_reaches (Step rules) t v tv), each any_of_step (run_of_reaches (Step rules) u v uv))

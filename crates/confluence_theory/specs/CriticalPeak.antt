@@ -1,5 +1,5 @@
 -- Critical peaks. (Baader and Nipkow, section 6.2.)
-use Rattle.std.specs.Prelude.{◌≡◌, ◌≢◌, ◌<◌, ℕ, ◌+◌, List, [], Some, IsTrue, slice_get}
+use Rattle.std.specs.Prelude.{◌≡◌, ◌≢◌, ◌<◌, ℕ, ◌+◌, Bool, ◌||◌, List, [], Some, IsTrue, slice_get}
 use Rattle.trs_defs.specs.Member.{In}
 use Rattle.trs_defs.specs.Tree.{Tree, var}
 use Rattle.trs_defs.specs.Variable.{has_var, IsVariable}
@@ -13,9 +13,13 @@ use Rattle.confluence_theory.specs.Peak.{Peak}
 abbrev pub shifted : ℕ → Tree → Tree
 shifted k t = apply (λ v. var (k + v)) t
 
+-- whether the variable occurs in the peak's top, left or right
+abbrev pub occurs_in_peak : ℕ → Peak → Bool
+occurs_in_peak v peak = has_var v peak.top || (has_var v peak.left || has_var v peak.right)
+
 -- at the position p of the outer left side stands `part`, which has a most general unifier with the inner left side renamed
 -- apart; under it the outer rule leads to the right, and the inner one at p to the left. The peak's variables may be
--- renumbered: `names` gives back the numbers that they had
+-- renumbered: `names` gives back the numbers that they had, and different variables had different ones
 pub record IsCriticalPeak (inner outer : RewriteRule) (p : List ℕ) (peak : Peak) : Type 0 where
   pub part : Tree
   pub there : subterm_at p outer.left ≡ Some part
@@ -26,6 +30,7 @@ pub record IsCriticalPeak (inner outer : RewriteRule) (p : List ℕ) (peak : Pea
   pub reduct : Tree
   pub replaced : replaced_at p outer.left (shifted offset inner.right) ≡ Some reduct
   pub names : ℕ → ℕ
+  pub different : (v w : ℕ) → IsTrue (occurs_in_peak v peak) → IsTrue (occurs_in_peak w peak) → names v ≡ names w → v ≡ w
   pub top : apply unifier outer.left ≡ apply (λ v. var (names v)) peak.top
   pub left : apply unifier reduct ≡ apply (λ v. var (names v)) peak.left
   pub right : apply unifier outer.right ≡ apply (λ v. var (names v)) peak.right

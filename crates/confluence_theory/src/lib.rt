@@ -32,16 +32,16 @@ pub fn critical_peaks_cover()
 /// Where two rules overlap, the subterm of the outer left side and the inner left side have a
 /// unifier once the variables of the inner rule are moved past those of the outer left side.
 pub fn overlaps_unify()
-    ensures unified { (rules : List RewriteRule) (i j : ℕ) (inner outer : RewriteRule) (p : List ℕ) →
-        (overlap : Overlaps rules i j inner outer p) (offset : ℕ) →
+    ensures unified { (rules : List RewriteRule) (i j : ℕ) (inner outer : RewriteRule) →
+        (p : List ℕ) (overlap : Overlaps rules i j inner outer p) (offset : ℕ) →
         ((v : ℕ) → IsTrue (has_var v outer.left) → v < offset) →
         (σ : ℕ → Tree) × (apply σ overlap.part ≡ apply σ (shifted offset inner.left)) }
 {}
 
 /// A path by positions is a path by the numbers of its rules, as a decreasing peak wants it.
 pub fn followed_paths()
-    ensures labelled { (rules : List RewriteRule) (path : List PlacedRule) (t u : Tree) → Follows rules path t u →
-        LabelledPath (NumberedStep rules) (map (λ s. s.rule) path) t u }
+    ensures labelled { (rules : List RewriteRule) (path : List PlacedRule) (t u : Tree) →
+        Follows rules path t u → LabelledPath (NumberedStep rules) (map (λ s. s.rule) path) t u }
 {}
 
 /// A path whose positions are pairwise parallel is one parallel step, as a parallel closed peak
@@ -76,9 +76,10 @@ pub fn parallel_closed_peaks()
 /// join strongly, in both directions.
 pub fn strongly_closed_peaks()
     ensures confluent { (system : System) (peaks : List Peak) →
-        IsSystem system → AreLeftLinear system.rules → AreRightLinear system.rules → Covers system.rules peaks →
-        ((peak : Peak) → In peak peaks →
-        JoinsStrongly (Step system.rules) peak.left peak.right × JoinsStrongly (Step system.rules) peak.right peak.left) →
+        IsSystem system → AreLeftLinear system.rules → AreRightLinear system.rules →
+        Covers system.rules peaks → ((peak : Peak) → In peak peaks →
+        JoinsStrongly (Step system.rules) peak.left peak.right ×
+        JoinsStrongly (Step system.rules) peak.right peak.left) →
         IsConfluent system }
 {}
 
@@ -86,7 +87,8 @@ pub fn strongly_closed_peaks()
 /// confluent if the rules have ranks such that each peak of a list that covers it is decreasing.
 pub fn decreasing_peaks()
     ensures confluent { (system : System) (ranks : List ℕ) (peaks : List Peak) →
-        IsSystem system → AreLeftLinear system.rules → AreRightLinear system.rules → Covers system.rules peaks →
+        IsSystem system → AreLeftLinear system.rules → AreRightLinear system.rules →
+        Covers system.rules peaks →
         ((peak : Peak) → In peak peaks → IsDecreasing system.rules ranks peak) →
         IsConfluent system }
 {}

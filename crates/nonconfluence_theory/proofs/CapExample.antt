@@ -9,10 +9,8 @@ use Rattle.trs_defs.specs.Step.{here}
 use Rattle.cap_theory.specs.Cap.{Fits, fits_symbol, Cap, cap_symbol, caps_nil, constants_from}
 use Rattle.trs_defs.specs.Claims.{IsForked}
 use Rattle.nonconfluence_theory.proofs.CapClash.{clash_apart}
-use Rattle.nonconfluence_theory.proofs.CapFits.{caps_apart_forked}
-
-abbrev constant : ℕ → Tree
-constant f = app f nil
+use Rattle.nonconfluence_theory.proofs.CapsApart.{caps_apart_forked}
+use Rattle.nonconfluence_theory.proofs.Examples.{constant}
 
 abbrev pair : Tree
 pair = app 0 (cons (var 0) (cons (var 1) nil))

@@ -13,9 +13,9 @@ use Rattle.trs_defs.specs.Step.{here, deep, Step}
 use Rattle.trs_defs.specs.Claims.{IsConfluent, IsForked}
 use Rattle.trs_defs.specs.UniqueNormalForms.{HasUniqueNormalForms, IsSplit}
 use Rattle.trs_defs.proofs.NormalForms.{normal_stays}
-use Rattle.nonconfluence_theory.proofs.NormalForms.{split_forked, confluent_unique, forked_not_confluent}
+use Rattle.nonconfluence_theory.proofs.NormalForms.{split_forked, split_not_unique, confluent_unique, forked_not_confluent}
 
-abbrev constant : ℕ → Tree
+abbrev pub constant : ℕ → Tree
 constant f = app f nil
 
 abbrev leads : ℕ → ℕ → RewriteRule
@@ -49,6 +49,9 @@ fork_split = (
 
 fork_forked : IsForked fork
 fork_forked = split_forked fork fork_split
+
+fork_not_unique : HasUniqueNormalForms fork → ⊥
+fork_not_unique = split_not_unique fork fork_split
 
 fork_not_confluent : IsConfluent fork → ⊥
 fork_not_confluent = forked_not_confluent fork fork_forked

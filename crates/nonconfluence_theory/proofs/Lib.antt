@@ -1,5 +1,5 @@
 pub mod NormalForms
-pub mod CapFits
+pub mod CapsApart
 pub mod CapClash
 mod Examples
 mod CapExample

@@ -13,5 +13,8 @@ pub confluent_unique : (system : System) → IsConfluent system → HasUniqueNor
 confluent_unique system confluent s t u well (st, normal) (su, normal') =
     joinable_equal (Step system.rules) t u normal normal' (confluent s t u well st su)
 
+pub split_not_unique : (system : System) → IsSplit system → HasUniqueNormalForms system → ⊥
+split_not_unique system (s, t, u, well, st, su, different) unique = different (unique s t u well st su)
+
 pub forked_not_confluent : (system : System) → IsForked system → IsConfluent system → ⊥
 forked_not_confluent system (s, t, u, well, st, su, apart) confluent = apart (confluent s t u well st su)

@@ -20,25 +20,25 @@ ghost use Rattle.nonconfluence_theory.specs.Clash.{clash};
 /// Two different normal forms are not joinable, so a system is forked where a term reaches both.
 pub fn different_normal_forms()
     ensures apart { (rules : List RewriteRule) (t u : Tree) →
-        IsNormalForm (Step rules) t → IsNormalForm (Step rules) u → t ≢ u → IsJoinable (Step rules) t u → ⊥ }
+        IsNormalForm (Step rules) t → IsNormalForm (Step rules) u → t ≢ u →
+        IsJoinable (Step rules) t u → ⊥ }
     ensures forked { (system : System) (s t u : Tree) → IsWellFormed system.arities s →
         Reaches (Step system.rules) s t → Reaches (Step system.rules) s u →
-        IsNormalForm (Step system.rules) t → IsNormalForm (Step system.rules) u → t ≢ u → IsForked system }
+        IsNormalForm (Step system.rules) t → IsNormalForm (Step system.rules) u → t ≢ u →
+        IsForked system }
     ensures split { (system : System) → IsSplit system → IsForked system }
 {}
 
-/// What the instances of a term reach fits the term's cap (Giesl, Thiemann and Schneider-Kamp,
-/// 2005). So two terms are not joinable, if no term fits both the caps that they have when their
-/// variables are read by one substitution, as by fresh constants (Zankl, Felgenhauer and
-/// Middeldorp, CSI, a confluence tool, 2011; Aoto, Disproving confluence of term rewriting systems
-/// by interpretation and ordering, 2013).
+/// Two terms are not joinable, if no term fits both the caps that they have when their variables
+/// are read by one substitution, as by fresh constants (Zankl, Felgenhauer and Middeldorp, CSI, a
+/// confluence tool, 2011; Aoto, Disproving confluence of term rewriting systems by interpretation
+/// and ordering, 2013).
 pub fn caps_apart()
-    ensures fits { (rules : List RewriteRule) (t cap v : Tree) (instance : ℕ → Tree) →
-        Cap (Among rules) t cap → Reaches (Step rules) (apply instance t) v → Fits cap v }
     ensures apart { (rules : List RewriteRule) (t u c d : Tree) (read : ℕ → Tree) →
         Cap (Among rules) (apply read t) c → Cap (Among rules) (apply read u) d →
         ((v : Tree) → Fits c v → Fits d v → ⊥) → IsJoinable (Step rules) t u → ⊥ }
-    ensures forked { (system : System) (s t u c d : Tree) (read : ℕ → Tree) → IsWellFormed system.arities s →
+    ensures forked { (system : System) (s t u c d : Tree) (read : ℕ → Tree) →
+        IsWellFormed system.arities s →
         Reaches (Step system.rules) s t → Reaches (Step system.rules) s u →
         Cap (Among system.rules) (apply read t) c → Cap (Among system.rules) (apply read u) d →
         ((v : Tree) → Fits c v → Fits d v → ⊥) → IsForked system }
@@ -54,6 +54,11 @@ pub fn clashing_caps()
 /// section 2.1).
 pub fn unique_normal_forms()
     ensures unique { (system : System) → IsConfluent system → HasUniqueNormalForms system }
+{}
+
+/// A split system does not have unique normal forms.
+pub fn split_is_not_unique()
+    ensures { (system : System) → IsSplit system → HasUniqueNormalForms system → ⊥ }
 {}
 
 /// A forked system is not confluent.

@@ -1,9 +1,14 @@
--- A path whose ranks fit is a side.
+-- Sides: along a map that keeps the steps, and from a path whose ranks fit.
 use Rattle.std.proofs.Common.{ℕ, List, [], ◌∷◌, inl, inr, subst}
 use Rattle.trs_defs.specs.Run.{Run, Stay, Go, Same, Once}
 use Rattle.abstract_confluence.specs.Ranks.{BelowOne, Side}
 use Rattle.abstract_confluence.specs.LabelledPath.{LabelledPath}
 use Rattle.abstract_confluence.specs.RanksFit.{AreBelowOne, RanksFit}
+use Rattle.trs_defs.proofs.Runs.{run_along, once_along}
+
+pub side_along : {T U : Type 0} (R : ℕ → T → T → Type 0) (Q : ℕ → U → U → Type 0) (F : T → U) → ((a : ℕ) (s t : T) → R a s t → Q a (F s) (F t)) → (a b : ℕ) {t v : T} → Side R a b t v → Side Q a b (F t) (F v)
+side_along R Q F f a b (x, y, tx, xy, yv) =
+    (F x, F y, run_along F (λ s t (c, l, r). (c, l, f c s t r)) tx, once_along F (f b) xy, run_along F (λ s t (c, l, r). (c, l, f c s t r)) yv)
 
 low_path : {T : Type 0} (step : ℕ → T → T → Type 0) (a b : ℕ) (ranks : List ℕ) (t v : T) → AreBelowOne a b ranks → LabelledPath step ranks t v → Run (BelowOne step a b) t v
 low_path {T} step a b [] t v h e = let P : T → Type 0 = λ z. Run (BelowOne step a b) t z in subst P e Stay

@@ -1,33 +1,25 @@
--- What an instance of a term reaches fits the term's cap.
+-- Where caps are apart, terms are not joinable.
 use Rattle.std.proofs.Common.{ℕ, List}
 use Rattle.trs_defs.specs.Tree.{Tree}
 use Rattle.trs_defs.specs.Substitution.{apply}
 use Rattle.trs_defs.specs.WellFormed.{IsWellFormed}
 use Rattle.trs_defs.specs.System.{RewriteRule, System, Among}
-use Rattle.trs_defs.specs.Run.{Run, Stay, Go}
 use Rattle.trs_defs.specs.Derivation.{Reaches}
 use Rattle.trs_defs.specs.Joinable.{IsJoinable}
-use Rattle.trs_defs.specs.Step.{StepBy, Step}
+use Rattle.trs_defs.specs.Step.{Step}
 use Rattle.cap_theory.specs.Cap.{Fits, Cap}
 use Rattle.trs_defs.specs.Claims.{IsForked}
-use Rattle.cap_theory.proofs.CapLaws.{instance_fits, fits_itself, step_fits}
+use Rattle.cap_theory.proofs.CapLaws.{fits_itself, run_fits}
 use Rattle.trs_defs.proofs.Derivations.{run_of_reaches, reaches_carried}
 use Rattle.trs_defs.proofs.Substitutions.{step_closed}
 
-run_fits : {rule : Tree → Tree → Type 0} {t c : Tree} → Cap rule t c → {u v : Tree} → Fits c u → Run (StepBy rule) u v → Fits c v
-run_fits k p Stay = p
-run_fits {rule} k p (Go s run) = run_fits k (step_fits rule k p s) run
-
 module _ (rules : List RewriteRule) where
-  pub reached_fits : (t c v : Tree) (σ : ℕ → Tree) → Cap (Among rules) t c → Reaches (Step rules) (apply σ t) v → Fits c v
-  reached_fits t c v σ k d = run_fits k (instance_fits (Among rules) σ k) (run_of_reaches (Step rules) (apply σ t) v d)
-
-  -- the same for a term in which the variables are read by a substitution: steps go on under it
+  -- what a term reaches fits the cap that it has when its variables are read by a substitution: steps go on under it
   read_fits : (t c v : Tree) (read : ℕ → Tree) → Cap (Among rules) (apply read t) c → Reaches (Step rules) t v → Fits c (apply read v)
   read_fits t c v read k d =
       let go : Reaches (Step rules) (apply read t) (apply read v) =
       reaches_carried (Step rules) (Step rules) (apply read) (λ a b s. (step_closed (Among rules)).instance read a b s) t v d in
-      run_fits k (fits_itself (Among rules) k) (run_of_reaches (Step rules) (apply read t) (apply read v) go)
+      run_fits (Among rules) k (fits_itself (Among rules) k) (run_of_reaches (Step rules) (apply read t) (apply read v) go)
 
   pub caps_apart_not_joinable : (t u c d : Tree) (read : ℕ → Tree) → Cap (Among rules) (apply read t) c → Cap (Among rules) (apply read u) d
       → ((v : Tree) → Fits c v → Fits d v → ⊥) → IsJoinable (Step rules) t u → ⊥
