@@ -184,8 +184,8 @@ stopped_once system claim steps why other valid h k =
 not_below : (system : System) (claim : Claim) (steps : List ProofNodeStep) (n m : ℕ) → IsLeftOpen system claim steps n → IsLeftOpen system claim steps m → n < m → ⊥
 not_below system claim steps n m h k lt =
     let nodes = made_once system steps (first_nodes claim) h.nodes k.nodes h.makes k.makes in
-    let there = subst (λ (x : List Node). slice_get x n ≡ Some (open_node h.problem)) nodes h.there in
-    let closed = k.least n (open_node h.problem) lt there in cc
+    let there = subst (λ (x : List Node). slice_get x n ≡ Some (open_node h.least.problem)) nodes h.least.there in
+    let closed = k.least.least n (open_node h.least.problem) lt there in cc
 
 open_once : (system : System) (claim : Claim) (steps : List ProofNodeStep) (n m : ℕ) → IsLeftOpen system claim steps n → IsLeftOpen system claim steps m → n ≡ m
 open_once system claim steps n m h k = go (nat_lt n m) (nat_lt m n) refl refl
@@ -219,8 +219,8 @@ no_cause system claim steps why valid h (inl k) =
     not_made system steps (first_nodes claim) k.number k.nodes k.step h.nodes (halt_of system claim steps why valid k) h.makes
 no_cause system claim steps why valid h (inr k) =
     let nodes = made_once system steps (first_nodes claim) k.2.nodes h.nodes k.2.makes h.makes in
-    let there = subst (λ (x : List Node). slice_get x k.0 ≡ Some (open_node k.2.problem)) nodes k.2.there in
-    let closed = h.decided k.0 (open_node k.2.problem) there in cc
+    let there = subst (λ (x : List Node). slice_get x k.0 ≡ Some (open_node k.2.least.problem)) nodes k.2.least.there in
+    let closed = h.decided k.0 (open_node k.2.least.problem) there in cc
 
 -- steps that are accepted are rejected for want of memory alone
 pub accepted_only : (system : System) (claim : Claim) (steps : List ProofNodeStep) (why : Rejected) → IsSystem system → IsAccepted system claim steps → AreRejected system claim steps why → why ≡ OutOfMemory
