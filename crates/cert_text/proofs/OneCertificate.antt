@@ -1,6 +1,6 @@
 -- A certificate text has one reading: at most one proof or fault.
 use Rattle.std.proofs.Common.{◌≡◌, ◌≢◌, ◌⊎◌, inl, inr, ℕ, List, refl, sym, ap, ◌∙◌}
-use Rattle.ari_text.specs.Named.{NamedSystem}
+use Rattle.names_text.specs.Named.{NamedSystem}
 use Rattle.ari_text.proofs.OneSystem.{same_items}
 use Rattle.cert_text.specs.declared.fault.CertFault.{CertFault}
 use Rattle.cert_text.specs.declared.fault.CertFault.TheVariants.{Text, Version, OutOfMemory}

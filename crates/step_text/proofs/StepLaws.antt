@@ -2,7 +2,7 @@
 use Rattle.std.proofs.Common.{◌≡◌, ◌≤◌, [], ◌∷◌, length, codes, refl, subst, arith}
 use Rattle.sexp_core.specs.Tokens.{class_of}
 use Rattle.sexp_core.specs.Printed.{IsWord}
-use Rattle.ari_text.specs.Named.{NamedSystem, IsNamed}
+use Rattle.names_text.specs.Named.{NamedSystem, IsNamed}
 use Rattle.cert_step.specs.ProofStep.{ProofStep, loop, fork, ProofNodeStep, IsWellMade}
 use Rattle.text_reading.specs.Reading.{keyword, done}
 use Rattle.text_reading.specs.Numbers.{number}

@@ -1,12 +1,12 @@
 -- `(step number method)`, and the methods by their words.
 use Rattle.std.specs.Prelude.{ℕ, List, [], ◌∷◌, codes}
 use Rattle.sexp_core.specs.Items.{Item}
-use Rattle.ari_text.specs.Named.{NamedSystem}
+use Rattle.names_text.specs.Named.{NamedSystem}
 use Rattle.cert_step.specs.ProofStep.{ProofStep, loop, fork, ProofNodeStep}
 use Rattle.text_reading.specs.Reading.{Read, Kind, done, part, keyword, list, by_word}
 use Rattle.text_reading.specs.Numbers.{number}
 use Rattle.text_reading.specs.Printed.{word_item, number_item, list_item}
-use Rattle.own_term_text.specs.Renumbered.{in_order}
+use Rattle.term_text.specs.Renumbered.{in_order}
 use Rattle.step_text.specs.LoopText.{loop_kind, loop_item}
 use Rattle.step_text.specs.ForkText.{fork_kind, fork_item}
 
