@@ -3,7 +3,7 @@ use Rattle.std.specs.Prelude.{◌≡◌, ◌<◌, ℕ, List, [], ◌∷◌, leng
 use Rattle.std.proofs.Common.{zero, suc, arith}
 use Rattle.std.specs.List.{AllByRecursion}
 use Rattle.std.proofs.lemmas.List.Elements.{recursion_from_All}
-use Rattle.trs_defs.specs.DependencyPair.{DependencyPair, dependency_pairs}
+use Rattle.pair_theory.specs.DependencyPair.{DependencyPair, dependency_pairs}
 use Rattle.cert_step.specs.ProofProblem.{ArePairsOf}
 use Rattle.cert_step.specs.Laws.{ProblemsHavePairs, PairsAreOne}
 

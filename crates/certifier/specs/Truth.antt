@@ -1,6 +1,6 @@
 -- What an acceptance means: the theorem of the certifier.
 use Rattle.std.specs.Prelude.{ℕ, List}
-use Rattle.ari_text.specs.Named.{NamedSystem}
+use Rattle.names_text.specs.Named.{NamedSystem}
 use Rattle.ari_text.specs.Problem.{SaysSystem}
 use Rattle.cert_step.specs.declared.claim.Claim.{Claim}
 use Rattle.cert_step.specs.ProofProblem.{Says}
