@@ -5,7 +5,8 @@ use Rattle.ari_text.proofs.OneSystem.{same_items}
 use Rattle.cert_text.specs.declared.fault.CertFault.{CertFault}
 use Rattle.cert_text.specs.declared.fault.CertFault.TheVariants.{Text, Version, OutOfMemory}
 use Rattle.cert_text.specs.ProofText.{ProofText}
-use Rattle.cert_text.specs.CertificateText.{place_of_text_fault, SaysCertificate, HasCertificateFault, IsUnreadable, IsCertificateRefused}
+use Rattle.cert_text.specs.Unreadable.{from_text}
+use Rattle.cert_text.specs.CertificateText.{SaysCertificate, HasCertificateFault, IsUnreadable, IsCertificateRefused}
 
 pub one_certificate : (named : NamedSystem) (text : List ℕ) (s t : ProofText) → SaysCertificate named text s → SaysCertificate named text t → s ≡ t
 one_certificate named text s t h k =
@@ -39,7 +40,7 @@ same_cause : (named : NamedSystem) (text : List ℕ) (f g : CertFault) → Cause
 same_cause named text f g (inl h) (inl k) =
     let first = h.2.fault in let second = k.2.fault in
     let same : h.2.cause ≡ k.2.cause = cc in
-    h.1 ∙ ap (λ p. Text p) (h.2.place ∙ ap place_of_text_fault same ∙ sym k.2.place) ∙ sym k.1
+    h.1 ∙ sym h.2.place ∙ ap from_text same ∙ k.2.place ∙ sym k.1
 same_cause named text f g (inl h) (inr k) = let some = h.2.fault in let none = k.readable in absurd cc
 same_cause named text f g (inr h) (inl k) = let none = h.readable in let some = k.2.fault in absurd cc
 same_cause named text f g (inr h) (inr k) =
