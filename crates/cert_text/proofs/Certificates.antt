@@ -4,7 +4,7 @@ use Rattle.sexp_core.specs.declared.fault.TextFault.{TextFault}
 use Rattle.sexp_core.specs.declared.fault.TextFault.TheVariants as text
 use Rattle.sexp_core.specs.Items.{Items}
 use Rattle.sexp_core.specs.Reads.{Reads, Fails, fault_of}
-use Rattle.ari_text.specs.Named.{NamedSystem}
+use Rattle.names_text.specs.Named.{NamedSystem}
 use Rattle.cert_text.specs.declared.fault.CertFault.{CertFault}
 use Rattle.cert_text.specs.declared.fault.CertFault.TheVariants.{Text, Version, OutOfMemory}
 use Rattle.cert_text.specs.Unreadable.{from_text}

@@ -4,7 +4,7 @@ use Rattle.std.specs.List.{All, AllByRecursion}
 use Rattle.std.proofs.lemmas.List.Elements.{All-from_recursion}
 use Rattle.sexp_core.specs.Items.{Items, no_items, item}
 use Rattle.trs_defs.specs.System.{System}
-use Rattle.ari_text.specs.Named.{NamedSystem, IsNamed}
+use Rattle.names_text.specs.Named.{NamedSystem, IsNamed}
 use Rattle.cert_step.specs.ProofStep.{ProofNodeStep, IsWellMade}
 use Rattle.cert_step.specs.declared.claim.Claim.{Claim}
 use Rattle.text_reading.specs.Reading.{Read, ◌<*>◌, many}

@@ -4,7 +4,7 @@ use Rattle.std.specs.Prelude.{◌≡◌, ◌⊎◌, ◌==◌, ℕ, Bool, List, l
 use Rattle.sexp_core.specs.Items.{Item, Items, no_items, item, items_of}
 use Rattle.sexp_core.specs.Reads.{Reads, fault_of}
 use Rattle.sexp_core.specs.declared.fault.TextFault.{TextFault}
-use Rattle.ari_text.specs.Named.{NamedSystem}
+use Rattle.names_text.specs.Named.{NamedSystem}
 use Rattle.cert_step.specs.declared.claim.Claim.{Claim}
 use Rattle.cert_step.specs.ProofStep.{ProofNodeStep}
 use Rattle.text_reading.specs.Reading.{Read, ◌<*>◌, many}

@@ -2,7 +2,7 @@ ghost use Rattle.std.specs.Prelude.{◌≡◌, ◌++◌, map, All, OnOk, IfOk};
 ghost use Rattle.std.specs.List.{AllByRecursion};
 ghost use Rattle.sexp_core.specs.Items.{items_of};
 ghost use Rattle.sexp_core.specs.Printed.{text_of, lines};
-ghost use Rattle.ari_text.specs.VariableNames.{underscores as underscores_of};
+ghost use Rattle.names_text.specs.VariableNames.{underscores as underscores_of};
 ghost use Rattle.cert_step.specs.ProofStep.{step_of, node_step_of};
 ghost use Rattle.step_text.specs.Ranges.{HasNumbersInRange, IsPrintable};
 ghost use Rattle.step_text.specs.Steps.{step_item};
@@ -12,7 +12,7 @@ ghost use Rattle.cert_text.specs.Renumbered.{renumbered};
 
 use crate::Certificate;
 use crate::head::{claim_word, headline_word};
-use ari_text::{NamedTrs, underscores};
+use names_text::{NamedTrs, underscores};
 use cert_step::NodeStep;
 use std::alloc::Global;
 use step_text::put_step;

@@ -1,6 +1,6 @@
 ghost use Rattle.std.specs.Prelude.{◌≡◌, ◌≤◌, ◌^◌, length, map, All, IfOk, IfErr, MatchResult};
 ghost use Rattle.sexp_core.specs.Items.{view, views};
-ghost use Rattle.ari_text.specs.Named.{NamedSystem};
+ghost use Rattle.names_text.specs.Named.{NamedSystem};
 ghost use Rattle.cert_step.specs.ProofStep.{IsWellMade, node_step_of};
 ghost use Rattle.text_reading.specs.Reading.{many};
 ghost use Rattle.text_reading.specs.Seen.{seen};
@@ -13,7 +13,7 @@ ghost use Rattle.cert_text.specs.CertificateText.{behind_head, behind_headline, 
 use crate::certificate::Certificate;
 use crate::fault::CertFault;
 use crate::head::{Head, read_head, read_headline};
-use ari_text::NamedTrs;
+use names_text::NamedTrs;
 use cert_step::NodeStep;
 use sexp_core::{Sexp, read_all};
 use std::alloc::Global;

@@ -2,7 +2,7 @@
 use Rattle.std.proofs.Common.{◌≡◌, ℕ, ◌*◌, suc, refl, arith, Bool, true, false, ◌||◌, ◌==◌, if◌then◌else◌}
 use Rattle.trs_defs.specs.Tree.{Tree, Trees, var, app, nil, cons}
 use Rattle.trs_defs.specs.Variable.{has_var, some_has_var, occurrences, occurrences_in_all}
-use Rattle.trs_defs.specs.LinearInterpretation.{coefficient, coefficients}
+use Rattle.order_theory.specs.LinearInterpretation.{coefficient, coefficients}
 
 neither : (a b : Bool) → (a || b) ≡ false → (a ≡ false) × (b ≡ false)
 neither true b e = absurd cc

@@ -2,8 +2,8 @@
 use Rattle.std.proofs.Common.{◌≡◌, ℕ, zero, suc, ◌+◌, ◌*◌, ◌≤◌, ◌<◌, refl, ap, arith, Bool, true, false, ◌==◌, if◌then◌else◌}
 use native.Mathlib.Decide.{ℕ_discrete, dec_le}
 use Rattle.trs_defs.specs.Tree.{Tree, var, app, Trees, nil, cons}
-use Rattle.trs_defs.specs.Subterm.{Sub, itself, under, Subs, in_head, in_tail}
-use Rattle.trs_defs.specs.LinearInterpretation.{value, values, constant, constants, coefficient, coefficients, LinearWeak, LinearStrict, CoefficientWeak, CoefficientStrict}
+use Rattle.pair_theory.specs.Subterm.{Sub, itself, under, Subs, in_head, in_tail}
+use Rattle.order_theory.specs.LinearInterpretation.{value, values, constant, constants, coefficient, coefficients, LinearWeak, LinearStrict, CoefficientWeak, CoefficientStrict}
 use Rattle.pair_theory.proofs.Terms.{below_root, not_in_nil}
 
 abbrev pub sum_to : ℕ → (ℕ → ℕ) → ℕ

@@ -4,15 +4,15 @@ use Rattle.trs_defs.specs.Member.{In, in_first, in_rest}
 use Rattle.trs_defs.specs.Tree.{Tree, var, app, nil, cons}
 use Rattle.trs_defs.specs.System.{RewriteRule, System, IsRule, IsSystem}
 use Rattle.trs_defs.specs.Claims.{IsTerminating}
-use Rattle.trs_defs.specs.Subterm.{ProperSubterm, proper, itself, in_head}
-use Rattle.trs_defs.specs.Marked.{marked, mark}
-use Rattle.trs_defs.specs.DependencyPair.{DependencyPair, dependency_pairs}
-use Rattle.trs_defs.specs.PairProblem.{IsFiniteProblem}
-use Rattle.trs_defs.specs.SubtermCriterion.{Projects}
-use Rattle.trs_defs.specs.LinearInterpretation.{CoefficientWeak, CoefficientStrict}
-use Rattle.trs_defs.specs.PathTest.{path_greater}
-use Rattle.trs_defs.specs.ArgumentFilter.{ArgumentFilter, Keep, filtered, PathWeak, PathStrict}
-use Rattle.trs_defs.specs.KnuthBendix.{KnuthGreater, by_weight, by_head, KnuthWeak, IsAdmissible, IsOver, arity_with_marks}
+use Rattle.pair_theory.specs.Subterm.{ProperSubterm, proper, itself, in_head}
+use Rattle.pair_theory.specs.Marked.{marked, mark}
+use Rattle.pair_theory.specs.DependencyPair.{DependencyPair, dependency_pairs}
+use Rattle.pair_theory.specs.PairProblem.{IsFiniteProblem}
+use Rattle.pair_theory.specs.SubtermCriterion.{Projects}
+use Rattle.order_theory.specs.LinearInterpretation.{CoefficientWeak, CoefficientStrict}
+use Rattle.order_theory.specs.PathTest.{path_greater}
+use Rattle.order_theory.specs.ArgumentFilter.{ArgumentFilter, Keep, filtered, PathWeak, PathStrict}
+use Rattle.order_theory.specs.KnuthBendix.{KnuthGreater, by_weight, by_head, KnuthWeak, IsAdmissible, IsOver, arity_with_marks}
 use Rattle.trs_defs.proofs.Members.{in_of_get}
 use Rattle.pair_theory.proofs.Members.{no_in}
 use Rattle.pair_theory.proofs.PairList.{listed_are_pairs}

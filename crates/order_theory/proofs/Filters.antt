@@ -3,15 +3,16 @@ use Rattle.std.proofs.Common.{◌≡◌, ℕ, zero, suc, ◌-◌, ◌≤◌, ref
 use Rattle.trs_defs.specs.Tree.{Tree, var, app, Trees, nil, cons}
 use Rattle.trs_defs.specs.Substitution.{apply, apply_all}
 use Rattle.trs_defs.specs.Step.{RootStep, StepBy, here, deep, first, later}
-use Rattle.trs_defs.specs.Terminates.{ArgumentStep, Terminates}
+use Rattle.pair_theory.specs.Terminates.{ArgumentStep, Terminates}
 use Rattle.trs_defs.specs.Bounded.{IsBoundedBy}
 use Rattle.trs_defs.specs.System.{RewriteRule, Among}
 use Rattle.trs_defs.specs.Member.{In}
 use Rattle.trs_defs.specs.Run.{Run, Stay, Go}
-use Rattle.trs_defs.specs.PathOrder.{PathGreater}
-use Rattle.trs_defs.specs.ArgumentFilter.{ArgumentFilter, To, Keep, item_or, keep_one, select, by_filter, filtered, filtered_all, PathStrict, PathWeak}
-use Rattle.trs_defs.specs.Moves.{Moves, no_moves, weakly, strictly, MovesAtMost, IsWellFounded}
-use Rattle.trs_defs.specs.ReductionPair.{AllTerms}
+use Rattle.order_theory.specs.PathOrder.{PathGreater}
+use Rattle.order_theory.specs.ArgumentFilter.{ArgumentFilter, To, Keep, keep_one, select, by_filter, filtered, filtered_all, PathStrict, PathWeak}
+use Rattle.pair_theory.specs.ItemOr.{item_or}
+use Rattle.pair_theory.specs.Moves.{Moves, no_moves, weakly, strictly, MovesAtMost, IsWellFounded}
+use Rattle.pair_theory.specs.ReductionPair.{AllTerms}
 use Rattle.pair_theory.proofs.Accessibility.{looser, run_on, run_map}
 use Rattle.pair_theory.proofs.Terms.{join_cons}
 use Rattle.pair_theory.proofs.Bounds.{bounded, NoNewVariables}

@@ -2,9 +2,9 @@
 use Rattle.std.proofs.Common.{◌≡◌, ℕ, zero, suc, ◌+◌, ◌≤◌, ◌<◌, refl, sym, ap, subst, arith, ◌∙◌, Option, Some, None}
 use native.Mathlib.Decide.{dec_lt, ℕ_discrete}
 use Rattle.trs_defs.specs.Tree.{Tree, var, app, Trees, nil, cons, count}
-use Rattle.trs_defs.specs.Accessible.{Acc, acc}
+use Rattle.pair_theory.specs.Accessible.{Acc, acc}
 use Rattle.trs_defs.specs.Every.{Every, every_nil, every_cons}
-use Rattle.trs_defs.specs.KnuthBendix.{IsOver, AreOver, IsAdmissible, weigh, weigh_all, KnuthGreater, by_weight, by_tower, by_head, by_args, KnuthLexGreater, heavier_here, heavier_later}
+use Rattle.order_theory.specs.KnuthBendix.{IsOver, AreOver, IsAdmissible, weigh, weigh_all, KnuthGreater, by_weight, by_tower, by_head, by_args, KnuthLexGreater, heavier_here, heavier_later}
 use Rattle.pair_theory.proofs.Accessibility.{down, acc_induction}
 
 pub some_same : {m n : ℕ} → Some m ≡ Some n → m ≡ n

@@ -3,13 +3,13 @@ use Rattle.std.proofs.Common.{◌≡◌, ℕ, zero, suc, ◌+◌, ◌*◌, ◌�
 use native.Mathlib.Decide.{dec_lt, ℕ_discrete}
 use Rattle.trs_defs.specs.Tree.{Tree, var, app, Trees, nil, cons, count}
 use Rattle.trs_defs.specs.Substitution.{apply, apply_all}
-use Rattle.trs_defs.specs.Accessible.{acc}
+use Rattle.pair_theory.specs.Accessible.{acc}
 use Rattle.trs_defs.specs.Step.{Inside, InsideOne, StepBy, here, deep, first, later}
-use Rattle.trs_defs.specs.Terminates.{ArgumentStep, Terminates}
-use Rattle.trs_defs.specs.Subterm.{Sub}
-use Rattle.trs_defs.specs.KnuthBendix.{IsOver, AreOver, IsAdmissible, KeepsOccurrences, KnuthWeak, weigh, weigh_all, Tower, one_high, higher, KnuthGreater, by_weight, by_tower, by_head, by_args, KnuthLexGreater, heavier_here, heavier_later}
+use Rattle.pair_theory.specs.Terminates.{ArgumentStep, Terminates}
+use Rattle.pair_theory.specs.Subterm.{Sub}
+use Rattle.order_theory.specs.KnuthBendix.{IsOver, AreOver, IsAdmissible, KeepsOccurrences, KnuthWeak, weigh, weigh_all, Tower, one_high, higher, KnuthGreater, by_weight, by_tower, by_head, by_args, KnuthLexGreater, heavier_here, heavier_later}
 use Rattle.pair_theory.proofs.Terms.{count_apply_all}
-use Rattle.trs_defs.specs.LinearInterpretation.{value, values, constant, constants, coefficient, coefficients}
+use Rattle.order_theory.specs.LinearInterpretation.{value, values, constant, constants, coefficient, coefficients}
 use Rattle.trs_defs.specs.Variable.{occurrences, occurrences_in_all}
 use Rattle.order_theory.proofs.Coefficients.{by_coefficients, mul_le, value_sum, vars_below, sum_to}
 use Rattle.order_theory.proofs.KnuthAccessible.{some_same, weigh_pos, knuth_acc}

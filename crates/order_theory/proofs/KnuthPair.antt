@@ -3,19 +3,19 @@ use Rattle.std.proofs.Common.{◌≡◌, ℕ, zero, suc, ◌+◌, ◌-◌, ◌�
 use Rattle.trs_defs.specs.Tree.{Tree, Trees, var, app, nil, cons, count}
 use Rattle.trs_defs.specs.Substitution.{apply}
 use Rattle.trs_defs.specs.Step.{RootStep, StepBy, here, deep, first, later}
-use Rattle.trs_defs.specs.Terminates.{ArgumentStep, Terminates}
+use Rattle.pair_theory.specs.Terminates.{ArgumentStep, Terminates}
 use Rattle.trs_defs.specs.Bounded.{IsBoundedBy}
 use Rattle.trs_defs.specs.System.{RewriteRule, Among}
 use Rattle.trs_defs.specs.Member.{In}
-use Rattle.trs_defs.specs.Subterm.{Sub}
+use Rattle.pair_theory.specs.Subterm.{Sub}
 use Rattle.trs_defs.specs.Run.{Run, Stay, Go}
 use Rattle.trs_defs.specs.WellFormed.{IsWellFormed, AreWellFormed}
-use Rattle.trs_defs.specs.Moves.{Moves, no_moves, weakly, strictly, MovesAtMost, IsOrdered, IsWellFounded}
+use Rattle.pair_theory.specs.Moves.{Moves, no_moves, weakly, strictly, MovesAtMost, IsOrdered, IsWellFounded}
 use Rattle.pair_theory.proofs.Accessibility.{looser, run_map}
 use Rattle.pair_theory.proofs.Bounds.{bounded}
 use Rattle.order_theory.proofs.Fallers.{fallers, images, base_in, faller, origin, Origin, image_in, of_image}
-use Rattle.trs_defs.specs.ReductionPair.{ReductionPair, Speaks}
-use Rattle.trs_defs.specs.KnuthBendix.{KnuthGreater, KnuthWeak, IsAdmissible, IsOver, AreOver, arity_with_marks}
+use Rattle.pair_theory.specs.ReductionPair.{ReductionPair, Speaks}
+use Rattle.order_theory.specs.KnuthBendix.{KnuthGreater, KnuthWeak, IsAdmissible, IsOver, AreOver, arity_with_marks}
 use Rattle.order_theory.proofs.Over.{over_apply, each_over}
 use Rattle.order_theory.proofs.KnuthLaws.{falling_terminates, heavy_apply, heavy_trans, weak_context}
 

@@ -3,13 +3,13 @@ use Rattle.std.proofs.Common.{◌≡◌, ℕ, suc, ◌+◌, ◌*◌, ◌≤◌, 
 use Rattle.trs_defs.specs.Tree.{Tree, var, app, Trees, nil, cons}
 use Rattle.trs_defs.specs.Substitution.{apply, apply_all}
 use Rattle.trs_defs.specs.Step.{Inside, InsideOne, StepBy, here, deep, first, later}
-use Rattle.trs_defs.specs.Terminates.{ArgumentStep}
+use Rattle.pair_theory.specs.Terminates.{ArgumentStep}
 use Rattle.trs_defs.specs.System.{RewriteRule, Among}
 use Rattle.trs_defs.specs.Member.{In}
-use Rattle.trs_defs.specs.LinearInterpretation.{value, values, LinearWeak, LinearStrict}
-use Rattle.trs_defs.specs.ReductionPair.{ReductionPair, AllTerms}
+use Rattle.order_theory.specs.LinearInterpretation.{value, values, LinearWeak, LinearStrict}
+use Rattle.pair_theory.specs.ReductionPair.{ReductionPair, AllTerms}
 use Rattle.order_theory.proofs.PathPair.{each_term}
-use Rattle.trs_defs.specs.Moves.{Moves, no_moves, weakly, strictly, IsWellFounded}
+use Rattle.pair_theory.specs.Moves.{Moves, no_moves, weakly, strictly, IsWellFounded}
 
 times_le : (k m n : ℕ) → m ≤ n → k * m ≤ k * n
 times_le k m n h = grind arith

@@ -4,9 +4,9 @@ use Rattle.trs_defs.specs.Tree.{Tree, var, app, Trees, nil, cons, count}
 use Rattle.trs_defs.specs.Substitution.{apply, apply_all}
 use Rattle.trs_defs.specs.Step.{StepBy, here, deep, first, later}
 use Rattle.trs_defs.specs.Every.{Every, every_nil, every_cons}
-use Rattle.trs_defs.specs.Terminates.{ArgumentStep}
-use Rattle.trs_defs.specs.Subterm.{Sub, itself, under, Subs, in_head, in_tail}
-use Rattle.trs_defs.specs.KnuthBendix.{IsOver, AreOver}
+use Rattle.pair_theory.specs.Terminates.{ArgumentStep}
+use Rattle.pair_theory.specs.Subterm.{Sub, itself, under, Subs, in_head, in_tail}
+use Rattle.order_theory.specs.KnuthBendix.{IsOver, AreOver}
 use Rattle.pair_theory.proofs.Terms.{count_apply_all}
 
 module _ (arity : ℕ → Option ℕ) where

@@ -1,9 +1,9 @@
 -- The path order is well-founded: each term is accessible.
 use Rattle.std.proofs.Common.{◌≡◌, ℕ, zero, suc, ◌+◌, ◌<◌, refl, sym, ap, subst, arith, ◌∙◌}
 use Rattle.trs_defs.specs.Tree.{Tree, var, app, Trees, nil, cons, count}
-use Rattle.trs_defs.specs.Accessible.{Acc, acc}
+use Rattle.pair_theory.specs.Accessible.{Acc, acc}
 use Rattle.trs_defs.specs.Every.{Every, every_nil, every_cons}
-use Rattle.trs_defs.specs.PathOrder.{PathGreater, by_arg, by_rank, by_lex, SomeAtLeast, equal_here, greater_here, further, GreaterThanAll, all_cons, LexGreater, lex_here, lex_later}
+use Rattle.order_theory.specs.PathOrder.{PathGreater, by_arg, by_rank, by_lex, SomeAtLeast, equal_here, greater_here, further, GreaterThanAll, all_cons, LexGreater, lex_here, lex_later}
 use Rattle.pair_theory.proofs.Terms.{app_root, app_args}
 use Rattle.pair_theory.proofs.Accessibility.{down, acc_induction}
 

@@ -1,10 +1,10 @@
 -- The test decides the order.
 use Rattle.std.proofs.Common.{◌≡◌, ℕ, ◌<◌, refl, sym, ap, subst, arith, List, Bool, true, false, cond, ◌||◌, ◌&&◌, nat_eq, nat_lt, Decides, true≢false}
 use Rattle.trs_defs.specs.Tree.{Tree, var, app, Trees, nil, cons, count}
-use Rattle.trs_defs.specs.Accessible.{Acc, acc}
+use Rattle.pair_theory.specs.Accessible.{Acc, acc}
 use Rattle.trs_defs.specs.Every.{Every, every_nil, every_cons}
-use Rattle.trs_defs.specs.PathOrder.{PathGreater, by_arg, by_rank, by_lex, SomeAtLeast, equal_here, greater_here, further, GreaterThanAll, all_nil, all_cons, LexGreater, lex_here, lex_later}
-use Rattle.trs_defs.specs.PathTest.{same_tree, same_trees, some_at_least, lex_greater, app_greater, app_greater_than_all, path_greater, path_greater_each}
+use Rattle.order_theory.specs.PathOrder.{PathGreater, by_arg, by_rank, by_lex, SomeAtLeast, equal_here, greater_here, further, GreaterThanAll, all_nil, all_cons, LexGreater, lex_here, lex_later}
+use Rattle.order_theory.specs.PathTest.{same_tree, same_trees, some_at_least, lex_greater, app_greater, app_greater_than_all, path_greater, path_greater_each}
 use Rattle.pair_theory.proofs.Terms.{join_app, join_cons}
 use Rattle.order_theory.proofs.PathAccessible.{path_acc}
 

@@ -2,15 +2,15 @@
 use Rattle.std.proofs.Common.{◌≡◌, refl, sym, ap, ◌∙◌, ◌+◌, Bool, Option, Some, None, is_some, IsTrue, ◌≤◌, ℕ, List, ◌⊎◌, inl, inr, length}
 use Rattle.trs_defs.specs.Member.{In}
 use Rattle.trs_defs.specs.Tree.{Tree, Trees, var, app, nil, cons, count}
-use Rattle.trs_defs.specs.Erased.{HasEntries, HaveEntries, by_root, erased, erased_all}
+use Rattle.pair_theory.specs.Erased.{HasEntries, HaveEntries, by_root, erased, erased_all}
 use Rattle.trs_defs.specs.System.{RewriteRule, System, IsSystem}
-use Rattle.trs_defs.specs.Marked.{mark}
-use Rattle.trs_defs.specs.DependencyPair.{DependencyPair}
-use Rattle.trs_defs.specs.PairProblem.{IsFiniteProblem, IsPair}
-use Rattle.trs_defs.specs.ReductionPair.{Speaks, AllTerms}
-use Rattle.trs_defs.specs.ArgumentFilter.{ArgumentFilter, PathStrict, PathWeak}
-use Rattle.trs_defs.specs.LinearInterpretation.{LinearWeak, LinearStrict, CoefficientWeak, CoefficientStrict}
-use Rattle.trs_defs.specs.KnuthBendix.{KnuthGreater, KnuthWeak, IsOver, AreOver, arity_with_marks, IsAdmissible}
+use Rattle.pair_theory.specs.Marked.{mark}
+use Rattle.pair_theory.specs.DependencyPair.{DependencyPair}
+use Rattle.pair_theory.specs.PairProblem.{IsFiniteProblem, IsPair}
+use Rattle.pair_theory.specs.ReductionPair.{Speaks, AllTerms}
+use Rattle.order_theory.specs.ArgumentFilter.{ArgumentFilter, PathStrict, PathWeak}
+use Rattle.order_theory.specs.LinearInterpretation.{LinearWeak, LinearStrict, CoefficientWeak, CoefficientStrict}
+use Rattle.order_theory.specs.KnuthBendix.{KnuthGreater, KnuthWeak, IsOver, AreOver, arity_with_marks, IsAdmissible}
 use Rattle.pair_theory.proofs.Problems.{removal_theorem, removal_erased}
 use Rattle.order_theory.proofs.Filters.{path_well_founded}
 use Rattle.order_theory.proofs.Linear.{linear_well_founded}

@@ -4,11 +4,11 @@ use native.Mathlib.Decide.{dec_le}
 use Rattle.trs_defs.specs.Tree.{Tree, var, app, Trees, nil, cons}
 use Rattle.trs_defs.specs.Substitution.{apply}
 use Rattle.trs_defs.specs.Step.{StepBy, here, deep, first, later}
-use Rattle.trs_defs.specs.Terminates.{ArgumentStep, Terminates}
+use Rattle.pair_theory.specs.Terminates.{ArgumentStep, Terminates}
 use Rattle.trs_defs.specs.Bounded.{IsBoundedBy}
 use Rattle.trs_defs.specs.System.{RewriteRule, Among}
 use Rattle.trs_defs.specs.Member.{In, in_first, in_rest}
-use Rattle.trs_defs.specs.Subterm.{Sub}
+use Rattle.pair_theory.specs.Subterm.{Sub}
 use Rattle.pair_theory.proofs.Members.{in_case, no_in}
 use Rattle.pair_theory.proofs.Accessibility.{acc_induction, looser}
 use Rattle.pair_theory.proofs.Matching.{found, matched, matches, same_apply}

@@ -2,12 +2,12 @@
 use Rattle.std.proofs.Common.{◌≡◌, ℕ, sym, ap, subst, ◌∙◌}
 use Rattle.trs_defs.specs.Tree.{Tree, Trees}
 use Rattle.trs_defs.specs.Substitution.{apply_all}
-use Rattle.trs_defs.specs.Terminates.{ArgumentStep}
+use Rattle.pair_theory.specs.Terminates.{ArgumentStep}
 use Rattle.trs_defs.specs.Run.{Run, Stay, Go}
-use Rattle.trs_defs.specs.Marked.{Marked, marked}
-use Rattle.trs_defs.specs.Cap.{EachFits, Caps}
-use Rattle.trs_defs.specs.Chain.{ChainStep, link}
-use Rattle.trs_defs.proofs.CapLaws.{instances_fit, steps_fit}
+use Rattle.pair_theory.specs.Marked.{Marked, marked}
+use Rattle.cap_theory.specs.Cap.{EachFits, Caps}
+use Rattle.pair_theory.specs.Chain.{ChainStep, link}
+use Rattle.cap_theory.proofs.CapLaws.{instances_fit, steps_fit}
 
 module _ (rule : Tree → Tree → Type 0) where
   run_fits : {ts cs us us' : Trees} → Caps rule ts cs → EachFits cs us → Run (ArgumentStep rule) us us' → EachFits cs us'

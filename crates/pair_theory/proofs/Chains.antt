@@ -3,15 +3,15 @@ use Rattle.std.proofs.Common.{◌≡◌, ℕ, zero, suc, ◌+◌, ◌≤◌, ◌
 use native.Mathlib.Decide.{dec_le}
 use Rattle.trs_defs.specs.Tree.{Tree, var, app, Trees, nil, cons, count}
 use Rattle.trs_defs.specs.Substitution.{apply, apply_all}
-use Rattle.trs_defs.specs.Accessible.{Acc, acc}
+use Rattle.pair_theory.specs.Accessible.{Acc, acc}
 use Rattle.trs_defs.specs.Step.{StepBy, here, deep, first, later}
-use Rattle.trs_defs.specs.Terminates.{ArgumentStep, Terminates}
-use Rattle.trs_defs.specs.Subterm.{Sub, itself, under, Subs, in_head, in_tail}
+use Rattle.pair_theory.specs.Terminates.{ArgumentStep, Terminates}
+use Rattle.pair_theory.specs.Subterm.{Sub, itself, under, Subs, in_head, in_tail}
 use Rattle.trs_defs.specs.Every.{Every}
 use Rattle.trs_defs.specs.Run.{Run, Stay, Go}
 use Rattle.trs_defs.specs.WellFormed.{IsWellFormed, AreWellFormed}
-use Rattle.trs_defs.specs.Marked.{Marked, plain}
-use Rattle.trs_defs.specs.Chain.{ChainStep, link}
+use Rattle.pair_theory.specs.Marked.{Marked, plain}
+use Rattle.pair_theory.specs.Chain.{ChainStep, link}
 use Rattle.pair_theory.proofs.Accessibility.{acc_induction}
 use Rattle.pair_theory.proofs.Terms.{count_apply_all}
 

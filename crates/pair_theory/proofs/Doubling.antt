@@ -6,13 +6,13 @@ use Rattle.trs_defs.specs.Tree.{Tree, Trees, var, app, nil, cons}
 use Rattle.trs_defs.specs.System.{RewriteRule, System, IsRule, IsSystem, Among}
 use Rattle.trs_defs.specs.Claims.{IsTerminating}
 use Rattle.trs_defs.specs.Substitution.{apply_all}
-use Rattle.trs_defs.specs.Subterm.{ProperSubterm, proper, itself, in_head}
-use Rattle.trs_defs.specs.Marked.{marked}
-use Rattle.trs_defs.specs.DependencyPair.{DependencyPair, dependency_pairs}
-use Rattle.trs_defs.specs.PairProblem.{IsFiniteProblem, IsPair}
-use Rattle.trs_defs.specs.Cap.{Caps, cap_variable, caps_nil, caps_cons, EachFits}
-use Rattle.trs_defs.specs.PairGraph.{IsCapEstimate, IsGrouped, GroupEnds, by_problem, by_no_edge}
-use Rattle.trs_defs.specs.SubtermCriterion.{Projects}
+use Rattle.pair_theory.specs.Subterm.{ProperSubterm, proper, itself, in_head}
+use Rattle.pair_theory.specs.Marked.{marked}
+use Rattle.pair_theory.specs.DependencyPair.{DependencyPair, dependency_pairs}
+use Rattle.pair_theory.specs.PairProblem.{IsFiniteProblem, IsPair}
+use Rattle.cap_theory.specs.Cap.{Caps, cap_variable, caps_nil, caps_cons, EachFits}
+use Rattle.pair_theory.specs.PairGraph.{IsCapEstimate, IsGrouped, GroupEnds, by_problem, by_no_edge}
+use Rattle.pair_theory.specs.SubtermCriterion.{Projects}
 use Rattle.trs_defs.proofs.Members.{in_of_get}
 use Rattle.pair_theory.proofs.Members.{no_in}
 use Rattle.pair_theory.proofs.PairList.{listed_are_pairs}

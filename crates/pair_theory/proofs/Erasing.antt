@@ -4,11 +4,11 @@ use Rattle.trs_defs.specs.Tree.{Tree, var, app, Trees, nil, cons, count}
 use Rattle.trs_defs.specs.WellFormed.{IsWellFormed, AreWellFormed}
 use Rattle.trs_defs.specs.Substitution.{apply, apply_all}
 use Rattle.trs_defs.specs.Step.{StepBy, here, deep, first, later}
-use Rattle.trs_defs.specs.Terminates.{ArgumentStep}
+use Rattle.pair_theory.specs.Terminates.{ArgumentStep}
 use Rattle.trs_defs.specs.System.{RewriteRule, Among}
 use Rattle.trs_defs.specs.Member.{In}
-use Rattle.trs_defs.specs.Erased.{HasEntries, HaveEntries, by_root, erased, erased_all}
-use Rattle.trs_defs.specs.Moves.{Moves, no_moves, weakly, strictly, MovesAtMost}
+use Rattle.pair_theory.specs.Erased.{HasEntries, HaveEntries, by_root, erased, erased_all}
+use Rattle.pair_theory.specs.Moves.{Moves, no_moves, weakly, strictly, MovesAtMost}
 use Rattle.pair_theory.proofs.Terms.{join_cons}
 
 module _ (has : ℕ → Bool) where

@@ -1,17 +1,17 @@
 -- Groups of numbered pairs along a graph: where each group is done, the problem is finite.
 use Rattle.std.proofs.Common.{◌≡◌, ℕ, ◌≤◌, ◌<◌, sym, ap, arith, ◌∙◌, List, Bool, Some, IsTrue, slice_get}
 use native.Mathlib.Decide.{dec_lt}
-use Rattle.trs_defs.specs.Accessible.{Acc, acc}
+use Rattle.pair_theory.specs.Accessible.{Acc, acc}
 use Rattle.trs_defs.specs.Member.{In}
 use Rattle.trs_defs.specs.Tree.{Tree, Trees}
 use Rattle.trs_defs.specs.Substitution.{apply_all}
-use Rattle.trs_defs.specs.Cap.{Caps, EachFits}
+use Rattle.cap_theory.specs.Cap.{Caps, EachFits}
 use Rattle.trs_defs.specs.System.{System, IsSystem, Among}
-use Rattle.trs_defs.specs.Marked.{Marked}
-use Rattle.trs_defs.specs.DependencyPair.{DependencyPair}
-use Rattle.trs_defs.specs.Chain.{ChainStep, link}
-use Rattle.trs_defs.specs.PairProblem.{PairAmong, IsFiniteProblem, IsPair}
-use Rattle.trs_defs.specs.PairGraph.{PairNumbered, CoversSteps, IsCapEstimate, GroupEnds, by_problem, by_no_edge, IsGrouped}
+use Rattle.pair_theory.specs.Marked.{Marked}
+use Rattle.pair_theory.specs.DependencyPair.{DependencyPair}
+use Rattle.pair_theory.specs.Chain.{ChainStep, link}
+use Rattle.pair_theory.specs.PairProblem.{PairAmong, IsFiniteProblem, IsPair}
+use Rattle.pair_theory.specs.PairGraph.{PairNumbered, CoversSteps, IsCapEstimate, GroupEnds, by_problem, by_no_edge, IsGrouped}
 use Rattle.trs_defs.proofs.Members.{get_of_in, in_of_get}
 use Rattle.pair_theory.proofs.Caps.{Edge, edge_root, edge_covers}
 use Rattle.pair_theory.proofs.Chains.{groups, All, OfGroup}

@@ -4,7 +4,7 @@ use native.Mathlib.Decide.{ℕ_discrete}
 use Rattle.trs_defs.specs.Tree.{Tree, var, app, Trees, nil, cons}
 use Rattle.trs_defs.specs.Substitution.{apply, apply_all}
 use Rattle.pair_theory.proofs.Terms.{join_app, join_cons, not_in_nil, head_or_tail, var_in_var, below_root}
-use Rattle.trs_defs.specs.Subterm.{Sub, itself, under, Subs, in_head, in_tail}
+use Rattle.pair_theory.specs.Subterm.{Sub, itself, under, Subs, in_head, in_tail}
 
 both : {A B C : Type 0} → (A → B → C) → (C → A) → (C → B) → Dec A → Dec B → Dec C
 both f g h (yes a) (yes b) = yes (f a b)

@@ -2,17 +2,18 @@
 use Rattle.std.proofs.Common.{◌≡◌, ℕ, refl, sym, ap, subst, ◌∙◌, List}
 use Rattle.trs_defs.specs.Tree.{Tree, var, app, Trees, nil, cons}
 use Rattle.trs_defs.specs.Substitution.{apply, apply_all}
-use Rattle.trs_defs.specs.Accessible.{Acc, acc}
+use Rattle.pair_theory.specs.Accessible.{Acc, acc}
 use Rattle.trs_defs.specs.Step.{StepBy, here, deep}
-use Rattle.trs_defs.specs.Terminates.{ArgumentStep, Terminates}
-use Rattle.trs_defs.specs.Subterm.{Sub, itself, under, Subs, in_head, in_tail}
+use Rattle.pair_theory.specs.Terminates.{ArgumentStep, Terminates}
+use Rattle.pair_theory.specs.Subterm.{Sub, itself, under, Subs, in_head, in_tail}
 use Rattle.trs_defs.specs.Every.{Every, every_nil, every_cons}
 use Rattle.trs_defs.specs.Run.{Run, Stay}
 use Rattle.trs_defs.specs.WellFormed.{IsWellFormed, AreWellFormed}
-use Rattle.trs_defs.specs.Marked.{Marked, marked, plain}
-use Rattle.trs_defs.specs.Chain.{ChainStep, link}
-use Rattle.trs_defs.specs.DependencyPair.{IsDefined, IsDependencyPair, from_rule}
-use Rattle.trs_defs.specs.PairProblem.{ChainsEnd}
+use Rattle.pair_theory.specs.Marked.{Marked, marked, plain}
+use Rattle.pair_theory.specs.Chain.{ChainStep, link}
+use Rattle.pair_theory.specs.DependencyPair.{IsDependencyPair, from_rule}
+use Rattle.trs_defs.specs.System.{IsDefined}
+use Rattle.pair_theory.specs.PairProblem.{ChainsEnd}
 use Rattle.pair_theory.proofs.Terms.{app_root, app_args}
 use Rattle.pair_theory.proofs.Accessibility.{acc_induction, run_then, args_sub, terminating_args, each_terminates, args_terminate}
 

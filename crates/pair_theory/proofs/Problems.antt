@@ -1,18 +1,18 @@
 -- The steps on problems that are lists of pairs.
 use Rattle.std.proofs.Common.{ℕ, Bool, true, ◌≡◌, refl, sym, subst, ◌⊎◌, inl, inr, List, [], ◌∷◌, ◌++◌}
 use Rattle.trs_defs.specs.Tree.{Tree}
-use Rattle.trs_defs.specs.Accessible.{Acc, acc}
+use Rattle.pair_theory.specs.Accessible.{Acc, acc}
 use Rattle.trs_defs.specs.System.{RewriteRule, Among, System, IsSystem}
 use Rattle.trs_defs.specs.Member.{In, in_first, in_rest}
-use Rattle.trs_defs.specs.Subterm.{under}
+use Rattle.pair_theory.specs.Subterm.{under}
 use Rattle.trs_defs.specs.Every.{Every}
-use Rattle.trs_defs.specs.Terminates.{Terminates}
+use Rattle.pair_theory.specs.Terminates.{Terminates}
 use Rattle.trs_defs.specs.WellFormed.{IsWellFormed}
-use Rattle.trs_defs.specs.Marked.{Marked, plain, mark}
-use Rattle.trs_defs.specs.Chain.{ChainStep, link}
-use Rattle.trs_defs.specs.DependencyPair.{IsDependencyPair, DependencyPair, dependency_pairs}
-use Rattle.trs_defs.specs.PairProblem.{ChainsEnd, PairAmong, IsFiniteProblem, IsPair}
-use Rattle.trs_defs.specs.Moves.{IsWellFounded, IsOrdered}
+use Rattle.pair_theory.specs.Marked.{Marked, plain, mark}
+use Rattle.pair_theory.specs.Chain.{ChainStep, link}
+use Rattle.pair_theory.specs.DependencyPair.{IsDependencyPair, DependencyPair, dependency_pairs}
+use Rattle.pair_theory.specs.PairProblem.{ChainsEnd, PairAmong, IsFiniteProblem, IsPair}
+use Rattle.pair_theory.specs.Moves.{IsWellFounded, IsOrdered}
 use Rattle.trs_defs.specs.Claims.{IsTerminating}
 use Rattle.pair_theory.proofs.Accessibility.{acc_image}
 use Rattle.pair_theory.proofs.Chains.{chain_map, chain_small, chain_well_formed}
@@ -23,8 +23,8 @@ use Rattle.trs_defs.proofs.Members.{in_left, in_right}
 use Rattle.pair_theory.proofs.Members.{no_in, in_or, each_of_both}
 use Rattle.pair_theory.proofs.Terms.{below_root, subs_of_has, has_of_subs}
 use Rattle.pair_theory.proofs.Systems.{left_over, right_over, no_new_variables}
-use Rattle.trs_defs.specs.ReductionPair.{Speaks, SpeaksOfSides, SpeaksErased, marked_rule}
-use Rattle.trs_defs.specs.Erased.{HasEntries, erased}
+use Rattle.pair_theory.specs.ReductionPair.{Speaks, SpeaksOfSides, SpeaksErased, marked_rule}
+use Rattle.pair_theory.specs.Erased.{HasEntries, erased}
 use Rattle.pair_theory.proofs.Erasing.{bound_of_erased, erased_same, all_have}
 
 -- fewer pairs have fewer chains

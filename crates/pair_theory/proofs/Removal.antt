@@ -1,14 +1,14 @@
 -- Where an order is well-founded in the finite sense, its strict pairs may go.
 use Rattle.std.proofs.Common.{◌≡◌, ℕ, zero, suc, ◌+◌, ◌≤◌, refl, sym, subst, arith, ◌⊎◌, inl, inr, List}
 use Rattle.trs_defs.specs.Tree.{Tree, app, Trees}
-use Rattle.trs_defs.specs.Accessible.{Acc, acc}
+use Rattle.pair_theory.specs.Accessible.{Acc, acc}
 use Rattle.trs_defs.specs.Step.{StepBy, here, deep, first, later}
-use Rattle.trs_defs.specs.Terminates.{ArgumentStep}
+use Rattle.pair_theory.specs.Terminates.{ArgumentStep}
 use Rattle.trs_defs.specs.System.{RewriteRule, Among}
 use Rattle.trs_defs.specs.Run.{Run, Stay, Go}
-use Rattle.trs_defs.specs.Marked.{Marked, mark}
-use Rattle.trs_defs.specs.Chain.{ChainStep, link}
-use Rattle.trs_defs.specs.Moves.{Moves, no_moves, weakly, strictly, MovesAtMost}
+use Rattle.pair_theory.specs.Marked.{Marked, mark}
+use Rattle.pair_theory.specs.Chain.{ChainStep, link}
+use Rattle.pair_theory.specs.Moves.{Moves, no_moves, weakly, strictly, MovesAtMost}
 use Rattle.pair_theory.proofs.Accessibility.{acc_induction}
 
 module _ (rule goal : Tree → Tree → Type 0) (f : (l r : Tree) → rule l r → goal l r) where

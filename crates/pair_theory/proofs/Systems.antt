@@ -4,7 +4,7 @@ use Rattle.trs_defs.specs.Member.{In}
 use Rattle.trs_defs.specs.Tree.{Tree, var}
 use Rattle.trs_defs.specs.WellFormed.{IsWellFormed}
 use Rattle.trs_defs.specs.System.{RewriteRule, System, IsRule, IsSystem, Among}
-use Rattle.trs_defs.specs.Subterm.{Sub}
+use Rattle.pair_theory.specs.Subterm.{Sub}
 use Rattle.trs_defs.proofs.Members.{get_of_in}
 use Rattle.pair_theory.proofs.Terms.{sub_of_has, has_of_sub}
 

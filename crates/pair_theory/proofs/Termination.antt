@@ -2,18 +2,16 @@
 use Rattle.std.proofs.Common.{◌≡◌, ℕ, zero, suc, sym, ap, subst, ◌⊎◌, inl, inr, List, [], ◌∷◌, IsTrue}
 use native.Mathlib.Decide.{ℕ_discrete}
 use Rattle.trs_defs.specs.Tree.{Tree, var, app, Trees}
-use Rattle.trs_defs.specs.System.{RewriteRule, Among}
+use Rattle.trs_defs.specs.System.{RewriteRule, Among, IsDefined, System, IsSystem}
 use Rattle.trs_defs.specs.Member.{In, in_first, in_rest}
-use Rattle.trs_defs.specs.DependencyPair.{IsDefined}
-use Rattle.trs_defs.specs.System.{System, IsSystem}
 use Rattle.trs_defs.specs.Claims.{IsTerminating}
-use Rattle.trs_defs.specs.DependencyPair.{IsDependencyPair}
-use Rattle.trs_defs.specs.PairProblem.{ChainsEnd}
+use Rattle.pair_theory.specs.DependencyPair.{IsDependencyPair}
+use Rattle.pair_theory.specs.PairProblem.{ChainsEnd}
 use Rattle.trs_defs.specs.Step.{StepBy}
 use Rattle.trs_defs.specs.Variable.{has_var}
-use Rattle.trs_defs.specs.Terminates.{Terminates}
+use Rattle.pair_theory.specs.Terminates.{Terminates}
 use Rattle.trs_defs.specs.Bounded.{IsBoundedBy, IsBounded}
-use Rattle.trs_defs.specs.Accessible.{Acc, acc}
+use Rattle.pair_theory.specs.Accessible.{Acc, acc}
 use Rattle.pair_theory.proofs.Terms.{app_root, sub_of_has, has_of_sub}
 use Rattle.pair_theory.proofs.Members.{in_or, no_in}
 use Rattle.pair_theory.proofs.Systems.{left_rooted, no_new_variables}

@@ -1,6 +1,6 @@
 -- Steps that are read are well-made, and printed ones are read again.
 use Rattle.std.proofs.Common.{◌≡◌, ◌≤◌, ◌-◌, ◌^◌, [], ◌∷◌, length, codes, refl, subst, arith}
-use Rattle.ari_text.specs.Named.{NamedSystem, IsNamed}
+use Rattle.names_text.specs.Named.{NamedSystem, IsNamed}
 use Rattle.cert_step.specs.ProofStep.{ProofStep, loop, fork, ProofNodeStep, IsWellMade}
 use Rattle.text_reading.specs.Reading.{keyword, done}
 use Rattle.text_reading.specs.Numbers.{number}

@@ -1,6 +1,6 @@
 -- How a step of some kind is written.
 use Rattle.sexp_core.specs.Items.{Item}
-use Rattle.ari_text.specs.Named.{NamedSystem}
+use Rattle.names_text.specs.Named.{NamedSystem}
 use Rattle.cert_step.specs.ProofStep.{ProofStep}
 
 pub record StepText : Type 1 where

@@ -1,7 +1,7 @@
 -- `(step number method)`, and the methods by their words.
 use Rattle.std.specs.Prelude.{ℕ, ◌-◌, ◌^◌, List, [], ◌∷◌, codes}
 use Rattle.sexp_core.specs.Items.{Item}
-use Rattle.ari_text.specs.Named.{NamedSystem}
+use Rattle.names_text.specs.Named.{NamedSystem}
 use Rattle.cert_step.specs.ProofStep.{ProofStep, loop, fork, ProofNodeStep}
 use Rattle.text_reading.specs.Reading.{Read, Form, done, part, keyword, list, by_word}
 use Rattle.text_reading.specs.Numbers.{number}

@@ -1,7 +1,7 @@
 ghost use Rattle.std.specs.Prelude.{◌≡◌, ◌≤◌, ◌++◌, OnOk, IfOk};
 ghost use Rattle.sexp_core.specs.Items.{view};
 ghost use Rattle.sexp_core.specs.Printed.{text_of};
-ghost use Rattle.ari_text.specs.VariableNames.{underscores as underscores_of};
+ghost use Rattle.names_text.specs.VariableNames.{underscores as underscores_of};
 ghost use Rattle.cert_step.specs.ProofStep.{step_of, node_step_of};
 ghost use Rattle.text_reading.specs.Seen.{seen};
 ghost use Rattle.step_text.specs.Ranges.{HasNumbersInRange};
@@ -9,7 +9,7 @@ ghost use Rattle.step_text.specs.Steps.{method, method_item, node_step, step, st
 
 use crate::fork_text::{put_fork, read_fork};
 use crate::loop_text::{put_loop, read_loop};
-use ari_text::NamedTrs;
+use names_text::NamedTrs;
 use cert_step::{NodeStep, Step};
 use sexp_core::Sexp;
 use std::alloc::Global;

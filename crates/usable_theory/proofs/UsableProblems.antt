@@ -2,15 +2,15 @@
 use Rattle.std.proofs.Common.{◌≡◌, ℕ, refl, sym, ◌∙◌, ◌⊎◌, inl, inr, List, ◌++◌, Bool, true, false, IsTrue, cond, ◌↔◌}
 use Rattle.trs_defs.specs.Tree.{Tree, Trees, var, app, nil, cons}
 use Rattle.trs_defs.specs.Member.{In, in_first, in_rest}
-use Rattle.trs_defs.specs.System.{RewriteRule, System, IsSystem, Among}
-use Rattle.trs_defs.specs.Subterm.{Sub, itself, under, Subs, in_head, in_tail}
-use Rattle.trs_defs.specs.Marked.{Marked, mark}
-use Rattle.trs_defs.specs.DependencyPair.{DependencyPair, IsDefined, is_defined}
-use Rattle.trs_defs.specs.Moves.{IsOrdered, IsWellFounded}
-use Rattle.trs_defs.specs.ReductionPair.{AllTerms}
-use Rattle.trs_defs.specs.PairProblem.{PairAmong, IsFiniteProblem, IsPair}
-use Rattle.trs_defs.specs.UsableRules.{IsUsable, in_pair, in_rule, HasUsable, root_in, choices}
-use Rattle.trs_defs.specs.LinearInterpretation.{LinearWeak, LinearStrict, CoefficientWeak, CoefficientStrict}
+use Rattle.trs_defs.specs.System.{RewriteRule, System, IsSystem, Among, IsDefined, is_defined}
+use Rattle.pair_theory.specs.Subterm.{Sub, itself, under, Subs, in_head, in_tail}
+use Rattle.pair_theory.specs.Marked.{Marked, mark}
+use Rattle.pair_theory.specs.DependencyPair.{DependencyPair}
+use Rattle.pair_theory.specs.Moves.{IsOrdered, IsWellFounded}
+use Rattle.pair_theory.specs.ReductionPair.{AllTerms}
+use Rattle.pair_theory.specs.PairProblem.{PairAmong, IsFiniteProblem, IsPair}
+use Rattle.usable_theory.specs.UsableRules.{IsUsable, in_pair, in_rule, HasUsable, root_in, choices}
+use Rattle.order_theory.specs.LinearInterpretation.{LinearWeak, LinearStrict, CoefficientWeak, CoefficientStrict}
 use Rattle.order_theory.proofs.Linear.{linear_well_founded}
 use Rattle.order_theory.proofs.Coefficients.{weak_by_coefficients, strict_by_coefficients}
 use Rattle.trs_defs.proofs.Members.{in_left, in_right, in_either}
