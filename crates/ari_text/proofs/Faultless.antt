@@ -13,19 +13,20 @@ use Rattle.trs_defs.specs.Size.{size_of, depth_of}
 use Rattle.trs_defs.specs.System.{RewriteRule, IsRule}
 use Rattle.trs_core.specs.SystemLimits.{IsShallow, HasSmallVariables, nodes_of as nodes_of_rules}
 use Rattle.ari_text.specs.declared.fault.AriFault.{AriFault}
-use Rattle.ari_text.specs.Symbols.{Declared, names_of, arities_of}
-use Rattle.ari_text.specs.Named.{IsNamed, is_shallow, is_numbered, next_number}
+use Rattle.names_text.specs.Symbols.{Declared, names_of, arities_of}
+use Rattle.names_text.specs.Named.{IsNamed, is_shallow, is_numbered, next_number}
 use Rattle.ari_text.specs.Entries.{Saying, declares, rewrites, attributed, says_nothing, entry_of}
-use Rattle.ari_text.specs.Terms.{variables_after, term_of, rule_of, with_rule, rules_of}
+use Rattle.term_text.specs.Terms.{variables_after, term_of}
+use Rattle.ari_text.specs.Rules.{rule_of, with_rule, rules_of}
 use Rattle.ari_text.specs.Least.{noted}
 use Rattle.ari_text.specs.Faults.{left_side, right_side, term_faults, left_faults, sides_faults, rule_faults, symbols_of, whole_room, all_declaration_faults, all_rule_faults, faults_of}
 use Rattle.ari_text.specs.Problem.{format_fault, problem_fault, later_items, system_of}
 use Rattle.ari_text.proofs.Leasts.{is_none}
 use Rattle.ari_text.proofs.NoFaults.{none_of, no_symbols, are_symbols, symbols_length}
-use Rattle.ari_text.proofs.SymbolTables.{same_count}
+use Rattle.names_text.proofs.SymbolTables.{same_count}
 use Rattle.ari_text.proofs.TermReadings.{is_term}
 use Rattle.ari_text.proofs.SideReadings.{right_below, left_next_number, left_has, left_symbol}
-use Rattle.ari_text.proofs.NumberedTerms.{numbers_grow, has_below}
+use Rattle.names_text.proofs.NumberedTerms.{numbers_grow, has_below}
 use Rattle.ari_text.proofs.RuleCounts.{rules_fit}
 
 -- ---- rules

@@ -8,11 +8,12 @@ use Rattle.sexp_core.specs.Items.{Item, a_word, a_list, Items, no_items, item}
 use Rattle.numerals.specs.Numerals.{digits_value}
 use Rattle.ari_text.specs.declared.fault.AriFault.{AriFault}
 use Rattle.ari_text.specs.declared.fault.AriFault.TheVariants as fault
-use Rattle.ari_text.specs.Symbols.{Declared, arity_of, names_of}
-use Rattle.ari_text.specs.Entries.{Saying, declares, rewrites, attributed, says_nothing, entry_of, place_of}
-use Rattle.ari_text.specs.Terms.{variables_after, nodes_of}
+use Rattle.names_text.specs.Symbols.{Declared, arity_of, names_of}
+use Rattle.ari_text.specs.Entries.{Saying, declares, rewrites, attributed, says_nothing, entry_of}
+use Rattle.text_reading.specs.Reading.{place_of}
+use Rattle.term_text.specs.Terms.{variables_after, nodes_of, count}
 use Rattle.ari_text.specs.Least.{noted, IsAmong}
-use Rattle.ari_text.specs.Faults.{count, Scope, left_side, right_side, variable_faults, word_faults, head_faults, depth_faults, term_faults, list_faults, args_faults, left_faults, lone_faults, sides_faults, rule_faults, twice_faults, arity_faults, declaration_faults, symbols_after, symbols_of, Room, whole_room, room_after, passes, count_faults, all_declaration_faults, all_rule_faults, faults_of}
+use Rattle.ari_text.specs.Faults.{Scope, left_side, right_side, variable_faults, word_faults, head_faults, depth_faults, term_faults, list_faults, args_faults, left_faults, lone_faults, sides_faults, rule_faults, twice_faults, arity_faults, declaration_faults, symbols_after, symbols_of, Room, whole_room, room_after, passes, count_faults, all_declaration_faults, all_rule_faults, faults_of}
 use Rattle.ari_text.specs.Problem.{is_trs, format_list_fault, format_fault, problem_fault}
 use Rattle.ari_text.proofs.Leasts.{is_among}
 

@@ -11,12 +11,13 @@ use Rattle.numerals.specs.Numerals.{digits_value}
 use Rattle.numerals.proofs.Limits.{digits_within}
 use Rattle.ari_text.specs.declared.fault.AriFault.{AriFault}
 use Rattle.ari_text.specs.declared.fault.AriFault.TheVariants.{TooMany, Attribute}
-use Rattle.ari_text.specs.Names.{are_distinct}
-use Rattle.ari_text.specs.Symbols.{Declared, names_of, arities_of, arity_of}
-use Rattle.ari_text.specs.Named.{is_word}
-use Rattle.ari_text.specs.Entries.{Saying, declares, rewrites, attributed, says_nothing, place_of, declaration, begins_with_colon, ended, three, list_entry, entry_of}
+use Rattle.names_text.specs.Names.{are_distinct}
+use Rattle.names_text.specs.Symbols.{Declared, names_of, arities_of, arity_of}
+use Rattle.names_text.specs.Named.{is_word}
+use Rattle.ari_text.specs.Entries.{Saying, declares, rewrites, attributed, says_nothing, declaration, begins_with_colon, ended, three, list_entry, entry_of}
+use Rattle.text_reading.specs.Reading.{place_of}
 use Rattle.ari_text.specs.Faults.{Room, declaration_faults, with_symbol, symbols_after, symbols_of, room_after, count_faults, all_declaration_faults}
-use Rattle.ari_text.proofs.SymbolTables.{distinct_symbol}
+use Rattle.names_text.proofs.SymbolTables.{distinct_symbol}
 
 pub none_of : (xs ys : List AriFault) → xs ++ ys ≡ [] → (xs ≡ []) × (ys ≡ [])
 none_of [] ys e = (refl, e)

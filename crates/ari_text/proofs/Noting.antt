@@ -7,10 +7,12 @@ use Rattle.sexp_core.specs.Items.{Item, a_word, a_list, Items, no_items, item, v
 use Rattle.ari_text.specs.Entries.{Saying}
 use Rattle.ari_text.specs.EntryView.{with_attribute}
 use Rattle.ari_text.specs.ScopeView.{IsBelow}
-use Rattle.ari_text.specs.Symbols.{Declared, arity_of}
-use Rattle.ari_text.specs.Faults.{count, Scope, depth_faults, word_faults, head_faults, term_faults, list_faults, args_faults, rule_faults}
+use Rattle.names_text.specs.Symbols.{Declared, arity_of}
+use Rattle.term_text.specs.Terms.{count}
+use Rattle.ari_text.specs.Faults.{Scope, depth_faults, word_faults, head_faults, term_faults, list_faults, args_faults, rule_faults}
 use Rattle.ari_text.specs.declared.fault.AriFault.{AriFault}
 use Rattle.ari_text.specs.Least.{earlier, noted}
+use Rattle.term_text.proofs.BuiltTerms.{count_views}
 
 pub noted_append : (least : Option AriFault) (fs gs : List AriFault) → noted least (fs ++ gs) ≡ noted (noted least fs) gs
 noted_append least [] gs = refl
@@ -19,10 +21,6 @@ noted_append least (f ∷ fs) gs = noted_append (earlier least f) fs gs
 -- the faults of an item in two parts, and those behind it
 pub noted_next : (least l1 l2 : Option AriFault) (cs ds rest : List AriFault) → l1 ≡ noted least cs → l2 ≡ noted l1 ds → noted l2 rest ≡ noted least ((cs ++ ds) ++ rest)
 noted_next least l1 l2 cs ds rest e f = rw (f, e) (sym (noted_append least (cs ++ ds) rest ∙ ap (λ l. noted l rest) (noted_append least cs ds)))
-
-pub count_views : (xs : List Sexp) → count (views xs) ≡ length xs
-count_views [] = refl
-count_views (x ∷ xs) = ap suc (count_views xs)
 
 shallow : (d at : ℕ) → 257 < d → depth_faults d at ≡ []
 shallow d at h = grind (arith, nat_tests)

@@ -6,7 +6,7 @@ use Rattle.sexp_core.specs.declared.fault.TextFault.{TextFault}
 use Rattle.sexp_core.proofs.Once.{one_reading}
 use Rattle.ari_text.specs.declared.fault.AriFault.{AriFault}
 use Rattle.ari_text.specs.declared.fault.AriFault.TheVariants as fault
-use Rattle.ari_text.specs.Named.{NamedSystem}
+use Rattle.names_text.specs.Named.{NamedSystem}
 use Rattle.ari_text.specs.Problem.{later_items, system_of, SaysSystem, HasProblemFault, IsProblemRefused}
 
 pub same_items : (text : List ℕ) (xs ys : Items) → Reads text xs → Reads text ys → xs ≡ ys

@@ -10,12 +10,15 @@ use Rattle.trs_defs.specs.System.{RewriteRule}
 use Rattle.numerals.specs.Numerals.{digits_value}
 use Rattle.ari_text.specs.declared.fault.AriFault.{AriFault}
 use Rattle.ari_text.specs.declared.fault.AriFault.TheVariants as fault
-use Rattle.ari_text.specs.Names.{number_among}
-use Rattle.ari_text.specs.Symbols.{Declared, arity_of, names_of}
-use Rattle.ari_text.specs.Entries.{Saying, declares, rewrites, attributed, says_nothing, place_of, declaration, three, begins_with_colon, ended, list_entry, entry_of}
-use Rattle.ari_text.specs.Terms.{variables_after, all_variables_after, term_of, terms_of, applied, rule_of, with_rule, rules_of, nodes_of, nodes_of_all}
-use Rattle.ari_text.specs.Faults.{Scope, left_side, right_side, count, variable_faults, word_faults, head_faults, depth_faults, term_faults, args_faults, lone_faults, left_faults, sides_faults, rule_faults, twice_faults, arity_faults, declaration_faults, symbols_after, symbols_of, Room, whole_room, room_after, passes, count_faults, all_declaration_faults, all_rule_faults, faults_of}
+use Rattle.names_text.specs.Names.{number_among}
+use Rattle.names_text.specs.Symbols.{Declared, arity_of, names_of}
+use Rattle.ari_text.specs.Entries.{Saying, declares, rewrites, attributed, says_nothing, declaration, three, begins_with_colon, ended, list_entry, entry_of}
+use Rattle.text_reading.specs.Reading.{place_of}
+use Rattle.term_text.specs.Terms.{variables_after, all_variables_after, term_of, terms_of, applied, nodes_of, nodes_of_all, count}
+use Rattle.ari_text.specs.Rules.{rule_of, with_rule, rules_of}
+use Rattle.ari_text.specs.Faults.{Scope, left_side, right_side, variable_faults, word_faults, head_faults, depth_faults, term_faults, args_faults, lone_faults, left_faults, sides_faults, rule_faults, twice_faults, arity_faults, declaration_faults, symbols_after, symbols_of, Room, whole_room, room_after, passes, count_faults, all_declaration_faults, all_rule_faults, faults_of}
 use Rattle.ari_text.specs.Problem.{is_trs, format_fault}
+use Rattle.term_text.proofs.PlacelessTerms.{variables_bare, term_bare, nodes_bare}
 
 -- ---- sayings
 
@@ -58,39 +61,6 @@ entry_bare (a_word w p) = refl
 entry_bare (a_list xs p) = list_entry_bare xs
 
 -- ---- terms
-
-mutual
-  pub variables_bare : (symbols variables : List (List ℕ)) (x : Item) → variables_after symbols variables (bare x) ≡ variables_after symbols variables x
-  variables_bare symbols variables (a_word w p) = refl
-  variables_bare symbols variables (a_list no_items p) = refl
-  variables_bare symbols variables (a_list (item h args) p) = all_variables_bare symbols variables args
-
-  all_variables_bare : (symbols variables : List (List ℕ)) (xs : Items) → all_variables_after symbols variables (placeless xs) ≡ all_variables_after symbols variables xs
-  all_variables_bare symbols variables no_items = refl
-  all_variables_bare symbols variables (item x xs) =
-      ap (λ (vs : List (List ℕ)). all_variables_after symbols vs (placeless xs)) (variables_bare symbols variables x)
-      ∙ all_variables_bare symbols (variables_after symbols variables x) xs
-
-mutual
-  pub term_bare : (symbols variables : List (List ℕ)) (x : Item) → term_of symbols variables (bare x) ≡ term_of symbols variables x
-  term_bare symbols variables (a_word w p) = refl
-  term_bare symbols variables (a_list no_items p) = refl
-  term_bare symbols variables (a_list (item (a_list ys q) args) p) = refl
-  term_bare symbols variables (a_list (item (a_word h q) args) p) = ap (applied (number_among symbols h)) (terms_bare symbols variables args)
-
-  terms_bare : (symbols variables : List (List ℕ)) (xs : Items) → terms_of symbols variables (placeless xs) ≡ terms_of symbols variables xs
-  terms_bare symbols variables no_items = refl
-  terms_bare symbols variables (item x xs) = ap₂ cons (term_bare symbols variables x) (terms_bare symbols variables xs)
-
-mutual
-  pub nodes_bare : (x : Item) → nodes_of (bare x) ≡ nodes_of x
-  nodes_bare (a_word w p) = refl
-  nodes_bare (a_list no_items p) = refl
-  nodes_bare (a_list (item h args) p) = ap (λ n. 1 + n) (all_nodes_bare args)
-
-  all_nodes_bare : (xs : Items) → nodes_of_all (placeless xs) ≡ nodes_of_all xs
-  all_nodes_bare no_items = refl
-  all_nodes_bare (item x xs) = ap₂ (λ m n. m + n) (nodes_bare x) (all_nodes_bare xs)
 
 count_bare : (xs : Items) → count (placeless xs) ≡ count xs
 count_bare no_items = refl

@@ -15,15 +15,25 @@ use Rattle.trs_defs.specs.WellFormed.{IsWellFormed}
 use Rattle.trs_defs.specs.System.{RewriteRule, IsRule}
 use Rattle.trs_core.specs.SystemLimits.{HasSmallVariables, HaveSmallVariables, nodes_of as nodes_of_rules}
 use Rattle.numerals.specs.Numerals.{digits_value}
-use Rattle.ari_text.specs.Names.{are_distinct}
-use Rattle.ari_text.specs.Symbols.{Declared, paired, names_of, arities_of, arity_of}
-use Rattle.ari_text.specs.Named.{is_word, is_shallow, is_numbered, next_number}
-use Rattle.ari_text.specs.Terms.{variables_after, term_of, rule_of, rules_of, nodes_of}
+use Rattle.names_text.specs.Names.{are_distinct}
+use Rattle.names_text.specs.Symbols.{Declared, paired, names_of, arities_of, arity_of}
+use Rattle.names_text.specs.Named.{is_word, is_shallow, is_numbered, next_number}
+use Rattle.term_text.specs.Terms.{variables_after, term_of, nodes_of}
+use Rattle.ari_text.specs.Rules.{rule_of, rules_of}
 use Rattle.ari_text.specs.Faults.{left_side, right_side, term_faults, left_faults, sides_faults, all_declaration_faults, all_rule_faults, with_symbol, symbols_of}
-use Rattle.ari_text.specs.VariableNames.{variable_name}
-use Rattle.ari_text.specs.PrintedProblem.{term_item, term_items, three_members, rule_items, symbol_items}
-use Rattle.ari_text.proofs.PrintedNames.{arity_read, decimal_word, symbol_word, present, variables_to, variable_number}
-use Rattle.ari_text.proofs.PrintedTerms.{FitNames, IsBelow, below_from, numbered_below, variables_read, term_read, term_faultless, symbol_arity, term_words, term_nodes, term_nesting}
+use Rattle.names_text.specs.VariableNames.{variable_name}
+use Rattle.term_text.specs.PrintedTerm.{term_item, term_items}
+use Rattle.ari_text.specs.PrintedProblem.{three_members, rule_items, symbol_items}
+use Rattle.text_reading.proofs.Words.{decimal_word}
+use Rattle.names_text.proofs.PrintedNames.{symbol_word, present, variables_to, variable_number}
+use Rattle.term_text.proofs.PlacelessTerms.{term_placeless}
+use Rattle.term_text.proofs.PrintedTerms.{FitNames, IsBelow, below_from, numbered_below, variables_read, term_read, symbol_arity, term_words, term_nodes, term_nesting}
+use Rattle.ari_text.proofs.FaultlessTerms.{term_faultless}
+use Rattle.numerals.proofs.Printed.{digits_read}
+
+-- a printed arity is read again
+pub arity_read : (a : ℕ) → a ≤ 255 → digits_value 255 (decimal a) ≡ Some a
+arity_read a le = digits_read 255 a (omega arith) le
 
 -- ---- rules
 
@@ -241,16 +251,6 @@ module _ (more : Items) where
   symbols_nesting (n ∷ ns) (a ∷ as') h = omega (arith, symbols_nesting ns as' h)
 
 -- ---- places
-
-mutual
-  pub term_placeless : (k : ℕ) (names : List (List ℕ)) (t : Tree) → bare (term_item k names t) ≡ term_item k names t
-  term_placeless k names (var n) = refl
-  term_placeless k names (app f nil) = refl
-  term_placeless k names (app f (cons t ts)) = ap (λ xs. a_list (item (a_word (get_or names f []) 0) xs) 0) (terms_placeless k names (cons t ts))
-
-  terms_placeless : (k : ℕ) (names : List (List ℕ)) (ts : Trees) → placeless (term_items k names ts) ≡ term_items k names ts
-  terms_placeless k names nil = refl
-  terms_placeless k names (cons t ts) = ap₂ item (term_placeless k names t) (terms_placeless k names ts)
 
 rules_placeless : (k : ℕ) (names : List (List ℕ)) (rs : List RewriteRule) → placeless (rule_items k names rs) ≡ rule_items k names rs
 rules_placeless k names [] = refl

@@ -7,13 +7,11 @@ use Rattle.sexp_core.specs.Printed.{text_of, spaced, lines}
 use Rattle.trs_defs.specs.System.{RewriteRule}
 use Rattle.trs_core.specs.declared.terms.Term.{Term}
 use Rattle.trs_core.specs.View.{forest}
-use Rattle.ari_text.specs.VariableNames.{leading_underscores, underscores}
-use Rattle.ari_text.specs.PrintedProblem.{term_item, term_items, applied_item, three_members, symbol_items, rule_items, problem_items}
-use Rattle.ari_text.specs.Named.{NamedSystem}
-
-pub drop_at : {X : Type 0} (xs : List X) (i : ℕ) (x : X) → slice_get xs i ≡ Some x → drop i xs ≡ x ∷ drop (i + 1) xs
-drop_at xs i x e =
-    drop-cons xs i x (slice_get_within xs i x e) ∙ rw (get_or_from_slice_get xs i x x e, add-one) refl
+use Rattle.names_text.specs.VariableNames.{leading_underscores, underscores}
+use Rattle.term_text.specs.PrintedTerm.{term_item, term_items, applied_item}
+use Rattle.ari_text.specs.PrintedProblem.{three_members, symbol_items, rule_items, problem_items}
+use Rattle.names_text.specs.Named.{NamedSystem}
+use Rattle.names_text.proofs.UnderscoreSteps.{drop_at}
 
 first_line : (x : Item) (xs : Items) → lines (item x xs) ≡ lines (item x no_items) ++ lines xs
 first_line x xs = sym (append_assoc (text_of x) (10 ∷ []) (lines xs))
@@ -52,50 +50,6 @@ pub rules_step : (k : ℕ) (names : List (List ℕ)) (r : RewriteRule) (rs : Lis
 rules_step k names r rs out all h =
     next_lines out all _ _ _ h
     (first_line (three_members (codes "rule") (term_item k names r.left) (term_item k names r.right)) (rule_items k names rs))
-
--- one more argument is printed
-pub spaced_step : (out o1 o2 all : List ℕ) (x : Item) (xs : Items) → o1 ≡ out ++ 32 ∷ [] → o2 ≡ o1 ++ text_of x → out ++ spaced (item x xs) ≡ all → o2 ++ spaced xs ≡ all
-spaced_step out o1 o2 all x xs e f g = rw (f, e) (simp append_assoc g)
-
-enclosed : (o name s : List ℕ) → (((o ++ 40 ∷ []) ++ name) ++ s) ++ 41 ∷ [] ≡ o ++ (40 ∷ ((name ++ s) ++ 41 ∷ []))
-enclosed o name s = simp append_assoc
-
-arguments_text : (k : ℕ) (names : List (List ℕ)) (name : List ℕ) (ts : List Term) → length ts ≢ 0
-    → text_of (applied_item name (term_items k names (forest ts))) ≡ 40 ∷ ((name ++ spaced (term_items k names (forest ts))) ++ 41 ∷ [])
-arguments_text k names name [] ne = absurd (ne refl)
-arguments_text k names name (t ∷ ts) ne = refl
-
--- a symbol with arguments is printed
-pub application_text : (k : ℕ) (names : List (List ℕ)) (name : List ℕ) (ts : List Term) (i : ℕ) (o o1 o2 o3 o4 : List ℕ)
-    → length ts ≢ 0 → length ts ≤ i → o1 ≡ o ++ 40 ∷ [] → o2 ≡ o1 ++ name
-    → o3 ++ spaced (term_items k names (forest (drop i ts))) ≡ o2 ++ spaced (term_items k names (forest ts)) → o4 ≡ o3 ++ 41 ∷ []
-    → o4 ≡ o ++ text_of (applied_item name (term_items k names (forest ts)))
-application_text k names name ts i o o1 o2 o3 o4 ne le e f g h =
-    let last : o3 ≡ o2 ++ spaced (term_items k names (forest ts)) = sym (append-nil o3) ∙ rw (drop_all i ts le) at g in
-    h ∙ rw (last, f, e) (enclosed o name (spaced (term_items k names (forest ts))))
-    ∙ ap (λ (t : List ℕ). o ++ t) (sym (arguments_text k names name ts ne))
-
--- a constant is printed
-pub constant_text : (k : ℕ) (names : List (List ℕ)) (name : List ℕ) (ts : List Term) → length ts ≡ 0
-    → text_of (applied_item name (term_items k names (forest ts))) ≡ name
-constant_text k names name [] e = refl
-constant_text k names name (t ∷ ts) e = absurd (omega arith)
-
--- one more underscore
-pub underscore_step : (out : List ℕ) (i : ℕ) → (out ++ replicate i 95) ++ 95 ∷ [] ≡ out ++ replicate (i + 1) 95
-underscore_step out i = append_assoc out (replicate i 95) (95 ∷ []) ∙ ap (λ (t : List ℕ). out ++ t) (replicate-append-replicate i 1 95)
-
-pub underscores_pos : (ns : List (List ℕ)) → 1 ≤ underscores ns
-underscores_pos [] = omega arith
-underscores_pos (n ∷ ns) = omega (arith, underscores_pos ns)
-
--- one more name is counted
-pub underscores_step : (names : List (List ℕ)) (f : ℕ) (name : List ℕ) (most : ℕ) → slice_get names f ≡ Some name
-    → max most (underscores (drop f names)) ≡ underscores names
-    → max (max most (leading_underscores name + 1)) (underscores (drop (f + 1) names)) ≡ underscores names
-underscores_step names f name most e h =
-    let here : max most (max (suc (leading_underscores name)) (underscores (drop (f + 1) names))) ≡ underscores names = rw (drop_at names f name e) at h in
-    omega (arith, here)
 
 -- the whole text
 pub problem_text : (s : NamedSystem) (k : ℕ) (rs : List RewriteRule) (o1 o2 o3 : List ℕ) → o1 ≡ codes "(format TRS)\n"

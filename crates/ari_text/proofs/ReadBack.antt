@@ -8,16 +8,16 @@ use Rattle.sexp_core.proofs.Again.{read_again, reads_well}
 use Rattle.sexp_core.proofs.Existence.{is_readable}
 use Rattle.trs_defs.specs.System.{RewriteRule}
 use Rattle.ari_text.specs.declared.fault.AriFault.{AriFault}
-use Rattle.ari_text.specs.Symbols.{paired, names_of, arities_of}
-use Rattle.ari_text.specs.Terms.{rules_of}
+use Rattle.names_text.specs.Symbols.{paired, names_of, arities_of}
+use Rattle.ari_text.specs.Rules.{rules_of}
 use Rattle.ari_text.specs.Faults.{whole_room, all_declaration_faults, all_rule_faults, symbols_of, faults_of}
-use Rattle.ari_text.specs.Named.{NamedSystem, IsNamed}
+use Rattle.names_text.specs.Named.{NamedSystem, IsNamed}
 use Rattle.ari_text.specs.Problem.{format_fault, problem_fault, system_of, SaysSystem}
-use Rattle.ari_text.specs.VariableNames.{underscores}
+use Rattle.names_text.specs.VariableNames.{underscores}
 use Rattle.ari_text.specs.PrintedProblem.{rule_items, symbol_items, format_item, problem_items}
 use Rattle.ari_text.proofs.Placeless.{rules_bare, symbols_bare, faultless_bare, format_bare}
-use Rattle.ari_text.proofs.PrintedNames.{symbol_word}
-use Rattle.ari_text.proofs.PrintedTerms.{FitNames}
+use Rattle.names_text.proofs.PrintedNames.{symbol_word}
+use Rattle.term_text.proofs.PrintedTerms.{FitNames}
 use Rattle.ari_text.proofs.PrintedItems.{AreGoodRules, good_rules, names_paired, arities_paired, rules_read, rules_faultless, rules_counted, rules_words, rules_nesting, rules_declare, AreBytes, symbols_read, symbols_counted, symbols_faultless, no_rules, symbols_words, symbols_nesting, symbols_placeless}
 
 abbrev printed_rules : NamedSystem → Items

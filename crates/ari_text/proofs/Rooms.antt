@@ -1,25 +1,11 @@
--- Room for nodes.
+-- Items that are too many.
 use Rattle.std.proofs.Common.{◌≡◌, ℕ, ◌+◌, cond, [], ◌∷◌, Option, Some, None, refl, arith}
 use Rattle.std.proofs.lemmas.Bool.Decides.{nat_tests}
 use Rattle.ari_text.specs.declared.fault.AriFault.TheVariants.{TooMany}
 use Rattle.ari_text.specs.Entries.{Saying, declares, rewrites, attributed, says_nothing}
 use Rattle.ari_text.specs.Counted.{is_too_many}
-use Rattle.ari_text.specs.Faults.{nodes_left, Room, count_faults}
-
-sum_of_some : (m n room : ℕ) → nodes_left (m + n) (Some room) ≡ nodes_left n (nodes_left m (Some room))
-sum_of_some m n room = grind (arith, nat_tests)
-
--- two terms take their nodes one after the other
-pub nodes_left_sum : (m n : ℕ) (room : Option ℕ) → nodes_left (m + n) room ≡ nodes_left n (nodes_left m room)
-nodes_left_sum m n None = refl
-nodes_left_sum m n (Some room) = sum_of_some m n room
-
-nothing_of_some : (room : ℕ) → nodes_left 0 (Some room) ≡ Some room
-nothing_of_some room = grind (arith, nat_tests)
-
-pub nodes_left_nothing : (room : Option ℕ) → nodes_left 0 room ≡ room
-nodes_left_nothing None = refl
-nodes_left_nothing (Some room) = nothing_of_some room
+use Rattle.term_text.specs.Terms.{nodes_left}
+use Rattle.ari_text.specs.Faults.{Room, count_faults}
 
 -- an item is a fault where it is too many
 pub count_faults_by_test : (room : Room) (at : ℕ) (s : Saying) → count_faults room at s ≡ cond (is_too_many room s) (TooMany at ∷ []) []

@@ -8,15 +8,15 @@ use Rattle.sexp_core.specs.Items.{Item, a_word, a_list, Items, no_items, item}
 use Rattle.trs_defs.specs.Tree.{Tree, Trees, var, app, nil}
 use Rattle.trs_defs.specs.Variable.{has_var, some_has_var, IsVariable}
 use Rattle.ari_text.specs.declared.fault.AriFault.TheVariants.{ExtraVariable}
-use Rattle.ari_text.specs.Names.{number_among}
-use Rattle.ari_text.specs.Symbols.{Declared, names_of, arity_of}
-use Rattle.ari_text.specs.Named.{next_number, next_number_behind}
-use Rattle.ari_text.specs.Terms.{with_variable, variables_after, all_variables_after, variable, word_term, term_of, terms_of}
-use Rattle.ari_text.specs.Faults.{count as count_of, left_side, right_side, head_faults, depth_faults, term_faults, args_faults, lone_faults, left_faults}
-use Rattle.ari_text.proofs.SymbolTables.{is_symbol}
-use Rattle.ari_text.proofs.VariableNames.{listed, number_stays, new_number, all_variables_extend}
+use Rattle.names_text.specs.Names.{number_among}
+use Rattle.names_text.specs.Symbols.{Declared, names_of, arity_of}
+use Rattle.names_text.specs.Named.{next_number, next_number_behind}
+use Rattle.term_text.specs.Terms.{with_variable, variables_after, all_variables_after, variable, word_term, term_of, terms_of, count as count_of}
+use Rattle.ari_text.specs.Faults.{left_side, right_side, head_faults, depth_faults, term_faults, args_faults, lone_faults, left_faults}
+use Rattle.names_text.proofs.SymbolTables.{is_symbol}
+use Rattle.term_text.proofs.VariableNames.{listed, number_stays, new_number, all_variables_extend}
 use Rattle.ari_text.proofs.NoFaults.{none_of}
-use Rattle.ari_text.proofs.NumberedTerms.{below_has}
+use Rattle.names_text.proofs.NumberedTerms.{below_has}
 use Rattle.ari_text.proofs.TermReadings.{IsWordOf, word_known, head_known}
 
 -- ---- right sides: each variable has a number below the count of names

@@ -3,10 +3,10 @@ use Rattle.std.proofs.Common.{◌≡◌, ℕ, List, [], refl}
 use Rattle.sexp_core.specs.Items.{Items}
 use Rattle.trs_defs.specs.System.{RewriteRule}
 use Rattle.trs_core.specs.Valid.{system}
-use Rattle.ari_text.specs.Symbols.{Declared, names_of, arities_of}
+use Rattle.names_text.specs.Symbols.{Declared, names_of, arities_of}
 use Rattle.ari_text.specs.Faults.{symbols_of}
-use Rattle.ari_text.specs.Terms.{rules_of}
-use Rattle.ari_text.specs.Named.{NamedSystem}
+use Rattle.ari_text.specs.Rules.{rules_of}
+use Rattle.names_text.specs.Named.{NamedSystem}
 use Rattle.ari_text.specs.Problem.{system_of}
 
 abbrev named : List (List ℕ) → List ℕ → List RewriteRule → NamedSystem

@@ -6,11 +6,11 @@ use Rattle.trs_defs.specs.Tree.{Tree, Trees, app, nil, count}
 use Rattle.trs_defs.specs.Size.{size_of, size_of_all, depth_of, depth_of_all}
 use Rattle.trs_defs.specs.WellFormed.{IsWellFormed, AreWellFormed}
 use Rattle.ari_text.specs.declared.fault.AriFault.TheVariants.{WrongArity, TooDeep}
-use Rattle.ari_text.specs.Names.{number_among}
-use Rattle.ari_text.specs.Symbols.{Declared, names_of, arities_of, arity_of}
-use Rattle.ari_text.specs.Terms.{variable, word_term, applied, term_of, terms_of, nodes_of, nodes_of_all}
-use Rattle.ari_text.specs.Faults.{count as count_of, Scope, variable_faults, word_faults, head_faults, depth_faults, term_faults, args_faults}
-use Rattle.ari_text.proofs.SymbolTables.{IsSymbol, is_symbol, no_symbol}
+use Rattle.names_text.specs.Names.{number_among}
+use Rattle.names_text.specs.Symbols.{Declared, names_of, arities_of, arity_of}
+use Rattle.term_text.specs.Terms.{variable, word_term, applied, term_of, terms_of, nodes_of, nodes_of_all, count as count_of}
+use Rattle.ari_text.specs.Faults.{Scope, variable_faults, word_faults, head_faults, depth_faults, term_faults, args_faults}
+use Rattle.names_text.proofs.SymbolTables.{IsSymbol, is_symbol, no_symbol}
 use Rattle.ari_text.proofs.NoFaults.{none_of}
 
 -- ---- words and heads

@@ -12,10 +12,6 @@ pub data Saying : Type 0 where
   attributed : (saying : Saying) → (at : ℕ) → Saying
   says_nothing : Saying
 
-abbrev pub place_of : Item → ℕ
-place_of (a_word w at) = at
-place_of (a_list xs at) = at
-
 abbrev pub declaration : Item → Item → Saying
 declaration (a_word name q) (a_word arity r) = declares name q arity r
 declaration (a_word name q) (a_list ys r) = says_nothing

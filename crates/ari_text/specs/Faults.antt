@@ -7,13 +7,10 @@ use Rattle.sexp_core.specs.Items.{Item, a_word, a_list, Items, no_items, item}
 use Rattle.numerals.specs.Numerals.{digits_value}
 use Rattle.ari_text.specs.declared.fault.AriFault.{AriFault}
 use Rattle.ari_text.specs.declared.fault.AriFault.TheVariants.{BadItem, Twice, BadArity, Unknown, WrongArity, LeftIsVariable, ExtraVariable, Attribute, TooMany, TooDeep}
-use Rattle.ari_text.specs.Symbols.{Declared, arity_of, names_of}
-use Rattle.ari_text.specs.Entries.{Saying, declares, rewrites, attributed, says_nothing, entry_of, place_of}
-use Rattle.ari_text.specs.Terms.{variables_after, nodes_of}
-
-abbrev pub count : Items → ℕ
-count no_items = 0
-count (item x xs) = suc (count xs)
+use Rattle.names_text.specs.Symbols.{Declared, arity_of, names_of}
+use Rattle.ari_text.specs.Entries.{Saying, declares, rewrites, attributed, says_nothing, entry_of}
+use Rattle.text_reading.specs.Reading.{place_of}
+use Rattle.term_text.specs.Terms.{variables_after, nodes_of, count, nodes_left}
 
 -- where a term stands: in a left side, where any variable may occur, or in a right side, where these may
 pub data Scope : Type 0 where
@@ -118,10 +115,6 @@ pub record Room : Type 0 where
 
 abbrev pub whole_room : Room
 whole_room = record { funs = 4096; rules = 4096; nodes = Some 65536 }
-
-abbrev pub nodes_left : ℕ → Option ℕ → Option ℕ
-nodes_left n None = None
-nodes_left n (Some room) = if nat_le n room then Some (room - n) else None
 
 abbrev pub room_after : Room → Saying → Room
 room_after room (declares name q arity r) = record room { funs = room.funs - 1 }

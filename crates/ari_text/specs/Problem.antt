@@ -7,11 +7,11 @@ use Rattle.sexp_core.specs.Items.{Item, a_word, a_list, Items, no_items, item}
 use Rattle.sexp_core.specs.Reads.{Reads, fault_of}
 use Rattle.ari_text.specs.declared.fault.AriFault.{AriFault}
 use Rattle.ari_text.specs.declared.fault.AriFault.TheVariants as fault
-use Rattle.ari_text.specs.Symbols.{names_of, arities_of}
+use Rattle.names_text.specs.Symbols.{names_of, arities_of}
 use Rattle.ari_text.specs.Least.{noted}
 use Rattle.ari_text.specs.Faults.{faults_of, symbols_of}
-use Rattle.ari_text.specs.Terms.{rules_of}
-use Rattle.ari_text.specs.Named.{NamedSystem}
+use Rattle.ari_text.specs.Rules.{rules_of}
+use Rattle.names_text.specs.Named.{NamedSystem}
 
 -- the members behind the word `format`
 abbrev pub is_trs : Items → Bool

@@ -1,22 +1,24 @@
 ghost use Rattle.std.specs.Prelude.{◌≡◌, ◌+◌, ◌++◌, [], None, OnOk, IfOk};
 ghost use Rattle.std.specs.Str.{bytes_eq};
 ghost use Rattle.sexp_core.specs.Items.{view, views};
-ghost use Rattle.ari_text.specs.Entries.{entry_of, place_of};
+ghost use Rattle.ari_text.specs.Entries.{entry_of};
+ghost use Rattle.text_reading.specs.Reading.{place_of};
 ghost use Rattle.ari_text.specs.EntryView.{entry_view, saying_view};
-ghost use Rattle.ari_text.specs.Symbols.{arity_of};
+ghost use Rattle.names_text.specs.Symbols.{arity_of};
 ghost use Rattle.ari_text.specs.ScopeView.{scope_view, IsBelow};
 ghost use Rattle.ari_text.specs.Least.{noted};
-ghost use Rattle.ari_text.specs.Faults.{count, variable_faults, word_faults, depth_faults, head_faults, term_faults, list_faults, args_faults, left_faults, sides_faults, rule_faults, count_faults, declaration_faults, twice_faults, arity_faults, with_symbol, symbols_after, room_after, whole_room, symbols_of, all_declaration_faults, all_rule_faults, faults_of};
+ghost use Rattle.term_text.specs.Terms.{count};
+ghost use Rattle.ari_text.specs.Faults.{variable_faults, word_faults, depth_faults, head_faults, term_faults, list_faults, args_faults, left_faults, sides_faults, rule_faults, count_faults, declaration_faults, twice_faults, arity_faults, with_symbol, symbols_after, room_after, whole_room, symbols_of, all_declaration_faults, all_rule_faults, faults_of};
 
 use crate::counting::Room;
-use crate::entry::{Entry, Saying, place, read_entry};
+use crate::entry::{Entry, Saying, read_entry};
 use crate::fault::{AriFault, note};
-use crate::symbols::Symbols;
-use crate::variables::{Variables, variables_of};
+use names_text::Symbols;
 use numerals::digits_value;
 use sexp_core::Sexp;
 use std::alloc::{AllocError, Global};
-use trs_core::OutOfMemory;
+use term_text::{Variables, variables_of};
+use text_reading::place;
 
 /// Where a term stands: in a left side, or in a right side, where these variables may occur.
 #[derive(Clone, Copy)]
@@ -60,7 +62,7 @@ fn note_word(
 }
 
 // The head of a term, by its arity if it is declared.
-#[tactic(auto, using(crate::proofs::Noting::count_views))]
+#[tactic(auto, using(term_text::proofs::BuiltTerms::count_views))]
 fn note_head(least: &mut Option<AriFault>, at: u32, head_at: u32, args: &[Sexp], arity: Option<u8>)
     ensures { least.new ≡ noted least.old (head_faults at head_at (count (views args.now)) arity) }
 {

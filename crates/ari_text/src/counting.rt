@@ -1,13 +1,14 @@
 ghost use Rattle.std.specs.Prelude.{◌≡◌, ◌+◌};
 ghost use Rattle.sexp_core.specs.Items.{view, views};
 ghost use Rattle.ari_text.specs.EntryView.{entry_view, saying_view};
-ghost use Rattle.ari_text.specs.Faults.{whole_room, room_after, nodes_left};
-ghost use Rattle.ari_text.specs.Terms.{nodes_of, nodes_behind, nodes_of_all};
+ghost use Rattle.ari_text.specs.Faults.{whole_room, room_after};
+ghost use Rattle.term_text.specs.Terms.{nodes_left, nodes_of, nodes_behind, nodes_of_all};
 ghost use Rattle.ari_text.specs.Counted.{is_too_many};
 
 use crate::entry::{Entry, Saying};
 use sexp_core::Sexp;
 use std::marker::Model;
+use term_text::nodes_left_behind;
 
 /// How many `fun` and `rule` items come up to the first that is too many, and how many nodes may still come.
 #[derive(Drop)]
@@ -61,38 +62,9 @@ impl Room {
 }
 
 // The nodes that are left behind both sides of a rule.
-#[tactic(auto, using(crate::proofs::Rooms::nodes_left_sum))]
+#[tactic(auto, using(term_text::proofs::NodesLeft::nodes_left_sum))]
 fn without_sides(left: &Sexp, right: &Sexp, room: Option<u32>) -> Option<u32>
     ensures { result ≡ nodes_left (nodes_of (view left.now) + nodes_of (view right.now)) room }
 {
-    without_term(right, without_term(left, room))
-}
-
-/// The nodes that are left of so many behind a term.
-#[cycle(nodes)]
-#[tactic(auto, using(crate::proofs::Rooms::nodes_left_sum, crate::proofs::Rooms::nodes_left_nothing, std::proofs::lemmas::Grind::common_steps))]
-pub fn without_term(term: &Sexp, room: Option<u32>) -> Option<u32>
-    ensures { result ≡ nodes_left (nodes_of (view term.now)) room }
-{
-    let room = room?.checked_sub(1)?;
-    match term {
-        Sexp::Word(_, _) => Some(room),
-        Sexp::List(members, _) => {
-            let Some((_, args)) = members.split_first() else {
-                return Some(room);
-            };
-            without_terms(args, Some(room))
-        }
-    }
-}
-
-#[cycle(nodes)]
-fn without_terms(terms: &[Sexp], room: Option<u32>) -> Option<u32>
-    ensures { result ≡ nodes_left (nodes_of_all (views terms.now)) room }
-{
-    let mut room = room;
-    for term in terms {
-        room = without_term(term, room);
-    }
-    room
+    nodes_left_behind(right, nodes_left_behind(left, room))
 }

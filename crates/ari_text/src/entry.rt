@@ -1,6 +1,7 @@
 ghost use Rattle.std.specs.Prelude.{◌≡◌};
 ghost use Rattle.sexp_core.specs.Items.{view, views};
-ghost use Rattle.ari_text.specs.Entries.{entry_of, list_entry, three, ended, begins_with_colon as has_colon, declaration, place_of};
+ghost use Rattle.ari_text.specs.Entries.{entry_of, list_entry, three, ended, begins_with_colon as has_colon, declaration};
+ghost use Rattle.text_reading.specs.Reading.{place_of};
 ghost use Rattle.ari_text.specs.EntryView.{entry_view, saying_view};
 
 use sexp_core::Sexp;
@@ -26,15 +27,6 @@ const SAYS_NOTHING: Entry<'static> = Entry {
     saying: Saying::Nothing,
     attribute: None,
 };
-
-/// The place of an item in its text.
-pub fn place(item: &Sexp) -> u32
-    ensures { result ≡ place_of (view item.now) }
-{
-    match item {
-        Sexp::Word(_, at) | Sexp::List(_, at) => *at,
-    }
-}
 
 pub fn read_entry<'a>(item: &'a Sexp) -> Entry<'a>
     ensures { entry_view result ≡ entry_of (view item.now) }

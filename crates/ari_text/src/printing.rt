@@ -2,15 +2,16 @@ ghost use Rattle.std.specs.Prelude.{◌≡◌, ◌++◌, ◌∷◌, [], slice_in
 ghost use Rattle.sexp_core.specs.Items.{item, no_items};
 ghost use Rattle.sexp_core.specs.Printed.{text_of, lines};
 ghost use Rattle.trs_core.specs.View.{tree};
-ghost use Rattle.ari_text.specs.Named.{NamedSystem};
+ghost use Rattle.names_text.specs.Named.{NamedSystem};
 ghost use Rattle.ari_text.specs.Problem.{SaysSystem};
-ghost use Rattle.ari_text.specs.PrintedProblem.{term_item, symbol_items, rule_items, problem_items};
+ghost use Rattle.term_text.specs.PrintedTerm.{term_item};
+ghost use Rattle.ari_text.specs.PrintedProblem.{symbol_items, rule_items, problem_items};
 
-use crate::named::NamedTrs;
-use crate::variable_names::{put_variable, underscores};
 use itoa::Buffer;
+use names_text::{NamedTrs, underscores};
 use std::alloc::Global;
-use trs_core::{OutOfMemory, Rule, Term};
+use term_text::put_term;
+use trs_core::{OutOfMemory, Rule};
 
 /// The text of a problem: a line `(format TRS)`, a line `(fun name arity)` for each symbol, and a line `(rule left right)`
 /// for each rule, with one blank between members and constants without brackets. Variable i is written as underscores and
@@ -77,42 +78,5 @@ fn put_rule(
     out.push(b' ')?;
     put_term(out, system, underscores, &rule.right)?;
     out.extend_from_slice(b")\n")?;
-    Ok(())
-}
-
-/// Appends the text of a term, with so many underscores before each variable. A symbol that the system does not have is
-/// written as no bytes.
-pub fn put_term(
-    out: &mut Vec<u8>,
-    system: &NamedTrs,
-    underscores: usize,
-    term: &Term,
-) -> Result<(), OutOfMemory>
-    ensures { OnOk result (out.new.items ≡ out.old.items ++ text_of (term_item underscores system.now.names (tree term.now))) }
-{
-    match term {
-        Term::Var(v) => put_variable(out, underscores, *v),
-        Term::App(f, args) => {
-            if args.items.is_empty() {
-                return put_name(out, system, *f);
-            }
-            out.push(b'(')?;
-            put_name(out, system, *f)?;
-            for arg in &args.items {
-                out.push(b' ')?;
-                put_term(out, system, underscores, arg)?;
-            }
-            out.push(b')')?;
-            Ok(())
-        }
-    }
-}
-
-fn put_name(out: &mut Vec<u8>, system: &NamedTrs, f: u32) -> Result<(), OutOfMemory>
-    ensures { OnOk result (out.new.items ≡ out.old.items ++ slice_index_or system.now.names f []) }
-{
-    if f < system.symbols() {
-        out.extend_from_slice(system.name(f))?;
-    }
     Ok(())
 }

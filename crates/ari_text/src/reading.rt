@@ -2,15 +2,14 @@ ghost use Rattle.std.specs.Prelude.{◌≡◌, ◌≢◌, ◌≤◌, ◌^◌, le
 ghost use Rattle.sexp_core.specs.Items.{view, views};
 ghost use Rattle.ari_text.specs.Least.{noted};
 ghost use Rattle.ari_text.specs.Faults.{faults_of};
-ghost use Rattle.ari_text.specs.Named.{NamedSystem, IsNamed};
+ghost use Rattle.names_text.specs.Named.{NamedSystem, IsNamed};
 ghost use Rattle.ari_text.specs.Problem.{is_trs as is_trs_of, format_list_fault as list_fault, format_fault as fault_of_format, problem_fault, later_items, system_of, SaysSystem, IsProblemRefused};
 ghost use Rattle.ari_text.specs.PartsView.{parts_view};
 
 use crate::building::build_rules;
 use crate::checking::{Checked, check};
 use crate::fault::AriFault;
-use crate::named::NamedTrs;
-use crate::names::Names;
+use names_text::{NamedTrs, Names};
 use sexp_core::{Sexp, read_all};
 use std::alloc::Global;
 use trs_core::{Rule, Trs, TrsFault};

@@ -4,7 +4,7 @@ use Rattle.io_edge.specs.Edge.{Rose, AppendsTo, AppendsPrefix}
 use Rattle.ari_text.specs.Problem.{IsProblemRefused}
 use Rattle.ari_text.specs.declared.fault.AriFault.{AriFault}
 use Rattle.ari_text.specs.declared.fault.AriFault.TheVariants as ari
-use Rattle.ari_text.specs.Named.{NamedSystem}
+use Rattle.names_text.specs.Named.{NamedSystem}
 use Rattle.cert_step.specs.declared.claim.Claim.{Claim}
 use Rattle.cert_step.specs.ProofProblem.{Says}
 use Rattle.certifier.specs.Acceptance.{IsAcceptance, IsRejection}

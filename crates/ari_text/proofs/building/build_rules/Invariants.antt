@@ -1,6 +1,6 @@
 use Rattle.std.proofs.Common.{◌≡◌, ◌++◌, drop}
 use Rattle.sexp_core.specs.Items.{views}
-use Rattle.ari_text.specs.Terms.{rules_of}
+use Rattle.ari_text.specs.Rules.{rules_of}
 use Rattle.ari_text.proofs.building.build_rules.Given as goal
 
 abbrev pub invariant-loop-item : goal.invariant-loop-item

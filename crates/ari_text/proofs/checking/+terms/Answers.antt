@@ -2,10 +2,11 @@ use Rattle.std.proofs.Common.{◌≡◌, ◌+◌, ◌∙◌, ◌∷◌, drop, sy
 use Rattle.sexp_core.specs.Items.{view, views}
 use Rattle.sexp_core.specs.declared.sexp.Sexp.{Sexp, Word as word_of}
 use Rattle.ari_text.specs.ScopeView.{scope_view}
-use Rattle.ari_text.specs.Symbols.{arity_of}
+use Rattle.names_text.specs.Symbols.{arity_of}
 use Rattle.ari_text.specs.Least.{noted}
-use Rattle.ari_text.specs.Faults.{count, head_faults, term_faults, args_faults}
-use Rattle.ari_text.proofs.Loops.{one_more}
+use Rattle.term_text.specs.Terms.{count}
+use Rattle.ari_text.specs.Faults.{head_faults, term_faults, args_faults}
+use Rattle.names_text.proofs.Loops.{one_more}
 use Rattle.ari_text.proofs.Noting.{noted_append, noted_list}
 use Rattle.ari_text.proofs.checking.+terms.Goals as goal
 

@@ -1,9 +1,10 @@
 use Rattle.std.proofs.Common.{◌≡◌, ◌+◌, ◌∙◌, drop, ap, ap₂}
 use Rattle.sexp_core.specs.Items.{view, views}
-use Rattle.ari_text.specs.Entries.{entry_of, place_of}
+use Rattle.ari_text.specs.Entries.{entry_of}
+use Rattle.text_reading.specs.Reading.{place_of}
 use Rattle.ari_text.specs.Least.{noted}
 use Rattle.ari_text.specs.Faults.{symbols_after, symbols_of, room_after, count_faults, declaration_faults, all_declaration_faults}
-use Rattle.ari_text.proofs.Loops.{one_more}
+use Rattle.names_text.proofs.Loops.{one_more}
 use Rattle.ari_text.proofs.Noting.{noted_next}
 use Rattle.ari_text.proofs.checking.check_declarations.Goals as goal
 

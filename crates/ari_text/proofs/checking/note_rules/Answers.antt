@@ -3,7 +3,7 @@ use Rattle.sexp_core.specs.Items.{view, views}
 use Rattle.ari_text.specs.Entries.{entry_of}
 use Rattle.ari_text.specs.Least.{noted}
 use Rattle.ari_text.specs.Faults.{rule_faults, all_rule_faults}
-use Rattle.ari_text.proofs.Loops.{one_more}
+use Rattle.names_text.proofs.Loops.{one_more}
 use Rattle.ari_text.proofs.Noting.{noted_append}
 use Rattle.ari_text.proofs.checking.note_rules.Goals as goal
 

@@ -1,7 +1,7 @@
 use Rattle.std.proofs.Common.{◌++◌, ◌∙◌, drop, ◌+◌}
 use Rattle.sexp_core.specs.Printed.{lines}
 use Rattle.ari_text.specs.PrintedProblem.{rule_items}
-use Rattle.ari_text.proofs.Loops.{one_more}
+use Rattle.names_text.proofs.Loops.{one_more}
 use Rattle.ari_text.proofs.PrintedText.{rules_step}
 use Rattle.ari_text.proofs.printing.put_rules.Goals as goal
 

@@ -1,6 +1,6 @@
 use Rattle.std.proofs.Common.{◌∙◌, ap}
 use Rattle.sexp_core.specs.Items.{views}
-use Rattle.ari_text.specs.Terms.{rules_of}
+use Rattle.ari_text.specs.Rules.{rules_of}
 use Rattle.ari_text.proofs.SystemParts.{system_of_parts}
 use Rattle.ari_text.proofs.reading.read_later.Goals as goal
 

@@ -1,0 +1,31 @@
+-- Steps of counting and printing underscores.
+use Rattle.std.proofs.Common.{◌≡◌, ◌≢◌, ℕ, suc, ◌+◌, ◌<◌, ◌≤◌, max, List, [], ◌∷◌, ◌++◌, length, drop, get_or, replicate, Some, slice_get, codes, decimal, refl, ap, sym, ◌∙◌, append_assoc, arith, add-one, drop-cons}
+use Rattle.std.proofs.lemmas.List.{append-nil, drop_all, replicate-append-replicate}
+use Rattle.std.proofs.lemmas.Option.{slice_get_within, get_or_from_slice_get}
+use Rattle.sexp_core.specs.Items.{Item, a_word, Items, no_items, item}
+use Rattle.sexp_core.specs.Printed.{text_of, spaced, lines}
+use Rattle.trs_defs.specs.System.{RewriteRule}
+use Rattle.trs_core.specs.declared.terms.Term.{Term}
+use Rattle.trs_core.specs.View.{forest}
+use Rattle.names_text.specs.VariableNames.{leading_underscores, underscores}
+use Rattle.names_text.specs.Named.{NamedSystem}
+
+pub drop_at : {X : Type 0} (xs : List X) (i : ℕ) (x : X) → slice_get xs i ≡ Some x → drop i xs ≡ x ∷ drop (i + 1) xs
+drop_at xs i x e =
+    drop-cons xs i x (slice_get_within xs i x e) ∙ rw (get_or_from_slice_get xs i x x e, add-one) refl
+
+-- one more underscore
+pub underscore_step : (out : List ℕ) (i : ℕ) → (out ++ replicate i 95) ++ 95 ∷ [] ≡ out ++ replicate (i + 1) 95
+underscore_step out i = append_assoc out (replicate i 95) (95 ∷ []) ∙ ap (λ (t : List ℕ). out ++ t) (replicate-append-replicate i 1 95)
+
+pub underscores_pos : (ns : List (List ℕ)) → 1 ≤ underscores ns
+underscores_pos [] = omega arith
+underscores_pos (n ∷ ns) = omega (arith, underscores_pos ns)
+
+-- one more name is counted
+pub underscores_step : (names : List (List ℕ)) (f : ℕ) (name : List ℕ) (most : ℕ) → slice_get names f ≡ Some name
+    → max most (underscores (drop f names)) ≡ underscores names
+    → max (max most (leading_underscores name + 1)) (underscores (drop (f + 1) names)) ≡ underscores names
+underscores_step names f name most e h =
+    let here : max most (max (suc (leading_underscores name)) (underscores (drop (f + 1) names))) ≡ underscores names = rw (drop_at names f name e) at h in
+    omega (arith, here)
