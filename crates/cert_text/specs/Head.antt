@@ -28,10 +28,10 @@ claim_word Nonconfluent = codes "nonconfluent"
 abbrev pub claim : Item → Read Claim
 claim = one_of claim_word (Terminating ∷ Nonterminating ∷ Confluent ∷ Nonconfluent ∷ [])
 
--- a word; whether it is a claim counts only behind the version
-abbrev pub claim_behind : Item → Read (Read Claim)
-claim_behind (a_word w at) = Ok (claim (a_word w at))
-claim_behind (a_list xs at) = Err at
+-- a word in the place of a claim; whether it is one counts only behind the version
+abbrev pub later_claim : Item → Read (Read Claim)
+later_claim (a_word w at) = Ok (claim (a_word w at))
+later_claim (a_list xs at) = Err at
 
 -- ---- `(certificate number claim)`
 
@@ -44,7 +44,7 @@ whole at (Ok x) = Ok x
 whole at (Err p) = Err at
 
 abbrev pub head_list : Item → Read Head
-head_list = list (part (keyword (codes "certificate")) (part (number (2 ^ 63 - 1)) (part claim_behind done))) head_of
+head_list = list (part (keyword (codes "certificate")) (part (number (2 ^ 63 - 1)) (part later_claim done))) head_of
 
 abbrev pub head : Item → Read Head
 head x = whole (place_of x) (head_list x)

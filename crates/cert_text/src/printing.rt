@@ -12,8 +12,8 @@ ghost use Rattle.cert_text.specs.Renumbered.{renumbered};
 
 use crate::Certificate;
 use crate::head::{claim_word, headline_word};
-use names_text::{NamedTrs, underscores};
 use cert_step::NodeStep;
+use names_text::{NamedTrs, underscores};
 use std::alloc::Global;
 use step_text::put_step;
 use text_reading::put;

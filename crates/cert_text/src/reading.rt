@@ -13,8 +13,8 @@ ghost use Rattle.cert_text.specs.CertificateText.{behind_head, behind_headline, 
 use crate::certificate::Certificate;
 use crate::fault::CertFault;
 use crate::head::{Head, read_head, read_headline};
-use names_text::NamedTrs;
 use cert_step::NodeStep;
+use names_text::NamedTrs;
 use sexp_core::{Sexp, read_all};
 use std::alloc::Global;
 use step_text::read_step;

@@ -9,8 +9,8 @@ ghost use Rattle.step_text.specs.Steps.{method, method_item, node_step, step, st
 
 use crate::fork_text::{put_fork, read_fork};
 use crate::loop_text::{put_loop, read_loop};
-use names_text::NamedTrs;
 use cert_step::{NodeStep, Step};
+use names_text::NamedTrs;
 use sexp_core::Sexp;
 use std::alloc::Global;
 use text_reading::{Read, both, ended, keyword, place, put, put_number, read_number};
