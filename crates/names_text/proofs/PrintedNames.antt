@@ -110,7 +110,7 @@ abbrev pub variables_to : ℕ → ℕ → List (List ℕ)
 variables_to k zero = []
 variables_to k (suc m) = variables_to k m ++ variable_name k m ∷ []
 
-length_variables : (k m : ℕ) → length (variables_to k m) ≡ m
+pub length_variables : (k m : ℕ) → length (variables_to k m) ≡ m
 length_variables k zero = refl
 length_variables k (suc m) = omega (arith, length-append (variables_to k m) (variable_name k m ∷ []), length_variables k m)
 

@@ -1,5 +1,5 @@
 -- Names beside arities.
-use Rattle.std.proofs.Common.{◌≡◌, ℕ, suc, Bool, true, false, cond, List, [], ◌∷◌, ◌++◌, length, get_or, Option, Some, None, option_map, refl, ap, sym, ◌∙◌, arith}
+use Rattle.std.proofs.Common.{◌≡◌, ℕ, zero, suc, slice_get, Bool, true, false, cond, List, [], ◌∷◌, ◌++◌, length, get_or, Option, Some, None, option_map, refl, ap, sym, ◌∙◌, arith}
 use Rattle.std.specs.Str.{bytes_eq}
 use Rattle.names_text.specs.Names.{number_among}
 use Rattle.names_text.specs.Symbols.{Declared, paired, arity_of, names_of, arities_of, one_behind, symbol_named}
@@ -68,3 +68,10 @@ pub symbol_by_number : (ns : List (List ℕ)) (as' : List ℕ) (name : List ℕ)
 symbol_by_number [] as' name l = refl
 symbol_by_number (n ∷ ns) [] name l = absurd (omega arith)
 symbol_by_number (n ∷ ns) (a ∷ as') name l = first_or_later (bytes_eq name n) a as' _ (number_among ns name) (symbol_by_number ns as' name (omega arith))
+
+-- names that are fewer than the arities leave the first arities
+pub arity_kept : (ns : List (List ℕ)) (as' : List ℕ) (f n : ℕ) → slice_get (arities_of (paired ns as')) f ≡ Some n → slice_get as' f ≡ Some n
+arity_kept [] as' f n e = absurd cc
+arity_kept (m ∷ ns) [] f n e = absurd cc
+arity_kept (m ∷ ns) (a ∷ as') zero n e = e
+arity_kept (m ∷ ns) (a ∷ as') (suc f) n e = arity_kept ns as' f n e
