@@ -6,48 +6,8 @@ use Rattle.std.proofs.lemmas.Bool.{and_parts, and_from, or_parts, or_from, not-t
 use Rattle.std.proofs.lemmas.List.{map-append}
 use Rattle.std.proofs.lemmas.Slice.Eq.{bytes_eq-Decides}
 use Rattle.names_text.specs.Names.{number_among, are_distinct}
-use Rattle.names_text.specs.Symbols.{Declared, names_of, arities_of, arity_of, one_behind, symbol_named}
+use Rattle.names_text.specs.Symbols.{Declared, names_of, arities_of, one_behind, symbol_named}
 use Rattle.names_text.specs.declared.table.Symbol.{Symbol}
-
--- ---- a name's number and its arity
-
-abbrev Agree : List ℕ → Option ℕ → Option ℕ → Type 0
-Agree arities None None = Unit {0}
-Agree arities None (Some n) = ⊥
-Agree arities (Some f) None = ⊥
-Agree arities (Some f) (Some n) = slice_get arities f ≡ Some n
-
-agree_behind : (b : Bool) (a : ℕ) (arities : List ℕ) (f n : Option ℕ) → Agree arities f n → Agree (a ∷ arities) (cond b (Some 0) (option_map suc f)) (cond b (Some a) n)
-agree_behind true a arities f n h = refl
-agree_behind false a arities None None h = tt
-agree_behind false a arities None (Some n) h = h
-agree_behind false a arities (Some f) None h = h
-agree_behind false a arities (Some f) (Some n) h = h
-
-agree : (symbols : List Declared) (name : List ℕ) → Agree (arities_of symbols) (number_among (names_of symbols) name) (arity_of symbols name)
-agree [] name = tt
-agree (s ∷ symbols) name =
-    agree_behind (bytes_eq name s.0) s.1 (arities_of symbols) (number_among (names_of symbols) name) (arity_of symbols name) (agree symbols name)
-
--- the name of a symbol with n arguments
-pub record IsSymbol (symbols : List Declared) (name : List ℕ) (n : ℕ) : Type 0 where
-  pub number : ℕ
-  pub numbered : number_among (names_of symbols) name ≡ Some number
-  pub arity : slice_get (arities_of symbols) number ≡ Some n
-
-pub is_symbol : (symbols : List Declared) (name : List ℕ) (n : ℕ) → arity_of symbols name ≡ Some n → IsSymbol symbols name n
-is_symbol symbols name n e = go (number_among (names_of symbols) name) refl (rw e at (agree symbols name))
-  where
-    go : (o : Option ℕ) → number_among (names_of symbols) name ≡ o → Agree (arities_of symbols) o (Some n) → IsSymbol symbols name n
-    go None is h = absurd h
-    go (Some f) is h = record { number = f; numbered = is; arity = h }
-
-pub no_symbol : (symbols : List Declared) (name : List ℕ) → arity_of symbols name ≡ None → number_among (names_of symbols) name ≡ None
-no_symbol symbols name e = go (number_among (names_of symbols) name) refl (rw e at (agree symbols name))
-  where
-    go : (o : Option ℕ) → number_among (names_of symbols) name ≡ o → Agree (arities_of symbols) o None → number_among (names_of symbols) name ≡ None
-    go None is h = is
-    go (Some f) is h = absurd h
 
 pub same_count : (symbols : List Declared) → length (names_of symbols) ≡ length (arities_of symbols)
 same_count [] = refl
@@ -55,14 +15,15 @@ same_count (s ∷ symbols) = ap suc (same_count symbols)
 
 -- ---- distinct names
 
-absent_behind : (b : Bool) (a : ℕ) (o : Option ℕ) (rest : Bool) → cond b (Some a) o ≡ None → (o ≡ None → rest ≡ false) → (b || rest) ≡ false
+absent_behind : (b : Bool) (a : Symbol) (o : Option Symbol) (rest : Bool) → cond b (Some a) (option_map one_behind o) ≡ None → (o ≡ None → rest ≡ false) → (b || rest) ≡ false
 absent_behind true a o rest e h = absurd cc
-absent_behind false a o rest e h = h e
+absent_behind false a None rest e h = h refl
+absent_behind false a (Some s) rest e h = absurd cc
 
-absent : (symbols : List Declared) (name : List ℕ) → arity_of symbols name ≡ None → list_any (bytes_eq name) (names_of symbols) ≡ false
+absent : (symbols : List Declared) (name : List ℕ) → symbol_named symbols name ≡ None → list_any (bytes_eq name) (names_of symbols) ≡ false
 absent [] name e = refl
 absent (s ∷ symbols) name e =
-    absent_behind (bytes_eq name s.0) s.1 (arity_of symbols name) (list_any (bytes_eq name) (names_of symbols)) e (absent symbols name)
+    absent_behind (bytes_eq name s.0) (record { number = 0; arity = s.1 }) (symbol_named symbols name) (list_any (bytes_eq name) (names_of symbols)) e (absent symbols name)
 
 differs : (m n : List ℕ) → bytes_eq n m ≡ false → bytes_eq m n ≡ false
 differs m n e = false_from_ne_true (bytes_eq m n) (λ h.
@@ -84,7 +45,7 @@ distinct_push (m ∷ names) n e h =
     let fresh : list_any (bytes_eq m) (names ++ n ∷ []) ≡ false = absent_push m n names (not-true _ here.0) (differs m n other.0) in
     and_from (not (list_any (bytes_eq m) (names ++ n ∷ []))) (are_distinct (names ++ n ∷ [])) (rw fresh refl) (distinct_push names n other.1 here.1)
 
-pub distinct_symbol : (symbols : List Declared) (name : List ℕ) (n : ℕ) → arity_of symbols name ≡ None → are_distinct (names_of symbols) ≡ true
+pub distinct_symbol : (symbols : List Declared) (name : List ℕ) (n : ℕ) → symbol_named symbols name ≡ None → are_distinct (names_of symbols) ≡ true
     → are_distinct (names_of (symbols ++ (name, n) ∷ [])) ≡ true
 distinct_symbol symbols name n e h =
     rw (map-append (λ (s : Declared). s.0) symbols ((name, n) ∷ [])) (distinct_push (names_of symbols) name (absent symbols name e) h)

@@ -48,7 +48,7 @@ module _ (k : ℕ) (names : List (List ℕ)) (arities : List ℕ) (fit : FitName
   abbrev symbols : List Declared
   symbols = paired names arities
 
-  symbol_again : (f n : ℕ) → slice_get arities f ≡ Some n → symbol_named symbols (get_or names f []) ≡ Some (record { number = f; arity = n })
+  pub symbol_again : (f n : ℕ) → slice_get arities f ≡ Some n → symbol_named symbols (get_or names f []) ≡ Some (record { number = f; arity = n })
   symbol_again f n e =
       let number = symbol_number names f fit.distinct (omega (arith, fit.counts, slice_get_within arities f n e)) in
       let arity : get_or arities f 0 ≡ n = get_or_from_slice_get arities f n 0 e in

@@ -119,15 +119,17 @@ fn application<F: Refusal>(parts: Judged<(u32, Vec<Term>), F>) -> Judged<Term, F
     }
 }
 
-// Terms, and one more.
-fn pushed<F: Refusal>(parts: Judged<(Vec<Term>, Term), F>) -> Result<Judged<Vec<Term>, F>, AllocError>
+/// Values, and one more.
+pub fn pushed<T: Drop, F: Refusal>(
+    parts: Judged<(Vec<T>, T), F>,
+) -> Result<Judged<Vec<T>, F>, AllocError>
     ensures { IfOk result (λ r. viewed (λ v. v.items) r ≡ viewed (λ p. p.0.items ++ p.1 ∷ []) parts) }
 {
     match parts {
-        Ok((terms, term)) => {
-            let mut terms = terms;
-            terms.push(term)?;
-            Ok(Ok(terms))
+        Ok((values, value)) => {
+            let mut values = values;
+            values.push(value)?;
+            Ok(Ok(values))
         }
         Err(fault) => Ok(Err(fault)),
     }
