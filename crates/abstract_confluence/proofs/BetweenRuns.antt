@@ -1,8 +1,8 @@
 -- A relation with the diamond property between the steps and their runs gives confluence.
 use Rattle.trs_defs.specs.Run.{Run, Stay, Go}
-use Rattle.trs_defs.specs.Confluence.{HasDiamond}
+use Rattle.abstract_confluence.specs.Confluence.{HasDiamond}
 use Rattle.abstract_confluence.proofs.Joins.{RunsJoin}
-use Rattle.abstract_confluence.proofs.Runs.{flat, each}
+use Rattle.trs_defs.proofs.Runs.{flat, each}
 
 -- one step against a run
 pub strip : {T : Type 0} (R : T → T → Type 0) → HasDiamond R → (s t u : T) → R s t → Run R s u → (v : T) × Run R t v × R u v

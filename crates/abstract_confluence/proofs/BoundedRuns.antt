@@ -3,7 +3,7 @@ use Rattle.trs_defs.specs.Run.{Run, Stay, Go}
 use Rattle.trs_defs.specs.Bounded.{IsBounded, IsBoundedBy}
 use Rattle.abstract_confluence.proofs.Joins.{Joins, RunsJoin, StepsJoin}
 use Rattle.std.proofs.Common.{ℕ, zero, suc}
-use Rattle.abstract_confluence.proofs.Runs.{then}
+use Rattle.trs_defs.proofs.Runs.{then}
 
 -- the peaks of runs from a term with a bound
 pub joins_within : {T : Type 0} (R : T → T → Type 0) → StepsJoin R → (n : ℕ) (s t u : T) → IsBoundedBy R n s → Run R s t → Run R s u → Joins R t u

@@ -1,11 +1,11 @@
 -- Locally decreasing ranks give confluence.
 use Rattle.trs_defs.specs.Run.{Run, Stay, Go, AtMostOne, Same, Once}
-use Rattle.trs_defs.specs.Confluence.{HasDiamond}
-use Rattle.trs_defs.specs.Ranks.{AnyRank, Below, BelowOne, IsLocallyDecreasing}
+use Rattle.abstract_confluence.specs.Confluence.{HasDiamond}
+use Rattle.abstract_confluence.specs.Ranks.{AnyRank, Below, BelowOne, IsLocallyDecreasing}
 use Rattle.abstract_confluence.proofs.Joins.{RunsJoin}
 use Rattle.std.proofs.Common.{ℕ, zero, suc, ◌<◌, ◌≤◌, ◌⊎◌, inl, inr, ◌≡◌, subst, sym, max, arith}
 use native.Mathlib.Decide.{dec_lt}
-use Rattle.abstract_confluence.proofs.Runs.{one, then, each}
+use Rattle.trs_defs.proofs.Runs.{one, then, each}
 use Rattle.abstract_confluence.proofs.BetweenRuns.{between_confluent}
 use Rattle.abstract_confluence.proofs.Tiles.{Low, Tile, IsStrip, IsPush, IsGood, raise, widen, prepend, flat_tile, shift, unshift, push, crossing}
 

@@ -1,11 +1,11 @@
 -- Two steps from A, by rank 1 to B and to C, and from both by rank 0 to D: confluent by each of the four theorems.
 use Rattle.trs_defs.specs.Run.{Stay, Go, AtMostOne, Same, Once}
 use Rattle.trs_defs.specs.Bounded.{IsBoundedBy, IsBounded}
-use Rattle.trs_defs.specs.Confluence.{HasDiamond}
-use Rattle.trs_defs.specs.Ranks.{AnyRank, Side, IsLocallyDecreasing}
+use Rattle.abstract_confluence.specs.Confluence.{HasDiamond}
+use Rattle.abstract_confluence.specs.Ranks.{AnyRank, Side, IsLocallyDecreasing}
 use Rattle.abstract_confluence.proofs.Joins.{RunsJoin, StepsJoin, StepsJoinStrongly}
 use Rattle.std.proofs.Common.{ℕ, inl, arith}
-use Rattle.abstract_confluence.proofs.Runs.{at_most_run}
+use Rattle.trs_defs.proofs.Runs.{at_most_run}
 use Rattle.abstract_confluence.proofs.BoundedRuns.{newman}
 use Rattle.abstract_confluence.proofs.Strong.{strong_confluent}
 use Rattle.abstract_confluence.proofs.BetweenRuns.{between_confluent}

@@ -1,7 +1,7 @@
 -- The notions of confluence by runs, in place of derivations with their lengths.
 use Rattle.trs_defs.specs.Run.{Run, AtMostOne}
 use Rattle.trs_defs.specs.Joinable.{IsJoinable}
-use Rattle.trs_defs.specs.Confluence.{IsConfluentRelation, JoinsStrongly}
+use Rattle.abstract_confluence.specs.Confluence.{IsConfluentRelation, JoinsStrongly}
 use Rattle.trs_defs.proofs.Derivations.{reaches_of_run, run_of_reaches}
 
 abbrev pub Joins : {T : Type 0} → (T → T → Type 0) → T → T → Type 0

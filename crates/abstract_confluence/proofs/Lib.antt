@@ -1,11 +1,8 @@
 pub mod Joins
-pub mod Runs
 pub mod BoundedRuns
 pub mod BetweenRuns
 pub mod Strong
 pub mod Tiles
 pub mod Decreasing
-pub mod Within
-pub mod Maps
-pub mod Paths
+pub mod Sides
 pub mod Example

@@ -1,7 +1,7 @@
 -- Strong confluence gives confluence.
 use Rattle.trs_defs.specs.Run.{Run, Stay, Go, AtMostOne, Same, Once}
 use Rattle.abstract_confluence.proofs.Joins.{RunsJoin, MeetsStrongly, StepsJoinStrongly}
-use Rattle.abstract_confluence.proofs.Runs.{then, at_most_run}
+use Rattle.trs_defs.proofs.Runs.{then, at_most_run}
 
 -- at most one step against a run
 pub strip : {T : Type 0} (R : T → T → Type 0) → StepsJoinStrongly R → (s t u : T) → AtMostOne R s t → Run R s u → MeetsStrongly R t u

@@ -1,9 +1,9 @@
 -- Tiles: what closes a step of rank n against a run of lower ranks.
 use Rattle.trs_defs.specs.Run.{Run, Stay, Go, AtMostOne}
-use Rattle.trs_defs.specs.Ranks.{Below}
+use Rattle.abstract_confluence.specs.Ranks.{Below}
 use Rattle.abstract_confluence.proofs.Joins.{RunsJoin}
 use Rattle.std.proofs.Common.{ℕ, zero, suc, ◌<◌, ◌≤◌, arith}
-use Rattle.abstract_confluence.proofs.Runs.{then, each}
+use Rattle.trs_defs.proofs.Runs.{then, each}
 
 -- a run of steps of ranks below n
 abbrev pub Low : {T : Type 0} → (ℕ → T → T → Type 0) → ℕ → T → T → Type 0

@@ -4,8 +4,8 @@
 ghost use Rattle.std.specs.Prelude.{ℕ};
 ghost use Rattle.trs_defs.specs.Bounded.{IsBounded};
 ghost use Rattle.trs_defs.specs.Run.{Run};
-ghost use Rattle.trs_defs.specs.Confluence.{IsConfluentRelation, IsLocallyConfluent, IsStronglyConfluent, HasDiamond};
-ghost use Rattle.trs_defs.specs.Ranks.{AnyRank, IsLocallyDecreasing};
+ghost use Rattle.abstract_confluence.specs.Confluence.{IsConfluentRelation, IsLocallyConfluent, IsStronglyConfluent, HasDiamond};
+ghost use Rattle.abstract_confluence.specs.Ranks.{AnyRank, IsLocallyDecreasing};
 
 /// A relation on the values of a type.
 pub trait Relation {

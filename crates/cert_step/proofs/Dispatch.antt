@@ -5,7 +5,7 @@ use Rattle.std.specs.declared.alloc.Global.{Global}
 use Rattle.trs_defs.specs.System.{System, IsSystem}
 use Rattle.rewrite_core.specs.declared.refusals.CheckFault.{CheckFault}
 use Rattle.rewrite_core.specs.declared.refusals.StepRefused.TheVariants.{WrongProblem}
-use Rattle.rewrite_core.specs.Check.{Answers, stops, lacks, holds}
+use Rattle.rewrite_core.specs.Check.{AnswersBy, stops, lacks, holds}
 use Rattle.rewrite_core.proofs.Answering.{then_answers}
 use Rattle.cert_step.specs.declared.problem.Problem.{Problem}
 use Rattle.cert_step.specs.ProofProblem.{ProofProblem, problem_of, Holds, IsWellMadeProblem}
@@ -19,15 +19,15 @@ module _ (system : System) (p : ProofProblem) (s : ProofStep) where
   wrong_problem b is e = stops _ (lacks (λ h. let wrong : false ≡ true = sym e ∙ is ∙ h in cc))
 
   pub right_problem : (b : Bool) (r : Result (Vec Problem Global) CheckFault) → b ≡ (kind_of s).is_for p → b ≡ true
-      → Answers problems_of ((kind_of s).conditions system p) r → Answers problems_of (step_conditions system p s) r
+      → AnswersBy problems_of ((kind_of s).conditions system p) r → AnswersBy problems_of (step_conditions system p s) r
   right_problem b r is e h = then_answers _ _ problems_of tt r (holds (sym is ∙ e)) h
 
-  pub sound_answer : (r : Result (Vec Problem Global) CheckFault) → IsSystem system → IsWellMade system s → Answers problems_of (step_conditions system p s) r
-      → IfOk r (λ left. AllHold system (map problem_of left.items) → Holds system p)
-  sound_answer (Ok left) valid made h = sound_step system p s (problems_of left) valid made h
+  pub sound_answer : (r : Result (Vec Problem Global) CheckFault) → IsSystem system → IsWellMade system s → AnswersBy problems_of (step_conditions system p s) r
+      → IfOk r (λ subproblems. AllHold system (problems_of subproblems) → Holds system p)
+  sound_answer (Ok subproblems) valid made h = sound_step system p s (problems_of subproblems) valid made h
   sound_answer (Err fault) valid made h = tt
 
   pub well_made_answer : (r : Result (Vec Problem Global) CheckFault) → IsWellMadeProblem system p → IsWellMade system s
-      → Answers problems_of (step_conditions system p s) r → IfOk r (λ left. AreWellMadeProblems system (map problem_of left.items))
-  well_made_answer (Ok left) well made h = problems_well_made system p s (problems_of left) well made h
+      → AnswersBy problems_of (step_conditions system p s) r → IfOk r (λ subproblems. AreWellMadeProblems system (problems_of subproblems))
+  well_made_answer (Ok subproblems) well made h = problems_well_made system p s (problems_of subproblems) well made h
   well_made_answer (Err fault) well made h = tt

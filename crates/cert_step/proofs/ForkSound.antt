@@ -13,12 +13,14 @@ use Rattle.trs_defs.proofs.Places.{derivation_of_follows}
 use Rattle.rewrite_core.specs.declared.forks.ForkTest.{ForkTest}
 use Rattle.rewrite_core.specs.declared.forks.ForkTest.TheVariants.{Normal, Apart}
 use Rattle.rewrite_core.specs.declared.refusals.CheckFault.{CheckFault}
-use Rattle.rewrite_core.specs.Check.{HasOneAnswer, Passes, goes_on, followed, absent}
+use Rattle.rewrite_core.specs.Reducible.{IsReducible}
+use Rattle.rewrite_core.specs.Check.{HasOneAnswer, Answers, goes_on, absent}
+use Rattle.rewrite_core.specs.PathCheck.{followed}
 use Rattle.rewrite_core.proofs.CheckLaws.{once}
 use Rattle.cert_step.specs.ProofProblem as problem
 use Rattle.cert_step.specs.ProofProblem.{ProofProblem, Holds}
 use Rattle.cert_step.specs.Kind.{IsSound}
-use Rattle.cert_step.specs.ForkKind.{IsReducible, end_conditions, fork_conditions, for_fork, fork_kind}
+use Rattle.cert_step.specs.ForkKind.{end_conditions, fork_conditions, for_fork, fork_kind}
 use Rattle.cert_step.proofs.Leaving.{passed, leaves_same, leaves_well_made}
 
 ends_once : (rules : List RewriteRule) (test : ForkTest) (left right : Tree) → HasOneAnswer (end_conditions rules test left right)
@@ -41,20 +43,20 @@ forked_of_conditions system start left right Normal
 forked_of_conditions system start left right Apart (goes_on t _ to_left (goes_on u _ to_right h)) well = absurd h
 
 pub forked_answer : (system : System) (start : Tree) (left right : List PlacedRule) (r : Result (Unit {0}) CheckFault)
-    → Passes (fork_conditions system.rules start left right Normal) r → OnOk r (IsWellFormed system.arities start → IsForked system)
+    → Answers (fork_conditions system.rules start left right Normal) r → OnOk r (IsWellFormed system.arities start → IsForked system)
 forked_answer system start left right (Ok u) h = forked_of_conditions system start left right Normal h
 forked_answer system start left right (Err fault) h = tt
 
 module _ (start : Tree) (left right : List PlacedRule) (test : ForkTest) where
-  sound : (system : System) (p : ProofProblem) (left_over : List ProofProblem) → (fork_kind start left right test).is_well_made system → IsTrue (for_fork p)
-      → (fork_kind start left right test).conditions system p (Ok left_over) → Holds system p
-  sound system problem.fork left_over made is h = forked_of_conditions system start left right test (passed h) made.0
-  sound system _ left_over made is h = absurd cc
+  sound : (system : System) (p : ProofProblem) (subproblems : List ProofProblem) → (fork_kind start left right test).is_well_made system → IsTrue (for_fork p)
+      → (fork_kind start left right test).conditions system p (Ok subproblems) → Holds system p
+  sound system problem.fork subproblems made is h = forked_of_conditions system start left right test (passed h) made.0
+  sound system _ subproblems made is h = absurd cc
 
   pub fork_sound : IsSound (fork_kind start left right test)
   fork_sound = record {
     one_answer = λ system p valid. search (once, ends_once);
-    leaves_once = λ system p left_over other h k. leaves_same h k;
-    sound = λ system p left_over valid made is h each. sound system p left_over made is h;
-    well_made = λ system p left_over well made h. leaves_well_made system tt h;
+    leaves_once = λ system p subproblems others h k. leaves_same h k;
+    sound = λ system p subproblems valid made is h each. sound system p subproblems made is h;
+    well_made = λ system p subproblems well made h. leaves_well_made system tt h;
   }

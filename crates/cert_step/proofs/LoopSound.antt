@@ -12,15 +12,15 @@ use Rattle.cert_step.specs.LoopKind.{for_loop, loop_kind}
 use Rattle.cert_step.proofs.Leaving.{passed, leaves_same, leaves_well_made}
 
 module _ (start : Tree) (path : List PlacedRule) (place : List ℕ) where
-  sound : (system : System) (p : ProofProblem) (left : List ProofProblem) → (loop_kind start path place).is_well_made system → IsTrue (for_loop p)
-      → (loop_kind start path place).conditions system p (Ok left) → Holds system p
-  sound system problem.loop left made is h = endless_of_conditions system start path place (passed h) made.0
-  sound system _ left made is h = absurd cc
+  sound : (system : System) (p : ProofProblem) (subproblems : List ProofProblem) → (loop_kind start path place).is_well_made system → IsTrue (for_loop p)
+      → (loop_kind start path place).conditions system p (Ok subproblems) → Holds system p
+  sound system problem.loop subproblems made is h = endless_of_conditions system start path place (passed h) made.0
+  sound system _ subproblems made is h = absurd cc
 
   pub loop_sound : IsSound (loop_kind start path place)
   loop_sound = record {
     one_answer = λ system p valid. search (once, loop_once);
-    leaves_once = λ system p left other h k. leaves_same h k;
-    sound = λ system p left valid made is h each. sound system p left made is h;
-    well_made = λ system p left well made h. leaves_well_made system tt h;
+    leaves_once = λ system p subproblems others h k. leaves_same h k;
+    sound = λ system p subproblems valid made is h each. sound system p subproblems made is h;
+    well_made = λ system p subproblems well made h. leaves_well_made system tt h;
   }

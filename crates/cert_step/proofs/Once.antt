@@ -11,18 +11,18 @@ use Rattle.cert_step.specs.Applies.{step_conditions, Applies}
 use Rattle.cert_step.specs.Refused.{IsStepRefused}
 use Rattle.cert_step.proofs.EachKind.{kind_sound}
 
--- It leaves at most one list of problems.
-pub applies_once : (system : System) (p : ProofProblem) (s : ProofStep) (left other : List ProofProblem)
-    → Applies system p s left → Applies system p s other → left ≡ other
-applies_once system p s left other (goes_on _ _ _ h) (goes_on _ _ _ k) = (kind_sound s).leaves_once system p left other h k
+-- It leaves at most one list of subproblems.
+pub applies_once : (system : System) (p : ProofProblem) (s : ProofStep) (subproblems others : List ProofProblem)
+    → Applies system p s subproblems → Applies system p s others → subproblems ≡ others
+applies_once system p s subproblems others (goes_on _ _ _ h) (goes_on _ _ _ k) = (kind_sound s).leaves_once system p subproblems others h k
 
 module _ (system : System) (valid : IsSystem system) (p : ProofProblem) (s : ProofStep) where
   pub step_once : HasOneAnswer (step_conditions system p s)
   step_once = then_once _ _ (needs_once (IsTrue ((kind_of s).is_for p)) WrongProblem) (λ _. (kind_sound s).one_answer system p valid)
 
   -- A step that applies is not refused.
-  pub not_both : (left : List ProofProblem) (refused : StepRefused) → Applies system p s left → IsStepRefused system p s refused → ⊥
-  not_both left refused a h = let e = step_once.once (Ok left) (Err refused) a h in absurd cc
+  pub not_both : (subproblems : List ProofProblem) (refused : StepRefused) → Applies system p s subproblems → IsStepRefused system p s refused → ⊥
+  not_both subproblems refused a h = let e = step_once.once (Ok subproblems) (Err refused) a h in absurd cc
 
   -- It is refused for at most one reason.
   pub refused_once : (refused other : StepRefused) → IsStepRefused system p s refused → IsStepRefused system p s other → refused ≡ other

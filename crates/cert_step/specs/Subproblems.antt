@@ -1,4 +1,4 @@
--- The problems that a step leaves, and what an answer is that gives them.
+-- The subproblems that a step leaves, and what an answer is that gives them.
 use Rattle.std.specs.Prelude.{◌≡◌, List, [], ◌∷◌, map, Vec, Result, Ok, Err, MatchResult}
 use Rattle.std.specs.declared.alloc.Global.{Global}
 use Rattle.trs_defs.specs.System.{System}
@@ -7,23 +7,24 @@ use Rattle.rewrite_core.specs.declared.refusals.CheckFault.TheVariants.{OutOfMem
 use Rattle.cert_step.specs.declared.problem.Problem.{Problem}
 use Rattle.cert_step.specs.ProofProblem.{ProofProblem, problem_of, Holds, IsWellMadeProblem}
 
--- what each of the problems says of the system
+-- each of the problems holds of the system
 abbrev pub AllHold : System → List ProofProblem → Type 0
 AllHold system [] = Unit {0}
-AllHold system (p ∷ left) = Holds system p × AllHold system left
+AllHold system (p ∷ rest) = Holds system p × AllHold system rest
 
 abbrev pub AreWellMadeProblems : System → List ProofProblem → Type 0
 AreWellMadeProblems system [] = Unit {0}
-AreWellMadeProblems system (p ∷ left) = IsWellMadeProblem system p × AreWellMadeProblems system left
+AreWellMadeProblems system (p ∷ rest) = IsWellMadeProblem system p × AreWellMadeProblems system rest
 
 abbrev pub problems_of : Vec Problem Global → List ProofProblem
 problems_of problems = map problem_of problems.items
 
 -- the answer is these problems, unless memory runs out
 abbrev pub GivesSubproblems : Result (Vec Problem Global) CheckFault → List ProofProblem → Type 0
-GivesSubproblems result left = MatchResult result (λ problems. problems_of problems ≡ left) (λ fault. fault ≡ OutOfMemory)
+GivesSubproblems result subproblems =
+    MatchResult result (λ given. problems_of given ≡ subproblems) (λ fault. fault ≡ OutOfMemory)
 
 -- where a check of conditions passed, the answer is these problems, unless memory runs out; where it did not, its fault
-abbrev pub Leaves : List ProofProblem → Result (Unit {0}) CheckFault → Result (Vec Problem Global) CheckFault → Type 0
-Leaves problems (Ok u) result = GivesSubproblems result problems
-Leaves problems (Err fault) result = result ≡ Err fault
+abbrev pub GivesIfPassed : List ProofProblem → Result (Unit {0}) CheckFault → Result (Vec Problem Global) CheckFault → Type 0
+GivesIfPassed problems (Ok u) result = GivesSubproblems result problems
+GivesIfPassed problems (Err fault) result = result ≡ Err fault

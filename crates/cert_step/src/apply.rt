@@ -1,12 +1,12 @@
-ghost use Rattle.std.specs.Prelude.{List, map, IfOk, IfErr};
+ghost use Rattle.std.specs.Prelude.{List, IfOk, IfErr};
 ghost use Rattle.trs_defs.specs.System.{IsSystem};
-ghost use Rattle.rewrite_core.specs.Check.{Answers};
-ghost use Rattle.rewrite_core.specs.LoopRefusal.{RefusedFor};
+ghost use Rattle.rewrite_core.specs.Check.{AnswersBy, RefusedFor};
 ghost use Rattle.cert_step.specs.ProofProblem.{ProofProblem, problem_of, Holds, IsWellMadeProblem};
 ghost use Rattle.cert_step.specs.ProofStep.{step_of, kind_of, IsWellMade};
 ghost use Rattle.cert_step.specs.Applies.{Applies, step_conditions};
 ghost use Rattle.cert_step.specs.Refused.{IsStepRefused};
-ghost use Rattle.cert_step.specs.Subproblems.{AllHold, AreWellMadeProblems, GivesSubproblems, problems_of};
+ghost use Rattle.cert_step.specs.Subproblems.{AllHold, AreWellMadeProblems};
+ghost use Rattle.cert_step.specs.Subproblems.{GivesSubproblems, problems_of};
 
 use crate::fork_step::apply_fork;
 use crate::loop_step::apply_loop;
@@ -15,8 +15,8 @@ use rewrite_core::{CheckFault, StepRefused};
 use std::alloc::Global;
 use trs_core::Trs;
 
-/// The problems that a step leaves of a problem. Where it does not apply, the first of its
-/// conditions that fails.
+/// The subproblems that a step leaves of a problem: the problem holds once they do. Where the step
+/// does not apply, the first of its conditions that fails.
 pub fn apply_step(
     alloc: Global,
     trs: &Trs,
@@ -25,14 +25,20 @@ pub fn apply_step(
 ) -> Result<Vec<Problem>, CheckFault>
     requires well_made_problem { IsWellMadeProblem trs.now (problem_of problem.now) }
     requires well_made_step { IsWellMade trs.now (step_of step.now) }
-    ensures ok { IfOk result (λ left. Applies trs.now (problem_of problem.now) (step_of step.now) (map problem_of left.items)) }
-    ensures refused { IfErr result (RefusedFor (IsStepRefused trs.now (problem_of problem.now) (step_of step.now))) }
+    ensures ok { IfOk result (λ subproblems. Applies trs.now (problem_of problem.now)
+        (step_of step.now) (problems_of subproblems)) }
+    ensures refused { IfErr result
+        (RefusedFor (IsStepRefused trs.now (problem_of problem.now) (step_of step.now))) }
 
     // A step that applies is refused only for want of memory.
-    ensures only { (left : List ProofProblem) → Applies trs.now (problem_of problem.now) (step_of step.now) left
-        → GivesSubproblems result left }
-    ensures sound { IfOk result (λ left. AllHold trs.now (map problem_of left.items) → Holds trs.now (problem_of problem.now)) }
-    ensures well_made { IfOk result (λ left. AreWellMadeProblems trs.now (map problem_of left.items)) }
+    ensures only { (subproblems : List ProofProblem)
+        → Applies trs.now (problem_of problem.now) (step_of step.now) subproblems
+        → GivesSubproblems result subproblems }
+
+    ensures sound { IfOk result (λ subproblems.
+        AllHold trs.now (problems_of subproblems) → Holds trs.now (problem_of problem.now)) }
+    ensures well_made { IfOk result (λ subproblems.
+        AreWellMadeProblems trs.now (problems_of subproblems)) }
 {
     keeps_system(trs);
     checked(alloc, trs, problem, step)
@@ -45,7 +51,7 @@ fn keeps_system(trs: &Trs)
     trs.rules();
 }
 
-/// The problems that a step leaves, by its conditions alone.
+/// The subproblems that a step leaves, by its conditions alone.
 fn checked(
     alloc: Global,
     trs: &Trs,
@@ -53,7 +59,8 @@ fn checked(
     step: &Step,
 ) -> Result<Vec<Problem>, CheckFault>
     requires { IsWellMade trs.now (step_of step.now) }
-    ensures { Answers problems_of (step_conditions trs.now (problem_of problem.now) (step_of step.now)) result }
+    ensures { AnswersBy problems_of
+        (step_conditions trs.now (problem_of problem.now) (step_of step.now)) result }
 {
     if !step.is_for(problem) {
         return Err(CheckFault::Refused(StepRefused::WrongProblem));
@@ -61,7 +68,7 @@ fn checked(
     checked_kind(alloc, trs, problem, step)
 }
 
-/// The problems that a step leaves of a problem that it is for.
+/// The subproblems that a step leaves of a problem that it is for.
 fn checked_kind(
     alloc: Global,
     trs: &Trs,
@@ -69,7 +76,8 @@ fn checked_kind(
     step: &Step,
 ) -> Result<Vec<Problem>, CheckFault>
     requires { IsWellMade trs.now (step_of step.now) }
-    ensures { Answers problems_of ((kind_of (step_of step.now)).conditions trs.now (problem_of problem.now)) result }
+    ensures { AnswersBy problems_of
+        ((kind_of (step_of step.now)).conditions trs.now (problem_of problem.now)) result }
 {
     match step {
         Step::Loop { start, path, place } => apply_loop(alloc, trs, start, path, place),

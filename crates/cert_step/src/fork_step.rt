@@ -2,7 +2,7 @@ ghost use Rattle.std.specs.Prelude.{◌≡◌, [], OnOk};
 ghost use Rattle.trs_core.specs.View.{tree};
 ghost use Rattle.trs_defs.specs.WellFormed.{IsWellFormed};
 ghost use Rattle.trs_defs.specs.Claims.{IsForked};
-ghost use Rattle.rewrite_core.specs.Check.{Answers, Passes};
+ghost use Rattle.rewrite_core.specs.Check.{AnswersBy, Answers};
 ghost use Rattle.cert_step.specs.Kind.{leaves};
 ghost use Rattle.cert_step.specs.Subproblems.{problems_of};
 ghost use Rattle.cert_step.specs.ForkKind.{end_conditions, fork_conditions};
@@ -13,7 +13,8 @@ use rewrite_core::{CheckFault, ForkTest, PathStep, StepRefused, end_of_path, is_
 use std::alloc::Global;
 use trs_core::{Term, Trs};
 
-/// A fork. It shows that a system is forked, as its ends are never joinable, and leaves no problem.
+/// A fork. It shows that a system is forked, as its ends are never joinable, and leaves no
+/// subproblem.
 pub(crate) fn apply_fork(
     alloc: Global,
     trs: &Trs,
@@ -23,7 +24,8 @@ pub(crate) fn apply_fork(
     test: ForkTest,
 ) -> Result<Vec<Problem>, CheckFault>
     requires { test ≡ ForkTest.Normal }
-    ensures { Answers problems_of (leaves [] (fork_conditions trs.now.rules (tree start.now) left.now right.now test)) result }
+    ensures { AnswersBy problems_of (leaves []
+        (fork_conditions trs.now.rules (tree start.now) left.now right.now test)) result }
 {
     match test {
         ForkTest::Normal => no_problem(alloc, fork_check(alloc, trs, start, left, right)),
@@ -42,8 +44,10 @@ pub fn fork_check(
     left: &[PathStep],
     right: &[PathStep],
 ) -> Result<(), CheckFault>
-    ensures answers { Passes (fork_conditions trs.now.rules (tree start.now) left.now right.now ForkTest.Normal) result }
-    ensures forked { OnOk result (IsWellFormed trs.now.arities (tree start.now) → IsForked trs.now) }
+    ensures answers { Answers (fork_conditions trs.now.rules (tree start.now)
+        left.now right.now ForkTest.Normal) result }
+    ensures forked { OnOk result
+        (IsWellFormed trs.now.arities (tree start.now) → IsForked trs.now) }
 {
     let left_end = end_of_path(alloc, trs, start, left, 0, 0)?;
     let right_end = end_of_path(alloc, trs, start, right, 0, 1)?;
@@ -57,7 +61,8 @@ fn different_normal_forms(
     left: &Term,
     right: &Term,
 ) -> Result<(), CheckFault>
-    ensures { Passes (end_conditions trs.now.rules ForkTest.Normal (tree left.now) (tree right.now)) result }
+    ensures { Answers
+        (end_conditions trs.now.rules ForkTest.Normal (tree left.now) (tree right.now)) result }
 {
     if !is_normal(alloc, trs, left)? {
         return Err(CheckFault::Refused(StepRefused::NotNormal(0)));

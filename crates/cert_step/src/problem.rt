@@ -1,6 +1,6 @@
 ghost use Rattle.std.specs.Prelude.{◌≡◌, ◌↔◌, [], IfOk, IsTrue};
 ghost use Rattle.cert_step.specs.ProofProblem.{problem_of};
-ghost use Rattle.cert_step.specs.Subproblems.{Leaves};
+ghost use Rattle.cert_step.specs.Subproblems.{GivesIfPassed};
 
 use rewrite_core::CheckFault;
 use std::alloc::Global;
@@ -56,12 +56,12 @@ impl Problem {
     }
 }
 
-/// What a step answers that leaves no problem where its conditions hold.
+/// What a step answers that leaves no subproblem where its conditions hold.
 pub(crate) fn no_problem(
     alloc: Global,
     checked: Result<(), CheckFault>,
 ) -> Result<Vec<Problem>, CheckFault>
-    ensures { Leaves [] checked result }
+    ensures { GivesIfPassed [] checked result }
 {
     match checked {
         Ok(()) => Ok(Vec::new(alloc)),

@@ -9,9 +9,9 @@ use Rattle.cert_text.specs.declared.fault.CertFault.{CertFault}
 use Rattle.cert_text.specs.declared.fault.CertFault.TheVariants.{Text, Version, OutOfMemory}
 use Rattle.cert_text.specs.Unreadable.{from_text}
 use Rattle.cert_text.specs.Answers as answers
-use Rattle.cert_text.specs.CertificateText.{place_of_text_fault, certificate, IsCertificateRefused}
+use Rattle.cert_text.specs.CertificateText.{certificate, IsCertificateRefused}
 
-unreadable : (named : NamedSystem) (bytes : List ℕ) (f : TextFault) (p : ℕ) → fault_of 1040 bytes ≡ Some f → p ≡ place_of_text_fault f → IsCertificateRefused named bytes (Text p)
+unreadable : (named : NamedSystem) (bytes : List ℕ) (f : TextFault) (p : ℕ) → fault_of 1040 bytes ≡ Some f → from_text f ≡ Text p → IsCertificateRefused named bytes (Text p)
 unreadable named bytes f p e is = inl (record { cause = f; fault = e; place = is })
 
 -- a text that has a fault as a list of items

@@ -1,15 +1,16 @@
 -- A certificate text has one reading: at most one proof or fault.
 use Rattle.std.proofs.Common.{◌≡◌, ◌≢◌, ◌⊎◌, inl, inr, ℕ, List, refl, sym, ap, ◌∙◌}
 use Rattle.names_text.specs.Named.{NamedSystem}
-use Rattle.ari_text.proofs.OneSystem.{same_items}
+use Rattle.sexp_core.proofs.Viewing.{text_read_once}
 use Rattle.cert_text.specs.declared.fault.CertFault.{CertFault}
 use Rattle.cert_text.specs.declared.fault.CertFault.TheVariants.{Text, Version, OutOfMemory}
 use Rattle.cert_text.specs.ProofText.{ProofText}
-use Rattle.cert_text.specs.CertificateText.{place_of_text_fault, SaysCertificate, HasCertificateFault, IsUnreadable, IsCertificateRefused}
+use Rattle.cert_text.specs.Unreadable.{from_text}
+use Rattle.cert_text.specs.CertificateText.{SaysCertificate, HasCertificateFault, IsUnreadable, IsCertificateRefused}
 
 pub one_certificate : (named : NamedSystem) (text : List ℕ) (s t : ProofText) → SaysCertificate named text s → SaysCertificate named text t → s ≡ t
 one_certificate named text s t h k =
-    let same : h.items ≡ k.items = same_items text h.items k.items h.reads k.reads in
+    let same : h.items ≡ k.items = text_read_once text h.items k.items h.reads k.reads in
     let first = h.read in let second = k.read in cc
 
 -- the cause of a fault that is not want of memory
@@ -25,7 +26,7 @@ memory_or_cause named text OutOfMemory h = inl refl
 no_cause : (named : NamedSystem) (text : List ℕ) (s : ProofText) (f : CertFault) → SaysCertificate named text s → Cause named text f → ⊥
 no_cause named text s f h (inl k) = let none = h.readable in let some = k.2.fault in cc
 no_cause named text s f h (inr k) =
-    let same : h.items ≡ k.items = same_items text h.items k.items h.reads k.reads in
+    let same : h.items ≡ k.items = text_read_once text h.items k.items h.reads k.reads in
     let read = h.read in let fault = k.read in cc
 
 -- a text that says a proof is refused for want of memory alone
@@ -39,11 +40,11 @@ same_cause : (named : NamedSystem) (text : List ℕ) (f g : CertFault) → Cause
 same_cause named text f g (inl h) (inl k) =
     let first = h.2.fault in let second = k.2.fault in
     let same : h.2.cause ≡ k.2.cause = cc in
-    h.1 ∙ ap (λ p. Text p) (h.2.place ∙ ap place_of_text_fault same ∙ sym k.2.place) ∙ sym k.1
+    h.1 ∙ sym h.2.place ∙ ap from_text same ∙ k.2.place ∙ sym k.1
 same_cause named text f g (inl h) (inr k) = let some = h.2.fault in let none = k.readable in absurd cc
 same_cause named text f g (inr h) (inl k) = let none = h.readable in let some = k.2.fault in absurd cc
 same_cause named text f g (inr h) (inr k) =
-    let same : h.items ≡ k.items = same_items text h.items k.items h.reads k.reads in
+    let same : h.items ≡ k.items = text_read_once text h.items k.items h.reads k.reads in
     let first = h.read in let second = k.read in cc
 
 -- want of memory aside, a text is refused for one fault at most

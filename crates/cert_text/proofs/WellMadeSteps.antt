@@ -1,5 +1,5 @@
 -- The steps of a certificate that is read are well-made, and can be printed.
-use Rattle.std.proofs.Common.{◌≡◌, ℕ, ◌==◌, Bool, true, false, cond, List, [], ◌∷◌, length, Result, Ok, Err, IfOk, ap, subst, ◌∙◌}
+use Rattle.std.proofs.Common.{◌≡◌, ℕ, ◌==◌, Bool, true, false, cond, List, [], ◌∷◌, length, Result, Ok, Err, IfOk, refl, ap, subst, ◌∙◌}
 use Rattle.std.specs.List.{All, AllByRecursion}
 use Rattle.std.proofs.lemmas.List.Elements.{All-from_recursion}
 use Rattle.sexp_core.specs.Items.{Items, no_items, item}
@@ -9,7 +9,7 @@ use Rattle.cert_step.specs.ProofStep.{ProofNodeStep, IsWellMade}
 use Rattle.cert_step.specs.declared.claim.Claim.{Claim}
 use Rattle.text_reading.specs.Reading.{Read, ◌<*>◌, many}
 use Rattle.text_reading.proofs.Made.{applied, ok_same, made_many}
-use Rattle.step_text.specs.Ranges.{IsWellMadeAt, IsPrintable}
+use Rattle.step_text.specs.Ranges.{IsWellMadeInRange, IsPrintable}
 use Rattle.step_text.specs.Steps.{step}
 use Rattle.step_text.proofs.StepLaws.{step_made}
 use Rattle.cert_text.specs.declared.fault.CertFault.{CertFault}
@@ -17,50 +17,51 @@ use Rattle.cert_text.specs.declared.fault.CertFault.TheVariants.{Version}
 use Rattle.cert_text.specs.ProofText.{ProofText, proof_text_of}
 use Rattle.cert_text.specs.declared.certificate.Certificate.{Certificate}
 use Rattle.cert_text.specs.Answers.{Answers}
-use Rattle.cert_text.specs.CertificateText.{Head, headline, head, says_of, at_place, behind_head, behind_headline, certificate, SaysCertificate}
+use Rattle.cert_text.specs.declared.head.Head.{Head}
+use Rattle.cert_text.specs.Head.{headline, head}
+use Rattle.cert_text.specs.CertificateText.{◌>>=◌, says_of, body, behind_head, behind_headline, certificate, SaysCertificate}
 
 abbrev AreMade : NamedSystem → ProofText → Type 0
-AreMade named says = AllByRecursion (IsWellMadeAt named.system) says.steps
+AreMade named says = AllByRecursion (IsWellMadeInRange named.system) says.steps
 
-placed_ok : (r : Read ProofText) (says : ProofText) → at_place r ≡ Ok says → r ≡ Ok says
-placed_ok (Ok t) says e = let same : t ≡ says = cc in ap Ok same
-placed_ok (Err p) says e = absurd cc
+read_first : {A : Type 0} (r : Read A) (behind : A → Result ProofText CertFault) (says : ProofText) → r >>= behind ≡ Ok says → (x : A) × (r ≡ Ok x) × (behind x ≡ Ok says)
+read_first (Ok x) behind says e = (x, refl, e)
+read_first (Err p) behind says e = absurd cc
 
 module _ (named : NamedSystem) (counts : length named.names ≡ length named.system.arities) (says : ProofText) where
-  parts_made : (positive : Bool) (claim : Read Claim) (steps : Items) → Ok (says_of positive) <*> claim <*> many (step named) steps ≡ Ok says → AreMade named says
-  parts_made positive claim steps e =
-      let b = applied (Ok (says_of positive) <*> claim) (many (step named) steps) says e in
+  body_made : (positive : Bool) (claim : Read Claim) (steps : Items) → body named positive claim steps ≡ Ok says → AreMade named says
+  body_made positive claim steps e =
+      let (read, is_read, is) = read_first (Ok (says_of positive) <*> claim <*> many (step named) steps) (λ s. Ok s) says e in
+      let b = applied (Ok (says_of positive) <*> claim) (many (step named) steps) read is_read in
       let a = applied (Ok (says_of positive)) claim b.make b.is_make in
       let make : says_of positive ≡ a.make = ok_same (says_of positive) a.make a.is_make in
-      let same : says_of positive a.value b.value ≡ says =
+      let same : says_of positive a.value b.value ≡ read =
       ap (λ (f : Claim → List ProofNodeStep → ProofText). f a.value b.value) make ∙ ap (λ (f : List ProofNodeStep → ProofText). f b.value) a.made ∙ b.made in
-      let steps_same : b.value ≡ says.steps = ap (λ (t : ProofText). t.steps) same in
-      let P : List ProofNodeStep → Type 0 = AllByRecursion (IsWellMadeAt named.system) in
-      subst P steps_same (made_many (step named) (IsWellMadeAt named.system) (step_made named counts) steps b.value b.is_value)
+      let is_says : read ≡ says = cc in
+      let P : List ProofNodeStep → Type 0 = AllByRecursion (IsWellMadeInRange named.system) in
+      subst P (ap (λ (t : ProofText). t.steps) (same ∙ is_says)) (made_many (step named) (IsWellMadeInRange named.system) (step_made named counts) steps b.value b.is_value)
 
-  body_made : (is_one : Bool) (positive : Bool) (h : Head) (steps : Items)
-      → cond is_one (at_place (Ok (says_of positive) <*> h.claim <*> many (step named) steps)) (Err (Version h.version)) ≡ Ok says → AreMade named says
-  body_made true positive h steps e = parts_made positive h.claim steps (placed_ok _ says e)
-  body_made false positive h steps e = absurd cc
+  version_made : (is_one positive : Bool) (h : Head) (steps : Items) → cond is_one (body named positive h.claim steps) (Err (Version h.version)) ≡ Ok says → AreMade named says
+  version_made true positive h steps e = body_made positive h.claim steps e
+  version_made false positive h steps e = absurd cc
 
-  head_made : (positive : Bool) (r : Read Head) (steps : Items) → behind_head named positive r steps ≡ Ok says → AreMade named says
-  head_made positive (Err p) steps e = absurd cc
-  head_made positive (Ok h) steps e = body_made (h.version == 1) positive h steps e
-
-  headline_made : (size : ℕ) (r : Read Bool) (xs : Items) → behind_headline named size r xs ≡ Ok says → AreMade named says
-  headline_made size (Err p) xs e = absurd cc
-  headline_made size (Ok positive) no_items e = absurd cc
-  headline_made size (Ok positive) (item x xs) e = head_made positive (head x) xs e
+  headline_made : (size : ℕ) (positive : Bool) (xs : Items) → behind_headline named size positive xs ≡ Ok says → AreMade named says
+  headline_made size positive no_items e = absurd cc
+  headline_made size positive (item x xs) e =
+      let (h, is, behind) = read_first (head x) (λ h. behind_head named positive h xs) says e in
+      version_made (h.version == 1) positive h xs behind
 
   certificate_made : (size : ℕ) (xs : Items) → certificate named size xs ≡ Ok says → AreMade named says
   certificate_made size no_items e = absurd cc
-  certificate_made size (item x xs) e = headline_made size (headline x) xs e
+  certificate_made size (item x xs) e =
+      let (positive, is, behind) = read_first (headline x) (λ b. behind_headline named size b xs) says e in
+      headline_made size positive xs behind
 
-well_made_only : (system : System) (steps : List ProofNodeStep) → AllByRecursion (IsWellMadeAt system) steps → AllByRecursion (λ s. IsWellMade system s.step) steps
+well_made_only : (system : System) (steps : List ProofNodeStep) → AllByRecursion (IsWellMadeInRange system) steps → AllByRecursion (λ s. IsWellMade system s.step) steps
 well_made_only system [] h = tt
 well_made_only system (s ∷ steps) h = (h.0.well_made, well_made_only system steps h.1)
 
-printable_only : (system : System) (steps : List ProofNodeStep) → AllByRecursion (IsWellMadeAt system) steps → AllByRecursion (IsPrintable system) steps
+printable_only : (system : System) (steps : List ProofNodeStep) → AllByRecursion (IsWellMadeInRange system) steps → AllByRecursion (IsPrintable system) steps
 printable_only system [] h = tt
 printable_only system (s ∷ steps) h = ((h.0.well_made, h.0.node), printable_only system steps h.1)
 

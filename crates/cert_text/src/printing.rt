@@ -7,12 +7,13 @@ ghost use Rattle.cert_step.specs.ProofStep.{step_of, node_step_of};
 ghost use Rattle.step_text.specs.Ranges.{HasNumbersInRange, IsPrintable};
 ghost use Rattle.step_text.specs.Steps.{step_item};
 ghost use Rattle.cert_text.specs.ProofText.{ProofText, proof_text_of};
-ghost use Rattle.cert_text.specs.CertificateText.{SaysCertificate, headline_word as word_of_headline, claim_word as word_of_claim, certificate_items};
+ghost use Rattle.cert_text.specs.CertificateText.{SaysCertificate, certificate_items};
 ghost use Rattle.cert_text.specs.Renumbered.{renumbered};
 
 use crate::Certificate;
+use crate::head::{claim_word, headline_word};
 use names_text::{NamedTrs, underscores};
-use cert_step::{Claim, NodeStep};
+use cert_step::NodeStep;
 use std::alloc::Global;
 use step_text::put_step;
 use text_reading::put;
@@ -28,10 +29,15 @@ pub fn print_certificate(
     certificate: &Certificate,
 ) -> Result<Vec<u8>, OutOfMemory>
     requires { All (IsPrintable system.now.system) (proof_text_of certificate.now).steps }
-    ensures text { IfOk result (λ text. text.items ≡ lines (certificate_items system.now (proof_text_of certificate.now))) }
+    ensures text { IfOk result (λ text.
+        text.items ≡ lines (certificate_items system.now (proof_text_of certificate.now))) }
+
     // It says the certificate, with other numbers of variables, and nothing else.
-    ensures read { IfOk result (λ text. SaysCertificate system.now text.items (renumbered (proof_text_of certificate.now))) }
-    ensures alone { IfOk result (λ text. (other : ProofText) → SaysCertificate system.now text.items other → other ≡ renumbered (proof_text_of certificate.now)) }
+    ensures read { IfOk result (λ text.
+        SaysCertificate system.now text.items (renumbered (proof_text_of certificate.now))) }
+    ensures alone { IfOk result (λ text. (other : ProofText)
+        → SaysCertificate system.now text.items other
+        → other ≡ renumbered (proof_text_of certificate.now)) }
 {
     let mut out = Vec::new(alloc);
     put(&mut out, headline_word(certificate.headline))?;
@@ -51,30 +57,15 @@ pub fn print_certificate(
 /// The text of one step, as `print_certificate` writes it, with no line feed.
 pub fn print_step(alloc: Global, system: &NamedTrs, step: &NodeStep) -> Result<Vec<u8>, OutOfMemory>
     requires { IsPrintable system.now.system (node_step_of step.now) }
-    ensures { IfOk result (λ text. text.items ≡ text_of (step_item system.now (node_step_of step.now))) }
+    ensures { IfOk result (λ text.
+        text.items ≡ text_of (step_item system.now (node_step_of step.now))) }
 {
     let mut out = Vec::new(alloc);
     put_step(alloc, &mut out, system, underscores(system), step)?;
     Ok(out)
 }
 
-fn headline_word(positive: bool) -> &'static [u8]
-    ensures { result.now ≡ word_of_headline positive }
-{
-    if positive { b"YES" } else { b"NO" }
-}
-
-fn claim_word(claim: Claim) -> &'static [u8]
-    ensures { result.now ≡ word_of_claim claim }
-{
-    match claim {
-        Claim::Terminating => b"terminating",
-        Claim::Nonterminating => b"nonterminating",
-        Claim::Confluent => b"confluent",
-        Claim::Nonconfluent => b"nonconfluent",
-    }
-}
-
+/// Appends a line for each step.
 fn put_steps(
     alloc: Global,
     out: &mut Vec<u8>,
@@ -83,8 +74,10 @@ fn put_steps(
     steps: &[NodeStep],
 ) -> Result<(), OutOfMemory>
     requires { underscores ≡ underscores_of system.now.names }
-    ensures text { OnOk result (out.new.items ≡ out.old.items ++ lines (items_of (map (step_item system.now) (map node_step_of steps.now)))) }
-    ensures range { OnOk result (AllByRecursion (λ s. HasNumbersInRange (step_of s.step)) steps.now) }
+    ensures text { OnOk result (out.new.items ≡ out.old.items
+        ++ lines (items_of (map (step_item system.now) (map node_step_of steps.now)))) }
+    ensures range { OnOk result
+        (AllByRecursion (λ s. HasNumbersInRange (step_of s.step)) steps.now) }
 {
     for step in steps {
         put_step(alloc, out, system, underscores, step)?;

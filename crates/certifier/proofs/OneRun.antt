@@ -16,12 +16,12 @@ use Rattle.certifier.proofs.Soundness.{same_problem}
 
 -- ---- steps that are made
 
-pub same_after : (system : System) (nodes : List Node) (s : ProofNodeStep) (p q : ProofProblem) (left other : List ProofProblem)
-    → slice_get nodes s.node ≡ Some (open_node p) → slice_get nodes s.node ≡ Some (open_node q) → Applies system p s.step left → Applies system q s.step other
-    → nodes_after nodes s.node p left ≡ nodes_after nodes s.node q other
-same_after system nodes s p q left other here there a b =
+pub same_after : (system : System) (nodes : List Node) (s : ProofNodeStep) (p q : ProofProblem) (subproblems others : List ProofProblem)
+    → slice_get nodes s.node ≡ Some (open_node p) → slice_get nodes s.node ≡ Some (open_node q) → Applies system p s.step subproblems → Applies system q s.step others
+    → nodes_after nodes s.node p subproblems ≡ nodes_after nodes s.node q others
+same_after system nodes s p q subproblems others here there a b =
     let problems : p ≡ q = same_problem nodes s.node p q here there in
-    let lists : left ≡ other = applies_once system q s.step left other (subst (λ x. Applies system x s.step left) problems a) b in
+    let lists : subproblems ≡ others = applies_once system q s.step subproblems others (subst (λ x. Applies system x s.step subproblems) problems a) b in
     cc
 
 pub made_once : (system : System) (steps : List ProofNodeStep) (nodes a b : List Node) → Makes system nodes steps a → Makes system nodes steps b → a ≡ b
@@ -33,7 +33,7 @@ made_once system (s ∷ steps) nodes a b h k =
 -- ---- a step that can't be made
 
 abbrev IsHalted : System → List Node → ProofNodeStep → Type 0
-IsHalted system nodes s = (p : ProofProblem) (left : List ProofProblem) → slice_get nodes s.node ≡ Some (open_node p) → Applies system p s.step left → ⊥
+IsHalted system nodes s = (p : ProofProblem) (subproblems : List ProofProblem) → slice_get nodes s.node ≡ Some (open_node p) → Applies system p s.step subproblems → ⊥
 
 -- the steps before number i are made and lead to these nodes, and step i stands there and can't be made
 record Halts (system : System) (nodes : List Node) (steps : List ProofNodeStep) (i : ℕ) (mid : List Node) (s : ProofNodeStep) : Type 0 where
@@ -42,17 +42,17 @@ record Halts (system : System) (nodes : List Node) (steps : List ProofNodeStep) 
   halted : IsHalted system mid s
 
 halts_here : (system : System) (nodes mid : List Node) (t s : ProofNodeStep) (steps : List ProofNodeStep) → Halts system nodes (t ∷ steps) 0 mid s → IsHalted system nodes t
-halts_here system nodes mid t s steps h p left e a =
+halts_here system nodes mid t s steps h p subproblems e a =
     let step : t ≡ s = cc (h.there) in
     let here : nodes ≡ mid = h.makes in
-    h.halted p left
+    h.halted p subproblems
     (subst (λ (x : ProofNodeStep). slice_get mid x.node ≡ Some (open_node p)) step (subst (λ (x : List Node). slice_get x t.node ≡ Some (open_node p)) here e))
-    (subst (λ (x : ProofNodeStep). Applies system p x.step left) step a)
+    (subst (λ (x : ProofNodeStep). Applies system p x.step subproblems) step a)
 
-halts_later : (system : System) (nodes mid : List Node) (t s : ProofNodeStep) (steps : List ProofNodeStep) (i : ℕ) (p : ProofProblem) (left : List ProofProblem)
-    → slice_get nodes t.node ≡ Some (open_node p) → Applies system p t.step left → Halts system nodes (t ∷ steps) (suc i) mid s → Halts system (nodes_after nodes t.node p left) steps i mid s
-halts_later system nodes mid t s steps i p left e a h =
-    let same = same_after system nodes t h.makes.0 p h.makes.1 left h.makes.2 e h.makes.3 a in
+halts_later : (system : System) (nodes mid : List Node) (t s : ProofNodeStep) (steps : List ProofNodeStep) (i : ℕ) (p : ProofProblem) (subproblems : List ProofProblem)
+    → slice_get nodes t.node ≡ Some (open_node p) → Applies system p t.step subproblems → Halts system nodes (t ∷ steps) (suc i) mid s → Halts system (nodes_after nodes t.node p subproblems) steps i mid s
+halts_later system nodes mid t s steps i p subproblems e a h =
+    let same = same_after system nodes t h.makes.0 p h.makes.1 subproblems h.makes.2 e h.makes.3 a in
     record {
       makes = subst (λ x. Makes system x (take i steps) mid) same h.makes.4;
       there = h.there;
@@ -94,16 +94,16 @@ halts_once system (r ∷ steps) nodes (suc i) (suc j) mid other s t h k =
 -- ---- why a step is not made
 
 pub stuck_halts : (system : System) (nodes : List Node) (s : ProofNodeStep) (i : ℕ) (why : Rejected) → IsSystem system → why ≢ OutOfMemory → IsStuck system nodes s i why → IsHalted system nodes s
-stuck_halts system nodes s i (NoNode k) valid n h p left e a = let none = h.1 in cc
-stuck_halts system nodes s i (Decided k) valid n h p left e a =
+stuck_halts system nodes s i (NoNode k) valid n h p subproblems e a = let none = h.1 in cc
+stuck_halts system nodes s i (Decided k) valid n h p subproblems e a =
     let closed = h.1.2 in let there = h.1.1 in
     let same : h.1.0 ≡ open_node p = cc in
     let opened = ap (λ (x : Node). x.is_open) same in cc
-stuck_halts system nodes s i (Step k why) valid n h p left e a =
+stuck_halts system nodes s i (Step k why) valid n h p subproblems e a =
     let same : h.1.0 ≡ p = same_problem nodes s.node h.1.0 p h.1.1 e in
-    not_both system valid p s.step left why a (subst (λ x. IsStepRefused system x s.step why) same h.1.2)
-stuck_halts system nodes s i OutOfMemory valid n h p left e a = n refl
-stuck_halts system nodes s i _ valid n h p left e a = h
+    not_both system valid p s.step subproblems why a (subst (λ x. IsStepRefused system x s.step why) same h.1.2)
+stuck_halts system nodes s i OutOfMemory valid n h p subproblems e a = n refl
+stuck_halts system nodes s i _ valid n h p subproblems e a = h
 
 stuck_once : (system : System) (nodes : List Node) (s : ProofNodeStep) (i : ℕ) (why other : Rejected) → IsSystem system → why ≢ OutOfMemory → other ≢ OutOfMemory
     → IsStuck system nodes s i why → IsStuck system nodes s i other → why ≡ other
@@ -144,7 +144,7 @@ stuck_once system nodes s i why (Open a) valid n m h k = absurd k
 -- ---- answers
 
 -- a step is not made, for this reason
-record IsStopped (system : System) (claim : Claim) (steps : List ProofNodeStep) (why : Rejected) : Type 0 where
+record IsStuckAt (system : System) (claim : Claim) (steps : List ProofNodeStep) (why : Rejected) : Type 0 where
   number : ℕ
   nodes : List Node
   step : ProofNodeStep
@@ -155,24 +155,24 @@ record IsStopped (system : System) (claim : Claim) (steps : List ProofNodeStep) 
 
 -- what is rejected, want of memory aside
 abbrev Cause : System → Claim → List ProofNodeStep → Rejected → Type 0
-Cause system claim steps why = IsStopped system claim steps why ⊎ ((n : ℕ) × (why ≡ Open n) × IsLeftOpen system claim steps n)
+Cause system claim steps why = IsStuckAt system claim steps why ⊎ ((n : ℕ) × (why ≡ Open n) × IsLeftOpen system claim steps n)
 
 cause_of : (system : System) (claim : Claim) (steps : List ProofNodeStep) (why : Rejected) → AreRejected system claim steps why → (why ≡ OutOfMemory) ⊎ Cause system claim steps why
 cause_of system claim steps (NoNode i) h =
-    inr (inl (record { number = i; nodes = h.nodes; step = h.step; makes = h.stops.makes; there = h.stops.there; stuck = (refl, h.none); no_memory = λ e. cc }))
+    inr (inl (record { number = i; nodes = h.nodes; step = h.step; makes = h.next.makes; there = h.next.there; stuck = (refl, h.none); no_memory = λ e. cc }))
 cause_of system claim steps (Decided i) h =
-    inr (inl (record { number = i; nodes = h.nodes; step = h.step; makes = h.stops.makes; there = h.stops.there; stuck = (refl, (h.node, h.there, h.decided)); no_memory = λ e. cc }))
+    inr (inl (record { number = i; nodes = h.nodes; step = h.step; makes = h.next.makes; there = h.next.there; stuck = (refl, (h.node, h.there, h.decided)); no_memory = λ e. cc }))
 cause_of system claim steps (Step i why) h =
-    inr (inl (record { number = i; nodes = h.nodes; step = h.step; makes = h.stops.makes; there = h.stops.there; stuck = (refl, (h.problem, h.there, h.refuses)); no_memory = λ e. cc }))
+    inr (inl (record { number = i; nodes = h.nodes; step = h.step; makes = h.next.makes; there = h.next.there; stuck = (refl, (h.problem, h.there, h.refuses)); no_memory = λ e. cc }))
 cause_of system claim steps (Open n) h = inr (inr (n, refl, h))
 cause_of system claim steps OutOfMemory h = inl refl
 cause_of system claim steps _ h = absurd h
 
-halt_of : (system : System) (claim : Claim) (steps : List ProofNodeStep) (why : Rejected) → IsSystem system → (h : IsStopped system claim steps why) → Halts system (first_nodes claim) steps h.number h.nodes h.step
+halt_of : (system : System) (claim : Claim) (steps : List ProofNodeStep) (why : Rejected) → IsSystem system → (h : IsStuckAt system claim steps why) → Halts system (first_nodes claim) steps h.number h.nodes h.step
 halt_of system claim steps why valid h =
     record { makes = h.makes; there = h.there; halted = stuck_halts system h.nodes h.step h.number why valid h.no_memory h.stuck }
 
-stopped_once : (system : System) (claim : Claim) (steps : List ProofNodeStep) (why other : Rejected) → IsSystem system → IsStopped system claim steps why → IsStopped system claim steps other → why ≡ other
+stopped_once : (system : System) (claim : Claim) (steps : List ProofNodeStep) (why other : Rejected) → IsSystem system → IsStuckAt system claim steps why → IsStuckAt system claim steps other → why ≡ other
 stopped_once system claim steps why other valid h k =
     let same = halts_once system steps (first_nodes claim) h.number k.number h.nodes k.nodes h.step k.step
     (halt_of system claim steps why valid h) (halt_of system claim steps other valid k) in
@@ -184,8 +184,8 @@ stopped_once system claim steps why other valid h k =
 not_below : (system : System) (claim : Claim) (steps : List ProofNodeStep) (n m : ℕ) → IsLeftOpen system claim steps n → IsLeftOpen system claim steps m → n < m → ⊥
 not_below system claim steps n m h k lt =
     let nodes = made_once system steps (first_nodes claim) h.nodes k.nodes h.makes k.makes in
-    let there = subst (λ (x : List Node). slice_get x n ≡ Some (open_node h.problem)) nodes h.there in
-    let closed = k.least n (open_node h.problem) lt there in cc
+    let there = subst (λ (x : List Node). slice_get x n ≡ Some (open_node h.least.problem)) nodes h.least.there in
+    let closed = k.least.least n (open_node h.least.problem) lt there in cc
 
 open_once : (system : System) (claim : Claim) (steps : List ProofNodeStep) (n m : ℕ) → IsLeftOpen system claim steps n → IsLeftOpen system claim steps m → n ≡ m
 open_once system claim steps n m h k = go (nat_lt n m) (nat_lt m n) refl refl
@@ -219,8 +219,8 @@ no_cause system claim steps why valid h (inl k) =
     not_made system steps (first_nodes claim) k.number k.nodes k.step h.nodes (halt_of system claim steps why valid k) h.makes
 no_cause system claim steps why valid h (inr k) =
     let nodes = made_once system steps (first_nodes claim) k.2.nodes h.nodes k.2.makes h.makes in
-    let there = subst (λ (x : List Node). slice_get x k.0 ≡ Some (open_node k.2.problem)) nodes k.2.there in
-    let closed = h.decided k.0 (open_node k.2.problem) there in cc
+    let there = subst (λ (x : List Node). slice_get x k.0 ≡ Some (open_node k.2.least.problem)) nodes k.2.least.there in
+    let closed = h.decided k.0 (open_node k.2.least.problem) there in cc
 
 -- steps that are accepted are rejected for want of memory alone
 pub accepted_only : (system : System) (claim : Claim) (steps : List ProofNodeStep) (why : Rejected) → IsSystem system → IsAccepted system claim steps → AreRejected system claim steps why → why ≡ OutOfMemory

@@ -1,12 +1,12 @@
 -- Refusals of words.
-use Rattle.std.proofs.Common.{◌≡◌, ◌⊎◌, List, [], ◌∷◌, Option, Some, None, Result, Ok, Err, refl, sym, ap, subst, ◌∙◌, inl, inr, true, false, codes}
+use Rattle.std.proofs.Common.{◌≡◌, ◌⊎◌, List, [], ◌∷◌, Option, None, Err, refl, sym, ap, subst, ◌∙◌, inl, inr, true}
 use Rattle.clap.specs.Words.{Kinds, IsAmong}
 use Rattle.clap.specs.declared.error.kind.ErrorKind.{ErrorKind}
 use Rattle.clap.specs.declared.error.kind.ErrorKind.TheVariants.{OutOfMemory as NoMemory}
-use Rattle.clap.specs.Words.{App, Text, Row, app_of, fault_of, first_of, first_value, is_simple, is_simple_and_free, matches_of, rows_of}
+use Rattle.clap.specs.Words.{App, Text, Row, fault_of, first_of, first_value, is_simple, is_simple_and_free, matches_of, rows_of}
 use Rattle.clap.specs.declared.parser.matches.Found.{Found}
 use Rattle.clap.proofs.WalkLemmas.{first_value-rows}
-use Rattle.command_line.specs.Request.{Asked, Answers, where_none, command_app, request_of, asked_with, asked_by}
+use Rattle.command_line.specs.Request.{Asked, Answers, where_none, command_app, request_of, asked_by}
 use Rattle.command_line.specs.declared.Refused.{Refused}
 use Rattle.command_line.specs.declared.Refused.TheVariants.{Usage, OutOfMemory}
 
@@ -28,16 +28,9 @@ pub simple : is_simple_and_free command_app ≡ true
 unfolding command_app
 simple = refl
 
--- what the getters read
-pub asked_at : (f : Found) (a p c w b : Option Text) → a ≡ first_value f (codes "action") → p ≡ first_value f (codes "problem") → c ≡ first_value f (codes "certificate")
-    → w ≡ first_value f (codes "workers") → b ≡ first_value f (codes "budget") → asked_with a p c w b ≡ asked_by (rows_of f)
-asked_at f a p c w b ea ep ec ew eb =
-    let read : (id : Text) (o : Option Text) → o ≡ first_value f id → o ≡ first_of id (rows_of f) = λ id o h. h ∙ first_value-rows f id in
-    ap (λ (o : Option Text). asked_with o p c w b) (read (codes "action") a ea)
-    ∙ ap (λ (o : Option Text). asked_with (first_of (codes "action") (rows_of f)) o c w b) (read (codes "problem") p ep)
-    ∙ ap (λ (o : Option Text). asked_with (first_of (codes "action") (rows_of f)) (first_of (codes "problem") (rows_of f)) o w b) (read (codes "certificate") c ec)
-    ∙ ap (λ (o : Option Text). asked_with (first_of (codes "action") (rows_of f)) (first_of (codes "problem") (rows_of f)) (first_of (codes "certificate") (rows_of f)) o b) (read (codes "workers") w ew)
-    ∙ ap (λ (o : Option Text). asked_with (first_of (codes "action") (rows_of f)) (first_of (codes "problem") (rows_of f)) (first_of (codes "certificate") (rows_of f)) (first_of (codes "workers") (rows_of f)) o) (read (codes "budget") b eb)
+-- what the rows say of an argument is what a getter reads
+pub row_value : (f : Found) (id : Text) → first_of id (rows_of f) ≡ first_value f id
+row_value f id = sym (first_value-rows f id)
 
 pub is_asked : (app : App) (words : List Text) (rows : List Row) (o : Option Asked) → app ≡ command_app → fault_of app words ≡ [] → rows ≡ matches_of app words → o ≡ asked_by rows → request_of words ≡ o
 unfolding request_of

@@ -32,6 +32,12 @@ command_app =
 pub data Asked : Type 0 where
   certifies : (problem certificate : Text) → Asked
 
+abbrev pub most_workers : ℕ
+most_workers = 16
+
+abbrev pub most_budget : ℕ
+most_budget = 1000000
+
 abbrev pub is_at_least_one : Option ℕ → Bool
 is_at_least_one None = false
 is_at_least_one (Some n) = nat_le 1 n
@@ -41,33 +47,29 @@ abbrev pub is_good : ℕ → Option Text → Bool
 is_good limit None = true
 is_good limit (Some w) = is_at_least_one (numeral_value limit w)
 
--- an action with its texts, where the options are good
-unfoldable pub certification : Bool → Text → Text → Text → Option Asked
-certification good action problem certificate =
-    if good && bytes_eq action (codes "certify") then Some (certifies problem certificate) else None
+-- the number of workers and the budget are good
+abbrev pub are_good : Option Text → Option Text → Bool
+are_good workers budget = is_good most_workers workers && is_good most_budget budget
 
-abbrev pub asked_by_texts : Bool → Option Text → Option Text → Option Text → Option Asked
-asked_by_texts good None problem certificate = None
-asked_by_texts good (Some action) None certificate = None
-asked_by_texts good (Some action) (Some problem) None = None
-asked_by_texts good (Some action) (Some problem) (Some certificate) = certification good action problem certificate
+-- the action `certify`, with a problem and a certificate
+abbrev pub certification : Option Text → Option Text → Option Text → Option Asked
+certification (Some action) (Some problem) (Some certificate) =
+    if bytes_eq action (codes "certify") then Some (certifies problem certificate) else None
+certification _ _ _ = None
 
--- one worker, and a budget of at most a million steps
-abbrev pub asked_with : Option Text → Option Text → Option Text → Option Text → Option Text → Option Asked
-asked_with action problem certificate workers budget =
-    asked_by_texts (is_good 1 workers && is_good 1000000 budget) action problem certificate
-
+-- what the values that clap matched ask for: nothing, where a number is not good
 abbrev pub asked_by : List Row → Option Asked
 asked_by rows =
-    asked_with (first_of (codes "action") rows) (first_of (codes "problem") rows) (first_of (codes "certificate") rows)
-    (first_of (codes "workers") rows) (first_of (codes "budget") rows)
+    if are_good (first_of (codes "workers") rows) (first_of (codes "budget") rows)
+    then certification (first_of (codes "action") rows) (first_of (codes "problem") rows) (first_of (codes "certificate") rows)
+    else None
 
--- where clap has no fault to find
+-- nothing, where clap has a fault to find
 abbrev pub where_none : Kinds → Option Asked → Option Asked
 where_none [] asked = asked
 where_none (k ∷ ks) asked = None
 
--- what the words ask for, if anything: what clap's rules for the simple command match, by the rules of the product
+-- what the words ask for, if anything
 unfoldable pub request_of : List Text → Option Asked
 request_of words = where_none (fault_of command_app words) (asked_by (matches_of command_app words))
 

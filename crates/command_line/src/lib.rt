@@ -4,10 +4,11 @@
 //! command without subcommands, help or version flags.
 #![tactic(auto)]
 
-ghost use Rattle.std.specs.Prelude.{◌≡◌, ◌&&◌, IfOk, map, option_map};
+ghost use Rattle.std.specs.Prelude.{◌≡◌, IfOk, map, option_map};
+ghost use Rattle.std.specs.Option.{option_copied};
 ghost use Rattle.clap.specs.Words.{app_of, found_of, rows_of};
 ghost use Rattle.clap.specs.declared.error.kind.ErrorKind.TheVariants.{OutOfMemory as NoMemory};
-ghost use Rattle.command_line.specs.Request.{command_app, request_of, request_view, asked_with, asked_by, asked_by_texts, certification, is_good, Answers};
+ghost use Rattle.command_line.specs.Request.{command_app, request_of, request_view, asked_by, certification, is_good, are_good, Answers};
 ghost use Rattle.command_line.specs.declared.Refused.TheVariants.{OutOfMemory};
 
 use clap::error::ErrorKind;
@@ -72,9 +73,13 @@ fn refusal(kind: ErrorKind) -> Refused
     }
 }
 
+const MOST_WORKERS: u64 = 16;
+
+const MOST_BUDGET: u64 = 1_000_000;
+
 // Whether an option is left out, or a whole number from 1 to a limit.
 fn is_good(value: Option<&str>, limit: u64) -> bool
-    ensures { result ≡ is_good limit (option_map (λ t. t.now) value.entry) }
+    ensures { result ≡ is_good limit (option_copied value.entry) }
 {
     match value {
         None => true,
@@ -85,69 +90,48 @@ fn is_good(value: Option<&str>, limit: u64) -> bool
     }
 }
 
-// Whether both options are good: one worker, and a budget of at most a million.
 fn are_good(workers: Option<&str>, budget: Option<&str>) -> bool
-    ensures { result ≡ (is_good 1 (option_map (λ t. t.now) workers.entry) && is_good 1000000 (option_map (λ t. t.now) budget.entry)) }
+    ensures { result ≡ are_good (option_copied workers.entry) (option_copied budget.entry) }
 {
-    is_good(workers, 1) && is_good(budget, 1_000_000)
+    is_good(workers, MOST_WORKERS) && is_good(budget, MOST_BUDGET)
 }
 
-// The action `certify`, where the options are good.
-#[tactic(auto, unfolding(crate::specs::Request::certification))]
+// The action `certify`, with a problem and a certificate.
 fn certification<'a>(
-    good: bool,
-    action: &str,
-    problem: &'a str,
-    certificate: &'a str,
-) -> Option<Request<'a>>
-    ensures { option_map request_view result ≡ certification good action.now problem.now certificate.now }
-{
-    if good && action == "certify" {
-        Some(Request::Certify {
-            problem,
-            certificate,
-        })
-    } else {
-        None
-    }
-}
-
-// What the texts of a command line ask for, where the options are good.
-fn asked<'a>(
-    good: bool,
-    action: Option<&'a str>,
+    action: Option<&str>,
     problem: Option<&'a str>,
     certificate: Option<&'a str>,
 ) -> Option<Request<'a>>
-    ensures { option_map request_view result ≡ asked_by_texts good (option_map (λ t. t.now) action.entry)
-        (option_map (λ t. t.now) problem.entry) (option_map (λ t. t.now) certificate.entry) }
+    ensures { option_map request_view result ≡ certification (option_copied action.entry)
+        (option_copied problem.entry) (option_copied certificate.entry) }
 {
-    match action {
-        None => None,
-        Some(action) => match problem {
-            None => None,
-            Some(problem) => match certificate {
-                None => None,
-                Some(certificate) => certification(good, action, problem, certificate),
-            },
-        },
+    if action? != "certify" {
+        return None;
     }
+    Some(Request::Certify {
+        problem: problem?,
+        certificate: certificate?,
+    })
 }
 
 // What the matches ask for.
+#[tactic(auto, using(crate::proofs::Refusing::row_value))]
 fn request_from<'a>(matches: &ArgMatches<'a>) -> Option<Request<'a>>
     ensures { option_map request_view result ≡ asked_by (rows_of (found_of matches.now)) }
 {
-    let good = are_good(matches.get_str("workers"), matches.get_str("budget"));
+    if !are_good(matches.get_str("workers"), matches.get_str("budget")) {
+        return None;
+    }
     let action = matches.get_str("action");
     let problem = matches.get_str("problem");
     let certificate = matches.get_str("certificate");
-    asked(good, action, problem, certificate)
+    certification(action, problem, certificate)
 }
 
 /// What the words ask for, the program's name left out. `Usage` comes exactly where they ask for
 /// nothing: where `clap`'s rules for the simple command refuse them, the action is not `certify`
-/// with a problem and a certificate, `--workers` is not 1, or `--budget` is not from 1 to 1,000,000.
+/// with a problem and a certificate, `--workers` is not from 1 to 16, or `--budget` is not from 1 to
+/// 1,000,000. Both numbers are read, and then ignored.
 pub fn parse<'a>(alloc: Global, words: &'a [&'a str]) -> Result<Request<'a>, Refused>
     ensures { Answers result (request_of (map (λ w. w.now) words.now)) }
 {
@@ -162,34 +146,4 @@ pub fn parse<'a>(alloc: Global, words: &'a [&'a str]) -> Result<Request<'a>, Ref
 }
 
 #[cfg(test)]
-mod tests {
-    use super::*;
-    use std::test::*;
-
-    // Whether words ask for something; want of memory is neither.
-    fn are_taken(rt: &HostRuntime, words: &[&str]) -> Option<bool> {
-        match parse(rt.alloc(), words) {
-            Ok(Request::Certify { .. }) => Some(true),
-            Err(Refused::Usage) => Some(false),
-            Err(Refused::OutOfMemory) => None,
-        }
-    }
-
-    #[test]
-    fn words_are_taken_or_refused(rt: HostRuntime) {
-        let taken = |words: &[&str]| are_taken(&rt, words) == Some(true);
-        let refused = |words: &[&str]| are_taken(&rt, words) == Some(false);
-        assert!(rt; taken(&["certify", "p", "c"]));
-        assert!(rt; taken(&["certify", "--workers=1", "p", "c", "--budget", "1000000"]));
-        assert!(rt; taken(&["certify", "p", "--", "-c"]));
-        assert!(rt; refused(&["termination"]));
-        assert!(rt; refused(&["prove", "x"]));
-        assert!(rt; refused(&["certify", "x"]));
-        assert!(rt; refused(&["termination", "x", "y"]));
-        assert!(rt; refused(&["certify", "p", "c", "--workers", "17"]));
-        assert!(rt; refused(&["sample", "0"]));
-        assert!(rt; refused(&["certify", "p", "c", "--budget", "2", "--budget", "3"]));
-        assert!(rt; refused(&["certify", "p", "c", "--budget", "01"]));
-        assert!(rt; refused(&["certify", "p", "c", "--help"]));
-    }
-}
+mod tests;

@@ -2,15 +2,16 @@
 use Rattle.std.specs.Prelude.{◌≡◌, ◌≢◌, ℕ, List, [], ◌∷◌, Some, slice_get}
 use Rattle.std.proofs.Common.{zero, suc, refl, sym, ◌∙◌, ap, subst, arith}
 use Rattle.trs_defs.specs.Member.{In, in_first, in_rest}
-use Rattle.trs_defs.specs.Tree.{Tree, var, app, nil}
+use Rattle.trs_defs.specs.Tree.{Tree, Trees, var, app, nil}
 use Rattle.trs_defs.specs.Substitution.{apply}
 use Rattle.trs_defs.specs.System.{RewriteRule, IsRule, IsSystem}
-use Rattle.trs_defs.specs.Linear.{AreLeftLinear, AreRightLinear}
-use Rattle.trs_defs.specs.Peak.{Peak, Covers}
+use Rattle.confluence_theory.specs.Linear.{AreLeftLinear, AreRightLinear}
+use Rattle.confluence_theory.specs.Overlap.{Overlap, OverlapOne, overlap_here, overlap_deep}
+use Rattle.confluence_theory.specs.Peak.{Peak, Covers}
 use Rattle.trs_defs.specs.Position.{subterm_at}
-use Rattle.trs_defs.specs.CriticalPeak.{IsCriticalPeak, HasCriticalPeaks}
+use Rattle.confluence_theory.specs.CriticalPeak.{IsCriticalPeak, HasCriticalPeaks}
 use Rattle.trs_defs.specs.Step.{here, deep, Step}
-use Rattle.trs_defs.specs.RuleRanks.{NumberedStep}
+use Rattle.confluence_theory.specs.RuleRanks.{NumberedStep}
 use Rattle.trs_defs.specs.NormalForm.{IsNormalForm}
 use Rattle.trs_defs.proofs.Members.{in_of_get, get_of_in}
 use Rattle.confluence_theory.proofs.CriticalCover.{covered}
@@ -91,6 +92,7 @@ critical_peak i j f g h =
       reduct = constant g;
       replaced = refl;
       names = λ v. v;
+      different = λ v w h k e. e;
       top = refl;
       left = refl;
       right = refl;
@@ -164,3 +166,22 @@ sides rule l r e =
     let other : RewriteRule = record { left = l; right = r } in
     let k : other ≡ rule = cc e in
     (ap (λ z. z.left) k, ap (λ z. z.right) k)
+
+-- where instances of two left sides are equal, so are those of the two rules that are known
+pub instances_of : (rule rule' : RewriteRule) (l r l' r' : Tree) (σ ρ : ℕ → Tree) → Some rule ≡ Some (record { left = l; right = r })
+    → Some rule' ≡ Some (record { left = l'; right = r' }) → apply σ l ≡ apply ρ l' → apply σ rule.left ≡ apply ρ rule'.left
+instances_of rule rule' l r l' r' σ ρ h h' e =
+    sym (ap (apply σ) (sides rule l r h).0) ∙ (e ∙ ap (apply ρ) (sides rule' l' r' h').0)
+
+-- what holds of the rule of each number holds of each listed rule
+pub each_listed : (rules : List RewriteRule) (P : RewriteRule → Type 0) → ((k : ℕ) (r : RewriteRule) → slice_get rules k ≡ Some r → P r)
+    → (r : RewriteRule) → In r rules → P r
+each_listed rules P each r h = let (k, e) = get_of_in h in each k r e
+
+-- an overlap at a constant is at its root
+pub at_constant : (R : Tree → Tree → Type 0) (n : ℕ) (σ : ℕ → Tree) (t : Tree) → Overlap R σ (constant n) t → R (constant n) t
+at_constant R n σ t (overlap_here r) = r
+at_constant R n σ t (overlap_deep d) = elim d [ ]
+
+pub in_nothing : (R : Tree → Tree → Type 0) (σ : ℕ → Tree) (ts : Trees) → OverlapOne R σ nil ts → ⊥
+in_nothing R σ ts d = elim d [ ]

@@ -6,14 +6,14 @@ use Rattle.trs_defs.specs.Tree.{Tree}
 use Rattle.trs_defs.specs.System.{RewriteRule, System, IsSystem}
 use Rattle.trs_defs.specs.Joinable.{IsJoinable}
 use Rattle.trs_defs.specs.NormalForm.{IsNormalForm}
-use Rattle.trs_defs.specs.Linear.{AreLeftLinear, AreRightLinear}
-use Rattle.trs_defs.specs.Peak.{Peak, Covers}
-use Rattle.trs_defs.specs.LabelledPath.{LabelledPath}
-use Rattle.trs_defs.specs.RanksFit.{RanksFit}
-use Rattle.trs_defs.specs.RuleRanks.{NumberedStep, rank_of}
+use Rattle.confluence_theory.specs.Linear.{AreLeftLinear, AreRightLinear}
+use Rattle.confluence_theory.specs.Peak.{Peak, Covers}
+use Rattle.abstract_confluence.specs.LabelledPath.{LabelledPath}
+use Rattle.abstract_confluence.specs.RanksFit.{RanksFit}
+use Rattle.confluence_theory.specs.RuleRanks.{NumberedStep, rank_of}
 use Rattle.trs_defs.specs.Step.{Step}
 use Rattle.trs_defs.specs.Claims.{IsForked}
-use Rattle.confluence_theory.proofs.NormalForms.{split_forked}
+use Rattle.trs_defs.proofs.NormalForms.{forked_by_normal_forms}
 use Rattle.confluence_theory.proofs.Constants.{constant, rewrites, peak_of, nullary, AreConstant, constant_system, constant_left, constant_right, symbols_of, HasConstantPeaks, listed_at, constant_covers, constant_step, constant_reaches, constant_next}
 
 -- Without termination: b -> a, b -> c, c -> b, c -> d (Kleene's example).
@@ -94,15 +94,8 @@ d_normal u s = let (k, g, e, same) = constant_next kleene kleene_constant 3 u s 
 
 kleene_forked : IsForked kleene_system
 kleene_forked =
-    split_forked kleene_system (
-      constant 1,
-      constant 0,
-      constant 3,
-      (refl, tt),
-      ((1, (constant 0, b_a, refl)), a_normal),
-      ((2, (constant 2, b_c, (constant 3, c_d, refl))), d_normal),
-      λ e. absurd (cc e),
-    )
+    forked_by_normal_forms kleene_system (constant 1) (constant 0) (constant 3) (refl, tt) (1, (constant 0, b_a, refl))
+    (2, (constant 2, b_c, (constant 3, c_d, refl))) a_normal d_normal (λ e. absurd (cc e))
 
 -- Joined peaks want a terminating system.
 joined_needs_termination : IsSystem kleene_system × Covers kleene kleene_peaks × ((peak : Peak) → In peak kleene_peaks → IsJoinable (Step kleene) peak.left peak.right) × IsForked kleene_system

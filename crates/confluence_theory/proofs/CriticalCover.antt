@@ -1,5 +1,5 @@
 -- The critical peaks of a system cover it.
-use Rattle.std.specs.Prelude.{◌≡◌, ◌≢◌, ℕ, ◌+◌, ◌-◌, ◌<◌, List, [], ◌∷◌, Some, Bool, true, false, ◌||◌, IsTrue, slice_get, slice_set}
+use Rattle.std.specs.Prelude.{◌≡◌, ◌≢◌, ℕ, ◌+◌, ◌-◌, ◌<◌, List, [], ◌∷◌, Some, IsTrue, slice_get, slice_set}
 use Rattle.std.specs.Option.{option_and_then, option_map}
 use Rattle.std.proofs.Common.{zero, suc, refl, sym, ◌∙◌, ap, subst, arith}
 use native.Mathlib.Decide.{dec_lt}
@@ -10,10 +10,11 @@ use Rattle.trs_defs.specs.Substitution.{apply, apply_all}
 use Rattle.trs_defs.specs.Position.{subterm_at, with_argument, replaced_at}
 use Rattle.trs_defs.specs.System.{RewriteRule, System, IsSystem, Numbered}
 use Rattle.trs_defs.specs.Step.{RootStep}
-use Rattle.trs_defs.specs.Overlap.{Overlap, OverlapOne, overlap_here, overlap_deep, overlap_first, overlap_later}
-use Rattle.trs_defs.specs.Peak.{Peak, HasPeak, Covers}
-use Rattle.trs_defs.specs.CriticalPeak.{shifted, Overlaps, HasCriticalPeaks}
+use Rattle.confluence_theory.specs.Overlap.{Overlap, OverlapOne, overlap_here, overlap_deep, overlap_first, overlap_later}
+use Rattle.confluence_theory.specs.Peak.{Peak, HasPeak, Covers}
+use Rattle.confluence_theory.specs.CriticalPeak.{shifted, Overlaps, HasCriticalPeaks}
 use Rattle.trs_defs.proofs.Substitutions.{apply_apply, same_instance, same_instances}
+use Rattle.trs_defs.proofs.VariableLaws.{has_var_first, has_var_rest}
 
 -- σ below k, and ρ from there on
 abbrev glue : ℕ → (ℕ → Tree) → (ℕ → Tree) → ℕ → Tree
@@ -33,14 +34,6 @@ apply_high : (k : ℕ) (σ ρ : ℕ → Tree) (t : Tree) → apply (glue k σ ρ
 apply_high k σ ρ t =
     apply_apply (glue k σ ρ) (λ x. var (k + x)) t ∙ same_instance (λ x. glue k σ ρ (k + x)) ρ t (λ v h. glue_high k σ ρ v)
 
-or_left : (a b : Bool) → IsTrue a → IsTrue (a || b)
-or_left true b h = refl
-or_left false b h = absurd cc
-
-or_right : (a b : Bool) → IsTrue b → IsTrue (a || b)
-or_right true b h = refl
-or_right false b h = h
-
 -- θ is σ at the variables of the pattern
 abbrev Agrees : (ℕ → Tree) → (ℕ → Tree) → Tree → Type 0
 Agrees θ σ l = (v : ℕ) → IsTrue (has_var v l) → θ v ≡ σ v
@@ -49,10 +42,10 @@ abbrev AllAgree : (ℕ → Tree) → (ℕ → Tree) → Trees → Type 0
 AllAgree θ σ ls = (v : ℕ) → IsTrue (some_has_var v ls) → θ v ≡ σ v
 
 agrees_first : (θ σ : ℕ → Tree) (l : Tree) (ls : Trees) → AllAgree θ σ (cons l ls) → Agrees θ σ l
-agrees_first θ σ l ls h v k = h v (or_left (has_var v l) (some_has_var v ls) k)
+agrees_first θ σ l ls h v k = h v (has_var_first v l ls k)
 
 agree_later : (θ σ : ℕ → Tree) (l : Tree) (ls : Trees) → AllAgree θ σ (cons l ls) → AllAgree θ σ ls
-agree_later θ σ l ls h v k = h v (or_right (has_var v l) (some_has_var v ls) k)
+agree_later θ σ l ls h v k = h v (has_var_rest v l ls k)
 
 -- what stands at an overlap's place, and what round it: the step goes from `apply σ l` to t
 record Spot (rule : Tree → Tree → Type 0) (σ : ℕ → Tree) (l t : Tree) : Type 0 where
@@ -198,8 +191,8 @@ module _ (rule : Tree → Tree → Type 0) (σ : ℕ → Tree) where
 item_variable : (p : List ℕ) (ts : Trees) (i : ℕ) (part : Tree) (v : ℕ) → option_and_then (subterm_at p) (slice_get (items ts) i) ≡ Some part
     → ((a : Tree) → subterm_at p a ≡ Some part → IsTrue (has_var v a)) → IsTrue (some_has_var v ts)
 item_variable p nil i part v e h = absurd cc
-item_variable p (cons t ts) zero part v e h = or_left (has_var v t) (some_has_var v ts) (h t e)
-item_variable p (cons t ts) (suc i) part v e h = or_right (has_var v t) (some_has_var v ts) (item_variable p ts i part v e h)
+item_variable p (cons t ts) zero part v e h = has_var_first v t ts (h t e)
+item_variable p (cons t ts) (suc i) part v e h = has_var_rest v t ts (item_variable p ts i part v e h)
 
 part_variable : (p : List ℕ) (t part : Tree) (v : ℕ) → subterm_at p t ≡ Some part → IsTrue (has_var v part) → IsTrue (has_var v t)
 part_variable [] t part v e h = let same : part ≡ t = cc e in subst (λ z. IsTrue (has_var v z)) same h

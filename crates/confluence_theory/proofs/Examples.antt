@@ -1,21 +1,18 @@
 -- Each theorem used once on a small system, so that its premises can be met.
-use Rattle.std.specs.Prelude.{◌≡◌, ◌≢◌, ◌≤◌, ◌<◌, ℕ, List, [], ◌∷◌, Some, slice_get}
+use Rattle.std.specs.Prelude.{◌≡◌, ◌≤◌, ◌<◌, ℕ, List, [], ◌∷◌, Some, slice_get}
 use Rattle.std.proofs.Common.{zero, suc, refl, sym, subst, inl, arith}
 use Rattle.trs_defs.specs.Member.{in_first, in_rest}
 use Rattle.trs_defs.specs.Tree.{var, app, nil, cons, count}
 use Rattle.trs_defs.specs.System.{RewriteRule}
-use Rattle.trs_defs.specs.Peak.{Peak}
+use Rattle.confluence_theory.specs.Peak.{Peak}
 use Rattle.trs_defs.specs.Step.{Step}
-use Rattle.trs_defs.specs.RuleRanks.{IsDecreasing}
+use Rattle.confluence_theory.specs.RuleRanks.{IsDecreasing}
 use Rattle.trs_defs.specs.Run.{Same}
 use Rattle.trs_defs.specs.Bounded.{IsBoundedBy}
 use Rattle.trs_defs.specs.Joinable.{IsJoinable}
-use Rattle.trs_defs.specs.NormalForm.{IsNormalForm}
-use Rattle.trs_defs.specs.Confluence.{JoinsStrongly}
-use Rattle.trs_defs.specs.Claims.{IsConfluent, IsForked, IsTerminating}
-use Rattle.trs_defs.specs.UniqueNormalForms.{HasUniqueNormalForms}
-use Rattle.confluence_theory.proofs.NormalForms.{split_forked, confluent_unique, forked_not_confluent}
-use Rattle.peak_theory.proofs.Claims.{joined, strongly_closed, decreasing}
+use Rattle.abstract_confluence.specs.Confluence.{JoinsStrongly}
+use Rattle.trs_defs.specs.Claims.{IsConfluent, IsTerminating}
+use Rattle.confluence_theory.proofs.Claims.{joined, strongly_closed, decreasing}
 use Rattle.confluence_theory.proofs.Constants.{constant, rewrites, peak_of, nullary, AreConstant, constant_system, constant_left, constant_right, symbols_of, HasConstantPeaks, listed_at, constant_covers, each_of_two, constant_step, constant_reaches, constant_next, nullary_arity, variable_normal}
 
 -- Decreasing ranks: a -> b, a -> c, b -> d, c -> d with the ranks 1, 1, 0, 0.
@@ -73,9 +70,6 @@ four_confluent =
     decreasing (record { arities = nullary; rules = four }) (1 ∷ 1 ∷ 0 ∷ 0 ∷ []) four_peaks (constant_system four four_constant)
     (constant_left four four_constant) (constant_right four four_constant) (constant_covers four four_peaks four_constant four_listed)
     (each_of_two (IsDecreasing four (1 ∷ 1 ∷ 0 ∷ 0 ∷ [])) (peak_of 0 1 0 1 2) (peak_of 1 0 0 2 1) b_c_decreasing c_b_decreasing)
-
-four_unique : HasUniqueNormalForms (record { arities = nullary; rules = four })
-four_unique = confluent_unique (record { arities = nullary; rules = four }) four_confluent
 
 -- Joined peaks: the same system, which terminates.
 
@@ -157,36 +151,3 @@ turning_confluent =
     (constant_covers turning four_peaks turning_constant turning_listed)
     (each_of_two (λ p. JoinsStrongly (Step turning) p.left p.right × JoinsStrongly (Step turning) p.right p.left) (peak_of 0 1 0 1 2) (peak_of 1 0 0 2 1)
     (b_to_c, c_to_b) (c_to_b, b_to_c))
-
--- Forked by normal forms: a -> b, a -> c.
-
-abbrev fork : List RewriteRule
-fork = rewrites 0 1 ∷ rewrites 0 2 ∷ []
-
-fork_constant : AreConstant fork
-fork_constant zero r e = (0, 1, cc e, refl, refl)
-fork_constant (suc zero) r e = (0, 2, cc e, refl, refl)
-fork_constant (suc (suc k)) r e = absurd cc
-
-only_from_a : (k f g : ℕ) → slice_get fork k ≡ Some (rewrites f g) → f ≡ zero
-only_from_a zero f g e = let (p, q) = symbols_of _ _ _ _ e in omega arith
-only_from_a (suc zero) f g e = let (p, q) = symbols_of _ _ _ _ e in omega arith
-only_from_a (suc (suc k)) f g e = absurd cc
-
-fork_normal : (f : ℕ) → f ≢ zero → IsNormalForm (Step fork) (constant f)
-fork_normal f n u s = let (k, g, e, same) = constant_next fork fork_constant f u s in n (only_from_a k f g e)
-
-fork_forked : IsForked (record { arities = nullary; rules = fork })
-fork_forked =
-    split_forked (record { arities = nullary; rules = fork }) (
-      constant 0,
-      constant 1,
-      constant 2,
-      (refl, tt),
-      ((1, (constant 1, constant_reaches fork 0 0 1 refl, refl)), fork_normal 1 (λ e. absurd (omega arith))),
-      ((1, (constant 2, constant_reaches fork 1 0 2 refl, refl)), fork_normal 2 (λ e. absurd (omega arith))),
-      λ e. absurd (cc e),
-    )
-
-fork_not_confluent : IsConfluent (record { arities = nullary; rules = fork }) → ⊥
-fork_not_confluent = forked_not_confluent (record { arities = nullary; rules = fork }) fork_forked

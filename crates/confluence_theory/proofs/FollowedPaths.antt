@@ -5,8 +5,8 @@ use Rattle.trs_defs.specs.Tree.{Tree}
 use Rattle.trs_defs.specs.System.{RewriteRule, Numbered}
 use Rattle.trs_defs.specs.Step.{here, RootStep}
 use Rattle.trs_defs.specs.Path.{PlacedRule, StepsAt, Follows}
-use Rattle.trs_defs.specs.LabelledPath.{LabelledPath}
-use Rattle.trs_defs.specs.RuleRanks.{NumberedStep}
+use Rattle.abstract_confluence.specs.LabelledPath.{LabelledPath}
+use Rattle.confluence_theory.specs.RuleRanks.{NumberedStep}
 use Rattle.trs_defs.proofs.Contexts.{inside_at}
 
 numbered_at : (rules : List RewriteRule) (p : List ℕ) (k : ℕ) (t u : Tree) → StepsAt rules p k t u → NumberedStep rules k t u

@@ -2,20 +2,20 @@
 -- confluent: f(c, c) goes to a, and by f(c, g(c)) to b.
 use Rattle.std.specs.Prelude.{◌≡◌, ◌≢◌, ◌≤◌, ℕ, [], ◌∷◌, Some, IsTrue, slice_get}
 use Rattle.std.proofs.Common.{zero, suc, refl, sym, ◌∙◌, ap, subst, arith}
-use Rattle.trs_defs.specs.Member.{In, in_first, in_rest}
+use Rattle.trs_defs.specs.Member.{in_first, in_rest}
 use Rattle.trs_defs.specs.Tree.{Tree, Trees, var, app, nil, cons}
 use Rattle.trs_defs.specs.Size.{size_of}
 use Rattle.trs_defs.specs.Variable.{has_var, occurrences}
 use Rattle.trs_defs.specs.Substitution.{apply}
 use Rattle.trs_defs.specs.NormalForm.{IsNormalForm}
 use Rattle.trs_defs.specs.System.{RewriteRule, System, IsRule, IsSystem, Numbered}
-use Rattle.trs_defs.specs.Linear.{AreRightLinear}
-use Rattle.trs_defs.specs.Overlap.{Overlap, OverlapOne, overlap_here, overlap_deep, overlap_first, overlap_later}
-use Rattle.trs_defs.specs.Peak.{Covers}
+use Rattle.confluence_theory.specs.Linear.{AreRightLinear}
+use Rattle.confluence_theory.specs.Overlap.{Overlap, OverlapOne, overlap_here, overlap_deep, overlap_first, overlap_later}
+use Rattle.confluence_theory.specs.Peak.{Covers}
 use Rattle.trs_defs.specs.Step.{here, deep, first, later, RootStep, Step}
 use Rattle.trs_defs.specs.Claims.{IsForked}
-use Rattle.confluence_theory.proofs.NormalForms.{split_forked}
-use Rattle.confluence_theory.proofs.Constants.{sides, constant}
+use Rattle.trs_defs.proofs.NormalForms.{forked_by_normal_forms}
+use Rattle.confluence_theory.proofs.Constants.{sides, constant, each_listed, in_nothing}
 
 abbrev g : Tree → Tree
 g t = app 3 (cons t nil)
@@ -119,9 +119,6 @@ in_next i σ ts (overlap_first d) = elim d [ ]
 in_next i σ ts (overlap_later (overlap_first {t = t} d)) = in_g i σ t d
 in_next i σ ts (overlap_later (overlap_later d)) = elim d [ ]
 
-in_nothing : (R : Tree → Tree → Type 0) (σ : ℕ → Tree) (ts : Trees) → OverlapOne R σ nil ts → ⊥
-in_nothing R σ ts d = elim d [ ]
-
 arguments : (i j s : ℕ) (ls ts : Trees) (r : Tree) (σ : ℕ → Tree) → Numbered growing.rules j (app s ls) r → OverlapOne (RootStep (Numbered growing.rules i)) σ ls ts → ⊥
 arguments i zero s ls ts r σ h d =
     let e : app s ls ≡ same_rule.left = (sides same_rule (app s ls) r h).0 in
@@ -144,15 +141,10 @@ growing_covers =
 abbrev HasOther : ℕ → RewriteRule → Type 0
 HasOther s rule = (σ : ℕ → Tree) → constant s ≡ apply σ rule.left → ⊥
 
-left_of : (P : RewriteRule → Type 0) → P same_rule → P next_rule → P grow_rule → (r : RewriteRule) → In r growing.rules → P r
-left_of P x y z r in_first = x
-left_of P x y z r (in_rest in_first) = y
-left_of P x y z r (in_rest (in_rest in_first)) = z
-left_of P x y z r (in_rest (in_rest (in_rest h))) = elim h [ ]
-
 normal : (s : ℕ) → s ≢ 2 → IsNormalForm (Step growing.rules) (constant s)
 normal s n u (here (l, r, σ, h, e, e')) =
-    left_of (HasOther s) (λ σ e. absurd (cc e)) (λ σ e. absurd (cc e)) (λ σ e. n (cc e)) (record { left = l; right = r }) h σ e
+    each_listed growing.rules (HasOther s) (each_rule (HasOther s) (λ σ e. absurd (cc e)) (λ σ e. absurd (cc e)) (λ σ e. n (cc e)))
+    (record { left = l; right = r }) h σ e
 normal s n u (deep d) = elim d [ ]
 
 c_grows : Step growing.rules (constant 2) (g (constant 2))
@@ -160,25 +152,15 @@ c_grows = here (constant 2, g (constant 2), λ v. var v, in_rest (in_rest in_fir
 
 growing_forked : IsForked growing
 growing_forked =
-    split_forked growing (
-      f (constant 2) (constant 2),
-      constant 0,
-      constant 1,
-      (refl, ((refl, tt), ((refl, tt), tt))),
-      ((1, (constant 0, here (f (var 0) (var 0), constant 0, λ v. constant 2, in_first, refl, refl), refl)), normal 0 (λ e. absurd (omega arith))),
+    forked_by_normal_forms growing (f (constant 2) (constant 2)) (constant 0) (constant 1) (refl, ((refl, tt), ((refl, tt), tt)))
+    (1, (constant 0, here (f (var 0) (var 0), constant 0, λ v. constant 2, in_first, refl, refl), refl)) (
+      2,
       (
-        (
-          2,
-          (
-            f (constant 2) (g (constant 2)),
-            deep (later (first c_grows)),
-            (constant 1, here (f (var 0) (g (var 0)), constant 1, λ v. constant 2, in_rest in_first, refl, refl), refl),
-          ),
-        ),
-        normal 1 (λ e. absurd (omega arith)),
+        f (constant 2) (g (constant 2)),
+        deep (later (first c_grows)),
+        (constant 1, here (f (var 0) (g (var 0)), constant 1, λ v. constant 2, in_rest in_first, refl, refl), refl),
       ),
-      λ e. absurd (cc e),
-    )
+    ) (normal 0 (λ e. absurd (omega arith))) (normal 1 (λ e. absurd (omega arith))) (λ e. absurd (cc e))
 
 -- With no peak to close, the theorems on parallel closed, strongly closed and decreasing peaks want left-linear rules.
 left_linear_is_needed : IsSystem growing × AreRightLinear growing.rules × Covers growing.rules [] × IsForked growing

@@ -1,14 +1,24 @@
+pub mod Free
+pub mod Families
+pub mod Systems
+pub mod Substitutions
+pub mod LinearInstances
+pub mod AnyInstances
+pub mod RulePeaks
+pub mod NestedSteps
+pub mod RankedPeaks
+pub mod StrongPeaks
+pub mod JoinedPeaks
+pub mod ParallelPeaks
+pub mod Claims
 pub mod CriticalCover
-pub mod CapFits
-pub mod CapClash
-pub mod NormalForms
 pub mod FollowedPaths
 pub mod ParallelPaths
 mod Constants
 mod Examples
 mod ParallelExample
 mod PathExample
-mod CapExample
+mod TooGeneral
 mod Counterexamples
 mod LeftLinearNeeded
 mod StrongHalfNeeded

@@ -6,14 +6,14 @@ use Rattle.trs_defs.specs.Tree.{Tree, Trees, var, app, nil, cons}
 use Rattle.trs_defs.specs.Variable.{has_var, IsLinear}
 use Rattle.trs_defs.specs.Substitution.{apply}
 use Rattle.trs_defs.specs.System.{RewriteRule, System, IsRule, IsSystem, Numbered}
-use Rattle.trs_defs.specs.Linear.{AreLeftLinear}
-use Rattle.trs_defs.specs.Overlap.{OverlapOne, overlap_first, overlap_later}
-use Rattle.trs_defs.specs.ParallelStep.{ParallelStepBy, below_root, no_more}
-use Rattle.trs_defs.specs.Peak.{Peak, HasPeak, Covers}
+use Rattle.confluence_theory.specs.Linear.{AreLeftLinear}
+use Rattle.confluence_theory.specs.Overlap.{OverlapOne, overlap_first, overlap_later}
+use Rattle.confluence_theory.specs.ParallelStep.{ParallelStepBy, below_root, no_more}
+use Rattle.confluence_theory.specs.Peak.{Peak, HasPeak, Covers}
 use Rattle.trs_defs.specs.Step.{RootStep}
 use Rattle.trs_defs.specs.Claims.{IsConfluent}
-use Rattle.peak_theory.proofs.Claims.{parallel_closed}
-use Rattle.confluence_theory.proofs.Constants.{sides, constant, rewrites, peak_of, each_of_two}
+use Rattle.confluence_theory.proofs.Claims.{parallel_closed}
+use Rattle.confluence_theory.proofs.Constants.{sides, constant, rewrites, peak_of, each_of_two, in_nothing}
 
 abbrev copying : RewriteRule
 copying = record { left = app 2 (cons (var 0) nil); right = app 3 (cons (var 0) (cons (var 0) nil)) }
@@ -100,9 +100,6 @@ at_root (suc (suc zero)) (suc zero) l r t σ h n (l', r', ρ, h', e, e') =
     absurd (apart σ ρ l l' (sides (rewrites 0 1) l r h).0 (sides copying l' r' h').0 e)
 
 -- no step at a place of the arguments that is no variable
-none_below : (R : Tree → Tree → Type 0) (σ : ℕ → Tree) (ts : Trees) → OverlapOne R σ nil ts → ⊥
-none_below R σ ts d = elim d [ ]
-
 none_in_variable : (R : Tree → Tree → Type 0) (σ : ℕ → Tree) (ts : Trees) → OverlapOne R σ (cons (var 0) nil) ts → ⊥
 none_in_variable R σ ts (overlap_first d) = elim d [ ]
 none_in_variable R σ ts (overlap_later d) = elim d [ ]
@@ -110,10 +107,10 @@ none_in_variable R σ ts (overlap_later d) = elim d [ ]
 arguments : (k f : ℕ) (ls : Trees) (r : Tree) → Numbered copier.rules k (app f ls) r → (R : Tree → Tree → Type 0) (σ : ℕ → Tree) (ts : Trees) → OverlapOne R σ ls ts → ⊥
 arguments zero f ls r h R σ ts d =
     let e : app f ls ≡ constant 0 = (sides (rewrites 0 1) (app f ls) r h).0 in
-    none_below R σ ts (subst (λ z. OverlapOne R σ z ts) (cc e) d)
+    in_nothing R σ ts (subst (λ z. OverlapOne R σ z ts) (cc e) d)
 arguments (suc zero) f ls r h R σ ts d =
     let e : app f ls ≡ constant 0 = (sides (rewrites 0 1) (app f ls) r h).0 in
-    none_below R σ ts (subst (λ z. OverlapOne R σ z ts) (cc e) d)
+    in_nothing R σ ts (subst (λ z. OverlapOne R σ z ts) (cc e) d)
 arguments (suc (suc zero)) f ls r h R σ ts d =
     let e : app f ls ≡ copying.left = (sides copying (app f ls) r h).0 in
     none_in_variable R σ ts (subst (λ z. OverlapOne R σ z ts) (cc e) d)

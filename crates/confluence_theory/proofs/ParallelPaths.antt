@@ -7,8 +7,8 @@ use Rattle.trs_defs.specs.Position.{subterm_at, replaced_at}
 use Rattle.trs_defs.specs.System.{RewriteRule, Among}
 use Rattle.trs_defs.specs.Step.{RootStep}
 use Rattle.trs_defs.specs.Path.{PlacedRule, Follows}
-use Rattle.trs_defs.specs.ParallelStep.{ParallelStep, ParallelSteps, at_variable, at_root, below_root, no_more, one_more, ParallelStepBy}
-use Rattle.trs_defs.specs.ParallelPositions.{AreParallel, IsParallelToAll, ArePairwiseParallel}
+use Rattle.confluence_theory.specs.ParallelStep.{ParallelStep, ParallelSteps, at_variable, at_root, below_root, no_more, one_more, ParallelStepBy}
+use Rattle.confluence_theory.specs.ParallelPositions.{AreParallel, IsParallelToAll, ArePairwiseParallel}
 use Rattle.trs_defs.proofs.Members.{in_of_get}
 use Rattle.trs_defs.proofs.Positions.{IsReplacedInside, replaced_inside}
 

@@ -11,14 +11,14 @@ use Rattle.trs_defs.specs.Derivation.{Derivation}
 use Rattle.trs_defs.specs.Joinable.{IsJoinable}
 use Rattle.trs_defs.specs.NormalForm.{IsNormalForm}
 use Rattle.trs_defs.specs.System.{RewriteRule, System, IsRule, IsSystem, Numbered}
-use Rattle.trs_defs.specs.Linear.{AreLeftLinear}
-use Rattle.trs_defs.specs.Overlap.{Overlap, OverlapOne, overlap_here, overlap_deep, overlap_first, overlap_later}
-use Rattle.trs_defs.specs.Peak.{Peak, HasPeak, Covers}
+use Rattle.confluence_theory.specs.Linear.{AreLeftLinear}
+use Rattle.confluence_theory.specs.Overlap.{OverlapOne, overlap_first, overlap_later}
+use Rattle.confluence_theory.specs.Peak.{Peak, HasPeak, Covers}
 use Rattle.trs_defs.specs.Step.{here, deep, first, later, RootStep, Step}
-use Rattle.trs_defs.specs.RuleRanks.{NumberedStep, IsDecreasing}
+use Rattle.confluence_theory.specs.RuleRanks.{NumberedStep, IsDecreasing}
 use Rattle.trs_defs.specs.Claims.{IsForked}
 use Rattle.trs_defs.proofs.NormalForms.{normal_stays}
-use Rattle.confluence_theory.proofs.Constants.{constant, rewrites, sides}
+use Rattle.confluence_theory.proofs.Constants.{constant, rewrites, sides, instances_of, each_listed, at_constant, in_nothing}
 
 abbrev f : Tree → Tree → Tree
 f t u = app 3 (cons t (cons u nil))
@@ -114,11 +114,6 @@ copier_left : AreLeftLinear copier.rules
 copier_left =
     each_rule (λ r. (v : ℕ) → occurrences v r.left ≤ 1) (λ v. omega arith) (λ v. once_left (0 == v)) (λ v. once_right (0 == v)) (λ v. omega arith)
 
-different : (rule rule' : RewriteRule) (l r l' r' : Tree) (σ ρ : ℕ → Tree) → Some rule ≡ Some (record { left = l; right = r })
-    → Some rule' ≡ Some (record { left = l'; right = r' }) → apply σ l ≡ apply ρ l' → apply σ rule.left ≡ apply ρ rule'.left
-different rule rule' l r l' r' σ ρ h h' e =
-    sym (ap (apply σ) (sides rule l r h).0) ∙ (e ∙ ap (apply ρ) (sides rule' l' r' h').0)
-
 abbrev numbered : ℕ → RewriteRule
 numbered zero = end_rule
 numbered (suc zero) = left_rule
@@ -149,16 +144,16 @@ at_root (suc (suc (suc zero))) (suc (suc (suc zero))) l r t σ h n d = absurd (n
 at_root (suc (suc (suc (suc i)))) j l r t σ h n (l', r', ρ, h', e, e') = absurd cc
 at_root i (suc (suc (suc (suc j)))) l r t σ h n d = absurd cc
 at_root (suc zero) (suc (suc zero)) l r t σ h n (l', r', ρ, h', e, e') =
-    let k : f (σ 0) b ≡ f b (ρ 0) = different right_rule left_rule l r l' r' σ ρ h h' e in
+    let k : f (σ 0) b ≡ f b (ρ 0) = instances_of right_rule left_rule l r l' r' σ ρ h h' e in
     let is_y : σ 0 ≡ b = cc k in
     both_at_root 1 2 l r t (ρ 0) (σ 0) σ (in_rest (in_rest in_first)) (ap (apply σ) (sides right_rule l r h).0 ∙ ap (λ z. f z b) is_y)
     (e' ∙ ap (apply ρ) (sides left_rule l' r' h').1) (cc k) (ap (apply σ) (sides right_rule l r h).1) is_y
 at_root (suc (suc zero)) (suc zero) l r t σ h n (l', r', ρ, h', e, e') =
-    let k : f b (σ 0) ≡ f (ρ 0) b = different left_rule right_rule l r l' r' σ ρ h h' e in
+    let k : f b (σ 0) ≡ f (ρ 0) b = instances_of left_rule right_rule l r l' r' σ ρ h h' e in
     let is_y : σ 0 ≡ b = cc k in
     both_at_root 2 1 l r t (ρ 0) (σ 0) σ (in_rest (in_rest (in_rest in_first))) (ap (apply σ) (sides left_rule l r h).0 ∙ ap (λ z. f b z) is_y)
     (e' ∙ ap (apply ρ) (sides right_rule l' r' h').1) (cc k) (ap (apply σ) (sides left_rule l r h).1) is_y
-at_root i j l r t σ h n (l', r', ρ, h', e, e') = absurd (cc (different (numbered j) (numbered i) l r l' r' σ ρ h h' e))
+at_root i j l r t σ h n (l', r', ρ, h', e, e') = absurd (cc (instances_of (numbered j) (numbered i) l r l' r' σ ρ h h' e))
 
 abbrev By : ℕ → Tree → Tree → Type 0
 By i = RootStep (Numbered copier.rules i)
@@ -177,13 +172,6 @@ from_b (suc (suc zero)) t (l, r, σ, h, e, e') = absurd (cc (e ∙ ap (apply σ)
 from_b (suc (suc (suc zero))) t (l, r, σ, h, e, e') = absurd (cc (e ∙ ap (apply σ) (sides (rewrites 0 1) l r h).0))
 from_b (suc (suc (suc (suc i)))) t (l, r, σ, h, e, e') = absurd cc
 
-at_constant : (i n : ℕ) (σ : ℕ → Tree) (t : Tree) → Overlap (By i) σ (constant n) t → By i (constant n) t
-at_constant i n σ t (overlap_here r) = r
-at_constant i n σ t (overlap_deep d) = elim d [ ]
-
-in_nothing : (R : Tree → Tree → Type 0) (σ : ℕ → Tree) (ts : Trees) → OverlapOne R σ nil ts → ⊥
-in_nothing R σ ts d = elim d [ ]
-
 listed_at : (peak : Peak) (i s : ℕ) (ls ts : Trees) (r : Tree) (σ : ℕ → Tree) → In peak copier_peaks → i ≡ peak.inner → app s ls ≡ peak.top → app s ts ≡ peak.left
     → r ≡ peak.right → apply σ peak.left ≡ peak.left → HasPeak copier_peaks i peak.outer (apply σ (app s ls)) (app s ts) (apply σ r)
 listed_at peak i s ls ts r σ is_in e_inner e_top e_left e_right ground =
@@ -201,21 +189,21 @@ listed_at peak i s ls ts r σ is_in e_inner e_top e_left e_right ground =
 in_end : (i s : ℕ) (ls ts : Trees) (r : Tree) (σ : ℕ → Tree) → app s ls ≡ f a a → r ≡ c → OverlapOne (By i) σ (cons a (cons a nil)) ts
     → HasPeak copier_peaks i 0 (apply σ (app s ls)) (app s ts) (apply σ r)
 in_end i s ls ts r σ is_left is_right (overlap_first {t = t} d) =
-    let (is_i, is_t) = from_a i t (at_constant i 0 σ t d) in
+    let (is_i, is_t) = from_a i t (at_constant (By i) 0 σ t d) in
     listed_at first_peak i s ls ts r σ in_first is_i is_left (cc (is_left, is_t)) is_right refl
 in_end i s ls ts r σ is_left is_right (overlap_later (overlap_first {t = t} d)) =
-    let (is_i, is_t) = from_a i t (at_constant i 0 σ t d) in
+    let (is_i, is_t) = from_a i t (at_constant (By i) 0 σ t d) in
     listed_at second_peak i s ls ts r σ (in_rest in_first) is_i is_left (cc (is_left, is_t)) is_right refl
 in_end i s ls ts r σ is_left is_right (overlap_later (overlap_later d)) = elim d [ ]
 
 in_left : (i : ℕ) (σ : ℕ → Tree) (ts : Trees) → OverlapOne (By i) σ (cons b (cons (var 0) nil)) ts → ⊥
-in_left i σ ts (overlap_first {t = t} d) = from_b i t (at_constant i 1 σ t d)
+in_left i σ ts (overlap_first {t = t} d) = from_b i t (at_constant (By i) 1 σ t d)
 in_left i σ ts (overlap_later (overlap_first d)) = elim d [ ]
 in_left i σ ts (overlap_later (overlap_later d)) = elim d [ ]
 
 in_right : (i : ℕ) (σ : ℕ → Tree) (ts : Trees) → OverlapOne (By i) σ (cons (var 0) (cons b nil)) ts → ⊥
 in_right i σ ts (overlap_first d) = elim d [ ]
-in_right i σ ts (overlap_later (overlap_first {t = t} d)) = from_b i t (at_constant i 1 σ t d)
+in_right i σ ts (overlap_later (overlap_first {t = t} d)) = from_b i t (at_constant (By i) 1 σ t d)
 in_right i σ ts (overlap_later (overlap_later d)) = elim d [ ]
 
 inside : (i j s : ℕ) (ls ts : Trees) (r : Tree) (σ : ℕ → Tree) → Numbered copier.rules j (app s ls) r → OverlapOne (By i) σ ls ts
@@ -272,19 +260,13 @@ copier_decreasing =
 
 -- f(b, b) goes to itself alone
 
-each_listed : (P : RewriteRule → Type 0) → P end_rule → P left_rule → P right_rule → P (rewrites 0 1) → (r : RewriteRule) → In r copier.rules → P r
-each_listed P x y z w r in_first = x
-each_listed P x y z w r (in_rest in_first) = y
-each_listed P x y z w r (in_rest (in_rest in_first)) = z
-each_listed P x y z w r (in_rest (in_rest (in_rest in_first))) = w
-each_listed P x y z w r (in_rest (in_rest (in_rest (in_rest h)))) = elim h [ ]
-
 abbrev IsNoLeft : Tree → RewriteRule → Type 0
 IsNoLeft t rule = (σ : ℕ → Tree) → t ≡ apply σ rule.left → ⊥
 
 constant_normal : (n : ℕ) → n ≢ 0 → IsNormalForm (Step copier.rules) (constant n)
 constant_normal n not u (here (l, r, σ, h, e, e')) =
-    each_listed (IsNoLeft (constant n)) (λ σ e. absurd (cc e)) (λ σ e. absurd (cc e)) (λ σ e. absurd (cc e)) (λ σ e. not (cc e))
+    each_listed copier.rules (IsNoLeft (constant n))
+    (each_rule (IsNoLeft (constant n)) (λ σ e. absurd (cc e)) (λ σ e. absurd (cc e)) (λ σ e. absurd (cc e)) (λ σ e. not (cc e)))
     (record { left = l; right = r }) h σ e
 constant_normal n not u (deep d) = elim d [ ]
 
@@ -293,8 +275,9 @@ GoesBack rule = (σ : ℕ → Tree) → f b b ≡ apply σ rule.left → apply �
 
 goes_back : (t : Tree) → Step copier.rules (f b b) t → t ≡ f b b
 goes_back t (here (l, r, σ, h, e, e')) =
-    e' ∙ each_listed GoesBack (λ σ e. absurd (cc e)) (λ σ e. let k : σ 0 ≡ b = cc e in ap (λ z. f z z) k) (λ σ e. let k : σ 0 ≡ b = cc e in ap (λ z. f z z) k)
-    (λ σ e. absurd (cc e)) (record { left = l; right = r }) h σ e
+    e' ∙ each_listed copier.rules GoesBack
+    (each_rule GoesBack (λ σ e. absurd (cc e)) (λ σ e. let k : σ 0 ≡ b = cc e in ap (λ z. f z z) k) (λ σ e. let k : σ 0 ≡ b = cc e in ap (λ z. f z z) k)
+    (λ σ e. absurd (cc e))) (record { left = l; right = r }) h σ e
 goes_back t (deep (first {t = u} d)) = absurd (constant_normal 1 (λ e. absurd (omega arith)) u d)
 goes_back t (deep (later (first {t = u} d))) = absurd (constant_normal 1 (λ e. absurd (omega arith)) u d)
 goes_back t (deep (later (later d))) = elim d [ ]

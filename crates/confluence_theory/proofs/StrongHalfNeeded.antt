@@ -8,15 +8,15 @@ use Rattle.trs_defs.specs.Variable.{occurrences}
 use Rattle.trs_defs.specs.Substitution.{apply}
 use Rattle.trs_defs.specs.NormalForm.{IsNormalForm}
 use Rattle.trs_defs.specs.Run.{Same}
-use Rattle.trs_defs.specs.Confluence.{JoinsStrongly}
+use Rattle.abstract_confluence.specs.Confluence.{JoinsStrongly}
 use Rattle.trs_defs.specs.System.{RewriteRule, System, IsRule, IsSystem, Numbered}
-use Rattle.trs_defs.specs.Linear.{AreLeftLinear, AreRightLinear}
-use Rattle.trs_defs.specs.Overlap.{Overlap, OverlapOne, overlap_here, overlap_deep, overlap_first, overlap_later}
-use Rattle.trs_defs.specs.Peak.{Peak, HasPeak, Covers}
+use Rattle.confluence_theory.specs.Linear.{AreLeftLinear, AreRightLinear}
+use Rattle.confluence_theory.specs.Overlap.{OverlapOne, overlap_first, overlap_later}
+use Rattle.confluence_theory.specs.Peak.{Peak, HasPeak, Covers}
 use Rattle.trs_defs.specs.Step.{here, deep, first, RootStep, Step}
 use Rattle.trs_defs.specs.Claims.{IsForked}
-use Rattle.confluence_theory.proofs.NormalForms.{split_forked}
-use Rattle.confluence_theory.proofs.Constants.{constant, rewrites, each_of_two, sides}
+use Rattle.trs_defs.proofs.NormalForms.{forked_by_normal_forms}
+use Rattle.confluence_theory.proofs.Constants.{constant, rewrites, each_of_two, sides, instances_of, each_listed, at_constant, in_nothing}
 
 -- the constants a, d, p, q are 0, 1, 2, 3
 abbrev f : ℕ → Tree
@@ -61,12 +61,6 @@ turner_left = each_rule (λ r. (v : ℕ) → occurrences v r.left ≤ 1) (λ v. 
 turner_right : AreRightLinear turner.rules
 turner_right = each_rule (λ r. (v : ℕ) → occurrences v r.right ≤ 1) (λ v. omega arith) (λ v. omega arith) (λ v. omega arith) (λ v. omega arith)
 
--- the left sides differ, and have no variables
-different : (rule rule' : RewriteRule) (l r l' r' : Tree) (σ ρ : ℕ → Tree) → Some rule ≡ Some (record { left = l; right = r })
-    → Some rule' ≡ Some (record { left = l'; right = r' }) → apply σ l ≡ apply ρ l' → apply σ rule.left ≡ apply ρ rule'.left
-different rule rule' l r l' r' σ ρ h h' e =
-    sym (ap (apply σ) (sides rule l r h).0) ∙ (e ∙ ap (apply ρ) (sides rule' l' r' h').0)
-
 abbrev numbered : ℕ → RewriteRule
 numbered zero = rewrites 2 3
 numbered (suc zero) = rewrites 3 2
@@ -80,16 +74,11 @@ apart (suc (suc zero)) (suc (suc zero)) l r l' r' σ ρ h h' n e = n refl
 apart (suc (suc (suc zero))) (suc (suc (suc zero))) l r l' r' σ ρ h h' n e = n refl
 apart (suc (suc (suc (suc i)))) j l r l' r' σ ρ h h' n e = absurd cc
 apart i (suc (suc (suc (suc j)))) l r l' r' σ ρ h h' n e = absurd cc
-apart i j l r l' r' σ ρ h h' n e = absurd (cc (different (numbered j) (numbered i) l r l' r' σ ρ h h' e))
-
--- a step at the argument of f is by a rule from that constant
-at_constant : (i n : ℕ) (σ : ℕ → Tree) (t : Tree) → Overlap (RootStep (Numbered turner.rules i)) σ (constant n) t → RootStep (Numbered turner.rules i) (constant n) t
-at_constant i n σ t (overlap_here r) = r
-at_constant i n σ t (overlap_deep d) = elim d [ ]
+apart i j l r l' r' σ ρ h h' n e = absurd (cc (instances_of (numbered j) (numbered i) l r l' r' σ ρ h h' e))
 
 at_argument : (i n : ℕ) (σ : ℕ → Tree) (ts : Trees) → OverlapOne (RootStep (Numbered turner.rules i)) σ (cons (constant n) nil) ts
     → (t : Tree) × (ts ≡ cons t nil) × RootStep (Numbered turner.rules i) (constant n) t
-at_argument i n σ ts (overlap_first {t = t} d) = (t, refl, at_constant i n σ t d)
+at_argument i n σ ts (overlap_first {t = t} d) = (t, refl, at_constant (RootStep (Numbered turner.rules i)) n σ t d)
 at_argument i n σ ts (overlap_later d) = elim d [ ]
 
 from_p : (i : ℕ) (t : Tree) → RootStep (Numbered turner.rules i) (constant 2) t → (i ≡ 0) × (t ≡ constant 3)
@@ -119,9 +108,6 @@ listed peak i j s ls ts r σ is_in e_inner e_outer e_top e_left e_right ground g
       inner_to = e_left ∙ sym ground';
       outer_to = ap (apply σ) e_right;
     }
-
-in_nothing : (R : Tree → Tree → Type 0) (σ : ℕ → Tree) (ts : Trees) → OverlapOne R σ nil ts → ⊥
-in_nothing R σ ts d = elim d [ ]
 
 inside : (i j s : ℕ) (ls ts : Trees) (r : Tree) (σ : ℕ → Tree) → Numbered turner.rules j (app s ls) r → OverlapOne (RootStep (Numbered turner.rules i)) σ ls ts
     → HasPeak turner_peaks i j (apply σ (app s ls)) (app s ts) (apply σ r)
@@ -169,32 +155,20 @@ half_closed =
     (constant 0, (2, (f 2, q_p, (constant 0, p_a, refl))), Same)
     (constant 1, (2, (f 3, p_q, (constant 1, q_d, refl))), Same)
 
-left_of : (P : RewriteRule → Type 0) → P (rewrites 2 3) → P (rewrites 3 2) → P (ends 2 0) → P (ends 3 1) → (r : RewriteRule) → In r turner.rules → P r
-left_of P x y z w r in_first = x
-left_of P x y z w r (in_rest in_first) = y
-left_of P x y z w r (in_rest (in_rest in_first)) = z
-left_of P x y z w r (in_rest (in_rest (in_rest in_first))) = w
-left_of P x y z w r (in_rest (in_rest (in_rest (in_rest h)))) = elim h [ ]
-
 abbrev HasOther : ℕ → RewriteRule → Type 0
 HasOther s rule = (σ : ℕ → Tree) → constant s ≡ apply σ rule.left → ⊥
 
 normal : (s : ℕ) → s ≢ 2 → s ≢ 3 → IsNormalForm (Step turner.rules) (constant s)
 normal s n m u (here (l, r, σ, h, e, e')) =
-    left_of (HasOther s) (λ σ e. n (cc e)) (λ σ e. m (cc e)) (λ σ e. absurd (cc e)) (λ σ e. absurd (cc e)) (record { left = l; right = r }) h σ e
+    each_listed turner.rules (HasOther s) (each_rule (HasOther s) (λ σ e. n (cc e)) (λ σ e. m (cc e)) (λ σ e. absurd (cc e)) (λ σ e. absurd (cc e)))
+    (record { left = l; right = r }) h σ e
 normal s n m u (deep d) = elim d [ ]
 
 turner_forked : IsForked turner
 turner_forked =
-    split_forked turner (
-      f 2,
-      constant 0,
-      constant 1,
-      (refl, ((refl, tt), tt)),
-      ((1, (constant 0, p_a, refl)), normal 0 (λ e. absurd (omega arith)) (λ e. absurd (omega arith))),
-      ((2, (f 3, p_q, (constant 1, q_d, refl))), normal 1 (λ e. absurd (omega arith)) (λ e. absurd (omega arith))),
-      λ e. absurd (cc e),
-    )
+    forked_by_normal_forms turner (f 2) (constant 0) (constant 1) (refl, ((refl, tt), tt)) (1, (constant 0, p_a, refl))
+    (2, (f 3, p_q, (constant 1, q_d, refl))) (normal 0 (λ e. absurd (omega arith)) (λ e. absurd (omega arith)))
+    (normal 1 (λ e. absurd (omega arith)) (λ e. absurd (omega arith))) (λ e. absurd (cc e))
 
 -- Both halves are needed.
 both_halves_are_needed : IsSystem turner × AreLeftLinear turner.rules × AreRightLinear turner.rules × Covers turner.rules turner_peaks

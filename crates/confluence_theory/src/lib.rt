@@ -1,30 +1,26 @@
-//! What lists of peaks and pairs of terms show of a system: critical peaks cover it, and normal
-//! forms and caps show that it is not confluent. Each function is a theorem: its contract is the
-//! statement, and it does nothing.
+//! What shows that a term rewriting system is confluent: lists of peaks that cover it, and how
+//! certificates come by them. Each function is a theorem: its contract is the statement, and it
+//! does nothing.
 #![tactic(auto)]
 
-ghost use Rattle.std.specs.Prelude.{◌≡◌, ◌≢◌, ◌<◌, ℕ, List, map, IsTrue};
+ghost use Rattle.std.specs.Prelude.{ℕ, List, ◌≡◌, ◌<◌, map, IsTrue};
 ghost use Rattle.trs_defs.specs.Member.{In};
 ghost use Rattle.trs_defs.specs.Tree.{Tree};
 ghost use Rattle.trs_defs.specs.Variable.{has_var};
 ghost use Rattle.trs_defs.specs.Substitution.{apply};
-ghost use Rattle.trs_defs.specs.WellFormed.{IsWellFormed};
-ghost use Rattle.trs_defs.specs.System.{RewriteRule, System, IsSystem, Among};
-ghost use Rattle.trs_defs.specs.Derivation.{Reaches};
+ghost use Rattle.trs_defs.specs.System.{System, IsSystem, RewriteRule};
 ghost use Rattle.trs_defs.specs.Joinable.{IsJoinable};
-ghost use Rattle.trs_defs.specs.NormalForm.{IsNormalForm};
 ghost use Rattle.trs_defs.specs.Step.{Step};
-ghost use Rattle.trs_defs.specs.Claims.{IsConfluent, IsForked};
-ghost use Rattle.trs_defs.specs.Peak.{Peak, Covers};
-ghost use Rattle.trs_defs.specs.CriticalPeak.{shifted, Overlaps, HasCriticalPeaks};
-ghost use Rattle.trs_defs.specs.RuleRanks.{NumberedStep};
-ghost use Rattle.trs_defs.specs.LabelledPath.{LabelledPath};
+ghost use Rattle.trs_defs.specs.Claims.{IsTerminating, IsConfluent};
 ghost use Rattle.trs_defs.specs.Path.{PlacedRule, Follows};
-ghost use Rattle.trs_defs.specs.ParallelPositions.{ArePairwiseParallel};
-ghost use Rattle.trs_defs.specs.ParallelStep.{ParallelStepBy};
-ghost use Rattle.trs_defs.specs.Cap.{Cap, Fits};
-ghost use Rattle.trs_defs.specs.Clash.{clash};
-ghost use Rattle.trs_defs.specs.UniqueNormalForms.{HasUniqueNormalForms, IsSplit};
+ghost use Rattle.abstract_confluence.specs.Confluence.{JoinsStrongly};
+ghost use Rattle.abstract_confluence.specs.LabelledPath.{LabelledPath};
+ghost use Rattle.confluence_theory.specs.ParallelStep.{ParallelStepBy};
+ghost use Rattle.confluence_theory.specs.Linear.{AreLeftLinear, AreRightLinear};
+ghost use Rattle.confluence_theory.specs.Peak.{Peak, Covers};
+ghost use Rattle.confluence_theory.specs.RuleRanks.{IsDecreasing, NumberedStep};
+ghost use Rattle.confluence_theory.specs.CriticalPeak.{shifted, Overlaps, HasCriticalPeaks};
+ghost use Rattle.confluence_theory.specs.ParallelPositions.{ArePairwiseParallel};
 
 /// The critical pair lemma's first half (Baader and Nipkow, section 6.2): a list with all critical
 /// peaks covers the system.
@@ -36,16 +32,16 @@ pub fn critical_peaks_cover()
 /// Where two rules overlap, the subterm of the outer left side and the inner left side have a
 /// unifier once the variables of the inner rule are moved past those of the outer left side.
 pub fn overlaps_unify()
-    ensures unified { (rules : List RewriteRule) (i j : ℕ) (inner outer : RewriteRule) (p : List ℕ) →
-        (overlap : Overlaps rules i j inner outer p) (offset : ℕ) →
+    ensures unified { (rules : List RewriteRule) (i j : ℕ) (inner outer : RewriteRule) →
+        (p : List ℕ) (overlap : Overlaps rules i j inner outer p) (offset : ℕ) →
         ((v : ℕ) → IsTrue (has_var v outer.left) → v < offset) →
         (σ : ℕ → Tree) × (apply σ overlap.part ≡ apply σ (shifted offset inner.left)) }
 {}
 
 /// A path by positions is a path by the numbers of its rules, as a decreasing peak wants it.
 pub fn followed_paths()
-    ensures labelled { (rules : List RewriteRule) (path : List PlacedRule) (t u : Tree) → Follows rules path t u →
-        LabelledPath (NumberedStep rules) (map (λ s. s.rule) path) t u }
+    ensures labelled { (rules : List RewriteRule) (path : List PlacedRule) (t u : Tree) →
+        Follows rules path t u → LabelledPath (NumberedStep rules) (map (λ s. s.rule) path) t u }
 {}
 
 /// A path whose positions are pairwise parallel is one parallel step, as a parallel closed peak
@@ -55,46 +51,44 @@ pub fn parallel_paths()
         ArePairwiseParallel path → Follows rules path t u → ParallelStepBy rules t u }
 {}
 
-/// Two different normal forms are not joinable, so a system is forked where a term reaches both.
-pub fn different_normal_forms()
-    ensures apart { (rules : List RewriteRule) (t u : Tree) →
-        IsNormalForm (Step rules) t → IsNormalForm (Step rules) u → t ≢ u → IsJoinable (Step rules) t u → ⊥ }
-    ensures forked { (system : System) (s t u : Tree) → IsWellFormed system.arities s →
-        Reaches (Step system.rules) s t → Reaches (Step system.rules) s u →
-        IsNormalForm (Step system.rules) t → IsNormalForm (Step system.rules) u → t ≢ u → IsForked system }
-    ensures split { (system : System) → IsSplit system → IsForked system }
+/// Knuth and Bendix's theorem (Baader and Nipkow, section 6.2; Knuth and Bendix, Simple word
+/// problems in universal algebras, 1970): a terminating system is confluent if the sides of each
+/// peak of a list that covers it are joinable.
+pub fn joined_peaks()
+    ensures confluent { (system : System) (peaks : List Peak) →
+        IsSystem system → Covers system.rules peaks →
+        ((peak : Peak) → In peak peaks → IsJoinable (Step system.rules) peak.left peak.right) →
+        IsTerminating system → IsConfluent system }
 {}
 
-/// What the instances of a term reach fits the term's cap (Giesl, Thiemann and Schneider-Kamp,
-/// 2005). So two terms are not joinable, if no term fits both the caps that they have when their
-/// variables are read by one substitution, as by fresh constants (Zankl, Felgenhauer and
-/// Middeldorp, CSI, a confluence tool, 2011; Aoto, Disproving confluence of term rewriting systems
-/// by interpretation and ordering, 2013).
-pub fn caps_apart()
-    ensures fits { (rules : List RewriteRule) (t cap v : Tree) (instance : ℕ → Tree) →
-        Cap (Among rules) t cap → Reaches (Step rules) (apply instance t) v → Fits cap v }
-    ensures apart { (rules : List RewriteRule) (t u c d : Tree) (read : ℕ → Tree) →
-        Cap (Among rules) (apply read t) c → Cap (Among rules) (apply read u) d →
-        ((v : Tree) → Fits c v → Fits d v → ⊥) → IsJoinable (Step rules) t u → ⊥ }
-    ensures forked { (system : System) (s t u c d : Tree) (read : ℕ → Tree) → IsWellFormed system.arities s →
-        Reaches (Step system.rules) s t → Reaches (Step system.rules) s u →
-        Cap (Among system.rules) (apply read t) c → Cap (Among system.rules) (apply read u) d →
-        ((v : Tree) → Fits c v → Fits d v → ⊥) → IsForked system }
+/// Huet's theorem on parallel closed systems (Confluent reductions, 1980; Baader and Nipkow,
+/// section 6.4): a left-linear system is confluent if one parallel step leads from the left to the
+/// right of each peak of a list that covers it.
+pub fn parallel_closed_peaks()
+    ensures confluent { (system : System) (peaks : List Peak) →
+        IsSystem system → AreLeftLinear system.rules → Covers system.rules peaks →
+        ((peak : Peak) → In peak peaks → ParallelStepBy system.rules peak.left peak.right) →
+        IsConfluent system }
 {}
 
-/// Caps clash exactly where no term fits both.
-pub fn clashing_caps()
-    ensures apart { (c d v : Tree) → IsTrue (clash c d) → Fits c v → Fits d v → ⊥ }
-    ensures together { (c d : Tree) → (IsTrue (clash c d) → ⊥) → (v : Tree) × Fits c v × Fits d v }
+/// Huet's theorem on strongly closed systems (Confluent reductions, 1980; Baader and Nipkow,
+/// section 6.3): a linear system is confluent if the sides of each peak of a list that covers it
+/// join strongly, in both directions.
+pub fn strongly_closed_peaks()
+    ensures confluent { (system : System) (peaks : List Peak) →
+        IsSystem system → AreLeftLinear system.rules → AreRightLinear system.rules →
+        Covers system.rules peaks → ((peak : Peak) → In peak peaks →
+        JoinsStrongly (Step system.rules) peak.left peak.right ×
+        JoinsStrongly (Step system.rules) peak.right peak.left) →
+        IsConfluent system }
 {}
 
-/// In a confluent system each well-formed term has at most one normal form (Baader and Nipkow,
-/// section 2.1).
-pub fn unique_normal_forms()
-    ensures unique { (system : System) → IsConfluent system → HasUniqueNormalForms system }
-{}
-
-/// A forked system is not confluent.
-pub fn forked_is_not_confluent()
-    ensures contradiction { (system : System) → IsForked system → IsConfluent system → ⊥ }
+/// The rule labelling (van Oostrom, Confluence by decreasing diagrams, 2008): a linear system is
+/// confluent if the rules have ranks such that each peak of a list that covers it is decreasing.
+pub fn decreasing_peaks()
+    ensures confluent { (system : System) (ranks : List ℕ) (peaks : List Peak) →
+        IsSystem system → AreLeftLinear system.rules → AreRightLinear system.rules →
+        Covers system.rules peaks →
+        ((peak : Peak) → In peak peaks → IsDecreasing system.rules ranks peak) →
+        IsConfluent system }
 {}

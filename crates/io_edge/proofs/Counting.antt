@@ -10,7 +10,7 @@ use Rattle.std.proofs.lemmas.Map.Text.{is_eq-slice_cmp}
 use Rattle.std.proofs.lemmas.Slice.Eq.{bytes_eq-Decides}
 use Rattle.std.proofs.lemmas.Bool.{cases_Bool, false≢true}
 use Rattle.io_edge.specs.declared.counts.Tally.{Tally}
-use Rattle.io_edge.specs.Edge.{CountsRise}
+use Rattle.io_edge.specs.Shelf.{CountsRise}
 use Rattle.io_edge.specs.Named.{first_under, by_name}
 
 -- texts are the same, or differ

@@ -1,5 +1,6 @@
 pub mod Edge
+pub mod Shelf
+pub mod Sink
 pub mod Named
-pub mod Fetched
 pub mod ShelfState
 pub mod SinkState

@@ -3,6 +3,7 @@ use Rattle.std.specs.Prelude.{ℕ, List, map, Option, Some, None, String, string
 use Rattle.std.specs.declared.alloc.Global.{Global}
 use Rattle.std.specs.Map.{lookup}
 use Rattle.std.specs.Str.{bytes_eq}
+use Rattle.io_edge.specs.Shelf.{ShelfMeaning}
 use Rattle.io_edge.specs.declared.counts.Tally.{Tally}
 
 -- the entries, with the bytes of each name
@@ -28,3 +29,7 @@ bytes_of (Some t) = t.bytes
 
 abbrev pub bytes_under : List (List ℕ × Tally) → List ℕ → ℕ
 bytes_under tallies name = bytes_of (first_under tallies name)
+
+-- what a shelf means that counts so, and tells no texts
+abbrev pub untold : List (List ℕ × Tally) → ShelfMeaning
+untold tallies = record { text = λ _. None; faults = faults_under tallies; bytes = bytes_under tallies }

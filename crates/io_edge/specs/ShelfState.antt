@@ -1,9 +1,13 @@
 -- What a shelf in memory is.
-use Rattle.std.specs.Prelude.{ℕ, Bool, List, map, length, Vec, String, string_bytes, Option, Some, None, nat_eq, nat_le, if◌then◌else◌}
+use Rattle.std.specs.Prelude.{◌≡◌, ◌⊎◌, ℕ, Bool, List, map, length, Vec, String, string_bytes, Option, Some, None, Result, Ok, Err, nat_eq, nat_le, if◌then◌else◌}
 use Rattle.std.specs.declared.alloc.Global.{Global}
 use Rattle.std.specs.List.{list_any}
-use Rattle.io_edge.specs.Named.{first_under}
+use Rattle.io_edge.specs.Edge.{count_after}
+use Rattle.io_edge.specs.Shelf.{ShelfMeaning}
+use Rattle.io_edge.specs.Named.{first_under, faults_under, bytes_under}
 use Rattle.io_edge.specs.declared.counts.Tally.{Tally}
+use Rattle.io_edge.specs.declared.fault.FetchFault.{FetchFault}
+use Rattle.io_edge.specs.declared.fault.FetchFault.TheVariants.{TooLong, Failed, OutOfMemory}
 
 pub record ShelfState : Type 0 where
   -- texts under names
@@ -14,6 +18,10 @@ pub record ShelfState : Type 0 where
   pub calls : ℕ
   -- counts of faults and of bytes read under names
   pub tallies : List (List ℕ × Tally)
+
+-- what it means: it tells its texts, of which the first under a name counts
+abbrev pub shelf_meaning : ShelfState → ShelfMeaning
+shelf_meaning s = record { text = first_under s.texts; faults = faults_under s.tallies; bytes = bytes_under s.tallies }
 
 -- texts under names, as they lie in memory
 abbrev pub texts_of : List (String Global × Vec ℕ Global) → List (List ℕ × List ℕ)
@@ -46,3 +54,10 @@ bytes_found (Some t) = length t
 -- how many bytes the next call counts as read
 abbrev pub bytes_read : ShelfState → List ℕ → ℕ
 bytes_read s name = if is_failing s.failing s.calls then 0 else bytes_found (first_under s.texts name)
+
+-- so many bytes were counted as read; none, perhaps, where memory is wanting
+abbrev pub CountsBytes : {X : Type 0} → Result X FetchFault → ℕ → ℕ → ℕ → Type 0
+CountsBytes (Err OutOfMemory) bytes before now = (now ≡ before) ⊎ (now ≡ count_after bytes before)
+CountsBytes (Err Failed) bytes before now = now ≡ count_after bytes before
+CountsBytes (Err TooLong) bytes before now = now ≡ count_after bytes before
+CountsBytes (Ok x) bytes before now = now ≡ count_after bytes before

@@ -1,5 +1,6 @@
 -- What a sink in memory is.
-use Rattle.std.specs.Prelude.{ℕ, ◌-◌, ◌||◌, Bool, List, length, nat_lt}
+use Rattle.std.specs.Prelude.{ℕ, ◌-◌, ◌||◌, Bool, List, length, nat_lt, Some}
+use Rattle.io_edge.specs.Sink.{SinkMeaning}
 use Rattle.io_edge.specs.ShelfState.{is_failing}
 
 pub record SinkState : Type 0 where
@@ -13,6 +14,10 @@ pub record SinkState : Type 0 where
   pub bytes : List ℕ
   -- how many faults there were
   pub faults : ℕ
+
+-- what it means: it tells its bytes
+abbrev pub sink_meaning : SinkState → SinkMeaning
+sink_meaning s = record { taken = Some s.bytes; faults = s.faults; puts = s.calls }
 
 -- the next call fails at a piece: it is to fail, or there is no room
 abbrev pub refuses : SinkState → List ℕ → Bool

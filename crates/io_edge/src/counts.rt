@@ -1,7 +1,7 @@
-ghost use Rattle.std.specs.Prelude.{◌≡◌, ◌≢◌, ◌≤◌, ℕ, List, [], OnOk, IsSome};
-ghost use Rattle.io_edge.specs.Edge.{CountsRise, next_count, count_after};
+ghost use Rattle.std.specs.Prelude.{◌≡◌, ◌≢◌, ◌≤◌, ℕ, List, [], OnOk, OnErr, IsSome};
+ghost use Rattle.io_edge.specs.Edge.{next_count, count_after};
+ghost use Rattle.io_edge.specs.Shelf.{CountsRise, CountsFault};
 ghost use Rattle.io_edge.specs.Named.{first_under, faults_under, bytes_under};
-ghost use Rattle.io_edge.specs.Fetched.{CountsFault};
 
 use crate::fault::FetchFault;
 use std::alloc::{AllocError, Global};
@@ -74,6 +74,7 @@ impl Tallies {
         ensures faults { (q : List ℕ) → faults_under self.new q ≡ faults_under self.old q }
         ensures bytes { (q : List ℕ) → bytes_under self.new q ≡ bytes_under self.old q }
         ensures noted { OnOk result (IsSome (first_under self.new name.now)) }
+        ensures unchanged { OnErr result (self.new ≡ self.old) }
     {
         if self.tallies.get(name).is_none() {
             let key = String::from_str(alloc, name)?;
@@ -89,6 +90,7 @@ impl Tallies {
     #[tactic(auto, using(std::proofs::lemmas::Map::Text::text_keys, crate::proofs::Counting::found_by_name))]
     fn raise(&mut self, name: &str, faults: u64, bytes: u64)
         requires { IsSome (first_under self.old name.now) }
+        ensures noted { IsSome (first_under self.new name.now) }
         ensures faults { faults_under self.new name.now ≡ count_after faults (faults_under self.old name.now) }
         ensures bytes { bytes_under self.new name.now ≡ count_after bytes (bytes_under self.old name.now) }
         ensures later { faults_under self.old name.now ≤ faults_under self.new name.now }
@@ -106,6 +108,7 @@ impl Tallies {
     #[tactic(auto, using(crate::proofs::Counting::rises_at))]
     pub fn record(&mut self, name: &str, reading: Reading) -> Result<Vec<u8>, FetchFault>
         requires { IsSome (first_under self.old name.now) }
+        ensures noted { IsSome (first_under self.new name.now) }
         ensures same { result ≡ reading.outcome }
         ensures counted { CountsFault result (faults_under self.old) (faults_under self.new) name.now }
         ensures bytes { bytes_under self.new name.now ≡ count_after reading.bytes (bytes_under self.old name.now) }

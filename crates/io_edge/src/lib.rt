@@ -9,7 +9,7 @@ mod memory_shelf;
 mod memory_sink;
 mod shelf;
 mod sink;
-mod std_sink;
+mod writer_sink;
 
 pub use fault::{FetchFault, OutOfMemory, SinkFailed};
 pub use file_shelf::FileShelf;
@@ -17,7 +17,7 @@ pub use memory_shelf::MemoryShelf;
 pub use memory_sink::MemorySink;
 pub use shelf::Shelf;
 pub use sink::Sink;
-pub use std_sink::StdSink;
+pub use writer_sink::{StdSink, WriterSink};
 
 #[cfg(test)]
 mod tests;

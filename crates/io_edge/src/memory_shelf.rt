@@ -1,8 +1,8 @@
-ghost use Rattle.std.specs.Prelude.{◌≡◌, ◌+◌, ◌<◌, ◌≤◌, ℕ, List, [], map, length, option_map, IfOk, IfErr, IfSome, IsErrOf, None, Some};
-ghost use Rattle.io_edge.specs.Edge.{CountsRise, Rose, RoseBy, next_count};
-ghost use Rattle.io_edge.specs.Named.{by_name, first_under, faults_under, bytes_under};
-ghost use Rattle.io_edge.specs.Fetched.{CountsFault, CountsBytes};
-ghost use Rattle.io_edge.specs.ShelfState.{answer_to, texts_of, within_limit, is_failing, bytes_found, bytes_read, text as text_answer, too_long as too_long_answer, failed as failed_answer};
+ghost use Rattle.std.specs.Prelude.{◌≡◌, ◌≤◌, [], length, option_map, IfOk, IfErr, IsNone, IsErrOf};
+ghost use Rattle.io_edge.specs.Edge.{next_count};
+ghost use Rattle.io_edge.specs.Shelf.{MayBe, MayPass, TellsTheSame, CountsRise, CountsFault, ReadPast};
+ghost use Rattle.io_edge.specs.Named.{first_under, faults_under, bytes_under};
+ghost use Rattle.io_edge.specs.ShelfState.{shelf_meaning, answer_to, texts_of, within_limit, bytes_found, bytes_read, CountsBytes, text as text_answer, too_long as too_long_answer, failed as failed_answer};
 ghost use Rattle.io_edge.specs.declared.fault.FetchFault.TheVariants.{TooLong, Failed};
 
 use crate::counts::{Reading, Tallies};
@@ -49,9 +49,12 @@ fn text_under<'a>(texts: &'a [(String, Vec<u8>)], name: &str) -> Option<&'a [u8]
 
 // What a call that does not fail by its number meets under a name.
 fn copy_under(alloc: Global, texts: &[(String, Vec<u8>)], name: &str, limit: u64) -> Reading
-    ensures found { IfOk result.outcome (λ v. within_limit (first_under (texts_of texts.now) name.now) limit ≡ text_answer v.items) }
-    ensures too_long { IsErrOf result.outcome TooLong → within_limit (first_under (texts_of texts.now) name.now) limit ≡ too_long_answer }
-    ensures failed { IsErrOf result.outcome Failed → within_limit (first_under (texts_of texts.now) name.now) limit ≡ failed_answer }
+    ensures found { IfOk result.outcome (λ v.
+        within_limit (first_under (texts_of texts.now) name.now) limit ≡ text_answer v.items) }
+    ensures too_long { IsErrOf result.outcome TooLong →
+        within_limit (first_under (texts_of texts.now) name.now) limit ≡ too_long_answer }
+    ensures failed { IsErrOf result.outcome Failed →
+        within_limit (first_under (texts_of texts.now) name.now) limit ≡ failed_answer }
     ensures bytes { result.bytes ≡ bytes_found (first_under (texts_of texts.now) name.now) }
 {
     let Some(text) = text_under(texts, name) else {
@@ -92,31 +95,32 @@ impl MemoryShelf {
 }
 
 impl Shelf for MemoryShelf {
-    ghost text = { λ s. first_under s.texts };
+    ghost means = { shelf_meaning };
 
-    ghost faults = { λ s. faults_under s.tallies };
-
-    ghost bytes = { λ s. bytes_under s.tallies };
-
-    /// Each call is counted, whatever its answer. Without memory for a new name the counts under names
-    /// stay as they were. The whole length of a text that is found counts as read, also of one that is
-    /// too long.
+    /// Each call is counted, whatever its answer. The whole length of a text that is found counts as read,
+    /// also of one that is too long.
     fn fetch(&mut self, name: &str, limit: u64) -> Result<Vec<u8>, FetchFault>
-        ensures whole { IfOk result (λ v. IfSome (first_under self.old.texts name.now) (λ t. v.items ≡ t)) }
+        ensures whole { IfOk result (λ v. MayBe (shelf_meaning self.old) name.now v.items) }
         ensures bound { IfOk result (λ v. length v.items ≤ limit) }
-        ensures too_long { IsErrOf result TooLong → IfSome (first_under self.old.texts name.now) (λ t. limit < length t) }
-        ensures told { (q : List ℕ) → first_under self.new.texts q ≡ first_under self.old.texts q }
+        ensures too_long { IsErrOf result TooLong → MayPass limit (shelf_meaning self.old) name.now }
+        ensures told { TellsTheSame (shelf_meaning self.old) (shelf_meaning self.new) }
         ensures faults { CountsRise (faults_under self.old.tallies) (faults_under self.new.tallies) name.now }
         ensures read { CountsRise (bytes_under self.old.tallies) (bytes_under self.new.tallies) name.now }
-        ensures failed { IsErrOf result Failed → Rose (faults_under self.old.tallies name.now) (faults_under self.new.tallies name.now) }
-        ensures long { IsErrOf result TooLong → RoseBy (limit + 1) (bytes_under self.old.tallies name.now) (bytes_under self.new.tallies name.now) }
+        ensures counted { CountsFault result
+            (faults_under self.old.tallies) (faults_under self.new.tallies) name.now }
+        ensures long { IsErrOf result TooLong →
+            ReadPast limit (shelf_meaning self.old) (shelf_meaning self.new) name.now }
 
         // Which calls answer what, want of memory aside, and how the shelf stands then.
         ensures answered { IfOk result (λ v. answer_to self.old name.now limit ≡ text_answer v.items) }
         ensures long_answer { IsErrOf result TooLong → answer_to self.old name.now limit ≡ too_long_answer }
         ensures failed_answer { IsErrOf result Failed → answer_to self.old name.now limit ≡ failed_answer }
-        ensures counted { CountsFault result (faults_under self.old.tallies) (faults_under self.new.tallies) name.now }
-        ensures counted_bytes { CountsBytes result (bytes_read self.old name.now) (bytes_under self.old.tallies name.now) (bytes_under self.new.tallies name.now) }
+        ensures counted_bytes { CountsBytes result (bytes_read self.old name.now)
+            (bytes_under self.old.tallies name.now) (bytes_under self.new.tallies name.now) }
+
+        // Without memory for a new name no count under a name changes.
+        ensures unnoted { IsNone (first_under self.new.tallies name.now) →
+            self.new.tallies ≡ self.old.tallies }
         ensures calls { self.new.calls ≡ next_count self.old.calls }
         ensures texts { self.new.texts ≡ self.old.texts }
         ensures failing { self.new.failing ≡ self.old.failing }

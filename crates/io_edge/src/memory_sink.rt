@@ -1,6 +1,7 @@
-ghost use Rattle.std.specs.Prelude.{◌≡◌, ◌≤◌, ◌++◌, ℕ, List, [], true, false, IfOk, OnOk, OnErr, Some};
-ghost use Rattle.io_edge.specs.Edge.{Rose, AppendsTo, AppendsPrefix, next_count};
-ghost use Rattle.io_edge.specs.SinkState.{refuses};
+ghost use Rattle.std.specs.Prelude.{◌≡◌, ◌≤◌, ◌++◌, ℕ, List, [], true, false, IfOk, OnOk, OnErr};
+ghost use Rattle.io_edge.specs.Edge.{Rose, next_count};
+ghost use Rattle.io_edge.specs.Sink.{AppendsTo, AppendsPrefix, IsOnePut};
+ghost use Rattle.io_edge.specs.SinkState.{refuses, sink_meaning};
 
 use crate::fault::{OutOfMemory, SinkFailed};
 use crate::sink::Sink;
@@ -65,16 +66,15 @@ impl MemorySink {
 }
 
 impl Sink for MemorySink {
-    ghost taken = { λ s. Some s.bytes };
-
-    ghost faults = { λ s. s.faults };
+    ghost means = { sink_meaning };
 
     /// Each call is counted, whatever its answer. No memory is taken.
     fn put(&mut self, piece: &[u8]) -> Result<(), SinkFailed>
-        ensures whole { OnOk result (AppendsTo (Some self.old.bytes) piece.now (Some self.new.bytes)) }
-        ensures part { OnErr result (AppendsPrefix (Some self.old.bytes) piece.now (Some self.new.bytes)) }
+        ensures whole { OnOk result (AppendsTo (sink_meaning self.old) piece.now (sink_meaning self.new)) }
+        ensures part { OnErr result (AppendsPrefix (sink_meaning self.old) piece.now (sink_meaning self.new)) }
         ensures faults { self.old.faults ≤ self.new.faults }
         ensures failed { OnErr result (Rose self.old.faults self.new.faults) }
+        ensures put { IsOnePut (sink_meaning self.old) (sink_meaning self.new) }
 
         // Which calls fail, and how the sink stands then.
         ensures accepted { OnOk result (refuses self.old piece.now ≡ false) }

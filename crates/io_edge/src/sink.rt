@@ -1,20 +1,18 @@
-ghost use Rattle.std.specs.Prelude.{◌≤◌, ℕ, List, Option, OnOk, OnErr};
-ghost use Rattle.io_edge.specs.Edge.{Rose, AppendsTo, AppendsPrefix};
+ghost use Rattle.std.specs.Prelude.{◌≡◌, ◌≤◌, OnOk, OnErr};
+ghost use Rattle.io_edge.specs.Edge.{Rose};
+ghost use Rattle.io_edge.specs.Sink.{SinkMeaning, AppendsTo, AppendsPrefix, IsOnePut};
 
 use crate::fault::SinkFailed;
 
-/// A place that takes bytes, and counts its faults.
+/// A place that takes bytes, and counts its calls and its faults.
 pub trait Sink {
-    /// The bytes that it has taken, where it tells them.
-    ghost taken: { Self → Option (List ℕ) };
-
-    /// How many faults there were.
-    ghost faults: { Self → ℕ };
+    ghost means: { Self → SinkMeaning };
 
     /// Puts a piece behind the bytes that were taken. After a failure some front of it was taken.
     fn put(&mut self, piece: &[u8]) -> Result<(), SinkFailed>
-        ensures whole { OnOk result (AppendsTo (taken self.old) piece.now (taken self.new)) }
-        ensures part { OnErr result (AppendsPrefix (taken self.old) piece.now (taken self.new)) }
-        ensures faults { faults self.old ≤ faults self.new }
-        ensures failed { OnErr result (Rose (faults self.old) (faults self.new)) };
+        ensures whole { OnOk result (AppendsTo (means self.old) piece.now (means self.new)) }
+        ensures part { OnErr result (AppendsPrefix (means self.old) piece.now (means self.new)) }
+        ensures faults { (means self.old).faults ≤ (means self.new).faults }
+        ensures failed { OnErr result (Rose (means self.old).faults (means self.new).faults) }
+        ensures put { IsOnePut (means self.old) (means self.new) };
 }

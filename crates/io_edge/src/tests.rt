@@ -14,50 +14,32 @@ fn answers<S: Shelf>(
     }
 }
 
-fn takes<K: Sink>(sink: &mut K, piece: &[u8]) -> bool {
-    sink.put(piece).is_ok()
-}
-
+// The files of the host stand under the names that they are asked for by.
 #[test]
-fn shelves(rt: HostRuntime) -> Result<(), Fail> {
-    let alloc = rt.alloc();
+fn files(rt: HostRuntime) -> Result<(), Fail> {
     fs::write(&rt, "seven", b"7 bytes")?;
-    fs::create_dir(&rt, "folder")?;
-    let mut files = FileShelf::new(&rt, alloc);
-    assert!(rt; answers(&mut files, "seven", 7, Ok(b"7 bytes")));
-    assert!(rt; answers(&mut files, "seven", 6, Err(FetchFault::TooLong)));
-    for name in ["missing", "folder"] {
-        assert!(rt;
-            answers(&mut files, name, 7, Err(FetchFault::Failed)),
-            "{name}"
-        );
+    let mut shelf = FileShelf::new(&rt, rt.alloc());
+    for (name, limit, wanted) in [
+        ("seven", 7, Ok(b"7 bytes".as_slice())),
+        ("seven", 6, Err(FetchFault::TooLong)),
+        ("/dev/null", 6, Ok(b"".as_slice())),
+        ("missing", 6, Err(FetchFault::Failed)),
+        (".", 6, Err(FetchFault::Failed)),
+    ] {
+        assert!(rt; answers(&mut shelf, name, limit, wanted), "{name}");
     }
-
-    let name = String::from_str(alloc, "seven")?;
-    let text = Vec::from_slice(alloc, b"7 bytes")?;
-    let mut memory = MemoryShelf::new(alloc, vec![in alloc; (name, text)]?, vec![in alloc; 1]?);
-    assert!(rt; answers(&mut memory, "seven", 7, Ok(b"7 bytes")));
-    assert!(rt; answers(&mut memory, "seven", 7, Err(FetchFault::Failed)));
-    assert!(rt; answers(&mut memory, "seven", 8, Ok(b"7 bytes")));
-    assert!(rt; answers(&mut memory, "seven", 6, Err(FetchFault::TooLong)));
-    assert!(rt; answers(&mut memory, "missing", 7, Err(FetchFault::Failed)));
     Ok(())
 }
 
 #[test]
-fn sinks(rt: HostRuntime) -> Result<(), Fail> {
+fn memory(rt: HostRuntime) -> Result<(), Fail> {
     let alloc = rt.alloc();
-    let mut memory = MemorySink::new(alloc, 4, vec![in alloc; 1]?)?;
-    for (piece, taken) in [
-        (b"ab".as_slice(), true),
-        (b"c".as_slice(), false),
-        (b"cde".as_slice(), false),
-        (b"cd".as_slice(), true),
-    ] {
-        assert_eq!(rt; takes(&mut memory, piece), taken);
-    }
-    assert_eq!(rt; memory.taken(), b"abcd".as_slice());
-    let mut output = StdSink::new(&rt);
-    assert!(rt; takes(&mut output, b"a line\n"));
+    let name = String::from_str(alloc, "seven")?;
+    let text = Vec::from_slice(alloc, b"7 bytes")?;
+    let mut shelf = MemoryShelf::new(alloc, vec![in alloc; (name, text)]?, Vec::new(alloc));
+    assert!(rt; answers(&mut shelf, "seven", 7, Ok(b"7 bytes")));
+    let mut sink = MemorySink::new(alloc, 4, Vec::new(alloc))?;
+    assert!(rt; sink.put(b"abcd").is_ok());
+    assert_eq!(rt; sink.taken(), b"abcd".as_slice());
     Ok(())
 }

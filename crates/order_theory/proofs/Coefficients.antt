@@ -2,9 +2,9 @@
 use Rattle.std.proofs.Common.{◌≡◌, ℕ, zero, suc, ◌+◌, ◌*◌, ◌≤◌, ◌<◌, refl, ap, arith, Bool, true, false, ◌==◌, if◌then◌else◌}
 use native.Mathlib.Decide.{ℕ_discrete, dec_le}
 use Rattle.trs_defs.specs.Tree.{Tree, var, app, Trees, nil, cons}
-use Rattle.trs_defs.specs.Subterm.{Sub, itself, under, Subs, in_head, in_tail}
-use Rattle.trs_defs.specs.LinearInterpretation.{value, values, constant, constants, coefficient, coefficients, LinearWeak, LinearStrict, CoefficientWeak, CoefficientStrict}
-use Rattle.pair_theory.proofs.Terms.{below_root, not_in_nil}
+use Rattle.pair_theory.specs.Subterm.{Sub, itself, under, Subs, in_head, in_tail}
+use Rattle.order_theory.specs.LinearInterpretation.{value, values, constant, constants, coefficient, coefficients, LinearWeak, LinearStrict, CoefficientWeak, CoefficientStrict}
+use Rattle.pair_theory.proofs.Subterms.{below_root, not_in_nil}
 
 abbrev pub sum_to : ℕ → (ℕ → ℕ) → ℕ
 sum_to zero g = 0
@@ -28,13 +28,13 @@ sum_mix (suc n) k g h a =
     let e'' : k * (sum_to n (λ x. g x * a x) + g n * a n) ≡ k * sum_to n (λ x. g x * a x) + k * (g n * a n) = mul_add k (sum_to n (λ x. g x * a x)) (g n * a n) in
     omega arith
 
-abbrev one_if : Bool → ℕ
+abbrev pub one_if : Bool → ℕ
 one_if b = if b then 1 else 0
 
 one_if_true : (b : Bool) → b ≡ true → one_if b ≡ 1
 one_if_true b e = rw e refl
 
-one_if_false : (b : Bool) → b ≡ false → one_if b ≡ 0
+pub one_if_false : (b : Bool) → b ≡ false → one_if b ≡ 0
 one_if_false b e = rw e refl
 
 same_true : (x y : ℕ) → x ≡ y → (y == x) ≡ true
@@ -77,7 +77,7 @@ share p q k r = grind arith
 mul_one_more : (p q : ℕ) → p * (q + 1) ≡ p * q + p
 mul_one_more p q = grind arith
 
-mul_le_right : (p q r : ℕ) → q ≤ r → p * q ≤ p * r
+pub mul_le_right : (p q r : ℕ) → q ≤ r → p * q ≤ p * r
 mul_le_right p q r h = grind arith
 
 module _ (c : ℕ → ℕ → ℕ) (a : ℕ → ℕ) (n : ℕ) where

@@ -1,23 +1,22 @@
--- The images under a map of those pairs whose sides it does not make equal.
-use Rattle.std.proofs.Common.{◌≡◌, refl, ◌⊎◌, inl, inr, List, [], ◌∷◌}
+-- Pairs that a map makes fall, or makes equal: the images of those that fall are a system, and a bound in this system of the
+-- image of a term bounds the strict moves from the term.
+use Rattle.std.proofs.Common.{◌≡◌, ℕ, zero, suc, ◌≤◌, refl, sym, ap, subst, arith, ◌∙◌, ◌⊎◌, inl, inr, List, [], ◌∷◌, map}
 use Rattle.trs_defs.specs.Tree.{Tree}
-use Rattle.trs_defs.specs.System.{RewriteRule}
+use Rattle.trs_defs.specs.Substitution.{apply}
+use Rattle.trs_defs.specs.System.{RewriteRule, Among}
 use Rattle.trs_defs.specs.Member.{In, in_first, in_rest}
-use Rattle.pair_theory.proofs.Matching.{same_term}
-
--- the filtered pairs that fall
-abbrev pick : {A B : Type 0} → Dec A → B → B → B
-pick (yes a) x y = x
-pick (no n) x y = y
+use Rattle.trs_defs.specs.Run.{Run, Stay, Go}
+use Rattle.trs_defs.specs.Step.{RootStep, StepBy, here}
+use Rattle.trs_defs.specs.Bounded.{IsBounded, IsBoundedBy}
+use Rattle.pair_theory.specs.Moves.{Moves, no_moves, weakly, strictly, MovesAtMost}
+use Rattle.trs_defs.proofs.BoundLaws.{bound_after_run}
+use Rattle.trs_defs.proofs.Members.{in_map, of_map}
+use Rattle.pair_theory.proofs.Matching.{same_term, pick}
 
 abbrev pub image : (Tree → Tree) → RewriteRule → RewriteRule
 image g p = record { left = g p.left; right = g p.right }
 
-abbrev pub images : (Tree → Tree) → List RewriteRule → List RewriteRule
-images g [] = []
-images g (p ∷ ps) = image g p ∷ images g ps
-
--- the images of those pairs whose filtered sides differ, before the others
+-- the images of those pairs whose images have different sides, before the others
 abbrev pub fallers : (Tree → Tree) → List RewriteRule → List RewriteRule → List RewriteRule
 fallers g base [] = base
 fallers g base (p ∷ ps) = pick (same_term (g p.left) (g p.right)) (fallers g base ps) (image g p ∷ fallers g base ps)
@@ -27,11 +26,11 @@ module _ (g : Tree → Tree) (base : List RewriteRule) where
   put_in (yes a) p ps i = i
   put_in (no n) p ps i = in_rest i
 
-  pub base_in : (ps : List RewriteRule) {q : RewriteRule} → In q base → In q (fallers g base ps)
+  base_in : (ps : List RewriteRule) {q : RewriteRule} → In q base → In q (fallers g base ps)
   base_in [] i = i
   base_in (p ∷ ps) i = put_in (same_term (g p.left) (g p.right)) (image g p) (fallers g base ps) (base_in ps i)
 
-  pub faller : (ps : List RewriteRule) (p : RewriteRule) → In p ps → (g p.left ≡ g p.right) ⊎ In (image g p) (fallers g base ps)
+  faller : (ps : List RewriteRule) (p : RewriteRule) → In p ps → (g p.left ≡ g p.right) ⊎ In (image g p) (fallers g base ps)
   faller [] p i = elim i [ ]
   faller (q ∷ ps) p i = go i (same_term (g q.left) (g q.right)) (faller ps)
     where
@@ -42,14 +41,14 @@ module _ (g : Tree → Tree) (base : List RewriteRule) where
       go {p = p} (in_rest j) (yes e) k = k p j
       go {p = p} (in_rest j) (no n) k = elim (k p j) [ inl e ↦ inl e | inr m ↦ inr (in_rest m) ]
 
-  abbrev pub Origin : List RewriteRule → RewriteRule → Type 0
+  abbrev Origin : List RewriteRule → RewriteRule → Type 0
   Origin ps q = In q base ⊎ ((p : RewriteRule) × In p ps × (q ≡ image g p) × ((g p.left ≡ g p.right) → ⊥))
 
   wider : {p q : RewriteRule} {ps : List RewriteRule} → Origin ps q → Origin (p ∷ ps) q
   wider (inl i) = inl i
   wider (inr o) = inr (o.0, in_rest o.1, o.2, o.3)
 
-  pub origin : (ps : List RewriteRule) (q : RewriteRule) → In q (fallers g base ps) → Origin ps q
+  origin : (ps : List RewriteRule) (q : RewriteRule) → In q (fallers g base ps) → Origin ps q
   origin [] q i = inl i
   origin (p ∷ ps) q i = go (same_term (g p.left) (g p.right)) i (origin ps)
     where
@@ -61,15 +60,45 @@ module _ (g : Tree → Tree) (base : List RewriteRule) where
       go (yes e) i k = wider (k q i)
       go (no n) i k = next i n k
 
-pub image_in : (g : Tree → Tree) (ps : List RewriteRule) {p : RewriteRule} → In p ps → In (image g p) (images g ps)
-image_in g [] i = elim i [ ]
-image_in g (p ∷ ps) in_first = in_first
-image_in g (q ∷ ps) (in_rest i) = in_rest (image_in g ps i)
+-- the system of the images of the strict pairs, and of those weak pairs that the map does not make equal
+module _ (g : Tree → Tree) (ws ss : List RewriteRule) where
+  abbrev pub system : List RewriteRule
+  system = fallers g (map (image g) ss) ws
 
-pub of_image : (g : Tree → Tree) (ps : List RewriteRule) {q : RewriteRule} → In q (images g ps) → (p : RewriteRule) × In p ps × (q ≡ image g p)
-of_image g [] i = elim i [ ]
-of_image g (p ∷ ps) i = go i (λ q. of_image g ps)
-  where
-    go : {q : RewriteRule} → In q (images g (p ∷ ps)) → ((q : RewriteRule) → In q (images g ps) → (p : RewriteRule) × In p ps × (q ≡ image g p)) → (p' : RewriteRule) × In p' (p ∷ ps) × (q ≡ image g p')
-    go in_first k = (p, in_first, refl)
-    go {q = q} (in_rest j) k = let o : (p : RewriteRule) × In p ps × (q ≡ image g p) = k q j in (o.0, in_rest o.1, o.2)
+  pub each_of_system : (P : RewriteRule → Type 0) → ((p : RewriteRule) → In p ss → P (image g p))
+      → ((p : RewriteRule) → In p ws → ((g p.left ≡ g p.right) → ⊥) → P (image g p)) → (q : RewriteRule) → In q system → P q
+  each_of_system P strict weak q i = go (origin g (map (image g) ss) ws q i)
+    where
+      go : Origin g (map (image g) ss) ws q → P q
+      go (inl j) = let o : (p : RewriteRule) × In p ss × (q ≡ image g p) = of_map (image g) ss j in subst P (sym o.2) (strict o.0 o.1)
+      go (inr o) = subst P (sym o.2) (weak o.0 o.1 o.3)
+
+  -- the map takes an instance to an instance of the image
+  module _ (after : (ℕ → Tree) → ℕ → Tree) (instance : (σ : ℕ → Tree) (t : Tree) → g (apply σ t) ≡ apply (after σ) (g t)) where
+    pub weak_at_root : {s t : Tree} → RootStep (Among ws) s t → Run (StepBy (Among system)) (g s) (g t)
+    weak_at_root {s} {t} (l, r, σ, h, e, e') = go (faller g (map (image g) ss) ws (record { left = l; right = r }) h)
+      where
+        left : g s ≡ apply (after σ) (g l)
+        left = ap g e ∙ instance σ l
+
+        right : g t ≡ apply (after σ) (g r)
+        right = ap g e' ∙ instance σ r
+
+        go : (g l ≡ g r) ⊎ Among system (g l) (g r) → Run (StepBy (Among system)) (g s) (g t)
+        go (inl same) = subst (Run (StepBy (Among system)) (g s)) (left ∙ ap (apply (after σ)) same ∙ sym right) Stay
+        go (inr i) = Go (here (g l, g r, after σ, i, left, right)) Stay
+
+    strict_step : {s t : Tree} → RootStep (Among ss) s t → StepBy (Among system) (g s) (g t)
+    strict_step (l, r, σ, h, e, e') =
+        here (g l, g r, after σ, base_in g (map (image g) ss) ws (in_map (image g) h), ap g e ∙ instance σ l, ap g e' ∙ instance σ r)
+
+    module _ (weak_step : (s t : Tree) → StepBy (Among ws) s t → Run (StepBy (Among system)) (g s) (g t)) where
+      few_moves : (n : ℕ) {m : ℕ} {s u : Tree} → Moves ws ss m s u → IsBoundedBy (StepBy (Among system)) n (g s) → m ≤ n
+      few_moves n no_moves b = omega arith
+      few_moves n (weakly {s = s} {t = t} d ms) b = few_moves n ms (bound_after_run (StepBy (Among system)) n (weak_step s t d) b)
+      few_moves zero (strictly s ms) b = absurd (b _ (strict_step s))
+      few_moves (suc n) (strictly {n = k} s ms) b = let h : k ≤ n = few_moves n ms (b _ (strict_step s)) in omega arith
+
+      -- the strict moves from a term are no more than a bound of its image
+      pub moves_bounded : (t : Tree) → IsBounded (StepBy (Among system)) (g t) → (n : ℕ) × MovesAtMost ws ss n t
+      moves_bounded t b = (b.0, λ m u ms. few_moves b.0 ms b.1)

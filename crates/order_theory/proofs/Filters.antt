@@ -1,21 +1,21 @@
 -- The path order with filters is well-founded in the finite sense: the filtered pairs that fall make a terminating system.
-use Rattle.std.proofs.Common.{◌≡◌, ℕ, zero, suc, ◌-◌, ◌≤◌, refl, sym, ap, subst, arith, ◌∙◌, ◌⊎◌, inl, inr, List, [], ◌∷◌}
+use Rattle.std.proofs.Common.{◌≡◌, ℕ, zero, suc, ◌-◌, refl, ap, ◌∙◌, inl, inr, List, [], ◌∷◌}
 use Rattle.trs_defs.specs.Tree.{Tree, var, app, Trees, nil, cons}
 use Rattle.trs_defs.specs.Substitution.{apply, apply_all}
-use Rattle.trs_defs.specs.Step.{RootStep, StepBy, here, deep, first, later}
-use Rattle.trs_defs.specs.Terminates.{ArgumentStep, Terminates}
-use Rattle.trs_defs.specs.Bounded.{IsBoundedBy}
+use Rattle.trs_defs.specs.Step.{StepBy, here, deep, first, later}
+use Rattle.pair_theory.specs.Terminates.{ArgumentStep, Terminates}
 use Rattle.trs_defs.specs.System.{RewriteRule, Among}
 use Rattle.trs_defs.specs.Member.{In}
-use Rattle.trs_defs.specs.Run.{Run, Stay, Go}
-use Rattle.trs_defs.specs.PathOrder.{PathGreater}
-use Rattle.trs_defs.specs.ArgumentFilter.{ArgumentFilter, To, Keep, item_or, keep_one, select, by_filter, filtered, filtered_all, PathStrict, PathWeak}
-use Rattle.trs_defs.specs.Moves.{Moves, no_moves, weakly, strictly, MovesAtMost, IsWellFounded}
-use Rattle.trs_defs.specs.ReductionPair.{AllTerms}
-use Rattle.pair_theory.proofs.Accessibility.{looser, run_on, run_map}
-use Rattle.pair_theory.proofs.Terms.{join_cons}
-use Rattle.pair_theory.proofs.Bounds.{bounded, NoNewVariables}
-use Rattle.order_theory.proofs.Fallers.{image, images, fallers, base_in, faller, Origin, origin, image_in, of_image}
+use Rattle.trs_defs.specs.Run.{Run, Stay}
+use Rattle.order_theory.specs.PathOrder.{PathGreater}
+use Rattle.order_theory.specs.ArgumentFilter.{ArgumentFilter, To, Keep, keep_one, select, by_filter, filtered, filtered_all, PathStrict, PathWeak}
+use Rattle.pair_theory.specs.ItemOr.{item_or}
+use Rattle.pair_theory.specs.Moves.{MovesAtMost, IsWellFounded}
+use Rattle.pair_theory.specs.ReductionPair.{AllTerms}
+use Rattle.trs_defs.proofs.StepLaws.{run_in_app, run_in_cons}
+use Rattle.trs_defs.proofs.EqualTerms.{join_cons}
+use Rattle.pair_theory.proofs.Reducts.{bounded, NoNewVariables}
+use Rattle.order_theory.proofs.Fallers.{system, each_of_system, weak_at_root, moves_bounded}
 use Rattle.order_theory.proofs.PathLaws.{greater_vars, falling_terminates}
 
 at_applies : (τ : ℕ → Tree) (i : ℕ) (ts : Trees) (d : Tree) → item_or i (apply_all τ ts) (apply τ d) ≡ apply τ (item_or i ts d)
@@ -75,89 +75,41 @@ module _ (rule : Tree → Tree → Type 0) where
 
   near_run : {ss ts : Trees} → Near ss ts → Run (ArgumentStep rule) ss ts
   near_run near_nil = Stay
-  near_run (near_cons {t = t} {ss = ss} p ps) = run_on (run_map (λ x. cons x ss) (λ x y s. first s) p) (run_map (cons t) (λ x y s. later s) (near_run ps))
+  near_run (near_cons p ps) = run_in_cons p (near_run ps)
 
   near_filter : (f : ℕ) (φ : ArgumentFilter) {ss ts : Trees} → Near ss ts → Run (StepBy rule) (by_filter f φ ss) (by_filter f φ ts)
   near_filter f (To i) p = near_at (i - 1) (app f nil) p
-  near_filter f (Keep is) p = run_map (app f) (λ x y s. deep s) (near_run (near_select is p))
-
--- a system that contains the filtered pairs, but for those whose sides are equal, makes each step
-module _ (π : ℕ → ArgumentFilter) (rule goal : Tree → Tree → Type 0)
-    (covers : (l r : Tree) → rule l r → (filtered π l ≡ filtered π r) ⊎ goal (filtered π l) (filtered π r)) where
-  root_run : {s t : Tree} (l r : Tree) (σ : ℕ → Tree) → rule l r → s ≡ apply σ l → t ≡ apply σ r → Run (StepBy goal) (filtered π s) (filtered π t)
-  root_run {s} {t} l r σ h e e' = go (covers l r h)
-    where
-      left : filtered π s ≡ apply (after π σ) (filtered π l)
-      left = ap (filtered π) e ∙ filtered_apply π σ l
-
-      right : filtered π t ≡ apply (after π σ) (filtered π r)
-      right = ap (filtered π) e' ∙ filtered_apply π σ r
-
-      go : (filtered π l ≡ filtered π r) ⊎ goal (filtered π l) (filtered π r) → Run (StepBy goal) (filtered π s) (filtered π t)
-      go (inl same) = subst (Run (StepBy goal) (filtered π s)) (left ∙ ap (apply (after π σ)) same ∙ sym right) Stay
-      go (inr g) = Go (here (_, _, after π σ, g, left, right)) Stay
-
-  mutual
-    filter_step : {s t : Tree} → StepBy rule s t → Run (StepBy goal) (filtered π s) (filtered π t)
-    filter_step (here (l, r, σ, h, e, e')) = root_run l r σ h e e'
-    filter_step (deep {f = f} s) = near_filter goal f (π f) (filter_steps s)
-
-    filter_steps : {ss ts : Trees} → ArgumentStep rule ss ts → Near goal (filtered_all π ss) (filtered_all π ts)
-    filter_steps (first {ts = ts} s) = near_cons (filter_step s) (near_same goal (filtered_all π ts))
-    filter_steps (later s) = near_cons Stay (filter_steps s)
+  near_filter f (Keep is) p = run_in_app f (near_run (near_select is p))
 
 module _ (rank : ℕ → ℕ) (π : ℕ → ArgumentFilter) (ws ss : List RewriteRule)
     (weak : (p : RewriteRule) → In p ws → PathWeak rank π p.left p.right)
     (strict : (p : RewriteRule) → In p ss → PathStrict rank π p.left p.right) where
   -- the system on filtered terms
-  abbrev system : List RewriteRule
-  system = fallers (filtered π) (images (filtered π) ss) ws
+  abbrev filtered_system : List RewriteRule
+  filtered_system = system (filtered π) ws ss
 
-  system_falls : (q : RewriteRule) → In q system → PathGreater rank q.left q.right
-  system_falls q i = go (origin (filtered π) (images (filtered π) ss) ws q i)
-    where
-      from : (p : RewriteRule) → PathWeak rank π p.left p.right → ((filtered π p.left ≡ filtered π p.right) → ⊥) → PathStrict rank π p.left p.right
-      from p (inl e) n = absurd (n e)
-      from p (inr g) n = g
+  system_falls : (q : RewriteRule) → In q filtered_system → PathGreater rank q.left q.right
+  system_falls = each_of_system (filtered π) ws ss (λ q. PathGreater rank q.left q.right) strict
+      (λ p i n. elim (weak p i) [ inl e ↦ absurd (n e) | inr g ↦ g ])
 
-      go : Origin (filtered π) (images (filtered π) ss) ws q → PathGreater rank q.left q.right
-      go (inl j) = let o : (p : RewriteRule) × In p ss × (q ≡ image (filtered π) p) = of_image (filtered π) ss j in
-          subst (λ q. PathGreater rank q.left q.right) (sym o.2) (strict o.0 o.1)
-      go (inr o) = subst (λ q. PathGreater rank q.left q.right) (sym o.2) (from o.0 (weak o.0 o.1) o.3)
-
-  system_fine : (q : RewriteRule) → In q system → NoNewVariables q
+  system_fine : (q : RewriteRule) → In q filtered_system → NoNewVariables q
   system_fine q i = greater_vars rank (system_falls q i)
 
-  system_terminates : (t : Tree) → Terminates (Among system) t
-  system_terminates t = falling_terminates rank (Among system) (λ l r i. system_falls _ i) t
+  system_terminates : (t : Tree) → Terminates (Among filtered_system) t
+  system_terminates t = falling_terminates rank (Among filtered_system) (λ l r i. system_falls _ i) t
 
-  weak_covered : (l r : Tree) → Among ws l r → (filtered π l ≡ filtered π r) ⊎ Among system (filtered π l) (filtered π r)
-  weak_covered l r i = faller (filtered π) (images (filtered π) ss) ws _ i
+  mutual
+    filter_step : {s t : Tree} → StepBy (Among ws) s t → Run (StepBy (Among filtered_system)) (filtered π s) (filtered π t)
+    filter_step (here r) = weak_at_root (filtered π) ws ss (after π) (filtered_apply π) r
+    filter_step (deep {f = f} s) = near_filter (Among filtered_system) f (π f) (filter_steps s)
 
-  after_run : (n : ℕ) {s t : Tree} → Run (StepBy (Among system)) s t → IsBoundedBy (StepBy (Among system)) n s → IsBoundedBy (StepBy (Among system)) n t
-  after_run n Stay b = b
-  after_run zero (Go p ps) b = absurd (b _ p)
-  after_run (suc n) (Go p ps) b = looser (Among system) n _ (after_run n ps (b _ p))
-
-  strict_step : {s t : Tree} → RootStep (Among ss) s t → StepBy (Among system) (filtered π s) (filtered π t)
-  strict_step (l, r, σ, i, e, e') = here (
-    filtered π l,
-    filtered π r,
-    after π σ,
-    base_in (filtered π) (images (filtered π) ss) ws (image_in (filtered π) ss i),
-    ap (filtered π) e ∙ filtered_apply π σ l,
-    ap (filtered π) e' ∙ filtered_apply π σ r,
-  )
-
-  few_moves : (n : ℕ) {m : ℕ} {s u : Tree} → Moves ws ss m s u → IsBoundedBy (StepBy (Among system)) n (filtered π s) → m ≤ n
-  few_moves n no_moves b = omega arith
-  few_moves n (weakly s ms) b = few_moves n ms (after_run n (filter_step π (Among ws) (Among system) weak_covered s) b)
-  few_moves zero (strictly s ms) b = absurd (b _ (strict_step s))
-  few_moves (suc n) (strictly {n = k} s ms) b = let h : k ≤ n = few_moves n ms (b _ (strict_step s)) in omega arith
+    filter_steps : {us vs : Trees} → ArgumentStep (Among ws) us vs → Near (Among filtered_system) (filtered_all π us) (filtered_all π vs)
+    filter_steps (first {ts = ts} s) = near_cons (filter_step s) (near_same (Among filtered_system) (filtered_all π ts))
+    filter_steps (later s) = near_cons Stay (filter_steps s)
 
   pub few_strict : (t : Tree) → (n : ℕ) × MovesAtMost ws ss n t
-  few_strict t = let b : (n : ℕ) × IsBoundedBy (StepBy (Among system)) n (filtered π t) = bounded system system_fine (system_terminates (filtered π t)) in
-      (b.0, λ m u ms. few_moves b.0 ms b.1)
+  few_strict t = moves_bounded (filtered π) ws ss (after π) (filtered_apply π) (λ s u d. filter_step d) t
+      (bounded filtered_system system_fine (system_terminates (filtered π t)))
 
 pub path_well_founded : (rank : ℕ → ℕ) (π : ℕ → ArgumentFilter) → IsWellFounded (PathWeak rank π) (PathStrict rank π) AllTerms
 path_well_founded rank π ws ss weak strict t spoken = few_strict rank π ws ss (λ p i. (weak p i).ordered) (λ p i. (strict p i).ordered) t

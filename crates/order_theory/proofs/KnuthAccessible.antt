@@ -2,10 +2,12 @@
 use Rattle.std.proofs.Common.{◌≡◌, ℕ, zero, suc, ◌+◌, ◌≤◌, ◌<◌, refl, sym, ap, subst, arith, ◌∙◌, Option, Some, None}
 use native.Mathlib.Decide.{dec_lt, ℕ_discrete}
 use Rattle.trs_defs.specs.Tree.{Tree, var, app, Trees, nil, cons, count}
-use Rattle.trs_defs.specs.Accessible.{Acc, acc}
+use Rattle.pair_theory.specs.Accessible.{Acc, acc}
 use Rattle.trs_defs.specs.Every.{Every, every_nil, every_cons}
-use Rattle.trs_defs.specs.KnuthBendix.{IsOver, AreOver, IsAdmissible, weigh, weigh_all, KnuthGreater, by_weight, by_tower, by_head, by_args, KnuthLexGreater, heavier_here, heavier_later}
+use Rattle.order_theory.specs.KnuthBendix.{IsAdmissible, weigh, weigh_all, KnuthGreater, by_weight, by_tower, by_head, by_args, KnuthLexGreater, heavier_here, heavier_later}
+use Rattle.pair_theory.specs.Over.{IsOver, AreOver}
 use Rattle.pair_theory.proofs.Accessibility.{down, acc_induction}
+use Rattle.order_theory.proofs.ListAccessible.{LexTo, lex_acc}
 
 pub some_same : {m n : ℕ} → Some m ≡ Some n → m ≡ n
 some_same e = cc
@@ -18,49 +20,32 @@ is_some (Some m) n = go (ℕ_discrete m n)
     go (yes e) = yes (ap Some e)
     go (no d) = no (λ e. d (some_same e))
 
+pub lex_count : {w rank : ℕ → ℕ} {ss ts : Trees} → KnuthLexGreater w rank ss ts → count ss ≡ count ts
+lex_count (heavier_here g e) = ap (λ n. 1 + n) e
+lex_count (heavier_later l) = ap (λ n. 1 + n) (lex_count l)
+
 module _ (arity : ℕ → Option ℕ) (w rank : ℕ → ℕ) (admissible : IsAdmissible arity w rank) where
   -- heavier, among well-formed terms
   abbrev Falls : Tree → Tree → Type 0
   Falls s t = KnuthGreater w rank s t × IsOver arity t
 
+  -- lists that fall, with terms of the arity function
+  abbrev Lists : Trees → Trees → Type 0
+  Lists ss ts = KnuthLexGreater w rank ss ts × AreOver arity ts
+
+  lex_case : (P : Trees → Type 0) (s : Tree) (ss us : Trees) → Lists (cons s ss) us
+      → ((t : Tree) (ts : Trees) → Falls s t → count ss ≡ count ts → P (cons t ts)) → ((ts : Trees) → Lists ss ts → P (cons s ts)) → P us
+  lex_case P s ss us (heavier_here g e, v) a b = a _ _ (g, v.0) e
+  lex_case P s ss us (heavier_later l, v) a b = b _ (l, v.1)
+
+  no_lex : (ts : Trees) → Lists nil ts → ⊥
+  no_lex ts (l, v) = elim l [ ]
+
   abbrev Lexes : Trees → Trees → Type 0
-  Lexes ss ts = KnuthLexGreater w rank ss ts × Every (Acc Falls) ts × AreOver arity ts
+  Lexes = LexTo Falls Lists no_lex lex_case (λ ss ts l. lex_count l.0)
 
-  lex_case : (P : Trees → Type 0) {s : Tree} {ss us : Trees} → KnuthLexGreater w rank (cons s ss) us
-      → ((t : Tree) (ts : Trees) → KnuthGreater w rank s t → count ss ≡ count ts → P (cons t ts))
-      → ((ts : Trees) → KnuthLexGreater w rank ss ts → P (cons s ts)) → P us
-  lex_case P (heavier_here g e) a b = a _ _ g e
-  lex_case P (heavier_later l) a b = b _ l
-
-  no_lex : {ss : Trees} → KnuthLexGreater w rank nil ss → ⊥
-  no_lex l = elim l [ ]
-
-  lex_count : {ss ts : Trees} → KnuthLexGreater w rank ss ts → count ss ≡ count ts
-  lex_count (heavier_here g e) = ap (λ n. 1 + n) e
-  lex_count (heavier_later l) = ap (λ n. 1 + n) (lex_count l)
-
-  every_tail : {P : Tree → Type 0} {t : Tree} {ts : Trees} → Every P (cons t ts) → Every P ts
-  every_tail (every_cons h hs) = hs
-
-  nil_acc : Acc Lexes nil
-  nil_acc = acc (λ us l. absurd (no_lex l.0))
-
-  lex_cons : (n : ℕ) → ((ts : Trees) → count ts ≡ n → Every (Acc Falls) ts → Acc Lexes ts)
-      → {s : Tree} → Acc Falls s → (ss : Trees) → count ss ≡ n → Acc Lexes ss → Acc Lexes (cons s ss)
-  lex_cons n shorter a =
-      acc_induction {P = λ s. (ss : Trees) → count ss ≡ n → Acc Lexes ss → Acc Lexes (cons s ss)}
-      (λ s below rec ss e b. acc_induction {P = λ ss. count ss ≡ n → Acc Lexes (cons s ss)}
-      (λ ss' below' rec' e'. acc (λ us l. lex_case (λ us. Every (Acc Falls) us → AreOver arity us → Acc Lexes us) l.0
-      (λ t ts g same h v. let m : count ts ≡ n = sym same ∙ e' in rec t (g, v.0) ts m (shorter ts m (every_tail h)))
-      (λ ts l' h v. rec' ts (l', every_tail h, v.1) (sym (lex_count l') ∙ e')) l.1 l.2))
-      b e)
-      a
-
-  lex_acc : (n : ℕ) (ss : Trees) → count ss ≡ n → Every (Acc Falls) ss → Acc Lexes ss
-  lex_acc n nil e h = nil_acc
-  lex_acc zero (cons s ss) e h = absurd (omega arith)
-  lex_acc (suc n) (cons s ss) e (every_cons h hs) =
-      let m : count ss ≡ n = omega arith in lex_cons n (lex_acc n) h ss m (lex_acc n ss m hs)
+  lexes_acc : (ss : Trees) → Every (Acc Falls) ss → Acc Lexes ss
+  lexes_acc ss h = lex_acc Falls Lists no_lex lex_case (λ ss ts l. lex_count l.0) (count ss) ss refl h
 
   pub weigh_pos : (t : Tree) → IsOver arity t → 1 ≤ weigh w t
   weigh_pos (var x) v = omega arith
@@ -139,8 +124,8 @@ module _ (arity : ℕ → Option ℕ) (w rank : ℕ → ℕ) (admissible : IsAdm
         subst (Acc Falls) (sym e) (lower g r ts v' is' (light_acc is' (args_light g ts v' (λ one zero'. not_top g r one zero')))))
         (λ ts e same l. let v' : IsOver arity (app f ts) = subst (IsOver arity) e h.1 in let is' : weigh w (app f ts) ≡ n = sym same ∙ is in
         let each : Every (Acc Falls) ts = each_acc ss ts v' is' l small (unary_zero f) in
-        subst (Acc Falls) (sym e) (rec ts (l, each, v'.1) v' is' each))))
-        (lex_acc (count ss) ss refl small) v is small
+        subst (Acc Falls) (sym e) (rec ts ((l, v'.1), each) v' is' each))))
+        (lexes_acc ss small) v is small
       where
         not_top : (g : ℕ) → rank g < rank f → arity g ≡ Some 1 → w g ≡ 0 → ⊥
         not_top g r one zero' = go (ℕ_discrete g f)

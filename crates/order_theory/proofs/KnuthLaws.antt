@@ -3,19 +3,20 @@ use Rattle.std.proofs.Common.{◌≡◌, ℕ, zero, suc, ◌+◌, ◌*◌, ◌�
 use native.Mathlib.Decide.{dec_lt, ℕ_discrete}
 use Rattle.trs_defs.specs.Tree.{Tree, var, app, Trees, nil, cons, count}
 use Rattle.trs_defs.specs.Substitution.{apply, apply_all}
-use Rattle.trs_defs.specs.Accessible.{acc}
+use Rattle.pair_theory.specs.Accessible.{acc}
 use Rattle.trs_defs.specs.Step.{Inside, InsideOne, StepBy, here, deep, first, later}
-use Rattle.trs_defs.specs.Terminates.{ArgumentStep, Terminates}
-use Rattle.trs_defs.specs.Subterm.{Sub}
-use Rattle.trs_defs.specs.KnuthBendix.{IsOver, AreOver, IsAdmissible, KeepsOccurrences, KnuthWeak, weigh, weigh_all, Tower, one_high, higher, KnuthGreater, by_weight, by_tower, by_head, by_args, KnuthLexGreater, heavier_here, heavier_later}
-use Rattle.pair_theory.proofs.Terms.{count_apply_all}
-use Rattle.trs_defs.specs.LinearInterpretation.{value, values, constant, constants, coefficient, coefficients}
+use Rattle.pair_theory.specs.Terminates.{ArgumentStep, Terminates}
+use Rattle.pair_theory.specs.Subterm.{Sub}
+use Rattle.order_theory.specs.KnuthBendix.{IsAdmissible, KeepsOccurrences, KnuthWeak, weigh, weigh_all, Tower, one_high, higher, KnuthGreater, by_weight, by_tower, by_head, by_args, KnuthLexGreater, heavier_here, heavier_later}
+use Rattle.pair_theory.specs.Over.{IsOver, AreOver}
+use Rattle.trs_defs.proofs.ArgumentLists.{count_apply_all}
+use Rattle.order_theory.specs.LinearInterpretation.{value, values, constant, constants, coefficient, coefficients}
 use Rattle.trs_defs.specs.Variable.{occurrences, occurrences_in_all}
 use Rattle.order_theory.proofs.Coefficients.{by_coefficients, mul_le, value_sum, vars_below, sum_to}
-use Rattle.order_theory.proofs.KnuthAccessible.{some_same, weigh_pos, knuth_acc}
+use Rattle.order_theory.proofs.KnuthAccessible.{some_same, lex_count, weigh_pos, knuth_acc}
 use Rattle.pair_theory.proofs.Accessibility.{acc_induction}
-use Rattle.pair_theory.proofs.Matching.{occurs, same_apply}
-use Rattle.order_theory.proofs.Over.{over_var, step_over}
+use Rattle.pair_theory.proofs.Matching.{occurs, same_apply, pick}
+use Rattle.pair_theory.proofs.Over.{over_var, step_over}
 
 -- the symbol's weight, and 1 for each argument
 abbrev pub plus_args : (ℕ → ℕ) → ℕ → ℕ → ℕ
@@ -213,17 +214,11 @@ module _ (arity : ℕ → Option ℕ) (w rank : ℕ → ℕ) (admissible : IsAdm
       lex_apply (heavier_here {ss = ss} {ts = ts} g e) v = heavier_here (heavy_apply g v.0) (count_apply_all σ ss ∙ e ∙ sym (count_apply_all σ ts))
       lex_apply (heavier_later l) v = heavier_later (lex_apply l v.1)
 
-  pick : {A : Type 0} → Dec A → Tree → Tree → Tree
-  pick (yes a) s t = s
-  pick (no n) s t = t
-
   pick_is : {A : Type 0} (d : Dec A) (s t : Tree) → A → s ≡ pick d s t
-  unfolding pick
   pick_is (yes a) s t p = refl
   pick_is (no n) s t p = absurd (n p)
 
   pick_good : {A : Type 0} (d : Dec A) (s : Tree) (x : ℕ) → (A → IsOver arity s) → IsOver arity (pick d s (var x))
-  unfolding pick
   pick_good (yes a) s x k = k a
   pick_good (no n) s x k = tt
 
@@ -301,10 +296,6 @@ module _ (arity : ℕ → Option ℕ) (w rank : ℕ → ℕ) (admissible : IsAdm
   head_case P (by_head k e r) a b c d = c _ _ refl e r
   head_case P (by_args k e l) a b c d = d _ refl e l
 
-  tower_root : {f x g : ℕ} {ss : Trees} → Tower f x (app g ss) → f ≡ g
-  tower_root one_high = refl
-  tower_root (higher p) = refl
-
   one_top : (f g n : ℕ) → arity f ≡ Some 1 → w f ≡ 0 → arity g ≡ Some n → rank f < rank g → ⊥
   one_top f g n one z is r = go (ℕ_discrete f g)
     where
@@ -331,16 +322,12 @@ module _ (arity : ℕ → Option ℕ) (w rank : ℕ → ℕ) (admissible : IsAdm
   keeps_trans : (s t u : Tree) → KeepsOccurrences s t → KeepsOccurrences t u → KeepsOccurrences s u
   keeps_trans s t u k k' x = let h : occurrences x t ≤ occurrences x s = k x in let h' : occurrences x u ≤ occurrences x t = k' x in omega arith
 
-  lex_counts : {ss ts : Trees} → HeavierLex ss ts → count ss ≡ count ts
-  lex_counts (heavier_here g e) = ap (λ n. 1 + n) e
-  lex_counts (heavier_later l) = ap (λ n. 1 + n) (lex_counts l)
-
   lex_on : {s t : Tree} {ss ts us : Trees} → Heavier s t → ((u : Tree) → Heavier t u → IsOver arity u → Heavier s u) → count ss ≡ count ts → HeavierLex (cons t ts) us → AreOver arity us → HeavierLex (cons s ss) us
   lex_on g k e (heavier_here g' e') v = heavier_here (k _ g' v.0) (e ∙ e')
-  lex_on g k e (heavier_later l) v = heavier_here g (e ∙ lex_counts l)
+  lex_on g k e (heavier_later l) v = heavier_here g (e ∙ lex_count l)
 
   lex_past : {s : Tree} {ss ts us : Trees} → HeavierLex ss ts → ((us : Trees) → HeavierLex ts us → AreOver arity us → HeavierLex ss us) → HeavierLex (cons s ts) us → AreOver arity us → HeavierLex (cons s ss) us
-  lex_past l k (heavier_here g e) v = heavier_here g (lex_counts l ∙ e)
+  lex_past l k (heavier_here g e) v = heavier_here g (lex_count l ∙ e)
   lex_past l k (heavier_later l') v = heavier_later (k _ l' v.1)
 
   -- one argument each, the second a variable or a tower over it

@@ -1,3 +1,4 @@
+pub mod ListAccessible
 pub mod PathAccessible
 pub mod PathLaws
 pub mod Fallers
@@ -7,7 +8,6 @@ pub mod PathDecides
 pub mod Linear
 pub mod Coefficients
 pub mod KnuthAccessible
-pub mod Over
 pub mod KnuthLaws
 pub mod KnuthPair
 pub mod Removals

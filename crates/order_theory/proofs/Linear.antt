@@ -3,16 +3,14 @@ use Rattle.std.proofs.Common.{◌≡◌, ℕ, suc, ◌+◌, ◌*◌, ◌≤◌, 
 use Rattle.trs_defs.specs.Tree.{Tree, var, app, Trees, nil, cons}
 use Rattle.trs_defs.specs.Substitution.{apply, apply_all}
 use Rattle.trs_defs.specs.Step.{Inside, InsideOne, StepBy, here, deep, first, later}
-use Rattle.trs_defs.specs.Terminates.{ArgumentStep}
+use Rattle.pair_theory.specs.Terminates.{ArgumentStep}
 use Rattle.trs_defs.specs.System.{RewriteRule, Among}
 use Rattle.trs_defs.specs.Member.{In}
-use Rattle.trs_defs.specs.LinearInterpretation.{value, values, LinearWeak, LinearStrict}
-use Rattle.trs_defs.specs.ReductionPair.{ReductionPair, AllTerms}
+use Rattle.order_theory.specs.LinearInterpretation.{value, values, LinearWeak, LinearStrict}
+use Rattle.pair_theory.specs.ReductionPair.{ReductionPair, AllTerms}
+use Rattle.order_theory.proofs.Coefficients.{mul_le_right}
 use Rattle.order_theory.proofs.PathPair.{each_term}
-use Rattle.trs_defs.specs.Moves.{Moves, no_moves, weakly, strictly, IsWellFounded}
-
-times_le : (k m n : ℕ) → m ≤ n → k * m ≤ k * n
-times_le k m n h = grind arith
+use Rattle.pair_theory.specs.Moves.{Moves, no_moves, weakly, strictly, IsWellFounded}
 
 module _ (c : ℕ → ℕ → ℕ) (a : ℕ → ℕ) where
   mutual
@@ -31,7 +29,7 @@ module _ (c : ℕ → ℕ → ℕ) (a : ℕ → ℕ) where
       step_value (deep {f = f} {ss = us} {ts = vs} s) = let h : values c a f 1 vs ≤ values c a f 1 us = steps_value s f 1 in omega arith
 
       steps_value : {us vs : Trees} → ArgumentStep (Among ws) us vs → (f i : ℕ) → values c a f i vs ≤ values c a f i us
-      steps_value (first {s = s} {t = t} st) f i = let h : c f i * value c a t ≤ c f i * value c a s = times_le (c f i) _ _ (step_value st) in omega arith
+      steps_value (first {s = s} {t = t} st) f i = let h : c f i * value c a t ≤ c f i * value c a s = mul_le_right (c f i) _ _ (step_value st) in omega arith
       steps_value (later {ss = us} {ts = vs} st) f i = let h : values c a f (suc i) vs ≤ values c a f (suc i) us = steps_value st f (suc i) in omega arith
 
     moves_value : {m : ℕ} {s t : Tree} → Moves ws ss m s t → m ≤ value c a s
@@ -54,7 +52,7 @@ module _ (c : ℕ → ℕ → ℕ) where
     linear_contexts : {ss ts : Trees} → InsideOne (LinearWeak c) ss ts → (a : ℕ → ℕ) (f i : ℕ) → values c a f i ts ≤ values c a f i ss
     linear_contexts (first {s = s} {t = t} {ts = ts} p) a f i =
         let h : value c a t ≤ value c a s = linear_context p a in
-        let k : c f i * value c a t ≤ c f i * value c a s = times_le (c f i) (value c a t) (value c a s) h in omega arith
+        let k : c f i * value c a t ≤ c f i * value c a s = mul_le_right (c f i) (value c a t) (value c a s) h in omega arith
     linear_contexts (later {ss = ss} {ts = ts} p) a f i = let h : values c a f (suc i) ts ≤ values c a f (suc i) ss = linear_contexts p a f (suc i) in omega arith
 
 -- a linear interpretation

@@ -1,24 +1,16 @@
 -- The test decides the order.
-use Rattle.std.proofs.Common.{◌≡◌, ℕ, ◌<◌, refl, sym, ap, subst, arith, List, Bool, true, false, cond, ◌||◌, ◌&&◌, nat_eq, nat_lt, Decides, true≢false}
+use Rattle.std.proofs.Common.{◌≡◌, inl, inr, ℕ, ◌<◌, refl, sym, ap, subst, arith, List, Bool, true, false, cond, ◌||◌, ◌&&◌, nat_eq, nat_lt, Decides, true≢false}
 use Rattle.trs_defs.specs.Tree.{Tree, var, app, Trees, nil, cons, count}
-use Rattle.trs_defs.specs.Accessible.{Acc, acc}
+use Rattle.pair_theory.specs.Accessible.{Acc, acc}
 use Rattle.trs_defs.specs.Every.{Every, every_nil, every_cons}
-use Rattle.trs_defs.specs.PathOrder.{PathGreater, by_arg, by_rank, by_lex, SomeAtLeast, equal_here, greater_here, further, GreaterThanAll, all_nil, all_cons, LexGreater, lex_here, lex_later}
-use Rattle.trs_defs.specs.PathTest.{same_tree, same_trees, some_at_least, lex_greater, app_greater, app_greater_than_all, path_greater, path_greater_each}
-use Rattle.pair_theory.proofs.Terms.{join_app, join_cons}
-use Rattle.order_theory.proofs.PathAccessible.{path_acc}
+use Rattle.order_theory.specs.PathOrder.{PathGreater, by_arg, by_rank, by_lex, SomeAtLeast, equal_here, greater_here, further, GreaterThanAll, all_nil, all_cons, LexGreater, lex_here, lex_later}
+use Rattle.order_theory.specs.PathTest.{same_tree, same_trees, some_at_least, lex_greater, app_greater, app_greater_than_all, path_greater, path_greater_each}
+use Rattle.trs_defs.proofs.EqualTerms.{join_app, join_cons}
+use Rattle.trs_defs.proofs.VariableLaws.{or_left, or_right, or_cases}
+use Rattle.order_theory.proofs.PathAccessible.{path_acc, all_head, all_tail, var_least}
 
 or_case : {P : Type 0} (a b : Bool) → (a || b) ≡ true → (a ≡ true → P) → (b ≡ true → P) → P
-or_case true b e f g = f refl
-or_case false b e f g = g e
-
-or_left : (a b : Bool) → a ≡ true → (a || b) ≡ true
-or_left true b e = refl
-or_left false b e = absurd (true≢false (sym e))
-
-or_right : (a b : Bool) → b ≡ true → (a || b) ≡ true
-or_right true b e = refl
-or_right false b e = e
+or_case a b e f g = elim (or_cases a b e) [ inl h ↦ f h | inr h ↦ g h ]
 
 and_case : (a b : Bool) → (a && b) ≡ true → (a ≡ true) × (b ≡ true)
 and_case true b e = (refl, e)
@@ -67,15 +59,6 @@ mutual
 
 irreflexive : {A : Type 0} {r : A → A → Type 0} {x : A} → Acc r x → r x x → ⊥
 irreflexive {x = x} (acc h) s = irreflexive (h x s) s
-
-all_first : {rank : ℕ → ℕ} {s t : Tree} {ts : Trees} → GreaterThanAll rank s (cons t ts) → PathGreater rank s t
-all_first (all_cons g gs) = g
-
-all_rest : {rank : ℕ → ℕ} {s t : Tree} {ts : Trees} → GreaterThanAll rank s (cons t ts) → GreaterThanAll rank s ts
-all_rest (all_cons g gs) = gs
-
-var_least : {rank : ℕ → ℕ} {x : ℕ} {t : Tree} → PathGreater rank (var x) t → ⊥
-var_least g = elim g [ ]
 
 arg_case : {P : Type 0} {rank : ℕ → ℕ} {f y : ℕ} {ss : Trees} → PathGreater rank (app f ss) (var y) → (SomeAtLeast rank ss (var y) → P) → P
 arg_case (by_arg p) k = k p
@@ -180,7 +163,7 @@ module _ (rank : ℕ → ℕ) where
 
       is_above_all : (ts : Trees) → GreaterThanAll rank (app f ss) ts → app_greater_than_all rank f ss gs ts ≡ true
       is_above_all nil all = refl
-      is_above_all (cons t ts) all = and_both (app_greater rank f ss gs t) (app_greater_than_all rank f ss gs ts) (is_above t (all_first all)) (is_above_all ts (all_rest all))
+      is_above_all (cons t ts) all = and_both (app_greater rank f ss gs t) (app_greater_than_all rank f ss gs ts) (is_above t (all_head all)) (is_above_all ts (all_tail all))
 
   mutual
     pub path_decides : (s : Tree) → Tested s

@@ -2,11 +2,12 @@
 use Rattle.std.proofs.Common.{◌≡◌, ℕ, zero, suc, ◌+◌, ◌-◌, refl, sym, ap, subst, ◌∙◌, ◌⊎◌, inl, inr, List, [], ◌∷◌}
 use Rattle.trs_defs.specs.Tree.{Tree, app, Trees, nil, cons, count}
 use Rattle.trs_defs.specs.Substitution.{apply}
-use Rattle.trs_defs.specs.PathOrder.{PathGreater, by_lex, SomeAtLeast, equal_here, greater_here, further, LexGreater, lex_here, lex_later}
-use Rattle.trs_defs.specs.ArgumentFilter.{ArgumentFilter, To, Keep, item_or, keep_one, select, by_filter, filtered, filtered_all, PathStrict, PathWeak}
+use Rattle.order_theory.specs.PathOrder.{PathGreater, by_lex, SomeAtLeast, equal_here, greater_here, further, LexGreater, lex_here, lex_later}
+use Rattle.order_theory.specs.ArgumentFilter.{ArgumentFilter, To, Keep, keep_one, select, by_filter, filtered, filtered_all, PathStrict, PathWeak}
+use Rattle.pair_theory.specs.ItemOr.{item_or}
 use Rattle.trs_defs.specs.Step.{Inside, InsideOne, here, deep, first, later}
 use Rattle.trs_defs.specs.Every.{Every, every_nil, every_cons}
-use Rattle.trs_defs.specs.ReductionPair.{ReductionPair, AllTerms}
+use Rattle.pair_theory.specs.ReductionPair.{ReductionPair, AllTerms}
 use Rattle.order_theory.proofs.Filters.{path_well_founded, after, filtered_apply}
 use Rattle.order_theory.proofs.PathLaws.{greater_apply, greater_trans, Mem, mem_head, mem_tail, all_of}
 

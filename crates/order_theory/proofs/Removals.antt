@@ -1,26 +1,31 @@
 -- Removal of pairs by each of the orders.
-use Rattle.std.proofs.Common.{◌≡◌, refl, sym, ap, ◌∙◌, ◌+◌, Bool, Option, Some, None, is_some, IsTrue, ◌≤◌, ℕ, List, ◌⊎◌, inl, inr, length}
+use Rattle.std.proofs.Common.{◌≡◌, refl, sym, ap, ◌∙◌, ◌+◌, Bool, Option, Some, None, is_some, IsTrue, ◌≤◌, ℕ, List, inl, inr, length}
 use Rattle.trs_defs.specs.Member.{In}
 use Rattle.trs_defs.specs.Tree.{Tree, Trees, var, app, nil, cons, count}
-use Rattle.trs_defs.specs.Erased.{HasEntries, HaveEntries, by_root, erased, erased_all}
+use Rattle.pair_theory.specs.Erased.{HasEntries, HaveEntries, by_root, erased, erased_all}
 use Rattle.trs_defs.specs.System.{RewriteRule, System, IsSystem}
-use Rattle.trs_defs.specs.Marked.{mark}
-use Rattle.trs_defs.specs.DependencyPair.{DependencyPair}
-use Rattle.trs_defs.specs.PairProblem.{IsFiniteProblem, IsPair}
-use Rattle.trs_defs.specs.ReductionPair.{Speaks, AllTerms}
-use Rattle.trs_defs.specs.ArgumentFilter.{ArgumentFilter, PathStrict, PathWeak}
-use Rattle.trs_defs.specs.LinearInterpretation.{LinearWeak, LinearStrict, CoefficientWeak, CoefficientStrict}
-use Rattle.trs_defs.specs.KnuthBendix.{KnuthGreater, KnuthWeak, IsOver, AreOver, arity_with_marks, IsAdmissible}
-use Rattle.pair_theory.proofs.Problems.{removal_theorem, removal_erased}
+use Rattle.pair_theory.specs.Marked.{mark}
+use Rattle.pair_theory.specs.DependencyPair.{DependencyPair}
+use Rattle.pair_theory.specs.PairProblem.{IsFiniteProblem, IsPair}
+use Rattle.pair_theory.specs.ReductionPair.{Speaks, AllTerms}
+use Rattle.order_theory.specs.ArgumentFilter.{ArgumentFilter, PathStrict, PathWeak}
+use Rattle.order_theory.specs.LinearInterpretation.{LinearWeak, LinearStrict, CoefficientWeak, CoefficientStrict}
+use Rattle.order_theory.specs.KnuthBendix.{KnuthGreater, KnuthWeak, arity_with_marks, IsAdmissible}
+use Rattle.pair_theory.specs.Over.{IsOver, AreOver}
+use Rattle.pair_theory.proofs.Problems.{Classed, removal_theorem, removal_erased}
 use Rattle.order_theory.proofs.Filters.{path_well_founded}
 use Rattle.order_theory.proofs.Linear.{linear_well_founded}
 use Rattle.order_theory.proofs.Coefficients.{weak_by_coefficients, strict_by_coefficients}
+use Rattle.order_theory.proofs.KnuthAccessible.{some_same}
 use Rattle.order_theory.proofs.KnuthPair.{knuth_well_founded, knuth_speaks}
 
--- each pair is weak and stays, or is strict
-abbrev Classed : (Tree → Tree → Type 0) → (Tree → Tree → Type 0) → List DependencyPair → List DependencyPair → Type 0
-Classed weak strict pairs stays =
-    (p : DependencyPair) → In p pairs → (In p stays × weak (mark p.from) (mark p.to)) ⊎ strict (mark p.from) (mark p.to)
+-- pairs that coefficients class, the interpretation classes
+pub linear_classed : (c : ℕ → ℕ → ℕ) (pairs stays : List DependencyPair) → Classed (CoefficientWeak c) (CoefficientStrict c) pairs stays
+    → Classed (LinearWeak c) (LinearStrict c) pairs stays
+linear_classed c pairs stays class p i = elim (class p i) [
+  | inl h ↦ inl (h.0, weak_by_coefficients c (mark p.from) (mark p.to) h.1)
+  | inr h ↦ inr (strict_by_coefficients c (mark p.from) (mark p.to) h)
+]
 
 all_spoken : (arities : List ℕ) → Speaks arities AllTerms
 all_spoken arities = record { of_terms = λ t w. tt; of_marked = λ u w. tt }
@@ -46,9 +51,6 @@ module _ (arity : ℕ → Option ℕ) where
     count_erased : (ts : Trees) → count (erased_all (has_entry arity) ts) ≡ count ts
     count_erased nil = refl
     count_erased (cons t ts) = ap (λ n. 1 + n) (count_erased ts)
-
-    some_same : {m n : ℕ} → Some m ≡ Some n → m ≡ n
-    some_same e = cc
 
     -- the entry of a symbol has the number of arguments of a term over the wider arities
     root_over : (o : Option ℕ) (f m : ℕ) (ts : Trees) → arity f ≡ o → wider f ≡ Some m → count ts ≡ m → AreOver arity ts → IsOver arity (by_root (is_some o) (app f ts))
@@ -78,10 +80,7 @@ module _ (system : System) (pairs stays : List DependencyPair) where
   remove_by_interpretation c ok good falls class =
       removal_theorem system ok (LinearWeak c) (LinearStrict c) AllTerms (linear_well_founded c)
       (λ r i. weak_by_coefficients c r.left r.right (falls r i)) (all_spoken system.arities) pairs stays good
-      (λ p i. elim (class p i) [
-        | inl h ↦ inl (h.0, weak_by_coefficients c (mark p.from) (mark p.to) h.1)
-        | inr h ↦ inr (strict_by_coefficients c (mark p.from) (mark p.to) h)
-      ])
+      (linear_classed c pairs stays class)
 
   pub remove_by_knuth_bendix : (arity : ℕ → Option ℕ) (weight rank : ℕ → ℕ) → IsSystem system
       → ((p : DependencyPair) → In p pairs → IsPair system.arities p) → length system.arities ≤ 4096

@@ -7,15 +7,16 @@ ghost use Rattle.std.specs.Prelude.{◌≡◌, ◌≤◌, Some, ℕ, List, Optio
 ghost use Rattle.trs_defs.specs.Member.{In};
 ghost use Rattle.trs_defs.specs.Tree.{Tree};
 ghost use Rattle.trs_defs.specs.System.{RewriteRule, System, IsSystem};
-ghost use Rattle.trs_defs.specs.Marked.{mark};
-ghost use Rattle.trs_defs.specs.DependencyPair.{DependencyPair};
-ghost use Rattle.trs_defs.specs.PairProblem.{IsFiniteProblem, IsPair};
-ghost use Rattle.trs_defs.specs.ReductionPair.{ReductionPair, Speaks, AllTerms};
-ghost use Rattle.trs_defs.specs.PathOrder.{PathGreater};
-ghost use Rattle.trs_defs.specs.PathTest.{path_greater};
-ghost use Rattle.trs_defs.specs.ArgumentFilter.{ArgumentFilter, PathStrict, PathWeak};
-ghost use Rattle.trs_defs.specs.LinearInterpretation.{LinearWeak, LinearStrict, CoefficientWeak, CoefficientStrict};
-ghost use Rattle.trs_defs.specs.KnuthBendix.{KnuthGreater, KnuthWeak, IsOver, arity_with_marks, IsAdmissible};
+ghost use Rattle.pair_theory.specs.Marked.{mark};
+ghost use Rattle.pair_theory.specs.DependencyPair.{DependencyPair};
+ghost use Rattle.pair_theory.specs.PairProblem.{IsFiniteProblem, IsPair};
+ghost use Rattle.pair_theory.specs.ReductionPair.{ReductionPair, Speaks, AllTerms};
+ghost use Rattle.order_theory.specs.PathOrder.{PathGreater};
+ghost use Rattle.order_theory.specs.PathTest.{path_greater};
+ghost use Rattle.order_theory.specs.ArgumentFilter.{ArgumentFilter, PathStrict, PathWeak};
+ghost use Rattle.order_theory.specs.LinearInterpretation.{LinearWeak, LinearStrict, CoefficientWeak, CoefficientStrict};
+ghost use Rattle.order_theory.specs.KnuthBendix.{KnuthGreater, KnuthWeak, arity_with_marks, IsAdmissible};
+ghost use Rattle.pair_theory.specs.Over.{IsOver};
 
 /// The lexicographic path order with argument filters is a reduction pair on all terms (Kamin and
 /// Lévy; Baader and Nipkow, section 5.4; well-foundedness as in Buchholz, Proof-theoretic analysis

@@ -2,18 +2,14 @@
 use Rattle.std.proofs.Common.{◌≡◌, ℕ, sym, ap, subst, ◌∙◌}
 use Rattle.trs_defs.specs.Tree.{Tree, Trees}
 use Rattle.trs_defs.specs.Substitution.{apply_all}
-use Rattle.trs_defs.specs.Terminates.{ArgumentStep}
-use Rattle.trs_defs.specs.Run.{Run, Stay, Go}
-use Rattle.trs_defs.specs.Marked.{Marked, marked}
-use Rattle.trs_defs.specs.Cap.{EachFits, Caps}
-use Rattle.trs_defs.specs.Chain.{ChainStep, link}
-use Rattle.trs_defs.proofs.CapLaws.{instances_fit, steps_fit}
+use Rattle.pair_theory.specs.Terminates.{ArgumentStep}
+use Rattle.trs_defs.specs.Run.{Run}
+use Rattle.pair_theory.specs.Marked.{Marked, marked}
+use Rattle.cap_theory.specs.Cap.{EachFits, Caps}
+use Rattle.pair_theory.specs.Chain.{ChainStep, link}
+use Rattle.cap_theory.proofs.CapLaws.{instances_fit, runs_fit}
 
 module _ (rule : Tree → Tree → Type 0) where
-  run_fits : {ts cs us us' : Trees} → Caps rule ts cs → EachFits cs us → Run (ArgumentStep rule) us us' → EachFits cs us'
-  run_fits k p Stay = p
-  run_fits k p (Go s ss) = run_fits k (steps_fit rule k p s) ss
-
   -- some instance of the next left side's arguments fits the caps of the right side's
   abbrev pub Edge : Marked → Marked → Trees → Type 0
   Edge r l cs = (r.symbol ≡ l.symbol) × (σ : ℕ → Tree) × EachFits cs (apply_all σ l.args)
@@ -32,4 +28,4 @@ module _ (rule : Tree → Tree → Type 0) where
       let root_is : v.symbol ≡ l.symbol = subst (λ z. v.symbol ≡ z.symbol) (is_l l₂ r₂ h') e' in
       let goes : Run (ArgumentStep rule) (apply_all σ r.args) (apply_all τ l.args) =
       subst (λ z. Run (ArgumentStep rule) z.args (apply_all τ l.args)) v_is (subst (λ z. Run (ArgumentStep rule) v.args (apply_all τ z.args)) (is_l l₂ r₂ h') reach') in
-      (sym (ap (λ z. z.symbol) v_is) ∙ root_is, τ, run_fits k (instances_fit rule σ k) goes)
+      (sym (ap (λ z. z.symbol) v_is) ∙ root_is, τ, runs_fit rule k (instances_fit rule σ k) goes)

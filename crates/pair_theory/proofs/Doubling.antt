@@ -1,38 +1,24 @@
 -- Doubling by addition terminates: its pair stands alone in a first group, with no edge to itself, and the pair of addition
 -- in a second, which the subterm criterion ends.
-use Rattle.std.proofs.Common.{◌≡◌, ◌≤◌, ◌<◌, ◌⊎◌, inr, ℕ, zero, suc, refl, subst, arith, List, [], ◌∷◌, Bool, IsTrue, ◌==◌, if◌then◌else◌, Some, slice_get}
+use Rattle.std.proofs.Common.{◌≡◌, ◌≤◌, ◌<◌, ℕ, zero, suc, refl, subst, arith, List, [], ◌∷◌, Bool, IsTrue, ◌==◌, if◌then◌else◌, Some, slice_get}
 use Rattle.trs_defs.specs.Member.{In, in_first, in_rest}
 use Rattle.trs_defs.specs.Tree.{Tree, Trees, var, app, nil, cons}
 use Rattle.trs_defs.specs.System.{RewriteRule, System, IsRule, IsSystem, Among}
 use Rattle.trs_defs.specs.Claims.{IsTerminating}
 use Rattle.trs_defs.specs.Substitution.{apply_all}
-use Rattle.trs_defs.specs.Subterm.{ProperSubterm, proper, itself, in_head}
-use Rattle.trs_defs.specs.Marked.{marked}
-use Rattle.trs_defs.specs.DependencyPair.{DependencyPair, dependency_pairs}
-use Rattle.trs_defs.specs.PairProblem.{IsFiniteProblem, IsPair}
-use Rattle.trs_defs.specs.Cap.{Caps, cap_variable, caps_nil, caps_cons, EachFits}
-use Rattle.trs_defs.specs.PairGraph.{IsCapEstimate, IsGrouped, GroupEnds, by_problem, by_no_edge}
-use Rattle.trs_defs.specs.SubtermCriterion.{Projects}
+use Rattle.pair_theory.specs.Marked.{marked}
+use Rattle.pair_theory.specs.DependencyPair.{DependencyPair, dependency_pairs}
+use Rattle.pair_theory.specs.PairProblem.{IsFiniteProblem, IsPair}
+use Rattle.cap_theory.specs.Cap.{Caps, cap_variable, caps_nil, caps_cons, EachFits}
+use Rattle.pair_theory.specs.PairGraph.{IsCapEstimate, IsGrouped, GroupEnds, by_problem, by_no_edge}
 use Rattle.trs_defs.proofs.Members.{in_of_get}
-use Rattle.pair_theory.proofs.Members.{no_in}
 use Rattle.pair_theory.proofs.PairList.{listed_are_pairs}
-use Rattle.pair_theory.proofs.Problems.{listed_theorem, no_pairs_end}
+use Rattle.pair_theory.proofs.Problems.{listed_theorem}
 use Rattle.pair_theory.proofs.Projections.{criterion_theorem}
 use Rattle.pair_theory.proofs.Groups.{groups_theorem, cap_estimate_covers}
+use Rattle.pair_theory.proofs.Addition.{sum_of, sum_zero, sum_next, sum_zero_is_rule, sum_next_is_rule, sum_pair, only_pair, first_shrinks, no_pairs}
 
--- symbol 0 is zero, 1 the successor, 2 the sum, 3 the double
-abbrev sum_of : Tree → Tree → Tree
-sum_of s t = app 2 (cons s (cons t nil))
-
-abbrev next : Tree → Tree
-next s = app 1 (cons s nil)
-
-abbrev sum_zero : RewriteRule
-sum_zero = record { left = sum_of (app 0 nil) (var 0); right = var 0 }
-
-abbrev sum_next : RewriteRule
-sum_next = record { left = sum_of (next (var 0)) (var 1); right = next (sum_of (var 0) (var 1)) }
-
+-- symbol 3 is the double
 abbrev double : RewriteRule
 double = record { left = app 3 (cons (var 0) nil); right = sum_of (var 0) (var 0) }
 
@@ -45,22 +31,6 @@ each_rule P a b d p (in_rest in_first) = b
 each_rule P a b d p (in_rest (in_rest in_first)) = d
 each_rule P a b d p (in_rest (in_rest (in_rest i))) = elim i [ ]
 
-sum_zero_is_rule : IsRule doubling.arities sum_zero
-sum_zero_is_rule = record {
-  left_well_formed = (refl, ((refl, tt), (tt, tt)));
-  right_well_formed = tt;
-  left_no_variable = λ v. cc;
-  variables = λ v h. grind arith;
-}
-
-sum_next_is_rule : IsRule doubling.arities sum_next
-sum_next_is_rule = record {
-  left_well_formed = (refl, ((refl, (tt, tt)), (tt, tt)));
-  right_well_formed = (refl, ((refl, (tt, (tt, tt))), tt));
-  left_no_variable = λ v. cc;
-  variables = λ v h. grind arith;
-}
-
 double_is_rule : IsRule doubling.arities double
 double_is_rule = record {
   left_well_formed = (refl, (tt, tt));
@@ -71,11 +41,9 @@ double_is_rule = record {
 
 is_system : IsSystem doubling
 is_system = record {
-  each = λ k r e. each_rule (IsRule doubling.arities) sum_zero_is_rule sum_next_is_rule double_is_rule r (in_of_get doubling.rules k r e);
+  each = λ k r e. each_rule (IsRule doubling.arities) (sum_zero_is_rule doubling.arities refl refl) (sum_next_is_rule doubling.arities refl refl)
+      double_is_rule r (in_of_get doubling.rules k r e);
 }
-
-abbrev sum_pair : DependencyPair
-sum_pair = record { from = marked 2 (cons (next (var 0)) (cons (var 1) nil)); to = marked 2 (cons (var 0) (cons (var 1) nil)) }
 
 abbrev double_pair : DependencyPair
 double_pair = record { from = marked 3 (cons (var 0) nil); to = marked 2 (cons (var 0) (cons (var 0) nil)) }
@@ -91,17 +59,10 @@ each_pair P a b zero p e = let same : sum_pair ≡ p = cc in subst (P 0) same a
 each_pair P a b (suc zero) p e = let same : double_pair ≡ p = cc in subst (P 1) same b
 each_pair P a b (suc (suc i)) p e = absurd cc
 
-only_sum : (P : DependencyPair → Type 0) → P sum_pair → (p : DependencyPair) → In p (sum_pair ∷ []) → P p
-only_sum P a p in_first = a
-only_sum P a p (in_rest i) = elim i [ ]
-
 -- the pair of addition alone: its first argument becomes a proper subterm
 sum_ends : IsFiniteProblem doubling (sum_pair ∷ [])
 sum_ends = criterion_theorem doubling is_system (sum_pair ∷ []) []
-    (only_sum (IsPair doubling.arities) (listed_are_pairs doubling is_system sum_pair in_first)) (λ f. 1)
-    (only_sum (λ p. (In p [] × Projects (λ f. 1) (λ s t. s ≡ t) p) ⊎ Projects (λ f. 1) ProperSubterm p)
-    (inr (record { left = next (var 0); right = var 0; left_there = refl; right_there = refl; relation = proper (in_head itself) })))
-    (no_pairs_end doubling [] (λ p i. no_in i))
+    (only_pair (IsPair doubling.arities) (listed_are_pairs doubling is_system sum_pair in_first)) (λ f. 1) first_shrinks (no_pairs doubling)
 
 -- an edge leads to the pair of addition alone, since both right sides have the root of its left side
 abbrev edge : ℕ → ℕ → Bool

@@ -1,49 +1,16 @@
 -- Subterms whose root an order does not know are read as one variable: bounds on terms of known symbols give bounds on all.
-use Rattle.std.proofs.Common.{◌≡◌, ℕ, refl, sym, ap, subst, ◌∙◌, ◌⊎◌, inl, inr, List, Bool, true, false, ◌+◌, Some}
-use Rattle.trs_defs.specs.Tree.{Tree, var, app, Trees, nil, cons, count}
-use Rattle.trs_defs.specs.WellFormed.{IsWellFormed, AreWellFormed}
+use Rattle.std.proofs.Common.{◌≡◌, ℕ, refl, sym, ap, subst, ◌∙◌, ◌⊎◌, inl, inr, List, Bool, true, false}
+use Rattle.trs_defs.specs.Tree.{Tree, var, app, Trees, nil, cons}
 use Rattle.trs_defs.specs.Substitution.{apply, apply_all}
 use Rattle.trs_defs.specs.Step.{StepBy, here, deep, first, later}
-use Rattle.trs_defs.specs.Terminates.{ArgumentStep}
+use Rattle.pair_theory.specs.Terminates.{ArgumentStep}
 use Rattle.trs_defs.specs.System.{RewriteRule, Among}
 use Rattle.trs_defs.specs.Member.{In}
-use Rattle.trs_defs.specs.Erased.{HasEntries, HaveEntries, by_root, erased, erased_all}
-use Rattle.trs_defs.specs.Moves.{Moves, no_moves, weakly, strictly, MovesAtMost}
-use Rattle.pair_theory.proofs.Terms.{join_cons}
+use Rattle.pair_theory.specs.Erased.{HasEntries, HaveEntries, by_root, erased, erased_all}
+use Rattle.pair_theory.specs.Moves.{Moves, no_moves, weakly, strictly, MovesAtMost}
+use Rattle.trs_defs.proofs.EqualTerms.{join_cons}
 
 module _ (has : ℕ → Bool) where
-  known_root : (b : Bool) (f : ℕ) (ts : Trees) → has f ≡ b → HaveEntries has ts → HasEntries has (by_root b (app f ts))
-  known_root true f ts e k = (e, k)
-  known_root false f ts e k = tt
-
-  mutual
-    pub erased_known : (t : Tree) → HasEntries has (erased has t)
-    erased_known (var x) = tt
-    erased_known (app f ts) = known_root (has f) f (erased_all has ts) refl (erased_known_each ts)
-
-    erased_known_each : (ts : Trees) → HaveEntries has (erased_all has ts)
-    erased_known_each nil = tt
-    erased_known_each (cons t ts) = (erased_known t, erased_known_each ts)
-
-  -- erasing keeps well-formed terms
-  module _ (arities : List ℕ) where
-    count_erased_all : (ts : Trees) → count (erased_all has ts) ≡ count ts
-    count_erased_all nil = refl
-    count_erased_all (cons t ts) = ap (λ n. 1 + n) (count_erased_all ts)
-
-    erased_root : (b : Bool) (f : ℕ) (ts : Trees) → IsWellFormed arities (app f ts) → IsWellFormed arities (by_root b (app f ts))
-    erased_root true f ts w = w
-    erased_root false f ts w = tt
-
-    mutual
-      pub erased_well_formed : (t : Tree) → IsWellFormed arities t → IsWellFormed arities (erased has t)
-      erased_well_formed (var x) w = tt
-      erased_well_formed (app f ts) w = erased_root (has f) f (erased_all has ts) (w.0 ∙ ap Some (sym (count_erased_all ts)), erased_well_formed_all ts w.1)
-
-      erased_well_formed_all : (ts : Trees) → AreWellFormed arities ts → AreWellFormed arities (erased_all has ts)
-      erased_well_formed_all nil w = tt
-      erased_well_formed_all (cons t ts) w = (erased_well_formed t w.0, erased_well_formed_all ts w.1)
-
   mutual
     erase_apply : (σ : ℕ → Tree) (t : Tree) → HasEntries has t → erased has (apply σ t) ≡ apply (λ x. erased has (σ x)) t
     erase_apply σ (var x) k = refl

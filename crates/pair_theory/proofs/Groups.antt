@@ -1,27 +1,24 @@
 -- Groups of numbered pairs along a graph: where each group is done, the problem is finite.
 use Rattle.std.proofs.Common.{◌≡◌, ℕ, ◌≤◌, ◌<◌, sym, ap, arith, ◌∙◌, List, Bool, Some, IsTrue, slice_get}
 use native.Mathlib.Decide.{dec_lt}
-use Rattle.trs_defs.specs.Accessible.{Acc, acc}
+use Rattle.pair_theory.specs.Accessible.{Acc, acc}
 use Rattle.trs_defs.specs.Member.{In}
 use Rattle.trs_defs.specs.Tree.{Tree, Trees}
 use Rattle.trs_defs.specs.Substitution.{apply_all}
-use Rattle.trs_defs.specs.Cap.{Caps, EachFits}
+use Rattle.cap_theory.specs.Cap.{Caps, EachFits}
 use Rattle.trs_defs.specs.System.{System, IsSystem, Among}
-use Rattle.trs_defs.specs.Marked.{Marked}
-use Rattle.trs_defs.specs.DependencyPair.{DependencyPair}
-use Rattle.trs_defs.specs.Chain.{ChainStep, link}
-use Rattle.trs_defs.specs.PairProblem.{PairAmong, IsFiniteProblem, IsPair}
-use Rattle.trs_defs.specs.PairGraph.{PairNumbered, CoversSteps, IsCapEstimate, GroupEnds, by_problem, by_no_edge, IsGrouped}
+use Rattle.pair_theory.specs.Marked.{Marked}
+use Rattle.pair_theory.specs.DependencyPair.{DependencyPair}
+use Rattle.pair_theory.specs.Chain.{ChainStep, link}
+use Rattle.pair_theory.specs.PairProblem.{PairAmong, IsFiniteProblem, IsPair}
+use Rattle.pair_theory.specs.PairGraph.{PairNumbered, CoversSteps, IsCapEstimate, GroupEnds, by_problem, by_no_edge, IsGrouped}
 use Rattle.trs_defs.proofs.Members.{get_of_in, in_of_get}
 use Rattle.pair_theory.proofs.Caps.{Edge, edge_root, edge_covers}
-use Rattle.pair_theory.proofs.Chains.{groups, All, OfGroup}
+use Rattle.pair_theory.proofs.Chains.{pair_of_chain, groups, All, OfGroup}
 use Rattle.pair_theory.proofs.Problems.{Ready, chain_ready, fewer}
 
-of_link : {rule : _} {pair : Marked → Marked → Type 0} {u v : Marked} → ChainStep rule pair u v → (l : Marked) × (r : Marked) × pair l r
-of_link (link l r σ h e reach to small) = (l, r, h)
-
 numbered_pair : (pairs : List DependencyPair) (i : ℕ) {rule : _} {u v : Marked} → ChainStep rule (PairNumbered pairs i) u v → (p : DependencyPair) × (slice_get pairs i ≡ Some p)
-numbered_pair pairs i c = let h : (l : Marked) × (r : Marked) × PairNumbered pairs i l r = of_link c in (record { from = h.0; to = h.1 }, h.2)
+numbered_pair pairs i c = let h : (l : Marked) × (r : Marked) × PairNumbered pairs i l r = pair_of_chain c in (record { from = h.0; to = h.1 }, h.2)
 
 same_pair : {p q : DependencyPair} → Some p ≡ Some q → p ≡ q
 same_pair e = cc
@@ -38,20 +35,17 @@ module _ (system : System) (ok : IsSystem system) (pairs : List DependencyPair) 
   abbrev Step : (Marked → Marked → Type 0) → Marked → Marked → Type 0
   Step = ChainStep (Among system.rules)
 
-  pair_of : (i : ℕ) (u v : Marked) → Step (PairNumbered pairs i) u v → (p : DependencyPair) × (slice_get pairs i ≡ Some p)
-  pair_of i u v c = numbered_pair pairs i c
-
   keeps : (i : ℕ) (u v : Marked) → Ready system u → Step (PairNumbered pairs i) u v → Ready system v
   keeps i = chain_ready system ok (PairNumbered pairs i) (λ l r e. good _ (in_of_get pairs i _ e))
 
   onward : (i j : ℕ) (u v w : Marked) → Step (PairNumbered pairs i) u v → Step (PairNumbered pairs j) v w → group i ≤ group j
   onward i j u v w c c' =
-      let p : (p : DependencyPair) × (slice_get pairs i ≡ Some p) = pair_of i u v c in
-      let q : (p : DependencyPair) × (slice_get pairs j ≡ Some p) = pair_of j v w c' in
+      let p : (p : DependencyPair) × (slice_get pairs i ≡ Some p) = numbered_pair pairs i c in
+      let q : (p : DependencyPair) × (slice_get pairs j ≡ Some p) = numbered_pair pairs j c' in
       grouped.onward i j p.0 q.0 p.1 q.1 (covers i j u v w c c')
 
   below : (i : ℕ) (u v : Marked) → Step (PairNumbered pairs i) u v → group i < number
-  below i u v c = let p : (p : DependencyPair) × (slice_get pairs i ≡ Some p) = pair_of i u v c in grouped.numbers i p.0 p.1
+  below i u v c = let p : (p : DependencyPair) × (slice_get pairs i ≡ Some p) = numbered_pair pairs i c in grouped.numbers i p.0 p.1
 
   abbrev Member : ℕ → Marked → Marked → Type 0
   Member = OfGroup (Among system.rules) (Ready system) (PairNumbered pairs) group keeps onward
@@ -65,8 +59,8 @@ module _ (system : System) (ok : IsSystem system) (pairs : List DependencyPair) 
   part k (by_no_edge none) u ready = acc (λ v c. acc (λ w c'. absurd (
       let m : (i : ℕ) × (group i ≡ k) × Step (PairNumbered pairs i) u v = of_member c in
       let n : (i : ℕ) × (group i ≡ k) × Step (PairNumbered pairs i) v w = of_member c' in
-      let p : (p : DependencyPair) × (slice_get pairs m.0 ≡ Some p) = pair_of m.0 u v m.2 in
-      let q : (p : DependencyPair) × (slice_get pairs n.0 ≡ Some p) = pair_of n.0 v w n.2 in
+      let p : (p : DependencyPair) × (slice_get pairs m.0 ≡ Some p) = numbered_pair pairs m.0 m.2 in
+      let q : (p : DependencyPair) × (slice_get pairs n.0 ≡ Some p) = numbered_pair pairs n.0 n.2 in
       none m.0 n.0 p.0 q.0 p.1 q.1 m.1 n.1 (covers m.0 n.0 u v w m.2 n.2))))
 
   parts : (k : ℕ) (u : Marked) → Ready system u → Acc (Step (Member k)) u

@@ -1,11 +1,10 @@
-pub mod Members
-pub mod Terms
+pub mod Subterms
 pub mod Accessibility
-pub mod PairTheorem
+pub mod Over
 pub mod Matching
-pub mod Bounds
-pub mod Finiteness
+pub mod Reducts
 pub mod Systems
+pub mod PairTheorem
 pub mod Termination
 pub mod Chains
 pub mod Removal
@@ -16,4 +15,5 @@ pub mod PairList
 pub mod Problems
 pub mod Groups
 pub mod Projections
+pub mod Addition
 mod Doubling

@@ -3,8 +3,10 @@ use Rattle.std.proofs.Common.{◌≡◌, ℕ, refl, sym, ap, subst, ◌∙◌, �
 use native.Mathlib.Decide.{ℕ_discrete}
 use Rattle.trs_defs.specs.Tree.{Tree, var, app, Trees, nil, cons}
 use Rattle.trs_defs.specs.Substitution.{apply, apply_all}
-use Rattle.pair_theory.proofs.Terms.{join_app, join_cons, not_in_nil, head_or_tail, var_in_var, below_root}
-use Rattle.trs_defs.specs.Subterm.{Sub, itself, under, Subs, in_head, in_tail}
+use Rattle.trs_defs.proofs.EqualTerms.{join_app, join_cons}
+use Rattle.trs_defs.proofs.Substitutions.{same_instance}
+use Rattle.pair_theory.proofs.Subterms.{not_in_nil, head_or_tail, var_in_var, below_root, sub_of_has}
+use Rattle.pair_theory.specs.Subterm.{Sub, itself, under, Subs, in_head, in_tail}
 
 both : {A B C : Type 0} → (A → B → C) → (C → A) → (C → B) → Dec A → Dec B → Dec C
 both f g h (yes a) (yes b) = yes (f a b)
@@ -14,14 +16,6 @@ both f g h (no n) b = no (λ c. n (g c))
 var_of : Tree → ℕ
 var_of (var x) = x
 var_of (app f ts) = f
-
-head_of : Tree → Trees → Tree
-head_of d nil = d
-head_of d (cons t ts) = t
-
-tail_of : Trees → Trees
-tail_of nil = nil
-tail_of (cons t ts) = ts
 
 same_var : (x y : ℕ) → Dec (x ≡ y) → Dec (var x ≡ var y)
 unfolding var_of
@@ -59,7 +53,7 @@ mutual
   occur x nil = no not_in_nil
   occur x (cons t ts) = either in_head in_tail head_or_tail (occurs x t) (occur x ts)
 
-abbrev pick : {A B : Type 0} → Dec A → B → B → B
+abbrev pub pick : {A B : Type 0} → Dec A → B → B → B
 pick (yes a) x y = x
 pick (no n) x y = y
 
@@ -92,14 +86,9 @@ mutual
   candidate_in_is x nil τ p = absurd (not_in_nil p)
   candidate_in_is x (cons l ls) τ p = pick_spec (occurs x l) _ _ _ (candidate_is x l τ) (λ n. candidate_in_is x ls τ (later_one p n))
 
-mutual
-  pub same_apply : (t : Tree) (σ τ : ℕ → Tree) → ((x : ℕ) → Sub (var x) t → σ x ≡ τ x) → apply σ t ≡ apply τ t
-  same_apply (var x) σ τ h = h x itself
-  same_apply (app f ts) σ τ h = ap (app f) (same_applies ts σ τ (λ x p. h x (under p)))
-
-  pub same_applies : (ts : Trees) (σ τ : ℕ → Tree) → ((x : ℕ) → Subs (var x) ts → σ x ≡ τ x) → apply_all σ ts ≡ apply_all τ ts
-  same_applies nil σ τ h = refl
-  same_applies (cons t ts) σ τ h = join_cons (same_apply t σ τ (λ x p. h x (in_head p))) (same_applies ts σ τ (λ x p. h x (in_tail p)))
+-- substitutions that agree on the variables of a term give it one instance
+pub same_apply : (t : Tree) (σ τ : ℕ → Tree) → ((x : ℕ) → Sub (var x) t → σ x ≡ τ x) → apply σ t ≡ apply τ t
+same_apply t σ τ h = same_instance σ τ t (λ v k. h v (sub_of_has v t k))
 
 -- the substitution that matching finds
 abbrev pub found : Tree → Tree → ℕ → Tree

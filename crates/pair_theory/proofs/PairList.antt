@@ -3,15 +3,14 @@ use Rattle.std.proofs.Common.{◌≡◌, ℕ, refl, sym, ap, subst, arith, ◌�
 use Rattle.trs_defs.specs.Member.{In, in_first, in_rest}
 use Rattle.trs_defs.specs.Tree.{Tree, Trees, var, app, nil, cons}
 use Rattle.trs_defs.specs.WellFormed.{IsWellFormed, AreWellFormed}
-use Rattle.trs_defs.specs.System.{RewriteRule, System, IsSystem, Among}
-use Rattle.trs_defs.specs.Subterm.{Sub, itself, under, Subs, in_head, in_tail}
-use Rattle.trs_defs.specs.Marked.{Marked, marked, plain}
-use Rattle.trs_defs.specs.DependencyPair.{IsDefined, IsDependencyPair, from_rule, DependencyPair, subterms, subterms_of_all, has_root, is_defined, keep_if, pairs_to, pairs_of, pairs_of_each, dependency_pairs}
-use Rattle.trs_defs.specs.PairProblem.{PairAmong, IsPair}
-use Rattle.trs_defs.proofs.Members.{in_left, in_right, in_either}
-use Rattle.pair_theory.proofs.Members.{no_in, in_or}
-use Rattle.pair_theory.proofs.Terms.{below_root, subs_of_has, has_of_subs}
-use Rattle.pair_theory.proofs.Accessibility.{sub_trans}
+use Rattle.trs_defs.specs.System.{RewriteRule, System, IsSystem, Among, IsDefined, has_root, is_defined}
+use Rattle.pair_theory.specs.Subterm.{Sub, itself, under, Subs, in_head, in_tail}
+use Rattle.pair_theory.specs.Marked.{Marked, marked, plain}
+use Rattle.pair_theory.specs.DependencyPair.{IsDependencyPair, from_rule, DependencyPair, subterms, subterms_of_all, keep_if, pairs_to, pairs_of, pairs_of_each, dependency_pairs}
+use Rattle.pair_theory.specs.PairProblem.{PairAmong, IsPair}
+use Rattle.trs_defs.proofs.Members.{in_left, in_right, in_either, no_in, in_or}
+use Rattle.trs_defs.proofs.VariableLaws.{or_right}
+use Rattle.pair_theory.proofs.Subterms.{below_root, subs_of_has, has_of_subs, sub_trans}
 use Rattle.pair_theory.proofs.Systems.{left_over, right_over, no_new_variables}
 
 first_one : (t : Tree) → In t (subterms t)
@@ -33,10 +32,6 @@ keep_here x xs e = rw e in_first
 keep_rest : {A : Type 0} (b : Bool) {y : A} (x : A) {xs : List A} → In y xs → In y (keep_if b x xs)
 keep_rest true x i = in_rest i
 keep_rest false x i = i
-
-or_right : (a b : Bool) → b ≡ true → (a || b) ≡ true
-or_right true b e = refl
-or_right false b e = e
 
 nat_same : (m n : ℕ) → (m == n) ≡ true → m ≡ n
 nat_same m n e = grind arith

@@ -2,32 +2,29 @@
 use Rattle.std.proofs.Common.{◌≡◌, ℕ, refl, sym, ap, subst, ◌∙◌, List}
 use Rattle.trs_defs.specs.Tree.{Tree, var, app, Trees, nil, cons}
 use Rattle.trs_defs.specs.Substitution.{apply, apply_all}
-use Rattle.trs_defs.specs.Accessible.{Acc, acc}
+use Rattle.pair_theory.specs.Accessible.{Acc, acc}
 use Rattle.trs_defs.specs.Step.{StepBy, here, deep}
-use Rattle.trs_defs.specs.Terminates.{ArgumentStep, Terminates}
-use Rattle.trs_defs.specs.Subterm.{Sub, itself, under, Subs, in_head, in_tail}
+use Rattle.pair_theory.specs.Terminates.{ArgumentStep, Terminates}
+use Rattle.pair_theory.specs.Subterm.{Sub, itself, under, Subs, in_head, in_tail}
 use Rattle.trs_defs.specs.Every.{Every, every_nil, every_cons}
 use Rattle.trs_defs.specs.Run.{Run, Stay}
 use Rattle.trs_defs.specs.WellFormed.{IsWellFormed, AreWellFormed}
-use Rattle.trs_defs.specs.Marked.{Marked, marked, plain}
-use Rattle.trs_defs.specs.Chain.{ChainStep, link}
-use Rattle.trs_defs.specs.DependencyPair.{IsDefined, IsDependencyPair, from_rule}
-use Rattle.trs_defs.specs.PairProblem.{ChainsEnd}
-use Rattle.pair_theory.proofs.Terms.{app_root, app_args}
-use Rattle.pair_theory.proofs.Accessibility.{acc_induction, run_then, args_sub, terminating_args, each_terminates, args_terminate}
-
-var_or_app : {P : Type 0} (t : Tree) → ((x : ℕ) → t ≡ var x → P) → ((f : ℕ) (ts : Trees) → t ≡ app f ts → P) → P
-var_or_app (var x) a b = a x refl
-var_or_app (app f ts) a b = b f ts refl
+use Rattle.pair_theory.specs.Marked.{Marked, marked, plain}
+use Rattle.pair_theory.specs.Chain.{ChainStep, link}
+use Rattle.pair_theory.specs.DependencyPair.{IsDependencyPair, from_rule}
+use Rattle.trs_defs.specs.System.{IsDefined}
+use Rattle.pair_theory.specs.PairProblem.{ChainsEnd}
+use Rattle.trs_defs.proofs.EqualTerms.{app_root, app_args}
+use Rattle.trs_defs.proofs.Runs.{one, then}
+use Rattle.pair_theory.proofs.Accessibility.{acc_induction, terminating_args, each_terminates, args_terminate}
+use Rattle.pair_theory.proofs.Subterms.{args_sub}
+use Rattle.pair_theory.proofs.Chains.{chain_small}
 
 step_case : (P : Type 0) {rule : Tree → Tree → Type 0} {f : ℕ} {ss : Trees} {u : Tree} → StepBy rule (app f ss) u
     → ((l r : Tree) (σ : ℕ → Tree) → rule l r → app f ss ≡ apply σ l → u ≡ apply σ r → P)
     → ((us : Trees) → ArgumentStep rule ss us → u ≡ app f us → P) → P
 step_case P (here (l, r, σ, h, e, e')) a b = a l r σ h e e'
 step_case P (deep s) a b = b _ s refl
-
-chain_small : {rule : Tree → Tree → Type 0} {pair : Marked → Marked → Type 0} {u v : Marked} → ChainStep rule pair u v → Every (Terminates rule) v.args
-chain_small (link l r σ p e reach to small) = small
 
 module _ (rule : Tree → Tree → Type 0)
     (rooted : (l r : Tree) → rule l r → (x : ℕ) → l ≡ var x → ⊥)
@@ -95,7 +92,7 @@ module _ (rule : Tree → Tree → Type 0)
       subst (Terminates rule) (sym e') (right_terminates u calls u.symbol ls r σ (subst (λ l. rule l r) is h) refl
       (subst (Run (ArgumentStep rule) u.args) same reach) (subst (Every (Terminates rule)) same small) r itself)))
       (λ us s' e. subst (Terminates rule) (sym e)
-      (rec us s' (run_then reach s') (each_terminates rule us (below us s'))))))
+      (rec us s' (then reach (one s')) (each_terminates rule us (below us s'))))))
       a
 
   pub call_terminates : {u : Marked} → Acc (ChainStep rule (IsDependencyPair rule)) u → Every (Terminates rule) u.args → Terminates rule (plain u)

@@ -1,30 +1,30 @@
 -- The steps on problems that are lists of pairs.
-use Rattle.std.proofs.Common.{ℕ, Bool, true, ◌≡◌, refl, sym, subst, ◌⊎◌, inl, inr, List, [], ◌∷◌, ◌++◌}
-use Rattle.trs_defs.specs.Tree.{Tree}
-use Rattle.trs_defs.specs.Accessible.{Acc, acc}
+use Rattle.std.proofs.Common.{ℕ, Bool, true, refl, sym, subst, ◌⊎◌, inl, inr, List, [], ◌∷◌, ◌++◌, map}
+use Rattle.trs_defs.specs.Tree.{Tree, var}
+use Rattle.pair_theory.specs.Accessible.{Acc, acc}
 use Rattle.trs_defs.specs.System.{RewriteRule, Among, System, IsSystem}
 use Rattle.trs_defs.specs.Member.{In, in_first, in_rest}
-use Rattle.trs_defs.specs.Subterm.{under}
+use Rattle.pair_theory.specs.Subterm.{under, Subs}
 use Rattle.trs_defs.specs.Every.{Every}
-use Rattle.trs_defs.specs.Terminates.{Terminates}
+use Rattle.pair_theory.specs.Terminates.{Terminates}
 use Rattle.trs_defs.specs.WellFormed.{IsWellFormed}
-use Rattle.trs_defs.specs.Marked.{Marked, plain, mark}
-use Rattle.trs_defs.specs.Chain.{ChainStep, link}
-use Rattle.trs_defs.specs.DependencyPair.{IsDependencyPair, DependencyPair, dependency_pairs}
-use Rattle.trs_defs.specs.PairProblem.{ChainsEnd, PairAmong, IsFiniteProblem, IsPair}
-use Rattle.trs_defs.specs.Moves.{IsWellFounded, IsOrdered}
+use Rattle.pair_theory.specs.Marked.{Marked, plain, mark}
+use Rattle.pair_theory.specs.Chain.{ChainStep}
+use Rattle.pair_theory.specs.DependencyPair.{IsDependencyPair, DependencyPair, dependency_pairs}
+use Rattle.pair_theory.specs.PairProblem.{ChainsEnd, PairAmong, IsFiniteProblem, IsPair}
+use Rattle.pair_theory.specs.Moves.{IsWellFounded, IsOrdered}
 use Rattle.trs_defs.specs.Claims.{IsTerminating}
 use Rattle.pair_theory.proofs.Accessibility.{acc_image}
-use Rattle.pair_theory.proofs.Chains.{chain_map, chain_small, chain_well_formed}
+use Rattle.pair_theory.proofs.Chains.{chain_map, chain_small, pair_of_chain, chain_over}
+use Rattle.pair_theory.proofs.Over.{declared, over_of_well_formed, well_formed_of_over}
 use Rattle.pair_theory.proofs.Removal.{removal}
 use Rattle.pair_theory.proofs.Termination.{pair_theorem}
 use Rattle.pair_theory.proofs.PairList.{pairs_listed}
-use Rattle.trs_defs.proofs.Members.{in_left, in_right}
-use Rattle.pair_theory.proofs.Members.{no_in, in_or, each_of_both}
-use Rattle.pair_theory.proofs.Terms.{below_root, subs_of_has, has_of_subs}
+use Rattle.trs_defs.proofs.Members.{in_left, in_right, no_in, in_or, each_of_both, in_map, of_map}
+use Rattle.pair_theory.proofs.Subterms.{below_root, subs_of_has, has_of_subs}
 use Rattle.pair_theory.proofs.Systems.{left_over, right_over, no_new_variables}
-use Rattle.trs_defs.specs.ReductionPair.{Speaks, SpeaksOfSides, SpeaksErased, marked_rule}
-use Rattle.trs_defs.specs.Erased.{HasEntries, erased}
+use Rattle.pair_theory.specs.ReductionPair.{Speaks, SpeaksOfSides, SpeaksErased, marked_rule}
+use Rattle.pair_theory.specs.Erased.{HasEntries, erased}
 use Rattle.pair_theory.proofs.Erasing.{bound_of_erased, erased_same, all_have}
 
 -- fewer pairs have fewer chains
@@ -40,28 +40,15 @@ pub more_pairs_end : (system : System) (pairs more : List DependencyPair) → ((
 more_pairs_end system pairs more within ends u w small =
     fewer (Among system.rules) (PairAmong pairs) (PairAmong more) (λ l r i. within (record { from = l; to = r }) i) (ends u w small)
 
-pair_of : {rule : _} {pair : Marked → Marked → Type 0} {u v : Marked} → ChainStep rule pair u v → (l : Marked) × (r : Marked) × pair l r
-pair_of (link l r σ h e reach to small) = (l, r, h)
-
 pub no_pairs_end : (system : System) (pairs : List DependencyPair) → ((p : DependencyPair) → In p pairs → ⊥) → IsFiniteProblem system pairs
-no_pairs_end system pairs none u w small = acc (λ v c. let h : (l : Marked) × (r : Marked) × PairAmong pairs l r = pair_of c in absurd (none (record { from = h.0; to = h.1 }) h.2))
+no_pairs_end system pairs none u w small = acc (λ v c. let h : (l : Marked) × (r : Marked) × PairAmong pairs l r = pair_of_chain c in absurd (none (record { from = h.0; to = h.1 }) h.2))
 
+-- the pairs as rules that orders see
 abbrev pub mark_rules : List DependencyPair → List RewriteRule
-mark_rules [] = []
-mark_rules (p ∷ ps) = record { left = mark p.from; right = mark p.to } ∷ mark_rules ps
+mark_rules ps = map marked_rule ps
 
-pub marked_in : (ps : List DependencyPair) {p : DependencyPair} → In p ps → In (record { left = mark p.from; right = mark p.to }) (mark_rules ps)
-marked_in [] i = elim i [ ]
-marked_in (p ∷ ps) in_first = in_first
-marked_in (q ∷ ps) (in_rest i) = in_rest (marked_in ps i)
-
-pub each_mark : (P : RewriteRule → Type 0) (ps : List DependencyPair) → ((p : DependencyPair) → In p ps → P (record { left = mark p.from; right = mark p.to })) → (q : RewriteRule) → In q (mark_rules ps) → P q
-each_mark P [] k q i = elim i [ ]
-each_mark P (p ∷ ps) k q i = go (in_or i) (each_mark P ps (λ p j. k p (in_rest j)) q)
-  where
-    go : (q ≡ record { left = mark p.from; right = mark p.to }) ⊎ In q (mark_rules ps) → (In q (mark_rules ps) → P q) → P q
-    go (inl e) f = subst P (sym e) (k p in_first)
-    go (inr j) f = f j
+pub each_mark : (P : RewriteRule → Type 0) (ps : List DependencyPair) → ((p : DependencyPair) → In p ps → P (marked_rule p)) → (q : RewriteRule) → In q (mark_rules ps) → P q
+each_mark P ps k q i = let (p, j, e) = of_map marked_rule ps i in subst P (sym e) (k p j)
 
 abbrev Either : List DependencyPair → List DependencyPair → Marked → Marked → Type 0
 Either stays goes l r = PairAmong stays l r ⊎ PairAmong goes l r
@@ -106,6 +93,25 @@ parted {A} P Q (y ∷ xs) k = go (k y in_first) (parted P Q xs (λ x i. k x (in_
       ];
     }
 
+-- the variables of a pair's right side are in its left side
+pub pair_variables : (arities : List ℕ) (p : DependencyPair) → IsPair arities p → (x : ℕ) → Subs (var x) p.to.args → Subs (var x) p.from.args
+pair_variables arities p good x q = subs_of_has x p.from.args (good.variables x (has_of_subs x p.to.args q))
+
+-- a pair whose sides an order speaks of and orders
+pub pair_ordered : (arities : List ℕ) (speaks_of : Tree → Type 0) (order : Tree → Tree → Type 0) (p : DependencyPair) → IsPair arities p
+    → speaks_of (mark p.from) → speaks_of (mark p.to) → order (mark p.from) (mark p.to) → IsOrdered speaks_of order (marked_rule p)
+pair_ordered arities speaks_of order p good left right h = record {
+  left_spoken = left;
+  right_spoken = right;
+  ordered = h;
+  variables = λ v q. under (pair_variables arities p good v (below_root q));
+}
+
+-- each pair is weak and stays, or is strict
+abbrev pub Classed : (Tree → Tree → Type 0) → (Tree → Tree → Type 0) → List DependencyPair → List DependencyPair → Type 0
+Classed weak strict pairs stays =
+    (p : DependencyPair) → In p pairs → (In p stays × weak (mark p.from) (mark p.to)) ⊎ strict (mark p.from) (mark p.to)
+
 -- a well-formed marked term with terminating arguments
 abbrev pub Ready : System → Marked → Type 0
 Ready system u = IsWellFormed system.arities (plain u) × Every (Terminates (Among system.rules)) u.args
@@ -115,9 +121,10 @@ pub chain_ready : (system : System) → IsSystem system → (pair : Marked → M
     → ((l r : Marked) → pair l r → IsPair system.arities (record { from = l; to = r }))
     → (u v : Marked) → Ready system u → ChainStep (Among system.rules) pair u v → Ready system v
 chain_ready system ok pair good u v ready c = (
-  chain_well_formed system.arities (Among system.rules) (right_over system ok) (no_new_variables system ok)
-      (λ l r h. (good l r h).to_well_formed)
-      (λ l r h x p. subs_of_has x l.args ((good l r h).variables x (has_of_subs x r.args p))) c ready.0,
+  well_formed_of_over system.arities (plain v)
+      (chain_over (declared system.arities) (Among system.rules) (λ l r h. over_of_well_formed system.arities r (right_over system ok l r h))
+      (no_new_variables system ok) (λ l r h. over_of_well_formed system.arities (plain r) (good l r h).to_well_formed)
+      (λ l r h. pair_variables system.arities (record { from = l; to = r }) (good l r h)) c (over_of_well_formed system.arities (plain u) ready.0)),
   chain_small c,
 )
 
@@ -137,12 +144,7 @@ module _ (system : System) (ok : IsSystem system) (weak strict : Tree → Tree �
     }
 
     ordered_pair : (order : Tree → Tree → Type 0) (p : DependencyPair) → Spoken p → order (mark p.from) (mark p.to) → IsOrdered speaks_of order (marked_rule p)
-    ordered_pair order p good h = record {
-      left_spoken = good.1.0;
-      right_spoken = good.1.1;
-      ordered = h;
-      variables = λ v q. under (subs_of_has v p.from.args (good.0.variables v (has_of_subs v p.to.args (below_root q))));
-    }
+    ordered_pair order p good h = pair_ordered system.arities speaks_of order p good.0 good.1.0 good.1.1 h
 
     abbrev Sides : RewriteRule → Type 0
     Sides p = HasEntries entry p.left × HasEntries entry p.right
@@ -153,7 +155,7 @@ module _ (system : System) (ok : IsSystem system) (weak strict : Tree → Tree �
         → IsFiniteProblem system stays → ChainsEnd system.arities (Among system.rules) (Either stays goes)
     order_step stays goes stay go all u v small =
         removal (Among system.rules) (PairAmong stays) (PairAmong goes) ws ss (λ l r i. in_left (mark_rules stays) i)
-        (λ l r i. in_right system.rules (marked_in stays i)) (λ l r i. marked_in goes i)
+        (λ l r i. in_right system.rules (in_map marked_rule i)) (λ l r i. in_map marked_rule i)
         (Ready system) (chain_ready system ok (Either stays goes) good) (λ u ready. all u ready.0 ready.1)
         (λ u ready. speaks.of_erased u ready.0)
         (λ t w. bound_of_erased entry ws ss
@@ -179,8 +181,7 @@ module _ (system : System) (ok : IsSystem system) (weak strict : Tree → Tree �
         good l r (inr i) = (go _ i).0.0
 
     pub removal_erased : (pairs stays : List DependencyPair) → ((p : DependencyPair) → In p pairs → Spoken p)
-        → ((p : DependencyPair) → In p pairs → (In p stays × weak (mark p.from) (mark p.to)) ⊎ strict (mark p.from) (mark p.to))
-        → IsFiniteProblem system stays → IsFiniteProblem system pairs
+        → Classed weak strict pairs stays → IsFiniteProblem system stays → IsFiniteProblem system pairs
     removal_erased pairs stays good class rest =
         let split : Parted DependencyPair (λ p. In p stays × weak (mark p.from) (mark p.to)) (λ p. strict (mark p.from) (mark p.to)) pairs =
         parted (λ p. In p stays × weak (mark p.from) (mark p.to)) (λ p. strict (mark p.from) (mark p.to)) pairs class in
@@ -208,8 +209,7 @@ module _ (system : System) (ok : IsSystem system) (weak strict : Tree → Tree �
     }
 
     pub removal_theorem : (pairs stays : List DependencyPair) → ((p : DependencyPair) → In p pairs → IsPair system.arities p)
-        → ((p : DependencyPair) → In p pairs → (In p stays × weak (mark p.from) (mark p.to)) ⊎ strict (mark p.from) (mark p.to))
-        → IsFiniteProblem system stays → IsFiniteProblem system pairs
+        → Classed weak strict pairs stays → IsFiniteProblem system stays → IsFiniteProblem system pairs
     removal_theorem pairs stays good class rest = removal_erased always speaks_erased pairs stays
         (λ p i. (
           good p i,

@@ -4,12 +4,12 @@ use Rattle.trs_defs.specs.Member.{In}
 use Rattle.trs_defs.specs.Tree.{Tree, Trees, var, nil, cons, count, items}
 use Rattle.trs_defs.specs.Position.{argument_at}
 use Rattle.trs_defs.specs.System.{System, IsSystem, Among}
-use Rattle.trs_defs.specs.Subterm.{ProperSubterm}
-use Rattle.trs_defs.specs.Marked.{Marked, plain}
-use Rattle.trs_defs.specs.DependencyPair.{DependencyPair}
-use Rattle.trs_defs.specs.ArgumentFilter.{item_or}
-use Rattle.trs_defs.specs.PairProblem.{PairAmong, IsFiniteProblem, IsPair}
-use Rattle.trs_defs.specs.SubtermCriterion.{Projects}
+use Rattle.pair_theory.specs.Subterm.{ProperSubterm}
+use Rattle.pair_theory.specs.Marked.{Marked, plain}
+use Rattle.pair_theory.specs.DependencyPair.{DependencyPair}
+use Rattle.pair_theory.specs.ItemOr.{item_or}
+use Rattle.pair_theory.specs.PairProblem.{PairAmong, IsFiniteProblem, IsPair}
+use Rattle.pair_theory.specs.SubtermCriterion.{Projects}
 use Rattle.pair_theory.proofs.PairTheorem.{var_normal}
 use Rattle.pair_theory.proofs.Termination.{decide_defined}
 use Rattle.pair_theory.proofs.Systems.{left_rooted, no_new_variables}

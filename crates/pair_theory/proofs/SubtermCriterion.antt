@@ -2,16 +2,19 @@
 use Rattle.std.proofs.Common.{◌≡◌, ℕ, zero, suc, ◌<◌, refl, sym, ap, subst, arith, ◌∙◌, ◌⊎◌, inl, inr}
 use Rattle.trs_defs.specs.Tree.{Tree, var, app, Trees, nil, cons, count}
 use Rattle.trs_defs.specs.Substitution.{apply, apply_all}
-use Rattle.trs_defs.specs.Accessible.{Acc, acc}
+use Rattle.pair_theory.specs.Accessible.{Acc, acc}
 use Rattle.trs_defs.specs.Step.{StepBy, deep, first, later}
-use Rattle.trs_defs.specs.Terminates.{ArgumentStep, Terminates}
-use Rattle.trs_defs.specs.Subterm.{ProperSubterm, proper, Sub, itself, under, Subs, in_head, in_tail}
+use Rattle.pair_theory.specs.Terminates.{ArgumentStep, Terminates}
+use Rattle.pair_theory.specs.Subterm.{ProperSubterm, proper, Sub, itself, under, Subs, in_head, in_tail}
 use Rattle.trs_defs.specs.Every.{Every, every_nil, every_cons}
 use Rattle.trs_defs.specs.Run.{Run, Stay, Go}
-use Rattle.trs_defs.specs.Marked.{Marked, marked}
-use Rattle.trs_defs.specs.Chain.{ChainStep, link}
-use Rattle.trs_defs.specs.ArgumentFilter.{item_or}
-use Rattle.pair_theory.proofs.Accessibility.{down, acc_induction, run_on}
+use Rattle.pair_theory.specs.Marked.{Marked, marked}
+use Rattle.pair_theory.specs.Chain.{ChainStep, link}
+use Rattle.pair_theory.specs.ItemOr.{item_or}
+use Rattle.trs_defs.proofs.Runs.{then}
+use Rattle.pair_theory.proofs.Accessibility.{down, acc_induction}
+use Rattle.pair_theory.proofs.Subterms.{subs_apply}
+use Rattle.pair_theory.proofs.Chains.{chain_either}
 
 pub data Plus {A : Type 0} (r : A → A → Type 0) : A → A → Type 0 where
   once : {x y : A} → r x y → Plus r x y
@@ -27,15 +30,6 @@ acc_plus r a = acc_induction {P = Acc (Plus r)} (λ x below rec. acc (λ y p. pl
 plus_after : {A : Type 0} {r : A → A → Type 0} {x y z : A} → Run r x y → Plus r y z → Plus r x z
 plus_after Stay q = q
 plus_after (Go s p) q = onto s (plus_after p q)
-
-mutual
-  pub sub_apply : (σ : ℕ → Tree) {s t : Tree} → Sub s t → Sub (apply σ s) (apply σ t)
-  sub_apply σ itself = itself
-  sub_apply σ (under p) = under (subs_apply σ p)
-
-  pub subs_apply : (σ : ℕ → Tree) {s : Tree} {ts : Trees} → Subs s ts → Subs (apply σ s) (apply_all σ ts)
-  subs_apply σ (in_head p) = in_head (sub_apply σ p)
-  subs_apply σ (in_tail p) = in_tail (subs_apply σ p)
 
 module _ (rule : Tree → Tree → Type 0) where
   -- a step, or to a proper subterm
@@ -102,7 +96,7 @@ module _ (rule : Tree → Tree → Type 0) where
 
   run_at : (i : ℕ) (d : Tree) {ss ts : Trees} → Run (ArgumentStep rule) ss ts → Run Down (item_or i ss d) (item_or i ts d)
   run_at i d Stay = Stay
-  run_at i d (Go s ss) = run_on (steps_at i d s) (run_at i d ss)
+  run_at i d (Go s ss) = then (steps_at i d s) (run_at i d ss)
 
   -- within the arguments, the place's instance is the instance's place
   at_inside : (σ : ℕ → Tree) (i : ℕ) (ts : Trees) (d e : Tree) → i < count ts → item_or i (apply_all σ ts) d ≡ apply σ (item_or i ts e)
@@ -141,10 +135,6 @@ module _ (rule : Tree → Tree → Type 0) where
       go_plus {u} (link l r σ h e reach to small) = let w : _ = go_at l r h in
           plus_after (reach_projected u l σ e reach w.0) (once (inr (subst (ProperSubterm (apply σ (projected l))) (to_projected _ r σ to w.1) (proper_apply σ w.2))))
 
-      by_which : {u v : Marked} → ChainStep rule Either u v → ChainStep rule stay u v ⊎ ChainStep rule go u v
-      by_which (link l r σ (inl h) e reach to small) = inl (link l r σ h e reach to small)
-      by_which (link l r σ (inr h) e reach to small) = inr (link l r σ h e reach to small)
-
       module _ (Ok : Marked → Type 0) (keeps : (u v : Marked) → Ok u → ChainStep rule Either u v → Ok v)
           (small : (u : Marked) → Ok u → Every (Terminates rule) u.args) (var_ends : Terminates rule (var 0))
           (rest : (u : Marked) → Ok u → Acc (ChainStep rule stay) u) where
@@ -152,8 +142,8 @@ module _ (rule : Tree → Tree → Type 0) where
         from_projected a =
             acc_induction {P = λ p. (u : Marked) → Run Down p (projected u) → Ok u → Acc (ChainStep rule Either) u}
             (λ p below rec u reach ok. acc_induction {P = λ u. Run Down p (projected u) → Ok u → Acc (ChainStep rule Either) u}
-            (λ u below' rec' reach ok. acc (λ v c. elim (by_which c) [
-              | inl c' ↦ rec' v c' (run_on reach (stay_run c')) (keeps u v ok c)
+            (λ u below' rec' reach ok. acc (λ v c. elim (chain_either c) [
+              | inl c' ↦ rec' v c' (then reach (stay_run c')) (keeps u v ok c)
               | inr c' ↦ rec (projected v) (plus_after reach (go_plus c')) v Stay (keeps u v ok c)
             ]))
             (rest u ok) reach ok)

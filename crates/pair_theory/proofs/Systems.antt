@@ -4,9 +4,9 @@ use Rattle.trs_defs.specs.Member.{In}
 use Rattle.trs_defs.specs.Tree.{Tree, var}
 use Rattle.trs_defs.specs.WellFormed.{IsWellFormed}
 use Rattle.trs_defs.specs.System.{RewriteRule, System, IsRule, IsSystem, Among}
-use Rattle.trs_defs.specs.Subterm.{Sub}
+use Rattle.pair_theory.specs.Subterm.{Sub}
 use Rattle.trs_defs.proofs.Members.{get_of_in}
-use Rattle.pair_theory.proofs.Terms.{sub_of_has, has_of_sub}
+use Rattle.pair_theory.proofs.Subterms.{sub_of_has, has_of_sub}
 
 module _ (system : System) (ok : IsSystem system) where
   pub rule_among : (p : RewriteRule) → In p system.rules → IsRule system.arities p

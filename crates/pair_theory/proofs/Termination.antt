@@ -1,24 +1,23 @@
 -- That the chains of all dependency pairs end gives a bound for each well-formed term.
-use Rattle.std.proofs.Common.{◌≡◌, ℕ, zero, suc, sym, ap, subst, ◌⊎◌, inl, inr, List, [], ◌∷◌, IsTrue}
+use Rattle.std.proofs.Common.{◌≡◌, ℕ, suc, sym, ap, subst, ◌⊎◌, inl, inr, List, [], ◌∷◌, IsTrue}
 use native.Mathlib.Decide.{ℕ_discrete}
 use Rattle.trs_defs.specs.Tree.{Tree, var, app, Trees}
-use Rattle.trs_defs.specs.System.{RewriteRule, Among}
+use Rattle.trs_defs.specs.System.{RewriteRule, Among, IsDefined, System, IsSystem}
 use Rattle.trs_defs.specs.Member.{In, in_first, in_rest}
-use Rattle.trs_defs.specs.DependencyPair.{IsDefined}
-use Rattle.trs_defs.specs.System.{System, IsSystem}
-use Rattle.trs_defs.specs.Claims.{IsTerminating}
-use Rattle.trs_defs.specs.DependencyPair.{IsDependencyPair}
-use Rattle.trs_defs.specs.PairProblem.{ChainsEnd}
-use Rattle.trs_defs.specs.Step.{StepBy}
+use Rattle.trs_defs.specs.Claims.{IsTerminating, IsEndless}
+use Rattle.pair_theory.specs.DependencyPair.{IsDependencyPair}
+use Rattle.pair_theory.specs.PairProblem.{ChainsEnd}
+use Rattle.trs_defs.specs.Step.{StepBy, Step}
 use Rattle.trs_defs.specs.Variable.{has_var}
-use Rattle.trs_defs.specs.Terminates.{Terminates}
-use Rattle.trs_defs.specs.Bounded.{IsBoundedBy, IsBounded}
-use Rattle.trs_defs.specs.Accessible.{Acc, acc}
-use Rattle.pair_theory.proofs.Terms.{app_root, sub_of_has, has_of_sub}
-use Rattle.pair_theory.proofs.Members.{in_or, no_in}
+use Rattle.pair_theory.specs.Terminates.{Terminates}
+use Rattle.trs_defs.specs.Bounded.{IsBounded}
+use Rattle.trs_defs.proofs.EqualTerms.{app_root}
+use Rattle.trs_defs.proofs.Members.{in_or, no_in}
+use Rattle.trs_defs.proofs.BoundLaws.{none_longer}
+use Rattle.pair_theory.proofs.Subterms.{sub_of_has, has_of_sub}
 use Rattle.pair_theory.proofs.Systems.{left_rooted, no_new_variables}
 use Rattle.pair_theory.proofs.PairTheorem.{terminating}
-use Rattle.pair_theory.proofs.Bounds.{bounded}
+use Rattle.pair_theory.proofs.Reducts.{bounded}
 
 -- whether the root of a term is g
 rooted_at : (g : ℕ) (t : Tree) → Dec ((ls : Trees) × (t ≡ app g ls))
@@ -53,7 +52,9 @@ pub terminating_is_bounded : (rules : List RewriteRule) (t : Tree)
     → Terminates (Among rules) t → IsBounded (StepBy (Among rules)) t
 terminating_is_bounded rules t vars ends = bounded rules (λ p i x q. sub_of_has x p.left (vars p i x (has_of_sub x p.right q))) ends
 
--- where derivations have a bound, all that the term goes to terminates
-pub bounded_terminates : {T : Type 0} (R : T → T → Type 0) (n : ℕ) (s : T) → IsBoundedBy R n s → Acc R s
-bounded_terminates R zero s h = acc (λ t r. absurd (h t r))
-bounded_terminates R (suc n) s h = acc (λ t r. bounded_terminates R n t (h t r))
+-- a term with a bound does not start a derivation that is longer
+pub endless_not_terminating : (system : System) → IsEndless system → IsTerminating system → ⊥
+endless_not_terminating system (t, well, derivations) terminating =
+    let (n, b) = terminating t well in
+    let (u, d) = derivations (suc n) in
+    none_longer (Step system.rules) n t u b d

@@ -9,15 +9,15 @@ ghost use Rattle.trs_defs.specs.Variable.{has_var};
 ghost use Rattle.trs_defs.specs.System.{RewriteRule, System, IsSystem, Among};
 ghost use Rattle.trs_defs.specs.Step.{StepBy};
 ghost use Rattle.trs_defs.specs.Bounded.{IsBounded};
-ghost use Rattle.trs_defs.specs.Claims.{IsTerminating};
-ghost use Rattle.trs_defs.specs.Subterm.{ProperSubterm};
-ghost use Rattle.trs_defs.specs.Terminates.{Terminates};
-ghost use Rattle.trs_defs.specs.Marked.{mark};
-ghost use Rattle.trs_defs.specs.DependencyPair.{DependencyPair, dependency_pairs};
-ghost use Rattle.trs_defs.specs.PairProblem.{IsFiniteProblem, IsPair};
-ghost use Rattle.trs_defs.specs.PairGraph.{CoversSteps, IsCapEstimate, IsGrouped};
-ghost use Rattle.trs_defs.specs.SubtermCriterion.{Projects};
-ghost use Rattle.trs_defs.specs.ReductionPair.{ReductionPair, Speaks, SpeaksOfSides, SpeaksErased, marked_rule};
+ghost use Rattle.trs_defs.specs.Claims.{IsTerminating, IsEndless};
+ghost use Rattle.pair_theory.specs.Subterm.{ProperSubterm};
+ghost use Rattle.pair_theory.specs.Terminates.{Terminates};
+ghost use Rattle.pair_theory.specs.Marked.{mark};
+ghost use Rattle.pair_theory.specs.DependencyPair.{DependencyPair, dependency_pairs};
+ghost use Rattle.pair_theory.specs.PairProblem.{IsFiniteProblem, IsPair};
+ghost use Rattle.pair_theory.specs.PairGraph.{CoversSteps, IsCapEstimate, IsGrouped};
+ghost use Rattle.pair_theory.specs.SubtermCriterion.{Projects};
+ghost use Rattle.pair_theory.specs.ReductionPair.{ReductionPair, Speaks, SpeaksOfSides, SpeaksErased, marked_rule};
 
 /// Arts and Giesl's theorem on dependency pairs (2000; for minimal chains, Hirokawa and
 /// Middeldorp, 2007): a system whose dependency pairs are a finite problem terminates.
@@ -104,4 +104,9 @@ pub fn terminating_terms_are_bounded()
         Terminates (Among rules) t → IsBounded (StepBy (Among rules)) t }
     ensures terminating { (rules : List RewriteRule) (t : Tree) →
         IsBounded (StepBy (Among rules)) t → Terminates (Among rules) t }
+{}
+
+/// An endless system does not terminate.
+pub fn endless_is_not_terminating()
+    ensures { (system : System) → IsEndless system → IsTerminating system → ⊥ }
 {}

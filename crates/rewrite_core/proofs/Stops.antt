@@ -9,7 +9,7 @@ use Rattle.rewrite_core.specs.declared.steps.StepFault.{StepFault}
 use Rattle.rewrite_core.specs.declared.steps.StepFault.TheVariants as fault
 use Rattle.rewrite_core.specs.Steps.{IsStepFault, HasNoMatch}
 use Rattle.rewrite_core.specs.Paths.{PathStops}
-use Rattle.rewrite_core.specs.LoopRefusal.{IsStopped, number_of_fault}
+use Rattle.rewrite_core.specs.PathCheck.{IsStopped, number_of_fault}
 use Rattle.rewrite_core.proofs.StepLemmas.{fault_excludes}
 
 no_match_excludes : (rules : List RewriteRule) (p : List ℕ) (k : ℕ) (t u : Tree) → HasNoMatch rules p k t → StepsAt rules p k t u → ⊥

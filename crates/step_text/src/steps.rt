@@ -19,7 +19,7 @@ use trs_core::OutOfMemory;
 /// The greatest number of a node, 2^63 - 1.
 const LAST_NODE: u64 = 9_223_372_036_854_775_807;
 
-/// A list whose head word says the kind of step.
+/// A method, `(word ..)`, by its word.
 fn read_method(alloc: Global, system: &NamedTrs, item: &Sexp) -> Result<Read<Step>, OutOfMemory>
     ensures { IfOk result (λ r. seen step_of r ≡ method system.now (view item.now)) }
 {
@@ -41,7 +41,7 @@ fn read_method(alloc: Global, system: &NamedTrs, item: &Sexp) -> Result<Read<Ste
     }
 }
 
-/// `(step number method)`
+/// A step for a node, `(step number method)`.
 pub fn read_step(
     alloc: Global,
     system: &NamedTrs,
@@ -70,6 +70,7 @@ fn node_step(parts: Read<(((), u64), Step)>) -> Read<NodeStep>
     }
 }
 
+/// Appends the text of a method.
 fn put_method(
     alloc: Global,
     out: &mut Vec<u8>,
@@ -78,7 +79,8 @@ fn put_method(
     step: &Step,
 ) -> Result<(), OutOfMemory>
     requires { underscores ≡ underscores_of system.now.names }
-    ensures text { OnOk result (out.new.items ≡ out.old.items ++ text_of (method_item system.now (step_of step.now))) }
+    ensures text { OnOk result (out.new.items
+        ≡ out.old.items ++ text_of (method_item system.now (step_of step.now))) }
     ensures range { OnOk result (HasNumbersInRange (step_of step.now)) }
 {
     match step {
@@ -103,7 +105,8 @@ pub fn put_step(
     step: &NodeStep,
 ) -> Result<(), OutOfMemory>
     requires { underscores ≡ underscores_of system.now.names }
-    ensures text { OnOk result (out.new.items ≡ out.old.items ++ text_of (step_item system.now (node_step_of step.now))) }
+    ensures text { OnOk result (out.new.items
+        ≡ out.old.items ++ text_of (step_item system.now (node_step_of step.now))) }
     ensures range { OnOk result (HasNumbersInRange (step_of step.now.step)) }
 {
     put(out, b"(step ")?;

@@ -16,7 +16,8 @@ fn growing(alloc: Global) -> Result<Trs, Fail> {
     one_rule(alloc, Vec::from_array(alloc, [1])?, left, right)
 }
 
-/// What a loop is refused for, of so many steps from `f(y)`, with its instance under so many symbols.
+/// What a loop is refused for, of so many steps from `f(y)`, with its instance under so many
+/// symbols.
 fn refused(alloc: Global, steps: u32, place: u32) -> Result<Option<CheckFault>, Fail> {
     let trs = growing(alloc)?;
     let start = tower(alloc, 0, 1, Term::Var(7))?;
@@ -128,7 +129,8 @@ fn a_term_is_no_larger_than_the_limit(rt: HostRuntime) -> Result<(), Fail> {
     Ok(())
 }
 
-/// A long branch of the binary symbol 2, with a long branch of the unary symbol 1 at each of its nodes.
+/// A long branch of the binary symbol 2, with a long branch of the unary symbol 1 at each of its
+/// nodes.
 fn large(alloc: Global) -> Result<Term, OutOfMemory> {
     let mut made = term(alloc, 0, [])?;
     for _ in 0..60 {

@@ -48,8 +48,8 @@ fn growing_loop(
 fn a_loop_is_for_loops(rt: HostRuntime) -> Result<(), Fail> {
     let alloc = rt.alloc();
     let trs = growing(alloc)?;
-    let left = growing_loop(alloc, &trs, &Problem::Loop)??;
-    assert!(rt; left.is_empty());
+    let subproblems = growing_loop(alloc, &trs, &Problem::Loop)??;
+    assert!(rt; subproblems.is_empty());
     let fault = growing_loop(alloc, &trs, &Problem::Fork)?.err();
     assert_eq!(rt; fault, Some(CheckFault::Refused(StepRefused::WrongProblem)));
     Ok(())

@@ -7,7 +7,7 @@ use Rattle.cert_step.specs.ProofStep.{node_step_of}
 use Rattle.cert_step.specs.declared.step.NodeStep.{NodeStep}
 use Rattle.cert_text.specs.ProofText.{proof_text_of}
 use Rattle.cert_text.specs.declared.certificate.Certificate.{Certificate}
-use Rattle.cert_text.specs.Printable.{IsPrintable}
+use Rattle.step_text.specs.Ranges.{IsPrintable}
 
 first_of : (system : System) (steps : List NodeStep) (s : NodeStep) → 1 ≤ length steps → s ≡ get_or steps 0 s
     → AllByRecursion (IsPrintable system) (map node_step_of steps) → IsPrintable system (node_step_of s)

@@ -1,5 +1,5 @@
 ghost use Rattle.std.specs.Prelude.{◌≡◌, ◌↔◌, IsTrue};
-ghost use Rattle.trs_defs.specs.DependencyPair.{has_root, is_defined};
+ghost use Rattle.trs_defs.specs.System.{has_root, is_defined};
 ghost use Rattle.trs_core.specs.View.{tree};
 
 use crate::{Rule, Term, Trs};

@@ -1,7 +1,11 @@
+pub mod EqualTerms
 pub mod Members
+pub mod Runs
 pub mod Derivations
+pub mod BoundLaws
 pub mod Substitutions
 pub mod Positions
+pub mod StepLaws
 pub mod Contexts
 pub mod Places
 pub mod Loops
@@ -13,4 +17,3 @@ pub mod VariableLaws
 pub mod NormalForms
 pub mod WellFormedness
 pub mod OccurrenceLaws
-pub mod CapLaws

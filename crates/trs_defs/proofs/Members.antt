@@ -1,5 +1,5 @@
--- Members of a list: its items, read by number; members of two lists together.
-use Rattle.std.specs.Prelude.{◌≡◌, ℕ, ◌⊎◌, List, [], ◌∷◌, ◌++◌, Some, slice_get, refl}
+-- Members of a list: its items, read by number; members of two lists together, and of a list's image.
+use Rattle.std.specs.Prelude.{◌≡◌, ℕ, ◌⊎◌, List, [], ◌∷◌, ◌++◌, map, Some, slice_get, refl}
 use Rattle.std.proofs.Common.{inl, inr, zero, suc}
 use Rattle.trs_defs.specs.Member.{In, in_first, in_rest}
 
@@ -24,3 +24,29 @@ pub in_either : {T : Type 0} {x : T} (xs ys : List T) → In x (xs ++ ys) → In
 in_either [] ys h = inr h
 in_either (y ∷ xs) ys in_first = inl in_first
 in_either (y ∷ xs) ys (in_rest h) = elim (in_either xs ys h) [ inl k ↦ inl (in_rest k) | inr k ↦ inr k ]
+
+pub no_in : {T : Type 0} {x : T} → In x [] → ⊥
+no_in i = elim i [ ]
+
+pub in_or : {T : Type 0} {x y : T} {ys : List T} → In x (y ∷ ys) → (x ≡ y) ⊎ In x ys
+in_or in_first = inl refl
+in_or (in_rest i) = inr i
+
+pub in_case : {T : Type 0} (P : T → Type 0) {x y : T} {xs : List T} → In x (y ∷ xs) → P x → P y ⊎ (P x × In x xs)
+in_case P in_first h = inl h
+in_case P (in_rest i) h = inr (h, i)
+
+-- what holds of the members of two lists holds of those of both
+pub each_of_both : {T : Type 0} (P : T → Type 0) (xs ys : List T) → ((x : T) → In x xs → P x) → ((x : T) → In x ys → P x) → (x : T) → In x (xs ++ ys) → P x
+each_of_both P xs ys f g x i = elim (in_either xs ys i) [ inl j ↦ f x j | inr j ↦ g x j ]
+
+pub in_map : {A B : Type 0} (f : A → B) {a : A} {xs : List A} → In a xs → In (f a) (map f xs)
+in_map f in_first = in_first
+in_map f (in_rest i) = in_rest (in_map f i)
+
+pub of_map : {A B : Type 0} (f : A → B) (xs : List A) {b : B} → In b (map f xs) → (a : A) × In a xs × (b ≡ f a)
+of_map f [] i = absurd (no_in i)
+of_map f (x ∷ xs) i = elim (in_or i) [
+  | inl e ↦ (x, in_first, e)
+  | inr j ↦ let o = of_map f xs j in (o.0, in_rest o.1, o.2)
+]

@@ -1,8 +1,8 @@
 -- Rules and systems. (Baader and Nipkow, definition 4.2.1.)
-use Rattle.std.specs.Prelude.{◌≡◌, ℕ, List, Some, IsTrue, slice_get, refl}
+use Rattle.std.specs.Prelude.{◌≡◌, ℕ, List, [], ◌∷◌, Bool, false, ◌||◌, ◌==◌, Some, IsTrue, slice_get, refl}
 use Rattle.std.specs.Coded.{Coded, code_by, coded×, coded_list, coded_ℕ}
 use Rattle.trs_defs.specs.Member.{In}
-use Rattle.trs_defs.specs.Tree.{Tree, tree_code}
+use Rattle.trs_defs.specs.Tree.{Tree, Trees, var, app, tree_code}
 use Rattle.trs_defs.specs.Variable.{has_var, IsVariable}
 use Rattle.trs_defs.specs.WellFormed.{IsWellFormed}
 
@@ -33,6 +33,19 @@ Among rules l r = In (record { left = l; right = r }) rules
 -- l -> r is rule number k, counted from 0
 abbrev pub Numbered : List RewriteRule → ℕ → Tree → Tree → Type 0
 Numbered rules k l r = slice_get rules k ≡ Some (record { left = l; right = r })
+
+-- g is the root of a left side
+abbrev pub IsDefined : (Tree → Tree → Type 0) → ℕ → Type 0
+IsDefined rule g = (ls : Trees) × (r : Tree) × rule (app g ls) r
+
+abbrev pub has_root : ℕ → Tree → Bool
+has_root g (var x) = false
+has_root g (app f ts) = f == g
+
+-- whether g is the root of a left side
+abbrev pub is_defined : List RewriteRule → ℕ → Bool
+is_defined [] g = false
+is_defined (rule ∷ rules) g = has_root g rule.left || is_defined rules g
 
 -- a rule is stored as the pair of its sides
 abbrev pub rule_code : Coded RewriteRule

@@ -4,14 +4,14 @@ use Rattle.trs_defs.specs.Member.{In, in_first, in_rest}
 use Rattle.trs_defs.specs.Tree.{Trees, var, app, nil, cons}
 use Rattle.trs_defs.specs.System.{RewriteRule}
 use Rattle.trs_defs.specs.Claims.{IsTerminating}
-use Rattle.trs_defs.specs.Subterm.{Subs, in_head, in_tail}
-use Rattle.trs_defs.specs.Marked.{mark}
-use Rattle.trs_defs.specs.DependencyPair.{dependency_pairs}
-use Rattle.trs_defs.specs.LinearInterpretation.{CoefficientWeak, CoefficientStrict}
-use Rattle.trs_defs.specs.UsableRules.{HasUsable, root_in, choices}
+use Rattle.pair_theory.specs.Subterm.{Subs, in_head, in_tail}
+use Rattle.pair_theory.specs.Marked.{mark}
+use Rattle.pair_theory.specs.DependencyPair.{dependency_pairs}
+use Rattle.order_theory.specs.LinearInterpretation.{CoefficientWeak, CoefficientStrict}
+use Rattle.usable_theory.specs.UsableRules.{HasUsable, root_in, choices}
 use Rattle.pair_theory.proofs.PairList.{listed_are_pairs}
 use Rattle.pair_theory.proofs.Problems.{listed_theorem}
-use Rattle.order_theory.proofs.Examples.{addition, is_system, two_rules, only_pair, no_pairs}
+use Rattle.pair_theory.proofs.Addition.{addition, is_system, two_rules, only_pair, no_pairs}
 use Rattle.usable_theory.proofs.UsableProblems.{usable_by_interpretation}
 
 abbrev none_usable : ℕ → Bool
@@ -47,4 +47,4 @@ addition_terminates = listed_theorem addition is_system
     choices_fall
     (only_pair (λ p. (In p [] × CoefficientWeak coefficients_of (mark p.from) (mark p.to)) ⊎ CoefficientStrict coefficients_of (mark p.from) (mark p.to))
     (inr (omega arith, λ x. omega arith)))
-    no_pairs)
+    (no_pairs addition))

@@ -3,24 +3,27 @@ use Rattle.std.proofs.Common.{◌≡◌, ℕ, zero, suc, ◌+◌, ◌≤◌, ref
 use mathlib.Core.Path.{fun_ext}
 use Rattle.trs_defs.specs.Tree.{Tree, var, app, Trees, nil, cons}
 use Rattle.trs_defs.specs.Substitution.{apply, apply_all}
-use Rattle.trs_defs.specs.Accessible.{Acc, acc}
+use Rattle.pair_theory.specs.Accessible.{Acc, acc}
 use Rattle.trs_defs.specs.Step.{StepBy, here, deep, first, later}
-use Rattle.trs_defs.specs.Terminates.{ArgumentStep, Terminates}
+use Rattle.pair_theory.specs.Terminates.{ArgumentStep, Terminates}
 use Rattle.trs_defs.specs.System.{RewriteRule, Among}
 use Rattle.trs_defs.specs.Member.{In, in_first, in_rest}
-use Rattle.trs_defs.specs.Subterm.{proper, Sub, itself, under, Subs, in_head, in_tail}
+use Rattle.pair_theory.specs.Subterm.{proper, Sub, itself, under, Subs, in_head, in_tail}
 use Rattle.trs_defs.specs.Every.{Every, every_nil, every_cons}
 use Rattle.trs_defs.specs.Run.{Run, Stay, Go}
-use Rattle.trs_defs.specs.Marked.{Marked, plain, mark}
-use Rattle.trs_defs.specs.Chain.{ChainStep, link}
-use Rattle.trs_defs.specs.Moves.{Moves, no_moves, weakly, strictly}
-use Rattle.pair_theory.proofs.Accessibility.{down, run_on, run_map}
+use Rattle.pair_theory.specs.Marked.{Marked, plain, mark}
+use Rattle.pair_theory.specs.Chain.{ChainStep, link}
+use Rattle.pair_theory.specs.Moves.{Moves, no_moves, weakly, strictly}
+use Rattle.trs_defs.proofs.EqualTerms.{join_cons}
+use Rattle.trs_defs.proofs.Runs.{then}
+use Rattle.trs_defs.proofs.StepLaws.{run_in_app, run_in_cons}
+use Rattle.pair_theory.proofs.Accessibility.{down}
 use Rattle.pair_theory.proofs.Matching.{occurs}
-use Rattle.pair_theory.proofs.Terms.{join_cons}
-use Rattle.pair_theory.proofs.Bounds.{NoNewVariables}
-use Rattle.pair_theory.proofs.Finiteness.{reducts}
+use Rattle.pair_theory.proofs.Reducts.{NoNewVariables, reducts}
+use Rattle.pair_theory.proofs.Chains.{chain_map}
 use Rattle.pair_theory.proofs.Removal.{removal_by}
-use Rattle.pair_theory.proofs.SubtermCriterion.{Down, down_acc, sub_apply, subs_apply}
+use Rattle.pair_theory.proofs.Subterms.{sub_apply, subs_apply}
+use Rattle.pair_theory.proofs.SubtermCriterion.{Down, down_acc}
 
 -- two proofs that an element is accessible are equal
 pub acc_prop : {A : Type 0} {r : A → A → Type 0} {x : A} (a b : Acc r x) → a ≡ b
@@ -52,7 +55,7 @@ unfolding pick
 pick_yes (yes a) x y z p k = k a
 pick_yes (no n) x y z p k = absurd (n p)
 
-bool_case : {P : Type 0} (b : Bool) → (b ≡ true → P) → (b ≡ false → P) → P
+pub bool_case : {P : Type 0} (b : Bool) → (b ≡ true → P) → (b ≡ false → P) → P
 bool_case true f g = f refl
 bool_case false f g = g refl
 
@@ -129,22 +132,16 @@ module _ (c : ℕ) (hidden : ℕ → Bool) (rs : List RewriteRule) (fine : (p : 
     top_goes true f is js = listed_last (app f is) js
     top_goes false f is js = Stay
 
-    args_go : (f : ℕ) {us vs : Trees} → Run (ArgumentStep (Among ws)) us vs → Goes (app f us) (app f vs)
-    args_go f p = run_map (app f) (λ x y s. deep s) p
-
-    cons_go : {s t : Tree} {ss ts : Trees} → Goes s t → Run (ArgumentStep (Among ws)) ss ts → Run (ArgumentStep (Among ws)) (cons s ss) (cons t ts)
-    cons_go {t = t} {ss = ss} p ps = run_on (run_map (λ x. cons x ss) (λ x y s. first s) p) (run_map (cons t) (λ x y s. later s) ps)
-
     module _ (σ vs : ℕ → Tree) where
       mutual
         goes_interpretation : (t : Tree) → ((x : ℕ) → Sub (var x) t → Agrees σ vs x) → (a : Acc To (apply σ t)) → Goes (interpretation (apply σ t) a) (apply vs t)
         goes_interpretation (var x) k a = subst (Goes (interpretation (σ x) a)) (k x itself a) Stay
-        goes_interpretation (app f ts) k (acc h) = run_on (top_goes (hidden f) f _ _) (args_go f (goes_each ts (λ x p. k x (under p)) (λ u m. h u (inr (proper m)))))
+        goes_interpretation (app f ts) k (acc h) = then (top_goes (hidden f) f _ _) (run_in_app f (goes_each ts (λ x p. k x (under p)) (λ u m. h u (inr (proper m)))))
 
         goes_each : (ts : Trees) → ((x : ℕ) → Subs (var x) ts → Agrees σ vs x) → (k : (u : Tree) → Subs u (apply_all σ ts) → Acc To u)
             → Run (ArgumentStep (Among ws)) (map_args (apply_all σ ts) (λ u m. interpretation u (k u m))) (apply_all vs ts)
         goes_each nil k h = Stay
-        goes_each (cons t ts) k h = cons_go (goes_interpretation t (λ x p. k x (in_head p)) (h _ (in_head itself)))
+        goes_each (cons t ts) k h = run_in_cons (goes_interpretation t (λ x p. k x (in_head p)) (h _ (in_head itself)))
             (goes_each ts (λ x p. k x (in_tail p)) (λ u m. h u (in_tail m)))
 
     same_each : (ts : Trees) (k k' : (u : Tree) → Subs u ts → Acc To u) → map_args ts (λ u m. interpretation u (k u m)) ≡ map_args ts (λ u m. interpretation u (k' u m))
@@ -182,7 +179,7 @@ module _ (c : ℕ) (hidden : ℕ → Bool) (rs : List RewriteRule) (fine : (p : 
           (λ e. let u : Among ws (app f ls) r × Free r = usable f ls r i e in
           let at_var : (x : ℕ) → Sub (var x) (app f ls) → Acc To (σ x) = λ x p. sub_acc (sub_apply σ p) a in
           let vs : ℕ → Tree = chosen_at σ (app f ls) at_var in
-          run_on (goes_interpretation σ vs (app f ls) (agrees σ (app f ls) at_var) a)
+          then (goes_interpretation σ vs (app f ls) (agrees σ (app f ls) at_var) a)
           (Go (here (app f ls, r, vs, u.0, refl, refl))
           (subst (Goes (apply vs r)) (sym (free_interpretation σ vs r u.1 (λ x p. agrees σ (app f ls) at_var x (fine _ i x p)) b)) Stay)))
 
@@ -195,7 +192,7 @@ module _ (c : ℕ) (hidden : ℕ → Bool) (rs : List RewriteRule) (fine : (p : 
       inner_goes : (f : ℕ) (ss ts : Trees) → hidden f ≡ false → (h : (u : Tree) → To (app f ss) u → Acc To u) (h' : (u : Tree) → To (app f ts) u → Acc To u)
           → Run (ArgumentStep (Among ws)) (map_args ss (λ u m. interpretation u (h u (inr (proper m))))) (map_args ts (λ u m. interpretation u (h' u (inr (proper m)))))
           → Goes (interpretation (app f ss) (acc h)) (interpretation (app f ts) (acc h'))
-      inner_goes f ss ts e h h' st = rw e (args_go f st)
+      inner_goes f ss ts e h h' st = rw e (run_in_app f st)
 
       mutual
         step_interpretation : {s t : Tree} → StepBy (Among rs) s t → (a : Acc To s) (b : Acc To t) → Goes (interpretation s a) (interpretation t b)
@@ -208,9 +205,9 @@ module _ (c : ℕ) (hidden : ℕ → Bool) (rs : List RewriteRule) (fine : (p : 
 
         steps_interpretation : {ss ts : Trees} → ArgumentStep (Among rs) ss ts → (k : (u : Tree) → Subs u ss → Acc To u) (k' : (u : Tree) → Subs u ts → Acc To u)
             → Run (ArgumentStep (Among ws)) (map_args ss (λ u m. interpretation u (k u m))) (map_args ts (λ u m. interpretation u (k' u m)))
-        steps_interpretation (first {ts = ts} s) k k' = cons_go (step_interpretation s (k _ (in_head itself)) (k' _ (in_head itself)))
+        steps_interpretation (first {ts = ts} s) k k' = run_in_cons (step_interpretation s (k _ (in_head itself)) (k' _ (in_head itself)))
             (same_run (same_each ts (λ u m. k u (in_tail m)) (λ u m. k' u (in_tail m))))
-        steps_interpretation (later {t = s} st) k k' = cons_go (same_goes (same_interpretation s (k _ (in_head itself)) (k' _ (in_head itself))))
+        steps_interpretation (later {t = s} st) k k' = run_in_cons (same_goes (same_interpretation s (k _ (in_head itself)) (k' _ (in_head itself))))
             (steps_interpretation st (λ u m. k u (in_tail m)) (λ u m. k' u (in_tail m)))
 
       step_keys : {ss ts : Trees} → ArgumentStep (Among rs) ss ts → ((u : Tree) → Subs u ss → Acc To u) → (u : Tree) → Subs u ts → Acc To u
@@ -226,7 +223,7 @@ module _ (c : ℕ) (hidden : ℕ → Bool) (rs : List RewriteRule) (fine : (p : 
       run_interpretation : {ss ts : Trees} → Run (ArgumentStep (Among rs)) ss ts → (k : (u : Tree) → Subs u ss → Acc To u) (k' : (u : Tree) → Subs u ts → Acc To u)
           → Run (ArgumentStep (Among ws)) (map_args ss (λ u m. interpretation u (k u m))) (map_args ts (λ u m. interpretation u (k' u m)))
       run_interpretation {ss} Stay k k' = same_run (same_each ss k k')
-      run_interpretation (Go s p) k k' = run_on (steps_interpretation s k (step_keys s k)) (run_interpretation p (step_keys s k) k')
+      run_interpretation (Go s p) k k' = then (steps_interpretation s k (step_keys s k)) (run_interpretation p (step_keys s k) k')
 
       -- the interpretation of a marked term
       abbrev marked_interpretation : (u : Marked) → ((t : Tree) → Subs t u.args → Acc To t) → Tree
@@ -247,7 +244,7 @@ module _ (c : ℕ) (hidden : ℕ → Bool) (rs : List RewriteRule) (fine : (p : 
           vs,
           h,
           subst (λ n. Goes (app (n + 4096) (map_args u.args (λ t m. interpretation t (ku t m)))) (apply vs (mark l))) (sym e)
-              (args_go (l.symbol + 4096) (run_on (run_interpretation reach ku k2) (goes_each σ vs l.args agree k2))),
+              (run_in_app (l.symbol + 4096) (then (run_interpretation reach ku k2) (goes_each σ vs l.args agree k2))),
           subst (λ v. (kv : (t : Tree) → Subs t v.args → Acc To t) → apply vs (mark r) ≡ marked_interpretation v kv) (sym to)
               (λ kv. ap (app (r.symbol + 4096)) (sym (free_each σ vs r.args (free l r h) (λ x p. agree x (vars l r h x p)) kv))) kv,
         )
@@ -273,9 +270,6 @@ module _ (c : ℕ) (hidden : ℕ → Bool) (rs : List RewriteRule) (fine : (p : 
           (small : (u : Marked) → Ok u → Every (Terminates (Among rs)) u.args)
           (rest : (u : Marked) → Ok u → Acc (ChainStep (Among rs) stay) u)
           (bounds : (t : Tree) → (n : ℕ) × ((m : ℕ) (u : Tree) → Moves ws ss m t u → m ≤ n)) where
-        widen : {u v : Marked} → ChainStep (Among rs) gone u v → ChainStep (Among rs) (λ l r. stay l r ⊎ gone l r) u v
-        widen (link l r σ h e reach to sm) = link l r σ (inr h) e reach to sm
-
         each_k : {us : Trees} → Every (Terminates (Among rs)) us → (t : Tree) → Subs t us → Acc To t
         each_k every_nil t p = elim p [ ]
         each_k (every_cons h hs) t (in_head p) = sub_acc p (down_acc (Among rs) h)
@@ -306,5 +300,5 @@ module _ (c : ℕ) (hidden : ℕ → Bool) (rs : List RewriteRule) (fine : (p : 
             removal_by (Among rs) stay gone Ok keeps rest Bound
             (λ n u v ok c' bound kv m t ms. bound (ok_k u ok) m t (stay_moves c' (ok_k u ok) kv ms))
             (λ n u v ok c' bound kv m t ms. let h : suc m ≤ suc n = bound (ok_k u ok) (suc m) t (gone_moves c' (ok_k u ok) kv ms) in omega arith)
-            (λ u v ok c' bound. let h : 1 ≤ 0 = bound (ok_k u ok) 1 _ (gone_moves c' (ok_k u ok) (ok_k v (keeps u v ok (widen c'))) no_moves) in omega arith)
+            (λ u v ok c' bound. let h : 1 ≤ 0 = bound (ok_k u ok) 1 _ (gone_moves c' (ok_k u ok) (ok_k v (keeps u v ok (chain_map (λ l r h. inr h) c'))) no_moves) in omega arith)
             b.0 u ok (λ k m t ms. b.1 m t (moves_k u k (ok_k u ok) m t ms))

@@ -2,27 +2,23 @@
 use Rattle.std.proofs.Common.{◌≡◌, ℕ, refl, sym, ◌∙◌, ◌⊎◌, inl, inr, List, ◌++◌, Bool, true, false, IsTrue, cond, ◌↔◌}
 use Rattle.trs_defs.specs.Tree.{Tree, Trees, var, app, nil, cons}
 use Rattle.trs_defs.specs.Member.{In, in_first, in_rest}
-use Rattle.trs_defs.specs.System.{RewriteRule, System, IsSystem, Among}
-use Rattle.trs_defs.specs.Subterm.{Sub, itself, under, Subs, in_head, in_tail}
-use Rattle.trs_defs.specs.Marked.{Marked, mark}
-use Rattle.trs_defs.specs.DependencyPair.{DependencyPair, IsDefined, is_defined}
-use Rattle.trs_defs.specs.Moves.{IsOrdered, IsWellFounded}
-use Rattle.trs_defs.specs.ReductionPair.{AllTerms}
-use Rattle.trs_defs.specs.PairProblem.{PairAmong, IsFiniteProblem, IsPair}
-use Rattle.trs_defs.specs.UsableRules.{IsUsable, in_pair, in_rule, HasUsable, root_in, choices}
-use Rattle.trs_defs.specs.LinearInterpretation.{LinearWeak, LinearStrict, CoefficientWeak, CoefficientStrict}
+use Rattle.trs_defs.specs.System.{RewriteRule, System, IsSystem, Among, IsDefined, is_defined}
+use Rattle.pair_theory.specs.Subterm.{Sub, itself, under, Subs, in_head, in_tail}
+use Rattle.pair_theory.specs.Marked.{Marked, mark}
+use Rattle.pair_theory.specs.DependencyPair.{DependencyPair}
+use Rattle.pair_theory.specs.Moves.{IsOrdered, IsWellFounded}
+use Rattle.pair_theory.specs.ReductionPair.{AllTerms, marked_rule}
+use Rattle.pair_theory.specs.PairProblem.{PairAmong, IsFiniteProblem, IsPair}
+use Rattle.usable_theory.specs.UsableRules.{IsUsable, in_pair, in_rule, HasUsable, root_in, choices}
+use Rattle.order_theory.specs.LinearInterpretation.{LinearWeak, LinearStrict, CoefficientWeak, CoefficientStrict}
 use Rattle.order_theory.proofs.Linear.{linear_well_founded}
-use Rattle.order_theory.proofs.Coefficients.{weak_by_coefficients, strict_by_coefficients}
-use Rattle.trs_defs.proofs.Members.{in_left, in_right, in_either}
-use Rattle.pair_theory.proofs.Terms.{below_root, subs_of_has, has_of_subs}
+use Rattle.order_theory.proofs.Coefficients.{weak_by_coefficients}
+use Rattle.order_theory.proofs.Removals.{linear_classed}
+use Rattle.trs_defs.proofs.Members.{in_left, in_right, in_either, in_map}
 use Rattle.pair_theory.proofs.PairList.{defined_true, true_defined}
 use Rattle.pair_theory.proofs.Systems.{left_rooted, no_new_variables}
-use Rattle.pair_theory.proofs.Problems.{Ready, chain_ready, fewer, Parted, parted, mark_rules, marked_in, each_mark}
-use Rattle.usable_theory.proofs.Usable.{Free, FreeEach, usable_removal}
-
-bool_cases : {P : Type 0} (b : Bool) → (b ≡ true → P) → (b ≡ false → P) → P
-bool_cases true f g = f refl
-bool_cases false f g = g refl
+use Rattle.pair_theory.proofs.Problems.{Classed, Ready, chain_ready, fewer, Parted, parted, mark_rules, each_mark, pair_variables, pair_ordered}
+use Rattle.usable_theory.proofs.Usable.{bool_case, Free, FreeEach, usable_removal}
 
 abbrev outside : Bool → Bool → Bool
 outside true b = cond b false true
@@ -58,7 +54,7 @@ module _ (system : System) (ok : IsSystem system) (pairs stays : List Dependency
     (has : HasUsable system.rules pairs usable) (weak strict : Tree → Tree → Type 0) (well_founded : IsWellFounded weak strict AllTerms)
     (falls : (p : RewriteRule) → In p system.rules → IsTrue (root_in usable p.left) → weak p.left p.right)
     (chooses : (p : RewriteRule) → In p choices → weak p.left p.right)
-    (class : (p : DependencyPair) → In p pairs → (In p stays × weak (mark p.from) (mark p.to)) ⊎ strict (mark p.from) (mark p.to)) where
+    (class : Classed weak strict pairs stays) where
   abbrev Rule : Tree → Tree → Type 0
   Rule = Among system.rules
 
@@ -70,7 +66,7 @@ module _ (system : System) (ok : IsSystem system) (pairs stays : List Dependency
   fine p i = no_new_variables system ok p.left p.right i
 
   shown : (g : ℕ) → (IsDefined Rule g → IsTrue (usable g)) → hidden g ≡ false
-  shown g k = bool_cases (is_defined system.rules g)
+  shown g k = bool_case (is_defined system.rules g)
       (λ e. outside_of_use (is_defined system.rules g) (usable g) (k (true_defined system.rules g e)))
       (λ e. outside_undefined (is_defined system.rules g) (usable g) e)
 
@@ -87,13 +83,13 @@ module _ (system : System) (ok : IsSystem system) (pairs stays : List Dependency
   free_pair l r i = free_of_all r.args (λ g us p. shown g (λ d. has.of_pairs (record { from = l; to = r }) g us i p d))
 
   vars_pair : (l r : Marked) → PairAmong pairs l r → (x : ℕ) → Subs (var x) r.args → Subs (var x) l.args
-  vars_pair l r i x p = subs_of_has x l.args ((good (record { from = l; to = r }) i).variables x (has_of_subs x r.args p))
+  vars_pair l r i = pair_variables system.arities (record { from = l; to = r }) (good (record { from = l; to = r }) i)
 
   abbrev Used : RewriteRule → Type 0
   Used p = IsTrue (root_in usable p.left)
 
   used_or_not : (p : RewriteRule) → In p system.rules → Used p ⊎ (root_in usable p.left ≡ false)
-  used_or_not p i = bool_cases (root_in usable p.left) (λ e. inl e) (λ e. inr e)
+  used_or_not p i = bool_case (root_in usable p.left) (λ e. inl e) (λ e. inr e)
 
   rules_parted : Parted RewriteRule Used (λ p. root_in usable p.left ≡ false) system.rules
   rules_parted = parted Used (λ p. root_in usable p.left ≡ false) system.rules used_or_not
@@ -130,15 +126,14 @@ module _ (system : System) (ok : IsSystem system) (pairs stays : List Dependency
 
   stay_among : (l r : Marked) → PairAmong pairs_parted.ones l r → Among weaks (mark l) (mark r)
   unfolding weaks
-  stay_among l r i = in_right choices (in_right rules_parted.ones (marked_in pairs_parted.ones i))
+  stay_among l r i = in_right choices (in_right rules_parted.ones (in_map marked_rule i))
 
   goes_among : (l r : Marked) → PairAmong pairs_parted.others l r → Among stricts (mark l) (mark r)
   unfolding stricts
-  goes_among l r i = marked_in pairs_parted.others i
+  goes_among l r i = in_map marked_rule i
 
-  pair_ordered : (order : Tree → Tree → Type 0) (p : DependencyPair) → In p pairs → order (mark p.from) (mark p.to)
-      → IsOrdered AllTerms order (record { left = mark p.from; right = mark p.to })
-  pair_ordered order p i h = record { left_spoken = tt; right_spoken = tt; ordered = h; variables = λ x q. under (vars_pair p.from p.to i x (below_root q)) }
+  ordered_pair : (order : Tree → Tree → Type 0) (p : DependencyPair) → In p pairs → order (mark p.from) (mark p.to) → IsOrdered AllTerms order (marked_rule p)
+  ordered_pair order p i h = pair_ordered system.arities AllTerms order p (good p i) tt tt h
 
   choice_vars : (p : RewriteRule) → In p choices → (x : ℕ) → Sub (var x) p.right → Sub (var x) p.left
   choice_vars p in_first x q = under (in_head q)
@@ -153,14 +148,14 @@ module _ (system : System) (ok : IsSystem system) (pairs stays : List Dependency
       | inl k ↦ let h : In p system.rules × Used p = rules_parted.each_one p k in
           record { left_spoken = tt; right_spoken = tt; ordered = falls p h.0 h.1; variables = fine p h.0 }
       | inr k ↦ each_mark (IsOrdered AllTerms weak) pairs_parted.ones
-          (λ q m. let h : In q pairs × StaysWeak q = pairs_parted.each_one q m in pair_ordered weak q h.0 h.1.1) p k
+          (λ q m. let h : In q pairs × StaysWeak q = pairs_parted.each_one q m in ordered_pair weak q h.0 h.1.1) p k
     ]
   ]
 
   strict_ordered : (p : RewriteRule) → In p stricts → IsOrdered AllTerms strict p
   unfolding stricts
   strict_ordered p i = each_mark (IsOrdered AllTerms strict) pairs_parted.others
-      (λ q m. let h : In q pairs × GoesStrict q = pairs_parted.each_other q m in pair_ordered strict q h.0 h.1) p i
+      (λ q m. let h : In q pairs × GoesStrict q = pairs_parted.each_other q m in ordered_pair strict q h.0 h.1) p i
 
   abbrev Either : Marked → Marked → Type 0
   Either l r = PairAmong pairs_parted.ones l r ⊎ PairAmong pairs_parted.others l r
@@ -195,12 +190,9 @@ pub usable_by_interpretation : (system : System) (pairs stays : List DependencyP
     → ((p : DependencyPair) → In p pairs → IsPair system.arities p) → HasUsable system.rules pairs usable
     → ((r : RewriteRule) → In r system.rules → IsTrue (root_in usable r.left) → CoefficientWeak c r.left r.right)
     → ((r : RewriteRule) → In r choices → CoefficientWeak c r.left r.right)
-    → ((p : DependencyPair) → In p pairs → (In p stays × CoefficientWeak c (mark p.from) (mark p.to)) ⊎ CoefficientStrict c (mark p.from) (mark p.to))
+    → Classed (CoefficientWeak c) (CoefficientStrict c) pairs stays
     → IsFiniteProblem system stays → IsFiniteProblem system pairs
 usable_by_interpretation system pairs stays usable c ok good has falls chooses class =
     usable_theorem system ok pairs stays good usable has (LinearWeak c) (LinearStrict c) (linear_well_founded c)
     (λ r i u. weak_by_coefficients c r.left r.right (falls r i u)) (λ r i. weak_by_coefficients c r.left r.right (chooses r i))
-    (λ p i. elim (class p i) [
-      | inl h ↦ inl (h.0, weak_by_coefficients c (mark p.from) (mark p.to) h.1)
-      | inr h ↦ inr (strict_by_coefficients c (mark p.from) (mark p.to) h)
-    ])
+    (linear_classed c pairs stays class)

@@ -5,11 +5,11 @@ ghost use Rattle.std.specs.Prelude.{ℕ, List, Bool, ◌⊎◌, ◌↔◌, IsTru
 ghost use Rattle.trs_defs.specs.Member.{In};
 ghost use Rattle.trs_defs.specs.Tree.{Tree};
 ghost use Rattle.trs_defs.specs.System.{RewriteRule, System, IsSystem};
-ghost use Rattle.trs_defs.specs.Marked.{mark};
-ghost use Rattle.trs_defs.specs.DependencyPair.{DependencyPair};
-ghost use Rattle.trs_defs.specs.PairProblem.{IsFiniteProblem, IsPair};
-ghost use Rattle.trs_defs.specs.LinearInterpretation.{CoefficientWeak, CoefficientStrict};
-ghost use Rattle.trs_defs.specs.UsableRules.{IsUsable, HasUsable, root_in, choices};
+ghost use Rattle.pair_theory.specs.Marked.{mark};
+ghost use Rattle.pair_theory.specs.DependencyPair.{DependencyPair};
+ghost use Rattle.pair_theory.specs.PairProblem.{IsFiniteProblem, IsPair};
+ghost use Rattle.order_theory.specs.LinearInterpretation.{CoefficientWeak, CoefficientStrict};
+ghost use Rattle.usable_theory.specs.UsableRules.{IsUsable, HasUsable, root_in, choices};
 
 use pair_theory::ReductionOrder;
 

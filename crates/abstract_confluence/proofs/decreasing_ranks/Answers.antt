@@ -1,4 +1,4 @@
-use Rattle.trs_defs.specs.Ranks.{AnyRank}
+use Rattle.abstract_confluence.specs.Ranks.{AnyRank}
 use Rattle.abstract_confluence.proofs.Joins.{confluent_of}
 use Rattle.abstract_confluence.proofs.Decreasing.{decreasing_confluent}
 use Rattle.abstract_confluence.proofs.decreasing_ranks.Goals as goal

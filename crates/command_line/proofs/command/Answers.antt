@@ -1,6 +1,5 @@
-use Rattle.std.proofs.Common.{rules, ◌≡◌, ◌∙◌, ap, ap₂, refl, codes, true}
-use Rattle.clap.specs.Words.{app_of, rule_of, new_rule, with_rule, new_app}
-use Rattle.clap.specs.Simple.{app_of_fields}
+use Rattle.std.proofs.Common.{rules, ◌≡◌, ◌∙◌, ap₂, codes}
+use Rattle.clap.specs.Words.{app_of, rule_of, new_rule, with_rule}
 use Rattle.command_line.specs.Request.{command_app, plain_app, required_rule, option_rule}
 use Rattle.command_line.proofs.command.Goals as goal
 

@@ -1,6 +1,5 @@
-use Rattle.std.proofs.Common.{◌≡◌, ◌∙◌, refl, sym, ap, true, map, None, Some}
-use Rattle.clap.specs.Words.{App, app_of, found_of, rows_of, is_simple_and_free, is_simple, kind_of}
-use Rattle.command_line.specs.Request.{command_app}
+use Rattle.std.proofs.Common.{◌∙◌, ap, map}
+use Rattle.clap.specs.Words.{app_of, is_simple_and_free, is_simple, kind_of}
 use Rattle.command_line.proofs.Refusing.{simple, is_asked, is_refused, plain_simple}
 use Rattle.command_line.proofs.parse.Goals as goal
 

@@ -1,4 +1,4 @@
-use Rattle.std.proofs.Common.{◌∙◌, Ok, codes, refl, sym, ap}
+use Rattle.std.proofs.Common.{◌∙◌, ◌-◌, ◌^◌, Ok, codes, refl, sym, ap}
 use Rattle.cert_step.specs.ProofStep.{step_of}
 use Rattle.text_reading.specs.Reading.{keyword, done}
 use Rattle.text_reading.specs.Numbers.{number}
@@ -11,7 +11,7 @@ pub returns-in_default-as_slice : goal.returns-in_default-as_slice
 returns-in_default-as_slice c =
     let named = c.args.system.now in
     sym (ap (step named) (list_seen c.args.item.now c.in-List.members c.in-List.at c.as_slice.result.now _ c.in-List.is c.as_slice.ensures.value refl)
-    ∙ three_lack (keyword (codes "step")) (number 9223372036854775807) (method named) done c.in-List.at (Ok node_step) c.as_slice.result.now c.in_default-as_slice.len_below)
+    ∙ three_lack (keyword (codes "step")) (number (2 ^ 63 - 1)) (method named) done c.in-List.at (Ok node_step) c.as_slice.result.now c.in_default-as_slice.len_below)
 
 pub returns : goal.returns
 returns c =

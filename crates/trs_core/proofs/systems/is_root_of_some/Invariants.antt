@@ -1,5 +1,5 @@
 use Rattle.std.proofs.Common.{◌≡◌, drop}
-use Rattle.trs_defs.specs.DependencyPair.{is_defined}
+use Rattle.trs_defs.specs.System.{is_defined}
 use Rattle.trs_core.proofs.systems.is_root_of_some.Given as goal
 
 abbrev pub invariant-loop-rule : goal.invariant-loop-rule

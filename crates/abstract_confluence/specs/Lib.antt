@@ -1,0 +1,4 @@
+pub mod Confluence
+pub mod Ranks
+pub mod LabelledPath
+pub mod RanksFit

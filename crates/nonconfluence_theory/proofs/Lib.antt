@@ -1,0 +1,5 @@
+pub mod NormalForms
+pub mod CapsApart
+pub mod CapClash
+mod Examples
+mod CapExample

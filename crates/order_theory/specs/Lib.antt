@@ -1,0 +1,5 @@
+pub mod PathOrder
+pub mod PathTest
+pub mod ArgumentFilter
+pub mod LinearInterpretation
+pub mod KnuthBendix

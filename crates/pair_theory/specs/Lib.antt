@@ -1,0 +1,14 @@
+pub mod Accessible
+pub mod Subterm
+pub mod Over
+pub mod Terminates
+pub mod Marked
+pub mod DependencyPair
+pub mod Chain
+pub mod PairProblem
+pub mod ItemOr
+pub mod SubtermCriterion
+pub mod PairGraph
+pub mod Erased
+pub mod Moves
+pub mod ReductionPair

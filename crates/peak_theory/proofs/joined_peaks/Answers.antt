@@ -1,5 +1,0 @@
-use Rattle.peak_theory.proofs.Claims.{joined}
-use Rattle.peak_theory.proofs.joined_peaks.Goals as goal
-
-pub returns : goal.returns
-returns c = record { confluent = joined }

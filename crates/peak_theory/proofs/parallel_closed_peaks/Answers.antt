@@ -1,5 +1,0 @@
-use Rattle.peak_theory.proofs.Claims.{parallel_closed}
-use Rattle.peak_theory.proofs.parallel_closed_peaks.Goals as goal
-
-pub returns : goal.returns
-returns c = record { confluent = parallel_closed }

@@ -1,5 +1,0 @@
-use Rattle.peak_theory.proofs.Claims.{strongly_closed}
-use Rattle.peak_theory.proofs.strongly_closed_peaks.Goals as goal
-
-pub returns : goal.returns
-returns c = record { confluent = strongly_closed }
