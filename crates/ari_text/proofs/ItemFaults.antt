@@ -1,19 +1,24 @@
 -- No fault of items is one of the text.
-use Rattle.std.proofs.Common.{◌≡◌, ℕ, zero, suc, ◌+◌, ◌==◌, ◌||◌, Bool, true, false, cond, List, [], ◌∷◌, ◌++◌, Option, Some, None, inl, inr, sym, subst}
-use Rattle.std.specs.List.{list_any}
+use Rattle.std.proofs.Common.{◌≡◌, ℕ, zero, suc, ◌+◌, ◌==◌, ◌||◌, Bool, true, false, cond, List, [], ◌∷◌, ◌++◌, Option, Some, None, Ok, Err, inl, inr, sym, subst}
 use Rattle.std.specs.Option.{option_or}
 use Rattle.std.specs.Prelude.{codes}
 use Rattle.std.specs.Str.{bytes_eq}
 use Rattle.sexp_core.specs.Items.{Item, a_word, a_list, Items, no_items, item}
 use Rattle.numerals.specs.Numerals.{digits_value}
+use Rattle.text_reading.specs.Reading.{place_of}
+use Rattle.names_text.specs.declared.table.Symbol.{Symbol}
+use Rattle.names_text.specs.Symbols.{Declared, symbol_named}
+use Rattle.term_text.specs.declared.fault.TermFault.{TermFault}
+use Rattle.term_text.specs.declared.fault.TermFault.TheVariants.{EmptyList, ListAsHead, Undeclared, ArgumentLacks, ArgumentExtra, LoneSymbol, NewVariable}
+use Rattle.term_text.specs.Checked as checked
+use Rattle.term_text.specs.Checked.{Faults, a_fault, Checked}
+use Rattle.term_text.specs.Limits.{nodes_of}
 use Rattle.ari_text.specs.declared.fault.AriFault.{AriFault}
 use Rattle.ari_text.specs.declared.fault.AriFault.TheVariants as fault
-use Rattle.names_text.specs.Symbols.{Declared, arity_of, names_of}
 use Rattle.ari_text.specs.Entries.{Saying, declares, rewrites, attributed, says_nothing, entry_of}
-use Rattle.text_reading.specs.Reading.{place_of}
-use Rattle.term_text.specs.Terms.{variables_after, nodes_of, count}
+use Rattle.ari_text.specs.Rules.{rules_of}
 use Rattle.ari_text.specs.Least.{noted, IsAmong}
-use Rattle.ari_text.specs.Faults.{Scope, left_side, right_side, variable_faults, word_faults, head_faults, depth_faults, term_faults, list_faults, args_faults, left_faults, lone_faults, sides_faults, rule_faults, twice_faults, arity_faults, declaration_faults, symbols_after, symbols_of, Room, whole_room, room_after, passes, count_faults, all_declaration_faults, all_rule_faults, faults_of}
+use Rattle.ari_text.specs.Faults.{ari_fault, ari_faults, faults_in, deep_faults, all_deep_faults, left_faults, lone_faults, side_faults, all_side_faults, twice_faults, arity_faults, declaration_faults, symbols_after, symbols_of, Room, whole_room, room_after, passes, count_faults, all_declaration_faults, faults_of}
 use Rattle.ari_text.specs.Problem.{is_trs, format_list_fault, format_fault, problem_fault}
 use Rattle.ari_text.proofs.Leasts.{is_among}
 
@@ -46,57 +51,50 @@ of_test : (b : Bool) (fs gs : List AriFault) → AreOfItems fs → AreOfItems gs
 of_test true fs gs h k = h
 of_test false fs gs h k = k
 
-of_depth : (depth at : ℕ) → AreOfItems (depth_faults depth at)
-of_depth depth at = of_test (depth == 257) _ _ (tt, tt) tt
+of_term_fault : (f : TermFault) → IsOfItems (ari_fault f)
+of_term_fault (EmptyList at) = tt
+of_term_fault (ListAsHead at head_at) = tt
+of_term_fault (Undeclared head_at) = tt
+of_term_fault (ArgumentLacks at) = tt
+of_term_fault (ArgumentExtra at extra_at) = tt
+of_term_fault (LoneSymbol at) = tt
+of_term_fault (NewVariable at) = tt
 
-of_variable : (scope : Scope) (name : List ℕ) (at : ℕ) → AreOfItems (variable_faults scope name at)
-of_variable left_side name at = tt
-of_variable (right_side variables) name at = of_test (list_any (bytes_eq name) variables) _ _ tt (tt, tt)
+of_faults : (ps : Faults) → AreOfItems (ari_faults ps)
+of_faults (a_fault f) = (of_term_fault f, tt)
+of_faults (checked.both ps qs) = both (ari_faults ps) _ (of_faults ps) (of_faults qs)
 
-of_word : (scope : Scope) (name : List ℕ) (at : ℕ) (arity : Option ℕ) → AreOfItems (word_faults scope name at arity)
-of_word scope name at None = of_variable scope name at
-of_word scope name at (Some zero) = tt
-of_word scope name at (Some (suc n)) = (tt, tt)
-
-of_head : (at head_at args : ℕ) (arity : Option ℕ) → AreOfItems (head_faults at head_at args arity)
-of_head at head_at args None = (tt, tt)
-of_head at head_at args (Some n) = of_test (args == n) _ _ tt (tt, tt)
+of_read : {A : Type 0} (r : Checked A) → AreOfItems (faults_in r)
+of_read (Ok x) = tt
+of_read (Err ps) = of_faults ps
 
 mutual
-  of_term : (symbols : List Declared) (scope : Scope) (depth : ℕ) (x : Item) → AreOfItems (term_faults symbols scope depth x)
-  of_term symbols scope depth (a_word name at) = both (depth_faults depth at) _ (of_depth depth at) (of_word scope name at (arity_of symbols name))
-  of_term symbols scope depth (a_list members at) = both (depth_faults depth at) _ (of_depth depth at) (of_list symbols scope depth at members)
+  of_deep : (n : ℕ) (x : Item) → AreOfItems (deep_faults n x)
+  of_deep zero x = (tt, tt)
+  of_deep (suc n) (a_word name at) = tt
+  of_deep (suc n) (a_list no_items at) = tt
+  of_deep (suc n) (a_list (item head args) at) = of_all_deep n args
 
-  of_list : (symbols : List Declared) (scope : Scope) (depth at : ℕ) (xs : Items) → AreOfItems (list_faults symbols scope depth at xs)
-  of_list symbols scope depth at no_items = (tt, tt)
-  of_list symbols scope depth at (item (a_list xs p) args) = (tt, tt)
-  of_list symbols scope depth at (item (a_word head p) args) =
-      both (head_faults at p (count args) (arity_of symbols head)) _ (of_head at p (count args) (arity_of symbols head)) (of_args symbols scope (suc depth) args)
+  of_all_deep : (n : ℕ) (xs : Items) → AreOfItems (all_deep_faults n xs)
+  of_all_deep n no_items = tt
+  of_all_deep n (item x xs) = both (deep_faults n x) _ (of_deep n x) (of_all_deep n xs)
 
-  of_args : (symbols : List Declared) (scope : Scope) (depth : ℕ) (xs : Items) → AreOfItems (args_faults symbols scope depth xs)
-  of_args symbols scope depth no_items = tt
-  of_args symbols scope depth (item x xs) = both (term_faults symbols scope depth x) _ (of_term symbols scope depth x) (of_args symbols scope depth xs)
-
-of_lone : (at : ℕ) (arity : Option ℕ) → AreOfItems (lone_faults at arity)
+of_lone : (at : ℕ) (symbol : Option Symbol) → AreOfItems (lone_faults at symbol)
 of_lone at None = (tt, tt)
-of_lone at (Some n) = tt
+of_lone at (Some s) = tt
 
 of_left : (symbols : List Declared) (left : Item) → AreOfItems (left_faults symbols left)
-of_left symbols (a_word name at) = of_lone at (arity_of symbols name)
+of_left symbols (a_word name at) = of_lone at (symbol_named symbols name)
 of_left symbols (a_list members at) = tt
 
-of_sides : (symbols : List Declared) (left right : Item) → AreOfItems (sides_faults symbols left right)
-of_sides symbols left right =
-    both (left_faults symbols left) _ (of_left symbols left) (both (term_faults symbols left_side 1 left) _ (of_term symbols left_side 1 left)
-    (of_term symbols (right_side (variables_after (names_of symbols) [] left)) 1 right))
+of_sides : (symbols : List Declared) (s : Saying) → AreOfItems (side_faults symbols s)
+of_sides symbols (declares name q arity r) = tt
+of_sides symbols (rewrites left right) =
+    both (left_faults symbols left) _ (of_left symbols left) (both (deep_faults 256 left) _ (of_deep 256 left) (of_deep 256 right))
+of_sides symbols (attributed s at) = of_sides symbols s
+of_sides symbols says_nothing = tt
 
-of_rule : (symbols : List Declared) (s : Saying) → AreOfItems (rule_faults symbols s)
-of_rule symbols (declares name q arity r) = tt
-of_rule symbols (rewrites left right) = of_sides symbols left right
-of_rule symbols (attributed s at) = of_rule symbols s
-of_rule symbols says_nothing = tt
-
-of_twice : (at : ℕ) (arity : Option ℕ) → AreOfItems (twice_faults at arity)
+of_twice : (at : ℕ) (symbol : Option Symbol) → AreOfItems (twice_faults at symbol)
 of_twice at None = tt
 of_twice at (Some n) = (tt, tt)
 
@@ -106,7 +104,7 @@ of_arity at (Some n) = tt
 
 of_declaration : (symbols : List Declared) (at : ℕ) (s : Saying) → AreOfItems (declaration_faults symbols at s)
 of_declaration symbols at (declares name q arity r) =
-    both (twice_faults q (arity_of symbols name)) _ (of_twice q (arity_of symbols name)) (of_arity r (digits_value 255 arity))
+    both (twice_faults q (symbol_named symbols name)) _ (of_twice q (symbol_named symbols name)) (of_arity r (digits_value 255 arity))
 of_declaration symbols at (rewrites left right) = tt
 of_declaration symbols at (attributed s q) = both (declaration_faults symbols at s) _ (of_declaration symbols at s) (tt, tt)
 of_declaration symbols at says_nothing = (tt, tt)
@@ -124,12 +122,14 @@ of_declarations symbols room (item x xs) =
     (both (count_faults room (place_of x) (entry_of x)) _ (of_count room (place_of x) (entry_of x)) (of_declaration symbols (place_of x) (entry_of x)))
     (of_declarations (symbols_after symbols (entry_of x)) (room_after room (entry_of x)) xs)
 
-of_rules : (symbols : List Declared) (xs : Items) → AreOfItems (all_rule_faults symbols xs)
-of_rules symbols no_items = tt
-of_rules symbols (item x xs) = both (rule_faults symbols (entry_of x)) _ (of_rule symbols (entry_of x)) (of_rules symbols xs)
+of_all_sides : (symbols : List Declared) (xs : Items) → AreOfItems (all_side_faults symbols xs)
+of_all_sides symbols no_items = tt
+of_all_sides symbols (item x xs) = both (side_faults symbols (entry_of x)) _ (of_sides symbols (entry_of x)) (of_all_sides symbols xs)
 
 of_all : (xs : Items) → AreOfItems (faults_of xs)
-of_all xs = both (all_declaration_faults [] whole_room xs) _ (of_declarations [] whole_room xs) (of_rules (symbols_of [] xs) xs)
+of_all xs =
+    both (all_declaration_faults [] whole_room xs) _ (of_declarations [] whole_room xs)
+    (both (all_side_faults (symbols_of [] xs) xs) _ (of_all_sides (symbols_of [] xs) xs) (of_read (rules_of (symbols_of [] xs) xs)))
 
 among : (f : AriFault) (fs : List AriFault) → IsAmong f fs → AreOfItems fs → IsOfItems f
 among f [] h k = absurd h

@@ -12,7 +12,8 @@ use Rattle.numerals.proofs.Limits.{digits_within}
 use Rattle.ari_text.specs.declared.fault.AriFault.{AriFault}
 use Rattle.ari_text.specs.declared.fault.AriFault.TheVariants.{TooMany, Attribute}
 use Rattle.names_text.specs.Names.{are_distinct}
-use Rattle.names_text.specs.Symbols.{Declared, names_of, arities_of, arity_of}
+use Rattle.names_text.specs.Symbols.{Declared, names_of, arities_of, symbol_named}
+use Rattle.names_text.specs.declared.table.Symbol.{Symbol}
 use Rattle.names_text.specs.Named.{is_word}
 use Rattle.ari_text.specs.Entries.{Saying, declares, rewrites, attributed, says_nothing, declaration, begins_with_colon, ended, three, list_entry, entry_of}
 use Rattle.text_reading.specs.Reading.{place_of}
@@ -107,7 +108,7 @@ small_push : (symbols : List Declared) (name : List ℕ) (n : ℕ) → AllByRecu
 small_push [] name n h le = (le, tt)
 small_push (s ∷ symbols) name n h le = (h.0, small_push symbols name n h.1 le)
 
-symbols_with : (symbols : List Declared) (name : List ℕ) (known arity : Option ℕ) → arity_of symbols name ≡ known → is_word name ≡ true → ((n : ℕ) → arity ≡ Some n → n ≤ 255)
+symbols_with : (symbols : List Declared) (name : List ℕ) (known : Option Symbol) (arity : Option ℕ) → symbol_named symbols name ≡ known → is_word name ≡ true → ((n : ℕ) → arity ≡ Some n → n ≤ 255)
     → AreSymbols symbols → AreSymbols (with_symbol symbols name known arity)
 symbols_with symbols name (Some k) arity e w small h = h
 symbols_with symbols name None None e w small h = h
@@ -119,7 +120,7 @@ symbols_with symbols name None (Some n) e w small h = record {
 
 symbols_and : (symbols : List Declared) (s : Saying) → SaysWord s → AreSymbols symbols → AreSymbols (symbols_after symbols s)
 symbols_and symbols (declares name q arity r) w h =
-    symbols_with symbols name (arity_of symbols name) (digits_value 255 arity) refl w (λ n e. digits_within 255 arity n e) h
+    symbols_with symbols name (symbol_named symbols name) (digits_value 255 arity) refl w (λ n e. digits_within 255 arity n e) h
 symbols_and symbols (rewrites left right) w h = h
 symbols_and symbols (attributed s at) w h = h
 symbols_and symbols says_nothing w h = h
@@ -134,7 +135,7 @@ are_symbols symbols (item x xs) w h =
 not_last : (n at : ℕ) → cond (n == 1) (TooMany at ∷ []) [] ≡ [] → n ≢ 1
 not_last n at e is = let h : TooMany at ∷ [] ≡ [] = rw is at e in cc
 
-with_length : (symbols : List Declared) (name : List ℕ) (known arity : Option ℕ) → length (with_symbol symbols name known arity) ≤ length symbols + 1
+with_length : (symbols : List Declared) (name : List ℕ) (known : Option Symbol) (arity : Option ℕ) → length (with_symbol symbols name known arity) ≤ length symbols + 1
 with_length symbols name (Some k) arity = omega arith
 with_length symbols name None None = omega arith
 with_length symbols name None (Some n) = omega (arith, length-append symbols ((name, n) ∷ []))
@@ -148,7 +149,7 @@ funs_fit : (symbols : List Declared) (room : Room) (at : ℕ) (s : Saying) → c
     → FunsFit symbols (symbols_after symbols s) room (room_after room s)
 funs_fit symbols room at (declares name q arity r) e f h =
     let more : room.funs ≢ 1 = not_last room.funs at e in
-    record { more = omega arith; fit = omega (arith, with_length symbols name (arity_of symbols name) (digits_value 255 arity)) }
+    record { more = omega arith; fit = omega (arith, with_length symbols name (symbol_named symbols name) (digits_value 255 arity)) }
 funs_fit symbols room at (rewrites left right) e f h = record { more = h; fit = omega arith }
 funs_fit symbols room at (attributed s q) e f h = absurd (none_last (declaration_faults symbols at s) (Attribute q) f)
 funs_fit symbols room at says_nothing e f h = record { more = h; fit = omega arith }

@@ -1,21 +1,26 @@
 -- A text has one reading: at most one system or fault.
-use Rattle.std.proofs.Common.{◌≡◌, ◌≢◌, ◌⊎◌, inl, inr, ℕ, List, Some, refl, sym, ap, ◌∙◌}
+use Rattle.std.proofs.Common.{◌≡◌, ◌≢◌, ◌⊎◌, inl, inr, ℕ, List, Some, Ok, refl, sym, ap, ◌∙◌}
 use Rattle.sexp_core.specs.Items.{Items}
 use Rattle.sexp_core.specs.Reads.{Reads, fault_of}
 use Rattle.sexp_core.specs.declared.fault.TextFault.{TextFault}
 use Rattle.sexp_core.proofs.Once.{one_reading}
 use Rattle.ari_text.specs.declared.fault.AriFault.{AriFault}
 use Rattle.ari_text.specs.declared.fault.AriFault.TheVariants as fault
+use Rattle.term_text.specs.Checked.{Checked}
+use Rattle.term_text.proofs.CheckedParts.{ok_same}
 use Rattle.names_text.specs.Named.{NamedSystem}
 use Rattle.ari_text.specs.Problem.{later_items, system_of, SaysSystem, HasProblemFault, IsProblemRefused}
 
 pub same_items : (text : List ℕ) (xs ys : Items) → Reads text xs → Reads text ys → xs ≡ ys
 same_items text xs ys h k = one_reading xs ys (sym h ∙ k)
 
+read_once : (r q : Checked NamedSystem) (s t : NamedSystem) → r ≡ Ok s → q ≡ Ok t → r ≡ q → s ≡ t
+read_once r q s t e f h = ok_same s t (sym e ∙ h ∙ f)
+
 pub one_system : (text : List ℕ) (s t : NamedSystem) → SaysSystem text s → SaysSystem text t → s ≡ t
 one_system text s t h k =
     let same : h.items ≡ k.items = same_items text h.items k.items h.reads k.reads in
-    h.system ∙ ap (λ items. system_of (later_items items)) same ∙ sym k.system
+    read_once (system_of (later_items h.items)) (system_of (later_items k.items)) s t h.system k.system (ap (λ items. system_of (later_items items)) same)
 
 -- the cause of a fault that is not want of memory
 abbrev Cause : List ℕ → AriFault → Type 0

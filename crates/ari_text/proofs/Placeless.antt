@@ -1,24 +1,26 @@
 -- What items say, and whether they have a fault, does not depend on their places.
-use Rattle.std.proofs.Common.{◌≡◌, ℕ, zero, suc, ◌+◌, ◌||◌, Bool, true, false, cond, List, [], ◌∷◌, ◌++◌, length, codes, Option, Some, None, refl, ap, ap₂, sym, ◌∙◌, arith, nat_eq}
-use Rattle.std.specs.List.{list_any}
+use Rattle.std.proofs.Common.{◌≡◌, ℕ, zero, suc, ◌+◌, ◌||◌, Bool, true, false, cond, List, [], ◌∷◌, ◌++◌, length, codes, Option, Some, None, Ok, Err, refl, ap, ap₂, sym, ◌∙◌, arith, nat_eq}
+use Rattle.std.specs.Result.{result_ok}
 use Rattle.std.specs.Str.{bytes_eq}
 use Rattle.std.proofs.lemmas.List.{length-append}
 use Rattle.sexp_core.specs.Items.{Item, a_word, a_list, Items, no_items, item}
 use Rattle.sexp_core.specs.Printed.{bare, placeless}
-use Rattle.trs_defs.specs.Tree.{Tree, cons}
 use Rattle.trs_defs.specs.System.{RewriteRule}
 use Rattle.numerals.specs.Numerals.{digits_value}
+use Rattle.text_reading.specs.Reading.{place_of}
+use Rattle.names_text.specs.declared.table.Symbol.{Symbol}
+use Rattle.names_text.specs.Symbols.{Declared, symbol_named}
+use Rattle.term_text.specs.Checked.{Checked}
+use Rattle.term_text.specs.Terms.{variables_after, term}
+use Rattle.term_text.specs.Limits.{nodes_of, nodes_of_all}
+use Rattle.term_text.proofs.CheckedParts.{ok_same}
+use Rattle.term_text.proofs.PlacelessTerms.{same_values, variables_bare, term_bare}
 use Rattle.ari_text.specs.declared.fault.AriFault.{AriFault}
 use Rattle.ari_text.specs.declared.fault.AriFault.TheVariants as fault
-use Rattle.names_text.specs.Names.{number_among}
-use Rattle.names_text.specs.Symbols.{Declared, arity_of, names_of}
 use Rattle.ari_text.specs.Entries.{Saying, declares, rewrites, attributed, says_nothing, declaration, three, begins_with_colon, ended, list_entry, entry_of}
-use Rattle.text_reading.specs.Reading.{place_of}
-use Rattle.term_text.specs.Terms.{variables_after, all_variables_after, term_of, terms_of, applied, nodes_of, nodes_of_all, count}
-use Rattle.ari_text.specs.Rules.{rule_of, with_rule, rules_of}
-use Rattle.ari_text.specs.Faults.{Scope, left_side, right_side, variable_faults, word_faults, head_faults, depth_faults, term_faults, args_faults, lone_faults, left_faults, sides_faults, rule_faults, twice_faults, arity_faults, declaration_faults, symbols_after, symbols_of, Room, whole_room, room_after, passes, count_faults, all_declaration_faults, all_rule_faults, faults_of}
+use Rattle.ari_text.specs.Rules.{both_sides, rule, with_rule, rules_of}
+use Rattle.ari_text.specs.Faults.{deep_faults, all_deep_faults, lone_faults, left_faults, side_faults, all_side_faults, twice_faults, arity_faults, declaration_faults, symbols_after, symbols_of, Room, whole_room, room_after, passes, count_faults, all_declaration_faults}
 use Rattle.ari_text.specs.Problem.{is_trs, format_fault}
-use Rattle.term_text.proofs.PlacelessTerms.{variables_bare, term_bare, nodes_bare}
 
 -- ---- sayings
 
@@ -60,29 +62,39 @@ entry_bare : (x : Item) → entry_of (bare x) ≡ bare_saying (entry_of x)
 entry_bare (a_word w p) = refl
 entry_bare (a_list xs p) = list_entry_bare xs
 
--- ---- terms
+-- ---- rules
 
-count_bare : (xs : Items) → count (placeless xs) ≡ count xs
-count_bare no_items = refl
-count_bare (item x xs) = ap suc (count_bare xs)
-
-rule_bare : (symbols : List (List ℕ)) (left right : Item) → rule_of symbols (bare left) (bare right) ≡ rule_of symbols left right
+rule_bare : (symbols : List Declared) (left right : Item) → result_ok (rule symbols (bare left) (bare right)) ≡ result_ok (rule symbols left right)
 rule_bare symbols left right =
-    let both : Tree → Tree → RewriteRule = λ x y. record { left = x; right = y } in
-    ap₂ both
-    (ap (λ vs. term_of symbols vs (bare left)) (variables_bare symbols [] left) ∙ term_bare symbols (variables_after symbols [] left) left)
-    (ap (λ vs. term_of symbols vs (bare right)) (variables_bare symbols [] left) ∙ term_bare symbols (variables_after symbols [] left) right)
+    same_values both_sides (term true symbols [] (bare left)) (term true symbols [] left)
+    (term false symbols (variables_after true symbols [] (bare left)) (bare right)) (term false symbols (variables_after true symbols [] left) right)
+    (term_bare true symbols [] left)
+    (ap (λ vs. result_ok (term false symbols vs (bare right))) (variables_bare true symbols [] left) ∙ term_bare false symbols (variables_after true symbols [] left) right)
 
-with_rule_bare : (symbols : List (List ℕ)) (s : Saying) (rules : List RewriteRule) → with_rule symbols (bare_saying s) rules ≡ with_rule symbols s rules
-with_rule_bare symbols (declares name q arity r) rules = refl
-with_rule_bare symbols (rewrites left right) rules = ap (λ r. r ∷ rules) (rule_bare symbols left right)
-with_rule_bare symbols (attributed s at) rules = with_rule_bare symbols s rules
-with_rule_bare symbols says_nothing rules = refl
+with_rule_bare : (symbols : List Declared) (s : Saying) (more more' : Checked (List RewriteRule)) → result_ok more ≡ result_ok more'
+    → result_ok (with_rule symbols (bare_saying s) more) ≡ result_ok (with_rule symbols s more')
+with_rule_bare symbols (declares name q arity r) more more' e = e
+with_rule_bare symbols (rewrites left right) more more' e =
+    same_values (λ r rs. r ∷ rs) (rule symbols (bare left) (bare right)) (rule symbols left right) more more' (rule_bare symbols left right) e
+with_rule_bare symbols (attributed s at) more more' e = with_rule_bare symbols s more more' e
+with_rule_bare symbols says_nothing more more' e = e
 
-pub rules_bare : (symbols : List (List ℕ)) (xs : Items) → rules_of symbols (placeless xs) ≡ rules_of symbols xs
-rules_bare symbols no_items = refl
-rules_bare symbols (item x xs) =
-    ap₂ (with_rule symbols) (entry_bare x) (rules_bare symbols xs) ∙ with_rule_bare symbols (entry_of x) (rules_of symbols xs)
+all_rules_bare : (symbols : List Declared) (xs : Items) → result_ok (rules_of symbols (placeless xs)) ≡ result_ok (rules_of symbols xs)
+all_rules_bare symbols no_items = refl
+all_rules_bare symbols (item x xs) =
+    ap (λ s. result_ok (with_rule symbols s (rules_of symbols (placeless xs)))) (entry_bare x)
+    ∙ with_rule_bare symbols (entry_of x) (rules_of symbols (placeless xs)) (rules_of symbols xs) (all_rules_bare symbols xs)
+
+value_is : {A : Type 0} (r q : Checked A) (x : A) → result_ok r ≡ result_ok q → r ≡ Ok x → q ≡ Ok x
+value_is (Ok y) (Ok z) x e h = let same : y ≡ z = cc in ap Ok (sym same ∙ ok_same y x h)
+value_is (Ok y) (Err q) x e h = absurd cc
+value_is (Err p) q x e h = absurd cc
+
+-- the rules that are read without the places are read with them
+pub rules_bare : (symbols : List Declared) (xs : Items) (rules : List RewriteRule) → rules_of symbols (placeless xs) ≡ Ok rules → rules_of symbols xs ≡ Ok rules
+rules_bare symbols xs rules e = value_is (rules_of symbols (placeless xs)) (rules_of symbols xs) rules (all_rules_bare symbols xs) e
+
+-- ---- symbols
 
 symbols_after_bare : (symbols : List Declared) (s : Saying) → symbols_after symbols (bare_saying s) ≡ symbols_after symbols s
 symbols_after_bare symbols (declares name q arity r) = refl
@@ -107,65 +119,33 @@ one_if : (b : Bool) (f g : AriFault) → length (cond b (f ∷ []) []) ≡ lengt
 one_if true f g = refl
 one_if false f g = refl
 
-none_if : (b : Bool) (f g : AriFault) → length (cond b [] (f ∷ [])) ≡ length (cond b [] (g ∷ []))
-none_if true f g = refl
-none_if false f g = refl
-
-variable_faults_at : (scope : Scope) (name : List ℕ) (p q : ℕ) → length (variable_faults scope name p) ≡ length (variable_faults scope name q)
-variable_faults_at left_side name p q = refl
-variable_faults_at (right_side vs) name p q = none_if (list_any (bytes_eq name) vs) (fault.ExtraVariable p) (fault.ExtraVariable q)
-
-word_faults_at : (scope : Scope) (name : List ℕ) (p q : ℕ) (arity : Option ℕ) → length (word_faults scope name p arity) ≡ length (word_faults scope name q arity)
-word_faults_at scope name p q None = variable_faults_at scope name p q
-word_faults_at scope name p q (Some zero) = refl
-word_faults_at scope name p q (Some (suc n)) = refl
-
-head_faults_at : (p p' q q' args : ℕ) (arity : Option ℕ) → length (head_faults p p' args arity) ≡ length (head_faults q q' args arity)
-head_faults_at p p' q q' args None = refl
-head_faults_at p p' q q' args (Some n) = none_if (nat_eq args n) (fault.WrongArity p) (fault.WrongArity q)
-
-depth_faults_at : (depth p q : ℕ) → length (depth_faults depth p) ≡ length (depth_faults depth q)
-depth_faults_at depth p q = one_if (nat_eq depth 257) (fault.TooDeep p) (fault.TooDeep q)
-
 mutual
-  term_faults_bare : (symbols : List Declared) (scope : Scope) (depth : ℕ) (x : Item) → length (term_faults symbols scope depth (bare x)) ≡ length (term_faults symbols scope depth x)
-  term_faults_bare symbols scope depth (a_word w p) =
-      both_lengths _ _ _ _ (depth_faults_at depth 0 p) (word_faults_at scope w 0 p (arity_of symbols w))
-  term_faults_bare symbols scope depth (a_list no_items p) = both_lengths _ _ _ _ (depth_faults_at depth 0 p) refl
-  term_faults_bare symbols scope depth (a_list (item (a_list ys q) args) p) = both_lengths _ _ _ _ (depth_faults_at depth 0 p) refl
-  term_faults_bare symbols scope depth (a_list (item (a_word h q) args) p) =
-      both_lengths _ _ _ _ (depth_faults_at depth 0 p)
-      (both_lengths _ _ _ _
-      (ap (λ n. length (head_faults 0 0 n (arity_of symbols h))) (count_bare args) ∙ head_faults_at 0 0 p q (count args) (arity_of symbols h))
-      (args_faults_bare symbols scope (suc depth) args))
+  deep_bare : (n : ℕ) (x : Item) → length (deep_faults n (bare x)) ≡ length (deep_faults n x)
+  deep_bare zero x = refl
+  deep_bare (suc n) (a_word w p) = refl
+  deep_bare (suc n) (a_list no_items p) = refl
+  deep_bare (suc n) (a_list (item h args) p) = all_deep_bare n args
 
-  args_faults_bare : (symbols : List Declared) (scope : Scope) (depth : ℕ) (xs : Items) → length (args_faults symbols scope depth (placeless xs)) ≡ length (args_faults symbols scope depth xs)
-  args_faults_bare symbols scope depth no_items = refl
-  args_faults_bare symbols scope depth (item x xs) =
-      both_lengths _ _ _ _ (term_faults_bare symbols scope depth x) (args_faults_bare symbols scope depth xs)
+  all_deep_bare : (n : ℕ) (xs : Items) → length (all_deep_faults n (placeless xs)) ≡ length (all_deep_faults n xs)
+  all_deep_bare n no_items = refl
+  all_deep_bare n (item x xs) = both_lengths _ _ _ _ (deep_bare n x) (all_deep_bare n xs)
 
-lone_at : (p q : ℕ) (o : Option ℕ) → length (lone_faults p o) ≡ length (lone_faults q o)
+lone_at : (p q : ℕ) (o : Option Symbol) → length (lone_faults p o) ≡ length (lone_faults q o)
 lone_at p q None = refl
-lone_at p q (Some n) = refl
+lone_at p q (Some s) = refl
 
 left_faults_bare : (symbols : List Declared) (x : Item) → length (left_faults symbols (bare x)) ≡ length (left_faults symbols x)
 left_faults_bare symbols (a_list xs p) = refl
-left_faults_bare symbols (a_word w p) = lone_at 0 p (arity_of symbols w)
+left_faults_bare symbols (a_word w p) = lone_at 0 p (symbol_named symbols w)
 
-sides_faults_bare : (symbols : List Declared) (left right : Item) → length (sides_faults symbols (bare left) (bare right)) ≡ length (sides_faults symbols left right)
-sides_faults_bare symbols left right =
-    both_lengths _ _ _ _ (left_faults_bare symbols left)
-    (both_lengths _ _ _ _ (term_faults_bare symbols left_side 1 left)
-    (ap (λ vs. length (term_faults symbols (right_side vs) 1 (bare right))) (variables_bare (names_of symbols) [] left)
-    ∙ term_faults_bare symbols (right_side (variables_after (names_of symbols) [] left)) 1 right))
+side_faults_bare : (symbols : List Declared) (s : Saying) → length (side_faults symbols (bare_saying s)) ≡ length (side_faults symbols s)
+side_faults_bare symbols (declares name q arity r) = refl
+side_faults_bare symbols (rewrites left right) =
+    both_lengths _ _ _ _ (left_faults_bare symbols left) (both_lengths _ _ _ _ (deep_bare 256 left) (deep_bare 256 right))
+side_faults_bare symbols (attributed s at) = side_faults_bare symbols s
+side_faults_bare symbols says_nothing = refl
 
-rule_faults_bare : (symbols : List Declared) (s : Saying) → length (rule_faults symbols (bare_saying s)) ≡ length (rule_faults symbols s)
-rule_faults_bare symbols (declares name q arity r) = refl
-rule_faults_bare symbols (rewrites left right) = sides_faults_bare symbols left right
-rule_faults_bare symbols (attributed s at) = rule_faults_bare symbols s
-rule_faults_bare symbols says_nothing = refl
-
-twice_at : (p q : ℕ) (o : Option ℕ) → length (twice_faults p o) ≡ length (twice_faults q o)
+twice_at : (p q : ℕ) (o : Option Symbol) → length (twice_faults p o) ≡ length (twice_faults q o)
 twice_at p q None = refl
 twice_at p q (Some n) = refl
 
@@ -175,10 +155,20 @@ arity_at p q (Some n) = refl
 
 declaration_faults_bare : (symbols : List Declared) (p : ℕ) (s : Saying) → length (declaration_faults symbols 0 (bare_saying s)) ≡ length (declaration_faults symbols p s)
 declaration_faults_bare symbols p (declares name q arity r) =
-    both_lengths _ _ _ _ (twice_at 0 q (arity_of symbols name)) (arity_at 0 r (digits_value 255 arity))
+    both_lengths _ _ _ _ (twice_at 0 q (symbol_named symbols name)) (arity_at 0 r (digits_value 255 arity))
 declaration_faults_bare symbols p (rewrites left right) = refl
 declaration_faults_bare symbols p (attributed s at) = both_lengths _ _ (fault.Attribute 0 ∷ []) (fault.Attribute at ∷ []) (declaration_faults_bare symbols p s) refl
 declaration_faults_bare symbols p says_nothing = refl
+
+mutual
+  nodes_bare : (x : Item) → nodes_of (bare x) ≡ nodes_of x
+  nodes_bare (a_word w p) = refl
+  nodes_bare (a_list no_items p) = refl
+  nodes_bare (a_list (item h args) p) = ap (λ n. 1 + n) (all_nodes_bare args)
+
+  all_nodes_bare : (xs : Items) → nodes_of_all (placeless xs) ≡ nodes_of_all xs
+  all_nodes_bare no_items = refl
+  all_nodes_bare (item x xs) = ap₂ (λ m n. m + n) (nodes_bare x) (all_nodes_bare xs)
 
 room_bare : (room : Room) (s : Saying) → room_after room (bare_saying s) ≡ room_after room s
 room_bare room (declares name q arity r) = refl
@@ -207,22 +197,21 @@ all_declaration_faults_bare symbols room (item x xs) =
     (ap₂ (λ ss r. length (all_declaration_faults ss r (placeless xs))) (symbols_after_bare symbols (entry_of x)) (room_bare room (entry_of x))
     ∙ all_declaration_faults_bare (symbols_after symbols (entry_of x)) (room_after room (entry_of x)) xs))
 
-all_rule_faults_bare : (symbols : List Declared) (xs : Items) → length (all_rule_faults symbols (placeless xs)) ≡ length (all_rule_faults symbols xs)
-all_rule_faults_bare symbols no_items = refl
-all_rule_faults_bare symbols (item x xs) =
-    both_lengths _ _ _ _ (ap (λ s. length (rule_faults symbols s)) (entry_bare x) ∙ rule_faults_bare symbols (entry_of x)) (all_rule_faults_bare symbols xs)
+all_side_faults_bare : (symbols : List Declared) (xs : Items) → length (all_side_faults symbols (placeless xs)) ≡ length (all_side_faults symbols xs)
+all_side_faults_bare symbols no_items = refl
+all_side_faults_bare symbols (item x xs) =
+    both_lengths _ _ _ _ (ap (λ s. length (side_faults symbols s)) (entry_bare x) ∙ side_faults_bare symbols (entry_of x)) (all_side_faults_bare symbols xs)
 
 no_faults : (fs : List AriFault) → length fs ≡ 0 → fs ≡ []
 no_faults [] e = refl
 no_faults (f ∷ fs) e = absurd (omega arith)
 
--- items have no fault where they have none without their places
-pub faultless_bare : (xs : Items) → faults_of (placeless xs) ≡ [] → faults_of xs ≡ []
-faultless_bare xs e =
-    no_faults (faults_of xs)
-    (sym (both_lengths _ _ _ _ (all_declaration_faults_bare [] whole_room xs)
-    (ap (λ ss. length (all_rule_faults ss (placeless xs))) (symbols_bare [] xs) ∙ all_rule_faults_bare (symbols_of [] xs) xs))
-    ∙ ap length e)
+-- items have no such fault where they have none without their places
+pub declarations_bare : (xs : Items) → all_declaration_faults [] whole_room (placeless xs) ≡ [] → all_declaration_faults [] whole_room xs ≡ []
+declarations_bare xs e = no_faults _ (sym (all_declaration_faults_bare [] whole_room xs) ∙ ap length e)
+
+pub sides_bare : (symbols : List Declared) (xs : Items) → all_side_faults symbols (placeless xs) ≡ [] → all_side_faults symbols xs ≡ []
+sides_bare symbols xs e = no_faults _ (sym (all_side_faults_bare symbols xs) ∙ ap length e)
 
 -- ---- the format
 

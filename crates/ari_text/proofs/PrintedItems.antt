@@ -1,5 +1,5 @@
 -- Printed symbols and rules, and what is read of them.
-use Rattle.std.proofs.Common.{◌≡◌, ℕ, suc, ◌+◌, ◌-◌, ◌^◌, ◌<◌, ◌≤◌, true, false, not, ◌||◌, List, [], ◌∷◌, ◌++◌, length, get_or, Option, Some, None, slice_get, codes, decimal, nat_le, refl, ap, ap₂, sym, ◌∙◌, append_assoc, arith, is_some}
+use Rattle.std.proofs.Common.{◌≡◌, ℕ, suc, ◌+◌, ◌-◌, ◌^◌, ◌<◌, ◌≤◌, true, false, not, ◌||◌, List, [], ◌∷◌, ◌++◌, length, Option, Some, None, option_map, Ok, slice_get, codes, decimal, nat_le, refl, ap, ap₂, sym, ◌∙◌, append_assoc, arith, is_some}
 use Rattle.std.specs.List.{list_any, list_all, AllByRecursion}
 use Rattle.std.specs.Str.{bytes_eq}
 use Rattle.std.proofs.lemmas.Bool.{ne_eqb, le-leb, leb-true, and_parts, or_parts, or_from, not-true}
@@ -7,35 +7,45 @@ use Rattle.std.proofs.lemmas.Cmp.{nat_list_eq_equiv}
 use Rattle.std.proofs.lemmas.List.{append-nil, map-append}
 use Rattle.std.proofs.lemmas.List.Folds.{list_any-append}
 use Rattle.sexp_core.specs.Tokens.{class_of}
-use Rattle.sexp_core.specs.Items.{a_word, a_list, Items, item}
-use Rattle.sexp_core.specs.Printed.{AreWords, nesting, bare, placeless}
+use Rattle.sexp_core.specs.Items.{Item, a_word, Items, item}
+use Rattle.sexp_core.specs.Printed.{AreWords, nesting, placeless}
 use Rattle.trs_defs.specs.Tree.{Tree, Trees, var, app, nil, cons}
 use Rattle.trs_defs.specs.Size.{size_of, depth_of}
 use Rattle.trs_defs.specs.WellFormed.{IsWellFormed}
 use Rattle.trs_defs.specs.System.{RewriteRule, IsRule}
 use Rattle.trs_core.specs.SystemLimits.{HasSmallVariables, HaveSmallVariables, nodes_of as nodes_of_rules}
 use Rattle.numerals.specs.Numerals.{digits_value}
-use Rattle.names_text.specs.Names.{are_distinct}
-use Rattle.names_text.specs.Symbols.{Declared, paired, names_of, arities_of, arity_of}
-use Rattle.names_text.specs.Named.{is_word, is_shallow, is_numbered, next_number}
-use Rattle.term_text.specs.Terms.{variables_after, term_of, nodes_of}
-use Rattle.ari_text.specs.Rules.{rule_of, rules_of}
-use Rattle.ari_text.specs.Faults.{left_side, right_side, term_faults, left_faults, sides_faults, all_declaration_faults, all_rule_faults, with_symbol, symbols_of}
-use Rattle.names_text.specs.VariableNames.{variable_name}
-use Rattle.term_text.specs.PrintedTerm.{term_item, term_items}
-use Rattle.ari_text.specs.PrintedProblem.{three_members, rule_items, symbol_items}
-use Rattle.text_reading.proofs.Words.{decimal_word}
-use Rattle.names_text.proofs.PrintedNames.{symbol_word, present, variables_to, variable_number}
-use Rattle.term_text.proofs.PlacelessTerms.{term_placeless}
-use Rattle.term_text.proofs.PrintedTerms.{FitNames, IsBelow, below_from, numbered_below, variables_read, term_read, symbol_arity, term_words, term_nodes, term_nesting}
-use Rattle.ari_text.proofs.FaultlessTerms.{term_faultless}
 use Rattle.numerals.proofs.Printed.{digits_read}
+use Rattle.text_reading.proofs.Words.{decimal_word}
+use Rattle.names_text.specs.declared.table.Symbol.{Symbol}
+use Rattle.names_text.specs.Names.{are_distinct}
+use Rattle.names_text.specs.Symbols.{Declared, paired, names_of, one_behind, symbol_named}
+use Rattle.names_text.specs.Named.{is_word, is_shallow, is_numbered, next_number}
+use Rattle.names_text.proofs.NumberedTerms.{has_below}
+use Rattle.names_text.proofs.PrintedNames.{symbol_word, variables_to}
+use Rattle.term_text.specs.Limits as text
+use Rattle.term_text.specs.Limits.{nodes_of}
+use Rattle.term_text.specs.PrintedTerm.{term_item}
+use Rattle.term_text.proofs.Numbering.{IsBelow, below_from, next_numbered, below_numbered}
+use Rattle.term_text.proofs.ReadTerms.{term_read}
+use Rattle.term_text.proofs.PlacelessTerms.{term_placeless}
+use Rattle.term_text.proofs.PrintedTerms.{FitNames, IsTermAgain, symbol_again, term_again, term_words, term_nesting}
+use Rattle.ari_text.specs.Entries.{rewrites}
+use Rattle.ari_text.specs.Rules.{rule, rules_of}
+use Rattle.ari_text.specs.Faults.{left_faults, side_faults, all_side_faults, all_declaration_faults, with_symbol, symbols_of}
+use Rattle.ari_text.specs.PrintedProblem.{three_members, rule_items, symbol_items}
+use Rattle.ari_text.proofs.ReadRules.{shallow_side}
 
 -- a printed arity is read again
 pub arity_read : (a : ℕ) → a ≤ 255 → digits_value 255 (decimal a) ≡ Some a
 arity_read a le = digits_read 255 a (omega arith) le
 
 -- ---- rules
+
+-- an item has the size and the depth of a term
+record IsWritten (x : Item) (t : Tree) : Type 0 where
+  size : size_of t ≡ nodes_of x
+  deep : depth_of t ≡ text.depth_of x
 
 -- a rule as a system with names has it
 pub record IsGoodRule (arities : List ℕ) (r : RewriteRule) : Type 0 where
@@ -65,56 +75,47 @@ numbered_some : (o : Option ℕ) → is_some o ≡ true → (m : ℕ) × (o ≡ 
 numbered_some None e = absurd cc
 numbered_some (Some m) e = (m, refl)
 
-pub names_paired : (ns : List (List ℕ)) (as' : List ℕ) → length ns ≡ length as' → names_of (paired ns as') ≡ ns
-names_paired [] as' l = refl
-names_paired (n ∷ ns) [] l = absurd (omega arith)
-names_paired (n ∷ ns) (a ∷ as') l = ap (λ (xs : List (List ℕ)). n ∷ xs) (names_paired ns as' (omega arith))
-
-pub arities_paired : (ns : List (List ℕ)) (as' : List ℕ) → length ns ≡ length as' → arities_of (paired ns as') ≡ as'
-arities_paired [] [] l = refl
-arities_paired [] (a ∷ as') l = absurd (omega arith)
-arities_paired (n ∷ ns) [] l = absurd (omega arith)
-arities_paired (n ∷ ns) (a ∷ as') l = ap (λ (xs : List ℕ). a ∷ xs) (arities_paired ns as' (omega arith))
-
 module _ (k : ℕ) (names : List (List ℕ)) (arities : List ℕ) (fit : FitNames k names arities) where
-  -- how the variables of a rule are numbered
-  record Numbers (r : RewriteRule) : Type 0 where
+  abbrev table : List Declared
+  table = paired names arities
+
+  -- how both sides of a rule are read
+  record IsRuleAgain (r : RewriteRule) : Type 0 where
     number : ℕ
-    next : next_number 0 r.left ≡ Some number
-    left_below : IsBelow number r.left
-    right_below : IsBelow number r.right
     left_small : IsBelow (2 ^ 64) r.left
     right_small : IsBelow (2 ^ 64) r.right
+    left : IsTermAgain true table [] (variables_to k number) (term_item k names r.left) r.left
+    right : IsTermAgain false table (variables_to k number) (variables_to k number) (term_item k names r.right) r.right
+    left_written : IsWritten (term_item k names r.left) r.left
+    right_written : IsWritten (term_item k names r.right) r.right
 
-  numbers : (r : RewriteRule) → IsGoodRule arities r → Numbers r
-  numbers r g =
+  rule_again : (r : RewriteRule) → IsGoodRule arities r → IsRuleAgain r
+  rule_again r g =
       let some = numbered_some (next_number 0 r.left) g.numbered in
+      let left_small = below_from (2 ^ 64) r.left (λ v h. omega (arith, g.small.0 v h)) in
+      let right_small = below_from (2 ^ 64) r.right (λ v h. omega (arith, g.small.1 v h)) in
+      let right_below = below_from some.0 r.right (λ v h. has_below 0 r.left some.0 some.1 v (g.is_rule.variables v h)) in
+      let left = term_again k names arities fit true r.left (term_item k names r.left) 0 some.0 g.is_rule.left_well_formed left_small (next_numbered 0 r.left some.0 some.1) (term_placeless k names r.left) in
+      let right = term_again k names arities fit false r.right (term_item k names r.right) some.0 some.0 g.is_rule.right_well_formed right_small (below_numbered some.0 r.right right_below) (term_placeless k names r.right) in
+      let a = term_read table true [] (term_item k names r.left) r.left left.read in
+      let b = term_read table false (variables_to k some.0) (term_item k names r.right) r.right right.read in
       record {
         number = some.0;
-        next = some.1;
-        left_below = below_from some.0 r.left (numbered_below r.left 0 some.0 some.1);
-        right_below = below_from some.0 r.right (λ v h. numbered_below r.left 0 some.0 some.1 v (g.is_rule.variables v h));
-        left_small = below_from (2 ^ 64) r.left (λ v h. omega (arith, g.small.0 v h));
-        right_small = below_from (2 ^ 64) r.right (λ v h. omega (arith, g.small.1 v h));
+        left_small = left_small;
+        right_small = right_small;
+        left = left;
+        right = right;
+        left_written = record { size = a.size; deep = a.deep };
+        right_written = record { size = b.size; deep = b.deep };
       }
 
-  left_variables : (r : RewriteRule) → IsGoodRule arities r → (n : Numbers r) → variables_after names [] (term_item k names r.left) ≡ variables_to k n.number
-  left_variables r g n = variables_read k names arities fit r.left 0 n.number g.is_rule.left_well_formed n.left_small n.next
-
   -- the rule is read again
-  rule_read : (r : RewriteRule) → IsGoodRule arities r → rule_of names (term_item k names r.left) (term_item k names r.right) ≡ r
-  rule_read r g =
-      let n = numbers r g in
-      let both : Tree → Tree → RewriteRule = λ x y. record { left = x; right = y } in
-      ap₂ both
-      (ap (λ vs. term_of names vs (term_item k names r.left)) (left_variables r g n)
-      ∙ term_read k names arities fit r.left n.number g.is_rule.left_well_formed n.left_small n.left_below)
-      (ap (λ vs. term_of names vs (term_item k names r.right)) (left_variables r g n)
-      ∙ term_read k names arities fit r.right n.number g.is_rule.right_well_formed n.right_small n.right_below)
+  rule_read : (r : RewriteRule) → IsGoodRule arities r → rule table (term_item k names r.left) (term_item k names r.right) ≡ Ok r
+  rule_read r g = let a = rule_again r g in rw (a.left.read, a.left.names, a.right.read) refl
 
-  left_faultless : (t : Tree) → IsWellFormed arities t → ((n : ℕ) × (t ≡ var n) → ⊥) → left_faults (paired names arities) (term_item k names t) ≡ []
+  left_faultless : (t : Tree) → IsWellFormed arities t → ((n : ℕ) × (t ≡ var n) → ⊥) → left_faults table (term_item k names t) ≡ []
   left_faultless (var n) wf ne = absurd (ne (n, refl))
-  left_faultless (app f nil) wf ne = rw (symbol_arity k names arities fit f 0 wf.0) refl
+  left_faultless (app f nil) wf ne = rw (symbol_again k names arities fit f 0 wf.0) refl
   left_faultless (app f (cons t ts)) wf ne = refl
 
   shallow_sides : (r : RewriteRule) → is_shallow r ≡ true → (depth_of r.left ≤ 256) × (depth_of r.right ≤ 256)
@@ -122,46 +123,43 @@ module _ (k : ℕ) (names : List (List ℕ)) (arities : List ℕ) (fit : FitName
       let parts = and_parts (nat_le (depth_of r.left) 256) (nat_le (depth_of r.right) 256) e in
       (leb-true (depth_of r.left) 256 parts.0, leb-true (depth_of r.right) 256 parts.1)
 
-  sides_faultless : (r : RewriteRule) → IsGoodRule arities r → sides_faults (paired names arities) (term_item k names r.left) (term_item k names r.right) ≡ []
+  sides_faultless : (r : RewriteRule) → IsGoodRule arities r → side_faults table (rewrites (term_item k names r.left) (term_item k names r.right)) ≡ []
   sides_faultless r g =
-      let n = numbers r g in
+      let a = rule_again r g in
       let shallow = shallow_sides r g.shallow in
-      let left : term_faults (paired names arities) left_side 1 (term_item k names r.left) ≡ [] =
-      term_faultless k names arities fit left_side n.number (λ v lt below. refl) r.left 1 g.is_rule.left_well_formed n.left_small n.left_below (omega (arith, shallow.0)) in
-      let right : term_faults (paired names arities) (right_side (variables_to k n.number)) 1 (term_item k names r.right) ≡ [] =
-      term_faultless k names arities fit (right_side (variables_to k n.number)) n.number
-      (λ v lt below. rw (present (variables_to k n.number) (variable_name k v) v (variable_number k n.number v below lt)) refl)
-      r.right 1 g.is_rule.right_well_formed n.right_small n.right_below (omega (arith, shallow.1)) in
-      rw (left_faultless r.left g.is_rule.left_well_formed g.is_rule.left_no_variable, left, names_paired names arities fit.counts, left_variables r g n) right
+      let left = shallow_side 256 (term_item k names r.left) (omega (arith, a.left_written.deep, shallow.0)) in
+      let right = shallow_side 256 (term_item k names r.right) (omega (arith, a.right_written.deep, shallow.1)) in
+      rw (left_faultless r.left g.is_rule.left_well_formed g.is_rule.left_no_variable, left, right) refl
 
   -- all rules are read again
-  pub rules_read : (rs : List RewriteRule) → AreGoodRules arities rs → rules_of names (rule_items k names rs) ≡ rs
+  pub rules_read : (rs : List RewriteRule) → AreGoodRules arities rs → rules_of table (rule_items k names rs) ≡ Ok rs
   rules_read [] g = refl
-  rules_read (r ∷ rs) g = ap₂ (λ (x : RewriteRule) (xs : List RewriteRule). x ∷ xs) (rule_read r g.0) (rules_read rs g.1)
+  rules_read (r ∷ rs) g = rw (rule_read r g.0, rules_read rs g.1) refl
 
-  pub rules_faultless : (rs : List RewriteRule) → AreGoodRules arities rs → all_rule_faults (paired names arities) (rule_items k names rs) ≡ []
+  pub rules_faultless : (rs : List RewriteRule) → AreGoodRules arities rs → all_side_faults table (rule_items k names rs) ≡ []
   rules_faultless [] g = refl
   rules_faultless (r ∷ rs) g = rw (sides_faultless r g.0) (rules_faultless rs g.1)
 
-  pub rules_counted : (symbols : List Declared) (funs rules nodes : ℕ) (rs : List RewriteRule) → length rs < rules → nodes_of_rules rs ≤ nodes
-      → all_declaration_faults symbols (record { funs = funs; rules = rules; nodes = Some nodes }) (rule_items k names rs) ≡ []
-  rules_counted symbols funs rules nodes [] lt le = refl
-  rules_counted symbols funs rules nodes (r ∷ rs) lt le =
+  pub rules_counted : (declared : List Declared) (funs rules nodes : ℕ) (rs : List RewriteRule) → AreGoodRules arities rs → length rs < rules → nodes_of_rules rs ≤ nodes
+      → all_declaration_faults declared (record { funs = funs; rules = rules; nodes = Some nodes }) (rule_items k names rs) ≡ []
+  rules_counted declared funs rules nodes [] g lt le = refl
+  rules_counted declared funs rules nodes (r ∷ rs) g lt le =
+      let a = rule_again r g.0 in
       let n = nodes_of (term_item k names r.left) + nodes_of (term_item k names r.right) in
-      let same : n ≡ size_of r.left + size_of r.right = ap₂ (λ (x y : ℕ). x + y) (term_nodes k names arities fit r.left) (term_nodes k names arities fit r.right) in
+      let same : n ≡ size_of r.left + size_of r.right = omega (arith, a.left_written.size, a.right_written.size) in
       rw (ne_eqb rules 1 (λ e. absurd (omega arith)), le-leb n nodes (omega (arith, same)))
-      (rules_counted symbols funs (rules - 1) (nodes - n) rs (omega arith) (omega (arith, same)))
+      (rules_counted declared funs (rules - 1) (nodes - n) rs g.1 (omega arith) (omega (arith, same)))
 
   pub rules_words : (rs : List RewriteRule) → AreGoodRules arities rs → AreWords (rule_items k names rs)
   unfolding class_of
   rules_words [] g = tt
   rules_words (r ∷ rs) g =
-      let n = numbers r g.0 in (
+      let a = rule_again r g.0 in (
         (
           symbol_word (codes "rule") refl,
           (
-            term_words k names arities fit r.left g.0.is_rule.left_well_formed n.left_small,
-            (term_words k names arities fit r.right g.0.is_rule.right_well_formed n.right_small, tt),
+            term_words k names arities fit r.left g.0.is_rule.left_well_formed a.left_small,
+            (term_words k names arities fit r.right g.0.is_rule.right_well_formed a.right_small, tt),
           ),
         ),
         rules_words rs g.1,
@@ -181,11 +179,15 @@ rules_declare k names symbols (r ∷ rs) = rules_declare k names symbols rs
 abbrev pub AreBytes : List ℕ → Type 0
 AreBytes as' = AllByRecursion (λ a. a ≤ 255) as'
 
-no_arity : (symbols : List Declared) (n : List ℕ) → list_any (bytes_eq n) (names_of symbols) ≡ false → arity_of symbols n ≡ None
-no_arity [] n e = refl
-no_arity (s ∷ ss) n e =
+later_none : (o : Option Symbol) → o ≡ None → option_map one_behind o ≡ None
+later_none None e = refl
+later_none (Some s) e = absurd cc
+
+no_symbol_named : (symbols : List Declared) (n : List ℕ) → list_any (bytes_eq n) (names_of symbols) ≡ false → symbol_named symbols n ≡ None
+no_symbol_named [] n e = refl
+no_symbol_named (s ∷ ss) n e =
     let parts = or_parts (bytes_eq n s.0) (list_any (bytes_eq n) (names_of ss)) e in
-    rw parts.0 (no_arity ss n parts.1)
+    rw parts.0 (later_none (symbol_named ss n) (no_symbol_named ss n parts.1))
 
 -- a name that stands behind others and is distinct from them is none of them
 new_behind : (xs : List (List ℕ)) (n : List ℕ) (ns : List (List ℕ)) → are_distinct (xs ++ n ∷ ns) ≡ true → list_any (bytes_eq n) xs ≡ false
@@ -202,8 +204,8 @@ names_last symbols n a ns =
     ap (λ (xs : List (List ℕ)). xs ++ ns) (map-append (λ (s : Declared). s.0) symbols ((n, a) ∷ [])) ∙ append_assoc (names_of symbols) (n ∷ []) ns
 
 declared_one : (symbols : List Declared) (n : List ℕ) (a : ℕ) → a ≤ 255 → list_any (bytes_eq n) (names_of symbols) ≡ false
-    → with_symbol symbols n (arity_of symbols n) (digits_value 255 (decimal a)) ≡ symbols ++ (n, a) ∷ []
-declared_one symbols n a le e = rw (no_arity symbols n e, arity_read a le) refl
+    → with_symbol symbols n (symbol_named symbols n) (digits_value 255 (decimal a)) ≡ symbols ++ (n, a) ∷ []
+declared_one symbols n a le e = rw (no_symbol_named symbols n e, arity_read a le) refl
 
 module _ (more : Items) where
   -- the symbols are read again
@@ -224,18 +226,18 @@ module _ (more : Items) where
   symbols_counted rules nodes h [] as' symbols funs l b d lt = h symbols funs
   symbols_counted rules nodes h (n ∷ ns) [] symbols funs l b d lt = absurd (omega arith)
   symbols_counted rules nodes h (n ∷ ns) (a ∷ as') symbols funs l b d lt =
-      rw (ne_eqb funs 1 (λ e. absurd (omega arith)), no_arity symbols n (new_behind (names_of symbols) n ns d), arity_read a b.0)
+      rw (ne_eqb funs 1 (λ e. absurd (omega arith)), no_symbol_named symbols n (new_behind (names_of symbols) n ns d), arity_read a b.0)
       (symbols_counted rules nodes h ns as' (symbols ++ (n, a) ∷ []) (funs - 1) (omega arith) b.1 (rw (names_last symbols n a ns) d) (omega arith))
 
-  pub symbols_faultless : (declared : List Declared) (ns : List (List ℕ)) (as' : List ℕ) → all_rule_faults declared (symbol_items ns as' more) ≡ all_rule_faults declared more
+  pub symbols_faultless : (declared : List Declared) (ns : List (List ℕ)) (as' : List ℕ) → all_side_faults declared (symbol_items ns as' more) ≡ all_side_faults declared more
   symbols_faultless declared [] as' = refl
   symbols_faultless declared (n ∷ ns) [] = refl
   symbols_faultless declared (n ∷ ns) (a ∷ as') = symbols_faultless declared ns as'
 
-  pub no_rules : (names ns : List (List ℕ)) (as' : List ℕ) → rules_of names (symbol_items ns as' more) ≡ rules_of names more
-  no_rules names [] as' = refl
-  no_rules names (n ∷ ns) [] = refl
-  no_rules names (n ∷ ns) (a ∷ as') = no_rules names ns as'
+  pub no_rules : (declared : List Declared) (ns : List (List ℕ)) (as' : List ℕ) → rules_of declared (symbol_items ns as' more) ≡ rules_of declared more
+  no_rules declared [] as' = refl
+  no_rules declared (n ∷ ns) [] = refl
+  no_rules declared (n ∷ ns) (a ∷ as') = no_rules declared ns as'
 
   pub symbols_words : (ns : List (List ℕ)) (as' : List ℕ) → list_all is_word ns ≡ true → AreBytes as' → AreWords more → AreWords (symbol_items ns as' more)
   unfolding class_of

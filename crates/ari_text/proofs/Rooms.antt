@@ -4,7 +4,6 @@ use Rattle.std.proofs.lemmas.Bool.Decides.{nat_tests}
 use Rattle.ari_text.specs.declared.fault.AriFault.TheVariants.{TooMany}
 use Rattle.ari_text.specs.Entries.{Saying, declares, rewrites, attributed, says_nothing}
 use Rattle.ari_text.specs.Counted.{is_too_many}
-use Rattle.term_text.specs.Terms.{nodes_left}
 use Rattle.ari_text.specs.Faults.{Room, count_faults}
 
 -- an item is a fault where it is too many

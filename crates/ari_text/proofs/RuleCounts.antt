@@ -1,21 +1,23 @@
 -- How many rules and nodes items have, where no item is too many.
-use Rattle.std.proofs.Common.{◌≡◌, ◌≢◌, ℕ, ◌+◌, ◌-◌, ◌≤◌, ◌==◌, ◌||◌, Bool, true, false, not, cond, nat_le, List, [], ◌∷◌, length, Option, Some, None, refl, arith}
+use Rattle.std.proofs.Common.{◌≡◌, ◌≢◌, ℕ, ◌+◌, ◌-◌, ◌≤◌, ◌==◌, ◌||◌, Bool, true, false, not, cond, nat_le, List, [], ◌∷◌, length, Option, Some, None, Ok, refl, subst, arith}
 use Rattle.std.proofs.lemmas.Bool.{eqb-false, leb-true, or_parts, not-false}
-use Rattle.sexp_core.specs.Items.{Item, a_word, a_list, Items, no_items, item}
-use Rattle.trs_defs.specs.Tree.{Trees}
-use Rattle.trs_defs.specs.Size.{size_of, size_of_all}
+use Rattle.sexp_core.specs.Items.{Item, Items, no_items, item}
+use Rattle.trs_defs.specs.Size.{size_of}
 use Rattle.trs_defs.specs.System.{RewriteRule}
 use Rattle.trs_core.specs.SystemLimits.{nodes_of as nodes_of_rules}
-use Rattle.ari_text.specs.declared.fault.AriFault.TheVariants.{TooMany, Attribute}
-use Rattle.names_text.specs.Names.{number_among}
-use Rattle.names_text.specs.Symbols.{Declared}
-use Rattle.ari_text.specs.Entries.{Saying, declares, rewrites, attributed, says_nothing, entry_of}
 use Rattle.text_reading.specs.Reading.{place_of}
-use Rattle.term_text.specs.Terms.{variables_after, variable, word_term, applied, term_of, terms_of, nodes_of, nodes_of_all, nodes_left}
-use Rattle.ari_text.specs.Rules.{rule_of, with_rule, rules_of}
+use Rattle.names_text.specs.Symbols.{Declared}
+use Rattle.term_text.specs.Checked.{Checked}
+use Rattle.term_text.specs.Terms.{variables_after}
+use Rattle.term_text.specs.Limits.{nodes_of, nodes_left}
+use Rattle.term_text.proofs.CheckedParts.{ok_same}
+use Rattle.term_text.proofs.ReadTerms.{term_read}
+use Rattle.ari_text.specs.declared.fault.AriFault.TheVariants.{TooMany, Attribute}
+use Rattle.ari_text.specs.Entries.{Saying, declares, rewrites, attributed, says_nothing, entry_of}
+use Rattle.ari_text.specs.Rules.{both_sides, with_rule, rules_of}
 use Rattle.ari_text.specs.Faults.{Room, declaration_faults, symbols_after, room_after, passes, count_faults, all_declaration_faults}
 use Rattle.ari_text.proofs.NoFaults.{none_last, none_of_items}
-use Rattle.term_text.proofs.TermSizes.{term_size}
+use Rattle.ari_text.proofs.ReadRules.{is_next}
 
 -- ---- the rules within a room
 
@@ -42,21 +44,29 @@ one_fits room size r rules le ne more pass h = record {
       omega (arith, leb-true size n fits, h.nodes (n - size) left);
 }
 
-rules_with : (symbols : List Declared) (names : List (List ℕ)) (room : Room) (at : ℕ) (s : Saying) (rules : List RewriteRule) → count_faults room at s ≡ [] → declaration_faults symbols at s ≡ [] → 1 ≤ room.rules
-    → (1 ≤ (room_after room s).rules → RulesFit (room_after room s) rules) → RulesFit room (with_rule names s rules)
-rules_with symbols names room at (declares name q arity r) rules e f le h = let k = h le in record { count = k.count; nodes = k.nodes }
-rules_with symbols names room at (rewrites left right) rules e f le h =
+rules_with : (symbols declared : List Declared) (room : Room) (at : ℕ) (s : Saying) (more : Checked (List RewriteRule)) (rules : List RewriteRule) → count_faults room at s ≡ []
+    → declaration_faults declared at s ≡ [] → 1 ≤ room.rules → with_rule symbols s more ≡ Ok rules
+    → ((others : List RewriteRule) → more ≡ Ok others → 1 ≤ (room_after room s).rules → RulesFit (room_after room s) others) → RulesFit room rules
+rules_with symbols declared room at (declares name q arity r) more rules e f le is h = let k = h rules is le in record { count = k.count; nodes = k.nodes }
+rules_with symbols declared room at (rewrites left right) more rules e f le is h =
     let size = nodes_of left + nodes_of right in
     let parts = or_parts (room.rules == 1) (passes size room.nodes) (not_many (room.rules == 1 || passes size room.nodes) at e) in
     let ne : room.rules ≢ 1 = eqb-false room.rules 1 parts.0 in
-    let variables = variables_after names [] left in
-    one_fits room size (rule_of names left right) rules (omega (arith, term_size names variables left, term_size names variables right)) ne le parts.1 (h (omega arith))
-rules_with symbols names room at (attributed s q) rules e f le h = absurd (none_last (declaration_faults symbols at s) (Attribute q) f)
-rules_with symbols names room at says_nothing rules e f le h = absurd cc
+    let n = is_next symbols left right more rules is in
+    let variables = variables_after true symbols [] left in
+    let a = term_read symbols true [] left n.l n.is_left in
+    let b = term_read symbols false variables right n.r n.is_right in
+    let P : List RewriteRule → Type 0 = RulesFit room in
+    subst P n.made (one_fits room size (both_sides n.l n.r) n.others (omega (arith, a.size, b.size)) ne le parts.1 (h n.others n.behind (omega arith)))
+rules_with symbols declared room at (attributed s q) more rules e f le is h = absurd (none_last (declaration_faults declared at s) (Attribute q) f)
+rules_with symbols declared room at says_nothing more rules e f le is h = absurd cc
 
-pub rules_fit : (symbols : List Declared) (names : List (List ℕ)) (room : Room) (xs : Items) → all_declaration_faults symbols room xs ≡ [] → 1 ≤ room.rules → RulesFit room (rules_of names xs)
-rules_fit symbols names room no_items e le = record { count = omega arith; nodes = λ n is. omega arith }
-rules_fit symbols names room (item x xs) e le =
-    let none = none_of_items symbols room x xs e in
-    rules_with symbols names room (place_of x) (entry_of x) (rules_of names xs) none.counted none.declared le
-    (λ more. rules_fit (symbols_after symbols (entry_of x)) names (room_after room (entry_of x)) xs none.others more)
+pub rules_fit : (symbols declared : List Declared) (room : Room) (xs : Items) (rules : List RewriteRule) → all_declaration_faults declared room xs ≡ [] → 1 ≤ room.rules
+    → rules_of symbols xs ≡ Ok rules → RulesFit room rules
+rules_fit symbols declared room no_items rules e le is =
+    let P : List RewriteRule → Type 0 = RulesFit room in
+    subst P (ok_same [] rules is) (record { count = omega arith; nodes = λ n is. omega arith })
+rules_fit symbols declared room (item x xs) rules e le is =
+    let none = none_of_items declared room x xs e in
+    rules_with symbols declared room (place_of x) (entry_of x) (rules_of symbols xs) rules none.counted none.declared le is
+    (λ others read more. rules_fit symbols (symbols_after declared (entry_of x)) (room_after room (entry_of x)) xs others none.others more read)

@@ -1,7 +1,7 @@
 -- Items that are too many.
 use Rattle.std.specs.Prelude.{◌+◌, ◌==◌, ◌||◌, Bool, false}
 use Rattle.ari_text.specs.Entries.{Saying, declares, rewrites, attributed, says_nothing}
-use Rattle.term_text.specs.Terms.{nodes_of}
+use Rattle.term_text.specs.Limits.{nodes_of}
 use Rattle.ari_text.specs.Faults.{Room, passes}
 
 abbrev pub is_too_many : Room → Saying → Bool

@@ -1,81 +1,77 @@
 -- The faults of the items behind the format, each with its place. A name is declared where some `fun` item with a name,
 -- a good arity and nothing else declares it, also one that stands further down; the first one gives its arity.
-use Rattle.std.specs.Prelude.{ℕ, zero, suc, ◌+◌, ◌-◌, ◌==◌, ◌||◌, nat_le, Bool, false, not, List, [], ◌∷◌, ◌++◌, Option, Some, None, if◌then◌else◌}
-use Rattle.std.specs.List.{list_any}
-use Rattle.std.specs.Str.{bytes_eq}
+use Rattle.std.specs.Prelude.{ℕ, zero, suc, ◌+◌, ◌-◌, ◌==◌, ◌||◌, nat_le, Bool, false, not, List, [], ◌∷◌, ◌++◌, Option, Some, None, Ok, Err, if◌then◌else◌}
 use Rattle.sexp_core.specs.Items.{Item, a_word, a_list, Items, no_items, item}
 use Rattle.numerals.specs.Numerals.{digits_value}
+use Rattle.text_reading.specs.Reading.{place_of}
+use Rattle.names_text.specs.declared.table.Symbol.{Symbol}
+use Rattle.names_text.specs.Symbols.{Declared, symbol_named}
+use Rattle.term_text.specs.declared.fault.TermFault.{TermFault}
+use Rattle.term_text.specs.declared.fault.TermFault.TheVariants.{EmptyList, ListAsHead, Undeclared, ArgumentLacks, ArgumentExtra, LoneSymbol, NewVariable}
+use Rattle.term_text.specs.Checked.{Faults, a_fault, both, Checked}
+use Rattle.term_text.specs.Limits.{nodes_of, nodes_left}
 use Rattle.ari_text.specs.declared.fault.AriFault.{AriFault}
 use Rattle.ari_text.specs.declared.fault.AriFault.TheVariants.{BadItem, Twice, BadArity, Unknown, WrongArity, LeftIsVariable, ExtraVariable, Attribute, TooMany, TooDeep}
-use Rattle.names_text.specs.Symbols.{Declared, arity_of, names_of}
 use Rattle.ari_text.specs.Entries.{Saying, declares, rewrites, attributed, says_nothing, entry_of}
-use Rattle.text_reading.specs.Reading.{place_of}
-use Rattle.term_text.specs.Terms.{variables_after, nodes_of, count, nodes_left}
+use Rattle.ari_text.specs.Rules.{rules_of}
 
--- where a term stands: in a left side, where any variable may occur, or in a right side, where these may
-pub data Scope : Type 0 where
-  left_side : Scope
-  right_side : (variables : List (List ℕ)) → Scope
+-- ---- the terms of a rule
 
-abbrev pub variable_faults : Scope → List ℕ → ℕ → List AriFault
-variable_faults left_side name at = []
-variable_faults (right_side variables) name at = if list_any (bytes_eq name) variables then [] else ExtraVariable at ∷ []
+-- the fault of a problem for what is no term
+abbrev pub ari_fault : TermFault → AriFault
+ari_fault (EmptyList at) = BadItem at
+ari_fault (ListAsHead at head_at) = BadItem at
+ari_fault (Undeclared head_at) = Unknown head_at
+ari_fault (ArgumentLacks at) = WrongArity at
+ari_fault (ArgumentExtra at extra_at) = WrongArity at
+ari_fault (LoneSymbol at) = WrongArity at
+ari_fault (NewVariable at) = ExtraVariable at
 
--- of a lone word, by its arity if it is declared
-abbrev pub word_faults : Scope → List ℕ → ℕ → Option ℕ → List AriFault
-word_faults scope name at None = variable_faults scope name at
-word_faults scope name at (Some zero) = []
-word_faults scope name at (Some (suc n)) = WrongArity at ∷ []
+abbrev pub ari_faults : Faults → List AriFault
+ari_faults (a_fault f) = ari_fault f ∷ []
+ari_faults (both ps qs) = ari_faults ps ++ ari_faults qs
 
--- of the head of a term at a place, by its own place, the number of arguments and its arity if it is declared
-abbrev pub head_faults : ℕ → ℕ → ℕ → Option ℕ → List AriFault
-head_faults at head_at args None = Unknown head_at ∷ []
-head_faults at head_at args (Some n) = if args == n then [] else WrongArity at ∷ []
+-- the faults of what was read
+abbrev pub faults_in : {A : Type 0} → Checked A → List AriFault
+faults_in (Ok x) = []
+faults_in (Err ps) = ari_faults ps
 
-abbrev pub depth_faults : ℕ → ℕ → List AriFault
-depth_faults depth at = if depth == 257 then TooDeep at ∷ [] else []
-
--- of a subterm at a depth; a side itself stands at depth 1
+-- the subterms that stand so many levels deeper
 abbrev mutual
-  pub term_faults : List Declared → Scope → ℕ → Item → List AriFault
-  term_faults symbols scope depth (a_word name at) = depth_faults depth at ++ word_faults scope name at (arity_of symbols name)
-  term_faults symbols scope depth (a_list members at) = depth_faults depth at ++ list_faults symbols scope depth at members
+  pub deep_faults : ℕ → Item → List AriFault
+  deep_faults zero x = TooDeep (place_of x) ∷ []
+  deep_faults (suc n) (a_word name at) = []
+  deep_faults (suc n) (a_list xs at) = deep_behind n xs
 
-  pub list_faults : List Declared → Scope → ℕ → ℕ → Items → List AriFault
-  list_faults symbols scope depth at no_items = BadItem at ∷ []
-  list_faults symbols scope depth at (item (a_list xs p) args) = BadItem at ∷ []
-  list_faults symbols scope depth at (item (a_word head p) args) =
-      head_faults at p (count args) (arity_of symbols head) ++ args_faults symbols scope (suc depth) args
+  pub deep_behind : ℕ → Items → List AriFault
+  deep_behind n no_items = []
+  deep_behind n (item head args) = all_deep_faults n args
 
-  pub args_faults : List Declared → Scope → ℕ → Items → List AriFault
-  args_faults symbols scope depth no_items = []
-  args_faults symbols scope depth (item x xs) = term_faults symbols scope depth x ++ args_faults symbols scope depth xs
+  pub all_deep_faults : ℕ → Items → List AriFault
+  all_deep_faults n no_items = []
+  all_deep_faults n (item x xs) = deep_faults n x ++ all_deep_faults n xs
 
-abbrev pub lone_faults : ℕ → Option ℕ → List AriFault
+abbrev pub lone_faults : ℕ → Option Symbol → List AriFault
 lone_faults at None = LeftIsVariable at ∷ []
-lone_faults at (Some n) = []
+lone_faults at (Some s) = []
 
 -- a left side that is a variable
 abbrev pub left_faults : List Declared → Item → List AriFault
-left_faults symbols (a_word name at) = lone_faults at (arity_of symbols name)
+left_faults symbols (a_word name at) = lone_faults at (symbol_named symbols name)
 left_faults symbols (a_list members at) = []
 
-abbrev pub sides_faults : List Declared → Item → Item → List AriFault
-sides_faults symbols left right =
-    left_faults symbols left
-    ++ (term_faults symbols left_side 1 left
-    ++ term_faults symbols (right_side (variables_after (names_of symbols) [] left)) 1 right)
+-- of what an item says: a left side that is a variable, and each subterm at depth 257, where a side stands at depth 1
+abbrev pub side_faults : List Declared → Saying → List AriFault
+side_faults symbols (declares name q arity r) = []
+side_faults symbols (rewrites left right) = left_faults symbols left ++ (deep_faults 256 left ++ deep_faults 256 right)
+side_faults symbols (attributed s at) = side_faults symbols s
+side_faults symbols says_nothing = []
 
--- of the terms of what an item says
-abbrev pub rule_faults : List Declared → Saying → List AriFault
-rule_faults symbols (declares name q arity r) = []
-rule_faults symbols (rewrites left right) = sides_faults symbols left right
-rule_faults symbols (attributed s at) = rule_faults symbols s
-rule_faults symbols says_nothing = []
+-- ---- declarations
 
-abbrev pub twice_faults : ℕ → Option ℕ → List AriFault
+abbrev pub twice_faults : ℕ → Option Symbol → List AriFault
 twice_faults at None = []
-twice_faults at (Some n) = Twice at ∷ []
+twice_faults at (Some s) = Twice at ∷ []
 
 abbrev pub arity_faults : ℕ → Option ℕ → List AriFault
 arity_faults at None = BadArity at ∷ []
@@ -84,19 +80,19 @@ arity_faults at (Some n) = []
 -- of what an item at a place says, its terms aside, after symbols that earlier items declare
 abbrev pub declaration_faults : List Declared → ℕ → Saying → List AriFault
 declaration_faults symbols at (declares name q arity r) =
-    twice_faults q (arity_of symbols name) ++ arity_faults r (digits_value 255 arity)
+    twice_faults q (symbol_named symbols name) ++ arity_faults r (digits_value 255 arity)
 declaration_faults symbols at (rewrites left right) = []
 declaration_faults symbols at (attributed s q) = declaration_faults symbols at s ++ Attribute q ∷ []
 declaration_faults symbols at says_nothing = BadItem at ∷ []
 
 -- the symbols with one more, if its name is new and its arity good
-abbrev pub with_symbol : List Declared → List ℕ → Option ℕ → Option ℕ → List Declared
+abbrev pub with_symbol : List Declared → List ℕ → Option Symbol → Option ℕ → List Declared
 with_symbol symbols name (Some known) arity = symbols
 with_symbol symbols name None None = symbols
 with_symbol symbols name None (Some n) = symbols ++ (name, n) ∷ []
 
 abbrev pub symbols_after : List Declared → Saying → List Declared
-symbols_after symbols (declares name q arity r) = with_symbol symbols name (arity_of symbols name) (digits_value 255 arity)
+symbols_after symbols (declares name q arity r) = with_symbol symbols name (symbol_named symbols name) (digits_value 255 arity)
 symbols_after symbols (rewrites left right) = symbols
 symbols_after symbols (attributed s at) = symbols
 symbols_after symbols says_nothing = symbols
@@ -141,10 +137,14 @@ all_declaration_faults symbols room (item x xs) =
     (count_faults room (place_of x) (entry_of x) ++ declaration_faults symbols (place_of x) (entry_of x))
     ++ all_declaration_faults (symbols_after symbols (entry_of x)) (room_after room (entry_of x)) xs
 
-abbrev pub all_rule_faults : List Declared → Items → List AriFault
-all_rule_faults symbols no_items = []
-all_rule_faults symbols (item x xs) = rule_faults symbols (entry_of x) ++ all_rule_faults symbols xs
+abbrev pub all_side_faults : List Declared → Items → List AriFault
+all_side_faults symbols no_items = []
+all_side_faults symbols (item x xs) = side_faults symbols (entry_of x) ++ all_side_faults symbols xs
+
+-- of the rules of items over these symbols
+abbrev pub rule_faults : List Declared → Items → List AriFault
+rule_faults symbols items = all_side_faults symbols items ++ faults_in (rules_of symbols items)
 
 -- all faults of the items behind the format
 abbrev pub faults_of : Items → List AriFault
-faults_of items = all_declaration_faults [] whole_room items ++ all_rule_faults (symbols_of [] items) items
+faults_of items = all_declaration_faults [] whole_room items ++ rule_faults (symbols_of [] items) items

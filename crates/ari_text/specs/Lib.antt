@@ -6,6 +6,7 @@ pub mod Problem
 pub mod FaultParts
 pub mod EntryView
 pub mod Counted
-pub mod ScopeView
 pub mod PrintedProblem
 pub mod PartsView
+pub mod Unless
+pub mod LesserLaws

@@ -1,13 +1,15 @@
 -- What a problem text says: the ARI format of the termination and confluence competitions, format TRS, in the profile
 -- of docs/PROBLEM-FORMAT.md.
-use Rattle.std.specs.Prelude.{◌≡◌, ℕ, Bool, false, List, [], Option, Some, None, codes, if◌then◌else◌}
+use Rattle.std.specs.Prelude.{◌≡◌, ℕ, Bool, false, List, [], Option, Some, None, Ok, codes, if◌then◌else◌}
 use Rattle.std.specs.Option.{option_or}
 use Rattle.std.specs.Str.{bytes_eq}
 use Rattle.sexp_core.specs.Items.{Item, a_word, a_list, Items, no_items, item}
 use Rattle.sexp_core.specs.Reads.{Reads, fault_of}
 use Rattle.ari_text.specs.declared.fault.AriFault.{AriFault}
 use Rattle.ari_text.specs.declared.fault.AriFault.TheVariants as fault
-use Rattle.names_text.specs.Symbols.{names_of, arities_of}
+use Rattle.trs_defs.specs.System.{RewriteRule}
+use Rattle.names_text.specs.Symbols.{Declared, names_of, arities_of}
+use Rattle.term_text.specs.Checked.{Checked, ◌<*>◌}
 use Rattle.ari_text.specs.Least.{noted}
 use Rattle.ari_text.specs.Faults.{faults_of, symbols_of}
 use Rattle.ari_text.specs.Rules.{rules_of}
@@ -37,15 +39,17 @@ abbrev pub later_items : Items → Items
 later_items no_items = no_items
 later_items (item x xs) = xs
 
+-- a system of these symbols, with rules
+abbrev pub with_names : List Declared → List RewriteRule → NamedSystem
+with_names symbols rules = record {
+  names = names_of symbols;
+  system = record { arities = arities_of symbols; rules = rules };
+}
+
 -- the system that the items behind the format write: symbols in the order of their declarations, rules in the order of
 -- their items
-abbrev pub system_of : Items → NamedSystem
-system_of items =
-    let symbols = symbols_of [] items in
-    record {
-      names = names_of symbols;
-      system = record { arities = arities_of symbols; rules = rules_of (names_of symbols) items };
-    }
+abbrev pub system_of : Items → Checked NamedSystem
+system_of items = let symbols = symbols_of [] items in Ok (with_names symbols) <*> rules_of symbols items
 
 -- the text says this system
 pub record SaysSystem (text : List ℕ) (named : NamedSystem) : Type 0 where
@@ -53,7 +57,7 @@ pub record SaysSystem (text : List ℕ) (named : NamedSystem) : Type 0 where
   pub reads : Reads text items
   pub readable : fault_of 300 text ≡ None
   pub faultless : problem_fault items ≡ None
-  pub system : named ≡ system_of (later_items items)
+  pub system : system_of (later_items items) ≡ Ok named
 
 -- the text is read as items that have this fault
 pub record HasProblemFault (text : List ℕ) (f : AriFault) : Type 0 where

@@ -1,137 +1,50 @@
-ghost use Rattle.std.specs.Prelude.{◌≡◌, ◌+◌, ◌++◌, [], None, OnOk, IfOk};
-ghost use Rattle.std.specs.Str.{bytes_eq};
+ghost use Rattle.std.specs.Prelude.{◌≡◌, ◌≢◌, ◌+◌, ◌++◌, [], None, Some, Ok, OnOk, IfOk, IfErr};
 ghost use Rattle.sexp_core.specs.Items.{view, views};
 ghost use Rattle.ari_text.specs.Entries.{entry_of};
-ghost use Rattle.text_reading.specs.Reading.{place_of};
 ghost use Rattle.ari_text.specs.EntryView.{entry_view, saying_view};
-ghost use Rattle.names_text.specs.Symbols.{arity_of};
-ghost use Rattle.ari_text.specs.ScopeView.{scope_view, IsBelow};
 ghost use Rattle.ari_text.specs.Least.{noted};
-ghost use Rattle.term_text.specs.Terms.{count};
-ghost use Rattle.ari_text.specs.Faults.{variable_faults, word_faults, depth_faults, head_faults, term_faults, list_faults, args_faults, left_faults, sides_faults, rule_faults, count_faults, declaration_faults, twice_faults, arity_faults, with_symbol, symbols_after, room_after, whole_room, symbols_of, all_declaration_faults, all_rule_faults, faults_of};
+ghost use Rattle.ari_text.specs.Unless.{unless_noted};
+ghost use Rattle.ari_text.specs.Rules.{rules_of};
+ghost use Rattle.ari_text.specs.Faults.{deep_faults, all_deep_faults, left_faults, side_faults, all_side_faults, count_faults, declaration_faults, twice_faults, arity_faults, with_symbol, symbols_after, room_after, whole_room, symbols_of, all_declaration_faults, faults_of};
 
 use crate::counting::Room;
 use crate::entry::{Entry, Saying, read_entry};
 use crate::fault::{AriFault, note};
+use crate::rules::read_rules;
 use names_text::Symbols;
 use numerals::digits_value;
 use sexp_core::Sexp;
 use std::alloc::{AllocError, Global};
-use term_text::{Variables, variables_of};
+use term_text::{Judged, Refusal};
 use text_reading::place;
+use trs_core::Rule;
 
-/// Where a term stands: in a left side, or in a right side, where these variables may occur.
-#[derive(Clone, Copy)]
-enum Scope<'s, 'a> {
-    Left,
-    Right(&'s Variables<'a>),
-}
-
-// A variable at a place.
-fn note_variable(least: &mut Option<AriFault>, scope: &Scope<'_, '_>, name: &[u8], at: u32)
-    ensures { least.new ≡ noted least.old (variable_faults (scope_view scope.now) name.now at) }
+// Each subterm that stands so many levels deeper.
+#[cycle(deep)]
+fn note_deep(least: &mut Option<AriFault>, levels: u32, term: &Sexp)
+    ensures { least.new ≡ noted least.old (deep_faults levels (view term.now)) }
 {
-    match scope {
-        Scope::Left => {}
-        Scope::Right(variables) => {
-            if !variables.contains(name) {
-                note(least, AriFault::ExtraVariable(at));
-            }
-        }
-    }
-}
-
-// A lone word, by its arity if it is declared.
-fn note_word(
-    least: &mut Option<AriFault>,
-    scope: &Scope<'_, '_>,
-    name: &[u8],
-    at: u32,
-    arity: Option<u8>,
-)
-    ensures { least.new ≡ noted least.old (word_faults (scope_view scope.now) name.now at arity) }
-{
-    match arity {
-        None => note_variable(least, scope, name, at),
-        Some(arity) => {
-            if arity != 0 {
-                note(least, AriFault::WrongArity(at));
-            }
-        }
-    }
-}
-
-// The head of a term, by its arity if it is declared.
-#[tactic(auto, using(term_text::proofs::BuiltTerms::count_views))]
-fn note_head(least: &mut Option<AriFault>, at: u32, head_at: u32, args: &[Sexp], arity: Option<u8>)
-    ensures { least.new ≡ noted least.old (head_faults at head_at (count (views args.now)) arity) }
-{
-    match arity {
-        None => note(least, AriFault::Unknown(head_at)),
-        Some(arity) => {
-            if args.len() != arity as usize {
-                note(least, AriFault::WrongArity(at));
-            }
-        }
-    }
-}
-
-fn note_depth(least: &mut Option<AriFault>, depth: u32, at: u32)
-    ensures { least.new ≡ noted least.old (depth_faults depth at) }
-{
-    if depth == 257 {
-        note(least, AriFault::TooDeep(at));
-    }
-}
-
-// The depth below. It stands still far behind the depth at which a subterm is a fault.
-fn below(depth: u32) -> u32
-    ensures { IsBelow depth result }
-{
-    depth.saturating_add(1)
-}
-
-// A subterm at a depth.
-#[cycle(terms)]
-#[tactic(auto, using(crate::proofs::Noting::noted_append, crate::proofs::Noting::args_below, std::proofs::lemmas::Grind::common_steps))]
-fn note_term<'s, 'a>(
-    least: &mut Option<AriFault>,
-    symbols: &Symbols,
-    scope: &Scope<'s, 'a>,
-    depth: u32,
-    term: &Sexp,
-)
-    ensures { least.new ≡ noted least.old (term_faults symbols.now (scope_view scope.now) depth (view term.now)) }
-{
+    let Some(below) = levels.checked_sub(1) else {
+        note(least, AriFault::TooDeep(place(term)));
+        return;
+    };
     match term {
-        Sexp::Word(name, at) => {
-            note_depth(least, depth, *at);
-            note_word(least, scope, name, *at, symbols.arity(name));
-        }
-        Sexp::List(members, at) => {
-            note_depth(least, depth, *at);
-            let Some((Sexp::Word(head, head_at), args)) = members.split_first() else {
-                note(least, AriFault::BadItem(*at));
+        Sexp::Word(_, _) => {}
+        Sexp::List(members, _) => {
+            let Some((_, args)) = members.split_first() else {
                 return;
             };
-            note_head(least, *at, *head_at, args, symbols.arity(head));
-            note_args(least, symbols, scope, below(depth), args);
+            note_all_deep(least, below, args);
         }
     }
 }
 
-#[cycle(terms)]
-fn note_args<'s, 'a>(
-    least: &mut Option<AriFault>,
-    symbols: &Symbols,
-    scope: &Scope<'s, 'a>,
-    depth: u32,
-    args: &[Sexp],
-)
-    ensures { least.new ≡ noted least.old (args_faults symbols.now (scope_view scope.now) depth (views args.now)) }
+#[cycle(deep)]
+fn note_all_deep(least: &mut Option<AriFault>, levels: u32, args: &[Sexp])
+    ensures { least.new ≡ noted least.old (all_deep_faults levels (views args.now)) }
 {
     for arg in args {
-        note_term(least, symbols, scope, depth, arg);
+        note_deep(least, levels, arg);
     }
 }
 
@@ -142,7 +55,7 @@ fn note_left(least: &mut Option<AriFault>, symbols: &Symbols, left: &Sexp)
     match left {
         Sexp::List(_, _) => {}
         Sexp::Word(name, at) => {
-            let None = symbols.arity(name) else {
+            let None = symbols.find(name) else {
                 return;
             };
             note(least, AriFault::LeftIsVariable(*at));
@@ -150,37 +63,16 @@ fn note_left(least: &mut Option<AriFault>, symbols: &Symbols, left: &Sexp)
     }
 }
 
-#[tactic(auto, using(crate::proofs::Noting::noted_append, std::proofs::lemmas::Grind::common_steps))]
-fn note_sides(
-    least: &mut Option<AriFault>,
-    alloc: Global,
-    symbols: &Symbols,
-    left: &Sexp,
-    right: &Sexp,
-) -> Result<(), AllocError>
-    ensures { OnOk result (least.new ≡ noted least.old (sides_faults symbols.now (view left.now) (view right.now))) }
-{
-    note_left(least, symbols, left);
-    note_term(least, symbols, &Scope::Left, 1, left);
-    let variables = variables_of(alloc, symbols.names(), left)?;
-    note_term(least, symbols, &Scope::Right(&variables), 1, right);
-    Ok(())
-}
-
-// The terms of what an item says.
-#[tactic(auto, using(crate::proofs::Noting::rule_faults_aside))]
-fn note_rule(
-    least: &mut Option<AriFault>,
-    alloc: Global,
-    symbols: &Symbols,
-    item: &Sexp,
-) -> Result<(), AllocError>
-    ensures { OnOk result (least.new ≡ noted least.old (rule_faults symbols.now (entry_of (view item.now)))) }
+// What an item says: a left side that is a variable, and what stands at depth 257 in a side.
+#[tactic(auto, using(crate::proofs::Leasts::noted_append, crate::proofs::Noting::side_faults_aside, std::proofs::lemmas::Grind::common_steps))]
+fn note_sides(least: &mut Option<AriFault>, symbols: &Symbols, item: &Sexp)
+    ensures { least.new ≡ noted least.old (side_faults symbols.now (entry_of (view item.now))) }
 {
     if let Saying::Rewrites(left, right) = read_entry(item).saying {
-        note_sides(least, alloc, symbols, left, right)?;
+        note_left(least, symbols, left);
+        note_deep(least, 256, left);
+        note_deep(least, 256, right);
     }
-    Ok(())
 }
 
 // What an item says wrongly, its terms aside, behind these symbols.
@@ -191,7 +83,7 @@ fn note_saying(least: &mut Option<AriFault>, symbols: &Symbols, at: u32, saying:
         Saying::Rewrites(_, _) => {}
         Saying::Nothing => note(least, AriFault::BadItem(at)),
         Saying::Declares(name, name_at, arity, arity_at) => {
-            if symbols.arity(name).is_some() {
+            if symbols.find(name).is_some() {
                 note(least, AriFault::Twice(*name_at));
             }
             if digits_value(arity, 255).is_none() {
@@ -201,7 +93,7 @@ fn note_saying(least: &mut Option<AriFault>, symbols: &Symbols, at: u32, saying:
     }
 }
 
-#[tactic(auto, using(crate::proofs::Noting::noted_append))]
+#[tactic(auto, using(crate::proofs::Leasts::noted_append))]
 fn note_entry(least: &mut Option<AriFault>, symbols: &Symbols, at: u32, entry: &Entry<'_>)
     ensures { least.new ≡ noted least.old (declaration_faults symbols.now at (entry_view entry.now)) }
 {
@@ -221,7 +113,7 @@ fn declare(symbols: &mut Symbols, alloc: Global, entry: &Entry<'_>) -> Result<()
     let Saying::Declares(name, _, arity, _) = entry.saying else {
         return Ok(());
     };
-    let None = symbols.arity(name) else {
+    let None = symbols.find(name) else {
         return Ok(());
     };
     let Some(arity) = digits_value(arity, 255) else {
@@ -243,15 +135,16 @@ fn note_count(least: &mut Option<AriFault>, room: &mut Room, at: u32, entry: &En
 
 /// The declared symbols, and the least of the faults so far.
 #[derive(Drop)]
-pub struct Checked {
-    pub symbols: Symbols,
-    pub least: Option<AriFault>,
+struct Declarations {
+    symbols: Symbols,
+    least: Option<AriFault>,
 }
 
 // What the items declare, and the least of the faults of that.
-fn check_declarations(alloc: Global, items: &[Sexp]) -> Result<Checked, AllocError>
+fn check_declarations(alloc: Global, items: &[Sexp]) -> Result<Declarations, AllocError>
     ensures symbols { IfOk result (λ d. d.symbols ≡ symbols_of [] (views items.now)) }
-    ensures least { IfOk result (λ d. d.least ≡ noted None (all_declaration_faults [] whole_room (views items.now))) }
+    ensures least { IfOk result (λ d. d.least
+        ≡ noted None (all_declaration_faults [] whole_room (views items.now))) }
 {
     let mut symbols = Symbols::new(alloc);
     let mut least = None;
@@ -263,31 +156,41 @@ fn check_declarations(alloc: Global, items: &[Sexp]) -> Result<Checked, AllocErr
         note_entry(&mut least, &symbols, at, &entry);
         declare(&mut symbols, alloc, &entry)?;
     }
-    Ok(Checked { symbols, least })
+    Ok(Declarations { symbols, least })
 }
 
-// Notes the faults of the terms.
-fn note_rules(
-    least: &mut Option<AriFault>,
-    alloc: Global,
-    symbols: &Symbols,
-    items: &[Sexp],
-) -> Result<(), AllocError>
-    ensures { OnOk result (least.new ≡ noted least.old (all_rule_faults symbols.now (views items.now))) }
+fn note_all_sides(least: &mut Option<AriFault>, symbols: &Symbols, items: &[Sexp])
+    ensures { least.new ≡ noted least.old (all_side_faults symbols.now (views items.now)) }
 {
     for item in items {
-        note_rule(least, alloc, symbols, item)?;
+        note_sides(least, symbols, item);
     }
-    Ok(())
 }
 
-/// The symbols that the items behind the format declare, and the least of all faults of these items.
-#[tactic(auto, using(crate::proofs::Noting::noted_append, std::proofs::lemmas::Grind::common_steps))]
-pub fn check(alloc: Global, items: &[Sexp]) -> Result<Checked, AllocError>
-    ensures symbols { IfOk result (λ c. c.symbols ≡ symbols_of [] (views items.now)) }
-    ensures least { IfOk result (λ c. c.least ≡ noted None (faults_of (views items.now))) }
+// What was read, if there is no other fault, else the least of all faults.
+fn unless<T: Drop>(read: Judged<T, AriFault>, least: Option<AriFault>) -> Result<T, AriFault>
+    ensures { result ≡ unless_noted read least }
 {
-    let mut checked = check_declarations(alloc, items)?;
-    note_rules(&mut checked.least, alloc, &checked.symbols, items)?;
-    Ok(checked)
+    match least {
+        None => read,
+        Some(known) => match read {
+            Ok(_) => Err(known),
+            Err(fault) => Err(known.both(fault)),
+        },
+    }
+}
+
+/// The symbols that the items behind the format declare, and their rules, or the least of all faults of these items.
+pub fn check(alloc: Global, items: &[Sexp]) -> Result<(Symbols, Vec<Rule>), AriFault>
+    ensures symbols { IfOk result (λ c. c.0 ≡ symbols_of [] (views items.now)) }
+    ensures rules { IfOk result (λ c. rules_of (symbols_of [] (views items.now)) (views items.now)
+        ≡ Ok c.1.items) }
+    ensures faultless { OnOk result (noted None (faults_of (views items.now)) ≡ None) }
+    ensures fault { IfErr result (λ e. e ≢ AriFault.OutOfMemory
+        → noted None (faults_of (views items.now)) ≡ Some e) }
+{
+    let Declarations { symbols, mut least } = check_declarations(alloc, items)?;
+    note_all_sides(&mut least, &symbols, items);
+    let rules = unless(read_rules(alloc, &symbols, items)?, least)?;
+    Ok((symbols, rules))
 }

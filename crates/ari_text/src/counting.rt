@@ -2,7 +2,7 @@ ghost use Rattle.std.specs.Prelude.{◌≡◌, ◌+◌};
 ghost use Rattle.sexp_core.specs.Items.{view, views};
 ghost use Rattle.ari_text.specs.EntryView.{entry_view, saying_view};
 ghost use Rattle.ari_text.specs.Faults.{whole_room, room_after};
-ghost use Rattle.term_text.specs.Terms.{nodes_left, nodes_of, nodes_behind, nodes_of_all};
+ghost use Rattle.term_text.specs.Limits.{nodes_left, nodes_of};
 ghost use Rattle.ari_text.specs.Counted.{is_too_many};
 
 use crate::entry::{Entry, Saying};

@@ -1,11 +1,12 @@
 ghost use Rattle.std.specs.Prelude.{◌≡◌};
 ghost use Rattle.std.specs.Option.{option_copied};
-ghost use Rattle.ari_text.specs.Least.{comes_before, place_of_fault, number_of_fault, earlier};
+ghost use Rattle.ari_text.specs.Least.{stands_before, comes_before, number_of_fault, earlier};
 ghost use Rattle.ari_text.specs.FaultParts.{from_text, text_number, text_place, shown_place, text_number_of};
 ghost use Rattle.ari_text.specs.declared.fault.AriFault.TheVariants.{OutOfMemory as no_memory};
 
 use sexp_core::TextFault;
 use std::alloc::{AllocError, AllocFailed};
+use term_text::{Refusal, TermFault};
 
 /// Why a problem text has no system. Places are byte offsets from 0. The numbers 1 to 14 are in the order of the
 /// variants.
@@ -94,32 +95,24 @@ impl AriFault {
         Some(text_number_of(fault))
     }
 
-    // The place by which faults are compared.
-    fn offset(&self) -> u32
-        ensures { result ≡ place_of_fault self.now }
-    {
-        match self {
-            AriFault::Text(_) | AriFault::NoFormat | AriFault::OutOfMemory => 0,
-            AriFault::OtherFormat(at)
-            | AriFault::BadItem(at)
-            | AriFault::Twice(at)
-            | AriFault::BadArity(at)
-            | AriFault::Unknown(at)
-            | AriFault::WrongArity(at)
-            | AriFault::LeftIsVariable(at)
-            | AriFault::ExtraVariable(at)
-            | AriFault::Attribute(at)
-            | AriFault::TooMany(at)
-            | AriFault::TooDeep(at) => *at,
-        }
-    }
-
     #[tactic(auto, unfolding(crate::specs::Least::comes_before))]
     fn comes_before(&self, other: &AriFault) -> bool
         ensures { result ≡ comes_before self.now other.now }
     {
-        self.offset() < other.offset()
-            || self.offset() == other.offset() && self.number() < other.number()
+        let (place, other_place) = (self.place(), other.place());
+        stands_before(place, other_place)
+            || !stands_before(other_place, place) && self.number() < other.number()
+    }
+}
+
+// By places. A fault without a place is one of the whole text.
+fn stands_before(place: Option<u32>, other: Option<u32>) -> bool
+    ensures { result ≡ stands_before place other }
+{
+    match (place, other) {
+        (Some(place), Some(other)) => place < other,
+        (None, Some(_)) => true,
+        (_, None) => false,
     }
 }
 
@@ -157,6 +150,37 @@ pub fn note(least: &mut Option<AriFault>, fault: AriFault)
             if fault.comes_before(known) {
                 *least = Some(fault);
             }
+        }
+    }
+}
+
+impl Refusal for AriFault {
+    ghost use Rattle.ari_text.specs.Least.{lesser};
+    ghost use Rattle.ari_text.specs.Faults.{ari_fault};
+    ghost use Rattle.ari_text.specs.LesserLaws.{lesser_associative};
+
+    ghost of = { ari_fault };
+
+    ghost both = { lesser };
+
+    ghost associative = { lesser_associative };
+
+    fn of(fault: TermFault) -> AriFault {
+        match fault {
+            TermFault::EmptyList(at) | TermFault::ListAsHead(at, _) => AriFault::BadItem(at),
+            TermFault::Undeclared(at) => AriFault::Unknown(at),
+            TermFault::ArgumentLacks(at)
+            | TermFault::ArgumentExtra(at, _)
+            | TermFault::LoneSymbol(at) => AriFault::WrongArity(at),
+            TermFault::NewVariable(at) => AriFault::ExtraVariable(at),
+        }
+    }
+
+    fn both(self, other: AriFault) -> AriFault {
+        if other.comes_before(&self) {
+            other
+        } else {
+            self
         }
     }
 }

@@ -1,7 +1,6 @@
 //! Problem texts: the ARI format of the termination and confluence competitions, format TRS, read and printed.
 #![tactic(auto)]
 
-mod building;
 mod checking;
 mod counting;
 mod entry;
@@ -9,6 +8,7 @@ mod fault;
 mod laws;
 mod printing;
 mod reading;
+mod rules;
 
 pub use fault::AriFault;
 pub use laws::least_is_least;

@@ -1,4 +1,4 @@
-ghost use Rattle.std.specs.Prelude.{◌≡◌, ◌≢◌, ◌≤◌, ◌^◌, length, None, Some, IfOk, IfErr, OnOk, IsOkUnless, MatchResult};
+ghost use Rattle.std.specs.Prelude.{◌≡◌, ◌≢◌, ◌≤◌, ◌^◌, length, None, Some, Ok, IfOk, IfErr, OnOk, IsOkUnless, MatchResult};
 ghost use Rattle.sexp_core.specs.Items.{view, views};
 ghost use Rattle.ari_text.specs.Least.{noted};
 ghost use Rattle.ari_text.specs.Faults.{faults_of};
@@ -6,8 +6,7 @@ ghost use Rattle.names_text.specs.Named.{NamedSystem, IsNamed};
 ghost use Rattle.ari_text.specs.Problem.{is_trs as is_trs_of, format_list_fault as list_fault, format_fault as fault_of_format, problem_fault, later_items, system_of, SaysSystem, IsProblemRefused};
 ghost use Rattle.ari_text.specs.PartsView.{parts_view};
 
-use crate::building::build_rules;
-use crate::checking::{Checked, check};
+use crate::checking::check;
 use crate::fault::AriFault;
 use names_text::{NamedTrs, Names};
 use sexp_core::{Sexp, read_all};
@@ -38,9 +37,10 @@ pub fn read_problem(alloc: Global, text: &[u8]) -> Result<NamedTrs, AriFault>
 
 // The parts of the system that the items of a text say.
 fn read_items(alloc: Global, items: &[Sexp]) -> Result<Parts, AriFault>
-    ensures parts { IfOk result (λ p. parts_view p ≡ system_of (later_items (views items.now))) }
+    ensures parts { IfOk result (λ p. system_of (later_items (views items.now)) ≡ Ok (parts_view p)) }
     ensures faultless { OnOk result (problem_fault (views items.now) ≡ None) }
-    ensures fault { IfErr result (λ e. e ≢ AriFault.OutOfMemory → problem_fault (views items.now) ≡ Some e) }
+    ensures fault { IfErr result (λ e. e ≢ AriFault.OutOfMemory
+        → problem_fault (views items.now) ≡ Some e) }
 {
     let Some((format, later)) = items.split_first() else {
         return Err(AriFault::NoFormat);
@@ -53,15 +53,12 @@ fn read_items(alloc: Global, items: &[Sexp]) -> Result<Parts, AriFault>
 
 // The parts of the system that the items behind the format say.
 fn read_later(alloc: Global, items: &[Sexp]) -> Result<Parts, AriFault>
-    ensures parts { IfOk result (λ p. parts_view p ≡ system_of (views items.now)) }
+    ensures parts { IfOk result (λ p. system_of (views items.now) ≡ Ok (parts_view p)) }
     ensures faultless { OnOk result (noted None (faults_of (views items.now)) ≡ None) }
-    ensures fault { IfErr result (λ e. e ≢ AriFault.OutOfMemory → noted None (faults_of (views items.now)) ≡ Some e) }
+    ensures fault { IfErr result (λ e. e ≢ AriFault.OutOfMemory
+        → noted None (faults_of (views items.now)) ≡ Some e) }
 {
-    let Checked { symbols, least } = check(alloc, items)?;
-    if let Some(fault) = least {
-        return Err(fault);
-    }
-    let rules = build_rules(alloc, symbols.names(), items)?;
+    let (symbols, rules) = check(alloc, items)?;
     let (names, arities) = symbols.into_parts();
     Ok(Parts {
         names,

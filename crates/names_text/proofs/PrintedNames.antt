@@ -15,7 +15,6 @@ use Rattle.sexp_core.specs.Printed.{IsWord}
 use Rattle.numerals.specs.Numerals.{digits_value}
 use Rattle.numerals.proofs.Printed.{decimal_digits, digits_read}
 use Rattle.names_text.specs.Names.{number_among, are_distinct}
-use Rattle.names_text.specs.Symbols.{paired, arity_of}
 use Rattle.names_text.specs.Named.{is_word}
 use Rattle.names_text.specs.VariableNames.{leading_underscores, underscores, variable_name}
 use Rattle.text_reading.proofs.Words.{decimal_word, letters}
@@ -90,19 +89,6 @@ symbol_number (n ∷ ns) (suc f) d lt =
     nat_list_eq_equiv.symm (get_or ns f []) n ∙ any_other ns n f (not-true _ parts.0) (omega arith) in
     rw (differ, symbol_number ns f parts.1 (omega arith)) refl
 
-arity_behind : (b : Bool) (a : ℕ) (as' : List ℕ) (o o' : Option ℕ) → o ≡ option_and_then (λ i. slice_get as' i) o'
-    → cond b (Some a) o ≡ option_and_then (λ i. slice_get (a ∷ as') i) (cond b (Some 0) (option_map suc o'))
-arity_behind true a as' o o' e = refl
-arity_behind false a as' o None e = e
-arity_behind false a as' o (Some i) e = e
-
--- the arity of a name is that of its number
-pub arity_by_number : (ns : List (List ℕ)) (as' : List ℕ) (n : List ℕ) → length ns ≡ length as'
-    → arity_of (paired ns as') n ≡ option_and_then (λ i. slice_get as' i) (number_among ns n)
-arity_by_number [] as' n l = refl
-arity_by_number (x ∷ ns) [] n l = absurd (omega arith)
-arity_by_number (x ∷ ns) (a ∷ as') n l = arity_behind (bytes_eq n x) a as' _ (number_among ns n) (arity_by_number ns as' n (omega arith))
-
 -- ---- variables
 
 -- the names of the variables below a number
@@ -110,7 +96,7 @@ abbrev pub variables_to : ℕ → ℕ → List (List ℕ)
 variables_to k zero = []
 variables_to k (suc m) = variables_to k m ++ variable_name k m ∷ []
 
-length_variables : (k m : ℕ) → length (variables_to k m) ≡ m
+pub length_variables : (k m : ℕ) → length (variables_to k m) ≡ m
 length_variables k zero = refl
 length_variables k (suc m) = omega (arith, length-append (variables_to k m) (variable_name k m ∷ []), length_variables k m)
 

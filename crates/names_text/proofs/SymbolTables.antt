@@ -1,52 +1,13 @@
 -- The symbols that items declare, where the items have no faults.
-use Rattle.std.proofs.Common.{◌≡◌, ℕ, suc, ◌||◌, Bool, true, false, not, cond, List, [], ◌∷◌, ◌++◌, length, Option, Some, None, option_map, slice_get, refl, sym, ap}
+use Rattle.std.proofs.Common.{◌≡◌, ℕ, suc, ◌||◌, Bool, true, false, not, cond, List, [], ◌∷◌, ◌++◌, length, Option, Some, None, option_map, slice_get, refl, sym, ap, ◌<◌, arith, subst}
 use Rattle.std.specs.List.{list_any}
 use Rattle.std.specs.Str.{bytes_eq}
 use Rattle.std.proofs.lemmas.Bool.{and_parts, and_from, or_parts, or_from, not-true, false_from_ne_true}
 use Rattle.std.proofs.lemmas.List.{map-append}
 use Rattle.std.proofs.lemmas.Slice.Eq.{bytes_eq-Decides}
 use Rattle.names_text.specs.Names.{number_among, are_distinct}
-use Rattle.names_text.specs.Symbols.{Declared, names_of, arities_of, arity_of}
-
--- ---- a name's number and its arity
-
-abbrev Agree : List ℕ → Option ℕ → Option ℕ → Type 0
-Agree arities None None = Unit {0}
-Agree arities None (Some n) = ⊥
-Agree arities (Some f) None = ⊥
-Agree arities (Some f) (Some n) = slice_get arities f ≡ Some n
-
-agree_behind : (b : Bool) (a : ℕ) (arities : List ℕ) (f n : Option ℕ) → Agree arities f n → Agree (a ∷ arities) (cond b (Some 0) (option_map suc f)) (cond b (Some a) n)
-agree_behind true a arities f n h = refl
-agree_behind false a arities None None h = tt
-agree_behind false a arities None (Some n) h = h
-agree_behind false a arities (Some f) None h = h
-agree_behind false a arities (Some f) (Some n) h = h
-
-agree : (symbols : List Declared) (name : List ℕ) → Agree (arities_of symbols) (number_among (names_of symbols) name) (arity_of symbols name)
-agree [] name = tt
-agree (s ∷ symbols) name =
-    agree_behind (bytes_eq name s.0) s.1 (arities_of symbols) (number_among (names_of symbols) name) (arity_of symbols name) (agree symbols name)
-
--- the name of a symbol with n arguments
-pub record IsSymbol (symbols : List Declared) (name : List ℕ) (n : ℕ) : Type 0 where
-  pub number : ℕ
-  pub numbered : number_among (names_of symbols) name ≡ Some number
-  pub arity : slice_get (arities_of symbols) number ≡ Some n
-
-pub is_symbol : (symbols : List Declared) (name : List ℕ) (n : ℕ) → arity_of symbols name ≡ Some n → IsSymbol symbols name n
-is_symbol symbols name n e = go (number_among (names_of symbols) name) refl (rw e at (agree symbols name))
-  where
-    go : (o : Option ℕ) → number_among (names_of symbols) name ≡ o → Agree (arities_of symbols) o (Some n) → IsSymbol symbols name n
-    go None is h = absurd h
-    go (Some f) is h = record { number = f; numbered = is; arity = h }
-
-pub no_symbol : (symbols : List Declared) (name : List ℕ) → arity_of symbols name ≡ None → number_among (names_of symbols) name ≡ None
-no_symbol symbols name e = go (number_among (names_of symbols) name) refl (rw e at (agree symbols name))
-  where
-    go : (o : Option ℕ) → number_among (names_of symbols) name ≡ o → Agree (arities_of symbols) o None → number_among (names_of symbols) name ≡ None
-    go None is h = is
-    go (Some f) is h = absurd h
+use Rattle.names_text.specs.Symbols.{Declared, names_of, arities_of, one_behind, symbol_named}
+use Rattle.names_text.specs.declared.table.Symbol.{Symbol}
 
 pub same_count : (symbols : List Declared) → length (names_of symbols) ≡ length (arities_of symbols)
 same_count [] = refl
@@ -54,14 +15,15 @@ same_count (s ∷ symbols) = ap suc (same_count symbols)
 
 -- ---- distinct names
 
-absent_behind : (b : Bool) (a : ℕ) (o : Option ℕ) (rest : Bool) → cond b (Some a) o ≡ None → (o ≡ None → rest ≡ false) → (b || rest) ≡ false
+absent_behind : (b : Bool) (a : Symbol) (o : Option Symbol) (rest : Bool) → cond b (Some a) (option_map one_behind o) ≡ None → (o ≡ None → rest ≡ false) → (b || rest) ≡ false
 absent_behind true a o rest e h = absurd cc
-absent_behind false a o rest e h = h e
+absent_behind false a None rest e h = h refl
+absent_behind false a (Some s) rest e h = absurd cc
 
-absent : (symbols : List Declared) (name : List ℕ) → arity_of symbols name ≡ None → list_any (bytes_eq name) (names_of symbols) ≡ false
+absent : (symbols : List Declared) (name : List ℕ) → symbol_named symbols name ≡ None → list_any (bytes_eq name) (names_of symbols) ≡ false
 absent [] name e = refl
 absent (s ∷ symbols) name e =
-    absent_behind (bytes_eq name s.0) s.1 (arity_of symbols name) (list_any (bytes_eq name) (names_of symbols)) e (absent symbols name)
+    absent_behind (bytes_eq name s.0) (record { number = 0; arity = s.1 }) (symbol_named symbols name) (list_any (bytes_eq name) (names_of symbols)) e (absent symbols name)
 
 differs : (m n : List ℕ) → bytes_eq n m ≡ false → bytes_eq m n ≡ false
 differs m n e = false_from_ne_true (bytes_eq m n) (λ h.
@@ -83,7 +45,38 @@ distinct_push (m ∷ names) n e h =
     let fresh : list_any (bytes_eq m) (names ++ n ∷ []) ≡ false = absent_push m n names (not-true _ here.0) (differs m n other.0) in
     and_from (not (list_any (bytes_eq m) (names ++ n ∷ []))) (are_distinct (names ++ n ∷ [])) (rw fresh refl) (distinct_push names n other.1 here.1)
 
-pub distinct_symbol : (symbols : List Declared) (name : List ℕ) (n : ℕ) → arity_of symbols name ≡ None → are_distinct (names_of symbols) ≡ true
+pub distinct_symbol : (symbols : List Declared) (name : List ℕ) (n : ℕ) → symbol_named symbols name ≡ None → are_distinct (names_of symbols) ≡ true
     → are_distinct (names_of (symbols ++ (name, n) ∷ [])) ≡ true
 distinct_symbol symbols name n e h =
     rw (map-append (λ (s : Declared). s.0) symbols ((name, n) ∷ [])) (distinct_push (names_of symbols) name (absent symbols name e) h)
+
+-- ---- symbols by their names
+
+some_same : {A : Type 0} (x y : A) → Some x ≡ Some y → x ≡ y
+some_same x y e = cc
+
+known_behind : (b : Bool) (a : ℕ) (arities : List ℕ) (o : Option Symbol) (s : Symbol) → cond b (Some (record { number = 0; arity = a })) (option_map one_behind o) ≡ Some s
+    → ((r : Symbol) → o ≡ Some r → slice_get arities r.number ≡ Some r.arity) → slice_get (a ∷ arities) s.number ≡ Some s.arity
+known_behind true a arities o s e h =
+    let P : Symbol → Type 0 = λ r. slice_get (a ∷ arities) r.number ≡ Some r.arity in
+    subst P (some_same (record { number = 0; arity = a }) s e) refl
+known_behind false a arities None s e h = absurd cc
+known_behind false a arities (Some r) s e h =
+    let P : Symbol → Type 0 = λ q. slice_get (a ∷ arities) q.number ≡ Some q.arity in
+    subst P (some_same (one_behind r) s e) (h r refl)
+
+-- a symbol that is found takes the arguments that its arity says
+pub symbol_known : (symbols : List Declared) (name : List ℕ) (s : Symbol) → symbol_named symbols name ≡ Some s → slice_get (arities_of symbols) s.number ≡ Some s.arity
+symbol_known [] name s e = absurd cc
+symbol_known (d ∷ symbols) name s e =
+    known_behind (bytes_eq name d.0) d.1 (arities_of symbols) (symbol_named symbols name) s e (symbol_known symbols name)
+
+below_behind : (b : Bool) (o : Option ℕ) (m f : ℕ) → cond b (Some 0) (option_map suc o) ≡ Some f → ((j : ℕ) → o ≡ Some j → j < m) → f < suc m
+below_behind true o m f e h = let same : 0 ≡ f = cc in omega arith
+below_behind false None m f e h = absurd cc
+below_behind false (Some j) m f e h = let same : suc j ≡ f = cc in omega (arith, h j refl)
+
+-- the number of a name is below the count of names
+pub number_below : (names : List (List ℕ)) (name : List ℕ) (f : ℕ) → number_among names name ≡ Some f → f < length names
+number_below [] name f e = absurd cc
+number_below (n ∷ names) name f e = below_behind (bytes_eq name n) (number_among names name) (length names) f e (number_below names name)

@@ -18,11 +18,6 @@ names_of symbols = map (λ s. s.0) symbols
 abbrev pub arities_of : List Declared → List ℕ
 arities_of symbols = map (λ s. s.1) symbols
 
--- the arity of a name
-abbrev pub arity_of : List Declared → List ℕ → Option ℕ
-arity_of [] name = None
-arity_of (s ∷ ss) name = if bytes_eq name s.0 then Some s.1 else arity_of ss name
-
 -- of a symbol that stands one further behind
 abbrev pub one_behind : Symbol → Symbol
 one_behind s = record s { number = suc s.number }

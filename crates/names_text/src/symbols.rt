@@ -1,8 +1,8 @@
 ghost use Rattle.std.specs.Prelude.{◌≡◌, ◌++◌, ◌∷◌, [], None, OnOk, OnErr};
-ghost use Rattle.names_text.specs.Symbols.{arity_of, names_of, arities_of};
+ghost use Rattle.names_text.specs.Symbols.{symbol_named, names_of, arities_of};
 
 use crate::names::Names;
-use crate::table::SymbolTable;
+use crate::table::{Symbol, SymbolTable};
 use std::alloc::{AllocError, Global};
 use std::marker::Model;
 
@@ -34,21 +34,18 @@ impl Symbols {
         }
     }
 
-    /// The arity of a name, if it is declared.
-    pub fn arity(&self, name: &[u8]) -> Option<u8>
-        ensures { result ≡ arity_of self.now name.now }
-    {
-        match self.names.find(name) {
-            None => None,
-            Some(number) => Some(self.arities[number]),
-        }
-    }
-
     /// The symbols by their names.
     pub fn table(&self) -> SymbolTable<'_>
         ensures { result ≡ self.now }
     {
         SymbolTable::new(&self.names, &self.arities)
+    }
+
+    /// The symbol with a name, if it is declared.
+    pub fn find(&self, name: &[u8]) -> Option<Symbol>
+        ensures { result ≡ symbol_named self.now name.now }
+    {
+        self.table().find(name)
     }
 
     /// The names, in the order of their declarations.
@@ -60,7 +57,7 @@ impl Symbols {
 
     /// One more symbol, whose name is not declared.
     pub fn add(&mut self, name: Vec<u8>, arity: u8) -> Result<(), AllocError>
-        requires { arity_of self.old name.items ≡ None }
+        requires { symbol_named self.old name.items ≡ None }
         ensures ok { OnOk result (self.new ≡ self.old ++ (name.items, arity) ∷ []) }
         ensures err { OnErr result (self.new ≡ self.old) }
     {

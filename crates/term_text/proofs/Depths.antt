@@ -2,7 +2,7 @@
 use Rattle.std.proofs.Common.{◌≡◌, ℕ, ◌+◌, ◌-◌, max, ◌&&◌, nat_le, Bool, true, false, cond, Some, None, refl, arith}
 use Rattle.std.specs.Prelude.{is_some}
 use Rattle.std.proofs.lemmas.Bool.Decides.{nat_tests}
-use Rattle.term_text.specs.Terms.{nodes_left}
+use Rattle.term_text.specs.Limits.{nodes_left}
 
 pub max_within : (m n limit : ℕ) → nat_le (max m n) limit ≡ (nat_le m limit && nat_le n limit)
 max_within m n limit = grind (arith, nat_tests)

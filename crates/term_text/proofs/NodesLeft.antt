@@ -1,7 +1,7 @@
 -- Room for nodes.
 use Rattle.std.proofs.Common.{◌≡◌, ℕ, ◌+◌, cond, [], ◌∷◌, Option, Some, None, refl, arith}
 use Rattle.std.proofs.lemmas.Bool.Decides.{nat_tests}
-use Rattle.term_text.specs.Terms.{nodes_left}
+use Rattle.term_text.specs.Limits.{nodes_left}
 
 sum_of_some : (m n room : ℕ) → nodes_left (m + n) (Some room) ≡ nodes_left n (nodes_left m (Some room))
 sum_of_some m n room = grind (arith, nat_tests)

@@ -1,22 +1,24 @@
--- Printed terms, and what is read of them.
-use Rattle.std.proofs.Common.{◌≡◌, ℕ, zero, suc, ◌+◌, ◌-◌, ◌^◌, ◌<◌, ◌≤◌, Bool, true, false, cond, List, [], ◌∷◌, ◌++◌, length, get_or, Option, Some, None, IsTrue, slice_get, nat_eq, nat_lt, refl, ap, ap₂, ◌∙◌, ◌⊎◌, ⊎_elim, inl, inr, arith, eq-eqb}
+-- Printed terms are read again, wherever they stand.
+use Rattle.std.proofs.Common.{◌≡◌, inl, inr, ℕ, zero, suc, ◌+◌, ◌-◌, ◌^◌, ◌<◌, ◌≤◌, ◌==◌, Bool, true, false, cond, List, [], ◌∷◌, ◌++◌, length, get_or, Option, Some, None, option_map, Ok, slice_get, refl, sym, ap, ap₂, ◌∙◌, arith}
 use Rattle.std.specs.List.{list_all}
-use Rattle.std.specs.Option.{option_and_then}
-use Rattle.std.proofs.lemmas.Bool.{ne_eqb, eqb-true, ltb-true, or_left, or_right, or_cases, and_parts}
-use Rattle.std.proofs.lemmas.Option.{slice_get_within}
-use Rattle.sexp_core.specs.Printed.{IsWord, HasWords, AreWords, depth_of as depth_of_item, nesting}
-use Rattle.trs_defs.specs.Tree.{Tree, Trees, var, app, nil, cons, count as count_trees}
-use Rattle.trs_defs.specs.Size.{size_of, size_of_all, depth_of, depth_of_all}
-use Rattle.trs_defs.specs.Variable.{has_var, some_has_var}
+use Rattle.std.proofs.lemmas.Bool.{and_parts}
+use Rattle.std.proofs.lemmas.Option.{slice_get_within, get_or_from_slice_get}
+use Rattle.sexp_core.specs.Items.{Item, a_word, a_list, Items, no_items, item}
+use Rattle.sexp_core.specs.Printed.{IsWord, HasWords, AreWords, depth_of as depth_of_item, nesting, bare, placeless}
+use Rattle.trs_defs.specs.Tree.{Tree, Trees, var, app, nil, cons, count}
+use Rattle.trs_defs.specs.Size.{depth_of, depth_of_all}
 use Rattle.trs_defs.specs.WellFormed.{IsWellFormed, AreWellFormed}
-use Rattle.names_text.specs.Names.{number_among, with_name, are_distinct}
-use Rattle.names_text.specs.Symbols.{paired, arity_of}
-use Rattle.names_text.specs.Named.{is_word, next_number, next_number_behind}
-use Rattle.term_text.specs.Terms.{variables_after, all_variables_after, term_of, terms_of, nodes_of, nodes_of_all, count}
+use Rattle.names_text.specs.declared.table.Symbol.{Symbol}
+use Rattle.names_text.specs.Names.{number_among, are_distinct}
+use Rattle.names_text.specs.Symbols.{Declared, paired, symbol_named}
+use Rattle.names_text.specs.Named.{is_word}
 use Rattle.names_text.specs.VariableNames.{underscores, variable_name}
+use Rattle.names_text.proofs.PrintedNames.{variable_word, symbol_word, no_symbol, symbol_number, variables_to, length_variables, later_variable, variable_number}
+use Rattle.names_text.proofs.SymbolPairs.{symbol_at, symbol_by_number}
+use Rattle.term_text.specs.Checked.{Checked, ◌<*>◌}
+use Rattle.term_text.specs.Terms.{with_variable, with_word, variables_after, all_variables_after, variable, lone, taking, head, term, list_term, terms}
 use Rattle.term_text.specs.PrintedTerm.{term_item, term_items}
-use Rattle.names_text.proofs.NameKeys.{absent}
-use Rattle.names_text.proofs.PrintedNames.{variable_word, symbol_word, no_symbol, present, symbol_number, arity_by_number, variables_to, later_variable, variable_number}
+use Rattle.term_text.proofs.Numbering.{IsBelow, AreBelow, IsNumbered, AreNumbered}
 
 -- the names of the symbols are distinct words, and variables begin with more underscores than they
 pub record FitNames (k : ℕ) (names : List (List ℕ)) (arities : List ℕ) : Type 0 where
@@ -25,124 +27,83 @@ pub record FitNames (k : ℕ) (names : List (List ℕ)) (arities : List ℕ) : T
   pub distinct : are_distinct names ≡ true
   pub more : underscores names ≤ k
 
--- each variable of the term has a number below a bound
-abbrev mutual
-  pub IsBelow : ℕ → Tree → Type 0
-  IsBelow b (var n) = n < b
-  IsBelow b (app f ts) = AreBelow b ts
+-- a term is read of an item, and its variables stand behind others
+pub record IsTermAgain (new : Bool) (symbols : List Declared) (before after : List (List ℕ)) (y : Item) (t : Tree) : Type 0 where
+  pub read : term new symbols before y ≡ Ok t
+  pub names : variables_after new symbols before y ≡ after
 
-  pub AreBelow : ℕ → Trees → Type 0
-  AreBelow b nil = Unit {0}
-  AreBelow b (cons t ts) = IsBelow b t × AreBelow b ts
+pub record AreTermsAgain (new : Bool) (symbols : List Declared) (before after : List (List ℕ)) (ys : Items) (ts : Trees) : Type 0 where
+  pub read : terms new symbols before ys ≡ Ok ts
+  pub names : all_variables_after new symbols before ys ≡ after
 
-mutual
-  pub below_from : (b : ℕ) (t : Tree) → ((v : ℕ) → IsTrue (has_var v t) → v < b) → IsBelow b t
-  below_from b (var n) h = h n (eq-eqb n n refl)
-  below_from b (app f ts) h = all_below_from b ts h
-
-  all_below_from : (b : ℕ) (ts : Trees) → ((v : ℕ) → IsTrue (some_has_var v ts) → v < b) → AreBelow b ts
-  all_below_from b nil h = tt
-  all_below_from b (cons t ts) h =
-      (below_from b t (λ v e. h v (or_left (has_var v t) (some_has_var v ts) e)), all_below_from b ts (λ v e. h v (or_right (has_var v t) (some_has_var v ts) e)))
-
--- ---- numbering
-
-next_var_by : (a b : Bool) (n m r : ℕ) → nat_lt n m ≡ a → nat_eq n m ≡ b → cond a (Some m) (cond b (Some (suc m)) None) ≡ Some r
-    → ((n < m) × (m ≡ r)) ⊎ ((n ≡ m) × (suc m ≡ r))
-next_var_by true b n m r e f h = let same : m ≡ r = cc in inl (ltb-true n m e, same)
-next_var_by false true n m r e f h = let same : suc m ≡ r = cc in inr (eqb-true n m f, same)
-next_var_by false false n m r e f h = absurd cc
-
-next_var : (n m r : ℕ) → cond (nat_lt n m) (Some m) (cond (nat_eq n m) (Some (suc m)) None) ≡ Some r
-    → ((n < m) × (m ≡ r)) ⊎ ((n ≡ m) × (suc m ≡ r))
-next_var n m r = next_var_by (nat_lt n m) (nat_eq n m) n m r refl refl
-
-bind_some : (f : ℕ → Option ℕ) (o : Option ℕ) (r : ℕ) → option_and_then f o ≡ Some r → (x : ℕ) × (o ≡ Some x) × (f x ≡ Some r)
-bind_some f None r e = absurd cc
-bind_some f (Some x) r e = (x, refl, e)
-
-mutual
-  grows : (t : Tree) (m r : ℕ) → next_number m t ≡ Some r → m ≤ r
-  grows (var n) m r e = ⊎_elim (λ (h : (n < m) × (m ≡ r)). omega (arith, h.1)) (λ (h : (n ≡ m) × (suc m ≡ r)). omega (arith, h.1)) (next_var n m r e)
-  grows (app f ts) m r e = grows_all ts m r e
-
-  grows_all : (ts : Trees) (m r : ℕ) → next_number_behind m ts ≡ Some r → m ≤ r
-  grows_all nil m r e = let same : m ≡ r = cc in omega arith
-  grows_all (cons t ts) m r e =
-      let parts = bind_some (λ j. next_number_behind j ts) (next_number m t) r e in
-      omega (arith, grows t m parts.0 parts.1, grows_all ts parts.0 r parts.2)
-
-mutual
-  -- each variable has a number below the next one
-  pub numbered_below : (t : Tree) (m r : ℕ) → next_number m t ≡ Some r → (v : ℕ) → IsTrue (has_var v t) → v < r
-  numbered_below (var n) m r e v h =
-      let same : n ≡ v = eqb-true n v h in
-      ⊎_elim (λ (p : (n < m) × (m ≡ r)). omega (arith, p.0, p.1, same)) (λ (p : (n ≡ m) × (suc m ≡ r)). omega (arith, p.0, p.1, same)) (next_var n m r e)
-  numbered_below (app f ts) m r e v h = all_numbered_below ts m r e v h
-
-  all_numbered_below : (ts : Trees) (m r : ℕ) → next_number_behind m ts ≡ Some r → (v : ℕ) → IsTrue (some_has_var v ts) → v < r
-  all_numbered_below nil m r e v h = absurd cc
-  all_numbered_below (cons t ts) m r e v h =
-      let parts = bind_some (λ j. next_number_behind j ts) (next_number m t) r e in
-      ⊎_elim (λ (p : has_var v t ≡ true). omega (arith, numbered_below t m parts.0 parts.1 v p, grows_all ts parts.0 r parts.2))
-      (λ (p : some_has_var v ts ≡ true). all_numbered_below ts parts.0 r parts.2 v p)
-      (or_cases (has_var v t) (some_has_var v ts) h)
-
--- ---- what a printed term is read as
+taken : (k : ℕ) (names : List (List ℕ)) (f at n : ℕ) (ts : Trees) (ys : Items) → n ≡ count ts → placeless ys ≡ term_items k names ts → taking f at n ys ≡ Ok f
+taken k names f at zero nil no_items same e = refl
+taken k names f at (suc n) nil no_items same e = absurd (omega arith)
+taken k names f at n nil (item y ys) same e = absurd cc
+taken k names f at n (cons t ts) no_items same e = absurd cc
+taken k names f at zero (cons t ts) (item y ys) same e = absurd (omega arith)
+taken k names f at (suc n) (cons t ts) (item y ys) same e = taken k names f at n ts ys (omega arith) cc
 
 module _ (k : ℕ) (names : List (List ℕ)) (arities : List ℕ) (fit : FitNames k names arities) where
-  pub symbol_found : (f n : ℕ) → slice_get arities f ≡ Some n → number_among names (get_or names f []) ≡ Some f
-  symbol_found f n e = symbol_number names f fit.distinct (omega (arith, fit.counts, slice_get_within arities f n e))
+  abbrev symbols : List Declared
+  symbols = paired names arities
 
-  new_variable : (n m r : ℕ) → n < 2 ^ 64 → next_number m (var n) ≡ Some r → with_name (variables_to k m) (variable_name k n) ≡ variables_to k r
-  new_variable n m r lt e =
-      ⊎_elim
-      (λ (p : (n < m) × (m ≡ r)).
-      rw (present (variables_to k m) (variable_name k n) n (variable_number k m n p.0 lt)) (ap (variables_to k) p.1))
-      (λ (p : (n ≡ m) × (suc m ≡ r)).
-      rw (absent (variables_to k m) (variable_name k n) (later_variable k m n (omega (arith, p.0)) lt))
-      (ap (λ j. variables_to k m ++ variable_name k j ∷ []) p.0 ∙ ap (variables_to k) p.1))
-      (next_var n m r e)
+  pub symbol_again : (f n : ℕ) → slice_get arities f ≡ Some n → symbol_named symbols (get_or names f []) ≡ Some (record { number = f; arity = n })
+  symbol_again f n e =
+      let number = symbol_number names f fit.distinct (omega (arith, fit.counts, slice_get_within arities f n e)) in
+      let arity : get_or arities f 0 ≡ n = get_or_from_slice_get arities f n 0 e in
+      symbol_by_number names arities (get_or names f []) fit.counts ∙ ap (option_map (symbol_at arities)) number
+      ∙ ap (λ (a : ℕ). Some (record { number = f; arity = a })) arity
 
-  mutual
-    -- its variables are collected in the order of their numbers
-    pub variables_read : (t : Tree) (m r : ℕ) → IsWellFormed arities t → IsBelow (2 ^ 64) t → next_number m t ≡ Some r
-        → variables_after names (variables_to k m) (term_item k names t) ≡ variables_to k r
-    variables_read (var n) m r wf lt e = rw (no_symbol names k n fit.more) (new_variable n m r lt e)
-    variables_read (app f nil) m r wf lt e =
-        let same : m ≡ r = cc in
-        rw (symbol_found f 0 wf.0) (ap (variables_to k) same)
-    variables_read (app f (cons t ts)) m r wf lt e = all_variables_read (cons t ts) m r wf.1 lt e
+  no_variable : (v : ℕ) → symbol_named symbols (variable_name k v) ≡ None
+  no_variable v = symbol_by_number names arities (variable_name k v) fit.counts ∙ ap (option_map (symbol_at arities)) (no_symbol names k v fit.more)
 
-    all_variables_read : (ts : Trees) (m r : ℕ) → AreWellFormed arities ts → AreBelow (2 ^ 64) ts → next_number_behind m ts ≡ Some r
-        → all_variables_after names (variables_to k m) (term_items k names ts) ≡ variables_to k r
-    all_variables_read nil m r wf lt e = let same : m ≡ r = cc in ap (variables_to k) same
-    all_variables_read (cons t ts) m r wf lt e =
-        let parts = bind_some (λ j. next_number_behind j ts) (next_number m t) r e in
-        ap (λ vs. all_variables_after names vs (term_items k names ts)) (variables_read t m parts.0 wf.0 lt.0 parts.1)
-        ∙ all_variables_read ts parts.0 r wf.1 lt.1 parts.2
+  variable_again : (new : Bool) (n m r at : ℕ) → n < 2 ^ 64 → IsNumbered new m (var n) r
+      → IsTermAgain new symbols (variables_to k m) (variables_to k r) (a_word (variable_name k n) at) (var n)
+  variable_again new n m r at lt (inl h) =
+      let number = variable_number k m n h.0 lt in
+      record { read = rw (no_variable n, number) refl; names = rw (no_variable n, number) (ap (variables_to k) h.1) }
+  variable_again new n m r at lt (inr h) =
+      let number = later_variable k m n (let same = h.1 in omega arith) lt in
+      record {
+        read = rw (no_variable n, number, h.0) (ap (λ v. Ok (var v)) (length_variables k m ∙ sym h.1));
+        names = rw (no_variable n, number, h.0) (ap (λ v. variables_to k m ++ variable_name k v ∷ []) h.1 ∙ ap (variables_to k) h.2);
+      }
 
   mutual
-    -- the term is read again
-    pub term_read : (t : Tree) (m : ℕ) → IsWellFormed arities t → IsBelow (2 ^ 64) t → IsBelow m t
-        → term_of names (variables_to k m) (term_item k names t) ≡ t
-    term_read (var n) m wf lt below = rw (no_symbol names k n fit.more, variable_number k m n below lt) refl
-    term_read (app f nil) m wf lt below = rw (symbol_found f 0 wf.0) refl
-    term_read (app f (cons t ts)) m wf lt below =
-        rw (symbol_found f (count_trees (cons t ts)) wf.0) (ap (app f) (terms_read (cons t ts) m wf.1 lt below))
+    pub term_again : (new : Bool) (t : Tree) (y : Item) (m r : ℕ) → IsWellFormed arities t → IsBelow (2 ^ 64) t → IsNumbered new m t r → bare y ≡ term_item k names t
+        → IsTermAgain new symbols (variables_to k m) (variables_to k r) y t
+    term_again new (var n) (a_word w q) m r wf lt h e =
+        let same : w ≡ variable_name k n = cc in
+        let again = variable_again new n m r q lt h in
+        record { read = rw same again.read; names = rw same again.names }
+    term_again new (var n) (a_list ys q) m r wf lt h e = absurd cc
+    term_again new (app f nil) (a_word w q) m r wf lt h e =
+        let same : w ≡ get_or names f [] = cc in
+        record { read = rw (same, symbol_again f 0 wf.0) refl; names = rw (same, symbol_again f 0 wf.0) (ap (variables_to k) h) }
+    term_again new (app f nil) (a_list ys q) m r wf lt h e = absurd cc
+    term_again new (app f (cons t ts)) (a_word w q) m r wf lt h e = absurd cc
+    term_again new (app f (cons t ts)) (a_list no_items q) m r wf lt h e = absurd cc
+    term_again new (app f (cons t ts)) (a_list (item (a_list zs p) ys) q) m r wf lt h e = absurd cc
+    term_again new (app f (cons t ts)) (a_list (item (a_word w p) ys) q) m r wf lt h e =
+        let same : w ≡ get_or names f [] = cc in
+        let args : placeless ys ≡ term_items k names (cons t ts) = cc in
+        let n = count (cons t ts) in
+        let inside = terms_again new (cons t ts) ys m r wf.1 lt h args in
+        record {
+          read = rw (same, symbol_again f n wf.0, taken k names f q n (cons t ts) ys refl args, inside.read) refl;
+          names = inside.names;
+        }
 
-    terms_read : (ts : Trees) (m : ℕ) → AreWellFormed arities ts → AreBelow (2 ^ 64) ts → AreBelow m ts
-        → terms_of names (variables_to k m) (term_items k names ts) ≡ ts
-    terms_read nil m wf lt below = refl
-    terms_read (cons t ts) m wf lt below = ap₂ cons (term_read t m wf.0 lt.0 below.0) (terms_read ts m wf.1 lt.1 below.1)
-
-  -- ---- no faults
-
-  pub symbol_arity : (f n : ℕ) → slice_get arities f ≡ Some n → arity_of (paired names arities) (get_or names f []) ≡ Some n
-  symbol_arity f n e = arity_by_number names arities (get_or names f []) fit.counts ∙ rw (symbol_found f n e) e
-
-  pub variable_arity : (v : ℕ) → arity_of (paired names arities) (variable_name k v) ≡ None
-  variable_arity v = arity_by_number names arities (variable_name k v) fit.counts ∙ rw (no_symbol names k v fit.more) refl
+    terms_again : (new : Bool) (ts : Trees) (ys : Items) (m r : ℕ) → AreWellFormed arities ts → AreBelow (2 ^ 64) ts → AreNumbered new m ts r → placeless ys ≡ term_items k names ts
+        → AreTermsAgain new symbols (variables_to k m) (variables_to k r) ys ts
+    terms_again new nil no_items m r wf lt h e = record { read = refl; names = ap (variables_to k) h }
+    terms_again new nil (item y ys) m r wf lt h e = absurd cc
+    terms_again new (cons t ts) no_items m r wf lt h e = absurd cc
+    terms_again new (cons t ts) (item y ys) m r wf lt h e =
+        let first = term_again new t y m h.0 wf.0 lt.0 h.1 cc in
+        let rest = terms_again new ts ys h.0 r wf.1 lt.1 h.2 cc in
+        record { read = rw (first.read, first.names, rest.read) refl; names = rw first.names rest.names }
 
   pub depth_pos : (t : Tree) → 1 ≤ depth_of t
   depth_pos (var n) = omega arith
@@ -162,21 +123,11 @@ module _ (k : ℕ) (names : List (List ℕ)) (arities : List ℕ) (fit : FitName
     pub term_words : (t : Tree) → IsWellFormed arities t → IsBelow (2 ^ 64) t → HasWords (term_item k names t)
     term_words (var n) wf lt = variable_word k n lt
     term_words (app f nil) wf lt = symbol_is_word f 0 wf.0
-    term_words (app f (cons t ts)) wf lt = (symbol_is_word f (count_trees (cons t ts)) wf.0, terms_words (cons t ts) wf.1 lt)
+    term_words (app f (cons t ts)) wf lt = (symbol_is_word f (count (cons t ts)) wf.0, terms_words (cons t ts) wf.1 lt)
 
     terms_words : (ts : Trees) → AreWellFormed arities ts → AreBelow (2 ^ 64) ts → AreWords (term_items k names ts)
     terms_words nil wf lt = tt
     terms_words (cons t ts) wf lt = (term_words t wf.0 lt.0, terms_words ts wf.1 lt.1)
-
-  mutual
-    pub term_nodes : (t : Tree) → nodes_of (term_item k names t) ≡ size_of t
-    term_nodes (var n) = refl
-    term_nodes (app f nil) = refl
-    term_nodes (app f (cons t ts)) = ap (λ n. 1 + n) (terms_nodes (cons t ts))
-
-    terms_nodes : (ts : Trees) → nodes_of_all (term_items k names ts) ≡ size_of_all ts
-    terms_nodes nil = refl
-    terms_nodes (cons t ts) = ap₂ (λ m n. m + n) (term_nodes t) (terms_nodes ts)
 
   mutual
     -- lists are less deep than the term

@@ -7,7 +7,8 @@ use Rattle.trs_defs.specs.Size.{size_of, size_of_all, depth_of, depth_of_all, wi
 use Rattle.trs_defs.specs.Variable.{is_listed, with_variables, with_variables_of_all, variables_of}
 use Rattle.trs_defs.specs.WellFormed.{IsWellFormed, AreWellFormed}
 use Rattle.names_text.specs.Named.{next_number, next_number_behind}
-use Rattle.term_text.proofs.PrintedTerms.{IsBelow, below_from, numbered_below}
+use Rattle.names_text.proofs.NumberedTerms.{has_below}
+use Rattle.term_text.proofs.Numbering.{IsBelow, below_from}
 use Rattle.term_text.specs.Renumbered.{number_among, with_numbers, all_with_numbers, in_order}
 
 -- ---- numbers of variables
@@ -141,7 +142,7 @@ own arities t wf limits =
     let size : size_of t ≤ 65536 = leb-true (size_of t) 65536 parts.0 in
     let depth : depth_of t ≤ 1024 = leb-true (depth_of t) 1024 parts.1 in
     let few : length (variables_of t) ≤ size_of t = omega (arith, variables_count t []) in
-    let each = numbered_below (in_order t) 0 (length (variables_of t)) next in
+    let each = has_below 0 (in_order t) (length (variables_of t)) next in
     record {
       number = length (variables_of t);
       next = next;

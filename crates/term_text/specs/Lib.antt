@@ -1,6 +1,8 @@
+pub mod Checked
+pub mod Refusals
+pub mod Viewed
 pub mod Terms
+pub mod Limits
 pub mod PrintedTerm
-pub mod ReadTerm
-pub mod TermFaults
 pub mod Renumbered
 pub mod OwnTerms

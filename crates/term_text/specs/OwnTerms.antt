@@ -1,30 +1,28 @@
--- Terms of steps: how they are read, and how they are printed. The variables of a step are its own.
-use Rattle.std.specs.Prelude.{ℕ, List, [], Option, Some, None, Ok, Err, IsTrue}
+-- Terms whose variables are their own, numbered in the order of their first occurrences.
+use Rattle.std.specs.Prelude.{min, true, [], Option, Err, IsTrue, if◌then◌else◌}
+use Rattle.std.specs.Result.{result_ok}
 use Rattle.sexp_core.specs.Items.{Item}
 use Rattle.trs_defs.specs.Tree.{Tree}
 use Rattle.trs_defs.specs.Size.{within_limits}
 use Rattle.trs_defs.specs.System.{System}
 use Rattle.trs_defs.specs.WellFormed.{IsWellFormed}
-use Rattle.names_text.specs.Named.{NamedSystem}
-use Rattle.term_text.specs.Terms.{variables_after, term_of}
+use Rattle.text_reading.specs.Reading.{Read, place_of}
+use Rattle.names_text.specs.Named.{NamedSystem, symbols_of}
 use Rattle.names_text.specs.VariableNames.{underscores}
+use Rattle.term_text.specs.Checked.{judged}
+use Rattle.term_text.specs.Refusals.{refused_at}
+use Rattle.term_text.specs.Terms.{term}
+use Rattle.term_text.specs.Limits.{keeps_limits}
 use Rattle.term_text.specs.PrintedTerm.{term_item}
-use Rattle.text_reading.specs.Reading.{Read}
-use Rattle.term_text.specs.TermFaults.{least_place, own_term_faults}
 use Rattle.term_text.specs.Renumbered.{in_order}
 
--- a term whose variables are numbered in the order of their first occurrences in it
-abbrev pub own_term_of : List (List ℕ) → Item → Tree
-own_term_of names term = term_of names (variables_after names [] term) term
-
--- a value, unless a place cannot stand there
-abbrev pub unless : {A : Type 0} → Option ℕ → A → Read A
-unless None v = Ok v
-unless (Some p) v = Err p
-
--- a term within the limits
+-- a term of a certificate: past the limits it is refused at its own place, else for the fault with the least place
 abbrev pub own_term : NamedSystem → Item → Read Tree
-own_term named x = unless (least_place None (own_term_faults named x)) (own_term_of named.names x)
+own_term named x = if keeps_limits x then judged refused_at min (term true (symbols_of named) [] x) else Err (place_of x)
+
+-- the term, if the item writes one within the limits
+abbrev pub written_term : NamedSystem → Item → Option Tree
+written_term named x = result_ok (own_term named x)
 
 -- a term with its own numbers of variables
 abbrev pub own_term_item : NamedSystem → Tree → Item

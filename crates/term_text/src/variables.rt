@@ -1,17 +1,12 @@
-ghost use Rattle.std.specs.Prelude.{◌≡◌, ◌<◌, ◌^◌, [], IfSome, OnOk, IfOk};
-ghost use Rattle.std.specs.List.{list_any};
-ghost use Rattle.std.specs.Str.{bytes_eq};
-ghost use Rattle.sexp_core.specs.Items.{view, views};
-ghost use Rattle.names_text.specs.Names.{number_among, with_name};
-ghost use Rattle.term_text.specs.Terms.{variables_after, all_variables_after};
+ghost use Rattle.std.specs.Prelude.{◌≡◌, ◌++◌, ◌∷◌, ◌<◌, ◌^◌, [], length, None, IfOk, IfSome, OnOk};
+ghost use Rattle.names_text.specs.Names.{number_among};
 
 use indexmap::IndexSet;
-use names_text::Names;
-use sexp_core::Sexp;
 use std::alloc::{AllocError, Global};
 use std::marker::Model;
 
-/// The names of variables, each once, numbered from 0 in the order of their first occurrences.
+/// The names of variables, each once, numbered from 0 in the order in which they were added. Contracts see the list of
+/// the names. There is room for 2^32 - 1 names.
 #[derive(Drop)]
 pub struct Variables<'a> {
     names: IndexSet<&'a [u8]>,
@@ -44,72 +39,17 @@ impl<'a> Variables<'a> {
         self.names.get_index_of(name)
     }
 
-    pub fn contains(&self, name: &[u8]) -> bool
-        ensures { result ≡ list_any (bytes_eq name.now) self.now }
+    /// One more name, which is not among them, and its number. Where there is no room for it memory ran out too.
+    pub fn add(&mut self, name: &'a [u8]) -> Result<u32, AllocError>
+        requires { number_among self.old name.now ≡ None }
+        ensures number { IfOk result (λ v. v ≡ length self.old) }
+        ensures names { OnOk result (self.new ≡ self.old ++ name.now ∷ []) }
     {
-        self.names.contains(name)
-    }
-
-    // The names with one more, if it is new.
-    fn add(&mut self, name: &'a [u8]) -> Result<(), AllocError>
-        ensures { OnOk result (self.new ≡ with_name self.old name.now) }
-    {
-        if self.names.len() >= u32::MAX as usize {
+        let next = self.names.len();
+        if next >= u32::MAX as usize {
             return Err(AllocError);
         }
         self.names.insert(name)?;
-        Ok(())
+        Ok(next as u32)
     }
-}
-
-/// The variables of a term, where symbols have these names.
-pub fn variables_of<'a>(
-    alloc: Global,
-    symbols: &Names,
-    term: &'a Sexp,
-) -> Result<Variables<'a>, AllocError>
-    ensures { IfOk result (λ vs. vs ≡ variables_after symbols.now [] (view term.now)) }
-{
-    let mut variables = Variables::new(alloc);
-    add_variables(&mut variables, symbols, term)?;
-    Ok(variables)
-}
-
-// The names with the variables of a term, in the order of their first occurrences.
-#[cycle(variables)]
-fn add_variables<'a>(
-    variables: &mut Variables<'a>,
-    symbols: &Names,
-    term: &'a Sexp,
-) -> Result<(), AllocError>
-    ensures { OnOk result (variables.new ≡ variables_after symbols.now variables.old (view term.now)) }
-{
-    match term {
-        Sexp::Word(name, _) => {
-            let None = symbols.find(name) else {
-                return Ok(());
-            };
-            variables.add(name)
-        }
-        Sexp::List(members, _) => {
-            let Some((_, args)) = members.split_first() else {
-                return Ok(());
-            };
-            add_all_variables(variables, symbols, args)
-        }
-    }
-}
-
-#[cycle(variables)]
-fn add_all_variables<'a>(
-    variables: &mut Variables<'a>,
-    symbols: &Names,
-    args: &'a [Sexp],
-) -> Result<(), AllocError>
-    ensures { OnOk result (variables.new ≡ all_variables_after symbols.now variables.old (views args.now)) }
-{
-    for arg in args {
-        add_variables(variables, symbols, arg)?;
-    }
-    Ok(())
 }
