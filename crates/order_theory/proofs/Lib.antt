@@ -11,5 +11,5 @@ pub mod KnuthAccessible
 pub mod KnuthLaws
 pub mod KnuthPair
 pub mod Removals
-pub mod Examples
+mod Examples
 pub mod Absent

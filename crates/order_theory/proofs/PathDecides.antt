@@ -1,5 +1,6 @@
 -- The test decides the order.
 use Rattle.std.proofs.Common.{◌≡◌, inl, inr, ℕ, ◌<◌, refl, sym, ap, subst, arith, List, Bool, true, false, cond, ◌||◌, ◌&&◌, nat_eq, nat_lt, Decides, true≢false}
+use Rattle.std.proofs.lemmas.Bool.{eqb-true, eq-eqb}
 use Rattle.trs_defs.specs.Tree.{Tree, var, app, Trees, nil, cons, count}
 use Rattle.pair_theory.specs.Accessible.{Acc, acc}
 use Rattle.trs_defs.specs.Every.{Every, every_nil, every_cons}
@@ -20,15 +21,6 @@ and_both : (a b : Bool) → a ≡ true → b ≡ true → (a && b) ≡ true
 and_both true b e e' = e'
 and_both false b e e' = absurd (true≢false (sym e))
 
-nat_eq_is : (m n : ℕ) → nat_eq m n ≡ true → m ≡ n
-nat_eq_is m n e = grind arith
-
-nat_eq_same : (n : ℕ) → nat_eq n n ≡ true
-nat_eq_same n = grind arith
-
-nat_eq_of : (m n : ℕ) → m ≡ n → nat_eq m n ≡ true
-nat_eq_of m n e = grind arith
-
 nat_lt_is : (m n : ℕ) → nat_lt m n ≡ true → m < n
 nat_lt_is m n e = grind arith
 
@@ -37,10 +29,10 @@ nat_lt_of m n e = grind arith
 
 mutual
   pub same_is : (s t : Tree) → same_tree s t ≡ true → s ≡ t
-  same_is (var x) (var y) e = ap var (nat_eq_is x y e)
+  same_is (var x) (var y) e = ap var (eqb-true x y e)
   same_is (var x) (app g ts) e = absurd (true≢false (sym e))
   same_is (app f ss) (var y) e = absurd (true≢false (sym e))
-  same_is (app f ss) (app g ts) e = let h : (nat_eq f g ≡ true) × (same_trees ss ts ≡ true) = and_case (nat_eq f g) (same_trees ss ts) e in join_app (nat_eq_is f g h.0) (sames_is ss ts h.1)
+  same_is (app f ss) (app g ts) e = let h : (nat_eq f g ≡ true) × (same_trees ss ts ≡ true) = and_case (nat_eq f g) (same_trees ss ts) e in join_app (eqb-true f g h.0) (sames_is ss ts h.1)
 
   sames_is : (ss ts : Trees) → same_trees ss ts ≡ true → ss ≡ ts
   sames_is nil nil e = refl
@@ -50,8 +42,8 @@ mutual
 
 mutual
   pub same_self : (t : Tree) → same_tree t t ≡ true
-  same_self (var x) = nat_eq_same x
-  same_self (app f ts) = and_both (nat_eq f f) (same_trees ts ts) (nat_eq_same f) (sames_self ts)
+  same_self (var x) = eq-eqb x x refl
+  same_self (app f ts) = and_both (nat_eq f f) (same_trees ts ts) (eq-eqb f f refl) (sames_self ts)
 
   sames_self : (ts : Trees) → same_trees ts ts ≡ true
   sames_self nil = refl
@@ -105,13 +97,13 @@ module _ (rank : ℕ → ℕ) where
   lex_is (cons s ss) nil ks e = absurd (true≢false (sym e))
   lex_is (cons s ss) (cons t ts) (every_cons k ks) e = cond_case (same_tree s t) (lex_greater ss (path_greater_each rank ss) ts) (path_greater rank s t && nat_eq (count ss) (count ts)) e
       (λ h l. subst (λ z. LexGreater rank (cons s ss) (cons z ts)) (same_is s t h) (lex_later (lex_is ss ts ks l)))
-      (λ h. let p : (path_greater rank s t ≡ true) × (nat_eq (count ss) (count ts) ≡ true) = and_case (path_greater rank s t) (nat_eq (count ss) (count ts)) h in lex_here ((k t).0 p.0) (nat_eq_is (count ss) (count ts) p.1))
+      (λ h. let p : (path_greater rank s t ≡ true) × (nat_eq (count ss) (count ts) ≡ true) = and_case (path_greater rank s t) (nat_eq (count ss) (count ts)) h in lex_here ((k t).0 p.0) (eqb-true (count ss) (count ts) p.1))
 
   is_lex : {ss ts : Trees} → Every Tested ss → LexGreater rank ss ts → lex_greater ss (path_greater_each rank ss) ts ≡ true
   is_lex every_nil l = elim l [ ]
   is_lex (every_cons {t = s} {ts = ss} k ks) (lex_here {t = t} {ts = ts} g e) =
       cond_false (same_tree s t) (lex_greater ss (path_greater_each rank ss) ts) (path_greater rank s t && nat_eq (count ss) (count ts)) (λ h. not_self (subst (λ z. PathGreater rank z t) (same_is s t h) g))
-      (and_both (path_greater rank s t) (nat_eq (count ss) (count ts)) ((k t).1 g) (nat_eq_of (count ss) (count ts) e))
+      (and_both (path_greater rank s t) (nat_eq (count ss) (count ts)) ((k t).1 g) (eq-eqb (count ss) (count ts) e))
   is_lex (every_cons {t = s} {ts = ss} k ks) (lex_later {ts = ts} l) =
       cond_true (same_tree s s) (lex_greater ss (path_greater_each rank ss) ts) (path_greater rank s s && nat_eq (count ss) (count ts)) (same_self s) (is_lex ks l)
 
@@ -127,7 +119,7 @@ module _ (rank : ℕ → ℕ) where
         or_case (nat_lt (rank g) (rank f)) (nat_eq f g && lex_greater ss gs ts) p.0
         (λ r. by_rank (nat_lt_is (rank g) (rank f) r) (all p.1))
         (λ q. let m : (nat_eq f g ≡ true) × (lex_greater ss gs ts ≡ true) = and_case (nat_eq f g) (lex_greater ss gs ts) q in
-        subst (λ k. PathGreater rank (app f ss) (app k ts)) (nat_eq_is f g m.0) (by_lex (lex_is ss ts ks m.1) (all p.1))))
+        subst (λ k. PathGreater rank (app f ss) (app k ts)) (eqb-true f g m.0) (by_lex (lex_is ss ts ks m.1) (all p.1))))
 
     mutual
       above_is : (t : Tree) → app_greater rank f ss gs t ≡ true → PathGreater rank (app f ss) t
@@ -154,7 +146,7 @@ module _ (rank : ℕ → ℕ) where
     second_case h us g all = head_case g
         (λ p. above_some (app h us) (is_some ks p))
         (λ r gs'. above_head h us (or_left (nat_lt (rank h) (rank f)) (nat_eq f h && lex_greater ss gs us) (nat_lt_of (rank h) (rank f) r)) (all gs'))
-        (λ e l gs'. above_head h us (or_right (nat_lt (rank h) (rank f)) (nat_eq f h && lex_greater ss gs us) (and_both (nat_eq f h) (lex_greater ss gs us) (nat_eq_of f h e) (is_lex ks l))) (all gs'))
+        (λ e l gs'. above_head h us (or_right (nat_lt (rank h) (rank f)) (nat_eq f h && lex_greater ss gs us) (and_both (nat_eq f h) (lex_greater ss gs us) (eq-eqb f h e) (is_lex ks l))) (all gs'))
 
     mutual
       is_above : (t : Tree) → PathGreater rank (app f ss) t → app_greater rank f ss gs t ≡ true

@@ -1,5 +1,6 @@
 -- The list of the dependency pairs has each of them, and pairs over the system's arities alone.
-use Rattle.std.proofs.Common.{◌≡◌, ℕ, refl, sym, ap, subst, arith, ◌∙◌, ◌⊎◌, inl, inr, List, [], ◌∷◌, ◌++◌, Bool, true, false, ◌||◌, ◌==◌}
+use Rattle.std.proofs.Common.{◌≡◌, ℕ, refl, sym, ap, subst, ◌∙◌, ◌⊎◌, inl, inr, List, [], ◌∷◌, ◌++◌, Bool, true, false, ◌||◌, ◌==◌}
+use Rattle.std.proofs.lemmas.Bool.{eqb-true, eq-eqb}
 use Rattle.trs_defs.specs.Member.{In, in_first, in_rest}
 use Rattle.trs_defs.specs.Tree.{Tree, Trees, var, app, nil, cons}
 use Rattle.trs_defs.specs.WellFormed.{IsWellFormed, AreWellFormed}
@@ -33,18 +34,12 @@ keep_rest : {A : Type 0} (b : Bool) {y : A} (x : A) {xs : List A} → In y xs �
 keep_rest true x i = in_rest i
 keep_rest false x i = i
 
-nat_same : (m n : ℕ) → (m == n) ≡ true → m ≡ n
-nat_same m n e = grind arith
-
-same_nat : (n : ℕ) → (n == n) ≡ true
-same_nat n = grind arith
-
 pub defined_true : (rs : List RewriteRule) (g : ℕ) → IsDefined (Among rs) g → is_defined rs g ≡ true
 defined_true [] g d = absurd (no_in d.2)
 defined_true (p ∷ rs) g d = go (in_or d.2) (λ d. defined_true rs g d)
   where
     go : (record { left = app g d.0; right = d.1 } ≡ p) ⊎ In (record { left = app g d.0; right = d.1 }) rs → (IsDefined (Among rs) g → is_defined rs g ≡ true) → (has_root g p.left || is_defined rs g) ≡ true
-    go (inl e) k = subst (λ q. (has_root g q.left || is_defined rs g) ≡ true) e (rw (same_nat g) refl)
+    go (inl e) k = subst (λ q. (has_root g q.left || is_defined rs g) ≡ true) e (rw (eq-eqb g g refl) refl)
     go (inr i) k = or_right (has_root g p.left) (is_defined rs g) (k (d.0, d.1, i))
 
 pub true_defined : (rs : List RewriteRule) (g : ℕ) → is_defined rs g ≡ true → IsDefined (Among rs) g
@@ -62,7 +57,7 @@ true_defined (p ∷ rs) g e = go p.left p.right refl refl (true_defined rs g)
         rest d = (d.0, d.1, in_rest d.2)
 
         root : (b : Bool) → (f == g) ≡ b → (b || is_defined rs g) ≡ true → IsDefined (Among (p ∷ rs)) g
-        root true same h = let is : f ≡ g = nat_same f g same in (ls, p.right, subst (λ l. In (record { left = l; right = p.right }) (p ∷ rs)) (el ∙ ap (λ n. app n ls) is) in_first)
+        root true same h = let is : f ≡ g = eqb-true f g same in (ls, p.right, subst (λ l. In (record { left = l; right = p.right }) (p ∷ rs)) (el ∙ ap (λ n. app n ls) is) in_first)
         root false same h = rest (k h)
 
 called : (rs : List RewriteRule) (l t : Marked) → is_defined rs t.symbol ≡ true → (ts : List Tree) → In (plain t) ts → In (record { from = l; to = t }) (pairs_to rs l ts)

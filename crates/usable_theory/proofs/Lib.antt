@@ -1,3 +1,3 @@
 pub mod Usable
 pub mod UsableProblems
-pub mod Examples
+mod Examples
