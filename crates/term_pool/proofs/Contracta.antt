@@ -7,7 +7,7 @@ use Rattle.trs_defs.specs.Position.{argument_at, replaced_at}
 use Rattle.trs_defs.proofs.Limits.{limits_kept, limits_passed_by_depth}
 use Rattle.trs_defs.proofs.Positions.{replaced_inside}
 use Rattle.term_pool.specs.Pooled.{StandsFor, Extends, tree_at}
-use Rattle.term_pool.specs.Placing.{HasPut, HasRoom, IsPut, IsTooLargePut}
+use Rattle.term_pool.specs.Placing.{HasPut, HasRoom, IsPlaced, IsTooLargePut}
 use Rattle.term_pool.proofs.PoolTrees.{stands_at}
 use Rattle.term_pool.proofs.PoolPlaces.{argument_set}
 use Rattle.term_pool.proofs.Extending.{same_tree_at}
@@ -56,9 +56,9 @@ module _ (pool next : List Tree) (p : List ℕ) (id by : ℕ) (value : Tree) (wi
     made_put : replaced_at p (tree_at pool id) value ≡ Some (tree_at last new)
     made_put = room.put ∙ ap (λ z. Some z) (sym made_is)
 
-    pub is_put : (depth : ℕ) → depth ≡ depth_of (tree_at last new) → depth ≤ 1024 → new < length last
-        → length next ≤ length pool + size_of value → length last ≤ length next + length p → IsPut p (tree_at pool id) value pool last new
-    is_put depth e d there h l =
+    pub is_placed : (depth : ℕ) → depth ≡ depth_of (tree_at last new) → depth ≤ 1024 → new < length last
+        → length next ≤ length pool + size_of value → length last ≤ length next + length p → IsPlaced p (tree_at pool id) value pool last new
+    is_placed depth e d there h l =
         let nodes = room.nodes in
         let small : size_of (tree_at last new) ≡ size_of room.result = ap size_of made_is in
         let way = size_way p (tree_at pool id) value (tree_at last new) made_put in

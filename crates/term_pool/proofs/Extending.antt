@@ -1,5 +1,5 @@
 -- Pools that have grown, and pools that are cut back.
-use Rattle.std.proofs.Common.{◌≡◌, ℕ, ◌<◌, List, [], ◌∷◌, take, length, Some, slice_get, refl, suc, arith}
+use Rattle.std.proofs.Common.{◌≡◌, ℕ, ◌<◌, List, [], ◌∷◌, take, length, Some, slice_get, refl, ap, ◌∙◌, suc, arith}
 use Rattle.std.proofs.lemmas.Option.{same_Some}
 use Rattle.trs_defs.specs.Tree.{Tree}
 use Rattle.term_pool.specs.Pooled.{Extends, tree_at}
@@ -25,3 +25,9 @@ cut_back a b h = go a b h.kept
         let first : y ≡ x = same_Some y x (h 0 x refl) in
         let rest : take (length a) b ≡ a = go a b (λ i t e. h (suc i) t e) in
         rw (first, rest) refl
+
+-- what was there when a pool is cut to it, and grows again
+pub kept_cut : (a b c : List Tree) (mark : ℕ) → mark ≡ length a → Extends a b → Extends (take mark b) c → Extends a c
+kept_cut a b c mark e h k =
+    let same : take mark b ≡ a = ap (λ n. take n b) e ∙ cut_back a b h in
+    rw same at k

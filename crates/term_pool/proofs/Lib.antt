@@ -9,4 +9,5 @@ pub mod MatchSteps
 pub mod PoolPlaces
 pub mod Rooms
 pub mod Contracta
-pub mod StepAnswers
+pub mod StepLemmas
+pub mod PathLemmas

@@ -6,3 +6,4 @@ pub mod Matching
 pub mod Placing
 pub mod Answers
 pub mod Steps
+pub mod Paths

@@ -20,7 +20,7 @@ pub record HasRoom (p : List ℕ) (t by : Tree) : Type 0 where
   pub way : length p + depth_of by ≤ 1024
 
 -- the term with another subterm at the position has this id; it keeps the limits, and took at most as many ids as it has nodes
-pub record IsPut (p : List ℕ) (t by : Tree) (old new : List Tree) (id : ℕ) : Type 0 where
+pub record IsPlaced (p : List ℕ) (t by : Tree) (old new : List Tree) (id : ℕ) : Type 0 where
   pub put : replaced_at p t by ≡ Some (tree_at new id)
   pub there : id < length new
   pub limits : IsTrue (within_limits (tree_at new id))

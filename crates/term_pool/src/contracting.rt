@@ -3,7 +3,7 @@ ghost use Rattle.trs_defs.specs.Position.{subterm_at};
 ghost use Rattle.trs_core.specs.View.{tree};
 ghost use Rattle.term_pool.specs.Pooled.{Extends, tree_at};
 ghost use Rattle.term_pool.specs.Bindings.{HasIds, instance_of};
-ghost use Rattle.term_pool.specs.Placing.{HasRoom, IsPut, IsTooLargePut};
+ghost use Rattle.term_pool.specs.Placing.{HasRoom, IsPlaced, IsTooLargePut};
 
 use crate::{MOST_IDS, Pool};
 use std::alloc::Global;
@@ -37,7 +37,7 @@ impl Pool {
         requires ids { HasIds self.old found.now }
         requires room { length self.old ≤ MOST_IDS }
         ensures put { IfOk result (λ made. IfSome made (
-            IsPut places.now (tree_at self.old id)
+            IsPlaced places.now (tree_at self.old id)
             (instance_of self.old found.now (tree t.now)) self.old self.new)) }
         ensures none { IfOk result (λ made. IfNone made (
             IsTooLargePut places.now (tree_at self.old id)

@@ -9,9 +9,13 @@ mod instances;
 mod interning;
 mod matching;
 mod nodes;
+mod paths;
 mod placing;
 mod pools;
+mod running;
 mod steps;
 
+pub use paths::{PathFault, PathStep};
 pub use pools::{MOST_IDS, Pool};
+pub use running::MOST_ADDED;
 pub use steps::StepFault;

@@ -6,8 +6,9 @@ use Rattle.trs_core.specs.View.{tree}
 use Rattle.term_pool.specs.Pooled.{tree_at}
 use Rattle.term_pool.specs.Bindings.{bound_terms, instance_of}
 use Rattle.term_pool.specs.Steps.{IsTooLarge}
+use Rattle.term_pool.specs.declared.steps.StepFault.TheVariants.{TooLarge}
 use Rattle.term_pool.proofs.PoolTrees.{stands}
-use Rattle.term_pool.proofs.StepAnswers.{rule_numbered, step_to, step_too_large, excluded}
+use Rattle.term_pool.proofs.StepLemmas.{rule_numbered, step_to, step_too_large, fault_excludes}
 use Rattle.term_pool.proofs.pools.Pool.step_at.Goals.{After-put_instance}
 use Rattle.term_pool.proofs.pools.Pool.step_at.Goals as goal
 
@@ -34,7 +35,7 @@ returns-in_default-3-clause-only c = λ u step within.
     step_too_large c.args.trs.now.rules c.args.place.now c.args.rule (tree_at c.args.self.now c.args.id) (tree_at c.args.self.now c.in-Some-at.part)
     (tree c.rule.inside.left) (tree c.rule.inside.right) (bound_terms c.args.self.now c.in-Some-2.found) (numbered a) (there a) (matched a)
     (rw (c.in_default-3.is, c.places-2.ensures.places) at c.in_ok-new.ensures.none) in
-    absurd (excluded c.args.trs.now c.args.place.now c.args.rule (tree_at c.args.self.now c.args.id) u c.rules.ensures.valid large step within)
+    absurd (fault_excludes c.args.trs.now c.args.place.now c.args.rule (tree_at c.args.self.now c.args.id) u TooLarge c.rules.ensures.valid large (λ e. cc) step within)
 
 pub returns-clause-step : goal.returns-clause-step
 returns-clause-step c =

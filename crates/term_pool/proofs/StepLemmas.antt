@@ -1,5 +1,5 @@
--- The answers of a step.
-use Rattle.std.proofs.Common.{◌≡◌, ℕ, ◌<◌, List, length, get_or, Some, IsTrue, slice_get, refl}
+-- The parts of a step put together, and what its faults exclude.
+use Rattle.std.proofs.Common.{◌≡◌, ◌≢◌, ℕ, ◌<◌, List, length, get_or, Some, IsTrue, slice_get, refl}
 use Rattle.std.proofs.lemmas.Option.{slice_get_read}
 use Rattle.trs_defs.specs.Tree.{Tree}
 use Rattle.trs_defs.specs.Size.{within_limits}
@@ -9,7 +9,9 @@ use Rattle.trs_defs.specs.System.{RewriteRule, System, IsSystem}
 use Rattle.trs_defs.specs.Path.{StepsAt}
 use Rattle.trs_defs.proofs.Places.{steps_at_once}
 use Rattle.term_pool.specs.Placing.{IsTooLargePut}
-use Rattle.term_pool.specs.Steps.{IsTooLarge}
+use Rattle.term_pool.specs.Steps.{IsStepFault, IsTooLarge}
+use Rattle.term_pool.specs.declared.steps.StepFault.{StepFault}
+use Rattle.term_pool.specs.declared.steps.StepFault.TheVariants as fault
 
 -- the rule that a look-up lent
 pub rule_numbered : (rules lent : List RewriteRule) (k : ℕ) (rule : RewriteRule) (left right : Tree)
@@ -24,9 +26,15 @@ module _ (rules : List RewriteRule) (p : List ℕ) (k : ℕ) (t part left right 
   pub step_too_large : IsTooLargePut p t (apply s right) → IsTooLarge rules p k t
   step_too_large h = record { result = h.result; steps = step_to h.result h.put; large = h.large }
 
--- what passes the limits keeps them not
-pub excluded : (system : System) (p : List ℕ) (k : ℕ) (t u : Tree) → IsSystem system → IsTooLarge system.rules p k t → StepsAt system.rules p k t u → IsTrue (within_limits u) → ⊥
-excluded system p k t u valid h st w =
-    let same = steps_at_once system p k t h.result u valid h.steps st in
-    let large = h.large in
+-- No fault comes where there is a step.
+pub fault_excludes : (system : System) (p : List ℕ) (k : ℕ) (t u : Tree) (f : StepFault) → IsSystem system → IsStepFault system.rules p k t f → f ≢ fault.OutOfMemory
+    → StepsAt system.rules p k t u → IsTrue (within_limits u) → ⊥
+fault_excludes system p k t u fault.NoRule valid h n s w = absurd cc
+fault_excludes system p k t u fault.NoPosition valid h n s w = absurd cc
+fault_excludes system p k t u fault.NoMatch valid h n s w =
+    let same : h.rule ≡ s.rule = cc in
+    h.none (s.substitution, rw same cc)
+fault_excludes system p k t u fault.TooLarge valid h n s w =
+    let same = steps_at_once system p k t h.result u valid h.steps s in
     absurd cc
+fault_excludes system p k t u fault.OutOfMemory valid h n s w = n refl
