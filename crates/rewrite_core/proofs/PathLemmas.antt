@@ -14,11 +14,11 @@ use Rattle.trs_defs.specs.Path.{PlacedRule, StepsAt, Follows}
 use Rattle.trs_defs.proofs.ArgumentLists.{cell}
 use Rattle.trs_defs.proofs.Places.{follows_joined, steps_at_once}
 use Rattle.trs_core.specs.Limits.{Gives}
-use Rattle.rewrite_core.specs.declared.steps.StepFault.{StepFault}
-use Rattle.rewrite_core.specs.declared.steps.StepFault.TheVariants as steps
-use Rattle.rewrite_core.specs.declared.paths.PathFault.TheVariants as paths
-use Rattle.rewrite_core.specs.Steps.{IsStepFault}
-use Rattle.rewrite_core.specs.Paths.{PathStops, IsPathFault, fault_at}
+use Rattle.term_pool.specs.declared.steps.StepFault.{StepFault}
+use Rattle.term_pool.specs.declared.steps.StepFault.TheVariants as steps
+use Rattle.term_pool.specs.declared.paths.PathFault.TheVariants as paths
+use Rattle.term_pool.specs.Steps.{IsStepFault}
+use Rattle.term_pool.specs.Paths.{PathStops, IsPathFault, fault_at}
 use Rattle.rewrite_core.proofs.StepLemmas.{fault_excludes}
 
 -- an item of the path as it was read, in its parts
