@@ -10,7 +10,7 @@ use Rattle.term_pool.specs.declared.steps.StepFault.TheVariants as fault
 use Rattle.term_pool.specs.Steps.{IsStepFault, HasNoMatch}
 use Rattle.term_pool.specs.Paths.{PathStops}
 use Rattle.rewrite_core.specs.PathCheck.{IsStopped, number_of_fault}
-use Rattle.rewrite_core.proofs.StepLemmas.{fault_excludes}
+use Rattle.term_pool.proofs.StepLemmas.{fault_excludes}
 
 no_match_excludes : (rules : List RewriteRule) (p : List ℕ) (k : ℕ) (t u : Tree) → HasNoMatch rules p k t → StepsAt rules p k t u → ⊥
 no_match_excludes rules p k t u h s =
