@@ -5,12 +5,12 @@ use Rattle.trs_defs.specs.Tree.{Tree}
 use Rattle.trs_defs.specs.System.{RewriteRule, System, IsSystem}
 use Rattle.trs_defs.specs.Path.{PlacedRule, StepsAt, Follows}
 use Rattle.trs_defs.proofs.Places.{steps_at_once}
-use Rattle.rewrite_core.specs.declared.steps.StepFault.{StepFault}
-use Rattle.rewrite_core.specs.declared.steps.StepFault.TheVariants as fault
-use Rattle.rewrite_core.specs.Steps.{IsStepFault, HasNoMatch}
-use Rattle.rewrite_core.specs.Paths.{PathStops}
+use Rattle.term_pool.specs.declared.steps.StepFault.{StepFault}
+use Rattle.term_pool.specs.declared.steps.StepFault.TheVariants as fault
+use Rattle.term_pool.specs.Steps.{IsStepFault, HasNoMatch}
+use Rattle.term_pool.specs.Paths.{PathStops}
 use Rattle.rewrite_core.specs.PathCheck.{IsStopped, number_of_fault}
-use Rattle.rewrite_core.proofs.StepLemmas.{fault_excludes}
+use Rattle.term_pool.proofs.StepLemmas.{fault_excludes}
 
 no_match_excludes : (rules : List RewriteRule) (p : List ℕ) (k : ℕ) (t u : Tree) → HasNoMatch rules p k t → StepsAt rules p k t u → ⊥
 no_match_excludes rules p k t u h s =

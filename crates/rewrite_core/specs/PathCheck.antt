@@ -3,15 +3,15 @@ use Rattle.std.specs.Prelude.{◌≡◌, ℕ, List, Result, Ok, Err}
 use Rattle.trs_defs.specs.Tree.{Tree}
 use Rattle.trs_defs.specs.System.{RewriteRule}
 use Rattle.trs_defs.specs.Path.{PlacedRule, Follows}
-use Rattle.rewrite_core.specs.declared.steps.StepFault.{StepFault}
-use Rattle.rewrite_core.specs.declared.steps.StepFault.TheVariants as step
-use Rattle.rewrite_core.specs.declared.paths.PathFault.{PathFault}
-use Rattle.rewrite_core.specs.declared.paths.PathFault.TheVariants as fault
+use Rattle.term_pool.specs.declared.steps.StepFault.{StepFault}
+use Rattle.term_pool.specs.declared.steps.StepFault.TheVariants as step
+use Rattle.term_pool.specs.declared.paths.PathFault.{PathFault}
+use Rattle.term_pool.specs.declared.paths.PathFault.TheVariants as fault
 use Rattle.rewrite_core.specs.declared.refusals.StepRefused.{StepRefused}
 use Rattle.rewrite_core.specs.declared.refusals.StepRefused.TheVariants.{Path}
 use Rattle.rewrite_core.specs.declared.refusals.CheckFault.{CheckFault}
 use Rattle.rewrite_core.specs.declared.refusals.CheckFault.TheVariants.{Refused, OutOfMemory}
-use Rattle.rewrite_core.specs.Paths.{PathStops}
+use Rattle.term_pool.specs.Paths.{PathStops}
 
 abbrev pub number_of_fault : StepFault → ℕ
 number_of_fault step.NoPosition = 1

@@ -1,0 +1,178 @@
+-- A node that is looked up or added.
+use Rattle.std.proofs.Common.{◌≡◌, All, ℕ, ◌+◌, ◌<◌, ◌≤◌, ◌^◌, Bool, true, false, ◌⊎◌, inl, inr, List, [], ◌∷◌, ◌++◌, map, length, Some, is_some, position, refl, ap, sym, ◌∙◌, arith, slice_get, get_or, length-append, cond, if◌then◌else◌, zero, suc}
+use Rattle.std.proofs.lemmas.Option.{same_Some, slice_get_within, slice_get-get_or}
+use Rattle.std.proofs.lemmas.List.Elements.{All-head, All-tail, All-weaker}
+use Rattle.std.proofs.lemmas.List.Quantifiers.{position-Some}
+use Rattle.std.proofs.lemmas.List.{length-map, get_or-map}
+use Rattle.smallvec.specs.SmallVec.{SmallVec}
+use Rattle.std.specs.Map.{keys_of, lookup}
+use Rattle.indexmap.specs.IndexMap.{insert_entry}
+use Rattle.trs_defs.specs.Tree.{Tree, trees, items, items_trees}
+use Rattle.trs_defs.specs.Size.{size_of}
+use Rattle.term_pool.specs.declared.nodes.Node.{Node}
+use Rattle.term_pool.specs.declared.nodes.Node.TheVariants.{Var, App}
+use Rattle.term_pool.specs.declared.nodes.Measure.{Measure}
+use Rattle.term_pool.specs.Pooled.{StandsFor, Extends, AreDistinct, tree_at}
+use Rattle.term_pool.specs.Nodes.{StandsBelow, node_tree}
+use Rattle.term_pool.specs.Entries.{pool_trees, IsPool, IsMeasure}
+use Rattle.term_pool.proofs.PoolTrees.{pool_more, item_of_more, old_item, last_item, stands, stands_within}
+use Rattle.term_pool.proofs.PoolReads.{reads, same_length}
+
+clash : (b : Bool) → b ≡ false → b ≡ true → ⊥
+clash true f t = absurd cc
+clash false f t = absurd cc
+
+-- a look-up that finds nothing, and one that finds an index
+module _ {X : Type 0} (eq : Node → Node → Bool) (n : Node) where
+  pub goes_last : (es : List (Node × X)) (x : X) → is_some (lookup (eq n) es) ≡ false → insert_entry eq es n x ≡ es ++ (n, x) ∷ []
+  goes_last [] x h = refl
+  goes_last (e ∷ es) x h = go (eq n e.0) h (goes_last es x)
+    where
+      go : (b : Bool) → is_some (cond b (Some e.1) (lookup (eq n) es)) ≡ false → (is_some (lookup (eq n) es) ≡ false → insert_entry eq es n x ≡ es ++ (n, x) ∷ [])
+          → (if b then (e.0, x) ∷ es else e ∷ insert_entry eq es n x) ≡ e ∷ es ++ (n, x) ∷ []
+      go true k rest = absurd cc
+      go false k rest = ap (λ fs. e ∷ fs) (rest k)
+
+  pub none_found : (es : List (Node × X)) (i : ℕ) (e : Node × X) → is_some (lookup (eq n) es) ≡ false → slice_get es i ≡ Some e → eq n e.0 ≡ true → ⊥
+  none_found [] i e h at is = absurd cc
+  none_found (x ∷ es) i e h at is = go (eq n x.0) refl h i at (λ k j there. none_found es j e k there is)
+    where
+      go : (b : Bool) → eq n x.0 ≡ b → is_some (cond b (Some x.1) (lookup (eq n) es)) ≡ false → (i : ℕ) → slice_get (x ∷ es) i ≡ Some e
+          → (is_some (lookup (eq n) es) ≡ false → (j : ℕ) → slice_get es j ≡ Some e → ⊥) → ⊥
+      go true b k i at rest = absurd cc
+      go false b k zero at rest = let same : x ≡ e = same_Some x e at in absurd (clash (eq n e.0) (rw same at b) is)
+      go false b k (suc i) at rest = rest k i at
+
+  pub found_at : (es : List (Node × X)) (i : ℕ) (d : Node × X) → position (eq n) (keys_of es) ≡ Some i → (e : Node × X) × (slice_get es i ≡ Some e) × (eq n e.0 ≡ true)
+  found_at es i d is =
+      let found = position-Some (eq n) (keys_of es) i d.0 is in
+      let within : i < length es = omega (arith, found.0, length-map es (λ e. e.0)) in
+      let there : slice_get es i ≡ Some (get_or es i d) = slice_get-get_or es i d within in
+      let key : get_or (keys_of es) i d.0 ≡ (get_or es i d).0 = get_or-map (λ e. e.0) es i d d.0 within in
+      (get_or es i d, there, ap (eq n) (sym key) ∙ found.1)
+
+-- arguments that stand for the same terms are the same ids
+same_ids : (ts : List Tree) (distinct : AreDistinct ts) (xs ys : List ℕ) → All (λ i. i < length ts) xs → All (λ i. i < length ts) ys
+    → map (tree_at ts) xs ≡ map (tree_at ts) ys → xs ≡ ys
+same_ids ts distinct [] [] h k e = refl
+same_ids ts distinct [] (y ∷ ys) h k e = absurd cc
+same_ids ts distinct (x ∷ xs) [] h k e = absurd cc
+same_ids ts distinct (x ∷ xs) (y ∷ ys) h k e =
+    let first : tree_at ts x ≡ tree_at ts y = cc in
+    let below : ℕ → Type 0 = λ i. i < length ts in
+    let here : x ≡ y = distinct.same x y (tree_at ts x) (stands ts x (All-head below x xs h)) (rw first (stands ts y (All-head below y ys k))) in
+    let rest : xs ≡ ys = same_ids ts distinct xs ys (All-tail below x xs h) (All-tail below y ys k) cc in
+    cc
+
+pub each_below : (m n : ℕ) (xs : List ℕ) → m ≤ n → All (λ i. i < m) xs → All (λ i. i < n) xs
+each_below m n xs l h = All-weaker (λ i. i < m) (λ i. i < n) (λ i k. omega (arith, l, k)) xs h
+
+pub stands_below_more : (m n : ℕ) (k : Node) → m ≤ n → StandsBelow m k → StandsBelow n k
+stands_below_more m n (Var v) l h = tt
+stands_below_more m n (App f args) l h = each_below m n args.items l h
+
+same_trees : (ts us : List Tree) → trees ts ≡ trees us → ts ≡ us
+same_trees ts us e = sym (items_trees ts) ∙ (ap items e ∙ items_trees us)
+
+-- `==` on nodes, as far as it is needed
+pub record IsNodeEquality (eq : Node → Node → Bool) : Type 0 where
+  pub sound : (ts : List Tree) (m n : Node) → eq m n ≡ true → node_tree ts m ≡ node_tree ts n
+  pub variables : (v : ℕ) → eq (Var v) (Var v) ≡ true
+  pub symbols : (f : ℕ) (a b : SmallVec ℕ) → a.items ≡ b.items → eq (App f a) (App f b) ≡ true
+
+-- nodes with equal terms are equal
+module _ (eq : Node → Node → Bool) (laws : IsNodeEquality eq) where
+  same_node : (ts : List Tree) (m n : Node) → AreDistinct ts → StandsBelow (length ts) m → StandsBelow (length ts) n → node_tree ts m ≡ node_tree ts n → eq m n ≡ true
+  same_node ts (Var v) (Var w) distinct h k e = let same : v ≡ w = cc in rw same (laws.variables w)
+  same_node ts (Var v) (App g b) distinct h k e = absurd cc
+  same_node ts (App f a) (Var w) distinct h k e = absurd cc
+  same_node ts (App f a) (App g b) distinct h k e =
+      let root : f ≡ g = cc in
+      let args : trees (map (tree_at ts) a.items) ≡ trees (map (tree_at ts) b.items) = cc in
+      let ids : a.items ≡ b.items = same_ids ts distinct a.items b.items h k (same_trees (map (tree_at ts) a.items) (map (tree_at ts) b.items) args) in
+      rw root (laws.symbols g a b ids)
+
+  module _ (es : List (Node × Measure)) (view : List Tree) (pool : IsPool es) (is : pool_trees es ≡ view) (n : Node) where
+    pub found_stands : (i : ℕ) (m : Measure) → position (eq n) (keys_of es) ≡ Some i → StandsFor view i (node_tree view n)
+    found_stands i m e =
+        let f = found_at eq n es i (n, m) e in
+        let same : node_tree view n ≡ node_tree view f.0.0 = laws.sound view n f.0.0 f.2 in
+        rw same (reads es view pool is i f.0 (sym f.1))
+
+    module _ (m : Measure) (below : StandsBelow (length view) n) (measure : IsMeasure (node_tree view n) m) (small : size_of (node_tree view n) ≤ 65536)
+        (room : length view + 1 < 2 ^ 32) (none : is_some (lookup (eq n) es) ≡ false) where
+      distinct_view : AreDistinct view
+      distinct_view = rw (← is) pool.distinct
+
+      new_tree : (i : ℕ) → StandsFor view i (node_tree view n) → ⊥
+      new_tree i s =
+          let within : i < length es = omega (arith, stands_within view i (node_tree view n) s, same_length es view pool is) in
+          let e : Node × Measure = get_or es i (n, m) in
+          let there : slice_get es i ≡ Some e = slice_get-get_or es i (n, m) within in
+          let read : StandsFor view i (node_tree view e.0) = reads es view pool is i e (sym there) in
+          let same : node_tree view n ≡ node_tree view e.0 = same_Some (node_tree view n) (node_tree view e.0) (sym s ∙ read) in
+          let old : StandsBelow (length view) e.0 = stands_below_more i (length view) e.0 (omega (arith, within, same_length es view pool is)) (pool.below i e there) in
+          none_found eq n es i e none there (same_node view n e.0 distinct_view below old same)
+
+      pub more_trees : pool_trees (es ++ (n, m) ∷ []) ≡ view ++ node_tree view n ∷ []
+      more_trees = rw (← is) (pool_more es (n, m))
+
+      pub extends : Extends view (pool_trees (es ++ (n, m) ∷ []))
+      extends = rw more_trees (record { longer = omega (arith, length-append view (node_tree view n ∷ [])); kept = λ i t h. old_item view (node_tree view n) t i h })
+
+      pub few_more : length (pool_trees (es ++ (n, m) ∷ [])) ≤ length view + 1
+      few_more = rw more_trees (omega (arith, length-append view (node_tree view n ∷ [])))
+
+      pub new_stands : StandsFor (pool_trees (es ++ (n, m) ∷ [])) (length view) (node_tree view n)
+      new_stands = rw more_trees (last_item view (node_tree view n))
+
+      last_below : StandsBelow (length es) n
+      last_below = rw (same_length es view pool is) below
+
+      more_item : (i : ℕ) (t : Tree) → StandsFor (pool_trees (es ++ (n, m) ∷ [])) i t → (StandsFor view i t) ⊎ ((i ≡ length view) × (t ≡ node_tree view n))
+      more_item i t s = item_of_more view (node_tree view n) t i (rw more_trees at s)
+
+      more_below : (i : ℕ) (e : Node × Measure) → slice_get (es ++ (n, m) ∷ []) i ≡ Some e → StandsBelow i e.0
+      more_below i e h = elim (item_of_more es (n, m) e i h) as (λ _. StandsBelow i e.0) [
+        | inl k ↦ pool.below i e k
+        | inr k ↦ rw (k.0, k.1) last_below
+      ]
+
+      more_measured : (i : ℕ) (e : Node × Measure) (t : Tree) → slice_get (es ++ (n, m) ∷ []) i ≡ Some e → StandsFor (pool_trees (es ++ (n, m) ∷ [])) i t → IsMeasure t e.1
+      more_measured i e t h s = elim (item_of_more es (n, m) e i h) as (λ _. IsMeasure t e.1) [
+        | inl k ↦ elim (more_item i t s) as (λ _. IsMeasure t e.1) [
+          | inl l ↦ pool.measured i e t k (rw is l)
+          | inr l ↦ absurd (omega (arith, l.0, slice_get_within es i e k, same_length es view pool is))
+        ]
+        | inr k ↦ elim (more_item i t s) as (λ _. IsMeasure t e.1) [
+          | inl l ↦ absurd (omega (arith, k.0, stands_within view i t l, same_length es view pool is))
+          | inr l ↦ rw (l.1, k.1) measure
+        ]
+      ]
+
+      more_distinct : (i j : ℕ) (t : Tree) → StandsFor (pool_trees (es ++ (n, m) ∷ [])) i t → StandsFor (pool_trees (es ++ (n, m) ∷ [])) j t → i ≡ j
+      more_distinct i j t s r = elim (more_item i t s) as (λ _. i ≡ j) [
+        | inl h ↦ elim (more_item j t r) as (λ _. i ≡ j) [
+          | inl k ↦ distinct_view.same i j t h k
+          | inr k ↦ absurd (new_tree i (rw k.1 at h))
+        ]
+        | inr h ↦ elim (more_item j t r) as (λ _. i ≡ j) [
+          | inl k ↦ absurd (new_tree j (rw h.1 at k))
+          | inr k ↦ omega (arith, h.0, k.0)
+        ]
+      ]
+
+      more_small : (i : ℕ) (t : Tree) → StandsFor (pool_trees (es ++ (n, m) ∷ [])) i t → size_of t ≤ 65536
+      more_small i t s = elim (more_item i t s) as (λ _. size_of t ≤ 65536) [
+        | inl h ↦ pool.small.size i t (rw is h)
+        | inr h ↦ rw h.1 small
+      ]
+
+      pub added : IsPool (es ++ (n, m) ∷ [])
+      added = record {
+        below = more_below;
+        measured = more_measured;
+        distinct = record { same = more_distinct };
+        small = record { size = more_small };
+        few = omega (arith, room, same_length es view pool is, length-append es ((n, m) ∷ []));
+      }

@@ -1,0 +1,13 @@
+pub mod PoolTrees
+pub mod PoolReads
+pub mod Adding
+pub mod NodeEquality
+pub mod Extending
+pub mod ArgumentIds
+pub mod InstanceIds
+pub mod MatchSteps
+pub mod PoolPlaces
+pub mod Rooms
+pub mod Contracta
+pub mod StepLemmas
+pub mod PathLemmas

@@ -1,0 +1,10 @@
+use Rattle.trs_defs.specs.Size.{size_of}
+use Rattle.trs_core.specs.View.{tree}
+use Rattle.term_pool.proofs.ArgumentIds.{AreMade}
+use Rattle.term_pool.proofs.pools.Pool.+insert.Given as goal
+
+abbrev pub decreases-insert : goal.decreases-insert
+decreases-insert l = size_of (tree l.t.now)
+
+abbrev pub invariant-loop-arg : goal.invariant-loop-arg
+invariant-loop-arg l = AreMade tree l.fn.self l.self l.arg-items l.ids.items l.arg-index

@@ -1,0 +1,89 @@
+ghost use Rattle.std.specs.Prelude.{◌≡◌, ◌<◌, ◌≤◌, Some, false, length, IsTrue, IfOk, IfSome, IfNone};
+ghost use Rattle.trs_defs.specs.Position.{subterm_at};
+ghost use Rattle.trs_core.specs.View.{tree};
+ghost use Rattle.term_pool.specs.Pooled.{Extends, tree_at};
+ghost use Rattle.term_pool.specs.Bindings.{HasIds, instance_of};
+ghost use Rattle.term_pool.specs.Placing.{HasRoom, IsPlaced, IsTooLargePut};
+
+use crate::{MOST_IDS, Pool};
+use std::alloc::Global;
+use std::collections::BTreeMap;
+use trs_core::{OutOfMemory, Term};
+
+/// The most nodes of a computed term.
+const MOST_NODES: u64 = 65_536;
+
+/// The greatest depth of a computed term, in nodes.
+const GREATEST_DEPTH: u64 = 1_024;
+
+impl Pool {
+    /// The id of a term with the instance of `t` in place of a part of it, or `None` where that
+    /// would pass the limits. Only the instance and the nodes on the way to it are made. Sizes and
+    /// depths are known before, so that nothing is made in vain unless the old term is too deep
+    /// itself; what is made then is released.
+    pub(crate) fn put_instance(
+        &mut self,
+        alloc: Global,
+        id: u32,
+        places: &[u8],
+        part: u32,
+        found: &BTreeMap<u32, u32>,
+        t: &Term,
+    ) -> Result<Option<u32>, OutOfMemory>
+        requires id { id < length self.old }
+        requires part { part < length self.old }
+        requires there { subterm_at places.now (tree_at self.old id)
+            ≡ Some (tree_at self.old part) }
+        requires ids { HasIds self.old found.now }
+        requires room { length self.old ≤ MOST_IDS }
+        ensures put { IfOk result (λ made. IfSome made (
+            IsPlaced places.now (tree_at self.old id)
+            (instance_of self.old found.now (tree t.now)) self.old self.new)) }
+        ensures none { IfOk result (λ made. IfNone made (
+            IsTooLargePut places.now (tree_at self.old id)
+            (instance_of self.old found.now (tree t.now)))) }
+        ensures kept { Extends self.old self.new }
+        ensures unchanged { IfOk result (λ made. IfNone made (self.new ≡ self.old)) }
+    {
+        if !self.has_room(id, places, part, found, t) {
+            return Ok(None);
+        }
+        let mark = self.mark();
+        let by = self.instance(alloc, found, t)?;
+        let new = self.put(alloc, id, places, by)?;
+        if u64::from(self.measure(new).depth) > GREATEST_DEPTH {
+            self.release(mark);
+            return Ok(None);
+        }
+        Ok(Some(new))
+    }
+
+    /// Whether the instance of `t` may stand in place of a part: the whole has not too many nodes,
+    /// and the instance with the way to it is not too deep.
+    fn has_room(
+        &self,
+        id: u32,
+        places: &[u8],
+        part: u32,
+        found: &BTreeMap<u32, u32>,
+        t: &Term,
+    ) -> bool
+        requires id { id < length self.now }
+        requires part { part < length self.now }
+        requires there { subterm_at places.now (tree_at self.now id)
+            ≡ Some (tree_at self.now part) }
+        requires ids { HasIds self.now found.now }
+        ensures room { IsTrue result → HasRoom places.now (tree_at self.now id)
+            (instance_of self.now found.now (tree t.now)) }
+        ensures none { result ≡ false → IsTooLargePut places.now (tree_at self.now id)
+            (instance_of self.now found.now (tree t.now)) }
+    {
+        let size = self.instance_size(found, t);
+        let depth = self.instance_depth(found, t);
+        if size > MOST_NODES || depth > GREATEST_DEPTH {
+            return false;
+        }
+        let kept = u64::from(self.measure(id).size) - u64::from(self.measure(part).size);
+        kept + size <= MOST_NODES && places.len() as u64 + depth <= GREATEST_DEPTH
+    }
+}

@@ -1,0 +1,60 @@
+ghost use Rattle.std.specs.Prelude.{◌<◌, ◌≤◌, ◌+◌, ◌^◌, length, IfOk};
+ghost use Rattle.trs_defs.specs.Size.{size_of};
+ghost use Rattle.trs_core.specs.View.{tree};
+ghost use Rattle.term_pool.specs.Pooled.{Extends, StandsFor};
+
+use crate::nodes::Node;
+use crate::{MOST_IDS, Pool};
+use smallvec::SmallVec;
+use std::alloc::Global;
+use trs_core::{Args, OutOfMemory, Term};
+
+impl Pool {
+    /// The id of a term. It adds at most as many ids as the term has nodes, one for each subterm
+    /// that the pool lacks.
+    pub fn intern(&mut self, alloc: Global, t: &Term) -> Result<u32, OutOfMemory>
+        requires small { size_of (tree t.now) ≤ 65536 }
+        requires room { length self.old ≤ MOST_IDS }
+        ensures id { IfOk result (λ id. StandsFor self.new id (tree t.now)) }
+        ensures kept { Extends self.old self.new }
+        ensures few { length self.new ≤ length self.old + size_of (tree t.now) }
+    {
+        self.insert(alloc, t)
+    }
+
+    fn insert(&mut self, alloc: Global, t: &Term) -> Result<u32, OutOfMemory>
+        requires small { size_of (tree t.now) ≤ 65536 }
+        requires room { length self.old + size_of (tree t.now) < 2 ^ 32 }
+        ensures id { IfOk result (λ id. StandsFor self.new id (tree t.now)) }
+        ensures kept { Extends self.old self.new }
+        ensures few { length self.new ≤ length self.old + size_of (tree t.now) }
+    {
+        match t {
+            Term::Var(v) => self.add(Node::Var(*v)),
+            Term::App(f, args) => {
+                let mut ids = SmallVec::new(alloc);
+                for arg in &args.items {
+                    ids.push(self.insert(alloc, arg)?)?;
+                }
+                self.add(Node::App(*f, ids))
+            }
+        }
+    }
+
+    /// The term of an id, made anew. Its cost is the term's number of nodes, shared or not.
+    pub fn read(&self, alloc: Global, id: u32) -> Result<Term, OutOfMemory>
+        requires { id < length self.now }
+        ensures { IfOk result (λ t. StandsFor self.now id (tree t)) }
+    {
+        match self.node(id) {
+            Node::Var(v) => Ok(Term::Var(*v)),
+            Node::App(f, args) => {
+                let mut built = Vec::with_capacity(alloc, args.len())?;
+                for arg in args.as_slice() {
+                    built.push(self.read(alloc, *arg)?)?;
+                }
+                Ok(Term::App(*f, Args { items: built }))
+            }
+        }
+    }
+}

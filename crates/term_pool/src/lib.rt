@@ -1,0 +1,21 @@
+//! A pool of shared terms: equal terms have one number, and a step makes only what it changes.
+//!
+//! Contracts see a pool as the list of its terms, by their numbers. (Filliâtre and Conchon,
+//! Type-safe modular hash-consing, 2006.)
+#![tactic(auto)]
+
+mod contracting;
+mod instances;
+mod interning;
+mod matching;
+mod nodes;
+mod paths;
+mod placing;
+mod pools;
+mod running;
+mod steps;
+
+pub use paths::{PathFault, PathStep};
+pub use pools::{MOST_IDS, Pool};
+pub use running::MOST_ADDED;
+pub use steps::StepFault;

@@ -1,0 +1,85 @@
+ghost use Rattle.std.specs.Prelude.{◌≡◌, ◌<◌, length, IfOk, IfSome, IfNone, OnOk};
+ghost use Rattle.trs_defs.specs.Tree.{var};
+ghost use Rattle.trs_defs.specs.Substitution.{IsInstance};
+ghost use Rattle.trs_core.specs.View.{tree};
+ghost use Rattle.term_pool.specs.Pooled.{AreDistinct, tree_at};
+ghost use Rattle.term_pool.specs.Bindings.{HasIds, instance_of};
+ghost use Rattle.term_pool.specs.Matching.{Matches};
+
+use crate::Pool;
+use crate::nodes::Node;
+use std::alloc::Global;
+use std::collections::BTreeMap;
+use trs_core::{OutOfMemory, Term};
+
+impl Pool {
+    /// Ids for the variables of a pattern that take it to the term of an id. `None` exactly where
+    /// there are none. A variable that occurs twice costs one comparison of ids.
+    pub(crate) fn match_at(
+        &self,
+        alloc: Global,
+        pattern: &Term,
+        id: u32,
+    ) -> Result<Option<BTreeMap<u32, u32>>, OutOfMemory>
+        requires { id < length self.now }
+        ensures ids { IfOk result (λ found. IfSome found (HasIds self.now)) }
+        ensures found { IfOk result (λ found. IfSome found (λ m.
+            instance_of self.now m (tree pattern.now) ≡ tree_at self.now id)) }
+        ensures none { IfOk result (λ found. IfNone found
+            (IsInstance (tree pattern.now) (tree_at self.now id) → ⊥)) }
+    {
+        let mut found = BTreeMap::new(alloc);
+        if self.match_more(pattern, id, &mut found)? {
+            Ok(Some(found))
+        } else {
+            Ok(None)
+        }
+    }
+
+    /// Adds the bindings that take the pattern to the term of the id.
+    fn match_more(
+        &self,
+        pattern: &Term,
+        id: u32,
+        found: &mut BTreeMap<u32, u32>,
+    ) -> Result<bool, OutOfMemory>
+        requires there { id < length self.now }
+        requires ids { HasIds self.now found.old }
+        ensures matches { IfOk result (
+            Matches self.now (tree pattern.now) (tree_at self.now id) found.old found.new) }
+        ensures ids { OnOk result (HasIds self.now found.new) }
+    {
+        match (pattern, self.node(id)) {
+            (Term::Var(v), _) => self.bind(*v, id, found),
+            (Term::App(_, _), Node::Var(_)) => Ok(false),
+            (Term::App(f, ps), Node::App(g, args)) => {
+                let ids = args.as_slice();
+                if *f != *g || ps.items.len() != ids.len() {
+                    return Ok(false);
+                }
+                for (i, p) in ps.items.iter().enumerate() {
+                    if !self.match_more(p, ids[i], found)? {
+                        return Ok(false);
+                    }
+                }
+                Ok(true)
+            }
+        }
+    }
+
+    /// Binds a variable to an id, or sees whether it is bound to it.
+    fn bind(&self, v: u32, id: u32, found: &mut BTreeMap<u32, u32>) -> Result<bool, OutOfMemory>
+        requires there { id < length self.now }
+        requires ids { HasIds self.now found.old }
+        requires distinct { AreDistinct self.now }
+        ensures matches { IfOk result (
+            Matches self.now (var v) (tree_at self.now id) found.old found.new) }
+        ensures ids { OnOk result (HasIds self.now found.new) }
+    {
+        if let Some(earlier) = found.get(&v) {
+            return Ok(*earlier == id);
+        }
+        found.insert(v, id)?;
+        Ok(true)
+    }
+}

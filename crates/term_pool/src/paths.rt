@@ -1,0 +1,68 @@
+ghost use Rattle.std.specs.Prelude.{◌≡◌, IfOk};
+ghost use Rattle.term_pool.specs.Paths.{fault_at};
+
+use crate::StepFault;
+use std::alloc::Global;
+use std::marker::Model;
+use trs_core::{OutOfMemory, Position};
+
+/// A step of a path: a position, and the number of a rule, counted from 0.
+#[derive(Drop)]
+pub struct PathStep {
+    pub place: Position,
+    pub rule: u32,
+}
+
+impl Model for PathStep {
+    ghost use Rattle.trs_defs.specs.Path.{PlacedRule, placed_code};
+
+    ghost Value = { PlacedRule };
+
+    ghost coded = { placed_code };
+
+    ghost view = { λ a. record { place = a.place; rule = a.rule } };
+}
+
+impl PathStep {
+    pub fn copy(&self, alloc: Global) -> Result<PathStep, OutOfMemory>
+        ensures { IfOk result (λ s. s ≡ self.now) }
+    {
+        Ok(PathStep {
+            place: self.place.copy(alloc)?,
+            rule: self.rule,
+        })
+    }
+}
+
+/// Why a path is not followed to its end.
+#[derive(Clone, Copy, Debug, PartialEq, Eq)]
+pub enum PathFault {
+    /// The number of the first step that is refused, counted from 0, and why it is. That is never
+    /// `StepFault::OutOfMemory`.
+    At(u64, StepFault),
+    /// There was no memory left.
+    OutOfMemory,
+}
+
+impl PathFault {
+    /// A fault of step number `k`.
+    pub fn at_step(k: u64, fault: StepFault) -> PathFault
+        ensures { result ≡ fault_at k fault }
+    {
+        match fault {
+            StepFault::OutOfMemory => PathFault::OutOfMemory,
+            _ => PathFault::At(k, fault),
+        }
+    }
+}
+
+impl From<OutOfMemory> for PathFault {
+    ghost use Rattle.std.specs.Prelude.{◌≡◌};
+    ghost use Rattle.term_pool.specs.declared.paths.PathFault.TheVariants as fault;
+
+    ghost from_gives = { λ _ e. e ≡ fault.OutOfMemory };
+
+    fn from(_e: OutOfMemory) -> PathFault {
+        PathFault::OutOfMemory
+    }
+}

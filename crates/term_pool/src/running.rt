@@ -1,0 +1,76 @@
+ghost use Rattle.std.specs.Prelude.{◌≡◌, ◌≢◌, ◌<◌, ◌≤◌, ◌+◌, length, take, IfOk, IfErr, OnOk};
+ghost use Rattle.trs_defs.specs.Tree.{Tree};
+ghost use Rattle.trs_defs.specs.Path.{Follows};
+ghost use Rattle.term_pool.specs.Pooled.{Extends, tree_at};
+ghost use Rattle.term_pool.specs.Answers.{GivesId};
+ghost use Rattle.term_pool.specs.Paths.{IsPathFault};
+
+use crate::{MOST_IDS, PathFault, PathStep, Pool};
+use std::alloc::Global;
+use trs_core::{OutOfMemory, Trs};
+
+/// The most ids that a path adds before all of them but those of the term at hand are given up.
+pub const MOST_ADDED: u32 = 1_048_576;
+
+impl Pool {
+    /// The id of the end of a path. Each term after the start keeps the limits. A step costs what its
+    /// rule and the way to its place have nodes. Where the steps have added more than `MOST_ADDED`
+    /// ids, the term at hand is taken out, the ids from the start's on are released, and it is put
+    /// back, so that a long path takes no more memory than that.
+    pub fn run_path(
+        &mut self,
+        alloc: Global,
+        trs: &Trs,
+        id: u32,
+        path: &[PathStep],
+    ) -> Result<u32, PathFault>
+        requires there { id < length self.old }
+        requires room { length self.old + MOST_ADDED ≤ MOST_IDS }
+        ensures end { IfOk result (λ end.
+            Follows trs.now.rules path.now (tree_at self.old id) (tree_at self.new end)) }
+        ensures there { IfOk result (λ end. end < length self.new) }
+        ensures fault { IfErr result (IsPathFault trs.now.rules path.now (tree_at self.old id)) }
+
+        // A path that can be followed is followed, unless memory runs out.
+        ensures only { (u : Tree) → Follows trs.now.rules path.now (tree_at self.old id) u
+            → GivesId PathFault.OutOfMemory self.new result u }
+
+        // The ids that were there keep their terms, after want of memory too.
+        ensures kept { Extends self.old self.new }
+        ensures few { IfOk result (λ _. length self.new ≤ length self.old + MOST_ADDED + 65536) }
+        ensures unchanged { IfErr result (λ e. e ≢ PathFault.OutOfMemory → self.new ≡ self.old) }
+    {
+        let mark = self.mark();
+        let mut current = id;
+        for (k, step) in path.iter().enumerate() {
+            current = self.carry_over(alloc, mark, current)?;
+            match self.step_at(alloc, trs, current, &step.place, step.rule) {
+                Ok(next) => current = next,
+                Err(fault) => {
+                    self.release(mark);
+                    return Err(PathFault::at_step(k as u64, fault));
+                }
+            }
+        }
+        Ok(current)
+    }
+
+    /// The id of the same term, where many ids have been added: of those from the mark on only its
+    /// own are kept.
+    fn carry_over(&mut self, alloc: Global, mark: u32, id: u32) -> Result<u32, OutOfMemory>
+        requires there { id < length self.old }
+        requires marked { mark ≤ length self.old }
+        requires room { mark + MOST_ADDED ≤ MOST_IDS }
+        ensures same { IfOk result (λ new. tree_at self.new new ≡ tree_at self.old id) }
+        ensures there { IfOk result (λ new. new < length self.new) }
+        ensures room { OnOk result (length self.new ≤ mark + MOST_ADDED) }
+        ensures kept { Extends (take mark self.old) self.new }
+    {
+        if self.len() - mark <= MOST_ADDED {
+            return Ok(id);
+        }
+        let term = self.read(alloc, id)?;
+        self.release(mark);
+        self.intern(alloc, &term)
+    }
+}
