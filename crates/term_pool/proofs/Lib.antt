@@ -5,7 +5,13 @@ pub mod NodeEquality
 pub mod Extending
 pub mod ArgumentIds
 pub mod InstanceIds
+pub mod RootLinks
+pub mod RootSkips
+pub mod NormalForms
+pub mod RedexWalk
+pub mod RedexLists
 pub mod MatchSteps
+pub mod PassedIds
 pub mod PoolPlaces
 pub mod Rooms
 pub mod Contracta

@@ -1,5 +1,5 @@
 -- The steps of matching at an id.
-use Rattle.std.proofs.Common.{◌≡◌, ◌≢◌, ℕ, ◌+◌, ◌<◌, ◌≤◌, Bool, true, false, cond, nat_eq, List, [], ◌∷◌, map, length, drop, get_or, Option, Some, None, refl, ap, sym, ◌∙◌, zero, suc, arith, nat_cmp}
+use Rattle.std.proofs.Common.{◌≡◌, ◌≢◌, ℕ, ◌+◌, ◌<◌, ◌≤◌, Bool, true, false, cond, nat_eq, List, [], ◌∷◌, map, length, drop, get_or, Option, Some, None, IfSome, IfNone, is_some, IsTrue, ◌↔◌, refl, ap, sym, ◌∙◌, zero, suc, arith, nat_cmp}
 use Rattle.std.specs.BTreeMap.{BTreeMap, get, is_at}
 use Rattle.std.proofs.Math.Decide.{ℕ_discrete}
 use Rattle.std.proofs.lemmas.Grind.{common_steps}
@@ -16,10 +16,10 @@ use Rattle.trs_defs.proofs.ArgumentLists.{cell, count_apply_all, count_trees}
 use Rattle.trs_core.proofs.Comparing.{count_forest}
 use Rattle.term_pool.proofs.PoolTrees.{stands}
 
-at_same : (n : ℕ) → is_at (nat_cmp n) n ≡ true
+pub at_same : (n : ℕ) → is_at (nat_cmp n) n ≡ true
 at_same n = grind (arith, common_steps)
 
-at_other : (n v : ℕ) → n ≢ v → is_at (nat_cmp n) v ≡ false
+pub at_other : (n v : ℕ) → n ≢ v → is_at (nat_cmp n) v ≡ false
 at_other n v h = grind (arith, common_steps)
 
 -- the map has one entry more, or another at its key
@@ -162,3 +162,9 @@ read_again xs i h = same_default xs i 0 (get_or xs i 0) h
     same_default [] i d e h = absurd (omega arith)
     same_default (x ∷ xs) zero d e h = refl
     same_default (x ∷ xs) (suc i) d e h = same_default xs i d e (omega arith)
+
+-- whether a match was found
+pub instance_tested : (pool : List Tree) (left t : Tree) (o : Option (BTreeMap ℕ ℕ)) (b : Bool) → IfSome o (λ m. apply (bound_terms pool m) left ≡ t) → IfNone o (IsInstance left t → ⊥)
+    → b ≡ is_some o → IsTrue b ↔ IsInstance left t
+instance_tested pool left t None b found none is = (λ h. absurd cc, λ inst. absurd (none inst))
+instance_tested pool left t (Some m) b found none is = (λ h. (bound_terms pool m, found), λ inst. is)

@@ -7,3 +7,8 @@ pub mod Placing
 pub mod Answers
 pub mod Steps
 pub mod Paths
+pub mod Redex
+pub mod Redexes
+pub mod Roots
+pub mod Passed
+pub mod Tried

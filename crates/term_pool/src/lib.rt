@@ -7,15 +7,19 @@
 mod contracting;
 mod instances;
 mod interning;
+mod listing;
 mod matching;
 mod nodes;
+mod normal;
 mod paths;
 mod placing;
 mod pools;
+mod roots;
 mod running;
 mod steps;
 
 pub use paths::{PathFault, PathStep};
 pub use pools::{MOST_IDS, Pool};
+pub use roots::RulesByRoot;
 pub use running::MOST_ADDED;
 pub use steps::StepFault;

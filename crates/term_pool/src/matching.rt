@@ -1,4 +1,4 @@
-ghost use Rattle.std.specs.Prelude.{◌≡◌, ◌<◌, length, IfOk, IfSome, IfNone, OnOk};
+ghost use Rattle.std.specs.Prelude.{◌≡◌, ◌<◌, ◌↔◌, length, IsTrue, IfOk, IfSome, IfNone, OnOk};
 ghost use Rattle.trs_defs.specs.Tree.{var};
 ghost use Rattle.trs_defs.specs.Substitution.{IsInstance};
 ghost use Rattle.trs_core.specs.View.{tree};
@@ -10,7 +10,7 @@ use crate::Pool;
 use crate::nodes::Node;
 use std::alloc::Global;
 use std::collections::BTreeMap;
-use trs_core::{OutOfMemory, Term};
+use trs_core::{OutOfMemory, Rule, Term};
 
 impl Pool {
     /// Ids for the variables of a pattern that take it to the term of an id. `None` exactly where
@@ -34,6 +34,20 @@ impl Pool {
         } else {
             Ok(None)
         }
+    }
+
+    /// Whether the id's term is an instance of the rule's left side.
+    pub(crate) fn is_instance(
+        &self,
+        alloc: Global,
+        rule: &Rule,
+        id: u32,
+    ) -> Result<bool, OutOfMemory>
+        requires { id < length self.now }
+        ensures { IfOk result (λ yes.
+            IsTrue yes ↔ IsInstance rule.now.left (tree_at self.now id)) }
+    {
+        Ok(self.match_at(alloc, &rule.left, id)?.is_some())
     }
 
     /// Adds the bindings that take the pattern to the term of the id.

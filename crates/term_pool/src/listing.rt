@@ -1,0 +1,122 @@
+ghost use Rattle.std.specs.Prelude.{◌≡◌, ◌<◌, All, length, IfOk, OnOk};
+ghost use Rattle.term_pool.specs.Pooled.{tree_at};
+ghost use Rattle.term_pool.specs.Redexes.{IsNarrow, HasRedexes, AreRedexes, AreRootRedexes, Grows};
+ghost use Rattle.term_pool.specs.Tried.{IsTried};
+
+use crate::nodes::Node;
+use crate::{PathStep, Pool, RulesByRoot};
+use std::alloc::Global;
+use trs_core::{OutOfMemory, Position, Rule};
+
+impl Pool {
+    /// The places at which a step can be made, with the numbers of their rules: the places in
+    /// preorder, and at one place the rules in order. A place is matched only with the rules that
+    /// have its root. (Baader and Nipkow, definition 4.2.2.)
+    pub fn redexes_at(
+        &self,
+        alloc: Global,
+        by_root: &RulesByRoot,
+        id: u32,
+    ) -> Result<Vec<PathStep>, OutOfMemory>
+        requires there { id < length self.now }
+        requires narrow { IsNarrow (tree_at self.now id) }
+        ensures { IfOk result (λ found.
+            HasRedexes by_root.now.rules (tree_at self.now id) found.items) }
+    {
+        let mut found = Vec::new(alloc);
+        let mut place = Vec::new(alloc);
+        self.add_redexes(alloc, by_root, id, &mut place, &mut found)?;
+        Ok(found)
+    }
+
+    /// Adds the redexes of a subterm, which stands at the place.
+    fn add_redexes(
+        &self,
+        alloc: Global,
+        by_root: &RulesByRoot,
+        id: u32,
+        place: &mut Vec<u8>,
+        found: &mut Vec<PathStep>,
+    ) -> Result<(), OutOfMemory>
+        requires there { id < length self.now }
+        requires narrow { IsNarrow (tree_at self.now id) }
+        requires positive { All (λ n. 0 < n) place.old.items }
+        ensures found { OnOk result (Grows place.old.items
+            (AreRedexes by_root.now.rules (tree_at self.now id)) found.old.items found.new.items) }
+        ensures place { OnOk result (place.new.items ≡ place.old.items) }
+    {
+        self.add_root_redexes(alloc, by_root, id, place, found)?;
+        match self.node(id) {
+            Node::Var(_) => {}
+            Node::App(_, args) => {
+                for (i, arg) in args.as_slice().iter().enumerate() {
+                    place.push(i as u8 + 1)?;
+                    self.add_redexes(alloc, by_root, *arg, place, found)?;
+                    place.pop();
+                }
+            }
+        }
+        Ok(())
+    }
+
+    /// Adds the rules of whose left sides the subterm at the place is an instance.
+    fn add_root_redexes(
+        &self,
+        alloc: Global,
+        by_root: &RulesByRoot,
+        id: u32,
+        place: &[u8],
+        found: &mut Vec<PathStep>,
+    ) -> Result<(), OutOfMemory>
+        requires there { id < length self.now }
+        requires positive { All (λ n. 0 < n) place.now }
+        ensures { OnOk result (Grows place.now
+            (AreRootRedexes by_root.now.rules 0 (tree_at self.now id))
+            found.old.items found.new.items) }
+    {
+        let rules = by_root.rules();
+        let Node::App(f, _) = self.node(id) else {
+            return Ok(());
+        };
+        let mut k = by_root.first(*f);
+        while (k as usize) < rules.len() {
+            self.try_rule(alloc, &rules[k as usize], k, id, place, found)?;
+            k = by_root.next(k);
+        }
+        Ok(())
+    }
+
+    /// Adds rule `k`, if the subterm at the place is an instance of its left side.
+    fn try_rule(
+        &self,
+        alloc: Global,
+        rule: &Rule,
+        k: u32,
+        id: u32,
+        place: &[u8],
+        found: &mut Vec<PathStep>,
+    ) -> Result<(), OutOfMemory>
+        requires there { id < length self.now }
+        requires positive { All (λ n. 0 < n) place.now }
+        ensures { OnOk result (IsTried rule.now.left (tree_at self.now id)
+            (record { place = place.now; rule = k }) found.old.items found.new.items) }
+    {
+        if self.is_instance(alloc, rule, id)? {
+            let place = position(alloc, place)?;
+            found.push(PathStep { place, rule: k })?;
+        }
+        Ok(())
+    }
+}
+
+/// The position with these places.
+fn position(alloc: Global, places: &[u8]) -> Result<Position, OutOfMemory>
+    requires { All (λ n. 0 < n) places.now }
+    ensures { IfOk result (λ p. p ≡ places.now) }
+{
+    let mut made = Position::new(alloc);
+    for place in places {
+        made.push(*place)?;
+    }
+    Ok(made)
+}
