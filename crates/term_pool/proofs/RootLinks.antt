@@ -7,7 +7,7 @@ use Rattle.std.proofs.lemmas.Option.{same_Some, slice_get_within, slice_get_read
 use Rattle.trs_defs.specs.Tree.{Tree, Trees, var, app, count}
 use Rattle.trs_defs.specs.WellFormed.{IsWellFormed}
 use Rattle.trs_defs.specs.System.{RewriteRule, System, IsSystem}
-use Rattle.trs_defs.specs.DependencyPair.{has_root}
+use Rattle.trs_defs.specs.System.{has_root}
 use Rattle.term_pool.specs.Roots.{IsNextRooted, AreLinked}
 
 -- a term has one root

@@ -9,7 +9,7 @@ use Rattle.trs_defs.specs.Tree.{Tree, Trees, var, app}
 use Rattle.trs_defs.specs.Variable.{IsVariable}
 use Rattle.trs_defs.specs.Substitution.{IsInstance}
 use Rattle.trs_defs.specs.System.{RewriteRule, System, IsSystem}
-use Rattle.trs_defs.specs.DependencyPair.{has_root}
+use Rattle.trs_defs.specs.System.{has_root}
 use Rattle.trs_defs.specs.Path.{PlacedRule}
 use Rattle.trs_defs.proofs.ArgumentLists.{cell}
 use Rattle.trs_defs.proofs.Members.{get_of_in}
