@@ -77,7 +77,8 @@ fn note_sides(least: &mut Option<AriFault>, symbols: &Symbols, item: &Sexp)
 
 // What an item says wrongly, its terms aside, behind these symbols.
 fn note_saying(least: &mut Option<AriFault>, symbols: &Symbols, at: u32, saying: &Saying<'_>)
-    ensures { least.new ≡ noted least.old (declaration_faults symbols.now at (saying_view saying.now)) }
+    ensures { least.new
+        ≡ noted least.old (declaration_faults symbols.now at (saying_view saying.now)) }
 {
     match saying {
         Saying::Rewrites(_, _) => {}
@@ -95,7 +96,8 @@ fn note_saying(least: &mut Option<AriFault>, symbols: &Symbols, at: u32, saying:
 
 #[tactic(auto, using(crate::proofs::Leasts::noted_append))]
 fn note_entry(least: &mut Option<AriFault>, symbols: &Symbols, at: u32, entry: &Entry<'_>)
-    ensures { least.new ≡ noted least.old (declaration_faults symbols.now at (entry_view entry.now)) }
+    ensures { least.new
+        ≡ noted least.old (declaration_faults symbols.now at (entry_view entry.now)) }
 {
     note_saying(least, symbols, at, &entry.saying);
     if let Some(at) = entry.attribute {

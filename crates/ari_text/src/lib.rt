@@ -11,7 +11,7 @@ mod reading;
 mod rules;
 
 pub use fault::AriFault;
-pub use laws::least_is_least;
+pub use laws::{least_is_least, one_system};
 pub use names_text::{NamedTrs, NamesFault, put_variable, underscores};
 pub use printing::print_problem;
 pub use reading::read_problem;

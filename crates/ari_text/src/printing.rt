@@ -20,7 +20,8 @@ pub fn print_problem(alloc: Global, system: &NamedTrs) -> Result<Vec<u8>, OutOfM
     ensures text { IfOk result (λ text. text.items ≡ lines (problem_items system.now)) }
     // It says the system, and no other.
     ensures read { IfOk result (λ text. SaysSystem text.items system.now) }
-    ensures alone { IfOk result (λ text. (other : NamedSystem) → SaysSystem text.items other → other ≡ system.now) }
+    ensures alone { IfOk result (λ text. (other : NamedSystem)
+        → SaysSystem text.items other → other ≡ system.now) }
 {
     let mut out = Vec::new(alloc);
     out.extend_from_slice(b"(format TRS)\n")?;
@@ -31,7 +32,8 @@ pub fn print_problem(alloc: Global, system: &NamedTrs) -> Result<Vec<u8>, OutOfM
 
 fn put_symbols(out: &mut Vec<u8>, system: &NamedTrs, arities: &[u8]) -> Result<(), OutOfMemory>
     requires { arities.now ≡ system.now.system.arities }
-    ensures { OnOk result (out.new.items ≡ out.old.items ++ lines (symbol_items system.now.names system.now.system.arities no_items)) }
+    ensures { OnOk result (out.new.items ≡ out.old.items
+        ++ lines (symbol_items system.now.names system.now.system.arities no_items)) }
 {
     for f in 0..system.symbols() {
         put_symbol(out, system.name(f), arities[f as usize])?;
@@ -40,7 +42,8 @@ fn put_symbols(out: &mut Vec<u8>, system: &NamedTrs, arities: &[u8]) -> Result<(
 }
 
 fn put_symbol(out: &mut Vec<u8>, name: &[u8], arity: u8) -> Result<(), OutOfMemory>
-    ensures { OnOk result (out.new.items ≡ out.old.items ++ lines (symbol_items (name.now ∷ []) (arity ∷ []) no_items)) }
+    ensures { OnOk result (out.new.items
+        ≡ out.old.items ++ lines (symbol_items (name.now ∷ []) (arity ∷ []) no_items)) }
 {
     let mut buffer = Buffer::new();
     out.extend_from_slice(b"(fun ")?;
@@ -57,7 +60,8 @@ fn put_rules(
     underscores: usize,
     rules: &[Rule],
 ) -> Result<(), OutOfMemory>
-    ensures { OnOk result (out.new.items ≡ out.old.items ++ lines (rule_items underscores system.now.names rules.now)) }
+    ensures { OnOk result (out.new.items
+        ≡ out.old.items ++ lines (rule_items underscores system.now.names rules.now)) }
 {
     for rule in rules {
         put_rule(out, system, underscores, rule)?;
@@ -71,7 +75,8 @@ fn put_rule(
     underscores: usize,
     rule: &Rule,
 ) -> Result<(), OutOfMemory>
-    ensures { OnOk result (out.new.items ≡ out.old.items ++ lines (rule_items underscores system.now.names (rule.now ∷ []))) }
+    ensures { OnOk result (out.new.items
+        ≡ out.old.items ++ lines (rule_items underscores system.now.names (rule.now ∷ []))) }
 {
     out.extend_from_slice(b"(rule ")?;
     put_term(out, system, underscores, &rule.left)?;

@@ -27,7 +27,8 @@ struct Parts {
 pub fn read_problem(alloc: Global, text: &[u8]) -> Result<NamedTrs, AriFault>
     requires size { length text.now ≤ 2 ^ 31 }
     ensures found { IfOk result (λ s. SaysSystem text.now s) }
-    ensures only { (s : NamedSystem) → SaysSystem text.now s → MatchResult result (λ r. r ≡ s) (λ e. e ≡ AriFault.OutOfMemory) }
+    ensures only { (s : NamedSystem) → SaysSystem text.now s
+        → MatchResult result (λ r. r ≡ s) (λ e. e ≡ AriFault.OutOfMemory) }
     ensures refused { IfErr result (λ e. IsProblemRefused text.now e) }
 {
     let items = read_all(alloc, text, 300)?;
@@ -37,7 +38,8 @@ pub fn read_problem(alloc: Global, text: &[u8]) -> Result<NamedTrs, AriFault>
 
 // The parts of the system that the items of a text say.
 fn read_items(alloc: Global, items: &[Sexp]) -> Result<Parts, AriFault>
-    ensures parts { IfOk result (λ p. system_of (later_items (views items.now)) ≡ Ok (parts_view p)) }
+    ensures parts { IfOk result (λ p. system_of (later_items (views items.now))
+        ≡ Ok (parts_view p)) }
     ensures faultless { OnOk result (problem_fault (views items.now) ≡ None) }
     ensures fault { IfErr result (λ e. e ≢ AriFault.OutOfMemory
         → problem_fault (views items.now) ≡ Some e) }

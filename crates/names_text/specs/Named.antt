@@ -16,8 +16,8 @@ pub record NamedSystem : Type 0 where
   pub system : System
 
 -- its symbols: their names and arities
-abbrev pub symbols_of : NamedSystem → List Declared
-symbols_of s = paired s.names s.system.arities
+abbrev pub table_of : NamedSystem → List Declared
+table_of s = paired s.names s.system.arities
 
 -- a word of a text: not empty, and each byte may stand in a word
 abbrev pub is_word : List ℕ → Bool

@@ -3,7 +3,7 @@ ghost use Rattle.std.specs.List.{list_all};
 ghost use Rattle.sexp_core.specs.Tokens.{class_of, is_letter};
 ghost use Rattle.trs_core.specs.View.{tree};
 ghost use Rattle.names_text.specs.Names.{number_among};
-ghost use Rattle.names_text.specs.Named.{IsNamed, symbols_of, is_word, is_shallow, is_numbered, next_number};
+ghost use Rattle.names_text.specs.Named.{IsNamed, table_of, is_word, is_shallow, is_numbered, next_number};
 ghost use Rattle.names_text.specs.declared.names_fault.NamesFault.TheVariants.{BadName};
 ghost use Rattle.names_text.specs.NamesFault.{names_fault, rules_fault, first_bad_name, AnswersBy};
 
@@ -37,7 +37,8 @@ impl Model for NamedTrs {
 impl NamedTrs {
     /// The system with a name for each symbol, in the order of the symbols' numbers.
     pub fn new(alloc: Global, names: Vec<Vec<u8>>, trs: Trs) -> Result<NamedTrs, NamesFault>
-        ensures named { IfOk result (λ s. s ≡ record { names = map (λ n. n.items) names.items; system = trs }) }
+        ensures named { IfOk result (λ s. s
+            ≡ record { names = map (λ n. n.items) names.items; system = trs }) }
         ensures exact { AnswersBy result (names_fault (map (λ n. n.items) names.items) trs) }
     {
         if names.len() != trs.arities().len() {
@@ -92,7 +93,7 @@ impl NamedTrs {
 
     /// The symbols by their names.
     pub fn table(&self) -> SymbolTable<'_>
-        ensures { result ≡ symbols_of self.now }
+        ensures { result ≡ table_of self.now }
     {
         SymbolTable::new(&self.names, self.trs.arities())
     }
@@ -121,7 +122,8 @@ impl NamedTrs {
 fn distinct_words(alloc: Global, names: Vec<Vec<u8>>) -> Result<Names, NamesFault>
     requires { length names.items ≤ 4095 }
     ensures names { IfOk result (λ known. known ≡ map (λ n. n.items) names.items) }
-    ensures exact { AnswersBy result (option_map (λ f. BadName f) (first_bad_name [] (map (λ n. n.items) names.items))) }
+    ensures exact { AnswersBy result
+        (option_map (λ f. BadName f) (first_bad_name [] (map (λ n. n.items) names.items))) }
 {
     let mut known = Names::new(alloc);
     for name in names {
@@ -133,7 +135,8 @@ fn distinct_words(alloc: Global, names: Vec<Vec<u8>>) -> Result<Names, NamesFaul
 /// One more name, which is to be a word that is not among the others.
 fn add_word(known: &mut Names, name: Vec<u8>) -> Result<(), NamesFault>
     ensures added { OnOk result (known.new ≡ known.old ++ name.items ∷ []) }
-    ensures exact { AnswersBy result (option_map (λ f. BadName f) (first_bad_name known.old (name.items ∷ []))) }
+    ensures exact { AnswersBy result
+        (option_map (λ f. BadName f) (first_bad_name known.old (name.items ∷ []))) }
 {
     if !is_word(&name) || known.find(&name).is_some() {
         return Err(NamesFault::BadName(known.len() as u32));

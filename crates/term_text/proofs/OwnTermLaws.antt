@@ -14,7 +14,7 @@ use Rattle.trs_defs.specs.Size.{size_of, depth_of, within_limits}
 use Rattle.text_reading.specs.Reading.{Read, place_of}
 use Rattle.text_reading.proofs.Made.{Makes}
 use Rattle.text_reading.proofs.Again.{Spells}
-use Rattle.names_text.specs.Named.{NamedSystem, IsNamed, symbols_of}
+use Rattle.names_text.specs.Named.{NamedSystem, IsNamed, table_of}
 use Rattle.names_text.specs.VariableNames.{underscores}
 use Rattle.names_text.proofs.SymbolPairs.{arity_kept}
 use Rattle.names_text.specs.Symbols.{paired, arities_of}
@@ -64,8 +64,8 @@ mutual
 
 pub own_term_made : (named : NamedSystem) → Makes (own_term named) (IsTermOf named.system)
 own_term_made named x t e =
-    let i = is_within (keeps_limits x) (term true (symbols_of named) [] x) (place_of x) t e in
-    let r = term_read (symbols_of named) true [] x t i.read in
+    let i = is_within (keeps_limits x) (term true (table_of named) [] x) (place_of x) t e in
+    let r = term_read (table_of named) true [] x t i.read in
     (all_arities named.names named.system.arities t r.well_formed, same_limits x t r.size r.deep ∙ i.within)
 
 -- the same, where there are as many names as arities
@@ -90,7 +90,7 @@ read_again : (named : NamedSystem) → IsNamed named → (t : Tree) (y : Item) �
 read_again named is t y o e =
     let k = underscores named.names in
     let again = term_again k named.names named.system.arities (fit_names named is) true t y 0 o.number o.well_formed o.small (next_numbered 0 t o.number o.next) e in
-    let r = term_read (symbols_of named) true [] y t again.read in
+    let r = term_read (table_of named) true [] y t again.read in
     let within : keeps_limits y ≡ true =
     sym (same_limits y t r.size r.deep) ∙ and_from (nat_le (size_of t) 65536) (nat_le (depth_of t) 1024) (le-leb (size_of t) 65536 o.size) (le-leb (depth_of t) 1024 o.depth) in
     rw (within, again.read) refl

@@ -7,7 +7,7 @@ use Rattle.trs_defs.specs.Size.{within_limits}
 use Rattle.trs_defs.specs.System.{System}
 use Rattle.trs_defs.specs.WellFormed.{IsWellFormed}
 use Rattle.text_reading.specs.Reading.{Read, place_of}
-use Rattle.names_text.specs.Named.{NamedSystem, symbols_of}
+use Rattle.names_text.specs.Named.{NamedSystem, table_of}
 use Rattle.names_text.specs.VariableNames.{underscores}
 use Rattle.term_text.specs.Checked.{judged}
 use Rattle.term_text.specs.Refusals.{refused_at}
@@ -18,7 +18,7 @@ use Rattle.term_text.specs.Renumbered.{in_order}
 
 -- a term of a certificate: past the limits it is refused at its own place, else for the fault with the least place
 abbrev pub own_term : NamedSystem → Item → Read Tree
-own_term named x = if keeps_limits x then judged refused_at min (term true (symbols_of named) [] x) else Err (place_of x)
+own_term named x = if keeps_limits x then judged refused_at min (term true (table_of named) [] x) else Err (place_of x)
 
 -- the term, if the item writes one within the limits
 abbrev pub written_term : NamedSystem → Item → Option Tree

@@ -27,8 +27,10 @@ fn check_variable<'a, F: Refusal>(
     name: &'a [u8],
     at: u32,
 ) -> Result<Judged<Term, F>, AllocError>
-    ensures term { IfOk result (λ r. viewed tree r ≡ judged F.of F.both (variable new at (length variables.old) (number_among variables.old name.now))) }
-    ensures variables { OnOk result (variables.new ≡ with_variable new variables.old name.now (number_among variables.old name.now)) }
+    ensures term { IfOk result (λ r. viewed tree r ≡ judged F.of F.both
+        (variable new at (length variables.old) (number_among variables.old name.now))) }
+    ensures variables { OnOk result (variables.new
+        ≡ with_variable new variables.old name.now (number_among variables.old name.now)) }
 {
     if let Some(number) = variables.find(name) {
         return Ok(Ok(Term::Var(number as u32)));
@@ -49,7 +51,8 @@ fn check_word<'a, F: Refusal>(
     at: u32,
     symbol: Option<Symbol>,
 ) -> Result<Judged<Term, F>, AllocError>
-    ensures term { IfOk result (λ r. viewed tree r ≡ judged F.of F.both (lone new variables.old name.now at symbol)) }
+    ensures term { IfOk result (λ r. viewed tree r
+        ≡ judged F.of F.both (lone new variables.old name.now at symbol)) }
     ensures variables { OnOk result (variables.new ≡ with_word new variables.old name.now symbol) }
 {
     let Some(symbol) = symbol else {
@@ -123,7 +126,8 @@ fn application<F: Refusal>(parts: Judged<(u32, Vec<Term>), F>) -> Judged<Term, F
 pub fn pushed<T: Drop, F: Refusal>(
     parts: Judged<(Vec<T>, T), F>,
 ) -> Result<Judged<Vec<T>, F>, AllocError>
-    ensures { IfOk result (λ r. viewed (λ v. v.items) r ≡ viewed (λ p. p.0.items ++ p.1 ∷ []) parts) }
+    ensures { IfOk result (λ r. viewed (λ v. v.items) r
+        ≡ viewed (λ p. p.0.items ++ p.1 ∷ []) parts) }
 {
     match parts {
         Ok((values, value)) => {
@@ -145,8 +149,10 @@ pub fn check_term<'a, F: Refusal>(
     variables: &mut Variables<'a>,
     item: &'a Sexp,
 ) -> Result<Judged<Term, F>, OutOfMemory>
-    ensures term { IfOk result (λ r. viewed tree r ≡ judged F.of F.both (term new symbols.now variables.old (view item.now))) }
-    ensures variables { OnOk result (variables.new ≡ variables_after new symbols.now variables.old (view item.now)) }
+    ensures term { IfOk result (λ r. viewed tree r
+        ≡ judged F.of F.both (term new symbols.now variables.old (view item.now))) }
+    ensures variables { OnOk result (variables.new
+        ≡ variables_after new symbols.now variables.old (view item.now)) }
 {
     match item {
         Sexp::Word(name, at) => {
@@ -176,8 +182,10 @@ fn check_terms<'a, F: Refusal>(
     variables: &mut Variables<'a>,
     items: &'a [Sexp],
 ) -> Result<Judged<Vec<Term>, F>, OutOfMemory>
-    ensures terms { IfOk result (λ r. viewed (λ v. forest v.items) r ≡ judged F.of F.both (terms new symbols.now variables.old (views items.now))) }
-    ensures variables { OnOk result (variables.new ≡ all_variables_after new symbols.now variables.old (views items.now)) }
+    ensures terms { IfOk result (λ r. viewed (λ v. forest v.items) r
+        ≡ judged F.of F.both (terms new symbols.now variables.old (views items.now))) }
+    ensures variables { OnOk result (variables.new
+        ≡ all_variables_after new symbols.now variables.old (views items.now)) }
 {
     let mut terms = Ok(Vec::new(alloc));
     for item in items {

@@ -16,7 +16,8 @@ pub fn put_term(
     underscores: usize,
     term: &Term,
 ) -> Result<(), OutOfMemory>
-    ensures { OnOk result (out.new.items ≡ out.old.items ++ text_of (term_item underscores system.now.names (tree term.now))) }
+    ensures { OnOk result (out.new.items
+        ≡ out.old.items ++ text_of (term_item underscores system.now.names (tree term.now))) }
 {
     match term {
         Term::Var(v) => put_variable(out, underscores, *v),

@@ -102,7 +102,8 @@ fn all_with_numbers(
     numbers: &Numbers,
     terms: &[Term],
 ) -> Result<Vec<Term>, OutOfMemory>
-    ensures { IfOk result (λ ts. forest ts.items ≡ all_with_numbers numbers.now (forest terms.now)) }
+    ensures { IfOk result (λ ts. forest ts.items
+        ≡ all_with_numbers numbers.now (forest terms.now)) }
 {
     let mut copies = Vec::with_capacity(alloc, terms.len())?;
     for term in terms {
