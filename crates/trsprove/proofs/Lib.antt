@@ -1,3 +1,3 @@
-pub mod Putting
+pub mod Fetching
 pub mod Answering
 pub mod Running

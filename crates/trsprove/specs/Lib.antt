@@ -1,5 +1,5 @@
-pub mod Puts
 pub mod Numbers
 pub mod Lines
 pub mod Output
 pub mod Answers
+pub mod Run

@@ -1,14 +1,10 @@
-use Rattle.trsprove.proofs.Running.{writes, answered_truly, write_fault, reports_or}
+use Rattle.std.proofs.Common.{subst}
+use Rattle.io_edge.specs.Sink.{AppendsTo}
+use Rattle.trsprove.proofs.Running.{answered_truly}
 use Rattle.trsprove.proofs.run.run.Goals as goal
 
-pub returns : goal.returns
-returns g c = record {
-  output = writes _ _ _ _ c.answer_for-answer.result c.report.result (g.K.Sink.taken c.args.out.now) (g.K.Sink.taken c.report.new.out)
-      (g.K.Sink.faults c.args.out.now) (g.K.Sink.faults c.report.new.out) c.answer_for-answer.ensures.cause c.in_default.not-OutOfMemory c.report.ensures;
-  write = write_fault c.answer_for-answer.result c.report.result (g.K.Sink.taken c.args.out.now) (g.K.Sink.taken c.report.new.out)
-      (g.K.Sink.faults c.args.out.now) (g.K.Sink.faults c.report.new.out) c.report.ensures;
-  only = λ wanted line o. reports_or wanted c.answer_for-answer.result c.report.result (g.K.Sink.taken c.args.out.now) (g.K.Sink.taken c.report.new.out)
-      (g.K.Sink.faults c.args.out.now) (g.K.Sink.faults c.report.new.out) c.report.ensures (c.answer_for-answer.ensures.only wanted line o);
-  truth = answered_truly _ _ _ _ c.answer_for-answer.result c.report.result (g.K.Sink.taken c.args.out.now) (g.K.Sink.taken c.report.new.out)
-      (g.K.Sink.faults c.args.out.now) (g.K.Sink.faults c.report.new.out) c.answer_for-answer.ensures.cause c.report.ensures;
-}
+pub returns-in-Ok-put-clause-truth : goal.returns-in-Ok-put-clause-truth
+returns-in-Ok-put-clause-truth g c =
+    answered_truly _ (g.S.Shelf.means c.args.shelf.now) (g.S.Shelf.means c.answer_for.new.shelf) (g.K.Sink.means c.args.out.now) (g.K.Sink.means c.put.new.self)
+    c.in-Ok.answer.status c.in-Ok.answer.line.items c.in-Ok.ensures.line
+    (subst (λ z. AppendsTo (g.K.Sink.means c.args.out.now) z (g.K.Sink.means c.put.new.self)) c.deref.ensures.value c.in-Ok-put.ensures.whole)
