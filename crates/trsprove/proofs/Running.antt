@@ -6,24 +6,9 @@ use Rattle.certifier.proofs.OneAnswer.{says_of_acceptance}
 use Rattle.command_line.specs.Request.{Asked}
 use Rattle.trsprove.specs.declared.status.Status.{Status}
 use Rattle.trsprove.specs.declared.status.Status.TheVariants as status
-use Rattle.trsprove.specs.Output.{Verdict, accepted, Output, decided, AreFetched, IsLine, IsTrueAnswer, Writes}
+use Rattle.trsprove.specs.Output.{Verdict, accepted, Output, decided, AreFetched, IsLine, IsTrueAnswer}
 
 module _ (request : Option Asked) (before now : ShelfMeaning) (taken later : SinkMeaning) where
-  -- a line that is written whole
-  pub writes : (s : Status) (line : List ℕ) → IsLine request before now s line → AppendsTo taken line later → Writes request before now s taken later
-  writes status.Answered line h w = (line, h, w)
-  writes status.Rejected line h w = (line, h, w)
-  writes status.Usage line h w = (line, h, w)
-  writes status.Refused line h w = (line, h, w)
-  writes status.ReadFault line h w = (line, h, w)
-  writes status.TooLong line h w = (line, h, w)
-  writes status.WriteFault line h w = absurd h
-  writes status.OutOfMemory line h w = absurd h
-
-  -- no line has the status of a write fault
-  pub not_write_fault : (s : Status) (line : List ℕ) → IsLine request before now s line → s ≡ status.WriteFault → ⊥
-  not_write_fault s line h e = subst (λ z. IsLine request before now z line) e h
-
   -- the claim that is written is true
   true_verdict : (problem certificate line : List ℕ) → AreFetched request (MayBe before) problem certificate → Verdict problem certificate status.Answered line
       → AppendsTo taken line later → IsTrueAnswer request before taken later

@@ -2,7 +2,7 @@
 use Rattle.std.specs.Prelude.{◌≡◌, ◌≢◌, ◌⊎◌, ◌<◌, ◌≤◌, ℕ, List, map, Option, Some, None, length}
 use denote.Ref.{Bor}
 use Rattle.io_edge.specs.Shelf.{ShelfMeaning, Told, MayBe, MayPass, FaultRose, ReadPast, IsUntouched}
-use Rattle.io_edge.specs.Sink.{SinkMeaning, AppendsTo, AppendsPrefix}
+use Rattle.io_edge.specs.Sink.{SinkMeaning, AppendsTo, AppendsPrefix, IsOnePut}
 use Rattle.ari_text.specs.Named.{NamedSystem}
 use Rattle.ari_text.specs.Problem.{IsProblemRefused}
 use Rattle.ari_text.specs.declared.fault.AriFault.{AriFault}
@@ -83,10 +83,15 @@ IsLine request before now status.WriteFault line = ⊥
 IsLine request before now status.OutOfMemory line = ⊥
 IsLine request before now s line = Output request (MayBe before) s line
 
--- what a status says of the bytes that the sink took: they are the line, or a front of a line where writing failed
+-- a certificate was judged: it was accepted or rejected
+abbrev pub JudgesCertificate : Status → Type 0
+JudgesCertificate s = (s ≡ status.Answered) ⊎ (s ≡ status.Rejected)
+
+-- what a status says of the bytes that the sink took: they are the line, or, where writing failed, a front of a line, which
+-- was one put if it judges a certificate
 abbrev pub Writes : Option Asked → ShelfMeaning → ShelfMeaning → Status → SinkMeaning → SinkMeaning → Type 0
 Writes request before now status.WriteFault taken later = (s : Status) × (line : List ℕ)
-    × IsLine request before now s line × AppendsPrefix taken line later
+    × IsLine request before now s line × AppendsPrefix taken line later × (JudgesCertificate s → IsOnePut taken later)
 Writes request before now status.OutOfMemory taken later = later ≡ taken
 Writes request before now s taken later = (line : List ℕ)
     × IsLine request before now s line × AppendsTo taken line later

@@ -1,5 +1,5 @@
 -- What a run promises of its status, and what the arguments of a host ask for.
-use Rattle.std.specs.Prelude.{◌≡◌, ◌≢◌, ℕ, map, drop, Option, None, Result, Ok, Err, String, string_bytes}
+use Rattle.std.specs.Prelude.{◌≡◌, ℕ, map, drop, Option, None, Result, Ok, Err, String, string_bytes}
 use Rattle.std.specs.declared.alloc.Global.{Global}
 use Rattle.std.specs.declared.io.Error.{Error}
 use Rattle.std.specs.declared.vec.IntoIter.{IntoIter}
@@ -10,12 +10,12 @@ use Rattle.io_edge.specs.Sink.{SinkMeaning, IsOnePut}
 use Rattle.command_line.specs.Request.{Asked, request_of}
 use Rattle.trsprove.specs.declared.status.Status.{Status}
 use Rattle.trsprove.specs.declared.status.Status.TheVariants as status
-use Rattle.trsprove.specs.Output.{Writes, AnswersOnly, IsTrueAnswer, TouchesOnlyNeeded, code_of}
+use Rattle.trsprove.specs.Output.{Writes, JudgesCertificate, AnswersOnly, IsTrueAnswer, TouchesOnlyNeeded, code_of}
 
 -- the clauses of `run`
 pub record IsRun (request : Option Asked) (before now : ShelfMeaning) (s : Status) (taken later : SinkMeaning) : Type 0 where
   pub output : Writes request before now s taken later
-  pub put : s ≢ status.OutOfMemory → IsOnePut taken later
+  pub put : JudgesCertificate s → IsOnePut taken later
   pub write : s ≡ status.WriteFault → Rose taken.faults later.faults
   pub only : AnswersOnly request before s
   pub truth : s ≡ status.Answered → IsTrueAnswer request before taken later

@@ -1,11 +1,12 @@
 ghost use Rattle.std.specs.Prelude.{◌≡◌, ◌≤◌, Some, IfOk, length};
 ghost use Rattle.command_line.specs.Request.{request_of, certifies};
 ghost use Rattle.trsprove.specs.Output.{texts, Verdict, IsLine, AnswersOnly, TouchesOnlyNeeded, most_bytes};
-ghost use Rattle.trsprove.specs.Answers.{IsUnfetched};
+ghost use Rattle.trsprove.specs.Answers.{IsUnfetched, status_of, line_of};
 
-use crate::lines::{USAGE, accepted_line, named_line, refused_line, rejected_line};
+use crate::lines::rejected_line;
 use crate::status::Status;
-use certifier::{Rejected, certify};
+use ari_text::AriFault;
+use certifier::{Claim, Rejected, certify};
 use command_line::{Refused, Request, parse};
 use io_edge::{FetchFault, Shelf};
 use std::alloc::{AllocError, Global};
@@ -13,23 +14,45 @@ use std::alloc::{AllocError, Global};
 /// The most bytes of a text.
 const MOST_BYTES: u64 = 1_048_576;
 
-/// A status, and the line that is to be written with it.
+/// What is to be written.
 #[derive(Drop)]
-pub(crate) struct Answer {
-    pub(crate) status: Status,
-    pub(crate) line: Vec<u8>,
+pub(crate) enum Answer<'a> {
+    Accepted(Claim),
+    /// The line of a rejection.
+    Rejected(Vec<u8>),
+    Usage,
+    Refused(AriFault),
+    /// A text could not be fetched: its name.
+    ReadFault(&'a str),
+    /// A text is too long: its name.
+    TooLong(&'a str),
+}
+
+impl<'a> Answer<'a> {
+    pub(crate) fn status(&self) -> Status
+        ensures { result ≡ status_of self.now }
+    {
+        match self {
+            Answer::Accepted(_) => Status::Answered,
+            Answer::Rejected(_) => Status::Rejected,
+            Answer::Usage => Status::Usage,
+            Answer::Refused(_) => Status::Refused,
+            Answer::ReadFault(_) => Status::ReadFault,
+            Answer::TooLong(_) => Status::TooLong,
+        }
+    }
 }
 
 /// What the words ask for, by the texts of the shelf.
-pub(crate) fn answer_for<S: Shelf>(
+pub(crate) fn answer_for<'a, S: Shelf>(
     alloc: Global,
-    words: &[&str],
+    words: &'a [&'a str],
     shelf: &mut S,
-) -> Result<Answer, AllocError>
+) -> Result<Answer<'a>, AllocError>
     ensures line { IfOk result (λ a. IsLine (request_of (texts words.now))
-        (S.means shelf.old) (S.means shelf.new) a.status a.line.items) }
+        (S.means shelf.old) (S.means shelf.new) (status_of a) (line_of a)) }
     ensures only { IfOk result (λ a.
-        AnswersOnly (request_of (texts words.now)) (S.means shelf.old) a.status) }
+        AnswersOnly (request_of (texts words.now)) (S.means shelf.old) (status_of a)) }
     ensures untouched { TouchesOnlyNeeded (request_of (texts words.now))
         (S.means shelf.old) (S.means shelf.new) }
 {
@@ -40,73 +63,56 @@ pub(crate) fn answer_for<S: Shelf>(
                 certificate,
             },
         ) => certified(alloc, shelf, problem, certificate),
-        Err(Refused::Usage) => Ok(Answer {
-            status: Status::Usage,
-            line: Vec::from_slice(alloc, USAGE)?,
-        }),
+        Err(Refused::Usage) => Ok(Answer::Usage),
         Err(Refused::OutOfMemory) => Err(AllocError),
     }
 }
 
 // The answer for the problem and the certificate under two names.
-fn certified<S: Shelf>(
+fn certified<'a, S: Shelf>(
     alloc: Global,
     shelf: &mut S,
-    problem: &str,
-    certificate: &str,
-) -> Result<Answer, AllocError>
+    problem: &'a str,
+    certificate: &'a str,
+) -> Result<Answer<'a>, AllocError>
     ensures line { IfOk result (λ a. IsLine (Some (certifies problem.now certificate.now))
-        (S.means shelf.old) (S.means shelf.new) a.status a.line.items) }
+        (S.means shelf.old) (S.means shelf.new) (status_of a) (line_of a)) }
     ensures only { IfOk result (λ a.
-        AnswersOnly (Some (certifies problem.now certificate.now)) (S.means shelf.old) a.status) }
+        AnswersOnly (Some (certifies problem.now certificate.now)) (S.means shelf.old)
+        (status_of a)) }
     ensures untouched { TouchesOnlyNeeded (Some (certifies problem.now certificate.now))
         (S.means shelf.old) (S.means shelf.new) }
 {
     match shelf.fetch(problem, MOST_BYTES) {
         Ok(problem_text) => match shelf.fetch(certificate, MOST_BYTES) {
             Ok(certificate_text) => decided(alloc, &problem_text, &certificate_text),
-            Err(fault) => unfetched(alloc, certificate, fault),
+            Err(fault) => unfetched(certificate, fault),
         },
-        Err(fault) => unfetched(alloc, problem, fault),
+        Err(fault) => unfetched(problem, fault),
     }
 }
 
 // The answer where the text under a name could not be fetched.
-fn unfetched(alloc: Global, name: &str, fault: FetchFault) -> Result<Answer, AllocError>
-    ensures { IfOk result (λ a. IsUnfetched fault name.now a.status a.line.items) }
+fn unfetched<'a>(name: &'a str, fault: FetchFault) -> Result<Answer<'a>, AllocError>
+    ensures { IfOk result (λ a. IsUnfetched fault name.now (status_of a) (line_of a)) }
 {
     match fault {
-        FetchFault::TooLong => Ok(Answer {
-            status: Status::TooLong,
-            line: named_line(alloc, b"too long ", name)?,
-        }),
-        FetchFault::Failed => Ok(Answer {
-            status: Status::ReadFault,
-            line: named_line(alloc, b"read fault ", name)?,
-        }),
+        FetchFault::TooLong => Ok(Answer::TooLong(name)),
+        FetchFault::Failed => Ok(Answer::ReadFault(name)),
         FetchFault::OutOfMemory => Err(AllocError),
     }
 }
 
 // The answer for two texts.
-fn decided(alloc: Global, problem: &[u8], certificate: &[u8]) -> Result<Answer, AllocError>
+fn decided<'a>(alloc: Global, problem: &[u8], certificate: &[u8]) -> Result<Answer<'a>, AllocError>
     requires problem { length problem.now ≤ most_bytes }
     requires certificate { length certificate.now ≤ most_bytes }
-    ensures { IfOk result (λ a. Verdict problem.now certificate.now a.status a.line.items) }
+    ensures { IfOk result (λ a. Verdict problem.now certificate.now (status_of a) (line_of a)) }
 {
     match certify(alloc, problem, certificate) {
-        Ok(accepted) => Ok(Answer {
-            status: Status::Answered,
-            line: Vec::from_slice(alloc, accepted_line(accepted.claim))?,
-        }),
-        Err(Rejected::Problem(fault)) => Ok(Answer {
-            status: Status::Refused,
-            line: refused_line(alloc, &fault)?,
-        }),
+        Ok(accepted) => Ok(Answer::Accepted(accepted.claim)),
+        Err(Rejected::Problem(fault)) => Ok(Answer::Refused(fault)),
         Err(Rejected::OutOfMemory) => Err(AllocError),
-        Err(rejected) => Ok(Answer {
-            status: Status::Rejected,
-            line: rejected_line(alloc, &rejected)?,
-        }),
+        Err(rejected) => Ok(Answer::Rejected(rejected_line(alloc, &rejected)?)),
     }
 }

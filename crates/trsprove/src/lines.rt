@@ -1,15 +1,10 @@
 ghost use Rattle.std.specs.Prelude.{◌≡◌, ◌++◌, ◌∷◌, [], IfOk, OnOk};
 ghost use Rattle.trsprove.specs.Numbers.{fields_text};
-ghost use Rattle.trsprove.specs.Lines.{accepted_line, rejected_words, rejected_numbers, rejected_fields, rejected_line, problem_fields, refused_line};
+ghost use Rattle.trsprove.specs.Lines.{accepted_line, rejected_words, rejected_numbers, rejected_fields, rejected_line};
 
-use ari_text::AriFault;
 use certifier::{Claim, Rejected};
 use itoa::Buffer;
 use std::alloc::{AllocError, Global};
-
-/// The line of words that ask for nothing.
-pub(crate) const USAGE: &[u8] =
-    b"usage: trsprove <action> <problem> [certificate] [--workers N] [--budget B]\n";
 
 /// The line of a claim that is accepted.
 pub(crate) fn accepted_line(claim: Claim) -> &'static [u8]
@@ -73,40 +68,6 @@ fn push_reason(line: &mut Vec<u8>, rejected: &Rejected) -> Result<(), AllocError
         Rejected::Step(_, reason) => push_fields(line, reason.fields().as_slice()),
         _ => push_fields(line, &[]),
     }
-}
-
-/// The line of a problem text that is refused.
-pub(crate) fn refused_line(alloc: Global, fault: &AriFault) -> Result<Vec<u8>, AllocError>
-    ensures { IfOk result (λ line. line.items ≡ refused_line fault.now) }
-{
-    let mut line = Vec::from_slice(alloc, b"problem refused")?;
-    push_fault(&mut line, fault)?;
-    line.push(b'\n')?;
-    Ok(line)
-}
-
-// The numbers of a fault.
-fn push_fault(line: &mut Vec<u8>, fault: &AriFault) -> Result<(), AllocError>
-    ensures { OnOk result
-        (line.new.items ≡ line.old.items ++ fields_text (problem_fields fault.now)) }
-{
-    let number = fault.number() as u64;
-    match (fault.text_number(), fault.place()) {
-        (Some(kind), Some(at)) => push_fields(line, &[number, kind as u64, at as u64]),
-        (None, Some(at)) => push_fields(line, &[number, at as u64]),
-        (Some(kind), None) => push_fields(line, &[number, kind as u64]),
-        (None, None) => push_fields(line, &[number]),
-    }
-}
-
-/// A line of words and a name.
-pub(crate) fn named_line(alloc: Global, words: &[u8], name: &str) -> Result<Vec<u8>, AllocError>
-    ensures { IfOk result (λ line. line.items ≡ words.now ++ (name.now ++ 10 ∷ [])) }
-{
-    let mut line = Vec::from_slice(alloc, words)?;
-    line.extend_from_slice(name.as_bytes())?;
-    line.push(b'\n')?;
-    Ok(line)
 }
 
 // Numbers, with a blank before each.

@@ -4,6 +4,8 @@
 mod answer;
 mod arguments;
 mod lines;
+mod pieces;
+mod report;
 mod run;
 mod status;
 mod words;

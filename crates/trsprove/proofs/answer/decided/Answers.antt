@@ -1,21 +1,18 @@
-use Rattle.std.proofs.Common.{◌∙◌, sym, subst, rules}
+use Rattle.std.proofs.Common.{sym, subst, rules}
 use Rattle.certifier.specs.Acceptance.{IsRejection}
 use Rattle.certifier.specs.declared.rejected.Rejected.TheVariants as why
 use Rattle.trsprove.specs.declared.status.Status.TheVariants as status
 use Rattle.trsprove.specs.Output.{Verdict, accepted, refused, rejected}
 use Rattle.trsprove.proofs.answer.decided.Goals as goal
 
-pub returns-in_ok-from_slice-in-Ok : goal.returns-in_ok-from_slice-in-Ok
-returns-in_ok-from_slice-in-Ok c =
-    subst (Verdict c.args.problem.now c.args.certificate.now status.Answered) (sym (c.in_ok-from_slice-in-Ok.ensures.items ∙ c.accepted_line.ensures))
-    (accepted c.in-Ok.accepted.claim c.in-Ok.accepted.system c.in-Ok.ensures.accepted)
+pub returns-in-Ok : goal.returns-in-Ok
+returns-in-Ok c = accepted c.in-Ok.accepted.claim c.in-Ok.accepted.system c.in-Ok.ensures.accepted
 
-pub returns-in_ok-refused_line-in-Err-Problem : goal.returns-in_ok-refused_line-in-Err-Problem
-returns-in_ok-refused_line-in-Err-Problem c =
+pub returns-in-Err-Problem : goal.returns-in-Err-Problem
+returns-in-Err-Problem c =
     let rejection : IsRejection c.args.problem.now c.args.certificate.now (why.Problem c.in-Err-Problem.fault) =
     subst (IsRejection c.args.problem.now c.args.certificate.now) c.in-Err-Problem.field-0-is c.in-Err-Problem.ensures.rejected in
-    subst (Verdict c.args.problem.now c.args.certificate.now status.Refused) (sym c.in_ok-refused_line-in-Err-Problem.ensures)
-    (refused c.in-Err-Problem.fault rejection.0 rejection.1)
+    refused c.in-Err-Problem.fault rejection.0 rejection.1
 
 pub returns-in_ok-rejected_line-in-Err : goal.returns-in_ok-rejected_line-in-Err
 returns-in_ok-rejected_line-in-Err c =
