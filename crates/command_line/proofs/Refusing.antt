@@ -1,6 +1,8 @@
 -- Refusals of words.
 use Rattle.std.proofs.Common.{◌≡◌, ◌⊎◌, List, [], ◌∷◌, Option, None, Err, refl, sym, ap, subst, ◌∙◌, inl, inr, true}
 use Rattle.clap.specs.Words.{Kinds, IsAmong}
+use Rattle.clap.specs.Faults.{walk_fault, defaults_fault}
+use Rattle.clap.specs.Walk.{walked}
 use Rattle.clap.specs.declared.error.kind.ErrorKind.{ErrorKind}
 use Rattle.clap.specs.declared.error.kind.ErrorKind.TheVariants.{OutOfMemory as NoMemory}
 use Rattle.clap.specs.Words.{App, Text, Row, fault_of, first_of, first_value, is_simple, is_simple_and_free, matches_of, rows_of}
@@ -46,3 +48,8 @@ is_refused app words k r e h kinds =
 pub plain_simple : is_simple command_app ≡ true
 unfolding command_app
 plain_simple = refl
+
+-- no words ask for nothing
+pub nothing_asked : request_of [] ≡ None
+unfolding request_of command_app walk_fault defaults_fault walked
+nothing_asked = refl

@@ -130,8 +130,8 @@ fn request_from<'a>(matches: &ArgMatches<'a>) -> Option<Request<'a>>
 
 /// What the words ask for, the program's name left out. `Usage` comes exactly where they ask for
 /// nothing: where `clap`'s rules for the simple command refuse them, the action is not `certify`
-/// with a problem and a certificate, `--workers` is not from 1 to 16, or `--budget` is not from 1 to
-/// 1,000,000. Both numbers are read, and then ignored.
+/// with a problem and a certificate, `--workers` is not from 1 to 16, or `--budget` is not from 1
+/// to 1,000,000. Both numbers are read, and then ignored.
 pub fn parse<'a>(alloc: Global, words: &'a [&'a str]) -> Result<Request<'a>, Refused>
     ensures { Answers result (request_of (map (λ w. w.now) words.now)) }
 {

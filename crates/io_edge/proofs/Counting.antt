@@ -14,7 +14,7 @@ use Rattle.io_edge.specs.Shelf.{CountsRise}
 use Rattle.io_edge.specs.Named.{first_under, by_name}
 
 -- texts are the same, or differ
-same_or_not : (p q : List ℕ) → (p ≡ q) ⊎ (p ≢ q)
+pub same_or_not : (p q : List ℕ) → (p ≡ q) ⊎ (p ≢ q)
 same_or_not p q =
     ⊎_elim (λ e. inl ((bytes_eq-Decides p q).0 e)) (λ e. inr (λ same. false≢true (sym e ∙ (bytes_eq-Decides p q).1 same))) (cases_Bool (bytes_eq p q))
 

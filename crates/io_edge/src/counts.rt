@@ -91,12 +91,16 @@ impl Tallies {
     fn raise(&mut self, name: &str, faults: u64, bytes: u64)
         requires { IsSome (first_under self.old name.now) }
         ensures noted { IsSome (first_under self.new name.now) }
-        ensures faults { faults_under self.new name.now ≡ count_after faults (faults_under self.old name.now) }
-        ensures bytes { bytes_under self.new name.now ≡ count_after bytes (bytes_under self.old name.now) }
+        ensures faults { faults_under self.new name.now ≡
+            count_after faults (faults_under self.old name.now) }
+        ensures bytes { bytes_under self.new name.now ≡
+            count_after bytes (bytes_under self.old name.now) }
         ensures later { faults_under self.old name.now ≤ faults_under self.new name.now }
         ensures read { bytes_under self.old name.now ≤ bytes_under self.new name.now }
-        ensures other_faults { (q : List ℕ) → q ≢ name.now → faults_under self.new q ≡ faults_under self.old q }
-        ensures other_bytes { (q : List ℕ) → q ≢ name.now → bytes_under self.new q ≡ bytes_under self.old q }
+        ensures other_faults { (q : List ℕ) → q ≢ name.now →
+            faults_under self.new q ≡ faults_under self.old q }
+        ensures other_bytes { (q : List ℕ) → q ≢ name.now →
+            bytes_under self.new q ≡ bytes_under self.old q }
     {
         if let Some(tally) = self.tallies.get_mut(name) {
             tally.faults = raised(tally.faults, faults);
@@ -110,8 +114,10 @@ impl Tallies {
         requires { IsSome (first_under self.old name.now) }
         ensures noted { IsSome (first_under self.new name.now) }
         ensures same { result ≡ reading.outcome }
-        ensures counted { CountsFault result (faults_under self.old) (faults_under self.new) name.now }
-        ensures bytes { bytes_under self.new name.now ≡ count_after reading.bytes (bytes_under self.old name.now) }
+        ensures counted { CountsFault result
+            (faults_under self.old) (faults_under self.new) name.now }
+        ensures bytes { bytes_under self.new name.now ≡
+            count_after reading.bytes (bytes_under self.old name.now) }
         ensures faults { CountsRise (faults_under self.old) (faults_under self.new) name.now }
         ensures read { CountsRise (bytes_under self.old) (bytes_under self.new) name.now }
     {

@@ -44,8 +44,8 @@ impl<'a, R: Files> FileShelf<'a, R> {
 
 const CHUNK: usize = 4096;
 
-// Reads once, at most to one byte past the limit, and answers how many bytes it put behind the text. Room is made
-// before, so that no byte that was read is lost.
+// Reads once, at most to one byte past the limit, and answers how many bytes it put behind the
+// text. Room is made before, so that no byte that was read is lost.
 fn read_more<F: Read>(file: &mut F, text: &mut Vec<u8>, limit: u64) -> Result<usize, FetchFault>
     requires { length text.old.items ≤ limit }
     ensures bound { length text.new.items ≤ limit + 1 }
@@ -75,7 +75,8 @@ fn read_more<F: Read>(file: &mut F, text: &mut Vec<u8>, limit: u64) -> Result<us
 
 // Reads to the end, or one byte past the limit.
 fn read_to_limit<F: Read>(alloc: Global, file: &mut F, limit: u64) -> Reading
-    ensures whole { IfOk result.outcome (λ v. IfSome (F.remaining file.old) (λ told. v.items ≡ told)) }
+    ensures whole { IfOk result.outcome (λ v.
+        IfSome (F.remaining file.old) (λ told. v.items ≡ told)) }
     ensures bound { IfOk result.outcome (λ v. length v.items ≤ limit) }
     ensures too_long { IsErrOf result.outcome TooLong →
         IfSome (F.remaining file.old) (λ told. limit < length told) }
@@ -124,7 +125,8 @@ impl<'a, R: Files> Shelf for FileShelf<'a, R> {
         ensures told { TellsTheSame (untold self.old) (untold self.new) }
         ensures faults { CountsRise (faults_under self.old) (faults_under self.new) name.now }
         ensures read { CountsRise (bytes_under self.old) (bytes_under self.new) name.now }
-        ensures counted { CountsFault result (faults_under self.old) (faults_under self.new) name.now }
+        ensures counted { CountsFault result
+            (faults_under self.old) (faults_under self.new) name.now }
         ensures long { IsErrOf result TooLong →
             ReadPast limit (untold self.old) (untold self.new) name.now }
 

@@ -97,33 +97,40 @@ impl MemoryShelf {
 impl Shelf for MemoryShelf {
     ghost means = { shelf_meaning };
 
-    /// Each call is counted, whatever its answer. The whole length of a text that is found counts as read,
-    /// also of one that is too long.
+    /// Each call is counted, whatever its answer. The whole length of a text that is found counts as
+    /// read, also of one that is too long.
     fn fetch(&mut self, name: &str, limit: u64) -> Result<Vec<u8>, FetchFault>
         ensures whole { IfOk result (λ v. MayBe (shelf_meaning self.old) name.now v.items) }
         ensures bound { IfOk result (λ v. length v.items ≤ limit) }
-        ensures too_long { IsErrOf result TooLong → MayPass limit (shelf_meaning self.old) name.now }
+        ensures too_long { IsErrOf result TooLong →
+            MayPass limit (shelf_meaning self.old) name.now }
         ensures told { TellsTheSame (shelf_meaning self.old) (shelf_meaning self.new) }
-        ensures faults { CountsRise (faults_under self.old.tallies) (faults_under self.new.tallies) name.now }
-        ensures read { CountsRise (bytes_under self.old.tallies) (bytes_under self.new.tallies) name.now }
+        ensures faults { CountsRise
+            (faults_under self.old.tallies) (faults_under self.new.tallies) name.now }
+        ensures read { CountsRise
+            (bytes_under self.old.tallies) (bytes_under self.new.tallies) name.now }
         ensures counted { CountsFault result
             (faults_under self.old.tallies) (faults_under self.new.tallies) name.now }
         ensures long { IsErrOf result TooLong →
             ReadPast limit (shelf_meaning self.old) (shelf_meaning self.new) name.now }
 
         // Which calls answer what, want of memory aside, and how the shelf stands then.
-        ensures answered { IfOk result (λ v. answer_to self.old name.now limit ≡ text_answer v.items) }
-        ensures long_answer { IsErrOf result TooLong → answer_to self.old name.now limit ≡ too_long_answer }
-        ensures failed_answer { IsErrOf result Failed → answer_to self.old name.now limit ≡ failed_answer }
+        ensures answered { IfOk result (λ v.
+            answer_to self.old name.now limit ≡ text_answer v.items) }
+        ensures long_answer { IsErrOf result TooLong →
+            answer_to self.old name.now limit ≡ too_long_answer }
+        ensures failed_answer { IsErrOf result Failed →
+            answer_to self.old name.now limit ≡ failed_answer }
         ensures counted_bytes { CountsBytes result (bytes_read self.old name.now)
             (bytes_under self.old.tallies name.now) (bytes_under self.new.tallies name.now) }
+
+        ensures calls { self.new.calls ≡ next_count self.old.calls }
+        ensures texts { self.new.texts ≡ self.old.texts }
+        ensures failing { self.new.failing ≡ self.old.failing }
 
         // Without memory for a new name no count under a name changes.
         ensures unnoted { IsNone (first_under self.new.tallies name.now) →
             self.new.tallies ≡ self.old.tallies }
-        ensures calls { self.new.calls ≡ next_count self.old.calls }
-        ensures texts { self.new.texts ≡ self.old.texts }
-        ensures failing { self.new.failing ≡ self.old.failing }
     {
         let call = self.calls;
         self.calls = call.saturating_add(1);

@@ -70,8 +70,10 @@ impl Sink for MemorySink {
 
     /// Each call is counted, whatever its answer. No memory is taken.
     fn put(&mut self, piece: &[u8]) -> Result<(), SinkFailed>
-        ensures whole { OnOk result (AppendsTo (sink_meaning self.old) piece.now (sink_meaning self.new)) }
-        ensures part { OnErr result (AppendsPrefix (sink_meaning self.old) piece.now (sink_meaning self.new)) }
+        ensures whole { OnOk result
+            (AppendsTo (sink_meaning self.old) piece.now (sink_meaning self.new)) }
+        ensures part { OnErr result
+            (AppendsPrefix (sink_meaning self.old) piece.now (sink_meaning self.new)) }
         ensures faults { self.old.faults ≤ self.new.faults }
         ensures failed { OnErr result (Rose self.old.faults self.new.faults) }
         ensures put { IsOnePut (sink_meaning self.old) (sink_meaning self.new) }

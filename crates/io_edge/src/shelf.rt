@@ -4,8 +4,8 @@ ghost use Rattle.io_edge.specs.declared.fault.FetchFault.TheVariants.{TooLong};
 
 use crate::fault::FetchFault;
 
-/// Texts under names, and for each name a count of faults and one of bytes read. A name that was never
-/// asked for has the counts 0.
+/// Texts under names, and for each name a count of faults and one of bytes read. A name that was
+/// never asked for has the counts 0.
 pub trait Shelf {
     ghost means: { Self → ShelfMeaning };
 
@@ -17,6 +17,8 @@ pub trait Shelf {
         ensures told { TellsTheSame (means self.old) (means self.new) }
         ensures faults { CountsRise (means self.old).faults (means self.new).faults name.now }
         ensures read { CountsRise (means self.old).bytes (means self.new).bytes name.now }
-        ensures counted { CountsFault result (means self.old).faults (means self.new).faults name.now }
-        ensures long { IsErrOf result TooLong → ReadPast limit (means self.old) (means self.new) name.now };
+        ensures counted { CountsFault result
+            (means self.old).faults (means self.new).faults name.now }
+        ensures long { IsErrOf result TooLong →
+            ReadPast limit (means self.old) (means self.new) name.now };
 }

@@ -41,7 +41,8 @@ impl<'a, R: Print> WriterSink<Printer<'a, R>> {
 
 // Writes a piece whole. A writer that takes no byte of what is left has failed.
 fn write_whole<W: Write>(writer: &mut W, piece: &[u8]) -> Result<(), SinkFailed>
-    ensures whole { OnOk result (Appends (W.contents writer.old) (W.contents writer.new) piece.now) }
+    ensures whole { OnOk result
+        (Appends (W.contents writer.old) (W.contents writer.new) piece.now) }
     ensures part { OnErr result
         ((n : ℕ) × Appends (W.contents writer.old) (W.contents writer.new) (take n piece.now)) }
 {

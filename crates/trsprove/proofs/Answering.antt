@@ -1,175 +1,101 @@
--- What the answers rest on.
-use Rattle.std.proofs.Common.{◌≡◌, ◌≢◌, ◌≤◌, ◌<◌, ◌⊎◌, inl, inr, ℕ, List, [], ◌∷◌, length, Option, Some, None, IfSome, refl, sym, subst, ◌∙◌, arith, zero, suc}
-use Rattle.io_edge.specs.Edge.{RoseBy}
-use Rattle.names_text.specs.Named.{NamedSystem}
+-- That the answer is the only one.
+use Rattle.std.proofs.Common.{◌≡◌, ◌≢◌, ◌≤◌, ◌<◌, ◌⊎◌, inl, inr, ℕ, List, length, Some, IfSome, refl, sym, subst, ◌∙◌, arith}
+use Rattle.io_edge.specs.Shelf.{ShelfMeaning, Told, MayBe, MayPass}
 use Rattle.ari_text.specs.Problem.{IsProblemRefused}
 use Rattle.ari_text.specs.declared.fault.AriFault.{AriFault}
 use Rattle.ari_text.specs.declared.fault.AriFault.TheVariants as ari
-use Rattle.cert_step.specs.declared.claim.Claim.{Claim}
-use Rattle.certifier.specs.declared.rejected.Rejected.{Rejected}
 use Rattle.certifier.specs.declared.rejected.Rejected.TheVariants as why
-use Rattle.certifier.specs.Acceptance.{IsAcceptance, IsRejection}
-use Rattle.certifier.specs.OneAnswer.{NotBoth, RejectedOnce}
-use Rattle.command_line.specs.Request.{certifies, request_of}
-use Rattle.trsprove.specs.declared.answer.Answer.{Answer}
-use Rattle.trsprove.specs.declared.answer.Answer.TheVariants as answer
+use Rattle.certifier.specs.Acceptance.{IsRejection}
+use Rattle.certifier.proofs.OneAnswer.{one_rejection, not_both}
+use Rattle.command_line.specs.Request.{certifies}
+use Rattle.io_edge.specs.declared.fault.FetchFault.{FetchFault}
+use Rattle.io_edge.specs.declared.fault.FetchFault.TheVariants as fetch
 use Rattle.trsprove.specs.declared.status.Status.{Status}
 use Rattle.trsprove.specs.declared.status.Status.TheVariants as status
-use Rattle.trsprove.specs.Output.{Output, usage, too_long, refused, rejected, accepted, Told, MayBe, AreFetched, IsTooLong, IsNeeded, IsOr, most_bytes}
-use Rattle.trsprove.specs.Answers.{HasCause, IsDecision, status_of}
+use Rattle.trsprove.specs.Output.{Verdict, refused, rejected, accepted, usage, too_long, decided, AreFetched, IsNeeded, IsWithin, IsTooLong, IsOr, AnswersOnly, most_bytes}
+use Rattle.trsprove.specs.Answers.{IsUnfetched}
 
--- a text that a shelf may have under a name, longer than a limit
-long_list : (n : ℕ) → (t : List ℕ) × (n < length t)
-long_list zero = (0 ∷ [], omega arith)
-long_list (suc n) = let t = long_list n in (0 ∷ t.0, omega (arith, t.1))
+-- ---- one verdict for two texts
 
-pub long_text : (o : Option (List ℕ)) (limit : ℕ) → IfSome o (λ t. limit < length t) → (t : List ℕ) × IfSome o (λ u. t ≡ u) × (limit < length t)
-long_text None limit h = let t = long_list limit in (t.0, tt, t.1)
-long_text (Some t) limit h = (t, refl, h)
+problem_is_why : (problem certificate : List ℕ) (fault : AriFault) → IsProblemRefused problem fault → fault ≢ ari.OutOfMemory
+    → IsRejection problem certificate (why.Problem fault)
+problem_is_why problem certificate fault h m = (h, m)
 
--- the answer for two fetched texts has its cause
-pub cause_decided : (words : List (List ℕ)) (text : List ℕ → Option (List ℕ)) (faulty long : List ℕ → Type 0) (p c v w : List ℕ) (a : Answer)
-    → request_of words ≡ Some (certifies p c) → MayBe text p v → MayBe text c w → length v ≤ most_bytes → length w ≤ most_bytes
-    → IsDecision v w a → HasCause words (MayBe text) faulty long a
-cause_decided words text faulty long p c v w (answer.Accepted claim) asked tp tc lp lc d =
-    record { problem = v; certificate = w; named = d.named; fetched = record { problem_name = p; certificate_name = c; asked = asked; problem_under = tp; certificate_under = tc; problem_size = lp; certificate_size = lc }; acceptance = d.acceptance; truth = d.truth }
-cause_decided words text faulty long p c v w (answer.Rejected line) asked tp tc lp lc d =
-    subst (λ z. Output words (MayBe text) status.Rejected z) (sym d.written)
-    (rejected v w d.reason (record { problem_name = p; certificate_name = c; asked = asked; problem_under = tp; certificate_under = tc; problem_size = lp; certificate_size = lc }) d.rejection d.not_problem d.not_memory)
-cause_decided words text faulty long p c v w answer.Usage asked tp tc lp lc d = absurd d
-cause_decided words text faulty long p c v w (answer.Refused f) asked tp tc lp lc d =
-    refused v w f (record { problem_name = p; certificate_name = c; asked = asked; problem_under = tp; certificate_under = tc; problem_size = lp; certificate_size = lc }) d.0 d.1
-cause_decided words text faulty long p c v w (answer.ReadFault name) asked tp tc lp lc d = absurd d
-cause_decided words text faulty long p c v w (answer.TooLong name) asked tp tc lp lc d = absurd d
-cause_decided words text faulty long p c v w answer.OutOfMemory asked tp tc lp lc d = tt
+pub one_verdict : (problem certificate : List ℕ) (s wanted : Status) (line other : List ℕ) → Verdict problem certificate s line
+    → Verdict problem certificate wanted other → IsOr wanted s
+one_verdict v w s wanted line other (refused f h m) (refused g k n) = refl
+one_verdict v w s wanted line other (refused f h m) (rejected r k p n) =
+    absurd (p f (one_rejection v w r (why.Problem f) k (problem_is_why v w f h m) n (λ e. cc)))
+one_verdict v w s wanted line other (refused f h m) (accepted claim named a) =
+    let e : why.Problem f ≡ why.OutOfMemory = not_both v w claim named (why.Problem f) a (problem_is_why v w f h m) in absurd cc
+one_verdict v w s wanted line other (rejected r h p m) (refused g k n) =
+    absurd (p g (one_rejection v w r (why.Problem g) h (problem_is_why v w g k n) m (λ e. cc)))
+one_verdict v w s wanted line other (rejected r h p m) (rejected q k o n) = refl
+one_verdict v w s wanted line other (rejected r h p m) (accepted claim named a) = absurd (m (not_both v w claim named r a h))
+one_verdict v w s wanted line other (accepted claim named a) (refused g k n) =
+    let e : why.Problem g ≡ why.OutOfMemory = not_both v w claim named (why.Problem g) a (problem_is_why v w g k n) in absurd cc
+one_verdict v w s wanted line other (accepted claim named a) (rejected q k o n) = absurd (n (not_both v w claim named q a k))
+one_verdict v w s wanted line other (accepted claim named a) (accepted other_claim system b) = refl
 
--- what a long text, or a fault, under a name says
-pub cause_long : (words : List (List ℕ)) (text : List ℕ → Option (List ℕ)) (p c : List ℕ) → request_of words ≡ Some (certifies p c)
-    → IfSome (text p) (λ t. most_bytes < length t) → IsTooLong words (MayBe text) p
-cause_long words text p c asked h =
-    let t = long_text (text p) most_bytes h in
-    record { problem_name = p; certificate_name = c; asked = asked; text = t.0; there = t.1; size = t.2; which = inl refl }
+-- ---- texts that are told
 
-pub cause_long_second : (words : List (List ℕ)) (text later : List ℕ → Option (List ℕ)) (p c v : List ℕ) → request_of words ≡ Some (certifies p c)
-    → MayBe text p v → length v ≤ most_bytes → ((q : List ℕ) → later q ≡ text q) → IfSome (later c) (λ t. most_bytes < length t) → IsTooLong words (MayBe text) c
-cause_long_second words text later p c v asked tp lp same h =
-    let t = long_text (text c) most_bytes (subst (λ o. IfSome o (λ t. most_bytes < length t)) (same c) h) in
-    record { problem_name = p; certificate_name = c; asked = asked; text = t.0; there = t.1; size = t.2; which = inr (refl, (v, tp, lp)) }
+-- a text that is told is the one that may be there
+told_is : (shelf : ShelfMeaning) (name v t : List ℕ) → MayBe shelf name v → Told shelf name t → v ≡ t
+told_is shelf name v t may_be told = subst (λ o. IfSome o (λ u. v ≡ u)) told may_be
 
-pub needed_first : (words : List (List ℕ)) (p c : List ℕ) → request_of words ≡ Some (certifies p c) → IsNeeded words p
-needed_first words p c asked = record { problem_name = p; certificate_name = c; asked = asked; which = inl refl }
+not_long : (shelf : ShelfMeaning) (name t : List ℕ) → Told shelf name t → length t ≤ most_bytes → MayPass most_bytes shelf name → ⊥
+not_long shelf name t told within passes =
+    let long : most_bytes < length t = subst (λ o. IfSome o (λ u. most_bytes < length u)) told passes in omega arith
 
-pub needed_second : (words : List (List ℕ)) (p c : List ℕ) → request_of words ≡ Some (certifies p c) → IsNeeded words c
-needed_second words p c asked = record { problem_name = p; certificate_name = c; asked = asked; which = inr refl }
+-- what is asked for has one pair of names
+names_asked : (p c q d : List ℕ) → Some (certifies p c) ≡ Some (certifies q d) → (p ≡ q) × (c ≡ d)
+names_asked p c q d e = let same : certifies p c ≡ certifies q d = cc in (cc, cc)
 
-pub may_be_later : (text later : List ℕ → Option (List ℕ)) (c w : List ℕ) → ((q : List ℕ) → later q ≡ text q) → MayBe later c w → MayBe text c w
-may_be_later text later c w same h = subst (λ o. IfSome o (λ u. w ≡ u)) (same c) h
+module _ (shelf : ShelfMeaning) (p c : List ℕ) where
+  under_first : (problem certificate : List ℕ) → AreFetched (Some (certifies p c)) (Told shelf) problem certificate → Told shelf p problem
+  under_first problem certificate f = subst (λ q. Told shelf q problem) (sym (names_asked p c f.problem_name f.certificate_name f.asked).0) f.problem_under
 
-pub rose_by_later : (n a b c : ℕ) → a ≤ b → RoseBy n b c → RoseBy n a c
-rose_by_later n a b c h k = omega arith
+  under_second : (problem certificate : List ℕ) → AreFetched (Some (certifies p c)) (Told shelf) problem certificate → Told shelf c certificate
+  under_second problem certificate f = subst (λ q. Told shelf q certificate) (sym (names_asked p c f.problem_name f.certificate_name f.asked).1) f.certificate_under
 
--- the names that are asked for
-names_asked : (words : List (List ℕ)) (p c q d : List ℕ) → request_of words ≡ Some (certifies p c) → request_of words ≡ Some (certifies q d) → (p ≡ q) × (c ≡ d)
-names_asked words p c q d e f = let same : certifies p c ≡ certifies q d = cc in (cc, cc)
+  -- where a text is too long, no other answer is defined
+  pub long_only : MayPass most_bytes shelf p ⊎ MayPass most_bytes shelf c → AnswersOnly (Some (certifies p c)) shelf status.TooLong
+  long_only h wanted line (usage none) = absurd cc
+  long_only h wanted line (too_long name needed long) = refl
+  long_only (inl h) wanted line (decided problem certificate f verdict) =
+      absurd (not_long shelf p problem (under_first problem certificate f) f.problem_size h)
+  long_only (inr h) wanted line (decided problem certificate f verdict) =
+      absurd (not_long shelf c certificate (under_second problem certificate f) f.certificate_size h)
 
--- a text that is told is the one that was fetched
-told_is : (text : List ℕ → Option (List ℕ)) (p v t : List ℕ) → MayBe text p v → Told text p t → v ≡ t
-told_is text p v t h e = subst (λ o. IfSome o (λ u. v ≡ u)) e h
+  -- where a text could not be fetched
+  pub unfetched_only : (name : List ℕ) (fault : FetchFault) (s : Status) (line : List ℕ) → IsUnfetched fault name s line
+      → (fault ≡ fetch.TooLong → MayPass most_bytes shelf p ⊎ MayPass most_bytes shelf c) → AnswersOnly (Some (certifies p c)) shelf s
+  unfetched_only name fetch.TooLong s line (e, is) passes =
+      subst (AnswersOnly (Some (certifies p c)) shelf) (sym e) (long_only (passes refl))
+  unfetched_only name fetch.Failed s line (e, is) passes = subst (AnswersOnly (Some (certifies p c)) shelf) (sym e) (λ wanted other o. tt)
+  unfetched_only name fetch.OutOfMemory s line h passes = absurd h
 
-told_texts : (words : List (List ℕ)) (text : List ℕ → Option (List ℕ)) (p c v w problem certificate : List ℕ) → request_of words ≡ Some (certifies p c)
-    → MayBe text p v → MayBe text c w → AreFetched words (Told text) problem certificate → (v ≡ problem) × (w ≡ certificate)
-told_texts words text p c v w problem certificate asked tp tc f =
-    let same = names_asked words p c f.problem_name f.certificate_name asked f.asked in (
-      told_is text p v problem tp (subst (λ q. Told text q problem) (sym same.0) f.problem_under),
-      told_is text c w certificate tc (subst (λ q. Told text q certificate) (sym same.1) f.certificate_under),
-    )
+  module _ (v w : List ℕ) (first : MayBe shelf p v) (second : MayBe shelf c w) (first_size : length v ≤ most_bytes) (second_size : length w ≤ most_bytes) where
+    not_too_long : (name : List ℕ) → IsNeeded (Some (certifies p c)) (IsWithin (Told shelf)) name → IsTooLong (Told shelf) name → ⊥
+    not_too_long name needed (t, told, long) = go needed.which
+      where
+        same : (p ≡ needed.problem_name) × (c ≡ needed.certificate_name)
+        same = names_asked p c needed.problem_name needed.certificate_name needed.asked
 
-none_asked : (words : List (List ℕ)) (p c : List ℕ) → request_of words ≡ Some (certifies p c) → request_of words ≡ None → ⊥
-none_asked words p c e f = cc
+        go : (name ≡ needed.problem_name) ⊎ ((name ≡ needed.certificate_name) × IsWithin (Told shelf) needed.problem_name) → ⊥
+        go (inl e) =
+            let is : v ≡ t = told_is shelf p v t first (subst (λ q. Told shelf q t) (e ∙ sym same.0) told) in
+            let size : most_bytes < length v = subst (λ z. most_bytes < length z) (sym is) long in omega arith
+        go (inr (e, within)) =
+            let is : w ≡ t = told_is shelf c w t second (subst (λ q. Told shelf q t) (e ∙ sym same.1) told) in
+            let size : most_bytes < length w = subst (λ z. most_bytes < length z) (sym is) long in omega arith
 
--- a text that is told and kept within the limit is not too long
-not_long : (text : List ℕ → Option (List ℕ)) (p t : List ℕ) → Told text p t → length t ≤ most_bytes → IfSome (text p) (λ u. most_bytes < length u) → ⊥
-not_long text p t e l h = let k : most_bytes < length t = subst (λ o. IfSome o (λ u. most_bytes < length u)) e h in omega arith
-
-fetched_not_long : (words : List (List ℕ)) (text : List ℕ → Option (List ℕ)) (p c problem certificate : List ℕ) → request_of words ≡ Some (certifies p c)
-    → AreFetched words (Told text) problem certificate → (IfSome (text p) (λ u. most_bytes < length u)) ⊎ (IfSome (text c) (λ u. most_bytes < length u)) → ⊥
-fetched_not_long words text p c problem certificate asked f (inl h) =
-    let same = names_asked words p c f.problem_name f.certificate_name asked f.asked in
-    not_long text p problem (subst (λ q. Told text q problem) (sym same.0) f.problem_under) f.problem_size h
-fetched_not_long words text p c problem certificate asked f (inr h) =
-    let same = names_asked words p c f.problem_name f.certificate_name asked f.asked in
-    not_long text c certificate (subst (λ q. Told text q certificate) (sym same.1) f.certificate_under) f.certificate_size h
-
--- where a text is too long, no other answer is defined
-pub long_only : (words : List (List ℕ)) (text : List ℕ → Option (List ℕ)) (p c : List ℕ) → request_of words ≡ Some (certifies p c)
-    → (IfSome (text p) (λ u. most_bytes < length u)) ⊎ (IfSome (text c) (λ u. most_bytes < length u))
-    → (wanted : Status) (line : List ℕ) → Output words (Told text) wanted line → status.TooLong ≡ wanted
-long_only words text p c asked h wanted line (usage none) = absurd (none_asked words p c asked none)
-long_only words text p c asked h wanted line (too_long name l) = refl
-long_only words text p c asked h wanted line (refused v w f fetched r m) = absurd (fetched_not_long words text p c v w asked fetched h)
-long_only words text p c asked h wanted line (rejected v w why' fetched r n m) = absurd (fetched_not_long words text p c v w asked fetched h)
-long_only words text p c asked h wanted line (accepted v w claim named fetched a) = absurd (fetched_not_long words text p c v w asked fetched h)
-
--- where both texts are told and kept within the limit, none is too long
-not_too_long : (words : List (List ℕ)) (text : List ℕ → Option (List ℕ)) (p c v w name : List ℕ) → request_of words ≡ Some (certifies p c)
-    → MayBe text p v → MayBe text c w → length v ≤ most_bytes → length w ≤ most_bytes → IsTooLong words (Told text) name → ⊥
-not_too_long words text p c v w name asked tp tc lp lc l =
-    let same = names_asked words p c l.problem_name l.certificate_name asked l.asked in
-    go same l.which
-  where
-    go : (p ≡ l.problem_name) × (c ≡ l.certificate_name) → (name ≡ l.problem_name) ⊎ ((name ≡ l.certificate_name) × ((problem : List ℕ) × Told text l.problem_name problem × (length problem ≤ most_bytes))) → ⊥
-    go (ep, ec) (inl e) =
-        let there : Told text p l.text = subst (λ q. Told text q l.text) (e ∙ sym ep) l.there in
-        let is : v ≡ l.text = told_is text p v l.text tp there in
-        let size : most_bytes < length v = subst (λ z. most_bytes < length z) (sym is) l.size in omega arith
-    go (ep, ec) (inr e) =
-        let there : Told text c l.text = subst (λ q. Told text q l.text) (e.0 ∙ sym ec) l.there in
-        let is : w ≡ l.text = told_is text c w l.text tc there in
-        let size : most_bytes < length w = subst (λ z. most_bytes < length z) (sym is) l.size in omega arith
-
-module _ (one : RejectedOnce) (both : NotBoth) where
-  problem_is_why : (v w : List ℕ) (f : AriFault) → IsProblemRefused v f → f ≢ ari.OutOfMemory → IsRejection v w (why.Problem f)
-  problem_is_why v w f r m = (r, m)
-
-  by_accepted : (v w : List ℕ) (a : Answer) (claim : Claim) (named : NamedSystem) → IsAcceptance v w claim named → IsDecision v w a → IsOr status.Answered (status_of a)
-  by_accepted v w (answer.Accepted c) claim named h d = refl
-  by_accepted v w (answer.Rejected line) claim named h d = absurd (d.not_memory (both v w claim named d.reason h d.rejection))
-  by_accepted v w answer.Usage claim named h d = absurd d
-  by_accepted v w (answer.Refused f) claim named h d = let e : why.Problem f ≡ why.OutOfMemory = both v w claim named (why.Problem f) h (problem_is_why v w f d.0 d.1) in absurd cc
-  by_accepted v w (answer.ReadFault name) claim named h d = absurd d
-  by_accepted v w (answer.TooLong name) claim named h d = absurd d
-  by_accepted v w answer.OutOfMemory claim named h d = tt
-
-  by_rejected : (v w : List ℕ) (a : Answer) (r : Rejected) → IsRejection v w r → ((f : AriFault) → r ≢ why.Problem f) → r ≢ why.OutOfMemory → IsDecision v w a → IsOr status.Rejected (status_of a)
-  by_rejected v w (answer.Accepted c) r h np nm d = absurd (nm (both v w c d.named r d.acceptance h))
-  by_rejected v w (answer.Rejected line) r h np nm d = refl
-  by_rejected v w answer.Usage r h np nm d = absurd d
-  by_rejected v w (answer.Refused f) r h np nm d = absurd (np f (one v w r (why.Problem f) h (problem_is_why v w f d.0 d.1) nm (λ e. cc)))
-  by_rejected v w (answer.ReadFault name) r h np nm d = absurd d
-  by_rejected v w (answer.TooLong name) r h np nm d = absurd d
-  by_rejected v w answer.OutOfMemory r h np nm d = tt
-
-  by_refused : (v w : List ℕ) (a : Answer) (f : AriFault) → IsProblemRefused v f → f ≢ ari.OutOfMemory → IsDecision v w a → IsOr status.Refused (status_of a)
-  by_refused v w (answer.Accepted c) f h m d = let e : why.Problem f ≡ why.OutOfMemory = both v w c d.named (why.Problem f) d.acceptance (problem_is_why v w f h m) in absurd cc
-  by_refused v w (answer.Rejected line) f h m d = absurd (d.not_problem f (one v w d.reason (why.Problem f) d.rejection (problem_is_why v w f h m) d.not_memory (λ e. cc)))
-  by_refused v w answer.Usage f h m d = absurd d
-  by_refused v w (answer.Refused g) f h m d = refl
-  by_refused v w (answer.ReadFault name) f h m d = absurd d
-  by_refused v w (answer.TooLong name) f h m d = absurd d
-  by_refused v w answer.OutOfMemory f h m d = tt
-
-  -- the answer for two texts is the defined one
-  pub decided_only : (words : List (List ℕ)) (text : List ℕ → Option (List ℕ)) (p c v w : List ℕ) (a : Answer) → request_of words ≡ Some (certifies p c)
-      → MayBe text p v → MayBe text c w → length v ≤ most_bytes → length w ≤ most_bytes → IsDecision v w a
-      → (wanted : Status) (line : List ℕ) → Output words (Told text) wanted line → IsOr wanted (status_of a)
-  decided_only words text p c v w a asked tp tc lp lc d wanted line (usage none) = absurd (none_asked words p c asked none)
-  decided_only words text p c v w a asked tp tc lp lc d wanted line (too_long name l) = absurd (not_too_long words text p c v w name asked tp tc lp lc l)
-  decided_only words text p c v w a asked tp tc lp lc d wanted line (refused x y f fetched r m) =
-      let same = told_texts words text p c v w x y asked tp tc fetched in
-      by_refused v w a f (subst (λ z. IsProblemRefused z f) (sym same.0) r) m d
-  decided_only words text p c v w a asked tp tc lp lc d wanted line (rejected x y why' fetched r n m) =
-      let same = told_texts words text p c v w x y asked tp tc fetched in
-      by_rejected v w a why' (subst (λ z. IsRejection v z why') (sym same.1) (subst (λ z. IsRejection z y why') (sym same.0) r)) n m d
-  decided_only words text p c v w a asked tp tc lp lc d wanted line (accepted x y claim named fetched h) =
-      let same = told_texts words text p c v w x y asked tp tc fetched in
-      by_accepted v w a claim named (subst (λ z. IsAcceptance v z claim named) (sym same.1) (subst (λ z. IsAcceptance z y claim named) (sym same.0) h)) d
+    -- the verdict for two texts is the defined one
+    pub verdict_only : (s : Status) (line : List ℕ) → Verdict v w s line → AnswersOnly (Some (certifies p c)) shelf s
+    verdict_only s line verdict wanted other (usage none) = absurd cc
+    verdict_only s line verdict wanted other (too_long name needed long) = absurd (not_too_long name needed long)
+    verdict_only s line verdict wanted other (decided problem certificate f defined) =
+        let is_first : v ≡ problem = told_is shelf p v problem first (under_first problem certificate f) in
+        let is_second : w ≡ certificate = told_is shelf c w certificate second (under_second problem certificate f) in
+        one_verdict v w s wanted line other verdict
+        (subst (λ z. Verdict v z wanted other) (sym is_second) (subst (λ z. Verdict z certificate wanted other) (sym is_first) defined))

@@ -1,3 +1,4 @@
-pub mod Putting
+pub mod Fetching
 pub mod Answering
+pub mod Putting
 pub mod Running

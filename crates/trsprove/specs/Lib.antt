@@ -1,5 +1,6 @@
-pub mod Puts
 pub mod Numbers
 pub mod Lines
+pub mod Puts
 pub mod Output
 pub mod Answers
+pub mod Run

@@ -1,6 +1,8 @@
--- What the program answers: a status and a line, by the words and by the texts under the names that they have.
-use Rattle.std.specs.Prelude.{◌≡◌, ◌≢◌, ◌⊎◌, ◌<◌, ◌≤◌, ℕ, List, [], Option, Some, None, IfSome, length}
-use Rattle.io_edge.specs.Edge.{AppendsTo, AppendsPrefix}
+-- What the program answers: a status and a line, by what its words ask for and by the texts under their names.
+use Rattle.std.specs.Prelude.{◌≡◌, ◌≢◌, ◌⊎◌, ◌<◌, ◌≤◌, ℕ, List, map, Option, Some, None, length}
+use denote.Ref.{Bor}
+use Rattle.io_edge.specs.Shelf.{ShelfMeaning, Told, MayBe, MayPass, FaultRose, ReadPast, IsUntouched}
+use Rattle.io_edge.specs.Sink.{SinkMeaning, AppendsTo, AppendsPrefix, IsOnePut}
 use Rattle.names_text.specs.Named.{NamedSystem}
 use Rattle.ari_text.specs.Problem.{IsProblemRefused}
 use Rattle.ari_text.specs.declared.fault.AriFault.{AriFault}
@@ -10,88 +12,100 @@ use Rattle.cert_step.specs.ProofProblem.{Says}
 use Rattle.certifier.specs.declared.rejected.Rejected.{Rejected}
 use Rattle.certifier.specs.declared.rejected.Rejected.TheVariants as why
 use Rattle.certifier.specs.Acceptance.{IsAcceptance, IsRejection}
-use Rattle.command_line.specs.Request.{certifies, request_of}
+use Rattle.command_line.specs.Request.{Asked, certifies}
 use Rattle.trsprove.specs.declared.status.Status.{Status}
 use Rattle.trsprove.specs.declared.status.Status.TheVariants as status
 use Rattle.trsprove.specs.Lines.{usage_line, accepted_line, rejected_line, refused_line, too_long_line, read_fault_line}
+
+-- the words as texts
+abbrev pub texts : List (Bor (List ℕ)) → List (List ℕ)
+texts words = map (λ w. w.now) words
 
 -- the most bytes of a text
 abbrev pub most_bytes : ℕ
 most_bytes = 1048576
 
--- a text under a name that is known to be there: told by the shelf
-abbrev pub Told : (List ℕ → Option (List ℕ)) → List ℕ → List ℕ → Type 0
-Told text name t = text name ≡ Some t
+-- what is answered for a problem text and a certificate text: a status, and its line
+pub data Verdict (problem certificate : List ℕ) : Status → List ℕ → Type 0 where
+  refused : (fault : AriFault) → IsProblemRefused problem fault → fault ≢ ari.OutOfMemory
+      → Verdict problem certificate status.Refused (refused_line fault)
+  rejected : (reason : Rejected) → IsRejection problem certificate reason
+      → ((fault : AriFault) → reason ≢ why.Problem fault) → reason ≢ why.OutOfMemory
+      → Verdict problem certificate status.Rejected (rejected_line reason)
+  accepted : (claim : Claim) (named : NamedSystem) → IsAcceptance problem certificate claim named
+      → Verdict problem certificate status.Answered (accepted_line claim)
 
--- a text that may stand under a name: the one that the shelf tells, where it tells one
-abbrev pub MayBe : (List ℕ → Option (List ℕ)) → List ℕ → List ℕ → Type 0
-MayBe text name t = IfSome (text name) (λ u. t ≡ u)
-
--- the words ask to certify a text under a name for the problem under another, and these are the texts under them
-pub record AreFetched (words : List (List ℕ)) (under : List ℕ → List ℕ → Type 0) (problem certificate : List ℕ) : Type 0 where
+-- it is asked to certify the text under a name for the problem under another, and these are texts under them
+pub record AreFetched (request : Option Asked) (under : List ℕ → List ℕ → Type 0) (problem certificate : List ℕ) : Type 0 where
   pub problem_name : List ℕ
   pub certificate_name : List ℕ
-  pub asked : request_of words ≡ Some (certifies problem_name certificate_name)
+  pub asked : request ≡ Some (certifies problem_name certificate_name)
   pub problem_under : under problem_name problem
   pub certificate_under : under certificate_name certificate
   pub problem_size : length problem ≤ most_bytes
   pub certificate_size : length certificate ≤ most_bytes
 
--- the text under a name that is fetched is too long: the problem's, or the certificate's where the problem's is not
-pub record IsTooLong (words : List (List ℕ)) (under : List ℕ → List ℕ → Type 0) (name : List ℕ) : Type 0 where
+-- a text under a name is within the limit
+abbrev pub IsWithin : (List ℕ → List ℕ → Type 0) → List ℕ → Type 0
+IsWithin under name = (text : List ℕ) × under name text × (length text ≤ most_bytes)
+
+-- a text under a name is too long
+abbrev pub IsTooLong : (List ℕ → List ℕ → Type 0) → List ℕ → Type 0
+IsTooLong under name = (text : List ℕ) × under name text × (most_bytes < length text)
+
+-- the text under a name is needed: that of the problem, or that of the certificate where the problem's is had
+pub record IsNeeded (request : Option Asked) (is_had : List ℕ → Type 0) (name : List ℕ) : Type 0 where
   pub problem_name : List ℕ
   pub certificate_name : List ℕ
-  pub asked : request_of words ≡ Some (certifies problem_name certificate_name)
-  pub text : List ℕ
-  pub there : under name text
-  pub size : most_bytes < length text
-  pub which : (name ≡ problem_name) ⊎ ((name ≡ certificate_name) × ((problem : List ℕ) × under problem_name problem × (length problem ≤ most_bytes)))
+  pub asked : request ≡ Some (certifies problem_name certificate_name)
+  pub which : (name ≡ problem_name) ⊎ ((name ≡ certificate_name) × is_had problem_name)
 
--- the answer: a status, and the line that is written
-pub data Output (words : List (List ℕ)) (under : List ℕ → List ℕ → Type 0) : Status → List ℕ → Type 0 where
-  usage : request_of words ≡ None → Output words under status.Usage usage_line
-  too_long : (name : List ℕ) → IsTooLong words under name → Output words under status.TooLong (too_long_line name)
-  refused : (problem certificate : List ℕ) (fault : AriFault) → AreFetched words under problem certificate
-      → IsProblemRefused problem fault → fault ≢ ari.OutOfMemory → Output words under status.Refused (refused_line fault)
-  rejected : (problem certificate : List ℕ) (reason : Rejected) → AreFetched words under problem certificate
-      → IsRejection problem certificate reason → ((f : AriFault) → reason ≢ why.Problem f) → reason ≢ why.OutOfMemory
-      → Output words under status.Rejected (rejected_line reason)
-  accepted : (problem certificate : List ℕ) (claim : Claim) (named : NamedSystem) → AreFetched words under problem certificate
-      → IsAcceptance problem certificate claim named → Output words under status.Answered (accepted_line claim)
+-- the answer: a status, and its line
+pub data Output (request : Option Asked) (under : List ℕ → List ℕ → Type 0) : Status → List ℕ → Type 0 where
+  usage : request ≡ None → Output request under status.Usage usage_line
+  too_long : (name : List ℕ) → IsNeeded request (IsWithin under) name → IsTooLong under name
+      → Output request under status.TooLong (too_long_line name)
+  decided : {s : Status} {line : List ℕ} (problem certificate : List ℕ) → AreFetched request under problem certificate
+      → Verdict problem certificate s line → Output request under s line
 
--- the word names a text that is needed
-pub record IsNeeded (words : List (List ℕ)) (name : List ℕ) : Type 0 where
-  pub problem_name : List ℕ
-  pub certificate_name : List ℕ
-  pub asked : request_of words ≡ Some (certifies problem_name certificate_name)
-  pub which : (name ≡ problem_name) ⊎ (name ≡ certificate_name)
+-- a text was fetched under a name: no fault came, and a text within the limit may stand there
+abbrev pub WasFetched : ShelfMeaning → ShelfMeaning → List ℕ → Type 0
+WasFetched before now name = (now.faults name ≡ before.faults name) × IsWithin (MayBe before) name
 
--- a line of an answer, or of a fault of the shelf
-pub data IsLine (words : List (List ℕ)) (under : List ℕ → List ℕ → Type 0) : List ℕ → Type 0 where
-  answers : {line : List ℕ} (s : Status) → Output words under s line → IsLine words under line
-  faults : (name : List ℕ) → IsNeeded words name → IsLine words under (read_fault_line name)
+-- a line with its status and its cause: the answer for the texts that may stand on the shelf, or what came there
+abbrev pub IsLine : Option Asked → ShelfMeaning → ShelfMeaning → Status → List ℕ → Type 0
+IsLine request before now status.ReadFault line = (name : List ℕ)
+    × IsNeeded request (WasFetched before now) name × FaultRose before now name × (line ≡ read_fault_line name)
+IsLine request before now status.TooLong line = (name : List ℕ)
+    × IsNeeded request (WasFetched before now) name × MayPass most_bytes before name
+    × ReadPast most_bytes before now name × (line ≡ too_long_line name)
+IsLine request before now status.WriteFault line = ⊥
+IsLine request before now status.OutOfMemory line = ⊥
+IsLine request before now s line = Output request (MayBe before) s line
 
--- A certificate was accepted, and its claim is true of the system that the problem text says.
-pub record IsTrueAnswer (words : List (List ℕ)) (under : List ℕ → List ℕ → Type 0) (before now : Option (List ℕ)) : Type 0 where
+-- a certificate was judged: it was accepted or rejected
+abbrev pub JudgesCertificate : Status → Type 0
+JudgesCertificate s = (s ≡ status.Answered) ⊎ (s ≡ status.Rejected)
+
+-- what a status says of the bytes that the sink took: they are the line, or, where writing failed, a front of a line, which
+-- was one put if it judges a certificate
+abbrev pub Writes : Option Asked → ShelfMeaning → ShelfMeaning → Status → SinkMeaning → SinkMeaning → Type 0
+Writes request before now status.WriteFault taken later = (s : Status) × (line : List ℕ)
+    × IsLine request before now s line × AppendsPrefix taken line later × (JudgesCertificate s → IsOnePut taken later)
+Writes request before now status.OutOfMemory taken later = later ≡ taken
+Writes request before now s taken later = (line : List ℕ)
+    × IsLine request before now s line × AppendsTo taken line later
+
+-- a certificate was accepted, and its claim is true of the system that the problem text says
+pub record IsTrueAnswer (request : Option Asked) (before : ShelfMeaning) (taken later : SinkMeaning) : Type 0 where
   pub problem : List ℕ
   pub certificate : List ℕ
   pub claim : Claim
   pub named : NamedSystem
-  pub fetched : AreFetched words under problem certificate
+  pub fetched : AreFetched request (MayBe before) problem certificate
   pub acceptance : IsAcceptance problem certificate claim named
   pub truth : Says named.system claim
-  pub written : AppendsTo before (accepted_line claim) now
-
--- What a status says of the words, the texts and the bytes that the sink took; `faulty` and `long` say that a name's
--- count of faults, or of bytes read, rose.
-abbrev pub Writes : List (List ℕ) → (List ℕ → List ℕ → Type 0) → (List ℕ → Type 0) → (List ℕ → Type 0) → Status → Option (List ℕ) → Option (List ℕ) → Type 0
-Writes words under faulty long status.ReadFault before now =
-    (name : List ℕ) × IsNeeded words name × faulty name × AppendsTo before (read_fault_line name) now
-Writes words under faulty long status.TooLong before now =
-    (name : List ℕ) × IsTooLong words under name × long name × AppendsTo before (too_long_line name) now
-Writes words under faulty long status.WriteFault before now = (line : List ℕ) × IsLine words under line × AppendsPrefix before line now
-Writes words under faulty long status.OutOfMemory before now = AppendsTo before [] now
-Writes words under faulty long s before now = (line : List ℕ) × Output words under s line × AppendsTo before line now
+  pub written : AppendsTo taken (accepted_line claim) later
 
 -- this status, unless a fault or want of memory came
 abbrev pub IsOr : Status → Status → Type 0
@@ -99,6 +113,15 @@ IsOr wanted status.ReadFault = Unit {0}
 IsOr wanted status.WriteFault = Unit {0}
 IsOr wanted status.OutOfMemory = Unit {0}
 IsOr wanted s = s ≡ wanted
+
+-- where the texts that the shelf tells have an answer, the status is that of the answer, faults and want of memory aside
+abbrev pub AnswersOnly : Option Asked → ShelfMeaning → Status → Type 0
+AnswersOnly request shelf s = (wanted : Status) (line : List ℕ) → Output request (Told shelf) wanted line → IsOr wanted s
+
+-- nothing is counted under a name, unless its text is needed
+abbrev pub TouchesOnlyNeeded : Option Asked → ShelfMeaning → ShelfMeaning → Type 0
+TouchesOnlyNeeded request before now =
+    (name : List ℕ) → IsUntouched before now name ⊎ IsNeeded request (WasFetched before now) name
 
 abbrev pub code_of : Status → ℕ
 code_of status.Answered = 0

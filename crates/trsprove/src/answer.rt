@@ -1,9 +1,7 @@
-ghost use Rattle.std.specs.Prelude.{◌≡◌, ◌+◌, ◌≤◌, ℕ, List, Some, length, map};
-ghost use Rattle.io_edge.specs.Edge.{Rose, RoseBy};
-ghost use Rattle.trsprove.specs.Output.{Output, MayBe, Told, IsOr};
+ghost use Rattle.std.specs.Prelude.{◌≡◌, ◌≤◌, Some, IfOk, length};
 ghost use Rattle.command_line.specs.Request.{request_of, certifies};
-ghost use Rattle.trsprove.specs.Answers.{HasCause, IsDecision, status_of};
-ghost use Rattle.trsprove.specs.declared.status.Status.{Status as Ended};
+ghost use Rattle.trsprove.specs.Output.{texts, Verdict, IsLine, AnswersOnly, TouchesOnlyNeeded, most_bytes};
+ghost use Rattle.trsprove.specs.Answers.{IsUnfetched, status_of, line_of};
 
 use crate::lines::rejected_line;
 use crate::status::Status;
@@ -11,7 +9,7 @@ use ari_text::AriFault;
 use certifier::{Claim, Rejected, certify};
 use command_line::{Refused, Request, parse};
 use io_edge::{FetchFault, Shelf};
-use std::alloc::Global;
+use std::alloc::{AllocError, Global};
 
 /// The most bytes of a text.
 const MOST_BYTES: u64 = 1_048_576;
@@ -28,7 +26,6 @@ pub(crate) enum Answer<'a> {
     ReadFault(&'a str),
     /// A text is too long: its name.
     TooLong(&'a str),
-    OutOfMemory,
 }
 
 impl<'a> Answer<'a> {
@@ -42,7 +39,6 @@ impl<'a> Answer<'a> {
             Answer::Refused(_) => Status::Refused,
             Answer::ReadFault(_) => Status::ReadFault,
             Answer::TooLong(_) => Status::TooLong,
-            Answer::OutOfMemory => Status::OutOfMemory,
         }
     }
 }
@@ -52,63 +48,71 @@ pub(crate) fn answer_for<'a, S: Shelf>(
     alloc: Global,
     words: &'a [&'a str],
     shelf: &mut S,
-) -> Answer<'a>
-    ensures cause { HasCause (map (λ w. w.now) words.now) (MayBe (S.text shelf.old))
-        (λ name. Rose (S.faults shelf.old name) (S.faults shelf.new name))
-        (λ name. RoseBy (1048576 + 1) (S.bytes shelf.old name) (S.bytes shelf.new name)) result }
-    ensures only { (wanted : Ended) (line : List ℕ) → Output (map (λ w. w.now) words.now) (Told (S.text shelf.old)) wanted line → IsOr wanted (status_of result) }
+) -> Result<Answer<'a>, AllocError>
+    ensures line { IfOk result (λ a. IsLine (request_of (texts words.now))
+        (S.means shelf.old) (S.means shelf.new) (status_of a) (line_of a)) }
+    ensures only { IfOk result (λ a.
+        AnswersOnly (request_of (texts words.now)) (S.means shelf.old) (status_of a)) }
+    ensures untouched { TouchesOnlyNeeded (request_of (texts words.now))
+        (S.means shelf.old) (S.means shelf.new) }
 {
     match parse(alloc, words) {
-        Err(Refused::Usage) => Answer::Usage,
-        Err(Refused::OutOfMemory) => Answer::OutOfMemory,
         Ok(
             Request::Certify {
                 problem,
                 certificate,
             },
         ) => certified(alloc, shelf, problem, certificate),
+        Err(Refused::Usage) => Ok(Answer::Usage),
+        Err(Refused::OutOfMemory) => Err(AllocError),
     }
 }
 
-// What is to be written for the problem and the certificate under two names.
+// The answer for the problem and the certificate under two names.
 fn certified<'a, S: Shelf>(
     alloc: Global,
     shelf: &mut S,
     problem: &'a str,
     certificate: &'a str,
-) -> Answer<'a>
-    ensures cause { (words : List (List ℕ)) → request_of words ≡ Some (certifies problem.now certificate.now) →
-        HasCause words (MayBe (S.text shelf.old)) (λ name. Rose (S.faults shelf.old name) (S.faults shelf.new name))
-        (λ name. RoseBy (1048576 + 1) (S.bytes shelf.old name) (S.bytes shelf.new name)) result }
-    ensures only { (words : List (List ℕ)) → request_of words ≡ Some (certifies problem.now certificate.now) →
-        (wanted : Ended) (line : List ℕ) → Output words (Told (S.text shelf.old)) wanted line → IsOr wanted (status_of result) }
+) -> Result<Answer<'a>, AllocError>
+    ensures line { IfOk result (λ a. IsLine (Some (certifies problem.now certificate.now))
+        (S.means shelf.old) (S.means shelf.new) (status_of a) (line_of a)) }
+    ensures only { IfOk result (λ a.
+        AnswersOnly (Some (certifies problem.now certificate.now)) (S.means shelf.old)
+        (status_of a)) }
+    ensures untouched { TouchesOnlyNeeded (Some (certifies problem.now certificate.now))
+        (S.means shelf.old) (S.means shelf.new) }
 {
     match shelf.fetch(problem, MOST_BYTES) {
         Ok(problem_text) => match shelf.fetch(certificate, MOST_BYTES) {
             Ok(certificate_text) => decided(alloc, &problem_text, &certificate_text),
-            Err(FetchFault::TooLong) => Answer::TooLong(certificate),
-            Err(FetchFault::Failed) => Answer::ReadFault(certificate),
-            Err(FetchFault::OutOfMemory) => Answer::OutOfMemory,
+            Err(fault) => unfetched(certificate, fault),
         },
-        Err(FetchFault::TooLong) => Answer::TooLong(problem),
-        Err(FetchFault::Failed) => Answer::ReadFault(problem),
-        Err(FetchFault::OutOfMemory) => Answer::OutOfMemory,
+        Err(fault) => unfetched(problem, fault),
     }
 }
 
-// What is to be written for two texts.
-fn decided<'a>(alloc: Global, problem: &[u8], certificate: &[u8]) -> Answer<'a>
-    requires problem { length problem.now ≤ 1048576 }
-    requires certificate { length certificate.now ≤ 1048576 }
-    ensures { IsDecision problem.now certificate.now result }
+// The answer where the text under a name could not be fetched.
+fn unfetched<'a>(name: &'a str, fault: FetchFault) -> Result<Answer<'a>, AllocError>
+    ensures { IfOk result (λ a. IsUnfetched fault name.now (status_of a) (line_of a)) }
+{
+    match fault {
+        FetchFault::TooLong => Ok(Answer::TooLong(name)),
+        FetchFault::Failed => Ok(Answer::ReadFault(name)),
+        FetchFault::OutOfMemory => Err(AllocError),
+    }
+}
+
+// The answer for two texts.
+fn decided<'a>(alloc: Global, problem: &[u8], certificate: &[u8]) -> Result<Answer<'a>, AllocError>
+    requires problem { length problem.now ≤ most_bytes }
+    requires certificate { length certificate.now ≤ most_bytes }
+    ensures { IfOk result (λ a. Verdict problem.now certificate.now (status_of a) (line_of a)) }
 {
     match certify(alloc, problem, certificate) {
-        Ok(accepted) => Answer::Accepted(accepted.claim),
-        Err(Rejected::Problem(fault)) => Answer::Refused(fault),
-        Err(Rejected::OutOfMemory) => Answer::OutOfMemory,
-        Err(rejected) => match rejected_line(alloc, &rejected) {
-            Ok(line) => Answer::Rejected(line),
-            Err(_) => Answer::OutOfMemory,
-        },
+        Ok(accepted) => Ok(Answer::Accepted(accepted.claim)),
+        Err(Rejected::Problem(fault)) => Ok(Answer::Refused(fault)),
+        Err(Rejected::OutOfMemory) => Err(AllocError),
+        Err(rejected) => Ok(Answer::Rejected(rejected_line(alloc, &rejected)?)),
     }
 }

@@ -47,7 +47,8 @@ fn words_of(rejected: &Rejected) -> &'static [u8]
 
 // The numbers of a rejection behind its words, those of a reason aside.
 fn push_numbers(line: &mut Vec<u8>, rejected: &Rejected) -> Result<(), AllocError>
-    ensures { OnOk result (line.new.items ≡ line.old.items ++ fields_text (rejected_numbers rejected.now)) }
+    ensures { OnOk result
+        (line.new.items ≡ line.old.items ++ fields_text (rejected_numbers rejected.now)) }
 {
     match rejected {
         Rejected::Text(at) => push_fields(line, &[*at as u64]),
@@ -60,7 +61,8 @@ fn push_numbers(line: &mut Vec<u8>, rejected: &Rejected) -> Result<(), AllocErro
 
 // The fields of the reason, of a step that is refused.
 fn push_reason(line: &mut Vec<u8>, rejected: &Rejected) -> Result<(), AllocError>
-    ensures { OnOk result (line.new.items ≡ line.old.items ++ fields_text (rejected_fields rejected.now)) }
+    ensures { OnOk result
+        (line.new.items ≡ line.old.items ++ fields_text (rejected_fields rejected.now)) }
 {
     match rejected {
         Rejected::Step(_, reason) => push_fields(line, reason.fields().as_slice()),

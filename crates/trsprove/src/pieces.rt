@@ -1,4 +1,5 @@
 ghost use Rattle.std.specs.Prelude.{◌++◌, ◌∷◌, [], decimal};
+ghost use Rattle.io_edge.specs.Sink.{SinkMeaning, IsOnePut};
 ghost use Rattle.trsprove.specs.Puts.{Puts};
 ghost use Rattle.trsprove.specs.Numbers.{fields_text};
 
@@ -7,34 +8,32 @@ use itoa::Buffer;
 
 /// Puts one piece.
 pub(crate) fn put_one<K: Sink>(out: &mut K, piece: &[u8]) -> Result<(), SinkFailed>
-    ensures { Puts result (K.taken out.old) piece.now (K.taken out.new) (K.faults out.old) (K.faults out.new) }
+    ensures puts { Puts result (K.means out.old) piece.now (K.means out.new) }
+    ensures put { IsOnePut (K.means out.old) (K.means out.new) }
 {
     out.put(piece)
 }
 
-/// Puts two pieces, one behind the other.
-pub(crate) fn put_both<K: Sink>(out: &mut K, first: &[u8], second: &[u8]) -> Result<(), SinkFailed>
-    ensures { Puts result (K.taken out.old) (first.now ++ second.now) (K.taken out.new) (K.faults out.old) (K.faults out.new) }
+// Puts two pieces, one behind the other.
+fn put_both<K: Sink>(out: &mut K, first: &[u8], second: &[u8]) -> Result<(), SinkFailed>
+    ensures { Puts result (K.means out.old) (first.now ++ second.now) (K.means out.new) }
 {
-    let Ok(()) = out.put(first) else {
-        return Err(SinkFailed);
-    };
-    out.put(second)
+    put_one(out, first)?;
+    put_one(out, second)
 }
 
-/// Puts a name between a text and a line feed.
-pub(crate) fn put_line<K: Sink>(out: &mut K, what: &[u8], name: &[u8]) -> Result<(), SinkFailed>
-    ensures { Puts result (K.taken out.old) (what.now ++ (name.now ++ 10 ∷ [])) (K.taken out.new) (K.faults out.old) (K.faults out.new) }
+/// Puts words, a name and a line feed.
+pub(crate) fn put_line<K: Sink>(out: &mut K, words: &[u8], name: &str) -> Result<(), SinkFailed>
+    ensures { Puts result (K.means out.old) (words.now ++ (name.now ++ 10 ∷ []))
+        (K.means out.new) }
 {
-    let Ok(()) = out.put(what) else {
-        return Err(SinkFailed);
-    };
-    put_both(out, name, b"\n")
+    put_one(out, words)?;
+    put_both(out, name.as_bytes(), b"\n")
 }
 
-/// Puts a blank and a number.
-pub(crate) fn put_number<K: Sink>(out: &mut K, number: u64) -> Result<(), SinkFailed>
-    ensures { Puts result (K.taken out.old) (32 ∷ decimal number) (K.taken out.new) (K.faults out.old) (K.faults out.new) }
+// Puts a blank and a number.
+fn put_number<K: Sink>(out: &mut K, number: u64) -> Result<(), SinkFailed>
+    ensures { Puts result (K.means out.old) (32 ∷ decimal number) (K.means out.new) }
 {
     let mut buffer = Buffer::new();
     put_both(out, b" ", buffer.format(number).as_bytes())
@@ -42,14 +41,12 @@ pub(crate) fn put_number<K: Sink>(out: &mut K, number: u64) -> Result<(), SinkFa
 
 /// Puts numbers, with a blank before each.
 pub(crate) fn put_fields<K: Sink>(out: &mut K, fields: &[u64]) -> Result<(), SinkFailed>
-    ensures { Puts result (K.taken out.old) (fields_text fields.now) (K.taken out.new) (K.faults out.old) (K.faults out.new) }
+    ensures { Puts result (K.means out.old) (fields_text fields.now) (K.means out.new) }
 {
     match fields.split_first() {
         None => Ok(()),
         Some((number, rest)) => {
-            let Ok(()) = put_number(out, *number) else {
-                return Err(SinkFailed);
-            };
+            put_number(out, *number)?;
             put_fields(out, rest)
         }
     }

@@ -1,64 +1,49 @@
 ghost use Rattle.std.specs.Prelude.{◌≡◌, ◌++◌, ◌∷◌, []};
+ghost use Rattle.io_edge.specs.Sink.{SinkMeaning, IsOnePut};
 ghost use Rattle.trsprove.specs.Puts.{Puts};
 ghost use Rattle.trsprove.specs.Numbers.{fields_text};
 ghost use Rattle.trsprove.specs.Lines.{problem_fields, refused_line};
-ghost use Rattle.trsprove.specs.Answers.{Reports, line_of};
+ghost use Rattle.trsprove.specs.Output.{JudgesCertificate};
+ghost use Rattle.trsprove.specs.Answers.{status_of, line_of};
 
 use crate::answer::Answer;
 use crate::lines::accepted_line;
 use crate::pieces::{put_fields, put_line, put_one};
-use crate::status::Status;
 use ari_text::AriFault;
 use io_edge::{Sink, SinkFailed};
 
-/// Writes the line of an answer.
-pub(crate) fn report<K: Sink>(answer: &Answer<'_>, out: &mut K) -> Status
-    ensures { Reports answer.now result (K.taken out.old) (K.taken out.new) (K.faults out.old) (K.faults out.new) }
-{
-    match put_answer(answer, out) {
-        Ok(()) => answer.status(),
-        Err(SinkFailed) => Status::WriteFault,
-    }
-}
+/// The line of words that ask for nothing.
+const USAGE: &[u8] =
+    b"usage: trsprove <action> <problem> [certificate] [--workers N] [--budget B]\n";
 
-fn put_answer<K: Sink>(answer: &Answer<'_>, out: &mut K) -> Result<(), SinkFailed>
-    ensures { Puts result (K.taken out.old) (line_of answer.now) (K.taken out.new) (K.faults out.old) (K.faults out.new) }
+/// Puts the line of an answer.
+pub(crate) fn put_answer<K: Sink>(answer: &Answer<'_>, out: &mut K) -> Result<(), SinkFailed>
+    ensures puts { Puts result (K.means out.old) (line_of answer.now) (K.means out.new) }
+    ensures put { JudgesCertificate (status_of answer.now) →
+        IsOnePut (K.means out.old) (K.means out.new) }
 {
     match answer {
         Answer::Accepted(claim) => put_one(out, accepted_line(*claim)),
         Answer::Rejected(line) => put_one(out, line),
-        Answer::Usage => put_one(
-            out,
-            b"usage: trsprove <action> <problem> [certificate] [--workers N] [--budget B]\n",
-        ),
+        Answer::Usage => put_one(out, USAGE),
         Answer::Refused(fault) => put_refused(out, fault),
-        Answer::ReadFault(name) => put_line(out, b"read fault ", name.as_bytes()),
-        Answer::TooLong(name) => put_line(out, b"too long ", name.as_bytes()),
-        Answer::OutOfMemory => Ok(()),
+        Answer::ReadFault(name) => put_line(out, b"read fault ", name),
+        Answer::TooLong(name) => put_line(out, b"too long ", name),
     }
 }
 
 fn put_refused<K: Sink>(out: &mut K, fault: &AriFault) -> Result<(), SinkFailed>
-    ensures { Puts result (K.taken out.old) (refused_line fault.now) (K.taken out.new) (K.faults out.old) (K.faults out.new) }
+    ensures { Puts result (K.means out.old) (refused_line fault.now) (K.means out.new) }
 {
-    let Ok(()) = out.put(b"problem refused") else {
-        return Err(SinkFailed);
-    };
-    put_problem_line(out, fault)
+    put_one(out, b"problem refused")?;
+    put_fault(out, fault)?;
+    put_one(out, b"\n")
 }
 
-// The numbers of a fault, and a line feed.
-fn put_problem_line<K: Sink>(out: &mut K, fault: &AriFault) -> Result<(), SinkFailed>
-    ensures { Puts result (K.taken out.old) (fields_text (problem_fields fault.now) ++ 10 ∷ []) (K.taken out.new) (K.faults out.old) (K.faults out.new) }
-{
-    let Ok(()) = put_problem_fields(out, fault) else {
-        return Err(SinkFailed);
-    };
-    out.put(b"\n")
-}
-
-fn put_problem_fields<K: Sink>(out: &mut K, fault: &AriFault) -> Result<(), SinkFailed>
-    ensures { Puts result (K.taken out.old) (fields_text (problem_fields fault.now)) (K.taken out.new) (K.faults out.old) (K.faults out.new) }
+// Puts the numbers of a fault.
+fn put_fault<K: Sink>(out: &mut K, fault: &AriFault) -> Result<(), SinkFailed>
+    ensures { Puts result (K.means out.old) (fields_text (problem_fields fault.now))
+        (K.means out.new) }
 {
     let number = fault.number() as u64;
     match (fault.text_number(), fault.place()) {

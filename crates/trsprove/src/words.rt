@@ -9,7 +9,8 @@ pub(crate) fn words_of<'a>(
     alloc: Global,
     arguments: &'a [String],
 ) -> Result<Vec<&'a str>, AllocError>
-    ensures { IfOk result (λ words. map (λ w. w.now) words.items ≡ map string_bytes (drop 1 arguments.now)) }
+    ensures { IfOk result (λ words.
+        map (λ w. w.now) words.items ≡ map string_bytes (drop 1 arguments.now)) }
 {
     match arguments.split_first() {
         None => Ok(Vec::new(alloc)),

@@ -1,14 +1,15 @@
-use Rattle.std.proofs.Common.{◌++◌, ◌∷◌, []}
-use Rattle.trsprove.proofs.Putting.{puts_both, puts_first}
+use Rattle.std.proofs.Common.{◌++◌, ◌∷◌, [], subst}
+use Rattle.trsprove.specs.Puts.{Puts}
+use Rattle.trsprove.proofs.Putting.{puts_first, puts_then}
 use Rattle.trsprove.proofs.pieces.put_line.Goals as goal
 
-pub returns-in_default : goal.returns-in_default
-returns-in_default g c =
-    puts_first (g.K.Sink.taken c.args.out.now) (g.K.Sink.taken c.put.new.self) c.args.what.now (c.args.name.now ++ 10 ∷ [])
-    (g.K.Sink.faults c.args.out.now) (g.K.Sink.faults c.put.new.self) c.in_default.ensures.part c.in_default.ensures.failed
+pub returns-in_err-put_one : goal.returns-in_err-put_one
+returns-in_err-put_one g c =
+    puts_first c.from_residual.result (g.K.Sink.means c.args.out.now) (g.K.Sink.means c.put_one.new.out) c.args.words.now (c.args.name.now ++ 10 ∷ [])
+    c.from_residual.ensures.0 c.in_err-put_one.ensures.puts
 
 pub returns : goal.returns
 returns g c =
-    puts_both c.put_both.result (g.K.Sink.taken c.args.out.now) (g.K.Sink.taken c.put.new.self) (g.K.Sink.taken c.put_both.new.out) c.args.what.now (c.args.name.now ++ 10 ∷ [])
-    (g.K.Sink.faults c.args.out.now) (g.K.Sink.faults c.put.new.self) (g.K.Sink.faults c.put_both.new.out)
-    c.in-Ok.ensures.whole c.put.ensures.faults c.put_both.ensures
+    puts_then c.put_both.result (g.K.Sink.means c.args.out.now) (g.K.Sink.means c.put_one.new.out) (g.K.Sink.means c.put_both.new.out) c.args.words.now (c.args.name.now ++ 10 ∷ [])
+    c.in_ok-put_one.ensures.puts
+    (subst (λ z. Puts c.put_both.result (g.K.Sink.means c.put_one.new.out) (z ++ 10 ∷ []) (g.K.Sink.means c.put_both.new.out)) c.as_bytes.ensures.value c.put_both.ensures)

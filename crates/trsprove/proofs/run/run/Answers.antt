@@ -1,14 +1,9 @@
-use Rattle.trsprove.proofs.Running.{writes, answered_truly, write_fault, reports_or}
+use Rattle.std.proofs.Common.{sym, ◌∙◌}
+use Rattle.trsprove.specs.Answers.{status_of, line_of}
+use Rattle.trsprove.proofs.Running.{answered_truly}
 use Rattle.trsprove.proofs.run.run.Goals as goal
 
-pub returns : goal.returns
-returns g c = record {
-  output = writes _ _ _ _ c.answer_for-answer.result c.report.result (g.K.Sink.taken c.args.out.now) (g.K.Sink.taken c.report.new.out)
-      (g.K.Sink.faults c.args.out.now) (g.K.Sink.faults c.report.new.out) c.answer_for-answer.ensures.cause c.in_default.not-OutOfMemory c.report.ensures;
-  write = write_fault c.answer_for-answer.result c.report.result (g.K.Sink.taken c.args.out.now) (g.K.Sink.taken c.report.new.out)
-      (g.K.Sink.faults c.args.out.now) (g.K.Sink.faults c.report.new.out) c.report.ensures;
-  only = λ wanted line o. reports_or wanted c.answer_for-answer.result c.report.result (g.K.Sink.taken c.args.out.now) (g.K.Sink.taken c.report.new.out)
-      (g.K.Sink.faults c.args.out.now) (g.K.Sink.faults c.report.new.out) c.report.ensures (c.answer_for-answer.ensures.only wanted line o);
-  truth = answered_truly _ _ _ _ c.answer_for-answer.result c.report.result (g.K.Sink.taken c.args.out.now) (g.K.Sink.taken c.report.new.out)
-      (g.K.Sink.faults c.args.out.now) (g.K.Sink.faults c.report.new.out) c.answer_for-answer.ensures.cause c.report.ensures;
-}
+pub returns-in-Ok-put_answer-clause-truth : goal.returns-in-Ok-put_answer-clause-truth
+returns-in-Ok-put_answer-clause-truth g c = λ e.
+    answered_truly _ (g.S.Shelf.means c.args.shelf.now) (g.S.Shelf.means c.answer_for.new.shelf) (g.K.Sink.means c.args.out.now) (g.K.Sink.means c.put_answer.new.out)
+    (status_of c.in-Ok.answer) (line_of c.in-Ok.answer) c.in-Ok.ensures.line c.in-Ok-put_answer.ensures.puts.0 (sym c.status.ensures ∙ e)
