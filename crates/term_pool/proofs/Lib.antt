@@ -17,3 +17,8 @@ pub mod Rooms
 pub mod Contracta
 pub mod StepLemmas
 pub mod PathLemmas
+pub mod NarrowLaws
+pub mod ListingLaws
+pub mod ReachedIds
+pub mod FollowLaws
+pub mod ReachLaws

@@ -12,3 +12,6 @@ pub mod Redexes
 pub mod Roots
 pub mod Passed
 pub mod Tried
+pub mod Listed
+pub mod Reach
+pub mod Reaching

@@ -90,6 +90,7 @@ impl Pool {
         ensures depth { result.depth ≡ depth_of (tree_at self.now id) }
         ensures small { result.size ≤ 65536 }
         ensures shallow { result.depth ≤ 65536 }
+        ensures distinct { AreDistinct self.now }
     {
         match self.entries.get_index(id as usize) {
             Some((_, measure)) => *measure,
