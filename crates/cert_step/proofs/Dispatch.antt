@@ -1,5 +1,5 @@
 -- What a call answers of a step, from what its kind answers.
-use Rattle.std.specs.Prelude.{◌≡◌, Bool, true, false, map, Vec, Result, Ok, Err, IfOk}
+use Rattle.std.specs.Prelude.{◌≡◌, Bool, true, false, Vec, Result, Ok, Err, IfOk}
 use Rattle.std.proofs.Common.{sym, ◌∙◌}
 use Rattle.std.specs.declared.alloc.Global.{Global}
 use Rattle.trs_defs.specs.System.{System, IsSystem}
@@ -8,7 +8,7 @@ use Rattle.rewrite_core.specs.declared.refusals.StepRefused.TheVariants.{WrongPr
 use Rattle.rewrite_core.specs.Check.{AnswersBy, stops, lacks, holds}
 use Rattle.rewrite_core.proofs.Answering.{then_answers}
 use Rattle.cert_step.specs.declared.problem.Problem.{Problem}
-use Rattle.cert_step.specs.ProofProblem.{ProofProblem, problem_of, Holds, IsWellMadeProblem}
+use Rattle.cert_step.specs.ProofProblem.{ProofProblem, Holds, IsWellMadeProblem}
 use Rattle.cert_step.specs.ProofStep.{ProofStep, kind_of, IsWellMade}
 use Rattle.cert_step.specs.Applies.{step_conditions}
 use Rattle.cert_step.specs.Subproblems.{problems_of, AllHold, AreWellMadeProblems}
