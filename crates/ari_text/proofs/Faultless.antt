@@ -1,6 +1,6 @@
 -- A text with no faults says a system whose symbols have names.
 use Rattle.std.proofs.Common.{◌≡◌, ℕ, zero, suc, ◌≤◌, true, nat_le, List, [], ◌∷◌, length, Option, Some, None, Ok, Err, slice_get, refl, subst, arith}
-use Rattle.std.specs.List.{list_all, All, AllByRecursion}
+use Rattle.std.specs.List.{list_all, AllByRecursion}
 use Rattle.std.specs.Option.{is_some, option_or}
 use Rattle.std.proofs.lemmas.Bool.{and_from, and_parts, leb-true}
 use Rattle.std.proofs.lemmas.List.{length-map}

@@ -1,9 +1,8 @@
 -- The least of several faults.
-use Rattle.std.proofs.Common.{◌≡◌, ℕ, suc, Bool, true, false, cond, not, ◌||◌, ◌&&◌, nat_lt, List, [], ◌∷◌, ◌++◌, Option, Some, None, Result, Ok, Err, refl, sym, ap, ap₂, ◌∙◌, subst, arith, inl, inr}
-use Rattle.std.proofs.lemmas.Bool.Decides.{nat_tests}
+use Rattle.std.proofs.Common.{◌≡◌, Bool, true, false, cond, List, [], ◌∷◌, ◌++◌, Option, Some, None, Result, Ok, Err, refl, sym, ap, ◌∙◌, subst, inl, inr}
 use Rattle.std.specs.List.{AllByRecursion}
 use Rattle.ari_text.specs.declared.fault.AriFault.{AriFault}
-use Rattle.ari_text.specs.Least.{stands_before, comes_before, number_of_fault, lesser, earlier, noted, IsAmong}
+use Rattle.ari_text.specs.Least.{comes_before, lesser, earlier, noted, IsAmong}
 use Rattle.ari_text.specs.LesserLaws.{before_self, less, keep, lesser_associative}
 use Rattle.ari_text.specs.Faults.{ari_fault, ari_faults, faults_in, symbols_of, whole_room, all_declaration_faults, all_side_faults, rule_faults, faults_of}
 use Rattle.ari_text.specs.Unless.{unless_noted}

@@ -9,7 +9,7 @@ use Rattle.std.proofs.lemmas.List.Folds.{list_any-append}
 use Rattle.sexp_core.specs.Tokens.{class_of}
 use Rattle.sexp_core.specs.Items.{Item, a_word, Items, item}
 use Rattle.sexp_core.specs.Printed.{AreWords, nesting, placeless}
-use Rattle.trs_defs.specs.Tree.{Tree, Trees, var, app, nil, cons}
+use Rattle.trs_defs.specs.Tree.{Tree, var, app, nil, cons}
 use Rattle.trs_defs.specs.Size.{size_of, depth_of}
 use Rattle.trs_defs.specs.WellFormed.{IsWellFormed}
 use Rattle.trs_defs.specs.System.{RewriteRule, IsRule}

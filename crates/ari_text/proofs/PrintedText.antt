@@ -1,14 +1,10 @@
 -- Steps of printing.
-use Rattle.std.proofs.Common.{◌≡◌, ◌≢◌, ℕ, suc, ◌+◌, ◌<◌, ◌≤◌, max, List, [], ◌∷◌, ◌++◌, length, drop, get_or, replicate, Some, slice_get, codes, decimal, refl, ap, sym, ◌∙◌, append_assoc, arith, add-one, drop-cons}
-use Rattle.std.proofs.lemmas.List.{append-nil, drop_all, replicate-append-replicate}
-use Rattle.std.proofs.lemmas.Option.{slice_get_within, get_or_from_slice_get}
+use Rattle.std.proofs.Common.{◌≡◌, ℕ, ◌+◌, ◌<◌, List, [], ◌∷◌, ◌++◌, length, drop, get_or, Some, slice_get, codes, decimal, refl, ap, sym, ◌∙◌, append_assoc, add-one, drop-cons}
 use Rattle.sexp_core.specs.Items.{Item, a_word, Items, no_items, item}
-use Rattle.sexp_core.specs.Printed.{text_of, spaced, lines}
+use Rattle.sexp_core.specs.Printed.{text_of, lines}
 use Rattle.trs_defs.specs.System.{RewriteRule}
-use Rattle.trs_core.specs.declared.terms.Term.{Term}
-use Rattle.trs_core.specs.View.{forest}
-use Rattle.names_text.specs.VariableNames.{leading_underscores, underscores}
-use Rattle.term_text.specs.PrintedTerm.{term_item, term_items, applied_item}
+use Rattle.names_text.specs.VariableNames.{underscores}
+use Rattle.term_text.specs.PrintedTerm.{term_item}
 use Rattle.ari_text.specs.PrintedProblem.{three_members, symbol_items, rule_items, problem_items}
 use Rattle.names_text.specs.Named.{NamedSystem}
 use Rattle.names_text.proofs.UnderscoreSteps.{drop_at}

@@ -1,5 +1,5 @@
 -- What is printed of a system with names is read as this system.
-use Rattle.std.proofs.Common.{◌≡◌, ℕ, ◌≤◌, List, [], ◌++◌, codes, Some, None, Ok, refl, ap, ap₂, sym, ◌∙◌, arith}
+use Rattle.std.proofs.Common.{◌≡◌, ℕ, ◌≤◌, List, [], codes, Some, None, Ok, refl, ap, ap₂, sym, ◌∙◌, arith}
 use Rattle.sexp_core.specs.Tokens.{class_of}
 use Rattle.sexp_core.specs.Items.{Item, Items, no_items, item}
 use Rattle.sexp_core.specs.Reads.{Reads, fault_of}
@@ -12,6 +12,7 @@ use Rattle.names_text.specs.VariableNames.{underscores}
 use Rattle.names_text.proofs.SymbolPairs.{names_paired, arities_paired}
 use Rattle.names_text.proofs.PrintedNames.{symbol_word}
 use Rattle.term_text.specs.Checked.{◌<*>◌}
+use Rattle.term_text.proofs.OwnTermLaws.{fit_names}
 use Rattle.term_text.proofs.PrintedTerms.{FitNames}
 use Rattle.ari_text.specs.Rules.{rules_of}
 use Rattle.ari_text.specs.Faults.{whole_room, all_declaration_faults, all_side_faults, symbols_of, faults_of}
@@ -28,7 +29,7 @@ printed_later s = symbol_items s.names s.system.arities (printed_rules s)
 
 module _ (s : NamedSystem) (named : IsNamed s) (bytes : AreBytes s.system.arities) where
   fit : FitNames (underscores s.names) s.names s.system.arities
-  fit = record { counts = named.counts; words = named.words; distinct = named.distinct; more = omega arith }
+  fit = fit_names s named
 
   good : AreGoodRules s.system.arities s.system.rules
   good = good_rules s.system.arities s.system.rules named.valid.is_system.each named.valid.small_variables named.shallow named.numbered

@@ -1,9 +1,9 @@
 -- What the rules of items are that were read without a fault.
-use Rattle.std.proofs.Common.{◌≡◌, inl, inr, ℕ, zero, suc, ◌+◌, ◌==◌, Bool, cond, ◌<◌, ◌≤◌, true, false, nat_le, List, [], ◌∷◌, ◌++◌, length, Option, Some, None, Ok, Err, IsTrue, refl, sym, ap, subst, ◌∙◌, arith}
+use Rattle.std.proofs.Common.{◌≡◌, inl, inr, ℕ, zero, suc, ◌==◌, Bool, cond, ◌<◌, ◌≤◌, true, false, nat_le, List, [], ◌∷◌, length, Option, Some, None, Ok, Err, IsTrue, refl, ap, subst, ◌∙◌, arith}
 use Rattle.std.proofs.lemmas.Bool.{and_from, le-leb}
 use Rattle.sexp_core.specs.Items.{Item, a_word, a_list, Items, no_items, item}
-use Rattle.trs_defs.specs.Tree.{Tree, Trees, var, app, nil}
-use Rattle.trs_defs.specs.Size.{size_of, depth_of}
+use Rattle.trs_defs.specs.Tree.{Tree, Trees, app, nil}
+use Rattle.trs_defs.specs.Size.{depth_of}
 use Rattle.trs_defs.specs.Variable.{has_var, IsVariable}
 use Rattle.trs_defs.specs.System.{RewriteRule, IsRule}
 use Rattle.names_text.specs.declared.table.Symbol.{Symbol}
@@ -15,12 +15,11 @@ use Rattle.term_text.specs.declared.fault.TermFault.TheVariants.{LoneSymbol}
 use Rattle.term_text.specs.Terms.{variables_after, lone, head, term, terms}
 use Rattle.term_text.specs.Limits as text
 use Rattle.term_text.specs.Limits.{nodes_of}
-use Rattle.term_text.proofs.CheckedParts.{TwoParts, ok_same, two_parts}
-use Rattle.term_text.proofs.Numbering.{IsBelow, below_each, numbered_next, numbered_below}
-use Rattle.term_text.proofs.ReadTerms.{IsRead, term_read}
-use Rattle.ari_text.specs.declared.fault.AriFault.{AriFault}
-use Rattle.ari_text.specs.Entries.{Saying, declares, rewrites, attributed, says_nothing, entry_of}
-use Rattle.ari_text.specs.Rules.{both_sides, rule, with_rule, rules_of}
+use Rattle.term_text.proofs.CheckedParts.{ok_same, two_parts}
+use Rattle.term_text.proofs.Numbering.{below_each, numbered_next, numbered_below}
+use Rattle.term_text.proofs.ReadTerms.{term_read}
+use Rattle.ari_text.specs.Entries.{rewrites}
+use Rattle.ari_text.specs.Rules.{both_sides, rule, with_rule}
 use Rattle.ari_text.specs.Faults.{deep_faults, all_deep_faults, left_faults, lone_faults}
 use Rattle.ari_text.proofs.NoFaults.{none_of}
 

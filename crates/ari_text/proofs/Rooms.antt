@@ -1,6 +1,5 @@
 -- Items that are too many.
-use Rattle.std.proofs.Common.{◌≡◌, ℕ, ◌+◌, cond, [], ◌∷◌, Option, Some, None, refl, arith}
-use Rattle.std.proofs.lemmas.Bool.Decides.{nat_tests}
+use Rattle.std.proofs.Common.{◌≡◌, ℕ, cond, [], ◌∷◌, refl}
 use Rattle.ari_text.specs.declared.fault.AriFault.TheVariants.{TooMany}
 use Rattle.ari_text.specs.Entries.{Saying, declares, rewrites, attributed, says_nothing}
 use Rattle.ari_text.specs.Counted.{is_too_many}

@@ -1,7 +1,7 @@
 -- How many rules and nodes items have, where no item is too many.
-use Rattle.std.proofs.Common.{◌≡◌, ◌≢◌, ℕ, ◌+◌, ◌-◌, ◌≤◌, ◌==◌, ◌||◌, Bool, true, false, not, cond, nat_le, List, [], ◌∷◌, length, Option, Some, None, Ok, refl, subst, arith}
+use Rattle.std.proofs.Common.{◌≡◌, ◌≢◌, ℕ, ◌+◌, ◌-◌, ◌≤◌, ◌==◌, ◌||◌, Bool, true, false, not, cond, nat_le, List, [], ◌∷◌, length, Some, Ok, refl, subst, arith}
 use Rattle.std.proofs.lemmas.Bool.{eqb-false, leb-true, or_parts, not-false}
-use Rattle.sexp_core.specs.Items.{Item, Items, no_items, item}
+use Rattle.sexp_core.specs.Items.{Items, no_items, item}
 use Rattle.trs_defs.specs.Size.{size_of}
 use Rattle.trs_defs.specs.System.{RewriteRule}
 use Rattle.trs_core.specs.SystemLimits.{nodes_of as nodes_of_rules}

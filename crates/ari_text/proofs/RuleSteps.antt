@@ -1,6 +1,5 @@
 -- Steps of reading rules.
-use Rattle.std.proofs.Common.{◌≡◌, ℕ, List, [], ◌∷◌, ◌++◌, Option, Some, None, Result, Ok, Err, Vec, Global, Bor, refl, sym, ap, ap₂, ◌∙◌}
-use Rattle.std.proofs.lemmas.List.{append-nil}
+use Rattle.std.proofs.Common.{◌≡◌, ℕ, List, [], ◌∷◌, ◌++◌, Option, Some, None, Result, Ok, Err, Vec, Global, Bor, refl, sym, ap, ◌∙◌}
 use Rattle.std.proofs.Common.{append_assoc}
 use Rattle.sexp_core.specs.Items.{Item}
 use Rattle.trs_defs.specs.System.{RewriteRule}
@@ -61,7 +60,3 @@ module _ {X F : Type 0} (one_of : TermFault → F) (both_of : F → F → F) whe
       → together (viewed (λ v. v.items) all) (judged one_of both_of rest)
       ≡ together (viewed (λ v. v.items) r) (judged one_of both_of (Ok (λ y ys. y ∷ ys) <*> t <*> rest))
   one_more_value r all s t rest assoc e f = ap (λ xs. together xs (judged one_of both_of rest)) f ∙ one_pushed r s t rest assoc e
-
-  pub no_more_values : (r : Result (List X) F) → together r (Ok []) ≡ r
-  no_more_values (Ok xs) = ap Ok (append-nil xs)
-  no_more_values (Err p) = refl

@@ -1,7 +1,6 @@
 -- The items with which a problem is printed, with 0 for each place.
-use Rattle.std.specs.Prelude.{ℕ, List, [], ◌∷◌, codes, decimal, slice_index_or}
+use Rattle.std.specs.Prelude.{ℕ, List, [], ◌∷◌, codes, decimal}
 use Rattle.sexp_core.specs.Items.{Item, a_word, a_list, Items, no_items, item}
-use Rattle.trs_defs.specs.Tree.{Tree, Trees, var, app, nil, cons}
 use Rattle.trs_defs.specs.System.{RewriteRule}
 use Rattle.names_text.specs.Named.{NamedSystem}
 use Rattle.names_text.specs.VariableNames.{underscores}

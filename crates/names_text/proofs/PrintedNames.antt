@@ -1,10 +1,9 @@
 -- The names of symbols and of variables in a printed problem.
-use Rattle.std.proofs.Common.{◌≡◌, ℕ, zero, suc, ◌^◌, ◌<◌, ◌≤◌, Bool, true, false, cond, not, ◌||◌, List, [], ◌∷◌, ◌++◌, length, get_or, replicate, Option, Some, None, option_map, slice_get, decimal, nat_le, refl, ap, ◌∙◌, ⊎_elim, arith}
-use Rattle.std.specs.List.{list_any, list_all, AllByRecursion}
-use Rattle.std.specs.Option.{option_or, option_and_then}
-use Rattle.std.specs.Char.{is_ascii_digit}
-use Rattle.std.specs.Str.{bytes_eq, all_ascii_digits}
-use Rattle.std.proofs.lemmas.Bool.{and_parts, le-ltb, leb-true, ne_eqb, false_from_ne_true, both_ways, not-true, cases_lt}
+use Rattle.std.proofs.Common.{◌≡◌, ℕ, zero, suc, ◌^◌, ◌<◌, ◌≤◌, Bool, true, false, cond, not, List, [], ◌∷◌, ◌++◌, length, get_or, replicate, Option, Some, None, option_map, decimal, refl, ap, ◌∙◌, ⊎_elim, arith}
+use Rattle.std.specs.List.{list_any, AllByRecursion}
+use Rattle.std.specs.Option.{option_or}
+use Rattle.std.specs.Str.{bytes_eq}
+use Rattle.std.proofs.lemmas.Bool.{and_parts, false_from_ne_true, both_ways, not-true, cases_lt}
 use Rattle.std.proofs.lemmas.Cmp.{nat_list_eq_equiv}
 use Rattle.std.proofs.lemmas.Fmt.{decimal_nonempty, decimal_injective}
 use Rattle.std.proofs.lemmas.List.{append_cancel_left, length-append}
@@ -12,8 +11,6 @@ use Rattle.std.proofs.lemmas.List.Folds.{list_any_at}
 use Rattle.std.proofs.lemmas.Slice.Eq.{bytes_eq-Decides}
 use Rattle.sexp_core.specs.Tokens.{class_of, is_letter}
 use Rattle.sexp_core.specs.Printed.{IsWord}
-use Rattle.numerals.specs.Numerals.{digits_value}
-use Rattle.numerals.proofs.Printed.{decimal_digits, digits_read}
 use Rattle.names_text.specs.Names.{number_among, are_distinct}
 use Rattle.names_text.specs.Named.{is_word}
 use Rattle.names_text.specs.VariableNames.{leading_underscores, underscores, variable_name}
@@ -65,16 +62,6 @@ no_symbol (n ∷ ns) k v le =
     let differ : bytes_eq (variable_name k v) n ≡ false =
     false_from_ne_true _ (λ e. absurd (omega (arith, ap leading_underscores (equal_names (variable_name k v) n e), leading k (decimal v)))) in
     rw (differ, no_symbol ns k v (omega arith)) refl
-
-any_behind : (b rest : Bool) (o : Option ℕ) (i : ℕ) → cond b (Some 0) (option_map suc o) ≡ Some i → ((j : ℕ) → o ≡ Some j → rest ≡ true) → (b || rest) ≡ true
-any_behind true rest o i e h = refl
-any_behind false rest None i e h = absurd cc
-any_behind false rest (Some j) i e h = h j refl
-
--- a name with a number is among the names
-pub present : (names : List (List ℕ)) (name : List ℕ) (i : ℕ) → number_among names name ≡ Some i → list_any (bytes_eq name) names ≡ true
-present [] name i e = absurd cc
-present (n ∷ ns) name i e = any_behind (bytes_eq name n) _ (number_among ns name) i e (present ns name)
 
 any_other : (names : List (List ℕ)) (n : List ℕ) (f : ℕ) → list_any (bytes_eq n) names ≡ false → f < length names → bytes_eq n (get_or names f []) ≡ false
 any_other names n f e lt = false_from_ne_true _ (λ h. both_ways _ e (list_any_at (bytes_eq n) names f [] lt h))

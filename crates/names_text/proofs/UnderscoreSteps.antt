@@ -1,14 +1,8 @@
 -- Steps of counting and printing underscores.
-use Rattle.std.proofs.Common.{◌≡◌, ◌≢◌, ℕ, suc, ◌+◌, ◌<◌, ◌≤◌, max, List, [], ◌∷◌, ◌++◌, length, drop, get_or, replicate, Some, slice_get, codes, decimal, refl, ap, sym, ◌∙◌, append_assoc, arith, add-one, drop-cons}
-use Rattle.std.proofs.lemmas.List.{append-nil, drop_all, replicate-append-replicate}
+use Rattle.std.proofs.Common.{◌≡◌, ℕ, suc, ◌+◌, ◌≤◌, max, List, [], ◌∷◌, ◌++◌, drop, replicate, Some, slice_get, refl, ap, ◌∙◌, append_assoc, arith, add-one, drop-cons}
+use Rattle.std.proofs.lemmas.List.{replicate-append-replicate}
 use Rattle.std.proofs.lemmas.Option.{slice_get_within, get_or_from_slice_get}
-use Rattle.sexp_core.specs.Items.{Item, a_word, Items, no_items, item}
-use Rattle.sexp_core.specs.Printed.{text_of, spaced, lines}
-use Rattle.trs_defs.specs.System.{RewriteRule}
-use Rattle.trs_core.specs.declared.terms.Term.{Term}
-use Rattle.trs_core.specs.View.{forest}
 use Rattle.names_text.specs.VariableNames.{leading_underscores, underscores}
-use Rattle.names_text.specs.Named.{NamedSystem}
 
 pub drop_at : {X : Type 0} (xs : List X) (i : ℕ) (x : X) → slice_get xs i ≡ Some x → drop i xs ≡ x ∷ drop (i + 1) xs
 drop_at xs i x e =

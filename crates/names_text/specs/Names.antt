@@ -1,5 +1,5 @@
 -- Names by number.
-use Rattle.std.specs.Prelude.{ℕ, suc, ◌&&◌, Bool, not, true, List, [], ◌∷◌, ◌++◌, Option, Some, None, option_map, if◌then◌else◌}
+use Rattle.std.specs.Prelude.{ℕ, suc, ◌&&◌, Bool, not, true, List, [], ◌∷◌, Option, Some, None, option_map, if◌then◌else◌}
 use Rattle.std.specs.List.{list_any}
 use Rattle.std.specs.Str.{bytes_eq}
 
@@ -7,10 +7,6 @@ use Rattle.std.specs.Str.{bytes_eq}
 abbrev pub number_among : List (List ℕ) → List ℕ → Option ℕ
 number_among [] name = None
 number_among (n ∷ ns) name = if bytes_eq name n then Some 0 else option_map suc (number_among ns name)
-
--- names with one more, if it is new
-abbrev pub with_name : List (List ℕ) → List ℕ → List (List ℕ)
-with_name names name = if list_any (bytes_eq name) names then names else names ++ name ∷ []
 
 -- no name stands twice
 abbrev pub are_distinct : List (List ℕ) → Bool

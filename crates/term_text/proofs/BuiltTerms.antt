@@ -1,7 +1,6 @@
 -- Terms that are built one by one.
-use Rattle.std.proofs.Common.{◌≡◌, ◌∙◌, ℕ, suc, length, List, [], ◌∷◌, ◌++◌, Option, Some, None, Vec, Global, refl, ap}
+use Rattle.std.proofs.Common.{◌≡◌, List, [], ◌∷◌, ◌++◌, refl, ap}
 use Rattle.trs_defs.specs.Tree.{Trees, nil, cons}
-use Rattle.trs_defs.specs.System.{RewriteRule}
 use Rattle.trs_core.specs.declared.terms.Term.{Term}
 use Rattle.trs_core.specs.View.{tree, forest}
 

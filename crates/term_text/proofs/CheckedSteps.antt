@@ -1,5 +1,5 @@
 -- Steps of reading terms.
-use Rattle.std.proofs.Common.{◌≡◌, ℕ, zero, suc, ◌==◌, Bool, true, false, cond, List, [], ◌∷◌, ◌++◌, length, Option, Some, None, Result, Ok, Err, Vec, Global, refl, sym, ap, ap₂, ◌∙◌}
+use Rattle.std.proofs.Common.{◌≡◌, ℕ, zero, suc, ◌==◌, Bool, cond, List, [], ◌∷◌, ◌++◌, length, Option, Some, None, Result, Ok, Err, Vec, Global, refl, sym, ap, ap₂, ◌∙◌}
 use Rattle.std.specs.Prelude.{slice_get}
 use Rattle.std.proofs.Math.Dec.{eqb-zero-suc, eqb-suc-suc}
 use Rattle.sexp_core.specs.declared.sexp.Sexp.{Sexp}
@@ -10,7 +10,7 @@ use Rattle.trs_core.specs.View.{tree, forest}
 use Rattle.text_reading.specs.Reading.{place_of}
 use Rattle.term_text.specs.declared.fault.TermFault.{TermFault}
 use Rattle.term_text.specs.declared.fault.TermFault.TheVariants.{ArgumentLacks, ArgumentExtra}
-use Rattle.term_text.specs.Checked.{Checked, a_fault, both, ◌<*>◌, judged}
+use Rattle.term_text.specs.Checked.{Checked, a_fault, ◌<*>◌, judged}
 use Rattle.term_text.specs.Viewed.{viewed, both_viewed}
 use Rattle.term_text.specs.Terms.{taking}
 use Rattle.term_text.proofs.BuiltTerms.{behind, behind_push, behind_none}

@@ -1,11 +1,10 @@
 -- How the variables of a term are numbered behind others.
-use Rattle.std.proofs.Common.{◌≡◌, ◌⊎◌, inl, inr, ⊎_elim, ℕ, suc, ◌<◌, ◌≤◌, Bool, true, false, cond, Option, Some, None, IsTrue, nat_eq, nat_lt, refl, sym, ap, subst, ◌∙◌, arith, eq-eqb}
-use Rattle.std.specs.Option.{option_and_then}
+use Rattle.std.proofs.Common.{◌≡◌, ◌⊎◌, inl, inr, ℕ, suc, ◌<◌, Bool, true, false, Some, IsTrue, refl, sym, ap, subst, ◌∙◌, arith, eq-eqb}
 use Rattle.std.proofs.lemmas.Bool.{eqb-true, lt-ltb, le-ltb, or_left, or_right, or_cases}
 use Rattle.trs_defs.specs.Tree.{Tree, Trees, var, app, nil, cons}
 use Rattle.trs_defs.specs.Variable.{has_var, some_has_var}
 use Rattle.names_text.specs.Named.{next_number, next_number_behind}
-use Rattle.names_text.proofs.NumberedTerms.{variable_parts, behind_parts, has_below}
+use Rattle.names_text.proofs.NumberedTerms.{variable_parts, behind_parts}
 
 -- ---- numbers below a bound
 

@@ -1,6 +1,6 @@
 -- A term of a certificate that is read is well-formed, and one that is printed is read again.
-use Rattle.std.proofs.Common.{◌≡◌, ℕ, List, ◌≤◌, ◌&&◌, nat_le, Bool, true, false, cond, [], length, min, Ok, Err, IsTrue, refl, sym, ap, subst, ◌∙◌, arith}
-use Rattle.std.proofs.lemmas.Bool.{and_parts, and_from, leb-true, le-leb}
+use Rattle.std.proofs.Common.{◌≡◌, ℕ, List, nat_le, Bool, true, false, cond, [], length, min, Ok, Err, IsTrue, refl, sym, ap, ◌∙◌, arith}
+use Rattle.std.proofs.lemmas.Bool.{and_from, le-leb}
 use Rattle.sexp_core.specs.Items.{Item}
 use Rattle.sexp_core.specs.Printed.{bare}
 use Rattle.trs_defs.specs.Tree.{Tree, Trees, var, app, nil, cons, count}
@@ -20,14 +20,14 @@ use Rattle.names_text.proofs.SymbolPairs.{arity_kept}
 use Rattle.names_text.specs.Symbols.{paired, arities_of}
 use Rattle.term_text.specs.Checked.{Checked, judged}
 use Rattle.term_text.specs.Refusals.{refused_at}
-use Rattle.term_text.specs.Terms.{term, variables_after}
+use Rattle.term_text.specs.Terms.{term}
 use Rattle.term_text.specs.Limits as text
 use Rattle.term_text.specs.Limits.{nodes_of, keeps_limits}
 use Rattle.term_text.specs.PrintedTerm.{term_item}
 use Rattle.term_text.specs.Renumbered.{in_order}
 use Rattle.term_text.specs.OwnTerms.{own_term, own_term_item, IsTermOf}
 use Rattle.term_text.proofs.Numbering.{next_numbered}
-use Rattle.term_text.proofs.ReadTerms.{IsRead, term_read}
+use Rattle.term_text.proofs.ReadTerms.{term_read}
 use Rattle.term_text.proofs.PlacelessTerms.{term_placeless}
 use Rattle.term_text.proofs.PrintedTerms.{FitNames, term_again, term_words, term_nesting}
 use Rattle.term_text.proofs.RenumberedTerms.{IsOwn, own}

@@ -1,5 +1,5 @@
 -- What items write does not depend on their places, and printed terms have none.
-use Rattle.std.proofs.Common.{◌≡◌, ℕ, zero, suc, ◌==◌, Bool, true, false, List, [], ◌∷◌, length, cond, get_or, Option, Some, None, Ok, Err, refl, sym, ap, ap₂, ◌∙◌}
+use Rattle.std.proofs.Common.{◌≡◌, ℕ, zero, suc, ◌==◌, Bool, true, false, List, [], length, cond, get_or, Option, Some, None, Ok, Err, refl, sym, ap, ap₂, ◌∙◌}
 use Rattle.std.specs.Result.{result_ok}
 use Rattle.sexp_core.specs.Items.{Item, a_word, a_list, Items, no_items, item}
 use Rattle.sexp_core.specs.Printed.{bare, placeless}

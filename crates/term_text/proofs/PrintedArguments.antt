@@ -1,15 +1,11 @@
 -- Steps of printing terms.
-use Rattle.std.proofs.Common.{◌≡◌, ◌≢◌, ℕ, suc, ◌+◌, ◌<◌, ◌≤◌, max, List, [], ◌∷◌, ◌++◌, length, drop, get_or, replicate, Some, slice_get, codes, decimal, refl, ap, sym, ◌∙◌, append_assoc, arith, add-one, drop-cons}
-use Rattle.std.proofs.lemmas.List.{append-nil, drop_all, replicate-append-replicate}
-use Rattle.std.proofs.lemmas.Option.{slice_get_within, get_or_from_slice_get}
-use Rattle.sexp_core.specs.Items.{Item, a_word, Items, no_items, item}
-use Rattle.sexp_core.specs.Printed.{text_of, spaced, lines}
-use Rattle.trs_defs.specs.System.{RewriteRule}
+use Rattle.std.proofs.Common.{◌≡◌, ◌≢◌, ℕ, ◌≤◌, List, [], ◌∷◌, ◌++◌, length, drop, refl, ap, sym, ◌∙◌, append_assoc}
+use Rattle.std.proofs.lemmas.List.{append-nil, drop_all}
+use Rattle.sexp_core.specs.Items.{Item, Items, item}
+use Rattle.sexp_core.specs.Printed.{text_of, spaced}
 use Rattle.trs_core.specs.declared.terms.Term.{Term}
 use Rattle.trs_core.specs.View.{forest}
-use Rattle.names_text.specs.VariableNames.{leading_underscores, underscores}
-use Rattle.term_text.specs.PrintedTerm.{term_item, term_items, applied_item}
-use Rattle.names_text.specs.Named.{NamedSystem}
+use Rattle.term_text.specs.PrintedTerm.{term_items, applied_item}
 
 -- one more argument is printed
 pub spaced_step : (out o1 o2 all : List ℕ) (x : Item) (xs : Items) → o1 ≡ out ++ 32 ∷ [] → o2 ≡ o1 ++ text_of x → out ++ spaced (item x xs) ≡ all → o2 ++ spaced xs ≡ all
@@ -32,9 +28,3 @@ application_text k names name ts i o o1 o2 o3 o4 ne le e f g h =
     let last : o3 ≡ o2 ++ spaced (term_items k names (forest ts)) = sym (append-nil o3) ∙ rw (drop_all i ts le) at g in
     h ∙ rw (last, f, e) (enclosed o name (spaced (term_items k names (forest ts))))
     ∙ ap (λ (t : List ℕ). o ++ t) (sym (arguments_text k names name ts ne))
-
--- a constant is printed
-pub constant_text : (k : ℕ) (names : List (List ℕ)) (name : List ℕ) (ts : List Term) → length ts ≡ 0
-    → text_of (applied_item name (term_items k names (forest ts))) ≡ name
-constant_text k names name [] e = refl
-constant_text k names name (t ∷ ts) e = absurd (omega arith)

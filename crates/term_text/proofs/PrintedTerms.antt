@@ -1,5 +1,5 @@
 -- Printed terms are read again, wherever they stand.
-use Rattle.std.proofs.Common.{◌≡◌, inl, inr, ℕ, zero, suc, ◌+◌, ◌-◌, ◌^◌, ◌<◌, ◌≤◌, ◌==◌, Bool, true, false, cond, List, [], ◌∷◌, ◌++◌, length, get_or, Option, Some, None, option_map, Ok, slice_get, refl, sym, ap, ap₂, ◌∙◌, arith}
+use Rattle.std.proofs.Common.{◌≡◌, inl, inr, ℕ, zero, suc, ◌+◌, ◌-◌, ◌^◌, ◌<◌, ◌≤◌, Bool, true, List, [], ◌∷◌, ◌++◌, length, get_or, Some, None, option_map, Ok, slice_get, refl, sym, ap, ◌∙◌, arith}
 use Rattle.std.specs.List.{list_all}
 use Rattle.std.proofs.lemmas.Bool.{and_parts}
 use Rattle.std.proofs.lemmas.Option.{slice_get_within, get_or_from_slice_get}
@@ -8,15 +8,13 @@ use Rattle.sexp_core.specs.Printed.{IsWord, HasWords, AreWords, depth_of as dept
 use Rattle.trs_defs.specs.Tree.{Tree, Trees, var, app, nil, cons, count}
 use Rattle.trs_defs.specs.Size.{depth_of, depth_of_all}
 use Rattle.trs_defs.specs.WellFormed.{IsWellFormed, AreWellFormed}
-use Rattle.names_text.specs.declared.table.Symbol.{Symbol}
-use Rattle.names_text.specs.Names.{number_among, are_distinct}
+use Rattle.names_text.specs.Names.{are_distinct}
 use Rattle.names_text.specs.Symbols.{Declared, paired, symbol_named}
 use Rattle.names_text.specs.Named.{is_word}
 use Rattle.names_text.specs.VariableNames.{underscores, variable_name}
 use Rattle.names_text.proofs.PrintedNames.{variable_word, symbol_word, no_symbol, symbol_number, variables_to, length_variables, later_variable, variable_number}
 use Rattle.names_text.proofs.SymbolPairs.{symbol_at, symbol_by_number}
-use Rattle.term_text.specs.Checked.{Checked, ◌<*>◌}
-use Rattle.term_text.specs.Terms.{with_variable, with_word, variables_after, all_variables_after, variable, lone, taking, head, term, list_term, terms}
+use Rattle.term_text.specs.Terms.{variables_after, all_variables_after, taking, term, terms}
 use Rattle.term_text.specs.PrintedTerm.{term_item, term_items}
 use Rattle.term_text.proofs.Numbering.{IsBelow, AreBelow, IsNumbered, AreNumbered}
 

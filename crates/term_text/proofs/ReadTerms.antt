@@ -1,6 +1,5 @@
 -- What a term that was read is: well-formed, with its variables in order, as large and as deep as it is written.
-use Rattle.std.proofs.Common.{◌≡◌, ◌⊎◌, inl, inr, ℕ, zero, suc, ◌+◌, ◌==◌, ◌<◌, max, Bool, true, false, cond, List, [], ◌∷◌, ◌++◌, length, Option, Some, None, option_map, slice_get, Ok, Err, refl, sym, ap, subst, ◌∙◌, arith}
-use Rattle.std.specs.Str.{bytes_eq}
+use Rattle.std.proofs.Common.{◌≡◌, inl, inr, ℕ, zero, suc, ◌+◌, ◌==◌, max, Bool, true, false, cond, List, [], ◌∷◌, ◌++◌, length, Option, Some, None, slice_get, Ok, Err, refl, sym, ap, subst, ◌∙◌, arith}
 use Rattle.std.proofs.lemmas.Bool.{eqb-true}
 use Rattle.std.proofs.lemmas.List.{length_push}
 use Rattle.sexp_core.specs.Items.{Item, a_word, a_list, Items, no_items, item}
@@ -13,7 +12,7 @@ use Rattle.names_text.specs.Symbols.{Declared, arities_of, symbol_named}
 use Rattle.names_text.proofs.SymbolTables.{symbol_known, number_below}
 use Rattle.term_text.specs.declared.fault.TermFault.TheVariants.{LoneSymbol}
 use Rattle.term_text.specs.Checked.{Checked, a_fault}
-use Rattle.term_text.specs.Terms.{with_variable, with_word, variables_after, all_variables_after, variable, lone, taking, head, term, list_term, terms}
+use Rattle.term_text.specs.Terms.{with_variable, with_word, variables_after, all_variables_after, variable, lone, taking, head, term, terms}
 use Rattle.term_text.specs.Limits as text
 use Rattle.term_text.specs.Limits.{nodes_of, nodes_of_all}
 use Rattle.term_text.proofs.CheckedParts.{ok_same, two_parts}

@@ -1,5 +1,5 @@
 -- Readings of items with all their faults.
-use Rattle.std.specs.Prelude.{Option, Some, None, Result, Ok, Err}
+use Rattle.std.specs.Prelude.{Result, Ok, Err}
 use Rattle.term_text.specs.declared.fault.TermFault.{TermFault}
 
 -- a fault, or those of two parts

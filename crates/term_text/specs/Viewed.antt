@@ -1,5 +1,5 @@
 -- What the code reads, seen by a view of its values.
-use Rattle.std.specs.Prelude.{Result, Ok, Err, List, ◌++◌, ◌∷◌, []}
+use Rattle.std.specs.Prelude.{Result, Ok, Err}
 
 abbrev pub viewed : {X A F : Type 0} → (X → A) → Result X F → Result A F
 viewed view (Ok x) = Ok (view x)

@@ -9,7 +9,7 @@ use Rattle.ari_text.specs.Faults.{ari_fault}
 use Rattle.ari_text.specs.Entries.{rewrites, entry_of}
 use Rattle.ari_text.specs.EntryView.{with_attribute}
 use Rattle.trs_defs.specs.System.{RewriteRule}
-use Rattle.ari_text.specs.Rules.{rule, with_rule, rules_of}
+use Rattle.ari_text.specs.Rules.{rule, rules_of}
 use Rattle.ari_text.proofs.RuleSteps.{together, one_more_value, rule_said, no_rule_said}
 use Rattle.ari_text.proofs.rules.read_rules.Goals as goal
 use Rattle.ari_text.proofs.rules.read_rules.Goals.{in-Rewrites+in_ok-rule+in_ok-rules, in_default}

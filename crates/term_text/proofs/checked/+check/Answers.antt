@@ -1,7 +1,7 @@
 use Rattle.std.proofs.Common.{◌≡◌, ◌∙◌, ◌+◌, ◌∷◌, ◌++◌, ◌≤◌, [], length, drop, sym, ap, arith}
 use Rattle.std.proofs.lemmas.List.{drop_all}
 use Rattle.sexp_core.specs.Items.{view, views}
-use Rattle.trs_core.specs.View.{tree, forest}
+use Rattle.trs_core.specs.View.{forest}
 use Rattle.names_text.proofs.Loops.{one_more}
 use Rattle.term_text.specs.Checked.{judged}
 use Rattle.term_text.specs.Viewed.{viewed, both_viewed}

@@ -1,11 +1,8 @@
-use Rattle.std.proofs.Common.{◌≡◌, ◌∙◌, ◌==◌, length, Some, None, Err, Ok, refl, sym, ap, rules}
+use Rattle.std.proofs.Common.{◌≡◌, length, Some, None, refl, rules}
 use Rattle.std.proofs.lemmas.Option.{slice_get_read, slice_get_past}
 use Rattle.std.proofs.lemmas.Bool.{eq-eqb, ne_eqb}
 use Rattle.std.specs.Prelude.{slice_get}
-use Rattle.sexp_core.specs.Items.{view}
-use Rattle.text_reading.specs.Reading.{place_of}
-use Rattle.term_text.specs.Checked.{judged}
-use Rattle.term_text.proofs.CheckedSteps.{by_extra, taking_by_extra}
+use Rattle.term_text.proofs.CheckedSteps.{taking_by_extra}
 use Rattle.term_text.proofs.checked.check_count.Goals as goal
 
 pub returns-in-Some : goal.returns-in-Some

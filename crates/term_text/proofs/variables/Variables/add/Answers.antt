@@ -1,4 +1,3 @@
-use Rattle.std.proofs.Common.{arith}
 use Rattle.term_text.proofs.VariableKeys.{inserted_text}
 use Rattle.term_text.proofs.variables.Variables.add.Goals as goal
 
