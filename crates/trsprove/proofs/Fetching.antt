@@ -16,8 +16,8 @@ pub for_ok : {T E : Type 0} (P Q : T → Type 0) (r : Result T E) → ((a : T) �
 for_ok P Q (Ok a) f h = f a h
 for_ok P Q (Err e) f h = tt
 
-pub needed_first : (p c : List ℕ) (is_had : List ℕ → Type 0) → IsNeeded (Some (certifies p c)) is_had p
-needed_first p c is_had = record { problem_name = p; certificate_name = c; asked = refl; which = inl refl }
+pub needed_first : (p c : List ℕ) (is_fetched : List ℕ → Type 0) → IsNeeded (Some (certifies p c)) is_fetched p
+needed_first p c is_fetched = record { problem_name = p; certificate_name = c; asked = refl; which = inl refl }
 
 -- a failure that is counted is a fault that came, also since an earlier time
 pub fault_came : (X : Type 0) (fault : FetchFault) (before middle now : List ℕ → ℕ) (name : List ℕ) → before name ≤ middle name

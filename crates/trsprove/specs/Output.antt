@@ -53,12 +53,12 @@ IsWithin under name = (text : List ℕ) × under name text × (length text ≤ m
 abbrev pub IsTooLong : (List ℕ → List ℕ → Type 0) → List ℕ → Type 0
 IsTooLong under name = (text : List ℕ) × under name text × (most_bytes < length text)
 
--- the text under a name is needed: that of the problem, or that of the certificate where the problem's is had
-pub record IsNeeded (request : Option Asked) (is_had : List ℕ → Type 0) (name : List ℕ) : Type 0 where
+-- the text under a name is needed: that of the problem, or that of the certificate once the problem's is fetched
+pub record IsNeeded (request : Option Asked) (is_fetched : List ℕ → Type 0) (name : List ℕ) : Type 0 where
   pub problem_name : List ℕ
   pub certificate_name : List ℕ
   pub asked : request ≡ Some (certifies problem_name certificate_name)
-  pub which : (name ≡ problem_name) ⊎ ((name ≡ certificate_name) × is_had problem_name)
+  pub which : (name ≡ problem_name) ⊎ ((name ≡ certificate_name) × is_fetched problem_name)
 
 -- the answer: a status, and its line
 pub data Output (request : Option Asked) (under : List ℕ → List ℕ → Type 0) : Status → List ℕ → Type 0 where
