@@ -12,11 +12,14 @@ use Rattle.trs_defs.specs.Tree.{Tree}
 use Rattle.trs_defs.specs.System.{RewriteRule}
 use Rattle.trs_defs.specs.Path.{PlacedRule}
 use Rattle.trs_defs.proofs.Members.{in_left, in_right, in_either}
-use Rattle.term_pool.specs.declared.reaching.Reached.{Reached}
+use Rattle.term_pool.specs.declared.reached.Reached.{Reached}
 use Rattle.term_pool.specs.Pooled.{Extends, StandsFor, tree_at}
 use Rattle.term_pool.specs.Listed.{Listed, HasTerm}
-use Rattle.term_pool.specs.Reach.{AreReducts, no_step, kept, left_out, ListsOn, no_more, listed, passed_over, is_kept, after_step}
-use Rattle.term_pool.specs.Reaching.{AreBelow, listed_at, ids_of, IsReached, Begins, IsEntry, ListsMore, Adds, IsNewReduct, IsPassedOver}
+use Rattle.term_pool.specs.Reach as reach
+use Rattle.term_pool.specs.Reach.{AreReducts, no_step, kept, left_out, ListsOn, no_more, passed_over, is_kept, after_step}
+use Rattle.term_pool.specs.Reached.{AreBelow, IsReached, Begins, IsEntry}
+use Rattle.term_pool.specs.ListedIds.{listed, listed_at, ids_of}
+use Rattle.term_pool.specs.Reaching.{ListsMore, Adds, IsNewReduct, IsPassedOver}
 use Rattle.term_pool.proofs.Extending.{same_tree_at}
 use Rattle.term_pool.proofs.ListingLaws.{start_of, either_way, one_more_reduct}
 use Rattle.term_pool.proofs.MatchSteps.{at_same, at_other}
@@ -31,7 +34,7 @@ same_listed a b extends (e ∷ es) below =
     rw (here, rest) refl
 
 pub length_listed : (pool : List Tree) (es : List (ℕ × Vec PlacedRule)) → length (listed_at pool es) ≡ length es
-length_listed pool es = length-map es (λ e. record { term = tree_at pool e.0; path = e.1.items })
+length_listed pool es = length-map es (listed pool)
 
 has_term : (pool : List Tree) (es : List (ℕ × Vec PlacedRule)) (i : ℕ) (u : Tree) → In i (ids_of es) → tree_at pool i ≡ u → HasTerm u (listed_at pool es)
 has_term pool [] i u h is = elim h [ ]
@@ -103,22 +106,20 @@ begins_with id old r path nothing empty updates is = record {
 -- ---- one reduct
 
 -- an entry of the list
-pub entry_at : (r : Reached) (i id : ℕ) (path : List PlacedRule) → IsEntry r i id path → (pool : List Tree)
-    → slice_get (listed_at pool r.list.items) i ≡ Some (record { term = tree_at pool id; path = path })
-entry_at r i id path h pool = rw (h.id_is, h.path_is) (slice_get_listed r.list.items i h.entry h.there)
+pub entry_at : (r : Reached) (i : ℕ) (e : ℕ × Vec PlacedRule) → IsEntry r i e → (pool : List Tree) → slice_get (listed_at pool r.list.items) i ≡ Some (listed pool e)
+entry_at r i e h pool = rw (h.id, h.path) (slice_get_listed r.list.items i h.entry h.there)
   where
-    slice_get_listed : (es : List (ℕ × Vec PlacedRule)) (i : ℕ) (e : ℕ × Vec PlacedRule) → slice_get es i ≡ Some e
-        → slice_get (listed_at pool es) i ≡ Some (record { term = tree_at pool e.0; path = e.1.items })
+    slice_get_listed : (es : List (ℕ × Vec PlacedRule)) (i : ℕ) (e : ℕ × Vec PlacedRule) → slice_get es i ≡ Some e → slice_get (listed_at pool es) i ≡ Some (listed pool e)
     slice_get_listed [] i e there = absurd cc
     slice_get_listed (x ∷ es) zero e there = let same : x ≡ e = same_Some x e there in rw same refl
     slice_get_listed (x ∷ es) (suc i) e there = slice_get_listed es i e there
 
-pub entry_within : (r : Reached) (i id : ℕ) (path : List PlacedRule) → IsEntry r i id path → (pool : List Tree) → IsReached pool r → id < length pool
-entry_within r i id path h pool reached =
+pub entry_within : (r : Reached) (i : ℕ) (e : ℕ × Vec PlacedRule) → IsEntry r i e → (pool : List Tree) → IsReached pool r → e.0 < length pool
+entry_within r i e h pool reached =
     let within : i < length r.list.items = slice_get_within r.list.items i h.entry h.there in
     let read : get_or r.list.items i h.entry ≡ h.entry = get_or_from_slice_get r.list.items i h.entry h.entry h.there in
     let below : (get_or r.list.items i h.entry).0 < length pool = reached.below i h.entry within in
-    rw h.id_is (rw read at below)
+    rw h.id (rw read at below)
 
 module _ (rules : List RewriteRule) (limit size : ℕ) (s : PlacedRule) (e : Listed) where
   -- nothing is listed of a reduct that is too large or known
@@ -145,7 +146,7 @@ module _ (rules : List RewriteRule) (limit size : ℕ) (s : PlacedRule) (e : Lis
 
     longer : listed_at new after.list.items ≡ listed_at old before.list.items ++ after_step e s (tree_at new id) ∷ []
     longer =
-        ap (listed_at new) is ∙ (map-append (λ (x : ℕ × Vec PlacedRule). record { term = tree_at new x.0; path = x.1.items }) before.list.items ((id, path) ∷ [])
+        ap (listed_at new) is ∙ (map-append (listed new) before.list.items ((id, path) ∷ [])
         ∙ (ap (λ l. l ++ record { term = tree_at new id; path = path.items } ∷ []) same
         ∙ ap (λ p. listed_at old before.list.items ++ record { term = tree_at new id; path = p } ∷ []) one_longer))
 
@@ -171,7 +172,7 @@ module _ (rules : List RewriteRule) (limit size : ℕ) (s : PlacedRule) (e : Lis
     pub one_listed : Adds limit size (AreReducts rules size e (s ∷ [])) old new before after
     one_listed =
         let list : ListsOn limit (listed_at old before.list.items) (after_step e s (tree_at new id) ∷ []) (listed_at new after.list.items) =
-        rw longer (listed {es = listed_at old before.list.items} (omega (arith, space, length_listed old before.list.items)) absent no_more) in
+        rw longer (reach.listed {es = listed_at old before.list.items} (omega (arith, space, length_listed old before.list.items)) absent no_more) in
         let below : All (λ e. e.0 < length new) before.list.items = All-weaker (λ e. e.0 < length old) (λ e. e.0 < length new) (λ x k. omega (arith, k, extends.longer)) before.list.items reached.below in
         record {
           lists = (after_step e s (tree_at new id) ∷ [], kept h.steps h.small no_step, list);

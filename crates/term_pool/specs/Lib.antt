@@ -14,4 +14,6 @@ pub mod Passed
 pub mod Tried
 pub mod Listed
 pub mod Reach
+pub mod ListedIds
+pub mod Reached
 pub mod Reaching

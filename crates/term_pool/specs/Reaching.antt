@@ -1,46 +1,16 @@
--- What a search has reached, and what each of its parts adds.
-use Rattle.std.specs.Prelude.{◌≡◌, ◌<◌, ◌≤◌, ◌⊎◌, ◌↔◌, ℕ, ◌+◌, ◌-◌, ◌*◌, false, List, [], ◌∷◌, map, length, slice_get, Some, All, IsTrue}
+-- What each part of a search adds.
+use Rattle.std.specs.Prelude.{◌≡◌, ◌<◌, ◌≤◌, ◌⊎◌, ℕ, ◌+◌, ◌-◌, ◌*◌, false, List, length, IsTrue}
 use Rattle.std.specs.Ordering.{nat_cmp}
 use Rattle.std.specs.BTreeSet.{BTreeSet, contains}
-use Rattle.std.specs.Global.{Vec}
-use Rattle.trs_defs.specs.Member.{In}
 use Rattle.trs_defs.specs.Tree.{Tree}
 use Rattle.trs_defs.specs.System.{RewriteRule}
 use Rattle.trs_defs.specs.Path.{PlacedRule, StepsAt}
 use Rattle.term_pool.specs.Pooled.{AreDistinct, StandsFor, tree_at}
 use Rattle.term_pool.specs.Listed.{Listed}
+use Rattle.term_pool.specs.ListedIds.{listed_at}
 use Rattle.term_pool.specs.Reach.{ListsOn, is_kept}
-use Rattle.term_pool.specs.declared.reaching.Reached.{Reached}
-
--- entries with the terms of their ids
-abbrev pub listed_at : List Tree → List (ℕ × Vec PlacedRule) → List Listed
-listed_at pool es = map (λ e. record { term = tree_at pool e.0; path = e.1.items }) es
-
-abbrev pub ids_of : List (ℕ × Vec PlacedRule) → List ℕ
-ids_of es = map (λ e. e.0) es
-
--- the set has no id from n on
-abbrev pub AreBelow : ℕ → BTreeSet ℕ → Type 0
-AreBelow n ids = (i : ℕ) → IsTrue (contains nat_cmp ids i) → i < n
-
--- the ids of the list are there, and the set has them and no others
-pub record IsReached (pool : List Tree) (r : Reached) : Type 0 where
-  pub below : All (λ e. e.0 < length pool) r.list.items
-  pub known : (i : ℕ) → IsTrue (contains nat_cmp r.ids i) ↔ In i (ids_of r.list.items)
-
--- one id with the empty path
-pub record Begins (id : ℕ) (r : Reached) : Type 0 where
-  pub path : Vec PlacedRule
-  pub empty : path.items ≡ []
-  pub list : r.list.items ≡ (id, path) ∷ []
-  pub known : (i : ℕ) → IsTrue (contains nat_cmp r.ids i) ↔ In i (id ∷ [])
-
--- the id and the path are those at this place
-pub record IsEntry (r : Reached) (i id : ℕ) (path : List PlacedRule) : Type 0 where
-  pub entry : ℕ × Vec PlacedRule
-  pub there : slice_get r.list.items i ≡ Some entry
-  pub id_is : id ≡ entry.0
-  pub path_is : path ≡ entry.1.items
+use Rattle.term_pool.specs.Reached.{IsReached}
+use Rattle.term_pool.specs.declared.reached.Reached.{Reached}
 
 -- the most ids that there are once the list is full
 abbrev pub most_ids : ℕ → ℕ → List Tree → Reached → ℕ

@@ -15,6 +15,7 @@ mod normal;
 mod paths;
 mod placing;
 mod pools;
+mod reached;
 mod reaching;
 mod roots;
 mod running;

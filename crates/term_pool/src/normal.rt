@@ -13,8 +13,8 @@ use std::collections::BTreeSet;
 use trs_core::OutOfMemory;
 
 impl Pool {
-    /// Whether no step leaves the id's term. Each subterm is looked at once, however often it stands
-    /// in the term. (Baader and Nipkow, definition 2.1.1.)
+    /// Whether no step leaves the id's term. Each subterm is looked at once, however often it
+    /// stands in the term. (Baader and Nipkow, definition 2.1.1.)
     pub fn is_normal(
         &self,
         alloc: Global,

@@ -1,4 +1,4 @@
-ghost use Rattle.std.specs.Prelude.{◌≡◌, IfOk};
+ghost use Rattle.std.specs.Prelude.{◌≡◌, ◌++◌, [], ◌∷◌, IfOk};
 ghost use Rattle.term_pool.specs.Paths.{fault_at};
 
 use crate::StepFault;
@@ -65,4 +65,28 @@ impl From<OutOfMemory> for PathFault {
     fn from(_e: OutOfMemory) -> PathFault {
         PathFault::OutOfMemory
     }
+}
+
+/// The path with one more step.
+pub(crate) fn one_longer(
+    alloc: Global,
+    path: &[PathStep],
+    step: &PathStep,
+) -> Result<Vec<PathStep>, OutOfMemory>
+    ensures { IfOk result (λ longer. longer.items ≡ path.now ++ step.now ∷ []) }
+{
+    let mut longer = copied(alloc, path)?;
+    longer.push(step.copy(alloc)?)?;
+    Ok(longer)
+}
+
+/// The same path.
+pub(crate) fn copied(alloc: Global, path: &[PathStep]) -> Result<Vec<PathStep>, OutOfMemory>
+    ensures { IfOk result (λ copy. copy.items ≡ path.now) }
+{
+    let mut copy = Vec::with_capacity(alloc, path.len())?;
+    for step in path {
+        copy.push(step.copy(alloc)?)?;
+    }
+    Ok(copy)
 }

@@ -1,27 +1,21 @@
-ghost use Rattle.std.specs.Prelude.{◌≡◌, ◌≢◌, ◌<◌, ◌≤◌, ◌+◌, ◌*◌, ◌++◌, [], ◌∷◌, true, All, length, slice_get, Some, IfOk, IfSome, IfNone, OnOk};
-ghost use Rattle.std.specs.Ordering.{nat_cmp};
-ghost use Rattle.std.specs.BTreeSet.{Updates};
+ghost use Rattle.std.specs.Prelude.{◌≡◌, ◌<◌, ◌≤◌, ◌+◌, ◌*◌, [], ◌∷◌, All, length, IfOk, IfSome, IfNone, OnOk};
 ghost use Rattle.trs_defs.specs.Member.{In};
 ghost use Rattle.trs_defs.specs.Path.{Follows};
 ghost use Rattle.term_pool.specs.Pooled.{Extends, tree_at};
 ghost use Rattle.term_pool.specs.Redexes.{IsNarrow, IsRedexAt};
 ghost use Rattle.term_pool.specs.Listed.{Listed};
 ghost use Rattle.term_pool.specs.Reach.{IsReachList, AreReducts, AreCandidates};
-ghost use Rattle.term_pool.specs.Reaching.{listed_at, AreBelow, IsReached, Begins, IsEntry, most_ids, Adds, IsNewReduct, IsPassedOver};
+ghost use Rattle.term_pool.specs.ListedIds.{listed, listed_at};
+ghost use Rattle.term_pool.specs.Reached.{AreBelow, IsReached};
+ghost use Rattle.term_pool.specs.Reaching.{most_ids, Adds, IsNewReduct, IsPassedOver};
 
 use crate::narrow::paths_keep_narrow;
-use crate::{MOST_IDS, PathStep, Pool, RulesByRoot, StepFault};
+use crate::paths::one_longer;
+use crate::reached::Reached;
+use crate::{MOST_IDS, PathStep, Pool, RulesByRoot};
 use std::alloc::Global;
 use std::collections::BTreeSet;
 use trs_core::{OutOfMemory, Trs};
-
-/// What a search has reached: ids in the order in which they were found, each with the path to it,
-/// and the same ids as a set.
-#[derive(Drop)]
-pub(crate) struct Reached {
-    list: Vec<(u32, Vec<PathStep>)>,
-    ids: BTreeSet<u32>,
-}
 
 /// How far a search goes: terms fewer than `depth` steps away are looked at, `limit` terms are
 /// listed, and a term has at most `size` nodes.
@@ -33,10 +27,11 @@ pub(crate) struct Bounds {
 }
 
 impl Pool {
-    /// The terms that steps lead to from the id's term, each once with the first path that leads to
-    /// it. The list begins with the term itself. For each of its terms in order that is fewer than
-    /// `depth` steps away, the reducts follow in the order of the redexes, if they have at most
-    /// `size` nodes and keep the limits. It ends at `count` terms (at one, where `count` is 0).
+    /// The terms that steps lead to from the id's term, each once with the first path that leads
+    /// to it. The list begins with the term itself. For each of its terms in order that is fewer
+    /// than `depth` steps away, the reducts follow in the order of the redexes, if they have at
+    /// most `size` nodes and keep the limits. It ends at `count` terms (at one, where `count` is
+    /// 0). What is made of a reduct that is not listed is released.
     pub fn reach(
         &mut self,
         alloc: Global,
@@ -69,71 +64,67 @@ impl Pool {
         let mut reached = Reached::new(alloc, id)?;
         let mut next = 0;
         while next < reached.list.len() && reached.list.len() < bounds.limit {
-            let (current, path) = reached.entry(alloc, next)?;
-            self.look_at(alloc, &by_root, bounds, current, &path, &mut reached)?;
+            let entry = reached.entry(alloc, next)?;
+            self.look_at(alloc, &by_root, bounds, &entry, &mut reached)?;
             next += 1;
         }
         Ok(reached.list)
     }
 
-    /// Lists the reducts of an id, to which this path leads, if it is not too deep.
+    /// Lists the reducts of an entry, if it is not too deep.
     fn look_at(
         &mut self,
         alloc: Global,
         by_root: &RulesByRoot,
         bounds: Bounds,
-        id: u32,
-        path: &[PathStep],
+        entry: &(u32, Vec<PathStep>),
         reached: &mut Reached,
     ) -> Result<(), OutOfMemory>
-        requires there { id < length self.old }
-        requires narrow { IsNarrow (tree_at self.old id) }
+        requires there { entry.now.0 < length self.old }
+        requires narrow { IsNarrow (tree_at self.old entry.now.0) }
         requires reached { IsReached self.old reached.old }
         requires room { most_ids bounds.limit bounds.size self.old reached.old ≤ MOST_IDS }
-        ensures adds { OnOk result (Adds bounds.limit bounds.size
-            (AreCandidates by_root.now.rules bounds.depth bounds.size
-            (record { term = tree_at self.old id; path = path.now } ∷ []))
+        ensures adds { OnOk result (Adds bounds.limit bounds.size (AreCandidates by_root.now.rules
+            bounds.depth bounds.size (listed self.old entry.now ∷ []))
             self.old self.new reached.old reached.new) }
         ensures kept { Extends self.old self.new }
     {
-        if path.len() >= bounds.depth as usize {
+        if entry.1.len() >= bounds.depth as usize {
             return Ok(());
         }
-        let steps = self.redexes_at(alloc, by_root, id)?;
+        let steps = self.redexes_at(alloc, by_root, entry.0)?;
         for step in &steps {
             if reached.list.len() >= bounds.limit {
                 return Ok(());
             }
-            self.add_reduct(alloc, by_root.trs(), bounds, id, path, step, reached)?;
+            self.add_reduct(alloc, by_root.trs(), bounds, entry, step, reached)?;
         }
         Ok(())
     }
 
-    /// Lists the reduct of an id by one step, if it is small and new.
+    /// Lists the reduct of an entry by one step, if it is small and new.
     fn add_reduct(
         &mut self,
         alloc: Global,
         trs: &Trs,
         bounds: Bounds,
-        id: u32,
-        path: &[PathStep],
+        entry: &(u32, Vec<PathStep>),
         step: &PathStep,
         reached: &mut Reached,
     ) -> Result<(), OutOfMemory>
-        requires there { id < length self.old }
-        requires redex { IsRedexAt trs.now.rules (tree_at self.old id) step.now }
+        requires there { entry.now.0 < length self.old }
+        requires redex { IsRedexAt trs.now.rules (tree_at self.old entry.now.0) step.now }
         requires reached { IsReached self.old reached.old }
         requires space { length reached.old.list.items < bounds.limit }
         requires room { most_ids bounds.limit bounds.size self.old reached.old ≤ MOST_IDS }
-        ensures adds { OnOk result (Adds bounds.limit bounds.size
-            (AreReducts trs.now.rules bounds.size
-            (record { term = tree_at self.old id; path = path.now }) (step.now ∷ []))
+        ensures adds { OnOk result (Adds bounds.limit bounds.size (AreReducts trs.now.rules
+            bounds.size (listed self.old entry.now) (step.now ∷ []))
             self.old self.new reached.old reached.new) }
         ensures kept { Extends self.old self.new }
     {
-        match self.new_reduct(alloc, trs, id, step, bounds.size, &reached.ids)? {
+        match self.new_reduct(alloc, trs, entry.0, step, bounds.size, &reached.ids)? {
             None => Ok(()),
-            Some(reduct) => reached.push(reduct, one_longer(alloc, path, step)?),
+            Some(reduct) => reached.push(reduct, one_longer(alloc, &entry.1, step)?),
         }
     }
 
@@ -163,7 +154,7 @@ impl Pool {
         let reduct = match self.step_at(alloc, trs, id, &step.place, step.rule) {
             Ok(reduct) => reduct,
             Err(fault) => {
-                unless_no_memory(fault)?;
+                fault.unless_no_memory()?;
                 return Ok(None);
             }
         };
@@ -173,71 +164,4 @@ impl Pool {
         }
         Ok(Some(reduct))
     }
-}
-
-impl Reached {
-    /// One id, with the empty path.
-    fn new(alloc: Global, id: u32) -> Result<Reached, OutOfMemory>
-        ensures { IfOk result (Begins id) }
-    {
-        let mut reached = Reached {
-            list: Vec::new(alloc),
-            ids: BTreeSet::new(alloc),
-        };
-        reached.push(id, Vec::new(alloc))?;
-        Ok(reached)
-    }
-
-    /// An id of the list, with its path.
-    fn entry(&self, alloc: Global, i: usize) -> Result<(u32, Vec<PathStep>), OutOfMemory>
-        requires { i < length self.now.list.items }
-        ensures { IfOk result (λ e. IsEntry self.now i e.0 e.1.items) }
-    {
-        let entry = &self.list[i];
-        Ok((entry.0, copied(alloc, &entry.1)?))
-    }
-
-    /// Lists an id with its path.
-    fn push(&mut self, id: u32, path: Vec<PathStep>) -> Result<(), OutOfMemory>
-        ensures list { OnOk result (
-            self.new.list.items ≡ self.old.list.items ++ (id, path) ∷ []) }
-        ensures ids { OnOk result (Updates nat_cmp self.old.ids self.new.ids id true) }
-    {
-        self.ids.insert(id)?;
-        self.list.push((id, path))?;
-        Ok(())
-    }
-}
-
-/// A step that is refused is passed over, unless memory ran out.
-fn unless_no_memory(fault: StepFault) -> Result<(), OutOfMemory>
-    ensures { OnOk result (fault ≢ StepFault.OutOfMemory) }
-{
-    match fault {
-        StepFault::OutOfMemory => Err(OutOfMemory),
-        _ => Ok(()),
-    }
-}
-
-/// The path with one more step.
-fn one_longer(
-    alloc: Global,
-    path: &[PathStep],
-    step: &PathStep,
-) -> Result<Vec<PathStep>, OutOfMemory>
-    ensures { IfOk result (λ longer. longer.items ≡ path.now ++ step.now ∷ []) }
-{
-    let mut longer = copied(alloc, path)?;
-    longer.push(step.copy(alloc)?)?;
-    Ok(longer)
-}
-
-fn copied(alloc: Global, path: &[PathStep]) -> Result<Vec<PathStep>, OutOfMemory>
-    ensures { IfOk result (λ copy. copy.items ≡ path.now) }
-{
-    let mut copy = Vec::with_capacity(alloc, path.len())?;
-    for step in path {
-        copy.push(step.copy(alloc)?)?;
-    }
-    Ok(copy)
 }

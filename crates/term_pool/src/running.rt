@@ -13,10 +13,10 @@ use trs_core::{OutOfMemory, Trs};
 pub const MOST_ADDED: u32 = 1_048_576;
 
 impl Pool {
-    /// The id of the end of a path. Each term after the start keeps the limits. A step costs what its
-    /// rule and the way to its place have nodes. Where the steps have added more than `MOST_ADDED`
-    /// ids, the term at hand is taken out, the ids from the start's on are released, and it is put
-    /// back, so that a long path takes no more memory than that.
+    /// The id of the end of a path. Each term after the start keeps the limits. A step costs what
+    /// its rule and the way to its place have nodes. Where the steps have added more than
+    /// `MOST_ADDED` ids, the term at hand is read, the ids that were added are released, and it is
+    /// interned again, so that a long path takes no more memory than that.
     pub fn run_path(
         &mut self,
         alloc: Global,

@@ -1,4 +1,4 @@
-ghost use Rattle.std.specs.Prelude.{◌≡◌, ◌≢◌, ◌<◌, ◌≤◌, ◌+◌, length, IsTrue, IfOk, IfErr};
+ghost use Rattle.std.specs.Prelude.{◌≡◌, ◌≢◌, ◌<◌, ◌≤◌, ◌+◌, length, IsTrue, IfOk, IfErr, OnOk};
 ghost use Rattle.trs_defs.specs.Tree.{Tree};
 ghost use Rattle.trs_defs.specs.Size.{size_of, within_limits};
 ghost use Rattle.trs_defs.specs.System.{IsSystem};
@@ -24,6 +24,18 @@ pub enum StepFault {
     TooLarge,
     /// There was no memory left.
     OutOfMemory,
+}
+
+impl StepFault {
+    /// A step that is refused is passed over, unless memory ran out.
+    pub(crate) fn unless_no_memory(self) -> Result<(), OutOfMemory>
+        ensures { OnOk result (self ≢ StepFault.OutOfMemory) }
+    {
+        match self {
+            StepFault::OutOfMemory => Err(OutOfMemory),
+            _ => Ok(()),
+        }
+    }
 }
 
 impl From<OutOfMemory> for StepFault {

@@ -5,7 +5,8 @@ use Rattle.trs_defs.proofs.Members.{in_of_get}
 use Rattle.term_pool.specs.Pooled.{tree_at}
 use Rattle.term_pool.specs.Listed.{Listed}
 use Rattle.term_pool.specs.Reach.{AreCandidates, ListsOn, no_entry, no_more}
-use Rattle.term_pool.specs.Reaching.{Adds, listed_at}
+use Rattle.term_pool.specs.Reaching.{Adds}
+use Rattle.term_pool.specs.ListedIds.{listed, listed_at}
 use Rattle.term_pool.proofs.Extending.{extends_itself, extends_on}
 use Rattle.term_pool.proofs.FollowLaws.{looked_follow, start_follows}
 use Rattle.term_pool.proofs.ListingLaws.{start_of, lists_short, looked_at_one, no_shorter}
@@ -35,12 +36,12 @@ loop-next-init c =
 
 pub look_at-requires-clause-there : goal.look_at-requires-clause-there
 look_at-requires-clause-there c =
-    entry_within c.loop-next.reached c.loop-next.next c.in_ok-current.current c.in_ok-current.path.items c.in_ok-current.ensures c.loop-next.self c.loop-next.invariant.reached
+    entry_within c.loop-next.reached c.loop-next.next c.in_ok-entry.entry c.in_ok-entry.ensures c.loop-next.self c.loop-next.invariant.reached
 
 pub look_at-requires-clause-narrow : goal.look_at-requires-clause-narrow
 look_at-requires-clause-narrow c =
-    let e : Listed = record { term = tree_at c.loop-next.self c.in_ok-current.current; path = c.in_ok-current.path.items } in
-    let there = entry_at c.loop-next.reached c.loop-next.next c.in_ok-current.current c.in_ok-current.path.items c.in_ok-current.ensures c.loop-next.self in
+    let e : Listed = listed c.loop-next.self c.in_ok-entry.entry in
+    let there = entry_at c.loop-next.reached c.loop-next.next c.in_ok-entry.entry c.in_ok-entry.ensures c.loop-next.self in
     c.paths_keep_narrow.ensures e.path (tree_at c.args.self.now c.args.id) e.term
     (c.loop-next.invariant.follow e (in_of_get (listed_at c.loop-next.self c.loop-next.reached.list.items) c.loop-next.next e there)) c.requires.narrow
 
@@ -52,12 +53,12 @@ loop-next-preserved c =
     let i = c.loop-next.invariant in
     let limit = c.max.result in
     let t = tree_at c.args.self.now c.args.id in
-    let e : Listed = record { term = tree_at c.loop-next.self c.in_ok-current.current; path = c.in_ok-current.path.items } in
+    let e : Listed = listed c.loop-next.self c.in_ok-entry.entry in
     let found = listed_at c.loop-next.self c.loop-next.reached.list.items in
     let new = listed_at c.look_at.new.self c.look_at.new.reached.list.items in
     let adds : Adds limit c.args.size (AreCandidates c.args.trs.now.rules c.args.depth c.args.size (e ∷ [])) c.loop-next.self c.look_at.new.self c.loop-next.reached c.look_at.new.reached =
-    rw (c.in_ok-by_root.ensures, c.deref.ensures.value) at c.in_ok-look_at.ensures.adds in
-    let there = entry_at c.loop-next.reached c.loop-next.next c.in_ok-current.current c.in_ok-current.path.items c.in_ok-current.ensures c.loop-next.self in
+    rw c.in_ok-by_root.ensures at c.in_ok-look_at.ensures.adds in
+    let there = entry_at c.loop-next.reached c.loop-next.next c.in_ok-entry.entry c.in_ok-entry.ensures c.loop-next.self in
     let below : c.loop-next.next < length found = slice_get_within found c.loop-next.next e there in
     let old = length_listed c.loop-next.self c.loop-next.reached.list.items in
     let now = length_listed c.look_at.new.self c.look_at.new.reached.list.items in

@@ -1,7 +1,9 @@
 use Rattle.std.proofs.Common.{◌≤◌, ◌+◌, ◌-◌, ◌*◌, take, length}
 use Rattle.term_pool.specs.Pooled.{Extends, tree_at}
 use Rattle.term_pool.specs.Reach.{AreCandidates}
-use Rattle.term_pool.specs.Reaching.{IsReached, listed_at, most_ids, ListsMore}
+use Rattle.term_pool.specs.Reached.{IsReached}
+use Rattle.term_pool.specs.ListedIds.{listed_at}
+use Rattle.term_pool.specs.Reaching.{most_ids, ListsMore}
 use Rattle.term_pool.proofs.FollowLaws.{AllFollow}
 use Rattle.term_pool.proofs.ListingLaws.{start_of}
 use Rattle.term_pool.proofs.pools.Pool.reach.Given as goal

@@ -1,6 +1,6 @@
 use Rattle.std.proofs.Common.{◌∙◌, ◌++◌, ◌∷◌, [], ap}
 use Rattle.term_pool.proofs.ReachedIds.{begins_with}
-use Rattle.term_pool.proofs.reaching.Reached.new.Goals as goal
+use Rattle.term_pool.proofs.reached.Reached.new.Goals as goal
 
 pub returns : goal.returns
 returns c =
