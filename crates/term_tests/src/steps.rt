@@ -129,11 +129,10 @@ fn a_term_is_no_larger_than_the_limit(rt: HostRuntime) -> Result<(), Fail> {
     Ok(())
 }
 
-/// A long branch of the binary symbol 2, with a long branch of the unary symbol 1 at each of its
-/// nodes.
-fn large(alloc: Global) -> Result<Term, OutOfMemory> {
+/// A branch of the binary symbol 2, with a branch of 499 nodes at each of its nodes.
+fn large(alloc: Global, branches: u32) -> Result<Term, OutOfMemory> {
     let mut made = term(alloc, 0, [])?;
-    for _ in 0..60 {
+    for _ in 0..branches {
         let branch = tower(alloc, 1, 498, term(alloc, 0, [])?)?;
         made = term(alloc, 2, [made, branch])?;
     }
@@ -153,7 +152,37 @@ fn long_paths_are_followed(rt: HostRuntime) -> Result<(), Fail> {
     let alloc = rt.alloc();
     let start = term(alloc, 0, [])?;
     assert_eq!(rt; nodes(alloc, &start, 100_000, 0)?, 1);
-    assert_eq!(rt; nodes(alloc, &large(alloc)?, 20_000, 60)?, 30_001);
+    assert_eq!(rt; nodes(alloc, &large(alloc, 60)?, 20_000, 60)?, 30_001);
+    Ok(())
+}
+
+/// The nodes after so many steps by `p(x, y) -> x`, with the symbol 2 for `p`, below the root.
+fn cut(alloc: Global, branches: u32, steps: u32) -> Result<Result<u64, PathFault>, Fail> {
+    let left = term(alloc, 2, [Term::Var(0), Term::Var(1)])?;
+    let trs = one_rule(
+        alloc,
+        Vec::from_array(alloc, [0, 1, 2])?,
+        left,
+        Term::Var(0),
+    )?;
+    let start = large(alloc, branches)?;
+    let path = repeated(alloc, steps, 1)?;
+    Ok(run_path(alloc, &trs, &start, &path).map(|end| end.size()))
+}
+
+#[test]
+fn the_start_of_a_path_may_pass_the_limits(rt: HostRuntime) -> Result<(), Fail> {
+    let alloc = rt.alloc();
+    for (branches, steps, want) in [
+        (132, 0, Ok(66_001)),
+        (132, 1, Ok(65_501)),
+        (132, 131, Ok(501)),
+        (132, 132, Err(PathFault::At(131, StepFault::NoMatch))),
+        (133, 1, Err(PathFault::At(0, StepFault::TooLarge))),
+    ] {
+        let found = cut(alloc, branches, steps)?;
+        assert_eq!(rt; found, want, "after {steps} steps");
+    }
     Ok(())
 }
 
