@@ -19,7 +19,8 @@ pub(crate) fn extra_variable(alloc: Global, rule: &Rule) -> Result<Option<u32>, 
 }
 
 fn collect_variables(t: &Term, known: &mut BTreeSet<u32>) -> Result<(), OutOfMemory>
-    ensures { OnOk result ((v : ℕ) → contains nat_cmp known.new v ≡ (contains nat_cmp known.old v || has_var v (tree t.now))) }
+    ensures { OnOk result ((v : ℕ) → contains nat_cmp known.new v
+        ≡ (contains nat_cmp known.old v || has_var v (tree t.now))) }
 {
     match t {
         Term::Var(v) => {

@@ -31,9 +31,11 @@ impl Term {
     /// The term with another subterm at a position. (Baader and Nipkow, definition 3.1.3.)
     #[tactic(auto, using(crate::proofs::Absent::no_position))]
     pub fn replace(&self, alloc: Global, p: &Position, by: &Term) -> Result<Term, ReplaceFault>
-        ensures answer { Gives ReplaceFault.OutOfMemory result (replacement p.now (tree self.now) (tree by.now)) }
+        ensures answer { Gives ReplaceFault.OutOfMemory result
+            (replacement p.now (tree self.now) (tree by.now)) }
         // The answer is `NoPosition` exactly where `at` gives `None`.
-        ensures no_position { replacement p.now (tree self.now) (tree by.now) ≡ Err ReplaceFault.NoPosition ↔ subterm_at p.now (tree self.now) ≡ None }
+        ensures no_position { replacement p.now (tree self.now) (tree by.now)
+            ≡ Err ReplaceFault.NoPosition ↔ subterm_at p.now (tree self.now) ≡ None }
     {
         let mut made = self.copy(alloc)?;
         if !made.put(p, by.copy(alloc)?) {
@@ -49,7 +51,8 @@ impl Term {
     /// Puts another subterm at a position, in place, and says whether the position is in the term.
     /// It takes no memory, and as many steps as the position has places.
     pub fn put(&mut self, p: &Position, by: Term) -> bool
-        ensures put { replaced_at p.now (tree self.old) (tree by) ≡ cond result (Some (tree self.new)) None }
+        ensures put { replaced_at p.now (tree self.old) (tree by)
+            ≡ cond result (Some (tree self.new)) None }
         ensures no_position { result ≡ false ↔ subterm_at p.now (tree self.old) ≡ None }
         ensures kept { result ≡ false → self.new ≡ self.old }
     {
@@ -58,7 +61,8 @@ impl Term {
 }
 
 fn put_at(term: &mut Term, places: &[u8], by: Term) -> bool
-    ensures put { replaced_at places.now (tree term.old) (tree by) ≡ cond result (Some (tree term.new)) None }
+    ensures put { replaced_at places.now (tree term.old) (tree by)
+        ≡ cond result (Some (tree term.new)) None }
     ensures kept { result ≡ false → term.new ≡ term.old }
 {
     match places {

@@ -56,10 +56,13 @@ impl Trs {
     pub fn new(arities: Vec<u8>, rules: Vec<Rule>) -> Result<Trs, TrsFault>
         ensures system { IfOk result (λ s. s ≡ system arities.items rules.items) }
         ensures within { IfOk result (λ s. IsValid s) }
-        ensures faultless { IfOk result (λ _. (fault : Fault) → HasSystemFault (system arities.items rules.items) fault → ⊥) }
-        ensures fault { IfErr result (λ fault. fault ≢ TrsFault.OutOfMemory → IsFirstFault (system arities.items rules.items) fault) }
+        ensures faultless { IfOk result (λ _. (fault : Fault)
+            → HasSystemFault (system arities.items rules.items) fault → ⊥) }
+        ensures fault { IfErr result (λ fault. fault ≢ TrsFault.OutOfMemory
+            → IsFirstFault (system arities.items rules.items) fault) }
         // What is a system within the limits has no fault.
-        ensures only { IsValid (system arities.items rules.items) → IsOkUnless result TrsFault.OutOfMemory }
+        ensures only { IsValid (system arities.items rules.items)
+            → IsOkUnless result TrsFault.OutOfMemory }
     {
         if !are_within_limits(&arities, &rules) {
             return Err(TrsFault::TooMany);

@@ -59,7 +59,8 @@ fn add_var(v: u32, seen: &mut BTreeSet<u32>, vars: &mut Vec<u32>) -> Result<(), 
 
 /// Whether each variable of a part occurs at most once in the whole.
 fn has_each_once(whole: &Term, part: &Term) -> bool
-    ensures { IsTrue result ↔ ((v : ℕ) → IsTrue (occurs v (tree part.now)) → occurrences v (tree whole.now) ≤ 1) }
+    ensures { IsTrue result ↔ ((v : ℕ) → IsTrue (occurs v (tree part.now))
+        → occurrences v (tree whole.now) ≤ 1) }
 {
     match part {
         Term::Var(v) => count_var(whole, *v) <= 1,
