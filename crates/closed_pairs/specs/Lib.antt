@@ -1,0 +1,5 @@
+pub mod Joined
+pub mod LinearRules
+pub mod ParallelClosed
+pub mod StronglyClosed
+pub mod Laws

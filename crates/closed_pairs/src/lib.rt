@@ -1,0 +1,17 @@
+//! Confluence by critical peaks: joined in a terminating system, closed by parallel steps in a
+//! left-linear one, joined strongly in a linear one. Each criterion has a file of its own.
+//! (Huet, Confluent reductions, 1980; Baader and Nipkow, Term Rewriting and All That, chapter 6.)
+#![tactic(auto)]
+
+mod joined;
+mod laws;
+mod linear;
+mod parallel;
+mod strong;
+
+pub use joined::{join_check, newman_check};
+pub use laws::{conditions_answer_once, joined_peaks_conclude, parallel_closed_peaks_conclude, strongly_closed_peaks_conclude};
+pub use linear::{left_linear_check, linear_check};
+pub use parallel::{parallel_check, parallel_closed_check};
+pub use rewrite_core::{Join, Peak};
+pub use strong::{Four, strong_check, strongly_closed_check};

@@ -1,0 +1,38 @@
+-- Peaks that are decreasing by the ranks of rules. (Van Oostrom, Confluence by decreasing diagrams, 2008: the rule labelling.)
+use Rattle.std.specs.Prelude.{ℕ, List, length, map, zip}
+use Rattle.trs_defs.specs.System.{RewriteRule, System}
+use Rattle.trs_defs.specs.Path.{PlacedRule}
+use Rattle.abstract_confluence.specs.RanksFit.{RanksFit}
+use Rattle.confluence_theory.specs.RuleRanks.{rank_of}
+use Rattle.rewrite_core.specs.declared.refusals.StepRefused.TheVariants.{Labels}
+use Rattle.rewrite_core.specs.PlacedPeak.{PlacedPeak}
+use Rattle.rewrite_core.specs.PathsOfJoin.{PathsOfJoin}
+use Rattle.rewrite_core.specs.Check.{Check, Needs, each, has_length, ◌>>=◌, ◌>>◌}
+use Rattle.crit_pairs.specs.PeaksCheck.{ListsCriticalPeaks}
+use Rattle.closed_pairs.specs.Joined.{joins}
+use Rattle.closed_pairs.specs.LinearRules.{are_linear}
+
+-- the ranks of the rules along a path
+abbrev pub ranks_along : List ℕ → List PlacedRule → List ℕ
+ranks_along ranks path = map (λ s. rank_of ranks s.rule) path
+
+-- item n joins the peak, and the ranks along both of its paths fit those of the peak's rules
+abbrev pub joins_decreasing : List RewriteRule → List ℕ → ℕ → PlacedPeak → PathsOfJoin → Check (Unit {0})
+joins_decreasing rules ranks n peak join = do
+  joins rules n peak join
+  Needs (RanksFit (rank_of ranks peak.inner) (rank_of ranks peak.outer) (ranks_along ranks join.left)) (Labels n 0)
+  Needs (RanksFit (rank_of ranks peak.outer) (rank_of ranks peak.inner) (ranks_along ranks join.right)) (Labels n 1)
+
+-- there is a rank for each rule, and an item for each peak, which shows that it is decreasing
+abbrev pub are_decreasing : List RewriteRule → List PlacedPeak → List ℕ → List PathsOfJoin → Check (Unit {0})
+are_decreasing rules peaks ranks items = do
+  has_length (length rules) ranks
+  has_length (length peaks) items
+  each (λ n item. joins_decreasing rules ranks n item.0 item.1) 0 (zip peaks items)
+
+-- the rules are linear, and each critical peak is decreasing
+abbrev pub label_conditions : System → List ℕ → List PathsOfJoin → Check (Unit {0})
+label_conditions system ranks items = do
+  are_linear system.rules
+  peaks ← ListsCriticalPeaks system.rules
+  are_decreasing system.rules peaks ranks items
