@@ -6,13 +6,14 @@ use native.Mathlib.Decide.{dec_lt}
 use Rattle.trs_defs.specs.Member.{In}
 use Rattle.trs_defs.specs.Tree.{Tree, Trees, var, app, nil, cons, trees, items, trees_items}
 use Rattle.trs_defs.specs.Variable.{has_var, some_has_var, IsVariable}
+use Rattle.trs_defs.specs.Renaming.{shifted}
 use Rattle.trs_defs.specs.Substitution.{apply, apply_all}
 use Rattle.trs_defs.specs.Position.{subterm_at, with_argument, replaced_at}
 use Rattle.trs_defs.specs.System.{RewriteRule, System, IsSystem, Numbered}
 use Rattle.trs_defs.specs.Step.{RootStep}
 use Rattle.confluence_theory.specs.Overlap.{Overlap, OverlapOne, overlap_here, overlap_deep, overlap_first, overlap_later}
 use Rattle.confluence_theory.specs.Peak.{Peak, HasPeak, Covers}
-use Rattle.confluence_theory.specs.CriticalPeak.{shifted, Overlaps, HasCriticalPeaks}
+use Rattle.confluence_theory.specs.CriticalPeak.{Overlaps, HasCriticalPeaks}
 use Rattle.trs_defs.proofs.Substitutions.{apply_apply, same_instance, same_instances}
 use Rattle.trs_defs.proofs.VariableLaws.{has_var_first, has_var_rest}
 

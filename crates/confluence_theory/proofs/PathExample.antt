@@ -2,13 +2,14 @@
 use Rattle.std.specs.Prelude.{◌≡◌, ℕ, [], ◌∷◌, List}
 use Rattle.std.proofs.Common.{refl, inl, arith}
 use Rattle.trs_defs.specs.Tree.{Tree, var, app, nil, cons}
+use Rattle.trs_defs.specs.Renaming.{shifted}
 use Rattle.trs_defs.specs.Substitution.{apply}
 use Rattle.trs_defs.specs.Path.{PlacedRule, StepsAt, Follows}
 use Rattle.confluence_theory.specs.ParallelPositions.{ArePairwiseParallel}
 use Rattle.confluence_theory.specs.ParallelStep.{ParallelStepBy}
 use Rattle.abstract_confluence.specs.LabelledPath.{LabelledPath}
 use Rattle.confluence_theory.specs.RuleRanks.{NumberedStep}
-use Rattle.confluence_theory.specs.CriticalPeak.{shifted, Overlaps}
+use Rattle.confluence_theory.specs.CriticalPeak.{Overlaps}
 use Rattle.confluence_theory.proofs.FollowedPaths.{numbered_path}
 use Rattle.confluence_theory.proofs.ParallelPaths.{parallel_path}
 use Rattle.confluence_theory.proofs.CriticalCover.{overlap_unifies}

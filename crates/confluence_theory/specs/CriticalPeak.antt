@@ -1,17 +1,14 @@
 -- Critical peaks. (Baader and Nipkow, section 6.2.)
-use Rattle.std.specs.Prelude.{◌≡◌, ◌≢◌, ◌<◌, ℕ, ◌+◌, Bool, ◌||◌, List, [], Some, IsTrue, slice_get}
+use Rattle.std.specs.Prelude.{◌≡◌, ◌≢◌, ◌<◌, ℕ, Bool, ◌||◌, List, [], Some, IsTrue, slice_get}
 use Rattle.trs_defs.specs.Member.{In}
 use Rattle.trs_defs.specs.Tree.{Tree, var}
 use Rattle.trs_defs.specs.Variable.{has_var, IsVariable}
 use Rattle.trs_defs.specs.Substitution.{apply}
+use Rattle.trs_defs.specs.Renaming.{shifted}
 use Rattle.trs_defs.specs.Position.{subterm_at, replaced_at}
 use Rattle.trs_defs.specs.System.{RewriteRule}
 use Rattle.trs_defs.specs.Unifier.{IsMostGeneralUnifier}
 use Rattle.confluence_theory.specs.Peak.{Peak}
-
--- k more on each variable
-abbrev pub shifted : ℕ → Tree → Tree
-shifted k t = apply (λ v. var (k + v)) t
 
 -- whether the variable occurs in the peak's top, left or right
 abbrev pub occurs_in_peak : ℕ → Peak → Bool

@@ -8,6 +8,7 @@ ghost use Rattle.trs_defs.specs.Member.{In};
 ghost use Rattle.trs_defs.specs.Tree.{Tree};
 ghost use Rattle.trs_defs.specs.Variable.{has_var};
 ghost use Rattle.trs_defs.specs.Substitution.{apply};
+ghost use Rattle.trs_defs.specs.Renaming.{shifted};
 ghost use Rattle.trs_defs.specs.System.{System, IsSystem, RewriteRule};
 ghost use Rattle.trs_defs.specs.Joinable.{IsJoinable};
 ghost use Rattle.trs_defs.specs.Step.{Step};
@@ -19,7 +20,7 @@ ghost use Rattle.confluence_theory.specs.ParallelStep.{ParallelStepBy};
 ghost use Rattle.confluence_theory.specs.Linear.{AreLeftLinear, AreRightLinear};
 ghost use Rattle.confluence_theory.specs.Peak.{Peak, Covers};
 ghost use Rattle.confluence_theory.specs.RuleRanks.{IsDecreasing, NumberedStep};
-ghost use Rattle.confluence_theory.specs.CriticalPeak.{shifted, Overlaps, HasCriticalPeaks};
+ghost use Rattle.confluence_theory.specs.CriticalPeak.{Overlaps, HasCriticalPeaks};
 ghost use Rattle.confluence_theory.specs.ParallelPositions.{ArePairwiseParallel};
 
 /// The critical pair lemma's first half (Baader and Nipkow, section 6.2): a list with all critical

@@ -20,3 +20,4 @@ pub mod Answers
 pub mod Every
 pub mod Unifier
 pub mod UniqueNormalForms
+pub mod Renaming
