@@ -1,0 +1,14 @@
+-- The critical peaks of a system, as a condition of a step of a proof.
+use Rattle.std.specs.Prelude.{List, Result, Ok, Err}
+use Rattle.trs_defs.specs.System.{RewriteRule}
+use Rattle.rewrite_core.specs.declared.refusals.StepRefused.{StepRefused}
+use Rattle.rewrite_core.specs.declared.refusals.StepRefused.TheVariants.{PeaksTooLarge, PeaksTooMany}
+use Rattle.rewrite_core.specs.PlacedPeak.{PlacedPeak}
+use Rattle.crit_pairs.specs.PeakList.{ListsPeaks}
+use Rattle.crit_pairs.specs.declared.faults.PeakFault.TheVariants as fault
+
+-- the critical peaks must keep the limits, and their list is the value
+pub data ListsCriticalPeaks (rules : List RewriteRule) : Result (List PlacedPeak) StepRefused → Type 0 where
+  listed : (peaks : List PlacedPeak) → ListsPeaks rules (Ok peaks) → ListsCriticalPeaks rules (Ok peaks)
+  too_large : ListsPeaks rules (Err fault.TooLarge) → ListsCriticalPeaks rules (Err PeaksTooLarge)
+  too_many : ListsPeaks rules (Err fault.TooMany) → ListsCriticalPeaks rules (Err PeaksTooMany)
