@@ -1,0 +1,2 @@
+pub mod PairsOfLists
+pub mod Leftward
