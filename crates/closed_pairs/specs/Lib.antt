@@ -4,3 +4,4 @@ pub mod LinearRules
 pub mod Leftward
 pub mod ParallelClosed
 pub mod StronglyClosed
+pub mod Laws

@@ -8,6 +8,7 @@ use Rattle.rewrite_core.specs.declared.refusals.StepRefused.TheVariants.{NotPara
 use Rattle.rewrite_core.specs.PlacedPeak.{PlacedPeak}
 use Rattle.rewrite_core.specs.Check.{Check, Needs, each, has_length, ◌>>=◌, ◌>>◌}
 use Rattle.rewrite_core.specs.PathCheck.{Runs}
+use Rattle.crit_pairs.specs.PeaksCheck.{ListsCriticalPeaks}
 use Rattle.closed_pairs.specs.LinearRules.{are_left_linear}
 
 -- p stands before q in preorder
@@ -49,3 +50,10 @@ abbrev pub closes_left_linear : List RewriteRule → List PlacedPeak → List (L
 closes_left_linear rules peaks items = do
   are_left_linear rules
   are_parallel_closed rules peaks items
+
+-- the rules are left-linear, and each critical peak is closed by a parallel step
+abbrev pub parallel_conditions : System → List (List PlacedRule) → Check (Unit {0})
+parallel_conditions system items = do
+  are_left_linear system.rules
+  peaks ← ListsCriticalPeaks system.rules
+  are_parallel_closed system.rules peaks items

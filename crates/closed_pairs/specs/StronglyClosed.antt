@@ -7,7 +7,9 @@ use Rattle.trs_defs.specs.Path.{PlacedRule, placed_code}
 use Rattle.rewrite_core.specs.declared.refusals.StepRefused.TheVariants.{TooLong}
 use Rattle.rewrite_core.specs.PlacedPeak.{PlacedPeak}
 use Rattle.rewrite_core.specs.Check.{Check, Needs, each, has_length, ◌>>=◌, ◌>>◌}
+use Rattle.crit_pairs.specs.PeaksCheck.{ListsCriticalPeaks}
 use Rattle.closed_pairs.specs.Ends.{ends_meet}
+use Rattle.closed_pairs.specs.LinearRules.{are_linear}
 
 -- paths from the left and the right of a peak to a term u, and from the right and the left to a term v
 pub record FourPaths : Type 0 where
@@ -41,3 +43,16 @@ abbrev pub are_strongly_closed : List RewriteRule → List PlacedPeak → List F
 are_strongly_closed rules peaks items = do
   has_length (length peaks) items
   each (λ n item. joins_strongly rules n item.0 item.1) 0 (zip peaks items)
+
+-- the rules are linear, and the peaks are joined strongly
+abbrev pub closes_linear : List RewriteRule → List PlacedPeak → List FourPaths → Check (Unit {0})
+closes_linear rules peaks items = do
+  are_linear rules
+  are_strongly_closed rules peaks items
+
+-- the rules are linear, and each critical peak is joined strongly
+abbrev pub strong_conditions : System → List FourPaths → Check (Unit {0})
+strong_conditions system items = do
+  are_linear system.rules
+  peaks ← ListsCriticalPeaks system.rules
+  are_strongly_closed system.rules peaks items

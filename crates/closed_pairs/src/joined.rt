@@ -1,10 +1,20 @@
 ghost use Rattle.rewrite_core.specs.Check.{Answers};
-ghost use Rattle.closed_pairs.specs.Joined.{joins, are_joined};
+ghost use Rattle.closed_pairs.specs.Joined.{joins, are_joined, newman_conditions};
 
 use crate::ends::{ItemPath, meet};
+use crit_pairs::peaks_of;
 use rewrite_core::{CheckFault, Join, Peak, StepRefused};
 use std::alloc::Global;
 use trs_core::Trs;
+
+/// Sees that the paths join each critical peak. They may refuse for `PeaksTooLarge`,
+/// `PeaksTooMany`, and what `join_check` does.
+pub fn newman_check(alloc: Global, trs: &Trs, joins: &[Join]) -> Result<(), CheckFault>
+    ensures answers { Answers (newman_conditions trs.now joins.now) result }
+{
+    let peaks = peaks_of(alloc, trs)?;
+    join_check(alloc, trs, &peaks, joins)
+}
 
 /// Sees that there is an item for each peak, and that its paths join the peak.
 pub fn join_check(

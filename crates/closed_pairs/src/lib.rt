@@ -5,12 +5,15 @@
 
 mod ends;
 mod joined;
+mod laws;
 mod linear;
 mod parallel;
 mod strong;
 
-pub use joined::{join_check, peak_is_joined};
+pub use joined::{join_check, newman_check, peak_is_joined};
+pub use laws::{conditions_answer_once, joined_peaks_conclude};
+pub use laws::{parallel_closed_peaks_conclude, strongly_closed_peaks_conclude};
 pub use linear::{left_linear_check, linear_check};
-pub use parallel::parallel_check;
+pub use parallel::{parallel_check, parallel_closed_check};
 pub use rewrite_core::{Join, Peak};
-pub use strong::{Four, strong_check};
+pub use strong::{Four, strong_check, strongly_closed_check};

@@ -1,22 +1,56 @@
 ghost use Rattle.std.specs.Prelude.{◌↔◌, IsTrue};
 ghost use Rattle.rewrite_core.specs.Check.{Answers};
-ghost use Rattle.closed_pairs.specs.ParallelClosed.{paths_of, IsParallel, closes_in_parallel, are_parallel_closed};
+ghost use Rattle.closed_pairs.specs.ParallelClosed.{paths_of, IsParallel};
+ghost use Rattle.closed_pairs.specs.ParallelClosed.{closes_in_parallel, are_parallel_closed};
+ghost use Rattle.closed_pairs.specs.ParallelClosed.{closes_left_linear, parallel_conditions};
 ghost use Rattle.closed_pairs.specs.Leftward.{IsLeftOf};
 
 use crate::ends::{ItemPath, end_of, run, same_ends};
+use crate::left_linear_check;
+use crit_pairs::peaks_of;
 use rewrite_core::{CheckFault, PathStep, Peak, StepRefused};
 use std::alloc::Global;
 use trs_core::Trs;
 
-/// Sees that there is an item for each peak, which is one parallel step from its left side to its
-/// right one.
+/// Sees that the system is left-linear, and that one parallel step leads from the left side of each
+/// critical peak to its right one.
+pub fn parallel_closed_check(
+    alloc: Global,
+    trs: &Trs,
+    steps: &[Vec<PathStep>],
+) -> Result<(), CheckFault>
+    ensures answers { Answers (parallel_conditions trs.now (paths_of steps.now)) result }
+{
+    left_linear_check(trs)?;
+    let peaks = peaks_of(alloc, trs)?;
+    peaks_are_closed(alloc, trs, &peaks, steps)
+}
+
+/// Sees that the system is left-linear, and that there is an item for each peak, which is one
+/// parallel step from its left side to its right one.
 pub fn parallel_check(
     alloc: Global,
     trs: &Trs,
     peaks: &[Peak],
     steps: &[Vec<PathStep>],
 ) -> Result<(), CheckFault>
-    ensures answers { Answers (are_parallel_closed trs.now.rules peaks.now (paths_of steps.now)) result }
+    ensures answers { Answers
+        (closes_left_linear trs.now.rules peaks.now (paths_of steps.now)) result }
+{
+    left_linear_check(trs)?;
+    peaks_are_closed(alloc, trs, peaks, steps)
+}
+
+/// Sees that there is an item for each peak, which is one parallel step from its left side to its
+/// right one.
+fn peaks_are_closed(
+    alloc: Global,
+    trs: &Trs,
+    peaks: &[Peak],
+    steps: &[Vec<PathStep>],
+) -> Result<(), CheckFault>
+    ensures { Answers
+        (are_parallel_closed trs.now.rules peaks.now (paths_of steps.now)) result }
 {
     if steps.len() != peaks.len() {
         return Err(CheckFault::Refused(StepRefused::Count(

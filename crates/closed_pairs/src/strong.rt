@@ -1,8 +1,12 @@
 ghost use Rattle.trs_core.specs.View.{tree};
 ghost use Rattle.rewrite_core.specs.Check.{Answers};
-ghost use Rattle.closed_pairs.specs.StronglyClosed.{half_joins, joins_strongly, are_strongly_closed};
+ghost use Rattle.closed_pairs.specs.StronglyClosed.{half_joins, joins_strongly};
+ghost use Rattle.closed_pairs.specs.StronglyClosed.{are_strongly_closed, closes_linear};
+ghost use Rattle.closed_pairs.specs.StronglyClosed.{strong_conditions};
 
 use crate::ends::{ItemPath, meet};
+use crate::linear_check;
+use crit_pairs::peaks_of;
 use rewrite_core::{CheckFault, PathStep, Peak, StepRefused};
 use std::alloc::Global;
 use std::marker::Model;
@@ -29,14 +33,36 @@ impl Model for Four {
         right_v = a.right_v.items; left_v = a.left_v.items } };
 }
 
-/// Sees that there is an item for each peak, which joins it strongly.
+/// Sees that the system is linear, and that the paths join each critical peak strongly.
+pub fn strongly_closed_check(alloc: Global, trs: &Trs, fours: &[Four]) -> Result<(), CheckFault>
+    ensures answers { Answers (strong_conditions trs.now fours.now) result }
+{
+    linear_check(trs)?;
+    let peaks = peaks_of(alloc, trs)?;
+    peaks_are_joined_strongly(alloc, trs, &peaks, fours)
+}
+
+/// Sees that the system is linear, and that there is an item for each peak, which joins it strongly.
 pub fn strong_check(
     alloc: Global,
     trs: &Trs,
     peaks: &[Peak],
     fours: &[Four],
 ) -> Result<(), CheckFault>
-    ensures answers { Answers (are_strongly_closed trs.now.rules peaks.now fours.now) result }
+    ensures answers { Answers (closes_linear trs.now.rules peaks.now fours.now) result }
+{
+    linear_check(trs)?;
+    peaks_are_joined_strongly(alloc, trs, peaks, fours)
+}
+
+/// Sees that there is an item for each peak, which joins it strongly.
+fn peaks_are_joined_strongly(
+    alloc: Global,
+    trs: &Trs,
+    peaks: &[Peak],
+    fours: &[Four],
+) -> Result<(), CheckFault>
+    ensures { Answers (are_strongly_closed trs.now.rules peaks.now fours.now) result }
 {
     if fours.len() != peaks.len() {
         return Err(CheckFault::Refused(StepRefused::Count(
