@@ -2,7 +2,9 @@ ghost use Rattle.closed_pairs.specs.Laws.{JoinedPeaksConclude, ParallelClosedPea
 ghost use Rattle.closed_pairs.specs.Laws.{StronglyClosedPeaksConclude, JoinsAnswerOnce};
 ghost use Rattle.closed_pairs.specs.Laws.{ParallelStepsAnswerOnce, StrongJoinsAnswerOnce};
 
-use confluence_theory::{joined_peaks, parallel_closed_peaks, parallel_paths, strongly_closed_peaks};
+use confluence_theory::{
+    joined_peaks, parallel_closed_peaks, parallel_paths, strongly_closed_peaks,
+};
 use crit_pairs::listed_peaks_cover;
 
 /// A law, with nothing to run: a terminating system is confluent if each critical peak is joined.
@@ -32,11 +34,3 @@ pub fn strongly_closed_peaks_conclude()
     listed_peaks_cover();
     strongly_closed_peaks();
 }
-
-/// A law, with nothing to run: the conditions on joined peaks, on parallel steps and on strongly
-/// joined peaks have at most one answer each.
-pub fn conditions_answer_once()
-    ensures joins { JoinsAnswerOnce }
-    ensures parallel { ParallelStepsAnswerOnce }
-    ensures strong { StrongJoinsAnswerOnce }
-{}
