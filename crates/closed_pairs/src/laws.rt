@@ -5,7 +5,7 @@ ghost use Rattle.closed_pairs.specs.Laws.{ParallelStepsAnswerOnce, StrongJoinsAn
 use confluence_theory::{
     joined_peaks, parallel_closed_peaks, parallel_paths, strongly_closed_peaks,
 };
-use crit_pairs::listed_peaks_cover;
+use crit_pairs::{listed_peaks_cover, peaks_are_listed_once};
 
 /// A law, with nothing to run: a terminating system is confluent if each critical peak is joined.
 /// (Knuth and Bendix; Baader and Nipkow, section 6.2.)
@@ -33,4 +33,14 @@ pub fn strongly_closed_peaks_conclude()
 {
     listed_peaks_cover();
     strongly_closed_peaks();
+}
+
+/// A law, with nothing to run: the conditions on joined peaks, on parallel steps and on strongly
+/// joined peaks have at most one answer each.
+pub fn conditions_answer_once()
+    ensures joins { JoinsAnswerOnce }
+    ensures parallel { ParallelStepsAnswerOnce }
+    ensures strong { StrongJoinsAnswerOnce }
+{
+    peaks_are_listed_once();
 }
