@@ -1,6 +1,7 @@
 -- What the conditions say of the critical peaks.
-use Rattle.std.specs.Prelude.{◌≡◌, ◌≤◌, ℕ, List, [], ◌∷◌, length, Ok}
+use Rattle.std.specs.Prelude.{◌≤◌, ℕ, List, [], ◌∷◌, length, map, Ok}
 use Rattle.std.proofs.Common.{sym, subst, arith}
+use Rattle.trs_defs.specs.Member.{In}
 use Rattle.trs_defs.specs.Tree.{Tree}
 use Rattle.trs_defs.specs.System.{RewriteRule, System, IsSystem}
 use Rattle.trs_defs.specs.Step.{Step}
@@ -10,18 +11,22 @@ use Rattle.trs_defs.specs.Claims.{IsTerminating, IsConfluent}
 use Rattle.trs_defs.specs.Path.{PlacedRule, Follows}
 use Rattle.trs_defs.proofs.Places.{derivation_of_follows}
 use Rattle.abstract_confluence.specs.Confluence.{JoinsStrongly}
+use Rattle.confluence_theory.specs.Linear.{AreLeftLinear, AreRightLinear}
 use Rattle.confluence_theory.specs.ParallelStep.{ParallelStepBy}
 use Rattle.confluence_theory.specs.ParallelPositions.{ArePairwiseParallel}
-use Rattle.confluence_theory.specs.Peak.{Peak}
+use Rattle.confluence_theory.specs.Peak.{Peak, Covers}
 use Rattle.rewrite_core.specs.PlacedPeak.{PlacedPeak}
 use Rattle.rewrite_core.specs.PathsOfJoin.{PathsOfJoin}
 use Rattle.rewrite_core.specs.Check.{goes_on, holds}
 use Rattle.rewrite_core.specs.PathCheck.{followed}
-use Rattle.closed_pairs.specs.Ends.{ends_meet}
+use Rattle.crit_pairs.specs.PlainPeak.{plain}
+use Rattle.crit_pairs.specs.PeaksCheck.{listed}
+use Rattle.crit_pairs.specs.Laws.{ListedPeaksCover}
 use Rattle.closed_pairs.specs.Joined.{joins}
 use Rattle.closed_pairs.specs.ParallelClosed.{closes_in_parallel}
 use Rattle.closed_pairs.specs.StronglyClosed.{FourPaths, half_joins, joins_strongly}
-use Rattle.closed_pairs.proofs.Passing.{HasPassed}
+use Rattle.closed_pairs.specs.Laws.{JoinedPeaksConclude, ParallelClosedPeaksConclude, StronglyClosedPeaksConclude}
+use Rattle.closed_pairs.proofs.Passing.{HasPassed, each_passed, left_linear, both_left_linear, both_right_linear}
 
 module _ (rules : List RewriteRule) where
   joinable : (n : ℕ) (p : PlacedPeak) (join : PathsOfJoin) → joins rules n p join (Ok tt) → IsJoinable (Step rules) p.left p.right
@@ -68,3 +73,33 @@ module _ (rules : List RewriteRule) where
   strong_peak peak h =
       subst (λ x. JoinsStrongly (Step rules) x.left x.right × JoinsStrongly (Step rules) x.right x.left) (sym h.is)
       (strong h.number h.placed h.item h.passed)
+
+-- ---- the theorems on covering peaks, at the listed ones
+
+module _ (cover : ListedPeaksCover) where
+  -- Knuth and Bendix's theorem
+  module _ (theorem : (system : System) (peaks : List Peak) → IsSystem system → Covers system.rules peaks
+      → ((peak : Peak) → In peak peaks → IsJoinable (Step system.rules) peak.left peak.right) → IsTerminating system → IsConfluent system) where
+    pub joined_concludes : JoinedPeaksConclude
+    joined_concludes system items valid (goes_on _ _ (listed peaks all) (goes_on _ _ (holds same) h)) =
+        theorem system (map plain peaks) valid (cover system peaks valid all)
+        (λ peak member. joined_peak system.rules peak (each_passed (joins system.rules) 0 peaks items peak same h member))
+
+  -- Huet's theorem on parallel closed systems
+  module _ (theorem : (system : System) (peaks : List Peak) → IsSystem system → AreLeftLinear system.rules → Covers system.rules peaks
+      → ((peak : Peak) → In peak peaks → ParallelStepBy system.rules peak.left peak.right) → IsConfluent system)
+      (by_path : (rules : List RewriteRule) (path : List PlacedRule) (t u : Tree) → ArePairwiseParallel path → Follows rules path t u → ParallelStepBy rules t u) where
+    pub parallel_concludes : ParallelClosedPeaksConclude
+    parallel_concludes system items valid (goes_on _ _ linear (goes_on _ _ (listed peaks all) (goes_on _ _ (holds same) h))) =
+        theorem system (map plain peaks) valid (left_linear system.rules linear) (cover system peaks valid all)
+        (λ peak member. closed_peak system.rules (by_path system.rules) peak (each_passed (closes_in_parallel system.rules) 0 peaks items peak same h member))
+
+  -- Huet's theorem on strongly closed systems
+  module _ (theorem : (system : System) (peaks : List Peak) → IsSystem system → AreLeftLinear system.rules → AreRightLinear system.rules
+      → Covers system.rules peaks
+      → ((peak : Peak) → In peak peaks → JoinsStrongly (Step system.rules) peak.left peak.right × JoinsStrongly (Step system.rules) peak.right peak.left)
+      → IsConfluent system) where
+    pub strong_concludes : StronglyClosedPeaksConclude
+    strong_concludes system items valid (goes_on _ _ linear (goes_on _ _ (listed peaks all) (goes_on _ _ (holds same) h))) =
+        theorem system (map plain peaks) valid (both_left_linear system.rules linear) (both_right_linear system.rules linear) (cover system peaks valid all)
+        (λ peak member. strong_peak system.rules peak (each_passed (joins_strongly system.rules) 0 peaks items peak same h member))

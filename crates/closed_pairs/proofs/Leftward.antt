@@ -1,6 +1,8 @@
 -- Paths whose positions each stand left of the next one are parallel steps, written from the left.
-use Rattle.std.specs.Prelude.{◌≡◌, ◌≢◌, ◌↔◌, ◌<◌, ◌⊎◌, ℕ, ◌+◌, List, [], ◌∷◌, drop, length, slice_get, Some}
-use Rattle.std.proofs.Common.{zero, suc, inl, inr, refl, add-one, arith}
+use Rattle.std.specs.Prelude.{◌≡◌, ◌≢◌, ◌↔◌, ◌<◌, ℕ, ◌+◌, List, [], ◌∷◌, drop, take, length, slice_get, Some, IsTrue}
+use Rattle.std.proofs.Common.{◌≤◌, ◌-◌, zero, suc, inl, inr, get_or, ltb, refl, sym, subst, add-one, arith}
+use Rattle.std.proofs.lemmas.Bool.{ltb-true, lt-ltb}
+use Rattle.std.proofs.lemmas.List.{take_all}
 use Rattle.trs_defs.specs.Path.{PlacedRule}
 use Rattle.confluence_theory.specs.ParallelPositions.{AreParallel, IsParallelToAll, ArePairwiseParallel}
 use Rattle.closed_pairs.specs.Leftward.{IsLeftOf, GoesRight}
@@ -44,7 +46,7 @@ parallel_to_all p t [] h k = (left_parallel p t.place h, tt)
 parallel_to_all p t (u ∷ path) h k =
     (left_parallel p t.place h, parallel_to_all p u path (left_through p t.place u.place h k.0) k.1)
 
-pub pairwise_parallel : (path : List PlacedRule) → GoesRight path → ArePairwiseParallel path
+pairwise_parallel : (path : List PlacedRule) → GoesRight path → ArePairwiseParallel path
 pairwise_parallel [] h = tt
 pairwise_parallel (s ∷ []) h = (tt, tt)
 pairwise_parallel (s ∷ t ∷ path) h = (parallel_to_all s.place t path h.0 h.1, pairwise_parallel (t ∷ path) h.1)
@@ -58,9 +60,6 @@ goes_right : (path : List PlacedRule) → ArePairwiseParallel path → DoAscend 
 goes_right [] h k = tt
 goes_right (s ∷ []) h k = tt
 goes_right (s ∷ t ∷ path) h k = (left_of s.place t.place h.0.0 k.0, goes_right (t ∷ path) h.1 k.1)
-
-pub is_parallel_step : (path : List PlacedRule) → (GoesRight path) ↔ (IsParallel path)
-is_parallel_step path = (λ h. (pairwise_parallel path h, ascends path h), λ h. goes_right path h.0 h.1)
 
 -- ---- two positions, place by place
 
@@ -92,10 +91,15 @@ module _ (p q : List ℕ) (i : ℕ) (agree : (IsLeftOf (drop i p) (drop i q)) �
   pub right_ends : drop i q ≡ [] → IsLeftOf p q → ⊥
   right_ends e h = not_left_of_root (drop i p) (rw e at (agree.1 h))
 
-  pub differ_here : (a b : ℕ) → slice_get p i ≡ Some a → slice_get q i ≡ Some b → a ≢ b → (a < b) ↔ (IsLeftOf p q)
+  differ_here : (a b : ℕ) → slice_get p i ≡ Some a → slice_get q i ≡ Some b → a ≢ b → (a < b) ↔ (IsLeftOf p q)
   differ_here a b e d differ =
       let both = rw (from_place p i a e, from_place q i b d) at agree in
       (λ lt. both.0 (inl lt), λ h. here a b (drop (i + 1) p) (drop (i + 1) q) differ (both.1 h))
+
+  pub differ_by_test : (a b : ℕ) → slice_get p i ≡ Some a → slice_get q i ≡ Some b → a ≢ b → (IsTrue (ltb a b)) ↔ (IsLeftOf p q)
+  differ_by_test a b e d differ =
+      let both = differ_here a b e d differ in
+      (λ h. both.0 (ltb-true a b h), λ h. lt-ltb a b (both.1 h))
 
   pub agree_here : (a : ℕ) → slice_get p i ≡ Some a → slice_get q i ≡ Some a → (IsLeftOf (drop (i + 1) p) (drop (i + 1) q)) ↔ (IsLeftOf p q)
   agree_here a e d =
@@ -104,14 +108,28 @@ module _ (p q : List ℕ) (i : ℕ) (agree : (IsLeftOf (drop i p) (drop i q)) �
 
 -- ---- paths, step by step
 
+pub at_start : (path : List PlacedRule) (s : PlacedRule) → 1 ≤ length path → s ≡ get_or path 0 s
+    → (GoesRight (s ∷ take (length path - 1) (drop 1 path))) ↔ (GoesRight path)
+at_start [] s some e = absurd (omega (arith, some))
+at_start (t ∷ path) s some e =
+    let same : s ≡ t = e in
+    let all : take (length (t ∷ path) - 1) path ≡ path = take_all (length (t ∷ path) - 1) path (omega arith) in
+    rw all (subst (λ x. (GoesRight (x ∷ path)) ↔ (GoesRight (t ∷ path))) (sym same) (λ h. h, λ h. h))
+
 -- the steps of the path up to this one each stand left of the next one
-module _ (path rest : List PlacedRule) (s t : PlacedRule) (i : ℕ) (so_far : (GoesRight (s ∷ drop i rest)) ↔ (GoesRight path)) (e : slice_get rest i ≡ Some t) where
-  pub goes_on_right : IsLeftOf s.place t.place → (GoesRight (t ∷ drop (i + 1) rest)) ↔ (GoesRight path)
-  goes_on_right h =
+module _ (path rest : List PlacedRule) (s t : PlacedRule) (i : ℕ) (so_far : (GoesRight (s ∷ drop i rest)) ↔ (GoesRight path)) where
+  pub at_end : drop i rest ≡ [] → IsParallel path
+  at_end none =
+      let both = rw none at so_far in
+      let all = both.0 tt in
+      (pairwise_parallel path all, ascends path all)
+
+  pub goes_on_right : slice_get rest i ≡ Some t → IsLeftOf s.place t.place → (GoesRight (t ∷ drop (i + 1) rest)) ↔ (GoesRight path)
+  goes_on_right e h =
       let both = rw (from_place rest i t e) at so_far in
       (λ k. both.0 (h, k), λ k. (both.1 k).1)
 
-  pub no_parallel_step : (IsLeftOf s.place t.place → ⊥) → IsParallel path → ⊥
-  no_parallel_step none h =
+  pub no_parallel_step : slice_get rest i ≡ Some t → (IsLeftOf s.place t.place → ⊥) → IsParallel path → ⊥
+  no_parallel_step e none h =
       let both = rw (from_place rest i t e) at so_far in
       none (both.1 (goes_right path h.0 h.1)).0

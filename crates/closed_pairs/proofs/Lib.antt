@@ -3,3 +3,4 @@ pub mod Leftward
 pub mod ParallelItems
 pub mod Passing
 pub mod Conclusions
+pub mod OneAnswers

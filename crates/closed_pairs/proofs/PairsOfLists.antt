@@ -1,5 +1,5 @@
 -- Two lists that are gone through together.
-use Rattle.std.specs.Prelude.{◌≡◌, ◌≤◌, ◌<◌, ℕ, List, [], ◌∷◌, length, drop, zip, slice_get, Some, None}
+use Rattle.std.specs.Prelude.{◌≡◌, ◌≤◌, ◌<◌, ℕ, List, [], ◌∷◌, length, drop, zip, slice_get, Some}
 use Rattle.std.proofs.Common.{zero, suc, get_or, arith, refl, sym, ap, ◌∙◌}
 use Rattle.std.proofs.lemmas.Option.{slice_get-get_or}
 use Rattle.rewrite_core.proofs.Items.{zipped}

@@ -31,7 +31,11 @@ pub(crate) fn meet(
 {
     let first_made = run(alloc, trs, item, first)?;
     let second_made = run(alloc, trs, item, second)?;
-    same_ends(end_of(first.start, &first_made), end_of(second.start, &second_made), item)
+    same_ends(
+        end_of(first.start, &first_made),
+        end_of(second.start, &second_made),
+        item,
+    )
 }
 
 /// What a path makes of its start: nothing, where it has no step. So it costs nothing there.

@@ -26,10 +26,7 @@ pub fn join_check(
     ensures answers { Answers (are_joined trs.now.rules peaks.now joins.now) result }
 {
     if joins.len() != peaks.len() {
-        return Err(CheckFault::Refused(StepRefused::Count(
-            peaks.len() as u64,
-            joins.len() as u64,
-        )));
+        return Err(CheckFault::Refused(StepRefused::Count(peaks.len() as u64, joins.len() as u64)));
     }
     for (n, peak) in peaks.iter().enumerate() {
         peak_is_joined(alloc, trs, n as u64, peak, &joins[n])?;

@@ -2,8 +2,10 @@ ghost use Rattle.closed_pairs.specs.Laws.{JoinedPeaksConclude, ParallelClosedPea
 ghost use Rattle.closed_pairs.specs.Laws.{StronglyClosedPeaksConclude, JoinsAnswerOnce};
 ghost use Rattle.closed_pairs.specs.Laws.{ParallelStepsAnswerOnce, StrongJoinsAnswerOnce};
 
-use confluence_theory::{joined_peaks, parallel_closed_peaks, parallel_paths, strongly_closed_peaks};
-use crit_pairs::listed_peaks_cover;
+use confluence_theory::{
+    joined_peaks, parallel_closed_peaks, parallel_paths, strongly_closed_peaks,
+};
+use crit_pairs::{listed_peaks_cover, peaks_are_listed_once};
 
 /// A law, with nothing to run: a terminating system is confluent if each critical peak is joined.
 /// (Knuth and Bendix; Baader and Nipkow, section 6.2.)
@@ -39,4 +41,6 @@ pub fn conditions_answer_once()
     ensures joins { JoinsAnswerOnce }
     ensures parallel { ParallelStepsAnswerOnce }
     ensures strong { StrongJoinsAnswerOnce }
-{}
+{
+    peaks_are_listed_once();
+}

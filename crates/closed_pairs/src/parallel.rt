@@ -53,10 +53,7 @@ fn peaks_are_closed(
         (are_parallel_closed trs.now.rules peaks.now (paths_of steps.now)) result }
 {
     if steps.len() != peaks.len() {
-        return Err(CheckFault::Refused(StepRefused::Count(
-            peaks.len() as u64,
-            steps.len() as u64,
-        )));
+        return Err(CheckFault::Refused(StepRefused::Count(peaks.len() as u64, steps.len() as u64)));
     }
     for (n, peak) in peaks.iter().enumerate() {
         peak_is_closed(alloc, trs, n as u64, peak, &steps[n])?;

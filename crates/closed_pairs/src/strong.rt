@@ -29,8 +29,12 @@ impl Model for Four {
 
     ghost coded = { four_code };
 
-    ghost view = { λ a. record { left_u = a.left_u.items; right_u = a.right_u.items;
-        right_v = a.right_v.items; left_v = a.left_v.items } };
+    ghost view = { λ a. record {
+      left_u = a.left_u.items;
+      right_u = a.right_u.items;
+      right_v = a.right_v.items;
+      left_v = a.left_v.items;
+    } };
 }
 
 /// Sees that the system is linear, and that the paths join each critical peak strongly.
@@ -65,10 +69,7 @@ fn peaks_are_joined_strongly(
     ensures { Answers (are_strongly_closed trs.now.rules peaks.now fours.now) result }
 {
     if fours.len() != peaks.len() {
-        return Err(CheckFault::Refused(StepRefused::Count(
-            peaks.len() as u64,
-            fours.len() as u64,
-        )));
+        return Err(CheckFault::Refused(StepRefused::Count(peaks.len() as u64, fours.len() as u64)));
     }
     for (n, peak) in peaks.iter().enumerate() {
         peak_is_joined_strongly(alloc, trs, n as u64, peak, &fours[n])?;

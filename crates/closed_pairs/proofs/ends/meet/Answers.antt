@@ -1,7 +1,5 @@
-use Rattle.trs_core.specs.View.{tree}
 use Rattle.std.proofs.lemmas.Result.{err_from_is_err_and}
 use Rattle.rewrite_core.proofs.Answering.{refused_first, refused_later, then_answers}
-use Rattle.closed_pairs.specs.Ends.{made_of}
 use Rattle.closed_pairs.proofs.ends.meet.Goals as goal
 
 pub returns-in_err-first_made : goal.returns-in_err-first_made

@@ -1,4 +1,4 @@
-use Rattle.std.specs.Prelude.{◌≡◌, refl}
+use Rattle.std.specs.Prelude.{refl}
 use Rattle.rewrite_core.specs.PathCheck.{followed}
 use Rattle.rewrite_core.proofs.PathLemmas.{is_empty}
 use Rattle.closed_pairs.proofs.ends.run.Goals as goal

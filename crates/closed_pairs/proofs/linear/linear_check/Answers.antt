@@ -12,8 +12,10 @@ pub returns-then-not-has_linear_sides : goal.returns-then-not-has_linear_sides
 returns-then-not-has_linear_sides c =
     let at : slice_get c.args.trs.now.rules c.loop-n.n ≡ Some c.rule-item.result =
     rw c.rules-rule-items.ensures.rules at (item_read c.rules-rule-items.result.now c.loop-n.n c.rule-item.result c.loop-n-test.true c.rule-item.is) in
-    record { answers = item_refused is_linear c.args.trs.now.rules c.loop-n.n c.rule-item.result (Refused (NotLinear c.loop-n.n)) at
-    ((lacks (λ h. let wrong = c.has_linear_sides.ensures.1 h in let other = c.if-not-has_linear_sides.true in absurd cc))) c.loop-n.invariant }
+    record {
+      answers = item_refused is_linear c.args.trs.now.rules c.loop-n.n c.rule-item.result (Refused (NotLinear c.loop-n.n)) at
+          ((lacks (λ h. let wrong = c.has_linear_sides.ensures.1 h in let other = c.if-not-has_linear_sides.true in absurd cc))) c.loop-n.invariant;
+    }
 
 pub loop-n-preserved : goal.loop-n-preserved
 loop-n-preserved c =

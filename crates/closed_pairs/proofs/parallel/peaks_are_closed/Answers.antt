@@ -1,7 +1,5 @@
-use Rattle.std.proofs.Common.{◌∙◌}
-use Rattle.std.proofs.lemmas.List.{length-map}
 use Rattle.std.proofs.lemmas.Result.{err_from_is_err_and}
-use Rattle.rewrite_core.specs.Check.{goes_on, stops, holds, lacks}
+use Rattle.rewrite_core.specs.Check.{goes_on, holds}
 use Rattle.rewrite_core.proofs.Answering.{refused_later}
 use Rattle.rewrite_core.proofs.Items.{one_more_passed, item_refused, all_passed}
 use Rattle.closed_pairs.specs.ParallelClosed.{paths_of}
