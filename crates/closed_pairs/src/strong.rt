@@ -1,3 +1,4 @@
+ghost use Rattle.std.specs.Prelude.{◌≡◌, IfOk};
 ghost use Rattle.trs_core.specs.View.{tree};
 ghost use Rattle.rewrite_core.specs.Check.{Answers};
 ghost use Rattle.closed_pairs.specs.StronglyClosed.{half_joins, joins_strongly};
@@ -7,10 +8,10 @@ ghost use Rattle.closed_pairs.specs.StronglyClosed.{strong_conditions};
 use crate::ends::{ItemPath, meet};
 use crate::linear_check;
 use crit_pairs::peaks_of;
-use rewrite_core::{CheckFault, PathStep, Peak, StepRefused};
+use rewrite_core::{CheckFault, PathStep, Peak, StepRefused, copy_path};
 use std::alloc::Global;
 use std::marker::Model;
-use trs_core::Trs;
+use trs_core::{OutOfMemory, Trs};
 
 /// Paths from the left and the right side of a peak to a term u, and from its right and its left
 /// side to a term v. The paths from the right to u and from the left to v have at most one step.
@@ -35,6 +36,19 @@ impl Model for Four {
       right_v = a.right_v.items;
       left_v = a.left_v.items;
     } };
+}
+
+impl Four {
+    pub fn copy(&self, alloc: Global) -> Result<Four, OutOfMemory>
+        ensures { IfOk result (λ f. f ≡ self.now) }
+    {
+        Ok(Four {
+            left_u: copy_path(alloc, &self.left_u)?,
+            right_u: copy_path(alloc, &self.right_u)?,
+            right_v: copy_path(alloc, &self.right_v)?,
+            left_v: copy_path(alloc, &self.left_v)?,
+        })
+    }
 }
 
 /// Sees that the system is linear, and that the paths join each critical peak strongly.
