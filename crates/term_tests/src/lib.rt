@@ -10,6 +10,8 @@ mod steps;
 #[cfg(test)]
 mod steps_of_proofs;
 #[cfg(test)]
+mod steps_on_peaks;
+#[cfg(test)]
 mod systems;
 #[cfg(test)]
 mod terms;
