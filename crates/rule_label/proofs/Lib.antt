@@ -1,1 +1,3 @@
 mod RanksInTurn
+mod Decreasing
+mod OneAnswer

@@ -1,7 +1,11 @@
 -- Ranks that fit, read one after another.
-use Rattle.std.specs.Prelude.{◌≡◌, ◌≢◌, ◌≤◌, ◌<◌, ◌↔◌, ◌⊎◌, ℕ, Bool, true, false, List, [], ◌∷◌}
-use Rattle.std.proofs.Common.{inl, inr, arith}
+use Rattle.std.specs.Prelude.{◌≡◌, ◌≢◌, ◌≤◌, ◌<◌, ◌↔◌, ◌⊎◌, ℕ, Bool, true, false, List, [], ◌∷◌, ◌+◌, length, drop}
+use Rattle.std.proofs.Common.{inl, inr, get_or, sym, ap, ◌∙◌, arith}
+use Rattle.std.proofs.lemmas.List.{drop_more}
+use Rattle.trs_defs.specs.Path.{PlacedRule}
 use Rattle.abstract_confluence.specs.RanksFit.{AreBelowOne, RanksFit}
+use Rattle.confluence_theory.specs.RuleRanks.{rank_of}
+use Rattle.rule_label.specs.Labelled.{ranks_along}
 use Rattle.rule_label.specs.FittingRanks.{FitAfter}
 
 module _ (a b : ℕ) where
@@ -47,3 +51,12 @@ module _ (a b : ℕ) where
     pub no_rank : (ended : Bool) → a ≤ c → b ≤ c → ((c ≡ b) → ended ≡ true) → FitAfter ended a b (c ∷ ranks) → ⊥
     no_rank false le above only h = not_fitting le above (λ e. let wrong = only e in absurd cc) h
     no_rank true le above only h = not_below le above h
+
+  pub nothing_left : (ended : Bool) → FitAfter ended a b []
+  nothing_left false = tt
+  nothing_left true = tt
+
+-- the ranks that are left, from a step on
+pub ranks_left : (ranks : List ℕ) (path : List PlacedRule) (i : ℕ) (s : PlacedRule) → i < length path → s ≡ get_or path i s
+    → ranks_along ranks (drop i path) ≡ rank_of ranks s.rule ∷ ranks_along ranks (drop (i + 1) path)
+ranks_left ranks path i s lt e = ap (ranks_along ranks) (drop_more path i s lt ∙ ap (λ x. x ∷ drop (i + 1) path) (sym e))

@@ -33,10 +33,13 @@ fn after_rank(ended: bool, a: u64, b: u64, rank: u64) -> Option<bool>
     ensures { IsNext ended a b rank result }
 {
     if rank < a {
-        Some(ended)
-    } else if rank < b || (rank == b && !ended) {
-        Some(true)
-    } else {
-        None
+        return Some(ended);
     }
+    if rank < b {
+        return Some(true);
+    }
+    if rank == b && !ended {
+        return Some(true);
+    }
+    None
 }
