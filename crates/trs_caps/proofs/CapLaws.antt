@@ -77,3 +77,22 @@ module _ (rules : List RewriteRule) (fixed : Bool) (t : Tree) (k : HoledTree) (c
   number_stays c m numbered is v fits =
       let (σ, leaves, e) = fits_instance (own_variables fixed t) numbered (are_own (own_variables fixed t) rules fixed cap (own_agrees fixed t)) v fits in
       (σ, λ x h. leaves x (own_agrees fixed t x h ∙ is), e)
+
+  -- the answer is numbered by any test that decides the own variables
+  abbrev pub Numbers : {E : Type 0} → (ℕ → Bool) → Result Term E → ℕ → Type 0
+  Numbers own result m = IfOk result (λ u. (is_own : ℕ → Bool) → ((v : ℕ) → own v ≡ is_own v) → IsNumbered is_own 0 k (tree u) m)
+
+  module _ {E : Type 0} (own : ℕ → Bool) (owns : (v : ℕ) → own v ≡ own_variables fixed t v) (m : ℕ) where
+    pub all_are_caps : (result : Result Term E) → Numbers own result m → IfOk result (λ c. IsCapOf rules fixed t (tree c))
+    all_are_caps (Ok c) h = number_is_cap (tree c) m (h (own_variables fixed t) owns)
+    all_are_caps (Err e) h = h
+
+    pub all_reached : (result : Result Term E) → Numbers own result m → (fixed ≡ false → (σ : ℕ → Tree) (v : Tree) → Reaches (Step rules) (apply σ t) v → Fits k v)
+        → IfOk result (λ c. fixed ≡ false → (σ : ℕ → Tree) (v : Tree) → Reaches (Step rules) (apply σ t) v → IsInstance (tree c) v)
+    all_reached (Ok c) h fits = λ free σ v r. number_reached (tree c) m (h (own_variables fixed t) owns) v (fits free σ v r)
+    all_reached (Err e) h fits = h
+
+    pub all_stay : (result : Result Term E) → Numbers own result m → ((v : Tree) → Reaches (Step rules) t v → Fits k v)
+        → IfOk result (λ c. fixed ≡ true → (v : Tree) → Reaches (Step rules) t v → (σ : ℕ → Tree) × ((x : ℕ) → IsTrue (has_var x t) → σ x ≡ var x) × (apply σ (tree c) ≡ v))
+    all_stay (Ok c) h fits = λ is v r. number_stays (tree c) m (h (own_variables fixed t) owns) is v (fits v r)
+    all_stay (Err e) h fits = h
