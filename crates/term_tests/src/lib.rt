@@ -2,6 +2,8 @@
 #![tactic(auto)]
 
 #[cfg(test)]
+mod caps;
+#[cfg(test)]
 mod made;
 #[cfg(test)]
 mod slow;
@@ -13,3 +15,5 @@ mod steps_of_proofs;
 mod systems;
 #[cfg(test)]
 mod terms;
+#[cfg(test)]
+mod unifying;
