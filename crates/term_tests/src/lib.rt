@@ -2,6 +2,8 @@
 #![tactic(auto)]
 
 #[cfg(test)]
+mod caps;
+#[cfg(test)]
 mod made;
 #[cfg(test)]
 mod slow;
@@ -15,3 +17,5 @@ mod steps_on_peaks;
 mod systems;
 #[cfg(test)]
 mod terms;
+#[cfg(test)]
+mod unifying;

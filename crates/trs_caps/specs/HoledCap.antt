@@ -24,3 +24,12 @@ mutual
     no_holed : AreHoledCaps rules fixed nil none
     one_holed : {t : Tree} {c : HoledTree} {ts : Trees} {cs : HoledTrees} → IsHoledCap rules fixed t c → AreHoledCaps rules fixed ts cs
         → AreHoledCaps rules fixed (cons t ts) (more c cs)
+
+-- whether the cap meets some left side
+abbrev pub MeetsSome : HoledTree → List RewriteRule → Bool → Type 0
+MeetsSome c rules true = (l : Tree) × (r : Tree) × Among rules l r × MeetsLeft c l
+MeetsSome c rules false = (l r : Tree) → Among rules l r → MeetsLeft c l → ⊥
+
+-- the cap has this symbol at its root
+abbrev pub HasRoot : ℕ → HoledTree → Type 0
+HasRoot f c = (cs : HoledTrees) × (c ≡ symbol f cs)
