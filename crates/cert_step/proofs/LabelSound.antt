@@ -3,7 +3,7 @@ use Rattle.std.specs.Prelude.{ℕ, List, Ok, IsTrue}
 use Rattle.trs_defs.specs.System.{System, IsSystem}
 use Rattle.rewrite_core.specs.PathsOfJoin.{PathsOfJoin}
 use Rattle.crit_pairs.proofs.ListedOnce.{listed_once}
-use Rattle.rule_label.proofs.OneAnswers.{labels_once}
+use Rattle.rule_label.proofs.OneAnswer.{label_once}
 use Rattle.rewrite_core.proofs.CheckLaws.{returns_once, then_once}
 use Rattle.cert_step.specs.ProofProblem as problem
 use Rattle.cert_step.specs.ProofProblem.{ProofProblem, Holds}
@@ -21,7 +21,7 @@ module _ (ranks : List ℕ) (items : List PathsOfJoin) where
 
   pub label_sound : IsSound (label_kind ranks items)
   label_sound = record {
-    one_answer = λ system p valid. then_once _ _ (labels_once listed_once system ranks items valid) (λ _. returns_once _);
+    one_answer = λ system p valid. then_once _ _ (label_once listed_once system ranks items valid) (λ _. returns_once _);
     leaves_once = λ system p subproblems others h k. leaves_same h k;
     sound = λ system p subproblems valid made is h each. sound system p subproblems valid is h each;
     well_made = λ system p subproblems well made h. leaves_well_made system tt h;

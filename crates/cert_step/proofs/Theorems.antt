@@ -10,7 +10,7 @@ use Rattle.crit_pairs.proofs.Covering.{has_all}
 use Rattle.closed_pairs.specs.Laws.{JoinedPeaksConclude, ParallelClosedPeaksConclude, StronglyClosedPeaksConclude}
 use Rattle.closed_pairs.proofs.Conclusions.{joined_concludes, parallel_concludes, strong_concludes}
 use Rattle.rule_label.specs.Laws.{DecreasingPeaksConclude}
-use Rattle.rule_label.proofs.Conclusions.{decreasing_concludes}
+use Rattle.rule_label.proofs.Decreasing.{decreasing_concludes}
 
 peaks_cover : ListedPeaksCover
 peaks_cover system peaks valid all = covered system (map plain peaks) valid (has_all system peaks all)
@@ -25,4 +25,4 @@ pub strongly_closed_peaks : StronglyClosedPeaksConclude
 strongly_closed_peaks = strong_concludes peaks_cover strongly_closed
 
 pub decreasing_peaks : DecreasingPeaksConclude
-decreasing_peaks = decreasing_concludes peaks_cover decreasing numbered_path
+decreasing_peaks = decreasing_concludes numbered_path peaks_cover decreasing

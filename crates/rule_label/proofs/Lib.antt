@@ -1,3 +1,3 @@
 mod RanksInTurn
-mod Decreasing
-mod OneAnswer
+pub mod Decreasing
+pub mod OneAnswer
