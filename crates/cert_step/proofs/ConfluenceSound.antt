@@ -1,6 +1,6 @@
 -- The kind `confluence` is sound.
-use Rattle.std.specs.Prelude.{◌≡◌, List, Ok, IsTrue, refl}
-use Rattle.trs_defs.specs.System.{System, IsSystem}
+use Rattle.std.specs.Prelude.{◌≡◌, List, Ok, refl}
+use Rattle.trs_defs.specs.System.{System}
 use Rattle.nonconfluence_theory.proofs.NormalForms.{confluent_unique}
 use Rattle.rewrite_core.specs.Check.{HasOneAnswer, returned}
 use Rattle.rewrite_core.proofs.CheckLaws.{returns_once}
@@ -8,7 +8,7 @@ use Rattle.cert_step.specs.ProofProblem as problem
 use Rattle.cert_step.specs.ProofProblem.{ProofProblem, Holds}
 use Rattle.cert_step.specs.Subproblems.{AllHold, AreWellMadeProblems}
 use Rattle.cert_step.specs.Kind.{IsSound}
-use Rattle.cert_step.specs.ConfluenceKind.{for_confluence, confluence_conditions, confluence_kind}
+use Rattle.cert_step.specs.ConfluenceKind.{confluence_conditions, confluence_kind}
 
 one_answer : (p : ProofProblem) → HasOneAnswer (confluence_conditions p)
 one_answer problem.unr = returns_once _

@@ -4,7 +4,6 @@ use Rattle.std.proofs.Common.{sym, subst, ◌∙◌}
 use Rattle.trs_defs.specs.Tree.{Tree}
 use Rattle.trs_defs.specs.Size.{within_limits}
 use Rattle.trs_defs.specs.Derivation.{Reaches}
-use Rattle.trs_defs.specs.Joinable.{IsJoinable}
 use Rattle.trs_defs.specs.NormalForm.{IsNormalForm}
 use Rattle.trs_defs.specs.Step.{Step}
 use Rattle.trs_defs.specs.WellFormed.{IsWellFormed}

@@ -11,10 +11,7 @@ use std::alloc::Global;
 
 /// Confluence. A confluent system has unique normal forms; that it is confluent is left to show, by
 /// joined peaks where the problem asks for them. (Baader and Nipkow, section 2.1.)
-pub(crate) fn apply_confluence(
-    alloc: Global,
-    problem: &Problem,
-) -> Result<Vec<Problem>, CheckFault>
+pub(crate) fn apply_confluence(alloc: Global, problem: &Problem) -> Result<Vec<Problem>, CheckFault>
     requires { IsTrue (for_confluence (problem_of problem.now)) }
     ensures { AnswersBy problems_of (confluence_conditions (problem_of problem.now)) result }
 {

@@ -6,8 +6,8 @@ ghost use Rattle.cert_step.specs.Subproblems.{problems_of};
 
 use crate::Problem;
 use crate::problem::no_problem;
-use rule_label::labelled_check;
 use rewrite_core::{CheckFault, Join};
+use rule_label::labelled_check;
 use std::alloc::Global;
 use trs_core::Trs;
 
