@@ -1,0 +1,3 @@
+pub mod TwoPathsLaws
+pub mod ParallelStepLaws
+pub mod RuleRanksLaws

@@ -1,0 +1,4 @@
+pub mod TwoPaths
+pub mod ParallelStep
+pub mod RuleRanks
+pub mod Ranges
