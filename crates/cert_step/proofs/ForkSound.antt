@@ -1,21 +1,26 @@
 -- The kind `fork` is sound.
-use Rattle.std.specs.Prelude.{◌≡◌, Bool, true, false, List, Result, Ok, Err, OnOk, IsTrue, length}
-use Rattle.std.proofs.Common.{sym, ◌∙◌}
+use Rattle.std.specs.Prelude.{◌≡◌, ◌≤◌, Bool, true, false, List, [], ◌∷◌, Result, Ok, Err, OnOk, IsTrue, length}
+use Rattle.std.proofs.Common.{sym, subst, ◌∙◌}
 use Rattle.trs_defs.specs.Tree.{Tree}
+use Rattle.trs_defs.specs.Size.{within_limits}
+use Rattle.trs_defs.specs.Derivation.{Reaches}
+use Rattle.trs_defs.specs.Joinable.{IsJoinable}
 use Rattle.trs_defs.specs.NormalForm.{IsNormalForm}
 use Rattle.trs_defs.specs.Step.{Step}
 use Rattle.trs_defs.specs.WellFormed.{IsWellFormed}
 use Rattle.trs_defs.specs.System.{RewriteRule, System}
-use Rattle.trs_defs.specs.Path.{PlacedRule}
+use Rattle.trs_defs.specs.Path.{PlacedRule, Follows}
 use Rattle.trs_defs.specs.Claims.{IsForked}
-use Rattle.trs_defs.proofs.NormalForms.{forked_by_normal_forms}
+use Rattle.trs_defs.specs.UniqueNormalForms.{IsSplit}
 use Rattle.trs_defs.proofs.Places.{derivation_of_follows}
+use Rattle.nonconfluence_theory.proofs.NormalForms.{split_forked}
+use Rattle.nonjoin.proofs.Apartness.{apart_not_joinable}
 use Rattle.rewrite_core.specs.declared.forks.ForkTest.{ForkTest}
 use Rattle.rewrite_core.specs.declared.forks.ForkTest.TheVariants.{Normal, Apart}
 use Rattle.rewrite_core.specs.declared.refusals.CheckFault.{CheckFault}
 use Rattle.rewrite_core.specs.Reducible.{IsReducible}
-use Rattle.rewrite_core.specs.Check.{HasOneAnswer, Answers, goes_on, absent}
-use Rattle.rewrite_core.specs.PathCheck.{followed}
+use Rattle.rewrite_core.specs.Check.{HasOneAnswer, Answers, goes_on, absent, holds}
+use Rattle.rewrite_core.specs.PathCheck.{Runs, followed}
 use Rattle.rewrite_core.proofs.CheckLaws.{once}
 use Rattle.cert_step.specs.ProofProblem as problem
 use Rattle.cert_step.specs.ProofProblem.{ProofProblem, Holds}
@@ -25,7 +30,7 @@ use Rattle.cert_step.proofs.Leaving.{passed, leaves_same, leaves_well_made}
 
 ends_once : (rules : List RewriteRule) (test : ForkTest) (left right : Tree) → HasOneAnswer (end_conditions rules test left right)
 ends_once rules Normal left right = search once
-ends_once rules Apart left right = record { once = λ a b h k. absurd h }
+ends_once rules Apart left right = search once
 
 pub irreducible : {rules : List RewriteRule} {t : Tree} → IsNormalForm (Step rules) t → IsReducible rules t → ⊥
 irreducible normal (u, step) = normal u step
@@ -33,30 +38,54 @@ irreducible normal (u, step) = normal u step
 pub differ : {b : Bool} → b ≡ true → b ≡ false → ⊥
 differ e f = let wrong : true ≡ false = sym e ∙ f in cc
 
--- A fork to different normal forms shows that the system is forked.
-pub forked_of_conditions : (system : System) (start : Tree) (left right : List PlacedRule) (test : ForkTest)
+-- The end of a path keeps the limits where its start does.
+end_within_limits : (rules : List RewriteRule) (path : List PlacedRule) (t u : Tree) → Follows rules path t u → IsTrue (within_limits t) → IsTrue (within_limits u)
+end_within_limits rules [] t u e small = subst (λ x. IsTrue (within_limits x)) e small
+end_within_limits rules (s ∷ path) t u (v, step, kept, follows) small = end_within_limits rules path v u follows kept
+
+pub end_is_small : {rules : List RewriteRule} {path : List PlacedRule} {t u : Tree} {item number : ℕ} → Runs rules t path item number (Ok u) → IsTrue (within_limits t) → IsTrue (within_limits u)
+end_is_small {rules} {path} {t} (followed u follows) small = end_within_limits rules path t u follows small
+
+reaches : (rules : List RewriteRule) (path : List PlacedRule) (t u : Tree) → Follows rules path t u → Reaches (Step rules) t u
+reaches rules path t u follows = (length path, derivation_of_follows rules path t u follows)
+
+-- A fork to different normal forms shows that the system is split.
+split_of_conditions : (system : System) (start : Tree) (left right : List PlacedRule)
+    → fork_conditions system.rules start left right Normal (Ok tt) → IsWellFormed system.arities start → IsSplit system
+split_of_conditions system start left right
+    (goes_on t _ (followed _ to_left) (goes_on u _ (followed _ to_right) (goes_on _ _ (absent left_normal) (goes_on _ _ (absent right_normal) (absent different))))) well =
+    (start, t, u, well, (reaches system.rules left start t to_left, λ v step. left_normal (v, step)), (reaches system.rules right start u to_right, λ v step. right_normal (v, step)), different)
+
+-- A fork shows that the system is forked.
+forked_of_conditions : (system : System) (start : Tree) (left right : List PlacedRule) (test : ForkTest)
     → fork_conditions system.rules start left right test (Ok tt) → IsWellFormed system.arities start → IsForked system
-forked_of_conditions system start left right Normal
-    (goes_on t _ (followed _ to_left) (goes_on u _ (followed _ to_right) (goes_on _ _ (absent left_normal) (goes_on _ _ (absent right_normal) (absent differ))))) well =
-    forked_by_normal_forms system start t u well (length left, derivation_of_follows system.rules left start t to_left)
-    (length right, derivation_of_follows system.rules right start u to_right) (λ v step. left_normal (v, step)) (λ v step. right_normal (v, step)) differ
-forked_of_conditions system start left right Apart (goes_on t _ to_left (goes_on u _ to_right h)) well = absurd h
+forked_of_conditions system start left right Normal h well = split_forked system (split_of_conditions system start left right h well)
+forked_of_conditions system start left right Apart (goes_on t _ (followed _ to_left) (goes_on u _ (followed _ to_right) (holds apart))) well =
+    (start, t, u, well, reaches system.rules left start t to_left, reaches system.rules right start u to_right, apart_not_joinable system.rules t u apart)
 
-pub forked_answer : (system : System) (start : Tree) (left right : List PlacedRule) (r : Result (Unit {0}) CheckFault)
-    → Answers (fork_conditions system.rules start left right Normal) r → OnOk r (IsWellFormed system.arities start → IsForked system)
-forked_answer system start left right (Ok u) h = forked_of_conditions system start left right Normal h
-forked_answer system start left right (Err fault) h = tt
+pub forked_answer : (system : System) (start : Tree) (left right : List PlacedRule) (test : ForkTest) (r : Result (Unit {0}) CheckFault)
+    → Answers (fork_conditions system.rules start left right test) r → OnOk r (IsWellFormed system.arities start → IsForked system)
+forked_answer system start left right test (Ok u) h = forked_of_conditions system start left right test h
+forked_answer system start left right test (Err fault) h = tt
 
-module _ (start : Tree) (left right : List PlacedRule) (test : ForkTest) where
-  sound : (system : System) (p : ProofProblem) (subproblems : List ProofProblem) → (fork_kind start left right test).is_well_made system → IsTrue (for_fork p)
+pub split_answer : (system : System) (start : Tree) (left right : List PlacedRule) (test : ForkTest) (r : Result (Unit {0}) CheckFault)
+    → Answers (fork_conditions system.rules start left right test) r → OnOk r (test ≡ Normal → IsWellFormed system.arities start → IsSplit system)
+split_answer system start left right Normal (Ok u) h = λ is. split_of_conditions system start left right h
+split_answer system start left right Apart (Ok u) h = λ is. absurd cc
+split_answer system start left right test (Err fault) h = tt
+
+module _ (start : Tree) (left right : List PlacedRule) where
+  sound : (test : ForkTest) (system : System) (p : ProofProblem) (subproblems : List ProofProblem) → IsWellFormed system.arities start → IsTrue (for_fork test p)
       → (fork_kind start left right test).conditions system p (Ok subproblems) → Holds system p
-  sound system problem.fork subproblems made is h = forked_of_conditions system start left right test (passed h) made.0
-  sound system _ subproblems made is h = absurd cc
+  sound test system problem.fork subproblems well is h = forked_of_conditions system start left right test (passed h) well
+  sound Normal system problem.split subproblems well is h = split_of_conditions system start left right (passed h) well
+  sound Normal system _ subproblems well is h = absurd cc
+  sound Apart system _ subproblems well is h = absurd cc
 
-  pub fork_sound : IsSound (fork_kind start left right test)
-  fork_sound = record {
+  pub fork_sound : (test : ForkTest) → IsSound (fork_kind start left right test)
+  fork_sound test = record {
     one_answer = λ system p valid. search (once, ends_once);
     leaves_once = λ system p subproblems others h k. leaves_same h k;
-    sound = λ system p subproblems valid made is h each. sound system p subproblems made is h;
+    sound = λ system p subproblems valid made is h each. sound test system p subproblems made.0 is h;
     well_made = λ system p subproblems well made h. leaves_well_made system tt h;
   }

@@ -8,7 +8,7 @@ use Rattle.rewrite_core.specs.Check.{Check, Refuses, AnswersBy, Answers, Returns
 use Rattle.rewrite_core.proofs.Answering.{refused_first}
 use Rattle.cert_step.specs.declared.problem.Problem.{Problem}
 use Rattle.cert_step.specs.ProofProblem.{ProofProblem}
-use Rattle.cert_step.specs.Subproblems.{problems_of, AreWellMadeProblems, GivesIfPassed}
+use Rattle.cert_step.specs.Subproblems.{problems_of, AllHold, AreWellMadeProblems, GivesIfPassed}
 use Rattle.cert_step.specs.Kind.{leaves}
 
 module _ {check : Check (Unit {0})} {problems : List ProofProblem} where
@@ -17,6 +17,9 @@ module _ {check : Check (Unit {0})} {problems : List ProofProblem} where
 
   pub leaves_same : {subproblems others : List ProofProblem} → leaves problems check (Ok subproblems) → leaves problems check (Ok others) → subproblems ≡ others
   leaves_same (goes_on _ _ h returned) (goes_on _ _ k returned) = refl
+
+  pub left_hold : {subproblems : List ProofProblem} (system : System) → leaves problems check (Ok subproblems) → AllHold system subproblems → AllHold system problems
+  left_hold system (goes_on _ _ h returned) each = each
 
   pub leaves_well_made : {subproblems : List ProofProblem} (system : System) → AreWellMadeProblems system problems → leaves problems check (Ok subproblems) → AreWellMadeProblems system subproblems
   leaves_well_made system well (goes_on _ _ h returned) = well

@@ -2,8 +2,14 @@ pub mod ProofProblem
 pub mod Subproblems
 pub mod Kind
 pub mod LoopKind
+pub mod NewmanKind
+pub mod ParallelKind
+pub mod StrongKind
+pub mod LabelKind
 pub mod ForkKind
+pub mod ConfluenceKind
 pub mod ProofStep
 pub mod Applies
 pub mod Refused
+pub mod Opposites
 pub mod Laws

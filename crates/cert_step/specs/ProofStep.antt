@@ -1,28 +1,50 @@
 -- The steps of a proof, and the kind of each.
-use Rattle.std.specs.Prelude.{ℕ, List}
+use Rattle.std.specs.Prelude.{ℕ, List, map}
 use Rattle.trs_defs.specs.Tree.{Tree}
 use Rattle.trs_defs.specs.System.{System}
 use Rattle.trs_defs.specs.Path.{PlacedRule}
 use Rattle.trs_core.specs.View.{tree}
 use Rattle.rewrite_core.specs.declared.forks.ForkTest.{ForkTest}
+use Rattle.rewrite_core.specs.PathsOfJoin.{PathsOfJoin}
+use Rattle.closed_pairs.specs.StronglyClosed.{FourPaths}
 use Rattle.cert_step.specs.declared.step.Step.{Step}
 use Rattle.cert_step.specs.declared.step.Step.TheVariants as code
 use Rattle.cert_step.specs.declared.step.NodeStep.{NodeStep}
 use Rattle.cert_step.specs.Kind.{Kind}
 use Rattle.cert_step.specs.LoopKind.{loop_kind}
+use Rattle.cert_step.specs.NewmanKind.{newman_kind}
+use Rattle.cert_step.specs.ParallelKind.{parallel_kind}
+use Rattle.cert_step.specs.StrongKind.{strong_kind}
+use Rattle.cert_step.specs.LabelKind.{label_kind}
 use Rattle.cert_step.specs.ForkKind.{fork_kind}
+use Rattle.cert_step.specs.ConfluenceKind.{confluence_kind}
 
 pub data ProofStep : Type 0 where
   loop : (start : Tree) (path : List PlacedRule) (place : List ℕ) → ProofStep
+  newman : (items : List PathsOfJoin) → ProofStep
+  parallel : (items : List (List PlacedRule)) → ProofStep
+  strong : (items : List FourPaths) → ProofStep
+  label : (ranks : List ℕ) (items : List PathsOfJoin) → ProofStep
   fork : (start : Tree) (left right : List PlacedRule) (test : ForkTest) → ProofStep
+  confluence : ProofStep
 
 abbrev pub step_of : Step → ProofStep
 step_of (code.Loop start path place) = loop (tree start) path.items place
+step_of (code.Newman joins) = newman joins.items
+step_of (code.Parallel paths) = parallel (map (λ p. p.items) paths.items)
+step_of (code.Strong fours) = strong fours.items
+step_of (code.Label ranks joins) = label ranks.items joins.items
 step_of (code.Fork start left right test) = fork (tree start) left.items right.items test
+step_of code.Confluence = confluence
 
 abbrev pub kind_of : ProofStep → Kind
 kind_of (loop start path place) = loop_kind start path place
+kind_of (newman items) = newman_kind items
+kind_of (parallel items) = parallel_kind items
+kind_of (strong items) = strong_kind items
+kind_of (label ranks items) = label_kind ranks items
 kind_of (fork start left right test) = fork_kind start left right test
+kind_of confluence = confluence_kind
 
 -- a step for the problem of a node
 pub record ProofNodeStep : Type 0 where

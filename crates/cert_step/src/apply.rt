@@ -1,4 +1,4 @@
-ghost use Rattle.std.specs.Prelude.{List, IfOk, IfErr};
+ghost use Rattle.std.specs.Prelude.{List, IfOk, IfErr, IsTrue};
 ghost use Rattle.trs_defs.specs.System.{IsSystem};
 ghost use Rattle.rewrite_core.specs.Check.{AnswersBy, RefusedFor};
 ghost use Rattle.cert_step.specs.ProofProblem.{ProofProblem, problem_of, Holds, IsWellMadeProblem};
@@ -8,8 +8,13 @@ ghost use Rattle.cert_step.specs.Refused.{IsStepRefused};
 ghost use Rattle.cert_step.specs.Subproblems.{AllHold, AreWellMadeProblems};
 ghost use Rattle.cert_step.specs.Subproblems.{GivesSubproblems, problems_of};
 
+use crate::confluence_step::apply_confluence;
 use crate::fork_step::apply_fork;
+use crate::label_step::apply_label;
 use crate::loop_step::apply_loop;
+use crate::newman_step::apply_newman;
+use crate::parallel_step::apply_parallel;
+use crate::strong_step::apply_strong;
 use crate::{Problem, Step};
 use rewrite_core::{CheckFault, StepRefused};
 use std::alloc::Global;
@@ -75,17 +80,23 @@ fn checked_kind(
     problem: &Problem,
     step: &Step,
 ) -> Result<Vec<Problem>, CheckFault>
-    requires { IsWellMade trs.now (step_of step.now) }
+    requires problem { IsTrue ((kind_of (step_of step.now)).is_for (problem_of problem.now)) }
+    requires step { IsWellMade trs.now (step_of step.now) }
     ensures { AnswersBy problems_of
         ((kind_of (step_of step.now)).conditions trs.now (problem_of problem.now)) result }
 {
     match step {
         Step::Loop { start, path, place } => apply_loop(alloc, trs, start, path, place),
+        Step::Newman(joins) => apply_newman(alloc, trs, joins),
+        Step::Parallel(paths) => apply_parallel(alloc, trs, paths),
+        Step::Strong(fours) => apply_strong(alloc, trs, fours),
+        Step::Label { ranks, joins } => apply_label(alloc, trs, ranks, joins),
         Step::Fork {
             start,
             left,
             right,
             test,
         } => apply_fork(alloc, trs, start, left, right, *test),
+        Step::Confluence => apply_confluence(alloc, problem),
     }
 }

@@ -1,7 +1,9 @@
-ghost use Rattle.std.specs.Prelude.{◌≡◌, [], OnOk};
+ghost use Rattle.std.specs.Prelude.{◌≡◌, [], OnOk, IsTrue};
 ghost use Rattle.trs_core.specs.View.{tree};
+ghost use Rattle.trs_defs.specs.Size.{within_limits};
 ghost use Rattle.trs_defs.specs.WellFormed.{IsWellFormed};
 ghost use Rattle.trs_defs.specs.Claims.{IsForked};
+ghost use Rattle.trs_defs.specs.UniqueNormalForms.{IsSplit};
 ghost use Rattle.rewrite_core.specs.Check.{AnswersBy, Answers};
 ghost use Rattle.cert_step.specs.Kind.{leaves};
 ghost use Rattle.cert_step.specs.Subproblems.{problems_of};
@@ -9,12 +11,13 @@ ghost use Rattle.cert_step.specs.ForkKind.{end_conditions, fork_conditions};
 
 use crate::Problem;
 use crate::problem::no_problem;
+use nonjoin::apart;
 use rewrite_core::{CheckFault, ForkTest, PathStep, StepRefused, end_of_path, is_normal};
 use std::alloc::Global;
 use trs_core::{Term, Trs};
 
-/// A fork. It shows that a system is forked, as its ends are never joinable, and leaves no
-/// subproblem.
+/// A fork. It shows that a system is forked, as its ends are never joinable, or that it is split, as
+/// they are different normal forms, and leaves no subproblem.
 pub(crate) fn apply_fork(
     alloc: Global,
     trs: &Trs,
@@ -23,35 +26,56 @@ pub(crate) fn apply_fork(
     right: &[PathStep],
     test: ForkTest,
 ) -> Result<Vec<Problem>, CheckFault>
-    requires { test ≡ ForkTest.Normal }
+    requires { IsTrue (within_limits (tree start.now)) }
     ensures { AnswersBy problems_of (leaves []
         (fork_conditions trs.now.rules (tree start.now) left.now right.now test)) result }
 {
-    match test {
-        ForkTest::Normal => no_problem(alloc, fork_check(alloc, trs, start, left, right)),
-        ForkTest::Apart => unreachable!(),
-    }
+    no_problem(alloc, fork_check(alloc, trs, start, left, right, test))
 }
 
-/// Sees that both paths lead from the start, to different normal forms. Then the system is forked.
-/// It refuses for the left path (path 0 of item 0), for the right one (path 1), for an end that is
-/// no normal form (0 or 1), or for equal ends, whichever comes first.
-/// (Baader and Nipkow, section 2.1.)
+/// Sees that both paths lead from the start, to ends that pass the test. Then the system is forked,
+/// and split where the ends are different normal forms. It refuses for the left path (path 0 of item
+/// 0), for the right one (path 1), and then for an end that is no normal form (0 or 1), for equal
+/// ends, or for caps that unify, whichever comes first.
+/// (Baader and Nipkow, section 2.1; Zankl, Felgenhauer and Middeldorp, 2011.)
 pub fn fork_check(
     alloc: Global,
     trs: &Trs,
     start: &Term,
     left: &[PathStep],
     right: &[PathStep],
+    test: ForkTest,
 ) -> Result<(), CheckFault>
+    requires { IsTrue (within_limits (tree start.now)) }
     ensures answers { Answers (fork_conditions trs.now.rules (tree start.now)
-        left.now right.now ForkTest.Normal) result }
+        left.now right.now test) result }
     ensures forked { OnOk result
         (IsWellFormed trs.now.arities (tree start.now) → IsForked trs.now) }
+    ensures split { OnOk result
+        (test ≡ ForkTest.Normal → IsWellFormed trs.now.arities (tree start.now) → IsSplit trs.now) }
 {
     let left_end = end_of_path(alloc, trs, start, left, 0, 0)?;
     let right_end = end_of_path(alloc, trs, start, right, 0, 1)?;
-    different_normal_forms(alloc, trs, &left_end, &right_end)
+    test_ends(alloc, trs, &left_end, &right_end, test)
+}
+
+/// Sees that two terms pass the test.
+fn test_ends(
+    alloc: Global,
+    trs: &Trs,
+    left: &Term,
+    right: &Term,
+    test: ForkTest,
+) -> Result<(), CheckFault>
+    requires left { IsTrue (within_limits (tree left.now)) }
+    requires right { IsTrue (within_limits (tree right.now)) }
+    ensures { Answers
+        (end_conditions trs.now.rules test (tree left.now) (tree right.now)) result }
+{
+    match test {
+        ForkTest::Normal => different_normal_forms(alloc, trs, left, right),
+        ForkTest::Apart => caps_apart(alloc, trs, left, right),
+    }
 }
 
 /// Sees that both terms are normal forms, and that they differ.
@@ -72,6 +96,19 @@ fn different_normal_forms(
     }
     if left.same(right) {
         return Err(CheckFault::Refused(StepRefused::SameEnds));
+    }
+    Ok(())
+}
+
+/// Sees that the caps of both terms do not unify.
+fn caps_apart(alloc: Global, trs: &Trs, left: &Term, right: &Term) -> Result<(), CheckFault>
+    requires left { IsTrue (within_limits (tree left.now)) }
+    requires right { IsTrue (within_limits (tree right.now)) }
+    ensures { Answers
+        (end_conditions trs.now.rules ForkTest.Apart (tree left.now) (tree right.now)) result }
+{
+    if !apart(alloc, trs, left, right)? {
+        return Err(CheckFault::Refused(StepRefused::NotApart));
     }
     Ok(())
 }

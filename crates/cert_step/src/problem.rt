@@ -1,6 +1,6 @@
-ghost use Rattle.std.specs.Prelude.{◌≡◌, ◌↔◌, [], IfOk, IsTrue};
+ghost use Rattle.std.specs.Prelude.{◌≡◌, ◌↔◌, [], ◌∷◌, IfOk, IsTrue};
 ghost use Rattle.cert_step.specs.ProofProblem.{problem_of};
-ghost use Rattle.cert_step.specs.Subproblems.{GivesIfPassed};
+ghost use Rattle.cert_step.specs.Subproblems.{GivesIfPassed, problems_of};
 
 use rewrite_core::CheckFault;
 use std::alloc::Global;
@@ -23,6 +23,12 @@ pub enum Problem {
     CrNewman,
     /// It is forked: two terms that some term reaches are not joinable.
     Fork,
+    /// It has unique normal forms.
+    Unr,
+    /// It has unique normal forms, to be shown by joined peaks and termination.
+    UnrNewman,
+    /// It is split: some term reaches two different normal forms.
+    Split,
 }
 
 impl Problem {
@@ -36,6 +42,9 @@ impl Problem {
             Problem::Cr => Problem::Cr,
             Problem::CrNewman => Problem::CrNewman,
             Problem::Fork => Problem::Fork,
+            Problem::Unr => Problem::Unr,
+            Problem::UnrNewman => Problem::UnrNewman,
+            Problem::Split => Problem::Split,
         })
     }
 
@@ -52,6 +61,9 @@ impl Problem {
             Problem::Cr => matches!(other, Problem::Cr),
             Problem::CrNewman => matches!(other, Problem::CrNewman),
             Problem::Fork => matches!(other, Problem::Fork),
+            Problem::Unr => matches!(other, Problem::Unr),
+            Problem::UnrNewman => matches!(other, Problem::UnrNewman),
+            Problem::Split => matches!(other, Problem::Split),
         }
     }
 }
@@ -67,4 +79,27 @@ pub(crate) fn no_problem(
         Ok(()) => Ok(Vec::new(alloc)),
         Err(fault) => Err(fault),
     }
+}
+
+/// What a step answers that leaves one subproblem where its conditions hold.
+pub(crate) fn one_problem(
+    alloc: Global,
+    checked: Result<(), CheckFault>,
+    problem: Problem,
+) -> Result<Vec<Problem>, CheckFault>
+    ensures { GivesIfPassed (problem_of problem ∷ []) checked result }
+{
+    match checked {
+        Ok(()) => Ok(alone(alloc, problem)?),
+        Err(fault) => Err(fault),
+    }
+}
+
+/// One problem, as a list.
+pub(crate) fn alone(alloc: Global, problem: Problem) -> Result<Vec<Problem>, OutOfMemory>
+    ensures { IfOk result (λ problems. problems_of problems ≡ problem_of problem ∷ []) }
+{
+    let mut problems = Vec::new(alloc);
+    problems.push(problem)?;
+    Ok(problems)
 }

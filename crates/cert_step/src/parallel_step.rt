@@ -1,0 +1,24 @@
+ghost use Rattle.std.specs.Prelude.{[], map};
+ghost use Rattle.rewrite_core.specs.Check.{AnswersBy};
+ghost use Rattle.closed_pairs.specs.ParallelClosed.{parallel_conditions};
+ghost use Rattle.cert_step.specs.Kind.{leaves};
+ghost use Rattle.cert_step.specs.Subproblems.{problems_of};
+
+use crate::Problem;
+use crate::problem::no_problem;
+use closed_pairs::parallel_closed_check;
+use rewrite_core::{CheckFault, PathStep};
+use std::alloc::Global;
+use trs_core::Trs;
+
+/// Peaks that are closed by parallel steps. They show that a system is confluent, and leave no
+/// subproblem.
+pub(crate) fn apply_parallel(
+    alloc: Global,
+    trs: &Trs,
+    paths: &[Vec<PathStep>],
+) -> Result<Vec<Problem>, CheckFault>
+    ensures { AnswersBy problems_of (leaves [] (parallel_conditions trs.now (map (λ p. p.items) paths.now))) result }
+{
+    no_problem(alloc, parallel_closed_check(alloc, trs, paths))
+}

@@ -1,0 +1,3 @@
+//! Caps of terms: what stays of a term whatever steps are made.
+//! (Giesl, Thiemann and Schneider-Kamp, 2005.)
+#![tactic(auto)]
