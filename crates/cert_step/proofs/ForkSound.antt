@@ -1,5 +1,5 @@
 -- The kind `fork` is sound.
-use Rattle.std.specs.Prelude.{◌≡◌, ◌≤◌, Bool, true, false, List, [], ◌∷◌, Result, Ok, Err, OnOk, IsTrue, length}
+use Rattle.std.specs.Prelude.{◌≡◌, ℕ, Bool, true, false, List, [], ◌∷◌, Result, Ok, Err, OnOk, IsTrue, length}
 use Rattle.std.proofs.Common.{sym, subst, ◌∙◌}
 use Rattle.trs_defs.specs.Tree.{Tree}
 use Rattle.trs_defs.specs.Size.{within_limits}
@@ -8,13 +8,13 @@ use Rattle.trs_defs.specs.Joinable.{IsJoinable}
 use Rattle.trs_defs.specs.NormalForm.{IsNormalForm}
 use Rattle.trs_defs.specs.Step.{Step}
 use Rattle.trs_defs.specs.WellFormed.{IsWellFormed}
-use Rattle.trs_defs.specs.System.{RewriteRule, System}
+use Rattle.trs_defs.specs.System.{RewriteRule, System, IsSystem}
 use Rattle.trs_defs.specs.Path.{PlacedRule, Follows}
 use Rattle.trs_defs.specs.Claims.{IsForked}
 use Rattle.trs_defs.specs.UniqueNormalForms.{IsSplit}
 use Rattle.trs_defs.proofs.Places.{derivation_of_follows}
 use Rattle.nonconfluence_theory.proofs.NormalForms.{split_forked}
-use Rattle.nonjoin.proofs.Apartness.{apart_not_joinable}
+use Rattle.nonjoin.proofs.ApartLaws.{system_apart}
 use Rattle.rewrite_core.specs.declared.forks.ForkTest.{ForkTest}
 use Rattle.rewrite_core.specs.declared.forks.ForkTest.TheVariants.{Normal, Apart}
 use Rattle.rewrite_core.specs.declared.refusals.CheckFault.{CheckFault}
@@ -57,16 +57,16 @@ split_of_conditions system start left right
     (start, t, u, well, (reaches system.rules left start t to_left, λ v step. left_normal (v, step)), (reaches system.rules right start u to_right, λ v step. right_normal (v, step)), different)
 
 -- A fork shows that the system is forked.
-forked_of_conditions : (system : System) (start : Tree) (left right : List PlacedRule) (test : ForkTest)
+forked_of_conditions : (system : System) (start : Tree) (left right : List PlacedRule) (test : ForkTest) → IsSystem system
     → fork_conditions system.rules start left right test (Ok tt) → IsWellFormed system.arities start → IsForked system
-forked_of_conditions system start left right Normal h well = split_forked system (split_of_conditions system start left right h well)
-forked_of_conditions system start left right Apart (goes_on t _ (followed _ to_left) (goes_on u _ (followed _ to_right) (holds apart))) well =
-    (start, t, u, well, reaches system.rules left start t to_left, reaches system.rules right start u to_right, apart_not_joinable system.rules t u apart)
+forked_of_conditions system start left right Normal valid h well = split_forked system (split_of_conditions system start left right h well)
+forked_of_conditions system start left right Apart valid (goes_on t _ (followed _ to_left) (goes_on u _ (followed _ to_right) (holds apart))) well =
+    (start, t, u, well, reaches system.rules left start t to_left, reaches system.rules right start u to_right, system_apart system t u valid apart)
 
-pub forked_answer : (system : System) (start : Tree) (left right : List PlacedRule) (test : ForkTest) (r : Result (Unit {0}) CheckFault)
+pub forked_answer : (system : System) (start : Tree) (left right : List PlacedRule) (test : ForkTest) (r : Result (Unit {0}) CheckFault) → IsSystem system
     → Answers (fork_conditions system.rules start left right test) r → OnOk r (IsWellFormed system.arities start → IsForked system)
-forked_answer system start left right test (Ok u) h = forked_of_conditions system start left right test h
-forked_answer system start left right test (Err fault) h = tt
+forked_answer system start left right test (Ok u) valid h = forked_of_conditions system start left right test valid h
+forked_answer system start left right test (Err fault) valid h = tt
 
 pub split_answer : (system : System) (start : Tree) (left right : List PlacedRule) (test : ForkTest) (r : Result (Unit {0}) CheckFault)
     → Answers (fork_conditions system.rules start left right test) r → OnOk r (test ≡ Normal → IsWellFormed system.arities start → IsSplit system)
@@ -75,17 +75,17 @@ split_answer system start left right Apart (Ok u) h = λ is. absurd cc
 split_answer system start left right test (Err fault) h = tt
 
 module _ (start : Tree) (left right : List PlacedRule) where
-  sound : (test : ForkTest) (system : System) (p : ProofProblem) (subproblems : List ProofProblem) → IsWellFormed system.arities start → IsTrue (for_fork test p)
+  sound : (test : ForkTest) (system : System) (p : ProofProblem) (subproblems : List ProofProblem) → IsSystem system → IsWellFormed system.arities start → IsTrue (for_fork test p)
       → (fork_kind start left right test).conditions system p (Ok subproblems) → Holds system p
-  sound test system problem.fork subproblems well is h = forked_of_conditions system start left right test (passed h) well
-  sound Normal system problem.split subproblems well is h = split_of_conditions system start left right (passed h) well
-  sound Normal system _ subproblems well is h = absurd cc
-  sound Apart system _ subproblems well is h = absurd cc
+  sound test system problem.fork subproblems valid well is h = forked_of_conditions system start left right test valid (passed h) well
+  sound Normal system problem.split subproblems valid well is h = split_of_conditions system start left right (passed h) well
+  sound Normal system _ subproblems valid well is h = absurd cc
+  sound Apart system _ subproblems valid well is h = absurd cc
 
   pub fork_sound : (test : ForkTest) → IsSound (fork_kind start left right test)
   fork_sound test = record {
     one_answer = λ system p valid. search (once, ends_once);
     leaves_once = λ system p subproblems others h k. leaves_same h k;
-    sound = λ system p subproblems valid made is h each. sound test system p subproblems made.0 is h;
+    sound = λ system p subproblems valid made is h each. sound test system p subproblems valid made.0 is h;
     well_made = λ system p subproblems well made h. leaves_well_made system tt h;
   }

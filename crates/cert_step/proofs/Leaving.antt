@@ -24,9 +24,13 @@ module _ {check : Check (Unit {0})} {problems : List ProofProblem} where
   pub leaves_well_made : {subproblems : List ProofProblem} (system : System) → AreWellMadeProblems system problems → leaves problems check (Ok subproblems) → AreWellMadeProblems system subproblems
   leaves_well_made system well (goes_on _ _ h returned) = well
 
+-- these problems are returned
+pub returns_problems : (problems : List ProofProblem) (subproblems : Vec Problem Global) → problems_of subproblems ≡ problems → Returns problems (Ok (problems_of subproblems))
+returns_problems problems subproblems e = subst (λ x. Returns problems (Ok x)) (sym e) returned
+
 -- a call that checks the conditions, and then one that answers the problems
 pub leaving : (check : Check (Unit {0})) (problems : List ProofProblem) (checked : Result (Unit {0}) CheckFault) (result : Result (Vec Problem Global) CheckFault)
     → Answers check checked → GivesIfPassed problems checked result → AnswersBy problems_of (leaves problems check) result
-leaving check problems (Ok u) (Ok subproblems) h k = goes_on tt _ h (subst (λ x. Returns problems (Ok x)) (sym k) returned)
+leaving check problems (Ok u) (Ok subproblems) h k = goes_on tt _ h (returns_problems problems subproblems k)
 leaving check problems (Ok u) (Err fault) h k = subst (Refuses (leaves problems check)) (sym k) tt
 leaving check problems (Err fault) result h k = subst (AnswersBy problems_of (leaves problems check)) (sym k) (refused_first _ _ fault h)

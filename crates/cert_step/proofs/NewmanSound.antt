@@ -2,25 +2,27 @@
 use Rattle.std.specs.Prelude.{List, Ok, IsTrue}
 use Rattle.trs_defs.specs.System.{System, IsSystem}
 use Rattle.rewrite_core.specs.PathsOfJoin.{PathsOfJoin}
-use Rattle.closed_pairs.proofs.Joining.{confluent_by_joins, joins_once}
-use Rattle.rewrite_core.proofs.CheckLaws.{once}
+use Rattle.crit_pairs.proofs.ListedOnce.{listed_once}
+use Rattle.closed_pairs.proofs.OneAnswers.{newman_once}
+use Rattle.rewrite_core.proofs.CheckLaws.{returns_once, then_once}
 use Rattle.cert_step.specs.ProofProblem as problem
 use Rattle.cert_step.specs.ProofProblem.{ProofProblem, Holds}
 use Rattle.cert_step.specs.Subproblems.{AllHold}
 use Rattle.cert_step.specs.Kind.{IsSound}
 use Rattle.cert_step.specs.NewmanKind.{for_newman, newman_kind}
+use Rattle.cert_step.proofs.Theorems.{joined_peaks}
 use Rattle.cert_step.proofs.Leaving.{passed, left_hold, leaves_same, leaves_well_made}
 
 module _ (items : List PathsOfJoin) where
   sound : (system : System) (p : ProofProblem) (subproblems : List ProofProblem) → IsSystem system → IsTrue (for_newman p)
       → (newman_kind items).conditions system p (Ok subproblems) → AllHold system subproblems → Holds system p
-  sound system problem.cr subproblems valid is h each = confluent_by_joins system items valid (passed h) (left_hold system h each).0
-  sound system problem.cr_newman subproblems valid is h each = confluent_by_joins system items valid (passed h) (left_hold system h each).0
+  sound system problem.cr subproblems valid is h each = joined_peaks system items valid (passed h) (left_hold system h each).0
+  sound system problem.cr_newman subproblems valid is h each = joined_peaks system items valid (passed h) (left_hold system h each).0
   sound system _ subproblems valid is h each = absurd cc
 
   pub newman_sound : IsSound (newman_kind items)
   newman_sound = record {
-    one_answer = λ system p valid. search (once, joins_once);
+    one_answer = λ system p valid. then_once _ _ (newman_once listed_once system items valid) (λ _. returns_once _);
     leaves_once = λ system p subproblems others h k. leaves_same h k;
     sound = λ system p subproblems valid made is h each. sound system p subproblems valid is h each;
     well_made = λ system p subproblems well made h. leaves_well_made system (tt, tt) h;

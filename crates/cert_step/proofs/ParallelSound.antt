@@ -2,24 +2,26 @@
 use Rattle.std.specs.Prelude.{List, Ok, IsTrue}
 use Rattle.trs_defs.specs.Path.{PlacedRule}
 use Rattle.trs_defs.specs.System.{System, IsSystem}
-use Rattle.closed_pairs.proofs.ParallelClosing.{confluent_by_parallel_steps, parallel_once}
-use Rattle.rewrite_core.proofs.CheckLaws.{once}
+use Rattle.crit_pairs.proofs.ListedOnce.{listed_once}
+use Rattle.closed_pairs.proofs.OneAnswers.{parallel_once}
+use Rattle.rewrite_core.proofs.CheckLaws.{returns_once, then_once}
 use Rattle.cert_step.specs.ProofProblem as problem
 use Rattle.cert_step.specs.ProofProblem.{ProofProblem, Holds}
 use Rattle.cert_step.specs.Subproblems.{AllHold}
 use Rattle.cert_step.specs.Kind.{IsSound}
 use Rattle.cert_step.specs.ParallelKind.{for_parallel, parallel_kind}
+use Rattle.cert_step.proofs.Theorems.{parallel_closed_peaks}
 use Rattle.cert_step.proofs.Leaving.{passed, leaves_same, leaves_well_made}
 
 module _ (items : List (List PlacedRule)) where
   sound : (system : System) (p : ProofProblem) (subproblems : List ProofProblem) → IsSystem system → IsTrue (for_parallel p)
       → (parallel_kind items).conditions system p (Ok subproblems) → AllHold system subproblems → Holds system p
-  sound system problem.cr subproblems valid is h each = confluent_by_parallel_steps system items valid (passed h)
+  sound system problem.cr subproblems valid is h each = parallel_closed_peaks system items valid (passed h)
   sound system _ subproblems valid is h each = absurd cc
 
   pub parallel_sound : IsSound (parallel_kind items)
   parallel_sound = record {
-    one_answer = λ system p valid. search (once, parallel_once);
+    one_answer = λ system p valid. then_once _ _ (parallel_once listed_once system items valid) (λ _. returns_once _);
     leaves_once = λ system p subproblems others h k. leaves_same h k;
     sound = λ system p subproblems valid made is h each. sound system p subproblems valid is h each;
     well_made = λ system p subproblems well made h. leaves_well_made system tt h;

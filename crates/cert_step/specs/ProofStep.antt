@@ -1,11 +1,12 @@
 -- The steps of a proof, and the kind of each.
-use Rattle.std.specs.Prelude.{ℕ, List, map}
+use Rattle.std.specs.Prelude.{ℕ, List}
 use Rattle.trs_defs.specs.Tree.{Tree}
 use Rattle.trs_defs.specs.System.{System}
 use Rattle.trs_defs.specs.Path.{PlacedRule}
 use Rattle.trs_core.specs.View.{tree}
 use Rattle.rewrite_core.specs.declared.forks.ForkTest.{ForkTest}
 use Rattle.rewrite_core.specs.PathsOfJoin.{PathsOfJoin}
+use Rattle.closed_pairs.specs.ParallelClosed.{paths_of}
 use Rattle.closed_pairs.specs.StronglyClosed.{FourPaths}
 use Rattle.cert_step.specs.declared.step.Step.{Step}
 use Rattle.cert_step.specs.declared.step.Step.TheVariants as code
@@ -31,7 +32,7 @@ pub data ProofStep : Type 0 where
 abbrev pub step_of : Step → ProofStep
 step_of (code.Loop start path place) = loop (tree start) path.items place
 step_of (code.Newman joins) = newman joins.items
-step_of (code.Parallel paths) = parallel (map (λ p. p.items) paths.items)
+step_of (code.Parallel paths) = parallel (paths_of paths.items)
 step_of (code.Strong fours) = strong fours.items
 step_of (code.Label ranks joins) = label ranks.items joins.items
 step_of (code.Fork start left right test) = fork (tree start) left.items right.items test

@@ -50,7 +50,7 @@ pub fn apply_step(
 }
 
 /// The type of a system keeps that it is one.
-fn keeps_system(trs: &Trs)
+pub(crate) fn keeps_system(trs: &Trs)
     ensures { IsSystem trs.now }
 {
     trs.rules();

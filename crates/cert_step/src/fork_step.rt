@@ -10,6 +10,7 @@ ghost use Rattle.cert_step.specs.Subproblems.{problems_of};
 ghost use Rattle.cert_step.specs.ForkKind.{end_conditions, fork_conditions};
 
 use crate::Problem;
+use crate::apply::keeps_system;
 use crate::problem::no_problem;
 use nonjoin::apart;
 use rewrite_core::{CheckFault, ForkTest, PathStep, StepRefused, end_of_path, is_normal};
@@ -54,6 +55,7 @@ pub fn fork_check(
     ensures split { OnOk result
         (test ≡ ForkTest.Normal → IsWellFormed trs.now.arities (tree start.now) → IsSplit trs.now) }
 {
+    keeps_system(trs);
     let left_end = end_of_path(alloc, trs, start, left, 0, 0)?;
     let right_end = end_of_path(alloc, trs, start, right, 0, 1)?;
     test_ends(alloc, trs, &left_end, &right_end, test)

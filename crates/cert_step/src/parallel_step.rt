@@ -1,6 +1,6 @@
-ghost use Rattle.std.specs.Prelude.{[], map};
+ghost use Rattle.std.specs.Prelude.{[]};
 ghost use Rattle.rewrite_core.specs.Check.{AnswersBy};
-ghost use Rattle.closed_pairs.specs.ParallelClosed.{parallel_conditions};
+ghost use Rattle.closed_pairs.specs.ParallelClosed.{paths_of, parallel_conditions};
 ghost use Rattle.cert_step.specs.Kind.{leaves};
 ghost use Rattle.cert_step.specs.Subproblems.{problems_of};
 
@@ -18,7 +18,7 @@ pub(crate) fn apply_parallel(
     trs: &Trs,
     paths: &[Vec<PathStep>],
 ) -> Result<Vec<Problem>, CheckFault>
-    ensures { AnswersBy problems_of (leaves [] (parallel_conditions trs.now (map (λ p. p.items) paths.now))) result }
+    ensures { AnswersBy problems_of (leaves [] (parallel_conditions trs.now (paths_of paths.now))) result }
 {
     no_problem(alloc, parallel_closed_check(alloc, trs, paths))
 }

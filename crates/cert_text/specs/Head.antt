@@ -2,7 +2,7 @@
 use Rattle.std.specs.Prelude.{ℕ, ◌-◌, ◌^◌, Bool, true, false, List, [], ◌∷◌, Ok, Err, codes}
 use Rattle.sexp_core.specs.Items.{Item, a_word, a_list}
 use Rattle.cert_step.specs.declared.claim.Claim.{Claim}
-use Rattle.cert_step.specs.declared.claim.Claim.TheVariants.{Terminating, Nonterminating, Confluent, Nonconfluent}
+use Rattle.cert_step.specs.declared.claim.Claim.TheVariants.{Terminating, Nonterminating, Confluent, Nonconfluent, Unique, Nonunique}
 use Rattle.cert_text.specs.declared.head.Head.{Head}
 use Rattle.text_reading.specs.Reading.{Read, place_of, part, done, keyword, list, one_of}
 use Rattle.text_reading.specs.Numbers.{number}
@@ -24,9 +24,11 @@ claim_word Terminating = codes "terminating"
 claim_word Nonterminating = codes "nonterminating"
 claim_word Confluent = codes "confluent"
 claim_word Nonconfluent = codes "nonconfluent"
+claim_word Unique = codes "unique"
+claim_word Nonunique = codes "nonunique"
 
 abbrev pub claim : Item → Read Claim
-claim = one_of claim_word (Terminating ∷ Nonterminating ∷ Confluent ∷ Nonconfluent ∷ [])
+claim = one_of claim_word (Terminating ∷ Nonterminating ∷ Confluent ∷ Nonconfluent ∷ Unique ∷ Nonunique ∷ [])
 
 -- a word in the place of a claim; whether it is one counts only behind the version
 abbrev pub later_claim : Item → Read (Read Claim)

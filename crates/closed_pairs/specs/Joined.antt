@@ -1,19 +1,15 @@
 -- Peaks that are joined by two paths each.
-use Rattle.std.specs.Prelude.{◌≡◌, ℕ, List, length, zip}
+use Rattle.std.specs.Prelude.{ℕ, List, length, zip}
 use Rattle.trs_defs.specs.System.{RewriteRule, System}
-use Rattle.rewrite_core.specs.declared.refusals.StepRefused.TheVariants.{EndsDiffer}
 use Rattle.rewrite_core.specs.PlacedPeak.{PlacedPeak}
 use Rattle.rewrite_core.specs.PathsOfJoin.{PathsOfJoin}
-use Rattle.rewrite_core.specs.Check.{Check, Needs, each, has_length, ◌>>=◌, ◌>>◌}
-use Rattle.rewrite_core.specs.PathCheck.{Runs}
+use Rattle.rewrite_core.specs.Check.{Check, each, has_length, ◌>>=◌, ◌>>◌}
 use Rattle.crit_pairs.specs.PeaksCheck.{ListsCriticalPeaks}
+use Rattle.closed_pairs.specs.Ends.{ends_meet}
 
 -- both paths of item n are followed, from the left of the peak and from its right, and lead to one term
 abbrev pub joins : List RewriteRule → ℕ → PlacedPeak → PathsOfJoin → Check (Unit {0})
-joins rules n peak join = do
-  left_end ← Runs rules peak.left join.left n 0
-  right_end ← Runs rules peak.right join.right n 1
-  Needs (left_end ≡ right_end) (EndsDiffer n)
+joins rules n peak join = ends_meet rules n peak.left join.left 0 peak.right join.right 1
 
 -- there is an item for each peak, which joins it
 abbrev pub are_joined : List RewriteRule → List PlacedPeak → List PathsOfJoin → Check (Unit {0})

@@ -1,5 +1,7 @@
+pub mod Ends
 pub mod Joined
 pub mod LinearRules
+pub mod Leftward
 pub mod ParallelClosed
 pub mod StronglyClosed
 pub mod Laws

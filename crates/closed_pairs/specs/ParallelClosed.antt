@@ -1,5 +1,6 @@
 -- Peaks that are closed by one parallel step each. (Huet, Confluent reductions, 1980; Baader and Nipkow, section 6.4.)
-use Rattle.std.specs.Prelude.{◌≡◌, ◌<◌, ◌⊎◌, ℕ, List, [], ◌∷◌, length, zip}
+use Rattle.std.specs.Prelude.{◌≡◌, ◌<◌, ◌⊎◌, ℕ, List, [], ◌∷◌, length, map, zip, Vec}
+use Rattle.std.specs.declared.alloc.Global.{Global}
 use Rattle.trs_defs.specs.System.{RewriteRule, System}
 use Rattle.trs_defs.specs.Path.{PlacedRule}
 use Rattle.confluence_theory.specs.ParallelPositions.{ArePairwiseParallel}
@@ -27,6 +28,10 @@ DoAscend (s ∷ t ∷ path) = StandsBefore s.place t.place × DoAscend (t ∷ pa
 abbrev pub IsParallel : List PlacedRule → Type 0
 IsParallel path = ArePairwiseParallel path × DoAscend path
 
+-- the steps of each path
+abbrev pub paths_of : List (Vec PlacedRule Global) → List (List PlacedRule)
+paths_of paths = map (λ p. p.items) paths
+
 -- item n is one parallel step from the left of the peak to its right
 abbrev pub closes_in_parallel : List RewriteRule → ℕ → PlacedPeak → List PlacedRule → Check (Unit {0})
 closes_in_parallel rules n peak path = do
@@ -39,6 +44,12 @@ abbrev pub are_parallel_closed : List RewriteRule → List PlacedPeak → List (
 are_parallel_closed rules peaks items = do
   has_length (length peaks) items
   each (λ n item. closes_in_parallel rules n item.0 item.1) 0 (zip peaks items)
+
+-- the rules are left-linear, and the peaks are closed by parallel steps
+abbrev pub closes_left_linear : List RewriteRule → List PlacedPeak → List (List PlacedRule) → Check (Unit {0})
+closes_left_linear rules peaks items = do
+  are_left_linear rules
+  are_parallel_closed rules peaks items
 
 -- the rules are left-linear, and each critical peak is closed by a parallel step
 abbrev pub parallel_conditions : System → List (List PlacedRule) → Check (Unit {0})

@@ -1,14 +1,14 @@
 -- Peaks that are joined strongly, in both directions. (Huet, Confluent reductions, 1980; Baader and Nipkow, section 6.3.)
-use Rattle.std.specs.Prelude.{◌≡◌, ◌≤◌, ℕ, List, length, zip, refl}
+use Rattle.std.specs.Prelude.{◌≤◌, ℕ, List, length, zip, refl}
 use Rattle.std.specs.Coded.{Coded, code_by, coded×, coded_list}
 use Rattle.trs_defs.specs.Tree.{Tree}
 use Rattle.trs_defs.specs.System.{RewriteRule, System}
 use Rattle.trs_defs.specs.Path.{PlacedRule, placed_code}
-use Rattle.rewrite_core.specs.declared.refusals.StepRefused.TheVariants.{TooLong, EndsDiffer}
+use Rattle.rewrite_core.specs.declared.refusals.StepRefused.TheVariants.{TooLong}
 use Rattle.rewrite_core.specs.PlacedPeak.{PlacedPeak}
 use Rattle.rewrite_core.specs.Check.{Check, Needs, each, has_length, ◌>>=◌, ◌>>◌}
-use Rattle.rewrite_core.specs.PathCheck.{Runs}
 use Rattle.crit_pairs.specs.PeaksCheck.{ListsCriticalPeaks}
+use Rattle.closed_pairs.specs.Ends.{ends_meet}
 use Rattle.closed_pairs.specs.LinearRules.{are_linear}
 
 -- paths from the left and the right of a peak to a term u, and from the right and the left to a term v
@@ -30,9 +30,7 @@ four_code =
 abbrev pub half_joins : List RewriteRule → ℕ → Tree → List PlacedRule → ℕ → Tree → List PlacedRule → ℕ → Check (Unit {0})
 half_joins rules n s path i t short j = do
   Needs (length short ≤ 1) (TooLong n j)
-  end ← Runs rules s path n i
-  short_end ← Runs rules t short n j
-  Needs (end ≡ short_end) (EndsDiffer n)
+  ends_meet rules n s path i t short j
 
 -- item n joins the peak strongly, from the left and then from the right
 abbrev pub joins_strongly : List RewriteRule → ℕ → PlacedPeak → FourPaths → Check (Unit {0})
@@ -45,6 +43,12 @@ abbrev pub are_strongly_closed : List RewriteRule → List PlacedPeak → List F
 are_strongly_closed rules peaks items = do
   has_length (length peaks) items
   each (λ n item. joins_strongly rules n item.0 item.1) 0 (zip peaks items)
+
+-- the rules are linear, and the peaks are joined strongly
+abbrev pub closes_linear : List RewriteRule → List PlacedPeak → List FourPaths → Check (Unit {0})
+closes_linear rules peaks items = do
+  are_linear rules
+  are_strongly_closed rules peaks items
 
 -- the rules are linear, and each critical peak is joined strongly
 abbrev pub strong_conditions : System → List FourPaths → Check (Unit {0})

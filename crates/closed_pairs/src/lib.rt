@@ -3,14 +3,17 @@
 //! (Huet, Confluent reductions, 1980; Baader and Nipkow, Term Rewriting and All That, chapter 6.)
 #![tactic(auto)]
 
+mod ends;
 mod joined;
 mod laws;
 mod linear;
 mod parallel;
 mod strong;
 
-pub use joined::{join_check, newman_check};
-pub use laws::{conditions_answer_once, joined_peaks_conclude, parallel_closed_peaks_conclude, strongly_closed_peaks_conclude};
+pub use joined::{join_check, newman_check, peak_is_joined};
+pub use laws::{
+    joined_peaks_conclude, parallel_closed_peaks_conclude, strongly_closed_peaks_conclude,
+};
 pub use linear::{left_linear_check, linear_check};
 pub use parallel::{parallel_check, parallel_closed_check};
 pub use rewrite_core::{Join, Peak};

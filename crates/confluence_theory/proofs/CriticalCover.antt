@@ -1,10 +1,9 @@
 -- The critical peaks of a system cover it.
-use Rattle.std.specs.Prelude.{◌≡◌, ◌≢◌, ℕ, ◌+◌, ◌-◌, ◌<◌, List, [], ◌∷◌, Some, IsTrue, slice_get, slice_set}
+use Rattle.std.specs.Prelude.{◌≡◌, ◌≢◌, ℕ, ◌<◌, List, [], ◌∷◌, Some, IsTrue, slice_get, slice_set}
 use Rattle.std.specs.Option.{option_and_then, option_map}
-use Rattle.std.proofs.Common.{zero, suc, refl, sym, ◌∙◌, ap, subst, arith}
-use native.Mathlib.Decide.{dec_lt}
+use Rattle.std.proofs.Common.{zero, suc, refl, sym, ◌∙◌, ap, subst}
 use Rattle.trs_defs.specs.Member.{In}
-use Rattle.trs_defs.specs.Tree.{Tree, Trees, var, app, nil, cons, trees, items, trees_items}
+use Rattle.trs_defs.specs.Tree.{Tree, Trees, app, cons, trees, items, trees_items}
 use Rattle.trs_defs.specs.Variable.{has_var, some_has_var, IsVariable}
 use Rattle.trs_defs.specs.Renaming.{shifted}
 use Rattle.trs_defs.specs.Substitution.{apply, apply_all}
@@ -14,26 +13,9 @@ use Rattle.trs_defs.specs.Step.{RootStep}
 use Rattle.confluence_theory.specs.Overlap.{Overlap, OverlapOne, overlap_here, overlap_deep, overlap_first, overlap_later}
 use Rattle.confluence_theory.specs.Peak.{Peak, HasPeak, Covers}
 use Rattle.confluence_theory.specs.CriticalPeak.{Overlaps, HasCriticalPeaks}
-use Rattle.trs_defs.proofs.Substitutions.{apply_apply, same_instance, same_instances}
+use Rattle.trs_defs.proofs.Substitutions.{same_instance, same_instances}
 use Rattle.trs_defs.proofs.VariableLaws.{has_var_first, has_var_rest}
-
--- σ below k, and ρ from there on
-abbrev glue : ℕ → (ℕ → Tree) → (ℕ → Tree) → ℕ → Tree
-glue k σ ρ x = elim (dec_lt x k) [ yes h ↦ σ x | no h ↦ ρ (x - k) ]
-
-glue_low : (k : ℕ) (σ ρ : ℕ → Tree) (x : ℕ) → x < k → glue k σ ρ x ≡ σ x
-glue_low k σ ρ x h = elim (dec_lt x k) as (λ d. elim d [ yes h ↦ σ x | no h ↦ ρ (x - k) ] ≡ σ x) [ yes l ↦ refl | no l ↦ absurd (l h) ]
-
-glue_high : (k : ℕ) (σ ρ : ℕ → Tree) (x : ℕ) → glue k σ ρ (k + x) ≡ ρ x
-glue_high k σ ρ x =
-    elim (dec_lt (k + x) k) as (λ d. elim d [ yes h ↦ σ (k + x) | no h ↦ ρ (k + x - k) ] ≡ ρ x) [
-      | yes l ↦ absurd (omega arith)
-      | no l ↦ ap ρ (omega arith)
-    ]
-
-apply_high : (k : ℕ) (σ ρ : ℕ → Tree) (t : Tree) → apply (glue k σ ρ) (shifted k t) ≡ apply ρ t
-apply_high k σ ρ t =
-    apply_apply (glue k σ ρ) (λ x. var (k + x)) t ∙ same_instance (λ x. glue k σ ρ (k + x)) ρ t (λ v h. glue_high k σ ρ v)
+use Rattle.confluence_theory.proofs.Apart.{glue, glue_low, apply_high, part_variable, renumbered}
 
 -- θ is σ at the variables of the pattern
 abbrev Agrees : (ℕ → Tree) → (ℕ → Tree) → Tree → Type 0
@@ -188,19 +170,6 @@ module _ (rule : Tree → Tree → Type 0) (σ : ℕ → Tree) where
     spot_one (overlap_first {p = l} {t = t} {ps = ls} d) = spot_first l t ls (spot d)
     spot_one (overlap_later {p = l} {ps = ls} {ts = ts} d) = spot_later l ls ts (spot_one d)
 
--- the variables of a subterm are the term's
-item_variable : (p : List ℕ) (ts : Trees) (i : ℕ) (part : Tree) (v : ℕ) → option_and_then (subterm_at p) (slice_get (items ts) i) ≡ Some part
-    → ((a : Tree) → subterm_at p a ≡ Some part → IsTrue (has_var v a)) → IsTrue (some_has_var v ts)
-item_variable p nil i part v e h = absurd cc
-item_variable p (cons t ts) zero part v e h = has_var_first v t ts (h t e)
-item_variable p (cons t ts) (suc i) part v e h = has_var_rest v t ts (item_variable p ts i part v e h)
-
-part_variable : (p : List ℕ) (t part : Tree) (v : ℕ) → subterm_at p t ≡ Some part → IsTrue (has_var v part) → IsTrue (has_var v t)
-part_variable [] t part v e h = let same : part ≡ t = cc e in subst (λ z. IsTrue (has_var v z)) same h
-part_variable (place ∷ p) (var n) part v e h = absurd cc
-part_variable (zero ∷ p) (app f ts) part v e h = absurd cc
-part_variable (suc i ∷ p) (app f ts) part v e h = item_variable p ts i part v e (λ a k. part_variable p a part v k h)
-
 -- where rules overlap, they have a unifier once the inner one is renamed apart
 pub overlap_unifies : (rules : List RewriteRule) (i j : ℕ) (inner outer : RewriteRule) (p : List ℕ) (o : Overlaps rules i j inner outer p) (k : ℕ)
     → ((v : ℕ) → IsTrue (has_var v outer.left) → v < k) → (θ : ℕ → Tree) × (apply θ o.part ≡ apply θ (shifted k inner.left))
@@ -216,12 +185,6 @@ listed_as peaks peak i j h e e' =
     let P : ℕ → Type 0 = λ z. In (record { inner = z; outer = peak.outer; top = peak.top; left = peak.left; right = peak.right }) peaks in
     let Q : ℕ → Type 0 = λ z. In (record { inner = i; outer = z; top = peak.top; left = peak.left; right = peak.right }) peaks in
     subst Q e' (subst P e h)
-
--- an instance of a critical peak's term, whose variables were renumbered
-renumbered : (θ τ m : ℕ → Tree) (names : ℕ → ℕ) (s t : Tree) → ((v : ℕ) → θ v ≡ apply τ (m v)) → apply m s ≡ apply (λ v. var (names v)) t
-    → apply θ s ≡ apply (λ v. τ (names v)) t
-renumbered θ τ m names s t e h =
-    same_instance θ (λ v. apply τ (m v)) s (λ v k. e v) ∙ (sym (apply_apply τ m s) ∙ (ap (apply τ) h ∙ apply_apply τ (λ v. var (names v)) t))
 
 module _ (system : System) (peaks : List Peak) (is_system : IsSystem system) (listed : HasCriticalPeaks system.rules peaks) where
   cover : (i j : ℕ) (l r t : Tree) (σ : ℕ → Tree) → Numbered system.rules j l r → (s : Spot (Numbered system.rules i) σ l t) → (s.place ≡ [] → i ≢ j)

@@ -11,6 +11,7 @@ pub mod StrongPeaks
 pub mod JoinedPeaks
 pub mod ParallelPeaks
 pub mod Claims
+pub mod Apart
 pub mod CriticalCover
 pub mod FollowedPaths
 pub mod ParallelPaths

@@ -6,6 +6,8 @@ ghost use Rattle.trs_core.specs.View.{tree};
 ghost use Rattle.nonjoin.specs.Apart.{AreApart};
 
 use std::alloc::Global;
+use term_pool::RulesByRoot;
+use trs_caps::cap;
 use trs_core::{OutOfMemory, Term, Trs};
 
 /// Whether the caps of two terms, their variables read as constants, do not unify. Then the terms
@@ -18,5 +20,8 @@ pub fn apart(alloc: Global, trs: &Trs, a: &Term, b: &Term) -> Result<bool, OutOf
     ensures not_joinable { IfOk result (λ yes. IsTrue yes
         → IsJoinable (Step trs.now.rules) (tree a.now) (tree b.now) → ⊥) }
 {
-    Err(OutOfMemory)
+    let by_root = RulesByRoot::new(alloc, trs)?;
+    let first = cap(alloc, &by_root, a, true)?;
+    let second = cap(alloc, &by_root, b, true)?;
+    Ok(first.is_disjoint(&second))
 }

@@ -2,5 +2,7 @@
 #![tactic(auto)]
 
 mod comparing;
+mod laws;
 
 pub use comparing::apart;
+pub use laws::apart_terms_are_not_joinable;

@@ -30,6 +30,12 @@ are_decreasing rules peaks ranks items = do
   has_length (length peaks) items
   each (λ n item. joins_decreasing rules ranks n item.0 item.1) 0 (zip peaks items)
 
+-- the rules are linear, and the peaks are decreasing
+abbrev pub decrease_linear : List RewriteRule → List PlacedPeak → List ℕ → List PathsOfJoin → Check (Unit {0})
+decrease_linear rules peaks ranks items = do
+  are_linear rules
+  are_decreasing rules peaks ranks items
+
 -- the rules are linear, and each critical peak is decreasing
 abbrev pub label_conditions : System → List ℕ → List PathsOfJoin → Check (Unit {0})
 label_conditions system ranks items = do

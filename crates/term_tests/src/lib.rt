@@ -2,6 +2,8 @@
 #![tactic(auto)]
 
 #[cfg(test)]
+mod caps;
+#[cfg(test)]
 mod made;
 #[cfg(test)]
 mod slow;
@@ -10,6 +12,10 @@ mod steps;
 #[cfg(test)]
 mod steps_of_proofs;
 #[cfg(test)]
+mod steps_on_peaks;
+#[cfg(test)]
 mod systems;
 #[cfg(test)]
 mod terms;
+#[cfg(test)]
+mod unifying;

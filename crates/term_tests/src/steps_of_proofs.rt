@@ -4,7 +4,7 @@ ghost use Rattle.cert_step.specs.ProofProblem.{problem_of, IsWellMadeProblem};
 ghost use Rattle.cert_step.specs.ProofStep.{step_of, IsWellMade};
 
 use crate::made::{one_rule, position, steps, term};
-use cert_step::{Problem, Step, apply_step, fork_check};
+use cert_step::{ForkTest, Problem, Step, apply_step};
 use rewrite_core::{CheckFault, StepRefused};
 use std::alloc::Global;
 use std::test::Fail;
@@ -78,7 +78,9 @@ fn growing_constant(alloc: Global) -> Result<Rule, OutOfMemory> {
 }
 
 /// The system of these three rules. (Huet, Confluent Reductions, 1980.)
-fn huet(alloc: Global) -> Result<Trs, Fail> {
+fn huet(alloc: Global) -> Result<Trs, Fail>
+    ensures { IfOk result (λ trs. trs.arities ≡ 0 ∷ 1 ∷ 2 ∷ 0 ∷ 0 ∷ []) }
+{
     let rules = [
         equal_arguments(alloc)?,
         argument_below(alloc)?,
@@ -88,17 +90,36 @@ fn huet(alloc: Global) -> Result<Trs, Fail> {
     Ok(Trs::new(Vec::from_array(alloc, [0, 1, 2, 0, 0])?, rules)?)
 }
 
-/// What the fork of these two paths from `f(c, c)` is refused for.
+/// The fork of two paths from `f(c, c)`.
+fn fork_step(
+    alloc: Global,
+    trs: &Trs,
+    paths: (&[(&[u8], u32)], &[(&[u8], u32)]),
+    test: ForkTest,
+) -> Result<Step, OutOfMemory>
+    requires { trs.now.arities ≡ 0 ∷ 1 ∷ 2 ∷ 0 ∷ 0 ∷ [] }
+    ensures { IfOk result (λ s. IsWellMade trs.now (step_of s)) }
+{
+    let start = term(alloc, 2, [term(alloc, 0, [])?, term(alloc, 0, [])?])?;
+    let left = steps(alloc, paths.0)?;
+    let right = steps(alloc, paths.1)?;
+    Ok(Step::Fork {
+        start,
+        left,
+        right,
+        test,
+    })
+}
+
+/// What such a fork to normal forms is refused for.
 fn refused(
     alloc: Global,
     left: &[(&[u8], u32)],
     right: &[(&[u8], u32)],
 ) -> Result<Option<CheckFault>, Fail> {
     let trs = huet(alloc)?;
-    let start = term(alloc, 2, [term(alloc, 0, [])?, term(alloc, 0, [])?])?;
-    let left = steps(alloc, left)?;
-    let right = steps(alloc, right)?;
-    Ok(fork_check(alloc, &trs, &start, &left, &right).err())
+    let fork = fork_step(alloc, &trs, (left, right), ForkTest::Normal)?;
+    Ok(apply_step(alloc, &trs, &Problem::Fork, &fork).err())
 }
 
 const TO_A: &[(&[u8], u32)] = &[(&[], 0)];
@@ -120,5 +141,72 @@ fn a_fork_leads_to_two_normal_forms(rt: HostRuntime) -> Result<(), Fail> {
         let fault = refused(alloc, left, right)?;
         assert_eq!(rt; fault, want.map(CheckFault::Refused));
     }
+    Ok(())
+}
+
+/// What a fork of these two paths is refused for, where the system is to be split.
+fn not_split(alloc: Global, test: ForkTest) -> Result<Option<CheckFault>, Fail> {
+    let trs = huet(alloc)?;
+    let fork = fork_step(alloc, &trs, (TO_A, TO_B), test)?;
+    Ok(apply_step(alloc, &trs, &Problem::Split, &fork).err())
+}
+
+#[test]
+fn a_split_system_has_two_normal_forms_of_a_term(rt: HostRuntime) -> Result<(), Fail> {
+    let alloc = rt.alloc();
+    assert_eq!(rt; not_split(alloc, ForkTest::Normal)?, None);
+    let fault = not_split(alloc, ForkTest::Apart)?;
+    assert_eq!(rt; fault, Some(CheckFault::Refused(StepRefused::WrongProblem)));
+    Ok(())
+}
+
+#[test]
+fn parallel_steps_are_for_left_linear_systems(rt: HostRuntime) -> Result<(), Fail> {
+    let alloc = rt.alloc();
+    let trs = huet(alloc)?;
+    let parallel = Step::Parallel(Vec::new(alloc));
+    let fault = apply_step(alloc, &trs, &Problem::Cr, &parallel).err();
+    assert_eq!(rt; fault, Some(CheckFault::Refused(StepRefused::NotLinear(0))));
+    Ok(())
+}
+
+/// `a -> g(a)` and `a -> h(a)`, with the symbols `a`, `g` and `h`.
+fn two_towers(alloc: Global) -> Result<Trs, Fail>
+    ensures { IfOk result (λ trs. trs.arities ≡ 0 ∷ 1 ∷ 1 ∷ []) }
+{
+    let g = term(alloc, 1, [term(alloc, 0, [])?])?;
+    let h = term(alloc, 2, [term(alloc, 0, [])?])?;
+    let rules = [
+        Rule {
+            left: term(alloc, 0, [])?,
+            right: g,
+        },
+        Rule {
+            left: term(alloc, 0, [])?,
+            right: h,
+        },
+    ];
+    let rules = Vec::from_array(alloc, rules)?;
+    Ok(Trs::new(Vec::from_array(alloc, [0, 1, 1])?, rules)?)
+}
+
+/// What the fork of a step by each rule from `a` is refused for.
+fn towers_refused(alloc: Global, test: ForkTest) -> Result<Option<CheckFault>, Fail> {
+    let trs = two_towers(alloc)?;
+    let fork = Step::Fork {
+        start: term(alloc, 0, [])?,
+        left: steps(alloc, &[(&[], 0)])?,
+        right: steps(alloc, &[(&[], 1)])?,
+        test,
+    };
+    Ok(apply_step(alloc, &trs, &Problem::Fork, &fork).err())
+}
+
+#[test]
+fn two_towers_are_apart(rt: HostRuntime) -> Result<(), Fail> {
+    let alloc = rt.alloc();
+    assert_eq!(rt; towers_refused(alloc, ForkTest::Apart)?, None);
+    let fault = towers_refused(alloc, ForkTest::Normal)?;
+    assert_eq!(rt; fault, Some(CheckFault::Refused(StepRefused::NotNormal(0))));
     Ok(())
 }

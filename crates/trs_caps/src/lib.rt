@@ -1,3 +1,13 @@
 //! Caps of terms: what stays of a term whatever steps are made.
-//! (Giesl, Thiemann and Schneider-Kamp, 2005.)
+//! (Giesl, Thiemann and Schneider-Kamp, Proving and disproving termination of higher-order
+//! functions, 2005.)
 #![tactic(auto)]
+
+mod capping;
+mod clashing;
+mod holed;
+mod meeting;
+mod naming;
+
+pub use capping::{cap, tcap};
+pub use holed::{Cap, Parts};

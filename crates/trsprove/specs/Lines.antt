@@ -5,7 +5,7 @@ use Rattle.ari_text.specs.Least.{number_of_fault}
 use Rattle.ari_text.specs.FaultParts.{text_number_of, shown_place}
 use Rattle.rewrite_core.specs.RefusalNumbers.{refusal_number, refusal_fields}
 use Rattle.cert_step.specs.declared.claim.Claim.{Claim}
-use Rattle.cert_step.specs.declared.claim.Claim.TheVariants.{Terminating, Nonterminating, Confluent, Nonconfluent}
+use Rattle.cert_step.specs.declared.claim.Claim.TheVariants.{Terminating, Nonterminating, Confluent, Nonconfluent, Unique, Nonunique}
 use Rattle.certifier.specs.declared.rejected.Rejected.{Rejected}
 use Rattle.certifier.specs.declared.rejected.Rejected.TheVariants as why
 use Rattle.trsprove.specs.Numbers.{fields_text, listed}
@@ -18,6 +18,8 @@ accepted_line Terminating = codes "ACCEPTED terminating\n"
 accepted_line Nonterminating = codes "ACCEPTED nonterminating\n"
 accepted_line Confluent = codes "ACCEPTED confluent\n"
 accepted_line Nonconfluent = codes "ACCEPTED nonconfluent\n"
+accepted_line Unique = codes "ACCEPTED unique\n"
+accepted_line Nonunique = codes "ACCEPTED nonunique\n"
 
 -- how a line of a rejection begins
 abbrev pub rejected_words : Rejected → List ℕ

@@ -15,6 +15,8 @@ pub(crate) fn accepted_line(claim: Claim) -> &'static [u8]
         Claim::Nonterminating => b"ACCEPTED nonterminating\n",
         Claim::Confluent => b"ACCEPTED confluent\n",
         Claim::Nonconfluent => b"ACCEPTED nonconfluent\n",
+        Claim::Unique => b"ACCEPTED unique\n",
+        Claim::Nonunique => b"ACCEPTED nonunique\n",
     }
 }
 

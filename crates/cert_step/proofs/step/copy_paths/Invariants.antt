@@ -1,5 +1,6 @@
-use Rattle.std.proofs.Common.{◌≡◌, map, take}
+use Rattle.std.proofs.Common.{◌≡◌, take}
+use Rattle.closed_pairs.specs.ParallelClosed.{paths_of}
 use Rattle.cert_step.proofs.step.copy_paths.Given as goal
 
 abbrev pub invariant-loop-path : goal.invariant-loop-path
-invariant-loop-path l = map (λ p. p.items) l.copies.items ≡ map (λ p. p.items) (take l.path-index l.paths)
+invariant-loop-path l = paths_of l.copies.items ≡ paths_of (take l.path-index l.paths)

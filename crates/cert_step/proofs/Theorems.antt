@@ -1,0 +1,28 @@
+-- The theorems on critical peaks, on which steps of proofs rest.
+use Rattle.std.specs.Prelude.{map}
+use Rattle.confluence_theory.proofs.CriticalCover.{covered}
+use Rattle.confluence_theory.proofs.ParallelPaths.{parallel_path}
+use Rattle.confluence_theory.proofs.FollowedPaths.{numbered_path}
+use Rattle.confluence_theory.proofs.Claims.{joined, parallel_closed, strongly_closed, decreasing}
+use Rattle.crit_pairs.specs.PlainPeak.{plain}
+use Rattle.crit_pairs.specs.Laws.{ListedPeaksCover}
+use Rattle.crit_pairs.proofs.Covering.{has_all}
+use Rattle.closed_pairs.specs.Laws.{JoinedPeaksConclude, ParallelClosedPeaksConclude, StronglyClosedPeaksConclude}
+use Rattle.closed_pairs.proofs.Conclusions.{joined_concludes, parallel_concludes, strong_concludes}
+use Rattle.rule_label.specs.Laws.{DecreasingPeaksConclude}
+use Rattle.rule_label.proofs.Decreasing.{decreasing_concludes}
+
+peaks_cover : ListedPeaksCover
+peaks_cover system peaks valid all = covered system (map plain peaks) valid (has_all system peaks all)
+
+pub joined_peaks : JoinedPeaksConclude
+joined_peaks = joined_concludes peaks_cover joined
+
+pub parallel_closed_peaks : ParallelClosedPeaksConclude
+parallel_closed_peaks = parallel_concludes peaks_cover parallel_closed parallel_path
+
+pub strongly_closed_peaks : StronglyClosedPeaksConclude
+strongly_closed_peaks = strong_concludes peaks_cover strongly_closed
+
+pub decreasing_peaks : DecreasingPeaksConclude
+decreasing_peaks = decreasing_concludes numbered_path peaks_cover decreasing

@@ -1,0 +1,6 @@
+pub mod PairsOfLists
+pub mod Leftward
+pub mod ParallelItems
+pub mod Passing
+pub mod Conclusions
+pub mod OneAnswers

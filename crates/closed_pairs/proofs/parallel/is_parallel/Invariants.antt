@@ -1,0 +1,6 @@
+use Rattle.std.proofs.Common.{◌↔◌, ◌∷◌, drop}
+use Rattle.closed_pairs.specs.Leftward.{GoesRight}
+use Rattle.closed_pairs.proofs.parallel.is_parallel.Given as goal
+
+abbrev pub invariant-loop-step : goal.invariant-loop-step
+invariant-loop-step l = (GoesRight (l.previous ∷ drop l.step-index l.rest)) ↔ (GoesRight l.path)

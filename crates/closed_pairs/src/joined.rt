@@ -1,0 +1,58 @@
+ghost use Rattle.rewrite_core.specs.Check.{Answers};
+ghost use Rattle.closed_pairs.specs.Joined.{joins, are_joined, newman_conditions};
+
+use crate::ends::{ItemPath, meet};
+use crit_pairs::peaks_of;
+use rewrite_core::{CheckFault, Join, Peak, StepRefused};
+use std::alloc::Global;
+use trs_core::Trs;
+
+/// Sees that the paths join each critical peak. They may refuse for `PeaksTooLarge`,
+/// `PeaksTooMany`, and what `join_check` does.
+pub fn newman_check(alloc: Global, trs: &Trs, joins: &[Join]) -> Result<(), CheckFault>
+    ensures answers { Answers (newman_conditions trs.now joins.now) result }
+{
+    let peaks = peaks_of(alloc, trs)?;
+    join_check(alloc, trs, &peaks, joins)
+}
+
+/// Sees that there is an item for each peak, and that its paths join the peak.
+pub fn join_check(
+    alloc: Global,
+    trs: &Trs,
+    peaks: &[Peak],
+    joins: &[Join],
+) -> Result<(), CheckFault>
+    ensures answers { Answers (are_joined trs.now.rules peaks.now joins.now) result }
+{
+    if joins.len() != peaks.len() {
+        return Err(CheckFault::Refused(StepRefused::Count(peaks.len() as u64, joins.len() as u64)));
+    }
+    for (n, peak) in peaks.iter().enumerate() {
+        peak_is_joined(alloc, trs, n as u64, peak, &joins[n])?;
+    }
+    Ok(())
+}
+
+/// Sees that the two paths of item number `n` lead from the sides of a peak to one term.
+pub fn peak_is_joined(
+    alloc: Global,
+    trs: &Trs,
+    n: u64,
+    peak: &Peak,
+    join: &Join,
+) -> Result<(), CheckFault>
+    ensures answers { Answers (joins trs.now.rules n peak.now join.now) result }
+{
+    let left = ItemPath {
+        start: &peak.left,
+        steps: &join.left,
+        number: 0,
+    };
+    let right = ItemPath {
+        start: &peak.right,
+        steps: &join.right,
+        number: 1,
+    };
+    meet(alloc, trs, n, &left, &right)
+}

@@ -1,0 +1,3 @@
+mod RanksInTurn
+pub mod Decreasing
+pub mod OneAnswer

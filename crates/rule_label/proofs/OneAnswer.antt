@@ -1,0 +1,12 @@
+-- The conditions on decreasing peaks have at most one answer, where the critical peaks are listed once.
+use Rattle.std.specs.Prelude.{ℕ, List}
+use Rattle.trs_defs.specs.System.{System, IsSystem}
+use Rattle.rewrite_core.specs.PathsOfJoin.{PathsOfJoin}
+use Rattle.rewrite_core.specs.Check.{HasOneAnswer}
+use Rattle.rewrite_core.proofs.CheckLaws.{once}
+use Rattle.crit_pairs.specs.PeaksCheck.{ListsCriticalPeaks}
+use Rattle.rule_label.specs.Labelled.{label_conditions}
+
+module _ (peaks_once : (system : System) → IsSystem system → HasOneAnswer (ListsCriticalPeaks system.rules)) (system : System) where
+  pub label_once : (ranks : List ℕ) (items : List PathsOfJoin) → IsSystem system → HasOneAnswer (label_conditions system ranks items)
+  label_once ranks items valid = search (once, peaks_once) depth 20

@@ -1,0 +1,55 @@
+//! Caps of terms, and terms that they keep apart.
+use crate::made::{one_rule, term};
+use nonjoin::apart;
+use std::alloc::Global;
+use std::test::Fail;
+use trs_caps::tcap;
+use trs_core::{OutOfMemory, Rule, Term, Trs};
+
+/// `f(x, x) -> c` and `g(c) -> c`, with the symbols `c`, `g` and `f`.
+fn system(alloc: Global) -> Result<Trs, Fail> {
+    let mut rules = Vec::new(alloc);
+    let left = term(alloc, 2, [Term::Var(0), Term::Var(0)])?;
+    rules.push(Rule { left, right: term(alloc, 0, [])? })?;
+    let left = term(alloc, 1, [term(alloc, 0, [])?])?;
+    rules.push(Rule { left, right: term(alloc, 0, [])? })?;
+    Ok(Trs::new(Vec::from_array(alloc, [0, 1, 2])?, rules)?)
+}
+
+/// `f(x, g(x))`.
+fn pair(alloc: Global, v: u32) -> Result<Term, OutOfMemory> {
+    term(alloc, 2, [Term::Var(v), term(alloc, 1, [Term::Var(v)])?])
+}
+
+#[test]
+fn a_fixed_variable_keeps_its_symbol(rt: HostRuntime) -> Result<(), Fail> {
+    let alloc = rt.alloc();
+    let trs = system(alloc)?;
+    let fixed = tcap(alloc, &trs, &pair(alloc, 5)?, true)?;
+    assert!(rt; fixed.same(&pair(alloc, 5)?));
+    let free = tcap(alloc, &trs, &pair(alloc, 5)?, false)?;
+    assert!(rt; free.same(&Term::Var(0)));
+    Ok(())
+}
+
+#[test]
+fn a_marked_root_is_kept(rt: HostRuntime) -> Result<(), Fail> {
+    let alloc = rt.alloc();
+    let trs = system(alloc)?;
+    let redex = term(alloc, 1, [term(alloc, 0, [])?])?;
+    let marked = term(alloc, 4098, [redex, Term::Var(0)])?;
+    let cap = tcap(alloc, &trs, &marked, true)?;
+    assert!(rt; cap.same(&term(alloc, 4098, [Term::Var(1), Term::Var(0)])?));
+    Ok(())
+}
+
+#[test]
+fn one_variable_is_one_constant(rt: HostRuntime) -> Result<(), Fail> {
+    let alloc = rt.alloc();
+    let left = term(alloc, 2, [Term::Var(0), Term::Var(1)])?;
+    let trs = one_rule(alloc, Vec::from_array(alloc, [0, 1, 2])?, left, Term::Var(0))?;
+    assert!(rt; apart(alloc, &trs, &Term::Var(0), &Term::Var(1))?);
+    assert!(rt; !apart(alloc, &trs, &Term::Var(1), &Term::Var(1))?);
+    assert!(rt; !apart(alloc, &trs, &Term::Var(0), &pair(alloc, 0)?)?);
+    Ok(())
+}

@@ -1,0 +1,161 @@
+//! Terms are unified: small ones as by solving equations one after another, and large ones at once.
+use crate::made::term;
+use std::alloc::Global;
+use std::test::Fail;
+use trs_core::{Args, OutOfMemory, Subst, Term};
+use trs_unify::unify;
+
+/// Term number `n` over `c`, the unary `g`, the binary `f` and the variables 0 and 1.
+fn small(alloc: Global, n: u32) -> Result<Term, OutOfMemory> {
+    if n < 2 {
+        return Ok(Term::Var(n));
+    }
+    if n == 2 {
+        return term(alloc, 0, []);
+    }
+    let rest = (n - 3) / 2;
+    if n % 2 == 0 {
+        term(alloc, 1, [small(alloc, rest)?])
+    } else {
+        term(alloc, 2, [small(alloc, rest / 6)?, small(alloc, rest % 6)?])
+    }
+}
+
+/// Whether equations have a solution, by solving them one after another: a variable that is left
+/// alone is put into all others. (Martelli and Montanari, An efficient unification algorithm, 1982.)
+fn solvable(alloc: Global, a: Term, b: Term) -> Result<bool, Fail> {
+    let mut equations = Vec::from_array(alloc, [(a, b)])?;
+    for _ in 0..1000 {
+        match equations.pop() {
+            None => return Ok(true),
+            Some((Term::Var(v), Term::Var(w))) => {
+                equations = with_binding(alloc, equations, v, Term::Var(w))?;
+            }
+            Some((Term::Var(v), t)) => {
+                if t.has_var(v) {
+                    return Ok(false);
+                }
+                equations = with_binding(alloc, equations, v, t)?;
+            }
+            Some((t, Term::Var(v))) => equations.push((Term::Var(v), t))?,
+            Some((Term::App(f, ts), Term::App(g, us))) => {
+                if f != g || ts.items.len() != us.items.len() {
+                    return Ok(false);
+                }
+                for (i, t) in ts.items.iter().enumerate() {
+                    equations.push((t.copy(alloc)?, us.items[i].copy(alloc)?))?;
+                }
+            }
+        }
+    }
+    Err(Fail::from("no end"))
+}
+
+/// The equations with a term for a variable.
+fn with_binding(
+    alloc: Global,
+    equations: Vec<(Term, Term)>,
+    v: u32,
+    t: Term,
+) -> Result<Vec<(Term, Term)>, Fail> {
+    let mut binding = Subst::new(alloc);
+    binding.insert(v, t)?;
+    let mut bound = Vec::new(alloc);
+    for (a, b) in &equations {
+        bound.push((binding.apply(alloc, a)?, binding.apply(alloc, b)?))?;
+    }
+    Ok(bound)
+}
+
+#[test]
+fn small_terms_are_unified(rt: HostRuntime) -> Result<(), Fail> {
+    let alloc = rt.alloc();
+    for i in 0..60 {
+        for j in 0..60 {
+            let a = small(alloc, i)?;
+            let b = small(alloc, j)?;
+            let found = unify(alloc, &a, &b)?;
+            let want = solvable(alloc, small(alloc, i)?, small(alloc, j)?)?;
+            assert_eq!(rt; found.is_some(), want, "{i} and {j}");
+            if let Some(unifier) = found {
+                assert!(rt; unifier.instance(alloc, &a)?.same(&unifier.instance(alloc, &b)?));
+            }
+        }
+    }
+    Ok(())
+}
+
+/// The sides of the exploding system's overlap: `h(x1,..,xn,x1,..,xn)` and
+/// `h(y1,..,yn,p(y0,y0),..,p(y(n-1),y(n-1)))`, with 1,000 more on the y.
+fn exploding(alloc: Global, n: u32) -> Result<(Term, Term), OutOfMemory> {
+    let mut left = Vec::new(alloc);
+    let mut right = Vec::new(alloc);
+    for _ in 0..2 {
+        for i in 0..n {
+            left.push(Term::Var(i))?;
+        }
+    }
+    for i in 0..n {
+        right.push(Term::Var(1001 + i))?;
+    }
+    for i in 0..n {
+        right.push(term(alloc, 1, [Term::Var(1000 + i), Term::Var(1000 + i)])?)?;
+    }
+    let first = Term::App(0, Args { items: left });
+    Ok((first, Term::App(0, Args { items: right })))
+}
+
+#[test]
+fn an_exploding_instance_is_measured(rt: HostRuntime) -> Result<(), Fail> {
+    let alloc = rt.alloc();
+    let (a, b) = exploding(alloc, 120)?;
+    let unifier = unify(alloc, &a, &b)?.ok_or("no unifier")?;
+    assert_eq!(rt; unifier.instance_size(&a), Some((1_000_000, 122)));
+    assert!(rt; unifier.instance(alloc, &a).is_err());
+    assert_eq!(rt; unifier.instance_size(&Term::Var(5000)), None);
+    Ok(())
+}
+
+/// Equal subterms that are met in turn as a variable and as a symbol: with bindings of variables
+/// to terms they would be compared 2^60 times.
+#[test]
+fn alternating_terms_are_unified(rt: HostRuntime) -> Result<(), Fail> {
+    let alloc = rt.alloc();
+    let mut left = Vec::new(alloc);
+    let mut right = Vec::new(alloc);
+    for i in 0u32..60 {
+        let x = 2 * i;
+        left.push(Term::Var(x + 2))?;
+        let q = term(alloc, 1, [Term::Var(x)])?;
+        right.push(term(alloc, 0, [q, term(alloc, 1, [Term::Var(x)])?])?)?;
+        left.push(Term::Var(x + 3))?;
+        let p = term(alloc, 0, [Term::Var(x + 1), Term::Var(x + 1)])?;
+        right.push(term(alloc, 1, [p])?)?;
+    }
+    let q = term(alloc, 1, [Term::Var(120)])?;
+    left.push(term(alloc, 0, [q, term(alloc, 1, [Term::Var(120)])?])?)?;
+    right.push(term(alloc, 0, [Term::Var(121), Term::Var(121)])?)?;
+    let a = Term::App(2, Args { items: left });
+    let b = Term::App(2, Args { items: right });
+    assert!(rt; unify(alloc, &a, &b)?.is_some());
+    Ok(())
+}
+
+/// A list of so many constants, and then the last one.
+fn list(alloc: Global, count: u32, last: u32) -> Result<Term, OutOfMemory> {
+    let mut items = Vec::new(alloc);
+    for _ in 0..count {
+        items.push(term(alloc, 1, [])?)?;
+    }
+    items.push(term(alloc, last, [])?)?;
+    Ok(Term::App(0, Args { items }))
+}
+
+#[test]
+fn large_terms_differ_at_the_end(rt: HostRuntime) -> Result<(), Fail> {
+    let alloc = rt.alloc();
+    let a = list(alloc, 32_000, 1)?;
+    assert!(rt; unify(alloc, &a, &list(alloc, 32_000, 1)?)?.is_some());
+    assert!(rt; unify(alloc, &a, &list(alloc, 32_000, 2)?)?.is_none());
+    Ok(())
+}

@@ -1,0 +1,178 @@
+-- Parts of a cap, added one after another.
+use Rattle.std.proofs.Common.{◌≡◌, ℕ, ◌+◌, ◌<◌, ◌≤◌, ◌↔◌, Bool, true, false, IsTrue, List, [], ◌∷◌, ◌++◌, Option, Some, None, map, length, take, drop, get_or, zero, suc, refl, ap, sym, ◌∙◌, subst, arith, nat_cmp, Vec, Global, Result, Ok, Err, IfOk}
+use Rattle.std.proofs.lemmas.List.{drop_all, take_all, take_more}
+use Rattle.std.proofs.lemmas.Grind.{common_steps}
+use Rattle.std.specs.Borrow.{Bor}
+use Rattle.std.specs.BTreeMap.{BTreeMap, is_at, get, Updates}
+use native.Mathlib.Decide.{ℕ_discrete}
+use Rattle.trs_defs.specs.Tree.{Tree, Trees, var, app, nil, cons}
+use Rattle.trs_defs.specs.Substitution.{apply, apply_all}
+use Rattle.trs_defs.proofs.ArgumentLists.{cell}
+use Rattle.trs_core.specs.declared.terms.Term.{Term}
+use Rattle.trs_core.specs.View.{tree, forest}
+use Rattle.trs_caps.specs.HoledTree.{HoledTree, HoledTrees, hole, own, symbol, none, more, Fits, EachFits, fits_hole, fits_own, fits_symbol, fits_none, fits_more}
+use Rattle.trs_caps.specs.HoledCap.{MeetsLeft}
+use Rattle.trs_caps.specs.Clash.{clash}
+use Rattle.trs_caps.specs.Parts.{FitsEach, NoneClashesWith, AreCompatible, Holds, Adds, Refutes, Walks}
+use Rattle.trs_caps.specs.PartLists.{caps_of, entry_parts, parts_at}
+use Rattle.trs_caps.specs.declared.holed.Cap.{Cap}
+use Rattle.trs_caps.specs.View.{holed, holed_all}
+use Rattle.trs_caps.proofs.Compatible.{clash_disjoint, together, compatible_more, fits_more_each, fits_less_each}
+
+-- one more part at a variable
+pub added : (old new : ℕ → List HoledTree) (v : ℕ) (c : HoledTree) → new v ≡ old v ++ c ∷ [] → ((w : ℕ) → (w ≡ v → ⊥) → new w ≡ old w)
+    → NoneClashesWith (old v) c → Adds c (var v) old new
+added old new v c here others clashes_not = record {
+  compatible = λ h w. elim (ℕ_discrete w v) [
+    | yes same ↦ subst (λ z. AreCompatible (new z)) (sym same) (subst AreCompatible (sym here) (compatible_more (old v) c (h v) clashes_not))
+    | no other ↦ subst AreCompatible (sym (others w other)) (h w)
+  ];
+  sound = λ τ h.
+      let both : FitsEach (old v) (τ v) × Fits c (τ v) = fits_less_each (old v) c (τ v) (subst (λ z. FitsEach z (τ v)) here (h v)) in (
+        λ w. elim (ℕ_discrete w v) [
+          | yes same ↦ subst (λ z. FitsEach (old z) (τ z)) (sym same) both.0
+          | no other ↦ subst (λ z. FitsEach z (τ w)) (others w other) (h w)
+        ],
+        both.1,
+      );
+  complete = λ τ h p w. elim (ℕ_discrete w v) [
+    | yes same ↦ subst (λ z. FitsEach (new z) (τ z)) (sym same) (subst (λ z. FitsEach z (τ v)) (sym here) (fits_more_each (old v) c (τ v) (h v) p))
+    | no other ↦ subst (λ z. FitsEach z (τ w)) (sym (others w other)) (h w)
+  ];
+}
+
+caps_more : (xs : List (Bor Cap)) (x : Bor Cap) → caps_of (xs ++ x ∷ []) ≡ caps_of xs ++ holed x.now ∷ []
+caps_more [] x = refl
+caps_more (y ∷ xs) x = ap (λ z. holed y.now ∷ z) (caps_more xs x)
+
+not_at : (v w : ℕ) → (w ≡ v → ⊥) → is_at (nat_cmp v) w ≡ false
+not_at v w other = grind (arith, common_steps)
+
+-- parts stand at other variables as before
+pub others_stay : (old new : BTreeMap ℕ (Vec (Bor Cap) Global)) (v : ℕ) (entry : Option (Vec (Bor Cap) Global)) → Updates nat_cmp old new v entry
+    → (w : ℕ) → (w ≡ v → ⊥) → parts_at new w ≡ parts_at old w
+others_stay old new v entry updates w other = ap entry_parts (updates.2 w (not_at v w other))
+
+pub part_added : (old rest new : BTreeMap ℕ (Vec (Bor Cap) Global)) (v : ℕ) (part : Bor Cap) (c : HoledTree) (there : List (Bor Cap)) (more_there : Vec (Bor Cap) Global)
+    → c ≡ holed part.now → caps_of there ≡ parts_at old v → ((w : ℕ) → (w ≡ v → ⊥) → parts_at rest w ≡ parts_at old w)
+    → more_there.items ≡ there ++ part ∷ [] → Updates nat_cmp rest new v (Some more_there) → NoneClashesWith (caps_of there) c
+    → Adds c (var v) (parts_at old) (parts_at new)
+part_added old rest new v part c there more_there is_c taken others pushed updates clashes_not =
+    let here : parts_at new v ≡ parts_at old v ++ c ∷ [] =
+    ap entry_parts updates.1 ∙ (ap caps_of pushed ∙ (caps_more there part ∙ rw (taken, is_c) refl)) in
+    added (parts_at old) (parts_at new) v c here (λ w other. others_stay rest new v (Some more_there) updates w other ∙ others w other)
+    (subst (λ z. NoneClashesWith z c) taken clashes_not)
+
+pub part_refuted : (old : BTreeMap ℕ (Vec (Bor Cap) Global)) (v : ℕ) (c : HoledTree) (there : List (Bor Cap)) → caps_of there ≡ parts_at old v
+    → ((t : Tree) → FitsEach (caps_of there) t → Fits c t → ⊥) → Refutes c (var v) (parts_at old)
+part_refuted old v c there taken apart = record { none = λ τ holds p. apart (τ v) (subst (λ z. FitsEach z (τ v)) (sym taken) (holds v)) p }
+
+-- the next one clashes, or does not
+pub clash_there : (xs : List (Bor Cap)) (i : ℕ) (x : Bor Cap) (c : HoledTree) (t : Tree) → i < length xs → x ≡ get_or xs i x → IsTrue (clash (holed x.now) c)
+    → FitsEach (caps_of xs) t → Fits c t → ⊥
+clash_there [] i x c t h is e f p = absurd (omega arith)
+clash_there (y ∷ xs) zero x c t h is e f p = clash_disjoint (holed x.now) c t e (subst (λ z. Fits (holed z.now) t) (sym is) f.0) p
+clash_there (y ∷ xs) (suc i) x c t h is e f p = clash_there xs i x c t (omega arith) is e f.1 p
+
+none_more : (cs : List HoledTree) (c d : HoledTree) → NoneClashesWith cs d → clash c d ≡ false → NoneClashesWith (cs ++ c ∷ []) d
+none_more [] c d h e = (e, tt)
+none_more (x ∷ cs) c d h e = (h.0, none_more cs c d h.1 e)
+
+pub none_so_far : (xs : List (Bor Cap)) (i : ℕ) (x : Bor Cap) (d : HoledTree) → i < length xs → x ≡ get_or xs i x → NoneClashesWith (caps_of (take i xs)) d → clash (holed x.now) d ≡ false
+    → NoneClashesWith (caps_of (take (i + 1) xs)) d
+none_so_far xs i x d h is so_far e =
+    let taken : take (i + 1) xs ≡ take i xs ++ x ∷ [] = take_more xs i x h ∙ ap (λ z. take i xs ++ z ∷ []) (sym is) in
+    rw (taken, caps_more (take i xs) x) (none_more (caps_of (take i xs)) (holed x.now) d so_far e)
+
+-- what is left of two argument lists: the parts so far, and these arguments
+abbrev pub IsFit : (ℕ → List HoledTree) → List Cap → List Term → (ℕ → Tree) → Type 0
+IsFit parts cs ts τ = Holds parts τ × EachFits (holed_all cs) (apply_all τ (forest ts))
+
+-- The same substitutions fit what was to be fitted at first and what is left.
+pub record SameFits (old : ℕ → List HoledTree) (cs : List Cap) (ts : List Term) (new : ℕ → List HoledTree) (ds : List Cap) (us : List Term) : Type 0 where
+  pub onward : (τ : ℕ → Tree) → IsFit old cs ts τ → IsFit new ds us τ
+  pub back : (τ : ℕ → Tree) → IsFit new ds us τ → IsFit old cs ts τ
+  pub compatible : ((v : ℕ) → AreCompatible (old v)) → (v : ℕ) → AreCompatible (new v)
+
+pub all_to_fit : (old : ℕ → List HoledTree) (cs : List Cap) (ts : List Term) → SameFits old cs ts old cs ts
+all_to_fit old cs ts = record { onward = λ τ h. h; back = λ τ h. h; compatible = λ h. h }
+
+first_fits : (c : HoledTree) (cs : HoledTrees) (t : Tree) (ts : Trees) → EachFits (more c cs) (cons t ts) → Fits c t × EachFits cs ts
+first_fits c cs t ts (fits_more p ps) = (p, ps)
+
+with_cells : (old new : ℕ → List HoledTree) (cs : List Cap) (ts : List Term) (i : ℕ) (c : Cap) (t : Term) → length cs ≡ length ts → i < length cs → c ≡ get_or cs i c → t ≡ get_or ts i t
+    → SameFits old cs ts new (drop i cs) (drop i ts) → SameFits old cs ts new (c ∷ drop (i + 1) cs) (t ∷ drop (i + 1) ts)
+with_cells old new cs ts i c t l h is_c is_t same = rw (← cell cs i c h is_c, ← cell ts i t (omega arith) is_t) same
+
+one_less : (old mid new : ℕ → List HoledTree) (cs ds : List Cap) (ts us : List Term) (c : Cap) (t : Term) → SameFits old cs ts mid (c ∷ ds) (t ∷ us)
+    → Adds (holed c) (tree t) mid new → SameFits old cs ts new ds us
+one_less old mid new cs ds ts us c t same adds = record {
+  onward = λ τ h. let k = same.onward τ h in let p = first_fits (holed c) (holed_all ds) (apply τ (tree t)) (apply_all τ (forest us)) k.1 in (adds.complete τ k.0 p.0, p.1);
+  back = λ τ h. let k = adds.sound τ h.0 in same.back τ (k.0, fits_more k.1 h.1);
+  compatible = λ h. adds.compatible (same.compatible h);
+}
+
+pub next_walk : (old mid new : ℕ → List HoledTree) (cs : List Cap) (ts : List Term) (i : ℕ) (c : Cap) (t : Term) → length cs ≡ length ts → i < length cs → c ≡ get_or cs i c → t ≡ get_or ts i t
+    → SameFits old cs ts mid (drop i cs) (drop i ts) → Adds (holed c) (tree t) mid new → SameFits old cs ts new (drop (i + 1) cs) (drop (i + 1) ts)
+next_walk old mid new cs ts i c t l h is_c is_t same adds =
+    one_less old mid new cs (drop (i + 1) cs) ts (drop (i + 1) ts) c t (with_cells old mid cs ts i c t l h is_c is_t same) adds
+
+args_fit : (f g : ℕ) (cs : HoledTrees) (ts : Trees) → Fits (symbol f cs) (app g ts) → EachFits cs ts
+args_fit f g cs ts (fits_symbol p) = p
+
+same_roots : (f g : ℕ) (cs : HoledTrees) (ts : Trees) → Fits (symbol f cs) (app g ts) → f ≡ g
+same_roots f g cs ts (fits_symbol p) = refl
+
+pub no_next_walk : (old mid : ℕ → List HoledTree) (cs : List Cap) (ts : List Term) (i f g : ℕ) (c : Cap) (t : Term) → length cs ≡ length ts → i < length cs → c ≡ get_or cs i c → t ≡ get_or ts i t
+    → SameFits old cs ts mid (drop i cs) (drop i ts) → Refutes (holed c) (tree t) mid → Refutes (symbol f (holed_all cs)) (app g (forest ts)) old
+no_next_walk old mid cs ts i f g c t l h is_c is_t same refutes = record {
+  none = λ τ holds p.
+      let k = (with_cells old mid cs ts i c t l h is_c is_t same).onward τ (holds, args_fit f g (holed_all cs) (apply_all τ (forest ts)) p) in
+      refutes.none τ k.0 (first_fits (holed c) (holed_all (drop (i + 1) cs)) (apply τ (tree t)) (apply_all τ (forest (drop (i + 1) ts))) k.1).0;
+}
+
+pub no_more_walks : (old mid : ℕ → List HoledTree) (cs : List Cap) (ts : List Term) (i f g : ℕ) → f ≡ g → length cs ≡ length ts → length cs ≤ i
+    → SameFits old cs ts mid (drop i cs) (drop i ts) → Adds (symbol f (holed_all cs)) (app g (forest ts)) old mid
+no_more_walks old mid cs ts i f g same_symbol l h same =
+    let done : SameFits old cs ts mid [] [] = rw (drop_all i cs h, drop_all i ts (omega arith)) at same in
+    record {
+      compatible = done.compatible;
+      sound = λ τ holds. let k = done.back τ (holds, fits_none) in (k.0, rw same_symbol (fits_symbol k.1));
+      complete = λ τ holds p. (done.onward τ (holds, args_fit f g (holed_all cs) (apply_all τ (forest ts)) p)).0;
+    }
+
+each_length : (τ : ℕ → Tree) (cs : List Cap) (ts : List Term) → EachFits (holed_all cs) (apply_all τ (forest ts)) → length cs ≡ length ts
+each_length τ [] [] p = refl
+each_length τ [] (t ∷ ts) p = elim p [ ]
+each_length τ (c ∷ cs) [] p = elim p [ ]
+each_length τ (c ∷ cs) (t ∷ ts) p = ap suc (each_length τ cs ts (first_fits (holed c) (holed_all cs) (apply τ (tree t)) (apply_all τ (forest ts)) p).1)
+
+pub unlike_heads : (old : ℕ → List HoledTree) (c : HoledTree) (l : Tree) (cs : List Cap) (ts : List Term) (f g : ℕ) → c ≡ symbol f (holed_all cs) → l ≡ app g (forest ts)
+    → (f ≡ g → length cs ≡ length ts → ⊥) → Refutes c l old
+unlike_heads old c l cs ts f g is_c is_l differ = rw (is_c, is_l) (record {
+  none = λ τ holds p. differ (same_roots f g (holed_all cs) (apply_all τ (forest ts)) p) (each_length τ cs ts (args_fit f g (holed_all cs) (apply_all τ (forest ts)) p));
+})
+
+pub hole_walks : (old : ℕ → List HoledTree) (c : HoledTree) (l : Tree) → c ≡ hole → Adds c l old old
+hole_walks old c l is = rw is (record { compatible = λ h. h; sound = λ τ h. (h, fits_hole); complete = λ τ h p. h })
+
+pub own_walks_not : (old : ℕ → List HoledTree) (c : HoledTree) (l : Tree) (v g : ℕ) (ts : Trees) → c ≡ own v → l ≡ app g ts → Refutes c l old
+own_walks_not old c l v g ts is_c is_l = rw (is_c, is_l) (record { none = λ τ h p. elim p [ ] })
+
+pub walked : (c : HoledTree) (l : Tree) (old new : ℕ → List HoledTree) (b : Bool) → ((v : ℕ) → old v ≡ []) → Walks c l old new b → IsTrue b ↔ MeetsLeft c l
+walked c l old new true empty adds = (
+  λ e.
+      let compatible = adds.compatible (λ v. subst AreCompatible (sym (empty v)) tt) in
+      let τ : ℕ → Tree = λ v. (together (new v) (compatible v)).0 in
+      (τ, (adds.sound τ (λ v. (together (new v) (compatible v)).1)).1),
+  λ m. refl,
+)
+walked c l old new false empty refutes = (λ e. absurd cc, λ m. absurd (refutes.none m.0 (λ v. subst (λ z. FitsEach z (m.0 v)) (sym (empty v)) tt) m.1))
+
+pub all_walked : {E : Type 0} (c : HoledTree) (l : Tree) (old new : BTreeMap ℕ (Vec (Bor Cap) Global)) (result : Result Bool E) → old.entries ≡ [] → IfOk result (Walks c l (parts_at old) (parts_at new))
+    → IfOk result (λ yes. IsTrue yes ↔ MeetsLeft c l)
+all_walked c l old new (Ok b) empty walks = walked c l (parts_at old) (parts_at new) b (λ v. nothing old v empty) walks
+  where
+    nothing : (m : BTreeMap ℕ (Vec (Bor Cap) Global)) (v : ℕ) → m.entries ≡ [] → parts_at m v ≡ []
+    nothing m v e = rw e refl
+all_walked c l old new (Err e) empty walks = walks

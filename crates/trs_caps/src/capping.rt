@@ -1,0 +1,112 @@
+ghost use Rattle.std.specs.Prelude.{◌≡◌, ◌≤◌, ℕ, false, true, IfOk, IsTrue};
+ghost use Rattle.trs_defs.specs.Tree.{Tree, var};
+ghost use Rattle.trs_defs.specs.Variable.{has_var};
+ghost use Rattle.trs_defs.specs.Size.{size_of};
+ghost use Rattle.trs_defs.specs.System.{IsSystem};
+ghost use Rattle.trs_defs.specs.Substitution.{apply, IsInstance};
+ghost use Rattle.trs_defs.specs.Derivation.{Reaches};
+ghost use Rattle.trs_defs.specs.Step.{Step};
+ghost use Rattle.trs_core.specs.View.{tree};
+ghost use Rattle.trs_caps.specs.Caps.{IsCapOf};
+ghost use Rattle.trs_caps.specs.HoledCap.{IsHoledCap, MeetsSome, HasRoot};
+ghost use Rattle.trs_caps.specs.HoledTree.{Fits};
+ghost use Rattle.trs_caps.specs.View.{holed};
+
+use crate::naming::{number, own_variables};
+use crate::{Cap, Parts};
+use std::alloc::Global;
+use term_pool::RulesByRoot;
+use trs_core::{OutOfMemory, Rule, Term, Trs};
+
+/// The cap of a term: what stays of it whatever steps are made, in its instances, or, where its
+/// variables are fixed, in the term itself.
+///
+/// A variable gives a fresh one, or stays where variables are fixed. A symbol over the caps of its
+/// arguments stays, unless that unifies with a left side renamed apart, and gives a fresh variable
+/// then. A marked root unifies with no left side, and so stays.
+pub fn tcap(alloc: Global, trs: &Trs, t: &Term, fixed: bool) -> Result<Term, OutOfMemory>
+    requires { size_of (tree t.now) ≤ 65536 }
+    ensures cap { IfOk result (λ c. IsCapOf trs.now.rules fixed (tree t.now) (tree c)) }
+    ensures reached { IfOk result (λ c. fixed ≡ false → (σ : ℕ → Tree) (v : Tree)
+        → Reaches (Step trs.now.rules) (apply σ (tree t.now)) v → IsInstance (tree c) v) }
+    ensures stays { IfOk result (λ c. fixed ≡ true → (v : Tree)
+        → Reaches (Step trs.now.rules) (tree t.now) v → (σ : ℕ → Tree)
+        × ((x : ℕ) → IsTrue (has_var x (tree t.now)) → σ x ≡ var x) × (apply σ (tree c) ≡ v)) }
+{
+    let by_root = RulesByRoot::new(alloc, trs)?;
+    let holed = cap(alloc, &by_root, t, fixed)?;
+    let own = own_variables(alloc, t, fixed)?;
+    number(alloc, &holed, &own, &mut 0)
+}
+
+/// The cap of a term, its fresh variables without names. The table of rules is made once for many
+/// terms of a system. Each symbol's cap is put beside the left sides with this root alone.
+pub fn cap(alloc: Global, by_root: &RulesByRoot, t: &Term, fixed: bool) -> Result<Cap, OutOfMemory>
+    ensures cap { IfOk result (λ c.
+        IsHoledCap by_root.now.rules fixed (tree t.now) (holed c)) }
+    // What the term reaches fits the cap; what its instances reach too, where variables are free.
+    ensures term { IfOk result (λ c. (v : Tree)
+        → Reaches (Step by_root.now.rules) (tree t.now) v → Fits (holed c) v) }
+    ensures instances { IfOk result (λ c. fixed ≡ false → (σ : ℕ → Tree) (v : Tree)
+        → Reaches (Step by_root.now.rules) (apply σ (tree t.now)) v → Fits (holed c) v) }
+{
+    cap_of(alloc, by_root, by_root.rules(), t, fixed)
+}
+
+fn cap_of(
+    alloc: Global,
+    by_root: &RulesByRoot,
+    rules: &[Rule],
+    t: &Term,
+    fixed: bool,
+) -> Result<Cap, OutOfMemory>
+    requires rules { rules.now ≡ by_root.now.rules }
+    requires valid { IsSystem by_root.now }
+    ensures { IfOk result (λ c. IsHoledCap by_root.now.rules fixed (tree t.now) (holed c)) }
+{
+    match t {
+        Term::Var(v) => {
+            if fixed {
+                Ok(Cap::Own(*v))
+            } else {
+                Ok(Cap::Open)
+            }
+        }
+        Term::App(f, args) => {
+            let mut items = Vec::with_capacity(alloc, args.items.len())?;
+            for arg in &args.items {
+                items.push(cap_of(alloc, by_root, rules, arg, fixed)?)?;
+            }
+            let whole = Cap::Symbol(*f, Parts { items });
+            if meets_some(alloc, by_root, rules, *f, &whole)? {
+                Ok(Cap::Open)
+            } else {
+                Ok(whole)
+            }
+        }
+    }
+}
+
+/// Whether a cap with this root meets a left side.
+fn meets_some(
+    alloc: Global,
+    by_root: &RulesByRoot,
+    rules: &[Rule],
+    f: u32,
+    cap: &Cap,
+) -> Result<bool, OutOfMemory>
+    requires rules { rules.now ≡ by_root.now.rules }
+    requires valid { IsSystem by_root.now }
+    requires root { HasRoot f (holed cap.now) }
+    ensures { IfOk result (λ yes. MeetsSome (holed cap.now) by_root.now.rules yes) }
+{
+    let mut k = by_root.first(f);
+    while (k as usize) < rules.len() {
+        let rule = &rules[k as usize];
+        if cap.meets(alloc, &rule.left)? {
+            return Ok(true);
+        }
+        k = by_root.next(k);
+    }
+    Ok(false)
+}
