@@ -1,23 +1,37 @@
 -- Steps that are read are well-made, and printed ones are read again.
 use Rattle.std.proofs.Common.{◌≡◌, ◌≤◌, ◌-◌, ◌^◌, [], ◌∷◌, length, codes, refl, subst, arith}
 use Rattle.names_text.specs.Named.{NamedSystem, IsNamed}
-use Rattle.cert_step.specs.ProofStep.{ProofStep, loop, fork, ProofNodeStep, IsWellMade}
+use Rattle.cert_step.specs.ProofStep.{ProofStep, loop, newman, parallel, strong, label, fork, confluence, ProofNodeStep, IsWellMade}
 use Rattle.text_reading.specs.Reading.{keyword, done}
 use Rattle.text_reading.specs.Numbers.{number}
 use Rattle.text_reading.proofs.Made.{Makes, made_part, made_done, made_list, made_by_word, made_number, made_any}
 use Rattle.text_reading.proofs.Again.{Spells, spells_part, spells_done, spells_list, spells_form, spells_keyword, spells_number}
 use Rattle.step_text.specs.Ranges.{HasNumbersInRange, IsWellMadeInRange}
 use Rattle.step_text.specs.LoopText.{loop_parts, loop_step}
+use Rattle.step_text.specs.NewmanText.{newman_parts, newman_step}
+use Rattle.step_text.specs.ParallelText.{parallel_parts, parallel_step}
+use Rattle.step_text.specs.StrongText.{strong_parts, strong_step}
+use Rattle.step_text.specs.LabelText.{label_parts, label_step}
 use Rattle.step_text.specs.ForkText.{fork_parts, fork_step}
+use Rattle.step_text.specs.ConfluenceText.{confluence_parts}
 use Rattle.step_text.specs.Steps.{forms, method, method_item, node_step, step, step_item, method_text, step_renumbered}
 use Rattle.step_text.proofs.LoopLaws.{loop_made, loop_again}
+use Rattle.step_text.proofs.NewmanLaws.{newman_made, newman_again}
+use Rattle.step_text.proofs.ParallelLaws.{parallel_made, parallel_again}
+use Rattle.step_text.proofs.StrongLaws.{strong_made, strong_again}
+use Rattle.step_text.proofs.LabelLaws.{label_made, label_again}
 use Rattle.step_text.proofs.ForkLaws.{fork_made, fork_again}
+use Rattle.step_text.proofs.ConfluenceLaws.{confluence_made, confluence_again}
 
 abbrev IsMade : NamedSystem → ProofStep → Type 0
 IsMade named s = IsWellMade named.system s × HasNumbersInRange s
 
 method_made : (named : NamedSystem) → length named.names ≡ length named.system.arities → Makes (method named) (IsMade named)
-method_made named counts = made_by_word (forms named) (IsMade named) (loop_made named counts, (fork_made named counts, tt))
+method_made named counts =
+    made_by_word (forms named) (IsMade named)
+    (loop_made named counts,
+    (newman_made named.system,
+    (parallel_made named.system, (strong_made named.system, (label_made named.system, (fork_made named counts, (confluence_made named.system, tt)))))))
 
 pub step_made : (named : NamedSystem) → length named.names ≡ length named.system.arities → Makes (step named) (IsWellMadeInRange named.system)
 step_made named counts x v e =
@@ -33,9 +47,19 @@ step_made named counts x v e =
 method_again : (named : NamedSystem) → IsNamed named → (s : ProofStep) → IsWellMade named.system s → HasNumbersInRange s → Spells (method named) 1024 (method_item named s) (method_text s).in_order
 method_again named is (loop start path place) made numbers =
     spells_form (forms named) (loop_parts named) (codes "loop") loop_step refl (λ at. refl) (loop_again named is start path place made numbers.0 numbers.1)
+method_again named is (newman items) made numbers =
+    spells_form (forms named) newman_parts (codes "newman") newman_step refl (λ at. refl) (newman_again items numbers)
+method_again named is (parallel items) made numbers =
+    spells_form (forms named) parallel_parts (codes "parallel") parallel_step refl (λ at. refl) (parallel_again items numbers)
+method_again named is (strong items) made numbers =
+    spells_form (forms named) strong_parts (codes "strong") strong_step refl (λ at. refl) (strong_again items numbers)
+method_again named is (label ranks items) made numbers =
+    spells_form (forms named) label_parts (codes "label") label_step refl (λ at. refl) (label_again ranks items made numbers)
 method_again named is (fork start left right test) made numbers =
     spells_form (forms named) (fork_parts named) (codes "fork") fork_step refl (λ at. refl)
-    (fork_again named is start left right test (made.0, made.1) made.2 numbers.0 numbers.1)
+    (fork_again named is start left right test made numbers.0 numbers.1)
+method_again named is confluence made numbers =
+    spells_form (forms named) confluence_parts (codes "confluence") confluence refl (λ at. refl) confluence_again
 
 pub step_again : (named : NamedSystem) → IsNamed named → (s : ProofNodeStep) → IsWellMadeInRange named.system s → Spells (step named) 1025 (step_item named s) (step_renumbered s)
 step_again named is s h =

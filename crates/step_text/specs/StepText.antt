@@ -8,5 +8,5 @@ pub record StepText : Type 1 where
   pub item : NamedSystem → Item
   -- what this is read as: the step, with the variables of its terms numbered in the order of their first occurrences
   pub in_order : ProofStep
-  -- its numbers can be read
+  -- the numbers in its positions, and those of rules, can be read
   pub is_in_range : Type 0

@@ -2,17 +2,29 @@
 use Rattle.std.specs.Prelude.{ℕ, ◌-◌, ◌^◌, List, [], ◌∷◌, codes}
 use Rattle.sexp_core.specs.Items.{Item}
 use Rattle.names_text.specs.Named.{NamedSystem}
-use Rattle.cert_step.specs.ProofStep.{ProofStep, loop, fork, ProofNodeStep}
+use Rattle.cert_step.specs.ProofStep.{ProofStep, loop, newman, parallel, strong, label, fork, confluence, ProofNodeStep}
 use Rattle.text_reading.specs.Reading.{Read, Form, done, part, keyword, list, by_word}
 use Rattle.text_reading.specs.Numbers.{number}
 use Rattle.text_reading.specs.Printed.{word_item, number_item, list_item}
 use Rattle.step_text.specs.StepText.{StepText}
 use Rattle.step_text.specs.LoopText.{loop_form, loop_text}
+use Rattle.step_text.specs.NewmanText.{newman_form, newman_text}
+use Rattle.step_text.specs.ParallelText.{parallel_form, parallel_text}
+use Rattle.step_text.specs.StrongText.{strong_form, strong_text}
+use Rattle.step_text.specs.LabelText.{label_form, label_text}
 use Rattle.step_text.specs.ForkText.{fork_form, fork_text}
+use Rattle.step_text.specs.ConfluenceText.{confluence_form, confluence_text}
 
 -- each method by its word
 abbrev pub forms : NamedSystem → List (List ℕ × Form ProofStep)
-forms named = (codes "loop", loop_form named) ∷ (codes "fork", fork_form named) ∷ []
+forms named =
+    (codes "loop", loop_form named) ∷
+    (codes "newman", newman_form) ∷
+    (codes "parallel", parallel_form) ∷
+    (codes "strong", strong_form) ∷
+    (codes "label", label_form) ∷
+    (codes "fork", fork_form named) ∷
+    (codes "confluence", confluence_form) ∷ []
 
 abbrev pub method : NamedSystem → Item → Read ProofStep
 method named = by_word (forms named)
@@ -20,7 +32,12 @@ method named = by_word (forms named)
 -- how a method is written
 abbrev pub method_text : ProofStep → StepText
 method_text (loop start path place) = loop_text start path place
+method_text (newman items) = newman_text items
+method_text (parallel items) = parallel_text items
+method_text (strong items) = strong_text items
+method_text (label ranks items) = label_text ranks items
 method_text (fork start left right test) = fork_text start left right test
+method_text confluence = confluence_text
 
 abbrev pub method_item : NamedSystem → ProofStep → Item
 method_item named s = (method_text s).item named

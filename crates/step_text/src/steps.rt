@@ -1,14 +1,21 @@
 ghost use Rattle.std.specs.Prelude.{◌≡◌, ◌≤◌, ◌++◌, OnOk, IfOk};
-ghost use Rattle.sexp_core.specs.Items.{view};
+ghost use Rattle.sexp_core.specs.Items.{view, views};
 ghost use Rattle.sexp_core.specs.Printed.{text_of};
 ghost use Rattle.names_text.specs.VariableNames.{underscores as underscores_of};
 ghost use Rattle.cert_step.specs.ProofStep.{step_of, node_step_of};
 ghost use Rattle.text_reading.specs.Seen.{seen};
+ghost use Rattle.step_text.specs.MethodForms.{form_of};
 ghost use Rattle.step_text.specs.Ranges.{HasNumbersInRange};
 ghost use Rattle.step_text.specs.Steps.{method, method_item, node_step, step, step_item};
 
+use crate::confluence_text::{put_confluence, read_confluence};
 use crate::fork_text::{put_fork, read_fork};
+use crate::label_text::{put_label, read_label};
 use crate::loop_text::{put_loop, read_loop};
+use crate::methods::{Method, read_method_word};
+use crate::newman_text::{put_newman, read_newman};
+use crate::parallel_text::{put_parallel, read_parallel};
+use crate::strong_text::{put_strong, read_strong};
 use cert_step::{NodeStep, Step};
 use names_text::NamedTrs;
 use sexp_core::Sexp;
@@ -29,15 +36,31 @@ fn read_method(alloc: Global, system: &NamedTrs, item: &Sexp) -> Result<Read<Ste
     let Some((head, members)) = members.split_first() else {
         return Ok(Err(*at));
     };
-    let Sexp::Word(word, head_at) = head else {
-        return Ok(Err(place(head)));
-    };
-    if word.as_slice() == b"loop".as_slice() {
-        read_loop(alloc, system, *at, members)
-    } else if word.as_slice() == b"fork".as_slice() {
-        read_fork(alloc, system, *at, members)
-    } else {
-        Ok(Err(*head_at))
+    match read_method_word(head) {
+        Ok(method) => read_form(alloc, system, method, *at, members),
+        Err(at) => Ok(Err(at)),
+    }
+}
+
+/// What is read of the members behind the word of a method in a list at a place.
+fn read_form(
+    alloc: Global,
+    system: &NamedTrs,
+    method: Method,
+    at: u32,
+    members: &[Sexp],
+) -> Result<Read<Step>, OutOfMemory>
+    ensures { IfOk result (λ r.
+        seen step_of r ≡ form_of system.now method at (views members.now)) }
+{
+    match method {
+        Method::Loop => read_loop(alloc, system, at, members),
+        Method::Newman => read_newman(alloc, members),
+        Method::Parallel => read_parallel(alloc, members),
+        Method::Strong => read_strong(alloc, members),
+        Method::Label => read_label(alloc, at, members),
+        Method::Fork => read_fork(alloc, system, at, members),
+        Method::Confluence => Ok(read_confluence(members)),
     }
 }
 
@@ -87,12 +110,17 @@ fn put_method(
         Step::Loop { start, path, place } => {
             put_loop(alloc, out, system, underscores, start, path, place)
         }
+        Step::Newman(joins) => put_newman(out, joins),
+        Step::Parallel(steps) => put_parallel(out, steps),
+        Step::Strong(fours) => put_strong(out, fours),
+        Step::Label { ranks, joins } => put_label(out, ranks, joins),
         Step::Fork {
             start,
             left,
             right,
             test,
         } => put_fork(alloc, out, system, underscores, start, left, right, *test),
+        Step::Confluence => put_confluence(out),
     }
 }
 

@@ -1,0 +1,4 @@
+pub mod TwoPathsLaws
+pub mod FourPathsLaws
+pub mod ParallelStepLaws
+pub mod RuleRanksLaws

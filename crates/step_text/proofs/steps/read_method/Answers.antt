@@ -1,0 +1,21 @@
+use Rattle.std.proofs.Common.{◌≡◌, ap, sym, ◌∙◌}
+use Rattle.sexp_core.specs.Items.{a_list, item, view, views}
+use Rattle.text_reading.specs.Seen.{seen}
+use Rattle.text_reading.proofs.Members.{list_seen}
+use Rattle.step_text.specs.MethodForms.{form_of}
+use Rattle.step_text.proofs.MethodSeen.{method_seen}
+use Rattle.step_text.proofs.steps.read_method.Goals as goal
+
+pub returns-in-Ok : goal.returns-in-Ok
+returns-in-Ok c =
+    let named = c.args.system.now in
+    let shape = list_seen c.args.item.now c.in-List.members c.in-List.at c.deref.result.now _ c.in-List.is c.deref.ensures.value (ap views c.in-Some.ensures.cases.0) in
+    let finds = c.read_method_word.ensures named ∙ ap (seen (form_of named)) c.in-Ok.is in
+    rw (method_seen named _ _ _ _ _ shape finds) c.read_form.ensures
+
+pub returns-in-Err : goal.returns-in-Err
+returns-in-Err c =
+    let named = c.args.system.now in
+    let shape = list_seen c.args.item.now c.in-List.members c.in-List.at c.deref.result.now _ c.in-List.is c.deref.ensures.value (ap views c.in-Some.ensures.cases.0) in
+    let finds = c.read_method_word.ensures named ∙ ap (seen (form_of named)) c.in-Err.is in
+    sym (method_seen named _ _ _ _ _ shape finds)

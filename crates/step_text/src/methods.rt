@@ -1,0 +1,57 @@
+ghost use Rattle.std.specs.Prelude.{◌≡◌};
+ghost use Rattle.names_text.specs.Named.{NamedSystem};
+ghost use Rattle.sexp_core.specs.Items.{view};
+ghost use Rattle.text_reading.specs.Reading.{chosen, word as word_among};
+ghost use Rattle.text_reading.specs.Seen.{seen};
+ghost use Rattle.step_text.specs.Steps.{forms};
+ghost use Rattle.step_text.specs.MethodForms.{form_of};
+
+use sexp_core::Sexp;
+use text_reading::Read;
+
+/// The methods that are read.
+#[derive(Clone, Copy)]
+pub enum Method {
+    Loop,
+    Newman,
+    Parallel,
+    Strong,
+    Label,
+    Fork,
+    Confluence,
+}
+
+/// The word of a method.
+pub fn read_method_word(item: &Sexp) -> Read<Method>
+    ensures { (named : NamedSystem)
+        → word_among (forms named) (view item.now) ≡ seen (form_of named) result }
+{
+    match item {
+        Sexp::Word(word, at) => method_by(word.as_slice(), *at),
+        Sexp::List(_, at) => Err(*at),
+    }
+}
+
+/// The method of a word at a place.
+fn method_by(word: &[u8], at: u32) -> Read<Method>
+    ensures { (named : NamedSystem)
+        → chosen (forms named) at word.now ≡ seen (form_of named) result }
+{
+    if word == b"loop".as_slice() {
+        Ok(Method::Loop)
+    } else if word == b"newman".as_slice() {
+        Ok(Method::Newman)
+    } else if word == b"parallel".as_slice() {
+        Ok(Method::Parallel)
+    } else if word == b"strong".as_slice() {
+        Ok(Method::Strong)
+    } else if word == b"label".as_slice() {
+        Ok(Method::Label)
+    } else if word == b"fork".as_slice() {
+        Ok(Method::Fork)
+    } else if word == b"confluence".as_slice() {
+        Ok(Method::Confluence)
+    } else {
+        Err(at)
+    }
+}

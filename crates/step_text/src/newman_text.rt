@@ -1,0 +1,39 @@
+ghost use Rattle.std.specs.Prelude.{◌≡◌, ◌++◌, Ok, OnOk, IfOk};
+ghost use Rattle.sexp_core.specs.Items.{views};
+ghost use Rattle.sexp_core.specs.Printed.{text_of};
+ghost use Rattle.cert_step.specs.ProofStep.{step_of};
+ghost use Rattle.text_reading.specs.Reading.{◌<*>◌, many};
+ghost use Rattle.text_reading.specs.Seen.{seen};
+ghost use Rattle.peak_text.specs.TwoPaths.{join};
+ghost use Rattle.step_text.specs.NewmanText.{newman_step, newman_item, newman_text};
+
+use cert_step::Step;
+use peak_text::{put_joins, read_joins};
+use rewrite_core::Join;
+use sexp_core::Sexp;
+use std::alloc::Global;
+use text_reading::{Read, put};
+use trs_core::OutOfMemory;
+
+/// A step of joins, `(newman join ..)`, by the members behind its word.
+pub fn read_newman(alloc: Global, members: &[Sexp]) -> Result<Read<Step>, OutOfMemory>
+    ensures { IfOk result (λ r.
+        seen step_of r ≡ Ok newman_step <*> many join (views members.now)) }
+{
+    match read_joins(alloc, members)? {
+        Ok(joins) => Ok(Ok(Step::Newman(joins))),
+        Err(at) => Ok(Err(at)),
+    }
+}
+
+/// Appends the text of a step of joins.
+pub fn put_newman(out: &mut Vec<u8>, joins: &[Join]) -> Result<(), OutOfMemory>
+    ensures text { OnOk result (out.new.items
+        ≡ out.old.items ++ text_of (newman_item joins.now)) }
+    ensures range { OnOk result (newman_text joins.now).is_in_range }
+{
+    put(out, b"(newman")?;
+    put_joins(out, joins)?;
+    put(out, b")")?;
+    Ok(())
+}
