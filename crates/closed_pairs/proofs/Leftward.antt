@@ -1,11 +1,12 @@
 -- Paths whose positions each stand left of the next one are parallel steps, written from the left.
 use Rattle.std.specs.Prelude.{◌≡◌, ◌≢◌, ◌↔◌, ◌<◌, ℕ, ◌+◌, List, [], ◌∷◌, drop, take, length, slice_get, Some, IsTrue}
-use Rattle.std.proofs.Common.{◌≤◌, ◌-◌, zero, suc, inl, inr, get_or, ltb, refl, sym, subst, add-one, arith}
+use Rattle.std.proofs.Common.{◌≤◌, ◌-◌, inl, inr, get_or, ltb, refl, sym, ap, ◌∙◌, subst, arith}
 use Rattle.std.proofs.lemmas.Bool.{ltb-true, lt-ltb}
-use Rattle.std.proofs.lemmas.List.{take_all}
+use Rattle.std.proofs.lemmas.List.{take_all, drop_more}
+use Rattle.std.proofs.lemmas.Option.{slice_get_within, get_or_from_slice_get}
 use Rattle.trs_defs.specs.Path.{PlacedRule}
 use Rattle.confluence_theory.specs.ParallelPositions.{AreParallel, IsParallelToAll, ArePairwiseParallel}
-use Rattle.closed_pairs.specs.Leftward.{IsLeftOf, GoesRight}
+use Rattle.closed_pairs.specs.LeftOf.{IsLeftOf}
 use Rattle.closed_pairs.specs.ParallelClosed.{StandsBefore, DoAscend, IsParallel}
 
 -- ---- two positions
@@ -39,6 +40,12 @@ left_through (a ∷ p) (b ∷ q) (c ∷ r) (inr (e, h)) (inl k) = inl (omega (ar
 left_through (a ∷ p) (b ∷ q) (c ∷ r) (inr (e, h)) (inr (d, k)) = inr (omega (arith, e, d), left_through p q r h k)
 
 -- ---- paths
+
+-- each position of the path is left of the next one
+abbrev pub GoesRight : List PlacedRule → Type 0
+GoesRight [] = Unit {0}
+GoesRight (s ∷ []) = Unit {0}
+GoesRight (s ∷ t ∷ path) = IsLeftOf s.place t.place × GoesRight (t ∷ path)
 
 -- what stands left of the first position of such a path is parallel to all of them
 parallel_to_all : (p : List ℕ) (t : PlacedRule) (path : List PlacedRule) → IsLeftOf p t.place → GoesRight (t ∷ path) → IsParallelToAll p (t ∷ path)
@@ -75,13 +82,9 @@ here : (a b : ℕ) (p q : List ℕ) → a ≢ b → IsLeftOf (a ∷ p) (b ∷ q)
 here a b p q differ (inl lt) = lt
 here a b p q differ (inr (e, h)) = absurd (differ e)
 
-from_item : {A : Type 0} (xs : List A) (i : ℕ) (x : A) → slice_get xs i ≡ Some x → drop i xs ≡ x ∷ drop (suc i) xs
-from_item [] i x e = absurd cc
-from_item (y ∷ xs) zero x e = cc
-from_item (y ∷ xs) (suc i) x e = from_item xs i x e
-
 from_place : {A : Type 0} (xs : List A) (i : ℕ) (x : A) → slice_get xs i ≡ Some x → drop i xs ≡ x ∷ drop (i + 1) xs
-from_place xs i x e = rw add-one (from_item xs i x e)
+from_place xs i x e =
+    drop_more xs i x (slice_get_within xs i x e) ∙ ap (λ y. y ∷ drop (i + 1) xs) (get_or_from_slice_get xs i x x e)
 
 -- the positions agree before place number i
 module _ (p q : List ℕ) (i : ℕ) (agree : (IsLeftOf (drop i p) (drop i q)) ↔ (IsLeftOf p q)) where

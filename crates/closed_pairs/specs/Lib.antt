@@ -1,7 +1,7 @@
 pub mod Ends
 pub mod Joined
 pub mod LinearRules
-pub mod Leftward
+pub mod LeftOf
 pub mod ParallelClosed
 pub mod StronglyClosed
 pub mod Laws

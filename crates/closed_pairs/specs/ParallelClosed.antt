@@ -46,8 +46,8 @@ are_parallel_closed rules peaks items = do
   each (λ n item. closes_in_parallel rules n item.0 item.1) 0 (zip peaks items)
 
 -- the rules are left-linear, and the peaks are closed by parallel steps
-abbrev pub closes_left_linear : List RewriteRule → List PlacedPeak → List (List PlacedRule) → Check (Unit {0})
-closes_left_linear rules peaks items = do
+abbrev pub parallel_conditions_on : List RewriteRule → List PlacedPeak → List (List PlacedRule) → Check (Unit {0})
+parallel_conditions_on rules peaks items = do
   are_left_linear rules
   are_parallel_closed rules peaks items
 

@@ -45,8 +45,8 @@ are_strongly_closed rules peaks items = do
   each (λ n item. joins_strongly rules n item.0 item.1) 0 (zip peaks items)
 
 -- the rules are linear, and the peaks are joined strongly
-abbrev pub closes_linear : List RewriteRule → List PlacedPeak → List FourPaths → Check (Unit {0})
-closes_linear rules peaks items = do
+abbrev pub strong_conditions_on : List RewriteRule → List PlacedPeak → List FourPaths → Check (Unit {0})
+strong_conditions_on rules peaks items = do
   are_linear rules
   are_strongly_closed rules peaks items
 

@@ -2,8 +2,8 @@ ghost use Rattle.std.specs.Prelude.{◌↔◌, IsTrue};
 ghost use Rattle.rewrite_core.specs.Check.{Answers};
 ghost use Rattle.closed_pairs.specs.ParallelClosed.{paths_of, IsParallel};
 ghost use Rattle.closed_pairs.specs.ParallelClosed.{closes_in_parallel, are_parallel_closed};
-ghost use Rattle.closed_pairs.specs.ParallelClosed.{closes_left_linear, parallel_conditions};
-ghost use Rattle.closed_pairs.specs.Leftward.{IsLeftOf};
+ghost use Rattle.closed_pairs.specs.ParallelClosed.{parallel_conditions_on, parallel_conditions};
+ghost use Rattle.closed_pairs.specs.LeftOf.{IsLeftOf};
 
 use crate::ends::{ItemPath, end_of, run, same_ends};
 use crate::left_linear_check;
@@ -35,7 +35,7 @@ pub fn parallel_check(
     steps: &[Vec<PathStep>],
 ) -> Result<(), CheckFault>
     ensures answers { Answers
-        (closes_left_linear trs.now.rules peaks.now (paths_of steps.now)) result }
+        (parallel_conditions_on trs.now.rules peaks.now (paths_of steps.now)) result }
 {
     left_linear_check(trs)?;
     peaks_are_closed(alloc, trs, peaks, steps)

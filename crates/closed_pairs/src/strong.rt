@@ -2,7 +2,7 @@ ghost use Rattle.std.specs.Prelude.{◌≡◌, IfOk};
 ghost use Rattle.trs_core.specs.View.{tree};
 ghost use Rattle.rewrite_core.specs.Check.{Answers};
 ghost use Rattle.closed_pairs.specs.StronglyClosed.{half_joins, joins_strongly};
-ghost use Rattle.closed_pairs.specs.StronglyClosed.{are_strongly_closed, closes_linear};
+ghost use Rattle.closed_pairs.specs.StronglyClosed.{are_strongly_closed, strong_conditions_on};
 ghost use Rattle.closed_pairs.specs.StronglyClosed.{strong_conditions};
 
 use crate::ends::{ItemPath, meet};
@@ -67,7 +67,7 @@ pub fn strong_check(
     peaks: &[Peak],
     fours: &[Four],
 ) -> Result<(), CheckFault>
-    ensures answers { Answers (closes_linear trs.now.rules peaks.now fours.now) result }
+    ensures answers { Answers (strong_conditions_on trs.now.rules peaks.now fours.now) result }
 {
     linear_check(trs)?;
     peaks_are_joined_strongly(alloc, trs, peaks, fours)

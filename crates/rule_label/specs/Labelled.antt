@@ -16,12 +16,17 @@ use Rattle.closed_pairs.specs.LinearRules.{are_linear}
 abbrev pub ranks_along : List ℕ → List PlacedRule → List ℕ
 ranks_along ranks path = map (λ s. rank_of ranks s.rule) path
 
+-- the ranks along path i of item n fit those of the first and the second rule
+abbrev pub labels_must_fit : List ℕ → ℕ → ℕ → ℕ → ℕ → List PlacedRule → Check (Unit {0})
+labels_must_fit ranks n i first second path =
+    Needs (RanksFit (rank_of ranks first) (rank_of ranks second) (ranks_along ranks path)) (Labels n i)
+
 -- item n joins the peak, and the ranks along both of its paths fit those of the peak's rules
 abbrev pub joins_decreasing : List RewriteRule → List ℕ → ℕ → PlacedPeak → PathsOfJoin → Check (Unit {0})
 joins_decreasing rules ranks n peak join = do
   joins rules n peak join
-  Needs (RanksFit (rank_of ranks peak.inner) (rank_of ranks peak.outer) (ranks_along ranks join.left)) (Labels n 0)
-  Needs (RanksFit (rank_of ranks peak.outer) (rank_of ranks peak.inner) (ranks_along ranks join.right)) (Labels n 1)
+  labels_must_fit ranks n 0 peak.inner peak.outer join.left
+  labels_must_fit ranks n 1 peak.outer peak.inner join.right
 
 -- there is a rank for each rule, and an item for each peak, which shows that it is decreasing
 abbrev pub are_decreasing : List RewriteRule → List PlacedPeak → List ℕ → List PathsOfJoin → Check (Unit {0})
@@ -31,8 +36,8 @@ are_decreasing rules peaks ranks items = do
   each (λ n item. joins_decreasing rules ranks n item.0 item.1) 0 (zip peaks items)
 
 -- the rules are linear, and the peaks are decreasing
-abbrev pub decrease_linear : List RewriteRule → List PlacedPeak → List ℕ → List PathsOfJoin → Check (Unit {0})
-decrease_linear rules peaks ranks items = do
+abbrev pub label_conditions_on : List RewriteRule → List PlacedPeak → List ℕ → List PathsOfJoin → Check (Unit {0})
+label_conditions_on rules peaks ranks items = do
   are_linear rules
   are_decreasing rules peaks ranks items
 

@@ -1,11 +1,11 @@
 ghost use Rattle.rewrite_core.specs.Check.{Answers};
-ghost use Rattle.rule_label.specs.Labelled.{joins_decreasing, are_decreasing, decrease_linear};
-ghost use Rattle.rule_label.specs.Labelled.{label_conditions};
+ghost use Rattle.rule_label.specs.Labelled.{joins_decreasing, are_decreasing, label_conditions_on};
+ghost use Rattle.rule_label.specs.Labelled.{label_conditions, labels_must_fit};
 
 use crate::fitting::{rank_of, ranks_fit};
 use closed_pairs::{linear_check, peak_is_joined};
 use crit_pairs::peaks_of;
-use rewrite_core::{CheckFault, Join, Peak, StepRefused};
+use rewrite_core::{CheckFault, Join, PathStep, Peak, StepRefused};
 use std::alloc::Global;
 use trs_core::Trs;
 
@@ -33,7 +33,7 @@ pub fn label_check(
     joins: &[Join],
 ) -> Result<(), CheckFault>
     ensures answers { Answers
-        (decrease_linear trs.now.rules peaks.now ranks.now joins.now) result }
+        (label_conditions_on trs.now.rules peaks.now ranks.now joins.now) result }
 {
     linear_check(trs)?;
     peaks_are_decreasing(alloc, trs, peaks, ranks, joins)
@@ -75,13 +75,24 @@ fn peak_is_decreasing(
     ensures { Answers (joins_decreasing trs.now.rules ranks.now n peak.now join.now) result }
 {
     peak_is_joined(alloc, trs, n, peak, join)?;
-    let inner = rank_of(ranks, peak.inner);
-    let outer = rank_of(ranks, peak.outer);
-    if !ranks_fit(ranks, inner, outer, &join.left) {
-        return Err(CheckFault::Refused(StepRefused::Labels(n, 0)));
+    labels_fit(ranks, n, 0, peak.inner, peak.outer, &join.left)?;
+    labels_fit(ranks, n, 1, peak.outer, peak.inner, &join.right)
+}
+
+/// Sees that the ranks along path number `number` of item number `n` fit those of two rules.
+fn labels_fit(
+    ranks: &[u64],
+    n: u64,
+    number: u64,
+    first: u32,
+    second: u32,
+    path: &[PathStep],
+) -> Result<(), CheckFault>
+    ensures { Answers (labels_must_fit ranks.now n number first second path.now) result }
+{
+    if ranks_fit(ranks, rank_of(ranks, first), rank_of(ranks, second), path) {
+        Ok(())
+    } else {
+        Err(CheckFault::Refused(StepRefused::Labels(n, number)))
     }
-    if !ranks_fit(ranks, outer, inner, &join.right) {
-        return Err(CheckFault::Refused(StepRefused::Labels(n, 1)));
-    }
-    Ok(())
 }

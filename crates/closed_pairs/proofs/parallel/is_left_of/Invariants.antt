@@ -1,5 +1,5 @@
 use Rattle.std.proofs.Common.{◌↔◌, drop}
-use Rattle.closed_pairs.specs.Leftward.{IsLeftOf}
+use Rattle.closed_pairs.specs.LeftOf.{IsLeftOf}
 use Rattle.closed_pairs.proofs.parallel.is_left_of.Given as goal
 
 abbrev pub invariant-loop-i : goal.invariant-loop-i

@@ -2,7 +2,7 @@ use Rattle.std.specs.Prelude.{take, drop, length}
 use Rattle.std.proofs.Common.{◌-◌, refl}
 use Rattle.std.proofs.lemmas.List.{drop_all}
 use Rattle.std.proofs.lemmas.Option.{slice_get_read}
-use Rattle.closed_pairs.specs.Leftward.{IsLeftOf}
+use Rattle.closed_pairs.specs.LeftOf.{IsLeftOf}
 use Rattle.closed_pairs.proofs.Leftward.{at_start, at_end, goes_on_right, no_parallel_step}
 use Rattle.closed_pairs.proofs.parallel.is_parallel.Goals as goal
 

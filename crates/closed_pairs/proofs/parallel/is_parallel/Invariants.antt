@@ -1,5 +1,5 @@
 use Rattle.std.proofs.Common.{◌↔◌, ◌∷◌, drop}
-use Rattle.closed_pairs.specs.Leftward.{GoesRight}
+use Rattle.closed_pairs.proofs.Leftward.{GoesRight}
 use Rattle.closed_pairs.proofs.parallel.is_parallel.Given as goal
 
 abbrev pub invariant-loop-step : goal.invariant-loop-step

@@ -1,4 +1,4 @@
-use Rattle.rule_label.proofs.RanksInTurn.{small_rank, low_rank, same_rank, no_rank}
+use Rattle.rule_label.proofs.RanksInTurn.{small_rank, low_rank}
 use Rattle.rule_label.proofs.fitting.after_rank.Goals as goal
 
 pub returns-then-rank-a : goal.returns-then-rank-a

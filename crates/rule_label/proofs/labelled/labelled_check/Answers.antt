@@ -13,6 +13,8 @@ returns-in_err-peaks c =
     rw (p.1, p.2) (record { answers = refused_later _ _ _ tt c.in_ok-linear_check.ensures.answers (refused_first _ _ _ c.in_err-peaks.ensures) })
 
 pub returns : goal.returns
-returns c = record { answers =
-    then_answers _ _ (λ u. u) tt c.peaks_are_decreasing.result c.in_ok-linear_check.ensures.answers
-    (then_answers _ _ (λ u. u) _ c.peaks_are_decreasing.result c.in_ok-peaks.ensures (rw c.deref.ensures.value at c.peaks_are_decreasing.ensures)) }
+returns c = record {
+  answers =
+      then_answers _ _ (λ u. u) tt c.peaks_are_decreasing.result c.in_ok-linear_check.ensures.answers
+      (then_answers _ _ (λ u. u) _ c.peaks_are_decreasing.result c.in_ok-peaks.ensures (rw c.deref.ensures.value at c.peaks_are_decreasing.ensures));
+}
