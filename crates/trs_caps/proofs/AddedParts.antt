@@ -12,21 +12,23 @@ use Rattle.trs_core.specs.declared.terms.Term.{Term}
 use Rattle.trs_core.specs.View.{tree, forest}
 use Rattle.trs_caps.specs.HoledTree.{HoledTree, HoledTrees, hole, own, symbol, none, more, Fits, EachFits, fits_hole, fits_own, fits_symbol, fits_none, fits_more}
 use Rattle.trs_caps.specs.HoledCap.{MeetsLeft}
-use Rattle.trs_caps.specs.Clash.{clash}
-use Rattle.trs_caps.specs.Parts.{FitsEach, NoneClashesWith, AreCompatible, Holds, Adds, Refutes, Walks}
+use Rattle.trs_caps.specs.Parts.{FitsEach, HaveInstance, Holds, HaveInstances, Adds, Refutes}
 use Rattle.trs_caps.specs.PartLists.{caps_of, entry_parts, parts_at}
 use Rattle.trs_caps.specs.declared.holed.Cap.{Cap}
 use Rattle.trs_caps.specs.View.{holed, holed_all}
-use Rattle.trs_caps.proofs.Compatible.{clash_disjoint, together, compatible_more, fits_more_each, fits_less_each}
+
+fits_more_each : (cs : List HoledTree) (d : HoledTree) (t : Tree) → FitsEach cs t → Fits d t → FitsEach (cs ++ d ∷ []) t
+fits_more_each [] d t h p = (p, tt)
+fits_more_each (c ∷ cs) d t h p = (h.0, fits_more_each cs d t h.1 p)
+
+fits_less_each : (cs : List HoledTree) (d : HoledTree) (t : Tree) → FitsEach (cs ++ d ∷ []) t → FitsEach cs t × Fits d t
+fits_less_each [] d t h = (tt, h.0)
+fits_less_each (c ∷ cs) d t h = let k = fits_less_each cs d t h.1 in ((h.0, k.0), k.1)
 
 -- one more part at a variable
 pub added : (old new : ℕ → List HoledTree) (v : ℕ) (c : HoledTree) → new v ≡ old v ++ c ∷ [] → ((w : ℕ) → (w ≡ v → ⊥) → new w ≡ old w)
-    → NoneClashesWith (old v) c → Adds c (var v) old new
-added old new v c here others clashes_not = record {
-  compatible = λ h w. elim (ℕ_discrete w v) [
-    | yes same ↦ subst (λ z. AreCompatible (new z)) (sym same) (subst AreCompatible (sym here) (compatible_more (old v) c (h v) clashes_not))
-    | no other ↦ subst AreCompatible (sym (others w other)) (h w)
-  ];
+    → Adds c (var v) old new
+added old new v c here others = record {
   sound = λ τ h.
       let both : FitsEach (old v) (τ v) × Fits c (τ v) = fits_less_each (old v) c (τ v) (subst (λ z. FitsEach z (τ v)) here (h v)) in (
         λ w. elim (ℕ_discrete w v) [
@@ -55,34 +57,12 @@ others_stay old new v entry updates w other = ap entry_parts (updates.2 w (not_a
 
 pub part_added : (old rest new : BTreeMap ℕ (Vec (Bor Cap) Global)) (v : ℕ) (part : Bor Cap) (c : HoledTree) (there : List (Bor Cap)) (more_there : Vec (Bor Cap) Global)
     → c ≡ holed part.now → caps_of there ≡ parts_at old v → ((w : ℕ) → (w ≡ v → ⊥) → parts_at rest w ≡ parts_at old w)
-    → more_there.items ≡ there ++ part ∷ [] → Updates nat_cmp rest new v (Some more_there) → NoneClashesWith (caps_of there) c
+    → more_there.items ≡ there ++ part ∷ [] → Updates nat_cmp rest new v (Some more_there)
     → Adds c (var v) (parts_at old) (parts_at new)
-part_added old rest new v part c there more_there is_c taken others pushed updates clashes_not =
+part_added old rest new v part c there more_there is_c taken others pushed updates =
     let here : parts_at new v ≡ parts_at old v ++ c ∷ [] =
     ap entry_parts updates.1 ∙ (ap caps_of pushed ∙ (caps_more there part ∙ rw (taken, is_c) refl)) in
     added (parts_at old) (parts_at new) v c here (λ w other. others_stay rest new v (Some more_there) updates w other ∙ others w other)
-    (subst (λ z. NoneClashesWith z c) taken clashes_not)
-
-pub part_refuted : (old : BTreeMap ℕ (Vec (Bor Cap) Global)) (v : ℕ) (c : HoledTree) (there : List (Bor Cap)) → caps_of there ≡ parts_at old v
-    → ((t : Tree) → FitsEach (caps_of there) t → Fits c t → ⊥) → Refutes c (var v) (parts_at old)
-part_refuted old v c there taken apart = record { none = λ τ holds p. apart (τ v) (subst (λ z. FitsEach z (τ v)) (sym taken) (holds v)) p }
-
--- the next one clashes, or does not
-pub clash_there : (xs : List (Bor Cap)) (i : ℕ) (x : Bor Cap) (c : HoledTree) (t : Tree) → i < length xs → x ≡ get_or xs i x → IsTrue (clash (holed x.now) c)
-    → FitsEach (caps_of xs) t → Fits c t → ⊥
-clash_there [] i x c t h is e f p = absurd (omega arith)
-clash_there (y ∷ xs) zero x c t h is e f p = clash_disjoint (holed x.now) c t e (subst (λ z. Fits (holed z.now) t) (sym is) f.0) p
-clash_there (y ∷ xs) (suc i) x c t h is e f p = clash_there xs i x c t (omega arith) is e f.1 p
-
-none_more : (cs : List HoledTree) (c d : HoledTree) → NoneClashesWith cs d → clash c d ≡ false → NoneClashesWith (cs ++ c ∷ []) d
-none_more [] c d h e = (e, tt)
-none_more (x ∷ cs) c d h e = (h.0, none_more cs c d h.1 e)
-
-pub none_so_far : (xs : List (Bor Cap)) (i : ℕ) (x : Bor Cap) (d : HoledTree) → i < length xs → x ≡ get_or xs i x → NoneClashesWith (caps_of (take i xs)) d → clash (holed x.now) d ≡ false
-    → NoneClashesWith (caps_of (take (i + 1) xs)) d
-none_so_far xs i x d h is so_far e =
-    let taken : take (i + 1) xs ≡ take i xs ++ x ∷ [] = take_more xs i x h ∙ ap (λ z. take i xs ++ z ∷ []) (sym is) in
-    rw (taken, caps_more (take i xs) x) (none_more (caps_of (take i xs)) (holed x.now) d so_far e)
 
 -- what is left of two argument lists: the parts so far, and these arguments
 abbrev pub IsFit : (ℕ → List HoledTree) → List Cap → List Term → (ℕ → Tree) → Type 0
@@ -92,10 +72,9 @@ IsFit parts cs ts τ = Holds parts τ × EachFits (holed_all cs) (apply_all τ (
 pub record SameFits (old : ℕ → List HoledTree) (cs : List Cap) (ts : List Term) (new : ℕ → List HoledTree) (ds : List Cap) (us : List Term) : Type 0 where
   pub onward : (τ : ℕ → Tree) → IsFit old cs ts τ → IsFit new ds us τ
   pub back : (τ : ℕ → Tree) → IsFit new ds us τ → IsFit old cs ts τ
-  pub compatible : ((v : ℕ) → AreCompatible (old v)) → (v : ℕ) → AreCompatible (new v)
 
 pub all_to_fit : (old : ℕ → List HoledTree) (cs : List Cap) (ts : List Term) → SameFits old cs ts old cs ts
-all_to_fit old cs ts = record { onward = λ τ h. h; back = λ τ h. h; compatible = λ h. h }
+all_to_fit old cs ts = record { onward = λ τ h. h; back = λ τ h. h }
 
 first_fits : (c : HoledTree) (cs : HoledTrees) (t : Tree) (ts : Trees) → EachFits (more c cs) (cons t ts) → Fits c t × EachFits cs ts
 first_fits c cs t ts (fits_more p ps) = (p, ps)
@@ -109,7 +88,6 @@ one_less : (old mid new : ℕ → List HoledTree) (cs ds : List Cap) (ts us : Li
 one_less old mid new cs ds ts us c t same adds = record {
   onward = λ τ h. let k = same.onward τ h in let p = first_fits (holed c) (holed_all ds) (apply τ (tree t)) (apply_all τ (forest us)) k.1 in (adds.complete τ k.0 p.0, p.1);
   back = λ τ h. let k = adds.sound τ h.0 in same.back τ (k.0, fits_more k.1 h.1);
-  compatible = λ h. adds.compatible (same.compatible h);
 }
 
 pub next_walk : (old mid new : ℕ → List HoledTree) (cs : List Cap) (ts : List Term) (i : ℕ) (c : Cap) (t : Term) → length cs ≡ length ts → i < length cs → c ≡ get_or cs i c → t ≡ get_or ts i t
@@ -136,7 +114,6 @@ pub no_more_walks : (old mid : ℕ → List HoledTree) (cs : List Cap) (ts : Lis
 no_more_walks old mid cs ts i f g same_symbol l h same =
     let done : SameFits old cs ts mid [] [] = rw (drop_all i cs h, drop_all i ts (omega arith)) at same in
     record {
-      compatible = done.compatible;
       sound = λ τ holds. let k = done.back τ (holds, fits_none) in (k.0, rw same_symbol (fits_symbol k.1));
       complete = λ τ holds p. (done.onward τ (holds, args_fit f g (holed_all cs) (apply_all τ (forest ts)) p)).0;
     }
@@ -154,25 +131,59 @@ unlike_heads old c l cs ts f g is_c is_l differ = rw (is_c, is_l) (record {
 })
 
 pub hole_walks : (old : ℕ → List HoledTree) (c : HoledTree) (l : Tree) → c ≡ hole → Adds c l old old
-hole_walks old c l is = rw is (record { compatible = λ h. h; sound = λ τ h. (h, fits_hole); complete = λ τ h p. h })
+hole_walks old c l is = rw is (record { sound = λ τ h. (h, fits_hole); complete = λ τ h p. h })
 
 pub own_walks_not : (old : ℕ → List HoledTree) (c : HoledTree) (l : Tree) (v g : ℕ) (ts : Trees) → c ≡ own v → l ≡ app g ts → Refutes c l old
 own_walks_not old c l v g ts is_c is_l = rw (is_c, is_l) (record { none = λ τ h p. elim p [ ] })
 
-pub walked : (c : HoledTree) (l : Tree) (old new : ℕ → List HoledTree) (b : Bool) → ((v : ℕ) → old v ≡ []) → Walks c l old new b → IsTrue b ↔ MeetsLeft c l
-walked c l old new true empty adds = (
-  λ e.
-      let compatible = adds.compatible (λ v. subst AreCompatible (sym (empty v)) tt) in
-      let τ : ℕ → Tree = λ v. (together (new v) (compatible v)).0 in
-      (τ, (adds.sound τ (λ v. (together (new v) (compatible v)).1)).1),
-  λ m. refl,
-)
-walked c l old new false empty refutes = (λ e. absurd cc, λ m. absurd (refutes.none m.0 (λ v. subst (λ z. FitsEach z (m.0 v)) (sym (empty v)) tt) m.1))
+pub no_parts : (parts : BTreeMap ℕ (Vec (Bor Cap) Global)) (τ : ℕ → Tree) → parts.entries ≡ [] → Holds (parts_at parts) τ
+no_parts parts τ e v = rw e tt
 
-pub all_walked : {E : Type 0} (c : HoledTree) (l : Tree) (old new : BTreeMap ℕ (Vec (Bor Cap) Global)) (result : Result Bool E) → old.entries ≡ [] → IfOk result (Walks c l (parts_at old) (parts_at new))
-    → IfOk result (λ yes. IsTrue yes ↔ MeetsLeft c l)
-all_walked c l old new (Ok b) empty walks = walked c l (parts_at old) (parts_at new) b (λ v. nothing old v empty) walks
-  where
-    nothing : (m : BTreeMap ℕ (Vec (Bor Cap) Global)) (v : ℕ) → m.entries ≡ [] → parts_at m v ≡ []
-    nothing m v e = rw e refl
-all_walked c l old new (Err e) empty walks = walks
+pub no_entries : {X : Type 0} (xs : List X) → (0 < length xs → ⊥) → xs ≡ []
+no_entries [] h = refl
+no_entries (x ∷ xs) h = absurd (h (omega arith))
+
+walked : (c : HoledTree) (l : Tree) (old new : BTreeMap ℕ (Vec (Bor Cap) Global)) (b : Bool) → old.entries ≡ [] → Adds c l (parts_at old) (parts_at new)
+    → IsTrue b ↔ HaveInstances (parts_at new) → IsTrue b ↔ MeetsLeft c l
+walked c l old new b empty adds has = (
+  λ e. let (τ, holds) = has.0 e in (τ, (adds.sound τ holds).1),
+  λ (τ, fits). has.1 (τ, adds.complete τ (no_parts old τ empty) fits),
+)
+
+pub all_walked : {E : Type 0} (c : HoledTree) (l : Tree) (old new : BTreeMap ℕ (Vec (Bor Cap) Global)) (result : Result Bool E) → old.entries ≡ [] → Adds c l (parts_at old) (parts_at new)
+    → IfOk result (λ b. IsTrue b ↔ HaveInstances (parts_at new)) → IfOk result (λ b. IsTrue b ↔ MeetsLeft c l)
+all_walked c l old new (Ok b) empty adds has = walked c l old new b empty adds has
+all_walked c l old new (Err e) empty adds has = has
+
+pub walked_not : (c : HoledTree) (l : Tree) (old : BTreeMap ℕ (Vec (Bor Cap) Global)) → old.entries ≡ [] → Refutes c l (parts_at old) → IsTrue false ↔ MeetsLeft c l
+walked_not c l old empty refutes = (λ e. absurd cc, λ (τ, fits). absurd (refutes.none τ (no_parts old τ empty) fits))
+
+-- the parts of one variable have been taken out
+module _ (old new : BTreeMap ℕ (Vec (Bor Cap) Global)) (v : ℕ) (there : Vec (Bor Cap) Global) (here : get nat_cmp old v ≡ Some there) (updates : Updates nat_cmp old new v None) where
+  others_same : (w : ℕ) → (w ≡ v → ⊥) → parts_at new w ≡ parts_at old w
+  others_same = others_stay old new v None updates
+
+  holds_less : (τ : ℕ → Tree) → Holds (parts_at old) τ → Holds (parts_at new) τ
+  holds_less τ h w = elim (ℕ_discrete w v) [
+    | yes same ↦ subst (λ z. FitsEach (parts_at new z) (τ z)) (sym same) (subst (λ z. FitsEach z (τ v)) (sym (ap entry_parts updates.1)) tt)
+    | no other ↦ subst (λ z. FitsEach z (τ w)) (sym (others_same w other)) (h w)
+  ]
+
+  -- with a term at that variable
+  abbrev with_term : Tree → (ℕ → Tree) → ℕ → Tree
+  with_term t τ w = elim (ℕ_discrete w v) [ yes same ↦ t | no other ↦ τ w ]
+
+  holds_more : (t : Tree) (τ : ℕ → Tree) → FitsEach (caps_of there.items) t → Holds (parts_at new) τ → Holds (parts_at old) (with_term t τ)
+  holds_more t τ fits h w = elim (ℕ_discrete w v) as (λ d. FitsEach (parts_at old w) (elim d [ yes same ↦ t | no other ↦ τ w ])) [
+    | yes same ↦ subst (λ z. FitsEach (parts_at old z) t) (sym same) (subst (λ z. FitsEach z t) (sym (ap entry_parts here)) fits)
+    | no other ↦ subst (λ z. FitsEach z (τ w)) (others_same w other) (h w)
+  ]
+
+  pub one_less_variable : (b : Bool) → IsTrue b ↔ HaveInstance (caps_of there.items) → IsTrue b → HaveInstances (parts_at new) ↔ HaveInstances (parts_at old)
+  one_less_variable b has e = (
+    λ (τ, h). let (t, fits) = has.0 e in (with_term t τ, holds_more t τ fits h),
+    λ (τ, h). (τ, holds_less τ h),
+  )
+
+  pub no_instances : (b : Bool) → IsTrue b ↔ HaveInstance (caps_of there.items) → b ≡ false → HaveInstances (parts_at old) → ⊥
+  no_instances b has e (τ, h) = let k : IsTrue b = has.1 (τ v, subst (λ z. FitsEach z (τ v)) (ap entry_parts here) (h v)) in absurd (cc (k, e))

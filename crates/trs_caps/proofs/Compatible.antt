@@ -1,4 +1,4 @@
--- Caps that clash are those that no term fits both; where no two of some caps clash, a term fits all.
+-- Caps that clash are those that no term fits both.
 use Rattle.std.specs.Prelude.{◌≡◌, ◌↔◌, ℕ, Bool, true, false, not, ◌||◌, ◌==◌, IsTrue, List, [], ◌∷◌, ◌++◌}
 use Rattle.std.proofs.Common.{refl, sym, ◌∙◌, ap, inl, inr, arith, subst}
 use Rattle.std.proofs.lemmas.Bool.Decides.{nat_tests}
@@ -7,7 +7,6 @@ use Rattle.trs_defs.proofs.VariableLaws.{or_cases}
 use Rattle.trs_defs.proofs.OccurrenceLaws.{neither}
 use Rattle.trs_caps.specs.HoledTree.{HoledTree, HoledTrees, hole, own, symbol, none, more, Fits, EachFits, fits_hole, fits_own, fits_symbol, fits_none, fits_more}
 use Rattle.trs_caps.specs.Clash.{clash, some_clash, AreDisjoint}
-use Rattle.trs_caps.specs.Parts.{FitsEach, NoneClashes, NoneClashesWith, AreCompatible}
 
 differ : (f : ℕ) → IsTrue (not (f == f)) → ⊥
 differ f h = grind (arith, nat_tests)
@@ -42,7 +41,7 @@ mutual
 
 -- some term fits the cap
 abbrev mutual
-  filled : HoledTree → Tree
+  pub filled : HoledTree → Tree
   filled hole = var 0
   filled (own v) = var v
   filled (symbol f cs) = app f (all_filled cs)
@@ -52,7 +51,7 @@ abbrev mutual
   all_filled (more c cs) = cons (filled c) (all_filled cs)
 
 mutual
-  filled_fits : (c : HoledTree) → Fits c (filled c)
+  pub filled_fits : (c : HoledTree) → Fits c (filled c)
   filled_fits hole = fits_hole
   filled_fits (own v) = fits_own
   filled_fits (symbol f cs) = fits_symbol (all_filled_fit cs)
@@ -115,32 +114,6 @@ mutual
       let h = neither (clash c d) (some_clash cs ds) e in
       fits_more (merged_second c d t h.0 p) (all_merged_second cs ds ts h.1 ps)
 
-both_false : (a b : Bool) → a ≡ false → b ≡ false → (a || b) ≡ false
-both_false a b e e' = rw (e, e') refl
-
-mutual
-  -- what clashes with neither clashes not with both in one
-  clash_merged : (e c d : HoledTree) → clash e c ≡ false → clash e d ≡ false → clash e (merged c d) ≡ false
-  clash_merged e hole d p q = q
-  clash_merged e (own v) d p q = p
-  clash_merged e (symbol f cs) hole p q = p
-  clash_merged e (symbol f cs) (own w) p q = p
-  clash_merged hole (symbol f cs) (symbol g ds) p q = refl
-  clash_merged (own v) (symbol f cs) (symbol g ds) p q = absurd cc
-  clash_merged (symbol k es) (symbol f cs) (symbol g ds) p q =
-      let h = neither (not (k == f)) (some_clash es cs) p in
-      let i = neither (not (k == g)) (some_clash es ds) q in
-      both_false (not (k == f)) (some_clash es (all_merged cs ds)) h.0 (some_clash_merged es cs ds h.1 i.1)
-
-  some_clash_merged : (es cs ds : HoledTrees) → some_clash es cs ≡ false → some_clash es ds ≡ false → some_clash es (all_merged cs ds) ≡ false
-  some_clash_merged es none ds p q = p
-  some_clash_merged es (more c cs) none p q = p
-  some_clash_merged none (more c cs) (more d ds) p q = absurd cc
-  some_clash_merged (more e es) (more c cs) (more d ds) p q =
-      let h = neither (clash e c) (some_clash es cs) p in
-      let i = neither (clash e d) (some_clash es ds) q in
-      both_false (clash e (merged c d)) (some_clash es (all_merged cs ds)) (clash_merged e c d h.0 i.0) (some_clash_merged es cs ds h.1 i.1)
-
 false_of : (b : Bool) → (IsTrue b → ⊥) → b ≡ false
 false_of true h = absurd (h refl)
 false_of false h = refl
@@ -151,43 +124,3 @@ disjoint_clash c d false e h = absurd (h (filled (merged c d)) (merged_first c d
 
 pub disjoint_where_clash : (c d : HoledTree) (b : Bool) → b ≡ clash c d → IsTrue b ↔ AreDisjoint c d
 disjoint_where_clash c d b e = (λ h t p q. clash_disjoint c d t (sym e ∙ h) p q, λ h. disjoint_clash c d b (sym e) h)
-
--- all of them in one
-record AreOne (cs : List HoledTree) (m : HoledTree) : Type 0 where
-  pub fits : (t : Tree) → Fits m t → FitsEach cs t
-  pub clashes_not : (e : HoledTree) → NoneClashes e cs → clash e m ≡ false
-
-no_clash_hole : (e : HoledTree) → clash e hole ≡ false
-no_clash_hole hole = refl
-no_clash_hole (own v) = refl
-no_clash_hole (symbol f cs) = refl
-
-in_one : (cs : List HoledTree) → AreCompatible cs → (m : HoledTree) × AreOne cs m
-in_one [] h = (hole, record { fits = λ t p. tt; clashes_not = λ e n. no_clash_hole e })
-in_one (c ∷ cs) h =
-    let (m, rest) = in_one cs h.1 in
-    let apart : clash c m ≡ false = rest.clashes_not c h.0 in
-    (merged c m, record {
-      fits = λ t p. (merged_first c m t apart p, rest.fits t (merged_second c m t apart p));
-      clashes_not = λ e n. clash_merged e c m n.0 (rest.clashes_not e n.1);
-    })
-
--- some term fits each of them
-pub together : (cs : List HoledTree) → AreCompatible cs → (t : Tree) × FitsEach cs t
-together cs h = let (m, one) = in_one cs h in (filled m, one.fits (filled m) (filled_fits m))
-
-none_clashes_more : (c : HoledTree) (ds : List HoledTree) (d : HoledTree) → NoneClashes c ds → clash c d ≡ false → NoneClashes c (ds ++ d ∷ [])
-none_clashes_more c [] d h e = (e, tt)
-none_clashes_more c (x ∷ ds) d h e = (h.0, none_clashes_more c ds d h.1 e)
-
-pub compatible_more : (cs : List HoledTree) (d : HoledTree) → AreCompatible cs → NoneClashesWith cs d → AreCompatible (cs ++ d ∷ [])
-compatible_more [] d h n = (tt, tt)
-compatible_more (c ∷ cs) d h n = (none_clashes_more c cs d h.0 n.0, compatible_more cs d h.1 n.1)
-
-pub fits_more_each : (cs : List HoledTree) (d : HoledTree) (t : Tree) → FitsEach cs t → Fits d t → FitsEach (cs ++ d ∷ []) t
-fits_more_each [] d t h p = (p, tt)
-fits_more_each (c ∷ cs) d t h p = (h.0, fits_more_each cs d t h.1 p)
-
-pub fits_less_each : (cs : List HoledTree) (d : HoledTree) (t : Tree) → FitsEach (cs ++ d ∷ []) t → FitsEach cs t × Fits d t
-fits_less_each [] d t h = (tt, h.0)
-fits_less_each (c ∷ cs) d t h = let k = fits_less_each cs d t h.1 in ((h.0, k.0), k.1)

@@ -6,3 +6,4 @@ pub mod RuleSkips
 pub mod AddedParts
 pub mod CapSteps
 pub mod CapLaws
+pub mod Rows

@@ -1,37 +1,28 @@
 -- The parts of a cap that stand where a left side has its variables.
-use Rattle.std.specs.Prelude.{◌≡◌, ◌↔◌, ℕ, Bool, true, false, List, [], ◌∷◌}
+use Rattle.std.specs.Prelude.{ℕ, Bool, true, false, List, [], ◌∷◌}
 use Rattle.trs_defs.specs.Tree.{Tree}
 use Rattle.trs_defs.specs.Substitution.{apply}
 use Rattle.trs_caps.specs.HoledTree.{HoledTree, Fits}
-use Rattle.trs_caps.specs.Clash.{clash}
 
 -- the term fits each of them
 abbrev pub FitsEach : List HoledTree → Tree → Type 0
 FitsEach [] t = Unit {0}
 FitsEach (c ∷ cs) t = Fits c t × FitsEach cs t
 
--- none of them clashes with c
-abbrev pub NoneClashes : HoledTree → List HoledTree → Type 0
-NoneClashes c [] = Unit {0}
-NoneClashes c (d ∷ ds) = (clash c d ≡ false) × NoneClashes c ds
-
--- c clashes with none of them
-abbrev pub NoneClashesWith : List HoledTree → HoledTree → Type 0
-NoneClashesWith [] d = Unit {0}
-NoneClashesWith (c ∷ cs) d = (clash c d ≡ false) × NoneClashesWith cs d
-
--- no two of them clash
-abbrev pub AreCompatible : List HoledTree → Type 0
-AreCompatible [] = Unit {0}
-AreCompatible (c ∷ cs) = NoneClashes c cs × AreCompatible cs
+-- some term fits each of them
+abbrev pub HaveInstance : List HoledTree → Type 0
+HaveInstance cs = (t : Tree) × FitsEach cs t
 
 -- the parts at the variables have these terms
 abbrev pub Holds : (ℕ → List HoledTree) → (ℕ → Tree) → Type 0
 Holds parts τ = (v : ℕ) → FitsEach (parts v) (τ v)
 
+-- some terms fit the parts at the variables
+abbrev pub HaveInstances : (ℕ → List HoledTree) → Type 0
+HaveInstances parts = (τ : ℕ → Tree) × Holds parts τ
+
 -- The parts of a cap have been added: an instance of the left side fits it exactly where its terms fit what was added.
 pub record Adds (c : HoledTree) (l : Tree) (old new : ℕ → List HoledTree) : Type 0 where
-  pub compatible : ((v : ℕ) → AreCompatible (old v)) → (v : ℕ) → AreCompatible (new v)
   pub sound : (τ : ℕ → Tree) → Holds new τ → Holds old τ × Fits c (apply τ l)
   pub complete : (τ : ℕ → Tree) → Holds old τ → Fits c (apply τ l) → Holds new τ
 

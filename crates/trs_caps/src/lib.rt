@@ -3,6 +3,7 @@
 //! functions, 2005.)
 #![tactic(auto)]
 
+mod agreeing;
 mod capping;
 mod clashing;
 mod holed;

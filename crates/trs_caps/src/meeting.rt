@@ -1,42 +1,49 @@
-ghost use Rattle.std.specs.Prelude.{◌≡◌, ◌↔◌, ℕ, false, IfOk, IsTrue};
-ghost use Rattle.trs_defs.specs.Tree.{Tree, var};
+ghost use Rattle.std.specs.Prelude.{◌≡◌, ◌↔◌, ℕ, IfOk, OnOk, IsTrue};
+ghost use Rattle.trs_defs.specs.Tree.{var};
 ghost use Rattle.trs_core.specs.View.{tree};
 ghost use Rattle.trs_caps.specs.HoledCap.{MeetsLeft};
-ghost use Rattle.trs_caps.specs.HoledTree.{Fits};
-ghost use Rattle.trs_caps.specs.Parts.{FitsEach, NoneClashesWith, Walks};
+ghost use Rattle.trs_caps.specs.Parts.{HaveInstances, Adds, Walks};
 ghost use Rattle.trs_caps.specs.PartLists.{caps_of, parts_at};
 ghost use Rattle.trs_caps.specs.View.{holed};
 
 use crate::Cap;
+use crate::agreeing::agree;
 use std::alloc::Global;
 use std::collections::BTreeMap;
 use trs_core::{OutOfMemory, Term};
 
 impl Cap {
     /// Whether the cap unifies with a term renamed apart, its own variables as constants: whether
-    /// some instance of the term fits it. The term and what stands of the cap at its variables are
-    /// looked at once, but for variables that occur more than once.
+    /// some instance of the term fits it. It takes steps for each place that both have, and for each
+    /// place that two parts of the cap at one variable have.
     pub fn meets(&self, alloc: Global, left: &Term) -> Result<bool, OutOfMemory>
         ensures { IfOk result (λ yes. IsTrue yes ↔ MeetsLeft (holed self.now) (tree left.now)) }
     {
         let mut parts = BTreeMap::new(alloc);
-        walk(alloc, self, left, &mut parts)
+        if !walk(alloc, self, left, &mut parts)? {
+            return Ok(false);
+        }
+        all_agree(alloc, parts)
     }
 }
 
 /// Goes through a cap and a left side, and adds the parts of the cap at the left side's variables.
-/// `false` where the two differ, or two parts at one variable do.
+/// `false` where the two differ.
 fn walk<'a>(
     alloc: Global,
     cap: &'a Cap,
     left: &Term,
     parts: &mut BTreeMap<u32, Vec<&'a Cap>>,
 ) -> Result<bool, OutOfMemory>
-    ensures { IfOk result (Walks (holed cap.now) (tree left.now) (parts_at parts.old) (parts_at parts.new)) }
+    ensures { IfOk result
+        (Walks (holed cap.now) (tree left.now) (parts_at parts.old) (parts_at parts.new)) }
 {
     match (cap, left) {
         (Cap::Open, _) => Ok(true),
-        (_, Term::Var(v)) => add_part(alloc, *v, cap, parts),
+        (_, Term::Var(v)) => {
+            add_part(alloc, *v, cap, parts)?;
+            Ok(true)
+        }
         (Cap::Own(_), Term::App(_, _)) => Ok(false),
         (Cap::Symbol(f, cs), Term::App(g, ts)) => {
             if *f != *g || cs.items.len() != ts.items.len() {
@@ -52,22 +59,20 @@ fn walk<'a>(
     }
 }
 
-/// Adds a part at a variable, if it clashes with no earlier one there.
+/// Adds a part at a variable.
 fn add_part<'a>(
     alloc: Global,
     v: u32,
     part: &'a Cap,
     parts: &mut BTreeMap<u32, Vec<&'a Cap>>,
-) -> Result<bool, OutOfMemory>
-    ensures { IfOk result (Walks (holed part.now) (var v) (parts_at parts.old) (parts_at parts.new)) }
+) -> Result<(), OutOfMemory>
+    ensures { OnOk result
+        (Adds (holed part.now) (var v) (parts_at parts.old) (parts_at parts.new)) }
 {
     let mut there = take_parts(alloc, v, parts);
-    if clashes_with_some(part, &there) {
-        return Ok(false);
-    }
     there.push(part)?;
     parts.insert(v, there)?;
-    Ok(true)
+    Ok(())
 }
 
 /// Takes out the parts at a variable.
@@ -85,16 +90,17 @@ fn take_parts<'a>(
     }
 }
 
-/// Whether one of the caps clashes with the part.
-fn clashes_with_some(part: &Cap, there: &[&Cap]) -> bool
-    ensures clash { IsTrue result → (t : Tree) → FitsEach (caps_of there.now) t
-        → Fits (holed part.now) t → ⊥ }
-    ensures none { result ≡ false → NoneClashesWith (caps_of there.now) (holed part.now) }
+/// Whether the parts at each variable have a common instance.
+fn all_agree(
+    alloc: Global,
+    mut parts: BTreeMap<u32, Vec<&Cap>>,
+) -> Result<bool, OutOfMemory>
+    ensures { IfOk result (λ yes. IsTrue yes ↔ HaveInstances (parts_at parts.entry)) }
 {
-    for cap in there {
-        if cap.clashes(part) {
-            return true;
+    while let Some((_, there)) = parts.pop_first() {
+        if !agree(alloc, &there)? {
+            return Ok(false);
         }
     }
-    false
+    Ok(true)
 }
