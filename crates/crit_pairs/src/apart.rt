@@ -1,0 +1,103 @@
+ghost use Rattle.std.specs.Prelude.{ℕ, ◌≡◌, ◌<◌, ◌+◌, Some, IfOk, IsTrue, length, slice_get};
+ghost use Rattle.trs_defs.specs.System.{RewriteRule, IsSystem, has_root};
+ghost use Rattle.trs_core.specs.SystemLimits.{HasSmallVariables, HaveSmallVariables};
+ghost use Rattle.term_pool.specs.Roots.{IsNextRooted};
+ghost use Rattle.crit_pairs.specs.Apart.{renamed_apart, AreApart};
+
+use std::alloc::Global;
+use std::marker::Model;
+use term_pool::RulesByRoot;
+use trs_core::{OutOfMemory, Rule, Trs};
+use trs_unify::rename_apart;
+
+/// The variables of rules have numbers below this one.
+const OFFSET: u32 = 65_536;
+
+/// A system with its rules by the roots of their left sides, and with a copy of each rule whose
+/// variables are renamed apart from those of all rules. It is made once for all overlaps.
+/// Contracts see it as the system.
+#[derive(Drop)]
+pub(crate) struct RulesApart<'a> {
+    by_root: RulesByRoot<'a>,
+    apart: Vec<Rule>,
+}
+
+impl<'a> Model for RulesApart<'a> {
+    ghost use Rattle.trs_defs.specs.System.{System, system_code};
+    ghost use Rattle.crit_pairs.specs.Apart.{AreApart};
+
+    ghost Value = { System };
+
+    ghost coded = { system_code };
+
+    ghost view = { λ a. a.by_root };
+
+    ghost invariant = { λ a. AreApart a.by_root.rules a.apart.items };
+}
+
+impl<'a> RulesApart<'a> {
+    pub fn new(alloc: Global, trs: &'a Trs) -> Result<RulesApart<'a>, OutOfMemory>
+        ensures { IfOk result (λ rules. rules ≡ trs.now) }
+    {
+        let apart = renamed_rules(alloc, trs.rules())?;
+        Ok(RulesApart {
+            by_root: RulesByRoot::new(alloc, trs)?,
+            apart,
+        })
+    }
+
+    /// The rules, by their numbers from 0.
+    pub fn rules(&self) -> &[Rule]
+        ensures rules { result.now ≡ self.now.rules }
+        ensures valid { IsSystem self.now }
+    {
+        self.by_root.rules()
+    }
+
+    /// Rule `i`, renamed apart.
+    pub fn apart(&self, i: usize) -> &Rule
+        requires { i < length self.now.rules }
+        ensures { (r : RewriteRule) → slice_get self.now.rules i ≡ Some r
+            → result.now ≡ renamed_apart r }
+    {
+        &self.apart[i]
+    }
+
+    /// The number of the first rule with this root, or of rules where there is none.
+    pub fn first(&self, f: u32) -> u32
+        ensures { IsNextRooted self.now.rules f 0 result }
+    {
+        self.by_root.first(f)
+    }
+
+    /// The number of the next rule with the root of rule `i`, or of rules where there is none.
+    pub fn next(&self, i: u32) -> u32
+        requires { i < length self.now.rules }
+        ensures { (f : ℕ) (r : RewriteRule) → slice_get self.now.rules i ≡ Some r
+            → IsTrue (has_root f r.left) → IsNextRooted self.now.rules f (i + 1) result }
+    {
+        self.by_root.next(i)
+    }
+}
+
+fn renamed_rules(alloc: Global, rules: &[Rule]) -> Result<Vec<Rule>, OutOfMemory>
+    requires { HaveSmallVariables rules.now }
+    ensures { IfOk result (λ apart. AreApart rules.now apart.items) }
+{
+    let mut apart = Vec::with_capacity(alloc, rules.len())?;
+    for rule in rules {
+        apart.push(renamed_rule(alloc, rule)?)?;
+    }
+    Ok(apart)
+}
+
+fn renamed_rule(alloc: Global, rule: &Rule) -> Result<Rule, OutOfMemory>
+    requires left { HasSmallVariables rule.now.left }
+    requires right { HasSmallVariables rule.now.right }
+    ensures { IfOk result (λ r. r ≡ renamed_apart rule.now) }
+{
+    Ok(Rule {
+        left: rename_apart(alloc, &rule.left, OFFSET)?,
+        right: rename_apart(alloc, &rule.right, OFFSET)?,
+    })
+}
