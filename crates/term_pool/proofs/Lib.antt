@@ -22,3 +22,4 @@ pub mod ListingLaws
 pub mod ReachedIds
 pub mod FollowLaws
 pub mod ReachLaws
+pub mod ReachOnce

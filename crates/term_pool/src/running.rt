@@ -1,4 +1,4 @@
-ghost use Rattle.std.specs.Prelude.{◌≡◌, ◌≢◌, ◌<◌, ◌≤◌, ◌+◌, length, take, IfOk, IfErr, OnOk};
+ghost use Rattle.std.specs.Prelude.{◌≡◌, ◌<◌, ◌≤◌, ◌+◌, length, take, IfOk, IfErr, OnOk};
 ghost use Rattle.trs_defs.specs.Tree.{Tree};
 ghost use Rattle.trs_defs.specs.Path.{Follows};
 ghost use Rattle.term_pool.specs.Pooled.{Extends, tree_at};
@@ -35,16 +35,19 @@ impl Pool {
         ensures only { (u : Tree) → Follows trs.now.rules path.now (tree_at self.old id) u
             → GivesId PathFault.OutOfMemory self.new result u }
 
-        // The ids that were there keep their terms, after want of memory too.
+        // The ids that were there keep their terms. Where the path is not followed, none is added.
         ensures kept { Extends self.old self.new }
-        ensures few { IfOk result (λ _. length self.new ≤ length self.old + MOST_ADDED + 65536) }
-        ensures unchanged { IfErr result (λ e. e ≢ PathFault.OutOfMemory → self.new ≡ self.old) }
+        ensures few { length self.new ≤ length self.old + MOST_ADDED + 65536 }
+        ensures unchanged { IfErr result (λ _. self.new ≡ self.old) }
     {
         let mark = self.mark();
         let mut current = id;
         for (k, step) in path.iter().enumerate() {
-            current = self.carry_over(alloc, mark, current)?;
-            match self.step_at(alloc, trs, current, &step.place, step.rule) {
+            let Ok(same) = self.carry_over(alloc, mark, current) else {
+                self.release(mark);
+                return Err(PathFault::OutOfMemory);
+            };
+            match self.step_at(alloc, trs, same, &step.place, step.rule) {
                 Ok(next) => current = next,
                 Err(fault) => {
                     self.release(mark);
