@@ -12,7 +12,7 @@ use Rattle.term_pool.specs.Steps.{IsStepFault}
 use Rattle.term_pool.specs.declared.steps.StepFault.{StepFault}
 use Rattle.term_pool.specs.declared.steps.StepFault.TheVariants as fault
 use Rattle.term_pool.specs.Listed.{Listed}
-use Rattle.term_pool.specs.Reach.{AreReducts, AreCandidates, ListsOn, is_kept}
+use Rattle.term_pool.specs.Reach.{AreReducts, ListsOn, is_kept}
 use Rattle.term_pool.specs.Reaching.{ListsMore}
 use Rattle.term_pool.proofs.ListingLaws.{start_of, lists_extends, either_way, reduct_left_out, too_large_not_kept, refused_step}
 

@@ -1,6 +1,11 @@
 -- A bound on sizes above 65,536 nodes bounds as 65,536 does.
-use Rattle.std.specs.Prelude.{◌≡◌, ℕ, min, Bool, true, false, ◌&&◌, nat_le, List, refl}
-use Rattle.std.proofs.Common.{ap, sym, ◌∙◌, arith}
+use Rattle.std.specs.Prelude.{◌≡◌, ℕ, min, Bool, true, false, ◌&&◌, nat_le, List, [], ◌∷◌, ◌++◌, Result, Ok, Err, IfOk, refl}
+use Rattle.std.proofs.Common.{ap, sym, subst, ◌∙◌, arith}
+use Rattle.std.specs.Global.{Vec}
+use Rattle.std.proofs.lemmas.List.{map-append}
+use Rattle.term_pool.specs.Pooled.{StandsFor}
+use Rattle.term_pool.specs.ListedIds.{listed, listed_at}
+use Rattle.term_pool.proofs.PoolTrees.{stands_at}
 use Rattle.std.proofs.lemmas.Bool.Decides.{nat_tests}
 use Rattle.trs_defs.specs.Tree.{Tree}
 use Rattle.trs_defs.specs.Size.{size_of, depth_of, within_limits}
@@ -35,3 +40,15 @@ module _ (rules : List RewriteRule) (size : ℕ) where
   pub same_reach : (t : Tree) (depth count : ℕ) (es : List Listed) → IsReachList rules t depth count (min size 65536) es → IsReachList rules t depth count size es
   same_reach t depth count es h =
       record { looked_at = h.looked_at; candidates = h.candidates; reducts = same_candidates depth h.reducts; listed = h.listed; all = h.all }
+
+pub same_answer : {E : Type 0} (rules : List RewriteRule) (t : Tree) (depth count size most : ℕ) (r : Result (Vec Listed) E) → most ≡ min size 65536
+    → IfOk r (λ found. IsReachList rules t depth count most found.items) → IfOk r (λ found. IsReachList rules t depth count size found.items)
+same_answer rules t depth count size most (Ok found) is h = same_reach rules size t depth count found.items (subst (λ (n : ℕ). IsReachList rules t depth count n found.items) is h)
+same_answer rules t depth count size most (Err e) is h = tt
+
+-- the terms of one id more
+pub one_more_read : (pool : List Tree) (es : List (ℕ × Vec PlacedRule)) (id : ℕ) (path : Vec PlacedRule) (t : Tree) (old new : List Listed) → old ≡ listed_at pool es
+    → StandsFor pool id t → new ≡ old ++ record { term = t; path = path.items } ∷ [] → new ≡ listed_at pool (es ++ (id, path) ∷ [])
+one_more_read pool es id path t old new made stands is =
+    is ∙ (ap (λ xs. xs ++ record { term = t; path = path.items } ∷ []) made
+    ∙ (ap (λ u. listed_at pool es ++ record { term = u; path = path.items } ∷ []) (sym (stands_at pool id t stands)) ∙ sym (map-append (listed pool) es ((id, path) ∷ []))))

@@ -1,5 +1,6 @@
 use Rattle.std.proofs.Common.{◌≡◌, ◌<◌, take, length, Some, slice_get}
 use Rattle.term_pool.specs.Reach.{AreReducts}
+use Rattle.term_pool.specs.Reaching.{ListsMore}
 use Rattle.rewrite_core.specs.Known.{Knows, EntryIs}
 use Rattle.rewrite_core.proofs.reaching_trees.look_at.Given as goal
 

@@ -51,7 +51,7 @@ loop-next-preserved c =
       narrow = i.narrow;
       grows = looked_at_one c.args.trs.now.rules c.args.depth c.args.size c.max-limit.result (start_of (tree c.args.t.now)) found new c.loop-next.next e there below i.grows grown;
       follow = looked_follow c.args.trs.now.rules c.args.depth c.args.size c.max-limit.result (tree c.args.t.now) found new c.loop-next.next e there grown i.follow;
-      next = omega (arith, below, no_shorter c.max-limit.result grown.2);
-      short = lists_short c.max-limit.result grown.2 i.short;
+      next = omega (arith, below, no_shorter c.max-limit.result {cs = grown.0} grown.2);
+      short = lists_short c.max-limit.result {cs = grown.0} grown.2 i.short;
       knows = c.in_ok-look_at.ensures.knows;
     }

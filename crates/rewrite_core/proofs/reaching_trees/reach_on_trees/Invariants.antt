@@ -4,6 +4,7 @@ use Rattle.trs_defs.specs.Path.{Follows}
 use Rattle.trs_core.specs.View.{tree}
 use Rattle.term_pool.specs.Listed.{Listed}
 use Rattle.term_pool.specs.Reach.{AreCandidates}
+use Rattle.term_pool.specs.Reaching.{ListsMore}
 use Rattle.rewrite_core.specs.Known.{Knows}
 use Rattle.term_pool.specs.Redexes.{IsNarrow}
 use Rattle.rewrite_core.proofs.reaching_trees.reach_on_trees.Given as goal
