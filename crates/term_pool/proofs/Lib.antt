@@ -23,3 +23,4 @@ pub mod ReachedIds
 pub mod FollowLaws
 pub mod ReachLaws
 pub mod ReachOnce
+pub mod Refutations
