@@ -142,11 +142,14 @@ lists_split limit (c ∷ cs) ds (passed_over why rest) = let (fs, first, second)
 added_of : (limit : ℕ) {es cs fs : List Listed} → ListsOn limit es cs fs → (more : List Listed) × (fs ≡ es ++ more) × ((f : Listed) → In f more → In f cs)
 added_of limit {es = es} no_more = ([], sym (append-nil es), λ f i. i)
 added_of limit {es = es} (listed {cs = cs} {c = c} room absent rest) =
-    let (more, is, from) = added_of limit rest in
-    (c ∷ more, is ∙ append_assoc es (c ∷ []) more, λ f i. elim (in_or i) [
-      | inl same ↦ subst (λ (x : Listed). In x (c ∷ cs)) (sym same) in_first
-      | inr j ↦ in_rest (from f j)
-    ])
+    let (more, is, from) = added_of limit rest in (
+      c ∷ more,
+      is ∙ append_assoc es (c ∷ []) more,
+      λ f i. elim (in_or i) [
+        | inl same ↦ subst (λ (x : Listed). In x (c ∷ cs)) (sym same) in_first
+        | inr j ↦ in_rest (from f j)
+      ],
+    )
 added_of limit (passed_over why rest) =
     let (more, is, from) = added_of limit rest in
     (more, is, λ f i. in_rest (from f i))

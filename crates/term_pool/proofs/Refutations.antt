@@ -1,8 +1,8 @@
 -- Terms that are no instances, since they differ from the pattern at a place that is no variable.
 use Rattle.std.proofs.lemmas.List.{length-map}
 use Rattle.std.proofs.lemmas.Option.{slice_get-map, slice_get-get_or}
-use Rattle.std.proofs.Common.{◌≡◌, ◌≢◌, ℕ, ◌+◌, ◌<◌, List, [], ◌∷◌, length, map, option_map, Some, get_or, slice_get, refl, sym, ap, ◌∙◌, zero, suc, arith}
-use Rattle.trs_defs.specs.Tree.{Tree, Trees, var, app, nil, cons, trees}
+use Rattle.std.proofs.Common.{◌≡◌, ℕ, ◌<◌, List, [], ◌∷◌, length, map, option_map, Some, get_or, slice_get, refl, sym, ap, ◌∙◌, zero, suc, arith}
+use Rattle.trs_defs.specs.Tree.{Tree, Trees, var, app, cons, trees}
 use Rattle.trs_defs.specs.Substitution.{apply, apply_all, IsInstance}
 
 same_cells : (t u : Tree) (ts us : Trees) → cons t ts ≡ cons u us → (t ≡ u) × (ts ≡ us)

@@ -12,10 +12,16 @@ use trs_core::{OutOfMemory, Trs};
 /// The most ids that a path adds before all of them but those of the term at hand are given up.
 pub const MOST_ADDED: u32 = 1_048_576;
 
+/// A term of n nodes is carried over once more than `FEW_ADDED` and n times `ADDED_FOR_A_NODE` ids
+/// have been added, which is `MOST_ADDED` for the largest terms.
+const FEW_ADDED: u32 = 65_536;
+
+const ADDED_FOR_A_NODE: u32 = 15;
+
 impl Pool {
     /// The id of the end of a path. Each term after the start keeps the limits. A step costs what
-    /// its rule and the way to its place have nodes. Where the steps have added more than
-    /// `MOST_ADDED` ids, the term at hand is read, the ids that were added are released, and it is
+    /// its rule and the way to its place have nodes. Where the steps have added many ids, and at the
+    /// latest at `MOST_ADDED`, the term at hand is read, the ids that were added are released, and it is
     /// interned again, so that a long path takes no more memory than that.
     pub fn run_path(
         &mut self,
@@ -58,8 +64,8 @@ impl Pool {
         Ok(current)
     }
 
-    /// The id of the same term, where many ids have been added: of those from the mark on only its
-    /// own are kept.
+    /// The id of the same term, where many ids have been added for its size: of those from the mark
+    /// on only its own are kept. So a long path from a small term takes little memory.
     fn carry_over(&mut self, alloc: Global, mark: u32, id: u32) -> Result<u32, OutOfMemory>
         requires there { id < length self.old }
         requires marked { mark ≤ length self.old }
@@ -69,7 +75,8 @@ impl Pool {
         ensures room { OnOk result (length self.new ≤ mark + MOST_ADDED) }
         ensures kept { Extends (take mark self.old) self.new }
     {
-        if self.len() - mark <= MOST_ADDED {
+        let many = FEW_ADDED + ADDED_FOR_A_NODE * self.measure(id).size;
+        if self.len() - mark <= many {
             return Ok(id);
         }
         let term = self.read(alloc, id)?;

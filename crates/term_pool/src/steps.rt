@@ -106,9 +106,7 @@ impl Pool {
             return Err(StepFault::NoMatch);
         };
         let mark = self.mark();
-        let Ok(put) =
-            self.put_instance(alloc, id, place.places(), part, &found, &rule.right)
-        else {
+        let Ok(put) = self.put_instance(alloc, id, place.places(), part, &found, &rule.right) else {
             self.release(mark);
             return Err(StepFault::OutOfMemory);
         };
