@@ -36,6 +36,20 @@ impl Pool {
         }
     }
 
+    /// Whether the id's term is an instance of the pattern.
+    pub fn is_instance_of(
+        &self,
+        alloc: Global,
+        pattern: &Term,
+        id: u32,
+    ) -> Result<bool, OutOfMemory>
+        requires { id < length self.now }
+        ensures { IfOk result (λ yes.
+            IsTrue yes ↔ IsInstance (tree pattern.now) (tree_at self.now id)) }
+    {
+        Ok(self.match_at(alloc, pattern, id)?.is_some())
+    }
+
     /// Whether the id's term is an instance of the rule's left side.
     pub(crate) fn is_instance(
         &self,
