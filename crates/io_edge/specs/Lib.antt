@@ -4,3 +4,4 @@ pub mod Sink
 pub mod Named
 pub mod ShelfState
 pub mod SinkState
+pub mod Chunks

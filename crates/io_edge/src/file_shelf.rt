@@ -1,8 +1,9 @@
-ghost use Rattle.std.specs.Prelude.{◌≡◌, ◌≢◌, ◌+◌, ◌<◌, ◌≤◌, ◌++◌, ℕ, List, [], length, IfOk, IfErr, IfSome, OnOk, OnErr, IsErrOf, IsNone};
+ghost use Rattle.std.specs.Prelude.{◌≡◌, ◌≢◌, ◌+◌, ◌<◌, ◌≤◌, ◌++◌, ℕ, List, [], false, length, IsTrue, IfOk, IfErr, IfSome, IsErrOf, IsNone};
 ghost use Rattle.std.specs.Io.KnownBytes.{Consumes, IsAtEnd};
 ghost use Rattle.io_edge.specs.Shelf.{MayBe, MayPass, TellsTheSame, CountsRise, CountsFault, ReadPast};
 ghost use Rattle.io_edge.specs.Named.{first_under, faults_under, bytes_under, untold};
-ghost use Rattle.io_edge.specs.declared.fault.FetchFault.TheVariants.{TooLong};
+ghost use Rattle.io_edge.specs.Chunks.{IsChunkMore, AreChunks, CountsChunks};
+ghost use Rattle.io_edge.specs.declared.fault.FetchFault.TheVariants.{TooLong, OutOfMemory};
 
 use crate::counts::{Reading, Tallies};
 use crate::fault::FetchFault;
@@ -44,16 +45,18 @@ impl<'a, R: Files> FileShelf<'a, R> {
 
 const CHUNK: usize = 4096;
 
-// Reads once, at most to one byte past the limit, and answers how many bytes it put behind the
-// text. Room is made before, so that no byte that was read is lost.
-fn read_more<F: Read>(file: &mut F, text: &mut Vec<u8>, limit: u64) -> Result<usize, FetchFault>
+// Reads until a chunk is full, one byte past the limit is read, or the end comes, and answers
+// whether it came. Room is made before, so that no byte that was read is lost.
+fn read_chunk<F: Read>(file: &mut F, text: &mut Vec<u8>, limit: u64) -> Result<bool, FetchFault>
     requires { length text.old.items ≤ limit }
     ensures bound { length text.new.items ≤ limit + 1 }
-    ensures grown { IfOk result (λ n. length text.new.items ≡ length text.old.items + n) }
-    ensures read { OnOk result ((bs : List ℕ) × (text.new.items ≡ text.old.items ++ bs) ×
-        Consumes (F.remaining file.old) (F.remaining file.new) bs) }
-    ensures end { IfOk result (λ n. n ≡ 0 → IsAtEnd (F.remaining file.new)) }
-    ensures err { OnErr result (text.new.items ≡ text.old.items) }
+    ensures read { (bs : List ℕ) × (text.new.items ≡ text.old.items ++ bs) ×
+        Consumes (F.remaining file.old) (F.remaining file.new) bs }
+    ensures chunk { IfOk result (λ ended. ended ≡ false →
+        IsChunkMore limit (length text.old.items) (length text.new.items)) }
+    ensures end { IfOk result (λ ended. IsTrue ended → IsAtEnd (F.remaining file.new)) }
+    ensures short { IfOk result (λ ended. IsTrue ended → length text.new.items ≤ limit) }
+    ensures memory { IsErrOf result OutOfMemory → text.new.items ≡ text.old.items }
     ensures reason { IfErr result (λ e. e ≢ TooLong) }
 {
     let left = limit - text.len() as u64;
@@ -63,17 +66,23 @@ fn read_more<F: Read>(file: &mut F, text: &mut Vec<u8>, limit: u64) -> Result<us
         CHUNK
     };
     text.reserve(wanted)?;
-    let mut chunk = [0; CHUNK];
-    let Ok(count) = file.read(&mut chunk[..wanted]) else {
-        return Err(FetchFault::Failed);
-    };
-    let Ok(()) = text.extend_from_slice(&chunk[..count]) else {
-        unreachable!()
-    };
-    Ok(count)
+    let full = text.len() + wanted;
+    while text.len() < full {
+        let mut chunk = [0; CHUNK];
+        let Ok(count) = file.read(&mut chunk[..full - text.len()]) else {
+            return Err(FetchFault::Failed);
+        };
+        if count == 0 {
+            return Ok(true);
+        }
+        let Ok(()) = text.extend_from_slice(&chunk[..count]) else {
+            unreachable!()
+        };
+    }
+    Ok(false)
 }
 
-// Reads to the end, or one byte past the limit.
+// Reads to the end, or one byte past the limit. Memory is asked for before each chunk.
 fn read_to_limit<F: Read>(alloc: Global, file: &mut F, limit: u64) -> Reading
     ensures whole { IfOk result.outcome (λ v.
         IfSome (F.remaining file.old) (λ told. v.items ≡ told)) }
@@ -82,19 +91,22 @@ fn read_to_limit<F: Read>(alloc: Global, file: &mut F, limit: u64) -> Reading
         IfSome (F.remaining file.old) (λ told. limit < length told) }
     ensures long { IsErrOf result.outcome TooLong → limit < result.bytes }
     ensures most { result.bytes ≤ limit + 1 }
+    ensures chunks { IsErrOf result.outcome OutOfMemory → AreChunks limit result.bytes }
 {
     let mut text: Vec<u8> = Vec::new(alloc);
     while text.len() as u64 <= limit {
-        let bytes = text.len() as u64;
-        match read_more(file, &mut text, limit) {
-            Ok(0) => return Reading {
-                outcome: Ok(text),
-                bytes,
-            },
-            Ok(_) => {}
+        match read_chunk(file, &mut text, limit) {
+            Ok(true) => {
+                let bytes = text.len() as u64;
+                return Reading {
+                    outcome: Ok(text),
+                    bytes,
+                };
+            }
+            Ok(false) => {}
             Err(fault) => return Reading {
                 outcome: Err(fault),
-                bytes,
+                bytes: text.len() as u64,
             },
         }
     }
@@ -108,6 +120,7 @@ fn read_file<R: Files>(rt: &R, alloc: Global, name: &str, limit: u64) -> Reading
     ensures bound { IfOk result.outcome (λ v. length v.items ≤ limit) }
     ensures long { IsErrOf result.outcome TooLong → limit < result.bytes }
     ensures most { result.bytes ≤ limit + 1 }
+    ensures chunks { IsErrOf result.outcome OutOfMemory → AreChunks limit result.bytes }
 {
     let Ok(mut file) = fs::open(rt, name) else {
         return Reading::failed();
@@ -133,6 +146,11 @@ impl<'a, R: Files> Shelf for FileShelf<'a, R> {
         // At most one byte past the limit is read. Without memory for a new name no count changes.
         ensures most { bytes_under self.new name.now ≤ bytes_under self.old name.now + (limit + 1) }
         ensures unnoted { IsNone (first_under self.new name.now) → self.new ≡ self.old }
+
+        // Memory is asked for the name and before each chunk. Where it is wanting, whole chunks
+        // were read.
+        ensures chunks { IsErrOf result OutOfMemory → CountsChunks limit
+            (bytes_under self.old name.now) (bytes_under self.new name.now) }
     {
         self.tallies.note(self.alloc, name)?;
         let reading = read_file(self.rt, self.alloc, name, limit);

@@ -1,10 +1,12 @@
-ghost use Rattle.std.specs.Prelude.{◌≡◌};
+ghost use Rattle.std.specs.Prelude.{◌≡◌, ◌<◌, ◌≤◌, ◌+◌, length, IfOk};
 ghost use Rattle.trs_core.specs.View.{tree};
+ghost use Rattle.term_pool.specs.Pooled.{tree_at};
 ghost use Rattle.rewrite_core.specs.Check.{AnswersBy};
 ghost use Rattle.rewrite_core.specs.PathCheck.{Runs, number_of_fault, path_refusal};
 
 use crate::{CheckFault, PathFault, PathStep, StepFault, StepRefused, run_path};
 use std::alloc::Global;
+use term_pool::{MOST_ADDED, MOST_IDS, Pool};
 use trs_core::{Term, Trs};
 
 /// What a check answers where a path is not followed: path number `path` of item number `item`,
@@ -32,6 +34,28 @@ pub fn end_of_path(
     ensures { AnswersBy tree (Runs trs.now.rules (tree start.now) path.now item number) result }
 {
     match run_path(alloc, trs, start, path) {
+        Ok(end) => Ok(end),
+        Err(fault) => Err(path_refused(item, number, fault)),
+    }
+}
+
+/// The id of the end of a path of a step, in a pool.
+pub(crate) fn end_in_pool(
+    alloc: Global,
+    pool: &mut Pool,
+    trs: &Trs,
+    start: u32,
+    path: &[PathStep],
+    item: u64,
+    number: u64,
+) -> Result<u32, CheckFault>
+    requires there { start < length pool.old }
+    requires room { length pool.old + MOST_ADDED ≤ MOST_IDS }
+    ensures end { AnswersBy (tree_at pool.new)
+        (Runs trs.now.rules (tree_at pool.old start) path.now item number) result }
+    ensures there { IfOk result (λ end. end < length pool.new) }
+{
+    match pool.run_path(alloc, trs, start, path) {
         Ok(end) => Ok(end),
         Err(fault) => Err(path_refused(item, number, fault)),
     }

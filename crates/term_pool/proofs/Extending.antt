@@ -31,3 +31,7 @@ pub kept_cut : (a b c : List Tree) (mark : ℕ) → mark ≡ length a → Extend
 kept_cut a b c mark e h k =
     let same : take mark b ≡ a = ap (λ n. take n b) e ∙ cut_back a b h in
     rw same at k
+
+-- a pool that has grown, and is cut to what was there
+pub undone : (a b c : List Tree) (mark : ℕ) → mark ≡ length a → Extends a b → c ≡ take mark b → c ≡ a
+undone a b c mark e h k = k ∙ (ap (λ n. take n b) e ∙ cut_back a b h)

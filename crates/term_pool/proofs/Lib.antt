@@ -22,3 +22,5 @@ pub mod ListingLaws
 pub mod ReachedIds
 pub mod FollowLaws
 pub mod ReachLaws
+pub mod ReachOnce
+pub mod Refutations

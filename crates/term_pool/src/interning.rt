@@ -1,4 +1,4 @@
-ghost use Rattle.std.specs.Prelude.{◌<◌, ◌≤◌, ◌+◌, ◌^◌, length, IfOk};
+ghost use Rattle.std.specs.Prelude.{◌≡◌, ◌<◌, ◌≤◌, ◌+◌, ◌^◌, length, IfOk, IfErr};
 ghost use Rattle.trs_defs.specs.Size.{size_of};
 ghost use Rattle.trs_core.specs.View.{tree};
 ghost use Rattle.term_pool.specs.Pooled.{Extends, StandsFor};
@@ -11,15 +11,23 @@ use trs_core::{Args, OutOfMemory, Term};
 
 impl Pool {
     /// The id of a term. It adds at most as many ids as the term has nodes, one for each subterm
-    /// that the pool lacks.
+    /// that the pool lacks. Where memory runs out, what was added is released.
     pub fn intern(&mut self, alloc: Global, t: &Term) -> Result<u32, OutOfMemory>
         requires small { size_of (tree t.now) ≤ 65536 }
         requires room { length self.old ≤ MOST_IDS }
         ensures id { IfOk result (λ id. StandsFor self.new id (tree t.now)) }
         ensures kept { Extends self.old self.new }
         ensures few { length self.new ≤ length self.old + size_of (tree t.now) }
+        ensures unchanged { IfErr result (λ _. self.new ≡ self.old) }
     {
-        self.insert(alloc, t)
+        let mark = self.mark();
+        match self.insert(alloc, t) {
+            Ok(id) => Ok(id),
+            Err(e) => {
+                self.release(mark);
+                Err(e)
+            }
+        }
     }
 
     fn insert(&mut self, alloc: Global, t: &Term) -> Result<u32, OutOfMemory>

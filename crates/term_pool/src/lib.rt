@@ -21,7 +21,8 @@ mod roots;
 mod running;
 mod steps;
 
-pub use paths::{PathFault, PathStep};
+pub use narrow::paths_keep_narrow;
+pub use paths::{PathFault, PathStep, one_longer};
 pub use pools::{MOST_IDS, Pool};
 pub use roots::RulesByRoot;
 pub use running::MOST_ADDED;

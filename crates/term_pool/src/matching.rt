@@ -1,4 +1,4 @@
-ghost use Rattle.std.specs.Prelude.{◌≡◌, ◌<◌, ◌↔◌, length, IsTrue, IfOk, IfSome, IfNone, OnOk};
+ghost use Rattle.std.specs.Prelude.{◌≡◌, ◌<◌, ◌↔◌, false, length, IsTrue, IfOk, IfSome, IfNone, OnOk};
 ghost use Rattle.trs_defs.specs.Tree.{var};
 ghost use Rattle.trs_defs.specs.Substitution.{IsInstance};
 ghost use Rattle.trs_core.specs.View.{tree};
@@ -36,6 +36,20 @@ impl Pool {
         }
     }
 
+    /// Whether the id's term is an instance of the pattern.
+    pub fn is_instance_of(
+        &self,
+        alloc: Global,
+        pattern: &Term,
+        id: u32,
+    ) -> Result<bool, OutOfMemory>
+        requires { id < length self.now }
+        ensures { IfOk result (λ yes.
+            IsTrue yes ↔ IsInstance (tree pattern.now) (tree_at self.now id)) }
+    {
+        Ok(self.match_at(alloc, pattern, id)?.is_some())
+    }
+
     /// Whether the id's term is an instance of the rule's left side.
     pub(crate) fn is_instance(
         &self,
@@ -47,7 +61,34 @@ impl Pool {
         ensures { IfOk result (λ yes.
             IsTrue yes ↔ IsInstance rule.now.left (tree_at self.now id)) }
     {
+        if !self.may_match(&rule.left, id) {
+            return Ok(false);
+        }
         Ok(self.match_at(alloc, &rule.left, id)?.is_some())
+    }
+
+    /// Whether the id's term has the pattern's symbols, where the pattern has symbols. It takes no
+    /// memory, and refutes most patterns at once.
+    fn may_match(&self, pattern: &Term, id: u32) -> bool
+        requires { id < length self.now }
+        ensures { result ≡ false → IsInstance (tree pattern.now) (tree_at self.now id) → ⊥ }
+    {
+        match (pattern, self.node(id)) {
+            (Term::Var(_), _) => true,
+            (Term::App(_, _), Node::Var(_)) => false,
+            (Term::App(f, ps), Node::App(g, args)) => {
+                let ids = args.as_slice();
+                if *f != *g || ps.items.len() != ids.len() {
+                    return false;
+                }
+                for (i, p) in ps.items.iter().enumerate() {
+                    if !self.may_match(p, ids[i]) {
+                        return false;
+                    }
+                }
+                true
+            }
+        }
     }
 
     /// Adds the bindings that take the pattern to the term of the id.

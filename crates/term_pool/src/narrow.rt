@@ -7,7 +7,7 @@ use trs_core::Trs;
 
 /// A law, with nothing to run but the reading of the system: a path from a term none of whose
 /// symbols has more than 255 arguments leads to such a term.
-pub(crate) fn paths_keep_narrow(trs: &Trs)
+pub fn paths_keep_narrow(trs: &Trs)
     ensures { (path : List PlacedRule) (t u : Tree) → Follows trs.now.rules path t u
         → IsNarrow t → IsNarrow u }
 {

@@ -68,7 +68,7 @@ impl From<OutOfMemory> for PathFault {
 }
 
 /// The path with one more step.
-pub(crate) fn one_longer(
+pub fn one_longer(
     alloc: Global,
     path: &[PathStep],
     step: &PathStep,

@@ -31,7 +31,7 @@ impl Pool {
     }
 
     /// The id of the subterm at a position.
-    pub(crate) fn at(&self, id: u32, places: &[u8]) -> Option<u32>
+    pub fn at(&self, id: u32, places: &[u8]) -> Option<u32>
         requires { id < length self.now }
         ensures is { option_map (tree_at self.now) result
             ≡ subterm_at places.now (tree_at self.now id) }

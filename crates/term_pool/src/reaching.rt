@@ -1,4 +1,4 @@
-ghost use Rattle.std.specs.Prelude.{◌≡◌, ◌<◌, ◌≤◌, ◌+◌, ◌*◌, [], ◌∷◌, All, length, IfOk, IfSome, IfNone, OnOk};
+ghost use Rattle.std.specs.Prelude.{◌≡◌, ◌<◌, ◌≤◌, ◌+◌, ◌*◌, [], ◌∷◌, All, length, IfOk, IfErr, IfSome, IfNone, OnOk};
 ghost use Rattle.trs_defs.specs.Member.{In};
 ghost use Rattle.trs_defs.specs.Path.{Follows};
 ghost use Rattle.term_pool.specs.Pooled.{Extends, tree_at};
@@ -31,7 +31,8 @@ impl Pool {
     /// to it. The list begins with the term itself. For each of its terms in order that is fewer
     /// than `depth` steps away, the reducts follow in the order of the redexes, if they have at
     /// most `size` nodes and keep the limits. It ends at `count` terms (at one, where `count` is
-    /// 0). What is made of a reduct that is not listed is released.
+    /// 0). What is made of a reduct that is not listed is released, and so is all that was made where
+    /// memory runs out.
     pub fn reach(
         &mut self,
         alloc: Global,
@@ -50,7 +51,39 @@ impl Pool {
         ensures follow { IfOk result (λ found. (e : Listed) → In e (listed_at self.new found.items)
             → Follows trs.now.rules e.path (tree_at self.old id) e.term) }
 
-        // The ids that were there keep their terms, after want of memory too.
+        // The ids that were there keep their terms.
+        ensures kept { Extends self.old self.new }
+        ensures few { length self.new ≤ length self.old + count * size }
+        ensures unchanged { IfErr result (λ _. self.new ≡ self.old) }
+    {
+        let mark = self.mark();
+        match self.search(alloc, trs, id, depth, count, size) {
+            Ok(found) => Ok(found),
+            Err(e) => {
+                self.release(mark);
+                Err(e)
+            }
+        }
+    }
+
+    /// The same list. What was made stays, where memory runs out.
+    fn search(
+        &mut self,
+        alloc: Global,
+        trs: &Trs,
+        id: u32,
+        depth: u32,
+        count: u32,
+        size: u64,
+    ) -> Result<Vec<(u32, Vec<PathStep>)>, OutOfMemory>
+        requires there { id < length self.old }
+        requires narrow { IsNarrow (tree_at self.old id) }
+        requires room { length self.old + count * size ≤ MOST_IDS }
+        ensures list { IfOk result (λ found. IsReachList trs.now.rules (tree_at self.old id)
+            depth count size (listed_at self.new found.items)) }
+        ensures there { IfOk result (λ found. All (λ e. e.0 < length self.new) found.items) }
+        ensures follow { IfOk result (λ found. (e : Listed) → In e (listed_at self.new found.items)
+            → Follows trs.now.rules e.path (tree_at self.old id) e.term) }
         ensures kept { Extends self.old self.new }
         ensures few { IfOk result (λ _. length self.new ≤ length self.old + count * size) }
     {

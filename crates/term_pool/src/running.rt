@@ -1,4 +1,4 @@
-ghost use Rattle.std.specs.Prelude.{◌≡◌, ◌≢◌, ◌<◌, ◌≤◌, ◌+◌, length, take, IfOk, IfErr, OnOk};
+ghost use Rattle.std.specs.Prelude.{◌≡◌, ◌<◌, ◌≤◌, ◌+◌, length, take, IfOk, IfErr, OnOk};
 ghost use Rattle.trs_defs.specs.Tree.{Tree};
 ghost use Rattle.trs_defs.specs.Path.{Follows};
 ghost use Rattle.term_pool.specs.Pooled.{Extends, tree_at};
@@ -12,10 +12,16 @@ use trs_core::{OutOfMemory, Trs};
 /// The most ids that a path adds before all of them but those of the term at hand are given up.
 pub const MOST_ADDED: u32 = 1_048_576;
 
+/// A term of n nodes is carried over once more than `FEW_ADDED` and n times `ADDED_FOR_A_NODE` ids
+/// have been added, which is `MOST_ADDED` for the largest terms.
+const FEW_ADDED: u32 = 65_536;
+
+const ADDED_FOR_A_NODE: u32 = 15;
+
 impl Pool {
     /// The id of the end of a path. Each term after the start keeps the limits. A step costs what
-    /// its rule and the way to its place have nodes. Where the steps have added more than
-    /// `MOST_ADDED` ids, the term at hand is read, the ids that were added are released, and it is
+    /// its rule and the way to its place have nodes. Where the steps have added many ids, and at the
+    /// latest at `MOST_ADDED`, the term at hand is read, the ids that were added are released, and it is
     /// interned again, so that a long path takes no more memory than that.
     pub fn run_path(
         &mut self,
@@ -35,16 +41,19 @@ impl Pool {
         ensures only { (u : Tree) → Follows trs.now.rules path.now (tree_at self.old id) u
             → GivesId PathFault.OutOfMemory self.new result u }
 
-        // The ids that were there keep their terms, after want of memory too.
+        // The ids that were there keep their terms. Where the path is not followed, none is added.
         ensures kept { Extends self.old self.new }
-        ensures few { IfOk result (λ _. length self.new ≤ length self.old + MOST_ADDED + 65536) }
-        ensures unchanged { IfErr result (λ e. e ≢ PathFault.OutOfMemory → self.new ≡ self.old) }
+        ensures few { length self.new ≤ length self.old + MOST_ADDED + 65536 }
+        ensures unchanged { IfErr result (λ _. self.new ≡ self.old) }
     {
         let mark = self.mark();
         let mut current = id;
         for (k, step) in path.iter().enumerate() {
-            current = self.carry_over(alloc, mark, current)?;
-            match self.step_at(alloc, trs, current, &step.place, step.rule) {
+            let Ok(same) = self.carry_over(alloc, mark, current) else {
+                self.release(mark);
+                return Err(PathFault::OutOfMemory);
+            };
+            match self.step_at(alloc, trs, same, &step.place, step.rule) {
                 Ok(next) => current = next,
                 Err(fault) => {
                     self.release(mark);
@@ -55,8 +64,8 @@ impl Pool {
         Ok(current)
     }
 
-    /// The id of the same term, where many ids have been added: of those from the mark on only its
-    /// own are kept.
+    /// The id of the same term, where many ids have been added for its size: of those from the mark
+    /// on only its own are kept. So a long path from a small term takes little memory.
     fn carry_over(&mut self, alloc: Global, mark: u32, id: u32) -> Result<u32, OutOfMemory>
         requires there { id < length self.old }
         requires marked { mark ≤ length self.old }
@@ -66,7 +75,8 @@ impl Pool {
         ensures room { OnOk result (length self.new ≤ mark + MOST_ADDED) }
         ensures kept { Extends (take mark self.old) self.new }
     {
-        if self.len() - mark <= MOST_ADDED {
+        let many = FEW_ADDED + ADDED_FOR_A_NODE * self.measure(id).size;
+        if self.len() - mark <= many {
             return Ok(id);
         }
         let term = self.read(alloc, id)?;

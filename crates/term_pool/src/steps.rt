@@ -28,7 +28,7 @@ pub enum StepFault {
 
 impl StepFault {
     /// A step that is refused is passed over, unless memory ran out.
-    pub(crate) fn unless_no_memory(self) -> Result<(), OutOfMemory>
+    pub fn unless_no_memory(self) -> Result<(), OutOfMemory>
         ensures { OnOk result (self ≢ StepFault.OutOfMemory) }
     {
         match self {
@@ -89,11 +89,11 @@ impl Pool {
         ensures only { (u : Tree) → StepsAt trs.now.rules place.now rule (tree_at self.old id) u
             → IsTrue (within_limits u) → GivesId StepFault.OutOfMemory self.new result u }
 
-        // The ids that were there keep their terms, after want of memory too.
+        // The ids that were there keep their terms. Where no step is made, no id is added.
         ensures kept { Extends self.old self.new }
         ensures few { IfOk result (λ new.
             length self.new ≤ length self.old + size_of (tree_at self.new new)) }
-        ensures unchanged { IfErr result (λ e. e ≢ StepFault.OutOfMemory → self.new ≡ self.old) }
+        ensures unchanged { IfErr result (λ _. self.new ≡ self.old) }
         ensures valid { IsSystem trs.now }
     {
         let Some(rule) = trs.rules().get(rule as usize) else {
@@ -105,8 +105,12 @@ impl Pool {
         let Some(found) = self.match_at(alloc, &rule.left, part)? else {
             return Err(StepFault::NoMatch);
         };
-        let Some(new) = self.put_instance(alloc, id, place.places(), part, &found, &rule.right)?
-        else {
+        let mark = self.mark();
+        let Ok(put) = self.put_instance(alloc, id, place.places(), part, &found, &rule.right) else {
+            self.release(mark);
+            return Err(StepFault::OutOfMemory);
+        };
+        let Some(new) = put else {
             return Err(StepFault::TooLarge);
         };
         Ok(new)

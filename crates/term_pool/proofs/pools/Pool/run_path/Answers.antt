@@ -1,45 +1,51 @@
-use Rattle.std.proofs.Common.{take, ap, ◌∙◌, arith, Some}
+use Rattle.std.proofs.Common.{◌≡◌, ap, ◌∙◌, arith, Some}
 use Rattle.trs_defs.proofs.Limits.{limits_size}
 use Rattle.term_pool.specs.Pooled.{Extends, tree_at}
 use Rattle.term_pool.proofs.PoolTrees.{stands}
-use Rattle.term_pool.proofs.Extending.{cut_back, extends_on, kept_cut}
+use Rattle.term_pool.proofs.Extending.{extends_itself, extends_on, kept_cut, undone}
 use Rattle.term_pool.proofs.PathLemmas.{read_step, one_more_step, faulty, rest_of_path, no_stop, all_steps, no_steps_left}
-use Rattle.term_pool.proofs.pools.Pool.run_path.Goals.{After-step_at}
+use Rattle.term_pool.proofs.pools.Pool.run_path.Goals.{After-step_at, After-release-in-Err}
 use Rattle.term_pool.proofs.pools.Pool.run_path.Goals as goal
 
 kept : (c : After-step_at) → Extends c.args.self.now c.carry_over.new.self
-kept c = kept_cut c.args.self.now c.loop-k.self c.carry_over.new.self c.mark-mark.result c.mark-mark.ensures c.loop-k.invariant.kept c.in_ok-current.ensures.kept
+kept c = kept_cut c.args.self.now c.loop-k.self c.carry_over.new.self c.mark-mark.result c.mark-mark.ensures c.loop-k.invariant.kept c.in-Ok.ensures.kept
 
 pub returns-in-Err-clause-fault : goal.returns-in-Err-clause-fault
 returns-in-Err-clause-fault c =
     let is = read_step c.args.path.now c.loop-k.k _ _ c.index-path-k.result c.step.view_is c.index-path-k.is in
     rw c.at_step.ensures (faulty c.args.trs.now c.args.path.now c.loop-k.k _ c.loop-k-test.true is (tree_at c.args.self.now c.args.id) (tree_at c.loop-k.self c.loop-k.current)
-    c.in-Err.fault c.loop-k.invariant.made (rw c.in_ok-current.ensures.same at c.in-Err.ensures.fault))
+    c.in-Err.fault c.loop-k.invariant.made (rw c.in-Ok.ensures.same at c.in-Err.ensures.fault))
 
 pub returns-in-Err-clause-only : goal.returns-in-Err-clause-only
 returns-in-Err-clause-only c = λ u follows.
     let is = read_step c.args.path.now c.loop-k.k _ _ c.index-path-k.result c.step.view_is c.index-path-k.is in
     rw c.at_step.ensures (no_stop c.args.trs.now c.args.path.now c.loop-k.k _ c.loop-k-test.true is (tree_at c.loop-k.self c.loop-k.current) u c.in-Err.fault c.in-Err.ensures.valid
-    (rw c.in_ok-current.ensures.same at c.in-Err.ensures.fault) (c.loop-k.invariant.only u follows))
+    (rw c.in-Ok.ensures.same at c.in-Err.ensures.fault) (c.loop-k.invariant.only u follows))
+
+undo : (c : After-release-in-Err) → c.release-in-Err.new.self ≡ c.args.self.now
+undo c =
+    let made = extends_on c.args.self.now c.carry_over.new.self c.step_at.new.self (kept (goal.at.After-release-in-Err c).After-step_at) c.in-Err.ensures.kept in
+    undone c.args.self.now c.step_at.new.self c.release-in-Err.new.self c.mark-mark.result c.mark-mark.ensures made c.release-in-Err.ensures
 
 pub returns-in-Err-clause-unchanged : goal.returns-in-Err-clause-unchanged
-returns-in-Err-clause-unchanged c = λ _.
-    let made = extends_on c.args.self.now c.carry_over.new.self c.step_at.new.self (kept (goal.at.returns-in-Err-clause-unchanged c).After-step_at) c.in-Err.ensures.kept in
-    c.release.ensures ∙ (ap (λ k. take k c.step_at.new.self) c.mark-mark.ensures ∙ cut_back c.args.self.now c.step_at.new.self made)
+returns-in-Err-clause-unchanged c = undo (goal.at.returns-in-Err-clause-unchanged c).After-release-in-Err
+
+pub returns-in-Err-clause-kept : goal.returns-in-Err-clause-kept
+returns-in-Err-clause-kept c = rw (undo (goal.at.returns-in-Err-clause-kept c).After-release-in-Err) (extends_itself c.args.self.now)
 
 pub loop-k-preserved : goal.loop-k-preserved
 loop-k-preserved c =
     let is = read_step c.args.path.now c.loop-k.k _ _ c.index-path-k.result c.step.view_is c.index-path-k.is in
-    let step = rw c.in_ok-current.ensures.same at c.in-Ok.ensures.step in
-    let small = limits_size (tree_at c.step_at.new.self c.in-Ok.next) c.in-Ok.ensures.limits in
+    let step = rw c.in-Ok.ensures.same at c.in-Ok-step_at.ensures.step in
+    let small = limits_size (tree_at c.step_at.new.self c.in-Ok-step_at.next) c.in-Ok-step_at.ensures.limits in
     record {
-      there = c.in-Ok.ensures.there;
-      kept = extends_on c.args.self.now c.carry_over.new.self c.step_at.new.self (kept (goal.at.loop-k-preserved c).After-step_at) c.in-Ok.ensures.kept;
-      few = omega (arith, small, c.in-Ok.ensures.few, c.in_ok-current.ensures.room, c.mark-mark.ensures);
+      there = c.in-Ok-step_at.ensures.there;
+      kept = extends_on c.args.self.now c.carry_over.new.self c.step_at.new.self (kept (goal.at.loop-k-preserved c).After-step_at) c.in-Ok-step_at.ensures.kept;
+      few = omega (arith, small, c.in-Ok-step_at.ensures.few, c.in-Ok.ensures.room, c.mark-mark.ensures);
       made = one_more_step c.args.trs.now c.args.path.now c.loop-k.k _ c.loop-k-test.true is (tree_at c.args.self.now c.args.id) (tree_at c.loop-k.self c.loop-k.current)
-          (tree_at c.step_at.new.self c.in-Ok.next) c.loop-k.invariant.made step c.in-Ok.ensures.limits;
+          (tree_at c.step_at.new.self c.in-Ok-step_at.next) c.loop-k.invariant.made step c.in-Ok-step_at.ensures.limits;
       only = λ v follows. rest_of_path c.args.trs.now c.args.path.now c.loop-k.k _ c.loop-k-test.true is (tree_at c.loop-k.self c.loop-k.current)
-          (tree_at c.step_at.new.self c.in-Ok.next) v c.in-Ok.ensures.valid step (c.loop-k.invariant.only v follows);
+          (tree_at c.step_at.new.self c.in-Ok-step_at.next) v c.in-Ok-step_at.ensures.valid step (c.loop-k.invariant.only v follows);
     }
 
 pub returns-clause-end : goal.returns-clause-end
@@ -50,3 +56,8 @@ pub returns-clause-only : goal.returns-clause-only
 returns-clause-only c = λ u follows.
     let same = no_steps_left c.args.trs.now.rules c.args.path.now c.loop-k.k (tree_at c.loop-k.self c.loop-k.current) u c.loop-k-test.false (c.loop-k.invariant.only u follows) in
     stands c.loop-k.self c.loop-k.current c.loop-k.invariant.there ∙ ap (λ z. Some z) same
+
+pub returns-in_default-clause-unchanged : goal.returns-in_default-clause-unchanged
+returns-in_default-clause-unchanged c =
+    undone c.args.self.now c.carry_over.new.self c.release.new.self c.mark-mark.result c.mark-mark.ensures
+    (kept_cut c.args.self.now c.loop-k.self c.carry_over.new.self c.mark-mark.result c.mark-mark.ensures c.loop-k.invariant.kept c.carry_over.ensures.kept) c.release.ensures

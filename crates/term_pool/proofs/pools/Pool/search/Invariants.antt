@@ -6,7 +6,7 @@ use Rattle.term_pool.specs.ListedIds.{listed_at}
 use Rattle.term_pool.specs.Reaching.{most_ids, ListsMore}
 use Rattle.term_pool.proofs.FollowLaws.{AllFollow}
 use Rattle.term_pool.proofs.ListingLaws.{start_of}
-use Rattle.term_pool.proofs.pools.Pool.reach.Given as goal
+use Rattle.term_pool.proofs.pools.Pool.search.Given as goal
 
 abbrev pub decreases-loop-next : goal.decreases-loop-next
 decreases-loop-next l = l.bounds.limit - l.next
