@@ -12,7 +12,7 @@ pub enum Saying<'a> {
     /// A name and its place, an arity and its place.
     Declares(&'a [u8], u32, &'a [u8], u32),
     /// A left side and a right side.
-    Rewrites(&'a Sexp, &'a Sexp),
+    Rewrites(&'a Sexp<'a>, &'a Sexp<'a>),
     Nothing,
 }
 
