@@ -76,7 +76,7 @@ fn note_sides(least: &mut Option<AriFault>, symbols: &Symbols, item: &Sexp)
 }
 
 // What an item says wrongly, its terms aside, behind these symbols.
-fn note_saying(least: &mut Option<AriFault>, symbols: &Symbols, at: u32, saying: &Saying<'_>)
+fn note_saying(least: &mut Option<AriFault>, symbols: &Symbols, at: u32, saying: &Saying<'_, '_>)
     ensures { least.new
         ≡ noted least.old (declaration_faults symbols.now at (saying_view saying.now)) }
 {
@@ -95,7 +95,7 @@ fn note_saying(least: &mut Option<AriFault>, symbols: &Symbols, at: u32, saying:
 }
 
 #[tactic(auto, using(crate::proofs::Leasts::noted_append))]
-fn note_entry(least: &mut Option<AriFault>, symbols: &Symbols, at: u32, entry: &Entry<'_>)
+fn note_entry(least: &mut Option<AriFault>, symbols: &Symbols, at: u32, entry: &Entry<'_, '_>)
     ensures { least.new
         ≡ noted least.old (declaration_faults symbols.now at (entry_view entry.now)) }
 {
@@ -106,7 +106,7 @@ fn note_entry(least: &mut Option<AriFault>, symbols: &Symbols, at: u32, entry: &
 }
 
 // The symbol that an item declares, if its name is new, its arity good, and nothing else is there.
-fn declare(symbols: &mut Symbols, alloc: Global, entry: &Entry<'_>) -> Result<(), AllocError>
+fn declare(symbols: &mut Symbols, alloc: Global, entry: &Entry<'_, '_>) -> Result<(), AllocError>
     ensures { OnOk result (symbols.new ≡ symbols_after symbols.old (entry_view entry.now)) }
 {
     let None = entry.attribute else {
@@ -126,7 +126,7 @@ fn declare(symbols: &mut Symbols, alloc: Global, entry: &Entry<'_>) -> Result<()
 
 // An item that is too many.
 #[tactic(auto, using(crate::proofs::Rooms::count_faults_by_test))]
-fn note_count(least: &mut Option<AriFault>, room: &mut Room, at: u32, entry: &Entry<'_>)
+fn note_count(least: &mut Option<AriFault>, room: &mut Room, at: u32, entry: &Entry<'_, '_>)
     ensures least { least.new ≡ noted least.old (count_faults room.old at (entry_view entry.now)) }
     ensures room { room.new ≡ room_after room.old (entry_view entry.now) }
 {

@@ -38,7 +38,7 @@ impl Room {
     }
 
     /// Counts an item, and says whether it is too many.
-    pub fn count(&mut self, entry: &Entry<'_>) -> bool
+    pub fn count(&mut self, entry: &Entry<'_, '_>) -> bool
         ensures room { self.new ≡ room_after self.old (entry_view entry.now) }
         ensures too_many { result ≡ is_too_many self.old (entry_view entry.now) }
     {

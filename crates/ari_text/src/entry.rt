@@ -8,27 +8,27 @@ use sexp_core::Sexp;
 
 /// What the members of an item say, up to an attribute.
 #[derive(Clone, Copy)]
-pub enum Saying<'a> {
+pub enum Saying<'a, 't> {
     /// A name and its place, an arity and its place.
     Declares(&'a [u8], u32, &'a [u8], u32),
     /// A left side and a right side.
-    Rewrites(&'a Sexp, &'a Sexp),
+    Rewrites(&'a Sexp<'t>, &'a Sexp<'t>),
     Nothing,
 }
 
 /// What an item says, with the place of its attribute, if it has one.
 #[derive(Clone, Copy)]
-pub struct Entry<'a> {
-    pub saying: Saying<'a>,
+pub struct Entry<'a, 't> {
+    pub saying: Saying<'a, 't>,
     pub attribute: Option<u32>,
 }
 
-const SAYS_NOTHING: Entry<'static> = Entry {
+const SAYS_NOTHING: Entry<'static, 'static> = Entry {
     saying: Saying::Nothing,
     attribute: None,
 };
 
-pub fn read_entry<'a>(item: &'a Sexp) -> Entry<'a>
+pub fn read_entry<'a, 't>(item: &'a Sexp<'t>) -> Entry<'a, 't>
     ensures { entry_view result ≡ entry_of (view item.now) }
 {
     match item {
@@ -37,7 +37,7 @@ pub fn read_entry<'a>(item: &'a Sexp) -> Entry<'a>
     }
 }
 
-fn read_list<'a>(members: &'a [Sexp]) -> Entry<'a>
+fn read_list<'a, 't>(members: &'a [Sexp<'t>]) -> Entry<'a, 't>
     ensures { entry_view result ≡ list_entry (views members.now) }
 {
     let Some((Sexp::Word(head, _), rest)) = members.split_first() else {
@@ -52,7 +52,7 @@ fn read_list<'a>(members: &'a [Sexp]) -> Entry<'a>
     read_end(read_three(head, x, y), more)
 }
 
-fn read_three<'a>(head: &[u8], x: &'a Sexp, y: &'a Sexp) -> Saying<'a>
+fn read_three<'a, 't>(head: &[u8], x: &'a Sexp<'t>, y: &'a Sexp<'t>) -> Saying<'a, 't>
     ensures { saying_view result ≡ three head.now (view x.now) (view y.now) }
 {
     if head == b"fun".as_slice() {
@@ -64,7 +64,7 @@ fn read_three<'a>(head: &[u8], x: &'a Sexp, y: &'a Sexp) -> Saying<'a>
     }
 }
 
-fn read_declaration<'a>(x: &'a Sexp, y: &'a Sexp) -> Saying<'a>
+fn read_declaration<'a, 't>(x: &'a Sexp<'t>, y: &'a Sexp<'t>) -> Saying<'a, 't>
     ensures { saying_view result ≡ declaration (view x.now) (view y.now) }
 {
     match (x, y) {
@@ -76,7 +76,7 @@ fn read_declaration<'a>(x: &'a Sexp, y: &'a Sexp) -> Saying<'a>
 }
 
 // The entry, by what stands behind its three members.
-fn read_end<'a>(saying: Saying<'a>, more: &[Sexp]) -> Entry<'a>
+fn read_end<'a, 't>(saying: Saying<'a, 't>, more: &[Sexp]) -> Entry<'a, 't>
     ensures { entry_view result ≡ ended (saying_view saying.entry) (views more.now) }
 {
     match more.split_first() {

@@ -25,11 +25,11 @@ fn made_rule(sides: Judged<(Term, Term), AriFault>) -> Judged<Rule, AriFault>
 }
 
 // The rule that two items write, or the least of all faults of their terms.
-fn read_rule(
+fn read_rule<'a, 't>(
     alloc: Global,
     symbols: &Symbols,
-    left: &Sexp,
-    right: &Sexp,
+    left: &'a Sexp<'t>,
+    right: &'a Sexp<'t>,
 ) -> Result<Judged<Rule, AriFault>, OutOfMemory>
     ensures { IfOk result (λ r. r ≡ judged ari_fault lesser
         (rule symbols.now (view left.now) (view right.now))) }

@@ -1,7 +1,8 @@
 -- Names that a set of byte vectors holds.
-use Rattle.std.proofs.Common.{◌≡◌, ℕ, suc, ◌+◌, Bool, true, false, cond, not, ◌||◌, ◌&&◌, List, [], ◌∷◌, ◌++◌, map, Option, Some, None, option_map, Vec, Global, refl, ap, sym, ◌∙◌, add-one}
+use Rattle.std.proofs.Common.{◌≡◌, ℕ, suc, ◌+◌, Bool, true, false, cond, not, ◌||◌, ◌&&◌, List, [], ◌∷◌, ◌++◌, map, Option, Some, None, option_map, Vec, Global, refl, ap, sym, ◌∙◌, ◌<◌, ◌≤◌, length, arith, add-one}
 use Rattle.std.specs.Str.{bytes_eq}
-use Rattle.std.specs.List.{list_any, position, position_from}
+use Rattle.std.specs.List.{AllByRecursion, list_any, position, position_from}
+use Rattle.std.proofs.lemmas.Slice.Eq.{bytes_eq-Decides}
 use Rattle.std.proofs.lemmas.List.{map-append}
 use Rattle.std.proofs.lemmas.List.Folds.{list_any-append}
 use Rattle.std.proofs.lemmas.Cmp.{nat_list_eq_equiv}
@@ -65,3 +66,23 @@ pub inserted : (name : Key) (ks more : List Key) → number_among (texts ks) nam
     → more ≡ cond (list_any (λ k. bytes_eq name.items k.items) ks) ks (ks ++ name ∷ []) → texts more ≡ texts ks ++ name.items ∷ []
 inserted name ks more e m =
     ap texts m ∙ rw (any_text (λ k. k.items) name.items ks ∙ absent (texts ks) name.items e) (map-append (λ (k : Key). k.items) ks (name ∷ []))
+
+-- ---- lengths
+
+differs : (b : Bool) (name n : List ℕ) → bytes_eq name n ≡ b → length n < length name → b ≡ false
+differs false name n e lt = refl
+differs true name n e lt = absurd (let same : name ≡ n = (bytes_eq-Decides name n).0 e in omega (arith, ap length same))
+
+-- a name that is longer than all names is none of them
+pub longer_is_absent : (ns : List (List ℕ)) (name : List ℕ) (longest : ℕ) → AllByRecursion (λ n. length n ≤ longest) ns → longest < length name → number_among ns name ≡ None
+longer_is_absent [] name longest h lt = refl
+longer_is_absent (n ∷ ns) name longest h lt =
+    let le : length n ≤ longest = h.0 in
+    rw (differs (bytes_eq name n) name n refl (omega arith), longer_is_absent ns name longest h.1 lt) refl
+
+-- names stay as short below another bound that is no less
+pub as_short : (ns : List (List ℕ)) (longest more : ℕ) → longest ≤ more → AllByRecursion (λ n. length n ≤ longest) ns → AllByRecursion (λ n. length n ≤ more) ns
+as_short [] longest more le h = tt
+as_short (n ∷ ns) longest more le h =
+    let here : length n ≤ longest = h.0 in
+    (omega arith, as_short ns longest more le h.1)

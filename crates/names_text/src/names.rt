@@ -10,6 +10,8 @@ use std::marker::Model;
 #[derive(Drop)]
 pub struct Names {
     set: IndexSet<Vec<u8>>,
+    /// No name is longer.
+    longest: usize,
 }
 
 impl Model for Names {
@@ -20,7 +22,7 @@ impl Model for Names {
 
     ghost view = { λ s. map (λ k. k.items) s.set.keys };
 
-    ghost invariant = { λ s. IsNameTable (map (λ k. k.items) s.set.keys) };
+    ghost invariant = { λ s. IsNameTable (map (λ k. k.items) s.set.keys) s.longest };
 }
 
 impl Names {
@@ -29,6 +31,7 @@ impl Names {
     {
         Names {
             set: IndexSet::new(alloc),
+            longest: 0,
         }
     }
 
@@ -46,6 +49,9 @@ impl Names {
         ensures within { IfSome result (λ i. i < length self.now) }
         ensures small { IfSome result (λ i. i < 2 ^ 32) }
     {
+        if name.len() > self.longest {
+            return None;
+        }
         self.set.get_index_of(name)
     }
 
@@ -66,7 +72,9 @@ impl Names {
         if self.set.len() >= u32::MAX as usize {
             return Err(AllocError);
         }
+        let longest = self.longest.max(name.len());
         self.set.insert(name)?;
+        self.longest = longest;
         Ok(())
     }
 }

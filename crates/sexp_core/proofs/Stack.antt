@@ -7,6 +7,7 @@ use Rattle.sexp_core.specs.Items.{a_word, a_list, Items, no_items, item, view, v
 use Rattle.sexp_core.specs.Reads.{shape, first_fault, is_closed_by, first_unclosed, fault_among}
 use Rattle.sexp_core.specs.declared.fault.TextFault.TheVariants.{BadByte, UnclosedAt, ExtraClose, TooDeep}
 use Rattle.sexp_core.specs.declared.sexp.Sexp.{Sexp, List as list_of, Word as word_of}
+use Rattle.sexp_core.specs.declared.sexp.Word.{Word}
 use Rattle.sexp_core.specs.declared.reading.Frame.{Frame}
 use Rattle.sexp_core.proofs.Viewing.{view_list, view_word}
 
@@ -43,8 +44,8 @@ next_open a b r p = simp (append_assoc, append-nil)
 next_close : (a b c r : List Token) (p : ℕ) → (a ++ (b ++ (opens p ∷ (c ++ closes 0 ∷ [])))) ++ r ≡ ((a ++ (b ++ opens p ∷ [])) ++ c) ++ (closes 0 ∷ r)
 next_close a b c r p = simp append_assoc
 
-pub stands_word : {depth : ℕ} {all rest : List Token} {frames : List Frame} {items later : List Sexp} (v : Vec ℕ Global) (w : List ℕ) (p : ℕ)
-    → v.items ≡ w → later ≡ items ++ word_of v p ∷ [] → Stands depth all (word w p ∷ rest) frames items → Stands depth all rest frames later
+pub stands_word : {depth : ℕ} {all rest : List Token} {frames : List Frame} {items later : List Sexp} (v : Word) (w : List ℕ) (p : ℕ)
+    → v.bytes.now ≡ w → later ≡ items ++ word_of v p ∷ [] → Stands depth all (word w p ∷ rest) frames items → Stands depth all rest frames later
 unfolding first_fault
 stands_word {depth} {all} {rest} {frames} {items} {later} v w p e f s = record {
   spelled = s.spelled ∙ rw (f, views-last items (word_of v p), view_word v p, e) (sym (next_word (taken frames) (spelled_all (views items)) (word w p) (map shape rest)));

@@ -187,7 +187,7 @@ fn check_terms<'a, F: Refusal>(
     ensures variables { OnOk result (variables.new
         ≡ all_variables_after new symbols.now variables.old (views items.now)) }
 {
-    let mut terms = Ok(Vec::new(alloc));
+    let mut terms = Ok(Vec::with_capacity(alloc, items.len())?);
     for item in items {
         let term = check_term(alloc, symbols, new, variables, item)?;
         terms = pushed(both(terms, term))?;
