@@ -1,5 +1,5 @@
 -- Terms that are apart by their caps are not joinable.
-use Rattle.std.proofs.Common.{◌≡◌, ◌↔◌, ℕ, ◌<◌, max, Bool, true, IsTrue, List, inl, inr, sym, ◌∙◌, subst, arith}
+use Rattle.std.proofs.Common.{◌↔◌, ℕ, ◌<◌, max, Bool, true, IsTrue, List, inl, inr, sym, ◌∙◌, subst, arith}
 use Rattle.trs_defs.specs.Tree.{Tree}
 use Rattle.trs_defs.specs.Variable.{has_var}
 use Rattle.trs_defs.specs.System.{RewriteRule, System, IsSystem}
@@ -53,11 +53,13 @@ record IsNamed (rules : List RewriteRule) (own : ℕ → Bool) (t : Tree) (k : H
 named : (rules : List RewriteRule) (own : ℕ → Bool) (bound : ℕ) → ((v : ℕ) → IsTrue (own v) → v < bound) → (t : Tree) (k : HoledTree) → Agrees own true t → IsHoledCap rules true t k
     → (c : Tree) × IsNamed rules own t k c
 named rules own bound low t k agrees is =
-    let (c, m, numbered) = numbering own bound low k 0 in
-    (c, record {
-      cap = (m, numbered_cap own rules true bound low is agrees numbered);
-      fits = λ σ leaves. instance_fits own numbered (are_own own rules true is agrees) σ leaves;
-    })
+    let (c, m, numbered) = numbering own bound low k 0 in (
+      c,
+      record {
+        cap = (m, numbered_cap own rules true bound low is agrees numbered);
+        fits = λ σ leaves. instance_fits own numbered (are_own own rules true is agrees) σ leaves;
+      },
+    )
 
 cap_instance : (rules : List RewriteRule) (own : ℕ → Bool) (t c : Tree) (k : HoledTree) (u : Tree) → Agrees own true t → IsCapWith rules own t c → IsHoledCap rules true t k → Fits k u → IsFixedInstance own c u
 cap_instance rules own t c k u agrees (m, cap) is fits =

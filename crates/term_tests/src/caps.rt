@@ -10,9 +10,15 @@ use trs_core::{OutOfMemory, Rule, Term, Trs};
 fn system(alloc: Global) -> Result<Trs, Fail> {
     let mut rules = Vec::new(alloc);
     let left = term(alloc, 2, [Term::Var(0), Term::Var(0)])?;
-    rules.push(Rule { left, right: term(alloc, 0, [])? })?;
+    rules.push(Rule {
+        left,
+        right: term(alloc, 0, [])?,
+    })?;
     let left = term(alloc, 1, [term(alloc, 0, [])?])?;
-    rules.push(Rule { left, right: term(alloc, 0, [])? })?;
+    rules.push(Rule {
+        left,
+        right: term(alloc, 0, [])?,
+    })?;
     Ok(Trs::new(Vec::from_array(alloc, [0, 1, 2])?, rules)?)
 }
 
@@ -47,7 +53,12 @@ fn a_marked_root_is_kept(rt: HostRuntime) -> Result<(), Fail> {
 fn one_variable_is_one_constant(rt: HostRuntime) -> Result<(), Fail> {
     let alloc = rt.alloc();
     let left = term(alloc, 2, [Term::Var(0), Term::Var(1)])?;
-    let trs = one_rule(alloc, Vec::from_array(alloc, [0, 1, 2])?, left, Term::Var(0))?;
+    let trs = one_rule(
+        alloc,
+        Vec::from_array(alloc, [0, 1, 2])?,
+        left,
+        Term::Var(0),
+    )?;
     assert!(rt; apart(alloc, &trs, &Term::Var(0), &Term::Var(1))?);
     assert!(rt; !apart(alloc, &trs, &Term::Var(1), &Term::Var(1))?);
     assert!(rt; !apart(alloc, &trs, &Term::Var(0), &pair(alloc, 0)?)?);

@@ -78,7 +78,11 @@ fn small_terms_are_unified(rt: HostRuntime) -> Result<(), Fail> {
             let want = solvable(alloc, small(alloc, i)?, small(alloc, j)?)?;
             assert_eq!(rt; found.is_some(), want, "{i} and {j}");
             if let Some(unifier) = found {
-                assert!(rt; unifier.instance(alloc, &a)?.same(&unifier.instance(alloc, &b)?));
+                assert!(rt;
+                    unifier
+                        .instance(alloc, &a)?
+                        .same(&unifier.instance(alloc, &b)?)
+                );
             }
         }
     }

@@ -1,16 +1,16 @@
 -- Parts of a cap, added one after another.
-use Rattle.std.proofs.Common.{◌≡◌, ℕ, ◌+◌, ◌<◌, ◌≤◌, ◌↔◌, Bool, true, false, IsTrue, List, [], ◌∷◌, ◌++◌, Option, Some, None, map, length, take, drop, get_or, zero, suc, refl, ap, sym, ◌∙◌, subst, arith, nat_cmp, Vec, Global, Result, Ok, Err, IfOk}
-use Rattle.std.proofs.lemmas.List.{drop_all, take_all, take_more}
+use Rattle.std.proofs.Common.{◌≡◌, ℕ, ◌+◌, ◌<◌, ◌≤◌, ◌↔◌, Bool, false, IsTrue, List, [], ◌∷◌, ◌++◌, Option, Some, None, length, drop, get_or, suc, refl, ap, sym, ◌∙◌, subst, arith, nat_cmp, Vec, Global, Result, Ok, Err, IfOk}
+use Rattle.std.proofs.lemmas.List.{drop_all}
 use Rattle.std.proofs.lemmas.Grind.{common_steps}
 use Rattle.std.specs.Borrow.{Bor}
 use Rattle.std.specs.BTreeMap.{BTreeMap, is_at, get, Updates}
 use native.Mathlib.Decide.{ℕ_discrete}
-use Rattle.trs_defs.specs.Tree.{Tree, Trees, var, app, nil, cons}
+use Rattle.trs_defs.specs.Tree.{Tree, Trees, var, app, cons}
 use Rattle.trs_defs.specs.Substitution.{apply, apply_all}
 use Rattle.trs_defs.proofs.ArgumentLists.{cell}
 use Rattle.trs_core.specs.declared.terms.Term.{Term}
 use Rattle.trs_core.specs.View.{tree, forest}
-use Rattle.trs_caps.specs.HoledTree.{HoledTree, HoledTrees, hole, own, symbol, none, more, Fits, EachFits, fits_hole, fits_own, fits_symbol, fits_none, fits_more}
+use Rattle.trs_caps.specs.HoledTree.{HoledTree, HoledTrees, hole, own, symbol, more, Fits, EachFits, fits_hole, fits_symbol, fits_none, fits_more}
 use Rattle.trs_caps.specs.HoledCap.{MeetsLeft}
 use Rattle.trs_caps.specs.Parts.{FitsEach, HaveInstance, Holds, HaveInstances, Adds, Refutes}
 use Rattle.trs_caps.specs.PartLists.{caps_of, entry_parts, parts_at}

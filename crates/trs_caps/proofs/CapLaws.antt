@@ -1,5 +1,5 @@
 -- What the caps of the code promise.
-use Rattle.std.proofs.Common.{◌≡◌, ℕ, ◌<◌, ◌≤◌, Bool, true, false, ◌&&◌, IsTrue, List, max, inl, inr, Result, Ok, Err, IfOk, refl, ap, sym, ◌∙◌, subst, suc, arith}
+use Rattle.std.proofs.Common.{◌≡◌, ℕ, ◌<◌, Bool, true, false, IsTrue, List, max, inl, inr, Result, Ok, Err, IfOk, refl, ◌∙◌, subst, suc, arith}
 use Rattle.trs_defs.specs.Tree.{Tree, Trees, var, app, nil, cons}
 use Rattle.trs_defs.specs.Variable.{has_var, some_has_var}
 use Rattle.trs_defs.specs.Substitution.{apply, IsInstance}

@@ -1,13 +1,13 @@
 -- Caps and numbers of arguments, one after another.
-use Rattle.std.proofs.Common.{◌≡◌, ℕ, ◌+◌, ◌<◌, ◌≤◌, Bool, true, false, List, [], ◌∷◌, ◌++◌, map, length, take, get_or, refl, ap, sym, ◌∙◌, subst, suc, arith, add-one}
+use Rattle.std.proofs.Common.{◌≡◌, ℕ, ◌+◌, ◌<◌, ◌≤◌, Bool, true, false, List, [], ◌∷◌, ◌++◌, length, take, get_or, refl, ap, sym, ◌∙◌, suc, arith}
 use Rattle.std.proofs.lemmas.List.{take_all, take_more}
 use Rattle.trs_defs.specs.Tree.{Tree, Trees, var, app, nil, cons}
-use Rattle.trs_defs.specs.System.{RewriteRule, Among}
+use Rattle.trs_defs.specs.System.{RewriteRule}
 use Rattle.trs_core.specs.declared.terms.Term.{Term}
 use Rattle.trs_core.specs.View.{tree, forest}
 use Rattle.trs_caps.specs.Caps.{IsNext}
 use Rattle.trs_caps.specs.HoledTree.{HoledTree, HoledTrees, hole, own, symbol, none, more}
-use Rattle.trs_caps.specs.HoledCap.{MeetsLeft, MeetsSome, IsHoledCap, AreHoledCaps, fixed_variable, free_variable, symbol_kept, symbol_opened, no_holed, one_holed}
+use Rattle.trs_caps.specs.HoledCap.{MeetsSome, IsHoledCap, AreHoledCaps, fixed_variable, free_variable, symbol_kept, symbol_opened, no_holed, one_holed}
 use Rattle.trs_caps.specs.Numbered.{IsNumbered, AreNumbered, number_hole, leave_own, number_symbol, number_none, number_more}
 use Rattle.trs_caps.specs.declared.holed.Cap.{Cap}
 use Rattle.trs_caps.specs.View.{holed, holed_all}

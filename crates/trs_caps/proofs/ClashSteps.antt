@@ -1,10 +1,10 @@
 -- What a comparison of two caps, part by part, keeps.
 use Rattle.std.specs.Prelude.{not, ◌||◌, ◌==◌}
-use Rattle.std.proofs.Common.{◌≡◌, ℕ, ◌+◌, ◌<◌, ◌≤◌, Bool, true, false, IsTrue, List, [], ◌∷◌, map, length, drop, get_or, zero, suc, refl, ap, sym, ◌∙◌, arith, add-one, drop-cons}
+use Rattle.std.proofs.Common.{◌≡◌, ℕ, true, false, List, [], ◌∷◌, length, suc, refl, ap, sym, arith}
 use Rattle.std.proofs.lemmas.Bool.Decides.{nat_tests}
 use native.Mathlib.Decide.{ℕ_discrete}
 use Rattle.trs_defs.proofs.VariableLaws.{or_right}
-use Rattle.trs_caps.specs.HoledTree.{HoledTree, HoledTrees, symbol, none, more}
+use Rattle.trs_caps.specs.HoledTree.{HoledTree, symbol}
 use Rattle.trs_caps.specs.Clash.{clash, some_clash}
 use Rattle.trs_caps.specs.declared.holed.Cap.{Cap}
 use Rattle.trs_caps.specs.View.{holed, holed_all}

@@ -1,6 +1,6 @@
 -- What fits a cap with holes: the term, its instances, and what they reach.
-use Rattle.std.proofs.Common.{◌≡◌, ℕ, Bool, true, false, IsTrue, List, refl, ap, sym, ◌∙◌, subst}
-use Rattle.trs_defs.specs.Tree.{Tree, Trees, var, app, nil, cons}
+use Rattle.std.proofs.Common.{◌≡◌, ℕ, Bool, true, false, List, refl, ap, sym, ◌∙◌, subst}
+use Rattle.trs_defs.specs.Tree.{Tree, Trees, var, app}
 use Rattle.trs_defs.specs.Variable.{IsVariable}
 use Rattle.trs_defs.specs.Substitution.{apply, apply_all}
 use Rattle.trs_defs.specs.System.{RewriteRule, System, IsSystem, Among}
@@ -9,7 +9,7 @@ use Rattle.trs_defs.specs.Derivation.{Reaches}
 use Rattle.trs_defs.proofs.Derivations.{run_of_reaches}
 use Rattle.trs_defs.proofs.Runs.{run_keeps}
 use Rattle.trs_defs.proofs.Members.{get_of_in}
-use Rattle.trs_caps.specs.HoledTree.{HoledTree, HoledTrees, hole, own, symbol, none, more, Fits, EachFits, fits_hole, fits_own, fits_symbol, fits_none, fits_more}
+use Rattle.trs_caps.specs.HoledTree.{HoledTree, HoledTrees, symbol, Fits, EachFits, fits_hole, fits_own, fits_symbol, fits_none, fits_more}
 use Rattle.trs_caps.specs.HoledCap.{MeetsLeft, IsHoledCap, AreHoledCaps, fixed_variable, free_variable, symbol_kept, symbol_opened, no_holed, one_holed}
 
 -- the rules are those of a system: no left side is a variable

@@ -5,7 +5,7 @@ use native.Mathlib.Decide.{ℕ_discrete}
 use Rattle.trs_defs.specs.Tree.{Tree, Trees, var, app, nil, cons}
 use Rattle.trs_defs.specs.Variable.{has_var, some_has_var}
 use Rattle.trs_defs.specs.Substitution.{apply, apply_all}
-use Rattle.trs_defs.specs.System.{RewriteRule, Among}
+use Rattle.trs_defs.specs.System.{RewriteRule}
 use Rattle.trs_defs.proofs.VariableLaws.{has_var_same, has_var_self, has_var_cons, has_var_first, has_var_rest}
 use Rattle.trs_defs.proofs.Substitutions.{same_instance, same_instances}
 use Rattle.trs_caps.specs.Caps.{Leaves, Meets, IsNext, IsCapFrom, AreCapsFrom, own_variable, fresh_variable, kept, opened, no_caps, cap_and_caps}
@@ -156,15 +156,17 @@ module _ (is_own : ℕ → Bool) where
 
   later_next : (n : ℕ) → IsTrue (is_own n) → (w : ℕ) × IsNext is_own (suc n) w → (w : ℕ) × IsNext is_own n w
   later_next n e (w, h) =
-      let lo : suc n ≤ w = h.from in
-      (w, record {
-        from = omega (arith, lo);
-        fresh = h.fresh;
-        least = λ v a b. elim (ℕ_discrete n v) [
-          | yes same ↦ subst (λ z. IsTrue (is_own z)) same e
-          | no other ↦ h.least v (omega (arith, other)) b
-        ];
-      })
+      let lo : suc n ≤ w = h.from in (
+        w,
+        record {
+          from = omega (arith, lo);
+          fresh = h.fresh;
+          least = λ v a b. elim (ℕ_discrete n v) [
+            | yes same ↦ subst (λ z. IsTrue (is_own z)) same e
+            | no other ↦ h.least v (omega (arith, other)) b
+          ];
+        },
+      )
 
   pick_next : (n : ℕ) (b : Bool) → is_own n ≡ b → (w : ℕ) × IsNext is_own (suc n) w → (w : ℕ) × IsNext is_own n w
   pick_next n true e rest = later_next n e rest

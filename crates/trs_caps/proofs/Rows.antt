@@ -96,9 +96,11 @@ column_term_fits cs n h i (no l) k = absurd (l k)
 pub rows_have : (f : ℕ) (ps : HoledTrees) (cs : List HoledTree) → AllAlike (symbol f ps) cs → ColumnsHave cs (holed_count ps) → HaveInstance cs
 rows_have f ps cs like h =
     let n : ℕ = holed_count ps in
-    let term : ℕ → Tree = λ i. column_term cs n h i (dec_lt i n) in
-    (app f (tabled n term), columns_fit f ps cs (tabled n term) like (count_tabled n term)
-    (λ i l. subst (λ z. FitsEach (column_of i cs) z) (sym (term_at_tabled n term i l)) (column_term_fits cs n h i (dec_lt i n) l)))
+    let term : ℕ → Tree = λ i. column_term cs n h i (dec_lt i n) in (
+      app f (tabled n term),
+      columns_fit f ps cs (tabled n term) like (count_tabled n term)
+          (λ i l. subst (λ z. FitsEach (column_of i cs) z) (sym (term_at_tabled n term i l)) (column_term_fits cs n h i (dec_lt i n) l)),
+    )
 
 pub column_has : (f : ℕ) (ps : HoledTrees) (cs : List HoledTree) (i : ℕ) → HaveInstance (symbol f ps ∷ cs) → HaveInstance (column_of i (symbol f ps ∷ cs))
 column_has f ps cs i (var x, h) = elim h.0 [ ]
@@ -303,9 +305,9 @@ module _ (caps : List (Bor Cap)) (first : Bor Cap) (inside : 0 < length caps) (i
     next_column i there b leaves has e all j l = elim (dec_lt j i) [
       | yes below ↦ all j below
       | no above ↦
-        (let same : i ≡ j = omega (arith, above, l) in
-        let (t, fits) = has.0 e in
-        subst (λ z. HaveInstance (column_of z (caps_of caps))) same (t, fits_without t leaves fits))
+          (let same : i ≡ j = omega (arith, above, l) in
+          let (t, fits) = has.0 e in
+          subst (λ z. HaveInstance (column_of z (caps_of caps))) same (t, fits_without t leaves fits))
     ]
 
     pub no_column : (i : ℕ) (there : List HoledTree) (b : Bool) → LeavesHoles (column_of i (caps_of caps)) there → IsTrue b ↔ HaveInstance there → b ≡ false → HaveInstance (caps_of caps) → ⊥

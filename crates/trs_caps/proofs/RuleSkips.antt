@@ -1,11 +1,10 @@
 -- Rules that are passed over, since a cap with another root meets none of them.
-use Rattle.std.proofs.Common.{◌≡◌, ℕ, ◌+◌, ◌<◌, ◌≤◌, ◌⊎◌, inl, inr, Bool, true, false, IsTrue, List, [], ◌∷◌, Some, length, zero, suc, slice_get, get_or, refl, ap, sym, ◌∙◌, subst, arith}
-use Rattle.std.specs.Prelude.{◌==◌}
+use Rattle.std.proofs.Common.{◌≡◌, ℕ, ◌+◌, ◌<◌, ◌≤◌, true, false, IsTrue, List, [], ◌∷◌, Some, length, zero, suc, slice_get, refl, sym, subst, arith}
 use Rattle.std.proofs.lemmas.Bool.Decides.{nat_tests}
 use native.Mathlib.Decide.{ℕ_discrete, dec_lt}
 use Rattle.trs_defs.specs.Tree.{Tree, Trees, var, app}
 use Rattle.trs_defs.specs.Variable.{IsVariable}
-use Rattle.trs_defs.specs.System.{RewriteRule, System, IsSystem, Among, has_root}
+use Rattle.trs_defs.specs.System.{RewriteRule, System, IsSystem, has_root}
 use Rattle.trs_defs.proofs.Members.{in_of_get, get_of_in}
 use Rattle.term_pool.specs.Roots.{IsNextRooted}
 use Rattle.trs_caps.specs.HoledTree.{HoledTree, HoledTrees, symbol, Fits, fits_symbol}
@@ -42,14 +41,16 @@ module _ (system : System) (c : HoledTree) (f : ℕ) (root : HasRoot f c) (rules
   pub next_rule : (k n : ℕ) (r : RewriteRule) → slice_get rules k ≡ Some r → NoneBefore c rules k → (MeetsLeft c r.left → ⊥) → IsNextRooted system.rules f (k + 1) n
       → NoneBefore c rules n × IsRootedAt f rules n
   next_rule k n r there none unmet next =
-      let here : IsNextRooted rules f (k + 1) n = subst (λ z. IsNextRooted z f (k + 1) n) (sym is) next in
-      (λ i s h e m. elim (dec_lt i k) [
-        | yes below ↦ none i s below e m
-        | no not_below ↦ elim (ℕ_discrete i k) [
-          | yes same ↦ (let one : s ≡ r = cc (e, there, same) in unmet (subst (λ z. MeetsLeft c z.left) one m))
-          | no other ↦ skipped (k + 1) n i s here (omega (arith, not_below, other)) h e m
-        ]
-      ], here.rooted)
+      let here : IsNextRooted rules f (k + 1) n = subst (λ z. IsNextRooted z f (k + 1) n) (sym is) next in (
+        λ i s h e m. elim (dec_lt i k) [
+          | yes below ↦ none i s below e m
+          | no not_below ↦ elim (ℕ_discrete i k) [
+            | yes same ↦ (let one : s ≡ r = cc (e, there, same) in unmet (subst (λ z. MeetsLeft c z.left) one m))
+            | no other ↦ skipped (k + 1) n i s here (omega (arith, not_below, other)) h e m
+          ]
+        ],
+        here.rooted,
+      )
 
   pub found_rule : (k : ℕ) (r : RewriteRule) → slice_get rules k ≡ Some r → MeetsLeft c r.left → MeetsSome c system.rules true
   found_rule k r there m = (r.left, r.right, in_of_get system.rules k r (subst (λ z. slice_get z k ≡ Some r) is there), m)

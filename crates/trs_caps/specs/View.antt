@@ -1,5 +1,5 @@
 -- How the code's caps stand for terms with holes.
-use Rattle.std.specs.Prelude.{ℕ, List, [], ◌∷◌, map}
+use Rattle.std.specs.Prelude.{List, map}
 use Rattle.trs_caps.specs.HoledTree.{HoledTree, HoledTrees, hole, own, symbol, holed_trees}
 use Rattle.trs_caps.specs.declared.holed.Cap.{Cap}
 use Rattle.trs_caps.specs.declared.holed.Cap.TheVariants.{Open, Own, Symbol}

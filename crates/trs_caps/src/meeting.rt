@@ -76,11 +76,7 @@ fn add_part<'a>(
 }
 
 /// Takes out the parts at a variable.
-fn take_parts<'a>(
-    alloc: Global,
-    v: u32,
-    parts: &mut BTreeMap<u32, Vec<&'a Cap>>,
-) -> Vec<&'a Cap>
+fn take_parts<'a>(alloc: Global, v: u32, parts: &mut BTreeMap<u32, Vec<&'a Cap>>) -> Vec<&'a Cap>
     ensures taken { caps_of result.items ≡ parts_at parts.old v }
     ensures others { (w : ℕ) → (w ≡ v → ⊥) → parts_at parts.new w ≡ parts_at parts.old w }
 {
@@ -91,10 +87,7 @@ fn take_parts<'a>(
 }
 
 /// Whether the parts at each variable have a common instance.
-fn all_agree(
-    alloc: Global,
-    mut parts: BTreeMap<u32, Vec<&Cap>>,
-) -> Result<bool, OutOfMemory>
+fn all_agree(alloc: Global, mut parts: BTreeMap<u32, Vec<&Cap>>) -> Result<bool, OutOfMemory>
     ensures { IfOk result (λ yes. IsTrue yes ↔ HaveInstances (parts_at parts.entry)) }
 {
     while let Some((_, there)) = parts.pop_first() {

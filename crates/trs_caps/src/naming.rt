@@ -19,7 +19,8 @@ pub(crate) fn number(
     own: &BTreeSet<u32>,
     next: &mut u32,
 ) -> Result<Term, OutOfMemory>
-    ensures { IfOk result (λ t. (is_own : ℕ → Bool) → ((v : ℕ) → contains nat_cmp own.now v ≡ is_own v)
+    ensures { IfOk result (λ t. (is_own : ℕ → Bool)
+        → ((v : ℕ) → contains nat_cmp own.now v ≡ is_own v)
         → IsNumbered is_own next.old (holed cap.now) (tree t) next.new) }
 {
     match cap {
@@ -37,7 +38,8 @@ pub(crate) fn number(
 
 /// The next variable that is no own one. It would take 2^32 of them for the numbers to run out.
 fn fresh(own: &BTreeSet<u32>, next: &mut u32) -> Result<u32, OutOfMemory>
-    ensures variable { IfOk result (λ w. (is_own : ℕ → Bool) → ((v : ℕ) → contains nat_cmp own.now v ≡ is_own v)
+    ensures variable { IfOk result (λ w. (is_own : ℕ → Bool)
+        → ((v : ℕ) → contains nat_cmp own.now v ≡ is_own v)
         → IsNext is_own next.old w) }
     ensures next { IfOk result (λ w. next.new ≡ w + 1) }
 {
@@ -66,7 +68,8 @@ pub(crate) fn own_variables(
 
 /// Adds the variables of a term.
 fn add_variables(t: &Term, own: &mut BTreeSet<u32>) -> Result<(), OutOfMemory>
-    ensures { OnOk result ((v : ℕ) → contains nat_cmp own.new v ≡ (contains nat_cmp own.old v || has_var v (tree t.now))) }
+    ensures { OnOk result ((v : ℕ) → contains nat_cmp own.new v ≡
+        (contains nat_cmp own.old v || has_var v (tree t.now))) }
 {
     match t {
         Term::Var(v) => {

@@ -1,4 +1,4 @@
-use Rattle.std.proofs.Common.{◌≡◌, ◌<◌, ◌≤◌, length, ap, sym, ◌∙◌, arith, refl, false}
+use Rattle.std.proofs.Common.{◌<◌, ◌≤◌, length, ap, arith, refl}
 use Rattle.trs_caps.specs.Columns.{LeavesHoles, column_of, total}
 use Rattle.trs_caps.specs.PartLists.{caps_of}
 use Rattle.trs_caps.specs.View.{holed}

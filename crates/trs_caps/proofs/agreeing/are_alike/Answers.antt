@@ -1,5 +1,4 @@
-use Rattle.std.proofs.Common.{sym, arith}
-use Rattle.std.proofs.lemmas.List.{take_all}
+use Rattle.std.proofs.Common.{sym}
 use Rattle.trs_caps.specs.View.{holed}
 use Rattle.trs_caps.proofs.Rows.{next_alike, one_unlike}
 use Rattle.trs_caps.proofs.agreeing.are_alike.Goals as goal

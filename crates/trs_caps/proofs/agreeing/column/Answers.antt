@@ -1,5 +1,4 @@
-use Rattle.std.proofs.Common.{take, subst, sym}
-use Rattle.trs_caps.specs.Columns.{LeavesHoles, column_of, no_more}
+use Rattle.trs_caps.specs.Columns.{no_more}
 use Rattle.trs_caps.specs.PartLists.{caps_of}
 use Rattle.trs_caps.proofs.Rows.{next_left_out, next_taken}
 use Rattle.trs_caps.proofs.agreeing.column.Goals.{in-Some+in_ok-push, in_default}

@@ -1,7 +1,5 @@
 use Rattle.std.proofs.Common.{◌≡◌, ◌+◌, ◌-◌, ◌<◌, length, ap, arith, refl, subst, Some, slice_get}
 use Rattle.std.proofs.lemmas.Option.{slice_get_read}
-use Rattle.trs_defs.specs.System.{RewriteRule}
-use Rattle.trs_core.specs.View.{tree}
 use Rattle.term_pool.specs.Roots.{IsNextRooted}
 use Rattle.trs_caps.specs.View.{holed}
 use Rattle.trs_caps.specs.HoledCap.{MeetsLeft}

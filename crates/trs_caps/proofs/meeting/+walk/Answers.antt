@@ -1,9 +1,9 @@
 use Rattle.std.proofs.Common.{arith, ap, sym, ◌∙◌}
 use Rattle.trs_defs.specs.Tree.{app, trees}
-use Rattle.trs_core.specs.View.{tree, forest}
+use Rattle.trs_core.specs.View.{tree}
 use Rattle.trs_caps.specs.HoledTree.{symbol, holed_trees}
 use Rattle.trs_caps.specs.PartLists.{parts_at}
-use Rattle.trs_caps.specs.View.{holed, holed_all}
+use Rattle.trs_caps.specs.View.{holed}
 use Rattle.trs_caps.proofs.AddedParts.{hole_walks, unlike_heads, next_walk, no_next_walk, no_more_walks}
 use Rattle.trs_caps.proofs.meeting.+walk.Goals.{then-f-g-via-then-f-g, then-f-g-via-else-f-g+then-len}
 use Rattle.trs_caps.proofs.meeting.+walk.Goals as goal

@@ -1,6 +1,5 @@
-use Rattle.std.proofs.Common.{refl, ℕ}
+use Rattle.std.proofs.Common.{refl}
 use Rattle.trs_defs.specs.Tree.{var}
-use Rattle.trs_caps.specs.PartLists.{parts_at}
 use Rattle.trs_caps.proofs.AddedParts.{one_less_variable, no_instances, no_parts, no_entries}
 use Rattle.trs_caps.proofs.meeting.all_agree.Goals as goal
 

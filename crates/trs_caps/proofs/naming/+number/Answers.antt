@@ -1,5 +1,4 @@
-use Rattle.std.proofs.Common.{◌≡◌, ap, arith, refl, sym, ◌∙◌}
-use Rattle.trs_core.specs.View.{tree, forest}
+use Rattle.std.proofs.Common.{◌≡◌, ap, arith, sym, ◌∙◌}
 use Rattle.trs_caps.specs.HoledTree.{symbol, holed_trees}
 use Rattle.trs_caps.specs.Numbered.{number_none}
 use Rattle.trs_caps.specs.View.{holed, holed_all}

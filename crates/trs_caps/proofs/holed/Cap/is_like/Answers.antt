@@ -1,4 +1,4 @@
-use Rattle.std.proofs.Common.{ap, sym, ◌∙◌, arith, refl}
+use Rattle.std.proofs.Common.{ap, sym, ◌∙◌, refl}
 use Rattle.trs_caps.specs.HoledTree.{symbol, holed_trees}
 use Rattle.trs_caps.specs.View.{holed}
 use Rattle.trs_caps.proofs.Rows.{alike_symbols}

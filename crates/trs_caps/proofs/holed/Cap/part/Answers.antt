@@ -1,5 +1,5 @@
 use Rattle.std.proofs.Common.{◌≡◌, ◌<◌, ◌≤◌, ap, sym, ◌∙◌, length, arith}
-use Rattle.trs_caps.specs.HoledTree.{HoledTree, symbol, holed_trees}
+use Rattle.trs_caps.specs.HoledTree.{symbol, holed_trees}
 use Rattle.trs_caps.specs.Columns.{child}
 use Rattle.trs_caps.specs.View.{holed, holed_all}
 use Rattle.trs_caps.proofs.Rows.{argument_there, argument_past}
