@@ -1,11 +1,10 @@
 -- Terms that have no redex, since no rule fits.
-use Rattle.std.proofs.Common.{◌≡◌, ◌+◌, ℕ, false, true, List, ◌∷◌, drop, IsTrue, refl}
-use Rattle.trs_defs.specs.Tree.{Tree, Trees, app}
-use Rattle.trs_defs.specs.Substitution.{IsInstance}
+use Rattle.std.proofs.Common.{false, List, refl}
+use Rattle.trs_defs.specs.Tree.{Tree}
 use Rattle.trs_defs.specs.System.{RewriteRule}
 use Rattle.trs_defs.specs.Step.{Step}
 use Rattle.trs_defs.specs.NormalForm.{IsNormalForm}
-use Rattle.term_pool.specs.Redex.{IsRedex, HasRedex}
+use Rattle.term_pool.specs.Redex.{HasRedex}
 use Rattle.term_pool.proofs.NormalForms.{normal_found}
 
 pub normal_without_redex : (rules : List RewriteRule) (t : Tree) → (HasRedex rules t → ⊥) → IsNormalForm (Step rules) t
