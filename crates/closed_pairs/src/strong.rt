@@ -60,7 +60,8 @@ pub fn strongly_closed_check(alloc: Global, trs: &Trs, fours: &[Four]) -> Result
     peaks_are_joined_strongly(alloc, trs, &peaks, fours)
 }
 
-/// Sees that the system is linear, and that there is an item for each peak, which joins it strongly.
+/// Sees that the system is linear, and that there is an item for each peak, which joins it
+/// strongly.
 pub fn strong_check(
     alloc: Global,
     trs: &Trs,

@@ -23,8 +23,8 @@ pub fn labelled_check(
     peaks_are_decreasing(alloc, trs, &peaks, ranks, joins)
 }
 
-/// Sees that the system is linear, that there is a rank for each rule and an item for each peak, and
-/// that the paths of the item join the peak, with ranks that fit.
+/// Sees that the system is linear, that there is a rank for each rule and an item for each peak,
+/// and that the paths of the item join the peak, with ranks that fit.
 pub fn label_check(
     alloc: Global,
     trs: &Trs,
@@ -39,8 +39,8 @@ pub fn label_check(
     peaks_are_decreasing(alloc, trs, peaks, ranks, joins)
 }
 
-/// Sees that there is a rank for each rule and an item for each peak, and that the paths of the item
-/// join the peak, with ranks that fit.
+/// Sees that there is a rank for each rule and an item for each peak, and that the paths of the
+/// item join the peak, with ranks that fit.
 fn peaks_are_decreasing(
     alloc: Global,
     trs: &Trs,
