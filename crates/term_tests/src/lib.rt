@@ -4,7 +4,11 @@
 #[cfg(test)]
 mod made;
 #[cfg(test)]
+mod peaks;
+#[cfg(test)]
 mod slow;
+#[cfg(test)]
+mod slow_peaks;
 #[cfg(test)]
 mod steps;
 #[cfg(test)]
