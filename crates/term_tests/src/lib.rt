@@ -6,7 +6,11 @@ mod caps;
 #[cfg(test)]
 mod made;
 #[cfg(test)]
+mod peaks;
+#[cfg(test)]
 mod slow;
+#[cfg(test)]
+mod slow_peaks;
 #[cfg(test)]
 mod steps;
 #[cfg(test)]

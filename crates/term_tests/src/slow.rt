@@ -30,7 +30,7 @@ fn arity(letter: u8) -> u8 {
 }
 
 /// The term that a text begins with; nothing where it begins with none.
-fn first_term(text: &[u8]) -> &[u8]
+pub fn first_term(text: &[u8]) -> &[u8]
     ensures { length result.now ≤ length text.now }
 {
     let mut open: u64 = 1;
@@ -99,7 +99,7 @@ fn reducts(alloc: Global, text: &[u8]) -> Result<Vec<Vec<u8>>, OutOfMemory> {
 }
 
 /// The term of a text. Symbols are numbered in the order `c`, `g`, `f`.
-fn read(alloc: Global, text: &[u8]) -> Result<Term, OutOfMemory> {
+pub fn read(alloc: Global, text: &[u8]) -> Result<Term, OutOfMemory> {
     let mut stack: Vec<Term> = Vec::new(alloc);
     for letter in text.iter().rev() {
         let mut items = Vec::new(alloc);

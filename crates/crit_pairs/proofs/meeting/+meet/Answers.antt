@@ -1,0 +1,52 @@
+use Rattle.std.proofs.Common.{◌≡◌, arith, ap, length}
+use Rattle.trs_defs.specs.Tree.{app, trees}
+use Rattle.trs_core.specs.View.{tree, forest}
+use Rattle.rewrite_core.proofs.RedexWalk.{applied}
+use Rattle.crit_pairs.proofs.Bindings.{clash, next_meets, never_meets, all_meet}
+use Rattle.crit_pairs.proofs.meeting.+meet.Goals.{then-f-g-via-then-f-g, then-f-g-via-else-f-g+then-len, After-deref-x-items}
+use Rattle.crit_pairs.proofs.meeting.+meet.Goals as goal
+
+pub returns-then-f-g : goal.returns-then-f-g
+returns-then-f-g t c =
+    let a = c.in-App-App in
+    clash c.args.bindings.now.items a.f a.g c.fs.inside.items.items c.gs.inside.items.items (tree c.args.a.now) (tree c.args.b.now)
+    (applied c.fs.inside.items.items a.f _ (tree c.args.a.now) (ap trees c.fs.view_is) (ap tree a.is-0)) (applied c.gs.inside.items.items a.g _ (tree c.args.b.now) (ap trees c.gs.view_is) (ap tree a.is-1))
+    (elim c.then-f-g.branch [
+      | then-f-g-via-then-f-g w ↦ λ same l. w.if-f-g.true same
+      | then-f-g-via-else-f-g+then-len w ↦ λ same l. w.if-len.true (omega (arith, l, w.len.ensures, w.len-else-f-g.ensures, c.fs.inside.items.ok.0, c.gs.inside.items.ok.0))
+    ])
+
+left : (t : _) (c : After-deref-x-items t) → tree c.args.a.now ≡ app c.in-App-App.f (forest c.deref-x-items.result.now)
+left t c = applied c.deref-x-items.result.now c.in-App-App.f _ (tree c.args.a.now) (rw c.deref-x-items.ensures.value (ap trees c.fs.view_is)) (ap tree c.in-App-App.is-0)
+
+right : (t : _) (c : After-deref-x-items t) → tree c.args.b.now ≡ app c.in-App-App.g (forest c.gs.inside.items.items)
+right t c = applied c.gs.inside.items.items c.in-App-App.g _ (tree c.args.b.now) (ap trees c.gs.view_is) (ap tree c.in-App-App.is-1)
+
+pub loop-i-init : goal.loop-i-init
+loop-i-init t c = record {
+  same_length = omega (arith, c.if-len.false, c.len.ensures, c.len-else-f-g.ensures, c.fs.inside.items.ok.0, c.gs.inside.items.ok.0, ap length c.deref-x-items.ensures.value);
+  says = λ θ. (λ h. h, λ h. h);
+}
+
+pub returns-in-Apart : goal.returns-in-Apart
+returns-in-Apart t c =
+    let a = (goal.at.returns-in-Apart t c).After-deref-x-items in
+    let h = c.loop-i.invariant in
+    never_meets c.args.bindings.now.items c.loop-i.bindings.items c.deref-x-items.result.now c.gs.inside.items.items c.loop-i.i c.x-item.result c.index.result.now c.in-App-App.f c.in-App-App.g
+    (tree c.args.a.now) (tree c.args.b.now) (left t a) (right t a) c.loop-i-test.true h.same_length c.x-item.is c.index.ensures h.says (rw c.in-Apart.is at c.in_ok-meeting-in-App-App.ensures)
+
+pub loop-i-preserved : goal.loop-i-preserved
+loop-i-preserved t c =
+    let h = c.loop-i.invariant in
+    record {
+      same_length = h.same_length;
+      says = next_meets c.args.bindings.now.items c.loop-i.bindings.items c.meet.new.bindings.items c.deref-x-items.result.now c.gs.inside.items.items c.loop-i.i c.x-item.result c.index.result.now
+          c.loop-i-test.true h.same_length c.x-item.is c.index.ensures h.says (rw c.in-Met.is at c.in_ok-meeting-in-App-App.ensures);
+    }
+
+pub returns-after-loop-i : goal.returns-after-loop-i
+returns-after-loop-i t c =
+    let a = (goal.at.returns-after-loop-i t c).After-deref-x-items in
+    let h = c.loop-i.invariant in
+    all_meet c.args.bindings.now.items c.loop-i.bindings.items c.deref-x-items.result.now c.gs.inside.items.items c.loop-i.i c.in-App-App.f c.in-App-App.g (tree c.args.a.now) (tree c.args.b.now)
+    (left t a) (right t a) c.if-f-g.false h.same_length c.loop-i-test.false h.says

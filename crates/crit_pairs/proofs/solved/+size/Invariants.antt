@@ -1,0 +1,11 @@
+use Rattle.std.proofs.Common.{◌≡◌, ◌+◌, ◌-◌, ◌<◌, ◌^◌, min, drop}
+use Rattle.trs_defs.specs.Size.{size_of, size_of_all}
+use Rattle.trs_defs.specs.Substitution.{apply, apply_all}
+use Rattle.trs_core.specs.View.{tree, forest}
+use Rattle.crit_pairs.specs.Meeting.{solution}
+use Rattle.crit_pairs.proofs.solved.+size.Given as goal
+
+abbrev pub invariant-loop-arg : goal.invariant-loop-arg
+invariant-loop-arg l =
+    (l.total < 2 ^ 64)
+    × (min (l.total + size_of_all (apply_all (solution l.bindings) (forest (drop l.arg-index l.arg-items)))) (2 ^ 64 - 1) ≡ min (size_of (apply (solution l.bindings) (tree l.t))) (2 ^ 64 - 1))

@@ -1,0 +1,42 @@
+-- Terms that are unified by binding one variable after another.
+use Rattle.std.specs.Prelude.{◌≡◌, ◌↔◌, ℕ, ◌==◌, if◌then◌else◌, List, [], ◌∷◌, Option, Some, None, IsTrue, unwrap_or}
+use Rattle.trs_defs.specs.Tree.{Tree, var}
+use Rattle.trs_defs.specs.Variable.{has_var}
+use Rattle.trs_defs.specs.Substitution.{apply}
+use Rattle.trs_defs.specs.Unifier.{IsMostGeneralUnifier}
+use Rattle.trs_core.specs.View.{tree}
+use Rattle.crit_pairs.specs.Sides.{DoNotMeet}
+use Rattle.crit_pairs.specs.declared.meeting.Binding.{Binding}
+use Rattle.crit_pairs.specs.declared.meeting.Meeting.{Meeting}
+use Rattle.crit_pairs.specs.declared.meeting.Meeting.TheVariants as meeting
+use Rattle.crit_pairs.specs.declared.meeting.Solution.{Solution}
+use Rattle.crit_pairs.specs.declared.meeting.Solution.TheVariants as found
+
+-- the term that the first binding of the variable has
+abbrev pub bound_term : List Binding → ℕ → Option Tree
+bound_term [] v = None
+bound_term (b ∷ bs) v = if b.variable == v then Some (tree b.term) else bound_term bs v
+
+-- a variable that is not bound stays
+abbrev pub solution : List Binding → ℕ → Tree
+solution bs v = unwrap_or (bound_term bs v) (var v)
+
+-- the substitution makes each bound variable and its term equal
+pub record Solves (bs : List Binding) (θ : ℕ → Tree) : Type 0 where
+  pub solves : (v : ℕ) (t : Tree) → bound_term bs v ≡ Some t → θ v ≡ apply θ t
+
+-- The old bindings, and that the terms are equal, say of substitutions what the new bindings say.
+abbrev pub Meets : Tree → Tree → List Binding → List Binding → Meeting → Type 0
+Meets a b old new meeting.Met = (θ : ℕ → Tree) → (Solves old θ × (apply θ a ≡ apply θ b)) ↔ Solves new θ
+Meets a b old new meeting.Apart = (θ : ℕ → Tree) → Solves old θ → apply θ a ≡ apply θ b → ⊥
+Meets a b old new meeting.Unclear = Unit {0}
+
+-- the term has no variable that is bound
+abbrev pub IsFree : List Binding → Tree → Type 0
+IsFree bs t = (v : ℕ) → IsTrue (has_var v t) → bound_term bs v ≡ None
+
+-- what was found of two terms
+abbrev pub IsSolution : Tree → Tree → Solution → Type 0
+IsSolution a b (found.Unifier bindings) = IsMostGeneralUnifier a b (solution bindings.items)
+IsSolution a b found.None = DoNotMeet a b
+IsSolution a b found.Unclear = Unit {0}

@@ -1,0 +1,133 @@
+ghost use Rattle.std.specs.Prelude.{◌≡◌, ◌≢◌, IfOk, IfErr, OnOk, IfSome, IfNone, IsTrue, false};
+ghost use Rattle.trs_defs.specs.Tree.{var};
+ghost use Rattle.trs_defs.specs.Size.{size_of, within_limits};
+ghost use Rattle.trs_defs.specs.Substitution.{apply};
+ghost use Rattle.trs_core.specs.View.{tree};
+ghost use Rattle.trs_unify.specs.Bindings.{stopped_size, stopped_depth};
+ghost use Rattle.trs_unify.specs.Renamed.{IsRenamed};
+ghost use Rattle.crit_pairs.specs.Meeting.{solution};
+ghost use Rattle.crit_pairs.specs.Sides.{IsDistinct};
+
+use crate::meeting::{Binding, find};
+use std::alloc::Global;
+use trs_core::{Args, OutOfMemory, Term};
+
+/// The number of nodes of an instance. `None` exactly where the instance passes the limits on
+/// computed terms.
+pub(crate) fn small_size(bindings: &[Binding], t: &Term) -> Option<u64>
+    ensures large { IfNone result
+        (within_limits (apply (solution bindings.now) (tree t.now)) ≡ false) }
+    ensures small { IfSome result (λ _.
+        IsTrue (within_limits (apply (solution bindings.now) (tree t.now)))) }
+    ensures size { IfSome result (λ n. n ≡ size_of (apply (solution bindings.now) (tree t.now))) }
+{
+    let size = size(bindings, t);
+    if size <= 65_536 && depth(bindings, t) <= 1_024 {
+        Some(size)
+    } else {
+        None
+    }
+}
+
+fn size(bindings: &[Binding], t: &Term) -> u64
+    ensures { result ≡ stopped_size (apply (solution bindings.now) (tree t.now)) }
+{
+    match t {
+        Term::Var(v) => match find(bindings, *v) {
+            None => 1,
+            Some(bound) => bound.size(),
+        },
+        Term::App(_, args) => {
+            let mut total: u64 = 1;
+            for arg in &args.items {
+                total = total.saturating_add(size(bindings, arg));
+            }
+            total
+        }
+    }
+}
+
+fn depth(bindings: &[Binding], t: &Term) -> u64
+    ensures { result ≡ stopped_depth (apply (solution bindings.now) (tree t.now)) }
+{
+    match t {
+        Term::Var(v) => match find(bindings, *v) {
+            None => 1,
+            Some(bound) => bound.depth(),
+        },
+        Term::App(_, args) => {
+            let mut deepest: u64 = 0;
+            for arg in &args.items {
+                deepest = deepest.max(depth(bindings, arg));
+            }
+            deepest.saturating_add(1)
+        }
+    }
+}
+
+/// The instance of a term, with new numbers for its variables: those that are not yet among the
+/// names come behind them as they are met. Names are looked for one by one.
+pub(crate) fn renumbered(
+    alloc: Global,
+    bindings: &[Binding],
+    t: &Term,
+    names: &mut Vec<u32>,
+) -> Result<Term, OutOfMemory>
+    requires { IsDistinct names.old.items }
+    ensures distinct { OnOk result (IsDistinct names.new.items) }
+    ensures renamed { IfOk result (λ u. IsRenamed names.old.items names.new.items
+        (apply (solution bindings.now) (tree t.now)) (tree u)) }
+{
+    match t {
+        Term::Var(v) => match find(bindings, *v) {
+            None => number_variable(*v, names),
+            Some(bound) => numbered(alloc, bound, names),
+        },
+        Term::App(f, args) => {
+            let mut built = Vec::with_capacity(alloc, args.items.len())?;
+            for arg in &args.items {
+                built.push(renumbered(alloc, bindings, arg, names)?)?;
+            }
+            Ok(Term::App(*f, Args { items: built }))
+        }
+    }
+}
+
+/// The term, with new numbers for its variables.
+fn numbered(alloc: Global, t: &Term, names: &mut Vec<u32>) -> Result<Term, OutOfMemory>
+    requires { IsDistinct names.old.items }
+    ensures distinct { OnOk result (IsDistinct names.new.items) }
+    ensures renamed { IfOk result (λ u.
+        IsRenamed names.old.items names.new.items (tree t.now) (tree u)) }
+{
+    match t {
+        Term::Var(v) => number_variable(*v, names),
+        Term::App(f, args) => {
+            let mut built = Vec::with_capacity(alloc, args.items.len())?;
+            for arg in &args.items {
+                built.push(numbered(alloc, arg, names)?)?;
+            }
+            Ok(Term::App(*f, Args { items: built }))
+        }
+    }
+}
+
+/// The variable with its number, or with the next one. A list of 2^32 - 1 names is full.
+fn number_variable(v: u32, names: &mut Vec<u32>) -> Result<Term, OutOfMemory>
+    requires { IsDistinct names.old.items }
+    ensures distinct { OnOk result (IsDistinct names.new.items) }
+    ensures renamed { IfOk result (λ u.
+        IsRenamed names.old.items names.new.items (var v) (tree u)) }
+{
+    let next = names.len();
+    if next >= 4_294_967_295 {
+        return Err(OutOfMemory);
+    }
+    for (i, name) in names.iter().enumerate() {
+        if *name == v {
+            return Ok(Term::Var(i as u32));
+        }
+    }
+    names.push(v)?;
+    Ok(Term::Var(next as u32))
+}
