@@ -21,25 +21,30 @@ fn small(alloc: Global, n: u32) -> Result<Term, OutOfMemory> {
     }
 }
 
-/// Whether equations have a solution, by solving them one after another: a variable that is left
-/// alone is put into all others. (Martelli and Montanari, An efficient unification algorithm, 1982.)
+/// Whether equations have a solution, by solving them one after another: a term for a variable is
+/// put into all others. (Martelli and Montanari, An efficient unification algorithm, 1982.)
 fn solvable(alloc: Global, a: Term, b: Term) -> Result<bool, Fail> {
     let mut equations = Vec::from_array(alloc, [(a, b)])?;
     for _ in 0..1000 {
-        match equations.pop() {
-            None => return Ok(true),
-            Some((Term::Var(v), Term::Var(w))) => {
-                equations = with_binding(alloc, equations, v, Term::Var(w))?;
-            }
-            Some((Term::Var(v), t)) => {
-                if t.has_var(v) {
+        let Some((a, b)) = equations.pop() else {
+            return Ok(true);
+        };
+        match (&a, &b) {
+            (Term::Var(v), Term::Var(_)) => equations = with_binding(alloc, &equations, *v, &b)?,
+            (Term::Var(v), Term::App(_, _)) => {
+                if b.has_var(*v) {
                     return Ok(false);
                 }
-                equations = with_binding(alloc, equations, v, t)?;
+                equations = with_binding(alloc, &equations, *v, &b)?;
             }
-            Some((t, Term::Var(v))) => equations.push((Term::Var(v), t))?,
-            Some((Term::App(f, ts), Term::App(g, us))) => {
-                if f != g || ts.items.len() != us.items.len() {
+            (Term::App(_, _), Term::Var(v)) => {
+                if a.has_var(*v) {
+                    return Ok(false);
+                }
+                equations = with_binding(alloc, &equations, *v, &a)?;
+            }
+            (Term::App(f, ts), Term::App(g, us)) => {
+                if *f != *g || ts.items.len() != us.items.len() {
                     return Ok(false);
                 }
                 for (i, t) in ts.items.iter().enumerate() {
@@ -54,14 +59,14 @@ fn solvable(alloc: Global, a: Term, b: Term) -> Result<bool, Fail> {
 /// The equations with a term for a variable.
 fn with_binding(
     alloc: Global,
-    equations: Vec<(Term, Term)>,
+    equations: &[(Term, Term)],
     v: u32,
-    t: Term,
+    t: &Term,
 ) -> Result<Vec<(Term, Term)>, Fail> {
     let mut binding = Subst::new(alloc);
-    binding.insert(v, t)?;
+    binding.insert(v, t.copy(alloc)?)?;
     let mut bound = Vec::new(alloc);
-    for (a, b) in &equations {
+    for (a, b) in equations {
         bound.push((binding.apply(alloc, a)?, binding.apply(alloc, b)?))?;
     }
     Ok(bound)
