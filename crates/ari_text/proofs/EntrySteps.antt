@@ -1,5 +1,5 @@
 -- What the members of an item say.
-use Rattle.std.proofs.Common.{◌≡◌, ℕ, List, ◌∷◌, Vec, Global, ap, ◌∙◌}
+use Rattle.std.proofs.Common.{◌≡◌, ℕ, List, ◌∷◌, ap, ◌∙◌}
 use Rattle.sexp_core.specs.declared.sexp.Sexp.{Sexp, Word as word_of}
 use Rattle.sexp_core.specs.declared.sexp.Word.{Word}
 use Rattle.sexp_core.proofs.Viewing.{view_word}
