@@ -69,13 +69,14 @@ solves_more bs new v t is none θ =
     let b : Binding = record { variable = v; term = t } in
     let P : List Binding → Type 0 = λ z. (Solves bs θ × (θ v ≡ apply θ (tree t))) ↔ Solves z θ in
     subst P (sym is) (
-    (λ h. record {
-      solves = λ w u e. elim (bound_either bs b w u e) as (λ _. θ w ≡ apply θ u) [
-        | inl k ↦ h.0.solves w u k
-        | inr k ↦ ap θ (sym k.0) ∙ (h.1 ∙ ap (apply θ) k.1)
-      ];
-    }),
-    (λ h. (record { solves = λ w u e. h.solves w u (bound_still bs b w u e) }, h.solves v (tree t) (bound_last bs b none))))
+      (λ h. record {
+        solves = λ w u e. elim (bound_either bs b w u e) as (λ _. θ w ≡ apply θ u) [
+          | inl k ↦ h.0.solves w u k
+          | inr k ↦ ap θ (sym k.0) ∙ (h.1 ∙ ap (apply θ) k.1)
+        ];
+      }),
+      (λ h. (record { solves = λ w u e. h.solves w u (bound_still bs b w u e) }, h.solves v (tree t) (bound_last bs b none))),
+    )
 
 -- the bindings as a unifier
 unless_bound : (o : Option Tree) (v : ℕ) (θ : ℕ → Tree) → ((t : Tree) → o ≡ Some t → θ v ≡ apply θ t) → θ v ≡ apply θ (unwrap_or o (var v))
@@ -149,18 +150,19 @@ pub next_meets : (old mid new : List Binding) (fs gs : List Term) (i : ℕ) (x y
     → SaysAsWhole old fs gs new (drop (i + 1) fs) (drop (i + 1) gs)
 next_meets old mid new fs gs i x y h long is_x is_y before one θ =
     let left : forest (drop i fs) ≡ cons (tree x) (forest (drop (i + 1) fs)) = ap forest (cell fs i x h is_x) in
-    let right : forest (drop i gs) ≡ cons (tree y) (forest (drop (i + 1) gs)) = ap forest (cell gs i y (omega (arith, h, long)) is_y) in
-    ((λ w.
-      let m = (before θ).0 w in
-      let e : cons (apply θ (tree x)) (apply_all θ (forest (drop (i + 1) fs))) ≡ cons (apply θ (tree y)) (apply_all θ (forest (drop (i + 1) gs))) =
-      sym (ap (apply_all θ) left) ∙ (m.1 ∙ ap (apply_all θ) right) in
-      let first : apply θ (tree x) ≡ apply θ (tree y) = cc (e) in
-      let rest : apply_all θ (forest (drop (i + 1) fs)) ≡ apply_all θ (forest (drop (i + 1) gs)) = cc (e) in
-      ((one θ).0 (m.0, first), rest)),
-    (λ w.
-      let m = (one θ).1 w.0 in
-      let e : cons (apply θ (tree x)) (apply_all θ (forest (drop (i + 1) fs))) ≡ cons (apply θ (tree y)) (apply_all θ (forest (drop (i + 1) gs))) = cc (m.1, w.1) in
-      (before θ).1 (m.0, ap (apply_all θ) left ∙ (e ∙ sym (ap (apply_all θ) right)))))
+    let right : forest (drop i gs) ≡ cons (tree y) (forest (drop (i + 1) gs)) = ap forest (cell gs i y (omega (arith, h, long)) is_y) in (
+      (λ w.
+          let m = (before θ).0 w in
+          let e : cons (apply θ (tree x)) (apply_all θ (forest (drop (i + 1) fs))) ≡ cons (apply θ (tree y)) (apply_all θ (forest (drop (i + 1) gs))) =
+          sym (ap (apply_all θ) left) ∙ (m.1 ∙ ap (apply_all θ) right) in
+          let first : apply θ (tree x) ≡ apply θ (tree y) = cc (e) in
+          let rest : apply_all θ (forest (drop (i + 1) fs)) ≡ apply_all θ (forest (drop (i + 1) gs)) = cc (e) in
+          ((one θ).0 (m.0, first), rest)),
+      (λ w.
+          let m = (one θ).1 w.0 in
+          let e : cons (apply θ (tree x)) (apply_all θ (forest (drop (i + 1) fs))) ≡ cons (apply θ (tree y)) (apply_all θ (forest (drop (i + 1) gs))) = cc (m.1, w.1) in
+          (before θ).1 (m.0, ap (apply_all θ) left ∙ (e ∙ sym (ap (apply_all θ) right)))),
+    )
 
 -- one pair of arguments is apart
 pub never_meets : (old mid : List Binding) (fs gs : List Term) (i : ℕ) (x y : Term) (f g : ℕ) (t u : Tree) → t ≡ app f (forest fs) → u ≡ app g (forest gs) → i < length fs → length fs ≡ length gs
@@ -181,15 +183,16 @@ never_meets old mid fs gs i x y f g t u is_t is_u h long is_x is_y before none �
 pub all_meet : (old now : List Binding) (fs gs : List Term) (i f g : ℕ) (t u : Tree) → t ≡ app f (forest fs) → u ≡ app g (forest gs) → f ≡ g → length fs ≡ length gs → length fs ≤ i
     → SaysAsWhole old fs gs now (drop i fs) (drop i gs) → (θ : ℕ → Tree) → (Solves old θ × (apply θ t ≡ apply θ u)) ↔ Solves now θ
 all_meet old now fs gs i f g t u is_t is_u same long past says θ =
-    let none : forest (drop i fs) ≡ forest (drop i gs) = ap forest (drop_all i fs past ∙ sym (drop_all i gs (omega (arith, past, long)))) in
-    ((λ w.
-      let whole : app f (apply_all θ (forest fs)) ≡ app g (apply_all θ (forest gs)) = sym (ap (apply θ) is_t) ∙ (w.1 ∙ ap (apply θ) is_u) in
-      let args : apply_all θ (forest fs) ≡ apply_all θ (forest gs) = cc (whole) in
-      ((says θ).0 (w.0, args)).0),
-    (λ w.
-      let m = (says θ).1 (w, ap (apply_all θ) none) in
-      let whole : app f (apply_all θ (forest fs)) ≡ app g (apply_all θ (forest gs)) = let e = m.1 in cc (e, same) in
-      (m.0, ap (apply θ) is_t ∙ (whole ∙ sym (ap (apply θ) is_u)))))
+    let none : forest (drop i fs) ≡ forest (drop i gs) = ap forest (drop_all i fs past ∙ sym (drop_all i gs (omega (arith, past, long)))) in (
+      (λ w.
+          let whole : app f (apply_all θ (forest fs)) ≡ app g (apply_all θ (forest gs)) = sym (ap (apply θ) is_t) ∙ (w.1 ∙ ap (apply θ) is_u) in
+          let args : apply_all θ (forest fs) ≡ apply_all θ (forest gs) = cc (whole) in
+          ((says θ).0 (w.0, args)).0),
+      (λ w.
+          let m = (says θ).1 (w, ap (apply_all θ) none) in
+          let whole : app f (apply_all θ (forest fs)) ≡ app g (apply_all θ (forest gs)) = let e = m.1 in cc (e, same) in
+          (m.0, ap (apply θ) is_t ∙ (whole ∙ sym (ap (apply θ) is_u)))),
+    )
 
 -- no argument has a variable that is bound
 abbrev pub AreFree : List Binding → Trees → Type 0

@@ -2,7 +2,8 @@ ghost use Rattle.std.specs.Prelude.{◌≡◌, ◌≢◌, IfOk, IfErr, IfSome, I
 ghost use Rattle.trs_defs.specs.Substitution.{apply};
 ghost use Rattle.trs_core.specs.View.{tree};
 ghost use Rattle.crit_pairs.specs.Meeting.{solution};
-ghost use Rattle.crit_pairs.specs.Sides.{are_small, nodes_of_three, AreRenumbered, PassesLimit, KeepsLimits};
+ghost use Rattle.crit_pairs.specs.Sides.{are_small, nodes_of_three, AreRenumbered};
+ghost use Rattle.crit_pairs.specs.Sides.{PassesLimit, KeepsLimits};
 
 use crate::PeakFault;
 use crate::meeting::Binding;
@@ -20,9 +21,19 @@ pub(crate) fn make_solved_sides(
     right: &Term,
     nodes: u64,
 ) -> Result<Counted, PeakFault>
-    ensures renumbered { IfOk result (λ s. AreRenumbered (apply (solution bindings.now) (tree top.now)) (apply (solution bindings.now) (tree left.now)) (apply (solution bindings.now) (tree right.now)) (tree s.sides.top) (tree s.sides.left) (tree s.sides.right)) }
-    ensures limits { IfOk result (λ s. KeepsLimits nodes s.nodes (apply (solution bindings.now) (tree top.now)) (apply (solution bindings.now) (tree left.now)) (apply (solution bindings.now) (tree right.now))) }
-    ensures fault { IfErr result (λ fault. fault ≢ PeakFault.OutOfMemory → PassesLimit fault nodes (apply (solution bindings.now) (tree top.now)) (apply (solution bindings.now) (tree left.now)) (apply (solution bindings.now) (tree right.now))) }
+    ensures renumbered { IfOk result (λ s. AreRenumbered
+        (apply (solution bindings.now) (tree top.now))
+        (apply (solution bindings.now) (tree left.now))
+        (apply (solution bindings.now) (tree right.now))
+        (tree s.sides.top) (tree s.sides.left) (tree s.sides.right)) }
+    ensures limits { IfOk result (λ s. KeepsLimits nodes s.nodes
+        (apply (solution bindings.now) (tree top.now))
+        (apply (solution bindings.now) (tree left.now))
+        (apply (solution bindings.now) (tree right.now))) }
+    ensures fault { IfErr result (λ fault. fault ≢ PeakFault.OutOfMemory → PassesLimit fault nodes
+        (apply (solution bindings.now) (tree top.now))
+        (apply (solution bindings.now) (tree left.now))
+        (apply (solution bindings.now) (tree right.now))) }
 {
     let size = small_sizes(bindings, top, left, right);
     match size {
@@ -44,9 +55,18 @@ pub(crate) fn make_solved_sides(
 /// The number of nodes of three instances. `None` where one of them passes the limits on computed
 /// terms.
 fn small_sizes(bindings: &[Binding], top: &Term, left: &Term, right: &Term) -> Option<u64>
-    ensures large { IfNone result (are_small (apply (solution bindings.now) (tree top.now)) (apply (solution bindings.now) (tree left.now)) (apply (solution bindings.now) (tree right.now)) ≡ false) }
-    ensures small { IfSome result (λ _. IsTrue (are_small (apply (solution bindings.now) (tree top.now)) (apply (solution bindings.now) (tree left.now)) (apply (solution bindings.now) (tree right.now)))) }
-    ensures size { IfSome result (λ n. n ≡ nodes_of_three (apply (solution bindings.now) (tree top.now)) (apply (solution bindings.now) (tree left.now)) (apply (solution bindings.now) (tree right.now))) }
+    ensures large { IfNone result (are_small
+        (apply (solution bindings.now) (tree top.now))
+        (apply (solution bindings.now) (tree left.now))
+        (apply (solution bindings.now) (tree right.now)) ≡ false) }
+    ensures small { IfSome result (λ _. IsTrue (are_small
+        (apply (solution bindings.now) (tree top.now))
+        (apply (solution bindings.now) (tree left.now))
+        (apply (solution bindings.now) (tree right.now)))) }
+    ensures size { IfSome result (λ n. n ≡ nodes_of_three
+        (apply (solution bindings.now) (tree top.now))
+        (apply (solution bindings.now) (tree left.now))
+        (apply (solution bindings.now) (tree right.now))) }
 {
     let a = small_size(bindings, top);
     let b = small_size(bindings, left);
@@ -66,7 +86,11 @@ fn renumber(
     left: &Term,
     right: &Term,
 ) -> Result<Sides, OutOfMemory>
-    ensures { IfOk result (λ s. AreRenumbered (apply (solution bindings.now) (tree top.now)) (apply (solution bindings.now) (tree left.now)) (apply (solution bindings.now) (tree right.now)) (tree s.top) (tree s.left) (tree s.right)) }
+    ensures { IfOk result (λ s. AreRenumbered
+        (apply (solution bindings.now) (tree top.now))
+        (apply (solution bindings.now) (tree left.now))
+        (apply (solution bindings.now) (tree right.now))
+        (tree s.top) (tree s.left) (tree s.right)) }
 {
     let mut names = Vec::new(alloc);
     let first = renumbered(alloc, bindings, top, &mut names)?;

@@ -97,18 +97,17 @@ fn first_difference(alloc: Global, a: &[u8], b: &[u8]) -> Result<Difference, Out
 
 /// The text with numbers for variables, by their places in the list; those that it lacks come
 /// behind it.
-fn renumbered(
-    alloc: Global,
-    text: &[u8],
-    variables: &mut Vec<u8>,
-) -> Result<Vec<u8>, OutOfMemory> {
+fn renumbered(alloc: Global, text: &[u8], variables: &mut Vec<u8>) -> Result<Vec<u8>, OutOfMemory> {
     let mut made = Vec::new(alloc);
     for letter in text {
         if is_variable(*letter) {
             if !variables.iter().any(|known| *known == *letter) {
                 variables.push(*letter)?;
             }
-            let number = variables.iter().take_while(|known| **known != *letter).count();
+            let number = variables
+                .iter()
+                .take_while(|known| **known != *letter)
+                .count();
             made.push(b'0'.wrapping_add((number % 10) as u8))?;
         } else {
             made.push(*letter)?;
@@ -267,12 +266,14 @@ fn is_written(alloc: Global, t: &Term, text: &[u8]) -> Result<bool, OutOfMemory>
 
 /// Whether the peaks are the same.
 fn is_same(alloc: Global, left: &[u8], slow: &TextPeak, peak: &Peak) -> Result<bool, OutOfMemory> {
-    Ok(slow.outer == peak.outer
-        && slow.inner == peak.inner
-        && slow.start == start_of(left, peak.place.places())
-        && is_written(alloc, &peak.top, &slow.top)?
-        && is_written(alloc, &peak.left, &slow.left)?
-        && is_written(alloc, &peak.right, &slow.right)?)
+    Ok(
+        slow.outer == peak.outer
+            && slow.inner == peak.inner
+            && slow.start == start_of(left, peak.place.places())
+            && is_written(alloc, &peak.top, &slow.top)?
+            && is_written(alloc, &peak.left, &slow.left)?
+            && is_written(alloc, &peak.right, &slow.right)?,
+    )
 }
 
 fn read_rule(alloc: Global, number: u32) -> Result<Rule, OutOfMemory> {
