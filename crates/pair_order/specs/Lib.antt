@@ -1,0 +1,4 @@
+pub mod Compared
+pub mod Spoken
+pub mod Entries
+pub mod FirstFault
