@@ -1,7 +1,11 @@
 -- Symbols that a set holds in order, and the entries that stand at their places.
 use Rattle.std.specs.Prelude.{◌==◌}
-use Rattle.std.proofs.Common.{◌≡◌, ℕ, suc, ◌+◌, ◌||◌, Bool, true, false, cond, List, [], ◌∷◌, ◌++◌, map, Option, Some, None, option_map, option_and_then, slice_get, nat_eq, refl, ap, ap₂, sym, ◌∙◌, add-one}
+use Rattle.std.proofs.Common.{◌≡◌, ℕ, suc, ◌+◌, ◌||◌, Bool, true, false, cond, List, [], ◌∷◌, ◌++◌, map, Option, Some, None, option_map, option_and_then, slice_get, length, nat_eq, refl, ap, ap₂, sym, ◌∙◌, add-one}
+use Rattle.std.specs.Borrow.{Bor}
+use Rattle.std.specs.Option.{option_copied}
+use Rattle.std.specs.Slice.{IsItemAt}
 use Rattle.std.specs.List.{list_any, position, position_from}
+use Rattle.std.proofs.lemmas.Option.{slice_get_read, slice_get_past}
 use Rattle.std.proofs.lemmas.Cmp.{nat_eq_equiv}
 use Rattle.std.proofs.lemmas.Iterator.Adapters.{position_from-zero}
 use Rattle.trs_defs.specs.Variable.{is_listed}
@@ -43,3 +47,13 @@ module _ {E : Type 0} (symbol_of : E → ℕ) where
   pub entry_at_place : (es : List E) (f : ℕ) → option_and_then (slice_get es) (place_among (map symbol_of es) f) ≡ entry_of symbol_of es f
   entry_at_place [] f = refl
   entry_at_place (e ∷ es) f = behind_first (symbol_of e == f) e es (place_among (map symbol_of es) f) _ (entry_at_place es f)
+
+  pub entry_absent : (es : List E) (f : ℕ) (o : Option ℕ) → o ≡ place_among (map symbol_of es) f → o ≡ None → entry_of symbol_of es f ≡ None
+  entry_absent es f o e none = sym (entry_at_place es f) ∙ ap (option_and_then (slice_get es)) (sym e ∙ none)
+
+  pub entry_there : (es : List E) (f i : ℕ) (o : Option ℕ) → o ≡ place_among (map symbol_of es) f → o ≡ Some i → entry_of symbol_of es f ≡ slice_get es i
+  entry_there es f i o e some = sym (entry_at_place es f) ∙ ap (option_and_then (slice_get es)) (sym e ∙ some)
+
+pub copied_item : {E : Type 0} (es : List E) (i : ℕ) (r : Option (Bor E)) → IsItemAt es i r → option_copied r ≡ slice_get es i
+copied_item es i None h = sym (slice_get_past es i h.3)
+copied_item es i (Some x) h = sym (slice_get_read es (length es) i x.now refl h.3.0 h.1)

@@ -1,5 +1,5 @@
 -- The coefficients of a term's polynomial, the constant among them, by monomials.
-use Rattle.std.specs.Prelude.{◌≡◌, ◌≤◌, ◌<◌, ◌^◌, ℕ, Result, Ok, Err, ◌==◌, if◌then◌else◌}
+use Rattle.std.specs.Prelude.{◌≡◌, ◌≤◌, ◌<◌, ◌^◌, ◌⊎◌, ℕ, Result, Ok, Err, ◌==◌, if◌then◌else◌}
 use Rattle.trs_defs.specs.Tree.{Tree, Trees}
 use Rattle.pair_theory.specs.Subterm.{Sub, Subs}
 use Rattle.order_theory.specs.LinearInterpretation.{constant, constants, coefficient, coefficients}
@@ -43,3 +43,15 @@ HaveBigAt c m ts = (u : Tree) × Subs u ts × (2 ^ 63 ≤ coefficient_of c m u)
 abbrev pub IsCoefficient : (ℕ → ℕ → ℕ) → Monomial → Tree → Result ℕ TooBig → Type 0
 IsCoefficient c m t (Ok n) = (n ≡ coefficient_of c m t) × (HasBigAt c m t → ⊥)
 IsCoefficient c m t (Err e) = HasBigAt c m t
+
+-- those of two terms
+abbrev pub AreCoefficients : (ℕ → ℕ → ℕ) → Monomial → Tree → Tree → Result (ℕ × ℕ) TooBig → Type 0
+AreCoefficients c m s t (Ok p) = IsCoefficient c m s (Ok p.0) × IsCoefficient c m t (Ok p.1)
+AreCoefficients c m s t (Err e) = HasBigAt c m s ⊎ HasBigAt c m t
+
+abbrev pub HasBigVariable : (ℕ → ℕ → ℕ) → Tree → Tree → Type 0
+HasBigVariable c s t = (x : ℕ) × (HasBigAt c (Variable x) s ⊎ HasBigAt c (Variable x) t)
+
+-- the coefficient of each variable in s is at least that in t
+abbrev pub VariablesAtLeast : (ℕ → ℕ → ℕ) → Tree → Tree → Type 0
+VariablesAtLeast c s t = (x : ℕ) → coefficient c x t ≤ coefficient c x s

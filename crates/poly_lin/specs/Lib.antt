@@ -4,3 +4,4 @@ pub mod Faults
 pub mod Coefficients
 pub mod TooBig
 pub mod LeastVariable
+pub mod Laws

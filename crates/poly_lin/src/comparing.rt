@@ -1,9 +1,8 @@
-ghost use Rattle.std.specs.Prelude.{◌≡◌, ◌≤◌, ◌⊎◌, ℕ, ◌+◌, ◌*◌, slice_index};
+ghost use Rattle.std.specs.Prelude.{◌≡◌, ◌&&◌, ◌+◌, ◌*◌, slice_index};
 ghost use Rattle.trs_core.specs.View.{tree};
-ghost use Rattle.order_theory.specs.LinearInterpretation.{coefficient};
 ghost use Rattle.pair_order.specs.Compared.{IsAnswer};
 ghost use Rattle.poly_lin.specs.Table.{coefficient_in};
-ghost use Rattle.poly_lin.specs.Coefficients.{coefficient_of, IsSmall, IsCoefficient, HasBigAt};
+ghost use Rattle.poly_lin.specs.Coefficients.{IsSmall, IsCoefficient, AreCoefficients, HasBigVariable, VariablesAtLeast};
 
 use crate::monomial::Monomial;
 use crate::variables::next_variable;
@@ -29,6 +28,36 @@ impl LinTable {
             }
         }
     }
+
+    /// Those of two terms.
+    pub(crate) fn coefficients(
+        &self,
+        of: Monomial,
+        a: &Term,
+        b: &Term,
+    ) -> Result<(u64, u64), TooBig>
+        ensures { AreCoefficients (coefficient_in self.now) of (tree a.now) (tree b.now) result }
+    {
+        let left = self.coefficient(of, a)?;
+        let right = self.coefficient(of, b)?;
+        Ok((left, right))
+    }
+
+    /// Whether the coefficient of each variable in the first term's polynomial is at least that in
+    /// the second's. The cost is linear for each variable that occurs.
+    pub(crate) fn variables_at_least(&self, a: &Term, b: &Term) -> Result<bool, TooBig>
+        ensures { IsAnswer (HasBigVariable (coefficient_in self.now) (tree a.now) (tree b.now))
+            (VariablesAtLeast (coefficient_in self.now) (tree a.now) (tree b.now)) result }
+    {
+        let mut at_least = true;
+        let mut from: u64 = 0;
+        while let Some(x) = next_variable(a, b, from) {
+            let (left, right) = self.coefficients(Monomial::Variable(x), a, b)?;
+            at_least = both(at_least, right <= left);
+            from = u64::from(x) + 1;
+        }
+        Ok(at_least)
+    }
 }
 
 fn coefficient_at(polynomial: &[u64], i: usize) -> u64
@@ -38,6 +67,12 @@ fn coefficient_at(polynomial: &[u64], i: usize) -> u64
         Some(coefficient) => *coefficient,
         None => 0,
     }
+}
+
+fn both(a: bool, b: bool) -> bool
+    ensures { result ≡ (a && b) }
+{
+    a && b
 }
 
 fn plus_multiple(sum: u64, factor: u64, value: u64) -> Result<u64, TooBig>

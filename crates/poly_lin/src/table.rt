@@ -6,7 +6,7 @@ ghost use Rattle.poly_lin.specs.Plain.{plain};
 ghost use Rattle.poly_lin.specs.Faults.{HasFaultAt, IsEntryFault, IsFirstOfEntry, number, has_big};
 ghost use Rattle.poly_lin.specs.declared.faults.TableFault.{TableFault as Fault};
 
-use crate::{TableFault, MOST, PAIRING};
+use crate::{MOST, PAIRING, TableFault};
 use pair_order::SymbolIndex;
 use std::alloc::Global;
 use std::marker::Model;
@@ -26,10 +26,11 @@ impl Model for LinTable {
     ghost Value = { List (ℕ × List ℕ) };
 
     ghost use Rattle.poly_lin.specs.Plain.{plain};
+    ghost use Rattle.poly_lin.specs.Table.{symbol_of};
 
     ghost view = { λ t. map plain t.entries.items };
 
-    ghost invariant = { λ t. t.symbols ≡ map (λ e. e.0) t.entries.items };
+    ghost invariant = { λ t. t.symbols ≡ map symbol_of (map plain t.entries.items) };
 }
 
 impl LinTable {
@@ -86,8 +87,10 @@ impl LinTable {
     pub(crate) fn entry(&self, symbol: u32) -> Option<&(u32, Vec<u64>)>
         ensures { option_map plain (option_copied result) ≡ entry_of symbol_of self.now symbol }
     {
-        let place = self.symbols.place(symbol)?;
-        self.entries.get(place)
+        match self.symbols.place(symbol) {
+            Some(place) => self.entries.get(place),
+            None => None,
+        }
     }
 }
 

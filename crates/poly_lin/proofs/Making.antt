@@ -1,0 +1,67 @@
+-- A table that is made, entry by entry, and its first fault.
+use Rattle.std.proofs.Common.{◌≡◌, ℕ, ◌+◌, ◌<◌, ◌≤◌, inl, inr, List, [], ◌∷◌, ◌++◌, map, length, take, get_or, Some, slice_get, option_map, zero, suc, refl, ap, sym, subst, ◌∙◌, arith, add-one}
+use Rattle.std.proofs.lemmas.Bool.{cases_lt}
+use Rattle.std.proofs.lemmas.List.{map-append}
+use Rattle.std.proofs.lemmas.Option.{slice_get_read, slice_get_within, slice_get-map}
+use Rattle.pair_order.specs.FirstFault.{IsFirstFault}
+use Rattle.poly_lin.specs.Plain.{plain}
+use Rattle.poly_lin.specs.Table.{symbol_of}
+use Rattle.poly_lin.specs.declared.faults.TableFault.{TableFault}
+use Rattle.poly_lin.specs.Faults.{IsEntryFault, HasFaultAt, IsFirstOfEntry, number}
+use Rattle.poly_lin.proofs.Reading.{Entry}
+
+pub item_there : (es : List Entry) (i : ℕ) (e : Entry) → i < length es → e ≡ get_or es i e → slice_get (map plain es) i ≡ Some (plain e)
+item_there es i e h is = slice_get-map plain es i ∙ ap (λ o. option_map plain o) (slice_get_read es (length es) i e refl h is)
+
+take_next : {T : Type 0} (xs : List T) (i : ℕ) (x : T) → slice_get xs i ≡ Some x → take (suc i) xs ≡ take i xs ++ x ∷ []
+take_next [] i x e = absurd cc
+take_next (y ∷ xs) zero x e = let same : y ≡ x = cc in ap (λ z. z ∷ []) same
+take_next (y ∷ xs) (suc i) x e = ap (λ zs. y ∷ zs) (take_next xs i x e)
+
+-- the symbols of the entries before number i, none of which has a fault
+pub record Made (table : List (ℕ × List ℕ)) (i : ℕ) (symbols : List ℕ) : Type 0 where
+  pub symbols_are : symbols ≡ map symbol_of (take i table)
+  pub none_before : (k : ℕ) (fault : TableFault) → k < i → HasFaultAt table k fault → ⊥
+
+module _ (table : List (ℕ × List ℕ)) where
+  pub made_none : Made table 0 []
+  made_none = record { symbols_are = refl; none_before = λ k fault h. absurd (omega arith) }
+
+  at_place : (i : ℕ) (symbols : List ℕ) (e : ℕ × List ℕ) (fault : TableFault) → Made table i symbols → slice_get table i ≡ Some e
+      → HasFaultAt table i fault → IsEntryFault symbols e fault
+  at_place i symbols e fault h there (d, found, has) =
+      let same : d ≡ e = cc in
+      subst (λ z. IsEntryFault symbols z fault) same (subst (λ gs. IsEntryFault gs d fault) (sym h.symbols_are) has)
+
+  pub made_more : (i : ℕ) (symbols next : List ℕ) (e : ℕ × List ℕ) → Made table i symbols → slice_get table i ≡ Some e → next ≡ symbols ++ e.0 ∷ []
+      → ((fault : TableFault) → IsEntryFault symbols e fault → ⊥) → Made table (i + 1) next
+  made_more i symbols next e h there is none = record {
+    symbols_are =
+        is ∙ ap (λ gs. gs ++ e.0 ∷ []) h.symbols_are ∙ sym (map-append symbol_of (take i table) (e ∷ []))
+        ∙ ap (map symbol_of) (sym (take_next table i e there)) ∙ ap (λ n. map symbol_of (take n table)) (sym (add-one i));
+    none_before = λ k fault below has. elim (cases_lt k i) [
+      | inl less ↦ h.none_before k fault less has
+      | inr more ↦ let same : k ≡ i = omega arith in
+          none fault (at_place i symbols e fault h there (subst (λ n. HasFaultAt table n fault) same has))
+    ];
+  }
+
+  pub first_fault : (i : ℕ) (symbols : List ℕ) (e : ℕ × List ℕ) (fault : TableFault) → Made table i symbols → slice_get table i ≡ Some e
+      → IsFirstOfEntry symbols e fault → IsFirstFault (HasFaultAt table) number fault
+  first_fault i symbols e fault h there is = record {
+    place = i;
+    holds = (e, there, subst (λ gs. IsEntryFault gs e fault) h.symbols_are is.holds);
+    first = λ k other has. elim (cases_lt k i) [
+      | inl less ↦ absurd (h.none_before k other less has)
+      | inr more ↦ elim (cases_lt i k) [
+        | inl less ↦ inl less
+        | inr least ↦ let same : k ≡ i = omega arith in
+            inr (sym same, is.first other (at_place i symbols e other h there (subst (λ n. HasFaultAt table n other) same has)))
+      ]
+    ];
+  }
+
+  pub no_fault : (i : ℕ) (symbols : List ℕ) → Made table i symbols → length table ≤ i → (k : ℕ) (fault : TableFault) → HasFaultAt table k fault → ⊥
+  no_fault i symbols h le k fault (e, there, has) =
+      let inside = slice_get_within table k e there in
+      h.none_before k fault (omega arith) (e, there, has)
