@@ -1,2 +1,3 @@
 pub mod Erasure
 pub mod Placing
+pub mod Making

@@ -1,11 +1,11 @@
 -- Symbols that a set holds in order, and the entries that stand at their places.
 use Rattle.std.specs.Prelude.{◌==◌}
-use Rattle.std.proofs.Common.{◌≡◌, ℕ, suc, ◌+◌, ◌||◌, Bool, true, false, cond, List, [], ◌∷◌, ◌++◌, map, Option, Some, None, option_map, option_and_then, slice_get, length, nat_eq, refl, ap, ap₂, sym, ◌∙◌, add-one}
+use Rattle.std.proofs.Common.{◌≡◌, ℕ, suc, ◌+◌, ◌||◌, Bool, true, false, cond, List, [], ◌∷◌, ◌++◌, map, Option, Some, None, option_map, option_and_then, slice_get, length, get_or, ◌<◌, nat_eq, refl, ap, ap₂, sym, ◌∙◌, add-one}
 use Rattle.std.specs.Borrow.{Bor}
 use Rattle.std.specs.Option.{option_copied}
 use Rattle.std.specs.Slice.{IsItemAt}
 use Rattle.std.specs.List.{list_any, position, position_from}
-use Rattle.std.proofs.lemmas.Option.{slice_get_read, slice_get_past}
+use Rattle.std.proofs.lemmas.Option.{slice_get_read, slice_get_past, slice_get-map}
 use Rattle.std.proofs.lemmas.Cmp.{nat_eq_equiv}
 use Rattle.std.proofs.lemmas.Iterator.Adapters.{position_from-zero}
 use Rattle.trs_defs.specs.Variable.{is_listed}
@@ -57,3 +57,22 @@ module _ {E : Type 0} (symbol_of : E → ℕ) where
 pub copied_item : {E : Type 0} (es : List E) (i : ℕ) (r : Option (Bor E)) → IsItemAt es i r → option_copied r ≡ slice_get es i
 copied_item es i None h = sym (slice_get_past es i h.3)
 copied_item es i (Some x) h = sym (slice_get_read es (length es) i x.now refl h.3.0 h.1)
+
+-- entries that contracts see by a plain form of them
+module _ {D E : Type 0} (plain : D → E) (symbol_of : E → ℕ) where
+  pub item_there : (ds : List D) (i : ℕ) (d : D) → i < length ds → d ≡ get_or ds i d → slice_get (map plain ds) i ≡ Some (plain d)
+  item_there ds i d h is = slice_get-map plain ds i ∙ ap (option_map plain) (slice_get_read ds (length ds) i d refl h is)
+
+  pub read_entry : (ds : List D) (table : List E) (symbols : List ℕ) (f i : ℕ) (o : Option ℕ) (r : Option (Bor D)) → map plain ds ≡ table
+      → symbols ≡ map symbol_of (map plain ds) → o ≡ place_among symbols f → o ≡ Some i → IsItemAt ds i r
+      → option_map plain (option_copied r) ≡ entry_of symbol_of table f
+  read_entry ds table symbols f i o r is listed e some item =
+      ap (option_map plain) (copied_item ds i r item) ∙ sym (slice_get-map plain ds i)
+      ∙ sym (entry_there symbol_of (map plain ds) f i o (e ∙ ap (λ gs. place_among gs f) listed) some)
+      ∙ ap (λ t. entry_of symbol_of t f) is
+
+  pub no_entry : (ds : List D) (table : List E) (symbols : List ℕ) (f : ℕ) (o : Option ℕ) → map plain ds ≡ table
+      → symbols ≡ map symbol_of (map plain ds) → o ≡ place_among symbols f → o ≡ None → None ≡ entry_of symbol_of table f
+  no_entry ds table symbols f o is listed e none =
+      sym (entry_absent symbol_of (map plain ds) f o (e ∙ ap (λ gs. place_among gs f) listed) none)
+      ∙ ap (λ t. entry_of symbol_of t f) is

@@ -1,7 +1,8 @@
 -- The faults of entries that make no table.
-use Rattle.std.specs.Prelude.{◌≡◌, ◌≤◌, ◌⊎◌, ℕ, List, Bool, Some, IsTrue, map, take, slice_get, nat_lt}
+use Rattle.std.specs.Prelude.{◌≡◌, ◌⊎◌, ℕ, List, Bool, IsTrue, nat_lt}
 use Rattle.std.specs.List.{list_any}
 use Rattle.trs_defs.specs.Variable.{is_listed}
+use Rattle.pair_order.specs.FirstFault as first
 use Rattle.poly_lin.specs.Table.{symbol_of}
 use Rattle.poly_lin.specs.declared.faults.TableFault.{TableFault}
 use Rattle.poly_lin.specs.declared.faults.TableFault.TheVariants.{Twice, TooBig, OutOfMemory}
@@ -18,16 +19,10 @@ IsEntryFault earlier e OutOfMemory = ⊥
 
 -- entry number k has the fault
 abbrev pub HasFaultAt : List (ℕ × List ℕ) → ℕ → TableFault → Type 0
-HasFaultAt entries k fault =
-    (e : ℕ × List ℕ) × (slice_get entries k ≡ Some e) × IsEntryFault (map symbol_of (take k entries)) e fault
+HasFaultAt entries k fault = first.HasFaultAt symbol_of IsEntryFault entries k fault
 
 -- which fault of an entry comes first
 abbrev pub number : TableFault → ℕ
 number (Twice f) = 1
 number (TooBig f) = 2
 number OutOfMemory = 3
-
--- the fault is the first that the entry, behind those of some symbols, has
-pub record IsFirstOfEntry (earlier : List ℕ) (e : ℕ × List ℕ) (fault : TableFault) : Type 0 where
-  pub holds : IsEntryFault earlier e fault
-  pub first : (other : TableFault) → IsEntryFault earlier e other → number fault ≤ number other

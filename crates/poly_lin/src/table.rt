@@ -1,9 +1,9 @@
 ghost use Rattle.std.specs.Prelude.{◌≡◌, ◌≢◌, ℕ, ◌++◌, ◌∷◌, [], map, IfOk, IfErr, OnOk, option_map, option_copied};
 ghost use Rattle.pair_order.specs.Entries.{entry_of};
-ghost use Rattle.pair_order.specs.FirstFault.{IsFirstFault};
+ghost use Rattle.pair_order.specs.FirstFault.{IsFirstFault, IsFirstOfEntry};
 ghost use Rattle.poly_lin.specs.Table.{symbol_of, polynomial};
 ghost use Rattle.poly_lin.specs.Plain.{plain};
-ghost use Rattle.poly_lin.specs.Faults.{HasFaultAt, IsEntryFault, IsFirstOfEntry, number, has_big};
+ghost use Rattle.poly_lin.specs.Faults.{HasFaultAt, IsEntryFault, number, has_big};
 ghost use Rattle.poly_lin.specs.declared.faults.TableFault.{TableFault as Fault};
 
 use crate::{MOST, PAIRING, TableFault};
@@ -100,7 +100,7 @@ fn add_entry(symbols: &mut SymbolIndex, symbol: u32, coefficients: &[u64]) -> Re
     ensures faultless { IfOk result (λ _. (fault : Fault) →
         IsEntryFault symbols.old (symbol, coefficients.now) fault → ⊥) }
     ensures fault { IfErr result (λ fault. fault ≢ TableFault.OutOfMemory →
-        IsFirstOfEntry symbols.old (symbol, coefficients.now) fault) }
+        IsFirstOfEntry IsEntryFault number symbols.old (symbol, coefficients.now) fault) }
 {
     if symbol == PAIRING {
         return Err(TableFault::Twice(symbol));
