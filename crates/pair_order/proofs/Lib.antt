@@ -1,3 +1,4 @@
 pub mod Erasure
 pub mod Placing
 pub mod Making
+pub mod Opening

@@ -10,11 +10,6 @@ use Rattle.poly_lin.specs.declared.monomial.Monomial.{Monomial}
 use Rattle.poly_lin.specs.declared.monomial.Monomial.TheVariants.{One, Variable}
 use Rattle.poly_lin.specs.Coefficients.{coefficient_of, coefficients_of, variable_coefficient, own_coefficient, IsSmall, HasBigAt, HaveBigAt, IsCoefficient}
 
--- a term that is opened at its root
-pub application : (f : ℕ) (t : Tree) (args : List Tree) (ts us : List Term) → t ≡ app f (trees args) → map tree ts ≡ args → us ≡ ts
-    → t ≡ app f (forest us)
-application f t args ts us is opened same = is ∙ ap (λ vs. app f (trees vs)) (sym opened) ∙ ap (λ vs. app f (forest vs)) (sym same)
-
 pub is_var : {u : Tree} {x : ℕ} → Sub u (var x) → u ≡ var x
 is_var itself = refl
 

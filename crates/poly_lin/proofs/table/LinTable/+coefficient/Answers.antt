@@ -7,7 +7,8 @@ use Rattle.trs_defs.proofs.EqualTerms.{app_root}
 use Rattle.trs_core.specs.View.{tree, forest}
 use Rattle.poly_lin.specs.Table.{coefficient_in}
 use Rattle.poly_lin.specs.Coefficients.{own_coefficient, IsCoefficient}
-use Rattle.poly_lin.proofs.Walk.{Left, application, next, big_argument, big_sum, total, if_err}
+use Rattle.pair_order.proofs.Opening.{application}
+use Rattle.poly_lin.proofs.Walk.{Left, next, big_argument, big_sum, total, if_err}
 use Rattle.poly_lin.proofs.table.LinTable.+coefficient.Goals.{After-arg-item}
 use Rattle.poly_lin.proofs.table.LinTable.+coefficient.Goals as goal
 
