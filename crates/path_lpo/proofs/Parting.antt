@@ -1,9 +1,9 @@
 -- A term is taken apart at its root, as its filter says.
-use Rattle.std.proofs.Common.{◌≡◌, ℕ, ◌-◌, ◌+◌, ◌<◌, ◌≤◌, List, [], map, Option, Some, None, option_map, slice_get, refl, ap, sym, ◌∙◌, arith, Vec, Global}
+use Rattle.std.proofs.Common.{◌≡◌, ℕ, ◌-◌, ◌<◌, List, Option, Some, None, option_map, slice_get, ap, sym, ◌∙◌, arith, Vec, Global}
 use Rattle.std.specs.Borrow.{Bor}
 use Rattle.std.specs.Option.{option_copied}
-use Rattle.trs_defs.specs.Tree.{Tree, Trees, var, app, nil, cons, trees}
-use Rattle.trs_defs.specs.Size.{size_of, size_of_all}
+use Rattle.trs_defs.specs.Tree.{Tree, app, nil, trees}
+use Rattle.trs_defs.specs.Size.{size_of}
 use Rattle.order_theory.specs.ArgumentFilter.{ArgumentFilter, To, Keep, select, filtered, filtered_all, by_filter}
 use Rattle.pair_order.specs.Entries.{entry_of}
 use Rattle.path_lpo.specs.declared.entries.LpoEntry.{LpoEntry}

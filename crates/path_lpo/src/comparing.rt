@@ -8,7 +8,7 @@ ghost use Rattle.path_lpo.specs.Kept.{kept_of, whole_of, size_of_parts};
 ghost use Rattle.path_lpo.specs.Comparison.{IsComparison};
 
 use crate::comparison::Comparison;
-use crate::kept::{argument, Kept, Parts};
+use crate::kept::{Kept, Parts, argument};
 use crate::{Filter, Lpo};
 use trs_core::Term;
 
@@ -24,14 +24,32 @@ impl Lpo {
             match current {
                 Term::Var(x) => return Parts::Var(*x),
                 Term::App(f, args) => match self.entry(*f) {
-                    None => return Parts::App(*f, Kept { places: &[], args: &args.items }),
+                    None => return Parts::App(
+                        *f,
+                        Kept {
+                            places: &[],
+                            args: &args.items,
+                        },
+                    ),
                     Some(entry) => match &entry.filter {
                         Filter::Keep(places) => {
-                            return Parts::App(*f, Kept { places, args: &args.items });
+                            return Parts::App(
+                                *f,
+                                Kept {
+                                    places,
+                                    args: &args.items,
+                                },
+                            );
                         }
                         Filter::To(place) => match argument(&args.items, *place) {
                             None => {
-                                return Parts::App(*f, Kept { places: &[], args: &args.items });
+                                return Parts::App(
+                                    *f,
+                                    Kept {
+                                        places: &[],
+                                        args: &args.items,
+                                    },
+                                );
                             }
                             Some(next) => current = next,
                         },

@@ -1,4 +1,4 @@
-use Rattle.std.proofs.Common.{◌≡◌, ◌-◌, ◌+◌, map, ap, sym, ◌∙◌, refl, arith, length, length-drop, get_or, slice_get, Some, None}
+use Rattle.std.proofs.Common.{◌≡◌, ◌-◌, ◌+◌, map, ap, sym, ◌∙◌, refl, arith, length, length-drop, get_or, slice_get, Some}
 use Rattle.std.specs.Option.{option_map, option_copied}
 use Rattle.trs_defs.specs.Tree.{cons}
 use Rattle.trs_core.specs.View.{tree, forest}
@@ -12,7 +12,7 @@ returns-in-Some c =
     let places = c.args.self.places.now in
     let ts = map tree c.args.self.args.now in
     let there : slice_get ts (get_or places c.loop-k.k 0 - 1) ≡ Some (tree c.in-Some.first.now) =
-        sym c.argument.ensures ∙ ap (λ o. option_map tree (option_copied o)) c.in-Some.is in
+    sym c.argument.ensures ∙ ap (λ o. option_map tree (option_copied o)) c.in-Some.is in
     record {
       kept_are =
           reached places ts c.loop-k.k c.loop-k-test.true (kept_of c.args.self) (tree c.in-Some.first.now) there c.loop-k.invariant

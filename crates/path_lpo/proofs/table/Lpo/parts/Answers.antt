@@ -1,4 +1,4 @@
-use Rattle.std.proofs.Common.{◌≤◌, ◌<◌, ◌≡◌, map, ap, sym, ◌∙◌, arith, refl}
+use Rattle.std.proofs.Common.{◌<◌, map, ap, sym, ◌∙◌, arith, refl}
 use Rattle.std.specs.Option.{option_map, option_copied}
 use Rattle.trs_defs.specs.Size.{size_of}
 use Rattle.trs_core.specs.View.{tree}
@@ -25,16 +25,16 @@ returns-in-None-argument-clause-whole c =
 pub loop-current-smaller : goal.loop-current-smaller
 loop-current-smaller c =
     let less : size_of (tree c.in-Some-argument.next.now) < size_of (tree c.loop-current.current.now) =
-        smaller (tree c.loop-current.current.now) c.in-App.f (map tree c.deref-in-To.result.now) _ (tree c.in-Some-argument.next.now)
-        (application c.in-App.f _ _ _ _ (ap tree c.in-App.is) c.args-in-App.view_is c.deref-in-To.ensures.value)
-        (sym c.argument.ensures ∙ ap (λ o. option_map tree (option_copied o)) c.in-Some-argument.is) in less
+    smaller (tree c.loop-current.current.now) c.in-App.f (map tree c.deref-in-To.result.now) _ (tree c.in-Some-argument.next.now)
+    (application c.in-App.f _ _ _ _ (ap tree c.in-App.is) c.args-in-App.view_is c.deref-in-To.ensures.value)
+    (sym c.argument.ensures ∙ ap (λ o. option_map tree (option_copied o)) c.in-Some-argument.is) in less
 
 pub loop-current-preserved : goal.loop-current-preserved
 loop-current-preserved c =
     let less : size_of (tree c.in-Some-argument.next.now) < size_of (tree c.loop-current.current.now) =
-        smaller (tree c.loop-current.current.now) c.in-App.f (map tree c.deref-in-To.result.now) _ (tree c.in-Some-argument.next.now)
-        (application c.in-App.f _ _ _ _ (ap tree c.in-App.is) c.args-in-App.view_is c.deref-in-To.ensures.value)
-        (sym c.argument.ensures ∙ ap (λ o. option_map tree (option_copied o)) c.in-Some-argument.is) in
+    smaller (tree c.loop-current.current.now) c.in-App.f (map tree c.deref-in-To.result.now) _ (tree c.in-Some-argument.next.now)
+    (application c.in-App.f _ _ _ _ (ap tree c.in-App.is) c.args-in-App.view_is c.deref-in-To.ensures.value)
+    (sym c.argument.ensures ∙ ap (λ o. option_map tree (option_copied o)) c.in-Some-argument.is) in
     record {
       same =
           whole_there (filter_in c.args.self.now) (tree c.loop-current.current.now) (tree c.args.t.now) c.in-App.f (map tree c.deref-in-To.result.now)
