@@ -2,3 +2,4 @@ pub mod Erasure
 pub mod Placing
 pub mod Making
 pub mod Opening
+pub mod LeastVariables

@@ -2,3 +2,4 @@ pub mod Compared
 pub mod Spoken
 pub mod Entries
 pub mod FirstFault
+pub mod LeastVariable

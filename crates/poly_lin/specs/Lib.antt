@@ -3,5 +3,5 @@ pub mod Table
 pub mod Faults
 pub mod Coefficients
 pub mod TooBig
-pub mod LeastVariable
+
 pub mod Laws

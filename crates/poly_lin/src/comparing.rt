@@ -5,9 +5,8 @@ ghost use Rattle.poly_lin.specs.Table.{coefficient_in};
 ghost use Rattle.poly_lin.specs.Coefficients.{IsSmall, IsCoefficient, AreCoefficients, HasBigVariable, VariablesAtLeast};
 
 use crate::monomial::Monomial;
-use crate::variables::next_variable;
 use crate::{LinTable, MOST};
-use pair_order::TooBig;
+use pair_order::{next_variable, TooBig};
 use trs_core::Term;
 
 impl LinTable {

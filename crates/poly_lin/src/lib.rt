@@ -7,7 +7,6 @@ mod faults;
 mod monomial;
 mod orders;
 mod table;
-mod variables;
 
 pub use faults::TableFault;
 pub use table::LinTable;

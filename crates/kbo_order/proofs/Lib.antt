@@ -1,0 +1,5 @@
+pub mod Knuth
+pub mod Sums
+pub mod Sight
+pub mod Towers
+pub mod Viewers
