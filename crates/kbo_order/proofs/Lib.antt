@@ -3,3 +3,4 @@ pub mod Sums
 pub mod Sight
 pub mod Towers
 pub mod Viewers
+pub mod Admitting
