@@ -1,0 +1,6 @@
+pub mod Knuth
+pub mod Sums
+pub mod Sight
+pub mod Towers
+pub mod Viewers
+pub mod Admitting

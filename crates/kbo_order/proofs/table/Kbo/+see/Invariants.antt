@@ -1,0 +1,15 @@
+use Rattle.std.proofs.Common.{◌≡◌, drop, length}
+use Rattle.trs_core.specs.View.{tree, forest}
+use Rattle.kbo_order.specs.Table.{weight_in, rank_in}
+use Rattle.kbo_order.proofs.Sums.{Left}
+use Rattle.kbo_order.proofs.Sight.{Walked}
+use Rattle.kbo_order.proofs.table.Kbo.+see.Given as goal
+
+abbrev pub invariant-loop-i : goal.invariant-loop-i
+invariant-loop-i l = record {
+  same_length : length l.a-items ≡ length l.ts-inside.items.items;
+  left : Left (weight_in l.self.entries.items) l.x (forest l.a-items) (forest (drop l.i l.a-items)) l.seen.left;
+  right : Left (weight_in l.self.entries.items) l.x (forest l.ts-inside.items.items) (forest (drop l.i l.ts-inside.items.items)) l.seen.right;
+  walked : Walked (weight_in l.self.entries.items) (rank_in l.self.entries.items) l.x (forest l.a-items) (forest l.ts-inside.items.items)
+      (forest (drop l.i l.a-items)) (forest (drop l.i l.ts-inside.items.items)) l.seen.same l.seen.greater;
+}

@@ -1,0 +1,17 @@
+//! The Knuth-Bendix order, given by a table of arities, weights and ranks. (Knuth and Bendix, 1970;
+//! Baader and Nipkow, section 5.4.)
+#![tactic(auto)]
+
+mod comparing;
+mod entries;
+mod faults;
+mod measure;
+mod orders;
+mod table;
+
+pub use entries::KboEntry;
+pub use faults::KboFault;
+pub use table::Kbo;
+
+/// The greatest weight, 2^63 - 1.
+const MOST: u64 = 9_223_372_036_854_775_807;

@@ -1,0 +1,50 @@
+ghost use Rattle.std.specs.Prelude.{Bool};
+ghost use Rattle.order_theory.specs.KnuthBendix.{KnuthWeak, KnuthGreater};
+ghost use Rattle.order_theory.proofs.KnuthPair.{knuth_pair};
+ghost use Rattle.pair_theory.specs.Over.{IsOver};
+ghost use Rattle.pair_order.specs.Entries.{has_entry};
+ghost use Rattle.kbo_order.specs.Table.{symbol_of, arity_in, weight_in, rank_in, has_arity};
+ghost use Rattle.kbo_order.specs.TooBig.{EitherIsBig};
+ghost use Rattle.kbo_order.specs.Laws.{AgreesWith, spoken};
+
+use crate::Kbo;
+use pair_order::{ReductionPair, TooBig};
+use pair_theory::ReductionOrder;
+use trs_core::Term;
+
+impl ReductionOrder for Kbo {
+    ghost is_weak = { λ order.
+        KnuthWeak (weight_in order.entries.items) (rank_in order.entries.items) };
+
+    ghost is_strict = { λ order.
+        KnuthGreater (weight_in order.entries.items) (rank_in order.entries.items) };
+
+    ghost speaks_of = { λ order. IsOver (arity_in order.entries.items) };
+
+    ghost laws = { λ order. knuth_pair (arity_in order.entries.items)
+        (weight_in order.entries.items) (rank_in order.entries.items) order.admissible };
+}
+
+impl ReductionPair for Kbo {
+    ghost is_too_big = { λ order. EitherIsBig (weight_in order.entries.items) };
+
+    ghost has = { λ order. has_entry symbol_of order.entries.items };
+
+    ghost speaks_over = { λ order arities. AgreesWith (arity_in order.entries.items) arities };
+
+    fn weak(&self, a: &Term, b: &Term) -> Result<bool, TooBig> {
+        let greater = self.is_greater(a, b)?;
+        Ok(greater || a.same(b))
+    }
+
+    fn strict(&self, a: &Term, b: &Term) -> Result<bool, TooBig> {
+        self.is_greater(a, b)
+    }
+
+    fn has_entry(&self, f: u32) -> bool {
+        self.entry(f).is_some()
+    }
+
+    ghost spoken = { λ order arities over. spoken (arity_in order.entries.items)
+        (has_entry symbol_of order.entries.items) (has_arity order.entries.items) arities over };
+}

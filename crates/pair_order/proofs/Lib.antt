@@ -1,0 +1,5 @@
+pub mod Erasure
+pub mod Placing
+pub mod Making
+pub mod Opening
+pub mod LeastVariables

@@ -1,0 +1,5 @@
+pub mod Compared
+pub mod Spoken
+pub mod Entries
+pub mod FirstFault
+pub mod LeastVariable

@@ -1,0 +1,12 @@
+//! Reduction pairs that code compares terms by, and what the tables behind them share.
+#![tactic(auto)]
+
+mod pairs;
+mod removal;
+mod symbol_index;
+mod variables;
+
+pub use pairs::{PairingOrder, ReductionPair, TooBig};
+pub use removal::remove_pairs_with_entries;
+pub use symbol_index::SymbolIndex;
+pub use variables::{least_variable, next_variable};

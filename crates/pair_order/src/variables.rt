@@ -1,0 +1,48 @@
+ghost use Rattle.std.specs.Prelude.{◌≡◌, None};
+ghost use Rattle.trs_core.specs.View.{tree};
+ghost use Rattle.pair_order.specs.LeastVariable.{is_less, better, least_variable};
+
+use trs_core::Term;
+
+/// The least variable of two terms from a number on. So all of them are met in their order, by one
+/// walk of the terms for each, and with no memory.
+pub fn next_variable(a: &Term, b: &Term, from: u64) -> Option<u32>
+    ensures { result ≡ least_variable from (least_variable from None (tree a.now)) (tree b.now) }
+{
+    least_variable(b, from, least_variable(a, from, None))
+}
+
+/// The least of the term's variables from a number on, and of the best so far.
+pub fn least_variable(t: &Term, from: u64, best: Option<u32>) -> Option<u32>
+    ensures { result ≡ least_variable from best (tree t.now) }
+{
+    match t {
+        Term::Var(x) => better(from, best, *x),
+        Term::App(_, args) => {
+            let mut least = best;
+            for arg in &args.items {
+                least = least_variable(arg, from, least);
+            }
+            least
+        }
+    }
+}
+
+fn better(from: u64, best: Option<u32>, x: u32) -> Option<u32>
+    ensures { result ≡ better from best x }
+{
+    if from <= u64::from(x) && is_less(x, best) {
+        Some(x)
+    } else {
+        best
+    }
+}
+
+fn is_less(x: u32, best: Option<u32>) -> bool
+    ensures { result ≡ is_less x best }
+{
+    match best {
+        None => true,
+        Some(y) => x < y,
+    }
+}

@@ -1,0 +1,5 @@
+pub mod Plain
+pub mod Table
+pub mod Faults
+pub mod Kept
+pub mod Comparison

@@ -1,0 +1,15 @@
+//! The lexicographic path order with argument filters, given by a table of ranks and filters.
+//! (Baader and Nipkow, section 5.4; filters: Arts and Giesl, 2000.)
+#![tactic(auto)]
+
+mod comparing;
+mod comparison;
+mod entries;
+mod faults;
+mod kept;
+mod orders;
+mod table;
+
+pub use entries::{Filter, LpoEntry};
+pub use faults::TableFault;
+pub use table::Lpo;

@@ -1,0 +1,11 @@
+use Rattle.std.proofs.Common.{◌-◌, ◌^◌}
+use Rattle.trs_core.specs.View.{tree}
+use Rattle.poly_lin.specs.Table.{coefficient_in}
+use Rattle.poly_lin.proofs.EachVariable.{Compared}
+use Rattle.poly_lin.proofs.table.LinTable.variables_at_least.Given as goal
+
+abbrev pub invariant-loop-x : goal.invariant-loop-x
+invariant-loop-x l = Compared (coefficient_in l.self) (tree l.a) (tree l.b) l.from l.at_least
+
+abbrev pub decreases-loop-x : goal.decreases-loop-x
+decreases-loop-x l = 2 ^ 64 - l.from

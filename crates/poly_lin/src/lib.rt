@@ -1,0 +1,18 @@
+//! Linear interpretations over the naturals, given by a table of polynomials. (Baader and Nipkow,
+//! section 5.3; coefficients may be 0, as in Arts and Giesl, 2000.)
+#![tactic(auto)]
+
+mod comparing;
+mod faults;
+mod monomial;
+mod orders;
+mod table;
+
+pub use faults::TableFault;
+pub use table::LinTable;
+
+/// What a symbol stands for that no system has: C(x1, x2) is x1 + x2.
+const PAIRING: u32 = 8191;
+
+/// The greatest coefficient, 2^63 - 1.
+const MOST: u64 = 9_223_372_036_854_775_807;

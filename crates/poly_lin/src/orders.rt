@@ -1,0 +1,59 @@
+ghost use Rattle.std.specs.Prelude.{Bool};
+ghost use Rattle.trs_core.specs.View.{tree};
+ghost use Rattle.order_theory.specs.LinearInterpretation.{LinearWeak, LinearStrict};
+ghost use Rattle.order_theory.proofs.Linear.{linear_pair};
+ghost use Rattle.pair_theory.specs.ReductionPair.{AllTerms};
+ghost use Rattle.pair_order.specs.Entries.{has_entry};
+ghost use Rattle.poly_lin.specs.Table.{symbol_of, coefficient_in};
+ghost use Rattle.poly_lin.specs.TooBig.{EitherIsBig};
+ghost use Rattle.poly_lin.specs.Laws.{spoken, above_first, above_second};
+
+use crate::LinTable;
+use crate::monomial::Monomial;
+use pair_order::{PairingOrder, ReductionPair, TooBig};
+use pair_theory::ReductionOrder;
+use trs_core::Term;
+
+impl ReductionOrder for LinTable {
+    ghost is_weak = { λ table. LinearWeak (coefficient_in table) };
+
+    ghost is_strict = { λ table. LinearStrict (coefficient_in table) };
+
+    ghost speaks_of = { λ table. AllTerms };
+
+    ghost laws = { λ table. linear_pair (coefficient_in table) };
+}
+
+impl ReductionPair for LinTable {
+    ghost is_too_big = { λ table. EitherIsBig (coefficient_in table) };
+
+    ghost has = { λ table. has_entry symbol_of table };
+
+    ghost speaks_over = { λ table arities. Unit {0} };
+
+    fn weak(&self, a: &Term, b: &Term) -> Result<bool, TooBig> {
+        let (left, right) = self.coefficients(Monomial::One, a, b)?;
+        let at_least = self.variables_at_least(a, b)?;
+        Ok(at_least && right <= left)
+    }
+
+    fn strict(&self, a: &Term, b: &Term) -> Result<bool, TooBig> {
+        let (left, right) = self.coefficients(Monomial::One, a, b)?;
+        let at_least = self.variables_at_least(a, b)?;
+        Ok(at_least && right < left)
+    }
+
+    fn has_entry(&self, f: u32) -> bool {
+        self.entry(f).is_some()
+    }
+
+    ghost spoken = { λ table arities over. spoken arities (has_entry symbol_of table) };
+}
+
+impl PairingOrder for LinTable {
+    ghost speaks_of_all = { λ table t. tt };
+
+    ghost above_first = { λ table s t. above_first table s t };
+
+    ghost above_second = { λ table s t. above_second table s t };
+}
