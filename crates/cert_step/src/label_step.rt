@@ -19,7 +19,8 @@ pub(crate) fn apply_label(
     ranks: &[u64],
     joins: &[Join],
 ) -> Result<Vec<Problem>, CheckFault>
-    ensures { AnswersBy problems_of (leaves [] (label_conditions trs.now ranks.now joins.now)) result }
+    ensures { AnswersBy problems_of
+        (leaves [] (label_conditions trs.now ranks.now joins.now)) result }
 {
     no_problem(alloc, labelled_check(alloc, trs, ranks, joins))
 }

@@ -18,7 +18,8 @@ pub(crate) fn apply_parallel(
     trs: &Trs,
     paths: &[Vec<PathStep>],
 ) -> Result<Vec<Problem>, CheckFault>
-    ensures { AnswersBy problems_of (leaves [] (parallel_conditions trs.now (paths_of paths.now))) result }
+    ensures { AnswersBy problems_of
+        (leaves [] (parallel_conditions trs.now (paths_of paths.now))) result }
 {
     no_problem(alloc, parallel_closed_check(alloc, trs, paths))
 }

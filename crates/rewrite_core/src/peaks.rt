@@ -21,6 +21,12 @@ impl Model for Peak {
 
     ghost coded = { peak_code };
 
-    ghost view = { λ a. record { outer = a.outer; place = a.place; inner = a.inner;
-        top = tree a.top; left = tree a.left; right = tree a.right } };
+    ghost view = { λ a. record {
+      outer = a.outer;
+      place = a.place;
+      inner = a.inner;
+      top = tree a.top;
+      left = tree a.left;
+      right = tree a.right;
+    } };
 }

@@ -65,7 +65,8 @@ fn look_at(
     requires narrow { EntryIs found.old.items next (λ e. IsNarrow e.term) }
     requires knows { Knows known.old found.old.items }
     ensures grows { OnOk result (EntryIs found.old.items next (λ e.
-        ListsMore limit (AreCandidates trs.now.rules depth size (e ∷ [])) found.old.items found.new.items)) }
+        ListsMore limit (AreCandidates trs.now.rules depth size (e ∷ []))
+        found.old.items found.new.items)) }
     ensures knows { OnOk result (Knows known.new found.new.items) }
 {
     if found[next].path.len() >= depth as usize {
@@ -97,7 +98,8 @@ fn add_reduct(
     requires redex { EntryIs found.old.items next (λ e. IsRedexAt trs.now.rules e.term step.now) }
     requires knows { Knows known.old found.old.items }
     ensures grows { OnOk result (EntryIs found.old.items next (λ e.
-        ListsMore limit (AreReducts trs.now.rules size e (step.now ∷ [])) found.old.items found.new.items)) }
+        ListsMore limit (AreReducts trs.now.rules size e (step.now ∷ []))
+        found.old.items found.new.items)) }
     ensures knows { OnOk result (Knows known.new found.new.items) }
 {
     match step_at(alloc, trs, &found[next].term, &step.place, step.rule) {
@@ -123,7 +125,8 @@ fn add_term(
 ) -> Result<(), OutOfMemory>
     requires room { length found.old.items < limit }
     requires knows { Knows known.old found.old.items }
-    ensures listed { OnOk result (ListsOn limit found.old.items (record { term = term; path = path.items } ∷ []) found.new.items) }
+    ensures listed { OnOk result (ListsOn limit found.old.items
+        (record { term = term; path = path.items } ∷ []) found.new.items) }
     ensures knows { OnOk result (Knows known.new found.new.items) }
 {
     if known.contains(&term) {
