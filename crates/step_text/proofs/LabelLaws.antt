@@ -1,5 +1,5 @@
 -- Steps of labels that are read are well-made, and printed ones are read again.
-use Rattle.std.proofs.Common.{ℕ, ◌<◌, ◌^◌, List, ◌∷◌, subst, arith}
+use Rattle.std.proofs.Common.{ℕ, List, ◌∷◌, subst, arith}
 use Rattle.std.specs.Prelude.{map, All}
 use Rattle.std.specs.List.{AllByRecursion}
 use Rattle.std.proofs.lemmas.List.Elements.{All-from_recursion, recursion_from_All}
@@ -7,9 +7,8 @@ use Rattle.sexp_core.specs.Items.{items_of}
 use Rattle.trs_defs.specs.System.{System}
 use Rattle.rewrite_core.specs.PathsOfJoin.{PathsOfJoin}
 use Rattle.cert_step.specs.ProofStep.{ProofStep, label, IsWellMade}
-use Rattle.text_reading.specs.Reading.{rest}
 use Rattle.text_reading.proofs.Made.{MakesForm, made_part, made_rest, made_form}
-use Rattle.text_reading.proofs.Again.{SpellsParts, spells_part, spells_rest, spells_each, spells_deeper}
+use Rattle.text_reading.proofs.Again.{SpellsParts, spells_part, spells_rest, spells_each}
 use Rattle.peak_text.specs.TwoPaths.{pair, pair_item}
 use Rattle.peak_text.specs.RuleRanks.{ranks, ranks_item}
 use Rattle.peak_text.specs.Ranges.{IsRank, AreTwoInRange}

@@ -1,5 +1,5 @@
 -- Steps that are read are well-made, and printed ones are read again.
-use Rattle.std.proofs.Common.{◌≡◌, ◌≤◌, ◌-◌, ◌^◌, [], ◌∷◌, length, codes, refl, subst, arith}
+use Rattle.std.proofs.Common.{◌≡◌, ◌≤◌, ◌-◌, ◌^◌, length, codes, refl, subst, arith}
 use Rattle.names_text.specs.Named.{NamedSystem, IsNamed}
 use Rattle.cert_step.specs.ProofStep.{ProofStep, loop, newman, parallel, strong, label, fork, confluence, ProofNodeStep, IsWellMade}
 use Rattle.text_reading.specs.Reading.{keyword, done}
@@ -28,10 +28,13 @@ IsMade named s = IsWellMade named.system s × HasNumbersInRange s
 
 method_made : (named : NamedSystem) → length named.names ≡ length named.system.arities → Makes (method named) (IsMade named)
 method_made named counts =
-    made_by_word (forms named) (IsMade named)
-    (loop_made named counts,
-    (newman_made named.system,
-    (parallel_made named.system, (strong_made named.system, (label_made named.system, (fork_made named counts, (confluence_made named.system, tt)))))))
+    made_by_word (forms named) (IsMade named) (
+      loop_made named counts,
+      (
+        newman_made named.system,
+        (parallel_made named.system, (strong_made named.system, (label_made named.system, (fork_made named counts, (confluence_made named.system, tt))))),
+      ),
+    )
 
 pub step_made : (named : NamedSystem) → length named.names ≡ length named.system.arities → Makes (step named) (IsWellMadeInRange named.system)
 step_made named counts x v e =

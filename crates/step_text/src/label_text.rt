@@ -15,11 +15,7 @@ use trs_core::OutOfMemory;
 
 /// A step of ranks and joins, `(label (ranks number ..) pair ..)`, by the members behind its word
 /// in a list at a place.
-pub fn read_label(
-    alloc: Global,
-    at: u32,
-    members: &[Sexp],
-) -> Result<Read<Step>, OutOfMemory>
+pub fn read_label(alloc: Global, at: u32, members: &[Sexp]) -> Result<Read<Step>, OutOfMemory>
     ensures { IfOk result (λ r. seen step_of r ≡ label_form at (views members.now)) }
 {
     let Some((ranks, pairs)) = members.split_first() else {

@@ -1,5 +1,5 @@
-use Rattle.std.proofs.Common.{◌≡◌, ap, sym, ◌∙◌}
-use Rattle.sexp_core.specs.Items.{a_list, item, view, views}
+use Rattle.std.proofs.Common.{ap, sym, ◌∙◌}
+use Rattle.sexp_core.specs.Items.{views}
 use Rattle.text_reading.specs.Seen.{seen}
 use Rattle.text_reading.proofs.Members.{list_seen}
 use Rattle.step_text.specs.MethodForms.{form_of}
