@@ -1,5 +1,5 @@
 -- Entries with no fault make an admissible order.
-use Rattle.std.proofs.Common.{◌≡◌, ◌≢◌, ℕ, ◌+◌, ◌<◌, ◌≤◌, inl, inr, suc, zero, List, [], ◌∷◌, ◌++◌, map, take, length, get_or, All, Option, Some, None, option_map, slice_get, refl, sym, ap, subst, ◌∙◌, arith, Bool, true, false, cond, ◌==◌, add-one}
+use Rattle.std.proofs.Common.{◌≡◌, ◌≢◌, ℕ, ◌+◌, ◌<◌, ◌≤◌, suc, List, [], ◌∷◌, ◌++◌, map, take, length, get_or, All, Option, Some, None, option_map, slice_get, refl, sym, ap, subst, ◌∙◌, arith, Bool, true, false, cond, ◌==◌, add-one}
 use native.Mathlib.Decide.{dec_lt, ℕ_discrete}
 use Rattle.std.proofs.lemmas.Bool.{eqb-true}
 use Rattle.std.proofs.lemmas.List.{map-append, take_all}
@@ -8,12 +8,12 @@ use Rattle.order_theory.specs.KnuthBendix.{IsAdmissible}
 use Rattle.pair_order.specs.Entries.{entry_of}
 use Rattle.pair_order.specs.FirstFault.{IsFirstOfEntry}
 use Rattle.pair_order.specs.FirstFault as first
-use Rattle.pair_order.proofs.Making.{Made, take_next}
+use Rattle.pair_order.proofs.Making.{take_next}
 use Rattle.kbo_order.specs.declared.entries.KboEntry.{KboEntry}
 use Rattle.kbo_order.specs.declared.faults.KboFault.{KboFault}
 use Rattle.kbo_order.specs.declared.faults.KboFault.TheVariants.{Twice, ConstantTooLight, TooBig, UnaryNotTop, OutOfMemory}
 use Rattle.kbo_order.specs.Table.{symbol_of, arity_of, arity_in, weight_in, rank_in, weight_of, rank_of}
-use Rattle.kbo_order.specs.Faults.{IsEntryFault, IsTopFault, IsOnTop, IsRankedBelow, HasFaultAt, HasTopFaultAt, IsFaultless, IsFirstFault, number}
+use Rattle.kbo_order.specs.Faults.{IsTopFault, IsOnTop, IsRankedBelow, HasFaultAt, IsFaultless, IsFirstFault, number}
 
 -- where the entry of a symbol stands
 pub record Stands (es : List KboEntry) (f : ℕ) (e : KboEntry) : Type 0 where

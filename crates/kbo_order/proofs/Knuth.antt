@@ -1,10 +1,9 @@
 -- A term is greater where each variable sees it so.
-use Rattle.std.proofs.Common.{◌≡◌, ℕ, ◌+◌, ◌≤◌, ◌<◌, ◌⊎◌, inl, inr, refl, sym, ap, subst, ◌∙◌, arith, IsTrue, true, false, Bool, cond, ◌==◌, if◌then◌else◌}
-use Rattle.std.proofs.lemmas.Bool.{eqb-true, eq-eqb}
-use Rattle.trs_defs.specs.Tree.{Tree, Trees, var, app, nil, cons, count}
+use Rattle.std.proofs.Common.{◌≡◌, ℕ, ◌≤◌, ◌<◌, ◌⊎◌, inl, inr, refl, sym, ap, subst, arith}
+use Rattle.trs_defs.specs.Tree.{Tree, Trees, var, app, nil, cons}
 use Rattle.trs_defs.specs.Variable.{occurrences, occurrences_in_all}
-use Rattle.order_theory.specs.KnuthBendix.{weigh, weigh_all, KeepsOccurrences, Tower, one_high, higher, KnuthGreater, by_weight, by_tower, by_head, by_args, KnuthLexGreater, heavier_here, heavier_later}
-use Rattle.kbo_order.specs.Seen.{Above, AboveTerm, Decides, DecideLater, SeenGreater}
+use Rattle.order_theory.specs.KnuthBendix.{weigh, KeepsOccurrences, Tower, one_high, higher, KnuthGreater, by_weight, by_tower, by_head, by_args, KnuthLexGreater, heavier_here, heavier_later}
+use Rattle.kbo_order.specs.Seen.{Decides, DecideLater, SeenGreater}
 
 tower_keeps : (x : ℕ) {f y : ℕ} {s : Tree} → Tower f y s → occurrences x (var y) ≤ occurrences x s
 tower_keeps x one_high = omega arith

@@ -1,18 +1,15 @@
 -- What a variable sees of two terms, argument by argument.
-use Rattle.std.proofs.Common.{◌≡◌, ℕ, ◌+◌, ◌≤◌, ◌<◌, ◌^◌, ◌⊎◌, ◌↔◌, inl, inr, refl, sym, ap, subst, ◌∙◌, arith, Ok, true, false, Bool, cond, IsTrue, ◌&&◌, if◌then◌else◌, nat_lt, List, length}
+use Rattle.std.proofs.Common.{◌≡◌, ℕ, ◌+◌, ◌<◌, ◌↔◌, inl, inr, refl, sym, ap, subst, ◌∙◌, arith, Ok, true, false, Bool, IsTrue, ◌&&◌, if◌then◌else◌, nat_lt, List, length}
 use Rattle.trs_core.specs.declared.terms.Term.{Term}
-use Rattle.trs_core.specs.View.{tree, forest}
+use Rattle.trs_core.specs.View.{forest}
 use Rattle.trs_core.proofs.Comparing.{count_forest}
 use Rattle.std.proofs.lemmas.Bool.Decides.{nat_tests}
-use Rattle.trs_defs.specs.Tree.{Tree, Trees, var, app, nil, cons, count}
-use Rattle.trs_defs.specs.Variable.{occurrences}
+use Rattle.trs_defs.specs.Tree.{Tree, Trees, app, nil, cons, count}
 use Rattle.trs_defs.proofs.EqualTerms.{app_args}
-use Rattle.order_theory.specs.KnuthBendix.{weigh}
 use Rattle.kbo_order.specs.declared.measure.Measure.{Measure}
 use Rattle.kbo_order.specs.declared.measure.Seen.{Seen}
-use Rattle.kbo_order.specs.Seen.{Above, AboveTerm, Decides, DecideLater, SeenGreater, IsMeasure, IsSum, SeesTerms, AreApart}
+use Rattle.kbo_order.specs.Seen.{Above, Decides, DecideLater, SeenGreater, IsMeasure, SeesTerms, AreApart}
 use Rattle.kbo_order.proofs.Knuth.{not_same}
-use Rattle.kbo_order.proofs.Sums as sums
 
 first_is : {a b : Tree} {us vs : Trees} → cons a us ≡ cons b vs → a ≡ b
 first_is e = cc
@@ -79,14 +76,20 @@ module _ (w rank : ℕ → ℕ) (x : ℕ) where
   pub apart_greater : (s t : Tree) (left right : Measure) (b rest : Bool) → IsMeasure w x s (Ok left) → IsMeasure w x t (Ok right)
       → IsTrue b ↔ Above left.weight left.count right.weight right.count (IsTrue rest) → IsTrue rest ↔ Decides w rank x s t → IsTrue b ↔ SeenGreater w rank x s t
   apart_greater s t left right b rest is_left is_right test decides = (
-    λ yes. let k = test.0 yes in (omega (arith, k.0, is_left.1, is_right.1), elim k.1 [
+    λ yes. let k = test.0 yes in (
+      omega (arith, k.0, is_left.1, is_right.1),
+      elim k.1 [
         | inl lt ↦ inl (omega (arith, lt, is_left.0, is_right.0))
         | inr p ↦ inr (sym is_left.0 ∙ p.0 ∙ is_right.0, decides.0 p.1)
-    ]),
-    λ g. test.1 (omega (arith, g.0, is_left.1, is_right.1), elim g.1 [
+      ],
+    ),
+    λ g. test.1 (
+      omega (arith, g.0, is_left.1, is_right.1),
+      elim g.1 [
         | inl lt ↦ inl (omega (arith, lt, is_left.0, is_right.0))
         | inr p ↦ inr (is_left.0 ∙ p.0 ∙ sym is_right.0, decides.1 p.1)
-    ]),
+      ],
+    ),
   )
 
   module _ (f g : ℕ) (ss ts : Trees) (same greater : Bool) (roots : f ≡ g) (h : Walked ss ts nil nil same greater) where

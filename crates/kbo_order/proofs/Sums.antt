@@ -1,5 +1,5 @@
 -- Weights and occurrences, argument by argument.
-use Rattle.std.proofs.Common.{◌≡◌, ℕ, ◌+◌, ◌≤◌, ◌<◌, ◌^◌, refl, ap, sym, ◌∙◌, arith, Result, Ok, Err, Bool, true, false, cond, ◌==◌}
+use Rattle.std.proofs.Common.{◌≡◌, ℕ, ◌+◌, ◌≤◌, ◌^◌, arith, Result, Ok, Err, Bool, true, false, cond, ◌==◌}
 use Rattle.trs_defs.specs.Tree.{Tree, Trees, var, app, nil, cons}
 use Rattle.trs_defs.specs.Variable.{occurrences, occurrences_in_all}
 use Rattle.order_theory.specs.KnuthBendix.{weigh, weigh_all}

@@ -1,7 +1,7 @@
 -- The variables of the second term see the two terms, one after another.
-use Rattle.std.proofs.Common.{◌≡◌, ℕ, ◌+◌, ◌≤◌, ◌<◌, ◌^◌, ◌⊎◌, ◌↔◌, inl, inr, refl, sym, ap, subst, ◌∙◌, arith, Ok, Err, true, false, Bool, IsTrue, ◌&&◌, Option, Some, None}
+use Rattle.std.proofs.Common.{◌≡◌, ℕ, ◌+◌, ◌≤◌, ◌<◌, ◌^◌, ◌⊎◌, ◌↔◌, inl, inr, refl, sym, subst, ◌∙◌, arith, true, false, Bool, IsTrue, ◌&&◌, Option, Some, None}
 use Rattle.std.proofs.lemmas.Bool.{cases_lt}
-use Rattle.trs_defs.specs.Tree.{Tree, Trees, var, app, nil, cons}
+use Rattle.trs_defs.specs.Tree.{Tree, Trees}
 use Rattle.trs_defs.specs.Variable.{has_var, occurrences}
 use Rattle.trs_defs.proofs.OccurrenceLaws.{no_occurrence}
 use Rattle.pair_theory.specs.Subterm.{Sub, itself, under, Subs, in_head, in_tail}
@@ -83,11 +83,13 @@ module _ (w rank : ℕ → ℕ) (s t : Tree) where
     seen_more x seen both is sees is_both = record {
       left_small = h.left_small;
       right_small = h.right_small;
-      seen = λ k. let p = both_true greater seen.greater (sym is_both ∙ k) in
-          ((h.seen p.0).0, λ y below. elim (cases_lt y x) [
-            | inl less ↦ between x none p.0 y less
-            | inr more ↦ let same : x ≡ y = omega arith in subst (λ z. SeenGreater w rank z s t) same (sees.greater.0 p.1)
-          ]);
+      seen = λ k. let p = both_true greater seen.greater (sym is_both ∙ k) in (
+        (h.seen p.0).0,
+        λ y below. elim (cases_lt y x) [
+          | inl less ↦ between x none p.0 y less
+          | inr more ↦ let same : x ≡ y = omega arith in subst (λ z. SeenGreater w rank z s t) same (sees.greater.0 p.1)
+        ],
+      );
       all = λ k. is_both ∙ both_are greater seen.greater (h.all k) (sees.greater.1 (k x));
     }
       where

@@ -1,8 +1,7 @@
 -- Of which terms an order with arities speaks.
-use Rattle.std.specs.Prelude.{◌≡◌, ◌≤◌, ◌+◌, ℕ, List, Option, Some, None, Bool, IsTrue, is_some, length, slice_get, refl}
-use Rattle.std.proofs.Common.{ap, sym, subst, ◌∙◌, arith}
+use Rattle.std.specs.Prelude.{◌≡◌, ◌≤◌, ℕ, List, Option, Some, Bool, IsTrue, length}
+use Rattle.std.proofs.Common.{ap, ◌∙◌}
 use Rattle.trs_defs.specs.Tree.{Tree, Trees, var, app, nil, cons, count}
-use Rattle.trs_defs.specs.WellFormed.{IsWellFormed, AreWellFormed}
 use Rattle.pair_theory.specs.Over.{IsOver, AreOver}
 use Rattle.pair_theory.specs.Erased.{HasEntries, HaveEntries}
 use Rattle.pair_theory.specs.Marked.{mark}

@@ -1,5 +1,5 @@
 -- The Knuth-Bendix order as one variable sees it: only this variable's occurrences are compared.
-use Rattle.std.specs.Prelude.{◌≡◌, ◌≤◌, ◌<◌, ◌+◌, ◌^◌, ℕ, ◌⊎◌, ◌↔◌, Bool, IsTrue, Result, Ok, Err, if◌then◌else◌}
+use Rattle.std.specs.Prelude.{◌≡◌, ◌≤◌, ◌<◌, ◌+◌, ◌^◌, ℕ, ◌⊎◌, ◌↔◌, IsTrue, Result, Ok, Err}
 use Rattle.trs_defs.specs.Tree.{Tree, Trees, var, app, nil, cons, count}
 use Rattle.trs_defs.specs.Variable.{occurrences}
 use Rattle.order_theory.specs.KnuthBendix.{weigh, Tower}

@@ -6,9 +6,9 @@ ghost use Rattle.kbo_order.specs.Table.{weight_in, rank_in};
 ghost use Rattle.kbo_order.specs.TooBig.{EitherIsBig};
 ghost use Rattle.kbo_order.specs.Seen.{IsMeasure, Sees, AreApart, Decides};
 
-use crate::measure::{Measure, Seen};
 use crate::Kbo;
-use pair_order::{least_variable, TooBig};
+use crate::measure::{Measure, Seen};
+use pair_order::{TooBig, least_variable};
 use trs_core::Term;
 
 impl Kbo {
@@ -45,8 +45,14 @@ impl Kbo {
                         return self.see_apart(x, s, t);
                     }
                     let mut seen = Seen {
-                        left: Measure { weight: 0, count: 0 },
-                        right: Measure { weight: 0, count: 0 },
+                        left: Measure {
+                            weight: 0,
+                            count: 0,
+                        },
+                        right: Measure {
+                            weight: 0,
+                            count: 0,
+                        },
                         same: true,
                         greater: false,
                     };
@@ -59,7 +65,10 @@ impl Kbo {
                             greater: either(seen.same, next.greater, seen.greater),
                         };
                     }
-                    let root = Measure { weight: self.weight(*f), count: 0 };
+                    let root = Measure {
+                        weight: self.weight(*f),
+                        count: 0,
+                    };
                     let left = seen.left.plus(root)?;
                     let right = seen.right.plus(root)?;
                     Ok(Seen {
@@ -93,14 +102,23 @@ impl Kbo {
         ensures { IsMeasure (weight_in self.now.entries.items) x (tree t.now) result }
     {
         match t {
-            Term::Var(y) => Ok(Measure { weight: 1, count: once_if(*y == x) }),
+            Term::Var(y) => Ok(Measure {
+                weight: 1,
+                count: once_if(*y == x),
+            }),
             Term::App(f, args) => {
-                let mut sum = Measure { weight: 0, count: 0 };
+                let mut sum = Measure {
+                    weight: 0,
+                    count: 0,
+                };
                 for arg in &args.items {
                     let next = self.measure(x, arg)?;
                     sum = sum.plus(next)?;
                 }
-                sum.plus(Measure { weight: self.weight(*f), count: 0 })
+                sum.plus(Measure {
+                    weight: self.weight(*f),
+                    count: 0,
+                })
             }
         }
     }
@@ -164,11 +182,7 @@ fn both(a: bool, b: bool) -> bool
 fn either(first: bool, a: bool, b: bool) -> bool
     ensures { result ≡ (if first then a else b) }
 {
-    if first {
-        a
-    } else {
-        b
-    }
+    if first { a } else { b }
 }
 
 fn once_if(yes: bool) -> u64

@@ -1,11 +1,11 @@
 -- An order that speaks of the terms whose symbols have entries speaks of erased terms.
-use Rattle.std.proofs.Common.{◌≡◌, ℕ, ◌+◌, Some, slice_get, List, Bool, true, false, IsTrue, refl, ap, ◌∙◌}
+use Rattle.std.proofs.Common.{◌≡◌, ℕ, ◌+◌, Some, slice_get, List, Bool, true, false, refl, ap, ◌∙◌}
 use Rattle.trs_defs.specs.Member.{In}
 use Rattle.trs_defs.specs.Tree.{Tree, Trees, var, app, nil, cons, count}
 use Rattle.trs_defs.specs.WellFormed.{IsWellFormed, AreWellFormed}
-use Rattle.trs_defs.specs.System.{RewriteRule, System, IsSystem, IsRule}
+use Rattle.trs_defs.specs.System.{RewriteRule, System, IsSystem}
 use Rattle.pair_theory.specs.Erased.{HasEntries, HaveEntries, by_root, erased, erased_all}
-use Rattle.pair_theory.specs.Marked.{Marked, marked, plain, mark}
+use Rattle.pair_theory.specs.Marked.{marked}
 use Rattle.pair_theory.specs.DependencyPair.{DependencyPair}
 use Rattle.pair_theory.specs.PairProblem.{IsPair}
 use Rattle.pair_theory.specs.ReductionPair.{marked_rule, SpeaksErased, SpeaksOfSides}

@@ -1,10 +1,9 @@
 -- A walk over the variables of two terms, in the order of their numbers.
-use Rattle.std.proofs.Common.{◌≡◌, ℕ, ◌+◌, ◌≤◌, ◌<◌, ◌↔◌, inl, inr, refl, sym, subst, ◌∙◌, arith, Option, Some, None, Ok, true, false, Bool, cond, IsTrue, ◌&&◌, nat_le, nat_lt}
+use Rattle.std.proofs.Common.{◌≡◌, ℕ, ◌+◌, ◌≤◌, ◌<◌, ◌↔◌, inl, inr, refl, sym, subst, ◌∙◌, arith, Option, Some, None, Ok, true, false, Bool, IsTrue, ◌&&◌, nat_le}
 use Rattle.std.proofs.lemmas.Bool.{cases_lt}
 use Rattle.std.proofs.lemmas.Bool.Decides.{nat_tests}
-use Rattle.trs_defs.specs.Tree.{Tree, Trees, var, app, nil, cons}
-use Rattle.trs_defs.specs.Variable.{has_var, some_has_var}
-use Rattle.trs_defs.proofs.VariableLaws.{has_var_same, has_var_cons}
+use Rattle.trs_defs.specs.Tree.{Tree}
+use Rattle.trs_defs.specs.Variable.{has_var}
 use Rattle.pair_theory.proofs.Subterms.{sub_trans, sub_of_has, has_of_sub}
 use Rattle.order_theory.specs.LinearInterpretation.{coefficient}
 use Rattle.order_theory.proofs.Absent.{coefficient_absent}

@@ -1,8 +1,6 @@
 -- A walk that computes a coefficient, argument by argument.
-use Rattle.std.proofs.Common.{◌≡◌, ℕ, ◌+◌, ◌*◌, ◌≤◌, ◌<◌, ◌^◌, inl, inr, suc, refl, ap, sym, subst, ◌∙◌, arith, Result, Ok, Err, true, false, Bool, cond, ◌==◌, add-one, List, map}
-use Rattle.trs_defs.specs.Tree.{Tree, Trees, var, app, nil, cons, trees}
-use Rattle.trs_core.specs.declared.terms.Term.{Term}
-use Rattle.trs_core.specs.View.{tree, forest}
+use Rattle.std.proofs.Common.{◌≡◌, ℕ, ◌+◌, ◌*◌, ◌≤◌, ◌<◌, ◌^◌, inl, inr, suc, refl, ap, subst, ◌∙◌, arith, Result, Ok, Err, true, false, Bool, cond, ◌==◌, add-one}
+use Rattle.trs_defs.specs.Tree.{Tree, Trees, var, app, nil, cons}
 use Rattle.pair_theory.specs.Subterm.{Sub, itself, under, Subs, in_head, in_tail}
 use Rattle.pair_theory.proofs.Subterms.{not_in_nil, head_or_tail}
 use Rattle.pair_order.specs.declared.pairs.TooBig.{TooBig}

@@ -3,5 +3,4 @@ pub mod Table
 pub mod Faults
 pub mod Coefficients
 pub mod TooBig
-
 pub mod Laws

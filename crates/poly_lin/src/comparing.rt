@@ -6,7 +6,7 @@ ghost use Rattle.poly_lin.specs.Coefficients.{IsSmall, IsCoefficient, AreCoeffic
 
 use crate::monomial::Monomial;
 use crate::{LinTable, MOST};
-use pair_order::{next_variable, TooBig};
+use pair_order::{TooBig, next_variable};
 use trs_core::Term;
 
 impl LinTable {

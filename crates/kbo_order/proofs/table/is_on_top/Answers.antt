@@ -1,4 +1,4 @@
-use Rattle.std.proofs.Common.{All, ◌≡◌, ◌≢◌, ◌<◌, refl, sym, subst, arith}
+use Rattle.std.proofs.Common.{All, refl, subst, arith}
 use Rattle.std.proofs.lemmas.List.{take_all}
 use Rattle.std.proofs.lemmas.List.Elements.{All-more}
 use Rattle.kbo_order.specs.Faults.{IsRankedBelow}

@@ -1,5 +1,4 @@
 use Rattle.std.proofs.Common.{◌+◌, subst, drop}
-use Rattle.trs_defs.specs.Tree.{cons}
 use Rattle.trs_defs.proofs.ArgumentLists.{cell}
 use Rattle.trs_core.specs.View.{tree, forest}
 use Rattle.kbo_order.specs.Table.{weight_in}

@@ -1,6 +1,5 @@
-use Rattle.std.proofs.Common.{◌≡◌, ℕ, drop}
-use Rattle.trs_defs.specs.Tree.{app}
-use Rattle.trs_core.specs.View.{tree, forest}
+use Rattle.std.proofs.Common.{drop}
+use Rattle.trs_core.specs.View.{forest}
 use Rattle.kbo_order.specs.Table.{weight_in}
 use Rattle.kbo_order.proofs.Sums.{Left}
 use Rattle.kbo_order.proofs.table.Kbo.+measure.Given as goal

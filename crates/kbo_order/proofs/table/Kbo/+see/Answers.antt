@@ -1,4 +1,4 @@
-use Rattle.std.proofs.Common.{◌≡◌, ◌+◌, ◌<◌, ap, sym, ◌∙◌, subst, refl, arith, drop, length}
+use Rattle.std.proofs.Common.{◌≡◌, ◌+◌, ◌<◌, ap, subst, refl, arith, drop, length}
 use Rattle.trs_defs.specs.Tree.{cons}
 use Rattle.trs_defs.proofs.ArgumentLists.{cell}
 use Rattle.trs_core.specs.View.{tree, forest}
@@ -17,7 +17,7 @@ see_apart-requires-then-len t c =
 pub loop-i-init : goal.loop-i-init
 loop-i-init t c =
     let same : length c.deref-a-items.result.now ≡ length c.ts.inside.items.items =
-        omega (arith, ap length c.deref-a-items.ensures.value, c.if-len.false, c.len.ensures, c.len-in-App-t.ensures, c.ss.inside.items.ok.0, c.ts.inside.items.ok.0) in
+    omega (arith, ap length c.deref-a-items.ensures.value, c.if-len.false, c.len.ensures, c.len-in-App-t.ensures, c.ss.inside.items.ok.0, c.ts.inside.items.ok.0) in
     record {
       same_length = same;
       left = start (weight_in c.args.self.now.entries.items) c.args.x (forest c.deref-a-items.result.now);
@@ -46,7 +46,7 @@ loop-i-preserved t c =
     let first = cell xs i c.a-item.result c.loop-i-test.true c.a-item.is in
     let second = cell ys i c.index.result.now inside c.index.ensures in
     let walked = subst (λ us. Walked w r c.args.x (forest xs) (forest ys) (forest us) (cons (tree c.index.result.now) (forest (drop (i + 1) ys))) c.loop-i.seen.same c.loop-i.seen.greater) first
-        (subst (λ vs. Walked w r c.args.x (forest xs) (forest ys) (forest (drop i xs)) (forest vs) c.loop-i.seen.same c.loop-i.seen.greater) second h.walked) in
+    (subst (λ vs. Walked w r c.args.x (forest xs) (forest ys) (forest (drop i xs)) (forest vs) c.loop-i.seen.same c.loop-i.seen.greater) second h.walked) in
     record {
       same_length = h.same_length;
       left = next w c.args.x (forest xs) (tree c.a-item.result) (forest (drop (i + 1) xs)) c.loop-i.seen.left

@@ -1,5 +1,5 @@
 use Rattle.std.proofs.Common.{◌≡◌, drop, length}
-use Rattle.trs_core.specs.View.{tree, forest}
+use Rattle.trs_core.specs.View.{forest}
 use Rattle.kbo_order.specs.Table.{weight_in, rank_in}
 use Rattle.kbo_order.proofs.Sums.{Left}
 use Rattle.kbo_order.proofs.Sight.{Walked}

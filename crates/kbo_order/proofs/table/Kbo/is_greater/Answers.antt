@@ -1,4 +1,4 @@
-use Rattle.std.proofs.Common.{◌≤◌, ◌<◌, ◌^◌, ◌+◌, ◌-◌, subst, sym, arith}
+use Rattle.std.proofs.Common.{◌<◌, ◌^◌, ◌+◌, ◌-◌, subst, sym, arith}
 use Rattle.std.proofs.lemmas.Result.{err_from_is_err_and}
 use Rattle.trs_core.specs.View.{tree}
 use Rattle.kbo_order.specs.Table.{weight_in, rank_in}

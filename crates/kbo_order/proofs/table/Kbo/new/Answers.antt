@@ -1,7 +1,7 @@
-use Rattle.std.proofs.Common.{◌≡◌, ◌≤◌, ℕ, map, take, length, get_or, subst, sym, ap, ◌∙◌, Some, slice_get}
+use Rattle.std.proofs.Common.{◌≡◌, ℕ, map, take, get_or, subst, sym, ap, ◌∙◌, Some, slice_get}
 use Rattle.std.proofs.lemmas.Option.{slice_get-get_or}
 use Rattle.std.proofs.lemmas.Result.{err_from_is_err_and}
-use Rattle.pair_order.proofs.Making.{Made, made_none, made_more, first_fault, no_fault}
+use Rattle.pair_order.proofs.Making.{made_more, first_fault, no_fault}
 use Rattle.kbo_order.specs.declared.entries.KboEntry.{KboEntry}
 use Rattle.kbo_order.specs.declared.faults.KboFault.{KboFault}
 use Rattle.kbo_order.specs.Table.{symbol_of}
@@ -35,14 +35,13 @@ unfolding no_entry
 returns-then-not-is_on_top-clause-fault c = λ some.
     let items = c.deref-entry-items-2.result.now in
     let same : c.deref.result.now ≡ items = c.deref.ensures.value ∙ sym c.deref-entry-items-2.ensures.value in
-    let e : KboEntry = get_or items c.loop-entry-2.entry-index no_entry in
-    (
+    let e : KboEntry = get_or items c.loop-entry-2.entry-index no_entry in (
       subst (λ es. (k : ℕ) (fault : KboFault) → HasFaultAt es k fault → ⊥) c.deref-entry-items.ensures.value
-      (no_fault symbol_of IsEntryFault c.deref-entry-items.result.now c.loop-entry.entry-index c.loop-entry.symbols c.loop-entry.invariant c.loop-entry-test.false),
+          (no_fault symbol_of IsEntryFault c.deref-entry-items.result.now c.loop-entry.entry-index c.loop-entry.symbols c.loop-entry.invariant c.loop-entry-test.false),
       rw (← c.deref-entry-items-2.ensures.value)
-      (first_fault symbol_of (IsTopFault items) items number c.loop-entry-2.entry-index (map symbol_of (take c.loop-entry-2.entry-index items)) e _ c.loop-entry-2.invariant
-      (slice_get-get_or items c.loop-entry-2.entry-index no_entry c.loop-entry-2-test.true)
-      (first_of_top items _ e (λ top. absurd (cc (c.is_on_top.ensures.1 (subst (λ es. IsOnTop es e) (sym same) top), c.if-not-is_on_top.true))))),
+          (first_fault symbol_of (IsTopFault items) items number c.loop-entry-2.entry-index (map symbol_of (take c.loop-entry-2.entry-index items)) e _ c.loop-entry-2.invariant
+          (slice_get-get_or items c.loop-entry-2.entry-index no_entry c.loop-entry-2-test.true)
+          (first_of_top items _ e (λ top. absurd (cc (c.is_on_top.ensures.1 (subst (λ es. IsOnTop es e) (sym same) top), c.if-not-is_on_top.true))))),
     )
 
 pub loop-entry-2-preserved : goal.loop-entry-2-preserved
