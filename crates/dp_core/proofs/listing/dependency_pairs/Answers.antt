@@ -1,0 +1,20 @@
+use Rattle.std.proofs.Common.{◌≡◌, [], length, Some, slice_get, ap, sym, arith, ◌∙◌}
+use Rattle.trs_defs.specs.System.{RewriteRule}
+use Rattle.trs_core.specs.View.{tree}
+use Rattle.dp_core.specs.PlacedPairs.{placed_pairs, placed_pairs_from}
+use Rattle.dp_core.proofs.PairWalk.{next_rule, no_rule_left, one_part_more, nothing_left, narrow_right, rule_read}
+use Rattle.dp_core.proofs.listing.dependency_pairs.Goals.{After-new-place}
+use Rattle.dp_core.proofs.listing.dependency_pairs.Goals as goal
+
+-- the rule, as it is read
+numbered : (c : After-new-place) → slice_get c.args.trs.now.rules c.loop-k.k ≡ Some c.rule-item.result
+numbered c =
+    ap (λ rs. slice_get rs c.loop-k.k) (sym c.rules-rule-items.ensures.rules) ∙ rule_read c.rules-rule-items.result.now c.loop-k.k c.rule-item.result c.loop-k-test.true c.rule-item.is
+
+right : (c : After-new-place) → tree c.rule.inside.right ≡ c.rule-item.result.right
+right c = ap (λ (r : RewriteRule). r.right) c.rule.view_is
+
+pub add_below-requires-clause-narrow : goal.add_below-requires-clause-narrow
+add_below-requires-clause-narrow c =
+    let a = (goal.at.add_below-requires-clause-narrow c).After-new-place in
+    narrow_right c.args.trs.now (rw c.arities.ensures at c.see_bytes.ensures) c.rules-rule-items.ensures.valid c.loop-k.k c.rule-item.result (tree c.rule.inside.right) (right a) (numbered a)

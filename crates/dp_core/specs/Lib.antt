@@ -1,0 +1,3 @@
+pub mod PlacedPairs
+pub mod Laws
+pub mod PairCodes

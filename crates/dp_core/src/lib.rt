@@ -1,0 +1,16 @@
+//! Dependency pairs of a system, and checks of steps that remove pairs.
+//! (Arts and Giesl, Termination of term rewriting using dependency pairs, 2000.)
+#![tactic(auto)]
+
+mod defined;
+mod laws;
+mod listing;
+mod pairs;
+mod prepared;
+mod sides;
+
+pub use laws::placed_pairs_are_the_pairs;
+pub use listing::dependency_pairs;
+pub use pairs::DpPair;
+pub use prepared::Pairs;
+pub use sides::{Side, Sides, pair_left, pair_right};

@@ -1,0 +1,96 @@
+ghost use Rattle.std.specs.Prelude.{ℕ, ◌≡◌, ◌<◌, ◌++◌, [], All, IfOk, OnOk, Some, slice_get};
+ghost use Rattle.trs_defs.specs.System.{is_defined};
+ghost use Rattle.trs_core.specs.View.{tree};
+ghost use Rattle.term_pool.specs.Redexes.{IsNarrow};
+ghost use Rattle.pair_theory.specs.DependencyPair.{keep_if};
+ghost use Rattle.dp_core.specs.PlacedPairs.{placed_pairs, placed_below, defined_places};
+
+use crate::DpPair;
+use crate::defined::is_defined;
+use std::alloc::Global;
+use term_pool::RulesByRoot;
+use trs_core::{OutOfMemory, Position, Term, Trs};
+
+/// The dependency pairs: rules in order, and within a rule the subterms of the right side with a
+/// defined root, in preorder.
+pub fn dependency_pairs(alloc: Global, trs: &Trs) -> Result<Vec<DpPair>, OutOfMemory>
+    ensures pairs { IfOk result (λ found. found.items ≡ placed_pairs trs.now.rules) }
+{
+    see_bytes(trs.arities());
+    let by_root = RulesByRoot::new(alloc, trs)?;
+    let mut pairs = Vec::new(alloc);
+    for (k, rule) in trs.rules().iter().enumerate() {
+        let mut place = Vec::new(alloc);
+        add_below(alloc, &by_root, k as u32, &rule.right, &mut place, &mut pairs)?;
+    }
+    Ok(pairs)
+}
+
+/// Numbers of arguments are bytes.
+fn see_bytes(arities: &[u8])
+    ensures { (f n : ℕ) → slice_get arities.now f ≡ Some n → n < 256 }
+{
+    let _count = arities.len();
+}
+
+/// Adds the pairs of rule k at a position of its right side and below it, where `part` stands.
+fn add_below(
+    alloc: Global,
+    by_root: &RulesByRoot,
+    k: u32,
+    part: &Term,
+    place: &mut Vec<u8>,
+    pairs: &mut Vec<DpPair>,
+) -> Result<(), OutOfMemory>
+    requires narrow { IsNarrow (tree part.now) }
+    requires positive { All (λ n. 0 < n) place.old.items }
+    ensures pairs { OnOk result (pairs.new.items ≡ pairs.old.items
+        ++ placed_below k place.old.items (defined_places by_root.now.rules (tree part.now))) }
+    ensures place { OnOk result (place.new.items ≡ place.old.items) }
+{
+    match part {
+        Term::Var(_) => Ok(()),
+        Term::App(f, args) => {
+            add_here(alloc, by_root, k, *f, place, pairs)?;
+            for (i, arg) in args.items.iter().enumerate() {
+                place.push(i as u8 + 1)?;
+                add_below(alloc, by_root, k, arg, place, pairs)?;
+                place.pop();
+            }
+            Ok(())
+        }
+    }
+}
+
+/// Adds the pair of rule k at a position where a symbol stands, if the symbol is defined.
+fn add_here(
+    alloc: Global,
+    by_root: &RulesByRoot,
+    k: u32,
+    symbol: u32,
+    place: &[u8],
+    pairs: &mut Vec<DpPair>,
+) -> Result<(), OutOfMemory>
+    requires positive { All (λ n. 0 < n) place.now }
+    ensures { OnOk result (pairs.new.items ≡ pairs.old.items
+        ++ placed_below k place.now (keep_if (is_defined by_root.now.rules symbol) [] [])) }
+{
+    if is_defined(by_root, symbol) {
+        pairs.push(DpPair {
+            rule: k,
+            place: position(alloc, place)?,
+        })?;
+    }
+    Ok(())
+}
+
+fn position(alloc: Global, places: &[u8]) -> Result<Position, OutOfMemory>
+    requires { All (λ n. 0 < n) places.now }
+    ensures { IfOk result (λ p. p ≡ places.now) }
+{
+    let mut made = Position::new(alloc);
+    for place in places {
+        made.push(*place)?;
+    }
+    Ok(made)
+}

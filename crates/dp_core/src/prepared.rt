@@ -1,0 +1,72 @@
+ghost use Rattle.std.specs.Prelude.{◌≡◌, IfOk, length};
+ghost use Rattle.pair_theory.specs.DependencyPair.{dependency_pairs};
+ghost use Rattle.dp_core.specs.PlacedPairs.{placed_pairs};
+
+use crate::laws::placed_pairs_are_the_pairs;
+use crate::sides::{Sides, sides_of};
+use crate::{DpPair, dependency_pairs};
+use std::alloc::Global;
+use std::marker::Model;
+use trs_core::{OutOfMemory, Trs};
+
+/// The dependency pairs of a system with their sides at hand, by their numbers from 0. They are
+/// made once for all steps of a proof, and lend the sides from the system. Contracts see the list of
+/// the pairs.
+#[derive(Drop)]
+pub struct Pairs<'a> {
+    sides: Vec<Sides<'a>>,
+}
+
+impl<'a> Model for Pairs<'a> {
+    ghost use Rattle.std.specs.Prelude.{List};
+    ghost use Rattle.std.specs.Coded.{coded_list};
+    ghost use Rattle.pair_theory.specs.DependencyPair.{DependencyPair};
+    ghost use Rattle.dp_core.specs.PairCodes.{pair_code};
+
+    ghost Value = { List DependencyPair };
+
+    ghost coded = { coded_list pair_code };
+
+    ghost view = { λ a. a.sides.items };
+}
+
+impl<'a> Pairs<'a> {
+    /// The pairs of a system.
+    pub fn new(alloc: Global, trs: &'a Trs) -> Result<Pairs<'a>, OutOfMemory>
+        ensures { IfOk result (λ pairs. pairs ≡ dependency_pairs trs.now.rules) }
+    {
+        let all = dependency_pairs(alloc, trs)?;
+        Pairs::of(alloc, trs, &all)
+    }
+
+    /// The pairs of a system whose places are known.
+    pub fn of(alloc: Global, trs: &'a Trs, all: &[DpPair]) -> Result<Pairs<'a>, OutOfMemory>
+        requires { all.now ≡ placed_pairs trs.now.rules }
+        ensures { IfOk result (λ pairs. pairs ≡ dependency_pairs trs.now.rules) }
+    {
+        let _rules = trs.rules();
+        placed_pairs_are_the_pairs();
+        let mut sides = Vec::with_capacity(alloc, all.len())?;
+        for p in all {
+            let Some(both) = sides_of(trs, p) else {
+                unreachable!()
+            };
+            sides.push(both)?;
+        }
+        Ok(Pairs { sides })
+    }
+
+    /// How many pairs there are.
+    pub fn len(&self) -> usize
+        ensures { result ≡ length self.now }
+    {
+        self.sides.len()
+    }
+
+    /// The sides of the pairs.
+    pub fn sides(&self) -> &[Sides<'a>]
+        ensures { result.now ≡ self.now }
+    {
+        &self.sides
+    }
+}
