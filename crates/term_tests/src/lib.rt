@@ -4,6 +4,8 @@
 #[cfg(test)]
 mod made;
 #[cfg(test)]
+mod orders;
+#[cfg(test)]
 mod slow;
 #[cfg(test)]
 mod steps;
