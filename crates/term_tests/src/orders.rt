@@ -24,8 +24,11 @@ fn next_of_sum(alloc: Global) -> Result<Term, Fail> {
 fn a_linear_interpretation_compares(rt: HostRuntime) -> Result<(), Fail> {
     let alloc = rt.alloc();
     let entries = vec![in alloc;
-        (0, vec![in alloc; 0]?), (1, vec![in alloc; 1, 1]?), (2, vec![in alloc; 0, 1, 1]?),
-        (4098, vec![in alloc; 0, 1]?), (3, vec![in alloc; 0, 1 << 62]?)
+        (0, vec![in alloc; 0]?),
+        (1, vec![in alloc; 1, 1]?),
+        (2, vec![in alloc; 0, 1, 1]?),
+        (4098, vec![in alloc; 0, 1]?),
+        (3, vec![in alloc; 0, 1 << 62]?),
     ]?;
     let table = LinTable::new(alloc, entries)?;
     let (left, right) = (sum_of_next(alloc, 2)?, next_of_sum(alloc)?);
@@ -44,10 +47,21 @@ fn a_linear_interpretation_compares(rt: HostRuntime) -> Result<(), Fail> {
 fn a_path_order_compares(rt: HostRuntime) -> Result<(), Fail> {
     let alloc = rt.alloc();
     let keep = Filter::Keep(vec![in alloc; 1, 2]?);
-    let order = Lpo::new(alloc, vec![in alloc;
-        LpoEntry { symbol: 1, rank: 0, filter: Filter::Keep(vec![in alloc; 1]?) },
-        LpoEntry { symbol: 2, rank: 1, filter: keep }
-    ]?)?;
+    let order = Lpo::new(
+        alloc,
+        vec![in alloc;
+            LpoEntry {
+                symbol: 1,
+                rank: 0,
+                filter: Filter::Keep(vec![in alloc; 1]?)
+            },
+            LpoEntry {
+                symbol: 2,
+                rank: 1,
+                filter: keep
+            },
+        ]?,
+    )?;
     let (left, right) = (sum_of_next(alloc, 2)?, next_of_sum(alloc)?);
     assert!(rt; order.strict(&left, &right) == Ok(true));
     assert!(rt; order.weak(&right, &left) == Ok(false));
@@ -57,8 +71,18 @@ fn a_path_order_compares(rt: HostRuntime) -> Result<(), Fail> {
 #[test]
 fn a_knuth_bendix_order_compares(rt: HostRuntime) -> Result<(), Fail> {
     let alloc = rt.alloc();
-    let next = KboEntry { symbol: 1, arity: 1, weight: 0, rank: 2 };
-    let plus = KboEntry { symbol: 2, arity: 2, weight: 0, rank: 1 };
+    let next = KboEntry {
+        symbol: 1,
+        arity: 1,
+        weight: 0,
+        rank: 2,
+    };
+    let plus = KboEntry {
+        symbol: 2,
+        arity: 2,
+        weight: 0,
+        rank: 1,
+    };
     let order = Kbo::new(alloc, vec![in alloc; next, plus]?)?;
     let (left, right) = (sum_of_next(alloc, 2)?, next_of_sum(alloc)?);
     assert!(rt; order.strict(&right, &left) == Ok(true));
