@@ -1,3 +1,4 @@
 pub mod PlacedLaws
 pub mod PairWalk
 pub mod DefinedSymbols
+pub mod PairSides

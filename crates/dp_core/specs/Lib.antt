@@ -1,3 +1,5 @@
 pub mod PlacedPairs
 pub mod Laws
 pub mod PairCodes
+pub mod Numbered
+pub mod SubtermConditions

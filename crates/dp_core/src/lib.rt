@@ -2,11 +2,13 @@
 //! (Arts and Giesl, Termination of term rewriting using dependency pairs, 2000.)
 #![tactic(auto)]
 
+mod contained;
 mod defined;
 mod laws;
 mod listing;
 mod pairs;
 mod prepared;
+mod projections;
 mod sides;
 
 pub use laws::placed_pairs_are_the_pairs;
