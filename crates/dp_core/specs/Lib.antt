@@ -3,3 +3,4 @@ pub mod Laws
 pub mod PairCodes
 pub mod Numbered
 pub mod SubtermConditions
+pub mod LeastMissing

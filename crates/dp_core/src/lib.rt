@@ -10,9 +10,11 @@ mod pairs;
 mod prepared;
 mod projections;
 mod sides;
+mod subterm;
 
 pub use laws::placed_pairs_are_the_pairs;
 pub use listing::dependency_pairs;
 pub use pairs::DpPair;
 pub use prepared::Pairs;
 pub use sides::{Side, Sides, pair_left, pair_right};
+pub use subterm::subterm_check;

@@ -26,5 +26,6 @@ pub(crate) fn projected<'a>(projection: &[(u32, u8)], side: &Side<'a>) -> Option
     if place == 0 {
         return None;
     }
-    side.args.items.get(usize::from(place - 1))
+    let args = side.args;
+    args.items.get(usize::from(place - 1))
 }

@@ -1,0 +1,1 @@
+-- The subterm criterion's step.
