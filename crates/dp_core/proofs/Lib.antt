@@ -6,3 +6,5 @@ pub mod Collecting
 pub mod Containment
 pub mod NumberedPairs
 pub mod SubtermLaws
+pub mod Projecting
+pub mod Missing

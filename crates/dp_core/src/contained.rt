@@ -31,9 +31,21 @@ fn size_unless_found(s: &Term, t: &Term, size: u64) -> Option<u64>
                 };
                 total = total.saturating_add(part);
             }
-            none_if(total == size && s.same(t), total)
+            none_if(is_same(s, total, t, size), total)
         }
     }
+}
+
+/// Whether the terms are equal, where their sizes are known.
+fn is_same(s: &Term, total: u64, t: &Term, size: u64) -> bool
+    requires total { total ≡ min (size_of (tree s.now)) u64.MAX }
+    requires size { size ≡ min (size_of (tree t.now)) u64.MAX }
+    ensures { IsTrue result ↔ (tree s.now ≡ tree t.now) }
+{
+    if total != size {
+        return false;
+    }
+    s.same(t)
 }
 
 fn none_if(found: bool, size: u64) -> Option<u64>

@@ -1,11 +1,11 @@
-ghost use Rattle.std.specs.Prelude.{◌≡◌, ◌<◌, ◌++◌, ℕ, List, All, IfOk, OnOk, [], ◌∷◌, zip, length};
+ghost use Rattle.std.specs.Prelude.{◌≡◌, ◌<◌, ◌++◌, ℕ, List, All, IfOk, OnOk, [], ◌∷◌, Some, None, zip, length};
 ghost use Rattle.pair_theory.specs.DependencyPair.{DependencyPair, dependency_pairs};
 ghost use Rattle.rewrite_core.specs.Check.{Answers, AnswersBy, ForbidsAny, collect};
 ghost use Rattle.rewrite_core.specs.declared.refusals.StepRefused.TheVariants.{NoEntry};
 ghost use Rattle.dp_core.specs.PlacedPairs.{placed_pairs};
 ghost use Rattle.dp_core.specs.Numbered.{ArePairsOf};
 ghost use Rattle.dp_core.specs.LeastMissing.{IsMissing, IsLeastMissing};
-ghost use Rattle.dp_core.specs.SubtermConditions.{roots_of, projects_within, unflagged};
+ghost use Rattle.dp_core.specs.SubtermConditions.{roots_of, place_for, projects_within, unflagged};
 ghost use Rattle.dp_core.specs.SubtermConditions.{subterm_conditions};
 
 use crate::contained::contains;
@@ -91,12 +91,26 @@ fn with_root(least: Option<u32>, projection: &[(u32, u8)], f: u32) -> Option<u32
     ensures { (symbols : List ℕ) → IsLeastMissing projection.now symbols least →
         IsLeastMissing projection.now (f ∷ symbols) result }
 {
-    if place_for(projection, f).is_some() {
-        return least;
+    match place_for(projection, f) {
+        Some(_) => least,
+        None => Some(lower(least, f)),
     }
+}
+
+/// The lower of the two numbers.
+fn lower(least: Option<u32>, f: u32) -> u32
+    ensures { (projection : List (ℕ × ℕ)) (symbols : List ℕ) → place_for projection f ≡ None →
+        IsLeastMissing projection symbols least →
+        IsLeastMissing projection (f ∷ symbols) (Some result) }
+{
     match least {
-        None => Some(f),
-        Some(g) => Some(f.min(g)),
+        None => f,
+        Some(g) => {
+            if f < g {
+                return f;
+            }
+            g
+        }
     }
 }
 
@@ -156,9 +170,17 @@ fn remaining(alloc: Global, problem: &[u32], removed: &[bool]) -> Result<Vec<u32
 {
     let mut left = Vec::new(alloc);
     for (i, n) in problem.iter().enumerate() {
-        if !removed[i] {
-            left.push(*n)?;
-        }
+        keep(&mut left, *n, removed[i])?;
     }
     Ok(left)
+}
+
+fn keep(left: &mut Vec<u32>, n: u32, removed: bool) -> Result<(), OutOfMemory>
+    ensures { OnOk result (left.new.items
+        ≡ left.old.items ++ unflagged (n ∷ []) (removed ∷ [])) }
+{
+    if !removed {
+        left.push(n)?;
+    }
+    Ok(())
 }
