@@ -1,5 +1,5 @@
 -- Whether a term stands in another one.
-use Rattle.std.specs.Prelude.{◌≡◌, ◌≤◌, ◌<◌, ◌≢◌, ℕ, ◌+◌, List, [], ◌∷◌, length, drop, get_or}
+use Rattle.std.specs.Prelude.{◌≡◌, ◌≤◌, ◌<◌, ℕ, ◌+◌, ◌-◌, ◌^◌, min, List, [], ◌∷◌, length, drop, get_or}
 use Rattle.std.proofs.Common.{zero, suc, refl, sym, ap, subst, arith, ◌∙◌}
 use Rattle.std.proofs.lemmas.List.{drop_all}
 use Rattle.trs_defs.specs.Tree.{Tree, Trees, var, app, nil, cons}
@@ -68,3 +68,13 @@ at_variable itself = refl
 
 pub sub_of_variable : (t s : Tree) (x : ℕ) → s ≡ var x → Sub t s → s ≡ t
 sub_of_variable t s x is p = is ∙ sym (at_variable (subst (λ u. Sub t u) is p))
+
+pub sub_same : (t s : Tree) → s ≡ t → Sub t s
+sub_same t s e = subst (λ u. Sub u s) e itself
+
+pub size_left : (ts : List Term) (i : ℕ) (u : Term) → i < length ts → u ≡ get_or ts i u → size_of_all (forest (drop i ts)) ≡ size_of (tree u) + size_of_all (forest (drop (i + 1) ts))
+size_left ts i u h e = ap (λ us. size_of_all (forest us)) (cell ts i u h e)
+
+pub sum_kept : (total part sum size left rest whole : ℕ) → total < 2 ^ 64 → sum ≡ min (total + part) (2 ^ 64 - 1) → part ≡ min size (2 ^ 64 - 1) → left ≡ size + rest
+    → min (total + left) (2 ^ 64 - 1) ≡ min whole (2 ^ 64 - 1) → (sum < 2 ^ 64) × (min (sum + rest) (2 ^ 64 - 1) ≡ min whole (2 ^ 64 - 1))
+sum_kept total part sum size left rest whole lt is_sum is_part is_left same = (omega (arith, is_sum), omega (arith, lt, is_sum, is_part, is_left, same))

@@ -1,4 +1,5 @@
-ghost use Rattle.std.specs.Prelude.{◌≡◌, ◌<◌, ◌++◌, ℕ, List, All, IfOk, OnOk, [], ◌∷◌, Some, None, zip, length};
+ghost use Rattle.std.specs.Prelude.{◌≡◌, ◌<◌, ◌↔◌, ◌++◌, ℕ, true, IsTrue, List, All, IfOk, OnOk, [], ◌∷◌, Some, None, zip, length};
+ghost use Rattle.trs_defs.specs.Member.{In};
 ghost use Rattle.pair_theory.specs.DependencyPair.{DependencyPair, dependency_pairs};
 ghost use Rattle.rewrite_core.specs.Check.{Answers, AnswersBy, ForbidsAny, collect};
 ghost use Rattle.rewrite_core.specs.declared.refusals.StepRefused.TheVariants.{NoEntry};
@@ -48,7 +49,7 @@ impl<'a> Pairs<'a> {
     {
         entries_check(self.sides(), problem, projection)?;
         let removed = removed_pairs(alloc, self.sides(), problem, projection)?;
-        if !removed.contains(&true) {
+        if !is_any(&removed) {
             return Err(CheckFault::Refused(StepRefused::NothingRemoved));
         }
         Ok(remaining(alloc, problem, &removed)?)
@@ -134,6 +135,17 @@ fn removed_pairs(
         add(&mut removed, flag)?;
     }
     Ok(removed)
+}
+
+fn is_any(flags: &[bool]) -> bool
+    ensures { IsTrue result ↔ In true flags.now }
+{
+    for flag in flags {
+        if *flag {
+            return true;
+        }
+    }
+    false
 }
 
 fn add(flags: &mut Vec<bool>, flag: bool) -> Result<(), OutOfMemory>
