@@ -8,3 +8,4 @@ pub mod NumberedPairs
 pub mod SubtermLaws
 pub mod Projecting
 pub mod Missing
+pub mod Flags

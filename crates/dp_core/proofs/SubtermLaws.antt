@@ -8,6 +8,7 @@ use Rattle.rewrite_core.specs.declared.refusals.CheckFault.{CheckFault}
 use Rattle.rewrite_core.specs.Check.{Check, Refuses, ForbidsAny, Returns, returned, stops, goes_on, holds, lacks, collect}
 use Rattle.rewrite_core.proofs.Answering.{refused_first, refused_later}
 use Rattle.dp_core.specs.Numbered.{ArePairsOf, TakesPairs, taken}
+use Rattle.dp_core.proofs.NumberedPairs.{as_many, zip_length}
 use Rattle.dp_core.specs.LeastMissing.{IsMissing}
 use Rattle.dp_core.specs.SubtermConditions.{roots_of, projects_within, unflagged, subterm_conditions}
 
@@ -36,3 +37,6 @@ module _ (all : List DependencyPair) (projection : List (ℕ × ℕ)) (numbers :
   some_remain flags left entries removals some is =
       subst (λ l. subterm_conditions all projection numbers (Ok l)) (sym is)
       (goes_on pairs _ (taken pairs are) (goes_on tt _ entries (goes_on flags _ removals (goes_on tt _ (holds some) returned))))
+
+  pub flags_counted : (flags : List Bool) → Removals (Ok flags) → length flags ≡ length numbers
+  flags_counted flags h = collected_length (λ _ item. projects_within projection item.0 item.1) 0 (zip numbers pairs) flags h ∙ zip_length numbers pairs (as_many all numbers pairs are)

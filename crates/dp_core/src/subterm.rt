@@ -11,7 +11,7 @@ ghost use Rattle.dp_core.specs.SubtermConditions.{subterm_conditions};
 
 use crate::contained::contains;
 use crate::projections::{place_for, projected};
-use crate::{DpPair, Pairs, Sides};
+use crate::{DpPair, Pairs, Side, Sides};
 use rewrite_core::{CheckFault, StepRefused};
 use std::alloc::Global;
 use trs_core::{OutOfMemory, Trs};
@@ -81,10 +81,17 @@ fn least_missing(pairs: &[Sides], problem: &[u32], projection: &[(u32, u8)]) -> 
     let mut least = None;
     for n in problem {
         let sides = &pairs[*n as usize];
-        least = with_root(least, projection, sides.from.symbol);
-        least = with_root(least, projection, sides.to.symbol);
+        least = with_side(least, projection, &sides.from);
+        least = with_side(least, projection, &sides.to);
     }
     least
+}
+
+fn with_side(least: Option<u32>, projection: &[(u32, u8)], side: &Side) -> Option<u32>
+    ensures { (symbols : List ℕ) → IsLeastMissing projection.now symbols least →
+        IsLeastMissing projection.now (side.now.symbol ∷ symbols) result }
+{
+    with_root(least, projection, side.symbol)
 }
 
 /// The least symbol with no entry, with one symbol more.
