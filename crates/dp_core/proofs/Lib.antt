@@ -9,3 +9,4 @@ pub mod SubtermLaws
 pub mod Projecting
 pub mod Missing
 pub mod Flags
+pub mod Conclusions

@@ -39,12 +39,12 @@ projects_within projection n p = do
   Needs (ProjectedAre projection (λ s t. Sub t s) p) (PairNotWeak n)
   Asks (ProjectedAre projection ProperSubterm p)
 
--- the numbers at which the flag is false
-abbrev pub unflagged : List ℕ → List Bool → List ℕ
+-- the items at which the flag is false
+abbrev pub unflagged : {A : Type 0} → List A → List Bool → List A
 unflagged [] flags = []
-unflagged (n ∷ numbers) [] = []
-unflagged (n ∷ numbers) (true ∷ flags) = unflagged numbers flags
-unflagged (n ∷ numbers) (false ∷ flags) = n ∷ unflagged numbers flags
+unflagged (x ∷ xs) [] = []
+unflagged (x ∷ xs) (true ∷ flags) = unflagged xs flags
+unflagged (x ∷ xs) (false ∷ flags) = x ∷ unflagged xs flags
 
 -- of the pairs of the numbers; the value is the numbers of the pairs that remain
 abbrev pub subterm_conditions : List DependencyPair → List (ℕ × ℕ) → List ℕ → Check (List ℕ)

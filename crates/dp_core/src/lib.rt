@@ -12,7 +12,7 @@ mod projections;
 mod sides;
 mod subterm;
 
-pub use laws::placed_pairs_are_the_pairs;
+pub use laws::{all_pairs_conclude, placed_pairs_are_the_pairs, subterm_steps_conclude};
 pub use listing::dependency_pairs;
 pub use pairs::DpPair;
 pub use prepared::Pairs;
