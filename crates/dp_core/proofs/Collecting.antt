@@ -1,12 +1,11 @@
 -- A loop over the items of a list, each of which is checked and gives a value.
-use Rattle.std.specs.Prelude.{◌≡◌, ℕ, ◌+◌, ◌<◌, ◌≤◌, List, [], ◌∷◌, ◌++◌, length, drop, get_or, slice_get, Some, Result, Ok, Err}
-use Rattle.std.proofs.Common.{suc, zero, add-one, refl, sym, ap, subst, ◌∙◌, append_assoc}
-use Rattle.std.proofs.lemmas.List.{append-nil, drop_all}
+use Rattle.std.specs.Prelude.{◌≡◌, ℕ, ◌+◌, List, [], ◌∷◌, ◌++◌, drop, slice_get, Some, Result, Ok, Err}
+use Rattle.std.proofs.Common.{suc, zero, add-one, refl, sym, ap, subst, append_assoc}
+use Rattle.std.proofs.lemmas.List.{append-nil}
 use Rattle.rewrite_core.specs.declared.refusals.StepRefused.{StepRefused}
 use Rattle.rewrite_core.specs.declared.refusals.CheckFault.{CheckFault}
 use Rattle.rewrite_core.specs.declared.refusals.CheckFault.TheVariants.{Refused, OutOfMemory}
 use Rattle.rewrite_core.specs.Check.{Check, Refuses, returned, stops, goes_on, collect}
-use Rattle.trs_defs.proofs.ArgumentLists.{cell}
 
 -- the answer with these values before it
 abbrev pub with_before : {B : Type 0} → List B → Result (List B) StepRefused → Result (List B) StepRefused

@@ -1,15 +1,15 @@
 -- What a step on pairs concludes.
-use Rattle.std.specs.Prelude.{◌≡◌, ℕ, ◌+◌, ◌⊎◌, Bool, true, false, List, [], ◌∷◌, length, map, zip, Option, Some, None, Result, Ok, Err, slice_get}
+use Rattle.std.specs.Prelude.{◌≡◌, ℕ, ◌+◌, ◌⊎◌, Bool, true, false, List, [], ◌∷◌, length, map, zip, Option, Some, None, Result, Ok, slice_get}
 use Rattle.std.specs.Option.{option_and_then}
 use Rattle.std.proofs.Common.{zero, suc, inl, inr, refl, sym, ap, subst, arith, ◌∙◌}
 use Rattle.trs_defs.specs.Member.{In, in_first, in_rest}
 use Rattle.trs_defs.proofs.Members.{in_or, no_in}
-use Rattle.trs_defs.specs.Tree.{Tree, app}
+use Rattle.trs_defs.specs.Tree.{Tree}
 use Rattle.trs_defs.specs.Position.{argument_at}
 use Rattle.trs_defs.specs.Claims.{IsTerminating}
 use Rattle.trs_defs.specs.System.{System, IsSystem}
 use Rattle.pair_theory.specs.Subterm.{Sub, itself, under, ProperSubterm, proper}
-use Rattle.pair_theory.specs.Marked.{Marked, plain}
+use Rattle.pair_theory.specs.Marked.{plain}
 use Rattle.pair_theory.specs.DependencyPair.{DependencyPair, dependency_pairs}
 use Rattle.pair_theory.specs.PairProblem.{IsFiniteProblem, IsPair}
 use Rattle.pair_theory.specs.SubtermCriterion.{Projects}
@@ -17,8 +17,8 @@ use Rattle.rewrite_core.specs.declared.refusals.StepRefused.{StepRefused}
 use Rattle.rewrite_core.specs.Check.{HasOneAnswer, goes_on, holds, returned, yes_it_does, no_it_does_not, collect}
 use Rattle.rewrite_core.proofs.CheckLaws.{once}
 use Rattle.dp_core.specs.Numbered.{ArePairsOf, TakesPairs, taken, numbers_from}
-use Rattle.dp_core.specs.SubtermConditions.{place_for, projected, ProjectedAre, projects_within, unflagged, subterm_conditions}
-use Rattle.dp_core.specs.Laws.{IsFiniteOf, AllPairsConclude, SubtermStepsConclude, SubtermStepsAnswerOnce}
+use Rattle.dp_core.specs.SubtermConditions.{place_for, ProjectedAre, projects_within, unflagged}
+use Rattle.dp_core.specs.Laws.{AllPairsConclude, SubtermStepsConclude, SubtermStepsAnswerOnce}
 use Rattle.dp_core.proofs.NumberedPairs.{as_many}
 
 -- ---- one answer

@@ -1,6 +1,6 @@
 -- Whether a flag of a list is set.
 use Rattle.std.specs.Prelude.{◌≡◌, ◌<◌, ◌≤◌, ℕ, ◌+◌, Bool, true, false, List, [], ◌∷◌, length, drop, get_or}
-use Rattle.std.proofs.Common.{zero, suc, refl, sym, subst, arith, add-one}
+use Rattle.std.proofs.Common.{zero, suc, sym, subst, arith, add-one}
 use Rattle.std.proofs.lemmas.List.{drop_all}
 use Rattle.trs_defs.specs.Member.{In, in_first, in_rest}
 

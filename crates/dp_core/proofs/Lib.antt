@@ -10,3 +10,4 @@ pub mod Projecting
 pub mod Missing
 pub mod Flags
 pub mod Conclusions
+pub mod AllNumbers

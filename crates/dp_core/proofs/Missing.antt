@@ -1,6 +1,6 @@
 -- The least symbol without an entry, with one symbol more.
-use Rattle.std.specs.Prelude.{◌≡◌, ◌<◌, ◌≤◌, ℕ, ◌+◌, List, [], ◌∷◌, ◌++◌, length, take, Option, Some, None, slice_get}
-use Rattle.std.proofs.Common.{inl, inr, ◌⊎◌, suc, zero, refl, sym, ap, subst, arith, ◌∙◌, add-one}
+use Rattle.std.specs.Prelude.{◌≡◌, ◌<◌, ◌≤◌, ℕ, ◌+◌, List, [], ◌∷◌, take, Option, Some, None, slice_get}
+use Rattle.std.proofs.Common.{inl, inr, ◌⊎◌, suc, zero, sym, subst, arith, ◌∙◌, add-one}
 use Rattle.trs_defs.specs.Member.{In, in_first, in_rest}
 use Rattle.trs_defs.proofs.Members.{in_or}
 use Rattle.pair_theory.specs.DependencyPair.{DependencyPair}
@@ -16,10 +16,13 @@ module _ (projection : List (ℕ × ℕ)) (f : ℕ) (symbols : List ℕ) where
 
   pub has_place : (k : ℕ) (o : Option ℕ) → place_for projection f ≡ Some k → IsLeastMissing projection symbols o → IsLeastMissing projection (f ∷ symbols) o
   has_place k None e h = λ g m. elim (either g m) [ inl same ↦ none_is_not (place_for projection f) k (subst (λ z. place_for projection z ≡ None) same m.1) e | inr i ↦ h g i ]
-  has_place k (Some n) e h = ((in_rest (h.0).0, (h.0).1), λ g lt m. elim (either g m) [
-    | inl same ↦ none_is_not (place_for projection f) k (subst (λ z. place_for projection z ≡ None) same m.1) e
-    | inr i ↦ h.1 g lt i
-  ])
+  has_place k (Some n) e h = (
+    (in_rest (h.0).0, (h.0).1),
+    λ g lt m. elim (either g m) [
+      | inl same ↦ none_is_not (place_for projection f) k (subst (λ z. place_for projection z ≡ None) same m.1) e
+      | inr i ↦ h.1 g lt i
+    ],
+  )
 
   pub first_missing : place_for projection f ≡ None → IsLeastMissing projection symbols None → IsLeastMissing projection (f ∷ symbols) (Some f)
   first_missing e h = ((in_first, e), λ g lt m. elim (either g m) [ inl same ↦ absurd (omega (arith, same, lt)) | inr i ↦ h g i ])

@@ -1,6 +1,6 @@
 -- Pairs of a list, by their numbers.
-use Rattle.std.specs.Prelude.{◌≡◌, ◌<◌, ◌≤◌, ℕ, ◌+◌, List, [], ◌∷◌, length, All, map, drop, take, zip, get_or, Option, Some, slice_get}
-use Rattle.std.proofs.Common.{zero, suc, refl, sym, ap, subst, arith, ◌∙◌, add-one}
+use Rattle.std.specs.Prelude.{◌≡◌, ◌<◌, ◌≤◌, ℕ, List, [], ◌∷◌, length, All, map, drop, zip, get_or, Some, slice_get}
+use Rattle.std.proofs.Common.{zero, suc, refl, sym, ap, subst, arith, ◌∙◌}
 use Rattle.std.proofs.lemmas.Option.{slice_get_read, slice_get-get_or, get_or_from_slice_get, slice_get_within}
 use Rattle.rewrite_core.proofs.Items.{zipped}
 use Rattle.pair_theory.specs.DependencyPair.{DependencyPair}

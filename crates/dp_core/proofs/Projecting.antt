@@ -1,13 +1,13 @@
 -- The argument to which a side is projected, and what it says of a pair.
 use Rattle.std.specs.Prelude.{◌≡◌, ℕ, ◌-◌, true, false, List, Option, Some, None, Ok, Err, slice_get}
 use Rattle.std.specs.Option.{option_and_then, option_map, option_copied}
-use Rattle.std.proofs.Common.{Bor, refl, sym, ap, subst, ◌∙◌}
+use Rattle.std.proofs.Common.{Bor, sym, ap, subst, ◌∙◌}
 use Rattle.trs_defs.specs.Tree.{Tree, Trees, app}
 use Rattle.trs_defs.specs.Position.{argument_at}
 use Rattle.trs_core.specs.declared.terms.Term.{Term}
 use Rattle.trs_core.specs.View.{tree, forest}
 use Rattle.trs_core.proofs.Lookups.{argument_at_past}
-use Rattle.pair_theory.specs.Marked.{Marked, marked, plain}
+use Rattle.pair_theory.specs.Marked.{Marked, marked}
 use Rattle.pair_theory.specs.Subterm.{Sub, itself, ProperSubterm}
 use Rattle.pair_theory.specs.DependencyPair.{DependencyPair}
 use Rattle.rewrite_core.specs.declared.refusals.StepRefused.TheVariants.{PairNotWeak}

@@ -5,7 +5,7 @@ use Rattle.trs_defs.specs.Member.{In}
 use Rattle.pair_theory.specs.DependencyPair.{DependencyPair}
 use Rattle.rewrite_core.specs.declared.refusals.StepRefused.TheVariants.{NoEntry, NothingRemoved}
 use Rattle.rewrite_core.specs.declared.refusals.CheckFault.{CheckFault}
-use Rattle.rewrite_core.specs.Check.{Check, Refuses, ForbidsAny, Returns, returned, stops, goes_on, holds, lacks, collect}
+use Rattle.rewrite_core.specs.Check.{Check, Refuses, ForbidsAny, returned, stops, goes_on, holds, lacks, collect}
 use Rattle.rewrite_core.proofs.Answering.{refused_first, refused_later}
 use Rattle.dp_core.specs.Numbered.{ArePairsOf, TakesPairs, taken}
 use Rattle.dp_core.proofs.NumberedPairs.{as_many, zip_length}

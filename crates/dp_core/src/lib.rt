@@ -6,6 +6,7 @@ mod contained;
 mod defined;
 mod laws;
 mod listing;
+mod numbers;
 mod pairs;
 mod prepared;
 mod projections;
@@ -14,6 +15,7 @@ mod subterm;
 
 pub use laws::{all_pairs_conclude, placed_pairs_are_the_pairs, subterm_steps_conclude};
 pub use listing::dependency_pairs;
+pub use numbers::pair_numbers;
 pub use pairs::DpPair;
 pub use prepared::Pairs;
 pub use sides::{Side, Sides, pair_left, pair_right};

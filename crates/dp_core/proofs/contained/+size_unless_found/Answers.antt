@@ -1,6 +1,6 @@
-use Rattle.std.proofs.Common.{◌≡◌, ◌+◌, drop, ap, refl, sym, arith}
+use Rattle.std.proofs.Common.{◌≡◌, ◌+◌, drop, refl, sym}
 use Rattle.trs_defs.specs.Size.{size_of, size_of_all}
-use Rattle.trs_defs.specs.Tree.{app, trees}
+use Rattle.trs_defs.specs.Tree.{app}
 use Rattle.trs_core.specs.View.{tree, forest}
 use Rattle.dp_core.proofs.Containment.{in_one, sub_under, sub_same, sub_cases, none_in, not_in_first, size_left, sum_kept}
 use Rattle.dp_core.proofs.contained.+size_unless_found.Goals as goal

@@ -1,7 +1,7 @@
 use Rattle.std.proofs.Common.{◌≡◌, ◌+◌, ◌-◌, ◌<◌, ◌^◌, min, drop}
 use Rattle.trs_defs.specs.Size.{size_of, size_of_all}
 use Rattle.trs_core.specs.View.{tree, forest}
-use Rattle.pair_theory.specs.Subterm.{Sub, Subs}
+use Rattle.pair_theory.specs.Subterm.{Subs}
 use Rattle.dp_core.proofs.contained.+size_unless_found.Given as goal
 
 abbrev pub invariant-loop-arg : goal.invariant-loop-arg

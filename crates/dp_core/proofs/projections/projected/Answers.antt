@@ -1,9 +1,6 @@
-use Rattle.std.proofs.Common.{ap, sym, refl, ◌∙◌}
-use Rattle.std.specs.Option.{option_map, option_and_then}
-use Rattle.trs_defs.specs.Tree.{trees, app}
-use Rattle.trs_defs.specs.Position.{argument_at}
-use Rattle.trs_core.specs.View.{tree}
-use Rattle.trs_core.proofs.Lookups.{argument_at_past, copied_item}
+use Rattle.std.proofs.Common.{ap, sym}
+use Rattle.trs_defs.specs.Tree.{trees}
+use Rattle.trs_core.proofs.Lookups.{copied_item}
 use Rattle.dp_core.proofs.Projecting.{projected_to}
 use Rattle.dp_core.proofs.projections.projected.Goals as goal
 

@@ -1,4 +1,4 @@
-use Rattle.std.proofs.Common.{◌≡◌, sym}
+use Rattle.std.proofs.Common.{sym}
 use Rattle.trs_core.specs.View.{tree}
 use Rattle.dp_core.proofs.Projecting.{no_left, no_right, equal_sides, proper_sides, not_within}
 use Rattle.dp_core.proofs.subterm.is_removed.Goals as goal

@@ -1,4 +1,4 @@
-use Rattle.std.proofs.Common.{◌≡◌, List, take}
+use Rattle.std.proofs.Common.{List, take}
 use Rattle.pair_theory.specs.DependencyPair.{DependencyPair}
 use Rattle.dp_core.specs.Numbered.{ArePairsOf}
 use Rattle.dp_core.specs.LeastMissing.{IsLeastMissing}

@@ -1,4 +1,4 @@
-use Rattle.std.proofs.Common.{◌≡◌, Some, sym, ◌∙◌}
+use Rattle.std.proofs.Common.{sym, ◌∙◌}
 use Rattle.pair_theory.specs.DependencyPair.{dependency_pairs}
 use Rattle.dp_core.proofs.PairSides.{pair_there, one_more_taken, the_same}
 use Rattle.dp_core.proofs.prepared.Pairs.of.Goals as goal

@@ -1,10 +1,10 @@
-use Rattle.std.proofs.Common.{◌≡◌, length, ap, sym, ◌∙◌}
+use Rattle.std.proofs.Common.{length}
 use Rattle.std.proofs.lemmas.Result.{err_from_is_err_and}
 use Rattle.pair_theory.specs.DependencyPair.{DependencyPair}
-use Rattle.std.specs.Prelude.{List, Ok}
+use Rattle.std.specs.Prelude.{List}
 use Rattle.dp_core.specs.Numbered.{ArePairsOf}
 use Rattle.dp_core.proofs.NumberedPairs.{pairs_of_numbers, within_all}
-use Rattle.dp_core.proofs.SubtermLaws.{Entries, Removals, entries_refuse, removals_refuse, none_removed, some_remain, flags_counted}
+use Rattle.dp_core.proofs.SubtermLaws.{entries_refuse, removals_refuse, none_removed, some_remain, flags_counted}
 use Rattle.dp_core.proofs.prepared.Pairs.subterm_check.Goals as goal
 use Rattle.dp_core.proofs.prepared.Pairs.subterm_check.Goals.{After-entries_check}
 
@@ -46,5 +46,7 @@ returns c =
     let removals = (rw c.sides-2.ensures at c.in_ok-removed.ensures) pairs.0 pairs.1 in
     let any = rw c.deref.ensures.value at c.is_any.ensures in
     let is_set = c.if-not-is_any.false in
-    record { answers = some_remain c.args.self.now c.args.projection.now c.args.problem.now pairs.0 pairs.1 c.in_ok-removed.removed.items c.in_ok-remaining.field-0.items entries removals (any.0 cc)
-        (rw c.deref-2.ensures.value at c.in_ok-remaining.ensures) }
+    record {
+      answers = some_remain c.args.self.now c.args.projection.now c.args.problem.now pairs.0 pairs.1 c.in_ok-removed.removed.items c.in_ok-remaining.field-0.items entries removals (any.0 cc)
+          (rw c.deref-2.ensures.value at c.in_ok-remaining.ensures);
+    }
