@@ -8,7 +8,8 @@ use crate::laws::placed_pairs_are_the_pairs;
 use std::alloc::Global;
 use trs_core::{OutOfMemory, Trs};
 
-/// The numbers of all pairs of a system, from 0: the problem that a step to dependency pairs leaves.
+/// The numbers of all pairs of a system, from 0: the problem that a step to dependency pairs
+/// leaves.
 pub fn pair_numbers(alloc: Global, trs: &Trs, all: &[DpPair]) -> Result<Vec<u32>, OutOfMemory>
     requires { all.now ≡ placed_pairs trs.now.rules }
     ensures { IfOk result (λ numbers.

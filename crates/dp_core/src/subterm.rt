@@ -1,4 +1,5 @@
-ghost use Rattle.std.specs.Prelude.{◌≡◌, ◌<◌, ◌↔◌, ◌++◌, ℕ, true, IsTrue, List, All, IfOk, OnOk, [], ◌∷◌, Some, None, zip, length};
+ghost use Rattle.std.specs.Prelude.{◌≡◌, ◌<◌, ◌↔◌, ◌++◌, ℕ, true, IsTrue, List};
+ghost use Rattle.std.specs.Prelude.{All, IfOk, OnOk, [], ◌∷◌, Some, None, zip, length};
 ghost use Rattle.trs_defs.specs.Member.{In};
 ghost use Rattle.pair_theory.specs.DependencyPair.{DependencyPair, dependency_pairs};
 ghost use Rattle.rewrite_core.specs.Check.{Answers, AnswersBy, ForbidsAny, collect};
@@ -132,7 +133,8 @@ fn removed_pairs(
     requires { All (λ n. n < length pairs.now) problem.now }
     ensures { (taken : List DependencyPair) → ArePairsOf pairs.now problem.now taken →
         AnswersBy (λ removed. removed.items)
-        (collect (λ _ item. projects_within projection.now item.0 item.1) 0 (zip problem.now taken))
+        (collect (λ _ item. projects_within projection.now item.0 item.1)
+        0 (zip problem.now taken))
         result }
 {
     let mut removed = Vec::new(alloc);
