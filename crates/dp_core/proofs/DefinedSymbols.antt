@@ -1,6 +1,6 @@
 -- A symbol is defined if there is a first rule with it.
-use Rattle.std.specs.Prelude.{◌≡◌, ◌≤◌, ◌<◌, ℕ, ◌+◌, Bool, true, false, ◌||◌, List, [], ◌∷◌, length, Some, slice_get}
-use Rattle.std.proofs.Common.{zero, suc, refl, sym, ap, subst, arith, ◌∙◌, nat_lt}
+use Rattle.std.specs.Prelude.{◌≡◌, ◌≤◌, ◌<◌, ℕ, Bool, true, false, ◌||◌, List, [], ◌∷◌, length, Some, slice_get}
+use Rattle.std.proofs.Common.{zero, suc, refl, sym, arith, nat_lt}
 use Rattle.std.proofs.lemmas.Bool.{ltb-true, ltb-false}
 use Rattle.trs_defs.specs.System.{RewriteRule, has_root, is_defined}
 use Rattle.term_pool.specs.Roots.{IsNextRooted}

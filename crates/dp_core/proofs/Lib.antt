@@ -1,3 +1,13 @@
 pub mod PlacedLaws
 pub mod PairWalk
 pub mod DefinedSymbols
+pub mod PairSides
+pub mod Collecting
+pub mod Containment
+pub mod NumberedPairs
+pub mod SubtermLaws
+pub mod Projecting
+pub mod Missing
+pub mod Flags
+pub mod Conclusions
+pub mod AllNumbers

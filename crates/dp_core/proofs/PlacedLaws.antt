@@ -6,7 +6,6 @@ use Rattle.trs_defs.specs.Tree.{Tree, Trees, var, app, nil, cons, items}
 use Rattle.trs_defs.specs.Variable.{IsVariable}
 use Rattle.trs_defs.specs.Position.{subterm_at}
 use Rattle.trs_defs.specs.System.{RewriteRule, System, IsSystem, is_defined}
-use Rattle.trs_defs.specs.Path.{PlacedRule}
 use Rattle.pair_theory.specs.Marked.{Marked, marked, plain}
 use Rattle.pair_theory.specs.DependencyPair.{DependencyPair, dependency_pairs, subterms, subterms_of_all, keep_if, pairs_to, pairs_of, pairs_of_each}
 use Rattle.dp_core.specs.PlacedPairs.{defined_places, defined_places_of_all, placed_below, placed_pairs_from, placed_pairs, IsPairAt}

@@ -1,8 +1,13 @@
--- The placed pairs of a system are its dependency pairs.
-use Rattle.std.specs.Prelude.{◌≡◌, ℕ, Some, length, slice_get}
+-- The placed pairs of a system are its dependency pairs. The steps of dependency pairs and of the subterm criterion conclude.
+use Rattle.std.specs.Prelude.{◌≡◌, ℕ, List, Some, Ok, length, slice_get}
 use Rattle.trs_defs.specs.System.{System, IsSystem}
+use Rattle.trs_defs.specs.Claims.{IsTerminating}
 use Rattle.trs_defs.specs.Path.{PlacedRule}
 use Rattle.pair_theory.specs.DependencyPair.{DependencyPair, dependency_pairs}
+use Rattle.pair_theory.specs.PairProblem.{IsFiniteProblem}
+use Rattle.rewrite_core.specs.Check.{HasOneAnswer}
+use Rattle.dp_core.specs.Numbered.{ArePairsOf, numbers_from}
+use Rattle.dp_core.specs.SubtermConditions.{subterm_conditions}
 use Rattle.dp_core.specs.PlacedPairs.{placed_pairs, IsPairAt}
 
 -- as many are placed as there are pairs
@@ -15,3 +20,21 @@ PairsArePlacedInOrder =
     (system : System) (n : ℕ) (s : PlacedRule) (pair : DependencyPair) → IsSystem system
     → slice_get (placed_pairs system.rules) n ≡ Some s → slice_get (dependency_pairs system.rules) n ≡ Some pair
     → IsPairAt system.rules s pair
+
+-- the problem of the pairs of these numbers is finite
+abbrev pub IsFiniteOf : System → List ℕ → Type 0
+IsFiniteOf system numbers = (pairs : List DependencyPair) → ArePairsOf (dependency_pairs system.rules) numbers pairs → IsFiniteProblem system pairs
+
+-- a system terminates if the problem of all its pairs is finite
+abbrev pub AllPairsConclude : Type 0
+AllPairsConclude = (system : System) → IsSystem system → IsFiniteOf system (numbers_from 0 (dependency_pairs system.rules)) → IsTerminating system
+
+-- a problem is finite if that of the pairs that remain is
+abbrev pub SubtermStepsConclude : Type 0
+SubtermStepsConclude =
+    (system : System) (projection : List (ℕ × ℕ)) (numbers left : List ℕ) → IsSystem system
+    → subterm_conditions (dependency_pairs system.rules) projection numbers (Ok left) → IsFiniteOf system left → IsFiniteOf system numbers
+
+-- the conditions have at most one answer
+abbrev pub SubtermStepsAnswerOnce : Type 0
+SubtermStepsAnswerOnce = (all : List DependencyPair) (projection : List (ℕ × ℕ)) (numbers : List ℕ) → HasOneAnswer (subterm_conditions all projection numbers)

@@ -2,15 +2,21 @@
 //! (Arts and Giesl, Termination of term rewriting using dependency pairs, 2000.)
 #![tactic(auto)]
 
+mod contained;
 mod defined;
 mod laws;
 mod listing;
+mod numbers;
 mod pairs;
 mod prepared;
+mod projections;
 mod sides;
+mod subterm;
 
-pub use laws::placed_pairs_are_the_pairs;
+pub use laws::{all_pairs_conclude, placed_pairs_are_the_pairs, subterm_steps_conclude};
 pub use listing::dependency_pairs;
+pub use numbers::pair_numbers;
 pub use pairs::DpPair;
 pub use prepared::Pairs;
 pub use sides::{Side, Sides, pair_left, pair_right};
+pub use subterm::subterm_check;

@@ -21,7 +21,14 @@ pub fn dependency_pairs(alloc: Global, trs: &Trs) -> Result<Vec<DpPair>, OutOfMe
     let mut pairs = Vec::new(alloc);
     for (k, rule) in trs.rules().iter().enumerate() {
         let mut place = Vec::new(alloc);
-        add_below(alloc, &by_root, k as u32, &rule.right, &mut place, &mut pairs)?;
+        add_below(
+            alloc,
+            &by_root,
+            k as u32,
+            &rule.right,
+            &mut place,
+            &mut pairs,
+        )?;
     }
     Ok(pairs)
 }

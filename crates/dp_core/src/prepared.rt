@@ -10,8 +10,8 @@ use std::marker::Model;
 use trs_core::{OutOfMemory, Trs};
 
 /// The dependency pairs of a system with their sides at hand, by their numbers from 0. They are
-/// made once for all steps of a proof, and lend the sides from the system. Contracts see the list of
-/// the pairs.
+/// made once for all steps of a proof, and lend the sides from the system. Contracts see the list
+/// of the pairs.
 #[derive(Drop)]
 pub struct Pairs<'a> {
     sides: Vec<Sides<'a>>,

@@ -1,10 +1,9 @@
-use Rattle.std.proofs.Common.{◌≡◌, ◌++◌, arith, refl, ap, sym, ◌∙◌, append_assoc}
+use Rattle.std.proofs.Common.{◌≡◌, arith, refl}
 use Rattle.trs_defs.specs.Tree.{app}
-use Rattle.trs_defs.specs.System.{is_defined}
 use Rattle.trs_core.specs.View.{tree, forest}
 use Rattle.rewrite_core.proofs.RedexWalk.{smaller_argument}
 use Rattle.term_pool.proofs.RedexWalk.{popped, narrow_app, narrow_next, positive_below}
-use Rattle.dp_core.proofs.PairWalk.{root_first, next_below, no_argument_left, one_part_more, nothing_left, from_root}
+use Rattle.dp_core.proofs.PairWalk.{next_below, one_part_more, from_root}
 use Rattle.dp_core.proofs.listing.+add_below.Goals as goal
 
 pub loop-i-init : goal.loop-i-init

@@ -1,8 +1,7 @@
-use Rattle.std.proofs.Common.{◌≡◌, [], length, Some, slice_get, ap, sym, arith, ◌∙◌}
+use Rattle.std.proofs.Common.{◌≡◌, Some, slice_get, ap, sym, ◌∙◌}
 use Rattle.trs_defs.specs.System.{RewriteRule}
 use Rattle.trs_core.specs.View.{tree}
-use Rattle.dp_core.specs.PlacedPairs.{placed_pairs, placed_pairs_from}
-use Rattle.dp_core.proofs.PairWalk.{next_rule, no_rule_left, one_part_more, nothing_left, narrow_right, rule_read}
+use Rattle.dp_core.proofs.PairWalk.{narrow_right, rule_read}
 use Rattle.dp_core.proofs.listing.dependency_pairs.Goals.{After-new-place}
 use Rattle.dp_core.proofs.listing.dependency_pairs.Goals as goal
 

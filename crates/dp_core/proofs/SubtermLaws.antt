@@ -1,0 +1,42 @@
+-- The conditions of a step by the subterm criterion, one after another.
+use Rattle.std.specs.Prelude.{◌≡◌, ℕ, ◌+◌, Bool, true, List, [], ◌∷◌, length, zip, Ok, Err}
+use Rattle.std.proofs.Common.{suc, refl, sym, ap, subst, ◌∙◌}
+use Rattle.trs_defs.specs.Member.{In}
+use Rattle.pair_theory.specs.DependencyPair.{DependencyPair}
+use Rattle.rewrite_core.specs.declared.refusals.StepRefused.TheVariants.{NoEntry, NothingRemoved}
+use Rattle.rewrite_core.specs.declared.refusals.CheckFault.{CheckFault}
+use Rattle.rewrite_core.specs.Check.{Check, Refuses, ForbidsAny, returned, stops, goes_on, holds, lacks, collect}
+use Rattle.rewrite_core.proofs.Answering.{refused_first, refused_later}
+use Rattle.dp_core.specs.Numbered.{ArePairsOf, TakesPairs, taken}
+use Rattle.dp_core.proofs.NumberedPairs.{as_many, zip_length}
+use Rattle.dp_core.specs.LeastMissing.{IsMissing}
+use Rattle.dp_core.specs.SubtermConditions.{roots_of, projects_within, unflagged, subterm_conditions}
+
+pub collected_length : {A B : Type 0} (check : ℕ → A → Check B) (n : ℕ) (xs : List A) (ys : List B) → collect check n xs (Ok ys) → length ys ≡ length xs
+collected_length check n [] _ returned = refl
+collected_length check n (x ∷ xs) _ (goes_on y _ h (goes_on zs _ k returned)) = ap suc (collected_length check (n + 1) xs zs k)
+
+module _ (all : List DependencyPair) (projection : List (ℕ × ℕ)) (numbers : List ℕ) (pairs : List DependencyPair) (are : ArePairsOf all numbers pairs) where
+  abbrev pub Entries : Check (Unit {0})
+  Entries = ForbidsAny (IsMissing projection (roots_of pairs)) NoEntry
+
+  abbrev pub Removals : Check (List Bool)
+  Removals = collect (λ _ item. projects_within projection item.0 item.1) 0 (zip numbers pairs)
+
+  pub entries_refuse : (fault : CheckFault) → Refuses Entries fault → Refuses (subterm_conditions all projection numbers) fault
+  entries_refuse fault h = refused_later (TakesPairs all numbers) _ fault pairs (taken pairs are) (refused_first Entries _ fault h)
+
+  pub removals_refuse : (fault : CheckFault) → Entries (Ok tt) → Refuses Removals fault → Refuses (subterm_conditions all projection numbers) fault
+  removals_refuse fault entries h =
+      refused_later (TakesPairs all numbers) _ fault pairs (taken pairs are) (refused_later Entries _ fault tt entries (refused_first Removals _ fault h))
+
+  pub none_removed : (flags : List Bool) → Entries (Ok tt) → Removals (Ok flags) → (In true flags → ⊥) → subterm_conditions all projection numbers (Err NothingRemoved)
+  none_removed flags entries removals none = goes_on pairs _ (taken pairs are) (goes_on tt _ entries (goes_on flags _ removals (stops _ (lacks none))))
+
+  pub some_remain : (flags : List Bool) (left : List ℕ) → Entries (Ok tt) → Removals (Ok flags) → In true flags → left ≡ unflagged numbers flags → subterm_conditions all projection numbers (Ok left)
+  some_remain flags left entries removals some is =
+      subst (λ l. subterm_conditions all projection numbers (Ok l)) (sym is)
+      (goes_on pairs _ (taken pairs are) (goes_on tt _ entries (goes_on flags _ removals (goes_on tt _ (holds some) returned))))
+
+  pub flags_counted : (flags : List Bool) → Removals (Ok flags) → length flags ≡ length numbers
+  flags_counted flags h = collected_length (λ _ item. projects_within projection item.0 item.1) 0 (zip numbers pairs) flags h ∙ zip_length numbers pairs (as_many all numbers pairs are)
