@@ -4,7 +4,7 @@ use nonjoin::apart;
 use std::alloc::Global;
 use std::test::Fail;
 use trs_caps::tcap;
-use trs_core::{OutOfMemory, Rule, Term, Trs};
+use trs_core::{Rule, Term, Trs};
 
 /// `f(x, x) -> c` and `g(c) -> c`, with the symbols `c`, `g` and `f`.
 fn system(alloc: Global) -> Result<Trs, Fail> {
@@ -22,18 +22,15 @@ fn system(alloc: Global) -> Result<Trs, Fail> {
     Ok(Trs::new(Vec::from_array(alloc, [0, 1, 2])?, rules)?)
 }
 
-/// `f(x, g(x))`.
-fn pair(alloc: Global, v: u32) -> Result<Term, OutOfMemory> {
-    term(alloc, 2, [Term::Var(v), term(alloc, 1, [Term::Var(v)])?])
-}
-
 #[test]
 fn a_fixed_variable_keeps_its_symbol(rt: HostRuntime) -> Result<(), Fail> {
     let alloc = rt.alloc();
     let trs = system(alloc)?;
-    let fixed = tcap(alloc, &trs, &pair(alloc, 5)?, true)?;
-    assert!(rt; fixed.same(&pair(alloc, 5)?));
-    let free = tcap(alloc, &trs, &pair(alloc, 5)?, false)?;
+    let below = term(alloc, 1, [Term::Var(5)])?;
+    let whole = term(alloc, 2, [Term::Var(5), below])?;
+    let fixed = tcap(alloc, &trs, &whole, true)?;
+    assert!(rt; fixed.same(&whole));
+    let free = tcap(alloc, &trs, &whole, false)?;
     assert!(rt; free.same(&Term::Var(0)));
     Ok(())
 }
@@ -61,6 +58,8 @@ fn one_variable_is_one_constant(rt: HostRuntime) -> Result<(), Fail> {
     )?;
     assert!(rt; apart(alloc, &trs, &Term::Var(0), &Term::Var(1))?);
     assert!(rt; !apart(alloc, &trs, &Term::Var(1), &Term::Var(1))?);
-    assert!(rt; !apart(alloc, &trs, &Term::Var(0), &pair(alloc, 0)?)?);
+    let below = term(alloc, 1, [Term::Var(0)])?;
+    let whole = term(alloc, 2, [Term::Var(0), below])?;
+    assert!(rt; !apart(alloc, &trs, &Term::Var(0), &whole)?);
     Ok(())
 }

@@ -5,19 +5,28 @@ use std::test::Fail;
 use trs_core::{Args, OutOfMemory, Subst, Term};
 use trs_unify::unify;
 
-/// Term number `n` over `c`, the unary `g`, the binary `f` and the variables 0 and 1.
-fn small(alloc: Global, n: u32) -> Result<Term, OutOfMemory> {
-    if n < 2 {
-        return Ok(Term::Var(n));
+/// So many terms over `c`, the unary `g`, the binary `f` and the variables 0 and 1, each made of
+/// earlier ones.
+fn small_terms(alloc: Global, count: u32) -> Result<Vec<Term>, Fail> {
+    let mut terms = Vec::from_array(alloc, [Term::Var(0), Term::Var(1), term(alloc, 0, [])?])?;
+    for n in 0..count {
+        let rest = (n / 2) as usize;
+        let next = if n % 2 == 0 {
+            let first = earlier(alloc, &terms, rest / 6)?;
+            let second = earlier(alloc, &terms, rest % 6)?;
+            term(alloc, 2, [first, second])?
+        } else {
+            term(alloc, 1, [earlier(alloc, &terms, rest)?])?
+        };
+        terms.push(next)?;
     }
-    if n == 2 {
-        return term(alloc, 0, []);
-    }
-    let rest = (n - 3) / 2;
-    if n % 2 == 0 {
-        term(alloc, 1, [small(alloc, rest)?])
-    } else {
-        term(alloc, 2, [small(alloc, rest / 6)?, small(alloc, rest % 6)?])
+    Ok(terms)
+}
+
+fn earlier(alloc: Global, terms: &[Term], n: usize) -> Result<Term, Fail> {
+    match terms.get(n) {
+        Some(t) => Ok(t.copy(alloc)?),
+        None => Ok(Term::Var(0)),
     }
 }
 
@@ -75,18 +84,17 @@ fn with_binding(
 #[test]
 fn small_terms_are_unified(rt: HostRuntime) -> Result<(), Fail> {
     let alloc = rt.alloc();
-    for i in 0..60 {
-        for j in 0..60 {
-            let a = small(alloc, i)?;
-            let b = small(alloc, j)?;
-            let found = unify(alloc, &a, &b)?;
-            let want = solvable(alloc, small(alloc, i)?, small(alloc, j)?)?;
-            assert_eq!(rt; found.is_some(), want, "{i} and {j}");
+    let terms = small_terms(alloc, 57)?;
+    for a in &terms {
+        for b in &terms {
+            let found = unify(alloc, a, b)?;
+            let want = solvable(alloc, a.copy(alloc)?, b.copy(alloc)?)?;
+            assert_eq!(rt; found.is_some(), want);
             if let Some(unifier) = found {
                 assert!(rt;
                     unifier
-                        .instance(alloc, &a)?
-                        .same(&unifier.instance(alloc, &b)?)
+                        .instance(alloc, a)?
+                        .same(&unifier.instance(alloc, b)?)
                 );
             }
         }
@@ -96,19 +104,20 @@ fn small_terms_are_unified(rt: HostRuntime) -> Result<(), Fail> {
 
 /// The sides of the exploding system's overlap: `h(x1,..,xn,x1,..,xn)` and
 /// `h(y1,..,yn,p(y0,y0),..,p(y(n-1),y(n-1)))`, with 1,000 more on the y.
-fn exploding(alloc: Global, n: u32) -> Result<(Term, Term), OutOfMemory> {
+fn exploding(alloc: Global, n: u8) -> Result<(Term, Term), OutOfMemory> {
     let mut left = Vec::new(alloc);
     let mut right = Vec::new(alloc);
     for _ in 0..2 {
         for i in 0..n {
-            left.push(Term::Var(i))?;
+            left.push(Term::Var(u32::from(i)))?;
         }
     }
     for i in 0..n {
-        right.push(Term::Var(1001 + i))?;
+        right.push(Term::Var(1001 + u32::from(i)))?;
     }
     for i in 0..n {
-        right.push(term(alloc, 1, [Term::Var(1000 + i), Term::Var(1000 + i)])?)?;
+        let y = 1000 + u32::from(i);
+        right.push(term(alloc, 1, [Term::Var(y), Term::Var(y)])?)?;
     }
     let first = Term::App(0, Args { items: left });
     Ok((first, Term::App(0, Args { items: right })))
@@ -166,5 +175,24 @@ fn large_terms_differ_at_the_end(rt: HostRuntime) -> Result<(), Fail> {
     let a = list(alloc, 32_000, 1)?;
     assert!(rt; unify(alloc, &a, &list(alloc, 32_000, 1)?)?.is_some());
     assert!(rt; unify(alloc, &a, &list(alloc, 32_000, 2)?)?.is_none());
+    Ok(())
+}
+
+/// `f(x, g(y))` and `f(g(z), x)` become `f(g(y), g(y))`; a variable is in no term of itself.
+#[test]
+fn variables_meet_symbols(rt: HostRuntime) -> Result<(), Fail> {
+    let alloc = rt.alloc();
+    let a = term(alloc, 2, [Term::Var(0), term(alloc, 1, [Term::Var(1)])?])?;
+    let b = term(alloc, 2, [term(alloc, 1, [Term::Var(2)])?, Term::Var(0)])?;
+    let unifier = unify(alloc, &a, &b)?.ok_or("no unifier")?;
+    let whole = unifier.instance(alloc, &a)?;
+    let Term::App(_, args) = &whole else {
+        return Err(Fail::from("a variable"));
+    };
+    assert!(rt; args.items.len() == 2 && args.items[0].same(&args.items[1]));
+    let twice = term(alloc, 2, [Term::Var(0), Term::Var(0)])?;
+    let next = term(alloc, 2, [Term::Var(1), term(alloc, 1, [Term::Var(1)])?])?;
+    assert!(rt; unify(alloc, &twice, &next)?.is_none());
+    assert!(rt; unify(alloc, &Term::Var(1), &term(alloc, 1, [Term::Var(1)])?)?.is_none());
     Ok(())
 }
