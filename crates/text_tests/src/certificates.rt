@@ -43,7 +43,7 @@ const REFUSED: [(&[u8], CertFault); 13] = [
         CertFault::Text(65),
     ),
     (
-        b"NO\n(certificate 1 nonterminating)\n(step 0 (fork (f x) (path) (path) apart))",
+        b"NO\n(certificate 1 nonterminating)\n(step 0 (fork (f x) (path) (path) equal))",
         CertFault::Text(68),
     ),
 ];
