@@ -11,3 +11,4 @@ pub mod Missing
 pub mod Flags
 pub mod Conclusions
 pub mod AllNumbers
+pub mod Places

@@ -4,3 +4,4 @@ pub mod PairCodes
 pub mod Numbered
 pub mod SubtermConditions
 pub mod LeastMissing
+pub mod Places

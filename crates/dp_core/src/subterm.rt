@@ -11,7 +11,7 @@ ghost use Rattle.dp_core.specs.SubtermConditions.{roots_of, place_for, projects_
 ghost use Rattle.dp_core.specs.SubtermConditions.{subterm_conditions};
 
 use crate::contained::contains;
-use crate::projections::{place_for, projected};
+use crate::projections::{Places, projected};
 use crate::{DpPair, Pairs, Side, Sides};
 use rewrite_core::{CheckFault, StepRefused};
 use std::alloc::Global;
@@ -48,6 +48,21 @@ impl<'a> Pairs<'a> {
         ensures answers { AnswersBy (λ left. left.items)
             (subterm_conditions self.now projection.now problem.now) result }
     {
+        let places = Places::new(alloc, projection)?;
+        self.subterm_step(alloc, problem, &places)
+    }
+
+    /// The pairs that remain, where the places of the projection are at hand.
+    fn subterm_step(
+        &self,
+        alloc: Global,
+        problem: &[u32],
+        projection: &Places,
+    ) -> Result<Vec<u32>, CheckFault>
+        requires numbers { All (λ n. n < length self.now) problem.now }
+        ensures answers { AnswersBy (λ left. left.items)
+            (subterm_conditions self.now projection.now problem.now) result }
+    {
         entries_check(self.sides(), problem, projection)?;
         let removed = removed_pairs(alloc, self.sides(), problem, projection)?;
         if !is_any(&removed) {
@@ -58,11 +73,7 @@ impl<'a> Pairs<'a> {
 }
 
 /// Sees that the root of each side of the problem's pairs has an entry.
-fn entries_check(
-    pairs: &[Sides],
-    problem: &[u32],
-    projection: &[(u32, u8)],
-) -> Result<(), CheckFault>
+fn entries_check(pairs: &[Sides], problem: &[u32], projection: &Places) -> Result<(), CheckFault>
     requires { All (λ n. n < length pairs.now) problem.now }
     ensures { (taken : List DependencyPair) → ArePairsOf pairs.now problem.now taken → Answers
         (ForbidsAny (IsMissing projection.now (roots_of taken)) NoEntry) result }
@@ -74,7 +85,7 @@ fn entries_check(
 }
 
 /// The least root of a side of the problem's pairs that has no entry.
-fn least_missing(pairs: &[Sides], problem: &[u32], projection: &[(u32, u8)]) -> Option<u32>
+fn least_missing(pairs: &[Sides], problem: &[u32], projection: &Places) -> Option<u32>
     requires { All (λ n. n < length pairs.now) problem.now }
     ensures { (taken : List DependencyPair) → ArePairsOf pairs.now problem.now taken →
         IsLeastMissing projection.now (roots_of taken) result }
@@ -88,7 +99,7 @@ fn least_missing(pairs: &[Sides], problem: &[u32], projection: &[(u32, u8)]) -> 
     least
 }
 
-fn with_side(least: Option<u32>, projection: &[(u32, u8)], side: &Side) -> Option<u32>
+fn with_side(least: Option<u32>, projection: &Places, side: &Side) -> Option<u32>
     ensures { (symbols : List ℕ) → IsLeastMissing projection.now symbols least →
         IsLeastMissing projection.now (side.now.symbol ∷ symbols) result }
 {
@@ -96,11 +107,11 @@ fn with_side(least: Option<u32>, projection: &[(u32, u8)], side: &Side) -> Optio
 }
 
 /// The least symbol with no entry, with one symbol more.
-fn with_root(least: Option<u32>, projection: &[(u32, u8)], f: u32) -> Option<u32>
+fn with_root(least: Option<u32>, projection: &Places, f: u32) -> Option<u32>
     ensures { (symbols : List ℕ) → IsLeastMissing projection.now symbols least →
         IsLeastMissing projection.now (f ∷ symbols) result }
 {
-    match place_for(projection, f) {
+    match projection.place_for(f) {
         Some(_) => least,
         None => Some(lower(least, f)),
     }
@@ -128,7 +139,7 @@ fn removed_pairs(
     alloc: Global,
     pairs: &[Sides],
     problem: &[u32],
-    projection: &[(u32, u8)],
+    projection: &Places,
 ) -> Result<Vec<bool>, CheckFault>
     requires { All (λ n. n < length pairs.now) problem.now }
     ensures { (taken : List DependencyPair) → ArePairsOf pairs.now problem.now taken →
@@ -166,7 +177,7 @@ fn add(flags: &mut Vec<bool>, flag: bool) -> Result<(), OutOfMemory>
 
 /// Whether the right side of pair number `n` projects to a proper subterm of what its left side
 /// projects to. It must be a subterm.
-fn is_removed(projection: &[(u32, u8)], n: u32, sides: &Sides) -> Result<bool, CheckFault>
+fn is_removed(projection: &Places, n: u32, sides: &Sides) -> Result<bool, CheckFault>
     ensures { AnswersBy (λ removed. removed) (projects_within projection.now n sides.now) result }
 {
     let Some(left) = projected(projection, &sides.from) else {

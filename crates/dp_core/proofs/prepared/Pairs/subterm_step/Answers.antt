@@ -5,8 +5,8 @@ use Rattle.std.specs.Prelude.{List}
 use Rattle.dp_core.specs.Numbered.{ArePairsOf}
 use Rattle.dp_core.proofs.NumberedPairs.{pairs_of_numbers, within_all}
 use Rattle.dp_core.proofs.SubtermLaws.{entries_refuse, removals_refuse, none_removed, some_remain, flags_counted}
-use Rattle.dp_core.proofs.prepared.Pairs.subterm_check.Goals as goal
-use Rattle.dp_core.proofs.prepared.Pairs.subterm_check.Goals.{After-entries_check}
+use Rattle.dp_core.proofs.prepared.Pairs.subterm_step.Goals as goal
+use Rattle.dp_core.proofs.prepared.Pairs.subterm_step.Goals.{After-entries_check}
 
 the_pairs : (c : After-entries_check) → (pairs : List DependencyPair) × ArePairsOf c.args.self.now c.args.problem.now pairs
 the_pairs c = pairs_of_numbers c.args.self.now c.args.problem.now (within_all (length c.args.self.now) c.args.problem.now c.requires.numbers)
