@@ -43,7 +43,7 @@ impl<'a> Places<'a> {
         Ok(Places { entries, by_symbol })
     }
 
-    /// The place for a symbol. It costs as much as the number of entries has digits.
+    /// The place for a symbol, in logarithmic time.
     pub(crate) fn place_for(&self, f: u32) -> Option<u8>
         ensures { result ≡ place_for self.now f }
     {
