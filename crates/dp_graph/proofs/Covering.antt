@@ -1,20 +1,19 @@
 -- Edges cover chain steps. The cap of a term is not computed: where a contradiction is wanted, it is enough that it can't be wanting.
-use Rattle.std.proofs.Common.{◌≡◌, ◌≤◌, ◌<◌, ℕ, zero, suc, ◌+◌, Bool, true, false, List, [], ◌∷◌, length, Some, slice_get, IsTrue, IsFalse, refl, sym, subst, arith}
+use Rattle.std.proofs.Common.{◌≡◌, ◌≤◌, ℕ, zero, suc, ◌+◌, Bool, true, false, List, [], ◌∷◌, length, Some, IsTrue, IsFalse, refl, sym, subst, arith}
 use Rattle.std.proofs.lemmas.Option.{slice_get_within}
 use Rattle.trs_defs.specs.Tree.{Tree, Trees, var, app, nil, cons, count}
-use Rattle.trs_defs.specs.Substitution.{apply, apply_all}
+use Rattle.trs_defs.specs.Substitution.{apply_all}
 use Rattle.trs_defs.specs.WellFormed.{IsWellFormed}
 use Rattle.trs_defs.specs.System.{RewriteRule, System, IsSystem, Among}
 use Rattle.trs_defs.proofs.Members.{get_of_in}
 use Rattle.cap_theory.specs.Cap.{Cap, Caps, cap_variable, cap_open, cap_symbol, caps_nil, caps_cons}
 use Rattle.cap_theory.specs.Cap as plain
-use Rattle.trs_caps.specs.HoledTree.{HoledTree, HoledTrees, hole, own, symbol, none, more, Fits, EachFits, fits_hole, fits_own, fits_symbol, fits_none, fits_more}
+use Rattle.trs_caps.specs.HoledTree.{HoledTree, HoledTrees, hole, own, symbol, none, more, Fits, EachFits, fits_hole, fits_symbol, fits_none, fits_more}
 use Rattle.trs_caps.specs.HoledCap.{MeetsLeft, IsHoledCap, AreHoledCaps, fixed_variable, free_variable, symbol_kept, symbol_opened, no_holed, one_holed}
-use Rattle.pair_theory.specs.Marked.{Marked, marked, mark}
 use Rattle.pair_theory.specs.DependencyPair.{DependencyPair}
-use Rattle.pair_theory.specs.Chain.{ChainStep, link}
-use Rattle.pair_theory.specs.PairGraph.{CoversSteps, IsCapEstimate, PairNumbered}
-use Rattle.dp_graph.specs.Edge.{IsEdge, HoldsAtEdges, EdgesCoverChainSteps}
+use Rattle.pair_theory.specs.Chain.{link}
+use Rattle.pair_theory.specs.PairGraph.{CoversSteps, IsCapEstimate}
+use Rattle.dp_graph.specs.Edge.{IsEdge, EdgesCoverChainSteps}
 use Rattle.dp_graph.proofs.OneCap.{true_or_false}
 
 -- a cap as a term, each hole a variable
@@ -98,9 +97,11 @@ module _ (system : System) (valid : IsSystem system) (few : length system.aritie
 
   edge_of_caps : (p q : DependencyPair) (cs : HoledTrees) (σ : ℕ → Tree) → p.to.symbol ≡ q.from.symbol → AreHoledCaps system.rules false p.to.args cs
       → EachFits cs (apply_all σ q.from.args) → IsEdge system.rules p q
-  edge_of_caps p q cs σ same caps fits =
-      (symbol (p.to.symbol + 4096) cs, symbol_kept caps (meets_none p.to.symbol cs),
-      (σ, subst (λ z. Fits (symbol (p.to.symbol + 4096) cs) (app (z + 4096) (apply_all σ q.from.args))) same (fits_symbol fits)))
+  edge_of_caps p q cs σ same caps fits = (
+    symbol (p.to.symbol + 4096) cs,
+    symbol_kept caps (meets_none p.to.symbol cs),
+    (σ, subst (λ z. Fits (symbol (p.to.symbol + 4096) cs) (app (z + 4096) (apply_all σ q.from.args))) same (fits_symbol fits)),
+  )
 
 -- the test of two pairs that fails from the first to the second alone
 abbrev forward_fails : ℕ → ℕ → Bool

@@ -1,5 +1,5 @@
 -- The test of an edge by a cap that is at hand.
-use Rattle.std.proofs.Common.{◌≡◌, ◌↔◌, Bool, false, List, Result, Ok, Err, IfOk, IsTrue, sym, subst}
+use Rattle.std.proofs.Common.{◌≡◌, ◌↔◌, Bool, false, List, IsTrue, sym, subst}
 use Rattle.trs_defs.specs.Tree.{Tree}
 use Rattle.trs_defs.specs.System.{RewriteRule, System}
 use Rattle.trs_caps.specs.HoledTree.{HoledTree}

@@ -16,12 +16,7 @@ use trs_core::{OutOfMemory, Term, Trs};
 
 /// Whether an edge leads from a pair to a pair in the graph that is estimated by caps. It takes a
 /// table of rules and a cap: for many edges, take `right_cap` of each pair once, and `leads`.
-pub fn edge(
-    alloc: Global,
-    trs: &Trs,
-    from: &DpPair,
-    to: &DpPair,
-) -> Result<bool, OutOfMemory>
+pub fn edge(alloc: Global, trs: &Trs, from: &DpPair, to: &DpPair) -> Result<bool, OutOfMemory>
     requires from { IsPlacedPair trs.now.rules from.now }
     requires to { IsPlacedPair trs.now.rules to.now }
     ensures { IfOk result (λ yes. (p q : DependencyPair) → IsPairAt trs.now.rules from.now p
@@ -49,8 +44,8 @@ pub fn right_cap(
     cap(alloc, by_root, &right, false)
 }
 
-/// Whether an edge leads from a pair, whose right side has this cap, to a pair with this marked left
-/// side.
+/// Whether an edge leads from a pair whose marked right side has this cap, to a pair with this
+/// marked left side.
 pub fn leads(alloc: Global, end: &Cap, left: &Term) -> Result<bool, OutOfMemory>
     ensures { IfOk result (λ yes. (rules : List RewriteRule) (p q : DependencyPair)
         → IsHoledCap rules false (mark p.to) (holed end.now) → tree left.now ≡ mark q.from
