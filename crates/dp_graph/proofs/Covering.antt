@@ -13,7 +13,7 @@ use Rattle.trs_caps.specs.HoledCap.{MeetsLeft, IsHoledCap, AreHoledCaps, fixed_v
 use Rattle.pair_theory.specs.DependencyPair.{DependencyPair}
 use Rattle.pair_theory.specs.Chain.{link}
 use Rattle.pair_theory.specs.PairGraph.{CoversSteps, IsCapEstimate}
-use Rattle.dp_graph.specs.Edge.{IsEdge, EdgesCoverChainSteps}
+use Rattle.dp_graph.specs.Edge.{IsEdge, EdgesCoverChainSteps, EdgesAreByArguments}
 use Rattle.dp_graph.proofs.OneCap.{true_or_false}
 
 -- a cap as a term, each hole a variable
@@ -81,6 +81,9 @@ module _ (rules : List RewriteRule) where
 same_root : {f g : ℕ} {cs : HoledTrees} {ts : Trees} → Fits (symbol f cs) (app g ts) → f ≡ g
 same_root (fits_symbol each) = refl
 
+parts_fit : {f g : ℕ} {cs : HoledTrees} {ts : Trees} → Fits (symbol f cs) (app g ts) → EachFits cs ts
+parts_fit (fits_symbol each) = each
+
 module _ (system : System) (valid : IsSystem system) (few : length system.arities ≤ 4095) where
   unmarked : (f : ℕ) (cs : HoledTrees) (l : Tree) → IsWellFormed system.arities l → ((v : ℕ) → l ≡ var v → ⊥) → MeetsLeft (symbol (f + 4096) cs) l → ⊥
   unmarked f cs (var v) well no_variable meets = no_variable v refl
@@ -102,6 +105,17 @@ module _ (system : System) (valid : IsSystem system) (few : length system.aritie
     symbol_kept caps (meets_none p.to.symbol cs),
     (σ, subst (λ z. Fits (symbol (p.to.symbol + 4096) cs) (app (z + 4096) (apply_all σ q.from.args))) same (fits_symbol fits)),
   )
+
+  by_arguments : (f g : ℕ) (ts us : Trees) (c : HoledTree) (σ : ℕ → Tree) → IsHoledCap system.rules false (app (f + 4096) ts) c → Fits c (app (g + 4096) (apply_all σ us))
+      → (f ≡ g) × (cs : HoledTrees) × AreHoledCaps system.rules false ts cs × (τ : ℕ → Tree) × EachFits cs (apply_all τ us)
+  by_arguments f g ts us c σ (symbol_kept {cs = cs} caps free) fits = (omega (arith, same_root fits), cs, caps, σ, parts_fit fits)
+  by_arguments f g ts us c σ (symbol_opened {cs = cs} {l = l} {r = r} caps rule meets) fits = absurd (meets_none f cs l r rule meets)
+
+pub edges_by_arguments : EdgesAreByArguments
+edges_by_arguments system p q valid few = (
+  λ (c, holes, (σ, fits)). by_arguments system valid few p.to.symbol q.from.symbol p.to.args q.from.args c σ holes fits,
+  λ (same, cs, caps, σ, fits). edge_of_caps system valid few p q cs σ same caps fits,
+)
 
 -- the test of two pairs that fails from the first to the second alone
 abbrev forward_fails : ℕ → ℕ → Bool

@@ -1,4 +1,4 @@
-ghost use Rattle.dp_graph.specs.Edge.{EdgesCoverChainSteps};
+ghost use Rattle.dp_graph.specs.Edge.{EdgesAreByArguments, EdgesCoverChainSteps};
 
 use pair_theory::groups_suffice;
 
@@ -9,3 +9,9 @@ pub fn edges_cover_chain_steps()
 {
     groups_suffice();
 }
+
+/// A law, with nothing to run: in a system with at most 4,095 symbols the cap of a marked right side
+/// keeps its root, and so an edge is one by the arguments.
+pub fn edges_are_by_arguments()
+    ensures { EdgesAreByArguments }
+{}

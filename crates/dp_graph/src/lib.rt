@@ -7,4 +7,4 @@ mod edges;
 mod laws;
 
 pub use edges::{edge, leads, right_cap};
-pub use laws::edges_cover_chain_steps;
+pub use laws::{edges_are_by_arguments, edges_cover_chain_steps};
