@@ -1,0 +1,3 @@
+pub mod OneCap
+pub mod EdgeTest
+pub mod Covering
