@@ -4,7 +4,7 @@ use Rattle.std.proofs.lemmas.List.{drop_all}
 use Rattle.std.proofs.lemmas.Bool.{eqb-true, eq-eqb}
 use native.Mathlib.Decide.{ℕ_discrete, dec_lt}
 use Rattle.trs_defs.specs.Member.{In, in_first, in_rest}
-use Rattle.trs_defs.specs.Tree.{Tree, Trees, var, app, nil, cons}
+use Rattle.trs_defs.specs.Tree.{Tree, Trees, var, app, cons}
 use Rattle.trs_defs.specs.System.{RewriteRule, has_root}
 use Rattle.trs_defs.proofs.Members.{in_left, in_right, in_either, in_of_get, get_of_in}
 use Rattle.trs_defs.proofs.ArgumentLists.{cell}
@@ -14,7 +14,6 @@ use Rattle.pair_theory.specs.Subterm.{Sub, itself, under, Subs, in_head, in_tail
 use Rattle.dp_core.proofs.Containment.{none_in, sub_under}
 use Rattle.dp_core.proofs.Containment as below
 use Rattle.term_pool.specs.Roots.{IsNextRooted}
-use Rattle.std.proofs.lemmas.Option.{slice_get_within}
 use Rattle.pair_theory.specs.DependencyPair.{DependencyPair}
 use Rattle.usable_theory.specs.UsableRules.{IsUsable, in_pair, in_rule}
 use Rattle.trs_defs.specs.System.{Among, IsDefined, System, IsSystem}
@@ -65,9 +64,10 @@ module _ (flags : List Bool) (found : List ℕ) (k : ℕ) (unmarked : slice_get 
   one_more = record {
     once = let a = unset_set flags k unmarked in let b = length_set flags k in let d = length_more found k in let e = m.once in omega (arith, a, b, d, e);
     marked = λ j e. elim (set_other flags k j e) [ inl s ↦ subst (λ x. In x (found ++ k ∷ [])) (sym s) (in_right found in_first) | inr s ↦ in_left (k ∷ []) (m.marked j s) ];
-    found_marked = λ j i. elim (in_either found (k ∷ []) i)
-        [ inl h ↦ set_keeps flags k j (m.found_marked j h)
-        | inr h ↦ subst (λ x. slice_get (slice_set flags k true) x ≡ Some true) (sym (in_single h)) (set_same flags k unmarked) ];
+    found_marked = λ j i. elim (in_either found (k ∷ []) i) [
+      | inl h ↦ set_keeps flags k j (m.found_marked j h)
+      | inr h ↦ subst (λ x. slice_get (slice_set flags k true) x ≡ Some true) (sym (in_single h)) (set_same flags k unmarked)
+    ];
   }
 
 pub last_found : (found : List ℕ) (k : ℕ) → In k (found ++ k ∷ [])
@@ -135,17 +135,19 @@ module _ (rules : List RewriteRule) where
   pub start_all : (f n most : ℕ) (t : Tree) (ts : Trees) (found : List ℕ) → t ≡ app f ts → IsNextRooted rules f 0 n → most ≡ length rules → (n < most → In n found)
       → (k : ℕ) → IsCalled rules t k → In k found ⊎ IsCalledInAny rules ts k
   start_all f n most t ts found is next same new k (g, us, p, first) =
-      elim (itself_or_under (subst (λ s. Sub (app g us) s) is p))
-      [ inl e ↦ (let first_f : IsFirst rules f k = subst (λ x. IsFirst rules x k) e first in
-                 let is_n : k ≡ n = next_once rules f 0 k n first_f.first next in
-                 inl (subst (λ x. In x found) (sym is_n) (new (let h = first_f.there in omega (arith, h, is_n, same)))))
-      | inr q ↦ inr (g, us, q, first) ]
+      elim (itself_or_under (subst (λ s. Sub (app g us) s) is p)) [
+        | inl e ↦ (let first_f : IsFirst rules f k = subst (λ x. IsFirst rules x k) e first in
+            let is_n : k ≡ n = next_once rules f 0 k n first_f.first next in
+            inl (subst (λ x. In x found) (sym is_n) (new (let h = first_f.there in omega (arith, h, is_n, same)))))
+        | inr q ↦ inr (g, us, q, first)
+      ]
 
   pub start_only : (f n most : ℕ) (t : Tree) (ts : Trees) (old found : List ℕ) → t ≡ app f ts → IsNextRooted rules f 0 n → most ≡ length rules
       → ((j : ℕ) → In j found → In j old ⊎ ((j ≡ n) × (n < most))) → (k : ℕ) → In k found → In k old ⊎ IsCalled rules t k
-  start_only f n most t ts old found is next same only k i = elim (only k i)
-      [ inl h ↦ inl h
-      | inr h ↦ inr (f, ts, subst (λ s. Sub (app f ts) s) (sym is) itself, subst (λ x. IsFirst rules f x) (sym h.0) (record { there = (let l = h.1 in omega (arith, l, same)); first = next })) ]
+  start_only f n most t ts old found is next same only k i = elim (only k i) [
+    | inl h ↦ inl h
+    | inr h ↦ inr (f, ts, subst (λ s. Sub (app f ts) s) (sym is) itself, subst (λ x. IsFirst rules f x) (sym h.0) (record { there = (let l = h.1 in omega (arith, l, same)); first = next }))
+  ]
 
   pub next_all : (items : List Term) (i k : ℕ) (part : Term) (found new : List ℕ) → i < length items → part ≡ get_or items i part
       → (In k found → In k new) → (IsCalled rules (tree part) k → In k new)
@@ -195,9 +197,10 @@ module _ (rules : List RewriteRule) where
       → In k found ⊎ IsLedByPairs rules (drop i taken) k → In k new ⊎ IsLedByPairs rules (drop (i + 1) taken) k
   pairs_all taken i k p found new e keeps calls (inl a) = inl (keeps a)
   pairs_all taken i k p found new e keeps calls (inr (q, m, call)) =
-      elim (in_or (subst (λ ps. In q ps) (drop_get taken i p e) m))
-      [ inl s ↦ inl (calls (subst (λ (x : DependencyPair). IsCalledInAny rules x.to.args k) s call))
-      | inr s ↦ inr (q, (let same : suc i ≡ i + 1 = omega arith in subst (λ n. In q (drop n taken)) same s), call) ]
+      elim (in_or (subst (λ ps. In q ps) (drop_get taken i p e) m)) [
+        | inl s ↦ inl (calls (subst (λ (x : DependencyPair). IsCalledInAny rules x.to.args k) s call))
+        | inr s ↦ inr (q, (let same : suc i ≡ i + 1 = omega arith in subst (λ n. In q (drop n taken)) same s), call)
+      ]
 
   pub led_by_pair : (taken : List DependencyPair) (i k : ℕ) (p : DependencyPair) → slice_get taken i ≡ Some p → IsCalledInAny rules p.to.args k → IsLedByPairs rules taken k
   led_by_pair taken i k p e call = (p, in_of_get taken i p e, call)
@@ -223,12 +226,13 @@ pub all_done : (rules : List RewriteRule) (found new : List ℕ) (i x : ℕ) →
     → (m k j : ℕ) → m < i + 1 → slice_get new m ≡ Some k → IsLed rules k j → In j new
 all_done rules found new i x h e grown led done m k j l at is =
     let old : slice_get found m ≡ Some k = get_grown found new m k grown (omega (arith, l, h)) at in
-    elim (dec_lt m i)
-    [ yes s ↦ in_grown found new j grown (done m k j s old is)
-    | no s ↦ (let same : m ≡ i = omega (arith, s, l) in
-              let at_i : slice_get found i ≡ Some k = subst (λ n. slice_get found n ≡ Some k) same old in
-              let x_is : k ≡ x = some_same k x (sym at_i ∙ read found i x x h e refl) in
-              led j (subst (λ n. IsLed rules n j) x_is is)) ]
+    elim (dec_lt m i) [
+      | yes s ↦ in_grown found new j grown (done m k j s old is)
+      | no s ↦ (let same : m ≡ i = omega (arith, s, l) in
+          let at_i : slice_get found i ≡ Some k = subst (λ n. slice_get found n ≡ Some k) same old in
+          let x_is : k ≡ x = some_same k x (sym at_i ∙ read found i x x h e refl) in
+          led j (subst (λ n. IsLed rules n j) x_is is))
+    ]
 
 -- whether a term has a root
 rooted_shape : (g : ℕ) (t : Tree) → has_root g t ≡ true → (ls : Trees) × (t ≡ app g ls)
@@ -287,17 +291,19 @@ module _ (rules : List RewriteRule) (g k : ℕ) (r : RewriteRule) (e : slice_get
       go : (q : RewriteRule) → slice_get rules m ≡ Some q → (b : Bool) → has_root g q.left ≡ b
           → (((i : ℕ) (q : RewriteRule) → m ≤ i → i < k → slice_get rules i ≡ Some q → has_root g q.left ≡ false) → Before rules g k) → Before rules g k
       go q d true is rec = inr (m, q, omega (arith, l), d, is, (let same : suc m ≡ m + 1 = omega arith in subst (λ x. IsNextRooted rules g x k) same (next_from (suc m) l none)))
-      go q d false is rec = rec (λ i p a b c. elim (ℕ_discrete m i)
-          [ yes s ↦ (let same : q ≡ p = some_same q p (sym d ∙ subst (λ x. slice_get rules x ≡ Some p) (sym s) c) in subst (λ (x : RewriteRule). has_root g x.left ≡ false) same is)
-          | no ne ↦ none i p (omega (arith, a, ne)) b c ])
+      go q d false is rec = rec (λ i p a b c. elim (ℕ_discrete m i) [
+        | yes s ↦ (let same : q ≡ p = some_same q p (sym d ∙ subst (λ x. slice_get rules x ≡ Some p) (sym s) c) in subst (λ (x : RewriteRule). has_root g x.left ≡ false) same is)
+        | no ne ↦ none i p (omega (arith, a, ne)) b c
+      ])
 
 module _ (rules : List RewriteRule) (found : List ℕ) (closed : (k j : ℕ) → In k found → IsLed rules k j → In j found) where
   each_rooted : (g : ℕ) → ((n : ℕ) → IsFirst rules g n → In n found) → (bound k : ℕ) (r : RewriteRule) → k < bound → slice_get rules k ≡ Some r → has_root g r.left ≡ true → In k found
   unfolding Before
   each_rooted g base zero k r l e h = absurd (omega (arith, l))
-  each_rooted g base (suc bound) k r l e h = elim (before rules g k r e h k (omega arith) (λ i q a b c. absurd (omega (arith, a, b))))
-      [ inl first ↦ base k first
-      | inr (i, q, below_k, d, is, n) ↦ closed i k (each_rooted g base bound i q (omega (arith, l, below_k)) d is) (following q g d is n (within rules k r e)) ]
+  each_rooted g base (suc bound) k r l e h = elim (before rules g k r e h k (omega arith) (λ i q a b c. absurd (omega (arith, a, b)))) [
+    | inl first ↦ base k first
+    | inr (i, q, below_k, d, is, n) ↦ closed i k (each_rooted g base bound i q (omega (arith, l, below_k)) d is) (following q g d is n (within rules k r e))
+  ]
 
   module _ (pairs : List DependencyPair) (start : (j : ℕ) → IsLedByPairs rules pairs j → In j found) where
     has_itself : (g : ℕ) (ls : Trees) → has_root g (app g ls) ≡ true
@@ -340,9 +346,11 @@ pub whole : (rules : List RewriteRule) (pairs : List DependencyPair) (flags : Li
     → ((k j : ℕ) → In k found → IsLed rules k j → In j found)
     → (((k : ℕ) → In k started → IsUsableRule rules pairs k) → (k : ℕ) → In k found → IsUsableRule rules pairs k) → AreUsableRules rules pairs numbers
 whole rules pairs flags started found numbers m e kept start begun closed only = subst (λ ns. AreUsableRules rules pairs ns) (sym e) (record {
-  exact = λ k. ((λ i. let s = is_set 0 flags k i in let same : s.0 ≡ k = (let d = s.1 in omega (arith, d)) in
-          only (λ j b. elim (begun j b) [ inl none ↦ elim none [ ] | inr led ↦ pair_usable rules pairs j led ]) k (m.marked k (subst (λ x. slice_get flags x ≡ Some true) same s.2))),
-      (λ u. set_listed 0 flags k k (omega arith) (m.found_marked k (all_usable_found rules found closed pairs (λ j led. kept j (start j led)) k u))));
+  exact = λ k. (
+    (λ i. let s = is_set 0 flags k i in let same : s.0 ≡ k = (let d = s.1 in omega (arith, d)) in
+        only (λ j b. elim (begun j b) [ inl none ↦ elim none [ ] | inr led ↦ pair_usable rules pairs j led ]) k (m.marked k (subst (λ x. slice_get flags x ≡ Some true) same s.2))),
+    (λ u. set_listed 0 flags k k (omega arith) (m.found_marked k (all_usable_found rules found closed pairs (λ j led. kept j (start j led)) k u))),
+  );
   ascending = set_ascends 0 flags;
 })
 
@@ -367,9 +375,10 @@ module _ (rules : List RewriteRule) (k : ℕ) (r : RewriteRule) (at : slice_get 
       subst (λ x. In x new) j_is (last (omega (arith, l, j_is, same)))
 
   pub found_led : (old found new : List ℕ) → ((j : ℕ) → In j found → In j old ⊎ IsCalled rules r.right j) → ((j : ℕ) → In j new → In j found ⊎ ((j ≡ n) × (n < most))) → (j : ℕ) → In j new → In j old ⊎ IsLed rules k j
-  found_led old found new a b j i = elim (b j i)
-      [ inl h ↦ elim (a j h) [ inl o ↦ inl o | inr c ↦ inr (called r at c) ]
-      | inr h ↦ inr (following r f at rooted (subst (λ x. IsNextRooted rules f (k + 1) x) (sym h.0) nx) (omega (arith, h.0, h.1, same))) ]
+  found_led old found new a b j i = elim (b j i) [
+    | inl h ↦ elim (a j h) [ inl o ↦ inl o | inr c ↦ inr (called r at c) ]
+    | inr h ↦ inr (following r f at rooted (subst (λ x. IsNextRooted rules f (k + 1) x) (sym h.0) nx) (omega (arith, h.0, h.1, same)))
+  ]
 
 pub left_root : (s : System) (ok : IsSystem s) (k : ℕ) (r : RewriteRule) → slice_get s.rules k ≡ Some r → (f : ℕ) × (has_root f r.left ≡ true)
 left_root s ok k r e = go r.left refl

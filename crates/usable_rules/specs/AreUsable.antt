@@ -1,5 +1,5 @@
 -- Usable rules by their numbers. (Arts and Giesl, 2000; Hirokawa and Middeldorp, 2007.)
-use Rattle.std.specs.Prelude.{◌≡◌, ◌<◌, ◌↔◌, ℕ, List, [], ◌∷◌, Some, slice_get}
+use Rattle.std.specs.Prelude.{◌<◌, ◌↔◌, ℕ, List, [], ◌∷◌}
 use Rattle.trs_defs.specs.Member.{In}
 use Rattle.trs_defs.specs.Tree.{Tree, Trees, app}
 use Rattle.trs_defs.specs.System.{RewriteRule, Numbered}

@@ -1,4 +1,4 @@
-use Rattle.std.proofs.Common.{◌≡◌, ◌+◌, arith, refl, sym, ap, inl, inr, ◌∙◌, drop, length, subst}
+use Rattle.std.proofs.Common.{arith, inl, inr, ◌∙◌, length}
 use Rattle.usable_rules.proofs.Found.{found_there, longer, all_done, led_usable, in_grown, item_in, done_all}
 use Rattle.usable_rules.proofs.closing.close.Goals as goal
 
@@ -16,15 +16,16 @@ loop-i-preserved c =
     let k = c.index.result.now in
     let e = c.in_ok-visit.ensures in
     let l = c.loop-i.invariant in
-
     record {
       marked = e.marked;
       rules = e.rules ∙ l.rules;
       kept = λ j h. in_grown found new j e.grown (l.kept j h);
       within = (let h = longer found new e.grown in omega (arith, h, c.loop-i-test.true, c.len.ensures));
       done = all_done rules found new i k (omega (arith, c.loop-i-test.true, c.len.ensures)) c.index.ensures e.grown e.all l.done;
-      only = λ pairs start j h. elim (e.only j h) [ inl a ↦ l.only pairs start j a
-          | inr led ↦ led_usable rules pairs k j (l.only pairs start k (item_in found i k (omega (arith, c.loop-i-test.true, c.len.ensures)) c.index.ensures)) led ];
+      only = λ pairs start j h. elim (e.only j h) [
+        | inl a ↦ l.only pairs start j a
+        | inr led ↦ led_usable rules pairs k j (l.only pairs start k (item_in found i k (omega (arith, c.loop-i-test.true, c.len.ensures)) c.index.ensures)) led
+      ];
     }
 
 pub returns-clause-all : goal.returns-clause-all

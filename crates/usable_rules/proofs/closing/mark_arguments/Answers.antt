@@ -1,7 +1,6 @@
-use Rattle.std.proofs.Common.{◌≡◌, ◌⊎◌, ◌+◌, arith, refl, sym, ap, inl, inr, ◌∙◌, drop, length, subst}
+use Rattle.std.proofs.Common.{◌≡◌, ◌⊎◌, refl, sym, ◌∙◌, subst}
 use Rattle.trs_defs.specs.Member.{In}
-use Rattle.trs_defs.specs.Tree.{Trees}
-use Rattle.trs_core.specs.View.{tree, forest}
+use Rattle.trs_core.specs.View.{forest}
 use Rattle.usable_rules.specs.Worklist.{IsCalledInAny}
 use Rattle.usable_rules.proofs.Found.{next_all, next_only, called_in_any, none_left, in_grown}
 use Rattle.usable_rules.proofs.closing.mark_arguments.Goals as goal

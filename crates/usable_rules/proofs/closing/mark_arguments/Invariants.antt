@@ -1,6 +1,6 @@
-use Rattle.std.proofs.Common.{ℕ, ◌≡◌, ◌+◌, ◌<◌, ◌⊎◌, take, drop, length}
+use Rattle.std.proofs.Common.{ℕ, ◌≡◌, ◌⊎◌, drop, length}
 use Rattle.trs_defs.specs.Member.{In}
-use Rattle.trs_core.specs.View.{tree, forest}
+use Rattle.trs_core.specs.View.{forest}
 use Rattle.usable_rules.specs.Worklist.{AreMarked, IsCalledInAny}
 use Rattle.usable_rules.proofs.closing.mark_arguments.Given as goal
 

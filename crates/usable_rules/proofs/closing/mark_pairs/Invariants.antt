@@ -1,4 +1,4 @@
-use Rattle.std.proofs.Common.{ℕ, ◌≡◌, ◌<◌, ◌⊎◌, List, drop, length}
+use Rattle.std.proofs.Common.{ℕ, ◌≡◌, ◌⊎◌, List, drop, length}
 use Rattle.trs_defs.specs.Member.{In}
 use Rattle.pair_theory.specs.DependencyPair.{DependencyPair}
 use Rattle.dp_core.specs.Numbered.{ArePairsOf}

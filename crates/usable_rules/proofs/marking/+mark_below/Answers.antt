@@ -1,5 +1,5 @@
-use Rattle.std.proofs.Common.{◌≡◌, ◌+◌, arith, refl, sym, inl, inr, ◌∙◌, drop, length}
-use Rattle.trs_defs.specs.Tree.{Tree, app}
+use Rattle.std.proofs.Common.{◌≡◌, arith, refl, ◌∙◌, length}
+use Rattle.trs_defs.specs.Tree.{app}
 use Rattle.trs_core.specs.View.{tree, forest}
 use Rattle.rewrite_core.proofs.RedexWalk.{smaller_argument}
 use Rattle.usable_rules.proofs.Found.{start_all, start_only, next_all, next_only, called_in_any, called_under, none_left, none_in_variable, in_grown, grown_twice, no_more}

@@ -1,8 +1,8 @@
-use Rattle.std.proofs.Common.{ℕ, ◌≡◌, ◌+◌, ◌<◌, ◌⊎◌, take, drop, length}
+use Rattle.std.proofs.Common.{ℕ, ◌≡◌, ◌⊎◌, drop, length}
 use Rattle.trs_defs.specs.Member.{In}
 use Rattle.trs_defs.specs.Size.{size_of}
 use Rattle.trs_core.specs.View.{tree, forest}
-use Rattle.usable_rules.specs.Worklist.{AreMarked, IsFirst, IsCalled, IsCalledInAny, Extends}
+use Rattle.usable_rules.specs.Worklist.{AreMarked, IsCalled, IsCalledInAny, Extends}
 use Rattle.usable_rules.proofs.marking.+mark_below.Given as goal
 
 abbrev pub decreases-mark_below : goal.decreases-mark_below

@@ -1,6 +1,5 @@
-use Rattle.std.proofs.Common.{ℕ, ◌≡◌, ◌<◌, ◌⊎◌, false, refl, subst, arith, sym, inl, inr}
+use Rattle.std.proofs.Common.{false, subst, arith, inl, inr}
 use Rattle.trs_defs.specs.Member.{In}
-use Rattle.usable_rules.specs.Worklist.{AreMarked}
 use Rattle.usable_rules.proofs.Found.{one_more, last_found, found_or_last, read}
 use Rattle.usable_rules.proofs.marking.mark.Goals as goal
 use Rattle.usable_rules.proofs.marking.mark.Goals.{else-k-len-via-then-k-len+else-not-index, else-k-len-via-else-k-len}
