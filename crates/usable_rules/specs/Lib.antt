@@ -1,0 +1,2 @@
+pub mod AreUsable
+pub mod Worklist
