@@ -47,7 +47,7 @@ pub fn fork_check(
     right: &[PathStep],
     test: ForkTest,
 ) -> Result<(), CheckFault>
-    requires { IsTrue (within_limits (tree start.now)) }
+    requires { test ≡ ForkTest.Apart → IsTrue (within_limits (tree start.now)) }
     ensures answers { Answers (fork_conditions trs.now.rules (tree start.now)
         left.now right.now test) result }
     ensures forked { OnOk result
@@ -69,8 +69,8 @@ fn test_ends(
     right: &Term,
     test: ForkTest,
 ) -> Result<(), CheckFault>
-    requires left { IsTrue (within_limits (tree left.now)) }
-    requires right { IsTrue (within_limits (tree right.now)) }
+    requires left { test ≡ ForkTest.Apart → IsTrue (within_limits (tree left.now)) }
+    requires right { test ≡ ForkTest.Apart → IsTrue (within_limits (tree right.now)) }
     ensures { Answers
         (end_conditions trs.now.rules test (tree left.now) (tree right.now)) result }
 {
