@@ -1,14 +1,13 @@
 -- A node that is looked up or added.
-use Rattle.std.proofs.Common.{◌≡◌, All, ℕ, ◌+◌, ◌<◌, ◌≤◌, ◌^◌, Bool, true, false, ◌⊎◌, inl, inr, List, [], ◌∷◌, ◌++◌, map, length, Some, is_some, position, refl, ap, sym, ◌∙◌, arith, slice_get, get_or, length-append, cond, if◌then◌else◌, zero, suc}
+use Rattle.std.proofs.Common.{◌≡◌, All, ℕ, ◌+◌, ◌<◌, ◌≤◌, ◌^◌, Bool, true, false, ◌⊎◌, inl, inr, List, [], ◌∷◌, ◌++◌, map, length, Some, is_some, not, refl, ap, sym, ◌∙◌, arith, slice_get, get_or, length-append, cond, if◌then◌else◌, zero, suc}
 use Rattle.std.proofs.lemmas.Option.{same_Some, slice_get_within, slice_get-get_or}
 use Rattle.std.proofs.lemmas.List.Elements.{All-head, All-tail, All-weaker}
-use Rattle.std.proofs.lemmas.List.Quantifiers.{position-Some}
-use Rattle.std.proofs.lemmas.List.{length-map, get_or-map}
+use Rattle.std.specs.List.{position_or_len}
 use Rattle.smallvec.specs.SmallVec.{SmallVec}
 use Rattle.std.specs.Map.{keys_of, lookup}
 use Rattle.indexmap.specs.IndexMap.{insert_entry}
 use Rattle.trs_defs.specs.Tree.{Tree, trees, items, items_trees}
-use Rattle.trs_defs.specs.Size.{size_of}
+use Rattle.trs_defs.specs.Size.{size_of, depth_of}
 use Rattle.term_pool.specs.declared.nodes.Node.{Node}
 use Rattle.term_pool.specs.declared.nodes.Node.TheVariants.{Var, App}
 use Rattle.term_pool.specs.declared.nodes.Measure.{Measure}
@@ -43,13 +42,39 @@ module _ {X : Type 0} (eq : Node → Node → Bool) (n : Node) where
       go false b k zero at rest = let same : x ≡ e = same_Some x e at in absurd (clash (eq n e.0) (rw same at b) is)
       go false b k (suc i) at rest = rest k i at
 
-  pub found_at : (es : List (Node × X)) (i : ℕ) (d : Node × X) → position (eq n) (keys_of es) ≡ Some i → (e : Node × X) × (slice_get es i ≡ Some e) × (eq n e.0 ≡ true)
-  found_at es i d is =
-      let found = position-Some (eq n) (keys_of es) i d.0 is in
-      let within : i < length es = omega (arith, found.0, length-map es (λ e. e.0)) in
-      let there : slice_get es i ≡ Some (get_or es i d) = slice_get-get_or es i d within in
-      let key : get_or (keys_of es) i d.0 ≡ (get_or es i d).0 = get_or-map (λ e. e.0) es i d d.0 within in
-      (get_or es i d, there, ap (eq n) (sym key) ∙ found.1)
+  -- the index of a look-up
+  last_index : (es : List (Node × X)) → is_some (lookup (eq n) es) ≡ false → position_or_len (eq n) (keys_of es) ≡ length es
+  last_index [] h = refl
+  last_index (e ∷ es) h = go (eq n e.0) h (last_index es)
+    where
+      go : (b : Bool) → is_some (cond b (Some e.1) (lookup (eq n) es)) ≡ false → (is_some (lookup (eq n) es) ≡ false → position_or_len (eq n) (keys_of es) ≡ length es)
+          → cond (not b) (1 + position_or_len (eq n) (keys_of es)) 0 ≡ suc (length es)
+      go true k rest = absurd cc
+      go false k rest = let tail = rest k in omega (arith, tail)
+
+  found_index : (es : List (Node × X)) → is_some (lookup (eq n) es) ≡ true → (e : Node × X) × (slice_get es (position_or_len (eq n) (keys_of es)) ≡ Some e) × (eq n e.0 ≡ true)
+  found_index [] h = absurd cc
+  found_index (e ∷ es) h = go (eq n e.0) refl h (found_index es)
+    where
+      go : (b : Bool) → eq n e.0 ≡ b → is_some (cond b (Some e.1) (lookup (eq n) es)) ≡ true
+          → (is_some (lookup (eq n) es) ≡ true → (f : Node × X) × (slice_get es (position_or_len (eq n) (keys_of es)) ≡ Some f) × (eq n f.0 ≡ true))
+          → (f : Node × X) × (slice_get (e ∷ es) (cond (not b) (1 + position_or_len (eq n) (keys_of es)) 0) ≡ Some f) × (eq n f.0 ≡ true)
+      go true is k rest = (e, refl, is)
+      go false is k rest =
+          let tail = rest k in
+          let next : 1 + position_or_len (eq n) (keys_of es) ≡ suc (position_or_len (eq n) (keys_of es)) = omega arith in
+          (tail.0, ap (slice_get (e ∷ es)) next ∙ tail.1, tail.2)
+
+  -- a key that is there keeps its value, if that is written again
+  unchanged : (es : List (Node × X)) (x : X) → ((i : ℕ) (e : Node × X) → slice_get es i ≡ Some e → eq n e.0 ≡ true → e.1 ≡ x)
+      → is_some (lookup (eq n) es) ≡ true → insert_entry eq es n x ≡ es
+  unchanged [] x same h = absurd cc
+  unchanged (e ∷ es) x same h = go (eq n e.0) refl h (unchanged es x (λ i f at is. same (suc i) f at is))
+    where
+      go : (b : Bool) → eq n e.0 ≡ b → is_some (cond b (Some e.1) (lookup (eq n) es)) ≡ true → (is_some (lookup (eq n) es) ≡ true → insert_entry eq es n x ≡ es)
+          → (if b then (e.0, x) ∷ es else e ∷ insert_entry eq es n x) ≡ e ∷ es
+      go true is k rest = ap (λ y. (e.0, y) ∷ es) (sym (same zero e refl is))
+      go false is k rest = ap (λ fs. e ∷ fs) (rest k)
 
 -- arguments that stand for the same terms are the same ids
 same_ids : (ts : List Tree) (distinct : AreDistinct ts) (xs ys : List ℕ) → All (λ i. i < length ts) xs → All (λ i. i < length ts) ys
@@ -80,6 +105,16 @@ pub record IsNodeEquality (eq : Node → Node → Bool) : Type 0 where
   pub variables : (v : ℕ) → eq (Var v) (Var v) ≡ true
   pub symbols : (f : ℕ) (a b : SmallVec ℕ) → a.items ≡ b.items → eq (App f a) (App f b) ≡ true
 
+-- the entries with the node at an index
+pub record IsEntered (view : List Tree) (n : Node) (index : ℕ) (es : List (Node × Measure)) : Type 0 where
+  pub pool : IsPool es
+  pub stands : StandsFor (pool_trees es) index (node_tree view n)
+  pub extends : Extends view (pool_trees es)
+  pub few : length (pool_trees es) ≤ length view + 1
+
+abbrev measure_of : ℕ → ℕ → Measure
+measure_of s d = record { size = s; depth = d }
+
 -- nodes with equal terms are equal
 module _ (eq : Node → Node → Bool) (laws : IsNodeEquality eq) where
   same_node : (ts : List Tree) (m n : Node) → AreDistinct ts → StandsBelow (length ts) m → StandsBelow (length ts) n → node_tree ts m ≡ node_tree ts n → eq m n ≡ true
@@ -93,12 +128,6 @@ module _ (eq : Node → Node → Bool) (laws : IsNodeEquality eq) where
       rw root (laws.symbols g a b ids)
 
   module _ (es : List (Node × Measure)) (view : List Tree) (pool : IsPool es) (is : pool_trees es ≡ view) (n : Node) where
-    pub found_stands : (i : ℕ) (m : Measure) → position (eq n) (keys_of es) ≡ Some i → StandsFor view i (node_tree view n)
-    found_stands i m e =
-        let f = found_at eq n es i (n, m) e in
-        let same : node_tree view n ≡ node_tree view f.0.0 = laws.sound view n f.0.0 f.2 in
-        rw same (reads es view pool is i f.0 (sym f.1))
-
     module _ (m : Measure) (below : StandsBelow (length view) n) (measure : IsMeasure (node_tree view n) m) (small : size_of (node_tree view n) ≤ 65536)
         (room : length view + 1 < 2 ^ 32) (none : is_some (lookup (eq n) es) ≡ false) where
       distinct_view : AreDistinct view
@@ -114,16 +143,16 @@ module _ (eq : Node → Node → Bool) (laws : IsNodeEquality eq) where
           let old : StandsBelow (length view) e.0 = stands_below_more i (length view) e.0 (omega (arith, within, same_length es view pool is)) (pool.below i e there) in
           none_found eq n es i e none there (same_node view n e.0 distinct_view below old same)
 
-      pub more_trees : pool_trees (es ++ (n, m) ∷ []) ≡ view ++ node_tree view n ∷ []
+      more_trees : pool_trees (es ++ (n, m) ∷ []) ≡ view ++ node_tree view n ∷ []
       more_trees = rw (← is) (pool_more es (n, m))
 
-      pub extends : Extends view (pool_trees (es ++ (n, m) ∷ []))
+      extends : Extends view (pool_trees (es ++ (n, m) ∷ []))
       extends = rw more_trees (record { longer = omega (arith, length-append view (node_tree view n ∷ [])); kept = λ i t h. old_item view (node_tree view n) t i h })
 
-      pub few_more : length (pool_trees (es ++ (n, m) ∷ [])) ≤ length view + 1
+      few_more : length (pool_trees (es ++ (n, m) ∷ [])) ≤ length view + 1
       few_more = rw more_trees (omega (arith, length-append view (node_tree view n ∷ [])))
 
-      pub new_stands : StandsFor (pool_trees (es ++ (n, m) ∷ [])) (length view) (node_tree view n)
+      new_stands : StandsFor (pool_trees (es ++ (n, m) ∷ [])) (length view) (node_tree view n)
       new_stands = rw more_trees (last_item view (node_tree view n))
 
       last_below : StandsBelow (length es) n
@@ -168,7 +197,7 @@ module _ (eq : Node → Node → Bool) (laws : IsNodeEquality eq) where
         | inr h ↦ rw h.1 small
       ]
 
-      pub added : IsPool (es ++ (n, m) ∷ [])
+      added : IsPool (es ++ (n, m) ∷ [])
       added = record {
         below = more_below;
         measured = more_measured;
@@ -176,3 +205,39 @@ module _ (eq : Node → Node → Bool) (laws : IsNodeEquality eq) where
         small = record { size = more_small };
         few = omega (arith, room, same_length es view pool is, length-append es ((n, m) ∷ []));
       }
+
+      new_entry : IsEntered view n (position_or_len (eq n) (keys_of es)) (insert_entry eq es n m)
+      new_entry =
+          let index : position_or_len (eq n) (keys_of es) ≡ length view = last_index eq n es none ∙ same_length es view pool is in
+          rw (goes_last eq n es m none, index) (record { pool = added; stands = new_stands; extends = extends; few = few_more })
+
+    module _ (m : Measure) (measure : IsMeasure (node_tree view n) m) where
+      same_measures : (a b : Measure) → a.size ≡ b.size → a.depth ≡ b.depth → a ≡ b
+      same_measures a b e f = let same : measure_of a.size a.depth ≡ measure_of b.size b.depth = rw (e, f) refl in same
+
+      old_measure : (i : ℕ) (e : Node × Measure) → slice_get es i ≡ Some e → eq n e.0 ≡ true → e.1 ≡ m
+      old_measure i e at same =
+          let read : StandsFor view i (node_tree view e.0) = reads es view pool is i e (sym at) in
+          let old : IsMeasure (node_tree view e.0) e.1 = pool.measured i e (node_tree view e.0) at (rw is read) in
+          let tree : node_tree view n ≡ node_tree view e.0 = laws.sound view n e.0 same in
+          same_measures e.1 m (old.size ∙ sym (measure.size ∙ ap size_of tree)) (old.depth ∙ sym (measure.depth ∙ ap depth_of tree))
+
+      old_entry : is_some (lookup (eq n) es) ≡ true → IsEntered view n (position_or_len (eq n) (keys_of es)) (insert_entry eq es n m)
+      old_entry there =
+          let found = found_index eq n es there in
+          let read : StandsFor view (position_or_len (eq n) (keys_of es)) (node_tree view found.0.0) = reads es view pool is _ found.0 (sym found.1) in
+          let tree : node_tree view n ≡ node_tree view found.0.0 = laws.sound view n found.0.0 found.2 in
+          rw (unchanged eq n es m old_measure there) (record {
+            pool = pool;
+            stands = rw (is, tree) read;
+            extends = rw is (record { longer = omega arith; kept = λ i t h. h });
+            few = rw is (omega arith);
+          })
+
+      pub entered : StandsBelow (length view) n → size_of (node_tree view n) ≤ 65536 → length view + 1 < 2 ^ 32
+          → IsEntered view n (position_or_len (eq n) (keys_of es)) (insert_entry eq es n m)
+      entered below small room = go (is_some (lookup (eq n) es)) refl
+        where
+          go : (b : Bool) → is_some (lookup (eq n) es) ≡ b → IsEntered view n (position_or_len (eq n) (keys_of es)) (insert_entry eq es n m)
+          go true there = old_entry there
+          go false none = new_entry m below measure small room none

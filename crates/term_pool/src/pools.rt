@@ -107,13 +107,9 @@ impl Pool {
         ensures kept { Extends self.old self.new }
         ensures few { length self.new ≤ length self.old + 1 }
     {
-        if let Some(index) = self.entries.get_index_of(&node) {
-            return Ok(index as u32);
-        }
-        let id = self.len();
         let measure = self.measure_of(&node);
-        self.entries.insert(node, measure)?;
-        Ok(id)
+        let (index, _) = self.entries.insert_full(node, measure)?;
+        Ok(index as u32)
     }
 
     /// The size and the depth of a node's term.
