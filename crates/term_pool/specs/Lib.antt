@@ -17,3 +17,4 @@ pub mod Reach
 pub mod ListedIds
 pub mod Reached
 pub mod Reaching
+pub mod Hashed
