@@ -12,7 +12,7 @@ use Rattle.trs_defs.specs.Size.{size_of}
 use Rattle.trs_defs.proofs.Limits.{size_there}
 use Rattle.trs_defs.proofs.Positions.{IsReplacedInside, replaced_inside}
 use Rattle.trs_core.specs.declared.memory.OutOfMemory.{OutOfMemory}
-use Rattle.trs_defs.specs.Tree.{Tree, var, app, trees, items, items_trees}
+use Rattle.trs_defs.specs.Tree.{Tree, var, app, trees, items, trees_items, items_trees}
 use Rattle.trs_defs.specs.Position.{argument_at, with_argument, replaced_at, subterm_at}
 use Rattle.term_pool.specs.Pooled.{StandsFor, Extends, tree_at}
 use Rattle.term_pool.specs.Placing.{HasPut}
@@ -120,6 +120,16 @@ argument_set (var n) place a u e = absurd cc
 argument_set (app f ts) zero a u e = absurd cc
 argument_set (app f ts) (suc i) a u e = rw (items_trees (slice_set (items ts) i u)) (set_item (items ts) i a u e)
 
+set_same : (xs : List Tree) (i : ℕ) (a : Tree) → slice_get xs i ≡ Some a → slice_set xs i a ≡ xs
+set_same [] i a e = absurd cc
+set_same (x ∷ xs) zero a e = ap (λ y. y ∷ xs) (sym (same_Some x a e))
+set_same (x ∷ xs) (suc i) a e = ap (λ ys. x ∷ ys) (set_same xs i a e)
+
+argument_kept : (t : Tree) (place : ℕ) (a : Tree) → argument_at t place ≡ Some a → with_argument t place a ≡ t
+argument_kept (var n) place a e = refl
+argument_kept (app f ts) zero a e = refl
+argument_kept (app f ts) (suc i) a e = ap (λ us. app f us) (ap trees (set_same (items ts) i a e) ∙ trees_items ts)
+
 one_place : (t : Tree) (place : ℕ) (u : Tree) → argument_at t place ≡ Some u → subterm_at (place ∷ []) t ≡ Some u
 one_place t place u e = ap (option_and_then (subterm_at [])) e
 
@@ -164,6 +174,15 @@ module _ (pool : List Tree) (xs : List ℕ) (id by : ℕ) (some : 0 < length xs)
           → IfOk r (λ new. replaced_at xs (tree_at pool id) (tree_at pool by) ≡ Some (tree_at last new))
       is_put last (Ok new) s = h.put ∙ ap (λ t. Some t) (sym whole_put ∙ sym (stands_at last new _ s))
       is_put last (Err e) s = tt
+
+      -- where the subterm stays, the term stays
+      pub put_kept : part < length pool → changed ≡ part → replaced_at xs (tree_at pool id) (tree_at pool by) ≡ Some (tree_at next id)
+      put_kept there same =
+          let old : tree_at next id ≡ tree_at pool id = same_tree_at pool next extends id within in
+          let stays : tree_at next changed ≡ tree_at pool part = ap (tree_at next) same ∙ same_tree_at pool next extends part there in
+          let whole : with_argument (tree_at next id) (get_or xs 0 0) (tree_at next changed) ≡ tree_at next id =
+          rw (old, stays) (argument_kept (tree_at pool id) (get_or xs 0 0) (tree_at pool part) (sym is)) in
+          h.put ∙ ap (λ t. Some t) (sym whole_put ∙ whole)
 
 pub put_here : (pool : List Tree) (xs : List ℕ) (id by : ℕ) → length xs < 1 → replaced_at xs (tree_at pool id) (tree_at pool by) ≡ Some (tree_at pool by)
 put_here pool [] id by h = refl

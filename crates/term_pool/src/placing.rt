@@ -48,7 +48,7 @@ impl Pool {
     }
 
     /// The id of a term with another subterm at a position. Only the nodes on the way to it are
-    /// made.
+    /// made, and none where it is the subterm that stands there.
     pub(crate) fn put(
         &mut self,
         alloc: Global,
@@ -74,6 +74,9 @@ impl Pool {
                     unreachable!();
                 };
                 let changed = self.put(alloc, part, rest, by)?;
+                if changed == part {
+                    return Ok(id);
+                }
                 self.with_argument(alloc, id, *place, changed)
             }
         }
