@@ -1,4 +1,5 @@
 pub mod PairsOfLists
+pub mod CountedPeaks
 pub mod Leftward
 pub mod ParallelItems
 pub mod Passing

@@ -1,4 +1,5 @@
 pub mod Ends
+pub mod PeaksFor
 pub mod Joined
 pub mod LinearRules
 pub mod LeftOf

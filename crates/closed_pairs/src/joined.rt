@@ -1,8 +1,8 @@
 ghost use Rattle.rewrite_core.specs.Check.{Answers};
 ghost use Rattle.closed_pairs.specs.Joined.{joins, are_joined, newman_conditions};
 
+use crate::counting::peaks_for;
 use crate::ends::{ItemPath, meet};
-use crit_pairs::peaks_of;
 use rewrite_core::{CheckFault, Join, Peak, StepRefused};
 use std::alloc::Global;
 use trs_core::Trs;
@@ -12,7 +12,7 @@ use trs_core::Trs;
 pub fn newman_check(alloc: Global, trs: &Trs, joins: &[Join]) -> Result<(), CheckFault>
     ensures answers { Answers (newman_conditions trs.now joins.now) result }
 {
-    let peaks = peaks_of(alloc, trs)?;
+    let peaks = peaks_for(alloc, trs, joins.len())?;
     join_check(alloc, trs, &peaks, joins)
 }
 

@@ -3,6 +3,7 @@
 //! (Huet, Confluent reductions, 1980; Baader and Nipkow, Term Rewriting and All That, chapter 6.)
 #![tactic(auto)]
 
+mod counting;
 mod ends;
 mod joined;
 mod laws;

@@ -5,9 +5,9 @@ ghost use Rattle.closed_pairs.specs.ParallelClosed.{closes_in_parallel, are_para
 ghost use Rattle.closed_pairs.specs.ParallelClosed.{parallel_conditions_on, parallel_conditions};
 ghost use Rattle.closed_pairs.specs.LeftOf.{IsLeftOf};
 
+use crate::counting::peaks_for;
 use crate::ends::{ItemPath, end_of, run, same_ends};
 use crate::left_linear_check;
-use crit_pairs::peaks_of;
 use rewrite_core::{CheckFault, PathStep, Peak, StepRefused};
 use std::alloc::Global;
 use trs_core::Trs;
@@ -22,7 +22,7 @@ pub fn parallel_closed_check(
     ensures answers { Answers (parallel_conditions trs.now (paths_of steps.now)) result }
 {
     left_linear_check(trs)?;
-    let peaks = peaks_of(alloc, trs)?;
+    let peaks = peaks_for(alloc, trs, steps.len())?;
     peaks_are_closed(alloc, trs, &peaks, steps)
 }
 

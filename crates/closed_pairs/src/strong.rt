@@ -5,9 +5,9 @@ ghost use Rattle.closed_pairs.specs.StronglyClosed.{half_joins, joins_strongly};
 ghost use Rattle.closed_pairs.specs.StronglyClosed.{are_strongly_closed, strong_conditions_on};
 ghost use Rattle.closed_pairs.specs.StronglyClosed.{strong_conditions};
 
+use crate::counting::peaks_for;
 use crate::ends::{ItemPath, meet};
 use crate::linear_check;
-use crit_pairs::peaks_of;
 use rewrite_core::{CheckFault, PathStep, Peak, StepRefused, copy_path};
 use std::alloc::Global;
 use std::marker::Model;
@@ -56,7 +56,7 @@ pub fn strongly_closed_check(alloc: Global, trs: &Trs, fours: &[Four]) -> Result
     ensures answers { Answers (strong_conditions trs.now fours.now) result }
 {
     linear_check(trs)?;
-    let peaks = peaks_of(alloc, trs)?;
+    let peaks = peaks_for(alloc, trs, fours.len())?;
     peaks_are_joined_strongly(alloc, trs, &peaks, fours)
 }
 

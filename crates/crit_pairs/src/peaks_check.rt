@@ -1,18 +1,32 @@
-ghost use Rattle.std.specs.Prelude.{◌≡◌};
-ghost use Rattle.rewrite_core.specs.Check.{AnswersBy};
+ghost use Rattle.std.specs.Prelude.{◌≡◌, IfOk, IfErr};
+ghost use Rattle.rewrite_core.specs.Check.{Refuses};
 ghost use Rattle.crit_pairs.specs.PeaksCheck.{ListsCriticalPeaks, peaks_refusal};
+ghost use Rattle.crit_pairs.specs.FirstPeaks.{AreFirst};
 
-use crate::{Peak, PeakFault, critical_pairs};
+use crate::listing::list_peaks;
+use crate::{Peak, PeakFault};
 use rewrite_core::{CheckFault, StepRefused};
 use std::alloc::Global;
 use trs_core::Trs;
 
-/// The critical peaks, for a step that goes over them.
-pub fn peaks_of(alloc: Global, trs: &Trs) -> Result<Vec<Peak>, CheckFault>
-    ensures { AnswersBy (λ peaks. peaks.items) (ListsCriticalPeaks trs.now.rules) result }
+/// The first critical peaks of a system, and the number of all of them.
+#[derive(Drop)]
+pub struct FirstPeaks {
+    pub peaks: Vec<Peak>,
+    pub count: u64,
+}
+
+/// The critical peaks, for a step that has `most` items: all are counted, and so many at most are
+/// listed.
+pub fn first_peaks(alloc: Global, trs: &Trs, most: usize) -> Result<FirstPeaks, CheckFault>
+    ensures first { IfOk result (AreFirst trs.now.rules most) }
+    ensures refused { IfErr result (Refuses (ListsCriticalPeaks trs.now.rules)) }
 {
-    match critical_pairs(alloc, trs) {
-        Ok(peaks) => Ok(peaks),
+    match list_peaks(alloc, trs, most) {
+        Ok(found) => Ok(FirstPeaks {
+            peaks: found.list,
+            count: found.count,
+        }),
         Err(fault) => Err(peaks_refused(fault)),
     }
 }

@@ -1,10 +1,11 @@
-ghost use Rattle.rewrite_core.specs.Check.{Answers};
+ghost use Rattle.std.specs.Prelude.{length};
+ghost use Rattle.rewrite_core.specs.Check.{Answers, has_length};
 ghost use Rattle.rule_label.specs.Labelled.{joins_decreasing, are_decreasing, label_conditions_on};
 ghost use Rattle.rule_label.specs.Labelled.{label_conditions, labels_must_fit};
 
 use crate::fitting::{rank_of, ranks_fit};
 use closed_pairs::{linear_check, peak_is_joined};
-use crit_pairs::peaks_of;
+use crit_pairs::first_peaks;
 use rewrite_core::{CheckFault, Join, PathStep, Peak, StepRefused};
 use std::alloc::Global;
 use trs_core::Trs;
@@ -19,8 +20,13 @@ pub fn labelled_check(
     ensures answers { Answers (label_conditions trs.now ranks.now joins.now) result }
 {
     linear_check(trs)?;
-    let peaks = peaks_of(alloc, trs)?;
-    peaks_are_decreasing(alloc, trs, &peaks, ranks, joins)
+    let found = first_peaks(alloc, trs, joins.len())?;
+    let items = joins.len() as u64;
+    if items != found.count {
+        ranks_are_counted(trs, ranks)?;
+        return Err(CheckFault::Refused(StepRefused::Count(found.count, items)));
+    }
+    peaks_are_decreasing(alloc, trs, &found.peaks, ranks, joins)
 }
 
 /// Sees that the system is linear, that there is a rank for each rule and an item for each peak,
@@ -50,15 +56,23 @@ fn peaks_are_decreasing(
 ) -> Result<(), CheckFault>
     ensures { Answers (are_decreasing trs.now.rules peaks.now ranks.now joins.now) result }
 {
-    let rules = trs.rules();
-    if ranks.len() != rules.len() {
-        return Err(CheckFault::Refused(StepRefused::Count(rules.len() as u64, ranks.len() as u64)));
-    }
+    ranks_are_counted(trs, ranks)?;
     if joins.len() != peaks.len() {
         return Err(CheckFault::Refused(StepRefused::Count(peaks.len() as u64, joins.len() as u64)));
     }
     for (n, peak) in peaks.iter().enumerate() {
         peak_is_decreasing(alloc, trs, ranks, n as u64, peak, &joins[n])?;
+    }
+    Ok(())
+}
+
+/// Sees that there is a rank for each rule.
+fn ranks_are_counted(trs: &Trs, ranks: &[u64]) -> Result<(), CheckFault>
+    ensures { Answers (has_length (length trs.now.rules) ranks.now) result }
+{
+    let rules = trs.rules();
+    if ranks.len() != rules.len() {
+        return Err(CheckFault::Refused(StepRefused::Count(rules.len() as u64, ranks.len() as u64)));
     }
     Ok(())
 }

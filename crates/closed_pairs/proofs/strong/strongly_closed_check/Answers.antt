@@ -1,5 +1,7 @@
+use Rattle.std.proofs.Common.{refl}
 use Rattle.std.proofs.lemmas.Result.{err_from_is_err_and}
 use Rattle.rewrite_core.proofs.Answering.{refused_first, refused_later, then_answers}
+use Rattle.closed_pairs.proofs.CountedPeaks.{listed_for, refused_for}
 use Rattle.closed_pairs.proofs.strong.strongly_closed_check.Goals as goal
 
 pub returns-in_err-linear_check : goal.returns-in_err-linear_check
@@ -10,11 +12,11 @@ returns-in_err-linear_check c =
 pub returns-in_err-peaks : goal.returns-in_err-peaks
 returns-in_err-peaks c =
     let p = err_from_is_err_and c.from_residual-in_err-peaks.result c.from_residual-in_err-peaks.ensures.1 in
-    rw (p.1, p.2) (record { answers = refused_later _ _ _ tt c.in_ok-linear_check.ensures.answers (refused_first _ _ _ c.in_err-peaks.ensures) })
+    rw (p.1, p.2) (record { answers = refused_later _ _ _ tt c.in_ok-linear_check.ensures.answers (refused_for _ c.args.fours.now _ _ refl _ c.in_err-peaks.ensures) })
 
 pub returns : goal.returns
 returns c = record {
   answers =
       then_answers _ _ (λ u. u) tt c.peaks_are_joined_strongly.result c.in_ok-linear_check.ensures.answers
-      (then_answers _ _ (λ u. u) _ c.peaks_are_joined_strongly.result c.in_ok-peaks.ensures (rw c.deref.ensures.value at c.peaks_are_joined_strongly.ensures));
+      (then_answers _ _ (λ u. u) _ c.peaks_are_joined_strongly.result (listed_for _ _ _ c.in_ok-peaks.ensures) (rw c.deref.ensures.value at c.peaks_are_joined_strongly.ensures));
 }

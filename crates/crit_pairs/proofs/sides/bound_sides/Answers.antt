@@ -1,5 +1,5 @@
 use Rattle.crit_pairs.proofs.Renumbering.{none_distinct}
-use Rattle.crit_pairs.proofs.solved_sides.renumber.Goals as goal
+use Rattle.crit_pairs.proofs.sides.bound_sides.Goals as goal
 
 pub renumbered-requires : goal.renumbered-requires
 renumbered-requires c = rw c.new-names.ensures.items none_distinct
