@@ -14,7 +14,7 @@ use Rattle.trs_defs.proofs.WellFormedness.{subterm_there}
 use Rattle.pair_theory.specs.Marked.{Marked, plain}
 use Rattle.pair_theory.specs.DependencyPair.{DependencyPair, dependency_pairs}
 use Rattle.pair_theory.specs.PairProblem.{IsPair}
-use Rattle.dp_core.specs.LeastLacking.{IsMarkable}
+use Rattle.dp_core.specs.Markable.{IsMarkable}
 use Rattle.dp_core.specs.PlacedPairs.{placed_pairs, IsPairAt, IsPlacedPair}
 use Rattle.dp_core.specs.Laws.{AllPairsArePlaced, PairsArePlacedInOrder}
 

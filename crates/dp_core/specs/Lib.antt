@@ -7,4 +7,5 @@ pub mod Symbols
 pub mod PairConditions
 pub mod LeastMissing
 pub mod LeastLacking
+pub mod Markable
 pub mod Places

@@ -4,7 +4,7 @@ ghost use Rattle.trs_core.specs.View.{tree};
 ghost use Rattle.pair_theory.specs.DependencyPair.{DependencyPair};
 ghost use Rattle.rewrite_core.specs.Check.{Answers, AnswersBy, each, collect};
 ghost use Rattle.dp_core.specs.Numbered.{AreItemsOf, ArePairsOf};
-ghost use Rattle.dp_core.specs.LeastLacking.{IsMarkable};
+ghost use Rattle.dp_core.specs.Markable.{IsMarkable};
 ghost use Rattle.dp_core.specs.PairConditions.{comparing_by, is_weakly_above, rule_is_weak};
 ghost use Rattle.dp_core.specs.PairConditions.{pair_is_weak};
 

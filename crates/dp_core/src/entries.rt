@@ -8,7 +8,8 @@ ghost use Rattle.rewrite_core.specs.declared.refusals.StepRefused.TheVariants.{N
 ghost use Rattle.dp_core.specs.Numbered.{AreItemsOf, ArePairsOf};
 ghost use Rattle.dp_core.specs.SubtermConditions.{roots_of};
 ghost use Rattle.dp_core.specs.Symbols.{symbols_of, symbols_of_rules};
-ghost use Rattle.dp_core.specs.LeastLacking.{least_lacking, lacking_with, lower_of, IsMarkable};
+ghost use Rattle.dp_core.specs.LeastLacking.{least_lacking, lacking_with, lower_of};
+ghost use Rattle.dp_core.specs.Markable.{IsMarkable};
 
 use crate::sides::MARK;
 use crate::{Side, Sides};

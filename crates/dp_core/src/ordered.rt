@@ -19,7 +19,11 @@ use std::alloc::Global;
 use trs_core::Trs;
 
 /// The pairs of a problem that remain by a reduction pair, for one step alone: all rules are weak,
-/// and each pair is weak and stays or is strict. (Arts and Giesl, 2000.)
+/// and each pair is weak and stays or is strict. Refused are, in this order: the least symbol of the
+/// rules with no entry, then the least root of the pairs with no marked one (`NoEntry`); a rule, in
+/// order, that is too big to be compared (`TooBig`) or not weak (`RuleNotWeak`); a pair likewise
+/// (`TooBig`, of the number of rules plus its own, and `PairNotWeak`); a step where no pair is
+/// strict (`NothingRemoved`). (Arts and Giesl, 2000.)
 pub fn pair_check<O: ReductionPair>(
     alloc: Global,
     trs: &Trs,
@@ -38,8 +42,8 @@ pub fn pair_check<O: ReductionPair>(
 }
 
 impl<'a> Pairs<'a> {
-    /// The pairs of a problem that remain by a reduction pair. It looks at the rules, and at the
-    /// sides of the problem's pairs alone.
+    /// The pairs of a problem that remain by a reduction pair, and the refusals, as `pair_check` has
+    /// them. It looks at the rules, and at the sides of the problem's pairs alone.
     pub fn pair_check<O: ReductionPair>(
         &self,
         alloc: Global,

@@ -14,7 +14,10 @@ use std::alloc::Global;
 use trs_core::Trs;
 
 /// The pairs of a problem that remain by an order that makes the usable rules weak, for one step
-/// alone. (Hirokawa and Middeldorp, 2007; Giesl, Thiemann, Schneider-Kamp and Falke, 2006.)
+/// alone. It is refused as `pair_check` is, where only the usable rules have to be weak, and entries
+/// are asked of their symbols and of those below the roots of the pairs' sides. Rules keep their
+/// numbers in the system. (Hirokawa and Middeldorp, 2007; Giesl, Thiemann, Schneider-Kamp and Falke,
+/// 2006.)
 pub fn usable_check<O: PairingOrder>(
     alloc: Global,
     trs: &Trs,
