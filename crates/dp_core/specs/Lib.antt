@@ -3,5 +3,9 @@ pub mod Laws
 pub mod PairCodes
 pub mod Numbered
 pub mod SubtermConditions
+pub mod Symbols
+pub mod PairConditions
 pub mod LeastMissing
+pub mod LeastLacking
+pub mod Markable
 pub mod Places
