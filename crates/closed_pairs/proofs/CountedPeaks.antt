@@ -1,13 +1,12 @@
 -- Steps that have as many items as there are critical peaks, or not.
 use Rattle.std.specs.Prelude.{◌≡◌, ℕ, List, length, Ok, Err}
-use Rattle.std.proofs.Common.{refl, subst, sym}
+use Rattle.std.proofs.Common.{subst, sym}
 use Rattle.trs_defs.specs.System.{RewriteRule}
 use Rattle.rewrite_core.specs.PlacedPeak.{PlacedPeak}
 use Rattle.rewrite_core.specs.declared.refusals.StepRefused.{StepRefused}
-use Rattle.rewrite_core.specs.declared.refusals.StepRefused.TheVariants.{Count}
 use Rattle.rewrite_core.specs.declared.refusals.CheckFault.{CheckFault}
 use Rattle.rewrite_core.specs.declared.refusals.CheckFault.TheVariants.{Refused, OutOfMemory}
-use Rattle.rewrite_core.specs.Check.{Check, Needs, Returns, Refuses, Then, stops, goes_on, holds, returned, has_length, ◌>>=◌, ◌>>◌}
+use Rattle.rewrite_core.specs.Check.{Check, Refuses, stops, goes_on, returned, has_length, ◌>>=◌, ◌>>◌}
 use Rattle.crit_pairs.specs.PeaksCheck.{ListsCriticalPeaks}
 use Rattle.closed_pairs.specs.PeaksFor.{peaks_for}
 

@@ -1,5 +1,6 @@
 pub mod PairsOfLists
 pub mod CountedPeaks
+pub mod SingleStep
 pub mod Leftward
 pub mod ParallelItems
 pub mod Passing

@@ -5,7 +5,7 @@ ghost use Rattle.rewrite_core.specs.declared.refusals.StepRefused.TheVariants.{E
 ghost use Rattle.rewrite_core.specs.PathCheck.{Runs};
 ghost use Rattle.closed_pairs.specs.Ends.{ends_meet, made_of};
 
-use rewrite_core::{CheckFault, PathStep, StepRefused, end_of_path};
+use rewrite_core::{CheckFault, PathStep, StepRefused, end_of_path, step_at};
 use std::alloc::Global;
 use trs_core::{Term, Trs};
 
@@ -52,8 +52,22 @@ pub(crate) fn run(
     if path.steps.is_empty() {
         return Ok(None);
     }
-    let end = end_of_path(alloc, trs, path.start, path.steps, item, path.number)?;
+    let end = end_of_steps(alloc, trs, item, path)?;
     Ok(Some(end))
+}
+
+/// The end of a path with steps. A step that stands alone is made on the term itself, with no pool.
+fn end_of_steps(alloc: Global, trs: &Trs, item: u64, path: &ItemPath) -> Result<Term, CheckFault>
+    ensures { AnswersBy tree
+        (Runs trs.now.rules (tree path.now.start.now) path.now.steps.now item path.now.number)
+        result }
+{
+    if let [step] = path.steps {
+        if let Ok(end) = step_at(alloc, trs, path.start, &step.place, step.rule) {
+            return Ok(end);
+        }
+    }
+    end_of_path(alloc, trs, path.start, path.steps, item, path.number)
 }
 
 /// The end of a path, by what was made of its start.

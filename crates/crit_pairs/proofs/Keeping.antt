@@ -15,7 +15,7 @@ use Rattle.crit_pairs.specs.Sides.{KeepsLimits, nodes_of_three}
 use Rattle.crit_pairs.specs.Walk.{Moves, Stops, Keeps, Reaches, Adds, StopsWith, HasFirst, IsPartOf}
 use Rattle.crit_pairs.specs.declared.listing.Peaks.{Peaks}
 use Rattle.crit_pairs.specs.declared.faults.PeakFault.{PeakFault}
-use Rattle.crit_pairs.proofs.SpotWalk.{stays, goes_on, stops_here, moves_to_next, listed_all}
+use Rattle.crit_pairs.proofs.SpotWalk.{OverlapsUnify, stays, goes_on, stops_here, moves_to_next, listed_all}
 
 -- nothing is done
 pub still_kept : (rules : List RewriteRule) (peaks : Peaks) (spots : List Spot) (before : List PlacedPeak) → Keeps peaks before → Reaches rules peaks.most before peaks.nodes spots peaks spots
@@ -38,14 +38,14 @@ module _ (rules : List RewriteRule) (most : ℕ) (before : List PlacedPeak) (tot
   kept_stops fault stop = stops_here rules before was.all total mid.nodes from left first rest is was.moves fault (stop was.all was.keeps)
 
 -- rules with another root than the part are passed over
-pub kept_to_next : (system : System) → IsSystem system → HaveSmallVariables system.rules → (j : ℕ) (p : List ℕ) (part : Tree) → IsPartOf system.rules j p part → (f : ℕ) → IsTrue (has_root f part)
+pub kept_to_next : OverlapsUnify → (system : System) → IsSystem system → HaveSmallVariables system.rules → (j : ℕ) (p : List ℕ) (part : Tree) → IsPartOf system.rules j p part → (f : ℕ) → IsTrue (has_root f part)
     → (most : ℕ) (before : List PlacedPeak) (total : ℕ) (from : List Spot) (now : Peaks) (i n : ℕ) → IsNextRooted system.rules f i n
     → Reaches system.rules most before total from now (spots_at j p i (drop i system.rules)) → Reaches system.rules most before total from now (spots_at j p n (drop n system.rules))
-kept_to_next system valid small j p part at f root most before total from now i n next h = record {
+kept_to_next unified system valid small j p part at f root most before total from now i n next h = record {
   all = h.all;
   keeps = h.keeps;
   same_most = h.same_most;
-  moves = moves_to_next system valid small j p part at f root h.all now.nodes before total from i n next h.moves;
+  moves = moves_to_next unified system valid small j p part at f root h.all now.nodes before total from i n next h.moves;
 }
 
 pub nothing_kept : (rules : List RewriteRule) (spots : List Spot) (peaks : Peaks) → peaks.list.items ≡ [] → peaks.count ≡ 0 → peaks.nodes ≡ 0 → Reaches rules peaks.most [] 0 spots peaks spots
