@@ -1,0 +1,5 @@
+pub mod InTurnLaws
+pub mod AscendingLaws
+pub mod LongListLaws
+pub mod SymbolLaws
+pub mod EntryLaws
