@@ -2,7 +2,7 @@
 use Rattle.std.proofs.Common.{map, ◌≡◌, ℕ, suc, ◌≤◌, ◌+◌, nat_lt, Bool, true, false, cond, List, [], ◌∷◌, ◌++◌, length, Some, Ok, Err, refl, sym, ap, ap₂, subst, ◌∙◌, arith}
 use Rattle.std.specs.List.{AllByRecursion}
 use Rattle.sexp_core.specs.Items.{Item, a_word, a_list, Items, no_items, item, items_of}
-use Rattle.sexp_core.specs.Printed.{bare, placeless}
+use Rattle.sexp_core.specs.Printed.{AreWords, nesting, bare, placeless}
 use Rattle.trs_defs.specs.Variable.{is_listed}
 use Rattle.order_theory.specs.KnuthBendix.{arity_with_marks}
 use Rattle.names_text.specs.Named.{NamedSystem, IsNamed}
@@ -50,11 +50,19 @@ entry_made named few least more P known makes (a_list (item head (item name xs))
 
 -- ---- what is printed is read again
 
-pub entry_again : {A B : Type 0} (named : NamedSystem) → IsNamed named → (least : ℕ) (parts : Symbol → Parts A B) (make : Symbol → A) (known : List ℕ) (f n : ℕ) (depth : ℕ) (xs : Items) (value : B)
-    → IsNewSymbol named.system.arities known f n → lacks least xs ≡ false
-    → SpellsParts (parts (record { number = f; arity = n })) depth xs (make (record { number = f; arity = n })) value
-    → Spells (entry named least (λ s. form (parts s) (make s)) known) (suc depth) (a_list (item (a_word (mark_word f) 0) (item (name_item named (unmarked f)) xs)) 0) value
-entry_again {A} {B} named is least parts make known f n depth xs value new long s =
+-- further members behind a head are read by their form
+pub record SpellsForm {B : Type 0} (f : Form B) (depth : ℕ) (xs : Items) (value : B) : Type 0 where
+  pub again : (at : ℕ) (ys : Items) → placeless ys ≡ placeless xs → f at ys ≡ Ok value
+  pub words : AreWords xs
+  pub deep : nesting xs ≤ depth
+
+pub spells_as_form : {A B : Type 0} (parts : Parts A B) (make : A) {depth : ℕ} {xs : Items} {value : B} → SpellsParts parts depth xs make value → SpellsForm (form parts make) depth xs value
+spells_as_form parts make s = record { again = s.again; words = s.words; deep = s.deep }
+
+pub entry_again : {B : Type 0} (named : NamedSystem) → IsNamed named → (least : ℕ) (more : Symbol → Form B) (known : List ℕ) (f n : ℕ) (depth : ℕ) (xs : Items) (value : B)
+    → IsNewSymbol named.system.arities known f n → lacks least xs ≡ false → SpellsForm (more (record { number = f; arity = n })) depth xs value
+    → Spells (entry named least more known) (suc depth) (a_list (item (a_word (mark_word f) 0) (item (name_item named (unmarked f)) xs)) 0) value
+entry_again {B} named is least more known f n depth xs value new long s =
     let m = is_marked named.system.arities f n new.arity in
     let name = symbol_again named is (unmarked f) n m.arity in
     record {
@@ -63,13 +71,10 @@ entry_again {A} {B} named is least parts make known f n depth xs value new long 
       deep = omega (arith, m.mark_again.deep, name.deep, s.deep);
     }
   where
-    abbreviated : Symbol
-    abbreviated = record { number = f; arity = n }
-
     go : Spells mark 0 (a_word (mark_word f) 0) (added_by (nat_lt f 4096)) → Spells (symbol named) 0 (name_item named (unmarked f)) (record { number = unmarked f; arity = n })
         → unmarked f + added_by (nat_lt f 4096) ≡ f
         → (y : Item) → bare y ≡ a_list (item (a_word (mark_word f) 0) (item (name_item named (unmarked f)) (placeless xs))) 0
-        → entry named least (λ s. form (parts s) (make s)) known y ≡ Ok value
+        → entry named least more known y ≡ Ok value
     go marks name same (a_word w at) e = absurd cc
     go marks name same (a_list no_items at) e = absurd cc
     go marks name same (a_list (item x no_items) at) e = absurd cc

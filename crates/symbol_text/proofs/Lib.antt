@@ -3,3 +3,4 @@ pub mod AscendingLaws
 pub mod LongListLaws
 pub mod SymbolLaws
 pub mod EntryLaws
+pub mod EntrySeen

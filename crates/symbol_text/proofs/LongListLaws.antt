@@ -8,7 +8,7 @@ use Rattle.sexp_core.specs.Printed.{bare, placeless}
 use Rattle.text_reading.specs.Reading.{Read, ◌<*>◌, Parts, done, ended, many}
 use Rattle.text_reading.proofs.Made.{Makes, MakesParts, ok_same, applied, made_done, made_many}
 use Rattle.text_reading.proofs.Again.{Spells, SpellsAll, SpellsParts}
-use Rattle.symbol_text.specs.LongLists.{lacks, first_items, items_behind, exactly}
+use Rattle.symbol_text.specs.LongLists.{lacks, first_items, items_behind, exactly, anything}
 
 -- ---- seen by the code
 
@@ -31,6 +31,17 @@ pub behind_views : (n : ℕ) (xs : List Sexp) → items_behind n (views xs) ≡ 
 behind_views zero xs = refl
 behind_views (suc n) [] = refl
 behind_views (suc n) (x ∷ xs) = behind_views n xs
+
+-- exactly so many members, where there are enough
+pub exactly_views : {A B : Type 0} (n : ℕ) (read : Item → Read A) (at : ℕ) (r : Read (List A → B)) (xs : List Sexp) → n ≤ length xs
+    → exactly n read at r (views xs) ≡ ended (r <*> many read (views (take n xs))) (views (drop n xs))
+exactly_views {A} {B} n read at r xs le =
+    ap (λ (b : Bool). cond b (Err at) (ended (r <*> many read (first_items n (views xs))) (items_behind n (views xs)))) (lacks_views n xs le)
+    ∙ ap₂ (λ (ys zs : Items). ended (r <*> many read ys) zs) (first_views n xs) (behind_views n xs)
+
+pub exactly_lacks : {A B : Type 0} (n : ℕ) (read : Item → Read A) (at : ℕ) (r : Read (List A → B)) (xs : List Sexp) → length xs < n → exactly n read at r (views xs) ≡ Err at
+exactly_lacks n read at r xs lt =
+    ap (λ (b : Bool). cond b (Err at) (ended (r <*> many read (first_items n (views xs))) (items_behind n (views xs)))) (lacking_views n xs lt)
 
 -- the first two members, and the others
 pub two_views : (xs : List Sexp) (x y : Sexp) → 2 ≤ length xs → x ≡ get_or xs 0 x → y ≡ get_or xs 1 y
@@ -70,6 +81,9 @@ made_unless {A} {B} false n read P makes at r xs v l e =
 
 pub made_exactly : {A B : Type 0} (n : ℕ) (read : Item → Read A) (P : A → Type 0) → Makes read P → MakesParts (exactly {A = A} {B = B} n read) (AreExactly n P)
 made_exactly n read P makes at r xs v e = made_unless (lacks n xs) n read P makes at r xs v refl e
+
+pub made_anything : {B : Type 0} → MakesParts (anything {B = B}) (λ f v. f ≡ v)
+made_anything at r xs v e = (v, e, refl)
 
 -- ---- what is printed is read again
 

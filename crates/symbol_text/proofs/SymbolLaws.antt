@@ -1,5 +1,5 @@
 -- Symbols by their names: what is read, and what is read again.
-use Rattle.std.proofs.Common.{◌≡◌, inl, inr, ℕ, zero, suc, ◌+◌, ◌-◌, ◌<◌, ◌≤◌, nat_lt, ◌⊎◌, Bool, true, false, cond, List, [], ◌∷◌, length, get_or, Option, Some, None, option_map, slice_get, Ok, Err, codes, refl, sym, ap, subst, ◌∙◌, arith}
+use Rattle.std.proofs.Common.{◌≡◌, inl, inr, ℕ, zero, suc, ◌+◌, ◌-◌, ◌<◌, ◌≤◌, min, nat_lt, ◌⊎◌, Bool, true, false, cond, List, [], ◌∷◌, length, get_or, Option, Some, None, option_map, slice_get, Ok, Err, codes, refl, sym, ap, subst, ◌∙◌, arith}
 use Rattle.std.specs.List.{list_all}
 use Rattle.std.proofs.lemmas.Bool.{and_parts, lt-ltb, le-ltb, ltb-true, ltb-false}
 use Rattle.std.proofs.lemmas.Option.{slice_get_within, get_or_from_slice_get}
@@ -13,10 +13,10 @@ use Rattle.names_text.proofs.SymbolTables.{symbol_known}
 use Rattle.names_text.proofs.SymbolPairs.{arity_kept, symbol_at as numbered, symbol_by_number}
 use Rattle.names_text.proofs.PrintedNames.{symbol_word, symbol_number}
 use Rattle.text_reading.specs.Reading.{Read, ◌<*>◌}
-use Rattle.text_reading.specs.Printed.{word_item}
-use Rattle.text_reading.proofs.Made.{Makes, ok_same, applied, made_word}
-use Rattle.text_reading.proofs.Again.{Spells, spells_by, spells_word}
-use Rattle.symbol_text.specs.Symbols.{symbol_at, symbol, marks, mark, with_mark, marked_symbol, mark_word, unmarked, name_of, name_item}
+use Rattle.text_reading.specs.Printed.{word_item, number_item}
+use Rattle.text_reading.proofs.Made.{Makes, ok_same, applied, made_word, made_positive}
+use Rattle.text_reading.proofs.Again.{Spells, spells_by, spells_word, spells_positive}
+use Rattle.symbol_text.specs.Symbols.{symbol_at, symbol, marks, mark, with_mark, marked_symbol, argument_place, mark_word, unmarked, name_of, name_item}
 
 -- ---- what is read
 
@@ -75,7 +75,27 @@ marked_made named few head name v e =
     let T : Symbol → Type 0 = λ s. arity_with_marks named.system.arities s.number ≡ Some s.arity in
     subst T same (added_arity named.system.arities few a.value b.value.number b.value.arity (mark_made head a.value a.is_value) (symbol_made named name b.value b.is_value))
 
+-- the place of an argument of a symbol with this arity
+pub record IsArgumentPlace (arity place : ℕ) : Type 0 where
+  pub low : 1 ≤ place
+  pub within : place ≤ arity
+  pub byte : place ≤ 255
+
+pub argument_made : (arity : ℕ) → Makes (argument_place arity) (IsArgumentPlace arity)
+argument_made arity x v e =
+    let h = made_positive (min arity 255) x v e in
+    let low : 1 ≤ v = h.0 in
+    let high : v ≤ min arity 255 = h.1 in
+    record { low = low; within = omega arith; byte = omega arith }
+
 -- ---- what is printed is read again
+
+pub argument_again : (arity place : ℕ) → IsArgumentPlace arity place → Spells (argument_place arity) 0 (number_item place) place
+argument_again arity place h =
+    let low = h.low in
+    let within = h.within in
+    let byte = h.byte in
+    spells_positive (min arity 255) place (omega arith) low (omega arith)
 
 all_words : (names : List (List ℕ)) (f : ℕ) → list_all is_word names ≡ true → f < length names → is_word (get_or names f []) ≡ true
 all_words [] f e lt = absurd (omega arith)

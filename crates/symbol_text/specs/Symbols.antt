@@ -1,10 +1,11 @@
 -- Symbols in tables: by their names, plain or marked. A marked symbol has the number of the plain one, and 4096.
-use Rattle.std.specs.Prelude.{ℕ, ◌+◌, ◌-◌, nat_lt, List, [], ◌∷◌, Option, Some, None, Ok, Err, codes, slice_index_or, if◌then◌else◌}
+use Rattle.std.specs.Prelude.{ℕ, ◌+◌, ◌-◌, min, nat_lt, List, [], ◌∷◌, Option, Some, None, Ok, Err, codes, slice_index_or, if◌then◌else◌}
 use Rattle.sexp_core.specs.Items.{Item, a_word, a_list}
 use Rattle.names_text.specs.Named.{NamedSystem, table_of}
 use Rattle.names_text.specs.Symbols.{symbol_named}
 use Rattle.names_text.specs.declared.table.Symbol.{Symbol}
 use Rattle.text_reading.specs.Reading.{Read, ◌<*>◌, word}
+use Rattle.text_reading.specs.Numbers.{positive}
 use Rattle.text_reading.specs.Printed.{word_item}
 
 abbrev pub symbol_at : ℕ → Option Symbol → Read Symbol
@@ -29,6 +30,10 @@ with_mark added s = record { number = s.number + added; arity = s.arity }
 -- `sym name` or `mark name`
 abbrev pub marked_symbol : NamedSystem → Item → Item → Read Symbol
 marked_symbol named head name = Ok with_mark <*> mark head <*> symbol named name
+
+-- the place of an argument: at most the arity of a symbol, and 255
+abbrev pub argument_place : ℕ → Item → Read ℕ
+argument_place arity = positive (min arity 255)
 
 -- ---- printed
 

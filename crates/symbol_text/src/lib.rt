@@ -7,4 +7,4 @@ mod symbols;
 
 pub use ascending::read_number_from;
 pub use entries::{add_symbol, put_entry_begin};
-pub use symbols::{put_name, read_marked_symbol, read_symbol};
+pub use symbols::{put_name, read_argument_place, read_marked_symbol, read_symbol};

@@ -1,10 +1,10 @@
 ghost use Rattle.std.specs.Prelude.{◌≡◌, ◌≤◌, ◌<◌, ◌++◌, IfOk, OnOk};
 ghost use Rattle.sexp_core.specs.Items.{view};
-ghost use Rattle.symbol_text.specs.Symbols.{symbol, mark, with_mark, marked_symbol, name_of};
+ghost use Rattle.symbol_text.specs.Symbols.{symbol, mark, with_mark, marked_symbol, argument_place, name_of};
 
 use names_text::{NamedTrs, Symbol};
 use sexp_core::Sexp;
-use text_reading::{Read, both, place, put};
+use text_reading::{Read, both, place, put, read_positive};
 use trs_core::OutOfMemory;
 
 /// What is added to the number of a symbol for the marked one.
@@ -56,6 +56,16 @@ fn read_mark(item: &Sexp) -> Read<u32>
             }
         }
         Sexp::List(_, at) => Err(*at),
+    }
+}
+
+/// The place of an argument, from 1 to the arity of a symbol.
+pub fn read_argument_place(arity: u8, item: &Sexp) -> Read<u8>
+    ensures { result ≡ argument_place arity (view item.now) }
+{
+    match read_positive(u64::from(arity), item) {
+        Ok(argument) => Ok(argument as u8),
+        Err(at) => Err(at),
     }
 }
 
