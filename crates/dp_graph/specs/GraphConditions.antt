@@ -18,13 +18,24 @@ pub record HasEdge (rules : List RewriteRule) (all : List DependencyPair) (m n :
   pub to_numbered : slice_get all n ≡ Some to
   pub edge : IsEdge rules from to
 
--- each member is a pair of the problem, and no one before it
+-- each of these members is a pair of the problem, and is not named before
+abbrev pub are_new : List ℕ → List ℕ → List ℕ → Check (Unit {0})
+are_new numbers before members = each_after (λ before n. Needs (In n numbers × (In n before → ⊥)) (Member n)) before members
+
 abbrev pub are_members : List ℕ → List ℕ → Check (Unit {0})
-are_members numbers members = each_after (λ before n. Needs (In n numbers × (In n before → ⊥)) (Member n)) [] members
+are_members numbers members = are_new numbers [] members
+
+-- each pair of the problem is a member; the least that is not is named
+abbrev pub none_is_missing : List ℕ → List ℕ → Check (Unit {0})
+none_is_missing numbers members = ForbidsAny (λ n. In n numbers × (In n members → ⊥)) Missing
+
+-- no edge leads from pair number m to one of these pairs
+abbrev pub leads_to_none : List RewriteRule → List DependencyPair → ℕ → List ℕ → Check (Unit {0})
+leads_to_none rules all m ns = each (λ _ n. Forbids (HasEdge rules all m n) (EdgeBack m n)) 0 ns
 
 -- no edge leads from one of these pairs to one of those
 abbrev pub lead_to_none : List RewriteRule → List DependencyPair → List ℕ → List ℕ → Check (Unit {0})
-lead_to_none rules all ms ns = each (λ _ m. each (λ _ n. Forbids (HasEdge rules all m n) (EdgeBack m n)) 0 ns) 0 ms
+lead_to_none rules all ms ns = each (λ _ m. leads_to_none rules all m ns) 0 ms
 
 -- no edge leads from an item to an earlier one
 abbrev pub lead_onward : List RewriteRule → List DependencyPair → List GroupOrSingle → Check (Unit {0})
@@ -39,7 +50,7 @@ have_no_self_edge rules all members = each (λ _ n. Forbids (HasEdge rules all n
 abbrev pub graph_conditions : List RewriteRule → List DependencyPair → List ℕ → List GroupOrSingle → Check (List (List ℕ))
 graph_conditions rules all numbers items = do
   are_members numbers (all_members items)
-  ForbidsAny (λ n. In n numbers × (In n (all_members items) → ⊥)) Missing
+  none_is_missing numbers (all_members items)
   lead_onward rules all items
   have_no_self_edge rules all (singles_of items)
   Returns (groups_of items)
