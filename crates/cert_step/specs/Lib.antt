@@ -1,6 +1,15 @@
 pub mod ProofProblem
 pub mod Subproblems
 pub mod Kind
+pub mod Entries
+pub mod OnPairs
+pub mod DpKind
+pub mod GraphKind
+pub mod SubtermKind
+pub mod PolyKind
+pub mod LpoKind
+pub mod KboKind
+pub mod UsableKind
 pub mod LoopKind
 pub mod NewmanKind
 pub mod ParallelKind

@@ -1,5 +1,5 @@
 ghost use Rattle.std.specs.Prelude.{List, IfOk, IfErr, IsTrue};
-ghost use Rattle.trs_defs.specs.System.{IsSystem};
+ghost use Rattle.trs_core.specs.Valid.{IsValid};
 ghost use Rattle.rewrite_core.specs.Check.{AnswersBy, RefusedFor};
 ghost use Rattle.cert_step.specs.ProofProblem.{ProofProblem, problem_of, Holds, IsWellMadeProblem};
 ghost use Rattle.cert_step.specs.ProofStep.{step_of, kind_of, IsWellMade};
@@ -9,6 +9,7 @@ ghost use Rattle.cert_step.specs.Subproblems.{AllHold, AreWellMadeProblems};
 ghost use Rattle.cert_step.specs.Subproblems.{GivesSubproblems, problems_of};
 
 use crate::confluence_step::apply_confluence;
+use crate::dp_step::apply_dp;
 use crate::fork_step::apply_fork;
 use crate::label_step::apply_label;
 use crate::loop_step::apply_loop;
@@ -49,9 +50,9 @@ pub fn apply_step(
     checked(alloc, trs, problem, step)
 }
 
-/// The type of a system keeps that it is one.
+/// The type of a system keeps that it is one, within the limits.
 pub(crate) fn keeps_system(trs: &Trs)
-    ensures { IsSystem trs.now }
+    ensures { IsValid trs.now }
 {
     trs.rules();
 }
@@ -86,6 +87,11 @@ fn checked_kind(
         ((kind_of (step_of step.now)).conditions trs.now (problem_of problem.now)) result }
 {
     match step {
+        Step::Dp => apply_dp(alloc, trs),
+        Step::Graph(_) => Err(CheckFault::OutOfMemory),
+        Step::Subterm(_) => Err(CheckFault::OutOfMemory),
+        Step::Order(_) => Err(CheckFault::OutOfMemory),
+        Step::UsablePoly(_) => Err(CheckFault::OutOfMemory),
         Step::Loop { start, path, place } => apply_loop(alloc, trs, start, path, place),
         Step::Newman(joins) => apply_newman(alloc, trs, joins),
         Step::Parallel(paths) => apply_parallel(alloc, trs, paths),

@@ -1,14 +1,15 @@
 -- The numbers of all pairs. They are few.
-use Rattle.std.specs.Prelude.{◌≡◌, ◌≤◌, ◌<◌, ℕ, ◌+◌, Bool, true, false, List, [], ◌∷◌, ◌++◌, length, map, drop}
-use Rattle.std.proofs.Common.{zero, suc, refl, sym, ap, arith, ◌∙◌, add-one, append_assoc, length-append}
+use Rattle.std.specs.Prelude.{◌≡◌, ◌≤◌, ◌<◌, ℕ, ◌+◌, Bool, true, false, List, [], ◌∷◌, ◌++◌, length, map, drop, All, Some, slice_get}
+use Rattle.std.proofs.Common.{zero, suc, refl, sym, ap, subst, arith, ◌∙◌, add-one, append_assoc, length-append}
 use Rattle.std.proofs.lemmas.List.{append-nil, length-map}
 use Rattle.trs_defs.specs.Tree.{Tree, Trees, var, app, nil, cons}
 use Rattle.trs_defs.specs.Size.{size_of, size_of_all}
 use Rattle.trs_defs.specs.System.{RewriteRule, is_defined}
 use Rattle.trs_core.specs.SystemLimits.{nodes_of}
 use Rattle.pair_theory.specs.DependencyPair.{keep_if}
-use Rattle.dp_core.specs.Numbered.{numbers_from}
+use Rattle.dp_core.specs.Numbered.{AreItemsOf, numbers_from}
 use Rattle.dp_core.specs.PlacedPairs.{defined_places, defined_places_of_all, placed_below, placed_pairs_from, placed_pairs}
+use Rattle.dp_core.proofs.Conclusions.{numbered_all}
 
 one_kept : {A : Type 0} (b : Bool) (x : A) (xs : List A) → length (keep_if b x xs) ≤ 1 + length xs
 one_kept true x xs = omega arith
@@ -71,3 +72,16 @@ pub all_numbers : {A B : Type 0} (xs : List A) (ys : List B) (i : ℕ) (items : 
     → numbers_from 0 xs ≡ items ++ numbers_from i (drop i xs) → items ≡ numbers_from 0 ys
 all_numbers xs ys i items e h whole =
     sym (whole ∙ (ap (λ l. items ++ l) (none_left xs i i h) ∙ append-nil items)) ∙ same_numbers 0 xs ys e
+
+numbers_below : {A : Type 0} (xs : List A) (n : ℕ) → All (λ k. k < n + length xs) (numbers_from n xs)
+numbers_below [] n k d within = absurd (omega (arith, within))
+numbers_below (x ∷ xs) n zero d within = omega arith
+numbers_below (x ∷ xs) n (suc k) d within = let rest = numbers_below xs (n + 1) k d (omega (arith, within)) in omega (arith, rest)
+
+pub numbers_within : {A : Type 0} (xs : List A) (numbers : List ℕ) → numbers ≡ numbers_from 0 xs → All (λ k. k < length xs) numbers
+numbers_within xs numbers e =
+    subst (All (λ k. k < length xs)) (sym e) (λ k d within. let below = numbers_below xs 0 k d within in omega (arith, below))
+
+pub all_of_numbers : {A : Type 0} (xs : List A) (numbers : List ℕ) → numbers ≡ numbers_from 0 xs → AreItemsOf xs numbers xs
+all_of_numbers xs numbers e =
+    ap (map (slice_get xs)) e ∙ numbered_all xs xs 0 (λ i x d. let same : i ≡ 0 + i = omega arith in subst (λ n. slice_get xs n ≡ Some x) same d)

@@ -17,7 +17,7 @@ from_item [] i x e = absurd cc
 from_item (y ∷ xs) zero x e = cc
 from_item (y ∷ xs) (suc i) x e = from_item xs i x e
 
-next_item : {A : Type 0} (xs : List A) (i : ℕ) (x : A) → slice_get xs i ≡ Some x → drop i xs ≡ x ∷ drop (i + 1) xs
+pub next_item : {A : Type 0} (xs : List A) (i : ℕ) (x : A) → slice_get xs i ≡ Some x → drop i xs ≡ x ∷ drop (i + 1) xs
 next_item xs i x e = rw add-one (from_item xs i x e)
 
 module _ {A B : Type 0} (check : ℕ → A → Check B) (xs : List A) where

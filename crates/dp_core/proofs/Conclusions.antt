@@ -18,15 +18,16 @@ use Rattle.rewrite_core.specs.Check.{HasOneAnswer, goes_on, holds, returned, yes
 use Rattle.rewrite_core.proofs.CheckLaws.{once}
 use Rattle.dp_core.specs.Numbered.{ArePairsOf, TakesPairs, taken, numbers_from}
 use Rattle.dp_core.specs.SubtermConditions.{place_for, ProjectedAre, projects_within, unflagged}
-use Rattle.dp_core.specs.Laws.{AllPairsConclude, SubtermStepsConclude, SubtermStepsAnswerOnce}
+use Rattle.dp_core.specs.Laws.{AllPairsConclude, SubtermStepsConclude, SubtermStepsAnswerOnce, SubtermStepsLeaveNumbers}
 use Rattle.dp_core.proofs.NumberedPairs.{as_many}
+use Rattle.dp_core.proofs.Removed.{each_stays_or_goes, pairs_left, numbers_remain}
 
 -- ---- one answer
 
 head_same : {A : Type 0} (x y : A) (xs ys : List (Option A)) → Some x ∷ xs ≡ Some y ∷ ys → (x ≡ y) × (xs ≡ ys)
 head_same x y xs ys e = (cc, cc)
 
-same_pairs : (xs ys : List DependencyPair) → map (λ p. Some p) xs ≡ map (λ p. Some p) ys → xs ≡ ys
+pub same_pairs : {A : Type 0} (xs ys : List A) → map (λ p. Some p) xs ≡ map (λ p. Some p) ys → xs ≡ ys
 same_pairs [] [] e = refl
 same_pairs [] (y ∷ ys) e = absurd cc
 same_pairs (x ∷ xs) [] e = absurd cc
@@ -47,7 +48,7 @@ subterm_once all projection numbers = search (once, takes_pairs_once) depth 20
 
 -- ---- all pairs
 
-numbered_all : (all rest : List DependencyPair) (k : ℕ) → ((i : ℕ) (p : DependencyPair) → slice_get rest i ≡ Some p → slice_get all (k + i) ≡ Some p)
+pub numbered_all : {A : Type 0} (all rest : List A) (k : ℕ) → ((i : ℕ) (p : A) → slice_get rest i ≡ Some p → slice_get all (k + i) ≡ Some p)
     → map (slice_get all) (numbers_from k rest) ≡ map (λ p. Some p) rest
 numbered_all all [] k at = refl
 numbered_all all (p ∷ rest) k at =
@@ -73,15 +74,6 @@ unfolding or_zero
 at_place t s None e = absurd cc
 at_place t s (Some n) e = e
 
-map_unflagged : {A B : Type 0} (f : A → B) (xs : List A) (flags : List Bool) → map f (unflagged xs flags) ≡ unflagged (map f xs) flags
-map_unflagged f [] flags = refl
-map_unflagged f (x ∷ xs) [] = refl
-map_unflagged f (x ∷ xs) (true ∷ flags) = map_unflagged f xs flags
-map_unflagged f (x ∷ xs) (false ∷ flags) = ap (λ ys. f x ∷ ys) (map_unflagged f xs flags)
-
-in_same : {A : Type 0} (x y : A) (xs : List A) → x ≡ y → In x (y ∷ xs)
-in_same x y xs e = subst (λ z. In x (z ∷ xs)) e in_first
-
 module _ (projection : List (ℕ × ℕ)) where
   abbrev place : ℕ → ℕ
   place f = or_zero (place_for projection f)
@@ -105,36 +97,10 @@ module _ (projection : List (ℕ × ℕ)) where
     | inr q ↦ absurd (none (record { left = h.left; right = h.right; left_there = h.left_there; right_there = h.right_there; relation = q }))
   ]
 
-  abbrev Class : List DependencyPair → DependencyPair → Type 0
-  Class stays p = (In p stays × Projects place (λ s t. s ≡ t) p) ⊎ Projects place ProperSubterm p
-
   -- what the flag says of a pair
   one_class : (n : ℕ) (p : DependencyPair) (flag : Bool) → projects_within projection n p (Ok flag) → ((flag ≡ false) × Projects place (λ s t. s ≡ t) p) ⊎ Projects place ProperSubterm p
   one_class n p _ (goes_on _ _ (holds weak) (yes_it_does strict)) = inr (projects ProperSubterm p strict)
   one_class n p _ (goes_on _ _ (holds weak) (no_it_does_not none)) = inl (refl, projects (λ s t. s ≡ t) p (equal_if_not_proper p weak none))
-
-  stays_first : (p q : DependencyPair) (pairs : List DependencyPair) (flag : Bool) (flags : List Bool) → flag ≡ false → p ≡ q → In p (unflagged (q ∷ pairs) (flag ∷ flags))
-  stays_first p q pairs true flags e same = absurd cc
-  stays_first p q pairs false flags e same = in_same p q (unflagged pairs flags) same
-
-  stays_later : (p q : DependencyPair) (pairs : List DependencyPair) (flag : Bool) (flags : List Bool) → In p (unflagged pairs flags) → In p (unflagged (q ∷ pairs) (flag ∷ flags))
-  stays_later p q pairs true flags h = h
-  stays_later p q pairs false flags h = in_rest h
-
-  classes : (k : ℕ) (numbers : List ℕ) (pairs : List DependencyPair) (flags : List Bool) → length pairs ≡ length numbers
-      → collect (λ _ item. projects_within projection item.0 item.1) k (zip numbers pairs) (Ok flags) → (p : DependencyPair) → In p pairs → Class (unflagged pairs flags) p
-  classes k numbers [] flags e h p i = absurd (no_in i)
-  classes k [] (q ∷ pairs) flags e h p i = absurd (omega (arith, e))
-  classes k (n ∷ numbers) (q ∷ pairs) _ e (goes_on flag _ h (goes_on flags _ rest returned)) p i = elim (in_or i) [
-    | inl same ↦ elim (one_class n q flag h) [
-      | inl w ↦ inl (stays_first p q pairs flag flags w.0 same, subst (λ z. Projects place (λ s t. s ≡ t) z) (sym same) w.1)
-      | inr strict ↦ inr (subst (λ z. Projects place ProperSubterm z) (sym same) strict)
-    ]
-    | inr j ↦ elim (classes (k + 1) numbers pairs flags (omega (arith, e)) rest p j) [
-      | inl w ↦ inl (stays_later p q pairs flag flags w.0, w.1)
-      | inr strict ↦ inr strict
-    ]
-  ]
 
 get_in : (xs : List DependencyPair) (n : ℕ) (p : DependencyPair) → slice_get xs n ≡ Some p → In p xs
 get_in [] n p e = absurd cc
@@ -145,7 +111,7 @@ head_there : {A : Type 0} (o : Option A) (y : A) (xs ys : List (Option A)) → o
 head_there o y xs ys e = (cc, cc)
 
 -- pairs of numbers are in the list
-each_in : (all : List DependencyPair) (numbers : List ℕ) (pairs : List DependencyPair) → ArePairsOf all numbers pairs → (p : DependencyPair) → In p pairs → In p all
+pub each_in : (all : List DependencyPair) (numbers : List ℕ) (pairs : List DependencyPair) → ArePairsOf all numbers pairs → (p : DependencyPair) → In p pairs → In p all
 each_in all numbers [] are p i = absurd (no_in i)
 each_in all [] (q ∷ pairs) are p i = absurd cc
 each_in all (n ∷ numbers) (q ∷ pairs) are p i =
@@ -161,8 +127,12 @@ subterm_concludes good criterion system projection numbers _ valid (goes_on pair
     let all = dependency_pairs system.rules in
     let same : pairs ≡ others = same_pairs pairs others (sym are ∙ are_others) in
     let stays : List DependencyPair = unflagged pairs flags in
-    let are_left : ArePairsOf all (unflagged numbers flags) stays =
-    map_unflagged (slice_get all) numbers flags ∙ (ap (λ xs. unflagged xs flags) are ∙ sym (map_unflagged (λ p. Some p) pairs flags)) in
     subst (IsFiniteProblem system) same
     (criterion system pairs stays (place projection) valid (λ p i. good system valid p (each_in all numbers pairs are p i))
-    (classes projection 0 numbers pairs flags (as_many all numbers pairs are) removals) (finite stays are_left))
+    (each_stays_or_goes (projects_within projection) (Projects (place projection) (λ s t. s ≡ t)) (Projects (place projection) ProperSubterm) (one_class projection) 0
+    numbers pairs flags (as_many all numbers pairs are) removals)
+    (finite stays (pairs_left all numbers pairs flags are)))
+
+pub subterm_leaves : SubtermStepsLeaveNumbers
+subterm_leaves all projection numbers _ (goes_on pairs _ (taken _ are) (goes_on _ _ entries (goes_on flags _ removals (goes_on _ _ (holds some) returned)))) =
+    numbers_remain numbers flags

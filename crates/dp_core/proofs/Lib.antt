@@ -12,3 +12,8 @@ pub mod Flags
 pub mod Conclusions
 pub mod AllNumbers
 pub mod Places
+pub mod LeastLacking
+pub mod Comparisons
+pub mod OrderLaws
+pub mod Removed
+pub mod OrderConclusions

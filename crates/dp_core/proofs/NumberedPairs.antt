@@ -1,10 +1,9 @@
--- Pairs of a list, by their numbers.
+-- Items of a list, by their numbers.
 use Rattle.std.specs.Prelude.{◌≡◌, ◌<◌, ◌≤◌, ℕ, List, [], ◌∷◌, length, All, map, drop, zip, get_or, Some, slice_get}
 use Rattle.std.proofs.Common.{zero, suc, refl, sym, ap, subst, arith, ◌∙◌}
 use Rattle.std.proofs.lemmas.Option.{slice_get_read, slice_get-get_or, get_or_from_slice_get, slice_get_within}
 use Rattle.rewrite_core.proofs.Items.{zipped}
-use Rattle.pair_theory.specs.DependencyPair.{DependencyPair}
-use Rattle.dp_core.specs.Numbered.{ArePairsOf}
+use Rattle.dp_core.specs.Numbered.{AreItemsOf}
 
 head_of : {A : Type 0} (x y : A) (xs ys : List A) → x ∷ xs ≡ y ∷ ys → (x ≡ y) × (xs ≡ ys)
 head_of x y xs ys e = (cc, cc)
@@ -12,25 +11,25 @@ head_of x y xs ys e = (cc, cc)
 some_same : {A : Type 0} (x y : A) → Some x ≡ Some y → x ≡ y
 some_same x y e = cc
 
-module _ (all : List DependencyPair) where
+module _ {A : Type 0} (all : List A) where
   -- there are such pairs
-  pub pairs_of_numbers : (numbers : List ℕ) → ((k n : ℕ) → slice_get numbers k ≡ Some n → n < length all) → (pairs : List DependencyPair) × ArePairsOf all numbers pairs
+  pub pairs_of_numbers : (numbers : List ℕ) → ((k n : ℕ) → slice_get numbers k ≡ Some n → n < length all) → (pairs : List A) × AreItemsOf all numbers pairs
   pairs_of_numbers [] within = ([], refl)
   pairs_of_numbers (n ∷ numbers) within =
       let rest = pairs_of_numbers numbers (λ k m e. within (suc k) m e) in
       let here = item_there all n (within zero n refl) in
       (here.0 ∷ rest.0, cons_both here.1 rest.1)
     where
-      item_there : (xs : List DependencyPair) (i : ℕ) → i < length xs → (x : DependencyPair) × (slice_get xs i ≡ Some x)
+      item_there : (xs : List A) (i : ℕ) → i < length xs → (x : A) × (slice_get xs i ≡ Some x)
       item_there [] i h = absurd (omega arith)
       item_there (x ∷ xs) zero h = (x, refl)
       item_there (x ∷ xs) (suc i) h = item_there xs i (omega arith)
 
-      cons_both : {A : Type 0} {x y : A} {xs ys : List A} → x ≡ y → xs ≡ ys → x ∷ xs ≡ y ∷ ys
+      cons_both : {B : Type 0} {x y : B} {xs ys : List B} → x ≡ y → xs ≡ ys → x ∷ xs ≡ y ∷ ys
       cons_both e d = cc
 
   -- the pair of the number that is read
-  pub pair_of_number : (numbers : List ℕ) (pairs : List DependencyPair) (k n : ℕ) (p : DependencyPair) → ArePairsOf all numbers pairs
+  pub pair_of_number : (numbers : List ℕ) (pairs : List A) (k n : ℕ) (p : A) → AreItemsOf all numbers pairs
       → slice_get numbers k ≡ Some n → slice_get all n ≡ Some p → slice_get pairs k ≡ Some p
   pair_of_number [] pairs k n p are e d = absurd cc
   pair_of_number (m ∷ numbers) [] k n p are e d = absurd cc
@@ -43,7 +42,7 @@ module _ (all : List DependencyPair) where
       let h = head_of (slice_get all m) (Some q) (map (slice_get all) numbers) (map (λ x. Some x) pairs) are in
       pair_of_number numbers pairs k n p h.1 e d
 
-  pub as_many : (numbers : List ℕ) (pairs : List DependencyPair) → ArePairsOf all numbers pairs → length pairs ≡ length numbers
+  pub as_many : (numbers : List ℕ) (pairs : List A) → AreItemsOf all numbers pairs → length pairs ≡ length numbers
   as_many [] [] are = refl
   as_many [] (q ∷ pairs) are = absurd cc
   as_many (m ∷ numbers) [] are = absurd cc
@@ -52,13 +51,13 @@ module _ (all : List DependencyPair) where
       ap suc (as_many numbers pairs h.1)
 
   -- the pair, as it is read
-  pub pair_at : (numbers : List ℕ) (taken : List DependencyPair) (k : ℕ) (p : DependencyPair) → All (λ n. n < length all) numbers → ArePairsOf all numbers taken
+  pub pair_at : (numbers : List ℕ) (taken : List A) (k : ℕ) (p : A) → All (λ n. n < length all) numbers → AreItemsOf all numbers taken
       → k < length numbers → p ≡ get_or all (get_or numbers k 0) p → slice_get taken k ≡ Some p
   pair_at numbers taken k p within are h e =
       pair_of_number numbers taken k (get_or numbers k 0) p are (slice_get-get_or numbers k 0 h)
       (slice_get_read all (length all) (get_or numbers k 0) p refl (within k 0 h) e)
 
-  pub item_at : (numbers : List ℕ) (taken : List DependencyPair) (k : ℕ) (p : DependencyPair) → All (λ n. n < length all) numbers → ArePairsOf all numbers taken
+  pub item_at : (numbers : List ℕ) (taken : List A) (k : ℕ) (p : A) → All (λ n. n < length all) numbers → AreItemsOf all numbers taken
       → k < length numbers → p ≡ get_or all (get_or numbers k 0) p → slice_get (zip numbers taken) k ≡ Some (get_or numbers k 0, p)
   item_at numbers taken k p within are h e =
       zipped numbers taken k (get_or numbers k 0) p (slice_get-get_or numbers k 0 h) (pair_at numbers taken k p within are h e)

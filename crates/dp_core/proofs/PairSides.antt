@@ -1,8 +1,10 @@
 -- The sides of a pair, as they are found.
-use Rattle.std.specs.Prelude.{◌≡◌, ◌≤◌, ◌<◌, ℕ, ◌+◌, List, [], ◌∷◌, ◌++◌, length, take, get_or, Some, slice_get}
+use Rattle.std.specs.Prelude.{◌≡◌, ◌≤◌, ◌<◌, ℕ, ◌+◌, List, [], ◌∷◌, ◌++◌, length, take, get_or, All, Some, slice_get}
 use Rattle.std.proofs.Common.{suc, refl, sym, ap, subst, arith, ◌∙◌, add-one}
 use Rattle.std.proofs.Math.Seq.{take-suc}
 use Rattle.std.proofs.lemmas.Option.{slice_get_within, slice_get-get_or, get_or_from_slice_get, slice_get_read}
+use Rattle.trs_defs.specs.Member.{In}
+use Rattle.trs_defs.proofs.Members.{in_of_get}
 use Rattle.trs_defs.specs.Tree.{Tree, nil, count}
 use Rattle.trs_defs.specs.WellFormed.{IsWellFormed}
 use Rattle.trs_defs.specs.Position.{subterm_at}
@@ -11,13 +13,15 @@ use Rattle.trs_defs.specs.Path.{PlacedRule}
 use Rattle.trs_defs.proofs.WellFormedness.{subterm_there}
 use Rattle.pair_theory.specs.Marked.{Marked, plain}
 use Rattle.pair_theory.specs.DependencyPair.{DependencyPair, dependency_pairs}
+use Rattle.pair_theory.specs.PairProblem.{IsPair}
+use Rattle.dp_core.specs.LeastLacking.{IsMarkable}
 use Rattle.dp_core.specs.PlacedPairs.{placed_pairs, IsPairAt, IsPlacedPair}
 use Rattle.dp_core.specs.Laws.{AllPairsArePlaced, PairsArePlacedInOrder}
 
 pub the_same : {A : Type 0} (x y : A) → Some x ≡ Some y → x ≡ y
 the_same x y e = cc
 
-small_symbol : (arities : List ℕ) → length arities ≤ 4095 → (t : Tree) (m : Marked) → IsWellFormed arities t → t ≡ plain m → m.symbol < 4096
+pub small_symbol : (arities : List ℕ) → length arities ≤ 4095 → (t : Tree) (m : Marked) → IsWellFormed arities t → t ≡ plain m → m.symbol < 4096
 small_symbol arities few t m well is =
     let w : IsWellFormed arities (plain m) = subst (IsWellFormed arities) is well in
     let h = slice_get_within arities m.symbol (count m.args) w.0 in
@@ -71,3 +75,14 @@ pub one_more_taken : {A : Type 0} (xs items new : List A) (i : ℕ) (x y : A) �
 one_more_taken xs items new i x y e same before grown =
     let whole : take (suc i) xs ≡ take i xs ++ x ∷ [] = take-suc xs i x (slice_get_within xs i x e) ∙ ap (λ z. take i xs ++ z ∷ []) (get_or_from_slice_get xs i x x e) in
     grown ∙ (ap (λ l. l ++ y ∷ []) before ∙ (ap (λ z. take i xs ++ z ∷ []) same ∙ rw add-one (sym whole)))
+
+-- the sides of dependency pairs can be marked
+pub all_markable : (system : System) → length system.arities ≤ 4095 → ((p : DependencyPair) → In p (dependency_pairs system.rules) → IsPair system.arities p)
+    → All IsMarkable (dependency_pairs system.rules)
+all_markable system few good k d within =
+    let p = get_or (dependency_pairs system.rules) k d in
+    let over = good p (in_of_get (dependency_pairs system.rules) k p (slice_get-get_or (dependency_pairs system.rules) k d within)) in
+    record {
+      from = small_symbol system.arities few (plain p.from) p.from over.from_well_formed refl;
+      to = small_symbol system.arities few (plain p.to) p.to over.to_well_formed refl;
+    }

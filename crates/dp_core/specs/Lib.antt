@@ -3,5 +3,8 @@ pub mod Laws
 pub mod PairCodes
 pub mod Numbered
 pub mod SubtermConditions
+pub mod Symbols
+pub mod PairConditions
 pub mod LeastMissing
+pub mod LeastLacking
 pub mod Places

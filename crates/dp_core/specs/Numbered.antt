@@ -3,9 +3,13 @@ use Rattle.std.specs.Prelude.{◌≡◌, ℕ, ◌+◌, List, [], ◌∷◌, map,
 use Rattle.rewrite_core.specs.declared.refusals.StepRefused.{StepRefused}
 use Rattle.pair_theory.specs.DependencyPair.{DependencyPair}
 
+-- these are the items of these numbers
+abbrev pub AreItemsOf : {A : Type 0} → List A → List ℕ → List A → Type 0
+AreItemsOf all numbers chosen = map (slice_get all) numbers ≡ map (λ x. Some x) chosen
+
 -- these are the pairs of these numbers
 abbrev pub ArePairsOf : List DependencyPair → List ℕ → List DependencyPair → Type 0
-ArePairsOf all numbers pairs = map (slice_get all) numbers ≡ map (λ p. Some p) pairs
+ArePairsOf all numbers pairs = AreItemsOf all numbers pairs
 
 -- the pairs of the numbers are the value
 pub data TakesPairs (all : List DependencyPair) (numbers : List ℕ) : Result (List DependencyPair) StepRefused → Type 0 where

@@ -10,7 +10,7 @@ use std::marker::Model;
 use trs_core::{Args, OutOfMemory, Term, Trs};
 
 /// What the number of a symbol grows by where it is marked.
-const MARK: u32 = 4_096;
+pub(crate) const MARK: u32 = 4_096;
 
 /// A side of a pair, lent by the system: the number of its root without the mark, and the
 /// arguments. Contracts see it as a marked term.
@@ -82,6 +82,25 @@ fn marked_copy(alloc: Global, t: &Term) -> Result<Term, OutOfMemory>
         Term::App(f, args) => Ok(Term::App(f + MARK, args)),
         Term::Var(n) => Ok(Term::Var(n)),
     }
+}
+
+/// A side as a term, with its root marked.
+pub(crate) fn marked_term(alloc: Global, side: &Side) -> Result<Term, OutOfMemory>
+    requires { side.now.symbol < 4096 }
+    ensures { IfOk result (λ t. tree t ≡ mark side.now) }
+{
+    let args = copied(alloc, side.args)?;
+    Ok(Term::App(side.symbol + MARK, args))
+}
+
+fn copied(alloc: Global, args: &Args) -> Result<Args, OutOfMemory>
+    ensures { IfOk result (λ copy. copy ≡ args.now) }
+{
+    let mut copies = Vec::with_capacity(alloc, args.items.len())?;
+    for arg in &args.items {
+        copies.push(arg.copy(alloc)?)?;
+    }
+    Ok(Args::new(copies))
 }
 
 /// The sides of a pair that stands there.

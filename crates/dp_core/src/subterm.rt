@@ -2,8 +2,10 @@ ghost use Rattle.std.specs.Prelude.{◌≡◌, ◌<◌, ◌↔◌, ◌++◌, ℕ
 ghost use Rattle.std.specs.Prelude.{All, IfOk, OnOk, [], ◌∷◌, Some, None, zip, length};
 ghost use Rattle.trs_defs.specs.Member.{In};
 ghost use Rattle.pair_theory.specs.DependencyPair.{DependencyPair, dependency_pairs};
-ghost use Rattle.rewrite_core.specs.Check.{Answers, AnswersBy, ForbidsAny, collect};
+ghost use Rattle.rewrite_core.specs.Check.{Answers, AnswersBy, ForbidsAny, Needs, Returns};
+ghost use Rattle.rewrite_core.specs.Check.{Then, collect};
 ghost use Rattle.rewrite_core.specs.declared.refusals.StepRefused.TheVariants.{NoEntry};
+ghost use Rattle.rewrite_core.specs.declared.refusals.StepRefused.TheVariants.{NothingRemoved};
 ghost use Rattle.dp_core.specs.PlacedPairs.{placed_pairs};
 ghost use Rattle.dp_core.specs.Numbered.{ArePairsOf};
 ghost use Rattle.dp_core.specs.LeastMissing.{IsMissing, IsLeastMissing};
@@ -65,10 +67,7 @@ impl<'a> Pairs<'a> {
     {
         entries_check(self.sides(), problem, projection)?;
         let removed = removed_pairs(alloc, self.sides(), problem, projection)?;
-        if !is_any(&removed) {
-            return Err(CheckFault::Refused(StepRefused::NothingRemoved));
-        }
-        Ok(remaining(alloc, problem, &removed)?)
+        left_over(alloc, problem, &removed)
     }
 }
 
@@ -157,6 +156,22 @@ fn removed_pairs(
     Ok(removed)
 }
 
+/// The numbers of the pairs that remain. One must be removed.
+pub(crate) fn left_over(
+    alloc: Global,
+    problem: &[u32],
+    removed: &[bool],
+) -> Result<Vec<u32>, CheckFault>
+    requires { length removed.now ≡ length problem.now }
+    ensures { AnswersBy (λ left. left.items) (Then (Needs (In true removed.now) NothingRemoved)
+        (λ _. Returns (unflagged problem.now removed.now))) result }
+{
+    if !is_any(removed) {
+        return Err(CheckFault::Refused(StepRefused::NothingRemoved));
+    }
+    Ok(remaining(alloc, problem, removed)?)
+}
+
 fn is_any(flags: &[bool]) -> bool
     ensures { IsTrue result ↔ In true flags.now }
 {
@@ -168,7 +183,7 @@ fn is_any(flags: &[bool]) -> bool
     false
 }
 
-fn add(flags: &mut Vec<bool>, flag: bool) -> Result<(), OutOfMemory>
+pub(crate) fn add(flags: &mut Vec<bool>, flag: bool) -> Result<(), OutOfMemory>
     ensures { OnOk result (flags.new.items ≡ flags.old.items ++ flag ∷ []) }
 {
     flags.push(flag)?;

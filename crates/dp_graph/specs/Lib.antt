@@ -1,1 +1,4 @@
 pub mod Edge
+pub mod GroupOrSingle
+pub mod GraphConditions
+pub mod Laws

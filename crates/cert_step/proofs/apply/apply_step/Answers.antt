@@ -10,7 +10,7 @@ use Rattle.cert_step.proofs.apply.apply_step.Goals as goal
 pub returns-clause-only : goal.returns-clause-only
 returns-clause-only c = λ left applies.
     only_answer (step_conditions c.args.trs.now (problem_of c.args.problem.now) (step_of c.args.step.now)) problems_of c.checked.result left
-    (step_once c.args.trs.now c.keeps_system.ensures (problem_of c.args.problem.now) (step_of c.args.step.now)) c.checked.ensures applies
+    (step_once c.args.trs.now c.keeps_system.ensures.is_system (problem_of c.args.problem.now) (step_of c.args.step.now)) c.checked.ensures applies
 
 pub returns-clause-sound : goal.returns-clause-sound
 returns-clause-sound c =

@@ -1,10 +1,10 @@
-use Rattle.std.proofs.Common.{length}
+use Rattle.std.proofs.Common.{ℕ, length, Vec, Global}
 use Rattle.std.proofs.lemmas.Result.{err_from_is_err_and}
 use Rattle.pair_theory.specs.DependencyPair.{DependencyPair}
 use Rattle.std.specs.Prelude.{List}
 use Rattle.dp_core.specs.Numbered.{ArePairsOf}
 use Rattle.dp_core.proofs.NumberedPairs.{pairs_of_numbers, within_all}
-use Rattle.dp_core.proofs.SubtermLaws.{entries_refuse, removals_refuse, none_removed, some_remain, flags_counted}
+use Rattle.dp_core.proofs.SubtermLaws.{entries_refuse, removals_refuse, subterm_answers, flags_counted}
 use Rattle.dp_core.proofs.prepared.Pairs.subterm_step.Goals as goal
 use Rattle.dp_core.proofs.prepared.Pairs.subterm_step.Goals.{After-entries_check}
 
@@ -24,29 +24,18 @@ returns-in_err-removed c =
     let entries = (rw c.sides.ensures at c.in_ok-entries_check.ensures) pairs.0 pairs.1 in
     record { answers = rw (p.1, p.2) (removals_refuse c.args.self.now c.args.projection.now c.args.problem.now pairs.0 pairs.1 c.in_err-removed.field-0.0 entries ((rw c.sides-2.ensures at c.in_err-removed.ensures) pairs.0 pairs.1)) }
 
-pub returns-then-not-is_any : goal.returns-then-not-is_any
-returns-then-not-is_any c =
-    let pairs = the_pairs (goal.at.returns-then-not-is_any c).After-entries_check in
-    let entries = (rw c.sides.ensures at c.in_ok-entries_check.ensures) pairs.0 pairs.1 in
+pub left_over-requires : goal.left_over-requires
+left_over-requires c =
+    let pairs = the_pairs (goal.at.left_over-requires c).After-entries_check in
     let removals = (rw c.sides-2.ensures at c.in_ok-removed.ensures) pairs.0 pairs.1 in
-    let any = rw c.deref.ensures.value at c.is_any.ensures in
-    let not_any = c.if-not-is_any.true in
-    record { answers = none_removed c.args.self.now c.args.projection.now c.args.problem.now pairs.0 pairs.1 c.in_ok-removed.removed.items entries removals (λ m. let set = any.1 m in absurd cc) }
-
-pub remaining-requires : goal.remaining-requires
-remaining-requires c =
-    let pairs = the_pairs (goal.at.remaining-requires c).After-entries_check in
-    let removals = (rw c.sides-2.ensures at c.in_ok-removed.ensures) pairs.0 pairs.1 in
-    rw c.deref-2.ensures.value (flags_counted c.args.self.now c.args.projection.now c.args.problem.now pairs.0 pairs.1 c.in_ok-removed.removed.items removals)
+    rw c.deref.ensures.value (flags_counted c.args.self.now c.args.projection.now c.args.problem.now pairs.0 pairs.1 c.in_ok-removed.removed.items removals)
 
 pub returns : goal.returns
 returns c =
     let pairs = the_pairs (goal.at.returns c).After-entries_check in
     let entries = (rw c.sides.ensures at c.in_ok-entries_check.ensures) pairs.0 pairs.1 in
     let removals = (rw c.sides-2.ensures at c.in_ok-removed.ensures) pairs.0 pairs.1 in
-    let any = rw c.deref.ensures.value at c.is_any.ensures in
-    let is_set = c.if-not-is_any.false in
     record {
-      answers = some_remain c.args.self.now c.args.projection.now c.args.problem.now pairs.0 pairs.1 c.in_ok-removed.removed.items c.in_ok-remaining.field-0.items entries removals (any.0 cc)
-          (rw c.deref-2.ensures.value at c.in_ok-remaining.ensures);
+      answers = subterm_answers c.args.self.now c.args.projection.now c.args.problem.now pairs.0 pairs.1 (λ (left : Vec ℕ Global). left.items) c.in_ok-removed.removed.items c.left_over.result entries removals
+          (rw c.deref.ensures.value at c.left_over.ensures);
     }

@@ -1,0 +1,14 @@
+-- The kind `poly` is sound.
+use Rattle.std.specs.Prelude.{ℕ, List}
+use Rattle.path_lpo.specs.Table.{PathEntry}
+use Rattle.kbo_order.specs.declared.entries.KboEntry.{KboEntry}
+use Rattle.cert_step.specs.Kind.{IsSound}
+use Rattle.cert_step.specs.PolyKind.{poly_kind}
+use Rattle.cert_step.proofs.PairsSound.{pairs_sound}
+
+pub poly_sound : (entries : List (ℕ × List ℕ)) → IsSound (poly_kind entries)
+poly_sound entries = pairs_sound _ _ (record {
+  one_answer = λ system numbers. record { once = λ a b h k. absurd h };
+  concludes = λ system numbers left valid keeps h finite. absurd h;
+  remain = λ system numbers left h well. absurd h;
+})
