@@ -1,1 +1,2 @@
 pub mod ProjectionLaws
+pub mod GraphItemLaws
