@@ -9,7 +9,7 @@ use Rattle.text_reading.specs.Reading.{Read, ◌<*>◌, Form, form, part, done, 
 use Rattle.text_reading.specs.Numbers.{number}
 use Rattle.text_reading.specs.Printed.{number_item}
 use Rattle.text_reading.proofs.Words.{plain_word}
-use Rattle.text_reading.proofs.Made.{Makes, ok_same, applied, made_part, made_done, made_form, made_word, made_of_form, made_number}
+use Rattle.text_reading.proofs.Made.{Makes, ok_same, applied, made_part, made_done, made_form, made_word, made_number}
 use Rattle.text_reading.proofs.Again.{Spells, SpellsAll, SpellsParts, spells_part, spells_done, spells_word, spells_form, spells_number, spells_each}
 use Rattle.symbol_text.specs.LongLists.{lacks, long_list}
 use Rattle.symbol_text.specs.InTurn.{before_others, in_turn, AllInTurn, above, number_from, ascending}
