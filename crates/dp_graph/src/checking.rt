@@ -27,7 +27,8 @@ pub fn group_check(
         (graph_conditions trs.now.rules (dependency_pairs trs.now.rules) problem.now
         (items_of items.now)) result }
 {
-    Err(CheckFault::OutOfMemory)
+    let graph = PairGraph::of(alloc, trs, all)?;
+    graph.group_check(alloc, problem, items)
 }
 
 impl<'a> PairGraph<'a> {
