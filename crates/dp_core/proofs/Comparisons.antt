@@ -1,5 +1,5 @@
 -- What a comparison answers of the conditions.
-use Rattle.std.specs.Prelude.{◌≡◌, ◌↔◌, ℕ, ◌+◌, Bool, true, false, IsTrue, Result, Ok, Err, refl}
+use Rattle.std.specs.Prelude.{◌≡◌, ◌↔◌, ℕ, ◌+◌, Bool, true, false, IsTrue, Ok, Err, refl}
 use Rattle.trs_defs.specs.Tree.{Tree}
 use Rattle.pair_theory.specs.Marked.{mark}
 use Rattle.pair_theory.specs.DependencyPair.{DependencyPair}

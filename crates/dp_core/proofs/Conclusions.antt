@@ -1,5 +1,5 @@
 -- What a step on pairs concludes.
-use Rattle.std.specs.Prelude.{◌≡◌, ℕ, ◌+◌, ◌⊎◌, Bool, true, false, List, [], ◌∷◌, length, map, zip, Option, Some, None, Result, Ok, slice_get}
+use Rattle.std.specs.Prelude.{◌≡◌, ℕ, ◌+◌, ◌⊎◌, Bool, false, List, [], ◌∷◌, map, Option, Some, None, Result, Ok, slice_get}
 use Rattle.std.specs.Option.{option_and_then}
 use Rattle.std.proofs.Common.{zero, suc, inl, inr, refl, sym, ap, subst, arith, ◌∙◌}
 use Rattle.trs_defs.specs.Member.{In, in_first, in_rest}
@@ -14,7 +14,7 @@ use Rattle.pair_theory.specs.DependencyPair.{DependencyPair, dependency_pairs}
 use Rattle.pair_theory.specs.PairProblem.{IsFiniteProblem, IsPair}
 use Rattle.pair_theory.specs.SubtermCriterion.{Projects}
 use Rattle.rewrite_core.specs.declared.refusals.StepRefused.{StepRefused}
-use Rattle.rewrite_core.specs.Check.{HasOneAnswer, goes_on, holds, returned, yes_it_does, no_it_does_not, collect}
+use Rattle.rewrite_core.specs.Check.{HasOneAnswer, goes_on, holds, returned, yes_it_does, no_it_does_not}
 use Rattle.rewrite_core.proofs.CheckLaws.{once}
 use Rattle.dp_core.specs.Numbered.{ArePairsOf, TakesPairs, taken, numbers_from}
 use Rattle.dp_core.specs.SubtermConditions.{place_for, ProjectedAre, projects_within, unflagged}

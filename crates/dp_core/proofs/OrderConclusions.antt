@@ -1,7 +1,7 @@
 -- What a step by an order concludes.
 use Rattle.std.specs.Prelude.{◌≡◌, ℕ, ◌+◌, ◌⊎◌, Bool, true, false, List, [], ◌∷◌, ◌++◌, length, zip, Option, Some, None, Ok, slice_get}
 use Rattle.std.specs.Option.{option_and_then}
-use Rattle.std.proofs.Common.{zero, suc, inl, inr, refl, sym, ap, subst, ◌∙◌}
+use Rattle.std.proofs.Common.{zero, suc, inl, inr, refl, sym, subst, ◌∙◌}
 use Rattle.trs_defs.specs.Member.{In, in_first, in_rest}
 use Rattle.trs_defs.proofs.Members.{in_or, no_in, in_left, in_right, in_of_get}
 use Rattle.trs_defs.specs.Tree.{Tree, Trees, var, app, nil, cons, items}
@@ -9,7 +9,7 @@ use Rattle.trs_defs.specs.Position.{subterm_at, argument_at}
 use Rattle.trs_defs.specs.System.{RewriteRule, System, IsSystem}
 use Rattle.trs_defs.specs.Path.{PlacedRule}
 use Rattle.pair_theory.specs.Erased.{HasEntries, HaveEntries}
-use Rattle.pair_theory.specs.Marked.{Marked, plain, mark}
+use Rattle.pair_theory.specs.Marked.{plain, mark}
 use Rattle.pair_theory.specs.DependencyPair.{DependencyPair, dependency_pairs}
 use Rattle.pair_theory.specs.PairProblem.{IsFiniteProblem, IsPair}
 use Rattle.pair_theory.specs.ReductionPair.{marked_rule}

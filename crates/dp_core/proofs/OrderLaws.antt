@@ -1,5 +1,5 @@
 -- The conditions of a step by an order, one after another.
-use Rattle.std.specs.Prelude.{◌≡◌, ℕ, Bool, List, length, zip, Result, Ok, Err}
+use Rattle.std.specs.Prelude.{◌≡◌, ℕ, Bool, List, length, zip, Result, Ok}
 use Rattle.std.proofs.Common.{◌∙◌}
 use Rattle.trs_defs.specs.System.{RewriteRule}
 use Rattle.pair_theory.specs.DependencyPair.{DependencyPair}

@@ -1,6 +1,5 @@
 -- The least of symbols that has no entry.
 use Rattle.std.specs.Prelude.{◌<◌, ℕ, Bool, List, [], ◌∷◌, Option, Some, None, nat_lt, if◌then◌else◌}
-use Rattle.pair_theory.specs.Marked.{Marked}
 use Rattle.pair_theory.specs.DependencyPair.{DependencyPair}
 
 -- the lower one of the best so far and a number

@@ -7,7 +7,7 @@ use Rattle.trs_caps.specs.HoledCap.{MeetsLeft, IsHoledCap}
 use Rattle.pair_theory.specs.Marked.{mark}
 use Rattle.pair_theory.specs.DependencyPair.{DependencyPair}
 use Rattle.dp_graph.specs.Edge.{IsEdge}
-use Rattle.dp_graph.proofs.OneCap.{one_cap}
+use Rattle.trs_caps.proofs.Fitting.{one_cap}
 
 module _ (c : HoledTree) (l : Tree) (rules : List RewriteRule) (p q : DependencyPair) (cap : IsHoledCap rules false (mark p.to) c) (left : l ≡ mark q.from) where
   edge_of : MeetsLeft c l → IsEdge rules p q

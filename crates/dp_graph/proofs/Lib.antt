@@ -1,3 +1,12 @@
-pub mod OneCap
 pub mod EdgeTest
 pub mod Covering
+pub mod EachOfList
+pub mod Concluding
+pub mod Sets
+pub mod ItemLists
+pub mod UnnamedPairs
+pub mod EarlierLaws
+pub mod OnwardItems
+pub mod SingleItems
+pub mod NodeLists
+pub mod GraphAnswers

@@ -19,10 +19,10 @@ abbrev pub HoldsAtEdges : List RewriteRule → List DependencyPair → (ℕ → 
 HoldsAtEdges rules pairs test =
     (i j : ℕ) (p q : DependencyPair) → slice_get pairs i ≡ Some p → slice_get pairs j ≡ Some q → IsEdge rules p q → IsTrue (test i j)
 
--- a test that holds where there is an edge covers chain steps, where marks (from 4,096 on) pass all symbols
+-- a test that holds where there is an edge covers chain steps
 abbrev pub EdgesCoverChainSteps : Type 0
 EdgesCoverChainSteps =
-    (system : System) (pairs : List DependencyPair) (test : ℕ → ℕ → Bool) → IsSystem system → length system.arities ≤ 4095
+    (system : System) (pairs : List DependencyPair) (test : ℕ → ℕ → Bool) → IsSystem system
     → HoldsAtEdges system.rules pairs test → CoversSteps system pairs test
 
 -- the roots agree, and some instance of the second left side's arguments fits the caps of the first right side's arguments
@@ -31,7 +31,7 @@ MeetsByArguments rules p q =
     (p.to.symbol ≡ q.from.symbol) × (caps : HoledTrees) × AreHoledCaps rules false p.to.args caps
     × (σ : ℕ → Tree) × EachFits caps (apply_all σ q.from.args)
 
--- edges are just these, where marks pass all symbols
+-- edges are just these, where marks (from 4,096 on) pass all symbols
 abbrev pub EdgesAreByArguments : Type 0
 EdgesAreByArguments =
     (system : System) (p q : DependencyPair) → IsSystem system → length system.arities ≤ 4095

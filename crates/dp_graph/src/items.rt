@@ -1,7 +1,8 @@
 ghost use Rattle.std.specs.Prelude.{◌≡◌, IfOk};
-ghost use Rattle.dp_graph.specs.GroupOrSingle.{item_of};
+ghost use Rattle.dp_graph.specs.GroupOrSingle.{item_of, members_of};
 
 use std::alloc::Global;
+use std::slice::from_ref;
 use trs_core::OutOfMemory;
 
 /// An item of a step by the graph. Contracts see it as a `GroupOrSingle`, by `item_of`.
@@ -21,5 +22,15 @@ impl GraphItem {
             GraphItem::Group(pairs) => GraphItem::Group(pairs.to_vec(alloc)?),
             GraphItem::Single(pair) => GraphItem::Single(*pair),
         })
+    }
+
+    /// The pairs of the item, in order.
+    pub fn members(&self) -> &[u32]
+        ensures { result.now ≡ members_of (item_of self.now) }
+    {
+        match self {
+            GraphItem::Group(pairs) => pairs,
+            GraphItem::Single(pair) => from_ref(pair),
+        }
     }
 }

@@ -4,13 +4,17 @@
 #![tactic(auto)]
 
 mod checking;
+mod earlier;
 mod edges;
 mod graph;
 mod items;
 mod laws;
+mod naming;
+mod onward;
+mod singles;
 
 pub use checking::group_check;
 pub use edges::{edge, leads, right_cap};
 pub use graph::PairGraph;
 pub use items::GraphItem;
-pub use laws::{edges_are_by_arguments, edges_cover_chain_steps};
+pub use laws::{edges_are_by_arguments, edges_cover_chain_steps, graph_steps_conclude};

@@ -1,1 +1,4 @@
 pub mod Found
+pub mod SymbolsAsked
+pub mod Chosen
+pub mod UsableConclusions

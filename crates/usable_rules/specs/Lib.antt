@@ -1,2 +1,4 @@
 pub mod AreUsable
+pub mod UsableConditions
+pub mod Laws
 pub mod Worklist

@@ -26,6 +26,21 @@ pub fn usable(
         AreUsableRules trs.now.rules pairs numbers.items) }
 {
     let pairs = Pairs::of(alloc, trs, all)?;
+    usable_for(alloc, trs, &pairs, problem)
+}
+
+/// The same, where the pairs of the system are prepared.
+pub(crate) fn usable_for(
+    alloc: Global,
+    trs: &Trs,
+    pairs: &Pairs,
+    problem: &[u32],
+) -> Result<Vec<u32>, OutOfMemory>
+    requires numbers { All (λ n. n < length pairs.now) problem.now }
+    ensures usable { IfOk result (λ numbers. (taken : List DependencyPair) →
+        ArePairsOf pairs.now problem.now taken →
+        AreUsableRules trs.now.rules taken numbers.items) }
+{
     let by_root = RulesByRoot::new(alloc, trs)?;
     let mut flags = vec![in alloc; false; trs.rules().len()]?;
     let mut found = Vec::new(alloc);

@@ -2,4 +2,4 @@ use Rattle.dp_graph.proofs.Covering.{edges_cover}
 use Rattle.dp_graph.proofs.laws.edges_cover_chain_steps.Goals as goal
 
 pub returns : goal.returns
-returns c = edges_cover c.groups_suffice.ensures.estimate
+returns c = edges_cover

@@ -1,0 +1,111 @@
+ghost use Rattle.std.specs.Prelude.{ℕ, ◌≡◌, ◌++◌, List, [], ◌∷◌, IfOk, OnOk};
+ghost use Rattle.trs_defs.specs.System.{System};
+ghost use Rattle.dp_graph.specs.EarlierPairs.{IsEarlier, pairs_at, first_led_to, leads_to_none_of};
+
+use crate::PairGraph;
+use std::alloc::Global;
+use std::collections::{BTreeMap, BTreeSet};
+use trs_core::OutOfMemory;
+
+/// The pairs of earlier items, by the roots of their left sides. Of the pairs of a rule it has the
+/// one that was named first, since an edge to a pair depends on its left side alone.
+#[derive(Drop)]
+pub(crate) struct Earlier {
+    by_root: BTreeMap<u32, Vec<u32>>,
+    rules: BTreeSet<u32>,
+}
+
+impl Earlier {
+    /// No pairs.
+    pub(crate) fn new(alloc: Global) -> Earlier
+        ensures { (system : System) → IsEarlier system [] result }
+    {
+        Earlier {
+            by_root: BTreeMap::new(alloc),
+            rules: BTreeSet::new(alloc),
+        }
+    }
+
+    /// The first earlier pair to which an edge leads from pair number `from`.
+    pub(crate) fn led_to(
+        &self,
+        alloc: Global,
+        graph: &PairGraph,
+        from: u32,
+    ) -> Result<Option<u32>, OutOfMemory>
+        ensures { IfOk result (λ to. (members : List ℕ) → IsEarlier graph.now members self.now →
+            leads_to_none_of graph.now from members (first_led_to from to)) }
+    {
+        let Some(node) = graph.node(from) else {
+            return Ok(None);
+        };
+        match self.by_root.get(&node.to) {
+            Some(pairs) => first_of(alloc, graph, from, pairs),
+            None => Ok(None),
+        }
+    }
+
+    /// Puts a pair behind the others.
+    pub(crate) fn add(
+        &mut self,
+        alloc: Global,
+        graph: &PairGraph,
+        n: u32,
+    ) -> Result<(), OutOfMemory>
+        ensures { OnOk result ((members : List ℕ) → IsEarlier graph.now members self.old →
+            IsEarlier graph.now (members ++ n ∷ []) self.new) }
+    {
+        let Some(node) = graph.node(n) else {
+            return Ok(());
+        };
+        if self.rules.insert(node.rule)? {
+            push_at(alloc, &mut self.by_root, node.from, n)?;
+        }
+        Ok(())
+    }
+}
+
+/// The first of the pairs to which an edge leads from pair number `from`.
+fn first_of(
+    alloc: Global,
+    graph: &PairGraph,
+    from: u32,
+    pairs: &[u32],
+) -> Result<Option<u32>, OutOfMemory>
+    ensures { IfOk result (λ to. leads_to_none_of graph.now from pairs.now (first_led_to from to)) }
+{
+    for n in pairs {
+        if graph.leads(alloc, from, *n)? {
+            return Ok(Some(*n));
+        }
+    }
+    Ok(None)
+}
+
+/// Puts a pair behind those at a root.
+fn push_at(
+    alloc: Global,
+    by_root: &mut BTreeMap<u32, Vec<u32>>,
+    root: u32,
+    n: u32,
+) -> Result<(), OutOfMemory>
+    ensures here { OnOk result (pairs_at by_root.new root ≡ pairs_at by_root.old root ++ n ∷ []) }
+    ensures others { OnOk result ((f : ℕ) → (f ≡ root → ⊥) →
+        pairs_at by_root.new f ≡ pairs_at by_root.old f) }
+{
+    let mut pairs = take_at(alloc, by_root, root);
+    pairs.push(n)?;
+    by_root.insert(root, pairs)?;
+    Ok(())
+}
+
+/// Takes out the pairs at a root.
+fn take_at(alloc: Global, by_root: &mut BTreeMap<u32, Vec<u32>>, root: u32) -> Vec<u32>
+    ensures taken { result.items ≡ pairs_at by_root.old root }
+    ensures others { (f : ℕ) → (f ≡ root → ⊥) → pairs_at by_root.new f ≡ pairs_at by_root.old f }
+{
+    match by_root.remove(&root) {
+        Some(pairs) => pairs,
+        None => Vec::new(alloc),
+    }
+}

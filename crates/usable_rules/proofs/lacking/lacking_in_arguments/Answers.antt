@@ -1,0 +1,29 @@
+use Rattle.std.proofs.Common.{◌≡◌, ◌+◌, ◌∷◌, [], drop, length, refl, sym, subst}
+use Rattle.std.proofs.lemmas.List.{drop_all}
+use Rattle.std.proofs.lemmas.Option.{slice_get_read}
+use Rattle.trs_core.specs.View.{tree, forest}
+use Rattle.dp_core.specs.Symbols.{symbols_of_all}
+use Rattle.dp_core.specs.LeastLacking.{least_lacking}
+use Rattle.dp_core.proofs.Collecting.{next_item}
+use Rattle.dp_core.proofs.LeastLacking.{argument_asked}
+use Rattle.usable_rules.proofs.lacking.lacking_in_arguments.Goals as goal
+
+pub loop-arg-preserved : goal.loop-arg-preserved
+loop-arg-preserved g c =
+    let items = c.deref-arg-items.result.now in
+    let i = c.loop-arg.arg-index in
+    let arg = c.arg-item.result in
+    let has = g.O.ReductionPair.has c.args.order.now in
+    let opened : drop i items ≡ arg ∷ drop (i + 1) items = next_item items i arg (slice_get_read items (length items) i arg refl c.loop-arg-test.true c.arg-item.is) in
+    argument_asked has (tree arg) (forest (drop (i + 1) items)) c.loop-arg.found c.least_lacking-found.result _ c.least_lacking-found.ensures
+    (subst (λ ts. least_lacking has c.loop-arg.found (symbols_of_all (forest ts)) ≡ least_lacking has c.args.least (symbols_of_all (forest items))) opened c.loop-arg.invariant)
+
+pub returns : goal.returns
+returns g c =
+    let items = c.deref-arg-items.result.now in
+    let has = g.O.ReductionPair.has c.args.order.now in
+    let is : c.args.side.now.args ≡ forest items = rw (← c.side.view_is, ← c.args-2.view_is, c.deref-arg-items.ensures.value) refl in
+    let none_left : drop c.loop-arg.arg-index items ≡ [] = drop_all c.loop-arg.arg-index items c.loop-arg-test.false in
+    let whole : c.loop-arg.found ≡ least_lacking has c.args.least (symbols_of_all (forest items)) =
+    subst (λ ts. least_lacking has c.loop-arg.found (symbols_of_all (forest ts)) ≡ least_lacking has c.args.least (symbols_of_all (forest items))) none_left c.loop-arg.invariant in
+    subst (λ ts. c.loop-arg.found ≡ least_lacking has c.args.least (symbols_of_all ts)) (sym is) whole
