@@ -1,5 +1,5 @@
 -- The kind `kbo` is sound.
-use Rattle.std.specs.Prelude.{◌≡◌, ℕ, Bool, true, false, List, [], ◌∷◌, Option, Some, option_map, ◌==◌, refl}
+use Rattle.std.specs.Prelude.{◌≡◌, ℕ, Bool, true, false, List, [], ◌∷◌, Some, option_map, ◌==◌, refl}
 use Rattle.std.specs.List.{AllByRecursion}
 use Rattle.std.proofs.Common.{cond, ap, subst, arith, ◌∙◌}
 use Rattle.std.proofs.lemmas.Bool.{eqb-true}

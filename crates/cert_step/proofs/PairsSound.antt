@@ -1,5 +1,5 @@
 -- Kinds of steps on problems of dependency pairs are sound.
-use Rattle.std.specs.Prelude.{◌≡◌, ◌<◌, ℕ, List, [], ◌∷◌, All, Ok, length}
+use Rattle.std.specs.Prelude.{◌≡◌, ℕ, List, [], ◌∷◌, Ok, length}
 use Rattle.trs_defs.specs.Member.{In}
 use Rattle.trs_defs.proofs.Members.{no_in}
 use Rattle.trs_defs.specs.System.{System}
