@@ -1,6 +1,6 @@
 -- The numbers of all pairs are a well-made problem.
 use Rattle.std.specs.Prelude.{◌≡◌, ◌<◌, ℕ, ◌+◌, List, [], ◌∷◌, length}
-use Rattle.std.proofs.Common.{zero, suc, refl, ap, subst, sym, arith, get_or, ◌∙◌}
+use Rattle.std.proofs.Common.{zero, suc, refl, ap, arith, get_or}
 use Rattle.trs_defs.specs.System.{System}
 use Rattle.pair_theory.specs.DependencyPair.{dependency_pairs}
 use Rattle.dp_core.specs.Numbered.{numbers_from}

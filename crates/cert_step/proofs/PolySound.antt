@@ -1,14 +1,16 @@
 -- The kind `poly` is sound.
 use Rattle.std.specs.Prelude.{ℕ, List}
-use Rattle.path_lpo.specs.Table.{PathEntry}
-use Rattle.kbo_order.specs.declared.entries.KboEntry.{KboEntry}
+use Rattle.order_theory.proofs.Linear.{linear_pair}
+use Rattle.pair_theory.specs.ReductionPair.{AllTerms}
+use Rattle.pair_order.specs.Entries.{has_entry}
+use Rattle.poly_lin.specs.Table.{symbol_of, coefficient_in}
+use Rattle.poly_lin.specs.Laws.{spoken}
+use Rattle.cert_step.specs.Entries.{AreLinearEntries}
 use Rattle.cert_step.specs.Kind.{IsSound}
-use Rattle.cert_step.specs.PolyKind.{poly_kind}
-use Rattle.cert_step.proofs.PairsSound.{pairs_sound}
+use Rattle.cert_step.specs.PolyKind.{poly_comparing, poly_kind}
+use Rattle.cert_step.proofs.OrderSound.{order_sound}
 
 pub poly_sound : (entries : List (ℕ × List ℕ)) → IsSound (poly_kind entries)
-poly_sound entries = pairs_sound _ _ (record {
-  one_answer = λ system numbers. record { once = λ a b h k. absurd h };
-  concludes = λ system numbers left valid keeps h finite. absurd h;
-  remain = λ system numbers left h well. absurd h;
-})
+poly_sound entries =
+    order_sound (poly_comparing entries) AllTerms (λ arities. AreLinearEntries arities entries)
+    (λ system valid keeps. (linear_pair (coefficient_in entries), spoken system.arities (has_entry symbol_of entries)))

@@ -3,6 +3,7 @@ pub mod Subproblems
 pub mod Kind
 pub mod Entries
 pub mod OnPairs
+pub mod OrderKind
 pub mod DpKind
 pub mod GraphKind
 pub mod SubtermKind
@@ -20,5 +21,6 @@ pub mod ConfluenceKind
 pub mod ProofStep
 pub mod Applies
 pub mod Refused
+pub mod Tables
 pub mod Opposites
 pub mod Laws

@@ -10,22 +10,26 @@ abbrev pub for_pairs : ProofProblem → Bool
 for_pairs (problem.dp numbers) = true
 for_pairs _ = false
 
+-- the conditions on the pairs of a problem, and the problems that their value leaves; no other problems are asked
+abbrev pub on_pairs : {A : Type 0} → (List ℕ → Check A) → (A → List ProofProblem) → ProofProblem → Check (List ProofProblem)
+on_pairs conditions left (problem.dp numbers) = do
+  value ← conditions numbers
+  Returns (left value)
+on_pairs conditions left _ = λ _. ⊥
+
+-- a step on pairs, whose parts are known to keep some rules
+abbrev pub pairs_kind : {A : Type 0} → (System → Type 0) → (System → List ℕ → Check A) → (A → List ProofProblem) → Kind
+pairs_kind keeps_rules conditions left = record {
+  is_for = for_pairs;
+  is_well_made = keeps_rules;
+  conditions = λ system p. on_pairs (conditions system) left p;
+}
+
 -- the problem of these pairs, where there are any
 abbrev pub problem_if_any : List ℕ → List ProofProblem
 problem_if_any [] = []
 problem_if_any (n ∷ numbers) = problem.dp (n ∷ numbers) ∷ []
 
--- the conditions on the pairs of a problem, of which some remain; no other problems are asked
-abbrev pub leaves_pairs : (List ℕ → Check (List ℕ)) → ProofProblem → Check (List ProofProblem)
-leaves_pairs conditions (problem.dp numbers) = do
-  left ← conditions numbers
-  Returns (problem_if_any left)
-leaves_pairs conditions _ = λ _. ⊥
-
--- a step by such conditions, whose parts are known to keep some rules
-abbrev pub pairs_kind : (System → Type 0) → (System → List ℕ → Check (List ℕ)) → Kind
-pairs_kind keeps_rules conditions = record {
-  is_for = for_pairs;
-  is_well_made = keeps_rules;
-  conditions = λ system p. leaves_pairs (conditions system) p;
-}
+-- a step that removes pairs: the value of its conditions is those that remain
+abbrev pub removal_kind : (System → Type 0) → (System → List ℕ → Check (List ℕ)) → Kind
+removal_kind keeps_rules conditions = pairs_kind keeps_rules conditions problem_if_any

@@ -11,6 +11,7 @@ use Rattle.closed_pairs.specs.StronglyClosed.{FourPaths}
 use Rattle.dp_graph.specs.GroupOrSingle.{GroupOrSingle, items_of}
 use Rattle.path_lpo.specs.Table.{PathEntry}
 use Rattle.kbo_order.specs.declared.entries.KboEntry.{KboEntry}
+use Rattle.dp_core.specs.PairConditions.{Comparing}
 use Rattle.cert_step.specs.declared.any_order.AnyOrder.{AnyOrder}
 use Rattle.cert_step.specs.declared.any_order.AnyOrder.TheVariants as order
 use Rattle.cert_step.specs.declared.step.Step.{Step}
@@ -20,9 +21,9 @@ use Rattle.cert_step.specs.Kind.{Kind}
 use Rattle.cert_step.specs.DpKind.{dp_kind}
 use Rattle.cert_step.specs.GraphKind.{graph_kind}
 use Rattle.cert_step.specs.SubtermKind.{subterm_kind}
-use Rattle.cert_step.specs.PolyKind.{poly_kind}
-use Rattle.cert_step.specs.LpoKind.{lpo_kind}
-use Rattle.cert_step.specs.KboKind.{kbo_kind}
+use Rattle.cert_step.specs.PolyKind.{poly_comparing, poly_kind}
+use Rattle.cert_step.specs.LpoKind.{lpo_comparing, lpo_kind}
+use Rattle.cert_step.specs.KboKind.{kbo_comparing, kbo_kind}
 use Rattle.cert_step.specs.UsableKind.{usable_kind}
 use Rattle.cert_step.specs.LoopKind.{loop_kind}
 use Rattle.cert_step.specs.NewmanKind.{newman_kind}
@@ -52,6 +53,12 @@ abbrev pub order_step : AnyOrder → ProofStep
 order_step (order.Poly table) = poly table
 order_step (order.Lpo path) = lpo path
 order_step (order.Kbo knuth) = kbo knuth.entries.items
+
+-- how the order compares
+abbrev pub comparing_of : AnyOrder → Comparing
+comparing_of (order.Poly table) = poly_comparing table
+comparing_of (order.Lpo path) = lpo_comparing path
+comparing_of (order.Kbo knuth) = kbo_comparing knuth.entries.items
 
 abbrev pub step_of : Step → ProofStep
 step_of code.Dp = dp
