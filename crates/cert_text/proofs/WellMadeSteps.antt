@@ -28,7 +28,7 @@ read_first : {A : Type 0} (r : Read A) (behind : A → Result ProofText CertFaul
 read_first (Ok x) behind says e = (x, refl, e)
 read_first (Err p) behind says e = absurd cc
 
-module _ (named : NamedSystem) (counts : length named.names ≡ length named.system.arities) (says : ProofText) where
+module _ (named : NamedSystem) (is_named : IsNamed named) (says : ProofText) where
   body_made : (positive : Bool) (claim : Read Claim) (steps : Items) → body named positive claim steps ≡ Ok says → AreMade named says
   body_made positive claim steps e =
       let (read, is_read, is) = read_first (Ok (says_of positive) <*> claim <*> many (step named) steps) (λ s. Ok s) says e in
@@ -39,7 +39,7 @@ module _ (named : NamedSystem) (counts : length named.names ≡ length named.sys
       ap (λ (f : Claim → List ProofNodeStep → ProofText). f a.value b.value) make ∙ ap (λ (f : List ProofNodeStep → ProofText). f b.value) a.made ∙ b.made in
       let is_says : read ≡ says = cc in
       let P : List ProofNodeStep → Type 0 = AllByRecursion (IsWellMadeInRange named.system) in
-      subst P (ap (λ (t : ProofText). t.steps) (same ∙ is_says)) (made_many (step named) (IsWellMadeInRange named.system) (step_made named counts) steps b.value b.is_value)
+      subst P (ap (λ (t : ProofText). t.steps) (same ∙ is_says)) (made_many (step named) (IsWellMadeInRange named.system) (step_made named is_named) steps b.value b.is_value)
 
   version_made : (is_one positive : Bool) (h : Head) (steps : Items) → cond is_one (body named positive h.claim steps) (Err (Version h.version)) ≡ Ok says → AreMade named says
   version_made true positive h steps e = body_made positive h.claim steps e
@@ -69,13 +69,13 @@ pub well_made_steps : (named : NamedSystem) (text : List ℕ) (says : ProofText)
     → All (λ s. IsWellMade named.system s.step) says.steps
 well_made_steps named text says is h =
     All-from_recursion (λ s. IsWellMade named.system s.step) says.steps
-    (well_made_only named.system says.steps (certificate_made named is.counts says (length text) h.items h.read))
+    (well_made_only named.system says.steps (certificate_made named is says (length text) h.items h.read))
 
 pub printable_steps : (named : NamedSystem) (text : List ℕ) (says : ProofText) → IsNamed named → SaysCertificate named text says
     → All (IsPrintable named.system) says.steps
 printable_steps named text says is h =
     All-from_recursion (IsPrintable named.system) says.steps
-    (printable_only named.system says.steps (certificate_made named is.counts says (length text) h.items h.read))
+    (printable_only named.system says.steps (certificate_made named is says (length text) h.items h.read))
 
 -- ---- answers of the code
 

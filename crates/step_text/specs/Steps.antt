@@ -2,11 +2,18 @@
 use Rattle.std.specs.Prelude.{ℕ, ◌-◌, ◌^◌, List, [], ◌∷◌, codes}
 use Rattle.sexp_core.specs.Items.{Item}
 use Rattle.names_text.specs.Named.{NamedSystem}
-use Rattle.cert_step.specs.ProofStep.{ProofStep, loop, newman, parallel, strong, label, fork, confluence, ProofNodeStep}
+use Rattle.cert_step.specs.ProofStep.{ProofStep, dp, graph, subterm, poly, lpo, kbo, usable_poly, loop, newman, parallel, strong, label, fork, confluence, ProofNodeStep}
 use Rattle.text_reading.specs.Reading.{Read, Form, done, part, keyword, list, by_word}
 use Rattle.text_reading.specs.Numbers.{number}
 use Rattle.text_reading.specs.Printed.{word_item, number_item, list_item}
 use Rattle.step_text.specs.StepText.{StepText}
+use Rattle.step_text.specs.DpText.{dp_form, dp_text}
+use Rattle.step_text.specs.GraphText.{graph_form, graph_text}
+use Rattle.step_text.specs.SubtermText.{subterm_form, subterm_text}
+use Rattle.step_text.specs.PolyText.{poly_form, poly_text}
+use Rattle.step_text.specs.LpoText.{lpo_form, lpo_text}
+use Rattle.step_text.specs.KboText.{kbo_form, kbo_text}
+use Rattle.step_text.specs.UsableText.{usable_form, usable_text}
 use Rattle.step_text.specs.LoopText.{loop_form, loop_text}
 use Rattle.step_text.specs.NewmanText.{newman_form, newman_text}
 use Rattle.step_text.specs.ParallelText.{parallel_form, parallel_text}
@@ -18,6 +25,13 @@ use Rattle.step_text.specs.ConfluenceText.{confluence_form, confluence_text}
 -- each method by its word
 abbrev pub forms : NamedSystem → List (List ℕ × Form ProofStep)
 forms named =
+    (codes "dp", dp_form) ∷
+    (codes "graph", graph_form) ∷
+    (codes "subterm", subterm_form named) ∷
+    (codes "poly", poly_form named) ∷
+    (codes "lpo", lpo_form named) ∷
+    (codes "kbo", kbo_form named) ∷
+    (codes "usable-poly", usable_form named) ∷
     (codes "loop", loop_form named) ∷
     (codes "newman", newman_form) ∷
     (codes "parallel", parallel_form) ∷
@@ -31,6 +45,13 @@ method named = by_word (forms named)
 
 -- how a method is written
 abbrev pub method_text : ProofStep → StepText
+method_text dp = dp_text
+method_text (graph items) = graph_text items
+method_text (subterm projection) = subterm_text projection
+method_text (poly entries) = poly_text entries
+method_text (lpo entries) = lpo_text entries
+method_text (kbo entries) = kbo_text entries
+method_text (usable_poly entries) = usable_text entries
 method_text (loop start path place) = loop_text start path place
 method_text (newman items) = newman_text items
 method_text (parallel items) = parallel_text items

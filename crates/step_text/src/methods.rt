@@ -12,6 +12,13 @@ use text_reading::Read;
 /// The methods that are read.
 #[derive(Clone, Copy)]
 pub enum Method {
+    Dp,
+    Graph,
+    Subterm,
+    Poly,
+    Lpo,
+    Kbo,
+    UsablePoly,
     Loop,
     Newman,
     Parallel,
@@ -37,7 +44,21 @@ fn method_by(word: &[u8], at: u32) -> Read<Method>
     ensures { (named : NamedSystem)
         → chosen (forms named) at word.now ≡ seen (form_of named) result }
 {
-    if word == b"loop".as_slice() {
+    if word == b"dp".as_slice() {
+        Ok(Method::Dp)
+    } else if word == b"graph".as_slice() {
+        Ok(Method::Graph)
+    } else if word == b"subterm".as_slice() {
+        Ok(Method::Subterm)
+    } else if word == b"poly".as_slice() {
+        Ok(Method::Poly)
+    } else if word == b"lpo".as_slice() {
+        Ok(Method::Lpo)
+    } else if word == b"kbo".as_slice() {
+        Ok(Method::Kbo)
+    } else if word == b"usable-poly".as_slice() {
+        Ok(Method::UsablePoly)
+    } else if word == b"loop".as_slice() {
         Ok(Method::Loop)
     } else if word == b"newman".as_slice() {
         Ok(Method::Newman)

@@ -2,21 +2,28 @@ ghost use Rattle.std.specs.Prelude.{◌≡◌, ◌≤◌, ◌++◌, OnOk, IfOk};
 ghost use Rattle.sexp_core.specs.Items.{view, views};
 ghost use Rattle.sexp_core.specs.Printed.{text_of};
 ghost use Rattle.names_text.specs.VariableNames.{underscores as underscores_of};
-ghost use Rattle.cert_step.specs.ProofStep.{step_of, node_step_of};
+ghost use Rattle.cert_step.specs.ProofStep.{step_of, order_step, node_step_of};
 ghost use Rattle.text_reading.specs.Seen.{seen};
 ghost use Rattle.step_text.specs.MethodForms.{form_of};
 ghost use Rattle.step_text.specs.Ranges.{HasNumbersInRange};
 ghost use Rattle.step_text.specs.Steps.{method, method_item, node_step, step, step_item};
 
 use crate::confluence_text::{put_confluence, read_confluence};
+use crate::dp_text::{put_dp, read_dp};
 use crate::fork_text::{put_fork, read_fork};
+use crate::graph_text::{put_graph, read_graph};
+use crate::kbo_text::{put_kbo, read_kbo};
 use crate::label_text::{put_label, read_label};
 use crate::loop_text::{put_loop, read_loop};
+use crate::lpo_text::{put_lpo, read_lpo};
 use crate::methods::{Method, read_method_word};
 use crate::newman_text::{put_newman, read_newman};
 use crate::parallel_text::{put_parallel, read_parallel};
+use crate::poly_text::{put_poly, read_poly};
 use crate::strong_text::{put_strong, read_strong};
-use cert_step::{NodeStep, Step};
+use crate::subterm_text::{put_subterm, read_subterm};
+use crate::usable_text::{put_usable, read_usable};
+use cert_step::{AnyOrder, NodeStep, Step};
 use names_text::NamedTrs;
 use sexp_core::Sexp;
 use std::alloc::Global;
@@ -54,6 +61,13 @@ fn read_form(
         seen step_of r ≡ form_of system.now method at (views members.now)) }
 {
     match method {
+        Method::Dp => Ok(read_dp(members)),
+        Method::Graph => read_graph(alloc, members),
+        Method::Subterm => read_subterm(alloc, system, members),
+        Method::Poly => read_poly(alloc, system, members),
+        Method::Lpo => read_lpo(alloc, system, members),
+        Method::Kbo => read_kbo(alloc, system, members),
+        Method::UsablePoly => read_usable(alloc, system, members),
         Method::Loop => read_loop(alloc, system, at, members),
         Method::Newman => read_newman(alloc, members),
         Method::Parallel => read_parallel(alloc, members),
@@ -107,6 +121,11 @@ fn put_method(
     ensures range { OnOk result (HasNumbersInRange (step_of step.now)) }
 {
     match step {
+        Step::Dp => put_dp(out),
+        Step::Graph(items) => put_graph(out, items),
+        Step::Subterm(projection) => put_subterm(out, system, projection),
+        Step::Order(order) => put_order(out, system, order),
+        Step::UsablePoly(table) => put_usable(out, system, table),
         Step::Loop { start, path, place } => {
             put_loop(alloc, out, system, underscores, start, path, place)
         }
@@ -121,6 +140,19 @@ fn put_method(
             test,
         } => put_fork(alloc, out, system, underscores, start, left, right, *test),
         Step::Confluence => put_confluence(out),
+    }
+}
+
+/// Appends the text of the method of an order.
+fn put_order(out: &mut Vec<u8>, system: &NamedTrs, order: &AnyOrder) -> Result<(), OutOfMemory>
+    ensures text { OnOk result (out.new.items
+        ≡ out.old.items ++ text_of (method_item system.now (order_step order.now))) }
+    ensures range { OnOk result (HasNumbersInRange (order_step order.now)) }
+{
+    match order {
+        AnyOrder::Poly(table) => put_poly(out, system, table),
+        AnyOrder::Lpo(order) => put_lpo(out, system, order),
+        AnyOrder::Kbo(order) => put_kbo(out, system, order),
     }
 }
 
