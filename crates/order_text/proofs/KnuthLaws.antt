@@ -267,10 +267,17 @@ top_by es k e false below f at u b = refl
 top_by es k e true true f at u b = b
 top_by es k e true false f at u b =
     let parts = and_parts (e.arity == 1) (e.weight == 0) u in
-    absurd (f.none_on_top k (fault.UnaryNotTop e.symbol) (e, at, (refl, λ top.
-    let all : list_all (is_below e.symbol e.rank) es ≡ true =
-    all_below e.symbol e.rank es (recursion_from_All (RankedBelow e.symbol e.rank) es (top (eqb-true e.arity 1 parts.0) (eqb-true e.weight 0 parts.1))) in
-    cc)))
+    absurd (f.none_on_top k (fault.UnaryNotTop e.symbol) (
+      e,
+      at,
+      (
+        refl,
+        λ top.
+            let all : list_all (is_below e.symbol e.rank) es ≡ true =
+            all_below e.symbol e.rank es (recursion_from_All (RankedBelow e.symbol e.rank) es (top (eqb-true e.arity 1 parts.0) (eqb-true e.weight 0 parts.1))) in
+            cc,
+      ),
+    ))
 
 kbo_form_again : (s : Symbol) (e : KboEntry) → weighed s e.weight e.rank ≡ e → e.weight < 2 ^ 63 → e.rank < 2 ^ 63 → is_too_light e ≡ false
     → SpellsForm (kbo_form s) 0 (items_of (number_item e.weight ∷ number_item e.rank ∷ [])) e

@@ -92,7 +92,10 @@ fn read_kbo_entry(
     };
     match add_symbol(known, *at, read_marked_symbol(system, head, name))? {
         Ok(symbol) => {
-            let numbers = both(read_number(LAST_NUMBER, weight), read_number(LAST_NUMBER, rank));
+            let numbers = both(
+                read_number(LAST_NUMBER, weight),
+                read_number(LAST_NUMBER, rank),
+            );
             Ok(only_stated(*at, more, weighed(symbol, numbers)))
         }
         Err(at) => Ok(Err(at)),
@@ -111,7 +114,10 @@ fn read_stated(system: &NamedTrs, item: &Sexp) -> Read<KboEntry>
     };
     match read_marked_symbol(system, head, name) {
         Ok(symbol) => {
-            let numbers = both(read_number(LAST_NUMBER, weight), read_number(LAST_NUMBER, rank));
+            let numbers = both(
+                read_number(LAST_NUMBER, weight),
+                read_number(LAST_NUMBER, rank),
+            );
             weighed(symbol, numbers)
         }
         Err(at) => Err(at),
@@ -194,9 +200,7 @@ fn is_low(top: Option<TopRanks>, entry: Read<KboEntry>) -> bool
 {
     match entry {
         Ok(entry) => {
-            entry.arity == 1
-                && entry.weight == 0
-                && !are_below(top, entry.symbol, entry.rank)
+            entry.arity == 1 && entry.weight == 0 && !are_below(top, entry.symbol, entry.rank)
         }
         Err(_) => false,
     }
@@ -218,11 +222,7 @@ pub fn put_kbo_entries(
     Ok(())
 }
 
-fn put_kbo_entry(
-    out: &mut Vec<u8>,
-    system: &NamedTrs,
-    entry: &KboEntry,
-) -> Result<(), OutOfMemory>
+fn put_kbo_entry(out: &mut Vec<u8>, system: &NamedTrs, entry: &KboEntry) -> Result<(), OutOfMemory>
     ensures { OnOk result (out.new.items
         ≡ out.old.items ++ text_of (kbo_entry_item system.now entry.now)) }
 {

@@ -153,11 +153,7 @@ pub fn put_path_entries(
     Ok(())
 }
 
-fn put_path_entry(
-    out: &mut Vec<u8>,
-    system: &NamedTrs,
-    entry: &LpoEntry,
-) -> Result<(), OutOfMemory>
+fn put_path_entry(out: &mut Vec<u8>, system: &NamedTrs, entry: &LpoEntry) -> Result<(), OutOfMemory>
     ensures text { OnOk result (out.new.items
         ≡ out.old.items ++ text_of (path_entry_item system.now (plain entry.now))) }
     ensures range { OnOk result (HasPlaces (plain entry.now)) }

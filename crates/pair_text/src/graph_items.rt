@@ -22,10 +22,7 @@ use trs_core::OutOfMemory;
 const LAST_PAIR: u64 = 4_294_967_295;
 
 /// Groups of pairs and single pairs, each `(group number number ..)` or `(single number)`.
-pub fn read_graph_items(
-    alloc: Global,
-    items: &[Sexp],
-) -> Result<Read<Vec<GraphItem>>, OutOfMemory>
+pub fn read_graph_items(alloc: Global, items: &[Sexp]) -> Result<Read<Vec<GraphItem>>, OutOfMemory>
     ensures { IfOk result (λ r.
         seen (λ v. map item_of v.items) r ≡ many graph_item (views items.now)) }
 {

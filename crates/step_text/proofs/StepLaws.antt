@@ -45,16 +45,31 @@ method_made named is =
     let few = is.valid.within_limits.symbols in
     made_by_word (forms named) (IsMade named) (
       dp_made named.system,
-      (graph_made named.system, (subterm_made named, (poly_made named few, (lpo_made named few, (kbo_made named few, (
-        usable_made named few,
+      (
+        graph_made named.system,
         (
-          loop_made named is.counts,
+          subterm_made named,
           (
-            newman_made named.system,
-            (parallel_made named.system, (strong_made named.system, (label_made named.system, (fork_made named is.counts, (confluence_made named.system, tt))))),
+            poly_made named few,
+            (
+              lpo_made named few,
+              (
+                kbo_made named few,
+                (
+                  usable_made named few,
+                  (
+                    loop_made named is.counts,
+                    (
+                      newman_made named.system,
+                      (parallel_made named.system, (strong_made named.system, (label_made named.system, (fork_made named is.counts, (confluence_made named.system, tt))))),
+                    ),
+                  ),
+                ),
+              ),
+            ),
           ),
         ),
-      )))))),
+      ),
     )
 
 pub step_made : (named : NamedSystem) → IsNamed named → Makes (step named) (IsWellMadeInRange named.system)
