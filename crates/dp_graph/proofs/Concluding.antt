@@ -1,6 +1,6 @@
 -- A problem that passes the conditions of a step by the graph is finite if that of each group is: the items are groups in order.
-use Rattle.std.specs.Prelude.{◌≡◌, ◌<◌, ◌≤◌, ℕ, ◌⊎◌, Bool, true, false, List, [], ◌∷◌, ◌++◌, length, get_or, Some, IsTrue, Ok, slice_get}
-use Rattle.std.proofs.Common.{zero, suc, inl, inr, refl, sym, ap, subst, arith, ◌∙◌, append_assoc}
+use Rattle.std.specs.Prelude.{◌≡◌, ◌<◌, ℕ, ◌⊎◌, Bool, true, false, List, [], ◌∷◌, ◌++◌, length, get_or, Some, IsTrue, Ok, slice_get}
+use Rattle.std.proofs.Common.{zero, suc, inl, inr, refl, sym, ap, subst, arith, ◌∙◌}
 use Rattle.std.proofs.lemmas.Option.{slice_get_within, get_or_from_slice_get}
 use native.Mathlib.Decide.{dec_lt, ℕ_discrete}
 use Rattle.trs_defs.specs.Member.{In, in_first, in_rest}
@@ -10,14 +10,14 @@ use Rattle.pair_theory.specs.DependencyPair.{DependencyPair, dependency_pairs}
 use Rattle.pair_theory.specs.PairGraph.{GroupEnds, by_problem, by_no_edge, IsGrouped}
 use Rattle.pair_theory.proofs.Groups.{groups_theorem}
 use Rattle.pair_theory.proofs.PairList.{listed_are_pairs}
-use Rattle.rewrite_core.specs.Check.{HasOneAnswer, Needs, Forbids, holds, never, returned, goes_on, each_after}
+use Rattle.rewrite_core.specs.Check.{Needs, Forbids, holds, never, returned, goes_on, each_after}
 use Rattle.rewrite_core.proofs.CheckLaws.{once}
 use Rattle.dp_core.specs.Numbered.{ArePairsOf}
 use Rattle.dp_core.specs.Laws.{IsFiniteOf}
 use Rattle.dp_core.proofs.NumberedPairs.{pairs_of_numbers, pair_of_number}
 use Rattle.dp_graph.specs.Edge.{HoldsAtEdges}
 use Rattle.dp_graph.specs.GroupOrSingle.{GroupOrSingle, group, single, members_of, all_members, groups_of, singles_of}
-use Rattle.dp_graph.specs.GraphConditions.{HasEdge, are_members, leads_to_none, lead_to_none, lead_onward, have_no_self_edge, graph_conditions}
+use Rattle.dp_graph.specs.GraphConditions.{HasEdge, are_members, leads_to_none, lead_to_none, lead_onward, have_no_self_edge}
 use Rattle.dp_graph.proofs.Covering.{edges_cover}
 use Rattle.dp_graph.proofs.EachOfList.{each_passed, it_is_absent}
 use Rattle.dp_graph.specs.Laws.{GraphStepsConclude, GraphStepsAnswerOnce, GroupsAreOfProblem}

@@ -1,5 +1,5 @@
 -- Checks of each item of a list, where the number of the item does not matter.
-use Rattle.std.specs.Prelude.{◌≡◌, ◌⊎◌, ℕ, ◌+◌, List, [], ◌∷◌, ◌++◌, Result, Ok, Err}
+use Rattle.std.specs.Prelude.{◌⊎◌, ℕ, ◌+◌, List, [], ◌∷◌, ◌++◌, Result, Ok, Err}
 use Rattle.std.proofs.Common.{inl, inr, sym, subst}
 use Rattle.trs_defs.specs.Member.{In, in_first, in_rest}
 use Rattle.trs_defs.proofs.Members.{in_or, no_in}

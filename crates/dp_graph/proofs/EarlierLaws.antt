@@ -1,14 +1,14 @@
 -- The pairs of earlier items: what is answered of those that are kept is answered of all.
-use Rattle.std.specs.Prelude.{◌≡◌, ◌≤◌, ◌⊎◌, ℕ, Bool, true, false, not, List, [], ◌∷◌, ◌++◌, length, Option, Some, None, Vec, Result, Ok, Err, IfOk, IsTrue, slice_get, refl}
+use Rattle.std.specs.Prelude.{◌≡◌, ◌≤◌, ℕ, Bool, true, false, not, List, [], ◌∷◌, ◌++◌, length, Option, Some, None, Vec, Result, Ok, Err, IfOk, IsTrue, slice_get, refl}
 use Rattle.std.specs.declared.alloc.Global.{Global}
 use Rattle.std.specs.Ordering.{nat_cmp}
 use Rattle.std.specs.BTreeMap.{BTreeMap, get, is_at}
 use Rattle.std.specs.Map.{lookup}
-use Rattle.std.specs.BTreeSet.{BTreeSet, contains}
+use Rattle.std.specs.BTreeSet.{contains}
 use Rattle.std.proofs.Common.{inl, inr, sym, ap, subst, ◌∙◌}
 use native.Mathlib.Decide.{ℕ_discrete}
 use Rattle.trs_defs.specs.Member.{In, in_first}
-use Rattle.trs_defs.proofs.Members.{no_in, in_left, in_right}
+use Rattle.trs_defs.proofs.Members.{in_left, in_right}
 use Rattle.trs_defs.specs.System.{RewriteRule, System, IsSystem}
 use Rattle.trs_caps.specs.HoledCap.{MeetsLeft}
 use Rattle.pair_theory.specs.Marked.{Marked, plain, mark}
@@ -16,7 +16,6 @@ use Rattle.pair_theory.specs.DependencyPair.{DependencyPair, dependency_pairs}
 use Rattle.rewrite_core.specs.declared.refusals.StepRefused.{StepRefused}
 use Rattle.rewrite_core.specs.declared.refusals.StepRefused.TheVariants.{EdgeBack}
 use Rattle.rewrite_core.specs.Check.{Check, Forbids, absent, returned}
-use Rattle.dp_graph.specs.Edge.{IsEdge}
 use Rattle.dp_graph.specs.GraphConditions.{HasEdge}
 use Rattle.dp_graph.specs.EarlierPairs.{leads_to_none_of, first_led_to, entry_pairs, pairs_at, IsOfRule, IsKept, IsEarlier}
 use Rattle.dp_graph.specs.GraphNodes.{IsNodeFor}

@@ -10,3 +10,10 @@ pub mod OnwardItems
 pub mod SingleItems
 pub mod NodeLists
 pub mod GraphAnswers
+pub mod FoundLaws
+pub mod RowLaws
+pub mod LeaderLaws
+pub mod PutOutLaws
+pub mod ComponentLaws
+pub mod BlockLaws
+pub mod ItemLaws

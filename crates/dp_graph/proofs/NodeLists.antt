@@ -6,18 +6,15 @@ use Rattle.std.proofs.lemmas.List.{take_all}
 use Rattle.std.specs.Borrow.{Bor}
 use Rattle.std.specs.Option.{option_copied}
 use Rattle.std.specs.Slice.{IsItemAt}
-use Rattle.trs_defs.specs.Tree.{Tree, Trees, app, trees}
-use Rattle.trs_defs.specs.Substitution.{apply_all}
 use Rattle.trs_defs.specs.System.{RewriteRule, System, IsSystem}
 use Rattle.trs_core.specs.View.{tree, forest}
 use Rattle.trs_core.specs.declared.terms.Term.{Term}
 use Rattle.trs_defs.specs.Path.{PlacedRule}
 use Rattle.dp_core.specs.PlacedPairs.{IsPairAt}
 use Rattle.trs_caps.specs.declared.holed.Cap.{Cap}
-use Rattle.trs_caps.specs.HoledTree.{HoledTree, HoledTrees, symbol, Fits}
+use Rattle.trs_caps.specs.HoledTree.{symbol}
 use Rattle.trs_caps.specs.HoledCap.{MeetsLeft, AreHoledCaps}
 use Rattle.trs_caps.specs.View.{holed, holed_all}
-use Rattle.trs_caps.proofs.Fitting.{same_caps}
 use Rattle.pair_theory.specs.Marked.{Marked, plain}
 use Rattle.pair_theory.specs.DependencyPair.{DependencyPair, dependency_pairs}
 use Rattle.dp_graph.specs.declared.graph.Node.{Node}

@@ -1,18 +1,18 @@
 -- Pairs of a problem are named one after another, and the set of those that are not is kept.
-use Rattle.std.specs.Prelude.{◌≡◌, ◌<◌, ◌≤◌, ◌↔◌, ◌⊎◌, ℕ, ◌+◌, Bool, true, false, List, [], ◌∷◌, ◌++◌, take, drop, map, length, get_or, IsTrue, Result, Ok, Err}
+use Rattle.std.specs.Prelude.{◌≡◌, ◌<◌, ◌≤◌, ℕ, ◌+◌, true, false, List, [], ◌∷◌, ◌++◌, take, drop, length, get_or, IsTrue, Result, Ok, Err}
 use Rattle.std.specs.Ordering.{nat_cmp, is_gt}
 use Rattle.std.specs.BTreeSet.{BTreeSet, contains}
-use Rattle.std.proofs.Common.{inl, inr, refl, sym, ap, subst, arith, ◌∙◌, append_assoc}
-use Rattle.std.proofs.lemmas.List.{append-nil, take_all, take_more, drop_all}
+use Rattle.std.proofs.Common.{inl, inr, sym, ap, subst, arith, ◌∙◌, append_assoc}
+use Rattle.std.proofs.lemmas.List.{append-nil, take_all, drop_all}
 use Rattle.std.proofs.lemmas.Map.Keys.{le_from_not_gt}
 use native.Mathlib.Decide.{ℕ_discrete}
-use Rattle.trs_defs.specs.Member.{In, in_first, in_rest}
+use Rattle.trs_defs.specs.Member.{In, in_first}
 use Rattle.trs_defs.proofs.Members.{in_or, no_in, in_left, in_right, in_either}
 use Rattle.rewrite_core.specs.declared.refusals.StepRefused.{StepRefused}
 use Rattle.rewrite_core.specs.declared.refusals.StepRefused.TheVariants.{Member, Missing}
 use Rattle.rewrite_core.specs.declared.refusals.CheckFault.{CheckFault}
 use Rattle.rewrite_core.specs.declared.refusals.CheckFault.TheVariants.{Refused, OutOfMemory}
-use Rattle.rewrite_core.specs.Check.{Check, Refuses, Needs, holds, lacks, never, least, returned, stops, goes_on, each_after}
+use Rattle.rewrite_core.specs.Check.{Refuses, holds, lacks, never, least, returned, stops, goes_on}
 use Rattle.dp_graph.specs.declared.items.GraphItem.{GraphItem}
 use Rattle.dp_graph.specs.GroupOrSingle.{item_of, items_of, members_of, all_members}
 use Rattle.dp_graph.specs.GraphConditions.{are_new, are_members, none_is_missing}
@@ -97,7 +97,7 @@ first_new numbers before [] ys (Refused why) h = elim h [ ]
 first_new numbers before (x ∷ xs) ys (Refused why) (stops _ h) = stops why h
 first_new numbers before (x ∷ xs) ys (Refused why) (goes_on u _ h k) = goes_on u _ h (first_new numbers (before ++ x ∷ []) xs ys (Refused why) k)
 
-both_new : (numbers before xs ys : List ℕ) (answer : Result (Unit {0}) StepRefused) → are_new numbers before xs (Ok tt) → are_new numbers (before ++ xs) ys answer
+pub both_new : (numbers before xs ys : List ℕ) (answer : Result (Unit {0}) StepRefused) → are_new numbers before xs (Ok tt) → are_new numbers (before ++ xs) ys answer
     → are_new numbers before (xs ++ ys) answer
 both_new numbers before [] ys answer h k = subst (λ z. are_new numbers z ys answer) (append-nil before) k
 both_new numbers before (x ∷ xs) ys answer (goes_on u _ h rest) k =

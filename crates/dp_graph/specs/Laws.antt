@@ -7,6 +7,7 @@ use Rattle.rewrite_core.specs.Check.{HasOneAnswer}
 use Rattle.dp_core.specs.Laws.{IsFiniteOf}
 use Rattle.dp_graph.specs.GroupOrSingle.{GroupOrSingle, groups_of}
 use Rattle.dp_graph.specs.GraphConditions.{graph_conditions}
+use Rattle.dp_graph.specs.Components.{AreComponents}
 
 -- a problem is finite if that of each group is
 abbrev pub GraphStepsConclude : Type 0
@@ -27,3 +28,9 @@ GroupsAreOfProblem =
     (rules : List RewriteRule) (all : List DependencyPair) (numbers : List ℕ) (items : List GroupOrSingle) (groups : List (List ℕ))
     → graph_conditions rules all numbers items (Ok groups)
     → (groups ≡ groups_of items) × ((group : List ℕ) (n : ℕ) → In group groups → In n group → In n numbers)
+
+-- the components of a problem pass the conditions
+abbrev pub ComponentsPass : Type 0
+ComponentsPass =
+    (rules : List RewriteRule) (all : List DependencyPair) (numbers : List ℕ) (items : List GroupOrSingle)
+    → AreComponents rules all numbers items → graph_conditions rules all numbers items (Ok (groups_of items))

@@ -5,3 +5,8 @@ pub mod Laws
 pub mod GraphNodes
 pub mod Unnamed
 pub mod EarlierPairs
+pub mod Rows
+pub mod FoundPlaces
+pub mod Leaders
+pub mod PutOut
+pub mod Components

@@ -1,6 +1,6 @@
 ghost use Rattle.dp_graph.specs.Edge.{EdgesAreByArguments, EdgesCoverChainSteps};
 ghost use Rattle.dp_graph.specs.Laws.{GraphStepsConclude, GraphStepsAnswerOnce};
-ghost use Rattle.dp_graph.specs.Laws.{GroupsAreOfProblem};
+ghost use Rattle.dp_graph.specs.Laws.{GroupsAreOfProblem, ComponentsPass};
 
 /// A law, with nothing to run: a test that holds where there is an edge covers the chain steps of a
 /// system. (Giesl, Thiemann and Schneider-Kamp, 2005.)
@@ -21,4 +21,9 @@ pub fn graph_steps_conclude()
     ensures conclude { GraphStepsConclude }
     ensures once { GraphStepsAnswerOnce }
     ensures groups { GroupsAreOfProblem }
+{}
+
+/// A law, with nothing to run: a step by the components of a problem is not refused.
+pub fn components_pass()
+    ensures { ComponentsPass }
 {}

@@ -1,4 +1,4 @@
-use Rattle.std.proofs.Common.{[], subst, sym, take}
+use Rattle.std.proofs.Common.{subst, sym, take}
 use Rattle.std.proofs.lemmas.Result.{err_from_is_err_and}
 use Rattle.dp_graph.specs.GroupOrSingle.{items_of, all_members}
 use Rattle.dp_graph.specs.Unnamed.{AreUnnamed}

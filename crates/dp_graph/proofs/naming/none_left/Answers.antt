@@ -1,4 +1,3 @@
-use Rattle.std.proofs.Common.{◌≡◌, ◌<◌, length}
 use Rattle.dp_graph.proofs.Sets.{no_keys}
 use Rattle.dp_graph.proofs.UnnamedPairs.{least_left, none_is_left}
 use Rattle.dp_graph.proofs.naming.none_left.Goals as goal

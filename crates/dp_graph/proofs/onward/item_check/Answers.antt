@@ -1,4 +1,4 @@
-use Rattle.std.proofs.Common.{get_or, subst, None, Some, drop}
+use Rattle.std.proofs.Common.{get_or, subst}
 use Rattle.std.proofs.lemmas.List.{drop_all}
 use Rattle.std.proofs.lemmas.Option.{slice_get-get_or}
 use Rattle.rewrite_core.specs.declared.refusals.CheckFault.TheVariants.{Refused}

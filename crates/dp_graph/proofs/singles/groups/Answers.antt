@@ -1,4 +1,4 @@
-use Rattle.dp_graph.proofs.SingleItems.{one_more_group, all_groups}
+use Rattle.dp_graph.proofs.SingleItems.{one_more_group}
 use Rattle.dp_graph.proofs.singles.groups.Goals as goal
 
 pub loop-item-preserved : goal.loop-item-preserved

@@ -1,8 +1,4 @@
-use Rattle.std.proofs.Common.{subst, sym, ap, [], ◌∷◌}
-use Rattle.rewrite_core.specs.Check.{returned, stops, goes_on, present, absent, Forbids}
-use Rattle.pair_theory.specs.DependencyPair.{dependency_pairs}
-use Rattle.dp_graph.specs.GroupOrSingle.{item_of, singles_of}
-use Rattle.dp_graph.specs.GraphConditions.{have_no_self_edge}
+use Rattle.rewrite_core.specs.Check.{returned, stops, goes_on, present, absent}
 use Rattle.dp_graph.proofs.Sets.{true_is_not_false}
 use Rattle.dp_graph.proofs.singles.single_check.Goals as goal
 

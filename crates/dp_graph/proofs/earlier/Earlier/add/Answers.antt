@@ -1,4 +1,4 @@
-use Rattle.std.proofs.Common.{refl, ap, sym, ◌∙◌, subst, ℕ}
+use Rattle.std.proofs.Common.{refl}
 use Rattle.dp_graph.proofs.EarlierLaws.{no_pair_added, seen_added, first_added}
 use Rattle.dp_graph.proofs.NodeLists.{of_rule}
 use Rattle.dp_graph.proofs.earlier.Earlier.add.Goals as goal

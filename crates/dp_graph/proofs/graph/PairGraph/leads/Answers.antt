@@ -1,5 +1,4 @@
-use Rattle.pair_theory.specs.DependencyPair.{dependency_pairs}
-use Rattle.dp_graph.proofs.NodeLists.{edge_decided, no_edge_from, no_edge_to}
+use Rattle.dp_graph.proofs.NodeLists.{edge_decided}
 use Rattle.dp_graph.proofs.graph.PairGraph.leads.Goals as goal
 
 pub returns : goal.returns

@@ -1,8 +1,7 @@
 use Rattle.std.proofs.Common.{◌≡◌, Some, slice_get, subst, sym, ap, ◌∙◌}
-use Rattle.trs_defs.specs.System.{RewriteRule, System}
+use Rattle.trs_defs.specs.System.{System}
 use Rattle.pair_theory.specs.Marked.{plain}
 use Rattle.pair_theory.specs.DependencyPair.{DependencyPair, dependency_pairs}
-use Rattle.dp_core.specs.PlacedPairs.{IsPairAt}
 use Rattle.dp_core.proofs.PairSides.{pair_there}
 use Rattle.dp_graph.specs.GraphNodes.{IsNodeOf}
 use Rattle.dp_graph.proofs.NodeLists.{rule_within, rule_is, item_is, one_more_node}

@@ -1,0 +1,430 @@
+-- What is put out are the components, and a step by them passes the conditions.
+use Rattle.std.specs.Prelude.{◌≡◌, ◌<◌, ◌≤◌, ◌↔◌, ◌⊎◌, ℕ, ◌+◌, ◌==◌, Bool, true, false, List, [], ◌∷◌, ◌++◌, length, replicate, get_or, Some, Vec, Result, Ok, Err, IfOk, slice_get, refl}
+use Rattle.std.specs.declared.alloc.Global.{Global}
+use Rattle.std.specs.List.Sorted.{IsStrictlyIncreasing}
+use Rattle.std.proofs.Common.{zero, suc, inl, inr, sym, ap, subst, arith, ◌∙◌, add-one, append_assoc}
+use Rattle.std.proofs.lemmas.List.{append-nil}
+use Rattle.std.proofs.lemmas.List.Kept.{AllPairs-from_increasing}
+use Rattle.std.proofs.lemmas.Option.{get_or_from_slice_get}
+use Rattle.std.proofs.lemmas.Bool.{eqb-true, eq-eqb}
+use native.Mathlib.Decide.{dec_lt, ℕ_discrete}
+use Rattle.trs_defs.specs.Member.{In, in_first, in_rest}
+use Rattle.trs_defs.proofs.Members.{in_or, no_in, in_left, in_right, in_either, in_of_get, get_of_in}
+use Rattle.trs_defs.specs.Run.{Run, Stay, Go}
+use Rattle.trs_defs.proofs.Runs.{one, then}
+use Rattle.trs_defs.specs.System.{RewriteRule, System}
+use Rattle.pair_theory.specs.DependencyPair.{DependencyPair, dependency_pairs, keep_if}
+use Rattle.rewrite_core.specs.Check.{Forbids, holds, absent, never, returned, goes_on, each_after}
+use Rattle.rewrite_core.specs.declared.refusals.StepRefused.TheVariants.{EdgeBack, SelfEdge}
+use Rattle.dp_graph.specs.declared.items.GraphItem.{GraphItem}
+use Rattle.dp_graph.specs.declared.rows.Direction.TheVariants.{Ahead}
+use Rattle.dp_graph.specs.GroupOrSingle.{GroupOrSingle, items_of, group, single, members_of, all_members, singles_of, groups_of}
+use Rattle.dp_graph.specs.GraphConditions.{HasEdge, are_new, leads_to_none, lead_to_none, graph_conditions}
+use Rattle.dp_graph.specs.Rows.{EdgeTo, Follows, AreRows}
+use Rattle.dp_graph.specs.Leaders.{AreLeaders}
+use Rattle.dp_graph.specs.Components.{IsEdgeWithin, LiesOnCycle, IsComponent, IsReady, HasLesser, StandInOrder, no_items, next, AreComponents}
+use Rattle.dp_graph.specs.PutOut.{led_by, IsBlocked, IsUndoneLeader, IsItemOf, Finishes, ArePutOut, all_done, put_out, PutsOut}
+use Rattle.dp_graph.proofs.EachOfList.{each_passes}
+use Rattle.dp_graph.proofs.UnnamedPairs.{both_new}
+use Rattle.dp_graph.proofs.FoundLaws.{within, there, some_same}
+use Rattle.dp_graph.proofs.PutOutLaws.{one_leader, led_mutual, DoneTogether, still_together, together_at_first, at_repeat}
+
+-- ---- lists that ascend
+
+pub data Ascends : List ℕ → Type 0 where
+  no_numbers : Ascends []
+  number : {n : ℕ} {ns : List ℕ} → ((m : ℕ) → In m ns → n < m) → Ascends ns → Ascends (n ∷ ns)
+
+lesser_of : (numbers : List ℕ) → IsStrictlyIncreasing numbers → (i j m n : ℕ) → i < j → slice_get numbers i ≡ Some m → slice_get numbers j ≡ Some n → m < n
+lesser_of numbers up i j m n lt e d =
+    let h = AllPairs-from_increasing numbers up i j 0 lt (within numbers j n d) in
+    let a = get_or_from_slice_get numbers i m 0 e in
+    let b = get_or_from_slice_get numbers j n 0 d in
+    omega (arith, h, a, b)
+
+ascends_by : (numbers : List ℕ) → ((i j m n : ℕ) → i < j → slice_get numbers i ≡ Some m → slice_get numbers j ≡ Some n → m < n) → Ascends numbers
+ascends_by [] h = no_numbers
+ascends_by (n ∷ ns) h =
+    number (λ m i. let at = get_of_in i in h zero (suc at.0) n m (omega arith) refl at.1)
+    (ascends_by ns (λ i j a b lt e d. h (suc i) (suc j) a b (omega (arith, lt)) e d))
+
+pub ascends_of : (numbers : List ℕ) → IsStrictlyIncreasing numbers → Ascends numbers
+ascends_of numbers up = ascends_by numbers (lesser_of numbers up)
+
+increasing_at : (ms : List ℕ) → Ascends ms → (k : ℕ) → suc k < length ms → get_or ms k 0 < get_or ms (suc k) 0
+increasing_at _ no_numbers k h = absurd (omega (arith, h))
+increasing_at _ (number {ns = []} below up) k h = absurd (omega (arith, h))
+increasing_at _ (number {ns = m ∷ ms} below up) zero h = below m in_first
+increasing_at _ (number {ns = m ∷ ms} below up) (suc k) h = increasing_at (m ∷ ms) up k (omega (arith, h))
+
+pub increasing_of : (ms : List ℕ) → Ascends ms → IsStrictlyIncreasing ms
+increasing_of ms up k h = rw add-one (increasing_at ms up k (let same : k + 1 ≡ suc k = omega arith in subst (λ z. z < length ms) same h))
+
+pub in_led_by : (v : ℕ) (numbers leaders : List ℕ) (n : ℕ) → In n (led_by v numbers leaders) → (w : ℕ) × (slice_get numbers w ≡ Some n) × (slice_get leaders w ≡ Some v)
+in_led_by v [] leaders n i = absurd (no_in i)
+in_led_by v (m ∷ numbers) [] n i = absurd (no_in i)
+in_led_by v (m ∷ numbers) (l ∷ leaders) n i = go (in_led_by v numbers leaders n) (l == v) refl i
+  where
+    later : ((w : ℕ) × (slice_get numbers w ≡ Some n) × (slice_get leaders w ≡ Some v)) → (w : ℕ) × (slice_get (m ∷ numbers) w ≡ Some n) × (slice_get (l ∷ leaders) w ≡ Some v)
+    later (w, e, d) = (suc w, e, d)
+
+    go : (In n (led_by v numbers leaders) → (w : ℕ) × (slice_get numbers w ≡ Some n) × (slice_get leaders w ≡ Some v)) → (b : Bool) → (l == v) ≡ b → In n (keep_if b m (led_by v numbers leaders))
+        → (w : ℕ) × (slice_get (m ∷ numbers) w ≡ Some n) × (slice_get (l ∷ leaders) w ≡ Some v)
+    go rest true e j = elim (in_or j) [
+      | inl same ↦ (zero, ap (λ z. Some z) (sym same), ap (λ z. Some z) (eqb-true l v e))
+      | inr k ↦ later (rest k)
+    ]
+    go rest false e j = later (rest j)
+
+pub led_by_in : (v : ℕ) (numbers leaders : List ℕ) (n w : ℕ) → slice_get numbers w ≡ Some n → slice_get leaders w ≡ Some v → In n (led_by v numbers leaders)
+led_by_in v [] leaders n w e d = absurd cc
+led_by_in v (m ∷ numbers) [] n w e d = absurd cc
+led_by_in v (m ∷ numbers) (l ∷ leaders) n zero e d = first (l == v) (eq-eqb l v (some_same l v d))
+  where
+    first : (b : Bool) → b ≡ true → In n (keep_if b m (led_by v numbers leaders))
+    first true h = subst (λ z. In z (m ∷ led_by v numbers leaders)) (some_same m n e) in_first
+    first false h = absurd cc
+led_by_in v (m ∷ numbers) (l ∷ leaders) n (suc w) e d = later (l == v) (led_by_in v numbers leaders n w e d)
+  where
+    later : (b : Bool) → In n (led_by v numbers leaders) → In n (keep_if b m (led_by v numbers leaders))
+    later true i = in_rest i
+    later false i = i
+
+pub led_ascends : (v : ℕ) (numbers leaders : List ℕ) → Ascends numbers → Ascends (led_by v numbers leaders)
+led_ascends v [] leaders up = no_numbers
+led_ascends v (m ∷ numbers) [] up = no_numbers
+led_ascends v (m ∷ numbers) (l ∷ leaders) (number below up) = go (led_ascends v numbers leaders up) (l == v)
+  where
+    go : Ascends (led_by v numbers leaders) → (b : Bool) → Ascends (keep_if b m (led_by v numbers leaders))
+    go rest true = number (λ n i. let (w, e, d) = in_led_by v numbers leaders n i in below n (in_of_get numbers w n e)) rest
+    go rest false = rest
+
+-- members that ascend are each named the first time
+pub ascending_new : (numbers before ms : List ℕ) → Ascends ms → ((n : ℕ) → In n ms → In n numbers × (In n before → ⊥)) → are_new numbers before ms (Ok tt)
+ascending_new numbers before [] up h = returned
+ascending_new numbers before (m ∷ ms) (number below up) h =
+    goes_on tt _ (holds (h m in_first))
+    (ascending_new numbers (before ++ m ∷ []) ms up (λ n i. (
+      (h n (in_rest i)).0,
+      λ j. elim (in_either before (m ∷ []) j) [
+        | inl k ↦ (h n (in_rest i)).1 k
+        | inr k ↦ elim (in_or k) [ inl e ↦ (let lt = below n i in omega (arith, lt, e)) | inr none ↦ no_in none ]
+      ],
+    )))
+
+cycle_of : {R : ℕ → ℕ → Type 0} {v w : ℕ} → Run R v w → (w ≡ v → ⊥) → Run R w v → (k : ℕ) × R v k × Run R k v
+cycle_of Stay differ back = absurd (differ refl)
+cycle_of (Go {m = k} s r) differ back = (k, s, then r back)
+
+module _ (rules : List RewriteRule) (all : List DependencyPair) (numbers : List ℕ) (up : IsStrictlyIncreasing numbers) (rows : List (List ℕ))
+    (are_rows : AreRows (λ m n. HasEdge rules all m n) numbers rows) (leaders : List ℕ) (led : AreLeaders rows leaders) where
+  abbrev Edge : ℕ → ℕ → Type 0
+  Edge = IsEdgeWithin rules all numbers
+
+  place_once : (i j m : ℕ) → slice_get numbers i ≡ Some m → slice_get numbers j ≡ Some m → i ≡ j
+  place_once i j m e d = elim (dec_lt i j) [
+    | yes lt ↦ absurd (let h = lesser_of numbers up i j m m lt e d in omega (arith, h))
+    | no ge ↦ elim (dec_lt j i) [ yes lt ↦ absurd (let h = lesser_of numbers up j i m m lt d e in omega (arith, h)) | no le ↦ omega (arith, ge, le) ]
+  ]
+
+  step_up : (i j m n : ℕ) → Follows rows i j → slice_get numbers i ≡ Some m → slice_get numbers j ≡ Some n → Edge m n
+  step_up i j m n f e d =
+      let (a, b, at, there_b, edge) = (are_rows.exact i j).0 f in
+      let same_a : a ≡ m = some_same a m (sym at ∙ e) in
+      let same_b : b ≡ n = some_same b n (sym there_b ∙ d) in
+      (in_of_get numbers i m e, in_of_get numbers j n d, subst (λ z. HasEdge rules all m z) same_b (subst (λ z. HasEdge rules all z b) same_a edge))
+
+  step_down : (i j m n : ℕ) → Edge m n → slice_get numbers i ≡ Some m → slice_get numbers j ≡ Some n → Follows rows i j
+  step_down i j m n edge e d = (are_rows.exact i j).1 (m, n, e, d, edge.2)
+
+  run_up : {i j : ℕ} → Run (Follows rows) i j → (m n : ℕ) → slice_get numbers i ≡ Some m → slice_get numbers j ≡ Some n → Run Edge m n
+  run_up Stay m n e d = subst (Run Edge m) (some_same m n (sym e ∙ d)) Stay
+  run_up (Go {s = i} {m = k} step run) m n e d =
+      let (a, b, at, there_b, edge) = (are_rows.exact i k).0 step in
+      Go (step_up i k m b step e there_b) (run_up run b n there_b d)
+
+  run_down : {m n : ℕ} → Run Edge m n → (i j : ℕ) → slice_get numbers i ≡ Some m → slice_get numbers j ≡ Some n → Run (Follows rows) i j
+  run_down (Stay {s = m}) i j e d = subst (Run (Follows rows) i) (place_once i j m e d) Stay
+  run_down (Go {s = m} {m = k} step run) i j e d =
+      let at = get_of_in step.1 in
+      Go (step_down i at.0 m k step e at.1) (run_down run at.0 j at.1 d)
+
+  leader_there : (w n : ℕ) → slice_get numbers w ≡ Some n → (l : ℕ) × (slice_get leaders w ≡ Some l)
+  leader_there w n e = there leaders w (let h = within numbers w n e in let c = led.count in let d = are_rows.count in omega (arith, h, c, d))
+
+  number_there : (w l : ℕ) → slice_get leaders w ≡ Some l → (n : ℕ) × (slice_get numbers w ≡ Some n)
+  number_there w l e = there numbers w (let h = within leaders w l e in let c = led.count in let d = are_rows.count in omega (arith, h, c, d))
+
+  -- the members of the item of a leader
+  in_item : (v : ℕ) (item : GroupOrSingle) → slice_get leaders v ≡ Some v → IsItemOf numbers rows leaders v item → (n : ℕ) → In n (members_of item)
+      → (w : ℕ) × (slice_get numbers w ≡ Some n) × (slice_get leaders w ≡ Some v)
+  in_item v (group members) own is n i = in_led_by v numbers leaders n (subst (In n) is.0 i)
+  in_item v (single member) own is n i = elim (in_or i) [ inl e ↦ (v, is.0 ∙ ap (λ z. Some z) (sym e), own) | inr none ↦ absurd (no_in none) ]
+
+  item_in : (v : ℕ) (item : GroupOrSingle) → IsItemOf numbers rows leaders v item → (n w : ℕ) → slice_get numbers w ≡ Some n → slice_get leaders w ≡ Some v → In n (members_of item)
+  item_in v (group members) is n w e d = subst (In n) (sym is.0) (led_by_in v numbers leaders n w e d)
+  item_in v (single member) is n w e d =
+      let same : w ≡ v = is.1 w d in
+      let here : n ≡ member = some_same n member (sym e ∙ (ap (slice_get numbers) same ∙ is.0)) in
+      subst (λ z. In z (member ∷ [])) (sym here) in_first
+
+  lies_on_cycle : (v m : ℕ) → slice_get leaders v ≡ Some v → slice_get numbers v ≡ Some m → ((w : ℕ) × (slice_get leaders w ≡ Some v) × (w ≡ v → ⊥)) ⊎ Follows rows v v
+      → LiesOnCycle rules all numbers m
+  lies_on_cycle v m own e (inl (w, d, differ)) =
+      let joined = led_mutual rows leaders led v w v own d in
+      let (k, step, run) = cycle_of joined.0 differ joined.1 in
+      let (a, b, at, there_b, edge) = (are_rows.exact v k).0 step in
+      (b, step_up v k m b step e there_b, run_up run b m there_b e)
+  lies_on_cycle v m own e (inr self) = (m, step_up v v m m self e e, Stay)
+
+  pub is_component : (v : ℕ) (item : GroupOrSingle) → slice_get leaders v ≡ Some v → IsItemOf numbers rows leaders v item → IsComponent rules all numbers item
+  is_component v (group members) own is =
+      let at = number_there v v own in (
+        subst IsStrictlyIncreasing (sym is.0) (increasing_of (led_by v numbers leaders) (led_ascends v numbers leaders (ascends_of numbers up))),
+        (
+          at.0,
+          lies_on_cycle v at.0 own at.1 is.1,
+          λ n. (
+            λ i.
+                let (w, e, d) = in_led_by v numbers leaders n (subst (In n) is.0 i) in
+                let joined = led_mutual rows leaders led v w v own d in
+                (in_of_get numbers w n e, (run_up joined.0 at.0 n at.1 e, run_up joined.1 n at.0 e at.1)),
+            λ h.
+                let w = get_of_in h.0 in
+                let l = leader_there w.0 n w.1 in
+                let same : l.0 ≡ v = one_leader rows leaders led w.0 v l.0 v l.1 own (run_down h.1.1 w.0 v w.1 at.1, run_down h.1.0 v w.0 at.1 w.1) in
+                subst (In n) (sym is.0) (led_by_in v numbers leaders n w.0 w.1 (l.1 ∙ ap (λ z. Some z) same)),
+          ),
+        ),
+      )
+  is_component v (single member) own is = λ (k, edge, run).
+      let j = get_of_in edge.1 in
+      let step = step_down v j.0 member k edge is.0 j.1 in
+      let back = run_down run j.0 v j.1 is.0 in
+      let l = leader_there j.0 k j.1 in
+      let same : l.0 ≡ v = one_leader rows leaders led j.0 v l.0 v l.1 own (back, one step) in
+      let here : j.0 ≡ v = is.1 j.0 (l.1 ∙ ap (λ z. Some z) same) in
+      is.2 (subst (Follows rows v) here step)
+
+  -- ---- the items of the places that are not done
+
+  false_true : (o : List Bool) (i : ℕ) → slice_get o i ≡ Some false → slice_get o i ≡ Some true → ⊥
+  false_true o i e d = let h : false ≡ true = some_same false true (sym e ∙ d) in absurd cc
+
+  still_undone : (v : ℕ) (done new : List Bool) → Finishes v leaders done new → (i : ℕ) → slice_get new i ≡ Some false → slice_get done i ≡ Some false
+  still_undone v done new finishes i e = sym (finishes.others i (λ g. false_true new i e (finishes.led i g))) ∙ e
+
+  covers : (done : List Bool) (items : List GroupOrSingle) → DoneTogether leaders done → ArePutOut numbers rows leaders done items → (n : ℕ)
+      → In n (all_members items) ↔ ((i : ℕ) × (slice_get numbers i ≡ Some n) × (slice_get done i ≡ Some false))
+  covers done _ together (all_done none) n = (λ i. absurd (no_in i), λ (i, e, d). absurd (none i d))
+  covers done _ together (put_out {item = item} {items = items} v new ready is finishes rest) n =
+      let own = ready.0.0 in
+      let later = covers new items (still_together rows leaders led v done new own finishes together) rest n in (
+        λ i. elim (in_either (members_of item) (all_members items) i) [
+          | inl j ↦ (let (w, e, d) = in_item v item own is n j in (w, e, together w v d ∙ ready.0.1))
+          | inr j ↦ (let (w, e, d) = later.0 j in (w, e, still_undone v done new finishes w d))
+        ],
+        λ (i, e, d).
+            let l = leader_there i n e in
+            elim (ℕ_discrete l.0 v) [
+              | yes same ↦ in_left (all_members items) (item_in v item is n i e (l.1 ∙ ap (λ z. Some z) same))
+              | no other ↦ in_right (members_of item) (later.1 (i, e, finishes.others i (λ g. other (some_same l.0 v (sym l.1 ∙ g))) ∙ d))
+            ],
+      )
+
+  -- each item is that of a leader that is not done
+  of_leader : (done : List Bool) (items : List GroupOrSingle) → DoneTogether leaders done → ArePutOut numbers rows leaders done items → (item : GroupOrSingle) → In item items
+      → (v : ℕ) × IsUndoneLeader leaders done v × IsItemOf numbers rows leaders v item
+  of_leader done _ together (all_done none) other i = absurd (no_in i)
+  of_leader done _ together (put_out {item = item} {items = items} v new ready is finishes rest) other i = elim (in_or i) [
+    | inl e ↦ (v, ready.0, subst (IsItemOf numbers rows leaders v) (sym e) is)
+    | inr j ↦ (let (u, undone, also) = of_leader new items (still_together rows leaders led v done new ready.0.0 finishes together) rest other j in
+        (u, (undone.0, still_undone v done new finishes u undone.1), also))
+  ]
+
+  stand_in_order : (done : List Bool) (items : List GroupOrSingle) → DoneTogether leaders done → ArePutOut numbers rows leaders done items → StandInOrder rules all numbers items
+  stand_in_order done _ together (all_done none) = no_items
+  stand_in_order done _ together (put_out {item = item} {items = items} v new ready is finishes rest) =
+      next is_ready is_least (stand_in_order new items after rest)
+    where
+      after : DoneTogether leaders new
+      after = still_together rows leaders led v done new ready.0.0 finishes together
+
+      whole : ArePutOut numbers rows leaders done (item ∷ items)
+      whole = put_out v new ready is finishes rest
+
+      -- what leads to the item of a leader that is not blocked is in it
+      leads_within : (u : ℕ) (x : GroupOrSingle) → slice_get leaders u ≡ Some u → IsItemOf numbers rows leaders u x → (IsBlocked rows leaders done u → ⊥)
+          → IsReady rules all numbers (item ∷ items) x
+      leads_within u x own of free m n i j edge =
+          let (a, e, undone) = (covers done (item ∷ items) together whole m).0 i in
+          let (w, d, led_w) = in_item u x own of n j in
+          let l = leader_there a m e in
+          go a w e d undone led_w l.0 l.1 (ℕ_discrete l.0 u)
+        where
+          go : (a w : ℕ) → slice_get numbers a ≡ Some m → slice_get numbers w ≡ Some n → slice_get done a ≡ Some false → slice_get leaders w ≡ Some u → (l : ℕ) → slice_get leaders a ≡ Some l
+              → Dec (l ≡ u) → In m (members_of x)
+          go a w e d undone led_w l at (yes same) = item_in u x of m a e (at ∙ ap (λ z. Some z) same)
+          go a w e d undone led_w l at (no other) = absurd (free (record {
+            from = a;
+            to = w;
+            leader = l;
+            undone = undone;
+            follows = step_down a w m n edge e d;
+            of_other = at;
+            of_this = led_w;
+            differ = other;
+          }))
+
+      is_ready : IsReady rules all numbers (item ∷ items) item
+      is_ready = leads_within v item ready.0.0 is ready.1
+
+      -- a leader whose item is ready is not blocked
+      free_of : (u : ℕ) (x : GroupOrSingle) → slice_get leaders u ≡ Some u → IsItemOf numbers rows leaders u x → IsReady rules all numbers (item ∷ items) x → IsBlocked rows leaders done u → ⊥
+      free_of u x own of free b =
+          let m = number_there b.from b.leader b.of_other in
+          let n = number_there b.to u b.of_this in
+          let i = (covers done (item ∷ items) together whole m.0).1 (b.from, m.1, b.undone) in
+          let (w, e, d) = in_item u x own of m.0 (free m.0 n.0 i (item_in u x of n.0 b.to n.1 b.of_this) (step_up b.from b.to m.0 n.0 b.follows m.1 n.1)) in
+          let same : w ≡ b.from = place_once w b.from m.0 e m.1 in
+          b.differ (some_same b.leader u (sym b.of_other ∙ (ap (slice_get leaders) (sym same) ∙ d)))
+
+      is_least : (other : GroupOrSingle) → In other items → IsReady rules all numbers (item ∷ items) other → HasLesser rules all numbers item other
+      is_least other i free =
+          let (u, undone, of) = of_leader new items after rest other i in
+          let m = number_there v v ready.0.0 in (
+            m.0,
+            item_in v item is m.0 v m.1 ready.0.0,
+            λ n j.
+                let (w, e, d) = in_item u other undone.0 of n j in
+                lesser_of numbers up v w m.0 n (before u w other undone of free d) m.1 e,
+          )
+        where
+          before : (u w : ℕ) (x : GroupOrSingle) → IsUndoneLeader leaders new u → IsItemOf numbers rows leaders u x → IsReady rules all numbers (item ∷ items) x → slice_get leaders w ≡ Some u → v < w
+          before u w x undone of free d =
+              let low : u ≤ w = (led.each w u d).least w (Stay, Stay) in
+              elim (dec_lt v u) [
+                | yes lt ↦ omega (arith, lt, low)
+                | no ge ↦ elim (dec_lt u v) [
+                  | yes lt ↦ absurd (free_of u x undone.0 of free (ready.2 u lt (undone.0, still_undone v done new finishes u undone.1)))
+                  | no le ↦ absurd (
+                      let same : u ≡ v = omega (arith, ge, le) in
+                      false_true new u undone.1 (subst (λ z. slice_get new z ≡ Some true) (sym same) (finishes.led v ready.0.0)))
+                ]
+              ]
+
+  item_new : (v : ℕ) (item : GroupOrSingle) (before : List ℕ) → slice_get leaders v ≡ Some v → IsItemOf numbers rows leaders v item → ((n : ℕ) → In n (members_of item) → In n before → ⊥)
+      → are_new numbers before (members_of item) (Ok tt)
+  item_new v item before own is none = ascending_new numbers before (members_of item) (ascends v item is)
+      (λ n i. let (w, e, d) = in_item v item own is n i in (in_of_get numbers w n e, none n i))
+    where
+      ascends : (v : ℕ) (x : GroupOrSingle) → IsItemOf numbers rows leaders v x → Ascends (members_of x)
+      ascends v (group members) of = subst Ascends (sym of.0) (led_ascends v numbers leaders (ascends_of numbers up))
+      ascends v (single member) of = number (λ m i. absurd (no_in i)) no_numbers
+
+  all_new : (done : List Bool) (items : List GroupOrSingle) (before : List ℕ) → DoneTogether leaders done → ArePutOut numbers rows leaders done items
+      → ((n : ℕ) → In n (all_members items) → In n before → ⊥) → are_new numbers before (all_members items) (Ok tt)
+  all_new done _ before together (all_done none) apart = returned
+  all_new done _ before together (put_out {item = item} {items = items} v new ready is finishes rest) apart =
+      let after = still_together rows leaders led v done new ready.0.0 finishes together in
+      both_new numbers before (members_of item) (all_members items) (Ok tt) (item_new v item before ready.0.0 is (λ n i. apart n (in_left (all_members items) i)))
+      (all_new new items (before ++ members_of item) after rest (λ n i j. elim (in_either before (members_of item) j) [
+        | inl k ↦ apart n (in_right (members_of item) i) k
+        | inr k ↦ (let (w, e, d) = in_item v item ready.0.0 is n k in
+            let (a, at, undone) = (covers new items after rest n).0 i in
+            let same : a ≡ w = place_once a w n at e in
+            false_true new a undone (subst (λ z. slice_get new z ≡ Some true) (sym same) (finishes.led w d)))
+      ]))
+
+  pub are_components : (done : List Bool) (items : List GroupOrSingle) → DoneTogether leaders done → ((i : ℕ) → i < length leaders → slice_get done i ≡ Some false)
+      → ArePutOut numbers rows leaders done items → AreComponents rules all numbers items
+  are_components done items together fresh out = record {
+    named = all_new done items [] together out (λ n i j. no_in j);
+    whole = never (λ n h.
+        let w = get_of_in h.0 in
+        h.1 ((covers done items together out n).1 (w.0, w.1, fresh w.0 (let k = within numbers w.0 n w.1 in let c = led.count in let d = are_rows.count in omega (arith, k, c, d)))));
+    components = λ item i. let (v, undone, is) = of_leader done items together out item i in is_component v item undone.0 is;
+    in_order = stand_in_order done items together out;
+  }
+
+-- ---- a step by the components
+
+no_twice : (numbers before xs ys : List ℕ) → are_new numbers before (xs ++ ys) (Ok tt) → (n : ℕ) → In n xs → In n ys → ⊥
+no_twice numbers before [] ys h n i j = no_in i
+no_twice numbers before (x ∷ xs) ys (goes_on _ _ (holds k) rest) n i j = elim (in_or i) [
+  | inl e ↦ not_before numbers (before ++ x ∷ []) (xs ++ ys) rest n (in_right xs j) (subst (λ z. In z (before ++ x ∷ [])) (sym e) (in_right before in_first))
+  | inr l ↦ no_twice numbers (before ++ x ∷ []) xs ys rest n l j
+]
+  where
+    not_before : (numbers before xs : List ℕ) → are_new numbers before xs (Ok tt) → (n : ℕ) → In n xs → In n before → ⊥
+    not_before numbers before [] h n i j = no_in i
+    not_before numbers before (x ∷ xs) (goes_on _ _ (holds k) rest) n i j = elim (in_or i) [
+      | inl e ↦ k.1 (subst (λ z. In z before) e j)
+      | inr l ↦ not_before numbers (before ++ x ∷ []) xs rest n l (in_left (x ∷ []) j)
+    ]
+
+after_first : (numbers before xs ys : List ℕ) → are_new numbers before (xs ++ ys) (Ok tt) → are_new numbers (before ++ xs) ys (Ok tt)
+after_first numbers before [] ys h = subst (λ z. are_new numbers z ys (Ok tt)) (sym (append-nil before)) h
+after_first numbers before (x ∷ xs) ys (goes_on _ _ k rest) = subst (λ z. are_new numbers z ys (Ok tt)) (append_assoc before (x ∷ []) xs) (after_first numbers (before ++ x ∷ []) xs ys rest)
+
+member_there : (numbers before xs : List ℕ) → are_new numbers before xs (Ok tt) → (n : ℕ) → In n xs → In n numbers
+member_there numbers before [] h n i = absurd (no_in i)
+member_there numbers before (x ∷ xs) (goes_on _ _ (holds k) rest) n i = elim (in_or i) [
+  | inl e ↦ subst (λ z. In z numbers) (sym e) k.0
+  | inr j ↦ member_there numbers (before ++ x ∷ []) xs rest n j
+]
+
+members_append : (before : List GroupOrSingle) (item : GroupOrSingle) → all_members (before ++ item ∷ []) ≡ all_members before ++ members_of item
+members_append [] item = append-nil (members_of item)
+members_append (x ∷ before) item = ap (λ z. members_of x ++ z) (members_append before item) ∙ sym (append_assoc (members_of x) (all_members before) (members_of item))
+
+module _ (rules : List RewriteRule) (all : List DependencyPair) (numbers : List ℕ) where
+  lead_onward_from : (before items : List GroupOrSingle) (named : List ℕ) → are_new numbers named (all_members items) (Ok tt) → StandInOrder rules all numbers items
+      → ((m n : ℕ) → In m (all_members items) → In n (all_members before) → HasEdge rules all m n → ⊥)
+      → ((n : ℕ) → In n (all_members before) → In n numbers)
+      → each_after (λ before item. lead_to_none rules all (members_of item) (all_members before)) before items (Ok tt)
+  lead_onward_from before _ named news no_items none there = returned
+  lead_onward_from before _ named news (next {item = item} {items = items} ready least rest) none there =
+      goes_on tt _
+      (each_passes (λ m. leads_to_none rules all m (all_members before)) 0 (members_of item) (λ m i. each_passes (λ n. Forbids (HasEdge rules all m n) (EdgeBack m n)) 0 (all_members before)
+      (λ n j. absent (none m n (in_left (all_members items) i) j))))
+      (lead_onward_from (before ++ item ∷ []) items (named ++ members_of item) (after_first numbers named (members_of item) (all_members items) news) rest
+      (λ m n i j edge. elim (in_either (all_members before) (members_of item) (subst (In n) (members_append before item) j)) [
+        | inl k ↦ none m n (in_right (members_of item) i) k edge
+        | inr k ↦ no_twice numbers named (members_of item) (all_members items) news m
+            (ready m n (in_right (members_of item) i) k (member_there numbers named (members_of item ++ all_members items) news m (in_right (members_of item) i), member_there numbers named (members_of item ++ all_members items) news n (in_left (all_members items) k), edge)) i
+      ])
+      (λ n j. elim (in_either (all_members before) (members_of item) (subst (In n) (members_append before item) j)) [
+        | inl k ↦ there n k
+        | inr k ↦ member_there numbers named (members_of item ++ all_members items) news n (in_left (all_members items) k)
+      ]))
+
+  single_there : (items : List GroupOrSingle) (n : ℕ) → In n (singles_of items) → In (single n) items
+  single_there [] n i = absurd (no_in i)
+  single_there (group members ∷ items) n i = in_rest (single_there items n i)
+  single_there (single member ∷ items) n i = elim (in_or i) [ inl e ↦ subst (λ z. In (single n) (single z ∷ items)) e in_first | inr j ↦ in_rest (single_there items n j) ]
+
+  single_member : (items : List GroupOrSingle) (n : ℕ) → In n (singles_of items) → In n (all_members items)
+  single_member [] n i = absurd (no_in i)
+  single_member (group members ∷ items) n i = in_right members (single_member items n i)
+  single_member (single member ∷ items) n i = elim (in_or i) [ inl e ↦ subst (λ z. In n (z ∷ all_members items)) e in_first | inr j ↦ in_rest (single_member items n j) ]
+
+  pub components_pass : (items : List GroupOrSingle) → AreComponents rules all numbers items → graph_conditions rules all numbers items (Ok (groups_of items))
+  components_pass items are =
+      goes_on tt _ are.named
+      (goes_on tt _ are.whole
+      (goes_on tt _ (lead_onward_from [] items [] are.named are.in_order (λ m n i j. absurd (no_in j)) (λ n j. absurd (no_in j)))
+      (goes_on tt _ (each_passes (λ n. Forbids (HasEdge rules all n n) (SelfEdge n)) 0 (singles_of items)
+      (λ n i. absent (λ edge.
+      let there = member_there numbers [] (all_members items) are.named n (single_member items n i) in
+      are.components (single n) (single_there items n i) (n, (there, there, edge), Stay))))
+      returned)))
+
+-- the items that are put out for a graph
+pub all_components : {E : Type 0} (system : System) (numbers : List ℕ) → IsStrictlyIncreasing numbers → (rows : List (List ℕ)) → AreRows (EdgeTo system Ahead) numbers rows → (leaders : List ℕ)
+    → AreLeaders rows leaders → (result : Result (Vec GraphItem Global) E) → IfOk result (λ items. PutsOut numbers rows leaders (items_of items.items))
+    → IfOk result (λ items. AreComponents system.rules (dependency_pairs system.rules) numbers (items_of items.items))
+all_components system numbers up rows are_rows leaders led (Ok items) out =
+    are_components system.rules (dependency_pairs system.rules) numbers up rows are_rows leaders led (replicate (length leaders) false) (items_of items.items)
+    (together_at_first rows leaders led (replicate (length leaders) false) (length leaders) refl refl) (λ i lt. at_repeat (length leaders) i lt) out
+all_components system numbers up rows are_rows leaders led (Err e) out = out

@@ -1,0 +1,47 @@
+ghost use Rattle.std.specs.Prelude.{◌≡◌, IfOk};
+ghost use Rattle.std.specs.List.Sorted.{IsStrictlyIncreasing};
+ghost use Rattle.pair_theory.specs.DependencyPair.{dependency_pairs};
+ghost use Rattle.dp_core.specs.PlacedPairs.{placed_pairs};
+ghost use Rattle.dp_graph.specs.GroupOrSingle.{items_of};
+ghost use Rattle.dp_graph.specs.Components.{AreComponents};
+
+use crate::leaders::leaders;
+use crate::ordering::ordered;
+use crate::rows::{Direction, rows};
+use crate::{GraphItem, PairGraph};
+use dp_core::DpPair;
+use std::alloc::Global;
+use trs_core::{OutOfMemory, Trs};
+
+/// The components of the estimated graph on a problem, for one problem alone. A pair that lies on no
+/// cycle is a single one. Next comes always, of the components to which no edge leads from another
+/// one that is left, the one with the least pair.
+pub fn components(
+    alloc: Global,
+    trs: &Trs,
+    all: &[DpPair],
+    problem: &[u32],
+) -> Result<Vec<GraphItem>, OutOfMemory>
+    requires all { all.now ≡ placed_pairs trs.now.rules }
+    requires ascending { IsStrictlyIncreasing problem.now }
+    ensures { IfOk result (λ items. AreComponents trs.now.rules (dependency_pairs trs.now.rules)
+        problem.now (items_of items.items)) }
+{
+    let graph = PairGraph::of(alloc, trs, all)?;
+    graph.components(alloc, problem)
+}
+
+impl<'a> PairGraph<'a> {
+    /// The components of the graph on a problem, in order. It takes a number of steps that is at
+    /// most quadratic in the number of pairs, and linear in that of edges for each component.
+    pub fn components(&self, alloc: Global, problem: &[u32]) -> Result<Vec<GraphItem>, OutOfMemory>
+        requires ascending { IsStrictlyIncreasing problem.now }
+        ensures { IfOk result (λ items. AreComponents self.now.rules
+            (dependency_pairs self.now.rules) problem.now (items_of items.items)) }
+    {
+        let ahead = rows(alloc, self, problem, Direction::Ahead)?;
+        let back = rows(alloc, self, problem, Direction::Back)?;
+        let leaders = leaders(alloc, &ahead, &back)?;
+        ordered(alloc, problem, &ahead, &leaders)
+    }
+}
