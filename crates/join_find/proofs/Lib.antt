@@ -6,3 +6,8 @@ pub mod NewmanLaw
 pub mod NearTerms
 pub mod LinearRules
 pub mod StrongLaw
+pub mod ParallelSteps
+pub mod RootRules
+pub mod ParallelLaw
+pub mod ParallelWalk
+pub mod ParallelPeaks

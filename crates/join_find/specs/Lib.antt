@@ -7,3 +7,4 @@ pub mod Answers
 pub mod Sides
 pub mod Laws
 pub mod Near
+pub mod ParallelRow
