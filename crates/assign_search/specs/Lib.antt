@@ -1,0 +1,5 @@
+pub mod Puzzle
+pub mod Searched
+pub mod Order
+pub mod Rest
+pub mod Turns

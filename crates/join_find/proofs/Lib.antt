@@ -1,0 +1,13 @@
+pub mod Firsts
+pub mod SharedIds
+pub mod Joining
+pub mod NarrowPeaks
+pub mod NewmanLaw
+pub mod NearTerms
+pub mod LinearRules
+pub mod StrongLaw
+pub mod ParallelSteps
+pub mod RootRules
+pub mod ParallelLaw
+pub mod ParallelWalk
+pub mod ParallelPeaks

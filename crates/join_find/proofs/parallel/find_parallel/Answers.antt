@@ -1,0 +1,38 @@
+use Rattle.std.proofs.Common.{◌≡◌, ◌≤◌, ◌∙◌, List, [], refl, sym, subst, arith}
+use Rattle.std.specs.Global.{Vec}
+use Rattle.trs_defs.specs.Path.{PlacedRule}
+use Rattle.closed_pairs.specs.ParallelClosed.{paths_of}
+use Rattle.join_find.proofs.ParallelPeaks.{one_more_closing}
+use Rattle.join_find.specs.First.{Along, along_end}
+use Rattle.join_find.specs.ParallelRow.{IsParallelClosing, not_closed}
+use Rattle.join_find.proofs.Firsts.{along_all, read_in}
+use Rattle.join_find.proofs.parallel.find_parallel.Goals as goal
+
+pub loop-peak-init : goal.loop-peak-init
+loop-peak-init g c =
+    let P : List (Vec PlacedRule) → Type 0 = λ xs. Along (IsParallelClosing c.args.trs.now.rules) [] (paths_of xs) in
+    record { joined = subst P (sym c.new-steps.ensures.items) along_end; empty = c.new-pool.ensures; later = c.stopped.ensures.later; kept = c.stopped.ensures.kept }
+
+pub closing-requires-clause-sides : goal.closing-requires-clause-sides
+closing-requires-clause-sides g c =
+    c.critical_peaks_have_sides.ensures c.args.peaks.now c.requires.critical c.peak-item.result
+    (read_in c.args.peaks.now c.loop-peak.peak-index c.peak-item.result c.loop-peak-test.true c.peak-item.is)
+
+pub returns-in-None-clause-answer : goal.returns-in-None-clause-answer
+returns-in-None-clause-answer g c =
+    not_closed (c.peak-item.result, read_in c.args.peaks.now c.loop-peak.peak-index c.peak-item.result c.loop-peak-test.true c.peak-item.is, rw c.in-None.is at c.in_ok-step.ensures.step)
+
+pub loop-peak-preserved : goal.loop-peak-preserved
+loop-peak-preserved g c = record {
+  joined = one_more_closing c.args.trs.now.rules c.args.peaks.now c.loop-peak.steps.items c.push.new.self.items c.loop-peak.peak-index c.peak-item.result c.in-Some.step
+      c.loop-peak-test.true c.peak-item.is c.loop-peak.invariant.joined (rw c.in-Some.is at c.in_ok-step.ensures.step) c.in_ok-push-in-Some.ensures.items;
+  empty = c.in_ok-step.ensures.released ∙ c.loop-peak.invariant.empty;
+  later = omega (arith, c.loop-peak.invariant.later, c.stopped-in-loop-peak.ensures.later);
+  kept = c.stopped-in-loop-peak.ensures.kept ∙ c.loop-peak.invariant.kept;
+}
+
+pub returns-clause-answer : goal.returns-clause-answer
+returns-clause-answer g c = record {
+  linear = c.are_left_linear.ensures.linear (cc (c.if-not-are_left_linear.false));
+  closed = along_all (IsParallelClosing c.args.trs.now.rules) c.args.peaks.now (paths_of c.loop-peak.steps.items) c.loop-peak.peak-index c.loop-peak-test.false c.loop-peak.invariant.joined;
+}

@@ -1,0 +1,35 @@
+use Rattle.std.proofs.Common.{◌≡◌, ◌≤◌, ◌∙◌, List, [], refl, sym, subst, arith}
+use Rattle.closed_pairs.specs.StronglyClosed.{FourPaths}
+use Rattle.join_find.specs.First.{Along, along_end}
+use Rattle.join_find.specs.StrongRow.{IsFirstFour, not_joined}
+use Rattle.join_find.proofs.Firsts.{along_one_more, along_all, read_in}
+use Rattle.join_find.proofs.strong.find_strong.Goals as goal
+
+pub loop-peak-init : goal.loop-peak-init
+loop-peak-init g c =
+    let P : List FourPaths → Type 0 = λ fs. Along (IsFirstFour c.args.trs.now.rules) [] fs in
+    record { joined = subst P (sym c.new-fours.ensures.items) along_end; empty = c.new-pool.ensures; later = c.stopped.ensures.later; kept = c.stopped.ensures.kept }
+
+pub first_four-requires-clause-sides : goal.first_four-requires-clause-sides
+first_four-requires-clause-sides g c =
+    c.critical_peaks_have_sides.ensures c.args.peaks.now c.requires.critical c.peak-item.result
+    (read_in c.args.peaks.now c.loop-peak.peak-index c.peak-item.result c.loop-peak-test.true c.peak-item.is)
+
+pub returns-in-None-clause-answer : goal.returns-in-None-clause-answer
+returns-in-None-clause-answer g c =
+    not_joined (c.peak-item.result, read_in c.args.peaks.now c.loop-peak.peak-index c.peak-item.result c.loop-peak-test.true c.peak-item.is, rw c.in-None.is at c.in_ok-four.ensures.four)
+
+pub loop-peak-preserved : goal.loop-peak-preserved
+loop-peak-preserved g c = record {
+  joined = along_one_more (IsFirstFour c.args.trs.now.rules) c.args.peaks.now c.loop-peak.fours.items c.push.new.self.items c.loop-peak.peak-index c.peak-item.result _
+      c.loop-peak-test.true c.peak-item.is c.loop-peak.invariant.joined (rw c.in-Some.is at c.in_ok-four.ensures.four) c.in_ok-push-in-Some.ensures.items;
+  empty = c.in_ok-four.ensures.released ∙ c.loop-peak.invariant.empty;
+  later = omega (arith, c.loop-peak.invariant.later, c.stopped-in-loop-peak.ensures.later);
+  kept = c.stopped-in-loop-peak.ensures.kept ∙ c.loop-peak.invariant.kept;
+}
+
+pub returns-clause-answer : goal.returns-clause-answer
+returns-clause-answer g c = record {
+  linear = c.are_linear.ensures.linear (cc (c.if-not-are_linear.false));
+  joined = along_all (IsFirstFour c.args.trs.now.rules) c.args.peaks.now c.loop-peak.fours.items c.loop-peak.peak-index c.loop-peak-test.false c.loop-peak.invariant.joined;
+}

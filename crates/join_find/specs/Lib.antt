@@ -1,0 +1,10 @@
+pub mod First
+pub mod Common
+pub mod CommonIds
+pub mod NewmanRow
+pub mod StrongRow
+pub mod Answers
+pub mod Sides
+pub mod Laws
+pub mod Near
+pub mod ParallelRow

@@ -1,0 +1,78 @@
+//! The least rule that leads from one term to another at the root.
+ghost use Rattle.std.specs.Prelude.{◌≡◌, ◌<◌, ◌≤◌, ◌↔◌, [], length, IsTrue, IfOk, MatchOption};
+ghost use Rattle.trs_core.specs.View.{tree};
+ghost use Rattle.trs_defs.specs.Size.{within_limits};
+ghost use Rattle.trs_defs.specs.Path.{StepsAt};
+ghost use Rattle.term_pool.specs.Pooled.{StandsFor, tree_at};
+ghost use Rattle.join_find.specs.ParallelRow.{HasNoRootStep, IsRootStep};
+
+use crate::reaching::ids_are_distinct;
+use std::alloc::Global;
+use term_pool::{MOST_IDS, Pool, RulesByRoot};
+use trs_core::{OutOfMemory, Position, Term, Trs};
+
+/// The least rule that leads at the root from the term of one id to that of another. Only rules
+/// with the root of the first term are tried. The pool is as before.
+pub(crate) fn root_rule(
+    alloc: Global,
+    pool: &mut Pool,
+    trs: &Trs,
+    by_root: &RulesByRoot,
+    from: &Term,
+    ids: (u32, u32),
+) -> Result<Option<u32>, OutOfMemory>
+    requires rules { by_root.now ≡ trs.now }
+    requires from { StandsFor pool.old ids.0 (tree from.now) }
+    requires to { ids.1 < length pool.old }
+    requires limits { IsTrue (within_limits (tree_at pool.old ids.1)) }
+    requires room { length pool.old ≤ MOST_IDS }
+    ensures same { pool.new ≡ pool.old }
+    ensures rule { IfOk result (λ found. MatchOption found
+        (HasNoRootStep trs.now.rules (tree from.now) (tree_at pool.old ids.1))
+        (IsRootStep trs.now.rules (tree from.now) (tree_at pool.old ids.1))) }
+{
+    let rules = by_root.rules();
+    let Term::App(f, _) = from else {
+        return Ok(None);
+    };
+    let mut k = by_root.first(*f);
+    while (k as usize) < rules.len() {
+        if leads(alloc, pool, trs, ids, k)? {
+            return Ok(Some(k));
+        }
+        k = by_root.next(k);
+    }
+    Ok(None)
+}
+
+/// Whether rule `k` leads at the root from the term of one id to that of another. The pool is as
+/// before.
+fn leads(
+    alloc: Global,
+    pool: &mut Pool,
+    trs: &Trs,
+    ids: (u32, u32),
+    k: u32,
+) -> Result<bool, OutOfMemory>
+    requires from { ids.0 < length pool.old }
+    requires to { ids.1 < length pool.old }
+    requires limits { IsTrue (within_limits (tree_at pool.old ids.1)) }
+    requires room { length pool.old ≤ MOST_IDS }
+    ensures same { pool.new ≡ pool.old }
+    ensures leads { IfOk result (λ yes. IsTrue yes
+        ↔ StepsAt trs.now.rules [] k (tree_at pool.old ids.0) (tree_at pool.old ids.1)) }
+{
+    let root = Position::new(alloc);
+    let mark = pool.mark();
+    match pool.step_at(alloc, trs, ids.0, &root, k) {
+        Err(fault) => {
+            fault.unless_no_memory()?;
+            Ok(false)
+        }
+        Ok(reduct) => {
+            ids_are_distinct(pool);
+            pool.release(mark);
+            Ok(reduct == ids.1)
+        }
+    }
+}
