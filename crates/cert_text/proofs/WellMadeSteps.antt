@@ -83,12 +83,12 @@ pub well_made_answer : (named : NamedSystem) (size : ℕ) (xs : Items) (r : Resu
     → IfOk r (λ c. All (λ s. IsWellMade named.system s.step) (proof_text_of c).steps)
 well_made_answer named size xs (Ok c) is e =
     let steps = (proof_text_of c).steps in
-    All-from_recursion (λ s. IsWellMade named.system s.step) steps (well_made_only named.system steps (certificate_made named is.counts (proof_text_of c) size xs e))
+    All-from_recursion (λ s. IsWellMade named.system s.step) steps (well_made_only named.system steps (certificate_made named is (proof_text_of c) size xs e))
 well_made_answer named size xs (Err f) is e = tt
 
 pub printable_answer : (named : NamedSystem) (size : ℕ) (xs : Items) (r : Result Certificate CertFault) → IsNamed named → Answers r (certificate named size xs)
     → IfOk r (λ c. All (IsPrintable named.system) (proof_text_of c).steps)
 printable_answer named size xs (Ok c) is e =
     let steps = (proof_text_of c).steps in
-    All-from_recursion (IsPrintable named.system) steps (printable_only named.system steps (certificate_made named is.counts (proof_text_of c) size xs e))
+    All-from_recursion (IsPrintable named.system) steps (printable_only named.system steps (certificate_made named is (proof_text_of c) size xs e))
 printable_answer named size xs (Err f) is e = tt

@@ -10,12 +10,12 @@ returns-then-not-node-clause-stuck c =
     let node = c.in-Some.node.now in
     (refl, (node, node_there c.args.nodes.now c.args.step.now.node node found.0 (found.1 node), rw (← c.node.view_is) c.if-not-node.true))
 
-pub apply_step-requires-clause-well_made_problem : goal.apply_step-requires-clause-well_made_problem
-apply_step-requires-clause-well_made_problem c =
+pub apply-requires-clause-well_made_problem : goal.apply-requires-clause-well_made_problem
+apply-requires-clause-well_made_problem c =
     let found = c.in-Some.ensures.lookup.3 in
     let node = c.in-Some.node.now in
     problem_there c.args.nodes.now c.args.step.now.node node (problem_of c.node.inside.problem) c.node.inside.is_open c.node.view_is found.0 (found.1 node)
-    c.args.trs.now c.requires.nodes
+    c.args.prepared.now c.requires.nodes
 
 pub returns-in-Ok-clause-leaves : goal.returns-in-Ok-clause-leaves
 returns-in-Ok-clause-leaves c =
@@ -33,6 +33,6 @@ returns-in-Err-clause-stuck c =
     let found = c.in-Some.ensures.lookup.3 in
     let node = c.in-Some.node.now in
     rw c.of_step.ensures
-    (step_stuck c.args.trs.now c.args.nodes.now c.args.step.now c.args.number (problem_of c.node.inside.problem) c.in-Err.fault
+    (step_stuck c.args.prepared.now c.args.nodes.now c.args.step.now c.args.number (problem_of c.node.inside.problem) c.in-Err.fault
     (open_there c.args.nodes.now c.args.step.now.node node (problem_of c.node.inside.problem) c.node.inside.is_open c.node.view_is found.0 (found.1 node)
     c.if-not-node.false) c.in-Err.ensures.refused)
