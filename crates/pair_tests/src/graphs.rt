@@ -86,17 +86,6 @@ fn is_item(item: &GraphItem, component: &Component) -> bool {
     is_group == component.on_cycle && item.members() == component.members.as_slice()
 }
 
-/// How many components have a cycle.
-fn cycles(slow: &[Component]) -> usize {
-    let mut count: usize = 0;
-    for component in slow {
-        if component.on_cycle {
-            count = count.saturating_add(1);
-        }
-    }
-    count
-}
-
 /// Whether the components are those of the table, and a step by them leaves their groups.
 fn same_components(alloc: Global, first: u32, second: u32) -> Result<bool, Fail> {
     let rules = [rule(first), rule(second)];
@@ -114,7 +103,10 @@ fn same_components(alloc: Global, first: u32, second: u32) -> Result<bool, Fail>
         }
     }
     let groups = graph.group_check(alloc, &numbers, &items)?;
-    Ok(items.len() == slow.len() && groups.len() == cycles(&slow))
+    Ok(
+        items.len() == slow.len()
+            && groups.len() == slow.iter().filter(|component| component.on_cycle).count(),
+    )
 }
 
 #[test]
