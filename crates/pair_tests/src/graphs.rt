@@ -1,0 +1,124 @@
+//! Edges, steps by the graph and components on small systems.
+use crate::numbers::all_numbers;
+use crate::slow::{self, TextPair};
+use crate::slow_graph::{Component, Table, components};
+use crate::texts::{RULES, TextRule, rule, system};
+use dp_core::dependency_pairs;
+use dp_graph::{GraphItem, PairGraph};
+use rewrite_core::{CheckFault, StepRefused};
+use std::alloc::Global;
+use std::test::Fail;
+use trs_core::OutOfMemory;
+
+/// Whether a step by the graph tells of an edge between two pairs, both single, the second one
+/// first.
+fn is_refused(alloc: Global, graph: &PairGraph, m: u32, n: u32) -> Result<bool, OutOfMemory> {
+    let items = if m == n {
+        vec![in alloc; GraphItem::Single(m)]?
+    } else {
+        vec![in alloc; GraphItem::Single(n), GraphItem::Single(m)]?
+    };
+    match graph.group_check(alloc, &[m, n], &items) {
+        Err(CheckFault::Refused(StepRefused::SelfEdge(_))) => Ok(m == n),
+        Err(CheckFault::Refused(StepRefused::EdgeBack(from, to))) => {
+            Ok(from == u64::from(m) && to == u64::from(n))
+        }
+        Err(CheckFault::OutOfMemory) => Err(OutOfMemory),
+        _ => Ok(false),
+    }
+}
+
+/// The edges, found slowly.
+fn table(alloc: Global, rules: &[TextRule], pairs: &[TextPair]) -> Result<Table, OutOfMemory> {
+    let mut cells = Vec::new(alloc);
+    for from in pairs {
+        for to in pairs {
+            cells.push(slow::has_edge(alloc, rules, from, to)?)?;
+        }
+    }
+    Ok(Table {
+        count: pairs.len(),
+        cells,
+    })
+}
+
+/// Whether the refusals are those that the table tells.
+fn same_edges(
+    alloc: Global,
+    graph: &PairGraph,
+    edges: &Table,
+    numbers: &[u32],
+) -> Result<bool, OutOfMemory> {
+    for (i, m) in numbers.iter().enumerate() {
+        for (j, n) in numbers.iter().enumerate() {
+            if is_refused(alloc, graph, *m, *n)? != edges.has(i, j) {
+                return Ok(false);
+            }
+        }
+    }
+    Ok(numbers.len() == edges.count)
+}
+
+#[test]
+fn edges_of_small_systems(rt: HostRuntime) -> Result<(), Fail> {
+    let alloc = rt.alloc();
+    for first in 0..RULES {
+        for second in 0..RULES {
+            let rules = [rule(first), rule(second)];
+            let trs = system(alloc, first, second)?;
+            let graph = PairGraph::new(alloc, &trs)?;
+            let edges = table(alloc, &rules, &slow::pairs(alloc, &rules)?)?;
+            let numbers = all_numbers(alloc, &trs, &dependency_pairs(alloc, &trs)?)?;
+            assert!(rt;
+                same_edges(alloc, &graph, &edges, &numbers)?,
+                "at {first}, {second}"
+            );
+        }
+    }
+    Ok(())
+}
+
+fn is_item(item: &GraphItem, component: &Component) -> bool {
+    let is_group = match item {
+        GraphItem::Group(_) => true,
+        GraphItem::Single(_) => false,
+    };
+    is_group == component.on_cycle && item.members() == component.members.as_slice()
+}
+
+/// Whether the components are those of the table, and a step by them leaves their groups.
+fn same_components(alloc: Global, first: u32, second: u32) -> Result<bool, Fail> {
+    let rules = [rule(first), rule(second)];
+    let trs = system(alloc, first, second)?;
+    let graph = PairGraph::new(alloc, &trs)?;
+    let numbers = all_numbers(alloc, &trs, &dependency_pairs(alloc, &trs)?)?;
+    let items = graph.components(alloc, &numbers)?;
+    let slow = components(alloc, &table(alloc, &rules, &slow::pairs(alloc, &rules)?)?)?;
+    for (i, item) in items.iter().enumerate() {
+        if !slow
+            .get(i)
+            .is_some_and(|component| is_item(item, component))
+        {
+            return Ok(false);
+        }
+    }
+    let groups = graph.group_check(alloc, &numbers, &items)?;
+    Ok(
+        items.len() == slow.len()
+            && groups.len() == slow.iter().filter(|component| component.on_cycle).count(),
+    )
+}
+
+#[test]
+fn components_of_small_systems(rt: HostRuntime) -> Result<(), Fail> {
+    let alloc = rt.alloc();
+    for first in 0..RULES {
+        for second in 0..RULES {
+            assert!(rt;
+                same_components(alloc, first, second)?,
+                "at {first}, {second}"
+            );
+        }
+    }
+    Ok(())
+}
