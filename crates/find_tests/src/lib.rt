@@ -2,6 +2,10 @@
 #![tactic(auto)]
 
 #[cfg(test)]
+mod joins;
+#[cfg(test)]
+mod made;
+#[cfg(test)]
 mod searches;
 #[cfg(test)]
 mod spaces;
