@@ -4,11 +4,11 @@ use Rattle.std.specs.declared.alloc.Global.{Global}
 use Rattle.std.proofs.Common.{sym, subst}
 use Rattle.trs_defs.specs.System.{System}
 use Rattle.rewrite_core.specs.declared.refusals.CheckFault.{CheckFault}
-use Rattle.rewrite_core.specs.Check.{Check, Refuses, AnswersBy, Answers, Returns, returned, goes_on}
+use Rattle.rewrite_core.specs.Check.{Check, Refuses, AnswersBy, Answers, Then, Returns, returned, goes_on}
 use Rattle.rewrite_core.proofs.Answering.{refused_first}
 use Rattle.cert_step.specs.declared.problem.Problem.{Problem}
 use Rattle.cert_step.specs.ProofProblem.{ProofProblem}
-use Rattle.cert_step.specs.Subproblems.{problems_of, AllHold, AreWellMadeProblems, GivesIfPassed}
+use Rattle.cert_step.specs.Subproblems.{problems_of, AllHold, AreWellMadeProblems, GivesProblems}
 use Rattle.cert_step.specs.Kind.{leaves}
 
 module _ {check : Check (Unit {0})} {problems : List ProofProblem} where
@@ -28,9 +28,15 @@ module _ {check : Check (Unit {0})} {problems : List ProofProblem} where
 pub returns_problems : (problems : List ProofProblem) (subproblems : Vec Problem Global) → problems_of subproblems ≡ problems → Returns problems (Ok (problems_of subproblems))
 returns_problems problems subproblems e = subst (λ x. Returns problems (Ok x)) (sym e) returned
 
--- a call that checks the conditions, and then one that answers the problems
+-- a call that checks conditions, and then one that answers the problems that their value leaves
+pub leaving_by : {A X : Type 0} (check : Check A) (seen : X → A) (left : A → List ProofProblem) (checked : Result X CheckFault) (result : Result (Vec Problem Global) CheckFault)
+    → AnswersBy seen check checked → GivesProblems (λ x. left (seen x)) checked result
+    → AnswersBy problems_of (Then check (λ a. Returns (left a))) result
+leaving_by check seen left (Ok x) (Ok subproblems) h k = goes_on (seen x) _ h (returns_problems (left (seen x)) subproblems k)
+leaving_by check seen left (Ok x) (Err fault) h k = subst (Refuses (Then check (λ a. Returns (left a)))) (sym k) tt
+leaving_by check seen left (Err fault) result h k = subst (AnswersBy problems_of (Then check (λ a. Returns (left a)))) (sym k) (refused_first _ _ fault h)
+
+-- the same, where the problems are always the same
 pub leaving : (check : Check (Unit {0})) (problems : List ProofProblem) (checked : Result (Unit {0}) CheckFault) (result : Result (Vec Problem Global) CheckFault)
-    → Answers check checked → GivesIfPassed problems checked result → AnswersBy problems_of (leaves problems check) result
-leaving check problems (Ok u) (Ok subproblems) h k = goes_on tt _ h (returns_problems problems subproblems k)
-leaving check problems (Ok u) (Err fault) h k = subst (Refuses (leaves problems check)) (sym k) tt
-leaving check problems (Err fault) result h k = subst (AnswersBy problems_of (leaves problems check)) (sym k) (refused_first _ _ fault h)
+    → Answers check checked → GivesProblems (λ _. problems) checked result → AnswersBy problems_of (leaves problems check) result
+leaving check problems checked result h k = leaving_by check (λ u. u) (λ _. problems) checked result h k

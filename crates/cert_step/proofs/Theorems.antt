@@ -1,9 +1,14 @@
--- The theorems on critical peaks, on which steps of proofs rest.
+-- The theorems on which steps of proofs rest.
 use Rattle.std.specs.Prelude.{map}
 use Rattle.confluence_theory.proofs.CriticalCover.{covered}
 use Rattle.confluence_theory.proofs.ParallelPaths.{parallel_path}
 use Rattle.confluence_theory.proofs.FollowedPaths.{numbered_path}
 use Rattle.confluence_theory.proofs.Claims.{joined, parallel_closed, strongly_closed, decreasing}
+use Rattle.pair_theory.proofs.PairList.{listed_are_pairs}
+use Rattle.pair_theory.proofs.Problems.{listed_theorem}
+use Rattle.pair_theory.proofs.Projections.{criterion_theorem}
+use Rattle.dp_core.specs.Laws.{AllPairsConclude, SubtermStepsConclude}
+use Rattle.dp_core.proofs.Conclusions.{all_conclude, subterm_concludes}
 use Rattle.crit_pairs.specs.PlainPeak.{plain}
 use Rattle.crit_pairs.specs.Laws.{ListedPeaksCover}
 use Rattle.crit_pairs.proofs.Covering.{has_all}
@@ -26,3 +31,9 @@ strongly_closed_peaks = strong_concludes peaks_cover strongly_closed
 
 pub decreasing_peaks : DecreasingPeaksConclude
 decreasing_peaks = decreasing_concludes numbered_path peaks_cover decreasing
+
+pub all_pairs : AllPairsConclude
+all_pairs = all_conclude listed_theorem
+
+pub subterm_steps : SubtermStepsConclude
+subterm_steps = subterm_concludes listed_are_pairs (λ system pairs stays place ok good class. criterion_theorem system ok pairs stays good place class)

@@ -1,6 +1,16 @@
 pub mod ProofProblem
 pub mod Subproblems
 pub mod Kind
+pub mod Entries
+pub mod OnPairs
+pub mod OrderKind
+pub mod DpKind
+pub mod GraphKind
+pub mod SubtermKind
+pub mod PolyKind
+pub mod LpoKind
+pub mod KboKind
+pub mod UsableKind
 pub mod LoopKind
 pub mod NewmanKind
 pub mod ParallelKind
@@ -11,5 +21,6 @@ pub mod ConfluenceKind
 pub mod ProofStep
 pub mod Applies
 pub mod Refused
+pub mod Tables
 pub mod Opposites
 pub mod Laws

@@ -24,7 +24,7 @@ abbrev pub GivesSubproblems : Result (Vec Problem Global) CheckFault → List Pr
 GivesSubproblems result subproblems =
     MatchResult result (λ given. problems_of given ≡ subproblems) (λ fault. fault ≡ OutOfMemory)
 
--- where a check of conditions passed, the answer is these problems, unless memory runs out; where it did not, its fault
-abbrev pub GivesIfPassed : List ProofProblem → Result (Unit {0}) CheckFault → Result (Vec Problem Global) CheckFault → Type 0
-GivesIfPassed problems (Ok u) result = GivesSubproblems result problems
-GivesIfPassed problems (Err fault) result = result ≡ Err fault
+-- where a check gave a value, the answer is the problems that it leaves, unless memory runs out; where it did not, its fault
+abbrev pub GivesProblems : {X : Type 0} → (X → List ProofProblem) → Result X CheckFault → Result (Vec Problem Global) CheckFault → Type 0
+GivesProblems left (Ok x) result = GivesSubproblems result (left x)
+GivesProblems left (Err fault) result = result ≡ Err fault

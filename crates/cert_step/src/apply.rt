@@ -1,21 +1,28 @@
 ghost use Rattle.std.specs.Prelude.{List, IfOk, IfErr, IsTrue};
-ghost use Rattle.trs_defs.specs.System.{IsSystem};
+ghost use Rattle.trs_core.specs.Valid.{IsValid};
 ghost use Rattle.rewrite_core.specs.Check.{AnswersBy, RefusedFor};
 ghost use Rattle.cert_step.specs.ProofProblem.{ProofProblem, problem_of, Holds, IsWellMadeProblem};
 ghost use Rattle.cert_step.specs.ProofStep.{step_of, kind_of, IsWellMade};
 ghost use Rattle.cert_step.specs.Applies.{Applies, step_conditions};
 ghost use Rattle.cert_step.specs.Refused.{IsStepRefused};
+ghost use Rattle.cert_step.specs.Tables.{AreTablesOf};
 ghost use Rattle.cert_step.specs.Subproblems.{AllHold, AreWellMadeProblems};
 ghost use Rattle.cert_step.specs.Subproblems.{GivesSubproblems, problems_of};
 
 use crate::confluence_step::apply_confluence;
+use crate::dp_step::apply_dp;
 use crate::fork_step::apply_fork;
+use crate::graph_step::apply_graph;
 use crate::label_step::apply_label;
 use crate::loop_step::apply_loop;
 use crate::newman_step::apply_newman;
+use crate::order_step::apply_order;
 use crate::parallel_step::apply_parallel;
 use crate::strong_step::apply_strong;
-use crate::{Problem, Step};
+use crate::subterm_step::apply_subterm;
+use crate::tables::Tables;
+use crate::usable_step::apply_usable;
+use crate::{Prepared, Problem, Step};
 use rewrite_core::{CheckFault, StepRefused};
 use std::alloc::Global;
 use trs_core::Trs;
@@ -45,47 +52,62 @@ pub fn apply_step(
     ensures well_made { IfOk result (λ subproblems.
         AreWellMadeProblems trs.now (problems_of subproblems)) }
 {
-    keeps_system(trs);
-    checked(alloc, trs, problem, step)
+    let mut prepared = Prepared::new(trs);
+    prepared.apply(alloc, problem, step)
 }
 
-/// The type of a system keeps that it is one.
+/// The type of a system keeps that it is one, within the limits.
 pub(crate) fn keeps_system(trs: &Trs)
-    ensures { IsSystem trs.now }
+    ensures { IsValid trs.now }
 {
     trs.rules();
 }
 
 /// The subproblems that a step leaves, by its conditions alone.
-fn checked(
+pub(crate) fn checked<'a>(
     alloc: Global,
-    trs: &Trs,
+    trs: &'a Trs,
+    tables: &mut Tables<'a>,
     problem: &Problem,
     step: &Step,
 ) -> Result<Vec<Problem>, CheckFault>
-    requires { IsWellMade trs.now (step_of step.now) }
-    ensures { AnswersBy problems_of
+    requires tables { AreTablesOf trs.now tables.old }
+    requires problem { IsWellMadeProblem trs.now (problem_of problem.now) }
+    requires step { IsWellMade trs.now (step_of step.now) }
+    ensures answers { AnswersBy problems_of
         (step_conditions trs.now (problem_of problem.now) (step_of step.now)) result }
+    ensures tables { AreTablesOf trs.now tables.new }
 {
     if !step.is_for(problem) {
         return Err(CheckFault::Refused(StepRefused::WrongProblem));
     }
-    checked_kind(alloc, trs, problem, step)
+    checked_kind(alloc, trs, tables, problem, step)
 }
 
 /// The subproblems that a step leaves of a problem that it is for.
-fn checked_kind(
+fn checked_kind<'a>(
     alloc: Global,
-    trs: &Trs,
+    trs: &'a Trs,
+    tables: &mut Tables<'a>,
     problem: &Problem,
     step: &Step,
 ) -> Result<Vec<Problem>, CheckFault>
-    requires problem { IsTrue ((kind_of (step_of step.now)).is_for (problem_of problem.now)) }
+    requires is_for { IsTrue ((kind_of (step_of step.now)).is_for (problem_of problem.now)) }
+    requires tables { AreTablesOf trs.now tables.old }
+    requires problem { IsWellMadeProblem trs.now (problem_of problem.now) }
     requires step { IsWellMade trs.now (step_of step.now) }
-    ensures { AnswersBy problems_of
+    ensures answers { AnswersBy problems_of
         ((kind_of (step_of step.now)).conditions trs.now (problem_of problem.now)) result }
+    ensures tables { AreTablesOf trs.now tables.new }
 {
     match step {
+        Step::Dp => apply_dp(alloc, trs),
+        Step::Graph(items) => apply_graph(alloc, trs, tables, problem.pairs(), items),
+        Step::Subterm(projection) => {
+            apply_subterm(alloc, trs, tables, problem.pairs(), projection)
+        }
+        Step::Order(order) => apply_order(alloc, trs, tables, problem.pairs(), order),
+        Step::UsablePoly(table) => apply_usable(alloc, trs, tables, problem.pairs(), table),
         Step::Loop { start, path, place } => apply_loop(alloc, trs, start, path, place),
         Step::Newman(joins) => apply_newman(alloc, trs, joins),
         Step::Parallel(paths) => apply_parallel(alloc, trs, paths),

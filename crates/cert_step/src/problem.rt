@@ -1,6 +1,7 @@
 ghost use Rattle.std.specs.Prelude.{◌≡◌, ◌↔◌, [], ◌∷◌, IfOk, IsTrue};
-ghost use Rattle.cert_step.specs.ProofProblem.{problem_of};
-ghost use Rattle.cert_step.specs.Subproblems.{GivesIfPassed, problems_of};
+ghost use Rattle.cert_step.specs.ProofProblem.{problem_of, dp};
+ghost use Rattle.cert_step.specs.OnPairs.{for_pairs};
+ghost use Rattle.cert_step.specs.Subproblems.{GivesProblems, problems_of};
 
 use rewrite_core::CheckFault;
 use std::alloc::Global;
@@ -68,12 +69,25 @@ impl Problem {
     }
 }
 
+impl Problem {
+    /// The numbers of the pairs of a problem of pairs.
+    pub(crate) fn pairs(&self) -> &[u32]
+        requires { IsTrue (for_pairs (problem_of self.now)) }
+        ensures { problem_of self.now ≡ dp result.now }
+    {
+        match self {
+            Problem::Dp(pairs) => pairs,
+            _ => unreachable!(),
+        }
+    }
+}
+
 /// What a step answers that leaves no subproblem where its conditions hold.
 pub(crate) fn no_problem(
     alloc: Global,
     checked: Result<(), CheckFault>,
 ) -> Result<Vec<Problem>, CheckFault>
-    ensures { GivesIfPassed [] checked result }
+    ensures { GivesProblems (λ _. []) checked result }
 {
     match checked {
         Ok(()) => Ok(Vec::new(alloc)),
@@ -87,7 +101,7 @@ pub(crate) fn one_problem(
     checked: Result<(), CheckFault>,
     problem: Problem,
 ) -> Result<Vec<Problem>, CheckFault>
-    ensures { GivesIfPassed (problem_of problem ∷ []) checked result }
+    ensures { GivesProblems (λ _. problem_of problem ∷ []) checked result }
 {
     match checked {
         Ok(()) => Ok(alone(alloc, problem)?),

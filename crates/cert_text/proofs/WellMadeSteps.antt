@@ -1,5 +1,5 @@
 -- The steps of a certificate that is read are well-made, and can be printed.
-use Rattle.std.proofs.Common.{◌≡◌, ℕ, ◌==◌, Bool, true, false, cond, List, [], ◌∷◌, length, Result, Ok, Err, IfOk, refl, ap, subst, ◌∙◌}
+use Rattle.std.proofs.Common.{◌≡◌, ℕ, ◌==◌, Bool, true, false, cond, List, [], ◌∷◌, length, None, Result, Ok, Err, IfOk, refl, ap, subst, ◌∙◌}
 use Rattle.std.specs.List.{All, AllByRecursion}
 use Rattle.std.proofs.lemmas.List.Elements.{All-from_recursion}
 use Rattle.sexp_core.specs.Items.{Items, no_items, item}
@@ -7,10 +7,12 @@ use Rattle.trs_defs.specs.System.{System}
 use Rattle.names_text.specs.Named.{NamedSystem, IsNamed}
 use Rattle.cert_step.specs.ProofStep.{ProofNodeStep, IsWellMade}
 use Rattle.cert_step.specs.declared.claim.Claim.{Claim}
-use Rattle.text_reading.specs.Reading.{Read, ◌<*>◌, many}
-use Rattle.text_reading.proofs.Made.{applied, ok_same, made_many}
+use Rattle.text_reading.specs.Reading.{Read, ◌<*>◌}
+use Rattle.text_reading.proofs.Made.{applied, ok_same}
+use Rattle.path_text.specs.Paths.{in_turn}
+use Rattle.path_text.proofs.PathMade.{made_in_turn}
 use Rattle.step_text.specs.Ranges.{IsWellMadeInRange, IsPrintable}
-use Rattle.step_text.specs.Steps.{step}
+use Rattle.step_text.specs.Steps.{step, paths_of_step}
 use Rattle.step_text.proofs.StepLaws.{step_made}
 use Rattle.cert_text.specs.declared.fault.CertFault.{CertFault}
 use Rattle.cert_text.specs.declared.fault.CertFault.TheVariants.{Version}
@@ -28,18 +30,18 @@ read_first : {A : Type 0} (r : Read A) (behind : A → Result ProofText CertFaul
 read_first (Ok x) behind says e = (x, refl, e)
 read_first (Err p) behind says e = absurd cc
 
-module _ (named : NamedSystem) (counts : length named.names ≡ length named.system.arities) (says : ProofText) where
+module _ (named : NamedSystem) (is_named : IsNamed named) (says : ProofText) where
   body_made : (positive : Bool) (claim : Read Claim) (steps : Items) → body named positive claim steps ≡ Ok says → AreMade named says
   body_made positive claim steps e =
-      let (read, is_read, is) = read_first (Ok (says_of positive) <*> claim <*> many (step named) steps) (λ s. Ok s) says e in
-      let b = applied (Ok (says_of positive) <*> claim) (many (step named) steps) read is_read in
+      let (read, is_read, is) = read_first (Ok (says_of positive) <*> claim <*> in_turn (step named) paths_of_step None steps) (λ s. Ok s) says e in
+      let b = applied (Ok (says_of positive) <*> claim) (in_turn (step named) paths_of_step None steps) read is_read in
       let a = applied (Ok (says_of positive)) claim b.make b.is_make in
       let make : says_of positive ≡ a.make = ok_same (says_of positive) a.make a.is_make in
       let same : says_of positive a.value b.value ≡ read =
       ap (λ (f : Claim → List ProofNodeStep → ProofText). f a.value b.value) make ∙ ap (λ (f : List ProofNodeStep → ProofText). f b.value) a.made ∙ b.made in
       let is_says : read ≡ says = cc in
       let P : List ProofNodeStep → Type 0 = AllByRecursion (IsWellMadeInRange named.system) in
-      subst P (ap (λ (t : ProofText). t.steps) (same ∙ is_says)) (made_many (step named) (IsWellMadeInRange named.system) (step_made named counts) steps b.value b.is_value)
+      subst P (ap (λ (t : ProofText). t.steps) (same ∙ is_says)) (made_in_turn (step named) paths_of_step (IsWellMadeInRange named.system) (λ s h. step_made named is_named s h) None tt steps b.value b.is_value)
 
   version_made : (is_one positive : Bool) (h : Head) (steps : Items) → cond is_one (body named positive h.claim steps) (Err (Version h.version)) ≡ Ok says → AreMade named says
   version_made true positive h steps e = body_made positive h.claim steps e
@@ -69,13 +71,13 @@ pub well_made_steps : (named : NamedSystem) (text : List ℕ) (says : ProofText)
     → All (λ s. IsWellMade named.system s.step) says.steps
 well_made_steps named text says is h =
     All-from_recursion (λ s. IsWellMade named.system s.step) says.steps
-    (well_made_only named.system says.steps (certificate_made named is.counts says (length text) h.items h.read))
+    (well_made_only named.system says.steps (certificate_made named is says (length text) h.items h.read))
 
 pub printable_steps : (named : NamedSystem) (text : List ℕ) (says : ProofText) → IsNamed named → SaysCertificate named text says
     → All (IsPrintable named.system) says.steps
 printable_steps named text says is h =
     All-from_recursion (IsPrintable named.system) says.steps
-    (printable_only named.system says.steps (certificate_made named is.counts says (length text) h.items h.read))
+    (printable_only named.system says.steps (certificate_made named is says (length text) h.items h.read))
 
 -- ---- answers of the code
 
@@ -83,12 +85,12 @@ pub well_made_answer : (named : NamedSystem) (size : ℕ) (xs : Items) (r : Resu
     → IfOk r (λ c. All (λ s. IsWellMade named.system s.step) (proof_text_of c).steps)
 well_made_answer named size xs (Ok c) is e =
     let steps = (proof_text_of c).steps in
-    All-from_recursion (λ s. IsWellMade named.system s.step) steps (well_made_only named.system steps (certificate_made named is.counts (proof_text_of c) size xs e))
+    All-from_recursion (λ s. IsWellMade named.system s.step) steps (well_made_only named.system steps (certificate_made named is (proof_text_of c) size xs e))
 well_made_answer named size xs (Err f) is e = tt
 
 pub printable_answer : (named : NamedSystem) (size : ℕ) (xs : Items) (r : Result Certificate CertFault) → IsNamed named → Answers r (certificate named size xs)
     → IfOk r (λ c. All (IsPrintable named.system) (proof_text_of c).steps)
 printable_answer named size xs (Ok c) is e =
     let steps = (proof_text_of c).steps in
-    All-from_recursion (IsPrintable named.system) steps (printable_only named.system steps (certificate_made named is.counts (proof_text_of c) size xs e))
+    All-from_recursion (IsPrintable named.system) steps (printable_only named.system steps (certificate_made named is (proof_text_of c) size xs e))
 printable_answer named size xs (Err f) is e = tt

@@ -1,15 +1,16 @@
 -- What a certificate text says, and why it is refused: how it is read, and how it is printed. (docs/CERTIFICATE-FORMAT.md
 -- has the grammar.)
-use Rattle.std.specs.Prelude.{◌≡◌, ◌⊎◌, ◌==◌, ℕ, Bool, List, length, map, Some, None, Result, Ok, Err, if◌then◌else◌}
+use Rattle.std.specs.Prelude.{◌≡◌, ◌⊎◌, ◌==◌, ℕ, Bool, List, [], length, map, Some, None, Result, Ok, Err, if◌then◌else◌}
 use Rattle.sexp_core.specs.Items.{Item, Items, no_items, item, items_of}
 use Rattle.sexp_core.specs.Reads.{Reads, fault_of}
 use Rattle.sexp_core.specs.declared.fault.TextFault.{TextFault}
 use Rattle.names_text.specs.Named.{NamedSystem}
 use Rattle.cert_step.specs.declared.claim.Claim.{Claim}
 use Rattle.cert_step.specs.ProofStep.{ProofNodeStep}
-use Rattle.text_reading.specs.Reading.{Read, ◌<*>◌, many}
+use Rattle.text_reading.specs.Reading.{Read, ◌<*>◌}
 use Rattle.text_reading.specs.Printed.{word_item}
-use Rattle.step_text.specs.Steps.{step, step_item}
+use Rattle.path_text.specs.Paths.{in_turn}
+use Rattle.step_text.specs.Steps.{step, paths_of_step, step_item}
 use Rattle.cert_text.specs.declared.fault.CertFault.{CertFault}
 use Rattle.cert_text.specs.declared.fault.CertFault.TheVariants.{Text, Version, OutOfMemory}
 use Rattle.cert_text.specs.Unreadable.{from_text}
@@ -30,7 +31,7 @@ says_of positive claim steps = record { headline = positive; claim = claim; step
 
 -- behind a headline and a head of version 1: the claim and the steps, or the least place of all that is none
 abbrev pub body : NamedSystem → Bool → Read Claim → Items → Result ProofText CertFault
-body named positive claim steps = Ok (says_of positive) <*> claim <*> many (step named) steps >>= (λ says. Ok says)
+body named positive claim steps = Ok (says_of positive) <*> claim <*> in_turn (step named) paths_of_step None steps >>= (λ says. Ok says)
 
 abbrev pub behind_head : NamedSystem → Bool → Head → Items → Result ProofText CertFault
 behind_head named positive h steps = if h.version == 1 then body named positive h.claim steps else Err (Version h.version)
@@ -51,7 +52,7 @@ certificate named size (item x xs) = do
 -- what a certificate is printed as: the headline, its claim, and the steps in order
 abbrev pub certificate_items : NamedSystem → ProofText → Items
 certificate_items named says =
-    item (word_item (headline_word says.headline)) (item (head_item says.claim) (items_of (map (step_item named) says.steps)))
+    item (word_item (headline_word says.headline)) (item (head_item says.claim) (items_of (map (step_item named []) says.steps)))
 
 -- ---- what a text says
 

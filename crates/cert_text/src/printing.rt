@@ -1,4 +1,4 @@
-ghost use Rattle.std.specs.Prelude.{◌≡◌, ◌++◌, map, All, OnOk, IfOk};
+ghost use Rattle.std.specs.Prelude.{◌≡◌, ◌++◌, [], map, All, OnOk, IfOk};
 ghost use Rattle.std.specs.List.{AllByRecursion};
 ghost use Rattle.sexp_core.specs.Items.{items_of};
 ghost use Rattle.sexp_core.specs.Printed.{text_of, lines};
@@ -14,6 +14,7 @@ use crate::Certificate;
 use crate::head::{claim_word, headline_word};
 use cert_step::NodeStep;
 use names_text::{NamedTrs, underscores};
+use path_text::PathNames;
 use std::alloc::Global;
 use step_text::put_step;
 use text_reading::put;
@@ -44,7 +45,7 @@ pub fn print_certificate(
     put(&mut out, b"\n(certificate 1 ")?;
     put(&mut out, claim_word(certificate.claim))?;
     put(&mut out, b")\n")?;
-    put_steps(
+    put_plain_steps(
         alloc,
         &mut out,
         system,
@@ -58,15 +59,23 @@ pub fn print_certificate(
 pub fn print_step(alloc: Global, system: &NamedTrs, step: &NodeStep) -> Result<Vec<u8>, OutOfMemory>
     requires { IsPrintable system.now.system (node_step_of step.now) }
     ensures { IfOk result (λ text.
-        text.items ≡ text_of (step_item system.now (node_step_of step.now))) }
+        text.items ≡ text_of (step_item system.now [] (node_step_of step.now))) }
 {
     let mut out = Vec::new(alloc);
-    put_step(alloc, &mut out, system, underscores(system), step)?;
+    let no_names = PathNames::new(alloc);
+    put_step(
+        alloc,
+        &mut out,
+        system,
+        &no_names,
+        underscores(system),
+        step,
+    )?;
     Ok(out)
 }
 
-/// Appends a line for each step.
-fn put_steps(
+/// Appends a line for each step, with no path that has a name.
+fn put_plain_steps(
     alloc: Global,
     out: &mut Vec<u8>,
     system: &NamedTrs,
@@ -75,12 +84,32 @@ fn put_steps(
 ) -> Result<(), OutOfMemory>
     requires { underscores ≡ underscores_of system.now.names }
     ensures text { OnOk result (out.new.items ≡ out.old.items
-        ++ lines (items_of (map (step_item system.now) (map node_step_of steps.now)))) }
+        ++ lines (items_of (map (step_item system.now []) (map node_step_of steps.now)))) }
+    ensures range { OnOk result
+        (AllByRecursion (λ s. HasNumbersInRange (step_of s.step)) steps.now) }
+{
+    let no_names = PathNames::new(alloc);
+    put_steps(alloc, out, system, &no_names, underscores, steps)?;
+    Ok(())
+}
+
+/// Appends a line for each step.
+fn put_steps(
+    alloc: Global,
+    out: &mut Vec<u8>,
+    system: &NamedTrs,
+    names: &PathNames<'_>,
+    underscores: usize,
+    steps: &[NodeStep],
+) -> Result<(), OutOfMemory>
+    requires { underscores ≡ underscores_of system.now.names }
+    ensures text { OnOk result (out.new.items ≡ out.old.items
+        ++ lines (items_of (map (step_item system.now names.now) (map node_step_of steps.now)))) }
     ensures range { OnOk result
         (AllByRecursion (λ s. HasNumbersInRange (step_of s.step)) steps.now) }
 {
     for step in steps {
-        put_step(alloc, out, system, underscores, step)?;
+        put_step(alloc, out, system, names, underscores, step)?;
         put(out, b"\n")?;
     }
     Ok(())

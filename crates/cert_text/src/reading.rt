@@ -1,11 +1,11 @@
-ghost use Rattle.std.specs.Prelude.{◌≡◌, ◌≤◌, ◌^◌, length, map, All, IfOk, IfErr, MatchResult};
+ghost use Rattle.std.specs.Prelude.{◌≡◌, ◌≤◌, ◌^◌, length, map, None, All, IfOk, IfErr, MatchResult};
 ghost use Rattle.sexp_core.specs.Items.{view, views};
 ghost use Rattle.names_text.specs.Named.{NamedSystem};
 ghost use Rattle.cert_step.specs.ProofStep.{IsWellMade, node_step_of};
-ghost use Rattle.text_reading.specs.Reading.{many};
 ghost use Rattle.text_reading.specs.Seen.{seen};
+ghost use Rattle.path_text.specs.Paths.{in_turn};
 ghost use Rattle.step_text.specs.Ranges.{IsPrintable};
-ghost use Rattle.step_text.specs.Steps.{step};
+ghost use Rattle.step_text.specs.Steps.{step, paths_of_step};
 ghost use Rattle.cert_text.specs.ProofText.{ProofText, proof_text_of};
 ghost use Rattle.cert_text.specs.Answers.{Answers};
 ghost use Rattle.cert_text.specs.CertificateText.{behind_head, behind_headline, certificate, SaysCertificate, IsCertificateRefused};
@@ -15,10 +15,11 @@ use crate::fault::CertFault;
 use crate::head::{Head, read_head, read_headline};
 use cert_step::NodeStep;
 use names_text::NamedTrs;
+use path_text::Shared;
 use sexp_core::{Sexp, read_all};
 use std::alloc::Global;
 use step_text::read_step;
-use text_reading::{Read, both, pushed};
+use text_reading::{Read, both};
 use trs_core::OutOfMemory;
 
 /// How many lists may be open at once.
@@ -119,12 +120,30 @@ fn read_steps(
     system: &NamedTrs,
     items: &[Sexp],
 ) -> Result<Read<Vec<NodeStep>>, OutOfMemory>
-    ensures { IfOk result (λ r.
-        seen (λ v. map node_step_of v.items) r ≡ many (step system.now) (views items.now)) }
+    ensures { IfOk result (λ r. seen (λ v. map node_step_of v.items) r
+        ≡ in_turn (step system.now) paths_of_step None (views items.now)) }
 {
-    let mut steps = Ok(Vec::new(alloc));
-    for item in items {
-        steps = pushed(steps, read_step(alloc, system, item)?)?;
-    }
+    let mut nothing_shared = None;
+    let steps = read_steps_in_turn(alloc, system, &mut nothing_shared, items)?;
     Ok(steps)
+}
+
+/// Steps whose paths share what those before them left.
+fn read_steps_in_turn(
+    alloc: Global,
+    system: &NamedTrs,
+    sharing: &mut Option<Shared>,
+    items: &[Sexp],
+) -> Result<Read<Vec<NodeStep>>, OutOfMemory>
+    ensures { IfOk result (λ r. seen (λ v. map node_step_of v.items) r
+        ≡ in_turn (step system.now) paths_of_step sharing.old (views items.now)) }
+{
+    let mut steps = Vec::new(alloc);
+    for item in items {
+        match read_step(alloc, system, sharing, item)? {
+            Ok(step) => steps.push(step)?,
+            Err(at) => return Ok(Err(at)),
+        }
+    }
+    Ok(Ok(steps))
 }

@@ -23,7 +23,7 @@ const REFUSED: [(&[u8], CertFault); 13] = [
         CertFault::Text(40),
     ),
     (
-        b"NO\n(certificate 1 nonterminating)\n(step 0 (dp))",
+        b"NO\n(certificate 1 nonterminating)\n(step 0 (pd))",
         CertFault::Text(43),
     ),
     (

@@ -23,6 +23,10 @@ const PRINTED: [(&[u8], &[u8]); 3] = [
     ),
 ];
 
+// Each method on dependency pairs, as it is printed.
+const ON_PAIRS: &[u8] =
+    b"YES\n(certificate 1 terminating)\n(step 0 (dp))\n(step 1 (graph (group 0 2) (single 1)))\n(step 2 (subterm (f 1)))\n(step 3 (poly (sym f 1 1) (mark f 0 9223372036854775807)))\n(step 4 (lpo (sym f 1 (1)) (mark f 0 1)))\n(step 5 (kbo (sym f 0 2) (mark f 1 1)))\n(step 6 (usable-poly (mark f 1 0)))\n";
+
 fn printed(alloc: Global, system: &NamedTrs, text: &[u8]) -> Result<Vec<u8>, Fail> {
     if text.len() > 1_000 {
         return Err(Fail::new("a short text"));
@@ -59,6 +63,13 @@ fn variables_get_numbers(rt: HostRuntime) -> Result<(), Fail> {
     for (text, expected) in PRINTED {
         assert!(rt; is_printed_as(rt.alloc(), &system, text, expected)?);
     }
+    Ok(())
+}
+
+#[test]
+fn steps_on_pairs_are_printed_as_they_are_read(rt: HostRuntime) -> Result<(), Fail> {
+    let system = read_problem(rt.alloc(), PROBLEM)?;
+    assert!(rt; is_printed_as(rt.alloc(), &system, ON_PAIRS, ON_PAIRS)?);
     Ok(())
 }
 

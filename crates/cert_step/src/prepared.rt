@@ -1,0 +1,81 @@
+ghost use Rattle.std.specs.Prelude.{◌≡◌, List, IfOk, IfErr};
+ghost use Rattle.rewrite_core.specs.Check.{RefusedFor};
+ghost use Rattle.cert_step.specs.ProofProblem.{ProofProblem, problem_of, Holds, IsWellMadeProblem};
+ghost use Rattle.cert_step.specs.ProofStep.{step_of, IsWellMade};
+ghost use Rattle.cert_step.specs.Applies.{Applies};
+ghost use Rattle.cert_step.specs.Refused.{IsStepRefused};
+ghost use Rattle.cert_step.specs.Subproblems.{AllHold, AreWellMadeProblems};
+ghost use Rattle.cert_step.specs.Subproblems.{GivesSubproblems, problems_of};
+
+use crate::apply::{checked, keeps_system};
+use crate::tables::Tables;
+use crate::{Problem, Step};
+use rewrite_core::CheckFault;
+use std::alloc::Global;
+use std::marker::Model;
+use trs_core::Trs;
+
+/// A system, and what the steps of a proof look up in it: its dependency pairs and their graph,
+/// each made once for all steps. So a step on pairs costs in proportion to its own pairs, beside
+/// what it looks at in the rules. Contracts see the system.
+#[derive(Drop)]
+pub struct Prepared<'a> {
+    trs: &'a Trs,
+    tables: Tables<'a>,
+}
+
+impl<'a> Model for Prepared<'a> {
+    ghost use Rattle.trs_defs.specs.System.{System, system_code};
+    ghost use Rattle.cert_step.specs.Tables.{AreTablesOf};
+
+    ghost Value = { System };
+
+    ghost coded = { system_code };
+
+    ghost view = { λ a. a.trs.now };
+
+    ghost invariant = { λ a. AreTablesOf a.trs.now a.tables };
+}
+
+impl<'a> Prepared<'a> {
+    /// Nothing is made yet.
+    pub fn new(trs: &'a Trs) -> Prepared<'a>
+        ensures { result ≡ trs.now }
+    {
+        Prepared {
+            trs,
+            tables: Tables {
+                pairs: None,
+                graph: None,
+            },
+        }
+    }
+
+    /// The subproblems that a step leaves of a problem, as `apply_step` answers them.
+    pub fn apply(
+        &mut self,
+        alloc: Global,
+        problem: &Problem,
+        step: &Step,
+    ) -> Result<Vec<Problem>, CheckFault>
+        requires well_made_problem { IsWellMadeProblem self.old (problem_of problem.now) }
+        requires well_made_step { IsWellMade self.old (step_of step.now) }
+        ensures system { self.new ≡ self.old }
+        ensures ok { IfOk result (λ subproblems. Applies self.old (problem_of problem.now)
+            (step_of step.now) (problems_of subproblems)) }
+        ensures refused { IfErr result
+            (RefusedFor (IsStepRefused self.old (problem_of problem.now) (step_of step.now))) }
+
+        // A step that applies is refused only for want of memory.
+        ensures only { (subproblems : List ProofProblem)
+            → Applies self.old (problem_of problem.now) (step_of step.now) subproblems
+            → GivesSubproblems result subproblems }
+        ensures sound { IfOk result (λ subproblems.
+            AllHold self.old (problems_of subproblems) → Holds self.old (problem_of problem.now)) }
+        ensures well_made { IfOk result (λ subproblems.
+            AreWellMadeProblems self.old (problems_of subproblems)) }
+    {
+        keeps_system(self.trs);
+        checked(alloc, self.trs, &mut self.tables, problem, step)
+    }
+}

@@ -1,0 +1,4 @@
+pub mod LinearLaws
+pub mod PathLaws
+pub mod TopRankLaws
+pub mod KnuthLaws

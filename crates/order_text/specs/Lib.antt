@@ -1,0 +1,5 @@
+pub mod LinearEntries
+pub mod PathEntries
+pub mod KnuthEntries
+pub mod TopRanks
+pub mod Ranges

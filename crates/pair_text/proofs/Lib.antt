@@ -1,0 +1,2 @@
+pub mod ProjectionLaws
+pub mod GraphItemLaws

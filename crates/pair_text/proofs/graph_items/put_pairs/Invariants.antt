@@ -1,0 +1,12 @@
+use Rattle.std.proofs.Common.{◌≡◌, ◌<◌, ◌^◌, ◌++◌, map, drop}
+use Rattle.std.specs.List.{AllByRecursion}
+use Rattle.sexp_core.specs.Items.{items_of}
+use Rattle.sexp_core.specs.Printed.{spaced}
+use Rattle.text_reading.specs.Printed.{number_item}
+use Rattle.pair_text.proofs.graph_items.put_pairs.Given as goal
+
+abbrev pub invariant-loop-pair : goal.invariant-loop-pair
+invariant-loop-pair l = record {
+  text : l.out.items ++ spaced (items_of (map number_item (drop l.pair-index l.pairs))) ≡ l.initial.out.items ++ spaced (items_of (map number_item l.pairs));
+  range : AllByRecursion (λ n. n < 2 ^ 32) (drop l.pair-index l.pairs) → AllByRecursion (λ n. n < 2 ^ 32) l.pairs;
+}

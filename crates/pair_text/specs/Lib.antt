@@ -1,0 +1,3 @@
+pub mod Projections
+pub mod GraphItems
+pub mod Ranges

@@ -1,0 +1,4 @@
+pub mod LongLists
+pub mod InTurn
+pub mod Symbols
+pub mod Entries
