@@ -1,5 +1,5 @@
 -- Steps that are read one after another.
-use Rattle.std.proofs.Common.{◌≡◌, ℕ, List, [], ◌∷◌, ◌++◌, map, Ok, Err, sym, ap, ◌∙◌}
+use Rattle.std.proofs.Common.{◌≡◌, ℕ, Bool, true, false, cond, List, [], ◌∷◌, ◌++◌, map, Ok, Err, codes, sym, ap, ◌∙◌}
 use Rattle.std.proofs.lemmas.List.{map-append}
 use Rattle.cert_step.specs.declared.step.NodeStep.{NodeStep}
 use Rattle.cert_step.specs.ProofStep.{ProofNodeStep, node_step_of}

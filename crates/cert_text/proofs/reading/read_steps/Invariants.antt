@@ -4,7 +4,7 @@ use Rattle.cert_step.specs.ProofStep.{node_step_of}
 use Rattle.path_text.specs.Paths.{in_turn}
 use Rattle.path_text.proofs.InTurn.{behind_values}
 use Rattle.step_text.specs.Steps.{step, paths_of_step}
-use Rattle.cert_text.proofs.reading.read_steps_in_turn.Given as goal
+use Rattle.cert_text.proofs.reading.read_steps.Given as goal
 
 abbrev pub invariant-loop-item : goal.invariant-loop-item
 invariant-loop-item l =

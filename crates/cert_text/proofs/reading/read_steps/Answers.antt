@@ -1,9 +1,10 @@
-use Rattle.std.proofs.Common.{◌≤◌, ◌∙◌, map, length, sym, arith}
+use Rattle.std.proofs.Common.{◌∙◌, ◌≤◌, map, length, sym, ap, arith}
 use Rattle.cert_step.specs.ProofStep.{node_step_of}
+use Rattle.text_reading.specs.Seen.{seen}
 use Rattle.path_text.proofs.InTurn.{turn_taken, turn_refused, turns_end}
 use Rattle.step_text.specs.Steps.{step, paths_of_step}
 use Rattle.cert_text.proofs.StepLists.{mapped_more, read_as, refused_as}
-use Rattle.cert_text.proofs.reading.read_steps_in_turn.Goals as goal
+use Rattle.cert_text.proofs.reading.read_steps.Goals as goal
 
 pub loop-item-preserved : goal.loop-item-preserved
 loop-item-preserved c =
