@@ -13,3 +13,5 @@ mod printed_certificates;
 mod problem_refusals;
 #[cfg(test)]
 mod problems;
+#[cfg(test)]
+mod steps_on_pairs;
