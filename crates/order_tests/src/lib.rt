@@ -5,3 +5,5 @@
 mod made;
 #[cfg(test)]
 mod orders;
+#[cfg(test)]
+mod removing;
