@@ -1,4 +1,4 @@
-//! Tests of terms, systems, steps and steps of proofs. There is no code here.
+//! Tests of terms, systems, steps, unifiers and peaks. There is no code here.
 #![tactic(auto)]
 
 #[cfg(test)]
@@ -13,10 +13,6 @@ mod slow;
 mod slow_peaks;
 #[cfg(test)]
 mod steps;
-#[cfg(test)]
-mod steps_of_proofs;
-#[cfg(test)]
-mod steps_on_peaks;
 #[cfg(test)]
 mod systems;
 #[cfg(test)]

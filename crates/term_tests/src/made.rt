@@ -55,21 +55,6 @@ pub fn ones(alloc: Global, count: u32) -> Result<Position, OutOfMemory> {
     Ok(made)
 }
 
-/// A step by the rule of this number.
-pub fn step(alloc: Global, places: &[u8], rule: u32) -> Result<PathStep, OutOfMemory> {
-    let place = position(alloc, places)?;
-    Ok(PathStep { place, rule })
-}
-
-/// Steps by their places and the numbers of their rules.
-pub fn steps(alloc: Global, of: &[(&[u8], u32)]) -> Result<Vec<PathStep>, OutOfMemory> {
-    let mut path = Vec::new(alloc);
-    for (places, rule) in of {
-        path.push(step(alloc, places, *rule)?)?;
-    }
-    Ok(path)
-}
-
 /// Steps by rule 0, each at the same place of so many ones.
 pub fn repeated(alloc: Global, count: u32, place: u32) -> Result<Vec<PathStep>, OutOfMemory> {
     let mut path = Vec::new(alloc);
