@@ -2,8 +2,7 @@
 use Rattle.std.specs.Prelude.{◌≡◌, Bool, true, false, Vec, Result, Ok, Err, IfOk}
 use Rattle.std.proofs.Common.{sym, ◌∙◌}
 use Rattle.std.specs.declared.alloc.Global.{Global}
-use Rattle.trs_defs.specs.System.{System}
-use Rattle.trs_core.specs.Valid.{IsValid}
+use Rattle.trs_defs.specs.System.{System, IsSystem}
 use Rattle.rewrite_core.specs.declared.refusals.CheckFault.{CheckFault}
 use Rattle.rewrite_core.specs.declared.refusals.StepRefused.TheVariants.{WrongProblem}
 use Rattle.rewrite_core.specs.Check.{AnswersBy, stops, lacks, holds}
@@ -23,7 +22,7 @@ module _ (system : System) (p : ProofProblem) (s : ProofStep) where
       → AnswersBy problems_of ((kind_of s).conditions system p) r → AnswersBy problems_of (step_conditions system p s) r
   right_problem b r is e h = then_answers _ _ problems_of tt r (holds (sym is ∙ e)) h
 
-  pub sound_answer : (r : Result (Vec Problem Global) CheckFault) → IsValid system → IsWellMade system s → AnswersBy problems_of (step_conditions system p s) r
+  pub sound_answer : (r : Result (Vec Problem Global) CheckFault) → IsSystem system → IsWellMade system s → AnswersBy problems_of (step_conditions system p s) r
       → IfOk r (λ subproblems. AllHold system (problems_of subproblems) → Holds system p)
   sound_answer (Ok subproblems) valid made h = sound_step system p s (problems_of subproblems) valid made h
   sound_answer (Err fault) valid made h = tt

@@ -27,6 +27,6 @@ pub dp_sound : IsSound dp_kind
 dp_sound = record {
   one_answer = λ system p valid. returns_once _;
   leaves_once = leaves_once;
-  sound = λ system p subproblems valid made is h each. sound system p subproblems valid.is_system is h each;
+  sound = λ system p subproblems valid made is h each. sound system p subproblems valid is h each;
   well_made = λ system p subproblems well made h. well_made system p subproblems h;
 }

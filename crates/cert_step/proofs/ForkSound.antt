@@ -85,6 +85,6 @@ module _ (start : Tree) (left right : List PlacedRule) where
   fork_sound test = record {
     one_answer = λ system p valid. search (once, ends_once);
     leaves_once = λ system p subproblems others h k. leaves_same h k;
-    sound = λ system p subproblems valid made is h each. sound test system p subproblems valid.is_system made.0 is h;
+    sound = λ system p subproblems valid made is h each. sound test system p subproblems valid made.0 is h;
     well_made = λ system p subproblems well made h. leaves_well_made system tt h;
   }

@@ -50,7 +50,7 @@ groups_well_made system numbers (g ∷ groups) well ascend among =
 pub graph_sound : (items : List GroupOrSingle) → IsSound (graph_kind items)
 graph_sound items = pairs_sound _ _ _ (record {
   one_answer = λ system numbers. graph_once system.rules (dependency_pairs system.rules) numbers items;
-  concludes = λ system numbers groups valid keeps h each. graph_concludes system numbers items groups valid.is_system h (groups_hold system groups each);
+  concludes = λ system numbers groups valid keeps h each. graph_concludes system numbers items groups valid h (groups_hold system groups each);
   well_made = λ system numbers groups keeps h well.
       let are = groups_of_problem system.rules (dependency_pairs system.rules) numbers items groups h in
       groups_well_made system numbers groups well (λ g i. groups_ascend items keeps g (subst (λ gs. In g gs) are.0 i)) are.1;

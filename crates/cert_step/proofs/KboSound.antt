@@ -3,8 +3,7 @@ use Rattle.std.specs.Prelude.{◌≡◌, ℕ, Bool, true, false, List, [], ◌�
 use Rattle.std.specs.List.{AllByRecursion}
 use Rattle.std.proofs.Common.{cond, ap, subst, arith, ◌∙◌}
 use Rattle.std.proofs.lemmas.Bool.{eqb-true}
-use Rattle.trs_defs.specs.System.{System}
-use Rattle.trs_core.specs.Valid.{IsValid}
+use Rattle.trs_defs.specs.System.{System, IsSystem}
 use Rattle.pair_theory.specs.Over.{IsOver}
 use Rattle.order_theory.specs.KnuthBendix.{arity_with_marks}
 use Rattle.order_theory.proofs.KnuthPair.{knuth_pair}
@@ -31,9 +30,9 @@ same_arity arities (e ∷ entries) made f n h = go (e.symbol == f) refl h (λ la
         subst (λ g. arity_with_marks arities g ≡ Some n) (eqb-true e.symbol f is) (made.0.0 ∙ ap (λ k. Some k) same)
     go false is later rest = rest later
 
-agrees : (system : System) (entries : List KboEntry) → IsValid system → AreKboEntries system.arities entries → AgreesWith (arity_in entries) system.arities
-agrees system entries valid made =
-    let few = valid.within_limits.symbols in
+agrees : (system : System) (entries : List KboEntry) → AreKboEntries system.arities entries → AgreesWith (arity_in entries) system.arities
+agrees system entries made =
+    let few = made.few in
     record { few = omega (arith, few); same = same_arity system.arities entries made.each }
 
 pub kbo_sound : (entries : List KboEntry) → IsSound (kbo_kind entries)
@@ -41,5 +40,5 @@ kbo_sound entries =
     order_sound (kbo_comparing entries) (IsOver (arity_in entries)) (λ arities. AreKboEntries arities entries)
     (λ system valid made. (
       knuth_pair (arity_in entries) (weight_in entries) (rank_in entries) (admissible entries made.faultless),
-      spoken (arity_in entries) (has_entry symbol_of entries) (has_arity entries) system.arities (agrees system entries valid made),
+      spoken (arity_in entries) (has_entry symbol_of entries) (has_arity entries) system.arities (agrees system entries made),
     ))

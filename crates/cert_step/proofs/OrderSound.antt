@@ -1,8 +1,7 @@
 -- Kinds of steps by an order are sound, whatever the order.
 use Rattle.std.specs.Prelude.{ℕ, List}
 use Rattle.trs_defs.specs.Tree.{Tree}
-use Rattle.trs_defs.specs.System.{System}
-use Rattle.trs_core.specs.Valid.{IsValid}
+use Rattle.trs_defs.specs.System.{System, IsSystem}
 use Rattle.pair_theory.specs.DependencyPair.{dependency_pairs}
 use Rattle.pair_theory.specs.ReductionPair.{ReductionPair}
 use Rattle.pair_theory.proofs.PairList.{listed_are_pairs}
@@ -27,12 +26,12 @@ module _ (comparing : Comparing) (speaks_of : Tree → Type 0) where
       (λ p i. (good p i, speaks_of_sides comparing.has_entry speaks_of laws.spoken_var system.arities spoken p (good p i) (sides p i))) class
 
   pub order_sound : (keeps_rules : List ℕ → Type 0)
-      → ((system : System) → IsValid system → keeps_rules system.arities → ReductionPair comparing.weak comparing.strict speaks_of × Speaks system.arities)
+      → ((system : System) → IsSystem system → keeps_rules system.arities → ReductionPair comparing.weak comparing.strict speaks_of × Speaks system.arities)
       → IsSound (order_kind keeps_rules comparing)
   order_sound keeps_rules laws = removal_sound _ _ (record {
     one_answer = λ system numbers. pair_steps_once comparing system.rules (dependency_pairs system.rules) numbers;
     concludes = λ system numbers left valid keeps h finite.
         let met = laws system valid keeps in
-        pair_steps_conclude comparing Speaks listed_are_pairs (suffices met.0) system numbers left valid.is_system met.1 h finite;
+        pair_steps_conclude comparing Speaks listed_are_pairs (suffices met.0) system numbers left valid met.1 h finite;
     remain = λ system numbers left h. pair_steps_leave comparing system.rules (dependency_pairs system.rules) numbers left h;
   })

@@ -2,8 +2,7 @@
 use Rattle.std.specs.Prelude.{◌≡◌, ℕ, List, [], ◌∷◌, Ok, length}
 use Rattle.trs_defs.specs.Member.{In}
 use Rattle.trs_defs.proofs.Members.{no_in}
-use Rattle.trs_defs.specs.System.{System}
-use Rattle.trs_core.specs.Valid.{IsValid}
+use Rattle.trs_defs.specs.System.{System, IsSystem}
 use Rattle.pair_theory.specs.DependencyPair.{DependencyPair, dependency_pairs}
 use Rattle.pair_theory.proofs.Problems.{no_pairs_end}
 use Rattle.dp_core.specs.Numbered.{ArePairsOf}
@@ -19,7 +18,7 @@ use Rattle.cert_step.specs.OnPairs.{on_pairs, pairs_kind, problem_if_any, remova
 -- what the conditions on pairs, and the problems that they leave, have to keep
 pub record IsSoundOnPairs {A : Type 0} (keeps_rules : System → Type 0) (conditions : System → List ℕ → Check A) (left : A → List ProofProblem) : Type 0 where
   pub one_answer : (system : System) (numbers : List ℕ) → HasOneAnswer (conditions system numbers)
-  pub concludes : (system : System) (numbers : List ℕ) (value : A) → IsValid system → keeps_rules system → conditions system numbers (Ok value)
+  pub concludes : (system : System) (numbers : List ℕ) (value : A) → IsSystem system → keeps_rules system → conditions system numbers (Ok value)
       → AllHold system (left value) → IsFiniteOf system numbers
   pub well_made : (system : System) (numbers : List ℕ) (value : A) → keeps_rules system → conditions system numbers (Ok value)
       → IsWellMadeProblem system (problem.dp numbers) → AreWellMadeProblems system (left value)
@@ -33,11 +32,11 @@ module _ {A : Type 0} (keeps_rules : System → Type 0) (conditions : System →
       → on_pairs (conditions system) left p (Ok subproblems) → on_pairs (conditions system) left p (Ok others) → subproblems ≡ others
   leaves_once system p subproblems others h k = let e = (one_answer system p).once (Ok subproblems) (Ok others) h k in cc
 
-  sound_value : (system : System) (numbers : List ℕ) (value : A) (subproblems : List ProofProblem) → IsValid system → keeps_rules system
+  sound_value : (system : System) (numbers : List ℕ) (value : A) (subproblems : List ProofProblem) → IsSystem system → keeps_rules system
       → conditions system numbers (Ok value) → Returns (left value) (Ok subproblems) → AllHold system subproblems → IsFiniteOf system numbers
   sound_value system numbers value _ valid keeps h returned each = is.concludes system numbers value valid keeps h each
 
-  sound : (system : System) (p : ProofProblem) (subproblems : List ProofProblem) → IsValid system → keeps_rules system
+  sound : (system : System) (p : ProofProblem) (subproblems : List ProofProblem) → IsSystem system → keeps_rules system
       → on_pairs (conditions system) left p (Ok subproblems) → AllHold system subproblems → Holds system p
   sound system (problem.dp numbers) subproblems valid keeps (goes_on value _ h k) each = sound_value system numbers value subproblems valid keeps h k each
   sound system _ subproblems valid keeps h each = absurd h
@@ -77,7 +76,7 @@ remain_well_made system numbers (n ∷ left) remain well = ((remain.ascending we
 -- what conditions have to keep whose value is the pairs that remain
 pub record RemovesPairs (keeps_rules : System → Type 0) (conditions : System → List ℕ → Check (List ℕ)) : Type 0 where
   pub one_answer : (system : System) (numbers : List ℕ) → HasOneAnswer (conditions system numbers)
-  pub concludes : (system : System) (numbers left : List ℕ) → IsValid system → keeps_rules system → conditions system numbers (Ok left)
+  pub concludes : (system : System) (numbers left : List ℕ) → IsSystem system → keeps_rules system → conditions system numbers (Ok left)
       → IsFiniteOf system left → IsFiniteOf system numbers
   pub remain : (system : System) (numbers left : List ℕ) → conditions system numbers (Ok left) → Remain numbers left
 

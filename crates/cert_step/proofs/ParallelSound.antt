@@ -23,6 +23,6 @@ module _ (items : List (List PlacedRule)) where
   parallel_sound = record {
     one_answer = λ system p valid. then_once _ _ (parallel_once listed_once system items valid) (λ _. returns_once _);
     leaves_once = λ system p subproblems others h k. leaves_same h k;
-    sound = λ system p subproblems valid made is h each. sound system p subproblems valid.is_system is h each;
+    sound = λ system p subproblems valid made is h each. sound system p subproblems valid is h each;
     well_made = λ system p subproblems well made h. leaves_well_made system tt h;
   }

@@ -1,7 +1,6 @@
 -- Steps are sound.
 use Rattle.std.specs.Prelude.{List}
-use Rattle.trs_defs.specs.System.{System}
-use Rattle.trs_core.specs.Valid.{IsValid}
+use Rattle.trs_defs.specs.System.{System, IsSystem}
 use Rattle.rewrite_core.specs.Check.{goes_on, holds}
 use Rattle.cert_step.specs.ProofProblem.{ProofProblem, Holds, IsWellMadeProblem}
 use Rattle.cert_step.specs.ProofStep.{ProofStep, IsWellMade}
@@ -9,7 +8,7 @@ use Rattle.cert_step.specs.Applies.{Applies}
 use Rattle.cert_step.specs.Subproblems.{AllHold, AreWellMadeProblems}
 use Rattle.cert_step.proofs.EachKind.{kind_sound}
 
-pub sound_step : (system : System) (p : ProofProblem) (s : ProofStep) (subproblems : List ProofProblem) → IsValid system → IsWellMade system s
+pub sound_step : (system : System) (p : ProofProblem) (s : ProofStep) (subproblems : List ProofProblem) → IsSystem system → IsWellMade system s
     → Applies system p s subproblems → AllHold system subproblems → Holds system p
 sound_step system p s subproblems valid made (goes_on _ _ (holds is) h) each = (kind_sound s).sound system p subproblems valid made is h each
 

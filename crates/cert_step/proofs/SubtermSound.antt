@@ -10,6 +10,6 @@ use Rattle.cert_step.proofs.Theorems.{subterm_steps}
 pub subterm_sound : (projection : List (ℕ × ℕ)) → IsSound (subterm_kind projection)
 subterm_sound projection = removal_sound _ _ (record {
   one_answer = λ system numbers. subterm_once (dependency_pairs system.rules) projection numbers;
-  concludes = λ system numbers left valid keeps h finite. subterm_steps system projection numbers left valid.is_system h finite;
+  concludes = λ system numbers left valid keeps h finite. subterm_steps system projection numbers left valid h finite;
   remain = λ system numbers left h. subterm_leaves (dependency_pairs system.rules) projection numbers left h;
 })

@@ -25,6 +25,6 @@ module _ (entries : List (ℕ × List ℕ)) where
     one_answer = λ system numbers. usable_steps_once (poly_comparing entries) system.rules (dependency_pairs system.rules) numbers;
     concludes = λ system numbers left valid keeps h finite.
         usable_steps_conclude (poly_comparing entries) AllTerms (λ t. tt) (above_first entries) (above_second entries) listed_are_pairs suffices
-        system numbers left valid.is_system h finite;
+        system numbers left valid h finite;
     remain = λ system numbers left h. usable_steps_leave (poly_comparing entries) system.rules (dependency_pairs system.rules) numbers left h;
   })

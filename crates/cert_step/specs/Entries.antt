@@ -59,7 +59,9 @@ pub record ArePathEntries (arities : List ℕ) (entries : List PathEntry) : Type
 abbrev pub IsKboEntry : List ℕ → KboEntry → Type 0
 IsKboEntry arities e = (arity_with_marks arities e.symbol ≡ Some e.arity) × (e.weight < 2 ^ 63) × (e.rank < 2 ^ 63)
 
+-- marks, from 4,096 on, pass all symbols
 pub record AreKboEntries (arities : List ℕ) (entries : List KboEntry) : Type 0 where
+  pub few : length arities ≤ 4095
   pub each : AllByRecursion (IsKboEntry arities) entries
   pub distinct : AreDistinct (map knuth.symbol_of entries)
   pub faultless : IsFaultless entries

@@ -1,7 +1,6 @@
 -- Kinds of steps.
 use Rattle.std.specs.Prelude.{◌≡◌, Bool, List, Ok, IsTrue}
 use Rattle.trs_defs.specs.System.{System, IsSystem}
-use Rattle.trs_core.specs.Valid.{IsValid}
 use Rattle.rewrite_core.specs.Check.{Check, HasOneAnswer, Returns, Then}
 use Rattle.cert_step.specs.ProofProblem.{ProofProblem, Holds, IsWellMadeProblem}
 use Rattle.cert_step.specs.Subproblems.{AllHold, AreWellMadeProblems}
@@ -20,7 +19,7 @@ pub record IsSound (kind : Kind) : Type 0 where
   pub one_answer : (system : System) (p : ProofProblem) → IsSystem system → HasOneAnswer (kind.conditions system p)
   pub leaves_once : (system : System) (p : ProofProblem) (subproblems others : List ProofProblem)
       → kind.conditions system p (Ok subproblems) → kind.conditions system p (Ok others) → subproblems ≡ others
-  pub sound : (system : System) (p : ProofProblem) (subproblems : List ProofProblem) → IsValid system → kind.is_well_made system
+  pub sound : (system : System) (p : ProofProblem) (subproblems : List ProofProblem) → IsSystem system → kind.is_well_made system
       → IsTrue (kind.is_for p) → kind.conditions system p (Ok subproblems) → AllHold system subproblems → Holds system p
   pub well_made : (system : System) (p : ProofProblem) (subproblems : List ProofProblem) → IsWellMadeProblem system p
       → kind.is_well_made system → kind.conditions system p (Ok subproblems) → AreWellMadeProblems system subproblems

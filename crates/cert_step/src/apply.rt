@@ -1,5 +1,5 @@
 ghost use Rattle.std.specs.Prelude.{List, IfOk, IfErr, IsTrue};
-ghost use Rattle.trs_core.specs.Valid.{IsValid};
+ghost use Rattle.trs_defs.specs.System.{IsSystem};
 ghost use Rattle.rewrite_core.specs.Check.{AnswersBy, RefusedFor};
 ghost use Rattle.cert_step.specs.ProofProblem.{ProofProblem, problem_of, Holds, IsWellMadeProblem};
 ghost use Rattle.cert_step.specs.ProofStep.{step_of, kind_of, IsWellMade};
@@ -56,9 +56,9 @@ pub fn apply_step(
     prepared.apply(alloc, problem, step)
 }
 
-/// The type of a system keeps that it is one, within the limits.
+/// The type of a system keeps that it is one.
 pub(crate) fn keeps_system(trs: &Trs)
-    ensures { IsValid trs.now }
+    ensures { IsSystem trs.now }
 {
     trs.rules();
 }

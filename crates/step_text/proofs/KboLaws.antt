@@ -19,7 +19,7 @@ use Rattle.step_text.proofs.DistinctSymbols.{distinct_symbols, new_symbols}
 pub kbo_made : (named : NamedSystem) → length named.system.arities ≤ 4095 → MakesForm (kbo_form named) (λ s. IsWellMade named.system s × HasNumbersInRange s)
 kbo_made named few =
     made_together (kbo_entries named) kbo_step (AreKnuthEntries named.system.arities) (λ s. IsWellMade named.system s × HasNumbersInRange s)
-    (kbo_entries_made named few) (λ es h. (record { each = h.each; distinct = distinct_symbols (map symbol_of es) h.new; faultless = h.faultless }, tt))
+    (kbo_entries_made named few) (λ es h. (record { few = few; each = h.each; distinct = distinct_symbols (map symbol_of es) h.new; faultless = h.faultless }, tt))
 
 pub kbo_again : (named : NamedSystem) → IsNamed named → (es : List KboEntry) → AreKboEntries named.system.arities es
     → SpellsParts (kbo_parts named) 1023 (items_of (map (kbo_entry_item named) es)) kbo_step (kbo es)

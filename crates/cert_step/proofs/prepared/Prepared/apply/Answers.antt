@@ -12,7 +12,7 @@ returns-clause-only c =
     let system = c.self.inside.trs.now in
     rw (← c.self.view_is) (λ left applies.
     only_answer (step_conditions system (problem_of c.args.problem.now) (step_of c.args.step.now)) problems_of c.checked.result left
-    (step_once system c.keeps_system.ensures.is_system (problem_of c.args.problem.now) (step_of c.args.step.now)) c.checked.ensures.answers applies)
+    (step_once system c.keeps_system.ensures (problem_of c.args.problem.now) (step_of c.args.step.now)) c.checked.ensures.answers applies)
 
 pub returns-clause-sound : goal.returns-clause-sound
 returns-clause-sound c =
