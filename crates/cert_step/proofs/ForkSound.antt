@@ -34,6 +34,9 @@ ends_once rules Apart left right = search once
 pub irreducible : {rules : List RewriteRule} {t : Tree} → IsNormalForm (Step rules) t → IsReducible rules t → ⊥
 irreducible normal (u, step) = normal u step
 
+pub equal_irreducible : {rules : List RewriteRule} {t u : Tree} → t ≡ u → (IsReducible rules t → ⊥) → IsReducible rules u → ⊥
+equal_irreducible {rules} equal normal = subst (λ x. IsReducible rules x → ⊥) equal normal
+
 pub differ : {b : Bool} → b ≡ true → b ≡ false → ⊥
 differ e f = let wrong : true ≡ false = sym e ∙ f in cc
 

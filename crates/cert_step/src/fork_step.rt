@@ -5,6 +5,8 @@ ghost use Rattle.trs_defs.specs.WellFormed.{IsWellFormed};
 ghost use Rattle.trs_defs.specs.Claims.{IsForked};
 ghost use Rattle.trs_defs.specs.UniqueNormalForms.{IsSplit};
 ghost use Rattle.rewrite_core.specs.Check.{AnswersBy, Answers};
+ghost use Rattle.rewrite_core.specs.PathCheck.{Runs};
+ghost use Rattle.closed_pairs.specs.Ends.{made_of};
 ghost use Rattle.cert_step.specs.Kind.{leaves};
 ghost use Rattle.cert_step.specs.Subproblems.{problems_of};
 ghost use Rattle.cert_step.specs.ForkKind.{end_conditions, fork_conditions};
@@ -56,9 +58,44 @@ pub fn fork_check(
         (test ≡ ForkTest.Normal → IsWellFormed trs.now.arities (tree start.now) → IsSplit trs.now) }
 {
     keeps_system(trs);
-    let left_end = end_of_path(alloc, trs, start, left, 0, 0)?;
-    let right_end = end_of_path(alloc, trs, start, right, 0, 1)?;
-    test_ends(alloc, trs, &left_end, &right_end, test)
+    let left_made = made_by_path(alloc, trs, start, left, 0)?;
+    let right_made = made_by_path(alloc, trs, start, right, 1)?;
+    test_ends(
+        alloc,
+        trs,
+        end_of(start, &left_made),
+        end_of(start, &right_made),
+        test,
+    )
+}
+
+/// What a path of this number makes of the start: nothing, where it has no step. So it costs nothing
+/// there.
+fn made_by_path(
+    alloc: Global,
+    trs: &Trs,
+    start: &Term,
+    path: &[PathStep],
+    number: u64,
+) -> Result<Option<Term>, CheckFault>
+    ensures { AnswersBy (made_of (tree start.now))
+        (Runs trs.now.rules (tree start.now) path.now 0 number) result }
+{
+    if path.is_empty() {
+        return Ok(None);
+    }
+    let end = end_of_path(alloc, trs, start, path, 0, number)?;
+    Ok(Some(end))
+}
+
+/// The end of a path, by what was made of its start.
+fn end_of<'a>(start: &'a Term, made: &'a Option<Term>) -> &'a Term
+    ensures { tree result.now ≡ made_of (tree start.now) made.now }
+{
+    match made {
+        Some(end) => end,
+        None => start,
+    }
 }
 
 /// Sees that two terms pass the test.
@@ -80,7 +117,8 @@ fn test_ends(
     }
 }
 
-/// Sees that both terms are normal forms, and that they differ.
+/// Sees that both terms are normal forms, and that they differ. Where they are equal, the right one
+/// is a normal form as the left one is, and is not looked at again.
 fn different_normal_forms(
     alloc: Global,
     trs: &Trs,
@@ -93,11 +131,11 @@ fn different_normal_forms(
     if !is_normal(alloc, trs, left)? {
         return Err(CheckFault::Refused(StepRefused::NotNormal(0)));
     }
-    if !is_normal(alloc, trs, right)? {
-        return Err(CheckFault::Refused(StepRefused::NotNormal(1)));
-    }
     if left.same(right) {
         return Err(CheckFault::Refused(StepRefused::SameEnds));
+    }
+    if !is_normal(alloc, trs, right)? {
+        return Err(CheckFault::Refused(StepRefused::NotNormal(1)));
     }
     Ok(())
 }
