@@ -1,6 +1,6 @@
 -- Items are seen one after another to lead to no earlier one.
-use Rattle.std.specs.Prelude.{◌≡◌, ◌<◌, ◌≤◌, ℕ, ◌+◌, List, [], ◌∷◌, ◌++◌, take, drop, length, get_or, Result, Ok, Err}
-use Rattle.std.proofs.Common.{refl, sym, ap, subst, ◌∙◌}
+use Rattle.std.specs.Prelude.{◌≡◌, ◌<◌, ◌≤◌, ℕ, ◌+◌, IsTrue, nat_lt, List, [], ◌∷◌, ◌++◌, take, drop, length, get_or, Result, Ok, Err}
+use Rattle.std.proofs.Common.{refl, sym, ap, subst, ◌∙◌, arith}
 use Rattle.std.proofs.lemmas.List.{drop_all}
 use Rattle.trs_defs.specs.System.{System}
 use Rattle.pair_theory.specs.DependencyPair.{dependency_pairs}
@@ -12,6 +12,9 @@ use Rattle.dp_graph.specs.declared.items.GraphItem.{GraphItem}
 use Rattle.dp_graph.specs.GroupOrSingle.{GroupOrSingle, item_of, items_of, members_of, all_members}
 use Rattle.dp_graph.specs.GraphConditions.{lead_to_none, lead_onward}
 use Rattle.dp_graph.proofs.ItemLists.{next_item, one_taken}
+
+pub is_below : (a b : ℕ) → a < b → IsTrue (nat_lt a b)
+is_below a b h = grind arith
 
 module _ (system : System) (items : List GraphItem) where
   -- the items are seen to lead to none before them

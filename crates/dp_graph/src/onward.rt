@@ -1,4 +1,4 @@
-ghost use Rattle.std.specs.Prelude.{ℕ, ◌≡◌, ◌++◌, List, IfOk, OnOk};
+ghost use Rattle.std.specs.Prelude.{ℕ, ◌≡◌, ◌++◌, List, IfOk, OnOk, IsTrue};
 ghost use Rattle.pair_theory.specs.DependencyPair.{dependency_pairs};
 ghost use Rattle.rewrite_core.specs.Check.{Answers};
 ghost use Rattle.dp_graph.specs.GroupOrSingle.{items_of, singles_of, groups_of};
@@ -21,9 +21,10 @@ pub(crate) fn onward_check(
         (items_of items.now)) result }
 {
     let mut earlier = Earlier::new(alloc);
-    for item in items {
+    for (i, item) in items.iter().enumerate() {
         item_check(alloc, graph, &earlier, item.members())?;
-        add_all(alloc, graph, &mut earlier, item.members())?;
+        let more = i + 1 < items.len();
+        add_if_more(alloc, graph, &mut earlier, item.members(), more)?;
     }
     Ok(())
 }
@@ -43,6 +44,24 @@ fn item_check(
         if let Some(n) = earlier.led_to(alloc, graph, *m)? {
             return Err(CheckFault::Refused(StepRefused::EdgeBack(*m as u64, n as u64)));
         }
+    }
+    Ok(())
+}
+
+/// Puts these pairs behind the earlier ones, if more items are to be seen.
+fn add_if_more(
+    alloc: Global,
+    graph: &PairGraph,
+    earlier: &mut Earlier,
+    members: &[u32],
+    more: bool,
+) -> Result<(), OutOfMemory>
+    ensures { OnOk result (IsTrue more → (before : List ℕ) →
+        IsEarlier graph.now before earlier.old →
+        IsEarlier graph.now (before ++ members.now) earlier.new) }
+{
+    if more {
+        add_all(alloc, graph, earlier, members)?;
     }
     Ok(())
 }
