@@ -41,6 +41,6 @@ pub not_empty : (path : List PlacedRule) (b : Bool) → b ≡ (length path == 0)
 not_empty [] b e f = λ is. absurd cc
 not_empty (s ∷ path) b e f = λ is. cc
 
-pub is_empty : (path : List PlacedRule) (b : Bool) → b ≡ (length path == 0) → b ≡ true → path ≡ []
+pub is_empty : {A : Type 0} (path : List A) (b : Bool) → b ≡ (length path == 0) → b ≡ true → path ≡ []
 is_empty [] b e f = refl
 is_empty (s ∷ path) b e f = let none : length (s ∷ path) ≡ 0 = eqb-true (length (s ∷ path)) 0 (sym e ∙ f) in absurd cc

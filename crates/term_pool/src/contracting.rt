@@ -78,8 +78,7 @@ impl Pool {
         ensures none { result ≡ false → IsTooLargePut places.now (tree_at self.now id)
             (instance_of self.now found.now (tree t.now)) }
     {
-        let size = self.instance_size(found, t);
-        let depth = self.instance_depth(found, t);
+        let (size, depth) = self.instance_measure(found, t);
         if size > MOST_NODES || depth > GREATEST_DEPTH {
             return false;
         }

@@ -12,42 +12,32 @@ use std::collections::BTreeMap;
 use trs_core::{OutOfMemory, Term};
 
 impl Pool {
-    /// The number of nodes of an instance. It stands still at the last `u64`, and nothing is made.
-    pub(crate) fn instance_size(&self, found: &BTreeMap<u32, u32>, t: &Term) -> u64
+    /// The number of nodes and the depth of an instance. Each stands still at the last `u64`, and
+    /// nothing is made.
+    pub(crate) fn instance_measure(&self, found: &BTreeMap<u32, u32>, t: &Term) -> (u64, u64)
         requires { HasIds self.now found.now }
-        ensures { result ≡ min (size_of (instance_of self.now found.now (tree t.now))) u64.MAX }
+        ensures size { result.0
+            ≡ min (size_of (instance_of self.now found.now (tree t.now))) u64.MAX }
+        ensures depth { result.1
+            ≡ min (depth_of (instance_of self.now found.now (tree t.now))) u64.MAX }
     {
         match t {
             Term::Var(v) => match found.get(v) {
-                None => 1,
-                Some(id) => u64::from(self.measure(*id).size),
+                None => (1, 1),
+                Some(id) => {
+                    let measure = self.measure(*id);
+                    (u64::from(measure.size), u64::from(measure.depth))
+                }
             },
             Term::App(_, args) => {
                 let mut total: u64 = 1;
-                for arg in &args.items {
-                    total = total.saturating_add(self.instance_size(found, arg));
-                }
-                total
-            }
-        }
-    }
-
-    /// The depth of an instance. It stands still at the last `u64`, and nothing is made.
-    pub(crate) fn instance_depth(&self, found: &BTreeMap<u32, u32>, t: &Term) -> u64
-        requires { HasIds self.now found.now }
-        ensures { result ≡ min (depth_of (instance_of self.now found.now (tree t.now))) u64.MAX }
-    {
-        match t {
-            Term::Var(v) => match found.get(v) {
-                None => 1,
-                Some(id) => u64::from(self.measure(*id).depth),
-            },
-            Term::App(_, args) => {
                 let mut deepest: u64 = 0;
                 for arg in &args.items {
-                    deepest = deepest.max(self.instance_depth(found, arg));
+                    let (size, depth) = self.instance_measure(found, arg);
+                    total = total.saturating_add(size);
+                    deepest = deepest.max(depth);
                 }
-                deepest.saturating_add(1)
+                (total, deepest.saturating_add(1))
             }
         }
     }

@@ -1,7 +1,7 @@
 use Rattle.std.proofs.Common.{◌≡◌, Some, sym, slice_get}
 use Rattle.std.proofs.lemmas.Result.{err_from_is_err_and}
 use Rattle.trs_core.specs.View.{tree}
-use Rattle.rewrite_core.proofs.StepLemmas.{contraction, contractum_too_large}
+use Rattle.rewrite_core.proofs.StepLemmas.{contraction, contractum_small, contractum_too_large}
 use Rattle.term_pool.proofs.StepLemmas.{rule_numbered}
 use Rattle.rewrite_core.proofs.steps.contractum_at.Goals.{After-apply}
 use Rattle.rewrite_core.proofs.steps.contractum_at.Goals as goal
@@ -19,3 +19,8 @@ pub returns-clause-made : goal.returns-clause-made
 returns-clause-made c =
     let n = numbered (goal.at.returns-clause-made c).After-apply in
     contraction c.args.trs.now.rules c.args.place.now c.args.rule (tree c.args.t.now) _ _ _ _ n (sym c.in-Some-at.ensures) (rw c.in-Some-2.is at c.in_ok-found.ensures.found) (tree c.in_ok-apply.field-0) c.in_ok-apply.ensures
+
+pub returns-clause-limits : goal.returns-clause-limits
+returns-clause-limits c =
+    let n = numbered (goal.at.returns-clause-limits c).After-apply in
+    contractum_small c.args.trs.now.rules c.args.place.now c.args.rule (tree c.args.t.now) _ _ _ _ n (sym c.in-Some-at.ensures) (rw c.in-Some-2.is at c.in_ok-found.ensures.found) (tree c.in_ok-apply.field-0) c.in_ok-apply.ensures
