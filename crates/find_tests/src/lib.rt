@@ -4,6 +4,8 @@
 #[cfg(test)]
 mod joins;
 #[cfg(test)]
+mod loops;
+#[cfg(test)]
 mod made;
 #[cfg(test)]
 mod searches;

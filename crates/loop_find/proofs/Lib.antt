@@ -1,0 +1,9 @@
+pub mod Narrowings
+pub mod WellFormedSides
+pub mod LinkLists
+pub mod Recurrences
+pub mod Tried
+pub mod Extensions
+pub mod LoopsFound
+pub mod Walked
+pub mod LoopSteps

@@ -1,0 +1,227 @@
+-- Narrowing with one most general unifier, beside that with any other one.
+use Rattle.std.specs.Prelude.{◌||◌, ◌==◌, if◌then◌else◌}
+use Rattle.std.proofs.Common.{◌≡◌, ℕ, ◌+◌, ◌<◌, ◌≤◌, inl, inr, Bool, true, false, List, [], ◌∷◌, ◌++◌, length, Some, IsTrue, refl, ap, sym, ◌∙◌, subst, arith, slice_get, length-append}
+use native.Mathlib.Decide.{dec_le}
+use Rattle.std.proofs.lemmas.Option.{same_Some, slice_get-get_or}
+use Rattle.std.specs.BTreeMap.{BTreeMap}
+use Rattle.trs_defs.specs.Tree.{Tree, Trees, var, app, nil, cons}
+use Rattle.trs_defs.specs.Variable.{has_var, is_listed, with_variables, with_variables_of_all}
+use Rattle.trs_defs.specs.Size.{size_of, size_of_all, depth_of}
+use Rattle.trs_defs.specs.Substitution.{apply, apply_all}
+use Rattle.trs_defs.specs.Position.{subterm_at, replaced_at}
+use Rattle.trs_defs.specs.Renaming.{shifted}
+use Rattle.trs_defs.specs.System.{RewriteRule}
+use Rattle.trs_defs.specs.Unifier.{IsMostGeneralUnifier}
+use Rattle.trs_defs.proofs.Substitutions.{apply_apply, same_instance}
+use Rattle.trs_defs.proofs.ArgumentLists.{depth_le_size}
+use Rattle.trs_defs.proofs.VariableLaws.{or_cases}
+use Rattle.trs_core.specs.SystemLimits.{HasSmallVariables}
+use Rattle.trs_core.specs.View.{tree}
+use Rattle.trs_unify.specs.Renamed.{AreNames, old_name, first_numbers, IsRenamed}
+use Rattle.trs_unify.proofs.NewNames.{length_first, renamed_still}
+use Rattle.confluence_theory.proofs.Apart.{glue, glue_low, apply_high, part_variable}
+use Rattle.crit_pairs.specs.Apart.{renamed_apart}
+use Rattle.crit_pairs.proofs.InstanceVariables.{replaced_instance}
+use Rattle.loop_find.specs.Closures.{IsNarrowing, IsSmallSide}
+use Rattle.loop_find.specs.Narrowed.{NarrowsTo, NarrowsNot}
+use Rattle.loop_find.specs.declared.narrowing.Sides.{Sides}
+
+-- ---- sizes
+
+positive : (t : Tree) → 1 ≤ size_of t
+positive (var v) = omega arith
+positive (app f ts) = omega arith
+
+mutual
+  size_instance : (σ : ℕ → Tree) (t : Tree) → size_of t ≤ size_of (apply σ t)
+  size_instance σ (var v) = positive (σ v)
+  size_instance σ (app f ts) = omega (arith, size_instances σ ts)
+
+  size_instances : (σ : ℕ → Tree) (ts : Trees) → size_of_all ts ≤ size_of_all (apply_all σ ts)
+  size_instances σ nil = omega arith
+  size_instances σ (cons t ts) = omega (arith, size_instance σ t, size_instances σ ts)
+
+mutual
+  size_named : (f : ℕ → ℕ) (t : Tree) → size_of (apply (λ v. var (f v)) t) ≡ size_of t
+  size_named f (var v) = refl
+  size_named f (app g ts) = omega (arith, size_named_all f ts)
+
+  size_named_all : (f : ℕ → ℕ) (ts : Trees) → size_of_all (apply_all (λ v. var (f v)) ts) ≡ size_of_all ts
+  size_named_all f nil = refl
+  size_named_all f (cons t ts) = omega (arith, size_named f t, size_named_all f ts)
+
+-- a term of few nodes is small
+pub small_of_few : (t : Tree) → size_of t ≤ 256 → IsSmallSide t
+small_of_few t h = record { nodes = h; depth = omega (arith, depth_le_size t, h) }
+
+no_smaller : (t u : Tree) → size_of t ≤ size_of u → (IsSmallSide t → ⊥) → IsSmallSide u → ⊥
+no_smaller t u h large small = let few = small.nodes in large (small_of_few t (omega (arith, h, few)))
+
+-- ---- any narrowing at the place
+
+module _ (rule : RewriteRule) (place : List ℕ) (left right part : Tree) (there : subterm_at place right ≡ Some part)
+    (left_low : HasSmallVariables left) (right_low : HasSmallVariables right) where
+  part_low : HasSmallVariables part
+  part_low v k = right_low v (part_variable place right part v there k)
+
+  module _ (l r : Tree) (h : IsNarrowing rule place left right l r) where
+    -- its unifier, for variables that are renamed by 65,536
+    abbrev moved : ℕ → Tree
+    moved = glue 65536 h.unifier (λ x. h.unifier (h.offset + x))
+
+    moved_rule : (t : Tree) → apply moved (shifted 65536 t) ≡ apply h.unifier (shifted h.offset t)
+    moved_rule t = apply_high 65536 h.unifier (λ x. h.unifier (h.offset + x)) t ∙ sym (apply_apply h.unifier (λ v. var (h.offset + v)) t)
+
+    moved_low : (t : Tree) → HasSmallVariables t → apply moved t ≡ apply h.unifier t
+    moved_low t low = same_instance moved h.unifier t (λ v k. glue_low 65536 h.unifier (λ x. h.unifier (h.offset + x)) v (low v k))
+
+    moved_unifies : apply moved part ≡ apply moved (shifted 65536 rule.left)
+    moved_unifies =
+        let same : h.part ≡ part = same_Some h.part part (sym h.there ∙ there) in
+        moved_low part part_low ∙ (ap (apply h.unifier) (sym same) ∙ (h.most_general.unifies ∙ sym (moved_rule rule.left)))
+
+    module _ (m : ℕ → Tree) (most : IsMostGeneralUnifier part (shifted 65536 rule.left) m) where
+      instance_larger : (t : Tree) → size_of (apply m t) ≤ size_of (apply moved t)
+      instance_larger t =
+          let (τ, is) = most.most_general moved moved_unifies in
+          let same : apply moved t ≡ apply τ (apply m t) = same_instance moved (λ v. apply τ (m v)) t (λ v k. is v) ∙ sym (apply_apply τ m t) in
+          let larger = size_instance τ (apply m t) in
+          let e : size_of (apply moved t) ≡ size_of (apply τ (apply m t)) = ap size_of same in
+          omega (arith, larger, e)
+
+      left_larger : size_of (apply m left) ≤ size_of l
+      left_larger =
+          let e : size_of (apply moved left) ≡ size_of l = ap size_of (moved_low left left_low ∙ h.left_is) ∙ size_named h.names l in
+          omega (arith, instance_larger left, e)
+
+      right_larger : (result : Tree) → replaced_at place right (shifted 65536 rule.right) ≡ Some result → size_of (apply m result) ≤ size_of r
+      right_larger result replaced =
+          let same : apply moved result ≡ apply h.unifier h.result =
+          replaced_instance moved h.unifier place right (shifted 65536 rule.right) (shifted h.offset rule.right) result h.result replaced h.replaced (moved_low right right_low) (moved_rule rule.right) in
+          let e : size_of (apply moved result) ≡ size_of r = ap size_of (same ∙ h.right_is) ∙ size_named h.names r in
+          omega (arith, instance_larger result, e)
+
+  none_unified : ((σ : ℕ → Tree) → apply σ part ≡ apply σ (shifted 65536 rule.left) → ⊥) → NarrowsNot rule place left right
+  none_unified none = record { none = λ l r h a b. none (moved l r h) (moved_unifies l r h) }
+
+  left_too_large : (m : ℕ → Tree) → IsMostGeneralUnifier part (shifted 65536 rule.left) m → (IsSmallSide (apply m left) → ⊥) → NarrowsNot rule place left right
+  left_too_large m most large = record { none = λ l r h a b. no_smaller (apply m left) l (left_larger l r h m most) large a }
+
+  right_too_large : (m : ℕ → Tree) → IsMostGeneralUnifier part (shifted 65536 rule.left) m → (result : Tree) → replaced_at place right (shifted 65536 rule.right) ≡ Some result
+      → (IsSmallSide (apply m result) → ⊥) → NarrowsNot rule place left right
+  right_too_large m most result replaced large = record { none = λ l r h a b. no_smaller (apply m result) r (right_larger l r h m most result replaced) large b }
+
+-- ---- variables with new numbers
+
+one_more : (known : List ℕ) (n : ℕ) (b : Bool) → length (if b then known else known ++ n ∷ []) ≤ length known + 1
+one_more known n true = omega arith
+one_more known n false = omega (arith, length-append known (n ∷ []))
+
+mutual
+  count_variables : (known : List ℕ) (t : Tree) → length (with_variables known t) ≤ length known + size_of t
+  count_variables known (var n) = one_more known n (is_listed n known)
+  count_variables known (app f ts) = omega (arith, count_variables_of_all known ts)
+
+  count_variables_of_all : (known : List ℕ) (ts : Trees) → length (with_variables_of_all known ts) ≤ length known + size_of_all ts
+  count_variables_of_all known nil = omega arith
+  count_variables_of_all known (cons t ts) = omega (arith, count_variables known t, count_variables_of_all (with_variables known t) ts)
+
+few_names : (old new : List ℕ) (t u : Tree) → IsRenamed old new t u → length new ≤ length old + size_of u
+few_names old new t u h =
+    let counted = ap length h.counted in
+    let most = count_variables (first_numbers (length old)) u in
+    omega (arith, counted, most, length_first (length old), length_first (length new))
+
+renamed_size : (old new : List ℕ) (t u : Tree) → IsRenamed old new t u → size_of u ≡ size_of t
+renamed_size old new t u r = sym (size_named (old_name new) u) ∙ ap size_of r.back
+
+-- ---- the narrowing that is made
+
+module _ (rule : RewriteRule) (place : List ℕ) (left right part : Tree) (there : subterm_at place right ≡ Some part)
+    (left_low : HasSmallVariables left) (right_low : HasSmallVariables right) (m : ℕ → Tree) (most : IsMostGeneralUnifier part (shifted 65536 rule.left) m)
+    (result : Tree) (replaced : replaced_at place right (shifted 65536 rule.right) ≡ Some result)
+    (left_small : IsSmallSide (apply m left)) (right_small : IsSmallSide (apply m result)) where
+  module _ (first second : List ℕ) (s : Sides) (numbers : BTreeMap ℕ ℕ) (names : AreNames numbers second)
+      (left_named : IsRenamed [] first (apply m left) (tree s.left)) (right_named : IsRenamed first second (apply m result) (tree s.right)) where
+    left_few : size_of (tree s.left) ≤ 256
+    left_few = let same = renamed_size [] first (apply m left) (tree s.left) left_named in let few = left_small.nodes in omega (arith, same, few)
+
+    right_few : size_of (tree s.right) ≤ 256
+    right_few = let same = renamed_size first second (apply m result) (tree s.right) right_named in let few = right_small.nodes in omega (arith, same, few)
+
+    first_few : length first ≤ 256
+    first_few = let some = few_names [] first (apply m left) (tree s.left) left_named in omega (arith, some, left_few)
+
+    second_few : length second ≤ 512
+    second_few = let some = few_names first second (apply m result) (tree s.right) right_named in omega (arith, some, first_few, right_few)
+
+    first_within : length first ≤ length second
+    first_within = omega (arith, length-append first right_named.more, ap length right_named.grown)
+
+    occurs_below : (v : ℕ) → IsTrue (has_var v (tree s.left) || has_var v (tree s.right)) → v < length second
+    occurs_below v h = elim (or_cases (has_var v (tree s.left)) (has_var v (tree s.right)) h) as (λ _. v < length second) [
+      | inl k ↦ let low = left_named.inside v k in omega (arith, low, first_within)
+      | inr k ↦ right_named.inside v k
+    ]
+
+    named : (v : ℕ) → IsTrue (has_var v (tree s.left) || has_var v (tree s.right)) → slice_get second v ≡ Some (old_name second v)
+    named v h = slice_get-get_or second v 0 (occurs_below v h)
+
+    narrows_to : NarrowsTo rule place left right s
+    narrows_to = record {
+      narrowing = record {
+        part = part;
+        there = there;
+        offset = 65536;
+        left_apart = left_low;
+        right_apart = right_low;
+        unifier = m;
+        most_general = most;
+        result = result;
+        replaced = replaced;
+        names = old_name second;
+        left_is = sym (renamed_still [] first second right_named.more (apply m left) (tree s.left) right_named.grown left_named);
+        right_is = sym right_named.back;
+        different = λ v w h k e.
+            let a : slice_get second v ≡ Some (old_name second w) = named v h ∙ ap (λ z. Some z) e in
+            same_Some v w (sym (names.one (old_name second w) v a) ∙ names.one (old_name second w) w (named w k));
+      };
+      left_small = small_of_few (tree s.left) left_few;
+      right_small = small_of_few (tree s.right) right_few;
+      left_variables = λ v h. let low = left_named.inside v h in omega (arith, low, first_few);
+      right_variables = λ v h. let low = right_named.inside v h in omega (arith, low, second_few);
+    }
+
+-- ---- the same, as the code has it: the rule that is renamed apart is opened
+
+module _ (al ar : Tree) (apart rule : RewriteRule) (view : ◌≡◌ {A = RewriteRule} (record { left = al; right = ar }) apart) (is : apart ≡ renamed_apart rule) where
+  pub left_opened : al ≡ shifted 65536 rule.left
+  left_opened = ap (λ (z : RewriteRule). z.left) (view ∙ is)
+
+  pub right_opened : ar ≡ shifted 65536 rule.right
+  right_opened = ap (λ (z : RewriteRule). z.right) (view ∙ is)
+
+  module _ (place : List ℕ) (left right part : Tree) (there : subterm_at place right ≡ Some part)
+      (left_low : HasSmallVariables left) (right_low : HasSmallVariables right) where
+    pub not_unified : ((σ : ℕ → Tree) → apply σ part ≡ apply σ al → ⊥) → NarrowsNot rule place left right
+    not_unified none = none_unified rule place left right part there left_low right_low (λ σ e. none σ (e ∙ ap (apply σ) (sym left_opened)))
+
+    module _ (m : ℕ → Tree) (most : IsMostGeneralUnifier part al m) where
+      general : IsMostGeneralUnifier part (shifted 65536 rule.left) m
+      general = subst (λ z. IsMostGeneralUnifier part z m) left_opened most
+
+      pub left_large : (IsSmallSide (apply m left) → ⊥) → NarrowsNot rule place left right
+      left_large large = left_too_large rule place left right part there left_low right_low m general large
+
+      module _ (result : Tree) (replaced : replaced_at place right ar ≡ Some result) where
+        put : replaced_at place right (shifted 65536 rule.right) ≡ Some result
+        put = subst (λ z. replaced_at place right z ≡ Some result) right_opened replaced
+
+        pub right_large : (IsSmallSide (apply m result) → ⊥) → NarrowsNot rule place left right
+        right_large large = right_too_large rule place left right part there left_low right_low m general result put large
+
+        pub narrowed : IsSmallSide (apply m left) → IsSmallSide (apply m result) → (none first second : List ℕ) → none ≡ [] → (s : Sides) (numbers : BTreeMap ℕ ℕ)
+            → AreNames numbers second → IsRenamed none first (apply m left) (tree s.left) → IsRenamed first second (apply m result) (tree s.right) → NarrowsTo rule place left right s
+        narrowed a b none first second empty s numbers names x y =
+            narrows_to rule place left right part there left_low right_low m general result put a b first second s numbers names
+            (subst (λ z. IsRenamed z first (apply m left) (tree s.left)) empty x) y

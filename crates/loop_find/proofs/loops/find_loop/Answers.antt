@@ -1,0 +1,63 @@
+use Rattle.std.proofs.Common.{◌≡◌, ◌<◌, ◌≤◌, ◌∙◌, Some, slice_get, length, arith, refl, ap, subst, sym}
+use Rattle.trs_core.specs.View.{tree}
+use Rattle.loop_find.specs.Closures.{Closure}
+use Rattle.loop_find.specs.Links.{closures_of}
+use Rattle.loop_find.specs.declared.closures.Closures.{Closures}
+use Rattle.loop_find.proofs.LinkLists.{closure_of_number}
+use Rattle.loop_find.proofs.Walked.{walk_begins, walks_on, found_here, spent_here, falls, not_there, just_spent}
+use Rattle.loop_find.proofs.loops.find_loop.Goals as goal
+
+pub loop-next-init : goal.loop-next-init
+loop-next-init g c =
+    let start = c.in_ok-found.ensures.attempts ∙ c.no_closures-closures.ensures.attempts in
+    record {
+      walked = walk_begins c.args.trs.now.rules c.loop_of_rules.new.closures (c.in_ok-found.ensures.closures c.in_default.is) start (rw c.in_default.is at c.in_ok-found.ensures.found);
+      sound = c.in_ok-found.ensures.sound;
+      within = omega (arith, start);
+      later = omega arith;
+      kept = refl;
+    }
+
+pub returns-in-Found-clause-answer : goal.returns-in-Found-clause-answer
+returns-in-Found-clause-answer g c =
+    let here = closure_of_number c.loop-next.closures c.loop-next.next (omega (arith, c.loop-next-test.true, c.len.ensures, c.loop-next.closures.links.ok.0)) in
+    found_here c.args.trs.now.rules c.loop-next.next c.loop-next.closures c.expand.new.closures here.0 c.loop-next.invariant.walked here.1 c.args.budget c.in-Found.found
+    ((rw c.in-Found.is at c.in_ok-expand.ensures.turn) here.0 here.1)
+
+pub returns-in-Spent-clause-answer : goal.returns-in-Spent-clause-answer
+returns-in-Spent-clause-answer g c =
+    let here = closure_of_number c.loop-next.closures c.loop-next.next (omega (arith, c.loop-next-test.true, c.len.ensures, c.loop-next.closures.links.ok.0)) in
+    spent_here c.args.trs.now.rules c.loop-next.next c.loop-next.closures c.expand.new.closures here.0 c.loop-next.invariant.walked here.1 c.args.budget
+    ((rw c.in-Spent.is at c.in_ok-expand.ensures.turn) here.0 here.1)
+
+pub returns-in-Stopped-clause-answer : goal.returns-in-Stopped-clause-answer
+returns-in-Stopped-clause-answer g c =
+    let here = closure_of_number c.loop-next.closures c.loop-next.next (omega (arith, c.loop-next-test.true, c.len.ensures, c.loop-next.closures.links.ok.0)) in
+    let rose = (rw c.in-Stopped.is at c.in_ok-expand.ensures.turn) here.0 here.1 in
+    omega (arith, rose, c.loop-next.invariant.later)
+
+pub loop-next-smaller : goal.loop-next-smaller
+loop-next-smaller g c =
+    let here = closure_of_number c.loop-next.closures c.loop-next.next (omega (arith, c.loop-next-test.true, c.len.ensures, c.loop-next.closures.links.ok.0)) in
+    falls c.args.trs.now.rules c.loop-next.next c.loop-next.closures c.expand.new.closures here.0 c.loop-next.invariant.walked here.1 c.args.budget (omega (arith, c.loop-next-test.true, c.len.ensures, c.loop-next.closures.links.ok.0)) c.loop-next.invariant.within
+    ((rw c.in-Next.is at c.in_ok-expand.ensures.turn) here.0 here.1)
+
+pub loop-next-preserved : goal.loop-next-preserved
+loop-next-preserved g c =
+    let here = closure_of_number c.loop-next.closures c.loop-next.next (omega (arith, c.loop-next-test.true, c.len.ensures, c.loop-next.closures.links.ok.0)) in
+    record {
+      walked = walks_on c.args.trs.now.rules c.loop-next.next c.loop-next.closures c.expand.new.closures here.0 c.loop-next.invariant.walked here.1 c.args.budget
+          ((rw c.in-Next.is at c.in_ok-expand.ensures.turn) here.0 here.1);
+      sound = c.in_ok-expand.ensures.sound;
+      within = c.in_ok-expand.ensures.within;
+      later = omega (arith, c.loop-next.invariant.later, c.expand.ensures.later);
+      kept = c.expand.ensures.kept ∙ c.loop-next.invariant.kept;
+    }
+
+pub returns-then-closures-budget-clause-answer : goal.returns-then-closures-budget-clause-answer
+returns-then-closures-budget-clause-answer g c =
+    just_spent c.args.trs.now.rules c.loop-next.next c.loop-next.closures c.loop-next.invariant.walked (omega (arith, c.loop-next-test.false, c.len.ensures, c.loop-next.closures.links.ok.0)) c.args.budget c.loop-next.invariant.within c.if-closures-budget.true
+
+pub returns-clause-answer : goal.returns-clause-answer
+returns-clause-answer g c =
+    not_there c.args.trs.now.rules c.loop-next.next c.loop-next.closures c.loop-next.invariant.walked (omega (arith, c.loop-next-test.false, c.len.ensures, c.loop-next.closures.links.ok.0)) c.args.budget c.if-closures-budget.false

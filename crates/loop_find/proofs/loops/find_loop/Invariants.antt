@@ -1,0 +1,16 @@
+use Rattle.std.proofs.Common.{◌≡◌, ◌≤◌, ◌+◌, ◌-◌, length}
+use Rattle.loop_find.specs.Links.{IsSound}
+use Rattle.loop_find.proofs.Walked.{HasWalked}
+use Rattle.loop_find.proofs.loops.find_loop.Given as goal
+
+abbrev pub invariant-loop-next : goal.invariant-loop-next
+invariant-loop-next g l = record {
+  walked : HasWalked l.trs.rules l.next l.closures;
+  sound : IsSound l.trs.arities l.closures;
+  within : l.closures.attempts ≤ l.budget;
+  later : g.P.Stop.stops l.fn.stop ≤ g.P.Stop.stops l.stop;
+  kept : g.P.Stop.kept l.stop ≡ g.P.Stop.kept l.fn.stop;
+}
+
+abbrev pub decreases-loop-next : goal.decreases-loop-next
+decreases-loop-next g l = (l.budget - l.closures.attempts) + (length l.closures.links.items - l.next)

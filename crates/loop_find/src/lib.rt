@@ -1,0 +1,19 @@
+//! Finder of loops by forward closures.
+//! (Lankford and Musser, A finite termination criterion, 1978; Dershowitz, Termination of
+//! rewriting, 1987.)
+#![tactic(auto)]
+
+mod apart;
+mod clashing;
+mod closures;
+mod found;
+mod instances;
+mod laws;
+mod loops;
+mod narrowing;
+mod running;
+mod trying;
+
+pub use found::LoopFound;
+pub use laws::found_loops_are_loops;
+pub use loops::find_loop;

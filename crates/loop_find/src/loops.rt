@@ -1,0 +1,84 @@
+//! The strategy loop.
+ghost use Rattle.std.specs.Prelude.{◌≡◌, ◌<◌, ◌≤◌, ℕ, [], None, IfOk, OnOk, MatchOption};
+ghost use Rattle.trs_core.specs.View.{tree};
+ghost use Rattle.loop_find.specs.Closures.{rule_closures};
+ghost use Rattle.loop_find.specs.LoopRow.{LoopNone, FindsLoop, IsLoopAnswer};
+ghost use Rattle.loop_find.specs.Links.{closures_of, IsSound};
+
+use crate::apart::renamed_rules;
+use crate::closures::{Closures, no_closures};
+use crate::found::LoopFound;
+use crate::trying::{Turn, expand, see_bytes};
+use assign_search::{Search, Stop};
+use rewrite_core::PathStep;
+use std::alloc::Global;
+use trs_core::{OutOfMemory, Position, Trs};
+
+/// The first forward closure that loops. The closures begin with the rules. An attempt is a place of
+/// a closure's right side, at which a symbol stands, with a rule: places in preorder, and at each
+/// the rules in order. It gives a new closure where the rule narrows there, and no side of it has
+/// more than 256 nodes. A closure loops where its path, run within the limits, ends in a term that
+/// holds an instance of its left side.
+///
+/// The budget counts attempts: `Spent` where so many are there, and no closure loops that is a rule
+/// or that they gave. `stop` is asked before each attempt.
+pub fn find_loop<P: Stop>(
+    alloc: Global,
+    trs: &Trs,
+    budget: u64,
+    stop: &mut P,
+) -> Result<Search<LoopFound>, OutOfMemory>
+    ensures answer { IfOk result (IsLoopAnswer trs.now.rules budget
+        (λ found. tree found.start) (λ found. found.path.items) (λ found. found.place)
+        (P.stops stop.old < P.stops stop.new)) }
+    ensures later { P.stops stop.old ≤ P.stops stop.new }
+    ensures kept { P.kept stop.new ≡ P.kept stop.old }
+{
+    let apart = renamed_rules(alloc, trs.rules())?;
+    let mut closures = no_closures(alloc);
+    if let Some(found) = loop_of_rules(alloc, trs, &mut closures)? {
+        return Ok(Search::Found(found));
+    }
+    let mut next = 0;
+    while next < closures.links.len() {
+        match expand(alloc, trs, &apart, budget, next, &mut closures, stop)? {
+            Turn::Next => next += 1,
+            Turn::Found(found) => return Ok(Search::Found(found)),
+            Turn::Spent => return Ok(Search::Spent),
+            Turn::Stopped => return Ok(Search::Stopped),
+        }
+    }
+    if closures.attempts >= budget {
+        return Ok(Search::Spent);
+    }
+    Ok(Search::NotThere)
+}
+
+/// Adds the rules as closures, up to the first one that loops.
+fn loop_of_rules(
+    alloc: Global,
+    trs: &Trs,
+    closures: &mut Closures,
+) -> Result<Option<LoopFound>, OutOfMemory>
+    requires none { closures_of closures.old ≡ [] }
+    requires sound { IsSound trs.now.arities closures.old }
+    ensures found { IfOk result (λ found. MatchOption found (LoopNone trs.now.rules (rule_closures 0 trs.now.rules))
+        (λ l. (budget : ℕ) → FindsLoop trs.now.rules budget (tree l.start) l.path.items l.place)) }
+    ensures closures { IfOk result (λ found. found ≡ None
+        → closures_of closures.new ≡ rule_closures 0 trs.now.rules) }
+    ensures sound { OnOk result (IsSound trs.now.arities closures.new) }
+    ensures attempts { OnOk result (closures.new.attempts ≡ closures.old.attempts) }
+{
+    see_bytes(trs.arities());
+    for (k, rule) in trs.rules().iter().enumerate() {
+        let step = PathStep {
+            place: Position::new(alloc),
+            rule: k as u32,
+        };
+        closures.add(alloc, &rule.left, &rule.right, None, step)?;
+        if let Some(found) = closures.loop_of(alloc, trs, k, &rule.left, &rule.right)? {
+            return Ok(Some(found));
+        }
+    }
+    Ok(None)
+}
