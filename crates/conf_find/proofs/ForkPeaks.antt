@@ -1,0 +1,120 @@
+-- What both sides of a peak reach, and the fork to two terms of it.
+use Rattle.std.specs.Prelude.{◌≡◌, ◌<◌, ◌≤◌, ◌+◌, ℕ, All, List, [], ◌∷◌, ◌++◌, Some, length, take, slice_get, refl, Result, Ok, Err, Option, None, IfOk, MatchOption}
+use Rattle.std.proofs.Common.{zero, suc, ap, sym, ◌∙◌, subst, get_or, arith}
+use Rattle.std.proofs.lemmas.Option.{slice_get_read, slice_get_within, same_Some, get_or_from_slice_get}
+use Rattle.std.proofs.Math.Seq.{take-suc}
+use Rattle.std.proofs.lemmas.List.{take_all}
+use Rattle.trs_defs.specs.Tree.{Tree}
+use Rattle.trs_defs.specs.System.{RewriteRule}
+use Rattle.trs_defs.specs.Path.{PlacedRule}
+use Rattle.term_pool.specs.Pooled.{Extends, tree_at}
+use Rattle.term_pool.specs.Listed.{Listed}
+use Rattle.term_pool.specs.ListedIds.{listed, listed_at}
+use Rattle.term_pool.proofs.ReachedIds.{same_listed, length_listed}
+use Rattle.rewrite_core.specs.PlacedPeak.{PlacedPeak}
+use Rattle.rewrite_core.specs.declared.forks.ForkTest.{ForkTest}
+use Rattle.join_find.specs.First.{Along}
+use Rattle.join_find.specs.CommonIds.{Reached}
+use Rattle.join_find.proofs.Firsts.{along_one_more, along_all}
+use Rattle.conf_find.specs.Fork.{Fork, fork_from, fork_of}
+use Rattle.conf_find.specs.declared.forks.ForkFound.{ForkFound}
+use Rattle.conf_find.specs.ForkRows.{IsShortReach, IsTestOf, NothingParted, PartsLists, PartsNot, PartsBy}
+use Rattle.conf_find.proofs.Pairs.{IsFirstOfTerms}
+
+-- what a pool had reached, as it has grown
+reach_kept : (rules : List RewriteRule) (a b : List Tree) (t u : Tree) (es : List Reached) → Extends a b → All (λ e. e.0 < length a) es
+    → t ≡ u → IsShortReach rules t (listed_at a es) → IsShortReach rules u (listed_at b es)
+reach_kept rules a b t u es extends below same h =
+    let P : List Listed → Type 0 = λ xs. IsShortReach rules u xs in
+    let Q : Tree → Type 0 = λ v. IsShortReach rules v (listed_at a es) in
+    subst P (sym (same_listed a b extends es below)) (subst Q same h)
+
+listed_there : (pool : List Tree) (es : List Reached) (i : ℕ) (x : Reached) → slice_get es i ≡ Some x → slice_get (listed_at pool es) i ≡ Some (listed pool x)
+listed_there pool [] i x e = absurd cc
+listed_there pool (y ∷ es) zero x e = ap (λ z. Some (listed pool z)) (same_Some y x e)
+listed_there pool (y ∷ es) (suc i) x e = listed_there pool es i x e
+
+-- the number of a term is that of an entry
+pub number_within : (pool : List Tree) (es : List Reached) (i : ℕ) (u : Listed) → slice_get (listed_at pool es) i ≡ Some u → i < length es
+number_within pool es i u e = let low = slice_get_within (listed_at pool es) i u e in omega (arith, low, length_listed pool es)
+
+-- an entry that was read
+entry_there : (pool : List Tree) (es : List Reached) (i : ℕ) (x : Reached) → i < length es → x ≡ get_or es i x → slice_get (listed_at pool es) i ≡ Some (listed pool x)
+entry_there pool es i x below is = listed_there pool es i x (slice_get_read es (length es) i x refl below is)
+
+pub entry_is : (pool : List Tree) (es : List Reached) (i : ℕ) (x : Reached) (u : Listed) → slice_get (listed_at pool es) i ≡ Some u → slice_get es i ≡ Some x → u ≡ listed pool x
+entry_is pool es i x u at is = same_Some u (listed pool x) (sym at ∙ listed_there pool es i x is)
+
+pub entry_below : (pool : List Tree) (es : List Reached) (i : ℕ) (x : Reached) → slice_get es i ≡ Some x → All (λ e. e.0 < length pool) es → x.0 < length pool
+entry_below pool es i x is all = subst (λ (e : Reached). e.0 < length pool) (get_or_from_slice_get es i x x is) (all i x (slice_get_within es i x is))
+
+pub read_below : (pool : List Tree) (es : List Reached) (i : ℕ) (x : Reached) → i < length es → x ≡ get_or es i x → All (λ e. e.0 < length pool) es → x.0 < length pool
+read_below pool es i x below is all = subst (λ (e : Reached). e.0 < length pool) (sym is) (all i x below)
+
+-- ---- marks, one for each entry
+
+pub one_mark : {A : Type 0} (related : Listed → A → Type 0) (pool : List Tree) (es : List Reached) (old new : List A) (i : ℕ) (x : Reached) (a : A) → i < length es → x ≡ get_or es i x
+    → Along related (take i (listed_at pool es)) old → related (listed pool x) a → new ≡ old ++ a ∷ [] → Along related (take (i + 1) (listed_at pool es)) new
+one_mark related pool es old new i x a below is along h made =
+    let read : get_or (listed_at pool es) i (listed pool x) ≡ listed pool x = get_or_from_slice_get (listed_at pool es) i (listed pool x) (listed pool x) (entry_there pool es i x below is) in
+    along_one_more related (listed_at pool es) old new i (listed pool x) a (omega (arith, below, length_listed pool es)) (sym read) along h made
+
+pub all_marks : {A : Type 0} (related : Listed → A → Type 0) (pool : List Tree) (es : List Reached) (marks : List A) (i : ℕ) → length es ≤ i
+    → Along related (take i (listed_at pool es)) marks → Along related (listed_at pool es) marks
+all_marks related pool es marks i all along = along_all related (listed_at pool es) marks i (omega (arith, all, length_listed pool es)) along
+
+-- ---- the fork
+
+-- one more step of a path behind a first one
+pub step_behind : (path longer new : List PlacedRule) (first copy step : PlacedRule) (i : ℕ) → longer ≡ first ∷ take i path → copy ≡ step → new ≡ longer ++ copy ∷ [] → i < length path
+    → step ≡ get_or path i step → new ≡ first ∷ take (i + 1) path
+step_behind path longer new first copy step i is same made below read =
+    let n : i + 1 ≡ suc i = omega arith in
+    let more : take (i + 1) path ≡ take i path ++ step ∷ [] = ap (λ k. take k path) n ∙ (take-suc path i step below ∙ ap (λ s. take i path ++ s ∷ []) (sym read)) in
+    made ∙ (ap (λ l. l ++ copy ∷ []) is ∙ (ap (λ s. first ∷ (take i path ++ s ∷ [])) same ∙ ap (λ l. first ∷ l) (sym more)))
+
+pub all_behind : (path longer : List PlacedRule) (first : PlacedRule) (i : ℕ) → longer ≡ first ∷ take i path → length path ≤ i → longer ≡ first ∷ path
+all_behind path longer first i is all = is ∙ ap (λ l. first ∷ l) (take_all i path all)
+
+module _ (parted : List RewriteRule → Tree → Tree → Type 0) (rules : List RewriteRule) (peak : PlacedPeak) where
+  pub parted_by : (pool : List Tree) (lefts rights : List Reached) (pair : ℕ × ℕ) (terms : IsFirstOfTerms (λ (u v : Listed). parted rules u.term v.term) (listed_at pool lefts) (listed_at pool rights) pair)
+      (x y : Reached) → slice_get lefts pair.0 ≡ Some x → slice_get rights pair.1 ≡ Some y → (how : ForkTest) → IsTestOf rules (tree_at pool x.0) (tree_at pool y.0) how
+      → (fork : Fork) (p q : List PlacedRule) → p ≡ x.1.items → q ≡ y.1.items → fork ≡ fork_from peak p q how
+      → PartsLists parted rules peak (listed_at pool lefts) (listed_at pool rights) fork
+  parted_by pool lefts rights pair terms x y read_x read_y how test fork p q is_p is_q made =
+      let left : terms.u ≡ listed pool x = entry_is pool lefts pair.0 x terms.u terms.left_at read_x in
+      let right : terms.v ≡ listed pool y = entry_is pool rights pair.1 y terms.v terms.right_at read_y in
+      let L : Listed → Type 0 = λ u. IsTestOf rules u.term (tree_at pool y.0) how in
+      let R : Listed → Type 0 = λ v. IsTestOf rules terms.u.term v.term how in
+      let to_left : p ≡ terms.u.path = is_p ∙ sym (ap (λ (u : Listed). u.path) left) in
+      let to_right : q ≡ terms.v.path = is_q ∙ sym (ap (λ (v : Listed). v.path) right) in
+      record {
+        u = terms.u;
+        first_left = terms.first_left;
+        v = terms.v;
+        first_right = terms.first_right;
+        how = how;
+        test = subst R (sym right) (subst L (sym left) test);
+        is = made ∙ (ap (λ l. fork_from peak l q how) to_left ∙ ap (λ r. fork_from peak terms.u.path r how) to_right);
+      }
+
+  -- what was found in the lists is that of the peak
+  of_peak : {E : Type 0} (lefts rights : List Listed) (found : Result (Option ForkFound) E) → IsShortReach rules peak.left lefts → IsShortReach rules peak.right rights
+      → IfOk found (λ o. MatchOption o (NothingParted parted rules lefts rights) (λ f. PartsLists parted rules peak lefts rights (fork_of f)))
+      → IfOk found (λ o. MatchOption o (PartsNot parted rules peak) (λ f. PartsBy parted rules peak (fork_of f)))
+  of_peak lefts rights (Ok None) from_left from_right h = record { lefts = lefts; rights = rights; from_left = from_left; from_right = from_right; none = h }
+  of_peak lefts rights (Ok (Some f)) from_left from_right h = record { lefts = lefts; rights = rights; from_left = from_left; from_right = from_right; parts = h }
+  of_peak lefts rights (Err e) from_left from_right h = tt
+
+  pub parted_within : {E : Type 0} (a b : List Tree) (left right : Tree) (lefts rights ls rs : List Reached) (found : Result (Option ForkFound) E) → Extends a b
+      → All (λ e. e.0 < length a) lefts → ls ≡ lefts → rs ≡ rights → left ≡ peak.left → right ≡ peak.right
+      → IsShortReach rules left (listed_at a lefts) → IsShortReach rules right (listed_at b rights)
+      → IfOk found (λ o. MatchOption o (NothingParted parted rules (listed_at b ls) (listed_at b rs)) (λ f. PartsLists parted rules peak (listed_at b ls) (listed_at b rs) (fork_of f)))
+      → IfOk found (λ o. MatchOption o (PartsNot parted rules peak) (λ f. PartsBy parted rules peak (fork_of f)))
+  parted_within a b left right lefts rights ls rs found extends below is_left is_right same_left same_right from_left from_right h =
+      let R : Tree → Type 0 = λ t. IsShortReach rules t (listed_at b rights) in
+      let L : List Reached → Type 0 = λ es. IsShortReach rules peak.left (listed_at b es) in
+      let S : List Reached → Type 0 = λ es. IsShortReach rules peak.right (listed_at b es) in
+      of_peak (listed_at b ls) (listed_at b rs) found
+      (subst L (sym is_left) (reach_kept rules a b left peak.left lefts extends below same_left from_left))
+      (subst S (sym is_right) (subst R same_right from_right)) h

@@ -1,0 +1,10 @@
+pub mod Pairs
+pub mod ForkPeaks
+pub mod PeakList
+pub mod CapMarks
+pub mod EndingMarks
+pub mod InstancePlaces
+pub mod PeakSteps
+pub mod WellFormedTops
+pub mod ForkLaw
+pub mod BetweenLists

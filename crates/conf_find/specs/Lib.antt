@@ -1,0 +1,5 @@
+pub mod Fork
+pub mod ForkRows
+pub mod Parted
+pub mod Marks
+pub mod Laws
