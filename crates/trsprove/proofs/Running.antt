@@ -2,10 +2,8 @@
 use Rattle.std.proofs.Common.{◌≡◌, ◌++◌, ◌∷◌, [], ◌⊎◌, ℕ, List, Option, inl, inr, refl, sym, ap, subst, ◌∙◌, append_assoc, codes}
 use Rattle.io_edge.specs.Shelf.{ShelfMeaning, MayBe}
 use Rattle.io_edge.specs.Sink.{SinkMeaning, AppendsTo}
-use Rattle.sexp_core.specs.Items.{Item, Items, no_items, item, items_of}
-use Rattle.text_reading.specs.Printed.{word_item}
-use Rattle.cert_text.specs.Head.{headline_word, head_item}
-use Rattle.cert_text.specs.CertificateText.{shared_lines}
+use Rattle.sexp_core.specs.Items.{Items, no_items, item}
+use Rattle.cert_text.specs.CertificateText.{version_two_items}
 use Rattle.sexp_core.specs.Printed.{text_of, lines}
 use Rattle.certifier.specs.declared.rejected.Rejected.{Rejected}
 use Rattle.certifier.specs.Acceptance.{IsAcceptedAs}
@@ -28,9 +26,14 @@ use Rattle.trsprove.specs.Output.{IsWritten, with_claim, in_version_two, too_hea
 behind_front : (front text : List ℕ) → EndsLine text → EndsLine (front ++ text)
 behind_front front text (rest, is) = (front ++ rest, ap (λ t. front ++ t) is ∙ sym (append_assoc front rest (10 ∷ [])))
 
-lines_end : (x : Item) (xs : Items) → EndsLine (lines (item x xs))
-lines_end x no_items = (text_of x, refl)
-lines_end x (item y xs) = behind_front (text_of x) (10 ∷ lines (item y xs)) (behind_front (10 ∷ []) (lines (item y xs)) (lines_end y xs))
+abbrev HasItems : Items → Type 0
+HasItems no_items = ⊥
+HasItems (item x xs) = Unit {0}
+
+lines_end : (xs : Items) → HasItems xs → EndsLine (lines xs)
+lines_end no_items h = absurd h
+lines_end (item x no_items) h = (text_of x, refl)
+lines_end (item x (item y xs)) h = behind_front (text_of x) (10 ∷ lines (item y xs)) (behind_front (10 ∷ []) (lines (item y xs)) (lines_end (item y xs) tt))
 
 claim_ends : (claim : Claim) → EndsLine (accepted_line claim)
 claim_ends Terminating = (codes "ACCEPTED terminating", refl)
@@ -46,8 +49,7 @@ rejected_ends reason =
 
 written_ends : (named : NamedSystem) (says : ProofText) (wanted : Wanted) (s : Status) (text : List ℕ) → IsWritten named says wanted s text → EndsLine text
 written_ends named says wanted s text with_claim = claim_ends says.claim
-written_ends named says wanted s text (in_version_two fits) =
-    lines_end (word_item (headline_word says.headline)) (item (head_item 2 says.claim) (items_of (shared_lines named says.steps)))
+written_ends named says wanted s text (in_version_two fits) = lines_end (version_two_items named says) tt
 written_ends named says wanted s text (too_heavy heavy) = (codes "REJECTED too-heavy", refl)
 
 verdict_ends : (problem certificate : List ℕ) (wanted : Wanted) (s : Status) (text : List ℕ) → Verdict problem certificate wanted s text → JudgesCertificate s → EndsLine text
