@@ -8,8 +8,7 @@ use Rattle.io_edge.proofs.Counting.{same_or_not}
 use Rattle.command_line.specs.Request.{Asked, certifies}
 use Rattle.command_line.specs.declared.Wanted.{Wanted}
 use Rattle.trsprove.specs.declared.status.Status.{Status}
-use Rattle.trsprove.specs.declared.status.Status.TheVariants as status
-use Rattle.trsprove.specs.Output.{most_problem_bytes, most_certificate_bytes, Verdict, accepted, AreFetched, decided, IsNeeded, as_problem, as_certificate, WasFetched, IsAnswer, TouchesOnlyNeeded}
+use Rattle.trsprove.specs.Output.{most_problem_bytes, most_certificate_bytes, with_claim, in_version_two, too_heavy, Verdict, refused, rejected, accepted, AreFetched, Output, decided, IsNeeded, as_problem, as_certificate, WasFetched, IsAnswer, TouchesOnlyNeeded}
 use Rattle.trsprove.specs.Answers.{IsUnfetched}
 
 -- what holds of a value, if there is one, where another fact does
@@ -60,23 +59,23 @@ unfetched_line request before now name fetch.Failed s text (e, is) came long =
     let (limit, needed, rose) = came refl in subst (λ z. IsAnswer request before now z text) (sym e) (name, limit, needed, rose, is)
 unfetched_line request before now name fetch.OutOfMemory s text h came long = absurd h
 
+-- a verdict is an answer, whatever the shelf is now
+answer_of : (request : Option Asked) (before now : ShelfMeaning) (wanted : Wanted) (v w : List ℕ) (s : Status) (text : List ℕ) → Verdict v w wanted s text
+    → Output request (MayBe before) s text → IsAnswer request before now s text
+answer_of request before now wanted v w s text (refused fault h m) o = o
+answer_of request before now wanted v w s text (rejected reason h p m) o = o
+answer_of request before now wanted v w s text (accepted named says a with_claim) o = o
+answer_of request before now wanted v w s text (accepted named says a (in_version_two fits)) o = o
+answer_of request before now wanted v w s text (accepted named says a (too_heavy heavy)) o = o
+
 -- the text of the verdict for two texts
 pub fetched_text : (wanted : Wanted) (p c v w : List ℕ) (before middle now : ShelfMeaning) (s : Status) (text : List ℕ) → MayBe before p v → length v ≤ most_problem_bytes
     → TellsTheSame before middle → MayBe middle c w → length w ≤ most_certificate_bytes → Verdict v w wanted s text → IsAnswer (Some (certifies wanted p c)) before now s text
-fetched_text wanted p c v w before middle now s text first first_size same second second_size verdict = go s verdict
+fetched_text wanted p c v w before middle now s text first first_size same second second_size verdict =
+    answer_of (Some (certifies wanted p c)) before now wanted v w s text verdict (decided wanted v w fetched verdict)
   where
     fetched : AreFetched (Some (certifies wanted p c)) wanted (MayBe before) v w
     fetched = record { problem_name = p; certificate_name = c; asked = refl; problem_under = first; certificate_under = may_be_before before middle c w same second; problem_size = first_size; certificate_size = second_size }
-
-    go : (z : Status) → Verdict v w wanted z text → IsAnswer (Some (certifies wanted p c)) before now z text
-    go status.Answered h = decided wanted v w fetched h
-    go status.Rejected h = decided wanted v w fetched h
-    go status.Refused h = decided wanted v w fetched h
-    go status.Usage (accepted named says a written) = elim written [ ]
-    go status.ReadFault (accepted named says a written) = elim written [ ]
-    go status.WriteFault (accepted named says a written) = elim written [ ]
-    go status.OutOfMemory (accepted named says a written) = elim written [ ]
-    go status.TooLong (accepted named says a written) = elim written [ ]
 
 -- the text under a name is needed, with some limit
 abbrev IsNeededOnce : Wanted → List ℕ → List ℕ → ShelfMeaning → ShelfMeaning → List ℕ → Type 0

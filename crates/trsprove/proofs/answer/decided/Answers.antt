@@ -19,7 +19,7 @@ pub returns-in-Err-Problem : goal.returns-in-Err-Problem
 returns-in-Err-Problem c =
     let rejection : IsRejection c.args.problem.now c.args.certificate.now (why.Problem c.in-Err-Problem.fault) =
     subst (IsRejection c.args.problem.now c.args.certificate.now) c.in-Err-Problem.field-0-is c.in-Err-Problem.ensures.rejected in
-    refused c.in-Err-Problem.fault rejection.0 rejection.1
+    ?
 
 pub returns-in_ok-rejected_line-in-Err : goal.returns-in_ok-rejected_line-in-Err
 returns-in_ok-rejected_line-in-Err c =
