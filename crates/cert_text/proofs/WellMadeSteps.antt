@@ -45,14 +45,16 @@ module _ (named : NamedSystem) (is : IsNamed named) (says : ProofText) where
 
   behind_made : (shared : Shared) → AreDefinedInRange (Some shared) → (xs : Items) (vs : List ProofNodeStep) → steps_behind named shared xs ≡ Ok vs → Made vs
   behind_made shared defined no_items vs e = subst Made (ok_same [] vs e) tt
-  behind_made shared defined (item x xs) vs e = by_test (begins_with (codes "define") x) e
+  behind_made shared defined (item x xs) vs e =
+      by_test (begins_with (codes "define") x) e
+      (λ d in_range behind. behind_made (with_definition shared d) (all_append (λ (c : Definition). AllByRecursion IsPlacedInRange c.1) shared.definitions (d ∷ []) defined (in_range, tt)) xs vs behind)
     where
-      by_test : (b : Bool) → cond b (define shared x then_read (λ d. steps_behind named (with_definition shared d) xs)) (in_turn (step named) paths_of_step (Some shared) (item x xs)) ≡ Ok vs → Made vs
-      by_test false e = in_turn_made (Some shared) defined (item x xs) vs e
-      by_test true e =
+      by_test : (b : Bool) → cond b (define shared x then_read (λ d. steps_behind named (with_definition shared d) xs)) (in_turn (step named) paths_of_step (Some shared) (item x xs)) ≡ Ok vs
+          → ((d : Definition) → AllByRecursion IsPlacedInRange d.1 → steps_behind named (with_definition shared d) xs ≡ Ok vs → Made vs) → Made vs
+      by_test false e again = in_turn_made (Some shared) defined (item x xs) vs e
+      by_test true e again =
           let (d, read, behind) = then_ok (define shared x) (λ d. steps_behind named (with_definition shared d) xs) vs e in
-          let in_range = define_made shared defined x d read in
-          behind_made (with_definition shared d) (all_append (λ (c : Definition). AllByRecursion IsPlacedInRange c.1) shared.definitions (d ∷ []) defined (in_range, tt)) xs vs behind
+          again d (define_made shared defined x d read) behind
 
   body_made : (version : ℕ) (positive : Bool) (claim : Read Claim) (r : Read (List ProofNodeStep)) → ((vs : List ProofNodeStep) → r ≡ Ok vs → Made vs) → body version positive claim r ≡ Ok says → AreMade named says
   body_made version positive claim r made e =

@@ -1,4 +1,4 @@
-ghost use Rattle.std.specs.Prelude.{◌≡◌, ◌++◌, [], true, map, All, OnOk, IfOk};
+ghost use Rattle.std.specs.Prelude.{◌≡◌, ◌++◌, [], ◌∷◌, true, map, All, OnOk, IfOk};
 ghost use Rattle.std.specs.List.{AllByRecursion};
 ghost use Rattle.sexp_core.specs.Items.{no_items, item, items_of};
 ghost use Rattle.sexp_core.specs.Printed.{text_of, lines};
@@ -125,7 +125,17 @@ fn put_start(
         (item (head_item version claim) no_items))) }
 {
     put(out, headline_word(headline))?;
-    put(out, b"\n(certificate ")?;
+    put(out, b"\n")?;
+    put_head(out, version, claim)?;
+    Ok(())
+}
+
+/// Appends the line `(certificate version claim)`.
+fn put_head(out: &mut Vec<u8>, version: u64, claim: Claim) -> Result<(), OutOfMemory>
+    ensures { OnOk result (out.new.items
+        ≡ out.old.items ++ (text_of (head_item version claim) ++ 10 ∷ [])) }
+{
+    put(out, b"(certificate ")?;
     put_number(out, version)?;
     put(out, b" ")?;
     put(out, claim_word(claim))?;

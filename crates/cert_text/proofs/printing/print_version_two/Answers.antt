@@ -1,14 +1,21 @@
-use Rattle.std.proofs.Common.{List, ℕ, sym, subst, arith}
-use Rattle.std.proofs.lemmas.Grind.{common_steps}
+use Rattle.std.proofs.Common.{List, [], ℕ, map, sym, subst}
+use Rattle.sexp_core.specs.Items.{items_of}
+use Rattle.text_reading.specs.Printed.{word_item}
 use Rattle.cert_text.specs.ProofText.{proof_text_of}
-use Rattle.cert_text.specs.CertificateText.{SaysCertificate}
+use Rattle.cert_text.specs.Head.{headline_word, head_item}
+use Rattle.cert_text.specs.CertificateText.{SaysCertificate, shared_lines}
 use Rattle.cert_text.specs.Renumbered.{renumbered}
 use Rattle.cert_text.proofs.NumberRanges.{steps_made}
+use Rattle.cert_text.proofs.WrittenLines.{start_and_lines}
 use Rattle.cert_text.proofs.PrintedAgain.{says_two, says_no_other_two}
 use Rattle.cert_text.proofs.printing.print_version_two.Goals as goal
 
 pub returns-clause-text : goal.returns-clause-text
-returns-clause-text c = grind (arith, common_steps)
+returns-clause-text c =
+    let named = c.args.system.now in
+    let says = proof_text_of c.args.certificate.now in
+    start_and_lines (word_item (headline_word says.headline)) (head_item 2 says.claim) (items_of (shared_lines named says.steps)) _ _ _
+    c.new-out.ensures.items c.in_ok-put_start.ensures (rw c.deref.ensures.value at c.in_ok-put_shared_steps.ensures.text)
 
 pub returns-clause-read : goal.returns-clause-read
 returns-clause-read c =

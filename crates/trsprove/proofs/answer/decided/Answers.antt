@@ -1,4 +1,4 @@
-use Rattle.std.proofs.Common.{sym, subst, rules}
+use Rattle.std.proofs.Common.{ℕ, sym, subst, rules}
 use Rattle.cert_text.specs.ProofText.{proof_text_of}
 use Rattle.certifier.specs.Acceptance.{IsRejection}
 use Rattle.certifier.specs.declared.rejected.Rejected.TheVariants as why
@@ -19,7 +19,7 @@ pub returns-in-Err-Problem : goal.returns-in-Err-Problem
 returns-in-Err-Problem c =
     let rejection : IsRejection c.args.problem.now c.args.certificate.now (why.Problem c.in-Err-Problem.fault) =
     subst (IsRejection c.args.problem.now c.args.certificate.now) c.in-Err-Problem.field-0-is c.in-Err-Problem.ensures.rejected in
-    ?
+    let t : ℕ = c.in-Err-Problem.fault-is in ?
 
 pub returns-in_ok-rejected_line-in-Err : goal.returns-in_ok-rejected_line-in-Err
 returns-in_ok-rejected_line-in-Err c =
