@@ -1,8 +1,9 @@
-use Rattle.std.proofs.Common.{ℕ, sym, subst, rules}
+use Rattle.std.proofs.Common.{sym, subst, rules}
 use Rattle.cert_text.specs.ProofText.{proof_text_of}
 use Rattle.certifier.specs.Acceptance.{IsRejection}
 use Rattle.certifier.specs.declared.rejected.Rejected.TheVariants as why
 use Rattle.trsprove.specs.declared.status.Status.TheVariants as status
+use Rattle.trsprove.specs.Lines.{refused_line}
 use Rattle.trsprove.specs.Output.{Verdict, IsWritten, accepted, refused, rejected}
 use Rattle.trsprove.specs.Answers.{status_of, text_of}
 use Rattle.trsprove.proofs.Fetching.{for_ok}
@@ -19,7 +20,8 @@ pub returns-in-Err-Problem : goal.returns-in-Err-Problem
 returns-in-Err-Problem c =
     let rejection : IsRejection c.args.problem.now c.args.certificate.now (why.Problem c.in-Err-Problem.fault) =
     subst (IsRejection c.args.problem.now c.args.certificate.now) c.in-Err-Problem.field-0-is c.in-Err-Problem.ensures.rejected in
-    let t : ℕ = c.in-Err-Problem.fault-is in ?
+    subst (λ f. Verdict c.args.problem.now c.args.certificate.now c.args.wanted status.Refused (refused_line f)) (sym c.in-Err-Problem.fault-is)
+    (refused c.in-Err-Problem.fault rejection.0 rejection.1)
 
 pub returns-in_ok-rejected_line-in-Err : goal.returns-in_ok-rejected_line-in-Err
 returns-in_ok-rejected_line-in-Err c =
