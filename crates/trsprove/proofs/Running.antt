@@ -93,11 +93,29 @@ module _ (request : Option Asked) (before now : ShelfMeaning) where
         → AreFetched request wanted (MayBe before) problem certificate → IsAcceptedAs problem certificate named says → IsWritten named says wanted s text
         → s ≡ status.Answered → AppendsTo taken text later → IsTrueAnswer request before taken later
     true_written wanted problem certificate named says s text fetched acceptance with_claim e w =
-        record { wanted = wanted; problem = problem; certificate = certificate; named = named; says = says; fetched = fetched; acceptance = acceptance;
-          truth = says_of_acceptance problem certificate says.claim named acceptance.acceptance; written = w }
+        record {
+          wanted = wanted;
+          problem = problem;
+          certificate = certificate;
+          named = named;
+          says = says;
+          fetched = fetched;
+          acceptance = acceptance;
+          truth = says_of_acceptance problem certificate says.claim named acceptance.acceptance;
+          written = w;
+        }
     true_written wanted problem certificate named says s text fetched acceptance (in_version_two fits) e w =
-        record { wanted = wanted; problem = problem; certificate = certificate; named = named; says = says; fetched = fetched; acceptance = acceptance;
-          truth = says_of_acceptance problem certificate says.claim named acceptance.acceptance; written = w }
+        record {
+          wanted = wanted;
+          problem = problem;
+          certificate = certificate;
+          named = named;
+          says = says;
+          fetched = fetched;
+          acceptance = acceptance;
+          truth = says_of_acceptance problem certificate says.claim named acceptance.acceptance;
+          written = w;
+        }
     true_written wanted problem certificate named says s text fetched acceptance (too_heavy heavy) e w = absurd cc
 
     true_verdict : (wanted : Wanted) (problem certificate : List ℕ) (s : Status) (text : List ℕ) → AreFetched request wanted (MayBe before) problem certificate
