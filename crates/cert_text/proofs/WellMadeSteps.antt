@@ -1,5 +1,5 @@
 -- The steps of a certificate that is read are well-made, and can be printed.
-use Rattle.std.proofs.Common.{◌≡◌, ℕ, ◌==◌, Bool, true, false, cond, List, [], ◌∷◌, length, Result, Ok, Err, IfOk, refl, ap, subst, ◌∙◌}
+use Rattle.std.proofs.Common.{◌≡◌, ℕ, ◌==◌, Bool, true, false, cond, List, [], ◌∷◌, length, codes, Some, None, Result, Ok, Err, IfOk, refl, ap, subst, ◌∙◌}
 use Rattle.std.specs.List.{All, AllByRecursion}
 use Rattle.std.proofs.lemmas.List.Elements.{All-from_recursion}
 use Rattle.sexp_core.specs.Items.{Items, no_items, item}
@@ -7,10 +7,18 @@ use Rattle.trs_defs.specs.System.{System}
 use Rattle.names_text.specs.Named.{NamedSystem, IsNamed}
 use Rattle.cert_step.specs.ProofStep.{ProofNodeStep, IsWellMade}
 use Rattle.cert_step.specs.declared.claim.Claim.{Claim}
-use Rattle.text_reading.specs.Reading.{Read, ◌<*>◌, many}
-use Rattle.text_reading.proofs.Made.{applied, ok_same, made_many}
+use Rattle.text_reading.specs.Reading.{Read, ◌<*>◌}
+use Rattle.text_reading.proofs.Made.{applied, ok_same}
+use Rattle.text_reading.proofs.Tables.{all_append}
+use Rattle.path_text.specs.declared.sharing.Shared.{Shared}
+use Rattle.path_text.specs.Sharing.{Definition, Sharing, nothing_defined, with_definition}
+use Rattle.path_text.specs.Paths.{◌then_read◌, begins_with, in_turn}
+use Rattle.path_text.specs.Defining.{define}
+use Rattle.path_text.specs.Ranges.{IsPlacedInRange, AreDefinedInRange}
+use Rattle.path_text.proofs.PathMade.{then_ok, made_in_turn}
+use Rattle.path_text.proofs.DefineLaws.{define_made}
 use Rattle.step_text.specs.Ranges.{IsWellMadeInRange, IsPrintable}
-use Rattle.step_text.specs.Steps.{step}
+use Rattle.step_text.specs.Steps.{step, paths_of_step}
 use Rattle.step_text.proofs.StepLaws.{step_made}
 use Rattle.cert_text.specs.declared.fault.CertFault.{CertFault}
 use Rattle.cert_text.specs.declared.fault.CertFault.TheVariants.{Version}
@@ -19,7 +27,7 @@ use Rattle.cert_text.specs.declared.certificate.Certificate.{Certificate}
 use Rattle.cert_text.specs.Answers.{Answers}
 use Rattle.cert_text.specs.declared.head.Head.{Head}
 use Rattle.cert_text.specs.Head.{headline, head}
-use Rattle.cert_text.specs.CertificateText.{◌>>=◌, says_of, body, behind_head, behind_headline, certificate, SaysCertificate}
+use Rattle.cert_text.specs.CertificateText.{◌>>=◌, says_of, steps_alone, steps_behind, body, behind_head, behind_headline, certificate, SaysCertificate}
 
 abbrev AreMade : NamedSystem → ProofText → Type 0
 AreMade named says = AllByRecursion (IsWellMadeInRange named.system) says.steps
@@ -28,28 +36,48 @@ read_first : {A : Type 0} (r : Read A) (behind : A → Result ProofText CertFaul
 read_first (Ok x) behind says e = (x, refl, e)
 read_first (Err p) behind says e = absurd cc
 
-module _ (named : NamedSystem) (is_named : IsNamed named) (says : ProofText) where
-  body_made : (positive : Bool) (claim : Read Claim) (steps : Items) → body named positive claim steps ≡ Ok says → AreMade named says
-  body_made positive claim steps e =
-      let (read, is_read, is) = read_first (Ok (says_of positive) <*> claim <*> many (step named) steps) (λ s. Ok s) says e in
-      let b = applied (Ok (says_of positive) <*> claim) (many (step named) steps) read is_read in
-      let a = applied (Ok (says_of positive)) claim b.make b.is_make in
-      let make : says_of positive ≡ a.make = ok_same (says_of positive) a.make a.is_make in
-      let same : says_of positive a.value b.value ≡ read =
+module _ (named : NamedSystem) (is : IsNamed named) (says : ProofText) where
+  abbrev Made : List ProofNodeStep → Type 0
+  Made steps = AllByRecursion (IsWellMadeInRange named.system) steps
+
+  in_turn_made : (sharing : Sharing) → AreDefinedInRange sharing → (xs : Items) (vs : List ProofNodeStep) → in_turn (step named) paths_of_step sharing xs ≡ Ok vs → Made vs
+  in_turn_made sharing defined xs vs e = made_in_turn (step named) paths_of_step (IsWellMadeInRange named.system) (λ s h. step_made named is s h) sharing defined xs vs e
+
+  behind_made : (shared : Shared) → AreDefinedInRange (Some shared) → (xs : Items) (vs : List ProofNodeStep) → steps_behind named shared xs ≡ Ok vs → Made vs
+  behind_made shared defined no_items vs e = subst Made (ok_same [] vs e) tt
+  behind_made shared defined (item x xs) vs e =
+      by_test (begins_with (codes "define") x) e
+      (λ d in_range behind. behind_made (with_definition shared d) (all_append (λ (c : Definition). AllByRecursion IsPlacedInRange c.1) shared.definitions (d ∷ []) defined (in_range, tt)) xs vs behind)
+    where
+      by_test : (b : Bool) → cond b (define shared x then_read (λ d. steps_behind named (with_definition shared d) xs)) (in_turn (step named) paths_of_step (Some shared) (item x xs)) ≡ Ok vs
+          → ((d : Definition) → AllByRecursion IsPlacedInRange d.1 → steps_behind named (with_definition shared d) xs ≡ Ok vs → Made vs) → Made vs
+      by_test false e again = in_turn_made (Some shared) defined (item x xs) vs e
+      by_test true e again =
+          let (d, read, behind) = then_ok (define shared x) (λ d. steps_behind named (with_definition shared d) xs) vs e in
+          again d (define_made shared defined x d read) behind
+
+  body_made : (version : ℕ) (positive : Bool) (claim : Read Claim) (r : Read (List ProofNodeStep)) → ((vs : List ProofNodeStep) → r ≡ Ok vs → Made vs) → body version positive claim r ≡ Ok says → AreMade named says
+  body_made version positive claim r made e =
+      let (read, is_read, is) = read_first (Ok (says_of version positive) <*> claim <*> r) (λ s. Ok s) says e in
+      let b = applied (Ok (says_of version positive) <*> claim) r read is_read in
+      let a = applied (Ok (says_of version positive)) claim b.make b.is_make in
+      let make : says_of version positive ≡ a.make = ok_same (says_of version positive) a.make a.is_make in
+      let same : says_of version positive a.value b.value ≡ read =
       ap (λ (f : Claim → List ProofNodeStep → ProofText). f a.value b.value) make ∙ ap (λ (f : List ProofNodeStep → ProofText). f b.value) a.made ∙ b.made in
       let is_says : read ≡ says = cc in
-      let P : List ProofNodeStep → Type 0 = AllByRecursion (IsWellMadeInRange named.system) in
-      subst P (ap (λ (t : ProofText). t.steps) (same ∙ is_says)) (made_many (step named) (IsWellMadeInRange named.system) (step_made named is_named) steps b.value b.is_value)
+      subst Made (ap (λ (t : ProofText). t.steps) (same ∙ is_says)) (made b.value b.is_value)
 
-  version_made : (is_one positive : Bool) (h : Head) (steps : Items) → cond is_one (body named positive h.claim steps) (Err (Version h.version)) ≡ Ok says → AreMade named says
-  version_made true positive h steps e = body_made positive h.claim steps e
-  version_made false positive h steps e = absurd cc
+  version_made : (is_one is_two positive : Bool) (h : Head) (items : Items)
+      → cond is_one (body 1 positive h.claim (steps_alone named items)) (cond is_two (body 2 positive h.claim (steps_behind named nothing_defined items)) (Err (Version h.version))) ≡ Ok says → AreMade named says
+  version_made true is_two positive h items e = body_made 1 positive h.claim (steps_alone named items) (λ vs is. in_turn_made None tt items vs is) e
+  version_made false true positive h items e = body_made 2 positive h.claim (steps_behind named nothing_defined items) (λ vs is. behind_made nothing_defined tt items vs is) e
+  version_made false false positive h items e = absurd cc
 
   headline_made : (size : ℕ) (positive : Bool) (xs : Items) → behind_headline named size positive xs ≡ Ok says → AreMade named says
   headline_made size positive no_items e = absurd cc
   headline_made size positive (item x xs) e =
       let (h, is, behind) = read_first (head x) (λ h. behind_head named positive h xs) says e in
-      version_made (h.version == 1) positive h xs behind
+      version_made (h.version == 1) (h.version == 2) positive h xs behind
 
   certificate_made : (size : ℕ) (xs : Items) → certificate named size xs ≡ Ok says → AreMade named says
   certificate_made size no_items e = absurd cc

@@ -1,15 +1,21 @@
 -- What a certificate text says, and why it is refused: how it is read, and how it is printed. (docs/CERTIFICATE-FORMAT.md
 -- has the grammar.)
-use Rattle.std.specs.Prelude.{◌≡◌, ◌⊎◌, ◌==◌, ℕ, Bool, List, length, map, Some, None, Result, Ok, Err, if◌then◌else◌}
+use Rattle.std.specs.Prelude.{◌≡◌, ◌⊎◌, ◌==◌, ◌++◌, nat_le, ℕ, Bool, List, [], ◌∷◌, length, map, codes, Some, None, Result, Ok, Err, if◌then◌else◌}
+use Rattle.trs_defs.specs.Path.{PlacedRule}
 use Rattle.sexp_core.specs.Items.{Item, Items, no_items, item, items_of}
 use Rattle.sexp_core.specs.Reads.{Reads, fault_of}
 use Rattle.sexp_core.specs.declared.fault.TextFault.{TextFault}
 use Rattle.names_text.specs.Named.{NamedSystem}
 use Rattle.cert_step.specs.declared.claim.Claim.{Claim}
 use Rattle.cert_step.specs.ProofStep.{ProofNodeStep}
-use Rattle.text_reading.specs.Reading.{Read, ◌<*>◌, many}
+use Rattle.text_reading.specs.Reading.{Read, ◌<*>◌}
 use Rattle.text_reading.specs.Printed.{word_item}
-use Rattle.step_text.specs.Steps.{step, step_item}
+use Rattle.path_text.specs.declared.sharing.Shared.{Shared}
+use Rattle.path_text.specs.Sharing.{nothing_defined, with_definition}
+use Rattle.path_text.specs.PathNames.{repeated_paths, printed_weight}
+use Rattle.path_text.specs.Paths.{◌then_read◌, begins_with, in_turn, paths_in}
+use Rattle.path_text.specs.Defining.{define, define_items}
+use Rattle.step_text.specs.Steps.{step, paths_of_step, step_item}
 use Rattle.cert_text.specs.declared.fault.CertFault.{CertFault}
 use Rattle.cert_text.specs.declared.fault.CertFault.TheVariants.{Text, Version, OutOfMemory}
 use Rattle.cert_text.specs.Unreadable.{from_text}
@@ -25,15 +31,31 @@ abbrev pub ◌>>=◌ : {A B : Type 0} → Read A → (A → Result B CertFault) 
 (Ok x) >>= behind = behind x
 (Err p) >>= behind = Err (Text p)
 
-abbrev pub says_of : Bool → Claim → List ProofNodeStep → ProofText
-says_of positive claim steps = record { headline = positive; claim = claim; steps = steps }
+abbrev pub says_of : ℕ → Bool → Claim → List ProofNodeStep → ProofText
+says_of version positive claim steps =
+    record { version = version; headline = positive; claim = claim; steps = steps }
 
--- behind a headline and a head of version 1: the claim and the steps, or the least place of all that is none
-abbrev pub body : NamedSystem → Bool → Read Claim → Items → Result ProofText CertFault
-body named positive claim steps = Ok (says_of positive) <*> claim <*> many (step named) steps >>= (λ says. Ok says)
+-- the steps of version 1
+abbrev pub steps_alone : NamedSystem → Items → Read (List ProofNodeStep)
+steps_alone named xs = in_turn (step named) paths_of_step None xs
+
+-- the steps of version 2: first come definitions, each read with those before it
+abbrev pub steps_behind : NamedSystem → Shared → Items → Read (List ProofNodeStep)
+steps_behind named shared no_items = Ok []
+steps_behind named shared (item x xs) =
+    if begins_with (codes "define") x
+    then define shared x then_read (λ d. steps_behind named (with_definition shared d) xs)
+    else in_turn (step named) paths_of_step (Some shared) (item x xs)
+
+-- behind a headline and a head: the claim and the steps, or the least place of all that is none
+abbrev pub body : ℕ → Bool → Read Claim → Read (List ProofNodeStep) → Result ProofText CertFault
+body version positive claim steps = Ok (says_of version positive) <*> claim <*> steps >>= (λ says. Ok says)
 
 abbrev pub behind_head : NamedSystem → Bool → Head → Items → Result ProofText CertFault
-behind_head named positive h steps = if h.version == 1 then body named positive h.claim steps else Err (Version h.version)
+behind_head named positive h items =
+    if h.version == 1 then body 1 positive h.claim (steps_alone named items)
+    else if h.version == 2 then body 2 positive h.claim (steps_behind named nothing_defined items)
+    else Err (Version h.version)
 
 abbrev pub behind_headline : NamedSystem → ℕ → Bool → Items → Result ProofText CertFault
 behind_headline named size positive no_items = Err (Text size)
@@ -48,10 +70,25 @@ certificate named size (item x xs) = do
   positive ← headline x
   behind_headline named size positive xs
 
--- what a certificate is printed as: the headline, its claim, and the steps in order
+-- what a certificate is printed as in version 1: the headline, its claim, and the steps in order
 abbrev pub certificate_items : NamedSystem → ProofText → Items
 certificate_items named says =
-    item (word_item (headline_word says.headline)) (item (head_item says.claim) (items_of (map (step_item named) says.steps)))
+    item (word_item (headline_word says.headline)) (item (head_item 1 says.claim) (items_of (map (step_item named []) says.steps)))
+
+-- in version 2: each path that occurs more than once is defined, and used wherever it occurs
+abbrev pub lines_of_two : NamedSystem → List (List PlacedRule) → List ProofNodeStep → List Item
+lines_of_two named names steps = define_items 0 names ++ map (step_item named names) steps
+
+abbrev pub shared_lines : NamedSystem → List ProofNodeStep → List Item
+shared_lines named steps = lines_of_two named (repeated_paths (paths_in paths_of_step steps)) steps
+
+abbrev pub version_two_items : NamedSystem → ProofText → Items
+version_two_items named says =
+    item (word_item (headline_word says.headline)) (item (head_item 2 says.claim) (items_of (shared_lines named says.steps)))
+
+-- the weights of all paths so printed are at most this together
+abbrev pub fits_two : ProofText → Bool
+fits_two says = nat_le (printed_weight (paths_in paths_of_step says.steps)) 8388608
 
 -- ---- what a text says
 

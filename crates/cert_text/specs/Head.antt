@@ -6,7 +6,7 @@ use Rattle.cert_step.specs.declared.claim.Claim.TheVariants.{Terminating, Nonter
 use Rattle.cert_text.specs.declared.head.Head.{Head}
 use Rattle.text_reading.specs.Reading.{Read, place_of, part, done, keyword, list, one_of}
 use Rattle.text_reading.specs.Numbers.{number}
-use Rattle.text_reading.specs.Printed.{word_item, list_item}
+use Rattle.text_reading.specs.Printed.{word_item, number_item, list_item}
 
 -- ---- `YES` or `NO`
 
@@ -51,5 +51,6 @@ head_list = list (part (keyword (codes "certificate")) (part (number (2 ^ 63 - 1
 abbrev pub head : Item → Read Head
 head x = whole (place_of x) (head_list x)
 
-abbrev pub head_item : Claim → Item
-head_item c = list_item (word_item (codes "certificate") ∷ word_item (codes "1") ∷ word_item (claim_word c) ∷ [])
+abbrev pub head_item : ℕ → Claim → Item
+head_item version c =
+    list_item (word_item (codes "certificate") ∷ number_item version ∷ word_item (claim_word c) ∷ [])

@@ -2,23 +2,25 @@ ghost use Rattle.std.specs.Prelude.{◌≡◌, ◌≤◌, ◌^◌, length, map, 
 ghost use Rattle.sexp_core.specs.Items.{view, views};
 ghost use Rattle.names_text.specs.Named.{NamedSystem};
 ghost use Rattle.cert_step.specs.ProofStep.{IsWellMade, node_step_of};
-ghost use Rattle.text_reading.specs.Reading.{many};
 ghost use Rattle.text_reading.specs.Seen.{seen};
+ghost use Rattle.path_text.specs.Sharing.{nothing_defined};
+ghost use Rattle.path_text.specs.Paths.{in_turn};
 ghost use Rattle.step_text.specs.Ranges.{IsPrintable};
-ghost use Rattle.step_text.specs.Steps.{step};
+ghost use Rattle.step_text.specs.Steps.{step, paths_of_step};
 ghost use Rattle.cert_text.specs.ProofText.{ProofText, proof_text_of};
 ghost use Rattle.cert_text.specs.Answers.{Answers};
-ghost use Rattle.cert_text.specs.CertificateText.{behind_head, behind_headline, certificate, SaysCertificate, IsCertificateRefused};
+ghost use Rattle.cert_text.specs.CertificateText.{steps_alone, steps_behind, behind_head, behind_headline, certificate, SaysCertificate, IsCertificateRefused};
 
 use crate::certificate::Certificate;
 use crate::fault::CertFault;
 use crate::head::{Head, read_head, read_headline};
 use cert_step::NodeStep;
 use names_text::NamedTrs;
+use path_text::{Shared, begins_with, read_define};
 use sexp_core::{Sexp, read_all};
 use std::alloc::Global;
 use step_text::read_step;
-use text_reading::{Read, both, pushed};
+use text_reading::{Read, both};
 use trs_core::OutOfMemory;
 
 /// How many lists may be open at once.
@@ -26,7 +28,7 @@ const MOST_OPEN_LISTS: u32 = 1_040;
 
 /// What a certificate text says over the symbols of a system. Places are byte offsets from 0. The
 /// text is refused for its fault as a list of items, else for its headline, its head, a version
-/// other than 1, or the least place of what can't stand where it does.
+/// other than 1 and 2, or the least place of what can't stand where it does.
 #[tactic(auto, using(crate::proofs::Certificates::refused_text, crate::proofs::Certificates::refused_items))]
 pub fn read_certificate(
     alloc: Global,
@@ -96,16 +98,18 @@ fn read_behind_head(
     system: &NamedTrs,
     headline: bool,
     head: Head,
-    steps: &[Sexp],
+    items: &[Sexp],
 ) -> Result<Certificate, CertFault>
-    ensures { Answers result (behind_head system.now headline head (views steps.now)) }
+    ensures { Answers result (behind_head system.now headline head (views items.now)) }
 {
-    if head.version != 1 {
-        return Err(CertFault::Version(head.version));
-    }
-    let steps = read_steps(alloc, system, steps)?;
+    let steps = match head.version {
+        1 => read_steps_alone(alloc, system, items)?,
+        2 => read_behind_definitions(alloc, system, items)?,
+        version => return Err(CertFault::Version(version)),
+    };
     match both(head.claim, steps) {
         Ok((claim, steps)) => Ok(Certificate {
+            version: head.version,
             headline,
             claim,
             steps,
@@ -114,17 +118,58 @@ fn read_behind_head(
     }
 }
 
-fn read_steps(
+/// Steps that share nothing.
+fn read_steps_alone(
     alloc: Global,
     system: &NamedTrs,
     items: &[Sexp],
 ) -> Result<Read<Vec<NodeStep>>, OutOfMemory>
-    ensures { IfOk result (λ r.
-        seen (λ v. map node_step_of v.items) r ≡ many (step system.now) (views items.now)) }
+    ensures { IfOk result (λ r. seen (λ v. map node_step_of v.items) r
+        ≡ steps_alone system.now (views items.now)) }
 {
-    let mut steps = Ok(Vec::new(alloc));
-    for item in items {
-        steps = pushed(steps, read_step(alloc, system, item)?)?;
-    }
+    let mut sharing = None;
+    let steps = read_steps(alloc, system, &mut sharing, items)?;
     Ok(steps)
+}
+
+/// Definitions, as far as items begin with their word, and the steps behind them.
+fn read_behind_definitions(
+    alloc: Global,
+    system: &NamedTrs,
+    items: &[Sexp],
+) -> Result<Read<Vec<NodeStep>>, OutOfMemory>
+    ensures { IfOk result (λ r. seen (λ v. map node_step_of v.items) r
+        ≡ steps_behind system.now nothing_defined (views items.now)) }
+{
+    let mut shared = Shared::new(alloc);
+    for (i, item) in items.iter().enumerate() {
+        if !begins_with(b"define", item) {
+            let mut sharing = Some(shared);
+            let steps = read_steps(alloc, system, &mut sharing, &items[i..])?;
+            return Ok(steps);
+        }
+        if let Err(at) = read_define(alloc, &mut shared, item)? {
+            return Ok(Err(at));
+        }
+    }
+    Ok(Ok(Vec::new(alloc)))
+}
+
+fn read_steps(
+    alloc: Global,
+    system: &NamedTrs,
+    sharing: &mut Option<Shared>,
+    items: &[Sexp],
+) -> Result<Read<Vec<NodeStep>>, OutOfMemory>
+    ensures { IfOk result (λ r. seen (λ v. map node_step_of v.items) r
+        ≡ in_turn (step system.now) paths_of_step sharing.old (views items.now)) }
+{
+    let mut steps = Vec::new(alloc);
+    for item in items {
+        match read_step(alloc, system, sharing, item)? {
+            Ok(step) => steps.push(step)?,
+            Err(at) => return Ok(Err(at)),
+        }
+    }
+    Ok(Ok(steps))
 }

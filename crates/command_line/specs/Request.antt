@@ -1,11 +1,13 @@
 -- What the words of the command line ask for.
-use Rattle.std.specs.Prelude.{◌≡◌, ℕ, ◌&&◌, Bool, true, false, nat_le, List, [], ◌∷◌, Option, Some, None, Result, Ok, Err, codes, if◌then◌else◌}
+use Rattle.std.specs.Prelude.{◌≡◌, ℕ, ◌&&◌, Bool, true, false, nat_le, List, [], ◌∷◌, Option, Some, None, option_map, Result, Ok, Err, codes, if◌then◌else◌}
 use Rattle.std.specs.Str.{bytes_eq}
 use Rattle.clap.specs.Words.{App, Row, Rule, Text, Kinds, fault_of, first_of, matches_of, new_app, new_rule, with_rule}
 use Rattle.clap.specs.Simple.{on_top}
 use Rattle.numerals.specs.Numerals.{numeral_value}
 use Rattle.command_line.specs.declared.Request.{Request}
 use Rattle.command_line.specs.declared.Request.TheVariants as request
+use Rattle.command_line.specs.declared.Wanted.{Wanted}
+use Rattle.command_line.specs.declared.Wanted.TheVariants.{Claim, VersionTwo}
 use Rattle.command_line.specs.declared.Refused.{Refused}
 use Rattle.command_line.specs.declared.Refused.TheVariants.{Usage, OutOfMemory}
 
@@ -30,7 +32,7 @@ command_app =
 
 -- what is asked for, as texts
 pub data Asked : Type 0 where
-  certifies : (problem certificate : Text) → Asked
+  certifies : (wanted : Wanted) (problem certificate : Text) → Asked
 
 abbrev pub most_workers : ℕ
 most_workers = 16
@@ -51,10 +53,17 @@ is_good limit (Some w) = is_at_least_one (numeral_value limit w)
 abbrev pub are_good : Option Text → Option Text → Bool
 are_good workers budget = is_good most_workers workers && is_good most_budget budget
 
--- the action `certify`, with a problem and a certificate
+-- what an action on a certificate wants
+abbrev pub wanted_by : Text → Option Wanted
+wanted_by action =
+    if bytes_eq action (codes "certify") then Some Claim
+    else if bytes_eq action (codes "upgrade") then Some VersionTwo
+    else None
+
+-- an action on a certificate, with a problem and a certificate
 abbrev pub certification : Option Text → Option Text → Option Text → Option Asked
 certification (Some action) (Some problem) (Some certificate) =
-    if bytes_eq action (codes "certify") then Some (certifies problem certificate) else None
+    option_map (λ wanted. certifies wanted problem certificate) (wanted_by action)
 certification _ _ _ = None
 
 -- what the values that clap matched ask for: nothing, where a number is not good
@@ -74,7 +83,7 @@ unfoldable pub request_of : List Text → Option Asked
 request_of words = where_none (fault_of command_app words) (asked_by (matches_of command_app words))
 
 abbrev pub request_view : Request → Asked
-request_view (request.Certify problem certificate) = certifies problem.now certificate.now
+request_view (request.Certify wanted problem certificate) = certifies wanted problem.now certificate.now
 
 abbrev pub Answers : Result Request Refused → Option Asked → Type 0
 Answers (Ok r) asked = asked ≡ Some (request_view r)

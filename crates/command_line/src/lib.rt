@@ -8,7 +8,7 @@ ghost use Rattle.std.specs.Prelude.{◌≡◌, IfOk, map, option_map};
 ghost use Rattle.std.specs.Option.{option_copied};
 ghost use Rattle.clap.specs.Words.{app_of, found_of, rows_of};
 ghost use Rattle.clap.specs.declared.error.kind.ErrorKind.TheVariants.{OutOfMemory as NoMemory};
-ghost use Rattle.command_line.specs.Request.{command_app, request_of, request_view, asked_by, certification, is_good, are_good, Answers};
+ghost use Rattle.command_line.specs.Request.{command_app, request_of, request_view, asked_by, certification, wanted_by, is_good, are_good, Answers};
 ghost use Rattle.command_line.specs.declared.Refused.TheVariants.{OutOfMemory};
 
 use clap::error::ErrorKind;
@@ -16,11 +16,21 @@ use clap::{Arg, ArgMatches, Command};
 use numerals::numeral_value;
 use std::alloc::{AllocError, Global};
 
+/// What is to be written of a certificate that is accepted.
+#[derive(Clone, Copy, Debug, PartialEq, Eq)]
+pub enum Wanted {
+    /// Its claim, by the action `certify`.
+    Claim,
+    /// The certificate in version 2, by the action `upgrade`.
+    VersionTwo,
+}
+
 /// What the words ask for.
 #[derive(Clone, Copy, Debug)]
 pub enum Request<'a> {
     /// To certify the text under the second name for the problem under the first.
     Certify {
+        wanted: Wanted,
         problem: &'a str,
         certificate: &'a str,
     },
@@ -96,7 +106,20 @@ fn are_good(workers: Option<&str>, budget: Option<&str>) -> bool
     is_good(workers, MOST_WORKERS) && is_good(budget, MOST_BUDGET)
 }
 
-// The action `certify`, with a problem and a certificate.
+// What an action on a certificate wants.
+fn wanted_by(action: &str) -> Option<Wanted>
+    ensures { result ≡ wanted_by action.now }
+{
+    if action == "certify" {
+        Some(Wanted::Claim)
+    } else if action == "upgrade" {
+        Some(Wanted::VersionTwo)
+    } else {
+        None
+    }
+}
+
+// An action on a certificate, with a problem and a certificate.
 fn certification<'a>(
     action: Option<&str>,
     problem: Option<&'a str>,
@@ -105,10 +128,9 @@ fn certification<'a>(
     ensures { option_map request_view result ≡ certification (option_copied action.entry)
         (option_copied problem.entry) (option_copied certificate.entry) }
 {
-    if action? != "certify" {
-        return None;
-    }
+    let wanted = wanted_by(action?)?;
     Some(Request::Certify {
+        wanted,
         problem: problem?,
         certificate: certificate?,
     })
@@ -129,9 +151,9 @@ fn request_from<'a>(matches: &ArgMatches<'a>) -> Option<Request<'a>>
 }
 
 /// What the words ask for, the program's name left out. `Usage` comes exactly where they ask for
-/// nothing: where `clap`'s rules for the simple command refuse them, the action is not `certify`
-/// with a problem and a certificate, `--workers` is not from 1 to 16, or `--budget` is not from 1
-/// to 1,000,000. Both numbers are read, and then ignored.
+/// nothing: where `clap`'s rules for the simple command refuse them, the action is not `certify` or
+/// `upgrade` with a problem and a certificate, `--workers` is not from 1 to 16, or `--budget` is not
+/// from 1 to 1,000,000. Both numbers are read, and then ignored.
 pub fn parse<'a>(alloc: Global, words: &'a [&'a str]) -> Result<Request<'a>, Refused>
     ensures { Answers result (request_of (map (λ w. w.now) words.now)) }
 {

@@ -6,12 +6,14 @@ use std::test::*;
 fn words_are_taken_or_refused(rt: HostRuntime) -> Result<(), Fail> {
     for (line, taken) in [
         ("certify p c", true),
+        ("upgrade p c", true),
         ("certify --workers=16 p c --budget 1000000", true),
         ("certify p -- -c", true),
         ("certify - ", true),
         ("termination p", false),
         ("prove p", false),
         ("certify p", false),
+        ("upgrade p", false),
         ("certify p c d", false),
         ("certify p c --workers 0", false),
         ("certify p c --workers 17", false),

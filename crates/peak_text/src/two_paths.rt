@@ -2,46 +2,78 @@ ghost use Rattle.std.specs.Prelude.{◌≡◌, ◌++◌, map, OnOk, IfOk};
 ghost use Rattle.std.specs.List.{AllByRecursion};
 ghost use Rattle.sexp_core.specs.Items.{view, views, items_of};
 ghost use Rattle.sexp_core.specs.Printed.{text_of, spaced};
-ghost use Rattle.text_reading.specs.Reading.{many};
 ghost use Rattle.text_reading.specs.Seen.{seen};
-ghost use Rattle.peak_text.specs.TwoPaths.{two_paths, two_behind, two_item, join, join_item, pair, pair_item};
+ghost use Rattle.path_text.specs.Sharing.{behind_paths};
+ghost use Rattle.path_text.specs.Paths.{in_turn, paths_in};
+ghost use Rattle.peak_text.specs.TwoPaths.{two_paths, two_behind, paths_of_two, two_item, join, join_item, pair, pair_item};
 ghost use Rattle.peak_text.specs.Ranges.{AreTwoInRange};
 
-use path_text::{put_path, read_path};
+use path_text::{PathNames, Shared, put_path, read_path};
 use rewrite_core::{Join, PathStep};
 use sexp_core::Sexp;
 use std::alloc::Global;
-use text_reading::{Read, both, ended, keyword, place, pushed, put};
+use text_reading::{Read, both, ended, keyword, place, put};
 use trs_core::OutOfMemory;
 
 /// Joins of peaks, each `(join path path)`.
-pub fn read_joins(alloc: Global, items: &[Sexp]) -> Result<Read<Vec<Join>>, OutOfMemory>
-    ensures { IfOk result (λ r. seen (λ v. v.items) r ≡ many join (views items.now)) }
+pub fn read_joins(
+    alloc: Global,
+    sharing: &mut Option<Shared>,
+    items: &[Sexp],
+) -> Result<Read<Vec<Join>>, OutOfMemory>
+    ensures read { IfOk result (λ r. seen (λ v. v.items) r
+        ≡ in_turn join paths_of_two sharing.old (views items.now)) }
+    ensures left { IfOk result (λ r. IfOk r (λ v.
+        sharing.new ≡ behind_paths sharing.old (paths_in paths_of_two v.items))) }
 {
-    read_each(alloc, b"join", items)
+    read_each(alloc, sharing, b"join", items)
 }
 
 /// Joins of peaks where rules have ranks, each `(pair path path)`.
-pub fn read_pairs(alloc: Global, items: &[Sexp]) -> Result<Read<Vec<Join>>, OutOfMemory>
-    ensures { IfOk result (λ r. seen (λ v. v.items) r ≡ many pair (views items.now)) }
+pub fn read_pairs(
+    alloc: Global,
+    sharing: &mut Option<Shared>,
+    items: &[Sexp],
+) -> Result<Read<Vec<Join>>, OutOfMemory>
+    ensures read { IfOk result (λ r. seen (λ v. v.items) r
+        ≡ in_turn pair paths_of_two sharing.old (views items.now)) }
+    ensures left { IfOk result (λ r. IfOk r (λ v.
+        sharing.new ≡ behind_paths sharing.old (paths_in paths_of_two v.items))) }
 {
-    read_each(alloc, b"pair", items)
+    read_each(alloc, sharing, b"pair", items)
 }
 
-fn read_each(alloc: Global, word: &[u8], items: &[Sexp]) -> Result<Read<Vec<Join>>, OutOfMemory>
-    ensures { IfOk result (λ r.
-        seen (λ v. v.items) r ≡ many (two_behind word.now) (views items.now)) }
+fn read_each(
+    alloc: Global,
+    sharing: &mut Option<Shared>,
+    word: &[u8],
+    items: &[Sexp],
+) -> Result<Read<Vec<Join>>, OutOfMemory>
+    ensures read { IfOk result (λ r. seen (λ v. v.items) r
+        ≡ in_turn (two_behind word.now) paths_of_two sharing.old (views items.now)) }
+    ensures left { IfOk result (λ r. IfOk r (λ v.
+        sharing.new ≡ behind_paths sharing.old (paths_in paths_of_two v.items))) }
 {
-    let mut joins = Ok(Vec::new(alloc));
+    let mut joins = Vec::new(alloc);
     for item in items {
-        joins = pushed(joins, read_two(alloc, word, item)?)?;
+        match read_two(alloc, sharing, word, item)? {
+            Ok(join) => joins.push(join)?,
+            Err(at) => return Ok(Err(at)),
+        }
     }
-    Ok(joins)
+    Ok(Ok(joins))
 }
 
 /// Two paths behind a word.
-fn read_two(alloc: Global, word: &[u8], item: &Sexp) -> Result<Read<Join>, OutOfMemory>
-    ensures { IfOk result (λ r. r ≡ two_behind word.now (view item.now)) }
+fn read_two(
+    alloc: Global,
+    sharing: &mut Option<Shared>,
+    word: &[u8],
+    item: &Sexp,
+) -> Result<Read<Join>, OutOfMemory>
+    ensures read { IfOk result (λ r. r ≡ two_behind word.now sharing.old (view item.now)) }
+    ensures left { IfOk result (λ r. IfOk r (λ j.
+        sharing.new ≡ behind_paths sharing.old (paths_of_two j))) }
 {
     let Sexp::List(members, at) = item else {
         return Ok(Err(place(item)));
@@ -50,8 +82,8 @@ fn read_two(alloc: Global, word: &[u8], item: &Sexp) -> Result<Read<Join>, OutOf
         return Ok(Err(*at));
     };
     let head = keyword(word, head);
-    let left = read_path(alloc, left)?;
-    let right = read_path(alloc, right)?;
+    let left = read_path(alloc, sharing, left)?;
+    let right = read_path(alloc, sharing, right)?;
     Ok(join_of(ended(both(both(head, left), right), more)))
 }
 
@@ -65,46 +97,64 @@ fn join_of(parts: Read<(((), Vec<PathStep>), Vec<PathStep>)>) -> Read<Join>
 }
 
 /// Appends the texts of joins, with a blank before each.
-pub fn put_joins(out: &mut Vec<u8>, joins: &[Join]) -> Result<(), OutOfMemory>
+pub fn put_joins(
+    out: &mut Vec<u8>,
+    names: &PathNames<'_>,
+    joins: &[Join],
+) -> Result<(), OutOfMemory>
     ensures text { OnOk result (out.new.items
-        ≡ out.old.items ++ spaced (items_of (map join_item joins.now))) }
+        ≡ out.old.items ++ spaced (items_of (map (join_item names.now) joins.now))) }
     ensures range { OnOk result (AllByRecursion AreTwoInRange joins.now) }
 {
-    put_each(out, b"join", joins)
+    put_each(out, names, b"join", joins)
 }
 
 /// Appends the texts of joins where rules have ranks, with a blank before each.
-pub fn put_pairs(out: &mut Vec<u8>, pairs: &[Join]) -> Result<(), OutOfMemory>
+pub fn put_pairs(
+    out: &mut Vec<u8>,
+    names: &PathNames<'_>,
+    pairs: &[Join],
+) -> Result<(), OutOfMemory>
     ensures text { OnOk result (out.new.items
-        ≡ out.old.items ++ spaced (items_of (map pair_item pairs.now))) }
+        ≡ out.old.items ++ spaced (items_of (map (pair_item names.now) pairs.now))) }
     ensures range { OnOk result (AllByRecursion AreTwoInRange pairs.now) }
 {
-    put_each(out, b"pair", pairs)
+    put_each(out, names, b"pair", pairs)
 }
 
-fn put_each(out: &mut Vec<u8>, word: &[u8], joins: &[Join]) -> Result<(), OutOfMemory>
+fn put_each(
+    out: &mut Vec<u8>,
+    names: &PathNames<'_>,
+    word: &[u8],
+    joins: &[Join],
+) -> Result<(), OutOfMemory>
     ensures text { OnOk result (out.new.items
-        ≡ out.old.items ++ spaced (items_of (map (two_item word.now) joins.now))) }
+        ≡ out.old.items ++ spaced (items_of (map (two_item word.now names.now) joins.now))) }
     ensures range { OnOk result (AllByRecursion AreTwoInRange joins.now) }
 {
     for join in joins {
         put(out, b" ")?;
-        put_two(out, word, join)?;
+        put_two(out, names, word, join)?;
     }
     Ok(())
 }
 
-fn put_two(out: &mut Vec<u8>, word: &[u8], join: &Join) -> Result<(), OutOfMemory>
+fn put_two(
+    out: &mut Vec<u8>,
+    names: &PathNames<'_>,
+    word: &[u8],
+    join: &Join,
+) -> Result<(), OutOfMemory>
     ensures text { OnOk result (out.new.items
-        ≡ out.old.items ++ text_of (two_item word.now join.now)) }
+        ≡ out.old.items ++ text_of (two_item word.now names.now join.now)) }
     ensures range { OnOk result (AreTwoInRange join.now) }
 {
     put(out, b"(")?;
     put(out, word)?;
     put(out, b" ")?;
-    put_path(out, &join.left)?;
+    put_path(out, names, &join.left)?;
     put(out, b" ")?;
-    put_path(out, &join.right)?;
+    put_path(out, names, &join.right)?;
     put(out, b")")?;
     Ok(())
 }

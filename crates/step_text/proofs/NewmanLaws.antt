@@ -3,23 +3,32 @@ use Rattle.std.proofs.Common.{List, subst, arith}
 use Rattle.std.specs.List.{AllByRecursion}
 use Rattle.sexp_core.specs.Items.{items_of}
 use Rattle.std.specs.Prelude.{map}
+use Rattle.trs_defs.specs.Path.{PlacedRule}
 use Rattle.trs_defs.specs.System.{System}
 use Rattle.rewrite_core.specs.PathsOfJoin.{PathsOfJoin}
 use Rattle.cert_step.specs.ProofStep.{ProofStep, newman, IsWellMade}
-use Rattle.text_reading.proofs.Made.{MakesForm, made_rest, made_form}
-use Rattle.text_reading.proofs.Again.{SpellsParts, spells_rest, spells_each, spells_deeper}
-use Rattle.peak_text.specs.TwoPaths.{join, join_item}
+use Rattle.text_reading.proofs.Made.{MakesForm, made_form}
+use Rattle.text_reading.proofs.Again.{SpellsParts, spells_deeper}
+use Rattle.path_text.specs.Sharing.{Sharing, paths_weight}
+use Rattle.path_text.specs.Ranges.{AreDefinedInRange}
+use Rattle.path_text.specs.Paths.{paths_in}
+use Rattle.path_text.specs.Carrying.{Carries}
+use Rattle.path_text.proofs.PathMade.{made_rest_in_turn}
+use Rattle.path_text.proofs.SharedAgain.{spells_each_in_turn, spells_rest_in_turn}
+use Rattle.peak_text.specs.TwoPaths.{join, paths_of_two, join_item}
 use Rattle.peak_text.specs.Ranges.{AreTwoInRange}
 use Rattle.peak_text.proofs.TwoPathsLaws.{join_made, join_again}
 use Rattle.step_text.specs.Ranges.{HasNumbersInRange}
 use Rattle.step_text.specs.NewmanText.{newman_parts, newman_step, newman_form}
 
-pub newman_made : (system : System) → MakesForm newman_form (λ s. IsWellMade system s × HasNumbersInRange s)
-newman_made system at xs v e =
-    let (joins, are, same) = made_form newman_parts _ newman_step (made_rest join AreTwoInRange join_made) at xs v e in
+pub newman_made : (system : System) (sharing : Sharing) → AreDefinedInRange sharing → MakesForm (newman_form sharing) (λ s. IsWellMade system s × HasNumbersInRange s)
+newman_made system sharing defined at xs v e =
+    let (joins, are, same) = made_form (newman_parts sharing) _ newman_step (made_rest_in_turn join paths_of_two AreTwoInRange join_made sharing defined) at xs v e in
     let P : ProofStep → Type 0 = λ s. IsWellMade system s × HasNumbersInRange s in
     subst P same (tt, are)
 
-pub newman_again : (joins : List PathsOfJoin) → AllByRecursion AreTwoInRange joins → SpellsParts newman_parts 1023 (items_of (map join_item joins)) newman_step (newman joins)
-newman_again joins h =
-    spells_rest join newman_step (spells_each join join_item 1023 AreTwoInRange (λ j is. spells_deeper 1023 (join_again j is) (omega arith)) joins h)
+pub newman_again : (names : List (List PlacedRule)) (sharing : Sharing) (joins : List PathsOfJoin) → AllByRecursion AreTwoInRange joins → Carries sharing names (paths_weight (paths_in paths_of_two joins))
+    → SpellsParts (newman_parts sharing) 1023 (items_of (map (join_item names) joins)) newman_step (newman joins)
+newman_again names sharing joins h c =
+    spells_rest_in_turn join paths_of_two sharing newman_step
+    (spells_each_in_turn join paths_of_two (join_item names) 1023 AreTwoInRange names (λ s j is carries. spells_deeper 1023 (join_again names s j is carries) (omega arith)) sharing joins h c)

@@ -16,4 +16,4 @@ abbrev pub confluence_item : Item
 confluence_item = list_item (word_item (codes "confluence") ∷ [])
 
 abbrev pub confluence_text : StepText
-confluence_text = record { item = λ named. confluence_item; in_order = confluence; is_in_range = Unit {0} }
+confluence_text = record { item = λ named names. confluence_item; in_order = confluence; paths = []; is_in_range = Unit {0} }

@@ -16,4 +16,4 @@ abbrev pub dp_item : Item
 dp_item = list_item (word_item (codes "dp") ∷ [])
 
 abbrev pub dp_text : StepText
-dp_text = record { item = λ named. dp_item; in_order = dp; is_in_range = Unit {0} }
+dp_text = record { item = λ named names. dp_item; in_order = dp; paths = []; is_in_range = Unit {0} }

@@ -1,5 +1,5 @@
 -- `(graph item ..)`
-use Rattle.std.specs.Prelude.{List, ◌∷◌, map, codes}
+use Rattle.std.specs.Prelude.{List, [], ◌∷◌, map, codes}
 use Rattle.std.specs.List.{AllByRecursion}
 use Rattle.sexp_core.specs.Items.{Item}
 use Rattle.dp_graph.specs.GroupOrSingle.{GroupOrSingle}
@@ -24,7 +24,8 @@ graph_step_item items = list_item (word_item (codes "graph") ∷ map printed_ite
 
 abbrev pub graph_text : List GroupOrSingle → StepText
 graph_text items = record {
-  item = λ named. graph_step_item items;
+  item = λ named names. graph_step_item items;
   in_order = graph items;
+  paths = [];
   is_in_range = AllByRecursion HasPairs items;
 }

@@ -1,5 +1,5 @@
 -- `(kbo ke ..)`
-use Rattle.std.specs.Prelude.{List, ◌∷◌, map, codes}
+use Rattle.std.specs.Prelude.{List, [], ◌∷◌, map, codes}
 use Rattle.sexp_core.specs.Items.{Item}
 use Rattle.kbo_order.specs.declared.entries.KboEntry.{KboEntry}
 use Rattle.names_text.specs.Named.{NamedSystem}
@@ -24,7 +24,8 @@ kbo_item named entries = list_item (word_item (codes "kbo") ∷ map (kbo_entry_i
 
 abbrev pub kbo_text : List KboEntry → StepText
 kbo_text entries = record {
-  item = λ named. kbo_item named entries;
+  item = λ named names. kbo_item named entries;
   in_order = kbo entries;
+  paths = [];
   is_in_range = Unit {0};
 }

@@ -1,5 +1,5 @@
 -- `(lpo le ..)`
-use Rattle.std.specs.Prelude.{List, ◌∷◌, map, codes}
+use Rattle.std.specs.Prelude.{List, [], ◌∷◌, map, codes}
 use Rattle.std.specs.List.{AllByRecursion}
 use Rattle.sexp_core.specs.Items.{Item}
 use Rattle.path_lpo.specs.Table.{PathEntry}
@@ -26,7 +26,8 @@ lpo_item named entries = list_item (word_item (codes "lpo") ∷ map (path_entry_
 
 abbrev pub lpo_text : List PathEntry → StepText
 lpo_text entries = record {
-  item = λ named. lpo_item named entries;
+  item = λ named names. lpo_item named entries;
   in_order = lpo entries;
+  paths = [];
   is_in_range = AllByRecursion HasPlaces entries;
 }

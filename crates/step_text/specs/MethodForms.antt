@@ -2,6 +2,7 @@
 use Rattle.names_text.specs.Named.{NamedSystem}
 use Rattle.cert_step.specs.ProofStep.{ProofStep}
 use Rattle.text_reading.specs.Reading.{Form}
+use Rattle.path_text.specs.Sharing.{Sharing}
 use Rattle.step_text.specs.declared.methods.Method.{Method}
 use Rattle.step_text.specs.declared.methods.Method.TheVariants as code
 use Rattle.step_text.specs.DpText.{dp_form}
@@ -19,18 +20,18 @@ use Rattle.step_text.specs.LabelText.{label_form}
 use Rattle.step_text.specs.ForkText.{fork_form}
 use Rattle.step_text.specs.ConfluenceText.{confluence_form}
 
-abbrev pub form_of : NamedSystem → Method → Form ProofStep
-form_of named code.Dp = dp_form
-form_of named code.Graph = graph_form
-form_of named code.Subterm = subterm_form named
-form_of named code.Poly = poly_form named
-form_of named code.Lpo = lpo_form named
-form_of named code.Kbo = kbo_form named
-form_of named code.UsablePoly = usable_form named
-form_of named code.Loop = loop_form named
-form_of named code.Newman = newman_form
-form_of named code.Parallel = parallel_form
-form_of named code.Strong = strong_form
-form_of named code.Label = label_form
-form_of named code.Fork = fork_form named
-form_of named code.Confluence = confluence_form
+abbrev pub form_of : NamedSystem → Sharing → Method → Form ProofStep
+form_of named sharing code.Dp = dp_form
+form_of named sharing code.Graph = graph_form
+form_of named sharing code.Subterm = subterm_form named
+form_of named sharing code.Poly = poly_form named
+form_of named sharing code.Lpo = lpo_form named
+form_of named sharing code.Kbo = kbo_form named
+form_of named sharing code.UsablePoly = usable_form named
+form_of named sharing code.Loop = loop_form named sharing
+form_of named sharing code.Newman = newman_form sharing
+form_of named sharing code.Parallel = parallel_form
+form_of named sharing code.Strong = strong_form sharing
+form_of named sharing code.Label = label_form sharing
+form_of named sharing code.Fork = fork_form named sharing
+form_of named sharing code.Confluence = confluence_form

@@ -1,5 +1,5 @@
 -- `(parallel par ..)`
-use Rattle.std.specs.Prelude.{List, ◌∷◌, map, codes}
+use Rattle.std.specs.Prelude.{List, [], ◌∷◌, map, codes}
 use Rattle.std.specs.List.{AllByRecursion}
 use Rattle.sexp_core.specs.Items.{Item}
 use Rattle.trs_defs.specs.Path.{PlacedRule}
@@ -24,7 +24,8 @@ parallel_item steps = list_item (word_item (codes "parallel") ∷ map par_item s
 
 abbrev pub parallel_text : List (List PlacedRule) → StepText
 parallel_text steps = record {
-  item = λ named. parallel_item steps;
+  item = λ named names. parallel_item steps;
   in_order = parallel steps;
+  paths = [];
   is_in_range = AllByRecursion (AllByRecursion IsPlacedInRange) steps;
 }

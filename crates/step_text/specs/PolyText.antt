@@ -1,5 +1,5 @@
 -- `(poly pe ..)`
-use Rattle.std.specs.Prelude.{ℕ, List, ◌∷◌, map, codes}
+use Rattle.std.specs.Prelude.{ℕ, List, [], ◌∷◌, map, codes}
 use Rattle.sexp_core.specs.Items.{Item}
 use Rattle.names_text.specs.Named.{NamedSystem}
 use Rattle.cert_step.specs.ProofStep.{ProofStep, poly}
@@ -23,7 +23,8 @@ poly_item named entries = list_item (word_item (codes "poly") ∷ map (linear_en
 
 abbrev pub poly_text : List (ℕ × List ℕ) → StepText
 poly_text entries = record {
-  item = λ named. poly_item named entries;
+  item = λ named names. poly_item named entries;
   in_order = poly entries;
+  paths = [];
   is_in_range = Unit {0};
 }

@@ -1,5 +1,5 @@
 -- `(subterm entry ..)`
-use Rattle.std.specs.Prelude.{ℕ, List, ◌∷◌, map, codes}
+use Rattle.std.specs.Prelude.{ℕ, List, [], ◌∷◌, map, codes}
 use Rattle.std.specs.List.{AllByRecursion}
 use Rattle.sexp_core.specs.Items.{Item}
 use Rattle.names_text.specs.Named.{NamedSystem}
@@ -25,7 +25,8 @@ subterm_item named projection = list_item (word_item (codes "subterm") ∷ map (
 
 abbrev pub subterm_text : List (ℕ × ℕ) → StepText
 subterm_text projection = record {
-  item = λ named. subterm_item named projection;
+  item = λ named names. subterm_item named projection;
   in_order = subterm projection;
+  paths = [];
   is_in_range = AllByRecursion HasPlace projection;
 }

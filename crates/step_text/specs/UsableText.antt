@@ -1,5 +1,5 @@
 -- `(usable-poly pe ..)`
-use Rattle.std.specs.Prelude.{ℕ, List, ◌∷◌, map, codes}
+use Rattle.std.specs.Prelude.{ℕ, List, [], ◌∷◌, map, codes}
 use Rattle.sexp_core.specs.Items.{Item}
 use Rattle.names_text.specs.Named.{NamedSystem}
 use Rattle.cert_step.specs.ProofStep.{ProofStep, usable_poly}
@@ -23,7 +23,8 @@ usable_item named entries = list_item (word_item (codes "usable-poly") ∷ map (
 
 abbrev pub usable_text : List (ℕ × List ℕ) → StepText
 usable_text entries = record {
-  item = λ named. usable_item named entries;
+  item = λ named names. usable_item named entries;
   in_order = usable_poly entries;
+  paths = [];
   is_in_range = Unit {0};
 }

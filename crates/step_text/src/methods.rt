@@ -3,6 +3,7 @@ ghost use Rattle.names_text.specs.Named.{NamedSystem};
 ghost use Rattle.sexp_core.specs.Items.{view};
 ghost use Rattle.text_reading.specs.Reading.{chosen, word as word_among};
 ghost use Rattle.text_reading.specs.Seen.{seen};
+ghost use Rattle.path_text.specs.Sharing.{Sharing};
 ghost use Rattle.step_text.specs.Steps.{forms};
 ghost use Rattle.step_text.specs.MethodForms.{form_of};
 
@@ -30,8 +31,8 @@ pub enum Method {
 
 /// The word of a method.
 pub fn read_method_word(item: &Sexp) -> Read<Method>
-    ensures { (named : NamedSystem)
-        → word_among (forms named) (view item.now) ≡ seen (form_of named) result }
+    ensures { (named : NamedSystem) (sharing : Sharing)
+        → word_among (forms named sharing) (view item.now) ≡ seen (form_of named sharing) result }
 {
     match item {
         Sexp::Word(word, at) => method_by(word.as_slice(), *at),
@@ -41,8 +42,8 @@ pub fn read_method_word(item: &Sexp) -> Read<Method>
 
 /// The method of a word at a place.
 fn method_by(word: &[u8], at: u32) -> Read<Method>
-    ensures { (named : NamedSystem)
-        → chosen (forms named) at word.now ≡ seen (form_of named) result }
+    ensures { (named : NamedSystem) (sharing : Sharing)
+        → chosen (forms named sharing) at word.now ≡ seen (form_of named sharing) result }
 {
     if word == b"dp".as_slice() {
         Ok(Method::Dp)

@@ -1,12 +1,14 @@
-ghost use Rattle.std.specs.Prelude.{◌≡◌, ◌≤◌, ◌++◌, OnOk, IfOk};
+ghost use Rattle.std.specs.Prelude.{◌≡◌, ◌≤◌, ◌++◌, List, OnOk, IfOk};
 ghost use Rattle.sexp_core.specs.Items.{view, views};
 ghost use Rattle.sexp_core.specs.Printed.{text_of};
+ghost use Rattle.trs_defs.specs.Path.{PlacedRule};
 ghost use Rattle.names_text.specs.VariableNames.{underscores as underscores_of};
 ghost use Rattle.cert_step.specs.ProofStep.{step_of, order_step, node_step_of};
 ghost use Rattle.text_reading.specs.Seen.{seen};
+ghost use Rattle.path_text.specs.Sharing.{behind_paths};
 ghost use Rattle.step_text.specs.MethodForms.{form_of};
 ghost use Rattle.step_text.specs.Ranges.{HasNumbersInRange};
-ghost use Rattle.step_text.specs.Steps.{method, method_item, node_step, step, step_item};
+ghost use Rattle.step_text.specs.Steps.{method, method_item, paths_of_method, node_step, step, paths_of_step, step_item};
 
 use crate::confluence_text::{put_confluence, read_confluence};
 use crate::dp_text::{put_dp, read_dp};
@@ -25,6 +27,7 @@ use crate::subterm_text::{put_subterm, read_subterm};
 use crate::usable_text::{put_usable, read_usable};
 use cert_step::{AnyOrder, NodeStep, Step};
 use names_text::NamedTrs;
+use path_text::{PathNames, Shared};
 use sexp_core::Sexp;
 use std::alloc::Global;
 use text_reading::{Read, both, ended, keyword, place, put, put_number, read_number};
@@ -34,8 +37,16 @@ use trs_core::OutOfMemory;
 const LAST_NODE: u64 = 9_223_372_036_854_775_807;
 
 /// A method, `(word ..)`, by its word.
-fn read_method(alloc: Global, system: &NamedTrs, item: &Sexp) -> Result<Read<Step>, OutOfMemory>
-    ensures { IfOk result (λ r. seen step_of r ≡ method system.now (view item.now)) }
+fn read_method(
+    alloc: Global,
+    system: &NamedTrs,
+    sharing: &mut Option<Shared>,
+    item: &Sexp,
+) -> Result<Read<Step>, OutOfMemory>
+    ensures read { IfOk result (λ r.
+        seen step_of r ≡ method system.now sharing.old (view item.now)) }
+    ensures left { IfOk result (λ r. IfOk r (λ s. sharing.new
+        ≡ behind_paths sharing.old (paths_of_method (step_of s)))) }
 {
     let Sexp::List(members, at) = item else {
         return Ok(Err(place(item)));
@@ -44,7 +55,7 @@ fn read_method(alloc: Global, system: &NamedTrs, item: &Sexp) -> Result<Read<Ste
         return Ok(Err(*at));
     };
     match read_method_word(head) {
-        Ok(method) => read_form(alloc, system, method, *at, members),
+        Ok(method) => read_form(alloc, system, sharing, method, *at, members),
         Err(at) => Ok(Err(at)),
     }
 }
@@ -53,12 +64,15 @@ fn read_method(alloc: Global, system: &NamedTrs, item: &Sexp) -> Result<Read<Ste
 fn read_form(
     alloc: Global,
     system: &NamedTrs,
+    sharing: &mut Option<Shared>,
     method: Method,
     at: u32,
     members: &[Sexp],
 ) -> Result<Read<Step>, OutOfMemory>
-    ensures { IfOk result (λ r.
-        seen step_of r ≡ form_of system.now method at (views members.now)) }
+    ensures read { IfOk result (λ r.
+        seen step_of r ≡ form_of system.now sharing.old method at (views members.now)) }
+    ensures left { IfOk result (λ r. IfOk r (λ s. sharing.new
+        ≡ behind_paths sharing.old (paths_of_method (step_of s)))) }
 {
     match method {
         Method::Dp => Ok(read_dp(members)),
@@ -68,12 +82,12 @@ fn read_form(
         Method::Lpo => read_lpo(alloc, system, members),
         Method::Kbo => read_kbo(alloc, system, members),
         Method::UsablePoly => read_usable(alloc, system, members),
-        Method::Loop => read_loop(alloc, system, at, members),
-        Method::Newman => read_newman(alloc, members),
+        Method::Loop => read_loop(alloc, system, sharing, at, members),
+        Method::Newman => read_newman(alloc, sharing, members),
         Method::Parallel => read_parallel(alloc, members),
-        Method::Strong => read_strong(alloc, members),
-        Method::Label => read_label(alloc, at, members),
-        Method::Fork => read_fork(alloc, system, at, members),
+        Method::Strong => read_strong(alloc, sharing, members),
+        Method::Label => read_label(alloc, sharing, at, members),
+        Method::Fork => read_fork(alloc, system, sharing, at, members),
         Method::Confluence => Ok(read_confluence(members)),
     }
 }
@@ -82,9 +96,13 @@ fn read_form(
 pub fn read_step(
     alloc: Global,
     system: &NamedTrs,
+    sharing: &mut Option<Shared>,
     item: &Sexp,
 ) -> Result<Read<NodeStep>, OutOfMemory>
-    ensures { IfOk result (λ r. seen node_step_of r ≡ step system.now (view item.now)) }
+    ensures read { IfOk result (λ r.
+        seen node_step_of r ≡ step system.now sharing.old (view item.now)) }
+    ensures left { IfOk result (λ r. IfOk r (λ s. sharing.new
+        ≡ behind_paths sharing.old (paths_of_step (node_step_of s)))) }
 {
     let Sexp::List(members, at) = item else {
         return Ok(Err(place(item)));
@@ -94,7 +112,7 @@ pub fn read_step(
     };
     let head = keyword(b"step", head);
     let node = read_number(LAST_NODE, node);
-    let method = read_method(alloc, system, method)?;
+    let method = read_method(alloc, system, sharing, method)?;
     Ok(node_step(ended(both(both(head, node), method), more)))
 }
 
@@ -112,12 +130,13 @@ fn put_method(
     alloc: Global,
     out: &mut Vec<u8>,
     system: &NamedTrs,
+    names: &PathNames<'_>,
     underscores: usize,
     step: &Step,
 ) -> Result<(), OutOfMemory>
     requires { underscores ≡ underscores_of system.now.names }
     ensures text { OnOk result (out.new.items
-        ≡ out.old.items ++ text_of (method_item system.now (step_of step.now))) }
+        ≡ out.old.items ++ text_of (method_item system.now names.now (step_of step.now))) }
     ensures range { OnOk result (HasNumbersInRange (step_of step.now)) }
 {
     match step {
@@ -127,26 +146,36 @@ fn put_method(
         Step::Order(order) => put_order(out, system, order),
         Step::UsablePoly(table) => put_usable(out, system, table),
         Step::Loop { start, path, place } => {
-            put_loop(alloc, out, system, underscores, start, path, place)
+            put_loop(alloc, out, system, names, underscores, start, path, place)
         }
-        Step::Newman(joins) => put_newman(out, joins),
+        Step::Newman(joins) => put_newman(out, names, joins),
         Step::Parallel(steps) => put_parallel(out, steps),
-        Step::Strong(fours) => put_strong(out, fours),
-        Step::Label { ranks, joins } => put_label(out, ranks, joins),
+        Step::Strong(fours) => put_strong(out, names, fours),
+        Step::Label { ranks, joins } => put_label(out, names, ranks, joins),
         Step::Fork {
             start,
             left,
             right,
             test,
-        } => put_fork(alloc, out, system, underscores, start, left, right, *test),
+        } => put_fork(
+            alloc,
+            out,
+            system,
+            names,
+            underscores,
+            start,
+            left,
+            right,
+            *test,
+        ),
         Step::Confluence => put_confluence(out),
     }
 }
 
 /// Appends the text of the method of an order.
 fn put_order(out: &mut Vec<u8>, system: &NamedTrs, order: &AnyOrder) -> Result<(), OutOfMemory>
-    ensures text { OnOk result (out.new.items
-        ≡ out.old.items ++ text_of (method_item system.now (order_step order.now))) }
+    ensures text { OnOk result ((names : List (List PlacedRule)) → out.new.items
+        ≡ out.old.items ++ text_of (method_item system.now names (order_step order.now))) }
     ensures range { OnOk result (HasNumbersInRange (order_step order.now)) }
 {
     match order {
@@ -161,18 +190,19 @@ pub fn put_step(
     alloc: Global,
     out: &mut Vec<u8>,
     system: &NamedTrs,
+    names: &PathNames<'_>,
     underscores: usize,
     step: &NodeStep,
 ) -> Result<(), OutOfMemory>
     requires { underscores ≡ underscores_of system.now.names }
     ensures text { OnOk result (out.new.items
-        ≡ out.old.items ++ text_of (step_item system.now (node_step_of step.now))) }
+        ≡ out.old.items ++ text_of (step_item system.now names.now (node_step_of step.now))) }
     ensures range { OnOk result (HasNumbersInRange (step_of step.now.step)) }
 {
     put(out, b"(step ")?;
     put_number(out, step.node)?;
     put(out, b" ")?;
-    put_method(alloc, out, system, underscores, &step.step)?;
+    put_method(alloc, out, system, names, underscores, &step.step)?;
     put(out, b")")?;
     Ok(())
 }

@@ -13,3 +13,5 @@ mod printed_certificates;
 mod problem_refusals;
 #[cfg(test)]
 mod problems;
+#[cfg(test)]
+mod version_two;

@@ -1,18 +1,23 @@
 -- That the answer is the only one.
-use Rattle.std.proofs.Common.{◌≡◌, ◌≢◌, ◌≤◌, ◌<◌, ◌⊎◌, inl, inr, ℕ, List, length, Some, IfSome, refl, sym, subst, ◌∙◌, arith}
+use Rattle.std.proofs.Common.{◌≡◌, ◌≢◌, ◌≤◌, ◌<◌, ◌⊎◌, inl, inr, ℕ, true, false, List, length, Option, Some, IfSome, refl, sym, ap, subst, ◌∙◌, arith}
 use Rattle.io_edge.specs.Shelf.{ShelfMeaning, Told, MayBe, MayPass}
+use Rattle.names_text.specs.Named.{NamedSystem}
 use Rattle.ari_text.specs.Problem.{IsProblemRefused}
 use Rattle.ari_text.specs.declared.fault.AriFault.{AriFault}
 use Rattle.ari_text.specs.declared.fault.AriFault.TheVariants as ari
+use Rattle.cert_text.specs.ProofText.{ProofText}
+use Rattle.cert_text.specs.CertificateText.{fits_two}
+use Rattle.certifier.specs.declared.rejected.Rejected.{Rejected}
 use Rattle.certifier.specs.declared.rejected.Rejected.TheVariants as why
-use Rattle.certifier.specs.Acceptance.{IsRejection}
-use Rattle.certifier.proofs.OneAnswer.{one_rejection, not_both}
-use Rattle.command_line.specs.Request.{certifies}
+use Rattle.certifier.specs.Acceptance.{IsAcceptedAs, IsRejection}
+use Rattle.certifier.proofs.OneAnswer.{said_once, one_rejection, not_both}
+use Rattle.command_line.specs.Request.{Asked, certifies}
+use Rattle.command_line.specs.declared.Wanted.{Wanted}
 use Rattle.io_edge.specs.declared.fault.FetchFault.{FetchFault}
 use Rattle.io_edge.specs.declared.fault.FetchFault.TheVariants as fetch
 use Rattle.trsprove.specs.declared.status.Status.{Status}
 use Rattle.trsprove.specs.declared.status.Status.TheVariants as status
-use Rattle.trsprove.specs.Output.{Verdict, refused, rejected, accepted, usage, too_long, decided, AreFetched, IsNeeded, IsWithin, IsTooLong, IsOr, AnswersOnly, most_bytes}
+use Rattle.trsprove.specs.Output.{IsWritten, with_claim, in_version_two, too_heavy, Verdict, refused, rejected, accepted, usage, too_long, decided, AreFetched, IsNeeded, as_problem, as_certificate, IsWithin, IsTooLong, IsOr, AnswersOnly, most_problem_bytes, most_certificate_bytes}
 use Rattle.trsprove.specs.Answers.{IsUnfetched}
 
 -- ---- one verdict for two texts
@@ -21,21 +26,47 @@ problem_is_why : (problem certificate : List ℕ) (fault : AriFault) → IsProbl
     → IsRejection problem certificate (why.Problem fault)
 problem_is_why problem certificate fault h m = (h, m)
 
-pub one_verdict : (problem certificate : List ℕ) (s wanted : Status) (line other : List ℕ) → Verdict problem certificate s line
-    → Verdict problem certificate wanted other → IsOr wanted s
-one_verdict v w s wanted line other (refused f h m) (refused g k n) = refl
-one_verdict v w s wanted line other (refused f h m) (rejected r k p n) =
-    absurd (p f (one_rejection v w r (why.Problem f) k (problem_is_why v w f h m) n (λ e. cc)))
-one_verdict v w s wanted line other (refused f h m) (accepted claim named a) =
-    let e : why.Problem f ≡ why.OutOfMemory = not_both v w claim named (why.Problem f) a (problem_is_why v w f h m) in absurd cc
-one_verdict v w s wanted line other (rejected r h p m) (refused g k n) =
-    absurd (p g (one_rejection v w r (why.Problem g) h (problem_is_why v w g k n) m (λ e. cc)))
-one_verdict v w s wanted line other (rejected r h p m) (rejected q k o n) = refl
-one_verdict v w s wanted line other (rejected r h p m) (accepted claim named a) = absurd (m (not_both v w claim named r a h))
-one_verdict v w s wanted line other (accepted claim named a) (refused g k n) =
-    let e : why.Problem g ≡ why.OutOfMemory = not_both v w claim named (why.Problem g) a (problem_is_why v w g k n) in absurd cc
-one_verdict v w s wanted line other (accepted claim named a) (rejected q k o n) = absurd (n (not_both v w claim named q a k))
-one_verdict v w s wanted line other (accepted claim named a) (accepted other_claim system b) = refl
+-- what is written of one certificate
+one_text : (named : NamedSystem) (says : ProofText) (wanted : Wanted) (s other : Status) (text defined : List ℕ) → IsWritten named says wanted s text
+    → IsWritten named says wanted other defined → IsOr other s
+one_text named says wanted s other text defined with_claim with_claim = refl
+one_text named says wanted s other text defined (in_version_two fits) (in_version_two again) = refl
+one_text named says wanted s other text defined (in_version_two fits) (too_heavy heavy) = absurd cc
+one_text named says wanted s other text defined (too_heavy heavy) (in_version_two fits) = absurd cc
+one_text named says wanted s other text defined (too_heavy heavy) (too_heavy again) = refl
+
+module _ (problem certificate : List ℕ) where
+  -- what is accepted is not refused and not rejected
+  not_rejected : (named : NamedSystem) (says : ProofText) (reason : Rejected) → IsAcceptedAs problem certificate named says → IsRejection problem certificate reason
+      → reason ≢ why.OutOfMemory → ⊥
+  not_rejected named says reason a h m = m (not_both problem certificate says.claim named reason a.acceptance h)
+
+  not_refused : (named : NamedSystem) (says : ProofText) (fault : AriFault) → IsAcceptedAs problem certificate named says → IsProblemRefused problem fault
+      → fault ≢ ari.OutOfMemory → ⊥
+  not_refused named says fault a h m = not_rejected named says (why.Problem fault) a (problem_is_why problem certificate fault h m) (λ e. cc)
+
+  one_acceptance : (wanted : Wanted) (named system : NamedSystem) (says told : ProofText) (s other : Status) (text defined : List ℕ)
+      → IsAcceptedAs problem certificate named says → IsAcceptedAs problem certificate system told → IsWritten named says wanted s text
+      → IsWritten system told wanted other defined → IsOr other s
+  one_acceptance wanted named system says told s other text defined a b w v =
+      let same : (named ≡ system) × (says ≡ told) = said_once problem certificate named system says told a b in
+      one_text system told wanted s other text defined
+      (subst (λ x. IsWritten system x wanted s text) same.1 (subst (λ x. IsWritten x says wanted s text) same.0 w)) v
+
+  pub one_verdict : (wanted : Wanted) (s other : Status) (text defined : List ℕ) → Verdict problem certificate wanted s text
+      → Verdict problem certificate wanted other defined → IsOr other s
+  one_verdict wanted s other text defined (refused f h m) (refused g k n) = refl
+  one_verdict wanted s other text defined (refused f h m) (rejected r k p n) =
+      absurd (p f (one_rejection problem certificate r (why.Problem f) k (problem_is_why problem certificate f h m) n (λ e. cc)))
+  one_verdict wanted s other text defined (refused f h m) (accepted named says a w) = absurd (not_refused named says f a h m)
+  one_verdict wanted s other text defined (rejected r h p m) (refused g k n) =
+      absurd (p g (one_rejection problem certificate r (why.Problem g) h (problem_is_why problem certificate g k n) m (λ e. cc)))
+  one_verdict wanted s other text defined (rejected r h p m) (rejected q k o n) = refl
+  one_verdict wanted s other text defined (rejected r h p m) (accepted named says a w) = absurd (not_rejected named says r a h m)
+  one_verdict wanted s other text defined (accepted named says a w) (refused g k n) = absurd (not_refused named says g a k n)
+  one_verdict wanted s other text defined (accepted named says a w) (rejected q k o n) = absurd (not_rejected named says q a k n)
+  one_verdict wanted s other text defined (accepted named says a w) (accepted system told b v) =
+      one_acceptance wanted named system says told s other text defined a b w v
 
 -- ---- texts that are told
 
@@ -43,59 +74,71 @@ one_verdict v w s wanted line other (accepted claim named a) (accepted other_cla
 told_is : (shelf : ShelfMeaning) (name v t : List ℕ) → MayBe shelf name v → Told shelf name t → v ≡ t
 told_is shelf name v t may_be told = subst (λ o. IfSome o (λ u. v ≡ u)) told may_be
 
-not_long : (shelf : ShelfMeaning) (name t : List ℕ) → Told shelf name t → length t ≤ most_bytes → MayPass most_bytes shelf name → ⊥
-not_long shelf name t told within passes =
-    let long : most_bytes < length t = subst (λ o. IfSome o (λ u. most_bytes < length u)) told passes in omega arith
+not_long : (limit : ℕ) (shelf : ShelfMeaning) (name t : List ℕ) → Told shelf name t → length t ≤ limit → MayPass limit shelf name → ⊥
+not_long limit shelf name t told within passes =
+    let long : limit < length t = subst (λ o. IfSome o (λ u. limit < length u)) told passes in omega arith
 
--- what is asked for has one pair of names
-names_asked : (p c q d : List ℕ) → Some (certifies p c) ≡ Some (certifies q d) → (p ≡ q) × (c ≡ d)
-names_asked p c q d e = let same : certifies p c ≡ certifies q d = cc in (cc, cc)
+too_long_within : (limit : ℕ) (shelf : ShelfMeaning) (name v : List ℕ) → MayBe shelf name v → length v ≤ limit → IsTooLong limit (Told shelf) name → ⊥
+too_long_within limit shelf name v may_be within (t, told, long) =
+    let is : v ≡ t = told_is shelf name v t may_be told in
+    let size : limit < length v = subst (λ z. limit < length z) (sym is) long in omega arith
 
-module _ (shelf : ShelfMeaning) (p c : List ℕ) where
-  under_first : (problem certificate : List ℕ) → AreFetched (Some (certifies p c)) (Told shelf) problem certificate → Told shelf p problem
-  under_first problem certificate f = subst (λ q. Told shelf q problem) (sym (names_asked p c f.problem_name f.certificate_name f.asked).0) f.problem_under
+-- what is asked for has one pair of names, and one thing is wanted
+record IsSameAsked (wanted other : Wanted) (p q c d : List ℕ) : Type 0 where
+  wants : wanted ≡ other
+  problems : p ≡ q
+  certificates : c ≡ d
 
-  under_second : (problem certificate : List ℕ) → AreFetched (Some (certifies p c)) (Told shelf) problem certificate → Told shelf c certificate
-  under_second problem certificate f = subst (λ q. Told shelf q certificate) (sym (names_asked p c f.problem_name f.certificate_name f.asked).1) f.certificate_under
+same_asked : (wanted other : Wanted) (p q c d : List ℕ) → Some (certifies wanted p c) ≡ Some (certifies other q d) → IsSameAsked wanted other p q c d
+same_asked wanted other p q c d e = let same : certifies wanted p c ≡ certifies other q d = cc in record { wants = cc; problems = cc; certificates = cc }
+
+module _ (shelf : ShelfMeaning) (wanted : Wanted) (p c : List ℕ) where
+  abbrev Request : Option Asked
+  Request = Some (certifies wanted p c)
+
+  asked_of : (other : Wanted) (problem certificate : List ℕ) → (f : AreFetched Request other (Told shelf) problem certificate)
+      → IsSameAsked wanted other p f.problem_name c f.certificate_name
+  asked_of other problem certificate f = same_asked wanted other p f.problem_name c f.certificate_name f.asked
+
+  under_first : (other : Wanted) (problem certificate : List ℕ) → AreFetched Request other (Told shelf) problem certificate → Told shelf p problem
+  under_first other problem certificate f = subst (λ q. Told shelf q problem) (sym (asked_of other problem certificate f).problems) f.problem_under
+
+  under_second : (other : Wanted) (problem certificate : List ℕ) → AreFetched Request other (Told shelf) problem certificate → Told shelf c certificate
+  under_second other problem certificate f = subst (λ q. Told shelf q certificate) (sym (asked_of other problem certificate f).certificates) f.certificate_under
 
   -- where a text is too long, no other answer is defined
-  pub long_only : MayPass most_bytes shelf p ⊎ MayPass most_bytes shelf c → AnswersOnly (Some (certifies p c)) shelf status.TooLong
-  long_only h wanted line (usage none) = absurd cc
-  long_only h wanted line (too_long name needed long) = refl
-  long_only (inl h) wanted line (decided problem certificate f verdict) =
-      absurd (not_long shelf p problem (under_first problem certificate f) f.problem_size h)
-  long_only (inr h) wanted line (decided problem certificate f verdict) =
-      absurd (not_long shelf c certificate (under_second problem certificate f) f.certificate_size h)
+  pub long_only : MayPass most_problem_bytes shelf p ⊎ MayPass most_certificate_bytes shelf c → AnswersOnly Request shelf status.TooLong
+  long_only h s text (usage none) = absurd cc
+  long_only h s text (too_long name limit needed long) = refl
+  long_only (inl h) s text (decided other problem certificate f verdict) =
+      absurd (not_long most_problem_bytes shelf p problem (under_first other problem certificate f) f.problem_size h)
+  long_only (inr h) s text (decided other problem certificate f verdict) =
+      absurd (not_long most_certificate_bytes shelf c certificate (under_second other problem certificate f) f.certificate_size h)
 
   -- where a text could not be fetched
-  pub unfetched_only : (name : List ℕ) (fault : FetchFault) (s : Status) (line : List ℕ) → IsUnfetched fault name s line
-      → (fault ≡ fetch.TooLong → MayPass most_bytes shelf p ⊎ MayPass most_bytes shelf c) → AnswersOnly (Some (certifies p c)) shelf s
-  unfetched_only name fetch.TooLong s line (e, is) passes =
-      subst (AnswersOnly (Some (certifies p c)) shelf) (sym e) (long_only (passes refl))
-  unfetched_only name fetch.Failed s line (e, is) passes = subst (AnswersOnly (Some (certifies p c)) shelf) (sym e) (λ wanted other o. tt)
-  unfetched_only name fetch.OutOfMemory s line h passes = absurd h
+  pub unfetched_only : (name : List ℕ) (fault : FetchFault) (s : Status) (text : List ℕ) → IsUnfetched fault name s text
+      → (fault ≡ fetch.TooLong → MayPass most_problem_bytes shelf p ⊎ MayPass most_certificate_bytes shelf c) → AnswersOnly Request shelf s
+  unfetched_only name fetch.TooLong s text (e, is) passes = subst (AnswersOnly Request shelf) (sym e) (long_only (passes refl))
+  unfetched_only name fetch.Failed s text (e, is) passes = subst (AnswersOnly Request shelf) (sym e) (λ other defined o. tt)
+  unfetched_only name fetch.OutOfMemory s text h passes = absurd h
 
-  module _ (v w : List ℕ) (first : MayBe shelf p v) (second : MayBe shelf c w) (first_size : length v ≤ most_bytes) (second_size : length w ≤ most_bytes) where
-    not_too_long : (name : List ℕ) → IsNeeded (Some (certifies p c)) (IsWithin (Told shelf)) name → IsTooLong (Told shelf) name → ⊥
-    not_too_long name needed (t, told, long) = go needed.which
-      where
-        same : (p ≡ needed.problem_name) × (c ≡ needed.certificate_name)
-        same = names_asked p c needed.problem_name needed.certificate_name needed.asked
-
-        go : (name ≡ needed.problem_name) ⊎ ((name ≡ needed.certificate_name) × IsWithin (Told shelf) needed.problem_name) → ⊥
-        go (inl e) =
-            let is : v ≡ t = told_is shelf p v t first (subst (λ q. Told shelf q t) (e ∙ sym same.0) told) in
-            let size : most_bytes < length v = subst (λ z. most_bytes < length z) (sym is) long in omega arith
-        go (inr (e, within)) =
-            let is : w ≡ t = told_is shelf c w t second (subst (λ q. Told shelf q t) (e ∙ sym same.1) told) in
-            let size : most_bytes < length w = subst (λ z. most_bytes < length z) (sym is) long in omega arith
+  module _ (v w : List ℕ) (first : MayBe shelf p v) (second : MayBe shelf c w) (first_size : length v ≤ most_problem_bytes) (second_size : length w ≤ most_certificate_bytes) where
+    not_too_long : (name : List ℕ) (limit : ℕ) → IsNeeded Request (IsWithin most_problem_bytes (Told shelf)) name limit → IsTooLong limit (Told shelf) name → ⊥
+    not_too_long name limit (as_problem other q d e) long =
+        too_long_within most_problem_bytes shelf p v first first_size
+        (subst (λ z. IsTooLong most_problem_bytes (Told shelf) z) (sym (same_asked wanted other p q c d e).problems) long)
+    not_too_long name limit (as_certificate other q d e within) long =
+        too_long_within most_certificate_bytes shelf c w second second_size
+        (subst (λ z. IsTooLong most_certificate_bytes (Told shelf) z) (sym (same_asked wanted other p q c d e).certificates) long)
 
     -- the verdict for two texts is the defined one
-    pub verdict_only : (s : Status) (line : List ℕ) → Verdict v w s line → AnswersOnly (Some (certifies p c)) shelf s
-    verdict_only s line verdict wanted other (usage none) = absurd cc
-    verdict_only s line verdict wanted other (too_long name needed long) = absurd (not_too_long name needed long)
-    verdict_only s line verdict wanted other (decided problem certificate f defined) =
-        let is_first : v ≡ problem = told_is shelf p v problem first (under_first problem certificate f) in
-        let is_second : w ≡ certificate = told_is shelf c w certificate second (under_second problem certificate f) in
-        one_verdict v w s wanted line other verdict
-        (subst (λ z. Verdict v z wanted other) (sym is_second) (subst (λ z. Verdict z certificate wanted other) (sym is_first) defined))
+    pub verdict_only : (s : Status) (text : List ℕ) → Verdict v w wanted s text → AnswersOnly Request shelf s
+    verdict_only s text verdict other defined (usage none) = absurd cc
+    verdict_only s text verdict other defined (too_long name limit needed long) = absurd (not_too_long name limit needed long)
+    verdict_only s text verdict other defined (decided asked problem certificate f found) =
+        let is_first : v ≡ problem = told_is shelf p v problem first (under_first asked problem certificate f) in
+        let is_second : w ≡ certificate = told_is shelf c w certificate second (under_second asked problem certificate f) in
+        let is_wanted : wanted ≡ asked = (asked_of asked problem certificate f).wants in
+        one_verdict v w wanted s other text defined verdict
+        (subst (λ z. Verdict v z wanted other defined) (sym is_second) (subst (λ z. Verdict z certificate wanted other defined) (sym is_first)
+        (subst (λ z. Verdict problem certificate z other defined) (sym is_wanted) found)))

@@ -1,4 +1,5 @@
 pub mod Fetching
 pub mod Answering
 pub mod Putting
+pub mod PuttingLines
 pub mod Running

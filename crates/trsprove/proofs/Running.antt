@@ -1,23 +1,135 @@
 -- What a run writes, by what the program knew before it wrote.
-use Rattle.std.proofs.Common.{◌≡◌, ℕ, List, Option, subst}
+use Rattle.std.proofs.Common.{◌≡◌, ◌++◌, ◌∷◌, [], ◌⊎◌, ℕ, List, Option, inl, inr, refl, sym, ap, subst, ◌∙◌, append_assoc, codes}
 use Rattle.io_edge.specs.Shelf.{ShelfMeaning, MayBe}
 use Rattle.io_edge.specs.Sink.{SinkMeaning, AppendsTo}
+use Rattle.sexp_core.specs.Items.{Items, no_items, item}
+use Rattle.cert_text.specs.CertificateText.{version_two_items}
+use Rattle.sexp_core.specs.Printed.{text_of, lines}
+use Rattle.certifier.specs.declared.rejected.Rejected.{Rejected}
+use Rattle.certifier.specs.Acceptance.{IsAcceptedAs}
 use Rattle.certifier.proofs.OneAnswer.{says_of_acceptance}
+use Rattle.cert_step.specs.declared.claim.Claim.{Claim}
+use Rattle.cert_step.specs.declared.claim.Claim.TheVariants.{Terminating, Nonterminating, Confluent, Nonconfluent, Unique, Nonunique}
+use Rattle.cert_text.specs.ProofText.{ProofText}
+use Rattle.names_text.specs.Named.{NamedSystem}
 use Rattle.command_line.specs.Request.{Asked}
+use Rattle.command_line.specs.declared.Wanted.{Wanted}
 use Rattle.trsprove.specs.declared.status.Status.{Status}
 use Rattle.trsprove.specs.declared.status.Status.TheVariants as status
-use Rattle.trsprove.specs.Output.{Verdict, accepted, Output, decided, AreFetched, IsLine, IsTrueAnswer}
+use Rattle.trsprove.specs.Numbers.{fields_text}
+use Rattle.trsprove.specs.Lines.{accepted_line, rejected_line, rejected_words, rejected_numbers, rejected_fields}
+use Rattle.trsprove.specs.LinePuts.{EndsLine, IsPutByLine}
+use Rattle.trsprove.specs.Output.{IsWritten, with_claim, in_version_two, too_heavy, Verdict, refused, rejected, accepted, Output, usage, too_long, decided, AreFetched, IsAnswer, JudgesCertificate, Writes, IsTrueAnswer}
 
-module _ (request : Option Asked) (before now : ShelfMeaning) (taken later : SinkMeaning) where
-  -- the claim that is written is true
-  true_verdict : (problem certificate line : List ℕ) → AreFetched request (MayBe before) problem certificate → Verdict problem certificate status.Answered line
-      → AppendsTo taken line later → IsTrueAnswer request before taken later
-  true_verdict problem certificate line fetched (accepted claim named a) w =
-      record { problem = problem; certificate = certificate; claim = claim; named = named; fetched = fetched; acceptance = a; truth = says_of_acceptance problem certificate claim named a; written = w }
+-- ---- what judges a certificate ends with a line feed
 
-  true_line : (line : List ℕ) → Output request (MayBe before) status.Answered line → AppendsTo taken line later → IsTrueAnswer request before taken later
-  true_line line (decided problem certificate fetched verdict) w = true_verdict problem certificate line fetched verdict w
+behind_front : (front text : List ℕ) → EndsLine text → EndsLine (front ++ text)
+behind_front front text (rest, is) = (front ++ rest, ap (λ t. front ++ t) is ∙ sym (append_assoc front rest (10 ∷ [])))
 
-  pub answered_truly : (s : Status) (line : List ℕ) → IsLine request before now s line → AppendsTo taken line later → s ≡ status.Answered
-      → IsTrueAnswer request before taken later
-  answered_truly s line h w e = true_line line (subst (λ z. IsLine request before now z line) e h) w
+abbrev HasItems : Items → Type 0
+HasItems no_items = ⊥
+HasItems (item x xs) = Unit {0}
+
+lines_end : (xs : Items) → HasItems xs → EndsLine (lines xs)
+lines_end no_items h = absurd h
+lines_end (item x no_items) h = (text_of x, refl)
+lines_end (item x (item y xs)) h = behind_front (text_of x) (10 ∷ lines (item y xs)) (behind_front (10 ∷ []) (lines (item y xs)) (lines_end (item y xs) tt))
+
+claim_ends : (claim : Claim) → EndsLine (accepted_line claim)
+claim_ends Terminating = (codes "ACCEPTED terminating", refl)
+claim_ends Nonterminating = (codes "ACCEPTED nonterminating", refl)
+claim_ends Confluent = (codes "ACCEPTED confluent", refl)
+claim_ends Nonconfluent = (codes "ACCEPTED nonconfluent", refl)
+claim_ends Unique = (codes "ACCEPTED unique", refl)
+claim_ends Nonunique = (codes "ACCEPTED nonunique", refl)
+
+rejected_ends : (reason : Rejected) → EndsLine (rejected_line reason)
+rejected_ends reason =
+    behind_front (rejected_words reason ++ fields_text (rejected_numbers reason)) (fields_text (rejected_fields reason) ++ 10 ∷ []) (fields_text (rejected_fields reason), refl)
+
+written_ends : (named : NamedSystem) (says : ProofText) (wanted : Wanted) (s : Status) (text : List ℕ) → IsWritten named says wanted s text → EndsLine text
+written_ends named says wanted s text with_claim = claim_ends says.claim
+written_ends named says wanted s text (in_version_two fits) = lines_end (version_two_items named says) tt
+written_ends named says wanted s text (too_heavy heavy) = (codes "REJECTED too-heavy", refl)
+
+verdict_ends : (problem certificate : List ℕ) (wanted : Wanted) (s : Status) (text : List ℕ) → Verdict problem certificate wanted s text → JudgesCertificate s → EndsLine text
+verdict_ends problem certificate wanted s text (refused fault h m) (inl e) = absurd cc
+verdict_ends problem certificate wanted s text (refused fault h m) (inr e) = absurd cc
+verdict_ends problem certificate wanted s text (rejected reason h p m) judges = rejected_ends reason
+verdict_ends problem certificate wanted s text (accepted named says a w) judges = written_ends named says wanted s text w
+
+output_ends : (request : Option Asked) (under : List ℕ → List ℕ → Type 0) (s : Status) (text : List ℕ) → Output request under s text → JudgesCertificate s → EndsLine text
+output_ends request under s text (usage none) (inl e) = absurd cc
+output_ends request under s text (usage none) (inr e) = absurd cc
+output_ends request under s text (too_long name limit needed long) (inl e) = absurd cc
+output_ends request under s text (too_long name limit needed long) (inr e) = absurd cc
+output_ends request under s text (decided wanted problem certificate fetched verdict) judges = verdict_ends problem certificate wanted s text verdict judges
+
+module _ (request : Option Asked) (before now : ShelfMeaning) where
+  output_of : (s : Status) (text : List ℕ) → IsAnswer request before now s text → JudgesCertificate s → Output request (MayBe before) s text
+  output_of s text h (inl e) = subst (λ z. Output request (MayBe before) z text) (sym e) (subst (λ z. IsAnswer request before now z text) e h)
+  output_of s text h (inr e) = subst (λ z. Output request (MayBe before) z text) (sym e) (subst (λ z. IsAnswer request before now z text) e h)
+
+  pub answer_ends : (s : Status) (text : List ℕ) → IsAnswer request before now s text → JudgesCertificate s → EndsLine text
+  answer_ends s text h judges = output_ends request (MayBe before) s text (output_of s text h judges) judges
+
+  module _ (taken later : SinkMeaning) where
+    -- ---- what is written
+
+    pub whole_text : (s : Status) (text : List ℕ) → IsAnswer request before now s text → AppendsTo taken text later
+        → (JudgesCertificate s → IsPutByLine taken text later) → Writes request before now s taken later
+    whole_text status.Answered text h a p = (text, h, a, p)
+    whole_text status.Rejected text h a p = (text, h, a, p)
+    whole_text status.Usage text h a p = (text, h, a, p)
+    whole_text status.Refused text h a p = (text, h, a, p)
+    whole_text status.ReadFault text h a p = (text, h, a, p)
+    whole_text status.WriteFault text h a p = absurd h
+    whole_text status.OutOfMemory text h a p = absurd h
+    whole_text status.TooLong text h a p = (text, h, a, p)
+
+    -- ---- a claim that is written is true
+
+    true_written : (wanted : Wanted) (problem certificate : List ℕ) (named : NamedSystem) (says : ProofText) (s : Status) (text : List ℕ)
+        → AreFetched request wanted (MayBe before) problem certificate → IsAcceptedAs problem certificate named says → IsWritten named says wanted s text
+        → s ≡ status.Answered → AppendsTo taken text later → IsTrueAnswer request before taken later
+    true_written wanted problem certificate named says s text fetched acceptance with_claim e w =
+        record {
+          wanted = wanted;
+          problem = problem;
+          certificate = certificate;
+          named = named;
+          says = says;
+          fetched = fetched;
+          acceptance = acceptance;
+          truth = says_of_acceptance problem certificate says.claim named acceptance.acceptance;
+          written = w;
+        }
+    true_written wanted problem certificate named says s text fetched acceptance (in_version_two fits) e w =
+        record {
+          wanted = wanted;
+          problem = problem;
+          certificate = certificate;
+          named = named;
+          says = says;
+          fetched = fetched;
+          acceptance = acceptance;
+          truth = says_of_acceptance problem certificate says.claim named acceptance.acceptance;
+          written = w;
+        }
+    true_written wanted problem certificate named says s text fetched acceptance (too_heavy heavy) e w = absurd cc
+
+    true_verdict : (wanted : Wanted) (problem certificate : List ℕ) (s : Status) (text : List ℕ) → AreFetched request wanted (MayBe before) problem certificate
+        → Verdict problem certificate wanted s text → s ≡ status.Answered → AppendsTo taken text later → IsTrueAnswer request before taken later
+    true_verdict wanted problem certificate s text fetched (refused fault h m) e w = absurd cc
+    true_verdict wanted problem certificate s text fetched (rejected reason h p m) e w = absurd cc
+    true_verdict wanted problem certificate s text fetched (accepted named says a written) e w =
+        true_written wanted problem certificate named says s text fetched a written e w
+
+    true_output : (s : Status) (text : List ℕ) → Output request (MayBe before) s text → s ≡ status.Answered → AppendsTo taken text later → IsTrueAnswer request before taken later
+    true_output s text (usage none) e w = absurd cc
+    true_output s text (too_long name limit needed long) e w = absurd cc
+    true_output s text (decided wanted problem certificate fetched verdict) e w = true_verdict wanted problem certificate s text fetched verdict e w
+
+    pub answered_truly : (s : Status) (text : List ℕ) → IsAnswer request before now s text → AppendsTo taken text later → s ≡ status.Answered
+        → IsTrueAnswer request before taken later
+    answered_truly s text h w e = true_output s text (output_of s text h (inl e)) e w

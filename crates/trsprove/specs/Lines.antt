@@ -53,6 +53,10 @@ rejected_fields _ = []
 abbrev pub rejected_line : Rejected → List ℕ
 rejected_line r = (rejected_words r ++ fields_text (rejected_numbers r)) ++ (fields_text (rejected_fields r) ++ 10 ∷ [])
 
+-- the line of a certificate that is accepted, and weighs too much in version 2
+abbrev pub too_heavy_line : List ℕ
+too_heavy_line = codes "REJECTED too-heavy\n"
+
 -- the number of a fault of a problem text, that of a text fault, and its place, if it has one
 abbrev pub problem_fields : AriFault → List ℕ
 problem_fields f = number_of_fault f ∷ (listed (text_number_of f) ++ listed (shown_place f))

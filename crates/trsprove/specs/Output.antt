@@ -1,111 +1,140 @@
--- What the program answers: a status and a line, by what its words ask for and by the texts under their names.
-use Rattle.std.specs.Prelude.{◌≡◌, ◌≢◌, ◌⊎◌, ◌<◌, ◌≤◌, ℕ, List, map, Option, Some, None, length}
+-- What the program answers: a status and a text, by what its words ask for and by the texts under their names.
+use Rattle.std.specs.Prelude.{◌≡◌, ◌≢◌, ◌⊎◌, ◌<◌, ◌≤◌, ℕ, true, false, List, map, Option, Some, None, length}
 use denote.Ref.{Bor}
 use Rattle.io_edge.specs.Shelf.{ShelfMeaning, Told, MayBe, MayPass, FaultRose, ReadPast, IsUntouched}
-use Rattle.io_edge.specs.Sink.{SinkMeaning, AppendsTo, AppendsPrefix, IsOnePut}
+use Rattle.io_edge.specs.Sink.{SinkMeaning, AppendsTo, AppendsPrefix}
+use Rattle.sexp_core.specs.Printed.{lines}
 use Rattle.names_text.specs.Named.{NamedSystem}
 use Rattle.ari_text.specs.Problem.{IsProblemRefused}
 use Rattle.ari_text.specs.declared.fault.AriFault.{AriFault}
 use Rattle.ari_text.specs.declared.fault.AriFault.TheVariants as ari
-use Rattle.cert_step.specs.declared.claim.Claim.{Claim}
 use Rattle.cert_step.specs.ProofProblem.{Says}
+use Rattle.cert_text.specs.ProofText.{ProofText}
+use Rattle.cert_text.specs.CertificateText.{version_two_items, fits_two}
 use Rattle.certifier.specs.declared.rejected.Rejected.{Rejected}
 use Rattle.certifier.specs.declared.rejected.Rejected.TheVariants as why
-use Rattle.certifier.specs.Acceptance.{IsAcceptance, IsRejection}
+use Rattle.certifier.specs.Acceptance.{IsAcceptedAs, IsRejection}
 use Rattle.command_line.specs.Request.{Asked, certifies}
+use Rattle.command_line.specs.declared.Wanted.{Wanted}
+use Rattle.command_line.specs.declared.Wanted.TheVariants as want
 use Rattle.trsprove.specs.declared.status.Status.{Status}
 use Rattle.trsprove.specs.declared.status.Status.TheVariants as status
-use Rattle.trsprove.specs.Lines.{usage_line, accepted_line, rejected_line, refused_line, too_long_line, read_fault_line}
+use Rattle.trsprove.specs.Lines.{usage_line, accepted_line, rejected_line, too_heavy_line, refused_line, too_long_line, read_fault_line}
+use Rattle.trsprove.specs.LinePuts.{IsPutByLine, IsFrontPutByLine}
 
 -- the words as texts
 abbrev pub texts : List (Bor (List ℕ)) → List (List ℕ)
 texts words = map (λ w. w.now) words
 
--- the most bytes of a text
-abbrev pub most_bytes : ℕ
-most_bytes = 1048576
+-- the most bytes of a problem text, and of a certificate text
+abbrev pub most_problem_bytes : ℕ
+most_problem_bytes = 1048576
 
--- what is answered for a problem text and a certificate text: a status, and its line
-pub data Verdict (problem certificate : List ℕ) : Status → List ℕ → Type 0 where
+abbrev pub most_certificate_bytes : ℕ
+most_certificate_bytes = 8388608
+
+-- what is written of a certificate that is accepted, by what is wanted of it, with the status
+pub data IsWritten (named : NamedSystem) (says : ProofText) : Wanted → Status → List ℕ → Type 0 where
+  with_claim : IsWritten named says want.Claim status.Answered (accepted_line says.claim)
+  in_version_two : fits_two says ≡ true
+      → IsWritten named says want.VersionTwo status.Answered (lines (version_two_items named says))
+  too_heavy : fits_two says ≡ false → IsWritten named says want.VersionTwo status.Rejected too_heavy_line
+
+-- what is answered for a problem text and a certificate text, by what is wanted of a certificate that is accepted: a status,
+-- and the text that is written
+pub data Verdict (problem certificate : List ℕ) (wanted : Wanted) : Status → List ℕ → Type 0 where
   refused : (fault : AriFault) → IsProblemRefused problem fault → fault ≢ ari.OutOfMemory
-      → Verdict problem certificate status.Refused (refused_line fault)
+      → Verdict problem certificate wanted status.Refused (refused_line fault)
   rejected : (reason : Rejected) → IsRejection problem certificate reason
       → ((fault : AriFault) → reason ≢ why.Problem fault) → reason ≢ why.OutOfMemory
-      → Verdict problem certificate status.Rejected (rejected_line reason)
-  accepted : (claim : Claim) (named : NamedSystem) → IsAcceptance problem certificate claim named
-      → Verdict problem certificate status.Answered (accepted_line claim)
+      → Verdict problem certificate wanted status.Rejected (rejected_line reason)
+  accepted : {s : Status} {text : List ℕ} (named : NamedSystem) (says : ProofText)
+      → IsAcceptedAs problem certificate named says → IsWritten named says wanted s text
+      → Verdict problem certificate wanted s text
 
--- it is asked to certify the text under a name for the problem under another, and these are texts under them
-pub record AreFetched (request : Option Asked) (under : List ℕ → List ℕ → Type 0) (problem certificate : List ℕ) : Type 0 where
+-- it is asked to certify the text under a name for the problem under another, and to write what is wanted of it, and these
+-- are texts under them
+pub record AreFetched (request : Option Asked) (wanted : Wanted) (under : List ℕ → List ℕ → Type 0) (problem certificate : List ℕ) : Type 0 where
   pub problem_name : List ℕ
   pub certificate_name : List ℕ
-  pub asked : request ≡ Some (certifies problem_name certificate_name)
+  pub asked : request ≡ Some (certifies wanted problem_name certificate_name)
   pub problem_under : under problem_name problem
   pub certificate_under : under certificate_name certificate
-  pub problem_size : length problem ≤ most_bytes
-  pub certificate_size : length certificate ≤ most_bytes
+  pub problem_size : length problem ≤ most_problem_bytes
+  pub certificate_size : length certificate ≤ most_certificate_bytes
 
--- a text under a name is within the limit
-abbrev pub IsWithin : (List ℕ → List ℕ → Type 0) → List ℕ → Type 0
-IsWithin under name = (text : List ℕ) × under name text × (length text ≤ most_bytes)
+-- a text under a name is within a limit
+abbrev pub IsWithin : ℕ → (List ℕ → List ℕ → Type 0) → List ℕ → Type 0
+IsWithin limit under name = (text : List ℕ) × under name text × (length text ≤ limit)
 
 -- a text under a name is too long
-abbrev pub IsTooLong : (List ℕ → List ℕ → Type 0) → List ℕ → Type 0
-IsTooLong under name = (text : List ℕ) × under name text × (most_bytes < length text)
+abbrev pub IsTooLong : ℕ → (List ℕ → List ℕ → Type 0) → List ℕ → Type 0
+IsTooLong limit under name = (text : List ℕ) × under name text × (limit < length text)
 
--- the text under a name is needed: that of the problem, or that of the certificate once the problem's is fetched
-pub record IsNeeded (request : Option Asked) (is_fetched : List ℕ → Type 0) (name : List ℕ) : Type 0 where
-  pub problem_name : List ℕ
-  pub certificate_name : List ℕ
-  pub asked : request ≡ Some (certifies problem_name certificate_name)
-  pub which : (name ≡ problem_name) ⊎ ((name ≡ certificate_name) × is_fetched problem_name)
+-- the text under a name is needed, with so many bytes at most: that of the problem, or that of the certificate once the
+-- problem's is fetched
+pub data IsNeeded (request : Option Asked) (is_fetched : List ℕ → Type 0) : List ℕ → ℕ → Type 0 where
+  as_problem : (wanted : Wanted) (problem certificate : List ℕ) → request ≡ Some (certifies wanted problem certificate)
+      → IsNeeded request is_fetched problem most_problem_bytes
+  as_certificate : (wanted : Wanted) (problem certificate : List ℕ) → request ≡ Some (certifies wanted problem certificate)
+      → is_fetched problem → IsNeeded request is_fetched certificate most_certificate_bytes
 
--- the answer: a status, and its line
+-- the answer: a status, and the text that is written
 pub data Output (request : Option Asked) (under : List ℕ → List ℕ → Type 0) : Status → List ℕ → Type 0 where
   usage : request ≡ None → Output request under status.Usage usage_line
-  too_long : (name : List ℕ) → IsNeeded request (IsWithin under) name → IsTooLong under name
-      → Output request under status.TooLong (too_long_line name)
-  decided : {s : Status} {line : List ℕ} (problem certificate : List ℕ) → AreFetched request under problem certificate
-      → Verdict problem certificate s line → Output request under s line
+  too_long : (name : List ℕ) (limit : ℕ) → IsNeeded request (IsWithin most_problem_bytes under) name limit
+      → IsTooLong limit under name → Output request under status.TooLong (too_long_line name)
+  decided : {s : Status} {text : List ℕ} (wanted : Wanted) (problem certificate : List ℕ)
+      → AreFetched request wanted under problem certificate → Verdict problem certificate wanted s text
+      → Output request under s text
 
--- a text was fetched under a name: no fault came, and a text within the limit may stand there
+-- the text of the problem was fetched under a name: no fault came, and a text within the limit may stand there
 abbrev pub WasFetched : ShelfMeaning → ShelfMeaning → List ℕ → Type 0
-WasFetched before now name = (now.faults name ≡ before.faults name) × IsWithin (MayBe before) name
+WasFetched before now name = (now.faults name ≡ before.faults name) × IsWithin most_problem_bytes (MayBe before) name
 
--- a line with its status and its cause: the answer for the texts that may stand on the shelf, or what came there
-abbrev pub IsLine : Option Asked → ShelfMeaning → ShelfMeaning → Status → List ℕ → Type 0
-IsLine request before now status.ReadFault line = (name : List ℕ)
-    × IsNeeded request (WasFetched before now) name × FaultRose before now name × (line ≡ read_fault_line name)
-IsLine request before now status.TooLong line = (name : List ℕ)
-    × IsNeeded request (WasFetched before now) name × MayPass most_bytes before name
-    × ReadPast most_bytes before now name × (line ≡ too_long_line name)
-IsLine request before now status.WriteFault line = ⊥
-IsLine request before now status.OutOfMemory line = ⊥
-IsLine request before now s line = Output request (MayBe before) s line
+-- a text that is written, with its status and its cause: the answer for the texts that may stand on the shelf, or what came
+-- there
+abbrev pub IsAnswer : Option Asked → ShelfMeaning → ShelfMeaning → Status → List ℕ → Type 0
+IsAnswer request before now status.ReadFault text = (name : List ℕ) × (limit : ℕ)
+    × IsNeeded request (WasFetched before now) name limit × FaultRose before now name × (text ≡ read_fault_line name)
+IsAnswer request before now status.TooLong text = (name : List ℕ) × (limit : ℕ)
+    × IsNeeded request (WasFetched before now) name limit × MayPass limit before name
+    × ReadPast limit before now name × (text ≡ too_long_line name)
+IsAnswer request before now status.WriteFault text = ⊥
+IsAnswer request before now status.OutOfMemory text = ⊥
+IsAnswer request before now s text = Output request (MayBe before) s text
 
 -- a certificate was judged: it was accepted or rejected
 abbrev pub JudgesCertificate : Status → Type 0
 JudgesCertificate s = (s ≡ status.Answered) ⊎ (s ≡ status.Rejected)
 
--- what a status says of the bytes that the sink took: they are the line, or, where writing failed, a front of a line, which
--- was one put if it judges a certificate
+-- what a status says of the bytes that the sink took: they are the text, or, where writing failed, a front of a text; where
+-- it judges a certificate, each line is one put
 abbrev pub Writes : Option Asked → ShelfMeaning → ShelfMeaning → Status → SinkMeaning → SinkMeaning → Type 0
-Writes request before now status.WriteFault taken later = (s : Status) × (line : List ℕ)
-    × IsLine request before now s line × AppendsPrefix taken line later × (JudgesCertificate s → IsOnePut taken later)
+Writes request before now status.WriteFault taken later = (s : Status) × (text : List ℕ)
+    × IsAnswer request before now s text × AppendsPrefix taken text later
+    × (JudgesCertificate s → IsFrontPutByLine taken text later)
 Writes request before now status.OutOfMemory taken later = later ≡ taken
-Writes request before now s taken later = (line : List ℕ)
-    × IsLine request before now s line × AppendsTo taken line later
+Writes request before now s taken later = (text : List ℕ)
+    × IsAnswer request before now s text × AppendsTo taken text later
+    × (JudgesCertificate s → IsPutByLine taken text later)
+
+-- what is written of a certificate that is accepted
+abbrev pub accepted_text : Wanted → NamedSystem → ProofText → List ℕ
+accepted_text want.Claim named says = accepted_line says.claim
+accepted_text want.VersionTwo named says = lines (version_two_items named says)
 
 -- a certificate was accepted, and its claim is true of the system that the problem text says
 pub record IsTrueAnswer (request : Option Asked) (before : ShelfMeaning) (taken later : SinkMeaning) : Type 0 where
+  pub wanted : Wanted
   pub problem : List ℕ
   pub certificate : List ℕ
-  pub claim : Claim
   pub named : NamedSystem
-  pub fetched : AreFetched request (MayBe before) problem certificate
-  pub acceptance : IsAcceptance problem certificate claim named
-  pub truth : Says named.system claim
-  pub written : AppendsTo taken (accepted_line claim) later
+  pub says : ProofText
+  pub fetched : AreFetched request wanted (MayBe before) problem certificate
+  pub acceptance : IsAcceptedAs problem certificate named says
+  pub truth : Says named.system says.claim
+  pub written : AppendsTo taken (accepted_text wanted named says) later
 
 -- this status, unless a fault or want of memory came
 abbrev pub IsOr : Status → Status → Type 0
@@ -116,12 +145,12 @@ IsOr wanted s = s ≡ wanted
 
 -- where the texts that the shelf tells have an answer, the status is that of the answer, faults and want of memory aside
 abbrev pub AnswersOnly : Option Asked → ShelfMeaning → Status → Type 0
-AnswersOnly request shelf s = (wanted : Status) (line : List ℕ) → Output request (Told shelf) wanted line → IsOr wanted s
+AnswersOnly request shelf s = (wanted : Status) (text : List ℕ) → Output request (Told shelf) wanted text → IsOr wanted s
 
 -- nothing is counted under a name, unless its text is needed
 abbrev pub TouchesOnlyNeeded : Option Asked → ShelfMeaning → ShelfMeaning → Type 0
 TouchesOnlyNeeded request before now =
-    (name : List ℕ) → IsUntouched before now name ⊎ IsNeeded request (WasFetched before now) name
+    (name : List ℕ) → IsUntouched before now name ⊎ ((limit : ℕ) × IsNeeded request (WasFetched before now) name limit)
 
 abbrev pub code_of : Status → ℕ
 code_of status.Answered = 0

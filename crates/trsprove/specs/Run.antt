@@ -6,16 +6,15 @@ use Rattle.std.specs.declared.vec.IntoIter.{IntoIter}
 use Rattle.std.specs.Vec.Iter.{into_iter_items}
 use Rattle.io_edge.specs.Edge.{Rose}
 use Rattle.io_edge.specs.Shelf.{ShelfMeaning}
-use Rattle.io_edge.specs.Sink.{SinkMeaning, IsOnePut}
+use Rattle.io_edge.specs.Sink.{SinkMeaning}
 use Rattle.command_line.specs.Request.{Asked, request_of}
 use Rattle.trsprove.specs.declared.status.Status.{Status}
 use Rattle.trsprove.specs.declared.status.Status.TheVariants as status
-use Rattle.trsprove.specs.Output.{Writes, JudgesCertificate, AnswersOnly, IsTrueAnswer, TouchesOnlyNeeded, code_of}
+use Rattle.trsprove.specs.Output.{Writes, AnswersOnly, IsTrueAnswer, TouchesOnlyNeeded, code_of}
 
 -- the clauses of `run`
 pub record IsRun (request : Option Asked) (before now : ShelfMeaning) (s : Status) (taken later : SinkMeaning) : Type 0 where
   pub output : Writes request before now s taken later
-  pub put : JudgesCertificate s → IsOnePut taken later
   pub write : s ≡ status.WriteFault → Rose taken.faults later.faults
   pub only : AnswersOnly request before s
   pub truth : s ≡ status.Answered → IsTrueAnswer request before taken later

@@ -1,25 +1,36 @@
-ghost use Rattle.std.specs.Prelude.{◌≡◌, ◌≤◌, Some, IfOk, length};
+ghost use Rattle.std.specs.Prelude.{◌≡◌, ◌≤◌, true, Some, IfOk, length, All};
+ghost use Rattle.step_text.specs.Ranges.{IsPrintable};
+ghost use Rattle.cert_text.specs.ProofText.{proof_text_of};
+ghost use Rattle.cert_text.specs.CertificateText.{fits_two};
 ghost use Rattle.command_line.specs.Request.{request_of, certifies};
-ghost use Rattle.trsprove.specs.Output.{texts, Verdict, IsLine, AnswersOnly, TouchesOnlyNeeded, most_bytes};
-ghost use Rattle.trsprove.specs.Answers.{IsUnfetched, status_of, line_of};
+ghost use Rattle.trsprove.specs.Output.{texts, Verdict, IsWritten, IsAnswer, AnswersOnly, TouchesOnlyNeeded, most_problem_bytes, most_certificate_bytes};
+ghost use Rattle.trsprove.specs.Answers.{IsUnfetched, status_of, text_of};
 
 use crate::lines::rejected_line;
 use crate::status::Status;
 use ari_text::AriFault;
-use certifier::{Claim, Rejected, certify};
-use command_line::{Refused, Request, parse};
+use cert_text::{fits_version_two, print_version_two};
+use certifier::{AcceptedProof, Claim, Rejected, accepted_proof};
+use command_line::{Refused, Request, Wanted, parse};
 use io_edge::{FetchFault, Shelf};
 use std::alloc::{AllocError, Global};
 
-/// The most bytes of a text.
-const MOST_BYTES: u64 = 1_048_576;
+/// The most bytes of a problem text.
+const MOST_PROBLEM_BYTES: u64 = 1_048_576;
+
+/// The most bytes of a certificate text.
+const MOST_CERTIFICATE_BYTES: u64 = 8_388_608;
 
 /// What is to be written.
 #[derive(Drop)]
 pub(crate) enum Answer<'a> {
     Accepted(Claim),
+    /// The text of an accepted certificate in version 2.
+    Upgraded(Vec<u8>),
     /// The line of a rejection.
     Rejected(Vec<u8>),
+    /// An accepted certificate weighs too much in version 2.
+    TooHeavy,
     Usage,
     Refused(AriFault),
     /// A text could not be fetched: its name.
@@ -33,8 +44,8 @@ impl<'a> Answer<'a> {
         ensures { result ≡ status_of self.now }
     {
         match self {
-            Answer::Accepted(_) => Status::Answered,
-            Answer::Rejected(_) => Status::Rejected,
+            Answer::Accepted(_) | Answer::Upgraded(_) => Status::Answered,
+            Answer::Rejected(_) | Answer::TooHeavy => Status::Rejected,
             Answer::Usage => Status::Usage,
             Answer::Refused(_) => Status::Refused,
             Answer::ReadFault(_) => Status::ReadFault,
@@ -49,8 +60,8 @@ pub(crate) fn answer_for<'a, S: Shelf>(
     words: &'a [&'a str],
     shelf: &mut S,
 ) -> Result<Answer<'a>, AllocError>
-    ensures line { IfOk result (λ a. IsLine (request_of (texts words.now))
-        (S.means shelf.old) (S.means shelf.new) (status_of a) (line_of a)) }
+    ensures answer { IfOk result (λ a. IsAnswer (request_of (texts words.now))
+        (S.means shelf.old) (S.means shelf.new) (status_of a) (text_of a)) }
     ensures only { IfOk result (λ a.
         AnswersOnly (request_of (texts words.now)) (S.means shelf.old) (status_of a)) }
     ensures untouched { TouchesOnlyNeeded (request_of (texts words.now))
@@ -59,10 +70,11 @@ pub(crate) fn answer_for<'a, S: Shelf>(
     match parse(alloc, words) {
         Ok(
             Request::Certify {
+                wanted,
                 problem,
                 certificate,
             },
-        ) => certified(alloc, shelf, problem, certificate),
+        ) => certified(alloc, shelf, wanted, problem, certificate),
         Err(Refused::Usage) => Ok(Answer::Usage),
         Err(Refused::OutOfMemory) => Err(AllocError),
     }
@@ -72,20 +84,22 @@ pub(crate) fn answer_for<'a, S: Shelf>(
 fn certified<'a, S: Shelf>(
     alloc: Global,
     shelf: &mut S,
+    wanted: Wanted,
     problem: &'a str,
     certificate: &'a str,
 ) -> Result<Answer<'a>, AllocError>
-    ensures line { IfOk result (λ a. IsLine (Some (certifies problem.now certificate.now))
-        (S.means shelf.old) (S.means shelf.new) (status_of a) (line_of a)) }
+    ensures answer { IfOk result (λ a. IsAnswer
+        (Some (certifies wanted problem.now certificate.now))
+        (S.means shelf.old) (S.means shelf.new) (status_of a) (text_of a)) }
     ensures only { IfOk result (λ a.
-        AnswersOnly (Some (certifies problem.now certificate.now)) (S.means shelf.old)
+        AnswersOnly (Some (certifies wanted problem.now certificate.now)) (S.means shelf.old)
         (status_of a)) }
-    ensures untouched { TouchesOnlyNeeded (Some (certifies problem.now certificate.now))
+    ensures untouched { TouchesOnlyNeeded (Some (certifies wanted problem.now certificate.now))
         (S.means shelf.old) (S.means shelf.new) }
 {
-    match shelf.fetch(problem, MOST_BYTES) {
-        Ok(problem_text) => match shelf.fetch(certificate, MOST_BYTES) {
-            Ok(certificate_text) => decided(alloc, &problem_text, &certificate_text),
+    match shelf.fetch(problem, MOST_PROBLEM_BYTES) {
+        Ok(problem_text) => match shelf.fetch(certificate, MOST_CERTIFICATE_BYTES) {
+            Ok(certificate_text) => decided(alloc, wanted, &problem_text, &certificate_text),
             Err(fault) => unfetched(certificate, fault),
         },
         Err(fault) => unfetched(problem, fault),
@@ -94,7 +108,7 @@ fn certified<'a, S: Shelf>(
 
 // The answer where the text under a name could not be fetched.
 fn unfetched<'a>(name: &'a str, fault: FetchFault) -> Result<Answer<'a>, AllocError>
-    ensures { IfOk result (λ a. IsUnfetched fault name.now (status_of a) (line_of a)) }
+    ensures { IfOk result (λ a. IsUnfetched fault name.now (status_of a) (text_of a)) }
 {
     match fault {
         FetchFault::TooLong => Ok(Answer::TooLong(name)),
@@ -104,15 +118,66 @@ fn unfetched<'a>(name: &'a str, fault: FetchFault) -> Result<Answer<'a>, AllocEr
 }
 
 // The answer for two texts.
-fn decided<'a>(alloc: Global, problem: &[u8], certificate: &[u8]) -> Result<Answer<'a>, AllocError>
-    requires problem { length problem.now ≤ most_bytes }
-    requires certificate { length certificate.now ≤ most_bytes }
-    ensures { IfOk result (λ a. Verdict problem.now certificate.now (status_of a) (line_of a)) }
+fn decided<'a>(
+    alloc: Global,
+    wanted: Wanted,
+    problem: &[u8],
+    certificate: &[u8],
+) -> Result<Answer<'a>, AllocError>
+    requires problem { length problem.now ≤ most_problem_bytes }
+    requires certificate { length certificate.now ≤ most_certificate_bytes }
+    ensures { IfOk result (λ a.
+        Verdict problem.now certificate.now wanted (status_of a) (text_of a)) }
 {
-    match certify(alloc, problem, certificate) {
-        Ok(accepted) => Ok(Answer::Accepted(accepted.claim)),
+    match accepted_proof(alloc, problem, certificate) {
+        Ok(proof) => written(alloc, wanted, &proof),
         Err(Rejected::Problem(fault)) => Ok(Answer::Refused(fault)),
         Err(Rejected::OutOfMemory) => Err(AllocError),
         Err(rejected) => Ok(Answer::Rejected(rejected_line(alloc, &rejected)?)),
+    }
+}
+
+// What is written of a proof that is accepted.
+fn written<'a>(
+    alloc: Global,
+    wanted: Wanted,
+    proof: &AcceptedProof,
+) -> Result<Answer<'a>, AllocError>
+    requires printable { All (IsPrintable proof.now.system.system)
+        (proof_text_of proof.now.certificate).steps }
+    ensures { IfOk result (λ a. IsWritten proof.now.system
+        (proof_text_of proof.now.certificate) wanted (status_of a) (text_of a)) }
+{
+    match wanted {
+        Wanted::Claim => Ok(Answer::Accepted(proof.certificate.claim)),
+        Wanted::VersionTwo => upgraded(alloc, proof),
+    }
+}
+
+// A proof that is accepted, in version 2.
+fn upgraded<'a>(alloc: Global, proof: &AcceptedProof) -> Result<Answer<'a>, AllocError>
+    requires printable { All (IsPrintable proof.now.system.system)
+        (proof_text_of proof.now.certificate).steps }
+    ensures { IfOk result (λ a. IsWritten proof.now.system
+        (proof_text_of proof.now.certificate) Wanted.VersionTwo (status_of a) (text_of a)) }
+{
+    match fits_version_two(alloc, &proof.certificate) {
+        Ok(true) => printed(alloc, proof),
+        Ok(false) => Ok(Answer::TooHeavy),
+        Err(_) => Err(AllocError),
+    }
+}
+
+// The text in version 2 of a proof that fits it.
+fn printed<'a>(alloc: Global, proof: &AcceptedProof) -> Result<Answer<'a>, AllocError>
+    requires printable { All (IsPrintable proof.now.system.system)
+        (proof_text_of proof.now.certificate).steps }
+    requires fits { fits_two (proof_text_of proof.now.certificate) ≡ true }
+    ensures { IfOk result (λ a. IsWritten proof.now.system
+        (proof_text_of proof.now.certificate) Wanted.VersionTwo (status_of a) (text_of a)) }
+{
+    match print_version_two(alloc, &proof.system, &proof.certificate) {
+        Ok(text) => Ok(Answer::Upgraded(text)),
+        Err(_) => Err(AllocError),
     }
 }

@@ -1,6 +1,7 @@
 ghost use Rattle.std.specs.Prelude.{◌++◌, ◌∷◌, [], decimal};
 ghost use Rattle.io_edge.specs.Sink.{SinkMeaning, IsOnePut};
-ghost use Rattle.trsprove.specs.Puts.{Puts};
+ghost use Rattle.trsprove.specs.Puts.{Puts, PutsLines};
+ghost use Rattle.trsprove.specs.LinePuts.{EndsLine};
 ghost use Rattle.trsprove.specs.Numbers.{fields_text};
 
 use io_edge::{Sink, SinkFailed};
@@ -12,6 +13,22 @@ pub(crate) fn put_one<K: Sink>(out: &mut K, piece: &[u8]) -> Result<(), SinkFail
     ensures put { IsOnePut (K.means out.old) (K.means out.new) }
 {
     out.put(piece)
+}
+
+/// Puts the lines of a text, one after the other.
+pub(crate) fn put_lines<K: Sink>(out: &mut K, text: &[u8]) -> Result<(), SinkFailed>
+    requires { EndsLine text.now }
+    ensures puts { Puts result (K.means out.old) text.now (K.means out.new) }
+    ensures lines { PutsLines result (K.means out.old) text.now (K.means out.new) }
+{
+    let mut start = 0;
+    for (i, byte) in text.iter().enumerate() {
+        if *byte == b'\n' {
+            put_one(out, &text[start..i + 1])?;
+            start = i + 1;
+        }
+    }
+    Ok(())
 }
 
 // Puts two pieces, one behind the other.

@@ -1,14 +1,15 @@
 ghost use Rattle.std.specs.Prelude.{◌≡◌, ◌++◌, ◌∷◌, []};
-ghost use Rattle.io_edge.specs.Sink.{SinkMeaning, IsOnePut};
-ghost use Rattle.trsprove.specs.Puts.{Puts};
+ghost use Rattle.io_edge.specs.Sink.{SinkMeaning};
+ghost use Rattle.trsprove.specs.Puts.{Puts, PutsLines};
+ghost use Rattle.trsprove.specs.LinePuts.{EndsLine};
 ghost use Rattle.trsprove.specs.Numbers.{fields_text};
 ghost use Rattle.trsprove.specs.Lines.{problem_fields, refused_line};
 ghost use Rattle.trsprove.specs.Output.{JudgesCertificate};
-ghost use Rattle.trsprove.specs.Answers.{status_of, line_of};
+ghost use Rattle.trsprove.specs.Answers.{status_of, text_of};
 
 use crate::answer::Answer;
 use crate::lines::accepted_line;
-use crate::pieces::{put_fields, put_line, put_one};
+use crate::pieces::{put_fields, put_line, put_lines, put_one};
 use ari_text::AriFault;
 use io_edge::{Sink, SinkFailed};
 
@@ -16,15 +17,21 @@ use io_edge::{Sink, SinkFailed};
 const USAGE: &[u8] =
     b"usage: trsprove <action> <problem> [certificate] [--workers N] [--budget B]\n";
 
-/// Puts the line of an answer.
+/// The line of a certificate that weighs too much in version 2.
+const TOO_HEAVY: &[u8] = b"REJECTED too-heavy\n";
+
+/// Puts the text of an answer.
 pub(crate) fn put_answer<K: Sink>(answer: &Answer<'_>, out: &mut K) -> Result<(), SinkFailed>
-    ensures puts { Puts result (K.means out.old) (line_of answer.now) (K.means out.new) }
-    ensures put { JudgesCertificate (status_of answer.now) →
-        IsOnePut (K.means out.old) (K.means out.new) }
+    requires { JudgesCertificate (status_of answer.now) → EndsLine (text_of answer.now) }
+    ensures puts { Puts result (K.means out.old) (text_of answer.now) (K.means out.new) }
+    ensures lines { JudgesCertificate (status_of answer.now) →
+        PutsLines result (K.means out.old) (text_of answer.now) (K.means out.new) }
 {
     match answer {
-        Answer::Accepted(claim) => put_one(out, accepted_line(*claim)),
-        Answer::Rejected(line) => put_one(out, line),
+        Answer::Accepted(claim) => put_lines(out, accepted_line(*claim)),
+        Answer::Upgraded(text) => put_lines(out, text),
+        Answer::Rejected(line) => put_lines(out, line),
+        Answer::TooHeavy => put_lines(out, TOO_HEAVY),
         Answer::Usage => put_one(out, USAGE),
         Answer::Refused(fault) => put_refused(out, fault),
         Answer::ReadFault(name) => put_line(out, b"read fault ", name),

@@ -1,8 +1,7 @@
 ghost use Rattle.std.specs.Prelude.{◌≡◌};
 ghost use Rattle.io_edge.specs.Edge.{Rose};
-ghost use Rattle.io_edge.specs.Sink.{IsOnePut};
 ghost use Rattle.command_line.specs.Request.{request_of};
-ghost use Rattle.trsprove.specs.Output.{texts, Writes, JudgesCertificate, AnswersOnly, IsTrueAnswer, TouchesOnlyNeeded};
+ghost use Rattle.trsprove.specs.Output.{texts, Writes, AnswersOnly, IsTrueAnswer, TouchesOnlyNeeded};
 
 use crate::answer::answer_for;
 use crate::report::put_answer;
@@ -10,14 +9,13 @@ use crate::status::Status;
 use io_edge::{Shelf, Sink, SinkFailed};
 use std::alloc::Global;
 
-/// Runs the program: reads what the words ask for, fetches the texts, and writes one line. The
+/// Runs the program: reads what the words ask for, fetches the texts, and writes the answer. The
 /// words are those of the command line, without the program's name.
 pub fn run<S: Shelf, K: Sink>(alloc: Global, words: &[&str], shelf: &mut S, out: &mut K) -> Status
-    // The line that is written is the defined answer of the words and the texts, or names a fault
-    // that came.
+    // The text that is written is the defined answer of the words and the texts, or names a fault
+    // that came. Where a certificate is judged, each line is one put.
     ensures output { Writes (request_of (texts words.now)) (S.means shelf.old) (S.means shelf.new)
         result (K.means out.old) (K.means out.new) }
-    ensures put { JudgesCertificate result → IsOnePut (K.means out.old) (K.means out.new) }
     ensures write { result ≡ Status.WriteFault →
         Rose (K.means out.old).faults (K.means out.new).faults }
 

@@ -6,7 +6,7 @@ ghost use Rattle.trsprove.specs.Output.{code_of};
 pub enum Status {
     /// The defined answer was written.
     Answered,
-    /// The certificate was rejected.
+    /// The certificate was rejected, or weighs too much in version 2.
     Rejected,
     /// The words ask for nothing.
     Usage,
@@ -14,10 +14,10 @@ pub enum Status {
     Refused,
     /// A text could not be fetched.
     ReadFault,
-    /// A line could not be written whole.
+    /// A text could not be written whole.
     WriteFault,
     OutOfMemory,
-    /// A text has more than 1,048,576 bytes.
+    /// A problem text has more than 1,048,576 bytes, or a certificate text more than 8,388,608.
     TooLong,
 }
 

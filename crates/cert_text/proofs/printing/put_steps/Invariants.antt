@@ -10,8 +10,8 @@ use Rattle.cert_text.proofs.printing.put_steps.Given as goal
 abbrev pub invariant-loop-step : goal.invariant-loop-step
 invariant-loop-step l = record {
   text :
-      l.out.items ++ lines (items_of (map (step_item l.system) (map node_step_of (drop l.step-index l.steps))))
-      ≡ l.fn.out.items ++ lines (items_of (map (step_item l.system) (map node_step_of l.steps)));
+      l.out.items ++ lines (items_of (map (step_item l.system l.names) (map node_step_of (drop l.step-index l.steps))))
+      ≡ l.fn.out.items ++ lines (items_of (map (step_item l.system l.names) (map node_step_of l.steps)));
   range :
       AllByRecursion (λ s. HasNumbersInRange (step_of s.step)) (drop l.step-index l.steps)
       → AllByRecursion (λ s. HasNumbersInRange (step_of s.step)) l.steps;

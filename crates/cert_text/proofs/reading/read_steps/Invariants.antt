@@ -1,11 +1,12 @@
 use Rattle.std.proofs.Common.{◌≡◌, drop, map}
 use Rattle.sexp_core.specs.Items.{views}
 use Rattle.cert_step.specs.ProofStep.{node_step_of}
-use Rattle.text_reading.specs.Reading.{many}
-use Rattle.text_reading.specs.Seen.{seen, joined}
-use Rattle.step_text.specs.Steps.{step}
+use Rattle.path_text.specs.Paths.{in_turn}
+use Rattle.path_text.proofs.InTurn.{behind_values}
+use Rattle.step_text.specs.Steps.{step, paths_of_step}
 use Rattle.cert_text.proofs.reading.read_steps.Given as goal
 
 abbrev pub invariant-loop-item : goal.invariant-loop-item
 invariant-loop-item l =
-    joined (seen (λ v. map node_step_of v.items) l.steps) (many (step l.system) (views (drop l.item-index l.items))) ≡ many (step l.system) (views l.items)
+    behind_values (map node_step_of l.steps.items) (in_turn (step l.system) paths_of_step l.sharing (views (drop l.item-index l.items)))
+    ≡ in_turn (step l.system) paths_of_step l.initial.sharing (views l.items)

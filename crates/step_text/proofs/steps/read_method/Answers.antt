@@ -6,16 +6,18 @@ use Rattle.step_text.specs.MethodForms.{form_of}
 use Rattle.step_text.proofs.MethodSeen.{method_seen}
 use Rattle.step_text.proofs.steps.read_method.Goals as goal
 
-pub returns-in-Ok : goal.returns-in-Ok
-returns-in-Ok c =
+pub returns-in-Ok-clause-read : goal.returns-in-Ok-clause-read
+returns-in-Ok-clause-read c =
     let named = c.args.system.now in
+    let sharing = c.args.sharing.now in
     let shape = list_seen c.args.item.now c.in-List.members c.in-List.at c.deref.result.now _ c.in-List.is c.deref.ensures.value (ap views c.in-Some.ensures.cases.0) in
-    let finds = c.read_method_word.ensures named ∙ ap (seen (form_of named)) c.in-Ok.is in
-    rw (method_seen named _ _ _ _ _ shape finds) c.read_form.ensures
+    let finds = c.read_method_word.ensures named sharing ∙ ap (seen (form_of named sharing)) c.in-Ok.is in
+    rw (method_seen named sharing _ _ _ _ _ shape finds) c.read_form.ensures.read
 
-pub returns-in-Err : goal.returns-in-Err
-returns-in-Err c =
+pub returns-in-Err-clause-read : goal.returns-in-Err-clause-read
+returns-in-Err-clause-read c =
     let named = c.args.system.now in
+    let sharing = c.args.sharing.now in
     let shape = list_seen c.args.item.now c.in-List.members c.in-List.at c.deref.result.now _ c.in-List.is c.deref.ensures.value (ap views c.in-Some.ensures.cases.0) in
-    let finds = c.read_method_word.ensures named ∙ ap (seen (form_of named)) c.in-Err.is in
-    sym (method_seen named _ _ _ _ _ shape finds)
+    let finds = c.read_method_word.ensures named sharing ∙ ap (seen (form_of named sharing)) c.in-Err.is in
+    sym (method_seen named sharing _ _ _ _ _ shape finds)

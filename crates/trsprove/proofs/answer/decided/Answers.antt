@@ -1,20 +1,29 @@
 use Rattle.std.proofs.Common.{sym, subst, rules}
+use Rattle.cert_text.specs.ProofText.{proof_text_of}
 use Rattle.certifier.specs.Acceptance.{IsRejection}
 use Rattle.certifier.specs.declared.rejected.Rejected.TheVariants as why
 use Rattle.trsprove.specs.declared.status.Status.TheVariants as status
-use Rattle.trsprove.specs.Output.{Verdict, accepted, refused, rejected}
+use Rattle.trsprove.specs.Lines.{refused_line}
+use Rattle.trsprove.specs.Output.{Verdict, IsWritten, accepted, refused, rejected}
+use Rattle.trsprove.specs.Answers.{status_of, text_of}
+use Rattle.trsprove.proofs.Fetching.{for_ok}
 use Rattle.trsprove.proofs.answer.decided.Goals as goal
 
 pub returns-in-Ok : goal.returns-in-Ok
-returns-in-Ok c = accepted c.in-Ok.accepted.claim c.in-Ok.accepted.system c.in-Ok.ensures.accepted
+returns-in-Ok c =
+    let named = c.in-Ok.proof.system in
+    let says = proof_text_of c.in-Ok.proof.certificate in
+    for_ok (λ a. IsWritten named says c.args.wanted (status_of a) (text_of a)) (λ a. Verdict c.args.problem.now c.args.certificate.now c.args.wanted (status_of a) (text_of a))
+    c.written.result (λ a. accepted named says c.in-Ok.ensures.accepted) c.written.ensures
 
 pub returns-in-Err-Problem : goal.returns-in-Err-Problem
 returns-in-Err-Problem c =
     let rejection : IsRejection c.args.problem.now c.args.certificate.now (why.Problem c.in-Err-Problem.fault) =
     subst (IsRejection c.args.problem.now c.args.certificate.now) c.in-Err-Problem.field-0-is c.in-Err-Problem.ensures.rejected in
-    refused c.in-Err-Problem.fault rejection.0 rejection.1
+    subst (λ f. Verdict c.args.problem.now c.args.certificate.now c.args.wanted status.Refused (refused_line f)) (sym c.in-Err-Problem.fault-is)
+    (refused c.in-Err-Problem.fault rejection.0 rejection.1)
 
 pub returns-in_ok-rejected_line-in-Err : goal.returns-in_ok-rejected_line-in-Err
 returns-in_ok-rejected_line-in-Err c =
-    subst (Verdict c.args.problem.now c.args.certificate.now status.Rejected) (sym c.in_ok-rejected_line-in-Err.ensures)
+    subst (Verdict c.args.problem.now c.args.certificate.now c.args.wanted status.Rejected) (sym c.in_ok-rejected_line-in-Err.ensures)
     (rejected c.in-Err.rejected c.in-Err.ensures.rejected (search rules) (search rules))

@@ -9,7 +9,6 @@ returns-in-Err-2 g c =
     (subst (λ r. IsRun r (g.S.Shelf.means c.args.shelf.now) (g.S.Shelf.means c.run.new.shelf) c.run.result (g.K.Sink.means c.args.out.now) (g.K.Sink.means c.run.new.out)) nothing_asked
     (record {
       output = c.run.ensures.output;
-      put = c.run.ensures.put;
       write = c.run.ensures.write;
       only = c.run.ensures.only;
       truth = c.run.ensures.truth;

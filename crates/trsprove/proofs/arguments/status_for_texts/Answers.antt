@@ -19,7 +19,6 @@ returns-in-Ok-words_of g c =
     subst (λ w. IsRun (request_of w) (g.S.Shelf.means c.args.shelf.now) (g.S.Shelf.means c.run.new.shelf) c.run.result (g.K.Sink.means c.args.out.now) (g.K.Sink.means c.run.new.out)) words
     (record {
       output = c.run.ensures.output;
-      put = c.run.ensures.put;
       write = c.run.ensures.write;
       only = c.run.ensures.only;
       truth = c.run.ensures.truth;

@@ -1,9 +1,28 @@
-use Rattle.std.proofs.Common.{sym, ◌∙◌}
-use Rattle.trsprove.specs.Answers.{status_of, line_of}
-use Rattle.trsprove.proofs.Running.{answered_truly}
+use Rattle.std.proofs.Common.{sym, ◌∙◌, subst}
+use Rattle.command_line.specs.Request.{request_of}
+use Rattle.trsprove.specs.Output.{texts, Writes}
+use Rattle.trsprove.specs.Answers.{status_of, text_of}
+use Rattle.trsprove.proofs.Running.{answer_ends, whole_text, answered_truly}
 use Rattle.trsprove.proofs.run.run.Goals as goal
+
+pub put_answer-requires : goal.put_answer-requires
+put_answer-requires g c =
+    answer_ends (request_of (texts c.args.words.now)) (g.S.Shelf.means c.args.shelf.now) (g.S.Shelf.means c.answer_for.new.shelf) (status_of c.in-Ok.answer)
+    (text_of c.in-Ok.answer) c.in-Ok.ensures.answer
+
+pub returns-in-Ok-put_answer-clause-output : goal.returns-in-Ok-put_answer-clause-output
+returns-in-Ok-put_answer-clause-output g c =
+    let request = request_of (texts c.args.words.now) in
+    let before = g.S.Shelf.means c.args.shelf.now in
+    let now = g.S.Shelf.means c.answer_for.new.shelf in
+    let taken = g.K.Sink.means c.args.out.now in
+    let later = g.K.Sink.means c.put_answer.new.out in
+    subst (λ s. Writes request before now s taken later) (sym c.status.ensures)
+    (whole_text request before now taken later (status_of c.in-Ok.answer) (text_of c.in-Ok.answer) c.in-Ok.ensures.answer c.in-Ok-put_answer.ensures.puts.0
+    c.in-Ok-put_answer.ensures.lines)
 
 pub returns-in-Ok-put_answer-clause-truth : goal.returns-in-Ok-put_answer-clause-truth
 returns-in-Ok-put_answer-clause-truth g c = λ e.
-    answered_truly _ (g.S.Shelf.means c.args.shelf.now) (g.S.Shelf.means c.answer_for.new.shelf) (g.K.Sink.means c.args.out.now) (g.K.Sink.means c.put_answer.new.out)
-    (status_of c.in-Ok.answer) (line_of c.in-Ok.answer) c.in-Ok.ensures.line c.in-Ok-put_answer.ensures.puts.0 (sym c.status.ensures ∙ e)
+    answered_truly (request_of (texts c.args.words.now)) (g.S.Shelf.means c.args.shelf.now) (g.S.Shelf.means c.answer_for.new.shelf) (g.K.Sink.means c.args.out.now)
+    (g.K.Sink.means c.put_answer.new.out) (status_of c.in-Ok.answer) (text_of c.in-Ok.answer) c.in-Ok.ensures.answer c.in-Ok-put_answer.ensures.puts.0
+    (sym c.status.ensures ∙ e)

@@ -1,0 +1,247 @@
+ghost use Rattle.std.specs.Prelude.{◌≡◌, ◌+◌, ◌++◌, ℕ, List, length, map, IfOk, OnOk};
+ghost use Rattle.sexp_core.specs.Items.{view, views};
+ghost use Rattle.trs_defs.specs.Path.{PlacedRule};
+ghost use Rattle.path_text.specs.ShiftedPath.{shifted_path};
+ghost use Rattle.text_reading.specs.Reading.{many, word};
+ghost use Rattle.text_reading.specs.Seen.{seen};
+ghost use Rattle.path_text.specs.Sharing.{path_weight};
+ghost use Rattle.path_text.specs.Paths.{use_list, use_part, path_part, path_of_parts, all_steps, begins_with as is_begun_with, is_word as is_the_word};
+ghost use Rattle.path_text.specs.Parts.{steps_of_part, room_left};
+
+use crate::reading::{read_placed_rule, read_position};
+use crate::sharing::{DefinedPath, Definitions};
+use crate::shifting::push_shifted;
+use rewrite_core::PathStep;
+use sexp_core::Sexp;
+use std::alloc::Global;
+use text_reading::{Read, both, ended, keyword, place, pushed};
+use trs_core::{OutOfMemory, Position};
+
+/// A part of a path in a text of version 2.
+#[derive(Drop)]
+pub enum PathPart<'d> {
+    Step(PathStep),
+    /// The path of a word, at a position.
+    Use(Position, &'d DefinedPath),
+}
+
+/// The parts of `(path part ..)`.
+pub fn read_parts_of_path<'d>(
+    alloc: Global,
+    definitions: &'d Definitions,
+    item: &Sexp,
+) -> Result<Read<Vec<PathPart<'d>>>, OutOfMemory>
+    ensures { IfOk result (λ r. seen (λ v. all_steps (map steps_of_part v.items)) r
+        ≡ path_of_parts definitions.now (view item.now)) }
+{
+    let Sexp::List(members, at) = item else {
+        return Ok(Err(place(item)));
+    };
+    let Some((head, parts)) = members.split_first() else {
+        return Ok(Err(*at));
+    };
+    let head = keyword(b"path", head);
+    let parts = read_parts(alloc, definitions, parts)?;
+    match both(head, parts) {
+        Ok(((), parts)) => Ok(Ok(parts)),
+        Err(at) => Ok(Err(at)),
+    }
+}
+
+fn read_parts<'d>(
+    alloc: Global,
+    definitions: &'d Definitions,
+    items: &[Sexp],
+) -> Result<Read<Vec<PathPart<'d>>>, OutOfMemory>
+    ensures { IfOk result (λ r. seen (λ v. map steps_of_part v.items) r
+        ≡ many (path_part definitions.now) (views items.now)) }
+{
+    let mut parts = Ok(Vec::with_capacity(alloc, items.len())?);
+    for item in items {
+        parts = pushed(parts, read_part(alloc, definitions, item)?)?;
+    }
+    Ok(parts)
+}
+
+/// A part of a path: `(use position word)` where it begins so, else `(at position number)`.
+fn read_part<'d>(
+    alloc: Global,
+    definitions: &'d Definitions,
+    item: &Sexp,
+) -> Result<Read<PathPart<'d>>, OutOfMemory>
+    ensures { IfOk result (λ r.
+        seen steps_of_part r ≡ path_part definitions.now (view item.now)) }
+{
+    if begins_with(b"use", item) {
+        return read_use(alloc, definitions, item);
+    }
+    match read_placed_rule(alloc, item)? {
+        Ok(step) => Ok(Ok(PathPart::Step(step))),
+        Err(at) => Ok(Err(at)),
+    }
+}
+
+/// `(use position word)`.
+fn read_use<'d>(
+    alloc: Global,
+    definitions: &'d Definitions,
+    item: &Sexp,
+) -> Result<Read<PathPart<'d>>, OutOfMemory>
+    ensures { IfOk result (λ r. seen steps_of_part r ≡ use_part definitions.now (view item.now)) }
+{
+    match read_use_list(alloc, definitions, item)? {
+        Ok((position, path)) => {
+            if path.is_too_deep_at(&position) {
+                Ok(Err(place(item)))
+            } else {
+                Ok(Ok(PathPart::Use(position, path)))
+            }
+        }
+        Err(at) => Ok(Err(at)),
+    }
+}
+
+/// The position and the path of `(use position word)`.
+fn read_use_list<'d>(
+    alloc: Global,
+    definitions: &'d Definitions,
+    item: &Sexp,
+) -> Result<Read<(Position, &'d DefinedPath)>, OutOfMemory>
+    ensures { IfOk result (λ r.
+        seen {A = List ℕ × List PlacedRule} (λ p. (p.0, p.1.now)) r
+        ≡ use_list definitions.now (view item.now)) }
+{
+    let Sexp::List(members, at) = item else {
+        return Ok(Err(place(item)));
+    };
+    let [head, position, word, more @ ..] = members.as_slice() else {
+        return Ok(Err(*at));
+    };
+    let head = keyword(b"use", head);
+    let position = read_position(alloc, position)?;
+    let path = read_defined_word(definitions, word);
+    Ok(without_head(ended(both(both(head, position), path), more)))
+}
+
+fn without_head<'d>(
+    parts: Read<(((), Position), &'d DefinedPath)>,
+) -> Read<(Position, &'d DefinedPath)>
+    ensures { seen {A = List ℕ × List PlacedRule} (λ p. (p.0, p.1.now)) result
+        ≡ seen (λ p. (p.0.1, p.1.now)) parts.entry }
+{
+    match parts {
+        Ok((((), position), path)) => Ok((position, path)),
+        Err(at) => Err(at),
+    }
+}
+
+/// The path of a word that is defined.
+fn read_defined_word<'d>(definitions: &'d Definitions, item: &Sexp) -> Read<&'d DefinedPath>
+    ensures { seen (λ p. p.now) result ≡ word definitions.now (view item.now) }
+{
+    let Sexp::Word(word, at) = item else {
+        return Err(place(item));
+    };
+    match definitions.find(word) {
+        Some(path) => Ok(path),
+        None => Err(*at),
+    }
+}
+
+/// Whether an item is a list that begins with a word.
+pub fn begins_with(word: &[u8], item: &Sexp) -> bool
+    ensures { result ≡ is_begun_with word.now (view item.now) }
+{
+    match item {
+        Sexp::Word(_, _) => false,
+        Sexp::List(members, _) => match members.split_first() {
+            None => false,
+            Some((head, _)) => is_word(word, head),
+        },
+    }
+}
+
+fn is_word(word: &[u8], item: &Sexp) -> bool
+    ensures { result ≡ is_the_word word.now (view item.now) }
+{
+    match item {
+        Sexp::Word(found, _) => found.as_slice() == word,
+        Sexp::List(_, _) => false,
+    }
+}
+
+// ---- the steps of parts
+
+/// What is left of a weight behind the steps of parts; none where they weigh more.
+pub fn room_behind(room: u64, parts: &[PathPart<'_>]) -> Option<u64>
+    ensures { result ≡ room_left room (path_weight (all_steps (map steps_of_part parts.now))) }
+{
+    let mut room = room;
+    for part in parts {
+        let Some(left) = room_behind_part(room, part) else {
+            return None;
+        };
+        room = left;
+    }
+    Some(room)
+}
+
+fn room_behind_part(room: u64, part: &PathPart<'_>) -> Option<u64>
+    ensures { result ≡ room_left room (path_weight (steps_of_part part.now)) }
+{
+    match part {
+        PathPart::Step(step) => room_behind_step(room, 0, step),
+        PathPart::Use(by, path) => room_behind_steps(room, by.places().len(), path.steps()),
+    }
+}
+
+/// What is left of a weight behind the steps of a path at a position of so many numbers.
+pub fn room_behind_steps(room: u64, by: usize, steps: &[PathStep]) -> Option<u64>
+    ensures { (position : List ℕ) → length position ≡ by
+        → result ≡ room_left room (path_weight (shifted_path position steps.now)) }
+{
+    let mut room = room;
+    for step in steps {
+        let Some(left) = room_behind_step(room, by, step) else {
+            return None;
+        };
+        room = left;
+    }
+    Some(room)
+}
+
+/// What is left behind a step at a position of so many numbers.
+fn room_behind_step(room: u64, by: usize, step: &PathStep) -> Option<u64>
+    ensures { result ≡ room_left room (1 + (by + length step.now.place)) }
+{
+    let room = room.checked_sub(1)?;
+    let room = room.checked_sub(by as u64)?;
+    room.checked_sub(step.place.places().len() as u64)
+}
+
+/// The steps of parts, in order.
+pub fn steps_of_parts(alloc: Global, parts: &[PathPart<'_>]) -> Result<Vec<PathStep>, OutOfMemory>
+    ensures { IfOk result (λ steps. steps.items ≡ all_steps (map steps_of_part parts.now)) }
+{
+    let mut steps = Vec::with_capacity(alloc, parts.len())?;
+    for part in parts {
+        push_part(alloc, &mut steps, part)?;
+    }
+    Ok(steps)
+}
+
+fn push_part(
+    alloc: Global,
+    steps: &mut Vec<PathStep>,
+    part: &PathPart<'_>,
+) -> Result<(), OutOfMemory>
+    ensures { OnOk result (steps.new.items ≡ steps.old.items ++ steps_of_part part.now) }
+{
+    match part {
+        PathPart::Step(step) => {
+            steps.push(step.copy(alloc)?)?;
+            Ok(())
+        }
+        PathPart::Use(by, path) => push_shifted(alloc, steps, path.steps(), by),
+    }
+}
