@@ -9,7 +9,7 @@ use Rattle.sexp_core.specs.Tokens.{class_of, is_letter}
 use Rattle.sexp_core.specs.Printed.{IsWord, bare, placeless}
 use Rattle.text_reading.proofs.Words.{plain_word, decimal_word}
 use Rattle.trs_defs.specs.Path.{PlacedRule}
-use Rattle.path_text.specs.ShiftedPath.{shifted_path}
+use Rattle.rewrite_core.specs.ShiftedPath.{shifted_path}
 use Rattle.text_reading.specs.Reading.{Read, ◌<*>◌, Parts, place_of, done, part, keyword, many, rest, list, word, chosen}
 use Rattle.text_reading.specs.Printed.{word_item, list_item}
 use Rattle.text_reading.proofs.Again.{Spells, SpellsAll, SpellsParts, spells_done, spells_part, spells_rest, spells_list, spells_many, spells_keyword, spells_by}

@@ -3,7 +3,7 @@ use Rattle.std.proofs.Common.{◌≡◌, ℕ, ◌+◌, ◌-◌, ◌<◌, ◌≤�
 use native.Mathlib.Decide.{dec_lt}
 use Rattle.std.proofs.lemmas.Bool.{le-leb, lt-leb, lt-ltb, le-ltb}
 use Rattle.trs_defs.specs.Path.{PlacedRule}
-use Rattle.path_text.specs.ShiftedPath.{shifted_path}
+use Rattle.rewrite_core.specs.ShiftedPath.{shifted_path}
 use Rattle.path_text.specs.Sharing.{path_weight, longest_place}
 use Rattle.path_text.specs.Paths.{is_too_deep, all_steps}
 use Rattle.path_text.specs.declared.parts.PathPart.{PathPart}

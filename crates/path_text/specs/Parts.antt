@@ -1,7 +1,7 @@
 -- Parts of paths, as the code has them.
 use Rattle.std.specs.Prelude.{ℕ, ◌-◌, nat_le, List, [], ◌∷◌, Option, Some, None, if◌then◌else◌}
 use Rattle.trs_defs.specs.Path.{PlacedRule}
-use Rattle.path_text.specs.ShiftedPath.{shifted_path}
+use Rattle.rewrite_core.specs.ShiftedPath.{shifted_path}
 use Rattle.path_text.specs.declared.parts.PathPart.{PathPart}
 use Rattle.path_text.specs.declared.parts.PathPart.TheVariants.{Step, Use}
 

@@ -1,7 +1,7 @@
 ghost use Rattle.std.specs.Prelude.{◌≡◌, ◌+◌, ◌++◌, ℕ, List, length, map, IfOk, OnOk};
 ghost use Rattle.sexp_core.specs.Items.{view, views};
 ghost use Rattle.trs_defs.specs.Path.{PlacedRule};
-ghost use Rattle.path_text.specs.ShiftedPath.{shifted_path};
+ghost use Rattle.rewrite_core.specs.ShiftedPath.{shifted_path};
 ghost use Rattle.text_reading.specs.Reading.{many, word};
 ghost use Rattle.text_reading.specs.Seen.{seen};
 ghost use Rattle.path_text.specs.Sharing.{path_weight};
@@ -10,8 +10,7 @@ ghost use Rattle.path_text.specs.Parts.{steps_of_part, room_left};
 
 use crate::reading::{read_placed_rule, read_position};
 use crate::sharing::{DefinedPath, Definitions};
-use crate::shifting::push_shifted;
-use rewrite_core::PathStep;
+use rewrite_core::{PathStep, push_shifted};
 use sexp_core::Sexp;
 use std::alloc::Global;
 use text_reading::{Read, both, ended, keyword, place, pushed};

@@ -1,5 +1,5 @@
 use Rattle.std.proofs.Common.{◌≡◌, ℕ, List, length, drop}
-use Rattle.path_text.specs.ShiftedPath.{shifted_path}
+use Rattle.rewrite_core.specs.ShiftedPath.{shifted_path}
 use Rattle.path_text.specs.Sharing.{path_weight}
 use Rattle.path_text.specs.Parts.{room_left}
 use Rattle.path_text.proofs.parts.room_behind_steps.Given as goal

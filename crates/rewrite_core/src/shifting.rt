@@ -1,7 +1,7 @@
 ghost use Rattle.std.specs.Prelude.{◌≡◌, ◌++◌, All, ◌<◌, IfOk, OnOk};
-ghost use Rattle.path_text.specs.ShiftedPath.{shifted_step, shifted_path};
+ghost use Rattle.rewrite_core.specs.ShiftedPath.{shifted_step, shifted_path};
 
-use rewrite_core::PathStep;
+use crate::PathStep;
 use std::alloc::Global;
 use trs_core::{OutOfMemory, Position};
 

@@ -1,5 +1,5 @@
 use Rattle.std.proofs.Common.{◌≡◌, ◌++◌, drop}
-use Rattle.path_text.proofs.shifting.push_places.Given as goal
+use Rattle.rewrite_core.proofs.shifting.push_places.Given as goal
 
 abbrev pub invariant-loop-place : goal.invariant-loop-place
 invariant-loop-place l = l.position ++ drop l.place-index l.places ≡ l.initial.position ++ l.places
