@@ -7,5 +7,6 @@ use Rattle.order_find.specs.SubtermRow.{FindsSubterm}
 
 abbrev pub FoundPlacesApply : Type 0
 FoundPlacesApply =
-    (system : System) (numbers : List ℕ) (budget : ℕ) (projection : List (ℕ × ℕ)) → FindsSubterm system numbers budget projection
+    (system : System) (numbers : List ℕ) (budget : ℕ) (projection : List (ℕ × ℕ))
+    → FindsSubterm system numbers budget projection
     → (left : List ℕ) × subterm_conditions (dependency_pairs system.rules) projection numbers (Ok left)

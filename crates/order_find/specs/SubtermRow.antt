@@ -11,7 +11,8 @@ use Rattle.order_space.specs.Ascending.{AreAscending}
 use Rattle.order_find.specs.SubtermSpace.{subterm_search}
 
 -- of a problem, given by the numbers of its pairs, these are the pairs, and the roots of their sides
-pub record AreOfProblem (system : System) (numbers : List ℕ) (pairs : List DependencyPair) (roots : List ℕ) : Type 0 where
+pub record AreOfProblem (system : System) (numbers : List ℕ) (pairs : List DependencyPair) (roots : List ℕ)
+    : Type 0 where
   pub taken : ArePairsOf (dependency_pairs system.rules) numbers pairs
   pub are_roots : AreAscending (roots_of pairs) roots
 
@@ -22,7 +23,8 @@ places_of (f ∷ roots) [] = []
 places_of (f ∷ roots) (v ∷ values) = (f, v + 1) ∷ places_of roots values
 
 -- the places of the roots are those of the first solution, within the budget
-pub record ArePlaces (budget : ℕ) (arities roots : List ℕ) (pairs : List DependencyPair) (places : List (ℕ × ℕ)) : Type 0 where
+pub record ArePlaces (budget : ℕ) (arities roots : List ℕ) (pairs : List DependencyPair) (places : List (ℕ × ℕ))
+    : Type 0 where
   pub values : List ℕ
   pub first : IsFirst budget values (puzzle_of (subterm_search arities roots pairs))
   pub are : places ≡ places_of roots values

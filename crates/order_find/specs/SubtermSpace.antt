@@ -16,7 +16,9 @@ both_pass test None t = false
 -- the test of the arguments of both sides at the places of their marked symbols; a value v is the place v + 1
 abbrev pub passes : (Tree → Tree → Bool) → Table → DependencyPair → Bool
 passes test table p =
-    both_pass test (argument_at (plain p.from) (table p.from.symbol 0 + 1)) (argument_at (plain p.to) (table p.to.symbol 0 + 1))
+    both_pass test
+    (argument_at (plain p.from) (table p.from.symbol 0 + 1))
+    (argument_at (plain p.to) (table p.to.symbol 0 + 1))
 
 -- of a pair the right side projects to a subterm; of some pair to a proper one
 pub data SubtermConstraint : Type 0 where

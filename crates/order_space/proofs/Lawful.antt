@@ -45,14 +45,14 @@ same_from about k [] p q same f part here = refl
 same_from about k (s ∷ slots) p q same f part here =
     choose (s.symbol == f && s.part == part) _ _ _ _
     (λ e.
-        let first : get_or p (k + 0) 0 ≡ get_or q (k + 0) 0 = same 0 (omega arith) (subst (λ x. about x ≡ true) (sym (same_slot s f part e)) here) in
-        let at : k + 0 ≡ k = omega arith in
-        subst (λ (i : ℕ). get_or p i 0 ≡ get_or q i 0) at first)
+    let first : get_or p (k + 0) 0 ≡ get_or q (k + 0) 0 = same 0 (omega arith) (subst (λ x. about x ≡ true) (sym (same_slot s f part e)) here) in
+    let at : k + 0 ≡ k = omega arith in
+    subst (λ (i : ℕ). get_or p i 0 ≡ get_or q i 0) at first)
     (same_from about (suc k) slots p q
     (λ i below uses.
-        let next : get_or p (k + suc i) 0 ≡ get_or q (k + suc i) 0 = same (suc i) (omega (arith, below)) uses in
-        let at : k + suc i ≡ suc k + i = omega arith in
-        subst (λ (j : ℕ). get_or p j 0 ≡ get_or q j 0) at next)
+    let next : get_or p (k + suc i) 0 ≡ get_or q (k + suc i) 0 = same (suc i) (omega (arith, below)) uses in
+    let at : k + suc i ≡ suc k + i = omega arith in
+    subst (λ (j : ℕ). get_or p j 0 ≡ get_or q j 0) at next)
     f part here)
 
 module _ {C : Type 0} (sought : Search C) (depends : DependsOnSlots sought) where
@@ -63,10 +63,10 @@ module _ {C : Type 0} (sought : Search C) (depends : DependsOnSlots sought) wher
   same_truth (d ∷ ds) zero p q same =
       depends.each d (table_of sought.slots p) (table_of sought.slots q)
       (λ f part here. same_from (sought.is_about d) 0 sought.slots p q
-          (λ s below uses.
-              let at : s ≡ 0 + s = omega arith in
-              subst (λ (i : ℕ). get_or p i 0 ≡ get_or q i 0) at (same s below uses))
-          f part here)
+      (λ s below uses.
+      let at : s ≡ 0 + s = omega arith in
+      subst (λ (i : ℕ). get_or p i 0 ≡ get_or q i 0) at (same s below uses))
+      f part here)
   same_truth (d ∷ ds) (suc c) p q same = same_truth ds c p q same
 
   pub lawful_of : IsLawful (puzzle_of sought)
