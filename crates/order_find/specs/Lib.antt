@@ -1,0 +1,5 @@
+pub mod Subterms
+pub mod SubtermSpace
+pub mod SubtermRow
+pub mod Laws
+pub mod SubtermLawful

@@ -1,0 +1,110 @@
+//! The strategy subterm.
+ghost use Rattle.std.specs.Prelude.{◌≡◌, ◌<◌, ◌≤◌, ◌+◌, ◌^◌, ℕ, All, IfOk, Some, length, slice_get};
+ghost use Rattle.std.specs.List.Sorted.{IsStrictlyIncreasing};
+ghost use Rattle.pair_theory.specs.DependencyPair.{dependency_pairs};
+ghost use Rattle.dp_core.specs.PlacedPairs.{placed_pairs};
+ghost use Rattle.order_space.specs.Outcome.{IsFinding, IsNotThere, IsSpent};
+ghost use Rattle.order_space.specs.Slots.{puzzle_of};
+ghost use Rattle.order_find.specs.SubtermSpace.{subterm_search};
+ghost use Rattle.order_find.specs.SubtermRow.{FindsSubterm, FailsSubterm, ArePlaces, places_of};
+
+use crate::roots::{indexed, roots};
+use crate::subterm_space::SubtermSpace;
+use crate::taken::taken;
+use assign_search::{Search, Stop, first_solution};
+use dp_core::{DpPair, Pairs, Sides, placed_pairs_are_the_pairs};
+use pair_theory::dependency_pairs_suffice;
+use std::alloc::Global;
+use trs_core::{OutOfMemory, Trs};
+
+/// The places of a projection by which the subterm criterion removes a pair of the problem, each
+/// root with a place, counted from 1. It is the first solution of a finite search: a slot for each
+/// root, ascending, whose values are the places; each pair projects to a subterm, and some pair to
+/// a proper one. The budget is that of `first_solution`.
+///
+/// `stop` is asked before each prefix of places.
+pub fn find_subterm<P: Stop>(
+    alloc: Global,
+    trs: &Trs,
+    all: &[DpPair],
+    problem: &[u32],
+    budget: u64,
+    stop: &mut P,
+) -> Result<Search<Vec<(u32, u8)>>, OutOfMemory>
+    requires all { all.now ≡ placed_pairs trs.now.rules }
+    requires ascending { IsStrictlyIncreasing problem.now }
+    requires numbers { All (λ n. n < length (dependency_pairs trs.now.rules)) problem.now }
+    ensures answer { IfOk result (IsFinding
+        (λ places. FindsSubterm trs.now problem.now budget places.items)
+        (FailsSubterm trs.now problem.now (IsNotThere budget))
+        (FailsSubterm trs.now problem.now (IsSpent budget))
+        (P.stops stop.old < P.stops stop.new)) }
+    ensures later { P.stops stop.old ≤ P.stops stop.new }
+    ensures kept { P.kept stop.new ≡ P.kept stop.old }
+{
+    let arities = trs.arities();
+    arities_are_bytes(arities);
+    let _rules = trs.rules();
+    placed_pairs_are_the_pairs();
+    dependency_pairs_suffice();
+    let pairs = Pairs::of(alloc, trs, all)?;
+    let taken = taken(alloc, pairs.sides(), problem)?;
+    let roots = roots(alloc, &taken)?;
+    search_places(alloc, arities, &roots, &taken, budget, stop)
+}
+
+/// The places of the roots of these pairs.
+fn search_places<P: Stop>(
+    alloc: Global,
+    arities: &[u8],
+    roots: &[u32],
+    pairs: &[Sides],
+    budget: u64,
+    stop: &mut P,
+) -> Result<Search<Vec<(u32, u8)>>, OutOfMemory>
+    requires bytes { (f n : ℕ) → slice_get arities.now f ≡ Some n → n < 256 }
+    requires increasing { IsStrictlyIncreasing roots.now }
+    requires few_roots { length roots.now < 2 ^ 32 }
+    requires few_pairs { length pairs.now + 1 < 2 ^ 32 }
+    ensures answer { IfOk result (IsFinding
+        (λ places. ArePlaces budget arities.now roots.now pairs.now places.items)
+        (IsNotThere budget (puzzle_of (subterm_search arities.now roots.now pairs.now)))
+        (IsSpent budget (puzzle_of (subterm_search arities.now roots.now pairs.now)))
+        (P.stops stop.old < P.stops stop.new)) }
+    ensures later { P.stops stop.old ≤ P.stops stop.new }
+    ensures kept { P.kept stop.new ≡ P.kept stop.old }
+{
+    let slots = indexed(alloc, roots)?;
+    let space = SubtermSpace {
+        arities,
+        roots,
+        slots: &slots,
+        pairs,
+    };
+    match first_solution(alloc, &space, budget, stop) {
+        Err(_) => Err(OutOfMemory),
+        Ok(Search::Found(values)) => Ok(Search::Found(places_of(alloc, roots, values)?)),
+        Ok(Search::NotThere) => Ok(Search::NotThere),
+        Ok(Search::Spent) => Ok(Search::Spent),
+        Ok(Search::Stopped) => Ok(Search::Stopped),
+    }
+}
+
+/// Each root with its place.
+fn places_of(alloc: Global, roots: &[u32], values: Vec<u32>) -> Result<Vec<(u32, u8)>, OutOfMemory>
+    requires each { length values.items ≡ length roots.now }
+    requires small { All (λ v. v < 255) values.items }
+    ensures { IfOk result (λ places. places.items ≡ places_of roots.now values.items) }
+{
+    let mut places = Vec::with_capacity(alloc, roots.len())?;
+    for (i, f) in roots.iter().enumerate() {
+        places.push((*f, values[i] as u8 + 1))?;
+    }
+    Ok(places)
+}
+
+fn arities_are_bytes(arities: &[u8])
+    ensures { (f n : ℕ) → slice_get arities.now f ≡ Some n → n < 256 }
+{
+    for _arity in arities {}
+}

@@ -1,0 +1,143 @@
+//! The finite search for the places of a projection.
+ghost use Rattle.std.specs.Prelude.{◌≡◌, ◌<◌, ◌^◌, ◌+◌, ◌==◌, ◌||◌, length, slice_index};
+ghost use Rattle.std.specs.Option.{option_copied, option_map};
+ghost use Rattle.trs_defs.specs.Tree.{Tree};
+ghost use Rattle.trs_defs.specs.Position.{argument_at};
+ghost use Rattle.trs_core.specs.View.{tree};
+ghost use Rattle.pair_theory.specs.Marked.{plain};
+ghost use Rattle.order_space.specs.Slots.{puzzle_of, table_of};
+ghost use Rattle.order_find.specs.Subterms.{has_subterm, has_proper_subterm};
+ghost use Rattle.order_find.specs.SubtermSpace.{subterm_search, passes, some_passes, subterm_slots};
+ghost use Rattle.order_find.specs.SubtermLawful.{subterm_lawful};
+
+use crate::roots::{from_root, to_root};
+use crate::within::{contains, contains_properly};
+use assign_search::{OutOfMemory, Space};
+use dp_core::{Side, Sides};
+use pair_order::SymbolIndex;
+use std::alloc::Global;
+use trs_core::Term;
+
+/// The roots of pairs, of which each has a slot, with the slots by symbols, and the pairs.
+#[derive(Drop)]
+pub(crate) struct SubtermSpace<'a> {
+    pub(crate) arities: &'a [u8],
+    pub(crate) roots: &'a [u32],
+    pub(crate) slots: &'a SymbolIndex,
+    pub(crate) pairs: &'a [Sides<'a>],
+    pub(crate) ghost indexed: { slots.now ≡ roots.now },
+    pub(crate) ghost few_roots: { length roots.now < 2 ^ 32 },
+    pub(crate) ghost few_pairs: { length pairs.now + 1 < 2 ^ 32 },
+}
+
+impl<'a> Space for SubtermSpace<'a> {
+    ghost puzzle = { λ x. puzzle_of (subterm_search x.arities.now x.roots.now x.pairs.now) };
+
+    ghost lawful = { λ x. subterm_lawful x.arities.now x.roots.now x.pairs.now };
+
+    fn slots(&self) -> u32 {
+        self.roots.len() as u32
+    }
+
+    fn domain(&self, slot: u32) -> u32 {
+        match self.arities.get(self.roots[slot as usize] as usize) {
+            Some(arity) => u32::from(*arity),
+            None => 0,
+        }
+    }
+
+    fn constraints(&self) -> u32 {
+        self.pairs.len() as u32 + 1
+    }
+
+    fn uses(&self, c: u32, slot: u32) -> bool {
+        if c as usize == self.pairs.len() {
+            return true;
+        }
+        let pair = &self.pairs[c as usize];
+        has_root(pair, self.roots[slot as usize])
+    }
+
+    fn holds(&self, _alloc: Global, c: u32, values: &[u32]) -> Result<bool, OutOfMemory> {
+        if c as usize == self.pairs.len() {
+            return Ok(self.some_is_strict(self.pairs, values));
+        }
+        let pair = &self.pairs[c as usize];
+        Ok(self.is_weak(pair, values))
+    }
+}
+
+impl<'a> SubtermSpace<'a> {
+    /// Whether the right side of a pair projects to a subterm of what its left side projects to.
+    fn is_weak(&self, pair: &Sides, values: &[u32]) -> bool
+        ensures { result ≡ passes has_subterm
+            (table_of (subterm_slots self.now.roots.now) values.now) pair.now }
+    {
+        let Some(s) = self.projected(&pair.from, values) else {
+            return false;
+        };
+        let Some(t) = self.projected(&pair.to, values) else {
+            return false;
+        };
+        contains(s, t)
+    }
+
+    fn is_strict(&self, pair: &Sides, values: &[u32]) -> bool
+        ensures { result ≡ passes has_proper_subterm
+            (table_of (subterm_slots self.now.roots.now) values.now) pair.now }
+    {
+        let Some(s) = self.projected(&pair.from, values) else {
+            return false;
+        };
+        let Some(t) = self.projected(&pair.to, values) else {
+            return false;
+        };
+        contains_properly(s, t)
+    }
+
+    fn some_is_strict(&self, pairs: &[Sides], values: &[u32]) -> bool
+        ensures { result ≡ some_passes
+            (table_of (subterm_slots self.now.roots.now) values.now) pairs.now }
+    {
+        for pair in pairs {
+            if self.is_strict(pair, values) {
+                return true;
+            }
+        }
+        false
+    }
+
+    /// The argument at the place that the values give.
+    fn projected<'b>(&self, side: &Side<'b>, values: &[u32]) -> Option<&'b Term>
+        ensures { option_map tree (option_copied result) ≡ argument_at (plain side.now)
+            (table_of (subterm_slots self.now.roots.now) values.now side.now.symbol 0 + 1) }
+    {
+        let args = side.args;
+        args.items.get(self.value_for(side.symbol, values) as usize)
+    }
+
+    fn value_for(&self, f: u32, values: &[u32]) -> u32
+        ensures { result ≡ table_of (subterm_slots self.now.roots.now) values.now f 0 }
+    {
+        match self.slots.place(f) {
+            None => 0,
+            Some(slot) => value_at(values, slot),
+        }
+    }
+}
+
+fn value_at(values: &[u32], slot: usize) -> u32
+    ensures { result ≡ slice_index values.now slot }
+{
+    match values.get(slot) {
+        Some(value) => *value,
+        None => 0,
+    }
+}
+
+/// Whether a side of the pair has the root.
+fn has_root(pair: &Sides, f: u32) -> bool
+    ensures { result ≡ (f == pair.now.from.symbol || f == pair.now.to.symbol) }
+{
+    f == from_root(pair) || f == to_root(pair)
+}

@@ -1,0 +1,43 @@
+//! The pairs of a problem.
+ghost use Rattle.std.specs.Prelude.{◌≡◌, ◌<◌, All, IfOk, length};
+ghost use Rattle.dp_core.specs.Numbered.{ArePairsOf};
+
+use dp_core::{Side, Sides};
+use std::alloc::Global;
+use trs_core::OutOfMemory;
+
+/// The pairs of these numbers, in order.
+pub(crate) fn taken<'a>(
+    alloc: Global,
+    pairs: &[Sides<'a>],
+    problem: &[u32],
+) -> Result<Vec<Sides<'a>>, OutOfMemory>
+    requires { All (λ n. n < length pairs.now) problem.now }
+    ensures { IfOk result (λ taken. ArePairsOf pairs.now problem.now taken.items) }
+{
+    let mut taken = Vec::with_capacity(alloc, problem.len())?;
+    for n in problem {
+        let sides = &pairs[*n as usize];
+        taken.push(lent(sides))?;
+    }
+    Ok(taken)
+}
+
+/// The same pair.
+fn lent<'a>(sides: &Sides<'a>) -> Sides<'a>
+    ensures { result ≡ sides.now }
+{
+    Sides {
+        from: lent_side(&sides.from),
+        to: lent_side(&sides.to),
+    }
+}
+
+fn lent_side<'a>(side: &Side<'a>) -> Side<'a>
+    ensures { result ≡ side.now }
+{
+    Side {
+        symbol: side.symbol,
+        args: side.args,
+    }
+}
