@@ -1,3 +1,5 @@
 pub mod Lawful
 pub mod Constraints
 pub mod Solutions
+pub mod OrderLawful
+pub mod PolyDepends
