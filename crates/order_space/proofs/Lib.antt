@@ -3,3 +3,4 @@ pub mod Constraints
 pub mod Solutions
 pub mod OrderLawful
 pub mod PolyDepends
+pub mod SlotLayout
