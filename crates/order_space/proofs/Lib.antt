@@ -4,3 +4,5 @@ pub mod Solutions
 pub mod OrderLawful
 pub mod PolyDepends
 pub mod SlotLayout
+pub mod Agreeing
+pub mod KboDepends
