@@ -6,3 +6,4 @@ pub mod PolyDepends
 pub mod SlotLayout
 pub mod Agreeing
 pub mod KboDepends
+pub mod LpoDepends
