@@ -8,3 +8,6 @@ pub mod PeakSteps
 pub mod WellFormedTops
 pub mod ForkLaw
 pub mod BetweenLists
+pub mod PathLaws
+pub mod LabelLaw
+pub mod LabelLawful

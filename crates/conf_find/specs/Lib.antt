@@ -3,3 +3,8 @@ pub mod ForkRows
 pub mod Parted
 pub mod Marks
 pub mod Laws
+pub mod PathList
+pub mod PathsMore
+pub mod LabelSpace
+pub mod LabelRow
+pub mod LabelAnswers
