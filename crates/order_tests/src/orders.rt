@@ -1,93 +1,110 @@
-//! The three orders on the rules of addition: symbols 0, s and + are 0, 1 and 2.
-use crate::made::term;
+//! The three orders on the rules of addition, and tables that are refused.
+use crate::made::read;
 use kbo_order::{Kbo, KboEntry, KboFault};
 use pair_order::{ReductionPair, TooBig};
 use path_lpo::{Filter, Lpo, LpoEntry};
 use poly_lin::{LinTable, TableFault};
 use std::alloc::Global;
 use std::test::Fail;
-use trs_core::Term;
+use trs_core::OutOfMemory;
 
-/// +(s(x), y), or with a mark.
-fn sum_of_next(alloc: Global, plus: u32) -> Result<Term, Fail> {
-    let next = term(alloc, 1, [Term::Var(0)])?;
-    Ok(term(alloc, plus, [next, Term::Var(1)])?)
+/// Whether a term is weakly above another one, and strictly.
+type Compared = (Result<bool, TooBig>, Result<bool, TooBig>);
+
+/// How the terms of two texts compare.
+fn compared<O: ReductionPair>(
+    alloc: Global,
+    order: &O,
+    left: &[u8],
+    right: &[u8],
+) -> Result<Compared, OutOfMemory> {
+    let left = read(alloc, left)?;
+    let right = read(alloc, right)?;
+    Ok((order.weak(&left, &right), order.strict(&left, &right)))
 }
 
-/// s(+(x, y)).
-fn next_of_sum(alloc: Global) -> Result<Term, Fail> {
-    let sum = term(alloc, 2, [Term::Var(0), Term::Var(1)])?;
-    Ok(term(alloc, 1, [sum])?)
+/// An interpretation, by symbols and their numbers.
+fn linear(alloc: Global, of: &[(u32, &[u64])]) -> Result<LinTable, TableFault> {
+    let mut entries = Vec::new(alloc);
+    for (symbol, numbers) in of {
+        let numbers = Vec::from_slice(alloc, numbers)?;
+        entries.push((*symbol, numbers))?;
+    }
+    LinTable::new(alloc, entries)
 }
 
 #[test]
 fn a_linear_interpretation_compares(rt: HostRuntime) -> Result<(), Fail> {
     let alloc = rt.alloc();
-    let entries = vec![in alloc;
-        (0, vec![in alloc; 0]?),
-        (1, vec![in alloc; 1, 1]?),
-        (2, vec![in alloc; 0, 1, 1]?),
-        (4098, vec![in alloc; 0, 1]?),
-        (3, vec![in alloc; 0, 1 << 62]?),
-    ]?;
-    let table = LinTable::new(alloc, entries)?;
-    let (left, right) = (sum_of_next(alloc, 2)?, next_of_sum(alloc)?);
-    assert!(rt; table.weak(&left, &right) == Ok(true) && table.strict(&left, &right) == Ok(false));
-    let marked = sum_of_next(alloc, 4098)?;
-    let smaller = term(alloc, 4098, [Term::Var(0), Term::Var(1)])?;
-    assert!(rt; table.strict(&marked, &smaller) == Ok(true));
-    let twice = term(alloc, 3, [term(alloc, 3, [Term::Var(0)])?])?;
-    assert!(rt; table.weak(&twice, &Term::Var(0)) == Err(TooBig));
-    let pairing = vec![in alloc; (8191, vec![in alloc; 0]?)]?;
-    assert!(rt; matches!(LinTable::new(alloc, pairing), Err(TableFault::Twice(8191))));
+    let entries: [(u32, &[u64]); 5] = [
+        (0, &[0]),
+        (1, &[1, 1]),
+        (2, &[0, 1, 1]),
+        (4_098, &[0, 1]),
+        (3, &[0, 1 << 62]),
+    ];
+    let table = linear(alloc, &entries)?;
+    let rows: [(&[u8], &[u8], Compared); 3] = [
+        (b"+sxy", b"s+xy", (Ok(true), Ok(false))),
+        (b"#sxy", b"#xy", (Ok(true), Ok(true))),
+        (b"ddx", b"x", (Err(TooBig), Err(TooBig))),
+    ];
+    for (left, right, want) in rows {
+        assert!(rt; compared(alloc, &table, left, right)? == want);
+    }
+    let fault = linear(alloc, &[(8191, &[0])]).err();
+    assert!(rt; fault == Some(TableFault::Twice(8191)));
     Ok(())
+}
+
+/// A path order that keeps so many arguments, by symbols and ranks.
+fn path(alloc: Global, of: &[(u32, u64, &[u8])]) -> Result<Lpo, Fail> {
+    let mut entries = Vec::new(alloc);
+    for (symbol, rank, places) in of {
+        let filter = Filter::Keep(Vec::from_slice(alloc, places)?);
+        entries.push(LpoEntry {
+            symbol: *symbol,
+            rank: *rank,
+            filter,
+        })?;
+    }
+    Ok(Lpo::new(alloc, entries)?)
 }
 
 #[test]
 fn a_path_order_compares(rt: HostRuntime) -> Result<(), Fail> {
     let alloc = rt.alloc();
-    let keep = Filter::Keep(vec![in alloc; 1, 2]?);
-    let order = Lpo::new(
-        alloc,
-        vec![in alloc;
-            LpoEntry {
-                symbol: 1,
-                rank: 0,
-                filter: Filter::Keep(vec![in alloc; 1]?)
-            },
-            LpoEntry {
-                symbol: 2,
-                rank: 1,
-                filter: keep
-            },
-        ]?,
-    )?;
-    let (left, right) = (sum_of_next(alloc, 2)?, next_of_sum(alloc)?);
-    assert!(rt; order.strict(&left, &right) == Ok(true));
-    assert!(rt; order.weak(&right, &left) == Ok(false));
+    let order = path(alloc, &[(1, 0, &[1]), (2, 1, &[1, 2])])?;
+    let found = compared(alloc, &order, b"+sxy", b"s+xy")?;
+    assert!(rt; found == (Ok(true), Ok(true)));
+    let found = compared(alloc, &order, b"s+xy", b"+sxy")?;
+    assert!(rt; found == (Ok(false), Ok(false)));
     Ok(())
+}
+
+/// An order where `s` and `+` weigh nothing and have these ranks.
+fn knuth(alloc: Global, s: u64, plus: u64) -> Result<Kbo, KboFault> {
+    let mut entries = Vec::new(alloc);
+    for (symbol, arity, rank) in [(1, 1, s), (2, 2, plus)] {
+        entries.push(KboEntry {
+            symbol,
+            arity,
+            weight: 0,
+            rank,
+        })?;
+    }
+    Kbo::new(alloc, entries)
 }
 
 #[test]
 fn a_knuth_bendix_order_compares(rt: HostRuntime) -> Result<(), Fail> {
     let alloc = rt.alloc();
-    let next = KboEntry {
-        symbol: 1,
-        arity: 1,
-        weight: 0,
-        rank: 2,
-    };
-    let plus = KboEntry {
-        symbol: 2,
-        arity: 2,
-        weight: 0,
-        rank: 1,
-    };
-    let order = Kbo::new(alloc, vec![in alloc; next, plus]?)?;
-    let (left, right) = (sum_of_next(alloc, 2)?, next_of_sum(alloc)?);
-    assert!(rt; order.strict(&right, &left) == Ok(true));
-    assert!(rt; order.weak(&left, &right) == Ok(false));
-    let low = vec![in alloc; KboEntry { rank: 0, ..next }, plus]?;
-    assert!(rt; matches!(Kbo::new(alloc, low), Err(KboFault::UnaryNotTop(1))));
+    let order = knuth(alloc, 2, 1)?;
+    let found = compared(alloc, &order, b"s+xy", b"+sxy")?;
+    assert!(rt; found == (Ok(true), Ok(true)));
+    let found = compared(alloc, &order, b"+sxy", b"s+xy")?;
+    assert!(rt; found == (Ok(false), Ok(false)));
+    let fault = knuth(alloc, 0, 1).err();
+    assert!(rt; fault == Some(KboFault::UnaryNotTop(1)));
     Ok(())
 }
