@@ -24,13 +24,16 @@ fn compared<O: ReductionPair>(
 }
 
 /// An interpretation, by symbols and their numbers.
-fn linear(alloc: Global, of: &[(u32, &[u64])]) -> Result<LinTable, TableFault> {
+fn linear(
+    alloc: Global,
+    of: &[(u32, &[u64])],
+) -> Result<Result<LinTable, TableFault>, OutOfMemory> {
     let mut entries = Vec::new(alloc);
     for (symbol, numbers) in of {
         let numbers = Vec::from_slice(alloc, numbers)?;
         entries.push((*symbol, numbers))?;
     }
-    LinTable::new(alloc, entries)
+    Ok(LinTable::new(alloc, entries))
 }
 
 #[test]
@@ -43,7 +46,7 @@ fn a_linear_interpretation_compares(rt: HostRuntime) -> Result<(), Fail> {
         (4_098, &[0, 1]),
         (3, &[0, 1 << 62]),
     ];
-    let table = linear(alloc, &entries)?;
+    let table = linear(alloc, &entries)??;
     let rows: [(&[u8], &[u8], Compared); 3] = [
         (b"+sxy", b"s+xy", (Ok(true), Ok(false))),
         (b"#sxy", b"#xy", (Ok(true), Ok(true))),
@@ -52,7 +55,7 @@ fn a_linear_interpretation_compares(rt: HostRuntime) -> Result<(), Fail> {
     for (left, right, want) in rows {
         assert!(rt; compared(alloc, &table, left, right)? == want);
     }
-    let fault = linear(alloc, &[(8191, &[0])]).err();
+    let fault = linear(alloc, &[(8191, &[0])])?.err();
     assert!(rt; fault == Some(TableFault::Twice(8191)));
     Ok(())
 }
@@ -83,7 +86,7 @@ fn a_path_order_compares(rt: HostRuntime) -> Result<(), Fail> {
 }
 
 /// An order where `s` and `+` weigh nothing and have these ranks.
-fn knuth(alloc: Global, s: u64, plus: u64) -> Result<Kbo, KboFault> {
+fn knuth(alloc: Global, s: u64, plus: u64) -> Result<Result<Kbo, KboFault>, OutOfMemory> {
     let mut entries = Vec::new(alloc);
     for (symbol, arity, rank) in [(1, 1, s), (2, 2, plus)] {
         entries.push(KboEntry {
@@ -93,18 +96,18 @@ fn knuth(alloc: Global, s: u64, plus: u64) -> Result<Kbo, KboFault> {
             rank,
         })?;
     }
-    Kbo::new(alloc, entries)
+    Ok(Kbo::new(alloc, entries))
 }
 
 #[test]
 fn a_knuth_bendix_order_compares(rt: HostRuntime) -> Result<(), Fail> {
     let alloc = rt.alloc();
-    let order = knuth(alloc, 2, 1)?;
+    let order = knuth(alloc, 2, 1)??;
     let found = compared(alloc, &order, b"s+xy", b"+sxy")?;
     assert!(rt; found == (Ok(true), Ok(true)));
     let found = compared(alloc, &order, b"+sxy", b"s+xy")?;
     assert!(rt; found == (Ok(false), Ok(false)));
-    let fault = knuth(alloc, 0, 1).err();
+    let fault = knuth(alloc, 0, 1)?.err();
     assert!(rt; fault == Some(KboFault::UnaryNotTop(1)));
     Ok(())
 }
