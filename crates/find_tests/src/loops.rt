@@ -219,11 +219,16 @@ fn returned(alloc: Global, chain: &Chain) -> Result<Vec<u32>, OutOfMemory> {
     Ok(shown)
 }
 
+/// The number of a rule.
+fn number(k: usize) -> u32 {
+    u32::try_from(k).unwrap_or(u32::MAX)
+}
+
 /// All chains of rules from one constant to another, one after another.
 fn plainly(alloc: Global, pairs: &[(u32, u32)], budget: u64) -> Result<Vec<u32>, OutOfMemory> {
     let mut chains = Vec::new(alloc);
     for (k, pair) in pairs.iter().enumerate() {
-        let rules = longer(alloc, &[], k as u32)?;
+        let rules = longer(alloc, &[], number(k))?;
         let chain = Chain {
             from: pair.0,
             to: pair.1,
@@ -246,7 +251,7 @@ fn plainly(alloc: Global, pairs: &[(u32, u32)], budget: u64) -> Result<Vec<u32>,
             }
             attempts += 1;
             if pair.0 == chains[next].to {
-                let rules = longer(alloc, &chains[next].rules, k as u32)?;
+                let rules = longer(alloc, &chains[next].rules, number(k))?;
                 let chain = Chain {
                     from: chains[next].from,
                     to: pair.1,
