@@ -7,14 +7,16 @@ use Rattle.certifier.proofs.Outcomes.{rejected_proof, accepted_as, only_rejected
 use Rattle.certifier.proofs.accepted.accepted_proof.Goals as goal
 
 pub returns-in_err-system-clause-only : goal.returns-in_err-system-clause-only
-returns-in_err-system-clause-only c = λ named says h.
+returns-in_err-system-clause-only c =
     let rejected : IfErr c.from_residual.result (IsRejection c.args.problem.now c.args.certificate.now) = search rules in
+    λ named says h.
     only_rejected (λ (a : AcceptedProof). (a.system ≡ named) × (proof_text_of a.certificate ≡ says)) c.args.problem.now c.args.certificate.now c.from_residual.result
     c.from_residual.ensures.0 rejected says.claim named h.acceptance
 
 pub returns-in_err-proof-clause-only : goal.returns-in_err-proof-clause-only
-returns-in_err-proof-clause-only c = λ named says h.
+returns-in_err-proof-clause-only c =
     let rejected : IfErr c.from_residual-in_err-proof.result (IsRejection c.args.problem.now c.args.certificate.now) = search rules in
+    λ named says h.
     only_rejected (λ (a : AcceptedProof). (a.system ≡ named) × (proof_text_of a.certificate ≡ says)) c.args.problem.now c.args.certificate.now
     c.from_residual-in_err-proof.result c.from_residual-in_err-proof.ensures.0 rejected says.claim named h.acceptance
 
