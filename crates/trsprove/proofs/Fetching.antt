@@ -5,10 +5,12 @@ use Rattle.io_edge.specs.Shelf.{ShelfMeaning, MayBe, MayPass, TellsTheSame, Coun
 use Rattle.io_edge.specs.declared.fault.FetchFault.{FetchFault}
 use Rattle.io_edge.specs.declared.fault.FetchFault.TheVariants as fetch
 use Rattle.io_edge.proofs.Counting.{same_or_not}
+use Rattle.names_text.specs.Named.{NamedSystem}
+use Rattle.cert_text.specs.ProofText.{ProofText}
 use Rattle.command_line.specs.Request.{Asked, certifies}
 use Rattle.command_line.specs.declared.Wanted.{Wanted}
 use Rattle.trsprove.specs.declared.status.Status.{Status}
-use Rattle.trsprove.specs.Output.{most_problem_bytes, most_certificate_bytes, with_claim, in_version_two, too_heavy, Verdict, refused, rejected, accepted, AreFetched, Output, decided, IsNeeded, as_problem, as_certificate, WasFetched, IsAnswer, TouchesOnlyNeeded}
+use Rattle.trsprove.specs.Output.{most_problem_bytes, most_certificate_bytes, IsWritten, with_claim, in_version_two, too_heavy, Verdict, refused, rejected, accepted, AreFetched, Output, decided, IsNeeded, as_problem, as_certificate, WasFetched, IsAnswer, TouchesOnlyNeeded}
 use Rattle.trsprove.specs.Answers.{IsUnfetched}
 
 -- what holds of a value, if there is one, where another fact does
@@ -59,14 +61,19 @@ unfetched_line request before now name fetch.Failed s text (e, is) came long =
     let (limit, needed, rose) = came refl in subst (λ z. IsAnswer request before now z text) (sym e) (name, limit, needed, rose, is)
 unfetched_line request before now name fetch.OutOfMemory s text h came long = absurd h
 
--- a verdict is an answer, whatever the shelf is now
+-- what is written of an accepted certificate is an answer, whatever the shelf is now
+written_answer : (request : Option Asked) (before now : ShelfMeaning) (named : NamedSystem) (says : ProofText) (wanted : Wanted) (s : Status) (text : List ℕ)
+    → IsWritten named says wanted s text → Output request (MayBe before) s text → IsAnswer request before now s text
+written_answer request before now named says wanted s text with_claim o = o
+written_answer request before now named says wanted s text (in_version_two fits) o = o
+written_answer request before now named says wanted s text (too_heavy heavy) o = o
+
+-- and so is a verdict
 answer_of : (request : Option Asked) (before now : ShelfMeaning) (wanted : Wanted) (v w : List ℕ) (s : Status) (text : List ℕ) → Verdict v w wanted s text
     → Output request (MayBe before) s text → IsAnswer request before now s text
 answer_of request before now wanted v w s text (refused fault h m) o = o
 answer_of request before now wanted v w s text (rejected reason h p m) o = o
-answer_of request before now wanted v w s text (accepted named says a with_claim) o = o
-answer_of request before now wanted v w s text (accepted named says a (in_version_two fits)) o = o
-answer_of request before now wanted v w s text (accepted named says a (too_heavy heavy)) o = o
+answer_of request before now wanted v w s text (accepted named says a written) o = written_answer request before now named says wanted s text written o
 
 -- the text of the verdict for two texts
 pub fetched_text : (wanted : Wanted) (p c v w : List ℕ) (before middle now : ShelfMeaning) (s : Status) (text : List ℕ) → MayBe before p v → length v ≤ most_problem_bytes
