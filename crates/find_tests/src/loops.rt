@@ -242,18 +242,20 @@ fn plainly(alloc: Global, pairs: &[(u32, u32)], budget: u64) -> Result<Vec<u32>,
     let mut attempts = 0;
     let mut next = 0;
     for _ in 0..1_000 {
-        if next >= chains.len() {
+        let Some(chain) = chains.get(next) else {
             break;
-        }
+        };
+        let (from, to) = (chain.from, chain.to);
+        let before = Vec::from_slice(alloc, &chain.rules)?;
         for (k, pair) in pairs.iter().enumerate() {
             if attempts >= budget {
                 return one(alloc, SPENT);
             }
             attempts += 1;
-            if pair.0 == chains[next].to {
-                let rules = longer(alloc, &chains[next].rules, number(k))?;
+            if pair.0 == to {
+                let rules = longer(alloc, &before, number(k))?;
                 let chain = Chain {
-                    from: chains[next].from,
+                    from,
                     to: pair.1,
                     rules,
                 };
