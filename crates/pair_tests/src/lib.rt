@@ -3,6 +3,10 @@
 #![tactic(auto)]
 
 #[cfg(test)]
+mod agreeing;
+#[cfg(test)]
+mod alone;
+#[cfg(test)]
 mod graphs;
 #[cfg(test)]
 mod numbers;
