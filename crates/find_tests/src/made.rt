@@ -4,21 +4,42 @@ use std::alloc::Global;
 use std::test::Fail;
 use trs_core::{Args, OutOfMemory, Rule, Term, Trs};
 
-/// A symbol with these arguments.
-pub fn term<const N: usize>(
-    alloc: Global,
-    symbol: u32,
-    args: [Term; N],
-) -> Result<Term, OutOfMemory> {
-    Ok(Term::App(symbol, Args::new(Vec::from_array(alloc, args)?)))
+/// The term of a text, symbol first, one letter a node: `x` and `y` are variables, and `a` to `g`
+/// are the symbols from 0 on, with so many arguments.
+fn read(alloc: Global, arities: &[u8], text: &[u8]) -> Result<Term, OutOfMemory> {
+    let mut stack: Vec<Term> = Vec::new(alloc);
+    for letter in text.iter().rev() {
+        let symbol = letter.saturating_sub(b'a');
+        let mut items = Vec::new(alloc);
+        for _ in 0..arities.get(usize::from(symbol)).copied().unwrap_or(0) {
+            items.push(stack.pop().unwrap_or(Term::Var(2)))?;
+        }
+        stack.push(match *letter {
+            b'x' => Term::Var(0),
+            b'y' => Term::Var(1),
+            _ => Term::App(u32::from(symbol), Args { items }),
+        })?;
+    }
+    Ok(stack.pop().unwrap_or(Term::Var(2)))
+}
+
+/// The system of the rules with these sides.
+pub fn system(alloc: Global, arities: &[u8], sides: &[(&[u8], &[u8])]) -> Result<Trs, Fail> {
+    let mut rules = Vec::new(alloc);
+    for (left, right) in sides {
+        let left = read(alloc, arities, left)?;
+        let right = read(alloc, arities, right)?;
+        rules.push(Rule { left, right })?;
+    }
+    Ok(Trs::new(Vec::from_slice(alloc, arities)?, rules)?)
 }
 
 /// So many constants, and a rule from one of them to another for each pair of them.
 pub fn constants(alloc: Global, count: usize, pairs: &[(u32, u32)]) -> Result<Trs, Fail> {
     let mut rules = Vec::new(alloc);
     for (from, to) in pairs {
-        let left = term(alloc, *from, [])?;
-        let right = term(alloc, *to, [])?;
+        let left = Term::App(*from, Args::new(Vec::new(alloc)));
+        let right = Term::App(*to, Args::new(Vec::new(alloc)));
         rules.push(Rule { left, right })?;
     }
     Ok(Trs::new(vec![in alloc; 0; count]?, rules)?)
