@@ -171,7 +171,7 @@ fn plainly(alloc: Global, pairs: &[(u32, u32)], budget: u64) -> Result<Vec<u32>,
         let chain = Chain {
             from: pair.0,
             to: pair.1,
-            rule: k as u32,
+            rule: u32::try_from(k).unwrap_or(u32::MAX),
             before: None,
         };
         if chain.from == chain.to {
@@ -193,7 +193,7 @@ fn plainly(alloc: Global, pairs: &[(u32, u32)], budget: u64) -> Result<Vec<u32>,
                 let chain = Chain {
                     from: first.from,
                     to: pair.1,
-                    rule: k as u32,
+                    rule: u32::try_from(k).unwrap_or(u32::MAX),
                     before: Some(next),
                 };
                 if chain.from == chain.to {
