@@ -30,7 +30,7 @@ fn note_deep(least: &mut Option<AriFault>, levels: u32, term: &Sexp)
     };
     match term {
         Sexp::Word(_, _) => {}
-        Sexp::List(members, _) => {
+        Sexp::List(_, members) => {
             let Some((_, args)) = members.split_first() else {
                 return;
             };
@@ -54,7 +54,7 @@ fn note_left(least: &mut Option<AriFault>, symbols: &Symbols, left: &Sexp)
 {
     match left {
         Sexp::List(_, _) => {}
-        Sexp::Word(name, at) => {
+        Sexp::Word(at, name) => {
             let None = symbols.find(name) else {
                 return;
             };

@@ -33,14 +33,14 @@ pub fn read_entry<'a, 't>(item: &'a Sexp<'t>) -> Entry<'a, 't>
 {
     match item {
         Sexp::Word(_, _) => SAYS_NOTHING,
-        Sexp::List(members, _) => read_list(members),
+        Sexp::List(_, members) => read_list(members),
     }
 }
 
 fn read_list<'a, 't>(members: &'a [Sexp<'t>]) -> Entry<'a, 't>
     ensures { entry_view result ≡ list_entry (views members.now) }
 {
-    let Some((Sexp::Word(head, _), rest)) = members.split_first() else {
+    let Some((Sexp::Word(_, head), rest)) = members.split_first() else {
         return SAYS_NOTHING;
     };
     let Some((x, rest)) = rest.split_first() else {
@@ -68,7 +68,7 @@ fn read_declaration<'a, 't>(x: &'a Sexp<'t>, y: &'a Sexp<'t>) -> Saying<'a, 't>
     ensures { saying_view result ≡ declaration (view x.now) (view y.now) }
 {
     match (x, y) {
-        (Sexp::Word(name, name_at), Sexp::Word(arity, arity_at)) => {
+        (Sexp::Word(name_at, name), Sexp::Word(arity_at, arity)) => {
             Saying::Declares(name, *name_at, arity, *arity_at)
         }
         _ => Saying::Nothing,
@@ -85,7 +85,7 @@ fn read_end<'a, 't>(saying: Saying<'a, 't>, more: &[Sexp]) -> Entry<'a, 't>
             attribute: None,
         },
         Some((Sexp::List(_, _), _)) => SAYS_NOTHING,
-        Some((Sexp::Word(word, at), _)) => {
+        Some((Sexp::Word(at, word), _)) => {
             if begins_with_colon(word) {
                 Entry {
                     saying,

@@ -9,6 +9,7 @@ ghost use Rattle.ari_text.specs.PartsView.{parts_view};
 use crate::checking::check;
 use crate::fault::AriFault;
 use names_text::{NamedTrs, Names};
+use bumpalo::Bump;
 use sexp_core::{Sexp, read_all};
 use std::alloc::Global;
 use trs_core::{Rule, Trs, TrsFault};
@@ -31,7 +32,8 @@ pub fn read_problem(alloc: Global, text: &[u8]) -> Result<NamedTrs, AriFault>
         → MatchResult result (λ r. r ≡ s) (λ e. e ≡ AriFault.OutOfMemory) }
     ensures refused { IfErr result (λ e. IsProblemRefused text.now e) }
 {
-    let items = read_all(alloc, text, 300)?;
+    let arena = Bump::new(alloc);
+    let items = read_all(&arena, alloc, text, 300)?;
     let parts = read_items(alloc, &items)?;
     named_system(parts)
 }
@@ -87,14 +89,14 @@ fn format_fault(item: &Sexp) -> Option<AriFault>
 {
     match item {
         Sexp::Word(_, _) => Some(AriFault::NoFormat),
-        Sexp::List(members, at) => format_list_fault(*at, members),
+        Sexp::List(at, members) => format_list_fault(*at, members),
     }
 }
 
 fn format_list_fault(at: u32, members: &[Sexp]) -> Option<AriFault>
     ensures { result ≡ list_fault at (views members.now) }
 {
-    let Some((Sexp::Word(head, _), more)) = members.split_first() else {
+    let Some((Sexp::Word(_, head), more)) = members.split_first() else {
         return Some(AriFault::NoFormat);
     };
     if head.as_slice() != b"format".as_slice() {
@@ -111,7 +113,7 @@ fn format_list_fault(at: u32, members: &[Sexp]) -> Option<AriFault>
 fn is_trs(members: &[Sexp]) -> bool
     ensures { result ≡ is_trs_of (views members.now) }
 {
-    let Some((Sexp::Word(word, _), more)) = members.split_first() else {
+    let Some((Sexp::Word(_, word), more)) = members.split_first() else {
         return false;
     };
     match more.split_first() {

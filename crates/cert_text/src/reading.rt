@@ -17,6 +17,7 @@ use crate::head::{Head, read_head, read_headline};
 use cert_step::NodeStep;
 use names_text::NamedTrs;
 use path_text::{Shared, begins_with, read_define};
+use bumpalo::Bump;
 use sexp_core::{Sexp, read_all};
 use std::alloc::Global;
 use step_text::read_step;
@@ -51,7 +52,8 @@ pub fn read_certificate(
 {
     // The system is named, by the contract of `trs`.
     let _trs = system.trs();
-    let items = read_all(alloc, text, MOST_OPEN_LISTS)?;
+    let arena = Bump::new(alloc);
+    let items = read_all(&arena, alloc, text, MOST_OPEN_LISTS)?;
     read_items(alloc, system, text.len() as u32, &items)
 }
 

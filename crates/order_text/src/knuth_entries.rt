@@ -84,10 +84,10 @@ fn read_kbo_entry(
     ensures entry { IfOk result (λ r. r ≡ kbo_entry system.now known.old (view item.now)) }
     ensures known { IfOk result (λ r. IfOk r (λ e. known.new ≡ known.old ++ e.symbol ∷ [])) }
 {
-    let Sexp::List(members, at) = item else {
+    let Sexp::List(at, members) = item else {
         return Ok(Err(place(item)));
     };
-    let [head, name, weight, rank, more @ ..] = members.as_slice() else {
+    let [head, name, weight, rank, more @ ..] = *members else {
         return Ok(Err(*at));
     };
     match add_symbol(known, *at, read_marked_symbol(system, head, name))? {
@@ -106,10 +106,10 @@ fn read_kbo_entry(
 fn read_stated(system: &NamedTrs, item: &Sexp) -> Read<KboEntry>
     ensures { result ≡ stated_entry system.now (view item.now) }
 {
-    let Sexp::List(members, at) = item else {
+    let Sexp::List(at, members) = item else {
         return Err(place(item));
     };
-    let [head, name, weight, rank, _more @ ..] = members.as_slice() else {
+    let [head, name, weight, rank, _more @ ..] = *members else {
         return Err(*at);
     };
     match read_marked_symbol(system, head, name) {

@@ -66,10 +66,10 @@ fn read_linear_entry(
         seen plain r ≡ linear_entry system.now known.old (view item.now)) }
     ensures known { IfOk result (λ r. IfOk r (λ e. known.new ≡ known.old ++ e.0 ∷ [])) }
 {
-    let Sexp::List(members, at) = item else {
+    let Sexp::List(at, members) = item else {
         return Ok(Err(place(item)));
     };
-    let [head, name, numbers @ ..] = members.as_slice() else {
+    let [head, name, numbers @ ..] = *members else {
         return Ok(Err(*at));
     };
     if numbers.is_empty() {

@@ -70,10 +70,10 @@ fn read_path_entry(
         seen plain r ≡ path_entry system.now known.old (view item.now)) }
     ensures known { IfOk result (λ r. IfOk r (λ e. known.new ≡ known.old ++ e.symbol ∷ [])) }
 {
-    let Sexp::List(members, at) = item else {
+    let Sexp::List(at, members) = item else {
         return Ok(Err(place(item)));
     };
-    let [head, name, rank, kept, more @ ..] = members.as_slice() else {
+    let [head, name, rank, kept, more @ ..] = *members else {
         return Ok(Err(*at));
     };
     match add_symbol(known, *at, read_marked_symbol(system, head, name))? {
@@ -110,7 +110,7 @@ fn read_filter(alloc: Global, arity: u8, item: &Sexp) -> Result<Read<Filter>, Ou
             Ok(argument) => Ok(Ok(Filter::To(argument))),
             Err(at) => Ok(Err(at)),
         },
-        Sexp::List(places, _) => match read_places(alloc, arity, places)? {
+        Sexp::List(_, places) => match read_places(alloc, arity, places)? {
             Ok(places) => Ok(Ok(Filter::Keep(places))),
             Err(at) => Ok(Err(at)),
         },

@@ -36,7 +36,7 @@ pub fn read_graph_items(alloc: Global, items: &[Sexp]) -> Result<Read<Vec<GraphI
 fn read_graph_item(alloc: Global, item: &Sexp) -> Result<Read<GraphItem>, OutOfMemory>
     ensures { IfOk result (λ r. seen item_of r ≡ graph_item (view item.now)) }
 {
-    let Sexp::List(members, at) = item else {
+    let Sexp::List(at, members) = item else {
         return Ok(Err(place(item)));
     };
     let Some((head, pairs)) = members.split_first() else {
@@ -45,7 +45,7 @@ fn read_graph_item(alloc: Global, item: &Sexp) -> Result<Read<GraphItem>, OutOfM
     let Some((pair, more)) = pairs.split_first() else {
         return Ok(Err(*at));
     };
-    let Sexp::Word(word, head_at) = head else {
+    let Sexp::Word(head_at, word) = head else {
         return Ok(Err(place(head)));
     };
     if word.as_slice() == b"group".as_slice() {

@@ -43,10 +43,10 @@ fn read_projection(
     ensures entry { IfOk result (λ r. r ≡ projection system.now known.old (view item.now)) }
     ensures known { IfOk result (λ r. IfOk r (λ e. known.new ≡ known.old ++ e.0 ∷ [])) }
 {
-    let Sexp::List(members, at) = item else {
+    let Sexp::List(at, members) = item else {
         return Ok(Err(place(item)));
     };
-    let [name, argument, more @ ..] = members.as_slice() else {
+    let [name, argument, more @ ..] = *members else {
         return Ok(Err(*at));
     };
     match add_symbol(known, *at, read_symbol(system, name))? {

@@ -22,10 +22,10 @@ pub fn read_define(alloc: Global, shared: &mut Shared, item: &Sexp) -> Result<Re
     ensures { IfOk result (λ r. seen (λ _. shared.new) r
         ≡ seen (with_definition shared.old) (define shared.old (view item.now))) }
 {
-    let Sexp::List(members, at) = item else {
+    let Sexp::List(at, members) = item else {
         return Ok(Err(place(item)));
     };
-    let [head, word, path, more @ ..] = members.as_slice() else {
+    let [head, word, path, more @ ..] = *members else {
         return Ok(Err(*at));
     };
     let head = keyword(b"define", head);
@@ -73,7 +73,7 @@ fn read_new_word(
     ensures { IfOk result (λ r.
         seen (λ w. w.items) r ≡ new_word definitions.now (view item.now)) }
 {
-    let Sexp::Word(word, at) = item else {
+    let Sexp::Word(at, word) = item else {
         return Ok(Err(place(item)));
     };
     if definitions.is_defined(word) {

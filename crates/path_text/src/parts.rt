@@ -33,7 +33,7 @@ pub fn read_parts_of_path<'d>(
     ensures { IfOk result (λ r. seen (λ v. all_steps (map steps_of_part v.items)) r
         ≡ path_of_parts definitions.now (view item.now)) }
 {
-    let Sexp::List(members, at) = item else {
+    let Sexp::List(at, members) = item else {
         return Ok(Err(place(item)));
     };
     let Some((head, parts)) = members.split_first() else {
@@ -110,10 +110,10 @@ fn read_use_list<'d>(
         seen {A = List ℕ × List PlacedRule} (λ p. (p.0, p.1.now)) r
         ≡ use_list definitions.now (view item.now)) }
 {
-    let Sexp::List(members, at) = item else {
+    let Sexp::List(at, members) = item else {
         return Ok(Err(place(item)));
     };
-    let [head, position, word, more @ ..] = members.as_slice() else {
+    let [head, position, word, more @ ..] = *members else {
         return Ok(Err(*at));
     };
     let head = keyword(b"use", head);
@@ -138,7 +138,7 @@ fn without_head<'d>(
 fn read_defined_word<'d>(definitions: &'d Definitions, item: &Sexp) -> Read<&'d DefinedPath>
     ensures { seen (λ p. p.now) result ≡ word definitions.now (view item.now) }
 {
-    let Sexp::Word(word, at) = item else {
+    let Sexp::Word(at, word) = item else {
         return Err(place(item));
     };
     match definitions.find(word) {
@@ -153,7 +153,7 @@ pub fn begins_with(word: &[u8], item: &Sexp) -> bool
 {
     match item {
         Sexp::Word(_, _) => false,
-        Sexp::List(members, _) => match members.split_first() {
+        Sexp::List(_, members) => match members.split_first() {
             None => false,
             Some((head, _)) => is_word(word, head),
         },
@@ -164,7 +164,7 @@ fn is_word(word: &[u8], item: &Sexp) -> bool
     ensures { result ≡ is_the_word word.now (view item.now) }
 {
     match item {
-        Sexp::Word(found, _) => found.as_slice() == word,
+        Sexp::Word(_, found) => found.as_slice() == word,
         Sexp::List(_, _) => false,
     }
 }

@@ -49,7 +49,7 @@ fn read_four(
     ensures left { IfOk result (λ r. IfOk r (λ f.
         sharing.new ≡ behind_paths sharing.old (paths_of_four f))) }
 {
-    let Sexp::List(members, at) = item else {
+    let Sexp::List(at, members) = item else {
         return Ok(Err(place(item)));
     };
     let Some((head, paths)) = members.split_first() else {

@@ -32,7 +32,7 @@ pub fn read_parallel_steps(
 fn read_parallel_step(alloc: Global, item: &Sexp) -> Result<Read<Vec<PathStep>>, OutOfMemory>
     ensures { IfOk result (λ r. seen (λ v. v.items) r ≡ par (view item.now)) }
 {
-    let Sexp::List(members, at) = item else {
+    let Sexp::List(at, members) = item else {
         return Ok(Err(place(item)));
     };
     let Some((head, steps)) = members.split_first() else {

@@ -19,7 +19,7 @@ const LAST_RANK: u64 = 9_223_372_036_854_775_807;
 pub fn read_ranks(alloc: Global, item: &Sexp) -> Result<Read<Vec<u64>>, OutOfMemory>
     ensures { IfOk result (λ r. seen (λ v. v.items) r ≡ ranks (view item.now)) }
 {
-    let Sexp::List(members, at) = item else {
+    let Sexp::List(at, members) = item else {
         return Ok(Err(place(item)));
     };
     let Some((head, numbers)) = members.split_first() else {

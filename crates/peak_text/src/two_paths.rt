@@ -75,10 +75,10 @@ fn read_two(
     ensures left { IfOk result (λ r. IfOk r (λ j.
         sharing.new ≡ behind_paths sharing.old (paths_of_two j))) }
 {
-    let Sexp::List(members, at) = item else {
+    let Sexp::List(at, members) = item else {
         return Ok(Err(place(item)));
     };
-    let [head, left, right, more @ ..] = members.as_slice() else {
+    let [head, left, right, more @ ..] = *members else {
         return Ok(Err(*at));
     };
     let head = keyword(word, head);

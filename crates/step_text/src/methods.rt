@@ -35,8 +35,8 @@ pub fn read_method_word(item: &Sexp) -> Read<Method>
         → word_among (forms named sharing) (view item.now) ≡ seen (form_of named sharing) result }
 {
     match item {
-        Sexp::Word(word, at) => method_by(word.as_slice(), *at),
-        Sexp::List(_, at) => Err(*at),
+        Sexp::Word(at, word) => method_by(word.as_slice(), *at),
+        Sexp::List(at, _) => Err(*at),
     }
 }
 

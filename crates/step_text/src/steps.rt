@@ -48,7 +48,7 @@ fn read_method(
     ensures left { IfOk result (λ r. IfOk r (λ s. sharing.new
         ≡ behind_paths sharing.old (paths_of_method (step_of s)))) }
 {
-    let Sexp::List(members, at) = item else {
+    let Sexp::List(at, members) = item else {
         return Ok(Err(place(item)));
     };
     let Some((head, members)) = members.split_first() else {
@@ -104,10 +104,10 @@ pub fn read_step(
     ensures left { IfOk result (λ r. IfOk r (λ s. sharing.new
         ≡ behind_paths sharing.old (paths_of_step (node_step_of s)))) }
 {
-    let Sexp::List(members, at) = item else {
+    let Sexp::List(at, members) = item else {
         return Ok(Err(place(item)));
     };
-    let [head, node, method, more @ ..] = members.as_slice() else {
+    let [head, node, method, more @ ..] = *members else {
         return Ok(Err(*at));
     };
     let head = keyword(b"step", head);

@@ -17,7 +17,7 @@ pub fn read_symbol(system: &NamedTrs, item: &Sexp) -> Read<Symbol>
 {
     // A system has at most 4,095 symbols, so marked ones have numbers of their own.
     prove!(system.symbols() <= 4_095);
-    let Sexp::Word(name, at) = item else {
+    let Sexp::Word(at, name) = item else {
         return Err(place(item));
     };
     match system.table().find(name) {
@@ -46,7 +46,7 @@ fn read_mark(item: &Sexp) -> Read<u32>
     ensures small { IfOk result (λ added. added ≤ 4096) }
 {
     match item {
-        Sexp::Word(word, at) => {
+        Sexp::Word(at, word) => {
             if word.as_slice() == b"sym".as_slice() {
                 Ok(0)
             } else if word.as_slice() == b"mark".as_slice() {
@@ -55,7 +55,7 @@ fn read_mark(item: &Sexp) -> Read<u32>
                 Err(*at)
             }
         }
-        Sexp::List(_, at) => Err(*at),
+        Sexp::List(at, _) => Err(*at),
     }
 }
 

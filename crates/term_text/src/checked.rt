@@ -155,16 +155,16 @@ pub fn check_term<'a, F: Refusal>(
         ≡ variables_after new symbols.now variables.old (view item.now)) }
 {
     match item {
-        Sexp::Word(name, at) => {
+        Sexp::Word(at, name) => {
             Ok(check_word(alloc, new, variables, name, *at, symbols.find(name))?)
         }
-        Sexp::List(members, at) => {
+        Sexp::List(at, members) => {
             let Some((head, args)) = members.split_first() else {
                 return Ok(Err(F::of(TermFault::EmptyList(*at))));
             };
             match head {
-                Sexp::List(_, head_at) => Ok(Err(F::of(TermFault::ListAsHead(*at, *head_at)))),
-                Sexp::Word(name, head_at) => {
+                Sexp::List(head_at, _) => Ok(Err(F::of(TermFault::ListAsHead(*at, *head_at)))),
+                Sexp::Word(head_at, name) => {
                     let symbol = check_head(*at, *head_at, args, symbols.find(name));
                     let args = check_terms(alloc, symbols, new, variables, args)?;
                     Ok(application(both(symbol, args)))

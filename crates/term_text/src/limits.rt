@@ -18,7 +18,7 @@ pub fn nodes_left_behind(term: &Sexp, room: Option<u32>) -> Option<u32>
     let room = room?.checked_sub(1)?;
     match term {
         Sexp::Word(_, _) => Some(room),
-        Sexp::List(members, _) => {
+        Sexp::List(_, members) => {
             let Some((_, args)) = members.split_first() else {
                 return Some(room);
             };
@@ -49,7 +49,7 @@ fn is_within_depth(term: &Sexp, depth: u32) -> bool
     };
     match term {
         Sexp::Word(_, _) => true,
-        Sexp::List(members, _) => {
+        Sexp::List(_, members) => {
             let Some((_, args)) = members.split_first() else {
                 return true;
             };

@@ -2,6 +2,7 @@
 use ari_text::{
     NamedTrs, NamesFault, print_problem, put_term, read_problem, read_term, underscores,
 };
+use bumpalo::Bump;
 use sexp_core::read_all;
 use std::alloc::{AllocError, Global};
 use std::test::*;
@@ -83,7 +84,8 @@ fn printed(alloc: Global, system: &NamedTrs, text: &[u8]) -> Result<Option<Vec<u
     if text.len() > 1_000 {
         return Ok(None);
     }
-    let items = read_all(alloc, text, 10)?;
+    let arena = Bump::new(alloc);
+    let items = read_all(&arena, alloc, text, 10)?;
     let Some(item) = items.first() else {
         return Ok(None);
     };
