@@ -1,5 +1,5 @@
 -- The lists that are open while a text is read, and what they have taken of its tokens.
-use Rattle.std.proofs.Common.{◌≡◌, ◌≢◌, ℕ, zero, suc, true, false, List, [], ◌∷◌, ◌++◌, length, map, Some, None, Bor, slice_get, take, drop, ◌+◌, ◌-◌, ◌≤◌, refl, ap, sym, subst, ◌∙◌, arith, append_assoc, nat_eq, eq-eqb}
+use Rattle.std.proofs.Common.{◌≡◌, ◌≢◌, ℕ, zero, suc, true, false, List, [], ◌∷◌, ◌++◌, length, map, Some, None, slice_get, take, drop, ◌+◌, ◌-◌, ◌≤◌, refl, ap, sym, subst, ◌∙◌, arith, append_assoc, nat_eq, eq-eqb}
 use Rattle.std.proofs.lemmas.List.{append-nil, length-append, length-drop, length-take-le, take-append-le, drop-append-le, drop-take, take_all, drop_all}
 use lib.Seq.{drop-drop}
 use Rattle.std.proofs.lemmas.Bool.{ne_eqb}
@@ -7,10 +7,10 @@ use Rattle.sexp_core.specs.Tokens.{Token, opens, closes, word, control}
 use Rattle.sexp_core.specs.Items.{a_word, a_list, Items, no_items, item, view, views, spelled, spelled_all}
 use Rattle.sexp_core.specs.Reads.{shape, first_fault, is_closed_by, first_unclosed, fault_among}
 use Rattle.sexp_core.specs.declared.fault.TextFault.TheVariants.{BadByte, UnclosedAt, ExtraClose, TooDeep}
-use Rattle.sexp_core.specs.declared.sexp.Sexp.{Sexp, List as list_of, Word as word_of}
+use Rattle.sexp_core.specs.declared.sexp.Sexp.{Sexp, Word as word_of}
 use Rattle.sexp_core.specs.declared.sexp.Word.{Word}
 use Rattle.sexp_core.specs.declared.reading.Opened.{Opened}
-use Rattle.sexp_core.proofs.Viewing.{view_list, view_word}
+use Rattle.sexp_core.proofs.Viewing.{view_word}
 
 -- the tokens of the items from a number on, in the lists among them that are open, the outermost first
 abbrev pub taken : ℕ → List Opened → List Sexp → List Token
