@@ -13,21 +13,21 @@ use Rattle.symbol_text.proofs.EntrySeen.{entry_lacks, entry_seen}
 use Rattle.order_text.specs.LinearEntries.{polynomial, coefficients, linear_entry}
 use Rattle.order_text.proofs.linear_entries.read_linear_entry.Goals as goal
 
-pub returns-in_default-as_slice-clause-entry : goal.returns-in_default-as_slice-clause-entry
-returns-in_default-as_slice-clause-entry c =
+pub returns-in_default-members-clause-entry : goal.returns-in_default-members-clause-entry
+returns-in_default-members-clause-entry c =
     let named = c.args.system.now in
     let known = c.args.known.now in
-    let xs = c.as_slice.result.now in
-    let shape = list_seen c.args.item.now c.in-List.members c.in-List.at xs _ c.in-List.is c.as_slice.ensures.value refl in
-    let few : length xs < 3 = omega (arith, c.in_default-as_slice.len_below) in
+    let xs = c.in-List.members.now in
+    let shape = list_seen c.args.item.now c.in-List.at c.in-List.members _ c.in-List.is refl in
+    let few : length xs < 3 = omega (arith, c.in_default-members.len_below) in
     sym (ap (linear_entry named known) shape ∙ entry_lacks named 1 (λ s. form (coefficients s) (polynomial s)) known c.in-List.at xs few)
 
 pub returns-then-is_empty-clause-entry : goal.returns-then-is_empty-clause-entry
 returns-then-is_empty-clause-entry c =
     let named = c.args.system.now in
     let known = c.args.known.now in
-    let xs = c.as_slice.result.now in
-    let shape = list_seen c.args.item.now c.in-List.members c.in-List.at xs _ c.in-List.is c.as_slice.ensures.value refl in
+    let xs = c.in-List.members.now in
+    let shape = list_seen c.args.item.now c.in-List.at c.in-List.members _ c.in-List.is refl in
     let none : length (take (length xs - 2) (drop 2 xs)) ≡ 0 = eqb-true _ _ (sym c.is_empty.ensures ∙ c.if-is_empty.true) in
     let few : length xs < 3 = omega (arith, none, length-take (length xs - 2) (drop 2 xs), length-drop 2 xs) in
     sym (ap (linear_entry named known) shape ∙ entry_lacks named 1 (λ s. form (coefficients s) (polynomial s)) known c.in-List.at xs few)
@@ -37,10 +37,10 @@ returns-in-Ok-clause-entry c =
     let named = c.args.system.now in
     let known = c.args.known.now in
     let s = c.in-Ok.symbol in
-    let xs = c.as_slice.result.now in
+    let xs = c.in-List.members.now in
     let numbers = take (length xs - 2) (drop 2 xs) in
     let members = two_views xs c.head-item.result c.name-item.result c.in-len2-up.len_at_least c.head-item.is c.name-item.is in
-    let shape = list_seen c.args.item.now c.in-List.members c.in-List.at xs _ c.in-List.is c.as_slice.ensures.value members in
+    let shape = list_seen c.args.item.now c.in-List.at c.in-List.members _ c.in-List.is members in
     let some : length numbers ≢ 0 = eqb-false _ _ (sym c.is_empty.ensures ∙ c.if-is_empty.false) in
     let long : lacks 1 (views numbers) ≡ false = lacks_views 1 numbers (omega arith) in
     let found = sym c.in-Ok.is ∙ c.in_ok-symbol.ensures.symbol ∙ ap (new_symbol known c.in-List.at) c.read_marked_symbol.ensures in

@@ -24,18 +24,18 @@ new_seen : (named : NamedSystem) (known : List ℕ) (x name argument : Item) (mo
 new_seen named known x name argument more at s shape found =
     ap (projection named known) shape ∙ ap (λ (r : Read Symbol). by_symbol r (λ t. form (place_parts t) (projected t)) at (item argument more)) found
 
-pub returns-in_default-as_slice-clause-entry : goal.returns-in_default-as_slice-clause-entry
-returns-in_default-as_slice-clause-entry c =
+pub returns-in_default-members-clause-entry : goal.returns-in_default-members-clause-entry
+returns-in_default-members-clause-entry c =
     let named = c.args.system.now in
-    let shape = list_seen c.args.item.now c.in-List.members c.in-List.at c.as_slice.result.now _ c.in-List.is c.as_slice.ensures.value refl in
-    sym (ap (projection named c.args.known.now) shape ∙ lacking named c.args.known.now c.in-List.at c.as_slice.result.now c.in_default-as_slice.len_below)
+    let shape = list_seen c.args.item.now c.in-List.at c.in-List.members _ c.in-List.is refl in
+    sym (ap (projection named c.args.known.now) shape ∙ lacking named c.args.known.now c.in-List.at c.in-List.members.now c.in_default-members.len_below)
 
 pub returns-in-Ok-clause-entry : goal.returns-in-Ok-clause-entry
 returns-in-Ok-clause-entry c =
     let named = c.args.system.now in
     let s = c.in-Ok.symbol in
-    let members = two_views c.as_slice.result.now c.name-item.result c.argument-item.result c.in-len2-up.len_at_least c.name-item.is c.argument-item.is in
-    let shape = list_seen c.args.item.now c.in-List.members c.in-List.at c.as_slice.result.now _ c.in-List.is c.as_slice.ensures.value members in
+    let members = two_views c.in-List.members.now c.name-item.result c.argument-item.result c.in-len2-up.len_at_least c.name-item.is c.argument-item.is in
+    let shape = list_seen c.args.item.now c.in-List.at c.in-List.members _ c.in-List.is members in
     let found = ap (new_symbol c.args.known.now c.in-List.at) (sym c.read_symbol.ensures.symbol) ∙ sym c.in_ok-symbol.ensures.symbol ∙ c.in-Ok.is in
     let argument = first (projected s) (λ n. n) c.read_argument_place-argument.result _ (as_it_is _ _ c.read_argument_place-argument.ensures) in
     c.projection_of.ensures.value ∙ last (projected s) c.read_argument_place-argument.result c.ended.result _ _ argument c.ended.ensures

@@ -9,11 +9,11 @@ use Rattle.path_text.specs.Defined.{definition_seen, one_more_defined}
 use Rattle.path_text.proofs.DefinedOnce.{read_is_new, read_is_added, define_lacks, if_seen, seen_twice}
 use Rattle.path_text.proofs.defining.read_define.Goals as goal
 
-pub returns-in_default-as_slice : goal.returns-in_default-as_slice
-returns-in_default-as_slice c =
+pub returns-in_default-members : goal.returns-in_default-members
+returns-in_default-members c =
     let shared = c.args.shared.now in
-    sym (ap (λ x. seen (with_definition shared) (define shared x)) (list_seen c.args.item.now c.in-List.members c.in-List.at c.as_slice.result.now _ c.in-List.is c.as_slice.ensures.value refl)
-    ∙ ap (seen (with_definition shared)) (define_lacks shared c.in-List.at c.as_slice.result.now c.in_default-as_slice.len_below))
+    sym (ap (λ x. seen (with_definition shared) (define shared x)) (list_seen c.args.item.now c.in-List.at c.in-List.members _ c.in-List.is refl)
+    ∙ ap (seen (with_definition shared)) (define_lacks shared c.in-List.at c.in-List.members.now c.in_default-members.len_below))
 
 pub add_definition-requires : goal.add_definition-requires
 add_definition-requires c =
@@ -29,8 +29,8 @@ pub returns : goal.returns
 returns c =
     let shared = c.args.shared.now in
     let mid = c.read_shared_path.new.shared in
-    let members = three_views c.as_slice.result.now c.head-item.result c.word-item.result c.path-item.result c.in-len3-up.len_at_least c.head-item.is c.word-item.is c.path-item.is in
-    let shape = list_seen c.args.item.now c.in-List.members c.in-List.at c.as_slice.result.now _ c.in-List.is c.as_slice.ensures.value members in
+    let members = three_views c.in-List.members.now c.head-item.result c.word-item.result c.path-item.result c.in-len3-up.len_at_least c.head-item.is c.word-item.is c.path-item.is in
+    let shape = list_seen c.args.item.now c.in-List.at c.in-List.members _ c.in-List.is members in
     let head = first definition (λ x. x) c.keyword-head.result _ (as_it_is _ _ c.keyword-head.ensures) in
     let word = next _ (λ w. w.items) c.keyword-head.result c.in_ok-word.word c.both.result _ _ head c.in_ok-word.ensures c.both.ensures in
     let path = next _ (λ p. p.items) c.both.result c.in_ok-path.path c.both-2.result _ _ word c.in_ok-path.ensures.read c.both-2.ensures in

@@ -9,17 +9,17 @@ use Rattle.peak_text.specs.TwoPaths.{two_paths, two_behind}
 use Rattle.peak_text.proofs.TwoPathsLaws.{two_left, two_lack}
 use Rattle.peak_text.proofs.two_paths.read_two.Goals as goal
 
-pub returns-in_default-as_slice-clause-read : goal.returns-in_default-as_slice-clause-read
-returns-in_default-as_slice-clause-read c =
+pub returns-in_default-members-clause-read : goal.returns-in_default-members-clause-read
+returns-in_default-members-clause-read c =
     let word = c.args.word.now in
     let sharing = c.args.sharing.now in
-    sym (ap (two_behind word sharing) (list_seen c.args.item.now c.in-List.members c.in-List.at c.as_slice.result.now _ c.in-List.is c.as_slice.ensures.value refl)
-    ∙ two_lack word sharing c.in-List.at c.as_slice.result.now c.in_default-as_slice.len_below)
+    sym (ap (two_behind word sharing) (list_seen c.args.item.now c.in-List.at c.in-List.members _ c.in-List.is refl)
+    ∙ two_lack word sharing c.in-List.at c.in-List.members.now c.in_default-members.len_below)
 
 pub returns-clause-read : goal.returns-clause-read
 returns-clause-read c =
-    let members = three_views c.as_slice.result.now c.head-item.result c.left-item.result c.right-item.result c.in-len3-up.len_at_least c.head-item.is c.left-item.is c.right-item.is in
-    let shape = list_seen c.args.item.now c.in-List.members c.in-List.at c.as_slice.result.now _ c.in-List.is c.as_slice.ensures.value members in
+    let members = three_views c.in-List.members.now c.head-item.result c.left-item.result c.right-item.result c.in-len3-up.len_at_least c.head-item.is c.left-item.is c.right-item.is in
+    let shape = list_seen c.args.item.now c.in-List.at c.in-List.members _ c.in-List.is members in
     let head = first two_paths (λ x. x) c.keyword-head.result _ (as_it_is _ _ c.keyword-head.ensures) in
     let left = next _ (λ v. v.items) c.keyword-head.result c.in_ok-left.left c.both.result _ _ head c.in_ok-left.ensures.read c.both.ensures in
     let second = c.in_ok-right.ensures.read ∙ ap (λ s. path s (view c.right-item.result)) c.in_ok-left.ensures.left in

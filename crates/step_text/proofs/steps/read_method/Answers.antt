@@ -10,7 +10,7 @@ pub returns-in-Ok-clause-read : goal.returns-in-Ok-clause-read
 returns-in-Ok-clause-read c =
     let named = c.args.system.now in
     let sharing = c.args.sharing.now in
-    let shape = list_seen c.args.item.now c.in-List.members c.in-List.at c.deref.result.now _ c.in-List.is c.deref.ensures.value (ap views c.in-Some.ensures.cases.0) in
+    let shape = list_seen c.args.item.now c.in-List.at c.in-List.members _ c.in-List.is (ap views c.in-Some.ensures.cases.0) in
     let finds = c.read_method_word.ensures named sharing ∙ ap (seen (form_of named sharing)) c.in-Ok.is in
     rw (method_seen named sharing _ _ _ _ _ shape finds) c.read_form.ensures.read
 
@@ -18,6 +18,6 @@ pub returns-in-Err-clause-read : goal.returns-in-Err-clause-read
 returns-in-Err-clause-read c =
     let named = c.args.system.now in
     let sharing = c.args.sharing.now in
-    let shape = list_seen c.args.item.now c.in-List.members c.in-List.at c.deref.result.now _ c.in-List.is c.deref.ensures.value (ap views c.in-Some.ensures.cases.0) in
+    let shape = list_seen c.args.item.now c.in-List.at c.in-List.members _ c.in-List.is (ap views c.in-Some.ensures.cases.0) in
     let finds = c.read_method_word.ensures named sharing ∙ ap (seen (form_of named sharing)) c.in-Err.is in
     sym (method_seen named sharing _ _ _ _ _ shape finds)

@@ -10,17 +10,17 @@ use Rattle.step_text.proofs.StepLaws.{step_left}
 use Rattle.step_text.proofs.MethodSeen.{left_by_method}
 use Rattle.step_text.proofs.steps.read_step.Goals as goal
 
-pub returns-in_default-as_slice-clause-read : goal.returns-in_default-as_slice-clause-read
-returns-in_default-as_slice-clause-read c =
+pub returns-in_default-members-clause-read : goal.returns-in_default-members-clause-read
+returns-in_default-members-clause-read c =
     let named = c.args.system.now in
     let sharing = c.args.sharing.now in
-    sym (ap (step named sharing) (list_seen c.args.item.now c.in-List.members c.in-List.at c.as_slice.result.now _ c.in-List.is c.as_slice.ensures.value refl)
-    ∙ three_lack (keyword (codes "step")) (number (2 ^ 63 - 1)) (method named sharing) done c.in-List.at (Ok node_step) c.as_slice.result.now c.in_default-as_slice.len_below)
+    sym (ap (step named sharing) (list_seen c.args.item.now c.in-List.at c.in-List.members _ c.in-List.is refl)
+    ∙ three_lack (keyword (codes "step")) (number (2 ^ 63 - 1)) (method named sharing) done c.in-List.at (Ok node_step) c.in-List.members.now c.in_default-members.len_below)
 
 pub returns-clause-read : goal.returns-clause-read
 returns-clause-read c =
-    let members = three_views c.as_slice.result.now c.head-item.result c.node-item.result c.method-item.result c.in-len3-up.len_at_least c.head-item.is c.node-item.is c.method-item.is in
-    let shape = list_seen c.args.item.now c.in-List.members c.in-List.at c.as_slice.result.now _ c.in-List.is c.as_slice.ensures.value members in
+    let members = three_views c.in-List.members.now c.head-item.result c.node-item.result c.method-item.result c.in-len3-up.len_at_least c.head-item.is c.node-item.is c.method-item.is in
+    let shape = list_seen c.args.item.now c.in-List.at c.in-List.members _ c.in-List.is members in
     let head = first node_step (λ x. x) c.keyword-head.result _ (as_it_is _ _ c.keyword-head.ensures) in
     let node = next _ (λ x. x) c.keyword-head.result c.read_number-node.result c.both.result _ _ head (as_it_is _ _ c.read_number-node.ensures.value) c.both.ensures in
     let method = next _ step_of c.both.result c.in_ok-method.method c.both-2.result _ _ node c.in_ok-method.ensures.read c.both-2.ensures in
