@@ -1,5 +1,5 @@
 -- The least fault of several items.
-use Rattle.std.proofs.Common.{◌≡◌, sym, ap, ◌∙◌, ℕ, suc, List, ◌∷◌, ◌++◌, Vec, Global, Option, Some, None, refl}
+use Rattle.std.proofs.Common.{◌≡◌, sym, ap, ◌∙◌, ℕ, suc, List, ◌∷◌, ◌++◌, Bor, Option, Some, None, refl}
 use Rattle.sexp_core.specs.declared.sexp.Sexp.{Sexp, List as list_of}
 use Rattle.sexp_core.proofs.Viewing.{view_list}
 use Rattle.sexp_core.specs.Items.{a_list, view, views}
@@ -21,7 +21,7 @@ side_faults_aside symbols s None = refl
 side_faults_aside symbols s (Some at) = refl
 
 -- what stands deeper in a list
-pub deep_list : (n below at : ℕ) (v : Vec Sexp Global) (x : Sexp) (args : List Sexp) → n ≡ suc below → v.items ≡ x ∷ args
-    → deep_faults n (view (list_of v at)) ≡ all_deep_faults below (views args)
+pub deep_list : (n below at : ℕ) (v : Bor (List Sexp)) (x : Sexp) (args : List Sexp) → n ≡ suc below → v.now ≡ x ∷ args
+    → deep_faults n (view (list_of at v)) ≡ all_deep_faults below (views args)
 deep_list n below at v x args e f =
-    ap (λ m. deep_faults m (view (list_of v at))) e ∙ ap (deep_faults (suc below)) (view_list v at ∙ ap (λ xs. a_list xs at) (ap views f))
+    ap (λ m. deep_faults m (view (list_of at v))) e ∙ ap (deep_faults (suc below)) (view_list at v ∙ ap (λ xs. a_list xs at) (ap views f))

@@ -21,7 +21,7 @@ note_deep-returns-in-Some-split_first t c =
     let n = c.args.levels in
     let arm = c.in-Some-split_first in
     let deeper : n ≡ suc c.in-Some.below = omega (arith, c.in-Some.ensures) in
-    let members : c.in-List.members.items ≡ arm.field-0-0.now ∷ arm.args.now = sym c.deref.ensures.value ∙ arm.ensures.cases.0 in
+    let members : c.in-List.members.now ≡ arm.field-0-0.now ∷ arm.args.now = arm.ensures.cases.0 in
     c.note_all_deep.ensures
     ∙ ap (noted c.args.least.now)
-    (sym (ap (λ i. deep_faults n (view i)) c.in-List.is ∙ deep_list n c.in-Some.below c.in-List.field-1 c.in-List.members arm.field-0-0.now arm.args.now deeper members))
+    (sym (ap (λ i. deep_faults n (view i)) c.in-List.is ∙ deep_list n c.in-Some.below c.in-List.field-0 c.in-List.members arm.field-0-0.now arm.args.now deeper members))
