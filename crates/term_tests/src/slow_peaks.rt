@@ -91,8 +91,8 @@ fn unified(alloc: Global, text: Vec<u8>) -> Result<Option<Vec<u8>>, OutOfMemory>
     Ok(None)
 }
 
-/// The part of the outer left side at a letter, the inner left side, and then the top, the left and
-/// the right, with a space before each.
+/// The part of the outer left side at a letter, the inner left side, and then the top, the left
+/// and the right, with a space before each.
 fn overlap(
     alloc: Global,
     outer: TextRule,
@@ -113,8 +113,8 @@ fn overlap(
     )
 }
 
-/// Writes what comes from the first space on, with numbers for variables in the order in which they
-/// come.
+/// Writes what comes from the first space on, with numbers for variables in the order in which
+/// they come.
 fn write_renumbered(alloc: Global, overlap: &[u8], line: &mut Vec<u8>) -> Result<(), OutOfMemory> {
     let mut variables: Vec<u8> = Vec::new(alloc);
     let mut is_behind = false;

@@ -1,4 +1,5 @@
-//! Terms are unified: small ones as by solving equations one after another, and large ones at once.
+//! Terms are unified: small ones as by solving equations one after another, and large ones at
+//! once.
 use crate::exploding::{chained, doubled};
 use crate::made::term;
 use crate::solving::solvable;
@@ -33,7 +34,8 @@ fn earlier(alloc: Global, terms: &[Term], n: usize) -> Result<Term, Fail> {
     }
 }
 
-/// Whether two terms have a unifier just where their equation is solvable, and it makes them equal.
+/// Whether two terms have a unifier just where their equation is solvable, and it makes them
+/// equal.
 fn is_unified(alloc: Global, a: &Term, b: &Term) -> Result<bool, Fail> {
     let solvable = solvable(alloc, a.copy(alloc)?, b.copy(alloc)?)?;
     let Some(unifier) = unify(alloc, a, b)? else {
@@ -79,8 +81,8 @@ fn pair(alloc: Global, x: u32) -> Result<Term, OutOfMemory> {
     term(alloc, 0, [Term::Var(x), Term::Var(x)])
 }
 
-/// The sides of the equations of x2 and f(g(x0), g(x0)), of x3 and g(f(x1, x1)), of x4 and so on up
-/// to so many variables, and last of two such terms.
+/// The sides of the equations of x2 and f(g(x0), g(x0)), of x3 and g(f(x1, x1)), of x4 and so on
+/// up to so many variables, and last of two such terms.
 fn alternating(alloc: Global, count: u32) -> Result<(Term, Term), OutOfMemory> {
     let mut left = Vec::new(alloc);
     let mut right = Vec::new(alloc);
