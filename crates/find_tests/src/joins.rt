@@ -1,12 +1,20 @@
 //! The finders of joins on small systems: what is found, that there is nothing, and stops.
-use crate::made::{constants, show, term};
+use crate::made::{constants, show, system};
 use crate::stops::StopAt;
 use assign_search::{Never, Search, Stop};
 use crit_pairs::critical_pairs;
 use join_find::{find_newman, find_parallel, find_strong};
 use std::alloc::Global;
 use std::test::Fail;
-use trs_core::{Rule, Term, Trs};
+use trs_core::Trs;
+
+/// The kinds of joins.
+#[derive(Clone, Copy)]
+enum Kind {
+    Newman,
+    Parallel,
+    Strong,
+}
 
 const NOT_THERE: u32 = 91;
 
@@ -61,150 +69,86 @@ fn strong<P: Stop>(alloc: Global, trs: &Trs, stop: &mut P) -> Result<Vec<u32>, F
     Ok(shown)
 }
 
-/// Rules 0 f(f(x)) -> g(x) and 1 f(g(x)) -> g(f(x)).
-fn towers(alloc: Global) -> Result<Trs, Fail> {
-    let x = 0;
-    let rules = [
-        Rule {
-            left: term(alloc, 0, [term(alloc, 0, [Term::Var(x)])?])?,
-            right: term(alloc, 1, [Term::Var(x)])?,
-        },
-        Rule {
-            left: term(alloc, 0, [term(alloc, 1, [Term::Var(x)])?])?,
-            right: term(alloc, 1, [term(alloc, 0, [Term::Var(x)])?])?,
-        },
-    ];
-    Ok(Trs::new(
-        Vec::from_array(alloc, [1, 1])?,
-        Vec::from_array(alloc, rules)?,
-    )?)
+/// What the finder of a kind finds, as numbers.
+fn found<P: Stop>(alloc: Global, trs: &Trs, kind: Kind, stop: &mut P) -> Result<Vec<u32>, Fail> {
+    match kind {
+        Kind::Newman => newman(alloc, trs, stop),
+        Kind::Parallel => parallel(alloc, trs, stop),
+        Kind::Strong => strong(alloc, trs, stop),
+    }
 }
 
-#[test]
-fn joins_of_towers(rt: HostRuntime) -> Result<(), Fail> {
-    let alloc = rt.alloc();
-    let trs = towers(alloc)?;
-    let joins = [101, 99, 99, 101, 1, 100, 99, 99];
-    assert_eq!(rt;
-        newman(alloc, &trs, &mut Never)?.as_slice(),
-        joins.as_slice()
-    );
-    assert_eq!(rt;
-        parallel(alloc, &trs, &mut Never)?.as_slice(),
-        [NOT_THERE].as_slice()
-    );
-    assert_eq!(rt;
-        strong(alloc, &trs, &mut Never)?.as_slice(),
-        [NOT_THERE].as_slice()
-    );
-    Ok(())
+/// Some systems:
+/// 0. `a(a(x)) -> b(x)` and `a(b(x)) -> b(a(x))`;
+/// 1. `a -> b`, `a -> c`, `b -> a` and `c -> a`;
+/// 2. no rules: no peaks are joined by no paths;
+/// 3. `a -> b` and `a -> c`, whose peaks have no joins;
+/// 4. `a -> b` twice;
+/// 5. `a -> b`, `b -> a`, `c(x) -> d(x, x)` and `c(a) -> d(b, b)`: a step at the root, and steps of
+///    both arguments.
+fn made(alloc: Global, number: u32) -> Result<Trs, Fail> {
+    match number {
+        0 => system(alloc, &[1, 1], &[(b"aax", b"bx"), (b"abx", b"bax")]),
+        1 => constants(alloc, 3, &[(0, 1), (0, 2), (1, 0), (2, 0)]),
+        2 => constants(alloc, 1, &[]),
+        3 => constants(alloc, 3, &[(0, 1), (0, 2)]),
+        4 => constants(alloc, 2, &[(0, 1), (0, 1)]),
+        _ => system(
+            alloc,
+            &[0, 0, 1, 2],
+            &[(b"a", b"b"), (b"b", b"a"), (b"cx", b"dxx"), (b"ca", b"dbb")],
+        ),
+    }
 }
 
-/// `a -> b`, `a -> c`, `b -> a` and `c -> a`.
-#[test]
-fn strong_joins_of_a_cycle(rt: HostRuntime) -> Result<(), Fail> {
-    let alloc = rt.alloc();
-    let trs = constants(alloc, 3, &[(0, 1), (0, 2), (1, 0), (2, 0)])?;
-    let fours = [
-        103, 99, 102, 99, 102, 99, 103, 99, 102, 99, 103, 99, 103, 99, 102, 99,
-    ];
-    assert_eq!(rt;
-        strong(alloc, &trs, &mut Never)?.as_slice(),
-        fours.as_slice()
-    );
-    assert_eq!(rt;
-        parallel(alloc, &trs, &mut Never)?.as_slice(),
-        [NOT_THERE].as_slice()
-    );
-    Ok(())
-}
+/// What is found on the systems.
+const FOUND: [(u32, Kind, &[u32]); 14] = [
+    (0, Kind::Newman, &[101, 99, 99, 101, 1, 100, 99, 99]),
+    (0, Kind::Parallel, &[NOT_THERE]),
+    (0, Kind::Strong, &[NOT_THERE]),
+    (1, Kind::Parallel, &[NOT_THERE]),
+    (
+        1,
+        Kind::Strong,
+        &[
+            103, 99, 102, 99, 102, 99, 103, 99, 102, 99, 103, 99, 103, 99, 102, 99,
+        ],
+    ),
+    (2, Kind::Newman, &[]),
+    (2, Kind::Parallel, &[]),
+    (2, Kind::Strong, &[]),
+    (3, Kind::Newman, &[NOT_THERE]),
+    (3, Kind::Parallel, &[NOT_THERE]),
+    (3, Kind::Strong, &[NOT_THERE]),
+    (4, Kind::Parallel, &[99, 99]),
+    (
+        5,
+        Kind::Parallel,
+        &[1, 101, 2, 101, 99, 1, 100, 2, 100, 99, 102, 99],
+    ),
+    (5, Kind::Strong, &[NOT_THERE]),
+];
 
-/// No peaks are joined by no paths. `a -> b` and `a -> c` have none that join them.
 #[test]
-fn no_peaks_and_no_joins(rt: HostRuntime) -> Result<(), Fail> {
-    let alloc = rt.alloc();
-    let none = constants(alloc, 1, &[])?;
-    assert_eq!(rt; newman(alloc, &none, &mut Never)?.as_slice(), [].as_slice());
-    assert_eq!(rt;
-        parallel(alloc, &none, &mut Never)?.as_slice(),
-        [].as_slice()
-    );
-    assert_eq!(rt; strong(alloc, &none, &mut Never)?.as_slice(), [].as_slice());
-    let apart = constants(alloc, 3, &[(0, 1), (0, 2)])?;
-    assert_eq!(rt;
-        newman(alloc, &apart, &mut Never)?.as_slice(),
-        [NOT_THERE].as_slice()
-    );
-    assert_eq!(rt;
-        parallel(alloc, &apart, &mut Never)?.as_slice(),
-        [NOT_THERE].as_slice()
-    );
-    assert_eq!(rt;
-        strong(alloc, &apart, &mut Never)?.as_slice(),
-        [NOT_THERE].as_slice()
-    );
-    let twice = constants(alloc, 2, &[(0, 1), (0, 1)])?;
-    assert_eq!(rt;
-        parallel(alloc, &twice, &mut Never)?.as_slice(),
-        [99, 99].as_slice()
-    );
-    Ok(())
-}
-
-/// Rules 0 a -> b, 1 b -> a, 2 g(x) -> h(x, x) and 3 g(a) -> h(b, b): a step at the root and steps of
-/// both arguments.
-#[test]
-fn parallel_steps(rt: HostRuntime) -> Result<(), Fail> {
-    let alloc = rt.alloc();
-    let (a, b, g, h) = (0, 1, 2, 3);
-    let rules = [
-        Rule {
-            left: term(alloc, a, [])?,
-            right: term(alloc, b, [])?,
-        },
-        Rule {
-            left: term(alloc, b, [])?,
-            right: term(alloc, a, [])?,
-        },
-        Rule {
-            left: term(alloc, g, [Term::Var(0)])?,
-            right: term(alloc, h, [Term::Var(0), Term::Var(0)])?,
-        },
-        Rule {
-            left: term(alloc, g, [term(alloc, a, [])?])?,
-            right: term(alloc, h, [term(alloc, b, [])?, term(alloc, b, [])?])?,
-        },
-    ];
-    let arities = Vec::from_array(alloc, [0, 0, 1, 2])?;
-    let trs = Trs::new(arities, Vec::from_array(alloc, rules)?)?;
-    let steps = [1, 101, 2, 101, 99, 1, 100, 2, 100, 99, 102, 99];
-    assert_eq!(rt;
-        parallel(alloc, &trs, &mut Never)?.as_slice(),
-        steps.as_slice()
-    );
-    assert_eq!(rt;
-        strong(alloc, &trs, &mut Never)?.as_slice(),
-        [NOT_THERE].as_slice()
-    );
+fn joins_of_small_systems(rt: HostRuntime) -> Result<(), Fail> {
+    for (number, kind, want) in FOUND {
+        let trs = made(rt.alloc(), number)?;
+        let shown = found(rt.alloc(), &trs, kind, &mut Never)?;
+        assert!(rt; shown.as_slice() == want, "on system {number}");
+    }
     Ok(())
 }
 
 /// Each finder asks before the first peak, and before each of two peaks.
 #[test]
 fn stops_of_finders(rt: HostRuntime) -> Result<(), Fail> {
-    let alloc = rt.alloc();
-    let trs = constants(alloc, 3, &[(0, 1), (0, 2), (1, 0), (2, 0)])?;
-    let twice = constants(alloc, 2, &[(0, 1), (0, 1)])?;
-    for left in 0..5 {
-        let mut stop = StopAt { left, stops: 0 };
-        let found = strong(alloc, &trs, &mut stop)?;
-        assert_eq!(rt; found.as_slice() == [STOPPED].as_slice(), left < 3);
-        let mut stop = StopAt { left, stops: 0 };
-        let found = newman(alloc, &trs, &mut stop)?;
-        assert_eq!(rt; found.as_slice() == [STOPPED].as_slice(), left < 3);
-        let mut stop = StopAt { left, stops: 0 };
-        let found = parallel(alloc, &twice, &mut stop)?;
-        assert_eq!(rt; found.as_slice() == [STOPPED].as_slice(), left < 3);
+    for (number, kind) in [(1, Kind::Newman), (4, Kind::Parallel), (1, Kind::Strong)] {
+        let trs = made(rt.alloc(), number)?;
+        for left in 0..5 {
+            let mut stop = StopAt { left, stops: 0 };
+            let shown = found(rt.alloc(), &trs, kind, &mut stop)?;
+            assert!(rt; (shown.as_slice() == [STOPPED].as_slice()) == (left < 3));
+        }
     }
     Ok(())
 }
@@ -213,21 +157,15 @@ fn stops_of_finders(rt: HostRuntime) -> Result<(), Fail> {
 #[test]
 fn many_peaks(rt: HostRuntime) -> Result<(), Fail> {
     let alloc = rt.alloc();
-    let mut rules = Vec::new(alloc);
+    let mut pairs = Vec::new(alloc);
     for n in 1..146 {
-        rules.push(Rule {
-            left: term(alloc, 0, [])?,
-            right: term(alloc, n, [])?,
-        })?;
+        pairs.push((0, n))?;
     }
     for n in 1..146 {
-        rules.push(Rule {
-            left: term(alloc, n, [])?,
-            right: term(alloc, 146, [])?,
-        })?;
+        pairs.push((n, 146))?;
     }
-    let trs = Trs::new(vec![in alloc; 0; 147]?, rules)?;
+    let trs = constants(alloc, 147, &pairs)?;
     let shown = newman(alloc, &trs, &mut Never)?;
-    assert_eq!(rt; shown.len(), 4 * 20_880);
+    assert!(rt; shown.len() == 4 * 20_880);
     Ok(())
 }

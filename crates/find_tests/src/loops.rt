@@ -1,11 +1,11 @@
 //! The finder of loops, beside a plain program on systems of constants, and at its limits.
-use crate::made::{constants, show, term};
+use crate::made::{constants, show, system};
 use crate::stops::StopAt;
 use assign_search::{Never, Search, Stop};
 use loop_find::find_loop;
 use std::alloc::Global;
 use std::test::Fail;
-use trs_core::{OutOfMemory, Rule, Term, Trs};
+use trs_core::{OutOfMemory, Term, Trs};
 
 const NOT_THERE: u32 = 91;
 
@@ -43,256 +43,189 @@ fn root(t: &Term) -> u32 {
     }
 }
 
-/// The symbol so many times around the term.
-fn tower(alloc: Global, symbol: u32, count: u32, t: Term) -> Result<Term, OutOfMemory> {
-    let mut made = t;
-    for _ in 0..count {
-        made = term(alloc, symbol, [made])?;
+/// A text of letters, each so many times.
+fn repeated(alloc: Global, parts: &[(u8, u32)]) -> Result<Vec<u8>, OutOfMemory> {
+    let mut text = Vec::new(alloc);
+    for (letter, count) in parts {
+        for _ in 0..*count {
+            text.push(*letter)?;
+        }
     }
-    Ok(made)
+    Ok(text)
 }
 
-fn system<const N: usize>(alloc: Global, arities: &[u8], rules: [Rule; N]) -> Result<Trs, Fail> {
-    let mut copied = Vec::new(alloc);
-    for n in arities {
-        copied.push(*n)?;
-    }
-    Ok(Trs::new(copied, Vec::from_array(alloc, rules)?)?)
-}
-
-/// The rule f(x) -> f(f(x)).
-#[test]
-fn a_rule_that_loops(rt: HostRuntime) -> Result<(), Fail> {
-    let alloc = rt.alloc();
-    let f = 0;
-    let rule = Rule {
-        left: term(alloc, f, [Term::Var(0)])?,
-        right: tower(alloc, f, 2, Term::Var(0))?,
-    };
-    let trs = system(alloc, &[1], [rule])?;
-    assert_eq!(rt;
-        shown(alloc, &trs, 0, &mut Never)?.as_slice(),
-        [0, 100, 99].as_slice()
-    );
-    Ok(())
-}
-
-/// Rules 0 f(0, 1, x) -> f(x, x, x), 1 g(x, y) -> x and 2 g(x, y) -> y: no closure loops. A stop comes
-/// before the first attempt, the second and so on.
-#[test]
-fn no_closure_loops(rt: HostRuntime) -> Result<(), Fail> {
-    let alloc = rt.alloc();
-    let (f, zero, one, g) = (0, 1, 2, 3);
-    let (x, y) = (0, 1);
-    let rules = [
-        Rule {
-            left: term(
-                alloc,
-                f,
-                [term(alloc, zero, [])?, term(alloc, one, [])?, Term::Var(x)],
-            )?,
-            right: term(alloc, f, [Term::Var(x), Term::Var(x), Term::Var(x)])?,
-        },
-        Rule {
-            left: term(alloc, g, [Term::Var(x), Term::Var(y)])?,
-            right: Term::Var(x),
-        },
-        Rule {
-            left: term(alloc, g, [Term::Var(x), Term::Var(y)])?,
-            right: Term::Var(y),
-        },
+/// Rules 0 a(x) -> d(x, e(x, .., x), e(x, .., x)) and 1 d(t, x, y) -> a(t), where t has `count` + 1
+/// nodes. The closure of both returns to a(t), through a term of 510 times as many nodes.
+fn wide(alloc: Global, count: u32) -> Result<Trs, Fail> {
+    let parts = [
+        (b'd', 1),
+        (b'x', 1),
+        (b'e', 1),
+        (b'x', 255),
+        (b'e', 1),
+        (b'x', 255),
     ];
-    let trs = system(alloc, &[3, 0, 0, 2], rules)?;
-    assert_eq!(rt;
-        shown(alloc, &trs, 4, &mut Never)?.as_slice(),
-        [NOT_THERE].as_slice()
-    );
-    assert_eq!(rt;
-        shown(alloc, &trs, 3, &mut Never)?.as_slice(),
-        [SPENT].as_slice()
-    );
-    for left in 0..5 {
-        let mut stop = StopAt { left, stops: 0 };
-        let found = shown(alloc, &trs, 20_000, &mut stop)?;
-        assert_eq!(rt; found.as_slice() == [STOPPED].as_slice(), left < 3);
+    let many = repeated(alloc, &parts)?;
+    let from = repeated(
+        alloc,
+        &[(b'd', 1), (b'b', count), (b'c', 1), (b'x', 1), (b'y', 1)],
+    )?;
+    let to = repeated(alloc, &[(b'a', 1), (b'b', count), (b'c', 1)])?;
+    let sides: [(&[u8], &[u8]); 2] = [(b"ax", many.as_slice()), (from.as_slice(), to.as_slice())];
+    system(alloc, &[1, 1, 0, 3, 255], &sides)
+}
+
+/// Some systems:
+/// 0. `a(x) -> a(a(x))`;
+/// 1. `a(b, c, x) -> a(x, x, x)`, `d(x, y) -> x` and `d(x, y) -> y`: no closure loops;
+/// 2. `a(b(x)) -> b(a(x))`, which gives closures up to 256 nodes;
+/// 3. a loop by a path through 76,500 nodes, which passes the limits;
+/// 4. a loop by a path through 51,000 nodes, which does not.
+fn made(alloc: Global, number: u32) -> Result<Trs, Fail> {
+    match number {
+        0 => system(alloc, &[1], &[(b"ax", b"aax")]),
+        1 => system(
+            alloc,
+            &[3, 0, 0, 2],
+            &[(b"abcx", b"axxx"), (b"dxy", b"x"), (b"dxy", b"y")],
+        ),
+        2 => system(alloc, &[1, 1], &[(b"abx", b"bax")]),
+        3 => wide(alloc, 149),
+        _ => wide(alloc, 99),
+    }
+}
+
+/// What is shown on the systems, within so many attempts.
+const SHOWN: [(u32, u64, &[u32]); 6] = [
+    (0, 0, &[0, 100, 99]),
+    (1, 4, &[NOT_THERE]),
+    (1, 3, &[SPENT]),
+    (3, 611, &[NOT_THERE]),
+    (3, 610, &[SPENT]),
+    (4, 611, &[0, 100, 101, 99]),
+];
+
+#[test]
+fn loops_and_paths(rt: HostRuntime) -> Result<(), Fail> {
+    for (number, budget, want) in SHOWN {
+        let trs = made(rt.alloc(), number)?;
+        let found = shown(rt.alloc(), &trs, budget, &mut Never)?;
+        assert!(rt; found.as_slice() == want, "on system {number}");
     }
     Ok(())
 }
 
-/// The rule f(s(x)) -> s(f(x)) gives closures up to 256 nodes, with 32,639 attempts at 254 of them.
+/// Of the sides up to the limit 254 have 32,639 attempts.
 #[test]
 fn sides_up_to_the_limit(rt: HostRuntime) -> Result<(), Fail> {
-    let alloc = rt.alloc();
-    let (f, s) = (0, 1);
-    let rule = Rule {
-        left: term(alloc, f, [term(alloc, s, [Term::Var(0)])?])?,
-        right: term(alloc, s, [term(alloc, f, [Term::Var(0)])?])?,
-    };
-    let trs = system(alloc, &[1, 1], [rule])?;
-    let spent = shown(alloc, &trs, 32_639, &mut Never)?;
-    let ended = shown(alloc, &trs, 32_640, &mut Never)?;
-    assert_eq!(rt; spent.as_slice(), [SPENT].as_slice());
-    assert_eq!(rt; ended.as_slice(), [NOT_THERE].as_slice());
-    Ok(())
-}
-
-/// Rules 0 f(x) -> e(x, p(x, .., x), p(x, .., x)) and 1 e(t, y, z) -> f(t), where t has `count` + 1
-/// nodes. The closure of both returns to f(t), through a term of 510 times as many nodes.
-fn wide(alloc: Global, count: u32) -> Result<Trs, Fail> {
-    let (f, s, c, e, p) = (0, 1, 2, 3, 4);
-    let rules = [
-        Rule {
-            left: term(alloc, f, [Term::Var(0)])?,
-            right: term(alloc, e, [Term::Var(0), many(alloc, p)?, many(alloc, p)?])?,
-        },
-        Rule {
-            left: term(
-                alloc,
-                e,
-                [
-                    tower(alloc, s, count, term(alloc, c, [])?)?,
-                    Term::Var(0),
-                    Term::Var(1),
-                ],
-            )?,
-            right: term(alloc, f, [tower(alloc, s, count, term(alloc, c, [])?)?])?,
-        },
-    ];
-    system(alloc, &[1, 1, 0, 3, 255], rules)
-}
-
-/// The symbol over 255 times the variable 0.
-fn many(alloc: Global, symbol: u32) -> Result<Term, OutOfMemory> {
-    let mut items = Vec::new(alloc);
-    for _ in 0..255 {
-        items.push(Term::Var(0))?;
+    let trs = made(rt.alloc(), 2)?;
+    for (budget, want) in [(32_639, SPENT), (32_640, NOT_THERE)] {
+        let found = shown(rt.alloc(), &trs, budget, &mut Never)?;
+        assert!(rt; found.as_slice() == [want].as_slice());
     }
-    Ok(Term::App(symbol, trs_core::Args::new(items)))
-}
-
-/// A path through 76,500 nodes passes the limits, one through 51,000 nodes does not.
-#[test]
-fn paths_within_the_limits(rt: HostRuntime) -> Result<(), Fail> {
-    let alloc = rt.alloc();
-    let large = wide(alloc, 149)?;
-    assert_eq!(rt;
-        shown(alloc, &large, 611, &mut Never)?.as_slice(),
-        [NOT_THERE].as_slice()
-    );
-    assert_eq!(rt;
-        shown(alloc, &large, 610, &mut Never)?.as_slice(),
-        [SPENT].as_slice()
-    );
-    let small = wide(alloc, 99)?;
-    assert_eq!(rt;
-        shown(alloc, &small, 611, &mut Never)?.as_slice(),
-        [0, 100, 101, 99].as_slice()
-    );
     Ok(())
 }
 
-/// A closure of a system of constants: its ends, and the numbers of its rules.
+/// A stop comes before the first attempt, the second and so on.
+#[test]
+fn stops_of_the_finder(rt: HostRuntime) -> Result<(), Fail> {
+    let trs = made(rt.alloc(), 1)?;
+    for left in 0..5 {
+        let mut stop = StopAt { left, stops: 0 };
+        let found = shown(rt.alloc(), &trs, 20_000, &mut stop)?;
+        assert!(rt; (found.as_slice() == [STOPPED].as_slice()) == (left < 3));
+    }
+    Ok(())
+}
+
+/// A closure of a system of constants: its ends, and its start and rules as they are shown.
 #[derive(Drop)]
 struct Chain {
     from: u32,
     to: u32,
-    rules: Vec<u32>,
+    shown: Vec<u32>,
 }
 
-fn longer(alloc: Global, rules: &[u32], k: u32) -> Result<Vec<u32>, OutOfMemory> {
-    let mut made = Vec::new(alloc);
-    for rule in rules {
-        made.push(*rule)?;
-    }
-    made.push(k)?;
+fn longer(alloc: Global, shown: &[u32], next: u32) -> Result<Vec<u32>, OutOfMemory> {
+    let mut made = Vec::from_slice(alloc, shown)?;
+    made.push(next)?;
     Ok(made)
 }
 
-/// What is shown of a chain that returns to its start.
-fn returned(alloc: Global, chain: &Chain) -> Result<Vec<u32>, OutOfMemory> {
-    let mut shown = Vec::new(alloc);
-    shown.push(chain.from)?;
-    for rule in &chain.rules {
-        shown.push(rule.saturating_add(100))?;
+/// A chain and one more rule, for each rule that continues it, of the first so many rules.
+fn continued(
+    alloc: Global,
+    chain: &Chain,
+    pairs: &[(u32, u32)],
+    tries: u64,
+) -> Result<Vec<Chain>, OutOfMemory> {
+    let mut made = Vec::new(alloc);
+    let mut left = tries;
+    let mut rule: u32 = 100;
+    for (from, to) in pairs {
+        if left > 0 && *from == chain.to {
+            let shown = longer(alloc, &chain.shown, rule)?;
+            let (from, to) = (chain.from, *to);
+            made.push(Chain { from, to, shown })?;
+        }
+        left = left.saturating_sub(1);
+        rule = rule.saturating_add(1);
     }
-    shown.push(99)?;
-    Ok(shown)
-}
-
-/// The number of a rule.
-fn number(k: usize) -> u32 {
-    u32::try_from(k).unwrap_or(u32::MAX)
+    Ok(made)
 }
 
 /// All chains of rules from one constant to another, one after another.
 fn plainly(alloc: Global, pairs: &[(u32, u32)], budget: u64) -> Result<Vec<u32>, OutOfMemory> {
     let mut chains = Vec::new(alloc);
-    for (k, pair) in pairs.iter().enumerate() {
-        let rules = longer(alloc, &[], number(k))?;
-        let chain = Chain {
-            from: pair.0,
-            to: pair.1,
-            rules,
-        };
-        if chain.from == chain.to {
-            return returned(alloc, &chain);
+    let mut rule: u32 = 100;
+    for (from, to) in pairs {
+        let (from, to) = (*from, *to);
+        let shown = longer(alloc, &[from], rule)?;
+        if from == to {
+            return longer(alloc, &shown, 99);
         }
-        chains.push(chain)?;
+        chains.push(Chain { from, to, shown })?;
+        rule = rule.saturating_add(1);
     }
-    let mut attempts = 0;
-    let mut next = 0;
-    for _ in 0..1_000 {
+    let mut left = budget;
+    for next in 0..1_000 {
         let Some(chain) = chains.get(next) else {
             break;
         };
-        let (from, to) = (chain.from, chain.to);
-        let before = Vec::from_slice(alloc, &chain.rules)?;
-        for (k, pair) in pairs.iter().enumerate() {
-            if attempts >= budget {
-                return one(alloc, SPENT);
+        for chain in continued(alloc, chain, pairs, left)? {
+            if chain.from == chain.to {
+                return longer(alloc, &chain.shown, 99);
             }
-            attempts += 1;
-            if pair.0 == to {
-                let rules = longer(alloc, &before, number(k))?;
-                let chain = Chain {
-                    from,
-                    to: pair.1,
-                    rules,
-                };
-                if chain.from == chain.to {
-                    return returned(alloc, &chain);
-                }
-                chains.push(chain)?;
-            }
+            chains.push(chain)?;
         }
-        next += 1;
+        left = left.saturating_sub(pairs.len() as u64);
+        if left == 0 {
+            return longer(alloc, &[], SPENT);
+        }
     }
-    if attempts >= budget {
-        return one(alloc, SPENT);
-    }
-    one(alloc, NOT_THERE)
+    longer(alloc, &[], NOT_THERE)
 }
 
-fn one(alloc: Global, n: u32) -> Result<Vec<u32>, OutOfMemory> {
-    let mut shown = Vec::new(alloc);
-    shown.push(n)?;
-    Ok(shown)
+/// Whether both ways show the same within each of some budgets.
+fn same_shown(alloc: Global, pairs: &[(u32, u32)]) -> Result<bool, Fail> {
+    let trs = constants(alloc, 3, pairs)?;
+    for budget in [0, 1, 5, 12, 60] {
+        let found = shown(alloc, &trs, budget, &mut Never)?;
+        if found.as_slice() != plainly(alloc, pairs, budget)?.as_slice() {
+            return Ok(false);
+        }
+    }
+    Ok(true)
 }
 
 /// All systems of three rules over three constants.
 #[test]
 fn chains_of_constants(rt: HostRuntime) -> Result<(), Fail> {
-    let alloc = rt.alloc();
     for a in 0..9 {
         for b in 0..9 {
             for c in 0..9 {
                 let pairs = [(a / 3, a % 3), (b / 3, b % 3), (c / 3, c % 3)];
-                let trs = constants(alloc, 3, &pairs)?;
-                for budget in [0, 1, 5, 12, 60] {
-                    let found = shown(alloc, &trs, budget, &mut Never)?;
-                    let wanted = plainly(alloc, &pairs, budget)?;
-                    assert_eq!(rt; found.as_slice(), wanted.as_slice());
-                }
+                assert!(rt; same_shown(rt.alloc(), &pairs)?, "of {a}, {b} and {c}");
             }
         }
     }

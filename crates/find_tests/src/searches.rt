@@ -22,49 +22,52 @@ fn shown<S: Space>(alloc: Global, space: &S, budget: u64) -> Result<Vec<u32>, Ou
 /// With values below 3, (0), (1) and (2, 0) are refuted before the solution (2, 1).
 #[test]
 fn solutions_of_two_slots(rt: HostRuntime) -> Result<(), Fail> {
-    let alloc = rt.alloc();
-    let mut pair = Pair {
-        first: 2,
-        second: 1,
-        sizes: (3, 3),
-    };
-    assert_eq!(rt; shown(alloc, &pair, 0)?.as_slice(), [SPENT].as_slice());
-    assert_eq!(rt; shown(alloc, &pair, 3)?.as_slice(), [SPENT].as_slice());
-    assert_eq!(rt; shown(alloc, &pair, 4)?.as_slice(), [2, 1].as_slice());
-    pair.second = 3;
-    assert_eq!(rt; shown(alloc, &pair, 5)?.as_slice(), [SPENT].as_slice());
-    assert_eq!(rt; shown(alloc, &pair, 6)?.as_slice(), [NOT_THERE].as_slice());
-    pair.sizes = (3, 0);
-    assert_eq!(rt; shown(alloc, &pair, 2)?.as_slice(), [SPENT].as_slice());
-    assert_eq!(rt; shown(alloc, &pair, 3)?.as_slice(), [NOT_THERE].as_slice());
-    pair.first = 0;
-    pair.sizes = (0, 9);
-    assert_eq!(rt; shown(alloc, &pair, 1)?.as_slice(), [NOT_THERE].as_slice());
+    let rows: [(u32, u32, (u32, u32), u64, &[u32]); 8] = [
+        (2, 1, (3, 3), 0, &[SPENT]),
+        (2, 1, (3, 3), 3, &[SPENT]),
+        (2, 1, (3, 3), 4, &[2, 1]),
+        (2, 3, (3, 3), 5, &[SPENT]),
+        (2, 3, (3, 3), 6, &[NOT_THERE]),
+        (2, 3, (3, 0), 2, &[SPENT]),
+        (2, 3, (3, 0), 3, &[NOT_THERE]),
+        (0, 3, (0, 9), 1, &[NOT_THERE]),
+    ];
+    for (first, second, sizes, budget, want) in rows {
+        let pair = Pair {
+            first,
+            second,
+            sizes,
+        };
+        let found = shown(rt.alloc(), &pair, budget)?;
+        assert!(rt; found.as_slice() == want);
+    }
     Ok(())
 }
 
 /// No slots: the empty prefix is a solution or refuted.
 #[test]
 fn no_slots_and_many(rt: HostRuntime) -> Result<(), Fail> {
-    let alloc = rt.alloc();
-    let mut deep = Deep {
-        slots: 0,
-        truth: Some(true),
+    let rows: [(u32, bool, u64, &[u32]); 6] = [
+        (0, true, 1, &[]),
+        (0, false, 1, &[SPENT]),
+        (0, false, 2, &[NOT_THERE]),
+        (3, false, 8, &[SPENT]),
+        (3, false, 9, &[NOT_THERE]),
+        (20, false, 1_000_000, &[SPENT]),
+    ];
+    for (slots, truth, budget, want) in rows {
+        let deep = Deep {
+            slots,
+            truth: Some(truth),
+        };
+        let found = shown(rt.alloc(), &deep, budget)?;
+        assert!(rt; found.as_slice() == want);
+    }
+    let deep = Deep {
+        slots: 20,
+        truth: None,
     };
-    assert_eq!(rt; shown(alloc, &deep, 1)?.as_slice(), [].as_slice());
-    deep.truth = Some(false);
-    assert_eq!(rt; shown(alloc, &deep, 1)?.as_slice(), [SPENT].as_slice());
-    assert_eq!(rt; shown(alloc, &deep, 2)?.as_slice(), [NOT_THERE].as_slice());
-    deep.slots = 3;
-    assert_eq!(rt; shown(alloc, &deep, 8)?.as_slice(), [SPENT].as_slice());
-    assert_eq!(rt; shown(alloc, &deep, 9)?.as_slice(), [NOT_THERE].as_slice());
-    deep.slots = 20;
-    assert_eq!(rt;
-        shown(alloc, &deep, 1_000_000)?.as_slice(),
-        [SPENT].as_slice()
-    );
-    deep.truth = None;
-    assert!(rt; first_solution(alloc, &deep, 2, &mut Never).is_err());
+    assert!(rt; first_solution(rt.alloc(), &deep, 2, &mut Never).is_err());
     Ok(())
 }
 
@@ -80,8 +83,8 @@ fn stops_of_a_search(rt: HostRuntime) -> Result<(), Fail> {
     for left in 0..9 {
         let mut stop = StopAt { left, stops: 0 };
         let answer = first_solution(alloc, &pair, 100, &mut stop)?;
-        assert_eq!(rt; matches!(&answer, Search::Stopped), left < 6);
-        assert_eq!(rt; stop.stops, u64::from(left < 6));
+        assert!(rt; matches!(&answer, Search::Stopped) == (left < 6));
+        assert!(rt; stop.stops == u64::from(left < 6));
     }
     Ok(())
 }

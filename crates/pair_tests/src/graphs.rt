@@ -1,14 +1,14 @@
-//! Edges, steps by the graph and components on small systems.
+//! Edges, steps by the graph and components, beside a table of edges.
 use crate::numbers::all_numbers;
 use crate::slow::{self, TextPair};
 use crate::slow_graph::{Component, Table, components};
-use crate::texts::{RULES, TextRule, rule, system};
+use crate::texts::TextRule;
 use dp_core::dependency_pairs;
 use dp_graph::{GraphItem, PairGraph};
 use rewrite_core::{CheckFault, StepRefused};
 use std::alloc::Global;
 use std::test::Fail;
-use trs_core::OutOfMemory;
+use trs_core::{OutOfMemory, Trs};
 
 /// Whether a step by the graph tells of an edge between two pairs, both single, the second one
 /// first.
@@ -29,7 +29,7 @@ fn is_refused(alloc: Global, graph: &PairGraph, m: u32, n: u32) -> Result<bool, 
 }
 
 /// The edges, found slowly.
-fn table(alloc: Global, rules: &[TextRule], pairs: &[TextPair]) -> Result<Table, OutOfMemory> {
+pub fn table(alloc: Global, rules: &[TextRule], pairs: &[TextPair]) -> Result<Table, OutOfMemory> {
     let mut cells = Vec::new(alloc);
     for from in pairs {
         for to in pairs {
@@ -43,12 +43,13 @@ fn table(alloc: Global, rules: &[TextRule], pairs: &[TextPair]) -> Result<Table,
 }
 
 /// Whether the refusals are those that the table tells.
-fn same_edges(
+pub fn same_edges(
     alloc: Global,
+    trs: &Trs,
     graph: &PairGraph,
     edges: &Table,
-    numbers: &[u32],
 ) -> Result<bool, OutOfMemory> {
+    let numbers = all_numbers(alloc, trs, &dependency_pairs(alloc, trs)?)?;
     for (i, m) in numbers.iter().enumerate() {
         for (j, n) in numbers.iter().enumerate() {
             if is_refused(alloc, graph, *m, *n)? != edges.has(i, j) {
@@ -57,25 +58,6 @@ fn same_edges(
         }
     }
     Ok(numbers.len() == edges.count)
-}
-
-#[test]
-fn edges_of_small_systems(rt: HostRuntime) -> Result<(), Fail> {
-    let alloc = rt.alloc();
-    for first in 0..RULES {
-        for second in 0..RULES {
-            let rules = [rule(first), rule(second)];
-            let trs = system(alloc, first, second)?;
-            let graph = PairGraph::new(alloc, &trs)?;
-            let edges = table(alloc, &rules, &slow::pairs(alloc, &rules)?)?;
-            let numbers = all_numbers(alloc, &trs, &dependency_pairs(alloc, &trs)?)?;
-            assert!(rt;
-                same_edges(alloc, &graph, &edges, &numbers)?,
-                "at {first}, {second}"
-            );
-        }
-    }
-    Ok(())
 }
 
 fn is_item(item: &GraphItem, component: &Component) -> bool {
@@ -87,38 +69,37 @@ fn is_item(item: &GraphItem, component: &Component) -> bool {
 }
 
 /// Whether the components are those of the table, and a step by them leaves their groups.
-fn same_components(alloc: Global, first: u32, second: u32) -> Result<bool, Fail> {
-    let rules = [rule(first), rule(second)];
-    let trs = system(alloc, first, second)?;
-    let graph = PairGraph::new(alloc, &trs)?;
-    let numbers = all_numbers(alloc, &trs, &dependency_pairs(alloc, &trs)?)?;
+pub fn same_components(
+    alloc: Global,
+    trs: &Trs,
+    graph: &PairGraph,
+    edges: &Table,
+) -> Result<bool, Fail> {
+    let numbers = all_numbers(alloc, trs, &dependency_pairs(alloc, trs)?)?;
     let items = graph.components(alloc, &numbers)?;
-    let slow = components(alloc, &table(alloc, &rules, &slow::pairs(alloc, &rules)?)?)?;
+    let slow = components(alloc, edges)?;
+    let groups = graph.group_check(alloc, &numbers, &items)?;
+    Ok(groups.len() == cycles(&slow) && are_same(&items, &slow))
+}
+
+fn cycles(components: &[Component]) -> usize {
+    let mut count: usize = 0;
+    for component in components {
+        if component.on_cycle {
+            count = count.saturating_add(1);
+        }
+    }
+    count
+}
+
+fn are_same(items: &[GraphItem], slow: &[Component]) -> bool {
     for (i, item) in items.iter().enumerate() {
         if !slow
             .get(i)
             .is_some_and(|component| is_item(item, component))
         {
-            return Ok(false);
+            return false;
         }
     }
-    let groups = graph.group_check(alloc, &numbers, &items)?;
-    Ok(
-        items.len() == slow.len()
-            && groups.len() == slow.iter().filter(|component| component.on_cycle).count(),
-    )
-}
-
-#[test]
-fn components_of_small_systems(rt: HostRuntime) -> Result<(), Fail> {
-    let alloc = rt.alloc();
-    for first in 0..RULES {
-        for second in 0..RULES {
-            assert!(rt;
-                same_components(alloc, first, second)?,
-                "at {first}, {second}"
-            );
-        }
-    }
-    Ok(())
+    items.len() == slow.len()
 }

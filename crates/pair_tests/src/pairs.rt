@@ -1,11 +1,10 @@
-//! Pairs, usable rules and the subterm criterion on small systems.
+//! Pairs, usable rules and the subterm criterion, beside those of texts.
 use crate::numbers::all_numbers;
 use crate::slow::{self, TextPair};
-use crate::texts::{RULES, arity, first_term, rule, system};
+use crate::texts::{TextRule, arity, first_term};
 use dp_core::{DpPair, dependency_pairs, subterm_check};
 use rewrite_core::{CheckFault, StepRefused};
 use std::alloc::Global;
-use std::test::Fail;
 use trs_core::{OutOfMemory, Term, Trs};
 use usable_rules::usable;
 
@@ -40,7 +39,7 @@ fn same_pair(alloc: Global, trs: &Trs, p: &DpPair, slow: &TextPair) -> Result<bo
     Ok(p.rule == slow.rule && text.as_slice() == slow.to)
 }
 
-fn same_pairs(
+pub fn same_pairs(
     alloc: Global,
     trs: &Trs,
     all: &[DpPair],
@@ -57,48 +56,36 @@ fn same_pairs(
     Ok(all.len() == slow.len())
 }
 
-#[test]
-fn pairs_of_small_systems(rt: HostRuntime) -> Result<(), Fail> {
-    let alloc = rt.alloc();
-    for first in 0..RULES {
-        for second in 0..RULES {
-            let trs = system(alloc, first, second)?;
-            let all = dependency_pairs(alloc, &trs)?;
-            let slow = slow::pairs(alloc, &[rule(first), rule(second)])?;
-            assert!(rt;
-                same_pairs(alloc, &trs, &all, &slow)?,
-                "at {first}, {second}"
-            );
-        }
-    }
-    Ok(())
-}
-
 /// Whether the usable rules of all pairs are those whose roots are found.
-fn same_usable(alloc: Global, first: u32, second: u32) -> Result<bool, Fail> {
-    let trs = system(alloc, first, second)?;
-    let all = dependency_pairs(alloc, &trs)?;
-    let found = usable(alloc, &trs, &all, &all_numbers(alloc, &trs, &all)?)?;
-    let rules = [rule(first), rule(second)];
-    let letters = slow::usable(alloc, &rules, &slow::pairs(alloc, &rules)?)?;
-    let mut slow: Vec<u32> = Vec::new(alloc);
-    for (k, text) in [(0, rules[0].0), (1, rules[1].0)] {
-        if text.first().is_some_and(|root| letters.contains(root)) {
-            slow.push(k)?;
-        }
-    }
-    Ok(found.as_slice() == slow.as_slice())
+pub fn same_usable(
+    alloc: Global,
+    trs: &Trs,
+    rules: &[TextRule],
+    pairs: &[TextPair],
+) -> Result<bool, OutOfMemory> {
+    let all = dependency_pairs(alloc, trs)?;
+    let found = usable(alloc, trs, &all, &all_numbers(alloc, trs, &all)?)?;
+    Ok(found.as_slice() == slow_usable(alloc, rules, pairs)?.as_slice())
 }
 
-#[test]
-fn usable_rules_of_small_systems(rt: HostRuntime) -> Result<(), Fail> {
-    let alloc = rt.alloc();
-    for first in 0..RULES {
-        for second in 0..RULES {
-            assert!(rt; same_usable(alloc, first, second)?, "at {first}, {second}");
+/// The rules whose roots are found.
+fn slow_usable(
+    alloc: Global,
+    rules: &[TextRule],
+    pairs: &[TextPair],
+) -> Result<Vec<u32>, OutOfMemory> {
+    let letters = slow::usable(alloc, rules, pairs)?;
+    let mut found = Vec::new(alloc);
+    let mut number: u32 = 0;
+    for (left, _) in rules {
+        if let Some(root) = left.first() {
+            if letters.contains(root) {
+                found.push(number)?;
+            }
         }
+        number = number.saturating_add(1);
     }
-    Ok(())
+    Ok(found)
 }
 
 /// The argument at a place, from 1, of a text.
@@ -145,37 +132,25 @@ fn stays(
     Ok(Ok(left))
 }
 
-/// Whether both ways leave the same pairs.
-fn same_stays(alloc: Global, first: u32, second: u32, place: u8) -> Result<bool, Fail> {
-    let trs = system(alloc, first, second)?;
-    let all = dependency_pairs(alloc, &trs)?;
-    let numbers = all_numbers(alloc, &trs, &all)?;
-    let found = subterm_check(alloc, &trs, &all, &numbers, &[(1, 1), (2, place)]);
-    let slow = slow::pairs(alloc, &[rule(first), rule(second)])?;
-    Ok(match (found, stays(alloc, &slow, place)?) {
-        (Ok(left), Ok(slow)) => left.as_slice() == slow.as_slice(),
-        (Err(CheckFault::Refused(StepRefused::PairNotWeak(n))), Err(slow)) => n == slow,
-        (Err(CheckFault::Refused(StepRefused::NothingRemoved)), Ok(left)) => {
-            left.len() == all.len()
-        }
-        _ => false,
-    })
+/// Whether both ways leave the same pairs, where `f` is projected to this place.
+pub fn same_stays(
+    alloc: Global,
+    trs: &Trs,
+    slow: &[TextPair],
+    place: u8,
+) -> Result<bool, OutOfMemory> {
+    let all = dependency_pairs(alloc, trs)?;
+    let numbers = all_numbers(alloc, trs, &all)?;
+    let found = subterm_check(alloc, trs, &all, &numbers, &[(1, 1), (2, place)]);
+    Ok(is_same(found, stays(alloc, slow, place)?, all.len()))
 }
 
-#[test]
-fn subterm_steps_of_small_systems(rt: HostRuntime) -> Result<(), Fail> {
-    let alloc = rt.alloc();
-    for first in 0..RULES {
-        for second in 0..RULES {
-            assert!(rt;
-                same_stays(alloc, first, second, 1)?,
-                "at {first}, {second}"
-            );
-            assert!(rt;
-                same_stays(alloc, first, second, 2)?,
-                "at {first}, {second}"
-            );
-        }
+/// Whether an answer of so many pairs is that of the slow program.
+fn is_same(found: Result<Vec<u32>, CheckFault>, slow: Result<Vec<u32>, u64>, all: usize) -> bool {
+    match (found, slow) {
+        (Ok(left), Ok(slow)) => left.as_slice() == slow.as_slice(),
+        (Err(CheckFault::Refused(StepRefused::PairNotWeak(n))), Err(slow)) => n == slow,
+        (Err(CheckFault::Refused(StepRefused::NothingRemoved)), Ok(slow)) => slow.len() == all,
+        _ => false,
     }
-    Ok(())
 }

@@ -1,31 +1,21 @@
 //! Caps of terms, and terms that they keep apart.
-use crate::made::{one_rule, term};
+use crate::made::term;
+use crate::texts::{ARITIES, system};
 use nonjoin::apart;
 use std::alloc::Global;
 use std::test::Fail;
 use trs_caps::tcap;
-use trs_core::{Rule, Term, Trs};
+use trs_core::{Term, Trs};
 
 /// `f(x, x) -> c` and `g(c) -> c`, with the symbols `c`, `g` and `f`.
-fn system(alloc: Global) -> Result<Trs, Fail> {
-    let mut rules = Vec::new(alloc);
-    let left = term(alloc, 2, [Term::Var(0), Term::Var(0)])?;
-    rules.push(Rule {
-        left,
-        right: term(alloc, 0, [])?,
-    })?;
-    let left = term(alloc, 1, [term(alloc, 0, [])?])?;
-    rules.push(Rule {
-        left,
-        right: term(alloc, 0, [])?,
-    })?;
-    Ok(Trs::new(Vec::from_array(alloc, [0, 1, 2])?, rules)?)
+fn two_rules(alloc: Global) -> Result<Trs, Fail> {
+    system(alloc, &ARITIES, &[(b"c00", b"a"), (b"ba", b"a")])
 }
 
 #[test]
 fn a_fixed_variable_keeps_its_symbol(rt: HostRuntime) -> Result<(), Fail> {
     let alloc = rt.alloc();
-    let trs = system(alloc)?;
+    let trs = two_rules(alloc)?;
     let below = term(alloc, 1, [Term::Var(5)])?;
     let whole = term(alloc, 2, [Term::Var(5), below])?;
     let fixed = tcap(alloc, &trs, &whole, true)?;
@@ -38,7 +28,7 @@ fn a_fixed_variable_keeps_its_symbol(rt: HostRuntime) -> Result<(), Fail> {
 #[test]
 fn a_marked_root_is_kept(rt: HostRuntime) -> Result<(), Fail> {
     let alloc = rt.alloc();
-    let trs = system(alloc)?;
+    let trs = two_rules(alloc)?;
     let redex = term(alloc, 1, [term(alloc, 0, [])?])?;
     let marked = term(alloc, 4098, [redex, Term::Var(0)])?;
     let cap = tcap(alloc, &trs, &marked, true)?;
@@ -49,13 +39,7 @@ fn a_marked_root_is_kept(rt: HostRuntime) -> Result<(), Fail> {
 #[test]
 fn one_variable_is_one_constant(rt: HostRuntime) -> Result<(), Fail> {
     let alloc = rt.alloc();
-    let left = term(alloc, 2, [Term::Var(0), Term::Var(1)])?;
-    let trs = one_rule(
-        alloc,
-        Vec::from_array(alloc, [0, 1, 2])?,
-        left,
-        Term::Var(0),
-    )?;
+    let trs = system(alloc, &ARITIES, &[(b"c01", b"0")])?;
     assert!(rt; apart(alloc, &trs, &Term::Var(0), &Term::Var(1))?);
     assert!(rt; !apart(alloc, &trs, &Term::Var(1), &Term::Var(1))?);
     let below = term(alloc, 1, [Term::Var(0)])?;

@@ -4,6 +4,8 @@
 #[cfg(test)]
 mod caps;
 #[cfg(test)]
+mod exploding;
+#[cfg(test)]
 mod made;
 #[cfg(test)]
 mod peaks;
@@ -12,10 +14,14 @@ mod slow;
 #[cfg(test)]
 mod slow_peaks;
 #[cfg(test)]
+mod solving;
+#[cfg(test)]
 mod steps;
 #[cfg(test)]
 mod systems;
 #[cfg(test)]
 mod terms;
+#[cfg(test)]
+mod texts;
 #[cfg(test)]
 mod unifying;

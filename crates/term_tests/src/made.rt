@@ -1,12 +1,11 @@
-//! Terms, positions and systems that tests make.
+//! Terms, positions and paths that tests make.
 ghost use Rattle.std.specs.Prelude.{◌≡◌, map, IfOk};
 ghost use Rattle.trs_defs.specs.Tree.{app, trees};
 ghost use Rattle.trs_core.specs.View.{tree};
 
 use rewrite_core::PathStep;
 use std::alloc::Global;
-use std::test::Fail;
-use trs_core::{Args, OutOfMemory, Position, Rule, Term, Trs};
+use trs_core::{Args, OutOfMemory, Position, Term};
 
 /// A symbol with these arguments.
 pub fn term<const N: usize>(
@@ -26,13 +25,6 @@ pub fn tower(alloc: Global, symbol: u32, height: u32, top: Term) -> Result<Term,
         made = term(alloc, symbol, [made])?;
     }
     Ok(made)
-}
-
-/// The system of one rule.
-pub fn one_rule(alloc: Global, arities: Vec<u8>, left: Term, right: Term) -> Result<Trs, Fail>
-    ensures { IfOk result (λ trs. trs.arities ≡ arities.items) }
-{
-    Ok(Trs::new(arities, Vec::from_array(alloc, [Rule { left, right }])?)?)
 }
 
 /// The position of these places, but for those that are 0.

@@ -1,6 +1,7 @@
 //! Steps, paths and loops, at the limits of terms too.
-use crate::made::{one_rule, ones, repeated, term, tower};
-use crate::slow;
+use crate::made::{ones, repeated, term, tower};
+use crate::slow::{slow_system, steps, text};
+use crate::texts::{ARITIES, first_term, system};
 use rewrite_core::{
     CheckFault, PathFault, PathStep, StepFault, StepRefused, is_normal, loop_check, redexes,
     run_path, step_at,
@@ -11,9 +12,7 @@ use trs_core::{OutOfMemory, Term, Trs};
 
 /// `f(x) -> f(f(x))`, with the one symbol 0.
 fn growing(alloc: Global) -> Result<Trs, Fail> {
-    let left = tower(alloc, 0, 1, Term::Var(0))?;
-    let right = tower(alloc, 0, 2, Term::Var(0))?;
-    one_rule(alloc, Vec::from_array(alloc, [1])?, left, right)
+    system(alloc, &[1], &[(b"a0", b"aa0")])
 }
 
 /// What a loop is refused for, of so many steps from `f(y)`, with its instance under so many
@@ -31,12 +30,12 @@ fn a_growing_term_loops(rt: HostRuntime) -> Result<(), Fail> {
     for (steps, place, want) in [
         (1, 0, None),
         (1, 1, None),
-        (1, 2, Some(StepRefused::NotInstance)),
-        (1, 3, Some(StepRefused::NoPlace)),
-        (0, 0, Some(StepRefused::NoSteps)),
+        (1, 2, Some(CheckFault::Refused(StepRefused::NotInstance))),
+        (1, 3, Some(CheckFault::Refused(StepRefused::NoPlace))),
+        (0, 0, Some(CheckFault::Refused(StepRefused::NoSteps))),
     ] {
         let found = refused(alloc, steps, place)?;
-        assert_eq!(rt; found, want.map(CheckFault::Refused), "at {place}");
+        assert!(rt; found == want, "at {place}");
     }
     Ok(())
 }
@@ -48,15 +47,15 @@ fn a_growing_term_has_a_redex(rt: HostRuntime) -> Result<(), Fail> {
     let start = term(alloc, 0, [Term::Var(7)])?;
     assert!(rt; !is_normal(alloc, &trs, &start)?);
     assert!(rt; is_normal(alloc, &trs, &Term::Var(7))?);
-    assert_eq!(rt; redexes(alloc, &trs, &start)?.len(), 1);
+    assert!(rt; redexes(alloc, &trs, &start)?.len() == 1);
     Ok(())
 }
 
 #[test]
 fn a_reason_has_a_number_and_fields(rt: HostRuntime) {
     let reason = StepRefused::EdgeBack(7, 9);
-    assert_eq!(rt; reason.number(), 9);
-    assert_eq!(rt; reason.fields().as_slice(), [7, 9].as_slice());
+    assert!(rt; reason.number() == 9);
+    assert!(rt; reason.fields().as_slice() == [7, 9].as_slice());
 }
 
 /// A term as deep as the limit, by a step from one that is less deep by one.
@@ -81,7 +80,7 @@ fn a_term_is_no_deeper_than_the_limit(rt: HostRuntime) -> Result<(), Fail> {
     let alloc = rt.alloc();
     let trs = growing(alloc)?;
     let deepest = deepest(alloc, &trs)?;
-    assert_eq!(rt; deepest.depth(), 1_024);
+    assert!(rt; deepest.depth() == 1_024);
     for (place, rule, want) in [
         (0, 0, StepFault::TooLarge),
         (1_022, 0, StepFault::TooLarge),
@@ -90,16 +89,14 @@ fn a_term_is_no_deeper_than_the_limit(rt: HostRuntime) -> Result<(), Fail> {
         (1_024, 1, StepFault::NoRule),
     ] {
         let found = step_fault(alloc, &trs, &deepest, place, rule)?;
-        assert_eq!(rt; found, Some(want), "at {place}");
+        assert!(rt; found == Some(want), "at {place}");
     }
     Ok(())
 }
 
 /// `d(x) -> p(x, x)`, with the symbols `d`, `p` and a constant.
 fn doubling(alloc: Global) -> Result<Trs, Fail> {
-    let left = term(alloc, 0, [Term::Var(0)])?;
-    let right = term(alloc, 1, [Term::Var(0), Term::Var(0)])?;
-    one_rule(alloc, Vec::from_array(alloc, [1, 2, 0])?, left, right)
+    system(alloc, &[1, 2, 0], &[(b"a0", b"b00")])
 }
 
 /// Steps from the lowest of 16 symbols upward.
@@ -123,9 +120,9 @@ fn doubled(alloc: Global, steps: u32) -> Result<Result<Term, PathFault>, Fail> {
 #[test]
 fn a_term_is_no_larger_than_the_limit(rt: HostRuntime) -> Result<(), Fail> {
     let alloc = rt.alloc();
-    assert_eq!(rt; doubled(alloc, 15)??.size(), 65_536);
+    assert!(rt; doubled(alloc, 15)??.size() == 65_536);
     let found = doubled(alloc, 16)?.err();
-    assert_eq!(rt; found, Some(PathFault::At(15, StepFault::TooLarge)));
+    assert!(rt; found == Some(PathFault::At(15, StepFault::TooLarge)));
     Ok(())
 }
 
@@ -141,9 +138,7 @@ fn large(alloc: Global, branches: u32) -> Result<Term, OutOfMemory> {
 
 /// The nodes after so many steps by `a -> a` under so many symbols.
 fn nodes(alloc: Global, start: &Term, steps: u32, place: u32) -> Result<u64, Fail> {
-    let arities = Vec::from_array(alloc, [0, 1, 2])?;
-    let left = term(alloc, 0, [])?;
-    let trs = one_rule(alloc, arities, left, term(alloc, 0, [])?)?;
+    let trs = system(alloc, &ARITIES, &[(b"a", b"a")])?;
     Ok(run_path(alloc, &trs, start, &repeated(alloc, steps, place)?)?.size())
 }
 
@@ -151,23 +146,20 @@ fn nodes(alloc: Global, start: &Term, steps: u32, place: u32) -> Result<u64, Fai
 fn long_paths_are_followed(rt: HostRuntime) -> Result<(), Fail> {
     let alloc = rt.alloc();
     let start = term(alloc, 0, [])?;
-    assert_eq!(rt; nodes(alloc, &start, 100_000, 0)?, 1);
-    assert_eq!(rt; nodes(alloc, &large(alloc, 60)?, 20_000, 60)?, 30_001);
+    assert!(rt; nodes(alloc, &start, 100_000, 0)? == 1);
+    assert!(rt; nodes(alloc, &large(alloc, 60)?, 20_000, 60)? == 30_001);
     Ok(())
 }
 
 /// The nodes after so many steps by `p(x, y) -> x`, with the symbol 2 for `p`, below the root.
 fn cut(alloc: Global, branches: u32, steps: u32) -> Result<Result<u64, PathFault>, Fail> {
-    let left = term(alloc, 2, [Term::Var(0), Term::Var(1)])?;
-    let trs = one_rule(
-        alloc,
-        Vec::from_array(alloc, [0, 1, 2])?,
-        left,
-        Term::Var(0),
-    )?;
+    let trs = system(alloc, &ARITIES, &[(b"c01", b"0")])?;
     let start = large(alloc, branches)?;
     let path = repeated(alloc, steps, 1)?;
-    Ok(run_path(alloc, &trs, &start, &path).map(|end| end.size()))
+    Ok(match run_path(alloc, &trs, &start, &path) {
+        Ok(end) => Ok(end.size()),
+        Err(fault) => Err(fault),
+    })
 }
 
 #[test]
@@ -181,7 +173,7 @@ fn the_start_of_a_path_may_pass_the_limits(rt: HostRuntime) -> Result<(), Fail> 
         (133, 1, Err(PathFault::At(0, StepFault::TooLarge))),
     ] {
         let found = cut(alloc, branches, steps)?;
-        assert_eq!(rt; found, want, "after {steps} steps");
+        assert!(rt; found == want, "after {steps} steps");
     }
     Ok(())
 }
@@ -191,16 +183,20 @@ fn the_start_of_a_path_may_pass_the_limits(rt: HostRuntime) -> Result<(), Fail> 
 #[test]
 fn steps_of_small_terms(rt: HostRuntime) -> Result<(), Fail> {
     let alloc = rt.alloc();
-    let trs = slow::system(alloc)?;
+    let trs = slow_system(alloc)?;
     let mut terms: usize = 0;
-    let mut steps: usize = 0;
+    let mut count: usize = 0;
     for (letters, texts) in [(1, 4), (2, 16), (3, 64), (4, 256), (5, 1_024)] {
-        let found = slow::compare(alloc, &trs, letters, texts)?;
-        assert!(rt; found.same, "at {letters}");
-        terms = terms.saturating_add(found.terms);
-        steps = steps.saturating_add(found.steps);
+        for n in 0..texts {
+            let text = text(alloc, letters, n)?;
+            if first_term(&text).len() == text.len() {
+                terms = terms.saturating_add(1);
+                let found = steps(alloc, &trs, &text)?;
+                count = count.saturating_add(found.ok_or("the steps differ")?);
+            }
+        }
     }
-    assert_eq!(rt; terms, 66);
-    assert!(rt; steps > 40);
+    assert!(rt; terms == 66);
+    assert!(rt; count > 40);
     Ok(())
 }

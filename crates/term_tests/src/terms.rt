@@ -18,7 +18,7 @@ fn a_match_is_applied(rt: HostRuntime) -> Result<(), Fail> {
 fn a_variable_is_listed_once(rt: HostRuntime) -> Result<(), Fail> {
     let alloc = rt.alloc();
     let pair = term(alloc, 0, [Term::Var(5), Term::Var(5)])?;
-    assert_eq!(rt; pair.vars(alloc)?.as_slice(), [5].as_slice());
+    assert!(rt; pair.vars(alloc)?.as_slice() == [5].as_slice());
     assert!(rt; !pair.is_linear());
     Ok(())
 }
