@@ -1,0 +1,6 @@
+pub mod Agreeing
+pub mod OrderLawful
+pub mod SlotLayout
+pub mod Growing
+pub mod Covered
+pub mod Constraints

@@ -1,0 +1,3 @@
+pub mod OrderSpace
+pub mod OrderRow
+pub mod SymbolSets
