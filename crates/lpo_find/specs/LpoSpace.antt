@@ -29,17 +29,24 @@ filter_number n zero = Keep (places_from 1 n)
 filter_number n (suc v) =
     if nat_lt v n then To (v + 1) else (if nat_lt v (2 * n) && nat_le 2 n then Keep (all_but (v - n + 1) (places_from 1 n)) else Keep [])
 
-abbrev pub filter_of : (ℕ → ℕ) → Table → ℕ → ArgumentFilter
-filter_of arity table f = filter_number (arity f) (table f 0)
+abbrev pub filter_by : (ℕ → ℕ) → Table → ℕ → ArgumentFilter
+filter_by arity table f = filter_number (arity f) (table f 0)
 
-abbrev pub rank_in : Table → ℕ → ℕ
-rank_in table f = table f 1
+abbrev pub rank_by : Table → ℕ → ℕ
+rank_by table f = table f 1
+
+-- the two comparisons of filtered terms, as tests
+abbrev pub path_strict : (ℕ → ℕ) → (ℕ → ArgumentFilter) → Tree → Tree → Bool
+path_strict rank filter s t = path_greater rank (filtered filter s) (filtered filter t)
+
+abbrev pub path_weak : (ℕ → ℕ) → (ℕ → ArgumentFilter) → Tree → Tree → Bool
+path_weak rank filter s t = same_tree (filtered filter s) (filtered filter t) || path_strict rank filter s t
 
 abbrev pub lpo_strict : (ℕ → ℕ) → Table → Tree → Tree → Bool
-lpo_strict arity table s t = path_greater (rank_in table) (filtered (filter_of arity table) s) (filtered (filter_of arity table) t)
+lpo_strict arity table s t = path_strict (rank_by table) (filter_by arity table) s t
 
 abbrev pub lpo_weak : (ℕ → ℕ) → Table → Tree → Tree → Bool
-lpo_weak arity table s t = same_tree (filtered (filter_of arity table) s) (filtered (filter_of arity table) t) || lpo_strict arity table s t
+lpo_weak arity table s t = path_weak (rank_by table) (filter_by arity table) s t
 
 abbrev pub lpo_values : (ℕ → ℕ) → Slot → ℕ
 lpo_values arity s = if s.part == 0 then filter_count (arity s.symbol) else 8

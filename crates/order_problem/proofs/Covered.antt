@@ -7,6 +7,7 @@ use Rattle.std.proofs.lemmas.Bool.Decides.{nat_tests}
 use Rattle.std.proofs.lemmas.List.{length-append, length-map}
 use Rattle.std.proofs.lemmas.Option.{slice_get_within}
 use Rattle.trs_defs.specs.Member.{In, in_first, in_rest}
+use Rattle.trs_defs.specs.Variable.{is_listed}
 use Rattle.trs_defs.proofs.Members.{in_or, no_in, in_left, in_right, in_either, in_of_get, get_of_in, in_map, of_map}
 use Rattle.trs_defs.specs.Tree.{Tree, Trees, var, app, nil, cons, items, count}
 use Rattle.trs_defs.specs.WellFormed.{IsWellFormed, AreWellFormed}
@@ -23,7 +24,7 @@ use Rattle.dp_core.proofs.PlacedLaws.{Paired, pairs_placed}
 use Rattle.dp_core.proofs.OrderConclusions.{rule_symbols}
 use Rattle.order_find.proofs.FewPairs.{length_below}
 use Rattle.order_find.proofs.RootSets.{in_at}
-use Rattle.order_problem.specs.OrderSpace.{occurs_in, occurs_in_some}
+use Rattle.order_problem.specs.OrderSpace.{occurs_in, occurs_in_some, AreCovered}
 use Rattle.order_problem.specs.OrderRow.{AreSymbols}
 
 either : (a b : Bool) → (a || b) ≡ true → (a ≡ true) ⊎ (b ≡ true)
@@ -99,8 +100,23 @@ both_roots (q ∷ pairs) p i = elim (in_or i) [
   | inr later ↦ let h = both_roots pairs p later in (in_rest (in_rest h.0), in_rest (in_rest h.1))
 ]
 
-abbrev pub AreCovered : List ℕ → List RewriteRule → Type 0
-AreCovered symbols rules = (r : RewriteRule) → In r rules → (f : ℕ) → occurs_in f r.left || occurs_in f r.right ≡ true → In f symbols
+self_test : (n : ℕ) → (n == n) ≡ true
+self_test n = grind (arith, nat_tests)
+
+or_first : (a b : Bool) → a ≡ true → (a || b) ≡ true
+or_first true b e = refl
+or_first false b e = absurd cc
+
+or_second : (a b : Bool) → b ≡ true → (a || b) ≡ true
+or_second true b e = refl
+or_second false b e = e
+
+pub listed_of : (f : ℕ) (xs : List ℕ) → In f xs → is_listed f xs ≡ true
+listed_of f [] i = absurd (no_in i)
+listed_of f (x ∷ xs) i = elim (in_or i) [
+  | inl same ↦ or_first (x == f) (is_listed f xs) (subst (λ (y : ℕ). (y == f) ≡ true) same (self_test f))
+  | inr later ↦ or_second (x == f) (is_listed f xs) (listed_of f xs later)
+]
 
 module _ (system : System) (valid : IsSystem system) (pairs : List DependencyPair) (from_all : (p : DependencyPair) → In p pairs → In p (dependency_pairs system.rules))
     (symbols : List ℕ) (are : AreSymbols (symbols_of_rules system.rules) pairs symbols) where
@@ -118,10 +134,10 @@ module _ (system : System) (valid : IsSystem system) (pairs : List DependencyPai
   ]
 
   of_sides : (r : RewriteRule) → ((f : ℕ) → In f (symbols_of r.left) → In f symbols) → ((f : ℕ) → In f (symbols_of r.right) → In f symbols)
-      → (f : ℕ) → occurs_in f r.left || occurs_in f r.right ≡ true → In f symbols
+      → (f : ℕ) → occurs_in f r.left || occurs_in f r.right ≡ true → is_listed f symbols ≡ true
   of_sides r left right f e = elim (either (occurs_in f r.left) (occurs_in f r.right) e) [
-    | inl here ↦ left f (listed_symbol f r.left here)
-    | inr there ↦ right f (listed_symbol f r.right there)
+    | inl here ↦ listed_of f symbols (left f (listed_symbol f r.left here))
+    | inr there ↦ listed_of f symbols (right f (listed_symbol f r.right there))
   ]
 
   pub rules_covered : AreCovered symbols system.rules
@@ -129,7 +145,7 @@ module _ (system : System) (valid : IsSystem system) (pairs : List DependencyPai
       of_sides r (λ f j. rule_symbol f (rule_symbols system.rules r i f (in_left (symbols_of r.right) j)))
       (λ f j. rule_symbol f (rule_symbols system.rules r i f (in_right (symbols_of r.left) j)))
 
-  pair_covered : (p : DependencyPair) → In p pairs → (f : ℕ) → occurs_in f (mark p.from) || occurs_in f (mark p.to) ≡ true → In f symbols
+  pair_covered : (p : DependencyPair) → In p pairs → (f : ℕ) → occurs_in f (mark p.from) || occurs_in f (mark p.to) ≡ true → is_listed f symbols ≡ true
   pair_covered p i =
       let there = from_all p i in
       let roots = both_roots pairs p i in
@@ -138,7 +154,7 @@ module _ (system : System) (valid : IsSystem system) (pairs : List DependencyPai
   pub pairs_covered : AreCovered symbols (map marked_rule pairs)
   pairs_covered r i =
       let (p, j, same) = of_map marked_rule pairs i in
-      subst (λ (x : RewriteRule). (f : ℕ) → occurs_in f x.left || occurs_in f x.right ≡ true → In f symbols) (sym same) (pair_covered p j)
+      subst (λ (x : RewriteRule). (f : ℕ) → occurs_in f x.left || occurs_in f x.right ≡ true → is_listed f symbols ≡ true) (sym same) (pair_covered p j)
 
   pub all_covered : AreCovered symbols (system.rules ++ map marked_rule pairs)
   all_covered r i = elim (in_either system.rules (map marked_rule pairs) i) [ inl rule ↦ rules_covered r rule | inr pair ↦ pairs_covered r pair ]

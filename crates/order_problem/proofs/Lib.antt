@@ -4,3 +4,4 @@ pub mod SlotLayout
 pub mod Growing
 pub mod Covered
 pub mod Constraints
+pub mod Repeats

@@ -13,7 +13,7 @@ self_test : (n : ℕ) → (n == n) ≡ true
 self_test n = grind (arith, nat_tests)
 
 module _ (family : OrderFamily) (depends : DependsOnSymbols family) where
-  same_some : (rules : List RewriteRule) (t u : Table) → ((f part : ℕ) → t f part ≡ u f part) → some_falls family t rules ≡ some_falls family u rules
+  same_some : (rules : List RewriteRule) (t u : Table) → ((f part : ℕ) → t f part ≡ u f part) → some_falls (family.strict t) rules ≡ some_falls (family.strict u) rules
   same_some [] t u same = refl
   same_some (r ∷ rules) t u same = ap₂ (λ a b. a || b) (depends.strict r.left r.right t u (λ f part _. same f part)) (same_some rules t u same)
 

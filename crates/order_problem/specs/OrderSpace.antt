@@ -2,6 +2,8 @@
 use Rattle.std.specs.Prelude.{◌≡◌, ℕ, ◌+◌, ◌-◌, Bool, true, false, ◌||◌, ◌==◌, not, nat_lt, if◌then◌else◌, List, [], ◌∷◌, ◌++◌, map, slice_get, unwrap_or}
 use Rattle.std.proofs.Common.{zero, suc}
 use Rattle.trs_defs.specs.Tree.{Tree, Trees, var, app, nil, cons}
+use Rattle.trs_defs.specs.Member.{In}
+use Rattle.trs_defs.specs.Variable.{is_listed}
 use Rattle.trs_defs.specs.System.{RewriteRule}
 use Rattle.order_space.specs.Slots.{Slot, slot, Table, Search}
 
@@ -31,15 +33,20 @@ abbrev mutual
   occurs_in_some f nil = false
   occurs_in_some f (cons t ts) = occurs_in f t || occurs_in_some f ts
 
+-- each symbol that stands in one of the rules is one of these
+abbrev pub AreCovered : List ℕ → List RewriteRule → Type 0
+AreCovered symbols rules = (r : RewriteRule) → In r rules → (f : ℕ) → occurs_in f r.left || occurs_in f r.right ≡ true → is_listed f symbols ≡ true
+
 -- `falls` is a rule or a marked pair; `some_strict` is of all pairs; `above` asks that a symbol of weight 0 is above another one
 pub data OrderConstraint : Type 0 where
   falls : RewriteRule → OrderConstraint
   some_strict : List RewriteRule → OrderConstraint
   above : (unary other : ℕ) → OrderConstraint
 
-abbrev pub some_falls : OrderFamily → Table → List RewriteRule → Bool
-some_falls family table [] = false
-some_falls family table (r ∷ rules) = family.strict table r.left r.right || some_falls family table rules
+-- some rule passes the test of its sides
+abbrev pub some_falls : (Tree → Tree → Bool) → List RewriteRule → Bool
+some_falls strict [] = false
+some_falls strict (r ∷ rules) = strict r.left r.right || some_falls strict rules
 
 -- parts 0 and 1 are weight and rank
 abbrev pub is_above : Table → ℕ → ℕ → Bool
@@ -47,7 +54,7 @@ is_above table unary other = not (table unary 0 == 0) || nat_lt (table other 1) 
 
 abbrev pub meets : OrderFamily → OrderConstraint → Table → Bool
 meets family (falls r) table = family.weak table r.left r.right
-meets family (some_strict pairs) table = some_falls family table pairs
+meets family (some_strict pairs) table = some_falls (family.strict table) pairs
 meets family (above unary other) table = is_above table unary other
 
 -- over the slots of its symbols; some strict pair over all slots
@@ -70,9 +77,13 @@ order_search family symbols own rules pairs = record {
   is_met = meets family;
 }
 
--- the arity of a symbol; a marked symbol has the number of the plain one and 4096
+-- the symbol without its mark; a marked symbol has the number of the plain one and 4096
+abbrev pub unmarked : ℕ → ℕ
+unmarked f = if nat_lt f 4096 then f else f - 4096
+
+-- the arity of a symbol, marked or not
 abbrev pub arity_with_mark : List ℕ → ℕ → ℕ
-arity_with_mark arities f = unwrap_or (slice_get arities (if nat_lt f 4096 then f else f - 4096)) 0
+arity_with_mark arities f = unwrap_or (slice_get arities (unmarked f)) 0
 
 -- each comparison of the family depends only on the parts of the symbols that stand in the terms
 pub record DependsOnSymbols (family : OrderFamily) : Type 0 where

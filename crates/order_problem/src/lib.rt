@@ -2,12 +2,16 @@
 //! rules on marked terms, and the constraints by their numbers.
 #![tactic(auto)]
 
+mod arities;
 mod falling;
 mod marking;
 mod occurring;
 mod symbols;
+mod values;
 
+pub use arities::arity_of;
 pub use falling::falling_at;
 pub use marking::marked_rules;
 pub use occurring::{occurs, occurs_in_rule};
 pub use symbols::order_symbols;
+pub use values::value_at;

@@ -8,7 +8,7 @@ use Rattle.order_theory.specs.ArgumentFilter.{ArgumentFilter, To, Keep, keep_one
 use Rattle.assign_search.proofs.Refuting.{or_left, or_right}
 use Rattle.order_space.specs.Slots.{Table}
 use Rattle.order_problem.specs.OrderSpace.{occurs_in, occurs_in_some, DependsOnSymbols}
-use Rattle.lpo_find.specs.LpoSpace.{filter_number, filter_of, rank_in, lpo_family}
+use Rattle.lpo_find.specs.LpoSpace.{filter_number, filter_by, rank_by, path_strict, path_weak, lpo_family}
 use Rattle.order_problem.proofs.Agreeing.{Agree, AgreeAll, root_agrees, args_agree, first_agrees, rest_agree, SameTests, if_same}
 
 either : (a b : Bool) → (a || b) ≡ true → (a ≡ true) ⊎ (b ≡ true)
@@ -125,26 +125,34 @@ module _ (g : ℕ) where
         | inr h ↦ or_right (occurs_in g t) (occurs_in_some g ts) (in_filtered_all ts h)
       ]
 
+-- ---- both comparisons
+
+module _ (s t : Tree) (r q : ℕ → ℕ) (F G : ℕ → ArgumentFilter) (ranks : (f : ℕ) → occurs_in f s || occurs_in f t ≡ true → r f ≡ q f)
+    (filters : (f : ℕ) → occurs_in f s || occurs_in f t ≡ true → F f ≡ G f) where
+  left : filtered F s ≡ filtered G s
+  left = same_filtered F G s (λ f i. filters f (or_left (occurs_in f s) (occurs_in f t) i))
+
+  right : filtered F t ≡ filtered G t
+  right = same_filtered F G t (λ f i. filters f (or_right (occurs_in f s) (occurs_in f t) i))
+
+  pub strict_same : path_strict r F s t ≡ path_strict q G s t
+  strict_same =
+      same_path r q (filtered F s) (λ f i. ranks f (or_left (occurs_in f s) (occurs_in f t) (in_filtered f F s i)))
+      (filtered F t) (λ f i. ranks f (or_right (occurs_in f s) (occurs_in f t) (in_filtered f F t i)))
+      ∙ ap₂ (path_greater q) left right
+
+  pub weak_same : path_weak r F s t ≡ path_weak q G s t
+  weak_same = ap₂ (λ a b. a || b) (ap₂ same_tree left right) strict_same
+
 module _ (arity : ℕ → ℕ) (s t : Tree) (p q : Table) (same : (f part : ℕ) → occurs_in f s || occurs_in f t ≡ true → p f part ≡ q f part) where
-  left : filtered (filter_of arity p) s ≡ filtered (filter_of arity q) s
-  left = same_filtered (filter_of arity p) (filter_of arity q) s (λ f i. ap (λ (v : ℕ). filter_number (arity f) v) (same f 0 (or_left (occurs_in f s) (occurs_in f t) i)))
+  same_ranks : (f : ℕ) → occurs_in f s || occurs_in f t ≡ true → rank_by p f ≡ rank_by q f
+  same_ranks f i = same f 1 i
 
-  right : filtered (filter_of arity p) t ≡ filtered (filter_of arity q) t
-  right = same_filtered (filter_of arity p) (filter_of arity q) t (λ f i. ap (λ (v : ℕ). filter_number (arity f) v) (same f 0 (or_right (occurs_in f s) (occurs_in f t) i)))
-
-  compared : path_greater (rank_in p) (filtered (filter_of arity p) s) (filtered (filter_of arity p) t)
-      ≡ path_greater (rank_in q) (filtered (filter_of arity q) s) (filtered (filter_of arity q) t)
-  compared =
-      same_path (rank_in p) (rank_in q) (filtered (filter_of arity p) s) (λ f i. same f 1 (or_left (occurs_in f s) (occurs_in f t) (in_filtered f (filter_of arity p) s i)))
-      (filtered (filter_of arity p) t) (λ f i. same f 1 (or_right (occurs_in f s) (occurs_in f t) (in_filtered f (filter_of arity p) t i)))
-      ∙ ap₂ (path_greater (rank_in q)) left right
-
-  compared_weak : (same_tree (filtered (filter_of arity p) s) (filtered (filter_of arity p) t) || path_greater (rank_in p) (filtered (filter_of arity p) s) (filtered (filter_of arity p) t))
-      ≡ (same_tree (filtered (filter_of arity q) s) (filtered (filter_of arity q) t) || path_greater (rank_in q) (filtered (filter_of arity q) s) (filtered (filter_of arity q) t))
-  compared_weak = ap₂ (λ a b. a || b) (ap₂ same_tree left right) compared
+  same_filters : (f : ℕ) → occurs_in f s || occurs_in f t ≡ true → filter_by arity p f ≡ filter_by arity q f
+  same_filters f i = ap (λ (v : ℕ). filter_number (arity f) v) (same f 0 i)
 
 pub lpo_depends : (arity : ℕ → ℕ) → DependsOnSymbols (lpo_family arity)
 lpo_depends arity = record {
-  weak = λ s t p q same. compared_weak arity s t p q same;
-  strict = λ s t p q same. compared arity s t p q same;
+  weak = λ s t p q same. weak_same s t (rank_by p) (rank_by q) (filter_by arity p) (filter_by arity q) (same_ranks arity s t p q same) (same_filters arity s t p q same);
+  strict = λ s t p q same. strict_same s t (rank_by p) (rank_by q) (filter_by arity p) (filter_by arity q) (same_ranks arity s t p q same) (same_filters arity s t p q same);
 }
