@@ -8,7 +8,6 @@ ghost use Rattle.order_space.specs.Slots.{puzzle_of};
 ghost use Rattle.order_problem.specs.OrderRow.{FailsOrder};
 ghost use Rattle.order_problem.specs.OrderSpace.{AreCovered};
 ghost use Rattle.order_problem.specs.Distinct.{AreDistinct};
-
 ghost use Rattle.lpo_find.specs.LpoRow.{IsOrder, path_search, lpo_search};
 ghost use Rattle.lpo_find.specs.Laws.{FindsLpo};
 

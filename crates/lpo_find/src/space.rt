@@ -3,7 +3,6 @@ ghost use Rattle.std.specs.Prelude.{◌≡◌, ◌<◌, ◌+◌, ◌*◌, ◌^�
 ghost use Rattle.order_space.specs.Slots.{puzzle_of};
 ghost use Rattle.order_problem.specs.OrderSpace.{AreCovered, arity_with_mark};
 ghost use Rattle.order_problem.specs.Distinct.{AreDistinct};
-
 ghost use Rattle.lpo_find.specs.LpoRow.{path_search};
 ghost use Rattle.lpo_find.specs.LpoLawful.{lpo_lawful};
 

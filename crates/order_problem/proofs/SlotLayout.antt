@@ -74,9 +74,9 @@ value_from parts values [] k f part below = refl
 value_from parts values (g ∷ gs) k f part below =
     choose (g == f) _ values k part (option_map (λ n. parts g + n) (start_of parts gs f))
     (λ e.
-        let same : f ≡ g = same_symbol g f e in
-        let first : 0 + part ≡ part = omega arith in
-        let Found : ℕ → Type 0 = λ h. table_from k (parts_from h 0 (parts h) ++ slots_of parts gs) values f part ≡ get_or values (k + part) 0 in
-        subst Found same
-        (subst (λ (i : ℕ). table_from k (parts_from f 0 (parts f) ++ slots_of parts gs) values f i ≡ get_or values (k + part) 0) first (hit values f 0 (parts f) k part (slots_of parts gs) below)))
+    let same : f ≡ g = same_symbol g f e in
+    let first : 0 + part ≡ part = omega arith in
+    let Found : ℕ → Type 0 = λ h. table_from k (parts_from h 0 (parts h) ++ slots_of parts gs) values f part ≡ get_or values (k + part) 0 in
+    subst Found same
+    (subst (λ (i : ℕ). table_from k (parts_from f 0 (parts f) ++ slots_of parts gs) values f i ≡ get_or values (k + part) 0) first (hit values f 0 (parts f) k part (slots_of parts gs) below)))
     (λ e. skip values g f part e 0 (parts g) k (slots_of parts gs) ∙ (value_from parts values gs (k + parts g) f part below ∙ at_next values k (parts g) part (start_of parts gs f)))
