@@ -57,11 +57,18 @@ fn places_but(alloc: Global, arity: u8, left_out: u8) -> Result<Vec<u8>, Fail> {
 fn domains(alloc: Global, wanted: &Wanted) -> Result<Vec<u32>, Fail> {
     let mut domains = Vec::new(alloc);
     for arity in &wanted.arities {
-        let filters = filters(alloc, *arity)?;
-        domains.push(filters.len() as u32)?;
+        domains.push(count(&filters(alloc, *arity)?))?;
         domains.push(8)?;
     }
     Ok(domains)
+}
+
+fn count(filters: &[Filter]) -> u32 {
+    let mut count = 0u32;
+    for _filter in filters {
+        count = count.saturating_add(1);
+    }
+    count
 }
 
 fn number(values: &[u32], slot: usize) -> u32 {
@@ -153,9 +160,9 @@ fn some_strict(order: &Lpo, rules: &[Rule]) -> bool {
 
 /// Goes on to the next values in order, if there are any.
 fn go_on(domains: &[u32], values: &mut Vec<u32>) -> bool {
-    let mut slot = values.len();
-    while slot > 0 {
-        slot -= 1;
+    let slots = values.len();
+    for behind in 0..slots {
+        let slot = slots.saturating_sub(behind).saturating_sub(1);
         let next = number(values, slot).saturating_add(1);
         let is_there = next < number(domains, slot);
         if let Some(value) = values.get_mut(slot) {
