@@ -1,9 +1,8 @@
 -- The entries that a table says for symbols.
-use Rattle.std.specs.Prelude.{◌≡◌, ℕ, Bool, true, false, ◌||◌, ◌==◌, if◌then◌else◌, is_some, List, [], ◌∷◌, ◌++◌, map, Option, Some}
-use Rattle.std.proofs.Common.{refl, sym, ap, ap₂, subst, arith, ◌∙◌, ◌⊎◌, inl, inr}
+use Rattle.std.specs.Prelude.{◌≡◌, ℕ, Bool, true, false, ◌||◌, ◌==◌, if◌then◌else◌, is_some, List, [], ◌∷◌, map, Option, Some}
+use Rattle.std.proofs.Common.{refl, ap, ap₂, arith, ◌∙◌}
 use Rattle.std.proofs.lemmas.Bool.Decides.{nat_tests}
-use Rattle.trs_defs.specs.Member.{In, in_first, in_rest}
-use Rattle.trs_defs.specs.Tree.{Tree}
+use Rattle.trs_defs.specs.Member.{in_first, in_rest}
 use Rattle.trs_defs.specs.Variable.{is_listed}
 use Rattle.trs_defs.specs.System.{RewriteRule}
 use Rattle.pair_order.specs.Entries.{entry_of, has_entry}

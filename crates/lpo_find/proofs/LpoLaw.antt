@@ -1,11 +1,11 @@
 -- The order that is found meets the conditions of a step by a path order.
 use Rattle.std.specs.Prelude.{◌≡◌, ◌<◌, ℕ, ◌+◌, Bool, true, false, ◌||◌, List, [], ◌∷◌, ◌++◌, length, map, zip, Ok}
 use Rattle.std.proofs.Common.{refl, sym, ap, subst, arith, ◌∙◌, inl, inr}
-use Rattle.std.proofs.lemmas.List.{length-append, length-map}
+use Rattle.std.proofs.lemmas.List.{length-append}
 use Rattle.std.proofs.lemmas.Option.{slice_get_within}
 use Rattle.trs_defs.specs.Member.{In, in_first, in_rest}
-use Rattle.trs_defs.proofs.Members.{no_in, in_left, in_right, in_map, get_of_in}
-use Rattle.trs_defs.specs.System.{RewriteRule, System, IsSystem}
+use Rattle.trs_defs.proofs.Members.{in_left, in_right, in_map, get_of_in}
+use Rattle.trs_defs.specs.System.{RewriteRule, System}
 use Rattle.pair_theory.specs.Marked.{mark}
 use Rattle.pair_theory.specs.DependencyPair.{DependencyPair, dependency_pairs}
 use Rattle.pair_theory.specs.ReductionPair.{marked_rule}
@@ -26,8 +26,8 @@ use Rattle.order_problem.specs.OrderSpace.{arity_with_mark, slots_of, some_falls
 use Rattle.order_problem.proofs.Constraints.{many_constraints}
 use Rattle.order_problem.proofs.Covered.{all_covered, rule_symbol, root_symbol, listed_of}
 use Rattle.lpo_find.specs.LpoSpace.{lpo_family, path_weak, path_strict}
-use Rattle.lpo_find.specs.LpoRow.{lpo_search, lpo_entry}
-use Rattle.lpo_find.specs.Laws.{OrderApplies, FoundOrdersApply}
+use Rattle.lpo_find.specs.LpoRow.{lpo_search}
+use Rattle.lpo_find.specs.Laws.{FoundOrdersApply}
 use Rattle.lpo_find.proofs.PathTests.{weak_is, strict_is, is_strict}
 use Rattle.lpo_find.proofs.Entries.{entry_is_there}
 use Rattle.lpo_find.proofs.LpoPuzzle.{truth_of_rule, truth_of_last}

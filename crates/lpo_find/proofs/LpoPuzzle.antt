@@ -1,6 +1,6 @@
 -- The search for a path order by the numbers of its slots.
 use Rattle.std.specs.Prelude.{◌≡◌, ◌<◌, ℕ, ◌+◌, ◌*◌, ◌/◌, ◌%◌, Bool, List, [], ◌++◌, length, get_or, map, Some, slice_get}
-use Rattle.std.proofs.Common.{refl, sym, ap, subst, arith, ◌∙◌}
+use Rattle.std.proofs.Common.{sym, ap, ◌∙◌}
 use Rattle.trs_defs.specs.System.{RewriteRule}
 use Rattle.trs_defs.proofs.Members.{in_of_get, in_right}
 use Rattle.path_lpo.specs.Table.{PathEntry, rank_in, filter_in}

@@ -1,8 +1,8 @@
 -- The tests decide the comparisons of path orders on filtered terms.
 use Rattle.std.specs.Prelude.{ℕ, Bool, true, false, ◌||◌, ◌≡◌, ◌⊎◌, ◌↔◌, IsTrue}
-use Rattle.std.proofs.Common.{refl, sym, ap, subst, inl, inr, ◌∙◌}
+use Rattle.std.proofs.Common.{refl, sym, subst, inl, inr}
 use Rattle.trs_defs.specs.Tree.{Tree}
-use Rattle.order_theory.specs.PathTest.{same_tree, path_greater}
+use Rattle.order_theory.specs.PathTest.{same_tree}
 use Rattle.order_theory.specs.ArgumentFilter.{ArgumentFilter, filtered, PathWeak, PathStrict}
 use Rattle.order_theory.proofs.PathDecides.{same_is, same_self, path_decides}
 use Rattle.assign_search.proofs.Refuting.{or_left, or_right}

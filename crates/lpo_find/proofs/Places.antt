@@ -1,6 +1,6 @@
 -- Places that a filter keeps.
 use Rattle.std.specs.Prelude.{◌≡◌, ◌<◌, ◌≤◌, ℕ, ◌+◌, ◌-◌, Bool, true, false, ◌==◌, if◌then◌else◌, List, [], ◌∷◌, ◌++◌}
-use Rattle.std.proofs.Common.{zero, suc, refl, sym, ap, subst, arith, ◌∙◌, append_assoc}
+use Rattle.std.proofs.Common.{zero, suc, refl, sym, ap, arith, ◌∙◌, append_assoc}
 use Rattle.std.proofs.lemmas.List.{append-nil}
 use Rattle.std.proofs.lemmas.Bool.Decides.{nat_tests}
 use Rattle.lpo_find.specs.LpoSpace.{places_from, all_but}

@@ -1,7 +1,7 @@
 -- The two slots of each symbol by their numbers.
-use Rattle.std.specs.Prelude.{◌≡◌, ◌<◌, ℕ, ◌+◌, ◌*◌, ◌/◌, ◌%◌, List, [], ◌∷◌, length, get_or, Some}
-use Rattle.std.proofs.Common.{zero, suc, refl, sym, ap, ap₂, subst, arith, ◌∙◌}
-use Rattle.order_space.specs.Slots.{Slot, slot, table_of}
+use Rattle.std.specs.Prelude.{◌≡◌, ◌<◌, ℕ, ◌+◌, ◌*◌, ◌/◌, ◌%◌, List, [], ◌∷◌, length, get_or}
+use Rattle.std.proofs.Common.{zero, suc, refl, ap, arith, ◌∙◌}
+use Rattle.order_space.specs.Slots.{slot, table_of}
 use Rattle.order_problem.specs.OrderSpace.{slots_of}
 use Rattle.order_problem.specs.Distinct.{AreDistinct}
 use Rattle.order_problem.proofs.SlotLayout.{value_from, value_at}

@@ -1,6 +1,6 @@
 -- The entries of an order, as they are made.
 use Rattle.std.specs.Prelude.{◌≡◌, ◌<◌, ◌≤◌, ℕ, ◌+◌, ◌*◌, List, [], ◌∷◌, ◌++◌, length, map, drop, get_or}
-use Rattle.std.proofs.Common.{refl, sym, ap, ap₂, subst, arith, ◌∙◌, append_assoc}
+use Rattle.std.proofs.Common.{sym, ap, ap₂, subst, arith, ◌∙◌, append_assoc}
 use Rattle.std.proofs.lemmas.List.{append-nil, map-append, drop_all}
 use Rattle.std.proofs.lemmas.Option.{slice_get-get_or}
 use Rattle.dp_core.proofs.Collecting.{next_item}

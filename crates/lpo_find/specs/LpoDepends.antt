@@ -1,6 +1,6 @@
 -- The comparison of two terms by a path order on filtered terms depends only on the filters and ranks of their symbols.
-use Rattle.std.specs.Prelude.{ℕ, ◌-◌, Bool, true, ◌||◌, ◌&&◌, ◌==◌, nat_eq, nat_lt, if◌then◌else◌, List, [], ◌∷◌, ◌≡◌, ◌⊎◌}
-use Rattle.std.proofs.Common.{zero, suc, false, refl, sym, ap, ap₂, subst, inl, inr, ◌∙◌}
+use Rattle.std.specs.Prelude.{ℕ, ◌-◌, Bool, true, ◌||◌, ◌&&◌, ◌==◌, nat_eq, nat_lt, List, [], ◌∷◌, ◌≡◌, ◌⊎◌}
+use Rattle.std.proofs.Common.{zero, suc, false, refl, ap, ap₂, inl, inr, ◌∙◌}
 use Rattle.trs_defs.specs.Tree.{Tree, Trees, var, app, nil, cons, count}
 use Rattle.pair_theory.specs.ItemOr.{item_or}
 use Rattle.order_theory.specs.PathTest.{same_tree, some_at_least, lex_greater, app_greater, app_greater_than_all, path_greater, path_greater_each}

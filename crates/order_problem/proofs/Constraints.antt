@@ -1,9 +1,9 @@
 -- Constraints of a search for an order with none of the family's own, by their numbers.
-use Rattle.std.specs.Prelude.{ℕ, ◌+◌, ◌<◌, ◌≤◌, Bool, true, false, ◌&&◌, ◌||◌, nat_lt, List, [], ◌∷◌, ◌++◌, length, get_or, map, Some, None, slice_get, ◌≡◌}
-use Rattle.std.proofs.Common.{zero, suc, refl, sym, ap, arith, ◌∙◌}
+use Rattle.std.specs.Prelude.{ℕ, ◌+◌, ◌<◌, ◌≤◌, Bool, true, false, ◌&&◌, ◌||◌, nat_lt, List, [], ◌∷◌, ◌++◌, length, get_or, Some, None, slice_get, ◌≡◌}
+use Rattle.std.proofs.Common.{zero, suc, refl, ap, arith, ◌∙◌}
 use Rattle.std.proofs.lemmas.List.{length-append}
 use Rattle.trs_defs.specs.System.{RewriteRule}
-use Rattle.order_space.specs.Slots.{Slot, slot, table_of, puzzle_of}
+use Rattle.order_space.specs.Slots.{slot, table_of, puzzle_of}
 use Rattle.order_space.proofs.Lawful.{and_true, test_below}
 use Rattle.order_space.proofs.Constraints.{at_item, at_last, one_more}
 use Rattle.order_problem.specs.OrderSpace.{OrderFamily, falls, some_strict, some_falls, meets, concerns, occurs_in, falling, order_search, slots_of}

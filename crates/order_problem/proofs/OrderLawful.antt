@@ -1,12 +1,12 @@
 -- A search for an order is lawful where the comparisons of its family depend only on the symbols of the terms.
-use Rattle.std.specs.Prelude.{ℕ, Bool, true, ◌||◌, ◌==◌, not, nat_lt, List, [], ◌∷◌, ◌≡◌}
-use Rattle.std.proofs.Common.{refl, ap, ap₂, arith, ◌∙◌}
+use Rattle.std.specs.Prelude.{ℕ, true, ◌||◌, ◌==◌, not, nat_lt, List, [], ◌∷◌, ◌≡◌}
+use Rattle.std.proofs.Common.{refl, ap, ap₂, arith}
 use Rattle.std.proofs.lemmas.Bool.Decides.{nat_tests}
 use Rattle.trs_defs.specs.System.{RewriteRule}
 use Rattle.assign_search.specs.Puzzle.{IsLawful}
 use Rattle.assign_search.proofs.Refuting.{or_left, or_right}
-use Rattle.order_space.specs.Slots.{slot, Table, puzzle_of, DependsOnSlots}
-use Rattle.order_problem.specs.OrderSpace.{OrderFamily, OrderConstraint, falls, some_strict, above, some_falls, is_above, meets, concerns, order_search, DependsOnSymbols}
+use Rattle.order_space.specs.Slots.{slot, Table, puzzle_of}
+use Rattle.order_problem.specs.OrderSpace.{OrderFamily, OrderConstraint, falls, some_strict, above, some_falls, meets, concerns, order_search, DependsOnSymbols}
 use Rattle.order_space.proofs.Lawful.{lawful_of}
 
 self_test : (n : ℕ) → (n == n) ≡ true

@@ -1,5 +1,5 @@
 -- The symbols that an order needs values for stand once each, and where their slots begin.
-use Rattle.std.specs.Prelude.{◌≡◌, ◌<◌, ◌⊎◌, ℕ, ◌+◌, ◌*◌, false, true, Bool, ◌==◌, if◌then◌else◌, List, [], ◌∷◌, ◌++◌, length, map, get_or, Option, Some, None, option_map, slice_get}
+use Rattle.std.specs.Prelude.{◌≡◌, ◌<◌, ℕ, ◌+◌, ◌*◌, false, true, Bool, ◌==◌, if◌then◌else◌, List, [], ◌∷◌, ◌++◌, length, map, get_or, Option, Some, option_map}
 use Rattle.std.specs.List.Sorted.{IsStrictlyIncreasing}
 use Rattle.std.proofs.Common.{zero, suc, inl, inr, refl, sym, ap, subst, arith, ◌∙◌}
 use Rattle.std.proofs.lemmas.Bool.Decides.{nat_tests}
@@ -7,10 +7,8 @@ use Rattle.std.proofs.lemmas.List.Kept.{AllPairs-from_increasing}
 use Rattle.trs_defs.specs.Member.{In, in_first, in_rest}
 use Rattle.trs_defs.proofs.Members.{in_or, no_in, in_either, of_map}
 use Rattle.pair_theory.specs.DependencyPair.{DependencyPair}
-use Rattle.dp_core.specs.SubtermConditions.{roots_of}
 use Rattle.order_find.proofs.RootSets.{in_at}
 use Rattle.order_problem.specs.OrderRow.{AreSymbols}
-use Rattle.order_problem.specs.OrderSpace.{slots_of}
 use Rattle.order_problem.specs.Distinct.{AreDistinct}
 use Rattle.order_problem.proofs.SlotLayout.{start_of}
 

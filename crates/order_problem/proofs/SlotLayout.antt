@@ -1,8 +1,8 @@
 -- Where the values of a symbol's parts stand.
 use Rattle.std.specs.Prelude.{ℕ, ◌+◌, ◌<◌, Bool, true, false, ◌&&◌, ◌==◌, if◌then◌else◌, List, [], ◌∷◌, ◌++◌, get_or, Option, Some, None, option_map, ◌≡◌}
-use Rattle.std.proofs.Common.{zero, suc, refl, sym, ap, subst, arith, ◌∙◌}
+use Rattle.std.proofs.Common.{zero, suc, refl, ap, subst, arith, ◌∙◌}
 use Rattle.std.proofs.lemmas.Bool.Decides.{nat_tests}
-use Rattle.order_space.specs.Slots.{Slot, slot, table_from}
+use Rattle.order_space.specs.Slots.{Slot, table_from}
 use Rattle.order_problem.specs.OrderSpace.{parts_from, slots_of}
 
 self_test : (n : ℕ) → (n == n) ≡ true

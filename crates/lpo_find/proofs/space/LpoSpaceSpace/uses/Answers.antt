@@ -1,4 +1,4 @@
-use Rattle.std.proofs.Common.{ℕ, ap, sym, ◌∙◌, ◌<◌, ◌*◌, ◌/◌, ◌%◌, length, get_or, arith}
+use Rattle.std.proofs.Common.{sym, ◌∙◌, ◌<◌, ◌*◌, ◌/◌, ◌%◌, length, get_or, arith}
 use Rattle.order_problem.specs.OrderSpace.{arity_with_mark}
 use Rattle.order_problem.proofs.Constraints.{uses_symbols, uses_all, last_number}
 use Rattle.lpo_find.specs.LpoSpace.{lpo_family}
