@@ -47,7 +47,7 @@ few_taken all numbers taken pairs most up within are same few =
 some_same : {A : Type 0} (x y : A) → Some x ≡ Some y → x ≡ y
 some_same x y e = cc
 
-taken_in : (all : List DependencyPair) (numbers : List ℕ) (taken : List DependencyPair) → ArePairsOf all numbers taken → (p : DependencyPair) → In p taken → In p all
+pub taken_in : (all : List DependencyPair) (numbers : List ℕ) (taken : List DependencyPair) → ArePairsOf all numbers taken → (p : DependencyPair) → In p taken → In p all
 taken_in all [] [] are p i = absurd (no_in i)
 taken_in all [] (q ∷ taken) are p i = absurd cc
 taken_in all (n ∷ numbers) [] are p i = absurd (no_in i)
@@ -59,7 +59,7 @@ taken_in all (n ∷ numbers) (q ∷ taken) are p i =
       | inr later ↦ taken_in all numbers taken rest p later
     ]
 
-roots_small : (arities : List ℕ) → length arities ≤ 4095 → (ps : List DependencyPair) → ((p : DependencyPair) → In p ps → IsPair arities p) → (f : ℕ) → In f (roots_of ps) → f < 4096
+pub roots_small : (arities : List ℕ) → length arities ≤ 4095 → (ps : List DependencyPair) → ((p : DependencyPair) → In p ps → IsPair arities p) → (f : ℕ) → In f (roots_of ps) → f < 4096
 roots_small arities few [] well f i = absurd (no_in i)
 roots_small arities few (p ∷ ps) well f i =
     let here = well p in_first in

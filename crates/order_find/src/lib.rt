@@ -3,10 +3,10 @@
 #![tactic(auto)]
 
 mod laws;
-mod roots;
+pub mod roots;
 mod subterm;
 mod subterm_space;
-mod taken;
+pub mod taken;
 mod within;
 
 pub use laws::found_places_apply;

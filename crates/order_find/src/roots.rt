@@ -14,7 +14,7 @@ use std::collections::BTreeSet;
 use trs_core::OutOfMemory;
 
 /// The numbers of the roots of both sides, without the marks, ascending.
-pub(crate) fn roots(alloc: Global, pairs: &[Sides]) -> Result<Vec<u32>, OutOfMemory>
+pub fn roots(alloc: Global, pairs: &[Sides]) -> Result<Vec<u32>, OutOfMemory>
     ensures { IfOk result (λ roots. AreAscending (roots_of pairs.now) roots.items) }
 {
     let set = root_set(alloc, pairs)?;
@@ -53,7 +53,8 @@ fn root(side: &Side) -> u32
     side.symbol
 }
 
-fn add(set: &mut BTreeSet<u32>, f: u32) -> Result<(), OutOfMemory>
+/// Puts one number more into a set.
+pub fn add(set: &mut BTreeSet<u32>, f: u32) -> Result<(), OutOfMemory>
     ensures { OnOk result ((g : ℕ) → IsTrue (contains nat_cmp set.new g)
         ↔ (IsTrue (contains nat_cmp set.old g) ⊎ (g ≡ f))) }
 {
@@ -62,7 +63,7 @@ fn add(set: &mut BTreeSet<u32>, f: u32) -> Result<(), OutOfMemory>
 }
 
 /// The members of a set, ascending.
-fn listed(alloc: Global, set: &BTreeSet<u32>) -> Result<Vec<u32>, OutOfMemory>
+pub fn listed(alloc: Global, set: &BTreeSet<u32>) -> Result<Vec<u32>, OutOfMemory>
     ensures members { IfOk result (λ members. members.items ≡ keys set.now) }
     ensures ordered { IsOrdered nat_cmp set.now }
 {

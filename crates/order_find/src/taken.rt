@@ -7,7 +7,7 @@ use std::alloc::Global;
 use trs_core::OutOfMemory;
 
 /// The pairs of these numbers, in order.
-pub(crate) fn taken<'a>(
+pub fn taken<'a>(
     alloc: Global,
     pairs: &[Sides<'a>],
     problem: &[u32],

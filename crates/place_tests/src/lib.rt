@@ -1,9 +1,16 @@
-//! Tests of the finder of places for the subterm criterion. There is no code here.
+//! Tests of the finders of places for the subterm criterion and of path orders. There is no code
+//! here.
 #![tactic(auto)]
 
 #[cfg(test)]
 mod numbers;
 #[cfg(test)]
+mod path_cases;
+#[cfg(test)]
+mod paths;
+#[cfg(test)]
 mod places;
+#[cfg(test)]
+mod plain_paths;
 #[cfg(test)]
 mod stops;

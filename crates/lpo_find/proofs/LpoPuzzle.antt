@@ -1,0 +1,43 @@
+-- The search for a path order by the numbers of its slots.
+use Rattle.std.specs.Prelude.{◌≡◌, ◌<◌, ℕ, ◌+◌, ◌*◌, ◌/◌, ◌%◌, Bool, List, [], ◌++◌, length, get_or, map, Some, slice_get}
+use Rattle.std.proofs.Common.{sym, ap, ◌∙◌}
+use Rattle.trs_defs.specs.System.{RewriteRule}
+use Rattle.trs_defs.proofs.Members.{in_of_get, in_right}
+use Rattle.path_lpo.specs.Table.{PathEntry, rank_in, filter_in}
+use Rattle.order_space.specs.Slots.{Slot, slot, table_of, puzzle_of}
+use Rattle.order_problem.specs.OrderSpace.{AreCovered, order_search, slots_of, some_falls}
+use Rattle.order_problem.proofs.Constraints.{truth_falls, truth_last}
+use Rattle.lpo_find.specs.LpoSpace.{lpo_family, lpo_values, filter_count, path_weak, path_strict}
+use Rattle.lpo_find.specs.LpoRow.{lpo_entry}
+use Rattle.lpo_find.proofs.Entries.{weak_by_entries, some_by_entries}
+use Rattle.lpo_find.proofs.SlotNumbers.{many_slots, slot_at}
+
+module _ (arity : ℕ → ℕ) (symbols : List ℕ) (rules pairs : List RewriteRule) where
+  pub slot_count : 2 * length symbols ≡ (puzzle_of (order_search (lpo_family arity) symbols [] rules pairs)).slots
+  slot_count = sym (many_slots symbols)
+
+  domain_at : (s : ℕ) → s < 2 * length symbols
+      → (puzzle_of (order_search (lpo_family arity) symbols [] rules pairs)).domain s ≡ lpo_values arity (slot (get_or symbols (s / 2) 0) (s % 2))
+  domain_at s below = ap (λ (x : Slot). lpo_values arity x) (slot_at symbols s 0 below)
+
+  pub filter_domain : (s : ℕ) → s < 2 * length symbols → s % 2 ≡ 0
+      → (puzzle_of (order_search (lpo_family arity) symbols [] rules pairs)).domain s ≡ filter_count (arity (get_or symbols (s / 2) 0))
+  filter_domain s below e = domain_at s below ∙ ap (λ (part : ℕ). lpo_values arity (slot (get_or symbols (s / 2) 0) part)) e
+
+  pub rank_domain : (s : ℕ) → s < 2 * length symbols → s % 2 ≡ 1 → (puzzle_of (order_search (lpo_family arity) symbols [] rules pairs)).domain s ≡ 8
+  rank_domain s below e = domain_at s below ∙ ap (λ (part : ℕ). lpo_values arity (slot (get_or symbols (s / 2) 0) part)) e
+
+  -- what the order of the values says is what the values say
+  module _ (covered : AreCovered symbols (rules ++ pairs)) (values : List ℕ) (entries : List PathEntry)
+      (are : entries ≡ map (lpo_entry arity (table_of (slots_of (λ _. 2) symbols) values)) symbols) where
+    pub truth_of_rule : (c : ℕ) (r : RewriteRule) (b : Bool) → slice_get (rules ++ pairs) c ≡ Some r → b ≡ path_weak (rank_in entries) (filter_in entries) r.left r.right
+        → b ≡ (puzzle_of (order_search (lpo_family arity) symbols [] rules pairs)).truth c values
+    truth_of_rule c r b at e =
+        e ∙ (weak_by_entries arity (table_of (slots_of (λ _. 2) symbols) values) symbols entries are r (covered r (in_of_get (rules ++ pairs) c r at))
+        ∙ sym (truth_falls (lpo_family arity) symbols rules pairs c values r at))
+
+    pub truth_of_last : (c : ℕ) (b : Bool) → c ≡ length rules + length pairs → b ≡ some_falls (path_strict (rank_in entries) (filter_in entries)) pairs
+        → b ≡ (puzzle_of (order_search (lpo_family arity) symbols [] rules pairs)).truth c values
+    truth_of_last c b last e =
+        e ∙ (some_by_entries arity (table_of (slots_of (λ _. 2) symbols) values) symbols entries are pairs (λ r i. covered r (in_right rules i))
+        ∙ sym (truth_last (lpo_family arity) symbols rules pairs c values last))

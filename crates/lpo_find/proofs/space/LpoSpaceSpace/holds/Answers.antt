@@ -1,0 +1,20 @@
+use Rattle.std.proofs.Common.{sym}
+use Rattle.order_problem.specs.OrderSpace.{arity_with_mark}
+use Rattle.order_problem.proofs.Constraints.{last_number}
+use Rattle.lpo_find.specs.LpoSpace.{lpo_family}
+use Rattle.lpo_find.proofs.LpoPuzzle.{truth_of_rule, truth_of_last}
+use Rattle.lpo_find.proofs.space.LpoSpaceSpace.holds.Goals as goal
+
+pub returns-in-Some : goal.returns-in-Some
+returns-in-Some c =
+    let x = c.args.self.now in
+    truth_of_rule (arity_with_mark x.arities.now) x.symbols.now x.rules.now x.pairs.now x.covered c.args.values.now c.in-Ok.order c.in-Ok.ensures
+    c.args.c c.in-Some.rule.now c.is_weak.result (sym c.in-Some.ensures) c.is_weak.ensures
+
+pub returns : goal.returns
+returns c =
+    let x = c.args.self.now in
+    truth_of_last (arity_with_mark x.arities.now) x.symbols.now x.rules.now x.pairs.now x.covered c.args.values.now c.in-Ok.order c.in-Ok.ensures
+    c.args.c c.some_is_strict.result
+    (last_number (lpo_family (arity_with_mark x.arities.now)) x.symbols.now x.rules.now x.pairs.now c.args.c (sym c.in-None.ensures) c.requires.constraint)
+    c.some_is_strict.ensures

@@ -1,0 +1,5 @@
+pub mod LpoSpace
+pub mod LpoRow
+pub mod LpoDepends
+pub mod LpoLawful
+pub mod Laws

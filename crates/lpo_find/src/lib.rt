@@ -1,0 +1,13 @@
+//! The finder of lexicographic path orders with argument filters.
+//! (Hirokawa and Middeldorp, Tyrolean termination tool: techniques and features, 2007.)
+#![tactic(auto)]
+
+mod comparing;
+mod filters;
+mod finding;
+mod laws;
+mod space;
+mod table;
+
+pub use finding::find_lpo;
+pub use laws::found_orders_apply;

@@ -1,0 +1,75 @@
+//! The finite search for filters and ranks.
+ghost use Rattle.std.specs.Prelude.{◌≡◌, ◌<◌, ◌+◌, ◌*◌, ◌^◌, ◌++◌, length};
+ghost use Rattle.order_space.specs.Slots.{puzzle_of};
+ghost use Rattle.order_problem.specs.OrderSpace.{AreCovered, arity_with_mark};
+ghost use Rattle.order_problem.specs.Distinct.{AreDistinct};
+ghost use Rattle.lpo_find.specs.LpoRow.{path_search};
+ghost use Rattle.lpo_find.specs.LpoLawful.{lpo_lawful};
+
+use crate::comparing::{is_weak, some_is_strict};
+use crate::filters::filter_count;
+use crate::table::order_of;
+use assign_search::{OutOfMemory, Space};
+use order_problem::{arity_of, falling_at, occurs_in_rule};
+use std::alloc::Global;
+use trs_core::Rule;
+
+/// How many ranks there are.
+const RANKS: u32 = 8;
+
+/// The symbols, of which each has a slot for its filter and one for its rank, and the rules and
+/// marked pairs that are to fall.
+#[derive(Drop)]
+pub(crate) struct LpoSpace<'a> {
+    pub(crate) arities: &'a [u8],
+    pub(crate) symbols: &'a [u32],
+    pub(crate) rules: &'a [Rule],
+    pub(crate) pairs: &'a [Rule],
+    pub(crate) ghost distinct: { AreDistinct symbols.now },
+    pub(crate) ghost covered: { AreCovered symbols.now (rules.now ++ pairs.now) },
+    pub(crate) ghost few_symbols: { 2 * length symbols.now < 2 ^ 32 },
+    pub(crate) ghost few_falling: { length rules.now + length pairs.now + 1 < 2 ^ 32 },
+}
+
+impl<'a> Space for LpoSpace<'a> {
+    ghost puzzle = { λ x. puzzle_of
+        (path_search x.arities.now x.symbols.now x.rules.now x.pairs.now) };
+
+    ghost lawful = { λ x. lpo_lawful
+        (arity_with_mark x.arities.now) x.symbols.now x.rules.now x.pairs.now };
+
+    fn slots(&self) -> u32 {
+        2 * self.symbols.len() as u32
+    }
+
+    fn domain(&self, slot: u32) -> u32 {
+        let symbol = self.symbols[(slot / 2) as usize];
+        if slot % 2 == 0 {
+            filter_count(arity_of(self.arities, symbol))
+        } else {
+            RANKS
+        }
+    }
+
+    fn constraints(&self) -> u32 {
+        self.rules.len() as u32 + self.pairs.len() as u32 + 1
+    }
+
+    fn uses(&self, c: u32, slot: u32) -> bool {
+        let symbol = self.symbols[(slot / 2) as usize];
+        match falling_at(self.rules, self.pairs, c as usize) {
+            Some(rule) => occurs_in_rule(symbol, rule),
+            None => true,
+        }
+    }
+
+    fn holds(&self, alloc: Global, c: u32, values: &[u32]) -> Result<bool, OutOfMemory> {
+        let Ok(order) = order_of(alloc, self.arities, self.symbols, values) else {
+            return Err(OutOfMemory);
+        };
+        match falling_at(self.rules, self.pairs, c as usize) {
+            Some(rule) => Ok(is_weak(&order, rule)),
+            None => Ok(some_is_strict(&order, self.pairs)),
+        }
+    }
+}

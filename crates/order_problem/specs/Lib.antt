@@ -1,0 +1,4 @@
+pub mod OrderSpace
+pub mod OrderRow
+pub mod SymbolSets
+pub mod Distinct

@@ -1,0 +1,17 @@
+//! What the searches for orders share: the symbols of a problem's rules and pairs, the pairs as
+//! rules on marked terms, and the constraints by their numbers.
+#![tactic(auto)]
+
+mod arities;
+mod falling;
+mod marking;
+mod occurring;
+mod symbols;
+mod values;
+
+pub use arities::arity_of;
+pub use falling::falling_at;
+pub use marking::marked_rules;
+pub use occurring::{occurs, occurs_in_rule};
+pub use symbols::order_symbols;
+pub use values::value_at;
