@@ -8,8 +8,8 @@ ghost use Rattle.ari_text.specs.PartsView.{parts_view};
 
 use crate::checking::check;
 use crate::fault::AriFault;
-use names_text::{NamedTrs, Names};
 use bumpalo::Bump;
+use names_text::{NamedTrs, Names};
 use sexp_core::{Sexp, read_all};
 use std::alloc::Global;
 use trs_core::{Rule, Trs, TrsFault};

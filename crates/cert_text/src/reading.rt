@@ -14,10 +14,10 @@ ghost use Rattle.cert_text.specs.CertificateText.{steps_alone, steps_behind, beh
 use crate::certificate::Certificate;
 use crate::fault::CertFault;
 use crate::head::{Head, read_head, read_headline};
+use bumpalo::Bump;
 use cert_step::NodeStep;
 use names_text::NamedTrs;
 use path_text::{Shared, begins_with, read_define};
-use bumpalo::Bump;
 use sexp_core::{Sexp, read_all};
 use std::alloc::Global;
 use step_text::read_step;
