@@ -162,6 +162,24 @@ pub fn passing(alloc: Global) -> Result<Case, Fail> {
     )
 }
 
+/// The sides of f(x, s(y)) -> f(s(x), y), where f has this number.
+fn second_sides(alloc: Global, f: u32) -> Result<Rule, OutOfMemory> {
+    let left = binary(alloc, f, Term::Var(0), unary(alloc, 1, Term::Var(1))?)?;
+    let right = binary(alloc, f, unary(alloc, 1, Term::Var(0))?, Term::Var(1))?;
+    Ok(Rule { left, right })
+}
+
+/// Symbols f and s: f(x, s(y)) -> f(s(x), y).
+pub fn second_place(alloc: Global) -> Result<Case, Fail> {
+    make_case(
+        alloc,
+        Vec::from_array(alloc, [2, 1])?,
+        Vec::from_array(alloc, [second_sides(alloc, 0)?])?,
+        Vec::from_array(alloc, [second_sides(alloc, MARK)?])?,
+        Vec::from_array(alloc, [0, 1, MARK])?,
+    )
+}
+
 /// Symbols 0, s and +, of which the pair is that of the second rule: 0 + y -> y and
 /// s(x) + y -> s(x + y).
 pub fn addition(alloc: Global) -> Result<Trs, Fail> {

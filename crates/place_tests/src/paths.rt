@@ -1,6 +1,8 @@
 //! Path orders that are found, beside those of a plain search.
 use crate::numbers::all_numbers;
-use crate::path_cases::{Case, addition, from_a_to_b, going_down, passing, standing, turning};
+use crate::path_cases::{
+    Case, addition, from_a_to_b, going_down, passing, second_place, standing, turning,
+};
 use crate::plain_paths::{Outcome, entries, first_of_all};
 use crate::stops::StopAt;
 use assign_search::{Never, Search, Stop};
@@ -50,13 +52,20 @@ fn answers(alloc: Global, case: &Case, outcome: &Outcome, budget: u64) -> Result
     }
 }
 
-/// Whether searches with some budgets around the count answer as the plain one says.
+/// How many budgets from 0 on are tried.
+const BUDGETS: u64 = 100;
+
+/// Whether searches with small budgets, and with some around the count, answer as the plain one
+/// says.
 fn all_answer(alloc: Global, case: &Case, is_there: bool) -> Result<bool, Fail> {
     let outcome = first_of_all(alloc, &case.wanted)?;
     let count = outcome.refuted;
+    for budget in 0..BUDGETS {
+        if !answers(alloc, case, &outcome, budget)? {
+            return Ok(false);
+        }
+    }
     let budgets = [
-        0,
-        1,
         count / 3,
         count / 2,
         count.saturating_sub(1),
@@ -79,6 +88,7 @@ fn found_beside_all_assignments(rt: HostRuntime) -> Result<(), Fail> {
     assert!(rt; all_answer(alloc, &going_down(alloc)?, true)?);
     assert!(rt; all_answer(alloc, &from_a_to_b(alloc)?, true)?);
     assert!(rt; all_answer(alloc, &passing(alloc)?, true)?);
+    assert!(rt; all_answer(alloc, &second_place(alloc)?, true)?);
     Ok(())
 }
 
