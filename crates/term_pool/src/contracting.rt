@@ -5,9 +5,9 @@ ghost use Rattle.term_pool.specs.Pooled.{Extends, tree_at};
 ghost use Rattle.term_pool.specs.Bindings.{HasIds, instance_of};
 ghost use Rattle.term_pool.specs.Placing.{HasRoom, IsPlaced, IsTooLargePut};
 
+use crate::bindings::Bindings;
 use crate::{MOST_IDS, Pool};
 use std::alloc::Global;
-use std::collections::BTreeMap;
 use trs_core::{OutOfMemory, Term};
 
 /// The most nodes of a computed term.
@@ -27,7 +27,7 @@ impl Pool {
         id: u32,
         places: &[u8],
         part: u32,
-        found: &BTreeMap<u32, u32>,
+        found: &Bindings,
         t: &Term,
     ) -> Result<Option<u32>, OutOfMemory>
         requires id { id < length self.old }
@@ -60,14 +60,7 @@ impl Pool {
 
     /// Whether the instance of `t` may stand in place of a part: the whole has not too many nodes,
     /// and the instance with the way to it is not too deep.
-    fn has_room(
-        &self,
-        id: u32,
-        places: &[u8],
-        part: u32,
-        found: &BTreeMap<u32, u32>,
-        t: &Term,
-    ) -> bool
+    fn has_room(&self, id: u32, places: &[u8], part: u32, found: &Bindings, t: &Term) -> bool
         requires id { id < length self.now }
         requires part { part < length self.now }
         requires there { subterm_at places.now (tree_at self.now id)

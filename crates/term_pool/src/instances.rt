@@ -5,16 +5,16 @@ ghost use Rattle.term_pool.specs.Pooled.{Extends, StandsFor};
 ghost use Rattle.term_pool.specs.Bindings.{HasIds, instance_of};
 
 use crate::Pool;
+use crate::bindings::Bindings;
 use crate::nodes::Node;
 use smallvec::SmallVec;
 use std::alloc::Global;
-use std::collections::BTreeMap;
 use trs_core::{OutOfMemory, Term};
 
 impl Pool {
     /// The number of nodes and the depth of an instance. Each stands still at the last `u64`, and
     /// nothing is made.
-    pub(crate) fn instance_measure(&self, found: &BTreeMap<u32, u32>, t: &Term) -> (u64, u64)
+    pub(crate) fn instance_measure(&self, found: &Bindings, t: &Term) -> (u64, u64)
         requires { HasIds self.now found.now }
         ensures size { result.0
             ≡ min (size_of (instance_of self.now found.now (tree t.now))) u64.MAX }
@@ -22,10 +22,10 @@ impl Pool {
             ≡ min (depth_of (instance_of self.now found.now (tree t.now))) u64.MAX }
     {
         match t {
-            Term::Var(v) => match found.get(v) {
+            Term::Var(v) => match found.get(*v) {
                 None => (1, 1),
                 Some(id) => {
-                    let measure = self.measure(*id);
+                    let measure = self.measure(id);
                     (u64::from(measure.size), u64::from(measure.depth))
                 }
             },
@@ -46,7 +46,7 @@ impl Pool {
     pub(crate) fn instance(
         &mut self,
         alloc: Global,
-        found: &BTreeMap<u32, u32>,
+        found: &Bindings,
         t: &Term,
     ) -> Result<u32, OutOfMemory>
         requires ids { HasIds self.old found.now }
@@ -60,9 +60,9 @@ impl Pool {
             ≤ length self.old + size_of (instance_of self.old found.now (tree t.now)) }
     {
         match t {
-            Term::Var(v) => match found.get(v) {
+            Term::Var(v) => match found.get(*v) {
                 None => self.add(Node::Var(*v)),
-                Some(id) => Ok(*id),
+                Some(id) => Ok(id),
             },
             Term::App(f, args) => {
                 let mut ids = SmallVec::new(alloc);

@@ -4,6 +4,7 @@
 //! Type-safe modular hash-consing, 2006.)
 #![tactic(auto)]
 
+mod bindings;
 mod contracting;
 mod instances;
 mod interning;

@@ -7,9 +7,9 @@ ghost use Rattle.term_pool.specs.Bindings.{HasIds, instance_of};
 ghost use Rattle.term_pool.specs.Matching.{Matches};
 
 use crate::Pool;
+use crate::bindings::Bindings;
 use crate::nodes::Node;
 use std::alloc::Global;
-use std::collections::BTreeMap;
 use trs_core::{OutOfMemory, Rule, Term};
 
 impl Pool {
@@ -20,7 +20,7 @@ impl Pool {
         alloc: Global,
         pattern: &Term,
         id: u32,
-    ) -> Result<Option<BTreeMap<u32, u32>>, OutOfMemory>
+    ) -> Result<Option<Bindings>, OutOfMemory>
         requires { id < length self.now }
         ensures ids { IfOk result (λ found. IfSome found (HasIds self.now)) }
         ensures found { IfOk result (λ found. IfSome found (λ m.
@@ -28,7 +28,7 @@ impl Pool {
         ensures none { IfOk result (λ found. IfNone found
             (IsInstance (tree pattern.now) (tree_at self.now id) → ⊥)) }
     {
-        let mut found = BTreeMap::new(alloc);
+        let mut found = Bindings::new(alloc);
         if self.match_more(pattern, id, &mut found)? {
             Ok(Some(found))
         } else {
@@ -92,12 +92,7 @@ impl Pool {
     }
 
     /// Adds the bindings that take the pattern to the term of the id.
-    fn match_more(
-        &self,
-        pattern: &Term,
-        id: u32,
-        found: &mut BTreeMap<u32, u32>,
-    ) -> Result<bool, OutOfMemory>
+    fn match_more(&self, pattern: &Term, id: u32, found: &mut Bindings) -> Result<bool, OutOfMemory>
         requires there { id < length self.now }
         requires ids { HasIds self.now found.old }
         ensures matches { IfOk result (
@@ -123,7 +118,7 @@ impl Pool {
     }
 
     /// Binds a variable to an id, or sees whether it is bound to it.
-    fn bind(&self, v: u32, id: u32, found: &mut BTreeMap<u32, u32>) -> Result<bool, OutOfMemory>
+    fn bind(&self, v: u32, id: u32, found: &mut Bindings) -> Result<bool, OutOfMemory>
         requires there { id < length self.now }
         requires ids { HasIds self.now found.old }
         requires distinct { AreDistinct self.now }
@@ -131,10 +126,10 @@ impl Pool {
             Matches self.now (var v) (tree_at self.now id) found.old found.new) }
         ensures ids { OnOk result (HasIds self.now found.new) }
     {
-        if let Some(earlier) = found.get(&v) {
-            return Ok(*earlier == id);
+        if let Some(earlier) = found.get(v) {
+            return Ok(earlier == id);
         }
-        found.insert(v, id)?;
+        found.bind(v, id)?;
         Ok(true)
     }
 }

@@ -81,7 +81,7 @@ returns-after-loop-arg-clause-few t c =
     omega (arith, few, c.add-in-App.ensures.few)
 
 pub returns-in-Some-clause-id : goal.returns-in-Some-clause-id
-returns-in-Some-clause-id t c = rw c.in-Var.is (bound_at c.args.self.now c.args.found.now c.in-Var.v c.in-Some.id.now c.in-Some.ensures.value c.requires.ids)
+returns-in-Some-clause-id t c = rw c.in-Var.is (bound_at c.args.self.now c.args.found.now c.in-Var.v c.in-Some.id c.in-Some.ensures c.requires.ids)
 
 pub returns-after-loop-arg-clause-id : goal.returns-after-loop-arg-clause-id
 returns-after-loop-arg-clause-id t c =
