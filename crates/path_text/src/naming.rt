@@ -59,6 +59,17 @@ impl<'p> PathNames<'p> {
         self.paths[number]
     }
 
+    /// The text of the path with a number.
+    pub fn text(&self, number: usize) -> &[u8]
+        requires { number < length self.now }
+        ensures text { (path : List PlacedRule) → slice_get self.now number ≡ Some path
+            → result.now ≡ path_text path }
+        ensures range { (path : List PlacedRule) → slice_get self.now number ≡ Some path
+            → AllByRecursion IsPlacedInRange path }
+    {
+        self.texts.get(number)
+    }
+
     /// The number of the path with a text.
     pub fn find(&self, text: &[u8]) -> Option<usize>
         ensures number { (path : List PlacedRule) → AllByRecursion IsPlacedInRange path

@@ -33,26 +33,34 @@ pub fn repeated_paths<'p>(
     let seen = seen_paths(alloc, paths)?;
     let mut names = PathNames::new(alloc);
     for k in 0..seen.known.len() {
-        keep_path(alloc, &mut names, &seen.again, seen.known.get(k))?;
+        keep_path(
+            alloc,
+            &mut names,
+            &seen.again,
+            seen.known.get(k),
+            seen.known.text(k),
+        )?;
     }
     Ok(names)
 }
 
-/// One more path, if it is among those that occur more than once.
+/// One more path with its text, if it is among those that occur more than once.
 fn keep_path<'p>(
     alloc: Global,
     names: &mut PathNames<'p>,
     again: &PathNames<'_>,
     path: &'p [PathStep],
+    text: &[u8],
 ) -> Result<(), OutOfMemory>
-    requires { path_number names.old path.now ≡ None }
+    requires new { path_number names.old path.now ≡ None }
+    requires text { text.now ≡ text_of_path path.now }
+    requires range { AllByRecursion IsPlacedInRange path.now }
     ensures { OnOk result (names.new ≡ (if is_some (path_number again.now path.now)
         then names.old ++ path.now ∷ [] else names.old)) }
 {
-    let text = path_text(alloc, path)?;
-    match again.find(&text) {
+    match again.find(text) {
         None => Ok(()),
-        Some(_) => names.add(path, text),
+        Some(_) => names.add(path, Vec::from_slice(alloc, text)?),
     }
 }
 

@@ -6,8 +6,8 @@ use Rattle.path_text.specs.PathNames.{path_number, occurrences}
 use Rattle.path_text.proofs.SeenPaths.{kept_more, kept_is, filter_none}
 use Rattle.path_text.proofs.repeating.repeated_paths.Goals as goal
 
-pub keep_path-requires : goal.keep_path-requires
-keep_path-requires c =
+pub keep_path-requires-clause-new : goal.keep_path-requires-clause-new
+keep_path-requires-clause-new c =
     let ps = map (λ q. q.now) c.args.paths.now in
     let f : List PlacedRule → Bool = λ p. nat_lt 1 (occurrences p ps) in
     ap (λ names. path_number names c.get.result.now) c.loop-k.invariant ∙ filter_none f (take c.loop-k.k c.in_ok-seen.seen.known) c.get.result.now c.get.ensures.alone
