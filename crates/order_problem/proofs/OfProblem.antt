@@ -73,7 +73,7 @@ module _ (system : System) (valid : IsSystem system) (few : length system.aritie
           (subst (λ (l : List RewriteRule). AreCovered symbols (system.rules ++ l)) (sym of_taken) (all_covered system valid taken from_all symbols are_symbols))
 
       pub few_falling : length system.rules ≤ 4095 → length (dependency_pairs system.rules) ≤ 65536 → IsStrictlyIncreasing numbers
-          → All (λ n. n < length (dependency_pairs system.rules)) numbers → length rules + length pairs + 1 < 2 ^ 32
+          → All (λ n. n < length (dependency_pairs system.rules)) numbers → length rules + length pairs + 1 < 2 ^ 31
       few_falling few_rules few_all up within =
           let few_pairs = few_taken (dependency_pairs system.rules) numbers taken taken 65536 up within are_of refl few_all in
           let a : length rules ≡ length system.rules = ap length rules_are in
