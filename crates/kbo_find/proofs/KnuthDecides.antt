@@ -1,5 +1,5 @@
 -- The tests decide the Knuth-Bendix order.
-use Rattle.std.specs.Prelude.{◌≡◌, ℕ, ◌+◌, ◌≤◌, ◌<◌, ◌^◌, ◌⊎◌, ◌↔◌, Bool, true, false, ◌||◌, ◌&&◌, ◌==◌, if◌then◌else◌, nat_lt, nat_le, List, IsTrue}
+use Rattle.std.specs.Prelude.{◌≡◌, ℕ, ◌≤◌, ◌<◌, ◌^◌, ◌⊎◌, Bool, true, false, ◌||◌, ◌&&◌, ◌==◌, if◌then◌else◌, nat_lt, nat_le}
 use Rattle.std.proofs.Common.{refl, sym, ap, subst, inl, inr, arith, ◌∙◌}
 use Rattle.std.proofs.lemmas.Bool.Decides.{nat_tests}
 use Rattle.trs_defs.specs.Tree.{Tree, Trees, var, app, nil, cons, count}
@@ -133,11 +133,13 @@ module _ (w r : ℕ → ℕ) where
   weight_is : (s t : Tree) (rest : Tree → Bool) → weight_greater w s rest t ≡ true
       → KeepsOccurrences s t × ((weigh w t < weigh w s) ⊎ ((weigh w s ≡ weigh w t) × (rest t ≡ true)))
   weight_is s t rest e =
-      let both = both_true (keeps_each s t t) (nat_lt (weigh w t) (weigh w s) || (weigh w s == weigh w t && rest t)) e in
-      (keeps_is s t both.0, elim (either (nat_lt (weigh w t) (weigh w s)) (weigh w s == weigh w t && rest t) both.1) [
-        | inl less ↦ inl (lt_is (weigh w t) (weigh w s) less)
-        | inr more ↦ let h = both_true (weigh w s == weigh w t) (rest t) more in inr (eq_is (weigh w s) (weigh w t) h.0, h.1)
-      ])
+      let both = both_true (keeps_each s t t) (nat_lt (weigh w t) (weigh w s) || (weigh w s == weigh w t && rest t)) e in (
+        keeps_is s t both.0,
+        elim (either (nat_lt (weigh w t) (weigh w s)) (weigh w s == weigh w t && rest t) both.1) [
+          | inl less ↦ inl (lt_is (weigh w t) (weigh w s) less)
+          | inr more ↦ let h = both_true (weigh w s == weigh w t) (rest t) more in inr (eq_is (weigh w s) (weigh w t) h.0, h.1)
+        ],
+      )
 
   is_heavier : (s t : Tree) (rest : Tree → Bool) → KeepsOccurrences s t → weigh w t < weigh w s → weight_greater w s rest t ≡ true
   is_heavier s t rest keeps less =

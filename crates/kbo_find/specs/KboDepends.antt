@@ -1,5 +1,5 @@
 -- The comparison of two terms by a Knuth-Bendix order depends only on the weights and ranks of their symbols.
-use Rattle.std.specs.Prelude.{ℕ, ◌+◌, ◌^◌, Bool, true, false, ◌||◌, ◌&&◌, ◌==◌, nat_lt, if◌then◌else◌, List, [], ◌∷◌, ◌≡◌}
+use Rattle.std.specs.Prelude.{ℕ, ◌+◌, ◌^◌, Bool, true, false, ◌||◌, ◌&&◌, ◌==◌, nat_lt, List, [], ◌∷◌, ◌≡◌}
 use Rattle.std.proofs.Common.{refl, ap, ap₂}
 use Rattle.trs_defs.specs.Tree.{Tree, Trees, var, app, nil, cons, count}
 use Rattle.order_theory.specs.KnuthBendix.{weigh, weigh_all}

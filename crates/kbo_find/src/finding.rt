@@ -79,8 +79,8 @@ fn search_orders<P: Stop>(
     requires few_falling { length rules.now + length pairs.now + 1 < 2 ^ 31 }
     ensures answer { IfOk result (IsFinding
         (λ order. IsOrderOver (kbo_entry arities.now)
-            (kbo_search arities.now symbols.now rules.now pairs.now)
-            budget symbols.now order.entries.items)
+        (kbo_search arities.now symbols.now rules.now pairs.now)
+        budget symbols.now order.entries.items)
         (IsNotThere budget (puzzle_of (kbo_search arities.now symbols.now rules.now pairs.now)))
         (IsSpent budget (puzzle_of (kbo_search arities.now symbols.now rules.now pairs.now)))
         (P.stops stop.old < P.stops stop.new)) }

@@ -34,8 +34,7 @@ pub(crate) struct KboSpace<'a> {
     pub(crate) ghost tops_are: { map asked_of tops.now
         ≡ kbo_tops (arity_with_mark arities.now) symbols.now },
     pub(crate) ghost few_symbols: { 2 * length symbols.now < 2 ^ 32 },
-    pub(crate) ghost few_constraints: {
-        length tops.now + (length rules.now + length pairs.now + 1) < 2 ^ 32 },
+    pub(crate) ghost few_constraints: { length tops.now + (length rules.now + length pairs.now + 1) < 2 ^ 32 },
 }
 
 impl<'a> Space for KboSpace<'a> {

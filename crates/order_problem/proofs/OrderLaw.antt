@@ -1,6 +1,6 @@
 -- An order by whose tests the rules and marked pairs fall meets the conditions of a step that removes pairs.
 use Rattle.std.specs.Prelude.{◌≡◌, ℕ, ◌+◌, Bool, true, false, ◌||◌, List, [], ◌∷◌, ◌++◌, length, map, zip, Ok}
-use Rattle.std.proofs.Common.{refl, sym, ap, subst, arith, ◌∙◌, inl, inr}
+use Rattle.std.proofs.Common.{sym, ap, subst, arith, ◌∙◌, inl, inr}
 use Rattle.trs_defs.specs.Member.{In, in_first, in_rest}
 use Rattle.trs_defs.proofs.Members.{in_left, in_right, in_map}
 use Rattle.trs_defs.specs.Tree.{Tree}

@@ -1,6 +1,6 @@
 -- Constraints of a search for an order by their numbers: the family's own come first, and behind them those of a search without.
-use Rattle.std.specs.Prelude.{ℕ, ◌+◌, ◌<◌, Bool, ◌&&◌, List, [], ◌∷◌, ◌++◌, length, map, get_or, Some, slice_get, ◌≡◌}
-use Rattle.std.proofs.Common.{zero, suc, refl, sym, ap, subst, arith, ◌∙◌}
+use Rattle.std.specs.Prelude.{ℕ, ◌+◌, ◌<◌, Bool, List, [], ◌∷◌, ◌++◌, length, map, get_or, Some, slice_get, ◌≡◌}
+use Rattle.std.proofs.Common.{zero, suc, sym, ap, arith, ◌∙◌}
 use Rattle.std.proofs.lemmas.List.{length-append}
 use Rattle.trs_defs.specs.System.{RewriteRule}
 use Rattle.order_space.specs.Slots.{slot, at_constraint, table_of, puzzle_of}

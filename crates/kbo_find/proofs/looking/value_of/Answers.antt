@@ -1,4 +1,4 @@
-use Rattle.std.proofs.Common.{get_or, refl, sym}
+use Rattle.std.proofs.Common.{get_or, refl}
 use Rattle.kbo_find.proofs.ValueSteps.{value_there, value_missing}
 use Rattle.kbo_find.proofs.looking.value_of.Goals as goal
 
