@@ -1,5 +1,5 @@
 -- What the constraints and entries of a search for a Knuth-Bendix order are, as they are made.
-use Rattle.std.specs.Prelude.{ℕ, ◌+◌, Bool, true, ◌||◌, ◌==◌, if◌then◌else◌, List, Option, Some, None}
+use Rattle.std.specs.Prelude.{ℕ, ◌+◌, ◌<◌, ◌^◌, length, Bool, true, ◌||◌, ◌==◌, if◌then◌else◌, List, Option, Some, None}
 use Rattle.trs_defs.specs.System.{RewriteRule}
 use Rattle.kbo_order.specs.declared.entries.KboEntry.{KboEntry}
 use Rattle.order_problem.specs.OrderSpace.{OrderConstraint, above, occurs_in, some_falls}
@@ -9,6 +9,10 @@ use Rattle.kbo_find.specs.declared.tops.Top.{Top}
 -- what is asked of a unary symbol and another one
 abbrev pub asked_of : Top → OrderConstraint
 asked_of top = above top.unary top.other
+
+-- all constraints are numbered by 32 bits
+abbrev pub AreFew : List Top → List RewriteRule → List RewriteRule → Type 0
+AreFew tops rules pairs = length tops + (length rules + length pairs + 1) < 2 ^ 32
 
 -- a rule that falls weakly, or some strict pair
 abbrev pub falls_by : (ℕ → ℕ) → (ℕ → ℕ) → List RewriteRule → Option RewriteRule → Bool

@@ -1,11 +1,11 @@
 //! The finite search for weights and ranks.
-ghost use Rattle.std.specs.Prelude.{◌≡◌, ◌<◌, ◌+◌, ◌*◌, ◌^◌, ◌++◌, map, length, slice_get};
+ghost use Rattle.std.specs.Prelude.{◌≡◌, ◌<◌, ◌*◌, ◌^◌, ◌++◌, map, length, slice_get};
 ghost use Rattle.order_space.specs.Slots.{slot, puzzle_of};
 ghost use Rattle.order_problem.specs.OrderSpace.{AreCovered, arity_with_mark, concerns};
 ghost use Rattle.order_problem.specs.Distinct.{AreDistinct};
 ghost use Rattle.kbo_find.specs.KboSpace.{kbo_tops, weight_count};
 ghost use Rattle.kbo_find.specs.KboRow.{kbo_search};
-ghost use Rattle.kbo_find.specs.KboPlaces.{asked_of, uses_by};
+ghost use Rattle.kbo_find.specs.KboPlaces.{AreFew, asked_of, uses_by};
 ghost use Rattle.kbo_find.specs.KboLawful.{kbo_lawful};
 
 use crate::comparing::falls;
@@ -34,7 +34,7 @@ pub(crate) struct KboSpace<'a> {
     pub(crate) ghost tops_are: { map asked_of tops.now
         ≡ kbo_tops (arity_with_mark arities.now) symbols.now },
     pub(crate) ghost few_symbols: { 2 * length symbols.now < 2 ^ 32 },
-    pub(crate) ghost few_constraints: { length tops.now + (length rules.now + length pairs.now + 1) < 2 ^ 32 },
+    pub(crate) ghost few_constraints: { AreFew tops.now rules.now pairs.now },
 }
 
 impl<'a> Space for KboSpace<'a> {
