@@ -2,7 +2,7 @@
 use Rattle.std.specs.Prelude.{◌≡◌, ◌<◌, ℕ, ◌+◌, All, List, [], ◌∷◌, length, get_or, Vec, Result, Ok, Err, IfOk, refl}
 use Rattle.std.specs.declared.alloc.Global.{Global}
 use Rattle.std.specs.List.Sorted.{IsStrictlyIncreasing}
-use Rattle.std.proofs.Common.{zero, suc, sym, ap, subst, arith, ◌∙◌}
+use Rattle.std.proofs.Common.{zero, suc, sym, ap, subst, arith}
 use Rattle.dp_core.specs.Numbered.{numbers_from}
 
 number_at : {A : Type 0} (xs : List A) (k i d : ℕ) → i < length xs → get_or (numbers_from k xs) i d ≡ k + i
