@@ -8,11 +8,11 @@ use Rattle.order_space.proofs.Lawful.{and_true, test_below}
 use Rattle.order_space.proofs.Constraints.{at_item, at_last, one_more}
 use Rattle.order_problem.specs.OrderSpace.{OrderFamily, falls, some_strict, some_falls, meets, concerns, occurs_in, falling, order_search, slots_of}
 
-and_second : (a b : Bool) → a ≡ true → (a && b) ≡ b
+pub and_second : (a b : Bool) → a ≡ true → (a && b) ≡ b
 and_second true b e = refl
 and_second false b e = absurd cc
 
-past_end : {A : Type 0} (xs : List A) (c : ℕ) → slice_get xs c ≡ None → length xs ≤ c
+pub past_end : {A : Type 0} (xs : List A) (c : ℕ) → slice_get xs c ≡ None → length xs ≤ c
 past_end [] c e = omega arith
 past_end (x ∷ xs) zero e = absurd cc
 past_end (x ∷ xs) (suc c) e = let rest = past_end xs c e in omega (arith, rest)

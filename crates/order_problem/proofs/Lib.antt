@@ -5,3 +5,8 @@ pub mod Growing
 pub mod Covered
 pub mod Constraints
 pub mod Repeats
+pub mod TwoParts
+pub mod OwnConstraints
+pub mod SaidEntries
+pub mod OfProblem
+pub mod OrderLaw

@@ -56,7 +56,7 @@ abbrev pub value_at : List ℕ → ℕ → ℕ → Option ℕ → ℕ
 value_at values k part None = 0
 value_at values k part (Some n) = get_or values (k + (n + part)) 0
 
-at_next : (values : List ℕ) (k m part : ℕ) (o : Option ℕ) → value_at values (k + m) part o ≡ value_at values k part (option_map (λ n. m + n) o)
+pub at_next : (values : List ℕ) (k m part : ℕ) (o : Option ℕ) → value_at values (k + m) part o ≡ value_at values k part (option_map (λ n. m + n) o)
 at_next values k m part None = refl
 at_next values k m part (Some n) = let at : k + m + (n + part) ≡ k + (m + n + part) = omega arith in ap (λ (i : ℕ). get_or values i 0) at
 

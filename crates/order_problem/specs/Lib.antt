@@ -1,4 +1,5 @@
 pub mod OrderSpace
 pub mod OrderRow
+pub mod OrderOver
 pub mod SymbolSets
 pub mod Distinct

@@ -1,0 +1,9 @@
+pub mod KnuthDecides
+pub mod KboTests
+pub mod KboEntries
+pub mod KboPuzzle
+pub mod ValueSteps
+pub mod TopSteps
+pub mod TableSteps
+pub mod Answered
+pub mod KboLaw

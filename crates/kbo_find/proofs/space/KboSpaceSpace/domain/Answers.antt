@@ -1,0 +1,23 @@
+use Rattle.std.proofs.Common.{ℕ, ap, sym, ◌∙◌, ◌<◌, ◌*◌, length, arith}
+use Rattle.order_problem.proofs.TwoParts.{many_slots}
+use Rattle.kbo_find.specs.KboSpace.{weight_count}
+use Rattle.kbo_find.proofs.KboPuzzle.{weight_domain, rank_domain}
+use Rattle.kbo_find.proofs.space.KboSpaceSpace.domain.Goals as goal
+
+pub bounds-self-slot : goal.bounds-self-slot
+bounds-self-slot c = let many = many_slots c.args.self.now.symbols.now in omega (arith, many, c.requires)
+
+pub returns-then-slot-eq0 : goal.returns-then-slot-eq0
+returns-then-slot-eq0 c =
+    let x = c.args.self.now in
+    let many = many_slots x.symbols.now in
+    let below : c.args.slot < 2 * length x.symbols.now = omega (arith, many, c.requires) in
+    c.weight_count.ensures ∙ (ap (λ (n : ℕ). weight_count n) c.arity_of.ensures.value
+    ∙ sym (weight_domain x.arities.now x.symbols.now x.rules.now x.pairs.now c.args.slot below c.if-slot-eq0.true))
+
+pub returns-else-slot-eq0 : goal.returns-else-slot-eq0
+returns-else-slot-eq0 c =
+    let x = c.args.self.now in
+    let many = many_slots x.symbols.now in
+    let below : c.args.slot < 2 * length x.symbols.now = omega (arith, many, c.requires) in
+    sym (rank_domain x.arities.now x.symbols.now x.rules.now x.pairs.now c.args.slot below (omega (arith, c.if-slot-eq0.false)))

@@ -1,0 +1,6 @@
+use Rattle.std.proofs.Common.{sym}
+use Rattle.order_problem.proofs.TwoParts.{many_slots}
+use Rattle.kbo_find.proofs.space.KboSpaceSpace.slots.Goals as goal
+
+pub returns : goal.returns
+returns c = sym (many_slots c.args.self.now.symbols.now)

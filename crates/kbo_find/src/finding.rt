@@ -1,0 +1,107 @@
+//! The strategy kbo.
+ghost use Rattle.std.specs.Prelude.{◌≡◌, ◌<◌, ◌≤◌, ◌+◌, ◌*◌, ◌^◌, ◌++◌, All, IfOk, length};
+ghost use Rattle.std.specs.List.Sorted.{IsStrictlyIncreasing};
+ghost use Rattle.pair_theory.specs.DependencyPair.{dependency_pairs};
+ghost use Rattle.dp_core.specs.PlacedPairs.{placed_pairs};
+ghost use Rattle.order_space.specs.Outcome.{IsFinding, IsNotThere, IsSpent};
+ghost use Rattle.order_space.specs.Slots.{puzzle_of};
+ghost use Rattle.order_problem.specs.OrderRow.{FailsOrder};
+ghost use Rattle.order_problem.specs.OrderOver.{search_of, IsOrderOver};
+ghost use Rattle.order_problem.specs.OrderSpace.{AreCovered, arity_with_mark};
+ghost use Rattle.order_problem.specs.Distinct.{AreDistinct};
+ghost use Rattle.kbo_find.specs.KboSpace.{kbo_tops};
+ghost use Rattle.kbo_find.specs.KboRow.{kbo_search, kbo_entry};
+ghost use Rattle.kbo_find.specs.Laws.{FindsKbo};
+
+use crate::space::KboSpace;
+use crate::table::order_of;
+use crate::tops::all_tops;
+use assign_search::{Search, Stop, first_solution};
+use dp_core::{DpPair, Pairs, placed_pairs_are_the_pairs};
+use kbo_order::Kbo;
+use order_find::taken::taken;
+use order_problem::{marked_rules, order_symbols};
+use pair_theory::dependency_pairs_suffice;
+use std::alloc::Global;
+use trs_core::{OutOfMemory, Rule, Trs};
+
+/// A Knuth-Bendix order that removes a pair of the problem. It is the first solution of a finite
+/// search: two slots for each symbol of the rules, ascending, and behind them for each marked root
+/// of the pairs, ascending; the first has the symbol's weight, 1 or 2 for a constant and 0 to 2 for
+/// any other symbol, the second its rank, from 0 to 7. Each symbol with one argument and weight 0
+/// has a greater rank than each other symbol, then each rule falls weakly, then each pair does, and
+/// last some pair falls strictly. The budget is that of `first_solution`.
+///
+/// `stop` is asked before each prefix of values.
+pub fn find_kbo<P: Stop>(
+    alloc: Global,
+    trs: &Trs,
+    all: &[DpPair],
+    problem: &[u32],
+    budget: u64,
+    stop: &mut P,
+) -> Result<Search<Kbo>, OutOfMemory>
+    requires all { all.now ≡ placed_pairs trs.now.rules }
+    requires ascending { IsStrictlyIncreasing problem.now }
+    requires numbers { All (λ n. n < length (dependency_pairs trs.now.rules)) problem.now }
+    ensures answer { IfOk result (IsFinding
+        (λ order. FindsKbo trs.now problem.now budget order.entries.items)
+        (FailsOrder trs.now problem.now (search_of kbo_search trs.now) (IsNotThere budget))
+        (FailsOrder trs.now problem.now (search_of kbo_search trs.now) (IsSpent budget))
+        (P.stops stop.old < P.stops stop.new)) }
+    ensures later { P.stops stop.old ≤ P.stops stop.new }
+    ensures kept { P.kept stop.new ≡ P.kept stop.old }
+{
+    let arities = trs.arities();
+    let rules = trs.rules();
+    placed_pairs_are_the_pairs();
+    dependency_pairs_suffice();
+    let pairs = Pairs::of(alloc, trs, all)?;
+    let taken = taken(alloc, pairs.sides(), problem)?;
+    let symbols = order_symbols(alloc, rules, &taken)?;
+    let marked = marked_rules(alloc, &taken)?;
+    search_orders(alloc, arities, &symbols, rules, &marked, budget, stop)
+}
+
+/// The order over these symbols by which the rules and the marked pairs fall.
+fn search_orders<P: Stop>(
+    alloc: Global,
+    arities: &[u8],
+    symbols: &[u32],
+    rules: &[Rule],
+    pairs: &[Rule],
+    budget: u64,
+    stop: &mut P,
+) -> Result<Search<Kbo>, OutOfMemory>
+    requires distinct { AreDistinct symbols.now }
+    requires covered { AreCovered symbols.now (rules.now ++ pairs.now) }
+    requires few_symbols { length symbols.now ≤ 8192 }
+    requires few_falling { length rules.now + length pairs.now + 1 < 2 ^ 31 }
+    ensures answer { IfOk result (IsFinding
+        (λ order. IsOrderOver (kbo_entry arities.now)
+        (kbo_search arities.now symbols.now rules.now pairs.now)
+        budget symbols.now order.entries.items)
+        (IsNotThere budget (puzzle_of (kbo_search arities.now symbols.now rules.now pairs.now)))
+        (IsSpent budget (puzzle_of (kbo_search arities.now symbols.now rules.now pairs.now)))
+        (P.stops stop.old < P.stops stop.new)) }
+    ensures later { P.stops stop.old ≤ P.stops stop.new }
+    ensures kept { P.kept stop.new ≡ P.kept stop.old }
+{
+    let tops = all_tops(alloc, arities, symbols)?;
+    let space = KboSpace {
+        arities,
+        symbols,
+        tops: &tops,
+        rules,
+        pairs,
+    };
+    match first_solution(alloc, &space, budget, stop) {
+        Err(_) => Err(OutOfMemory),
+        Ok(Search::Found(values)) => {
+            Ok(Search::Found(order_of(alloc, arities, symbols, &values, false)?))
+        }
+        Ok(Search::NotThere) => Ok(Search::NotThere),
+        Ok(Search::Spent) => Ok(Search::Spent),
+        Ok(Search::Stopped) => Ok(Search::Stopped),
+    }
+}

@@ -1,0 +1,7 @@
+ghost use Rattle.kbo_find.specs.Laws.{FoundOrdersApply};
+
+/// A law, with nothing to run: the order that is found meets the conditions of a step by a
+/// Knuth-Bendix order.
+pub fn found_orders_apply()
+    ensures { FoundOrdersApply }
+{}

@@ -1,0 +1,109 @@
+//! The finite search for weights and ranks.
+ghost use Rattle.std.specs.Prelude.{◌≡◌, ◌<◌, ◌*◌, ◌^◌, ◌++◌, map, length, slice_get};
+ghost use Rattle.order_space.specs.Slots.{slot, puzzle_of};
+ghost use Rattle.order_problem.specs.OrderSpace.{AreCovered, arity_with_mark, concerns};
+ghost use Rattle.order_problem.specs.Distinct.{AreDistinct};
+ghost use Rattle.kbo_find.specs.KboSpace.{kbo_tops, weight_count};
+ghost use Rattle.kbo_find.specs.KboRow.{kbo_search};
+ghost use Rattle.kbo_find.specs.KboPlaces.{AreFew, asked_of, uses_by};
+ghost use Rattle.kbo_find.specs.KboLawful.{kbo_lawful};
+
+use crate::comparing::falls;
+use crate::looking::is_above;
+use crate::table::order_of;
+use crate::tops::{Top, top_at};
+use assign_search::{OutOfMemory, Space};
+use order_problem::{arity_of, falling_at, occurs_in_rule};
+use std::alloc::Global;
+use trs_core::Rule;
+
+/// How many ranks there are.
+const RANKS: u32 = 8;
+
+/// The symbols, of which each has a slot for its weight and one for its rank; which are to be above
+/// which; and the rules and marked pairs that are to fall.
+#[derive(Drop)]
+pub(crate) struct KboSpace<'a> {
+    pub(crate) arities: &'a [u8],
+    pub(crate) symbols: &'a [u32],
+    pub(crate) tops: &'a [Top],
+    pub(crate) rules: &'a [Rule],
+    pub(crate) pairs: &'a [Rule],
+    pub(crate) ghost distinct: { AreDistinct symbols.now },
+    pub(crate) ghost covered: { AreCovered symbols.now (rules.now ++ pairs.now) },
+    pub(crate) ghost tops_are: { map asked_of tops.now
+        ≡ kbo_tops (arity_with_mark arities.now) symbols.now },
+    pub(crate) ghost few_symbols: { 2 * length symbols.now < 2 ^ 32 },
+    pub(crate) ghost few_constraints: { AreFew tops.now rules.now pairs.now },
+}
+
+impl<'a> Space for KboSpace<'a> {
+    ghost puzzle = { λ x. puzzle_of
+        (kbo_search x.arities.now x.symbols.now x.rules.now x.pairs.now) };
+
+    ghost lawful = { λ x. kbo_lawful x.arities.now x.symbols.now x.rules.now x.pairs.now };
+
+    fn slots(&self) -> u32 {
+        2 * self.symbols.len() as u32
+    }
+
+    fn domain(&self, slot: u32) -> u32 {
+        let symbol = self.symbols[(slot / 2) as usize];
+        if slot % 2 == 0 {
+            weight_count(arity_of(self.arities, symbol))
+        } else {
+            RANKS
+        }
+    }
+
+    fn constraints(&self) -> u32 {
+        self.tops.len() as u32 + self.rules.len() as u32 + self.pairs.len() as u32 + 1
+    }
+
+    fn uses(&self, c: u32, slot: u32) -> bool {
+        let symbol = self.symbols[(slot / 2) as usize];
+        match top_at(self.tops, c as usize) {
+            Some(top) => concerns(top, symbol),
+            None => stands_in(symbol, self.rules, self.pairs, c as usize - self.tops.len()),
+        }
+    }
+
+    fn holds(&self, alloc: Global, c: u32, values: &[u32]) -> Result<bool, OutOfMemory> {
+        match top_at(self.tops, c as usize) {
+            Some(top) => Ok(is_above(self.symbols, values, top)),
+            None => match order_of(alloc, self.arities, self.symbols, values, true) {
+                Ok(order) => Ok(falls(
+                    &order,
+                    self.rules,
+                    self.pairs,
+                    c as usize - self.tops.len(),
+                )),
+                Err(_) => Err(OutOfMemory),
+            },
+        }
+    }
+}
+
+/// Whether the symbol is one of the two.
+fn concerns(top: &Top, symbol: u32) -> bool
+    ensures { result ≡ concerns (asked_of top.now) (slot symbol 0) }
+{
+    symbol == top.unary || symbol == top.other
+}
+
+/// How many weights a symbol with so many arguments has.
+fn weight_count(arity: u32) -> u32
+    ensures { result ≡ weight_count arity }
+{
+    if arity == 0 { 2 } else { 3 }
+}
+
+/// Whether the symbol stands in the rule or pair of this number, or the number is behind them.
+fn stands_in(symbol: u32, rules: &[Rule], pairs: &[Rule], number: usize) -> bool
+    ensures { result ≡ uses_by symbol (slice_get (rules.now ++ pairs.now) number) }
+{
+    match falling_at(rules, pairs, number) {
+        Some(rule) => occurs_in_rule(symbol, rule),
+        None => true,
+    }
+}

@@ -1,0 +1,15 @@
+//! Tests of the finder of Knuth-Bendix orders. There is no code here.
+#![tactic(auto)]
+
+#[cfg(test)]
+mod cases;
+#[cfg(test)]
+mod numbers;
+#[cfg(test)]
+mod orders;
+#[cfg(test)]
+mod plain_order;
+#[cfg(test)]
+mod plain_search;
+#[cfg(test)]
+mod stops;
