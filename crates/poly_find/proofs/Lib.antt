@@ -3,4 +3,7 @@ pub mod PolyTests
 pub mod PolyEntries
 pub mod PolyPuzzle
 pub mod NoPairing
+pub mod Starts
+pub mod PolySteps
+pub mod Answered
 pub mod PolyLaw
