@@ -1,6 +1,6 @@
 -- What the entries that a table says tell of terms whose symbols have one.
 use Rattle.std.specs.Prelude.{◌≡◌, ℕ, Bool, true, false, ◌||◌, ◌==◌, if◌then◌else◌, slice_index, List, [], ◌∷◌, map}
-use Rattle.std.proofs.Common.{refl, sym, ap, ap₂, subst, arith, ◌∙◌, inl, inr}
+use Rattle.std.proofs.Common.{refl, ap, ap₂, subst, arith, ◌∙◌, inl, inr}
 use Rattle.std.proofs.lemmas.Bool.Decides.{nat_tests}
 use Rattle.trs_defs.specs.Member.{in_first, in_rest}
 use Rattle.trs_defs.specs.Variable.{is_listed}

@@ -1,7 +1,7 @@
 -- The entries of an interpretation, as they are made.
 use Rattle.std.specs.Prelude.{◌≡◌, ◌<◌, ◌≤◌, ℕ, ◌+◌, List, [], ◌∷◌, ◌++◌, Vec, length, map, drop, get_or}
 use Rattle.std.specs.declared.alloc.Global.{Global}
-use Rattle.std.proofs.Common.{sym, ap, ap₂, subst, arith, ◌∙◌, append_assoc}
+use Rattle.std.proofs.Common.{sym, ap, ap₂, ◌∙◌, append_assoc}
 use Rattle.std.proofs.lemmas.List.{append-nil, map-append, drop_all}
 use Rattle.std.proofs.lemmas.Option.{slice_get-get_or}
 use Rattle.dp_core.proofs.Collecting.{next_item}

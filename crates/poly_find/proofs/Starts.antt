@@ -1,16 +1,15 @@
 -- Where the slots of each symbol begin, and what their values say.
-use Rattle.std.specs.Prelude.{◌≡◌, ◌<◌, ◌≤◌, ℕ, ◌+◌, ◌-◌, ◌*◌, Bool, true, false, ◌==◌, if◌then◌else◌, List, [], ◌∷◌, ◌++◌, length, map, drop, get_or, Option, Some, option_map}
+use Rattle.std.specs.Prelude.{◌≡◌, ◌<◌, ◌≤◌, ℕ, ◌+◌, ◌-◌, Bool, true, false, ◌==◌, if◌then◌else◌, List, [], ◌∷◌, ◌++◌, length, map, drop, get_or, Option, Some, option_map}
 use Rattle.std.proofs.Common.{zero, suc, refl, sym, ap, ap₂, subst, arith, ◌∙◌, append_assoc}
 use Rattle.std.proofs.lemmas.Bool.Decides.{nat_tests}
 use Rattle.std.proofs.lemmas.List.{append-nil, drop_all, map-append, length-append, length-map}
 use Rattle.std.proofs.lemmas.Option.{slice_get-get_or}
 use Rattle.dp_core.proofs.Collecting.{next_item}
-use Rattle.order_space.specs.Slots.{Slot, Table, table_of}
-use Rattle.order_problem.specs.OrderSpace.{parts_from, slots_of, arity_with_mark}
+use Rattle.order_space.specs.Slots.{Table, table_of}
+use Rattle.order_problem.specs.OrderSpace.{parts_from, slots_of}
 use Rattle.order_problem.specs.Distinct.{AreDistinct}
 use Rattle.order_problem.proofs.SlotLayout.{start_of, value_from, value_at}
 use Rattle.poly_find.specs.PolySpace.{values_from}
-use Rattle.poly_find.specs.PolyRow.{poly_entry}
 use Rattle.poly_find.specs.PolyPlaces.{parts_by, owner_of, owners_of, values_at}
 
 same_test : (n : ℕ) → (n == n) ≡ true

@@ -1,5 +1,5 @@
 -- The comparison of two terms by linear polynomials depends only on the coefficients of their symbols.
-use Rattle.std.specs.Prelude.{ℕ, ◌+◌, ◌*◌, ◌^◌, Bool, true, ◌||◌, ◌&&◌, nat_le, nat_lt, slice_index, List, [], ◌∷◌, ◌≡◌}
+use Rattle.std.specs.Prelude.{ℕ, ◌+◌, ◌*◌, ◌^◌, true, ◌||◌, ◌&&◌, nat_le, nat_lt, slice_index, List, ◌∷◌, ◌≡◌}
 use Rattle.std.proofs.Common.{zero, suc, refl, ap, ap₂}
 use Rattle.trs_defs.specs.Tree.{Tree, Trees, var, app, nil, cons}
 use Rattle.order_theory.specs.LinearInterpretation.{constant, constants, coefficient, coefficients}

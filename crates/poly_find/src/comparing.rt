@@ -5,9 +5,9 @@ ghost use Rattle.order_problem.specs.OrderSpace.{some_falls};
 ghost use Rattle.poly_find.specs.LinearTest.{linear_weak, linear_strict};
 ghost use Rattle.poly_find.specs.PolyPlaces.{falls_by};
 
-use poly_lin::LinTable;
 use order_problem::falling_at;
 use pair_order::ReductionPair;
+use poly_lin::LinTable;
 use trs_core::Rule;
 
 /// Whether the rule or pair of this number falls weakly; behind them, whether some pair falls

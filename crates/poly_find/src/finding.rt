@@ -18,10 +18,10 @@ use crate::space::PolySpace;
 use crate::table::interpretation;
 use assign_search::{Search, Stop, first_solution};
 use dp_core::{DpPair, Pairs, placed_pairs_are_the_pairs};
-use poly_lin::LinTable;
 use order_find::taken::taken;
 use order_problem::{marked_rules, order_symbols};
 use pair_theory::dependency_pairs_suffice;
+use poly_lin::LinTable;
 use std::alloc::Global;
 use trs_core::{OutOfMemory, Rule, Trs};
 

@@ -1,12 +1,17 @@
-//! Tests of the finder of Knuth-Bendix orders. There is no code here.
+//! Tests of the finders of Knuth-Bendix orders and of linear interpretations. There is no code
+//! here.
 #![tactic(auto)]
 
 #[cfg(test)]
 mod cases;
 #[cfg(test)]
+mod linear;
+#[cfg(test)]
 mod numbers;
 #[cfg(test)]
 mod orders;
+#[cfg(test)]
+mod plain_linear;
 #[cfg(test)]
 mod plain_order;
 #[cfg(test)]

@@ -1,9 +1,9 @@
-use Rattle.std.proofs.Common.{◌≡◌, ◌≤◌, ◌*◌, ℕ, List, Vec, length, map, ap, ◌∙◌, arith}
+use Rattle.std.proofs.Common.{◌≡◌, ℕ, List, Vec, length, map, ap, ◌∙◌, arith}
 use Rattle.std.specs.declared.alloc.Global.{Global}
 use Rattle.order_space.specs.Slots.{table_of, puzzle_of}
 use Rattle.order_problem.specs.OrderSpace.{slots_of}
 use Rattle.poly_find.specs.PolyRow.{poly_search, poly_entry}
-use Rattle.poly_find.specs.PolyPlaces.{parts_by, owners_of}
+use Rattle.poly_find.specs.PolyPlaces.{parts_by}
 use Rattle.poly_find.proofs.Answered.{first_of}
 use Rattle.poly_find.proofs.finding.search_orders.Goals as goal
 

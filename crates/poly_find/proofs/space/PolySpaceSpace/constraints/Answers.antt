@@ -1,4 +1,3 @@
-use Rattle.std.proofs.Common.{arith}
 use Rattle.order_problem.specs.OrderSpace.{arity_with_mark}
 use Rattle.order_problem.proofs.Constraints.{many_constraints}
 use Rattle.poly_find.specs.PolySpace.{poly_family}
