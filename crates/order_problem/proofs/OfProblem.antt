@@ -29,10 +29,10 @@ use Rattle.order_problem.proofs.Repeats.{symbols_distinct}
 module _ (system : System) (valid : IsSystem system) (few : length system.arities ≤ 4095)
     (good : (p : DependencyPair) → In p (dependency_pairs system.rules) → IsPair system.arities p)
     (numbers : List ℕ) (all taken : List DependencyPair) (of : all ≡ dependency_pairs system.rules) (are : ArePairsOf all numbers taken) where
-  are_of : ArePairsOf (dependency_pairs system.rules) numbers taken
+  pub are_of : ArePairsOf (dependency_pairs system.rules) numbers taken
   are_of = subst (λ (l : List DependencyPair). ArePairsOf l numbers taken) of are
 
-  from_all : (p : DependencyPair) → In p taken → In p (dependency_pairs system.rules)
+  pub from_all : (p : DependencyPair) → In p taken → In p (dependency_pairs system.rules)
   from_all p i = taken_in (dependency_pairs system.rules) numbers taken are_of p i
 
   small_root : (f : ℕ) → In f (roots_of taken) → f < 4096
@@ -51,7 +51,7 @@ module _ (system : System) (valid : IsSystem system) (few : length system.aritie
 
   module _ (listed : List DependencyPair) (same : listed ≡ taken) (rules : List RewriteRule) (rules_are : rules ≡ system.rules) (symbols items : List ℕ) (is : symbols ≡ items)
       (given : AreSymbols (symbols_of_rules rules) listed items) where
-    are_symbols : AreSymbols (symbols_of_rules system.rules) taken symbols
+    pub are_symbols : AreSymbols (symbols_of_rules system.rules) taken symbols
     are_symbols =
         subst (λ (l : List RewriteRule). AreSymbols (symbols_of_rules l) taken symbols) rules_are
         (subst (λ (l : List DependencyPair). AreSymbols (symbols_of_rules rules) l symbols) same

@@ -1,0 +1,9 @@
+pub mod LinearDecides
+pub mod PolyTests
+pub mod PolyEntries
+pub mod PolyPuzzle
+pub mod NoPairing
+pub mod Starts
+pub mod PolySteps
+pub mod Answered
+pub mod PolyLaw

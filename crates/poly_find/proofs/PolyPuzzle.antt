@@ -1,0 +1,58 @@
+-- The search for a linear interpretation by the numbers of its slots and constraints.
+use Rattle.std.specs.Prelude.{◌≡◌, ◌<◌, ℕ, ◌+◌, Bool, true, false, ◌||◌, List, [], ◌∷◌, ◌++◌, length, get_or, map, Option, Some, None, slice_get}
+use Rattle.std.proofs.Common.{zero, suc, refl, sym, ap, arith, ◌∙◌}
+use Rattle.std.proofs.lemmas.List.{length-map}
+use Rattle.trs_defs.specs.Variable.{is_listed}
+use Rattle.trs_defs.specs.System.{RewriteRule}
+use Rattle.trs_defs.proofs.Members.{in_of_get, in_right}
+use Rattle.poly_lin.specs.Table.{coefficient_in}
+use Rattle.order_space.specs.Slots.{Slot, slot, table_of, puzzle_of}
+use Rattle.order_problem.specs.OrderSpace.{AreCovered, arity_with_mark, slots_of, some_falls, occurs_in}
+use Rattle.order_problem.proofs.Constraints.{truth_falls, truth_last, uses_all, uses_symbols, last_number}
+use Rattle.poly_find.specs.LinearTest.{linear_weak, linear_strict}
+use Rattle.poly_find.specs.PolySpace.{poly_family}
+use Rattle.poly_find.specs.PolyRow.{poly_entry, poly_search}
+use Rattle.poly_find.specs.PolyPlaces.{owner_of, parts_by, owners_of, falls_by}
+use Rattle.poly_find.proofs.PolyEntries.{weak_by_entries, some_by_entries}
+
+owner_at : (slots : List Slot) (s d : ℕ) → s < length slots → get_or (map owner_of slots) s d ≡ owner_of (get_or slots s (slot 0 0))
+owner_at [] s d h = absurd (omega (arith, h))
+owner_at (x ∷ slots) zero d h = refl
+owner_at (x ∷ slots) (suc s) d h = owner_at slots s d (omega (arith, h))
+
+module _ (arities symbols : List ℕ) (rules pairs : List RewriteRule) where
+  pub slot_count : (owners : List ℕ) → owners ≡ owners_of arities symbols → length owners ≡ (puzzle_of (poly_search arities symbols rules pairs)).slots
+  slot_count owners are = ap length are ∙ length-map (slots_of (parts_by arities) symbols) owner_of
+
+  pub uses_rule : (owners : List ℕ) (c s d : ℕ) (r : RewriteRule) → owners ≡ owners_of arities symbols → slice_get (rules ++ pairs) c ≡ Some r
+      → s < (puzzle_of (poly_search arities symbols rules pairs)).slots
+      → (puzzle_of (poly_search arities symbols rules pairs)).uses c s ≡ (occurs_in (get_or owners s d) r.left || occurs_in (get_or owners s d) r.right)
+  uses_rule owners c s d r are e h =
+      let here = get_or (slots_of (parts_by arities) symbols) s (slot 0 0) in
+      uses_symbols (poly_family (arity_with_mark arities)) symbols rules pairs c s r here.symbol here.part e h refl
+      ∙ ap (λ (f : ℕ). occurs_in f r.left || occurs_in f r.right) (sym (ap (λ (l : List ℕ). get_or l s d) are ∙ owner_at (slots_of (parts_by arities) symbols) s d h))
+
+  pub uses_last : (c s : ℕ) → slice_get (rules ++ pairs) c ≡ None → c < (puzzle_of (poly_search arities symbols rules pairs)).constraints
+      → s < (puzzle_of (poly_search arities symbols rules pairs)).slots → (puzzle_of (poly_search arities symbols rules pairs)).uses c s ≡ true
+  uses_last c s e below h =
+      uses_all (poly_family (arity_with_mark arities)) symbols rules pairs c s (last_number (poly_family (arity_with_mark arities)) symbols rules pairs c e below) h
+
+  -- what the interpretation of the values says is what the values say
+  module _ (no_pairing : is_listed 8191 symbols ≡ false) (covered : AreCovered symbols (rules ++ pairs)) (values : List ℕ) (entries : List (ℕ × List ℕ))
+      (are : entries ≡ map (poly_entry arities (table_of (slots_of (parts_by arities) symbols) values)) symbols) where
+    pub truth_of_rule : (c : ℕ) (r : RewriteRule) (b : Bool) → slice_get (rules ++ pairs) c ≡ Some r → b ≡ linear_weak (coefficient_in entries) r.left r.right
+        → b ≡ (puzzle_of (poly_search arities symbols rules pairs)).truth c values
+    truth_of_rule c r b at e =
+        e ∙ (weak_by_entries arities (table_of (slots_of (parts_by arities) symbols) values) symbols no_pairing entries are r (covered r (in_of_get (rules ++ pairs) c r at))
+        ∙ sym (truth_falls (poly_family (arity_with_mark arities)) symbols rules pairs c values r at))
+
+    pub truth_of_last : (c : ℕ) (b : Bool) → c ≡ length rules + length pairs → b ≡ some_falls (linear_strict (coefficient_in entries)) pairs
+        → b ≡ (puzzle_of (poly_search arities symbols rules pairs)).truth c values
+    truth_of_last c b last e =
+        e ∙ (some_by_entries arities (table_of (slots_of (parts_by arities) symbols) values) symbols no_pairing entries are pairs (λ r i. covered r (in_right rules i))
+        ∙ sym (truth_last (poly_family (arity_with_mark arities)) symbols rules pairs c values last))
+
+    pub truth_falling : (c : ℕ) (b : Bool) (o : Option RewriteRule) → slice_get (rules ++ pairs) c ≡ o → c < (puzzle_of (poly_search arities symbols rules pairs)).constraints
+        → b ≡ falls_by (coefficient_in entries) pairs o → b ≡ (puzzle_of (poly_search arities symbols rules pairs)).truth c values
+    truth_falling c b (Some r) at below e = truth_of_rule c r b at e
+    truth_falling c b None none below e = truth_of_last c b (last_number (poly_family (arity_with_mark arities)) symbols rules pairs c none below) e

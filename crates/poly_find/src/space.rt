@@ -1,0 +1,70 @@
+//! The finite search for coefficients.
+ghost use Rattle.std.specs.Prelude.{◌≡◌, ◌<◌, ◌≤◌, ◌+◌, ◌^◌, ◌++◌, length, false};
+ghost use Rattle.trs_defs.specs.Variable.{is_listed};
+ghost use Rattle.order_space.specs.Slots.{puzzle_of};
+ghost use Rattle.order_problem.specs.OrderSpace.{AreCovered};
+ghost use Rattle.order_problem.specs.Distinct.{AreDistinct};
+ghost use Rattle.poly_find.specs.PolyRow.{poly_search};
+ghost use Rattle.poly_find.specs.PolyPlaces.{owners_of};
+ghost use Rattle.poly_find.specs.PolyLawful.{poly_lawful};
+
+use crate::comparing::falls;
+use crate::table::interpretation;
+use assign_search::{OutOfMemory, Space};
+use order_problem::{falling_at, occurs_in_rule};
+use std::alloc::Global;
+use trs_core::Rule;
+
+/// How many values a coefficient has.
+const VALUES: u32 = 3;
+
+/// The symbols, the symbol of each slot, and the rules and marked pairs that are to fall.
+#[derive(Drop)]
+pub(crate) struct PolySpace<'a> {
+    pub(crate) arities: &'a [u8],
+    pub(crate) symbols: &'a [u32],
+    pub(crate) owners: &'a [u32],
+    pub(crate) rules: &'a [Rule],
+    pub(crate) pairs: &'a [Rule],
+    pub(crate) ghost distinct: { AreDistinct symbols.now },
+    pub(crate) ghost no_pairing: { is_listed 8191 symbols.now ≡ false },
+    pub(crate) ghost covered: { AreCovered symbols.now (rules.now ++ pairs.now) },
+    pub(crate) ghost owners_are: { owners.now ≡ owners_of arities.now symbols.now },
+    pub(crate) ghost few_symbols: { length symbols.now ≤ 8192 },
+    pub(crate) ghost few_slots: { length owners.now < 2 ^ 32 },
+    pub(crate) ghost few_falling: { length rules.now + length pairs.now + 1 < 2 ^ 31 },
+}
+
+impl<'a> Space for PolySpace<'a> {
+    ghost puzzle = { λ x. puzzle_of
+        (poly_search x.arities.now x.symbols.now x.rules.now x.pairs.now) };
+
+    ghost lawful = { λ x. poly_lawful x.arities.now x.symbols.now x.rules.now x.pairs.now };
+
+    fn slots(&self) -> u32 {
+        self.owners.len() as u32
+    }
+
+    fn domain(&self, slot: u32) -> u32 {
+        VALUES
+    }
+
+    fn constraints(&self) -> u32 {
+        self.rules.len() as u32 + self.pairs.len() as u32 + 1
+    }
+
+    fn uses(&self, c: u32, slot: u32) -> bool {
+        let symbol = self.owners[slot as usize];
+        match falling_at(self.rules, self.pairs, c as usize) {
+            Some(rule) => occurs_in_rule(symbol, rule),
+            None => true,
+        }
+    }
+
+    fn holds(&self, alloc: Global, c: u32, values: &[u32]) -> Result<bool, OutOfMemory> {
+        match interpretation(alloc, self.arities, self.symbols, values) {
+            Ok(table) => Ok(falls(&table, self.rules, self.pairs, c as usize)),
+            Err(_) => Err(OutOfMemory),
+        }
+    }
+}
