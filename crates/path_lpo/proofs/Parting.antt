@@ -1,26 +1,9 @@
 -- A term is taken apart at its root, as its filter says.
-use Rattle.std.proofs.Common.{◌≡◌, ℕ, ◌-◌, ◌<◌, List, Option, Some, None, option_map, slice_get, ap, sym, ◌∙◌, arith, Vec, Global}
-use Rattle.std.specs.Borrow.{Bor}
-use Rattle.std.specs.Option.{option_copied}
+use Rattle.std.proofs.Common.{◌≡◌, ℕ, ◌-◌, ◌<◌, List, Some, None, slice_get, ap, sym, ◌∙◌, arith}
 use Rattle.trs_defs.specs.Tree.{Tree, app, nil, trees}
 use Rattle.trs_defs.specs.Size.{size_of}
 use Rattle.order_theory.specs.ArgumentFilter.{ArgumentFilter, To, Keep, select, filtered, filtered_all, by_filter}
-use Rattle.pair_order.specs.Entries.{entry_of}
-use Rattle.path_lpo.specs.declared.entries.LpoEntry.{LpoEntry}
-use Rattle.path_lpo.specs.declared.entries.Filter.TheVariants as code
-use Rattle.path_lpo.specs.Table.{PathEntry, symbol_of, filter_of, filter_in}
-use Rattle.path_lpo.specs.Plain.{plain, plain_filter}
 use Rattle.path_lpo.proofs.Keeping.{select_filtered, item_found, item_missing, size_of_found}
-
-module _ (table : List PathEntry) (f : ℕ) (r : Option (Bor LpoEntry)) (b : Bor LpoEntry) (read : option_map plain (option_copied r) ≡ entry_of symbol_of table f) (some : r ≡ Some b) where
-  pub filter_there : (filter : ArgumentFilter) → plain_filter b.now.filter ≡ filter → filter_in table f ≡ filter
-  filter_there filter e = ap filter_of (sym read ∙ ap (λ o. option_map plain (option_copied o)) some) ∙ e
-
-  pub keeps : (v : Vec ℕ Global) → b.now.filter ≡ code.Keep v → filter_in table f ≡ Keep v.items
-  keeps v e = filter_there (Keep v.items) (ap plain_filter e)
-
-  pub goes : (place : ℕ) → b.now.filter ≡ code.To place → filter_in table f ≡ To place
-  goes place e = filter_there (To place) (ap plain_filter e)
 
 module _ (filter : ℕ → ArgumentFilter) (current whole : Tree) (f : ℕ) (ts : List Tree) (is : current ≡ app f (trees ts)) (same : filtered filter current ≡ filtered filter whole) where
   opened : by_filter f (filter f) (filtered_all filter (trees ts)) ≡ filtered filter whole

@@ -1,4 +1,5 @@
 pub mod Plain
+pub mod Lent
 pub mod Table
 pub mod Faults
 pub mod Kept

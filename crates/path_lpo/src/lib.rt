@@ -8,8 +8,11 @@ mod entries;
 mod faults;
 mod kept;
 mod orders;
+mod precedence;
 mod table;
 
+pub use comparing::{is_strict, is_weak};
 pub use entries::{Filter, LpoEntry};
 pub use faults::TableFault;
+pub use precedence::{LentFilter, Precedence};
 pub use table::Lpo;

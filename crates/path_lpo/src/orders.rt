@@ -5,7 +5,7 @@ ghost use Rattle.pair_theory.specs.ReductionPair.{AllTerms};
 ghost use Rattle.pair_order.specs.Entries.{has_entry};
 ghost use Rattle.path_lpo.specs.Table.{symbol_of, rank_in, filter_in, spoken};
 
-use crate::Lpo;
+use crate::{Lpo, is_strict, is_weak};
 use pair_order::{ReductionPair, TooBig};
 use pair_theory::ReductionOrder;
 use trs_core::Term;
@@ -28,11 +28,11 @@ impl ReductionPair for Lpo {
     ghost speaks_over = { λ order arities. Unit {0} };
 
     fn weak(&self, a: &Term, b: &Term) -> Result<bool, TooBig> {
-        Ok(self.compare(a, b).is_at_least())
+        Ok(is_weak(self, a, b))
     }
 
     fn strict(&self, a: &Term, b: &Term) -> Result<bool, TooBig> {
-        Ok(self.compare(a, b).is_greater())
+        Ok(is_strict(self, a, b))
     }
 
     fn has_entry(&self, f: u32) -> bool {

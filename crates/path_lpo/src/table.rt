@@ -1,7 +1,7 @@
 ghost use Rattle.std.specs.Prelude.{◌≡◌, ◌≢◌, ℕ, ◌++◌, ◌∷◌, [], map, IfOk, IfErr, OnOk, option_map, option_copied};
 ghost use Rattle.pair_order.specs.Entries.{entry_of};
 ghost use Rattle.pair_order.specs.FirstFault.{IsFirstFault, IsFirstOfEntry};
-ghost use Rattle.path_lpo.specs.Table.{symbol_of, rank_in};
+ghost use Rattle.path_lpo.specs.Table.{symbol_of};
 ghost use Rattle.path_lpo.specs.Plain.{plain};
 ghost use Rattle.path_lpo.specs.Faults.{HasFaultAt, IsEntryFault, number};
 ghost use Rattle.path_lpo.specs.declared.faults.TableFault.{TableFault as Fault};
@@ -76,15 +76,6 @@ impl Lpo {
         match self.symbols.place(symbol) {
             Some(place) => self.entries.get(place),
             None => None,
-        }
-    }
-
-    pub(crate) fn rank(&self, symbol: u32) -> u64
-        ensures { result ≡ rank_in self.now symbol }
-    {
-        match self.entry(symbol) {
-            Some(entry) => entry.rank,
-            None => 0,
         }
     }
 }
