@@ -7,3 +7,4 @@ pub mod RootSets
 pub mod FewPairs
 pub mod Findings
 pub mod Arguments
+pub mod PlacingSymbols

@@ -119,32 +119,6 @@ members_ascend set members listed is ordered known = subst (λ (l : List ℕ). A
   );
 })
 
--- ---- the index of numbers in order
-
-other_symbol : (g x : ℕ) → g < x → (g == x) ≡ false
-other_symbol g x h = grind (arith, nat_tests)
-
-not_before : (xs : List ℕ) (i x : ℕ) → ((k : ℕ) → k < i → k < length xs → get_or xs k 0 < x) → is_listed x (take i xs) ≡ false
-not_before [] zero x h = refl
-not_before [] (suc i) x h = refl
-not_before (g ∷ xs) zero x h = refl
-not_before (g ∷ xs) (suc i) x h =
-    let first : g < x = h 0 (omega arith) (omega arith) in
-    ap₂ (λ a b. a || b) (other_symbol g x first) (not_before xs i x (λ k l below. h (suc k) (omega (arith, l)) (omega (arith, below))))
-
-pub one_indexed : (xs old new : List ℕ) (i : ℕ) → IsStrictlyIncreasing xs → i < length xs → old ≡ take i xs → new ≡ with_symbol old (get_or xs i 0) → new ≡ take (i + 1) xs
-one_indexed xs old new i up below before grown =
-    let pairs = AllPairs-from_increasing xs up in
-    let fresh : is_listed (get_or xs i 0) old ≡ false =
-    subst (λ (l : List ℕ). is_listed (get_or xs i 0) l ≡ false) (sym before) (not_before xs i (get_or xs i 0) (λ k l within. pairs k i 0 l below)) in
-    let next : take (suc i) xs ≡ take i xs ++ get_or xs i 0 ∷ [] = take-suc xs i 0 below in
-    let at : suc i ≡ i + 1 = omega arith in
-    grown ∙ (ap (λ b. cond b old (old ++ get_or xs i 0 ∷ [])) fresh
-    ∙ (ap (λ (l : List ℕ). l ++ get_or xs i 0 ∷ []) before ∙ (sym next ∙ ap (λ (n : ℕ). take n xs) at)))
-
-pub all_indexed : (xs index : List ℕ) (i : ℕ) → length xs ≤ i → index ≡ take i xs → index ≡ xs
-all_indexed xs index i past is = is ∙ take_all i xs past
-
 pub members_if_ok : {E : Type 0} (set : BTreeSet ℕ) (listed : List ℕ) (result : Result (Vec ℕ Global) E) → IfOk result (λ members. members.items ≡ set.keys) → IsOrdered nat_cmp set
     → ((f : ℕ) → IsTrue (contains nat_cmp set f) ↔ In f listed) → IfOk result (λ members. AreAscending listed members.items)
 members_if_ok set listed (Ok v) is ordered known = members_ascend set v.items listed is ordered known

@@ -3,3 +3,4 @@ pub mod SubtermSpace
 pub mod SubtermRow
 pub mod Laws
 pub mod SubtermLawful
+pub mod Placed

@@ -3,6 +3,7 @@
 #![tactic(auto)]
 
 mod laws;
+pub mod placing;
 pub mod roots;
 mod subterm;
 mod subterm_space;
@@ -10,4 +11,4 @@ pub mod taken;
 mod within;
 
 pub use laws::found_places_apply;
-pub use subterm::find_subterm;
+pub use subterm::{find_subterm, find_subterm_in};

@@ -2,13 +2,11 @@
 ghost use Rattle.std.specs.Prelude.{◌≡◌, ◌↔◌, ◌⊎◌, ℕ, IfOk, OnOk, IsTrue};
 ghost use Rattle.std.specs.Ordering.{nat_cmp};
 ghost use Rattle.std.specs.BTreeSet.{contains, keys, IsOrdered};
-ghost use Rattle.std.specs.List.Sorted.{IsStrictlyIncreasing};
 ghost use Rattle.trs_defs.specs.Member.{In};
 ghost use Rattle.dp_core.specs.SubtermConditions.{roots_of};
 ghost use Rattle.order_space.specs.Ascending.{AreAscending};
 
 use dp_core::{Side, Sides};
-use pair_order::SymbolIndex;
 use std::alloc::Global;
 use std::collections::BTreeSet;
 use trs_core::OutOfMemory;
@@ -72,16 +70,4 @@ pub fn listed(alloc: Global, set: &BTreeSet<u32>) -> Result<Vec<u32>, OutOfMemor
         members.push(*f)?;
     }
     Ok(members)
-}
-
-/// The places of these numbers in their list.
-pub(crate) fn indexed(alloc: Global, numbers: &[u32]) -> Result<SymbolIndex, OutOfMemory>
-    requires { IsStrictlyIncreasing numbers.now }
-    ensures { IfOk result (λ index. index ≡ numbers.now) }
-{
-    let mut index = SymbolIndex::new(alloc);
-    for f in numbers {
-        index.add(*f)?;
-    }
-    Ok(index)
 }

@@ -8,7 +8,8 @@ ghost use Rattle.order_space.specs.Slots.{puzzle_of};
 ghost use Rattle.order_find.specs.SubtermSpace.{subterm_search};
 ghost use Rattle.order_find.specs.SubtermRow.{FindsSubterm, FailsSubterm, ArePlaces, places_of};
 
-use crate::roots::{indexed, roots};
+use crate::placing::SymbolPlaces;
+use crate::roots::roots;
 use crate::subterm_space::SubtermSpace;
 use crate::taken::taken;
 use assign_search::{Search, Stop, first_solution};
@@ -42,12 +43,36 @@ pub fn find_subterm<P: Stop>(
     ensures later { P.stops stop.old ≤ P.stops stop.new }
     ensures kept { P.kept stop.new ≡ P.kept stop.old }
 {
+    let pairs = Pairs::of(alloc, trs, all)?;
+    find_subterm_in(alloc, trs, &pairs, problem, budget, stop)
+}
+
+/// `find_subterm` where the pairs of the system are at hand, as they are for many problems of one
+/// system.
+pub fn find_subterm_in<P: Stop>(
+    alloc: Global,
+    trs: &Trs,
+    pairs: &Pairs,
+    problem: &[u32],
+    budget: u64,
+    stop: &mut P,
+) -> Result<Search<Vec<(u32, u8)>>, OutOfMemory>
+    requires pairs { pairs.now ≡ dependency_pairs trs.now.rules }
+    requires ascending { IsStrictlyIncreasing problem.now }
+    requires numbers { All (λ n. n < length (dependency_pairs trs.now.rules)) problem.now }
+    ensures answer { IfOk result (IsFinding
+        (λ places. FindsSubterm trs.now problem.now budget places.items)
+        (FailsSubterm trs.now problem.now (IsNotThere budget))
+        (FailsSubterm trs.now problem.now (IsSpent budget))
+        (P.stops stop.old < P.stops stop.new)) }
+    ensures later { P.stops stop.old ≤ P.stops stop.new }
+    ensures kept { P.kept stop.new ≡ P.kept stop.old }
+{
     let arities = trs.arities();
     arities_are_bytes(arities);
     let _rules = trs.rules();
     placed_pairs_are_the_pairs();
     dependency_pairs_suffice();
-    let pairs = Pairs::of(alloc, trs, all)?;
     let taken = taken(alloc, pairs.sides(), problem)?;
     let roots = roots(alloc, &taken)?;
     search_places(alloc, arities, &roots, &taken, budget, stop)
@@ -63,7 +88,6 @@ fn search_places<P: Stop>(
     stop: &mut P,
 ) -> Result<Search<Vec<(u32, u8)>>, OutOfMemory>
     requires bytes { (f n : ℕ) → slice_get arities.now f ≡ Some n → n < 256 }
-    requires increasing { IsStrictlyIncreasing roots.now }
     requires few_roots { length roots.now < 2 ^ 32 }
     requires few_pairs { length pairs.now + 1 < 2 ^ 32 }
     ensures answer { IfOk result (IsFinding
@@ -74,7 +98,7 @@ fn search_places<P: Stop>(
     ensures later { P.stops stop.old ≤ P.stops stop.new }
     ensures kept { P.kept stop.new ≡ P.kept stop.old }
 {
-    let slots = indexed(alloc, roots)?;
+    let slots = SymbolPlaces::of(alloc, roots)?;
     let space = SubtermSpace {
         arities,
         roots,

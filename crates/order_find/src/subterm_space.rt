@@ -10,11 +10,11 @@ ghost use Rattle.order_find.specs.Subterms.{has_subterm, has_proper_subterm};
 ghost use Rattle.order_find.specs.SubtermSpace.{subterm_search, passes, some_passes, subterm_slots};
 ghost use Rattle.order_find.specs.SubtermLawful.{subterm_lawful};
 
+use crate::placing::SymbolPlaces;
 use crate::roots::{from_root, to_root};
 use crate::within::{contains, contains_properly};
 use assign_search::{OutOfMemory, Space};
 use dp_core::{Side, Sides};
-use pair_order::SymbolIndex;
 use std::alloc::Global;
 use trs_core::Term;
 
@@ -23,7 +23,7 @@ use trs_core::Term;
 pub(crate) struct SubtermSpace<'a> {
     pub(crate) arities: &'a [u8],
     pub(crate) roots: &'a [u32],
-    pub(crate) slots: &'a SymbolIndex,
+    pub(crate) slots: &'a SymbolPlaces<'a>,
     pub(crate) pairs: &'a [Sides<'a>],
     pub(crate) ghost indexed: { slots.now ≡ roots.now },
     pub(crate) ghost few_roots: { length roots.now < 2 ^ 32 },
@@ -121,7 +121,7 @@ impl<'a> SubtermSpace<'a> {
     {
         match self.slots.place(f) {
             None => 0,
-            Some(slot) => value_at(values, slot),
+            Some(slot) => value_at(values, slot as usize),
         }
     }
 }

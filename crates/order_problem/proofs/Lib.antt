@@ -10,3 +10,4 @@ pub mod OwnConstraints
 pub mod SaidEntries
 pub mod OfProblem
 pub mod OrderLaw
+pub mod PlacedEntries

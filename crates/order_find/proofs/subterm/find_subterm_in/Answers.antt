@@ -6,18 +6,15 @@ use Rattle.dp_core.specs.Numbered.{ArePairsOf}
 use Rattle.dp_core.proofs.AllNumbers.{few_pairs}
 use Rattle.order_find.proofs.FewPairs.{few_taken, few_roots}
 use Rattle.order_find.proofs.Findings.{of_problem, found_of_problem}
-use Rattle.order_find.proofs.subterm.find_subterm.Goals as goal
+use Rattle.order_find.proofs.subterm.find_subterm_in.Goals as goal
 
 pub search_places-requires-clause-bytes : goal.search_places-requires-clause-bytes
 search_places-requires-clause-bytes g c = c.arities_are_bytes.ensures
 
-pub search_places-requires-clause-increasing : goal.search_places-requires-clause-increasing
-search_places-requires-clause-increasing g c = subst IsStrictlyIncreasing (sym c.deref-2.ensures.value) c.in_ok-roots.ensures.increasing
-
 pub search_places-requires-clause-few_roots : goal.search_places-requires-clause-few_roots
 search_places-requires-clause-few_roots g c =
     let few = few_roots c.args.trs.now.arities c.rules-rules.ensures.limits.symbols (dependency_pairs c.args.trs.now.rules) (c.dependency_pairs_suffice.ensures.pairs c.args.trs.now c.rules-rules.ensures.valid)
-    c.args.problem.now c.in_ok-taken.taken.items (subst (λ l. ArePairsOf l c.args.problem.now c.in_ok-taken.taken.items) (c.sides.ensures ∙ c.in_ok-pairs.ensures) c.in_ok-taken.ensures)
+    c.args.problem.now c.in_ok-taken.taken.items (subst (λ l. ArePairsOf l c.args.problem.now c.in_ok-taken.taken.items) (c.sides.ensures ∙ c.requires.pairs) c.in_ok-taken.ensures)
     c.deref.result.now c.in_ok-roots.roots.items c.deref-2.result.now c.deref.ensures.value c.in_ok-roots.ensures c.deref-2.ensures.value in
     omega (arith, few)
 
@@ -28,12 +25,12 @@ search_places-requires-clause-few_pairs g c =
     let nodes = c.rules-rules.ensures.limits.nodes in
     let all : length (dependency_pairs c.args.trs.now.rules) ≤ 65536 = omega (arith, count, placed, nodes) in
     let few = few_taken (dependency_pairs c.args.trs.now.rules) c.args.problem.now c.in_ok-taken.taken.items c.deref-3.result.now 65536 c.requires.ascending c.requires.numbers
-    (subst (λ l. ArePairsOf l c.args.problem.now c.in_ok-taken.taken.items) (c.sides.ensures ∙ c.in_ok-pairs.ensures) c.in_ok-taken.ensures) c.deref-3.ensures.value all in
+    (subst (λ l. ArePairsOf l c.args.problem.now c.in_ok-taken.taken.items) (c.sides.ensures ∙ c.requires.pairs) c.in_ok-taken.ensures) c.deref-3.ensures.value all in
     omega (arith, few)
 
 pub returns-clause-answer : goal.returns-clause-answer
 returns-clause-answer g c =
     found_of_problem c.args.trs.now c.args.problem.now c.deref-3.result.now c.deref-2.result.now c.args.budget _
     (of_problem c.args.trs.now c.args.problem.now c.sides.result.now c.in_ok-taken.taken.items c.deref-3.result.now c.deref.result.now c.in_ok-roots.roots.items c.deref-2.result.now
-    (c.sides.ensures ∙ c.in_ok-pairs.ensures) c.in_ok-taken.ensures c.deref-3.ensures.value c.in_ok-roots.ensures c.deref.ensures.value c.deref-2.ensures.value)
+    (c.sides.ensures ∙ c.requires.pairs) c.in_ok-taken.ensures c.deref-3.ensures.value c.in_ok-roots.ensures c.deref.ensures.value c.deref-2.ensures.value)
     c.arities-arities.result.now c.search_places.result c.arities-arities.ensures c.search_places.ensures.answer

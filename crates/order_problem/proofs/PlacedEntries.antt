@@ -1,0 +1,53 @@
+-- The entries that a table says for symbols, by the places of the symbols.
+use Rattle.std.specs.Prelude.{◌≡◌, ◌<◌, ℕ, Bool, true, false, ◌||◌, ◌==◌, if◌then◌else◌, List, [], ◌∷◌, length, map, get_or, Option, Some, None, option_map}
+use Rattle.std.proofs.Common.{zero, suc, refl, sym, ap, ap₂, arith, ◌∙◌}
+use Rattle.std.proofs.lemmas.Bool.Decides.{nat_tests}
+use Rattle.trs_defs.specs.Variable.{is_listed}
+use Rattle.pair_order.specs.Entries.{place_among, entry_of}
+use Rattle.pair_order.proofs.Placing.{entry_absent}
+
+same_number : (g f : ℕ) → (g == f) ≡ true → g ≡ f
+same_number g f e = grind (arith, nat_tests)
+
+-- the symbol stands at this place
+pub record StandsAt (symbols : List ℕ) (f i : ℕ) : Type 0 where
+  pub within : i < length symbols
+  pub there : get_or symbols i 0 ≡ f
+  pub listed : is_listed f symbols ≡ true
+
+stands_first : (g : ℕ) (gs : List ℕ) (f i : ℕ) → Some 0 ≡ Some i → (g == f) ≡ true → StandsAt (g ∷ gs) f i
+stands_first g gs f zero e is = record { within = omega arith; there = same_number g f is; listed = ap (λ b. b || is_listed f gs) is }
+stands_first g gs f (suc i) e is = absurd cc
+
+or_true : (b : Bool) → b || true ≡ true
+or_true true = refl
+or_true false = refl
+
+stands_later : (g : ℕ) (gs : List ℕ) (f i j : ℕ) → Some (suc j) ≡ Some i → StandsAt gs f j → StandsAt (g ∷ gs) f i
+stands_later g gs f zero j e h = absurd cc
+stands_later g gs f (suc i) j e h =
+    let same : j ≡ i = cc in
+    let at = h.within in
+    record {
+      within = omega (arith, at, same);
+      there = ap (λ (k : ℕ). get_or gs k 0) (sym same) ∙ h.there;
+      listed = ap (λ b. (g == f) || b) h.listed ∙ or_true (g == f);
+    }
+
+pub stands_at : (symbols : List ℕ) (f i : ℕ) → place_among symbols f ≡ Some i → StandsAt symbols f i
+stands_at [] f i e = absurd cc
+stands_at (g ∷ gs) f i e = by_test (g == f) refl (place_among gs f) refl e
+  where
+    by_test : (b : Bool) → (g == f) ≡ b → (o : Option ℕ) → place_among gs f ≡ o → (if b then Some 0 else option_map suc o) ≡ Some i → StandsAt (g ∷ gs) f i
+    by_test true is o rest e = stands_first g gs f i e is
+    by_test false is None rest e = absurd cc
+    by_test false is (Some j) rest e = stands_later g gs f i j e (stands_at gs f j rest)
+
+module _ {Entry : Type 0} (symbol_of : Entry → ℕ) (said : ℕ → Entry) (named : (f : ℕ) → symbol_of (said f) ≡ f) where
+  names : (symbols : List ℕ) → map symbol_of (map said symbols) ≡ symbols
+  names [] = refl
+  names (f ∷ symbols) = ap₂ (λ (x : ℕ) (l : List ℕ). x ∷ l) (named f) (names symbols)
+
+  pub no_entry_said : (symbols : List ℕ) (f : ℕ) → place_among symbols f ≡ None → entry_of symbol_of (map said symbols) f ≡ None
+  no_entry_said symbols f e =
+      entry_absent symbol_of (map said symbols) f (place_among symbols f) (ap (λ (l : List ℕ). place_among l f) (sym (names symbols))) e
