@@ -3,3 +3,4 @@ pub mod LpoRow
 pub mod LpoDepends
 pub mod LpoLawful
 pub mod Laws
+pub mod Filters

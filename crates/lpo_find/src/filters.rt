@@ -1,11 +1,42 @@
 //! The filters of a symbol, by their numbers.
-ghost use Rattle.std.specs.Prelude.{◌≡◌, ◌<◌, ◌++◌, [], ◌∷◌, IfOk, OnOk};
+ghost use Rattle.std.specs.Prelude.{◌≡◌, ◌<◌, ◌++◌, [], ◌∷◌, IfOk, OnOk, map};
 ghost use Rattle.path_lpo.specs.Plain.{plain_filter};
+ghost use Rattle.order_problem.specs.OrderSpace.{arity_with_mark};
 ghost use Rattle.lpo_find.specs.LpoSpace.{filter_count, filter_number, places_from, all_but};
+ghost use Rattle.lpo_find.specs.Filters.{plain_filters, filters_of};
 
+use order_problem::arity_of;
 use path_lpo::Filter;
 use std::alloc::Global;
 use trs_core::OutOfMemory;
+
+/// All filters of each symbol, by their numbers.
+pub(crate) fn symbol_filters(
+    alloc: Global,
+    arities: &[u8],
+    symbols: &[u32],
+) -> Result<Vec<Vec<Filter>>, OutOfMemory>
+    ensures { IfOk result (λ filters. map plain_filters filters.items
+        ≡ map (λ f. filters_of (arity_with_mark arities.now f)) symbols.now) }
+{
+    let mut filters = Vec::with_capacity(alloc, symbols.len())?;
+    for f in symbols {
+        filters.push(arity_filters(alloc, arity_of(arities, *f))?)?;
+    }
+    Ok(filters)
+}
+
+fn arity_filters(alloc: Global, arity: u32) -> Result<Vec<Filter>, OutOfMemory>
+    requires { arity < 256 }
+    ensures { IfOk result (λ filters. plain_filters filters ≡ filters_of arity) }
+{
+    let count = filter_count(arity);
+    let mut filters = Vec::with_capacity(alloc, count as usize)?;
+    for number in 0..count {
+        filters.push(filter_number(alloc, arity, number)?)?;
+    }
+    Ok(filters)
+}
 
 /// How many filters there are for so many arguments.
 pub(crate) fn filter_count(arity: u32) -> u32

@@ -11,10 +11,12 @@ ghost use Rattle.order_problem.specs.Distinct.{AreDistinct};
 ghost use Rattle.lpo_find.specs.LpoRow.{IsOrder, path_search, lpo_search};
 ghost use Rattle.lpo_find.specs.Laws.{FindsLpo};
 
+use crate::filters::symbol_filters;
 use crate::space::LpoSpace;
 use crate::table::order_of;
 use assign_search::{Search, Stop, first_solution};
 use dp_core::{DpPair, Pairs, placed_pairs_are_the_pairs};
+use order_find::placing::SymbolPlaces;
 use order_find::taken::taken;
 use order_problem::{marked_rules, order_symbols};
 use pair_theory::dependency_pairs_suffice;
@@ -48,11 +50,35 @@ pub fn find_lpo<P: Stop>(
     ensures later { P.stops stop.old ≤ P.stops stop.new }
     ensures kept { P.kept stop.new ≡ P.kept stop.old }
 {
+    let pairs = Pairs::of(alloc, trs, all)?;
+    find_lpo_in(alloc, trs, &pairs, problem, budget, stop)
+}
+
+/// `find_lpo` where the pairs of the system are at hand, as they are for many problems of one
+/// system.
+pub fn find_lpo_in<P: Stop>(
+    alloc: Global,
+    trs: &Trs,
+    pairs: &Pairs,
+    problem: &[u32],
+    budget: u64,
+    stop: &mut P,
+) -> Result<Search<Lpo>, OutOfMemory>
+    requires pairs { pairs.now ≡ dependency_pairs trs.now.rules }
+    requires ascending { IsStrictlyIncreasing problem.now }
+    requires numbers { All (λ n. n < length (dependency_pairs trs.now.rules)) problem.now }
+    ensures answer { IfOk result (IsFinding
+        (λ order. FindsLpo trs.now problem.now budget order)
+        (FailsOrder trs.now problem.now (lpo_search trs.now) (IsNotThere budget))
+        (FailsOrder trs.now problem.now (lpo_search trs.now) (IsSpent budget))
+        (P.stops stop.old < P.stops stop.new)) }
+    ensures later { P.stops stop.old ≤ P.stops stop.new }
+    ensures kept { P.kept stop.new ≡ P.kept stop.old }
+{
     let arities = trs.arities();
     let rules = trs.rules();
     placed_pairs_are_the_pairs();
     dependency_pairs_suffice();
-    let pairs = Pairs::of(alloc, trs, all)?;
     let taken = taken(alloc, pairs.sides(), problem)?;
     let symbols = order_symbols(alloc, rules, &taken)?;
     let marked = marked_rules(alloc, &taken)?;
@@ -81,9 +107,13 @@ fn search_orders<P: Stop>(
     ensures later { P.stops stop.old ≤ P.stops stop.new }
     ensures kept { P.kept stop.new ≡ P.kept stop.old }
 {
+    let places = SymbolPlaces::of(alloc, symbols)?;
+    let filters = symbol_filters(alloc, arities, symbols)?;
     let space = LpoSpace {
         arities,
         symbols,
+        places: &places,
+        filters: &filters,
         rules,
         pairs,
     };

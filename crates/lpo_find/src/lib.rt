@@ -2,6 +2,7 @@
 //! (Hirokawa and Middeldorp, Tyrolean termination tool: techniques and features, 2007.)
 #![tactic(auto)]
 
+mod assigned;
 mod comparing;
 mod filters;
 mod finding;
@@ -9,5 +10,5 @@ mod laws;
 mod space;
 mod table;
 
-pub use finding::find_lpo;
+pub use finding::{find_lpo, find_lpo_in};
 pub use laws::found_orders_apply;

@@ -1,30 +1,38 @@
 //! The finite search for filters and ranks.
-ghost use Rattle.std.specs.Prelude.{◌≡◌, ◌<◌, ◌+◌, ◌*◌, ◌^◌, ◌++◌, length};
+ghost use Rattle.std.specs.Prelude.{◌≡◌, ◌<◌, ◌+◌, ◌*◌, ◌^◌, ◌++◌, length, map};
 ghost use Rattle.order_space.specs.Slots.{puzzle_of};
 ghost use Rattle.order_problem.specs.OrderSpace.{AreCovered, arity_with_mark};
 ghost use Rattle.order_problem.specs.Distinct.{AreDistinct};
+ghost use Rattle.lpo_find.specs.Filters.{plain_filters, filters_of};
 ghost use Rattle.lpo_find.specs.LpoRow.{path_search};
 ghost use Rattle.lpo_find.specs.LpoLawful.{lpo_lawful};
 
-use crate::comparing::{is_weak, some_is_strict};
+use crate::assigned::Assigned;
+use crate::comparing::{falls_weakly, some_falls_strictly};
 use crate::filters::filter_count;
-use crate::table::order_of;
 use assign_search::{OutOfMemory, Space};
+use order_find::placing::SymbolPlaces;
 use order_problem::{arity_of, falling_at, occurs_in_rule};
+use path_lpo::Filter;
 use std::alloc::Global;
 use trs_core::Rule;
 
 /// How many ranks there are.
 const RANKS: u32 = 8;
 
-/// The symbols, of which each has a slot for its filter and one for its rank, and the rules and
-/// marked pairs that are to fall.
+/// The symbols, of which each has a slot for its filter and one for its rank, with their places and
+/// all filters of each; and the rules and marked pairs that are to fall.
 #[derive(Drop)]
 pub(crate) struct LpoSpace<'a> {
     pub(crate) arities: &'a [u8],
     pub(crate) symbols: &'a [u32],
+    pub(crate) places: &'a SymbolPlaces<'a>,
+    pub(crate) filters: &'a [Vec<Filter>],
     pub(crate) rules: &'a [Rule],
     pub(crate) pairs: &'a [Rule],
+    pub(crate) ghost placed: { places.now ≡ symbols.now },
+    pub(crate) ghost filters_are: { map plain_filters filters.now
+        ≡ map (λ f. filters_of (arity_with_mark arities.now f)) symbols.now },
     pub(crate) ghost distinct: { AreDistinct symbols.now },
     pub(crate) ghost covered: { AreCovered symbols.now (rules.now ++ pairs.now) },
     pub(crate) ghost few_symbols: { 2 * length symbols.now < 2 ^ 32 },
@@ -63,13 +71,14 @@ impl<'a> Space for LpoSpace<'a> {
         }
     }
 
-    fn holds(&self, alloc: Global, c: u32, values: &[u32]) -> Result<bool, OutOfMemory> {
-        let Ok(order) = order_of(alloc, self.arities, self.symbols, values) else {
-            return Err(OutOfMemory);
+    fn holds(&self, _alloc: Global, c: u32, values: &[u32]) -> Result<bool, OutOfMemory> {
+        let order = Assigned {
+            space: self,
+            values,
         };
         match falling_at(self.rules, self.pairs, c as usize) {
-            Some(rule) => Ok(is_weak(&order, rule)),
-            None => Ok(some_is_strict(&order, self.pairs)),
+            Some(rule) => Ok(falls_weakly(&order, rule)),
+            None => Ok(some_falls_strictly(&order, self.pairs)),
         }
     }
 }

@@ -36,12 +36,13 @@ stands_later g gs f (suc i) j e h =
 
 pub stands_at : (symbols : List ℕ) (f i : ℕ) → place_among symbols f ≡ Some i → StandsAt symbols f i
 stands_at [] f i e = absurd cc
-stands_at (g ∷ gs) f i e = by_test (g == f) refl (place_among gs f) refl e
+stands_at (g ∷ gs) f i e = by_test (λ j rest. stands_at gs f j rest) (g == f) refl (place_among gs f) refl e
   where
-    by_test : (b : Bool) → (g == f) ≡ b → (o : Option ℕ) → place_among gs f ≡ o → (if b then Some 0 else option_map suc o) ≡ Some i → StandsAt (g ∷ gs) f i
-    by_test true is o rest e = stands_first g gs f i e is
-    by_test false is None rest e = absurd cc
-    by_test false is (Some j) rest e = stands_later g gs f i j e (stands_at gs f j rest)
+    by_test : ((j : ℕ) → place_among gs f ≡ Some j → StandsAt gs f j) → (b : Bool) → (g == f) ≡ b → (o : Option ℕ) → place_among gs f ≡ o
+        → (if b then Some 0 else option_map suc o) ≡ Some i → StandsAt (g ∷ gs) f i
+    by_test later true is o rest k = stands_first g gs f i k is
+    by_test later false is None rest k = absurd cc
+    by_test later false is (Some j) rest k = stands_later g gs f i j k (later j rest)
 
 module _ {Entry : Type 0} (symbol_of : Entry → ℕ) (said : ℕ → Entry) (named : (f : ℕ) → symbol_of (said f) ≡ f) where
   names : (symbols : List ℕ) → map symbol_of (map said symbols) ≡ symbols
