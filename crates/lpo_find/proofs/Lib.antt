@@ -6,3 +6,5 @@ pub mod LpoPuzzle
 pub mod TableSteps
 pub mod Found
 pub mod LpoLaw
+pub mod FilterLists
+pub mod Assigning

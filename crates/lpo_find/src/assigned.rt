@@ -1,9 +1,10 @@
 //! The path order that values of the slots say, without a table of its own.
-ghost use Rattle.std.specs.Prelude.{◌≡◌, ◌<◌, ℕ, length, map, slice_get, unwrap_or};
-ghost use Rattle.order_theory.specs.ArgumentFilter.{ArgumentFilter, Keep};
+ghost use Rattle.std.specs.Prelude.{◌≡◌, [], map, slice_get, unwrap_or};
+ghost use Rattle.order_theory.specs.ArgumentFilter.{Keep};
 ghost use Rattle.path_lpo.specs.Lent.{lent_filter};
 ghost use Rattle.path_lpo.specs.Plain.{plain_filter};
 ghost use Rattle.path_lpo.specs.Table.{rank_in, filter_in};
+ghost use Rattle.lpo_find.specs.Filters.{plain_filters};
 ghost use Rattle.lpo_find.specs.LpoRow.{entries_of};
 
 use crate::space::LpoSpace;
@@ -33,12 +34,25 @@ impl<'s, 'a> Precedence for Assigned<'s, 'a> {
 
     fn filter(&self, symbol: u32) -> LentFilter<'_> {
         match self.space.places.place(symbol) {
-            Some(place) => {
-                let filters = &self.space.filters[place as usize];
-                numbered(filters, value_at(self.values, 2 * place as usize))
-            }
+            Some(place) => filter_at(
+                self.space.filters,
+                place,
+                value_at(self.values, 2 * place as usize),
+            ),
             None => LentFilter::Keep(&[]),
         }
+    }
+}
+
+/// The filter of this number of the symbol at this place.
+fn filter_at(filters: &[Vec<Filter>], place: u32, number: u32) -> LentFilter<'_>
+    ensures { lent_filter result ≡ unwrap_or
+        (slice_get (unwrap_or (slice_get (map plain_filters filters.now) place) []) number)
+        (Keep []) }
+{
+    match filters.get(place as usize) {
+        Some(filters) => numbered(filters, number),
+        None => LentFilter::Keep(&[]),
     }
 }
 
