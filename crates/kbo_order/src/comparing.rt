@@ -1,141 +1,156 @@
 ghost use Rattle.std.specs.Prelude.{◌≡◌, ◌↔◌, ◌&&◌, ℕ, IsTrue, if◌then◌else◌};
 ghost use Rattle.trs_core.specs.View.{tree};
-ghost use Rattle.order_theory.specs.KnuthBendix.{KnuthGreater, Tower};
+ghost use Rattle.order_theory.specs.KnuthBendix.{KnuthGreater, KnuthWeak, Tower};
 ghost use Rattle.pair_order.specs.Compared.{IsAnswer};
-ghost use Rattle.kbo_order.specs.Table.{weight_in, rank_in};
 ghost use Rattle.kbo_order.specs.TooBig.{EitherIsBig};
 ghost use Rattle.kbo_order.specs.Seen.{IsMeasure, Sees, AreApart, Decides};
 
-use crate::Kbo;
+use crate::Weighting;
 use crate::measure::{Measure, Seen};
 use pair_order::{TooBig, least_variable};
 use trs_core::Term;
 
-impl Kbo {
-    /// Whether the first term is greater. Each variable that occurs in the second sees the terms in one
-    /// walk, so the cost is linear for each.
-    pub(crate) fn is_greater(&self, s: &Term, t: &Term) -> Result<bool, TooBig>
-        ensures { IsAnswer (EitherIsBig (weight_in self.now.entries.items) (tree s.now) (tree t.now))
-            (KnuthGreater (weight_in self.now.entries.items) (rank_in self.now.entries.items)
-            (tree s.now) (tree t.now)) result }
-    {
-        let mut greater = self.see(0, s, t)?.greater;
-        let mut from: u64 = 0;
-        while let Some(x) = least_variable(t, from, None) {
-            let seen = self.see(x, s, t)?;
-            greater = both(greater, seen.greater);
-            from = u64::from(x) + 1;
-        }
-        Ok(greater)
-    }
+/// Whether the first term is the second, or greater.
+pub fn is_weak<W: Weighting>(order: &W, s: &Term, t: &Term) -> Result<bool, TooBig>
+    ensures { IsAnswer (EitherIsBig (W.weights order.now) (tree s.now) (tree t.now))
+        (KnuthWeak (W.weights order.now) (W.ranks order.now) (tree s.now) (tree t.now)) result }
+{
+    let greater = is_greater(order, s, t)?;
+    Ok(greater || s.same(t))
+}
 
-    fn see(&self, x: u32, s: &Term, t: &Term) -> Result<Seen, TooBig>
-        ensures { Sees (weight_in self.now.entries.items) (rank_in self.now.entries.items) x
-            (tree s.now) (tree t.now) result }
-    {
-        match s {
-            Term::Var(_) => self.see_apart(x, s, t),
-            Term::App(f, ss) => match t {
-                Term::Var(_) => self.see_apart(x, s, t),
-                Term::App(g, ts) => {
-                    if f != g {
-                        return self.see_apart(x, s, t);
-                    }
-                    if ss.items.len() != ts.items.len() {
-                        return self.see_apart(x, s, t);
-                    }
-                    let mut seen = Seen {
-                        left: Measure {
-                            weight: 0,
-                            count: 0,
-                        },
-                        right: Measure {
-                            weight: 0,
-                            count: 0,
-                        },
-                        same: true,
-                        greater: false,
-                    };
-                    for (i, a) in ss.items.iter().enumerate() {
-                        let next = self.see(x, a, &ts.items[i])?;
-                        seen = Seen {
-                            left: seen.left.plus(next.left)?,
-                            right: seen.right.plus(next.right)?,
-                            same: both(seen.same, next.same),
-                            greater: either(seen.same, next.greater, seen.greater),
-                        };
-                    }
-                    let root = Measure {
-                        weight: self.weight(*f),
-                        count: 0,
-                    };
-                    let left = seen.left.plus(root)?;
-                    let right = seen.right.plus(root)?;
-                    Ok(Seen {
-                        left,
-                        right,
-                        same: seen.same,
-                        greater: left.is_above(right, seen.greater),
-                    })
+/// Whether the first term is greater than the second.
+pub fn is_strict<W: Weighting>(order: &W, s: &Term, t: &Term) -> Result<bool, TooBig>
+    ensures { IsAnswer (EitherIsBig (W.weights order.now) (tree s.now) (tree t.now))
+        (KnuthGreater (W.weights order.now) (W.ranks order.now) (tree s.now) (tree t.now))
+        result }
+{
+    is_greater(order, s, t)
+}
+
+/// Whether the first term is greater. Each variable that occurs in the second sees the terms in one
+/// walk, so the cost is linear for each.
+fn is_greater<W: Weighting>(order: &W, s: &Term, t: &Term) -> Result<bool, TooBig>
+    ensures { IsAnswer (EitherIsBig (W.weights order.now) (tree s.now) (tree t.now))
+        (KnuthGreater (W.weights order.now) (W.ranks order.now)
+        (tree s.now) (tree t.now)) result }
+{
+    let mut greater = see(order, 0, s, t)?.greater;
+    let mut from: u64 = 0;
+    while let Some(x) = least_variable(t, from, None) {
+        let seen = see(order, x, s, t)?;
+        greater = both(greater, seen.greater);
+        from = u64::from(x) + 1;
+    }
+    Ok(greater)
+}
+
+fn see<W: Weighting>(order: &W, x: u32, s: &Term, t: &Term) -> Result<Seen, TooBig>
+    ensures { Sees (W.weights order.now) (W.ranks order.now) x
+        (tree s.now) (tree t.now) result }
+{
+    match s {
+        Term::Var(_) => see_apart(order, x, s, t),
+        Term::App(f, ss) => match t {
+            Term::Var(_) => see_apart(order, x, s, t),
+            Term::App(g, ts) => {
+                if f != g {
+                    return see_apart(order, x, s, t);
                 }
-            },
-        }
-    }
-
-    /// The same of terms that are no applications of one symbol to as many arguments.
-    fn see_apart(&self, x: u32, s: &Term, t: &Term) -> Result<Seen, TooBig>
-        requires { AreApart (tree s.now) (tree t.now) }
-        ensures { Sees (weight_in self.now.entries.items) (rank_in self.now.entries.items) x
-            (tree s.now) (tree t.now) result }
-    {
-        let left = self.measure(x, s)?;
-        let right = self.measure(x, t)?;
-        Ok(Seen {
-            left,
-            right,
-            same: are_one_variable(s, t),
-            greater: left.is_above(right, self.decides(s, t)),
-        })
-    }
-
-    fn measure(&self, x: u32, t: &Term) -> Result<Measure, TooBig>
-        ensures { IsMeasure (weight_in self.now.entries.items) x (tree t.now) result }
-    {
-        match t {
-            Term::Var(y) => Ok(Measure {
-                weight: 1,
-                count: once_if(*y == x),
-            }),
-            Term::App(f, args) => {
-                let mut sum = Measure {
-                    weight: 0,
+                if ss.items.len() != ts.items.len() {
+                    return see_apart(order, x, s, t);
+                }
+                let mut seen = Seen {
+                    left: Measure {
+                        weight: 0,
+                        count: 0,
+                    },
+                    right: Measure {
+                        weight: 0,
+                        count: 0,
+                    },
+                    same: true,
+                    greater: false,
+                };
+                for (i, a) in ss.items.iter().enumerate() {
+                    let next = see(order, x, a, &ts.items[i])?;
+                    seen = Seen {
+                        left: seen.left.plus(next.left)?,
+                        right: seen.right.plus(next.right)?,
+                        same: both(seen.same, next.same),
+                        greater: either(seen.same, next.greater, seen.greater),
+                    };
+                }
+                let root = Measure {
+                    weight: order.weight(*f),
                     count: 0,
                 };
-                for arg in &args.items {
-                    let next = self.measure(x, arg)?;
-                    sum = sum.plus(next)?;
-                }
-                sum.plus(Measure {
-                    weight: self.weight(*f),
-                    count: 0,
+                let left = seen.left.plus(root)?;
+                let right = seen.right.plus(root)?;
+                Ok(Seen {
+                    left,
+                    right,
+                    same: seen.same,
+                    greater: left.is_above(right, seen.greater),
                 })
             }
+        },
+    }
+}
+
+/// The same of terms that are no applications of one symbol to as many arguments.
+fn see_apart<W: Weighting>(order: &W, x: u32, s: &Term, t: &Term) -> Result<Seen, TooBig>
+    requires { AreApart (tree s.now) (tree t.now) }
+    ensures { Sees (W.weights order.now) (W.ranks order.now) x
+        (tree s.now) (tree t.now) result }
+{
+    let left = measure(order, x, s)?;
+    let right = measure(order, x, t)?;
+    Ok(Seen {
+        left,
+        right,
+        same: are_one_variable(s, t),
+        greater: left.is_above(right, decides(order, s, t)),
+    })
+}
+
+fn measure<W: Weighting>(order: &W, x: u32, t: &Term) -> Result<Measure, TooBig>
+    ensures { IsMeasure (W.weights order.now) x (tree t.now) result }
+{
+    match t {
+        Term::Var(y) => Ok(Measure {
+            weight: 1,
+            count: once_if(*y == x),
+        }),
+        Term::App(f, args) => {
+            let mut sum = Measure {
+                weight: 0,
+                count: 0,
+            };
+            for arg in &args.items {
+                let next = measure(order, x, arg)?;
+                sum = sum.plus(next)?;
+            }
+            sum.plus(Measure {
+                weight: order.weight(*f),
+                count: 0,
+            })
         }
     }
+}
 
-    /// Whether the first of two such terms of one weight is greater.
-    fn decides(&self, s: &Term, t: &Term) -> bool
-        requires { AreApart (tree s.now) (tree t.now) }
-        ensures { (x : ℕ) → IsTrue result ↔ Decides (weight_in self.now.entries.items)
-            (rank_in self.now.entries.items) x (tree s.now) (tree t.now) }
-    {
-        match s {
-            Term::Var(_) => false,
-            Term::App(f, _) => match t {
-                Term::Var(y) => is_tower(*f, *y, s),
-                Term::App(g, _) => self.rank(*g) < self.rank(*f),
-            },
-        }
+/// Whether the first of two such terms of one weight is greater.
+fn decides<W: Weighting>(order: &W, s: &Term, t: &Term) -> bool
+    requires { AreApart (tree s.now) (tree t.now) }
+    ensures { (x : ℕ) → IsTrue result ↔ Decides (W.weights order.now)
+        (W.ranks order.now) x (tree s.now) (tree t.now) }
+{
+    match s {
+        Term::Var(_) => false,
+        Term::App(f, _) => match t {
+            Term::Var(y) => is_tower(*f, *y, s),
+            Term::App(g, _) => order.rank(*g) < order.rank(*f),
+        },
     }
 }
 

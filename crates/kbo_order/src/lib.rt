@@ -8,10 +8,13 @@ mod faults;
 mod measure;
 mod orders;
 mod table;
+mod weighting;
 
+pub use comparing::{is_strict, is_weak};
 pub use entries::KboEntry;
 pub use faults::KboFault;
 pub use table::Kbo;
+pub use weighting::Weighting;
 
 /// The greatest weight, 2^63 - 1.
 const MOST: u64 = 9_223_372_036_854_775_807;

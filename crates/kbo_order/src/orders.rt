@@ -7,7 +7,7 @@ ghost use Rattle.kbo_order.specs.Table.{symbol_of, arity_in, weight_in, rank_in,
 ghost use Rattle.kbo_order.specs.TooBig.{EitherIsBig};
 ghost use Rattle.kbo_order.specs.Laws.{AgreesWith, spoken};
 
-use crate::Kbo;
+use crate::{Kbo, is_strict, is_weak};
 use pair_order::{ReductionPair, TooBig};
 use pair_theory::ReductionOrder;
 use trs_core::Term;
@@ -33,12 +33,11 @@ impl ReductionPair for Kbo {
     ghost speaks_over = { λ order arities. AgreesWith (arity_in order.entries.items) arities };
 
     fn weak(&self, a: &Term, b: &Term) -> Result<bool, TooBig> {
-        let greater = self.is_greater(a, b)?;
-        Ok(greater || a.same(b))
+        is_weak(self, a, b)
     }
 
     fn strict(&self, a: &Term, b: &Term) -> Result<bool, TooBig> {
-        self.is_greater(a, b)
+        is_strict(self, a, b)
     }
 
     fn has_entry(&self, f: u32) -> bool {

@@ -70,24 +70,6 @@ impl Kbo {
             None => None,
         }
     }
-
-    pub(crate) fn weight(&self, symbol: u32) -> u64
-        ensures { result ≡ weight_in self.now.entries.items symbol }
-    {
-        match self.entry(symbol) {
-            Some(entry) => entry.weight,
-            None => 0,
-        }
-    }
-
-    pub(crate) fn rank(&self, symbol: u32) -> u64
-        ensures { result ≡ rank_in self.now.entries.items symbol }
-    {
-        match self.entry(symbol) {
-            Some(entry) => entry.rank,
-            None => 0,
-        }
-    }
 }
 
 /// Adds the symbol of an entry, unless the entry has a fault.

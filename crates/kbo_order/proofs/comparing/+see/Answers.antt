@@ -3,41 +3,40 @@ use Rattle.trs_defs.specs.Tree.{cons}
 use Rattle.trs_defs.proofs.ArgumentLists.{cell}
 use Rattle.trs_core.specs.View.{tree, forest}
 use Rattle.pair_order.proofs.Opening.{application}
-use Rattle.kbo_order.specs.Table.{weight_in, rank_in}
 use Rattle.kbo_order.proofs.Sums.{Left, start, next, counted_next}
 use Rattle.kbo_order.proofs.Sight.{Walked, walked_none, walked_more, apart_by_count, as_many_terms}
-use Rattle.kbo_order.proofs.table.Kbo.+see.Goals as goal
+use Rattle.kbo_order.proofs.comparing.+see.Goals as goal
 
 pub see_apart-requires-then-len : goal.see_apart-requires-then-len
-see_apart-requires-then-len t c =
+see_apart-requires-then-len g t c =
     apart_by_count c.in-App.f c.in-App-t.g c.ss.inside.items.items c.ts.inside.items.items (tree c.args.s.now) (tree c.args.t.now)
     (application c.in-App.f _ _ _ _ (ap tree c.in-App.is) c.ss.view_is refl) (application c.in-App-t.g _ _ _ _ (ap tree c.in-App-t.is) c.ts.view_is refl)
     (λ e. c.if-len.true (omega (arith, e, c.len.ensures, c.len-in-App-t.ensures, c.ss.inside.items.ok.0, c.ts.inside.items.ok.0)))
 
 pub loop-i-init : goal.loop-i-init
-loop-i-init t c =
+loop-i-init g t c =
     let same : length c.deref-a-items.result.now ≡ length c.ts.inside.items.items =
     omega (arith, ap length c.deref-a-items.ensures.value, c.if-len.false, c.len.ensures, c.len-in-App-t.ensures, c.ss.inside.items.ok.0, c.ts.inside.items.ok.0) in
     record {
       same_length = same;
-      left = start (weight_in c.args.self.now.entries.items) c.args.x (forest c.deref-a-items.result.now);
-      right = start (weight_in c.args.self.now.entries.items) c.args.x (forest c.ts.inside.items.items);
-      walked = walked_none (weight_in c.args.self.now.entries.items) (rank_in c.args.self.now.entries.items) c.args.x (forest c.deref-a-items.result.now) (forest c.ts.inside.items.items)
+      left = start (g.W.Weighting.weights c.args.order.now) c.args.x (forest c.deref-a-items.result.now);
+      right = start (g.W.Weighting.weights c.args.order.now) c.args.x (forest c.ts.inside.items.items);
+      walked = walked_none (g.W.Weighting.weights c.args.order.now) (g.W.Weighting.ranks c.args.order.now) c.args.x (forest c.deref-a-items.result.now) (forest c.ts.inside.items.items)
           (as_many_terms c.deref-a-items.result.now c.ts.inside.items.items same);
     }
 
 pub plus-requires-clause-second : goal.plus-requires-clause-second
-plus-requires-clause-second t c =
-    counted_next (weight_in c.args.self.now.entries.items) c.args.x (tree c.a-item.result) c.in_ok-next-in-App-t.next.left c.in_ok-next-in-App-t.ensures.left
+plus-requires-clause-second g t c =
+    counted_next (g.W.Weighting.weights c.args.order.now) c.args.x (tree c.a-item.result) c.in_ok-next-in-App-t.next.left c.in_ok-next-in-App-t.ensures.left
 
 pub plus-requires-in-loop-i-clause-second : goal.plus-requires-in-loop-i-clause-second
-plus-requires-in-loop-i-clause-second t c =
-    counted_next (weight_in c.args.self.now.entries.items) c.args.x (tree c.index.result.now) c.in_ok-next-in-App-t.next.right c.in_ok-next-in-App-t.ensures.right
+plus-requires-in-loop-i-clause-second g t c =
+    counted_next (g.W.Weighting.weights c.args.order.now) c.args.x (tree c.index.result.now) c.in_ok-next-in-App-t.next.right c.in_ok-next-in-App-t.ensures.right
 
 pub loop-i-preserved : goal.loop-i-preserved
-loop-i-preserved t c =
-    let w = weight_in c.args.self.now.entries.items in
-    let r = rank_in c.args.self.now.entries.items in
+loop-i-preserved g t c =
+    let w = g.W.Weighting.weights c.args.order.now in
+    let r = g.W.Weighting.ranks c.args.order.now in
     let xs = c.deref-a-items.result.now in
     let ys = c.ts.inside.items.items in
     let i = c.loop-i.i in
