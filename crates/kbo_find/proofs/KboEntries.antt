@@ -14,11 +14,11 @@ use Rattle.kbo_find.specs.KboSpace.{weight_by, rank_by, kbo_weak, kbo_strict}
 use Rattle.kbo_find.specs.KboRow.{entry_by}
 use Rattle.kbo_find.specs.KboDepends.{weak_same, strict_same}
 
-module _ (shown arity : ℕ → ℕ) (table : Table) (symbols : List ℕ) (entries : List KboEntry) (are : entries ≡ map (entry_by shown arity table) symbols) where
+module _ (arity : ℕ → ℕ) (table : Table) (symbols : List ℕ) (entries : List KboEntry) (are : entries ≡ map (entry_by arity table) symbols) where
   module _ (r : RewriteRule) (covered : (f : ℕ) → occurs_in f r.left || occurs_in f r.right ≡ true → is_listed f symbols ≡ true) where
     same_parts : (f : ℕ) → occurs_in f r.left || occurs_in f r.right ≡ true → (weight_in entries f ≡ weight_by arity table f) × (rank_in entries f ≡ rank_by table f)
     same_parts f i =
-        let said = entry_said symbol_of (entry_by shown arity table) (λ f. refl) symbols entries are f (covered f i) in
+        let said = entry_said symbol_of (entry_by arity table) (λ f. refl) symbols entries are f (covered f i) in
         (ap weight_of said, ap rank_of said)
 
     pub weak_by_entries : knuth_weak (weight_in entries) (rank_in entries) r.left r.right ≡ kbo_weak arity table r.left r.right

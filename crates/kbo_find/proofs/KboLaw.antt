@@ -74,11 +74,11 @@ found_apply system numbers budget entries valid h =
     let fall : (r : RewriteRule) → In r (system.rules ++ marked) → knuth_weak (weight_in entries) (rank_in entries) r.left r.right ≡ true = λ r i.
     (let (c, at) = get_of_in i in
     let below : c < length (system.rules ++ marked) = slice_get_within (system.rules ++ marked) c r at in
-    truth_of_rule system.arities symbols system.rules marked (before + c) c refl covered values arity entries h.are r _ at refl
+    truth_of_rule system.arities symbols system.rules marked (before + c) c refl covered values entries h.are r _ at refl
     ∙ s.meets (before + c) (omega (arith, below, both, many))) in
     let last = length system.rules + length marked in
     let some : some_falls (knuth_strict (weight_in entries) (rank_in entries)) marked ≡ true =
-    truth_at_last system.arities symbols system.rules marked (before + last) last refl covered values arity entries h.are _ refl refl
+    truth_at_last system.arities symbols system.rules marked (before + last) last refl covered values entries h.are _ refl refl
     ∙ s.meets (before + last) (omega (arith, many)) in
     let there : (f : ℕ) → In f symbols → has_entry symbol_of entries f ≡ true = λ f i.
     entry_is_there symbol_of (kbo_entry system.arities table) (λ f. refl) symbols entries h.are f (listed_of f symbols i) in (

@@ -12,7 +12,7 @@ use Rattle.order_problem.proofs.Constraints.{past_end, truth_falls, truth_last, 
 use Rattle.order_problem.proofs.OwnConstraints.{own_and_others, uses_own, truth_own, uses_behind, truth_behind}
 use Rattle.order_problem.proofs.TwoParts.{many_slots, slot_at}
 use Rattle.kbo_find.specs.KnuthTest.{knuth_weak, knuth_strict}
-use Rattle.kbo_find.specs.KboSpace.{kbo_family, kbo_values, above_each, above_all, tops_of, kbo_tops, weight_count}
+use Rattle.kbo_find.specs.KboSpace.{kbo_family, kbo_values, above_each, above_all, tops_of, kbo_tops, weight_count, weight_by, rank_by}
 use Rattle.kbo_find.specs.KboRow.{entry_by, kbo_search}
 use Rattle.kbo_find.specs.KboPlaces.{asked_of, uses_by, falls_by}
 use Rattle.kbo_find.specs.declared.tops.Top.{Top}
@@ -127,24 +127,30 @@ module _ (arities symbols : List ℕ) (rules pairs : List RewriteRule) where
     uses_falling s (Some r) e below h = uses_rule s r e h
     uses_falling s None e below h = uses_last s e below h
 
+    -- by the weights and ranks that the values say
+    pub truth_falling : (values : List ℕ) (b : Bool) (o : Option RewriteRule) → slice_get (rules ++ pairs) k ≡ o → c < (puzzle_of (kbo_search arities symbols rules pairs)).constraints
+        → b ≡ falls_by (weight_by (arity_with_mark arities) (table_of (slots_of (λ _. 2) symbols) values)) (rank_by (table_of (slots_of (λ _. 2) symbols) values)) pairs o
+        → b ≡ (puzzle_of (kbo_search arities symbols rules pairs)).truth c values
+    truth_falling values b (Some r) at below e =
+        e ∙ sym (truth_behind (kbo_family (arity_with_mark arities)) symbols (kbo_tops (arity_with_mark arities) symbols) rules pairs c k values behind
+        ∙ truth_falls (kbo_family (arity_with_mark arities)) symbols rules pairs k values r at)
+    truth_falling values b None none below e =
+        e ∙ sym (truth_behind (kbo_family (arity_with_mark arities)) symbols (kbo_tops (arity_with_mark arities) symbols) rules pairs c k values behind
+        ∙ truth_last (kbo_family (arity_with_mark arities)) symbols rules pairs k values (last_of none below))
+
     -- what an order with these weights and ranks says is what the values say
-    module _ (covered : AreCovered symbols (rules ++ pairs)) (values : List ℕ) (shown : ℕ → ℕ) (entries : List KboEntry)
-        (are : entries ≡ map (entry_by shown (arity_with_mark arities) (table_of (slots_of (λ _. 2) symbols) values)) symbols) where
+    module _ (covered : AreCovered symbols (rules ++ pairs)) (values : List ℕ) (entries : List KboEntry)
+        (are : entries ≡ map (entry_by (arity_with_mark arities) (table_of (slots_of (λ _. 2) symbols) values)) symbols) where
       pub truth_of_rule : (r : RewriteRule) (b : Bool) → slice_get (rules ++ pairs) k ≡ Some r → b ≡ knuth_weak (weight_in entries) (rank_in entries) r.left r.right
           → b ≡ (puzzle_of (kbo_search arities symbols rules pairs)).truth c values
       truth_of_rule r b at e =
-          e ∙ (weak_by_entries shown (arity_with_mark arities) (table_of (slots_of (λ _. 2) symbols) values) symbols entries are r (covered r (in_of_get (rules ++ pairs) k r at))
+          e ∙ (weak_by_entries (arity_with_mark arities) (table_of (slots_of (λ _. 2) symbols) values) symbols entries are r (covered r (in_of_get (rules ++ pairs) k r at))
           ∙ sym (truth_behind (kbo_family (arity_with_mark arities)) symbols (kbo_tops (arity_with_mark arities) symbols) rules pairs c k values behind
           ∙ truth_falls (kbo_family (arity_with_mark arities)) symbols rules pairs k values r at))
 
       pub truth_at_last : (b : Bool) → k ≡ length rules + length pairs → b ≡ some_falls (knuth_strict (weight_in entries) (rank_in entries)) pairs
           → b ≡ (puzzle_of (kbo_search arities symbols rules pairs)).truth c values
       truth_at_last b last e =
-          e ∙ (some_by_entries shown (arity_with_mark arities) (table_of (slots_of (λ _. 2) symbols) values) symbols entries are pairs (λ r i. covered r (in_right rules i))
+          e ∙ (some_by_entries (arity_with_mark arities) (table_of (slots_of (λ _. 2) symbols) values) symbols entries are pairs (λ r i. covered r (in_right rules i))
           ∙ sym (truth_behind (kbo_family (arity_with_mark arities)) symbols (kbo_tops (arity_with_mark arities) symbols) rules pairs c k values behind
           ∙ truth_last (kbo_family (arity_with_mark arities)) symbols rules pairs k values last))
-
-      pub truth_falling : (b : Bool) (o : Option RewriteRule) → slice_get (rules ++ pairs) k ≡ o → c < (puzzle_of (kbo_search arities symbols rules pairs)).constraints
-          → b ≡ falls_by (weight_in entries) (rank_in entries) pairs o → b ≡ (puzzle_of (kbo_search arities symbols rules pairs)).truth c values
-      truth_falling b (Some r) at below e = truth_of_rule r b at e
-      truth_falling b None none below e = truth_at_last b (last_of none below) e

@@ -24,11 +24,7 @@ abbrev pub uses_by : ℕ → Option RewriteRule → Bool
 uses_by f (Some r) = occurs_in f r.left || occurs_in f r.right
 uses_by f None = true
 
--- the number of arguments that an entry says; 2 where it only serves to compare terms
-abbrev pub shown_arity : Bool → ℕ → ℕ
-shown_arity compares arity = if compares then 2 else arity
-
 -- the entry of a symbol with so many arguments, by the values of its two slots
-abbrev pub entry_with : (compares : Bool) (arity symbol weight rank : ℕ) → KboEntry
-entry_with compares arity f weight rank =
-    record { symbol = f; arity = shown_arity compares arity; weight = if arity == 0 then weight + 1 else weight; rank = rank }
+abbrev pub entry_with : (arity symbol weight rank : ℕ) → KboEntry
+entry_with arity f weight rank =
+    record { symbol = f; arity = arity; weight = if arity == 0 then weight + 1 else weight; rank = rank }

@@ -6,12 +6,12 @@ use Rattle.order_problem.specs.OrderSpace.{order_search, slots_of, arity_with_ma
 use Rattle.order_problem.specs.OrderOver.{SearchOver}
 use Rattle.kbo_find.specs.KboSpace.{kbo_family, kbo_tops, weight_by, rank_by}
 
--- the entry that a table says for a symbol, where `shown` is how many arguments the entry says, and `arity` how many there are
-abbrev pub entry_by : (shown arity : ℕ → ℕ) → Table → ℕ → KboEntry
-entry_by shown arity table f = record { symbol = f; arity = shown f; weight = weight_by arity table f; rank = rank_by table f }
+-- the entry that a table says for a symbol
+abbrev pub entry_by : (arity : ℕ → ℕ) → Table → ℕ → KboEntry
+entry_by arity table f = record { symbol = f; arity = arity f; weight = weight_by arity table f; rank = rank_by table f }
 
 abbrev pub kbo_entry : List ℕ → Table → ℕ → KboEntry
-kbo_entry arities table f = entry_by (arity_with_mark arities) (arity_with_mark arities) table f
+kbo_entry arities table f = entry_by (arity_with_mark arities) table f
 
 -- over these symbols, rules and marked pairs
 abbrev pub kbo_search : SearchOver
@@ -19,5 +19,5 @@ kbo_search arities symbols rules pairs =
     order_search (kbo_family (arity_with_mark arities)) symbols (kbo_tops (arity_with_mark arities) symbols) rules pairs
 
 -- the entries that values in the order of the slots say for the symbols
-abbrev pub entries_of : (ℕ → ℕ) → List ℕ → List ℕ → List ℕ → List KboEntry
-entries_of shown arities symbols values = map (entry_by shown (arity_with_mark arities) (table_of (slots_of (λ _. 2) symbols) values)) symbols
+abbrev pub entries_of : List ℕ → List ℕ → List ℕ → List KboEntry
+entries_of arities symbols values = map (kbo_entry arities (table_of (slots_of (λ _. 2) symbols) values)) symbols

@@ -7,7 +7,7 @@ ghost use Rattle.order_space.specs.Outcome.{IsFinding, IsNotThere, IsSpent};
 ghost use Rattle.order_space.specs.Slots.{puzzle_of};
 ghost use Rattle.order_problem.specs.OrderRow.{FailsOrder};
 ghost use Rattle.order_problem.specs.OrderOver.{search_of, IsOrderOver};
-ghost use Rattle.order_problem.specs.OrderSpace.{AreCovered, arity_with_mark};
+ghost use Rattle.order_problem.specs.OrderSpace.{arity_with_mark};
 ghost use Rattle.order_problem.specs.Distinct.{AreDistinct};
 ghost use Rattle.kbo_find.specs.KboSpace.{kbo_tops};
 ghost use Rattle.kbo_find.specs.KboRow.{kbo_search, kbo_entry};
@@ -19,6 +19,7 @@ use crate::tops::all_tops;
 use assign_search::{Search, Stop, first_solution};
 use dp_core::{DpPair, Pairs, placed_pairs_are_the_pairs};
 use kbo_order::Kbo;
+use order_find::placing::SymbolPlaces;
 use order_find::taken::taken;
 use order_problem::{marked_rules, order_symbols};
 use pair_theory::dependency_pairs_suffice;
@@ -52,11 +53,35 @@ pub fn find_kbo<P: Stop>(
     ensures later { P.stops stop.old ≤ P.stops stop.new }
     ensures kept { P.kept stop.new ≡ P.kept stop.old }
 {
+    let pairs = Pairs::of(alloc, trs, all)?;
+    find_kbo_in(alloc, trs, &pairs, problem, budget, stop)
+}
+
+/// `find_kbo` where the pairs of the system are at hand, as they are for many problems of one
+/// system.
+pub fn find_kbo_in<P: Stop>(
+    alloc: Global,
+    trs: &Trs,
+    pairs: &Pairs,
+    problem: &[u32],
+    budget: u64,
+    stop: &mut P,
+) -> Result<Search<Kbo>, OutOfMemory>
+    requires pairs { pairs.now ≡ dependency_pairs trs.now.rules }
+    requires ascending { IsStrictlyIncreasing problem.now }
+    requires numbers { All (λ n. n < length (dependency_pairs trs.now.rules)) problem.now }
+    ensures answer { IfOk result (IsFinding
+        (λ order. FindsKbo trs.now problem.now budget order.entries.items)
+        (FailsOrder trs.now problem.now (search_of kbo_search trs.now) (IsNotThere budget))
+        (FailsOrder trs.now problem.now (search_of kbo_search trs.now) (IsSpent budget))
+        (P.stops stop.old < P.stops stop.new)) }
+    ensures later { P.stops stop.old ≤ P.stops stop.new }
+    ensures kept { P.kept stop.new ≡ P.kept stop.old }
+{
     let arities = trs.arities();
     let rules = trs.rules();
     placed_pairs_are_the_pairs();
     dependency_pairs_suffice();
-    let pairs = Pairs::of(alloc, trs, all)?;
     let taken = taken(alloc, pairs.sides(), problem)?;
     let symbols = order_symbols(alloc, rules, &taken)?;
     let marked = marked_rules(alloc, &taken)?;
@@ -74,7 +99,6 @@ fn search_orders<P: Stop>(
     stop: &mut P,
 ) -> Result<Search<Kbo>, OutOfMemory>
     requires distinct { AreDistinct symbols.now }
-    requires covered { AreCovered symbols.now (rules.now ++ pairs.now) }
     requires few_symbols { length symbols.now ≤ 8192 }
     requires few_falling { length rules.now + length pairs.now + 1 < 2 ^ 31 }
     ensures answer { IfOk result (IsFinding
@@ -88,9 +112,11 @@ fn search_orders<P: Stop>(
     ensures kept { P.kept stop.new ≡ P.kept stop.old }
 {
     let tops = all_tops(alloc, arities, symbols)?;
+    let places = SymbolPlaces::of(alloc, symbols)?;
     let space = KboSpace {
         arities,
         symbols,
+        places: &places,
         tops: &tops,
         rules,
         pairs,
@@ -98,7 +124,7 @@ fn search_orders<P: Stop>(
     match first_solution(alloc, &space, budget, stop) {
         Err(_) => Err(OutOfMemory),
         Ok(Search::Found(values)) => {
-            Ok(Search::Found(order_of(alloc, arities, symbols, &values, false)?))
+            Ok(Search::Found(order_of(alloc, arities, symbols, &values)?))
         }
         Ok(Search::NotThere) => Ok(Search::NotThere),
         Ok(Search::Spent) => Ok(Search::Spent),

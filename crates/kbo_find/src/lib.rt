@@ -1,13 +1,13 @@
 //! The finder of Knuth-Bendix orders. (Knuth and Bendix, 1970; Baader and Nipkow, section 5.4.)
 #![tactic(auto)]
 
+mod assigned;
 mod comparing;
 mod finding;
 mod laws;
-mod looking;
 mod space;
 mod table;
 mod tops;
 
-pub use finding::find_kbo;
+pub use finding::{find_kbo, find_kbo_in};
 pub use laws::found_orders_apply;

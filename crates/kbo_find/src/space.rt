@@ -1,18 +1,17 @@
 //! The finite search for weights and ranks.
 ghost use Rattle.std.specs.Prelude.{◌≡◌, ◌<◌, ◌*◌, ◌^◌, ◌++◌, map, length, slice_get};
 ghost use Rattle.order_space.specs.Slots.{slot, puzzle_of};
-ghost use Rattle.order_problem.specs.OrderSpace.{AreCovered, arity_with_mark, concerns};
-ghost use Rattle.order_problem.specs.Distinct.{AreDistinct};
+ghost use Rattle.order_problem.specs.OrderSpace.{arity_with_mark, concerns};
 ghost use Rattle.kbo_find.specs.KboSpace.{kbo_tops, weight_count};
 ghost use Rattle.kbo_find.specs.KboRow.{kbo_search};
 ghost use Rattle.kbo_find.specs.KboPlaces.{AreFew, asked_of, uses_by};
 ghost use Rattle.kbo_find.specs.KboLawful.{kbo_lawful};
 
+use crate::assigned::Assigned;
 use crate::comparing::falls;
-use crate::looking::is_above;
-use crate::table::order_of;
 use crate::tops::{Top, top_at};
 use assign_search::{OutOfMemory, Space};
+use order_find::placing::SymbolPlaces;
 use order_problem::{arity_of, falling_at, occurs_in_rule};
 use std::alloc::Global;
 use trs_core::Rule;
@@ -20,17 +19,17 @@ use trs_core::Rule;
 /// How many ranks there are.
 const RANKS: u32 = 8;
 
-/// The symbols, of which each has a slot for its weight and one for its rank; which are to be above
-/// which; and the rules and marked pairs that are to fall.
+/// The symbols, of which each has a slot for its weight and one for its rank, with their places;
+/// which are to be above which; and the rules and marked pairs that are to fall.
 #[derive(Drop)]
 pub(crate) struct KboSpace<'a> {
     pub(crate) arities: &'a [u8],
     pub(crate) symbols: &'a [u32],
+    pub(crate) places: &'a SymbolPlaces<'a>,
     pub(crate) tops: &'a [Top],
     pub(crate) rules: &'a [Rule],
     pub(crate) pairs: &'a [Rule],
-    pub(crate) ghost distinct: { AreDistinct symbols.now },
-    pub(crate) ghost covered: { AreCovered symbols.now (rules.now ++ pairs.now) },
+    pub(crate) ghost placed: { places.now ≡ symbols.now },
     pub(crate) ghost tops_are: { map asked_of tops.now
         ≡ kbo_tops (arity_with_mark arities.now) symbols.now },
     pub(crate) ghost few_symbols: { 2 * length symbols.now < 2 ^ 32 },
@@ -68,18 +67,18 @@ impl<'a> Space for KboSpace<'a> {
         }
     }
 
-    fn holds(&self, alloc: Global, c: u32, values: &[u32]) -> Result<bool, OutOfMemory> {
+    fn holds(&self, _alloc: Global, c: u32, values: &[u32]) -> Result<bool, OutOfMemory> {
+        let order = Assigned {
+            arities: self.arities,
+            places: self.places,
+            values,
+        };
         match top_at(self.tops, c as usize) {
-            Some(top) => Ok(is_above(self.symbols, values, top)),
-            None => match order_of(alloc, self.arities, self.symbols, values, true) {
-                Ok(order) => Ok(falls(
-                    &order,
-                    self.rules,
-                    self.pairs,
-                    c as usize - self.tops.len(),
-                )),
-                Err(_) => Err(OutOfMemory),
-            },
+            Some(top) => Ok(order.is_above(top)),
+            None => {
+                let number = c as usize - self.tops.len();
+                Ok(falls(&order, self.rules, self.pairs, number))
+            }
         }
     }
 }

@@ -5,7 +5,7 @@ use Rattle.order_space.specs.Slots.{puzzle_of}
 use Rattle.order_problem.specs.OrderSpace.{arity_with_mark}
 use Rattle.kbo_find.specs.KboSpace.{kbo_tops}
 use Rattle.kbo_find.specs.KboRow.{kbo_search, entries_of}
-use Rattle.kbo_find.specs.KboPlaces.{asked_of, shown_arity}
+use Rattle.kbo_find.specs.KboPlaces.{asked_of}
 use Rattle.kbo_find.proofs.Answered.{first_of}
 use Rattle.kbo_find.proofs.KboPuzzle.{few_tops}
 use Rattle.kbo_find.proofs.finding.search_orders.Goals as goal
@@ -19,8 +19,7 @@ invariant_of-space g c =
     let same : length (map asked_of tops) ≡ length (kbo_tops (arity_with_mark c.args.arities.now) symbols) = ap length are in
     let mapped = length-map tops asked_of in
     record {
-      distinct = c.requires.distinct;
-      covered = c.requires.covered;
+      placed = c.in_ok-places.ensures;
       tops_are = are;
       few_symbols = omega (arith, c.requires.few_symbols);
       few_constraints = omega (arith, few, same, mapped, c.requires.few_falling);
@@ -32,5 +31,5 @@ returns-in-Ok-Found-clause-answer g c = record {
   first = first_of (λ (v : Vec ℕ Global). v.items) (puzzle_of (kbo_search c.args.arities.now c.args.symbols.now c.args.rules.now c.args.pairs.now)) c.args.budget _ c.in-Ok-Found.field-0
       c.in-Ok-Found.values c.in-Ok-Found.field-0-is c.in-Ok-Found.ensures.answer;
   are = c.in_ok-order_of-in-Ok-Found.ensures
-      ∙ ap (λ (l : List ℕ). entries_of (λ (f : ℕ). shown_arity false (arity_with_mark c.args.arities.now f)) c.args.arities.now c.args.symbols.now l) c.deref-in-Ok-Found.ensures.value;
+      ∙ ap (λ (l : List ℕ). entries_of c.args.arities.now c.args.symbols.now l) c.deref-in-Ok-Found.ensures.value;
 }

@@ -1,19 +1,26 @@
-use Rattle.std.proofs.Common.{ℕ, sym, ◌∙◌, ◌-◌, length, refl}
-use Rattle.order_problem.specs.OrderSpace.{arity_with_mark}
-use Rattle.kbo_find.specs.KboPlaces.{shown_arity}
+use Rattle.std.proofs.Common.{ℕ, List, ap, sym, ◌∙◌, ◌-◌, ◌++◌, length, refl, slice_get}
+use Rattle.order_space.specs.Slots.{table_of}
+use Rattle.order_problem.specs.OrderSpace.{arity_with_mark, slots_of, is_above}
+use Rattle.kbo_find.specs.KboSpace.{weight_by, rank_by}
+use Rattle.kbo_find.specs.KboPlaces.{falls_by}
 use Rattle.kbo_find.proofs.KboPuzzle.{truth_top, number_behind, truth_falling}
-use Rattle.std.proofs.Common.{true}
 use Rattle.kbo_find.proofs.space.KboSpaceSpace.holds.Goals as goal
 
 pub returns-in-Some : goal.returns-in-Some
 returns-in-Some c =
     let x = c.args.self.now in
-    c.is_above.ensures ∙ sym (truth_top x.arities.now x.symbols.now x.rules.now x.pairs.now x.tops.now x.tops_are c.args.c c.args.values.now c.in-Some.top.now (sym c.in-Some.ensures))
+    let top = c.in-Some.top.now in
+    c.is_above.ensures
+    ∙ (ap (λ (l : List ℕ). is_above (table_of (slots_of (λ _. 2) l) c.args.values.now) top.unary top.other) x.placed
+    ∙ sym (truth_top x.arities.now x.symbols.now x.rules.now x.pairs.now x.tops.now x.tops_are c.args.c c.args.values.now top (sym c.in-Some.ensures)))
 
-pub returns-in-Ok : goal.returns-in-Ok
-returns-in-Ok c =
+pub returns-in-None : goal.returns-in-None
+returns-in-None c =
     let x = c.args.self.now in
-    truth_falling x.arities.now x.symbols.now x.rules.now x.pairs.now c.args.c (c.args.c - length x.tops.now)
+    let k = c.args.c - length x.tops.now in
+    truth_falling x.arities.now x.symbols.now x.rules.now x.pairs.now c.args.c k
     (number_behind x.arities.now x.symbols.now x.rules.now x.pairs.now x.tops.now x.tops_are c.args.c (sym c.in-None.ensures))
-    x.covered c.args.values.now (λ (f : ℕ). shown_arity true (arity_with_mark x.arities.now f)) c.in-Ok.order.entries.items c.in-Ok.ensures
-    c.falls.result _ refl c.requires.constraint c.falls.ensures
+    c.args.values.now c.falls.result _ refl c.requires.constraint
+    (c.falls.ensures
+    ∙ ap (λ (l : List ℕ). falls_by (weight_by (arity_with_mark x.arities.now) (table_of (slots_of (λ _. 2) l) c.args.values.now)) (rank_by (table_of (slots_of (λ _. 2) l) c.args.values.now))
+    x.pairs.now (slice_get (x.rules.now ++ x.pairs.now) k)) x.placed)

@@ -3,43 +3,34 @@ use Rattle.pair_theory.specs.DependencyPair.{DependencyPair, dependency_pairs}
 use Rattle.pair_theory.specs.ReductionPair.{marked_rule}
 use Rattle.dp_core.specs.PlacedPairs.{placed_pairs}
 use Rattle.dp_core.proofs.AllNumbers.{few_pairs}
-use Rattle.order_problem.proofs.OfProblem.{small_roots, all_markable, distinct, covered, few_of_problem, few_falling, found_of_problem}
+use Rattle.order_problem.proofs.OfProblem.{small_roots, all_markable, distinct, few_of_problem, few_falling, found_of_problem}
 use Rattle.kbo_order.specs.declared.table.Kbo.{Kbo}
 use Rattle.kbo_find.specs.KboRow.{kbo_search, kbo_entry}
-use Rattle.kbo_find.proofs.finding.find_kbo.Goals as goal
+use Rattle.kbo_find.proofs.finding.find_kbo_in.Goals as goal
 
 pub order_symbols-requires : goal.order_symbols-requires
 order_symbols-requires g c =
     small_roots c.args.trs.now c.rules-rules.ensures.valid c.rules-rules.ensures.limits.symbols (c.dependency_pairs_suffice.ensures.pairs c.args.trs.now c.rules-rules.ensures.valid)
-    c.args.problem.now c.sides.result.now c.in_ok-taken.taken.items (c.sides.ensures ∙ c.in_ok-pairs.ensures) c.in_ok-taken.ensures
+    c.args.problem.now c.sides.result.now c.in_ok-taken.taken.items (c.sides.ensures ∙ c.requires.pairs) c.in_ok-taken.ensures
     c.deref.result.now c.deref.ensures.value
 
 pub marked_rules-requires : goal.marked_rules-requires
 marked_rules-requires g c =
     all_markable c.args.trs.now c.rules-rules.ensures.valid c.rules-rules.ensures.limits.symbols (c.dependency_pairs_suffice.ensures.pairs c.args.trs.now c.rules-rules.ensures.valid)
-    c.args.problem.now c.sides.result.now c.in_ok-taken.taken.items (c.sides.ensures ∙ c.in_ok-pairs.ensures) c.in_ok-taken.ensures
+    c.args.problem.now c.sides.result.now c.in_ok-taken.taken.items (c.sides.ensures ∙ c.requires.pairs) c.in_ok-taken.ensures
     c.deref-2.result.now c.deref-2.ensures.value
 
 pub search_orders-requires-clause-distinct : goal.search_orders-requires-clause-distinct
 search_orders-requires-clause-distinct g c =
     distinct c.args.trs.now c.rules-rules.ensures.valid c.rules-rules.ensures.limits.symbols (c.dependency_pairs_suffice.ensures.pairs c.args.trs.now c.rules-rules.ensures.valid)
-    c.args.problem.now c.sides.result.now c.in_ok-taken.taken.items (c.sides.ensures ∙ c.in_ok-pairs.ensures) c.in_ok-taken.ensures
+    c.args.problem.now c.sides.result.now c.in_ok-taken.taken.items (c.sides.ensures ∙ c.requires.pairs) c.in_ok-taken.ensures
     c.deref.result.now c.deref.ensures.value c.rules-rules.result.now c.rules-rules.ensures.rules
     c.deref-3.result.now c.in_ok-symbols.symbols.items c.deref-3.ensures.value c.in_ok-symbols.ensures
-
-pub search_orders-requires-clause-covered : goal.search_orders-requires-clause-covered
-search_orders-requires-clause-covered g c =
-    covered c.args.trs.now c.rules-rules.ensures.valid c.rules-rules.ensures.limits.symbols (c.dependency_pairs_suffice.ensures.pairs c.args.trs.now c.rules-rules.ensures.valid)
-    c.args.problem.now c.sides.result.now c.in_ok-taken.taken.items (c.sides.ensures ∙ c.in_ok-pairs.ensures) c.in_ok-taken.ensures
-    c.deref.result.now c.deref.ensures.value c.rules-rules.result.now c.rules-rules.ensures.rules
-    c.deref-3.result.now c.in_ok-symbols.symbols.items c.deref-3.ensures.value c.in_ok-symbols.ensures
-    c.deref-4.result.now c.in_ok-marked.marked.items c.deref-4.ensures.value
-    (c.in_ok-marked.ensures ∙ ap (λ (l : List DependencyPair). map marked_rule l) (c.deref-2.ensures.value ∙ sym c.deref.ensures.value))
 
 pub search_orders-requires-clause-few_symbols : goal.search_orders-requires-clause-few_symbols
 search_orders-requires-clause-few_symbols g c =
     few_of_problem c.args.trs.now c.rules-rules.ensures.valid c.rules-rules.ensures.limits.symbols (c.dependency_pairs_suffice.ensures.pairs c.args.trs.now c.rules-rules.ensures.valid)
-    c.args.problem.now c.sides.result.now c.in_ok-taken.taken.items (c.sides.ensures ∙ c.in_ok-pairs.ensures) c.in_ok-taken.ensures
+    c.args.problem.now c.sides.result.now c.in_ok-taken.taken.items (c.sides.ensures ∙ c.requires.pairs) c.in_ok-taken.ensures
     c.deref.result.now c.deref.ensures.value c.rules-rules.result.now c.rules-rules.ensures.rules
     c.deref-3.result.now c.in_ok-symbols.symbols.items c.deref-3.ensures.value c.in_ok-symbols.ensures
 
@@ -50,7 +41,7 @@ search_orders-requires-clause-few_falling g c =
     let nodes = c.rules-rules.ensures.limits.nodes in
     let all : length (dependency_pairs c.args.trs.now.rules) ≤ 65536 = omega (arith, count, placed, nodes) in
     few_falling c.args.trs.now c.rules-rules.ensures.valid c.rules-rules.ensures.limits.symbols (c.dependency_pairs_suffice.ensures.pairs c.args.trs.now c.rules-rules.ensures.valid)
-    c.args.problem.now c.sides.result.now c.in_ok-taken.taken.items (c.sides.ensures ∙ c.in_ok-pairs.ensures) c.in_ok-taken.ensures
+    c.args.problem.now c.sides.result.now c.in_ok-taken.taken.items (c.sides.ensures ∙ c.requires.pairs) c.in_ok-taken.ensures
     c.deref.result.now c.deref.ensures.value c.rules-rules.result.now c.rules-rules.ensures.rules
     c.deref-3.result.now c.in_ok-symbols.symbols.items c.deref-3.ensures.value c.in_ok-symbols.ensures
     c.deref-4.result.now c.in_ok-marked.marked.items c.deref-4.ensures.value
@@ -60,7 +51,7 @@ search_orders-requires-clause-few_falling g c =
 pub returns-clause-answer : goal.returns-clause-answer
 returns-clause-answer g c =
     found_of_problem c.args.trs.now c.rules-rules.ensures.valid c.rules-rules.ensures.limits.symbols (c.dependency_pairs_suffice.ensures.pairs c.args.trs.now c.rules-rules.ensures.valid)
-    c.args.problem.now c.sides.result.now c.in_ok-taken.taken.items (c.sides.ensures ∙ c.in_ok-pairs.ensures) c.in_ok-taken.ensures
+    c.args.problem.now c.sides.result.now c.in_ok-taken.taken.items (c.sides.ensures ∙ c.requires.pairs) c.in_ok-taken.ensures
     c.deref.result.now c.deref.ensures.value c.rules-rules.result.now c.rules-rules.ensures.rules
     c.deref-3.result.now c.in_ok-symbols.symbols.items c.deref-3.ensures.value c.in_ok-symbols.ensures
     c.deref-4.result.now c.in_ok-marked.marked.items c.deref-4.ensures.value

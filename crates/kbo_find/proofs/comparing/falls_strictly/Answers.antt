@@ -1,0 +1,20 @@
+use Rattle.std.proofs.Common.{◌≡◌, false, subst}
+use Rattle.trs_defs.specs.System.{RewriteRule}
+use Rattle.trs_core.specs.View.{tree}
+use Rattle.kbo_find.specs.KnuthTest.{knuth_strict}
+use Rattle.kbo_find.proofs.KboTests.{strict_answer, strict_too_big}
+use Rattle.kbo_find.proofs.comparing.falls_strictly.Goals as goal
+
+pub returns-in-Ok : goal.returns-in-Ok
+returns-in-Ok g c =
+    let weights = g.W.Weighting.weights c.args.order.now in
+    let ranks = g.W.Weighting.ranks c.args.order.now in
+    subst (λ (r : RewriteRule). c.in-Ok.answer ≡ knuth_strict weights ranks r.left r.right) c.rule.view_is
+    (strict_answer weights ranks (tree c.rule.inside.left) (tree c.rule.inside.right) c.in-Ok.answer c.in-Ok.ensures)
+
+pub returns-in-Err : goal.returns-in-Err
+returns-in-Err g c =
+    let weights = g.W.Weighting.weights c.args.order.now in
+    let ranks = g.W.Weighting.ranks c.args.order.now in
+    subst (λ (r : RewriteRule). false ≡ knuth_strict weights ranks r.left r.right) c.rule.view_is
+    (strict_too_big weights ranks (tree c.rule.inside.left) (tree c.rule.inside.right) c.in-Err.ensures)
