@@ -54,6 +54,13 @@ module _ (w rank : ℕ → ℕ) (s t : Tree) where
     pub seen : IsTrue greater → SeenGreater w rank 0 s t × ((x : ℕ) → x < from → SeenGreater w rank x s t)
     pub all : ((x : ℕ) → SeenGreater w rank x s t) → IsTrue greater
 
+  -- a variable that does not see it decides
+  pub unseen : (x : ℕ) (seen : Seen) → SeesTerms w rank x s t seen → seen.greater ≡ false → (EitherIsBig w s t → ⊥) × (IsTrue false ↔ KnuthGreater w rank s t)
+  unseen x seen is e = (
+    λ big. elim big [ inl b ↦ not_big w s is.left.2 b | inr b ↦ not_big w t is.right.2 b ],
+    (λ yes. absurd cc, λ g. let sees : IsTrue seen.greater = is.greater.1 (seen_of w rank x g) in absurd (cc (sees, e))),
+  )
+
   pub seen_first : (seen : Seen) → SeesTerms w rank 0 s t seen → SeenBelow 0 seen.greater
   seen_first seen is = record {
     left_small = is.left.2;

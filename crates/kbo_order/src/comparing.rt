@@ -29,20 +29,25 @@ pub fn is_strict<W: Weighting>(order: &W, s: &Term, t: &Term) -> Result<bool, To
 }
 
 /// Whether the first term is greater. Each variable that occurs in the second sees the terms in one
-/// walk, so the cost is linear for each.
+/// walk, so the cost is linear for each; the first that sees that it is not greater is the last.
 fn is_greater<W: Weighting>(order: &W, s: &Term, t: &Term) -> Result<bool, TooBig>
     ensures { IsAnswer (EitherIsBig (W.weights order.now) (tree s.now) (tree t.now))
         (KnuthGreater (W.weights order.now) (W.ranks order.now)
         (tree s.now) (tree t.now)) result }
 {
-    let mut greater = see(order, 0, s, t)?.greater;
+    let first = see(order, 0, s, t)?;
+    if !first.greater {
+        return Ok(false);
+    }
     let mut from: u64 = 0;
     while let Some(x) = least_variable(t, from, None) {
         let seen = see(order, x, s, t)?;
-        greater = both(greater, seen.greater);
+        if !seen.greater {
+            return Ok(false);
+        }
         from = u64::from(x) + 1;
     }
-    Ok(greater)
+    Ok(true)
 }
 
 fn see<W: Weighting>(order: &W, x: u32, s: &Term, t: &Term) -> Result<Seen, TooBig>

@@ -1,27 +1,21 @@
 -- The set of the roots of pairs, and its members in order.
-use Rattle.std.specs.Prelude.{◌≡◌, ◌≢◌, ◌<◌, ◌≤◌, ◌↔◌, ◌⊎◌, ℕ, ◌+◌, true, false, ◌||◌, ◌==◌, cond, List, [], ◌∷◌, ◌++◌, length, drop, take, get_or, IsTrue, Vec, Result, Ok, Err, IfOk}
+use Rattle.std.specs.Prelude.{◌≡◌, ◌≢◌, ◌<◌, ◌≤◌, ◌↔◌, ◌⊎◌, ℕ, ◌+◌, true, false, cond, List, [], ◌∷◌, length, drop, get_or, IsTrue, Vec, Result, Ok, Err, IfOk}
 use Rattle.std.specs.declared.alloc.Global.{Global}
-use Rattle.std.proofs.Common.{zero, suc, refl, sym, ap, ap₂, subst, arith, ◌∙◌, inl, inr, nat_cmp}
+use Rattle.std.proofs.Common.{zero, suc, sym, ap, subst, arith, ◌∙◌, inl, inr, nat_cmp}
 use Rattle.std.specs.BTreeMap.{is_at}
 use Rattle.std.specs.BTreeSet.{BTreeSet, contains, Updates, IsOrdered}
 use Rattle.std.specs.List.{Contains, list_any}
-use Rattle.std.specs.List.Sorted.{IsStrictlyIncreasing}
 use Rattle.std.specs.Cmp.{nat_cmp_total}
 use Rattle.std.proofs.Math.Decide.{ℕ_discrete}
-use Rattle.std.proofs.Math.Seq.{take-suc}
 use Rattle.std.proofs.lemmas.Grind.{common_steps}
-use Rattle.std.proofs.lemmas.List.{drop_all, take_all}
-use Rattle.std.proofs.lemmas.List.Kept.{AllPairs-from_increasing}
-use Rattle.std.proofs.lemmas.Bool.Decides.{nat_tests}
+use Rattle.std.proofs.lemmas.List.{drop_all}
 use Rattle.std.proofs.lemmas.Map.Keys.{IsStrictlyIncreasing-from_sorted}
 use Rattle.std.proofs.lemmas.Map.Lookups.{exact_unsigned}
 use Rattle.std.proofs.lemmas.Map.Views.{btree_set_contains_iff}
 use Rattle.trs_defs.specs.Member.{In, in_first, in_rest}
-use Rattle.trs_defs.specs.Variable.{is_listed}
 use Rattle.trs_defs.proofs.Members.{in_or, no_in}
 use Rattle.trs_defs.proofs.ArgumentLists.{cell}
 use Rattle.pair_theory.specs.DependencyPair.{DependencyPair}
-use Rattle.pair_order.specs.Entries.{with_symbol}
 use Rattle.dp_core.specs.SubtermConditions.{roots_of}
 use Rattle.order_space.specs.Ascending.{AreAscending}
 

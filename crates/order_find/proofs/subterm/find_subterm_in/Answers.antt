@@ -1,5 +1,4 @@
-use Rattle.std.proofs.Common.{◌≡◌, ◌≤◌, length, sym, subst, ◌∙◌, arith}
-use Rattle.std.specs.List.Sorted.{IsStrictlyIncreasing}
+use Rattle.std.proofs.Common.{◌≡◌, ◌≤◌, length, subst, ◌∙◌, arith}
 use Rattle.pair_theory.specs.DependencyPair.{dependency_pairs}
 use Rattle.dp_core.specs.PlacedPairs.{placed_pairs}
 use Rattle.dp_core.specs.Numbered.{ArePairsOf}
