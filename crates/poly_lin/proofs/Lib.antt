@@ -1,3 +1,4 @@
 pub mod Walk
 pub mod EachVariable
 pub mod Deciding
+pub mod AtRows

@@ -1,5 +1,6 @@
 pub mod Plain
 pub mod Table
+pub mod Rows
 pub mod Faults
 pub mod Coefficients
 pub mod TooBig

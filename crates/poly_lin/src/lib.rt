@@ -2,13 +2,18 @@
 //! section 5.3; coefficients may be 0, as in Arts and Giesl, 2000.)
 #![tactic(auto)]
 
+mod coefficients;
 mod comparing;
 mod faults;
 mod monomial;
 mod orders;
+mod rows;
 mod table;
 
+pub use coefficients::Coefficients;
+pub use comparing::{is_strictly_above, is_weakly_above};
 pub use faults::TableFault;
+pub use rows::Row;
 pub use table::LinTable;
 
 /// What a symbol stands for that no system has: C(x1, x2) is x1 + x2.
