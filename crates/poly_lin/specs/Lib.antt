@@ -3,5 +3,6 @@ pub mod Table
 pub mod Rows
 pub mod Faults
 pub mod Coefficients
+pub mod EachVariable
 pub mod TooBig
 pub mod Laws

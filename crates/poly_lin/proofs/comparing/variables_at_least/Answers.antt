@@ -1,7 +1,7 @@
 use Rattle.std.proofs.Common.{subst, sym, arith, ◌<◌, ◌^◌, ◌+◌, ◌-◌, refl}
 use Rattle.trs_core.specs.View.{tree}
 use Rattle.pair_order.proofs.LeastVariables.{next_from}
-use Rattle.poly_lin.proofs.EachVariable.{Compared, compared_more, compared_all}
+use Rattle.poly_lin.proofs.InOrder.{Compared, compared_more, compared_all}
 use Rattle.poly_lin.proofs.comparing.variables_at_least.Goals as goal
 
 pub loop-x-smaller : goal.loop-x-smaller

@@ -1,6 +1,6 @@
 use Rattle.std.proofs.Common.{◌-◌, ◌^◌}
 use Rattle.trs_core.specs.View.{tree}
-use Rattle.poly_lin.proofs.EachVariable.{Compared}
+use Rattle.poly_lin.proofs.InOrder.{Compared}
 use Rattle.poly_lin.proofs.comparing.variables_at_least.Given as goal
 
 abbrev pub invariant-loop-x : goal.invariant-loop-x
