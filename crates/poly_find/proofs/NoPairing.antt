@@ -24,7 +24,7 @@ either false b e = inr e
 eq_is : (a b : ℕ) → (a == b) ≡ true → a ≡ b
 eq_is a b e = grind (arith, nat_tests)
 
-in_listed : (f : ℕ) (xs : List ℕ) → is_listed f xs ≡ true → In f xs
+pub in_listed : (f : ℕ) (xs : List ℕ) → is_listed f xs ≡ true → In f xs
 in_listed f [] e = absurd cc
 in_listed f (x ∷ xs) e = elim (either (x == f) (is_listed f xs) e) [
   | inl here ↦ subst (λ (y : ℕ). In y (x ∷ xs)) (eq_is x f here) in_first

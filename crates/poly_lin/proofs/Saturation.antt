@@ -47,16 +47,16 @@ module _ (c : ℕ → ℕ → ℕ) (m : Monomial) where
 
     pub passed : k ≡ 0 → Partly f ts rest (i + 1) sum
     passed none = rw add-one (
-      let nothing : k * coefficient_of c m t ≡ 0 = omega (arith, ap (λ n. n * coefficient_of c m t) none) in
-      record { fits = h.fits; sum_is = omega (arith, before, nothing) }
-    )
+        let nothing : k * coefficient_of c m t ≡ 0 = omega (arith, ap (λ n. n * coefficient_of c m t) none) in
+        record { fits = h.fits; sum_is = omega (arith, before, nothing) }
+        )
 
     pub added : (v new : ℕ) → v ≡ min (coefficient_of c m t) (2 ^ 64 - 1) → new ≡ min (sum + min (k * v) (2 ^ 64 - 1)) (2 ^ 64 - 1) → Partly f ts rest (i + 1) new
     added v new e d = rw add-one (
-      let both = sum_saturates sum (coefficient_of c m (app f ts)) (k * coefficient_of c m t) (min (k * v) (2 ^ 64 - 1)) (coefficients_of c m f (suc i) rest) new
+        let both = sum_saturates sum (coefficient_of c m (app f ts)) (k * coefficient_of c m t) (min (k * v) (2 ^ 64 - 1)) (coefficients_of c m f (suc i) rest) new
         (multiple_saturates k (coefficient_of c m t) v e) d before in
-      record { fits = both.0; sum_is = both.1 }
-    )
+        record { fits = both.0; sum_is = both.1 }
+        )
 
   pub ended : (f : ℕ) (ts : Trees) (i sum : ℕ) (t : Tree) → t ≡ app f ts → Partly f ts nil i sum → sum ≡ min (coefficient_of c m t) (2 ^ 64 - 1)
   ended f ts i sum t is h =

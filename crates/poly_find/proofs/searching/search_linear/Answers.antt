@@ -1,11 +1,12 @@
-use Rattle.std.proofs.Common.{◌≡◌, ℕ, List, Vec, length, map, ap, ◌∙◌, arith}
+use Rattle.std.proofs.Common.{◌≡◌, ℕ, List, Vec, length, map, ap, sym, subst, ◌∙◌, arith}
 use Rattle.std.specs.declared.alloc.Global.{Global}
 use Rattle.order_space.specs.Slots.{table_of, puzzle_of}
 use Rattle.order_problem.specs.OrderSpace.{slots_of}
 use Rattle.poly_find.specs.PolyRow.{poly_search, poly_entry}
 use Rattle.poly_find.specs.PolyPlaces.{parts_by}
+use Rattle.poly_find.specs.Spans.{AreSpans}
 use Rattle.poly_find.proofs.Answered.{first_of}
-use Rattle.poly_find.proofs.finding.search_orders.Goals as goal
+use Rattle.poly_find.proofs.searching.search_linear.Goals as goal
 
 pub invariant_of-space : goal.invariant_of-space
 invariant_of-space g c =
@@ -13,10 +14,9 @@ invariant_of-space g c =
     let same : length owners ≡ length c.in_ok-owners.owners.items = ap length c.deref.ensures.value in
     record {
       distinct = c.requires.distinct;
-      no_pairing = c.requires.no_pairing;
-      covered = c.requires.covered;
       owners_are = c.deref.ensures.value ∙ c.in_ok-owners.ensures.owners;
-      few_symbols = c.requires.few_symbols;
+      spans_are = subst (λ l. AreSpans c.args.arities.now c.args.symbols.now l) (sym c.deref-2.ensures.value) c.in_ok-spans.ensures;
+      small_are = c.deref-3.ensures.value ∙ c.in_ok-small.ensures;
       few_slots = omega (arith, same, c.in_ok-owners.ensures.few, c.requires.few_symbols);
       few_falling = c.requires.few_falling;
     }
