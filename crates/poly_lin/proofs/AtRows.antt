@@ -4,7 +4,7 @@ use Rattle.std.proofs.Common.{refl, sym, ap, ◌∙◌, arith}
 use Rattle.std.proofs.lemmas.Bool.Decides.{nat_tests}
 use Rattle.pair_order.specs.Entries.{place_among}
 use Rattle.pair_order.proofs.Placing.{entry_there, entry_absent}
-use Rattle.poly_lin.specs.Table.{symbol_of, polynomial_of, polynomial, coefficient_in}
+use Rattle.poly_lin.specs.Table.{symbol_of, polynomial_of, coefficient_in}
 use Rattle.poly_lin.specs.Rows.{polynomial_at}
 use Rattle.poly_lin.specs.declared.rows.Row.TheVariants.{Pairing, Entry, Missing}
 

@@ -1,5 +1,5 @@
 -- Where no coefficient is big, coefficients as far as 64 bits tell decide the order.
-use Rattle.std.proofs.Common.{◌≡◌, ℕ, ◌-◌, ◌≤◌, ◌<◌, ◌^◌, ◌↔◌, ◌⊎◌, min, inl, inr, refl, sym, subst, ◌∙◌, arith, true, false, Bool, IsTrue, ◌&&◌, ◌||◌, nat_le}
+use Rattle.std.proofs.Common.{◌≡◌, ℕ, ◌-◌, ◌≤◌, ◌<◌, ◌^◌, ◌↔◌, ◌⊎◌, min, inl, inr, refl, sym, subst, ◌∙◌, arith, true, false, Bool, IsTrue, ◌&&◌, ◌||◌}
 use Rattle.std.specs.Prelude.{◌==◌}
 use Rattle.std.proofs.lemmas.Bool.{cases_lt}
 use Rattle.std.proofs.lemmas.Bool.Decides.{nat_tests}

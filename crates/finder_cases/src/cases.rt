@@ -128,6 +128,7 @@ pub struct Texts<'a> {
     pub pairs: &'a [&'a [u8]],
 }
 
+/// The case of these texts.
 pub fn made(alloc: Global, texts: &Texts) -> Result<Case, Fail> {
     let alphabet = texts.alphabet;
     let mut counts = arities(alloc, texts.plain)?;

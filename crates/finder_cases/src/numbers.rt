@@ -8,6 +8,7 @@ use dp_core::{DpPair, pair_numbers};
 use std::alloc::Global;
 use trs_core::{OutOfMemory, Trs};
 
+/// The numbers of all pairs, ascending.
 pub fn all_numbers(alloc: Global, trs: &Trs, all: &[DpPair]) -> Result<Vec<u32>, OutOfMemory>
     requires { all.now ≡ placed_pairs trs.now.rules }
     ensures ascending { IfOk result (λ numbers. IsStrictlyIncreasing numbers.items) }

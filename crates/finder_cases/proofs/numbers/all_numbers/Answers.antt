@@ -1,6 +1,6 @@
 use Rattle.pair_theory.specs.DependencyPair.{dependency_pairs}
-use Rattle.weight_tests.proofs.Counting.{counted_increase, counted_within}
-use Rattle.weight_tests.proofs.numbers.all_numbers.Goals as goal
+use Rattle.finder_cases.proofs.Counting.{counted_increase, counted_within}
+use Rattle.finder_cases.proofs.numbers.all_numbers.Goals as goal
 
 pub returns : goal.returns
 returns c = record {
