@@ -96,3 +96,12 @@ none_missing set wanted rest none left g = (
 pub sides_added : {A E : Type 0} (old mid new : BTreeSet ℕ) (xs ys : List ℕ) (result : Result A E) → Adds old mid xs → OnOk result (Adds mid new ys) → OnOk result (Adds old new (xs ++ ys))
 sides_added old mid new xs ys (Ok u) first second = both_added old mid new xs ys first second
 sides_added old mid new xs ys (Err e) first second = second
+
+pub only_more : (set new : BTreeSet ℕ) (xs ys : List ℕ) → HasOnly set xs → Adds set new ys → HasOnly new (xs ++ ys)
+only_more set new xs ys only adds f = (
+  λ known. elim ((adds f).0 known) [ inl before ↦ in_left ys ((only f).0 before) | inr here ↦ in_right xs here ],
+  λ i. elim (in_either xs ys i) [ inl before ↦ (adds f).1 (inl ((only f).1 before)) | inr here ↦ (adds f).1 (inr here) ],
+)
+
+pub all_left : (set : BTreeSet ℕ) (wanted : List ℕ) → LeftOf set set wanted wanted
+all_left set wanted f = (λ h. h, λ h. h)

@@ -12,7 +12,7 @@ use Rattle.rewrite_core.specs.Check.{Asks, returned, goes_on, holds, absent, nev
 use Rattle.dp_core.specs.Numbered.{ArePairsOf, taken, numbers_from}
 use Rattle.dp_core.specs.Symbols.{symbols_of_rules}
 use Rattle.dp_core.specs.SubtermConditions.{roots_of, unflagged}
-use Rattle.dp_core.specs.PairConditions.{Comparing, rule_is_weak, pair_is_weak, pair_conditions}
+use Rattle.dp_core.specs.PairConditions.{Comparing, rule_is_weak, pair_is_weak, removal_conditions, pair_conditions}
 use Rattle.dp_core.proofs.NumberedPairs.{as_many}
 use Rattle.assign_search.proofs.Refuting.{true_or_false}
 use Rattle.order_problem.specs.OrderSpace.{some_falls}
@@ -31,12 +31,13 @@ module _ (comparing : Comparing) (weak strict : Tree → Tree → Bool) (tests :
   abbrev flags : List DependencyPair → List Bool
   flags ps = map falls_strictly ps
 
-  each_weak : (k n : ℕ) (rules : List RewriteRule) → ((r : RewriteRule) → In r rules → weak r.left r.right ≡ true)
-      → each (λ _ item. rule_is_weak comparing item.0 item.1) k (zip (numbers_from n rules) rules) (Ok tt)
-  each_weak k n [] fall = returned
-  each_weak k n (r ∷ rules) fall =
+  each_weak : (k : ℕ) (numbers : List ℕ) (rules : List RewriteRule) → ((r : RewriteRule) → In r rules → weak r.left r.right ≡ true)
+      → each (λ _ item. rule_is_weak comparing item.0 item.1) k (zip numbers rules) (Ok tt)
+  each_weak k [] rules fall = returned
+  each_weak k (n ∷ numbers) [] fall = returned
+  each_weak k (n ∷ numbers) (r ∷ rules) fall =
       goes_on tt _ (goes_on tt _ (absent (tests.fits r.left r.right (fall r in_first))) (holds (tests.is_weak r.left r.right (fall r in_first))))
-      (each_weak (k + 1) (n + 1) rules (λ q i. fall q (in_rest i)))
+      (each_weak (k + 1) numbers rules (λ q i. fall q (in_rest i)))
 
   all_pairs : (k rules : ℕ) (ns : List ℕ) (ps : List DependencyPair) → length ps ≡ length ns
       → ((p : DependencyPair) → In p ps → weak (mark p.from) (mark p.to) ≡ true)
@@ -61,6 +62,20 @@ module _ (comparing : Comparing) (weak strict : Tree → Tree → Bool) (tests :
   lacks_none : (f : ℕ) → comparing.has_entry f ≡ true → comparing.has_entry f ≡ false → ⊥
   lacks_none f there missing = absurd cc
 
+  -- of so many rules these, which have to be weak, and pairs that have to be weak or strict
+  pub removal_applies : (symbols weak_numbers : List ℕ) (weak_rules : List RewriteRule) (many : ℕ) (numbers : List ℕ) (pairs : List DependencyPair) → length pairs ≡ length numbers
+      → ((f : ℕ) → In f symbols → comparing.has_entry f ≡ true)
+      → ((f : ℕ) → In f (roots_of pairs) → comparing.has_entry (f + 4096) ≡ true)
+      → ((r : RewriteRule) → In r (weak_rules ++ map marked_rule pairs) → weak r.left r.right ≡ true)
+      → some_falls strict (map marked_rule pairs) ≡ true
+      → removal_conditions comparing symbols (zip weak_numbers weak_rules) many numbers pairs (Ok (unflagged numbers (flags pairs)))
+  removal_applies symbols weak_numbers weak_rules many numbers pairs as_long plain roots fall some =
+      goes_on tt _ (never (λ f (i, e). lacks_none f (plain f i) e))
+      (goes_on tt _ (never (λ f (i, e). lacks_none (f + 4096) (roots f i) e))
+      (goes_on tt _ (each_weak 0 weak_numbers weak_rules (λ r i. fall r (in_left (map marked_rule pairs) i)))
+      (goes_on (flags pairs) _ (all_pairs 0 many numbers pairs as_long (λ p i. fall (marked_rule p) (in_right weak_rules (in_map marked_rule i))))
+      (goes_on tt _ (holds (some_flag pairs some)) returned))))
+
   pub order_applies : (system : System) (numbers : List ℕ) (pairs : List DependencyPair) → ArePairsOf (dependency_pairs system.rules) numbers pairs
       → ((f : ℕ) → In f (symbols_of_rules system.rules) → comparing.has_entry f ≡ true)
       → ((f : ℕ) → In f (roots_of pairs) → comparing.has_entry (f + 4096) ≡ true)
@@ -69,9 +84,5 @@ module _ (comparing : Comparing) (weak strict : Tree → Tree → Bool) (tests :
       → pair_conditions comparing system.rules (dependency_pairs system.rules) numbers (Ok (unflagged numbers (flags pairs)))
   order_applies system numbers pairs of plain roots fall some =
       goes_on pairs _ (taken pairs of)
-      (goes_on tt _ (never (λ f (i, e). lacks_none f (plain f i) e))
-      (goes_on tt _ (never (λ f (i, e). lacks_none (f + 4096) (roots f i) e))
-      (goes_on tt _ (each_weak 0 0 system.rules (λ r i. fall r (in_left (map marked_rule pairs) i)))
-      (goes_on (flags pairs) _ (all_pairs 0 (length system.rules) numbers pairs (as_many (dependency_pairs system.rules) numbers pairs of)
-      (λ p i. fall (marked_rule p) (in_right system.rules (in_map marked_rule i))))
-      (goes_on tt _ (holds (some_flag pairs some)) returned)))))
+      (removal_applies (symbols_of_rules system.rules) (numbers_from 0 system.rules) system.rules (length system.rules) numbers pairs
+      (as_many (dependency_pairs system.rules) numbers pairs of) plain roots fall some)

@@ -3,6 +3,7 @@
 #![tactic(auto)]
 
 mod arities;
+mod below_roots;
 mod falling;
 mod marking;
 mod occurring;
@@ -10,6 +11,7 @@ mod symbols;
 mod values;
 
 pub use arities::arity_of;
+pub use below_roots::symbols_with_sides;
 pub use falling::falling_at;
 pub use marking::marked_rules;
 pub use occurring::{occurs, occurs_in_rule};

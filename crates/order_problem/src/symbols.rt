@@ -32,7 +32,7 @@ pub fn order_symbols(
 }
 
 /// Puts the marked symbols behind others.
-fn add_marked(symbols: &mut Vec<u32>, roots: &[u32]) -> Result<(), OutOfMemory>
+pub(crate) fn add_marked(symbols: &mut Vec<u32>, roots: &[u32]) -> Result<(), OutOfMemory>
     requires { All (λ f. f < 4096) roots.now }
     ensures { OnOk result
         (symbols.new.items ≡ symbols.old.items ++ map (λ f. f + 4096) roots.now) }
@@ -50,7 +50,7 @@ fn rule_symbols(alloc: Global, rules: &[Rule]) -> Result<Vec<u32>, OutOfMemory>
     listed(alloc, &set)
 }
 
-fn symbol_set(alloc: Global, rules: &[Rule]) -> Result<BTreeSet<u32>, OutOfMemory>
+pub(crate) fn symbol_set(alloc: Global, rules: &[Rule]) -> Result<BTreeSet<u32>, OutOfMemory>
     ensures { IfOk result (λ set. HasOnly set (symbols_of_rules rules.now)) }
 {
     let mut set = BTreeSet::new(alloc);
@@ -69,7 +69,7 @@ fn add_sides(set: &mut BTreeSet<u32>, rule: &Rule) -> Result<(), OutOfMemory>
 }
 
 /// Puts the symbols of a term into a set.
-fn add_symbols(set: &mut BTreeSet<u32>, t: &Term) -> Result<(), OutOfMemory>
+pub(crate) fn add_symbols(set: &mut BTreeSet<u32>, t: &Term) -> Result<(), OutOfMemory>
     ensures { OnOk result (Adds set.old set.new (symbols_of (tree t.now))) }
 {
     match t {

@@ -3,8 +3,6 @@
 #![tactic(auto)]
 
 #[cfg(test)]
-mod numbers;
-#[cfg(test)]
 mod path_cases;
 #[cfg(test)]
 mod paths;
@@ -12,5 +10,3 @@ mod paths;
 mod places;
 #[cfg(test)]
 mod plain_paths;
-#[cfg(test)]
-mod stops;

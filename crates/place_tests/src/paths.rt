@@ -1,12 +1,11 @@
 //! Path orders that are found, beside those of a plain search.
-use crate::numbers::all_numbers;
 use crate::path_cases::{
     Case, addition, from_a_to_b, going_down, passing, second_place, standing, turning,
 };
 use crate::plain_paths::{Outcome, entries, first_of_all};
-use crate::stops::StopAt;
 use assign_search::{Never, Search, Stop};
 use dp_core::dependency_pairs;
+use finder_cases::{StopAt, all_numbers};
 use lpo_find::find_lpo;
 use path_lpo::{Filter, Lpo, LpoEntry};
 use std::alloc::Global;

@@ -1,8 +1,7 @@
 //! Places of Ackermann's system and of Toyama's: found, not there, spent and stopped.
-use crate::numbers::all_numbers;
-use crate::stops::StopAt;
 use assign_search::{Never, Search, Stop};
 use dp_core::dependency_pairs;
+use finder_cases::{StopAt, all_numbers};
 use order_find::find_subterm;
 use std::alloc::Global;
 use std::test::Fail;

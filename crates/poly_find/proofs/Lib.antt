@@ -4,6 +4,10 @@ pub mod PolyEntries
 pub mod PolyPuzzle
 pub mod NoPairing
 pub mod Starts
+pub mod SpanValues
+pub mod SmallCoefficients
+pub mod SpanTruth
+pub mod LowSymbols
 pub mod PolySteps
 pub mod Answered
 pub mod PolyLaw

@@ -24,14 +24,14 @@ either false b e = inr e
 eq_is : (a b : ℕ) → (a == b) ≡ true → a ≡ b
 eq_is a b e = grind (arith, nat_tests)
 
-in_listed : (f : ℕ) (xs : List ℕ) → is_listed f xs ≡ true → In f xs
+pub in_listed : (f : ℕ) (xs : List ℕ) → is_listed f xs ≡ true → In f xs
 in_listed f [] e = absurd cc
 in_listed f (x ∷ xs) e = elim (either (x == f) (is_listed f xs) e) [
   | inl here ↦ subst (λ (y : ℕ). In y (x ∷ xs)) (eq_is x f here) in_first
   | inr later ↦ in_rest (in_listed f xs later)
 ]
 
-roots_within : (arities : List ℕ) (ps : List DependencyPair) → ((p : DependencyPair) → In p ps → IsPair arities p) → (f : ℕ) → In f (roots_of ps) → f < length arities
+pub roots_within : (arities : List ℕ) (ps : List DependencyPair) → ((p : DependencyPair) → In p ps → IsPair arities p) → (f : ℕ) → In f (roots_of ps) → f < length arities
 roots_within arities [] well f i = absurd (no_in i)
 roots_within arities (p ∷ ps) well f i =
     let here = well p in_first in
@@ -43,16 +43,22 @@ roots_within arities (p ∷ ps) well f i =
       ]
     ]
 
-pub no_pairing : (system : System) → IsSystem system → length system.arities ≤ 4095 → (pairs : List DependencyPair)
-    → ((p : DependencyPair) → In p pairs → IsPair system.arities p) → (symbols : List ℕ) → AreSymbols (symbols_of_rules system.rules) pairs symbols
-    → is_listed 8191 symbols ≡ false
-no_pairing system valid few pairs well symbols are = elim (true_or_false (is_listed 8191 symbols)) [
+pub no_pairing_by : (unmarked : List ℕ) (pairs : List DependencyPair) (symbols : List ℕ) → ((f : ℕ) → In f unmarked → f < 4096) → ((f : ℕ) → In f (roots_of pairs) → f < 4095)
+    → AreSymbols unmarked pairs symbols → is_listed 8191 symbols ≡ false
+no_pairing_by unmarked pairs symbols low low_roots are = elim (true_or_false (is_listed 8191 symbols)) [
   | inl there ↦ elim (in_either are.plain (map (λ f. f + 4096) are.roots) (subst (λ (l : List ℕ). In 8191 l) are.together (in_listed 8191 symbols there))) [
-    | inl plain ↦ (let small = plain_small system valid few pairs (λ f i. roots_small system.arities few pairs well f i) symbols are 8191 ((are.are_plain.each 8191).0 plain) in
-        absurd (omega (arith, small)))
+    | inl plain ↦ (let small = low 8191 ((are.are_plain.each 8191).0 plain) in absurd (omega (arith, small)))
     | inr root ↦ (let (g, j, e) = of_map (λ (z : ℕ). z + 4096) are.roots root in
-        let small = roots_within system.arities pairs well g ((are.are_roots.each g).0 j) in
-        absurd (omega (arith, few, small, e)))
+        let small = low_roots g ((are.are_roots.each g).0 j) in
+        absurd (omega (arith, small, e)))
   ]
   | inr missing ↦ missing
 ]
+
+pub no_pairing : (system : System) → IsSystem system → length system.arities ≤ 4095 → (pairs : List DependencyPair)
+    → ((p : DependencyPair) → In p pairs → IsPair system.arities p) → (symbols : List ℕ) → AreSymbols (symbols_of_rules system.rules) pairs symbols
+    → is_listed 8191 symbols ≡ false
+no_pairing system valid few pairs well symbols are =
+    no_pairing_by (symbols_of_rules system.rules) pairs symbols
+    (plain_small system valid few pairs (λ f i. roots_small system.arities few pairs well f i) symbols are)
+    (λ f i. let small = roots_within system.arities pairs well f i in omega (arith, few, small)) are

@@ -16,11 +16,12 @@ use Rattle.poly_lin.specs.Table.{symbol_of, coefficient_in}
 use Rattle.poly_lin.specs.TooBig.{EitherIsBig}
 use Rattle.rewrite_core.specs.Check.{Asks, yes_it_does, no_it_does_not}
 use Rattle.dp_core.specs.PairConditions.{Comparing, comparing_by}
-use Rattle.order_space.specs.Slots.{Table, table_of, puzzle_of}
+use Rattle.trs_defs.specs.Variable.{is_listed}
+use Rattle.order_space.specs.Slots.{table_of, puzzle_of}
+use Rattle.order_space.specs.Outcome.{IsFirst}
 use Rattle.order_space.proofs.Solutions.{solved}
 use Rattle.order_find.proofs.FewPairs.{taken_in}
-use Rattle.order_problem.specs.OrderSpace.{arity_with_mark, slots_of, some_falls}
-use Rattle.order_problem.specs.OrderOver.{search_of}
+use Rattle.order_problem.specs.OrderSpace.{AreCovered, arity_with_mark, slots_of, some_falls}
 use Rattle.order_problem.proofs.Constraints.{many_constraints}
 use Rattle.order_problem.proofs.Covered.{all_covered, rule_symbol, root_symbol, listed_of}
 use Rattle.order_problem.proofs.SaidEntries.{entry_is_there}
@@ -35,7 +36,7 @@ use Rattle.poly_find.proofs.NoPairing.{no_pairing}
 use Rattle.poly_find.proofs.PolyPuzzle.{truth_of_rule, truth_of_last}
 
 module _ (entries : List (ℕ × List ℕ)) where
-  abbrev comparing : Comparing
+  abbrev pub comparing : Comparing
   comparing =
       comparing_by (has_entry symbol_of entries) (EitherIsBig (coefficient_in entries)) (LinearWeak (coefficient_in entries)) (LinearStrict (coefficient_in entries))
 
@@ -45,40 +46,54 @@ module _ (entries : List (ℕ × List ℕ)) where
   asked_by s t false e d =
       no_it_does_not (λ h. let set = is_strict (coefficient_in entries) s t (weak_fits (coefficient_in entries) s t e) h in absurd cc)
 
-  tests : Tests comparing (linear_weak (coefficient_in entries)) (linear_strict (coefficient_in entries))
+  pub tests : Tests comparing (linear_weak (coefficient_in entries)) (linear_strict (coefficient_in entries))
   tests = record {
     fits = λ s t e. weak_fits (coefficient_in entries) s t e;
     is_weak = λ s t e. weak_is (coefficient_in entries) s t e;
     asked = λ s t e. asked_by s t (linear_strict (coefficient_in entries) s t) e refl;
   }
 
+-- what is found over symbols, rules and marked pairs
+module _ (arities symbols : List ℕ) (rules marked : List RewriteRule) (none : is_listed 8191 symbols ≡ false) (covered : AreCovered symbols (rules ++ marked))
+    (budget : ℕ) (values : List ℕ) (entries : List (ℕ × List ℕ)) (first : IsFirst budget values (puzzle_of (poly_search arities symbols rules marked)))
+    (are : entries ≡ map (poly_entry arities (table_of (slots_of (parts_by arities) symbols) values)) symbols) where
+  many : length rules + length marked + 1 ≡ (puzzle_of (poly_search arities symbols rules marked)).constraints
+  many = many_constraints (poly_family (arity_with_mark arities)) symbols rules marked
+
+  pub all_fall : (r : RewriteRule) → In r (rules ++ marked) → linear_weak (coefficient_in entries) r.left r.right ≡ true
+  all_fall r i =
+      let s = solved (puzzle_of (poly_search arities symbols rules marked)) values first.0 in
+      let both = length-append rules marked in
+      let (c, at) = get_of_in i in
+      let below : c < length (rules ++ marked) = slice_get_within (rules ++ marked) c r at in
+      truth_of_rule arities symbols rules marked none covered values entries are c r _ at refl ∙ s.meets c (omega (arith, below, both, many))
+
+  pub some_strict_pair : some_falls (linear_strict (coefficient_in entries)) marked ≡ true
+  some_strict_pair =
+      let s = solved (puzzle_of (poly_search arities symbols rules marked)) values first.0 in
+      let last = length rules + length marked in
+      truth_of_last arities symbols rules marked none covered values entries are last _ refl refl ∙ s.meets last (omega (arith, many))
+
+  pub entry_there : (f : ℕ) → In f symbols → has_entry symbol_of entries f ≡ true
+  entry_there f i =
+      entry_is_there symbol_of (poly_entry arities (table_of (slots_of (parts_by arities) symbols) values)) (λ f. refl) symbols entries are f (listed_of f symbols i)
+
 pub found_apply : FoundOrdersApply
 found_apply system numbers budget entries valid few h =
     let pairs = h.pairs in
     let symbols = h.symbols in
-    let values = h.values in
     let marked = map marked_rule pairs in
-    let s = solved (puzzle_of (search_of poly_search system pairs symbols)) values h.first.0 in
-    let from_all : (p : DependencyPair) → In p pairs → In p (dependency_pairs system.rules) = λ p i. taken_in (dependency_pairs system.rules) numbers pairs h.of_problem.taken p i in
     let syms = h.of_problem.are_symbols in
+    let from_all : (p : DependencyPair) → In p pairs → In p (dependency_pairs system.rules) = λ p i. taken_in (dependency_pairs system.rules) numbers pairs h.of_problem.taken p i in
     let covered = all_covered system valid pairs from_all symbols syms in
     let none = no_pairing system valid few pairs (λ p i. listed_are_pairs system valid p (from_all p i)) symbols syms in
-    let many = many_constraints (poly_family (arity_with_mark system.arities)) symbols system.rules marked in
-    let both = length-append system.rules marked in
-    let table : Table = table_of (slots_of (parts_by system.arities) symbols) values in
-    let fall : (r : RewriteRule) → In r (system.rules ++ marked) → linear_weak (coefficient_in entries) r.left r.right ≡ true = λ r i.
-    (let (c, at) = get_of_in i in
-    let below : c < length (system.rules ++ marked) = slice_get_within (system.rules ++ marked) c r at in
-    truth_of_rule system.arities symbols system.rules marked none covered values entries h.are c r _ at refl ∙ s.meets c (omega (arith, below, both, many))) in
-    let last = length system.rules + length marked in
-    let some : some_falls (linear_strict (coefficient_in entries)) marked ≡ true =
-    truth_of_last system.arities symbols system.rules marked none covered values entries h.are last _ refl refl ∙ s.meets last (omega (arith, many)) in
-    let there : (f : ℕ) → In f symbols → has_entry symbol_of entries f ≡ true = λ f i.
-    entry_is_there symbol_of (poly_entry system.arities table) (λ f. refl) symbols entries h.are f (listed_of f symbols i) in (
+    let there : (f : ℕ) → In f symbols → has_entry symbol_of entries f ≡ true =
+    entry_there system.arities symbols system.rules marked none covered budget h.values entries h.first h.are in (
       _,
       order_applies (comparing entries) (linear_weak (coefficient_in entries)) (linear_strict (coefficient_in entries)) (tests entries)
           system numbers pairs h.of_problem.taken
           (λ f i. there f (rule_symbol system valid pairs from_all symbols syms f i))
           (λ f i. there (f + 4096) (root_symbol system valid pairs from_all symbols syms f i))
-          fall some,
+          (all_fall system.arities symbols system.rules marked none covered budget h.values entries h.first h.are)
+          (some_strict_pair system.arities symbols system.rules marked none covered budget h.values entries h.first h.are),
     )

@@ -12,7 +12,7 @@ use Rattle.order_problem.proofs.Constraints.{truth_falls, truth_last, uses_all, 
 use Rattle.poly_find.specs.LinearTest.{linear_weak, linear_strict}
 use Rattle.poly_find.specs.PolySpace.{poly_family}
 use Rattle.poly_find.specs.PolyRow.{poly_entry, poly_search}
-use Rattle.poly_find.specs.PolyPlaces.{owner_of, parts_by, owners_of, falls_by}
+use Rattle.poly_find.specs.PolyPlaces.{owner_of, parts_by, owners_of}
 use Rattle.poly_find.proofs.PolyEntries.{weak_by_entries, some_by_entries}
 
 owner_at : (slots : List Slot) (s d : ℕ) → s < length slots → get_or (map owner_of slots) s d ≡ owner_of (get_or slots s (slot 0 0))
@@ -51,8 +51,3 @@ module _ (arities symbols : List ℕ) (rules pairs : List RewriteRule) where
     truth_of_last c b last e =
         e ∙ (some_by_entries arities (table_of (slots_of (parts_by arities) symbols) values) symbols no_pairing entries are pairs (λ r i. covered r (in_right rules i))
         ∙ sym (truth_last (poly_family (arity_with_mark arities)) symbols rules pairs c values last))
-
-    pub truth_falling : (c : ℕ) (b : Bool) (o : Option RewriteRule) → slice_get (rules ++ pairs) c ≡ o → c < (puzzle_of (poly_search arities symbols rules pairs)).constraints
-        → b ≡ falls_by (coefficient_in entries) pairs o → b ≡ (puzzle_of (poly_search arities symbols rules pairs)).truth c values
-    truth_falling c b (Some r) at below e = truth_of_rule c r b at e
-    truth_falling c b None none below e = truth_of_last c b (last_number (poly_family (arity_with_mark arities)) symbols rules pairs c none below) e

@@ -10,8 +10,8 @@ use Rattle.order_space.specs.Slots.{table_of}
 use Rattle.order_problem.specs.OrderSpace.{slots_of}
 use Rattle.order_problem.specs.Distinct.{AreDistinct}
 use Rattle.poly_find.specs.PolyRow.{poly_entry}
-use Rattle.poly_find.specs.PolyPlaces.{parts_by, values_at}
-use Rattle.poly_find.proofs.Starts.{starts, said_values}
+use Rattle.poly_find.specs.PolyPlaces.{parts_by, values_at, starts}
+use Rattle.poly_find.proofs.Starts.{said_values}
 
 module _ (arities symbols values : List ℕ) where
   abbrev pub said : ℕ → ℕ × List ℕ

@@ -10,7 +10,7 @@ use Rattle.order_problem.specs.OrderSpace.{parts_from, slots_of}
 use Rattle.order_problem.specs.Distinct.{AreDistinct}
 use Rattle.order_problem.proofs.SlotLayout.{start_of, value_from, value_at}
 use Rattle.poly_find.specs.PolySpace.{values_from}
-use Rattle.poly_find.specs.PolyPlaces.{parts_by, owner_of, owners_of, values_at}
+use Rattle.poly_find.specs.PolyPlaces.{parts_by, owner_of, owners_of, values_at, starts}
 
 same_test : (n : ℕ) → (n == n) ≡ true
 same_test n = grind (arith, nat_tests)
@@ -27,12 +27,6 @@ found_later true o e = absurd cc
 found_later false o e = refl
 
 -- ---- where they begin
-
--- how many slots come before those of symbol number i
-abbrev pub starts : (ℕ → ℕ) → List ℕ → ℕ → ℕ
-starts parts [] i = 0
-starts parts (f ∷ fs) zero = 0
-starts parts (f ∷ fs) (suc i) = parts f + starts parts fs i
 
 module _ (parts : ℕ → ℕ) where
   starts_first : (symbols : List ℕ) → starts parts symbols 0 ≡ 0

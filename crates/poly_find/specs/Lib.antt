@@ -2,6 +2,8 @@ pub mod LinearTest
 pub mod PolySpace
 pub mod PolyRow
 pub mod PolyPlaces
+pub mod Spans
+pub mod SmallTerms
 pub mod PolyDepends
 pub mod PolyLawful
 pub mod Laws

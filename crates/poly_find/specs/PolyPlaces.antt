@@ -1,10 +1,8 @@
 -- The slots of a search for a linear interpretation by their numbers, and values of the slots of one symbol.
-use Rattle.std.specs.Prelude.{ℕ, ◌+◌, Bool, List, [], ◌∷◌, map, get_or, Option, Some, None}
+use Rattle.std.specs.Prelude.{ℕ, ◌+◌, List, [], ◌∷◌, map, get_or}
 use Rattle.std.proofs.Common.{zero, suc}
 use Rattle.order_space.specs.Slots.{Slot}
-use Rattle.trs_defs.specs.System.{RewriteRule}
-use Rattle.order_problem.specs.OrderSpace.{slots_of, some_falls, arity_with_mark}
-use Rattle.poly_find.specs.LinearTest.{linear_weak, linear_strict}
+use Rattle.order_problem.specs.OrderSpace.{slots_of, arity_with_mark}
 
 -- how many parts a symbol has: its constant and its coefficients
 abbrev pub parts_by : List ℕ → ℕ → ℕ
@@ -22,7 +20,8 @@ abbrev pub values_at : List ℕ → ℕ → ℕ → List ℕ
 values_at values start zero = []
 values_at values start (suc n) = get_or values start 0 ∷ values_at values (suc start) n
 
--- a rule that falls weakly, or some strict pair
-abbrev pub falls_by : (ℕ → ℕ → ℕ) → List RewriteRule → Option RewriteRule → Bool
-falls_by c pairs (Some r) = linear_weak c r.left r.right
-falls_by c pairs None = some_falls (linear_strict c) pairs
+-- how many slots come before those of symbol number i
+abbrev pub starts : (ℕ → ℕ) → List ℕ → ℕ → ℕ
+starts parts [] i = 0
+starts parts (f ∷ fs) zero = 0
+starts parts (f ∷ fs) (suc i) = parts f + starts parts fs i

@@ -1,55 +1,71 @@
 //! Comparisons by a linear interpretation, as tests that are false where a polynomial is too big.
-ghost use Rattle.std.specs.Prelude.{◌≡◌, ◌++◌, slice_get};
-ghost use Rattle.poly_lin.specs.Table.{coefficient_in};
+ghost use Rattle.std.specs.Prelude.{◌≡◌, ◌<◌, ◌+◌, ◌^◌, ℕ, Some, false, length, get_or, slice_get};
+ghost use Rattle.trs_defs.specs.System.{RewriteRule};
 ghost use Rattle.order_problem.specs.OrderSpace.{some_falls};
 ghost use Rattle.poly_find.specs.LinearTest.{linear_weak, linear_strict};
-ghost use Rattle.poly_find.specs.PolyPlaces.{falls_by};
+ghost use Rattle.poly_find.specs.SmallTerms.{IsSafe};
 
-use order_problem::falling_at;
-use pair_order::ReductionPair;
-use poly_lin::LinTable;
+use poly_lin::{
+    Coefficients, is_strictly_above, is_strictly_above_if_small, is_weakly_above,
+    is_weakly_above_if_small,
+};
 use trs_core::Rule;
 
-/// Whether the rule or pair of this number falls weakly; behind them, whether some pair falls
-/// strictly.
-pub(crate) fn falls(table: &LinTable, rules: &[Rule], pairs: &[Rule], number: usize) -> bool
-    ensures { result ≡ falls_by (coefficient_in table.now) pairs.now
-        (slice_get (rules.now ++ pairs.now) number) }
-{
-    match falling_at(rules, pairs, number) {
-        Some(rule) => is_weak(table, rule),
-        None => some_is_strict(table, pairs),
-    }
-}
-
 /// Whether the left side is the right one, or greater.
-fn is_weak(table: &LinTable, rule: &Rule) -> bool
-    ensures { result ≡ linear_weak (coefficient_in table.now) rule.now.left rule.now.right }
+pub(crate) fn is_weak<T: Coefficients>(table: &T, small: bool, rule: &Rule) -> bool
+    requires { IsSafe (T.coefficient table.now) small rule.now }
+    ensures { result ≡ linear_weak (T.coefficient table.now) rule.now.left rule.now.right }
 {
-    match table.weak(&rule.left, &rule.right) {
+    if small {
+        return is_weakly_above_if_small(table, &rule.left, &rule.right);
+    }
+    match is_weakly_above(table, &rule.left, &rule.right) {
         Ok(answer) => answer,
         Err(_) => false,
     }
 }
 
 /// Whether the left side is greater.
-fn is_strict(table: &LinTable, rule: &Rule) -> bool
-    ensures { result ≡ linear_strict (coefficient_in table.now) rule.now.left rule.now.right }
+fn is_strict<T: Coefficients>(table: &T, small: bool, rule: &Rule) -> bool
+    requires { IsSafe (T.coefficient table.now) small rule.now }
+    ensures { result ≡ linear_strict (T.coefficient table.now) rule.now.left rule.now.right }
 {
-    match table.strict(&rule.left, &rule.right) {
+    if small {
+        return is_strictly_above_if_small(table, &rule.left, &rule.right);
+    }
+    match is_strictly_above(table, &rule.left, &rule.right) {
         Ok(answer) => answer,
         Err(_) => false,
     }
 }
 
-/// Whether some left side is greater than its right side.
-fn some_is_strict(table: &LinTable, rules: &[Rule]) -> bool
-    ensures { result ≡ some_falls (linear_strict (coefficient_in table.now)) rules.now }
+/// Whether some left side is greater than its right side. The flags of the rules stand behind so
+/// many others.
+pub(crate) fn some_is_strict<T: Coefficients>(
+    table: &T,
+    small: &[bool],
+    others: usize,
+    rules: &[Rule],
+) -> bool
+    requires few { others + length rules.now < 2 ^ 32 }
+    requires safe { (k : ℕ) (r : RewriteRule) → slice_get rules.now k ≡ Some r →
+        IsSafe (T.coefficient table.now) (get_or small.now (others + k) false) r }
+    ensures { result ≡ some_falls (linear_strict (T.coefficient table.now)) rules.now }
 {
-    for rule in rules {
-        if is_strict(table, rule) {
+    for (k, rule) in rules.iter().enumerate() {
+        if is_strict(table, flag_at(small, others + k), rule) {
             return true;
         }
     }
     false
+}
+
+/// The flag of this number, or false where there are not so many.
+pub(crate) fn flag_at(flags: &[bool], number: usize) -> bool
+    ensures { result ≡ get_or flags.now number false }
+{
+    match flags.get(number) {
+        Some(flag) => *flag,
+        None => false,
+    }
 }

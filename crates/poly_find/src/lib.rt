@@ -6,8 +6,12 @@ mod comparing;
 mod finding;
 mod laws;
 mod owners;
+mod searching;
+mod sizes;
 mod space;
+mod spans;
 mod table;
 
-pub use finding::find_poly;
+pub use finding::{find_poly, find_poly_in};
 pub use laws::found_orders_apply;
+pub use searching::search_linear;

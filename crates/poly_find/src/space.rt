@@ -1,15 +1,15 @@
 //! The finite search for coefficients.
-ghost use Rattle.std.specs.Prelude.{◌≡◌, ◌<◌, ◌≤◌, ◌+◌, ◌^◌, ◌++◌, length, false};
-ghost use Rattle.trs_defs.specs.Variable.{is_listed};
+ghost use Rattle.std.specs.Prelude.{◌≡◌, ◌<◌, ◌+◌, ◌^◌, ◌++◌, map, length};
 ghost use Rattle.order_space.specs.Slots.{puzzle_of};
-ghost use Rattle.order_problem.specs.OrderSpace.{AreCovered};
 ghost use Rattle.order_problem.specs.Distinct.{AreDistinct};
 ghost use Rattle.poly_find.specs.PolyRow.{poly_search};
 ghost use Rattle.poly_find.specs.PolyPlaces.{owners_of};
+ghost use Rattle.poly_find.specs.Spans.{AreSpans};
+ghost use Rattle.poly_find.specs.SmallTerms.{has_small_sides};
 ghost use Rattle.poly_find.specs.PolyLawful.{poly_lawful};
 
-use crate::comparing::falls;
-use crate::table::interpretation;
+use crate::comparing::{flag_at, is_weak, some_is_strict};
+use crate::spans::{SlotValues, Span};
 use assign_search::{OutOfMemory, Space};
 use order_problem::{falling_at, occurs_in_rule};
 use std::alloc::Global;
@@ -18,19 +18,21 @@ use trs_core::Rule;
 /// How many values a coefficient has.
 const VALUES: u32 = 3;
 
-/// The symbols, the symbol of each slot, and the rules and marked pairs that are to fall.
+/// The symbols, the symbol of each slot and the slots of each symbol, the rules and marked pairs
+/// that are to fall, and which of them are small.
 #[derive(Drop)]
 pub(crate) struct PolySpace<'a> {
     pub(crate) arities: &'a [u8],
     pub(crate) symbols: &'a [u32],
     pub(crate) owners: &'a [u32],
+    pub(crate) spans: &'a [Span],
     pub(crate) rules: &'a [Rule],
     pub(crate) pairs: &'a [Rule],
+    pub(crate) small: &'a [bool],
     pub(crate) ghost distinct: { AreDistinct symbols.now },
-    pub(crate) ghost no_pairing: { is_listed 8191 symbols.now ≡ false },
-    pub(crate) ghost covered: { AreCovered symbols.now (rules.now ++ pairs.now) },
     pub(crate) ghost owners_are: { owners.now ≡ owners_of arities.now symbols.now },
-    pub(crate) ghost few_symbols: { length symbols.now ≤ 8192 },
+    pub(crate) ghost spans_are: { AreSpans arities.now symbols.now spans.now },
+    pub(crate) ghost small_are: { small.now ≡ map has_small_sides (rules.now ++ pairs.now) },
     pub(crate) ghost few_slots: { length owners.now < 2 ^ 32 },
     pub(crate) ghost few_falling: { length rules.now + length pairs.now + 1 < 2 ^ 31 },
 }
@@ -61,10 +63,14 @@ impl<'a> Space for PolySpace<'a> {
         }
     }
 
-    fn holds(&self, alloc: Global, c: u32, values: &[u32]) -> Result<bool, OutOfMemory> {
-        match interpretation(alloc, self.arities, self.symbols, values) {
-            Ok(table) => Ok(falls(&table, self.rules, self.pairs, c as usize)),
-            Err(_) => Err(OutOfMemory),
+    fn holds(&self, _alloc: Global, c: u32, values: &[u32]) -> Result<bool, OutOfMemory> {
+        let table = SlotValues {
+            spans: self.spans,
+            values,
+        };
+        match falling_at(self.rules, self.pairs, c as usize) {
+            Some(rule) => Ok(is_weak(&table, flag_at(self.small, c as usize), rule)),
+            None => Ok(some_is_strict(&table, self.small, self.rules.len(), self.pairs)),
         }
     }
 }

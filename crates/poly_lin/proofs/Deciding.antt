@@ -1,12 +1,22 @@
 -- Comparing coefficients decides the order.
-use Rattle.std.proofs.Common.{◌≡◌, ℕ, ◌≤◌, ◌<◌, ◌↔◌, inl, inr, refl, sym, ◌∙◌, arith, Ok, true, false, Bool, IsTrue, ◌&&◌, nat_le, nat_lt}
+use Rattle.std.proofs.Common.{◌≡◌, ℕ, ◌≤◌, ◌<◌, ◌↔◌, inl, inr, refl, sym, subst, ◌∙◌, arith, Result, Ok, Err, true, false, Bool, IsTrue, ◌&&◌, nat_le, nat_lt}
 use Rattle.std.proofs.lemmas.Bool.Decides.{nat_tests}
 use Rattle.trs_defs.specs.Tree.{Tree}
 use Rattle.order_theory.specs.LinearInterpretation.{LinearWeak, LinearStrict}
 use Rattle.order_theory.proofs.Coefficients.{weak_by_coefficients, strict_by_coefficients, coefficients_of_weak, coefficients_of_strict}
+use Rattle.pair_order.specs.declared.pairs.TooBig.{TooBig}
+use Rattle.pair_order.specs.Compared.{IsAnswer}
 use Rattle.poly_lin.specs.declared.monomial.Monomial.TheVariants.{One, Variable}
 use Rattle.poly_lin.specs.Coefficients.{HasBigAt, HasBigVariable, AreCoefficients, VariablesAtLeast}
 use Rattle.poly_lin.specs.TooBig.{HasBigCoefficient, EitherIsBig}
+
+module _ (c : ℕ → ℕ → ℕ) (s t : Tree) where
+  big_there : HasBigVariable c s t → EitherIsBig c s t
+  big_there (x, inl (u, p, big)) = inl (u, p, inr (x, big))
+  big_there (x, inr (u, p, big)) = inr (u, p, inr (x, big))
+
+  pub big_variable : (related : Type 0) (r : Result Bool TooBig) (e : TooBig) → r ≡ Err e → HasBigVariable c s t → IsAnswer (EitherIsBig c s t) related r
+  big_variable related r e is big = subst (λ x. IsAnswer (EitherIsBig c s t) related x) (sym is) (big_there big)
 
 module _ (c : ℕ → ℕ → ℕ) (s t : Tree) (left right : ℕ) (ones : AreCoefficients c One s t (Ok (left, right)))
     (variables : Bool) (at_variables : (HasBigVariable c s t → ⊥) × (IsTrue variables ↔ VariablesAtLeast c s t)) where

@@ -1,3 +1,6 @@
 pub mod Walk
-pub mod EachVariable
+pub mod InOrder
 pub mod Deciding
+pub mod AtRows
+pub mod Saturation
+pub mod SmallDeciding

@@ -15,7 +15,7 @@ one_if_small : (b : Bool) → cond b 1 0 ≤ 1
 one_if_small true = omega arith
 one_if_small false = omega arith
 
-small_in_variable : (m : Monomial) (x : ℕ) → variable_coefficient m x ≤ 1
+pub small_in_variable : (m : Monomial) (x : ℕ) → variable_coefficient m x ≤ 1
 small_in_variable One x = omega arith
 small_in_variable (Variable y) x = one_if_small (x == y)
 
@@ -24,7 +24,7 @@ same_or_under here below itself = here refl
 same_or_under here below (under p) = below p
 
 module _ (c : ℕ → ℕ → ℕ) (m : Monomial) where
-  of_variable : (x : ℕ) → variable_coefficient m x ≡ coefficient_of c m (var x)
+  pub of_variable : (x : ℕ) → variable_coefficient m x ≡ coefficient_of c m (var x)
   of_variable x = go m
     where
       go : (n : Monomial) → variable_coefficient n x ≡ coefficient_of c n (var x)
@@ -39,21 +39,21 @@ module _ (c : ℕ → ℕ → ℕ) (m : Monomial) where
         absurd (omega (arith, of_variable x)),
   )
 
-  of_application : (f : ℕ) (ts : Trees) → coefficient_of c m (app f ts) ≡ own_coefficient m (c f 0) + coefficients_of c m f 1 ts
+  pub of_application : (f : ℕ) (ts : Trees) → coefficient_of c m (app f ts) ≡ own_coefficient m (c f 0) + coefficients_of c m f 1 ts
   of_application f ts = go m
     where
       go : (n : Monomial) → coefficient_of c n (app f ts) ≡ own_coefficient n (c f 0) + coefficients_of c n f 1 ts
       go One = refl
       go (Variable y) = omega arith
 
-  of_arguments : (f i : ℕ) (t : Tree) (ts : Trees) → coefficients_of c m f i (cons t ts) ≡ c f i * coefficient_of c m t + coefficients_of c m f (suc i) ts
+  pub of_arguments : (f i : ℕ) (t : Tree) (ts : Trees) → coefficients_of c m f i (cons t ts) ≡ c f i * coefficient_of c m t + coefficients_of c m f (suc i) ts
   of_arguments f i t ts = go m
     where
       go : (n : Monomial) → coefficients_of c n f i (cons t ts) ≡ c f i * coefficient_of c n t + coefficients_of c n f (suc i) ts
       go One = refl
       go (Variable y) = refl
 
-  of_none : (f i : ℕ) → coefficients_of c m f i nil ≡ 0
+  pub of_none : (f i : ℕ) → coefficients_of c m f i nil ≡ 0
   of_none f i = go m
     where
       go : (n : Monomial) → coefficients_of c n f i nil ≡ 0

@@ -1,71 +1,83 @@
-ghost use Rattle.std.specs.Prelude.{◌≡◌, ◌&&◌, ◌+◌, ◌*◌, slice_index};
+ghost use Rattle.std.specs.Prelude.{◌≡◌, ◌&&◌, ◌+◌, ◌*◌};
 ghost use Rattle.trs_core.specs.View.{tree};
+ghost use Rattle.order_theory.specs.LinearInterpretation.{LinearWeak, LinearStrict};
 ghost use Rattle.pair_order.specs.Compared.{IsAnswer};
-ghost use Rattle.poly_lin.specs.Table.{coefficient_in};
 ghost use Rattle.poly_lin.specs.Coefficients.{IsSmall, IsCoefficient, AreCoefficients, HasBigVariable, VariablesAtLeast};
+ghost use Rattle.poly_lin.specs.TooBig.{EitherIsBig};
 
 use crate::monomial::Monomial;
-use crate::{LinTable, MOST};
+use crate::{Coefficients, MOST};
 use pair_order::{TooBig, next_variable};
 use trs_core::Term;
 
-impl LinTable {
-    /// The coefficient of a monomial in the term's polynomial.
-    fn coefficient(&self, of: Monomial, t: &Term) -> Result<u64, TooBig>
-        ensures { IsCoefficient (coefficient_in self.now) of (tree t.now) result }
-    {
-        match t {
-            Term::Var(x) => Ok(of.in_variable(*x)),
-            Term::App(f, args) => {
-                let polynomial = self.polynomial(*f);
-                let mut sum = 0;
-                for (i, arg) in args.items.iter().enumerate() {
-                    let value = self.coefficient(of, arg)?;
-                    sum = plus_multiple(sum, coefficient_at(polynomial, i + 1), value)?;
-                }
-                plus_multiple(sum, 1, of.in_constant(coefficient_at(polynomial, 0)))
+/// Whether the first term's polynomial is at least the second's wherever variables stand for
+/// numbers. `TooBig` comes where some subterm's polynomial has a coefficient above 2^63 - 1. It takes
+/// no memory.
+pub fn is_weakly_above<T: Coefficients>(table: &T, a: &Term, b: &Term) -> Result<bool, TooBig>
+    ensures { IsAnswer (EitherIsBig (T.coefficient table.now) (tree a.now) (tree b.now))
+        (LinearWeak (T.coefficient table.now) (tree a.now) (tree b.now)) result }
+{
+    let (left, right) = coefficients(table, Monomial::One, a, b)?;
+    let at_least = variables_at_least(table, a, b)?;
+    Ok(at_least && right <= left)
+}
+
+/// Whether it is greater there; the same otherwise.
+pub fn is_strictly_above<T: Coefficients>(table: &T, a: &Term, b: &Term) -> Result<bool, TooBig>
+    ensures { IsAnswer (EitherIsBig (T.coefficient table.now) (tree a.now) (tree b.now))
+        (LinearStrict (T.coefficient table.now) (tree a.now) (tree b.now)) result }
+{
+    let (left, right) = coefficients(table, Monomial::One, a, b)?;
+    let at_least = variables_at_least(table, a, b)?;
+    Ok(at_least && right < left)
+}
+
+/// The coefficient of a monomial in the term's polynomial.
+fn coefficient<T: Coefficients>(table: &T, of: Monomial, t: &Term) -> Result<u64, TooBig>
+    ensures { IsCoefficient (T.coefficient table.now) of (tree t.now) result }
+{
+    match t {
+        Term::Var(x) => Ok(of.in_variable(*x)),
+        Term::App(f, args) => {
+            let row = table.row(*f);
+            let mut sum = 0;
+            for (i, arg) in args.items.iter().enumerate() {
+                let value = coefficient(table, of, arg)?;
+                sum = plus_multiple(sum, table.at(row, i + 1), value)?;
             }
+            plus_multiple(sum, 1, of.in_constant(table.at(row, 0)))
         }
-    }
-
-    /// Those of two terms.
-    pub(crate) fn coefficients(
-        &self,
-        of: Monomial,
-        a: &Term,
-        b: &Term,
-    ) -> Result<(u64, u64), TooBig>
-        ensures { AreCoefficients (coefficient_in self.now) of (tree a.now) (tree b.now) result }
-    {
-        let left = self.coefficient(of, a)?;
-        let right = self.coefficient(of, b)?;
-        Ok((left, right))
-    }
-
-    /// Whether the coefficient of each variable in the first term's polynomial is at least that in
-    /// the second's. The cost is linear for each variable that occurs.
-    pub(crate) fn variables_at_least(&self, a: &Term, b: &Term) -> Result<bool, TooBig>
-        ensures { IsAnswer (HasBigVariable (coefficient_in self.now) (tree a.now) (tree b.now))
-            (VariablesAtLeast (coefficient_in self.now) (tree a.now) (tree b.now)) result }
-    {
-        let mut at_least = true;
-        let mut from: u64 = 0;
-        while let Some(x) = next_variable(a, b, from) {
-            let (left, right) = self.coefficients(Monomial::Variable(x), a, b)?;
-            at_least = both(at_least, right <= left);
-            from = u64::from(x) + 1;
-        }
-        Ok(at_least)
     }
 }
 
-fn coefficient_at(polynomial: &[u64], i: usize) -> u64
-    ensures { result ≡ slice_index polynomial.now i }
+/// Those of two terms.
+fn coefficients<T: Coefficients>(
+    table: &T,
+    of: Monomial,
+    a: &Term,
+    b: &Term,
+) -> Result<(u64, u64), TooBig>
+    ensures { AreCoefficients (T.coefficient table.now) of (tree a.now) (tree b.now) result }
 {
-    match polynomial.get(i) {
-        Some(coefficient) => *coefficient,
-        None => 0,
+    let left = coefficient(table, of, a)?;
+    let right = coefficient(table, of, b)?;
+    Ok((left, right))
+}
+
+/// Whether the coefficient of each variable in the first term's polynomial is at least that in the
+/// second's. The cost is linear for each variable that occurs.
+fn variables_at_least<T: Coefficients>(table: &T, a: &Term, b: &Term) -> Result<bool, TooBig>
+    ensures { IsAnswer (HasBigVariable (T.coefficient table.now) (tree a.now) (tree b.now))
+        (VariablesAtLeast (T.coefficient table.now) (tree a.now) (tree b.now)) result }
+{
+    let mut at_least = true;
+    let mut from: u64 = 0;
+    while let Some(x) = next_variable(a, b, from) {
+        let (left, right) = coefficients(table, Monomial::Variable(x), a, b)?;
+        at_least = both(at_least, right <= left);
+        from = u64::from(x) + 1;
     }
+    Ok(at_least)
 }
 
 fn both(a: bool, b: bool) -> bool

@@ -2,13 +2,20 @@
 //! section 5.3; coefficients may be 0, as in Arts and Giesl, 2000.)
 #![tactic(auto)]
 
+mod coefficients;
 mod comparing;
 mod faults;
 mod monomial;
 mod orders;
+mod rows;
+mod small;
 mod table;
 
+pub use coefficients::Coefficients;
+pub use comparing::{is_strictly_above, is_weakly_above};
 pub use faults::TableFault;
+pub use rows::Row;
+pub use small::{is_strictly_above_if_small, is_weakly_above_if_small};
 pub use table::LinTable;
 
 /// What a symbol stands for that no system has: C(x1, x2) is x1 + x2.

@@ -8,8 +8,7 @@ ghost use Rattle.poly_lin.specs.Table.{symbol_of, coefficient_in};
 ghost use Rattle.poly_lin.specs.TooBig.{EitherIsBig};
 ghost use Rattle.poly_lin.specs.Laws.{spoken, above_first, above_second};
 
-use crate::LinTable;
-use crate::monomial::Monomial;
+use crate::{LinTable, is_strictly_above, is_weakly_above};
 use pair_order::{PairingOrder, ReductionPair, TooBig};
 use pair_theory::ReductionOrder;
 use trs_core::Term;
@@ -32,15 +31,11 @@ impl ReductionPair for LinTable {
     ghost speaks_over = { λ table arities. Unit {0} };
 
     fn weak(&self, a: &Term, b: &Term) -> Result<bool, TooBig> {
-        let (left, right) = self.coefficients(Monomial::One, a, b)?;
-        let at_least = self.variables_at_least(a, b)?;
-        Ok(at_least && right <= left)
+        is_weakly_above(self, a, b)
     }
 
     fn strict(&self, a: &Term, b: &Term) -> Result<bool, TooBig> {
-        let (left, right) = self.coefficients(Monomial::One, a, b)?;
-        let at_least = self.variables_at_least(a, b)?;
-        Ok(at_least && right < left)
+        is_strictly_above(self, a, b)
     }
 
     fn has_entry(&self, f: u32) -> bool {

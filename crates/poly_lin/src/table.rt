@@ -1,11 +1,13 @@
 ghost use Rattle.std.specs.Prelude.{◌≡◌, ◌≢◌, ℕ, ◌++◌, ◌∷◌, [], map, IfOk, IfErr, OnOk, option_map, option_copied};
-ghost use Rattle.pair_order.specs.Entries.{entry_of};
+ghost use Rattle.pair_order.specs.Entries.{entry_of, place_among};
 ghost use Rattle.pair_order.specs.FirstFault.{IsFirstFault, IsFirstOfEntry};
-ghost use Rattle.poly_lin.specs.Table.{symbol_of, polynomial};
+ghost use Rattle.poly_lin.specs.Table.{symbol_of};
+ghost use Rattle.poly_lin.specs.Rows.{polynomial_at};
 ghost use Rattle.poly_lin.specs.Plain.{plain};
 ghost use Rattle.poly_lin.specs.Faults.{HasFaultAt, IsEntryFault, number, has_big};
 ghost use Rattle.poly_lin.specs.declared.faults.TableFault.{TableFault as Fault};
 
+use crate::rows::Row;
 use crate::{MOST, PAIRING, TableFault};
 use pair_order::SymbolIndex;
 use std::alloc::Global;
@@ -71,16 +73,24 @@ impl LinTable {
         }
     }
 
-    /// The polynomial of a symbol.
-    pub(crate) fn polynomial(&self, f: u32) -> &[u64]
-        ensures { result.now ≡ polynomial self.now f }
+    /// The number of the entry of a symbol.
+    pub(crate) fn place(&self, symbol: u32) -> Option<usize>
+        ensures { result ≡ place_among (map symbol_of self.now) symbol }
     {
-        if f == PAIRING {
-            return &[0, 1, 1];
-        }
-        match self.entry(f) {
-            Some((_, coefficients)) => coefficients,
-            None => &[],
+        self.symbols.place(symbol)
+    }
+
+    /// The polynomial that stands at a row.
+    pub(crate) fn polynomial_at(&self, row: Row) -> &[u64]
+        ensures { result.now ≡ polynomial_at self.now row }
+    {
+        match row {
+            Row::Pairing => &[0, 1, 1],
+            Row::Missing => &[],
+            Row::Entry(place) => match self.entries.get(place) {
+                Some((_, coefficients)) => coefficients,
+                None => &[],
+            },
         }
     }
 

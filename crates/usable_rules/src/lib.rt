@@ -12,4 +12,4 @@ mod rules;
 
 pub use laws::usable_steps_conclude;
 pub use ordered::{prepared_usable_check, usable_check};
-pub use rules::usable;
+pub use rules::{usable, usable_for};

@@ -30,7 +30,7 @@ pub fn usable(
 }
 
 /// The same, where the pairs of the system are prepared.
-pub(crate) fn usable_for(
+pub fn usable_for(
     alloc: Global,
     trs: &Trs,
     pairs: &Pairs,

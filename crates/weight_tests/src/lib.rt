@@ -2,14 +2,8 @@
 #![tactic(auto)]
 
 #[cfg(test)]
-mod cases;
-#[cfg(test)]
-mod numbers;
-#[cfg(test)]
 mod orders;
 #[cfg(test)]
 mod plain_order;
 #[cfg(test)]
 mod plain_search;
-#[cfg(test)]
-mod stops;

@@ -1,11 +1,9 @@
 //! Knuth-Bendix orders that are found, beside those of a plain search.
-use crate::cases::{Case, Texts, made};
-use crate::numbers::all_numbers;
 use crate::plain_order::Said;
 use crate::plain_search::{Outcome, first_of_all, said};
-use crate::stops::StopAt;
 use assign_search::{Never, Search, Stop};
 use dp_core::dependency_pairs;
+use finder_cases::{Case, StopAt, Texts, all_numbers, made};
 use kbo_find::find_kbo;
 use kbo_order::{Kbo, KboEntry};
 use std::alloc::Global;

@@ -1,6 +1,6 @@
 //! A plain search for orders: all values of all slots in order, each looked at whole.
-use crate::cases::Case;
 use crate::plain_order::{Said, is_greater};
+use finder_cases::Case;
 use std::alloc::Global;
 use std::test::Fail;
 use trs_core::{OutOfMemory, Rule, Term};

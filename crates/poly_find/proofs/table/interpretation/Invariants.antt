@@ -1,6 +1,5 @@
 use Rattle.std.specs.Prelude.{◌≡◌, ◌≤◌, ◌*◌}
-use Rattle.poly_find.specs.PolyPlaces.{parts_by}
-use Rattle.poly_find.proofs.Starts.{starts}
+use Rattle.poly_find.specs.PolyPlaces.{parts_by, starts}
 use Rattle.poly_find.proofs.PolySteps.{AreSoFar}
 use Rattle.poly_find.proofs.table.interpretation.Given as goal
 

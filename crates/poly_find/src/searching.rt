@@ -1,0 +1,67 @@
+//! The search over given symbols, rules and marked pairs.
+ghost use Rattle.std.specs.Prelude.{◌≡◌, ◌<◌, ◌≤◌, ◌+◌, ◌^◌, All, IfOk, length};
+ghost use Rattle.order_space.specs.Outcome.{IsFinding, IsNotThere, IsSpent};
+ghost use Rattle.order_space.specs.Slots.{puzzle_of};
+ghost use Rattle.order_problem.specs.OrderOver.{IsOrderOver};
+ghost use Rattle.order_problem.specs.Distinct.{AreDistinct};
+ghost use Rattle.poly_find.specs.PolyRow.{poly_search, poly_entry};
+
+use crate::owners::owners;
+use crate::sizes::small_ones;
+use crate::space::PolySpace;
+use crate::spans::spans;
+use crate::table::interpretation;
+use assign_search::{Search, Stop, first_solution};
+use poly_lin::LinTable;
+use std::alloc::Global;
+use trs_core::{OutOfMemory, Rule};
+
+/// The interpretation of these symbols by which the rules and the marked pairs fall weakly, and some
+/// pair strictly: the first with values 0 to 2, a slot for the constant and one for the coefficient
+/// of each argument of a symbol. The budget is that of `first_solution`; a test of values takes no
+/// memory.
+pub fn search_linear<P: Stop>(
+    alloc: Global,
+    arities: &[u8],
+    symbols: &[u32],
+    rules: &[Rule],
+    pairs: &[Rule],
+    budget: u64,
+    stop: &mut P,
+) -> Result<Search<LinTable>, OutOfMemory>
+    requires distinct { AreDistinct symbols.now }
+    requires small_symbols { All (λ f. f < 8192) symbols.now }
+    requires few_symbols { length symbols.now ≤ 8192 }
+    requires few_falling { length rules.now + length pairs.now + 1 < 2 ^ 31 }
+    ensures answer { IfOk result (IsFinding
+        (λ order. IsOrderOver (poly_entry arities.now)
+        (poly_search arities.now symbols.now rules.now pairs.now)
+        budget symbols.now order)
+        (IsNotThere budget (puzzle_of (poly_search arities.now symbols.now rules.now pairs.now)))
+        (IsSpent budget (puzzle_of (poly_search arities.now symbols.now rules.now pairs.now)))
+        (P.stops stop.old < P.stops stop.new)) }
+    ensures later { P.stops stop.old ≤ P.stops stop.new }
+    ensures kept { P.kept stop.new ≡ P.kept stop.old }
+{
+    let owners = owners(alloc, arities, symbols)?;
+    let spans = spans(alloc, arities, symbols)?;
+    let small = small_ones(alloc, rules, pairs)?;
+    let space = PolySpace {
+        arities,
+        symbols,
+        owners: &owners,
+        spans: &spans,
+        rules,
+        pairs,
+        small: &small,
+    };
+    match first_solution(alloc, &space, budget, stop) {
+        Err(_) => Err(OutOfMemory),
+        Ok(Search::Found(values)) => {
+            Ok(Search::Found(interpretation(alloc, arities, symbols, &values)?))
+        }
+        Ok(Search::NotThere) => Ok(Search::NotThere),
+        Ok(Search::Spent) => Ok(Search::Spent),
+        Ok(Search::Stopped) => Ok(Search::Stopped),
+    }
+}

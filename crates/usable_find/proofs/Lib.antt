@@ -1,0 +1,2 @@
+pub mod OfUsable
+pub mod UsableLaw

@@ -1,0 +1,2 @@
+pub mod UsableRow
+pub mod Laws
