@@ -15,7 +15,7 @@ use poly_lin::LinTable;
 use sexp_core::Sexp;
 use std::alloc::Global;
 use symbol_text::{add_symbol, put_entry_begin, read_marked_symbol};
-use text_reading::{Read, ended, place, pushed, put, put_number, read_number};
+use text_reading::{Read, ended, place, push, put, put_number, read_number};
 use trs_core::OutOfMemory;
 
 /// A table of linear polynomials, by its entries `(sym name number ..)` and `(mark name number ..)`, no symbol twice.
@@ -110,7 +110,7 @@ fn read_numbers(alloc: Global, items: &[Sexp]) -> Result<Read<Vec<u64>>, OutOfMe
 {
     let mut numbers = Ok(Vec::with_capacity(alloc, items.len())?);
     for item in items {
-        numbers = pushed(numbers, read_number(LAST_NUMBER, item))?;
+        push(&mut numbers, read_number(LAST_NUMBER, item))?;
     }
     Ok(numbers)
 }

@@ -15,7 +15,7 @@ use dp_graph::GraphItem;
 use sexp_core::Sexp;
 use std::alloc::Global;
 use symbol_text::read_number_from;
-use text_reading::{Read, ended, place, pushed, put, put_number, read_number};
+use text_reading::{Read, ended, place, push, put, put_number, read_number};
 use trs_core::OutOfMemory;
 
 /// The greatest number of a pair, 2^32 - 1.
@@ -28,7 +28,7 @@ pub fn read_graph_items(alloc: Global, items: &[Sexp]) -> Result<Read<Vec<GraphI
 {
     let mut groups = Ok(Vec::new(alloc));
     for item in items {
-        groups = pushed(groups, read_graph_item(alloc, item)?)?;
+        push(&mut groups, read_graph_item(alloc, item)?)?;
     }
     Ok(groups)
 }

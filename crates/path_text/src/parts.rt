@@ -13,7 +13,7 @@ use crate::sharing::{DefinedPath, Definitions};
 use rewrite_core::{PathStep, push_shifted};
 use sexp_core::Sexp;
 use std::alloc::Global;
-use text_reading::{Read, both, ended, keyword, place, pushed};
+use text_reading::{Read, both, ended, keyword, place, push};
 use trs_core::{OutOfMemory, Position};
 
 /// A part of a path in a text of version 2.
@@ -57,7 +57,7 @@ fn read_parts<'d>(
 {
     let mut parts = Ok(Vec::with_capacity(alloc, items.len())?);
     for item in items {
-        parts = pushed(parts, read_part(alloc, definitions, item)?)?;
+        push(&mut parts, read_part(alloc, definitions, item)?)?;
     }
     Ok(parts)
 }

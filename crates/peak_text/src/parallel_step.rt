@@ -11,7 +11,7 @@ use path_text::{put_placed_rules, read_placed_rules};
 use rewrite_core::PathStep;
 use sexp_core::Sexp;
 use std::alloc::Global;
-use text_reading::{Read, both, keyword, place, pushed, put};
+use text_reading::{Read, both, keyword, place, push, put};
 use trs_core::OutOfMemory;
 
 /// Steps at parallel positions, each `(par at ..)`.
@@ -24,7 +24,7 @@ pub fn read_parallel_steps(
 {
     let mut steps = Ok(Vec::new(alloc));
     for item in items {
-        steps = pushed(steps, read_parallel_step(alloc, item)?)?;
+        push(&mut steps, read_parallel_step(alloc, item)?)?;
     }
     Ok(steps)
 }

@@ -9,7 +9,7 @@ ghost use Rattle.peak_text.specs.RuleRanks.{ranks, ranks_item};
 
 use sexp_core::Sexp;
 use std::alloc::Global;
-use text_reading::{Read, both, keyword, place, pushed, put, put_number, read_number};
+use text_reading::{Read, both, keyword, place, push, put, put_number, read_number};
 use trs_core::OutOfMemory;
 
 /// The greatest rank, 2^63 - 1.
@@ -39,7 +39,7 @@ fn read_numbers(alloc: Global, items: &[Sexp]) -> Result<Read<Vec<u64>>, OutOfMe
 {
     let mut numbers = Ok(Vec::new(alloc));
     for item in items {
-        numbers = pushed(numbers, read_number(LAST_RANK, item))?;
+        push(&mut numbers, read_number(LAST_RANK, item))?;
     }
     Ok(numbers)
 }

@@ -8,7 +8,7 @@ use Rattle.path_text.proofs.parts.read_parts.Goals as goal
 
 pub loop-item-preserved : goal.loop-item-preserved
 loop-item-preserved c =
-    let more = seen_pushed steps_of_part c.in_ok-parts.parts c.loop-item.parts c.in_ok-read_part.field-0 _ c.in_ok-parts.ensures c.in_ok-read_part.ensures in
+    let more = seen_pushed steps_of_part c.push.new.values c.loop-item.parts c.in_ok-read_part.field-0 _ c.in_ok-push.ensures c.in_ok-read_part.ensures in
     one_more (path_part c.args.definitions.now) (seen (λ v. map steps_of_part v.items) c.loop-item.parts) _ c.args.items.now c.item-item.result c.loop-item.item-index _ c.loop-item-test.true c.item-item.is more c.loop-item.invariant
 
 pub returns : goal.returns
