@@ -1,5 +1,6 @@
 -- The variables of the second term see the two terms, one after another.
 use Rattle.std.proofs.Common.{◌≡◌, ℕ, ◌+◌, ◌≤◌, ◌<◌, ◌^◌, ◌⊎◌, ◌↔◌, inl, inr, refl, sym, subst, ◌∙◌, arith, true, false, Bool, IsTrue, ◌&&◌, Option, Some, None}
+use Rattle.std.specs.Prelude.{not}
 use Rattle.std.proofs.lemmas.Bool.{cases_lt}
 use Rattle.trs_defs.specs.Tree.{Tree, Trees}
 use Rattle.trs_defs.specs.Variable.{has_var, occurrences}
@@ -45,6 +46,14 @@ no_variable y t none = go (has_var y t) refl
     go : (b : Bool) → has_var y t ≡ b → occurrences y t ≡ 0
     go true e = absurd (none e)
     go false e = no_occurrence y t e
+
+pub unset : (b : Bool) → not b ≡ true → b ≡ false
+unset true e = absurd cc
+unset false e = refl
+
+pub is_set : (b : Bool) → not b ≡ false → b ≡ true
+is_set true e = refl
+is_set false e = absurd cc
 
 module _ (w rank : ℕ → ℕ) (s t : Tree) where
   -- whether variable 0 and the variables below a number all see that s is greater
