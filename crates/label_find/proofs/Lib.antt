@@ -1,8 +1,10 @@
+pub mod RanksLeft
 pub mod FitTests
 pub mod RuleLists
 pub mod MeetingLists
-pub mod Constraints
+pub mod ConstraintLaws
 pub mod Closings
 pub mod Numbers
+pub mod ConstraintReads
 pub mod Searching
 pub mod LabelLaw

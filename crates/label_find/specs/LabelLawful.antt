@@ -1,5 +1,5 @@
 -- The search for ranks is lawful: a constraint depends on the ranks of the rules that it uses alone.
-use Rattle.std.specs.Prelude.{◌≡◌, ◌<◌, ℕ, true, ◌||◌, ◌==◌, ◌&&◌, List, [], ◌∷◌, All, IsTrue, length, map, get_or, slice_get, unwrap_or}
+use Rattle.std.specs.Prelude.{◌≡◌, ◌<◌, ℕ, true, false, ◌||◌, ◌==◌, ◌&&◌, List, [], ◌∷◌, All, IsTrue, length, map, get_or, slice_get, unwrap_or}
 use Rattle.std.specs.Global.{Vec}
 use Rattle.std.proofs.Common.{zero, suc, refl, ap, ap₂, sym, ◌∙◌, arith}
 use Rattle.std.proofs.lemmas.Bool.Decides.{nat_tests}
@@ -53,6 +53,7 @@ at_below n k (d ∷ ds) zero keep h = (keep d in_first).below k h
 at_below n k (d ∷ ds) (suc c) keep h = at_below n k ds c (λ e i. keep e (in_rest i)) h
 
 each_keeps : (n : ℕ) (ds : List PeakConstraint) → All (KeepsRules n) ds → (d : PeakConstraint) → In d ds → KeepsRules n d
+each_keeps n [] keep e i = elim i [ ]
 each_keeps n (d ∷ ds) keep e in_first = keep 0 d (omega arith)
 each_keeps n (d ∷ ds) keep e (in_rest i) = each_keeps n ds (λ k x l. keep (suc k) x (omega (arith, l))) e i
 

@@ -1,5 +1,5 @@
 //! Ranks along paths that fit.
-ghost use Rattle.std.specs.Prelude.{◌≡◌, map};
+ghost use Rattle.std.specs.Prelude.{◌≡◌, false, map};
 ghost use Rattle.confluence_theory.specs.RuleRanks.{rank_of as rank_of_rule};
 ghost use Rattle.label_find.specs.Constraint.{fit_after, IsNextTest};
 

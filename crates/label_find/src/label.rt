@@ -65,7 +65,16 @@ pub fn find_label<P: Stop>(
     match constraints_of(alloc, trs, &by_root, growth, peaks, stop)? {
         None => Ok(Search::Stopped),
         Some(constraints) => {
-            search_ranks(alloc, trs, &by_root, growth, peaks, constraints, budget, stop)
+            search_ranks(
+                alloc,
+                trs,
+                &by_root,
+                growth,
+                peaks,
+                constraints,
+                budget,
+                stop,
+            )
         }
     }
 }
@@ -119,7 +128,7 @@ fn search_ranks<P: Stop>(
     };
     match first_solution(alloc, &space, budget, stop) {
         Err(_) => Err(OutOfMemory),
-        Ok(Search::Found(ranks)) => labelled(alloc, trs, by_root, growth, peaks, &ranks, stop),
+        Ok(Search::Found(ranks)) => labelled_by(alloc, trs, by_root, growth, peaks, &ranks, stop),
         Ok(Search::NotThere) => Ok(Search::NotThere),
         Ok(Search::Spent) => Ok(Search::Spent),
         Ok(Search::Stopped) => Ok(Search::Stopped),
@@ -127,7 +136,7 @@ fn search_ranks<P: Stop>(
 }
 
 /// The ranks that were found, with the first two paths of each peak that close it by them.
-fn labelled<P: Stop>(
+fn labelled_by<P: Stop>(
     alloc: Global,
     trs: &Trs,
     by_root: &RulesByRoot,

@@ -119,11 +119,17 @@ fn has_list(lists: &[Vec<u32>], rules: &[u32]) -> bool
     ensures { IsTrue result ↔ HasRules rules.now lists.now }
 {
     for list in lists {
-        if list.as_slice() == rules {
+        if same_list(list, rules) {
             return true;
         }
     }
     false
+}
+
+fn same_list(list: &[u32], rules: &[u32]) -> bool
+    ensures { IsTrue result ↔ (list.now ≡ rules.now) }
+{
+    list == rules
 }
 
 /// The numbers of the rules along a path.

@@ -27,10 +27,7 @@ pub(crate) fn used_rules(
     Ok(used)
 }
 
-fn use_paths(
-    entries: &[(u32, Vec<PathStep>)],
-    used: &mut Vec<u32>,
-) -> Result<(), OutOfMemory>
+fn use_paths(entries: &[(u32, Vec<PathStep>)], used: &mut Vec<u32>) -> Result<(), OutOfMemory>
     ensures { OnOk result (IsWith used.old.items (rules_in entries.now) used.new.items) }
 {
     for entry in entries {
