@@ -1,5 +1,5 @@
 -- A constraint that is made of paths by the ids of their ends says the same of the paths with their ends.
-use Rattle.std.specs.Prelude.{◌≡◌, ◌<◌, ◌↔◌, ◌⊎◌, ℕ, true, ◌||◌, ◌==◌, List, [], ◌∷◌, ◌++◌, All, Some, IsTrue, length, map, refl}
+use Rattle.std.specs.Prelude.{◌≡◌, ◌<◌, ◌↔◌, ◌⊎◌, ℕ, true, ◌||◌, ◌==◌, List, [], ◌∷◌, ◌++◌, All, Some, Ok, Err, Result, IsTrue, IfOk, length, map, refl}
 use Rattle.std.specs.Global.{Vec}
 use Rattle.std.proofs.Common.{inl, inr, arith, ap, sym, ◌∙◌, subst}
 use Rattle.std.proofs.lemmas.List.Elements.{All-head, All-tail, All-weaker}
@@ -36,6 +36,7 @@ same_rules_of pool (e ∷ es) = ap (λ (xs : List ℕ). rules_along e.1.items ++
 
 -- the rules along one of the paths are among those along all of them
 listed_in_rules : (es : List Entry) (e : Entry) (k : ℕ) → In e es → IsTrue (is_listed k (rules_along e.1.items)) → IsTrue (is_listed k (rules_in es))
+listed_in_rules [] e k i h = elim i [ ]
 listed_in_rules (x ∷ es) e k in_first h = listed_append k (rules_along x.1.items) (rules_in es) ∙ or_left (is_listed k (rules_along x.1.items)) (is_listed k (rules_in es)) h
 listed_in_rules (x ∷ es) e k (in_rest i) h =
     listed_append k (rules_along x.1.items) (rules_in es) ∙ or_right (is_listed k (rules_along x.1.items)) (is_listed k (rules_in es)) (listed_in_rules es e k i h)
@@ -112,6 +113,7 @@ module _ (inner outer : ℕ) (lefts rights : List Entry) (d : PeakConstraint) (h
         (λ t. subst (λ (o : ℕ). P inner o) h.outer_is (subst (λ (i : ℕ). P i d.outer) h.inner_is t), λ t. subst (λ (i : ℕ). P i d.outer) (sym h.inner_is) (subst (λ (o : ℕ). P inner o) (sym h.outer_is) t))
 
 entry_below : (n : ℕ) (es : List Entry) (e : Entry) → All (λ x. x.0 < n) es → In e es → e.0 < n
+entry_below n [] e below i = elim i [ ]
 entry_below n (x ∷ es) e below in_first = All-head (λ (y : Entry). y.0 < n) x es below
 entry_below n (x ∷ es) e below (in_rest i) = entry_below n es e (All-tail (λ (y : Entry). y.0 < n) x es below) i
 
@@ -195,3 +197,7 @@ constraint_for rules a b lefts rights some others peak left right inner outer d 
       are_paths = paths_of rules a b lefts rights peak left right extends lefts_below left_is right_is from_left from_right;
       says = says_of b peak inner outer lefts rights d distinct weaker rights_below inner_is outer_is of_lists;
     }
+
+pub ok_map : {A E : Type 0} (r : Result A E) (P Q : A → Type 0) → ((a : A) → P a → Q a) → IfOk r P → IfOk r Q
+ok_map (Ok a) P Q f h = f a h
+ok_map (Err e) P Q f h = tt

@@ -96,6 +96,7 @@ module _ (ranks : List ℕ) where
       go false e rest = let later : IsTrue (some_fit ranks a b lists) = rw e at h in let (m, i, k) = rest later in (m, in_rest i, k)
 
   pub some_fit_from : (a b : ℕ) (lists : List (Vec ℕ)) (l : Vec ℕ) → In l lists → RanksFit a b (map (rank_of ranks) l.items) → IsTrue (some_fit ranks a b lists)
+  some_fit_from a b [] l i h = elim i [ ]
   some_fit_from a b (x ∷ lists) l in_first h = or_left (fit_after false a b (map (rank_of ranks) l.items)) (some_fit ranks a b lists) ((fits false a b (map (rank_of ranks) l.items)).1 h)
   some_fit_from a b (x ∷ lists) l (in_rest i) h = or_right (fit_after false a b (map (rank_of ranks) x.items)) (some_fit ranks a b lists) (some_fit_from a b lists l i h)
 
@@ -112,6 +113,7 @@ module _ (ranks : List ℕ) where
       go false e rest = let later : IsTrue (some_meet ranks a b ms) = rw e at h in let (n, i, k) = rest later in (n, in_rest i, k)
 
   pub some_meet_from : (a b : ℕ) (ms : List Meeting) (m : Meeting) → In m ms → Meets a b m → IsTrue (some_meet ranks a b ms)
+  some_meet_from a b [] m i h = elim i [ ]
   some_meet_from a b (x ∷ ms) m in_first h =
       or_left (some_fit ranks a b m.lefts.items && some_fit ranks b a m.rights.items) (some_meet ranks a b ms)
       (both_true (some_fit ranks a b m.lefts.items) (some_fit ranks b a m.rights.items) h.0 h.1)

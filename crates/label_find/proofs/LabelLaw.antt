@@ -23,11 +23,8 @@ use Rattle.join_find.proofs.NewmanLaw.{along_length, along_each}
 use Rattle.path_lists.proofs.PathLaws.{paths_lead}
 use Rattle.label_find.specs.LabelRow.{PeakPaths, ArePathsOf, Closes, IsFirstClosing, FindsLabel}
 use Rattle.label_find.specs.Laws.{IsLabelStep}
+use Rattle.label_find.proofs.Closings.{holds_now}
 use Rattle.label_find.proofs.Searching.{solution_parts}
-
-holds_now : {A : Type 0} {fact : A → Type 0} {xs : List A} {a : A} → First fact xs a → fact a
-holds_now (first_here h) = h
-holds_now (first_later h rest) = holds_now rest
 
 -- a peak with the paths from its sides, of which two close it
 record IsClosed (rules : List RewriteRule) (ranks : List ℕ) (peak : PlacedPeak) (join : PathsOfJoin) : Type 0 where

@@ -1,5 +1,6 @@
 -- What the search over the constraints answers is so of the search over the paths.
 use Rattle.std.specs.Prelude.{◌≡◌, ◌<◌, ◌≤◌, ◌↔◌, ℕ, Bool, true, false, not, eqb, ◌||◌, ◌==◌, List, [], ◌∷◌, ◌++◌, All, Ok, Err, Result, Some, None, IsTrue, IfOk, length, slice_get, get_or, refl}
+use Rattle.std.specs.Global.{Vec}
 use Rattle.std.proofs.Common.{zero, suc, ap, sym, ◌∙◌, subst, arith}
 use Rattle.std.proofs.lemmas.Bool.Decides.{nat_tests}
 use Rattle.std.proofs.lemmas.Option.{same_Some, slice_get_within}
@@ -98,7 +99,7 @@ few_constraints rules peaks ds critical along = let few = few_peaks rules peaks 
 
 -- ---- the answers
 
-pub has_search : (rules : List RewriteRule) (peaks : List PlacedPeak) (ds : List PeakConstraint) → AreLinear rules → WithPaths rules peaks ds → HasSearch rules peaks
+abbrev pub has_search : (rules : List RewriteRule) (peaks : List PlacedPeak) (ds : List PeakConstraint) → AreLinear rules → WithPaths rules peaks ds → HasSearch rules peaks
 has_search rules peaks ds linear h = record {
   linear = linear;
   paths = h.paths;
@@ -127,7 +128,8 @@ same_paths system valid peak p q h k =
     let lefts = path_lists_once system valid peak.left p.lefts q.lefts h.from_left k.from_left in
     let rights = path_lists_once system valid peak.right p.rights q.rights h.from_right k.from_right in
     let peaks = h.is ∙ sym k.is in
-    cc (lefts, rights, peaks)
+    ap (λ (x : PlacedPeak). record { peak = x; lefts = p.lefts; rights = p.rights }) peaks
+    ∙ (ap (λ (x : List Listed). record { peak = q.peak; lefts = x; rights = p.rights }) lefts ∙ ap (λ (x : List Listed). record { peak = q.peak; lefts = q.lefts; rights = x }) rights)
 
 -- ranks that solve the search close each peak
 pub can_all_be_closed : (system : System) → IsSystem system → (peaks : List PlacedPeak) (ds : List PeakConstraint) (ranks : List ℕ) → WithPaths system.rules peaks ds
@@ -148,6 +150,23 @@ pub closings_along : (system : System) → IsSystem system → (ranks : List ℕ
 closings_along system valid ranks along_end along_end = along_end
 closings_along system valid ranks (along_item {a = peak} {b = p} h rest) (along_item {b = join} k later) =
     along_item (subst (λ (x : PeakPaths). IsFirstClosing ranks x join) (same_paths system valid peak k.paths p k.are_paths h) k.closing) (closings_along system valid ranks rest later)
+
+-- what the search answers, by its cases
+module _ (n m : ℕ) (ds : List PeakConstraint) (budget : ℕ) (rose : Type 0) (answer : Search (Vec ℕ)) (same : n ≡ m) (h : IsAnswer (λ (v : Vec ℕ). v.items) (label_puzzle n ds) budget rose answer) where
+  pub first_of : (a : Vec ℕ) → answer ≡ Found a → (solution_of (label_puzzle m ds) ≡ Some a.items) × (count_of (label_puzzle m ds) < budget)
+  first_of a is =
+      let P : ℕ → Search (Vec ℕ) → Type 0 = λ k x. IsAnswer (λ (v : Vec ℕ). v.items) (label_puzzle k ds) budget rose x in
+      subst (λ (k : ℕ). P k (Found a)) same (subst (P n) is h)
+
+  pub none_of : answer ≡ NotThere → (solution_of (label_puzzle m ds) ≡ None) × (count_of (label_puzzle m ds) < budget)
+  none_of is =
+      let P : ℕ → Search (Vec ℕ) → Type 0 = λ k x. IsAnswer (λ (v : Vec ℕ). v.items) (label_puzzle k ds) budget rose x in
+      subst (λ (k : ℕ). P k NotThere) same (subst (P n) is h)
+
+  pub spent_of : answer ≡ Spent → budget ≤ count_of (label_puzzle m ds)
+  spent_of is =
+      let P : ℕ → Search (Vec ℕ) → Type 0 = λ k x. IsAnswer (λ (v : Vec ℕ). v.items) (label_puzzle k ds) budget rose x in
+      subst (λ (k : ℕ). P k Spent) same (subst (P n) is h)
 
 pub labelling_found : {E : Type 0} (system : System) → IsSystem system → (peaks : List PlacedPeak) (ds : List PeakConstraint) (budget : ℕ) (ranks : List ℕ) (rose more : Type 0) (answer : Result (Search Labelled) E)
     → AreLinear system.rules → WithPaths system.rules peaks ds → solution_of (label_puzzle (length system.rules) ds) ≡ Some ranks → count_of (label_puzzle (length system.rules) ds) < budget → (rose → more)
