@@ -1,10 +1,10 @@
 -- The first two paths that close a peak, by the ids of their ends and by their ends.
-use Rattle.std.specs.Prelude.{◌≡◌, ◌≢◌, ◌<◌, ◌↔◌, ℕ, List, [], ◌∷◌, All, Some, IsTrue, length, map, refl}
+use Rattle.std.specs.Prelude.{◌≡◌, ◌≢◌, ◌<◌, ◌↔◌, ℕ, List, All, Some, length, map}
 use Rattle.std.proofs.Common.{ap, sym, ◌∙◌, subst}
-use Rattle.trs_defs.specs.Member.{In, in_first, in_rest}
+use Rattle.trs_defs.specs.Member.{In}
 use Rattle.trs_defs.specs.Tree.{Tree}
 use Rattle.trs_defs.specs.System.{RewriteRule}
-use Rattle.trs_defs.proofs.Members.{in_map, of_map, no_in}
+use Rattle.trs_defs.proofs.Members.{in_map, of_map}
 use Rattle.abstract_confluence.specs.RanksFit.{RanksFit}
 use Rattle.confluence_theory.specs.RuleRanks.{rank_of}
 use Rattle.term_pool.specs.Pooled.{AreDistinct, Extends, tree_at}

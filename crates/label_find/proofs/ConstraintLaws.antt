@@ -1,5 +1,5 @@
 -- A constraint that is made of paths by the ids of their ends says the same of the paths with their ends.
-use Rattle.std.specs.Prelude.{◌≡◌, ◌<◌, ◌↔◌, ◌⊎◌, ℕ, true, ◌||◌, ◌==◌, List, [], ◌∷◌, ◌++◌, All, Some, Ok, Err, Result, IsTrue, IfOk, length, map, refl}
+use Rattle.std.specs.Prelude.{◌≡◌, ◌<◌, ◌↔◌, ◌⊎◌, ℕ, ◌||◌, ◌==◌, List, [], ◌∷◌, ◌++◌, All, Some, Ok, Err, Result, IsTrue, IfOk, length, map, refl}
 use Rattle.std.specs.Global.{Vec}
 use Rattle.std.proofs.Common.{inl, inr, arith, ap, sym, ◌∙◌, subst}
 use Rattle.std.proofs.lemmas.List.Elements.{All-head, All-tail, All-weaker}
@@ -21,11 +21,10 @@ use Rattle.rewrite_core.specs.PlacedPeak.{PlacedPeak}
 use Rattle.rule_label.specs.Labelled.{ranks_along}
 use Rattle.path_lists.specs.PathList.{IsPathList}
 use Rattle.path_lists.specs.Adding.{Entry}
-use Rattle.label_find.specs.declared.meeting.Meeting.{Meeting}
 use Rattle.label_find.specs.declared.constraint.PeakConstraint.{PeakConstraint}
-use Rattle.label_find.specs.LabelRow.{PeakPaths, ArePathsOf, rules_along, rules_of, rules_used, Closes, CanClose}
+use Rattle.label_find.specs.LabelRow.{PeakPaths, ArePathsOf, rules_along, rules_of, rules_used, CanClose}
 use Rattle.label_find.specs.Lists.{rules_in, IsAlong}
-use Rattle.label_find.specs.Constraint.{some_fit, some_meet}
+use Rattle.label_find.specs.Constraint.{some_meet}
 use Rattle.label_find.specs.ConstraintPuzzle.{is_met, IsConstraintOf, UsesLists, SaysOf, IsConstraintFor}
 use Rattle.label_find.proofs.FitTests.{same_ranks_along, some_fit_has, some_fit_from, some_meet_has, some_meet_from}
 use Rattle.label_find.proofs.RuleLists.{listed_append}

@@ -1,5 +1,5 @@
 -- Tests of ranks that fit decide whether they fit.
-use Rattle.std.specs.Prelude.{◌≡◌, ◌≢◌, ◌<◌, ◌≤◌, ◌↔◌, ℕ, Bool, true, false, cond, not, ◌&&◌, ◌||◌, ◌==◌, nat_lt, List, [], ◌∷◌, ◌+◌, map, length, IsTrue, refl}
+use Rattle.std.specs.Prelude.{◌≡◌, ◌<◌, ◌≤◌, ◌↔◌, ℕ, Bool, true, false, cond, not, ◌&&◌, ◌||◌, ◌==◌, nat_lt, List, [], ◌∷◌, ◌+◌, map, length, IsTrue, refl}
 use Rattle.std.specs.Global.{Vec}
 use Rattle.std.proofs.Common.{ap, sym, ◌∙◌, drop, get_or, arith}
 use Rattle.std.proofs.lemmas.List.{drop_more}

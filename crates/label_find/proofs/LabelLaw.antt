@@ -1,22 +1,21 @@
 -- The ranks and paths that are found meet the conditions on decreasing peaks.
-use Rattle.std.specs.Prelude.{◌≡◌, ◌<◌, ◌^◌, ℕ, ◌+◌, true, eqb, List, [], ◌∷◌, All, Some, Ok, length, zip, refl}
-use Rattle.std.proofs.Common.{zero, suc, ap, sym, ◌∙◌, subst, get_or, arith}
+use Rattle.std.specs.Prelude.{◌≡◌, ◌<◌, ◌^◌, ℕ, List, [], ◌∷◌, All, Ok, refl}
+use Rattle.std.proofs.Common.{zero, suc, sym, ◌∙◌, subst, arith}
 use Rattle.trs_defs.specs.System.{System, RewriteRule}
 use Rattle.trs_defs.specs.Path.{PlacedRule, Follows}
 use Rattle.trs_defs.specs.Tree.{Tree}
 use Rattle.abstract_confluence.specs.RanksFit.{RanksFit}
 use Rattle.confluence_theory.specs.RuleRanks.{rank_of}
-use Rattle.assign_search.specs.Puzzle.{Puzzle, is_solution, solution_of}
-use Rattle.assign_search.proofs.Laws.{found_solves, InDomainFrom, prefixes_sound}
-use Rattle.term_pool.specs.Listed.{Listed}
-use Rattle.rewrite_core.specs.Check.{goes_on, holds, returned, each, Check}
+use Rattle.assign_search.specs.Puzzle.{Puzzle}
+use Rattle.assign_search.proofs.Laws.{found_solves, InDomainFrom}
+use Rattle.rewrite_core.specs.Check.{goes_on, holds}
 use Rattle.rewrite_core.specs.PathCheck.{followed}
 use Rattle.rewrite_core.specs.PlacedPeak.{PlacedPeak}
 use Rattle.rewrite_core.specs.PathsOfJoin.{PathsOfJoin}
 use Rattle.crit_pairs.specs.PeakList.{ListsPeaks}
 use Rattle.crit_pairs.specs.PeaksCheck.{listed}
-use Rattle.rule_label.specs.Labelled.{ranks_along, joins_decreasing, are_decreasing, label_conditions}
-use Rattle.join_find.specs.First.{Along, along_end, along_item, First, first_here, first_later}
+use Rattle.rule_label.specs.Labelled.{ranks_along, joins_decreasing}
+use Rattle.join_find.specs.First.{Along, along_end, along_item}
 use Rattle.join_find.proofs.Firsts.{first_in_list}
 use Rattle.join_find.proofs.LinearRules.{linear_rules_pass}
 use Rattle.join_find.proofs.NewmanLaw.{along_length, along_each}

@@ -1,5 +1,5 @@
 -- Meetings, made left path by left path.
-use Rattle.std.specs.Prelude.{◌≡◌, ◌<◌, ◌≤◌, ◌⊎◌, ℕ, ◌+◌, List, [], ◌∷◌, ◌++◌, length, take}
+use Rattle.std.specs.Prelude.{◌≡◌, ◌<◌, ◌≤◌, ℕ, ◌+◌, List, [], ◌∷◌, ◌++◌, length, take}
 use Rattle.std.proofs.Common.{sym, subst, get_or, inl, inr}
 use Rattle.std.proofs.lemmas.List.{take_all}
 use Rattle.trs_defs.specs.Member.{In}

@@ -1,10 +1,10 @@
 -- The numbers of rules in peaks and along paths are those of rules, and peaks are not many.
-use Rattle.std.specs.Prelude.{◌≡◌, ◌<◌, ◌≤◌, ◌⊎◌, ℕ, ◌+◌, Bool, true, false, ◌||◌, ◌==◌, List, [], ◌∷◌, ◌++◌, Ok, Some, IsTrue, length, slice_get, refl}
-use Rattle.std.proofs.Common.{ap, sym, ◌∙◌, subst, inl, inr, arith}
+use Rattle.std.specs.Prelude.{◌≡◌, ◌<◌, ◌≤◌, ◌⊎◌, ℕ, ◌+◌, Bool, true, false, ◌==◌, List, [], ◌∷◌, ◌++◌, Ok, IsTrue, length, refl}
+use Rattle.std.proofs.Common.{ap, sym, subst, inl, inr, arith}
 use Rattle.std.proofs.lemmas.Option.{slice_get_within}
 use Rattle.std.proofs.lemmas.Bool.Decides.{nat_tests}
 use Rattle.trs_defs.specs.Member.{In, in_first, in_rest}
-use Rattle.trs_defs.specs.Tree.{Tree, Trees, var, app}
+use Rattle.trs_defs.specs.Tree.{Tree, var, app}
 use Rattle.trs_defs.specs.Size.{size_of}
 use Rattle.trs_defs.specs.Variable.{is_listed}
 use Rattle.trs_defs.specs.System.{RewriteRule}

@@ -1,12 +1,12 @@
 -- Lists of rules along paths, made path by path.
-use Rattle.std.specs.Prelude.{◌≡◌, ◌≢◌, ◌<◌, ◌≤◌, ◌⊎◌, ℕ, ◌+◌, Bool, true, false, ◌||◌, ◌==◌, List, [], ◌∷◌, ◌++◌, IsTrue, length, take, map, refl}
+use Rattle.std.specs.Prelude.{◌≡◌, ◌≢◌, ◌<◌, ◌≤◌, ◌⊎◌, ℕ, ◌+◌, Bool, true, false, ◌||◌, ◌==◌, List, [], ◌∷◌, ◌++◌, length, take, refl}
 use Rattle.std.specs.Global.{Vec}
 use Rattle.std.proofs.Common.{suc, ap, sym, ◌∙◌, subst, get_or, inl, inr, append-nil, append_assoc, arith}
 use Rattle.std.proofs.Math.Seq.{take-suc}
 use Rattle.std.proofs.Math.Decide.{ℕ_discrete}
 use Rattle.std.proofs.lemmas.List.{take_all, map-append}
 use Rattle.std.proofs.lemmas.Bool.Decides.{nat_tests}
-use Rattle.trs_defs.specs.Member.{In, in_first, in_rest}
+use Rattle.trs_defs.specs.Member.{In, in_first}
 use Rattle.trs_defs.specs.Variable.{is_listed}
 use Rattle.trs_defs.specs.Path.{PlacedRule}
 use Rattle.trs_defs.proofs.Members.{in_left, in_right, in_either, in_or, no_in}

@@ -1,13 +1,13 @@
 -- What the search over the constraints answers is so of the search over the paths.
-use Rattle.std.specs.Prelude.{◌≡◌, ◌<◌, ◌≤◌, ◌↔◌, ℕ, Bool, true, false, not, eqb, ◌||◌, ◌==◌, List, [], ◌∷◌, ◌++◌, All, Ok, Err, Result, Some, None, IsTrue, IfOk, length, slice_get, get_or, refl}
+use Rattle.std.specs.Prelude.{◌≡◌, ◌<◌, ◌≤◌, ℕ, true, false, not, eqb, ◌==◌, List, [], ◌∷◌, All, Ok, Err, Result, Some, None, IsTrue, IfOk, length, slice_get, get_or, refl}
 use Rattle.std.specs.Global.{Vec}
 use Rattle.std.proofs.Common.{zero, suc, ap, sym, ◌∙◌, subst, arith}
 use Rattle.std.proofs.lemmas.Bool.Decides.{nat_tests}
 use Rattle.std.proofs.lemmas.Option.{same_Some, slice_get_within}
-use Rattle.trs_defs.specs.Member.{In, in_first, in_rest}
+use Rattle.trs_defs.specs.Member.{In}
 use Rattle.trs_defs.specs.Variable.{is_listed}
 use Rattle.trs_defs.specs.System.{System, IsSystem, RewriteRule}
-use Rattle.trs_defs.proofs.Members.{in_or, no_in, get_of_in, in_of_get}
+use Rattle.trs_defs.proofs.Members.{get_of_in, in_of_get}
 use Rattle.assign_search.specs.Puzzle.{Puzzle, any_below, solution_of, is_solution, count_of}
 use Rattle.assign_search.specs.Searched.{IsAnswer}
 use Rattle.assign_search.specs.declared.search.Search.{Search}
@@ -25,10 +25,10 @@ use Rattle.join_find.proofs.NewmanLaw.{along_length}
 use Rattle.path_lists.proofs.PathsOnce.{path_lists_once}
 use Rattle.label_find.specs.declared.constraint.PeakConstraint.{PeakConstraint}
 use Rattle.label_find.specs.declared.label.Labelled.{Labelled}
-use Rattle.label_find.specs.LabelRow.{PeakPaths, ArePathsOf, rules_used, CanClose, IsLabelSearch, HasSearch, IsFirstClosing, FindsLabel}
+use Rattle.label_find.specs.LabelRow.{PeakPaths, ArePathsOf, CanClose, IsLabelSearch, HasSearch, IsFirstClosing, FindsLabel}
 use Rattle.label_find.specs.LabelAnswers.{IsLabelling, IsLabelledBy}
-use Rattle.label_find.specs.ConstraintPuzzle.{is_met, at_constraint, label_puzzle, KeepsRules, SaysOf, IsConstraintFor}
-use Rattle.label_find.specs.Closing.{CanBeClosed, CanAllBeClosed, IsJoinBy}
+use Rattle.label_find.specs.ConstraintPuzzle.{is_met, label_puzzle, KeepsRules, SaysOf, IsConstraintFor}
+use Rattle.label_find.specs.Closing.{CanAllBeClosed, IsJoinBy}
 use Rattle.label_find.proofs.ConstraintReads.{at_this}
 use Rattle.label_find.proofs.Numbers.{peak_numbers, used_below, few_peaks}
 

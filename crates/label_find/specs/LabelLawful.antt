@@ -1,5 +1,5 @@
 -- The search for ranks is lawful: a constraint depends on the ranks of the rules that it uses alone.
-use Rattle.std.specs.Prelude.{◌≡◌, ◌<◌, ℕ, true, false, ◌||◌, ◌==◌, ◌&&◌, List, [], ◌∷◌, All, IsTrue, length, map, get_or, slice_get, unwrap_or}
+use Rattle.std.specs.Prelude.{◌≡◌, ◌<◌, ℕ, true, false, ◌||◌, ◌==◌, ◌&&◌, List, [], ◌∷◌, All, IsTrue, map, get_or}
 use Rattle.std.specs.Global.{Vec}
 use Rattle.std.proofs.Common.{zero, suc, refl, ap, ap₂, sym, ◌∙◌, arith}
 use Rattle.std.proofs.lemmas.Bool.Decides.{nat_tests}

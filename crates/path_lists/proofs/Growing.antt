@@ -1,6 +1,6 @@
 -- A step by a rule with a linear right side makes a term larger by at most that side.
 use Rattle.std.specs.Prelude.{◌≡◌, ◌≢◌, ◌<◌, ◌≤◌, ℕ, ◌+◌, ◌*◌, Bool, true, false, ◌==◌, if◌then◌else◌, List, [], ◌∷◌, Some, length, IsTrue, slice_get, refl}
-use Rattle.std.proofs.Common.{zero, suc, ap, sym, ◌∙◌, subst, get_or, arith, inl, inr, add-mul, suc-mul, mul-le-mul_right}
+use Rattle.std.proofs.Common.{zero, suc, ap, sym, ◌∙◌, subst, get_or, arith, add-mul, suc-mul, mul-le-mul_right}
 use Rattle.std.proofs.Math.Decide.{ℕ_discrete}
 use Rattle.std.proofs.lemmas.Bool.Decides.{nat_tests}
 use Rattle.std.proofs.lemmas.Option.{slice_get_read, slice_get_within, same_Some}

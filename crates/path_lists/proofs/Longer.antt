@@ -1,5 +1,5 @@
 -- Lists of paths that end at 256, and what is added to them.
-use Rattle.std.specs.Prelude.{◌≡◌, ◌<◌, ◌≤◌, ℕ, ◌+◌, ◌-◌, ◌*◌, false, List, [], ◌∷◌, ◌++◌, All, Some, length, take, slice_get, refl}
+use Rattle.std.specs.Prelude.{◌≡◌, ◌<◌, ◌≤◌, ℕ, ◌+◌, List, [], ◌∷◌, ◌++◌, All, Some, length, take, slice_get, refl}
 use Rattle.std.specs.Global.{Vec}
 use Rattle.std.proofs.Common.{zero, suc, ap, sym, ◌∙◌, subst, get_or, drop, append_assoc, append-nil, length-append, arith}
 use Rattle.std.proofs.Math.Seq.{take-suc}
@@ -15,12 +15,12 @@ use Rattle.term_pool.specs.Pooled.{Extends, StandsFor, tree_at}
 use Rattle.term_pool.specs.Redexes.{HasRedexes, IsRedexAt}
 use Rattle.term_pool.specs.Listed.{Listed}
 use Rattle.term_pool.specs.ListedIds.{listed, listed_at}
-use Rattle.term_pool.specs.Reach.{AreReducts, no_step, kept, left_out, AreCandidates, no_entry, expanded, too_deep, after_step}
+use Rattle.term_pool.specs.Reach.{AreReducts, no_step, kept, left_out, AreCandidates, no_entry, expanded, after_step}
 use Rattle.term_pool.proofs.ListingLaws.{reducts_there, reducts_append, candidates_append}
 use Rattle.term_pool.proofs.ReachedIds.{same_listed, length_listed}
 use Rattle.term_pool.proofs.PoolTrees.{stands_at}
 use Rattle.path_lists.specs.PathList.{no_steps}
-use Rattle.path_lists.specs.Adding.{Entry, IsEntryAt, AddsPaths, most_ids, IsKeptEnd, IsLeftOut}
+use Rattle.path_lists.specs.Adding.{Entry, IsEntryAt, AddsPaths, IsKeptEnd, IsLeftOut}
 use Rattle.path_lists.proofs.PathLaws.{IsLookedAt}
 
 pub take_again : {A : Type 0} (n : ℕ) (xs ys : List A) → take n (take n xs ++ ys) ≡ take n (xs ++ ys)

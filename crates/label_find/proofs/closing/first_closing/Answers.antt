@@ -1,5 +1,4 @@
 use Rattle.std.proofs.Common.{◌∙◌}
-use Rattle.trs_defs.specs.Member.{In}
 use Rattle.join_find.specs.First.{First, Some_in, None_in}
 use Rattle.join_find.proofs.Firsts.{first_read, first_in_list, none_further, none_of_all}
 use Rattle.path_lists.specs.Adding.{Entry}

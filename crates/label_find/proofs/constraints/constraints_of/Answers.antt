@@ -1,4 +1,4 @@
-use Rattle.std.proofs.Common.{◌≡◌, ◌≤◌, ◌∙◌, List, [], refl, sym, subst, arith}
+use Rattle.std.proofs.Common.{◌∙◌, List, [], refl, sym, subst, arith}
 use Rattle.label_find.specs.declared.constraint.PeakConstraint.{PeakConstraint}
 use Rattle.join_find.specs.First.{Along, along_end}
 use Rattle.label_find.specs.ConstraintPuzzle.{IsConstraintFor}

@@ -1,4 +1,4 @@
-use Rattle.std.specs.Prelude.{ℕ, List, ◌≡◌, ◌+◌, ◌∷◌, false, map, drop}
+use Rattle.std.specs.Prelude.{ℕ, List, ◌+◌, ◌∷◌, map, drop}
 use Rattle.std.proofs.Common.{◌∙◌, ap, sym}
 use Rattle.std.proofs.lemmas.List.{drop_all}
 use Rattle.confluence_theory.specs.RuleRanks.{rank_of}

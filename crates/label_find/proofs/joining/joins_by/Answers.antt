@@ -1,4 +1,4 @@
-use Rattle.std.proofs.Common.{◌≡◌, ◌≤◌, ◌∙◌, List, [], refl, sym, subst, arith}
+use Rattle.std.proofs.Common.{◌∙◌, List, [], refl, sym, subst, arith}
 use Rattle.rewrite_core.specs.PathsOfJoin.{PathsOfJoin}
 use Rattle.join_find.specs.First.{Along, along_end}
 use Rattle.label_find.specs.Closing.{IsJoinBy}

@@ -1,4 +1,4 @@
-use Rattle.std.proofs.Common.{ℕ, List, Some, All, ◌<◌, ◌≤◌, ◌∙◌, length, ap, sym, subst, arith}
+use Rattle.std.proofs.Common.{ℕ, List, Some, All, ◌<◌, ◌∙◌, length, ap, sym, subst, arith}
 use Rattle.trs_defs.specs.System.{RewriteRule}
 use Rattle.label_find.specs.LabelRow.{no_ranks}
 use Rattle.label_find.specs.ConstraintPuzzle.{KeepsRules}

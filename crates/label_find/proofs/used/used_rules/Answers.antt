@@ -1,4 +1,4 @@
-use Rattle.std.proofs.Common.{ℕ, List, [], ◌∷◌, ◌++◌, subst}
+use Rattle.std.proofs.Common.{ℕ, List, [], ◌∷◌, subst}
 use Rattle.label_find.specs.Lists.{rules_in, IsWith}
 use Rattle.label_find.proofs.RuleLists.{with_then}
 use Rattle.label_find.proofs.used.used_rules.Goals as goal

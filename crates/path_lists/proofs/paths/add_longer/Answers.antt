@@ -1,4 +1,4 @@
-use Rattle.std.proofs.Common.{length, ◌<◌, ◌≤◌, [], ◌∷◌, take, arith}
+use Rattle.std.proofs.Common.{length, ◌<◌, ◌≤◌, [], ◌∷◌, arith}
 use Rattle.term_pool.specs.Pooled.{tree_at}
 use Rattle.term_pool.specs.Redexes.{HasRedexes}
 use Rattle.term_pool.specs.Reach.{AreReducts, AreCandidates, no_step, no_entry, too_deep}
