@@ -1,5 +1,5 @@
 -- Small terms have no big coefficient where the coefficients of their symbols are at most 2.
-use Rattle.std.specs.Prelude.{◌≡◌, ◌<◌, ◌≤◌, ℕ, ◌+◌, ◌*◌, ◌^◌, ◌⊎◌, Bool, true, false, ◌||◌, ◌&&◌, ◌==◌, if◌then◌else◌, nat_lt}
+use Rattle.std.specs.Prelude.{◌≡◌, ◌<◌, ◌≤◌, ℕ, ◌*◌, ◌^◌, Bool, true, false, ◌||◌, ◌==◌, if◌then◌else◌, nat_lt}
 use Rattle.std.proofs.Common.{suc, inl, inr, sym, arith, ◌∙◌}
 use Rattle.std.proofs.lemmas.Bool.Decides.{nat_tests}
 use Rattle.trs_defs.specs.Tree.{Tree, Trees, var, app, nil, cons}
@@ -7,7 +7,7 @@ use Rattle.trs_defs.specs.System.{RewriteRule}
 use Rattle.pair_theory.specs.Subterm.{Sub, itself, under, Subs, in_head, in_tail}
 use Rattle.order_theory.specs.LinearInterpretation.{constant, constants, coefficient, coefficients}
 use Rattle.order_theory.proofs.Coefficients.{mul_le}
-use Rattle.poly_lin.specs.TooBig.{HasBigCoefficient, EitherIsBig}
+use Rattle.poly_lin.specs.TooBig.{HasBigCoefficient}
 use Rattle.assign_search.proofs.Refuting.{or_left, or_right}
 use Rattle.order_space.proofs.Lawful.{both_true}
 use Rattle.order_problem.specs.OrderSpace.{occurs_in}

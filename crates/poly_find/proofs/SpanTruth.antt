@@ -8,7 +8,7 @@ use Rattle.trs_defs.specs.System.{RewriteRule}
 use Rattle.assign_search.specs.Puzzle.{Covers}
 use Rattle.assign_search.proofs.Refuting.{true_or_false}
 use Rattle.order_space.specs.Slots.{Slot, slot, table_of, puzzle_of}
-use Rattle.order_problem.specs.OrderSpace.{parts_from, slots_of, arity_with_mark, some_falls, occurs_in}
+use Rattle.order_problem.specs.OrderSpace.{parts_from, slots_of, arity_with_mark, some_falls}
 use Rattle.order_problem.specs.Distinct.{AreDistinct}
 use Rattle.order_problem.proofs.Constraints.{truth_falls, truth_last, uses_all, uses_symbols, last_number}
 use Rattle.poly_find.specs.declared.spans.Span.{Span}

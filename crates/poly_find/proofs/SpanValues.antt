@@ -4,7 +4,7 @@ use Rattle.std.proofs.Common.{zero, suc, inl, inr, refl, sym, ap, ap₂, subst, 
 use Rattle.std.proofs.lemmas.Bool.{cases_lt}
 use Rattle.std.proofs.lemmas.Bool.Decides.{nat_tests}
 use Rattle.std.proofs.lemmas.List.{get_or-set_other, get_or-set_same, length-set}
-use Rattle.trs_defs.specs.Member.{In, in_first, in_rest}
+use Rattle.trs_defs.specs.Member.{In}
 use Rattle.trs_defs.proofs.Members.{in_or, no_in}
 use Rattle.trs_defs.specs.Variable.{is_listed}
 use Rattle.assign_search.proofs.Refuting.{true_or_false}

@@ -4,7 +4,7 @@ use Rattle.std.specs.List.Sorted.{IsStrictlyIncreasing}
 use Rattle.std.proofs.Common.{suc, inl, inr, refl, sym, ap, subst, arith, ◌∙◌}
 use Rattle.std.proofs.lemmas.List.{length-map}
 use Rattle.trs_defs.specs.Member.{In, in_first, in_rest}
-use Rattle.trs_defs.proofs.Members.{in_or, no_in, in_left, in_right, in_either, in_of_get, get_of_in}
+use Rattle.trs_defs.proofs.Members.{in_or, no_in, in_either, in_of_get, get_of_in}
 use Rattle.trs_defs.specs.WellFormed.{IsWellFormed}
 use Rattle.trs_defs.specs.System.{RewriteRule, System, IsSystem}
 use Rattle.pair_theory.specs.DependencyPair.{DependencyPair, dependency_pairs}
@@ -22,7 +22,6 @@ use Rattle.usable_rules.proofs.Chosen.{usable_within}
 use Rattle.order_space.specs.Slots.{puzzle_of}
 use Rattle.order_space.specs.Outcome.{IsFinding, IsNotThere, IsSpent}
 use Rattle.order_find.proofs.FewPairs.{few_taken, taken_in, roots_small}
-use Rattle.order_find.proofs.RootSets.{in_at}
 use Rattle.order_problem.specs.OrderRow.{AreSymbols}
 use Rattle.order_problem.specs.OrderOver.{IsOrderOver}
 use Rattle.order_problem.specs.Distinct.{AreDistinct}

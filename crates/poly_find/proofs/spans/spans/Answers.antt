@@ -1,6 +1,5 @@
-use Rattle.std.proofs.Common.{◌≡◌, ◌+◌, ap, get_or, refl, arith}
+use Rattle.std.proofs.Common.{◌+◌, ap, get_or, refl, arith}
 use Rattle.poly_find.proofs.SpanValues.{one_span_more}
-use Rattle.poly_find.specs.PolyPlaces.{parts_by}
 use Rattle.poly_find.proofs.spans.spans.Goals as goal
 
 pub loop-f-preserved : goal.loop-f-preserved
