@@ -1,5 +1,5 @@
 //! The paths of up to four steps from a term.
-ghost use Rattle.std.specs.Prelude.{◌≡◌, ◌<◌, ◌≤◌, ◌+◌, [], ◌∷◌, All, length, IfOk, IfSome, IfNone, OnOk, IsTrue, ◌↔◌};
+ghost use Rattle.std.specs.Prelude.{◌≡◌, ◌<◌, ◌≤◌, ◌+◌, ◌++◌, [], ◌∷◌, All, length, IfOk, IfSome, IfNone, OnOk, IsTrue, ◌↔◌};
 ghost use Rattle.trs_core.specs.View.{tree};
 ghost use Rattle.trs_defs.specs.Size.{size_of, within_limits};
 ghost use Rattle.term_pool.specs.Pooled.{Extends, tree_at};
@@ -14,7 +14,7 @@ ghost use Rattle.path_lists.specs.Adding.{IsKeptEnd, IsLeftOut};
 use crate::growth::stays_small;
 use rewrite_core::copy_path;
 use std::alloc::Global;
-use term_pool::{MOST_IDS, PathStep, Pool, RulesByRoot, one_longer, paths_keep_narrow};
+use term_pool::{MOST_IDS, PathStep, Pool, RulesByRoot, paths_keep_narrow};
 use trs_core::{OutOfMemory, Term, Trs};
 
 const MOST_STEPS: usize = 4;
@@ -138,10 +138,22 @@ fn add_path(
     match small_end(alloc, pool, trs, is_sure, entry, step)? {
         None => Ok(()),
         Some(end) => {
-            paths.push((end, one_longer(alloc, &entry.1, step)?))?;
+            paths.push((end, longer(alloc, &entry.1, step)?))?;
             Ok(())
         }
     }
+}
+
+/// The path with one more step. Its memory is taken once.
+fn longer(alloc: Global, path: &[PathStep], step: &PathStep) -> Result<Vec<PathStep>, OutOfMemory>
+    ensures { IfOk result (λ longer. longer.items ≡ path.now ++ step.now ∷ []) }
+{
+    let mut longer = Vec::with_capacity(alloc, MOST_STEPS)?;
+    for earlier in path {
+        longer.push(earlier.copy(alloc)?)?;
+    }
+    longer.push(step.copy(alloc)?)?;
+    Ok(longer)
 }
 
 /// The id of the path's end after one more step, or `None` where that is too large. Then nothing is

@@ -12,5 +12,5 @@ pub returns-in_ok-push-in-Some-clause-adds : goal.returns-in_ok-push-in-Some-cla
 returns-in_ok-push-in-Some-clause-adds c =
     let end = rw c.in-Some.is at c.in_ok-small_end.ensures.end in
     one_added c.args.trs.now.rules (listed c.args.pool.now c.args.entry.now) c.args.step.now c.args.pool.now c.small_end.new.pool c.args.paths.now.items c.push.new.self.items c.in-Some.end
-    c.in_ok-one_longer-in-Some.field-0 c.in_ok-small_end.ensures.kept c.requires.below c.requires.space end c.in_ok-push-in-Some.ensures.items
-    (rw c.deref.ensures.value at c.in_ok-one_longer-in-Some.ensures)
+    c.in_ok-longer-in-Some.field-0 c.in_ok-small_end.ensures.kept c.requires.below c.requires.space end c.in_ok-push-in-Some.ensures.items
+    (rw c.deref.ensures.value at c.in_ok-longer-in-Some.ensures)
