@@ -1,4 +1,4 @@
-use Rattle.std.proofs.Common.{◌<◌, ◌^◌, ◌+◌, ◌-◌, true, subst, sym, arith}
+use Rattle.std.proofs.Common.{◌≡◌, ◌<◌, ◌^◌, ◌+◌, ◌-◌, true, refl, subst, sym, ap, ◌∙◌, arith}
 use Rattle.std.proofs.lemmas.Result.{err_from_is_err_and}
 use Rattle.trs_core.specs.View.{tree}
 use Rattle.kbo_order.proofs.Viewers.{SeenBelow, either_big, next_is_from, seen_first, seen_more, seen_all, unseen, unset, is_set}
