@@ -1,4 +1,5 @@
-//! Systems as texts, with their pairs as rules on marked terms and the symbols of a search in order.
+//! Systems as texts, with their pairs as rules on marked terms and the symbols of a search in
+//! order.
 use std::alloc::Global;
 use std::test::Fail;
 use trs_core::{Args, OutOfMemory, Rule, Term, Trs};

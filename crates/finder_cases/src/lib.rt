@@ -1,5 +1,5 @@
-//! What tests of finders share: systems as texts, the numbers of all pairs, and a stop that comes at
-//! a given asking.
+//! What tests of finders share: systems as texts, the numbers of all pairs, and a stop that comes
+//! at a given asking.
 #![tactic(auto)]
 
 mod cases;

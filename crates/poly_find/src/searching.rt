@@ -16,10 +16,10 @@ use poly_lin::LinTable;
 use std::alloc::Global;
 use trs_core::{OutOfMemory, Rule};
 
-/// The interpretation of these symbols by which the rules and the marked pairs fall weakly, and some
-/// pair strictly: the first with values 0 to 2, a slot for the constant and one for the coefficient
-/// of each argument of a symbol. The budget is that of `first_solution`; a test of values takes no
-/// memory.
+/// The interpretation of these symbols by which the rules and the marked pairs fall weakly, and
+/// some pair strictly: the first with values 0 to 2, a slot for the constant and one for the
+/// coefficient of each argument of a symbol. The budget is that of `first_solution`; a test of
+/// values takes no memory.
 pub fn search_linear<P: Stop>(
     alloc: Global,
     arities: &[u8],

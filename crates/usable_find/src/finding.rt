@@ -18,11 +18,11 @@ use std::alloc::Global;
 use trs_core::{OutOfMemory, Trs};
 use usable_rules::usable_for;
 
-/// A linear interpretation that makes the usable rules of the problem weak and removes a pair. It is
-/// the first solution of a finite search: for each symbol of the usable rules and below the roots
-/// of the pairs, ascending, and behind them for each marked root of the pairs, ascending, a slot
-/// for its constant and one for the coefficient of each of its arguments, with the values 0 to 2.
-/// Each usable rule falls weakly, then each pair does, and last some pair falls strictly; a
+/// A linear interpretation that makes the usable rules of the problem weak and removes a pair. It
+/// is the first solution of a finite search: for each symbol of the usable rules and below the
+/// roots of the pairs, ascending, and behind them for each marked root of the pairs, ascending, a
+/// slot for its constant and one for the coefficient of each of its arguments, with the values 0 to
+/// 2. Each usable rule falls weakly, then each pair does, and last some pair falls strictly; a
 /// comparison that is too big is false. The budget is that of `first_solution`.
 ///
 /// `stop` is asked before each prefix of values.
