@@ -27,8 +27,8 @@ const MOST_NODES: u64 = 4_096;
 pub const MOST_OF_PATHS: u32 = 1_114_112;
 
 /// The paths from a term, of up to 4 steps, with the ids of their ends: by their length, then by
-/// the order of the path without its last step, then by that of the redexes. The list has the first
-/// 256, and of these only such with ends of up to 4,096 nodes within the limits. `growth` is by how
+/// the order of the path without its last step, then by that of the redexes. Ends of more than 4,096
+/// nodes or past a limit are left out; of the others the list has the first 256. `growth` is by how
 /// many nodes a step makes a term larger at most: where the ends must be small by that alone, their
 /// nodes are not counted.
 pub fn paths_from(
