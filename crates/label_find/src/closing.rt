@@ -14,8 +14,8 @@ use std::alloc::Global;
 use term_pool::Pool;
 use trs_core::OutOfMemory;
 
-/// The first left path for which some right path closes the peak of two rules, and for it the first
-/// such.
+/// The first left path for which some right path closes the peak of two rules, and for it the
+/// first such.
 pub(crate) fn first_closing(
     alloc: Global,
     pool: &Pool,

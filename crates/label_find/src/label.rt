@@ -30,16 +30,16 @@ pub struct Labelled {
     pub joins: Vec<Join>,
 }
 
-/// Ranks of the rules by which each peak is decreasing: the first solution of the search over the
-/// ranks 0 to 3 of each rule. The constraint of a peak is that some two of its paths lead to one term
-/// and fit: of the first 256 from each side, of at most 4 steps and ends of at most 4,096 nodes. It
-/// uses the peak's two rules and all rules of these paths. The paths that are found are the first left
-/// path for which some right one closes the peak, and for it the first such. All rules must be
-/// linear. The budget is that of `first_solution`.
+/// Ranks of the rules by which each peak is decreasing: the first solution of the search over
+/// the ranks 0 to 3 of each rule. The constraint of a peak is that some two of its paths lead to
+/// one term and fit: of the first 256 from each side, of at most 4 steps and ends of at most
+/// 4,096 nodes. It uses the peak's two rules and all rules of these paths. The paths that are
+/// found are the first left path for which some right one closes the peak, and for it the first
+/// such. All rules must be linear. The budget is that of `first_solution`.
 ///
 /// `stop` is asked first, before each peak and before each prefix of ranks, and before each peak
-/// again once ranks are found. A constraint is tested with no memory: for each end in which paths
-/// from both sides meet, the lists of rules along them are kept, each once.
+/// again once ranks are found. A constraint is tested with no memory: for each end in which
+/// paths from both sides meet, the lists of rules along them are kept, each once.
 pub fn find_label<P: Stop>(
     alloc: Global,
     trs: &Trs,

@@ -18,7 +18,8 @@ pub(crate) struct Meeting {
     pub(crate) rights: Vec<Vec<u32>>,
 }
 
-/// For each end that some left path and some right path have, once, the rules along the paths to it.
+/// For each end that some left path and some right path have, once, the rules along the paths to
+/// it.
 pub(crate) fn meetings_of(
     alloc: Global,
     lefts: &[(u32, Vec<PathStep>)],

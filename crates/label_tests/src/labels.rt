@@ -1,5 +1,6 @@
 //! The finder of ranks on small systems: what is found, that there is nothing, budgets and stops.
 use crate::made::{constants, show, term};
+use crate::slow::{plain_search, rank};
 use crate::stops::StopAt;
 use assign_search::{Never, Search, Stop};
 use crit_pairs::critical_pairs;
@@ -106,5 +107,33 @@ fn stops_of_labels(rt: HostRuntime) -> Result<(), Fail> {
     }
     let found = label(alloc, &trs, 1, &mut Never)?;
     assert_eq!(rt; found.as_slice(), [0, 0, 99, 99, 99, 99].as_slice());
+    Ok(())
+}
+
+/// Each system of two rules from one constant and one from another: the finder finds what a plain
+/// search finds, with exactly its budget.
+#[test]
+fn ranks_beside_a_plain_search(rt: HostRuntime) -> Result<(), Fail> {
+    let alloc = rt.alloc();
+    for first in 0..4 {
+        for second in 0..4 {
+            for third in 0..4 {
+                let rules = [(0, first), (0, second), (1, third)];
+                let trs = constants(alloc, 4, &rules)?;
+                let plain = plain_search(alloc, &rules)?;
+                let short = label(alloc, &trs, plain.refuted, &mut Never)?;
+                assert_eq!(rt; short.as_slice(), [SPENT].as_slice());
+                let enough = plain.refuted.saturating_add(1);
+                let found = label(alloc, &trs, enough, &mut Never)?;
+                match plain.first {
+                    None => assert_eq!(rt; found.as_slice(), [NOT_THERE].as_slice()),
+                    Some(n) => {
+                        let ranks = [rank(n, 0), rank(n, 1), rank(n, 2)];
+                        assert_eq!(rt; found.as_slice().get(..3), Some(ranks.as_slice()));
+                    }
+                }
+            }
+        }
+    }
     Ok(())
 }

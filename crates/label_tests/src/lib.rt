@@ -6,4 +6,6 @@ mod labels;
 #[cfg(test)]
 mod made;
 #[cfg(test)]
+mod slow;
+#[cfg(test)]
 mod stops;

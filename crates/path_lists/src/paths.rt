@@ -1,5 +1,6 @@
 //! The paths of up to four steps from a term.
-ghost use Rattle.std.specs.Prelude.{◌≡◌, ◌<◌, ◌≤◌, ◌+◌, ◌++◌, [], ◌∷◌, All, length, IfOk, IfSome, IfNone, OnOk, IsTrue, ◌↔◌};
+ghost use Rattle.std.specs.Prelude.{◌≡◌, ◌<◌, ◌≤◌, ◌+◌, ◌++◌, [], ◌∷◌, All};
+ghost use Rattle.std.specs.Prelude.{length, IfOk, IfSome, IfNone, OnOk, IsTrue, ◌↔◌};
 ghost use Rattle.trs_core.specs.View.{tree};
 ghost use Rattle.trs_defs.specs.Size.{size_of, within_limits};
 ghost use Rattle.term_pool.specs.Pooled.{Extends, tree_at};
@@ -27,10 +28,10 @@ const MOST_NODES: u64 = 4_096;
 pub const MOST_OF_PATHS: u32 = 1_114_112;
 
 /// The paths from a term, of up to 4 steps, with the ids of their ends: by their length, then by
-/// the order of the path without its last step, then by that of the redexes. The list has the first
-/// 256, and of these only such with ends of up to 4,096 nodes within the limits. `growth` is by how
-/// many nodes a step makes a term larger at most: where the ends must be small by that alone, their
-/// nodes are not counted.
+/// the order of the path without its last step, then by that of the redexes. Ends of more than
+/// 4,096 nodes or past a limit are left out; of the others the list has the first 256. `growth`
+/// is by how many nodes a step makes a term larger at most: where the ends must be small by that
+/// alone, their nodes are not counted.
 pub fn paths_from(
     alloc: Global,
     pool: &mut Pool,
@@ -156,8 +157,8 @@ fn longer(alloc: Global, path: &[PathStep], step: &PathStep) -> Result<Vec<PathS
     Ok(longer)
 }
 
-/// The id of the path's end after one more step, or `None` where that is too large. Then nothing is
-/// kept of it.
+/// The id of the path's end after one more step, or `None` where that is too large. Then nothing
+/// is kept of it.
 fn small_end(
     alloc: Global,
     pool: &mut Pool,
