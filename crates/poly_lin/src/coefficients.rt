@@ -1,7 +1,7 @@
 ghost use Rattle.std.specs.Prelude.{◌≡◌, ℕ};
 
-/// What gives each symbol the coefficients of its polynomial: a symbol f with n arguments stands
-/// for c f 0 + c f 1 * x1 + .. + c f n * xn. (Baader and Nipkow, section 5.3.)
+/// What gives each symbol the coefficients of its polynomial: a symbol f with n arguments stands for
+/// c f 0 + c f 1 * x1 + .. + c f n * xn. (Baader and Nipkow, section 5.3.)
 pub trait Coefficients {
     /// Where the coefficients of a symbol stand.
     type Row: Copy;

@@ -2,8 +2,7 @@ ghost use Rattle.std.specs.Prelude.{◌≡◌, ◌&&◌, ◌+◌, ◌*◌};
 ghost use Rattle.trs_core.specs.View.{tree};
 ghost use Rattle.order_theory.specs.LinearInterpretation.{LinearWeak, LinearStrict};
 ghost use Rattle.pair_order.specs.Compared.{IsAnswer};
-ghost use Rattle.poly_lin.specs.Coefficients.{IsSmall, IsCoefficient, AreCoefficients};
-ghost use Rattle.poly_lin.specs.Coefficients.{HasBigVariable, VariablesAtLeast};
+ghost use Rattle.poly_lin.specs.Coefficients.{IsSmall, IsCoefficient, AreCoefficients, HasBigVariable, VariablesAtLeast};
 ghost use Rattle.poly_lin.specs.TooBig.{EitherIsBig};
 
 use crate::monomial::Monomial;
@@ -12,8 +11,8 @@ use pair_order::{TooBig, next_variable};
 use trs_core::Term;
 
 /// Whether the first term's polynomial is at least the second's wherever variables stand for
-/// numbers. `TooBig` comes where some subterm's polynomial has a coefficient above 2^63 - 1. It
-/// takes no memory.
+/// numbers. `TooBig` comes where some subterm's polynomial has a coefficient above 2^63 - 1. It takes
+/// no memory.
 pub fn is_weakly_above<T: Coefficients>(table: &T, a: &Term, b: &Term) -> Result<bool, TooBig>
     ensures { IsAnswer (EitherIsBig (T.coefficient table.now) (tree a.now) (tree b.now))
         (LinearWeak (T.coefficient table.now) (tree a.now) (tree b.now)) result }
