@@ -1,0 +1,5 @@
+pub mod Kinds
+pub mod Rows
+pub mod Conditions
+pub mod Runs
+pub mod Truth
