@@ -3,3 +3,5 @@ pub mod Rows
 pub mod Conditions
 pub mod Runs
 pub mod Truth
+pub mod Tables
+pub mod Endings
