@@ -1,0 +1,10 @@
+pub mod RanksLeft
+pub mod FitTests
+pub mod RuleLists
+pub mod MeetingLists
+pub mod ConstraintLaws
+pub mod Closings
+pub mod Numbers
+pub mod ConstraintReads
+pub mod Searching
+pub mod LabelLaw

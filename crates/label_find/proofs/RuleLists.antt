@@ -1,0 +1,150 @@
+-- Lists of rules along paths, made path by path.
+use Rattle.std.specs.Prelude.{◌≡◌, ◌≢◌, ◌<◌, ◌≤◌, ◌⊎◌, ℕ, ◌+◌, Bool, true, false, ◌||◌, ◌==◌, List, [], ◌∷◌, ◌++◌, length, take, refl}
+use Rattle.std.specs.Global.{Vec}
+use Rattle.std.proofs.Common.{suc, ap, sym, ◌∙◌, subst, get_or, inl, inr, append-nil, append_assoc, arith}
+use Rattle.std.proofs.Math.Seq.{take-suc}
+use Rattle.std.proofs.Math.Decide.{ℕ_discrete}
+use Rattle.std.proofs.lemmas.List.{take_all, map-append}
+use Rattle.std.proofs.lemmas.Bool.Decides.{nat_tests}
+use Rattle.trs_defs.specs.Member.{In, in_first}
+use Rattle.trs_defs.specs.Variable.{is_listed}
+use Rattle.trs_defs.specs.Path.{PlacedRule}
+use Rattle.trs_defs.proofs.Members.{in_left, in_right, in_either, in_or, no_in}
+use Rattle.path_lists.specs.Adding.{Entry}
+use Rattle.label_find.specs.LabelRow.{rules_along}
+use Rattle.label_find.specs.Lists.{HasRules, AddsList, AreListsTo, rules_in, IsWith}
+
+-- ---- one item more
+
+pub take_more : {A : Type 0} (xs : List A) (i : ℕ) (a : A) → i < length xs → a ≡ get_or xs i a → take (i + 1) xs ≡ take i xs ++ a ∷ []
+take_more {A} xs i a below is =
+    let n : i + 1 ≡ suc i = omega arith in
+    let G : A → Type 0 = λ x. take (i + 1) xs ≡ take i xs ++ x ∷ [] in
+    subst G (sym is) (ap (λ k. take k xs) n ∙ take-suc xs i a below)
+
+module _ {A : Type 0} (xs : List A) (i : ℕ) (a : A) (below : i < length xs) (is : a ≡ get_or xs i a) where
+  pub one_of_more : (x : A) → In x (take (i + 1) xs) → In x (take i xs) ⊎ (x ≡ a)
+  one_of_more x h = elim (in_either (take i xs) (a ∷ []) (subst (λ (ys : List A). In x ys) (take_more xs i a below is) h)) [
+    | inl old ↦ inl old
+    | inr new ↦ elim (in_or new) [ inl same ↦ inr same | inr none ↦ absurd (no_in none) ]
+  ]
+
+  pub old_in_more : (x : A) → In x (take i xs) → In x (take (i + 1) xs)
+  old_in_more x h = subst (λ (ys : List A). In x ys) (sym (take_more xs i a below is)) (in_left (a ∷ []) h)
+
+  pub new_in_more : In a (take (i + 1) xs)
+  new_in_more = subst (λ (ys : List A). In a ys) (sym (take_more xs i a below is)) (in_right (take i xs) in_first)
+
+pub one_of_pushed : {A : Type 0} (old new : List A) (a x : A) → new ≡ old ++ a ∷ [] → In x new → In x old ⊎ (x ≡ a)
+one_of_pushed {A} old new a x is h = elim (in_either old (a ∷ []) (subst (λ (ys : List A). In x ys) is h)) [
+  | inl there ↦ inl there
+  | inr last ↦ elim (in_or last) [ inl same ↦ inr same | inr none ↦ absurd (no_in none) ]
+]
+
+pub old_in_pushed : {A : Type 0} (old new : List A) (a x : A) → new ≡ old ++ a ∷ [] → In x old → In x new
+old_in_pushed {A} old new a x is h = subst (λ (ys : List A). In x ys) (sym is) (in_left (a ∷ []) h)
+
+pub new_in_pushed : {A : Type 0} (old new : List A) (a : A) → new ≡ old ++ a ∷ [] → In a new
+new_in_pushed {A} old new a is = subst (λ (ys : List A). In a ys) (sym is) (in_right old in_first)
+
+-- ---- the lists to one end
+
+pub no_lists : (entries : List Entry) (end : ℕ) (lists : List (Vec ℕ)) → lists ≡ [] → AreListsTo (take 0 entries) end lists
+no_lists entries end lists empty = record {
+  sound = λ l i. absurd (no_in (subst (λ (ls : List (Vec ℕ)). In l ls) empty i));
+  complete = λ e i is. absurd (no_in i);
+}
+
+pub lists_more : (entries : List Entry) (end : ℕ) (i : ℕ) (entry : Entry) (old new : List (Vec ℕ)) → i < length entries → entry ≡ get_or entries i entry
+    → AreListsTo (take i entries) end old → AddsList entry end old new → AreListsTo (take (i + 1) entries) end new
+lists_more entries end i entry old new below is before adds = record {
+  sound = λ l h. elim (adds.from l h) [
+    | inl was ↦ (let (e, there, facts) = before.sound l was in (e, old_in_more entries i entry below is e there, facts))
+    | inr fresh ↦ (entry, new_in_more entries i entry below is, fresh)
+  ];
+  complete = λ e h end_is. elim (one_of_more entries i entry below is e h) [
+    | inl was ↦ (let (l, there, rules) = before.complete e was end_is in (l, adds.stays l there, rules))
+    | inr same ↦ (let P : Entry → Type 0 = λ x. x.0 ≡ end → HasRules (rules_along x.1.items) new in subst P (sym same) adds.there end_is)
+  ];
+}
+
+pub all_lists : (entries : List Entry) (end : ℕ) (i : ℕ) (lists : List (Vec ℕ)) → length entries ≤ i → AreListsTo (take i entries) end lists → AreListsTo entries end lists
+all_lists entries end i lists all h = subst (λ es. AreListsTo es end lists) (take_all i entries all) h
+
+pub other_end : (entry : Entry) (end : ℕ) (lists : List (Vec ℕ)) → entry.0 ≢ end → AddsList entry end lists lists
+other_end entry end lists other = record { from = λ l i. inl i; stays = λ l i. i; there = λ e. absurd (other e) }
+
+pub list_there : (entry : Entry) (end : ℕ) (lists : List (Vec ℕ)) → HasRules (rules_along entry.1.items) lists → AddsList entry end lists lists
+list_there entry end lists h = record { from = λ l i. inl i; stays = λ l i. i; there = λ _. h }
+
+pub list_there_read : (entry : Entry) (end : ℕ) (lists items : List (Vec ℕ)) (rules : List ℕ) → items ≡ lists → rules ≡ rules_along entry.1.items → HasRules rules items → AddsList entry end lists lists
+list_there_read entry end lists items rules same along h =
+    list_there entry end lists (subst (λ (ls : List (Vec ℕ)). HasRules (rules_along entry.1.items) ls) same (subst (λ (rs : List ℕ). HasRules rs items) along h))
+
+pub list_pushed : (entry : Entry) (end : ℕ) (old new : List (Vec ℕ)) (rules : Vec ℕ) → entry.0 ≡ end → rules.items ≡ rules_along entry.1.items → new ≡ old ++ rules ∷ [] → AddsList entry end old new
+list_pushed entry end old new rules same along is = record {
+  from = λ l i. elim (one_of_pushed old new rules l is i) [
+    | inl was ↦ inl was
+    | inr fresh ↦ inr (same, ap (λ (v : Vec ℕ). v.items) fresh ∙ along)
+  ];
+  stays = λ l i. old_in_pushed old new rules l is i;
+  there = λ _. (rules, new_in_pushed old new rules is, along);
+}
+
+-- ---- the rules that are used
+
+pub listed_append : (k : ℕ) (xs ys : List ℕ) → is_listed k (xs ++ ys) ≡ is_listed k xs || is_listed k ys
+listed_append k [] ys = refl
+listed_append k (x ∷ xs) ys = ap (λ b. x == k || b) (listed_append k xs ys) ∙ sym (or_assoc (x == k) (is_listed k xs) (is_listed k ys))
+  where
+    or_assoc : (a b c : Bool) → (a || b) || c ≡ a || (b || c)
+    or_assoc true b c = refl
+    or_assoc false b c = refl
+
+pub with_none : (used : List ℕ) → IsWith used [] used
+with_none used = record { each = λ k. ap (is_listed k) (sym (append-nil used)) }
+
+pub with_then : (a xs b ys c : List ℕ) → IsWith a xs b → IsWith b ys c → IsWith a (xs ++ ys) c
+with_then a xs b ys c h m = record {
+  each = λ k. m.each k
+      ∙ (listed_append k b ys ∙ (ap (λ t. t || is_listed k ys) (h.each k) ∙ (sym (listed_append k (a ++ xs) ys) ∙ ap (is_listed k) (append_assoc a xs ys))));
+}
+
+pub rule_pushed : (used new : List ℕ) (rule : ℕ) → new ≡ used ++ rule ∷ [] → IsWith used (rule ∷ []) new
+rule_pushed used new rule is = record { each = λ k. ap (is_listed k) is }
+
+pub rule_there : (used : List ℕ) (rule : ℕ) → is_listed rule used ≡ true → IsWith used (rule ∷ []) used
+rule_there used rule there = record { each = λ k. go k (is_listed k used) refl ∙ sym (listed_append k used (rule ∷ [])) }
+  where
+    go : (k : ℕ) (b : Bool) → is_listed k used ≡ b → is_listed k used ≡ is_listed k used || (rule == k || false)
+    go k true e = rw e refl
+    go k false e = elim (ℕ_discrete rule k) [
+      | yes same ↦ (let known : is_listed k used ≡ true = subst (λ (n : ℕ). is_listed n used ≡ true) same there in absurd (cc (e, known)))
+      | no other ↦ (let differ : (rule == k) ≡ false = grind (arith, nat_tests) in rw (e, differ) refl)
+    ]
+
+pub with_step : (old : List ℕ) (path : List PlacedRule) (i : ℕ) (s : PlacedRule) (used new : List ℕ) → i < length path → s ≡ get_or path i s
+    → IsWith old (rules_along (take i path)) used → IsWith used (s.rule ∷ []) new → IsWith old (rules_along (take (i + 1) path)) new
+with_step old path i s used new below is before adds =
+    let along : rules_along (take (i + 1) path) ≡ rules_along (take i path) ++ s.rule ∷ [] =
+    ap rules_along (take_more path i s below is) ∙ map-append (λ (x : PlacedRule). x.rule) (take i path) (s ∷ []) in
+    let P : List ℕ → Type 0 = λ xs. IsWith old xs new in
+    subst P (sym along) (with_then old (rules_along (take i path)) used (s.rule ∷ []) new before adds)
+
+rules_append : (es fs : List Entry) → rules_in (es ++ fs) ≡ rules_in es ++ rules_in fs
+rules_append [] fs = refl
+rules_append (e ∷ es) fs = ap (λ xs. rules_along e.1.items ++ xs) (rules_append es fs) ∙ sym (append_assoc (rules_along e.1.items) (rules_in es) (rules_in fs))
+
+pub with_entry : (old : List ℕ) (entries : List Entry) (i : ℕ) (e : Entry) (used new : List ℕ) → i < length entries → e ≡ get_or entries i e
+    → IsWith old (rules_in (take i entries)) used → IsWith used (rules_along e.1.items) new → IsWith old (rules_in (take (i + 1) entries)) new
+with_entry old entries i e used new below is before adds =
+    let along : rules_in (take (i + 1) entries) ≡ rules_in (take i entries) ++ rules_along e.1.items =
+    ap rules_in (take_more entries i e below is) ∙ (rules_append (take i entries) (e ∷ []) ∙ ap (λ xs. rules_in (take i entries) ++ xs) (append-nil (rules_along e.1.items))) in
+    let P : List ℕ → Type 0 = λ xs. IsWith old xs new in
+    subst P (sym along) (with_then old (rules_in (take i entries)) used (rules_along e.1.items) new before adds)
+
+pub with_all_steps : (old : List ℕ) (path : List PlacedRule) (i : ℕ) (used : List ℕ) → length path ≤ i → IsWith old (rules_along (take i path)) used → IsWith old (rules_along path) used
+with_all_steps old path i used all h = subst (λ (p : List PlacedRule). IsWith old (rules_along p) used) (take_all i path all) h
+
+pub with_all_entries : (old : List ℕ) (entries : List Entry) (i : ℕ) (used : List ℕ) → length entries ≤ i → IsWith old (rules_in (take i entries)) used → IsWith old (rules_in entries) used
+with_all_entries old entries i used all h = subst (λ (es : List Entry). IsWith old (rules_in es) used) (take_all i entries all) h

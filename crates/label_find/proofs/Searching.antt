@@ -1,0 +1,185 @@
+-- What the search over the constraints answers is so of the search over the paths.
+use Rattle.std.specs.Prelude.{◌≡◌, ◌<◌, ◌≤◌, ℕ, true, false, not, eqb, ◌==◌, List, [], ◌∷◌, All, Ok, Err, Result, Some, None, IsTrue, IfOk, length, slice_get, get_or, refl}
+use Rattle.std.specs.Global.{Vec}
+use Rattle.std.proofs.Common.{zero, suc, ap, sym, ◌∙◌, subst, arith}
+use Rattle.std.proofs.lemmas.Bool.Decides.{nat_tests}
+use Rattle.std.proofs.lemmas.Option.{same_Some, slice_get_within}
+use Rattle.trs_defs.specs.Member.{In}
+use Rattle.trs_defs.specs.Variable.{is_listed}
+use Rattle.trs_defs.specs.System.{System, IsSystem, RewriteRule}
+use Rattle.trs_defs.proofs.Members.{get_of_in, in_of_get}
+use Rattle.assign_search.specs.Puzzle.{Puzzle, any_below, solution_of, is_solution, count_of}
+use Rattle.assign_search.specs.Searched.{IsAnswer}
+use Rattle.assign_search.specs.declared.search.Search.{Search}
+use Rattle.assign_search.specs.declared.search.Search.TheVariants.{Found, NotThere, Spent, Stopped}
+use Rattle.assign_search.proofs.Refuting.{or_left, or_right, and_true, not_true, not_false, any_below_each}
+use Rattle.assign_search.proofs.Laws.{found_solves}
+use Rattle.term_pool.specs.Listed.{Listed}
+use Rattle.rewrite_core.specs.PlacedPeak.{PlacedPeak}
+use Rattle.rewrite_core.specs.PathsOfJoin.{PathsOfJoin}
+use Rattle.crit_pairs.specs.PeakList.{ListsPeaks}
+use Rattle.join_find.specs.First.{Along, along_end, along_item}
+use Rattle.join_find.specs.StrongRow.{AreLinear}
+use Rattle.join_find.specs.Answers.{IsFinding}
+use Rattle.join_find.proofs.NewmanLaw.{along_length}
+use Rattle.path_lists.proofs.PathsOnce.{path_lists_once}
+use Rattle.label_find.specs.declared.constraint.PeakConstraint.{PeakConstraint}
+use Rattle.label_find.specs.declared.label.Labelled.{Labelled}
+use Rattle.label_find.specs.LabelRow.{PeakPaths, ArePathsOf, CanClose, IsLabelSearch, HasSearch, IsFirstClosing, FindsLabel}
+use Rattle.label_find.specs.LabelAnswers.{IsLabelling, IsLabelledBy}
+use Rattle.label_find.specs.ConstraintPuzzle.{is_met, label_puzzle, KeepsRules, SaysOf, IsConstraintFor}
+use Rattle.label_find.specs.Closing.{CanAllBeClosed, IsJoinBy}
+use Rattle.label_find.proofs.ConstraintReads.{at_this}
+use Rattle.label_find.proofs.Numbers.{peak_numbers, used_below, few_peaks}
+
+-- ---- lists side by side
+
+-- the paths of the peaks, and what the constraints say of them
+pub record WithPaths (rules : List RewriteRule) (peaks : List PlacedPeak) (ds : List PeakConstraint) : Type 0 where
+  pub paths : List PeakPaths
+  pub are_paths : Along (ArePathsOf rules) peaks paths
+  pub says : Along SaysOf paths ds
+
+pub with_paths : (rules : List RewriteRule) {peaks : List PlacedPeak} {ds : List PeakConstraint} → Along (IsConstraintFor rules) peaks ds → WithPaths rules peaks ds
+with_paths rules along_end = record { paths = []; are_paths = along_end; says = along_end }
+with_paths rules (along_item h rest) =
+    let later = with_paths rules rest in
+    record { paths = h.paths ∷ later.paths; are_paths = along_item h.are_paths later.are_paths; says = along_item h.says later.says }
+
+along_from : {A B : Type 0} {related : A → B → Type 0} {xs : List A} {ys : List B} → Along related xs ys → (i : ℕ) (a : A) → slice_get xs i ≡ Some a → (b : B) × (slice_get ys i ≡ Some b) × related a b
+along_from along_end i a at = absurd cc
+along_from {related = related} (along_item {a = x} {b = y} h rest) zero a at = (y, refl, subst (λ z. related z y) (same_Some x a at) h)
+along_from (along_item h rest) (suc i) a at = along_from rest i a at
+
+along_to : {A B : Type 0} {related : A → B → Type 0} {xs : List A} {ys : List B} → Along related xs ys → (i : ℕ) (b : B) → slice_get ys i ≡ Some b → (a : A) × (slice_get xs i ≡ Some a) × related a b
+along_to along_end i b at = absurd cc
+along_to {related = related} (along_item {a = x} {b = y} h rest) zero b at = (x, refl, subst (λ z. related x z) (same_Some y b at) h)
+along_to (along_item h rest) (suc i) b at = along_to rest i b at
+
+-- ---- the constraints
+
+pub is_label_search : (rules : List RewriteRule) {paths : List PeakPaths} {ds : List PeakConstraint} → Along SaysOf paths ds → IsLabelSearch rules paths (label_puzzle (length rules) ds)
+is_label_search rules {paths = paths} {ds = ds} says = record {
+  slots = refl;
+  ranks = λ k. refl;
+  constraints = along_length says;
+  uses = λ c k p at. (let (d, there, h) = along_from says c p at in at_this (λ (x : PeakConstraint). is_listed k x.used.items) ds c d there ∙ h.used k);
+  truth = λ c ranks p at. (let (d, there, h) = along_from says c p at in let same = at_this (is_met ranks) ds c d there in let met = h.met ranks in
+      (λ t. met.0 (sym same ∙ t), λ k. same ∙ met.1 k));
+}
+
+equal_itself : (n : ℕ) → (n == n) ≡ true
+equal_itself n = grind (arith, nat_tests)
+
+keeps_rules : (rules : List RewriteRule) (peaks : List PlacedPeak) → ListsPeaks rules (Ok peaks) → (peak : PlacedPeak) → In peak peaks → (d : PeakConstraint) → IsConstraintFor rules peak d → KeepsRules (length rules) d
+keeps_rules rules peaks critical peak there d h =
+    let says = h.says in
+    let p = h.paths in
+    let numbers = peak_numbers rules peaks critical peak there in
+    record {
+      below = λ k t. used_below rules peak p numbers h.are_paths k (sym (says.used k) ∙ t);
+      inner = says.used d.inner ∙ or_left (p.peak.inner == d.inner) _ (subst (λ (n : ℕ). (n == d.inner) ≡ true) says.inner_is (equal_itself d.inner));
+      outer = says.used d.outer ∙ or_right (p.peak.inner == d.outer) _ (or_left (p.peak.outer == d.outer) _ (subst (λ (n : ℕ). (n == d.outer) ≡ true) says.outer_is (equal_itself d.outer)));
+      lists = says.lists;
+    }
+
+pub all_keep : (rules : List RewriteRule) (peaks : List PlacedPeak) (ds : List PeakConstraint) → ListsPeaks rules (Ok peaks) → Along (IsConstraintFor rules) peaks ds → All (KeepsRules (length rules)) ds
+all_keep rules peaks ds critical along k d below =
+    let there : slice_get ds k ≡ Some (get_or ds k d) = read ds k d below in
+    let (peak, at, h) = along_to along k (get_or ds k d) there in
+    keeps_rules rules peaks critical peak (in_of_get peaks k peak at) (get_or ds k d) h
+  where
+    read : (xs : List PeakConstraint) (i : ℕ) (x : PeakConstraint) → i < length xs → slice_get xs i ≡ Some (get_or xs i x)
+    read [] i x l = absurd (omega (arith, l))
+    read (y ∷ xs) zero x l = refl
+    read (y ∷ xs) (suc i) x l = read xs i x (omega (arith, l))
+
+pub few_constraints : (rules : List RewriteRule) (peaks : List PlacedPeak) (ds : List PeakConstraint) → ListsPeaks rules (Ok peaks) → Along (IsConstraintFor rules) peaks ds → length ds ≤ 4194304
+few_constraints rules peaks ds critical along = let few = few_peaks rules peaks critical in let same = along_length along in omega (arith, few, same)
+
+-- ---- the answers
+
+abbrev pub has_search : (rules : List RewriteRule) (peaks : List PlacedPeak) (ds : List PeakConstraint) → AreLinear rules → WithPaths rules peaks ds → HasSearch rules peaks
+has_search rules peaks ds linear h = record {
+  linear = linear;
+  paths = h.paths;
+  are_paths = h.are_paths;
+  search = label_puzzle (length rules) ds;
+  is_search = is_label_search rules h.says;
+}
+
+eqb_true : (m n : ℕ) → eqb m n ≡ true → m ≡ n
+eqb_true m n h = grind (arith, nat_tests)
+
+-- a solution has a value for each slot, and no constraint is false
+pub solution_parts : (z : Puzzle) (p : List ℕ) → is_solution z p ≡ true → (length p ≡ z.slots) × (any_below (λ c. not (z.truth c p)) z.constraints ≡ false)
+unfolding is_solution
+solution_parts z p h =
+    let both = and_true (eqb (length p) z.slots) (not (any_below (λ c. not (z.truth c p)) z.constraints)) h in
+    (eqb_true (length p) z.slots both.0, not_true (any_below (λ c. not (z.truth c p)) z.constraints) both.1)
+
+true_at : (z : Puzzle) (p : List ℕ) → solution_of z ≡ Some p → (c : ℕ) → c < z.constraints → IsTrue (z.truth c p)
+true_at z p e c below =
+    let parts = solution_parts z p (found_solves z p e).0 in
+    not_false (z.truth c p) (any_below_each (λ d. not (z.truth d p)) z.constraints c parts.1 below)
+
+same_paths : (system : System) → IsSystem system → (peak : PlacedPeak) (p q : PeakPaths) → ArePathsOf system.rules peak p → ArePathsOf system.rules peak q → p ≡ q
+same_paths system valid peak p q h k =
+    let lefts = path_lists_once system valid peak.left p.lefts q.lefts h.from_left k.from_left in
+    let rights = path_lists_once system valid peak.right p.rights q.rights h.from_right k.from_right in
+    let peaks = h.is ∙ sym k.is in
+    ap (λ (x : PlacedPeak). record { peak = x; lefts = p.lefts; rights = p.rights }) peaks
+    ∙ (ap (λ (x : List Listed). record { peak = q.peak; lefts = x; rights = p.rights }) lefts ∙ ap (λ (x : List Listed). record { peak = q.peak; lefts = q.lefts; rights = x }) rights)
+
+-- ranks that solve the search close each peak
+pub can_all_be_closed : (system : System) → IsSystem system → (peaks : List PlacedPeak) (ds : List PeakConstraint) (ranks : List ℕ) → WithPaths system.rules peaks ds
+    → solution_of (label_puzzle (length system.rules) ds) ≡ Some ranks → CanAllBeClosed system.rules ranks peaks
+can_all_be_closed system valid peaks ds ranks h e peak there = record { by_paths = λ q are. go q are (get_of_in there) }
+  where
+    go : (q : PeakPaths) → ArePathsOf system.rules peak q → (i : ℕ) × (slice_get peaks i ≡ Some peak) → CanClose ranks q
+    go q are (i, at) =
+        let (p, at_p, p_are) = along_from h.are_paths i peak at in
+        let search = is_label_search system.rules h.says in
+        let below = slice_get_within h.paths i p at_p in
+        let counted = search.constraints in
+        let met = true_at (label_puzzle (length system.rules) ds) ranks e i (omega (arith, below, counted)) in
+        subst (λ (x : PeakPaths). CanClose ranks x) (same_paths system valid peak p q p_are are) ((search.truth i ranks p at_p).0 met)
+
+pub closings_along : (system : System) → IsSystem system → (ranks : List ℕ) {peaks : List PlacedPeak} {paths : List PeakPaths} {joins : List PathsOfJoin} → Along (ArePathsOf system.rules) peaks paths
+    → Along (IsJoinBy system.rules ranks) peaks joins → Along (IsFirstClosing ranks) paths joins
+closings_along system valid ranks along_end along_end = along_end
+closings_along system valid ranks (along_item {a = peak} {b = p} h rest) (along_item {b = join} k later) =
+    along_item (subst (λ (x : PeakPaths). IsFirstClosing ranks x join) (same_paths system valid peak k.paths p k.are_paths h) k.closing) (closings_along system valid ranks rest later)
+
+-- what the search answers, by its cases
+module _ (n m : ℕ) (ds : List PeakConstraint) (budget : ℕ) (rose : Type 0) (answer : Search (Vec ℕ)) (same : n ≡ m) (h : IsAnswer (λ (v : Vec ℕ). v.items) (label_puzzle n ds) budget rose answer) where
+  pub first_of : (a : Vec ℕ) → answer ≡ Found a → (solution_of (label_puzzle m ds) ≡ Some a.items) × (count_of (label_puzzle m ds) < budget)
+  first_of a is =
+      let P : ℕ → Search (Vec ℕ) → Type 0 = λ k x. IsAnswer (λ (v : Vec ℕ). v.items) (label_puzzle k ds) budget rose x in
+      subst (λ (k : ℕ). P k (Found a)) same (subst (P n) is h)
+
+  pub none_of : answer ≡ NotThere → (solution_of (label_puzzle m ds) ≡ None) × (count_of (label_puzzle m ds) < budget)
+  none_of is =
+      let P : ℕ → Search (Vec ℕ) → Type 0 = λ k x. IsAnswer (λ (v : Vec ℕ). v.items) (label_puzzle k ds) budget rose x in
+      subst (λ (k : ℕ). P k NotThere) same (subst (P n) is h)
+
+  pub spent_of : answer ≡ Spent → budget ≤ count_of (label_puzzle m ds)
+  spent_of is =
+      let P : ℕ → Search (Vec ℕ) → Type 0 = λ k x. IsAnswer (λ (v : Vec ℕ). v.items) (label_puzzle k ds) budget rose x in
+      subst (λ (k : ℕ). P k Spent) same (subst (P n) is h)
+
+pub labelling_found : {E : Type 0} (system : System) → IsSystem system → (peaks : List PlacedPeak) (ds : List PeakConstraint) (budget : ℕ) (ranks : List ℕ) (rose more : Type 0) (answer : Result (Search Labelled) E)
+    → AreLinear system.rules → WithPaths system.rules peaks ds → solution_of (label_puzzle (length system.rules) ds) ≡ Some ranks → count_of (label_puzzle (length system.rules) ds) < budget → (rose → more)
+    → IfOk answer (IsFinding (IsLabelledBy system.rules peaks ranks) ⊥ rose) → IfOk answer (IsLabelling system.rules peaks budget more)
+labelling_found system valid peaks ds budget ranks rose more (Ok (Found a)) linear h first few later found =
+    let P : List ℕ → Type 0 = λ rs. FindsLabel system.rules peaks budget rs a.joins.items in
+    subst P (sym found.ranks_are) (record {
+      over = has_search system.rules peaks ds linear h;
+      first = first;
+      few = few;
+      closings = closings_along system valid ranks h.are_paths found.joined;
+    })
+labelling_found system valid peaks ds budget ranks rose more (Ok NotThere) linear h first few later none = absurd none
+labelling_found system valid peaks ds budget ranks rose more (Ok Spent) linear h first few later none = absurd none
+labelling_found system valid peaks ds budget ranks rose more (Ok Stopped) linear h first few later stopped = later stopped
+labelling_found system valid peaks ds budget ranks rose more (Err e) linear h first few later none = tt

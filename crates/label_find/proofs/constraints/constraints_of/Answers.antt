@@ -1,0 +1,27 @@
+use Rattle.std.proofs.Common.{◌∙◌, List, [], refl, sym, subst, arith}
+use Rattle.label_find.specs.declared.constraint.PeakConstraint.{PeakConstraint}
+use Rattle.join_find.specs.First.{Along, along_end}
+use Rattle.label_find.specs.ConstraintPuzzle.{IsConstraintFor}
+use Rattle.join_find.proofs.Firsts.{along_one_more, along_all, read_in}
+use Rattle.label_find.proofs.constraints.constraints_of.Goals as goal
+
+pub loop-peak-init : goal.loop-peak-init
+loop-peak-init g c =
+    let P : List PeakConstraint → Type 0 = λ xs. Along (IsConstraintFor c.args.trs.now.rules) [] xs in
+    record { made = subst P (sym c.new-constraints.ensures.items) along_end; empty = c.new-pool.ensures; later = omega arith; kept = refl }
+
+pub constraint_at-requires-clause-sides : goal.constraint_at-requires-clause-sides
+constraint_at-requires-clause-sides g c =
+    c.requires.sides c.peak-item.result (read_in c.args.peaks.now c.loop-peak.peak-index c.peak-item.result c.loop-peak-test.true c.peak-item.is)
+
+pub loop-peak-preserved : goal.loop-peak-preserved
+loop-peak-preserved g c = record {
+  made = along_one_more (IsConstraintFor c.args.trs.now.rules) c.args.peaks.now c.loop-peak.constraints.items c.push.new.self.items c.loop-peak.peak-index c.peak-item.result _
+      c.loop-peak-test.true c.peak-item.is c.loop-peak.invariant.made c.in_ok-constraint.ensures.constraint c.in_ok-push.ensures.items;
+  empty = c.in_ok-constraint.ensures.released ∙ c.loop-peak.invariant.empty;
+  later = omega (arith, c.loop-peak.invariant.later, c.stopped.ensures.later);
+  kept = c.stopped.ensures.kept ∙ c.loop-peak.invariant.kept;
+}
+
+pub returns-clause-constraints : goal.returns-clause-constraints
+returns-clause-constraints g c = along_all (IsConstraintFor c.args.trs.now.rules) c.args.peaks.now c.loop-peak.constraints.items c.loop-peak.peak-index c.loop-peak-test.false c.loop-peak.invariant.made

@@ -1,0 +1,6 @@
+use Rattle.std.proofs.Common.{take}
+use Rattle.label_find.specs.Meetings.{AreMeetings}
+use Rattle.label_find.proofs.meeting.meetings_of.Given as goal
+
+abbrev pub invariant-loop-left : goal.invariant-loop-left
+invariant-loop-left l = AreMeetings (take l.left-index l.lefts) l.lefts l.rights l.meetings.items

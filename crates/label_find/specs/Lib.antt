@@ -1,0 +1,9 @@
+pub mod LabelRow
+pub mod LabelAnswers
+pub mod Laws
+pub mod Lists
+pub mod Meetings
+pub mod Constraint
+pub mod ConstraintPuzzle
+pub mod LabelLawful
+pub mod Closing

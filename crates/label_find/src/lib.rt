@@ -1,0 +1,17 @@
+//! The finder of ranks of rules by which each critical peak is decreasing.
+//! (Van Oostrom, Confluence by decreasing diagrams, 2008: the rule labelling.)
+#![tactic(auto)]
+
+mod closing;
+mod constraint;
+mod constraints;
+mod fitting;
+mod joining;
+mod label;
+mod laws;
+mod meeting;
+mod space;
+mod used;
+
+pub use label::{Labelled, find_label};
+pub use laws::found_labels_apply;

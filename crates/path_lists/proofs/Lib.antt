@@ -1,0 +1,4 @@
+pub mod PathLaws
+pub mod PathsOnce
+pub mod Growing
+pub mod Longer

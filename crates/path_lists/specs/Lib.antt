@@ -1,0 +1,4 @@
+pub mod PathList
+pub mod Growth
+pub mod Adding
+pub mod Laws

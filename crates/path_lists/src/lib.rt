@@ -1,0 +1,12 @@
+//! The paths of up to four steps from a term, by their length: the first 256.
+//!
+//! A list of terms has each term once; here each path counts, also where two lead to one term.
+#![tactic(auto)]
+
+mod growth;
+mod laws;
+mod paths;
+
+pub use growth::growth_of;
+pub use laws::{listed_paths_lead, path_lists_are_one};
+pub use paths::{MOST_OF_PATHS, paths_from};

@@ -1,0 +1,206 @@
+//! The paths of up to four steps from a term.
+ghost use Rattle.std.specs.Prelude.{◌≡◌, ◌<◌, ◌≤◌, ◌+◌, ◌++◌, [], ◌∷◌, All, length, IfOk, IfSome, IfNone, OnOk, IsTrue, ◌↔◌};
+ghost use Rattle.trs_core.specs.View.{tree};
+ghost use Rattle.trs_defs.specs.Size.{size_of, within_limits};
+ghost use Rattle.term_pool.specs.Pooled.{Extends, tree_at};
+ghost use Rattle.term_pool.specs.ListedIds.{listed, listed_at};
+ghost use Rattle.term_pool.specs.Redexes.{IsNarrow, IsRedexAt};
+ghost use Rattle.term_pool.specs.Reach.{AreReducts, AreCandidates};
+ghost use Rattle.path_lists.specs.PathList.{IsPathList};
+ghost use Rattle.path_lists.specs.Growth.{GrowsBy};
+ghost use Rattle.path_lists.specs.Adding.{AddsPaths, IsEntryAt, most_ids, KeepsSmall};
+ghost use Rattle.path_lists.specs.Adding.{IsKeptEnd, IsLeftOut};
+
+use crate::growth::stays_small;
+use rewrite_core::copy_path;
+use std::alloc::Global;
+use term_pool::{MOST_IDS, PathStep, Pool, RulesByRoot, paths_keep_narrow};
+use trs_core::{OutOfMemory, Term, Trs};
+
+const MOST_STEPS: usize = 4;
+
+const MOST_PATHS: usize = 256;
+
+const MOST_NODES: u64 = 4_096;
+
+/// The most ids that a term, and its paths, add to a pool.
+pub const MOST_OF_PATHS: u32 = 1_114_112;
+
+/// The paths from a term, of up to 4 steps, with the ids of their ends: by their length, then by
+/// the order of the path without its last step, then by that of the redexes. The list has the first
+/// 256, and of these only such with ends of up to 4,096 nodes within the limits. `growth` is by how
+/// many nodes a step makes a term larger at most: where the ends must be small by that alone, their
+/// nodes are not counted.
+pub fn paths_from(
+    alloc: Global,
+    pool: &mut Pool,
+    trs: &Trs,
+    by_root: &RulesByRoot,
+    start: &Term,
+    growth: u64,
+) -> Result<Vec<(u32, Vec<PathStep>)>, OutOfMemory>
+    requires table { by_root.now ≡ trs.now }
+    requires small { IsTrue (within_limits (tree start.now)) }
+    requires narrow { IsNarrow (tree start.now) }
+    requires grows { GrowsBy trs.now.rules growth }
+    requires room { length pool.old + MOST_OF_PATHS ≤ MOST_IDS }
+    ensures list { IfOk result (λ found.
+        IsPathList trs.now.rules (tree start.now) (listed_at pool.new found.items)) }
+    ensures there { IfOk result (λ found. All (λ e. e.0 < length pool.new) found.items) }
+
+    // The ids that were there keep their terms.
+    ensures kept { Extends pool.old pool.new }
+    ensures few { IfOk result (λ _. length pool.new ≤ length pool.old + MOST_OF_PATHS) }
+{
+    paths_keep_narrow(trs);
+    let is_sure = stays_small(start, growth);
+    let id = pool.intern(alloc, start)?;
+    let mut paths = Vec::new(alloc);
+    paths.push((id, Vec::new(alloc)))?;
+    let mut next = 0;
+    while next < paths.len() && paths.len() < MOST_PATHS {
+        let entry = entry_at(alloc, &paths, next)?;
+        add_longer(alloc, pool, trs, by_root, is_sure, &entry, &mut paths)?;
+        next += 1;
+    }
+    Ok(paths)
+}
+
+/// An id of the list, with its path.
+fn entry_at(
+    alloc: Global,
+    paths: &[(u32, Vec<PathStep>)],
+    i: usize,
+) -> Result<(u32, Vec<PathStep>), OutOfMemory>
+    requires { i < length paths.now }
+    ensures { IfOk result (IsEntryAt paths.now i) }
+{
+    let entry = &paths[i];
+    Ok((entry.0, copy_path(alloc, &entry.1)?))
+}
+
+/// Adds the paths that are one step longer than this one, as long as fewer than 256 are listed.
+fn add_longer(
+    alloc: Global,
+    pool: &mut Pool,
+    trs: &Trs,
+    by_root: &RulesByRoot,
+    is_sure: bool,
+    entry: &(u32, Vec<PathStep>),
+    paths: &mut Vec<(u32, Vec<PathStep>)>,
+) -> Result<(), OutOfMemory>
+    requires table { by_root.now ≡ trs.now }
+    requires there { entry.now.0 < length pool.old }
+    requires narrow { IsNarrow (tree_at pool.old entry.now.0) }
+    requires sure { IsTrue is_sure → KeepsSmall trs.now.rules (listed pool.old entry.now) }
+    requires below { All (λ e. e.0 < length pool.old) paths.old.items }
+    requires few { length paths.old.items ≤ 256 }
+    requires room { most_ids pool.old paths.old.items ≤ MOST_IDS }
+    ensures adds { OnOk result (AddsPaths (AreCandidates trs.now.rules 4 4096
+        (listed pool.old entry.now ∷ [])) pool.old pool.new paths.old.items paths.new.items) }
+    ensures kept { Extends pool.old pool.new }
+{
+    if entry.1.len() >= MOST_STEPS {
+        return Ok(());
+    }
+    let steps = pool.redexes_at(alloc, by_root, entry.0)?;
+    for step in &steps {
+        if paths.len() >= MOST_PATHS {
+            return Ok(());
+        }
+        add_path(alloc, pool, trs, is_sure, entry, step, paths)?;
+    }
+    Ok(())
+}
+
+/// Adds the path with one more step, if its end is small.
+fn add_path(
+    alloc: Global,
+    pool: &mut Pool,
+    trs: &Trs,
+    is_sure: bool,
+    entry: &(u32, Vec<PathStep>),
+    step: &PathStep,
+    paths: &mut Vec<(u32, Vec<PathStep>)>,
+) -> Result<(), OutOfMemory>
+    requires there { entry.now.0 < length pool.old }
+    requires short { length entry.now.1.items < 4 }
+    requires redex { IsRedexAt trs.now.rules (tree_at pool.old entry.now.0) step.now }
+    requires sure { IsTrue is_sure → KeepsSmall trs.now.rules (listed pool.old entry.now) }
+    requires below { All (λ e. e.0 < length pool.old) paths.old.items }
+    requires space { length paths.old.items < 256 }
+    requires room { most_ids pool.old paths.old.items ≤ MOST_IDS }
+    ensures adds { OnOk result (AddsPaths (AreReducts trs.now.rules 4096
+        (listed pool.old entry.now) (step.now ∷ [])) pool.old pool.new
+        paths.old.items paths.new.items) }
+    ensures kept { Extends pool.old pool.new }
+{
+    match small_end(alloc, pool, trs, is_sure, entry, step)? {
+        None => Ok(()),
+        Some(end) => {
+            paths.push((end, longer(alloc, &entry.1, step)?))?;
+            Ok(())
+        }
+    }
+}
+
+/// The path with one more step. Its memory is taken once.
+fn longer(alloc: Global, path: &[PathStep], step: &PathStep) -> Result<Vec<PathStep>, OutOfMemory>
+    ensures { IfOk result (λ longer. longer.items ≡ path.now ++ step.now ∷ []) }
+{
+    let mut longer = Vec::with_capacity(alloc, MOST_STEPS)?;
+    for earlier in path {
+        longer.push(earlier.copy(alloc)?)?;
+    }
+    longer.push(step.copy(alloc)?)?;
+    Ok(longer)
+}
+
+/// The id of the path's end after one more step, or `None` where that is too large. Then nothing is
+/// kept of it.
+fn small_end(
+    alloc: Global,
+    pool: &mut Pool,
+    trs: &Trs,
+    is_sure: bool,
+    entry: &(u32, Vec<PathStep>),
+    step: &PathStep,
+) -> Result<Option<u32>, OutOfMemory>
+    requires there { entry.now.0 < length pool.old }
+    requires short { length entry.now.1.items < 4 }
+    requires redex { IsRedexAt trs.now.rules (tree_at pool.old entry.now.0) step.now }
+    requires sure { IsTrue is_sure → KeepsSmall trs.now.rules (listed pool.old entry.now) }
+    requires room { length pool.old ≤ MOST_IDS }
+    ensures end { IfOk result (λ found. IfSome found (IsKeptEnd trs.now.rules step.now
+        (tree_at pool.old entry.now.0) pool.old pool.new)) }
+    ensures none { IfOk result (λ found. IfNone found (IsLeftOut trs.now.rules step.now
+        (tree_at pool.old entry.now.0))) }
+    ensures unchanged { IfOk result (λ found. IfNone found (pool.new ≡ pool.old)) }
+    ensures kept { Extends pool.old pool.new }
+{
+    let mark = pool.mark();
+    let end = match pool.step_at(alloc, trs, entry.0, &step.place, step.rule) {
+        Ok(end) => end,
+        Err(fault) => {
+            fault.unless_no_memory()?;
+            return Ok(None);
+        }
+    };
+    if is_sure {
+        return Ok(Some(end));
+    }
+    if is_small(alloc, pool, end)? {
+        return Ok(Some(end));
+    }
+    pool.release(mark);
+    Ok(None)
+}
+
+/// Whether the id's term has at most 4,096 nodes.
+fn is_small(alloc: Global, pool: &Pool, id: u32) -> Result<bool, OutOfMemory>
+    requires { id < length pool.now }
+    ensures { IfOk result (λ yes. IsTrue yes ↔ size_of (tree_at pool.now id) ≤ 4096) }
+{
+    let term = pool.read(alloc, id)?;
+    Ok(term.size() <= MOST_NODES)
+}
