@@ -1,0 +1,123 @@
+-- The symbols that an order has entries for are those of the system, plain or marked, and stand once each.
+use Rattle.std.specs.Prelude.{◌≡◌, ◌<◌, ◌≤◌, ℕ, ◌+◌, ◌-◌, Bool, true, false, nat_lt, if◌then◌else◌, List, [], ◌∷◌, ◌++◌, map, length, Option, Some, None, slice_get, unwrap_or}
+use Rattle.std.proofs.Common.{refl, sym, ap, subst, arith, ◌∙◌, inl, inr}
+use Rattle.std.proofs.lemmas.Bool.Decides.{nat_tests}
+use Rattle.std.proofs.lemmas.Option.{slice_get_within, slice_get-get_or}
+use Rattle.trs_defs.specs.Member.{In, in_first, in_rest}
+use Rattle.trs_defs.proofs.Members.{in_or, no_in, in_either, of_map, get_of_in}
+use Rattle.trs_defs.specs.Tree.{Tree, Trees, var, app, nil, cons, count}
+use Rattle.trs_defs.specs.WellFormed.{IsWellFormed, AreWellFormed}
+use Rattle.trs_defs.specs.System.{RewriteRule, System, IsSystem}
+use Rattle.pair_theory.specs.Marked.{Marked, plain}
+use Rattle.pair_theory.specs.DependencyPair.{DependencyPair, dependency_pairs}
+use Rattle.pair_theory.specs.PairProblem.{IsPair}
+use Rattle.pair_theory.proofs.PairList.{listed_are_pairs}
+use Rattle.order_theory.specs.KnuthBendix.{arity_with_marks}
+use Rattle.dp_core.specs.Symbols.{symbols_of, symbols_of_all, symbols_of_rules}
+use Rattle.dp_core.specs.SubtermConditions.{roots_of}
+use Rattle.order_find.proofs.FewPairs.{taken_in, roots_small}
+use Rattle.order_problem.specs.OrderSpace.{unmarked, arity_with_mark}
+use Rattle.order_problem.specs.OrderRow.{AreOfOrder}
+use Rattle.order_problem.proofs.Covered.{plain_small}
+use Rattle.order_problem.proofs.Repeats.{symbols_distinct}
+use Rattle.cert_step.specs.Entries.{AreDistinct}
+use Rattle.strategies.proofs.Distinctness.{listed_distinct}
+
+-- ---- symbols of well-formed terms
+
+module _ (arities : List ℕ) where
+  mutual
+    symbol_within : (t : Tree) → IsWellFormed arities t → (f : ℕ) → In f (symbols_of t) → f < length arities
+    symbol_within (var x) well f i = absurd (no_in i)
+    symbol_within (app g ts) well f i = elim (in_or i) [
+      | inl same ↦ (let h = slice_get_within arities g (count ts) well.0 in omega (arith, h, same))
+      | inr below ↦ symbol_within_all ts well.1 f below
+    ]
+
+    symbol_within_all : (ts : Trees) → AreWellFormed arities ts → (f : ℕ) → In f (symbols_of_all ts) → f < length arities
+    symbol_within_all nil well f i = absurd (no_in i)
+    symbol_within_all (cons t ts) well f i = elim (in_either (symbols_of t) (symbols_of_all ts) i) [
+      | inl here ↦ symbol_within t well.0 f here
+      | inr later ↦ symbol_within_all ts well.1 f later
+    ]
+
+  symbols_within : (rules : List RewriteRule) → ((r : RewriteRule) → In r rules → IsWellFormed arities r.left × IsWellFormed arities r.right)
+      → (f : ℕ) → In f (symbols_of_rules rules) → f < length arities
+  symbols_within [] well f i = absurd (no_in i)
+  symbols_within (r ∷ rules) well f i = elim (in_either (symbols_of r.left ++ symbols_of r.right) (symbols_of_rules rules) i) [
+    | inl here ↦ elim (in_either (symbols_of r.left) (symbols_of r.right) here) [
+      | inl left ↦ symbol_within r.left (well r in_first).0 f left
+      | inr right ↦ symbol_within r.right (well r in_first).1 f right
+    ]
+    | inr later ↦ symbols_within rules (λ s j. well s (in_rest j)) f later
+  ]
+
+  root_within : (m : Marked) → IsWellFormed arities (plain m) → m.symbol < length arities
+  root_within m well = slice_get_within arities m.symbol (count m.args) well.0
+
+  roots_within : (pairs : List DependencyPair) → ((p : DependencyPair) → In p pairs → IsPair arities p) → (f : ℕ) → In f (roots_of pairs) → f < length arities
+  roots_within [] well f i = absurd (no_in i)
+  roots_within (p ∷ pairs) well f i =
+      let here = well p in_first in
+      elim (in_or i) [
+        | inl from ↦ (let h = root_within p.from here.from_well_formed in omega (arith, h, from))
+        | inr later ↦ elim (in_or later) [
+          | inl to ↦ (let h = root_within p.to here.to_well_formed in omega (arith, h, to))
+          | inr more ↦ roots_within pairs (λ q j. well q (in_rest j)) f more
+        ]
+      ]
+
+-- ---- the arity of a symbol, plain or marked
+
+some_is : (o : Option ℕ) (n : ℕ) → o ≡ Some n → o ≡ Some (unwrap_or o 0)
+some_is None n e = absurd cc
+some_is (Some m) n e = refl
+
+read_there : (arities : List ℕ) (g : ℕ) → g < length arities → slice_get arities g ≡ Some (unwrap_or (slice_get arities g) 0)
+read_there arities g below = some_is (slice_get arities g) _ (slice_get-get_or arities g 0 below)
+
+arity_by : (arities : List ℕ) (f : ℕ) (b : Bool) → (b ≡ true → f < length arities) → (b ≡ false → f - 4096 < length arities)
+    → (if b then slice_get arities f else slice_get arities (f - 4096)) ≡ Some (unwrap_or (slice_get arities (if b then f else f - 4096)) 0)
+arity_by arities f true small great = read_there arities f (small refl)
+arity_by arities f false small great = read_there arities (f - 4096) (great refl)
+
+is_small : (f : ℕ) → nat_lt f 4096 ≡ true → f < 4096
+is_small f e = grind (arith, nat_tests)
+
+is_great : (f : ℕ) → nat_lt f 4096 ≡ false → 4096 ≤ f
+is_great f e = grind (arith, nat_tests)
+
+module _ (system : System) (valid : IsSystem system) (few : length system.arities ≤ 4095) (numbers : List ℕ) (pairs : List DependencyPair) (symbols : List ℕ)
+    (of : AreOfOrder system numbers pairs symbols) where
+  rule_well : (r : RewriteRule) → In r system.rules → IsWellFormed system.arities r.left × IsWellFormed system.arities r.right
+  rule_well r i =
+      let (k, at) = get_of_in i in
+      let rule = valid.each k r at in
+      (rule.left_well_formed, rule.right_well_formed)
+
+  pair_well : (p : DependencyPair) → In p pairs → IsPair system.arities p
+  pair_well p i = listed_are_pairs system valid p (taken_in (dependency_pairs system.rules) numbers pairs of.taken p i)
+
+  root_small : (f : ℕ) → In f (roots_of pairs) → f < 4096
+  root_small f i = roots_small system.arities few pairs pair_well f i
+
+  symbol_there : (f : ℕ) → In f symbols → (nat_lt f 4096 ≡ true → f < length system.arities) × (nat_lt f 4096 ≡ false → f - 4096 < length system.arities)
+  symbol_there f i =
+      let are = of.are_symbols in
+      elim (in_either are.plain (map (λ g. g + 4096) are.roots) (subst (λ (l : List ℕ). In f l) are.together i)) [
+        | inl here ↦
+            (let below = symbols_within system.arities system.rules rule_well f ((are.are_plain.each f).0 here) in
+            (λ e. below, λ e. (let great = is_great f e in absurd (omega (arith, below, few, great)))))
+        | inr marked ↦
+            (let (g, j, same) = of_map (λ (x : ℕ). x + 4096) are.roots marked in
+            let below = roots_within system.arities pairs pair_well g ((are.are_roots.each g).0 j) in
+            (λ e. (let small = is_small f e in absurd (omega (arith, same, small))), λ e. omega (arith, same, below)))
+      ]
+
+  pub arity_there : (f : ℕ) → In f symbols → arity_with_marks system.arities f ≡ Some (arity_with_mark system.arities f)
+  arity_there f i = let there = symbol_there f i in arity_by system.arities f (nat_lt f 4096) there.0 there.1
+
+  pub all_distinct : AreDistinct symbols
+  all_distinct =
+      listed_distinct symbols
+      (symbols_distinct (symbols_of_rules system.rules) pairs symbols (plain_small system valid few pairs root_small symbols of.are_symbols) of.are_symbols)
