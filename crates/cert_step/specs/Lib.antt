@@ -1,4 +1,5 @@
 pub mod ProofProblem
+pub mod PlainProblem
 pub mod Subproblems
 pub mod Kind
 pub mod Entries

@@ -1,0 +1,17 @@
+pub mod Won
+pub mod Flags
+pub mod Told
+pub mod Given
+pub mod Marking
+pub mod Endings
+pub mod Counting
+pub mod Trees
+pub mod Opening
+pub mod Claiming
+pub mod Tasks
+pub mod Failing
+pub mod Deciding
+pub mod Posting
+pub mod Walks
+pub mod Accepted
+pub mod Lost
