@@ -48,14 +48,20 @@ from_set p [] i n old new t o w = refl
 from_set p (x ∷ xs) i zero old new t o w = let same : x ≡ old = cc in rw (same, o, w) refl
 from_set p (x ∷ xs) i (suc n) old new t o w = ap (λ r. cond (p x) (Some i) r) (from_set p xs (i + 1) n old new t o w)
 
-pub first_idle : (marks : List Mark) (k : ℕ) → position is_idle marks ≡ Some k → IsFirstAt is_idle marks k
-first_idle marks k e =
-    let r = from_some is_idle marks 0 k (sym (position_from-zero is_idle marks) ∙ e) in
+pub first_position : {A : Type 0} (p : A → Bool) (xs : List A) (k : ℕ) → position p xs ≡ Some k → IsFirstAt p xs k
+first_position p xs k e =
+    let r = from_some p xs 0 k (sym (position_from-zero p xs) ∙ e) in
     let same : r.0 ≡ k = omega (arith, r.1) in
-    subst (IsFirstAt is_idle marks) same r.2
+    subst (IsFirstAt p xs) same r.2
 
-pub none_idle : (marks : List Mark) → position is_idle marks ≡ None → (m : ℕ) (y : Mark) → slice_get marks m ≡ Some y → is_idle y ≡ false
-none_idle marks e = from_none is_idle marks 0 (sym (position_from-zero is_idle marks) ∙ e)
+pub no_position : {A : Type 0} (p : A → Bool) (xs : List A) → position p xs ≡ None → (m : ℕ) (y : A) → slice_get xs m ≡ Some y → p y ≡ false
+no_position p xs e = from_none p xs 0 (sym (position_from-zero p xs) ∙ e)
+
+first_idle : (marks : List Mark) (k : ℕ) → position is_idle marks ≡ Some k → IsFirstAt is_idle marks k
+first_idle marks k e = first_position is_idle marks k e
+
+none_idle : (marks : List Mark) → position is_idle marks ≡ None → (m : ℕ) (y : Mark) → slice_get marks m ≡ Some y → is_idle y ≡ false
+none_idle marks e = no_position is_idle marks e
 
 pub position_set : (marks : List Mark) (n : ℕ) (old new : Mark) → slice_get marks n ≡ Some old → is_idle old ≡ false → is_idle new ≡ false
     → position is_idle (set marks n new) ≡ position is_idle marks

@@ -40,7 +40,7 @@ use Rattle.tree_core.proofs.Trees.{replays_more, no_failed_running}
 idle_ok : HasFailed Idle → ⊥
 idle_ok h = let e = h.1 in absurd cc
 
-failed_is : (m : Mark) → has_failed m ≡ true → HasFailed m
+pub failed_is : (m : Mark) → has_failed m ≡ true → HasFailed m
 failed_is Idle e = absurd cc
 failed_is Running e = absurd cc
 failed_is (Failed spent) e = (spent, refl)
@@ -241,6 +241,7 @@ module _ (question : Question) (system : System) (budget : ℕ) (p : Parts) (tre
 
       pub claim_tree : p.running < room → IsTree question system budget (record (claimed_parts p seat n place problem strategy node) { room = room; cursor = n })
       claim_tree room_ok = record {
+        valid = tree.valid;
         replays = replays_more goals system (opening question) p.history p.state entry (with_claim p.state seat n place node) tree.replays claims;
         legal = claim_legal;
         well_made = well_made_ended system p.state.nodes n place node Running there tree.well_made;

@@ -9,6 +9,7 @@ use Rattle.tree_states.specs.Verdicts.{IsLost, AllLost, HasVerdict, IsDone}
 use Rattle.tree_states.specs.Events.{IsOver, decided, lost, done}
 use Rattle.tree_board.specs.Parts.{Parts, lost_at, is_lost_in, all_lost, has_verdict_by, is_done_by, is_over_by}
 use Rattle.tree_core.specs.Invariant.{AreCounted}
+use Rattle.tree_states.proofs.Lookups.{get_below}
 
 pub or_cases : (a b : Bool) → (a || b) ≡ true → (a ≡ true) ⊎ (b ≡ true)
 or_cases true b e = inl refl

@@ -15,3 +15,4 @@ pub mod Posting
 pub mod Walks
 pub mod Accepted
 pub mod Lost
+pub mod GoalParts

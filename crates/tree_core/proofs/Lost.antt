@@ -19,10 +19,11 @@ use Rattle.tree_states.specs.declared.mark.Mark.TheVariants.{Failed}
 use Rattle.tree_states.specs.Questions.{roots, goals_of}
 use Rattle.tree_states.specs.States.{TreeNode, Decided, IsChild}
 use Rattle.tree_states.specs.Legal.{Carries}
-use Rattle.tree_states.specs.Verdicts.{IsLost, HasFailed}
+use Rattle.tree_states.specs.Verdicts.{IsLost, IsStuck, HasFailed}
 use Rattle.tree_board.specs.Parts.{Parts}
+use Rattle.tree_board.specs.Stuck.{is_spent, failures}
 use Rattle.tree_core.specs.Invariant.{IsTree}
-use Rattle.tree_states.specs.Reports.{Walks, ends, stays, goes_on, steps_from, decision_at, numbers, children_of, FailedAt, AllFail, IsTruePart}
+use Rattle.tree_states.specs.Reports.{Walks, ends, stays, goes_on, steps_from, decision_at, numbers, children_of, AllFail, IsTruePart}
 use Rattle.tree_states.proofs.Lookups.{one_value, map_there}
 use Rattle.tree_core.proofs.Walks.{walk_makes, walked, waits, problem_in}
 
@@ -69,15 +70,6 @@ place_of : {A : Type 0} (x : A) (xs : List A) → In x xs → (k : ℕ) × (slic
 place_of x _ in_first = (0, refl)
 place_of x (y ∷ xs) (in_rest h) = let k = place_of x xs h in (suc k.0, k.1)
 
-abbrev pub failure_of : Mark → Bool
-failure_of (Failed spent) = spent
-failure_of _ = false
-
-abbrev pub failures : List Strategy → List Mark → List FailedAt
-failures [] ms = []
-failures (s ∷ ss) [] = []
-failures (s ∷ ss) (m ∷ ms) = record { strategy = s; spent = failure_of m } ∷ failures ss ms
-
 all_fail : (system : System) (budget : ℕ) (p : ProofProblem) (ss : List Strategy) (ms : List Mark) → length ms ≡ length ss
     → ((k : ℕ) (m : Mark) → slice_get ms k ≡ Some m → HasFailed m)
     → ((k : ℕ) (spent : Bool) → slice_get ms k ≡ Some (Failed spent) → (st : Strategy) × (slice_get ss k ≡ Some st) × Fails system budget st p spent)
@@ -88,7 +80,7 @@ all_fail system budget p (s ∷ ss) (m ∷ ms) e failed truth =
     let f = failed 0 m refl in
     let t = truth 0 f.0 (ap (λ x. Some x) f.1) in
     let same : t.0 ≡ s = one_value (Some s) t.0 s t.1 refl in
-    let spent : f.0 ≡ failure_of m = sym (ap failure_of f.1) in
+    let spent : f.0 ≡ is_spent m = sym (ap is_spent f.1) in
     let fails = subst (λ st. Fails system budget st p f.0) same t.2 in
     (refl, subst (λ b. Fails system budget s p b) spent fails, all_fail system budget p ss ms (omega (arith, e)) (λ k. failed (suc k)) (λ k. truth (suc k)))
 
@@ -114,38 +106,39 @@ module _ (question : Question) (system : System) (budget : ℕ) (p : Parts) (tre
       let n_is : g ≡ n = sym goal ∙ at in
       waits_walked p.state.nodes (g ∷ []) order w n (subst (λ k. In k (g ∷ [])) n_is in_first))
 
-  -- the stuck node has a number in the walk, and the part with it is true
-  pub lost_part : (lost : IsLost p.state.nodes g) (root : ProofProblem) → slice_get (roots question) g ≡ Some root
-      → (k : ℕ) × IsTruePart system budget root (record {
+  -- the stuck node is walked
+  pub stuck_walked : (lost : IsLost p.state.nodes g) → (k : ℕ) × (slice_get order k ≡ Some lost.n)
+  stuck_walked lost = place_of lost.n order (all_walked (lost.n + 1) lost.n lost.node (omega arith) lost.there lost.goal)
+
+  -- the part with a stuck node of the walk is true
+  pub stuck_part : (k n : ℕ) (node : TreeNode) → slice_get order k ≡ Some n → slice_get p.state.nodes n ≡ Some node → IsStuck node → (root : ProofProblem)
+      → slice_get (roots question) g ≡ Some root → IsTruePart system budget root (record {
         goal = g;
         steps = steps_from p.state.nodes 0 order;
         node = k;
-        problem = lost.node.problem;
-        failed = failures (strategies_for lost.node.problem) lost.node.marks;
+        problem = node.problem;
+        failed = failures (strategies_for node.problem) node.marks;
       })
-  lost_part lost root is =
+  stuck_part k n node at there stuck root is =
       let nodes = p.state.nodes in
       let keeps : (q : ProofProblem) (s : ProofStep) (left : List ProofProblem) → Applies system q s left → Applies system q s (map (λ x. x) left) =
       λ q s left a. subst (Applies system q s) (map_id left) a in
-      let legal : (n : ℕ) (node : TreeNode) (d : Decided) → slice_get nodes n ≡ Some node → node.decision ≡ Some d
-      → (left : List ProofProblem) × Applies system node.problem d.step left × (d.count ≡ length left)
-      × ((k : ℕ) (q : ProofProblem) → slice_get left k ≡ Some q → Carries nodes (d.first + k) node.goal q) =
-      λ n node d there dec. let l = tree.legal.decided n node d there dec in (l.left, l.applies, l.count, l.children) in
+      let legal : (m : ℕ) (x : TreeNode) (d : Decided) → slice_get nodes m ≡ Some x → x.decision ≡ Some d
+      → (left : List ProofProblem) × Applies system x.problem d.step left × (d.count ≡ length left)
+      × ((j : ℕ) (q : ProofProblem) → slice_get left j ≡ Some q → Carries nodes (d.first + j) x.goal q) =
+      λ m x d h dec. let l = tree.legal.decided m x d h dec in (l.left, l.applies, l.count, l.children) in
       let view : ProofProblem → ProofProblem = λ q. q in
-      let at = place_of lost.n order (all_walked (lost.n + 1) lost.n lost.node (omega arith) lost.there lost.goal) in
       let r = tree.rooted g root is in
       let first : waits system nodes view keeps root legal g ≡ open_node root =
       ap (λ (o : Option TreeNode). open_node (problem_in system nodes view keeps root legal o)) r.there ∙ ap (λ (q : ProofProblem). open_node q) r.problem_is in
-      let here : walked system nodes view keeps root legal lost.n ≡ open_node lost.node.problem =
-      ap (λ (o : Option TreeNode). record { problem = problem_in system nodes view keeps root legal o; is_open = is_none (decision_at o) }) lost.there
-      ∙ ap (λ (d : Option Decided). record { problem = lost.node.problem; is_open = is_none d }) lost.stuck.is_open in (
-        at.0,
-        record {
-          nodes = map (walked system nodes view keeps root legal) order;
-          makes = subst (λ (x : cert.Node). Makes system (x ∷ []) (steps_from nodes 0 order) (map (walked system nodes view keeps root legal) order)) first
-              (walk_makes system nodes view keeps root legal (g ∷ []) order w []);
-          there = map_there (walked system nodes view keeps root legal) order at.0 lost.n at.1 ∙ ap (λ (x : cert.Node). Some x) here;
-          failed = all_fail system budget lost.node.problem (strategies_for lost.node.problem) lost.node.marks (tree.shaped.fits lost.n lost.node lost.there)
-              lost.stuck.failed (λ k spent f. tree.legal.failed lost.n k lost.node spent lost.there f);
-        },
-      )
+      let here : walked system nodes view keeps root legal n ≡ open_node node.problem =
+      ap (λ (o : Option TreeNode). record { problem = problem_in system nodes view keeps root legal o; is_open = is_none (decision_at o) }) there
+      ∙ ap (λ (d : Option Decided). record { problem = node.problem; is_open = is_none d }) stuck.is_open in
+      record {
+        nodes = map (walked system nodes view keeps root legal) order;
+        makes = subst (λ (x : cert.Node). Makes system (x ∷ []) (steps_from nodes 0 order) (map (walked system nodes view keeps root legal) order)) first
+            (walk_makes system nodes view keeps root legal (g ∷ []) order w []);
+        there = map_there (walked system nodes view keeps root legal) order k n at ∙ ap (λ (x : cert.Node). Some x) here;
+        failed = all_fail system budget node.problem (strategies_for node.problem) node.marks (tree.shaped.fits n node there)
+            stuck.failed (λ j spent f. tree.legal.failed n j node spent there f);
+      }

@@ -5,6 +5,7 @@ use Rattle.std.proofs.lemmas.Option.{slice_get_within}
 use native.Mathlib.Decide.{ℕ_discrete}
 use mathlib.Core.Logic.{dite}
 use Rattle.trs_defs.specs.System.{System}
+use Rattle.trs_core.specs.Valid.{IsValid}
 use Rattle.cert_step.specs.ProofProblem as problem
 use Rattle.cert_step.specs.ProofProblem.{ProofProblem, IsWellMadeProblem}
 use Rattle.strategies.specs.Kinds.{strategies_for}
@@ -15,6 +16,7 @@ use Rattle.tree_states.specs.declared.question.Question.{Question}
 use Rattle.tree_states.specs.declared.question.Question.TheVariants.{Termination, Confluence, Unique}
 use Rattle.tree_states.specs.Questions.{roots, goals_of}
 use Rattle.tree_states.specs.States.{TreeNode, Decided, new_node, roots_from, opening}
+use Rattle.tree_states.specs.History.{HistoryEntry, IsGiven}
 use Rattle.tree_states.specs.Verdicts.{IsClosed, IsLost}
 use Rattle.tree_board.specs.Parts.{Parts, IsOpening, fresh_goals}
 use Rattle.tree_core.specs.Invariant.{IsShaped, IsTold, IsTree, opens}
@@ -146,8 +148,9 @@ module _ (system : System) (budget : ℕ) (question : Question) where
     owned = λ t seat some. refl;
   }
 
-  pub opening_tree : (p : Parts) → IsOpening question p → IsTree question system budget p
-  opening_tree p is = record {
+  pub opening_tree : (p : Parts) → IsValid system → IsOpening question p → IsTree question system budget p
+  opening_tree p valid is = record {
+    valid = valid;
     replays = rw (is.history, is.state) refl;
     legal = rw is.state (record {
       decided = λ n y d there dec. absurd (undecided n y d there dec);

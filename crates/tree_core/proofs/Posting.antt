@@ -110,6 +110,7 @@ module _ (question : Question) (system : System) (budget : ℕ) (p : Parts) (tre
 
     pub fail_tree : (spent : Bool) → IsFailure system budget h.node h.ticket.place spent → IsTree question system budget (failed_parts p number h.ticket h.node spent)
     fail_tree spent fails = record {
+      valid = tree.valid;
       replays = replays_more goals system (opening question) p.history p.state (entry (failed spent)) (ended p.state number h.ticket h.node (Failed spent)) tree.replays (fail_follows spent);
       legal = legal_ended goals system budget p.state tree.shaped tree.legal number h.ticket h.there h.runs h.node h.made (Failed spent) (λ e. cc) p.state.winner p.state.is_aborted
           (λ b e. let same : spent ≡ b = cc in subst (IsFailure system budget h.node h.ticket.place) same fails);
@@ -353,6 +354,7 @@ module _ (question : Question) (system : System) (budget : ℕ) (p : Parts) (tre
 
       pub decide_tree : IsTree question system budget (P W)
       decide_tree = record {
+        valid = tree.valid;
         replays = replays_more goals system (opening question) p.history p.state (entry (found step)) (P W).state tree.replays decide_follows;
         legal = subst (λ (ns : List TreeNode). IsLegal goals system budget (P ns).state) same_nodes (legal2 winner);
         well_made = subst (λ (ns : List TreeNode). (k : ℕ) (y : TreeNode) → slice_get ns k ≡ Some y → IsWellMadeProblem system y.problem) same_nodes

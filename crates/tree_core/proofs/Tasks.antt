@@ -22,6 +22,7 @@ module _ (question : Question) (system : System) (budget : ℕ) (p : Parts) (tre
       → ((k : ℕ) (x : TreeNode) → p.cursor ≤ k → k < r → slice_get p.state.nodes k ≡ Some x → free_place p.goals x ≡ None)
       → IsTree question system budget (record p { cursor = r })
   moved_tree going r within passed = record {
+    valid = tree.valid;
     replays = tree.replays;
     legal = tree.legal;
     well_made = tree.well_made;
@@ -45,6 +46,7 @@ module _ (question : Question) (system : System) (budget : ℕ) (p : Parts) (tre
   -- there is more room
   pub roomy_tree : (room : ℕ) → p.room ≤ room → IsTree question system budget (record p { room = room })
   roomy_tree room le = record {
+    valid = tree.valid;
     replays = tree.replays;
     legal = tree.legal;
     well_made = tree.well_made;
@@ -68,6 +70,7 @@ module _ (question : Question) (system : System) (budget : ℕ) (p : Parts) (tre
   -- there is room for more nodes
   pub node_roomy_tree : (room : ℕ) → IsTree question system budget (record p { node_room = room })
   node_roomy_tree room = record {
+    valid = tree.valid;
     replays = tree.replays;
     legal = tree.legal;
     well_made = tree.well_made;

@@ -83,6 +83,7 @@ module _ (question : Question) (system : System) (budget : ℕ) (p : Parts) (tre
         → Follows (goals_of question) system p.state (record { seat = h.ticket.seat; ticket = number; event = event }) (ended p.state number h.ticket h.node Idle)
         → IsTree question system budget (ended_parts p number h.ticket h.node event Idle)
     late_tree event ends over follows = record {
+      valid = tree.valid;
       replays = replays_more (goals_of question) system (opening question) p.history p.state (record { seat = h.ticket.seat; ticket = number; event = event })
           (ended p.state number h.ticket h.node Idle) tree.replays follows;
       legal = legal_ended (goals_of question) system budget p.state tree.shaped tree.legal number h.ticket h.there h.runs h.node h.made Idle not_running_idle p.state.winner p.state.is_aborted
@@ -131,6 +132,7 @@ module _ (question : Question) (system : System) (budget : ℕ) (p : Parts) (tre
 
     pub abort_tree : IsTree question system budget (aborted_parts p number h.ticket h.node)
     abort_tree = record {
+      valid = tree.valid;
       replays = replays_more (goals_of question) system (opening question) p.history p.state (record { seat = h.ticket.seat; ticket = number; event = aborted })
           (aborted_parts p number h.ticket h.node).state tree.replays aborts;
       legal = legal_ended (goals_of question) system budget p.state tree.shaped tree.legal number h.ticket h.there h.runs h.node h.made Idle not_running_idle p.state.winner

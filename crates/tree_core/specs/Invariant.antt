@@ -2,6 +2,7 @@
 use Rattle.std.specs.Prelude.{◌≡◌, ◌+◌, ◌<◌, ◌≤◌, ◌&&◌, ℕ, Bool, true, false, eqb, cond, List, [], ◌∷◌, length, Some, None, slice_get}
 use Rattle.std.specs.Option.{is_none}
 use Rattle.trs_defs.specs.System.{System}
+use Rattle.trs_core.specs.Valid.{IsValid}
 use Rattle.cert_step.specs.ProofProblem.{ProofProblem, IsWellMadeProblem}
 use Rattle.strategies.specs.declared.strategy.Strategy.{Strategy}
 use Rattle.strategies.specs.Kinds.{strategies_for}
@@ -93,6 +94,7 @@ AreTasks history s =
     → HasTask s number problem strategy
 
 pub record IsTree (question : Question) (system : System) (budget : ℕ) (p : Parts) : Type 0 where
+  pub valid : IsValid system
   pub replays : Replays (goals_of question) system (opening question) p.history p.state
   pub legal : IsLegal (goals_of question) system budget p.state
   pub well_made : (n : ℕ) (node : TreeNode) → slice_get p.state.nodes n ≡ Some node → IsWellMadeProblem system node.problem

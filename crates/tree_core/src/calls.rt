@@ -1,7 +1,9 @@
 //! The calls of a tree.
-ghost use Rattle.std.specs.Prelude.{◌≡◌, ◌<◌, ◌^◌, ◌⊎◌, ℕ, true, IsTrue, ◌↔◌, [], Some, map, slice_get, length, IfOk, OnErr, MatchResult};
-ghost use Rattle.cert_step.specs.ProofProblem.{IsWellMadeProblem, problem_of};
-ghost use Rattle.cert_step.specs.ProofStep.{node_step_of};
+ghost use Rattle.std.specs.Prelude.{◌≡◌, ◌<◌, ℕ, [], Some, All, map, slice_get, length, IfOk, OnErr, MatchResult};
+ghost use Rattle.cert_step.specs.ProofProblem.{Says};
+ghost use Rattle.trs_core.specs.Valid.{IsValid};
+ghost use Rattle.cert_step.specs.ProofStep.{node_step_of, IsWellMade};
+ghost use Rattle.tree_states.specs.Reports.{AreStepsOf};
 ghost use Rattle.proof_nodes.specs.Nodes.{IsAccepted};
 ghost use Rattle.tree_states.specs.Questions.{goals_of, claims};
 ghost use Rattle.tree_states.specs.History.{Runs, IsOwned, aborted};
@@ -31,6 +33,7 @@ impl<'a> Tree<'a> {
     ) -> Result<Tree<'a>, OutOfMemory>
         ensures { IfOk result (λ t. t ≡ record { question = question; system = system.now; budget = limits.budget; history = []; state = opening question }) }
     {
+        check_valid(system);
         let board = Board::new(alloc, question)?;
         Ok(Tree {
             question,
@@ -127,11 +130,20 @@ impl<'a> Tree<'a> {
         }
     }
 
-    /// The proof of the goal that was won: its steps in the order of the walk are accepted for its claim.
+    /// The proof of the goal that was won. Its claim is true of the system.
     pub fn certificate(&self, alloc: Global) -> Result<Proof, OutOfMemory>
         requires won { (g : ℕ) × (self.now.state.winner ≡ Some g) }
-        ensures accepted { IfOk result (λ p. IsAccepted self.now.system p.claim (map node_step_of p.steps.items)) }
-        ensures claim { IfOk result (λ p. (g : ℕ) → self.now.state.winner ≡ Some g → slice_get (claims self.now.question) g ≡ Some p.claim) }
+        ensures claim { IfOk result (λ p. (g : ℕ) → self.now.state.winner ≡ Some g
+            → slice_get (claims self.now.question) g ≡ Some p.claim) }
+
+        // The steps are those of the goal, in the order of the walk.
+        ensures steps { IfOk result (λ p. (g : ℕ) → self.now.state.winner ≡ Some g
+            → AreStepsOf self.now.state.nodes g (map node_step_of p.steps.items)) }
+        ensures well_made { IfOk result (λ p. All (λ s. IsWellMade self.now.system s.step)
+            (map node_step_of p.steps.items)) }
+        ensures accepted { IfOk result (λ p. IsAccepted self.now.system p.claim
+            (map node_step_of p.steps.items)) }
+        ensures true_claim { IfOk result (λ p. Says self.now.system p.claim) }
     {
         let Some(goal) = self.board.winner() else {
             unreachable!();
@@ -178,6 +190,13 @@ impl<'a> Tree<'a> {
     {
         self.limits
     }
+}
+
+// What is known of each system. There is nothing to run.
+fn check_valid(system: &Trs)
+    ensures { IsValid system.now }
+{
+    let _rules = system.rules();
 }
 
 // What an outcome says of its ticket.

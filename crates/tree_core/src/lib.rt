@@ -3,6 +3,7 @@
 #![tactic(auto)]
 
 mod calls;
+mod reporting;
 mod tree;
 
 pub use tree::Tree;
