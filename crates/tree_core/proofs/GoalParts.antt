@@ -1,8 +1,11 @@
 -- What is reported of a goal that is lost.
-use Rattle.std.proofs.Common.{◌≡◌, ℕ, ◌<◌, ◌&&◌, Bool, true, false, List, [], ◌∷◌, map, position, Option, Some, None, slice_get, refl, sym, ap, ◌∙◌, subst}
+use Rattle.std.proofs.Common.{◌≡◌, inl, inr, ℕ, ◌<◌, ◌+◌, Bool, true, List, [], ◌∷◌, ◌++◌, map, length, position, Option, Some, None, slice_get, refl, sym, ap, ◌∙◌, subst, arith}
 use Rattle.std.specs.Option.{is_none}
+use Rattle.std.specs.Prelude.{All}
 use Rattle.std.specs.List.{list_all}
+use Rattle.std.proofs.lemmas.List.{length-append, length-map, map-append}
 use Rattle.std.proofs.lemmas.List.Elements.{All-from_recursion}
+use Rattle.std.proofs.lemmas.Option.{slice_get_within}
 use Rattle.trs_defs.specs.System.{System}
 use Rattle.cert_step.specs.ProofProblem.{ProofProblem, problem_of}
 use Rattle.cert_step.specs.ProofStep.{ProofNodeStep, node_step_of, IsWellMade}
@@ -14,10 +17,12 @@ use Rattle.tree_states.specs.Marks.{has_failed}
 use Rattle.tree_states.specs.Questions.{goals_of}
 use Rattle.tree_states.specs.States.{TreeNode, Decided}
 use Rattle.tree_states.specs.Verdicts.{IsLost, IsStuck, HasFailed}
-use Rattle.tree_states.specs.Reports.{Walks, steps_from, Part, part_of, IsTruePart}
+use Rattle.tree_states.specs.Reports.{Walks, steps_from, Part, part_of, IsTruePart, ArePartsOf, IsTrueReport}
+use Rattle.tree_states.specs.Trees.{ProofTree}
 use Rattle.tree_board.specs.Parts.{Parts, all_failed}
 use Rattle.tree_board.specs.Stuck.{is_stuck, is_stuck_at, failures}
-use Rattle.tree_board.proofs.Idle.{IsFirstAt, no_position}
+use Rattle.tree_board.proofs.Idle.{IsFirstAt, first_position, no_position}
+use Rattle.tree_states.proofs.Lookups.{one_value, more_cases}
 use Rattle.tree_core.specs.Invariant.{IsTree}
 use Rattle.tree_core.specs.Reported.{IsReported}
 use Rattle.tree_core.proofs.Flags.{and_both, all_at, all_true}
@@ -41,6 +46,21 @@ stuck_seen o node there stuck =
     let open_is : is_none node.decision ≡ true = rw stuck.is_open refl in
     let all : list_all has_failed node.marks ≡ true = all_true has_failed node.marks (λ k m at. rw (stuck.failed k m at).1 refl) in
     ap is_stuck there ∙ rw (open_is, all) refl
+
+pub stuck_within : (nodes : List TreeNode) (n : ℕ) → is_stuck_at nodes n ≡ true → n < length nodes
+stuck_within nodes n e = let s = read_stuck (slice_get nodes n) e in slice_get_within nodes n s.0 s.1
+
+-- the place of the first stuck node, as it is read from the order
+pub record Placed (nodes : List TreeNode) (order : List ℕ) (place n : ℕ) : Type 0 where
+  pub first : IsFirstAt (is_stuck_at nodes) order place
+  pub is : first.x ≡ n
+
+pub placed : (nodes : List TreeNode) (order : List ℕ) (place n : ℕ) → position (is_stuck_at nodes) order ≡ Some place
+    → (place < length order → slice_get order place ≡ Some n) → Placed nodes order place n
+placed nodes order place n e read =
+    let first = first_position (is_stuck_at nodes) order place e in
+    let there = read (slice_get_within order place first.x first.there) in
+    record { first = first; is = one_value (slice_get order place) first.x n first.there there }
 
 module _ (question : Question) (system : System) (budget : ℕ) (p : Parts) (tree : IsTree question system budget p) (g : ℕ) (low : g < goals_of question)
     (order : List ℕ) (w : Walks p.state.nodes (g ∷ []) order) where
@@ -82,3 +102,33 @@ module _ (question : Question) (system : System) (budget : ℕ) (p : Parts) (tre
         well_made = All-from_recursion (λ (t : ProofNodeStep). IsWellMade system t.step) (map node_step_of r.steps.items) (steps_well_made question system budget p tree order (map node_step_of r.steps.items) steps);
         is_true = λ root is. (goal_is, subst (IsTruePart system budget root) same (stuck_part question system budget p tree g low order w r.node first.x node first.there s.1 s.2 root is));
       }
+
+-- ---- the parts of all goals
+
+-- one more part
+pub parts_more : (tree : ProofTree) (rs rs' : List GoalReport) (goal : ℕ) (r : GoalReport) → length rs ≡ goal
+    → ((g : ℕ) (part : Part) → slice_get (map part_of rs) g ≡ Some part → IsReported tree g part) → rs' ≡ rs ++ r ∷ [] → IsReported tree goal (part_of r)
+    → (length rs' ≡ goal + 1) × ((g : ℕ) (part : Part) → slice_get (map part_of rs') g ≡ Some part → IsReported tree g part)
+parts_more tree rs rs' goal r len each more is = (
+  (let a = ap length more ∙ length-append rs (r ∷ []) in omega (arith, a, len)),
+  λ g part there.
+      let seen : slice_get (map part_of rs ++ part_of r ∷ []) g ≡ Some part =
+      subst (λ ps. slice_get ps g ≡ Some part) (ap (map part_of) more ∙ map-append part_of rs (r ∷ [])) there in
+      elim (more_cases (map part_of rs) (part_of r) g part seen) [
+        | inl old ↦ each g part old
+        | inr new ↦
+            let g_is : goal ≡ g = sym (new.0 ∙ (length-map rs part_of ∙ len)) in
+            subst (λ (k : ℕ). IsReported tree k part) g_is (subst (IsReported tree goal) (sym new.1) is)
+      ],
+)
+
+module _ (tree : ProofTree) (parts : List Part) (count : length parts ≡ goals_of tree.question)
+    (each : (g : ℕ) (part : Part) → slice_get parts g ≡ Some part → IsReported tree g part) where
+  pub parts_of_tree : ArePartsOf tree.state.nodes parts
+  parts_of_tree g part there = (each g part there).of_tree
+
+  pub parts_well_made : (g : ℕ) (part : Part) → slice_get parts g ≡ Some part → All (λ s. IsWellMade tree.system s.step) part.steps
+  parts_well_made g part there = (each g part there).well_made
+
+  pub parts_true : IsTrueReport tree.system tree.question tree.budget parts
+  parts_true = record { count = count; each = λ g root part is there. (each g part there).is_true root is }
