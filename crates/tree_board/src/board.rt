@@ -1,5 +1,7 @@
 //! The parts of a tree that change: its history, nodes, tickets and goals.
-ghost use Rattle.std.specs.Prelude.{◌≡◌, ◌+◌, ◌-◌, ◌<◌, ◌≤◌, ◌^◌, ℕ, List, true, false, None, Some, [], ◌∷◌, ◌++◌, length, vec_len, map, slice_get, IfOk, OnOk, OnErr, MatchOption};
+ghost use Rattle.std.specs.Prelude.{◌≡◌, ◌+◌, ◌-◌, ◌<◌, ◌≤◌, ◌^◌, ℕ, List, None, Some, [], ◌∷◌, ◌++◌};
+ghost use Rattle.std.specs.Prelude.{true, false, length, vec_len, map, slice_get};
+ghost use Rattle.std.specs.Prelude.{IfOk, OnOk, OnErr, MatchOption};
 ghost use Rattle.std.specs.Vec.{vec_capacity};
 ghost use Rattle.cert_step.specs.ProofProblem.{problem_of};
 ghost use Rattle.strategies.specs.Kinds.{strategies_for};
@@ -8,7 +10,8 @@ ghost use Rattle.tree_states.specs.History.{HistoryEntry, claimed, found};
 ghost use Rattle.tree_board.specs.Seen.{entry_of, node_of, AreWithin};
 ghost use Rattle.tree_states.specs.States.{TreeNode, new_node};
 ghost use Rattle.tree_states.specs.Marks.{is_idle};
-ghost use Rattle.tree_board.specs.Parts.{is_done_by, is_over_by, free_place, has_verdict_by, claimed_parts, IsOpening, Parts, HasTicket};
+ghost use Rattle.tree_board.specs.Parts.{Parts, HasTicket, IsOpening, free_place, claimed_parts};
+ghost use Rattle.tree_board.specs.Parts.{has_verdict_by, is_done_by, is_over_by};
 
 use crate::entry::{Entry, Event};
 use crate::goal::Goal;
@@ -143,16 +146,18 @@ impl Board {
         self.nodes.reserve(count)
     }
 
-    /// The least node, from the cursor on, with a strategy that can be claimed, and the strategy's place. The cursor goes
-    /// there, or behind the last node.
+    /// The least node, from the cursor on, with a strategy that can be claimed, and the strategy's
+    /// place. The cursor goes there, or behind the last node.
     pub fn find(&mut self) -> (usize, Option<usize>)
         ensures parts { self.new ≡ record self.old { cursor = result.0 } }
         ensures later { self.old.cursor ≤ result.0 }
-        ensures within { self.old.cursor ≤ length self.old.state.nodes → result.0 ≤ length self.old.state.nodes }
+        ensures within { self.old.cursor ≤ length self.old.state.nodes
+            → result.0 ≤ length self.old.state.nodes }
         ensures passed { (k : ℕ) (node : TreeNode) → self.old.cursor ≤ k → k < result.0
             → slice_get self.old.state.nodes k ≡ Some node → free_place self.old.goals node ≡ None }
         ensures found { MatchOption result.1 (length self.old.state.nodes ≤ result.0)
-            (λ place. (node : TreeNode) × (slice_get self.old.state.nodes result.0 ≡ Some node) × (free_place self.old.goals node ≡ Some place)) }
+            (λ place. (node : TreeNode) × (slice_get self.old.state.nodes result.0 ≡ Some node)
+            × (free_place self.old.goals node ≡ Some place)) }
     {
         let (n, place) = first_free(&self.nodes, &self.goals, self.cursor);
         self.cursor = n;
@@ -166,9 +171,11 @@ impl Board {
         n: usize,
         place: usize,
     ) -> Result<(Problem, Strategy), OutOfMemory>
-        requires { (node : TreeNode) × (slice_get self.now.state.nodes n ≡ Some node) × (place < length (strategies_for node.problem)) }
+        requires { (node : TreeNode) × (slice_get self.now.state.nodes n ≡ Some node)
+            × (place < length (strategies_for node.problem)) }
         ensures { IfOk result (λ t. (node : TreeNode) → slice_get self.now.state.nodes n ≡ Some node
-            → (problem_of t.0 ≡ node.problem) × (slice_get (strategies_for node.problem) place ≡ Some t.1)) }
+            → (problem_of t.0 ≡ node.problem)
+            × (slice_get (strategies_for node.problem) place ≡ Some t.1)) }
     {
         let problem = &self.nodes[n].problem;
         let strategy = strategies_of(problem)[place];
@@ -185,11 +192,14 @@ impl Board {
         problem: Problem,
         strategy: Strategy,
     ) -> Result<u64, AllocError>
-        requires node { (node : TreeNode) × (slice_get self.old.state.nodes n ≡ Some node) × (place < length node.marks) }
+        requires node { (node : TreeNode) × (slice_get self.old.state.nodes n ≡ Some node)
+            × (place < length node.marks) }
         requires few { self.old.running ≤ length self.old.state.tickets }
         ensures ticket { IfOk result (λ t. t ≡ length self.old.state.tickets) }
-        ensures parts { OnOk result ((node : TreeNode) → slice_get self.old.state.nodes n ≡ Some node
-            → self.new ≡ record (claimed_parts self.old seat n place (problem_of problem) strategy node) { room = self.new.room }) }
+        ensures parts { OnOk result ((node : TreeNode)
+            → slice_get self.old.state.nodes n ≡ Some node → self.new ≡ record
+            (claimed_parts self.old seat n place (problem_of problem) strategy node)
+            { room = self.new.room }) }
         ensures room { OnOk result (self.old.running < self.new.room) }
         ensures err { OnErr result (self.new ≡ record self.old { room = self.new.room }) }
         ensures err_room { OnErr result (self.old.room ≤ self.new.room) }
@@ -244,10 +254,13 @@ fn push_root(
     problem: Problem,
 ) -> Result<(), AllocError>
     requires { length goals.old.items < 2 ^ 32 }
-    ensures goals { OnOk result (goals.new.items ≡ goals.old.items ++ record { open_nodes = 1; is_lost = false } ∷ []) }
-    ensures nodes { OnOk result ((history : List HistoryEntry) → map (node_of history) nodes.new.items
-        ≡ map (node_of history) nodes.old.items ++ new_node (length goals.old.items) (problem_of problem) ∷ []) }
-    ensures within { OnOk result ((bound : ℕ) → AreWithin bound nodes.old.items → AreWithin bound nodes.new.items) }
+    ensures goals { OnOk result (goals.new.items
+        ≡ goals.old.items ++ record { open_nodes = 1; is_lost = false } ∷ []) }
+    ensures nodes { OnOk result ((history : List HistoryEntry)
+        → map (node_of history) nodes.new.items ≡ map (node_of history) nodes.old.items
+        ++ new_node (length goals.old.items) (problem_of problem) ∷ []) }
+    ensures within { OnOk result ((bound : ℕ)
+        → AreWithin bound nodes.old.items → AreWithin bound nodes.new.items) }
 {
     let goal = goals.len() as u32;
     nodes.push(Node {

@@ -15,7 +15,8 @@ pub(crate) fn lose(goals: &mut Vec<Goal>, g: u32)
 
 // A node of the goal was decided and so many were made. Whether no node of it is open.
 pub(crate) fn recount(goals: &mut Vec<Goal>, g: u32, count: usize) -> bool
-    requires { (goal : Goal) → slice_get goals.old.items g ≡ Some goal → goal.open_nodes + count < 2 ^ 64 }
+    requires { (goal : Goal) → slice_get goals.old.items g ≡ Some goal
+        → goal.open_nodes + count < 2 ^ 64 }
     ensures goals { goals.new.items ≡ opened goals.old.items g count }
     ensures none { result ≡ no_open_nodes (slice_get goals.new.items g) }
 {

@@ -1,4 +1,5 @@
-ghost use Rattle.std.specs.Prelude.{◌≡◌, ◌+◌, ◌-◌, ◌<◌, ◌≤◌, ℕ, List, None, Some, ◌++◌, length, vec_len, map, position, slice_get, slice_set};
+ghost use Rattle.std.specs.Prelude.{◌≡◌, ◌+◌, ◌-◌, ◌<◌, ◌≤◌, ℕ, List, None, Some, ◌++◌, length};
+ghost use Rattle.std.specs.Prelude.{vec_len, map, position, slice_get, slice_set};
 ghost use Rattle.std.specs.Vec.{vec_capacity};
 ghost use Rattle.cert_step.specs.ProofProblem.{problem_of};
 ghost use Rattle.strategies.specs.Kinds.{strategies_for};
@@ -17,10 +18,14 @@ use tree_states::Mark;
 pub(crate) fn set_mark(nodes: &mut Vec<Node>, n: usize, place: usize, mark: Mark)
     requires node { n < length nodes.old.items }
     requires place { place < 6 }
-    ensures room { vec_capacity nodes.new - vec_len nodes.new ≡ vec_capacity nodes.old - vec_len nodes.old }
-    ensures within { (bound : ℕ) → AreWithin bound nodes.old.items → AreWithin bound nodes.new.items }
-    ensures nodes { (history : List HistoryEntry) (node : TreeNode) → slice_get (map (node_of history) nodes.old.items) n ≡ Some node → place < length node.marks
-        → map (node_of history) nodes.new.items ≡ slice_set (map (node_of history) nodes.old.items) n (marked node place mark) }
+    ensures room { vec_capacity nodes.new - vec_len nodes.new
+        ≡ vec_capacity nodes.old - vec_len nodes.old }
+    ensures within { (bound : ℕ) → AreWithin bound nodes.old.items
+        → AreWithin bound nodes.new.items }
+    ensures nodes { (history : List HistoryEntry) (node : TreeNode)
+        → slice_get (map (node_of history) nodes.old.items) n ≡ Some node
+        → place < length node.marks → map (node_of history) nodes.new.items
+        ≡ slice_set (map (node_of history) nodes.old.items) n (marked node place mark) }
 {
     nodes[n].marks[place] = mark;
 }
@@ -28,9 +33,11 @@ pub(crate) fn set_mark(nodes: &mut Vec<Node>, n: usize, place: usize, mark: Mark
 // The problems become the next nodes, of this goal.
 pub(crate) fn append_nodes(nodes: &mut Vec<Node>, goal: u32, problems: Vec<Problem>)
     requires { length problems.items ≤ vec_capacity nodes.old - vec_len nodes.old }
-    ensures within { (bound : ℕ) → AreWithin bound nodes.old.items → AreWithin bound nodes.new.items }
+    ensures within { (bound : ℕ) → AreWithin bound nodes.old.items
+        → AreWithin bound nodes.new.items }
     ensures nodes { (history : List HistoryEntry) → map (node_of history) nodes.new.items
-        ≡ map (node_of history) nodes.old.items ++ map (new_node goal) (map problem_of problems.items) }
+        ≡ map (node_of history) nodes.old.items
+        ++ map (new_node goal) (map problem_of problems.items) }
 {
     for problem in problems {
         nodes.push_reserved(Node {
@@ -45,10 +52,15 @@ pub(crate) fn append_nodes(nodes: &mut Vec<Node>, goal: u32, problems: Vec<Probl
 // Node number n is decided.
 pub(crate) fn decide_node(nodes: &mut Vec<Node>, n: usize, decision: Decision)
     requires { n < length nodes.old.items }
-    ensures room { vec_capacity nodes.new - vec_len nodes.new ≡ vec_capacity nodes.old - vec_len nodes.old }
-    ensures within { (bound : ℕ) → AreWithin bound nodes.old.items → decision.entry < bound → AreWithin bound nodes.new.items }
-    ensures nodes { (history : List HistoryEntry) (node : TreeNode) → slice_get (map (node_of history) nodes.old.items) n ≡ Some node
-        → map (node_of history) nodes.new.items ≡ slice_set (map (node_of history) nodes.old.items) n (record node { decision = Some (decided_of history decision) }) }
+    ensures room { vec_capacity nodes.new - vec_len nodes.new
+        ≡ vec_capacity nodes.old - vec_len nodes.old }
+    ensures within { (bound : ℕ) → AreWithin bound nodes.old.items → decision.entry < bound
+        → AreWithin bound nodes.new.items }
+    ensures nodes { (history : List HistoryEntry) (node : TreeNode)
+        → slice_get (map (node_of history) nodes.old.items) n ≡ Some node
+        → map (node_of history) nodes.new.items
+        ≡ slice_set (map (node_of history) nodes.old.items) n
+        (record node { decision = Some (decided_of history decision) }) }
 {
     nodes[n].decision = Some(decision);
 }

@@ -1,12 +1,14 @@
 //! The steps of a goal in the order of the walk, and its stuck node.
-ghost use Rattle.std.specs.Prelude.{◌≡◌, ◌<◌, ◌++◌, ◌∷◌, [], ℕ, List, Some, map, length, position, option_map, slice_get, IfOk, OnOk};
+ghost use Rattle.std.specs.Prelude.{◌≡◌, ◌<◌, ◌++◌, ◌∷◌, [], ℕ, List, Some, map, length};
+ghost use Rattle.std.specs.Prelude.{position, option_map, slice_get, IfOk, OnOk};
 ghost use Rattle.cert_step.specs.ProofProblem.{problem_of};
 ghost use Rattle.strategies.specs.Kinds.{strategies_for};
 ghost use Rattle.cert_step.specs.ProofStep.{step_of, node_step_of};
 ghost use Rattle.tree_states.specs.Reports.{Walks, steps_from};
 ghost use Rattle.tree_states.specs.States.{TreeNode};
 ghost use Rattle.tree_board.specs.Seen.{entry_of, node_of, step_in};
-ghost use Rattle.tree_board.specs.Stuck.{is_stuck as stuck, is_stuck_at, failures, is_spent as spent};
+ghost use Rattle.tree_board.specs.Stuck.{is_stuck as stuck, is_stuck_at};
+ghost use Rattle.tree_board.specs.Stuck.{failures, is_spent as spent};
 ghost use Rattle.tree_board.specs.Ascending.{AreAscending, step_list, step_at};
 
 use crate::board::Board;
@@ -25,7 +27,8 @@ impl Board {
     pub fn steps_of(&self, alloc: Global, root: u32) -> Result<Vec<NodeStep>, OutOfMemory>
         requires root { root < length self.now.state.nodes }
         requires ascending { AreAscending self.now.state.nodes }
-        ensures { IfOk result (λ steps. (order : List ℕ) × Walks self.now.state.nodes (root ∷ []) order
+        ensures { IfOk result (λ steps. (order : List ℕ)
+            × Walks self.now.state.nodes (root ∷ []) order
             × (map node_step_of steps.items ≡ steps_from self.now.state.nodes 0 order)) }
     {
         let order = self.walk(alloc, root)?;
@@ -43,7 +46,8 @@ impl Board {
 
     /// The steps of the nodes in this order.
     pub fn steps(&self, alloc: Global, order: &[usize]) -> Result<Vec<NodeStep>, OutOfMemory>
-        ensures { IfOk result (λ steps. map node_step_of steps.items ≡ steps_from self.now.state.nodes 0 order.now) }
+        ensures { IfOk result (λ steps. map node_step_of steps.items
+            ≡ steps_from self.now.state.nodes 0 order.now) }
     {
         let mut steps = Vec::new(alloc);
         for (i, n) in order.iter().enumerate() {
@@ -77,7 +81,8 @@ impl Board {
     /// The problem of node number n.
     pub fn problem(&self, alloc: Global, n: usize) -> Result<Problem, OutOfMemory>
         requires { n < length self.now.state.nodes }
-        ensures { IfOk result (λ p. (node : TreeNode) → slice_get self.now.state.nodes n ≡ Some node → problem_of p ≡ node.problem) }
+        ensures { IfOk result (λ p. (node : TreeNode)
+            → slice_get self.now.state.nodes n ≡ Some node → problem_of p ≡ node.problem) }
     {
         self.nodes[n].problem.copy(alloc)
     }
@@ -85,7 +90,8 @@ impl Board {
     /// The strategies of node number n in order, and whether each failed by its budget.
     pub fn failures(&self, alloc: Global, n: usize) -> Result<Vec<(Strategy, bool)>, AllocError>
         requires { n < length self.now.state.nodes }
-        ensures { IfOk result (λ failed. (node : TreeNode) → slice_get self.now.state.nodes n ≡ Some node
+        ensures { IfOk result (λ failed. (node : TreeNode)
+            → slice_get self.now.state.nodes n ≡ Some node
             → failed.items ≡ failures (strategies_for node.problem) node.marks) }
     {
         node_failures(alloc, &self.nodes[n])
@@ -93,7 +99,8 @@ impl Board {
 }
 
 fn push_step(steps: &mut Vec<NodeStep>, i: usize, step: Option<Step>) -> Result<(), AllocError>
-    ensures { OnOk result (map node_step_of steps.new.items ≡ map node_step_of steps.old.items ++ step_list i (option_map step_of step)) }
+    ensures { OnOk result (map node_step_of steps.new.items
+        ≡ map node_step_of steps.old.items ++ step_list i (option_map step_of step)) }
 {
     match step {
         None => Ok(()),
@@ -109,7 +116,8 @@ fn push_step(steps: &mut Vec<NodeStep>, i: usize, step: Option<Step>) -> Result<
 
 // The step that an entry found.
 fn copy_step(alloc: Global, entry: Option<&Entry>) -> Result<Step, OutOfMemory>
-    ensures { IfOk result (λ s. step_of s ≡ step_in (option_map (λ e. entry_of e.now) entry.entry)) }
+    ensures { IfOk result (λ s. step_of s
+        ≡ step_in (option_map (λ e. entry_of e.now) entry.entry)) }
 {
     match entry {
         Some(
@@ -146,7 +154,8 @@ fn is_stuck_node(node: &Node) -> bool
 
 fn node_failures(alloc: Global, node: &Node) -> Result<Vec<(Strategy, bool)>, AllocError>
     ensures { IfOk result (λ failed.
-        failed.items ≡ failures (strategies_for (problem_of node.now.problem)) (node_of [] node.now).marks) }
+        failed.items ≡ failures (strategies_for (problem_of node.now.problem))
+        (node_of [] node.now).marks) }
 {
     mark_failures(alloc, strategies_of(&node.problem), marks_of(node))
 }

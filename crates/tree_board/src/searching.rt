@@ -1,4 +1,5 @@
-ghost use Rattle.std.specs.Prelude.{◌≡◌, ◌+◌, ◌-◌, ◌<◌, ◌≤◌, ℕ, List, None, Some, length, map, slice_get, MatchOption};
+ghost use Rattle.std.specs.Prelude.{◌≡◌, ◌+◌, ◌-◌, ◌<◌, ◌≤◌, ℕ, List, None, Some};
+ghost use Rattle.std.specs.Prelude.{length, map, slice_get, MatchOption};
 ghost use Rattle.tree_states.specs.History.{HistoryEntry, claimed, found};
 ghost use Rattle.tree_board.specs.Seen.{node_of};
 ghost use Rattle.tree_states.specs.States.{TreeNode};
@@ -13,10 +14,13 @@ use crate::node_lists::{first_idle, marks_of};
 pub(crate) fn first_free(nodes: &[Node], goals: &[Goal], from: usize) -> (usize, Option<usize>)
     ensures later { from ≤ result.0 }
     ensures within { from ≤ length nodes.now → result.0 ≤ length nodes.now }
-    ensures passed { (history : List HistoryEntry) (k : ℕ) (node : TreeNode) → from ≤ k → k < result.0
-        → slice_get (map (node_of history) nodes.now) k ≡ Some node → free_place goals.now node ≡ None }
+    ensures passed { (history : List HistoryEntry) (k : ℕ) (node : TreeNode) → from ≤ k
+        → k < result.0 → slice_get (map (node_of history) nodes.now) k ≡ Some node
+        → free_place goals.now node ≡ None }
     ensures found { MatchOption result.1 (length nodes.now ≤ result.0)
-        (λ place. (history : List HistoryEntry) → (node : TreeNode) × (slice_get (map (node_of history) nodes.now) result.0 ≡ Some node) × (free_place goals.now node ≡ Some place)) }
+        (λ place. (history : List HistoryEntry) → (node : TreeNode)
+        × (slice_get (map (node_of history) nodes.now) result.0 ≡ Some node)
+        × (free_place goals.now node ≡ Some place)) }
 {
     let mut k = from;
     while k < nodes.len() {
@@ -31,7 +35,8 @@ pub(crate) fn first_free(nodes: &[Node], goals: &[Goal], from: usize) -> (usize,
 
 // The place of the strategy of the node that can be claimed.
 fn place_of(goals: &[Goal], node: &Node) -> Option<usize>
-    ensures { (history : List HistoryEntry) → result ≡ free_place goals.now (node_of history node.now) }
+    ensures { (history : List HistoryEntry)
+        → result ≡ free_place goals.now (node_of history node.now) }
 {
     if node.decision.is_some() || is_lost(goals, node.goal) {
         return None;

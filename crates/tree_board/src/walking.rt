@@ -1,5 +1,6 @@
 //! The walk of a goal's nodes, by which they are numbered anew.
-ghost use Rattle.std.specs.Prelude.{◌≡◌, ◌<◌, ◌+◌, ◌^◌, ◌++◌, ◌∷◌, [], ℕ, List, Some, length, map, slice_get, IfOk, OnOk};
+ghost use Rattle.std.specs.Prelude.{◌≡◌, ◌<◌, ◌+◌, ◌^◌, ◌++◌, ◌∷◌, [], ℕ, List, Some};
+ghost use Rattle.std.specs.Prelude.{length, map, slice_get, IfOk, OnOk};
 ghost use Rattle.tree_states.specs.History.{HistoryEntry};
 ghost use Rattle.tree_states.specs.Reports.{Walks, numbers};
 ghost use Rattle.tree_board.specs.Ascending.{IsAscending, own_kids};
@@ -8,12 +9,14 @@ ghost use Rattle.tree_board.specs.Seen.{node_of};
 use crate::node::Node;
 use std::alloc::{AllocError, Global};
 
-// The nodes of the goal whose root is given, in the order of the walk: children come after their parent, and behind those
-// that wait. Children have greater numbers than their parent, so the walk ends.
+// The nodes of the goal whose root is given, in the order of the walk: children come after their
+// parent, and behind those that wait. Children have greater numbers than their parent, so the walk
+// ends.
 pub(crate) fn walk(alloc: Global, nodes: &[Node], root: usize) -> Result<Vec<usize>, AllocError>
     requires root { root < length nodes.now }
     requires ascending { IsAscending nodes.now }
-    ensures { IfOk result (λ order. (history : List HistoryEntry) → Walks (map (node_of history) nodes.now) (root ∷ []) order.items) }
+    ensures { IfOk result (λ order. (history : List HistoryEntry)
+        → Walks (map (node_of history) nodes.now) (root ∷ []) order.items) }
 {
     let mut order = Vec::new(alloc);
     order.push(root)?;

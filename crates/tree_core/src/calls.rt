@@ -1,19 +1,21 @@
 //! The calls of a tree.
-ghost use Rattle.std.specs.Prelude.{◌≡◌, ◌<◌, ℕ, [], Some, All, map, slice_get, length, IfOk, OnErr, MatchResult};
+ghost use Rattle.std.specs.Prelude.{◌≡◌, ◌<◌, ℕ, [], Some, All, map, slice_get, length};
+ghost use Rattle.std.specs.Prelude.{IfOk, OnErr, MatchResult};
 ghost use Rattle.cert_step.specs.ProofProblem.{Says};
 ghost use Rattle.trs_core.specs.Valid.{IsValid};
 ghost use Rattle.cert_step.specs.ProofStep.{node_step_of, IsWellMade};
 ghost use Rattle.tree_states.specs.Reports.{AreStepsOf};
 ghost use Rattle.proof_nodes.specs.Nodes.{IsAccepted};
 ghost use Rattle.tree_states.specs.Questions.{goals_of, claims};
-ghost use Rattle.tree_states.specs.History.{Runs, IsOwned, aborted};
+ghost use Rattle.tree_states.specs.History.{Runs, IsOwned, IsFresh, aborted};
 ghost use Rattle.strategies.specs.Truth.{found_of};
 ghost use Rattle.tree_board.specs.Seen.{event_of as event_seen};
 ghost use Rattle.tree_states.specs.States.{opening};
 ghost use Rattle.tree_states.specs.Events.{Replays};
 ghost use Rattle.tree_states.specs.Legal.{IsLegal};
 ghost use Rattle.tree_states.specs.Verdicts.{IsWon};
-ghost use Rattle.tree_states.specs.Replies.{IsClaim, IsPoll, IsPost, Notes, IsVerdict, IsTaskOf, event_of_found, left_of, LeavesProblems};
+ghost use Rattle.tree_states.specs.Replies.{IsClaim, IsPoll, IsPost, IsTaskOf, IsVerdict, Notes};
+ghost use Rattle.tree_states.specs.Replies.{event_of_found, left_of, LeavesProblems};
 
 use crate::tree::Tree;
 use cert_step::{Claim, Proof};
@@ -31,7 +33,13 @@ impl<'a> Tree<'a> {
         system: &'a Trs,
         limits: Limits,
     ) -> Result<Tree<'a>, OutOfMemory>
-        ensures { IfOk result (λ t. t ≡ record { question = question; system = system.now; budget = limits.budget; history = []; state = opening question }) }
+        ensures { IfOk result (λ t. t ≡ record {
+          question = question;
+          system = system.now;
+          budget = limits.budget;
+          history = [];
+          state = opening question;
+        }) }
     {
         check_valid(system);
         let board = Board::new(alloc, question)?;
@@ -43,8 +51,9 @@ impl<'a> Tree<'a> {
         })
     }
 
-    /// Claims a task for a seat: the least open node whose goal is neither won nor lost and that has a strategy which neither
-    /// failed nor runs, and the first such strategy. It makes room for the ending of its ticket.
+    /// Claims a task for a seat: the least open node whose goal is neither won nor lost and that has
+    /// a strategy which neither failed nor runs, and the first such strategy. It makes room for the
+    /// ending of its ticket.
     pub fn claim(&mut self, alloc: Global, seat: u32) -> Result<Claimed, OutOfMemory>
         ensures claim { IfOk result (IsClaim self.old seat self.new) }
 
@@ -81,14 +90,16 @@ impl<'a> Tree<'a> {
         Polled::Cancelled
     }
 
-    /// Posts the outcome of the ticket's task. The ticket ends. `Err` is want of memory: it hands the outcome back, leaves
-    /// the tree as before, and comes only for a step that leaves problems.
+    /// Posts the outcome of the ticket's task. The ticket ends. `Err` is want of memory: it hands the
+    /// outcome back, leaves the tree as before, and comes only for a step that leaves problems.
     pub fn post(&mut self, ticket: u64, outcome: Outcome<'a>) -> Result<Posted, Outcome<'a>>
         requires running { Runs ticket self.old.history }
         requires outcome { IsTaskOf self.old ticket outcome }
-        ensures post { IfOk result (IsPost self.old ticket (event_of_found outcome.entry.found) self.new) }
+        ensures post { IfOk result
+            (IsPost self.old ticket (event_of_found outcome.entry.found) self.new) }
         ensures memory { OnErr result (self.new ≡ self.old) }
-        ensures back { MatchResult result (λ _. Unit {0}) (λ o. (o ≡ outcome.entry) × LeavesProblems outcome.entry.found) }
+        ensures back { MatchResult result (λ _. Unit {0})
+            (λ o. (o ≡ outcome.entry) × LeavesProblems outcome.entry.found) }
     {
         if self.board.is_over(ticket) {
             self.board
@@ -162,12 +173,18 @@ impl<'a> Tree<'a> {
     /// The number of entries of the history. The state is what the history leads to, and legal.
     pub fn history_len(&self) -> u64
         ensures length { result ≡ length self.now.history }
-        ensures replays { Replays (goals_of self.now.question) self.now.system (opening self.now.question) self.now.history self.now.state }
-        ensures legal { IsLegal (goals_of self.now.question) self.now.system self.now.budget self.now.state }
+        ensures replays { Replays (goals_of self.now.question) self.now.system
+            (opening self.now.question) self.now.history self.now.state }
+        ensures legal { IsLegal (goals_of self.now.question) self.now.system self.now.budget
+            self.now.state }
+
+        // All entries about a ticket are of one seat, and none is about a ticket not yet given.
         ensures owned { IsOwned self.now.history }
+        ensures fresh { IsFresh (length self.now.state.tickets) self.now.history }
 
         // At most one goal is ever won.
-        ensures once { (g h : ℕ) → g < goals_of self.now.question → h < goals_of self.now.question → IsWon self.now.state.nodes g
+        ensures once { (g h : ℕ) → g < goals_of self.now.question
+            → h < goals_of self.now.question → IsWon self.now.state.nodes g
             → IsWon self.now.state.nodes h → g ≡ h }
     {
         self.board.history_len() as u64

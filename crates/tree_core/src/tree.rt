@@ -6,12 +6,13 @@ use tree_board::Board;
 use tree_states::Question;
 use trs_core::Trs;
 
-/// The goals of a question on a system, and what was found out about them. Workers claim tasks and post what they find, in
-/// any order. Contracts see the question, the system, the budget, the history of all claims and endings, and the state to
-/// which the history leads: a tree is the replay of its history, and legal.
+/// The goals of a question on a system, and what was found out about them. Workers claim tasks and
+/// post what they find, in any order. Contracts see the question, the system, the budget, the
+/// history of all claims and endings, and the state to which the history leads: a tree is the replay
+/// of its history, and legal.
 ///
-/// All claims together take time linear in the nodes and the claims, but for the copies of problems. The other calls take
-/// constant time, and posting a step time linear in what it leaves.
+/// All claims together take time linear in the nodes and the claims, but for the copies of problems.
+/// The other calls take constant time, and posting a step time linear in what it leaves.
 #[derive(Drop)]
 pub struct Tree<'a> {
     pub(crate) question: Question,
