@@ -7,6 +7,7 @@ use Rattle.rewrite_core.specs.Check.{holds, returned, goes_on}
 use Rattle.dp_core.specs.Numbered.{numbers_from}
 use Rattle.dp_core.specs.SubtermConditions.{subterm_conditions}
 use Rattle.dp_core.specs.PairConditions.{pair_conditions}
+use Rattle.usable_rules.specs.UsableConditions.{usable_conditions}
 use Rattle.path_lpo.specs.Table.{PathEntry}
 use Rattle.kbo_order.specs.declared.entries.KboEntry.{KboEntry}
 use Rattle.cert_step.specs.ProofProblem as problem
@@ -54,6 +55,10 @@ module _ (system : System) (numbers : List ℕ) where
   pub kbo_applies : (entries : List KboEntry) → (left : List ℕ) × pair_conditions (kbo_comparing entries) system.rules (dependency_pairs system.rules) numbers (Ok left)
       → DoesApply system (problem.dp numbers) (step.kbo entries)
   kbo_applies entries h = (problem_if_any h.0, goes_on tt _ (holds refl) (goes_on h.0 _ h.1 returned))
+
+  pub usable_applies : (entries : List (ℕ × List ℕ)) → (left : List ℕ) × usable_conditions (poly_comparing entries) system.rules (dependency_pairs system.rules) numbers (Ok left)
+      → DoesApply system (problem.dp numbers) (step.usable_poly entries)
+  usable_applies entries h = (problem_if_any h.0, goes_on tt _ (holds refl) (goes_on h.0 _ h.1 returned))
 
   pub graph_applies : (items : List GroupOrSingle) → ComponentsPass → AreComponentsOf system numbers items → DoesApply system (problem.dp numbers) (step.graph items)
   graph_applies items law are =

@@ -13,13 +13,15 @@ use Rattle.pair_theory.specs.DependencyPair.{DependencyPair, dependency_pairs}
 use Rattle.pair_theory.specs.PairProblem.{IsPair}
 use Rattle.pair_theory.proofs.PairList.{listed_are_pairs}
 use Rattle.order_theory.specs.KnuthBendix.{arity_with_marks}
-use Rattle.dp_core.specs.Symbols.{symbols_of, symbols_of_all, symbols_of_rules}
+use Rattle.dp_core.specs.Numbered.{ArePairsOf}
+use Rattle.dp_core.specs.Symbols.{symbols_of, symbols_of_all, symbols_of_rules, symbols_below_roots}
 use Rattle.dp_core.specs.SubtermConditions.{roots_of}
-use Rattle.order_find.proofs.FewPairs.{taken_in, roots_small}
+use Rattle.order_find.proofs.FewPairs.{taken_in}
 use Rattle.order_problem.specs.OrderSpace.{unmarked, arity_with_mark}
-use Rattle.order_problem.specs.OrderRow.{AreOfOrder}
-use Rattle.order_problem.proofs.Covered.{plain_small}
+use Rattle.order_problem.specs.OrderRow.{AreSymbols, AreOfOrder}
 use Rattle.order_problem.proofs.Repeats.{symbols_distinct}
+use Rattle.usable_find.specs.UsableRow.{AreOfUsable}
+use Rattle.usable_find.proofs.OfUsable.{items_in}
 use Rattle.cert_step.specs.Entries.{AreDistinct}
 use Rattle.strategies.proofs.Distinctness.{listed_distinct}
 
@@ -67,6 +69,18 @@ module _ (arities : List ℕ) where
         ]
       ]
 
+  below_within : (pairs : List DependencyPair) → ((p : DependencyPair) → In p pairs → IsPair arities p) → (f : ℕ) → In f (symbols_below_roots pairs) → f < length arities
+  below_within [] well f i = absurd (no_in i)
+  below_within (p ∷ pairs) well f i =
+      let here = well p in_first in
+      elim (in_either (symbols_of_all p.from.args ++ symbols_of_all p.to.args) (symbols_below_roots pairs) i) [
+        | inl args ↦ elim (in_either (symbols_of_all p.from.args) (symbols_of_all p.to.args) args) [
+          | inl from ↦ symbol_within_all p.from.args here.from_well_formed.1 f from
+          | inr to ↦ symbol_within_all p.to.args here.to_well_formed.1 f to
+        ]
+        | inr later ↦ below_within pairs (λ q j. well q (in_rest j)) f later
+      ]
+
 -- ---- the arity of a symbol, plain or marked
 
 some_is : (o : Option ℕ) (n : ℕ) → o ≡ Some n → o ≡ Some (unwrap_or o 0)
@@ -87,37 +101,68 @@ is_small f e = grind (arith, nat_tests)
 is_great : (f : ℕ) → nat_lt f 4096 ≡ false → 4096 ≤ f
 is_great f e = grind (arith, nat_tests)
 
-module _ (system : System) (valid : IsSystem system) (few : length system.arities ≤ 4095) (numbers : List ℕ) (pairs : List DependencyPair) (symbols : List ℕ)
-    (of : AreOfOrder system numbers pairs symbols) where
+module _ (arities : List ℕ) (few : length arities ≤ 4095) (unmarked : List ℕ) (pairs : List DependencyPair) (symbols : List ℕ)
+    (plain_within : (f : ℕ) → In f unmarked → f < length arities) (pair_well : (p : DependencyPair) → In p pairs → IsPair arities p)
+    (are : AreSymbols unmarked pairs symbols) where
+  symbol_there : (f : ℕ) → In f symbols → (nat_lt f 4096 ≡ true → f < length arities) × (nat_lt f 4096 ≡ false → f - 4096 < length arities)
+  symbol_there f i = elim (in_either are.plain (map (λ g. g + 4096) are.roots) (subst (λ (l : List ℕ). In f l) are.together i)) [
+    | inl here ↦
+        (let below = plain_within f ((are.are_plain.each f).0 here) in
+        (λ e. below, λ e. (let great = is_great f e in absurd (omega (arith, below, few, great)))))
+    | inr marked ↦
+        (let (g, j, same) = of_map (λ (x : ℕ). x + 4096) are.roots marked in
+        let below = roots_within arities pairs pair_well g ((are.are_roots.each g).0 j) in
+        (λ e. (let small = is_small f e in absurd (omega (arith, same, small))), λ e. omega (arith, same, below)))
+  ]
+
+  arity_known : (f : ℕ) → In f symbols → arity_with_marks arities f ≡ Some (arity_with_mark arities f)
+  arity_known f i = let there = symbol_there f i in arity_by arities f (nat_lt f 4096) there.0 there.1
+
+  once_each : AreDistinct symbols
+  once_each = listed_distinct symbols (symbols_distinct unmarked pairs symbols (λ f i. (let below = plain_within f i in omega (arith, below, few))) are)
+
+-- ---- over all rules, and over the usable ones
+
+module _ (system : System) (valid : IsSystem system) where
   rule_well : (r : RewriteRule) → In r system.rules → IsWellFormed system.arities r.left × IsWellFormed system.arities r.right
   rule_well r i =
       let (k, at) = get_of_in i in
       let rule = valid.each k r at in
       (rule.left_well_formed, rule.right_well_formed)
 
-  pair_well : (p : DependencyPair) → In p pairs → IsPair system.arities p
-  pair_well p i = listed_are_pairs system valid p (taken_in (dependency_pairs system.rules) numbers pairs of.taken p i)
+  pair_of : (numbers : List ℕ) (pairs : List DependencyPair) → ArePairsOf (dependency_pairs system.rules) numbers pairs → (p : DependencyPair) → In p pairs → IsPair system.arities p
+  pair_of numbers pairs are p i = listed_are_pairs system valid p (taken_in (dependency_pairs system.rules) numbers pairs are p i)
 
-  root_small : (f : ℕ) → In f (roots_of pairs) → f < 4096
-  root_small f i = roots_small system.arities few pairs pair_well f i
+  rule_symbols_within : (f : ℕ) → In f (symbols_of_rules system.rules) → f < length system.arities
+  rule_symbols_within = symbols_within system.arities system.rules rule_well
 
-  symbol_there : (f : ℕ) → In f symbols → (nat_lt f 4096 ≡ true → f < length system.arities) × (nat_lt f 4096 ≡ false → f - 4096 < length system.arities)
-  symbol_there f i =
-      let are = of.are_symbols in
-      elim (in_either are.plain (map (λ g. g + 4096) are.roots) (subst (λ (l : List ℕ). In f l) are.together i)) [
-        | inl here ↦
-            (let below = symbols_within system.arities system.rules rule_well f ((are.are_plain.each f).0 here) in
-            (λ e. below, λ e. (let great = is_great f e in absurd (omega (arith, below, few, great)))))
-        | inr marked ↦
-            (let (g, j, same) = of_map (λ (x : ℕ). x + 4096) are.roots marked in
-            let below = roots_within system.arities pairs pair_well g ((are.are_roots.each g).0 j) in
-            (λ e. (let small = is_small f e in absurd (omega (arith, same, small))), λ e. omega (arith, same, below)))
-      ]
+  usable_symbols_within : (numbers : List ℕ) (pairs : List DependencyPair) (rules : List RewriteRule) (symbols : List ℕ) → AreOfUsable system numbers pairs rules symbols
+      → (f : ℕ) → In f (symbols_of_rules rules ++ symbols_below_roots pairs) → f < length system.arities
+  usable_symbols_within numbers pairs rules symbols of f i = elim (in_either (symbols_of_rules rules) (symbols_below_roots pairs) i) [
+    | inl rule ↦ symbols_within system.arities rules (λ r j. rule_well r (items_in system.rules of.rule_numbers rules of.chosen r j)) f rule
+    | inr pair ↦ below_within system.arities pairs (pair_of numbers pairs of.taken) f pair
+  ]
 
+module _ (system : System) (valid : IsSystem system) (few : length system.arities ≤ 4095) (numbers : List ℕ) (pairs : List DependencyPair) (symbols : List ℕ)
+    (of : AreOfOrder system numbers pairs symbols) where
   pub arity_there : (f : ℕ) → In f symbols → arity_with_marks system.arities f ≡ Some (arity_with_mark system.arities f)
-  arity_there f i = let there = symbol_there f i in arity_by system.arities f (nat_lt f 4096) there.0 there.1
+  arity_there =
+      arity_known system.arities few (symbols_of_rules system.rules) pairs symbols (rule_symbols_within system valid)
+      (pair_of system valid numbers pairs of.taken) of.are_symbols
 
   pub all_distinct : AreDistinct symbols
   all_distinct =
-      listed_distinct symbols
-      (symbols_distinct (symbols_of_rules system.rules) pairs symbols (plain_small system valid few pairs root_small symbols of.are_symbols) of.are_symbols)
+      once_each system.arities few (symbols_of_rules system.rules) pairs symbols (rule_symbols_within system valid)
+      (pair_of system valid numbers pairs of.taken) of.are_symbols
+
+module _ (system : System) (valid : IsSystem system) (few : length system.arities ≤ 4095) (numbers : List ℕ) (pairs : List DependencyPair) (rules : List RewriteRule)
+    (symbols : List ℕ) (of : AreOfUsable system numbers pairs rules symbols) where
+  pub usable_arity_there : (f : ℕ) → In f symbols → arity_with_marks system.arities f ≡ Some (arity_with_mark system.arities f)
+  usable_arity_there =
+      arity_known system.arities few (symbols_of_rules rules ++ symbols_below_roots pairs) pairs symbols (usable_symbols_within system valid numbers pairs rules symbols of)
+      (pair_of system valid numbers pairs of.taken) of.are_symbols
+
+  pub usable_distinct : AreDistinct symbols
+  usable_distinct =
+      once_each system.arities few (symbols_of_rules rules ++ symbols_below_roots pairs) pairs symbols (usable_symbols_within system valid numbers pairs rules symbols of)
+      (pair_of system valid numbers pairs of.taken) of.are_symbols

@@ -19,6 +19,8 @@ use Rattle.join_find.specs.NewmanRow.{FindsNewman}
 use Rattle.join_find.specs.ParallelRow.{FindsParallel}
 use Rattle.join_find.specs.StrongRow.{FindsStrong}
 use Rattle.join_find.specs.Laws.{FoundJoinsJoin, FoundFoursJoin, FoundStepsClose}
+use Rattle.label_find.specs.LabelRow.{FindsLabel}
+use Rattle.label_find.specs.Laws.{FoundLabelsApply}
 use Rattle.conf_find.specs.Fork.{Fork}
 use Rattle.conf_find.specs.ForkRows.{FindsFork, FindsSplit}
 use Rattle.conf_find.specs.Laws.{FoundForksApply, FoundSplitsApply}
@@ -34,7 +36,7 @@ use Rattle.rewrite_core.specs.declared.forks.ForkTest.TheVariants.{Normal, Apart
 use Rattle.strategies.specs.declared.strategy.Strategy.{Strategy}
 use Rattle.strategies.specs.declared.strategy.Strategy.TheVariants as strategy
 use Rattle.strategies.specs.Rows.{FindsOnPeaks}
-use Rattle.strategies.specs.Conditions.{Finds, fork_step, loop_is_found, parallel_is_found, strong_is_found, newman_is_found, fork_is_found, split_is_found}
+use Rattle.strategies.specs.Conditions.{Finds, fork_step, loop_is_found, parallel_is_found, strong_is_found, label_is_found, newman_is_found, fork_is_found, split_is_found}
 use Rattle.strategies.specs.Runs.{found}
 use Rattle.strategies.specs.declared.outcome.Findings.{Findings}
 use Rattle.strategies.specs.Kinds.{strategies_for}
@@ -70,6 +72,13 @@ module _ (system : System) (budget : ℕ) where
   strong_true items law h =
       none_left strategy.Strong problem.cr (step.strong items) (strong_is_found h)
       (goes_on tt _ (holds refl) (goes_on tt _ (law system h.peaks items h.listed h.found) returned)) tt
+
+  pub label_true : (ranks : List ℕ) (items : List PathsOfJoin) → FoundLabelsApply → FindsOnPeaks system (λ peaks. FindsLabel system.rules peaks budget ranks items)
+      → IsFound system budget strategy.Label problem.cr (step.label ranks items) []
+  label_true ranks items law h =
+      let l = law system h.peaks budget ranks items h.listed h.found in
+      none_left strategy.Label problem.cr (step.label ranks items) (label_is_found h)
+      (goes_on tt _ (holds refl) (goes_on tt _ l.conditions returned)) l.well_made
 
   pub newman_true : (items : List PathsOfJoin) → FoundJoinsJoin → FindsOnPeaks system (λ peaks. FindsNewman system.rules peaks items)
       → IsFound system budget strategy.Newman problem.cr_newman (step.newman items) (problem.sn ∷ [])

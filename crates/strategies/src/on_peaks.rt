@@ -67,7 +67,7 @@ fn search_peaks<P: Stop>(
     match strategy {
         Strategy::Parallel => search_parallel(alloc, trs, peaks, stop),
         Strategy::Strong => search_strong(alloc, trs, peaks, stop),
-        Strategy::Label => search_label(trs, budget, stop),
+        Strategy::Label => search_label(alloc, trs, peaks, budget, stop),
         Strategy::Newman => search_newman(alloc, trs, peaks, stop),
         Strategy::Fork => search_fork(alloc, trs, peaks, stop),
         Strategy::Split => search_split(alloc, trs, peaks, stop),

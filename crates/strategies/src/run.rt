@@ -75,7 +75,7 @@ pub(crate) fn search<'a, P: Stop>(
         Strategy::Poly => search_poly(alloc, trs, tables, problem, budget, stop),
         Strategy::Lpo => search_lpo(alloc, trs, tables, problem, budget, stop),
         Strategy::Kbo => search_kbo(alloc, trs, tables, problem, budget, stop),
-        Strategy::Usable => search_usable(trs, problem, budget, stop),
+        Strategy::Usable => search_usable(alloc, trs, tables, problem, budget, stop),
         Strategy::Loop => search_loop(alloc, trs, budget, stop),
         Strategy::Confluence => ended(search_confluence(alloc, trs, tables, problem)),
         _ => search_on_peaks(alloc, trs, tables, problem, strategy, budget, stop),

@@ -1,5 +1,9 @@
 //! The strategy subterm.
-ghost use Rattle.std.specs.Prelude.{◌≡◌, ◌<◌, ◌≤◌, IfOk, IsTrue};
+ghost use Rattle.std.specs.Prelude.{◌≡◌, ◌<◌, ◌≤◌, All, IfOk, IsTrue, length};
+ghost use Rattle.std.specs.List.Sorted.{IsStrictlyIncreasing};
+ghost use Rattle.pair_theory.specs.DependencyPair.{dependency_pairs};
+ghost use Rattle.order_find.specs.SubtermRow.{FindsSubterm, FailsSubterm};
+ghost use Rattle.order_space.specs.Outcome.{IsFinding, IsNotThere, IsSpent};
 ghost use Rattle.cert_step.specs.OnPairs.{for_pairs};
 ghost use Rattle.cert_step.specs.ProofProblem.{problem_of, IsWellMadeProblem};
 ghost use Rattle.strategies.specs.Endings.{IsAnswer};
@@ -11,8 +15,7 @@ use crate::tables::Tables;
 use crate::{Findings, Strategy};
 use assign_search::{Search, Stop};
 use cert_step::{Problem, Step};
-use dp_core::dependency_pairs;
-use order_find::{find_subterm, found_places_apply};
+use order_find::{find_subterm_in, found_places_apply};
 use std::alloc::Global;
 use trs_core::{OutOfMemory, Trs};
 
@@ -39,8 +42,7 @@ pub(crate) fn search_subterm<'a, P: Stop>(
     };
     let _rules = trs.rules();
     found_places_apply();
-    let all = dependency_pairs(alloc, trs)?;
-    match find_subterm(alloc, trs, &all, numbers, budget, stop)? {
+    match projection(alloc, trs, tables, numbers, budget, stop)? {
         Search::Found(found) => {
             let step = Step::Subterm(found);
             let findings = leaving(alloc, &mut tables.prepared, problem, step)?;
@@ -50,4 +52,31 @@ pub(crate) fn search_subterm<'a, P: Stop>(
         Search::Spent => Ok(Searched::Ended(Findings::Spent)),
         Search::Stopped => Ok(Searched::Stopped),
     }
+}
+
+/// The projection that is found over the pairs of the system, which are made once.
+fn projection<'a, P: Stop>(
+    alloc: Global,
+    trs: &'a Trs,
+    tables: &mut Tables<'a>,
+    numbers: &[u32],
+    budget: u64,
+    stop: &mut P,
+) -> Result<Search<Vec<(u32, u8)>>, OutOfMemory>
+    requires tables { AreTablesOf trs.now tables.old }
+    requires ascending { IsStrictlyIncreasing numbers.now }
+    requires numbers { All (λ n. n < length (dependency_pairs trs.now.rules)) numbers.now }
+    ensures answer { IfOk result (IsFinding
+        (λ places. FindsSubterm trs.now numbers.now budget places.items)
+        (FailsSubterm trs.now numbers.now (IsNotThere budget))
+        (FailsSubterm trs.now numbers.now (IsSpent budget))
+        (P.stops stop.old < P.stops stop.new)) }
+    ensures tables { AreTablesOf trs.now tables.new }
+    ensures later { P.stops stop.old ≤ P.stops stop.new }
+    ensures kept { P.kept stop.new ≡ P.kept stop.old }
+{
+    let pairs = tables.take_pairs(alloc, trs)?;
+    let found = find_subterm_in(alloc, trs, &pairs, numbers, budget, stop);
+    tables.pairs = Some(pairs);
+    found
 }

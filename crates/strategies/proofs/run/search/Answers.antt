@@ -26,6 +26,9 @@ search_lpo-requires-clause-pairs g c = is_for_this (problem_of c.args.problem.no
 pub search_kbo-requires-clause-pairs : goal.search_kbo-requires-clause-pairs
 search_kbo-requires-clause-pairs g c = is_for_this (problem_of c.args.problem.now) c.args.strategy strategy.Kbo c.requires.kind c.in-Kbo.is
 
+pub search_usable-requires-clause-pairs : goal.search_usable-requires-clause-pairs
+search_usable-requires-clause-pairs g c = is_for_this (problem_of c.args.problem.now) c.args.strategy strategy.Usable c.requires.kind c.in-Usable.is
+
 pub returns-in-Dp-clause-answer : goal.returns-in-Dp-clause-answer
 returns-in-Dp-clause-answer g c =
     answers_always c.args.trs.now c.args.budget c.args.strategy strategy.Dp (problem_of c.args.problem.now) _ c.search_dp.result c.ended.result c.in-Dp.is c.ended.ensures
