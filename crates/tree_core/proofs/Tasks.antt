@@ -43,6 +43,7 @@ module _ (question : Question) (system : System) (budget : ℕ) (p : Parts) (tre
     };
     is_told = tree.is_told;
     given = tree.given;
+    bounded = record { within = tree.bounded.within };
   }
 
   -- there is more room
@@ -67,6 +68,7 @@ module _ (question : Question) (system : System) (budget : ℕ) (p : Parts) (tre
     };
     is_told = tree.is_told;
     given = tree.given;
+    bounded = record { within = tree.bounded.within };
   }
 
   -- there is room for more nodes
@@ -91,6 +93,7 @@ module _ (question : Question) (system : System) (budget : ℕ) (p : Parts) (tre
     };
     is_told = tree.is_told;
     given = tree.given;
+    bounded = record { within = tree.bounded.within };
   }
 
   -- a task for a strategy of a node can be run

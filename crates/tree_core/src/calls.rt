@@ -177,6 +177,7 @@ impl<'a> Tree<'a> {
     /// The number of entries of the history. The state is what the history leads to, and legal.
     pub fn history_len(&self) -> u64
         ensures length { result ≡ length self.now.history }
+        ensures bound { length self.now.history < 2 ^ 21 }
         ensures replays { Replays (goals_of self.now.question) self.now.system
             (opening self.now.question) self.now.history self.now.state }
         ensures legal { IsLegal (goals_of self.now.question) self.now.system self.now.budget
