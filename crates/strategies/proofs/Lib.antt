@@ -9,3 +9,4 @@ pub mod KnuthMade
 pub mod GraphMade
 pub mod Applying
 pub mod TrueRows
+pub mod Shrinking

@@ -5,7 +5,7 @@ use Rattle.std.proofs.lemmas.Option.{slice_get_within}
 use Rattle.trs_defs.specs.System.{System}
 use Rattle.cert_step.specs.ProofProblem.{ProofProblem, root_of}
 use Rattle.cert_step.specs.PlainProblem.{plain}
-use Rattle.cert_step.specs.ProofStep.{ProofNodeStep, IsWellMade}
+use Rattle.cert_step.specs.ProofStep.{ProofStep, ProofNodeStep, IsWellMade}
 use Rattle.proof_nodes.specs.Nodes.{IsAccepted}
 use Rattle.cert_step.specs.declared.claim.Claim.{Claim}
 use Rattle.cert_step.proofs.AnyWay.{applies_plainly}
@@ -13,7 +13,7 @@ use Rattle.tree_states.specs.declared.question.Question.{Question}
 use Rattle.tree_states.specs.declared.question.Question.TheVariants.{Termination, Confluence, Unique}
 use Rattle.tree_states.specs.Questions.{roots, claims, goals_of}
 use Rattle.tree_states.specs.States.{TreeNode, Decided}
-use Rattle.tree_states.specs.Reports.{Walks, steps_from, with_step, decision_at}
+use Rattle.tree_states.specs.Reports.{Walks, steps_from, with_step, decision_at, IsFoundStep}
 use Rattle.tree_board.specs.Ascending.{AreAscending}
 use Rattle.tree_board.specs.Parts.{Parts}
 use Rattle.tree_core.specs.Invariant.{IsTree}
@@ -60,22 +60,36 @@ module _ (question : Question) (system : System) (budget : ℕ) (p : Parts) (tre
       let l = tree.legal.decided n node d there dec in
       (l.left, l.applies, l.count, l.children)) g r.node r.there claim fits won.1 order w)
 
-  step_made : (i n : ℕ) (d : Option Decided) (rest : List ProofNodeStep) → decision_at (slice_get p.state.nodes n) ≡ d → AllByRecursion (λ (s : ProofNodeStep). IsWellMade system s.step) rest
-      → AllByRecursion (λ (s : ProofNodeStep). IsWellMade system s.step) (with_step i d rest)
-  step_made i n None rest e made = made
-  step_made i n (Some d) rest e made = (of_node (slice_get p.state.nodes n) refl e, made)
-    where
-      of_node : (o : Option TreeNode) → slice_get p.state.nodes n ≡ o → decision_at o ≡ Some d → IsWellMade system d.step
-      of_node None there dec = absurd cc
-      of_node (Some node) there dec = (tree.legal.decided n node d there dec).well_made
+  -- what is true of each decision is true of the steps
+  module _ (P : ProofStep → Type 0) (each : (n : ℕ) (node : TreeNode) (d : Decided) → slice_get p.state.nodes n ≡ Some node → node.decision ≡ Some d → P d.step) where
+    step_is : (i n : ℕ) (d : Option Decided) (rest : List ProofNodeStep) → decision_at (slice_get p.state.nodes n) ≡ d → AllByRecursion (λ (s : ProofNodeStep). P s.step) rest
+        → AllByRecursion (λ (s : ProofNodeStep). P s.step) (with_step i d rest)
+    step_is i n None rest e are = are
+    step_is i n (Some d) rest e are = (of_node (slice_get p.state.nodes n) refl e, are)
+      where
+        of_node : (o : Option TreeNode) → slice_get p.state.nodes n ≡ o → decision_at o ≡ Some d → P d.step
+        of_node None there dec = absurd cc
+        of_node (Some node) there dec = each n node d there dec
 
-  made_from : (i : ℕ) (order : List ℕ) → AllByRecursion (λ (s : ProofNodeStep). IsWellMade system s.step) (steps_from p.state.nodes i order)
-  made_from i [] = tt
-  made_from i (n ∷ order) = step_made i n (decision_at (slice_get p.state.nodes n)) (steps_from p.state.nodes (i + 1) order) refl (made_from (i + 1) order)
+    each_from : (i : ℕ) (order : List ℕ) → AllByRecursion (λ (s : ProofNodeStep). P s.step) (steps_from p.state.nodes i order)
+    each_from i [] = tt
+    each_from i (n ∷ order) = step_is i n (decision_at (slice_get p.state.nodes n)) (steps_from p.state.nodes (i + 1) order) refl (each_from (i + 1) order)
+
+    each_step : (order : List ℕ) (steps : List ProofNodeStep) → steps ≡ steps_from p.state.nodes 0 order → AllByRecursion (λ (s : ProofNodeStep). P s.step) steps
+    each_step order steps same = subst (λ (ss : List ProofNodeStep). AllByRecursion (λ (s : ProofNodeStep). P s.step) ss) (sym same) (each_from 0 order)
 
   -- the steps are well-made
   pub steps_well_made : (order : List ℕ) (steps : List ProofNodeStep) → steps ≡ steps_from p.state.nodes 0 order → AllByRecursion (λ (s : ProofNodeStep). IsWellMade system s.step) steps
-  steps_well_made order steps same = subst (λ (ss : List ProofNodeStep). AllByRecursion (λ (s : ProofNodeStep). IsWellMade system s.step) ss) (sym same) (made_from 0 order)
+  steps_well_made order steps same = each_step (λ s. IsWellMade system s) (λ n node d there dec. (tree.legal.decided n node d there dec).well_made) order steps same
+
+  -- they are found
+  pub steps_found : (order : List ℕ) (steps : List ProofNodeStep) → steps ≡ steps_from p.state.nodes 0 order → AllByRecursion (λ (s : ProofNodeStep). IsFoundStep system budget s.step) steps
+  steps_found order steps same = each_step (λ s. IsFoundStep system budget s) found_at order steps same
+    where
+      found_at : (n : ℕ) (node : TreeNode) (d : Decided) → slice_get p.state.nodes n ≡ Some node → node.decision ≡ Some d → IsFoundStep system budget d.step
+      found_at n node d there dec =
+          let l = tree.legal.decided n node d there dec in
+          record { problem = node.problem; strategy = l.strategy; well_made = tree.well_made n node there; kind = l.kind; finds = l.finds }
 
   pub goal_within : (g : ℕ) → g < goals_of question → g < length p.state.nodes
   goal_within g low = let r = tree.shaped.root g low in slice_get_within p.state.nodes g r.node r.there

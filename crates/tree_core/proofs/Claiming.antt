@@ -28,7 +28,9 @@ use Rattle.tree_states.proofs.Lookups.{get_set}
 use Rattle.tree_states.proofs.Lookups.{one_value, set_cases, append_left, append_right, more_cases}
 use Rattle.tree_core.proofs.Marking.{carries_same, same_later, same_before, before, there_marked, length_later, legal_same, child_same, closed_same, mark_kept, mark_was, shape_marked, problems_marked}
 use Rattle.tree_core.proofs.Endings.{IsFailure, count_more, well_made_ended}
+use Rattle.strategies.specs.TaskBounds.{pairs_in}
 use Rattle.tree_core.proofs.Counting.{counted_marked}
+use Rattle.tree_core.proofs.Bounding.{bounded_claim}
 use Rattle.tree_states.proofs.Lookups.{get_below}
 use Rattle.tree_core.proofs.Flags.{and_both, no_verdict, is_lost, is_done, not_true, true_false, lost_is, some_not, all_at}
 use Rattle.tree_board.proofs.Idle.{IsOpenAt, open_at, none_free, idle_is, not_idle}
@@ -114,6 +116,9 @@ module _ (question : Question) (system : System) (budget : ℕ) (p : Parts) (tre
       idle = idle;
       first = λ k lt e. not_idle Idle (at.first.first k Idle lt e) refl;
     }
+
+    live : (is_some node.decision || is_lost_in p.goals node.goal) ≡ false
+    live = rw (at.is_open, at.not_lost) refl
 
     before_none : (k : ℕ) (x : TreeNode) → k < n → slice_get p.state.nodes k ≡ Some x → free_place p.goals x ≡ None
     before_none k x lt here = dite (dec_le p.cursor k) (λ le. passed k x le lt here) (λ small. tree.counted.passed going k x (omega (arith, small)) here)
@@ -263,6 +268,7 @@ module _ (question : Question) (system : System) (budget : ℕ) (p : Parts) (tre
         is_told = told_claim p.history p.state.tickets tree.is_told entry ticket refl refl refl;
         given = given_claim p.history p.state (with_claim p.state seat n place node) tree.given entry (problems_marked p.state.nodes n place node Running there) (places_more p.state.tickets ticket)
             problem strategy refl has_task;
+        bounded = bounded_claim question (pairs_in system) p tree.bounded seat n place node there idle live going problem strategy room;
       }
 
   -- where nothing can be claimed

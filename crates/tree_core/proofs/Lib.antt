@@ -10,6 +10,7 @@ pub mod Opening
 pub mod Claiming
 pub mod Tasks
 pub mod Failing
+pub mod Bounding
 pub mod Deciding
 pub mod Posting
 pub mod Walks

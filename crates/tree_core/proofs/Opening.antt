@@ -22,7 +22,9 @@ use Rattle.tree_board.specs.Parts.{Parts, IsOpening, fresh_goals}
 use Rattle.tree_core.specs.Invariant.{IsShaped, IsTold, IsTree, opens}
 use Rattle.tree_states.proofs.Lookups.{map_cases}
 use Rattle.tree_states.proofs.Lookups.{get_below}
+use Rattle.strategies.specs.TaskBounds.{pairs_in}
 use Rattle.tree_core.proofs.Won.{closed_decided}
+use Rattle.tree_core.proofs.Bounding.{bounded_opening}
 
 root_there : (h : ℕ) (ps : List ProofProblem) (k : ℕ) (p : ProofProblem) → slice_get ps k ≡ Some p → slice_get (roots_from h ps) k ≡ Some (new_node (h + k) p)
 root_there h [] k p there = absurd cc
@@ -179,5 +181,6 @@ module _ (system : System) (budget : ℕ) (question : Question) where
       passed = λ going k y lt there. absurd (let z = is.cursor in omega (arith, lt, z));
     };
     is_told = rw (is.history, is.state) opening_told;
+    bounded = bounded_opening question (pairs_in system) p is;
     given = λ seat number problem strategy h. elim (subst (λ (es : List HistoryEntry). IsGiven es seat number problem strategy) is.history h) [ ];
   }

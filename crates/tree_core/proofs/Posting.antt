@@ -39,8 +39,12 @@ use Rattle.tree_core.proofs.Won.{won_none_open, none_open_won, is_open_of}
 use Rattle.tree_states.proofs.Lookups.{get_below}
 use Rattle.tree_core.proofs.Flags.{over_is, is_over, true_false}
 use Rattle.tree_core.proofs.Told.{told_ending}
+use Rattle.std.proofs.lemmas.List.{length-append}
+use Rattle.strategies.specs.TaskBounds.{pairs_in, tasks_below, tasks_of_all}
+use Rattle.strategies.proofs.Shrinking.{found_shrinks}
+use Rattle.tree_core.proofs.Bounding.{bounded_failure, bounded_step}
 use Rattle.tree_core.proofs.Given.{KeepProblems, given_ending, places_ended}
-use Rattle.tree_core.proofs.Trees.{was, runs_at, tree_of, replays_more, no_failed_running, not_running_idle, not_failed_idle}
+use Rattle.tree_core.proofs.Trees.{was, running_ok, runs_at, tree_of, replays_more, no_failed_running, not_running_idle, not_failed_idle}
 
 some_in : {A : Type 0} (xs : List A) (k : ℕ) (x : A) → slice_get xs k ≡ Some x → In x xs
 some_in [] k x there = absurd cc
@@ -64,6 +68,12 @@ module _ (question : Question) (system : System) (budget : ℕ) (p : Parts) (tre
 
   abbrev entry : Event → HistoryEntry
   entry event = record { seat = h.ticket.seat; ticket = number; event = event }
+
+  run_more : 0 < p.running
+  run_more = running_ok question system budget p tree number h
+
+  run_less : p.running - 1 + 1 ≡ p.running
+  run_less = let r = run_more in omega (arith, r)
 
   was_here : slice_get h.node.marks h.ticket.place ≡ Some Running
   was_here = was question system budget p tree number h
@@ -121,6 +131,7 @@ module _ (question : Question) (system : System) (budget : ℕ) (p : Parts) (tre
       is_told = told_ending p.history p.state.tickets tree.is_told (entry (failed spent)) h.ticket h.there refl h.runs;
       given = given_ending p.history p.state (failed_parts p number h.ticket h.node spent).state tree.given (entry (failed spent))
           (problems_marked p.state.nodes h.ticket.node h.ticket.place h.node (Failed spent) h.made) (places_ended p.state.tickets number h.ticket h.there) (λ q st e. cc);
+      bounded = bounded_failure question (pairs_in system) p tree.bounded number h.ticket h.node h.made run_more was_here wanted spent;
     }
 
     -- ---- a step is taken
@@ -189,6 +200,9 @@ module _ (question : Question) (system : System) (budget : ℕ) (p : Parts) (tre
           none_of : (o : Option ℕ) → is_some o ≡ false → o ≡ None
           none_of None e = refl
           none_of (Some x) e = absurd cc
+
+      shrinks : tasks_of_all (pairs_in system) left ≤ tasks_below (pairs_in system) h.node.problem
+      shrinks = found_shrinks system budget strategy h.node.problem step left (tree.well_made n h.node h.made) is.finds is.applies
 
       old_goal : (old : Goal) × (slice_get p.goals g ≡ Some old)
       old_goal = get_below p.goals g (omega (arith, g_low, tree.counted.length_is))
@@ -368,6 +382,8 @@ module _ (question : Question) (system : System) (budget : ℕ) (p : Parts) (tre
         is_told = told_ending p.history p.state.tickets tree.is_told (entry (found step)) h.ticket h.there refl h.runs;
         given = given_ending p.history p.state (P W).state tree.given (entry (found step)) (subst (KeepProblems p.state.nodes) same_nodes problems_decided)
             (places_ended p.state.tickets number h.ticket h.there) (λ q st e. cc);
+        bounded = bounded_step question (pairs_in system) p tree.bounded number h.ticket h.node h.made run_more was_here wanted step left shrinks more lost_flag (P W)
+            (length-append p.history _) run_less refl refl;
       }
 
 opens_le : (g : ℕ) (nodes : List TreeNode) → opens g nodes ≤ length nodes

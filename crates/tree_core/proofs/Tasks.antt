@@ -3,7 +3,9 @@ use Rattle.std.proofs.Common.{◌≡◌, ℕ, ◌<◌, ◌≤◌, false, [], ◌
 use native.Mathlib.Decide.{dec_le}
 use mathlib.Core.Logic.{dite}
 use Rattle.trs_defs.specs.System.{System}
-use Rattle.cert_step.specs.ProofProblem.{problem_of}
+use Rattle.trs_defs.specs.Member.{In}
+use Rattle.trs_defs.proofs.Members.{in_of_get}
+use Rattle.cert_step.specs.ProofProblem.{ProofProblem, problem_of, IsWellMadeProblem}
 use Rattle.cert_step.specs.declared.problem.Problem.{Problem}
 use Rattle.strategies.specs.declared.strategy.Strategy.{Strategy}
 use Rattle.strategies.specs.Kinds.{strategies_for}
@@ -11,7 +13,7 @@ use Rattle.tree_states.specs.declared.question.Question.{Question}
 use Rattle.tree_states.specs.States.{TreeNode}
 use Rattle.tree_board.specs.Parts.{Parts, free_place, is_done_by, claimed_parts}
 use Rattle.tree_states.specs.Trees.{ProofTree}
-use Rattle.tree_states.specs.Replies.{IsTask, IsAgain}
+use Rattle.tree_states.specs.Replies.{IsTask, IsAgain, IsRunnable}
 use Rattle.tree_core.specs.Invariant.{IsTree}
 use Rattle.tree_core.proofs.Claiming.{claims, claim_runs, not_done, none_is_free, again}
 use Rattle.tree_core.proofs.Trees.{tree_of}
@@ -41,6 +43,7 @@ module _ (question : Question) (system : System) (budget : ℕ) (p : Parts) (tre
     };
     is_told = tree.is_told;
     given = tree.given;
+    bounded = record { within = tree.bounded.within };
   }
 
   -- there is more room
@@ -65,6 +68,7 @@ module _ (question : Question) (system : System) (budget : ℕ) (p : Parts) (tre
     };
     is_told = tree.is_told;
     given = tree.given;
+    bounded = record { within = tree.bounded.within };
   }
 
   -- there is room for more nodes
@@ -89,7 +93,19 @@ module _ (question : Question) (system : System) (budget : ℕ) (p : Parts) (tre
     };
     is_told = tree.is_told;
     given = tree.given;
+    bounded = record { within = tree.bounded.within };
   }
+
+  -- a task for a strategy of a node can be run
+  pub is_runnable : (n : ℕ) (node : TreeNode) → slice_get p.state.nodes n ≡ Some node → (number place : ℕ) (pr : Problem) (strategy : Strategy) (now : ProofTree)
+      → tree_of question system budget p ≡ now → node.problem ≡ problem_of pr → slice_get (strategies_for node.problem) place ≡ Some strategy
+      → IsRunnable now.system (record { ticket = number; problem = pr; strategy = strategy })
+  is_runnable n node there number place pr strategy now is pr_is strategy_is =
+      subst (λ (t : ProofTree). IsRunnable t.system (record { ticket = number; problem = pr; strategy = strategy })) is
+      (record {
+        problem = subst (IsWellMadeProblem system) pr_is (tree.well_made n node there);
+        kind = subst (λ (q : ProofProblem). In strategy (strategies_for q)) pr_is (in_of_get (strategies_for node.problem) place strategy strategy_is);
+      })
 
   pub is_again : (going : is_done_by p ≡ false) → ((k : ℕ) (x : TreeNode) → slice_get p.state.nodes k ≡ Some x → free_place p.goals x ≡ None)
       → IsAgain (tree_of question system budget p)

@@ -22,7 +22,9 @@ use Rattle.tree_core.proofs.Told.{runs_there, told_ending, runs_of_seat}
 use Rattle.tree_core.proofs.Given.{given_ending, places_ended}
 use Rattle.tree_core.proofs.Flags.{over_is, is_over, verdict_is, has_verdict, or_right, true_false}
 use Rattle.tree_core.proofs.Endings.{was_running, shape_ended, legal_ended, well_made_ended}
+use Rattle.strategies.specs.TaskBounds.{pairs_in}
 use Rattle.tree_core.proofs.Counting.{some_run, some_room, counted_late, counted_aborted}
+use Rattle.tree_core.proofs.Bounding.{bounded_late, bounded_abort}
 
 pub replays_more : (goals : ℕ) (system : System) (first : State) (es : List HistoryEntry) (s : State) (e : HistoryEntry) (last : State)
     → Replays goals system first es s → Follows goals system s e last → Replays goals system first (es ++ e ∷ []) last
@@ -95,6 +97,7 @@ module _ (question : Question) (system : System) (budget : ℕ) (p : Parts) (tre
       is_told = told_ending p.history p.state.tickets tree.is_told (record { seat = h.ticket.seat; ticket = number; event = event }) h.ticket h.there refl h.runs;
       given = given_ending p.history p.state (ended p.state number h.ticket h.node Idle) tree.given (record { seat = h.ticket.seat; ticket = number; event = event })
           (problems_marked p.state.nodes h.ticket.node h.ticket.place h.node Idle h.made) (places_ended p.state.tickets number h.ticket h.there) ends;
+      bounded = bounded_late question (pairs_in system) p tree.bounded number h.ticket h.node h.made running_ok event over;
     }
 
     -- the ticket is its seat's
@@ -145,6 +148,7 @@ module _ (question : Question) (system : System) (budget : ℕ) (p : Parts) (tre
       is_told = told_ending p.history p.state.tickets tree.is_told (record { seat = h.ticket.seat; ticket = number; event = aborted }) h.ticket h.there refl h.runs;
       given = given_ending p.history p.state (aborted_parts p number h.ticket h.node).state tree.given (record { seat = h.ticket.seat; ticket = number; event = aborted })
           (problems_marked p.state.nodes h.ticket.node h.ticket.place h.node Idle h.made) (places_ended p.state.tickets number h.ticket h.there) (λ q st e. cc);
+      bounded = bounded_abort question (pairs_in system) p tree.bounded number h.ticket h.node h.made running_ok;
     }
 
 -- what a call answers, from the tree before to the parts that it left

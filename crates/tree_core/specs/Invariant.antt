@@ -17,6 +17,8 @@ use Rattle.tree_states.specs.Verdicts.{IsWon, IsLost}
 use Rattle.tree_states.specs.Events.{Replays}
 use Rattle.tree_states.specs.Legal.{IsLegal, Carries}
 use Rattle.tree_board.specs.Parts.{Parts, free_place, is_done_by}
+use Rattle.strategies.specs.TaskBounds.{pairs_in}
+use Rattle.tree_core.specs.Bound.{IsBounded}
 
 -- node n is of this goal
 pub record IsOf (nodes : List TreeNode) (n goal : ℕ) : Type 0 where
@@ -103,3 +105,4 @@ pub record IsTree (question : Question) (system : System) (budget : ℕ) (p : Pa
   pub counted : AreCounted (goals_of question) p
   pub is_told : IsTold p.history p.state.tickets
   pub given : AreTasks p.history p.state
+  pub bounded : IsBounded question (pairs_in system) p

@@ -1,10 +1,10 @@
 //! The calls of a tree.
-ghost use Rattle.std.specs.Prelude.{◌≡◌, ◌<◌, ℕ, [], Some, All, map, slice_get, length};
+ghost use Rattle.std.specs.Prelude.{◌≡◌, ◌<◌, ◌^◌, ℕ, [], Some, All, map, slice_get, length};
 ghost use Rattle.std.specs.Prelude.{IfOk, OnErr, MatchResult};
 ghost use Rattle.cert_step.specs.ProofProblem.{Says};
 ghost use Rattle.trs_core.specs.Valid.{IsValid};
 ghost use Rattle.cert_step.specs.ProofStep.{node_step_of, IsWellMade};
-ghost use Rattle.tree_states.specs.Reports.{AreStepsOf};
+ghost use Rattle.tree_states.specs.Reports.{AreStepsOf, IsFoundStep};
 ghost use Rattle.proof_nodes.specs.Nodes.{IsAccepted};
 ghost use Rattle.tree_states.specs.Questions.{goals_of, claims};
 ghost use Rattle.tree_states.specs.History.{Runs, IsOwned, IsFresh, aborted};
@@ -16,6 +16,7 @@ ghost use Rattle.tree_states.specs.Legal.{IsLegal};
 ghost use Rattle.tree_states.specs.Verdicts.{IsWon};
 ghost use Rattle.tree_states.specs.Replies.{IsClaim, IsPoll, IsPost, IsTaskOf, IsVerdict, Notes};
 ghost use Rattle.tree_states.specs.Replies.{event_of_found, left_of, LeavesProblems};
+ghost use Rattle.tree_states.specs.Replies.{IfTask, IsRunnable};
 
 use crate::tree::Tree;
 use cert_step::{Claim, Proof};
@@ -56,6 +57,7 @@ impl<'a> Tree<'a> {
     /// ending of its ticket.
     pub fn claim(&mut self, alloc: Global, seat: u32) -> Result<Claimed, OutOfMemory>
         ensures claim { IfOk result (IsClaim self.old seat self.new) }
+        ensures runnable { IfOk result (IfTask (IsRunnable self.old.system)) }
 
         // Want of memory leaves the tree as before.
         ensures memory { OnErr result (self.new ≡ self.old) }
@@ -152,6 +154,8 @@ impl<'a> Tree<'a> {
             → AreStepsOf self.now.state.nodes g (map node_step_of p.steps.items)) }
         ensures well_made { IfOk result (λ p. All (λ s. IsWellMade self.now.system s.step)
             (map node_step_of p.steps.items)) }
+        ensures found { IfOk result (λ p. All (λ s. IsFoundStep self.now.system self.now.budget s.step)
+            (map node_step_of p.steps.items)) }
         ensures accepted { IfOk result (λ p. IsAccepted self.now.system p.claim
             (map node_step_of p.steps.items)) }
         ensures true_claim { IfOk result (λ p. Says self.now.system p.claim) }
@@ -173,6 +177,7 @@ impl<'a> Tree<'a> {
     /// The number of entries of the history. The state is what the history leads to, and legal.
     pub fn history_len(&self) -> u64
         ensures length { result ≡ length self.now.history }
+        ensures bound { length self.now.history < 2 ^ 21 }
         ensures replays { Replays (goals_of self.now.question) self.now.system
             (opening self.now.question) self.now.history self.now.state }
         ensures legal { IsLegal (goals_of self.now.question) self.now.system self.now.budget

@@ -1,6 +1,9 @@
 -- What each call of a proof tree answers, and what it leaves.
 use Rattle.std.specs.Prelude.{◌≡◌, ◌<◌, ℕ, [], ◌∷◌, ◌++◌, length, Option, Some, None, slice_get}
-use Rattle.cert_step.specs.ProofProblem.{problem_of}
+use Rattle.trs_defs.specs.System.{System}
+use Rattle.trs_defs.specs.Member.{In}
+use Rattle.cert_step.specs.ProofProblem.{problem_of, IsWellMadeProblem}
+use Rattle.strategies.specs.Kinds.{strategies_for}
 use Rattle.strategies.specs.Runs.{Found, Run}
 use Rattle.strategies.specs.Runs as strategy
 use Rattle.tree_states.specs.declared.answers.Claimed.{Claimed}
@@ -29,6 +32,17 @@ pub record Adds (old : ProofTree) (e : HistoryEntry) (new : ProofTree) : Type 0 
 pub record IsTask (old : ProofTree) (seat : ℕ) (new : ProofTree) (task : Task) : Type 0 where
   pub adds : Adds old (record { seat = seat; ticket = task.ticket; event = claimed (problem_of task.problem) task.strategy }) new
   pub runs : Runs task.ticket (of_seat seat new.history)
+
+-- the task can be run: its problem is well-made for the system, and its strategy is one of the problem's
+pub record IsRunnable (system : System) (task : Task) : Type 0 where
+  pub problem : IsWellMadeProblem system (problem_of task.problem)
+  pub kind : In task.strategy (strategies_for (problem_of task.problem))
+
+-- the fact holds of the task, where one was claimed
+abbrev pub IfTask : (Task → Type 0) → Claimed → Type 0
+IfTask fact (TaskOf task) = fact task
+IfTask fact Again = Unit {0}
+IfTask fact Done = Unit {0}
 
 -- nothing can be claimed, and some ticket is running
 pub record IsAgain (old : ProofTree) : Type 0 where

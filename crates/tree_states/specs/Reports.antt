@@ -2,13 +2,14 @@
 use Rattle.std.proofs.Common.{zero, suc}
 use Rattle.std.specs.Prelude.{◌≡◌, ◌+◌, ◌<◌, ℕ, Bool, List, [], ◌∷◌, ◌++◌, map, length, Option, Some, None, slice_get}
 use Rattle.trs_defs.specs.System.{System}
-use Rattle.cert_step.specs.ProofProblem.{ProofProblem, problem_of}
-use Rattle.cert_step.specs.ProofStep.{ProofNodeStep, node_step_of}
+use Rattle.trs_defs.specs.Member.{In}
+use Rattle.cert_step.specs.ProofProblem.{ProofProblem, problem_of, IsWellMadeProblem}
+use Rattle.cert_step.specs.ProofStep.{ProofStep, ProofNodeStep, node_step_of}
 use Rattle.proof_nodes.specs.Nodes.{Makes, open_node}
 use Rattle.proof_nodes.specs.Nodes as proof
 use Rattle.strategies.specs.declared.strategy.Strategy.{Strategy}
 use Rattle.strategies.specs.Kinds.{strategies_for}
-use Rattle.strategies.specs.Conditions.{Fails}
+use Rattle.strategies.specs.Conditions.{Finds, Fails}
 use Rattle.tree_states.specs.declared.question.Question.{Question}
 use Rattle.tree_states.specs.declared.report.GoalReport.{GoalReport}
 use Rattle.tree_states.specs.Questions.{roots, goals_of}
@@ -50,6 +51,14 @@ pub record AreStepsOf (nodes : List TreeNode) (g : ℕ) (steps : List ProofNodeS
   pub order : List ℕ
   pub walks : Walks nodes (g ∷ []) order
   pub steps_are : steps ≡ steps_from nodes 0 order
+
+-- the step is the one that a strategy finds for a problem of its kind, within the budget
+pub record IsFoundStep (system : System) (budget : ℕ) (step : ProofStep) : Type 0 where
+  pub problem : ProofProblem
+  pub strategy : Strategy
+  pub well_made : IsWellMadeProblem system problem
+  pub kind : In strategy (strategies_for problem)
+  pub finds : Finds system budget strategy problem step
 
 -- a part of a report: the goal, its steps, the node on which it is stuck, its problem, and how each of its strategies failed
 pub record Part : Type 0 where

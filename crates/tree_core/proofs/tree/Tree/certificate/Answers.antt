@@ -2,8 +2,8 @@ use Rattle.std.proofs.Common.{◌≡◌, ℕ, sym, ◌∙◌, map, subst}
 use Rattle.std.proofs.lemmas.List.Elements.{All-from_recursion}
 use Rattle.cert_step.specs.ProofStep.{ProofNodeStep, node_step_of, IsWellMade}
 use Rattle.proof_nodes.proofs.Soundness.{true_claim}
-use Rattle.tree_states.specs.Reports.{AreStepsOf}
-use Rattle.tree_core.proofs.Accepted.{ascending, goal_made, accepted, steps_well_made, some_same}
+use Rattle.tree_states.specs.Reports.{AreStepsOf, IsFoundStep}
+use Rattle.tree_core.proofs.Accepted.{ascending, goal_made, accepted, steps_well_made, steps_found, some_same}
 use Rattle.tree_core.proofs.tree.Tree.certificate.Goals as goal
 
 pub steps_of-requires-clause-root : goal.steps_of-requires-clause-root
@@ -37,6 +37,14 @@ returns-clause-well_made c =
     let steps = map node_step_of c.in_ok-steps.steps.items in
     rw (← c.self.view_is) (All-from_recursion (λ (s : ProofNodeStep). IsWellMade i.system.now s.step) steps
     (steps_well_made i.question i.system.now i.limits.budget i.board c.self.invariant w.0 steps w.2))
+
+pub returns-clause-found : goal.returns-clause-found
+returns-clause-found c =
+    let i = c.self.inside in
+    let w = c.in_ok-steps.ensures in
+    let steps = map node_step_of c.in_ok-steps.steps.items in
+    rw (← c.self.view_is) (All-from_recursion (λ (s : ProofNodeStep). IsFoundStep i.system.now i.limits.budget s.step) steps
+    (steps_found i.question i.system.now i.limits.budget i.board c.self.invariant w.0 steps w.2))
 
 pub returns-clause-accepted : goal.returns-clause-accepted
 returns-clause-accepted c =

@@ -12,7 +12,7 @@ use Rattle.tree_core.proofs.Flags.{done_is}
 use Rattle.tree_board.proofs.Idle.{open_at}
 use Rattle.tree_core.proofs.Endings.{count_le}
 use Rattle.tree_core.proofs.Claiming.{claim_tree}
-use Rattle.tree_core.proofs.Tasks.{moved_tree, roomy_tree, is_again, is_task}
+use Rattle.tree_core.proofs.Tasks.{moved_tree, roomy_tree, is_again, is_task, is_runnable}
 use Rattle.tree_core.proofs.Trees.{tree_of}
 use Rattle.tree_core.proofs.tree.Tree.claim.Goals as goal
 
@@ -141,3 +141,15 @@ returns-clause-claim c =
     is_task i.question i.system.now i.limits.budget board moved going c.find-n.result.0 c.in-Some.place found.0 found.1 found.2
     (omega arith) (λ k x le lt h. absurd (omega (arith, le, lt))) c.args.seat c.claim.new.self c.claim.new.self.room c.in_ok-ticket.ticket c.in_ok-problem.problem c.in_ok-problem.strategy
     c.args.self.now c.self.view_is made ticket (sym t.0) t.1
+
+pub returns-clause-runnable : goal.returns-clause-runnable
+returns-clause-runnable c =
+    let i = c.self.inside in
+    let found = subst (λ (o : Option ℕ). MatchOption o (length i.board.state.nodes ≤ c.find-n.result.0)
+    (λ place. (node : TreeNode) × (slice_get i.board.state.nodes c.find-n.result.0 ≡ Some node) × (free_place i.board.goals node ≡ Some place))) c.in-Some.is c.find-n.ensures.found in
+    let task = subst (λ (x : Parts). (node : TreeNode) → slice_get x.state.nodes c.find-n.result.0 ≡ Some node
+    → (problem_of c.in_ok-problem.problem ≡ node.problem) × (slice_get (strategies_for node.problem) c.in-Some.place ≡ Some c.in_ok-problem.strategy))
+    c.find-n.ensures.parts c.in_ok-problem.ensures in
+    let t = task found.0 found.1 in
+    is_runnable i.question i.system.now i.limits.budget i.board c.self.invariant c.find-n.result.0 found.0 found.1 c.in_ok-ticket.ticket c.in-Some.place c.in_ok-problem.problem
+    c.in_ok-problem.strategy c.args.self.now c.self.view_is (sym t.0) t.1
