@@ -12,7 +12,7 @@ use Rattle.conf_find.specs.Fork.{Fork}
 use Rattle.conf_find.specs.ForkRows.{Behind, behind_none, behind_one, FindsParted}
 use Rattle.strategies.specs.Rows.{FindsOnPeaks}
 use Rattle.strategies.specs.Conditions as strategies
-use Rattle.proof_text.specs.InOrder.{FoundStepsAreInOrder}
+use Rattle.proof_text.specs.FoundInOrder.{FoundStepsAreInOrder}
 
 behind_in : {A : Type 0} {passed : A → Type 0} {xs : List A} {a : A} → Behind passed xs a → In a xs
 behind_in behind_none = in_first
@@ -43,9 +43,11 @@ found_in_order system budget s p step (strategies.subterm_is_found h) = tt
 found_in_order system budget s p step (strategies.poly_is_found h) = tt
 found_in_order system budget s p step (strategies.lpo_is_found h) = tt
 found_in_order system budget s p step (strategies.kbo_is_found h) = tt
+found_in_order system budget s p step (strategies.usable_is_found h) = tt
 found_in_order system budget s p step (strategies.loop_is_found h) = tt
 found_in_order system budget s p step (strategies.parallel_is_found h) = tt
 found_in_order system budget s p step (strategies.strong_is_found h) = tt
+found_in_order system budget s p step (strategies.label_is_found h) = tt
 found_in_order system budget s p step (strategies.newman_is_found h) = tt
 found_in_order system budget s p step (strategies.fork_is_found {fork = fork} h) = fork_in_order _ system fork h
 found_in_order system budget s p step strategies.confluence_is_found = tt

@@ -1,4 +1,5 @@
-ghost use Rattle.proof_text.specs.InOrder.{StepsApplyInOrder, FoundStepsAreInOrder};
+ghost use Rattle.proof_text.specs.FoundInOrder.{FoundStepsAreInOrder};
+ghost use Rattle.proof_text.specs.InOrder.{StepsApplyInOrder};
 
 /// A law, with nothing to run: a step that applies does so with the variables of its terms numbered
 /// anew, as it is read where it was printed.
