@@ -1,0 +1,12 @@
+pub mod ProblemKinds
+pub mod Distinctness
+pub mod SymbolArities
+pub mod TableValues
+pub mod PlacesMade
+pub mod LinearMade
+pub mod PathMade
+pub mod KnuthMade
+pub mod GraphMade
+pub mod Applying
+pub mod TrueRows
+pub mod Shrinking

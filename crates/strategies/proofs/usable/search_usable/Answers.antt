@@ -1,0 +1,45 @@
+use Rattle.std.proofs.Common.{sym, ap, ◌∙◌}
+use Rattle.cert_step.specs.ProofProblem as problem
+use Rattle.cert_step.specs.ProofProblem.{problem_of}
+use Rattle.cert_step.specs.ProofStep as step
+use Rattle.strategies.specs.declared.strategy.Strategy.TheVariants as strategy
+use Rattle.strategies.specs.Conditions.{usable_is_found, usable_is_not_there, usable_is_spent}
+use Rattle.strategies.proofs.LinearMade.{usable_made}
+use Rattle.strategies.proofs.Applying.{usable_applies, ready, found_for, failed_for}
+use Rattle.strategies.proofs.usable.search_usable.Goals as goal
+
+pub leaving-requires-clause-step : goal.leaving-requires-clause-step
+leaving-requires-clause-step g c =
+    let h = rw c.in-Found.is at c.in_ok-found.ensures.answer in
+    (ready c.interpretation.new.tables.prepared c.args.trs.now c.args.budget strategy.Usable (problem_of c.args.problem.now) (problem.dp c.deref.result.now) (step.usable_poly c.in-Found.found)
+    c.interpretation.ensures.tables.prepared (ap problem_of c.in-Dp.is ∙ ap (λ l. problem.dp l) (sym c.deref.ensures.value)) (usable_is_found h)
+    (usable_made c.args.trs.now c.rules-rules.ensures.valid c.rules-rules.ensures.limits.symbols c.deref.result.now c.args.budget c.in-Found.found h)
+    (usable_applies c.args.trs.now c.deref.result.now c.in-Found.found (c.found_orders_apply.ensures c.args.trs.now c.deref.result.now c.args.budget c.in-Found.found c.rules-rules.ensures.valid c.rules-rules.ensures.limits.symbols h))).made
+
+pub leaving-requires-clause-applies : goal.leaving-requires-clause-applies
+leaving-requires-clause-applies g c =
+    let h = rw c.in-Found.is at c.in_ok-found.ensures.answer in
+    (ready c.interpretation.new.tables.prepared c.args.trs.now c.args.budget strategy.Usable (problem_of c.args.problem.now) (problem.dp c.deref.result.now) (step.usable_poly c.in-Found.found)
+    c.interpretation.ensures.tables.prepared (ap problem_of c.in-Dp.is ∙ ap (λ l. problem.dp l) (sym c.deref.ensures.value)) (usable_is_found h)
+    (usable_made c.args.trs.now c.rules-rules.ensures.valid c.rules-rules.ensures.limits.symbols c.deref.result.now c.args.budget c.in-Found.found h)
+    (usable_applies c.args.trs.now c.deref.result.now c.in-Found.found (c.found_orders_apply.ensures c.args.trs.now c.deref.result.now c.args.budget c.in-Found.found c.rules-rules.ensures.valid c.rules-rules.ensures.limits.symbols h))).applies
+
+pub returns-in_ok-findings-in-Found-clause-answer : goal.returns-in_ok-findings-in-Found-clause-answer
+returns-in_ok-findings-in-Found-clause-answer g c =
+    let h = rw c.in-Found.is at c.in_ok-found.ensures.answer in
+    found_for c.interpretation.new.tables.prepared c.args.trs.now c.args.budget strategy.Usable (problem_of c.args.problem.now) (step.usable_poly c.in-Found.found) c.in_ok-findings-in-Found.findings
+    c.interpretation.ensures.tables.prepared c.in_ok-findings-in-Found.ensures.is_true
+    (ready c.interpretation.new.tables.prepared c.args.trs.now c.args.budget strategy.Usable (problem_of c.args.problem.now) (problem.dp c.deref.result.now) (step.usable_poly c.in-Found.found)
+    c.interpretation.ensures.tables.prepared (ap problem_of c.in-Dp.is ∙ ap (λ l. problem.dp l) (sym c.deref.ensures.value)) (usable_is_found h)
+    (usable_made c.args.trs.now c.rules-rules.ensures.valid c.rules-rules.ensures.limits.symbols c.deref.result.now c.args.budget c.in-Found.found h)
+    (usable_applies c.args.trs.now c.deref.result.now c.in-Found.found (c.found_orders_apply.ensures c.args.trs.now c.deref.result.now c.args.budget c.in-Found.found c.rules-rules.ensures.valid c.rules-rules.ensures.limits.symbols h))).finds
+
+pub returns-in-NotThere-clause-answer : goal.returns-in-NotThere-clause-answer
+returns-in-NotThere-clause-answer g c =
+    failed_for c.args.trs.now c.args.budget strategy.Usable (problem_of c.args.problem.now) (problem.dp c.deref.result.now) _
+    (ap problem_of c.in-Dp.is ∙ ap (λ l. problem.dp l) (sym c.deref.ensures.value)) (usable_is_not_there (rw c.in-NotThere.is at c.in_ok-found.ensures.answer))
+
+pub returns-in-Spent-clause-answer : goal.returns-in-Spent-clause-answer
+returns-in-Spent-clause-answer g c =
+    failed_for c.args.trs.now c.args.budget strategy.Usable (problem_of c.args.problem.now) (problem.dp c.deref.result.now) _
+    (ap problem_of c.in-Dp.is ∙ ap (λ l. problem.dp l) (sym c.deref.ensures.value)) (usable_is_spent (rw c.in-Spent.is at c.in_ok-found.ensures.answer))

@@ -1,0 +1,45 @@
+-- How the run of a strategy ends.
+use Rattle.std.specs.Prelude.{◌≡◌, ℕ, List, Result, Ok, Err, IsErr}
+use Rattle.trs_defs.specs.System.{System}
+use Rattle.trs_core.specs.declared.memory.OutOfMemory.{OutOfMemory}
+use Rattle.cert_step.specs.ProofProblem.{ProofProblem}
+use Rattle.cert_step.specs.ProofStep.{ProofStep}
+use Rattle.cert_step.specs.Applies.{Applies}
+use Rattle.strategies.specs.declared.strategy.Strategy.{Strategy}
+use Rattle.strategies.specs.declared.outcome.Findings.{Findings}
+use Rattle.strategies.specs.declared.ran.Ran.{Ran}
+use Rattle.strategies.specs.declared.ran.Ran.TheVariants as ran
+use Rattle.strategies.specs.declared.searched.Searched.{Searched}
+use Rattle.strategies.specs.declared.searched.Searched.TheVariants as searched
+use Rattle.strategies.specs.Conditions.{Finds}
+use Rattle.strategies.specs.Runs.{Run}
+use Rattle.strategies.specs.Truth.{found_of, IsTrueFound}
+
+-- the fact holds of the outcome, where there is one
+abbrev pub IfEnded : (Run → Type 0) → Ran → Type 0
+IfEnded fact (ran.Ended outcome) = fact outcome
+IfEnded fact ran.Stopped = Unit {0}
+
+-- the fact holds where the run was stopped
+abbrev pub IfStopped : Type 0 → Ran → Type 0
+IfStopped fact (ran.Ended outcome) = Unit {0}
+IfStopped fact ran.Stopped = fact
+
+-- what the strategy answered of the problem is true; `rose` says that the count of stops rose
+abbrev pub IsAnswer : System → ℕ → Strategy → ProofProblem → Type 0 → Searched → Type 0
+IsAnswer system budget strategy p rose (searched.Ended findings) = IsTrueFound system budget strategy p (found_of findings)
+IsAnswer system budget strategy p rose searched.Stopped = rose
+
+-- the findings are true of each strategy that finds the step for the problem
+abbrev pub AreTrueIfFound : System → ProofProblem → ProofStep → Findings → Type 0
+AreTrueIfFound system p step findings =
+    (budget : ℕ) (strategy : Strategy) → Finds system budget strategy p step → IsTrueFound system budget strategy p (found_of findings)
+
+-- the step applies to the problem
+abbrev pub DoesApply : System → ProofProblem → ProofStep → Type 0
+DoesApply system p step = (left : List ProofProblem) × Applies system p step left
+
+-- the search ended with these findings, unless memory ran out
+abbrev pub EndsAs : Result Findings OutOfMemory → Result Searched OutOfMemory → Type 0
+EndsAs (Ok findings) result = result ≡ Ok (searched.Ended findings)
+EndsAs (Err fault) result = IsErr result

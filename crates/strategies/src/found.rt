@@ -1,0 +1,40 @@
+ghost use Rattle.std.specs.Prelude.{◌≡◌, [], IfOk};
+ghost use Rattle.cert_step.specs.ProofProblem.{problem_of, IsWellMadeProblem};
+ghost use Rattle.cert_step.specs.ProofStep.{step_of, IsWellMade};
+ghost use Rattle.strategies.specs.Endings.{AreTrueIfFound, DoesApply};
+ghost use Rattle.strategies.specs.Runs.{found};
+ghost use Rattle.strategies.specs.Truth.{found_of};
+
+use crate::Findings;
+use cert_step::{Prepared, Problem, Step};
+use rewrite_core::CheckFault;
+use std::alloc::Global;
+use trs_core::OutOfMemory;
+
+/// A found step, with the problems that it leaves.
+pub(crate) fn leaving<'a>(
+    alloc: Global,
+    prepared: &mut Prepared<'a>,
+    problem: &Problem,
+    step: Step,
+) -> Result<Findings, OutOfMemory>
+    requires problem { IsWellMadeProblem prepared.old (problem_of problem.now) }
+    requires step { IsWellMade prepared.old (step_of step) }
+    requires applies { DoesApply prepared.old (problem_of problem.now) (step_of step) }
+    ensures is_true { IfOk result
+        (AreTrueIfFound prepared.old (problem_of problem.now) (step_of step)) }
+    ensures system { prepared.new ≡ prepared.old }
+{
+    match prepared.apply(alloc, problem, &step) {
+        Ok(left) => Ok(Findings::Found(step, left)),
+        Err(CheckFault::Refused(_)) => unreachable!(),
+        Err(CheckFault::OutOfMemory) => Err(OutOfMemory),
+    }
+}
+
+/// A found step that leaves no problem.
+pub(crate) fn closing(alloc: Global, step: Step) -> Findings
+    ensures { found_of result ≡ found (step_of step) [] }
+{
+    Findings::Found(step, Vec::new(alloc))
+}

@@ -1,0 +1,86 @@
+//! The strategy kbo.
+ghost use Rattle.std.specs.Prelude.{◌≡◌, ◌<◌, ◌≤◌, All, IfOk, IsTrue, length};
+ghost use Rattle.std.specs.List.Sorted.{IsStrictlyIncreasing};
+ghost use Rattle.pair_theory.specs.DependencyPair.{dependency_pairs};
+ghost use Rattle.kbo_find.specs.Laws.{FindsKbo};
+ghost use Rattle.kbo_find.specs.KboRow.{kbo_search};
+ghost use Rattle.order_problem.specs.OrderOver.{search_of};
+ghost use Rattle.order_problem.specs.OrderRow.{FailsOrder};
+ghost use Rattle.order_space.specs.Outcome.{IsFinding, IsNotThere, IsSpent};
+ghost use Rattle.cert_step.specs.OnPairs.{for_pairs};
+ghost use Rattle.cert_step.specs.ProofProblem.{problem_of, IsWellMadeProblem};
+ghost use Rattle.strategies.specs.Endings.{IsAnswer};
+ghost use Rattle.strategies.specs.Tables.{AreTablesOf};
+
+use crate::found::leaving;
+use crate::searched::Searched;
+use crate::tables::Tables;
+use crate::{Findings, Strategy};
+use assign_search::{Search, Stop};
+use cert_step::{AnyOrder, Problem, Step};
+use kbo_find::{find_kbo_in, found_orders_apply};
+use kbo_order::Kbo;
+use std::alloc::Global;
+use trs_core::{OutOfMemory, Trs};
+
+/// A Knuth-Bendix order that removes pairs.
+pub(crate) fn search_kbo<'a, P: Stop>(
+    alloc: Global,
+    trs: &'a Trs,
+    tables: &mut Tables<'a>,
+    problem: &Problem,
+    budget: u64,
+    stop: &mut P,
+) -> Result<Searched, OutOfMemory>
+    requires tables { AreTablesOf trs.now tables.old }
+    requires pairs { IsTrue (for_pairs (problem_of problem.now)) }
+    requires well_made { IsWellMadeProblem trs.now (problem_of problem.now) }
+    ensures answer { IfOk result (IsAnswer trs.now budget Strategy.Kbo (problem_of problem.now)
+        (P.stops stop.old < P.stops stop.new)) }
+    ensures tables { AreTablesOf trs.now tables.new }
+    ensures later { P.stops stop.old ≤ P.stops stop.new }
+    ensures kept { P.kept stop.new ≡ P.kept stop.old }
+{
+    let Problem::Dp(numbers) = problem else {
+        unreachable!()
+    };
+    let _rules = trs.rules();
+    found_orders_apply();
+    match knuth_bendix_order(alloc, trs, tables, numbers, budget, stop)? {
+        Search::Found(found) => {
+            let step = Step::Order(AnyOrder::Kbo(found));
+            let findings = leaving(alloc, &mut tables.prepared, problem, step)?;
+            Ok(Searched::Ended(findings))
+        }
+        Search::NotThere => Ok(Searched::Ended(Findings::NotThere)),
+        Search::Spent => Ok(Searched::Ended(Findings::Spent)),
+        Search::Stopped => Ok(Searched::Stopped),
+    }
+}
+
+/// The order that is found over the pairs of the system, which are made once.
+fn knuth_bendix_order<'a, P: Stop>(
+    alloc: Global,
+    trs: &'a Trs,
+    tables: &mut Tables<'a>,
+    numbers: &[u32],
+    budget: u64,
+    stop: &mut P,
+) -> Result<Search<Kbo>, OutOfMemory>
+    requires tables { AreTablesOf trs.now tables.old }
+    requires ascending { IsStrictlyIncreasing numbers.now }
+    requires numbers { All (λ n. n < length (dependency_pairs trs.now.rules)) numbers.now }
+    ensures answer { IfOk result (IsFinding
+        (λ order. FindsKbo trs.now numbers.now budget order.entries.items)
+        (FailsOrder trs.now numbers.now (search_of kbo_search trs.now) (IsNotThere budget))
+        (FailsOrder trs.now numbers.now (search_of kbo_search trs.now) (IsSpent budget))
+        (P.stops stop.old < P.stops stop.new)) }
+    ensures tables { AreTablesOf trs.now tables.new }
+    ensures later { P.stops stop.old ≤ P.stops stop.new }
+    ensures kept { P.kept stop.new ≡ P.kept stop.old }
+{
+    let pairs = tables.take_pairs(alloc, trs)?;
+    let found = find_kbo_in(alloc, trs, &pairs, numbers, budget, stop);
+    tables.pairs = Some(pairs);
+    found
+}

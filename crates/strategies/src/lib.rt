@@ -1,0 +1,35 @@
+//! What each strategy finds for a problem of a proof, or why it finds nothing. Each strategy has a
+//! file of its own, by its word.
+#![tactic(auto)]
+
+mod confluence;
+mod dp;
+mod fork;
+mod found;
+mod graph;
+mod kbo;
+mod label;
+mod loops;
+mod lpo;
+mod newman;
+mod on_peaks;
+mod outcome;
+mod parallel;
+mod peaks;
+mod poly;
+mod ran;
+mod run;
+mod searched;
+mod searcher;
+mod split;
+mod strategy;
+mod strong;
+mod subterm;
+mod tables;
+mod usable;
+
+pub use outcome::{Findings, Limits, Outcome};
+pub use ran::Ran;
+pub use run::run_strategy;
+pub use searcher::Searcher;
+pub use strategy::{Strategy, strategies_of};

@@ -1,0 +1,44 @@
+//! The strategy parallel.
+ghost use Rattle.std.specs.Prelude.{◌≡◌, ◌<◌, ◌≤◌, ℕ, IfOk};
+ghost use Rattle.cert_step.specs.ProofProblem.{cr};
+ghost use Rattle.strategies.specs.Endings.{IsAnswer};
+ghost use Rattle.strategies.specs.Tables.{AreKnownPeaks};
+
+use crate::found::closing;
+use crate::peaks::KnownPeaks;
+use crate::searched::Searched;
+use crate::{Findings, Strategy};
+use assign_search::{Search, Stop};
+use cert_step::Step;
+use join_find::{find_parallel, found_steps_close};
+use std::alloc::Global;
+use trs_core::{OutOfMemory, Trs};
+
+/// Critical peaks that are closed by parallel steps.
+pub(crate) fn search_parallel<P: Stop>(
+    alloc: Global,
+    trs: &Trs,
+    peaks: &KnownPeaks,
+    stop: &mut P,
+) -> Result<Searched, OutOfMemory>
+    requires { AreKnownPeaks trs.now peaks.now }
+    ensures answer { IfOk result (λ searched. (budget : ℕ) → IsAnswer
+        trs.now budget Strategy.Parallel cr (P.stops stop.old < P.stops stop.new) searched) }
+    ensures later { P.stops stop.old ≤ P.stops stop.new }
+    ensures kept { P.kept stop.new ≡ P.kept stop.old }
+{
+    let KnownPeaks::Listed(peaks) = peaks else {
+        return Ok(Searched::Ended(Findings::NotThere));
+    };
+    let _rules = trs.rules();
+    found_steps_close();
+    match find_parallel(alloc, trs, peaks, stop)? {
+        Search::Found(found) => {
+            let step = Step::Parallel(found);
+            Ok(Searched::Ended(closing(alloc, step)))
+        }
+        Search::NotThere => Ok(Searched::Ended(Findings::NotThere)),
+        Search::Spent => unreachable!(),
+        Search::Stopped => Ok(Searched::Stopped),
+    }
+}

@@ -1,0 +1,28 @@
+ghost use Rattle.std.specs.Prelude.{IfOk};
+ghost use Rattle.strategies.specs.Tables.{AreKnownPeaks};
+
+use crit_pairs::{PeakFault, critical_pairs};
+use rewrite_core::Peak;
+use std::alloc::Global;
+use trs_core::{OutOfMemory, Trs};
+
+/// The critical peaks of a system.
+#[derive(Drop)]
+pub(crate) enum KnownPeaks {
+    /// All of them.
+    Listed(Vec<Peak>),
+    /// They pass a limit.
+    PastLimit,
+}
+
+/// The critical peaks of a system, or that they pass a limit.
+pub(crate) fn known_peaks(alloc: Global, trs: &Trs) -> Result<KnownPeaks, OutOfMemory>
+    ensures { IfOk result (AreKnownPeaks trs.now) }
+{
+    match critical_pairs(alloc, trs) {
+        Ok(peaks) => Ok(KnownPeaks::Listed(peaks)),
+        Err(PeakFault::TooLarge) => Ok(KnownPeaks::PastLimit),
+        Err(PeakFault::TooMany) => Ok(KnownPeaks::PastLimit),
+        Err(PeakFault::OutOfMemory) => Err(OutOfMemory),
+    }
+}

@@ -1,0 +1,83 @@
+ghost use Rattle.std.specs.Prelude.{◌≡◌, ◌<◌, ◌≤◌, IfOk};
+ghost use Rattle.trs_defs.specs.Member.{In};
+ghost use Rattle.cert_step.specs.ProofProblem.{problem_of, IsWellMadeProblem};
+ghost use Rattle.strategies.specs.Endings.{IsAnswer, IfEnded, IfStopped};
+ghost use Rattle.strategies.specs.Kinds.{strategies_for};
+ghost use Rattle.strategies.specs.Tables.{AreTablesOf};
+
+use crate::confluence::search_confluence;
+use crate::dp::search_dp;
+use crate::graph::search_graph;
+use crate::kbo::search_kbo;
+use crate::loops::search_loop;
+use crate::lpo::search_lpo;
+use crate::on_peaks::search_on_peaks;
+use crate::poly::search_poly;
+use crate::searched::{Searched, ended};
+use crate::searcher::Searcher;
+use crate::subterm::search_subterm;
+use crate::tables::Tables;
+use crate::usable::search_usable;
+use crate::{Limits, Ran, Strategy};
+use assign_search::Stop;
+use cert_step::Problem;
+use std::alloc::Global;
+use trs_core::{OutOfMemory, Trs};
+
+/// Runs a strategy on a problem of a system. It ends with an outcome, which is true by its type, or
+/// it was stopped, and then the count of stops rose. Where several strategies are run on one system,
+/// a `Searcher` makes what they look up once.
+pub fn run_strategy<'a, P: Stop>(
+    alloc: Global,
+    trs: &'a Trs,
+    problem: &Problem,
+    strategy: Strategy,
+    limits: &Limits,
+    stop: &mut P,
+) -> Result<Ran<'a>, OutOfMemory>
+    requires problem { IsWellMadeProblem trs.now (problem_of problem.now) }
+    requires kind { In strategy (strategies_for (problem_of problem.now)) }
+    ensures system { IfOk result (IfEnded (λ o. o.system ≡ trs.now)) }
+    ensures limits { IfOk result (IfEnded (λ o. o.budget ≡ limits.now.budget)) }
+    ensures problem { IfOk result (IfEnded (λ o. o.problem ≡ problem_of problem.now)) }
+    ensures strategy { IfOk result (IfEnded (λ o. o.strategy ≡ strategy)) }
+    ensures stopped { IfOk result (IfStopped (P.stops stop.old < P.stops stop.new)) }
+    ensures later { P.stops stop.old ≤ P.stops stop.new }
+    ensures kept { P.kept stop.new ≡ P.kept stop.old }
+{
+    let mut searcher = Searcher::new(trs);
+    searcher.run(alloc, problem, strategy, limits, stop)
+}
+
+/// What a strategy answers of a problem.
+pub(crate) fn search<'a, P: Stop>(
+    alloc: Global,
+    trs: &'a Trs,
+    tables: &mut Tables<'a>,
+    problem: &Problem,
+    strategy: Strategy,
+    budget: u64,
+    stop: &mut P,
+) -> Result<Searched, OutOfMemory>
+    requires tables { AreTablesOf trs.now tables.old }
+    requires problem { IsWellMadeProblem trs.now (problem_of problem.now) }
+    requires kind { In strategy (strategies_for (problem_of problem.now)) }
+    ensures answer { IfOk result (IsAnswer trs.now budget strategy (problem_of problem.now)
+        (P.stops stop.old < P.stops stop.new)) }
+    ensures tables { AreTablesOf trs.now tables.new }
+    ensures later { P.stops stop.old ≤ P.stops stop.new }
+    ensures kept { P.kept stop.new ≡ P.kept stop.old }
+{
+    match strategy {
+        Strategy::Dp => ended(search_dp(alloc, trs, tables, problem)),
+        Strategy::Graph => ended(search_graph(alloc, trs, tables, problem)),
+        Strategy::Subterm => search_subterm(alloc, trs, tables, problem, budget, stop),
+        Strategy::Poly => search_poly(alloc, trs, tables, problem, budget, stop),
+        Strategy::Lpo => search_lpo(alloc, trs, tables, problem, budget, stop),
+        Strategy::Kbo => search_kbo(alloc, trs, tables, problem, budget, stop),
+        Strategy::Usable => search_usable(alloc, trs, tables, problem, budget, stop),
+        Strategy::Loop => search_loop(alloc, trs, budget, stop),
+        Strategy::Confluence => ended(search_confluence(alloc, trs, tables, problem)),
+        _ => search_on_peaks(alloc, trs, tables, problem, strategy, budget, stop),
+    }
+}

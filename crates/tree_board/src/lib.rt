@@ -1,0 +1,18 @@
+//! The board of a proof tree: the parts that change, and the changes of which the calls of a tree
+//! are made. Each change is an equation between parts; that they keep a tree a tree is shown above.
+#![tactic(auto)]
+
+mod board;
+mod endings;
+mod entry;
+mod goal;
+mod goal_lists;
+mod node;
+mod node_lists;
+mod reporting;
+mod searching;
+mod walking;
+
+pub use board::Board;
+pub use entry::Event;
+pub use goal::Goal;

@@ -1,0 +1,3 @@
+pub mod Bound
+pub mod Invariant
+pub mod Reported

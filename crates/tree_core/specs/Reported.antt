@@ -1,0 +1,13 @@
+-- What is reported of a goal of a tree.
+use Rattle.std.specs.Prelude.{◌≡◌, ℕ, Some, All, slice_get}
+use Rattle.cert_step.specs.ProofProblem.{ProofProblem}
+use Rattle.cert_step.specs.ProofStep.{IsWellMade}
+use Rattle.tree_states.specs.Questions.{roots}
+use Rattle.tree_states.specs.Trees.{ProofTree}
+use Rattle.tree_states.specs.Reports.{Part, IsPartOf, IsTruePart}
+
+-- the part is the goal's, its steps are well-made, and it is true
+pub record IsReported (tree : ProofTree) (g : ℕ) (part : Part) : Type 0 where
+  pub of_tree : IsPartOf tree.state.nodes g part
+  pub well_made : All (λ s. IsWellMade tree.system s.step) part.steps
+  pub is_true : (root : ProofProblem) → slice_get (roots tree.question) g ≡ Some root → (part.goal ≡ g) × IsTruePart tree.system tree.budget root part

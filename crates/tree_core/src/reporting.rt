@@ -1,0 +1,69 @@
+//! The report of a tree of which each goal is lost.
+ghost use Rattle.std.specs.Prelude.{◌≡◌, ◌<◌, ℕ, Some, All, map, slice_get, IfOk};
+ghost use Rattle.cert_step.specs.ProofStep.{IsWellMade};
+ghost use Rattle.tree_states.specs.Questions.{goals_of};
+ghost use Rattle.tree_states.specs.Verdicts.{IsLost};
+ghost use Rattle.tree_states.specs.Replies.{IsVerdict};
+ghost use Rattle.tree_states.specs.Reports.{Part, part_of, ArePartsOf, IsTrueReport};
+ghost use Rattle.tree_core.specs.Reported.{IsReported};
+
+use crate::tree::Tree;
+use std::alloc::Global;
+use tree_states::{GoalReport, Question, Report, Verdict};
+use trs_core::OutOfMemory;
+
+impl<'a> Tree<'a> {
+    /// What is reported where each goal is lost: for each goal its steps in the order of the walk,
+    /// the stuck node with the least number in that order, its problem, and how each of its
+    /// strategies failed.
+    pub fn report(&self, alloc: Global) -> Result<Report, OutOfMemory>
+        requires { IsVerdict self.now (Some Verdict.Maybe) }
+        ensures of_tree { IfOk result (λ r.
+            ArePartsOf self.now.state.nodes (map part_of r.goals.items)) }
+        ensures well_made { IfOk result (λ r. (g : ℕ) (part : Part)
+            → slice_get (map part_of r.goals.items) g ≡ Some part
+            → All (λ s. IsWellMade self.now.system s.step) part.steps) }
+        ensures is_true { IfOk result (λ r. IsTrueReport self.now.system self.now.question
+            self.now.budget (map part_of r.goals.items)) }
+    {
+        let mut goals = Vec::new(alloc);
+        for goal in 0..count_goals(self.question) {
+            let part = self.goal_report(alloc, goal)?;
+            goals.push(part)?;
+        }
+        Ok(Report { goals })
+    }
+
+    // What is reported of a goal.
+    fn goal_report(&self, alloc: Global, goal: u32) -> Result<GoalReport, OutOfMemory>
+        requires goal { goal < goals_of self.now.question }
+        requires lost { IsLost self.now.state.nodes goal }
+        ensures { IfOk result (λ r. IsReported self.now goal (part_of r)) }
+    {
+        let order = self.board.walk(alloc, goal)?;
+        let steps = self.board.steps(alloc, &order)?;
+        let Some(place) = self.board.first_stuck(&order) else {
+            unreachable!();
+        };
+        let n = order[place];
+        let problem = self.board.problem(alloc, n)?;
+        let failed = self.board.failures(alloc, n)?;
+        Ok(GoalReport {
+            goal,
+            steps,
+            node: place as u64,
+            problem,
+            failed,
+        })
+    }
+}
+
+// How many goals a question has.
+fn count_goals(question: Question) -> u32
+    ensures { result ≡ goals_of question }
+{
+    match question {
+        Question::Termination => 2,
+        Question::Confluence | Question::Unique => 3,
+    }
+}

@@ -1,0 +1,10 @@
+pub mod Questions
+pub mod History
+pub mod Marks
+pub mod States
+pub mod Verdicts
+pub mod Events
+pub mod Legal
+pub mod Trees
+pub mod Replies
+pub mod Reports
