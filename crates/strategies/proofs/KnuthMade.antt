@@ -100,7 +100,7 @@ ranked z a b e h = grind (arith, nat_tests)
 module _ (arity : ℕ → ℕ) (table : Table) (symbols : List ℕ) (distinct : AreDistinct symbols) (small : (f part : ℕ) → table f part < 8)
     (tops : (f g : ℕ) → In f symbols → In g symbols → arity f ≡ 1 → g ≢ f → is_above table f g ≡ true) where
   abbrev said : ℕ → KboEntry
-  said f = entry_by arity arity table f
+  said f = entry_by arity table f
 
   abbrev entries : List KboEntry
   entries = map said symbols

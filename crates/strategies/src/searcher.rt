@@ -67,7 +67,15 @@ impl<'a> Searcher<'a> {
         ensures kept { P.kept stop.new ≡ P.kept stop.old }
     {
         let budget = limits.budget;
-        let searched = search(alloc, self.trs, &mut self.tables, problem, strategy, budget, stop)?;
+        let searched = search(
+            alloc,
+            self.trs,
+            &mut self.tables,
+            problem,
+            strategy,
+            budget,
+            stop,
+        )?;
         match searched {
             Searched::Ended(findings) => {
                 let problem = problem.copy(alloc)?;

@@ -1,3 +1,2 @@
 pub mod Lookups
 pub mod Weights
-pub mod Mentions
