@@ -1,10 +1,9 @@
 -- The entries of a Knuth-Bendix order that is found are those of a well-made step.
-use Rattle.std.specs.Prelude.{◌≡◌, ◌≢◌, ◌<◌, ◌≤◌, ◌⊎◌, ℕ, ◌+◌, ◌^◌, Bool, true, false, not, ◌||◌, ◌==◌, nat_lt, if◌then◌else◌, List, [], ◌∷◌, map, length, take, All, get_or, Some, slice_get}
-use Rattle.std.specs.List.{AllByRecursion}
+use Rattle.std.specs.Prelude.{◌≡◌, ◌≢◌, ◌<◌, ◌≤◌, ◌⊎◌, ℕ, ◌+◌, Bool, true, false, not, ◌||◌, ◌==◌, nat_lt, if◌then◌else◌, List, [], ◌∷◌, map, length, take, get_or, Some, slice_get}
 use Rattle.std.proofs.Common.{zero, suc, refl, sym, ap, subst, arith, ◌∙◌, inl, inr}
 use Rattle.std.proofs.lemmas.Bool.Decides.{nat_tests}
 use Rattle.std.proofs.lemmas.Option.{slice_get_within, slice_get-get_or}
-use Rattle.trs_defs.specs.Member.{In, in_first, in_rest}
+use Rattle.trs_defs.specs.Member.{In, in_first}
 use Rattle.trs_defs.specs.Variable.{is_listed}
 use Rattle.trs_defs.proofs.Members.{in_or, no_in, in_left, in_right, in_of_get, get_of_in, in_map, of_map}
 use Rattle.trs_defs.specs.System.{System, IsSystem}
@@ -16,7 +15,7 @@ use Rattle.kbo_order.specs.Table.{symbol_of}
 use Rattle.kbo_order.specs.Faults.{HasFaultAt, HasTopFaultAt, IsOnTop, IsFaultless}
 use Rattle.order_space.specs.Slots.{Slot, Table, table_of, puzzle_of}
 use Rattle.order_space.proofs.Solutions.{solved}
-use Rattle.order_problem.specs.OrderSpace.{OrderConstraint, above, is_above, arity_with_mark}
+use Rattle.order_problem.specs.OrderSpace.{above, is_above, arity_with_mark}
 use Rattle.order_problem.specs.OrderOver.{search_of}
 use Rattle.order_problem.proofs.Covered.{listed_of}
 use Rattle.order_problem.proofs.OwnConstraints.{own_and_others, truth_own}

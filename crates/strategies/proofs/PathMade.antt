@@ -1,10 +1,10 @@
 -- The entries of a path order that is found are those of a well-made step.
-use Rattle.std.specs.Prelude.{◌≡◌, ◌<◌, ◌≤◌, ℕ, ◌+◌, ◌-◌, ◌*◌, ◌^◌, Bool, true, false, ◌&&◌, ◌==◌, nat_lt, nat_le, if◌then◌else◌, List, [], ◌∷◌, map, length, Some}
+use Rattle.std.specs.Prelude.{◌≡◌, ◌<◌, ◌≤◌, ℕ, ◌+◌, ◌-◌, ◌*◌, Bool, true, false, ◌&&◌, ◌==◌, nat_lt, nat_le, if◌then◌else◌, List, [], ◌∷◌, length}
 use Rattle.std.specs.List.{AllByRecursion}
 use Rattle.std.proofs.Common.{zero, suc, refl, sym, subst, arith}
 use Rattle.std.proofs.lemmas.Bool.Decides.{nat_tests}
 use Rattle.trs_defs.specs.System.{System, IsSystem}
-use Rattle.order_theory.specs.ArgumentFilter.{ArgumentFilter, To, Keep}
+use Rattle.order_theory.specs.ArgumentFilter.{To, Keep}
 use Rattle.path_lpo.specs.Table.{PathEntry, symbol_of, AscendsFrom}
 use Rattle.order_space.specs.Slots.{Slot, Table, table_of}
 use Rattle.order_problem.specs.OrderSpace.{arity_with_mark}

@@ -1,7 +1,7 @@
 -- The places that the strategy subterm finds are those of a well-made step.
 use Rattle.std.specs.Prelude.{◌≡◌, ◌<◌, ◌≤◌, ℕ, ◌+◌, List, [], ◌∷◌, map, length, get_or, Option, Some, None, slice_get, unwrap_or}
 use Rattle.std.specs.List.{AllByRecursion}
-use Rattle.std.proofs.Common.{zero, suc, refl, sym, ap, subst, arith, ◌∙◌}
+use Rattle.std.proofs.Common.{suc, refl, sym, ap, subst, arith, ◌∙◌}
 use Rattle.trs_defs.specs.System.{System}
 use Rattle.order_space.specs.Slots.{puzzle_of}
 use Rattle.order_space.proofs.Solutions.{solved}

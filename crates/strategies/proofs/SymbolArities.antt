@@ -1,6 +1,6 @@
 -- The symbols that an order has entries for are those of the system, plain or marked, and stand once each.
 use Rattle.std.specs.Prelude.{◌≡◌, ◌<◌, ◌≤◌, ℕ, ◌+◌, ◌-◌, Bool, true, false, nat_lt, if◌then◌else◌, List, [], ◌∷◌, ◌++◌, map, length, Option, Some, None, slice_get, unwrap_or}
-use Rattle.std.proofs.Common.{refl, sym, ap, subst, arith, ◌∙◌, inl, inr}
+use Rattle.std.proofs.Common.{refl, subst, arith, inl, inr}
 use Rattle.std.proofs.lemmas.Bool.Decides.{nat_tests}
 use Rattle.std.proofs.lemmas.Option.{slice_get_within, slice_get-get_or}
 use Rattle.trs_defs.specs.Member.{In, in_first, in_rest}
@@ -17,7 +17,7 @@ use Rattle.dp_core.specs.Numbered.{ArePairsOf}
 use Rattle.dp_core.specs.Symbols.{symbols_of, symbols_of_all, symbols_of_rules, symbols_below_roots}
 use Rattle.dp_core.specs.SubtermConditions.{roots_of}
 use Rattle.order_find.proofs.FewPairs.{taken_in}
-use Rattle.order_problem.specs.OrderSpace.{unmarked, arity_with_mark}
+use Rattle.order_problem.specs.OrderSpace.{arity_with_mark}
 use Rattle.order_problem.specs.OrderRow.{AreSymbols, AreOfOrder}
 use Rattle.order_problem.proofs.Repeats.{symbols_distinct}
 use Rattle.usable_find.specs.UsableRow.{AreOfUsable}

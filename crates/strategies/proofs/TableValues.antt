@@ -1,6 +1,6 @@
 -- The values of a solution, read as a table.
 use Rattle.std.specs.Prelude.{◌≡◌, ◌<◌, ℕ, ◌+◌, Bool, true, false, ◌&&◌, ◌==◌, if◌then◌else◌, List, [], ◌∷◌, length, get_or, Some}
-use Rattle.std.proofs.Common.{zero, suc, refl, subst, arith}
+use Rattle.std.proofs.Common.{suc, refl, subst, arith}
 use Rattle.assign_search.specs.Puzzle.{solution_of}
 use Rattle.order_space.specs.Slots.{Slot, slot, Search, table_from, table_of, puzzle_of}
 use Rattle.order_space.proofs.Solutions.{solved}

@@ -1,18 +1,15 @@
 -- What each strategy finds is true of the system.
-use Rattle.std.specs.Prelude.{◌≡◌, ◌≤◌, ℕ, List, [], ◌∷◌, length, Ok, IsTrue}
+use Rattle.std.specs.Prelude.{◌≡◌, ℕ, List, [], ◌∷◌, IsTrue}
 use Rattle.std.proofs.Common.{refl, subst, sym, inl, inr}
-use Rattle.trs_defs.specs.Member.{In, in_first}
+use Rattle.trs_defs.specs.Member.{In}
 use Rattle.trs_defs.proofs.Members.{in_or, no_in}
 use Rattle.trs_defs.specs.Tree.{Tree}
 use Rattle.trs_defs.specs.Path.{PlacedRule}
 use Rattle.trs_defs.specs.System.{System, IsSystem}
 use Rattle.trs_core.specs.SystemLimits.{IsWithinLimits}
-use Rattle.rewrite_core.specs.Check.{Check, holds, returned, goes_on}
+use Rattle.rewrite_core.specs.Check.{holds, returned, goes_on}
 use Rattle.rewrite_core.specs.PathsOfJoin.{PathsOfJoin}
-use Rattle.rewrite_core.specs.LoopConditions.{loop_conditions}
-use Rattle.closed_pairs.specs.Joined.{newman_conditions}
-use Rattle.closed_pairs.specs.StronglyClosed.{FourPaths, strong_conditions}
-use Rattle.closed_pairs.specs.ParallelClosed.{parallel_conditions}
+use Rattle.closed_pairs.specs.StronglyClosed.{FourPaths}
 use Rattle.loop_find.specs.LoopRow.{FindsLoop}
 use Rattle.loop_find.specs.Laws.{FoundLoopsAreLoops}
 use Rattle.join_find.specs.NewmanRow.{FindsNewman}
@@ -37,7 +34,6 @@ use Rattle.strategies.specs.declared.strategy.Strategy.{Strategy}
 use Rattle.strategies.specs.declared.strategy.Strategy.TheVariants as strategy
 use Rattle.strategies.specs.Rows.{FindsOnPeaks}
 use Rattle.strategies.specs.Conditions.{Finds, fork_step, loop_is_found, parallel_is_found, strong_is_found, label_is_found, newman_is_found, fork_is_found, split_is_found}
-use Rattle.strategies.specs.Runs.{found}
 use Rattle.strategies.specs.declared.outcome.Findings.{Findings}
 use Rattle.strategies.specs.Kinds.{strategies_for}
 use Rattle.strategies.specs.Truth.{IsFound, AreTrueFindings, IsTrueRun, found_of}

@@ -24,8 +24,8 @@ leaving-requires-clause-applies g c =
     (knuth_made c.args.trs.now c.rules-rules.ensures.valid c.rules-rules.ensures.limits.symbols c.deref.result.now c.args.budget c.in-Found.found.entries.items h)
     (kbo_applies c.args.trs.now c.deref.result.now c.in-Found.found.entries.items (c.found_orders_apply.ensures c.args.trs.now c.deref.result.now c.args.budget c.in-Found.found.entries.items c.rules-rules.ensures.valid h))).applies
 
-pub returns-in-Found-clause-answer : goal.returns-in-Found-clause-answer
-returns-in-Found-clause-answer g c =
+pub returns-in_ok-findings-in-Found-clause-answer : goal.returns-in_ok-findings-in-Found-clause-answer
+returns-in_ok-findings-in-Found-clause-answer g c =
     let h = rw c.in-Found.is at c.in_ok-found.ensures.answer in
     found_for c.knuth_bendix_order.new.tables.prepared c.args.trs.now c.args.budget strategy.Kbo (problem_of c.args.problem.now) (step.kbo c.in-Found.found.entries.items) c.in_ok-findings-in-Found.findings
     c.knuth_bendix_order.ensures.tables.prepared c.in_ok-findings-in-Found.ensures.is_true

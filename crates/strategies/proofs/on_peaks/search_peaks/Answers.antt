@@ -1,4 +1,3 @@
-use Rattle.std.proofs.Common.{sym, subst}
 use Rattle.strategies.proofs.ProblemKinds.{is_for_this, answers_peaks, answers_for, none_else}
 use Rattle.cert_step.specs.ProofProblem as problem
 use Rattle.cert_step.specs.ProofProblem.{problem_of}

@@ -24,8 +24,8 @@ leaving-requires-clause-applies g c =
     (linear_made c.args.trs.now c.rules-rules.ensures.valid c.rules-rules.ensures.limits.symbols c.deref.result.now c.args.budget c.in-Found.found h)
     (poly_applies c.args.trs.now c.deref.result.now c.in-Found.found (c.found_orders_apply.ensures c.args.trs.now c.deref.result.now c.args.budget c.in-Found.found c.rules-rules.ensures.valid c.rules-rules.ensures.limits.symbols h))).applies
 
-pub returns-in-Found-clause-answer : goal.returns-in-Found-clause-answer
-returns-in-Found-clause-answer g c =
+pub returns-in_ok-findings-in-Found-clause-answer : goal.returns-in_ok-findings-in-Found-clause-answer
+returns-in_ok-findings-in-Found-clause-answer g c =
     let h = rw c.in-Found.is at c.in_ok-found.ensures.answer in
     found_for c.interpretation.new.tables.prepared c.args.trs.now c.args.budget strategy.Poly (problem_of c.args.problem.now) (step.poly c.in-Found.found) c.in_ok-findings-in-Found.findings
     c.interpretation.ensures.tables.prepared c.in_ok-findings-in-Found.ensures.is_true

@@ -24,8 +24,8 @@ leaving-requires-clause-applies g c =
     (places_made c.args.trs.now c.deref.result.now c.args.budget c.in-Found.found.items h)
     (subterm_applies c.args.trs.now c.deref.result.now c.in-Found.found.items (c.found_places_apply.ensures c.args.trs.now c.deref.result.now c.args.budget c.in-Found.found.items h))).applies
 
-pub returns-in-Found-clause-answer : goal.returns-in-Found-clause-answer
-returns-in-Found-clause-answer g c =
+pub returns-in_ok-findings-in-Found-clause-answer : goal.returns-in_ok-findings-in-Found-clause-answer
+returns-in_ok-findings-in-Found-clause-answer g c =
     let h = rw c.in-Found.is at c.in_ok-found.ensures.answer in
     found_for c.projection.new.tables.prepared c.args.trs.now c.args.budget strategy.Subterm (problem_of c.args.problem.now) (step.subterm c.in-Found.found.items) c.in_ok-findings-in-Found.findings
     c.projection.ensures.tables.prepared c.in_ok-findings-in-Found.ensures.is_true
