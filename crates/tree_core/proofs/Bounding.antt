@@ -96,13 +96,10 @@ module _ (pairs : ℕ) (goals : List Goal) where
   -- where more goals are lost, no more can be claimed
   module _ (more : List Goal) (grows : (h : ℕ) → is_lost_in goals h ≡ true → is_lost_in more h ≡ true) where
     of_more : (node : TreeNode) → claims_of pairs more node ≤ claims_of pairs goals node
-    of_more node = cond_mono (is_some node.decision || is_lost_in goals node.goal) (is_some node.decision || is_lost_in more node.goal) n n (λ e. elim (or_cases (is_some node.decision) (is_lost_in goals node.goal) e) [
+    of_more node = cond_mono (is_some node.decision || is_lost_in goals node.goal) (is_some node.decision || is_lost_in more node.goal) (count_idle node.marks + tasks_below pairs node.problem) (count_idle node.marks + tasks_below pairs node.problem) (λ e. elim (or_cases (is_some node.decision) (is_lost_in goals node.goal) e) [
       | inl a ↦ or_left (is_some node.decision) (is_lost_in more node.goal) a
       | inr b ↦ or_right (is_some node.decision) (is_lost_in more node.goal) (grows node.goal b)
     ]) (omega arith)
-      where
-        n : ℕ
-        n = count_idle node.marks + tasks_below pairs node.problem
 
     all_more : (nodes : List TreeNode) → claims_of_all pairs more nodes ≤ claims_of_all pairs goals nodes
     all_more [] = omega arith

@@ -118,11 +118,11 @@ given_later es more seat t problem strategy h = later es h
 -- an entry of a seat is an entry
 own_in : {e : HistoryEntry} (es : List HistoryEntry) (seat : ℕ) → In e (of_seat seat es) → In e es
 own_in [] seat h = h
-own_in {e = e} (x ∷ es) seat h = go (eqb x.seat seat) h
+own_in {e = e} (x ∷ es) seat h = go (eqb x.seat seat) (own_in es seat) h
   where
-    go : (b : Bool) → In e (cond b (x ∷ of_seat seat es) (of_seat seat es)) → In e (x ∷ es)
-    go true i = elim (in_or i) [ inl same ↦ subst (λ z. In z (x ∷ es)) (sym same) in_first | inr j ↦ in_rest (own_in es seat j) ]
-    go false i = in_rest (own_in es seat i)
+    go : (b : Bool) → (In e (of_seat seat es) → In e es) → In e (cond b (x ∷ of_seat seat es) (of_seat seat es)) → In e (x ∷ es)
+    go true rest i = elim (in_or i) [ inl same ↦ subst (λ z. In z (x ∷ es)) (sym same) in_first | inr j ↦ in_rest (rest j) ]
+    go false rest i = in_rest (rest i)
 
 -- what is given by the entries of a seat was given
 pub given_of_own : (es : List HistoryEntry) (of seat t : ℕ) (problem : ProofProblem) (strategy : Strategy) → IsGiven (of_seat of es) seat t problem strategy → IsGiven es seat t problem strategy

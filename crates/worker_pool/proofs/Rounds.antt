@@ -71,7 +71,7 @@ notes_of old number event new posted.Late h = h.1
 notes_of old number event new posted.Taken h = h.1
 
 module _ (old mid : ProofTree) (rest : IsAtRest old) (task : Task) (is_task : IsTask old 0 mid task) where
-  claim_entry : HistoryEntry
+  abbrev claim_entry : HistoryEntry
   claim_entry = entry_of task.ticket (claimed (problem_of task.problem) task.strategy)
 
   history_mid : mid.history ≡ old.history ++ claim_entry ∷ []

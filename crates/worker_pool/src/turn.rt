@@ -1,13 +1,13 @@
 //! One turn of a worker that is alone: a claim, and the post of what was answered.
 ghost use Rattle.std.specs.Prelude.{◌≡◌, ◌<◌, ◌^◌, IfOk, length};
-ghost use Rattle.tree_states.specs.History.{IsOwned};
-ghost use Rattle.tree_states.specs.Replies.{IsRunnable};
+ghost use Rattle.tree_states.specs.History.{IsOwned, Runs};
+ghost use Rattle.tree_states.specs.Replies.{event_of_found, IsPost, IsRunnable, IsTaskOf};
 ghost use Rattle.worker_pool.specs.Turns.{IsAtRest, IsAnswerTo, IsTurn, IsOnSame};
 
 use assign_search::Never;
 use std::alloc::Global;
 use strategies::{Limits, Outcome, Ran, Searcher};
-use tree_core::{Claimed, Task, Tree};
+use tree_core::{Claimed, Posted, Task, Tree};
 use trs_core::OutOfMemory;
 
 /// Claims a task, runs it and posts what was answered. Whether there was a task: if there was none,
@@ -32,11 +32,26 @@ pub(crate) fn take_turn<'a>(
     check_tree(tree);
     let limits = tree.limits();
     let outcome = run_task(alloc, searcher, &task, &limits)?;
-    if tree.post(task.ticket, outcome).is_err() {
-        return Err(OutOfMemory);
-    }
+    post(tree, task.ticket, outcome)?;
     check_tree(tree);
     Ok(true)
+}
+
+// Posts an outcome.
+fn post<'a>(
+    tree: &mut Tree<'a>,
+    ticket: u64,
+    outcome: Outcome<'a>,
+) -> Result<Posted, OutOfMemory>
+    requires running { Runs ticket tree.old.history }
+    requires outcome { IsTaskOf tree.old ticket outcome }
+    ensures { IfOk result
+        (IsPost tree.old ticket (event_of_found outcome.entry.found) tree.new) }
+{
+    match tree.post(ticket, outcome) {
+        Ok(posted) => Ok(posted),
+        Err(_) => Err(OutOfMemory),
+    }
 }
 
 // What the task's strategy answers. Nothing stops it.
