@@ -1,16 +1,17 @@
 -- Steps that are accepted are so with the variables of their terms numbered anew.
-use Rattle.std.specs.Prelude.{ℕ, List, [], ◌∷◌, map, Result, Ok, Err, IfOk, refl}
+use Rattle.std.specs.Prelude.{◌≡◌, ℕ, Bool, List, [], ◌∷◌, map, Result, Ok, Err, IfOk, refl}
 use Rattle.std.specs.List.{AllByRecursion}
 use Rattle.trs_defs.specs.System.{System}
 use Rattle.names_text.specs.Named.{NamedSystem}
 use Rattle.cert_step.specs.declared.claim.Claim.{Claim}
 use Rattle.cert_step.specs.ProofStep.{ProofNodeStep}
 use Rattle.step_text.specs.Steps.{step_renumbered}
+use Rattle.cert_text.specs.Headline.{headline_of}
 use Rattle.cert_text.specs.CertificateText.{SaysCertificate}
 use Rattle.cert_text.specs.Renumbered.{renumbered}
 use Rattle.proof_nodes.specs.Nodes.{Node, Makes, IsAccepted, first_nodes}
 use Rattle.proof_text.specs.InOrder.{AreInOrder}
-use Rattle.proof_text.specs.ProofOf.{proof_of, Proves}
+use Rattle.proof_text.specs.ProofOf.{Proves}
 use Rattle.proof_text.proofs.InOrder.{applies_in_order}
 
 makes_in_order : (system : System) (nodes : List Node) (steps : List ProofNodeStep) (last : List Node) → AreInOrder steps
@@ -28,14 +29,15 @@ accepted_in_order system claim steps o h = record {
 }
 
 -- what says these steps, as they were printed, proves the claim
-pub printed_proves : {A E : Type 0} (text_of : A → List ℕ) (named : NamedSystem) (claim : Claim) (steps : List ProofNodeStep) → AreInOrder steps
-    → IsAccepted named.system claim steps → (r : Result A E)
-    → IfOk r (λ t. SaysCertificate named (text_of t) (renumbered 1 (proof_of claim steps))) → IfOk r (λ t. Proves named claim (text_of t))
-printed_proves text_of named claim steps o h (Ok t) said = record {
-  says = renumbered 1 (proof_of claim steps);
+pub printed_proves : {A E : Type 0} (text_of : A → List ℕ) (named : NamedSystem) (claim : Claim) (positive : Bool) (steps : List ProofNodeStep)
+    → positive ≡ headline_of claim → AreInOrder steps → IsAccepted named.system claim steps → (r : Result A E)
+    → IfOk r (λ t. SaysCertificate named (text_of t) (renumbered 1 (record { version = 1; headline = positive; claim = claim; steps = steps })))
+    → IfOk r (λ t. Proves named claim (text_of t))
+printed_proves text_of named claim positive steps fits o h (Ok t) said = record {
+  says = renumbered 1 (record { version = 1; headline = positive; claim = claim; steps = steps });
   said = said;
   claimed = refl;
-  headline = refl;
+  headline = fits;
   accepted = accepted_in_order named.system claim steps o h;
 }
-printed_proves text_of named claim steps o h (Err e) said = tt
+printed_proves text_of named claim positive steps fits o h (Err e) said = tt

@@ -1,4 +1,3 @@
 pub mod Renaming
 pub mod InOrder
 pub mod Accepted
-pub mod FoundInOrder

@@ -54,10 +54,6 @@ renamed_within r t = ap₂ (λ m n. nat_le m 65536 && nat_le n 1024) (renamed_si
 same_number : (m n : ℕ) → (m == n) ≡ true → m ≡ n
 same_number m n h = grind (arith, nat_tests)
 
-pub number_found : (vs : List ℕ) (v i : ℕ) → slice_get vs i ≡ Some v → slice_get vs (number_among vs v) ≡ Some v
-number_found [] v i e = absurd cc
-number_found (n ∷ ns) v i e = found_case ns n v i e (λ j h. number_found ns v j h) (n == v) refl
-
 found_case : (ns : List ℕ) (n v i : ℕ) → slice_get (n ∷ ns) i ≡ Some v → ((j : ℕ) → slice_get ns j ≡ Some v → slice_get ns (number_among ns v) ≡ Some v)
     → (b : Bool) → (n == v) ≡ b → slice_get (n ∷ ns) (if b then 0 else suc (number_among ns v)) ≡ Some v
 found_case ns n v i e later true h = ap (λ k. Some k) (same_number n v h)
@@ -65,6 +61,10 @@ found_case ns n v zero e later false h =
     let same : n ≡ v = same_Some n v e in
     absurd (grind (arith, nat_tests))
 found_case ns n v (suc j) e later false h = later j e
+
+pub number_found : (vs : List ℕ) (v i : ℕ) → slice_get vs i ≡ Some v → slice_get vs (number_among vs v) ≡ Some v
+number_found [] v i e = absurd cc
+number_found (n ∷ ns) v i e = found_case ns n v i e (λ j h. number_found ns v j h) (n == v) refl
 
 -- the variable of a number
 abbrev pub numbered : List ℕ → ℕ → ℕ
@@ -75,15 +75,6 @@ numbered_again t v h =
     let at = among_variables v t h in
     ap (λ o. unwrap_or o 0) (number_found (variables_of t) v at.0 at.1)
 
--- a term whose variables are numbered so is as it is numbered
-pub in_order_already : (t : Tree) → IsCount 0 (variables_of t) → in_order t ≡ t
-in_order_already t count =
-    with_numbers_renamed (variables_of t) t
-    ∙ same_instance (λ v. var (number_among (variables_of t) v)) (λ v. var v) t (λ v h.
-    let at = among_variables v t h in
-    ap var (sym (count (number_among (variables_of t) v) v (number_found (variables_of t) v at.0 at.1))))
-    ∙ unchanged t
-
 mutual
   unchanged : (t : Tree) → apply (λ v. var v) t ≡ t
   unchanged (var v) = refl
@@ -92,3 +83,12 @@ mutual
   all_unchanged : (ts : Trees) → apply_all (λ v. var v) ts ≡ ts
   all_unchanged nil = refl
   all_unchanged (cons t ts) = cc (unchanged t, all_unchanged ts)
+
+-- a term whose variables are numbered so is as it is numbered
+pub in_order_already : (t : Tree) → IsCount 0 (variables_of t) → in_order t ≡ t
+in_order_already t count =
+    with_numbers_renamed (variables_of t) t
+    ∙ same_instance (λ v. var (number_among (variables_of t) v)) (λ v. var v) t (λ v h.
+    let at = among_variables v t h in
+    ap var (sym (count (number_among (variables_of t) v) v (number_found (variables_of t) v at.0 at.1))))
+    ∙ unchanged t

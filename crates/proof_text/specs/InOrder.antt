@@ -1,5 +1,5 @@
 -- Steps whose terms have their variables numbered in the order of their first occurrences.
-use Rattle.std.specs.Prelude.{ℕ, List}
+use Rattle.std.specs.Prelude.{List}
 use Rattle.std.specs.List.{AllByRecursion}
 use Rattle.trs_defs.specs.System.{System}
 use Rattle.trs_defs.specs.Variable.{variables_of}
@@ -8,8 +8,6 @@ use Rattle.cert_step.specs.ProofProblem.{ProofProblem}
 use Rattle.cert_step.specs.ProofStep.{ProofStep, ProofNodeStep, fork}
 use Rattle.cert_step.specs.Applies.{Applies}
 use Rattle.step_text.specs.Steps.{method_text}
-use Rattle.strategies.specs.declared.strategy.Strategy.{Strategy}
-use Rattle.strategies.specs.Conditions.{Finds}
 
 -- the start of a fork has its variables numbered so
 abbrev pub StartsInOrder : ProofStep → Type 0
@@ -24,8 +22,3 @@ abbrev pub StepsApplyInOrder : Type 0
 StepsApplyInOrder =
     (system : System) (p : ProofProblem) (s : ProofStep) (subproblems : List ProofProblem)
     → StartsInOrder s → Applies system p s subproblems → Applies system p (method_text s).in_order subproblems
-
--- what a strategy finds starts so
-abbrev pub FoundStepsAreInOrder : Type 0
-FoundStepsAreInOrder =
-    (system : System) (budget : ℕ) (strategy : Strategy) (p : ProofProblem) (s : ProofStep) → Finds system budget strategy p s → StartsInOrder s
