@@ -11,7 +11,7 @@ use Rattle.certifier.specs.declared.rejected.Rejected.{Rejected}
 use Rattle.certifier.specs.declared.rejected.Rejected.TheVariants as why
 use Rattle.certifier.specs.Acceptance.{IsAcceptedAs, IsRejection}
 use Rattle.certifier.proofs.OneAnswer.{said_once, one_rejection, not_both}
-use Rattle.command_line.specs.Request.{Asked, certifies}
+use Rattle.command_line.specs.Request.{Asked, certifies, proves}
 use Rattle.command_line.specs.declared.Wanted.{Wanted}
 use Rattle.io_edge.specs.declared.fault.FetchFault.{FetchFault}
 use Rattle.io_edge.specs.declared.fault.FetchFault.TheVariants as fetch
@@ -110,7 +110,7 @@ module _ (shelf : ShelfMeaning) (wanted : Wanted) (p c : List ℕ) where
   pub long_only : MayPass most_problem_bytes shelf p ⊎ MayPass most_certificate_bytes shelf c → AnswersOnly Request shelf status.TooLong
   long_only h s text (usage none) = absurd cc
   long_only h s text (too_long name limit needed long) = refl
-  long_only h s text (answered question budget problem f conclusion) = let other_asked = f.asked in absurd cc
+  long_only h s text (answered question budget problem f conclusion) = let asks : Some (certifies wanted p c) ≡ Some (proves question f.name f.workers budget) = f.asked in absurd cc
   long_only (inl h) s text (decided other problem certificate f verdict) =
       absurd (not_long most_problem_bytes shelf p problem (under_first other problem certificate f) f.problem_size h)
   long_only (inr h) s text (decided other problem certificate f verdict) =
@@ -138,7 +138,7 @@ module _ (shelf : ShelfMeaning) (wanted : Wanted) (p c : List ℕ) where
     pub verdict_only : (s : Status) (text : List ℕ) → Verdict v w wanted s text → AnswersOnly Request shelf s
     verdict_only s text verdict other defined (usage none) = absurd cc
     verdict_only s text verdict other defined (too_long name limit needed long) = absurd (not_too_long name limit needed long)
-    verdict_only s text verdict other defined (answered question budget problem f conclusion) = let other_asked = f.asked in absurd cc
+    verdict_only s text verdict other defined (answered question budget problem f conclusion) = let asks : Some (certifies wanted p c) ≡ Some (proves question f.name f.workers budget) = f.asked in absurd cc
     verdict_only s text verdict other defined (decided asked problem certificate f found) =
         let is_first : v ≡ problem = told_is shelf p v problem first (under_first asked problem certificate f) in
         let is_second : w ≡ certificate = told_is shelf c w certificate second (under_second asked problem certificate f) in

@@ -5,7 +5,7 @@ use Rattle.io_edge.specs.declared.fault.FetchFault.{FetchFault}
 use Rattle.io_edge.specs.declared.fault.FetchFault.TheVariants as fetch
 use Rattle.io_edge.proofs.Counting.{same_or_not}
 use Rattle.ari_text.proofs.OneSystem.{no_refusal}
-use Rattle.command_line.specs.Request.{Asked, proves}
+use Rattle.command_line.specs.Request.{Asked, certifies, proves}
 use Rattle.command_line.specs.declared.Question.{Question}
 use Rattle.trsprove.specs.declared.status.Status.{Status}
 use Rattle.trsprove.specs.declared.status.Status.TheVariants as status
@@ -64,7 +64,7 @@ module _ (shelf : ShelfMeaning) (question : Question) (p : List ℕ) (workers bu
   too_long_only : MayPass most_problem_bytes shelf p → AnswersOnly Request shelf status.TooLong
   too_long_only h s text (usage none) = absurd cc
   too_long_only h s text (too_long name limit needed long) = refl
-  too_long_only h s text (decided wanted problem certificate f verdict) = let other_asked = f.asked in absurd cc
+  too_long_only h s text (decided wanted problem certificate f verdict) = let asks : Some (proves question p workers budget) ≡ Some (certifies wanted f.problem_name f.certificate_name) = f.asked in absurd cc
   too_long_only h s text (answered other limit problem f conclusion) = absurd (not_long most_problem_bytes shelf p problem (told_of other limit problem f) f.size h)
 
   -- where the text could not be fetched
@@ -86,7 +86,7 @@ module _ (shelf : ShelfMeaning) (question : Question) (p : List ℕ) (workers bu
     pub conclusion_only : (s : Status) (text : List ℕ) → IsConclusion v question budget s text → AnswersOnly Request shelf s
     conclusion_only s text h other defined (usage none) = absurd cc
     conclusion_only s text h other defined (too_long name limit needed long) = absurd (not_too_long name limit needed long)
-    conclusion_only s text h other defined (decided wanted problem certificate f verdict) = let other_asked = f.asked in absurd cc
+    conclusion_only s text h other defined (decided wanted problem certificate f verdict) = let asks : Some (proves question p workers budget) ≡ Some (certifies wanted f.problem_name f.certificate_name) = f.asked in absurd cc
     conclusion_only s text h other defined (answered asked limit problem f found) =
         let same = same_of asked limit problem f in
         let is : v ≡ problem = told_is shelf p v problem may_be (told_of asked limit problem f) in

@@ -1,13 +1,12 @@
 //! Questions about a system, which a search for proofs answers.
-ghost use Rattle.std.specs.Prelude.{◌≡◌, ◌≤◌, ℕ, Some, IfOk, length};
+ghost use Rattle.std.specs.Prelude.{◌≡◌, ◌≤◌, ℕ, List, Some, IfOk, length};
+ghost use Rattle.ari_text.specs.Problem.{SaysSystem};
 ghost use Rattle.command_line.specs.Request.{proves};
-ghost use Rattle.conclusion.specs.Concludes.{Concludes};
 ghost use Rattle.trsprove.specs.Conclusions.{question_of as question_of_tree, IsConclusion};
 ghost use Rattle.trsprove.specs.Output.{IsAnswer, AnswersOnly, TouchesOnlyNeeded, most_problem_bytes};
 ghost use Rattle.trsprove.specs.Answers.{status_of, text_of};
 
 use crate::answer::{Answer, MOST_PROBLEM_BYTES, unfetched};
-use crate::status::Status;
 use ari_text::{AriFault, read_problem};
 use command_line::Question;
 use conclusion::answer_question;
@@ -57,16 +56,15 @@ fn read<'a>(
     }
 }
 
-// The answer to a question about a system.
+// The answer to a question about a system, for each text that says it.
 fn answered<'a>(
     alloc: Global,
     system: &NamedTrs,
     question: Question,
     budget: u64,
 ) -> Result<Answer<'a>, AllocError>
-    ensures status { IfOk result (λ a. status_of a ≡ Status.Answered) }
-    ensures text { IfOk result (λ a.
-        Concludes system.now (question_of_tree question) budget (text_of a)) }
+    ensures { (problem : List ℕ) → SaysSystem problem system.now → IfOk result (λ a.
+        IsConclusion problem question budget (status_of a) (text_of a)) }
 {
     match answer_question(alloc, system, question_of(question), budget) {
         Ok(text) => Ok(Answer::Concluded(text)),
