@@ -21,6 +21,7 @@ use Rattle.dp_core.proofs.SubtermLaws.{collected_length}
 use Rattle.dp_graph.specs.GroupOrSingle.{GroupOrSingle, group, single, all_members, groups_of, singles_of}
 use Rattle.dp_graph.specs.GraphConditions.{are_new, none_is_missing}
 use Rattle.dp_graph.proofs.ComponentLaws.{Ascends, no_numbers, number, ascends_of}
+use Rattle.usable_rules.specs.UsableConditions.{usable_conditions}
 use Rattle.cert_step.specs.ProofProblem as problem
 use Rattle.cert_step.specs.ProofProblem.{ProofProblem, IsWellMadeProblem}
 use Rattle.cert_step.specs.ProofStep as step
@@ -33,7 +34,7 @@ use Rattle.cert_step.specs.GraphKind.{IsGraphItem, group_problems}
 use Rattle.cert_step.specs.Applies.{Applies}
 use Rattle.strategies.specs.declared.strategy.Strategy.{Strategy}
 use Rattle.strategies.specs.Rows.{FindsGraph}
-use Rattle.strategies.specs.Conditions.{Finds, dp_is_found, graph_is_found, subterm_is_found, poly_is_found, lpo_is_found, kbo_is_found, loop_is_found, parallel_is_found, strong_is_found, newman_is_found, fork_is_found, confluence_is_found, newman_confluence_is_found, split_is_found}
+use Rattle.strategies.specs.Conditions.{Finds, dp_is_found, graph_is_found, subterm_is_found, poly_is_found, lpo_is_found, kbo_is_found, usable_is_found, loop_is_found, parallel_is_found, strong_is_found, label_is_found, newman_is_found, fork_is_found, confluence_is_found, newman_confluence_is_found, split_is_found}
 use Rattle.strategies.specs.TaskBounds.{pairs_in, tasks_below, tasks_of_all}
 use Rattle.strategies.proofs.GraphMade.{items_made}
 
@@ -66,6 +67,10 @@ subterm_fewer all projection numbers _ (goes_on pairs _ t (goes_on _ _ n (goes_o
 
 order_fewer : (comparing : Comparing) (rules : List RewriteRule) (all : List DependencyPair) (numbers left : List ℕ) → pair_conditions comparing rules all numbers (Ok left) → length left < length numbers
 order_fewer comparing rules all numbers _ (goes_on pairs _ t (goes_on _ _ e (goes_on _ _ m (goes_on _ _ w (goes_on removed _ c (goes_on _ _ (holds i) returned)))))) =
+    fewer numbers removed (let a = collected_length _ 0 (zip numbers pairs) removed c in let b = zip_le numbers pairs in omega (arith, a, b)) i
+
+usable_fewer : (comparing : Comparing) (rules : List RewriteRule) (all : List DependencyPair) (numbers left : List ℕ) → usable_conditions comparing rules all numbers (Ok left) → length left < length numbers
+usable_fewer comparing rules all numbers _ (goes_on pairs _ t (goes_on _ _ u (goes_on _ _ e (goes_on _ _ m (goes_on _ _ w (goes_on removed _ c (goes_on _ _ (holds i) returned))))))) =
     fewer numbers removed (let a = collected_length _ 0 (zip numbers pairs) removed c in let b = zip_le numbers pairs in omega (arith, a, b)) i
 
 if_any_few : (pairs : ℕ) (xs : List ℕ) (n : ℕ) → length xs < n → tasks_of_all pairs (problem_if_any xs) ≤ 12 * (n - 1)
@@ -200,9 +205,13 @@ found_shrinks system budget _ _ _ left well (lpo_is_found {numbers = numbers} {e
 found_shrinks system budget _ _ _ left well (kbo_is_found {numbers = numbers} {entries = entries} f) (goes_on _ _ _ h) =
     removal_shrinks (pairs_in system) (λ ns. pair_conditions (kbo_comparing entries) system.rules (dependency_pairs system.rules) ns) numbers left
     (λ remain c. order_fewer (kbo_comparing entries) system.rules (dependency_pairs system.rules) numbers remain c) h
+found_shrinks system budget _ _ _ left well (usable_is_found {numbers = numbers} {entries = entries} f) (goes_on _ _ _ h) =
+    removal_shrinks (pairs_in system) (λ ns. usable_conditions (poly_comparing entries) system.rules (dependency_pairs system.rules) ns) numbers left
+    (λ remain c. usable_fewer (poly_comparing entries) system.rules (dependency_pairs system.rules) numbers remain c) h
 found_shrinks system budget _ _ _ _ well (loop_is_found f) (goes_on _ _ _ (goes_on _ _ _ returned)) = omega arith
 found_shrinks system budget _ _ _ _ well (parallel_is_found f) (goes_on _ _ _ (goes_on _ _ _ returned)) = omega arith
 found_shrinks system budget _ _ _ _ well (strong_is_found f) (goes_on _ _ _ (goes_on _ _ _ returned)) = omega arith
+found_shrinks system budget _ _ _ _ well (label_is_found f) (goes_on _ _ _ (goes_on _ _ _ returned)) = omega arith
 found_shrinks system budget _ _ _ _ well (newman_is_found f) (goes_on _ _ _ (goes_on _ _ _ returned)) =
     let now : tasks_of_all (pairs_in system) (problem.sn ∷ []) ≡ 1 + (6 + 12 * (pairs_in system - 1)) + 0 = refl in omega (arith, now)
 found_shrinks system budget _ _ _ _ well (fork_is_found f) (goes_on _ _ _ (goes_on _ _ _ returned)) = omega arith
