@@ -4,7 +4,7 @@ ghost use Rattle.conclusion.specs.Concludes.{Concludes};
 
 use cert_step::NodeStep;
 use names_text::NamedTrs;
-use proof_text::{found_steps_are_in_order, print_proof};
+use proof_text::print_proof;
 use report_text::print_report;
 use std::alloc::Global;
 use strategies::Limits;
@@ -45,7 +45,6 @@ fn won_text(
         Concludes system.now tree.now.question tree.now.budget text.items) }
 {
     let _entries = tree.history_len();
-    found_steps_are_in_order();
     let proof = tree.certificate(alloc)?;
     check_few(&proof.steps);
     print_proof(alloc, system, proof.claim, proof.steps)

@@ -22,7 +22,7 @@ print_proof-requires-printable c =
 pub print_proof-requires-in_order : goal.print_proof-requires-in_order
 print_proof-requires-in_order c =
     let tree = c.args.tree.now in
-    goal_in_order c.found_steps_are_in_order.ensures (goals_of tree.question) tree.system tree.budget tree.state c.history_len.ensures.legal c.requires.won.0 _
+    goal_in_order (goals_of tree.question) tree.system tree.budget tree.state c.history_len.ensures.legal c.requires.won.0 _
     (c.in_ok-certificate.ensures.steps c.requires.won.0 c.requires.won.1)
 
 pub print_proof-requires-accepted : goal.print_proof-requires-accepted
