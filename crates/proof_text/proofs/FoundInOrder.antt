@@ -43,9 +43,11 @@ found_in_order system budget s p step (strategies.subterm_is_found h) = tt
 found_in_order system budget s p step (strategies.poly_is_found h) = tt
 found_in_order system budget s p step (strategies.lpo_is_found h) = tt
 found_in_order system budget s p step (strategies.kbo_is_found h) = tt
+found_in_order system budget s p step (strategies.usable_is_found h) = tt
 found_in_order system budget s p step (strategies.loop_is_found h) = tt
 found_in_order system budget s p step (strategies.parallel_is_found h) = tt
 found_in_order system budget s p step (strategies.strong_is_found h) = tt
+found_in_order system budget s p step (strategies.label_is_found h) = tt
 found_in_order system budget s p step (strategies.newman_is_found h) = tt
 found_in_order system budget s p step (strategies.fork_is_found {fork = fork} h) = fork_in_order _ system fork h
 found_in_order system budget s p step strategies.confluence_is_found = tt
