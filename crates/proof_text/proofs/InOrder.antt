@@ -47,10 +47,10 @@ instance_in_order start part (σ, is) =
     let back : ℕ → Tree = λ k. renamed r (σ (numbered vs k)) in (
       back,
       ap (apply back) (with_numbers_renamed vs start)
-      ∙ apply_apply back (λ v. var (r v)) start
-      ∙ same_instance (λ v. back (r v)) (λ v. renamed r (σ v)) start (λ v h. ap (λ w. renamed r (σ w)) (numbered_again start v h))
-      ∙ sym (apply_apply (λ v. var (r v)) σ start)
-      ∙ ap (renamed r) is,
+          ∙ apply_apply back (λ v. var (r v)) start
+          ∙ same_instance (λ v. back (r v)) (λ v. renamed r (σ v)) start (λ v h. ap (λ w. renamed r (σ w)) (numbered_again start v h))
+          ∙ sym (apply_apply (λ v. var (r v)) σ start)
+          ∙ ap (renamed r) is,
     )
 
 loop_in_order : (rules : List RewriteRule) (start : Tree) (path : List PlacedRule) (place : List ℕ)

@@ -1,3 +1,4 @@
 pub mod Renaming
 pub mod InOrder
 pub mod Accepted
+pub mod FoundInOrder

@@ -90,5 +90,7 @@ in_order_already t count =
     with_numbers_renamed (variables_of t) t
     ∙ same_instance (λ v. var (number_among (variables_of t) v)) (λ v. var v) t (λ v h.
     let at = among_variables v t h in
-    ap var (sym (count (number_among (variables_of t) v) v (number_found (variables_of t) v at.0 at.1))))
+    let is = count (number_among (variables_of t) v) v (number_found (variables_of t) v at.0 at.1) in
+    let same : number_among (variables_of t) v ≡ v = omega (arith, is) in
+    ap var same)
     ∙ unchanged t

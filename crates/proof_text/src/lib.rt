@@ -4,5 +4,5 @@
 mod laws;
 mod printing;
 
-pub use laws::steps_apply_in_order;
+pub use laws::{found_steps_are_in_order, steps_apply_in_order};
 pub use printing::print_proof;

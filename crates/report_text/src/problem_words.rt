@@ -10,11 +10,7 @@ use text_reading::{put, put_number};
 use trs_core::OutOfMemory;
 
 /// Appends `(stuck node problem)`, behind a blank.
-pub(crate) fn put_stuck(
-    out: &mut Vec<u8>,
-    node: u64,
-    problem: &Problem,
-) -> Result<(), OutOfMemory>
+pub(crate) fn put_stuck(out: &mut Vec<u8>, node: u64, problem: &Problem) -> Result<(), OutOfMemory>
     ensures { OnOk result (out.new.items
         ≡ out.old.items ++ 32 ∷ text_of (stuck_item node (problem_of problem.now))) }
 {
