@@ -17,7 +17,7 @@ closed [] = 0
 closed (x ∷ xs) = cond x.is_open 0 1 + closed xs
 
 closed_append : (xs ys : List Node) → closed (xs ++ ys) ≡ closed xs + closed ys
-closed_append [] ys = refl
+closed_append [] ys = omega arith
 closed_append (x ∷ xs) ys = let rest = closed_append xs ys in omega (arith, rest)
 
 none_closed : (ps : List ProofProblem) → closed (map open_node ps) ≡ 0
@@ -30,7 +30,7 @@ closed_node p = record { problem = p; is_open = false }
 one_closed : (nodes : List Node) (n : ℕ) (p : ProofProblem) → slice_get nodes n ≡ Some (open_node p) → closed (set nodes n (closed_node p)) ≡ suc (closed nodes)
 one_closed [] n p e = absurd cc
 one_closed (x ∷ nodes) zero p e =
-    let is : x ≡ open_node p = cc in subst (λ (y : Node). 1 + closed nodes ≡ suc (cond y.is_open 0 1 + closed nodes)) (sym is) refl
+    let is : x ≡ open_node p = cc in subst (λ (y : Node). 1 + closed nodes ≡ suc (cond y.is_open 0 1 + closed nodes)) (sym is) (omega arith)
 one_closed (x ∷ nodes) (suc n) p e = let rest = one_closed nodes n p e in omega (arith, rest)
 
 closed_after_one : (nodes : List Node) (n : ℕ) (p : ProofProblem) (left : List ProofProblem) → slice_get nodes n ≡ Some (open_node p)

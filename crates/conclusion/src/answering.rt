@@ -44,10 +44,10 @@ fn won_text(
     ensures { IfOk result (λ text.
         Concludes system.now tree.now.question tree.now.budget text.items) }
 {
-    let _entries = tree.history_len();
     let proof = tree.certificate(alloc)?;
     check_few(&proof.steps);
-    print_proof(alloc, system, proof.claim, proof.steps)
+    let text = print_proof(alloc, system, proof.claim, proof.steps)?;
+    Ok(text)
 }
 
 // What is known of the number of steps. There is nothing to run.

@@ -1,13 +1,14 @@
 -- The texts of a goal's members, and the lines of goals, as they are written one after another.
-use Rattle.std.specs.Prelude.{slice_get, Some}
-use Rattle.std.proofs.Common.{◌≡◌, ℕ, ◌+◌, ◌<◌, zero, suc, List, [], ◌∷◌, ◌++◌, map, length, drop, get_or, refl, ap, ap₂, sym, ◌∙◌, subst, arith, append_assoc}
+use Rattle.std.specs.Prelude.{slice_get, Some, codes}
+use Rattle.std.proofs.Common.{◌≡◌, ℕ, ◌+◌, ◌<◌, ◌≤◌, zero, suc, List, [], ◌∷◌, ◌++◌, map, length, drop, get_or, refl, ap, ap₂, sym, ◌∙◌, arith, append_assoc, append-nil}
 use Rattle.std.proofs.Math.Seq.{drop-cons}
 use Rattle.std.proofs.lemmas.Option.{same_Some}
 use Rattle.sexp_core.specs.Items.{Item, items_of}
 use Rattle.sexp_core.specs.Printed.{text_of, spaced, lines}
+use Rattle.text_reading.specs.Printed.{word_item, list_item}
 use Rattle.names_text.specs.Named.{NamedSystem}
 use Rattle.tree_states.specs.declared.report.GoalReport.{GoalReport}
-use Rattle.tree_states.specs.Reports.{Part, part_of}
+use Rattle.tree_states.specs.Reports.{part_of}
 use Rattle.report_text.specs.GoalLines.{goal_item, goal_items}
 
 pub spaced_joined : (xs ys : List Item) → spaced (items_of (xs ++ ys)) ≡ spaced (items_of xs) ++ spaced (items_of ys)
@@ -15,6 +16,43 @@ spaced_joined [] ys = refl
 spaced_joined (x ∷ xs) ys =
     ap (λ (l : List ℕ). 32 ∷ (text_of x ++ l)) (spaced_joined xs ys)
     ∙ ap (λ (l : List ℕ). 32 ∷ l) (sym (append_assoc (text_of x) (spaced (items_of xs)) (spaced (items_of ys))))
+
+-- what is put one after another, all behind the first
+put_in_turn : (old start word steps stuck failed end : List ℕ)
+    → (((((old ++ start) ++ word) ++ steps) ++ stuck) ++ failed) ++ end ≡ old ++ (start ++ (word ++ (steps ++ (stuck ++ (failed ++ end)))))
+put_in_turn old start word steps stuck failed end =
+    append_assoc ((((old ++ start) ++ word) ++ steps) ++ stuck) failed end
+    ∙ append_assoc (((old ++ start) ++ word) ++ steps) stuck (failed ++ end)
+    ∙ append_assoc ((old ++ start) ++ word) steps (stuck ++ (failed ++ end))
+    ∙ append_assoc (old ++ start) word (steps ++ (stuck ++ (failed ++ end)))
+    ∙ append_assoc old start (word ++ (steps ++ (stuck ++ (failed ++ end))))
+
+members_ended : (word steps stuck failed : List ℕ)
+    → ((word ++ (steps ++ (stuck ++ failed))) ++ 41 ∷ []) ++ 10 ∷ [] ≡ word ++ (steps ++ (stuck ++ (failed ++ 41 ∷ 10 ∷ [])))
+members_ended word steps stuck failed =
+    append_assoc (word ++ (steps ++ (stuck ++ failed))) (41 ∷ []) (10 ∷ [])
+    ∙ append_assoc word (steps ++ (stuck ++ failed)) (41 ∷ 10 ∷ [])
+    ∙ ap (λ (l : List ℕ). word ++ l) (append_assoc steps (stuck ++ failed) (41 ∷ 10 ∷ []))
+    ∙ ap (λ (l : List ℕ). word ++ (steps ++ l)) (append_assoc stuck failed (41 ∷ 10 ∷ []))
+
+-- the line of a goal, when its members were put one after another
+pub goal_put : (word : List ℕ) (steps : List Item) (stuck : Item) (failed : List Item) (old o1 o2 o3 o4 o5 new : List ℕ)
+    → o1 ≡ old ++ codes "(goal " → o2 ≡ o1 ++ word → o3 ≡ o2 ++ spaced (items_of steps) → o4 ≡ o3 ++ 32 ∷ text_of stuck
+    → o5 ≡ o4 ++ spaced (items_of failed) → new ≡ o5 ++ 41 ∷ 10 ∷ []
+    → new ≡ old ++ (text_of (list_item (word_item (codes "goal") ∷ word_item word ∷ steps ++ stuck ∷ failed)) ++ 10 ∷ [])
+goal_put word steps stuck failed old o1 o2 o3 o4 o5 new p1 p2 p3 p4 p5 p6 =
+    let start : List ℕ = codes "(goal " in
+    let end : List ℕ = 41 ∷ 10 ∷ [] in
+    let s : List ℕ = spaced (items_of steps) in
+    let t : List ℕ = 32 ∷ text_of stuck in
+    let f : List ℕ = spaced (items_of failed) in
+    let q2 : o2 ≡ (old ++ start) ++ word = p2 ∙ ap (λ (l : List ℕ). l ++ word) p1 in
+    let q3 : o3 ≡ ((old ++ start) ++ word) ++ s = p3 ∙ ap (λ (l : List ℕ). l ++ s) q2 in
+    let q4 : o4 ≡ (((old ++ start) ++ word) ++ s) ++ t = p4 ∙ ap (λ (l : List ℕ). l ++ t) q3 in
+    let q5 : o5 ≡ ((((old ++ start) ++ word) ++ s) ++ t) ++ f = p5 ∙ ap (λ (l : List ℕ). l ++ f) q4 in
+    p6 ∙ ap (λ (l : List ℕ). l ++ end) q5 ∙ put_in_turn old start word s t f end
+    ∙ ap (λ (l : List ℕ). old ++ (start ++ l)) (sym (members_ended word s t f))
+    ∙ ap (λ (l : List ℕ). old ++ (start ++ (((word ++ l) ++ 41 ∷ []) ++ 10 ∷ []))) (sym (spaced_joined steps (stuck ∷ failed)))
 
 item_read : {A : Type 0} (xs : List A) (i : ℕ) (x : A) → slice_get xs i ≡ Some x → drop i xs ≡ x ∷ drop (suc i) xs
 item_read [] i x e = absurd cc
@@ -38,6 +76,21 @@ line_before named words goals i word goal old new there below is made =
     ∙ ap (λ (l : List ℕ). old ++ l) (append_assoc text (10 ∷ []) rest)
     ∙ sym (ap₂ (λ ws gs. old ++ behind ws gs) (item_read words i word there) next)
 
-pub no_goals : (named : NamedSystem) (words : List (List ℕ)) → goal_items named words [] ≡ []
+no_goals : (named : NamedSystem) (words : List (List ℕ)) → goal_items named words [] ≡ []
 no_goals named [] = refl
 no_goals named (word ∷ words) = refl
+
+none_left : {A : Type 0} (xs : List A) (i : ℕ) → length xs ≤ i → drop i xs ≡ []
+none_left [] zero all = refl
+none_left [] (suc i) all = refl
+none_left (x ∷ xs) zero all = absurd (omega (arith, all))
+none_left (x ∷ xs) (suc i) all = none_left xs i (omega (arith, all))
+
+-- behind the last goal no line is left
+pub lines_done : (named : NamedSystem) (words : List (List ℕ)) (goals : List GoalReport) (i : ℕ) (out whole : List ℕ) → length goals ≤ i
+    → out ++ lines (items_of (goal_items named words (map part_of (drop i goals)))) ≡ whole → out ≡ whole
+lines_done named words goals i out whole all is =
+    let none : lines (items_of (goal_items named words (map part_of (drop i goals)))) ≡ [] =
+    (ap (λ gs. lines (items_of (goal_items named words (map part_of gs)))) (none_left goals i all)
+    ∙ ap (λ items. lines (items_of items)) (no_goals named words)) in
+    sym (append-nil out) ∙ ap (λ (l : List ℕ). out ++ l) (sym none) ∙ is

@@ -4,6 +4,7 @@ ghost use Rattle.sexp_core.specs.Printed.{text_of, spaced};
 ghost use Rattle.names_text.specs.VariableNames.{underscores as underscores_of};
 ghost use Rattle.cert_step.specs.ProofStep.{node_step_of};
 ghost use Rattle.step_text.specs.Steps.{step_item};
+ghost use Rattle.tree_states.specs.declared.question.Question.TheVariants.{Termination, Confluence, Unique};
 ghost use Rattle.tree_states.specs.Questions.{goals_of};
 ghost use Rattle.tree_states.specs.Reports.{part_of};
 ghost use Rattle.report_text.specs.GoalLines.{goal_words, goal_item};
@@ -32,8 +33,8 @@ pub(crate) fn goal_word(question: Question, goal: usize) -> &'static [u8]
 }
 
 fn termination_word(goal: usize) -> &'static [u8]
-    requires { goal < goals_of Question::Termination }
-    ensures { slice_get (goal_words Question::Termination) goal ≡ Some result.now }
+    requires { goal < goals_of Termination }
+    ensures { slice_get (goal_words Termination) goal ≡ Some result.now }
 {
     match goal {
         0 => b"terminating",
@@ -42,8 +43,8 @@ fn termination_word(goal: usize) -> &'static [u8]
 }
 
 fn confluence_word(goal: usize) -> &'static [u8]
-    requires { goal < goals_of Question::Confluence }
-    ensures { slice_get (goal_words Question::Confluence) goal ≡ Some result.now }
+    requires { goal < goals_of Confluence }
+    ensures { slice_get (goal_words Confluence) goal ≡ Some result.now }
 {
     match goal {
         0 => b"confluent",
@@ -53,8 +54,8 @@ fn confluence_word(goal: usize) -> &'static [u8]
 }
 
 fn unique_word(goal: usize) -> &'static [u8]
-    requires { goal < goals_of Question::Unique }
-    ensures { slice_get (goal_words Question::Unique) goal ≡ Some result.now }
+    requires { goal < goals_of Unique }
+    ensures { slice_get (goal_words Unique) goal ≡ Some result.now }
 {
     match goal {
         0 => b"unique",

@@ -13,9 +13,10 @@ use Rattle.strategies.specs.Truth.{IsTrueFound}
 use Rattle.tree_states.specs.declared.answers.Task.{Task}
 use Rattle.tree_states.specs.declared.answers.Posted.{Posted}
 use Rattle.tree_states.specs.declared.answers.Posted.TheVariants as posted
+use Rattle.tree_states.specs.declared.question.Question.{Question}
 use Rattle.tree_states.specs.Questions.{goals_of}
 use Rattle.tree_states.specs.History.{HistoryEntry, Event, claimed, mentions, of_seat, Runs, IsOwned}
-use Rattle.tree_states.specs.States.{State}
+use Rattle.tree_states.specs.States.{State, opening}
 use Rattle.tree_states.specs.Verdicts.{HasVerdict, IsDone}
 use Rattle.tree_states.specs.Events.{Follows}
 use Rattle.tree_states.specs.Trees.{ProofTree}
@@ -24,6 +25,15 @@ use Rattle.tree_states.proofs.Lookups.{length_set}
 use Rattle.tree_states.proofs.Mentions.{about, mentions-append, one_owner, runs_of_own}
 use Rattle.worker_pool.specs.Serial.{IsSerial, nothing, one_more, entry_of}
 use Rattle.worker_pool.specs.Turns.{IsAtRest, IsOnSame, IsAnswerTo, IsTurn, entries_left}
+
+-- ---- the opening
+
+abbrev pub new_tree : Question → System → ℕ → ProofTree
+new_tree question system budget = record { question = question; system = system; budget = budget; history = []; state = opening question }
+
+-- a new tree is at rest
+pub new_at_rest : (question : Question) (system : System) (budget : ℕ) (tree : ProofTree) → tree ≡ new_tree question system budget → IsAtRest tree
+new_at_rest question system budget tree is = subst IsAtRest (sym is) (record { serial = nothing; tickets = refl; going = refl })
 
 -- ---- nothing runs between two turns
 
