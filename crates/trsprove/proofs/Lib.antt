@@ -2,4 +2,5 @@ pub mod Fetching
 pub mod Answering
 pub mod Putting
 pub mod PuttingLines
+pub mod Questions
 pub mod Running

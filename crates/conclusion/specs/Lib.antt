@@ -1,0 +1,2 @@
+pub mod Concludes
+pub mod Laws
