@@ -9,11 +9,13 @@ use Rattle.proof_text.specs.ProofOf.{Proves}
 use Rattle.report_text.specs.GoalLines.{report_lines}
 use Rattle.tree_states.specs.declared.question.Question.{Question}
 use Rattle.tree_states.specs.Questions.{goals_of, claims}
-use Rattle.tree_states.specs.Reports.{Part, IsTrueReport}
+use Rattle.tree_states.specs.Reports.{Part, IsTrueReport, AreStepsOf, ArePartsOf}
 use Rattle.tree_states.specs.Trees.{ProofTree}
 use Rattle.tree_states.specs.Verdicts.{HasVerdict}
 use Rattle.tree_states.specs.Replies.{IsVerdict}
-use Rattle.conclusion.specs.Concludes.{Concludes, proved, maybe, proof_lines}
+use Rattle.worker_pool.specs.Serial.{IsSerialEnd}
+use Rattle.conclusion.specs.Concludes.{Concludes, proved, maybe, proof_lines, maybe_text}
+use Rattle.conclusion.specs.SerialText.{IsSerialText, IsEnd, won, lost}
 
 -- a certificate of the claim of the goal that was won
 pub won_concludes : (named : NamedSystem) (question : Question) (budget g : ℕ) (claim : Claim) (steps : List ProofNodeStep) (text : List ℕ) → slice_get (claims question) g ≡ Some claim
@@ -32,3 +34,18 @@ lost_concludes named system question budget parts lines text same is_true are is
 pub some_verdict : (tree : ProofTree) → HasVerdict (goals_of tree.question) tree.state → IsVerdict tree None → ⊥
 some_verdict tree (inl (g, won)) (none, h) = absurd cc
 some_verdict tree (inr lost) (none, (g, within, not_lost)) = not_lost (lost g within)
+
+-- the certificate of the goal that was won in the state of a serial history
+pub won_serial : (named : NamedSystem) (tree : ProofTree) (g : ℕ) (claim : Claim) (steps : List ProofNodeStep) (text : List ℕ) → tree.system ≡ named.system → IsEnd tree
+    → tree.state.winner ≡ Some g → slice_get (claims tree.question) g ≡ Some claim → AreStepsOf tree.state.nodes g steps → text ≡ proof_lines named claim steps
+    → IsSerialText named tree.question tree.budget text
+won_serial named tree g claim steps text same end is_won there are is =
+    subst (IsSerialText named tree.question tree.budget) (sym is)
+    (won tree.state g claim steps (subst (λ (z : System). IsSerialEnd z tree.question tree.budget tree.state) same end) is_won there are)
+
+-- the report of the state of a serial history
+pub lost_serial : (named : NamedSystem) (tree : ProofTree) (parts : List Part) (text : List ℕ) → tree.system ≡ named.system → IsEnd tree
+    → tree.state.winner ≡ None → ArePartsOf tree.state.nodes parts → text ≡ maybe_text named tree.question parts → IsSerialText named tree.question tree.budget text
+lost_serial named tree parts text same end none are is =
+    subst (IsSerialText named tree.question tree.budget) (sym is)
+    (lost tree.state parts (subst (λ (z : System). IsSerialEnd z tree.question tree.budget tree.state) same end) none are)

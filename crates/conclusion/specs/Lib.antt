@@ -1,2 +1,3 @@
 pub mod Concludes
+pub mod SerialText
 pub mod Laws

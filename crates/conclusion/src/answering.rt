@@ -1,6 +1,10 @@
 ghost use Rattle.std.specs.Prelude.{◌≡◌, ◌<◌, ◌^◌, ℕ, Some, IfOk, length};
 ghost use Rattle.tree_states.specs.Replies.{IsVerdict};
+ghost use Rattle.tree_states.specs.Questions.{goals_of};
+ghost use Rattle.tree_states.specs.States.{opening};
+ghost use Rattle.tree_states.specs.Events.{Replays};
 ghost use Rattle.conclusion.specs.Concludes.{Concludes};
+ghost use Rattle.conclusion.specs.SerialText.{IsSerialText, IsEnd};
 
 use cert_step::NodeStep;
 use names_text::NamedTrs;
@@ -22,15 +26,28 @@ pub fn answer_question(
     question: Question,
     budget: u64,
 ) -> Result<Vec<u8>, OutOfMemory>
-    ensures { IfOk result (λ text. Concludes system.now question budget text.items) }
+    ensures concludes { IfOk result (λ text. Concludes system.now question budget text.items) }
+
+    // It is read off the tree of the serial history, in which each claim is followed by the post of
+    // what the strategy answers of the problem.
+    ensures serial { IfOk result (λ text. IsSerialText system.now question budget text.items) }
 {
     let finished = prove_alone(alloc, question, system.trs(), Limits { budget })?;
     let tree = finished.tree();
+    check_replayed(tree);
     match tree.verdict() {
         Some(Verdict::Won(_)) => won_text(alloc, system, tree),
         Some(Verdict::Maybe) => lost_text(alloc, system, tree),
         None => unreachable!(),
     }
+}
+
+// What is known of each tree's history. There is nothing to run.
+fn check_replayed(tree: &Tree<'_>)
+    ensures { Replays (goals_of tree.now.question) tree.now.system
+        (opening tree.now.question) tree.now.history tree.now.state }
+{
+    let _entries = tree.history_len();
 }
 
 // The certificate of the goal that was won.
@@ -41,8 +58,11 @@ fn won_text(
 ) -> Result<Vec<u8>, OutOfMemory>
     requires system { tree.now.system ≡ system.now.system }
     requires won { (g : ℕ) × (tree.now.state.winner ≡ Some g) }
-    ensures { IfOk result (λ text.
+    requires end { IsEnd tree.now }
+    ensures concludes { IfOk result (λ text.
         Concludes system.now tree.now.question tree.now.budget text.items) }
+    ensures serial { IfOk result (λ text.
+        IsSerialText system.now tree.now.question tree.now.budget text.items) }
 {
     let proof = tree.certificate(alloc)?;
     check_few(&proof.steps);
@@ -65,8 +85,11 @@ fn lost_text(
 ) -> Result<Vec<u8>, OutOfMemory>
     requires system { tree.now.system ≡ system.now.system }
     requires lost { IsVerdict tree.now (Some Verdict.Maybe) }
-    ensures { IfOk result (λ text.
+    requires end { IsEnd tree.now }
+    ensures concludes { IfOk result (λ text.
         Concludes system.now tree.now.question tree.now.budget text.items) }
+    ensures serial { IfOk result (λ text.
+        IsSerialText system.now tree.now.question tree.now.budget text.items) }
 {
     let report = tree.report(alloc)?;
     let lines = print_report(alloc, system, tree.question(), &report)?;

@@ -17,7 +17,7 @@ use Rattle.io_edge.specs.declared.fault.FetchFault.{FetchFault}
 use Rattle.io_edge.specs.declared.fault.FetchFault.TheVariants as fetch
 use Rattle.trsprove.specs.declared.status.Status.{Status}
 use Rattle.trsprove.specs.declared.status.Status.TheVariants as status
-use Rattle.trsprove.specs.Output.{IsWritten, with_claim, in_version_two, too_heavy, Verdict, refused, rejected, accepted, usage, too_long, decided, answered, AreFetched, IsAsked, IsNeeded, as_problem, as_certificate, as_question, IsWithin, IsTooLong, IsOr, AnswersOnly, most_problem_bytes, most_certificate_bytes}
+use Rattle.trsprove.specs.Output.{IsWritten, with_claim, in_version_two, too_heavy, Verdict, refused, rejected, accepted, usage, too_long, decided, answered, sampled, AreFetched, IsAsked, IsNeeded, as_problem, as_certificate, as_question, IsWithin, IsTooLong, IsOr, AnswersOnly, most_problem_bytes, most_certificate_bytes}
 use Rattle.trsprove.specs.Answers.{IsUnfetched}
 
 -- ---- one verdict for two texts
@@ -111,6 +111,7 @@ module _ (shelf : ShelfMeaning) (wanted : Wanted) (p c : List ℕ) where
   long_only h s text (usage none) = absurd cc
   long_only h s text (too_long name limit needed long) = refl
   long_only h s text (answered question budget problem f conclusion) = let asks : Some (certifies wanted p c) ≡ Some (proves question f.name f.workers budget) = f.asked in absurd cc
+  long_only h s text (sampled size workers budget asks line) = absurd cc
   long_only (inl h) s text (decided other problem certificate f verdict) =
       absurd (not_long most_problem_bytes shelf p problem (under_first other problem certificate f) f.problem_size h)
   long_only (inr h) s text (decided other problem certificate f verdict) =
@@ -139,6 +140,7 @@ module _ (shelf : ShelfMeaning) (wanted : Wanted) (p c : List ℕ) where
     verdict_only s text verdict other defined (usage none) = absurd cc
     verdict_only s text verdict other defined (too_long name limit needed long) = absurd (not_too_long name limit needed long)
     verdict_only s text verdict other defined (answered question budget problem f conclusion) = let asks : Some (certifies wanted p c) ≡ Some (proves question f.name f.workers budget) = f.asked in absurd cc
+    verdict_only s text verdict other defined (sampled size workers budget asks line) = absurd cc
     verdict_only s text verdict other defined (decided asked problem certificate f found) =
         let is_first : v ≡ problem = told_is shelf p v problem first (under_first asked problem certificate f) in
         let is_second : w ≡ certificate = told_is shelf c w certificate second (under_second asked problem certificate f) in

@@ -10,7 +10,7 @@ use Rattle.command_line.specs.declared.Question.{Question}
 use Rattle.trsprove.specs.declared.status.Status.{Status}
 use Rattle.trsprove.specs.declared.status.Status.TheVariants as status
 use Rattle.trsprove.specs.Conclusions.{IsConclusion, no_system, concluded}
-use Rattle.trsprove.specs.Output.{Output, usage, too_long, decided, answered, IsAsked, IsNeeded, as_problem, as_certificate, as_question, IsWithin, IsTooLong, WasFetched, IsAnswer, IsOr, AnswersOnly, TouchesOnlyNeeded, most_problem_bytes}
+use Rattle.trsprove.specs.Output.{Output, usage, too_long, decided, answered, sampled, IsAsked, IsNeeded, as_problem, as_certificate, as_question, IsWithin, IsTooLong, WasFetched, IsAnswer, IsOr, AnswersOnly, TouchesOnlyNeeded, most_problem_bytes}
 use Rattle.trsprove.specs.Answers.{IsUnfetched}
 use Rattle.trsprove.proofs.Answering.{told_is, not_long, too_long_within}
 
@@ -19,7 +19,7 @@ use Rattle.trsprove.proofs.Answering.{told_is, not_long, too_long_within}
 answer_of : (request : Option Asked) (before now : ShelfMeaning) (question : Question) (budget : ℕ) (v : List ℕ) (s : Status) (text : List ℕ) → IsConclusion v question budget s text
     → Output request (MayBe before) s text → IsAnswer request before now s text
 answer_of request before now question budget v s text (no_system fault h m) o = o
-answer_of request before now question budget v s text (concluded named says c) o = o
+answer_of request before now question budget v s text (concluded named says c alone) o = o
 
 -- the answer for a text of the problem
 pub fetched_conclusion : (question : Question) (p : List ℕ) (workers budget : ℕ) (v : List ℕ) (before now : ShelfMeaning) (s : Status) (text : List ℕ) → MayBe before p v
@@ -33,9 +33,9 @@ fetched_conclusion question p workers budget v before now s text may_be size h =
 pub one_conclusion : (problem : List ℕ) (question : Question) (budget : ℕ) (s other : Status) (text defined : List ℕ) → IsConclusion problem question budget s text
     → IsConclusion problem question budget other defined → IsOr other s
 one_conclusion problem question budget s other text defined (no_system f h m) (no_system g k n) = refl
-one_conclusion problem question budget s other text defined (no_system f h m) (concluded named says c) = absurd (m (no_refusal problem named f says h))
-one_conclusion problem question budget s other text defined (concluded named says c) (no_system g k n) = absurd (n (no_refusal problem named g says k))
-one_conclusion problem question budget s other text defined (concluded named says c) (concluded system told d) = refl
+one_conclusion problem question budget s other text defined (no_system f h m) (concluded named says c alone) = absurd (m (no_refusal problem named f says h))
+one_conclusion problem question budget s other text defined (concluded named says c alone) (no_system g k n) = absurd (n (no_refusal problem named g says k))
+one_conclusion problem question budget s other text defined (concluded named says c alone) (concluded system told d serial) = refl
 
 -- ---- texts that are told
 
@@ -65,6 +65,7 @@ module _ (shelf : ShelfMeaning) (question : Question) (p : List ℕ) (workers bu
   too_long_only h s text (usage none) = absurd cc
   too_long_only h s text (too_long name limit needed long) = refl
   too_long_only h s text (decided wanted problem certificate f verdict) = let asks : Some (proves question p workers budget) ≡ Some (certifies wanted f.problem_name f.certificate_name) = f.asked in absurd cc
+  too_long_only h s text (sampled size hands bound asks line) = absurd cc
   too_long_only h s text (answered other limit problem f conclusion) = absurd (not_long most_problem_bytes shelf p problem (told_of other limit problem f) f.size h)
 
   -- where the text could not be fetched
@@ -87,6 +88,7 @@ module _ (shelf : ShelfMeaning) (question : Question) (p : List ℕ) (workers bu
     conclusion_only s text h other defined (usage none) = absurd cc
     conclusion_only s text h other defined (too_long name limit needed long) = absurd (not_too_long name limit needed long)
     conclusion_only s text h other defined (decided wanted problem certificate f verdict) = let asks : Some (proves question p workers budget) ≡ Some (certifies wanted f.problem_name f.certificate_name) = f.asked in absurd cc
+    conclusion_only s text h other defined (sampled size hands bound asks line) = absurd cc
     conclusion_only s text h other defined (answered asked limit problem f found) =
         let same = same_of asked limit problem f in
         let is : v ≡ problem = told_is shelf p v problem may_be (told_of asked limit problem f) in

@@ -1,5 +1,5 @@
 -- What a run writes, by what the program knew before it wrote.
-use Rattle.std.proofs.Common.{◌≡◌, ◌++◌, ◌∷◌, [], ◌⊎◌, ℕ, List, Option, inl, inr, refl, sym, ap, subst, ◌∙◌, append_assoc, codes}
+use Rattle.std.proofs.Common.{◌≡◌, ◌++◌, ◌∷◌, [], ◌⊎◌, ℕ, List, Option, inl, inr, refl, sym, ap, subst, ◌∙◌, append_assoc, codes, decimal, length}
 use Rattle.io_edge.specs.Shelf.{ShelfMeaning, MayBe}
 use Rattle.io_edge.specs.Sink.{SinkMeaning, AppendsTo}
 use Rattle.sexp_core.specs.Items.{Items, no_items, item}
@@ -11,6 +11,11 @@ use Rattle.proof_text.specs.ProofOf.{proof_of, Proves}
 use Rattle.report_text.specs.GoalLines.{goal_items, goal_words}
 use Rattle.tree_states.specs.declared.question.Question as tree
 use Rattle.conclusion.specs.Concludes.{Concludes, proved, maybe, proof_lines}
+use Rattle.dp_core.specs.PlacedPairs.{placed_pairs}
+use Rattle.sample_family.specs.Family.{sample}
+use Rattle.sampling.specs.declared.judgement.Judgement.{Judgement}
+use Rattle.sampling.specs.declared.judgement.Judgement.TheVariants.{Proved, Refuted, Open}
+use Rattle.sampling.specs.Line.{IsSampleLine, judged, judgement_word}
 use Rattle.command_line.specs.declared.Question.{Question}
 use Rattle.certifier.specs.declared.rejected.Rejected.{Rejected}
 use Rattle.certifier.specs.Acceptance.{IsAcceptance, IsAcceptedAs}
@@ -26,7 +31,7 @@ use Rattle.trsprove.specs.declared.status.Status.TheVariants as status
 use Rattle.trsprove.specs.Numbers.{fields_text}
 use Rattle.trsprove.specs.Lines.{accepted_line, rejected_line, rejected_words, rejected_numbers, rejected_fields}
 use Rattle.trsprove.specs.LinePuts.{EndsLine, IsPutByLine}
-use Rattle.trsprove.specs.Output.{IsWritten, with_claim, in_version_two, too_heavy, Verdict, refused, rejected, accepted, Output, usage, too_long, decided, answered, AreFetched, IsAsked, IsAnswer, GivesVerdict, Writes, IsTrueAnswer, by_certificate, by_proof, by_report}
+use Rattle.trsprove.specs.Output.{IsWritten, with_claim, in_version_two, too_heavy, Verdict, refused, rejected, accepted, Output, usage, too_long, decided, answered, sampled, AreFetched, IsAsked, IsAnswer, GivesVerdict, Writes, IsTrueAnswer, by_certificate, by_proof, by_report, by_sample}
 use Rattle.trsprove.specs.Conclusions.{IsConclusion, no_system, concluded, question_of}
 
 -- ---- a verdict ends with a line feed
@@ -78,7 +83,21 @@ concluded_ends named question budget text (maybe parts is_true) = maybe_ends (it
 conclusion_ends : (problem : List ℕ) (question : Question) (budget : ℕ) (s : Status) (text : List ℕ) → IsConclusion problem question budget s text → GivesVerdict s → EndsLine text
 conclusion_ends problem question budget s text (no_system fault h m) (inl e) = absurd cc
 conclusion_ends problem question budget s text (no_system fault h m) (inr e) = absurd cc
-conclusion_ends problem question budget s text (concluded named says c) gives = concluded_ends named (question_of question) budget text c
+conclusion_ends problem question budget s text (concluded named says c alone) gives = concluded_ends named (question_of question) budget text c
+
+judgement_ends : (judgement : Judgement) → EndsLine (judgement_word judgement)
+judgement_ends Proved = (codes " proved", refl)
+judgement_ends Refuted = (codes " refuted", refl)
+judgement_ends Open = (codes " open", refl)
+
+sample_ends : (size budget : ℕ) (line : List ℕ) → IsSampleLine size budget line → EndsLine line
+sample_ends size budget line (judged judgement is_true serial) =
+    let rules = (sample size).system.rules in
+    let pairs = decimal (length (placed_pairs rules)) in
+    behind_front (codes "rules ") (decimal (length rules) ++ (codes " pairs " ++ (pairs ++ judgement_word judgement)))
+    (behind_front (decimal (length rules)) (codes " pairs " ++ (pairs ++ judgement_word judgement))
+    (behind_front (codes " pairs ") (pairs ++ judgement_word judgement)
+    (behind_front pairs (judgement_word judgement) (judgement_ends judgement))))
 
 output_ends : (request : Option Asked) (under : List ℕ → List ℕ → Type 0) (s : Status) (text : List ℕ) → Output request under s text → GivesVerdict s → EndsLine text
 output_ends request under s text (usage none) (inl e) = absurd cc
@@ -86,6 +105,7 @@ output_ends request under s text (usage none) (inr e) = absurd cc
 output_ends request under s text (too_long name limit needed long) (inl e) = absurd cc
 output_ends request under s text (too_long name limit needed long) (inr e) = absurd cc
 output_ends request under s text (decided wanted problem certificate fetched verdict) judges = verdict_ends problem certificate wanted s text verdict judges
+output_ends request under s text (sampled size workers budget asks line) judges = sample_ends size budget text line
 output_ends request under s text (answered question budget problem asked conclusion) judges = conclusion_ends problem question budget s text conclusion judges
 
 module _ (request : Option Asked) (before now : ShelfMeaning) where
@@ -192,11 +212,13 @@ module _ (request : Option Asked) (before now : ShelfMeaning) where
     true_conclusion : (question : Question) (budget : ℕ) (problem : List ℕ) (s : Status) (text : List ℕ) → IsAsked request question budget (MayBe before) problem
         → IsConclusion problem question budget s text → s ≡ status.Answered → AppendsTo taken text later → IsTrueAnswer request before taken later
     true_conclusion question budget problem s text asked (no_system fault h m) e w = absurd cc
-    true_conclusion question budget problem s text asked (concluded named says c) e w = true_concluded question budget problem named text asked says c w
+    true_conclusion question budget problem s text asked (concluded named says c alone) e w = true_concluded question budget problem named text asked says c w
 
     true_output : (s : Status) (text : List ℕ) → Output request (MayBe before) s text → s ≡ status.Answered → AppendsTo taken text later → IsTrueAnswer request before taken later
     true_output s text (usage none) e w = absurd cc
     true_output s text (too_long name limit needed long) e w = absurd cc
+    true_output s text (sampled size workers budget asks line) e w =
+        by_sample (record { size = size; workers = workers; budget = budget; line = text; asked = asks; truth = line; written = w })
     true_output s text (decided wanted problem certificate fetched verdict) e w = true_verdict wanted problem certificate s text fetched verdict e w
     true_output s text (answered question budget problem asked conclusion) e w = true_conclusion question budget problem s text asked conclusion e w
 

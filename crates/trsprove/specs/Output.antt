@@ -19,7 +19,8 @@ use Rattle.certifier.specs.Acceptance.{IsAcceptance, IsAcceptedAs, IsRejection}
 use Rattle.tree_states.specs.Questions.{claims}
 use Rattle.tree_states.specs.Reports.{Part, IsTrueReport}
 use Rattle.conclusion.specs.Concludes.{maybe_text}
-use Rattle.command_line.specs.Request.{Asked, certifies, proves}
+use Rattle.sampling.specs.Line.{IsSampleLine}
+use Rattle.command_line.specs.Request.{Asked, certifies, proves, samples}
 use Rattle.command_line.specs.declared.Question.{Question}
 use Rattle.command_line.specs.declared.Wanted.{Wanted}
 use Rattle.command_line.specs.declared.Wanted.TheVariants as want
@@ -107,6 +108,8 @@ pub data Output (request : Option Asked) (under : List ℕ → List ℕ → Type
   answered : {s : Status} {text : List ℕ} (question : Question) (budget : ℕ) (problem : List ℕ)
       → IsAsked request question budget under problem → IsConclusion problem question budget s text
       → Output request under s text
+  sampled : {line : List ℕ} (size workers budget : ℕ) → request ≡ Some (samples size workers budget) → IsSampleLine size budget line
+      → Output request under status.Answered line
 
 -- the text of the problem was fetched under a name: no fault came, and a text within the limit may stand there
 abbrev pub WasFetched : ShelfMeaning → ShelfMeaning → List ℕ → Type 0
@@ -124,7 +127,7 @@ IsAnswer request before now status.WriteFault text = ⊥
 IsAnswer request before now status.OutOfMemory text = ⊥
 IsAnswer request before now s text = Output request (MayBe before) s text
 
--- the defined answer is a verdict: on a certificate, or on a question
+-- the defined answer is a verdict: on a certificate, a question or a sample
 abbrev pub GivesVerdict : Status → Type 0
 GivesVerdict s = (s ≡ status.Answered) ⊎ (s ≡ status.Rejected)
 
@@ -183,11 +186,22 @@ pub record IsTrueMaybe (request : Option Asked) (before : ShelfMeaning) (taken l
   pub truth : IsTrueReport named.system (question_of question) budget parts
   pub written : AppendsTo taken (maybe_text named (question_of question) parts) later
 
+-- the line of a sample system was written, and it is true of that system
+pub record IsTrueSample (request : Option Asked) (taken later : SinkMeaning) : Type 0 where
+  pub size : ℕ
+  pub workers : ℕ
+  pub budget : ℕ
+  pub line : List ℕ
+  pub asked : request ≡ Some (samples size workers budget)
+  pub truth : IsSampleLine size budget line
+  pub written : AppendsTo taken line later
+
 -- what was written is true
 pub data IsTrueAnswer (request : Option Asked) (before : ShelfMeaning) (taken later : SinkMeaning) : Type 0 where
   by_certificate : IsTrueAcceptance request before taken later → IsTrueAnswer request before taken later
   by_proof : IsTrueProof request before taken later → IsTrueAnswer request before taken later
   by_report : IsTrueMaybe request before taken later → IsTrueAnswer request before taken later
+  by_sample : IsTrueSample request taken later → IsTrueAnswer request before taken later
 
 -- this status, unless a fault or want of memory came
 abbrev pub IsOr : Status → Status → Type 0

@@ -8,6 +8,7 @@ ghost use Rattle.trsprove.specs.Answers.{IsUnfetched, status_of, text_of};
 
 use crate::asking::concluded;
 use crate::lines::rejected_line;
+use crate::samples::sampled;
 use crate::status::Status;
 use ari_text::AriFault;
 use cert_text::{fits_version_two, print_version_two};
@@ -28,7 +29,7 @@ pub(crate) enum Answer<'a> {
     Accepted(Claim),
     /// The text of an accepted certificate in version 2.
     Upgraded(Vec<u8>),
-    /// The text that answers a question.
+    /// The text that answers a question, or the line of a sample.
     Concluded(Vec<u8>),
     /// The line of a rejection.
     Rejected(Vec<u8>),
@@ -86,6 +87,13 @@ pub(crate) fn answer_for<'a, S: Shelf>(
                 budget,
             },
         ) => concluded(alloc, shelf, question, problem, budget),
+        Ok(
+            Request::Sample {
+                size,
+                workers: _,
+                budget,
+            },
+        ) => sampled(alloc, size, budget),
         Err(Refused::Usage) => Ok(Answer::Usage),
         Err(Refused::OutOfMemory) => Err(AllocError),
     }

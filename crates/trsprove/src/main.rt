@@ -8,6 +8,7 @@ mod lines;
 mod pieces;
 mod report;
 mod run;
+mod samples;
 mod status;
 mod words;
 

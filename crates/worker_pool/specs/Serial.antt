@@ -7,7 +7,12 @@ use Rattle.strategies.specs.declared.strategy.Strategy.{Strategy}
 use Rattle.strategies.specs.Kinds.{strategies_for}
 use Rattle.strategies.specs.Runs.{Found}
 use Rattle.strategies.specs.Truth.{IsTrueFound}
+use Rattle.tree_states.specs.declared.question.Question.{Question}
+use Rattle.tree_states.specs.Questions.{goals_of}
 use Rattle.tree_states.specs.History.{HistoryEntry, Event, claimed}
+use Rattle.tree_states.specs.States.{State, opening}
+use Rattle.tree_states.specs.Events.{Replays}
+use Rattle.tree_states.specs.Verdicts.{HasVerdict}
 use Rattle.tree_states.specs.Replies.{event_of_found}
 
 -- an entry of seat 0
@@ -22,3 +27,10 @@ pub data IsSerial (system : System) (budget : ℕ) : List HistoryEntry → Type 
       → IsSerial system budget history → length history ≡ ticket + ticket → In strategy (strategies_for problem)
       → IsTrueFound system budget strategy problem answer
       → IsSerial system budget (history ++ entry_of ticket (claimed problem strategy) ∷ entry_of ticket (event_of_found answer) ∷ [])
+
+-- the state to which a serial history leads, and in which a verdict stands
+pub record IsSerialEnd (system : System) (question : Question) (budget : ℕ) (state : State) : Type 0 where
+  pub history : List HistoryEntry
+  pub serial : IsSerial system budget history
+  pub replays : Replays (goals_of question) system (opening question) history state
+  pub verdict : HasVerdict (goals_of question) state
