@@ -1,5 +1,5 @@
 -- Texts that answer a question.
-use Rattle.std.proofs.Common.{◌≡◌, ℕ, List, ◌++◌, Some, None, slice_get, codes, sym, subst, ◌⊎◌, inl, inr}
+use Rattle.std.proofs.Common.{◌≡◌, ℕ, List, ◌++◌, Some, None, slice_get, codes, sym, subst, inl, inr}
 use Rattle.trs_defs.specs.System.{System}
 use Rattle.trs_defs.proofs.Members.{in_of_get}
 use Rattle.names_text.specs.Named.{NamedSystem}
@@ -32,8 +32,8 @@ lost_concludes named system question budget parts lines text same is_true are is
 
 -- where a verdict stands there is one
 pub some_verdict : (tree : ProofTree) → HasVerdict (goals_of tree.question) tree.state → IsVerdict tree None → ⊥
-some_verdict tree (inl (g, won)) (none, h) = absurd cc
-some_verdict tree (inr lost) (none, (g, within, not_lost)) = not_lost (lost g within)
+some_verdict tree (inl (g, is_won)) (none, h) = absurd cc
+some_verdict tree (inr all) (none, (g, within, not_lost)) = not_lost (all g within)
 
 -- the certificate of the goal that was won in the state of a serial history
 pub won_serial : (named : NamedSystem) (tree : ProofTree) (g : ℕ) (claim : Claim) (steps : List ProofNodeStep) (text : List ℕ) → tree.system ≡ named.system → IsEnd tree

@@ -18,7 +18,7 @@ use Rattle.sampling.specs.declared.judgement.Judgement.TheVariants.{Proved, Refu
 pub data IsTrueJudgement (system : System) (budget : ℕ) : Judgement → Type 0 where
   proved : (steps : List ProofNodeStep) → IsAccepted system Terminating steps → Says system Terminating → IsTrueJudgement system budget Proved
   refuted : (steps : List ProofNodeStep) → IsAccepted system Nonterminating steps → Says system Nonterminating → IsTrueJudgement system budget Refuted
-  open : (parts : List Part) → IsTrueReport system Termination budget parts → IsTrueJudgement system budget Open
+  left_open : (parts : List Part) → IsTrueReport system Termination budget parts → IsTrueJudgement system budget Open
 
 -- the first goal of the question was won, or the second, or none
 abbrev pub IsJudgementOf : State → Judgement → Type 0

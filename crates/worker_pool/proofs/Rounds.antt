@@ -69,11 +69,11 @@ kept : (goals : ℕ) (system : System) (s : State) (seat ticket : ℕ) (f : Foun
     → (length later.tickets ≡ length s.tickets) × (later.is_aborted ≡ s.is_aborted)
 kept goals system s seat ticket (run.found step left) later (r, inl (over, after)) =
     (ap (λ (x : State). length x.tickets) after ∙ length_set s.tickets ticket (record r.ticket { is_running = false }), ap (λ (x : State). x.is_aborted) after)
-kept goals system s seat ticket (run.found step left) later (r, inr (open, decides)) =
+kept goals system s seat ticket (run.found step left) later (r, inr (still, decides)) =
     (ap (λ (x : State). length x.tickets) decides.after ∙ length_set s.tickets ticket (record r.ticket { is_running = false }), ap (λ (x : State). x.is_aborted) decides.after)
 kept goals system s seat ticket (run.failed spent) later (r, inl (over, after)) =
     (ap (λ (x : State). length x.tickets) after ∙ length_set s.tickets ticket (record r.ticket { is_running = false }), ap (λ (x : State). x.is_aborted) after)
-kept goals system s seat ticket (run.failed spent) later (r, inr (open, after)) =
+kept goals system s seat ticket (run.failed spent) later (r, inr (still, after)) =
     (ap (λ (x : State). length x.tickets) after ∙ length_set s.tickets ticket (record r.ticket { is_running = false }), ap (λ (x : State). x.is_aborted) after)
 
 notes_of : (old : ProofTree) (number : ℕ) (event : Event) (new : ProofTree) (p : Posted) → IsPost old number event new p → Notes old number event new
