@@ -51,11 +51,7 @@ fn check_replayed(tree: &Tree<'_>)
 }
 
 // The certificate of the goal that was won.
-fn won_text(
-    alloc: Global,
-    system: &NamedTrs,
-    tree: &Tree<'_>,
-) -> Result<Vec<u8>, OutOfMemory>
+fn won_text(alloc: Global, system: &NamedTrs, tree: &Tree<'_>) -> Result<Vec<u8>, OutOfMemory>
     requires system { tree.now.system ≡ system.now.system }
     requires won { (g : ℕ) × (tree.now.state.winner ≡ Some g) }
     requires end { IsEnd tree.now }
@@ -78,11 +74,7 @@ fn check_few(steps: &[NodeStep])
 }
 
 // The report of the goals that were lost.
-fn lost_text(
-    alloc: Global,
-    system: &NamedTrs,
-    tree: &Tree<'_>,
-) -> Result<Vec<u8>, OutOfMemory>
+fn lost_text(alloc: Global, system: &NamedTrs, tree: &Tree<'_>) -> Result<Vec<u8>, OutOfMemory>
     requires system { tree.now.system ≡ system.now.system }
     requires lost { IsVerdict tree.now (Some Verdict.Maybe) }
     requires end { IsEnd tree.now }

@@ -1,14 +1,14 @@
 -- The rules of sample systems are rules, and within the limits.
-use Rattle.std.proofs.Common.{◌≡◌, ℕ, zero, suc, ◌+◌, ◌*◌, ◌<◌, ◌≤◌, Bool, true, List, [], ◌∷◌, ◌++◌, length, get_or, replicate, Option, Some, None, slice_get, IsTrue, refl, ap, ◌∙◌, sym, inl, inr, arith}
+use Rattle.std.proofs.Common.{◌≡◌, ℕ, zero, suc, ◌+◌, ◌*◌, ◌<◌, ◌≤◌, true, List, [], ◌∷◌, ◌++◌, length, replicate, Some, slice_get, IsTrue, refl, ap, ◌∙◌, inl, inr, arith}
 use Rattle.std.specs.List.{AllByRecursion}
 use Rattle.std.proofs.lemmas.List.{get_or-replicate, length-replicate}
 use Rattle.std.proofs.lemmas.Option.{slice_get-get_or}
-use Rattle.trs_defs.specs.Tree.{Tree, var, app, nil, cons}
+use Rattle.trs_defs.specs.Tree.{Tree, var}
 use Rattle.trs_defs.specs.Variable.{has_var, IsVariable}
 use Rattle.trs_defs.specs.WellFormed.{IsWellFormed}
 use Rattle.trs_defs.specs.System.{RewriteRule, IsRule}
 use Rattle.trs_core.specs.SystemLimits.{nodes_of, IsShallow, HasSmallVariables}
-use Rattle.names_text.specs.Named.{next_number, is_shallow, is_numbered}
+use Rattle.names_text.specs.Named.{next_number, is_shallow}
 use Rattle.names_text.proofs.NumberedTerms.{has_below, below_has}
 use Rattle.text_reading.proofs.Tables.{all_append}
 use Rattle.sample_family.specs.Family.{zero_term, successor, function, base_rule, step_right, step_rule, rules_to, arities_to}

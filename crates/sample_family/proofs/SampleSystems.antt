@@ -1,6 +1,6 @@
 -- Sample systems have no fault.
-use Rattle.std.proofs.Common.{◌≡◌, ℕ, suc, ◌<◌, ◌≤◌, Bool, true, false, not, cond, List, [], ◌∷◌, length, Option, Some, None, option_map, replicate, slice_get, refl, sym, ap, ◌∙◌, subst, arith, eq-eqb}
-use Rattle.std.specs.List.{AllByRecursion, All, position}
+use Rattle.std.proofs.Common.{◌≡◌, ℕ, ◌≤◌, Bool, true, not, List, [], ◌∷◌, length, Some, None, slice_get, refl, ◌∙◌, subst, arith, eq-eqb}
+use Rattle.std.specs.List.{AllByRecursion, position}
 use Rattle.std.proofs.lemmas.List.{length-replicate}
 use Rattle.std.proofs.lemmas.List.Elements.{All-from_recursion, All-get_or}
 use Rattle.std.proofs.lemmas.Option.{slice_get_within, get_or_from_slice_get}
@@ -12,7 +12,7 @@ use Rattle.names_text.specs.declared.names_fault.NamesFault.{NamesFault}
 use Rattle.names_text.specs.declared.names_fault.NamesFault.TheVariants.{Count, BadName, TooDeep, BadNumbering, OutOfMemory}
 use Rattle.names_text.specs.NamesFault.{rules_fault, names_fault, FailsBy}
 use Rattle.names_text.proofs.NameKeys.{position_next}
-use Rattle.sample_family.specs.Family.{base_rule, step_rule, rules_to, names_to, arities_to, sample}
+use Rattle.sample_family.specs.Family.{rules_to, names_to, arities_to, sample}
 use Rattle.sample_family.specs.Laws.{length-rules}
 use Rattle.sample_family.proofs.SampleNames.{good_names, length-names_to}
 use Rattle.sample_family.proofs.SampleRules.{each_rule, base_is_rule, step_is_rule, HasSmall, base_small, step_small, base_shallow, step_shallow, step_is_shallow, few_nodes}

@@ -1,5 +1,5 @@
-//! A family of sample systems, as long as one asks for: the function `f0` adds, and each later one is
-//! defined by the one before it.
+//! A family of sample systems, of any size up to a limit: the function `f0` adds, and each later
+//! one is defined by the one before it.
 #![tactic(auto)]
 
 mod family;

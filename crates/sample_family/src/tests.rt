@@ -52,10 +52,10 @@ fn put_term(out: &mut Vec<u8>, system: &NamedTrs, term: &Term) -> Result<(), All
 }
 
 fn put_system(out: &mut Vec<u8>, system: &NamedTrs) -> Result<(), AllocError> {
-    for (i, arity) in system.arities().iter().enumerate() {
-        put_name(out, system, i as u32)?;
+    for symbol in 0..system.symbols() {
+        put_name(out, system, symbol)?;
         out.push(b' ')?;
-        put_number(out, u32::from(*arity))?;
+        put_number(out, u32::from(system.arities()[symbol as usize]))?;
         out.extend_from_slice(b", ")?;
     }
     for rule in system.trs().rules() {

@@ -29,10 +29,10 @@ IsJudgementOf state Open = state.winner ≡ None
 -- the judgement is that of the state to which a serial history leads
 pub record IsSerialJudgement (system : System) (budget : ℕ) (judgement : Judgement) : Type 0 where
   pub state : State
-  pub end : IsSerialEnd system Termination budget state
+  pub ends : IsSerialEnd system Termination budget state
   pub judged : IsJudgementOf state judgement
 
 -- the tree asks for termination, and is that of a serial history
 pub record IsOnTermination (tree : ProofTree) : Type 0 where
   pub question : tree.question ≡ Termination
-  pub end : IsSerialEnd tree.system Termination tree.budget tree.state
+  pub ends : IsSerialEnd tree.system Termination tree.budget tree.state

@@ -132,7 +132,6 @@ module _ (shelf : ShelfMeaning) (wanted : Wanted) (p c : List ℕ) where
     not_too_long name limit (as_certificate other q d e within) long =
         too_long_within most_certificate_bytes shelf c w second second_size
         (subst (λ z. IsTooLong most_certificate_bytes (Told shelf) z) (sym (same_asked wanted other p q c d e).certificates) long)
-
     not_too_long name limit (as_question question q workers budget e) long = absurd cc
 
     -- the verdict for two texts is the defined one

@@ -9,11 +9,7 @@ use sampling::sample_line;
 use std::alloc::{AllocError, Global};
 
 /// The line of the sample system of a number, which one worker judges by searches within a budget.
-pub(crate) fn sampled<'a>(
-    alloc: Global,
-    size: u32,
-    budget: u64,
-) -> Result<Answer<'a>, AllocError>
+pub(crate) fn sampled<'a>(alloc: Global, size: u32, budget: u64) -> Result<Answer<'a>, AllocError>
     requires { (1 ≤ size) × (size ≤ 512) }
     ensures status { IfOk result (λ a. status_of a ≡ Status.Answered) }
     ensures line { IfOk result (λ a. IsSampleLine size budget (text_of a)) }

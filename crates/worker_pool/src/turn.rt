@@ -38,11 +38,7 @@ pub(crate) fn take_turn<'a>(
 }
 
 // Posts an outcome.
-fn post<'a>(
-    tree: &mut Tree<'a>,
-    ticket: u64,
-    outcome: Outcome<'a>,
-) -> Result<Posted, OutOfMemory>
+fn post<'a>(tree: &mut Tree<'a>, ticket: u64, outcome: Outcome<'a>) -> Result<Posted, OutOfMemory>
     requires running { Runs ticket tree.old.history }
     requires outcome { IsTaskOf tree.old ticket outcome }
     ensures { IfOk result

@@ -1,4 +1,4 @@
-use Rattle.std.proofs.Common.{◌≡◌, map, rules}
+use Rattle.std.proofs.Common.{◌≡◌, rules}
 use Rattle.names_text.specs.declared.names_fault.NamesFault.TheVariants.{OutOfMemory}
 use Rattle.sample_family.proofs.SampleSystems.{only_memory}
 use Rattle.sample_family.proofs.family.sample_system.Goals as goal

@@ -1,4 +1,4 @@
-use Rattle.std.proofs.Common.{◌≡◌, ℕ, suc, ◌+◌, List, [], ◌∷◌, ◌++◌, append_assoc, refl, ◌∙◌, add-one}
+use Rattle.std.proofs.Common.{◌≡◌, ℕ, ◌+◌, List, [], ◌∷◌, ◌++◌, append_assoc, refl, ◌∙◌, add-one}
 use Rattle.trs_defs.specs.System.{RewriteRule}
 use Rattle.sample_family.specs.Family.{base_rule, step_rule, rules_to}
 use Rattle.sample_family.proofs.rules.rules.Goals as goal
