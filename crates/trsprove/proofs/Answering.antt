@@ -1,12 +1,11 @@
 -- That the answer is the only one.
-use Rattle.std.proofs.Common.{◌≡◌, ◌≢◌, ◌≤◌, ◌<◌, ◌⊎◌, inl, inr, ℕ, true, false, List, length, Option, Some, IfSome, refl, sym, ap, subst, ◌∙◌, arith}
+use Rattle.std.proofs.Common.{◌≡◌, ◌≢◌, ◌≤◌, ◌<◌, ◌⊎◌, inl, inr, ℕ, List, length, Option, Some, IfSome, refl, sym, subst, arith}
 use Rattle.io_edge.specs.Shelf.{ShelfMeaning, Told, MayBe, MayPass}
 use Rattle.names_text.specs.Named.{NamedSystem}
 use Rattle.ari_text.specs.Problem.{IsProblemRefused}
 use Rattle.ari_text.specs.declared.fault.AriFault.{AriFault}
 use Rattle.ari_text.specs.declared.fault.AriFault.TheVariants as ari
 use Rattle.cert_text.specs.ProofText.{ProofText}
-use Rattle.cert_text.specs.CertificateText.{fits_two}
 use Rattle.certifier.specs.declared.rejected.Rejected.{Rejected}
 use Rattle.certifier.specs.declared.rejected.Rejected.TheVariants as why
 use Rattle.certifier.specs.Acceptance.{IsAcceptedAs, IsRejection}
@@ -17,7 +16,7 @@ use Rattle.io_edge.specs.declared.fault.FetchFault.{FetchFault}
 use Rattle.io_edge.specs.declared.fault.FetchFault.TheVariants as fetch
 use Rattle.trsprove.specs.declared.status.Status.{Status}
 use Rattle.trsprove.specs.declared.status.Status.TheVariants as status
-use Rattle.trsprove.specs.Output.{IsWritten, with_claim, in_version_two, too_heavy, Verdict, refused, rejected, accepted, usage, too_long, decided, answered, sampled, AreFetched, IsAsked, IsNeeded, as_problem, as_certificate, as_question, IsWithin, IsTooLong, IsOr, AnswersOnly, most_problem_bytes, most_certificate_bytes}
+use Rattle.trsprove.specs.Output.{IsWritten, with_claim, in_version_two, too_heavy, Verdict, refused, rejected, accepted, usage, too_long, decided, answered, sampled, AreFetched, IsNeeded, as_problem, as_certificate, as_question, IsWithin, IsTooLong, IsOr, AnswersOnly, most_problem_bytes, most_certificate_bytes}
 use Rattle.trsprove.specs.Answers.{IsUnfetched}
 
 -- ---- one verdict for two texts

@@ -3,5 +3,5 @@ pub mod Answering
 pub mod Putting
 pub mod PuttingLines
 pub mod Questions
-pub mod Samples
+pub mod SampleLines
 pub mod Running

@@ -1,5 +1,5 @@
 -- What a run writes, by what the program knew before it wrote.
-use Rattle.std.proofs.Common.{◌≡◌, ◌++◌, ◌∷◌, [], ◌⊎◌, ℕ, List, Option, inl, inr, refl, sym, ap, subst, ◌∙◌, append_assoc, codes, decimal, length}
+use Rattle.std.proofs.Common.{◌≡◌, ◌++◌, ◌∷◌, [], ℕ, List, Option, inl, inr, refl, sym, ap, subst, ◌∙◌, append_assoc, codes, decimal, length}
 use Rattle.io_edge.specs.Shelf.{ShelfMeaning, MayBe}
 use Rattle.io_edge.specs.Sink.{SinkMeaning, AppendsTo}
 use Rattle.sexp_core.specs.Items.{Items, no_items, item}

@@ -35,8 +35,8 @@ returns-in-Ok-clause-untouched g c = λ workers.
     touched_problem c.args.question c.args.problem.now workers c.args.budget (g.S.Shelf.means c.args.shelf.now) (g.S.Shelf.means c.fetch.new.self) c.fetch.ensures.faults
     c.fetch.ensures.read
 
-pub returns-clause-answer : goal.returns-clause-answer
-returns-clause-answer g c = λ workers.
+pub returns-in-Err-clause-answer : goal.returns-in-Err-clause-answer
+returns-in-Err-clause-answer g c = λ workers.
     let before = g.S.Shelf.means c.args.shelf.now in
     let now = g.S.Shelf.means c.fetch.new.self in
     let p = c.args.problem.now in
@@ -50,8 +50,8 @@ returns-clause-answer g c = λ workers.
     (λ e. (most_problem_bytes, as_question question p workers budget refl, c.in-Err.ensures.too_long (ap Err e), c.in-Err.ensures.long (ap Err e))))
     c.unfetched.ensures
 
-pub returns-clause-only : goal.returns-clause-only
-returns-clause-only g c = λ workers.
+pub returns-in-Err-clause-only : goal.returns-in-Err-clause-only
+returns-in-Err-clause-only g c = λ workers.
     let before = g.S.Shelf.means c.args.shelf.now in
     let p = c.args.problem.now in
     let question = c.args.question in
@@ -60,7 +60,7 @@ returns-clause-only g c = λ workers.
     (λ a is. not_fetched_only before question p workers budget c.in-Err.fault (status_of a) (text_of a) is (λ e. c.in-Err.ensures.too_long (ap Err e)))
     c.unfetched.ensures
 
-pub returns-clause-untouched : goal.returns-clause-untouched
-returns-clause-untouched g c = λ workers.
+pub returns-in-Err-clause-untouched : goal.returns-in-Err-clause-untouched
+returns-in-Err-clause-untouched g c = λ workers.
     touched_problem c.args.question c.args.problem.now workers c.args.budget (g.S.Shelf.means c.args.shelf.now) (g.S.Shelf.means c.fetch.new.self) c.fetch.ensures.faults
     c.fetch.ensures.read

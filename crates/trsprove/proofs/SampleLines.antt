@@ -1,11 +1,11 @@
 -- Samples: what is answered, and that it is the only answer.
-use Rattle.std.proofs.Common.{◌≡◌, ◌⊎◌, inl, ℕ, List, Option, Some, refl, sym, subst}
-use Rattle.io_edge.specs.Shelf.{ShelfMeaning, Told, MayBe, IsUntouched}
+use Rattle.std.proofs.Common.{◌≡◌, inl, ℕ, List, Option, Some, Result, Ok, Err, IfOk, refl, sym, subst}
+use Rattle.io_edge.specs.Shelf.{ShelfMeaning, Told}
 use Rattle.command_line.specs.Request.{Asked, certifies, proves, samples}
 use Rattle.sampling.specs.Line.{IsSampleLine}
 use Rattle.trsprove.specs.declared.status.Status.{Status}
 use Rattle.trsprove.specs.declared.status.Status.TheVariants as status
-use Rattle.trsprove.specs.Output.{Output, usage, too_long, decided, answered, sampled, IsNeeded, as_problem, as_certificate, as_question, IsWithin, IsAnswer, IsOr, AnswersOnly, TouchesOnlyNeeded, most_problem_bytes}
+use Rattle.trsprove.specs.Output.{usage, too_long, decided, answered, sampled, IsNeeded, as_problem, as_certificate, as_question, IsWithin, IsAnswer, AnswersOnly, TouchesOnlyNeeded, most_problem_bytes}
 
 module _ (request : Option Asked) (size workers budget : ℕ) (asks : request ≡ Some (samples size workers budget)) where
   -- the line is the answer
@@ -31,3 +31,8 @@ module _ (request : Option Asked) (size workers budget : ℕ) (asks : request �
 -- nothing is touched
 pub touches_none : (request : Option Asked) (shelf : ShelfMeaning) → TouchesOnlyNeeded request shelf shelf
 touches_none request shelf name = inl (refl, refl)
+
+-- what is known twice of an answer that is there
+pub for_both_ok : {X E : Type 0} (fact other goal : X → Type 0) (r : Result X E) → ((x : X) → fact x → other x → goal x) → IfOk r fact → IfOk r other → IfOk r goal
+for_both_ok fact other goal (Ok x) more h k = more x h k
+for_both_ok fact other goal (Err e) more h k = tt
