@@ -1,14 +1,15 @@
 //! The words of the command line.
 //!
 //! `trsprove <action> <problem> [certificate] [--workers N] [--budget B]` is one simple `clap`
-//! command without subcommands, help or version flags.
+//! command without subcommands, help or version flags. The action `sample` has a size, a number,
+//! in place of a problem.
 #![tactic(auto)]
 
-ghost use Rattle.std.specs.Prelude.{◌≡◌, IfOk, map, option_map};
+ghost use Rattle.std.specs.Prelude.{◌≡◌, ◌≤◌, IfOk, IfSome, map, option_map};
 ghost use Rattle.std.specs.Option.{option_copied};
 ghost use Rattle.clap.specs.Words.{app_of, found_of, rows_of};
 ghost use Rattle.clap.specs.declared.error.kind.ErrorKind.TheVariants.{OutOfMemory as NoMemory};
-ghost use Rattle.command_line.specs.Request.{command_app, request_of, request_view, asked_by, certification, wanted_by, is_good, are_good, Answers};
+ghost use Rattle.command_line.specs.Request.{command_app, request_of, request_view, asked_by, requested, action_of, positive, number_or, IsFrom1To, IsInRange, Answers};
 ghost use Rattle.command_line.specs.declared.Refused.TheVariants.{OutOfMemory};
 
 use clap::error::ErrorKind;
@@ -25,7 +26,29 @@ pub enum Wanted {
     VersionTwo,
 }
 
-/// What the words ask for.
+/// A question about a system, which is proved or refuted.
+#[derive(Clone, Copy, Debug, PartialEq, Eq)]
+pub enum Question {
+    /// Whether it terminates.
+    Termination,
+    /// Whether it is confluent.
+    Confluence,
+    /// Whether no term reaches two different normal forms.
+    Unique,
+}
+
+/// What an action does.
+#[derive(Clone, Copy, Debug, PartialEq, Eq)]
+pub enum Action {
+    /// It certifies, and writes what is wanted.
+    Certify(Wanted),
+    /// It looks for a proof or a refutation.
+    Prove(Question),
+    /// It looks for a proof about a sample system, which no text says.
+    Sample,
+}
+
+/// What the words ask for. There are 1 to 16 workers, and a budget is from 1 to 1,000,000.
 #[derive(Clone, Copy, Debug)]
 pub enum Request<'a> {
     /// To certify the text under the second name for the problem under the first.
@@ -33,6 +56,19 @@ pub enum Request<'a> {
         wanted: Wanted,
         problem: &'a str,
         certificate: &'a str,
+    },
+    /// To answer a question about the problem under a name.
+    Prove {
+        question: Question,
+        problem: &'a str,
+        workers: u32,
+        budget: u64,
+    },
+    /// To look for a proof about the sample system of a size, from 1 to 512.
+    Sample {
+        size: u32,
+        workers: u32,
+        budget: u64,
     },
 }
 
@@ -85,77 +121,126 @@ fn refusal(kind: ErrorKind) -> Refused
 
 const MOST_WORKERS: u64 = 16;
 
+/// The number of workers where the option is left out.
+const WORKERS: u64 = 1;
+
 const MOST_BUDGET: u64 = 1_000_000;
 
-// Whether an option is left out, or a whole number from 1 to a limit.
-fn is_good(value: Option<&str>, limit: u64) -> bool
-    ensures { result ≡ is_good limit (option_copied value.entry) }
+/// The budget where the option is left out.
+const BUDGET: u64 = 20_000;
+
+const MOST_SIZE: u64 = 512;
+
+// A whole number from 1 to a limit.
+#[tactic(auto, using(numerals::proofs::Limits::numeral_within))]
+fn positive(text: &str, limit: u64) -> Option<u64>
+    ensures value { result ≡ positive limit text.now }
+    ensures within { IfSome result (λ n. n ≤ limit) }
+    ensures low { IfSome result (λ n. 1 ≤ n) }
 {
-    match value {
-        None => true,
-        Some(text) => match numeral_value(text.as_bytes(), limit) {
-            None => false,
-            Some(number) => 1 <= number,
-        },
+    match numeral_value(text.as_bytes(), limit) {
+        None => None,
+        Some(0) => None,
+        Some(number) => Some(number),
     }
 }
 
-fn are_good(workers: Option<&str>, budget: Option<&str>) -> bool
-    ensures { result ≡ are_good (option_copied workers.entry) (option_copied budget.entry) }
+// The value of an option, or what stands for it where it is left out.
+fn number_or(value: Option<&str>, limit: u64, default: u64) -> Option<u64>
+    requires within { default ≤ limit }
+    requires low { 1 ≤ default }
+    ensures value { result ≡ number_or limit default (option_copied value.entry) }
+    ensures within { IfSome result (λ n. n ≤ limit) }
+    ensures low { IfSome result (λ n. 1 ≤ n) }
 {
-    is_good(workers, MOST_WORKERS) && is_good(budget, MOST_BUDGET)
+    match value {
+        None => Some(default),
+        Some(text) => positive(text, limit),
+    }
 }
 
-// What an action on a certificate wants.
-fn wanted_by(action: &str) -> Option<Wanted>
-    ensures { result ≡ wanted_by action.now }
+// The action of a word.
+fn action_of(word: &str) -> Option<Action>
+    ensures { result ≡ action_of word.now }
 {
-    if action == "certify" {
-        Some(Wanted::Claim)
-    } else if action == "upgrade" {
-        Some(Wanted::VersionTwo)
+    if word == "certify" {
+        Some(Action::Certify(Wanted::Claim))
+    } else if word == "upgrade" {
+        Some(Action::Certify(Wanted::VersionTwo))
+    } else if word == "termination" {
+        Some(Action::Prove(Question::Termination))
+    } else if word == "confluence" {
+        Some(Action::Prove(Question::Confluence))
+    } else if word == "unique" {
+        Some(Action::Prove(Question::Unique))
+    } else if word == "sample" {
+        Some(Action::Sample)
     } else {
         None
     }
 }
 
-// An action on a certificate, with a problem and a certificate.
-fn certification<'a>(
-    action: Option<&str>,
-    problem: Option<&'a str>,
+// What an action asks for with a problem, or the size of a sample, and a certificate if there is one.
+fn requested<'a>(
+    action: Action,
+    problem: &'a str,
     certificate: Option<&'a str>,
+    workers: u32,
+    budget: u64,
 ) -> Option<Request<'a>>
-    ensures { option_map request_view result ≡ certification (option_copied action.entry)
-        (option_copied problem.entry) (option_copied certificate.entry) }
+    requires workers { IsFrom1To 16 workers }
+    requires budget { IsFrom1To 1000000 budget }
+    ensures request { option_map request_view result
+        ≡ requested action problem.now (option_copied certificate.entry) workers budget }
+    ensures range { IfSome result IsInRange }
 {
-    let wanted = wanted_by(action?)?;
-    Some(Request::Certify {
-        wanted,
-        problem: problem?,
-        certificate: certificate?,
-    })
+    match (action, certificate) {
+        (Action::Certify(wanted), Some(certificate)) => Some(Request::Certify {
+            wanted,
+            problem,
+            certificate,
+        }),
+        (Action::Prove(question), None) => Some(Request::Prove {
+            question,
+            problem,
+            workers,
+            budget,
+        }),
+        (Action::Sample, None) => {
+            let size = positive(problem, MOST_SIZE)?;
+            Some(Request::Sample {
+                size: size as u32,
+                workers,
+                budget,
+            })
+        }
+        _ => None,
+    }
 }
 
 // What the matches ask for.
 #[tactic(auto, using(crate::proofs::Refusing::row_value))]
 fn request_from<'a>(matches: &ArgMatches<'a>) -> Option<Request<'a>>
-    ensures { option_map request_view result ≡ asked_by (rows_of (found_of matches.now)) }
+    ensures request { option_map request_view result ≡ asked_by (rows_of (found_of matches.now)) }
+    ensures range { IfSome result IsInRange }
 {
-    if !are_good(matches.get_str("workers"), matches.get_str("budget")) {
-        return None;
-    }
-    let action = matches.get_str("action");
-    let problem = matches.get_str("problem");
+    let workers = number_or(matches.get_str("workers"), MOST_WORKERS, WORKERS)?;
+    let budget = number_or(matches.get_str("budget"), MOST_BUDGET, BUDGET)?;
+    let action = action_of(matches.get_str("action")?)?;
+    let problem = matches.get_str("problem")?;
     let certificate = matches.get_str("certificate");
-    certification(action, problem, certificate)
+    requested(action, problem, certificate, workers as u32, budget)
 }
 
 /// What the words ask for, the program's name left out. `Usage` comes exactly where they ask for
-/// nothing: where `clap`'s rules for the simple command refuse them, the action is not `certify` or
-/// `upgrade` with a problem and a certificate, `--workers` is not from 1 to 16, or `--budget` is not
-/// from 1 to 1,000,000. Both numbers are read, and then ignored.
+/// nothing: where `clap`'s rules for the simple command refuse them; the action is none of
+/// `certify`, `upgrade`, `termination`, `confluence`, `unique` and `sample`; the first two have no
+/// certificate, or another has one; the second word of `sample` is no size from 1 to 512; or
+/// `--workers` is not from 1 to 16, or `--budget` not from 1 to 1,000,000. A certificate is judged
+/// with no look at the two numbers.
 pub fn parse<'a>(alloc: Global, words: &'a [&'a str]) -> Result<Request<'a>, Refused>
-    ensures { Answers result (request_of (map (λ w. w.now) words.now)) }
+    ensures answer { Answers result (request_of (map (λ w. w.now) words.now)) }
+    ensures range { IfOk result IsInRange }
 {
     let command = command(alloc)?;
     match command.try_get_matches_from(words) {

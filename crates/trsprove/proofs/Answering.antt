@@ -1,23 +1,22 @@
 -- That the answer is the only one.
-use Rattle.std.proofs.Common.{◌≡◌, ◌≢◌, ◌≤◌, ◌<◌, ◌⊎◌, inl, inr, ℕ, true, false, List, length, Option, Some, IfSome, refl, sym, ap, subst, ◌∙◌, arith}
+use Rattle.std.proofs.Common.{◌≡◌, ◌≢◌, ◌≤◌, ◌<◌, ◌⊎◌, inl, inr, ℕ, List, length, Option, Some, IfSome, refl, sym, subst, arith}
 use Rattle.io_edge.specs.Shelf.{ShelfMeaning, Told, MayBe, MayPass}
 use Rattle.names_text.specs.Named.{NamedSystem}
 use Rattle.ari_text.specs.Problem.{IsProblemRefused}
 use Rattle.ari_text.specs.declared.fault.AriFault.{AriFault}
 use Rattle.ari_text.specs.declared.fault.AriFault.TheVariants as ari
 use Rattle.cert_text.specs.ProofText.{ProofText}
-use Rattle.cert_text.specs.CertificateText.{fits_two}
 use Rattle.certifier.specs.declared.rejected.Rejected.{Rejected}
 use Rattle.certifier.specs.declared.rejected.Rejected.TheVariants as why
 use Rattle.certifier.specs.Acceptance.{IsAcceptedAs, IsRejection}
 use Rattle.certifier.proofs.OneAnswer.{said_once, one_rejection, not_both}
-use Rattle.command_line.specs.Request.{Asked, certifies}
+use Rattle.command_line.specs.Request.{Asked, certifies, proves}
 use Rattle.command_line.specs.declared.Wanted.{Wanted}
 use Rattle.io_edge.specs.declared.fault.FetchFault.{FetchFault}
 use Rattle.io_edge.specs.declared.fault.FetchFault.TheVariants as fetch
 use Rattle.trsprove.specs.declared.status.Status.{Status}
 use Rattle.trsprove.specs.declared.status.Status.TheVariants as status
-use Rattle.trsprove.specs.Output.{IsWritten, with_claim, in_version_two, too_heavy, Verdict, refused, rejected, accepted, usage, too_long, decided, AreFetched, IsNeeded, as_problem, as_certificate, IsWithin, IsTooLong, IsOr, AnswersOnly, most_problem_bytes, most_certificate_bytes}
+use Rattle.trsprove.specs.Output.{IsWritten, with_claim, in_version_two, too_heavy, Verdict, refused, rejected, accepted, usage, too_long, decided, answered, sampled, AreFetched, IsNeeded, as_problem, as_certificate, as_question, IsWithin, IsTooLong, IsOr, AnswersOnly, most_problem_bytes, most_certificate_bytes}
 use Rattle.trsprove.specs.Answers.{IsUnfetched}
 
 -- ---- one verdict for two texts
@@ -71,14 +70,14 @@ module _ (problem certificate : List ℕ) where
 -- ---- texts that are told
 
 -- a text that is told is the one that may be there
-told_is : (shelf : ShelfMeaning) (name v t : List ℕ) → MayBe shelf name v → Told shelf name t → v ≡ t
+pub told_is : (shelf : ShelfMeaning) (name v t : List ℕ) → MayBe shelf name v → Told shelf name t → v ≡ t
 told_is shelf name v t may_be told = subst (λ o. IfSome o (λ u. v ≡ u)) told may_be
 
-not_long : (limit : ℕ) (shelf : ShelfMeaning) (name t : List ℕ) → Told shelf name t → length t ≤ limit → MayPass limit shelf name → ⊥
+pub not_long : (limit : ℕ) (shelf : ShelfMeaning) (name t : List ℕ) → Told shelf name t → length t ≤ limit → MayPass limit shelf name → ⊥
 not_long limit shelf name t told within passes =
     let long : limit < length t = subst (λ o. IfSome o (λ u. limit < length u)) told passes in omega arith
 
-too_long_within : (limit : ℕ) (shelf : ShelfMeaning) (name v : List ℕ) → MayBe shelf name v → length v ≤ limit → IsTooLong limit (Told shelf) name → ⊥
+pub too_long_within : (limit : ℕ) (shelf : ShelfMeaning) (name v : List ℕ) → MayBe shelf name v → length v ≤ limit → IsTooLong limit (Told shelf) name → ⊥
 too_long_within limit shelf name v may_be within (t, told, long) =
     let is : v ≡ t = told_is shelf name v t may_be told in
     let size : limit < length v = subst (λ z. limit < length z) (sym is) long in omega arith
@@ -110,6 +109,8 @@ module _ (shelf : ShelfMeaning) (wanted : Wanted) (p c : List ℕ) where
   pub long_only : MayPass most_problem_bytes shelf p ⊎ MayPass most_certificate_bytes shelf c → AnswersOnly Request shelf status.TooLong
   long_only h s text (usage none) = absurd cc
   long_only h s text (too_long name limit needed long) = refl
+  long_only h s text (answered question budget problem f conclusion) = let asks : Some (certifies wanted p c) ≡ Some (proves question f.name f.workers budget) = f.asked in absurd cc
+  long_only h s text (sampled size workers budget asks line) = absurd cc
   long_only (inl h) s text (decided other problem certificate f verdict) =
       absurd (not_long most_problem_bytes shelf p problem (under_first other problem certificate f) f.problem_size h)
   long_only (inr h) s text (decided other problem certificate f verdict) =
@@ -130,11 +131,14 @@ module _ (shelf : ShelfMeaning) (wanted : Wanted) (p c : List ℕ) where
     not_too_long name limit (as_certificate other q d e within) long =
         too_long_within most_certificate_bytes shelf c w second second_size
         (subst (λ z. IsTooLong most_certificate_bytes (Told shelf) z) (sym (same_asked wanted other p q c d e).certificates) long)
+    not_too_long name limit (as_question question q workers budget e) long = absurd cc
 
     -- the verdict for two texts is the defined one
     pub verdict_only : (s : Status) (text : List ℕ) → Verdict v w wanted s text → AnswersOnly Request shelf s
     verdict_only s text verdict other defined (usage none) = absurd cc
     verdict_only s text verdict other defined (too_long name limit needed long) = absurd (not_too_long name limit needed long)
+    verdict_only s text verdict other defined (answered question budget problem f conclusion) = let asks : Some (certifies wanted p c) ≡ Some (proves question f.name f.workers budget) = f.asked in absurd cc
+    verdict_only s text verdict other defined (sampled size workers budget asks line) = absurd cc
     verdict_only s text verdict other defined (decided asked problem certificate f found) =
         let is_first : v ≡ problem = told_is shelf p v problem first (under_first asked problem certificate f) in
         let is_second : w ≡ certificate = told_is shelf c w certificate second (under_second asked problem certificate f) in

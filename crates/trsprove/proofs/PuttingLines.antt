@@ -1,5 +1,5 @@
 -- Texts that are put line by line.
-use Rattle.std.proofs.Common.{◌≡◌, ◌≤◌, ◌<◌, ◌+◌, ◌-◌, ◌==◌, ℕ, cond, true, false, List, [], ◌∷◌, ◌++◌, length, length-append, take, drop, get_or, slice_range, suc, Option, Some, None, Result, Ok, Err, IsErr, refl, sym, ap, subst, ◌∙◌, arith}
+use Rattle.std.proofs.Common.{◌≡◌, ◌≤◌, ◌<◌, ◌+◌, ◌-◌, ◌==◌, ℕ, cond, true, List, [], ◌∷◌, ◌++◌, length, length-append, take, drop, get_or, slice_range, suc, Option, Some, None, Result, Ok, Err, IsErr, refl, sym, ap, subst, ◌∙◌, arith}
 use native.Mathlib.Decide.{dec_le}
 use Rattle.std.specs.Io.KnownBytes.{Appends}
 use Rattle.std.proofs.KnownBytes.{Appends-trans}

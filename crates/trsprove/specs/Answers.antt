@@ -12,6 +12,7 @@ use Rattle.trsprove.specs.Lines.{usage_line, accepted_line, too_heavy_line, refu
 abbrev pub status_of : Answer → Status
 status_of (answer.Accepted claim) = status.Answered
 status_of (answer.Upgraded text) = status.Answered
+status_of (answer.Concluded text) = status.Answered
 status_of (answer.Rejected line) = status.Rejected
 status_of answer.TooHeavy = status.Rejected
 status_of answer.Usage = status.Usage
@@ -23,6 +24,7 @@ status_of (answer.TooLong name) = status.TooLong
 abbrev pub text_of : Answer → List ℕ
 text_of (answer.Accepted claim) = accepted_line claim
 text_of (answer.Upgraded text) = text.items
+text_of (answer.Concluded text) = text.items
 text_of (answer.Rejected line) = line.items
 text_of answer.TooHeavy = too_heavy_line
 text_of answer.Usage = usage_line

@@ -3,24 +3,32 @@ use Rattle.std.specs.Prelude.{◌≡◌, ◌≢◌, ◌⊎◌, ◌<◌, ◌≤�
 use denote.Ref.{Bor}
 use Rattle.io_edge.specs.Shelf.{ShelfMeaning, Told, MayBe, MayPass, FaultRose, ReadPast, IsUntouched}
 use Rattle.io_edge.specs.Sink.{SinkMeaning, AppendsTo, AppendsPrefix}
+use Rattle.trs_defs.specs.Member.{In}
 use Rattle.sexp_core.specs.Printed.{lines}
 use Rattle.names_text.specs.Named.{NamedSystem}
-use Rattle.ari_text.specs.Problem.{IsProblemRefused}
+use Rattle.ari_text.specs.Problem.{SaysSystem, IsProblemRefused}
 use Rattle.ari_text.specs.declared.fault.AriFault.{AriFault}
 use Rattle.ari_text.specs.declared.fault.AriFault.TheVariants as ari
+use Rattle.cert_step.specs.declared.claim.Claim.{Claim}
 use Rattle.cert_step.specs.ProofProblem.{Says}
 use Rattle.cert_text.specs.ProofText.{ProofText}
 use Rattle.cert_text.specs.CertificateText.{version_two_items, fits_two}
 use Rattle.certifier.specs.declared.rejected.Rejected.{Rejected}
 use Rattle.certifier.specs.declared.rejected.Rejected.TheVariants as why
-use Rattle.certifier.specs.Acceptance.{IsAcceptedAs, IsRejection}
-use Rattle.command_line.specs.Request.{Asked, certifies}
+use Rattle.certifier.specs.Acceptance.{IsAcceptance, IsAcceptedAs, IsRejection}
+use Rattle.tree_states.specs.Questions.{claims}
+use Rattle.tree_states.specs.Reports.{Part, IsTrueReport}
+use Rattle.conclusion.specs.Concludes.{maybe_text}
+use Rattle.sampling.specs.Line.{IsSampleLine}
+use Rattle.command_line.specs.Request.{Asked, certifies, proves, samples}
+use Rattle.command_line.specs.declared.Question.{Question}
 use Rattle.command_line.specs.declared.Wanted.{Wanted}
 use Rattle.command_line.specs.declared.Wanted.TheVariants as want
 use Rattle.trsprove.specs.declared.status.Status.{Status}
 use Rattle.trsprove.specs.declared.status.Status.TheVariants as status
 use Rattle.trsprove.specs.Lines.{usage_line, accepted_line, rejected_line, too_heavy_line, refused_line, too_long_line, read_fault_line}
 use Rattle.trsprove.specs.LinePuts.{IsPutByLine, IsFrontPutByLine}
+use Rattle.trsprove.specs.Conclusions.{question_of, IsConclusion}
 
 -- the words as texts
 abbrev pub texts : List (Bor (List ℕ)) → List (List ℕ)
@@ -63,6 +71,14 @@ pub record AreFetched (request : Option Asked) (wanted : Wanted) (under : List �
   pub problem_size : length problem ≤ most_problem_bytes
   pub certificate_size : length certificate ≤ most_certificate_bytes
 
+-- this question is asked about the problem under a name, within this budget, and this is a text under the name
+pub record IsAsked (request : Option Asked) (question : Question) (budget : ℕ) (under : List ℕ → List ℕ → Type 0) (problem : List ℕ) : Type 0 where
+  pub name : List ℕ
+  pub workers : ℕ
+  pub asked : request ≡ Some (proves question name workers budget)
+  pub name_under : under name problem
+  pub size : length problem ≤ most_problem_bytes
+
 -- a text under a name is within a limit
 abbrev pub IsWithin : ℕ → (List ℕ → List ℕ → Type 0) → List ℕ → Type 0
 IsWithin limit under name = (text : List ℕ) × under name text × (length text ≤ limit)
@@ -72,12 +88,14 @@ abbrev pub IsTooLong : ℕ → (List ℕ → List ℕ → Type 0) → List ℕ �
 IsTooLong limit under name = (text : List ℕ) × under name text × (limit < length text)
 
 -- the text under a name is needed, with so many bytes at most: that of the problem, or that of the certificate once the
--- problem's is fetched
+-- problem's is fetched; a question needs its problem alone
 pub data IsNeeded (request : Option Asked) (is_fetched : List ℕ → Type 0) : List ℕ → ℕ → Type 0 where
   as_problem : (wanted : Wanted) (problem certificate : List ℕ) → request ≡ Some (certifies wanted problem certificate)
       → IsNeeded request is_fetched problem most_problem_bytes
   as_certificate : (wanted : Wanted) (problem certificate : List ℕ) → request ≡ Some (certifies wanted problem certificate)
       → is_fetched problem → IsNeeded request is_fetched certificate most_certificate_bytes
+  as_question : (question : Question) (problem : List ℕ) (workers budget : ℕ) → request ≡ Some (proves question problem workers budget)
+      → IsNeeded request is_fetched problem most_problem_bytes
 
 -- the answer: a status, and the text that is written
 pub data Output (request : Option Asked) (under : List ℕ → List ℕ → Type 0) : Status → List ℕ → Type 0 where
@@ -87,6 +105,11 @@ pub data Output (request : Option Asked) (under : List ℕ → List ℕ → Type
   decided : {s : Status} {text : List ℕ} (wanted : Wanted) (problem certificate : List ℕ)
       → AreFetched request wanted under problem certificate → Verdict problem certificate wanted s text
       → Output request under s text
+  answered : {s : Status} {text : List ℕ} (question : Question) (budget : ℕ) (problem : List ℕ)
+      → IsAsked request question budget under problem → IsConclusion problem question budget s text
+      → Output request under s text
+  sampled : {line : List ℕ} (size workers budget : ℕ) → request ≡ Some (samples size workers budget) → IsSampleLine size budget line
+      → Output request under status.Answered line
 
 -- the text of the problem was fetched under a name: no fault came, and a text within the limit may stand there
 abbrev pub WasFetched : ShelfMeaning → ShelfMeaning → List ℕ → Type 0
@@ -104,20 +127,20 @@ IsAnswer request before now status.WriteFault text = ⊥
 IsAnswer request before now status.OutOfMemory text = ⊥
 IsAnswer request before now s text = Output request (MayBe before) s text
 
--- a certificate was judged: it was accepted or rejected
-abbrev pub JudgesCertificate : Status → Type 0
-JudgesCertificate s = (s ≡ status.Answered) ⊎ (s ≡ status.Rejected)
+-- the defined answer is a verdict: on a certificate, a question or a sample
+abbrev pub GivesVerdict : Status → Type 0
+GivesVerdict s = (s ≡ status.Answered) ⊎ (s ≡ status.Rejected)
 
 -- what a status says of the bytes that the sink took: they are the text, or, where writing failed, a front of a text; where
--- it judges a certificate, each line is one put
+-- it gives a verdict, each line is one put
 abbrev pub Writes : Option Asked → ShelfMeaning → ShelfMeaning → Status → SinkMeaning → SinkMeaning → Type 0
 Writes request before now status.WriteFault taken later = (s : Status) × (text : List ℕ)
     × IsAnswer request before now s text × AppendsPrefix taken text later
-    × (JudgesCertificate s → IsFrontPutByLine taken text later)
+    × (GivesVerdict s → IsFrontPutByLine taken text later)
 Writes request before now status.OutOfMemory taken later = later ≡ taken
 Writes request before now s taken later = (text : List ℕ)
     × IsAnswer request before now s text × AppendsTo taken text later
-    × (JudgesCertificate s → IsPutByLine taken text later)
+    × (GivesVerdict s → IsPutByLine taken text later)
 
 -- what is written of a certificate that is accepted
 abbrev pub accepted_text : Wanted → NamedSystem → ProofText → List ℕ
@@ -125,7 +148,7 @@ accepted_text want.Claim named says = accepted_line says.claim
 accepted_text want.VersionTwo named says = lines (version_two_items named says)
 
 -- a certificate was accepted, and its claim is true of the system that the problem text says
-pub record IsTrueAnswer (request : Option Asked) (before : ShelfMeaning) (taken later : SinkMeaning) : Type 0 where
+pub record IsTrueAcceptance (request : Option Asked) (before : ShelfMeaning) (taken later : SinkMeaning) : Type 0 where
   pub wanted : Wanted
   pub problem : List ℕ
   pub certificate : List ℕ
@@ -135,6 +158,50 @@ pub record IsTrueAnswer (request : Option Asked) (before : ShelfMeaning) (taken 
   pub acceptance : IsAcceptedAs problem certificate named says
   pub truth : Says named.system says.claim
   pub written : AppendsTo taken (accepted_text wanted named says) later
+
+-- what was written is a certificate that is accepted for the problem text, of a claim that a goal of the question has, and the
+-- claim is true of the system
+pub record IsTrueProof (request : Option Asked) (before : ShelfMeaning) (taken later : SinkMeaning) : Type 0 where
+  pub question : Question
+  pub budget : ℕ
+  pub problem : List ℕ
+  pub text : List ℕ
+  pub named : NamedSystem
+  pub claim : Claim
+  pub asked : IsAsked request question budget (MayBe before) problem
+  pub goal : In claim (claims (question_of question))
+  pub acceptance : IsAcceptance problem text claim named
+  pub truth : Says named.system claim
+  pub written : AppendsTo taken text later
+
+-- a report was written, and it is true of the system that the problem text says
+pub record IsTrueMaybe (request : Option Asked) (before : ShelfMeaning) (taken later : SinkMeaning) : Type 0 where
+  pub question : Question
+  pub budget : ℕ
+  pub problem : List ℕ
+  pub named : NamedSystem
+  pub parts : List Part
+  pub asked : IsAsked request question budget (MayBe before) problem
+  pub problem_says : SaysSystem problem named
+  pub truth : IsTrueReport named.system (question_of question) budget parts
+  pub written : AppendsTo taken (maybe_text named (question_of question) parts) later
+
+-- the line of a sample system was written, and it is true of that system
+pub record IsTrueSample (request : Option Asked) (taken later : SinkMeaning) : Type 0 where
+  pub size : ℕ
+  pub workers : ℕ
+  pub budget : ℕ
+  pub line : List ℕ
+  pub asked : request ≡ Some (samples size workers budget)
+  pub truth : IsSampleLine size budget line
+  pub written : AppendsTo taken line later
+
+-- what was written is true
+pub data IsTrueAnswer (request : Option Asked) (before : ShelfMeaning) (taken later : SinkMeaning) : Type 0 where
+  by_certificate : IsTrueAcceptance request before taken later → IsTrueAnswer request before taken later
+  by_proof : IsTrueProof request before taken later → IsTrueAnswer request before taken later
+  by_report : IsTrueMaybe request before taken later → IsTrueAnswer request before taken later
+  by_sample : IsTrueSample request taken later → IsTrueAnswer request before taken later
 
 -- this status, unless a fault or want of memory came
 abbrev pub IsOr : Status → Status → Type 0

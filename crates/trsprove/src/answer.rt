@@ -6,7 +6,9 @@ ghost use Rattle.command_line.specs.Request.{request_of, certifies};
 ghost use Rattle.trsprove.specs.Output.{texts, Verdict, IsWritten, IsAnswer, AnswersOnly, TouchesOnlyNeeded, most_problem_bytes, most_certificate_bytes};
 ghost use Rattle.trsprove.specs.Answers.{IsUnfetched, status_of, text_of};
 
+use crate::asking::concluded;
 use crate::lines::rejected_line;
+use crate::samples::sampled;
 use crate::status::Status;
 use ari_text::AriFault;
 use cert_text::{fits_version_two, print_version_two};
@@ -16,7 +18,7 @@ use io_edge::{FetchFault, Shelf};
 use std::alloc::{AllocError, Global};
 
 /// The most bytes of a problem text.
-const MOST_PROBLEM_BYTES: u64 = 1_048_576;
+pub(crate) const MOST_PROBLEM_BYTES: u64 = 1_048_576;
 
 /// The most bytes of a certificate text.
 const MOST_CERTIFICATE_BYTES: u64 = 8_388_608;
@@ -27,6 +29,8 @@ pub(crate) enum Answer<'a> {
     Accepted(Claim),
     /// The text of an accepted certificate in version 2.
     Upgraded(Vec<u8>),
+    /// The text that answers a question, or the line of a sample.
+    Concluded(Vec<u8>),
     /// The line of a rejection.
     Rejected(Vec<u8>),
     /// An accepted certificate weighs too much in version 2.
@@ -44,7 +48,7 @@ impl<'a> Answer<'a> {
         ensures { result ≡ status_of self.now }
     {
         match self {
-            Answer::Accepted(_) | Answer::Upgraded(_) => Status::Answered,
+            Answer::Accepted(_) | Answer::Upgraded(_) | Answer::Concluded(_) => Status::Answered,
             Answer::Rejected(_) | Answer::TooHeavy => Status::Rejected,
             Answer::Usage => Status::Usage,
             Answer::Refused(_) => Status::Refused,
@@ -75,6 +79,21 @@ pub(crate) fn answer_for<'a, S: Shelf>(
                 certificate,
             },
         ) => certified(alloc, shelf, wanted, problem, certificate),
+        Ok(
+            Request::Prove {
+                question,
+                problem,
+                workers: _,
+                budget,
+            },
+        ) => concluded(alloc, shelf, question, problem, budget),
+        Ok(
+            Request::Sample {
+                size,
+                workers: _,
+                budget,
+            },
+        ) => sampled(alloc, size, budget),
         Err(Refused::Usage) => Ok(Answer::Usage),
         Err(Refused::OutOfMemory) => Err(AllocError),
     }
@@ -107,7 +126,7 @@ fn certified<'a, S: Shelf>(
 }
 
 // The answer where the text under a name could not be fetched.
-fn unfetched<'a>(name: &'a str, fault: FetchFault) -> Result<Answer<'a>, AllocError>
+pub(crate) fn unfetched<'a>(name: &'a str, fault: FetchFault) -> Result<Answer<'a>, AllocError>
     ensures { IfOk result (λ a. IsUnfetched fault name.now (status_of a) (text_of a)) }
 {
     match fault {

@@ -1,12 +1,14 @@
-//! trsprove: certifies proofs of termination and confluence of term rewriting systems.
+//! trsprove: finds and certifies proofs of termination and confluence of term rewriting systems.
 #![tactic(auto)]
 
 mod answer;
 mod arguments;
+mod asking;
 mod lines;
 mod pieces;
 mod report;
 mod run;
+mod samples;
 mod status;
 mod words;
 

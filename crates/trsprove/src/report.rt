@@ -4,7 +4,7 @@ ghost use Rattle.trsprove.specs.Puts.{Puts, PutsLines};
 ghost use Rattle.trsprove.specs.LinePuts.{EndsLine};
 ghost use Rattle.trsprove.specs.Numbers.{fields_text};
 ghost use Rattle.trsprove.specs.Lines.{problem_fields, refused_line};
-ghost use Rattle.trsprove.specs.Output.{JudgesCertificate};
+ghost use Rattle.trsprove.specs.Output.{GivesVerdict};
 ghost use Rattle.trsprove.specs.Answers.{status_of, text_of};
 
 use crate::answer::Answer;
@@ -22,14 +22,14 @@ const TOO_HEAVY: &[u8] = b"REJECTED too-heavy\n";
 
 /// Puts the text of an answer.
 pub(crate) fn put_answer<K: Sink>(answer: &Answer<'_>, out: &mut K) -> Result<(), SinkFailed>
-    requires { JudgesCertificate (status_of answer.now) → EndsLine (text_of answer.now) }
+    requires { GivesVerdict (status_of answer.now) → EndsLine (text_of answer.now) }
     ensures puts { Puts result (K.means out.old) (text_of answer.now) (K.means out.new) }
-    ensures lines { JudgesCertificate (status_of answer.now) →
+    ensures lines { GivesVerdict (status_of answer.now) →
         PutsLines result (K.means out.old) (text_of answer.now) (K.means out.new) }
 {
     match answer {
         Answer::Accepted(claim) => put_lines(out, accepted_line(*claim)),
-        Answer::Upgraded(text) => put_lines(out, text),
+        Answer::Upgraded(text) | Answer::Concluded(text) => put_lines(out, text),
         Answer::Rejected(line) => put_lines(out, line),
         Answer::TooHeavy => put_lines(out, TOO_HEAVY),
         Answer::Usage => put_one(out, USAGE),

@@ -13,7 +13,7 @@ use std::alloc::Global;
 /// words are those of the command line, without the program's name.
 pub fn run<S: Shelf, K: Sink>(alloc: Global, words: &[&str], shelf: &mut S, out: &mut K) -> Status
     // The text that is written is the defined answer of the words and the texts, or names a fault
-    // that came. Where a certificate is judged, each line is one put.
+    // that came. Where a verdict is given, each line is one put.
     ensures output { Writes (request_of (texts words.now)) (S.means shelf.old) (S.means shelf.new)
         result (K.means out.old) (K.means out.new) }
     ensures write { result ≡ Status.WriteFault →
@@ -22,7 +22,8 @@ pub fn run<S: Shelf, K: Sink>(alloc: Global, words: &[&str], shelf: &mut S, out:
     // The defined answer is given, unless a fault or want of memory comes.
     ensures only { AnswersOnly (request_of (texts words.now)) (S.means shelf.old) result }
 
-    // An accepted claim is true of the system that the problem text says.
+    // What is written is true of the system that the problem text says: the claim of a certificate
+    // that is accepted or was found, or a report.
     ensures truth { result ≡ Status.Answered → IsTrueAnswer (request_of (texts words.now))
         (S.means shelf.old) (K.means out.old) (K.means out.new) }
 

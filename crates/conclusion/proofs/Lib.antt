@@ -1,0 +1,3 @@
+pub mod StepNumbers
+pub mod FoundSteps
+pub mod Texts

@@ -1,0 +1,43 @@
+use Rattle.std.proofs.Common.{◌<◌, ◌^◌, All, map, length, subst, sym}
+use Rattle.std.proofs.lemmas.List.{length-map}
+use Rattle.trs_defs.specs.System.{System}
+use Rattle.cert_step.specs.ProofStep.{node_step_of}
+use Rattle.step_text.specs.Ranges.{IsPrintable}
+use Rattle.proof_nodes.specs.Nodes.{IsAccepted}
+use Rattle.conclusion.proofs.StepNumbers.{accepted_printable}
+use Rattle.conclusion.proofs.FoundSteps.{found_steps_in_order}
+use Rattle.conclusion.proofs.Texts.{won_concludes, won_serial}
+use Rattle.conclusion.proofs.answering.won_text.Goals as goal
+
+pub print_proof-requires-clause-printable : goal.print_proof-requires-clause-printable
+print_proof-requires-clause-printable c =
+    let proof = c.in_ok-proof.proof in
+    let steps = map node_step_of proof.steps.items in
+    let few : length steps < 2 ^ 63 =
+    subst (λ n. n < 2 ^ 63) (sym (length-map proof.steps.items node_step_of)) (subst (λ s. length s < 2 ^ 63) c.deref.ensures.value c.check_few.ensures) in
+    subst (λ (system : System). All (IsPrintable system) steps) c.requires.system
+    (accepted_printable c.args.tree.now.system proof.claim steps few c.in_ok-proof.ensures.well_made c.in_ok-proof.ensures.accepted)
+
+pub print_proof-requires-clause-in_order : goal.print_proof-requires-clause-in_order
+print_proof-requires-clause-in_order c =
+    found_steps_in_order c.args.tree.now.system c.args.tree.now.budget (map node_step_of c.in_ok-proof.proof.steps.items) c.in_ok-proof.ensures.found
+
+pub print_proof-requires-clause-accepted : goal.print_proof-requires-clause-accepted
+print_proof-requires-clause-accepted c =
+    let proof = c.in_ok-proof.proof in
+    subst (λ (system : System). IsAccepted system proof.claim (map node_step_of proof.steps.items)) c.requires.system c.in_ok-proof.ensures.accepted
+
+pub returns-clause-concludes : goal.returns-clause-concludes
+returns-clause-concludes c =
+    let tree = c.args.tree.now in
+    let proof = c.in_ok-proof.proof in
+    won_concludes c.args.system.now tree.question tree.budget c.requires.won.0 proof.claim (map node_step_of proof.steps.items) c.in_ok-text.text.items
+    (c.in_ok-proof.ensures.claim c.requires.won.0 c.requires.won.1) c.in_ok-text.ensures.text c.in_ok-text.ensures.proves
+
+pub returns-clause-serial : goal.returns-clause-serial
+returns-clause-serial c =
+    let tree = c.args.tree.now in
+    let proof = c.in_ok-proof.proof in
+    let g = c.requires.won.0 in
+    won_serial c.args.system.now tree g proof.claim (map node_step_of proof.steps.items) c.in_ok-text.text.items c.requires.system c.requires.end c.requires.won.1
+    (c.in_ok-proof.ensures.claim g c.requires.won.1) (c.in_ok-proof.ensures.steps g c.requires.won.1) c.in_ok-text.ensures.text

@@ -1,0 +1,11 @@
+-- What is known of a text that answers a question.
+use Rattle.std.specs.Prelude.{List, ℕ}
+use Rattle.names_text.specs.Named.{NamedSystem, IsNamed}
+use Rattle.cert_step.specs.declared.claim.Claim.{Claim}
+use Rattle.cert_step.specs.ProofProblem.{Says}
+use Rattle.proof_text.specs.ProofOf.{Proves}
+
+-- where a text proves a claim, it is true of the system
+abbrev pub ProvedClaimsAreTrue : Type 0
+ProvedClaimsAreTrue =
+    (named : NamedSystem) (claim : Claim) (text : List ℕ) → IsNamed named → Proves named claim text → Says named.system claim

@@ -1,0 +1,3 @@
+pub mod Concludes
+pub mod SerialText
+pub mod Laws

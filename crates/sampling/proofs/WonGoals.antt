@@ -1,0 +1,85 @@
+-- What is judged where a goal was won, and the line of a sample.
+use Rattle.std.proofs.Common.{◌≡◌, ◌⊎◌, ◌∙◌, inl, inr, ℕ, zero, suc, Some, slice_get, refl, sym, subst, ap, List, Result, Ok, Err, IfOk}
+use Rattle.trs_defs.specs.System.{System}
+use Rattle.cert_step.specs.ProofProblem.{Says}
+use Rattle.cert_step.specs.ProofStep.{ProofNodeStep}
+use Rattle.cert_step.specs.declared.claim.Claim.{Claim}
+use Rattle.cert_step.specs.declared.claim.Claim.TheVariants.{Terminating, Nonterminating}
+use Rattle.proof_nodes.specs.Nodes.{IsAccepted}
+use Rattle.tree_states.specs.declared.question.Question.{Question}
+use Rattle.tree_states.specs.declared.question.Question.TheVariants.{Termination}
+use Rattle.tree_states.specs.Questions.{claims}
+use Rattle.tree_states.specs.Trees.{ProofTree}
+use Rattle.sample_family.specs.Family.{sample}
+use Rattle.sampling.specs.declared.judgement.Judgement.{Judgement}
+use Rattle.sampling.specs.declared.judgement.Judgement.TheVariants.{Proved, Refuted}
+use Rattle.sampling.specs.Judged.{IsTrueJudgement, IsSerialJudgement, IsOnTermination, proved, refuted}
+use Rattle.sampling.specs.Line.{IsSampleLine, judged, line_of}
+
+-- ---- what a goal claims
+
+first_goal : (g : ℕ) → slice_get (claims Termination) g ≡ Some Terminating → g ≡ 0
+first_goal zero e = refl
+first_goal (suc zero) e = absurd cc
+first_goal (suc (suc g)) e = absurd cc
+
+second_goal : (g : ℕ) → slice_get (claims Termination) g ≡ Some Nonterminating → g ≡ 1
+second_goal zero e = absurd cc
+second_goal (suc zero) e = refl
+second_goal (suc (suc g)) e = absurd cc
+
+one_of_two : (g : ℕ) (claim : Claim) → slice_get (claims Termination) g ≡ Some claim → (claim ≡ Terminating) ⊎ (claim ≡ Nonterminating)
+one_of_two zero claim e = inl cc
+one_of_two (suc zero) claim e = inr cc
+one_of_two (suc (suc g)) claim e = absurd cc
+
+-- what the goal that was won claims
+pub record IsWonClaim (tree : ProofTree) (claim : Claim) : Type 0 where
+  pub g : ℕ
+  pub won : tree.state.winner ≡ Some g
+  pub claims_it : slice_get (claims tree.question) g ≡ Some claim
+
+module _ (tree : ProofTree) (asks : IsOnTermination tree) (claim : Claim) (w : IsWonClaim tree claim) where
+  claims_it : slice_get (claims Termination) w.g ≡ Some claim
+  claims_it = subst (λ (q : Question). slice_get (claims q) w.g ≡ Some claim) asks.question w.claims_it
+
+  pub no_other : (claim ≡ Terminating → ⊥) → (claim ≡ Nonterminating → ⊥) → ⊥
+  no_other not_first not_second = go (one_of_two w.g claim claims_it)
+    where
+      go : (claim ≡ Terminating) ⊎ (claim ≡ Nonterminating) → ⊥
+      go (inl e) = not_first e
+      go (inr e) = not_second e
+
+  pub serial_proved : claim ≡ Terminating → IsSerialJudgement tree.system tree.budget Proved
+  serial_proved is = record {
+    state = tree.state;
+    ends = asks.ends;
+    judged = w.won ∙ ap Some (first_goal w.g (claims_it ∙ ap Some is));
+  }
+
+  pub serial_refuted : claim ≡ Nonterminating → IsSerialJudgement tree.system tree.budget Refuted
+  serial_refuted is = record {
+    state = tree.state;
+    ends = asks.ends;
+    judged = w.won ∙ ap Some (second_goal w.g (claims_it ∙ ap Some is));
+  }
+
+module _ (system : System) (budget : ℕ) (claim : Claim) (steps : List ProofNodeStep) (accepted : IsAccepted system claim steps) (says : Says system claim) where
+  pub true_proved : claim ≡ Terminating → IsTrueJudgement system budget Proved
+  true_proved is = proved steps (subst (λ (k : Claim). IsAccepted system k steps) is accepted) (subst (λ (k : Claim). Says system k) is says)
+
+  pub true_refuted : claim ≡ Nonterminating → IsTrueJudgement system budget Refuted
+  true_refuted is = refuted steps (subst (λ (k : Claim). IsAccepted system k steps) is accepted) (subst (λ (k : Claim). Says system k) is says)
+
+-- ---- the line of a sample
+
+pub line_judged : (size budget : ℕ) (system : System) (judgement : Judgement) (line : List ℕ) → system ≡ (sample size).system → IsTrueJudgement system budget judgement
+    → IsSerialJudgement system budget judgement → line ≡ line_of system judgement → IsSampleLine size budget line
+line_judged size budget system judgement line same is_true serial is =
+    subst (IsSampleLine size budget) (sym (is ∙ ap (λ (s : System). line_of s judgement) same))
+    (judged judgement (subst (λ (s : System). IsTrueJudgement s budget judgement) same is_true) (subst (λ (s : System). IsSerialJudgement s budget judgement) same serial))
+
+-- what is known of an answer that is there
+pub for_ok : {X E : Type 0} (fact other : X → Type 0) (r : Result X E) → ((x : X) → fact x → other x) → IfOk r fact → IfOk r other
+for_ok fact other (Ok x) more h = more x h
+for_ok fact other (Err e) more h = tt

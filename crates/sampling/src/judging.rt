@@ -1,0 +1,69 @@
+ghost use Rattle.std.specs.Prelude.{◌≡◌, ℕ, Some, IfOk};
+ghost use Rattle.tree_states.specs.Events.{Replays};
+ghost use Rattle.tree_states.specs.Questions.{goals_of};
+ghost use Rattle.tree_states.specs.Replies.{IsVerdict};
+ghost use Rattle.tree_states.specs.States.{opening};
+ghost use Rattle.sampling.specs.Judged.{IsTrueJudgement, IsSerialJudgement, IsOnTermination};
+
+use crate::Judgement;
+use cert_step::Claim;
+use std::alloc::Global;
+use strategies::Limits;
+use tree_core::Tree;
+use tree_states::{Question, Verdict};
+use trs_core::{OutOfMemory, Trs};
+use worker_pool::prove_alone;
+
+/// Judges by one worker whether a system terminates. The budget is how many refuted prefixes, or
+/// attempts, each search may pass.
+pub fn judge(alloc: Global, trs: &Trs, budget: u64) -> Result<Judgement, OutOfMemory>
+    // There is a proof that is accepted, or a true report.
+    ensures is_true { IfOk result (IsTrueJudgement trs.now budget) }
+
+    // It is the verdict of the tree of the serial history, in which each claim is followed by the
+    // post of what the strategy answers of the problem.
+    ensures serial { IfOk result (IsSerialJudgement trs.now budget) }
+{
+    let finished = prove_alone(alloc, Question::Termination, trs, Limits { budget })?;
+    let tree = finished.tree();
+    check_replayed(tree);
+    match tree.verdict() {
+        Some(Verdict::Won(_)) => won(alloc, tree),
+        Some(Verdict::Maybe) => lost(alloc, tree),
+        None => unreachable!(),
+    }
+}
+
+// What is known of each tree's history. There is nothing to run.
+fn check_replayed(tree: &Tree<'_>)
+    ensures { Replays (goals_of tree.now.question) tree.now.system
+        (opening tree.now.question) tree.now.history tree.now.state }
+{
+    let _entries = tree.history_len();
+}
+
+// The judgement where a goal was won: its certificate is accepted.
+fn won(alloc: Global, tree: &Tree<'_>) -> Result<Judgement, OutOfMemory>
+    requires question { IsOnTermination tree.now }
+    requires won { (g : ℕ) × (tree.now.state.winner ≡ Some g) }
+    ensures is_true { IfOk result (IsTrueJudgement tree.now.system tree.now.budget) }
+    ensures serial { IfOk result (IsSerialJudgement tree.now.system tree.now.budget) }
+{
+    let proof = tree.certificate(alloc)?;
+    match proof.claim {
+        Claim::Terminating => Ok(Judgement::Proved),
+        Claim::Nonterminating => Ok(Judgement::Refuted),
+        _ => unreachable!(),
+    }
+}
+
+// The judgement where both goals were lost: their report is true.
+fn lost(alloc: Global, tree: &Tree<'_>) -> Result<Judgement, OutOfMemory>
+    requires question { IsOnTermination tree.now }
+    requires lost { IsVerdict tree.now (Some Verdict.Maybe) }
+    ensures is_true { IfOk result (IsTrueJudgement tree.now.system tree.now.budget) }
+    ensures serial { IfOk result (IsSerialJudgement tree.now.system tree.now.budget) }
+{
+    let _report = tree.report(alloc)?;
+    Ok(Judgement::Open)
+}

@@ -1,0 +1,45 @@
+ghost use Rattle.std.specs.Prelude.{◌≡◌, ◌≤◌, ◌++◌, IfOk, OnOk};
+ghost use Rattle.sampling.specs.Line.{IsSampleLine, judgement_word, line_of};
+
+use crate::{Judgement, judge};
+use dp_core::dependency_pairs;
+use sample_family::sample_system;
+use std::alloc::Global;
+use text_reading::{put, put_number};
+use trs_core::{OutOfMemory, Trs};
+
+/// The line of the sample system of a number, which is judged by searches within a budget:
+/// `rules <rules> pairs <dependency pairs> <proved, refuted or open>`, with a line feed.
+pub fn sample_line(alloc: Global, size: u32, budget: u64) -> Result<Vec<u8>, OutOfMemory>
+    requires { (1 ≤ size) × (size ≤ 512) }
+    ensures { IfOk result (λ line. IsSampleLine size budget line.items) }
+{
+    let sample = sample_system(alloc, size)?;
+    let judgement = judge(alloc, sample.trs(), budget)?;
+    line_of(alloc, sample.trs(), judgement)
+}
+
+// The line of a system.
+fn line_of(alloc: Global, trs: &Trs, judgement: Judgement) -> Result<Vec<u8>, OutOfMemory>
+    ensures { IfOk result (λ line. line.items ≡ line_of trs.now judgement) }
+{
+    let pairs = dependency_pairs(alloc, trs)?;
+    let mut line = Vec::new(alloc);
+    put(&mut line, b"rules ")?;
+    put_number(&mut line, trs.rules().len() as u64)?;
+    put(&mut line, b" pairs ")?;
+    put_number(&mut line, pairs.len() as u64)?;
+    put(&mut line, word_of(judgement))?;
+    Ok(line)
+}
+
+// How the line ends.
+fn word_of(judgement: Judgement) -> &'static [u8]
+    ensures { result.now ≡ judgement_word judgement }
+{
+    match judgement {
+        Judgement::Proved => b" proved\n",
+        Judgement::Refuted => b" refuted\n",
+        Judgement::Open => b" open\n",
+    }
+}

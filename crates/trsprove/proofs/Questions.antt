@@ -1,0 +1,109 @@
+-- Questions about a system: what is answered, and that it is the only answer.
+use Rattle.std.proofs.Common.{◌≡◌, ◌≢◌, ◌≤◌, ◌⊎◌, inl, inr, ℕ, List, length, Option, Some, refl, sym, subst}
+use Rattle.io_edge.specs.Shelf.{ShelfMeaning, Told, MayBe, MayPass, CountsRise, IsUntouched}
+use Rattle.io_edge.specs.declared.fault.FetchFault.{FetchFault}
+use Rattle.io_edge.specs.declared.fault.FetchFault.TheVariants as fetch
+use Rattle.io_edge.proofs.Counting.{same_or_not}
+use Rattle.ari_text.proofs.OneSystem.{no_refusal}
+use Rattle.command_line.specs.Request.{Asked, certifies, proves}
+use Rattle.command_line.specs.declared.Question.{Question}
+use Rattle.trsprove.specs.declared.status.Status.{Status}
+use Rattle.trsprove.specs.declared.status.Status.TheVariants as status
+use Rattle.trsprove.specs.Conclusions.{IsConclusion, no_system, concluded}
+use Rattle.trsprove.specs.Output.{Output, usage, too_long, decided, answered, sampled, IsAsked, IsNeeded, as_problem, as_certificate, as_question, IsWithin, IsTooLong, WasFetched, IsAnswer, IsOr, AnswersOnly, TouchesOnlyNeeded, most_problem_bytes}
+use Rattle.trsprove.specs.Answers.{IsUnfetched}
+use Rattle.trsprove.proofs.Answering.{told_is, not_long, too_long_within}
+
+-- ---- what is answered
+
+answer_of : (request : Option Asked) (before now : ShelfMeaning) (question : Question) (budget : ℕ) (v : List ℕ) (s : Status) (text : List ℕ) → IsConclusion v question budget s text
+    → Output request (MayBe before) s text → IsAnswer request before now s text
+answer_of request before now question budget v s text (no_system fault h m) o = o
+answer_of request before now question budget v s text (concluded named says c alone) o = o
+
+-- the answer for a text of the problem
+pub fetched_conclusion : (question : Question) (p : List ℕ) (workers budget : ℕ) (v : List ℕ) (before now : ShelfMeaning) (s : Status) (text : List ℕ) → MayBe before p v
+    → length v ≤ most_problem_bytes → IsConclusion v question budget s text → IsAnswer (Some (proves question p workers budget)) before now s text
+fetched_conclusion question p workers budget v before now s text may_be size h =
+    answer_of (Some (proves question p workers budget)) before now question budget v s text h
+    (answered question budget v (record { name = p; workers = workers; asked = refl; name_under = may_be; size = size }) h)
+
+-- ---- one conclusion for a text
+
+pub one_conclusion : (problem : List ℕ) (question : Question) (budget : ℕ) (s other : Status) (text defined : List ℕ) → IsConclusion problem question budget s text
+    → IsConclusion problem question budget other defined → IsOr other s
+one_conclusion problem question budget s other text defined (no_system f h m) (no_system g k n) = refl
+one_conclusion problem question budget s other text defined (no_system f h m) (concluded named says c alone) = absurd (m (no_refusal problem named f says h))
+one_conclusion problem question budget s other text defined (concluded named says c alone) (no_system g k n) = absurd (n (no_refusal problem named g says k))
+one_conclusion problem question budget s other text defined (concluded named says c alone) (concluded system told d serial) = refl
+
+-- ---- texts that are told
+
+-- one question is asked, about one name, within one budget
+record IsSameQuestion (question other : Question) (p q : List ℕ) (budget limit : ℕ) : Type 0 where
+  questions : question ≡ other
+  problems : p ≡ q
+  budgets : budget ≡ limit
+
+same_question : (question other : Question) (p q : List ℕ) (workers hands budget limit : ℕ) → Some (proves question p workers budget) ≡ Some (proves other q hands limit)
+    → IsSameQuestion question other p q budget limit
+same_question question other p q workers hands budget limit e =
+    let same : proves question p workers budget ≡ proves other q hands limit = cc in record { questions = cc; problems = cc; budgets = cc }
+
+module _ (shelf : ShelfMeaning) (question : Question) (p : List ℕ) (workers budget : ℕ) where
+  abbrev Request : Option Asked
+  Request = Some (proves question p workers budget)
+
+  same_of : (other : Question) (limit : ℕ) (problem : List ℕ) → (f : IsAsked Request other limit (Told shelf) problem) → IsSameQuestion question other p f.name budget limit
+  same_of other limit problem f = same_question question other p f.name workers f.workers budget limit f.asked
+
+  told_of : (other : Question) (limit : ℕ) (problem : List ℕ) → IsAsked Request other limit (Told shelf) problem → Told shelf p problem
+  told_of other limit problem f = subst (λ q. Told shelf q problem) (sym (same_of other limit problem f).problems) f.name_under
+
+  -- where the text is too long, no other answer is defined
+  too_long_only : MayPass most_problem_bytes shelf p → AnswersOnly Request shelf status.TooLong
+  too_long_only h s text (usage none) = absurd cc
+  too_long_only h s text (too_long name limit needed long) = refl
+  too_long_only h s text (decided wanted problem certificate f verdict) = let asks : Some (proves question p workers budget) ≡ Some (certifies wanted f.problem_name f.certificate_name) = f.asked in absurd cc
+  too_long_only h s text (sampled size hands bound asks line) = absurd cc
+  too_long_only h s text (answered other limit problem f conclusion) = absurd (not_long most_problem_bytes shelf p problem (told_of other limit problem f) f.size h)
+
+  -- where the text could not be fetched
+  pub not_fetched_only : (fault : FetchFault) (s : Status) (text : List ℕ) → IsUnfetched fault p s text → (fault ≡ fetch.TooLong → MayPass most_problem_bytes shelf p)
+      → AnswersOnly Request shelf s
+  not_fetched_only fetch.TooLong s text (e, is) passes = subst (AnswersOnly Request shelf) (sym e) (too_long_only (passes refl))
+  not_fetched_only fetch.Failed s text (e, is) passes = subst (AnswersOnly Request shelf) (sym e) (λ other defined o. tt)
+  not_fetched_only fetch.OutOfMemory s text h passes = absurd h
+
+  module _ (v : List ℕ) (may_be : MayBe shelf p v) (size : length v ≤ most_problem_bytes) where
+    not_too_long : (name : List ℕ) (limit : ℕ) → IsNeeded Request (IsWithin most_problem_bytes (Told shelf)) name limit → IsTooLong limit (Told shelf) name → ⊥
+    not_too_long name limit (as_problem wanted q d e) long = absurd cc
+    not_too_long name limit (as_certificate wanted q d e within) long = absurd cc
+    not_too_long name limit (as_question other q hands bound e) long =
+        too_long_within most_problem_bytes shelf p v may_be size
+        (subst (λ z. IsTooLong most_problem_bytes (Told shelf) z) (sym (same_question question other p q workers hands budget bound e).problems) long)
+
+    -- the conclusion for the text is the defined one
+    pub conclusion_only : (s : Status) (text : List ℕ) → IsConclusion v question budget s text → AnswersOnly Request shelf s
+    conclusion_only s text h other defined (usage none) = absurd cc
+    conclusion_only s text h other defined (too_long name limit needed long) = absurd (not_too_long name limit needed long)
+    conclusion_only s text h other defined (decided wanted problem certificate f verdict) = let asks : Some (proves question p workers budget) ≡ Some (certifies wanted f.problem_name f.certificate_name) = f.asked in absurd cc
+    conclusion_only s text h other defined (sampled size hands bound asks line) = absurd cc
+    conclusion_only s text h other defined (answered asked limit problem f found) =
+        let same = same_of asked limit problem f in
+        let is : v ≡ problem = told_is shelf p v problem may_be (told_of asked limit problem f) in
+        one_conclusion v question budget s other text defined h
+        (subst (λ z. IsConclusion z question budget other defined) (sym is) (subst (λ b. IsConclusion problem question b other defined) (sym same.budgets)
+        (subst (λ q. IsConclusion problem q limit other defined) (sym same.questions) found)))
+
+-- ---- names that are touched
+
+pub touched_problem : (question : Question) (p : List ℕ) (workers budget : ℕ) (before now : ShelfMeaning) → CountsRise before.faults now.faults p → CountsRise before.bytes now.bytes p
+    → TouchesOnlyNeeded (Some (proves question p workers budget)) before now
+touched_problem question p workers budget before now faults bytes name = go (same_or_not name p)
+  where
+    go : (name ≡ p) ⊎ (name ≢ p) → IsUntouched before now name ⊎ ((limit : ℕ) × IsNeeded (Some (proves question p workers budget)) (WasFetched before now) name limit)
+    go (inl e) =
+        inr (subst (λ n. (limit : ℕ) × IsNeeded (Some (proves question p workers budget)) (WasFetched before now) n limit) (sym e)
+        (most_problem_bytes, as_question question p workers budget refl))
+    go (inr ne) = inl (faults.others name ne, bytes.others name ne)

@@ -1,0 +1,10 @@
+//! Workers on a proof tree: they claim tasks, run them and post what was answered, until a verdict
+//! stands.
+#![tactic(auto)]
+
+mod alone;
+mod finished;
+mod turn;
+
+pub use alone::prove_alone;
+pub use finished::Finished;
