@@ -1,0 +1,3 @@
+pub mod SampleNames
+pub mod SampleRules
+pub mod SampleSystems
