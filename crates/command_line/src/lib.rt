@@ -1,7 +1,8 @@
 //! The words of the command line.
 //!
 //! `trsprove <action> <problem> [certificate] [--workers N] [--budget B]` is one simple `clap`
-//! command without subcommands, help or version flags.
+//! command without subcommands, help or version flags. The action `sample` has a size, a number,
+//! in place of a problem.
 #![tactic(auto)]
 
 ghost use Rattle.std.specs.Prelude.{◌≡◌, ◌≤◌, IfOk, IfSome, map, option_map};
@@ -43,6 +44,8 @@ pub enum Action {
     Certify(Wanted),
     /// It looks for a proof or a refutation.
     Prove(Question),
+    /// It looks for a proof about a sample system, which no text says.
+    Sample,
 }
 
 /// What the words ask for. There are 1 to 16 workers, and a budget is from 1 to 1,000,000.
@@ -58,6 +61,12 @@ pub enum Request<'a> {
     Prove {
         question: Question,
         problem: &'a str,
+        workers: u32,
+        budget: u64,
+    },
+    /// To look for a proof about the sample system of a size, from 1 to 512.
+    Sample {
+        size: u32,
         workers: u32,
         budget: u64,
     },
@@ -120,6 +129,8 @@ const MOST_BUDGET: u64 = 1_000_000;
 /// The budget where the option is left out.
 const BUDGET: u64 = 20_000;
 
+const MOST_SIZE: u64 = 512;
+
 // A whole number from 1 to a limit.
 #[tactic(auto, using(numerals::proofs::Limits::numeral_within))]
 fn positive(text: &str, limit: u64) -> Option<u64>
@@ -162,12 +173,14 @@ fn action_of(word: &str) -> Option<Action>
         Some(Action::Prove(Question::Confluence))
     } else if word == "unique" {
         Some(Action::Prove(Question::Unique))
+    } else if word == "sample" {
+        Some(Action::Sample)
     } else {
         None
     }
 }
 
-// What an action asks for with a problem, and a certificate if there is one.
+// What an action asks for with a problem, or the size of a sample, and a certificate if there is one.
 fn requested<'a>(
     action: Action,
     problem: &'a str,
@@ -193,6 +206,14 @@ fn requested<'a>(
             workers,
             budget,
         }),
+        (Action::Sample, None) => {
+            let size = positive(problem, MOST_SIZE)?;
+            Some(Request::Sample {
+                size: size as u32,
+                workers,
+                budget,
+            })
+        }
         _ => None,
     }
 }
@@ -213,9 +234,10 @@ fn request_from<'a>(matches: &ArgMatches<'a>) -> Option<Request<'a>>
 
 /// What the words ask for, the program's name left out. `Usage` comes exactly where they ask for
 /// nothing: where `clap`'s rules for the simple command refuse them; the action is none of
-/// `certify`, `upgrade`, `termination`, `confluence` and `unique`; the first two have no
-/// certificate, or another has one; or `--workers` is not from 1 to 16, or `--budget` not from 1 to
-/// 1,000,000. A certificate is judged with no look at the two numbers.
+/// `certify`, `upgrade`, `termination`, `confluence`, `unique` and `sample`; the first two have no
+/// certificate, or another has one; the second word of `sample` is no size from 1 to 512; or
+/// `--workers` is not from 1 to 16, or `--budget` not from 1 to 1,000,000. A certificate is judged
+/// with no look at the two numbers.
 pub fn parse<'a>(alloc: Global, words: &'a [&'a str]) -> Result<Request<'a>, Refused>
     ensures answer { Answers result (request_of (map (λ w. w.now) words.now)) }
     ensures range { IfOk result IsInRange }
