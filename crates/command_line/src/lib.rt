@@ -180,7 +180,7 @@ fn action_of(word: &str) -> Option<Action>
     }
 }
 
-// What an action asks for with a problem, or the size of a sample, and a certificate if there is one.
+// What an action asks for with a problem, or a size of samples, and a certificate if there is one.
 fn requested<'a>(
     action: Action,
     problem: &'a str,
