@@ -25,7 +25,7 @@ few_repeat (p ∷ q ∷ ps) lt = absurd (omega (arith, lt))
 -- ---- weights
 
 weight_append : (ps qs : List Steps) → paths_weight (ps ++ qs) ≡ paths_weight ps + paths_weight qs
-weight_append [] qs = refl
+weight_append [] qs = omega arith
 weight_append (p ∷ ps) qs = let e = weight_append ps qs in omega (arith, e)
 
 weight_kept : (f : Steps → Bool) (ps : List Steps) → paths_weight (filter f ps) ≤ paths_weight ps
