@@ -39,6 +39,7 @@ pub(crate) fn meet(
 }
 
 /// What a path makes of its start: nothing, where it has no step. So it costs nothing there.
+#[inline(always)]
 pub(crate) fn run(
     alloc: Global,
     trs: &Trs,

@@ -15,6 +15,9 @@ use rewrite_core::PathStep;
 use std::alloc::Global;
 use trs_core::OutOfMemory;
 
+/// The bytes for which room is made for each step of a path, so that few texts outgrow it.
+const ROOM_FOR_A_STEP: usize = 24;
+
 /// The paths of at least one step that occur in a list, and those that occur more than once.
 #[derive(Drop)]
 pub struct SeenPaths<'p> {
@@ -30,6 +33,9 @@ pub fn repeated_paths<'p>(
 ) -> Result<PathNames<'p>, OutOfMemory>
     ensures { IfOk result (λ names. names ≡ repeated (map (λ p. p.now) paths.now)) }
 {
+    if paths.len() < 2 {
+        return Ok(PathNames::new(alloc));
+    }
     let seen = seen_paths(alloc, paths)?;
     let mut names = PathNames::new(alloc);
     for k in 0..seen.known.len() {
@@ -134,7 +140,7 @@ fn path_text(alloc: Global, path: &[PathStep]) -> Result<Vec<u8>, OutOfMemory>
     ensures text { IfOk result (λ text. text.items ≡ text_of_path path.now) }
     ensures range { IfOk result (λ _. AllByRecursion IsPlacedInRange path.now) }
 {
-    let mut text = Vec::new(alloc);
+    let mut text = Vec::with_capacity(alloc, path.len().saturating_mul(ROOM_FOR_A_STEP))?;
     put_plain_path(&mut text, path)?;
     Ok(text)
 }
@@ -148,6 +154,9 @@ pub fn fits_printed(alloc: Global, paths: &[&[PathStep]]) -> Result<bool, OutOfM
     let Some(room) = room_behind_paths(MOST_WEIGHT, paths) else {
         return Ok(false);
     };
+    if MOST_WEIGHT / 2 <= room {
+        return Ok(true);
+    }
     let names = repeated_paths(alloc, paths)?;
     Ok(room_behind_names(room, &names).is_some())
 }

@@ -54,7 +54,7 @@ fn read_each(
     ensures left { IfOk result (λ r. IfOk r (λ v.
         sharing.new ≡ behind_paths sharing.old (paths_in paths_of_two v.items))) }
 {
-    let mut joins = Vec::new(alloc);
+    let mut joins = Vec::with_capacity(alloc, items.len())?;
     for item in items {
         match read_two(alloc, sharing, word, item)? {
             Ok(join) => joins.push(join)?,
@@ -65,6 +65,7 @@ fn read_each(
 }
 
 /// Two paths behind a word.
+#[inline(always)]
 fn read_two(
     alloc: Global,
     sharing: &mut Option<Shared>,

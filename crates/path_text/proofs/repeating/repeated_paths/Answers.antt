@@ -1,10 +1,16 @@
 use Rattle.std.proofs.Common.{◌≡◌, ◌≤◌, nat_lt, Bool, List, is_some, length, take, map, sym, ap, ◌∙◌, arith}
 use Rattle.std.specs.Prelude.{filter}
-use Rattle.std.proofs.lemmas.List.{take_all}
+use Rattle.std.proofs.lemmas.List.{take_all, length-map}
 use Rattle.trs_defs.specs.Path.{PlacedRule}
 use Rattle.path_text.specs.PathNames.{path_number, occurrences}
+use Rattle.path_text.proofs.FewPaths.{few_repeat}
 use Rattle.path_text.proofs.SeenPaths.{kept_more, kept_is, filter_none}
 use Rattle.path_text.proofs.repeating.repeated_paths.Goals as goal
+
+pub returns-then-paths-lt2 : goal.returns-then-paths-lt2
+returns-then-paths-lt2 c =
+    let same = length-map c.args.paths.now (λ p. p.now) in
+    c.new.ensures ∙ sym (few_repeat (map (λ p. p.now) c.args.paths.now) (omega (arith, same, c.if-paths-lt2.true)))
 
 pub keep_path-requires-clause-new : goal.keep_path-requires-clause-new
 keep_path-requires-clause-new c =
