@@ -1,6 +1,5 @@
 -- A closure that is extended, and those that are added.
-use Rattle.std.specs.Option.{option_map}
-use Rattle.std.proofs.Common.{◌≡◌, ℕ, ◌+◌, ◌<◌, ◌≤◌, All, List, [], ◌∷◌, ◌++◌, length, map, get_or, Option, None, Some, refl, ap, sym, ◌∙◌, subst, zero, suc, arith, slice_get, length-append}
+use Rattle.std.proofs.Common.{◌≡◌, ℕ, ◌+◌, ◌<◌, ◌≤◌, All, List, [], ◌∷◌, ◌++◌, length, map, get_or, Some, refl, ap, sym, ◌∙◌, subst, zero, suc, arith, slice_get, length-append}
 use Rattle.std.proofs.lemmas.Option.{same_Some, slice_get_within, get_or_from_slice_get}
 use Rattle.trs_defs.specs.Tree.{Tree, app}
 use Rattle.trs_defs.specs.System.{RewriteRule}
@@ -14,11 +13,10 @@ use Rattle.crit_pairs.specs.Apart.{renamed_apart, AreApart}
 use Rattle.crit_pairs.specs.PeakList.{symbol_places}
 use Rattle.crit_pairs.proofs.SpotWalk.{part_below}
 use Rattle.loop_find.proofs.Tried.{from_the_root}
-use Rattle.loop_find.specs.Closures.{Closure, Attempt, IsNarrowing, IsNarrowed, IsSmall, attempts_of}
-use Rattle.loop_find.specs.LoopRow.{LoopsNot}
+use Rattle.loop_find.specs.Closures.{Closure, IsNarrowing, IsNarrowed, IsSmall, attempts_of}
 use Rattle.loop_find.specs.Links.{closures_of, path_to, path_of_found, IsFit, IsLink, IsSound}
 use Rattle.loop_find.specs.Narrowed.{NarrowsTo, NarrowsNot}
-use Rattle.loop_find.specs.Tries.{IsFoundOf, Ends}
+use Rattle.loop_find.specs.Tries.{Ends}
 use Rattle.loop_find.specs.Trials.{IsTrial, IsPart, ShowsLoop, Extended}
 use Rattle.loop_find.specs.declared.closures.Closures.{Closures}
 use Rattle.loop_find.specs.declared.tokens.SideTokens.{SideTokens}

@@ -1,6 +1,6 @@
 -- Terms and their tokens.
 use Rattle.std.specs.Prelude.{slice_range}
-use Rattle.std.proofs.Common.{◌≡◌, ℕ, ◌+◌, ◌-◌, ◌<◌, ◌≤◌, min, List, [], ◌∷◌, ◌++◌, map, reverse, length, take, drop, get_or, Some, IsTrue, refl, ap, sym, ◌∙◌, subst, zero, suc, arith, length-append, length-drop, append_assoc, append-nil}
+use Rattle.std.proofs.Common.{◌≡◌, ℕ, ◌+◌, ◌-◌, ◌<◌, ◌≤◌, List, [], ◌∷◌, ◌++◌, map, reverse, length, take, drop, get_or, refl, ap, sym, ◌∙◌, zero, suc, arith, length-append, length-drop, append_assoc, append-nil}
 use Rattle.std.proofs.lemmas.List.{take_at, drop_at, drop-append-le, reverse-append, reverse-reverse, length-reverse, length-map, take-append-drop, take-map, drop-map, drop_all, map_push}
 use Rattle.trs_defs.specs.Tree.{Tree, Trees, var, app, nil, cons, trees, items, count}
 use Rattle.trs_defs.specs.Size.{size_of, size_of_all}
@@ -9,8 +9,8 @@ use Rattle.trs_defs.proofs.ArgumentLists.{cell, count_apply_all}
 use Rattle.trs_core.specs.declared.terms.Term.{Term}
 use Rattle.trs_core.specs.View.{tree, forest}
 use Rattle.loop_find.specs.declared.tokens.Token.{Token}
-use Rattle.loop_find.specs.declared.tokens.Token.TheVariants.{Var, App}
-use Rattle.loop_find.specs.Flat.{tokens_of, tokens_of_all, terms_with, terms_of, first_term, term_of, image, images}
+use Rattle.loop_find.specs.declared.tokens.Token.TheVariants.{App}
+use Rattle.loop_find.specs.Flat.{tokens_of, tokens_of_all, terms_with, terms_of, first_term, term_of, images}
 use Rattle.loop_find.specs.Links.{term_from, StandsFrom}
 
 -- ---- what tokens say

@@ -1,14 +1,13 @@
 -- The closures of links.
 use Rattle.std.specs.Prelude.{reverse, slice_range}
-use Rattle.std.proofs.Common.{◌≡◌, ℕ, ◌+◌, ◌-◌, ◌<◌, ◌≤◌, take, drop, List, [], ◌∷◌, ◌++◌, length, Option, None, Some, refl, ap, sym, ◌∙◌, subst, zero, suc, arith, slice_get, get_or, length-append, length-drop, append_assoc, append-nil, inl, inr}
+use Rattle.std.proofs.Common.{◌≡◌, ℕ, ◌+◌, ◌-◌, ◌<◌, ◌≤◌, drop, List, [], ◌∷◌, ◌++◌, length, Option, None, Some, refl, ap, sym, ◌∙◌, subst, zero, suc, arith, slice_get, get_or, length-append, length-drop, append_assoc, append-nil, inl, inr}
 use Rattle.std.proofs.lemmas.Option.{same_Some, slice_get_within, slice_get_read}
 use Rattle.std.proofs.lemmas.List.{reverse-append, length-take}
 use Rattle.trs_defs.specs.Tree.{Tree}
 use Rattle.trs_defs.specs.Path.{PlacedRule}
 use Rattle.term_pool.proofs.PoolTrees.{item_of_more}
-use Rattle.loop_find.specs.Flat.{tokens_of, term_of, AreTokensOf}
+use Rattle.loop_find.specs.Flat.{tokens_of, term_of}
 use Rattle.loop_find.specs.declared.tokens.Token.{Token}
-use Rattle.loop_find.specs.declared.tokens.SideTokens.{SideTokens}
 use Rattle.loop_find.proofs.FlatTerms.{said_alone, term_there, part_there, stands_within, stands_still, stands_last}
 use Rattle.loop_find.specs.Closures.{Closure}
 use Rattle.loop_find.specs.Links.{path_of_found, path_to, term_from, StandsFrom, link_closure, closures_after, closures_of, IsFit, IsLink, IsSound}

@@ -4,7 +4,7 @@ use Rattle.trs_defs.specs.Tree.{Tree}
 use Rattle.trs_defs.specs.System.{RewriteRule}
 use Rattle.trs_defs.specs.Path.{PlacedRule, Follows}
 use Rattle.loop_find.specs.Closures.{Closure}
-use Rattle.loop_find.specs.LoopRow.{Recurs, RecursFirst, LoopsAt, LoopsNot, IsLoopOf}
+use Rattle.loop_find.specs.LoopRow.{Recurs, RecursFirst, LoopsNot, IsLoopOf}
 use Rattle.loop_find.specs.Instances.{LeadsFirst}
 
 same_recurs_first : (pattern t : Tree) (p q : List ℕ) → p ≡ q → RecursFirst pattern t p → RecursFirst pattern t q

@@ -1,12 +1,11 @@
 -- Narrowing with one most general unifier, beside that with any other one.
-use Rattle.std.specs.Prelude.{◌||◌, ◌==◌, if◌then◌else◌, MatchOption}
+use Rattle.std.specs.Prelude.{◌||◌, if◌then◌else◌, MatchOption}
 use Rattle.std.proofs.Common.{◌≡◌, ℕ, ◌+◌, ◌<◌, ◌≤◌, inl, inr, Bool, true, false, List, [], ◌∷◌, ◌++◌, length, Option, Some, None, IsTrue, refl, ap, sym, ◌∙◌, subst, arith, slice_get, length-append}
-use native.Mathlib.Decide.{dec_le}
 use Rattle.std.proofs.lemmas.Option.{same_Some, slice_get-get_or}
 use Rattle.std.specs.BTreeMap.{BTreeMap}
 use Rattle.trs_defs.specs.Tree.{Tree, Trees, var, app, nil, cons}
 use Rattle.trs_defs.specs.Variable.{has_var, is_listed, with_variables, with_variables_of_all}
-use Rattle.trs_defs.specs.Size.{size_of, size_of_all, depth_of}
+use Rattle.trs_defs.specs.Size.{size_of, size_of_all}
 use Rattle.trs_defs.specs.Substitution.{apply, apply_all}
 use Rattle.trs_defs.specs.Position.{subterm_at, replaced_at}
 use Rattle.trs_defs.specs.Renaming.{shifted}
@@ -30,7 +29,7 @@ use Rattle.loop_find.specs.Written.{put_in, IsOneToOne}
 use Rattle.loop_find.specs.declared.tokens.SideTokens.{SideTokens}
 use Rattle.loop_find.specs.declared.closures.Sides.{Sides}
 use Rattle.loop_find.proofs.FlatTerms.{count_tokens}
-use Rattle.loop_find.proofs.Renumbering.{one_tree, still_named, still_below, as_many_named}
+use Rattle.loop_find.proofs.Renumbering.{one_tree, still_named, still_below}
 use Rattle.loop_find.proofs.Ways.{put_replaced}
 
 -- ---- sizes

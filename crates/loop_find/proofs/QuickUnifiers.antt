@@ -1,12 +1,11 @@
 -- Bindings that are found at once, and the most general unifier that they say.
 use Rattle.std.specs.Option.{option_map}
-use Rattle.std.specs.Prelude.{◌==◌, ◌||◌, if◌then◌else◌, IfSome, IfOk, Result, Ok, Err}
+use Rattle.std.specs.Prelude.{◌==◌, if◌then◌else◌, IfSome, IfOk, Result, Ok, Err}
 use Rattle.trs_core.specs.declared.memory.OutOfMemory.{OutOfMemory}
 use Rattle.trs_core.specs.View.{forest}
 use Rattle.std.specs.Borrow.{Bor}
 use Rattle.trs_core.specs.declared.terms.Term.{Term}
-use Rattle.std.proofs.Common.{◌≡◌, ◌≢◌, ℕ, ◌+◌, ◌<◌, ◌≤◌, ◌⊎◌, inl, inr, Bool, true, false, List, [], ◌∷◌, ◌++◌, length, drop, get_or, Option, Some, None, IsTrue, refl, ap, sym, ◌∙◌, subst, zero, suc, arith, slice_get}
-use Rattle.std.proofs.Math.Decide.{ℕ_discrete}
+use Rattle.std.proofs.Common.{◌≡◌, ℕ, ◌+◌, ◌<◌, ◌≤◌, ◌⊎◌, inl, inr, Bool, true, false, List, [], ◌∷◌, ◌++◌, length, drop, get_or, Option, Some, None, IsTrue, refl, ap, sym, ◌∙◌, subst, zero, suc, arith, slice_get}
 use native.Mathlib.Decide.{dec_lt}
 use Rattle.std.proofs.lemmas.Bool.{eqb-true, eq-eqb}
 use Rattle.std.proofs.lemmas.Option.{same_Some}

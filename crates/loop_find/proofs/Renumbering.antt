@@ -1,7 +1,5 @@
 -- Tokens with new numbers, one part after another, and the terms that they are.
-use Rattle.std.specs.Prelude.{◌||◌, ◌==◌}
-use Rattle.std.proofs.Common.{◌≡◌, ◌≢◌, ℕ, ◌+◌, ◌-◌, ◌<◌, ◌≤◌, ◌⊎◌, inl, inr, Bool, true, false, List, [], ◌∷◌, ◌++◌, length, drop, get_or, Option, Some, None, IsTrue, refl, ap, sym, ◌∙◌, subst, zero, suc, arith, length-append, append_assoc, append-nil}
-use Rattle.std.proofs.Math.Decide.{ℕ_discrete}
+use Rattle.std.proofs.Common.{◌≡◌, ◌≢◌, ℕ, ◌+◌, ◌<◌, ◌≤◌, inl, inr, true, List, [], ◌∷◌, ◌++◌, length, get_or, IsTrue, refl, ap, sym, ◌∙◌, subst, arith, length-append, append_assoc, append-nil}
 use Rattle.std.proofs.Math.ListN.{get_or-append}
 use Rattle.std.proofs.Math.Seq.{get_or-append_seam}
 use native.Mathlib.Decide.{dec_lt}
@@ -13,7 +11,7 @@ use Rattle.trs_unify.specs.Renamed.{old_name}
 use Rattle.loop_find.specs.declared.tokens.Token.{Token}
 use Rattle.loop_find.specs.declared.tokens.Token.TheVariants.{Var, App}
 use Rattle.loop_find.specs.Flat.{tokens_of, tokens_of_all}
-use Rattle.loop_find.specs.Written.{renamed, AreBelow, IsOneToOne, Named, IsWritten, Writes, WritesSymbol}
+use Rattle.loop_find.specs.Written.{renamed, AreBelow, IsOneToOne, Named, IsWritten, WritesSymbol}
 
 renamed_both : (names : List ℕ) (us vs : List Token) → renamed names (us ++ vs) ≡ renamed names us ++ renamed names vs
 renamed_both names [] vs = refl

@@ -1,14 +1,13 @@
 -- Walks over the tokens of terms.
 use Rattle.std.specs.Option.{option_and_then}
-use Rattle.std.proofs.Common.{◌≡◌, ℕ, ◌+◌, ◌-◌, ◌<◌, ◌≤◌, min, List, [], ◌∷◌, ◌++◌, map, reverse, length, take, drop, get_or, Option, Some, None, refl, ap, sym, ◌∙◌, subst, zero, suc, arith, slice_get, length-append, length-drop, append_assoc, append-nil}
-use Rattle.std.proofs.lemmas.List.{drop_at, drop_all, drop-append-le, drop-drop, reverse-append, reverse-reverse, map-append, append_cancel_left}
+use Rattle.std.proofs.Common.{◌≡◌, ℕ, ◌+◌, ◌-◌, ◌<◌, ◌≤◌, min, List, [], ◌∷◌, ◌++◌, reverse, length, drop, get_or, Option, Some, None, refl, ap, sym, ◌∙◌, zero, suc, arith, slice_get, length-append, length-drop, append_assoc, append-nil}
+use Rattle.std.proofs.lemmas.List.{drop_at, drop_all, drop-append-le, drop-drop, reverse-append, reverse-reverse}
 use Rattle.trs_defs.specs.Tree.{Tree, Trees, var, app, nil, cons, items, count}
-use Rattle.trs_defs.specs.Substitution.{apply, apply_all, IsInstance}
-use Rattle.trs_defs.specs.Position.{argument_at, subterm_at}
+use Rattle.trs_defs.specs.Position.{subterm_at}
 use Rattle.trs_defs.proofs.ArgumentLists.{cell}
 use Rattle.loop_find.specs.declared.tokens.Token.{Token}
 use Rattle.loop_find.specs.declared.tokens.Token.TheVariants.{Var, App}
-use Rattle.loop_find.specs.Flat.{tokens_of, tokens_of_all, terms_with, terms_of, first_term, term_of, image, images, arguments}
+use Rattle.loop_find.specs.Flat.{tokens_of, tokens_of_all, first_term, image, images, arguments}
 use Rattle.loop_find.specs.LoopRow.{Recurs}
 use Rattle.loop_find.proofs.FlatTerms.{some_token, count_le_tokens, instance_tokens}
 

@@ -1,18 +1,16 @@
 -- Terms with another one at a place, argument by argument.
 use Rattle.std.specs.Option.{option_and_then, option_map}
 use Rattle.std.specs.Prelude.{◌==◌, if◌then◌else◌, slice_set}
-use Rattle.std.proofs.Common.{◌≡◌, ◌≢◌, ℕ, ◌+◌, ◌-◌, ◌<◌, ◌≤◌, Bool, true, false, List, [], ◌∷◌, ◌++◌, length, drop, get_or, Option, Some, None, refl, ap, sym, ◌∙◌, subst, zero, suc, arith, slice_get}
-use Rattle.std.proofs.Math.Decide.{ℕ_discrete}
+use Rattle.std.proofs.Common.{◌≡◌, ℕ, ◌+◌, ◌-◌, ◌<◌, ◌≤◌, Bool, true, false, List, [], ◌∷◌, ◌++◌, length, drop, get_or, Option, Some, None, refl, ap, sym, ◌∙◌, zero, suc, arith, slice_get}
 use Rattle.std.proofs.lemmas.Bool.{eqb-true, eq-eqb}
 use Rattle.std.proofs.lemmas.Option.{same_Some}
 use Rattle.std.proofs.lemmas.List.{drop_all}
-use Rattle.trs_defs.specs.Tree.{Tree, Trees, var, app, nil, cons, trees, items, items_trees, trees_items, count}
+use Rattle.trs_defs.specs.Tree.{Tree, Trees, var, app, nil, cons, trees, items, trees_items, count}
 use Rattle.trs_defs.specs.Substitution.{apply, apply_all}
-use Rattle.trs_defs.specs.Position.{argument_at, subterm_at, with_argument, replaced_at}
+use Rattle.trs_defs.specs.Position.{with_argument, replaced_at}
 use Rattle.trs_defs.proofs.ArgumentLists.{cell, count_apply_all}
 use Rattle.trs_core.specs.declared.terms.Term.{Term}
 use Rattle.trs_core.specs.View.{tree, forest}
-use Rattle.loop_find.specs.declared.tokens.Token.{Token}
 use Rattle.loop_find.specs.Flat.{tokens_of, tokens_of_all}
 use Rattle.loop_find.specs.Written.{put_in, put_into, put_way, way_into}
 

@@ -1,5 +1,5 @@
 -- Terms as lists of tokens, in preorder: each symbol comes with the number of its arguments, which follow.
-use Rattle.std.specs.Prelude.{◌≡◌, ℕ, ◌+◌, List, [], ◌∷◌, ◌++◌, take, drop, length}
+use Rattle.std.specs.Prelude.{◌≡◌, ℕ, List, [], ◌∷◌, ◌++◌, take, drop}
 use Rattle.trs_defs.specs.Tree.{Tree, Trees, var, app, nil, cons, trees, count}
 use Rattle.loop_find.specs.declared.tokens.Token.{Token}
 use Rattle.loop_find.specs.declared.tokens.Token.TheVariants.{Var, App}

@@ -1,7 +1,6 @@
 -- What narrowing gives.
-use Rattle.std.specs.Prelude.{◌≡◌, ◌<◌, ◌≤◌, ◌⊎◌, List, [], ℕ, length, Some}
+use Rattle.std.specs.Prelude.{◌<◌, ◌≤◌, ◌⊎◌, List, [], ℕ, length}
 use Rattle.trs_defs.specs.Tree.{Tree}
-use Rattle.trs_defs.specs.Size.{size_of}
 use Rattle.trs_defs.specs.Substitution.{apply}
 use Rattle.trs_defs.specs.System.{RewriteRule}
 use Rattle.trs_core.specs.SystemLimits.{HasSmallVariables}

@@ -1,4 +1,4 @@
-use Rattle.std.proofs.Common.{◌≡◌, ◌<◌, ◌≤◌, length, arith, ap}
+use Rattle.std.proofs.Common.{◌≡◌, arith, ap}
 use Rattle.std.proofs.lemmas.List.{drop_all}
 use Rattle.trs_defs.specs.Tree.{app, trees}
 use Rattle.trs_defs.proofs.ArgumentLists.{cell}

@@ -1,6 +1,4 @@
-use Rattle.std.proofs.Common.{◌≡◌, ◌-◌, length, arith, refl}
-use Rattle.trs_core.specs.declared.terms.Term.TheVariants as term
-use Rattle.trs_core.specs.View.{tree}
+use Rattle.std.proofs.Common.{arith, refl}
 use Rattle.loop_find.proofs.FlatTerms.{symbol_put}
 use Rattle.loop_find.proofs.decoding.put_before.Goals as goal
 

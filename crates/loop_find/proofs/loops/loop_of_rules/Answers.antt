@@ -1,14 +1,11 @@
-use Rattle.std.proofs.Common.{◌≡◌, ◌≤◌, ◌∷◌, ◌++◌, [], Some, slice_get, length, arith, ap, refl, sym, ◌∙◌, subst}
+use Rattle.std.proofs.Common.{◌≡◌, ◌∷◌, ◌++◌, [], Some, slice_get, length, arith, ap, refl, sym, ◌∙◌, subst}
 use Rattle.std.proofs.lemmas.Option.{slice_get_read}
-use Rattle.trs_defs.specs.Size.{size_of}
 use Rattle.trs_defs.specs.System.{RewriteRule}
 use Rattle.trs_core.specs.View.{tree}
-use Rattle.term_pool.proofs.NarrowLaws.{narrow_of_well_formed}
 use Rattle.loop_find.specs.Closures.{rule_closure}
 use Rattle.loop_find.specs.Links.{closures_of, IsFit, IsSound}
-use Rattle.loop_find.specs.declared.closures.Closures.{Closures}
-use Rattle.loop_find.proofs.LoopSteps.{rule_nodes, rule_fit}
-use Rattle.loop_find.proofs.Walked.{no_rules, one_more_rule, rule_at_end, rule_there, rule_sides, rule_loops, all_rules, closure_of_rule}
+use Rattle.loop_find.proofs.LoopSteps.{rule_fit}
+use Rattle.loop_find.proofs.Walked.{no_rules, one_more_rule, rule_at_end, rule_there, rule_loops, all_rules, closure_of_rule}
 use Rattle.loop_find.proofs.loops.loop_of_rules.Goals.{After-new, In_ok-add}
 use Rattle.loop_find.proofs.loops.loop_of_rules.Goals as goal
 

@@ -1,4 +1,4 @@
-use Rattle.std.proofs.Common.{◌≤◌, length, arith, refl}
+use Rattle.std.proofs.Common.{arith}
 use Rattle.loop_find.proofs.TokenWalks.{one_ahead, goes_ahead, ends_at_last, none_ahead, read_same}
 use Rattle.loop_find.proofs.recurring.behind.Goals as goal
 

@@ -1,4 +1,4 @@
-use Rattle.std.proofs.Common.{arith, refl, get_or}
+use Rattle.std.proofs.Common.{get_or}
 use Rattle.loop_find.proofs.TokenWalks.{no_image, symbol_at, variable_at, read_same}
 use Rattle.loop_find.proofs.recurring.next_place.Goals as goal
 

@@ -1,5 +1,5 @@
-use Rattle.std.proofs.Common.{◌≡◌, ◌+◌, length, arith, ap, sym, ◌∙◌, refl}
-use Rattle.trs_defs.specs.Tree.{app, trees, count}
+use Rattle.std.proofs.Common.{◌≡◌, length, arith, ap, refl}
+use Rattle.trs_defs.specs.Tree.{app}
 use Rattle.trs_core.specs.View.{tree, forest}
 use Rattle.loop_find.proofs.FlatTerms.{count_forest, put_begins}
 use Rattle.loop_find.proofs.tokens.+put_tokens.Goals as goal

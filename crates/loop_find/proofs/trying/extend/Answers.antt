@@ -1,11 +1,9 @@
-use Rattle.std.proofs.Common.{◌≡◌, ◌≤◌, arith, refl, sym, subst, ◌∙◌}
-use Rattle.trs_core.specs.View.{tree}
-use Rattle.trs_defs.specs.Path.{PlacedRule}
+use Rattle.std.proofs.Common.{arith, refl, ◌∙◌}
 use Rattle.loop_find.specs.Links.{IsSound}
 use Rattle.loop_find.specs.Trials.{IsTrial}
 use Rattle.loop_find.specs.declared.trying.Turn.TheVariants as turn
 use Rattle.loop_find.proofs.LinkLists.{number_below}
-use Rattle.loop_find.proofs.Extensions.{sides_fit, right_narrow, rule_number, one_longer, sides_at_end, trial_on, extended, placed}
+use Rattle.loop_find.proofs.Extensions.{sides_fit, one_longer, trial_on, extended, placed}
 use Rattle.loop_find.proofs.trying.extend.Goals.{After-loop_of}
 use Rattle.loop_find.proofs.trying.extend.Goals as goal
 

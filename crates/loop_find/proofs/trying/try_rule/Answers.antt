@@ -1,6 +1,4 @@
-use Rattle.std.proofs.Common.{◌≡◌, ◌<◌, ◌≤◌, ◌+◌, ℕ, Some, slice_get, length, arith, refl, sym, subst, ◌∙◌}
-use Rattle.trs_core.specs.View.{tree}
-use Rattle.trs_defs.specs.System.{RewriteRule}
+use Rattle.std.proofs.Common.{◌+◌, arith, refl, sym, ◌∙◌}
 use Rattle.loop_find.specs.declared.closures.Closures.{Closures}
 use Rattle.loop_find.proofs.LinkLists.{item_somewhere}
 use Rattle.loop_find.proofs.Tried.{spent_at_once, attempt_left_out, attempt_given}

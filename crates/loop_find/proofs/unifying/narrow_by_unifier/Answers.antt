@@ -1,4 +1,4 @@
-use Rattle.std.proofs.Common.{◌≡◌, ◌≢◌, Option, Some, None, refl, sym, ◌∙◌}
+use Rattle.std.proofs.Common.{refl}
 use Rattle.trs_defs.specs.Substitution.{bound}
 use Rattle.trs_core.specs.View.{tree}
 use Rattle.loop_find.specs.declared.closures.Sides.{Sides}

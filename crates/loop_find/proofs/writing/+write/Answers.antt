@@ -1,11 +1,10 @@
-use Rattle.std.proofs.Common.{◌≡◌, ◌<◌, ℕ, length, arith, ap, sym, ◌∙◌, refl}
-use Rattle.trs_defs.specs.Tree.{Tree, app, trees, count}
+use Rattle.std.proofs.Common.{◌≡◌, ℕ, length, arith, ap, refl}
+use Rattle.trs_defs.specs.Tree.{Tree, app, trees}
 use Rattle.trs_defs.specs.Substitution.{apply, apply_all}
 use Rattle.trs_defs.proofs.ArgumentLists.{count_apply_all}
 use Rattle.trs_core.specs.View.{tree, forest}
 use Rattle.rewrite_core.proofs.RedexWalk.{applied}
 use Rattle.loop_find.specs.Bindings.{resolved}
-use Rattle.loop_find.specs.Flat.{tokens_of}
 use Rattle.loop_find.proofs.FlatTerms.{count_forest, symbol_first, symbol_too_many, next_written, none_written, smaller_instance}
 use Rattle.loop_find.proofs.Renumbering.{way_begins, way_goes_on, way_stops, way_ends}
 use Rattle.loop_find.proofs.writing.+write.Goals as goal

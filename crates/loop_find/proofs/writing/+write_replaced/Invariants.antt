@@ -1,4 +1,4 @@
-use Rattle.std.proofs.Common.{◌+◌, ◌-◌, drop}
+use Rattle.std.proofs.Common.{◌-◌, drop}
 use Rattle.std.specs.Option.{option_map}
 use Rattle.trs_defs.specs.Size.{size_of}
 use Rattle.trs_defs.specs.Substitution.{apply, apply_all}

@@ -1,4 +1,4 @@
-use Rattle.std.proofs.Common.{◌≡◌, ◌<◌, ◌∷◌, length, get_or, arith, ap, sym, ◌∙◌}
+use Rattle.std.proofs.Common.{◌∷◌, get_or, arith, ap, sym, ◌∙◌}
 use Rattle.loop_find.proofs.Ways.{first_and_rest}
 use Rattle.loop_find.proofs.writing.first_step.Goals as goal
 

@@ -1,4 +1,4 @@
-use Rattle.std.proofs.Common.{◌≡◌, ◌≢◌, ◌<◌, ℕ, get_or}
+use Rattle.std.proofs.Common.{◌≢◌, ◌<◌, ℕ, get_or}
 use Rattle.loop_find.proofs.writing.number_of.Given as goal
 
 abbrev pub invariant-loop-i : goal.invariant-loop-i

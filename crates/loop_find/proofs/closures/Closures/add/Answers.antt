@@ -1,6 +1,4 @@
-use Rattle.std.proofs.Common.{◌≡◌, ◌+◌, ◌++◌, length, arith, ap, sym, ◌∙◌, append_assoc, length-append}
-use Rattle.trs_defs.specs.Tree.{Tree}
-use Rattle.loop_find.specs.Flat.{tokens_of, AreTokensOf}
+use Rattle.std.proofs.Common.{length, arith, ap, ◌∙◌}
 use Rattle.loop_find.specs.declared.closures.Closures.{Closures}
 use Rattle.loop_find.proofs.LinkLists.{link_added, still_sound, tokens_added}
 use Rattle.loop_find.proofs.closures.Closures.add.Goals.{After-push}

@@ -1,4 +1,4 @@
-use Rattle.std.proofs.Common.{◌≡◌, ap, ◌∙◌}
+use Rattle.std.proofs.Common.{ap, ◌∙◌}
 use Rattle.trs_core.specs.View.{tree}
 use Rattle.loop_find.proofs.Recurrences.{leads_true, leads_false}
 use Rattle.loop_find.proofs.LoopsFound.{not_returning, not_running, loop_found}
