@@ -1,6 +1,5 @@
 -- A closure that is extended, and those that are added.
-use Rattle.std.specs.Option.{option_map}
-use Rattle.std.proofs.Common.{◌≡◌, ℕ, ◌+◌, ◌<◌, ◌≤◌, All, List, [], ◌∷◌, ◌++◌, length, map, get_or, Option, None, Some, refl, ap, sym, ◌∙◌, subst, zero, suc, arith, slice_get, length-append}
+use Rattle.std.proofs.Common.{◌≡◌, ℕ, ◌+◌, ◌<◌, ◌≤◌, All, List, [], ◌∷◌, ◌++◌, length, map, get_or, Some, refl, ap, sym, ◌∙◌, subst, zero, suc, arith, slice_get, length-append}
 use Rattle.std.proofs.lemmas.Option.{same_Some, slice_get_within, get_or_from_slice_get}
 use Rattle.trs_defs.specs.Tree.{Tree, app}
 use Rattle.trs_defs.specs.System.{RewriteRule}
@@ -14,14 +13,13 @@ use Rattle.crit_pairs.specs.Apart.{renamed_apart, AreApart}
 use Rattle.crit_pairs.specs.PeakList.{symbol_places}
 use Rattle.crit_pairs.proofs.SpotWalk.{part_below}
 use Rattle.loop_find.proofs.Tried.{from_the_root}
-use Rattle.loop_find.specs.Closures.{Closure, Attempt, IsNarrowing, IsNarrowed, IsSmall, attempts_of}
-use Rattle.loop_find.specs.LoopRow.{LoopsNot}
+use Rattle.loop_find.specs.Closures.{Closure, IsNarrowing, IsNarrowed, IsSmall, attempts_of}
 use Rattle.loop_find.specs.Links.{closures_of, path_to, path_of_found, IsFit, IsLink, IsSound}
 use Rattle.loop_find.specs.Narrowed.{NarrowsTo, NarrowsNot}
-use Rattle.loop_find.specs.Tries.{IsFoundOf, Ends}
+use Rattle.loop_find.specs.Tries.{Ends}
 use Rattle.loop_find.specs.Trials.{IsTrial, IsPart, ShowsLoop, Extended}
 use Rattle.loop_find.specs.declared.closures.Closures.{Closures}
-use Rattle.loop_find.specs.declared.narrowing.Sides.{Sides}
+use Rattle.loop_find.specs.declared.tokens.SideTokens.{SideTokens}
 use Rattle.loop_find.specs.declared.trying.Trial.{Trial}
 use Rattle.loop_find.specs.declared.trying.Turn.{Turn}
 use Rattle.loop_find.proofs.LinkLists.{item_after, old_item_of, length_of}
@@ -65,13 +63,13 @@ module _ (t : Trial) (k : Closures) (trial : IsTrial t k) where
       let sides = trial.sides c at in
       (none n.rule n.numbered).none new.left new.right (narrowing_from n.rule p (tree t.left.now) (tree t.right.now) c.left c.right new.left new.right sides.0 sides.1 n.narrowing) small.0 small.1
 
-  pub trial_counted : (new : Closures) → new.pool ≡ k.pool → new.links ≡ k.links → new.attempts ≡ k.attempts + 1 → k.attempts < t.budget → IsTrial t new
+  pub trial_counted : (new : Closures) → new.tokens ≡ k.tokens → new.links ≡ k.links → new.attempts ≡ k.attempts + 1 → k.attempts < t.budget → IsTrial t new
   trial_counted new a b counted h = record {
     system = trial.system;
     arities = trial.arities;
     few = trial.few;
     apart = trial.apart;
-    sound = record { each = λ i l e. subst (λ q. IsLink t.trs.now.arities q i l) (sym a) (trial.sound.each i l (subst (λ z. slice_get z.items i ≡ Some l) b e)) };
+    sound = record { each = λ i l e. subst (λ z. IsLink t.trs.now.arities z.items i l) (sym a) (trial.sound.each i l (subst (λ z. slice_get z.items i ≡ Some l) b e)) };
     there = subst (λ z. t.number < length z.items) (sym b) trial.there;
     sides = λ c e. trial.sides c (subst (λ cs. slice_get cs t.number ≡ Some c) (same_closures new a b) e);
     left_fit = trial.left_fit;
@@ -79,27 +77,27 @@ module _ (t : Trial) (k : Closures) (trial : IsTrial t k) where
     within = omega (arith, counted, h);
   }
     where
-      same_closures : (new : Closures) → new.pool ≡ k.pool → new.links ≡ k.links → closures_of new ≡ closures_of k
+      same_closures : (new : Closures) → new.tokens ≡ k.tokens → new.links ≡ k.links → closures_of new ≡ closures_of k
       same_closures new a b = cc (a, b)
 
-  module _ (p : List ℕ) (i : ℕ) (rule : RewriteRule) (numbered : slice_get t.trs.now.rules i ≡ Some rule) (s : Sides) (h : NarrowsTo rule p (tree t.left.now) (tree t.right.now) s) where
-    pub sides_fit : IsFit t.trs.now.arities (tree s.left) × IsFit t.trs.now.arities (tree s.right)
+  module _ (p : List ℕ) (i : ℕ) (rule : RewriteRule) (numbered : slice_get t.trs.now.rules i ≡ Some rule) (s : SideTokens) (h : NarrowsTo rule p (tree t.left.now) (tree t.right.now) s) where
+    pub sides_fit : IsFit t.trs.now.arities h.new_left × IsFit t.trs.now.arities h.new_right
     sides_fit =
         let r = trial.system.each i rule numbered in
-        let both = narrowing_well_formed t.trs.now.arities rule p (tree t.left.now) (tree t.right.now) (tree s.left) (tree s.right) h.narrowing r.left_well_formed r.right_well_formed
+        let both = narrowing_well_formed t.trs.now.arities rule p (tree t.left.now) (tree t.right.now) h.new_left h.new_right h.narrows.narrowing r.left_well_formed r.right_well_formed
         trial.left_fit.well_formed trial.right_fit.well_formed in
-        (record { well_formed = both.0; variables = h.left_variables }, record { well_formed = both.1; variables = h.right_variables })
+        (record { well_formed = both.0; variables = h.narrows.left_variables }, record { well_formed = both.1; variables = h.narrows.right_variables })
 
-    pub right_narrow : IsNarrow (tree s.right)
-    right_narrow = narrow_of_well_formed t.trs.now.arities trial.arities (tree s.right) sides_fit.1.well_formed
+    pub right_narrow : IsNarrow h.new_right
+    right_narrow = narrow_of_well_formed t.trs.now.arities trial.arities h.new_right sides_fit.1.well_formed
 
     pub rule_number : i ≤ 4095
     rule_number = let within = slice_get_within t.trs.now.rules i rule numbered in let few = trial.few in omega (arith, within, few)
 
     module _ (new : Closures) (step : PlacedRule) (step_is : step ≡ record { place = p; rule = i })
-        (added : closures_of new ≡ closures_of k ++ (record { left = tree s.left; right = tree s.right; path = path_to (closures_of k) (Some t.number) ++ step ∷ [] }) ∷ []) where
+        (added : closures_of new ≡ closures_of k ++ (record { left = h.new_left; right = h.new_right; path = path_to (closures_of k) (Some t.number) ++ step ∷ [] }) ∷ []) where
       abbrev extension : Closure
-      extension = record { left = tree s.left; right = tree s.right; path = path_to (closures_of k) (Some t.number) ++ step ∷ [] }
+      extension = record { left = h.new_left; right = h.new_right; path = path_to (closures_of k) (Some t.number) ++ step ∷ [] }
 
       at_end : (n : ℕ) → n ≡ length k.links.items → slice_get (closures_of new) n ≡ Some extension
       at_end n e =
@@ -109,7 +107,7 @@ module _ (t : Trial) (k : Closures) (trial : IsTrial t k) where
       pub one_longer : length new.links.items ≡ length k.links.items + 1
       one_longer = let e = ap length added in omega (arith, e, length-append (closures_of k) (extension ∷ []), length_of k, length_of new)
 
-      pub sides_at_end : (n : ℕ) → n ≡ length k.links.items → (c : Closure) → slice_get (closures_of new) n ≡ Some c → (tree s.left ≡ c.left) × (tree s.right ≡ c.right)
+      pub sides_at_end : (n : ℕ) → n ≡ length k.links.items → (c : Closure) → slice_get (closures_of new) n ≡ Some c → (h.new_left ≡ c.left) × (h.new_right ≡ c.right)
       sides_at_end n e c h =
           let same : extension ≡ c = same_Some extension c (sym (at_end n e) ∙ h) in
           (ap (λ (z : Closure). z.left) same, ap (λ (z : Closure). z.right) same)
@@ -135,7 +133,7 @@ module _ (t : Trial) (k : Closures) (trial : IsTrial t k) where
             record {
               rule = rule;
               numbered = numbered;
-              narrowing = narrowing_to rule p (tree t.left.now) (tree t.right.now) c.left c.right (tree s.left) (tree s.right) sides.0 sides.1 h.narrowing;
+              narrowing = narrowing_to rule p (tree t.left.now) (tree t.right.now) c.left c.right h.new_left h.new_right sides.0 sides.1 h.narrows.narrowing;
               path = ap (λ o. path_of_found o ++ step ∷ []) at ∙ ap (λ z. c.path ++ z ∷ []) step_is;
             }
 
@@ -145,7 +143,7 @@ module _ (t : Trial) (k : Closures) (trial : IsTrial t k) where
         extended n e last same counted turn shows = record {
           closure = extension;
           narrowed = narrowed;
-          small = (h.left_small, h.right_small);
+          small = (h.narrows.left_small, h.narrows.right_small);
           longer = ap closures_of same ∙ added;
           counted = ap (λ (z : Closures). z.attempts) same ∙ counted;
           shows = shows extension (at_end n e);

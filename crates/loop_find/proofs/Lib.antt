@@ -1,3 +1,8 @@
+pub mod FlatTerms
+pub mod Renumbering
+pub mod QuickUnifiers
+pub mod Ways
+pub mod TokenWalks
 pub mod Narrowings
 pub mod WellFormedSides
 pub mod LinkLists

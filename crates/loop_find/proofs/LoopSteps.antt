@@ -1,9 +1,8 @@
 -- What is found is a loop as a step of a proof has it.
-use Rattle.std.proofs.Common.{◌≡◌, ◌≢◌, ℕ, ◌+◌, ◌<◌, ◌≤◌, ◌⊎◌, inl, inr, All, List, [], ◌∷◌, ◌++◌, length, get_or, Some, IsTrue, refl, ap, sym, ◌∙◌, subst, zero, suc, arith, slice_get, length-append}
+use Rattle.std.proofs.Common.{◌≡◌, ◌≢◌, ℕ, ◌+◌, ◌<◌, ◌≤◌, inl, inr, All, List, [], ◌∷◌, ◌++◌, length, Some, IsTrue, refl, ap, sym, ◌∙◌, subst, zero, suc, arith, slice_get, length-append}
 use Rattle.std.proofs.lemmas.Option.{slice_get_within, get_or_from_slice_get}
 use Rattle.trs_defs.specs.Member.{In, in_first, in_rest}
-use Rattle.trs_defs.specs.Tree.{Tree}
-use Rattle.trs_defs.specs.Size.{size_of, depth_of, within_limits}
+use Rattle.trs_defs.specs.Size.{size_of, within_limits}
 use Rattle.trs_defs.specs.WellFormed.{IsWellFormed}
 use Rattle.trs_defs.specs.System.{RewriteRule, System, IsSystem}
 use Rattle.trs_defs.specs.Path.{PlacedRule}
@@ -17,8 +16,7 @@ use Rattle.crit_pairs.specs.PeakList.{symbol_places}
 use Rattle.loop_find.specs.Closures.{Closure, Attempt, Give, no_attempt, gives, left_out, rule_closure, rule_closures, attempts_at, attempts_of, attempts_in, IsNarrowed, IsSmall, IsClosureList}
 use Rattle.crit_pairs.proofs.SpotWalk.{small_of}
 use Rattle.loop_find.specs.Links.{IsFit}
-use Rattle.loop_find.specs.LoopRow.{FindsLoop}
-use Rattle.loop_find.specs.Laws.{IsLoopStep, FoundLoopsAreLoops}
+use Rattle.loop_find.specs.Laws.{FoundLoopsAreLoops}
 use Rattle.loop_find.proofs.WellFormedSides.{narrowing_well_formed}
 
 -- ---- where closures come from

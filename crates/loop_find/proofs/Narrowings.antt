@@ -1,12 +1,11 @@
 -- Narrowing with one most general unifier, beside that with any other one.
-use Rattle.std.specs.Prelude.{◌||◌, ◌==◌, if◌then◌else◌}
-use Rattle.std.proofs.Common.{◌≡◌, ℕ, ◌+◌, ◌<◌, ◌≤◌, inl, inr, Bool, true, false, List, [], ◌∷◌, ◌++◌, length, Some, IsTrue, refl, ap, sym, ◌∙◌, subst, arith, slice_get, length-append}
-use native.Mathlib.Decide.{dec_le}
+use Rattle.std.specs.Prelude.{◌||◌, if◌then◌else◌, MatchOption}
+use Rattle.std.proofs.Common.{◌≡◌, ℕ, ◌+◌, ◌<◌, ◌≤◌, inl, inr, Bool, true, false, List, [], ◌∷◌, ◌++◌, length, Option, Some, None, IsTrue, refl, ap, sym, ◌∙◌, subst, arith, slice_get, length-append}
 use Rattle.std.proofs.lemmas.Option.{same_Some, slice_get-get_or}
 use Rattle.std.specs.BTreeMap.{BTreeMap}
 use Rattle.trs_defs.specs.Tree.{Tree, Trees, var, app, nil, cons}
 use Rattle.trs_defs.specs.Variable.{has_var, is_listed, with_variables, with_variables_of_all}
-use Rattle.trs_defs.specs.Size.{size_of, size_of_all, depth_of}
+use Rattle.trs_defs.specs.Size.{size_of, size_of_all}
 use Rattle.trs_defs.specs.Substitution.{apply, apply_all}
 use Rattle.trs_defs.specs.Position.{subterm_at, replaced_at}
 use Rattle.trs_defs.specs.Renaming.{shifted}
@@ -14,7 +13,8 @@ use Rattle.trs_defs.specs.System.{RewriteRule}
 use Rattle.trs_defs.specs.Unifier.{IsMostGeneralUnifier}
 use Rattle.trs_defs.proofs.Substitutions.{apply_apply, same_instance}
 use Rattle.trs_defs.proofs.ArgumentLists.{depth_le_size}
-use Rattle.trs_defs.proofs.VariableLaws.{or_cases}
+use Rattle.trs_defs.proofs.VariableLaws.{or_cases, or_left, or_right}
+use Rattle.trs_defs.proofs.Contexts.{replaced_somehow}
 use Rattle.trs_core.specs.SystemLimits.{HasSmallVariables}
 use Rattle.trs_core.specs.View.{tree}
 use Rattle.trs_unify.specs.Renamed.{AreNames, old_name, first_numbers, IsRenamed}
@@ -23,8 +23,14 @@ use Rattle.confluence_theory.proofs.Apart.{glue, glue_low, apply_high, part_vari
 use Rattle.crit_pairs.specs.Apart.{renamed_apart}
 use Rattle.crit_pairs.proofs.InstanceVariables.{replaced_instance}
 use Rattle.loop_find.specs.Closures.{IsNarrowing, IsSmallSide}
-use Rattle.loop_find.specs.Narrowed.{NarrowsTo, NarrowsNot}
-use Rattle.loop_find.specs.declared.narrowing.Sides.{Sides}
+use Rattle.loop_find.specs.Narrowed.{NarrowsToTrees, NarrowsTo, NarrowsNot, IsMade, IsLarge}
+use Rattle.loop_find.specs.Flat.{tokens_of}
+use Rattle.loop_find.specs.Written.{put_in, IsOneToOne}
+use Rattle.loop_find.specs.declared.tokens.SideTokens.{SideTokens}
+use Rattle.loop_find.specs.declared.closures.Sides.{Sides}
+use Rattle.loop_find.proofs.FlatTerms.{count_tokens}
+use Rattle.loop_find.proofs.Renumbering.{one_tree, still_named, still_below}
+use Rattle.loop_find.proofs.Ways.{put_replaced}
 
 -- ---- sizes
 
@@ -139,10 +145,36 @@ renamed_size old new t u r = sym (size_named (old_name new) u) ∙ ap size_of r.
 
 module _ (rule : RewriteRule) (place : List ℕ) (left right part : Tree) (there : subterm_at place right ≡ Some part)
     (left_low : HasSmallVariables left) (right_low : HasSmallVariables right) (m : ℕ → Tree) (most : IsMostGeneralUnifier part (shifted 65536 rule.left) m)
-    (result : Tree) (replaced : replaced_at place right (shifted 65536 rule.right) ≡ Some result)
-    (left_small : IsSmallSide (apply m left)) (right_small : IsSmallSide (apply m result)) where
+    (result : Tree) (replaced : replaced_at place right (shifted 65536 rule.right) ≡ Some result) where
+  -- with numbers for names of which none comes twice
+  pub narrows_with : (second : List ℕ) (l r : Tree) → IsOneToOne second → length second ≤ 512 → size_of l ≤ 256 → size_of r ≤ 256
+      → ((v : ℕ) → IsTrue (has_var v l || has_var v r) → v < length second)
+      → apply (λ v. var (old_name second v)) l ≡ apply m left → apply (λ v. var (old_name second v)) r ≡ apply m result → NarrowsToTrees rule place left right l r
+  narrows_with second l r one few left_few right_few below left_back right_back = record {
+    narrowing = record {
+      part = part;
+      there = there;
+      offset = 65536;
+      left_apart = left_low;
+      right_apart = right_low;
+      unifier = m;
+      most_general = most;
+      result = result;
+      replaced = replaced;
+      names = old_name second;
+      left_is = sym left_back;
+      right_is = sym right_back;
+      different = λ v w h k e. one v w (below v h) (below w k) e;
+    };
+    left_small = small_of_few l left_few;
+    right_small = small_of_few r right_few;
+    left_variables = λ v h. let low = below v (or_left (has_var v l) (has_var v r) h) in omega (arith, low, few);
+    right_variables = λ v h. let low = below v (or_right (has_var v l) (has_var v r) h) in omega (arith, low, few);
+  }
+
   module _ (first second : List ℕ) (s : Sides) (numbers : BTreeMap ℕ ℕ) (names : AreNames numbers second)
-      (left_named : IsRenamed [] first (apply m left) (tree s.left)) (right_named : IsRenamed first second (apply m result) (tree s.right)) where
+      (left_named : IsRenamed [] first (apply m left) (tree s.left)) (right_named : IsRenamed first second (apply m result) (tree s.right))
+      (left_small : IsSmallSide (apply m left)) (right_small : IsSmallSide (apply m result)) where
     left_few : size_of (tree s.left) ≤ 256
     left_few = let same = renamed_size [] first (apply m left) (tree s.left) left_named in let few = left_small.nodes in omega (arith, same, few)
 
@@ -164,33 +196,15 @@ module _ (rule : RewriteRule) (place : List ℕ) (left right part : Tree) (there
       | inr k ↦ right_named.inside v k
     ]
 
-    named : (v : ℕ) → IsTrue (has_var v (tree s.left) || has_var v (tree s.right)) → slice_get second v ≡ Some (old_name second v)
-    named v h = slice_get-get_or second v 0 (occurs_below v h)
+    one_to_one : IsOneToOne second
+    one_to_one i j h k e =
+        let a : slice_get second i ≡ Some (old_name second j) = slice_get-get_or second i 0 h ∙ ap (λ z. Some z) e in
+        same_Some i j (sym (names.one (old_name second j) i a) ∙ names.one (old_name second j) j (slice_get-get_or second j 0 k))
 
-    narrows_to : NarrowsTo rule place left right s
-    narrows_to = record {
-      narrowing = record {
-        part = part;
-        there = there;
-        offset = 65536;
-        left_apart = left_low;
-        right_apart = right_low;
-        unifier = m;
-        most_general = most;
-        result = result;
-        replaced = replaced;
-        names = old_name second;
-        left_is = sym (renamed_still [] first second right_named.more (apply m left) (tree s.left) right_named.grown left_named);
-        right_is = sym right_named.back;
-        different = λ v w h k e.
-            let a : slice_get second v ≡ Some (old_name second w) = named v h ∙ ap (λ z. Some z) e in
-            same_Some v w (sym (names.one (old_name second w) v a) ∙ names.one (old_name second w) w (named w k));
-      };
-      left_small = small_of_few (tree s.left) left_few;
-      right_small = small_of_few (tree s.right) right_few;
-      left_variables = λ v h. let low = left_named.inside v h in omega (arith, low, first_few);
-      right_variables = λ v h. let low = right_named.inside v h in omega (arith, low, second_few);
-    }
+    narrows_to : NarrowsToTrees rule place left right (tree s.left) (tree s.right)
+    narrows_to =
+        narrows_with second (tree s.left) (tree s.right) one_to_one second_few left_few right_few occurs_below
+        (renamed_still [] first second right_named.more (apply m left) (tree s.left) right_named.grown left_named) right_named.back
 
 -- ---- the same, as the code has it: the rule that is renamed apart is opened
 
@@ -221,7 +235,53 @@ module _ (al ar : Tree) (apart rule : RewriteRule) (view : ◌≡◌ {A = Rewrit
         right_large large = right_too_large rule place left right part there left_low right_low m general result put large
 
         pub narrowed : IsSmallSide (apply m left) → IsSmallSide (apply m result) → (none first second : List ℕ) → none ≡ [] → (s : Sides) (numbers : BTreeMap ℕ ℕ)
-            → AreNames numbers second → IsRenamed none first (apply m left) (tree s.left) → IsRenamed first second (apply m result) (tree s.right) → NarrowsTo rule place left right s
+            → AreNames numbers second → IsRenamed none first (apply m left) (tree s.left) → IsRenamed first second (apply m result) (tree s.right)
+            → NarrowsToTrees rule place left right (tree s.left) (tree s.right)
         narrowed a b none first second empty s numbers names x y =
-            narrows_to rule place left right part there left_low right_low m general result put a b first second s numbers names
-            (subst (λ z. IsRenamed z first (apply m left) (tree s.left)) empty x) y
+            narrows_to rule place left right part there left_low right_low m general result put first second s numbers names
+            (subst (λ z. IsRenamed z first (apply m left) (tree s.left)) empty x) y a b
+
+      -- ---- the sides that were written
+
+      made_result : (u : Tree) × (replaced_at place right ar ≡ Some u)
+      made_result = replaced_somehow place right part ar there
+
+      result_is : put_in right place ar ≡ made_result.0
+      result_is = put_replaced place right ar made_result.0 made_result.1
+
+      put_made : replaced_at place right (shifted 65536 rule.right) ≡ Some made_result.0
+      put_made = subst (λ z. replaced_at place right z ≡ Some made_result.0) right_opened made_result.1
+
+      pub made_narrows : (made : SideTokens) → IsMade m left right place ar made → NarrowsTo rule place left right made
+      made_narrows made h =
+          let few_first : length h.first ≤ length made.left.items = let f = h.left_named.few in omega (arith, f) in
+          let few_second : length h.second ≤ length h.first + length made.right.items = h.right_named.few in
+          let l = one_tree h.second (apply m left) made.left.items
+          (still_named [] h.first h.second (tokens_of (apply m left)) made.left.items (tokens_of (apply m (put_in right place ar))) made.right.items h.left_named h.right_named)
+          (still_below [] h.first h.second (tokens_of (apply m left)) made.left.items (tokens_of (apply m (put_in right place ar))) made.right.items h.left_named h.right_named) in
+          let r = one_tree h.second (apply m (put_in right place ar)) made.right.items h.right_named.back h.right_named.inside in
+          let a = h.left_few in
+          let b = h.right_few in
+          let size_l : size_of l.named ≡ length made.left.items = sym (count_tokens l.named) ∙ ap length (sym l.tokens) in
+          let size_r : size_of r.named ≡ length made.right.items = sym (count_tokens r.named) ∙ ap length (sym r.tokens) in
+          record {
+            new_left = l.named;
+            new_right = r.named;
+            tokens = record { left_is = l.tokens; right_is = r.tokens };
+            narrows = narrows_with rule place left right part there left_low right_low m general made_result.0 put_made h.second l.named r.named
+                (h.right_named.one (h.left_named.one (λ i j x. absurd (omega (arith, x))))) (omega (arith, few_first, few_second, a, b)) (omega (arith, size_l, a)) (omega (arith, size_r, b))
+                (λ v k. elim (or_cases (has_var v l.named) (has_var v r.named) k) as (λ _. v < length h.second) [ inl x ↦ l.inside v x | inr x ↦ r.inside v x ])
+                l.back (r.back ∙ ap (apply m) result_is);
+          }
+
+      pub made_large : IsLarge m left right place ar → NarrowsNot rule place left right
+      made_large h = elim h as (λ _. NarrowsNot rule place left right) [
+        | inl x ↦ left_large (λ k. let few = k.nodes in omega (arith, x, few, count_tokens (apply m left)))
+        | inr x ↦ right_large made_result.0 made_result.1
+            (λ k. let few = k.nodes in let same : size_of (apply m (put_in right place ar)) ≡ size_of (apply m made_result.0) = ap (λ z. size_of (apply m z)) result_is in
+            omega (arith, x, few, same, count_tokens (apply m (put_in right place ar))))
+      ]
+
+      pub made_answer : (o : Option SideTokens) → MatchOption o (IsLarge m left right place ar) (IsMade m left right place ar) → MatchOption o (NarrowsNot rule place left right) (NarrowsTo rule place left right)
+      made_answer None h = made_large h
+      made_answer (Some made) h = made_narrows made h

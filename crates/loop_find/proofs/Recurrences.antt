@@ -1,20 +1,18 @@
 -- The first instance of a pattern in a term.
-use Rattle.std.specs.Option.{option_and_then, option_map, is_some}
-use Rattle.std.specs.Prelude.{◌||◌}
-use Rattle.std.proofs.Common.{◌≡◌, ℕ, ◌+◌, ◌<◌, ◌≤◌, ◌⊎◌, inl, inr, Bool, true, false, All, List, [], ◌∷◌, ◌++◌, length, drop, get_or, Option, None, Some, IsTrue, refl, ap, sym, ◌∙◌, subst, zero, suc, arith, slice_get, append-nil, append_assoc, add-one}
-use Rattle.std.proofs.Math.Decide.{ℕ_discrete}
+use Rattle.std.specs.Option.{option_and_then, option_map}
+use Rattle.std.proofs.Common.{◌≡◌, ℕ, ◌+◌, ◌<◌, ◌≤◌, inl, inr, Bool, true, false, List, [], ◌∷◌, ◌++◌, length, get_or, Option, None, Some, refl, ap, sym, ◌∙◌, subst, zero, suc, arith, slice_get, append-nil, append_assoc}
 use native.Mathlib.Decide.{dec_lt}
-use Rattle.std.proofs.lemmas.Option.{same_Some, slice_get_within, slice_get_read}
-use Rattle.trs_defs.specs.Tree.{Tree, Trees, var, app, nil, cons, trees, items, count}
+use Rattle.std.proofs.lemmas.Option.{same_Some, slice_get_read}
+use Rattle.trs_defs.specs.Tree.{Tree, Trees, var, app, nil, cons, items, count}
 use Rattle.trs_defs.specs.Substitution.{apply, apply_all, IsInstance}
 use Rattle.trs_defs.specs.Position.{argument_at, subterm_at}
-use Rattle.trs_defs.proofs.ArgumentLists.{cell, count_trees, count_apply_all}
+use Rattle.trs_defs.proofs.ArgumentLists.{count_apply_all}
 use Rattle.trs_core.specs.declared.terms.Term.{Term}
 use Rattle.trs_core.specs.View.{tree, forest}
 use Rattle.trs_core.proofs.Lookups.{items_forest, slice_get_map}
 use Rattle.term_pool.specs.Redexes.{IsEarlier}
 use Rattle.loop_find.specs.LoopRow.{Recurs, RecursFirst}
-use Rattle.loop_find.specs.Instances.{LeadsFirst, LeadsNowhere, Leads}
+use Rattle.loop_find.specs.Instances.{Leads}
 
 -- ---- terms that differ in their symbols
 

@@ -1,7 +1,6 @@
 -- Attempts one part after another.
 use Rattle.std.proofs.Common.{◌≡◌, ℕ, ◌+◌, ◌<◌, ◌≤◌, inl, inr, List, [], ◌∷◌, ◌++◌, length, map, drop, get_or, Some, refl, ap, sym, ◌∙◌, subst, zero, suc, arith, slice_get, length-append, append_assoc, append-nil}
 use Rattle.std.proofs.lemmas.List.{drop_all, map-append}
-use Rattle.trs_defs.specs.Member.{In, in_first, in_rest}
 use Rattle.trs_defs.specs.Tree.{Tree, Trees, var, app}
 use Rattle.trs_defs.specs.System.{RewriteRule}
 use Rattle.trs_defs.proofs.ArgumentLists.{cell}
@@ -12,8 +11,8 @@ use Rattle.crit_pairs.specs.PeakList.{symbol_places, symbol_places_of_all}
 use Rattle.loop_find.specs.Closures.{Closure, Attempt, Give, no_attempt, gives, left_out, IsNarrowed, IsSmall, attempts_at, attempts_of}
 use Rattle.loop_find.specs.LoopRow.{LoopsNot, LoopNone}
 use Rattle.loop_find.specs.Links.{closures_of}
-use Rattle.loop_find.specs.Tries.{IsFoundOf, Tries, TriesTo, TriesAll, Ends}
-use Rattle.loop_find.specs.Trials.{ShowsLoop, Extended, one_attempt}
+use Rattle.loop_find.specs.Tries.{Tries, TriesAll, Ends}
+use Rattle.loop_find.specs.Trials.{Extended, one_attempt}
 use Rattle.loop_find.specs.declared.closures.Closures.{Closures}
 use Rattle.loop_find.specs.declared.trying.Turn.{Turn}
 use Rattle.loop_find.specs.declared.trying.Turn.TheVariants as turn

@@ -1,20 +1,19 @@
 -- The closures one after another: what the attempts at those before one leave.
-use Rattle.std.proofs.Common.{◌≡◌, ℕ, ◌+◌, ◌-◌, ◌<◌, ◌≤◌, inl, inr, List, [], ◌∷◌, ◌++◌, length, take, drop, get_or, Some, None, refl, ap, sym, ◌∙◌, subst, zero, suc, arith, slice_get, length-append, append_assoc, append-nil}
+use Rattle.std.proofs.Common.{◌≡◌, ℕ, ◌+◌, ◌-◌, ◌<◌, ◌≤◌, List, [], ◌∷◌, ◌++◌, length, drop, Some, refl, ap, sym, ◌∙◌, subst, zero, suc, arith, slice_get, length-append, append_assoc, append-nil}
 use Rattle.std.proofs.lemmas.Option.{same_Some, slice_get_within, get_or_from_slice_get}
 use Rattle.trs_defs.proofs.ArgumentLists.{cell}
-use Rattle.trs_defs.specs.Member.{In, in_first, in_rest}
 use Rattle.trs_defs.specs.Tree.{Tree}
 use Rattle.trs_defs.specs.System.{RewriteRule}
 use Rattle.trs_defs.proofs.Members.{each_of_both}
 use Rattle.trs_core.specs.View.{tree}
 use Rattle.crit_pairs.specs.PeakList.{symbol_places}
 use Rattle.loop_find.specs.Closures.{Closure, Attempt, Give, no_attempt, attempts_of, attempts_in, rule_closure, rule_closures, IsClosureList}
-use Rattle.loop_find.specs.LoopRow.{LoopsNot, LoopNone, FindsLoop, LoopNotThere, LoopSpent, IsLoopOf}
-use Rattle.loop_find.specs.Links.{closures_of, path_to}
+use Rattle.loop_find.specs.LoopRow.{LoopsNot, LoopNone, FindsLoop, LoopNotThere, LoopSpent}
+use Rattle.loop_find.specs.Links.{closures_of}
 use Rattle.loop_find.specs.Tries.{IsFoundOf, Tries, TriesTo, TriesAll}
 use Rattle.loop_find.specs.declared.closures.Closures.{Closures}
 use Rattle.loop_find.specs.declared.found.LoopFound.{LoopFound}
-use Rattle.loop_find.proofs.LinkLists.{item_after, kept_item, length_of}
+use Rattle.loop_find.proofs.LinkLists.{item_after, length_of}
 use Rattle.loop_find.proofs.Tried.{give_both, give_few, none_loops, one_loops_not}
 
 module _ (rules : List RewriteRule) where

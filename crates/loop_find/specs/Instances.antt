@@ -1,5 +1,5 @@
 -- Instances of a pattern in the arguments of a term, from the left.
-use Rattle.std.specs.Prelude.{◌≡◌, ◌<◌, ℕ, Bool, true, false, List, ◌∷◌, ◌++◌}
+use Rattle.std.specs.Prelude.{◌≡◌, ℕ, Bool, true, false, List, ◌++◌}
 use Rattle.trs_defs.specs.Tree.{Tree}
 use Rattle.loop_find.specs.LoopRow.{Recurs, RecursFirst}
 

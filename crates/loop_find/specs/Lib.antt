@@ -6,3 +6,6 @@ pub mod Tries
 pub mod Narrowed
 pub mod Instances
 pub mod Trials
+pub mod Flat
+pub mod Bindings
+pub mod Written

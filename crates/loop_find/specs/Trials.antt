@@ -8,16 +8,12 @@ use Rattle.term_pool.specs.Redexes.{IsNarrow}
 use Rattle.crit_pairs.specs.Apart.{AreApart}
 use Rattle.loop_find.specs.Closures.{Closure, Attempt, IsNarrowed, IsSmall}
 use Rattle.loop_find.specs.LoopRow.{LoopsNot}
-use Rattle.loop_find.specs.Links.{closures_of, IsFit, IsSound}
+use Rattle.loop_find.specs.Links.{closures_of, HasSmallArities, IsFit, IsSound}
 use Rattle.loop_find.specs.Tries.{IsFoundOf}
 use Rattle.loop_find.specs.declared.closures.Closures.{Closures}
 use Rattle.loop_find.specs.declared.trying.Trial.{Trial}
 use Rattle.loop_find.specs.declared.trying.Turn.{Turn}
 use Rattle.loop_find.specs.declared.trying.Turn.TheVariants.{Next, Found, Spent, Stopped}
-
--- the numbers of arguments are bytes
-abbrev pub HasSmallArities : List ℕ → Type 0
-HasSmallArities arities = (f n : ℕ) → slice_get arities f ≡ Some n → n < 256
 
 -- the closure of this number is there, with these sides, and the rules are renamed apart
 pub record IsTrial (t : Trial) (k : Closures) : Type 0 where

@@ -8,7 +8,7 @@ use trs_core::{OutOfMemory, Position, Rule};
 use trs_unify::rename_apart;
 
 /// The variables of rules and of closures have numbers below this one.
-const OFFSET: u32 = 65_536;
+pub(crate) const OFFSET: u32 = 65_536;
 
 /// Each rule, its variables renamed apart from those of all closures.
 pub(crate) fn renamed_rules(alloc: Global, rules: &[Rule]) -> Result<Vec<Rule>, OutOfMemory>

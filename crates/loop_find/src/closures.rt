@@ -1,40 +1,50 @@
-//! Closures as ids of a pool.
-ghost use Rattle.std.specs.Prelude.{◌≡◌, ◌<◌, ◌≤◌, ℕ, List, [], ◌∷◌, ◌++◌, Some, length, slice_get, IfOk, OnOk, MatchOption};
-ghost use Rattle.trs_defs.specs.Size.{size_of};
+//! Closures as tokens.
+ghost use Rattle.std.specs.Prelude.{◌≡◌, ◌<◌, ◌≤◌, ℕ, List, [], ◌∷◌, ◌++◌, Some, false, length, slice_get, IfOk, OnOk, MatchOption};
+ghost use Rattle.trs_defs.specs.Tree.{Tree};
 ghost use Rattle.trs_core.specs.View.{tree};
-ghost use Rattle.term_pool.specs.Pooled.{Extends, StandsFor};
 ghost use Rattle.term_pool.specs.Redexes.{IsNarrow};
 ghost use Rattle.loop_find.specs.Closures.{Closure};
-ghost use Rattle.loop_find.specs.LoopRow.{LoopsNot};
-ghost use Rattle.loop_find.specs.Links.{closures_of, path_to, IsFit, IsSound};
+ghost use Rattle.loop_find.specs.Flat.{AreTokensOf};
+ghost use Rattle.loop_find.specs.LoopRow.{LoopsNot, Recurs};
+ghost use Rattle.loop_find.specs.Links.{closures_of, path_to, HasSmallArities, IsFit, IsSound};
 ghost use Rattle.loop_find.specs.Tries.{IsFoundOf};
 
 use crate::apart::position;
+use crate::decoding::read_term;
 use crate::found::LoopFound;
 use crate::instances::first_instance;
-use crate::narrowing::Sides;
+use crate::recurring::may_recur;
 use crate::running::leads;
+use crate::tokens::{SideTokens, Token, part};
 use rewrite_core::PathStep;
 use std::alloc::Global;
-use term_pool::{MOST_IDS, Pool};
 use trs_core::{OutOfMemory, Term, Trs};
 
-/// A closure: the ids of its sides, the number of the closure that it extends, if it extends one,
-/// and the last step of its path.
+/// A closure: the places of the tokens of its sides, where the last ones end, the number of the
+/// closure that it extends, if it extends one, and the last step of its path.
 #[derive(Drop)]
 pub(crate) struct Link {
-    pub left: u32,
-    pub right: u32,
+    pub left: usize,
+    pub right: usize,
+    pub end: usize,
     pub before: Option<usize>,
     pub step: PathStep,
 }
 
-/// The closures so far, by their numbers from 0, and how many attempts were made.
+/// The closures so far, by their numbers from 0, with the tokens of their sides, and how many
+/// attempts were made.
 #[derive(Drop)]
 pub(crate) struct Closures {
-    pub pool: Pool,
+    pub tokens: Vec<Token>,
     pub links: Vec<Link>,
     pub attempts: u64,
+}
+
+/// The sides of a closure.
+#[derive(Drop)]
+pub(crate) struct Sides {
+    pub left: Term,
+    pub right: Term,
 }
 
 pub(crate) fn no_closures(alloc: Global) -> Closures
@@ -43,7 +53,7 @@ pub(crate) fn no_closures(alloc: Global) -> Closures
     ensures attempts { result.attempts ≡ 0 }
 {
     Closures {
-        pool: Pool::new(alloc),
+        tokens: Vec::new(alloc),
         links: Vec::new(alloc),
         attempts: 0,
     }
@@ -53,31 +63,32 @@ impl Closures {
     /// Adds a closure, whose path has one more step than that of the closure that it extends.
     pub fn add(
         &mut self,
-        alloc: Global,
-        left: &Term,
-        right: &Term,
+        sides: &SideTokens,
         before: Option<usize>,
         step: PathStep,
     ) -> Result<(), OutOfMemory>
         requires sound { (arities : List ℕ) × IsSound arities self.old }
-        requires left { size_of (tree left.now) ≤ 65536 }
-        requires right { size_of (tree right.now) ≤ 65536 }
         requires earlier { (b : ℕ) → before ≡ Some b → b < length self.old.links.items }
-        ensures added { OnOk result (closures_of self.new ≡ closures_of self.old ++ (record {
-          left = tree left.now;
-          right = tree right.now;
-          path = path_to (closures_of self.old) before ++ step ∷ [];
-        }) ∷ []) }
-        ensures sound { OnOk result ((arities : List ℕ) → IsSound arities self.old
-            → IsFit arities (tree left.now) → IsFit arities (tree right.now)
+        ensures added { OnOk result ((l r : Tree) → AreTokensOf sides.now l r
+            → closures_of self.new ≡ closures_of self.old ++ (record {
+              left = l;
+              right = r;
+              path = path_to (closures_of self.old) before ++ step ∷ [];
+            }) ∷ []) }
+        ensures sound { OnOk result ((arities : List ℕ) (l r : Tree) → AreTokensOf sides.now l r
+            → IsSound arities self.old → IsFit arities l → IsFit arities r
             → IsSound arities self.new) }
         ensures attempts { self.new.attempts ≡ self.old.attempts }
     {
-        let l = intern(alloc, &mut self.pool, left)?;
-        let r = intern(alloc, &mut self.pool, right)?;
+        let left = self.tokens.len();
+        self.tokens.extend_from_slice(&sides.left)?;
+        let right = self.tokens.len();
+        self.tokens.extend_from_slice(&sides.right)?;
+        let end = self.tokens.len();
         self.links.push(Link {
-            left: l,
-            right: r,
+            left,
+            right,
+            end,
             before,
             step,
         })?;
@@ -93,8 +104,8 @@ impl Closures {
             → (tree s.left ≡ c.left) × (tree s.right ≡ c.right)) }
     {
         let link = self.link_at(number);
-        let left = self.pool.read(alloc, link.left)?;
-        let right = self.pool.read(alloc, link.right)?;
+        let left = read_term(alloc, part(&self.tokens, link.left, link.right))?;
+        let right = read_term(alloc, part(&self.tokens, link.right, link.end))?;
         Ok(Sides { left, right })
     }
 
@@ -124,37 +135,68 @@ impl Closures {
         Ok(steps)
     }
 
-    /// The loop of the closure of this number, whose sides are given. The closures are as before,
-    /// and the pool too.
+    /// Whether the left side of the closure of this number may recur in its right side.
+    fn may_loop(&self, number: usize) -> bool
+        requires sound { (arities : List ℕ) × IsSound arities self.now }
+        requires there { number < length self.now.links.items }
+        ensures { result ≡ false → (c : Closure) (q : List ℕ)
+            → slice_get (closures_of self.now) number ≡ Some c → Recurs c.left c.right q → ⊥ }
+    {
+        let link = self.link_at(number);
+        may_recur(
+            part(&self.tokens, link.left, link.right),
+            part(&self.tokens, link.right, link.end),
+        )
+    }
+
+    /// The loop of the closure of this number, if it loops.
     pub fn loop_of(
-        &mut self,
+        &self,
         alloc: Global,
         trs: &Trs,
         number: usize,
-        left: &Term,
-        right: &Term,
     ) -> Result<Option<LoopFound>, OutOfMemory>
-        requires sound { (arities : List ℕ) × IsSound arities self.old }
-        requires there { number < length self.old.links.items }
-        requires narrow { IsNarrow (tree right.now) }
-        requires sides { (c : Closure) → slice_get (closures_of self.old) number ≡ Some c
-            → (tree left.now ≡ c.left) × (tree right.now ≡ c.right) }
-        ensures found { IfOk result (λ found. (c : Closure)
-            → slice_get (closures_of self.old) number ≡ Some c
+        requires sound { IsSound trs.now.arities self.now }
+        requires arities { HasSmallArities trs.now.arities }
+        requires there { number < length self.now.links.items }
+        ensures { IfOk result (λ found. (c : Closure)
+            → slice_get (closures_of self.now) number ≡ Some c
             → MatchOption found (LoopsNot trs.now.rules c) (IsFoundOf trs.now.rules c)) }
-        ensures same { OnOk result (self.new ≡ self.old) }
+    {
+        if !self.may_loop(number) {
+            return Ok(None);
+        }
+        let sides = self.sides(alloc, number)?;
+        let found = self.loop_through(alloc, trs, number, sides)?;
+        Ok(found)
+    }
+
+    /// The loop of the closure of this number, whose sides are given.
+    fn loop_through(
+        &self,
+        alloc: Global,
+        trs: &Trs,
+        number: usize,
+        sides: Sides,
+    ) -> Result<Option<LoopFound>, OutOfMemory>
+        requires sound { (arities : List ℕ) × IsSound arities self.now }
+        requires there { number < length self.now.links.items }
+        requires narrow { IsNarrow (tree sides.right) }
+        requires sides { (c : Closure) → slice_get (closures_of self.now) number ≡ Some c
+            → (tree sides.left ≡ c.left) × (tree sides.right ≡ c.right) }
+        ensures { IfOk result (λ found. (c : Closure)
+            → slice_get (closures_of self.now) number ≡ Some c
+            → MatchOption found (LoopsNot trs.now.rules c) (IsFoundOf trs.now.rules c)) }
     {
         let mut place = Vec::new(alloc);
-        if !first_instance(alloc, left, right, &mut place)? {
+        if !first_instance(alloc, &sides.left, &sides.right, &mut place)? {
             return Ok(None);
         }
         let path = self.path(alloc, number)?;
-        let link = self.link_at(number);
-        let ids = (link.left, link.right);
-        if !leads(alloc, &mut self.pool, trs, ids, &path)? {
+        if !leads(alloc, trs, &sides.left, &sides.right, &path)? {
             return Ok(None);
         }
-        let start = left.copy(alloc)?;
+        let start = sides.left.copy(alloc)?;
         let at = position(alloc, &place)?;
         Ok(Some(LoopFound {
             start,
@@ -162,16 +204,4 @@ impl Closures {
             place: at,
         }))
     }
-}
-
-/// The id of a term. A pool of `MOST_IDS` ids is full.
-fn intern(alloc: Global, pool: &mut Pool, t: &Term) -> Result<u32, OutOfMemory>
-    requires { size_of (tree t.now) ≤ 65536 }
-    ensures id { IfOk result (λ id. StandsFor pool.new id (tree t.now)) }
-    ensures kept { Extends pool.old pool.new }
-{
-    if pool.len() > MOST_IDS {
-        return Err(OutOfMemory);
-    }
-    pool.intern(alloc, t)
 }

@@ -4,15 +4,21 @@
 #![tactic(auto)]
 
 mod apart;
+mod binding;
 mod clashing;
 mod closures;
+mod decoding;
 mod found;
 mod instances;
 mod laws;
 mod loops;
 mod narrowing;
+mod recurring;
 mod running;
+mod tokens;
 mod trying;
+mod unifying;
+mod writing;
 
 pub use found::LoopFound;
 pub use laws::found_loops_are_loops;

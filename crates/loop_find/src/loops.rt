@@ -8,6 +8,7 @@ ghost use Rattle.loop_find.specs.Links.{closures_of, IsSound};
 use crate::apart::renamed_rules;
 use crate::closures::{Closures, no_closures};
 use crate::found::LoopFound;
+use crate::tokens::{SideTokens, term_tokens};
 use crate::trying::{Turn, expand, see_bytes};
 use assign_search::{Search, Stop};
 use rewrite_core::PathStep;
@@ -75,8 +76,12 @@ fn loop_of_rules(
             place: Position::new(alloc),
             rule: k as u32,
         };
-        closures.add(alloc, &rule.left, &rule.right, None, step)?;
-        if let Some(found) = closures.loop_of(alloc, trs, k, &rule.left, &rule.right)? {
+        let sides = SideTokens {
+            left: term_tokens(alloc, &rule.left)?,
+            right: term_tokens(alloc, &rule.right)?,
+        };
+        closures.add(&sides, None, step)?;
+        if let Some(found) = closures.loop_of(alloc, trs, k)? {
             return Ok(Some(found));
         }
     }

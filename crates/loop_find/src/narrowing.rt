@@ -1,32 +1,26 @@
 //! Narrowing: a rule is applied to a most general instance of a term.
-ghost use Rattle.std.specs.Prelude.{◌≡◌, ◌≢◌, ◌<◌, ◌↔◌, Some, None, All, IsTrue, IfOk, MatchOption};
-ghost use Rattle.trs_defs.specs.Position.{subterm_at, replaced_at};
-ghost use Rattle.trs_defs.specs.Substitution.{apply, bound};
+ghost use Rattle.std.specs.Prelude.{◌≡◌, ◌<◌, Some, All, IfOk, MatchOption};
+ghost use Rattle.trs_defs.specs.Position.{subterm_at};
 ghost use Rattle.trs_defs.specs.System.{RewriteRule};
 ghost use Rattle.trs_core.specs.SystemLimits.{HasSmallVariables};
 ghost use Rattle.trs_core.specs.View.{tree};
 ghost use Rattle.crit_pairs.specs.Apart.{renamed_apart};
-ghost use Rattle.loop_find.specs.Closures.{IsSmallSide};
-ghost use Rattle.loop_find.specs.Narrowed.{NarrowsTo, NarrowsNot};
+ghost use Rattle.loop_find.specs.Bindings.{resolved};
+ghost use Rattle.loop_find.specs.Flat.{AreTokensOf};
+ghost use Rattle.loop_find.specs.Narrowed.{NarrowsTo, NarrowsNot, IsMade, IsLarge};
 
-use crate::apart::position;
+use crate::binding::{Binding, quick_bindings};
 use crate::clashing::clash;
+use crate::closures::Sides;
+use crate::tokens::{SideTokens, term_tokens};
+use crate::unifying::narrow_by_unifier;
+use crate::writing::{write, write_replaced};
 use std::alloc::Global;
 use trs_core::{OutOfMemory, Rule, Term};
-use trs_unify::{Unifier, no_names, unify};
-
-/// The most nodes of a side of a new closure. Its depth is then below 1,024.
-const MOST_NODES: u64 = 256;
-
-/// The sides of a closure.
-#[derive(Drop)]
-pub(crate) struct Sides {
-    pub left: Term,
-    pub right: Term,
-}
 
 /// The sides of the closure that the rule, which is renamed apart, gives at a place of the right
-/// side, where `part` stands. `None` where there is none, or it would not be small.
+/// side, where `part` stands. `None` where there is none, or it would not be small. Where symbols
+/// differ, it takes no memory; and mostly only what it gives.
 pub(crate) fn narrow(
     alloc: Global,
     left: &Term,
@@ -34,7 +28,7 @@ pub(crate) fn narrow(
     part: &Term,
     place: &[u8],
     apart: &Rule,
-) -> Result<Option<Sides>, OutOfMemory>
+) -> Result<Option<SideTokens>, OutOfMemory>
     requires there { subterm_at place.now (tree right.now) ≡ Some (tree part.now) }
     requires positive { All (λ n. 0 < n) place.now }
     requires left { HasSmallVariables (tree left.now) }
@@ -47,47 +41,56 @@ pub(crate) fn narrow(
     if clash(part, &apart.left) {
         return Ok(None);
     }
-    let found = unify(alloc, part, &apart.left)?;
-    let Some(unifier) = found else {
-        return Ok(None);
-    };
-    if !is_small(&unifier, left) {
+    match quick_bindings(alloc, part, &apart.left)? {
+        Some(found) => {
+            let made = narrow_by(alloc, &found, left, right, place, &apart.right)?;
+            Ok(made)
+        }
+        None => match narrow_by_unifier(alloc, left, right, part, place, apart)? {
+            None => Ok(None),
+            Some(sides) => {
+                let tokens = side_tokens(alloc, &sides)?;
+                Ok(Some(tokens))
+            }
+        },
+    }
+}
+
+/// The sides under bindings, with the term put at the place of the right side.
+fn narrow_by(
+    alloc: Global,
+    found: &[Binding],
+    left: &Term,
+    right: &Term,
+    place: &[u8],
+    by: &Term,
+) -> Result<Option<SideTokens>, OutOfMemory>
+    ensures { IfOk result (λ made. MatchOption made
+        (IsLarge (resolved found.now 2) (tree left.now) (tree right.now) place.now (tree by.now))
+        (IsMade (resolved found.now 2) (tree left.now) (tree right.now) place.now (tree by.now))) }
+{
+    let mut names = Vec::new(alloc);
+    let mut new_left = Vec::with_capacity(alloc, 64)?;
+    if !write(found, 2, left, &mut names, &mut new_left)? {
         return Ok(None);
     }
-    let result = contracted(alloc, right, place, &apart.right)?;
-    if !is_small(&unifier, &result) {
+    let mut new_right = Vec::with_capacity(alloc, 64)?;
+    if !write_replaced(found, right, Some(place), by, &mut names, &mut new_right)? {
         return Ok(None);
     }
-    let mut names = no_names(alloc);
-    let new_left = unifier.renumbered(alloc, left, &mut names)?;
-    let new_right = unifier.renumbered(alloc, &result, &mut names)?;
-    Ok(Some(Sides {
+    Ok(Some(SideTokens {
         left: new_left,
         right: new_right,
     }))
 }
 
-/// Whether the instance of a term is small.
-fn is_small(unifier: &Unifier, t: &Term) -> bool
-    ensures { IsTrue result ↔ IsSmallSide (apply (bound unifier.now) (tree t.now)) }
+/// The tokens of both sides.
+fn side_tokens(alloc: Global, sides: &Sides) -> Result<SideTokens, OutOfMemory>
+    ensures { IfOk result (λ tokens.
+        AreTokensOf tokens (tree sides.now.left) (tree sides.now.right)) }
 {
-    match unifier.small_size(t) {
-        None => false,
-        Some(n) => n <= MOST_NODES,
-    }
-}
-
-/// The term with another one at the place.
-fn contracted(alloc: Global, right: &Term, place: &[u8], by: &Term) -> Result<Term, OutOfMemory>
-    requires there { subterm_at place.now (tree right.now) ≢ None }
-    requires positive { All (λ n. 0 < n) place.now }
-    ensures { IfOk result (λ u.
-        replaced_at place.now (tree right.now) (tree by.now) ≡ Some (tree u)) }
-{
-    if place.is_empty() {
-        return by.copy(alloc);
-    }
-    let mut result = right.copy(alloc)?;
-    result.put(&position(alloc, place)?, by.copy(alloc)?);
-    Ok(result)
+    Ok(SideTokens {
+        left: term_tokens(alloc, &sides.left)?,
+        right: term_tokens(alloc, &sides.right)?,
+    })
 }

@@ -1,45 +1,25 @@
-ghost use Rattle.std.specs.Prelude.{◌≡◌, ◌<◌, ◌↔◌, length, IsTrue, IfOk, OnOk};
+ghost use Rattle.std.specs.Prelude.{◌↔◌, IsTrue, IfOk};
 ghost use Rattle.trs_defs.specs.Path.{Follows};
-ghost use Rattle.term_pool.specs.Pooled.{AreDistinct, tree_at};
+ghost use Rattle.trs_core.specs.View.{tree};
 
-use rewrite_core::{PathFault, PathStep};
+use rewrite_core::{PathFault, PathStep, run_path};
 use std::alloc::Global;
-use term_pool::{MOST_ADDED, MOST_IDS, Pool};
-use trs_core::{OutOfMemory, Trs};
+use trs_core::{OutOfMemory, Term, Trs};
 
-/// Whether the path leads from one term to another, within the limits on computed terms. The pool
-/// is as before.
+/// Whether the path leads from one term to another, within the limits on computed terms.
 pub(crate) fn leads(
     alloc: Global,
-    pool: &mut Pool,
     trs: &Trs,
-    ids: (u32, u32),
+    from: &Term,
+    to: &Term,
     path: &[PathStep],
 ) -> Result<bool, OutOfMemory>
-    requires from { ids.0 < length pool.old }
-    requires to { ids.1 < length pool.old }
-    ensures leads { IfOk result (λ yes. IsTrue yes
-        ↔ Follows trs.now.rules path.now (tree_at pool.old ids.0) (tree_at pool.old ids.1)) }
-    ensures same { OnOk result (pool.new ≡ pool.old) }
+    ensures { IfOk result (λ yes. IsTrue yes
+        ↔ Follows trs.now.rules path.now (tree from.now) (tree to.now)) }
 {
-    if pool.len() > MOST_IDS - MOST_ADDED {
-        return Err(OutOfMemory);
-    }
-    let mark = pool.mark();
-    match pool.run_path(alloc, trs, ids.0, path) {
+    match run_path(alloc, trs, from, path) {
         Err(PathFault::OutOfMemory) => Err(OutOfMemory),
         Err(PathFault::At(_, _)) => Ok(false),
-        Ok(end) => {
-            ids_are_distinct(pool);
-            pool.release(mark);
-            Ok(end == ids.1)
-        }
+        Ok(end) => Ok(end.same(to)),
     }
-}
-
-/// Equal terms of a pool have one id.
-fn ids_are_distinct(pool: &Pool)
-    ensures { AreDistinct pool.now }
-{
-    let _ids = pool.len();
 }

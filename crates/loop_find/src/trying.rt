@@ -6,16 +6,17 @@ ghost use Rattle.trs_core.specs.View.{tree};
 ghost use Rattle.term_pool.specs.Redexes.{IsNarrow};
 ghost use Rattle.crit_pairs.specs.PeakList.{symbol_places};
 ghost use Rattle.loop_find.specs.Closures.{Closure, attempts_at, attempts_of};
-ghost use Rattle.loop_find.specs.Links.{closures_of, IsSound};
+ghost use Rattle.loop_find.specs.Links.{closures_of, HasSmallArities, IsSound};
 ghost use Rattle.loop_find.specs.Tries.{Ends};
 ghost use Rattle.crit_pairs.specs.Apart.{AreApart};
 ghost use Rattle.loop_find.specs.Narrowed.{NarrowsTo};
-ghost use Rattle.loop_find.specs.Trials.{IsTrial, IsPart, Extended, one_attempt, HasSmallArities};
+ghost use Rattle.loop_find.specs.Trials.{IsTrial, IsPart, Extended, one_attempt};
 
 use crate::apart::position;
 use crate::closures::Closures;
 use crate::found::LoopFound;
-use crate::narrowing::{Sides, narrow};
+use crate::narrowing::narrow;
+use crate::tokens::SideTokens;
 use assign_search::Stop;
 use rewrite_core::PathStep;
 use std::alloc::Global;
@@ -214,7 +215,7 @@ fn extend(
     trial: &Trial,
     place: &[u8],
     k: usize,
-    sides: &Sides,
+    sides: &SideTokens,
     closures: &mut Closures,
 ) -> Result<Turn, OutOfMemory>
     requires trial { IsTrial trial.now closures.old }
@@ -234,8 +235,8 @@ fn extend(
         rule: k as u32,
     };
     let number = closures.links.len();
-    closures.add(alloc, &sides.left, &sides.right, Some(trial.number), step)?;
-    match closures.loop_of(alloc, trial.trs, number, &sides.left, &sides.right)? {
+    closures.add(sides, Some(trial.number), step)?;
+    match closures.loop_of(alloc, trial.trs, number)? {
         None => Ok(Turn::Next),
         Some(found) => Ok(Turn::Found(found)),
     }

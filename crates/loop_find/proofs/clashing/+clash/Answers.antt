@@ -1,7 +1,7 @@
-use Rattle.std.proofs.Common.{◌≡◌, arith, ap, length, refl}
+use Rattle.std.proofs.Common.{arith, ap, length, refl}
 use Rattle.std.proofs.lemmas.Option.{slice_get_read}
-use Rattle.trs_defs.specs.Tree.{app, trees}
-use Rattle.trs_core.specs.View.{tree, forest}
+use Rattle.trs_defs.specs.Tree.{trees}
+use Rattle.trs_core.specs.View.{tree}
 use Rattle.rewrite_core.proofs.RedexWalk.{applied}
 use Rattle.loop_find.proofs.Recurrences.{other_root, other_argument}
 use Rattle.loop_find.proofs.clashing.+clash.Goals.{then-f-g-via-then-f-g, then-f-g-via-else-f-g+then-len}

@@ -1,8 +1,4 @@
-use Rattle.std.proofs.Common.{◌≡◌, ◌<◌, ◌≤◌, ◌∙◌, Some, slice_get, length, arith, refl, ap, subst, sym}
-use Rattle.trs_core.specs.View.{tree}
-use Rattle.loop_find.specs.Closures.{Closure}
-use Rattle.loop_find.specs.Links.{closures_of}
-use Rattle.loop_find.specs.declared.closures.Closures.{Closures}
+use Rattle.std.proofs.Common.{◌∙◌, arith, refl}
 use Rattle.loop_find.proofs.LinkLists.{closure_of_number}
 use Rattle.loop_find.proofs.Walked.{walk_begins, walks_on, found_here, spent_here, falls, not_there, just_spent}
 use Rattle.loop_find.proofs.loops.find_loop.Goals as goal

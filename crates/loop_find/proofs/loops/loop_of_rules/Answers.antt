@@ -1,14 +1,11 @@
-use Rattle.std.proofs.Common.{◌≡◌, ◌≤◌, ◌∷◌, ◌++◌, [], Some, slice_get, length, arith, ap, refl, sym, ◌∙◌, subst}
+use Rattle.std.proofs.Common.{◌≡◌, ◌∷◌, ◌++◌, [], Some, slice_get, length, arith, ap, refl, sym, ◌∙◌, subst}
 use Rattle.std.proofs.lemmas.Option.{slice_get_read}
-use Rattle.trs_defs.specs.Size.{size_of}
 use Rattle.trs_defs.specs.System.{RewriteRule}
 use Rattle.trs_core.specs.View.{tree}
-use Rattle.term_pool.proofs.NarrowLaws.{narrow_of_well_formed}
 use Rattle.loop_find.specs.Closures.{rule_closure}
 use Rattle.loop_find.specs.Links.{closures_of, IsFit, IsSound}
-use Rattle.loop_find.specs.declared.closures.Closures.{Closures}
-use Rattle.loop_find.proofs.LoopSteps.{rule_nodes, rule_fit}
-use Rattle.loop_find.proofs.Walked.{no_rules, one_more_rule, rule_at_end, rule_there, rule_sides, rule_loops, all_rules, closure_of_rule}
+use Rattle.loop_find.proofs.LoopSteps.{rule_fit}
+use Rattle.loop_find.proofs.Walked.{no_rules, one_more_rule, rule_at_end, rule_there, rule_loops, all_rules, closure_of_rule}
 use Rattle.loop_find.proofs.loops.loop_of_rules.Goals.{After-new, In_ok-add}
 use Rattle.loop_find.proofs.loops.loop_of_rules.Goals as goal
 
@@ -26,78 +23,52 @@ right_is c = ap (λ (r : RewriteRule). r.right) c.rule.view_is
 pub loop-k-init : goal.loop-k-init
 loop-k-init c = record { rules = no_rules c.args.trs.now.rules c.args.closures.now c.requires.none; sound = c.requires.sound; attempts = refl }
 
-pub add-requires-clause-left : goal.add-requires-clause-left
-add-requires-clause-left c =
-    let a = (goal.at.add-requires-clause-left c).After-new in
-    let few = rule_nodes c.args.trs.now c.rules-rule-items.ensures.limits c.loop-k.k c.rule-item.result (numbered a) in
-    let same : size_of (tree c.rule.inside.left) ≡ size_of c.rule-item.result.left = ap size_of (left_is a) in
-    let low = few.0 in omega (arith, same, low)
-
-pub add-requires-clause-right : goal.add-requires-clause-right
-add-requires-clause-right c =
-    let a = (goal.at.add-requires-clause-right c).After-new in
-    let few = rule_nodes c.args.trs.now c.rules-rule-items.ensures.limits c.loop-k.k c.rule-item.result (numbered a) in
-    let same : size_of (tree c.rule.inside.right) ≡ size_of c.rule-item.result.right = ap size_of (right_is a) in
-    let low = few.1 in omega (arith, same, low)
-
 sound_on : (c : In_ok-add) → After-new → (at : slice_get c.args.trs.now.rules c.loop-k.k ≡ Some c.rule-item.result) → IsSound c.args.trs.now.arities c.add.new.self
 sound_on c a at =
     let fit = rule_fit c.args.trs.now c.rules-rule-items.ensures.valid c.rules-rule-items.ensures.variables c.loop-k.k c.rule-item.result at in
     let l : tree c.rule.inside.left ≡ c.rule-item.result.left = ap (λ (r : RewriteRule). r.left) c.rule.view_is in
     let r : tree c.rule.inside.right ≡ c.rule-item.result.right = ap (λ (r : RewriteRule). r.right) c.rule.view_is in
-    c.in_ok-add.ensures.sound c.args.trs.now.arities c.loop-k.invariant.sound (subst (IsFit c.args.trs.now.arities) (sym l) fit.0) (subst (IsFit c.args.trs.now.arities) (sym r) fit.1)
+    c.in_ok-add.ensures.sound c.args.trs.now.arities (tree c.rule.inside.left) (tree c.rule.inside.right) (record { left_is = c.in_ok-term_tokens.ensures; right_is = c.in_ok-term_tokens-2.ensures }) c.loop-k.invariant.sound (subst (IsFit c.args.trs.now.arities) (sym l) fit.0) (subst (IsFit c.args.trs.now.arities) (sym r) fit.1)
 
 added : (c : In_ok-add) → closures_of c.add.new.self ≡ closures_of c.loop-k.closures ++ rule_closure c.loop-k.k c.rule-item.result ∷ []
 added c =
-    c.in_ok-add.ensures.added
+    c.in_ok-add.ensures.added (tree c.rule.inside.left) (tree c.rule.inside.right) (record { left_is = c.in_ok-term_tokens.ensures; right_is = c.in_ok-term_tokens-2.ensures })
     ∙ ap (λ x. closures_of c.loop-k.closures ++ x ∷ []) (closure_of_rule (tree c.rule.inside.left) (tree c.rule.inside.right) c.rule-item.result c.loop-k.k c.new.result c.rule.view_is c.new.ensures)
 
 pub loop_of-requires-clause-sound : goal.loop_of-requires-clause-sound
 loop_of-requires-clause-sound c =
     let a = (goal.at.loop_of-requires-clause-sound c).After-new in
-    (c.args.trs.now.arities, sound_on (goal.at.loop_of-requires-clause-sound c).In_ok-add a (numbered a))
+    sound_on (goal.at.loop_of-requires-clause-sound c).In_ok-add a (numbered a)
 
 pub loop_of-requires-clause-there : goal.loop_of-requires-clause-there
 loop_of-requires-clause-there c =
     let a = (goal.at.loop_of-requires-clause-there c).After-new in
     rule_there c.args.trs.now.rules c.loop-k.k c.rule-item.result (numbered a) c.loop-k.closures c.add.new.self c.loop-k.invariant.rules (added (goal.at.loop_of-requires-clause-there c).In_ok-add)
 
-pub loop_of-requires-clause-narrow : goal.loop_of-requires-clause-narrow
-loop_of-requires-clause-narrow c =
-    let a = (goal.at.loop_of-requires-clause-narrow c).After-new in
-    let fit = rule_fit c.args.trs.now c.rules-rule-items.ensures.valid c.rules-rule-items.ensures.variables c.loop-k.k c.rule-item.result (numbered a) in
-    narrow_of_well_formed c.args.trs.now.arities (rw c.arities.ensures at c.see_bytes.ensures) (tree c.rule.inside.right) (subst (IsFit c.args.trs.now.arities) (sym (right_is a)) fit.1).well_formed
-
-pub loop_of-requires-clause-sides : goal.loop_of-requires-clause-sides
-loop_of-requires-clause-sides c =
-    let a = (goal.at.loop_of-requires-clause-sides c).After-new in
-    rule_sides c.args.trs.now.rules c.loop-k.k c.rule-item.result (numbered a) c.loop-k.closures c.add.new.self c.loop-k.invariant.rules (added (goal.at.loop_of-requires-clause-sides c).In_ok-add)
-    (tree c.rule.inside.left) (tree c.rule.inside.right) c.rule.view_is
-
 pub returns-in-Some-clause-found : goal.returns-in-Some-clause-found
 returns-in-Some-clause-found c =
     let a = (goal.at.returns-in-Some-clause-found c).After-new in
     let whole = added (goal.at.returns-in-Some-clause-found c).In_ok-add in
     rule_loops c.args.trs.now.rules c.loop-k.k c.rule-item.result (numbered a) c.loop-k.closures c.add.new.self c.loop-k.invariant.rules whole c.in-Some.found
-    ((rw c.in-Some.is at c.in_ok-found.ensures.found) (rule_closure c.loop-k.k c.rule-item.result)
+    ((rw c.in-Some.is at c.in_ok-found.ensures) (rule_closure c.loop-k.k c.rule-item.result)
     (rule_at_end c.args.trs.now.rules c.loop-k.k c.rule-item.result (numbered a) c.loop-k.closures c.add.new.self c.loop-k.invariant.rules whole))
 
 pub returns-in-Some-clause-sound : goal.returns-in-Some-clause-sound
 returns-in-Some-clause-sound c =
     let a = (goal.at.returns-in-Some-clause-sound c).After-new in
-    subst (IsSound c.args.trs.now.arities) (sym c.in_ok-found.ensures.same) (sound_on (goal.at.returns-in-Some-clause-sound c).In_ok-add a (numbered a))
+    (sound_on (goal.at.returns-in-Some-clause-sound c).In_ok-add a (numbered a))
 
 pub loop-k-preserved : goal.loop-k-preserved
 loop-k-preserved c =
     let a = (goal.at.loop-k-preserved c).After-new in
     let b = (goal.at.loop-k-preserved c).In_ok-add in
-    let whole : closures_of c.loop_of.new.self ≡ closures_of c.loop-k.closures ++ rule_closure c.loop-k.k c.rule-item.result ∷ [] = ap closures_of c.in_ok-found.ensures.same ∙ added b in
+    let whole : closures_of c.add.new.self ≡ closures_of c.loop-k.closures ++ rule_closure c.loop-k.k c.rule-item.result ∷ [] = added b in
     record {
-      rules = one_more_rule c.args.trs.now.rules c.loop-k.k c.rule-item.result (numbered a) c.loop-k.closures c.loop_of.new.self c.loop-k.invariant.rules whole
-          ((rw c.in_default.is at c.in_ok-found.ensures.found) (rule_closure c.loop-k.k c.rule-item.result)
+      rules = one_more_rule c.args.trs.now.rules c.loop-k.k c.rule-item.result (numbered a) c.loop-k.closures c.add.new.self c.loop-k.invariant.rules whole
+          ((rw c.in_default.is at c.in_ok-found.ensures) (rule_closure c.loop-k.k c.rule-item.result)
           (rule_at_end c.args.trs.now.rules c.loop-k.k c.rule-item.result (numbered a) c.loop-k.closures c.add.new.self c.loop-k.invariant.rules (added b)));
-      sound = subst (IsSound c.args.trs.now.arities) (sym c.in_ok-found.ensures.same) (sound_on b a (numbered a));
-      attempts = ap (λ (z : Closures). z.attempts) c.in_ok-found.ensures.same ∙ (c.in_ok-add.ensures.attempts ∙ c.loop-k.invariant.attempts);
+      sound = (sound_on b a (numbered a));
+      attempts = c.in_ok-add.ensures.attempts ∙ c.loop-k.invariant.attempts;
     }
 
 pub returns-clause-found : goal.returns-clause-found

@@ -1,4 +1,4 @@
-use Rattle.std.proofs.Common.{◌≡◌, All, ◌<◌, arith, refl, ap, subst, sym}
+use Rattle.std.proofs.Common.{◌<◌, refl}
 use Rattle.std.proofs.lemmas.List.Elements.{All-nil}
 use Rattle.trs_core.specs.View.{tree}
 use Rattle.term_pool.proofs.NarrowLaws.{narrow_of_well_formed}

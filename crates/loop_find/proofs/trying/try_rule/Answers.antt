@@ -1,6 +1,4 @@
-use Rattle.std.proofs.Common.{◌≡◌, ◌<◌, ◌≤◌, ◌+◌, ℕ, Some, slice_get, length, arith, refl, sym, subst, ◌∙◌}
-use Rattle.trs_core.specs.View.{tree}
-use Rattle.trs_defs.specs.System.{RewriteRule}
+use Rattle.std.proofs.Common.{◌+◌, arith, refl, sym, ◌∙◌}
 use Rattle.loop_find.specs.declared.closures.Closures.{Closures}
 use Rattle.loop_find.proofs.LinkLists.{item_somewhere}
 use Rattle.loop_find.proofs.Tried.{spent_at_once, attempt_left_out, attempt_given}
@@ -20,13 +18,13 @@ extend-requires-clause-narrowed g c =
 
 pub returns-in-None-clause-turn : goal.returns-in-None-clause-turn
 returns-in-None-clause-turn g c = λ cl e.
-    let new : Closures = record { pool = c.args.closures.now.pool; links = c.args.closures.now.links; attempts = c.args.closures.now.attempts + 1 } in
+    let new : Closures = record { tokens = c.args.closures.now.tokens; links = c.args.closures.now.links; attempts = c.args.closures.now.attempts + 1 } in
     attempt_left_out c.args.trial.now.trs.now.rules c.args.trial.now.budget _ c.args.closures.now new refl refl (omega (arith, c.if-closures-trial.false))
     (nothing_given c.args.trial.now c.args.closures.now c.requires.trial cl e c.args.place.now c.args.k
     (λ rule at. (rw c.in-None.is at c.in_ok-narrow.ensures) rule (sym c.index-trial-k.is ∙ apart_at c.args.trial.now.trs.now.rules c.args.trial.now.apart.now c.requires.trial.apart c.args.k c.index-trial-k.result rule c.index-trial-k.is at)))
 
 pub returns-in_ok-turn-in-Some-clause-turn : goal.returns-in_ok-turn-in-Some-clause-turn
 returns-in_ok-turn-in-Some-clause-turn g c = λ cl e.
-    let mid : Closures = record { pool = c.args.closures.now.pool; links = c.args.closures.now.links; attempts = c.args.closures.now.attempts + 1 } in
+    let mid : Closures = record { tokens = c.args.closures.now.tokens; links = c.args.closures.now.links; attempts = c.args.closures.now.attempts + 1 } in
     attempt_given c.args.trial.now.trs.now.rules c.args.trial.now.budget _ c.args.closures.now mid c.extend.new.closures refl refl (omega (arith, c.if-closures-trial.false)) _ c.in_ok-turn-in-Some.turn
     (c.in_ok-turn-in-Some.ensures.turn cl e)

@@ -1,5 +1,5 @@
-use Rattle.std.proofs.Common.{◌≡◌, ◌<◌, ◌≤◌, ◌∙◌, arith, refl, length}
-use Rattle.loop_find.proofs.Tried.{sets_out, goes_on, comes_out, arrives, still_there, next_rule, no_rule_left}
+use Rattle.std.proofs.Common.{◌∙◌, arith, refl}
+use Rattle.loop_find.proofs.Tried.{sets_out, goes_on, comes_out, still_there, next_rule}
 use Rattle.loop_find.proofs.Extensions.{as_many}
 use Rattle.loop_find.proofs.trying.try_rules.Goals as goal
 

@@ -1,4 +1,4 @@
-use Rattle.std.proofs.Common.{◌<◌, length, arith, refl, sym}
+use Rattle.std.proofs.Common.{refl}
 use Rattle.loop_find.proofs.LinkLists.{path_begins, path_goes_on, path_ends, number_below, earlier_below, fewer_left}
 use Rattle.loop_find.proofs.closures.Closures.path.Goals as goal
 
