@@ -17,17 +17,16 @@ use Rattle.pair_theory.specs.DependencyPair.{DependencyPair, dependency_pairs, k
 use Rattle.rewrite_core.specs.Check.{Forbids, holds, absent, never, returned, goes_on, each_after}
 use Rattle.rewrite_core.specs.declared.refusals.StepRefused.TheVariants.{EdgeBack, SelfEdge}
 use Rattle.dp_graph.specs.declared.items.GraphItem.{GraphItem}
-use Rattle.dp_graph.specs.declared.rows.Direction.TheVariants.{Ahead}
 use Rattle.dp_graph.specs.GroupOrSingle.{GroupOrSingle, items_of, group, single, members_of, all_members, singles_of, groups_of}
 use Rattle.dp_graph.specs.GraphConditions.{HasEdge, are_new, leads_to_none, lead_to_none, graph_conditions}
-use Rattle.dp_graph.specs.Rows.{EdgeTo, Follows, AreRows}
+use Rattle.dp_graph.specs.Rows.{EdgeOf, Follows, AreRows}
 use Rattle.dp_graph.specs.Leaders.{AreLeaders}
 use Rattle.dp_graph.specs.Components.{IsEdgeWithin, LiesOnCycle, IsComponent, IsReady, HasLesser, StandInOrder, no_items, next, AreComponents}
 use Rattle.dp_graph.specs.PutOut.{led_by, IsBlocked, IsUndoneLeader, IsItemOf, Finishes, ArePutOut, all_done, put_out, PutsOut}
 use Rattle.dp_graph.proofs.EachOfList.{each_passes}
 use Rattle.dp_graph.proofs.UnnamedPairs.{both_new}
-use Rattle.dp_graph.proofs.FoundLaws.{within, there, some_same}
-use Rattle.dp_graph.proofs.PutOutLaws.{one_leader, led_mutual, DoneTogether, still_together, together_at_first, at_repeat}
+use Rattle.dp_graph.proofs.ListPlaces.{within, there, some_same, at_repeat}
+use Rattle.dp_graph.proofs.PutOutLaws.{one_leader, led_mutual, DoneTogether, still_together, together_at_first}
 
 -- ---- lists that ascend
 
@@ -421,10 +420,10 @@ module _ (rules : List RewriteRule) (all : List DependencyPair) (numbers : List 
       returned)))
 
 -- the items that are put out for a graph
-pub all_components : {E : Type 0} (system : System) (numbers : List ℕ) → IsStrictlyIncreasing numbers → (rows : List (List ℕ)) → AreRows (EdgeTo system Ahead) numbers rows → (leaders : List ℕ)
+pub all_components : {E : Type 0} (system : System) (numbers : List ℕ) → IsStrictlyIncreasing numbers → (rows : List (List ℕ)) → AreRows (EdgeOf system) numbers rows → (leaders : List ℕ)
     → AreLeaders rows leaders → (result : Result (Vec GraphItem Global) E) → IfOk result (λ items. PutsOut numbers rows leaders (items_of items.items))
     → IfOk result (λ items. AreComponents system.rules (dependency_pairs system.rules) numbers (items_of items.items))
 all_components system numbers up rows are_rows leaders led (Ok items) out =
     are_components system.rules (dependency_pairs system.rules) numbers up rows are_rows leaders led (replicate (length leaders) false) (items_of items.items)
-    (together_at_first rows leaders led (replicate (length leaders) false) (length leaders) refl refl) (λ i lt. at_repeat (length leaders) i lt) out
+    (together_at_first rows leaders led (replicate (length leaders) false) (length leaders) refl refl) (λ i lt. at_repeat (length leaders) i false lt) out
 all_components system numbers up rows are_rows leaders led (Err e) out = out

@@ -17,12 +17,14 @@ use Rattle.rewrite_core.specs.declared.refusals.StepRefused.{StepRefused}
 use Rattle.rewrite_core.specs.declared.refusals.StepRefused.TheVariants.{EdgeBack}
 use Rattle.rewrite_core.specs.Check.{Check, Forbids, absent, returned}
 use Rattle.dp_graph.specs.GraphConditions.{HasEdge}
-use Rattle.dp_graph.specs.EarlierPairs.{leads_to_none_of, first_led_to, entry_pairs, pairs_at, IsOfRule, IsKept, IsEarlier}
+use Rattle.dp_graph.specs.ByRoot.{entry_items, items_at}
+use Rattle.dp_graph.specs.EarlierPairs.{leads_to_none_of, first_led_to, IsOfRule, IsKept, IsEarlier}
 use Rattle.dp_graph.specs.GraphNodes.{IsNodeFor}
 use Rattle.dp_graph.specs.declared.graph.Node.{Node}
 use Rattle.dp_graph.specs.declared.earlier.Earlier.{Earlier}
 use Rattle.dp_graph.proofs.Covering.{edges_by_arguments}
-use Rattle.dp_graph.proofs.Sets.{Sets, at_others, none_in_empty}
+use Rattle.dp_graph.specs.Waiting.{Sets}
+use Rattle.dp_graph.proofs.Sets.{at_others, none_in_empty}
 use Rattle.dp_graph.proofs.EachOfList.{first_refuses, with_last, last_or_before, each_passes, each_passed, it_is_absent}
 
 the_same : {A : Type 0} (x y : A) → Some x ≡ Some y → x ≡ y
@@ -51,7 +53,7 @@ module _ (system : System) (valid : IsSystem system) (few : length system.aritie
   to_one m n = Forbids (Edge m n) (EdgeBack m n)
 
   -- an edge leads from a pair to pairs with the root of its right side
-  edge_root : (m n : ℕ) (p q : DependencyPair) → slice_get all m ≡ Some p → slice_get all n ≡ Some q → Edge m n → p.to.symbol ≡ q.from.symbol
+  pub edge_root : (m n : ℕ) (p q : DependencyPair) → slice_get all m ≡ Some p → slice_get all n ≡ Some q → Edge m n → p.to.symbol ≡ q.from.symbol
   edge_root m n p q at there e =
       let from : e.from ≡ p = the_same e.from p (sym e.from_numbered ∙ at) in
       let to : e.to ≡ q = the_same e.to q (sym e.to_numbered ∙ there) in
@@ -84,7 +86,7 @@ module _ (system : System) (valid : IsSystem system) (few : length system.aritie
   -- a number of no pair
   pub no_pair_added : (members : List ℕ) (n : ℕ) (earlier : Earlier) → slice_get all n ≡ None → IsEarlier system members earlier → IsEarlier system (members ++ n ∷ []) earlier
   no_pair_added members n earlier none is = record {
-    alike = λ m p answer at h. skipped m n members (pairs_at earlier.by_root p.to.symbol) answer h (is.alike m p answer at h)
+    alike = λ m p answer at h. skipped m n members (items_at earlier.by_root p.to.symbol) answer h (is.alike m p answer at h)
         (λ _ e. let d : None ≡ Some e.to = sym none ∙ e.to_numbered in absurd cc);
     seen = is.seen;
   }
@@ -104,12 +106,12 @@ module _ (system : System) (valid : IsSystem system) (few : length system.aritie
         let kept : IsKept system old.by_root r = is.seen r (was_seen e) in
         record {
           alike = λ m p answer at h.
-              let before : leads_to_none_of system m (pairs_at old.by_root p.to.symbol) answer = subst (λ t. leads_to_none_of system m (pairs_at t p.to.symbol) answer) same h in
-              skipped m n members (pairs_at old.by_root p.to.symbol) answer before (is.alike m p answer at before)
+              let before : leads_to_none_of system m (items_at old.by_root p.to.symbol) answer = subst (λ t. leads_to_none_of system m (items_at t p.to.symbol) answer) same h in
+              skipped m n members (items_at old.by_root p.to.symbol) answer before (is.alike m p answer at before)
               (λ passed edge.
               let root : p.to.symbol ≡ kept.pair.from.symbol = edge_root m kept.number p kept.pair at kept.numbered (edge_to_kept m n r q old.by_root there of kept edge) in
               it_is_absent (Edge m kept.number) (EdgeBack m kept.number)
-              (each_passed (to_one m) 0 (pairs_at old.by_root p.to.symbol) passed kept.number (subst (λ f. In kept.number (pairs_at old.by_root f)) (sym root) kept.kept))
+              (each_passed (to_one m) 0 (items_at old.by_root p.to.symbol) passed kept.number (subst (λ f. In kept.number (items_at old.by_root f)) (sym root) kept.kept))
               (edge_to_kept m n r q old.by_root there of kept edge));
           seen = λ s h. subst (λ t. IsKept system t s) (sym same) (elim (ℕ_discrete s r) [
             | yes e ↦ subst (IsKept system old.by_root) (sym e) kept
@@ -118,21 +120,21 @@ module _ (system : System) (valid : IsSystem system) (few : length system.aritie
         }
 
     -- the first pair of a rule
-    pub first_added : pairs_at new.by_root q.from.symbol ≡ pairs_at old.by_root q.from.symbol ++ n ∷ []
-        → ((f : ℕ) → (f ≡ q.from.symbol → ⊥) → pairs_at new.by_root f ≡ pairs_at old.by_root f) → IsEarlier system (members ++ n ∷ []) new
+    pub first_added : items_at new.by_root q.from.symbol ≡ items_at old.by_root q.from.symbol ++ n ∷ []
+        → ((f : ℕ) → (f ≡ q.from.symbol → ⊥) → items_at new.by_root f ≡ items_at old.by_root f) → IsEarlier system (members ++ n ∷ []) new
     first_added here others = record {
       alike = λ m p answer at h. elim (ℕ_discrete p.to.symbol q.from.symbol) [
         | yes e ↦
-            let whole : leads_to_none_of system m (pairs_at old.by_root p.to.symbol ++ n ∷ []) answer =
-            subst (λ f. leads_to_none_of system m (pairs_at old.by_root f ++ n ∷ []) answer) (sym e)
-            (subst (λ ns. leads_to_none_of system m ns answer) here (subst (λ f. leads_to_none_of system m (pairs_at new.by_root f) answer) e h)) in
-            elim (last_or_before (to_one m) 0 (pairs_at old.by_root p.to.symbol) n answer whole) [
+            let whole : leads_to_none_of system m (items_at old.by_root p.to.symbol ++ n ∷ []) answer =
+            subst (λ f. leads_to_none_of system m (items_at old.by_root f ++ n ∷ []) answer) (sym e)
+            (subst (λ ns. leads_to_none_of system m ns answer) here (subst (λ f. leads_to_none_of system m (items_at new.by_root f) answer) e h)) in
+            elim (last_or_before (to_one m) 0 (items_at old.by_root p.to.symbol) n answer whole) [
               | inl a ↦ first_refuses (to_one m) 0 members (n ∷ []) answer (is.alike m p answer at a.0) a.1
               | inr a ↦ with_last (to_one m) 0 members n answer (is.alike m p (Ok tt) at a.0) a.1
             ]
         | no other ↦
-            let before : leads_to_none_of system m (pairs_at old.by_root p.to.symbol) answer = subst (λ ns. leads_to_none_of system m ns answer) (others p.to.symbol other) h in
-            skipped m n members (pairs_at old.by_root p.to.symbol) answer before (is.alike m p answer at before) (λ _ edge. other (edge_root m n p q at there edge))
+            let before : leads_to_none_of system m (items_at old.by_root p.to.symbol) answer = subst (λ ns. leads_to_none_of system m ns answer) (others p.to.symbol other) h in
+            skipped m n members (items_at old.by_root p.to.symbol) answer before (is.alike m p answer at before) (λ _ edge. other (edge_root m n p q at there edge))
       ];
       seen = λ s h. elim (ℕ_discrete s r) [
         | yes e ↦ record {
@@ -140,14 +142,14 @@ module _ (system : System) (valid : IsSystem system) (few : length system.aritie
           pair = q;
           numbered = there;
           of_rule = subst (λ z. IsOfRule system.rules z q) (sym e) of;
-          kept = subst (In n) (sym here) (in_right (pairs_at old.by_root q.from.symbol) in_first);
+          kept = subst (In n) (sym here) (in_right (items_at old.by_root q.from.symbol) in_first);
         }
         | no other ↦ still_kept s (is.seen s (sym (at_others old.rules new.rules r true sets s other) ∙ h))
       ];
     }
       where
-        still_there : (m f : ℕ) → In m (pairs_at old.by_root f) → Dec (f ≡ q.from.symbol) → In m (pairs_at new.by_root f)
-        still_there m f i (yes e) = subst (λ z. In m (pairs_at new.by_root z)) (sym e) (subst (In m) (sym here) (in_left (n ∷ []) (subst (λ z. In m (pairs_at old.by_root z)) e i)))
+        still_there : (m f : ℕ) → In m (items_at old.by_root f) → Dec (f ≡ q.from.symbol) → In m (items_at new.by_root f)
+        still_there m f i (yes e) = subst (λ z. In m (items_at new.by_root z)) (sym e) (subst (In m) (sym here) (in_left (n ∷ []) (subst (λ z. In m (items_at old.by_root z)) e i)))
         still_there m f i (no other) = subst (In m) (sym (others f other)) i
 
         still_kept : (s : ℕ) → IsKept system old.by_root s → IsKept system new.by_root s
@@ -161,8 +163,8 @@ module _ (system : System) (valid : IsSystem system) (few : length system.aritie
 
 -- ---- no pairs
 
-none_at : (by_root : BTreeMap ℕ (Vec ℕ Global)) → by_root.entries ≡ [] → (f : ℕ) → pairs_at by_root f ≡ []
-none_at by_root e f = ap (λ es. entry_pairs (lookup (is_at (nat_cmp f)) es)) e
+pub none_at : (by_root : BTreeMap ℕ (Vec ℕ Global)) → by_root.entries ≡ [] → (f : ℕ) → items_at by_root f ≡ []
+none_at by_root e f = ap (λ es. entry_items (lookup (is_at (nat_cmp f)) es)) e
 
 pub none_earlier : (system : System) (earlier : Earlier) → earlier.by_root.entries ≡ [] → earlier.rules.keys ≡ [] → IsEarlier system [] earlier
 none_earlier system earlier none empty = record {
@@ -175,11 +177,11 @@ none_earlier system earlier none empty = record {
 pub none_at_root : (system : System) (earlier : Earlier) (members : List ℕ) (m : ℕ) (node : Node) → IsNodeFor system m (Some node) → None ≡ get nat_cmp earlier.by_root node.to
     → IsEarlier system members earlier → leads_to_none_of system m members (Ok tt)
 none_at_root system earlier members m node (p, at, is) none kept =
-    kept.alike m p (Ok tt) at (subst (λ ns. leads_to_none_of system m ns (Ok tt)) (ap entry_pairs none ∙ ap (pairs_at earlier.by_root) is.to) returned)
+    kept.alike m p (Ok tt) at (subst (λ ns. leads_to_none_of system m ns (Ok tt)) (ap entry_items none ∙ ap (items_at earlier.by_root) is.to) returned)
 
 pub first_at_root : {E : Type 0} (system : System) (earlier : Earlier) (m : ℕ) (node : Node) (pairs : Vec ℕ Global) (result : Result (Option ℕ) E) → IsNodeFor system m (Some node)
     → Some pairs ≡ get nat_cmp earlier.by_root node.to → IfOk result (λ to. leads_to_none_of system m pairs.items (first_led_to m to))
     → IfOk result (λ to. (members : List ℕ) → IsEarlier system members earlier → leads_to_none_of system m members (first_led_to m to))
 first_at_root system earlier m node pairs (Ok to) (p, at, is) there h = λ members kept.
-    kept.alike m p (first_led_to m to) at (subst (λ ns. leads_to_none_of system m ns (first_led_to m to)) (ap entry_pairs there ∙ ap (pairs_at earlier.by_root) is.to) h)
+    kept.alike m p (first_led_to m to) at (subst (λ ns. leads_to_none_of system m ns (first_led_to m to)) (ap entry_items there ∙ ap (items_at earlier.by_root) is.to) h)
 first_at_root system earlier m node pairs (Err e) is there h = h

@@ -10,10 +10,14 @@ pub mod OnwardItems
 pub mod SingleItems
 pub mod NodeLists
 pub mod GraphAnswers
+pub mod ListPlaces
 pub mod FoundLaws
-pub mod RowLaws
+pub mod FinishingLaws
 pub mod LeaderLaws
+pub mod ReversedLaws
+pub mod RowLaws
+pub mod WaitingLaws
 pub mod PutOutLaws
+pub mod OrderLaws
 pub mod ComponentLaws
-pub mod BlockLaws
 pub mod ItemLaws

@@ -1,21 +1,17 @@
 -- Components are put out one after another.
-use Rattle.std.specs.Prelude.{◌≡◌, ◌<◌, ◌≤◌, ◌⊎◌, ℕ, ◌+◌, Bool, true, false, List, [], ◌∷◌, ◌++◌, length, replicate, Option, Some, None, slice_get, refl}
-use Rattle.std.proofs.Common.{zero, suc, inl, inr, sym, ap, subst, arith, ◌∙◌}
+use Rattle.std.specs.Prelude.{◌≡◌, ◌<◌, ◌≤◌, ℕ, ◌+◌, ◌==◌, Bool, true, false, cond, List, [], ◌∷◌, ◌++◌, length, replicate, Option, Some, slice_get, refl}
+use Rattle.std.proofs.Common.{zero, suc, sym, ap, subst, arith, ◌∙◌}
 use Rattle.std.proofs.lemmas.List.{append-nil}
+use Rattle.std.proofs.lemmas.Bool.{eqb-true, eq-eqb}
 use native.Mathlib.Decide.{ℕ_discrete}
-use Rattle.trs_defs.specs.Run.{Run, Stay}
-use Rattle.trs_defs.proofs.Runs.{one, then}
+use Rattle.trs_defs.specs.Run.{Stay}
+use Rattle.trs_defs.proofs.Runs.{then}
 use Rattle.dp_graph.specs.declared.items.GraphItem.{GraphItem}
 use Rattle.dp_graph.specs.GroupOrSingle.{GroupOrSingle, item_of, items_of}
-use Rattle.dp_graph.specs.Rows.{Follows, AreReached}
 use Rattle.dp_graph.specs.FoundPlaces.{unset}
 use Rattle.dp_graph.specs.Leaders.{AreMutual, AreLeaders}
-use Rattle.dp_graph.specs.PutOut.{IsBlocked, AreBlocked, IsUndoneLeader, IsFirstUnset, IsNextReady, IsItemOf, Finishes, ArePutOut, all_done, put_out, PutsOut}
-use Rattle.dp_graph.proofs.FoundLaws.{within, there, some_same}
-
-true_or_false : (b : Bool) → (b ≡ true) ⊎ (b ≡ false)
-true_or_false true = inl refl
-true_or_false false = inr refl
+use Rattle.dp_graph.specs.PutOut.{IsBlocked, IsUndoneLeader, IsNextReady, IsItemOf, Finishes, ArePutOut, all_done, put_out, PutsOut}
+use Rattle.dp_graph.proofs.ListPlaces.{within, there, some_same, at_repeat, length_repeat}
 
 some_not_both : {o : Option Bool} → o ≡ Some true → o ≡ Some false → ⊥
 some_not_both e d = let h : true ≡ false = some_same true false (sym e ∙ d) in absurd cc
@@ -50,43 +46,6 @@ module _ (rows : List (List ℕ)) (leaders : List ℕ) (are : AreLeaders rows le
       let b = (are.each j l g).connected in
       (then a.0 b.1, then b.0 a.1)
 
--- ---- what is set
-
-count_set : List Bool → ℕ
-count_set [] = 0
-count_set (true ∷ flags) = count_set flags + 1
-count_set (false ∷ flags) = count_set flags
-
-few_set : (flags : List Bool) → count_set flags ≤ length flags
-unfolding count_set
-few_set [] = omega arith
-few_set (true ∷ flags) = let h = few_set flags in omega (arith, h)
-few_set (false ∷ flags) = let h = few_set flags in omega (arith, h)
-
-no_more_set : (fs gs : List Bool) → length fs ≡ length gs → ((k : ℕ) → slice_get gs k ≡ Some true → slice_get fs k ≡ Some true) → count_set gs ≤ count_set fs
-unfolding count_set
-no_more_set [] [] e h = omega arith
-no_more_set [] (g ∷ gs) e h = absurd (omega (arith, e))
-no_more_set (f ∷ fs) [] e h = absurd (omega (arith, e))
-no_more_set (true ∷ fs) (true ∷ gs) e h = let r = no_more_set fs gs (omega (arith, e)) (λ k. h (suc k)) in omega (arith, r)
-no_more_set (true ∷ fs) (false ∷ gs) e h = let r = no_more_set fs gs (omega (arith, e)) (λ k. h (suc k)) in omega (arith, r)
-no_more_set (false ∷ fs) (true ∷ gs) e h = absurd (some_not_both (h zero refl) refl)
-no_more_set (false ∷ fs) (false ∷ gs) e h = let r = no_more_set fs gs (omega (arith, e)) (λ k. h (suc k)) in omega (arith, r)
-
--- fewer are set, if each that is set is set in the first list, and one there is not
-fewer_set : (fs gs : List Bool) (w : ℕ) → length fs ≡ length gs → ((k : ℕ) → slice_get gs k ≡ Some true → slice_get fs k ≡ Some true) → slice_get fs w ≡ Some true
-    → (slice_get gs w ≡ Some true → ⊥) → count_set gs < count_set fs
-unfolding count_set
-fewer_set [] gs w e h at not = absurd cc
-fewer_set (f ∷ fs) [] w e h at not = absurd (omega (arith, e))
-fewer_set (true ∷ fs) (true ∷ gs) zero e h at not = absurd (not refl)
-fewer_set (true ∷ fs) (false ∷ gs) zero e h at not = let r = no_more_set fs gs (omega (arith, e)) (λ k. h (suc k)) in omega (arith, r)
-fewer_set (false ∷ fs) (g ∷ gs) zero e h at not = absurd cc
-fewer_set (true ∷ fs) (true ∷ gs) (suc w) e h at not = let r = fewer_set fs gs w (omega (arith, e)) (λ k. h (suc k)) at not in omega (arith, r)
-fewer_set (true ∷ fs) (false ∷ gs) (suc w) e h at not = let r = fewer_set fs gs w (omega (arith, e)) (λ k. h (suc k)) at not in omega (arith, r)
-fewer_set (false ∷ fs) (true ∷ gs) (suc w) e h at not = absurd (some_not_both (h zero refl) refl)
-fewer_set (false ∷ fs) (false ∷ gs) (suc w) e h at not = let r = fewer_set fs gs w (omega (arith, e)) (λ k. h (suc k)) at not in omega (arith, r)
-
 -- ---- some leader is ready, while one is left
 
 -- places of one leader are done together
@@ -95,65 +54,57 @@ DoneTogether leaders done = (i l : ℕ) → slice_get leaders i ≡ Some l → s
 
 module _ (rows : List (List ℕ)) (leaders : List ℕ) (are : AreLeaders rows leaders) (done : List Bool) (size : length done ≡ length leaders) (together : DoneTogether leaders done)
     (none : (v : ℕ) → IsUndoneLeader leaders done v → IsBlocked rows leaders done v) where
-  Reach : ℕ → ℕ → Type 0
-  Reach l n = (flags : List Bool) × AreReached rows l flags × (count_set flags ≡ n)
-
-  reach_of : (l : ℕ) → slice_get leaders l ≡ Some l → (n : ℕ) × Reach l n × (n ≤ length rows)
-  unfolding Reach
-  reach_of l h =
-      let (flags, is) = are.reached l h in
-      (count_set flags, (flags, is, refl), (let f = few_set flags in let c = is.count in omega (arith, f, c)))
-
-  -- a leader that is blocked is so by one that leads to more places
-  more : (l n : ℕ) → IsUndoneLeader leaders done l → Reach l n → (k : ℕ) × IsUndoneLeader leaders done k × (m : ℕ) × Reach k m × (m ≤ length rows) × (n < m)
-  unfolding Reach
-  more l n undone (flags, is, counts) =
+  -- a leader that is blocked is so by one of a lower rank
+  climb : (n l : ℕ) → are.ranked.rank l < n → IsUndoneLeader leaders done l → ⊥
+  climb zero l lt undone = omega (arith, lt)
+  climb (suc n) l lt undone =
       let b = none l undone in
       let at = leads_itself rows leaders are b.from b.leader b.of_other in
-      let (m, (others, also, m_is), low) = reach_of b.leader at in
-      let leader = are.each b.from b.leader b.of_other in
-      let this = are.each b.to l b.of_this in
-      let path : Run (Follows rows) b.leader l = then leader.connected.1 (then (one b.follows) this.connected.0) in
-      let differs : Run (Follows rows) l b.leader → ⊥ = (λ back. b.differ (one_leader rows leaders are b.leader l b.leader l at undone.0 (path, back))) in
-      let small : b.leader < length rows = (let w = within leaders b.leader b.leader at in let c = are.count in omega (arith, w, c)) in
-      let less : count_set flags < count_set others = fewer_set others flags b.leader (also.count ∙ sym is.count)
-      (λ k e. let lt : k < length rows = (let w = within flags k true e in let c = is.count in omega (arith, w, c)) in (also.exact k lt).1 (then path ((is.exact k lt).0 e)))
-      ((also.exact b.leader small).1 Stay) (λ e. differs ((is.exact b.leader small).0 e)) in
-      (b.leader, (at, sym (together b.from b.leader b.of_other) ∙ b.undone), m, (others, also, m_is), low, omega (arith, less, counts, m_is))
-
-  climb : (k l n : ℕ) → IsUndoneLeader leaders done l → Reach l n → n ≤ length rows → length rows < n + k → ⊥
-  climb zero l n undone reach low high = omega (arith, low, high)
-  climb (suc k) l n undone reach low high =
-      let (j, undone_j, m, reach_j, low_j, less) = more l n undone reach in
-      climb k j m undone_j reach_j low_j (omega (arith, less, high))
+      let rises = are.ranked.rises b.from b.to b.leader l b.follows b.of_other b.of_this b.differ in
+      climb n b.leader (omega (arith, rises, lt)) (at, sym (together b.from b.leader b.of_other) ∙ b.undone)
 
   pub none_undone : (i : ℕ) → slice_get done i ≡ Some false → ⊥
   none_undone i e =
       let l = there leaders i (let w = within done i false e in omega (arith, w, size)) in
-      let at = leads_itself rows leaders are i l.0 l.1 in
-      let (n, reach, low) = reach_of l.0 at in
-      climb (length rows + 1) l.0 n (at, sym (together i l.0 l.1) ∙ e) reach low (omega arith)
+      climb (are.ranked.rank l.0 + 1) l.0 (omega arith) (leads_itself rows leaders are i l.0 l.1, sym (together i l.0 l.1) ∙ e)
 
--- ---- the flags of those that are ready
+-- ---- the places of a leader are done
 
-pub ready_found : (rows : List (List ℕ)) (leaders : List ℕ) (done blocked : List Bool) (found : Option ℕ) → AreBlocked rows leaders done blocked
-    → IsFirstUnset leaders done blocked found → IsNextReady rows leaders done found
-ready_found rows leaders done blocked None are none = λ v undone.
-    let at = there blocked v (let w = within leaders v v undone.0 in let c = are.count in omega (arith, w, c)) in
-    elim (true_or_false at.0) [
-      | inl e ↦ are.marked v (at.1 ∙ ap (λ z. Some z) e)
-      | inr e ↦ absurd (none v (undone, at.1 ∙ ap (λ z. Some z) e))
-    ]
-ready_found rows leaders done blocked (Some v) are ((undone, free), least) = (
-  undone,
-  λ b. some_not_both (are.all v b) free,
-  λ u lt also. elim (none_or_blocked u also) [ inl b ↦ b | inr e ↦ absurd (least u lt (also, e)) ],
-)
-  where
-    none_or_blocked : (u : ℕ) → IsUndoneLeader leaders done u → IsBlocked rows leaders done u ⊎ (slice_get blocked u ≡ Some false)
-    none_or_blocked u also =
-        let at = there blocked u (let w = within leaders u u also.0 in let c = are.count in omega (arith, w, c)) in
-        elim (true_or_false at.0) [ inl e ↦ inl (are.marked u (at.1 ∙ ap (λ z. Some z) e)) | inr e ↦ inr (at.1 ∙ ap (λ z. Some z) e) ]
+pub finished : ℕ → List ℕ → List Bool → List Bool
+finished v [] done = done
+finished v (l ∷ leaders) [] = []
+finished v (l ∷ leaders) (d ∷ done) = cond (l == v) true d ∷ finished v leaders done
+
+finished_length : (v : ℕ) (leaders : List ℕ) (done : List Bool) → length (finished v leaders done) ≡ length done
+unfolding finished
+finished_length v [] done = refl
+finished_length v (l ∷ leaders) [] = refl
+finished_length v (l ∷ leaders) (d ∷ done) = ap suc (finished_length v leaders done)
+
+finished_led : (v : ℕ) (leaders : List ℕ) (done : List Bool) (w : ℕ) → length done ≡ length leaders → slice_get leaders w ≡ Some v → slice_get (finished v leaders done) w ≡ Some true
+unfolding finished
+finished_led v [] done w e at = absurd cc
+finished_led v (l ∷ leaders) [] w e at = absurd (omega (arith, e))
+finished_led v (l ∷ leaders) (d ∷ done) zero e at = ap (λ b. Some (cond b true d)) (eq-eqb l v (some_same l v at))
+finished_led v (l ∷ leaders) (d ∷ done) (suc w) e at = finished_led v leaders done w (omega (arith, e)) at
+
+other_flag : (b d : Bool) → (b ≡ true → ⊥) → Some (cond b true d) ≡ Some d
+other_flag true d h = absurd (h refl)
+other_flag false d h = refl
+
+finished_others : (v : ℕ) (leaders : List ℕ) (done : List Bool) (w : ℕ) → (slice_get leaders w ≡ Some v → ⊥) → slice_get (finished v leaders done) w ≡ slice_get done w
+unfolding finished
+finished_others v [] done w h = refl
+finished_others v (l ∷ leaders) [] w h = refl
+finished_others v (l ∷ leaders) (d ∷ done) zero h = other_flag (l == v) d (λ e. h (ap (λ z. Some z) (eqb-true l v e)))
+finished_others v (l ∷ leaders) (d ∷ done) (suc w) h = finished_others v leaders done w h
+
+pub finishes_all : (v : ℕ) (leaders : List ℕ) (done : List Bool) → length done ≡ length leaders → Finishes v leaders done (finished v leaders done)
+finishes_all v leaders done size = record {
+  count = finished_length v leaders done;
+  led = λ w e. finished_led v leaders done w size e;
+  others = λ w h. finished_others v leaders done w h;
+}
 
 -- ---- one after another
 
@@ -168,27 +119,13 @@ still_together rows leaders are v done new at finishes together i l h = go (ℕ_
         let second : slice_get new l ≡ slice_get done l = finishes.others l (λ g. other (some_same l v (sym (leads_itself rows leaders are i l h) ∙ g))) in
         first ∙ (together i l h ∙ sym second)
 
-in_repeat : (n k : ℕ) (b : Bool) → slice_get (replicate n false) k ≡ Some b → b ≡ false
-in_repeat zero k b e = absurd cc
-in_repeat (suc n) zero b e = sym (some_same false b e)
-in_repeat (suc n) (suc k) b e = in_repeat n k b e
-
-length_repeat : (n : ℕ) → length (replicate n false) ≡ n
-length_repeat zero = refl
-length_repeat (suc n) = ap suc (length_repeat n)
-
-pub at_repeat : (n k : ℕ) → k < n → slice_get (replicate n false) k ≡ Some false
-at_repeat zero k h = absurd (omega (arith, h))
-at_repeat (suc n) zero h = refl
-at_repeat (suc n) (suc k) h = at_repeat n k (omega (arith, h))
-
 pub together_at_first : (rows : List (List ℕ)) (leaders : List ℕ) → AreLeaders rows leaders → (done : List Bool) (n : ℕ) → n ≡ length leaders → done ≡ replicate n false → DoneTogether leaders done
 together_at_first rows leaders are done n e is i l h =
-    let all : (k : ℕ) → k < length leaders → slice_get done k ≡ Some false = (λ k lt. subst (λ z. slice_get z k ≡ Some false) (sym is) (at_repeat n k (omega (arith, lt, e)))) in
+    let all : (k : ℕ) → k < length leaders → slice_get done k ≡ Some false = (λ k lt. subst (λ z. slice_get z k ≡ Some false) (sym is) (at_repeat n k false (omega (arith, lt, e)))) in
     all i (within leaders i l h) ∙ sym (all l (within leaders l l (leads_itself rows leaders are i l h)))
 
 pub size_at_first : (done : List Bool) (n m : ℕ) → n ≡ m → done ≡ replicate n false → length done ≡ m
-size_at_first done n m e is = ap length is ∙ (length_repeat n ∙ e)
+size_at_first done n m e is = ap length is ∙ (length_repeat n false ∙ e)
 
 -- the items before are put out: the whole is put out as the rest is
 abbrev pub PutOutSoFar : List ℕ → List (List ℕ) → List ℕ → List Bool → List GraphItem → Type 0

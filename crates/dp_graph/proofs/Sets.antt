@@ -4,6 +4,7 @@ use Rattle.std.specs.Ordering.{nat_cmp}
 use Rattle.std.specs.List.{list_any}
 use Rattle.std.specs.BTreeMap.{is_at}
 use Rattle.std.specs.BTreeSet.{BTreeSet, contains}
+use Rattle.dp_graph.specs.Waiting.{Sets}
 use Rattle.std.proofs.Common.{refl, sym, ap, arith, ◌∙◌}
 use Rattle.std.proofs.lemmas.Grind.{common_steps}
 
@@ -12,10 +13,6 @@ at_itself k = grind (arith, common_steps)
 
 pub not_at : (k q : ℕ) → (q ≡ k → ⊥) → is_at (nat_cmp k) q ≡ false
 not_at k q other = grind (arith, common_steps)
-
--- the set has this number exactly if the truth value says so, and each other one as before
-abbrev pub Sets : BTreeSet ℕ → BTreeSet ℕ → ℕ → Bool → Type 0
-Sets old new k b = (q : ℕ) → contains nat_cmp new q ≡ cond (is_at (nat_cmp k) q) b (contains nat_cmp old q)
 
 module _ (old new : BTreeSet ℕ) (k : ℕ) (b : Bool) (sets : Sets old new k b) where
   pub at_number : contains nat_cmp new k ≡ b

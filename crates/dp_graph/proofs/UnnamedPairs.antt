@@ -17,7 +17,8 @@ use Rattle.dp_graph.specs.declared.items.GraphItem.{GraphItem}
 use Rattle.dp_graph.specs.GroupOrSingle.{item_of, items_of, members_of, all_members}
 use Rattle.dp_graph.specs.GraphConditions.{are_new, are_members, none_is_missing}
 use Rattle.dp_graph.specs.Unnamed.{AreUnnamed}
-use Rattle.dp_graph.proofs.Sets.{Sets, at_number, at_others, true_is_not_false, none_in_empty}
+use Rattle.dp_graph.specs.Waiting.{Sets}
+use Rattle.dp_graph.proofs.Sets.{at_number, at_others, true_is_not_false, none_in_empty}
 use Rattle.dp_graph.proofs.ItemLists.{next_item, one_taken}
 
 pub nothing_left : (set : BTreeSet ℕ) → set.keys ≡ [] → AreUnnamed [] [] set

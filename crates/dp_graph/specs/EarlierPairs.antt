@@ -1,8 +1,8 @@
 -- The pairs of earlier items, by the roots of their left sides.
-use Rattle.std.specs.Prelude.{◌≡◌, ℕ, List, [], Option, Some, None, Vec, Result, Ok, Err, IsTrue, slice_get}
+use Rattle.std.specs.Prelude.{◌≡◌, ℕ, List, Option, Some, None, Vec, Result, Ok, Err, IsTrue, slice_get}
 use Rattle.std.specs.declared.alloc.Global.{Global}
 use Rattle.std.specs.Ordering.{nat_cmp}
-use Rattle.std.specs.BTreeMap.{BTreeMap, get}
+use Rattle.std.specs.BTreeMap.{BTreeMap}
 use Rattle.std.specs.BTreeSet.{contains}
 use Rattle.trs_defs.specs.Member.{In}
 use Rattle.trs_defs.specs.System.{RewriteRule, System}
@@ -11,6 +11,7 @@ use Rattle.pair_theory.specs.DependencyPair.{DependencyPair, dependency_pairs}
 use Rattle.rewrite_core.specs.declared.refusals.StepRefused.{StepRefused}
 use Rattle.rewrite_core.specs.declared.refusals.StepRefused.TheVariants.{EdgeBack}
 use Rattle.rewrite_core.specs.Check.{Check}
+use Rattle.dp_graph.specs.ByRoot.{items_at}
 use Rattle.dp_graph.specs.GraphConditions.{leads_to_none}
 use Rattle.dp_graph.specs.declared.earlier.Earlier.{Earlier}
 
@@ -23,14 +24,6 @@ abbrev pub first_led_to : ℕ → Option ℕ → Result (Unit {0}) StepRefused
 first_led_to m None = Ok tt
 first_led_to m (Some n) = Err (EdgeBack m n)
 
-abbrev pub entry_pairs : Option (Vec ℕ Global) → List ℕ
-entry_pairs None = []
-entry_pairs (Some pairs) = pairs.items
-
--- the pairs at a root
-abbrev pub pairs_at : BTreeMap ℕ (Vec ℕ Global) → ℕ → List ℕ
-pairs_at by_root f = entry_pairs (get nat_cmp by_root f)
-
 -- the left side of the pair is that of rule number r
 abbrev pub IsOfRule : List RewriteRule → ℕ → DependencyPair → Type 0
 IsOfRule rules r p = (rule : RewriteRule) × (slice_get rules r ≡ Some rule) × (rule.left ≡ plain p.from)
@@ -41,11 +34,11 @@ pub record IsKept (system : System) (by_root : BTreeMap ℕ (Vec ℕ Global)) (r
   pub pair : DependencyPair
   pub numbered : slice_get (dependency_pairs system.rules) number ≡ Some pair
   pub of_rule : IsOfRule system.rules r pair
-  pub kept : In number (pairs_at by_root pair.from.symbol)
+  pub kept : In number (items_at by_root pair.from.symbol)
 
 -- What is answered of the pairs at the root of a pair's right side is answered of all members; of each rule that was seen a
 -- pair is kept.
 pub record IsEarlier (system : System) (members : List ℕ) (earlier : Earlier) : Type 0 where
   pub alike : (m : ℕ) (p : DependencyPair) (answer : Result (Unit {0}) StepRefused) → slice_get (dependency_pairs system.rules) m ≡ Some p
-      → leads_to_none_of system m (pairs_at earlier.by_root p.to.symbol) answer → leads_to_none_of system m members answer
+      → leads_to_none_of system m (items_at earlier.by_root p.to.symbol) answer → leads_to_none_of system m members answer
   pub seen : (r : ℕ) → IsTrue (contains nat_cmp earlier.rules r) → IsKept system earlier.by_root r

@@ -5,8 +5,13 @@ pub mod Laws
 pub mod GraphNodes
 pub mod Unnamed
 pub mod EarlierPairs
+pub mod ByRoot
 pub mod Rows
+pub mod Reversed
 pub mod FoundPlaces
 pub mod Leaders
+pub mod Finishing
 pub mod PutOut
+pub mod PlaceLists
+pub mod Waiting
 pub mod Components

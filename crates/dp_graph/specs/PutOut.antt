@@ -1,6 +1,5 @@
 -- Components that are put out one after another.
 use Rattle.std.specs.Prelude.{◌≡◌, ◌<◌, ◌⊎◌, ℕ, ◌==◌, Bool, true, false, List, [], ◌∷◌, length, replicate, Option, Some, None, slice_get}
-use Rattle.trs_defs.specs.Member.{In}
 use Rattle.pair_theory.specs.DependencyPair.{keep_if}
 use Rattle.dp_graph.specs.GroupOrSingle.{GroupOrSingle, group, single}
 use Rattle.dp_graph.specs.Rows.{Follows}
@@ -22,26 +21,8 @@ pub record IsBlocked (rows : List (List ℕ)) (leaders : List ℕ) (done : List 
   pub of_this : slice_get leaders to ≡ Some l
   pub differ : leader ≡ l → ⊥
 
--- the flags are set of just the leaders that are blocked
-pub record AreBlocked (rows : List (List ℕ)) (leaders : List ℕ) (done blocked : List Bool) : Type 0 where
-  pub count : length blocked ≡ length leaders
-  pub marked : (l : ℕ) → slice_get blocked l ≡ Some true → IsBlocked rows leaders done l
-  pub all : (l : ℕ) → IsBlocked rows leaders done l → slice_get blocked l ≡ Some true
-
--- an edge leads to the component of leader l from a place of another leader, whose row this is
-abbrev pub Blocks : List ℕ → ℕ → List ℕ → ℕ → Type 0
-Blocks row leader leaders l = (j : ℕ) × In j row × (slice_get leaders j ≡ Some l) × (leader ≡ l → ⊥)
-
 abbrev pub IsUndoneLeader : List ℕ → List Bool → ℕ → Type 0
 IsUndoneLeader leaders done v = (slice_get leaders v ≡ Some v) × (slice_get done v ≡ Some false)
-
--- the least leader whose flags are both not set, if there is one
-abbrev pub IsUnset : List ℕ → List Bool → List Bool → ℕ → Type 0
-IsUnset leaders done blocked v = IsUndoneLeader leaders done v × (slice_get blocked v ≡ Some false)
-
-abbrev pub IsFirstUnset : List ℕ → List Bool → List Bool → Option ℕ → Type 0
-IsFirstUnset leaders done blocked None = (v : ℕ) → IsUnset leaders done blocked v → ⊥
-IsFirstUnset leaders done blocked (Some v) = IsUnset leaders done blocked v × ((u : ℕ) → u < v → IsUnset leaders done blocked u → ⊥)
 
 -- the least leader that is neither done nor blocked, if there is one
 abbrev pub IsNextReady : List (List ℕ) → List ℕ → List Bool → Option ℕ → Type 0

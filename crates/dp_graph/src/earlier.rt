@@ -1,8 +1,9 @@
-ghost use Rattle.std.specs.Prelude.{ℕ, ◌≡◌, ◌++◌, List, [], ◌∷◌, IfOk, OnOk};
+ghost use Rattle.std.specs.Prelude.{ℕ, ◌++◌, List, [], ◌∷◌, IfOk, OnOk};
 ghost use Rattle.trs_defs.specs.System.{System};
-ghost use Rattle.dp_graph.specs.EarlierPairs.{IsEarlier, pairs_at, first_led_to, leads_to_none_of};
+ghost use Rattle.dp_graph.specs.EarlierPairs.{IsEarlier, first_led_to, leads_to_none_of};
 
 use crate::PairGraph;
+use crate::by_root::push_at;
 use std::alloc::Global;
 use std::collections::{BTreeMap, BTreeSet};
 use trs_core::OutOfMemory;
@@ -80,32 +81,4 @@ fn first_of(
         }
     }
     Ok(None)
-}
-
-/// Puts a pair behind those at a root.
-fn push_at(
-    alloc: Global,
-    by_root: &mut BTreeMap<u32, Vec<u32>>,
-    root: u32,
-    n: u32,
-) -> Result<(), OutOfMemory>
-    ensures here { OnOk result (pairs_at by_root.new root ≡ pairs_at by_root.old root ++ n ∷ []) }
-    ensures others { OnOk result ((f : ℕ) → (f ≡ root → ⊥) →
-        pairs_at by_root.new f ≡ pairs_at by_root.old f) }
-{
-    let mut pairs = take_at(alloc, by_root, root);
-    pairs.push(n)?;
-    by_root.insert(root, pairs)?;
-    Ok(())
-}
-
-/// Takes out the pairs at a root.
-fn take_at(alloc: Global, by_root: &mut BTreeMap<u32, Vec<u32>>, root: u32) -> Vec<u32>
-    ensures taken { result.items ≡ pairs_at by_root.old root }
-    ensures others { (f : ℕ) → (f ≡ root → ⊥) → pairs_at by_root.new f ≡ pairs_at by_root.old f }
-{
-    match by_root.remove(&root) {
-        Some(pairs) => pairs,
-        None => Vec::new(alloc),
-    }
 }

@@ -5,9 +5,11 @@ ghost use Rattle.dp_core.specs.PlacedPairs.{placed_pairs};
 ghost use Rattle.dp_graph.specs.GroupOrSingle.{items_of};
 ghost use Rattle.dp_graph.specs.Components.{AreComponents};
 
+use crate::finishing::finishing_order;
 use crate::leaders::leaders;
 use crate::ordering::ordered;
-use crate::rows::{Direction, rows};
+use crate::reversed::reversed;
+use crate::rows::rows;
 use crate::{GraphItem, PairGraph};
 use dp_core::DpPair;
 use std::alloc::Global;
@@ -32,16 +34,18 @@ pub fn components(
 }
 
 impl<'a> PairGraph<'a> {
-    /// The components of the graph on a problem, in order. It takes a number of steps that is at
-    /// most quadratic in the number of pairs, and linear in that of edges for each component.
+    /// The components of the graph on a problem, in order. It takes steps for each two pairs of the
+    /// problem whose roots agree, and beside these a number of steps that is linear in the number
+    /// of pairs and edges, up to a logarithm.
     pub fn components(&self, alloc: Global, problem: &[u32]) -> Result<Vec<GraphItem>, OutOfMemory>
         requires ascending { IsStrictlyIncreasing problem.now }
         ensures { IfOk result (λ items. AreComponents self.now.rules
             (dependency_pairs self.now.rules) problem.now (items_of items.items)) }
     {
-        let ahead = rows(alloc, self, problem, Direction::Ahead)?;
-        let back = rows(alloc, self, problem, Direction::Back)?;
-        let leaders = leaders(alloc, &ahead, &back)?;
-        ordered(alloc, problem, &ahead, &leaders)
+        let rows = rows(alloc, self, problem)?;
+        let order = finishing_order(alloc, &rows)?;
+        let back = reversed(alloc, &rows)?;
+        let leaders = leaders(alloc, &back, &order)?;
+        ordered(alloc, problem, &rows, &leaders)
     }
 }

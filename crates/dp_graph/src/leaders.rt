@@ -1,46 +1,86 @@
-ghost use Rattle.std.specs.Prelude.{ℕ, ◌≡◌, ◌<◌, IfOk, Some, true, length, slice_get};
+ghost use Rattle.std.specs.Prelude.{ℕ, ◌≡◌, ◌<◌, ◌≤◌, List, IfOk, OnOk, length};
+ghost use Rattle.trs_defs.specs.Member.{In};
 ghost use Rattle.dp_graph.specs.GraphConditions.{lists_of};
-ghost use Rattle.dp_graph.specs.Leaders.{AreLeaders, AreReversed};
+ghost use Rattle.dp_graph.specs.Reversed.{AreReversed};
+ghost use Rattle.dp_graph.specs.Finishing.{IsFinishingOrder};
+ghost use Rattle.dp_graph.specs.Leaders.{AreLeaders, Leads, LeadsFrom};
 
-use crate::reached::reached;
+use crate::collecting::collect;
 use std::alloc::Global;
 use trs_core::OutOfMemory;
 
-/// For each place the least place of its component. It takes two walks for each component.
+/// For each place the least place of its component. From the last place of an order of finishing
+/// on, what leads to a place and is in no component yet is the component of that place.
 pub(crate) fn leaders(
     alloc: Global,
-    ahead: &[Vec<usize>],
     back: &[Vec<usize>],
+    order: &[usize],
 ) -> Result<Vec<usize>, OutOfMemory>
-    requires { AreReversed (lists_of ahead.now) (lists_of back.now) }
-    ensures { IfOk result (λ leaders. AreLeaders (lists_of ahead.now) leaders.items) }
+    requires { (i : ℕ) → In i order.now → i < length back.now }
+    ensures { IfOk result (λ leaders. (rows : List (List ℕ)) →
+        AreReversed rows (lists_of back.now) → IsFinishingOrder rows order.now →
+        AreLeaders rows leaders.items) }
 {
-    let none = ahead.len();
-    let mut leaders = vec![in alloc; none; ahead.len()]?;
-    for v in 0..ahead.len() {
-        if leaders[v] == none {
-            let to = reached(alloc, ahead, v)?;
-            let from = reached(alloc, back, v)?;
-            lead(v, &to, &from, &mut leaders);
-        }
+    let mut leaders = vec![in alloc; 0; back.len()]?;
+    let mut flags = vec![in alloc; false; back.len()]?;
+    let mut k = order.len();
+    while k > 0 {
+        k -= 1;
+        lead_from(alloc, back, order[k], &mut flags, &mut leaders)?;
     }
     Ok(leaders)
 }
 
-/// Makes a place the leader of those at which both flags are set.
-fn lead(v: usize, to: &[bool], from: &[bool], leaders: &mut Vec<usize>)
-    requires to { length to.now ≡ length leaders.old.items }
-    requires from { length from.now ≡ length leaders.old.items }
-    ensures places { length leaders.new.items ≡ length leaders.old.items }
-    ensures led { (w : ℕ) → slice_get to.now w ≡ Some true → slice_get from.now w ≡ Some true →
-        slice_get leaders.new.items w ≡ Some v }
-    ensures others { (w : ℕ) →
-        (slice_get to.now w ≡ Some true → slice_get from.now w ≡ Some true → ⊥) →
-        slice_get leaders.new.items w ≡ slice_get leaders.old.items w }
+/// Finds the leader of the component of a place, unless it was found.
+fn lead_from(
+    alloc: Global,
+    back: &[Vec<usize>],
+    v: usize,
+    flags: &mut Vec<bool>,
+    leaders: &mut Vec<usize>,
+) -> Result<(), OutOfMemory>
+    requires place { v < length back.now }
+    requires flags { length flags.old.items ≡ length back.now }
+    requires leaders { length leaders.old.items ≡ length back.now }
+    ensures { OnOk result (LeadsFrom (lists_of back.now) v flags.old.items flags.new.items
+        leaders.old.items leaders.new.items) }
 {
-    for w in 0..leaders.len() {
-        if to[w] && from[w] {
-            leaders[w] = v;
-        }
+    if flags[v] {
+        return Ok(());
     }
+    let component = collect(alloc, back, v, flags)?;
+    lead(&component, leaders);
+    Ok(())
+}
+
+/// Makes the least of these places the leader of all of them.
+fn lead(component: &[usize], leaders: &mut Vec<usize>)
+    requires some { 0 < length component.now }
+    requires within { (w : ℕ) → In w component.now → w < length leaders.old.items }
+    ensures { Leads component.now leaders.old.items leaders.new.items }
+{
+    let least = least(component);
+    for w in component {
+        leaders[*w] = least;
+    }
+}
+
+fn least(places: &[usize]) -> usize
+    requires { 0 < length places.now }
+    ensures there { In result places.now }
+    ensures least { (w : ℕ) → In w places.now → result ≤ w }
+{
+    let mut least = places[0];
+    for w in places {
+        least = lesser(least, *w);
+    }
+    least
+}
+
+fn lesser(v: usize, w: usize) -> usize
+    ensures first { result ≤ v }
+    ensures second { result ≤ w }
+    ensures one { (result ≡ w → ⊥) → result ≡ v }
+{
+    if w < v { w } else { v }
 }

@@ -3,21 +3,26 @@
 //! higher-order functions, 2005.)
 #![tactic(auto)]
 
+mod by_root;
 mod checking;
+mod collecting;
 mod earlier;
 mod edges;
 mod finding;
+mod finishing;
 mod graph;
 mod items;
 mod laws;
 mod leaders;
+mod lists;
 mod naming;
 mod onward;
 mod ordering;
 mod places;
-mod reached;
+mod reversed;
 mod rows;
 mod singles;
+mod waiting;
 
 pub use checking::group_check;
 pub use edges::{edge, leads, right_cap};

@@ -1,14 +1,27 @@
-ghost use Rattle.std.specs.Prelude.{◌≡◌, ◌↔◌, ◌++◌, [], IfOk, OnOk, IsTrue, Some, length, slice_get};
+ghost use Rattle.std.specs.Prelude.{ℕ, ◌≡◌, ◌↔◌, ◌<◌, List, All, IfOk, IsTrue, Some, length, map, get_or, slice_get};
 ghost use Rattle.std.specs.List.Sorted.{IsStrictlyIncreasing};
 ghost use Rattle.trs_defs.specs.Member.{In};
-ghost use Rattle.pair_theory.specs.DependencyPair.{keep_if};
 ghost use Rattle.dp_graph.specs.GraphConditions.{lists_of};
 ghost use Rattle.dp_graph.specs.GroupOrSingle.{item_of};
+ghost use Rattle.dp_graph.specs.PlaceLists.{AreLed};
 ghost use Rattle.dp_graph.specs.PutOut.{IsItemOf, led_by};
 
 use crate::GraphItem;
+use crate::lists::{empty_lists, put_behind};
 use std::alloc::Global;
 use trs_core::OutOfMemory;
+
+/// For each place the places that it leads, in order.
+pub(crate) fn led(alloc: Global, leaders: &[usize]) -> Result<Vec<Vec<usize>>, OutOfMemory>
+    requires { All (λ l. l < length leaders.now) leaders.now }
+    ensures { IfOk result (λ led. AreLed leaders.now (lists_of led.items)) }
+{
+    let mut led = empty_lists(alloc, leaders.len())?;
+    for (w, v) in leaders.iter().enumerate() {
+        put_behind(&mut led, *v, w)?;
+    }
+    Ok(led)
+}
 
 /// The component of a leader: a single pair where it leads no other place and has no edge to
 /// itself.
@@ -16,42 +29,36 @@ pub(crate) fn item(
     alloc: Global,
     problem: &[u32],
     rows: &[Vec<usize>],
-    leaders: &[usize],
+    led: &[usize],
     v: usize,
 ) -> Result<GraphItem, OutOfMemory>
     requires ascending { IsStrictlyIncreasing problem.now }
     requires rows { length rows.now ≡ length problem.now }
-    requires leaders { length leaders.now ≡ length problem.now }
-    requires leader { slice_get leaders.now v ≡ Some v }
-    ensures { IfOk result (λ item. IsItemOf problem.now (lists_of rows.now) leaders.now v
-        (item_of item)) }
+    requires place { v < length problem.now }
+    requires within { All (λ w. w < length problem.now) led.now }
+    ensures { IfOk result (λ item. (leaders : List ℕ) → length leaders ≡ length problem.now →
+        slice_get leaders v ≡ Some v →
+        map (λ w. get_or problem.now w 0) led.now ≡ led_by v problem.now leaders →
+        IsItemOf problem.now (lists_of rows.now) leaders v (item_of item)) }
 {
-    let members = led(alloc, problem, leaders, v)?;
+    let members = numbers_at(alloc, problem, led)?;
     if members.len() == 1 && !has(&rows[v], v) {
         return Ok(GraphItem::Single(problem[v]));
     }
     Ok(GraphItem::Group(members))
 }
 
-/// The numbers at the places of a leader.
-fn led(alloc: Global, problem: &[u32], leaders: &[usize], v: usize) -> Result<Vec<u32>, OutOfMemory>
-    requires { length leaders.now ≡ length problem.now }
-    ensures { IfOk result (λ members. members.items ≡ led_by v problem.now leaders.now) }
+/// The numbers at these places.
+fn numbers_at(alloc: Global, problem: &[u32], places: &[usize]) -> Result<Vec<u32>, OutOfMemory>
+    requires { All (λ w. w < length problem.now) places.now }
+    ensures { IfOk result
+        (λ numbers. numbers.items ≡ map (λ w. get_or problem.now w 0) places.now) }
 {
-    let mut members = Vec::new(alloc);
-    for (w, n) in problem.iter().enumerate() {
-        add_if(leaders[w] == v, *n, &mut members)?;
+    let mut numbers = Vec::with_capacity(alloc, places.len())?;
+    for w in places {
+        numbers.push(problem[*w])?;
     }
-    Ok(members)
-}
-
-fn add_if(yes: bool, n: u32, members: &mut Vec<u32>) -> Result<(), OutOfMemory>
-    ensures { OnOk result (members.new.items ≡ members.old.items ++ keep_if yes n []) }
-{
-    if yes {
-        members.push(n)?;
-    }
-    Ok(())
+    Ok(numbers)
 }
 
 /// Whether a place stands in a row.

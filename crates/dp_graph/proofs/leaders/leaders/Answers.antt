@@ -1,33 +1,54 @@
-use Rattle.std.proofs.Common.{◌<◌, ◌+◌, ℕ, Vec, Global, length, arith, refl, sym, subst, ◌∙◌}
+use Rattle.std.proofs.Common.{◌≡◌, ◌<◌, ◌+◌, ◌-◌, length, get_or, arith, sym, ap, subst, false, ◌∙◌}
+use Rattle.std.proofs.lemmas.Option.{slice_get-get_or}
+use Rattle.trs_defs.proofs.Members.{in_of_get}
 use Rattle.dp_graph.specs.GraphConditions.{lists_of}
-use Rattle.dp_graph.proofs.BlockLaws.{lists_length}
-use Rattle.dp_graph.proofs.FoundLaws.{read}
-use Rattle.dp_graph.proofs.LeaderLaws.{LedSoFar, led_before, led_more, all_led}
+use Rattle.dp_graph.proofs.LeaderLaws.{LedSoFar, none_led, next_led, all_led, leads_lengths}
+use Rattle.dp_graph.proofs.ListPlaces.{lists_length, length_repeat}
 use Rattle.dp_graph.proofs.leaders.leaders.Goals as goal
-use Rattle.dp_graph.proofs.leaders.leaders.Goals.{then-index-none+in_ok-to+in_ok-from, else-index-none}
 
-pub loop-v-preserved : goal.loop-v-preserved
-loop-v-preserved c =
-    let rows = lists_of c.args.ahead.now in
-    let back = lists_of c.args.back.now in
-    let v = c.loop-v.v in
-    let old = c.loop-v.leaders.items in
-    let size = lists_length c.args.ahead.now in
-    let count = c.loop-v.invariant.count in
-    let lt : v < length rows = omega (arith, c.loop-v-test.true, size) in
-    let x = c.index.result.now in
-    elim c.if-index-none.branch [
-      | then-index-none+in_ok-to+in_ok-from w ↦ subst (λ (z : Vec ℕ Global). LedSoFar rows z.items (v + 1)) (sym w.leaders-is)
-          (led_more rows back c.requires v lt old c.loop-v.invariant
-          (read old v x (length rows) (omega (arith, lt, count)) c.index.ensures (w.if-index-none.true ∙ sym size))
-          w.in_ok-to.to.items w.in_ok-from.from.items w.in_ok-to.ensures w.in_ok-from.ensures w.lead.new.leaders.items w.lead.ensures.places
-          (rw (w.deref.ensures.value, w.deref-then-index-none.ensures.value) at w.lead.ensures.led)
-          (rw (w.deref.ensures.value, w.deref-then-index-none.ensures.value) at w.lead.ensures.others))
-      | else-index-none w ↦ subst (λ (z : Vec ℕ Global). LedSoFar rows z.items (v + 1)) (sym w.leaders-is)
-          (led_before rows back c.requires v lt old c.loop-v.invariant x (read old v x x (omega (arith, lt, count)) c.index.ensures refl) (λ e. w.if-index-none.false (e ∙ size)))
-    ]
+pub loop-k-init : goal.loop-k-init
+loop-k-init c =
+    let first = c.in_ok-leaders.ensures.items_if_clones_equal (λ y e. e) in
+    let unset = c.in_ok-flags.ensures.items_if_clones_equal (λ y e. e) in
+    let n = length c.args.back.now in
+    record {
+      leaders = ap length first ∙ length_repeat n 0;
+      flags = ap length unset ∙ length_repeat n false;
+      low = omega arith;
+      led = λ rows are finishes.
+          let size : n ≡ length rows = sym (are.count ∙ lists_length c.args.back.now) in
+          none_led rows c.args.order.now c.in_ok-leaders.leaders.items c.in_ok-flags.flags.items n n (length c.args.order.now) size size first unset (omega arith);
+    }
+
+pub lead_from-requires-clause-place : goal.lead_from-requires-clause-place
+lead_from-requires-clause-place c =
+    let low = c.loop-k.invariant.low in
+    let k = c.loop-k.k - 1 in
+    let lt : k < length c.args.order.now = omega (arith, low, c.loop-k-test.true) in
+    c.requires (get_or c.args.order.now k 0) (in_of_get c.args.order.now k (get_or c.args.order.now k 0) (slice_get-get_or c.args.order.now k 0 lt))
+
+pub loop-k-preserved : goal.loop-k-preserved
+loop-k-preserved c =
+    let low = c.loop-k.invariant.low in
+    let k = c.loop-k.k - 1 in
+    let v = get_or c.args.order.now k 0 in
+    let lt : k < length c.args.order.now = omega (arith, low, c.loop-k-test.true) in
+    let more : c.loop-k.k ≡ k + 1 = omega (arith, c.loop-k-test.true) in
+    let old = c.loop-k.leaders.items in
+    let new = c.lead_from.new.leaders.items in
+    let flags = c.loop-k.flags.items in
+    let set = c.lead_from.new.flags.items in
+    let sizes = leads_lengths (lists_of c.args.back.now) v flags set old new c.in_ok-lead_from.ensures in
+    record {
+      leaders = sizes.0 ∙ c.loop-k.invariant.leaders;
+      flags = sizes.1 ∙ c.loop-k.invariant.flags;
+      low = omega (arith, lt);
+      led = λ rows are finishes.
+          next_led rows (lists_of c.args.back.now) are c.args.order.now finishes old new flags set k v (slice_get-get_or c.args.order.now k 0 lt)
+          (subst (LedSoFar rows c.args.order.now old flags) more (c.loop-k.invariant.led rows are finishes)) c.in_ok-lead_from.ensures;
+    }
 
 pub returns : goal.returns
-returns c =
-    let size = lists_length c.args.ahead.now in
-    all_led (lists_of c.args.ahead.now) c.loop-v.leaders.items c.loop-v.v (omega (arith, size, c.loop-v-test.false)) c.loop-v.invariant
+returns c = λ rows are finishes.
+    let none : c.loop-k.k ≡ 0 = omega (arith, c.loop-k-test.false) in
+    all_led rows c.args.order.now c.loop-k.leaders.items c.loop-k.flags.items finishes (subst (LedSoFar rows c.args.order.now c.loop-k.leaders.items c.loop-k.flags.items) none (c.loop-k.invariant.led rows are finishes))

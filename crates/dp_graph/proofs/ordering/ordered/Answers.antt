@@ -1,51 +1,114 @@
-use Rattle.std.proofs.Common.{length, Some, None, refl, subst, ◌∙◌}
+use Rattle.std.proofs.Common.{◌≡◌, ◌<◌, length, arith, ap, subst}
 use Rattle.dp_graph.specs.GraphConditions.{lists_of}
-use Rattle.dp_graph.specs.PutOut.{IsNextReady}
-use Rattle.dp_graph.proofs.PutOutLaws.{none_put_out, one_more_put_out, all_put_out, none_undone, fewer_left, still_together, together_at_first, size_at_first}
+use Rattle.dp_graph.specs.Waiting.{TakesOut}
+use Rattle.dp_graph.proofs.ListPlaces.{within, row_at, lists_length, length_more, all_of_each}
+use Rattle.dp_graph.proofs.ItemLaws.{led_place, place_led, led_numbers}
+use Rattle.dp_graph.proofs.OrderLaws.{starts, goes_on, ends, room, leads_itself_now, blockers_count, leaders_within}
 use Rattle.dp_graph.proofs.ordering.ordered.Goals as goal
 
-pub loop-done-init : goal.loop-done-init
-loop-done-init c =
-    let leaders = c.args.leaders.now in
-    let fresh = c.in_ok-done.ensures.items_if_clones_equal (λ y e. e) in
-    record {
-      passed = none_put_out c.args.problem.now (lists_of c.args.rows.now) leaders c.in_ok-done.done.items (length leaders) c.new-items.result.items refl fresh c.new-items.ensures.items;
-      size = size_at_first c.in_ok-done.done.items (length leaders) (length leaders) refl fresh;
-      together = together_at_first (lists_of c.args.rows.now) leaders c.requires.leaders c.in_ok-done.done.items (length leaders) refl fresh;
-    }
-
-pub loop-done-preserved : goal.loop-done-preserved
-loop-done-preserved c =
-    let rows = lists_of c.args.rows.now in
-    let leaders = c.args.leaders.now in
-    let done = c.loop-done.done.items in
-    let v = c.in-Some.v in
-    let ready : IsNextReady rows leaders done (Some v) =
-    subst (IsNextReady rows leaders done) c.in-Some.is (rw c.deref.ensures.value at c.in_ok-v.ensures) in
-    let l = c.loop-done.invariant in
-    record {
-      passed = one_more_put_out c.args.problem.now rows leaders done c.finish.new.done.items c.loop-done.items.items c.push.new.self.items c.in_ok-item.field-0 v ready c.in_ok-item.ensures c.finish.ensures
-          c.in_ok-push.ensures.items l.passed;
-      size = c.finish.ensures.count ∙ l.size;
-      together = still_together rows leaders c.requires.leaders v done c.finish.new.done.items ready.0.0 c.finish.ensures l.together;
-    }
-
-pub loop-done-smaller : goal.loop-done-smaller
-loop-done-smaller c =
-    let rows = lists_of c.args.rows.now in
-    let leaders = c.args.leaders.now in
-    let done = c.loop-done.done.items in
-    let v = c.in-Some.v in
-    let ready : IsNextReady rows leaders done (Some v) =
-    subst (IsNextReady rows leaders done) c.in-Some.is (rw c.deref.ensures.value at c.in_ok-v.ensures) in
-    fewer_left leaders v done c.finish.new.done.items c.loop-done.invariant.size ready.0 c.finish.ensures
+pub loop-v-init : goal.loop-v-init
+loop-v-init c =
+    starts c.args.problem.now (lists_of c.args.rows.now) c.args.leaders.now c.requires.leaders c.new-items.result.items c.in_ok-waiting.waiting c.new-items.ensures.items c.in_ok-waiting.ensures
 
 pub returns : goal.returns
 returns c =
-    let rows = lists_of c.args.rows.now in
+    ends c.args.problem.now (lists_of c.args.rows.now) c.args.leaders.now c.requires.leaders c.loop-v.items.items c.loop-v.waiting c.take_ready.new.self c.loop-v.invariant
+    (subst (TakesOut c.loop-v.waiting c.take_ready.new.self) c.in_default.is c.take_ready.ensures)
+
+pub led-requires : goal.led-requires
+led-requires c =
+    all_of_each (λ l. l < length c.args.leaders.now) c.args.leaders.now (leaders_within (lists_of c.args.rows.now) c.args.leaders.now c.requires.leaders)
+
+pub new-requires-clause-leaders : goal.new-requires-clause-leaders
+new-requires-clause-leaders c =
+    all_of_each (λ l. l < length c.args.leaders.now) c.args.leaders.now (leaders_within (lists_of c.args.rows.now) c.args.leaders.now c.requires.leaders)
+
+pub index-places-requires : goal.index-places-requires
+index-places-requires c =
+    let own = leads_itself_now c.args.problem.now (lists_of c.args.rows.now) c.args.leaders.now c.requires.leaders c.loop-v.items.items c.loop-v.waiting c.take_ready.new.self c.loop-v.invariant c.in-Some.v
+    c.in-Some.ensures in
+    let lt = within c.args.leaders.now c.in-Some.v c.in-Some.v own in
+    let count = c.in_ok-led.ensures.count in
+    let size = lists_length c.in_ok-led.led.items in
+    omega (arith, lt, count, size)
+
+pub item-requires-clause-place : goal.item-requires-clause-place
+item-requires-clause-place c =
+    let own = leads_itself_now c.args.problem.now (lists_of c.args.rows.now) c.args.leaders.now c.requires.leaders c.loop-v.items.items c.loop-v.waiting c.take_ready.new.self c.loop-v.invariant c.in-Some.v
+    c.in-Some.ensures in
+    let lt = within c.args.leaders.now c.in-Some.v c.in-Some.v own in
+    let total = c.requires.leaders.count in
+    let rows = lists_length c.args.rows.now in
+    let places = c.requires.places in
+    omega (arith, lt, total, rows, places)
+
+pub item-requires-clause-within : goal.item-requires-clause-within
+item-requires-clause-within c =
+    let own = leads_itself_now c.args.problem.now (lists_of c.args.rows.now) c.args.leaders.now c.requires.leaders c.loop-v.items.items c.loop-v.waiting c.take_ready.new.self c.loop-v.invariant c.in-Some.v
+    c.in-Some.ensures in
+    let lt = within c.args.leaders.now c.in-Some.v c.in-Some.v own in
+    let count = c.in_ok-led.ensures.count in
+    let size = lists_length c.in_ok-led.led.items in
+    let total = c.requires.leaders.count in
+    let rows = lists_length c.args.rows.now in
+    let places = c.requires.places in
+    let at = row_at c.in_ok-led.led.items c.in-Some.v c.index-places.result.now (omega (arith, lt, count, size)) c.index-places.ensures in
+    rw c.deref.ensures.value
+    (all_of_each (λ w. w < length c.args.problem.now) c.index-places.result.now.items
+    (λ w i.
+    let h = within c.args.leaders.now w c.in-Some.v (led_place c.args.leaders.now (lists_of c.in_ok-led.led.items) c.in_ok-led.ensures c.in-Some.v c.index-places.result.now.items at w i) in
+    omega (arith, h, total, rows, places)))
+
+pub release-requires-clause-leaders : goal.release-requires-clause-leaders
+release-requires-clause-leaders c =
+    all_of_each (λ l. l < length c.take_ready.new.self.blockers.items) c.args.leaders.now
+    (λ l i.
+    let h = leaders_within (lists_of c.args.rows.now) c.args.leaders.now c.requires.leaders l i in
+    let b = blockers_count c.args.problem.now (lists_of c.args.rows.now) c.args.leaders.now c.requires.leaders c.loop-v.items.items c.loop-v.waiting c.take_ready.new.self c.loop-v.invariant c.in-Some.v
+    c.in-Some.ensures in
+    omega (arith, h, b))
+
+pub release-requires-clause-places : goal.release-requires-clause-places
+release-requires-clause-places c =
+    let own = leads_itself_now c.args.problem.now (lists_of c.args.rows.now) c.args.leaders.now c.requires.leaders c.loop-v.items.items c.loop-v.waiting c.take_ready.new.self c.loop-v.invariant c.in-Some.v
+    c.in-Some.ensures in
+    let lt = within c.args.leaders.now c.in-Some.v c.in-Some.v own in
+    let count = c.in_ok-led.ensures.count in
+    let size = lists_length c.in_ok-led.led.items in
+    let total = c.requires.leaders.count in
+    let rows = lists_length c.args.rows.now in
+    let places = c.requires.places in
+    let at = row_at c.in_ok-led.led.items c.in-Some.v c.index-places.result.now (omega (arith, lt, count, size)) c.index-places.ensures in
+    rw c.deref-in-Some.ensures.value
+    (all_of_each (λ w. w < length c.args.rows.now) c.index-places.result.now.items
+    (λ w i.
+    let h = within c.args.leaders.now w c.in-Some.v (led_place c.args.leaders.now (lists_of c.in_ok-led.led.items) c.in_ok-led.ensures c.in-Some.v c.index-places.result.now.items at w i) in
+    omega (arith, h, total, rows)))
+
+pub loop-v-smaller : goal.loop-v-smaller
+loop-v-smaller c =
+    let r = room c.args.problem.now (lists_of c.args.rows.now) c.args.leaders.now c.requires.leaders c.loop-v.items.items c.loop-v.waiting c.take_ready.new.self c.loop-v.invariant c.in-Some.v
+    c.in-Some.ensures in
+    let a = ap length c.in_ok-push.ensures.items in
+    let b = length_more c.loop-v.items.items c.in_ok-component.component in
+    omega (arith, r, a, b)
+
+pub loop-v-preserved : goal.loop-v-preserved
+loop-v-preserved c =
+    let own = leads_itself_now c.args.problem.now (lists_of c.args.rows.now) c.args.leaders.now c.requires.leaders c.loop-v.items.items c.loop-v.waiting c.take_ready.new.self c.loop-v.invariant c.in-Some.v
+    c.in-Some.ensures in
+    let lt = within c.args.leaders.now c.in-Some.v c.in-Some.v own in
+    let count = c.in_ok-led.ensures.count in
+    let size = lists_length c.in_ok-led.led.items in
+    let total = c.requires.leaders.count in
+    let rows = lists_length c.args.rows.now in
+    let places = c.requires.places in
+    let at = row_at c.in_ok-led.led.items c.in-Some.v c.index-places.result.now (omega (arith, lt, count, size)) c.index-places.ensures in
     let leaders = c.args.leaders.now in
-    let done = c.loop-done.done.items in
-    let none : IsNextReady rows leaders done None =
-    subst (IsNextReady rows leaders done) c.in_default.is (rw c.deref.ensures.value at c.in_ok-v.ensures) in
-    let l = c.loop-done.invariant in
-    all_put_out c.args.problem.now rows leaders done c.loop-done.items.items (none_undone rows leaders c.requires.leaders done l.size l.together none) l.passed
+    let all = lists_of c.in_ok-led.led.items in
+    let size_is : length leaders ≡ length c.args.problem.now = omega (arith, total, rows, places) in
+    goes_on c.args.problem.now (lists_of c.args.rows.now) leaders c.requires.leaders c.loop-v.items.items c.loop-v.waiting c.take_ready.new.self c.loop-v.invariant c.in-Some.v c.in-Some.ensures
+    c.release.new.self c.index-places.result.now.items (λ w e. place_led leaders all c.in_ok-led.ensures c.in-Some.v c.index-places.result.now.items at w e)
+    (rw c.deref-in-Some.ensures.value at c.in_ok-release.ensures) c.in_ok-component.component c.push.new.self.items
+    (c.in_ok-component.ensures leaders size_is own
+    (rw c.deref.ensures.value (led_numbers c.args.problem.now leaders all size_is c.in_ok-led.ensures c.in-Some.v c.index-places.result.now.items at))) c.in_ok-push.ensures.items

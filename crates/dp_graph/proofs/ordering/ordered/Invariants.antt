@@ -1,15 +1,10 @@
-use Rattle.std.proofs.Common.{◌≡◌, length}
+use Rattle.std.proofs.Common.{◌-◌, length}
 use Rattle.dp_graph.specs.GraphConditions.{lists_of}
-use Rattle.dp_graph.specs.FoundPlaces.{unset}
-use Rattle.dp_graph.proofs.PutOutLaws.{PutOutSoFar, DoneTogether}
+use Rattle.dp_graph.proofs.OrderLaws.{IsOrdering}
 use Rattle.dp_graph.proofs.ordering.ordered.Given as goal
 
-abbrev pub invariant-loop-done : goal.invariant-loop-done
-invariant-loop-done l = record {
-  passed : PutOutSoFar l.problem (lists_of l.rows) l.leaders l.done.items l.items.items;
-  size : length l.done.items ≡ length l.leaders;
-  together : DoneTogether l.leaders l.done.items;
-}
+abbrev pub invariant-loop-v : goal.invariant-loop-v
+invariant-loop-v l = IsOrdering l.problem (lists_of l.rows) l.leaders l.items.items l.waiting
 
-abbrev pub decreases-loop-done : goal.decreases-loop-done
-decreases-loop-done l = unset l.done.items
+abbrev pub decreases-loop-v : goal.decreases-loop-v
+decreases-loop-v l = length l.leaders - length l.items.items

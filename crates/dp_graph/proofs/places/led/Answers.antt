@@ -1,14 +1,33 @@
-use Rattle.std.proofs.Common.{◌<◌, get_or, length, arith}
-use Rattle.std.proofs.lemmas.Option.{slice_get-get_or}
-use Rattle.dp_graph.proofs.ItemLaws.{next_led, all_led_by}
+use Rattle.std.proofs.Common.{get_or, length, arith, refl}
+use Rattle.dp_graph.specs.GraphConditions.{lists_of}
+use Rattle.dp_graph.proofs.ItemLaws.{none_led_before, one_more_led, all_led_lists}
+use Rattle.dp_graph.proofs.ListPlaces.{lists_length}
 use Rattle.dp_graph.proofs.places.led.Goals as goal
+
+pub loop-w-init : goal.loop-w-init
+loop-w-init c = record {
+  low = omega arith;
+  led = none_led_before c.args.leaders.now (lists_of c.in_ok-led.led.items) (length c.args.leaders.now) refl c.in_ok-led.ensures;
+}
+
+pub put_behind-requires : goal.put_behind-requires
+put_behind-requires c =
+    let lt = c.requires c.loop-w.w 0 c.loop-w-test.true in
+    let count = c.loop-w.invariant.led.count in
+    let size = lists_length c.loop-w.led.items in
+    omega (arith, lt, count, size)
 
 pub loop-w-preserved : goal.loop-w-preserved
 loop-w-preserved c =
-    let i = c.loop-w.w in
-    let small : i < length c.args.leaders.now = omega (arith, c.loop-w-test.true, c.requires) in
-    next_led c.args.v c.args.problem.now c.args.leaders.now c.loop-w.members.items c.add_if.new.members.items i (get_or c.args.problem.now i 0) (get_or c.args.leaders.now i 0)
-    (slice_get-get_or c.args.problem.now i 0 c.loop-w-test.true) (slice_get-get_or c.args.leaders.now i 0 small) c.loop-w.invariant c.in_ok-add_if.ensures
+    let w = c.loop-w.w in
+    let l = get_or c.args.leaders.now w 0 in
+    let lt = c.requires w 0 c.loop-w-test.true in
+    let count = c.loop-w.invariant.led.count in
+    record {
+      low = omega (arith, c.loop-w-test.true);
+      led = one_more_led c.args.leaders.now (lists_of c.loop-w.led.items) (lists_of c.put_behind.new.lists.items) w l c.loop-w-test.true refl (omega (arith, lt, count)) c.in_ok-put_behind.ensures
+          c.loop-w.invariant.led;
+    }
 
 pub returns : goal.returns
-returns c = all_led_by c.args.v c.args.problem.now c.args.leaders.now c.loop-w.members.items c.loop-w.w c.requires c.loop-w-test.false c.loop-w.invariant
+returns c = all_led_lists c.args.leaders.now (lists_of c.loop-w.led.items) c.loop-w.w c.loop-w-test.false c.loop-w.invariant.low c.loop-w.invariant.led

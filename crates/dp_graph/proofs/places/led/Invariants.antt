@@ -1,6 +1,10 @@
-use Rattle.std.proofs.Common.{◌≡◌, take}
-use Rattle.dp_graph.specs.PutOut.{led_by}
+use Rattle.std.proofs.Common.{◌≤◌, length}
+use Rattle.dp_graph.specs.GraphConditions.{lists_of}
+use Rattle.dp_graph.proofs.ItemLaws.{LedBefore}
 use Rattle.dp_graph.proofs.places.led.Given as goal
 
 abbrev pub invariant-loop-w : goal.invariant-loop-w
-invariant-loop-w l = l.members.items ≡ led_by l.v (take l.w l.problem) (take l.w l.leaders)
+invariant-loop-w l = record {
+  low : l.w ≤ length l.leaders;
+  led : LedBefore l.leaders (lists_of l.led.items) l.w;
+}

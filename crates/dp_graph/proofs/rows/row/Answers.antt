@@ -1,15 +1,19 @@
-use Rattle.std.proofs.Common.{get_or}
-use Rattle.std.proofs.lemmas.Option.{slice_get-get_or}
-use Rattle.dp_graph.specs.Rows.{EdgeTo}
-use Rattle.dp_graph.proofs.RowLaws.{place_by, all_places}
+use Rattle.dp_graph.proofs.RowLaws.{no_row_from_none, no_row_at_root, row_of_places, places_within}
 use Rattle.dp_graph.proofs.rows.row.Goals as goal
 
-pub loop-j-preserved : goal.loop-j-preserved
-loop-j-preserved c =
-    let i = c.loop-j.j in
-    let n = get_or c.args.problem.now i 0 in
-    place_by (EdgeTo c.args.graph.now c.args.way) c.args.problem.now c.args.m c.in_ok-yes.yes c.loop-j.row.items c.add_if.new.row.items i n (slice_get-get_or c.args.problem.now i 0 c.loop-j-test.true)
-    c.in_ok-yes.ensures c.in_ok-add_if.ensures c.loop-j.invariant
+pub returns-in_default : goal.returns-in_default
+returns-in_default c = rw c.new.ensures.items (no_row_from_none c.args.graph.now c.args.problem.now c.args.m c.in_default.ensures.node)
 
-pub returns : goal.returns
-returns c = all_places (EdgeTo c.args.graph.now c.args.way) c.args.problem.now c.args.m c.loop-j.row.items c.loop-j.j c.loop-j-test.false c.loop-j.invariant
+pub edges_among-requires : goal.edges_among-requires
+edges_among-requires c =
+    rw c.deref.ensures.value (places_within c.args.graph.now c.args.problem.now c.args.by_root.now c.in-Some.node.now.to c.in-Some-get.places.now c.requires c.in-Some-get.ensures.value)
+
+pub returns-in-Some-get : goal.returns-in-Some-get
+returns-in-Some-get c =
+    row_of_places c.args.graph.now c.args.problem.now c.args.by_root.now c.args.m c.in-Some.node.now c.in-Some-get.places.now c.edges_among.result c.node.ensures.valid c.node.ensures.symbols
+    (rw c.in-Some.node-is c.in-Some.ensures.node) c.requires c.in-Some-get.ensures.value (rw c.deref.ensures.value at c.edges_among.ensures)
+
+pub returns-in-None : goal.returns-in-None
+returns-in-None c =
+    rw c.new-in-None.ensures.items
+    (no_row_at_root c.args.graph.now c.args.problem.now c.args.by_root.now c.args.m c.in-Some.node.now c.node.ensures.valid c.node.ensures.symbols c.in-Some.ensures.node c.requires c.in-None.ensures.value)

@@ -1,0 +1,5 @@
+use Rattle.dp_graph.proofs.ReversedLaws.{put_at}
+use Rattle.dp_graph.proofs.lists.put_behind.Goals as goal
+
+pub returns : goal.returns
+returns c = put_at c.args.lists.now.items c.args.k c.args.place c.index_mut-list.result.now c.push.new.self c.requires c.index_mut-list.ensures.value c.in_ok-push.ensures.items
