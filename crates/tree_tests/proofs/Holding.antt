@@ -1,6 +1,6 @@
 -- What is held stays held when other tickets are given or end.
 use Rattle.std.proofs.Common.{◌≡◌, ◌≢◌, ◌⊎◌, inl, inr, ℕ, zero, suc, ◌≤◌, List, [], ◌∷◌, ◌++◌, length, Option, Some, None, Result, Ok, Err, slice_get, slice_set, refl, sym, ap, ◌∙◌, subst, arith}
-use Rattle.std.specs.Prelude.{OnOk, OnErr, IfSome}
+use Rattle.std.specs.Prelude.{OnOk, OnErr, IfOk, IfSome}
 use native.Mathlib.Decide.{ℕ_discrete}
 use mathlib.Core.Logic.{dite}
 use Rattle.trs_defs.specs.System.{System}
@@ -79,6 +79,13 @@ claimed_held old new held seat task fresh is all t o there =
     kept old new (record { seat = seat; ticket = task.ticket; event = claimed (problem_of task.problem) task.strategy }) t o is.adds
     (λ e. not_next old t fresh h.runs (sym is.adds.follows.ticket ∙ e)) h
 
+-- the same tree keeps what is held
+pub same_keeps : (old new : ProofTree) → new ≡ old → (held : List (Option Run)) → AreHeld old held → AreHeld new held
+same_keeps old new same held all = subst (λ (t : ProofTree). AreHeld t held) (sym same) all
+
+pub held_again : (tree : ProofTree) (held again : List (Option Run)) → again ≡ held → AreHeld tree held → AreHeld tree again
+held_again tree held again same all = subst (AreHeld tree) (sym same) all
+
 pub claim_keeps : (old new : ProofTree) (seat : ℕ) (c : Claimed) → IsFresh (length old.state.tickets) old.history → IsClaim old seat new c
     → (held : List (Option Run)) → AreHeld old held → AreHeld new held
 claim_keeps old new seat (claim.Task task) fresh is held all = claimed_held old new held seat task fresh is all
@@ -133,13 +140,11 @@ pub poll_keeps : (old new : ProofTree) (ticket : ℕ) (p : Polled) → IsPoll ol
 poll_keeps old new ticket polled.Go is held all = subst (λ (t : ProofTree). AreHeld t held) (sym is.1) all
 poll_keeps old new ticket polled.Cancelled is held all = ended_held old new held ticket cancelled all is.1
 
-pub post_keeps : (old new : ProofTree) (ticket : ℕ) (event : Event) (p : Posted) → IsPost old ticket event new p → (held : List (Option Run)) → AreHeld old held
-    → AreHeld new (slice_set held ticket None)
-post_keeps old new ticket event posted.Late is held all = ended_held old new held ticket event all is.1
-post_keeps old new ticket event posted.Taken is held all = ended_held old new held ticket event all is.1
-
-pub nothing_keeps : (old new : ProofTree) (ticket : ℕ) → new ≡ old → (held : List (Option Run)) → AreHeld old held → AreHeld new (slice_set held ticket None)
-nothing_keeps old new ticket same held all = left_held new held ticket (subst (λ (t : ProofTree). AreHeld t held) (sym same) all)
+pub posted_keeps : (old new : ProofTree) (ticket : ℕ) (event : Event) (r : Result Posted Run) → IfOk r (IsPost old ticket event new) → OnErr r (new ≡ old)
+    → (held : List (Option Run)) → AreHeld old held → AreHeld new (slice_set held ticket None)
+posted_keeps old new ticket event (Ok posted.Late) is same held all = ended_held old new held ticket event all is.1
+posted_keeps old new ticket event (Ok posted.Taken) is same held all = ended_held old new held ticket event all is.1
+posted_keeps old new ticket event (Err o) is same held all = left_held new held ticket (same_keeps old new same held all)
 
 pub taken_held : (tree : ProofTree) (held : List (Option Run)) (ticket : ℕ) (r : Option Run) → AreHeld tree held
     → IfSome r (λ (o : Run). slice_get held ticket ≡ Some (Some o)) → IfSome r (IsHeld tree ticket)

@@ -1,5 +1,5 @@
 //! Calls of a tree whose outcomes are held back, each with what it keeps of those.
-ghost use Rattle.std.specs.Prelude.{◌≡◌, ◌×◌, ◌++◌, ◌∷◌, [], List, Option, Some, None};
+ghost use Rattle.std.specs.Prelude.{◌≡◌, ◌++◌, ◌∷◌, [], List, Option, Some, None};
 ghost use Rattle.std.specs.Prelude.{length, slice_get, slice_set, IfOk, IfSome, IsTrue, OnOk, OnErr};
 ghost use Rattle.strategies.specs.Runs.{Run};
 ghost use Rattle.tree_states.specs.History.{IsFresh, IsOwned, Runs};
@@ -112,16 +112,49 @@ pub fn poll(tree: &mut Tree, ticket: u64) -> Polled
     polled
 }
 
+/// Posts what is held for a ticket that is running.
 pub fn post<'a>(
+    tree: &mut Tree<'a>,
+    held: &mut Vec<Option<Outcome<'a>>>,
+    ticket: u64,
+) -> Result<Posted, OutOfMemory>
+    requires { AreHeld tree.old held.old.items }
+    ensures { AreHeld tree.new held.new.items }
+{
+    let taken = take_held(tree, held, ticket);
+    post_taken(tree, ticket, taken)
+}
+
+fn post_taken<'a>(
+    tree: &mut Tree<'a>,
+    ticket: u64,
+    taken: Option<Outcome<'a>>,
+) -> Result<Posted, OutOfMemory>
+    requires { IfSome taken (IsHeld tree.old ticket) }
+    ensures { (held : List (Option Run)) → AreHeld tree.old held
+        → AreHeld tree.new (slice_set held ticket None) }
+{
+    match taken {
+        None => Err(OutOfMemory),
+        Some(outcome) => post_outcome(tree, ticket, outcome),
+    }
+}
+
+fn post_outcome<'a>(
     tree: &mut Tree<'a>,
     ticket: u64,
     outcome: Outcome<'a>,
 ) -> Result<Posted, OutOfMemory>
-    requires { IsHeld tree.old ticket outcome.entry }
+    requires { IsHeld tree.old ticket outcome }
     ensures { (held : List (Option Run)) → AreHeld tree.old held
         → AreHeld tree.new (slice_set held ticket None) }
 {
-    match tree.post(ticket, outcome) {
+    let posted = tree.post(ticket, outcome);
+    answer_of(posted)
+}
+
+fn answer_of(posted: Result<Posted, Outcome>) -> Result<Posted, OutOfMemory> {
+    match posted {
         Ok(posted) => Ok(posted),
         Err(_) => Err(OutOfMemory),
     }
@@ -141,14 +174,21 @@ pub fn is_running(tree: &Tree, held: &[Option<Outcome>], ticket: u64) -> bool
     requires { AreHeld tree.now held.now }
     ensures { IsTrue result → Runs ticket tree.now.history }
 {
+    let _entries = tree.history_len();
+    is_held(held, ticket)
+}
+
+fn is_held(held: &[Option<Outcome>], ticket: u64) -> bool
+    ensures { IsTrue result → (o : Run) × (slice_get held.now ticket ≡ Some (Some o)) }
+{
     match held.get(ticket as usize) {
-        Some(Some(_)) => true,
-        _ => false,
+        Some(slot) => slot.is_some(),
+        None => false,
     }
 }
 
 /// What is held for the ticket is taken out.
-pub fn take_held<'a>(
+fn take_held<'a>(
     tree: &Tree<'a>,
     held: &mut Vec<Option<Outcome<'a>>>,
     ticket: u64,

@@ -1,4 +1,5 @@
 //! Numbers that look random.
+ghost use Rattle.std.specs.Prelude.{◌<◌};
 
 /// A linear congruential generator.
 #[derive(Drop)]
@@ -14,7 +15,9 @@ impl Chance {
     }
 
     /// A number below the bound, or 0.
-    pub fn below(&mut self, bound: u64) -> u64 {
+    pub fn below(&mut self, bound: u64) -> u64
+        ensures { 0 < bound → result < bound }
+    {
         self.state = self
             .state
             .wrapping_mul(6_364_136_223_846_793_005)

@@ -102,12 +102,7 @@ impl<'a> Pair<'a> {
         let event = event_of(alloc, outcome.findings())?;
         let posted = self.trial.post(ticket)?;
         self.note(alloc, 0, ticket, event)?;
-        Ok(posted
-            == if is_over {
-                Posted::Late
-            } else {
-                Posted::Taken
-            })
+        Ok(posted == if is_over { Posted::Late } else { Posted::Taken })
     }
 
     /// Aborts a running ticket.

@@ -1,7 +1,10 @@
 //! The certificate and the report of a tree, beside those of the plain state.
+ghost use Rattle.std.specs.Prelude.{◌≡◌, ℕ, Some};
+ghost use Rattle.tree_states.specs.Replies.{IsVerdict};
+
 use crate::events::shown;
 use crate::state::{Node, State};
-use cert_step::{Claim, NodeStep, Proof};
+use cert_step::{Claim, NodeStep};
 use std::alloc::Global;
 use strategies::{Strategy, strategies_of};
 use tree_core::{GoalReport, Question, Report, Tree};
@@ -43,15 +46,13 @@ fn claims(question: Question) -> [Claim; 3] {
     }
 }
 
-fn is_proof(
-    alloc: Global,
-    state: &State,
-    question: Question,
-    goal: u32,
-    proof: &Proof,
-) -> Result<bool, OutOfMemory> {
+/// Whether the certificate of the goal that was won is that of the state.
+fn is_proof(alloc: Global, state: &State, tree: &Tree, goal: u32) -> Result<bool, OutOfMemory>
+    requires { (g : ℕ) × (tree.now.state.winner ≡ Some g) }
+{
+    let proof = tree.certificate(alloc)?;
     let order = state.walk(alloc, goal)?;
-    let claims = claims(question);
+    let claims = claims(tree.question());
     let is_claim = claims.get(goal as usize) == Some(&proof.claim);
     Ok(is_claim && are_steps(alloc, state, &order, &proof.steps)?)
 }
@@ -70,8 +71,10 @@ fn first_stuck<'a>(state: &'a State, order: &[usize]) -> Option<(usize, &'a Node
 /// Whether each strategy of the node failed as it is said.
 fn are_failures(node: &Node, failed: &[(Strategy, bool)]) -> bool {
     let strategies = strategies_of(&node.problem);
-    for ((strategy, mark), (named, spent)) in
-        strategies.iter().zip(node.marks.iter()).zip(failed.iter())
+    for ((strategy, mark), (named, spent)) in strategies
+        .iter()
+        .zip(node.marks.iter())
+        .zip(failed.iter())
     {
         if strategy != named || *mark != Mark::Failed(*spent) {
             return false;
@@ -90,14 +93,16 @@ fn is_part(
     let Some((place, node)) = first_stuck(state, &order) else {
         return Ok(false);
     };
-    Ok(part.goal == goal
-        && part.node == place as u64
-        && part.problem.same(&node.problem)
-        && are_failures(node, &part.failed)
-        && are_steps(alloc, state, &order, &part.steps)?)
+    Ok(
+        part.goal == goal
+            && part.node == place as u64
+            && part.problem.same(&node.problem)
+            && are_failures(node, &part.failed)
+            && are_steps(alloc, state, &order, &part.steps)?,
+    )
 }
 
-fn is_report(alloc: Global, state: &State, report: &Report) -> Result<bool, OutOfMemory> {
+fn are_parts(alloc: Global, state: &State, report: &Report) -> Result<bool, OutOfMemory> {
     for (goal, part) in (0..state.goals).zip(report.goals.iter()) {
         if !is_part(alloc, state, goal, part)? {
             return Ok(false);
@@ -106,14 +111,19 @@ fn is_report(alloc: Global, state: &State, report: &Report) -> Result<bool, OutO
     Ok(report.goals.len() as u64 == u64::from(state.goals))
 }
 
+/// Whether the report is that of the state.
+fn is_report(alloc: Global, state: &State, tree: &Tree) -> Result<bool, OutOfMemory>
+    requires { IsVerdict tree.now (Some Verdict.Maybe) }
+{
+    let report = tree.report(alloc)?;
+    are_parts(alloc, state, &report)
+}
+
 /// Whether the certificate or the report of the tree is that of the state.
 pub fn ends_as(alloc: Global, state: &State, tree: &Tree) -> Result<bool, OutOfMemory> {
     match tree.verdict() {
-        Some(Verdict::Won(goal)) => {
-            let proof = tree.certificate(alloc)?;
-            is_proof(alloc, state, tree.question(), goal, &proof)
-        }
-        Some(Verdict::Maybe) => is_report(alloc, state, &tree.report(alloc)?),
+        Some(Verdict::Won(goal)) => is_proof(alloc, state, tree, goal),
+        Some(Verdict::Maybe) => is_report(alloc, state, tree),
         None => Ok(true),
     }
 }

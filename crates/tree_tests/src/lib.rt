@@ -2,6 +2,8 @@
 #![tactic(auto)]
 
 #[cfg(test)]
+mod calls;
+#[cfg(test)]
 mod chance;
 #[cfg(test)]
 mod comparing;
@@ -19,7 +21,5 @@ mod replay;
 mod state;
 #[cfg(test)]
 mod systems;
-mod calls;
+#[cfg(test)]
 mod trial;
-
-pub use trial::Trial;

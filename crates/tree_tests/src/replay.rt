@@ -94,7 +94,9 @@ fn decide(
         count: found.left.len(),
     });
     for problem in &found.left {
-        state.nodes.push(new_node(alloc, goal, problem.copy(alloc)?)?)?;
+        state
+            .nodes
+            .push(new_node(alloc, goal, problem.copy(alloc)?)?)?;
     }
     state.winner = state.first_won(alloc)?;
     Ok(())

@@ -1,7 +1,7 @@
 //! A tree whose outcomes are held back.
 ghost use Rattle.std.specs.Prelude.{◌≡◌};
 
-use crate::calls::{claim, clear, end_by_abort, is_running, poll, post, settle, take_held};
+use crate::calls::{claim, clear, end_by_abort, is_running, poll, post, settle};
 use std::alloc::Global;
 use std::marker::Model;
 use std::test::Fail;
@@ -73,10 +73,7 @@ impl<'a> Trial<'a> {
 
     /// Posts what is held for a ticket that is running.
     pub fn post(&mut self, ticket: u64) -> Result<Posted, Fail> {
-        match take_held(&self.tree, &mut self.held, ticket) {
-            None => Err(OutOfMemory)?,
-            Some(outcome) => Ok(post(&mut self.tree, ticket, outcome)?),
-        }
+        Ok(post(&mut self.tree, &mut self.held, ticket)?)
     }
 
     /// Aborts a ticket that is running.
