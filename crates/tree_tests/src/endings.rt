@@ -18,19 +18,20 @@ fn are_steps(
     order: &[usize],
     steps: &[NodeStep],
 ) -> Result<bool, OutOfMemory> {
-    let mut rest = steps.iter();
+    let mut count = 0usize;
     for (i, n) in order.iter().enumerate() {
         if let Some(decided) = state.decided(*n) {
-            let Some(step) = rest.next() else {
+            let Some(step) = steps.get(count) else {
                 return Ok(false);
             };
             let numbers = shown(alloc, &step.step)?;
             if step.node != i as u64 || numbers.as_slice() != decided.shown.as_slice() {
                 return Ok(false);
             }
+            count = count.saturating_add(1);
         }
     }
-    Ok(rest.next().is_none())
+    Ok(count == steps.len())
 }
 
 /// What each goal claims, in order.
