@@ -1,0 +1,119 @@
+//! Lists of events, in which a step is shown by numbers.
+use cert_step::{GraphItem, Join, Problem, Step};
+use rewrite_core::PathStep;
+use std::alloc::Global;
+use strategies::Findings;
+use trs_core::OutOfMemory;
+
+/// A step that was found, and the problems that it leaves.
+#[derive(Drop)]
+pub struct FoundStep {
+    pub shown: Vec<u64>,
+    pub left: Vec<Problem>,
+}
+
+/// What becomes of a ticket.
+#[derive(Drop)]
+pub enum Event {
+    Claimed,
+    Found(FoundStep),
+    /// Whether the budget was spent.
+    Failed(bool),
+    Cancelled,
+    Aborted,
+}
+
+/// An event, its seat and its ticket.
+#[derive(Drop)]
+pub struct Entry {
+    pub seat: u32,
+    pub ticket: u64,
+    pub event: Event,
+}
+
+/// What a post of these findings says of its ticket.
+pub fn event_of(alloc: Global, findings: &Findings) -> Result<Event, OutOfMemory> {
+    match findings {
+        Findings::Found(step, left) => {
+            let mut problems = Vec::new(alloc);
+            for problem in left {
+                problems.push(problem.copy(alloc)?)?;
+            }
+            Ok(Event::Found(FoundStep {
+                shown: shown(alloc, step)?,
+                left: problems,
+            }))
+        }
+        Findings::NotThere => Ok(Event::Failed(false)),
+        Findings::Spent => Ok(Event::Failed(true)),
+    }
+}
+
+/// The numbers that show a step.
+pub fn shown(alloc: Global, step: &Step) -> Result<Vec<u64>, OutOfMemory> {
+    let mut numbers = Vec::new(alloc);
+    numbers.push(kind(step))?;
+    match step {
+        Step::Graph(items) => show_items(items, &mut numbers)?,
+        Step::Subterm(places) => show_places(places, &mut numbers)?,
+        Step::Loop { path, .. } => show_path(path, &mut numbers)?,
+        Step::Newman(joins) => show_joins(joins, &mut numbers)?,
+        Step::Fork { left, right, .. } => {
+            show_path(left, &mut numbers)?;
+            show_path(right, &mut numbers)?;
+        }
+        _ => (),
+    }
+    Ok(numbers)
+}
+
+fn kind(step: &Step) -> u64 {
+    match step {
+        Step::Dp => 0,
+        Step::Graph(_) => 1,
+        Step::Subterm(_) => 2,
+        Step::Order(_) => 3,
+        Step::UsablePoly(_) => 4,
+        Step::Loop { .. } => 5,
+        Step::Newman(_) => 6,
+        Step::Parallel(_) => 7,
+        Step::Strong(_) => 8,
+        Step::Label { .. } => 9,
+        Step::Fork { .. } => 10,
+        Step::Confluence => 11,
+    }
+}
+
+fn show_items(items: &[GraphItem], numbers: &mut Vec<u64>) -> Result<(), OutOfMemory> {
+    for item in items {
+        numbers.push(u64::from(matches!(item, GraphItem::Single(_))))?;
+        for pair in item.members() {
+            numbers.push(u64::from(*pair))?;
+        }
+    }
+    Ok(())
+}
+
+fn show_places(places: &[(u32, u8)], numbers: &mut Vec<u64>) -> Result<(), OutOfMemory> {
+    for (symbol, place) in places {
+        numbers.push(u64::from(*symbol))?;
+        numbers.push(u64::from(*place))?;
+    }
+    Ok(())
+}
+
+fn show_path(path: &[PathStep], numbers: &mut Vec<u64>) -> Result<(), OutOfMemory> {
+    numbers.push(path.len() as u64)?;
+    for step in path {
+        numbers.push(u64::from(step.rule))?;
+    }
+    Ok(())
+}
+
+fn show_joins(joins: &[Join], numbers: &mut Vec<u64>) -> Result<(), OutOfMemory> {
+    for join in joins {
+        show_path(&join.left, numbers)?;
+        show_path(&join.right, numbers)?;
+    }
+    Ok(())
+}

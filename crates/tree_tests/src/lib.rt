@@ -1,0 +1,25 @@
+//! Tests of the proof tree, beside a plain replay of lists of events. There is no code here.
+#![tactic(auto)]
+
+#[cfg(test)]
+mod calls;
+#[cfg(test)]
+mod chance;
+#[cfg(test)]
+mod comparing;
+#[cfg(test)]
+mod directed;
+#[cfg(test)]
+mod endings;
+#[cfg(test)]
+mod events;
+#[cfg(test)]
+mod lists;
+#[cfg(test)]
+mod replay;
+#[cfg(test)]
+mod state;
+#[cfg(test)]
+mod systems;
+#[cfg(test)]
+mod trial;

@@ -1,0 +1,26 @@
+//! Small systems, with a question each.
+use finder_cases::{Texts, made};
+use std::alloc::Global;
+use std::test::Fail;
+use tree_core::Question;
+use trs_core::Trs;
+
+/// A question on a system of these letters and rules, and how far searches go.
+#[derive(Clone, Copy)]
+pub struct Case<'a> {
+    pub question: Question,
+    pub letters: &'a [u8],
+    pub rules: &'a [&'a [u8]],
+    pub budget: u64,
+}
+
+pub fn system(alloc: Global, case: &Case) -> Result<Trs, Fail> {
+    let texts = Texts {
+        alphabet: case.letters,
+        plain: &[],
+        roots: &[],
+        rules: case.rules,
+        pairs: &[],
+    };
+    Ok(made(alloc, &texts)?.trs)
+}
