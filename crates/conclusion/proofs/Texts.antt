@@ -45,7 +45,9 @@ won_serial named tree g claim steps text same end is_won there are is =
 
 -- the report of the state of a serial history
 pub lost_serial : (named : NamedSystem) (tree : ProofTree) (parts : List Part) (text : List ℕ) → tree.system ≡ named.system → IsEnd tree
-    → tree.state.winner ≡ None → ArePartsOf tree.state.nodes parts → text ≡ maybe_text named tree.question parts → IsSerialText named tree.question tree.budget text
-lost_serial named tree parts text same end none are is =
+    → tree.state.winner ≡ None → IsTrueReport tree.system tree.question tree.budget parts → ArePartsOf tree.state.nodes parts
+    → text ≡ maybe_text named tree.question parts → IsSerialText named tree.question tree.budget text
+lost_serial named tree parts text same end none is_true are is =
     subst (IsSerialText named tree.question tree.budget) (sym is)
-    (lost tree.state parts (subst (λ (z : System). IsSerialEnd z tree.question tree.budget tree.state) same end) none are)
+    (lost tree.state parts (subst (λ (z : System). IsSerialEnd z tree.question tree.budget tree.state) same end) none
+    (subst (λ (z : System). IsTrueReport z tree.question tree.budget parts) same is_true) are)

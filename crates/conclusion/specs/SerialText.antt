@@ -6,7 +6,7 @@ use Rattle.cert_step.specs.ProofStep.{ProofNodeStep}
 use Rattle.tree_states.specs.declared.question.Question.{Question}
 use Rattle.tree_states.specs.Questions.{claims}
 use Rattle.tree_states.specs.States.{State}
-use Rattle.tree_states.specs.Reports.{Part, AreStepsOf, ArePartsOf}
+use Rattle.tree_states.specs.Reports.{Part, IsTrueReport, AreStepsOf, ArePartsOf}
 use Rattle.tree_states.specs.Trees.{ProofTree}
 use Rattle.worker_pool.specs.Serial.{IsSerialEnd}
 use Rattle.conclusion.specs.Concludes.{proof_lines, maybe_text}
@@ -15,11 +15,11 @@ use Rattle.conclusion.specs.Concludes.{proof_lines, maybe_text}
 abbrev pub IsEnd : ProofTree → Type 0
 IsEnd tree = IsSerialEnd tree.system tree.question tree.budget tree.state
 
--- The text is read off the state to which a serial history leads: the certificate of the goal that was won, or the report of
--- all goals.
+-- The text is read off the state to which a serial history leads: the certificate of the goal that was won, or the true report
+-- of all goals.
 pub data IsSerialText (named : NamedSystem) (question : Question) (budget : ℕ) : List ℕ → Type 0 where
   won : (state : State) (g : ℕ) (claim : Claim) (steps : List ProofNodeStep) → IsSerialEnd named.system question budget state
       → state.winner ≡ Some g → slice_get (claims question) g ≡ Some claim → AreStepsOf state.nodes g steps
       → IsSerialText named question budget (proof_lines named claim steps)
   lost : (state : State) (parts : List Part) → IsSerialEnd named.system question budget state → state.winner ≡ None
-      → ArePartsOf state.nodes parts → IsSerialText named question budget (maybe_text named question parts)
+      → IsTrueReport named.system question budget parts → ArePartsOf state.nodes parts → IsSerialText named question budget (maybe_text named question parts)

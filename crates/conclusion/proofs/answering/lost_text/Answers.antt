@@ -28,5 +28,5 @@ returns-clause-serial c =
     let rest : c.deref.result.now ≡ c.in_ok-lines.lines.items = c.deref.ensures.value in
     let lines : c.in_ok-lines.lines.items ≡ report_lines c.args.system.now tree.question parts =
     subst (λ q. c.in_ok-lines.lines.items ≡ report_lines c.args.system.now q parts) c.question.ensures c.in_ok-lines.ensures in
-    lost_serial c.args.system.now tree parts _ c.requires.system c.requires.end c.requires.lost.0 c.in_ok-report.ensures.of_tree
+    lost_serial c.args.system.now tree parts _ c.requires.system c.requires.end c.requires.lost.0 c.in_ok-report.ensures.is_true c.in_ok-report.ensures.of_tree
     (c.in_ok-extend_from_slice.ensures.items ∙ ap₂ (λ a b. a ++ b) first (rest ∙ lines))

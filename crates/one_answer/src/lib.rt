@@ -1,0 +1,11 @@
+//! A strategy has at most one answer to a problem within a budget, but for the numbers of the
+//! variables of a loop.
+#![tactic(auto)]
+
+ghost use Rattle.one_answer.specs.Laws.{AnswersAreOne};
+
+/// A law, with nothing to run: two true answers of a strategy to a problem within a budget are the
+/// same.
+pub fn answers_are_one()
+    ensures { AnswersAreOne }
+{}

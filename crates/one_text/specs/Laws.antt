@@ -1,0 +1,15 @@
+-- One worker finds one text.
+use Rattle.std.specs.Prelude.{◌≡◌, ℕ, List}
+use Rattle.names_text.specs.Named.{NamedSystem, IsNamed}
+use Rattle.tree_states.specs.declared.question.Question.{Question}
+use Rattle.conclusion.specs.SerialText.{IsSerialText}
+use Rattle.sampling.specs.Line.{IsSampleLine}
+
+abbrev pub SerialTextsAreOne : Type 0
+SerialTextsAreOne =
+    (named : NamedSystem) (question : Question) (budget : ℕ) (text other : List ℕ) → IsNamed named
+    → IsSerialText named question budget text → IsSerialText named question budget other → text ≡ other
+
+abbrev pub SampleLinesAreOne : Type 0
+SampleLinesAreOne =
+    (size budget : ℕ) (line other : List ℕ) → IsSampleLine size budget line → IsSampleLine size budget other → line ≡ other

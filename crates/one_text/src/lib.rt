@@ -1,0 +1,16 @@
+//! With one worker a question has one text: the serial history, and what is read off the state to
+//! which it leads, depend on the system, the question and the budget alone.
+#![tactic(auto)]
+
+ghost use Rattle.one_text.specs.Laws.{SerialTextsAreOne, SampleLinesAreOne};
+
+/// A law, with nothing to run: two texts that one worker finds for a question about a system within
+/// a budget are the same.
+pub fn serial_texts_are_one()
+    ensures { SerialTextsAreOne }
+{}
+
+/// A law, with nothing to run: two lines of one sample system within a budget are the same.
+pub fn sample_lines_are_one()
+    ensures { SampleLinesAreOne }
+{}
