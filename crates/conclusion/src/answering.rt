@@ -1,8 +1,5 @@
 ghost use Rattle.std.specs.Prelude.{◌≡◌, ◌<◌, ◌^◌, ℕ, Some, IfOk, length};
 ghost use Rattle.tree_states.specs.Replies.{IsVerdict};
-ghost use Rattle.tree_states.specs.Questions.{goals_of};
-ghost use Rattle.tree_states.specs.States.{opening};
-ghost use Rattle.tree_states.specs.Events.{Replays};
 ghost use Rattle.conclusion.specs.Concludes.{Concludes};
 ghost use Rattle.conclusion.specs.SerialText.{IsSerialText, IsEnd};
 
@@ -34,20 +31,11 @@ pub fn answer_question(
 {
     let finished = prove_alone(alloc, question, system.trs(), Limits { budget })?;
     let tree = finished.tree();
-    check_replayed(tree);
     match tree.verdict() {
         Some(Verdict::Won(_)) => won_text(alloc, system, tree),
         Some(Verdict::Maybe) => lost_text(alloc, system, tree),
         None => unreachable!(),
     }
-}
-
-// What is known of each tree's history. There is nothing to run.
-fn check_replayed(tree: &Tree<'_>)
-    ensures { Replays (goals_of tree.now.question) tree.now.system
-        (opening tree.now.question) tree.now.history tree.now.state }
-{
-    let _entries = tree.history_len();
 }
 
 // The certificate of the goal that was won.

@@ -11,12 +11,10 @@ ghost use Rattle.loop_find.specs.Narrowed.{NarrowsToTerms, NarrowsNot};
 
 use crate::apart::position;
 use crate::closures::Sides;
+use crate::writing::MOST_NODES;
 use std::alloc::Global;
 use trs_core::{OutOfMemory, Rule, Term};
 use trs_unify::{Unifier, no_names, unify};
-
-/// The most nodes of a side of a new closure. Its depth is then below 1,024.
-const MOST_NODES: u64 = 256;
 
 /// The sides of the closure that the rule, which is renamed apart, gives at a place of the right
 /// side, where `part` stands. `None` where there is none, or it would not be small.
@@ -63,7 +61,7 @@ fn is_small(unifier: &Unifier, t: &Term) -> bool
 {
     match unifier.small_size(t) {
         None => false,
-        Some(n) => n <= MOST_NODES,
+        Some(n) => n <= MOST_NODES as u64,
     }
 }
 

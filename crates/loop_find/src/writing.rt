@@ -14,7 +14,7 @@ use crate::tokens::Token;
 use trs_core::{OutOfMemory, Term};
 
 /// The most nodes of a side of a new closure. Its depth is then below 1,024.
-const MOST_NODES: usize = 256;
+pub(crate) const MOST_NODES: usize = 256;
 
 /// Adds the tokens of an instance: `steps` times what stands for a variable is put in its place.
 /// `false` where there would be too many.

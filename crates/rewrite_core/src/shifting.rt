@@ -37,6 +37,9 @@ pub fn push_shifted(
 fn shift_step(alloc: Global, step: &PathStep, by: &Position) -> Result<PathStep, OutOfMemory>
     ensures { IfOk result (λ s. s ≡ shifted_step by.now step.now) }
 {
+    if by.places().is_empty() {
+        return step.copy(alloc);
+    }
     let mut place = by.copy(alloc)?;
     push_places(&mut place, step.place.places())?;
     Ok(PathStep {

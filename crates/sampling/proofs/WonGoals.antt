@@ -79,7 +79,3 @@ line_judged size budget system judgement line same is_true serial is =
     subst (IsSampleLine size budget) (sym (is ∙ ap (λ (s : System). line_of s judgement) same))
     (judged judgement (subst (λ (s : System). IsTrueJudgement s budget judgement) same is_true) (subst (λ (s : System). IsSerialJudgement s budget judgement) same serial))
 
--- what is known of an answer that is there
-pub for_ok : {X E : Type 0} (fact other : X → Type 0) (r : Result X E) → ((x : X) → fact x → other x) → IfOk r fact → IfOk r other
-for_ok fact other (Ok x) more h = more x h
-for_ok fact other (Err e) more h = tt

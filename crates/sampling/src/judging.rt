@@ -1,8 +1,5 @@
 ghost use Rattle.std.specs.Prelude.{◌≡◌, ℕ, Some, IfOk};
-ghost use Rattle.tree_states.specs.Events.{Replays};
-ghost use Rattle.tree_states.specs.Questions.{goals_of};
 ghost use Rattle.tree_states.specs.Replies.{IsVerdict};
-ghost use Rattle.tree_states.specs.States.{opening};
 ghost use Rattle.sampling.specs.Judged.{IsTrueJudgement, IsSerialJudgement, IsOnTermination};
 
 use crate::Judgement;
@@ -26,20 +23,11 @@ pub fn judge(alloc: Global, trs: &Trs, budget: u64) -> Result<Judgement, OutOfMe
 {
     let finished = prove_alone(alloc, Question::Termination, trs, Limits { budget })?;
     let tree = finished.tree();
-    check_replayed(tree);
     match tree.verdict() {
         Some(Verdict::Won(_)) => won(alloc, tree),
         Some(Verdict::Maybe) => lost(alloc, tree),
         None => unreachable!(),
     }
-}
-
-// What is known of each tree's history. There is nothing to run.
-fn check_replayed(tree: &Tree<'_>)
-    ensures { Replays (goals_of tree.now.question) tree.now.system
-        (opening tree.now.question) tree.now.history tree.now.state }
-{
-    let _entries = tree.history_len();
 }
 
 // The judgement where a goal was won: its certificate is accepted.

@@ -20,6 +20,12 @@ pub read_step : (path : List PlacedRule) (k : ℕ) (place : List ℕ) (rule : �
     → record { place = place; rule = rule } ≡ item → item ≡ get_or path k item → record { place = place; rule = rule } ≡ get_or path k (record { place = place; rule = rule })
 read_step path k place rule item e is = rw e is
 
+-- the step leaves the term as it is
+pub record StaysBy (system : System) (s : PlacedRule) (t : Tree) : Type 0 where
+  pub valid : IsSystem system
+  pub steps : StepsAt system.rules s.place s.rule t t
+  pub small : IsTrue (within_limits t)
+
 -- step number k of the path, which is read
 module _ (system : System) (path : List PlacedRule) (k : ℕ) (s : PlacedRule) (within : k < length path) (is : s ≡ get_or path k s) where
   -- one more step of the path

@@ -1,4 +1,4 @@
-ghost use Rattle.std.specs.Prelude.{◌≡◌, ◌++◌, [], ◌∷◌, IfOk};
+ghost use Rattle.std.specs.Prelude.{◌≡◌, ◌↔◌, ◌++◌, [], ◌∷◌, IsTrue, IfOk};
 ghost use Rattle.term_pool.specs.Paths.{fault_at};
 
 use crate::StepFault;
@@ -27,10 +27,23 @@ impl PathStep {
     pub fn copy(&self, alloc: Global) -> Result<PathStep, OutOfMemory>
         ensures { IfOk result (λ s. s ≡ self.now) }
     {
+        // Most steps of a long path are at the root.
+        let place = if self.place.places().is_empty() {
+            Position::new(alloc)
+        } else {
+            self.place.copy(alloc)?
+        };
         Ok(PathStep {
-            place: self.place.copy(alloc)?,
+            place,
             rule: self.rule,
         })
+    }
+
+    /// Whether both are by one rule at one place.
+    pub(crate) fn is_same(&self, other: &PathStep) -> bool
+        ensures { IsTrue result ↔ (self.now ≡ other.now) }
+    {
+        self.rule == other.rule && self.place.places() == other.place.places()
     }
 }
 

@@ -20,7 +20,8 @@ const ADDED_FOR_A_NODE: u32 = 15;
 
 impl Pool {
     /// The id of the end of a path. Each term after the start keeps the limits. A step costs what
-    /// its rule and the way to its place have nodes. Where the steps have added many ids, and at the
+    /// its rule and the way to its place have nodes, and less where it is that before and neither
+    /// changes the term. Where the steps have added many ids, and at the
     /// latest at `MOST_ADDED`, the term at hand is read, the ids that were added are released, and it is
     /// interned again, so that a long path takes no more memory than that.
     pub fn run_path(
@@ -48,13 +49,23 @@ impl Pool {
     {
         let mark = self.mark();
         let mut current = id;
+        // The step before, where it left the term as it was: made again it does so again.
+        let mut idle: Option<&PathStep> = None;
         for (k, step) in path.iter().enumerate() {
+            if let Some(before) = idle {
+                if before.is_same(step) {
+                    continue;
+                }
+            }
             let Ok(same) = self.carry_over(alloc, mark, current) else {
                 self.release(mark);
                 return Err(PathFault::OutOfMemory);
             };
             match self.step_at(alloc, trs, same, &step.place, step.rule) {
-                Ok(next) => current = next,
+                Ok(next) => {
+                    idle = if next == same { Some(step) } else { None };
+                    current = next;
+                }
                 Err(fault) => {
                     self.release(mark);
                     return Err(PathFault::at_step(k as u64, fault));

@@ -13,11 +13,6 @@ use Rattle.trsprove.specs.declared.status.Status.{Status}
 use Rattle.trsprove.specs.Output.{most_problem_bytes, most_certificate_bytes, IsWritten, with_claim, in_version_two, too_heavy, Verdict, refused, rejected, accepted, AreFetched, Output, decided, IsNeeded, as_problem, as_certificate, WasFetched, IsAnswer, TouchesOnlyNeeded}
 use Rattle.trsprove.specs.Answers.{IsUnfetched}
 
--- what holds of a value, if there is one, where another fact does
-pub for_ok : {T E : Type 0} (P Q : T → Type 0) (r : Result T E) → ((a : T) → P a → Q a) → IfOk r P → IfOk r Q
-for_ok P Q (Ok a) f h = f a h
-for_ok P Q (Err e) f h = tt
-
 -- a failure that is counted is a fault that came, also since an earlier time
 pub fault_came : (X : Type 0) (fault : FetchFault) (before middle now : List ℕ → ℕ) (name : List ℕ) → before name ≤ middle name
     → CountsFault {X = X} (Err fault) middle now name → fault ≡ fetch.Failed → Rose (before name) (now name)

@@ -1,5 +1,7 @@
 ghost use Rattle.std.specs.Prelude.{◌≡◌};
+ghost use Rattle.tree_states.specs.Events.{Replays};
 ghost use Rattle.tree_states.specs.Questions.{goals_of};
+ghost use Rattle.tree_states.specs.States.{opening};
 ghost use Rattle.tree_states.specs.Verdicts.{HasVerdict};
 
 use std::marker::Model;
@@ -36,11 +38,14 @@ impl<'a> Finished<'a> {
         Finished { tree }
     }
 
-    /// The tree. A verdict stands on it.
+    /// The tree. A verdict stands on it, and its state is that to which its history leads.
     pub fn tree(&self) -> &Tree<'a>
         ensures tree { result.now ≡ self.now }
         ensures verdict { HasVerdict (goals_of self.now.question) self.now.state }
+        ensures replays { Replays (goals_of self.now.question) self.now.system
+            (opening self.now.question) self.now.history self.now.state }
     {
+        let _entries = self.tree.history_len();
         &self.tree
     }
 }

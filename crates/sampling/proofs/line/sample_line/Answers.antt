@@ -1,9 +1,10 @@
 use Rattle.std.proofs.Common.{◌≡◌, ◌∙◌, ap, sym}
+use Rattle.std.proofs.lemmas.Result.{IfOk-weaker}
 use Rattle.trs_defs.specs.System.{System}
 use Rattle.names_text.specs.Named.{NamedSystem}
 use Rattle.sample_family.specs.Family.{sample}
 use Rattle.sampling.specs.Line.{IsSampleLine, line_of}
-use Rattle.sampling.proofs.WonGoals.{line_judged, for_ok}
+use Rattle.sampling.proofs.WonGoals.{line_judged}
 use Rattle.sampling.proofs.line.sample_line.Goals as goal
 
 pub returns : goal.returns
@@ -13,7 +14,7 @@ returns c =
     let system = c.trs.result.now in
     let sampled : system ≡ (sample size).system = c.trs.ensures.trs ∙ ap (λ (s : NamedSystem). s.system) c.in_ok-sample.ensures in
     let again : c.trs-2.result.now ≡ system = c.trs-2.ensures.trs ∙ sym c.trs.ensures.trs in
-    for_ok _ (λ line. IsSampleLine size c.args.budget line.items) c.line_of.result
+    IfOk-weaker c.line_of.result _ (λ line. IsSampleLine size c.args.budget line.items)
     (λ line is. line_judged size c.args.budget system judgement line.items sampled c.in_ok-judgement.ensures.is_true c.in_ok-judgement.ensures.serial
     (is ∙ ap (λ (s : System). line_of s judgement) again))
     c.line_of.ensures

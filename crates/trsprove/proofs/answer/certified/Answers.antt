@@ -1,8 +1,9 @@
 use Rattle.std.proofs.Common.{ℕ, Vec, Global, ap, Err, inl, inr, refl, subst, Some, IfOk, arith}
+use Rattle.std.proofs.lemmas.Result.{IfOk-weaker}
 use Rattle.command_line.specs.Request.{certifies}
 use Rattle.trsprove.specs.Output.{Verdict, IsAnswer, AnswersOnly, as_problem, most_problem_bytes, most_certificate_bytes}
 use Rattle.trsprove.specs.Answers.{status_of, text_of}
-use Rattle.trsprove.proofs.Fetching.{for_ok, fault_came, not_counted, rose_by_later, may_be_before, may_pass_before, unfetched_line, fetched_text, touched_first, second_fault, second_long, touched_both}
+use Rattle.trsprove.proofs.Fetching.{fault_came, not_counted, rose_by_later, may_be_before, may_pass_before, unfetched_line, fetched_text, touched_first, second_fault, second_long, touched_both}
 use Rattle.trsprove.proofs.Answering.{unfetched_only, verdict_only}
 use Rattle.trsprove.proofs.answer.certified.Goals as goal
 
@@ -14,8 +15,7 @@ returns-in-Ok-fetch-clause-answer g c =
     let v = c.in-Ok.problem_text.items in
     let w = c.in-Ok-fetch.certificate_text.items in
     let wanted = c.args.wanted in
-    for_ok (λ a. Verdict v w wanted (status_of a) (text_of a)) (λ a. IsAnswer (Some (certifies wanted c.args.problem.now c.args.certificate.now)) before now (status_of a) (text_of a))
-    c.decided.result
+    IfOk-weaker c.decided.result (λ a. Verdict v w wanted (status_of a) (text_of a)) (λ a. IsAnswer (Some (certifies wanted c.args.problem.now c.args.certificate.now)) before now (status_of a) (text_of a))
     (λ a. fetched_text wanted c.args.problem.now c.args.certificate.now v w before middle now (status_of a) (text_of a) c.in-Ok.ensures.whole c.in-Ok.ensures.bound
     c.fetch.ensures.told c.in-Ok-fetch.ensures.whole c.in-Ok-fetch.ensures.bound)
     (subst (λ z. IfOk c.decided.result (λ a. Verdict v z wanted (status_of a) (text_of a))) c.deref-in-Ok-fetch.ensures.value
@@ -28,7 +28,7 @@ returns-in-Ok-fetch-clause-only g c =
     let v = c.in-Ok.problem_text.items in
     let w = c.in-Ok-fetch.certificate_text.items in
     let wanted = c.args.wanted in
-    for_ok (λ a. Verdict v w wanted (status_of a) (text_of a)) (λ a. AnswersOnly (Some (certifies wanted c.args.problem.now c.args.certificate.now)) before (status_of a)) c.decided.result
+    IfOk-weaker c.decided.result (λ a. Verdict v w wanted (status_of a) (text_of a)) (λ a. AnswersOnly (Some (certifies wanted c.args.problem.now c.args.certificate.now)) before (status_of a))
     (λ a. verdict_only before wanted c.args.problem.now c.args.certificate.now v w c.in-Ok.ensures.whole
     (may_be_before before middle c.args.certificate.now w c.fetch.ensures.told c.in-Ok-fetch.ensures.whole) c.in-Ok.ensures.bound c.in-Ok-fetch.ensures.bound (status_of a) (text_of a))
     (subst (λ z. IfOk c.decided.result (λ a. Verdict v z wanted (status_of a) (text_of a))) c.deref-in-Ok-fetch.ensures.value
@@ -50,7 +50,7 @@ returns-in-Ok-clause-answer g c =
     let wanted = c.args.wanted in
     let request = Some (certifies wanted p d) in
     let fault = c.in-Err-fetch.fault in
-    for_ok _ (λ a. IsAnswer request before now (status_of a) (text_of a)) c.unfetched.result
+    IfOk-weaker c.unfetched.result _ (λ a. IsAnswer request before now (status_of a) (text_of a))
     (λ a is. unfetched_line request before now d fault (status_of a) (text_of a) is
     (λ e. second_fault wanted p d c.in-Ok.problem_text.items before middle now c.in-Ok.ensures.whole c.in-Ok.ensures.bound c.in-Ok.ensures.counted c.fetch-in-Ok.ensures.faults
     (fault_came (Vec ℕ Global) fault before.faults middle.faults now.faults d (c.fetch.ensures.faults.later d) c.in-Err-fetch.ensures.counted e))
@@ -67,7 +67,7 @@ returns-in-Ok-clause-only g c =
     let p = c.args.problem.now in
     let d = c.args.certificate.now in
     let wanted = c.args.wanted in
-    for_ok _ (λ a. AnswersOnly (Some (certifies wanted p d)) before (status_of a)) c.unfetched.result
+    IfOk-weaker c.unfetched.result _ (λ a. AnswersOnly (Some (certifies wanted p d)) before (status_of a))
     (λ a is. unfetched_only before wanted p d d c.in-Err-fetch.fault (status_of a) (text_of a) is
     (λ e. inr (may_pass_before most_certificate_bytes before middle d c.fetch.ensures.told (c.in-Err-fetch.ensures.too_long (ap Err e)))))
     c.unfetched.ensures
@@ -87,7 +87,7 @@ returns-clause-answer g c =
     let wanted = c.args.wanted in
     let request = Some (certifies wanted p d) in
     let fault = c.in-Err.fault in
-    for_ok _ (λ a. IsAnswer request before now (status_of a) (text_of a)) c.unfetched-in-Err.result
+    IfOk-weaker c.unfetched-in-Err.result _ (λ a. IsAnswer request before now (status_of a) (text_of a))
     (λ a is. unfetched_line request before now p fault (status_of a) (text_of a) is
     (λ e. (most_problem_bytes, as_problem wanted p d refl, fault_came (Vec ℕ Global) fault before.faults before.faults now.faults p (omega arith) c.in-Err.ensures.counted e))
     (λ e. (most_problem_bytes, as_problem wanted p d refl, c.in-Err.ensures.too_long (ap Err e), c.in-Err.ensures.long (ap Err e))))
@@ -99,7 +99,7 @@ returns-clause-only g c =
     let p = c.args.problem.now in
     let d = c.args.certificate.now in
     let wanted = c.args.wanted in
-    for_ok _ (λ a. AnswersOnly (Some (certifies wanted p d)) before (status_of a)) c.unfetched-in-Err.result
+    IfOk-weaker c.unfetched-in-Err.result _ (λ a. AnswersOnly (Some (certifies wanted p d)) before (status_of a))
     (λ a is. unfetched_only before wanted p d p c.in-Err.fault (status_of a) (text_of a) is (λ e. inl (c.in-Err.ensures.too_long (ap Err e))))
     c.unfetched-in-Err.ensures
 

@@ -1,4 +1,5 @@
 use Rattle.std.proofs.Common.{sym, subst, rules}
+use Rattle.std.proofs.lemmas.Result.{IfOk-weaker}
 use Rattle.cert_text.specs.ProofText.{proof_text_of}
 use Rattle.certifier.specs.Acceptance.{IsRejection}
 use Rattle.certifier.specs.declared.rejected.Rejected.TheVariants as why
@@ -6,15 +7,13 @@ use Rattle.trsprove.specs.declared.status.Status.TheVariants as status
 use Rattle.trsprove.specs.Lines.{refused_line}
 use Rattle.trsprove.specs.Output.{Verdict, IsWritten, accepted, refused, rejected}
 use Rattle.trsprove.specs.Answers.{status_of, text_of}
-use Rattle.trsprove.proofs.Fetching.{for_ok}
 use Rattle.trsprove.proofs.answer.decided.Goals as goal
 
 pub returns-in-Ok : goal.returns-in-Ok
 returns-in-Ok c =
     let named = c.in-Ok.proof.system in
     let says = proof_text_of c.in-Ok.proof.certificate in
-    for_ok (λ a. IsWritten named says c.args.wanted (status_of a) (text_of a)) (λ a. Verdict c.args.problem.now c.args.certificate.now c.args.wanted (status_of a) (text_of a))
-    c.written.result (λ a. accepted named says c.in-Ok.ensures.accepted) c.written.ensures
+    IfOk-weaker c.written.result (λ a. IsWritten named says c.args.wanted (status_of a) (text_of a)) (λ a. Verdict c.args.problem.now c.args.certificate.now c.args.wanted (status_of a) (text_of a)) (λ a. accepted named says c.in-Ok.ensures.accepted) c.written.ensures
 
 pub returns-in-Err-Problem : goal.returns-in-Err-Problem
 returns-in-Err-Problem c =

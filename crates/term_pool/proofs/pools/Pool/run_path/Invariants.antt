@@ -1,7 +1,8 @@
-use Rattle.std.proofs.Common.{◌<◌, ◌≤◌, ◌+◌, length, take, drop}
+use Rattle.std.proofs.Common.{◌<◌, ◌≤◌, ◌+◌, IfSome, length, take, drop}
 use Rattle.trs_defs.specs.Tree.{Tree}
 use Rattle.trs_defs.specs.Path.{Follows}
 use Rattle.term_pool.specs.Pooled.{Extends, tree_at}
+use Rattle.term_pool.proofs.PathLemmas.{StaysBy}
 use Rattle.term_pool.proofs.pools.Pool.run_path.Given as goal
 
 abbrev pub invariant-loop-k : goal.invariant-loop-k
@@ -10,5 +11,6 @@ invariant-loop-k l = record {
   kept : Extends l.fn.self l.self;
   few : length l.self ≤ length l.fn.self + 1114112;
   made : Follows l.trs.rules (take l.k l.path) (tree_at l.fn.self l.id) (tree_at l.self l.current);
+  idle : IfSome l.idle (λ s. StaysBy l.trs s.now (tree_at l.self l.current));
   only : (v : Tree) → Follows l.trs.rules l.path (tree_at l.fn.self l.id) v → Follows l.trs.rules (drop l.k l.path) (tree_at l.self l.current) v;
 }
