@@ -5,3 +5,7 @@ pub mod Unifiers
 pub mod Variants
 pub mod VariantNarrowings
 pub mod NarrowedOnce
+pub mod VariantTerms
+pub mod VariantAttempts
+pub mod ListedOnce
+pub mod LoopOnce

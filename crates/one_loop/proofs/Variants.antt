@@ -107,7 +107,7 @@ variant_recurs c d v p (part, there, (s, is)) =
       (λ w. named v.to (s (v.back w)), sym (apply_apply (λ w. var (v.to w)) (λ w. s (v.back w)) d.left) ∙ ap (named v.to) before),
     )
 
-variant_loops : (rules : List RewriteRule) (c d : Closure) → AreVariants c d → (p : List ℕ) → LoopsAt rules c p → LoopsAt rules d p
+pub variant_loops : (rules : List RewriteRule) (c d : Closure) → AreVariants c d → (p : List ℕ) → LoopsAt rules c p → LoopsAt rules d p
 variant_loops rules c d v p h = record {
   runs = variant_runs rules c d v h.runs;
   returns = record {
