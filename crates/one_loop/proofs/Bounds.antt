@@ -1,10 +1,10 @@
 -- Numbers above the variables of terms, and names that are undone.
-use Rattle.std.specs.Prelude.{◌≡◌, ◌<◌, ◌≤◌, ℕ, ◌+◌, ◌-◌, ◌==◌, ◌&&◌, ◌||◌, Bool, true, false, if◌then◌else◌, max, IsTrue, refl}
-use Rattle.std.proofs.Common.{zero, suc, ap, sym, ◌∙◌, subst, inl, inr, arith}
+use Rattle.std.specs.Prelude.{◌≡◌, ◌<◌, ◌≤◌, ℕ, ◌+◌, ◌-◌, ◌==◌, ◌&&◌, Bool, true, false, if◌then◌else◌, max, IsTrue, refl}
+use Rattle.std.proofs.Common.{zero, suc, ap, subst, inl, inr, arith}
 use native.Mathlib.Decide.{dec_lt, ℕ_discrete}
 use Rattle.trs_defs.specs.Tree.{Tree, Trees, var, app, nil, cons}
 use Rattle.trs_defs.specs.Variable.{has_var, some_has_var}
-use Rattle.trs_defs.proofs.VariableLaws.{or_cases, has_var_same, has_var_cons}
+use Rattle.trs_defs.proofs.VariableLaws.{has_var_same, has_var_cons}
 
 -- ---- all variables of a term are below a number
 
@@ -83,7 +83,8 @@ module _ (names : ℕ → ℕ) (among : ℕ → Bool) (different : (v w : ℕ) �
   number_back zero v h k = absurd (omega (arith, h))
   number_back (suc n) v h k = go (λ l. number_back n v l k) (among n && names n == names v) refl
     where
-      go : (v < n → number_of names among n (names v) ≡ v) → (b : Bool) → (among n && names n == names v) ≡ b → (if b then n else number_of names among n (names v)) ≡ v
+      go : (v < n → number_of names among n (names v) ≡ v) → (b : Bool) → (among n && names n == names v) ≡ b
+          → (if b then n else number_of names among n (names v)) ≡ v
       go rest true e = let (a, same) = parts (among n) (names n == names v) e in different n v a k (same_number (names n) (names v) same)
       go rest false e = elim (ℕ_discrete v n) [
         | yes same ↦

@@ -8,7 +8,8 @@ use Rattle.trs_defs.specs.Substitution.{apply, apply_all}
 use Rattle.trs_defs.specs.Position.{subterm_at, with_argument, replaced_at}
 use Rattle.trs_defs.proofs.Positions.{IsReplacedInside, replaced_inside}
 
-step_down : (p : List ℕ) (o : Option Tree) (part : Tree) → option_and_then (subterm_at p) o ≡ Some part → (a : Tree) × (o ≡ Some a) × (subterm_at p a ≡ Some part)
+step_down : (p : List ℕ) (o : Option Tree) (part : Tree) → option_and_then (subterm_at p) o ≡ Some part
+    → (a : Tree) × (o ≡ Some a) × (subterm_at p a ≡ Some part)
 step_down p None part h = absurd cc
 step_down p (Some a) part h = (a, refl, h)
 
@@ -26,7 +27,8 @@ module _ (σ : ℕ → Tree) where
       let (a, at, below) = step_down p (slice_get (items ts) i) part e in
       ap (option_and_then (subterm_at p)) (item_image ts i a at) ∙ subterm_image p a part below
 
-  set_image : (ts : Trees) (i : ℕ) (b : Tree) → trees (slice_set (items (apply_all σ ts)) i (apply σ b)) ≡ apply_all σ (trees (slice_set (items ts) i b))
+  set_image : (ts : Trees) (i : ℕ) (b : Tree)
+      → trees (slice_set (items (apply_all σ ts)) i (apply σ b)) ≡ apply_all σ (trees (slice_set (items ts) i b))
   set_image nil i b = refl
   set_image (cons t ts) zero b = ap (cons (apply σ b)) (trees_items (apply_all σ ts) ∙ sym (ap (apply_all σ) (trees_items ts)))
   set_image (cons t ts) (suc i) b = ap (cons (apply σ t)) (set_image ts i b)
@@ -40,6 +42,7 @@ module _ (σ : ℕ → Tree) where
       let whole : Tree → Tree = with_argument (app f (apply_all σ ts)) (suc i) in
       let there : slice_get (items (apply_all σ ts)) i ≡ Some (apply σ r.argument) = item_image ts i r.argument r.there in
       let below : replaced_at p (apply σ r.argument) (apply σ new) ≡ Some (apply σ r.changed) = replaced_image p r.argument new r.changed r.below in
-      let set : app f (trees (slice_set (items (apply_all σ ts)) i (apply σ r.changed))) ≡ apply σ (with_argument (app f ts) (suc i) r.changed) = ap (app f) (set_image ts i r.changed) in
+      let set : app f (trees (slice_set (items (apply_all σ ts)) i (apply σ r.changed))) ≡ apply σ (with_argument (app f ts) (suc i) r.changed) =
+      ap (app f) (set_image ts i r.changed) in
       ap (option_and_then (λ a. option_map whole (replaced_at p a (apply σ new)))) there
       ∙ (ap (option_map whole) below ∙ ap (λ z. Some z) (set ∙ ap (apply σ) r.whole))

@@ -7,5 +7,6 @@ pub mod VariantNarrowings
 pub mod NarrowedOnce
 pub mod VariantTerms
 pub mod VariantAttempts
+pub mod NextAttempts
 pub mod ListedOnce
 pub mod LoopOnce

@@ -1,11 +1,11 @@
 -- Terms whose variables have other numbers: sizes and depths stay, and paths lead on.
 use Rattle.std.specs.Prelude.{◌≡◌, ℕ, ◌+◌, ◌&&◌, max, nat_le, List, [], ◌∷◌, Some, IsTrue, refl}
-use Rattle.std.proofs.Common.{ap, ap₂, sym, ◌∙◌, subst}
+use Rattle.std.proofs.Common.{ap, ap₂, sym, ◌∙◌}
 use Rattle.trs_defs.specs.Tree.{Tree, Trees, var, app, nil, cons}
 use Rattle.trs_defs.specs.Variable.{has_var}
 use Rattle.trs_defs.specs.Size.{size_of, size_of_all, depth_of, depth_of_all, within_limits}
 use Rattle.trs_defs.specs.Substitution.{apply, apply_all}
-use Rattle.trs_defs.specs.Position.{subterm_at, replaced_at}
+use Rattle.trs_defs.specs.Position.{replaced_at}
 use Rattle.trs_defs.specs.System.{RewriteRule}
 use Rattle.trs_defs.specs.Path.{PlacedRule, StepsAt, Follows}
 use Rattle.trs_defs.proofs.Substitutions.{apply_apply, same_values, same_instance}
@@ -58,11 +58,12 @@ named_within f t = ap₂ (λ m n. nat_le m 65536 && nat_le n 1024) (named_size f
 
 -- ---- paths
 
-named_step : (rules : List RewriteRule) (f : ℕ → ℕ) (p : List ℕ) (k : ℕ) (t u : Tree) → StepsAt rules p k t u → StepsAt rules p k (named f t) (named f u)
+named_step : (rules : List RewriteRule) (f : ℕ → ℕ) (p : List ℕ) (k : ℕ) (t u : Tree) → StepsAt rules p k t u
+    → StepsAt rules p k (named f t) (named f u)
 named_step rules f p k t u s =
     let σ : ℕ → Tree = s.substitution in
-    let left : apply (λ v. var (f v)) (apply σ s.rule.left) ≡ apply (λ v. named f (σ v)) s.rule.left = apply_apply (λ v. var (f v)) σ s.rule.left in
-    let right : apply (λ v. var (f v)) (apply σ s.rule.right) ≡ apply (λ v. named f (σ v)) s.rule.right = apply_apply (λ v. var (f v)) σ s.rule.right in
+    let left : named f (apply σ s.rule.left) ≡ apply (λ v. named f (σ v)) s.rule.left = apply_apply (λ v. var (f v)) σ s.rule.left in
+    let right : named f (apply σ s.rule.right) ≡ apply (λ v. named f (σ v)) s.rule.right = apply_apply (λ v. var (f v)) σ s.rule.right in
     record {
       rule = s.rule;
       numbered = s.numbered;
@@ -71,7 +72,8 @@ named_step rules f p k t u s =
       to = ap (replaced_at p (named f t)) (sym right) ∙ replaced_image (λ v. var (f v)) p t (apply σ s.rule.right) u s.to;
     }
 
-pub named_path : (rules : List RewriteRule) (f : ℕ → ℕ) (path : List PlacedRule) (t u : Tree) → Follows rules path t u → Follows rules path (named f t) (named f u)
+pub named_path : (rules : List RewriteRule) (f : ℕ → ℕ) (path : List PlacedRule) (t u : Tree) → Follows rules path t u
+    → Follows rules path (named f t) (named f u)
 named_path rules f [] t u e = ap (named f) e
 named_path rules f (s ∷ path) t u (m, step, small, rest) =
     (named f m, named_step rules f s.place s.rule t m step, named_within f m ∙ small, named_path rules f path m u rest)

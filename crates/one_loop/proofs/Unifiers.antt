@@ -1,13 +1,13 @@
 -- A most general unifier of two terms gives one of the terms with other variables.
-use Rattle.std.specs.Prelude.{◌≡◌, ◌<◌, ◌≤◌, ℕ, ◌+◌, Bool, true, false, if◌then◌else◌, IsTrue, refl}
-use Rattle.std.proofs.Common.{ap, sym, ◌∙◌, subst, arith}
+use Rattle.std.specs.Prelude.{◌≡◌, ◌<◌, ℕ, ◌+◌, Bool, true, false, if◌then◌else◌, IsTrue, refl}
+use Rattle.std.proofs.Common.{ap, sym, ◌∙◌, arith}
 use Rattle.trs_defs.specs.Tree.{Tree, var}
 use Rattle.trs_defs.specs.Variable.{has_var}
 use Rattle.trs_defs.specs.Substitution.{apply}
 use Rattle.trs_defs.specs.Unifier.{IsMostGeneralUnifier}
 use Rattle.trs_defs.proofs.Substitutions.{apply_apply, same_instance}
-use Rattle.one_loop.proofs.Renamed.{named, not_moved}
-use Rattle.one_loop.proofs.Bounds.{above, is_below, above_images, image_below, joined, joined_low, joined_high}
+use Rattle.one_loop.proofs.Renamed.{named}
+use Rattle.one_loop.proofs.Bounds.{is_below, above_images, image_below, joined, joined_low, joined_high}
 
 -- m through the names f on these variables; the others go out of the way
 abbrev pub through : (ℕ → Tree) → (ℕ → ℕ) → (ℕ → Bool) → ℕ → ℕ → Tree
@@ -29,7 +29,8 @@ module _ (m : ℕ → Tree) (f g : ℕ → ℕ) (among : ℕ → Bool) (bound : 
   pub moved_instance : (t : Tree) → ((v : ℕ) → IsTrue (has_var v t) → IsTrue (among v)) → apply moved t ≡ apply m (named f t)
   unfolding moved
   moved_instance t all =
-      same_instance moved (λ v. m (f v)) t (λ v h. through_at m f among (above_images (λ v. m (f v)) bound) v (all v h)) ∙ sym (apply_apply m (λ v. var (f v)) t)
+      same_instance moved (λ v. m (f v)) t (λ v h. through_at m f among (above_images (λ v. m (f v)) bound) v (all v h))
+      ∙ sym (apply_apply m (λ v. var (f v)) t)
 
   named_back : (θ : ℕ → Tree) (t : Tree) → ((v : ℕ) → IsTrue (has_var v t) → IsTrue (among v)) → apply (λ v. θ (g v)) (named f t) ≡ apply θ t
   named_back θ t all = apply_apply (λ v. θ (g v)) (λ v. var (f v)) t ∙ same_instance (λ v. θ (g (f v))) θ t (λ v h. ap θ (back v (all v h)))
@@ -46,8 +47,8 @@ module _ (m : ℕ → Tree) (f g : ℕ → ℕ) (among : ℕ → Bool) (bound : 
         go true e =
             sym (ap θ (back v e)) ∙ (is (f v)
             ∙ same_instance δ (joined (above_images (λ w. m (f w)) bound) δ θ) (m (f v))
-              (λ x h. sym (joined_low (above_images (λ w. m (f w)) bound) δ θ x
-              (omega (arith, is_below x (m (f v)) h, image_below (λ w. m (f w)) bound v (low v e))))))
+            (λ x h. sym (joined_low (above_images (λ w. m (f w)) bound) δ θ x
+            (omega (arith, is_below x (m (f v)) h, image_below (λ w. m (f w)) bound v (low v e))))))
         go false e = sym (joined_high (above_images (λ w. m (f w)) bound) δ θ v)
 
     pub moved_most_general : IsMostGeneralUnifier s t moved

@@ -4,7 +4,6 @@ use Rattle.std.proofs.Common.{suc, ap, ap₂, sym, ◌∙◌, subst, append_asso
 use Rattle.trs_defs.specs.Tree.{Tree, Trees, var, app, nil, cons}
 use Rattle.trs_defs.specs.Substitution.{apply_all}
 use Rattle.trs_defs.specs.System.{RewriteRule}
-use Rattle.trs_defs.specs.Path.{PlacedRule}
 use Rattle.crit_pairs.specs.PeakList.{symbol_places, symbol_places_of_all}
 use Rattle.loop_find.specs.Closures.{Closure, Attempt, attempts_at, attempts_of, attempts_in}
 use Rattle.one_loop.proofs.Renamed.{named}
@@ -65,7 +64,9 @@ module _ (c d : Closure) (v : AreVariants c d) where
   same_places = sym (named_places v.to c.right) ∙ ap symbol_places v.right_to
 
   alike_of : (rules : List RewriteRule) → AllAlike (attempts_of rules c (symbol_places c.right)) (attempts_of rules d (symbol_places d.right))
-  alike_of rules = subst (λ ps. AllAlike (attempts_of rules c (symbol_places c.right)) (attempts_of rules d ps)) same_places (alike_at_places rules (symbol_places c.right))
+  alike_of rules =
+      let places : List (List ℕ) = symbol_places c.right in
+      subst (λ ps. AllAlike (attempts_of rules c places) (attempts_of rules d ps)) same_places (alike_at_places rules places)
 
 pub alike_in : (rules : List RewriteRule) {cs ds : List Closure} → AllVariants cs ds → AllAlike (attempts_in rules cs) (attempts_in rules ds)
 alike_in rules no_variants = none_alike
@@ -78,7 +79,8 @@ attempts_joined rules (c ∷ cs) ds =
     ∙ sym (append_assoc (attempts_of rules c (symbol_places c.right)) (attempts_in rules cs) (attempts_in rules ds))
 
 -- those that come after as many others are alike
-pub alike_next : {ps qs : List Attempt} → AllAlike ps qs → (ts us more others later latest : List Attempt) (a b : Attempt) → length ts ≡ length us → length ts < length ps
+pub alike_next : {ps qs : List Attempt} → AllAlike ps qs → (ts us more others later latest : List Attempt) (a b : Attempt)
+    → length ts ≡ length us → length ts < length ps
     → ps ++ more ≡ ts ++ a ∷ later → qs ++ others ≡ us ++ b ∷ latest → AreAlike a b
 alike_next none_alike ts us more others later latest a b same less e h = absurd (omega (arith, less))
 alike_next (more_alike {a = x} {b = y} r rs) [] [] more others later latest a b same less e h =

@@ -1,5 +1,5 @@
 -- A narrowing of a closure is one of its variants too.
-use Rattle.std.specs.Prelude.{◌≡◌, ◌<◌, ◌≤◌, ◌⊎◌, ℕ, ◌+◌, ◌-◌, max, Bool, ◌||◌, List, Some, IsTrue}
+use Rattle.std.specs.Prelude.{◌≡◌, ◌<◌, ◌⊎◌, ℕ, ◌+◌, ◌-◌, max, Bool, ◌||◌, List, Some, IsTrue}
 use Rattle.std.proofs.Common.{ap, sym, ◌∙◌, subst, inl, inr, arith}
 use Rattle.std.proofs.lemmas.Option.{same_Some}
 use native.Mathlib.Decide.{dec_lt}
@@ -22,7 +22,8 @@ use Rattle.one_loop.proofs.Bounds.{above, is_below, joined, joined_low, joined_h
 use Rattle.one_loop.proofs.Unifiers.{moved, moved_instance, moved_most_general}
 use Rattle.one_loop.proofs.Variants.{AreVariants, occurs_in, there_again}
 
-module _ (rule : RewriteRule) (place : List ℕ) (c d : Closure) (v : AreVariants c d) (l r : Tree) (h : IsNarrowing rule place c.left c.right l r) where
+module _ (rule : RewriteRule) (place : List ℕ) (c d : Closure) (v : AreVariants c d) (l r : Tree)
+    (h : IsNarrowing rule place c.left c.right l r) where
   abbrev offset : ℕ
   offset = max (above d.left) (above d.right)
 
@@ -98,9 +99,12 @@ module _ (rule : RewriteRule) (place : List ℕ) (c d : Closure) (v : AreVariant
   old_side t all = same_instance (λ x. var (old x)) (λ x. var (v.back x)) t (λ x k. ap var (old_low x (all x k)))
 
   old_rule : (t : Tree) → named old (shifted offset t) ≡ shifted h.offset t
-  old_rule t = apply_apply (λ x. var (old x)) (λ x. var (offset + x)) t ∙ same_instance (λ x. var (old (offset + x))) (λ x. var (h.offset + x)) t (λ x k. ap var (old_high x))
+  old_rule t =
+      apply_apply (λ x. var (old x)) (λ x. var (offset + x)) t
+      ∙ same_instance (λ x. var (old (offset + x))) (λ x. var (h.offset + x)) t (λ x k. ap var (old_high x))
 
-  rule_among : (t : Tree) → ((x : ℕ) → IsTrue (has_var x t) → IsTrue (of_rule x)) → (x : ℕ) → IsTrue (has_var x (shifted offset t)) → IsTrue (among x)
+  rule_among : (t : Tree) → ((x : ℕ) → IsTrue (has_var x t) → IsTrue (of_rule x))
+      → (x : ℕ) → IsTrue (has_var x (shifted offset t)) → IsTrue (among x)
   rule_among t all x k =
       let (y, there, at) = of_instance (λ z. var (offset + z)) x t k in
       subst (λ z. IsTrue (among z)) (has_var_same x (offset + y) at) (among_high y (all y there))

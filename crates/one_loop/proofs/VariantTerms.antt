@@ -2,9 +2,10 @@
 use Rattle.std.specs.Prelude.{◌≡◌, ◌≢◌, ℕ, Bool, true, false, ◌==◌, if◌then◌else◌, List, [], ◌∷◌, refl}
 use Rattle.std.proofs.Common.{suc, ap, ap₂, sym, ◌∙◌, subst, arith}
 use native.Mathlib.Decide.{ℕ_discrete}
-use Rattle.trs_defs.specs.Tree.{Tree, Trees, var, app, nil, cons}
+use Rattle.trs_defs.specs.Tree.{Tree, Trees, var, app, cons}
 use Rattle.trs_defs.specs.Variable.{variables_of}
-use Rattle.crit_pairs.proofs.Variants.{Paired, paired_variables, paired_symbols, AllPaired, none_paired, one_paired, Swaps, pair, AreRelated, related_variables}
+use Rattle.crit_pairs.proofs.Variants.{Paired, paired_variables, paired_symbols, AllPaired, none_paired, one_paired}
+use Rattle.crit_pairs.proofs.Variants.{Swaps, pair, AreRelated, related_variables}
 use Rattle.term_text.specs.Renumbered.{number_among, with_numbers, all_with_numbers, in_order}
 use Rattle.one_loop.proofs.Renamed.{named, unchanged}
 
@@ -44,9 +45,11 @@ module _ (R : ℕ → ℕ → Type 0) (one : (v w x : ℕ) → R v w → R v x �
 
 pub one_in_order : (f g : ℕ → ℕ) (t u : Tree) → named f t ≡ u → named g u ≡ t → in_order t ≡ in_order u
 one_in_order f g t u e h =
-    same_in_order (Swaps (λ v. var (f v)) (λ w. var (g w)) (λ v. v) (λ w. w) (λ v. Unit {0}) (λ w. Unit {0}))
+    let all : ℕ → Type 0 = λ v. Unit {0} in
+    same_in_order (Swaps (λ v. var (f v)) (λ w. var (g w)) (λ v. v) (λ w. w) all all)
     (λ v w x a b. same w x (sym a.2 ∙ b.2)) (λ v x w a b. same v x (sym a.3 ∙ b.3)) t u
-    (pair (λ v. var (f v)) (λ w. var (g w)) (λ v. v) (λ w. w) (λ v. Unit {0}) (λ w. Unit {0}) t u (λ v k. tt) (λ w k. tt) (e ∙ sym (unchanged u)) (h ∙ sym (unchanged t)))
+    (pair (λ v. var (f v)) (λ w. var (g w)) (λ v. v) (λ w. w) all all t u (λ v k. tt) (λ w k. tt)
+    (e ∙ sym (unchanged u)) (h ∙ sym (unchanged t)))
   where
     same : (v w : ℕ) → var v ≡ var w → v ≡ w
     same v w k = cc

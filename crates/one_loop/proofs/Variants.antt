@@ -1,13 +1,13 @@
 -- Closures that differ in the numbers of their variables alone, and loop at one place.
-use Rattle.std.specs.Prelude.{◌≡◌, ◌<◌, ◌⊎◌, ℕ, Bool, ◌||◌, List, [], ◌∷◌, Some, IsTrue, refl}
+use Rattle.std.specs.Prelude.{◌≡◌, ◌⊎◌, ℕ, Bool, ◌||◌, List, [], ◌∷◌, Some, IsTrue, refl}
 use Rattle.std.proofs.Common.{ap, sym, ◌∙◌, subst, inl, inr, arith}
 use native.Mathlib.Decide.{dec_lt}
-use Rattle.trs_defs.specs.Tree.{Tree, Trees, var, app}
+use Rattle.trs_defs.specs.Tree.{Tree, var, app}
 use Rattle.trs_defs.specs.Variable.{has_var}
 use Rattle.trs_defs.specs.Substitution.{apply}
 use Rattle.trs_defs.specs.Position.{subterm_at}
 use Rattle.trs_defs.specs.System.{RewriteRule}
-use Rattle.trs_defs.specs.Path.{PlacedRule, Follows}
+use Rattle.trs_defs.specs.Path.{Follows}
 use Rattle.trs_defs.proofs.Substitutions.{apply_apply, same_instance}
 use Rattle.trs_defs.proofs.VariableLaws.{or_cases}
 use Rattle.term_pool.specs.Redexes.{IsEarlier}
@@ -61,8 +61,8 @@ is_name τ v (app f ts) e = absurd cc
 named_by : (σ τ : ℕ → Tree) (t u : Tree) → apply σ t ≡ u → apply τ u ≡ t → named (λ v. name_of (σ v)) t ≡ u
 named_by σ τ t u e h = same_instance (λ v. var (name_of (σ v))) σ t (λ v occurs. is_name τ v (σ v) (undone_at σ τ t u e h v occurs)) ∙ e
 
-pub variants_by : (c d : Closure) (σ τ : ℕ → Tree) → apply σ c.left ≡ d.left → apply σ c.right ≡ d.right → apply τ d.left ≡ c.left → apply τ d.right ≡ c.right
-    → c.path ≡ d.path → AreVariants c d
+pub variants_by : (c d : Closure) (σ τ : ℕ → Tree) → apply σ c.left ≡ d.left → apply σ c.right ≡ d.right
+    → apply τ d.left ≡ c.left → apply τ d.right ≡ c.right → c.path ≡ d.path → AreVariants c d
 variants_by c d σ τ left_to right_to left_back right_back path = record {
   to = λ v. name_of (σ v);
   back = λ v. name_of (τ v);
@@ -89,7 +89,8 @@ there_again c d h v occurs = elim (or_cases (has_var v d.left) (has_var v d.righ
 
 -- ---- loops
 
-variant_runs : (rules : List RewriteRule) (c d : Closure) → AreVariants c d → Follows rules c.path c.left c.right → Follows rules d.path d.left d.right
+variant_runs : (rules : List RewriteRule) (c d : Closure) → AreVariants c d → Follows rules c.path c.left c.right
+    → Follows rules d.path d.left d.right
 variant_runs rules c d v h =
     let moved : Follows rules c.path (named v.to c.left) (named v.to c.right) = named_path rules v.to c.path c.left c.right h in
     let from : Follows rules c.path d.left (named v.to c.right) = subst (λ z. Follows rules c.path z (named v.to c.right)) v.left_to moved in
@@ -100,8 +101,7 @@ variant_recurs : (c d : Closure) → AreVariants c d → (p : List ℕ) → Recu
 variant_recurs c d v p (part, there, (s, is)) =
     let before : apply (λ w. s (v.back w)) d.left ≡ part = sym (apply_apply s (λ w. var (v.back w)) d.left) ∙ (ap (apply s) v.left_back ∙ is) in
     let at : subterm_at p d.right ≡ Some (named v.to part) =
-    ap (subterm_at p) (sym v.right_to) ∙ subterm_image (λ w. var (v.to w)) p c.right part there in
-    (
+    ap (subterm_at p) (sym v.right_to) ∙ subterm_image (λ w. var (v.to w)) p c.right part there in (
       named v.to part,
       at,
       (λ w. named v.to (s (v.back w)), sym (apply_apply (λ w. var (v.to w)) (λ w. s (v.back w)) d.left) ∙ ap (named v.to) before),
