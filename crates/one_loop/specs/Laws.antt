@@ -21,10 +21,10 @@ LoopsAreOne =
     → IsSameLoop start path place other other_path other_place
 
 -- of the three answers of a search at most one is true
-pub record Exclude (found not_there spent : Type 0) : Type 0 where
-  pub not_there : found → not_there → ⊥
-  pub spent : found → spent → ⊥
-  pub neither : not_there → spent → ⊥
+pub record Exclude (is_found is_not_there is_spent : Type 0) : Type 0 where
+  pub not_there : is_found → is_not_there → ⊥
+  pub spent : is_found → is_spent → ⊥
+  pub neither : is_not_there → is_spent → ⊥
 
 abbrev pub LoopAnswersExclude : Type 0
 LoopAnswersExclude =

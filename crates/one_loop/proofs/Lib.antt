@@ -1,0 +1,12 @@
+pub mod Images
+pub mod Renamed
+pub mod Bounds
+pub mod Unifiers
+pub mod Variants
+pub mod VariantNarrowings
+pub mod NarrowedOnce
+pub mod VariantTerms
+pub mod VariantAttempts
+pub mod NextAttempts
+pub mod ListedOnce
+pub mod LoopOnce
