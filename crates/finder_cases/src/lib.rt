@@ -2,10 +2,10 @@
 //! at a given asking.
 #![tactic(auto)]
 
-mod cases;
 mod numbers;
 mod stops;
+mod systems;
 
-pub use cases::{Case, MARK, Texts, made};
 pub use numbers::all_numbers;
 pub use stops::StopAt;
+pub use systems::system;

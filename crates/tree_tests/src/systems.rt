@@ -1,5 +1,4 @@
 //! Small systems, with a question each.
-use finder_cases::{Texts, made};
 use std::alloc::Global;
 use std::test::Fail;
 use tree_core::Question;
@@ -15,12 +14,5 @@ pub struct Case<'a> {
 }
 
 pub fn system(alloc: Global, case: &Case) -> Result<Trs, Fail> {
-    let texts = Texts {
-        alphabet: case.letters,
-        plain: &[],
-        roots: &[],
-        rules: case.rules,
-        pairs: &[],
-    };
-    Ok(made(alloc, &texts)?.trs)
+    finder_cases::system(alloc, case.letters, case.rules)
 }
