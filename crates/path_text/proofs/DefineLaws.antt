@@ -1,5 +1,5 @@
 -- Definitions that are read have paths in range, and printed ones are read again.
-use Rattle.std.proofs.Common.{◌≡◌, ◌≢◌, ℕ, zero, suc, ◌+◌, ◌-◌, ◌≤◌, ◌<◌, ◌^◌, ◌||◌, Bool, true, false, cond, List, [], ◌∷◌, ◌++◌, length, slice_get, Some, Ok, codes, decimal, refl, sym, ap, ap₂, subst, ◌∙◌, append_assoc, arith}
+use Rattle.std.proofs.Common.{◌≡◌, ◌≢◌, ℕ, zero, suc, ◌+◌, ◌≤◌, ◌<◌, ◌^◌, ◌||◌, Bool, true, false, List, [], ◌∷◌, ◌++◌, length, slice_get, Some, Ok, codes, decimal, refl, sym, ap, subst, ◌∙◌, append_assoc, arith}
 use Rattle.std.specs.List.{AllByRecursion}
 use Rattle.std.specs.Str.{bytes_eq}
 use Rattle.std.proofs.lemmas.Bool.{false_from_ne_true}
@@ -9,7 +9,6 @@ use Rattle.std.proofs.lemmas.Option.{slice_get_within}
 use Rattle.std.proofs.lemmas.Slice.Eq.{bytes_eq-Decides}
 use Rattle.trs_defs.specs.Path.{PlacedRule}
 use Rattle.text_reading.specs.Reading.{done, keyword, chosen}
-use Rattle.text_reading.specs.Printed.{word_item}
 use Rattle.text_reading.proofs.Made.{Makes, made_done, made_part, made_list, made_any}
 use Rattle.text_reading.proofs.Again.{Spells, spells_done, spells_part, spells_list, spells_keyword, spells_by}
 use Rattle.path_text.specs.declared.sharing.Shared.{Shared}
@@ -18,7 +17,7 @@ use Rattle.path_text.specs.PathNames.{path_name}
 use Rattle.path_text.specs.Paths.{no_path, plain_path_item}
 use Rattle.path_text.specs.Defining.{is_defined, new_word, definition, define, define_item}
 use Rattle.path_text.specs.AllDefined.{all_defined, definitions_from}
-use Rattle.path_text.specs.Carrying.{AreNamed, Carries}
+use Rattle.path_text.specs.Carrying.{Carries}
 use Rattle.path_text.specs.Ranges.{IsPlacedInRange, AreDefinedInRange}
 use Rattle.path_text.proofs.PathMade.{made_part_path, made_no_path}
 use Rattle.path_text.proofs.SharedAgain.{spells_part_path, within_again, parts_again, name_word}

@@ -1,5 +1,5 @@
 -- What is read of a definition: its word is new, and its path has its weight.
-use Rattle.std.proofs.Common.{◌≡◌, ℕ, Bool, true, false, cond, List, [], ◌∷◌, ◌++◌, length, Some, Ok, Err, IfOk, ◌<◌, arith, refl, sym, ap, ◌∙◌}
+use Rattle.std.proofs.Common.{◌≡◌, ℕ, Bool, true, false, cond, List, [], ◌∷◌, length, Some, Ok, Err, IfOk, ◌<◌, arith, refl, sym, ap, ◌∙◌}
 use Rattle.sexp_core.specs.Items.{Item, a_word, a_list, Items, no_items, item, views}
 use Rattle.sexp_core.specs.declared.sexp.Sexp.{Sexp}
 use Rattle.trs_defs.specs.Path.{PlacedRule}

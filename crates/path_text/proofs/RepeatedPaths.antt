@@ -1,11 +1,11 @@
 -- The paths that occur more than once: they have steps, and their numbers are in range where those of all paths are.
-use Rattle.std.proofs.Common.{◌≡◌, ℕ, ◌+◌, ◌≤◌, ◌<◌, nat_lt, Bool, true, false, cond, List, [], ◌∷◌, ◌++◌, length, is_some, arith}
+use Rattle.std.proofs.Common.{◌≤◌, ◌<◌, nat_lt, Bool, true, false, cond, List, [], ◌∷◌, ◌++◌, length, arith}
 use Rattle.std.specs.Prelude.{filter}
 use Rattle.std.specs.List.{AllByRecursion}
 use Rattle.trs_defs.specs.Path.{PlacedRule}
 use Rattle.text_reading.proofs.Tables.{all_append}
 use Rattle.path_text.specs.Sharing.{path_weight, paths_weight}
-use Rattle.path_text.specs.PathNames.{path_number, occurrences, is_known, distinct_behind, repeated_paths}
+use Rattle.path_text.specs.PathNames.{occurrences, is_known, distinct_behind, repeated_paths}
 use Rattle.path_text.specs.Ranges.{IsPlacedInRange}
 use Rattle.path_text.proofs.SeenPaths.{AreFull, distinct_full}
 

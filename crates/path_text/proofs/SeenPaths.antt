@@ -1,5 +1,5 @@
 -- Paths that are seen one after another: those that occur, and those that occur more than once.
-use Rattle.std.proofs.Common.{◌≡◌, ℕ, zero, suc, ◌+◌, ◌<◌, ◌≤◌, nat_lt, ◌||◌, Bool, true, false, cond, List, [], ◌∷◌, ◌++◌, length, map, take, drop, get_or, slice_get, Option, Some, None, option_map, is_some, refl, sym, ap, ap₂, subst, ◌∙◌, arith}
+use Rattle.std.proofs.Common.{◌≡◌, ℕ, zero, suc, ◌+◌, ◌<◌, nat_lt, ◌||◌, Bool, true, false, cond, List, [], ◌∷◌, ◌++◌, length, take, slice_get, Option, Some, None, option_map, is_some, refl, sym, ap, ap₂, subst, ◌∙◌, arith}
 use Rattle.std.specs.Prelude.{filter}
 use Rattle.std.specs.List.{AllByRecursion}
 use Rattle.std.proofs.lemmas.Bool.{lt-ltb, ltb-true, ltb-false}
@@ -7,7 +7,7 @@ use Rattle.std.proofs.lemmas.List.{take_more, append-nil}
 use Rattle.std.proofs.lemmas.List.Elements.{filter-append}
 use Rattle.std.proofs.lemmas.Option.{slice_get_within, get_or_from_slice_get}
 use Rattle.trs_defs.specs.Path.{PlacedRule}
-use Rattle.path_text.specs.PathNames.{is_same_path, path_number, occurrences, is_known, distinct_behind, repeated_paths}
+use Rattle.path_text.specs.PathNames.{is_same_path, path_number, occurrences, is_known, distinct_behind}
 use Rattle.path_text.specs.Repeating.{AreSeen, with_missing, again_behind}
 use Rattle.path_text.proofs.PathNumbers.{same_path}
 

@@ -1,5 +1,5 @@
 -- Paths that are printed are read again, with what is shared.
-use Rattle.std.proofs.Common.{◌≡◌, ℕ, zero, suc, ◌+◌, ◌-◌, ◌≤◌, ◌<◌, ◌^◌, nat_le, Bool, true, false, cond, List, [], ◌∷◌, ◌++◌, length, map, slice_get, Option, Some, None, option_map, Ok, Err, codes, decimal, refl, sym, ap, ap₂, subst, ◌∙◌, arith}
+use Rattle.std.proofs.Common.{◌≡◌, ℕ, zero, suc, ◌+◌, ◌≤◌, ◌<◌, ◌^◌, Bool, true, false, cond, List, [], ◌∷◌, ◌++◌, map, slice_get, Option, Some, None, option_map, Ok, codes, decimal, refl, sym, ap, subst, ◌∙◌, arith}
 use Rattle.std.specs.List.{AllByRecursion}
 use Rattle.std.proofs.lemmas.Bool.{le-leb}
 use Rattle.std.proofs.lemmas.List.{append-nil}
@@ -10,18 +10,17 @@ use Rattle.sexp_core.specs.Printed.{IsWord, bare, placeless}
 use Rattle.text_reading.proofs.Words.{plain_word, decimal_word}
 use Rattle.trs_defs.specs.Path.{PlacedRule}
 use Rattle.rewrite_core.specs.ShiftedPath.{shifted_path}
-use Rattle.text_reading.specs.Reading.{Read, ◌<*>◌, Parts, place_of, done, part, keyword, many, rest, list, word, chosen}
+use Rattle.text_reading.specs.Reading.{Read, ◌<*>◌, Parts, place_of, word, chosen}
 use Rattle.text_reading.specs.Printed.{word_item, list_item}
 use Rattle.text_reading.proofs.Again.{Spells, SpellsAll, SpellsParts, spells_done, spells_part, spells_rest, spells_list, spells_many, spells_keyword, spells_by}
 use Rattle.path_text.specs.declared.sharing.Shared.{Shared}
 use Rattle.path_text.specs.Sharing.{Definition, Sharing, path_weight, paths_weight, behind_path, behind_read, behind_paths}
 use Rattle.path_text.specs.PathNames.{is_same_path, path_number, path_name}
-use Rattle.path_text.specs.Paths.{position, position_item, placed_rule_item, placed_rule, ◌then_read◌, begins_with, used, use_list, shifted_at, use_part, one_step, path_part, all_steps, steps_of_parts, path_of_parts, within_room, plain_path, path, part_path, no_path, in_turn, paths_in, rest_in_turn, plain_path_item, named_path_item, numbered_path_item, path_item}
+use Rattle.path_text.specs.Paths.{position_item, placed_rule_item, ◌then_read◌, begins_with, used, use_list, shifted_at, use_part, path_part, all_steps, steps_of_parts, path_of_parts, within_room, plain_path, path, part_path, in_turn, paths_in, rest_in_turn, plain_path_item, named_path_item, numbered_path_item, path_item}
 use Rattle.path_text.specs.Ranges.{IsPlacedInRange}
 use Rattle.path_text.specs.Carrying.{AreNamed, Carries}
 use Rattle.path_text.proofs.PathAgain.{position_again, placed_rule_again, plain_path_again}
 use Rattle.path_text.proofs.PathNumbers.{same_path}
-use Rattle.path_text.proofs.Weighing.{weight_joined}
 
 -- ---- parts
 

@@ -1,6 +1,7 @@
 -- What is left of a weight, part by part; and the longest places.
-use Rattle.std.proofs.Common.{◌≡◌, ℕ, ◌+◌, ◌-◌, ◌<◌, ◌≤◌, nat_lt, ◌==◌, min, zero, suc, false, List, [], ◌∷◌, ◌++◌, length, get_or, drop, map, Option, Some, None, refl, ap, ap₂, sym, ◌∙◌, drop-cons, add-one, arith}
+use Rattle.std.proofs.Common.{◌≡◌, ℕ, ◌+◌, ◌-◌, ◌*◌, ◌<◌, ◌≤◌, nat_lt, ◌==◌, min, max, zero, suc, false, List, [], ◌∷◌, ◌++◌, length, get_or, drop, map, Option, Some, None, refl, ap, ap₂, sym, ◌∙◌, drop-cons, add-one, arith}
 use native.Mathlib.Decide.{dec_lt}
+use Rattle.std.specs.Option.{SomeIff}
 use Rattle.std.proofs.lemmas.Bool.{le-leb, lt-leb, lt-ltb, le-ltb}
 use Rattle.trs_defs.specs.Path.{PlacedRule}
 use Rattle.rewrite_core.specs.ShiftedPath.{shifted_path}
@@ -59,22 +60,16 @@ length_joined : (p q : List ℕ) → length (p ++ q) ≡ length p + length q
 length_joined [] q = omega arith
 length_joined (n ∷ p) q = let e = length_joined p q in omega (arith, e)
 
-weight_next : (by : List ℕ) (s : PlacedRule) (steps : List PlacedRule)
-    → path_weight (shifted_path by (s ∷ steps)) ≡ (1 + (length by + length s.place)) + path_weight (shifted_path by steps)
-weight_next by s steps = let e = length_joined by s.place in omega (arith, e)
+module _ (steps : List PlacedRule) (s : PlacedRule) (room i : ℕ) (total : Option ℕ) (lt : i < length steps) (is : s ≡ get_or steps i s)
+    (before : room_left room (path_weight (drop i steps)) ≡ total) where
+  whole : room_left room ((1 + length s.place) + path_weight (drop (i + 1) steps)) ≡ total
+  whole = sym (ap (λ (l : List PlacedRule). room_left room (path_weight l)) (next_of steps s i lt is)) ∙ before
 
-module _ (by : List ℕ) (steps : List PlacedRule) (s : PlacedRule) (room i : ℕ) (total : Option ℕ) (lt : i < length steps) (is : s ≡ get_or steps i s)
-    (before : room_left room (path_weight (shifted_path by (drop i steps))) ≡ total) where
-  whole : room_left room ((1 + (length by + length s.place)) + path_weight (shifted_path by (drop (i + 1) steps))) ≡ total
-  whole =
-      sym (ap (λ (l : List PlacedRule). room_left room (path_weight (shifted_path by l))) (next_of steps s i lt is)
-      ∙ ap (room_left room) (weight_next by s (drop (i + 1) steps))) ∙ before
+  pub step_weighed : (r : ℕ) → room_left room (1 + length s.place) ≡ Some r → room_left r (path_weight (drop (i + 1) steps)) ≡ total
+  step_weighed r e = room_then room (1 + length s.place) (path_weight (drop (i + 1) steps)) r e ∙ whole
 
-  pub step_weighed : (r : ℕ) → room_left room (1 + (length by + length s.place)) ≡ Some r → room_left r (path_weight (shifted_path by (drop (i + 1) steps))) ≡ total
-  step_weighed r e = room_then room (1 + (length by + length s.place)) (path_weight (shifted_path by (drop (i + 1) steps))) r e ∙ whole
-
-  pub step_heavy : room_left room (1 + (length by + length s.place)) ≡ None → None ≡ total
-  step_heavy e = sym (room_none room (1 + (length by + length s.place)) (path_weight (shifted_path by (drop (i + 1) steps))) e) ∙ whole
+  pub step_heavy : room_left room (1 + length s.place) ≡ None → None ≡ total
+  step_heavy e = sym (room_none room (1 + length s.place) (path_weight (drop (i + 1) steps)) e) ∙ whole
 
 abbrev steps_in : List PathPart → List PlacedRule
 steps_in parts = all_steps (map steps_of_part parts)
@@ -114,13 +109,61 @@ not_deep_empty [] steps e = refl
 not_deep_empty (n ∷ by) [] e = refl
 not_deep_empty (n ∷ by) (s ∷ steps) e = absurd (omega (arith, e))
 
--- a sum that stops at the last number
-pub saturated : (r n : ℕ) → r ≡ min n 18446744073709551615 → nat_lt 1024 r ≡ nat_lt 1024 n
-saturated r n e = elim (dec_lt 1024 n) [
-  | yes lt ↦ lt-ltb 1024 r (omega (arith, lt, e)) ∙ sym (lt-ltb 1024 n lt)
-  | no more ↦ le-ltb 1024 r (omega (arith, more, e)) ∙ sym (le-ltb 1024 n (omega (arith, more)))
+-- the path at a position weighs the position's numbers more for each step
+pub weight_at : (by : List ℕ) (steps : List PlacedRule) → path_weight (shifted_path by steps) ≡ path_weight steps + length by * length steps
+weight_at by [] = omega arith
+weight_at by (s ∷ steps) = let e = length_joined by s.place in let more = weight_at by steps in omega (arith, e, more)
+
+-- what is left behind a path at a position, by its weight and its number of steps
+module _ (by : List ℕ) (steps : List PlacedRule) (room weight more : ℕ) (weight_is : weight ≡ path_weight steps)
+    (more_is : more ≡ length by * length steps) where
+  use_weighs : path_weight (shifted_path by steps) ≡ weight + more
+  use_weighs = let e = weight_at by steps in omega (arith, e, weight_is, more_is)
+
+  pub use_heavy : room < weight + more → None ≡ room_left room (path_weight (shifted_path by steps))
+  use_heavy lt = sym (ap (room_left room) use_weighs ∙ too_heavy room (weight + more) lt)
+
+  pub use_weighed : (whole : ℕ) (left : Option ℕ) → whole ≡ weight + more → SomeIff left (whole ≤ room) (room - whole)
+      → left ≡ room_left room (path_weight (shifted_path by steps))
+  use_weighed whole None is not = sym (ap (room_left room) use_weighs ∙ too_heavy room (weight + more) (omega (arith, is, not)))
+  use_weighed whole (Some r) is (le, r_is) =
+      sym (ap (room_left room) use_weighs ∙ enough room (weight + more) (omega (arith, is, le)) ∙ ap Some (omega (arith, is, r_is)))
+
+-- ---- sums that stand still at the last number
+
+pub saturated : (r l by place : ℕ) → l ≡ min place 18446744073709551615 → r ≡ min (by + l) 18446744073709551615 → nat_lt 1024 r ≡ nat_lt 1024 (by + place)
+saturated r l by place k e = elim (dec_lt 1024 (by + place)) [
+  | yes lt ↦ lt-ltb 1024 r (omega (arith, lt, k, e)) ∙ sym (lt-ltb 1024 (by + place) lt)
+  | no more ↦ le-ltb 1024 r (omega (arith, more, k, e)) ∙ sym (le-ltb 1024 (by + place) (omega (arith, more)))
 ]
+
+-- the longest place of a path at a position
+pub longest_at : (by : List ℕ) (steps : List PlacedRule) (l r : ℕ) → l ≡ min (longest_place steps) 18446744073709551615 → 0 < length steps
+    → r ≡ min (length by + l) 18446744073709551615 → r ≡ min (longest_place (shifted_path by steps)) 18446744073709551615
+longest_at by [] l r k some e = absurd (omega (arith, some))
+longest_at by (s ∷ steps) l r k some e = let whole = longest_shifted by s steps in omega (arith, whole, k, e)
+
+pub longest_of_none : (by : List ℕ) (steps : List PlacedRule) → length steps ≡ 0 → 0 ≡ min (longest_place (shifted_path by steps)) 18446744073709551615
+longest_of_none by [] e = omega arith
+longest_of_none by (s ∷ steps) e = absurd (omega (arith, e))
+
+-- the longest place of paths one behind the other
+pub longest_joined : (p q : List PlacedRule) → longest_place (p ++ q) ≡ max (longest_place p) (longest_place q)
+longest_joined [] q = omega arith
+longest_joined (s ∷ p) q = let e = longest_joined p q in omega (arith, e)
 
 pub not_zero : (n : ℕ) → n == 0 ≡ false → 0 < n
 not_zero zero e = absurd cc
 not_zero (suc n) e = omega arith
+
+-- ---- the longest place of parts, in a loop
+
+pub longest_next : (parts : List PathPart) (part : PathPart) (longest more most i total : ℕ) → i < length parts → part ≡ get_or parts i part
+    → max longest (min (longest_place (all_steps (map steps_of_part (drop i parts)))) 18446744073709551615) ≡ total
+    → more ≡ min (longest_place (steps_of_part part)) 18446744073709551615 → most ≡ max longest more
+    → max most (min (longest_place (all_steps (map steps_of_part (drop (i + 1) parts)))) 18446744073709551615) ≡ total
+longest_next parts part longest more most i total lt is before more_is most_is =
+    let behind = longest_place (steps_in (drop (i + 1) parts)) in
+    let whole : longest_place (steps_in (drop i parts)) ≡ max (longest_place (steps_of_part part)) behind =
+    ap (λ (l : List PathPart). longest_place (steps_in l)) (next_of parts part i lt is) ∙ longest_joined (steps_of_part part) (steps_in (drop (i + 1) parts)) in
+    omega (arith, whole, before, more_is, most_is)

@@ -36,9 +36,9 @@ pub fn read_define(alloc: Global, shared: &mut Shared, item: &Sexp) -> Result<Re
     Ok(added)
 }
 
-fn definition_of(parts: Read<(((), Vec<u8>), Vec<PathStep>)>) -> Read<(Vec<u8>, Vec<PathStep>)>
+fn definition_of(parts: Read<(((), Vec<u8>), DefinedPath)>) -> Read<(Vec<u8>, DefinedPath)>
     ensures { seen definition_seen result
-        ≡ seen (λ p. definition p.0.0 p.0.1.items p.1.items) parts }
+        ≡ seen (λ p. definition p.0.0 p.0.1.items p.1) parts }
 {
     match parts {
         Ok((((), word), path)) => Ok((word, path)),
@@ -49,7 +49,7 @@ fn definition_of(parts: Read<(((), Vec<u8>), Vec<PathStep>)>) -> Read<(Vec<u8>, 
 /// Adds a definition that was read.
 fn add_definition(
     shared: &mut Shared,
-    read: Read<(Vec<u8>, Vec<PathStep>)>,
+    read: Read<(Vec<u8>, DefinedPath)>,
 ) -> Result<Read<()>, OutOfMemory>
     requires { IfOk read (λ d. is_defined shared.old.definitions d.0.items ≡ false) }
     ensures { IfOk result (λ r. seen (λ _. shared.new) r
@@ -57,7 +57,7 @@ fn add_definition(
 {
     match read {
         Ok((word, path)) => {
-            shared.definitions.add(word, DefinedPath::new(path))?;
+            shared.definitions.add(word, path)?;
             Ok(Ok(()))
         }
         Err(at) => Ok(Err(at)),

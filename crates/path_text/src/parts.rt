@@ -1,10 +1,10 @@
-ghost use Rattle.std.specs.Prelude.{◌≡◌, ◌+◌, ◌++◌, ℕ, List, length, map, IfOk, OnOk};
+ghost use Rattle.std.specs.Prelude.{◌≡◌, ◌+◌, ◌++◌, ℕ, List, length, map, min, IfOk, OnOk};
 ghost use Rattle.sexp_core.specs.Items.{view, views};
 ghost use Rattle.trs_defs.specs.Path.{PlacedRule};
 ghost use Rattle.rewrite_core.specs.ShiftedPath.{shifted_path};
 ghost use Rattle.text_reading.specs.Reading.{many, word};
 ghost use Rattle.text_reading.specs.Seen.{seen};
-ghost use Rattle.path_text.specs.Sharing.{path_weight};
+ghost use Rattle.path_text.specs.Sharing.{path_weight, longest_place};
 ghost use Rattle.path_text.specs.Paths.{use_list, use_part, path_part, path_of_parts, all_steps, begins_with as is_begun_with, is_word as is_the_word};
 ghost use Rattle.path_text.specs.Parts.{steps_of_part, room_left};
 
@@ -189,19 +189,18 @@ fn room_behind_part(room: u64, part: &PathPart<'_>) -> Option<u64>
     ensures { result ≡ room_left room (path_weight (steps_of_part part.now)) }
 {
     match part {
-        PathPart::Step(step) => room_behind_step(room, 0, step),
-        PathPart::Use(by, path) => room_behind_steps(room, by.places().len(), path.steps()),
+        PathPart::Step(step) => room_behind_step(room, step),
+        PathPart::Use(by, path) => path.room_behind(room, by.places().len()),
     }
 }
 
-/// What is left of a weight behind the steps of a path at a position of so many numbers.
-pub fn room_behind_steps(room: u64, by: usize, steps: &[PathStep]) -> Option<u64>
-    ensures { (position : List ℕ) → length position ≡ by
-        → result ≡ room_left room (path_weight (shifted_path position steps.now)) }
+/// What is left of a weight behind a path; none where it weighs more.
+pub fn room_behind_path(room: u64, path: &[PathStep]) -> Option<u64>
+    ensures { result ≡ room_left room (path_weight path.now) }
 {
     let mut room = room;
-    for step in steps {
-        let Some(left) = room_behind_step(room, by, step) else {
+    for step in path {
+        let Some(left) = room_behind_step(room, step) else {
             return None;
         };
         room = left;
@@ -209,17 +208,49 @@ pub fn room_behind_steps(room: u64, by: usize, steps: &[PathStep]) -> Option<u64
     Some(room)
 }
 
-/// What is left behind a step at a position of so many numbers.
-fn room_behind_step(room: u64, by: usize, step: &PathStep) -> Option<u64>
-    ensures { result ≡ room_left room (1 + (by + length step.now.place)) }
+fn room_behind_step(room: u64, step: &PathStep) -> Option<u64>
+    ensures { result ≡ room_left room (1 + length step.now.place) }
 {
     let room = room.checked_sub(1)?;
-    let room = room.checked_sub(by as u64)?;
     room.checked_sub(step.place.places().len() as u64)
 }
 
+/// The path of parts that weigh so much together.
+pub fn written_path(
+    alloc: Global,
+    parts: &[PathPart<'_>],
+    weight: u64,
+) -> Result<DefinedPath, OutOfMemory>
+    requires { weight ≡ path_weight (all_steps (map steps_of_part parts.now)) }
+    ensures { IfOk result (λ path. path ≡ all_steps (map steps_of_part parts.now)) }
+{
+    let steps = steps_of_parts(alloc, parts)?;
+    let longest = longest_of_parts(parts);
+    Ok(DefinedPath::new(steps, longest, weight))
+}
+
+/// The numbers of the longest place of parts. It stands still at the last `usize`.
+fn longest_of_parts(parts: &[PathPart<'_>]) -> usize
+    ensures { result ≡ min (longest_place (all_steps (map steps_of_part parts.now))) usize.MAX }
+{
+    let mut longest = 0;
+    for part in parts {
+        longest = longest.max(longest_of_part(part));
+    }
+    longest
+}
+
+fn longest_of_part(part: &PathPart<'_>) -> usize
+    ensures { result ≡ min (longest_place (steps_of_part part.now)) usize.MAX }
+{
+    match part {
+        PathPart::Step(step) => step.place.places().len(),
+        PathPart::Use(by, path) => path.longest_at(by),
+    }
+}
+
 /// The steps of parts, in order.
-pub fn steps_of_parts(alloc: Global, parts: &[PathPart<'_>]) -> Result<Vec<PathStep>, OutOfMemory>
+fn steps_of_parts(alloc: Global, parts: &[PathPart<'_>]) -> Result<Vec<PathStep>, OutOfMemory>
     ensures { IfOk result (λ steps. steps.items ≡ all_steps (map steps_of_part parts.now)) }
 {
     let mut steps = Vec::with_capacity(alloc, parts.len())?;

@@ -8,7 +8,7 @@ ghost use Rattle.path_text.specs.Ranges.{IsPlacedInRange};
 ghost use Rattle.path_text.specs.Repeating.{AreSeen, with_missing, again_behind};
 
 use crate::naming::PathNames;
-use crate::parts::room_behind_steps;
+use crate::parts::room_behind_path;
 use crate::printing::put_plain_path;
 use crate::sharing::MOST_WEIGHT;
 use rewrite_core::PathStep;
@@ -186,10 +186,4 @@ fn room_behind_names(room: u64, names: &PathNames<'_>) -> Option<u64>
         room = left;
     }
     Some(room)
-}
-
-fn room_behind_path(room: u64, path: &[PathStep]) -> Option<u64>
-    ensures { result ≡ room_left room (path_weight path.now) }
-{
-    room_behind_steps(room, 0, path)
 }

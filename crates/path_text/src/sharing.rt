@@ -1,6 +1,9 @@
-ghost use Rattle.std.specs.Prelude.{◌≡◌, ◌++◌, [], ◌∷◌, ℕ, false, Ok, Err, IfSome, IfNone, OnOk};
+ghost use Rattle.std.specs.Prelude.{◌≡◌, ◌++◌, [], ◌∷◌, ℕ, List, length, min, false, Ok, Err, IfSome, IfNone, OnOk};
+ghost use Rattle.rewrite_core.specs.ShiftedPath.{shifted_path};
 ghost use Rattle.text_reading.specs.Reading.{chosen};
-ghost use Rattle.path_text.specs.Sharing.{nothing_defined, longest_place};
+ghost use Rattle.path_text.specs.Sharing.{nothing_defined, path_weight, longest_place};
+ghost use Rattle.path_text.specs.Parts.{room_left};
+ghost use Rattle.path_text.specs.Measures.{AreMeasures};
 ghost use Rattle.path_text.specs.Paths.{is_too_deep};
 ghost use Rattle.path_text.specs.Defining.{is_defined};
 
@@ -16,19 +19,20 @@ pub const MOST_WEIGHT: u64 = 8_388_608;
 /// The most numbers of a place behind a position.
 const LONGEST_PLACE: usize = 1_024;
 
-/// The path that a word stands for.
+/// A path with its measures, so that those of its uses are known without a look at its steps.
 #[derive(Drop)]
 pub struct DefinedPath {
     steps: Vec<PathStep>,
     /// The numbers of the longest place.
     longest: usize,
+    weight: u64,
 }
 
 impl Model for DefinedPath {
-    ghost use Rattle.std.specs.Prelude.{◌≡◌, List};
+    ghost use Rattle.std.specs.Prelude.{List};
     ghost use Rattle.std.specs.Coded.{coded_list};
     ghost use Rattle.trs_defs.specs.Path.{PlacedRule, placed_code};
-    ghost use Rattle.path_text.specs.Sharing.{longest_place};
+    ghost use Rattle.path_text.specs.Measures.{AreMeasures};
 
     ghost Value = { List PlacedRule };
 
@@ -36,7 +40,7 @@ impl Model for DefinedPath {
 
     ghost view = { λ p. p.steps.items };
 
-    ghost invariant = { λ p. p.longest ≡ longest_place p.steps.items };
+    ghost invariant = { λ p. AreMeasures p.steps.items p.longest p.weight };
 }
 
 /// The words that are defined, each once, with their paths. Contracts see the list of the words
@@ -127,17 +131,27 @@ impl Definitions {
 }
 
 impl DefinedPath {
-    pub fn new(steps: Vec<PathStep>) -> DefinedPath
+    pub(crate) fn new(steps: Vec<PathStep>, longest: usize, weight: u64) -> DefinedPath
+        requires { AreMeasures steps.items longest weight }
         ensures { result ≡ steps.items }
     {
-        let longest = longest_place(&steps);
-        DefinedPath { steps, longest }
+        DefinedPath {
+            steps,
+            longest,
+            weight,
+        }
     }
 
     pub fn steps(&self) -> &[PathStep]
         ensures { result.now ≡ self.now }
     {
         &self.steps
+    }
+
+    pub(crate) fn into_steps(self) -> Vec<PathStep>
+        ensures { result.items ≡ self }
+    {
+        self.steps
     }
 
     /// Whether a place of the path, put behind a position, would have more than 1,024 numbers. At
@@ -154,15 +168,25 @@ impl DefinedPath {
         }
         by.saturating_add(self.longest) > LONGEST_PLACE
     }
-}
 
-/// The numbers of the longest place of a path.
-fn longest_place(steps: &[PathStep]) -> usize
-    ensures { result ≡ longest_place steps.now }
-{
-    let mut longest = 0;
-    for step in steps {
-        longest = longest.max(step.place.places().len());
+    /// The numbers of the longest place behind a position. It stands still at the last `usize`.
+    pub(crate) fn longest_at(&self, position: &Position) -> usize
+        ensures { result ≡ min (longest_place (shifted_path position.now self.now)) usize.MAX }
+    {
+        if self.steps.is_empty() {
+            return 0;
+        }
+        position.places().len().saturating_add(self.longest)
     }
-    longest
+
+    /// What is left of a weight behind the path at a position of so many numbers; none where it
+    /// weighs more.
+    pub(crate) fn room_behind(&self, room: u64, by: usize) -> Option<u64>
+        ensures { (position : List ℕ) → length position ≡ by
+            → result ≡ room_left room (path_weight (shifted_path position self.now)) }
+    {
+        let more = (by as u64).checked_mul(self.steps.len() as u64)?;
+        let weight = self.weight.checked_add(more)?;
+        room.checked_sub(weight)
+    }
 }

@@ -1,7 +1,5 @@
-use Rattle.std.proofs.Common.{◌∙◌, ℕ, List, Ok, codes, refl, sym, ap}
-use Rattle.trs_defs.specs.Path.{PlacedRule}
-use Rattle.text_reading.specs.Reading.{Read, done, keyword, word}
-use Rattle.text_reading.specs.Seen.{seen}
+use Rattle.std.proofs.Common.{◌∙◌, Ok, codes, refl, sym, ap}
+use Rattle.text_reading.specs.Reading.{done, keyword, word}
 use Rattle.text_reading.proofs.SeenParts.{first, next, last, as_it_is}
 use Rattle.text_reading.proofs.Members.{three_views, three_lack, list_seen}
 use Rattle.path_text.specs.Paths.{position, used, use_list}

@@ -1,7 +1,5 @@
-use Rattle.std.proofs.Common.{◌≡◌, List, ◌++◌, [], ◌∷◌, drop, map, sym, ap, ap₂, subst, ◌∙◌, ◌+◌, append_assoc}
-use Rattle.trs_defs.specs.Path.{PlacedRule}
+use Rattle.std.proofs.Common.{◌++◌, [], ◌∷◌, drop, map, sym, ap, ◌∙◌, ◌+◌, append_assoc}
 use Rattle.path_text.specs.PathNames.{distinct_behind}
-use Rattle.path_text.specs.Repeating.{AreSeen}
 use Rattle.path_text.proofs.Weighing.{next_of}
 use Rattle.path_text.proofs.SeenPaths.{distinct_more, seen_more, seen_by}
 use Rattle.path_text.proofs.repeating.seen_paths.Goals as goal

@@ -1,4 +1,5 @@
-use Rattle.std.proofs.Common.{◌≡◌, ◌<◌, ◌==◌, false, length, sym, ap, ◌∙◌, arith}
+use Rattle.std.proofs.Common.{◌<◌, length, refl, sym, ap, ◌∙◌, arith}
+use Rattle.path_text.specs.Sharing.{longest_place}
 use Rattle.path_text.specs.Paths.{is_too_deep}
 use Rattle.path_text.proofs.Weighing.{deep, saturated, not_zero}
 use Rattle.path_text.proofs.sharing.DefinedPath.is_too_deep_at.Goals as goal
@@ -9,6 +10,6 @@ returns c =
     let steps = c.self.inside.steps in
     let some : 0 < length by = omega (arith, rw c.places-by.ensures.places at c.if-by-eq0.false) in
     let full : 0 < length steps.items = (let more = not_zero steps.len (sym c.is_empty.ensures ∙ c.if-is_empty.false) in omega (arith, more, steps.ok.0)) in
-    saturated c.saturating_add.result _ (rw c.places-by.ensures.places at c.saturating_add.ensures)
-    ∙ sym (deep by steps.items c.self.inside.longest c.self.invariant some full)
+    saturated c.saturating_add.result c.self.inside.longest (length by) (longest_place steps.items) c.self.invariant.longest_is (rw c.places-by.ensures.places at c.saturating_add.ensures)
+    ∙ sym (deep by steps.items (longest_place steps.items) refl some full)
     ∙ ap (is_too_deep by) c.self.view_is
