@@ -1,5 +1,5 @@
 -- A strategy has one answer.
-use Rattle.std.specs.Prelude.{◌≡◌, ℕ, List}
+use Rattle.std.specs.Prelude.{◌≡◌, ℕ}
 use Rattle.trs_defs.specs.System.{System}
 use Rattle.trs_core.specs.Valid.{IsValid}
 use Rattle.term_text.specs.Renumbered.{in_order}

@@ -4,8 +4,13 @@
 
 ghost use Rattle.one_answer.specs.Laws.{AnswersAreOne};
 
+use one_loop::{loop_answers_exclude, loops_are_one};
+
 /// A law, with nothing to run: two true answers of a strategy to a problem within a budget are the
 /// same.
 pub fn answers_are_one()
     ensures { AnswersAreOne }
-{}
+{
+    loops_are_one();
+    loop_answers_exclude();
+}

@@ -1,0 +1,17 @@
+pub mod Puzzles
+pub mod Firsts
+pub mod Items
+pub mod ParallelSteps
+pub mod Graphs
+pub mod Commons
+pub mod Joins
+pub mod Labels
+pub mod Forks
+pub mod Peaks
+pub mod Searches
+pub mod Places
+pub mod Orders
+pub mod Usables
+pub mod SameSteps
+pub mod Failures
+pub mod OneAnswer
