@@ -1,6 +1,7 @@
 pub mod Firsts
 pub mod SharedIds
 pub mod Joining
+pub mod KeptOfSides
 pub mod NarrowPeaks
 pub mod NewmanLaw
 pub mod NearTerms

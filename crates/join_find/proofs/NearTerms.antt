@@ -1,5 +1,5 @@
 -- A term and its reducts.
-use Rattle.std.specs.Prelude.{◌≡◌, ◌≢◌, ◌<◌, ◌≤◌, ℕ, ◌+◌, false, List, [], ◌∷◌, ◌++◌, length, take, Some, IsTrue, refl, All, IfOk, OnOk, MatchOption, Result, Ok, Err, Option, None}
+use Rattle.std.specs.Prelude.{◌≡◌, ◌≢◌, ◌<◌, ◌≤◌, ℕ, ◌+◌, false, List, [], ◌∷◌, ◌++◌, length, take, Some, IsTrue, refl, IfOk, OnOk, MatchOption, Result, Ok, Err, Option, None}
 use Rattle.std.proofs.Common.{suc, ap, sym, subst, ◌∙◌, append_assoc, append-nil, get_or, arith}
 use Rattle.std.proofs.Math.Seq.{take-suc}
 use Rattle.std.proofs.lemmas.List.{take_all}
@@ -17,7 +17,7 @@ use Rattle.term_pool.specs.Listed.{Listed}
 use Rattle.term_pool.specs.Reach.{AreReducts, no_step, kept, left_out, after_step, is_kept}
 use Rattle.term_pool.proofs.ListingLaws.{reducts_append, too_large_not_kept, small_kept, refused_step}
 use Rattle.term_pool.proofs.Extending.{same_tree_at}
-use Rattle.term_pool.proofs.PoolTrees.{stands, stands_at, stands_within}
+use Rattle.term_pool.proofs.PoolTrees.{stands, stands_within}
 use Rattle.rewrite_core.specs.PathsOfJoin.{PathsOfJoin}
 use Rattle.join_find.specs.Common.{IsFirstCommon, HasNoCommon}
 use Rattle.join_find.specs.CommonIds.{Reached, IsSifted, sifted_none, sifted_there, sifted_out}

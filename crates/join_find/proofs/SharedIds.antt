@@ -1,64 +1,35 @@
 -- Ids that two lists have in common, as the terms that they stand for.
-use Rattle.std.proofs.Common.{◌≡◌, ◌≢◌, ◌<◌, ◌≤◌, ℕ, ◌+◌, ◌⊎◌, inl, inr, ◌↔◌, All, true, false, cond, List, [], ◌∷◌, ◌++◌, take, length, Some, slice_get, get_or, IsTrue, refl, ap, sym, ◌∙◌, subst, suc, arith, map, nat_cmp}
-use Rattle.std.proofs.Math.Decide.{ℕ_discrete}
-use Rattle.std.proofs.Math.Seq.{take-suc}
-use Rattle.std.proofs.lemmas.List.{map-append}
+use Rattle.std.proofs.Common.{◌≡◌, ◌<◌, ◌≤◌, ℕ, ◌⊎◌, inl, inr, All, List, [], ◌∷◌, length, Some, slice_get, refl, ap, sym, ◌∙◌, subst}
 use Rattle.std.proofs.lemmas.List.Elements.{All-head, All-tail}
-use Rattle.std.specs.BTreeSet.{BTreeSet, contains, Updates}
 use Rattle.std.specs.Prelude.{IfOk, MatchOption, Result, Ok, Err, Option, None}
-use Rattle.std.specs.Global.{Vec}
 use Rattle.trs_defs.specs.Member.{In, in_first, in_rest}
 use Rattle.trs_defs.specs.Tree.{Tree}
 use Rattle.trs_defs.specs.Path.{PlacedRule}
-use Rattle.trs_defs.proofs.Members.{in_left, in_right, in_either, in_or, of_map, in_map, no_in}
-use Rattle.term_pool.specs.Pooled.{AreDistinct, StandsFor, tree_at}
+use Rattle.trs_defs.proofs.Members.{in_or, of_map, in_map, no_in}
+use Rattle.term_pool.specs.Pooled.{AreDistinct, tree_at}
 use Rattle.term_pool.specs.Listed.{Listed, HasTerm}
 use Rattle.term_pool.specs.ListedIds.{listed, listed_at, ids_of}
-use Rattle.term_pool.proofs.MatchSteps.{at_same, at_other}
 use Rattle.term_pool.proofs.PoolTrees.{stands, stands_at}
 use Rattle.rewrite_core.specs.PathsOfJoin.{PathsOfJoin}
 use Rattle.join_find.specs.First.{First, first_here, first_later}
 use Rattle.join_find.specs.Common.{IsFirstCommon, HasNoCommon}
 use Rattle.join_find.specs.CommonIds.{Reached, IsFirstCommonId, HasNoCommonId, IsSifted, sifted_none, sifted_there, sifted_out}
-use Rattle.join_find.proofs.Firsts.{none_of_all}
-
--- ---- the set of ids
-
-more_known : (old new : BTreeSet ℕ) (ids : List ℕ) (id : ℕ) → Updates nat_cmp old new id true → ((i : ℕ) → IsTrue (contains nat_cmp old i) ↔ In i ids)
-    → (i : ℕ) → IsTrue (contains nat_cmp new i) ↔ In i (ids ++ id ∷ [])
-more_known old new ids id updates known i = elim (ℕ_discrete id i) as (λ _. IsTrue (contains nat_cmp new i) ↔ In i (ids ++ id ∷ [])) [
-  | yes same ↦ (λ _. rw (← same) (in_right ids in_first), λ _. let e = updates.0 i in e ∙ (rw (← same) (ap (λ b. cond b true (contains nat_cmp old id)) (at_same id))))
-  | no other ↦
-      let stays : contains nat_cmp new i ≡ contains nat_cmp old i = updates.0 i ∙ ap (λ b. cond b true (contains nat_cmp old i)) (at_other id i other) in
-      (λ h. in_left (id ∷ []) ((known i).0 (sym stays ∙ h)), λ h. stays ∙ (known i).1 (before i other (in_either ids (id ∷ []) h)))
-]
-  where
-    none : (i : ℕ) (id : ℕ) → id ≢ i → In i (id ∷ []) → ⊥
-    none i id other in_first = other refl
-    none i id other (in_rest h) = elim h [ ]
-
-    before : (i : ℕ) → id ≢ i → In i ids ⊎ In i (id ∷ []) → In i ids
-    before i other (inl h) = h
-    before i other (inr h) = absurd (none i id other h)
-
--- the set has the ids of one more entry
-pub one_more_id : (old new : BTreeSet ℕ) (entries : List Reached) (k : ℕ) (e : Reached) → k < length entries → e ≡ get_or entries k e
-    → Updates nat_cmp old new e.0 true → ((i : ℕ) → IsTrue (contains nat_cmp old i) ↔ In i (ids_of (take k entries)))
-    → (i : ℕ) → IsTrue (contains nat_cmp new i) ↔ In i (ids_of (take (k + 1) entries))
-one_more_id old new entries k e below is updates known i =
-    let n : k + 1 ≡ suc k = omega arith in
-    let G : Reached → Type 0 = λ x. IsTrue (contains nat_cmp new i) ↔ In i (ids_of (take k entries ++ x ∷ [])) in
-    let X : List Reached → Type 0 = λ zs. IsTrue (contains nat_cmp new i) ↔ In i (ids_of zs) in
-    let Y : List ℕ → Type 0 = λ ids. IsTrue (contains nat_cmp new i) ↔ In i ids in
-    subst X (sym (ap (λ j. take j entries) n ∙ take-suc entries k e below)) (subst G is
-    (subst Y (sym (map-append (λ (x : Reached). x.0) (take k entries) (e ∷ []))) (more_known old new (ids_of (take k entries)) e.0 updates known i)))
+use Rattle.join_find.proofs.Firsts.{none_of_all, first_in_list}
 
 -- an id of the list is that of some entry
-pub id_somewhere : (entries : List Reached) (id k : ℕ) → In id (ids_of entries) → length entries ≤ k
-    → ((j : ℕ) (e : Reached) → j < k → slice_get entries j ≡ Some e → e.0 ≡ id → ⊥) → ⊥
-id_somewhere entries id k there all none =
+pub id_nowhere : (entries : List Reached) (id k : ℕ) → length entries ≤ k → ((j : ℕ) (e : Reached) → j < k → slice_get entries j ≡ Some e → e.0 ≡ id → ⊥) → In id (ids_of entries) → ⊥
+id_nowhere entries id k all none there =
     let (e, i, same) = of_map (λ (x : Reached). x.0) entries there in
     none_of_all (λ (x : Reached). x.0 ≡ id) entries k all none e i (sym same)
+
+first_is : {A : Type 0} {fact : A → Type 0} {xs : List A} {a : A} → First fact xs a → fact a
+first_is (first_here is) = is
+first_is (first_later passed rest) = first_is rest
+
+pub id_of_first : (entries : List Reached) (id : ℕ) (e : Reached) → First (λ (x : Reached). x.0 ≡ id) entries e → In id (ids_of entries)
+id_of_first entries id e first =
+    let P : ℕ → Type 0 = λ i. In i (ids_of entries) in
+    subst P (first_is first) (in_map (λ (x : Reached). x.0) (first_in_list first))
 
 first_or : {A : Type 0} {fact : A → Type 0} {x a : A} {xs : List A} → First fact (x ∷ xs) a → ((x ≡ a) × fact x) ⊎ ((fact x → ⊥) × First fact xs a)
 first_or (first_here is) = inl (refl, is)

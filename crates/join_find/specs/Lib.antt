@@ -8,3 +8,5 @@ pub mod Sides
 pub mod Laws
 pub mod Near
 pub mod ParallelRow
+pub mod KeptLists
+pub mod ReachedSides

@@ -4,11 +4,13 @@
 #![tactic(auto)]
 
 mod common;
+mod kept_lists;
 mod laws;
 mod near;
 mod newman;
 mod parallel;
 mod parallel_step;
+mod reached_sides;
 mod reaching;
 mod root_rule;
 mod sides;

@@ -1,36 +1,35 @@
 //! A term and its reducts.
-ghost use Rattle.std.specs.Prelude.{◌≡◌, ◌<◌, ◌≤◌, ◌+◌, [], ◌∷◌, length, IfOk, OnOk};
-ghost use Rattle.trs_core.specs.View.{tree};
-ghost use Rattle.term_pool.specs.Pooled.{Extends, tree_at};
+ghost use Rattle.std.specs.Prelude.{◌≡◌, ◌<◌, ◌≤◌, length, IfOk, OnOk};
+ghost use Rattle.term_pool.specs.Pooled.{tree_at};
 ghost use Rattle.term_pool.specs.Redexes.{IsNarrow, IsRedexAt};
-ghost use Rattle.join_find.specs.Sides.{IsSide};
+ghost use Rattle.join_find.specs.ReachedSides.{IsNarrowAt};
 ghost use Rattle.join_find.specs.Near.{IsSiftedNear, AddsReduct};
 
-use crate::reaching::{MOST_OF_A_SIDE, ids_are_distinct};
+use crate::reaching::ids_are_distinct;
 use rewrite_core::PathStep;
 use std::alloc::Global;
 use term_pool::{MOST_IDS, Pool, RulesByRoot, one_longer};
-use trs_core::{OutOfMemory, Term, Trs};
+use trs_core::{OutOfMemory, Trs};
 
-/// A term, and after it those of its reducts that the pool has already, by its redexes in order,
-/// with the path of at most one step. Nothing is kept of the others.
+/// The term of an id, and after it those of its reducts that the pool has already, by its redexes
+/// in order, with the path of at most one step. Nothing is kept of the others.
 pub(crate) fn near(
     alloc: Global,
     pool: &mut Pool,
     trs: &Trs,
-    t: &Term,
+    by_root: &RulesByRoot,
+    id: u32,
 ) -> Result<Vec<(u32, Vec<PathStep>)>, OutOfMemory>
-    requires side { IsSide (tree t.now) }
-    requires room { length pool.old + MOST_OF_A_SIDE ≤ MOST_IDS }
+    requires rules { by_root.now ≡ trs.now }
+    requires narrow { IsNarrowAt pool.old id }
+    requires room { length pool.old ≤ MOST_IDS }
     ensures near { IfOk result (λ found.
-        IsSiftedNear trs.now.rules (tree t.now) pool.new found.items) }
-    ensures kept { Extends pool.old pool.new }
+        IsSiftedNear trs.now.rules (tree_at pool.old id) pool.old found.items) }
+    ensures same { pool.new ≡ pool.old }
 {
-    let id = pool.intern(alloc, t)?;
-    let by_root = RulesByRoot::new(alloc, trs)?;
     let mut near = Vec::new(alloc);
     near.push((id, Vec::new(alloc)))?;
-    let steps = pool.redexes_at(alloc, &by_root, id)?;
+    let steps = pool.redexes_at(alloc, by_root, id)?;
     for step in &steps {
         add_reduct(alloc, pool, trs, id, step, &mut near)?;
     }

@@ -1,5 +1,5 @@
 use Rattle.std.proofs.Common.{◌≡◌, take}
-use Rattle.term_pool.specs.Pooled.{Extends, tree_at}
+use Rattle.term_pool.specs.Pooled.{tree_at}
 use Rattle.join_find.specs.Near.{HasNear}
 use Rattle.join_find.proofs.near.near.Given as goal
 

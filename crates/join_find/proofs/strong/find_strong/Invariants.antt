@@ -1,12 +1,13 @@
-use Rattle.std.proofs.Common.{◌≡◌, ◌≤◌, [], take}
+use Rattle.std.proofs.Common.{◌≡◌, ◌≤◌, take}
 use Rattle.join_find.specs.First.{Along}
 use Rattle.join_find.specs.StrongRow.{IsFirstFour}
+use Rattle.join_find.specs.ReachedSides.{AreReached}
 use Rattle.join_find.proofs.strong.find_strong.Given as goal
 
 abbrev pub invariant-loop-peak : goal.invariant-loop-peak
 invariant-loop-peak g l = record {
   joined : Along (IsFirstFour l.trs.rules) (take l.peak-index l.peaks) l.fours.items;
-  empty : l.pool ≡ [];
+  sides : AreReached l.trs.rules l.sides;
   later : g.P.Stop.stops l.fn.stop ≤ g.P.Stop.stops l.stop;
   kept : g.P.Stop.kept l.stop ≡ g.P.Stop.kept l.fn.stop;
 }

@@ -1,0 +1,181 @@
+//! The sides of peaks, with what they reach.
+ghost use Rattle.std.specs.Prelude.{◌≡◌, ◌<◌, ◌≤◌, ◌+◌, ◌*◌, ℕ, List, length, is_some, IsTrue, IfOk, OnOk, MatchOption};
+ghost use Rattle.trs_defs.specs.Tree.{Tree};
+ghost use Rattle.trs_defs.specs.System.{RewriteRule};
+ghost use Rattle.trs_core.specs.View.{tree};
+ghost use Rattle.term_pool.specs.Pooled.{Extends, StandsFor};
+ghost use Rattle.rewrite_core.specs.PlacedPeak.{PlacedPeak};
+ghost use Rattle.join_find.specs.Sides.{IsSide};
+ghost use Rattle.join_find.specs.KeptLists.{list_of};
+ghost use Rattle.join_find.specs.ReachedSides.{IsNarrowAt, AreReached};
+ghost use Rattle.join_find.specs.NewmanRow.{IsFirstJoin, HasNoJoin};
+ghost use Rattle.join_find.specs.StrongRow.{IsFirstHalf, HasNoHalf};
+
+use crate::common::first_common;
+use crate::kept_lists::KeptLists;
+use crate::near::near;
+use crate::reaching::{MOST_OF_A_SIDE, MOST_REACHED, ids_are_distinct, reached};
+use closed_pairs::Join;
+use std::alloc::Global;
+use term_pool::{MOST_IDS, Pool, RulesByRoot};
+use trs_core::{OutOfMemory, Term, Trs};
+
+/// The most ids that are kept from one peak to the next.
+const MOST_KEPT_IDS: u32 = 262_144;
+
+/// The most bytes of lists, by estimate, that are kept from one peak to the next.
+const MOST_KEPT_BYTES: u64 = 16_777_216;
+
+/// Sides of peaks in one pool. What a side reaches is listed once, and what is near it once for as
+/// long as the pool has no new terms.
+#[derive(Drop)]
+pub(crate) struct ReachedSides {
+    pool: Pool,
+    reached: KeptLists,
+    near: KeptLists,
+}
+
+impl ReachedSides {
+    /// No sides. It takes no memory.
+    pub(crate) fn new(alloc: Global) -> ReachedSides
+        ensures few { length result.pool ≡ 0 }
+        ensures sides { (rules : List RewriteRule) → AreReached rules result }
+    {
+        ReachedSides {
+            pool: Pool::new(alloc),
+            reached: KeptLists::new(alloc),
+            near: KeptLists::new(alloc),
+        }
+    }
+
+    /// Makes room for two sides. Where many ids or long lists are kept, all are given up.
+    pub(crate) fn make_room(&mut self, alloc: Global)
+        ensures room { length self.new.pool + 2 * MOST_OF_A_SIDE ≤ MOST_IDS }
+        ensures sides { (rules : List RewriteRule) → AreReached rules self.old
+            → AreReached rules self.new }
+    {
+        let bytes = self.reached.bytes().saturating_add(self.near.bytes());
+        if self.pool.len() <= MOST_KEPT_IDS && bytes <= MOST_KEPT_BYTES {
+            return;
+        }
+        self.pool = Pool::new(alloc);
+        self.reached = KeptLists::new(alloc);
+        self.near = KeptLists::new(alloc);
+    }
+
+    /// The id of a side.
+    pub(crate) fn intern(&mut self, alloc: Global, side: &Term) -> Result<u32, OutOfMemory>
+        requires side { IsSide (tree side.now) }
+        requires room { length self.old.pool ≤ MOST_IDS }
+        ensures id { IfOk result (λ id. StandsFor self.new.pool id (tree side.now)) }
+        ensures sides { OnOk result ((rules : List RewriteRule) → AreReached rules self.old
+            → AreReached rules self.new) }
+        ensures kept { OnOk result (Extends self.old.pool self.new.pool) }
+        ensures few { OnOk result (length self.new.pool ≤ length self.old.pool + 65536) }
+    {
+        let mark = self.pool.mark();
+        let id = self.pool.intern(alloc, side)?;
+        if id < mark {
+            self.pool.release(mark);
+            return Ok(id);
+        }
+        self.near = KeptLists::new(alloc);
+        Ok(id)
+    }
+
+    /// The paths to the first term that the left side reaches among those that the right side
+    /// reaches, if there is one.
+    pub(crate) fn first_join(
+        &mut self,
+        alloc: Global,
+        trs: &Trs,
+        left: u32,
+        right: u32,
+    ) -> Result<Option<Join>, OutOfMemory>
+        requires left { IsNarrowAt self.old.pool left }
+        requires right { IsNarrowAt self.old.pool right }
+        requires sides { AreReached trs.now.rules self.old }
+        requires room { length self.old.pool + 2 * MOST_REACHED ≤ MOST_IDS }
+        ensures join { (peak : PlacedPeak) → StandsFor self.old.pool left peak.left
+            → StandsFor self.old.pool right peak.right → IfOk result (λ found. MatchOption found
+            (HasNoJoin trs.now.rules peak) (IsFirstJoin trs.now.rules peak)) }
+        ensures sides { OnOk result (AreReached trs.now.rules self.new) }
+    {
+        self.list_reached(alloc, trs, left)?;
+        self.list_reached(alloc, trs, right)?;
+        ids_are_distinct(&self.pool);
+        first_common(alloc, self.reached.at(left), self.reached.at(right))
+    }
+
+    /// The paths to the first term that one side reaches and that the other is, or reaches in one
+    /// step, if there is one.
+    pub(crate) fn first_half(
+        &mut self,
+        alloc: Global,
+        trs: &Trs,
+        by_root: &RulesByRoot,
+        from: u32,
+        to: u32,
+    ) -> Result<Option<Join>, OutOfMemory>
+        requires rules { by_root.now ≡ trs.now }
+        requires from { IsNarrowAt self.old.pool from }
+        requires to { IsNarrowAt self.old.pool to }
+        requires sides { AreReached trs.now.rules self.old }
+        requires room { length self.old.pool + MOST_REACHED ≤ MOST_IDS }
+        ensures half { (s t : Tree) → StandsFor self.old.pool from s
+            → StandsFor self.old.pool to t → IfOk result (λ found. MatchOption found
+            (HasNoHalf trs.now.rules s t) (IsFirstHalf trs.now.rules s t)) }
+        ensures sides { OnOk result (AreReached trs.now.rules self.new) }
+        ensures kept { OnOk result (Extends self.old.pool self.new.pool) }
+        ensures few { OnOk result (length self.new.pool ≤ length self.old.pool + MOST_REACHED) }
+    {
+        self.list_reached(alloc, trs, from)?;
+        self.list_near(alloc, trs, by_root, to)?;
+        ids_are_distinct(&self.pool);
+        first_common(alloc, self.reached.at(from), self.near.at(to))
+    }
+
+    /// Lists what an id's term reaches, if it is not listed yet.
+    fn list_reached(&mut self, alloc: Global, trs: &Trs, id: u32) -> Result<(), OutOfMemory>
+        requires narrow { IsNarrowAt self.old.pool id }
+        requires sides { AreReached trs.now.rules self.old }
+        requires room { length self.old.pool + MOST_REACHED ≤ MOST_IDS }
+        ensures listed { OnOk result (IsTrue (is_some (list_of self.new.reached id))) }
+        ensures still { OnOk result ((i : ℕ) → IsTrue (is_some (list_of self.old.reached i))
+            → IsTrue (is_some (list_of self.new.reached i))) }
+        ensures sides { OnOk result (AreReached trs.now.rules self.new) }
+        ensures kept { OnOk result (Extends self.old.pool self.new.pool) }
+        ensures few { OnOk result (length self.new.pool ≤ length self.old.pool + MOST_REACHED) }
+    {
+        if self.reached.has(id) {
+            return Ok(());
+        }
+        let list = reached(alloc, &mut self.pool, trs, id)?;
+        self.near = KeptLists::new(alloc);
+        self.reached.put(id, list)
+    }
+
+    /// Lists what is near an id's term, if it is not listed yet.
+    fn list_near(
+        &mut self,
+        alloc: Global,
+        trs: &Trs,
+        by_root: &RulesByRoot,
+        id: u32,
+    ) -> Result<(), OutOfMemory>
+        requires rules { by_root.now ≡ trs.now }
+        requires narrow { IsNarrowAt self.old.pool id }
+        requires sides { AreReached trs.now.rules self.old }
+        requires room { length self.old.pool ≤ MOST_IDS }
+        ensures listed { OnOk result (IsTrue (is_some (list_of self.new.near id))) }
+        ensures sides { OnOk result (AreReached trs.now.rules self.new) }
+        ensures reached { OnOk result (self.new.reached ≡ self.old.reached) }
+        ensures same { OnOk result (self.new.pool ≡ self.old.pool) }
+    {
+        if self.near.has(id) {
+            return Ok(());
+        }
+        let list = near(alloc, &mut self.pool, trs, by_root, id)?;
+        self.near.put(id, list)
+    }
+}
