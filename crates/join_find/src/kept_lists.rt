@@ -12,14 +12,14 @@ const BYTES_OF_ITEM: u64 = 64;
 
 /// Lists of ids with paths, each by an id of its own.
 #[derive(Drop)]
-pub(crate) struct KeptLists {
+pub struct KeptLists {
     by_id: IndexMap<u32, Vec<(u32, Vec<PathStep>)>>,
     bytes: u64,
 }
 
 impl KeptLists {
     /// No lists. It takes no memory.
-    pub(crate) fn new(alloc: Global) -> KeptLists
+    pub fn new(alloc: Global) -> KeptLists
         ensures { (id : ℕ) → list_of result id ≡ None }
     {
         KeptLists {
@@ -29,14 +29,14 @@ impl KeptLists {
     }
 
     /// Whether an id has a list.
-    pub(crate) fn has(&self, id: u32) -> bool
+    pub fn has(&self, id: u32) -> bool
         ensures { result ≡ is_some (list_of self.now id) }
     {
         self.by_id.contains_key(&id)
     }
 
     /// The list of an id.
-    pub(crate) fn at(&self, id: u32) -> &[(u32, Vec<PathStep>)]
+    pub fn at(&self, id: u32) -> &[(u32, Vec<PathStep>)]
         requires { IsTrue (is_some (list_of self.now id)) }
         ensures { list_of self.now id ≡ Some result.now }
     {
@@ -47,7 +47,7 @@ impl KeptLists {
     }
 
     /// Makes a list that of an id.
-    pub(crate) fn put(
+    pub fn put(
         &mut self,
         id: u32,
         list: Vec<(u32, Vec<PathStep>)>,
@@ -60,7 +60,7 @@ impl KeptLists {
     }
 
     /// The bytes of all lists, by estimate.
-    pub(crate) fn bytes(&self) -> u64 {
+    pub fn bytes(&self) -> u64 {
         self.bytes
     }
 }

@@ -16,6 +16,7 @@ mod root_rule;
 mod sides;
 mod strong;
 
+pub use kept_lists::KeptLists;
 pub use laws::{found_fours_join, found_joins_join, found_steps_close};
 pub use newman::find_newman;
 pub use parallel::find_parallel;
