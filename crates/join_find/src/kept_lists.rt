@@ -47,11 +47,7 @@ impl KeptLists {
     }
 
     /// Makes a list that of an id.
-    pub fn put(
-        &mut self,
-        id: u32,
-        list: Vec<(u32, Vec<PathStep>)>,
-    ) -> Result<(), OutOfMemory>
+    pub fn put(&mut self, id: u32, list: Vec<(u32, Vec<PathStep>)>) -> Result<(), OutOfMemory>
         ensures { OnOk result (IsPut id list.items self.old self.new) }
     {
         self.bytes = self.bytes.saturating_add(bytes_of(list.as_slice()));

@@ -47,8 +47,7 @@ fn shown(alloc: Global, table: &LinTable) -> Result<Vec<u64>, OutOfMemory> {
 #[test]
 fn interpretation_of_addition(rt: HostRuntime) -> Result<(), Fail> {
     let alloc = rt.alloc();
-    let Search::Found(table) = find(alloc, Weak::All, &addition(alloc)?, 20_000, &mut Never)?
-    else {
+    let Search::Found(table) = find(alloc, Weak::All, &addition(alloc)?, 20_000, &mut Never)? else {
         panic!(rt; "no interpretation")
     };
     let wanted = [0, 0, 1, 1, 1, 2, 0, 1, 1, 4_098, 0, 1, 0];

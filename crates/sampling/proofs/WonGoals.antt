@@ -78,4 +78,3 @@ pub line_judged : (size budget : ℕ) (system : System) (judgement : Judgement) 
 line_judged size budget system judgement line same is_true serial is =
     subst (IsSampleLine size budget) (sym (is ∙ ap (λ (s : System). line_of s judgement) same))
     (judged judgement (subst (λ (s : System). IsTrueJudgement s budget judgement) same is_true) (subst (λ (s : System). IsSerialJudgement s budget judgement) same serial))
-
