@@ -8,3 +8,4 @@ pub mod Numbers
 pub mod ConstraintReads
 pub mod Searching
 pub mod LabelLaw
+pub mod PathsOfSides

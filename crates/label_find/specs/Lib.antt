@@ -7,3 +7,4 @@ pub mod Constraint
 pub mod ConstraintPuzzle
 pub mod LabelLawful
 pub mod Closing
+pub mod ListedSides

@@ -9,11 +9,13 @@ ghost use Rattle.join_find.specs.Answers.{IsFinding};
 ghost use Rattle.path_lists.specs.Growth.{GrowsBy};
 ghost use Rattle.label_find.specs.ConstraintPuzzle.{IsConstraintFor};
 ghost use Rattle.label_find.specs.Closing.{CanAllBeClosed};
+ghost use Rattle.label_find.specs.ListedSides.{AreListed};
 ghost use Rattle.label_find.specs.LabelAnswers.{IsLabelling, IsLabelledBy};
 
 use crate::constraint::PeakConstraint;
 use crate::constraints::constraints_of;
 use crate::joining::joins_by;
+use crate::listed_sides::ListedSides;
 use crate::space::LabelSpace;
 use assign_search::{Search, Stop, first_solution};
 use join_find::critical_peaks_have_sides;
@@ -62,7 +64,8 @@ pub fn find_label<P: Stop>(
     }
     let growth = growth_of(trs);
     let by_root = RulesByRoot::new(alloc, trs)?;
-    match constraints_of(alloc, trs, &by_root, growth, peaks, stop)? {
+    let mut sides = ListedSides::new(alloc);
+    match constraints_of(alloc, trs, &by_root, growth, peaks, &mut sides, stop)? {
         None => Ok(Search::Stopped),
         Some(constraints) => {
             search_ranks(
@@ -73,6 +76,7 @@ pub fn find_label<P: Stop>(
                 peaks,
                 constraints,
                 budget,
+                &mut sides,
                 stop,
             )
         }
@@ -107,12 +111,14 @@ fn search_ranks<P: Stop>(
     peaks: &[Peak],
     constraints: Vec<PeakConstraint>,
     budget: u64,
+    sides: &mut ListedSides,
     stop: &mut P,
 ) -> Result<Search<Labelled>, OutOfMemory>
     requires critical { ListsPeaks trs.now.rules (Ok peaks.now) }
     requires table { by_root.now ≡ trs.now }
     requires grows { GrowsBy trs.now.rules growth }
     requires sides { HaveSides peaks.now }
+    requires listed { AreListed trs.now.rules sides.old }
     requires linear { AreLinear trs.now.rules }
     requires constraints { Along (IsConstraintFor trs.now.rules) peaks.now constraints.items }
     ensures answer { IfOk result (IsLabelling
@@ -128,7 +134,9 @@ fn search_ranks<P: Stop>(
     };
     match first_solution(alloc, &space, budget, stop) {
         Err(_) => Err(OutOfMemory),
-        Ok(Search::Found(ranks)) => labelled_by(alloc, trs, by_root, growth, peaks, &ranks, stop),
+        Ok(Search::Found(ranks)) => {
+            labelled_by(alloc, trs, by_root, growth, peaks, &ranks, sides, stop)
+        }
         Ok(Search::NotThere) => Ok(Search::NotThere),
         Ok(Search::Spent) => Ok(Search::Spent),
         Ok(Search::Stopped) => Ok(Search::Stopped),
@@ -143,18 +151,20 @@ fn labelled_by<P: Stop>(
     growth: u64,
     peaks: &[Peak],
     ranks: &[u32],
+    sides: &mut ListedSides,
     stop: &mut P,
 ) -> Result<Search<Labelled>, OutOfMemory>
     requires table { by_root.now ≡ trs.now }
     requires grows { GrowsBy trs.now.rules growth }
     requires sides { HaveSides peaks.now }
+    requires listed { AreListed trs.now.rules sides.old }
     requires can { CanAllBeClosed trs.now.rules ranks.now peaks.now }
     ensures answer { IfOk result (IsFinding (IsLabelledBy trs.now.rules peaks.now ranks.now) ⊥
         (P.stops stop.old < P.stops stop.new)) }
     ensures later { P.stops stop.old ≤ P.stops stop.new }
     ensures kept { P.kept stop.new ≡ P.kept stop.old }
 {
-    match joins_by(alloc, trs, by_root, growth, peaks, ranks, stop)? {
+    match joins_by(alloc, trs, by_root, growth, peaks, ranks, sides, stop)? {
         None => Ok(Search::Stopped),
         Some(joins) => {
             let ranks = widened(alloc, ranks)?;

@@ -9,6 +9,7 @@ mod fitting;
 mod joining;
 mod label;
 mod laws;
+mod listed_sides;
 mod meeting;
 mod space;
 mod used;

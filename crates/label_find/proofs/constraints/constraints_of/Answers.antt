@@ -8,7 +8,7 @@ use Rattle.label_find.proofs.constraints.constraints_of.Goals as goal
 pub loop-peak-init : goal.loop-peak-init
 loop-peak-init g c =
     let P : List PeakConstraint → Type 0 = λ xs. Along (IsConstraintFor c.args.trs.now.rules) [] xs in
-    record { made = subst P (sym c.new-constraints.ensures.items) along_end; empty = c.new-pool.ensures; later = omega arith; kept = refl }
+    record { made = subst P (sym c.new-constraints.ensures.items) along_end; listed = c.requires.listed; later = omega arith; kept = refl }
 
 pub constraint_at-requires-clause-sides : goal.constraint_at-requires-clause-sides
 constraint_at-requires-clause-sides g c =
@@ -18,7 +18,7 @@ pub loop-peak-preserved : goal.loop-peak-preserved
 loop-peak-preserved g c = record {
   made = along_one_more (IsConstraintFor c.args.trs.now.rules) c.args.peaks.now c.loop-peak.constraints.items c.push.new.self.items c.loop-peak.peak-index c.peak-item.result _
       c.loop-peak-test.true c.peak-item.is c.loop-peak.invariant.made c.in_ok-constraint.ensures.constraint c.in_ok-push.ensures.items;
-  empty = c.in_ok-constraint.ensures.released ∙ c.loop-peak.invariant.empty;
+  listed = c.in_ok-constraint.ensures.listed;
   later = omega (arith, c.loop-peak.invariant.later, c.stopped.ensures.later);
   kept = c.stopped.ensures.kept ∙ c.loop-peak.invariant.kept;
 }

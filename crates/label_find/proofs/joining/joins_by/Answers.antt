@@ -8,7 +8,7 @@ use Rattle.label_find.proofs.joining.joins_by.Goals as goal
 pub loop-peak-init : goal.loop-peak-init
 loop-peak-init g c =
     let P : List PathsOfJoin → Type 0 = λ xs. Along (IsJoinBy c.args.trs.now.rules c.args.ranks.now) [] xs in
-    record { made = subst P (sym c.new-joins.ensures.items) along_end; empty = c.new-pool.ensures; later = omega arith; kept = refl }
+    record { made = subst P (sym c.new-joins.ensures.items) along_end; listed = c.requires.listed; later = omega arith; kept = refl }
 
 pub join_at-requires-clause-sides : goal.join_at-requires-clause-sides
 join_at-requires-clause-sides g c =
@@ -21,7 +21,7 @@ pub loop-peak-preserved : goal.loop-peak-preserved
 loop-peak-preserved g c = record {
   made = along_one_more (IsJoinBy c.args.trs.now.rules c.args.ranks.now) c.args.peaks.now c.loop-peak.joins.items c.push.new.self.items c.loop-peak.peak-index c.peak-item.result _
       c.loop-peak-test.true c.peak-item.is c.loop-peak.invariant.made c.in_ok-join.ensures.join c.in_ok-push.ensures.items;
-  empty = c.in_ok-join.ensures.released ∙ c.loop-peak.invariant.empty;
+  listed = c.in_ok-join.ensures.listed;
   later = omega (arith, c.loop-peak.invariant.later, c.stopped.ensures.later);
   kept = c.stopped.ensures.kept ∙ c.loop-peak.invariant.kept;
 }

@@ -1,0 +1,58 @@
+-- Paths that are kept of the sides of peaks.
+use Rattle.std.proofs.Common.{◌≡◌, ◌<◌, ℕ, List, All, length, Some, None, sym, subst, arith}
+use Rattle.std.proofs.lemmas.List.Elements.{All-weaker}
+use Rattle.trs_defs.specs.Tree.{Tree}
+use Rattle.trs_defs.specs.System.{RewriteRule}
+use Rattle.term_pool.specs.Pooled.{Extends, StandsFor, tree_at}
+use Rattle.term_pool.specs.Listed.{Listed}
+use Rattle.term_pool.specs.ListedIds.{listed_at}
+use Rattle.term_pool.proofs.ReachedIds.{same_listed}
+use Rattle.term_pool.proofs.Extending.{same_tree_at}
+use Rattle.term_pool.proofs.PoolTrees.{stands_at, stands_within}
+use Rattle.join_find.specs.KeptLists.{list_of, IsPut}
+use Rattle.join_find.specs.declared.kept_lists.KeptLists.{KeptLists}
+use Rattle.join_find.proofs.KeptOfSides.{none_kept, one_more_kept, of_weaker_kind}
+use Rattle.path_lists.specs.PathList.{IsPathList}
+use Rattle.path_lists.specs.Adding.{Entry}
+use Rattle.label_find.specs.ListedSides.{IsPathsOf, AreListed}
+use Rattle.label_find.specs.declared.listed_sides.ListedSides.{ListedSides}
+
+paths_still : (rules : List RewriteRule) (a b : List Tree) (id : ℕ) (found : List Entry) → Extends a b → IsPathsOf rules a id found → IsPathsOf rules b id found
+paths_still rules a b id found extends h =
+    let P : List Listed → Type 0 = λ xs. IsPathList rules (tree_at b id) xs in
+    let Q : Tree → Type 0 = λ t. IsPathList rules t (listed_at a found) in
+    record {
+      there = (let n = h.there in omega (arith, extends.longer, n));
+      list = subst P (sym (same_listed a b extends found h.below)) (subst Q (sym (same_tree_at a b extends id h.there)) h.list);
+      below = All-weaker (λ e. e.0 < length a) (λ e. e.0 < length b) (λ x k. omega (arith, k, extends.longer)) found h.below;
+    }
+
+abbrev sides_of : List Tree → KeptLists → ListedSides
+sides_of pool lists = record { pool = pool; lists = lists }
+
+-- no sides
+pub none_listed : (rules : List RewriteRule) (pool : List Tree) (lists : KeptLists) → ((id : ℕ) → list_of lists id ≡ None) → AreListed rules (sides_of pool lists)
+none_listed rules pool lists none = record { lists = none_kept (IsPathsOf rules pool) lists none }
+
+module _ (rules : List RewriteRule) (old : ListedSides) (sides : AreListed rules old) (pool : List Tree) (extends : Extends old.pool pool) where
+  -- the pool has grown
+  pub listed_still : AreListed rules (sides_of pool old.lists)
+  listed_still = record { lists = of_weaker_kind (IsPathsOf rules old.pool) (IsPathsOf rules pool) old.lists (λ id found. paths_still rules old.pool pool id found extends) sides.lists }
+
+  -- the paths from one more side are listed
+  pub one_more_listed : (lists : KeptLists) (id : ℕ) (found : List Entry) (t : Tree) → IsPut id found old.lists lists → StandsFor pool id t → IsPathList rules t (listed_at pool found)
+      → All (λ e. e.0 < length pool) found → AreListed rules (sides_of pool lists)
+  one_more_listed lists id found t put is list below =
+      let Q : Tree → Type 0 = λ u. IsPathList rules u (listed_at pool found) in
+      let paths : IsPathsOf rules pool id found = record { there = stands_within pool id t is; list = subst Q (sym (stands_at pool id t is)) list; below = below } in
+      record { lists = one_more_kept (IsPathsOf rules pool) old.lists lists id found listed_still.lists put paths }
+
+-- the paths from the side of an id that has a list
+module _ (rules : List RewriteRule) (sides : ListedSides) (listed : AreListed rules sides) (id : ℕ) (t : Tree) (found : List Entry) (at : list_of sides.lists id ≡ Some found) where
+  pub list_from : StandsFor sides.pool id t → IsPathList rules t (listed_at sides.pool found)
+  list_from is =
+      let Q : Tree → Type 0 = λ u. IsPathList rules u (listed_at sides.pool found) in
+      subst Q (stands_at sides.pool id t is) (listed.lists id found at).list
+
+  pub ends_below : All (λ e. e.0 < length sides.pool) found
+  ends_below = (listed.lists id found at).below
