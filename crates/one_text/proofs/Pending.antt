@@ -1,0 +1,30 @@
+-- A strategy has one answer.
+use Rattle.std.specs.Prelude.{◌≡◌, ℕ, List}
+use Rattle.trs_defs.specs.System.{System}
+use Rattle.trs_core.specs.Valid.{IsValid}
+use Rattle.term_text.specs.Renumbered.{in_order}
+use Rattle.cert_step.specs.ProofProblem.{ProofProblem}
+use Rattle.cert_step.specs.ProofStep.{ProofStep, loop}
+use Rattle.strategies.specs.declared.strategy.Strategy.{Strategy}
+use Rattle.strategies.specs.Runs.{Found, found, failed}
+use Rattle.strategies.specs.Truth.{IsTrueFound}
+
+-- the variables of a loop's term are numbered in the order of their first occurrences; other steps stay as they are
+abbrev pub renumbered : ProofStep → ProofStep
+renumbered (loop start path place) = loop (in_order start) path place
+renumbered s = s
+
+-- the steps are the same, but for the numbers of the variables of a loop
+abbrev pub AreSameSteps : ProofStep → ProofStep → Type 0
+AreSameSteps s t = renumbered s ≡ renumbered t
+
+-- both answers are such steps, which leave the same problems; or both fail for one reason
+abbrev pub AreSameAnswers : Found → Found → Type 0
+AreSameAnswers (found s left) (found t others) = AreSameSteps s t × (left ≡ others)
+AreSameAnswers (failed spent) (failed other) = spent ≡ other
+AreSameAnswers _ _ = ⊥
+
+abbrev pub AnswersAreOne : Type 0
+AnswersAreOne =
+    (system : System) (budget : ℕ) (strategy : Strategy) (p : ProofProblem) (a b : Found) → IsValid system
+    → IsTrueFound system budget strategy p a → IsTrueFound system budget strategy p b → AreSameAnswers a b
