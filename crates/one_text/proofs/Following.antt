@@ -31,7 +31,8 @@ event_again aborted = aborted
 
 -- ---- a step that applies does so renumbered
 
-pub applies_again : (system : System) (p : ProofProblem) (s : ProofStep) (left : List ProofProblem) → Applies system p s left → Applies system p (renumbered s) left
+pub applies_again : (system : System) (p : ProofProblem) (s : ProofStep) (left : List ProofProblem) → Applies system p s left
+    → Applies system p (renumbered s) left
 applies_again system p (step.loop start path place) left h = applies_in_order system p (step.loop start path place) left tt h
 applies_again system p step.dp left h = h
 applies_again system p (step.graph items) left h = h
@@ -58,24 +59,27 @@ new_again : (goal : ℕ) (left : List ProofProblem) → nodes_again (map (new_no
 new_again goal [] = refl
 new_again goal (p ∷ left) = ap (λ ys. new_node goal p ∷ ys) (new_again goal left)
 
-claim_again : (s : State) (seat n place : ℕ) (node : TreeNode) → state_again (with_claim s seat n place node) ≡ with_claim (state_again s) seat n place (node_again node)
+claim_again : (s : State) (seat n place : ℕ) (node : TreeNode)
+    → state_again (with_claim s seat n place node) ≡ with_claim (state_again s) seat n place (node_again node)
 claim_again s seat n place node =
     ap (λ (ns : List TreeNode). record (with_claim (state_again s) seat n place (node_again node)) { nodes = ns }) (map_set s.nodes n _)
 
-ended_again : (s : State) (number : ℕ) (t : Ticket) (node : TreeNode) (mark : Mark) → state_again (ended s number t node mark) ≡ ended (state_again s) number t (node_again node) mark
+ended_again : (s : State) (number : ℕ) (t : Ticket) (node : TreeNode) (mark : Mark)
+    → state_again (ended s number t node mark) ≡ ended (state_again s) number t (node_again node) mark
 ended_again s number t node mark =
-    ap (λ (ns : List TreeNode). record (ended (state_again s) number t (node_again node) mark) { nodes = ns }) (map_set s.nodes t.node (marked node t.place mark))
+    ap (λ (ns : List TreeNode). record (ended (state_again s) number t (node_again node) mark) { nodes = ns })
+    (map_set s.nodes t.node (marked node t.place mark))
 
 with_again : (s : State) (t : Ticket) (node : TreeNode) (step : ProofStep) (left : List ProofProblem)
     → nodes_again (nodes_with s t node step left) ≡ nodes_with (state_again s) t (node_again node) (renumbered step) left
 with_again s t node step left =
     let d : ℕ → Decided = λ first. record { step = step; first = first; count = length left } in
     let x : TreeNode = record (marked node t.place Idle) { decision = Some (d (length s.nodes)) } in
+    let shut : ℕ → TreeNode = λ first. record (marked (node_again node) t.place Idle) { decision = Some (decided_again (d first)) } in
     map-append node_again (set s.nodes t.node x) (map (new_node node.goal) left)
     ∙ ap (λ ys. nodes_again (set s.nodes t.node x) ++ ys) (new_again node.goal left)
     ∙ ap (λ xs. xs ++ map (new_node node.goal) left) (map_set s.nodes t.node x)
-    ∙ ap (λ (first : ℕ). set (nodes_again s.nodes) t.node (record (marked (node_again node) t.place Idle) { decision = Some (decided_again (d first)) }) ++ map (new_node node.goal) left)
-    (sym (length-map s.nodes node_again))
+    ∙ ap (λ (first : ℕ). set (nodes_again s.nodes) t.node (shut first) ++ map (new_node node.goal) left) (sym (length-map s.nodes node_again))
 
 -- ---- what follows
 
@@ -98,29 +102,44 @@ module _ (goals : ℕ) (s : State) where
 
   module _ (ticket : ℕ) (event : Event) where
     abbrev pub runs_again : RunsAt s (entry_of ticket event) → RunsAt (state_again s) (entry_of ticket (event_again event))
-    runs_again r = record { ticket = r.ticket; there = r.there; runs = r.runs; seat = r.seat; node = node_again r.node; made = there_again s.nodes r.ticket.node r.node r.made }
+    runs_again r = record {
+      ticket = r.ticket;
+      there = r.there;
+      runs = r.runs;
+      seat = r.seat;
+      node = node_again r.node;
+      made = there_again s.nodes r.ticket.node r.node r.made;
+    }
 
     pub late_again : (later : State) (r : RunsAt s (entry_of ticket event)) → EndsLate goals s (entry_of ticket event) r later
         → EndsLate goals (state_again s) (entry_of ticket (event_again event)) (runs_again r) (state_again later)
     late_again later r (over, after) = (over_again goals s r.node over, ap state_again after ∙ ended_again s ticket r.ticket r.node Idle)
 
-  pub decides_again : (system : System) (number : ℕ) (t : Ticket) (node : TreeNode) (step : ProofStep) (later : State) → Decides goals system s number t node step later
+  pub decides_again : (system : System) (number : ℕ) (t : Ticket) (node : TreeNode) (step : ProofStep) (later : State)
+      → Decides goals system s number t node step later
       → Decides goals system (state_again s) number t (node_again node) (renumbered step) (state_again later)
   decides_again system number t node step later d = record {
     left = d.left;
     applies = applies_again system node.problem step d.left d.applies;
     winner = d.winner;
-    first = subst (λ (ns : List TreeNode). IsFirstWinner goals ns d.winner) (with_again s t node step d.left) (first_again goals (nodes_with s t node step d.left) d.winner d.first);
+    first = subst (λ (ns : List TreeNode). IsFirstWinner goals ns d.winner) (with_again s t node step d.left)
+        (first_again goals (nodes_with s t node step d.left) d.winner d.first);
     after =
         ap state_again d.after
-        ∙ ap (λ (ns : List TreeNode). record s { nodes = ns; tickets = without s.tickets number t; winner = d.winner }) (with_again s t node step d.left);
+        ∙ ap (λ (ns : List TreeNode). record s { nodes = ns; tickets = without s.tickets number t; winner = d.winner })
+        (with_again s t node step d.left);
   }
 
-  pub post_again : (system : System) (ticket : ℕ) (answer : Found) (later : State) → Follows goals system s (entry_of ticket (event_of_found answer)) later
+  pub post_again : (system : System) (ticket : ℕ) (answer : Found) (later : State)
+      → Follows goals system s (entry_of ticket (event_of_found answer)) later
       → Follows goals system (state_again s) (entry_of ticket (event_again (event_of_found answer))) (state_again later)
-  post_again system ticket (strategy.found step left) later (r, inl late) = (runs_again ticket (found step) r, inl (late_again ticket (found step) later r late))
+  post_again system ticket (strategy.found step left) later (r, inl late) =
+      (runs_again ticket (found step) r, inl (late_again ticket (found step) later r late))
   post_again system ticket (strategy.found step left) later (r, inr (still, decides)) =
-      (runs_again ticket (found step) r, inr ((λ over. still (over_before goals s r.node over)), decides_again system ticket r.ticket r.node step later decides))
-  post_again system ticket (strategy.failed spent) later (r, inl late) = (runs_again ticket (failed spent) r, inl (late_again ticket (failed spent) later r late))
+      let wanted : IsOver goals (state_again s) (node_again r.node) → ⊥ = λ over. still (over_before goals s r.node over) in
+      (runs_again ticket (found step) r, inr (wanted, decides_again system ticket r.ticket r.node step later decides))
+  post_again system ticket (strategy.failed spent) later (r, inl late) =
+      (runs_again ticket (failed spent) r, inl (late_again ticket (failed spent) later r late))
   post_again system ticket (strategy.failed spent) later (r, inr (still, after)) =
-      (runs_again ticket (failed spent) r, inr ((λ over. still (over_before goals s r.node over)), ap state_again after ∙ ended_again s ticket r.ticket r.node _))
+      let wanted : IsOver goals (state_again s) (node_again r.node) → ⊥ = λ over. still (over_before goals s r.node over) in
+      (runs_again ticket (failed spent) r, inr (wanted, ap state_again after ∙ ended_again s ticket r.ticket r.node _))

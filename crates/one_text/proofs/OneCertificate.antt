@@ -67,13 +67,15 @@ same_items named steps others same = items_again named steps ∙ ap (map (printe
 pub same_lines : (named : NamedSystem) (claim : Claim) (steps others : List ProofNodeStep) → map step_again steps ≡ map step_again others
     → proof_lines named claim steps ≡ proof_lines named claim others
 same_lines named claim steps others same =
-    ap (λ (is : List Item). lines (item (word_item (headline_word (headline_of claim))) (item (head_item 1 claim) (items_of is)))) (same_items named steps others same)
+    ap (λ (is : List Item). lines (item (word_item (headline_word (headline_of claim))) (item (head_item 1 claim) (items_of is))))
+    (same_items named steps others same)
 
 -- ---- the walk
 
 pub walks_once : (nodes : List TreeNode) (waiting order other : List ℕ) → Walks nodes waiting order → Walks nodes waiting other → order ≡ other
 walks_once nodes _ _ _ ends ends = refl
-walks_once nodes _ _ _ (stays n node rest order there is_open w) (stays _ x _ other at open_x v) = ap (λ o. n ∷ o) (walks_once nodes rest order other w v)
+walks_once nodes _ _ _ (stays n node rest order there is_open w) (stays _ x _ other at open_x v) =
+    ap (λ o. n ∷ o) (walks_once nodes rest order other w v)
 walks_once nodes _ _ _ (stays n node rest order there is_open w) (goes_on _ x d _ other at decided v) =
     let same = one_value (slice_get nodes n) node x there at in
     let some : node.decision ≡ Some d = subst (λ (y : TreeNode). y.decision ≡ Some d) (sym same) decided in
@@ -86,7 +88,8 @@ walks_once nodes _ _ _ (goes_on n node d rest order there decided w) (goes_on _ 
     let same = one_value (slice_get nodes n) node x there at in
     let some : x.decision ≡ Some d = subst (λ (y : TreeNode). y.decision ≡ Some d) same decided in
     let d_is : e ≡ d = one_value x.decision e d decided_x some in
-    ap (λ o. n ∷ o) (walks_once nodes (rest ++ children_of d) order other w (subst (λ (z : Decided). Walks nodes (rest ++ children_of z) other) d_is v))
+    let v_d = subst (λ (z : Decided). Walks nodes (rest ++ children_of z) other) d_is v in
+    ap (λ o. n ∷ o) (walks_once nodes (rest ++ children_of d) order other w v_d)
 
 module _ (nodes : List TreeNode) where
   walks_again : (waiting order : List ℕ) → Walks nodes waiting order → Walks (nodes_again nodes) waiting order
@@ -94,7 +97,8 @@ module _ (nodes : List TreeNode) where
   walks_again _ _ (stays n node rest order there is_open w) =
       stays n (node_again node) rest order (there_again nodes n node there) (ap decision_again is_open) (walks_again rest order w)
   walks_again _ _ (goes_on n node d rest order there decided w) =
-      goes_on n (node_again node) (decided_again d) rest order (there_again nodes n node there) (ap decision_again decided) (walks_again (rest ++ children_of d) order w)
+      goes_on n (node_again node) (decided_again d) rest order (there_again nodes n node there) (ap decision_again decided)
+      (walks_again (rest ++ children_of d) order w)
 
   -- ---- the steps of the walk
 
@@ -102,7 +106,8 @@ module _ (nodes : List TreeNode) where
   decision_there None = refl
   decision_there (Some node) = refl
 
-  one_step : (i : ℕ) (d : Option Decided) (steps : List ProofNodeStep) → with_step i (decision_again d) (map step_again steps) ≡ map step_again (with_step i d steps)
+  one_step : (i : ℕ) (d : Option Decided) (steps : List ProofNodeStep)
+      → with_step i (decision_again d) (map step_again steps) ≡ map step_again (with_step i d steps)
   one_step i None steps = refl
   one_step i (Some d) steps = refl
 
@@ -115,11 +120,14 @@ module _ (nodes : List TreeNode) where
       (λ j. with_step i (decision j) (rest j)) ∙ one_step i (decision_at (slice_get nodes n)) (steps_from nodes (i + 1) order)
 
 -- the order is one, and the steps are one, but for the numbers of variables
-module _ (xs ys : List TreeNode) (same : nodes_again xs ≡ nodes_again ys) (g : ℕ) (order other : List ℕ) (w : Walks xs (g ∷ []) order) (v : Walks ys (g ∷ []) other) where
+module _ (xs ys : List TreeNode) (same : nodes_again xs ≡ nodes_again ys) (g : ℕ) (order other : List ℕ) (w : Walks xs (g ∷ []) order)
+    (v : Walks ys (g ∷ []) other) where
   pub one_order : order ≡ other
   one_order = walks_once (nodes_again ys) (g ∷ []) order other
       (subst (λ (ns : List TreeNode). Walks ns (g ∷ []) order) same (walks_again xs (g ∷ []) order w)) (walks_again ys (g ∷ []) other v)
 
-  pub same_steps : (steps others : List ProofNodeStep) → steps ≡ steps_from xs 0 order → others ≡ steps_from ys 0 other → map step_again steps ≡ map step_again others
+  pub same_steps : (steps others : List ProofNodeStep) → steps ≡ steps_from xs 0 order → others ≡ steps_from ys 0 other
+      → map step_again steps ≡ map step_again others
   same_steps steps others a b =
-      ap (map step_again) a ∙ sym (steps_again xs 0 order) ∙ (λ i. steps_from (same i) 0 (one_order i)) ∙ steps_again ys 0 other ∙ ap (map step_again) (sym b)
+      ap (map step_again) a ∙ sym (steps_again xs 0 order) ∙ (λ i. steps_from (same i) 0 (one_order i))
+      ∙ steps_again ys 0 other ∙ ap (map step_again) (sym b)

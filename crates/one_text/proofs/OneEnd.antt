@@ -66,26 +66,33 @@ module _ (answers : AnswersAreOne) (goals : ℕ) (system : System) (valid : IsVa
       let (m, claim, (l, post, after)) = f in
       let (m', claim', (l', post', after')) = g in
       let c = subst (λ (z : State). Claims goals z (entry_of t (claimed p a)) p a (state_again m)) is_x (claims_again goals x t p a m claim) in
-      let c' = subst (λ (z : State). Claims goals z (entry_of t' (claimed p' a')) p' a' (state_again m')) is_y (claims_again goals y t' p' a' m' claim') in
+      let c' = subst (λ (z : State). Claims goals z (entry_of t' (claimed p' a')) p' a' (state_again m')) is_y
+      (claims_again goals y t' p' a' m' claim') in
       let e_t : t ≡ t' = same_ticket goals s t t' p p' a a' (state_again m) (state_again m') c c' in
       let e_p : p ≡ p' = same_problem goals s t t' p p' a a' (state_again m) (state_again m') c c' in
       let e_a : a ≡ a' = same_strategy goals s t t' p p' a a' (state_again m) (state_again m') c c' in
       let e_m : state_again m ≡ state_again m' = same_claim goals s t t' p p' a a' (state_again m) (state_again m') c c' in
       let same : AreSameAnswers answer answer' = answers system budget a p answer answer' valid is_true
-      (subst (λ (z : Strategy). IsTrueFound system budget z p answer') (sym e_a) (subst (λ (z : ProofProblem). IsTrueFound system budget a' z answer') (sym e_p) is_true')) in
+      (subst (λ (z : Strategy). IsTrueFound system budget z p answer') (sym e_a)
+      (subst (λ (z : ProofProblem). IsTrueFound system budget a' z answer') (sym e_p) is_true')) in
       let grown_m : IsGrown goals (state_again m) = grown_claim goals system s grown t p a (state_again m) c in
       let q : Posts goals system (state_again m) t answer (state_again l) = post_again goals m system t answer l post in
       let q_m = post_again goals m' system t' answer' l' post' in
-      let q_t = subst (λ (k : ℕ). Follows goals system (state_again m') (entry_of k (event_again (event_of_found answer'))) (state_again l')) (sym e_t) q_m in
+      let q_t = subst (λ (k : ℕ). Follows goals system (state_again m') (entry_of k (event_again (event_of_found answer'))) (state_again l'))
+      (sym e_t) q_m in
       let q' : Posts goals system (state_again m) t answer' (state_again l') =
       subst (λ (z : State). Follows goals system z (entry_of t (event_again (event_of_found answer'))) (state_again l')) (sym e_m) q_t in
-      let e_l : state_again l ≡ state_again l' = one_post goals system (state_again m) t grown_m answer answer' (state_again l) (state_again l') same q q' in
-      one_end (state_again l) l l' u v more more' (grown_post goals system (state_again m) t grown_m answer (state_again l) q) refl (sym e_l) turns turns' after after' done_u done_v
+      let e_l : state_again l ≡ state_again l' =
+      one_post goals system (state_again m) t grown_m answer answer' (state_again l) (state_again l') same q q' in
+      let grown_l = grown_post goals system (state_again m) t grown_m answer (state_again l) q in
+      one_end (state_again l) l l' u v more more' grown_l refl (sym e_l) turns turns' after after' done_u done_v
 
 -- the state to which a serial history leads is one, but for the numbers of variables
-pub one_serial_end : AnswersAreOne → (system : System) → IsValid system → (question : Question) (budget : ℕ) (u v : State) → IsSerialEnd system question budget u
+pub one_serial_end : AnswersAreOne → (system : System) → IsValid system → (question : Question) (budget : ℕ) (u v : State)
+    → IsSerialEnd system question budget u
     → IsSerialEnd system question budget v → state_again u ≡ state_again v
 one_serial_end answers system valid question budget u v a b =
     one_end answers (goals_of question) system valid budget (opening question) (opening question) (opening question) u v a.history b.history
-    (grown_opening question) (opening_again question) (opening_again question) (turns_of system budget a.history a.serial) (turns_of system budget b.history b.serial)
+    (grown_opening question) (opening_again question) (opening_again question)
+    (turns_of system budget a.history a.serial) (turns_of system budget b.history b.serial)
     a.replays b.replays a.verdict b.verdict

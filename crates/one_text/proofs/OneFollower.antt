@@ -30,7 +30,8 @@ module _ (goals : ℕ) (s : State) (t u : ℕ) (p q : ProofProblem) (a b : Strat
   same_n = one_least c.n d.n (λ lt. d.least c.n c.place c.node lt c.free) (λ lt. c.least d.n d.place d.node lt d.free)
 
   same_node : c.node ≡ d.node
-  same_node = one_value (slice_get s.nodes c.n) c.node d.node c.free.there (subst (λ (k : ℕ). slice_get s.nodes k ≡ Some d.node) (sym same_n) d.free.there)
+  same_node = one_value (slice_get s.nodes c.n) c.node d.node c.free.there
+      (subst (λ (k : ℕ). slice_get s.nodes k ≡ Some d.node) (sym same_n) d.free.there)
 
   same_place : c.place ≡ d.place
   same_place = one_least c.place d.place
@@ -60,12 +61,14 @@ module _ (goals : ℕ) (system : System) (s : State) (number : ℕ) where
     one_ticket = one_value (slice_get s.tickets number) r.ticket q.ticket r.there q.there
 
     one_node : r.node ≡ q.node
-    one_node = one_value (slice_get s.nodes q.ticket.node) r.node q.node (subst (λ (t : Ticket). slice_get s.nodes t.node ≡ Some r.node) one_ticket r.made) q.made
+    one_node = one_value (slice_get s.nodes q.ticket.node) r.node q.node
+        (subst (λ (t : Ticket). slice_get s.nodes t.node ≡ Some r.node) one_ticket r.made) q.made
 
     at_one : (P : Ticket → TreeNode → Type 0) → P r.ticket r.node → P q.ticket q.node
     at_one P h = subst (λ (t : Ticket). P t q.node) one_ticket (subst (λ (x : TreeNode). P r.ticket x) one_node h)
 
-  one_decided : IsGrown goals s → (t : Ticket) (node : TreeNode) → slice_get s.nodes t.node ≡ Some node → (step : ProofStep) → (IsOver goals s node → ⊥) → (m o : State)
+  one_decided : IsGrown goals s → (t : Ticket) (node : TreeNode) → slice_get s.nodes t.node ≡ Some node → (step : ProofStep)
+      → (IsOver goals s node → ⊥) → (m o : State)
       → Decides goals system s number t node step m → Decides goals system s number t node step o → m ≡ o
   one_decided grown t node made step still m o c d =
       let left : c.left ≡ d.left = applies_once system node.problem step c.left d.left c.applies d.applies in
@@ -77,7 +80,8 @@ module _ (goals : ℕ) (system : System) (s : State) (number : ℕ) where
   abbrev Ends : (Ticket → TreeNode → State → Type 0) → Ticket → TreeNode → State → Type 0
   Ends Does t x later = (IsOver goals s x × (later ≡ ended s number t x Idle)) ⊎ ((IsOver goals s x → ⊥) × Does t x later)
 
-  one_end : (Does : Ticket → TreeNode → State → Type 0) (t : Ticket) (x : TreeNode) (m o : State) → ((IsOver goals s x → ⊥) → Does t x m → Does t x o → m ≡ o)
+  one_end : (Does : Ticket → TreeNode → State → Type 0) (t : Ticket) (x : TreeNode) (m o : State)
+      → ((IsOver goals s x → ⊥) → Does t x m → Does t x o → m ≡ o)
       → Ends Does t x m → Ends Does t x o → m ≡ o
   one_end Does t x m o one (inl c) (inl d) = c.1 ∙ sym d.1
   one_end Does t x m o one (inl c) (inr d) = absurd (d.0 c.0)

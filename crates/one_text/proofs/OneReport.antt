@@ -28,7 +28,8 @@ use Rattle.one_text.proofs.OneCertificate.{step_again, same_items, one_order, sa
 -- ---- how strategies fail
 
 module _ (answers : AnswersAreOne) (system : System) (valid : IsValid system) (budget : ℕ) where
-  one_failure : (p : ProofProblem) (ss : List Strategy) (fs gs : List (Strategy × Bool)) → AllFail system budget p ss fs → AllFail system budget p ss gs → fs ≡ gs
+  one_failure : (p : ProofProblem) (ss : List Strategy) (fs gs : List (Strategy × Bool)) → AllFail system budget p ss fs
+      → AllFail system budget p ss gs → fs ≡ gs
   one_failure p [] [] [] a b = refl
   one_failure p [] [] (g ∷ gs) a b = absurd b
   one_failure p [] (f ∷ fs) gs a b = absurd a
@@ -66,7 +67,8 @@ module _ (answers : AnswersAreOne) (system : System) (valid : IsValid system) (b
     node_is : p.node ≡ q.node
     node_is = one_least p.node q.node
         (λ lt. b.least p.node a.n lt (subst (λ (o : List ℕ). slice_get o p.node ≡ Some a.n) order_is a.there) (stuck_same xs ys same a.n a.stuck))
-        (λ lt. a.least q.node b.n lt (subst (λ (o : List ℕ). slice_get o q.node ≡ Some b.n) (sym order_is) b.there) (stuck_same ys xs (sym same) b.n b.stuck))
+        (λ lt. a.least q.node b.n lt (subst (λ (o : List ℕ). slice_get o q.node ≡ Some b.n) (sym order_is) b.there)
+        (stuck_same ys xs (sym same) b.n b.stuck))
 
     n_is : a.n ≡ b.n
     n_is = one_value (slice_get b.order q.node) a.n b.n
@@ -104,9 +106,12 @@ module _ (answers : AnswersAreOne) (system : System) (valid : IsValid system) (b
       → IsTrueReport system question budget ps → IsTrueReport system question budget qs → ArePartsOf xs ps → ArePartsOf ys qs
       → maybe_text named question ps ≡ maybe_text named question qs
   same_report named question xs ys same ps qs true_p true_q are_p are_q =
-      let each : (k : ℕ) (p q : Part) → slice_get ps k ≡ Some p → slice_get qs k ≡ Some q → (word : List ℕ) → goal_item named word p ≡ goal_item named word q =
+      let each : (k : ℕ) (p q : Part) → slice_get ps k ≡ Some p → slice_get qs k ≡ Some q → (word : List ℕ)
+      → goal_item named word p ≡ goal_item named word q =
       λ k p q at_p at_q word.
       let lt : k < length (roots question) = let w = slice_get_within ps k p at_p in let c = true_p.count in omega (arith, w, c) in
       let root = get_below (roots question) k lt in
-      part_printed xs ys same root.0 k p q (true_p.each k root.0 p root.1 at_p).1 (true_q.each k root.0 q root.1 at_q).1 (are_p k p at_p) (are_q k q at_q) named word in
-      ap (λ (is : List Item). codes "MAYBE\n" ++ lines (items_of is)) (parts_printed named (goal_words question) ps qs (true_p.count ∙ sym true_q.count) each)
+      part_printed xs ys same root.0 k p q (true_p.each k root.0 p root.1 at_p).1 (true_q.each k root.0 q root.1 at_q).1
+      (are_p k p at_p) (are_q k q at_q) named word in
+      ap (λ (is : List Item). codes "MAYBE\n" ++ lines (items_of is))
+      (parts_printed named (goal_words question) ps qs (true_p.count ∙ sym true_q.count) each)

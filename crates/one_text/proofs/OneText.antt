@@ -38,7 +38,8 @@ module _ (answers : AnswersAreOne) where
   one_serial_text named question budget _ _ is (won u g claim steps end won_u at are) (won v h other others end' won_v at' are') =
       let same = one_serial_end answers named.system is.valid question budget u v end end' in
       let g_is : g ≡ h = let w = same_winner u v same in cc in
-      let claim_is : claim ≡ other = one_value (slice_get (claims question) h) claim other (subst (λ (k : ℕ). slice_get (claims question) k ≡ Some claim) g_is at) at' in
+      let at_h = subst (λ (k : ℕ). slice_get (claims question) k ≡ Some claim) g_is at in
+      let claim_is : claim ≡ other = one_value (slice_get (claims question) h) claim other at_h at' in
       let walks_v = subst (λ (k : ℕ). Walks v.nodes (k ∷ []) are'.order) (sym g_is) are'.walks in
       ap (λ (c : Claim). proof_lines named c steps) claim_is
       ∙ same_lines named other steps others

@@ -36,7 +36,8 @@ module _ (nodes : List TreeNode) where
   pub there_again : (n : ℕ) (node : TreeNode) → slice_get nodes n ≡ Some node → slice_get (nodes_again nodes) n ≡ Some (node_again node)
   there_again n node there = map_there node_again nodes n node there
 
-  pub there_before : (n : ℕ) (node : TreeNode) → slice_get (nodes_again nodes) n ≡ Some node → (x : TreeNode) × (slice_get nodes n ≡ Some x) × (node ≡ node_again x)
+  pub there_before : (n : ℕ) (node : TreeNode) → slice_get (nodes_again nodes) n ≡ Some node
+      → (x : TreeNode) × (slice_get nodes n ≡ Some x) × (node ≡ node_again x)
   there_before n node there = map_cases node_again nodes n node there
 
   -- ---- closed nodes
@@ -60,12 +61,19 @@ pub stuck_before : (node : TreeNode) → IsStuck (node_again node) → IsStuck n
 stuck_before node s = record { is_open = none_before node.decision s.is_open; failed = s.failed }
 
 pub lost_again : (nodes : List TreeNode) (g : ℕ) → IsLost nodes g → IsLost (nodes_again nodes) g
-lost_again nodes g l = record { n = l.n; node = node_again l.node; there = there_again nodes l.n l.node l.there; goal = l.goal; stuck = stuck_again l.node l.stuck }
+lost_again nodes g l = record {
+  n = l.n;
+  node = node_again l.node;
+  there = there_again nodes l.n l.node l.there;
+  goal = l.goal;
+  stuck = stuck_again l.node l.stuck;
+}
 
 pub lost_before : (nodes : List TreeNode) (g : ℕ) → IsLost (nodes_again nodes) g → IsLost nodes g
 lost_before nodes g l =
     let x = there_before nodes l.n l.node l.there in
-    record { n = l.n; node = x.0; there = x.1; goal = sym (ap (λ (y : TreeNode). y.goal) x.2) ∙ l.goal; stuck = stuck_before x.0 (subst IsStuck x.2 l.stuck) }
+    let goal = sym (ap (λ (y : TreeNode). y.goal) x.2) ∙ l.goal in
+    record { n = l.n; node = x.0; there = x.1; goal = goal; stuck = stuck_before x.0 (subst IsStuck x.2 l.stuck) }
 
 -- ---- verdicts
 
@@ -96,7 +104,8 @@ module _ (goals : ℕ) (s : State) where
   over_before node (lost l) = lost (lost_before s.nodes node.goal l)
   over_before node (done d) = done (done_before d)
 
-pub first_again : (goals : ℕ) (nodes : List TreeNode) (winner : Option ℕ) → IsFirstWinner goals nodes winner → IsFirstWinner goals (nodes_again nodes) winner
+pub first_again : (goals : ℕ) (nodes : List TreeNode) (winner : Option ℕ) → IsFirstWinner goals nodes winner
+    → IsFirstWinner goals (nodes_again nodes) winner
 first_again goals nodes (Some g) w = (w.0, closed_again nodes g w.1)
 first_again goals nodes None none = λ g lt won. none g lt (closed_before nodes g won)
 
@@ -112,7 +121,8 @@ free_again s n place node f = record {
   first = f.first;
 }
 
-pub free_before : (s : State) (n place : ℕ) (node : TreeNode) → slice_get s.nodes n ≡ Some node → IsFree (state_again s) n place (node_again node) → IsFree s n place node
+pub free_before : (s : State) (n place : ℕ) (node : TreeNode) → slice_get s.nodes n ≡ Some node → IsFree (state_again s) n place (node_again node)
+    → IsFree s n place node
 free_before s n place node there f = record {
   there = there;
   is_open = none_before node.decision f.is_open;

@@ -17,7 +17,8 @@ pub data AreTurns (system : System) (budget : ℕ) : List HistoryEntry → Type 
       → AreTurns system budget (entry_of ticket (claimed problem strategy) ∷ entry_of ticket (event_of_found answer) ∷ more)
 
 module _ (system : System) (budget : ℕ) where
-  last_turn : (ticket : ℕ) (problem : ProofProblem) (strategy : Strategy) (answer : Found) → IsTrueFound system budget strategy problem answer → (history : List HistoryEntry)
+  last_turn : (ticket : ℕ) (problem : ProofProblem) (strategy : Strategy) (answer : Found) → IsTrueFound system budget strategy problem answer
+      → (history : List HistoryEntry)
       → AreTurns system budget history
       → AreTurns system budget (history ++ entry_of ticket (claimed problem strategy) ∷ entry_of ticket (event_of_found answer) ∷ [])
   last_turn ticket problem strategy answer is_true _ rest = turn ticket problem strategy answer [] is_true rest

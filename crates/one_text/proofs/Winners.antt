@@ -24,19 +24,24 @@ use Rattle.worker_pool.specs.Serial.{entry_of}
 -- node g is of goal g, the children of a node are of its goal, and where no goal has won, none is won
 pub record IsGrown (goals : ℕ) (s : State) : Type 0 where
   pub root : (g : ℕ) → g < goals → IsOf s.nodes g g
-  pub kin : (n : ℕ) (node : TreeNode) (d : Decided) → slice_get s.nodes n ≡ Some node → node.decision ≡ Some d → (c : ℕ) → IsChild d c → IsOf s.nodes c node.goal
+  pub kin : (n : ℕ) (node : TreeNode) (d : Decided) → slice_get s.nodes n ≡ Some node → node.decision ≡ Some d → (c : ℕ) → IsChild d c
+      → IsOf s.nodes c node.goal
   pub not_won : s.winner ≡ None → (g : ℕ) → g < goals → IsWon s.nodes g → ⊥
 
 -- ---- the opening
 
-root_there : (h : ℕ) (ps : List ProofProblem) (k : ℕ) (p : ProofProblem) → slice_get ps k ≡ Some p → slice_get (roots_from h ps) k ≡ Some (new_node (h + k) p)
+root_there : (h : ℕ) (ps : List ProofProblem) (k : ℕ) (p : ProofProblem) → slice_get ps k ≡ Some p
+    → slice_get (roots_from h ps) k ≡ Some (new_node (h + k) p)
 root_there h [] k p there = absurd cc
 root_there h (q ∷ ps) zero p there = let same : q ≡ p = cc in let e : h ≡ h + 0 = omega arith in λ i. Some (new_node (e i) (same i))
-root_there h (q ∷ ps) (suc k) p there = root_there (h + 1) ps k p there ∙ (let e : h + 1 + k ≡ h + suc k = omega arith in ap (λ n. Some (new_node n p)) e)
+root_there h (q ∷ ps) (suc k) p there =
+    root_there (h + 1) ps k p there ∙ (let e : h + 1 + k ≡ h + suc k = omega arith in ap (λ n. Some (new_node n p)) e)
 
 root_open : (h : ℕ) (ps : List ProofProblem) (k : ℕ) (y : TreeNode) (d : Decided) → slice_get (roots_from h ps) k ≡ Some y → y.decision ≡ Some d → ⊥
 root_open h [] k y d there dec = absurd cc
-root_open h (q ∷ ps) zero y d there dec = let same : new_node h q ≡ y = cc in let none : None ≡ y.decision = ap (λ (x : TreeNode). x.decision) same in absurd cc
+root_open h (q ∷ ps) zero y d there dec =
+    let same : new_node h q ≡ y = cc in
+    let none : None ≡ y.decision = ap (λ (x : TreeNode). x.decision) same in absurd cc
 root_open h (q ∷ ps) (suc k) y d there dec = root_open (h + 1) ps k y d there dec
 
 pub grown_opening : (question : Question) → IsGrown (goals_of question) (opening question)
@@ -54,7 +59,8 @@ grown_opening question =
 
 -- ---- a mark is written
 
-pub grown_marked : (goals : ℕ) (s : State) (n place : ℕ) (node : TreeNode) (mark : Mark) (tickets : List Ticket) → slice_get s.nodes n ≡ Some node → IsGrown goals s
+pub grown_marked : (goals : ℕ) (s : State) (n place : ℕ) (node : TreeNode) (mark : Mark) (tickets : List Ticket) → slice_get s.nodes n ≡ Some node
+    → IsGrown goals s
     → IsGrown goals (record s { nodes = set s.nodes n (marked node place mark); tickets = tickets })
 grown_marked goals s n place node mark tickets there g =
     let later = same_later s.nodes n place node mark there in
@@ -71,9 +77,13 @@ grown_marked goals s n place node mark tickets there g =
 
 -- ---- a node is decided
 
-module _ (goals : ℕ) (s : State) (grown : IsGrown goals s) (t : Ticket) (node : TreeNode) (made : slice_get s.nodes t.node ≡ Some node) (step : ProofStep) (left : List ProofProblem) where
+module _ (goals : ℕ) (s : State) (grown : IsGrown goals s) (t : Ticket) (node : TreeNode) (made : slice_get s.nodes t.node ≡ Some node)
+    (step : ProofStep) (left : List ProofProblem) where
+  abbrev made_of : Decided
+  made_of = record { step = step; first = length s.nodes; count = length left }
+
   abbrev shut : TreeNode
-  shut = record (marked node t.place Idle) { decision = Some (record { step = step; first = length s.nodes; count = length left }) }
+  shut = record (marked node t.place Idle) { decision = Some made_of }
 
   abbrev old : List TreeNode
   old = set s.nodes t.node shut
@@ -94,15 +104,22 @@ module _ (goals : ℕ) (s : State) (grown : IsGrown goals s) (t : Ticket) (node 
   of_later : (k g : ℕ) → IsOf s.nodes k g → IsOf nodes k g
   of_later k g o = dite (ℕ_discrete k t.node)
       (λ same.
-      let is : o.node ≡ node = one_value (slice_get s.nodes t.node) o.node node (subst (λ (j : ℕ). slice_get s.nodes j ≡ Some o.node) same o.there) made in
-      record { node = shut; there = subst (λ (j : ℕ). slice_get nodes j ≡ Some shut) (sym same) is_shut; goal_is = sym (ap (λ (x : TreeNode). x.goal) is) ∙ o.goal_is })
+      let at = subst (λ (j : ℕ). slice_get s.nodes j ≡ Some o.node) same o.there in
+      let is : o.node ≡ node = one_value (slice_get s.nodes t.node) o.node node at made in
+      record {
+        node = shut;
+        there = subst (λ (j : ℕ). slice_get nodes j ≡ Some shut) (sym same) is_shut;
+        goal_is = sym (ap (λ (x : TreeNode). x.goal) is) ∙ o.goal_is;
+      })
       (λ other. record { node = o.node; there = still k o.node o.there (λ e. other e); goal_is = o.goal_is })
 
   -- a node of another goal that is closed was closed before
   other_closed : (k : ℕ) → IsClosed nodes k → (x : TreeNode) → slice_get s.nodes k ≡ Some x → (x.goal ≡ node.goal → ⊥) → IsClosed s.nodes k
   other_closed _ (closed k y d there dec kids) x was other = go (ℕ_discrete k t.node) (λ c child o. other_closed c (kids c child) o)
     where
-      go : Dec (k ≡ t.node) → ((c : ℕ) → IsChild d c → (o : TreeNode) → slice_get s.nodes c ≡ Some o → (o.goal ≡ node.goal → ⊥) → IsClosed s.nodes c) → IsClosed s.nodes k
+      go : Dec (k ≡ t.node)
+          → ((c : ℕ) → IsChild d c → (o : TreeNode) → slice_get s.nodes c ≡ Some o → (o.goal ≡ node.goal → ⊥) → IsClosed s.nodes c)
+          → IsClosed s.nodes k
       go (yes same) below =
           let is : x ≡ node = one_value (slice_get s.nodes t.node) x node (subst (λ (j : ℕ). slice_get s.nodes j ≡ Some x) same was) made in
           absurd (other (ap (λ (z : TreeNode). z.goal) is))
@@ -138,7 +155,8 @@ module _ (goals : ℕ) (s : State) (grown : IsGrown goals s) (t : Ticket) (node 
       let q = get_below left j lt in
       record {
         node = new_node node.goal q.0;
-        there = append_right old new j (length s.nodes + j) (new_node node.goal q.0) (omega (arith, length_set s.nodes t.node shut)) (map_there (new_node node.goal) left j q.0 q.1);
+        there = append_right old new j (length s.nodes + j) (new_node node.goal q.0)
+            (omega (arith, length_set s.nodes t.node shut)) (map_there (new_node node.goal) left j q.0 q.1);
         goal_is = refl;
       }
 
@@ -147,8 +165,8 @@ module _ (goals : ℕ) (s : State) (grown : IsGrown goals s) (t : Ticket) (node 
     | inl w ↦ elim (set_cases s.nodes t.node k node shut y made w) [
       | inl v ↦
           let some : y.decision ≡ shut.decision = ap (λ (z : TreeNode). z.decision) v.1 in
-          let is : d ≡ record { step = step; first = length s.nodes; count = length left } = one_value y.decision d _ dec some in
-          let range : IsChild (record { step = step; first = length s.nodes; count = length left }) c = subst (λ (z : Decided). IsChild z c) is child in
+          let is : d ≡ made_of = one_value y.decision d made_of dec some in
+          let range : IsChild made_of c = subst (λ (z : Decided). IsChild z c) is child in
           let o = new_there (c - length s.nodes) (omega (arith, range.0, range.1)) in
           let at : length s.nodes + (c - length s.nodes) ≡ c = omega (arith, range.0) in
           rw v.1 (subst (λ (j : ℕ). IsOf nodes j node.goal) at o)
@@ -160,7 +178,8 @@ module _ (goals : ℕ) (s : State) (grown : IsGrown goals s) (t : Ticket) (node 
         absurd cc
   ]
 
-  pub grown_decided : (tickets : List Ticket) (winner : Option ℕ) → IsFirstWinner goals nodes winner → IsGrown goals (record s { nodes = nodes; tickets = tickets; winner = winner })
+  pub grown_decided : (tickets : List Ticket) (winner : Option ℕ) → IsFirstWinner goals nodes winner
+      → IsGrown goals (record s { nodes = nodes; tickets = tickets; winner = winner })
   grown_decided tickets winner first = record {
     root = λ g lt. of_later g g (grown.root g lt);
     kin = kin_later;
@@ -170,16 +189,20 @@ module _ (goals : ℕ) (s : State) (grown : IsGrown goals s) (t : Ticket) (node 
 -- ---- an entry
 
 module _ (goals : ℕ) (system : System) (s : State) (grown : IsGrown goals s) (ticket : ℕ) where
-  pub grown_claim : (problem : ProofProblem) (strategy : Strategy) (next : State) → Claims goals s (entry_of ticket (claimed problem strategy)) problem strategy next → IsGrown goals next
+  pub grown_claim : (problem : ProofProblem) (strategy : Strategy) (next : State)
+      → Claims goals s (entry_of ticket (claimed problem strategy)) problem strategy next → IsGrown goals next
   grown_claim problem strategy next c =
       subst (IsGrown goals) (sym c.after) (grown_marked goals s c.n c.place c.node Running _ c.free.there grown)
 
   pub grown_found : (step : ProofStep) (next : State) → Follows goals system s (entry_of ticket (found step)) next → IsGrown goals next
-  grown_found step next (r, inl late) = subst (IsGrown goals) (sym late.1) (grown_marked goals s r.ticket.node r.ticket.place r.node Idle _ r.made grown)
+  grown_found step next (r, inl late) =
+      subst (IsGrown goals) (sym late.1) (grown_marked goals s r.ticket.node r.ticket.place r.node Idle _ r.made grown)
   grown_found step next (r, inr (wanted, d)) =
-      subst (IsGrown goals) (sym d.after) (grown_decided goals s grown r.ticket r.node r.made step d.left (without s.tickets ticket r.ticket) d.winner d.first)
+      subst (IsGrown goals) (sym d.after)
+      (grown_decided goals s grown r.ticket r.node r.made step d.left (without s.tickets ticket r.ticket) d.winner d.first)
 
   pub grown_failed : (spent : Bool) (next : State) → Follows goals system s (entry_of ticket (failed spent)) next → IsGrown goals next
-  grown_failed spent next (r, inl late) = subst (IsGrown goals) (sym late.1) (grown_marked goals s r.ticket.node r.ticket.place r.node Idle _ r.made grown)
+  grown_failed spent next (r, inl late) =
+      subst (IsGrown goals) (sym late.1) (grown_marked goals s r.ticket.node r.ticket.place r.node Idle _ r.made grown)
   grown_failed spent next (r, inr (wanted, after)) =
       subst (IsGrown goals) (sym after) (grown_marked goals s r.ticket.node r.ticket.place r.node (Failed spent) _ r.made grown)
