@@ -1,5 +1,5 @@
 -- Where an entry leads from a state to a later one, the renumbered entry leads from the renumbered state to the renumbered later one.
-use Rattle.std.proofs.Common.{◌≡◌, ◌⊎◌, inl, inr, ℕ, zero, suc, List, [], ◌∷◌, ◌++◌, map, length, set, Some, None, slice_get, refl, sym, ap, ◌∙◌, subst}
+use Rattle.std.proofs.Common.{◌≡◌, inl, inr, ℕ, zero, suc, List, [], ◌∷◌, ◌++◌, map, length, set, Some, refl, sym, ap, ◌∙◌, subst}
 use Rattle.std.proofs.lemmas.List.{length-map, map-append}
 use Rattle.trs_defs.specs.System.{System}
 use Rattle.cert_step.specs.ProofProblem.{ProofProblem}
@@ -12,7 +12,7 @@ use Rattle.strategies.specs.Runs.{Found}
 use Rattle.tree_states.specs.declared.mark.Mark.{Mark}
 use Rattle.tree_states.specs.declared.mark.Mark.TheVariants.{Idle}
 use Rattle.tree_states.specs.declared.ticket.Ticket.{Ticket}
-use Rattle.tree_states.specs.History.{HistoryEntry, Event, claimed, found, failed, cancelled, aborted}
+use Rattle.tree_states.specs.History.{Event, claimed, found, failed, cancelled, aborted}
 use Rattle.tree_states.specs.States.{TreeNode, State, Decided, new_node, marked}
 use Rattle.tree_states.specs.Verdicts.{IsFirstWinner}
 use Rattle.tree_states.specs.Events.{Claims, RunsAt, IsOver, Decides, EndsLate, Follows, with_claim, without, ended, nodes_with}

@@ -2,7 +2,6 @@
 use Rattle.std.proofs.Common.{◌≡◌, ℕ, ◌+◌, List, [], ◌∷◌, ◌++◌, map, Option, Some, None, slice_get, codes, refl, sym, ap, ◌∙◌, subst}
 use Rattle.std.specs.Option.{option_map}
 use Rattle.std.proofs.lemmas.Option.{slice_get-map}
-use Rattle.trs_defs.specs.Path.{PlacedRule}
 use Rattle.sexp_core.specs.Items.{Item, item, items_of}
 use Rattle.sexp_core.specs.Printed.{lines}
 use Rattle.text_reading.specs.Printed.{word_item, number_item, list_item}

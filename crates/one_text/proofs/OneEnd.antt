@@ -1,5 +1,5 @@
 -- Two serial histories that lead to states in which a verdict stands lead to the same state, but for the numbers of variables.
-use Rattle.std.proofs.Common.{◌≡◌, ◌⊎◌, inl, inr, ℕ, ◌+◌, List, [], ◌∷◌, map, refl, sym, ap, ◌∙◌, subst}
+use Rattle.std.proofs.Common.{◌≡◌, inl, ℕ, ◌+◌, List, [], ◌∷◌, refl, sym, ap, ◌∙◌, subst}
 use Rattle.trs_defs.specs.System.{System}
 use Rattle.trs_core.specs.Valid.{IsValid}
 use Rattle.cert_step.specs.ProofProblem.{ProofProblem}
@@ -16,7 +16,7 @@ use Rattle.tree_states.specs.Events.{Claims, Follows, Replays}
 use Rattle.tree_states.specs.Replies.{event_of_found}
 use Rattle.worker_pool.specs.Serial.{IsSerialEnd, entry_of}
 use Rattle.one_text.proofs.Pending.{AreSameAnswers, AnswersAreOne}
-use Rattle.one_text.proofs.Renumbering.{node_again, nodes_again, state_again, verdict_again, verdict_before}
+use Rattle.one_text.proofs.Renumbering.{nodes_again, state_again, verdict_again, verdict_before}
 use Rattle.one_text.proofs.Following.{event_again, claims_again, post_again}
 use Rattle.one_text.proofs.Winners.{IsGrown, grown_opening, grown_claim, grown_found, grown_failed}
 use Rattle.one_text.proofs.OneFollower.{same_ticket, same_problem, same_strategy, same_claim, one_found, one_failed}

@@ -1,5 +1,5 @@
 -- A state that follows by a claim, or by the post of an answer, is just one; and so is what is claimed.
-use Rattle.std.proofs.Common.{◌≡◌, ◌⊎◌, inl, inr, ℕ, ◌<◌, Bool, List, [], ◌∷◌, Option, Some, None, slice_get, refl, sym, ap, ◌∙◌, subst, arith}
+use Rattle.std.proofs.Common.{◌≡◌, ◌⊎◌, inl, inr, ℕ, ◌<◌, Bool, List, Some, slice_get, sym, ap, ◌∙◌, subst, arith}
 use native.Mathlib.Decide.{dec_lt}
 use mathlib.Core.Logic.{dite}
 use Rattle.trs_defs.specs.System.{System}
@@ -10,10 +10,10 @@ use Rattle.strategies.specs.declared.strategy.Strategy.{Strategy}
 use Rattle.strategies.specs.Kinds.{strategies_for}
 use Rattle.tree_states.specs.declared.mark.Mark.TheVariants.{Idle, Failed}
 use Rattle.tree_states.specs.declared.ticket.Ticket.{Ticket}
-use Rattle.tree_states.specs.History.{HistoryEntry, Event, claimed, found, failed}
+use Rattle.tree_states.specs.History.{Event, claimed, found, failed}
 use Rattle.tree_states.specs.States.{TreeNode, State}
 use Rattle.tree_states.specs.Verdicts.{IsFirstWinner}
-use Rattle.tree_states.specs.Events.{Claims, RunsAt, IsOver, Decides, EndsLate, Follows, with_claim, without, ended, nodes_with}
+use Rattle.tree_states.specs.Events.{Claims, RunsAt, IsOver, Decides, Follows, with_claim, without, ended, nodes_with}
 use Rattle.tree_states.proofs.Lookups.{one_value}
 use Rattle.worker_pool.specs.Serial.{entry_of}
 use Rattle.one_text.proofs.Winners.{IsGrown, one_winner}

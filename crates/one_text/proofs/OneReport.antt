@@ -1,5 +1,5 @@
 -- The reports of trees that are the same but for the numbers of variables are printed alike.
-use Rattle.std.proofs.Common.{◌≡◌, ℕ, zero, suc, ◌<◌, Bool, List, [], ◌∷◌, ◌++◌, map, length, Option, Some, None, slice_get, codes, refl, sym, ap, ◌∙◌, subst, arith}
+use Rattle.std.proofs.Common.{◌≡◌, ℕ, suc, ◌<◌, Bool, List, [], ◌∷◌, ◌++◌, map, length, Some, slice_get, codes, refl, sym, ap, ◌∙◌, subst, arith}
 use Rattle.std.proofs.lemmas.Option.{slice_get_within}
 use Rattle.trs_defs.specs.System.{System}
 use Rattle.trs_core.specs.Valid.{IsValid}
@@ -11,11 +11,10 @@ use Rattle.cert_step.specs.ProofProblem.{ProofProblem}
 use Rattle.strategies.specs.declared.strategy.Strategy.{Strategy}
 use Rattle.strategies.specs.Kinds.{strategies_for}
 use Rattle.strategies.specs.Runs.{failed}
-use Rattle.step_text.specs.Steps.{step_item}
 use Rattle.report_text.specs.GoalLines.{goal_words, stuck_item, failed_item, goal_item, goal_items}
 use Rattle.conclusion.specs.Concludes.{maybe_text}
 use Rattle.tree_states.specs.declared.question.Question.{Question}
-use Rattle.tree_states.specs.Questions.{roots, goals_of}
+use Rattle.tree_states.specs.Questions.{roots}
 use Rattle.tree_states.specs.States.{TreeNode}
 use Rattle.tree_states.specs.Verdicts.{IsStuck}
 use Rattle.tree_states.specs.Reports.{Part, AllFail, IsTruePart, IsTrueReport, IsStuckAt, IsPartOf, ArePartsOf}

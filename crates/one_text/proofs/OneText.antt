@@ -1,24 +1,19 @@
 -- One worker finds one text, and one line of a sample system.
-use Rattle.std.proofs.Common.{◌≡◌, ℕ, ◌≤◌, List, [], ◌∷◌, Some, None, slice_get, refl, sym, ap, ◌∙◌, subst}
-use Rattle.trs_defs.specs.System.{System}
-use Rattle.trs_core.specs.Valid.{IsValid}
-use Rattle.names_text.specs.Named.{NamedSystem, IsNamed}
+use Rattle.std.proofs.Common.{◌≡◌, ℕ, [], ◌∷◌, Some, slice_get, refl, sym, ap, ◌∙◌, subst}
 use Rattle.cert_step.specs.declared.claim.Claim.{Claim}
-use Rattle.tree_states.specs.declared.question.Question.{Question}
 use Rattle.tree_states.specs.declared.question.Question.TheVariants.{Termination}
 use Rattle.tree_states.specs.Questions.{claims}
-use Rattle.tree_states.specs.States.{TreeNode, State}
+use Rattle.tree_states.specs.States.{State}
 use Rattle.tree_states.specs.Reports.{Walks}
 use Rattle.tree_states.proofs.Lookups.{one_value}
-use Rattle.worker_pool.specs.Serial.{IsSerialEnd}
 use Rattle.conclusion.specs.Concludes.{proof_lines}
-use Rattle.conclusion.specs.SerialText.{IsSerialText, won, lost}
+use Rattle.conclusion.specs.SerialText.{won, lost}
 use Rattle.sample_family.specs.Family.{sample}
 use Rattle.sample_family.proofs.SampleSystems.{sample_valid}
 use Rattle.sampling.specs.declared.judgement.Judgement.{Judgement}
 use Rattle.sampling.specs.declared.judgement.Judgement.TheVariants.{Proved, Refuted, Open}
-use Rattle.sampling.specs.Judged.{IsJudgementOf, IsSerialJudgement}
-use Rattle.sampling.specs.Line.{IsSampleLine, judged, line_of}
+use Rattle.sampling.specs.Judged.{IsJudgementOf}
+use Rattle.sampling.specs.Line.{judged, line_of}
 use Rattle.one_text.specs.Laws.{SerialTextsAreOne, SampleLinesAreOne}
 use Rattle.one_text.proofs.Pending.{AnswersAreOne}
 use Rattle.one_text.proofs.Renumbering.{state_again}

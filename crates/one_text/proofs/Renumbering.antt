@@ -1,8 +1,8 @@
 -- A tree whose steps are renumbered: what is closed, stuck, won, lost, over and free is as before.
-use Rattle.std.proofs.Common.{◌≡◌, ◌⊎◌, inl, inr, ℕ, ◌<◌, List, [], ◌∷◌, map, Option, Some, None, slice_get, refl, sym, ap, ◌∙◌, subst}
+use Rattle.std.proofs.Common.{◌≡◌, inl, inr, ℕ, List, map, Option, Some, None, slice_get, refl, sym, ap, ◌∙◌, subst}
 use Rattle.std.specs.Option.{option_map}
 use Rattle.tree_states.specs.States.{TreeNode, State, Decided, IsChild}
-use Rattle.tree_states.specs.Verdicts.{IsClosed, closed, IsWon, IsStuck, IsLost, AllLost, HasVerdict, IsDone, IsFirstWinner}
+use Rattle.tree_states.specs.Verdicts.{IsClosed, closed, IsStuck, IsLost, HasVerdict, IsDone, IsFirstWinner}
 use Rattle.tree_states.specs.Events.{IsFree, IsOver, decided, lost, done}
 use Rattle.tree_states.proofs.Lookups.{map_there, map_cases}
 use Rattle.one_text.proofs.Pending.{renumbered}

@@ -1,5 +1,5 @@
 -- Where a step decides a node, no goal but the node's is won by it.
-use Rattle.std.proofs.Common.{◌≡◌, ◌⊎◌, inl, inr, ℕ, zero, suc, ◌<◌, ◌+◌, ◌-◌, Bool, List, [], ◌∷◌, ◌++◌, map, length, set, Option, Some, None, slice_get, refl, sym, ap, ◌∙◌, subst, arith}
+use Rattle.std.proofs.Common.{◌≡◌, inl, inr, ℕ, zero, suc, ◌<◌, ◌+◌, ◌-◌, Bool, List, [], ◌∷◌, map, length, set, Option, Some, None, slice_get, refl, sym, ap, ◌∙◌, subst, arith}
 use native.Mathlib.Decide.{ℕ_discrete}
 use mathlib.Core.Logic.{dite}
 use Rattle.trs_defs.specs.System.{System}
@@ -14,11 +14,11 @@ use Rattle.tree_states.specs.Questions.{roots, goals_of}
 use Rattle.tree_states.specs.History.{claimed, found, failed}
 use Rattle.tree_states.specs.States.{TreeNode, State, Decided, IsChild, new_node, roots_from, opening, marked}
 use Rattle.tree_states.specs.Verdicts.{IsClosed, closed, IsWon, IsFirstWinner}
-use Rattle.tree_states.specs.Events.{Claims, RunsAt, IsOver, done, Decides, Follows, nodes_with, without}
+use Rattle.tree_states.specs.Events.{Claims, IsOver, done, Follows, nodes_with, without}
 use Rattle.tree_states.proofs.Lookups.{one_value, get_set, length_set, set_cases, set_there, append_left, append_right, append_cases, map_there, map_cases, get_below}
 use Rattle.tree_core.specs.Invariant.{IsOf}
 use Rattle.tree_core.proofs.Won.{closed_decided}
-use Rattle.tree_core.proofs.Marking.{Same, of_same, closed_same, same_later, same_before}
+use Rattle.tree_core.proofs.Marking.{of_same, closed_same, same_later, same_before}
 use Rattle.worker_pool.specs.Serial.{entry_of}
 
 -- node g is of goal g, the children of a node are of its goal, and where no goal has won, none is won
