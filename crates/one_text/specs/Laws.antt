@@ -1,5 +1,5 @@
 -- One worker finds one text.
-use Rattle.std.specs.Prelude.{◌≡◌, ℕ, List}
+use Rattle.std.specs.Prelude.{◌≡◌, ◌≤◌, ℕ, List}
 use Rattle.names_text.specs.Named.{NamedSystem, IsNamed}
 use Rattle.tree_states.specs.declared.question.Question.{Question}
 use Rattle.conclusion.specs.SerialText.{IsSerialText}
@@ -12,4 +12,4 @@ SerialTextsAreOne =
 
 abbrev pub SampleLinesAreOne : Type 0
 SampleLinesAreOne =
-    (size budget : ℕ) (line other : List ℕ) → IsSampleLine size budget line → IsSampleLine size budget other → line ≡ other
+    (size budget : ℕ) (line other : List ℕ) → size ≤ 512 → IsSampleLine size budget line → IsSampleLine size budget other → line ≡ other

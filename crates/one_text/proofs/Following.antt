@@ -1,0 +1,145 @@
+-- Where an entry leads from a state to a later one, the renumbered entry leads from the renumbered state to the renumbered later one.
+use Rattle.std.proofs.Common.{◌≡◌, inl, inr, ℕ, zero, suc, List, [], ◌∷◌, ◌++◌, map, length, set, Some, refl, sym, ap, ◌∙◌, subst}
+use Rattle.std.proofs.lemmas.List.{length-map, map-append}
+use Rattle.trs_defs.specs.System.{System}
+use Rattle.cert_step.specs.ProofProblem.{ProofProblem}
+use Rattle.cert_step.specs.ProofStep as step
+use Rattle.cert_step.specs.ProofStep.{ProofStep}
+use Rattle.cert_step.specs.Applies.{Applies}
+use Rattle.strategies.specs.declared.strategy.Strategy.{Strategy}
+use Rattle.strategies.specs.Runs as strategy
+use Rattle.strategies.specs.Runs.{Found}
+use Rattle.tree_states.specs.declared.mark.Mark.{Mark}
+use Rattle.tree_states.specs.declared.mark.Mark.TheVariants.{Idle}
+use Rattle.tree_states.specs.declared.ticket.Ticket.{Ticket}
+use Rattle.tree_states.specs.History.{Event, claimed, found, failed, cancelled, aborted}
+use Rattle.tree_states.specs.States.{TreeNode, State, Decided, new_node, marked}
+use Rattle.tree_states.specs.Verdicts.{IsFirstWinner}
+use Rattle.tree_states.specs.Events.{Claims, RunsAt, IsOver, Decides, EndsLate, Follows, with_claim, without, ended, nodes_with}
+use Rattle.tree_states.specs.Replies.{event_of_found}
+use Rattle.worker_pool.specs.Serial.{entry_of}
+use Rattle.proof_text.proofs.InOrder.{applies_in_order}
+use Rattle.one_answer.specs.Laws.{renumbered}
+use Rattle.one_text.proofs.Renumbering.{decided_again, node_again, nodes_again, state_again, there_again, done_before, over_again, over_before, first_again, free_again, some_free_before}
+
+abbrev pub event_again : Event → Event
+event_again (claimed problem strategy) = claimed problem strategy
+event_again (found step) = found (renumbered step)
+event_again (failed spent) = failed spent
+event_again cancelled = cancelled
+event_again aborted = aborted
+
+-- ---- a step that applies does so renumbered
+
+pub applies_again : (system : System) (p : ProofProblem) (s : ProofStep) (left : List ProofProblem) → Applies system p s left
+    → Applies system p (renumbered s) left
+applies_again system p (step.loop start path place) left h = applies_in_order system p (step.loop start path place) left tt h
+applies_again system p step.dp left h = h
+applies_again system p (step.graph items) left h = h
+applies_again system p (step.subterm projection) left h = h
+applies_again system p (step.poly entries) left h = h
+applies_again system p (step.lpo entries) left h = h
+applies_again system p (step.kbo entries) left h = h
+applies_again system p (step.usable_poly entries) left h = h
+applies_again system p (step.newman items) left h = h
+applies_again system p (step.parallel items) left h = h
+applies_again system p (step.strong items) left h = h
+applies_again system p (step.label ranks items) left h = h
+applies_again system p (step.fork start l r test) left h = h
+applies_again system p step.confluence left h = h
+
+-- ---- nodes that are written
+
+map_set : (nodes : List TreeNode) (n : ℕ) (x : TreeNode) → nodes_again (set nodes n x) ≡ set (nodes_again nodes) n (node_again x)
+map_set [] n x = refl
+map_set (y ∷ nodes) zero x = refl
+map_set (y ∷ nodes) (suc n) x = ap (λ ys. node_again y ∷ ys) (map_set nodes n x)
+
+new_again : (goal : ℕ) (left : List ProofProblem) → nodes_again (map (new_node goal) left) ≡ map (new_node goal) left
+new_again goal [] = refl
+new_again goal (p ∷ left) = ap (λ ys. new_node goal p ∷ ys) (new_again goal left)
+
+claim_again : (s : State) (seat n place : ℕ) (node : TreeNode)
+    → state_again (with_claim s seat n place node) ≡ with_claim (state_again s) seat n place (node_again node)
+claim_again s seat n place node =
+    ap (λ (ns : List TreeNode). record (with_claim (state_again s) seat n place (node_again node)) { nodes = ns }) (map_set s.nodes n _)
+
+ended_again : (s : State) (number : ℕ) (t : Ticket) (node : TreeNode) (mark : Mark)
+    → state_again (ended s number t node mark) ≡ ended (state_again s) number t (node_again node) mark
+ended_again s number t node mark =
+    ap (λ (ns : List TreeNode). record (ended (state_again s) number t (node_again node) mark) { nodes = ns })
+    (map_set s.nodes t.node (marked node t.place mark))
+
+with_again : (s : State) (t : Ticket) (node : TreeNode) (step : ProofStep) (left : List ProofProblem)
+    → nodes_again (nodes_with s t node step left) ≡ nodes_with (state_again s) t (node_again node) (renumbered step) left
+with_again s t node step left =
+    let d : ℕ → Decided = λ first. record { step = step; first = first; count = length left } in
+    let x : TreeNode = record (marked node t.place Idle) { decision = Some (d (length s.nodes)) } in
+    let shut : ℕ → TreeNode = λ first. record (marked (node_again node) t.place Idle) { decision = Some (decided_again (d first)) } in
+    map-append node_again (set s.nodes t.node x) (map (new_node node.goal) left)
+    ∙ ap (λ ys. nodes_again (set s.nodes t.node x) ++ ys) (new_again node.goal left)
+    ∙ ap (λ xs. xs ++ map (new_node node.goal) left) (map_set s.nodes t.node x)
+    ∙ ap (λ (first : ℕ). set (nodes_again s.nodes) t.node (shut first) ++ map (new_node node.goal) left) (sym (length-map s.nodes node_again))
+
+-- ---- what follows
+
+module _ (goals : ℕ) (s : State) where
+  pub claims_again : (ticket : ℕ) (problem : ProofProblem) (strategy : Strategy) (later : State)
+      → Claims goals s (entry_of ticket (claimed problem strategy)) problem strategy later
+      → Claims goals (state_again s) (entry_of ticket (claimed problem strategy)) problem strategy (state_again later)
+  claims_again ticket problem strategy later c = record {
+    going = λ d. c.going (done_before goals s d);
+    n = c.n;
+    place = c.place;
+    node = node_again c.node;
+    free = free_again s c.n c.place c.node c.free;
+    least = λ k j other lt free. let x = some_free_before s k j other free in c.least k j x.0 lt x.1;
+    ticket = c.ticket;
+    problem_is = c.problem_is;
+    strategy_is = c.strategy_is;
+    after = ap state_again c.after ∙ claim_again s 0 c.n c.place c.node;
+  }
+
+  module _ (ticket : ℕ) (event : Event) where
+    abbrev pub runs_again : RunsAt s (entry_of ticket event) → RunsAt (state_again s) (entry_of ticket (event_again event))
+    runs_again r = record {
+      ticket = r.ticket;
+      there = r.there;
+      runs = r.runs;
+      seat = r.seat;
+      node = node_again r.node;
+      made = there_again s.nodes r.ticket.node r.node r.made;
+    }
+
+    pub late_again : (later : State) (r : RunsAt s (entry_of ticket event)) → EndsLate goals s (entry_of ticket event) r later
+        → EndsLate goals (state_again s) (entry_of ticket (event_again event)) (runs_again r) (state_again later)
+    late_again later r (over, after) = (over_again goals s r.node over, ap state_again after ∙ ended_again s ticket r.ticket r.node Idle)
+
+  pub decides_again : (system : System) (number : ℕ) (t : Ticket) (node : TreeNode) (step : ProofStep) (later : State)
+      → Decides goals system s number t node step later
+      → Decides goals system (state_again s) number t (node_again node) (renumbered step) (state_again later)
+  decides_again system number t node step later d = record {
+    left = d.left;
+    applies = applies_again system node.problem step d.left d.applies;
+    winner = d.winner;
+    first = subst (λ (ns : List TreeNode). IsFirstWinner goals ns d.winner) (with_again s t node step d.left)
+        (first_again goals (nodes_with s t node step d.left) d.winner d.first);
+    after =
+        ap state_again d.after
+        ∙ ap (λ (ns : List TreeNode). record s { nodes = ns; tickets = without s.tickets number t; winner = d.winner })
+        (with_again s t node step d.left);
+  }
+
+  pub post_again : (system : System) (ticket : ℕ) (answer : Found) (later : State)
+      → Follows goals system s (entry_of ticket (event_of_found answer)) later
+      → Follows goals system (state_again s) (entry_of ticket (event_again (event_of_found answer))) (state_again later)
+  post_again system ticket (strategy.found step left) later (r, inl late) =
+      (runs_again ticket (found step) r, inl (late_again ticket (found step) later r late))
+  post_again system ticket (strategy.found step left) later (r, inr (still, decides)) =
+      let wanted : IsOver goals (state_again s) (node_again r.node) → ⊥ = λ over. still (over_before goals s r.node over) in
+      (runs_again ticket (found step) r, inr (wanted, decides_again system ticket r.ticket r.node step later decides))
+  post_again system ticket (strategy.failed spent) later (r, inl late) =
+      (runs_again ticket (failed spent) r, inl (late_again ticket (failed spent) later r late))
+  post_again system ticket (strategy.failed spent) later (r, inr (still, after)) =
+      let wanted : IsOver goals (state_again s) (node_again r.node) → ⊥ = λ over. still (over_before goals s r.node over) in
+      (runs_again ticket (failed spent) r, inr (wanted, ap state_again after ∙ ended_again s ticket r.ticket r.node _))
