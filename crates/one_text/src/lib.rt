@@ -2,8 +2,10 @@
 //! which it leads, depend on the system, the question and the budget alone.
 #![tactic(auto)]
 
-ghost use Rattle.one_text.specs.Laws.{SerialTextsAreOne, SampleLinesAreOne};
+ghost use Rattle.one_text.specs.Laws.{SerialTextsAreOne, ProblemTextsHaveOneText};
+ghost use Rattle.one_text.specs.Laws.{SampleLinesAreOne};
 
+use ari_text::one_system;
 use one_answer::answers_are_one;
 
 /// A law, with nothing to run: two texts that one worker finds for a question about a system within
@@ -12,6 +14,15 @@ pub fn serial_texts_are_one()
     ensures { SerialTextsAreOne }
 {
     answers_are_one();
+}
+
+/// A law, with nothing to run: so the text is a function of the problem's text, the question and the
+/// budget.
+pub fn problem_texts_have_one_text()
+    ensures { ProblemTextsHaveOneText }
+{
+    serial_texts_are_one();
+    one_system();
 }
 
 /// A law, with nothing to run: two lines of one sample system within a budget are the same.
