@@ -67,5 +67,11 @@ fn constraint_at(
     let left = sides.list(alloc, trs, by_root, growth, &peak.left)?;
     let right = sides.list(alloc, trs, by_root, growth, &peak.right)?;
     let _pool = sides.pool();
-    PeakConstraint::new(alloc, peak.inner, peak.outer, sides.at(left), sides.at(right))
+    PeakConstraint::new(
+        alloc,
+        peak.inner,
+        peak.outer,
+        sides.at(left),
+        sides.at(right),
+    )
 }

@@ -70,5 +70,12 @@ fn join_at(
     let left = sides.list(alloc, trs, by_root, growth, &peak.left)?;
     let right = sides.list(alloc, trs, by_root, growth, &peak.right)?;
     let numbers = (peak.inner, peak.outer);
-    first_closing(alloc, sides.pool(), ranks, numbers, sides.at(left), sides.at(right))
+    first_closing(
+        alloc,
+        sides.pool(),
+        ranks,
+        numbers,
+        sides.at(left),
+        sides.at(right),
+    )
 }

@@ -34,7 +34,13 @@ pub(crate) fn meetings_of(
     let mut from_right = grouped(alloc, rights)?;
     let mut meetings = Vec::new(alloc);
     for left in lefts {
-        add_meeting(alloc, left.0, &mut from_left, &mut from_right, &mut meetings)?;
+        add_meeting(
+            alloc,
+            left.0,
+            &mut from_left,
+            &mut from_right,
+            &mut meetings,
+        )?;
     }
     Ok(meetings)
 }
