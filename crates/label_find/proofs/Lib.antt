@@ -9,3 +9,4 @@ pub mod ConstraintReads
 pub mod Searching
 pub mod LabelLaw
 pub mod PathsOfSides
+pub mod Groupings

@@ -31,9 +31,6 @@ meetings_more lefts rights i left old new below is before adds = record {
 pub all_meetings : (lefts rights : List Entry) (i : ℕ) (ms : List Meeting) → length lefts ≤ i → AreMeetings (take i lefts) lefts rights ms → AreMeetings lefts lefts rights ms
 all_meetings lefts rights i ms all h = subst (λ (es : List Entry). AreMeetings es lefts rights ms) (take_all i lefts all) h
 
-pub meeting_there : (lefts rights : List Entry) (end : ℕ) (ms : List Meeting) → HasMeeting end ms → AddsMeeting lefts rights end ms ms
-meeting_there lefts rights end ms h = record { from = λ m i. inl i; stays = λ m i. i; there = λ _. h }
-
 pub no_right_end : (lefts rights : List Entry) (end : ℕ) (ms : List Meeting) → (Some_in (λ (f : Entry). f.0 ≡ end) rights → ⊥) → AddsMeeting lefts rights end ms ms
 no_right_end lefts rights end ms none = record { from = λ m i. inl i; stays = λ m i. i; there = λ h. absurd (none h) }
 

@@ -12,7 +12,7 @@ use Rattle.trs_defs.specs.Path.{PlacedRule}
 use Rattle.trs_defs.proofs.Members.{in_left, in_right, in_either, in_or, no_in}
 use Rattle.path_lists.specs.Adding.{Entry}
 use Rattle.label_find.specs.LabelRow.{rules_along}
-use Rattle.label_find.specs.Lists.{HasRules, AddsList, AreListsTo, rules_in, IsWith}
+use Rattle.label_find.specs.Lists.{HasRules, AddsList, rules_in, IsWith}
 
 -- ---- one item more
 
@@ -29,12 +29,6 @@ module _ {A : Type 0} (xs : List A) (i : ℕ) (a : A) (below : i < length xs) (i
     | inr new ↦ elim (in_or new) [ inl same ↦ inr same | inr none ↦ absurd (no_in none) ]
   ]
 
-  pub old_in_more : (x : A) → In x (take i xs) → In x (take (i + 1) xs)
-  old_in_more x h = subst (λ (ys : List A). In x ys) (sym (take_more xs i a below is)) (in_left (a ∷ []) h)
-
-  pub new_in_more : In a (take (i + 1) xs)
-  new_in_more = subst (λ (ys : List A). In a ys) (sym (take_more xs i a below is)) (in_right (take i xs) in_first)
-
 pub one_of_pushed : {A : Type 0} (old new : List A) (a x : A) → new ≡ old ++ a ∷ [] → In x new → In x old ⊎ (x ≡ a)
 one_of_pushed {A} old new a x is h = elim (in_either old (a ∷ []) (subst (λ (ys : List A). In x ys) is h)) [
   | inl there ↦ inl there
@@ -48,28 +42,6 @@ pub new_in_pushed : {A : Type 0} (old new : List A) (a : A) → new ≡ old ++ a
 new_in_pushed {A} old new a is = subst (λ (ys : List A). In a ys) (sym is) (in_right old in_first)
 
 -- ---- the lists to one end
-
-pub no_lists : (entries : List Entry) (end : ℕ) (lists : List (Vec ℕ)) → lists ≡ [] → AreListsTo (take 0 entries) end lists
-no_lists entries end lists empty = record {
-  sound = λ l i. absurd (no_in (subst (λ (ls : List (Vec ℕ)). In l ls) empty i));
-  complete = λ e i is. absurd (no_in i);
-}
-
-pub lists_more : (entries : List Entry) (end : ℕ) (i : ℕ) (entry : Entry) (old new : List (Vec ℕ)) → i < length entries → entry ≡ get_or entries i entry
-    → AreListsTo (take i entries) end old → AddsList entry end old new → AreListsTo (take (i + 1) entries) end new
-lists_more entries end i entry old new below is before adds = record {
-  sound = λ l h. elim (adds.from l h) [
-    | inl was ↦ (let (e, there, facts) = before.sound l was in (e, old_in_more entries i entry below is e there, facts))
-    | inr fresh ↦ (entry, new_in_more entries i entry below is, fresh)
-  ];
-  complete = λ e h end_is. elim (one_of_more entries i entry below is e h) [
-    | inl was ↦ (let (l, there, rules) = before.complete e was end_is in (l, adds.stays l there, rules))
-    | inr same ↦ (let P : Entry → Type 0 = λ x. x.0 ≡ end → HasRules (rules_along x.1.items) new in subst P (sym same) adds.there end_is)
-  ];
-}
-
-pub all_lists : (entries : List Entry) (end : ℕ) (i : ℕ) (lists : List (Vec ℕ)) → length entries ≤ i → AreListsTo (take i entries) end lists → AreListsTo entries end lists
-all_lists entries end i lists all h = subst (λ es. AreListsTo es end lists) (take_all i entries all) h
 
 pub other_end : (entry : Entry) (end : ℕ) (lists : List (Vec ℕ)) → entry.0 ≢ end → AddsList entry end lists lists
 other_end entry end lists other = record { from = λ l i. inl i; stays = λ l i. i; there = λ e. absurd (other e) }

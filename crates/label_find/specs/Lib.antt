@@ -8,3 +8,4 @@ pub mod ConstraintPuzzle
 pub mod LabelLawful
 pub mod Closing
 pub mod ListedSides
+pub mod Grouping

@@ -6,6 +6,7 @@ mod closing;
 mod constraint;
 mod constraints;
 mod fitting;
+mod grouping;
 mod joining;
 mod label;
 mod laws;

@@ -1,11 +1,13 @@
 //! The ends that the paths from both sides of a peak meet in.
-ghost use Rattle.std.specs.Prelude.{◌≡◌, ◌↔◌, IsTrue, IfOk, OnOk};
+ghost use Rattle.std.specs.Prelude.{◌≡◌, ◌↔◌, List, IsTrue, IfOk, OnOk};
 ghost use Rattle.path_lists.specs.Adding.{Entry};
 ghost use Rattle.join_find.specs.First.{Some_in};
 ghost use Rattle.label_find.specs.LabelRow.{rules_along};
-ghost use Rattle.label_find.specs.Lists.{AddsList, AreListsTo, HasRules};
-ghost use Rattle.label_find.specs.Meetings.{AddsMeeting, AreMeetings, HasMeeting};
+ghost use Rattle.label_find.specs.Lists.{AddsList, HasRules};
+ghost use Rattle.label_find.specs.Meetings.{AddsMeeting, AreMeetings};
+ghost use Rattle.label_find.specs.Grouping.{AreOpenOrSettled};
 
+use crate::grouping::{Groups, grouped};
 use rewrite_core::PathStep;
 use std::alloc::Global;
 use trs_core::OutOfMemory;
@@ -28,76 +30,50 @@ pub(crate) fn meetings_of(
     ensures { IfOk result (λ meetings.
         AreMeetings lefts.now lefts.now rights.now meetings.items) }
 {
+    let mut from_left = grouped(alloc, lefts)?;
+    let mut from_right = grouped(alloc, rights)?;
     let mut meetings = Vec::new(alloc);
     for left in lefts {
-        add_meeting(alloc, lefts, rights, left.0, &mut meetings)?;
+        add_meeting(
+            alloc,
+            left.0,
+            &mut from_left,
+            &mut from_right,
+            &mut meetings,
+        )?;
     }
     Ok(meetings)
 }
 
-/// Adds the meeting at an end, if it is not there yet and some right path has that end.
+/// Adds the meeting at an end, if it is not there yet and some right path has that end. The lists
+/// of the end are taken.
 fn add_meeting(
     alloc: Global,
-    lefts: &[(u32, Vec<PathStep>)],
-    rights: &[(u32, Vec<PathStep>)],
     end: u32,
+    from_left: &mut Groups,
+    from_right: &mut Groups,
     meetings: &mut Vec<Meeting>,
 ) -> Result<(), OutOfMemory>
-    ensures { OnOk result (
-        AddsMeeting lefts.now rights.now end meetings.old.items meetings.new.items) }
+    ensures { OnOk result ((lefts rights : List Entry)
+        → Some_in (λ (e : Entry). e.0 ≡ end) lefts
+        → AreOpenOrSettled lefts rights from_left.old from_right.old meetings.old.items
+        → AddsMeeting lefts rights end meetings.old.items meetings.new.items
+        × AreOpenOrSettled lefts rights from_left.new from_right.new meetings.new.items) }
 {
-    if has_meeting(meetings, end) {
+    let lefts = from_left.take(alloc, end);
+    if lefts.is_empty() {
         return Ok(());
     }
-    if !has_end(rights, end) {
+    let rights = from_right.take(alloc, end);
+    if rights.is_empty() {
         return Ok(());
     }
-    let lefts = lists_to(alloc, lefts, end)?;
-    let rights = lists_to(alloc, rights, end)?;
     meetings.push(Meeting { end, lefts, rights })?;
     Ok(())
 }
 
-fn has_meeting(meetings: &[Meeting], end: u32) -> bool
-    ensures { IsTrue result ↔ HasMeeting end meetings.now }
-{
-    for meeting in meetings {
-        if meeting.end == end {
-            return true;
-        }
-    }
-    false
-}
-
-/// Whether some path has this end.
-fn has_end(entries: &[(u32, Vec<PathStep>)], end: u32) -> bool
-    ensures { IsTrue result ↔ Some_in (λ (e : Entry). e.0 ≡ end) entries.now }
-{
-    for entry in entries {
-        if entry.0 == end {
-            return true;
-        }
-    }
-    false
-}
-
-/// The rules along the paths to this end, each list once.
-fn lists_to(
-    alloc: Global,
-    entries: &[(u32, Vec<PathStep>)],
-    end: u32,
-) -> Result<Vec<Vec<u32>>, OutOfMemory>
-    ensures { IfOk result (λ lists. AreListsTo entries.now end lists.items) }
-{
-    let mut lists = Vec::new(alloc);
-    for entry in entries {
-        add_list(alloc, entry, end, &mut lists)?;
-    }
-    Ok(lists)
-}
-
 /// Adds the rules along a path, if it has this end and its list is not there yet.
-fn add_list(
+pub(crate) fn add_list(
     alloc: Global,
     entry: &(u32, Vec<PathStep>),
     end: u32,
