@@ -19,7 +19,7 @@ use trs_core::{OutOfMemory, Term, Trs};
 const MOST_KEPT_IDS: u32 = 262_144;
 
 /// The most bytes of lists, by estimate, that are kept from one peak to the next.
-const MOST_KEPT_BYTES: u64 = 16_777_216;
+const MOST_KEPT_BYTES: u64 = 67_108_864;
 
 /// The most ids that a side, and the paths from it, add.
 pub(crate) const MOST_OF_A_SIDE: u32 = MOST_OF_PATHS + 65_536;
