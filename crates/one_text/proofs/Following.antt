@@ -19,7 +19,7 @@ use Rattle.tree_states.specs.Events.{Claims, RunsAt, IsOver, Decides, EndsLate, 
 use Rattle.tree_states.specs.Replies.{event_of_found}
 use Rattle.worker_pool.specs.Serial.{entry_of}
 use Rattle.proof_text.proofs.InOrder.{applies_in_order}
-use Rattle.one_text.proofs.Pending.{renumbered}
+use Rattle.one_answer.specs.Laws.{renumbered}
 use Rattle.one_text.proofs.Renumbering.{decided_again, node_again, nodes_again, state_again, there_again, done_before, over_again, over_before, first_again, free_again, some_free_before}
 
 abbrev pub event_again : Event → Event

@@ -1,4 +1,3 @@
-pub mod Pending
 pub mod Renumbering
 pub mod Following
 pub mod Winners

@@ -19,7 +19,7 @@ use Rattle.conclusion.specs.Concludes.{proof_lines}
 use Rattle.tree_states.specs.States.{TreeNode, Decided}
 use Rattle.tree_states.specs.Reports.{Walks, ends, stays, goes_on, children_of, steps_from, with_step, decision_at}
 use Rattle.tree_states.proofs.Lookups.{one_value}
-use Rattle.one_text.proofs.Pending.{renumbered}
+use Rattle.one_answer.specs.Laws.{renumbered}
 use Rattle.one_text.proofs.Renumbering.{decided_again, decision_again, node_again, nodes_again, there_again}
 
 -- ---- how steps are printed

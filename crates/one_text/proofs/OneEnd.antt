@@ -15,7 +15,7 @@ use Rattle.tree_states.specs.Verdicts.{HasVerdict}
 use Rattle.tree_states.specs.Events.{Claims, Follows, Replays}
 use Rattle.tree_states.specs.Replies.{event_of_found}
 use Rattle.worker_pool.specs.Serial.{IsSerialEnd, entry_of}
-use Rattle.one_text.proofs.Pending.{AreSameAnswers, AnswersAreOne}
+use Rattle.one_answer.specs.Laws.{AreSameAnswers, AnswersAreOne}
 use Rattle.one_text.proofs.Renumbering.{nodes_again, state_again, verdict_again, verdict_before}
 use Rattle.one_text.proofs.Following.{event_again, claims_again, post_again}
 use Rattle.one_text.proofs.Winners.{IsGrown, grown_opening, grown_claim, grown_found, grown_failed}

@@ -19,7 +19,7 @@ use Rattle.tree_states.specs.States.{TreeNode}
 use Rattle.tree_states.specs.Verdicts.{IsStuck}
 use Rattle.tree_states.specs.Reports.{Part, AllFail, IsTruePart, IsTrueReport, IsStuckAt, IsPartOf, ArePartsOf}
 use Rattle.tree_states.proofs.Lookups.{one_value, get_below}
-use Rattle.one_text.proofs.Pending.{AnswersAreOne}
+use Rattle.one_answer.specs.Laws.{AnswersAreOne}
 use Rattle.one_text.proofs.Renumbering.{node_again, nodes_again, there_again, there_before, stuck_again, stuck_before}
 use Rattle.one_text.proofs.OneFollower.{one_least}
 use Rattle.one_text.proofs.OneCertificate.{step_again, same_items, one_order, same_steps}

@@ -15,7 +15,7 @@ use Rattle.sampling.specs.declared.judgement.Judgement.TheVariants.{Proved, Refu
 use Rattle.sampling.specs.Judged.{IsJudgementOf}
 use Rattle.sampling.specs.Line.{judged, line_of}
 use Rattle.one_text.specs.Laws.{SerialTextsAreOne, SampleLinesAreOne}
-use Rattle.one_text.proofs.Pending.{AnswersAreOne}
+use Rattle.one_answer.specs.Laws.{AnswersAreOne}
 use Rattle.one_text.proofs.Renumbering.{state_again}
 use Rattle.one_text.proofs.OneEnd.{one_serial_end}
 use Rattle.one_text.proofs.OneCertificate.{same_steps, same_lines}

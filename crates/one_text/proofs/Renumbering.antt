@@ -5,7 +5,7 @@ use Rattle.tree_states.specs.States.{TreeNode, State, Decided, IsChild}
 use Rattle.tree_states.specs.Verdicts.{IsClosed, closed, IsStuck, IsLost, HasVerdict, IsDone, IsFirstWinner}
 use Rattle.tree_states.specs.Events.{IsFree, IsOver, decided, lost, done}
 use Rattle.tree_states.proofs.Lookups.{map_there, map_cases}
-use Rattle.one_text.proofs.Pending.{renumbered}
+use Rattle.one_answer.specs.Laws.{renumbered}
 
 abbrev pub decided_again : Decided → Decided
 decided_again d = record { step = renumbered d.step; first = d.first; count = d.count }

@@ -4,13 +4,19 @@
 
 ghost use Rattle.one_text.specs.Laws.{SerialTextsAreOne, SampleLinesAreOne};
 
+use one_answer::answers_are_one;
+
 /// A law, with nothing to run: two texts that one worker finds for a question about a system within
 /// a budget are the same.
 pub fn serial_texts_are_one()
     ensures { SerialTextsAreOne }
-{}
+{
+    answers_are_one();
+}
 
 /// A law, with nothing to run: two lines of one sample system within a budget are the same.
 pub fn sample_lines_are_one()
     ensures { SampleLinesAreOne }
-{}
+{
+    answers_are_one();
+}
