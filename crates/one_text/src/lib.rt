@@ -14,7 +14,8 @@ pub fn serial_texts_are_one()
     answers_are_one();
 }
 
-/// A law, with nothing to run: two lines of one sample system within a budget are the same.
+/// A law, with nothing to run: two lines of one sample system, of at most 512 functions, within a
+/// budget are the same.
 pub fn sample_lines_are_one()
     ensures { SampleLinesAreOne }
 {
