@@ -20,14 +20,14 @@ use Rattle.tree_states.specs.Replies.{event_of_found}
 use Rattle.worker_pool.specs.Serial.{entry_of}
 use Rattle.proof_text.proofs.InOrder.{applies_in_order}
 use Rattle.one_answer.specs.Laws.{renumbered}
-use Rattle.one_text.proofs.Renumbering.{decided_again, node_again, nodes_again, state_again, there_again, done_before, over_again, over_before, first_again, free_again, some_free_before}
+use Rattle.one_text.proofs.Renumbering.{renumbered_decided, renumbered_node, renumbered_nodes, renumbered_state, there_again, done_before, over_again, over_before, first_again, free_again, some_free_before}
 
-abbrev pub event_again : Event → Event
-event_again (claimed problem strategy) = claimed problem strategy
-event_again (found step) = found (renumbered step)
-event_again (failed spent) = failed spent
-event_again cancelled = cancelled
-event_again aborted = aborted
+abbrev pub renumbered_event : Event → Event
+renumbered_event (claimed problem strategy) = claimed problem strategy
+renumbered_event (found step) = found (renumbered step)
+renumbered_event (failed spent) = failed spent
+renumbered_event cancelled = cancelled
+renumbered_event aborted = aborted
 
 -- ---- a step that applies does so renumbered
 
@@ -50,74 +50,75 @@ applies_again system p step.confluence left h = h
 
 -- ---- nodes that are written
 
-map_set : (nodes : List TreeNode) (n : ℕ) (x : TreeNode) → nodes_again (set nodes n x) ≡ set (nodes_again nodes) n (node_again x)
+map_set : (nodes : List TreeNode) (n : ℕ) (x : TreeNode) → renumbered_nodes (set nodes n x) ≡ set (renumbered_nodes nodes) n (renumbered_node x)
 map_set [] n x = refl
 map_set (y ∷ nodes) zero x = refl
-map_set (y ∷ nodes) (suc n) x = ap (λ ys. node_again y ∷ ys) (map_set nodes n x)
+map_set (y ∷ nodes) (suc n) x = ap (λ ys. renumbered_node y ∷ ys) (map_set nodes n x)
 
-new_again : (goal : ℕ) (left : List ProofProblem) → nodes_again (map (new_node goal) left) ≡ map (new_node goal) left
+new_again : (goal : ℕ) (left : List ProofProblem) → renumbered_nodes (map (new_node goal) left) ≡ map (new_node goal) left
 new_again goal [] = refl
 new_again goal (p ∷ left) = ap (λ ys. new_node goal p ∷ ys) (new_again goal left)
 
 claim_again : (s : State) (seat n place : ℕ) (node : TreeNode)
-    → state_again (with_claim s seat n place node) ≡ with_claim (state_again s) seat n place (node_again node)
+    → renumbered_state (with_claim s seat n place node) ≡ with_claim (renumbered_state s) seat n place (renumbered_node node)
 claim_again s seat n place node =
-    ap (λ (ns : List TreeNode). record (with_claim (state_again s) seat n place (node_again node)) { nodes = ns }) (map_set s.nodes n _)
+    ap (λ (ns : List TreeNode). record (with_claim (renumbered_state s) seat n place (renumbered_node node)) { nodes = ns }) (map_set s.nodes n _)
 
 ended_again : (s : State) (number : ℕ) (t : Ticket) (node : TreeNode) (mark : Mark)
-    → state_again (ended s number t node mark) ≡ ended (state_again s) number t (node_again node) mark
+    → renumbered_state (ended s number t node mark) ≡ ended (renumbered_state s) number t (renumbered_node node) mark
 ended_again s number t node mark =
-    ap (λ (ns : List TreeNode). record (ended (state_again s) number t (node_again node) mark) { nodes = ns })
+    ap (λ (ns : List TreeNode). record (ended (renumbered_state s) number t (renumbered_node node) mark) { nodes = ns })
     (map_set s.nodes t.node (marked node t.place mark))
 
 with_again : (s : State) (t : Ticket) (node : TreeNode) (step : ProofStep) (left : List ProofProblem)
-    → nodes_again (nodes_with s t node step left) ≡ nodes_with (state_again s) t (node_again node) (renumbered step) left
+    → renumbered_nodes (nodes_with s t node step left) ≡ nodes_with (renumbered_state s) t (renumbered_node node) (renumbered step) left
 with_again s t node step left =
     let d : ℕ → Decided = λ first. record { step = step; first = first; count = length left } in
     let x : TreeNode = record (marked node t.place Idle) { decision = Some (d (length s.nodes)) } in
-    let shut : ℕ → TreeNode = λ first. record (marked (node_again node) t.place Idle) { decision = Some (decided_again (d first)) } in
-    map-append node_again (set s.nodes t.node x) (map (new_node node.goal) left)
-    ∙ ap (λ ys. nodes_again (set s.nodes t.node x) ++ ys) (new_again node.goal left)
+    let shut : ℕ → TreeNode = λ first. record (marked (renumbered_node node) t.place Idle) { decision = Some (renumbered_decided (d first)) } in
+    map-append renumbered_node (set s.nodes t.node x) (map (new_node node.goal) left)
+    ∙ ap (λ ys. renumbered_nodes (set s.nodes t.node x) ++ ys) (new_again node.goal left)
     ∙ ap (λ xs. xs ++ map (new_node node.goal) left) (map_set s.nodes t.node x)
-    ∙ ap (λ (first : ℕ). set (nodes_again s.nodes) t.node (shut first) ++ map (new_node node.goal) left) (sym (length-map s.nodes node_again))
+    ∙ ap (λ (first : ℕ). set (renumbered_nodes s.nodes) t.node (shut first) ++ map (new_node node.goal) left)
+    (sym (length-map s.nodes renumbered_node))
 
 -- ---- what follows
 
 module _ (goals : ℕ) (s : State) where
   pub claims_again : (ticket : ℕ) (problem : ProofProblem) (strategy : Strategy) (later : State)
       → Claims goals s (entry_of ticket (claimed problem strategy)) problem strategy later
-      → Claims goals (state_again s) (entry_of ticket (claimed problem strategy)) problem strategy (state_again later)
+      → Claims goals (renumbered_state s) (entry_of ticket (claimed problem strategy)) problem strategy (renumbered_state later)
   claims_again ticket problem strategy later c = record {
     going = λ d. c.going (done_before goals s d);
     n = c.n;
     place = c.place;
-    node = node_again c.node;
+    node = renumbered_node c.node;
     free = free_again s c.n c.place c.node c.free;
     least = λ k j other lt free. let x = some_free_before s k j other free in c.least k j x.0 lt x.1;
     ticket = c.ticket;
     problem_is = c.problem_is;
     strategy_is = c.strategy_is;
-    after = ap state_again c.after ∙ claim_again s 0 c.n c.place c.node;
+    after = ap renumbered_state c.after ∙ claim_again s 0 c.n c.place c.node;
   }
 
   module _ (ticket : ℕ) (event : Event) where
-    abbrev pub runs_again : RunsAt s (entry_of ticket event) → RunsAt (state_again s) (entry_of ticket (event_again event))
+    abbrev pub runs_again : RunsAt s (entry_of ticket event) → RunsAt (renumbered_state s) (entry_of ticket (renumbered_event event))
     runs_again r = record {
       ticket = r.ticket;
       there = r.there;
       runs = r.runs;
       seat = r.seat;
-      node = node_again r.node;
+      node = renumbered_node r.node;
       made = there_again s.nodes r.ticket.node r.node r.made;
     }
 
     pub late_again : (later : State) (r : RunsAt s (entry_of ticket event)) → EndsLate goals s (entry_of ticket event) r later
-        → EndsLate goals (state_again s) (entry_of ticket (event_again event)) (runs_again r) (state_again later)
-    late_again later r (over, after) = (over_again goals s r.node over, ap state_again after ∙ ended_again s ticket r.ticket r.node Idle)
+        → EndsLate goals (renumbered_state s) (entry_of ticket (renumbered_event event)) (runs_again r) (renumbered_state later)
+    late_again later r (over, after) = (over_again goals s r.node over, ap renumbered_state after ∙ ended_again s ticket r.ticket r.node Idle)
 
   pub decides_again : (system : System) (number : ℕ) (t : Ticket) (node : TreeNode) (step : ProofStep) (later : State)
       → Decides goals system s number t node step later
-      → Decides goals system (state_again s) number t (node_again node) (renumbered step) (state_again later)
+      → Decides goals system (renumbered_state s) number t (renumbered_node node) (renumbered step) (renumbered_state later)
   decides_again system number t node step later d = record {
     left = d.left;
     applies = applies_again system node.problem step d.left d.applies;
@@ -125,21 +126,21 @@ module _ (goals : ℕ) (s : State) where
     first = subst (λ (ns : List TreeNode). IsFirstWinner goals ns d.winner) (with_again s t node step d.left)
         (first_again goals (nodes_with s t node step d.left) d.winner d.first);
     after =
-        ap state_again d.after
+        ap renumbered_state d.after
         ∙ ap (λ (ns : List TreeNode). record s { nodes = ns; tickets = without s.tickets number t; winner = d.winner })
         (with_again s t node step d.left);
   }
 
   pub post_again : (system : System) (ticket : ℕ) (answer : Found) (later : State)
       → Follows goals system s (entry_of ticket (event_of_found answer)) later
-      → Follows goals system (state_again s) (entry_of ticket (event_again (event_of_found answer))) (state_again later)
+      → Follows goals system (renumbered_state s) (entry_of ticket (renumbered_event (event_of_found answer))) (renumbered_state later)
   post_again system ticket (strategy.found step left) later (r, inl late) =
       (runs_again ticket (found step) r, inl (late_again ticket (found step) later r late))
   post_again system ticket (strategy.found step left) later (r, inr (still, decides)) =
-      let wanted : IsOver goals (state_again s) (node_again r.node) → ⊥ = λ over. still (over_before goals s r.node over) in
+      let wanted : IsOver goals (renumbered_state s) (renumbered_node r.node) → ⊥ = λ over. still (over_before goals s r.node over) in
       (runs_again ticket (found step) r, inr (wanted, decides_again system ticket r.ticket r.node step later decides))
   post_again system ticket (strategy.failed spent) later (r, inl late) =
       (runs_again ticket (failed spent) r, inl (late_again ticket (failed spent) later r late))
   post_again system ticket (strategy.failed spent) later (r, inr (still, after)) =
-      let wanted : IsOver goals (state_again s) (node_again r.node) → ⊥ = λ over. still (over_before goals s r.node over) in
-      (runs_again ticket (failed spent) r, inr (wanted, ap state_again after ∙ ended_again s ticket r.ticket r.node _))
+      let wanted : IsOver goals (renumbered_state s) (renumbered_node r.node) → ⊥ = λ over. still (over_before goals s r.node over) in
+      (runs_again ticket (failed spent) r, inr (wanted, ap renumbered_state after ∙ ended_again s ticket r.ticket r.node _))

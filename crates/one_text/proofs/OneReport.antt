@@ -20,9 +20,9 @@ use Rattle.tree_states.specs.Verdicts.{IsStuck}
 use Rattle.tree_states.specs.Reports.{Part, AllFail, IsTruePart, IsTrueReport, IsStuckAt, IsPartOf, ArePartsOf}
 use Rattle.tree_states.proofs.Lookups.{one_value, get_below}
 use Rattle.one_answer.specs.Laws.{AnswersAreOne}
-use Rattle.one_text.proofs.Renumbering.{node_again, nodes_again, there_again, there_before, stuck_again, stuck_before}
+use Rattle.one_text.proofs.Renumbering.{renumbered_node, renumbered_nodes, there_again, there_before, stuck_again, stuck_before}
 use Rattle.one_text.proofs.OneFollower.{one_least}
-use Rattle.one_text.proofs.OneCertificate.{step_again, same_items, one_order, same_steps}
+use Rattle.one_text.proofs.OneCertificate.{renumbered_step, same_items, one_order, same_steps}
 
 -- ---- how strategies fail
 
@@ -43,24 +43,25 @@ module _ (answers : AnswersAreOne) (system : System) (valid : IsValid system) (b
   -- ---- the part of a goal
 
   -- a node is the same, but for the numbers of variables
-  same_node : (xs ys : List TreeNode) → nodes_again xs ≡ nodes_again ys → (n : ℕ) (x y : TreeNode) → slice_get xs n ≡ Some x → slice_get ys n ≡ Some y
-      → node_again x ≡ node_again y
+  same_node : (xs ys : List TreeNode) → renumbered_nodes xs ≡ renumbered_nodes ys → (n : ℕ) (x y : TreeNode) → slice_get xs n ≡ Some x
+      → slice_get ys n ≡ Some y
+      → renumbered_node x ≡ renumbered_node y
   same_node xs ys same n x y at_x at_y =
-      let at = subst (λ (ns : List TreeNode). slice_get ns n ≡ Some (node_again x)) same (there_again xs n x at_x) in
-      one_value (slice_get (nodes_again ys) n) (node_again x) (node_again y) at (there_again ys n y at_y)
+      let at = subst (λ (ns : List TreeNode). slice_get ns n ≡ Some (renumbered_node x)) same (there_again xs n x at_x) in
+      one_value (slice_get (renumbered_nodes ys) n) (renumbered_node x) (renumbered_node y) at (there_again ys n y at_y)
 
-  stuck_same : (xs ys : List TreeNode) → nodes_again xs ≡ nodes_again ys → (n : ℕ) → IsStuckAt xs n → IsStuckAt ys n
+  stuck_same : (xs ys : List TreeNode) → renumbered_nodes xs ≡ renumbered_nodes ys → (n : ℕ) → IsStuckAt xs n → IsStuckAt ys n
   stuck_same xs ys same n s =
-      let at = subst (λ (ns : List TreeNode). slice_get ns n ≡ Some (node_again s.node)) same (there_again xs n s.node s.there) in
-      let y = there_before ys n (node_again s.node) at in
+      let at = subst (λ (ns : List TreeNode). slice_get ns n ≡ Some (renumbered_node s.node)) same (there_again xs n s.node s.there) in
+      let y = there_before ys n (renumbered_node s.node) at in
       record { node = y.0; there = y.1; stuck = stuck_before y.0 (subst IsStuck y.2 (stuck_again s.node s.stuck)) }
 
-  module _ (xs ys : List TreeNode) (same : nodes_again xs ≡ nodes_again ys) (root : ProofProblem) (g : ℕ) (p q : Part)
+  module _ (xs ys : List TreeNode) (same : renumbered_nodes xs ≡ renumbered_nodes ys) (root : ProofProblem) (g : ℕ) (p q : Part)
       (true_p : IsTruePart system budget root p) (true_q : IsTruePart system budget root q) (a : IsPartOf xs g p) (b : IsPartOf ys g q) where
     order_is : a.order ≡ b.order
     order_is = one_order xs ys same g a.order b.order a.walks b.walks
 
-    steps_are : map step_again p.steps ≡ map step_again q.steps
+    steps_are : map renumbered_step p.steps ≡ map renumbered_step q.steps
     steps_are = same_steps xs ys same g a.order b.order a.walks b.walks p.steps q.steps a.steps_are b.steps_are
 
     node_is : p.node ≡ q.node
@@ -101,7 +102,8 @@ module _ (answers : AnswersAreOne) (system : System) (valid : IsValid system) (b
       let rest = parts_printed named words ps qs (omega (arith, count)) (λ k x y at_x at_y. each (suc k) x y at_x at_y) in
       λ i. first i ∷ rest i
 
-  pub same_report : (named : NamedSystem) (question : Question) (xs ys : List TreeNode) → nodes_again xs ≡ nodes_again ys → (ps qs : List Part)
+  pub same_report : (named : NamedSystem) (question : Question) (xs ys : List TreeNode) → renumbered_nodes xs ≡ renumbered_nodes ys
+      → (ps qs : List Part)
       → IsTrueReport system question budget ps → IsTrueReport system question budget qs → ArePartsOf xs ps → ArePartsOf ys qs
       → maybe_text named question ps ≡ maybe_text named question qs
   same_report named question xs ys same ps qs true_p true_q are_p are_q =

@@ -16,16 +16,16 @@ use Rattle.sampling.specs.Judged.{IsJudgementOf}
 use Rattle.sampling.specs.Line.{judged, line_of}
 use Rattle.one_text.specs.Laws.{SerialTextsAreOne, SampleLinesAreOne}
 use Rattle.one_answer.specs.Laws.{AnswersAreOne}
-use Rattle.one_text.proofs.Renumbering.{state_again}
+use Rattle.one_text.proofs.Renumbering.{renumbered_state}
 use Rattle.one_text.proofs.OneEnd.{one_serial_end}
 use Rattle.one_text.proofs.OneCertificate.{same_steps, same_lines}
 use Rattle.one_text.proofs.OneReport.{same_report}
 
 -- the goal that was won is one
-same_winner : (u v : State) → state_again u ≡ state_again v → u.winner ≡ v.winner
+same_winner : (u v : State) → renumbered_state u ≡ renumbered_state v → u.winner ≡ v.winner
 same_winner u v same = ap (λ (s : State). s.winner) same
 
-same_nodes : (u v : State) → state_again u ≡ state_again v → (state_again u).nodes ≡ (state_again v).nodes
+same_nodes : (u v : State) → renumbered_state u ≡ renumbered_state v → (renumbered_state u).nodes ≡ (renumbered_state v).nodes
 same_nodes u v same = ap (λ (s : State). s.nodes) same
 
 module _ (answers : AnswersAreOne) where

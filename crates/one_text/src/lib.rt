@@ -25,7 +25,8 @@ pub fn problem_texts_have_one_text()
     one_system();
 }
 
-/// A law, with nothing to run: two lines of one sample system within a budget are the same.
+/// A law, with nothing to run: two lines of one sample system, of at most 512 functions, within a
+/// budget are the same.
 pub fn sample_lines_are_one()
     ensures { SampleLinesAreOne }
 {
