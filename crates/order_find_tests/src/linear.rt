@@ -1,6 +1,6 @@
 //! Linear interpretations, by which all rules are weak, or the usable ones.
-use crate::systems::{addition, huet, toyama, turning};
-use assign_search::{Never, Search, Stop};
+use crate::systems::{addition, huet, never, toyama, turning};
+use assign_search::Search;
 use dp_core::dependency_pairs;
 use finder_cases::{StopAt, all_numbers, system};
 use poly_find::find_poly;
@@ -17,12 +17,12 @@ enum Weak {
     Usable,
 }
 
-fn find<P: Stop>(
+fn find(
     alloc: Global,
     weak: Weak,
     trs: &Trs,
     budget: u64,
-    stop: &mut P,
+    stop: &mut StopAt,
 ) -> Result<Search<LinTable>, Fail> {
     let all = dependency_pairs(alloc, trs)?;
     let problem = all_numbers(alloc, trs, &all)?;
@@ -47,7 +47,8 @@ fn shown(alloc: Global, table: &LinTable) -> Result<Vec<u64>, OutOfMemory> {
 #[test]
 fn interpretation_of_addition(rt: HostRuntime) -> Result<(), Fail> {
     let alloc = rt.alloc();
-    let Search::Found(table) = find(alloc, Weak::All, &addition(alloc)?, 20_000, &mut Never)? else {
+    let Search::Found(table) = find(alloc, Weak::All, &addition(alloc)?, 20_000, &mut never())?
+    else {
         panic!(rt; "no interpretation")
     };
     let wanted = [0, 0, 1, 1, 1, 2, 0, 1, 1, 4_098, 0, 1, 0];
@@ -60,13 +61,13 @@ fn interpretation_of_addition(rt: HostRuntime) -> Result<(), Fail> {
 fn interpretation_of_usable_rules(rt: HostRuntime) -> Result<(), Fail> {
     let alloc = rt.alloc();
     let trs = system(alloc, b"fsgab", &[b"fsx>fx", b"ga>b"])?;
-    let Search::Found(table) = find(alloc, Weak::Usable, &trs, 20_000, &mut Never)? else {
+    let Search::Found(table) = find(alloc, Weak::Usable, &trs, 20_000, &mut never())? else {
         panic!(rt; "no interpretation")
     };
     let wanted = [1, 1, 1, 4_096, 0, 1];
     assert_eq!(rt; shown(alloc, &table)?.as_slice(), wanted.as_slice());
     for trs in [toyama(alloc)?, huet(alloc)?].iter() {
-        let none = find(alloc, Weak::Usable, trs, 20_000, &mut Never)?;
+        let none = find(alloc, Weak::Usable, trs, 20_000, &mut never())?;
         assert!(rt; matches!(&none, Search::NotThere));
     }
     Ok(())
@@ -77,9 +78,9 @@ fn no_interpretation(rt: HostRuntime) -> Result<(), Fail> {
     let alloc = rt.alloc();
     let trs = system(alloc, b"a", &[b"a>a"])?;
     for weak in [Weak::All, Weak::Usable].iter() {
-        let spent = find(alloc, *weak, &trs, 1, &mut Never)?;
+        let spent = find(alloc, *weak, &trs, 1, &mut never())?;
         assert!(rt; matches!(&spent, Search::Spent));
-        let none = find(alloc, *weak, &trs, 20, &mut Never)?;
+        let none = find(alloc, *weak, &trs, 20, &mut never())?;
         assert!(rt; matches!(&none, Search::NotThere));
     }
     Ok(())

@@ -1,6 +1,6 @@
 //! Path orders with filters.
-use crate::systems::{addition, turning};
-use assign_search::{Never, Search, Stop};
+use crate::systems::{addition, never, turning};
+use assign_search::Search;
 use dp_core::dependency_pairs;
 use finder_cases::{StopAt, all_numbers, system};
 use lpo_find::find_lpo;
@@ -9,7 +9,7 @@ use std::alloc::Global;
 use std::test::Fail;
 use trs_core::Trs;
 
-fn find<P: Stop>(alloc: Global, trs: &Trs, budget: u64, stop: &mut P) -> Result<Search<Lpo>, Fail> {
+fn find(alloc: Global, trs: &Trs, budget: u64, stop: &mut StopAt) -> Result<Search<Lpo>, Fail> {
     let all = dependency_pairs(alloc, trs)?;
     let problem = all_numbers(alloc, trs, &all)?;
     Ok(find_lpo(alloc, trs, &all, &problem, budget, stop)?)
@@ -30,9 +30,9 @@ fn shown(alloc: Global, entry: &LpoEntry) -> Result<Vec<u64>, Fail> {
 fn path_order_of_addition(rt: HostRuntime) -> Result<(), Fail> {
     let alloc = rt.alloc();
     let trs = addition(alloc)?;
-    let spent = find(alloc, &trs, 1, &mut Never)?;
+    let spent = find(alloc, &trs, 1, &mut never())?;
     assert!(rt; matches!(&spent, Search::Spent));
-    let Search::Found(order) = find(alloc, &trs, 2, &mut Never)? else {
+    let Search::Found(order) = find(alloc, &trs, 2, &mut never())? else {
         panic!(rt; "no order")
     };
     let mut numbers = Vec::new(alloc);
@@ -52,9 +52,9 @@ fn path_order_of_addition(rt: HostRuntime) -> Result<(), Fail> {
 fn no_path_order(rt: HostRuntime) -> Result<(), Fail> {
     let alloc = rt.alloc();
     let trs = system(alloc, b"a", &[b"a>a"])?;
-    let spent = find(alloc, &trs, 64, &mut Never)?;
+    let spent = find(alloc, &trs, 64, &mut never())?;
     assert!(rt; matches!(&spent, Search::Spent));
-    let none = find(alloc, &trs, 65, &mut Never)?;
+    let none = find(alloc, &trs, 65, &mut never())?;
     assert!(rt; matches!(&none, Search::NotThere));
     Ok(())
 }

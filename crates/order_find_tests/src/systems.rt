@@ -1,5 +1,5 @@
-//! The systems of the tests.
-use finder_cases::system;
+//! The systems and the stops of the tests.
+use finder_cases::{StopAt, system};
 use std::alloc::Global;
 use std::test::Fail;
 use trs_core::Trs;
@@ -27,4 +27,12 @@ pub fn huet(alloc: Global) -> Result<Trs, Fail> {
 /// `p(x, y) -> p(y, x)`: no order is there.
 pub fn turning(alloc: Global) -> Result<Trs, Fail> {
     system(alloc, b"p", &[b"pxy>pyx"])
+}
+
+/// A stop that never comes. All tests take one type of stops, so that each finder is made once.
+pub fn never() -> StopAt {
+    StopAt {
+        left: u64::MAX,
+        stops: 0,
+    }
 }

@@ -1,6 +1,6 @@
 //! Knuth-Bendix orders.
-use crate::systems::{addition, huet, toyama, turning};
-use assign_search::{Never, Search, Stop};
+use crate::systems::{addition, huet, never, toyama, turning};
+use assign_search::Search;
 use dp_core::dependency_pairs;
 use finder_cases::{StopAt, all_numbers};
 use kbo_find::find_kbo;
@@ -9,7 +9,7 @@ use std::alloc::Global;
 use std::test::Fail;
 use trs_core::Trs;
 
-fn find<P: Stop>(alloc: Global, trs: &Trs, budget: u64, stop: &mut P) -> Result<Search<Kbo>, Fail> {
+fn find(alloc: Global, trs: &Trs, budget: u64, stop: &mut StopAt) -> Result<Search<Kbo>, Fail> {
     let all = dependency_pairs(alloc, trs)?;
     let problem = all_numbers(alloc, trs, &all)?;
     Ok(find_kbo(alloc, trs, &all, &problem, budget, stop)?)
@@ -23,7 +23,7 @@ fn shown(entry: &KboEntry) -> (u32, u64, u64) {
 fn weights_of_addition(rt: HostRuntime) -> Result<(), Fail> {
     let alloc = rt.alloc();
     let trs = addition(alloc)?;
-    let Search::Found(order) = find(alloc, &trs, 20_000, &mut Never)? else {
+    let Search::Found(order) = find(alloc, &trs, 20_000, &mut never())? else {
         panic!(rt; "no order")
     };
     let mut entries = Vec::new(alloc);
@@ -39,11 +39,11 @@ fn weights_of_addition(rt: HostRuntime) -> Result<(), Fail> {
 fn no_weights(rt: HostRuntime) -> Result<(), Fail> {
     let alloc = rt.alloc();
     let trs = toyama(alloc)?;
-    let spent = find(alloc, &trs, 6_144, &mut Never)?;
+    let spent = find(alloc, &trs, 6_144, &mut never())?;
     assert!(rt; matches!(&spent, Search::Spent));
-    let none = find(alloc, &trs, 6_145, &mut Never)?;
+    let none = find(alloc, &trs, 6_145, &mut never())?;
     assert!(rt; matches!(&none, Search::NotThere));
-    let spent = find(alloc, &huet(alloc)?, 20_000, &mut Never)?;
+    let spent = find(alloc, &huet(alloc)?, 20_000, &mut never())?;
     assert!(rt; matches!(&spent, Search::Spent));
     Ok(())
 }
