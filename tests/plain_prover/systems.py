@@ -47,6 +47,26 @@ def of_strings(chosen):
     return system(dict.fromkeys(letters, 1), rules)
 
 
+def of_hard_strings(chosen):
+    """One rule on strings for which orders are left, or longer loops."""
+    return system({"f": 1, "g": 1}, [hard_rule(chosen, "fg")])
+
+
+def of_two_parts(chosen):
+    """Two of them on strings of different letters: the rule of each is not usable for the other."""
+    return system(dict.fromkeys("pqfg", 1), [hard_rule(chosen, "pq"), hard_rule(chosen, "fg")])
+
+
+def hard_rule(chosen, letters):
+    """A rule on strings with a dependency pair whose right side is no subterm, and no left side in the right one."""
+    while True:
+        left, right = ([chosen.choice(letters) for _ in range(chosen.randint(2, 4))] for _ in range(2))
+        tails = [right[i + 1 :] for i, letter in enumerate(right) if letter == left[0]]
+        is_easy = all(left[-len(tail) :] == tail for tail in tails if tail)
+        if tails and not is_easy and "".join(left) not in "".join(right):
+            return Rule(string(left), string(right))
+
+
 def string(word):
     t = 0
     for letter in reversed(word):
@@ -82,7 +102,7 @@ def term(chosen, arities, depth, known, root=None):
 
 
 KINDS = {
-    "termination": [by_constructors, of_strings, of_strings, of_terms],
+    "termination": [by_constructors, of_strings, of_hard_strings, of_hard_strings, of_two_parts, of_terms],
     "confluence": [between_constants, below_symbols, by_constructors, of_strings, of_terms],
     "unique": [between_constants, below_symbols, of_strings],
 }
