@@ -1,7 +1,7 @@
 -- The kind `confluence` is sound.
 use Rattle.std.specs.Prelude.{◌≡◌, List, Ok, refl}
 use Rattle.trs_defs.specs.System.{System}
-use Rattle.nonconfluence_theory.proofs.NormalForms.{confluent_unique}
+use Rattle.confluence_theory.proofs.NormalForms.{confluent_unique}
 use Rattle.rewrite_core.specs.Check.{HasOneAnswer, returned}
 use Rattle.rewrite_core.proofs.CheckLaws.{returns_once}
 use Rattle.cert_step.specs.ProofProblem as problem

@@ -12,7 +12,7 @@ use Rattle.trs_defs.specs.Path.{PlacedRule, Follows}
 use Rattle.trs_defs.specs.Claims.{IsForked}
 use Rattle.trs_defs.specs.UniqueNormalForms.{IsSplit}
 use Rattle.trs_defs.proofs.Places.{derivation_of_follows}
-use Rattle.nonconfluence_theory.proofs.NormalForms.{split_forked}
+use Rattle.confluence_theory.proofs.NormalForms.{split_forked}
 use Rattle.nonjoin.proofs.ApartLaws.{system_apart}
 use Rattle.rewrite_core.specs.declared.forks.ForkTest.{ForkTest}
 use Rattle.rewrite_core.specs.declared.forks.ForkTest.TheVariants.{Normal, Apart}

@@ -1,6 +1,6 @@
 -- Opposite claims exclude each other.
 use Rattle.pair_theory.proofs.Termination.{endless_not_terminating}
-use Rattle.nonconfluence_theory.proofs.NormalForms.{forked_not_confluent, split_not_unique}
+use Rattle.confluence_theory.proofs.NormalForms.{forked_not_confluent, split_not_unique}
 use Rattle.cert_step.specs.declared.claim.Claim.TheVariants.{Terminating, Nonterminating, Confluent, Nonconfluent, Unique, Nonunique}
 use Rattle.cert_step.specs.Opposites.{OppositeClaimsExclude}
 

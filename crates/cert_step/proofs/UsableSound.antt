@@ -7,7 +7,7 @@ use Rattle.pair_theory.specs.ReductionPair.{AllTerms}
 use Rattle.pair_theory.proofs.PairList.{listed_are_pairs}
 use Rattle.poly_lin.specs.Table.{coefficient_in}
 use Rattle.poly_lin.specs.Laws.{above_first, above_second}
-use Rattle.usable_theory.proofs.UsableProblems.{usable_theorem}
+use Rattle.order_theory.proofs.UsableProblems.{usable_theorem}
 use Rattle.usable_rules.proofs.UsableConclusions.{Suffices, usable_steps_conclude, usable_steps_once, usable_steps_leave}
 use Rattle.cert_step.specs.Kind.{IsSound}
 use Rattle.cert_step.specs.PolyKind.{poly_comparing}

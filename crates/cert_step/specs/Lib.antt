@@ -25,3 +25,5 @@ pub mod Refused
 pub mod Tables
 pub mod Opposites
 pub mod Laws
+pub mod Nodes
+pub mod NodeLaws

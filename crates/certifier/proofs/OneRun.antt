@@ -10,9 +10,9 @@ use Rattle.cert_step.specs.Refused.{IsStepRefused}
 use Rattle.cert_step.proofs.Once.{applies_once, not_both, refused_once}
 use Rattle.certifier.specs.declared.rejected.Rejected.{Rejected}
 use Rattle.certifier.specs.declared.rejected.Rejected.TheVariants.{Problem, Text, Version, Headline, NoNode, Decided, Step, Open, OutOfMemory}
-use Rattle.proof_nodes.specs.Nodes.{Node, open_node, nodes_after, Makes, first_nodes, IsAccepted, IsLeftOpen}
+use Rattle.cert_step.specs.Nodes.{Node, open_node, nodes_after, Makes, first_nodes, IsAccepted, IsLeftOpen}
 use Rattle.certifier.specs.Checked.{IsStuck, AreRejected}
-use Rattle.proof_nodes.proofs.Soundness.{same_problem}
+use Rattle.cert_step.proofs.NodeSoundness.{same_problem}
 
 -- ---- steps that are made
 

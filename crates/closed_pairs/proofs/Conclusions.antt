@@ -10,7 +10,7 @@ use Rattle.trs_defs.specs.Joinable.{IsJoinable}
 use Rattle.trs_defs.specs.Claims.{IsTerminating, IsConfluent}
 use Rattle.trs_defs.specs.Path.{PlacedRule, Follows}
 use Rattle.trs_defs.proofs.Places.{derivation_of_follows}
-use Rattle.abstract_confluence.specs.Confluence.{JoinsStrongly}
+use Rattle.confluence_theory.specs.Confluence.{JoinsStrongly}
 use Rattle.confluence_theory.specs.Linear.{AreLeftLinear, AreRightLinear}
 use Rattle.confluence_theory.specs.ParallelStep.{ParallelStepBy}
 use Rattle.confluence_theory.specs.ParallelPositions.{ArePairwiseParallel}

@@ -5,8 +5,8 @@ use Rattle.std.proofs.lemmas.List.Elements.{recursion_from_All}
 use Rattle.trs_defs.specs.System.{System}
 use Rattle.cert_step.specs.ProofStep.{ProofNodeStep}
 use Rattle.tree_states.specs.Reports.{IsFoundStep}
-use Rattle.proof_text.specs.InOrder.{AreInOrder}
-use Rattle.proof_text.proofs.FoundInOrder.{found_in_order}
+use Rattle.conclusion.specs.InOrder.{AreInOrder}
+use Rattle.conclusion.proofs.FoundInOrder.{found_in_order}
 
 each_in_order : (system : System) (budget : ℕ) (steps : List ProofNodeStep) → AllByRecursion (λ (s : ProofNodeStep). IsFoundStep system budget s.step) steps → AreInOrder steps
 each_in_order system budget [] found = tt

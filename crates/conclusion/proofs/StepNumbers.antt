@@ -7,7 +7,7 @@ use Rattle.cert_step.specs.declared.claim.Claim.{Claim}
 use Rattle.cert_step.specs.ProofProblem.{ProofProblem}
 use Rattle.cert_step.specs.ProofStep.{ProofNodeStep, IsWellMade}
 use Rattle.step_text.specs.Ranges.{IsPrintable}
-use Rattle.proof_nodes.specs.Nodes.{Node, open_node, nodes_after, Makes, AreDecided, first_nodes, IsAccepted}
+use Rattle.cert_step.specs.Nodes.{Node, open_node, nodes_after, Makes, AreDecided, first_nodes, IsAccepted}
 
 -- ---- each step closes one node, and in the end all are closed
 

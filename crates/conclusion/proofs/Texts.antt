@@ -5,7 +5,7 @@ use Rattle.trs_defs.proofs.Members.{in_of_get}
 use Rattle.names_text.specs.Named.{NamedSystem}
 use Rattle.cert_step.specs.declared.claim.Claim.{Claim}
 use Rattle.cert_step.specs.ProofStep.{ProofNodeStep}
-use Rattle.proof_text.specs.ProofOf.{Proves}
+use Rattle.conclusion.specs.ProofOf.{Proves}
 use Rattle.report_text.specs.GoalLines.{report_lines}
 use Rattle.tree_states.specs.declared.question.Question.{Question}
 use Rattle.tree_states.specs.Questions.{goals_of, claims}

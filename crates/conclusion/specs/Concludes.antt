@@ -6,7 +6,7 @@ use Rattle.sexp_core.specs.Printed.{lines}
 use Rattle.cert_step.specs.declared.claim.Claim.{Claim}
 use Rattle.cert_step.specs.ProofStep.{ProofNodeStep}
 use Rattle.cert_text.specs.CertificateText.{certificate_items}
-use Rattle.proof_text.specs.ProofOf.{proof_of, Proves}
+use Rattle.conclusion.specs.ProofOf.{proof_of, Proves}
 use Rattle.tree_states.specs.declared.question.Question.{Question}
 use Rattle.tree_states.specs.Questions.{claims}
 use Rattle.tree_states.specs.Reports.{Part, IsTrueReport}

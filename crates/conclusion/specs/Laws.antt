@@ -3,7 +3,7 @@ use Rattle.std.specs.Prelude.{List, ℕ}
 use Rattle.names_text.specs.Named.{NamedSystem, IsNamed}
 use Rattle.cert_step.specs.declared.claim.Claim.{Claim}
 use Rattle.cert_step.specs.ProofProblem.{Says}
-use Rattle.proof_text.specs.ProofOf.{Proves}
+use Rattle.conclusion.specs.ProofOf.{Proves}
 
 -- where a text proves a claim, it is true of the system
 abbrev pub ProvedClaimsAreTrue : Type 0

@@ -5,7 +5,7 @@ ghost use Rattle.conclusion.specs.SerialText.{IsSerialText, IsEnd};
 
 use cert_step::NodeStep;
 use names_text::NamedTrs;
-use proof_text::print_proof;
+use crate::print_proof;
 use report_text::print_report;
 use std::alloc::Global;
 use strategies::Limits;

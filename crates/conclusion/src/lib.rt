@@ -1,8 +1,13 @@
-//! The answer to a question about a system: what the proof tree found out, as a text.
+//! The answer to a question about a system: what the proof tree found out, as a text. A proof that
+//! was found is printed as a certificate.
 #![tactic(auto)]
 
 mod answering;
+mod in_order;
 mod laws;
+mod printing;
 
 pub use answering::answer_question;
+pub use in_order::{found_steps_are_in_order, steps_apply_in_order};
 pub use laws::proved_claims_are_true;
+pub use printing::print_proof;

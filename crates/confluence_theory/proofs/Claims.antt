@@ -5,8 +5,8 @@ use Rattle.trs_defs.specs.Member.{In}
 use Rattle.trs_defs.specs.Tree.{Tree, Trees}
 use Rattle.trs_defs.specs.System.{RewriteRule, System, IsSystem, Numbered, Among}
 use Rattle.trs_defs.specs.Joinable.{IsJoinable}
-use Rattle.abstract_confluence.specs.Confluence.{JoinsStrongly}
-use Rattle.abstract_confluence.specs.LabelledPath.{LabelledPath}
+use Rattle.confluence_theory.specs.Confluence.{JoinsStrongly}
+use Rattle.confluence_theory.specs.LabelledPath.{LabelledPath}
 use Rattle.confluence_theory.specs.Linear.{AreLeftLinear, AreRightLinear}
 use Rattle.confluence_theory.specs.ParallelStep.{ParallelStep, ParallelSteps, at_variable, at_root, below_root, no_more, one_more, ParallelStepBy}
 use Rattle.confluence_theory.specs.Peak.{Peak, Covers}
@@ -15,9 +15,9 @@ use Rattle.trs_defs.specs.Step.{RootStep, Step}
 use Rattle.trs_defs.specs.Claims.{IsTerminating, IsConfluent}
 use Rattle.trs_defs.proofs.Derivations.{run_of_reaches}
 use Rattle.trs_defs.proofs.BoundLaws.{bound_of_fewer}
-use Rattle.abstract_confluence.proofs.Joins.{MeetsStrongly}
+use Rattle.confluence_theory.proofs.Joins.{MeetsStrongly}
 use Rattle.trs_defs.proofs.Runs.{once_along, each}
-use Rattle.abstract_confluence.proofs.Sides.{side_of_path}
+use Rattle.confluence_theory.proofs.Sides.{side_of_path}
 use Rattle.confluence_theory.proofs.Free.{IsSeparate, separate_linear}
 use Rattle.confluence_theory.proofs.Families.{AnyRule, AnyRoot}
 use Rattle.confluence_theory.proofs.Systems.{step_of_any, Listed, family_of, covers_by, numbered_root, any_of_step, joins_any, joinable_any, confluent_system}

@@ -8,8 +8,8 @@ use Rattle.trs_defs.specs.Joinable.{IsJoinable}
 use Rattle.trs_defs.specs.NormalForm.{IsNormalForm}
 use Rattle.confluence_theory.specs.Linear.{AreLeftLinear, AreRightLinear}
 use Rattle.confluence_theory.specs.Peak.{Peak, Covers}
-use Rattle.abstract_confluence.specs.LabelledPath.{LabelledPath}
-use Rattle.abstract_confluence.specs.RanksFit.{RanksFit}
+use Rattle.confluence_theory.specs.LabelledPath.{LabelledPath}
+use Rattle.confluence_theory.specs.RanksFit.{RanksFit}
 use Rattle.confluence_theory.specs.RuleRanks.{NumberedStep, rank_of}
 use Rattle.trs_defs.specs.Step.{Step}
 use Rattle.trs_defs.specs.Claims.{IsForked}

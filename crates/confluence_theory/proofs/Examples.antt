@@ -10,7 +10,7 @@ use Rattle.confluence_theory.specs.RuleRanks.{IsDecreasing}
 use Rattle.trs_defs.specs.Run.{Same}
 use Rattle.trs_defs.specs.Bounded.{IsBoundedBy}
 use Rattle.trs_defs.specs.Joinable.{IsJoinable}
-use Rattle.abstract_confluence.specs.Confluence.{JoinsStrongly}
+use Rattle.confluence_theory.specs.Confluence.{JoinsStrongly}
 use Rattle.trs_defs.specs.Claims.{IsConfluent, IsTerminating}
 use Rattle.confluence_theory.proofs.Claims.{joined, strongly_closed, decreasing}
 use Rattle.confluence_theory.proofs.Constants.{constant, rewrites, peak_of, nullary, AreConstant, constant_system, constant_left, constant_right, symbols_of, HasConstantPeaks, listed_at, constant_covers, each_of_two, constant_step, constant_reaches, constant_next, nullary_arity, variable_normal}

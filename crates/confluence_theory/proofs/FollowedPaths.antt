@@ -5,7 +5,7 @@ use Rattle.trs_defs.specs.Tree.{Tree}
 use Rattle.trs_defs.specs.System.{RewriteRule, Numbered}
 use Rattle.trs_defs.specs.Step.{here, RootStep}
 use Rattle.trs_defs.specs.Path.{PlacedRule, StepsAt, Follows}
-use Rattle.abstract_confluence.specs.LabelledPath.{LabelledPath}
+use Rattle.confluence_theory.specs.LabelledPath.{LabelledPath}
 use Rattle.confluence_theory.specs.RuleRanks.{NumberedStep}
 use Rattle.trs_defs.proofs.Contexts.{inside_at}
 

@@ -1,6 +1,6 @@
 -- A system whose critical peaks join is locally confluent, linear or not.
 use Rattle.std.proofs.Common.{ℕ, inl, inr, refl}
-use Rattle.abstract_confluence.proofs.Joins.{Joins, StepsJoin}
+use Rattle.confluence_theory.proofs.Joins.{Joins, StepsJoin}
 use Rattle.confluence_theory.proofs.Families.{AnyRule, AnyOne, HasInstance, of_instance, CoversBy, IsFamily}
 use Rattle.trs_defs.specs.Bounded.{IsBoundedBy}
 use Rattle.trs_defs.specs.Run.{Run, Stay}
@@ -8,7 +8,7 @@ use Rattle.trs_defs.specs.Step.{Inside, InsideOne, here, deep, first, later, Roo
 use Rattle.trs_defs.specs.Substitution.{apply, apply_all}
 use Rattle.trs_defs.specs.Tree.{Tree, Trees, app, cons}
 use Rattle.trs_defs.proofs.Runs.{one, then, each, run_along}
-use Rattle.abstract_confluence.proofs.BoundedRuns.{joins_within}
+use Rattle.confluence_theory.proofs.BoundedRuns.{joins_within}
 use Rattle.trs_defs.proofs.Substitutions.{step_closed}
 use Rattle.confluence_theory.proofs.Substitutions.{but}
 use Rattle.confluence_theory.proofs.AnyInstances.{split_any_all, copies_any}

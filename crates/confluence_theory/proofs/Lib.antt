@@ -24,3 +24,16 @@ mod Counterexamples
 mod LeftLinearNeeded
 mod StrongHalfNeeded
 mod RightLinearNeeded
+pub mod Joins
+pub mod BoundedRuns
+pub mod BetweenRuns
+pub mod Strong
+pub mod Tiles
+pub mod Decreasing
+pub mod Sides
+pub mod Example
+pub mod NormalForms
+pub mod CapsApart
+pub mod CapClash
+mod ForkExamples
+mod CapExample

@@ -1,10 +1,10 @@
 -- A left-linear system whose critical peaks are closed by a parallel step from left to right is confluent.
 use Rattle.std.proofs.Common.{ℕ, zero, suc, ◌+◌, ◌<◌, ◌≤◌, ◌≡◌, ◌⊎◌, inl, inr, refl, sym, ◌∙◌, ap, subst, arith}
 use native.Mathlib.Decide.{ℕ_discrete}
-use Rattle.abstract_confluence.proofs.Joins.{RunsJoin}
+use Rattle.confluence_theory.proofs.Joins.{RunsJoin}
 use Rattle.confluence_theory.proofs.Families.{AnyRule, AnyOne, HasInstance, of_instance, CoversBy, AnyRoot, IsFamily, Redex, redex_of, one_result}
 use Rattle.confluence_theory.proofs.Free.{IsFree, AreFree, IsSeparate, AreSeparate}
-use Rattle.abstract_confluence.specs.Confluence.{HasDiamond}
+use Rattle.confluence_theory.specs.Confluence.{HasDiamond}
 use Rattle.confluence_theory.specs.Overlap.{Overlap, OverlapOne, overlap_here, overlap_deep, overlap_first, overlap_later}
 use Rattle.confluence_theory.specs.ParallelStep.{ParallelStep, ParallelSteps, at_variable, at_root, below_root, no_more, one_more}
 use Rattle.trs_defs.specs.Run.{Run, Stay}
@@ -14,7 +14,7 @@ use Rattle.trs_defs.specs.Substitution.{apply, apply_all}
 use Rattle.trs_defs.specs.Tree.{Tree, Trees, var, app, nil, cons}
 use Rattle.trs_defs.proofs.Substitutions.{root_step_closed}
 use Rattle.trs_defs.proofs.Runs.{one, then, run_along}
-use Rattle.abstract_confluence.proofs.BetweenRuns.{between_confluent}
+use Rattle.confluence_theory.proofs.BetweenRuns.{between_confluent}
 use Rattle.confluence_theory.proofs.Substitutions.{but, but_at, instance_eq, instances_eq}
 
 -- a parallel step with the sizes of its redexes added up

@@ -7,7 +7,7 @@ use Rattle.trs_defs.specs.Substitution.{apply}
 use Rattle.trs_defs.specs.Path.{PlacedRule, StepsAt, Follows}
 use Rattle.confluence_theory.specs.ParallelPositions.{ArePairwiseParallel}
 use Rattle.confluence_theory.specs.ParallelStep.{ParallelStepBy}
-use Rattle.abstract_confluence.specs.LabelledPath.{LabelledPath}
+use Rattle.confluence_theory.specs.LabelledPath.{LabelledPath}
 use Rattle.confluence_theory.specs.RuleRanks.{NumberedStep}
 use Rattle.confluence_theory.specs.CriticalPeak.{Overlaps}
 use Rattle.confluence_theory.proofs.FollowedPaths.{numbered_path}

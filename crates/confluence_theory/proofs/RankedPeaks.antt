@@ -1,16 +1,16 @@
 -- A linear system whose critical peaks have decreasing sides is confluent.
 use Rattle.std.proofs.Common.{ℕ, ◌≡◌, refl, subst}
-use Rattle.abstract_confluence.proofs.Joins.{RunsJoin}
+use Rattle.confluence_theory.proofs.Joins.{RunsJoin}
 use Rattle.confluence_theory.proofs.Families.{AnyRule, HasInstance, of_instance, CoversBy, IsFamily}
 use Rattle.confluence_theory.proofs.Free.{IsSeparate}
-use Rattle.abstract_confluence.specs.Ranks.{Side, IsLocallyDecreasing}
+use Rattle.confluence_theory.specs.Ranks.{Side, IsLocallyDecreasing}
 use Rattle.trs_defs.specs.Run.{Stay, AtMostOne, Same, Once}
 use Rattle.trs_defs.specs.Step.{Inside, InsideOne, here, deep, first, later, RootStep, StepBy}
 use Rattle.trs_defs.specs.Substitution.{apply}
 use Rattle.trs_defs.specs.Tree.{Tree, Trees, app, cons}
 use Rattle.trs_defs.proofs.Runs.{each, once_along}
-use Rattle.abstract_confluence.proofs.Sides.{side_along}
-use Rattle.abstract_confluence.proofs.Decreasing.{decreasing_confluent}
+use Rattle.confluence_theory.proofs.Sides.{side_along}
+use Rattle.confluence_theory.proofs.Decreasing.{decreasing_confluent}
 use Rattle.trs_defs.proofs.Substitutions.{step_closed}
 use Rattle.confluence_theory.proofs.RulePeaks.{peak}
 use Rattle.confluence_theory.proofs.NestedSteps.{linear_nested}

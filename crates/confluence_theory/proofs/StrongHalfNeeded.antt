@@ -8,7 +8,7 @@ use Rattle.trs_defs.specs.Variable.{occurrences}
 use Rattle.trs_defs.specs.Substitution.{apply}
 use Rattle.trs_defs.specs.NormalForm.{IsNormalForm}
 use Rattle.trs_defs.specs.Run.{Same}
-use Rattle.abstract_confluence.specs.Confluence.{JoinsStrongly}
+use Rattle.confluence_theory.specs.Confluence.{JoinsStrongly}
 use Rattle.trs_defs.specs.System.{RewriteRule, System, IsRule, IsSystem, Numbered}
 use Rattle.confluence_theory.specs.Linear.{AreLeftLinear, AreRightLinear}
 use Rattle.confluence_theory.specs.Overlap.{OverlapOne, overlap_first, overlap_later}

@@ -1,6 +1,6 @@
 -- A linear system whose critical peaks join strongly is confluent.
 use Rattle.std.proofs.Common.{ℕ}
-use Rattle.abstract_confluence.proofs.Joins.{RunsJoin, MeetsStrongly}
+use Rattle.confluence_theory.proofs.Joins.{RunsJoin, MeetsStrongly}
 use Rattle.confluence_theory.proofs.Families.{AnyRule, AnyOne, HasInstance, of_instance, CoversBy, IsFamily}
 use Rattle.confluence_theory.proofs.Free.{IsSeparate}
 use Rattle.trs_defs.specs.Run.{Stay, AtMostOne, Same, Once}
@@ -8,7 +8,7 @@ use Rattle.trs_defs.specs.Step.{Inside, InsideOne, here, deep, first, later, Roo
 use Rattle.trs_defs.specs.Substitution.{apply}
 use Rattle.trs_defs.specs.Tree.{Tree, Trees, app, cons}
 use Rattle.trs_defs.proofs.Runs.{one, run_along, once_along, at_most_run}
-use Rattle.abstract_confluence.proofs.Strong.{strong_confluent}
+use Rattle.confluence_theory.proofs.Strong.{strong_confluent}
 use Rattle.trs_defs.proofs.Substitutions.{step_closed}
 use Rattle.confluence_theory.proofs.RulePeaks.{peak}
 use Rattle.confluence_theory.proofs.NestedSteps.{linear_nested}

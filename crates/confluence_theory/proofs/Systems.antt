@@ -14,7 +14,7 @@ use Rattle.trs_defs.proofs.Members.{in_of_get, get_of_in}
 use Rattle.trs_defs.proofs.Substitutions.{same_values, same_instance}
 use Rattle.trs_defs.proofs.Derivations.{run_of_reaches}
 use Rattle.trs_defs.proofs.StepLaws.{step_of_more}
-use Rattle.abstract_confluence.proofs.Joins.{Joins, RunsJoin, joinable_of}
+use Rattle.confluence_theory.proofs.Joins.{Joins, RunsJoin, joinable_of}
 use Rattle.trs_defs.proofs.Runs.{each}
 use Rattle.confluence_theory.proofs.Families.{AnyRule, AnyOne, AnyRoot, IsFamily, HasInstance, CoversBy}
 

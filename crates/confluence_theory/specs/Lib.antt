@@ -5,3 +5,8 @@ pub mod Overlap
 pub mod Peak
 pub mod CriticalPeak
 pub mod RuleRanks
+pub mod Confluence
+pub mod Ranks
+pub mod LabelledPath
+pub mod RanksFit
+pub mod Clash

@@ -4,8 +4,8 @@ use Rattle.std.specs.Prelude.{ℕ, List, map, slice_get, unwrap_or}
 use Rattle.trs_defs.specs.Tree.{Tree}
 use Rattle.trs_defs.specs.System.{RewriteRule, Numbered}
 use Rattle.trs_defs.specs.Step.{StepBy}
-use Rattle.abstract_confluence.specs.LabelledPath.{LabelledPath}
-use Rattle.abstract_confluence.specs.RanksFit.{RanksFit}
+use Rattle.confluence_theory.specs.LabelledPath.{LabelledPath}
+use Rattle.confluence_theory.specs.RanksFit.{RanksFit}
 use Rattle.confluence_theory.specs.Peak.{Peak}
 
 -- a step of rule number k

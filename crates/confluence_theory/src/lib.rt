@@ -1,7 +1,10 @@
-//! What shows that a term rewriting system is confluent: lists of peaks that cover it, and how
-//! certificates come by them. Each function is a theorem: its contract is the statement, and it
-//! does nothing.
+//! What shows that a term rewriting system is confluent, or not. Of any relation: conditions on
+//! single steps. Of a system: lists of peaks that cover it, and how certificates come by them; forks.
+//! Each function is a theorem: its contract is the statement, and it does nothing.
 #![tactic(auto)]
+
+mod nonconfluence;
+mod relations;
 
 ghost use Rattle.std.specs.Prelude.{ℕ, List, ◌≡◌, ◌<◌, map, IsTrue};
 ghost use Rattle.trs_defs.specs.Member.{In};
@@ -14,14 +17,22 @@ ghost use Rattle.trs_defs.specs.Joinable.{IsJoinable};
 ghost use Rattle.trs_defs.specs.Step.{Step};
 ghost use Rattle.trs_defs.specs.Claims.{IsTerminating, IsConfluent};
 ghost use Rattle.trs_defs.specs.Path.{PlacedRule, Follows};
-ghost use Rattle.abstract_confluence.specs.Confluence.{JoinsStrongly};
-ghost use Rattle.abstract_confluence.specs.LabelledPath.{LabelledPath};
+ghost use Rattle.confluence_theory.specs.Confluence.{JoinsStrongly};
+ghost use Rattle.confluence_theory.specs.LabelledPath.{LabelledPath};
 ghost use Rattle.confluence_theory.specs.ParallelStep.{ParallelStepBy};
 ghost use Rattle.confluence_theory.specs.Linear.{AreLeftLinear, AreRightLinear};
 ghost use Rattle.confluence_theory.specs.Peak.{Peak, Covers};
 ghost use Rattle.confluence_theory.specs.RuleRanks.{IsDecreasing, NumberedStep};
 ghost use Rattle.confluence_theory.specs.CriticalPeak.{Overlaps, HasCriticalPeaks};
 ghost use Rattle.confluence_theory.specs.ParallelPositions.{ArePairwiseParallel};
+
+pub use nonconfluence::{
+    caps_apart, clashing_caps, different_normal_forms, forked_is_not_confluent,
+    split_is_not_unique, unique_normal_forms,
+};
+pub use relations::{
+    Ranked, Refined, Relation, decreasing_ranks, diamond, newman, strongly_confluent,
+};
 
 /// The critical pair lemma's first half (Baader and Nipkow, section 6.2): a list with all critical
 /// peaks covers the system.

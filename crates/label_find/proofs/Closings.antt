@@ -5,7 +5,7 @@ use Rattle.trs_defs.specs.Member.{In}
 use Rattle.trs_defs.specs.Tree.{Tree}
 use Rattle.trs_defs.specs.System.{RewriteRule}
 use Rattle.trs_defs.proofs.Members.{in_map, of_map}
-use Rattle.abstract_confluence.specs.RanksFit.{RanksFit}
+use Rattle.confluence_theory.specs.RanksFit.{RanksFit}
 use Rattle.confluence_theory.specs.RuleRanks.{rank_of}
 use Rattle.term_pool.specs.Pooled.{AreDistinct, Extends, tree_at}
 use Rattle.term_pool.specs.Listed.{Listed}

@@ -9,7 +9,7 @@ use Rattle.trs_defs.specs.Variable.{is_listed}
 use Rattle.trs_defs.specs.Path.{PlacedRule}
 use Rattle.trs_defs.specs.System.{RewriteRule}
 use Rattle.trs_defs.proofs.Members.{in_map, of_map}
-use Rattle.abstract_confluence.specs.RanksFit.{RanksFit}
+use Rattle.confluence_theory.specs.RanksFit.{RanksFit}
 use Rattle.confluence_theory.specs.RuleRanks.{rank_of}
 use Rattle.assign_search.proofs.Refuting.{or_left, or_right}
 use Rattle.term_pool.specs.Pooled.{AreDistinct, Extends, tree_at}

@@ -6,7 +6,7 @@ use Rattle.std.proofs.lemmas.List.{drop_more}
 use Rattle.std.proofs.Math.Decide.{dec_lt, ℕ_discrete}
 use Rattle.std.proofs.lemmas.Bool.Decides.{nat_tests}
 use Rattle.trs_defs.specs.Member.{In, in_first, in_rest}
-use Rattle.abstract_confluence.specs.RanksFit.{AreBelowOne, RanksFit}
+use Rattle.confluence_theory.specs.RanksFit.{AreBelowOne, RanksFit}
 use Rattle.confluence_theory.specs.RuleRanks.{rank_of}
 use Rattle.assign_search.proofs.Refuting.{or_left, or_right, and_true, both_true}
 use Rattle.trs_defs.specs.Path.{PlacedRule}

@@ -4,7 +4,7 @@ use Rattle.std.proofs.Common.{zero, suc, sym, ◌∙◌, subst, arith}
 use Rattle.trs_defs.specs.System.{System, RewriteRule}
 use Rattle.trs_defs.specs.Path.{PlacedRule, Follows}
 use Rattle.trs_defs.specs.Tree.{Tree}
-use Rattle.abstract_confluence.specs.RanksFit.{RanksFit}
+use Rattle.confluence_theory.specs.RanksFit.{RanksFit}
 use Rattle.confluence_theory.specs.RuleRanks.{rank_of}
 use Rattle.assign_search.specs.Puzzle.{Puzzle}
 use Rattle.assign_search.proofs.Laws.{found_solves, InDomainFrom}

@@ -1,7 +1,7 @@
 -- Ranks that fit, with one more rank before them.
 use Rattle.std.specs.Prelude.{◌≡◌, ◌≢◌, ◌≤◌, ◌<◌, ◌↔◌, ℕ, Bool, true, false, List, [], ◌∷◌}
 use Rattle.std.proofs.Common.{inl, inr, arith}
-use Rattle.abstract_confluence.specs.RanksFit.{AreBelowOne, RanksFit}
+use Rattle.confluence_theory.specs.RanksFit.{AreBelowOne, RanksFit}
 use Rattle.rule_label.specs.FittingRanks.{FitAfter}
 
 module _ (a b : ℕ) where

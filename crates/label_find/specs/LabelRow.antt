@@ -4,7 +4,7 @@ use Rattle.std.specs.Prelude.{◌≡◌, ◌<◌, ◌≤◌, ◌↔◌, ℕ, Lis
 use Rattle.trs_defs.specs.Variable.{is_listed}
 use Rattle.trs_defs.specs.Path.{PlacedRule}
 use Rattle.trs_defs.specs.System.{RewriteRule}
-use Rattle.abstract_confluence.specs.RanksFit.{RanksFit}
+use Rattle.confluence_theory.specs.RanksFit.{RanksFit}
 use Rattle.confluence_theory.specs.RuleRanks.{rank_of}
 use Rattle.assign_search.specs.Puzzle.{Puzzle, solution_of, count_of}
 use Rattle.term_pool.specs.Listed.{Listed}

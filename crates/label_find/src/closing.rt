@@ -1,6 +1,6 @@
 //! The first two paths that close a peak by given ranks.
 ghost use Rattle.std.specs.Prelude.{◌≡◌, ◌<◌, ◌↔◌, All, IsTrue, IfOk, MatchOption, length};
-ghost use Rattle.abstract_confluence.specs.RanksFit.{RanksFit};
+ghost use Rattle.confluence_theory.specs.RanksFit.{RanksFit};
 ghost use Rattle.confluence_theory.specs.RuleRanks.{rank_of as rank_of_rule};
 ghost use Rattle.rule_label.specs.Labelled.{ranks_along};
 ghost use Rattle.term_pool.specs.Pooled.{AreDistinct};

@@ -18,7 +18,7 @@ use Rattle.tree_states.specs.Verdicts.{IsFirstWinner}
 use Rattle.tree_states.specs.Events.{Claims, RunsAt, IsOver, Decides, EndsLate, Follows, with_claim, without, ended, nodes_with}
 use Rattle.tree_states.specs.Replies.{event_of_found}
 use Rattle.worker_pool.specs.Serial.{entry_of}
-use Rattle.proof_text.proofs.InOrder.{applies_in_order}
+use Rattle.conclusion.proofs.InOrder.{applies_in_order}
 use Rattle.one_answer.specs.Laws.{renumbered}
 use Rattle.one_text.proofs.Renumbering.{renumbered_decided, renumbered_node, renumbered_nodes, renumbered_state, there_again, done_before, over_again, over_before, first_again, free_again, some_free_before}
 

@@ -8,8 +8,8 @@ use Rattle.tree_states.specs.Reports.{Walks}
 use Rattle.tree_states.proofs.Lookups.{one_value}
 use Rattle.conclusion.specs.Concludes.{proof_lines}
 use Rattle.conclusion.specs.SerialText.{won, lost}
-use Rattle.sample_family.specs.Family.{sample}
-use Rattle.sample_family.proofs.SampleSystems.{sample_valid}
+use Rattle.sampling.specs.Family.{sample}
+use Rattle.sampling.proofs.SampleSystems.{sample_valid}
 use Rattle.sampling.specs.declared.judgement.Judgement.{Judgement}
 use Rattle.sampling.specs.declared.judgement.Judgement.TheVariants.{Proved, Refuted, Open}
 use Rattle.sampling.specs.Judged.{IsJudgementOf}

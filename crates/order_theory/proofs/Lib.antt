@@ -13,3 +13,6 @@ pub mod KnuthPair
 pub mod Removals
 mod Examples
 pub mod Absent
+pub mod Usable
+pub mod UsableProblems
+mod UsableExamples

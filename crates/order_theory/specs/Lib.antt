@@ -3,3 +3,4 @@ pub mod PathTest
 pub mod ArgumentFilter
 pub mod LinearInterpretation
 pub mod KnuthBendix
+pub mod UsableRules

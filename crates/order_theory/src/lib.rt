@@ -1,7 +1,9 @@
 //! Orders for termination: the lexicographic path order, linear interpretations and the
-//! Knuth-Bendix order. Each function is a theorem: its contract is the statement, and it does
+//! Knuth-Bendix order; and usable rules. Each function is a theorem: its contract is the statement, and it does
 //! nothing.
 #![tactic(auto)]
+
+mod usable;
 
 ghost use Rattle.std.specs.Prelude.{◌≡◌, ◌≤◌, Some, ℕ, List, Option, ◌⊎◌, ◌↔◌, IsTrue, length};
 ghost use Rattle.trs_defs.specs.Member.{In};
@@ -17,6 +19,8 @@ ghost use Rattle.order_theory.specs.ArgumentFilter.{ArgumentFilter, PathStrict, 
 ghost use Rattle.order_theory.specs.LinearInterpretation.{LinearWeak, LinearStrict, CoefficientWeak, CoefficientStrict};
 ghost use Rattle.order_theory.specs.KnuthBendix.{KnuthGreater, KnuthWeak, arity_with_marks, IsAdmissible};
 ghost use Rattle.pair_theory.specs.Over.{IsOver};
+
+pub use usable::{remove_by_usable_interpretation, remove_by_usable_rules, usable_symbols};
 
 /// The lexicographic path order with argument filters is a reduction pair on all terms (Kamin and
 /// Lévy; Baader and Nipkow, section 5.4; well-foundedness as in Buchholz, Proof-theoretic analysis

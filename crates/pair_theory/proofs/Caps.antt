@@ -5,9 +5,9 @@ use Rattle.trs_defs.specs.Substitution.{apply_all}
 use Rattle.pair_theory.specs.Terminates.{ArgumentStep}
 use Rattle.trs_defs.specs.Run.{Run}
 use Rattle.pair_theory.specs.Marked.{Marked, marked}
-use Rattle.cap_theory.specs.Cap.{EachFits, Caps}
+use Rattle.trs_defs.specs.Cap.{EachFits, Caps}
 use Rattle.pair_theory.specs.Chain.{ChainStep, link}
-use Rattle.cap_theory.proofs.CapLaws.{instances_fit, runs_fit}
+use Rattle.trs_defs.proofs.CapLaws.{instances_fit, runs_fit}
 
 module _ (rule : Tree → Tree → Type 0) where
   -- some instance of the next left side's arguments fits the caps of the right side's

@@ -9,7 +9,7 @@ use Rattle.trs_defs.specs.Substitution.{apply_all}
 use Rattle.pair_theory.specs.Marked.{marked}
 use Rattle.pair_theory.specs.DependencyPair.{DependencyPair, dependency_pairs}
 use Rattle.pair_theory.specs.PairProblem.{IsFiniteProblem, IsPair}
-use Rattle.cap_theory.specs.Cap.{Caps, cap_variable, caps_nil, caps_cons, EachFits}
+use Rattle.trs_defs.specs.Cap.{Caps, cap_variable, caps_nil, caps_cons, EachFits}
 use Rattle.pair_theory.specs.PairGraph.{IsCapEstimate, IsGrouped, GroupEnds, by_problem, by_no_edge}
 use Rattle.trs_defs.proofs.Members.{in_of_get}
 use Rattle.pair_theory.proofs.PairList.{listed_are_pairs}

@@ -5,7 +5,7 @@ use Rattle.pair_theory.specs.Accessible.{Acc, acc}
 use Rattle.trs_defs.specs.Member.{In}
 use Rattle.trs_defs.specs.Tree.{Tree, Trees}
 use Rattle.trs_defs.specs.Substitution.{apply_all}
-use Rattle.cap_theory.specs.Cap.{Caps, EachFits}
+use Rattle.trs_defs.specs.Cap.{Caps, EachFits}
 use Rattle.trs_defs.specs.System.{System, IsSystem, Among}
 use Rattle.pair_theory.specs.Marked.{Marked}
 use Rattle.pair_theory.specs.DependencyPair.{DependencyPair}

@@ -4,7 +4,7 @@ use Rattle.std.specs.Prelude.{◌≡◌, ◌≤◌, ◌<◌, ℕ, List, Bool, So
 use Rattle.trs_defs.specs.Member.{In}
 use Rattle.trs_defs.specs.Tree.{Tree, Trees}
 use Rattle.trs_defs.specs.Substitution.{apply_all}
-use Rattle.cap_theory.specs.Cap.{Caps, EachFits}
+use Rattle.trs_defs.specs.Cap.{Caps, EachFits}
 use Rattle.trs_defs.specs.System.{System, Among}
 use Rattle.pair_theory.specs.Marked.{Marked}
 use Rattle.pair_theory.specs.DependencyPair.{DependencyPair}

@@ -6,8 +6,8 @@ use Rattle.trs_defs.specs.Tree.{Tree}
 use Rattle.trs_defs.specs.System.{RewriteRule, System, IsSystem}
 use Rattle.trs_defs.specs.Claims.{IsConfluent}
 use Rattle.trs_defs.specs.Path.{PlacedRule, Follows}
-use Rattle.abstract_confluence.specs.LabelledPath.{LabelledPath}
-use Rattle.abstract_confluence.specs.RanksFit.{RanksFit}
+use Rattle.confluence_theory.specs.LabelledPath.{LabelledPath}
+use Rattle.confluence_theory.specs.RanksFit.{RanksFit}
 use Rattle.confluence_theory.specs.Linear.{AreLeftLinear, AreRightLinear}
 use Rattle.confluence_theory.specs.Peak.{Peak, Covers}
 use Rattle.confluence_theory.specs.RuleRanks.{NumberedStep, rank_of, IsDecreasing}

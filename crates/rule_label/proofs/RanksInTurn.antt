@@ -3,7 +3,7 @@ use Rattle.std.specs.Prelude.{◌≡◌, ◌≢◌, ◌≤◌, ◌<◌, ◌↔�
 use Rattle.std.proofs.Common.{inl, inr, get_or, sym, ap, ◌∙◌, arith}
 use Rattle.std.proofs.lemmas.List.{drop_more}
 use Rattle.trs_defs.specs.Path.{PlacedRule}
-use Rattle.abstract_confluence.specs.RanksFit.{AreBelowOne, RanksFit}
+use Rattle.confluence_theory.specs.RanksFit.{AreBelowOne, RanksFit}
 use Rattle.confluence_theory.specs.RuleRanks.{rank_of}
 use Rattle.rule_label.specs.Labelled.{ranks_along}
 use Rattle.rule_label.specs.FittingRanks.{FitAfter}

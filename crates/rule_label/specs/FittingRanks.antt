@@ -1,6 +1,6 @@
 -- Ranks that fit, as they are read one after another.
 use Rattle.std.specs.Prelude.{◌↔◌, ℕ, Bool, true, false, List, ◌∷◌, Option, Some, None}
-use Rattle.abstract_confluence.specs.RanksFit.{AreBelowOne, RanksFit}
+use Rattle.confluence_theory.specs.RanksFit.{AreBelowOne, RanksFit}
 
 -- the ranks that are left fit, by whether the run of ranks below a has ended
 abbrev pub FitAfter : Bool → ℕ → ℕ → List ℕ → Type 0

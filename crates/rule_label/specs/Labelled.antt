@@ -2,7 +2,7 @@
 use Rattle.std.specs.Prelude.{ℕ, List, length, map, zip}
 use Rattle.trs_defs.specs.System.{RewriteRule, System}
 use Rattle.trs_defs.specs.Path.{PlacedRule}
-use Rattle.abstract_confluence.specs.RanksFit.{RanksFit}
+use Rattle.confluence_theory.specs.RanksFit.{RanksFit}
 use Rattle.confluence_theory.specs.RuleRanks.{rank_of}
 use Rattle.rewrite_core.specs.declared.refusals.StepRefused.TheVariants.{Labels}
 use Rattle.rewrite_core.specs.PlacedPeak.{PlacedPeak}

@@ -1,5 +1,5 @@
 ghost use Rattle.std.specs.Prelude.{◌≡◌, ◌↔◌, IsTrue};
-ghost use Rattle.abstract_confluence.specs.RanksFit.{RanksFit};
+ghost use Rattle.confluence_theory.specs.RanksFit.{RanksFit};
 ghost use Rattle.confluence_theory.specs.RuleRanks.{rank_of as rank_of_rule};
 ghost use Rattle.rule_label.specs.Labelled.{ranks_along};
 ghost use Rattle.rule_label.specs.FittingRanks.{IsNext};

@@ -1,1 +1,4 @@
 pub mod WonGoals
+pub mod SampleNames
+pub mod SampleRules
+pub mod SampleSystems

@@ -5,12 +5,12 @@ use Rattle.cert_step.specs.ProofProblem.{Says}
 use Rattle.cert_step.specs.ProofStep.{ProofNodeStep}
 use Rattle.cert_step.specs.declared.claim.Claim.{Claim}
 use Rattle.cert_step.specs.declared.claim.Claim.TheVariants.{Terminating, Nonterminating}
-use Rattle.proof_nodes.specs.Nodes.{IsAccepted}
+use Rattle.cert_step.specs.Nodes.{IsAccepted}
 use Rattle.tree_states.specs.declared.question.Question.{Question}
 use Rattle.tree_states.specs.declared.question.Question.TheVariants.{Termination}
 use Rattle.tree_states.specs.Questions.{claims}
 use Rattle.tree_states.specs.Trees.{ProofTree}
-use Rattle.sample_family.specs.Family.{sample}
+use Rattle.sampling.specs.Family.{sample}
 use Rattle.sampling.specs.declared.judgement.Judgement.{Judgement}
 use Rattle.sampling.specs.declared.judgement.Judgement.TheVariants.{Proved, Refuted}
 use Rattle.sampling.specs.Judged.{IsTrueJudgement, IsSerialJudgement, IsOnTermination, proved, refuted}

@@ -4,7 +4,7 @@ use Rattle.trs_defs.specs.System.{System}
 use Rattle.cert_step.specs.ProofStep.{ProofNodeStep}
 use Rattle.cert_step.specs.ProofProblem.{Says}
 use Rattle.cert_step.specs.declared.claim.Claim.TheVariants.{Terminating, Nonterminating}
-use Rattle.proof_nodes.specs.Nodes.{IsAccepted}
+use Rattle.cert_step.specs.Nodes.{IsAccepted}
 use Rattle.tree_states.specs.declared.question.Question.TheVariants.{Termination}
 use Rattle.tree_states.specs.Reports.{Part, IsTrueReport}
 use Rattle.tree_states.specs.States.{State}

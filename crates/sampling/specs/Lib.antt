@@ -1,2 +1,4 @@
 pub mod Judged
 pub mod Line
+pub mod Family
+pub mod FamilyLaws

@@ -2,7 +2,7 @@
 use Rattle.std.specs.Prelude.{ℕ, List, ◌++◌, codes, decimal, length}
 use Rattle.trs_defs.specs.System.{System}
 use Rattle.dp_core.specs.PlacedPairs.{placed_pairs}
-use Rattle.sample_family.specs.Family.{sample}
+use Rattle.sampling.specs.Family.{sample}
 use Rattle.sampling.specs.declared.judgement.Judgement.{Judgement}
 use Rattle.sampling.specs.declared.judgement.Judgement.TheVariants.{Proved, Refuted, Open}
 use Rattle.sampling.specs.Judged.{IsTrueJudgement, IsSerialJudgement}

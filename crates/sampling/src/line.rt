@@ -3,7 +3,7 @@ ghost use Rattle.sampling.specs.Line.{IsSampleLine, judgement_word, line_of};
 
 use crate::{Judgement, judge};
 use dp_core::dependency_pairs;
-use sample_family::sample_system;
+use crate::sample_system;
 use std::alloc::Global;
 use text_reading::{put, put_number};
 use trs_core::{OutOfMemory, Trs};

@@ -6,7 +6,7 @@ use Rattle.trs_defs.specs.System.{System}
 use Rattle.cert_step.specs.ProofProblem.{ProofProblem, root_of}
 use Rattle.cert_step.specs.PlainProblem.{plain}
 use Rattle.cert_step.specs.ProofStep.{ProofStep, ProofNodeStep, IsWellMade}
-use Rattle.proof_nodes.specs.Nodes.{IsAccepted}
+use Rattle.cert_step.specs.Nodes.{IsAccepted}
 use Rattle.cert_step.specs.declared.claim.Claim.{Claim}
 use Rattle.cert_step.proofs.AnyWay.{applies_plainly}
 use Rattle.tree_states.specs.declared.question.Question.{Question}

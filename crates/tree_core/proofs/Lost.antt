@@ -8,8 +8,8 @@ use Rattle.trs_defs.specs.Member.{In, in_first, in_rest}
 use Rattle.cert_step.specs.ProofProblem.{ProofProblem}
 use Rattle.cert_step.specs.ProofStep.{ProofStep}
 use Rattle.cert_step.specs.Applies.{Applies}
-use Rattle.proof_nodes.specs.Nodes as cert
-use Rattle.proof_nodes.specs.Nodes.{Makes, open_node}
+use Rattle.cert_step.specs.Nodes as cert
+use Rattle.cert_step.specs.Nodes.{Makes, open_node}
 use Rattle.strategies.specs.declared.strategy.Strategy.{Strategy}
 use Rattle.strategies.specs.Kinds.{strategies_for}
 use Rattle.strategies.specs.Conditions.{Fails}

@@ -7,8 +7,8 @@ use Rattle.cert_step.specs.ProofProblem.{ProofProblem, root_of}
 use Rattle.cert_step.specs.PlainProblem.{plain}
 use Rattle.cert_step.specs.ProofStep.{ProofStep, ProofNodeStep}
 use Rattle.cert_step.specs.Applies.{Applies}
-use Rattle.proof_nodes.specs.Nodes as cert
-use Rattle.proof_nodes.specs.Nodes.{Makes, IsAccepted, open_node, nodes_after, AreDecided, first_nodes}
+use Rattle.cert_step.specs.Nodes as cert
+use Rattle.cert_step.specs.Nodes.{Makes, IsAccepted, open_node, nodes_after, AreDecided, first_nodes}
 use Rattle.cert_step.specs.declared.claim.Claim.{Claim}
 use Rattle.tree_states.specs.States.{TreeNode, Decided}
 use Rattle.tree_states.specs.Verdicts.{IsClosed, closed, IsWon}

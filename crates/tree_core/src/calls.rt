@@ -5,7 +5,7 @@ ghost use Rattle.cert_step.specs.ProofProblem.{Says};
 ghost use Rattle.trs_core.specs.Valid.{IsValid};
 ghost use Rattle.cert_step.specs.ProofStep.{node_step_of, IsWellMade};
 ghost use Rattle.tree_states.specs.Reports.{AreStepsOf, IsFoundStep};
-ghost use Rattle.proof_nodes.specs.Nodes.{IsAccepted};
+ghost use Rattle.cert_step.specs.Nodes.{IsAccepted};
 ghost use Rattle.tree_states.specs.Questions.{goals_of, claims};
 ghost use Rattle.tree_states.specs.History.{Runs, IsOwned, IsFresh, aborted};
 ghost use Rattle.strategies.specs.Truth.{found_of};

@@ -5,8 +5,8 @@ use Rattle.trs_defs.specs.System.{System}
 use Rattle.trs_defs.specs.Member.{In}
 use Rattle.cert_step.specs.ProofProblem.{ProofProblem, problem_of, IsWellMadeProblem}
 use Rattle.cert_step.specs.ProofStep.{ProofStep, ProofNodeStep, node_step_of}
-use Rattle.proof_nodes.specs.Nodes.{Makes, open_node}
-use Rattle.proof_nodes.specs.Nodes as proof
+use Rattle.cert_step.specs.Nodes.{Makes, open_node}
+use Rattle.cert_step.specs.Nodes as proof
 use Rattle.strategies.specs.declared.strategy.Strategy.{Strategy}
 use Rattle.strategies.specs.Kinds.{strategies_for}
 use Rattle.strategies.specs.Conditions.{Finds, Fails}

@@ -17,3 +17,4 @@ pub mod VariableLaws
 pub mod NormalForms
 pub mod WellFormedness
 pub mod OccurrenceLaws
+pub mod CapLaws

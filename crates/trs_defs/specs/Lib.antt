@@ -21,3 +21,4 @@ pub mod Every
 pub mod Unifier
 pub mod UniqueNormalForms
 pub mod Renaming
+pub mod Cap

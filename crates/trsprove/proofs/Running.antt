@@ -7,12 +7,12 @@ use Rattle.cert_text.specs.CertificateText.{certificate_items, version_two_items
 use Rattle.sexp_core.specs.Printed.{text_of, lines}
 use Rattle.ari_text.specs.Problem.{SaysSystem}
 use Rattle.sexp_core.specs.Items.{items_of}
-use Rattle.proof_text.specs.ProofOf.{proof_of, Proves}
+use Rattle.conclusion.specs.ProofOf.{proof_of, Proves}
 use Rattle.report_text.specs.GoalLines.{goal_items, goal_words}
 use Rattle.tree_states.specs.declared.question.Question as tree
 use Rattle.conclusion.specs.Concludes.{Concludes, proved, maybe, proof_lines}
 use Rattle.dp_core.specs.PlacedPairs.{placed_pairs}
-use Rattle.sample_family.specs.Family.{sample}
+use Rattle.sampling.specs.Family.{sample}
 use Rattle.sampling.specs.declared.judgement.Judgement.{Judgement}
 use Rattle.sampling.specs.declared.judgement.Judgement.TheVariants.{Proved, Refuted, Open}
 use Rattle.sampling.specs.Line.{IsSampleLine, judged, judgement_word}

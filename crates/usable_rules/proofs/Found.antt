@@ -15,7 +15,7 @@ use Rattle.dp_core.proofs.Containment.{none_in, sub_under}
 use Rattle.dp_core.proofs.Containment as below
 use Rattle.term_pool.specs.Roots.{IsNextRooted}
 use Rattle.pair_theory.specs.DependencyPair.{DependencyPair}
-use Rattle.usable_theory.specs.UsableRules.{IsUsable, in_pair, in_rule}
+use Rattle.order_theory.specs.UsableRules.{IsUsable, in_pair, in_rule}
 use Rattle.trs_defs.specs.System.{Among, IsDefined, System, IsSystem}
 use Rattle.usable_rules.specs.AreUsable.{IsUsableRule, Ascends, no_numbers, number, AreUsableRules}
 use Rattle.usable_rules.specs.Worklist.{unset, AreMarked, IsFirst, IsCalled, IsCalledInAny, Extends, IsLed, called, following, IsLedByPairs, set_from}

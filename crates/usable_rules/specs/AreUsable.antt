@@ -4,7 +4,7 @@ use Rattle.trs_defs.specs.Member.{In}
 use Rattle.trs_defs.specs.Tree.{Tree, Trees, app}
 use Rattle.trs_defs.specs.System.{RewriteRule, Numbered}
 use Rattle.pair_theory.specs.DependencyPair.{DependencyPair}
-use Rattle.usable_theory.specs.UsableRules.{IsUsable}
+use Rattle.order_theory.specs.UsableRules.{IsUsable}
 
 -- rule number k is there, and the root of its left side is a usable symbol
 pub record IsUsableRule (rules : List RewriteRule) (pairs : List DependencyPair) (k : ℕ) : Type 0 where

@@ -4,7 +4,7 @@ ghost use Rattle.usable_rules.specs.Laws.{UsableStepsLeaveNumbers};
 
 use pair_order::PairingOrder;
 use pair_theory::dependency_pairs_suffice;
-use usable_theory::remove_by_usable_rules;
+use order_theory::remove_by_usable_rules;
 
 /// A law, with nothing to run: a problem is finite if that of the pairs that remain by an order that
 /// makes the usable rules weak is, the conditions have one answer, and the numbers that remain

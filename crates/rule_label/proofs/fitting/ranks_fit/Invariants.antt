@@ -1,5 +1,5 @@
 use Rattle.std.proofs.Common.{◌↔◌, drop}
-use Rattle.abstract_confluence.specs.RanksFit.{RanksFit}
+use Rattle.confluence_theory.specs.RanksFit.{RanksFit}
 use Rattle.rule_label.specs.Labelled.{ranks_along}
 use Rattle.rule_label.specs.FittingRanks.{FitAfter}
 use Rattle.rule_label.proofs.fitting.ranks_fit.Given as goal

@@ -2,7 +2,7 @@ use Rattle.std.proofs.Common.{◌≡◌, ◌∙◌, ap, sym}
 use Rattle.std.proofs.lemmas.Result.{IfOk-weaker}
 use Rattle.trs_defs.specs.System.{System}
 use Rattle.names_text.specs.Named.{NamedSystem}
-use Rattle.sample_family.specs.Family.{sample}
+use Rattle.sampling.specs.Family.{sample}
 use Rattle.sampling.specs.Line.{IsSampleLine, line_of}
 use Rattle.sampling.proofs.WonGoals.{line_judged}
 use Rattle.sampling.proofs.line.sample_line.Goals as goal

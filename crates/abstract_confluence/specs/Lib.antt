@@ -1,4 +1,0 @@
-pub mod Confluence
-pub mod Ranks
-pub mod LabelledPath
-pub mod RanksFit

@@ -1,5 +1,0 @@
-use Rattle.nonconfluence_theory.proofs.CapsApart.{caps_apart_not_joinable, caps_apart_forked}
-use Rattle.nonconfluence_theory.proofs.caps_apart.Goals as goal
-
-pub returns : goal.returns
-returns c = record { apart = caps_apart_not_joinable; forked = caps_apart_forked }

@@ -1,5 +1,0 @@
-use Rattle.nonconfluence_theory.proofs.CapClash.{clash_apart, together}
-use Rattle.nonconfluence_theory.proofs.clashing_caps.Goals as goal
-
-pub returns : goal.returns
-returns c = record { apart = clash_apart; together = together }

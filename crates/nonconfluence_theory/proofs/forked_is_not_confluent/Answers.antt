@@ -1,5 +1,0 @@
-use Rattle.nonconfluence_theory.proofs.NormalForms.{forked_not_confluent}
-use Rattle.nonconfluence_theory.proofs.forked_is_not_confluent.Goals as goal
-
-pub returns : goal.returns
-returns c = record { contradiction = forked_not_confluent }

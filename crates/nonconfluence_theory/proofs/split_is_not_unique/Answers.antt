@@ -1,5 +1,0 @@
-use Rattle.nonconfluence_theory.proofs.NormalForms.{split_not_unique}
-use Rattle.nonconfluence_theory.proofs.split_is_not_unique.Goals as goal
-
-pub returns : goal.returns
-returns c = split_not_unique

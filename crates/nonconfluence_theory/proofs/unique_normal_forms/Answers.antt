@@ -1,5 +1,0 @@
-use Rattle.nonconfluence_theory.proofs.NormalForms.{confluent_unique}
-use Rattle.nonconfluence_theory.proofs.unique_normal_forms.Goals as goal
-
-pub returns : goal.returns
-returns c = record { unique = confluent_unique }

@@ -1,2 +1,0 @@
-pub mod NodeLists
-pub mod Soundness

@@ -1,4 +1,0 @@
-pub mod Renaming
-pub mod InOrder
-pub mod Accepted
-pub mod FoundInOrder

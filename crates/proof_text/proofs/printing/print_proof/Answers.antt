@@ -1,9 +1,0 @@
-use Rattle.std.proofs.Common.{map}
-use Rattle.cert_step.specs.ProofStep.{node_step_of}
-use Rattle.proof_text.proofs.Accepted.{printed_proves}
-use Rattle.proof_text.proofs.printing.print_proof.Goals as goal
-
-pub returns-clause-proves : goal.returns-clause-proves
-returns-clause-proves c =
-    printed_proves (λ t. t.items) c.args.system.now c.args.claim c.claim_headline.result (map node_step_of c.args.steps.items) c.claim_headline.ensures
-    c.requires.in_order c.requires.accepted c.print_certificate.result c.print_certificate.ensures.read

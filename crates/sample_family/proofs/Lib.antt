@@ -1,3 +1,0 @@
-pub mod SampleNames
-pub mod SampleRules
-pub mod SampleSystems

@@ -1,6 +1,0 @@
-use Rattle.std.proofs.Common.{◌≡◌}
-use Rattle.sample_family.specs.Family.{rules_to}
-use Rattle.sample_family.proofs.rules.rules.Given as goal
-
-abbrev pub invariant-loop-i : goal.invariant-loop-i
-invariant-loop-i l = l.rules.items ≡ rules_to l.i

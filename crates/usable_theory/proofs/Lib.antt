@@ -1,3 +1,0 @@
-pub mod Usable
-pub mod UsableProblems
-mod Examples
