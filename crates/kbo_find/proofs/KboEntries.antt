@@ -6,9 +6,9 @@ use Rattle.trs_defs.specs.Variable.{is_listed}
 use Rattle.trs_defs.specs.System.{RewriteRule}
 use Rattle.kbo_order.specs.declared.entries.KboEntry.{KboEntry}
 use Rattle.kbo_order.specs.Table.{symbol_of, weight_of, weight_in, rank_of, rank_in}
-use Rattle.order_space.specs.Slots.{Table}
-use Rattle.order_problem.specs.OrderSpace.{occurs_in, AreCovered, some_falls}
-use Rattle.order_problem.proofs.SaidEntries.{entry_said}
+use Rattle.order_search.specs.Slots.{Table}
+use Rattle.order_search.specs.OrderSpace.{occurs_in, AreCovered, some_falls}
+use Rattle.order_search.proofs.SaidEntries.{entry_said}
 use Rattle.kbo_find.specs.KnuthTest.{knuth_weak, knuth_strict}
 use Rattle.kbo_find.specs.KboSpace.{weight_by, rank_by, kbo_weak, kbo_strict}
 use Rattle.kbo_find.specs.KboRow.{entry_by}

@@ -16,14 +16,14 @@ use Rattle.kbo_order.specs.Table.{symbol_of, weight_in, rank_in}
 use Rattle.kbo_order.specs.TooBig.{EitherIsBig}
 use Rattle.rewrite_core.specs.Check.{Asks, yes_it_does, no_it_does_not}
 use Rattle.dp_core.specs.PairConditions.{Comparing, comparing_by}
-use Rattle.order_space.specs.Slots.{Table, table_of, puzzle_of}
-use Rattle.order_space.proofs.Solutions.{solved}
-use Rattle.order_find.proofs.FewPairs.{taken_in}
-use Rattle.order_problem.specs.OrderSpace.{arity_with_mark, slots_of, some_falls}
-use Rattle.order_problem.specs.OrderOver.{search_of}
-use Rattle.order_problem.proofs.Covered.{all_covered, rule_symbol, root_symbol, listed_of}
-use Rattle.order_problem.proofs.SaidEntries.{entry_is_there}
-use Rattle.order_problem.proofs.OrderLaw.{Tests, order_applies}
+use Rattle.order_search.specs.Slots.{Table, table_of, puzzle_of}
+use Rattle.order_search.proofs.Solutions.{solved}
+use Rattle.order_search.proofs.FewPairs.{taken_in}
+use Rattle.order_search.specs.OrderSpace.{arity_with_mark, slots_of, some_falls}
+use Rattle.order_search.specs.OrderOver.{search_of}
+use Rattle.order_search.proofs.Covered.{all_covered, rule_symbol, root_symbol, listed_of}
+use Rattle.order_search.proofs.SaidEntries.{entry_is_there}
+use Rattle.order_search.proofs.OrderLaw.{Tests, order_applies}
 use Rattle.kbo_find.specs.KnuthTest.{knuth_weak, knuth_strict}
 use Rattle.kbo_find.specs.KboSpace.{kbo_tops}
 use Rattle.kbo_find.specs.KboRow.{kbo_search, kbo_entry}

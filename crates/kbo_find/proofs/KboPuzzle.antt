@@ -6,11 +6,11 @@ use Rattle.trs_defs.specs.System.{RewriteRule}
 use Rattle.trs_defs.proofs.Members.{in_of_get, in_right}
 use Rattle.kbo_order.specs.declared.entries.KboEntry.{KboEntry}
 use Rattle.kbo_order.specs.Table.{weight_in, rank_in}
-use Rattle.order_space.specs.Slots.{Slot, slot, table_of, puzzle_of}
-use Rattle.order_problem.specs.OrderSpace.{OrderConstraint, above, AreCovered, arity_with_mark, slots_of, some_falls, occurs_in, concerns, is_above}
-use Rattle.order_problem.proofs.Constraints.{past_end, truth_falls, truth_last, uses_all, uses_symbols, last_number, many_constraints}
-use Rattle.order_problem.proofs.OwnConstraints.{own_and_others, uses_own, truth_own, uses_behind, truth_behind}
-use Rattle.order_problem.proofs.TwoParts.{many_slots, slot_at}
+use Rattle.order_search.specs.Slots.{Slot, slot, table_of, puzzle_of}
+use Rattle.order_search.specs.OrderSpace.{OrderConstraint, above, AreCovered, arity_with_mark, slots_of, some_falls, occurs_in, concerns, is_above}
+use Rattle.order_search.proofs.Constraints.{past_end, truth_falls, truth_last, uses_all, uses_symbols, last_number, many_constraints}
+use Rattle.order_search.proofs.OwnConstraints.{own_and_others, uses_own, truth_own, uses_behind, truth_behind}
+use Rattle.order_search.proofs.TwoParts.{many_slots, slot_at}
 use Rattle.kbo_find.specs.KnuthTest.{knuth_weak, knuth_strict}
 use Rattle.kbo_find.specs.KboSpace.{kbo_family, kbo_values, above_each, above_all, tops_of, kbo_tops, weight_count, weight_by, rank_by}
 use Rattle.kbo_find.specs.KboRow.{entry_by, kbo_search}

@@ -13,7 +13,7 @@ use Rattle.kbo_order.proofs.Knuth.{seen_of, not_same}
 use Rattle.kbo_order.proofs.Towers.{tower_case}
 use Rattle.kbo_order.proofs.Viewers.{big_of, not_big}
 use Rattle.assign_search.proofs.Refuting.{or_left, or_right, true_or_false}
-use Rattle.order_space.proofs.Lawful.{both_true, and_true}
+use Rattle.order_search.proofs.Lawful.{both_true, and_true}
 use Rattle.kbo_find.specs.KnuthTest.{keeps_each, keeps_all, is_tower, is_tower_below, is_variable, is_none, knuth_lex, head_greater, weight_greater, knuth_greater, knuth_greater_each, both_fit, knuth_strict, knuth_weak}
 
 either : (a b : Bool) → (a || b) ≡ true → (a ≡ true) ⊎ (b ≡ true)

@@ -5,10 +5,10 @@ use Rattle.std.proofs.lemmas.List.{append-nil, drop_all}
 use Rattle.std.proofs.lemmas.Option.{slice_get-get_or}
 use Rattle.dp_core.proofs.Collecting.{next_item}
 use Rattle.kbo_order.specs.declared.entries.KboEntry.{KboEntry}
-use Rattle.order_space.specs.Slots.{table_of}
-use Rattle.order_problem.specs.OrderSpace.{slots_of}
-use Rattle.order_problem.specs.Distinct.{AreDistinct}
-use Rattle.order_problem.proofs.TwoParts.{value_of_part}
+use Rattle.order_search.specs.Slots.{table_of}
+use Rattle.order_search.specs.OrderSpace.{slots_of}
+use Rattle.order_search.specs.Distinct.{AreDistinct}
+use Rattle.order_search.proofs.TwoParts.{value_of_part}
 use Rattle.kbo_find.specs.KboRow.{entry_by}
 use Rattle.kbo_find.specs.KboPlaces.{entry_with}
 

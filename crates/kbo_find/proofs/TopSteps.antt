@@ -4,7 +4,7 @@ use Rattle.std.proofs.Common.{sym, ap, ◌∙◌, append_assoc}
 use Rattle.std.proofs.lemmas.List.{append-nil, drop_all}
 use Rattle.std.proofs.lemmas.Option.{slice_get-get_or}
 use Rattle.dp_core.proofs.Collecting.{next_item}
-use Rattle.order_problem.specs.OrderSpace.{OrderConstraint, above}
+use Rattle.order_search.specs.OrderSpace.{OrderConstraint, above}
 use Rattle.kbo_find.specs.KboSpace.{above_each, above_all, tops_of, kbo_tops}
 
 opened : (symbols : List ℕ) (i g : ℕ) → i < length symbols → g ≡ get_or symbols i 0 → drop i symbols ≡ g ∷ drop (i + 1) symbols

@@ -2,9 +2,9 @@
 use Rattle.std.specs.Prelude.{◌≡◌, ◌<◌, ℕ, ◌+◌, ◌*◌, Bool, true, false, ◌==◌, if◌then◌else◌, List, [], ◌∷◌, get_or, Option, Some, None, option_map}
 use Rattle.std.proofs.Common.{suc, refl, sym, ap, arith, ◌∙◌}
 use Rattle.pair_order.specs.Entries.{place_among}
-use Rattle.order_space.specs.Slots.{table_of}
-use Rattle.order_problem.specs.OrderSpace.{slots_of}
-use Rattle.order_problem.proofs.SlotLayout.{start_of, value_at, value_from}
+use Rattle.order_search.specs.Slots.{table_of}
+use Rattle.order_search.specs.OrderSpace.{slots_of}
+use Rattle.order_search.proofs.SlotLayout.{start_of, value_at, value_from}
 
 one_later : (b : Bool) (o p : Option ℕ) → o ≡ option_map (λ i. 2 * i) p
     → (if b then Some 0 else option_map (λ n. 2 + n) o) ≡ option_map (λ i. 2 * i) (if b then Some 0 else option_map suc p)

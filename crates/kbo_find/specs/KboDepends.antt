@@ -5,9 +5,9 @@ use Rattle.trs_defs.specs.Tree.{Tree, Trees, var, app, nil, cons, count}
 use Rattle.order_theory.specs.KnuthBendix.{weigh, weigh_all}
 use Rattle.order_theory.specs.PathTest.{same_tree}
 use Rattle.assign_search.proofs.Refuting.{or_left, or_right}
-use Rattle.order_space.specs.Slots.{Table}
-use Rattle.order_problem.specs.OrderSpace.{occurs_in, DependsOnSymbols}
-use Rattle.order_problem.proofs.Agreeing.{Agree, AgreeAll, root_agrees, args_agree, first_agrees, rest_agree, SameTests, if_same}
+use Rattle.order_search.specs.Slots.{Table}
+use Rattle.order_search.specs.OrderSpace.{occurs_in, DependsOnSymbols}
+use Rattle.order_search.proofs.Agreeing.{Agree, AgreeAll, root_agrees, args_agree, first_agrees, rest_agree, SameTests, if_same}
 use Rattle.kbo_find.specs.KnuthTest.{keeps_each, knuth_lex, head_greater, weight_greater, knuth_greater, knuth_greater_each, both_fit, knuth_strict, knuth_weak}
 use Rattle.kbo_find.specs.KboSpace.{weight_by, rank_by, kbo_family}
 

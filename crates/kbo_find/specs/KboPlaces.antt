@@ -2,7 +2,7 @@
 use Rattle.std.specs.Prelude.{ℕ, ◌+◌, ◌<◌, ◌^◌, length, Bool, true, ◌||◌, ◌==◌, if◌then◌else◌, List, Option, Some, None}
 use Rattle.trs_defs.specs.System.{RewriteRule}
 use Rattle.kbo_order.specs.declared.entries.KboEntry.{KboEntry}
-use Rattle.order_problem.specs.OrderSpace.{OrderConstraint, above, occurs_in, some_falls}
+use Rattle.order_search.specs.OrderSpace.{OrderConstraint, above, occurs_in, some_falls}
 use Rattle.kbo_find.specs.KnuthTest.{knuth_weak, knuth_strict}
 use Rattle.kbo_find.specs.declared.tops.Top.{Top}
 

@@ -1,9 +1,9 @@
 -- What the strategy kbo looks for.
 use Rattle.std.specs.Prelude.{ℕ, List, map}
-use Rattle.order_space.specs.Slots.{Table, table_of}
+use Rattle.order_search.specs.Slots.{Table, table_of}
 use Rattle.kbo_order.specs.declared.entries.KboEntry.{KboEntry}
-use Rattle.order_problem.specs.OrderSpace.{order_search, slots_of, arity_with_mark}
-use Rattle.order_problem.specs.OrderOver.{SearchOver}
+use Rattle.order_search.specs.OrderSpace.{order_search, slots_of, arity_with_mark}
+use Rattle.order_search.specs.OrderOver.{SearchOver}
 use Rattle.kbo_find.specs.KboSpace.{kbo_family, kbo_tops, weight_by, rank_by}
 
 -- the entry that a table says for a symbol

@@ -1,8 +1,8 @@
 -- Knuth-Bendix orders with weights 0 to 2 and ranks 0 to 7.
 use Rattle.std.specs.Prelude.{ℕ, ◌+◌, Bool, ◌==◌, if◌then◌else◌, List, [], ◌∷◌, ◌++◌}
 use Rattle.trs_defs.specs.Tree.{Tree}
-use Rattle.order_space.specs.Slots.{Slot, Table}
-use Rattle.order_problem.specs.OrderSpace.{OrderFamily, OrderConstraint, above}
+use Rattle.order_search.specs.Slots.{Slot, Table}
+use Rattle.order_search.specs.OrderSpace.{OrderFamily, OrderConstraint, above}
 use Rattle.kbo_find.specs.KnuthTest.{knuth_strict, knuth_weak}
 
 -- the weights of a constant are 1 and 2

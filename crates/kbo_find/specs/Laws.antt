@@ -8,8 +8,8 @@ use Rattle.kbo_order.specs.declared.entries.KboEntry.{KboEntry}
 use Rattle.kbo_order.specs.Table.{symbol_of, weight_in, rank_in}
 use Rattle.kbo_order.specs.TooBig.{EitherIsBig}
 use Rattle.dp_core.specs.PairConditions.{comparing_by, pair_conditions}
-use Rattle.order_problem.specs.OrderRow.{FindsOrder}
-use Rattle.order_problem.specs.OrderOver.{search_of}
+use Rattle.order_search.specs.OrderRow.{FindsOrder}
+use Rattle.order_search.specs.OrderOver.{search_of}
 use Rattle.kbo_find.specs.KboRow.{kbo_search, kbo_entry}
 
 -- these entries are found for the problem of these pairs

@@ -1,14 +1,14 @@
 //! The weights and ranks that values of the slots say, without a table of their own.
 ghost use Rattle.std.specs.Prelude.{◌≡◌, ◌<◌};
-ghost use Rattle.order_space.specs.Slots.{table_of};
-ghost use Rattle.order_problem.specs.OrderSpace.{slots_of, arity_with_mark, is_above};
+ghost use Rattle.order_search.specs.Slots.{table_of};
+ghost use Rattle.order_search.specs.OrderSpace.{slots_of, arity_with_mark, is_above};
 ghost use Rattle.kbo_find.specs.KboSpace.{weight_by, rank_by};
 
 use crate::table::weight_of;
 use crate::tops::Top;
 use kbo_order::Weighting;
-use order_find::placing::SymbolPlaces;
-use order_problem::{arity_of, value_at};
+use order_search::placing::SymbolPlaces;
+use order_search::{arity_of, value_at};
 
 /// The weights and ranks by which each symbol has those of its two slots.
 #[derive(Clone, Copy)]

@@ -1,11 +1,11 @@
 //! Comparisons by a Knuth-Bendix order, as tests that are false where a term weighs too much.
 ghost use Rattle.std.specs.Prelude.{◌≡◌, ◌++◌, slice_get};
-ghost use Rattle.order_problem.specs.OrderSpace.{some_falls};
+ghost use Rattle.order_search.specs.OrderSpace.{some_falls};
 ghost use Rattle.kbo_find.specs.KnuthTest.{knuth_weak, knuth_strict};
 ghost use Rattle.kbo_find.specs.KboPlaces.{falls_by};
 
 use kbo_order::{Weighting, is_strict, is_weak};
-use order_problem::falling_at;
+use order_search::falling_at;
 use trs_core::Rule;
 
 /// Whether the rule or pair of this number falls weakly; behind them, whether some pair falls

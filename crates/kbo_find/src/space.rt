@@ -1,7 +1,7 @@
 //! The finite search for weights and ranks.
 ghost use Rattle.std.specs.Prelude.{◌≡◌, ◌<◌, ◌*◌, ◌^◌, ◌++◌, map, length, slice_get};
-ghost use Rattle.order_space.specs.Slots.{slot, puzzle_of};
-ghost use Rattle.order_problem.specs.OrderSpace.{arity_with_mark, concerns};
+ghost use Rattle.order_search.specs.Slots.{slot, puzzle_of};
+ghost use Rattle.order_search.specs.OrderSpace.{arity_with_mark, concerns};
 ghost use Rattle.kbo_find.specs.KboSpace.{kbo_tops, weight_count};
 ghost use Rattle.kbo_find.specs.KboRow.{kbo_search};
 ghost use Rattle.kbo_find.specs.KboPlaces.{AreFew, asked_of, uses_by};
@@ -11,8 +11,8 @@ use crate::assigned::Assigned;
 use crate::comparing::falls;
 use crate::tops::{Top, top_at};
 use assign_search::{OutOfMemory, Space};
-use order_find::placing::SymbolPlaces;
-use order_problem::{arity_of, falling_at, occurs_in_rule};
+use order_search::placing::SymbolPlaces;
+use order_search::{arity_of, falling_at, occurs_in_rule};
 use std::alloc::Global;
 use trs_core::Rule;
 

@@ -1,11 +1,11 @@
 //! The Knuth-Bendix order that values of the slots say.
 ghost use Rattle.std.specs.Prelude.{◌≡◌, ◌<◌, ◌+◌, ◌==◌, if◌then◌else◌, IfOk};
-ghost use Rattle.order_problem.specs.Distinct.{AreDistinct};
+ghost use Rattle.order_search.specs.Distinct.{AreDistinct};
 ghost use Rattle.kbo_find.specs.KboRow.{entries_of};
 ghost use Rattle.kbo_find.specs.KboPlaces.{entry_with};
 
 use kbo_order::{Kbo, KboEntry};
-use order_problem::{arity_of, value_at};
+use order_search::{arity_of, value_at};
 use std::alloc::Global;
 use trs_core::OutOfMemory;
 

@@ -1,11 +1,11 @@
 //! Which symbols with one argument have to be above which others, if they weigh nothing.
 ghost use Rattle.std.specs.Prelude.{◌≡◌, ◌++◌, map, slice_get, IfOk, OnOk, ◌∷◌, [], ◌==◌, if◌then◌else◌};
 ghost use Rattle.std.specs.Option.{option_copied};
-ghost use Rattle.order_problem.specs.OrderSpace.{arity_with_mark, above};
+ghost use Rattle.order_search.specs.OrderSpace.{arity_with_mark, above};
 ghost use Rattle.kbo_find.specs.KboSpace.{above_all, kbo_tops};
 ghost use Rattle.kbo_find.specs.KboPlaces.{asked_of};
 
-use order_problem::arity_of;
+use order_search::arity_of;
 use std::alloc::Global;
 use trs_core::OutOfMemory;
 

@@ -9,11 +9,11 @@ use Rattle.order_theory.specs.ArgumentFilter.{ArgumentFilter, Keep}
 use Rattle.pair_order.specs.Entries.{place_among, entry_of}
 use Rattle.pair_order.proofs.Placing.{copied_item}
 use Rattle.path_lpo.specs.Table.{PathEntry, symbol_of, rank_of, filter_of, rank_in, filter_in}
-use Rattle.order_space.specs.Slots.{Table, table_of}
-use Rattle.order_problem.specs.OrderSpace.{arity_with_mark, slots_of}
-use Rattle.order_problem.specs.Distinct.{AreDistinct}
-use Rattle.order_problem.proofs.SaidEntries.{entry_said}
-use Rattle.order_problem.proofs.PlacedEntries.{stands_at, no_entry_said}
+use Rattle.order_search.specs.Slots.{Table, table_of}
+use Rattle.order_search.specs.OrderSpace.{arity_with_mark, slots_of}
+use Rattle.order_search.specs.Distinct.{AreDistinct}
+use Rattle.order_search.proofs.SaidEntries.{entry_said}
+use Rattle.order_search.proofs.PlacedEntries.{stands_at, no_entry_said}
 use Rattle.lpo_find.specs.LpoSpace.{filter_number}
 use Rattle.lpo_find.specs.LpoRow.{lpo_entry, entries_of}
 use Rattle.lpo_find.specs.Filters.{filters_of}

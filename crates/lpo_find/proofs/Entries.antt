@@ -7,8 +7,8 @@ use Rattle.trs_defs.specs.Variable.{is_listed}
 use Rattle.trs_defs.specs.System.{RewriteRule}
 use Rattle.pair_order.specs.Entries.{entry_of, has_entry}
 use Rattle.path_lpo.specs.Table.{PathEntry, symbol_of, rank_of, rank_in, filter_of, filter_in}
-use Rattle.order_space.specs.Slots.{Table}
-use Rattle.order_problem.specs.OrderSpace.{occurs_in, AreCovered, some_falls}
+use Rattle.order_search.specs.Slots.{Table}
+use Rattle.order_search.specs.OrderSpace.{occurs_in, AreCovered, some_falls}
 use Rattle.lpo_find.specs.LpoSpace.{rank_by, filter_by, path_weak, path_strict, lpo_weak, lpo_strict}
 use Rattle.lpo_find.specs.LpoRow.{lpo_entry}
 use Rattle.lpo_find.specs.LpoDepends.{weak_same, strict_same}

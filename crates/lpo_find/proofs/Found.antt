@@ -17,14 +17,14 @@ use Rattle.dp_core.specs.Markable.{IsMarkable}
 use Rattle.dp_core.specs.Numbered.{ArePairsOf}
 use Rattle.dp_core.specs.Symbols.{symbols_of_rules}
 use Rattle.dp_core.specs.SubtermConditions.{roots_of}
-use Rattle.order_space.specs.Slots.{puzzle_of}
-use Rattle.order_space.specs.Outcome.{IsFinding, IsNotThere, IsSpent}
-use Rattle.order_find.proofs.FewPairs.{few_taken, taken_in, roots_small}
-use Rattle.order_problem.specs.OrderSpace.{AreCovered}
-use Rattle.order_problem.specs.OrderRow.{AreSymbols, AreOfOrder, FailsOrder}
-use Rattle.order_problem.specs.Distinct.{AreDistinct}
-use Rattle.order_problem.proofs.Covered.{all_covered, few_symbols, plain_small, both_roots}
-use Rattle.order_problem.proofs.Repeats.{symbols_distinct}
+use Rattle.order_search.specs.Slots.{puzzle_of}
+use Rattle.order_search.specs.Outcome.{IsFinding, IsNotThere, IsSpent}
+use Rattle.order_search.proofs.FewPairs.{few_taken, taken_in, roots_small}
+use Rattle.order_search.specs.OrderSpace.{AreCovered}
+use Rattle.order_search.specs.OrderRow.{AreSymbols, AreOfOrder, FailsOrder}
+use Rattle.order_search.specs.Distinct.{AreDistinct}
+use Rattle.order_search.proofs.Covered.{all_covered, few_symbols, plain_small, both_roots}
+use Rattle.order_search.proofs.Repeats.{symbols_distinct}
 use Rattle.lpo_find.specs.LpoRow.{IsOrder, path_search, lpo_search}
 use Rattle.lpo_find.specs.Laws.{FindsLpo}
 

@@ -19,12 +19,12 @@ use Rattle.dp_core.specs.SubtermConditions.{roots_of, unflagged}
 use Rattle.dp_core.specs.PairConditions.{Comparing, comparing_by, rule_is_weak, pair_is_weak, pair_conditions}
 use Rattle.dp_core.proofs.NumberedPairs.{as_many}
 use Rattle.assign_search.proofs.Refuting.{true_or_false}
-use Rattle.order_space.specs.Slots.{Table, table_of, puzzle_of}
-use Rattle.order_space.proofs.Solutions.{solved}
-use Rattle.order_find.proofs.FewPairs.{taken_in}
-use Rattle.order_problem.specs.OrderSpace.{arity_with_mark, slots_of, some_falls}
-use Rattle.order_problem.proofs.Constraints.{many_constraints}
-use Rattle.order_problem.proofs.Covered.{all_covered, rule_symbol, root_symbol, listed_of}
+use Rattle.order_search.specs.Slots.{Table, table_of, puzzle_of}
+use Rattle.order_search.proofs.Solutions.{solved}
+use Rattle.order_search.proofs.FewPairs.{taken_in}
+use Rattle.order_search.specs.OrderSpace.{arity_with_mark, slots_of, some_falls}
+use Rattle.order_search.proofs.Constraints.{many_constraints}
+use Rattle.order_search.proofs.Covered.{all_covered, rule_symbol, root_symbol, listed_of}
 use Rattle.lpo_find.specs.LpoSpace.{lpo_family, path_weak, path_strict}
 use Rattle.lpo_find.specs.LpoRow.{lpo_search}
 use Rattle.lpo_find.specs.Laws.{FoundOrdersApply}

@@ -4,9 +4,9 @@ use Rattle.std.proofs.Common.{sym, ap, ◌∙◌}
 use Rattle.trs_defs.specs.System.{RewriteRule}
 use Rattle.trs_defs.proofs.Members.{in_of_get, in_right}
 use Rattle.path_lpo.specs.Table.{PathEntry, rank_in, filter_in}
-use Rattle.order_space.specs.Slots.{Slot, slot, table_of, puzzle_of}
-use Rattle.order_problem.specs.OrderSpace.{AreCovered, order_search, slots_of, some_falls}
-use Rattle.order_problem.proofs.Constraints.{truth_falls, truth_last}
+use Rattle.order_search.specs.Slots.{Slot, slot, table_of, puzzle_of}
+use Rattle.order_search.specs.OrderSpace.{AreCovered, order_search, slots_of, some_falls}
+use Rattle.order_search.proofs.Constraints.{truth_falls, truth_last}
 use Rattle.lpo_find.specs.LpoSpace.{lpo_family, lpo_values, filter_count, path_weak, path_strict}
 use Rattle.lpo_find.specs.LpoRow.{lpo_entry}
 use Rattle.lpo_find.proofs.Entries.{weak_by_entries, some_by_entries}

@@ -1,11 +1,11 @@
 -- The two slots of each symbol by their numbers.
 use Rattle.std.specs.Prelude.{◌≡◌, ◌<◌, ℕ, ◌+◌, ◌*◌, ◌/◌, ◌%◌, List, [], ◌∷◌, length, get_or}
 use Rattle.std.proofs.Common.{zero, suc, refl, ap, arith, ◌∙◌}
-use Rattle.order_space.specs.Slots.{slot, table_of}
-use Rattle.order_problem.specs.OrderSpace.{slots_of}
-use Rattle.order_problem.specs.Distinct.{AreDistinct}
-use Rattle.order_problem.proofs.SlotLayout.{value_from, value_at}
-use Rattle.order_problem.proofs.Repeats.{starts_at}
+use Rattle.order_search.specs.Slots.{slot, table_of}
+use Rattle.order_search.specs.OrderSpace.{slots_of}
+use Rattle.order_search.specs.Distinct.{AreDistinct}
+use Rattle.order_search.proofs.SlotLayout.{value_from, value_at}
+use Rattle.order_search.proofs.Repeats.{starts_at}
 
 pub many_slots : (symbols : List ℕ) → length (slots_of (λ _. 2) symbols) ≡ 2 * length symbols
 many_slots [] = refl

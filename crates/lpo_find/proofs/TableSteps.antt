@@ -7,9 +7,9 @@ use Rattle.dp_core.proofs.Collecting.{next_item}
 use Rattle.path_lpo.specs.declared.entries.LpoEntry.{LpoEntry}
 use Rattle.path_lpo.specs.Plain.{plain}
 use Rattle.path_lpo.specs.Table.{PathEntry}
-use Rattle.order_space.specs.Slots.{table_of}
-use Rattle.order_problem.specs.OrderSpace.{slots_of}
-use Rattle.order_problem.specs.Distinct.{AreDistinct}
+use Rattle.order_search.specs.Slots.{table_of}
+use Rattle.order_search.specs.OrderSpace.{slots_of}
+use Rattle.order_search.specs.Distinct.{AreDistinct}
 use Rattle.lpo_find.specs.LpoSpace.{filter_number}
 use Rattle.lpo_find.specs.LpoRow.{lpo_entry}
 use Rattle.lpo_find.proofs.SlotNumbers.{value_of_part}

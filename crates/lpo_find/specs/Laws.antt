@@ -6,8 +6,8 @@ use Rattle.order_theory.specs.ArgumentFilter.{PathWeak, PathStrict}
 use Rattle.pair_order.specs.Entries.{has_entry}
 use Rattle.path_lpo.specs.Table.{PathEntry, symbol_of, rank_in, filter_in}
 use Rattle.dp_core.specs.PairConditions.{comparing_by, pair_conditions}
-use Rattle.order_problem.specs.OrderSpace.{arity_with_mark}
-use Rattle.order_problem.specs.OrderRow.{FindsOrder}
+use Rattle.order_search.specs.OrderSpace.{arity_with_mark}
+use Rattle.order_search.specs.OrderRow.{FindsOrder}
 use Rattle.lpo_find.specs.LpoRow.{lpo_search, lpo_entry}
 
 -- these entries are found for the problem of these pairs

@@ -6,10 +6,10 @@ use Rattle.pair_theory.specs.ItemOr.{item_or}
 use Rattle.order_theory.specs.PathTest.{same_tree, some_at_least, lex_greater, app_greater, app_greater_than_all, path_greater, path_greater_each}
 use Rattle.order_theory.specs.ArgumentFilter.{ArgumentFilter, To, Keep, keep_one, select, by_filter, filtered, filtered_all}
 use Rattle.assign_search.proofs.Refuting.{or_left, or_right}
-use Rattle.order_space.specs.Slots.{Table}
-use Rattle.order_problem.specs.OrderSpace.{occurs_in, occurs_in_some, DependsOnSymbols}
+use Rattle.order_search.specs.Slots.{Table}
+use Rattle.order_search.specs.OrderSpace.{occurs_in, occurs_in_some, DependsOnSymbols}
 use Rattle.lpo_find.specs.LpoSpace.{filter_number, filter_by, rank_by, path_strict, path_weak, lpo_family}
-use Rattle.order_problem.proofs.Agreeing.{Agree, AgreeAll, root_agrees, args_agree, first_agrees, rest_agree, SameTests, if_same}
+use Rattle.order_search.proofs.Agreeing.{Agree, AgreeAll, root_agrees, args_agree, first_agrees, rest_agree, SameTests, if_same}
 
 either : (a b : Bool) → (a || b) ≡ true → (a ≡ true) ⊎ (b ≡ true)
 either true b e = inl refl

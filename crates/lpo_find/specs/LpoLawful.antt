@@ -2,9 +2,9 @@
 use Rattle.std.specs.Prelude.{ℕ, List, []}
 use Rattle.trs_defs.specs.System.{RewriteRule}
 use Rattle.assign_search.specs.Puzzle.{IsLawful}
-use Rattle.order_space.specs.Slots.{puzzle_of}
-use Rattle.order_problem.specs.OrderSpace.{order_search}
-use Rattle.order_problem.proofs.OrderLawful.{order_lawful}
+use Rattle.order_search.specs.Slots.{puzzle_of}
+use Rattle.order_search.specs.OrderSpace.{order_search}
+use Rattle.order_search.proofs.OrderLawful.{order_lawful}
 use Rattle.lpo_find.specs.LpoSpace.{lpo_family}
 use Rattle.lpo_find.specs.LpoDepends.{lpo_depends}
 

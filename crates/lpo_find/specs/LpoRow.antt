@@ -4,9 +4,9 @@ use Rattle.trs_defs.specs.System.{RewriteRule, System}
 use Rattle.pair_theory.specs.DependencyPair.{DependencyPair}
 use Rattle.pair_theory.specs.ReductionPair.{marked_rule}
 use Rattle.path_lpo.specs.Table.{PathEntry}
-use Rattle.order_space.specs.Slots.{Table, Search, table_of, puzzle_of}
-use Rattle.order_space.specs.Outcome.{IsFirst}
-use Rattle.order_problem.specs.OrderSpace.{OrderConstraint, order_search, slots_of, arity_with_mark}
+use Rattle.order_search.specs.Slots.{Table, Search, table_of, puzzle_of}
+use Rattle.order_search.specs.Outcome.{IsFirst}
+use Rattle.order_search.specs.OrderSpace.{OrderConstraint, order_search, slots_of, arity_with_mark}
 use Rattle.lpo_find.specs.LpoSpace.{lpo_family, filter_by, rank_by}
 
 -- the entry that a table says for a symbol

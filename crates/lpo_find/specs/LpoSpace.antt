@@ -4,8 +4,8 @@ use Rattle.std.proofs.Common.{zero, suc}
 use Rattle.trs_defs.specs.Tree.{Tree}
 use Rattle.order_theory.specs.PathTest.{same_tree, path_greater}
 use Rattle.order_theory.specs.ArgumentFilter.{ArgumentFilter, To, Keep, filtered}
-use Rattle.order_space.specs.Slots.{Slot, Table}
-use Rattle.order_problem.specs.OrderSpace.{OrderFamily}
+use Rattle.order_search.specs.Slots.{Slot, Table}
+use Rattle.order_search.specs.OrderSpace.{OrderFamily}
 
 -- n places from this one on
 abbrev pub places_from : ℕ → ℕ → List ℕ

@@ -8,7 +8,7 @@ ghost use Rattle.lpo_find.specs.Filters.{plain_filters};
 ghost use Rattle.lpo_find.specs.LpoRow.{entries_of};
 
 use crate::space::LpoSpace;
-use order_problem::value_at;
+use order_search::value_at;
 use path_lpo::{Filter, LentFilter, Precedence};
 
 /// The order by which each symbol has the filter and the rank of its two slots.

@@ -1,6 +1,6 @@
 //! Comparisons by a path order, as tests.
 ghost use Rattle.std.specs.Prelude.{◌≡◌};
-ghost use Rattle.order_problem.specs.OrderSpace.{some_falls};
+ghost use Rattle.order_search.specs.OrderSpace.{some_falls};
 ghost use Rattle.lpo_find.specs.LpoSpace.{path_weak, path_strict};
 
 use path_lpo::{Precedence, is_strict, is_weak};

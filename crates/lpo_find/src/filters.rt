@@ -1,11 +1,11 @@
 //! The filters of a symbol, by their numbers.
 ghost use Rattle.std.specs.Prelude.{◌≡◌, ◌<◌, ◌++◌, [], ◌∷◌, IfOk, OnOk, map};
 ghost use Rattle.path_lpo.specs.Plain.{plain_filter};
-ghost use Rattle.order_problem.specs.OrderSpace.{arity_with_mark};
+ghost use Rattle.order_search.specs.OrderSpace.{arity_with_mark};
 ghost use Rattle.lpo_find.specs.LpoSpace.{filter_count, filter_number, places_from, all_but};
 ghost use Rattle.lpo_find.specs.Filters.{plain_filters, filters_of};
 
-use order_problem::arity_of;
+use order_search::arity_of;
 use path_lpo::Filter;
 use std::alloc::Global;
 use trs_core::OutOfMemory;

@@ -1,8 +1,8 @@
 //! The finite search for filters and ranks.
 ghost use Rattle.std.specs.Prelude.{◌≡◌, ◌<◌, ◌+◌, ◌*◌, ◌^◌, ◌++◌, length, map};
-ghost use Rattle.order_space.specs.Slots.{puzzle_of};
-ghost use Rattle.order_problem.specs.OrderSpace.{AreCovered, arity_with_mark};
-ghost use Rattle.order_problem.specs.Distinct.{AreDistinct};
+ghost use Rattle.order_search.specs.Slots.{puzzle_of};
+ghost use Rattle.order_search.specs.OrderSpace.{AreCovered, arity_with_mark};
+ghost use Rattle.order_search.specs.Distinct.{AreDistinct};
 ghost use Rattle.lpo_find.specs.Filters.{plain_filters, filters_of};
 ghost use Rattle.lpo_find.specs.LpoRow.{path_search};
 ghost use Rattle.lpo_find.specs.LpoLawful.{lpo_lawful};
@@ -11,8 +11,8 @@ use crate::assigned::Assigned;
 use crate::comparing::{falls_weakly, some_falls_strictly};
 use crate::filters::filter_count;
 use assign_search::{OutOfMemory, Space};
-use order_find::placing::SymbolPlaces;
-use order_problem::{arity_of, falling_at, occurs_in_rule};
+use order_search::placing::SymbolPlaces;
+use order_search::{arity_of, falling_at, occurs_in_rule};
 use path_lpo::Filter;
 use std::alloc::Global;
 use trs_core::Rule;

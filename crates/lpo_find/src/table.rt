@@ -1,12 +1,12 @@
 //! The path order that values of the slots say.
 ghost use Rattle.std.specs.Prelude.{◌≡◌, ◌<◌, IfOk};
 ghost use Rattle.path_lpo.specs.Plain.{plain};
-ghost use Rattle.order_problem.specs.Distinct.{AreDistinct};
+ghost use Rattle.order_search.specs.Distinct.{AreDistinct};
 ghost use Rattle.lpo_find.specs.LpoSpace.{filter_number};
 ghost use Rattle.lpo_find.specs.LpoRow.{entries_of};
 
 use crate::filters::filter_number;
-use order_problem::{arity_of, value_at};
+use order_search::{arity_of, value_at};
 use path_lpo::{Lpo, LpoEntry};
 use std::alloc::Global;
 use trs_core::OutOfMemory;

@@ -8,9 +8,9 @@ use Rattle.assign_search.specs.declared.search.Search.{Search}
 use Rattle.assign_search.specs.declared.search.Search.TheVariants.{Found, NotThere, Spent, Stopped}
 use Rattle.dp_core.specs.Numbered.{ArePairsOf}
 use Rattle.dp_core.specs.SubtermConditions.{roots_of}
-use Rattle.order_space.specs.Slots.{puzzle_of}
-use Rattle.order_space.specs.Outcome.{IsFinding, IsNotThere, IsSpent}
-use Rattle.order_space.specs.Ascending.{AreAscending}
+use Rattle.order_search.specs.Slots.{puzzle_of}
+use Rattle.order_search.specs.Outcome.{IsFinding, IsNotThere, IsSpent}
+use Rattle.order_search.specs.Ascending.{AreAscending}
 use Rattle.order_find.specs.SubtermSpace.{subterm_search}
 use Rattle.order_find.specs.SubtermRow.{AreOfProblem, ArePlaces, FindsSubterm, FailsSubterm}
 

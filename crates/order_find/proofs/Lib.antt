@@ -2,9 +2,5 @@ pub mod SubtermPuzzle
 pub mod SubtermLaw
 pub mod Subterms
 pub mod Places
-pub mod TakenPairs
-pub mod RootSets
-pub mod FewPairs
 pub mod Findings
 pub mod Arguments
-pub mod PlacingSymbols

@@ -3,8 +3,8 @@ use Rattle.std.specs.Prelude.{ℕ, ◌<◌, List, length, get_or, Option, Some, 
 use Rattle.std.proofs.Common.{refl, sym, arith, ◌∙◌}
 use Rattle.pair_theory.specs.DependencyPair.{DependencyPair}
 use Rattle.assign_search.specs.Puzzle.{solution_of}
-use Rattle.order_space.specs.Slots.{puzzle_of}
-use Rattle.order_space.proofs.Solutions.{solved}
+use Rattle.order_search.specs.Slots.{puzzle_of}
+use Rattle.order_search.proofs.Solutions.{solved}
 use Rattle.order_find.specs.SubtermSpace.{subterm_search}
 use Rattle.order_find.proofs.SubtermPuzzle.{many_slots, slot_domain}
 

@@ -16,9 +16,9 @@ use Rattle.dp_core.specs.Numbered.{ArePairsOf, taken}
 use Rattle.dp_core.specs.SubtermConditions.{place_for, projected, ProjectedAre, roots_of, projects_within, unflagged, subterm_conditions}
 use Rattle.dp_core.proofs.NumberedPairs.{as_many}
 use Rattle.assign_search.proofs.Refuting.{true_or_false}
-use Rattle.order_space.specs.Slots.{table_from, table_of, puzzle_of}
-use Rattle.order_space.specs.Ascending.{AreAscending}
-use Rattle.order_space.proofs.Solutions.{solved}
+use Rattle.order_search.specs.Slots.{table_from, table_of, puzzle_of}
+use Rattle.order_search.specs.Ascending.{AreAscending}
+use Rattle.order_search.proofs.Solutions.{solved}
 use Rattle.order_find.specs.Subterms.{has_subterm, has_proper_subterm}
 use Rattle.order_find.specs.SubtermSpace.{both_pass, passes, some_passes, subterm_slots, subterm_search}
 use Rattle.order_find.specs.SubtermRow.{places_of}

@@ -4,9 +4,9 @@ use Rattle.std.proofs.Common.{zero, suc, refl, sym, ap, arith, ◌∙◌}
 use Rattle.std.proofs.lemmas.List.{length-map}
 use Rattle.pair_theory.specs.DependencyPair.{DependencyPair}
 use Rattle.pair_order.specs.Entries.{place_among}
-use Rattle.order_space.specs.Slots.{Slot, slot, table_from, table_of, puzzle_of}
-use Rattle.order_space.proofs.Lawful.{and_true, test_below}
-use Rattle.order_space.proofs.Constraints.{at_item, at_last, one_more}
+use Rattle.order_search.specs.Slots.{Slot, slot, table_from, table_of, puzzle_of}
+use Rattle.order_search.proofs.Lawful.{and_true, test_below}
+use Rattle.order_search.proofs.SlotConstraints.{at_item, at_last, one_more}
 use Rattle.order_find.specs.Subterms.{has_subterm}
 use Rattle.order_find.specs.SubtermSpace.{weak, some_strict, passes, some_passes, subterm_met, subterm_about, subterm_slots, arity_in, subterm_search}
 

@@ -3,4 +3,3 @@ pub mod SubtermSpace
 pub mod SubtermRow
 pub mod Laws
 pub mod SubtermLawful
-pub mod Placed

@@ -8,8 +8,8 @@ use Rattle.pair_theory.specs.Marked.{plain}
 use Rattle.pair_theory.specs.DependencyPair.{DependencyPair}
 use Rattle.assign_search.specs.Puzzle.{IsLawful}
 use Rattle.assign_search.proofs.Refuting.{or_left, or_right}
-use Rattle.order_space.specs.Slots.{slot, Table, puzzle_of}
-use Rattle.order_space.proofs.Lawful.{lawful_of}
+use Rattle.order_search.specs.Slots.{slot, Table, puzzle_of}
+use Rattle.order_search.proofs.Lawful.{lawful_of}
 use Rattle.order_find.specs.Subterms.{has_subterm, has_proper_subterm}
 use Rattle.order_find.specs.SubtermSpace.{SubtermConstraint, weak, some_strict, both_pass, passes, some_passes, subterm_met, subterm_about, subterm_search}
 

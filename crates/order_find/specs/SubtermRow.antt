@@ -5,9 +5,9 @@ use Rattle.pair_theory.specs.DependencyPair.{DependencyPair, dependency_pairs}
 use Rattle.dp_core.specs.Numbered.{ArePairsOf}
 use Rattle.dp_core.specs.SubtermConditions.{roots_of}
 use Rattle.assign_search.specs.Puzzle.{Puzzle}
-use Rattle.order_space.specs.Slots.{puzzle_of}
-use Rattle.order_space.specs.Outcome.{IsFirst}
-use Rattle.order_space.specs.Ascending.{AreAscending}
+use Rattle.order_search.specs.Slots.{puzzle_of}
+use Rattle.order_search.specs.Outcome.{IsFirst}
+use Rattle.order_search.specs.Ascending.{AreAscending}
 use Rattle.order_find.specs.SubtermSpace.{subterm_search}
 
 -- of a problem, given by the numbers of its pairs, these are the pairs, and the roots of their sides

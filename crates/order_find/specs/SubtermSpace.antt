@@ -5,7 +5,7 @@ use Rattle.trs_defs.specs.Tree.{Tree}
 use Rattle.trs_defs.specs.Position.{argument_at}
 use Rattle.pair_theory.specs.Marked.{plain}
 use Rattle.pair_theory.specs.DependencyPair.{DependencyPair}
-use Rattle.order_space.specs.Slots.{Slot, slot, Table, Search}
+use Rattle.order_search.specs.Slots.{Slot, slot, Table, Search}
 use Rattle.order_find.specs.Subterms.{has_subterm, has_proper_subterm}
 
 abbrev pub both_pass : (Tree → Tree → Bool) → Option Tree → Option Tree → Bool

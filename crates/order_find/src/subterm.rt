@@ -3,15 +3,15 @@ ghost use Rattle.std.specs.Prelude.{◌≡◌, ◌<◌, ◌≤◌, ◌+◌, ◌^
 ghost use Rattle.std.specs.List.Sorted.{IsStrictlyIncreasing};
 ghost use Rattle.pair_theory.specs.DependencyPair.{dependency_pairs};
 ghost use Rattle.dp_core.specs.PlacedPairs.{placed_pairs};
-ghost use Rattle.order_space.specs.Outcome.{IsFinding, IsNotThere, IsSpent};
-ghost use Rattle.order_space.specs.Slots.{puzzle_of};
+ghost use Rattle.order_search.specs.Outcome.{IsFinding, IsNotThere, IsSpent};
+ghost use Rattle.order_search.specs.Slots.{puzzle_of};
 ghost use Rattle.order_find.specs.SubtermSpace.{subterm_search};
 ghost use Rattle.order_find.specs.SubtermRow.{FindsSubterm, FailsSubterm, ArePlaces, places_of};
 
-use crate::placing::SymbolPlaces;
-use crate::roots::roots;
+use order_search::placing::SymbolPlaces;
+use order_search::roots::roots;
 use crate::subterm_space::SubtermSpace;
-use crate::taken::taken;
+use order_search::taken::taken;
 use assign_search::{Search, Stop, first_solution};
 use dp_core::{DpPair, Pairs, Sides, placed_pairs_are_the_pairs};
 use pair_theory::dependency_pairs_suffice;

@@ -5,13 +5,13 @@ ghost use Rattle.trs_defs.specs.Tree.{Tree};
 ghost use Rattle.trs_defs.specs.Position.{argument_at};
 ghost use Rattle.trs_core.specs.View.{tree};
 ghost use Rattle.pair_theory.specs.Marked.{plain};
-ghost use Rattle.order_space.specs.Slots.{puzzle_of, table_of};
+ghost use Rattle.order_search.specs.Slots.{puzzle_of, table_of};
 ghost use Rattle.order_find.specs.Subterms.{has_subterm, has_proper_subterm};
 ghost use Rattle.order_find.specs.SubtermSpace.{subterm_search, passes, some_passes, subterm_slots};
 ghost use Rattle.order_find.specs.SubtermLawful.{subterm_lawful};
 
-use crate::placing::SymbolPlaces;
-use crate::roots::{from_root, to_root};
+use order_search::placing::SymbolPlaces;
+use order_search::roots::{from_root, to_root};
 use crate::within::{contains, contains_properly};
 use assign_search::{OutOfMemory, Space};
 use dp_core::{Side, Sides};

@@ -5,7 +5,7 @@ use Rattle.assign_search.specs.Puzzle.{Puzzle}
 use Rattle.assign_search.specs.Searched.{IsAnswer}
 use Rattle.assign_search.specs.declared.search.Search.{Search}
 use Rattle.assign_search.specs.declared.search.Search.TheVariants.{Found}
-use Rattle.order_space.specs.Outcome.{IsFirst}
+use Rattle.order_search.specs.Outcome.{IsFirst}
 
 pub first_of : {A : Type 0} (values : A → List ℕ) (z : Puzzle) (budget : ℕ) (rose : Type 0) (answer : Search A) (a : A) → answer ≡ Found a
     → IsAnswer values z budget rose answer → IsFirst budget (values a) z

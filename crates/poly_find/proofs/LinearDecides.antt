@@ -10,7 +10,7 @@ use Rattle.order_theory.proofs.Absent.{coefficient_absent}
 use Rattle.order_theory.proofs.Coefficients.{weak_by_coefficients, strict_by_coefficients, coefficients_of_weak, coefficients_of_strict}
 use Rattle.poly_lin.specs.TooBig.{HasBigCoefficient, EitherIsBig}
 use Rattle.assign_search.proofs.Refuting.{true_or_false}
-use Rattle.order_space.proofs.Lawful.{both_true, and_true}
+use Rattle.order_search.proofs.Lawful.{both_true, and_true}
 use Rattle.poly_find.specs.LinearTest.{has_small, have_small, is_small, are_small, covers_each, covers_all, linear_weak, linear_strict}
 
 either : (a b : Bool) → (a || b) ≡ true → (a ≡ true) ⊎ (b ≡ true)

@@ -6,8 +6,8 @@ use Rattle.trs_defs.specs.Member.{In}
 use Rattle.trs_defs.proofs.Members.{in_either, of_map}
 use Rattle.pair_theory.specs.DependencyPair.{DependencyPair}
 use Rattle.dp_core.specs.SubtermConditions.{roots_of}
-use Rattle.order_problem.specs.OrderRow.{AreSymbols}
-use Rattle.order_problem.proofs.Covered.{all_small, few_listed}
+use Rattle.order_search.specs.OrderRow.{AreSymbols}
+use Rattle.order_search.proofs.Covered.{all_small, few_listed}
 
 pub low_symbols : (unmarked : List ℕ) (pairs : List DependencyPair) (symbols : List ℕ) → ((f : ℕ) → In f unmarked → f < 4096)
     → ((f : ℕ) → In f (roots_of pairs) → f < 4096) → AreSymbols unmarked pairs symbols → All (λ f. f < 8192) symbols

@@ -13,9 +13,9 @@ use Rattle.pair_theory.specs.PairProblem.{IsPair}
 use Rattle.dp_core.specs.Symbols.{symbols_of_rules}
 use Rattle.dp_core.specs.SubtermConditions.{roots_of}
 use Rattle.assign_search.proofs.Refuting.{true_or_false}
-use Rattle.order_find.proofs.FewPairs.{roots_small}
-use Rattle.order_problem.specs.OrderRow.{AreSymbols}
-use Rattle.order_problem.proofs.Covered.{plain_small}
+use Rattle.order_search.proofs.FewPairs.{roots_small}
+use Rattle.order_search.specs.OrderRow.{AreSymbols}
+use Rattle.order_search.proofs.Covered.{plain_small}
 
 either : (a b : Bool) → (a || b) ≡ true → (a ≡ true) ⊎ (b ≡ true)
 either true b e = inl refl

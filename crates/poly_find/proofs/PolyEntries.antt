@@ -7,9 +7,9 @@ use Rattle.trs_defs.specs.Variable.{is_listed}
 use Rattle.trs_defs.specs.System.{RewriteRule}
 use Rattle.poly_lin.specs.Table.{symbol_of, polynomial_of, coefficient_in}
 use Rattle.assign_search.proofs.Refuting.{true_or_false}
-use Rattle.order_space.specs.Slots.{Table}
-use Rattle.order_problem.specs.OrderSpace.{occurs_in, AreCovered, some_falls, arity_with_mark}
-use Rattle.order_problem.proofs.SaidEntries.{entry_said}
+use Rattle.order_search.specs.Slots.{Table}
+use Rattle.order_search.specs.OrderSpace.{occurs_in, AreCovered, some_falls, arity_with_mark}
+use Rattle.order_search.proofs.SaidEntries.{entry_said}
 use Rattle.poly_find.specs.LinearTest.{linear_weak, linear_strict}
 use Rattle.poly_find.specs.PolySpace.{coefficient_by, poly_weak, poly_strict}
 use Rattle.poly_find.specs.PolyRow.{poly_entry}

@@ -17,15 +17,15 @@ use Rattle.poly_lin.specs.TooBig.{EitherIsBig}
 use Rattle.rewrite_core.specs.Check.{Asks, yes_it_does, no_it_does_not}
 use Rattle.dp_core.specs.PairConditions.{Comparing, comparing_by}
 use Rattle.trs_defs.specs.Variable.{is_listed}
-use Rattle.order_space.specs.Slots.{table_of, puzzle_of}
-use Rattle.order_space.specs.Outcome.{IsFirst}
-use Rattle.order_space.proofs.Solutions.{solved}
-use Rattle.order_find.proofs.FewPairs.{taken_in}
-use Rattle.order_problem.specs.OrderSpace.{AreCovered, arity_with_mark, slots_of, some_falls}
-use Rattle.order_problem.proofs.Constraints.{many_constraints}
-use Rattle.order_problem.proofs.Covered.{all_covered, rule_symbol, root_symbol, listed_of}
-use Rattle.order_problem.proofs.SaidEntries.{entry_is_there}
-use Rattle.order_problem.proofs.OrderLaw.{Tests, order_applies}
+use Rattle.order_search.specs.Slots.{table_of, puzzle_of}
+use Rattle.order_search.specs.Outcome.{IsFirst}
+use Rattle.order_search.proofs.Solutions.{solved}
+use Rattle.order_search.proofs.FewPairs.{taken_in}
+use Rattle.order_search.specs.OrderSpace.{AreCovered, arity_with_mark, slots_of, some_falls}
+use Rattle.order_search.proofs.Constraints.{many_constraints}
+use Rattle.order_search.proofs.Covered.{all_covered, rule_symbol, root_symbol, listed_of}
+use Rattle.order_search.proofs.SaidEntries.{entry_is_there}
+use Rattle.order_search.proofs.OrderLaw.{Tests, order_applies}
 use Rattle.poly_find.specs.LinearTest.{linear_weak, linear_strict}
 use Rattle.poly_find.specs.PolySpace.{poly_family}
 use Rattle.poly_find.specs.PolyRow.{poly_search, poly_entry}

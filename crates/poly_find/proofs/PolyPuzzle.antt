@@ -6,9 +6,9 @@ use Rattle.trs_defs.specs.Variable.{is_listed}
 use Rattle.trs_defs.specs.System.{RewriteRule}
 use Rattle.trs_defs.proofs.Members.{in_of_get, in_right}
 use Rattle.poly_lin.specs.Table.{coefficient_in}
-use Rattle.order_space.specs.Slots.{Slot, slot, table_of, puzzle_of}
-use Rattle.order_problem.specs.OrderSpace.{AreCovered, arity_with_mark, slots_of, some_falls, occurs_in}
-use Rattle.order_problem.proofs.Constraints.{truth_falls, truth_last, uses_all, uses_symbols, last_number}
+use Rattle.order_search.specs.Slots.{Slot, slot, table_of, puzzle_of}
+use Rattle.order_search.specs.OrderSpace.{AreCovered, arity_with_mark, slots_of, some_falls, occurs_in}
+use Rattle.order_search.proofs.Constraints.{truth_falls, truth_last, uses_all, uses_symbols, last_number}
 use Rattle.poly_find.specs.LinearTest.{linear_weak, linear_strict}
 use Rattle.poly_find.specs.PolySpace.{poly_family}
 use Rattle.poly_find.specs.PolyRow.{poly_entry, poly_search}

@@ -6,9 +6,9 @@ use Rattle.std.proofs.lemmas.List.{append-nil, map-append, drop_all}
 use Rattle.std.proofs.lemmas.Option.{slice_get-get_or}
 use Rattle.dp_core.proofs.Collecting.{next_item}
 use Rattle.poly_lin.specs.Plain.{plain}
-use Rattle.order_space.specs.Slots.{table_of}
-use Rattle.order_problem.specs.OrderSpace.{slots_of}
-use Rattle.order_problem.specs.Distinct.{AreDistinct}
+use Rattle.order_search.specs.Slots.{table_of}
+use Rattle.order_search.specs.OrderSpace.{slots_of}
+use Rattle.order_search.specs.Distinct.{AreDistinct}
 use Rattle.poly_find.specs.PolyRow.{poly_entry}
 use Rattle.poly_find.specs.PolyPlaces.{parts_by, values_at, starts}
 use Rattle.poly_find.proofs.Starts.{said_values}

@@ -9,9 +9,9 @@ use Rattle.order_theory.specs.LinearInterpretation.{constant, constants, coeffic
 use Rattle.order_theory.proofs.Coefficients.{mul_le}
 use Rattle.poly_lin.specs.TooBig.{HasBigCoefficient}
 use Rattle.assign_search.proofs.Refuting.{or_left, or_right}
-use Rattle.order_space.proofs.Lawful.{both_true}
-use Rattle.order_problem.specs.OrderSpace.{occurs_in}
-use Rattle.order_problem.proofs.Agreeing.{Agree, AgreeAll, root_agrees, args_agree, first_agrees, rest_agree}
+use Rattle.order_search.proofs.Lawful.{both_true}
+use Rattle.order_search.specs.OrderSpace.{occurs_in}
+use Rattle.order_search.proofs.Agreeing.{Agree, AgreeAll, root_agrees, args_agree, first_agrees, rest_agree}
 use Rattle.poly_find.specs.SmallTerms.{greatest, greatest_of, has_small_sides, IsSafe}
 
 one_at_most : (b : Bool) → (if b then 1 else 0) ≤ 1

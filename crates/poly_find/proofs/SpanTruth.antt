@@ -7,10 +7,10 @@ use Rattle.trs_defs.specs.Variable.{is_listed}
 use Rattle.trs_defs.specs.System.{RewriteRule}
 use Rattle.assign_search.specs.Puzzle.{Covers}
 use Rattle.assign_search.proofs.Refuting.{true_or_false}
-use Rattle.order_space.specs.Slots.{Slot, slot, table_of, puzzle_of}
-use Rattle.order_problem.specs.OrderSpace.{parts_from, slots_of, arity_with_mark, some_falls}
-use Rattle.order_problem.specs.Distinct.{AreDistinct}
-use Rattle.order_problem.proofs.Constraints.{truth_falls, truth_last, uses_all, uses_symbols, last_number}
+use Rattle.order_search.specs.Slots.{Slot, slot, table_of, puzzle_of}
+use Rattle.order_search.specs.OrderSpace.{parts_from, slots_of, arity_with_mark, some_falls}
+use Rattle.order_search.specs.Distinct.{AreDistinct}
+use Rattle.order_search.proofs.Constraints.{truth_falls, truth_last, uses_all, uses_symbols, last_number}
 use Rattle.poly_find.specs.declared.spans.Span.{Span}
 use Rattle.poly_find.specs.LinearTest.{linear_weak, linear_strict}
 use Rattle.poly_find.specs.PolySpace.{poly_family, coefficient_by}

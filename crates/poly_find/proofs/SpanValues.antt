@@ -8,12 +8,12 @@ use Rattle.trs_defs.specs.Member.{In}
 use Rattle.trs_defs.proofs.Members.{in_or, no_in}
 use Rattle.trs_defs.specs.Variable.{is_listed}
 use Rattle.assign_search.proofs.Refuting.{true_or_false}
-use Rattle.order_find.proofs.RootSets.{in_at}
-use Rattle.order_space.specs.Slots.{Table, table_of}
-use Rattle.order_problem.specs.OrderSpace.{slots_of, arity_with_mark}
-use Rattle.order_problem.specs.Distinct.{AreDistinct}
-use Rattle.order_problem.proofs.Covered.{listed_of}
-use Rattle.order_problem.proofs.SlotLayout.{start_of, value_from, value_at}
+use Rattle.order_search.proofs.RootSets.{in_at}
+use Rattle.order_search.specs.Slots.{Table, table_of}
+use Rattle.order_search.specs.OrderSpace.{slots_of, arity_with_mark}
+use Rattle.order_search.specs.Distinct.{AreDistinct}
+use Rattle.order_search.proofs.Covered.{listed_of}
+use Rattle.order_search.proofs.SlotLayout.{start_of, value_from, value_at}
 use Rattle.poly_find.specs.declared.spans.Span.{Span}
 use Rattle.poly_find.specs.PolySpace.{values_from, coefficient_by}
 use Rattle.poly_find.specs.PolyPlaces.{parts_by, values_at, starts}

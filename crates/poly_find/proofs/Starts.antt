@@ -5,10 +5,10 @@ use Rattle.std.proofs.lemmas.Bool.Decides.{nat_tests}
 use Rattle.std.proofs.lemmas.List.{append-nil, drop_all, map-append, length-append, length-map}
 use Rattle.std.proofs.lemmas.Option.{slice_get-get_or}
 use Rattle.dp_core.proofs.Collecting.{next_item}
-use Rattle.order_space.specs.Slots.{Table, table_of}
-use Rattle.order_problem.specs.OrderSpace.{parts_from, slots_of}
-use Rattle.order_problem.specs.Distinct.{AreDistinct}
-use Rattle.order_problem.proofs.SlotLayout.{start_of, value_from, value_at}
+use Rattle.order_search.specs.Slots.{Table, table_of}
+use Rattle.order_search.specs.OrderSpace.{parts_from, slots_of}
+use Rattle.order_search.specs.Distinct.{AreDistinct}
+use Rattle.order_search.proofs.SlotLayout.{start_of, value_from, value_at}
 use Rattle.poly_find.specs.PolySpace.{values_from}
 use Rattle.poly_find.specs.PolyPlaces.{parts_by, owner_of, owners_of, values_at, starts}
 

@@ -7,8 +7,8 @@ use Rattle.pair_order.specs.Entries.{has_entry}
 use Rattle.poly_lin.specs.Table.{symbol_of, coefficient_in}
 use Rattle.poly_lin.specs.TooBig.{EitherIsBig}
 use Rattle.dp_core.specs.PairConditions.{comparing_by, pair_conditions}
-use Rattle.order_problem.specs.OrderRow.{FindsOrder}
-use Rattle.order_problem.specs.OrderOver.{search_of}
+use Rattle.order_search.specs.OrderRow.{FindsOrder}
+use Rattle.order_search.specs.OrderOver.{search_of}
 use Rattle.poly_find.specs.PolyRow.{poly_search, poly_entry}
 
 -- these entries are found for the problem of these pairs

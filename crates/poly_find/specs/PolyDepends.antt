@@ -4,9 +4,9 @@ use Rattle.std.proofs.Common.{zero, suc, refl, ap, ap₂}
 use Rattle.trs_defs.specs.Tree.{Tree, Trees, var, app, nil, cons}
 use Rattle.order_theory.specs.LinearInterpretation.{constant, constants, coefficient, coefficients}
 use Rattle.assign_search.proofs.Refuting.{or_left, or_right}
-use Rattle.order_space.specs.Slots.{Table}
-use Rattle.order_problem.specs.OrderSpace.{occurs_in, DependsOnSymbols}
-use Rattle.order_problem.proofs.Agreeing.{Agree, AgreeAll, root_agrees, args_agree, first_agrees, rest_agree}
+use Rattle.order_search.specs.Slots.{Table}
+use Rattle.order_search.specs.OrderSpace.{occurs_in, DependsOnSymbols}
+use Rattle.order_search.proofs.Agreeing.{Agree, AgreeAll, root_agrees, args_agree, first_agrees, rest_agree}
 use Rattle.poly_find.specs.LinearTest.{has_small, have_small, is_small, are_small, covers_each, covers_all, linear_weak, linear_strict}
 use Rattle.poly_find.specs.PolySpace.{values_from, coefficient_by, poly_family}
 

@@ -2,9 +2,9 @@
 use Rattle.std.specs.Prelude.{ℕ, List, []}
 use Rattle.trs_defs.specs.System.{RewriteRule}
 use Rattle.assign_search.specs.Puzzle.{IsLawful}
-use Rattle.order_space.specs.Slots.{puzzle_of}
-use Rattle.order_problem.specs.OrderSpace.{arity_with_mark}
-use Rattle.order_problem.proofs.OrderLawful.{order_lawful}
+use Rattle.order_search.specs.Slots.{puzzle_of}
+use Rattle.order_search.specs.OrderSpace.{arity_with_mark}
+use Rattle.order_search.proofs.OrderLawful.{order_lawful}
 use Rattle.poly_find.specs.PolySpace.{poly_family}
 use Rattle.poly_find.specs.PolyRow.{poly_search}
 use Rattle.poly_find.specs.PolyDepends.{poly_depends}

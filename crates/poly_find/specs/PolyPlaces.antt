@@ -1,8 +1,8 @@
 -- The slots of a search for a linear interpretation by their numbers, and values of the slots of one symbol.
 use Rattle.std.specs.Prelude.{ℕ, ◌+◌, List, [], ◌∷◌, map, get_or}
 use Rattle.std.proofs.Common.{zero, suc}
-use Rattle.order_space.specs.Slots.{Slot}
-use Rattle.order_problem.specs.OrderSpace.{slots_of, arity_with_mark}
+use Rattle.order_search.specs.Slots.{Slot}
+use Rattle.order_search.specs.OrderSpace.{slots_of, arity_with_mark}
 
 -- how many parts a symbol has: its constant and its coefficients
 abbrev pub parts_by : List ℕ → ℕ → ℕ

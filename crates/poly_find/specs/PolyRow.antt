@@ -1,8 +1,8 @@
 -- What the strategy poly looks for.
 use Rattle.std.specs.Prelude.{ℕ, List, []}
-use Rattle.order_space.specs.Slots.{Table}
-use Rattle.order_problem.specs.OrderSpace.{order_search, arity_with_mark}
-use Rattle.order_problem.specs.OrderOver.{SearchOver}
+use Rattle.order_search.specs.Slots.{Table}
+use Rattle.order_search.specs.OrderSpace.{order_search, arity_with_mark}
+use Rattle.order_search.specs.OrderOver.{SearchOver}
 use Rattle.poly_find.specs.PolySpace.{poly_family, polynomial_by}
 
 -- the entry that a table says for a symbol

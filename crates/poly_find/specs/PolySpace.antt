@@ -2,8 +2,8 @@
 use Rattle.std.specs.Prelude.{ℕ, ◌+◌, Bool, List, [], ◌∷◌, slice_index}
 use Rattle.std.proofs.Common.{zero, suc}
 use Rattle.trs_defs.specs.Tree.{Tree}
-use Rattle.order_space.specs.Slots.{Table}
-use Rattle.order_problem.specs.OrderSpace.{OrderFamily}
+use Rattle.order_search.specs.Slots.{Table}
+use Rattle.order_search.specs.OrderSpace.{OrderFamily}
 use Rattle.poly_find.specs.LinearTest.{linear_weak, linear_strict}
 
 -- what a table says of so many parts of a symbol, from one on

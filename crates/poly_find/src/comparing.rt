@@ -1,7 +1,7 @@
 //! Comparisons by a linear interpretation, as tests that are false where a polynomial is too big.
 ghost use Rattle.std.specs.Prelude.{◌≡◌, ◌<◌, ◌+◌, ◌^◌, ℕ, Some, false, length, get_or, slice_get};
 ghost use Rattle.trs_defs.specs.System.{RewriteRule};
-ghost use Rattle.order_problem.specs.OrderSpace.{some_falls};
+ghost use Rattle.order_search.specs.OrderSpace.{some_falls};
 ghost use Rattle.poly_find.specs.LinearTest.{linear_weak, linear_strict};
 ghost use Rattle.poly_find.specs.SmallTerms.{IsSafe};
 

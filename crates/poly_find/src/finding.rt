@@ -3,17 +3,17 @@ ghost use Rattle.std.specs.Prelude.{◌≡◌, ◌<◌, ◌≤◌, All, IfOk, le
 ghost use Rattle.std.specs.List.Sorted.{IsStrictlyIncreasing};
 ghost use Rattle.pair_theory.specs.DependencyPair.{dependency_pairs};
 ghost use Rattle.dp_core.specs.PlacedPairs.{placed_pairs};
-ghost use Rattle.order_space.specs.Outcome.{IsFinding, IsNotThere, IsSpent};
-ghost use Rattle.order_problem.specs.OrderRow.{FailsOrder};
-ghost use Rattle.order_problem.specs.OrderOver.{search_of};
+ghost use Rattle.order_search.specs.Outcome.{IsFinding, IsNotThere, IsSpent};
+ghost use Rattle.order_search.specs.OrderRow.{FailsOrder};
+ghost use Rattle.order_search.specs.OrderOver.{search_of};
 ghost use Rattle.poly_find.specs.PolyRow.{poly_search};
 ghost use Rattle.poly_find.specs.Laws.{FindsPoly};
 
 use crate::searching::search_linear;
 use assign_search::{Search, Stop};
 use dp_core::{DpPair, Pairs, placed_pairs_are_the_pairs};
-use order_find::taken::taken;
-use order_problem::{marked_rules, order_symbols};
+use order_search::taken::taken;
+use order_search::{marked_rules, order_symbols};
 use pair_theory::dependency_pairs_suffice;
 use poly_lin::LinTable;
 use std::alloc::Global;

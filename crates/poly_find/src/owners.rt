@@ -1,9 +1,9 @@
 //! Which symbol each slot is of.
 ghost use Rattle.std.specs.Prelude.{◌≡◌, ◌≤◌, ◌*◌, ◌++◌, map, length, IfOk, OnOk};
-ghost use Rattle.order_problem.specs.OrderSpace.{parts_from};
+ghost use Rattle.order_search.specs.OrderSpace.{parts_from};
 ghost use Rattle.poly_find.specs.PolyPlaces.{owner_of, owners_of};
 
-use order_problem::arity_of;
+use order_search::arity_of;
 use std::alloc::Global;
 use trs_core::OutOfMemory;
 

@@ -1,9 +1,9 @@
 //! The search over given symbols, rules and marked pairs.
 ghost use Rattle.std.specs.Prelude.{◌≡◌, ◌<◌, ◌≤◌, ◌+◌, ◌^◌, All, IfOk, length};
-ghost use Rattle.order_space.specs.Outcome.{IsFinding, IsNotThere, IsSpent};
-ghost use Rattle.order_space.specs.Slots.{puzzle_of};
-ghost use Rattle.order_problem.specs.OrderOver.{IsOrderOver};
-ghost use Rattle.order_problem.specs.Distinct.{AreDistinct};
+ghost use Rattle.order_search.specs.Outcome.{IsFinding, IsNotThere, IsSpent};
+ghost use Rattle.order_search.specs.Slots.{puzzle_of};
+ghost use Rattle.order_search.specs.OrderOver.{IsOrderOver};
+ghost use Rattle.order_search.specs.Distinct.{AreDistinct};
 ghost use Rattle.poly_find.specs.PolyRow.{poly_search, poly_entry};
 
 use crate::owners::owners;

@@ -1,7 +1,7 @@
 //! The finite search for coefficients.
 ghost use Rattle.std.specs.Prelude.{◌≡◌, ◌<◌, ◌+◌, ◌^◌, ◌++◌, map, length};
-ghost use Rattle.order_space.specs.Slots.{puzzle_of};
-ghost use Rattle.order_problem.specs.Distinct.{AreDistinct};
+ghost use Rattle.order_search.specs.Slots.{puzzle_of};
+ghost use Rattle.order_search.specs.Distinct.{AreDistinct};
 ghost use Rattle.poly_find.specs.PolyRow.{poly_search};
 ghost use Rattle.poly_find.specs.PolyPlaces.{owners_of};
 ghost use Rattle.poly_find.specs.Spans.{AreSpans};
@@ -11,7 +11,7 @@ ghost use Rattle.poly_find.specs.PolyLawful.{poly_lawful};
 use crate::comparing::{flag_at, is_weak, some_is_strict};
 use crate::spans::{SlotValues, Span};
 use assign_search::{OutOfMemory, Space};
-use order_problem::{falling_at, occurs_in_rule};
+use order_search::{falling_at, occurs_in_rule};
 use std::alloc::Global;
 use trs_core::Rule;
 

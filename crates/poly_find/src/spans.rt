@@ -1,9 +1,9 @@
 //! Where the values of each symbol stand.
 ghost use Rattle.std.specs.Prelude.{◌≡◌, ◌<◌, ◌≤◌, ℕ, All, length, IfOk};
-ghost use Rattle.order_problem.specs.Distinct.{AreDistinct};
+ghost use Rattle.order_search.specs.Distinct.{AreDistinct};
 ghost use Rattle.poly_find.specs.Spans.{AreSpans, said_by, in_span, span, span_of};
 
-use order_problem::{arity_of, value_at};
+use order_search::{arity_of, value_at};
 use poly_lin::Coefficients;
 use std::alloc::Global;
 use trs_core::OutOfMemory;

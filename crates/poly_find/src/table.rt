@@ -1,12 +1,12 @@
 //! The linear interpretation that values of the slots say.
 ghost use Rattle.std.specs.Prelude.{◌≡◌, ◌<◌, ◌≤◌, ◌^◌, map, length, IfOk};
-ghost use Rattle.order_space.specs.Slots.{table_of};
-ghost use Rattle.order_problem.specs.OrderSpace.{slots_of};
-ghost use Rattle.order_problem.specs.Distinct.{AreDistinct};
+ghost use Rattle.order_search.specs.Slots.{table_of};
+ghost use Rattle.order_search.specs.OrderSpace.{slots_of};
+ghost use Rattle.order_search.specs.Distinct.{AreDistinct};
 ghost use Rattle.poly_find.specs.PolyRow.{poly_entry};
 ghost use Rattle.poly_find.specs.PolyPlaces.{parts_by, values_at};
 
-use order_problem::{arity_of, value_at};
+use order_search::{arity_of, value_at};
 use poly_lin::LinTable;
 use std::alloc::Global;
 use trs_core::OutOfMemory;

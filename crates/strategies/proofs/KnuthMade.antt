@@ -13,12 +13,12 @@ use Rattle.kbo_order.specs.declared.faults.KboFault.{KboFault}
 use Rattle.kbo_order.specs.declared.faults.KboFault.TheVariants.{Twice, ConstantTooLight, TooBig, UnaryNotTop, OutOfMemory}
 use Rattle.kbo_order.specs.Table.{symbol_of}
 use Rattle.kbo_order.specs.Faults.{HasFaultAt, HasTopFaultAt, IsOnTop, IsFaultless}
-use Rattle.order_space.specs.Slots.{Slot, Table, table_of, puzzle_of}
-use Rattle.order_space.proofs.Solutions.{solved}
-use Rattle.order_problem.specs.OrderSpace.{above, is_above, arity_with_mark}
-use Rattle.order_problem.specs.OrderOver.{search_of}
-use Rattle.order_problem.proofs.Covered.{listed_of}
-use Rattle.order_problem.proofs.OwnConstraints.{own_and_others, truth_own}
+use Rattle.order_search.specs.Slots.{Slot, Table, table_of, puzzle_of}
+use Rattle.order_search.proofs.Solutions.{solved}
+use Rattle.order_search.specs.OrderSpace.{above, is_above, arity_with_mark}
+use Rattle.order_search.specs.OrderOver.{search_of}
+use Rattle.order_search.proofs.Covered.{listed_of}
+use Rattle.order_search.proofs.OwnConstraints.{own_and_others, truth_own}
 use Rattle.kbo_find.specs.KboSpace.{weight_by, kbo_family, kbo_values, above_each, above_all, tops_of, kbo_tops}
 use Rattle.kbo_find.specs.KboRow.{entry_by, kbo_entry, kbo_search}
 use Rattle.kbo_find.specs.Laws.{FindsKbo}

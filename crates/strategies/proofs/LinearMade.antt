@@ -7,9 +7,9 @@ use Rattle.trs_defs.specs.System.{RewriteRule, System, IsSystem}
 use Rattle.pair_theory.specs.ReductionPair.{marked_rule}
 use Rattle.order_theory.specs.KnuthBendix.{arity_with_marks}
 use Rattle.poly_lin.specs.Table.{symbol_of}
-use Rattle.order_space.specs.Slots.{Table, table_of}
-use Rattle.order_problem.specs.OrderSpace.{arity_with_mark}
-use Rattle.order_problem.specs.OrderOver.{IsOrderOver}
+use Rattle.order_search.specs.Slots.{Table, table_of}
+use Rattle.order_search.specs.OrderSpace.{arity_with_mark}
+use Rattle.order_search.specs.OrderOver.{IsOrderOver}
 use Rattle.poly_find.specs.PolySpace.{values_from}
 use Rattle.poly_find.specs.PolyRow.{poly_entry, poly_search}
 use Rattle.poly_find.specs.Laws.{FindsPoly}

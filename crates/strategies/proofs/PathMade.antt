@@ -6,8 +6,8 @@ use Rattle.std.proofs.lemmas.Bool.Decides.{nat_tests}
 use Rattle.trs_defs.specs.System.{System, IsSystem}
 use Rattle.order_theory.specs.ArgumentFilter.{To, Keep}
 use Rattle.path_lpo.specs.Table.{PathEntry, symbol_of, AscendsFrom}
-use Rattle.order_space.specs.Slots.{Slot, Table, table_of}
-use Rattle.order_problem.specs.OrderSpace.{arity_with_mark}
+use Rattle.order_search.specs.Slots.{Slot, Table, table_of}
+use Rattle.order_search.specs.OrderSpace.{arity_with_mark}
 use Rattle.lpo_find.specs.LpoSpace.{places_from, all_but, filter_count, filter_number, lpo_values}
 use Rattle.lpo_find.specs.LpoRow.{lpo_entry, lpo_search}
 use Rattle.lpo_find.specs.Laws.{FindsLpo}

@@ -16,10 +16,10 @@ use Rattle.order_theory.specs.KnuthBendix.{arity_with_marks}
 use Rattle.dp_core.specs.Numbered.{ArePairsOf}
 use Rattle.dp_core.specs.Symbols.{symbols_of, symbols_of_all, symbols_of_rules, symbols_below_roots}
 use Rattle.dp_core.specs.SubtermConditions.{roots_of}
-use Rattle.order_find.proofs.FewPairs.{taken_in}
-use Rattle.order_problem.specs.OrderSpace.{arity_with_mark}
-use Rattle.order_problem.specs.OrderRow.{AreSymbols, AreOfOrder}
-use Rattle.order_problem.proofs.Repeats.{symbols_distinct}
+use Rattle.order_search.proofs.FewPairs.{taken_in}
+use Rattle.order_search.specs.OrderSpace.{arity_with_mark}
+use Rattle.order_search.specs.OrderRow.{AreSymbols, AreOfOrder}
+use Rattle.order_search.proofs.Repeats.{symbols_distinct}
 use Rattle.usable_find.specs.UsableRow.{AreOfUsable}
 use Rattle.usable_find.proofs.OfUsable.{items_in}
 use Rattle.cert_step.specs.Entries.{AreDistinct}

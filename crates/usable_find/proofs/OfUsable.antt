@@ -19,14 +19,14 @@ use Rattle.dp_core.proofs.NumberedPairs.{as_many, within_all}
 use Rattle.dp_core.proofs.OrderConclusions.{rule_symbols}
 use Rattle.usable_rules.specs.AreUsable.{AreUsableRules, Ascends, no_numbers, number}
 use Rattle.usable_rules.proofs.Chosen.{usable_within}
-use Rattle.order_space.specs.Slots.{puzzle_of}
-use Rattle.order_space.specs.Outcome.{IsFinding, IsNotThere, IsSpent}
-use Rattle.order_find.proofs.FewPairs.{few_taken, taken_in, roots_small}
-use Rattle.order_problem.specs.OrderRow.{AreSymbols}
-use Rattle.order_problem.specs.OrderOver.{IsOrderOver}
-use Rattle.order_problem.specs.Distinct.{AreDistinct}
-use Rattle.order_problem.proofs.Covered.{from_symbols, to_symbols, symbols_within}
-use Rattle.order_problem.proofs.Repeats.{symbols_distinct}
+use Rattle.order_search.specs.Slots.{puzzle_of}
+use Rattle.order_search.specs.Outcome.{IsFinding, IsNotThere, IsSpent}
+use Rattle.order_search.proofs.FewPairs.{few_taken, taken_in, roots_small}
+use Rattle.order_search.specs.OrderRow.{AreSymbols}
+use Rattle.order_search.specs.OrderOver.{IsOrderOver}
+use Rattle.order_search.specs.Distinct.{AreDistinct}
+use Rattle.order_search.proofs.Covered.{from_symbols, to_symbols, symbols_within}
+use Rattle.order_search.proofs.Repeats.{symbols_distinct}
 use Rattle.poly_find.specs.PolyRow.{poly_search, poly_entry}
 use Rattle.poly_find.proofs.LowSymbols.{low_symbols, few_by_numbers}
 use Rattle.usable_find.specs.UsableRow.{AreOfUsable, FindsUsable, FailsUsable}

@@ -19,10 +19,10 @@ use Rattle.dp_core.specs.SubtermConditions.{roots_of}
 use Rattle.dp_core.proofs.NumberedPairs.{as_many}
 use Rattle.dp_core.proofs.OrderConclusions.{rule_symbols}
 use Rattle.usable_rules.specs.UsableConditions.{usable_taken}
-use Rattle.order_problem.specs.OrderSpace.{occurs_in, AreCovered}
-use Rattle.order_problem.specs.OrderRow.{AreSymbols}
-use Rattle.order_problem.proofs.Covered.{listed_symbol, listed_of, both_roots}
-use Rattle.order_problem.proofs.OrderLaw.{removal_applies}
+use Rattle.order_search.specs.OrderSpace.{occurs_in, AreCovered}
+use Rattle.order_search.specs.OrderRow.{AreSymbols}
+use Rattle.order_search.proofs.Covered.{listed_symbol, listed_of, both_roots}
+use Rattle.order_search.proofs.OrderLaw.{removal_applies}
 use Rattle.poly_find.specs.LinearTest.{linear_weak, linear_strict}
 use Rattle.poly_find.proofs.NoPairing.{no_pairing_by, roots_within}
 use Rattle.poly_find.proofs.PolyLaw.{comparing, tests, all_fall, some_strict_pair, entry_there}

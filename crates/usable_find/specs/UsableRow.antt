@@ -7,10 +7,10 @@ use Rattle.assign_search.specs.Puzzle.{Puzzle}
 use Rattle.dp_core.specs.Numbered.{ArePairsOf, AreItemsOf}
 use Rattle.dp_core.specs.Symbols.{symbols_of_rules, symbols_below_roots}
 use Rattle.usable_rules.specs.AreUsable.{AreUsableRules}
-use Rattle.order_space.specs.Slots.{Search, puzzle_of}
-use Rattle.order_problem.specs.OrderSpace.{OrderConstraint}
-use Rattle.order_problem.specs.OrderRow.{AreSymbols}
-use Rattle.order_problem.specs.OrderOver.{IsOrderOver}
+use Rattle.order_search.specs.Slots.{Search, puzzle_of}
+use Rattle.order_search.specs.OrderSpace.{OrderConstraint}
+use Rattle.order_search.specs.OrderRow.{AreSymbols}
+use Rattle.order_search.specs.OrderOver.{IsOrderOver}
 use Rattle.poly_find.specs.PolyRow.{poly_search, poly_entry}
 
 -- the pairs of the problem, its usable rules, and the symbols that an interpretation needs values for: those of the

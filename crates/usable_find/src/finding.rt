@@ -3,14 +3,14 @@ ghost use Rattle.std.specs.Prelude.{◌≡◌, ◌<◌, ◌≤◌, All, IfOk, le
 ghost use Rattle.std.specs.List.Sorted.{IsStrictlyIncreasing};
 ghost use Rattle.pair_theory.specs.DependencyPair.{dependency_pairs};
 ghost use Rattle.dp_core.specs.PlacedPairs.{placed_pairs};
-ghost use Rattle.order_space.specs.Outcome.{IsFinding, IsNotThere, IsSpent};
+ghost use Rattle.order_search.specs.Outcome.{IsFinding, IsNotThere, IsSpent};
 ghost use Rattle.usable_find.specs.UsableRow.{FindsUsable, FailsUsable};
 
 use crate::chosen::chosen;
 use assign_search::{Search, Stop};
 use dp_core::{DpPair, Pairs, placed_pairs_are_the_pairs};
-use order_find::taken::taken;
-use order_problem::{marked_rules, symbols_with_sides};
+use order_search::taken::taken;
+use order_search::{marked_rules, symbols_with_sides};
 use pair_theory::dependency_pairs_suffice;
 use poly_find::search_linear;
 use poly_lin::LinTable;

@@ -1,8 +1,8 @@
 use Rattle.std.proofs.Common.{◌≡◌, ℕ, List, Vec, length, map, ap, ◌∙◌, arith}
 use Rattle.std.proofs.lemmas.List.{length-map}
 use Rattle.std.specs.declared.alloc.Global.{Global}
-use Rattle.order_space.specs.Slots.{puzzle_of}
-use Rattle.order_problem.specs.OrderSpace.{arity_with_mark}
+use Rattle.order_search.specs.Slots.{puzzle_of}
+use Rattle.order_search.specs.OrderSpace.{arity_with_mark}
 use Rattle.kbo_find.specs.KboSpace.{kbo_tops}
 use Rattle.kbo_find.specs.KboRow.{kbo_search, entries_of}
 use Rattle.kbo_find.specs.KboPlaces.{asked_of}

@@ -1,5 +1,5 @@
 use Rattle.std.proofs.Common.{get_or, refl}
-use Rattle.order_problem.specs.OrderSpace.{arity_with_mark}
+use Rattle.order_search.specs.OrderSpace.{arity_with_mark}
 use Rattle.kbo_find.proofs.TableSteps.{one_entry_more}
 use Rattle.kbo_find.proofs.table.entries.Goals as goal
 

@@ -1,4 +1,4 @@
-use Rattle.order_problem.specs.OrderSpace.{arity_with_mark}
+use Rattle.order_search.specs.OrderSpace.{arity_with_mark}
 use Rattle.kbo_find.proofs.TableSteps.{AreSoFar}
 use Rattle.kbo_find.proofs.table.entries.Given as goal
 

@@ -1,5 +1,5 @@
 use Rattle.std.proofs.Common.{map}
-use Rattle.order_problem.specs.OrderSpace.{arity_with_mark}
+use Rattle.order_search.specs.OrderSpace.{arity_with_mark}
 use Rattle.kbo_find.specs.KboPlaces.{asked_of}
 use Rattle.kbo_find.proofs.TopSteps.{AreOfAll}
 use Rattle.kbo_find.proofs.tops.all_tops.Given as goal

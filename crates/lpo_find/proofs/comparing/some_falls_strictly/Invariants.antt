@@ -1,5 +1,5 @@
 use Rattle.std.proofs.Common.{◌≡◌, drop}
-use Rattle.order_problem.specs.OrderSpace.{some_falls}
+use Rattle.order_search.specs.OrderSpace.{some_falls}
 use Rattle.lpo_find.specs.LpoSpace.{path_strict}
 use Rattle.lpo_find.proofs.comparing.some_falls_strictly.Given as goal
 

@@ -1,6 +1,6 @@
 use Rattle.std.proofs.Common.{ap, ◌∙◌, map}
 use Rattle.std.proofs.lemmas.List.{take_all}
-use Rattle.order_problem.specs.OrderSpace.{arity_with_mark}
+use Rattle.order_search.specs.OrderSpace.{arity_with_mark}
 use Rattle.lpo_find.specs.Filters.{filters_of}
 use Rattle.lpo_find.proofs.FilterLists.{one_list_more}
 use Rattle.lpo_find.proofs.filters.symbol_filters.Goals as goal

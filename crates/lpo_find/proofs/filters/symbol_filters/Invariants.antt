@@ -1,5 +1,5 @@
 use Rattle.std.proofs.Common.{◌≡◌, map, take}
-use Rattle.order_problem.specs.OrderSpace.{arity_with_mark}
+use Rattle.order_search.specs.OrderSpace.{arity_with_mark}
 use Rattle.lpo_find.specs.Filters.{plain_filters, filters_of}
 use Rattle.lpo_find.proofs.filters.symbol_filters.Given as goal
 

@@ -1,6 +1,6 @@
 use Rattle.std.proofs.Common.{get_or, refl}
 use Rattle.path_lpo.specs.Plain.{plain}
-use Rattle.order_problem.specs.OrderSpace.{arity_with_mark}
+use Rattle.order_search.specs.OrderSpace.{arity_with_mark}
 use Rattle.lpo_find.proofs.TableSteps.{one_entry_more, entry_by_arity}
 use Rattle.lpo_find.proofs.table.order_of.Goals as goal
 

@@ -1,4 +1,4 @@
-use Rattle.order_problem.specs.OrderSpace.{arity_with_mark}
+use Rattle.order_search.specs.OrderSpace.{arity_with_mark}
 use Rattle.lpo_find.proofs.TableSteps.{AreSoFar}
 use Rattle.lpo_find.proofs.table.order_of.Given as goal
 

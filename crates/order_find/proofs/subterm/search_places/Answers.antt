@@ -1,5 +1,5 @@
-use Rattle.order_space.specs.Slots.{puzzle_of}
-use Rattle.order_space.specs.Outcome.{IsFirst}
+use Rattle.order_search.specs.Slots.{puzzle_of}
+use Rattle.order_search.specs.Outcome.{IsFirst}
 use Rattle.order_find.specs.SubtermSpace.{subterm_search}
 use Rattle.order_find.proofs.Places.{as_many_values, small_values}
 use Rattle.order_find.proofs.subterm.search_places.Goals as goal

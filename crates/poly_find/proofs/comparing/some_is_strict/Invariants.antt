@@ -1,5 +1,5 @@
 use Rattle.std.proofs.Common.{◌≡◌, drop}
-use Rattle.order_problem.specs.OrderSpace.{some_falls}
+use Rattle.order_search.specs.OrderSpace.{some_falls}
 use Rattle.poly_find.specs.LinearTest.{linear_strict}
 use Rattle.poly_find.proofs.comparing.some_is_strict.Given as goal
 

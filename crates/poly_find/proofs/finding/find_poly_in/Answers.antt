@@ -3,10 +3,10 @@ use Rattle.pair_theory.specs.DependencyPair.{DependencyPair, dependency_pairs}
 use Rattle.pair_theory.specs.ReductionPair.{marked_rule}
 use Rattle.dp_core.specs.PlacedPairs.{placed_pairs}
 use Rattle.dp_core.proofs.AllNumbers.{few_pairs}
-use Rattle.order_problem.proofs.OfProblem.{small_roots, all_markable, distinct, few_of_problem, few_falling, found_of_problem, are_symbols}
+use Rattle.order_search.proofs.OfProblem.{small_roots, all_markable, distinct, few_of_problem, few_falling, found_of_problem, are_symbols}
 use Rattle.poly_find.specs.PolyRow.{poly_search, poly_entry}
 use Rattle.dp_core.specs.Symbols.{symbols_of_rules}
-use Rattle.order_problem.proofs.Covered.{plain_small}
+use Rattle.order_search.proofs.Covered.{plain_small}
 use Rattle.poly_find.proofs.LowSymbols.{low_symbols}
 use Rattle.poly_find.proofs.finding.find_poly_in.Goals as goal
 

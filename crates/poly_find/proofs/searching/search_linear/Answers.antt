@@ -1,7 +1,7 @@
 use Rattle.std.proofs.Common.{◌≡◌, ℕ, List, Vec, length, map, ap, sym, subst, ◌∙◌, arith}
 use Rattle.std.specs.declared.alloc.Global.{Global}
-use Rattle.order_space.specs.Slots.{table_of, puzzle_of}
-use Rattle.order_problem.specs.OrderSpace.{slots_of}
+use Rattle.order_search.specs.Slots.{table_of, puzzle_of}
+use Rattle.order_search.specs.OrderSpace.{slots_of}
 use Rattle.poly_find.specs.PolyRow.{poly_search, poly_entry}
 use Rattle.poly_find.specs.PolyPlaces.{parts_by}
 use Rattle.poly_find.specs.Spans.{AreSpans}

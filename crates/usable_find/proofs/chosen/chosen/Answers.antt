@@ -1,6 +1,6 @@
 use Rattle.std.proofs.Common.{◌∙◌, ap, ◌++◌, ◌∷◌, []}
 use Rattle.trs_defs.specs.System.{RewriteRule}
-use Rattle.order_find.proofs.TakenPairs.{one_taken, all_taken}
+use Rattle.order_search.proofs.TakenPairs.{one_taken, all_taken}
 use Rattle.usable_find.proofs.chosen.chosen.Goals as goal
 
 pub loop-n-preserved : goal.loop-n-preserved

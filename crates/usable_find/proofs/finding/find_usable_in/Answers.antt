@@ -8,9 +8,9 @@ use Rattle.dp_core.specs.PlacedPairs.{placed_pairs}
 use Rattle.dp_core.proofs.AllNumbers.{few_pairs}
 use Rattle.usable_rules.specs.AreUsable.{AreUsableRules}
 use Rattle.usable_rules.proofs.Chosen.{usable_within}
-use Rattle.order_problem.specs.OrderRow.{AreSymbols}
-use Rattle.order_problem.specs.Distinct.{AreDistinct}
-use Rattle.order_problem.proofs.OfProblem.{small_roots, all_markable}
+use Rattle.order_search.specs.OrderRow.{AreSymbols}
+use Rattle.order_search.specs.Distinct.{AreDistinct}
+use Rattle.order_search.proofs.OfProblem.{small_roots, all_markable}
 use Rattle.usable_find.proofs.OfUsable.{distinct, all_low, few_symbols, few_falling, found_for}
 use Rattle.usable_find.proofs.finding.find_usable_in.Goals as goal
 

@@ -1,5 +1,5 @@
 use Rattle.std.proofs.Common.{ℕ, ap, sym, ◌∙◌, ◌<◌, ◌*◌, length, arith}
-use Rattle.order_problem.proofs.TwoParts.{many_slots}
+use Rattle.order_search.proofs.TwoParts.{many_slots}
 use Rattle.kbo_find.specs.KboSpace.{weight_count}
 use Rattle.kbo_find.proofs.KboPuzzle.{weight_domain, rank_domain}
 use Rattle.kbo_find.proofs.space.KboSpaceSpace.domain.Goals as goal

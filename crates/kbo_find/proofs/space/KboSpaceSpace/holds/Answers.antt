@@ -1,6 +1,6 @@
 use Rattle.std.proofs.Common.{ℕ, List, ap, sym, ◌∙◌, ◌-◌, ◌++◌, length, refl, slice_get}
-use Rattle.order_space.specs.Slots.{table_of}
-use Rattle.order_problem.specs.OrderSpace.{arity_with_mark, slots_of, is_above}
+use Rattle.order_search.specs.Slots.{table_of}
+use Rattle.order_search.specs.OrderSpace.{arity_with_mark, slots_of, is_above}
 use Rattle.kbo_find.specs.KboSpace.{weight_by, rank_by}
 use Rattle.kbo_find.specs.KboPlaces.{falls_by}
 use Rattle.kbo_find.proofs.KboPuzzle.{truth_top, number_behind, truth_falling}

@@ -1,5 +1,5 @@
 use Rattle.std.proofs.Common.{sym}
-use Rattle.order_problem.proofs.TwoParts.{many_slots}
+use Rattle.order_search.proofs.TwoParts.{many_slots}
 use Rattle.kbo_find.proofs.space.KboSpaceSpace.slots.Goals as goal
 
 pub returns : goal.returns

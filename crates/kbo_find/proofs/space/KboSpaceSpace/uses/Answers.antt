@@ -1,5 +1,5 @@
 use Rattle.std.proofs.Common.{sym, ◌∙◌, ◌<◌, ◌-◌, ◌*◌, length, arith, refl}
-use Rattle.order_problem.proofs.TwoParts.{many_slots}
+use Rattle.order_search.proofs.TwoParts.{many_slots}
 use Rattle.kbo_find.proofs.KboPuzzle.{uses_top, number_behind, uses_falling}
 use Rattle.kbo_find.proofs.space.KboSpaceSpace.uses.Goals as goal
 

@@ -1,5 +1,5 @@
 use Rattle.std.proofs.Common.{ℕ, ap, sym, ◌∙◌, ◌<◌, ◌*◌, length, arith}
-use Rattle.order_problem.specs.OrderSpace.{arity_with_mark}
+use Rattle.order_search.specs.OrderSpace.{arity_with_mark}
 use Rattle.lpo_find.specs.LpoSpace.{filter_count}
 use Rattle.lpo_find.proofs.SlotNumbers.{many_slots}
 use Rattle.lpo_find.proofs.LpoPuzzle.{filter_domain, rank_domain}

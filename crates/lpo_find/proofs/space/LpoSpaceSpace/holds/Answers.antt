@@ -1,6 +1,6 @@
 use Rattle.std.proofs.Common.{refl, sym}
-use Rattle.order_problem.specs.OrderSpace.{arity_with_mark}
-use Rattle.order_problem.proofs.Constraints.{last_number}
+use Rattle.order_search.specs.OrderSpace.{arity_with_mark}
+use Rattle.order_search.proofs.Constraints.{last_number}
 use Rattle.lpo_find.specs.LpoSpace.{lpo_family}
 use Rattle.lpo_find.specs.LpoRow.{entries_of}
 use Rattle.lpo_find.proofs.LpoPuzzle.{truth_of_rule, truth_of_last}

@@ -1,7 +1,7 @@
 use Rattle.std.proofs.Common.{ℕ, ap}
 use Rattle.trs_defs.specs.Tree.{trees}
 use Rattle.trs_core.proofs.Lookups.{copied_item}
-use Rattle.order_space.specs.Slots.{table_of}
+use Rattle.order_search.specs.Slots.{table_of}
 use Rattle.order_find.specs.SubtermSpace.{subterm_slots}
 use Rattle.order_find.proofs.Arguments.{argument_value}
 use Rattle.order_find.proofs.subterm_space.SubtermSpace.projected.Goals as goal

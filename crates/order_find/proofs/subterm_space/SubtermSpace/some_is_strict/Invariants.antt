@@ -1,5 +1,5 @@
 use Rattle.std.proofs.Common.{◌≡◌, drop}
-use Rattle.order_space.specs.Slots.{table_of}
+use Rattle.order_search.specs.Slots.{table_of}
 use Rattle.order_find.specs.SubtermSpace.{some_passes, subterm_slots}
 use Rattle.order_find.proofs.subterm_space.SubtermSpace.some_is_strict.Given as goal
 

@@ -1,5 +1,5 @@
-use Rattle.order_problem.specs.OrderSpace.{arity_with_mark}
-use Rattle.order_problem.proofs.Constraints.{many_constraints}
+use Rattle.order_search.specs.OrderSpace.{arity_with_mark}
+use Rattle.order_search.proofs.Constraints.{many_constraints}
 use Rattle.poly_find.specs.PolySpace.{poly_family}
 use Rattle.poly_find.proofs.space.PolySpaceSpace.constraints.Goals as goal
 

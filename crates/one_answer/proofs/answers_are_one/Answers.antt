@@ -1,5 +1,0 @@
-use Rattle.one_answer.proofs.OneAnswer.{answers_one}
-use Rattle.one_answer.proofs.answers_are_one.Goals as goal
-
-pub returns : goal.returns
-returns c = answers_one c.loops_are_one.ensures c.loop_answers_exclude.ensures

@@ -1,9 +1,0 @@
-pub mod Renumbering
-pub mod Following
-pub mod Winners
-pub mod OneFollower
-pub mod Turns
-pub mod OneEnd
-pub mod OneCertificate
-pub mod OneReport
-pub mod OneText

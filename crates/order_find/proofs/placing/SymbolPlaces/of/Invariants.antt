@@ -1,5 +1,0 @@
-use Rattle.order_find.proofs.PlacingSymbols.{ArePlacedSoFar}
-use Rattle.order_find.proofs.placing.SymbolPlaces.of.Given as goal
-
-abbrev pub invariant-loop-i : goal.invariant-loop-i
-invariant-loop-i l = ArePlacedSoFar l.symbols l.i l.places.items

@@ -1,6 +1,0 @@
-use Rattle.order_find.proofs.RootSets.{members_if_ok}
-use Rattle.order_find.proofs.roots.roots.Goals as goal
-use Rattle.dp_core.specs.SubtermConditions.{roots_of}
-
-pub returns : goal.returns
-returns c = members_if_ok c.in_ok-set.set (roots_of c.args.pairs.now) c.listed.result c.listed.ensures.members c.listed.ensures.ordered c.in_ok-set.ensures

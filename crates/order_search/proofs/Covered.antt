@@ -1,0 +1,215 @@
+-- The symbols of the rules and of the marked pairs of a problem are those that an order needs values for.
+use Rattle.std.specs.Prelude.{◌≡◌, ◌≤◌, ◌<◌, ◌⊎◌, ℕ, ◌+◌, Bool, true, false, ◌||◌, ◌==◌, List, [], ◌∷◌, ◌++◌, length, map, All, get_or, Option, Some, None, slice_get}
+use Rattle.std.specs.Option.{option_and_then}
+use Rattle.std.specs.List.Sorted.{IsStrictlyIncreasing}
+use Rattle.std.proofs.Common.{zero, suc, inl, inr, refl, sym, ap, subst, arith}
+use Rattle.std.proofs.lemmas.Bool.Decides.{nat_tests}
+use Rattle.std.proofs.lemmas.List.{length-append, length-map}
+use Rattle.std.proofs.lemmas.Option.{slice_get_within}
+use Rattle.trs_defs.specs.Member.{In, in_first, in_rest}
+use Rattle.trs_defs.specs.Variable.{is_listed}
+use Rattle.trs_defs.proofs.Members.{in_or, no_in, in_left, in_right, in_either, in_of_get, get_of_in, in_map, of_map}
+use Rattle.trs_defs.specs.Tree.{Tree, Trees, var, app, nil, cons, items, count}
+use Rattle.trs_defs.specs.WellFormed.{IsWellFormed, AreWellFormed}
+use Rattle.trs_defs.specs.Position.{subterm_at, argument_at}
+use Rattle.trs_defs.specs.System.{RewriteRule, System, IsSystem}
+use Rattle.trs_defs.specs.Path.{PlacedRule}
+use Rattle.pair_theory.specs.Marked.{Marked, plain, mark}
+use Rattle.pair_theory.specs.DependencyPair.{DependencyPair, dependency_pairs}
+use Rattle.pair_theory.specs.ReductionPair.{marked_rule}
+use Rattle.dp_core.specs.PlacedPairs.{placed_pairs, IsPairAt}
+use Rattle.dp_core.specs.Symbols.{symbols_of, symbols_of_all, symbols_of_rules}
+use Rattle.dp_core.specs.SubtermConditions.{roots_of}
+use Rattle.dp_core.proofs.PlacedLaws.{Paired, pairs_placed}
+use Rattle.dp_core.proofs.OrderConclusions.{rule_symbols}
+use Rattle.order_search.proofs.FewPairs.{length_below}
+use Rattle.order_search.proofs.RootSets.{in_at}
+use Rattle.order_search.specs.OrderSpace.{occurs_in, occurs_in_some, AreCovered}
+use Rattle.order_search.specs.OrderRow.{AreSymbols}
+
+either : (a b : Bool) → (a || b) ≡ true → (a ≡ true) ⊎ (b ≡ true)
+either true b e = inl refl
+either false b e = inr e
+
+same_number : (g f : ℕ) → (g == f) ≡ true → f ≡ g
+same_number g f e = grind (arith, nat_tests)
+
+mutual
+  pub listed_symbol : (f : ℕ) (t : Tree) → occurs_in f t ≡ true → In f (symbols_of t)
+  listed_symbol f (var x) e = absurd cc
+  listed_symbol f (app g ts) e = elim (either (g == f) (occurs_in_some f ts) e) [
+    | inl same ↦ subst (λ (x : ℕ). In f (x ∷ symbols_of_all ts)) (same_number g f same) in_first
+    | inr below ↦ in_rest (listed_below f ts below)
+  ]
+
+  listed_below : (f : ℕ) (ts : Trees) → occurs_in_some f ts ≡ true → In f (symbols_of_all ts)
+  listed_below f nil e = absurd cc
+  listed_below f (cons t ts) e = elim (either (occurs_in f t) (occurs_in_some f ts) e) [
+    | inl here ↦ in_left (symbols_of_all ts) (listed_symbol f t here)
+    | inr later ↦ in_right (symbols_of t) (listed_below f ts later)
+  ]
+
+-- ---- symbols of parts
+
+item_symbols : (ts : Trees) (k : ℕ) (a : Tree) → slice_get (items ts) k ≡ Some a → (f : ℕ) → In f (symbols_of a) → In f (symbols_of_all ts)
+item_symbols nil k a e f i = absurd cc
+item_symbols (cons t ts) zero a e f i = let same : t ≡ a = cc in in_left (symbols_of_all ts) (subst (λ z. In f (symbols_of z)) (sym same) i)
+item_symbols (cons t ts) (suc k) a e f i = in_right (symbols_of t) (item_symbols ts k a e f i)
+
+argument_symbols : (t : Tree) (place : ℕ) (a : Tree) → argument_at t place ≡ Some a → (f : ℕ) → In f (symbols_of a) → In f (symbols_of t)
+argument_symbols (var x) place a e f i = absurd cc
+argument_symbols (app g ts) zero a e f i = absurd cc
+argument_symbols (app g ts) (suc k) a e f i = in_rest (item_symbols ts k a e f i)
+
+at_place_symbols : (p : List ℕ) (t s : Tree) → subterm_at p t ≡ Some s → (f : ℕ) → In f (symbols_of s) → In f (symbols_of t)
+at_place_symbols [] t s e f i = let same : t ≡ s = cc in subst (λ z. In f (symbols_of z)) (sym same) i
+at_place_symbols (place ∷ p) t s e f i = go (argument_at t place) refl e (λ a d. at_place_symbols p a s d f i)
+  where
+    go : (o : Option Tree) → argument_at t place ≡ o → option_and_then (subterm_at p) o ≡ Some s → ((a : Tree) → subterm_at p a ≡ Some s → In f (symbols_of a)) → In f (symbols_of t)
+    go None is d below = absurd cc
+    go (Some a) is d below = argument_symbols t place a is f (below a d)
+
+paired_first : {A B : Type 0} (R : A → B → Type 0) (xs : List A) (ys : List B) → Paired R xs ys → (y : B) → In y ys → (x : A) × R x y
+paired_first R [] [] h y i = absurd (no_in i)
+paired_first R [] (z ∷ ys) h y i = absurd h
+paired_first R (x ∷ xs) [] h y i = absurd h
+paired_first R (x ∷ xs) (z ∷ ys) h y i = elim (in_or i) [ inl same ↦ (x, subst (R x) (sym same) h.0) | inr later ↦ paired_first R xs ys h.1 y later ]
+
+module _ (system : System) (valid : IsSystem system) (p : DependencyPair) (i : In p (dependency_pairs system.rules)) where
+  of_rule : (s : PlacedRule) × IsPairAt system.rules s p
+  of_rule = paired_first (IsPairAt system.rules) (placed_pairs system.rules) (dependency_pairs system.rules) (pairs_placed system valid) p i
+
+  pub from_symbols : (f : ℕ) → In f (symbols_of_all p.from.args) → In f (symbols_of_rules system.rules)
+  from_symbols f m =
+      let h = of_rule.1 in
+      let left : In f (symbols_of h.rule.left) = subst (λ t. In f (symbols_of t)) (sym h.left) (in_rest m) in
+      rule_symbols system.rules h.rule (in_of_get system.rules of_rule.0.rule h.rule h.numbered) f (in_left (symbols_of h.rule.right) left)
+
+  pub to_symbols : (f : ℕ) → In f (symbols_of_all p.to.args) → In f (symbols_of_rules system.rules)
+  to_symbols f m =
+      let h = of_rule.1 in
+      let right : In f (symbols_of h.rule.right) = at_place_symbols of_rule.0.place h.rule.right (plain p.to) h.right f (in_rest m) in
+      rule_symbols system.rules h.rule (in_of_get system.rules of_rule.0.rule h.rule h.numbered) f (in_right (symbols_of h.rule.left) right)
+
+-- ---- of rules and pairs
+
+pub both_roots : (pairs : List DependencyPair) (p : DependencyPair) → In p pairs → In p.from.symbol (roots_of pairs) × In p.to.symbol (roots_of pairs)
+both_roots [] p i = absurd (no_in i)
+both_roots (q ∷ pairs) p i = elim (in_or i) [
+  | inl same ↦ (subst (λ (z : DependencyPair). In z.from.symbol (roots_of (q ∷ pairs))) (sym same) in_first, subst (λ (z : DependencyPair). In z.to.symbol (roots_of (q ∷ pairs))) (sym same) (in_rest in_first))
+  | inr later ↦ let h = both_roots pairs p later in (in_rest (in_rest h.0), in_rest (in_rest h.1))
+]
+
+self_test : (n : ℕ) → (n == n) ≡ true
+self_test n = grind (arith, nat_tests)
+
+or_first : (a b : Bool) → a ≡ true → (a || b) ≡ true
+or_first true b e = refl
+or_first false b e = absurd cc
+
+or_second : (a b : Bool) → b ≡ true → (a || b) ≡ true
+or_second true b e = refl
+or_second false b e = e
+
+pub listed_of : (f : ℕ) (xs : List ℕ) → In f xs → is_listed f xs ≡ true
+listed_of f [] i = absurd (no_in i)
+listed_of f (x ∷ xs) i = elim (in_or i) [
+  | inl same ↦ or_first (x == f) (is_listed f xs) (subst (λ (y : ℕ). (y == f) ≡ true) same (self_test f))
+  | inr later ↦ or_second (x == f) (is_listed f xs) (listed_of f xs later)
+]
+
+module _ (system : System) (valid : IsSystem system) (pairs : List DependencyPair) (from_all : (p : DependencyPair) → In p pairs → In p (dependency_pairs system.rules))
+    (symbols : List ℕ) (are : AreSymbols (symbols_of_rules system.rules) pairs symbols) where
+  pub rule_symbol : (f : ℕ) → In f (symbols_of_rules system.rules) → In f symbols
+  rule_symbol f i = subst (λ (l : List ℕ). In f l) (sym are.together) (in_left (map (λ g. g + 4096) are.roots) ((are.are_plain.each f).1 i))
+
+  pub root_symbol : (f : ℕ) → In f (roots_of pairs) → In (f + 4096) symbols
+  root_symbol f i = subst (λ (l : List ℕ). In (f + 4096) l) (sym are.together) (in_right are.plain (in_map (λ (g : ℕ). g + 4096) ((are.are_roots.each f).1 i)))
+
+  side_covered : (m : Marked) → In m.symbol (roots_of pairs) → ((f : ℕ) → In f (symbols_of_all m.args) → In f (symbols_of_rules system.rules))
+      → (f : ℕ) → In f (symbols_of (mark m)) → In f symbols
+  side_covered m root below f i = elim (in_or i) [
+    | inl same ↦ subst (λ (x : ℕ). In x symbols) (sym same) (root_symbol m.symbol root)
+    | inr later ↦ rule_symbol f (below f later)
+  ]
+
+  of_sides : (r : RewriteRule) → ((f : ℕ) → In f (symbols_of r.left) → In f symbols) → ((f : ℕ) → In f (symbols_of r.right) → In f symbols)
+      → (f : ℕ) → occurs_in f r.left || occurs_in f r.right ≡ true → is_listed f symbols ≡ true
+  of_sides r left right f e = elim (either (occurs_in f r.left) (occurs_in f r.right) e) [
+    | inl here ↦ listed_of f symbols (left f (listed_symbol f r.left here))
+    | inr there ↦ listed_of f symbols (right f (listed_symbol f r.right there))
+  ]
+
+  pub rules_covered : AreCovered symbols system.rules
+  rules_covered r i =
+      of_sides r (λ f j. rule_symbol f (rule_symbols system.rules r i f (in_left (symbols_of r.right) j)))
+      (λ f j. rule_symbol f (rule_symbols system.rules r i f (in_right (symbols_of r.left) j)))
+
+  pair_covered : (p : DependencyPair) → In p pairs → (f : ℕ) → occurs_in f (mark p.from) || occurs_in f (mark p.to) ≡ true → is_listed f symbols ≡ true
+  pair_covered p i =
+      let there = from_all p i in
+      let roots = both_roots pairs p i in
+      of_sides (marked_rule p) (side_covered p.from roots.0 (from_symbols system valid p there)) (side_covered p.to roots.1 (to_symbols system valid p there))
+
+  pub pairs_covered : AreCovered symbols (map marked_rule pairs)
+  pairs_covered r i =
+      let (p, j, same) = of_map marked_rule pairs i in
+      subst (λ (x : RewriteRule). (f : ℕ) → occurs_in f x.left || occurs_in f x.right ≡ true → is_listed f symbols ≡ true) (sym same) (pair_covered p j)
+
+  pub all_covered : AreCovered symbols (system.rules ++ map marked_rule pairs)
+  all_covered r i = elim (in_either system.rules (map marked_rule pairs) i) [ inl rule ↦ rules_covered r rule | inr pair ↦ pairs_covered r pair ]
+
+-- ---- few of them
+
+module _ (arities : List ℕ) where
+  mutual
+    symbol_within : (t : Tree) → IsWellFormed arities t → (f : ℕ) → In f (symbols_of t) → f < length arities
+    symbol_within (var x) well f i = absurd (no_in i)
+    symbol_within (app g ts) well f i = elim (in_or i) [
+      | inl same ↦ (let h = slice_get_within arities g (count ts) well.0 in omega (arith, h, same))
+      | inr below ↦ symbol_within_all ts well.1 f below
+    ]
+
+    symbol_within_all : (ts : Trees) → AreWellFormed arities ts → (f : ℕ) → In f (symbols_of_all ts) → f < length arities
+    symbol_within_all nil well f i = absurd (no_in i)
+    symbol_within_all (cons t ts) well f i = elim (in_either (symbols_of t) (symbols_of_all ts) i) [
+      | inl here ↦ symbol_within t well.0 f here
+      | inr later ↦ symbol_within_all ts well.1 f later
+    ]
+
+  pub symbols_within : (rules : List RewriteRule) → ((r : RewriteRule) → In r rules → IsWellFormed arities r.left × IsWellFormed arities r.right)
+      → (f : ℕ) → In f (symbols_of_rules rules) → f < length arities
+  symbols_within [] well f i = absurd (no_in i)
+  symbols_within (r ∷ rules) well f i = elim (in_either (symbols_of r.left ++ symbols_of r.right) (symbols_of_rules rules) i) [
+    | inl here ↦ elim (in_either (symbols_of r.left) (symbols_of r.right) here) [
+      | inl left ↦ symbol_within r.left (well r in_first).0 f left
+      | inr right ↦ symbol_within r.right (well r in_first).1 f right
+    ]
+    | inr later ↦ symbols_within rules (λ s j. well s (in_rest j)) f later
+  ]
+
+pub few_listed : (listed : List ℕ) (most : ℕ) → IsStrictlyIncreasing listed → ((f : ℕ) → In f listed → f < most) → length listed ≤ most
+few_listed listed most up small = length_below listed most up (λ k d within. small (get_or listed k d) (in_at listed k d (get_or listed k d) within refl))
+
+module _ (system : System) (valid : IsSystem system) (few : length system.arities ≤ 4095) (pairs : List DependencyPair)
+    (small : (f : ℕ) → In f (roots_of pairs) → f < 4096) (symbols : List ℕ) (are : AreSymbols (symbols_of_rules system.rules) pairs symbols) where
+  well : (r : RewriteRule) → In r system.rules → IsWellFormed system.arities r.left × IsWellFormed system.arities r.right
+  well r i =
+      let (k, at) = get_of_in i in
+      let rule = valid.each k r at in
+      (rule.left_well_formed, rule.right_well_formed)
+
+  pub plain_small : (f : ℕ) → In f (symbols_of_rules system.rules) → f < 4096
+  plain_small f i = let h = symbols_within system.arities system.rules well f i in omega (arith, h, few)
+
+  pub few_symbols : length symbols ≤ 8192
+  few_symbols =
+      let a = few_listed are.plain 4096 are.are_plain.increasing (λ f i. plain_small f ((are.are_plain.each f).0 i)) in
+      let b = few_listed are.roots 4096 are.are_roots.increasing (λ f i. small f ((are.are_roots.each f).0 i)) in
+      let both = length-append are.plain (map (λ f. f + 4096) are.roots) in
+      let marked = length-map are.roots (λ f. f + 4096) in
+      let all : length symbols ≡ length (are.plain ++ map (λ f. f + 4096) are.roots) = ap length are.together in
+      omega (arith, a, b, both, marked, all)
+
+pub all_small : (listed : List ℕ) (most : ℕ) → ((f : ℕ) → In f listed → f < most) → All (λ f. f < most) listed
+all_small listed most small k d within = small (get_or listed k d) (in_at listed k d (get_or listed k d) within refl)

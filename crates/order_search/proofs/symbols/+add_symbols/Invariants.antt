@@ -1,0 +1,8 @@
+use Rattle.std.proofs.Common.{drop}
+use Rattle.trs_core.specs.View.{tree, forest}
+use Rattle.dp_core.specs.Symbols.{symbols_of, symbols_of_all}
+use Rattle.order_search.proofs.Growing.{LeftOf}
+use Rattle.order_search.proofs.symbols.+add_symbols.Given as goal
+
+abbrev pub invariant-loop-arg : goal.invariant-loop-arg
+invariant-loop-arg l = LeftOf l.fn.set l.set (symbols_of (tree l.t)) (symbols_of_all (forest (drop l.arg-index l.arg-items)))

@@ -1,0 +1,9 @@
+pub mod OrderSpace
+pub mod OrderRow
+pub mod OrderOver
+pub mod SymbolSets
+pub mod Distinct
+pub mod Slots
+pub mod Outcome
+pub mod Ascending
+pub mod Placed

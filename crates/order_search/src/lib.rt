@@ -1,0 +1,23 @@
+//! What the searches for orders share. Slots of finite searches that are named by symbols, and tables
+//! of their values; the symbols of a problem's rules and pairs, the pairs as rules on marked terms,
+//! and the constraints by their numbers.
+#![tactic(auto)]
+
+mod arities;
+mod below_roots;
+mod falling;
+mod marking;
+mod occurring;
+pub mod placing;
+pub mod roots;
+mod symbols;
+pub mod taken;
+mod values;
+
+pub use arities::arity_of;
+pub use below_roots::symbols_with_sides;
+pub use falling::falling_at;
+pub use marking::marked_rules;
+pub use occurring::{occurs, occurs_in_rule};
+pub use symbols::order_symbols;
+pub use values::value_at;

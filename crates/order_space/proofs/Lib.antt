@@ -1,3 +1,0 @@
-pub mod Lawful
-pub mod Constraints
-pub mod Solutions
