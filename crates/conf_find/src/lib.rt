@@ -1,5 +1,6 @@
 //! Finders of what the kinds of steps on confluence need beside joins: forks to two terms that
-//! never meet again, and forks to two different normal forms. Each finder has a file of its own.
+//! never meet again, and forks to two different normal forms. Each finder has a file of its own; the
+//! one of ranks of rules is in a crate of its own, and is handed on.
 //! (Zankl, Felgenhauer and Middeldorp, CSI, a confluence tool, 2011.)
 #![tactic(auto)]
 
@@ -14,5 +15,6 @@ mod split;
 
 pub use fork::find_fork;
 pub use forks::ForkFound;
+pub use label_find::{Labelled, find_label, found_labels_apply};
 pub use laws::{found_forks_apply, found_splits_apply};
 pub use split::find_split;

@@ -10,4 +10,4 @@ mod table;
 mod tops;
 
 pub use finding::{find_kbo, find_kbo_in};
-pub use laws::found_orders_apply;
+pub use laws::found_knuth_bendix_orders_apply;

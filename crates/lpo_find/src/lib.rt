@@ -11,4 +11,4 @@ mod space;
 mod table;
 
 pub use finding::{find_lpo, find_lpo_in};
-pub use laws::found_orders_apply;
+pub use laws::found_path_orders_apply;

@@ -1,14 +1,17 @@
-//! Finders of orders on the terms of dependency pairs, as finite searches.
+//! The finders of orders on the terms of dependency pairs, as finite searches. The one for the
+//! subterm criterion is here; those of path orders, Knuth-Bendix orders and linear interpretations
+//! are in crates of their own, and are handed on.
 //! (Hirokawa and Middeldorp, Tyrolean termination tool: techniques and features, 2007.)
 #![tactic(auto)]
 
 mod laws;
-pub mod placing;
-pub mod roots;
 mod subterm;
 mod subterm_space;
-pub mod taken;
 mod within;
 
+pub use kbo_find::{find_kbo, find_kbo_in, found_knuth_bendix_orders_apply};
 pub use laws::found_places_apply;
+pub use lpo_find::{find_lpo, find_lpo_in, found_path_orders_apply};
+pub use poly_find::{find_poly, find_poly_in, found_interpretations_apply};
+pub use poly_find::{find_usable, find_usable_in, found_usable_interpretations_apply};
 pub use subterm::{find_subterm, find_subterm_in};

@@ -8,7 +8,7 @@ use poly_lin::LinTable;
 use std::alloc::Global;
 use std::test::Fail;
 use trs_core::{OutOfMemory, Trs};
-use usable_find::find_usable;
+use poly_find::find_usable;
 
 /// Which rules have to be weak: all, or the usable ones.
 #[derive(Clone, Copy)]

@@ -11,10 +11,10 @@ use Rattle.text_reading.specs.Printed.{number_item}
 use Rattle.text_reading.proofs.Words.{plain_word}
 use Rattle.text_reading.proofs.Made.{Makes, ok_same, applied, made_part, made_done, made_form, made_word, made_number}
 use Rattle.text_reading.proofs.Again.{Spells, SpellsAll, SpellsParts, spells_part, spells_done, spells_word, spells_form, spells_number, spells_each}
-use Rattle.symbol_text.specs.LongLists.{lacks, long_list}
-use Rattle.symbol_text.specs.InTurn.{before_others, in_turn, AllInTurn, above, number_from, ascending}
-use Rattle.symbol_text.proofs.LongListLaws.{lacks_same}
-use Rattle.symbol_text.proofs.AscendingLaws.{IsFrom, ascending_made, ascending_again}
+use Rattle.pair_text.specs.LongLists.{lacks, long_list}
+use Rattle.pair_text.specs.InTurn.{before_others, in_turn, AllInTurn, above, number_from, ascending}
+use Rattle.pair_text.proofs.LongListLaws.{lacks_same}
+use Rattle.pair_text.proofs.AscendingLaws.{IsFrom, ascending_made, ascending_again}
 use Rattle.pair_text.specs.GraphItems.{group_of, single_of, group_form, single_parts, single_form, group_forms, graph_item, group_item, single_item, printed_item}
 use Rattle.pair_text.specs.Ranges.{IsGroup, HasPairs}
 

@@ -1,2 +1,12 @@
 pub mod ProjectionLaws
 pub mod GraphItemLaws
+pub mod InTurnLaws
+pub mod AscendingLaws
+pub mod LongListLaws
+pub mod SymbolLaws
+pub mod EntryLaws
+pub mod EntrySeen
+pub mod LinearLaws
+pub mod PathLaws
+pub mod TopRankLaws
+pub mod KnuthLaws

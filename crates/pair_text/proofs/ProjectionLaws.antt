@@ -10,12 +10,12 @@ use Rattle.text_reading.specs.Reading.{Read, Form, form, part, done}
 use Rattle.text_reading.specs.Printed.{number_item}
 use Rattle.text_reading.proofs.Made.{Makes, MakesForm, made_part, made_done, made_form}
 use Rattle.text_reading.proofs.Again.{Spells, SpellsAll, SpellsParts, spells_part, spells_done}
-use Rattle.symbol_text.specs.LongLists.{lacks}
-use Rattle.symbol_text.specs.Symbols.{symbol, argument_place, name_item}
-use Rattle.symbol_text.specs.Entries.{new_symbol, by_symbol, AreNewBehind}
-use Rattle.symbol_text.proofs.LongListLaws.{lacks_same}
-use Rattle.symbol_text.proofs.SymbolLaws.{symbol_made, symbol_again, IsArgumentPlace, argument_made, argument_again}
-use Rattle.symbol_text.proofs.EntryLaws.{IsNewEntry, entries_made, entries_again}
+use Rattle.pair_text.specs.LongLists.{lacks}
+use Rattle.pair_text.specs.Symbols.{symbol, argument_place, name_item}
+use Rattle.pair_text.specs.Entries.{new_symbol, by_symbol, AreNewBehind}
+use Rattle.pair_text.proofs.LongListLaws.{lacks_same}
+use Rattle.pair_text.proofs.SymbolLaws.{symbol_made, symbol_again, IsArgumentPlace, argument_made, argument_again}
+use Rattle.pair_text.proofs.EntryLaws.{IsNewEntry, entries_made, entries_again}
 use Rattle.pair_text.specs.Projections.{projected, projected_symbol, place_parts, projection, projection_item, projections}
 use Rattle.pair_text.specs.Ranges.{IsProjection, HasPlace}
 

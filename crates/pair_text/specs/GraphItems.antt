@@ -5,8 +5,8 @@ use Rattle.dp_graph.specs.GroupOrSingle.{GroupOrSingle, group, single}
 use Rattle.text_reading.specs.Reading.{Read, ◌<*>◌, Form, form, Parts, part, done, by_word}
 use Rattle.text_reading.specs.Numbers.{number}
 use Rattle.text_reading.specs.Printed.{word_item, number_item, list_item}
-use Rattle.symbol_text.specs.LongLists.{long_list}
-use Rattle.symbol_text.specs.InTurn.{ascending}
+use Rattle.pair_text.specs.LongLists.{long_list}
+use Rattle.pair_text.specs.InTurn.{ascending}
 
 abbrev pub group_of : List ℕ → GroupOrSingle
 group_of pairs = group pairs

@@ -1,3 +1,12 @@
 pub mod Projections
 pub mod GraphItems
 pub mod Ranges
+pub mod LongLists
+pub mod InTurn
+pub mod Symbols
+pub mod Entries
+pub mod LinearEntries
+pub mod PathEntries
+pub mod KnuthEntries
+pub mod TopRanks
+pub mod EntryRanges

@@ -5,9 +5,9 @@ use Rattle.names_text.specs.Named.{NamedSystem}
 use Rattle.names_text.specs.declared.table.Symbol.{Symbol}
 use Rattle.text_reading.specs.Reading.{Read, Parts, part, done, form}
 use Rattle.text_reading.specs.Printed.{number_item, list_item}
-use Rattle.symbol_text.specs.LongLists.{lacks}
-use Rattle.symbol_text.specs.Symbols.{symbol, argument_place, name_item}
-use Rattle.symbol_text.specs.Entries.{new_symbol, by_symbol, entries}
+use Rattle.pair_text.specs.LongLists.{lacks}
+use Rattle.pair_text.specs.Symbols.{symbol, argument_place, name_item}
+use Rattle.pair_text.specs.Entries.{new_symbol, by_symbol, entries}
 
 abbrev pub projected : Symbol → ℕ → ℕ × ℕ
 projected s place = (s.number, place)

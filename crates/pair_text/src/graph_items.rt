@@ -6,7 +6,7 @@ ghost use Rattle.text_reading.specs.Reading.{◌<*>◌, many};
 ghost use Rattle.text_reading.specs.Numbers.{number};
 ghost use Rattle.text_reading.specs.Printed.{number_item};
 ghost use Rattle.text_reading.specs.Seen.{seen};
-ghost use Rattle.symbol_text.specs.InTurn.{ascending};
+ghost use Rattle.pair_text.specs.InTurn.{ascending};
 ghost use Rattle.dp_graph.specs.GroupOrSingle.{item_of};
 ghost use Rattle.pair_text.specs.GraphItems.{group_of, single_of, graph_item, printed_item};
 ghost use Rattle.pair_text.specs.Ranges.{HasPairs};
@@ -14,7 +14,7 @@ ghost use Rattle.pair_text.specs.Ranges.{HasPairs};
 use dp_graph::GraphItem;
 use sexp_core::Sexp;
 use std::alloc::Global;
-use symbol_text::read_number_from;
+use crate::read_number_from;
 use text_reading::{Read, ended, place, push, put, put_number, read_number};
 use trs_core::OutOfMemory;
 

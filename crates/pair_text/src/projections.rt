@@ -10,7 +10,7 @@ use names_text::{NamedTrs, Symbol};
 use pair_order::SymbolIndex;
 use sexp_core::Sexp;
 use std::alloc::Global;
-use symbol_text::{add_symbol, put_name, read_argument_place, read_symbol};
+use crate::{add_symbol, put_name, read_argument_place, read_symbol};
 use text_reading::{Read, ended, place, put, put_number};
 use trs_core::OutOfMemory;
 

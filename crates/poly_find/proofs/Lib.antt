@@ -11,3 +11,5 @@ pub mod LowSymbols
 pub mod PolySteps
 pub mod Answered
 pub mod PolyLaw
+pub mod OfUsable
+pub mod UsableLaw

@@ -7,3 +7,5 @@ pub mod SmallTerms
 pub mod PolyDepends
 pub mod PolyLawful
 pub mod Laws
+pub mod UsableRow
+pub mod UsableLaws

@@ -3,7 +3,7 @@ use Rattle.std.proofs.Common.{◌≡◌, ℕ, ◌==◌, ◌||◌, Bool, true, fa
 use Rattle.std.specs.List.{AllByRecursion}
 use Rattle.std.proofs.lemmas.Bool.{eqb-false, ne_eqb, or_parts, or_from}
 use Rattle.trs_defs.specs.Variable.{is_listed}
-use Rattle.symbol_text.specs.Entries.{AreNewBehind}
+use Rattle.pair_text.specs.Entries.{AreNewBehind}
 use Rattle.cert_step.specs.Entries.{AreDistinct}
 
 or_assoc : (a b c : Bool) → (a || (b || c)) ≡ ((a || b) || c)

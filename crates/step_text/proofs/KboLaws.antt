@@ -9,8 +9,8 @@ use Rattle.cert_step.specs.Entries.{AreKboEntries}
 use Rattle.cert_step.specs.ProofStep.{ProofStep, kbo, IsWellMade}
 use Rattle.text_reading.proofs.Made.{MakesForm}
 use Rattle.text_reading.proofs.Again.{SpellsParts}
-use Rattle.order_text.specs.KnuthEntries.{kbo_entries, kbo_entry_item}
-use Rattle.order_text.proofs.KnuthLaws.{AreKnuthEntries, kbo_entries_made, kbo_entries_again}
+use Rattle.pair_text.specs.KnuthEntries.{kbo_entries, kbo_entry_item}
+use Rattle.pair_text.proofs.KnuthLaws.{AreKnuthEntries, kbo_entries_made, kbo_entries_again}
 use Rattle.step_text.specs.Ranges.{HasNumbersInRange}
 use Rattle.step_text.specs.KboText.{kbo_parts, kbo_step, kbo_form}
 use Rattle.step_text.proofs.TogetherLaws.{made_together, spells_together}

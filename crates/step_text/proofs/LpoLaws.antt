@@ -9,10 +9,10 @@ use Rattle.cert_step.specs.Entries.{IsPathEntry, ArePathEntries}
 use Rattle.cert_step.specs.ProofStep.{ProofStep, lpo, IsWellMade}
 use Rattle.text_reading.proofs.Made.{MakesForm}
 use Rattle.text_reading.proofs.Again.{SpellsParts}
-use Rattle.symbol_text.specs.Entries.{AreNewBehind}
-use Rattle.order_text.specs.PathEntries.{path_entries, path_entry_item}
-use Rattle.order_text.specs.Ranges.{HasPlaces}
-use Rattle.order_text.proofs.PathLaws.{IsReadable, path_entries_made, path_entries_again}
+use Rattle.pair_text.specs.Entries.{AreNewBehind}
+use Rattle.pair_text.specs.PathEntries.{path_entries, path_entry_item}
+use Rattle.pair_text.specs.EntryRanges.{HasPlaces}
+use Rattle.pair_text.proofs.PathLaws.{IsReadable, path_entries_made, path_entries_again}
 use Rattle.step_text.specs.Ranges.{HasNumbersInRange}
 use Rattle.step_text.specs.LpoText.{lpo_parts, lpo_step, lpo_form}
 use Rattle.step_text.proofs.TogetherLaws.{made_together, spells_together}

@@ -23,9 +23,9 @@ use Rattle.step_text.specs.ConfluenceText.{confluence_parts, confluence_form}
 use Rattle.step_text.proofs.TogetherLaws.{made_together}
 use Rattle.pair_text.specs.GraphItems.{graph_item}
 use Rattle.pair_text.specs.Projections.{projections}
-use Rattle.order_text.specs.LinearEntries.{linear_entries}
-use Rattle.order_text.specs.PathEntries.{path_entries}
-use Rattle.order_text.specs.KnuthEntries.{kbo_entries}
+use Rattle.pair_text.specs.LinearEntries.{linear_entries}
+use Rattle.pair_text.specs.PathEntries.{path_entries}
+use Rattle.pair_text.specs.KnuthEntries.{kbo_entries}
 
 abbrev pub HasNoPath : ProofStep → Type 0
 HasNoPath s = paths_of_method s ≡ []

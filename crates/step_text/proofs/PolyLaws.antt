@@ -9,10 +9,10 @@ use Rattle.cert_step.specs.Entries.{AreLinearEntries}
 use Rattle.cert_step.specs.ProofStep.{ProofStep, poly, IsWellMade}
 use Rattle.text_reading.proofs.Made.{MakesForm}
 use Rattle.text_reading.proofs.Again.{SpellsParts}
-use Rattle.symbol_text.specs.Entries.{AreNewBehind}
-use Rattle.order_text.specs.LinearEntries.{linear_entries, linear_entry_item}
-use Rattle.order_text.specs.Ranges.{IsLinearEntry}
-use Rattle.order_text.proofs.LinearLaws.{linear_entries_made, linear_entries_again}
+use Rattle.pair_text.specs.Entries.{AreNewBehind}
+use Rattle.pair_text.specs.LinearEntries.{linear_entries, linear_entry_item}
+use Rattle.pair_text.specs.EntryRanges.{IsLinearEntry}
+use Rattle.pair_text.proofs.LinearLaws.{linear_entries_made, linear_entries_again}
 use Rattle.step_text.specs.Ranges.{HasNumbersInRange}
 use Rattle.step_text.specs.PolyText.{poly_parts, poly_step, poly_form}
 use Rattle.step_text.proofs.TogetherLaws.{made_together, spells_together}

@@ -8,7 +8,7 @@ use Rattle.cert_step.specs.Entries.{IsProjection, AreProjections}
 use Rattle.cert_step.specs.ProofStep.{ProofStep, subterm, IsWellMade}
 use Rattle.text_reading.proofs.Made.{MakesForm}
 use Rattle.text_reading.proofs.Again.{SpellsParts}
-use Rattle.symbol_text.specs.Entries.{AreNewBehind}
+use Rattle.pair_text.specs.Entries.{AreNewBehind}
 use Rattle.pair_text.specs.Projections.{projected_symbol, projections, projection_item}
 use Rattle.pair_text.specs.Ranges.{HasPlace}
 use Rattle.pair_text.proofs.ProjectionLaws.{IsReadable, projections_made, projections_again}

@@ -7,8 +7,8 @@ use Rattle.names_text.specs.Named.{NamedSystem}
 use Rattle.cert_step.specs.ProofStep.{ProofStep, lpo}
 use Rattle.text_reading.specs.Reading.{Form, form, Parts}
 use Rattle.text_reading.specs.Printed.{word_item, list_item}
-use Rattle.order_text.specs.PathEntries.{path_entries, path_entry_item}
-use Rattle.order_text.specs.Ranges.{HasPlaces}
+use Rattle.pair_text.specs.PathEntries.{path_entries, path_entry_item}
+use Rattle.pair_text.specs.EntryRanges.{HasPlaces}
 use Rattle.step_text.specs.StepText.{StepText}
 use Rattle.step_text.specs.Together.{together}
 

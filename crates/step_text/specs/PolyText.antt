@@ -5,7 +5,7 @@ use Rattle.names_text.specs.Named.{NamedSystem}
 use Rattle.cert_step.specs.ProofStep.{ProofStep, poly}
 use Rattle.text_reading.specs.Reading.{Form, form, Parts}
 use Rattle.text_reading.specs.Printed.{word_item, list_item}
-use Rattle.order_text.specs.LinearEntries.{linear_entries, linear_entry_item}
+use Rattle.pair_text.specs.LinearEntries.{linear_entries, linear_entry_item}
 use Rattle.step_text.specs.StepText.{StepText}
 use Rattle.step_text.specs.Together.{together}
 

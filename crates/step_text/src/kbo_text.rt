@@ -4,13 +4,13 @@ ghost use Rattle.sexp_core.specs.Printed.{text_of};
 ghost use Rattle.cert_step.specs.ProofStep.{step_of};
 ghost use Rattle.text_reading.specs.Reading.{◌<*>◌};
 ghost use Rattle.text_reading.specs.Seen.{seen};
-ghost use Rattle.order_text.specs.KnuthEntries.{kbo_entries};
+ghost use Rattle.pair_text.specs.KnuthEntries.{kbo_entries};
 ghost use Rattle.step_text.specs.KboText.{kbo_step, kbo_item};
 
 use cert_step::{AnyOrder, Step};
 use kbo_order::Kbo;
 use names_text::NamedTrs;
-use order_text::{put_kbo_entries, read_knuth_order};
+use pair_text::{put_kbo_entries, read_knuth_order};
 use sexp_core::Sexp;
 use std::alloc::Global;
 use text_reading::{Read, put};

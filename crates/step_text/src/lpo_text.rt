@@ -4,12 +4,12 @@ ghost use Rattle.sexp_core.specs.Printed.{text_of};
 ghost use Rattle.cert_step.specs.ProofStep.{step_of};
 ghost use Rattle.text_reading.specs.Reading.{◌<*>◌};
 ghost use Rattle.text_reading.specs.Seen.{seen};
-ghost use Rattle.order_text.specs.PathEntries.{path_entries};
+ghost use Rattle.pair_text.specs.PathEntries.{path_entries};
 ghost use Rattle.step_text.specs.LpoText.{lpo_step, lpo_item, lpo_text};
 
 use cert_step::{AnyOrder, Step};
 use names_text::NamedTrs;
-use order_text::{put_path_entries, read_path_order};
+use pair_text::{put_path_entries, read_path_order};
 use path_lpo::Lpo;
 use sexp_core::Sexp;
 use std::alloc::Global;

@@ -4,12 +4,12 @@ ghost use Rattle.sexp_core.specs.Printed.{text_of};
 ghost use Rattle.cert_step.specs.ProofStep.{step_of};
 ghost use Rattle.text_reading.specs.Reading.{◌<*>◌};
 ghost use Rattle.text_reading.specs.Seen.{seen};
-ghost use Rattle.order_text.specs.LinearEntries.{linear_entries};
+ghost use Rattle.pair_text.specs.LinearEntries.{linear_entries};
 ghost use Rattle.step_text.specs.PolyText.{poly_step, poly_item};
 
 use cert_step::{AnyOrder, Step};
 use names_text::NamedTrs;
-use order_text::{put_linear_entries, read_linear_table};
+use pair_text::{put_linear_entries, read_linear_table};
 use poly_lin::LinTable;
 use sexp_core::Sexp;
 use std::alloc::Global;

@@ -13,7 +13,7 @@ use Rattle.order_search.specs.OrderOver.{IsOrderOver}
 use Rattle.poly_find.specs.PolySpace.{values_from}
 use Rattle.poly_find.specs.PolyRow.{poly_entry, poly_search}
 use Rattle.poly_find.specs.Laws.{FindsPoly}
-use Rattle.usable_find.specs.UsableRow.{FindsUsable}
+use Rattle.poly_find.specs.UsableRow.{FindsUsable}
 use Rattle.cert_step.specs.Entries.{AreDistinct, AreLinearEntries}
 use Rattle.strategies.proofs.Distinctness.{names_said, each_said}
 use Rattle.strategies.proofs.SymbolArities.{arity_there, all_distinct, usable_arity_there, usable_distinct}

@@ -20,8 +20,8 @@ use Rattle.order_search.proofs.FewPairs.{taken_in}
 use Rattle.order_search.specs.OrderSpace.{arity_with_mark}
 use Rattle.order_search.specs.OrderRow.{AreSymbols, AreOfOrder}
 use Rattle.order_search.proofs.Repeats.{symbols_distinct}
-use Rattle.usable_find.specs.UsableRow.{AreOfUsable}
-use Rattle.usable_find.proofs.OfUsable.{items_in}
+use Rattle.poly_find.specs.UsableRow.{AreOfUsable}
+use Rattle.poly_find.proofs.OfUsable.{items_in}
 use Rattle.cert_step.specs.Entries.{AreDistinct}
 use Rattle.strategies.proofs.Distinctness.{listed_distinct}
 

@@ -18,7 +18,7 @@ use crate::tables::Tables;
 use crate::{Findings, Strategy};
 use assign_search::{Search, Stop};
 use cert_step::{AnyOrder, Problem, Step};
-use kbo_find::{find_kbo_in, found_orders_apply};
+use kbo_find::{find_kbo_in, found_knuth_bendix_orders_apply};
 use kbo_order::Kbo;
 use std::alloc::Global;
 use trs_core::{OutOfMemory, Trs};
@@ -45,7 +45,7 @@ pub(crate) fn search_kbo<'a, P: Stop>(
         unreachable!()
     };
     let _rules = trs.rules();
-    found_orders_apply();
+    found_knuth_bendix_orders_apply();
     match knuth_bendix_order(alloc, trs, tables, numbers, budget, stop)? {
         Search::Found(found) => {
             let step = Step::Order(AnyOrder::Kbo(found));

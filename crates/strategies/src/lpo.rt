@@ -17,7 +17,7 @@ use crate::tables::Tables;
 use crate::{Findings, Strategy};
 use assign_search::{Search, Stop};
 use cert_step::{AnyOrder, Problem, Step};
-use lpo_find::{find_lpo_in, found_orders_apply};
+use lpo_find::{find_lpo_in, found_path_orders_apply};
 use path_lpo::Lpo;
 use std::alloc::Global;
 use trs_core::{OutOfMemory, Trs};
@@ -44,7 +44,7 @@ pub(crate) fn search_lpo<'a, P: Stop>(
         unreachable!()
     };
     let _rules = trs.rules();
-    found_orders_apply();
+    found_path_orders_apply();
     match path_order(alloc, trs, tables, numbers, budget, stop)? {
         Search::Found(found) => {
             let step = Step::Order(AnyOrder::Lpo(found));

@@ -18,7 +18,7 @@ use crate::tables::Tables;
 use crate::{Findings, Strategy};
 use assign_search::{Search, Stop};
 use cert_step::{AnyOrder, Problem, Step};
-use poly_find::{find_poly_in, found_orders_apply};
+use poly_find::{find_poly_in, found_interpretations_apply};
 use poly_lin::LinTable;
 use std::alloc::Global;
 use trs_core::{OutOfMemory, Trs};
@@ -45,7 +45,7 @@ pub(crate) fn search_poly<'a, P: Stop>(
         unreachable!()
     };
     let _rules = trs.rules();
-    found_orders_apply();
+    found_interpretations_apply();
     match interpretation(alloc, trs, tables, numbers, budget, stop)? {
         Search::Found(found) => {
             let step = Step::Order(AnyOrder::Poly(found));

@@ -2,7 +2,7 @@
 ghost use Rattle.std.specs.Prelude.{◌≡◌, ◌<◌, ◌≤◌, All, IfOk, IsTrue, length};
 ghost use Rattle.std.specs.List.Sorted.{IsStrictlyIncreasing};
 ghost use Rattle.pair_theory.specs.DependencyPair.{dependency_pairs};
-ghost use Rattle.usable_find.specs.UsableRow.{FindsUsable, FailsUsable};
+ghost use Rattle.poly_find.specs.UsableRow.{FindsUsable, FailsUsable};
 ghost use Rattle.order_search.specs.Outcome.{IsFinding, IsNotThere, IsSpent};
 ghost use Rattle.cert_step.specs.OnPairs.{for_pairs};
 ghost use Rattle.cert_step.specs.ProofProblem.{problem_of, IsWellMadeProblem};
@@ -18,7 +18,7 @@ use cert_step::{Problem, Step};
 use poly_lin::LinTable;
 use std::alloc::Global;
 use trs_core::{OutOfMemory, Trs};
-use usable_find::{find_usable_in, found_orders_apply};
+use poly_find::{find_usable_in, found_usable_interpretations_apply};
 
 /// A linear interpretation that makes the usable rules weak and removes pairs.
 pub(crate) fn search_usable<'a, P: Stop>(
@@ -42,7 +42,7 @@ pub(crate) fn search_usable<'a, P: Stop>(
         unreachable!()
     };
     let _rules = trs.rules();
-    found_orders_apply();
+    found_usable_interpretations_apply();
     match interpretation(alloc, trs, tables, numbers, budget, stop)? {
         Search::Found(found) => {
             let step = Step::UsablePoly(found);

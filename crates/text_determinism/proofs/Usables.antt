@@ -14,7 +14,7 @@ use Rattle.order_search.specs.Slots.{table_of, puzzle_of}
 use Rattle.order_search.specs.Outcome.{IsNotThere, IsSpent}
 use Rattle.order_search.specs.OrderRow.{AreSymbols}
 use Rattle.poly_find.specs.PolyRow.{poly_entry}
-use Rattle.usable_find.specs.UsableRow.{AreOfUsable, usable_search, FindsUsable, FailsUsable}
+use Rattle.poly_find.specs.UsableRow.{AreOfUsable, usable_search, FindsUsable, FailsUsable}
 use Rattle.text_determinism.specs.LoopLaws.{Exclude}
 use Rattle.text_determinism.proofs.Items.{items_once}
 use Rattle.text_determinism.proofs.Orders.{symbols_once}

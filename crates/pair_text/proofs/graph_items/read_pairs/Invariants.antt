@@ -1,7 +1,7 @@
 use Rattle.std.proofs.Common.{◌≡◌, ◌-◌, ◌^◌, Ok, drop}
 use Rattle.sexp_core.specs.Items.{views}
 use Rattle.text_reading.specs.Seen.{joined}
-use Rattle.symbol_text.specs.InTurn.{ascending}
+use Rattle.pair_text.specs.InTurn.{ascending}
 use Rattle.pair_text.proofs.graph_items.read_pairs.Given as goal
 
 abbrev pub invariant-loop-item : goal.invariant-loop-item

@@ -6,9 +6,9 @@ use Rattle.names_text.specs.declared.table.Symbol.{Symbol}
 use Rattle.text_reading.specs.Reading.{Read, ◌<*>◌, ended, form}
 use Rattle.text_reading.proofs.SeenParts.{first, last, as_it_is}
 use Rattle.text_reading.proofs.Members.{list_seen}
-use Rattle.symbol_text.specs.Symbols.{symbol, argument_place}
-use Rattle.symbol_text.specs.Entries.{new_symbol, by_symbol}
-use Rattle.symbol_text.proofs.LongListLaws.{two_views}
+use Rattle.pair_text.specs.Symbols.{symbol, argument_place}
+use Rattle.pair_text.specs.Entries.{new_symbol, by_symbol}
+use Rattle.pair_text.proofs.LongListLaws.{two_views}
 use Rattle.pair_text.specs.Projections.{projected, place_parts, projection}
 use Rattle.pair_text.proofs.projections.read_projection.Goals as goal
 

@@ -1,8 +1,8 @@
 use Rattle.std.proofs.Common.{◌≡◌, Ok, drop}
 use Rattle.sexp_core.specs.Items.{views}
 use Rattle.text_reading.specs.Seen.{joined}
-use Rattle.symbol_text.specs.InTurn.{in_turn}
-use Rattle.symbol_text.specs.Entries.{with_symbol_of}
+use Rattle.pair_text.specs.InTurn.{in_turn}
+use Rattle.pair_text.specs.Entries.{with_symbol_of}
 use Rattle.pair_text.specs.Projections.{projected_symbol, projection, projections}
 use Rattle.pair_text.proofs.projections.read_projections.Given as goal
 

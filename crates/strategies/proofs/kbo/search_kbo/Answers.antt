@@ -14,7 +14,7 @@ leaving-requires-clause-step g c =
     (ready c.knuth_bendix_order.new.tables.prepared c.args.trs.now c.args.budget strategy.Kbo (problem_of c.args.problem.now) (problem.dp c.deref.result.now) (step.kbo c.in-Found.found.entries.items)
     c.knuth_bendix_order.ensures.tables.prepared (ap problem_of c.in-Dp.is ∙ ap (λ l. problem.dp l) (sym c.deref.ensures.value)) (kbo_is_found h)
     (knuth_made c.args.trs.now c.rules-rules.ensures.valid c.rules-rules.ensures.limits.symbols c.deref.result.now c.args.budget c.in-Found.found.entries.items h)
-    (kbo_applies c.args.trs.now c.deref.result.now c.in-Found.found.entries.items (c.found_orders_apply.ensures c.args.trs.now c.deref.result.now c.args.budget c.in-Found.found.entries.items c.rules-rules.ensures.valid h))).made
+    (kbo_applies c.args.trs.now c.deref.result.now c.in-Found.found.entries.items (c.found_knuth_bendix_orders_apply.ensures c.args.trs.now c.deref.result.now c.args.budget c.in-Found.found.entries.items c.rules-rules.ensures.valid h))).made
 
 pub leaving-requires-clause-applies : goal.leaving-requires-clause-applies
 leaving-requires-clause-applies g c =
@@ -22,7 +22,7 @@ leaving-requires-clause-applies g c =
     (ready c.knuth_bendix_order.new.tables.prepared c.args.trs.now c.args.budget strategy.Kbo (problem_of c.args.problem.now) (problem.dp c.deref.result.now) (step.kbo c.in-Found.found.entries.items)
     c.knuth_bendix_order.ensures.tables.prepared (ap problem_of c.in-Dp.is ∙ ap (λ l. problem.dp l) (sym c.deref.ensures.value)) (kbo_is_found h)
     (knuth_made c.args.trs.now c.rules-rules.ensures.valid c.rules-rules.ensures.limits.symbols c.deref.result.now c.args.budget c.in-Found.found.entries.items h)
-    (kbo_applies c.args.trs.now c.deref.result.now c.in-Found.found.entries.items (c.found_orders_apply.ensures c.args.trs.now c.deref.result.now c.args.budget c.in-Found.found.entries.items c.rules-rules.ensures.valid h))).applies
+    (kbo_applies c.args.trs.now c.deref.result.now c.in-Found.found.entries.items (c.found_knuth_bendix_orders_apply.ensures c.args.trs.now c.deref.result.now c.args.budget c.in-Found.found.entries.items c.rules-rules.ensures.valid h))).applies
 
 pub returns-in_ok-findings-in-Found-clause-answer : goal.returns-in_ok-findings-in-Found-clause-answer
 returns-in_ok-findings-in-Found-clause-answer g c =
@@ -32,7 +32,7 @@ returns-in_ok-findings-in-Found-clause-answer g c =
     (ready c.knuth_bendix_order.new.tables.prepared c.args.trs.now c.args.budget strategy.Kbo (problem_of c.args.problem.now) (problem.dp c.deref.result.now) (step.kbo c.in-Found.found.entries.items)
     c.knuth_bendix_order.ensures.tables.prepared (ap problem_of c.in-Dp.is ∙ ap (λ l. problem.dp l) (sym c.deref.ensures.value)) (kbo_is_found h)
     (knuth_made c.args.trs.now c.rules-rules.ensures.valid c.rules-rules.ensures.limits.symbols c.deref.result.now c.args.budget c.in-Found.found.entries.items h)
-    (kbo_applies c.args.trs.now c.deref.result.now c.in-Found.found.entries.items (c.found_orders_apply.ensures c.args.trs.now c.deref.result.now c.args.budget c.in-Found.found.entries.items c.rules-rules.ensures.valid h))).finds
+    (kbo_applies c.args.trs.now c.deref.result.now c.in-Found.found.entries.items (c.found_knuth_bendix_orders_apply.ensures c.args.trs.now c.deref.result.now c.args.budget c.in-Found.found.entries.items c.rules-rules.ensures.valid h))).finds
 
 pub returns-in-NotThere-clause-answer : goal.returns-in-NotThere-clause-answer
 returns-in-NotThere-clause-answer g c =

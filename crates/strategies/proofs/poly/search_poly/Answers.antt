@@ -14,7 +14,7 @@ leaving-requires-clause-step g c =
     (ready c.interpretation.new.tables.prepared c.args.trs.now c.args.budget strategy.Poly (problem_of c.args.problem.now) (problem.dp c.deref.result.now) (step.poly c.in-Found.found)
     c.interpretation.ensures.tables.prepared (ap problem_of c.in-Dp.is ∙ ap (λ l. problem.dp l) (sym c.deref.ensures.value)) (poly_is_found h)
     (linear_made c.args.trs.now c.rules-rules.ensures.valid c.rules-rules.ensures.limits.symbols c.deref.result.now c.args.budget c.in-Found.found h)
-    (poly_applies c.args.trs.now c.deref.result.now c.in-Found.found (c.found_orders_apply.ensures c.args.trs.now c.deref.result.now c.args.budget c.in-Found.found c.rules-rules.ensures.valid c.rules-rules.ensures.limits.symbols h))).made
+    (poly_applies c.args.trs.now c.deref.result.now c.in-Found.found (c.found_interpretations_apply.ensures c.args.trs.now c.deref.result.now c.args.budget c.in-Found.found c.rules-rules.ensures.valid c.rules-rules.ensures.limits.symbols h))).made
 
 pub leaving-requires-clause-applies : goal.leaving-requires-clause-applies
 leaving-requires-clause-applies g c =
@@ -22,7 +22,7 @@ leaving-requires-clause-applies g c =
     (ready c.interpretation.new.tables.prepared c.args.trs.now c.args.budget strategy.Poly (problem_of c.args.problem.now) (problem.dp c.deref.result.now) (step.poly c.in-Found.found)
     c.interpretation.ensures.tables.prepared (ap problem_of c.in-Dp.is ∙ ap (λ l. problem.dp l) (sym c.deref.ensures.value)) (poly_is_found h)
     (linear_made c.args.trs.now c.rules-rules.ensures.valid c.rules-rules.ensures.limits.symbols c.deref.result.now c.args.budget c.in-Found.found h)
-    (poly_applies c.args.trs.now c.deref.result.now c.in-Found.found (c.found_orders_apply.ensures c.args.trs.now c.deref.result.now c.args.budget c.in-Found.found c.rules-rules.ensures.valid c.rules-rules.ensures.limits.symbols h))).applies
+    (poly_applies c.args.trs.now c.deref.result.now c.in-Found.found (c.found_interpretations_apply.ensures c.args.trs.now c.deref.result.now c.args.budget c.in-Found.found c.rules-rules.ensures.valid c.rules-rules.ensures.limits.symbols h))).applies
 
 pub returns-in_ok-findings-in-Found-clause-answer : goal.returns-in_ok-findings-in-Found-clause-answer
 returns-in_ok-findings-in-Found-clause-answer g c =
@@ -32,7 +32,7 @@ returns-in_ok-findings-in-Found-clause-answer g c =
     (ready c.interpretation.new.tables.prepared c.args.trs.now c.args.budget strategy.Poly (problem_of c.args.problem.now) (problem.dp c.deref.result.now) (step.poly c.in-Found.found)
     c.interpretation.ensures.tables.prepared (ap problem_of c.in-Dp.is ∙ ap (λ l. problem.dp l) (sym c.deref.ensures.value)) (poly_is_found h)
     (linear_made c.args.trs.now c.rules-rules.ensures.valid c.rules-rules.ensures.limits.symbols c.deref.result.now c.args.budget c.in-Found.found h)
-    (poly_applies c.args.trs.now c.deref.result.now c.in-Found.found (c.found_orders_apply.ensures c.args.trs.now c.deref.result.now c.args.budget c.in-Found.found c.rules-rules.ensures.valid c.rules-rules.ensures.limits.symbols h))).finds
+    (poly_applies c.args.trs.now c.deref.result.now c.in-Found.found (c.found_interpretations_apply.ensures c.args.trs.now c.deref.result.now c.args.budget c.in-Found.found c.rules-rules.ensures.valid c.rules-rules.ensures.limits.symbols h))).finds
 
 pub returns-in-NotThere-clause-answer : goal.returns-in-NotThere-clause-answer
 returns-in-NotThere-clause-answer g c =

@@ -1,4 +1,0 @@
-pub mod LinearLaws
-pub mod PathLaws
-pub mod TopRankLaws
-pub mod KnuthLaws

@@ -1,5 +1,0 @@
-use Rattle.poly_find.proofs.PolyLaw.{found_apply}
-use Rattle.poly_find.proofs.laws.found_orders_apply.Goals as goal
-
-pub returns : goal.returns
-returns c = found_apply

@@ -1,4 +1,0 @@
-pub mod LongLists
-pub mod InTurn
-pub mod Symbols
-pub mod Entries

@@ -1,2 +1,0 @@
-pub mod OfUsable
-pub mod UsableLaw

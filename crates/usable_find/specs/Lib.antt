@@ -1,2 +1,0 @@
-pub mod UsableRow
-pub mod Laws
