@@ -4,7 +4,7 @@ use Rattle.std.specs.List.{AllByRecursion}
 use Rattle.std.proofs.lemmas.List.Elements.{recursion_from_All}
 use Rattle.trs_defs.specs.System.{System}
 use Rattle.cert_step.specs.ProofStep.{ProofNodeStep}
-use Rattle.tree_states.specs.Reports.{IsFoundStep}
+use Rattle.tree_definitions.specs.Reports.{IsFoundStep}
 use Rattle.conclusion.specs.InOrder.{AreInOrder}
 use Rattle.conclusion.proofs.FoundInOrder.{found_in_order}
 

@@ -7,12 +7,12 @@ use Rattle.cert_step.specs.declared.claim.Claim.{Claim}
 use Rattle.cert_step.specs.ProofStep.{ProofNodeStep}
 use Rattle.conclusion.specs.ProofOf.{Proves}
 use Rattle.report_text.specs.GoalLines.{report_lines}
-use Rattle.tree_states.specs.declared.question.Question.{Question}
-use Rattle.tree_states.specs.Questions.{goals_of, claims}
-use Rattle.tree_states.specs.Reports.{Part, IsTrueReport, AreStepsOf, ArePartsOf}
-use Rattle.tree_states.specs.Trees.{ProofTree}
-use Rattle.tree_states.specs.Verdicts.{HasVerdict}
-use Rattle.tree_states.specs.Replies.{IsVerdict}
+use Rattle.tree_definitions.specs.declared.question.Question.{Question}
+use Rattle.tree_definitions.specs.Questions.{goals_of, claims}
+use Rattle.tree_definitions.specs.Reports.{Part, IsTrueReport, AreStepsOf, ArePartsOf}
+use Rattle.tree_definitions.specs.Trees.{ProofTree}
+use Rattle.tree_definitions.specs.Verdicts.{HasVerdict}
+use Rattle.tree_definitions.specs.Replies.{IsVerdict}
 use Rattle.worker_pool.specs.Serial.{IsSerialEnd}
 use Rattle.conclusion.specs.Concludes.{Concludes, proved, maybe, proof_lines, maybe_text}
 use Rattle.conclusion.specs.SerialText.{IsSerialText, IsEnd, won, lost}

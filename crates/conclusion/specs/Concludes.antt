@@ -7,9 +7,9 @@ use Rattle.cert_step.specs.declared.claim.Claim.{Claim}
 use Rattle.cert_step.specs.ProofStep.{ProofNodeStep}
 use Rattle.cert_text.specs.CertificateText.{certificate_items}
 use Rattle.conclusion.specs.ProofOf.{proof_of, Proves}
-use Rattle.tree_states.specs.declared.question.Question.{Question}
-use Rattle.tree_states.specs.Questions.{claims}
-use Rattle.tree_states.specs.Reports.{Part, IsTrueReport}
+use Rattle.tree_definitions.specs.declared.question.Question.{Question}
+use Rattle.tree_definitions.specs.Questions.{claims}
+use Rattle.tree_definitions.specs.Reports.{Part, IsTrueReport}
 use Rattle.report_text.specs.GoalLines.{report_lines}
 
 -- the printed certificate of a claim with these steps

@@ -3,11 +3,11 @@ use Rattle.std.specs.Prelude.{◌≡◌, ℕ, List, Some, None, slice_get}
 use Rattle.names_text.specs.Named.{NamedSystem}
 use Rattle.cert_step.specs.declared.claim.Claim.{Claim}
 use Rattle.cert_step.specs.ProofStep.{ProofNodeStep}
-use Rattle.tree_states.specs.declared.question.Question.{Question}
-use Rattle.tree_states.specs.Questions.{claims}
-use Rattle.tree_states.specs.States.{State}
-use Rattle.tree_states.specs.Reports.{Part, IsTrueReport, AreStepsOf, ArePartsOf}
-use Rattle.tree_states.specs.Trees.{ProofTree}
+use Rattle.tree_definitions.specs.declared.question.Question.{Question}
+use Rattle.tree_definitions.specs.Questions.{claims}
+use Rattle.tree_definitions.specs.States.{State}
+use Rattle.tree_definitions.specs.Reports.{Part, IsTrueReport, AreStepsOf, ArePartsOf}
+use Rattle.tree_definitions.specs.Trees.{ProofTree}
 use Rattle.worker_pool.specs.Serial.{IsSerialEnd}
 use Rattle.conclusion.specs.Concludes.{proof_lines, maybe_text}
 

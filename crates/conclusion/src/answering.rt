@@ -1,5 +1,5 @@
 ghost use Rattle.std.specs.Prelude.{◌≡◌, ◌<◌, ◌^◌, ℕ, Some, IfOk, length};
-ghost use Rattle.tree_states.specs.Replies.{IsVerdict};
+ghost use Rattle.tree_definitions.specs.Replies.{IsVerdict};
 ghost use Rattle.conclusion.specs.Concludes.{Concludes};
 ghost use Rattle.conclusion.specs.SerialText.{IsSerialText, IsEnd};
 
@@ -10,7 +10,7 @@ use report_text::print_report;
 use std::alloc::Global;
 use strategies::Limits;
 use tree_core::Tree;
-use tree_states::{Question, Verdict};
+use tree_definitions::{Question, Verdict};
 use trs_core::OutOfMemory;
 use worker_pool::prove_alone;
 

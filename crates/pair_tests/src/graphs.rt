@@ -1,5 +1,5 @@
 //! Edges, steps by the graph and components, beside a table of edges.
-use crate::numbers::all_numbers;
+use finder_cases::all_numbers;
 use crate::slow::{self, TextPair};
 use crate::slow_graph::{Component, Table, components};
 use crate::texts::TextRule;

@@ -1,5 +1,5 @@
-//! Tests of dependency pairs, their graph and its components, usable rules and lists of reachable
-//! terms. There is no code here.
+//! Tests of dependency pairs, their graph and its components, usable rules, lists of reachable terms
+//! and the orders. There is no code here.
 #![tactic(auto)]
 
 #[cfg(test)]
@@ -7,7 +7,9 @@ mod agreeing;
 #[cfg(test)]
 mod graphs;
 #[cfg(test)]
-mod numbers;
+mod made;
+#[cfg(test)]
+mod orders;
 #[cfg(test)]
 mod pairs;
 #[cfg(test)]

@@ -1,5 +1,5 @@
 //! Pairs, usable rules and the subterm criterion, beside those of texts.
-use crate::numbers::all_numbers;
+use finder_cases::all_numbers;
 use crate::slow::{self, TextPair};
 use crate::texts::{TextRule, arity, first_term};
 use dp_core::{DpPair, dependency_pairs, subterm_check};

@@ -7,8 +7,8 @@ use Rattle.sexp_core.specs.Items.{Item, items_of}
 use Rattle.sexp_core.specs.Printed.{text_of, spaced, lines}
 use Rattle.text_reading.specs.Printed.{word_item, list_item}
 use Rattle.names_text.specs.Named.{NamedSystem}
-use Rattle.tree_states.specs.declared.report.GoalReport.{GoalReport}
-use Rattle.tree_states.specs.Reports.{part_of}
+use Rattle.tree_definitions.specs.declared.report.GoalReport.{GoalReport}
+use Rattle.tree_definitions.specs.Reports.{part_of}
 use Rattle.report_text.specs.GoalLines.{goal_item, goal_items}
 
 pub spaced_joined : (xs ys : List Item) → spaced (items_of (xs ++ ys)) ≡ spaced (items_of xs) ++ spaced (items_of ys)

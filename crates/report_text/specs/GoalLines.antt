@@ -9,9 +9,9 @@ use Rattle.text_reading.specs.Printed.{word_item, number_item, list_item}
 use Rattle.step_text.specs.Steps.{step_item}
 use Rattle.strategies.specs.declared.strategy.Strategy.{Strategy}
 use Rattle.strategies.specs.Kinds.{word_of}
-use Rattle.tree_states.specs.declared.question.Question.{Question}
-use Rattle.tree_states.specs.declared.question.Question.TheVariants.{Termination, Confluence, Unique}
-use Rattle.tree_states.specs.Reports.{Part}
+use Rattle.tree_definitions.specs.declared.question.Question.{Question}
+use Rattle.tree_definitions.specs.declared.question.Question.TheVariants.{Termination, Confluence, Unique}
+use Rattle.tree_definitions.specs.Reports.{Part}
 
 -- the words of a question's goals, in order
 abbrev pub goal_words : Question → List (List ℕ)

@@ -4,9 +4,9 @@ ghost use Rattle.sexp_core.specs.Printed.{text_of, spaced};
 ghost use Rattle.names_text.specs.VariableNames.{underscores as underscores_of};
 ghost use Rattle.cert_step.specs.ProofStep.{node_step_of};
 ghost use Rattle.step_text.specs.Steps.{step_item};
-ghost use Rattle.tree_states.specs.declared.question.Question.TheVariants.{Termination, Confluence, Unique};
-ghost use Rattle.tree_states.specs.Questions.{goals_of};
-ghost use Rattle.tree_states.specs.Reports.{part_of};
+ghost use Rattle.tree_definitions.specs.declared.question.Question.TheVariants.{Termination, Confluence, Unique};
+ghost use Rattle.tree_definitions.specs.Questions.{goals_of};
+ghost use Rattle.tree_definitions.specs.Reports.{part_of};
 ghost use Rattle.report_text.specs.GoalLines.{goal_words, goal_item};
 
 use crate::failures::put_failures;
@@ -17,7 +17,7 @@ use path_text::PathNames;
 use std::alloc::Global;
 use step_text::put_step;
 use text_reading::put;
-use tree_states::{GoalReport, Question};
+use tree_definitions::{GoalReport, Question};
 use trs_core::OutOfMemory;
 
 /// The word of a goal of a question, by its number.

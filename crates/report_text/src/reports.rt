@@ -2,14 +2,14 @@ ghost use Rattle.std.specs.Prelude.{◌≡◌, ◌≤◌, ◌++◌, length, map,
 ghost use Rattle.sexp_core.specs.Items.{items_of};
 ghost use Rattle.sexp_core.specs.Printed.{lines};
 ghost use Rattle.names_text.specs.VariableNames.{underscores as underscores_of};
-ghost use Rattle.tree_states.specs.Questions.{goals_of};
-ghost use Rattle.tree_states.specs.Reports.{part_of};
+ghost use Rattle.tree_definitions.specs.Questions.{goals_of};
+ghost use Rattle.tree_definitions.specs.Reports.{part_of};
 ghost use Rattle.report_text.specs.GoalLines.{goal_words, goal_items, report_lines};
 
 use crate::goal_lines::{goal_word, put_goal};
 use names_text::{NamedTrs, underscores};
 use std::alloc::Global;
-use tree_states::{GoalReport, Question, Report};
+use tree_definitions::{GoalReport, Question, Report};
 use trs_core::OutOfMemory;
 
 /// The text of a report: for each goal of the question, in order, a line

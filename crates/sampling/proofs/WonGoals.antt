@@ -6,10 +6,10 @@ use Rattle.cert_step.specs.ProofStep.{ProofNodeStep}
 use Rattle.cert_step.specs.declared.claim.Claim.{Claim}
 use Rattle.cert_step.specs.declared.claim.Claim.TheVariants.{Terminating, Nonterminating}
 use Rattle.cert_step.specs.Nodes.{IsAccepted}
-use Rattle.tree_states.specs.declared.question.Question.{Question}
-use Rattle.tree_states.specs.declared.question.Question.TheVariants.{Termination}
-use Rattle.tree_states.specs.Questions.{claims}
-use Rattle.tree_states.specs.Trees.{ProofTree}
+use Rattle.tree_definitions.specs.declared.question.Question.{Question}
+use Rattle.tree_definitions.specs.declared.question.Question.TheVariants.{Termination}
+use Rattle.tree_definitions.specs.Questions.{claims}
+use Rattle.tree_definitions.specs.Trees.{ProofTree}
 use Rattle.sampling.specs.Family.{sample}
 use Rattle.sampling.specs.declared.judgement.Judgement.{Judgement}
 use Rattle.sampling.specs.declared.judgement.Judgement.TheVariants.{Proved, Refuted}

@@ -5,10 +5,10 @@ use Rattle.cert_step.specs.ProofStep.{ProofNodeStep}
 use Rattle.cert_step.specs.ProofProblem.{Says}
 use Rattle.cert_step.specs.declared.claim.Claim.TheVariants.{Terminating, Nonterminating}
 use Rattle.cert_step.specs.Nodes.{IsAccepted}
-use Rattle.tree_states.specs.declared.question.Question.TheVariants.{Termination}
-use Rattle.tree_states.specs.Reports.{Part, IsTrueReport}
-use Rattle.tree_states.specs.States.{State}
-use Rattle.tree_states.specs.Trees.{ProofTree}
+use Rattle.tree_definitions.specs.declared.question.Question.TheVariants.{Termination}
+use Rattle.tree_definitions.specs.Reports.{Part, IsTrueReport}
+use Rattle.tree_definitions.specs.States.{State}
+use Rattle.tree_definitions.specs.Trees.{ProofTree}
 use Rattle.worker_pool.specs.Serial.{IsSerialEnd}
 use Rattle.sampling.specs.declared.judgement.Judgement.{Judgement}
 use Rattle.sampling.specs.declared.judgement.Judgement.TheVariants.{Proved, Refuted, Open}

@@ -1,5 +1,5 @@
 ghost use Rattle.std.specs.Prelude.{◌≡◌, ℕ, Some, IfOk};
-ghost use Rattle.tree_states.specs.Replies.{IsVerdict};
+ghost use Rattle.tree_definitions.specs.Replies.{IsVerdict};
 ghost use Rattle.sampling.specs.Judged.{IsTrueJudgement, IsSerialJudgement, IsOnTermination};
 
 use crate::Judgement;
@@ -7,7 +7,7 @@ use cert_step::Claim;
 use std::alloc::Global;
 use strategies::Limits;
 use tree_core::Tree;
-use tree_states::{Question, Verdict};
+use tree_definitions::{Question, Verdict};
 use trs_core::{OutOfMemory, Trs};
 use worker_pool::prove_alone;
 

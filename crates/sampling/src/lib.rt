@@ -15,6 +15,3 @@ pub use family::sample_system;
 pub use judgement::Judgement;
 pub use judging::judge;
 pub use line::sample_line;
-
-#[cfg(test)]
-mod tests;

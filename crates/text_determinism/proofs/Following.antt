@@ -9,14 +9,14 @@ use Rattle.cert_step.specs.Applies.{Applies}
 use Rattle.strategies.specs.declared.strategy.Strategy.{Strategy}
 use Rattle.strategies.specs.Runs as strategy
 use Rattle.strategies.specs.Runs.{Found}
-use Rattle.tree_states.specs.declared.mark.Mark.{Mark}
-use Rattle.tree_states.specs.declared.mark.Mark.TheVariants.{Idle}
-use Rattle.tree_states.specs.declared.ticket.Ticket.{Ticket}
-use Rattle.tree_states.specs.History.{Event, claimed, found, failed, cancelled, aborted}
-use Rattle.tree_states.specs.States.{TreeNode, State, Decided, new_node, marked}
-use Rattle.tree_states.specs.Verdicts.{IsFirstWinner}
-use Rattle.tree_states.specs.Events.{Claims, RunsAt, IsOver, Decides, EndsLate, Follows, with_claim, without, ended, nodes_with}
-use Rattle.tree_states.specs.Replies.{event_of_found}
+use Rattle.tree_definitions.specs.declared.mark.Mark.{Mark}
+use Rattle.tree_definitions.specs.declared.mark.Mark.TheVariants.{Idle}
+use Rattle.tree_definitions.specs.declared.ticket.Ticket.{Ticket}
+use Rattle.tree_definitions.specs.History.{Event, claimed, found, failed, cancelled, aborted}
+use Rattle.tree_definitions.specs.States.{TreeNode, State, Decided, new_node, marked}
+use Rattle.tree_definitions.specs.Verdicts.{IsFirstWinner}
+use Rattle.tree_definitions.specs.Events.{Claims, RunsAt, IsOver, Decides, EndsLate, Follows, with_claim, without, ended, nodes_with}
+use Rattle.tree_definitions.specs.Replies.{event_of_found}
 use Rattle.worker_pool.specs.Serial.{entry_of}
 use Rattle.conclusion.proofs.InOrder.{applies_in_order}
 use Rattle.text_determinism.specs.AnswerLaws.{renumbered}

@@ -16,9 +16,9 @@ use Rattle.step_text.specs.Steps.{method_item, step_item}
 use Rattle.cert_text.specs.Head.{headline_word, head_item}
 use Rattle.cert_text.specs.Headline.{headline_of}
 use Rattle.conclusion.specs.Concludes.{proof_lines}
-use Rattle.tree_states.specs.States.{TreeNode, Decided}
-use Rattle.tree_states.specs.Reports.{Walks, ends, stays, goes_on, children_of, steps_from, with_step, decision_at}
-use Rattle.tree_states.proofs.Lookups.{one_value}
+use Rattle.tree_definitions.specs.States.{TreeNode, Decided}
+use Rattle.tree_definitions.specs.Reports.{Walks, ends, stays, goes_on, children_of, steps_from, with_step, decision_at}
+use Rattle.tree_definitions.proofs.Lookups.{one_value}
 use Rattle.text_determinism.specs.AnswerLaws.{renumbered}
 use Rattle.text_determinism.proofs.Renumbering.{renumbered_decided, renumbered_decision, renumbered_node, renumbered_nodes, there_again}
 

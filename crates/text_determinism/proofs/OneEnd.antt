@@ -6,14 +6,14 @@ use Rattle.cert_step.specs.ProofProblem.{ProofProblem}
 use Rattle.strategies.specs.declared.strategy.Strategy.{Strategy}
 use Rattle.strategies.specs.Runs.{Found, found, failed}
 use Rattle.strategies.specs.Truth.{IsTrueFound}
-use Rattle.tree_states.specs.declared.question.Question.{Question}
-use Rattle.tree_states.specs.Questions.{roots, goals_of}
-use Rattle.tree_states.specs.History as event
-use Rattle.tree_states.specs.History.{HistoryEntry, claimed}
-use Rattle.tree_states.specs.States.{TreeNode, State, new_node, roots_from, opening}
-use Rattle.tree_states.specs.Verdicts.{HasVerdict}
-use Rattle.tree_states.specs.Events.{Claims, Follows, Replays}
-use Rattle.tree_states.specs.Replies.{event_of_found}
+use Rattle.tree_definitions.specs.declared.question.Question.{Question}
+use Rattle.tree_definitions.specs.Questions.{roots, goals_of}
+use Rattle.tree_definitions.specs.History as event
+use Rattle.tree_definitions.specs.History.{HistoryEntry, claimed}
+use Rattle.tree_definitions.specs.States.{TreeNode, State, new_node, roots_from, opening}
+use Rattle.tree_definitions.specs.Verdicts.{HasVerdict}
+use Rattle.tree_definitions.specs.Events.{Claims, Follows, Replays}
+use Rattle.tree_definitions.specs.Replies.{event_of_found}
 use Rattle.worker_pool.specs.Serial.{IsSerialEnd, entry_of}
 use Rattle.text_determinism.specs.AnswerLaws.{AreSameAnswers, AnswersAreOne}
 use Rattle.text_determinism.proofs.Renumbering.{renumbered_nodes, renumbered_state, verdict_again, verdict_before}

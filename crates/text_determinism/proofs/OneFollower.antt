@@ -8,13 +8,13 @@ use Rattle.cert_step.specs.ProofStep.{ProofStep}
 use Rattle.cert_step.proofs.Once.{applies_once}
 use Rattle.strategies.specs.declared.strategy.Strategy.{Strategy}
 use Rattle.strategies.specs.Kinds.{strategies_for}
-use Rattle.tree_states.specs.declared.mark.Mark.TheVariants.{Idle, Failed}
-use Rattle.tree_states.specs.declared.ticket.Ticket.{Ticket}
-use Rattle.tree_states.specs.History.{Event, claimed, found, failed}
-use Rattle.tree_states.specs.States.{TreeNode, State}
-use Rattle.tree_states.specs.Verdicts.{IsFirstWinner}
-use Rattle.tree_states.specs.Events.{Claims, RunsAt, IsOver, Decides, Follows, with_claim, without, ended, nodes_with}
-use Rattle.tree_states.proofs.Lookups.{one_value}
+use Rattle.tree_definitions.specs.declared.mark.Mark.TheVariants.{Idle, Failed}
+use Rattle.tree_definitions.specs.declared.ticket.Ticket.{Ticket}
+use Rattle.tree_definitions.specs.History.{Event, claimed, found, failed}
+use Rattle.tree_definitions.specs.States.{TreeNode, State}
+use Rattle.tree_definitions.specs.Verdicts.{IsFirstWinner}
+use Rattle.tree_definitions.specs.Events.{Claims, RunsAt, IsOver, Decides, Follows, with_claim, without, ended, nodes_with}
+use Rattle.tree_definitions.proofs.Lookups.{one_value}
 use Rattle.worker_pool.specs.Serial.{entry_of}
 use Rattle.text_determinism.proofs.Winners.{IsGrown, one_winner}
 

@@ -13,12 +13,12 @@ use Rattle.strategies.specs.Kinds.{strategies_for}
 use Rattle.strategies.specs.Runs.{failed}
 use Rattle.report_text.specs.GoalLines.{goal_words, stuck_item, failed_item, goal_item, goal_items}
 use Rattle.conclusion.specs.Concludes.{maybe_text}
-use Rattle.tree_states.specs.declared.question.Question.{Question}
-use Rattle.tree_states.specs.Questions.{roots}
-use Rattle.tree_states.specs.States.{TreeNode}
-use Rattle.tree_states.specs.Verdicts.{IsStuck}
-use Rattle.tree_states.specs.Reports.{Part, AllFail, IsTruePart, IsTrueReport, IsStuckAt, IsPartOf, ArePartsOf}
-use Rattle.tree_states.proofs.Lookups.{one_value, get_below}
+use Rattle.tree_definitions.specs.declared.question.Question.{Question}
+use Rattle.tree_definitions.specs.Questions.{roots}
+use Rattle.tree_definitions.specs.States.{TreeNode}
+use Rattle.tree_definitions.specs.Verdicts.{IsStuck}
+use Rattle.tree_definitions.specs.Reports.{Part, AllFail, IsTruePart, IsTrueReport, IsStuckAt, IsPartOf, ArePartsOf}
+use Rattle.tree_definitions.proofs.Lookups.{one_value, get_below}
 use Rattle.text_determinism.specs.AnswerLaws.{AnswersAreOne}
 use Rattle.text_determinism.proofs.Renumbering.{renumbered_node, renumbered_nodes, there_again, there_before, stuck_again, stuck_before}
 use Rattle.text_determinism.proofs.OneFollower.{one_least}

@@ -1,11 +1,11 @@
 -- One worker finds one text, and one line of a sample system.
 use Rattle.std.proofs.Common.{◌≡◌, ℕ, [], ◌∷◌, Some, slice_get, refl, sym, ap, ◌∙◌, subst}
 use Rattle.cert_step.specs.declared.claim.Claim.{Claim}
-use Rattle.tree_states.specs.declared.question.Question.TheVariants.{Termination}
-use Rattle.tree_states.specs.Questions.{claims}
-use Rattle.tree_states.specs.States.{State}
-use Rattle.tree_states.specs.Reports.{Walks}
-use Rattle.tree_states.proofs.Lookups.{one_value}
+use Rattle.tree_definitions.specs.declared.question.Question.TheVariants.{Termination}
+use Rattle.tree_definitions.specs.Questions.{claims}
+use Rattle.tree_definitions.specs.States.{State}
+use Rattle.tree_definitions.specs.Reports.{Walks}
+use Rattle.tree_definitions.proofs.Lookups.{one_value}
 use Rattle.conclusion.specs.Concludes.{proof_lines}
 use Rattle.conclusion.specs.SerialText.{won, lost}
 use Rattle.sampling.specs.Family.{sample}

@@ -5,8 +5,8 @@ use Rattle.cert_step.specs.ProofProblem.{ProofProblem}
 use Rattle.strategies.specs.declared.strategy.Strategy.{Strategy}
 use Rattle.strategies.specs.Runs.{Found}
 use Rattle.strategies.specs.Truth.{IsTrueFound}
-use Rattle.tree_states.specs.History.{HistoryEntry, claimed}
-use Rattle.tree_states.specs.Replies.{event_of_found}
+use Rattle.tree_definitions.specs.History.{HistoryEntry, claimed}
+use Rattle.tree_definitions.specs.Replies.{event_of_found}
 use Rattle.worker_pool.specs.Serial.{IsSerial, nothing, one_more, entry_of}
 
 -- claims, each with the post of what the strategy answers behind it

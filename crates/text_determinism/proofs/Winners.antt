@@ -6,16 +6,16 @@ use Rattle.trs_defs.specs.System.{System}
 use Rattle.cert_step.specs.ProofProblem.{ProofProblem}
 use Rattle.cert_step.specs.ProofStep.{ProofStep}
 use Rattle.strategies.specs.declared.strategy.Strategy.{Strategy}
-use Rattle.tree_states.specs.declared.mark.Mark.{Mark}
-use Rattle.tree_states.specs.declared.mark.Mark.TheVariants.{Idle, Running, Failed}
-use Rattle.tree_states.specs.declared.question.Question.{Question}
-use Rattle.tree_states.specs.declared.ticket.Ticket.{Ticket}
-use Rattle.tree_states.specs.Questions.{roots, goals_of}
-use Rattle.tree_states.specs.History.{claimed, found, failed}
-use Rattle.tree_states.specs.States.{TreeNode, State, Decided, IsChild, new_node, roots_from, opening, marked}
-use Rattle.tree_states.specs.Verdicts.{IsClosed, closed, IsWon, IsFirstWinner}
-use Rattle.tree_states.specs.Events.{Claims, IsOver, done, Follows, nodes_with, without}
-use Rattle.tree_states.proofs.Lookups.{one_value, get_set, length_set, set_cases, set_there, append_left, append_right, append_cases, map_there, map_cases, get_below}
+use Rattle.tree_definitions.specs.declared.mark.Mark.{Mark}
+use Rattle.tree_definitions.specs.declared.mark.Mark.TheVariants.{Idle, Running, Failed}
+use Rattle.tree_definitions.specs.declared.question.Question.{Question}
+use Rattle.tree_definitions.specs.declared.ticket.Ticket.{Ticket}
+use Rattle.tree_definitions.specs.Questions.{roots, goals_of}
+use Rattle.tree_definitions.specs.History.{claimed, found, failed}
+use Rattle.tree_definitions.specs.States.{TreeNode, State, Decided, IsChild, new_node, roots_from, opening, marked}
+use Rattle.tree_definitions.specs.Verdicts.{IsClosed, closed, IsWon, IsFirstWinner}
+use Rattle.tree_definitions.specs.Events.{Claims, IsOver, done, Follows, nodes_with, without}
+use Rattle.tree_definitions.proofs.Lookups.{one_value, get_set, length_set, set_cases, set_there, append_left, append_right, append_cases, map_there, map_cases, get_below}
 use Rattle.tree_core.specs.Invariant.{IsOf}
 use Rattle.tree_core.proofs.Won.{closed_decided}
 use Rattle.tree_core.proofs.Marking.{of_same, closed_same, same_later, same_before}

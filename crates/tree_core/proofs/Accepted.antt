@@ -9,15 +9,15 @@ use Rattle.cert_step.specs.ProofStep.{ProofStep, ProofNodeStep, IsWellMade}
 use Rattle.cert_step.specs.Nodes.{IsAccepted}
 use Rattle.cert_step.specs.declared.claim.Claim.{Claim}
 use Rattle.cert_step.proofs.AnyWay.{applies_plainly}
-use Rattle.tree_states.specs.declared.question.Question.{Question}
-use Rattle.tree_states.specs.declared.question.Question.TheVariants.{Termination, Confluence, Unique}
-use Rattle.tree_states.specs.Questions.{roots, claims, goals_of}
-use Rattle.tree_states.specs.States.{TreeNode, Decided}
-use Rattle.tree_states.specs.Reports.{Walks, steps_from, with_step, decision_at, IsFoundStep}
-use Rattle.tree_board.specs.Ascending.{AreAscending}
-use Rattle.tree_board.specs.Parts.{Parts}
+use Rattle.tree_definitions.specs.declared.question.Question.{Question}
+use Rattle.tree_definitions.specs.declared.question.Question.TheVariants.{Termination, Confluence, Unique}
+use Rattle.tree_definitions.specs.Questions.{roots, claims, goals_of}
+use Rattle.tree_definitions.specs.States.{TreeNode, Decided}
+use Rattle.tree_definitions.specs.Reports.{Walks, steps_from, with_step, decision_at, IsFoundStep}
+use Rattle.tree_state.specs.Ascending.{AreAscending}
+use Rattle.tree_state.specs.Parts.{Parts}
 use Rattle.tree_core.specs.Invariant.{IsTree}
-use Rattle.tree_states.proofs.Lookups.{get_below}
+use Rattle.tree_definitions.proofs.Lookups.{get_below}
 use Rattle.tree_core.proofs.Walks.{won_accepted}
 
 pub some_same : (a b : ℕ) → Some a ≡ Some b → a ≡ b

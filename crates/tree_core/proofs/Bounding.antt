@@ -10,18 +10,18 @@ use Rattle.strategies.specs.declared.strategy.Strategy.{Strategy}
 use Rattle.strategies.specs.Kinds.{strategies_for}
 use Rattle.strategies.specs.TaskBounds.{pairs_in, tasks_below, tasks_of_all}
 use Rattle.strategies.proofs.Shrinking.{few_pairs_in}
-use Rattle.tree_states.specs.declared.question.Question.{Question}
-use Rattle.tree_states.specs.declared.question.Question.TheVariants.{Termination, Confluence, Unique}
-use Rattle.tree_states.specs.declared.mark.Mark.{Mark}
-use Rattle.tree_states.specs.declared.mark.Mark.TheVariants.{Idle, Running, Failed}
-use Rattle.tree_states.specs.declared.ticket.Ticket.{Ticket}
-use Rattle.tree_states.specs.Marks.{is_idle}
-use Rattle.tree_states.specs.Questions.{roots}
-use Rattle.tree_states.specs.History.{HistoryEntry, Event}
-use Rattle.tree_states.specs.States.{TreeNode, State, marked, new_node, roots_from}
-use Rattle.tree_states.specs.Events.{nodes_with, without}
-use Rattle.tree_board.specs.declared.goal.Goal.{Goal}
-use Rattle.tree_board.specs.Parts.{Parts, IsOpening, is_lost_in, is_done_by, is_over_by, has_verdict_by, claimed_parts, ended_parts, failed_parts, aborted_parts, decided_parts, lost_if, all_failed}
+use Rattle.tree_definitions.specs.declared.question.Question.{Question}
+use Rattle.tree_definitions.specs.declared.question.Question.TheVariants.{Termination, Confluence, Unique}
+use Rattle.tree_definitions.specs.declared.mark.Mark.{Mark}
+use Rattle.tree_definitions.specs.declared.mark.Mark.TheVariants.{Idle, Running, Failed}
+use Rattle.tree_definitions.specs.declared.ticket.Ticket.{Ticket}
+use Rattle.tree_definitions.specs.Marks.{is_idle}
+use Rattle.tree_definitions.specs.Questions.{roots}
+use Rattle.tree_definitions.specs.History.{HistoryEntry, Event}
+use Rattle.tree_definitions.specs.States.{TreeNode, State, marked, new_node, roots_from}
+use Rattle.tree_definitions.specs.Events.{nodes_with, without}
+use Rattle.tree_state.specs.declared.goal.Goal.{Goal}
+use Rattle.tree_state.specs.Parts.{Parts, IsOpening, is_lost_in, is_done_by, is_over_by, has_verdict_by, claimed_parts, ended_parts, failed_parts, aborted_parts, decided_parts, lost_if, all_failed}
 use Rattle.tree_core.specs.Bound.{count_idle, claims_of, claims_of_all, claims_left, IsBounded}
 use Rattle.tree_core.proofs.Flags.{or_cases, or_left, or_right}
 use Rattle.tree_core.proofs.Failing.{lost_grows}

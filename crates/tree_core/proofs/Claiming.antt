@@ -11,29 +11,29 @@ use Rattle.cert_step.specs.ProofProblem.{ProofProblem}
 use Rattle.strategies.specs.declared.strategy.Strategy.{Strategy}
 use Rattle.strategies.specs.Kinds.{strategies_for}
 use Rattle.strategies.specs.Conditions.{Fails}
-use Rattle.tree_states.specs.declared.question.Question.{Question}
-use Rattle.tree_states.specs.declared.mark.Mark.{Mark}
-use Rattle.tree_states.specs.declared.mark.Mark.TheVariants.{Idle, Running, Failed}
-use Rattle.tree_states.specs.declared.ticket.Ticket.{Ticket}
-use Rattle.tree_states.specs.Questions.{goals_of}
-use Rattle.tree_states.specs.Marks.{is_idle, has_failed}
-use Rattle.tree_states.specs.History.{HistoryEntry, claimed, of_seat, Runs}
-use Rattle.tree_states.specs.States.{TreeNode, Decided, HasTask, opening, marked}
-use Rattle.tree_states.specs.Verdicts.{IsWon, IsLost, HasFailed, IsDone}
-use Rattle.tree_states.specs.Events.{IsFree, with_claim, Follows}
-use Rattle.tree_states.specs.Legal.{Names, IsLegal}
-use Rattle.tree_board.specs.Parts.{Parts, has_verdict_by, free_place, is_lost_in, is_done_by, claimed_parts}
+use Rattle.tree_definitions.specs.declared.question.Question.{Question}
+use Rattle.tree_definitions.specs.declared.mark.Mark.{Mark}
+use Rattle.tree_definitions.specs.declared.mark.Mark.TheVariants.{Idle, Running, Failed}
+use Rattle.tree_definitions.specs.declared.ticket.Ticket.{Ticket}
+use Rattle.tree_definitions.specs.Questions.{goals_of}
+use Rattle.tree_definitions.specs.Marks.{is_idle, has_failed}
+use Rattle.tree_definitions.specs.History.{HistoryEntry, claimed, of_seat, Runs}
+use Rattle.tree_definitions.specs.States.{TreeNode, Decided, HasTask, opening, marked}
+use Rattle.tree_definitions.specs.Verdicts.{IsWon, IsLost, HasFailed, IsDone}
+use Rattle.tree_definitions.specs.Events.{IsFree, with_claim, Follows}
+use Rattle.tree_definitions.specs.Legal.{Names, IsLegal}
+use Rattle.tree_state.specs.Parts.{Parts, has_verdict_by, free_place, is_lost_in, is_done_by, claimed_parts}
 use Rattle.tree_core.specs.Invariant.{IsRunningAt, IsShaped, IsTree, opens, told}
-use Rattle.tree_states.proofs.Lookups.{get_set}
-use Rattle.tree_states.proofs.Lookups.{one_value, set_cases, append_left, append_right, more_cases}
+use Rattle.tree_definitions.proofs.Lookups.{get_set}
+use Rattle.tree_definitions.proofs.Lookups.{one_value, set_cases, append_left, append_right, more_cases}
 use Rattle.tree_core.proofs.Marking.{carries_same, same_later, same_before, before, there_marked, length_later, legal_same, child_same, closed_same, mark_kept, mark_was, shape_marked, problems_marked}
 use Rattle.tree_core.proofs.Endings.{IsFailure, count_more, well_made_ended}
 use Rattle.strategies.specs.TaskBounds.{pairs_in}
 use Rattle.tree_core.proofs.Counting.{counted_marked}
 use Rattle.tree_core.proofs.Bounding.{bounded_claim}
-use Rattle.tree_states.proofs.Lookups.{get_below}
+use Rattle.tree_definitions.proofs.Lookups.{get_below}
 use Rattle.tree_core.proofs.Flags.{and_both, no_verdict, is_lost, is_done, not_true, true_false, lost_is, some_not, all_at}
-use Rattle.tree_board.proofs.Idle.{IsOpenAt, open_at, none_free, idle_is, not_idle}
+use Rattle.tree_state.proofs.Idle.{IsOpenAt, open_at, none_free, idle_is, not_idle}
 use Rattle.tree_core.proofs.Told.{told_claim, runs_of_claim}
 use Rattle.tree_core.proofs.Given.{given_claim, places_more}
 use Rattle.tree_core.proofs.Won.{none_open_won, is_open_of}

@@ -12,15 +12,15 @@ use Rattle.cert_step.specs.Applies.{Applies}
 use Rattle.strategies.specs.declared.strategy.Strategy.{Strategy}
 use Rattle.strategies.specs.Kinds.{strategies_for}
 use Rattle.strategies.specs.Conditions.{Finds, Fails}
-use Rattle.tree_states.specs.declared.mark.Mark.{Mark}
-use Rattle.tree_states.specs.declared.mark.Mark.TheVariants.{Idle, Running, Failed}
-use Rattle.tree_states.specs.States.{TreeNode, State, Decided, IsChild, new_node}
-use Rattle.tree_states.specs.Verdicts.{IsLost, IsStuck}
-use Rattle.tree_states.specs.Legal.{Carries, IsLegallyDecided, IsChildOf, IsLegal}
+use Rattle.tree_definitions.specs.declared.mark.Mark.{Mark}
+use Rattle.tree_definitions.specs.declared.mark.Mark.TheVariants.{Idle, Running, Failed}
+use Rattle.tree_definitions.specs.States.{TreeNode, State, Decided, IsChild, new_node}
+use Rattle.tree_definitions.specs.Verdicts.{IsLost, IsStuck}
+use Rattle.tree_definitions.specs.Legal.{Carries, IsLegallyDecided, IsChildOf, IsLegal}
 use Rattle.tree_core.specs.Invariant.{IsOf, IsRunningAt, IsShaped, opens}
-use Rattle.tree_states.proofs.Lookups.{get_set, length_set}
-use Rattle.tree_states.proofs.Lookups.{one_value, set_cases, set_there, append_left, append_right, append_cases, map_there, map_cases}
-use Rattle.tree_states.proofs.Lookups.{get_below}
+use Rattle.tree_definitions.proofs.Lookups.{get_set, length_set}
+use Rattle.tree_definitions.proofs.Lookups.{one_value, set_cases, set_there, append_left, append_right, append_cases, map_there, map_cases}
+use Rattle.tree_definitions.proofs.Lookups.{get_below}
 use Rattle.tree_core.proofs.Opening.{idle_marks, some_strategy}
 use Rattle.tree_core.proofs.Won.{is_open_of, open_of, other_of}
 

@@ -5,14 +5,14 @@ use Rattle.cert_step.specs.ProofProblem.{ProofProblem, IsWellMadeProblem}
 use Rattle.strategies.specs.declared.strategy.Strategy.{Strategy}
 use Rattle.strategies.specs.Kinds.{strategies_for}
 use Rattle.strategies.specs.Conditions.{Fails}
-use Rattle.tree_states.specs.declared.mark.Mark.{Mark}
-use Rattle.tree_states.specs.declared.mark.Mark.TheVariants.{Running, Failed}
-use Rattle.tree_states.specs.declared.ticket.Ticket.{Ticket}
-use Rattle.tree_states.specs.States.{TreeNode, State, marked}
-use Rattle.tree_states.specs.Events.{ended, without}
-use Rattle.tree_states.specs.Legal.{IsLegal}
+use Rattle.tree_definitions.specs.declared.mark.Mark.{Mark}
+use Rattle.tree_definitions.specs.declared.mark.Mark.TheVariants.{Running, Failed}
+use Rattle.tree_definitions.specs.declared.ticket.Ticket.{Ticket}
+use Rattle.tree_definitions.specs.States.{TreeNode, State, marked}
+use Rattle.tree_definitions.specs.Events.{ended, without}
+use Rattle.tree_definitions.specs.Legal.{IsLegal}
 use Rattle.tree_core.specs.Invariant.{IsShaped, count_running}
-use Rattle.tree_states.proofs.Lookups.{one_value, set_cases, set_there}
+use Rattle.tree_definitions.proofs.Lookups.{one_value, set_cases, set_there}
 use Rattle.tree_core.proofs.Marking.{same_later, same_before, before, legal_same, child_same, mark_kept, mark_was, shape_marked}
 
 -- what a failure says of its strategy

@@ -4,10 +4,10 @@ use Rattle.trs_defs.specs.Member.{In, in_first, in_rest}
 use Rattle.cert_step.specs.ProofProblem.{ProofProblem}
 use Rattle.strategies.specs.declared.strategy.Strategy.{Strategy}
 use Rattle.strategies.specs.Kinds.{strategies_for}
-use Rattle.tree_states.specs.declared.ticket.Ticket.{Ticket}
-use Rattle.tree_states.specs.History.{HistoryEntry, claimed, IsGiven}
-use Rattle.tree_states.specs.States.{TreeNode, State, HasTask}
-use Rattle.tree_states.proofs.Lookups.{one_value, get_set, set_there, append_left}
+use Rattle.tree_definitions.specs.declared.ticket.Ticket.{Ticket}
+use Rattle.tree_definitions.specs.History.{HistoryEntry, claimed, IsGiven}
+use Rattle.tree_definitions.specs.States.{TreeNode, State, HasTask}
+use Rattle.tree_definitions.proofs.Lookups.{one_value, get_set, set_there, append_left}
 use Rattle.tree_core.specs.Invariant.{AreTasks}
 use native.Mathlib.Decide.{ℕ_discrete}
 use mathlib.Core.Logic.{dite}

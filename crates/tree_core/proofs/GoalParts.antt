@@ -10,19 +10,19 @@ use Rattle.trs_defs.specs.System.{System}
 use Rattle.cert_step.specs.ProofProblem.{ProofProblem, problem_of}
 use Rattle.cert_step.specs.ProofStep.{ProofNodeStep, node_step_of, IsWellMade}
 use Rattle.strategies.specs.Kinds.{strategies_for}
-use Rattle.tree_states.specs.declared.question.Question.{Question}
-use Rattle.tree_states.specs.declared.mark.Mark.{Mark}
-use Rattle.tree_states.specs.declared.report.GoalReport.{GoalReport}
-use Rattle.tree_states.specs.Marks.{has_failed}
-use Rattle.tree_states.specs.Questions.{goals_of}
-use Rattle.tree_states.specs.States.{TreeNode, Decided}
-use Rattle.tree_states.specs.Verdicts.{IsLost, IsStuck, HasFailed}
-use Rattle.tree_states.specs.Reports.{Walks, steps_from, Part, part_of, IsTruePart, ArePartsOf, IsTrueReport}
-use Rattle.tree_states.specs.Trees.{ProofTree}
-use Rattle.tree_board.specs.Parts.{Parts, all_failed}
-use Rattle.tree_board.specs.Stuck.{is_stuck, is_stuck_at, failures}
-use Rattle.tree_board.proofs.Idle.{IsFirstAt, first_position, no_position}
-use Rattle.tree_states.proofs.Lookups.{one_value, more_cases}
+use Rattle.tree_definitions.specs.declared.question.Question.{Question}
+use Rattle.tree_definitions.specs.declared.mark.Mark.{Mark}
+use Rattle.tree_definitions.specs.declared.report.GoalReport.{GoalReport}
+use Rattle.tree_definitions.specs.Marks.{has_failed}
+use Rattle.tree_definitions.specs.Questions.{goals_of}
+use Rattle.tree_definitions.specs.States.{TreeNode, Decided}
+use Rattle.tree_definitions.specs.Verdicts.{IsLost, IsStuck, HasFailed}
+use Rattle.tree_definitions.specs.Reports.{Walks, steps_from, Part, part_of, IsTruePart, ArePartsOf, IsTrueReport}
+use Rattle.tree_definitions.specs.Trees.{ProofTree}
+use Rattle.tree_state.specs.Parts.{Parts, all_failed}
+use Rattle.tree_state.specs.Stuck.{is_stuck, is_stuck_at, failures}
+use Rattle.tree_state.proofs.Idle.{IsFirstAt, first_position, no_position}
+use Rattle.tree_definitions.proofs.Lookups.{one_value, more_cases}
 use Rattle.tree_core.specs.Invariant.{IsTree}
 use Rattle.tree_core.specs.Reported.{IsReported}
 use Rattle.tree_core.proofs.Flags.{and_both, all_at, all_true}

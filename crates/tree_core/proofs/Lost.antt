@@ -13,18 +13,18 @@ use Rattle.cert_step.specs.Nodes.{Makes, open_node}
 use Rattle.strategies.specs.declared.strategy.Strategy.{Strategy}
 use Rattle.strategies.specs.Kinds.{strategies_for}
 use Rattle.strategies.specs.Conditions.{Fails}
-use Rattle.tree_states.specs.declared.question.Question.{Question}
-use Rattle.tree_states.specs.declared.mark.Mark.{Mark}
-use Rattle.tree_states.specs.declared.mark.Mark.TheVariants.{Failed}
-use Rattle.tree_states.specs.Questions.{roots, goals_of}
-use Rattle.tree_states.specs.States.{TreeNode, Decided, IsChild}
-use Rattle.tree_states.specs.Legal.{Carries}
-use Rattle.tree_states.specs.Verdicts.{IsLost, IsStuck, HasFailed}
-use Rattle.tree_board.specs.Parts.{Parts}
-use Rattle.tree_board.specs.Stuck.{is_spent, failures}
+use Rattle.tree_definitions.specs.declared.question.Question.{Question}
+use Rattle.tree_definitions.specs.declared.mark.Mark.{Mark}
+use Rattle.tree_definitions.specs.declared.mark.Mark.TheVariants.{Failed}
+use Rattle.tree_definitions.specs.Questions.{roots, goals_of}
+use Rattle.tree_definitions.specs.States.{TreeNode, Decided, IsChild}
+use Rattle.tree_definitions.specs.Legal.{Carries}
+use Rattle.tree_definitions.specs.Verdicts.{IsLost, IsStuck, HasFailed}
+use Rattle.tree_state.specs.Parts.{Parts}
+use Rattle.tree_state.specs.Stuck.{is_spent, failures}
 use Rattle.tree_core.specs.Invariant.{IsTree}
-use Rattle.tree_states.specs.Reports.{Walks, ends, stays, goes_on, steps_from, decision_at, numbers, children_of, AllFail, IsTruePart}
-use Rattle.tree_states.proofs.Lookups.{one_value, map_there}
+use Rattle.tree_definitions.specs.Reports.{Walks, ends, stays, goes_on, steps_from, decision_at, numbers, children_of, AllFail, IsTruePart}
+use Rattle.tree_definitions.proofs.Lookups.{one_value, map_there}
 use Rattle.tree_core.proofs.Walks.{walk_makes, walked, waits, problem_in}
 
 in_left : {A : Type 0} (x : A) (xs ys : List A) → In x xs → In x (xs ++ ys)

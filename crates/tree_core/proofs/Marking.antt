@@ -5,15 +5,15 @@ use mathlib.Core.Logic.{dite}
 use Rattle.trs_defs.specs.System.{System}
 use Rattle.cert_step.specs.ProofProblem.{ProofProblem}
 use Rattle.strategies.specs.Kinds.{strategies_for}
-use Rattle.tree_states.specs.declared.mark.Mark.{Mark}
-use Rattle.tree_states.specs.declared.mark.Mark.TheVariants.{Idle, Running}
-use Rattle.tree_states.specs.declared.ticket.Ticket.{Ticket}
-use Rattle.tree_states.specs.States.{TreeNode, State, Decided, marked}
-use Rattle.tree_states.specs.Verdicts.{IsClosed, closed, IsLost, IsStuck, HasFailed}
-use Rattle.tree_states.specs.Legal.{Carries, IsLegallyDecided, IsChildOf}
+use Rattle.tree_definitions.specs.declared.mark.Mark.{Mark}
+use Rattle.tree_definitions.specs.declared.mark.Mark.TheVariants.{Idle, Running}
+use Rattle.tree_definitions.specs.declared.ticket.Ticket.{Ticket}
+use Rattle.tree_definitions.specs.States.{TreeNode, State, Decided, marked}
+use Rattle.tree_definitions.specs.Verdicts.{IsClosed, closed, IsLost, IsStuck, HasFailed}
+use Rattle.tree_definitions.specs.Legal.{Carries, IsLegallyDecided, IsChildOf}
 use Rattle.tree_core.specs.Invariant.{IsOf, IsHeld, IsRunningAt, IsShaped, opens}
-use Rattle.tree_states.proofs.Lookups.{get_set, length_set}
-use Rattle.tree_states.proofs.Lookups.{one_value, set_cases, set_there}
+use Rattle.tree_definitions.proofs.Lookups.{get_set, length_set}
+use Rattle.tree_definitions.proofs.Lookups.{one_value, set_cases, set_there}
 
 -- two nodes but for their marks
 pub record Alike (x y : TreeNode) : Type 0 where

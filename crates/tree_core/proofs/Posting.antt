@@ -13,22 +13,22 @@ use Rattle.strategies.specs.Kinds.{strategies_for}
 use Rattle.strategies.specs.Runs as run
 use Rattle.strategies.specs.Runs.{Found, Run}
 use Rattle.strategies.specs.Truth.{IsFound, IsTrueFound, IsTrueRun}
-use Rattle.tree_states.specs.declared.question.Question.{Question}
-use Rattle.tree_board.specs.declared.goal.Goal.{Goal}
-use Rattle.tree_states.specs.declared.mark.Mark.TheVariants.{Idle, Running, Failed}
-use Rattle.tree_states.specs.declared.ticket.Ticket.{Ticket}
-use Rattle.tree_states.specs.Questions.{goals_of}
-use Rattle.tree_states.specs.History.{HistoryEntry, Event, claimed, found, failed}
-use Rattle.tree_states.specs.States.{TreeNode, State, opening, marked, new_node}
-use Rattle.tree_states.specs.Verdicts.{IsWon, HasFailed, IsFirstWinner}
-use Rattle.tree_states.specs.Events.{Follows, IsOver, ended, nodes_with, without}
-use Rattle.tree_states.specs.Legal.{IsLegal, Carries}
-use Rattle.tree_board.specs.Parts.{Parts, HasTicket, free_place, is_lost_in, lost_at, is_done_by, is_over_by, failed_parts, decided_parts, opened, winner_after, no_open_nodes}
-use Rattle.tree_states.specs.Replies.{IsTaskOf, event_of_found}
+use Rattle.tree_definitions.specs.declared.question.Question.{Question}
+use Rattle.tree_state.specs.declared.goal.Goal.{Goal}
+use Rattle.tree_definitions.specs.declared.mark.Mark.TheVariants.{Idle, Running, Failed}
+use Rattle.tree_definitions.specs.declared.ticket.Ticket.{Ticket}
+use Rattle.tree_definitions.specs.Questions.{goals_of}
+use Rattle.tree_definitions.specs.History.{HistoryEntry, Event, claimed, found, failed}
+use Rattle.tree_definitions.specs.States.{TreeNode, State, opening, marked, new_node}
+use Rattle.tree_definitions.specs.Verdicts.{IsWon, HasFailed, IsFirstWinner}
+use Rattle.tree_definitions.specs.Events.{Follows, IsOver, ended, nodes_with, without}
+use Rattle.tree_definitions.specs.Legal.{IsLegal, Carries}
+use Rattle.tree_state.specs.Parts.{Parts, HasTicket, free_place, is_lost_in, lost_at, is_done_by, is_over_by, failed_parts, decided_parts, opened, winner_after, no_open_nodes}
+use Rattle.tree_definitions.specs.Replies.{IsTaskOf, event_of_found}
 use Rattle.tree_core.specs.Invariant.{IsTree, IsShaped, AreCounted, IsCounted, opens}
-use Rattle.tree_states.proofs.Lookups.{get_set, get_set_other, length_set}
-use Rattle.tree_states.proofs.Lookups.{one_value, set_cases}
-use Rattle.tree_board.proofs.Changes.{set_twice}
+use Rattle.tree_definitions.proofs.Lookups.{get_set, get_set_other, length_set}
+use Rattle.tree_definitions.proofs.Lookups.{one_value, set_cases}
+use Rattle.tree_state.proofs.Changes.{set_twice}
 use Rattle.tree_core.proofs.Marking.{carries_same, there_marked, before, same_later, same_before, closed_same, length_later, problems_marked}
 use Rattle.tree_core.proofs.Endings.{IsFailure, shape_ended, legal_ended, well_made_ended, count_ended}
 use Rattle.tree_core.proofs.Counting.{counted_marked, shut}
@@ -36,7 +36,7 @@ use Rattle.tree_core.proofs.Failing.{still_going, node_open, counted_failed, fre
 use Rattle.tree_core.proofs.Deciding as deciding
 use Rattle.tree_core.proofs.Deciding.{At}
 use Rattle.tree_core.proofs.Won.{won_none_open, none_open_won, is_open_of}
-use Rattle.tree_states.proofs.Lookups.{get_below}
+use Rattle.tree_definitions.proofs.Lookups.{get_below}
 use Rattle.tree_core.proofs.Flags.{over_is, is_over, true_false}
 use Rattle.tree_core.proofs.Told.{told_ending}
 use Rattle.std.proofs.lemmas.List.{length-append}

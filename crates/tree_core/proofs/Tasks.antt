@@ -9,11 +9,11 @@ use Rattle.cert_step.specs.ProofProblem.{ProofProblem, problem_of, IsWellMadePro
 use Rattle.cert_step.specs.declared.problem.Problem.{Problem}
 use Rattle.strategies.specs.declared.strategy.Strategy.{Strategy}
 use Rattle.strategies.specs.Kinds.{strategies_for}
-use Rattle.tree_states.specs.declared.question.Question.{Question}
-use Rattle.tree_states.specs.States.{TreeNode}
-use Rattle.tree_board.specs.Parts.{Parts, free_place, is_done_by, claimed_parts}
-use Rattle.tree_states.specs.Trees.{ProofTree}
-use Rattle.tree_states.specs.Replies.{IsTask, IsAgain, IsRunnable}
+use Rattle.tree_definitions.specs.declared.question.Question.{Question}
+use Rattle.tree_definitions.specs.States.{TreeNode}
+use Rattle.tree_state.specs.Parts.{Parts, free_place, is_done_by, claimed_parts}
+use Rattle.tree_definitions.specs.Trees.{ProofTree}
+use Rattle.tree_definitions.specs.Replies.{IsTask, IsAgain, IsRunnable}
 use Rattle.tree_core.specs.Invariant.{IsTree}
 use Rattle.tree_core.proofs.Claiming.{claims, claim_runs, not_done, none_is_free, again}
 use Rattle.tree_core.proofs.Trees.{tree_of}

@@ -10,10 +10,10 @@ use Rattle.cert_step.specs.Applies.{Applies}
 use Rattle.cert_step.specs.Nodes as cert
 use Rattle.cert_step.specs.Nodes.{Makes, IsAccepted, open_node, nodes_after, AreDecided, first_nodes}
 use Rattle.cert_step.specs.declared.claim.Claim.{Claim}
-use Rattle.tree_states.specs.States.{TreeNode, Decided}
-use Rattle.tree_states.specs.Verdicts.{IsClosed, closed, IsWon}
-use Rattle.tree_states.specs.Legal.{Carries}
-use Rattle.tree_states.specs.Reports.{Walks, ends, stays, goes_on, steps_from, with_step, decision_at, numbers, children_of}
+use Rattle.tree_definitions.specs.States.{TreeNode, Decided}
+use Rattle.tree_definitions.specs.Verdicts.{IsClosed, closed, IsWon}
+use Rattle.tree_definitions.specs.Legal.{Carries}
+use Rattle.tree_definitions.specs.Reports.{Walks, ends, stays, goes_on, steps_from, with_step, decision_at, numbers, children_of}
 use Rattle.tree_core.proofs.Won.{closed_decided, closed_child}
 
 -- problems are seen in the certificate by a function that keeps what steps do

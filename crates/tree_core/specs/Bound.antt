@@ -2,13 +2,13 @@
 use Rattle.std.specs.Prelude.{◌≤◌, ℕ, ◌+◌, ◌*◌, ◌||◌, cond, List, [], ◌∷◌, length}
 use Rattle.std.specs.Option.{is_some}
 use Rattle.strategies.specs.TaskBounds.{tasks_below, tasks_of_all}
-use Rattle.tree_board.specs.declared.goal.Goal.{Goal}
-use Rattle.tree_states.specs.declared.mark.Mark.{Mark}
-use Rattle.tree_states.specs.declared.question.Question.{Question}
-use Rattle.tree_states.specs.Marks.{is_idle}
-use Rattle.tree_states.specs.Questions.{roots}
-use Rattle.tree_states.specs.States.{TreeNode}
-use Rattle.tree_board.specs.Parts.{Parts, is_lost_in, is_done_by}
+use Rattle.tree_state.specs.declared.goal.Goal.{Goal}
+use Rattle.tree_definitions.specs.declared.mark.Mark.{Mark}
+use Rattle.tree_definitions.specs.declared.question.Question.{Question}
+use Rattle.tree_definitions.specs.Marks.{is_idle}
+use Rattle.tree_definitions.specs.Questions.{roots}
+use Rattle.tree_definitions.specs.States.{TreeNode}
+use Rattle.tree_state.specs.Parts.{Parts, is_lost_in, is_done_by}
 
 abbrev pub count_idle : List Mark → ℕ
 count_idle [] = 0

@@ -7,6 +7,6 @@ mod reporting;
 mod tree;
 
 pub use tree::Tree;
-pub use tree_states::{
+pub use tree_definitions::{
     Aborted, Claimed, GoalReport, Polled, Posted, Question, Report, Task, Verdict,
 };

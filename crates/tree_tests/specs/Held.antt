@@ -3,12 +3,12 @@ use Rattle.std.specs.Prelude.{◌≡◌, ℕ, List, Option, Some, None, slice_ge
 use Rattle.trs_defs.specs.System.{System}
 use Rattle.cert_step.specs.ProofProblem.{problem_of}
 use Rattle.strategies.specs.Runs.{Run}
-use Rattle.tree_states.specs.declared.answers.Task.{Task}
-use Rattle.tree_states.specs.declared.answers.Polled.{Polled}
-use Rattle.tree_states.specs.declared.answers.Polled.TheVariants.{Go, Cancelled}
-use Rattle.tree_states.specs.History.{Runs, IsGiven}
-use Rattle.tree_states.specs.Trees.{ProofTree}
-use Rattle.tree_states.specs.Replies.{IsRunnable, IsTaskOf}
+use Rattle.tree_definitions.specs.declared.answers.Task.{Task}
+use Rattle.tree_definitions.specs.declared.answers.Polled.{Polled}
+use Rattle.tree_definitions.specs.declared.answers.Polled.TheVariants.{Go, Cancelled}
+use Rattle.tree_definitions.specs.History.{Runs, IsGiven}
+use Rattle.tree_definitions.specs.Trees.{ProofTree}
+use Rattle.tree_definitions.specs.Replies.{IsRunnable, IsTaskOf}
 
 -- the ticket is running, and the outcome is of its task
 pub record IsHeld (tree : ProofTree) (ticket : ℕ) (outcome : Run) : Type 0 where

@@ -2,8 +2,8 @@
 ghost use Rattle.std.specs.Prelude.{◌≡◌, ◌++◌, ◌∷◌, [], List, Option, Some, None};
 ghost use Rattle.std.specs.Prelude.{length, slice_get, slice_set, IfOk, IfSome, IsTrue, OnOk, OnErr};
 ghost use Rattle.strategies.specs.Runs.{Run};
-ghost use Rattle.tree_states.specs.History.{IsFresh, IsOwned, Runs};
-ghost use Rattle.tree_states.specs.Replies.{IfTask, IsRunnable};
+ghost use Rattle.tree_definitions.specs.History.{IsFresh, IsOwned, Runs};
+ghost use Rattle.tree_definitions.specs.Replies.{IfTask, IsRunnable};
 ghost use Rattle.tree_tests.specs.Held.{AreHeld, IsHeld, IsAnswerTo, IsClaimed, after_poll};
 
 use assign_search::Never;

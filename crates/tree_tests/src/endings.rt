@@ -1,6 +1,6 @@
 //! The certificate and the report of a tree, beside those of the plain state.
 ghost use Rattle.std.specs.Prelude.{◌≡◌, ℕ, Some};
-ghost use Rattle.tree_states.specs.Replies.{IsVerdict};
+ghost use Rattle.tree_definitions.specs.Replies.{IsVerdict};
 
 use crate::events::shown;
 use crate::state::{Node, State};
@@ -8,7 +8,7 @@ use cert_step::{Claim, NodeStep};
 use std::alloc::Global;
 use strategies::{Strategy, strategies_of};
 use tree_core::{GoalReport, Question, Report, Tree};
-use tree_states::{Mark, Verdict};
+use tree_definitions::{Mark, Verdict};
 use trs_core::OutOfMemory;
 
 /// Whether the steps are those of the nodes in this order, numbered by their places in it.

@@ -6,7 +6,7 @@ use crate::systems::{Case, system};
 use std::alloc::Global;
 use std::test::Fail;
 use tree_core::Question;
-use tree_states::Verdict;
+use tree_definitions::Verdict;
 use trs_core::Trs;
 
 /// How many lists are tried for a case, and how many calls a list has at most.

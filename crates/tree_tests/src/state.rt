@@ -3,7 +3,7 @@ use cert_step::Problem;
 use std::alloc::Global;
 use strategies::strategies_of;
 use tree_core::Question;
-use tree_states::{Mark, Ticket, Verdict};
+use tree_definitions::{Mark, Ticket, Verdict};
 use trs_core::OutOfMemory;
 
 /// A step that decided a node, shown by numbers, and its children: so many, from the first on.

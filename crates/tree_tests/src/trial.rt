@@ -19,7 +19,7 @@ pub struct Trial<'a> {
 impl<'a> Model for Trial<'a> {
     ghost use Rattle.std.specs.Coded.{codes};
     ghost use Rattle.trs_defs.specs.Tree.{tree_code};
-    ghost use Rattle.tree_states.specs.Trees.{ProofTree};
+    ghost use Rattle.tree_definitions.specs.Trees.{ProofTree};
 
     ghost Value = { ProofTree };
 

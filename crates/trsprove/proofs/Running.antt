@@ -9,7 +9,7 @@ use Rattle.ari_text.specs.Problem.{SaysSystem}
 use Rattle.sexp_core.specs.Items.{items_of}
 use Rattle.conclusion.specs.ProofOf.{proof_of, Proves}
 use Rattle.report_text.specs.GoalLines.{goal_items, goal_words}
-use Rattle.tree_states.specs.declared.question.Question as tree
+use Rattle.tree_definitions.specs.declared.question.Question as tree
 use Rattle.conclusion.specs.Concludes.{Concludes, proved, maybe, proof_lines}
 use Rattle.dp_core.specs.PlacedPairs.{placed_pairs}
 use Rattle.sampling.specs.Family.{sample}

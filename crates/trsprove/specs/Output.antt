@@ -16,8 +16,8 @@ use Rattle.cert_text.specs.CertificateText.{version_two_items, fits_two}
 use Rattle.certifier.specs.declared.rejected.Rejected.{Rejected}
 use Rattle.certifier.specs.declared.rejected.Rejected.TheVariants as why
 use Rattle.certifier.specs.Acceptance.{IsAcceptance, IsAcceptedAs, IsRejection}
-use Rattle.tree_states.specs.Questions.{claims}
-use Rattle.tree_states.specs.Reports.{Part, IsTrueReport}
+use Rattle.tree_definitions.specs.Questions.{claims}
+use Rattle.tree_definitions.specs.Reports.{Part, IsTrueReport}
 use Rattle.conclusion.specs.Concludes.{maybe_text}
 use Rattle.sampling.specs.Line.{IsSampleLine}
 use Rattle.command_line.specs.Request.{Asked, certifies, proves, samples}

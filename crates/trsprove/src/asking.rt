@@ -73,12 +73,12 @@ fn answered<'a>(
 }
 
 // The question of the proof tree.
-fn question_of(question: Question) -> tree_states::Question
+fn question_of(question: Question) -> tree_definitions::Question
     ensures { result ≡ question_of_tree question }
 {
     match question {
-        Question::Termination => tree_states::Question::Termination,
-        Question::Confluence => tree_states::Question::Confluence,
-        Question::Unique => tree_states::Question::Unique,
+        Question::Termination => tree_definitions::Question::Termination,
+        Question::Confluence => tree_definitions::Question::Confluence,
+        Question::Unique => tree_definitions::Question::Unique,
     }
 }

@@ -10,19 +10,19 @@ use Rattle.strategies.specs.Kinds.{strategies_for}
 use Rattle.strategies.specs.Runs as run
 use Rattle.strategies.specs.Runs.{Found, Run}
 use Rattle.strategies.specs.Truth.{IsTrueFound}
-use Rattle.tree_states.specs.declared.answers.Task.{Task}
-use Rattle.tree_states.specs.declared.answers.Posted.{Posted}
-use Rattle.tree_states.specs.declared.answers.Posted.TheVariants as posted
-use Rattle.tree_states.specs.declared.question.Question.{Question}
-use Rattle.tree_states.specs.Questions.{goals_of}
-use Rattle.tree_states.specs.History.{HistoryEntry, Event, claimed, mentions, of_seat, Runs, IsOwned}
-use Rattle.tree_states.specs.States.{State, opening}
-use Rattle.tree_states.specs.Verdicts.{HasVerdict, IsDone}
-use Rattle.tree_states.specs.Events.{Follows}
-use Rattle.tree_states.specs.Trees.{ProofTree}
-use Rattle.tree_states.specs.Replies.{IsTask, IsAgain, IsPost, IsTaskOf, Notes, event_of_found}
-use Rattle.tree_states.proofs.Lookups.{length_set}
-use Rattle.tree_states.proofs.Mentions.{about, mentions-append, one_owner, runs_of_own}
+use Rattle.tree_definitions.specs.declared.answers.Task.{Task}
+use Rattle.tree_definitions.specs.declared.answers.Posted.{Posted}
+use Rattle.tree_definitions.specs.declared.answers.Posted.TheVariants as posted
+use Rattle.tree_definitions.specs.declared.question.Question.{Question}
+use Rattle.tree_definitions.specs.Questions.{goals_of}
+use Rattle.tree_definitions.specs.History.{HistoryEntry, Event, claimed, mentions, of_seat, Runs, IsOwned}
+use Rattle.tree_definitions.specs.States.{State, opening}
+use Rattle.tree_definitions.specs.Verdicts.{HasVerdict, IsDone}
+use Rattle.tree_definitions.specs.Events.{Follows}
+use Rattle.tree_definitions.specs.Trees.{ProofTree}
+use Rattle.tree_definitions.specs.Replies.{IsTask, IsAgain, IsPost, IsTaskOf, Notes, event_of_found}
+use Rattle.tree_definitions.proofs.Lookups.{length_set}
+use Rattle.tree_definitions.proofs.Mentions.{about, mentions-append, one_owner, runs_of_own}
 use Rattle.worker_pool.specs.Serial.{IsSerial, nothing, one_more, entry_of}
 use Rattle.worker_pool.specs.Turns.{IsAtRest, IsOnSame, IsAnswerTo, IsTurn, entries_left}
 

@@ -7,13 +7,13 @@ use Rattle.strategies.specs.declared.strategy.Strategy.{Strategy}
 use Rattle.strategies.specs.Kinds.{strategies_for}
 use Rattle.strategies.specs.Runs.{Found}
 use Rattle.strategies.specs.Truth.{IsTrueFound}
-use Rattle.tree_states.specs.declared.question.Question.{Question}
-use Rattle.tree_states.specs.Questions.{goals_of}
-use Rattle.tree_states.specs.History.{HistoryEntry, Event, claimed}
-use Rattle.tree_states.specs.States.{State, opening}
-use Rattle.tree_states.specs.Events.{Replays}
-use Rattle.tree_states.specs.Verdicts.{HasVerdict}
-use Rattle.tree_states.specs.Replies.{event_of_found}
+use Rattle.tree_definitions.specs.declared.question.Question.{Question}
+use Rattle.tree_definitions.specs.Questions.{goals_of}
+use Rattle.tree_definitions.specs.History.{HistoryEntry, Event, claimed}
+use Rattle.tree_definitions.specs.States.{State, opening}
+use Rattle.tree_definitions.specs.Events.{Replays}
+use Rattle.tree_definitions.specs.Verdicts.{HasVerdict}
+use Rattle.tree_definitions.specs.Replies.{event_of_found}
 
 -- an entry of seat 0
 abbrev pub entry_of : ℕ → Event → HistoryEntry

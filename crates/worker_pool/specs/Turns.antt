@@ -4,10 +4,10 @@ use Rattle.trs_defs.specs.System.{System}
 use Rattle.cert_step.specs.ProofProblem.{problem_of}
 use Rattle.strategies.specs.Runs.{Run}
 use Rattle.strategies.specs.Truth.{IsTrueRun}
-use Rattle.tree_states.specs.declared.answers.Task.{Task}
-use Rattle.tree_states.specs.Questions.{goals_of}
-use Rattle.tree_states.specs.Verdicts.{HasVerdict}
-use Rattle.tree_states.specs.Trees.{ProofTree}
+use Rattle.tree_definitions.specs.declared.answers.Task.{Task}
+use Rattle.tree_definitions.specs.Questions.{goals_of}
+use Rattle.tree_definitions.specs.Verdicts.{HasVerdict}
+use Rattle.tree_definitions.specs.Trees.{ProofTree}
 use Rattle.worker_pool.specs.Serial.{IsSerial}
 
 -- between two turns: the history is serial, each ticket has two entries, and nothing was aborted

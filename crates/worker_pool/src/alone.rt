@@ -1,6 +1,6 @@
 ghost use Rattle.std.specs.Prelude.{◌≡◌, IfOk};
-ghost use Rattle.tree_states.specs.Questions.{goals_of};
-ghost use Rattle.tree_states.specs.Verdicts.{HasVerdict};
+ghost use Rattle.tree_definitions.specs.Questions.{goals_of};
+ghost use Rattle.tree_definitions.specs.Verdicts.{HasVerdict};
 ghost use Rattle.worker_pool.specs.Serial.{IsSerial};
 
 use crate::Finished;

@@ -1,7 +1,7 @@
 //! One turn of a worker that is alone: a claim, and the post of what was answered.
 ghost use Rattle.std.specs.Prelude.{◌≡◌, ◌<◌, ◌^◌, IfOk, length};
-ghost use Rattle.tree_states.specs.History.{IsOwned, Runs};
-ghost use Rattle.tree_states.specs.Replies.{event_of_found, IsPost, IsRunnable, IsTaskOf};
+ghost use Rattle.tree_definitions.specs.History.{IsOwned, Runs};
+ghost use Rattle.tree_definitions.specs.Replies.{event_of_found, IsPost, IsRunnable, IsTaskOf};
 ghost use Rattle.worker_pool.specs.Turns.{IsAtRest, IsAnswerTo, IsTurn, IsOnSame};
 
 use assign_search::Never;

@@ -1,7 +1,7 @@
 use Rattle.std.proofs.Common.{◌≡◌, ◌++◌, map, drop}
 use Rattle.sexp_core.specs.Items.{items_of}
 use Rattle.sexp_core.specs.Printed.{lines}
-use Rattle.tree_states.specs.Reports.{part_of}
+use Rattle.tree_definitions.specs.Reports.{part_of}
 use Rattle.report_text.specs.GoalLines.{goal_words, goal_items}
 use Rattle.report_text.proofs.reports.put_goals.Given as goal
 

@@ -3,13 +3,13 @@ use Rattle.std.specs.Option.{MatchOption}
 use Rattle.std.proofs.lemmas.Option.{slice_get_within}
 use Rattle.strategies.specs.Kinds.{strategies_for}
 use Rattle.cert_step.specs.ProofProblem.{ProofProblem, problem_of}
-use Rattle.tree_states.specs.Questions.{goals_of}
-use Rattle.tree_states.specs.States.{TreeNode}
-use Rattle.tree_board.specs.Parts.{Parts, free_place, is_done_by, claimed_parts}
-use Rattle.tree_states.specs.Replies.{IsAgain}
+use Rattle.tree_definitions.specs.Questions.{goals_of}
+use Rattle.tree_definitions.specs.States.{TreeNode}
+use Rattle.tree_state.specs.Parts.{Parts, free_place, is_done_by, claimed_parts}
+use Rattle.tree_definitions.specs.Replies.{IsAgain}
 use Rattle.tree_core.specs.Invariant.{IsTree}
 use Rattle.tree_core.proofs.Flags.{done_is}
-use Rattle.tree_board.proofs.Idle.{open_at}
+use Rattle.tree_state.proofs.Idle.{open_at}
 use Rattle.tree_core.proofs.Endings.{count_le}
 use Rattle.tree_core.proofs.Claiming.{claim_tree}
 use Rattle.tree_core.proofs.Tasks.{moved_tree, roomy_tree, is_again, is_task, is_runnable}

@@ -3,12 +3,12 @@ use Rattle.cert_step.specs.ProofProblem.{problem_of}
 use Rattle.cert_step.specs.ProofStep.{step_of}
 use Rattle.strategies.specs.Runs.{Found}
 use Rattle.strategies.specs.Truth.{IsTrueFound}
-use Rattle.tree_states.specs.declared.mark.Mark.TheVariants.{Idle}
-use Rattle.tree_states.specs.History.{HistoryEntry, Runs}
-use Rattle.tree_states.specs.History as history
-use Rattle.tree_board.specs.Parts.{Parts, HasTicket, ended_parts, failed_parts, decided_parts, is_over_by}
-use Rattle.tree_states.specs.Trees.{ProofTree}
-use Rattle.tree_states.specs.Replies.{IsUnwanted, Notes, IsTaskOf, event_of_found}
+use Rattle.tree_definitions.specs.declared.mark.Mark.TheVariants.{Idle}
+use Rattle.tree_definitions.specs.History.{HistoryEntry, Runs}
+use Rattle.tree_definitions.specs.History as history
+use Rattle.tree_state.specs.Parts.{Parts, HasTicket, ended_parts, failed_parts, decided_parts, is_over_by}
+use Rattle.tree_definitions.specs.Trees.{ProofTree}
+use Rattle.tree_definitions.specs.Replies.{IsUnwanted, Notes, IsTaskOf, event_of_found}
 use Rattle.tree_core.specs.Invariant.{IsTree}
 use Rattle.tree_core.proofs.Tasks.{node_roomy_tree}
 use Rattle.tree_core.proofs.Trees.{tree_of, has_ticket, running_ok, room_ok, late_tree, unwanted, owner, notes_left}

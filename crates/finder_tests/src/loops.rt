@@ -1,0 +1,234 @@
+//! The finder of loops, beside a plain program on systems of constants, and at its limits.
+use crate::made::{constants, show, system};
+use finder_cases::StopAt;
+use assign_search::{Search, Stop};
+use crate::systems::never;
+use loop_find::find_loop;
+use std::alloc::Global;
+use std::test::Fail;
+use trs_core::{OutOfMemory, Term, Trs};
+
+const NOT_THERE: u32 = 91;
+
+const SPENT: u32 = 92;
+
+const STOPPED: u32 = 93;
+
+/// The root of the start, the path and the place, or one number that says what else the answer was.
+fn shown<P: Stop>(
+    alloc: Global,
+    trs: &Trs,
+    budget: u64,
+    stop: &mut P,
+) -> Result<Vec<u32>, OutOfMemory> {
+    let mut shown = Vec::new(alloc);
+    match find_loop(alloc, trs, budget, stop)? {
+        Search::Found(found) => {
+            shown.push(root(&found.start))?;
+            show(&found.path, &mut shown)?;
+            for place in found.place.places() {
+                shown.push(u32::from(*place))?;
+            }
+        }
+        Search::NotThere => shown.push(NOT_THERE)?,
+        Search::Spent => shown.push(SPENT)?,
+        Search::Stopped => shown.push(STOPPED)?,
+    }
+    Ok(shown)
+}
+
+fn root(t: &Term) -> u32 {
+    match t {
+        Term::Var(v) => *v,
+        Term::App(f, _) => *f,
+    }
+}
+
+/// A text of letters, each so many times.
+fn repeated(alloc: Global, parts: &[(u8, u32)]) -> Result<Vec<u8>, OutOfMemory> {
+    let mut text = Vec::new(alloc);
+    for (letter, count) in parts {
+        for _ in 0..*count {
+            text.push(*letter)?;
+        }
+    }
+    Ok(text)
+}
+
+/// Rules 0 a(x) -> d(x, e(x, .., x), e(x, .., x)) and 1 d(t, x, y) -> a(t), where t has `count` + 1
+/// nodes. The closure of both returns to a(t), through a term of 510 times as many nodes.
+fn wide(alloc: Global, count: u32) -> Result<Trs, Fail> {
+    let parts = [
+        (b'd', 1),
+        (b'x', 1),
+        (b'e', 1),
+        (b'x', 255),
+        (b'e', 1),
+        (b'x', 255),
+    ];
+    let many = repeated(alloc, &parts)?;
+    let from = repeated(
+        alloc,
+        &[(b'd', 1), (b'b', count), (b'c', 1), (b'x', 1), (b'y', 1)],
+    )?;
+    let to = repeated(alloc, &[(b'a', 1), (b'b', count), (b'c', 1)])?;
+    let sides: [(&[u8], &[u8]); 2] = [(b"ax", many.as_slice()), (from.as_slice(), to.as_slice())];
+    system(alloc, &[1, 1, 0, 3, 255], &sides)
+}
+
+/// Some systems:
+/// 0. `a(x) -> a(a(x))`;
+/// 1. `a(b, c, x) -> a(x, x, x)`, `d(x, y) -> x` and `d(x, y) -> y`: no closure loops;
+/// 2. `a(b(x)) -> b(a(x))`, which gives closures up to 256 nodes;
+/// 3. a loop by a path through 76,500 nodes, which passes the limits;
+/// 4. a loop by a path through 51,000 nodes, which does not.
+fn made(alloc: Global, number: u32) -> Result<Trs, Fail> {
+    match number {
+        0 => system(alloc, &[1], &[(b"ax", b"aax")]),
+        1 => system(
+            alloc,
+            &[3, 0, 0, 2],
+            &[(b"abcx", b"axxx"), (b"dxy", b"x"), (b"dxy", b"y")],
+        ),
+        2 => system(alloc, &[1, 1], &[(b"abx", b"bax")]),
+        3 => wide(alloc, 149),
+        _ => wide(alloc, 99),
+    }
+}
+
+/// What is shown on the systems, within so many attempts.
+const SHOWN: [(u32, u64, &[u32]); 6] = [
+    (0, 0, &[0, 100, 99]),
+    (1, 4, &[NOT_THERE]),
+    (1, 3, &[SPENT]),
+    (3, 611, &[NOT_THERE]),
+    (3, 610, &[SPENT]),
+    (4, 611, &[0, 100, 101, 99]),
+];
+
+#[test]
+fn loops_and_paths(rt: HostRuntime) -> Result<(), Fail> {
+    for (number, budget, want) in SHOWN {
+        let trs = made(rt.alloc(), number)?;
+        let found = shown(rt.alloc(), &trs, budget, &mut never())?;
+        assert!(rt; found.as_slice() == want, "on system {number}");
+    }
+    Ok(())
+}
+
+/// Of the sides up to the limit 254 have 32,639 attempts.
+#[test]
+fn sides_up_to_the_limit(rt: HostRuntime) -> Result<(), Fail> {
+    let trs = made(rt.alloc(), 2)?;
+    for (budget, want) in [(32_639, SPENT), (32_640, NOT_THERE)] {
+        let found = shown(rt.alloc(), &trs, budget, &mut never())?;
+        assert!(rt; found.as_slice() == [want].as_slice());
+    }
+    Ok(())
+}
+
+/// A stop comes before the first attempt, the second and so on.
+#[test]
+fn stops_of_the_finder(rt: HostRuntime) -> Result<(), Fail> {
+    let trs = made(rt.alloc(), 1)?;
+    for left in 0..5 {
+        let mut stop = StopAt { left, stops: 0 };
+        let found = shown(rt.alloc(), &trs, 20_000, &mut stop)?;
+        assert!(rt; (found.as_slice() == [STOPPED].as_slice()) == (left < 3));
+    }
+    Ok(())
+}
+
+/// A closure of a system of constants: its ends, and its start and rules as they are shown.
+#[derive(Drop)]
+struct Chain {
+    from: u32,
+    to: u32,
+    shown: Vec<u32>,
+}
+
+fn longer(alloc: Global, shown: &[u32], next: u32) -> Result<Vec<u32>, OutOfMemory> {
+    let mut made = Vec::from_slice(alloc, shown)?;
+    made.push(next)?;
+    Ok(made)
+}
+
+/// A chain and one more rule, for each rule that continues it, of the first so many rules.
+fn continued(
+    alloc: Global,
+    chain: &Chain,
+    pairs: &[(u32, u32)],
+    tries: u64,
+) -> Result<Vec<Chain>, OutOfMemory> {
+    let mut made = Vec::new(alloc);
+    let mut left = tries;
+    let mut rule: u32 = 100;
+    for (from, to) in pairs {
+        if left > 0 && *from == chain.to {
+            let shown = longer(alloc, &chain.shown, rule)?;
+            let (from, to) = (chain.from, *to);
+            made.push(Chain { from, to, shown })?;
+        }
+        left = left.saturating_sub(1);
+        rule = rule.saturating_add(1);
+    }
+    Ok(made)
+}
+
+/// All chains of rules from one constant to another, one after another.
+fn plainly(alloc: Global, pairs: &[(u32, u32)], budget: u64) -> Result<Vec<u32>, OutOfMemory> {
+    let mut chains = Vec::new(alloc);
+    let mut rule: u32 = 100;
+    for (from, to) in pairs {
+        let (from, to) = (*from, *to);
+        let shown = longer(alloc, &[from], rule)?;
+        if from == to {
+            return longer(alloc, &shown, 99);
+        }
+        chains.push(Chain { from, to, shown })?;
+        rule = rule.saturating_add(1);
+    }
+    let mut left = budget;
+    for next in 0..1_000 {
+        let Some(chain) = chains.get(next) else {
+            break;
+        };
+        for chain in continued(alloc, chain, pairs, left)? {
+            if chain.from == chain.to {
+                return longer(alloc, &chain.shown, 99);
+            }
+            chains.push(chain)?;
+        }
+        left = left.saturating_sub(pairs.len() as u64);
+        if left == 0 {
+            return longer(alloc, &[], SPENT);
+        }
+    }
+    longer(alloc, &[], NOT_THERE)
+}
+
+/// Whether both ways show the same within each of some budgets.
+fn same_shown(alloc: Global, pairs: &[(u32, u32)]) -> Result<bool, Fail> {
+    let trs = constants(alloc, 3, pairs)?;
+    for budget in [0, 1, 5, 12, 60] {
+        let found = shown(alloc, &trs, budget, &mut never())?;
+        if found.as_slice() != plainly(alloc, pairs, budget)?.as_slice() {
+            return Ok(false);
+        }
+    }
+    Ok(true)
+}
+
+/// All systems of three rules over three constants.
+#[test]
+fn chains_of_constants(rt: HostRuntime) -> Result<(), Fail> {
+    for a in 0..9 {
+        for b in 0..9 {
+            for c in 0..9 {
+                let pairs = [(a / 3, a % 3), (b / 3, b % 3), (c / 3, c % 3)];
+                assert!(rt; same_shown(rt.alloc(), &pairs)?, "of {a}, {b} and {c}");
+            }
+        }
+    }
+    Ok(())
+}

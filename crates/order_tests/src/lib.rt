@@ -1,7 +1,0 @@
-//! Tests of the orders. There is no code here.
-#![tactic(auto)]
-
-#[cfg(test)]
-mod made;
-#[cfg(test)]
-mod orders;

@@ -1,6 +1,0 @@
-use Rattle.tree_board.proofs.SeenNodes.{set_decided}
-use Rattle.tree_board.proofs.node_lists.decide_node.Goals as goal
-
-pub returns-clause-nodes : goal.returns-clause-nodes
-returns-clause-nodes c = λ history node there.
-    set_decided history c.args.nodes.now.items c.args.n c.index_mut.result.now node c.args.decision c.index_mut.ensures.value there

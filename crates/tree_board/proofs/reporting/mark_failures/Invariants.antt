@@ -1,6 +1,0 @@
-use Rattle.std.proofs.Common.{◌≡◌, take}
-use Rattle.tree_board.specs.Stuck.{failures}
-use Rattle.tree_board.proofs.reporting.mark_failures.Given as goal
-
-abbrev pub invariant-loop-place : goal.invariant-loop-place
-invariant-loop-place l = l.failed.items ≡ failures (take l.place l.strategies) l.marks
