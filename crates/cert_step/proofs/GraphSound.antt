@@ -8,7 +8,7 @@ use Rattle.trs_defs.specs.Member.{In, in_first, in_rest}
 use Rattle.trs_defs.proofs.Members.{no_in, in_or}
 use Rattle.trs_defs.specs.System.{System}
 use Rattle.pair_theory.specs.DependencyPair.{dependency_pairs}
-use Rattle.dp_core.specs.Laws.{IsFiniteOf}
+use Rattle.dp_graph.specs.dp_core.Laws.{IsFiniteOf}
 use Rattle.dp_graph.specs.GroupOrSingle.{GroupOrSingle, group, single, groups_of}
 use Rattle.dp_graph.proofs.Concluding.{graph_concludes, graph_once, groups_of_problem}
 use Rattle.cert_step.specs.ProofProblem as problem

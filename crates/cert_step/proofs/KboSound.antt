@@ -7,7 +7,7 @@ use Rattle.trs_defs.specs.System.{System, IsSystem}
 use Rattle.pair_theory.specs.Over.{IsOver}
 use Rattle.order_theory.specs.KnuthBendix.{arity_with_marks}
 use Rattle.order_theory.proofs.KnuthPair.{knuth_pair}
-use Rattle.pair_order.specs.Entries.{entry_of, has_entry}
+use Rattle.kbo_order.specs.pair_order.Entries.{entry_of, has_entry}
 use Rattle.kbo_order.specs.declared.entries.KboEntry.{KboEntry}
 use Rattle.kbo_order.specs.Table.{symbol_of, arity_of, arity_in, weight_in, rank_in, has_arity}
 use Rattle.kbo_order.specs.Laws.{AgreesWith, spoken}

@@ -2,7 +2,7 @@
 use Rattle.std.specs.Prelude.{ℕ, List, Ok, IsTrue}
 use Rattle.trs_defs.specs.System.{System, IsSystem}
 use Rattle.rewrite_core.specs.PathsOfJoin.{PathsOfJoin}
-use Rattle.crit_pairs.proofs.ListedOnce.{listed_once}
+use Rattle.rule_label.proofs.crit_pairs.ListedOnce.{listed_once}
 use Rattle.rule_label.proofs.OneAnswer.{label_once}
 use Rattle.rewrite_core.proofs.CheckLaws.{returns_once, then_once}
 use Rattle.cert_step.specs.ProofProblem as problem

@@ -2,7 +2,7 @@
 use Rattle.std.specs.Prelude.{List}
 use Rattle.order_theory.proofs.PathPair.{path_pair}
 use Rattle.pair_theory.specs.ReductionPair.{AllTerms}
-use Rattle.pair_order.specs.Entries.{has_entry}
+use Rattle.kbo_order.specs.pair_order.Entries.{has_entry}
 use Rattle.path_lpo.specs.Table.{PathEntry, symbol_of, rank_in, filter_in, spoken}
 use Rattle.cert_step.specs.Entries.{ArePathEntries}
 use Rattle.cert_step.specs.Kind.{IsSound}

@@ -6,10 +6,10 @@ use Rattle.pair_theory.specs.DependencyPair.{dependency_pairs}
 use Rattle.pair_theory.specs.ReductionPair.{ReductionPair}
 use Rattle.pair_theory.proofs.PairList.{listed_are_pairs}
 use Rattle.pair_theory.proofs.Problems.{removal_erased}
-use Rattle.pair_order.specs.Spoken.{SpeaksWithEntries}
-use Rattle.pair_order.proofs.Erasure.{speaks_of_sides, speaks_erased}
-use Rattle.dp_core.specs.PairConditions.{Comparing}
-use Rattle.dp_core.proofs.OrderConclusions.{Suffices, pair_steps_conclude, pair_steps_once, pair_steps_leave}
+use Rattle.kbo_order.specs.pair_order.Spoken.{SpeaksWithEntries}
+use Rattle.kbo_order.proofs.pair_order.Erasure.{speaks_of_sides, speaks_erased}
+use Rattle.dp_graph.specs.dp_core.PairConditions.{Comparing}
+use Rattle.dp_graph.proofs.dp_core.OrderConclusions.{Suffices, pair_steps_conclude, pair_steps_once, pair_steps_leave}
 use Rattle.cert_step.specs.Kind.{IsSound}
 use Rattle.cert_step.specs.OrderKind.{order_kind}
 use Rattle.cert_step.proofs.PairsSound.{removal_sound}

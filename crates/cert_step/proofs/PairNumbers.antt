@@ -4,7 +4,7 @@ use Rattle.std.proofs.Common.{zero, suc, arith}
 use Rattle.std.specs.List.{AllByRecursion}
 use Rattle.std.proofs.lemmas.List.Elements.{recursion_from_All}
 use Rattle.pair_theory.specs.DependencyPair.{DependencyPair, dependency_pairs}
-use Rattle.dp_core.specs.Numbered.{ArePairsOf}
+use Rattle.dp_graph.specs.dp_core.Numbered.{ArePairsOf}
 use Rattle.cert_step.specs.Laws.{ProblemsHavePairs, PairsAreOne}
 
 -- the item that stands at a number

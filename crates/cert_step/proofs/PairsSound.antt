@@ -5,8 +5,8 @@ use Rattle.trs_defs.proofs.Members.{no_in}
 use Rattle.trs_defs.specs.System.{System, IsSystem}
 use Rattle.pair_theory.specs.DependencyPair.{DependencyPair, dependency_pairs}
 use Rattle.pair_theory.proofs.Problems.{no_pairs_end}
-use Rattle.dp_core.specs.Numbered.{ArePairsOf}
-use Rattle.dp_core.specs.Laws.{IsFiniteOf, Remain}
+use Rattle.dp_graph.specs.dp_core.Numbered.{ArePairsOf}
+use Rattle.dp_graph.specs.dp_core.Laws.{IsFiniteOf, Remain}
 use Rattle.rewrite_core.specs.Check.{Check, HasOneAnswer, Returns, returned, goes_on}
 use Rattle.rewrite_core.proofs.CheckLaws.{returns_once, then_once}
 use Rattle.cert_step.specs.ProofProblem as problem

@@ -2,7 +2,7 @@
 use Rattle.std.specs.Prelude.{ℕ, List}
 use Rattle.order_theory.proofs.Linear.{linear_pair}
 use Rattle.pair_theory.specs.ReductionPair.{AllTerms}
-use Rattle.pair_order.specs.Entries.{has_entry}
+use Rattle.kbo_order.specs.pair_order.Entries.{has_entry}
 use Rattle.poly_lin.specs.Table.{symbol_of, coefficient_in}
 use Rattle.poly_lin.specs.Laws.{spoken}
 use Rattle.cert_step.specs.Entries.{AreLinearEntries}

@@ -1,9 +1,9 @@
 -- The kind `strong` is sound.
 use Rattle.std.specs.Prelude.{List, Ok, IsTrue}
 use Rattle.trs_defs.specs.System.{System, IsSystem}
-use Rattle.closed_pairs.specs.StronglyClosed.{FourPaths}
-use Rattle.crit_pairs.proofs.ListedOnce.{listed_once}
-use Rattle.closed_pairs.proofs.OneAnswers.{strong_once}
+use Rattle.rule_label.specs.closed_pairs.StronglyClosed.{FourPaths}
+use Rattle.rule_label.proofs.crit_pairs.ListedOnce.{listed_once}
+use Rattle.rule_label.proofs.closed_pairs.OneAnswers.{strong_once}
 use Rattle.rewrite_core.proofs.CheckLaws.{returns_once, then_once}
 use Rattle.cert_step.specs.ProofProblem as problem
 use Rattle.cert_step.specs.ProofProblem.{ProofProblem, Holds}

@@ -1,7 +1,7 @@
 -- The kind `subterm` is sound.
 use Rattle.std.specs.Prelude.{ℕ, List}
 use Rattle.pair_theory.specs.DependencyPair.{dependency_pairs}
-use Rattle.dp_core.proofs.Conclusions.{subterm_once, subterm_leaves}
+use Rattle.dp_graph.proofs.dp_core.Conclusions.{subterm_once, subterm_leaves}
 use Rattle.cert_step.specs.Kind.{IsSound}
 use Rattle.cert_step.specs.SubtermKind.{subterm_kind}
 use Rattle.cert_step.proofs.PairsSound.{removal_sound}

@@ -7,13 +7,13 @@ use Rattle.confluence_theory.proofs.Claims.{joined, parallel_closed, strongly_cl
 use Rattle.pair_theory.proofs.PairList.{listed_are_pairs}
 use Rattle.pair_theory.proofs.Problems.{listed_theorem}
 use Rattle.pair_theory.proofs.Projections.{criterion_theorem}
-use Rattle.dp_core.specs.Laws.{AllPairsConclude, SubtermStepsConclude}
-use Rattle.dp_core.proofs.Conclusions.{all_conclude, subterm_concludes}
-use Rattle.crit_pairs.specs.PlainPeak.{plain}
-use Rattle.crit_pairs.specs.Laws.{ListedPeaksCover}
-use Rattle.crit_pairs.proofs.Covering.{has_all}
-use Rattle.closed_pairs.specs.Laws.{JoinedPeaksConclude, ParallelClosedPeaksConclude, StronglyClosedPeaksConclude}
-use Rattle.closed_pairs.proofs.Conclusions.{joined_concludes, parallel_concludes, strong_concludes}
+use Rattle.dp_graph.specs.dp_core.Laws.{AllPairsConclude, SubtermStepsConclude}
+use Rattle.dp_graph.proofs.dp_core.Conclusions.{all_conclude, subterm_concludes}
+use Rattle.rule_label.specs.crit_pairs.PlainPeak.{plain}
+use Rattle.rule_label.specs.crit_pairs.Laws.{ListedPeaksCover}
+use Rattle.rule_label.proofs.crit_pairs.Covering.{has_all}
+use Rattle.rule_label.specs.closed_pairs.Laws.{JoinedPeaksConclude, ParallelClosedPeaksConclude, StronglyClosedPeaksConclude}
+use Rattle.rule_label.proofs.closed_pairs.Conclusions.{joined_concludes, parallel_concludes, strong_concludes}
 use Rattle.rule_label.specs.Laws.{DecreasingPeaksConclude}
 use Rattle.rule_label.proofs.Decreasing.{decreasing_concludes}
 

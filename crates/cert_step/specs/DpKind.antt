@@ -2,7 +2,7 @@
 use Rattle.std.specs.Prelude.{Bool, true, false, [], ◌∷◌}
 use Rattle.pair_theory.specs.DependencyPair.{dependency_pairs}
 use Rattle.rewrite_core.specs.Check.{Returns}
-use Rattle.dp_core.specs.Numbered.{numbers_from}
+use Rattle.dp_graph.specs.dp_core.Numbered.{numbers_from}
 use Rattle.cert_step.specs.ProofProblem as problem
 use Rattle.cert_step.specs.ProofProblem.{ProofProblem}
 use Rattle.cert_step.specs.Kind.{Kind}

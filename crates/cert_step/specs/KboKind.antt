@@ -1,11 +1,11 @@
 -- Knuth-Bendix orders, as steps of proofs.
 use Rattle.std.specs.Prelude.{List}
 use Rattle.order_theory.specs.KnuthBendix.{KnuthWeak, KnuthGreater}
-use Rattle.pair_order.specs.Entries.{has_entry}
+use Rattle.kbo_order.specs.pair_order.Entries.{has_entry}
 use Rattle.kbo_order.specs.declared.entries.KboEntry.{KboEntry}
 use Rattle.kbo_order.specs.Table.{symbol_of, weight_in, rank_in}
 use Rattle.kbo_order.specs.TooBig.{EitherIsBig}
-use Rattle.dp_core.specs.PairConditions.{Comparing, comparing_by}
+use Rattle.dp_graph.specs.dp_core.PairConditions.{Comparing, comparing_by}
 use Rattle.cert_step.specs.Entries.{AreKboEntries}
 use Rattle.cert_step.specs.Kind.{Kind}
 use Rattle.cert_step.specs.OrderKind.{order_kind}

@@ -1,3 +1,12 @@
+-- what crates above name through this one
+pub use Rattle.rule_label.specs.closed_pairs
+pub use Rattle.dp_graph.specs.dp_core
+pub use Rattle.dp_graph.specs as dp_graph
+pub use Rattle.kbo_order.specs as kbo_order
+pub use Rattle.nonjoin.specs as nonjoin
+pub use Rattle.path_lpo.specs as path_lpo
+pub use Rattle.poly_lin.specs as poly_lin
+pub use Rattle.usable_rules.specs as usable_rules
 pub mod ProofProblem
 pub mod PlainProblem
 pub mod Subproblems

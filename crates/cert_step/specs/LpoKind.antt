@@ -1,9 +1,9 @@
 -- Path orders with filters, as steps of proofs.
 use Rattle.std.specs.Prelude.{List}
 use Rattle.order_theory.specs.ArgumentFilter.{PathWeak, PathStrict}
-use Rattle.pair_order.specs.Entries.{has_entry}
+use Rattle.kbo_order.specs.pair_order.Entries.{has_entry}
 use Rattle.path_lpo.specs.Table.{PathEntry, symbol_of, rank_in, filter_in}
-use Rattle.dp_core.specs.PairConditions.{Comparing, comparing_by}
+use Rattle.dp_graph.specs.dp_core.PairConditions.{Comparing, comparing_by}
 use Rattle.cert_step.specs.Entries.{ArePathEntries}
 use Rattle.cert_step.specs.Kind.{Kind}
 use Rattle.cert_step.specs.OrderKind.{order_kind}

@@ -1,7 +1,7 @@
 -- Joined peaks of a system that terminates, as steps of proofs.
 use Rattle.std.specs.Prelude.{Bool, true, false, List, [], ◌∷◌}
 use Rattle.rewrite_core.specs.PathsOfJoin.{PathsOfJoin}
-use Rattle.closed_pairs.specs.Joined.{newman_conditions}
+use Rattle.rule_label.specs.closed_pairs.Joined.{newman_conditions}
 use Rattle.cert_step.specs.ProofProblem as problem
 use Rattle.cert_step.specs.ProofProblem.{ProofProblem}
 use Rattle.cert_step.specs.Kind.{Kind, leaves}

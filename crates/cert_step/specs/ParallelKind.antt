@@ -1,7 +1,7 @@
 -- Peaks that are closed by parallel steps, as steps of proofs.
 use Rattle.std.specs.Prelude.{Bool, true, false, List, []}
 use Rattle.trs_defs.specs.Path.{PlacedRule}
-use Rattle.closed_pairs.specs.ParallelClosed.{parallel_conditions}
+use Rattle.rule_label.specs.closed_pairs.ParallelClosed.{parallel_conditions}
 use Rattle.cert_step.specs.ProofProblem as problem
 use Rattle.cert_step.specs.ProofProblem.{ProofProblem}
 use Rattle.cert_step.specs.Kind.{Kind, leaves}

@@ -1,10 +1,10 @@
 -- Linear interpretations, as steps of proofs.
 use Rattle.std.specs.Prelude.{ℕ, List}
 use Rattle.order_theory.specs.LinearInterpretation.{LinearWeak, LinearStrict}
-use Rattle.pair_order.specs.Entries.{has_entry}
+use Rattle.kbo_order.specs.pair_order.Entries.{has_entry}
 use Rattle.poly_lin.specs.Table.{symbol_of, coefficient_in}
 use Rattle.poly_lin.specs.TooBig.{EitherIsBig}
-use Rattle.dp_core.specs.PairConditions.{Comparing, comparing_by}
+use Rattle.dp_graph.specs.dp_core.PairConditions.{Comparing, comparing_by}
 use Rattle.cert_step.specs.Entries.{AreLinearEntries}
 use Rattle.cert_step.specs.Kind.{Kind}
 use Rattle.cert_step.specs.OrderKind.{order_kind}

@@ -6,12 +6,12 @@ use Rattle.trs_defs.specs.Path.{PlacedRule}
 use Rattle.trs_core.specs.View.{tree}
 use Rattle.rewrite_core.specs.declared.forks.ForkTest.{ForkTest}
 use Rattle.rewrite_core.specs.PathsOfJoin.{PathsOfJoin}
-use Rattle.closed_pairs.specs.ParallelClosed.{paths_of}
-use Rattle.closed_pairs.specs.StronglyClosed.{FourPaths}
+use Rattle.rule_label.specs.closed_pairs.ParallelClosed.{paths_of}
+use Rattle.rule_label.specs.closed_pairs.StronglyClosed.{FourPaths}
 use Rattle.dp_graph.specs.GroupOrSingle.{GroupOrSingle, items_of}
 use Rattle.path_lpo.specs.Table.{PathEntry}
 use Rattle.kbo_order.specs.declared.entries.KboEntry.{KboEntry}
-use Rattle.dp_core.specs.PairConditions.{Comparing}
+use Rattle.dp_graph.specs.dp_core.PairConditions.{Comparing}
 use Rattle.cert_step.specs.declared.any_order.AnyOrder.{AnyOrder}
 use Rattle.cert_step.specs.declared.any_order.AnyOrder.TheVariants as order
 use Rattle.cert_step.specs.declared.step.Step.{Step}

@@ -1,6 +1,6 @@
 -- Peaks that are joined strongly, as steps of proofs.
 use Rattle.std.specs.Prelude.{Bool, true, false, List, []}
-use Rattle.closed_pairs.specs.StronglyClosed.{FourPaths, strong_conditions}
+use Rattle.rule_label.specs.closed_pairs.StronglyClosed.{FourPaths, strong_conditions}
 use Rattle.cert_step.specs.ProofProblem as problem
 use Rattle.cert_step.specs.ProofProblem.{ProofProblem}
 use Rattle.cert_step.specs.Kind.{Kind, leaves}

@@ -1,7 +1,7 @@
 -- The subterm criterion, as steps of proofs.
 use Rattle.std.specs.Prelude.{ℕ, List}
 use Rattle.pair_theory.specs.DependencyPair.{dependency_pairs}
-use Rattle.dp_core.specs.SubtermConditions.{subterm_conditions}
+use Rattle.dp_graph.specs.dp_core.SubtermConditions.{subterm_conditions}
 use Rattle.cert_step.specs.Entries.{AreProjections}
 use Rattle.cert_step.specs.Kind.{Kind}
 use Rattle.cert_step.specs.OnPairs.{removal_kind}

@@ -1,13 +1,13 @@
 ghost use Rattle.std.specs.Prelude.{[], ◌∷◌};
 ghost use Rattle.pair_theory.specs.DependencyPair.{dependency_pairs};
 ghost use Rattle.rewrite_core.specs.Check.{AnswersBy, Returns};
-ghost use Rattle.dp_core.specs.Numbered.{numbers_from};
+ghost use Rattle.dp_graph.specs.dp_core.Numbered.{numbers_from};
 ghost use Rattle.cert_step.specs.ProofProblem.{dp};
 ghost use Rattle.cert_step.specs.Subproblems.{problems_of};
 
 use crate::Problem;
 use crate::problem::alone;
-use dp_core::{dependency_pairs, pair_numbers};
+use dp_graph::{dependency_pairs, pair_numbers};
 use rewrite_core::CheckFault;
 use std::alloc::Global;
 use trs_core::Trs;

@@ -6,7 +6,7 @@ ghost use Rattle.trs_defs.specs.Claims.{IsForked};
 ghost use Rattle.trs_defs.specs.UniqueNormalForms.{IsSplit};
 ghost use Rattle.rewrite_core.specs.Check.{AnswersBy, Answers};
 ghost use Rattle.rewrite_core.specs.PathCheck.{Runs};
-ghost use Rattle.closed_pairs.specs.Ends.{made_of};
+ghost use Rattle.rule_label.specs.closed_pairs.Ends.{made_of};
 ghost use Rattle.cert_step.specs.Kind.{leaves};
 ghost use Rattle.cert_step.specs.Subproblems.{problems_of};
 ghost use Rattle.cert_step.specs.ForkKind.{end_conditions, fork_conditions};

@@ -1,14 +1,14 @@
 ghost use Rattle.std.specs.Prelude.{[], ◌∷◌};
 ghost use Rattle.rewrite_core.specs.Check.{AnswersBy};
-ghost use Rattle.closed_pairs.specs.Joined.{newman_conditions};
+ghost use Rattle.rule_label.specs.closed_pairs.Joined.{newman_conditions};
 ghost use Rattle.cert_step.specs.Kind.{leaves};
 ghost use Rattle.cert_step.specs.ProofProblem.{sn};
 ghost use Rattle.cert_step.specs.Subproblems.{problems_of};
 
 use crate::Problem;
 use crate::problem::one_problem;
-use closed_pairs::newman_check;
 use rewrite_core::{CheckFault, Join};
+use rule_label::newman_check;
 use std::alloc::Global;
 use trs_core::Trs;
 

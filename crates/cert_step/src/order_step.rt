@@ -1,7 +1,7 @@
 ghost use Rattle.std.specs.Prelude.{◌≡◌, ◌<◌, All, length};
 ghost use Rattle.pair_theory.specs.DependencyPair.{dependency_pairs};
 ghost use Rattle.rewrite_core.specs.Check.{AnswersBy};
-ghost use Rattle.dp_core.specs.PairConditions.{pair_conditions};
+ghost use Rattle.dp_graph.specs.dp_core.PairConditions.{pair_conditions};
 ghost use Rattle.cert_step.specs.ProofProblem.{dp};
 ghost use Rattle.cert_step.specs.ProofStep.{order_step, kind_of, comparing_of};
 ghost use Rattle.cert_step.specs.Subproblems.{problems_of};
@@ -10,7 +10,7 @@ ghost use Rattle.cert_step.specs.Tables.{AreTablesOf};
 use crate::on_pairs::remaining;
 use crate::tables::Tables;
 use crate::{AnyOrder, Problem};
-use dp_core::Pairs;
+use dp_graph::Pairs;
 use rewrite_core::CheckFault;
 use std::alloc::Global;
 use trs_core::Trs;

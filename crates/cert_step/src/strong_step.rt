@@ -1,13 +1,13 @@
 ghost use Rattle.std.specs.Prelude.{[]};
 ghost use Rattle.rewrite_core.specs.Check.{AnswersBy};
-ghost use Rattle.closed_pairs.specs.StronglyClosed.{strong_conditions};
+ghost use Rattle.rule_label.specs.closed_pairs.StronglyClosed.{strong_conditions};
 ghost use Rattle.cert_step.specs.Kind.{leaves};
 ghost use Rattle.cert_step.specs.Subproblems.{problems_of};
 
 use crate::Problem;
 use crate::problem::no_problem;
-use closed_pairs::{Four, strongly_closed_check};
 use rewrite_core::CheckFault;
+use rule_label::{Four, strongly_closed_check};
 use std::alloc::Global;
 use trs_core::Trs;
 

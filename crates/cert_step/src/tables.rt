@@ -2,8 +2,7 @@ ghost use Rattle.std.specs.Prelude.{◌≡◌, IfOk};
 ghost use Rattle.pair_theory.specs.DependencyPair.{dependency_pairs};
 ghost use Rattle.cert_step.specs.Tables.{AreTablesOf};
 
-use dp_core::Pairs;
-use dp_graph::PairGraph;
+use dp_graph::{PairGraph, Pairs};
 use std::alloc::Global;
 use trs_core::{OutOfMemory, Trs};
 

@@ -4,7 +4,7 @@ use Rattle.std.proofs.lemmas.List.{drop_all}
 use Rattle.sexp_core.specs.declared.sexp.Sexp.{Sexp}
 use Rattle.sexp_core.specs.Items.{Items, item, view, views}
 use Rattle.names_text.specs.Named.{NamedSystem}
-use Rattle.cert_step.specs.ProofStep.{ProofNodeStep}
+use Rattle.step_text.specs.cert_step.ProofStep.{ProofNodeStep}
 use Rattle.text_reading.specs.Reading.{Read}
 use Rattle.text_reading.specs.Seen.{seen}
 use Rattle.text_reading.proofs.Made.{ok_same}

@@ -4,8 +4,8 @@ use Rattle.std.specs.Prelude.{All}
 use Rattle.std.specs.List.{AllByRecursion}
 use Rattle.std.proofs.lemmas.List.Elements.{recursion_from_All}
 use Rattle.trs_defs.specs.System.{System}
-use Rattle.cert_step.specs.declared.step.NodeStep.{NodeStep}
-use Rattle.cert_step.specs.ProofStep.{step_of, node_step_of}
+use Rattle.step_text.specs.cert_step.declared.step.NodeStep.{NodeStep}
+use Rattle.step_text.specs.cert_step.ProofStep.{step_of, node_step_of}
 use Rattle.step_text.specs.Ranges.{HasNumbersInRange, IsWellMadeInRange, IsPrintable}
 
 each_made : (system : System) (steps : List NodeStep) → AllByRecursion (IsPrintable system) (map node_step_of steps)

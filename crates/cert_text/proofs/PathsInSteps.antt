@@ -3,7 +3,7 @@ use Rattle.std.proofs.Common.{◌≡◌, List, [], ◌∷◌, ◌++◌, map, ref
 use Rattle.std.specs.List.{AllByRecursion}
 use Rattle.trs_defs.specs.Path.{PlacedRule}
 use Rattle.trs_defs.specs.System.{System}
-use Rattle.cert_step.specs.ProofStep.{ProofNodeStep}
+use Rattle.step_text.specs.cert_step.ProofStep.{ProofNodeStep}
 use Rattle.text_reading.proofs.Tables.{all_append}
 use Rattle.path_text.specs.Paths.{paths_in}
 use Rattle.path_text.specs.Ranges.{IsPlacedInRange}

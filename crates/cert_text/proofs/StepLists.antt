@@ -1,8 +1,8 @@
 -- Steps that are read one after another.
 use Rattle.std.proofs.Common.{◌≡◌, ℕ, Bool, true, false, cond, List, [], ◌∷◌, ◌++◌, map, Ok, Err, codes, sym, ap, ◌∙◌}
 use Rattle.std.proofs.lemmas.List.{map-append}
-use Rattle.cert_step.specs.declared.step.NodeStep.{NodeStep}
-use Rattle.cert_step.specs.ProofStep.{ProofNodeStep, node_step_of}
+use Rattle.step_text.specs.cert_step.declared.step.NodeStep.{NodeStep}
+use Rattle.step_text.specs.cert_step.ProofStep.{ProofNodeStep, node_step_of}
 use Rattle.text_reading.specs.Reading.{Read}
 use Rattle.text_reading.specs.Seen.{seen}
 

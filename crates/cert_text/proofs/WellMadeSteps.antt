@@ -5,8 +5,8 @@ use Rattle.std.proofs.lemmas.List.Elements.{All-from_recursion}
 use Rattle.sexp_core.specs.Items.{Items, no_items, item}
 use Rattle.trs_defs.specs.System.{System}
 use Rattle.names_text.specs.Named.{NamedSystem, IsNamed}
-use Rattle.cert_step.specs.ProofStep.{ProofNodeStep, IsWellMade}
-use Rattle.cert_step.specs.declared.claim.Claim.{Claim}
+use Rattle.step_text.specs.cert_step.ProofStep.{ProofNodeStep, IsWellMade}
+use Rattle.step_text.specs.cert_step.declared.claim.Claim.{Claim}
 use Rattle.text_reading.specs.Reading.{Read, ◌<*>◌}
 use Rattle.text_reading.proofs.Made.{applied, ok_same}
 use Rattle.text_reading.proofs.Tables.{all_append}

@@ -4,7 +4,7 @@ use Rattle.sexp_core.specs.Items.{Item, Items, no_items, item, items_of}
 use Rattle.sexp_core.specs.Printed.{text_of, lines}
 use Rattle.trs_defs.specs.Path.{PlacedRule}
 use Rattle.names_text.specs.Named.{NamedSystem}
-use Rattle.cert_step.specs.ProofStep.{ProofNodeStep}
+use Rattle.step_text.specs.cert_step.ProofStep.{ProofNodeStep}
 use Rattle.path_text.specs.PathNames.{repeated_paths}
 use Rattle.path_text.specs.Paths.{paths_in}
 use Rattle.path_text.specs.Defining.{define_items}

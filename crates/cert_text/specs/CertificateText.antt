@@ -6,8 +6,8 @@ use Rattle.sexp_core.specs.Items.{Item, Items, no_items, item, items_of}
 use Rattle.sexp_core.specs.Reads.{Reads, fault_of}
 use Rattle.sexp_core.specs.declared.fault.TextFault.{TextFault}
 use Rattle.names_text.specs.Named.{NamedSystem}
-use Rattle.cert_step.specs.declared.claim.Claim.{Claim}
-use Rattle.cert_step.specs.ProofStep.{ProofNodeStep}
+use Rattle.step_text.specs.cert_step.declared.claim.Claim.{Claim}
+use Rattle.step_text.specs.cert_step.ProofStep.{ProofNodeStep}
 use Rattle.text_reading.specs.Reading.{Read, ◌<*>◌}
 use Rattle.text_reading.specs.Printed.{word_item}
 use Rattle.path_text.specs.declared.sharing.Shared.{Shared}

@@ -1,8 +1,8 @@
 -- The headline and the head of a certificate text: how they are read, and how they are printed.
 use Rattle.std.specs.Prelude.{ℕ, ◌-◌, ◌^◌, Bool, true, false, List, [], ◌∷◌, Ok, Err, codes}
 use Rattle.sexp_core.specs.Items.{Item, a_word, a_list}
-use Rattle.cert_step.specs.declared.claim.Claim.{Claim}
-use Rattle.cert_step.specs.declared.claim.Claim.TheVariants.{Terminating, Nonterminating, Confluent, Nonconfluent, Unique, Nonunique}
+use Rattle.step_text.specs.cert_step.declared.claim.Claim.{Claim}
+use Rattle.step_text.specs.cert_step.declared.claim.Claim.TheVariants.{Terminating, Nonterminating, Confluent, Nonconfluent, Unique, Nonunique}
 use Rattle.cert_text.specs.declared.head.Head.{Head}
 use Rattle.text_reading.specs.Reading.{Read, place_of, part, done, keyword, list, one_of}
 use Rattle.text_reading.specs.Numbers.{number}

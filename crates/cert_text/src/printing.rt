@@ -3,7 +3,7 @@ ghost use Rattle.std.specs.List.{AllByRecursion};
 ghost use Rattle.sexp_core.specs.Items.{no_items, item, items_of};
 ghost use Rattle.sexp_core.specs.Printed.{text_of, lines};
 ghost use Rattle.names_text.specs.VariableNames.{underscores as underscores_of};
-ghost use Rattle.cert_step.specs.ProofStep.{step_of, node_step_of};
+ghost use Rattle.step_text.specs.cert_step.ProofStep.{step_of, node_step_of};
 ghost use Rattle.step_text.specs.Ranges.{HasNumbersInRange, IsPrintable};
 ghost use Rattle.step_text.specs.Steps.{paths_of_step, step_item};
 ghost use Rattle.text_reading.specs.Printed.{word_item};
@@ -15,12 +15,11 @@ ghost use Rattle.cert_text.specs.Renumbered.{renumbered};
 
 use crate::Certificate;
 use crate::head::{claim_word, headline_word};
-use cert_step::{Claim, NodeStep};
 use names_text::{NamedTrs, underscores};
 use path_text::{PathNames, fits_printed, put_definitions, repeated_paths};
 use rewrite_core::PathStep;
 use std::alloc::Global;
-use step_text::{push_paths, put_step};
+use step_text::{Claim, NodeStep, push_paths, put_step};
 use text_reading::{put, put_number};
 use trs_core::OutOfMemory;
 

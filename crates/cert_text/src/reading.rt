@@ -1,7 +1,7 @@
 ghost use Rattle.std.specs.Prelude.{◌≡◌, ◌≤◌, ◌^◌, length, map, All, IfOk, IfErr, MatchResult};
 ghost use Rattle.sexp_core.specs.Items.{view, views};
 ghost use Rattle.names_text.specs.Named.{NamedSystem};
-ghost use Rattle.cert_step.specs.ProofStep.{IsWellMade, node_step_of};
+ghost use Rattle.step_text.specs.cert_step.ProofStep.{IsWellMade, node_step_of};
 ghost use Rattle.text_reading.specs.Seen.{seen};
 ghost use Rattle.path_text.specs.Sharing.{nothing_defined};
 ghost use Rattle.path_text.specs.Paths.{in_turn};
@@ -15,12 +15,11 @@ use crate::certificate::Certificate;
 use crate::fault::CertFault;
 use crate::head::{Head, read_head, read_headline};
 use bumpalo::Bump;
-use cert_step::NodeStep;
 use names_text::NamedTrs;
 use path_text::{Shared, begins_with, read_define};
 use sexp_core::{Sexp, read_all};
 use std::alloc::Global;
-use step_text::read_step;
+use step_text::{NodeStep, read_step};
 use text_reading::{Read, both};
 use trs_core::OutOfMemory;
 

@@ -3,11 +3,11 @@ use Rattle.std.proofs.Common.{◌≡◌, ℕ, ◌≤◌, List, [], ◌∷◌, le
 use Rattle.std.specs.List.{All, AllByRecursion}
 use Rattle.std.proofs.lemmas.List.Elements.{recursion_from_All}
 use Rattle.trs_defs.specs.System.{System}
-use Rattle.cert_step.specs.ProofStep.{node_step_of}
-use Rattle.cert_step.specs.declared.step.NodeStep.{NodeStep}
-use Rattle.cert_text.specs.ProofText.{proof_text_of}
-use Rattle.cert_text.specs.declared.certificate.Certificate.{Certificate}
-use Rattle.step_text.specs.Ranges.{IsPrintable}
+use Rattle.certifier.specs.cert_step.ProofStep.{node_step_of}
+use Rattle.certifier.specs.cert_step.declared.step.NodeStep.{NodeStep}
+use Rattle.certifier.specs.cert_text.ProofText.{proof_text_of}
+use Rattle.certifier.specs.cert_text.declared.certificate.Certificate.{Certificate}
+use Rattle.certifier.specs.step_text.Ranges.{IsPrintable}
 
 first_of : (system : System) (steps : List NodeStep) (s : NodeStep) → 1 ≤ length steps → s ≡ get_or steps 0 s
     → AllByRecursion (IsPrintable system) (map node_step_of steps) → IsPrintable system (node_step_of s)

@@ -1,8 +1,8 @@
 //! What a step answers of a problem, beside what is wanted.
-ghost use Rattle.cert_step.specs.ProofProblem.{problem_of, IsWellMadeProblem};
-ghost use Rattle.cert_step.specs.ProofStep.{step_of, IsWellMade};
+ghost use Rattle.certifier.specs.cert_step.ProofProblem.{problem_of, IsWellMadeProblem};
+ghost use Rattle.certifier.specs.cert_step.ProofStep.{step_of, IsWellMade};
 
-use cert_step::{Problem, Step, apply_step};
+use certifier::{Problem, Step, apply_step};
 use rewrite_core::{CheckFault, StepRefused};
 use std::alloc::Global;
 use trs_core::{OutOfMemory, Trs};

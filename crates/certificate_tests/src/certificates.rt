@@ -1,7 +1,6 @@
 //! Certificates are read, or refused at a place.
 use ari_text::{NamedTrs, read_problem};
-use cert_step::{Claim, NodeStep, Step};
-use cert_text::{CertFault, Certificate, claim_headline, read_certificate};
+use certifier::{CertFault, Certificate, Claim, NodeStep, Step, claim_headline, read_certificate};
 use std::test::*;
 
 // One symbol, `f` of arity 1, and no rules.

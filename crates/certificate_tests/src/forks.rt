@@ -1,10 +1,10 @@
 //! Loops and forks.
 ghost use Rattle.std.specs.Prelude.{◌≡◌, [], ◌∷◌};
-ghost use Rattle.cert_step.specs.ProofProblem.{problem_of, IsWellMadeProblem};
+ghost use Rattle.certifier.specs.cert_step.ProofProblem.{problem_of, IsWellMadeProblem};
 
 use crate::answers::answers;
 use crate::made::{PlainPath, position, steps, system, term};
-use cert_step::{Claim, ForkTest, Problem, Step};
+use certifier::{Claim, ForkTest, Problem, Step};
 use rewrite_core::StepRefused;
 use std::alloc::Global;
 use std::test::Fail;

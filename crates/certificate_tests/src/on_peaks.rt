@@ -1,7 +1,7 @@
 //! Steps that say something of each critical peak.
 use crate::answers::answers;
 use crate::made::{PlainPath, steps, system};
-use cert_step::{Join, Problem, Step};
+use certifier::{Join, Problem, Step};
 use rewrite_core::{PathStep, StepRefused};
 use std::alloc::Global;
 use std::test::Fail;

@@ -1,6 +1,6 @@
 //! Certificates are printed with other variables than they are read with.
 use ari_text::{NamedTrs, read_problem};
-use cert_text::{print_certificate, print_step, read_certificate};
+use certifier::{print_certificate, print_step, read_certificate};
 use std::alloc::Global;
 use std::test::*;
 

@@ -1,8 +1,7 @@
 //! The first samples, and the greatest.
 use names_text::NamedTrs;
 use sampling::sample_system;
-use std::alloc::Global;
-use std::alloc::AllocError;
+use std::alloc::{AllocError, Global};
 use std::test::*;
 use trs_core::Term;
 

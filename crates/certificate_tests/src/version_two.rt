@@ -1,8 +1,9 @@
 //! Certificates of version 2: accepted, printed, and weighed.
 use ari_text::{NamedTrs, read_problem};
-use cert_step::{Claim, NodeStep, Step};
-use cert_text::{Certificate, fits_version_two, print_version_two, read_certificate};
-use certifier::accepted_proof;
+use certifier::{
+    Certificate, Claim, NodeStep, Step, accepted_proof, fits_version_two, print_version_two,
+    read_certificate,
+};
 use rewrite_core::PathStep;
 use std::alloc::Global;
 use std::test::*;

@@ -2,17 +2,17 @@
 use Rattle.std.proofs.Common.{◌≡◌, ◌≢◌, ◌⊎◌, inl, inr, ℕ, zero, suc, ◌<◌, Bool, true, false, nat_lt, List, [], ◌∷◌, Some, take, slice_get, refl, sym, ap, subst, ◌∙◌, arith}
 use Rattle.std.proofs.lemmas.Bool.{ltb-true, ltb-false}
 use Rattle.trs_defs.specs.System.{System, IsSystem}
-use Rattle.cert_step.specs.declared.claim.Claim.{Claim}
-use Rattle.cert_step.specs.ProofProblem.{ProofProblem}
-use Rattle.cert_step.specs.ProofStep.{ProofNodeStep}
-use Rattle.cert_step.specs.Applies.{Applies}
-use Rattle.cert_step.specs.Refused.{IsStepRefused}
-use Rattle.cert_step.proofs.Once.{applies_once, not_both, refused_once}
+use Rattle.cert_text.specs.cert_step.declared.claim.Claim.{Claim}
+use Rattle.cert_text.specs.cert_step.ProofProblem.{ProofProblem}
+use Rattle.cert_text.specs.cert_step.ProofStep.{ProofNodeStep}
+use Rattle.cert_text.specs.cert_step.Applies.{Applies}
+use Rattle.cert_text.specs.cert_step.Refused.{IsStepRefused}
+use Rattle.cert_text.proofs.cert_step.Once.{applies_once, not_both, refused_once}
 use Rattle.certifier.specs.declared.rejected.Rejected.{Rejected}
 use Rattle.certifier.specs.declared.rejected.Rejected.TheVariants.{Problem, Text, Version, Headline, NoNode, Decided, Step, Open, OutOfMemory}
-use Rattle.cert_step.specs.Nodes.{Node, open_node, nodes_after, Makes, first_nodes, IsAccepted, IsLeftOpen}
+use Rattle.cert_text.specs.cert_step.Nodes.{Node, open_node, nodes_after, Makes, first_nodes, IsAccepted, IsLeftOpen}
 use Rattle.certifier.specs.Checked.{IsStuck, AreRejected}
-use Rattle.cert_step.proofs.NodeSoundness.{same_problem}
+use Rattle.cert_text.proofs.cert_step.NodeSoundness.{same_problem}
 
 -- ---- steps that are made
 

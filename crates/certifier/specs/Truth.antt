@@ -2,8 +2,8 @@
 use Rattle.std.specs.Prelude.{ℕ, List}
 use Rattle.names_text.specs.Named.{NamedSystem}
 use Rattle.ari_text.specs.Problem.{SaysSystem}
-use Rattle.cert_step.specs.declared.claim.Claim.{Claim}
-use Rattle.cert_step.specs.ProofProblem.{Says}
+use Rattle.cert_text.specs.cert_step.declared.claim.Claim.{Claim}
+use Rattle.cert_text.specs.cert_step.ProofProblem.{Says}
 use Rattle.certifier.specs.Acceptance.{IsAcceptance}
 
 -- where a certificate text is accepted for a problem text and a claim, the claim is true of the system that the problem

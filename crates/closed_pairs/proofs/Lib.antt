@@ -1,3 +1,5 @@
+-- what crates above name through this one
+pub use Rattle.crit_pairs.proofs as crit_pairs
 pub mod PairsOfLists
 pub mod CountedPeaks
 pub mod SingleStep

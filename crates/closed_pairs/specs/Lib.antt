@@ -1,3 +1,5 @@
+-- what crates above name through this one
+pub use Rattle.crit_pairs.specs as crit_pairs
 pub mod Ends
 pub mod PeaksFor
 pub mod Joined

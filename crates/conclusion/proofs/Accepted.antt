@@ -3,13 +3,13 @@ use Rattle.std.specs.Prelude.{◌≡◌, ℕ, Bool, List, [], ◌∷◌, map, Re
 use Rattle.std.specs.List.{AllByRecursion}
 use Rattle.trs_defs.specs.System.{System}
 use Rattle.names_text.specs.Named.{NamedSystem}
-use Rattle.cert_step.specs.declared.claim.Claim.{Claim}
-use Rattle.cert_step.specs.ProofStep.{ProofNodeStep}
-use Rattle.step_text.specs.Steps.{step_renumbered}
+use Rattle.cert_text.specs.cert_step.declared.claim.Claim.{Claim}
+use Rattle.cert_text.specs.cert_step.ProofStep.{ProofNodeStep}
+use Rattle.cert_text.specs.step_text.Steps.{step_renumbered}
 use Rattle.cert_text.specs.Headline.{headline_of}
 use Rattle.cert_text.specs.CertificateText.{SaysCertificate}
 use Rattle.cert_text.specs.Renumbered.{renumbered}
-use Rattle.cert_step.specs.Nodes.{Node, Makes, IsAccepted, first_nodes}
+use Rattle.cert_text.specs.cert_step.Nodes.{Node, Makes, IsAccepted, first_nodes}
 use Rattle.conclusion.specs.InOrder.{AreInOrder}
 use Rattle.conclusion.specs.ProofOf.{Proves}
 use Rattle.conclusion.proofs.InOrder.{applies_in_order}

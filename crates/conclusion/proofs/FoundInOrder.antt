@@ -7,11 +7,11 @@ use Rattle.trs_defs.specs.Tree.{Tree}
 use Rattle.trs_defs.specs.Variable.{variables_of}
 use Rattle.trs_defs.specs.System.{RewriteRule, System}
 use Rattle.rewrite_core.specs.PlacedPeak.{PlacedPeak}
-use Rattle.crit_pairs.specs.PeakList.{Spot, Lists, at_end, no_overlap, one_peak, IsCount}
-use Rattle.conf_find.specs.Fork.{Fork}
-use Rattle.conf_find.specs.ForkRows.{Behind, behind_none, behind_one, FindsParted}
-use Rattle.strategies.specs.Rows.{FindsOnPeaks}
-use Rattle.strategies.specs.Conditions as strategies
+use Rattle.cert_text.specs.crit_pairs.PeakList.{Spot, Lists, at_end, no_overlap, one_peak, IsCount}
+use Rattle.report_text.specs.conf_find.Fork.{Fork}
+use Rattle.report_text.specs.conf_find.ForkRows.{Behind, behind_none, behind_one, FindsParted}
+use Rattle.report_text.specs.strategies.Rows.{FindsOnPeaks}
+use Rattle.report_text.specs.strategies.Conditions as strategies
 use Rattle.conclusion.specs.FoundInOrder.{FoundStepsAreInOrder}
 
 behind_in : {A : Type 0} {passed : A → Type 0} {xs : List A} {a : A} → Behind passed xs a → In a xs

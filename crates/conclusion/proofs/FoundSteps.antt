@@ -3,8 +3,8 @@ use Rattle.std.proofs.Common.{ℕ, List, [], ◌∷◌, All}
 use Rattle.std.specs.List.{AllByRecursion}
 use Rattle.std.proofs.lemmas.List.Elements.{recursion_from_All}
 use Rattle.trs_defs.specs.System.{System}
-use Rattle.cert_step.specs.ProofStep.{ProofNodeStep}
-use Rattle.tree_definitions.specs.Reports.{IsFoundStep}
+use Rattle.cert_text.specs.cert_step.ProofStep.{ProofNodeStep}
+use Rattle.report_text.specs.tree_definitions.Reports.{IsFoundStep}
 use Rattle.conclusion.specs.InOrder.{AreInOrder}
 use Rattle.conclusion.proofs.FoundInOrder.{found_in_order}
 

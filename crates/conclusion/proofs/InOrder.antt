@@ -12,12 +12,12 @@ use Rattle.trs_defs.proofs.Substitutions.{apply_apply, same_instance}
 use Rattle.rewrite_core.specs.Check.{Then, stops, goes_on, holds, there, absent}
 use Rattle.rewrite_core.specs.PathCheck.{Runs, followed}
 use Rattle.rewrite_core.specs.LoopConditions.{loop_conditions}
-use Rattle.conf_find.proofs.InstancePlaces.{subterm_image, replaced_image}
-use Rattle.cert_step.specs.ProofProblem.{ProofProblem}
-use Rattle.cert_step.specs.ProofStep as step
-use Rattle.cert_step.specs.ProofStep.{ProofStep}
-use Rattle.cert_step.specs.Applies.{Applies}
-use Rattle.step_text.specs.Steps.{method_text}
+use Rattle.report_text.proofs.conf_find.InstancePlaces.{subterm_image, replaced_image}
+use Rattle.cert_text.specs.cert_step.ProofProblem.{ProofProblem}
+use Rattle.cert_text.specs.cert_step.ProofStep as step
+use Rattle.cert_text.specs.cert_step.ProofStep.{ProofStep}
+use Rattle.cert_text.specs.cert_step.Applies.{Applies}
+use Rattle.cert_text.specs.step_text.Steps.{method_text}
 use Rattle.term_text.specs.Renumbered.{number_among, in_order}
 use Rattle.conclusion.specs.InOrder.{StartsInOrder, StepsApplyInOrder}
 use Rattle.conclusion.proofs.Renaming.{renamed, with_numbers_renamed, renamed_within, numbered, numbered_again, in_order_already}

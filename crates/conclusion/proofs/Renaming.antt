@@ -9,8 +9,8 @@ use Rattle.trs_defs.specs.Variable.{has_var, variables_of}
 use Rattle.trs_defs.specs.Size.{size_of, size_of_all, depth_of, depth_of_all, within_limits}
 use Rattle.trs_defs.specs.Substitution.{apply, apply_all}
 use Rattle.trs_defs.proofs.Substitutions.{same_instance}
-use Rattle.crit_pairs.proofs.Variants.{among_variables}
-use Rattle.crit_pairs.specs.PeakList.{IsCount}
+use Rattle.cert_text.proofs.crit_pairs.Variants.{among_variables}
+use Rattle.cert_text.specs.crit_pairs.PeakList.{IsCount}
 use Rattle.term_text.specs.Renumbered.{number_among, with_numbers, all_with_numbers, in_order}
 
 -- each variable by another

@@ -3,11 +3,11 @@ use Rattle.std.proofs.Common.{◌≡◌, ◌≤◌, ◌<◌, ◌+◌, ◌^◌, �
 use Rattle.std.specs.List.{AllByRecursion}
 use Rattle.std.proofs.lemmas.List.Elements.{recursion_from_All, All-from_recursion}
 use Rattle.trs_defs.specs.System.{System}
-use Rattle.cert_step.specs.declared.claim.Claim.{Claim}
-use Rattle.cert_step.specs.ProofProblem.{ProofProblem}
-use Rattle.cert_step.specs.ProofStep.{ProofNodeStep, IsWellMade}
-use Rattle.step_text.specs.Ranges.{IsPrintable}
-use Rattle.cert_step.specs.Nodes.{Node, open_node, nodes_after, Makes, AreDecided, first_nodes, IsAccepted}
+use Rattle.cert_text.specs.cert_step.declared.claim.Claim.{Claim}
+use Rattle.cert_text.specs.cert_step.ProofProblem.{ProofProblem}
+use Rattle.cert_text.specs.cert_step.ProofStep.{ProofNodeStep, IsWellMade}
+use Rattle.cert_text.specs.step_text.Ranges.{IsPrintable}
+use Rattle.cert_text.specs.cert_step.Nodes.{Node, open_node, nodes_after, Makes, AreDecided, first_nodes, IsAccepted}
 
 -- ---- each step closes one node, and in the end all are closed
 

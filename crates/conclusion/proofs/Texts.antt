@@ -3,16 +3,16 @@ use Rattle.std.proofs.Common.{◌≡◌, ℕ, List, ◌++◌, Some, None, slice_
 use Rattle.trs_defs.specs.System.{System}
 use Rattle.trs_defs.proofs.Members.{in_of_get}
 use Rattle.names_text.specs.Named.{NamedSystem}
-use Rattle.cert_step.specs.declared.claim.Claim.{Claim}
-use Rattle.cert_step.specs.ProofStep.{ProofNodeStep}
+use Rattle.cert_text.specs.cert_step.declared.claim.Claim.{Claim}
+use Rattle.cert_text.specs.cert_step.ProofStep.{ProofNodeStep}
 use Rattle.conclusion.specs.ProofOf.{Proves}
 use Rattle.report_text.specs.GoalLines.{report_lines}
-use Rattle.tree_definitions.specs.declared.question.Question.{Question}
-use Rattle.tree_definitions.specs.Questions.{goals_of, claims}
-use Rattle.tree_definitions.specs.Reports.{Part, IsTrueReport, AreStepsOf, ArePartsOf}
-use Rattle.tree_definitions.specs.Trees.{ProofTree}
-use Rattle.tree_definitions.specs.Verdicts.{HasVerdict}
-use Rattle.tree_definitions.specs.Replies.{IsVerdict}
+use Rattle.report_text.specs.tree_definitions.declared.question.Question.{Question}
+use Rattle.report_text.specs.tree_definitions.Questions.{goals_of, claims}
+use Rattle.report_text.specs.tree_definitions.Reports.{Part, IsTrueReport, AreStepsOf, ArePartsOf}
+use Rattle.report_text.specs.tree_definitions.Trees.{ProofTree}
+use Rattle.report_text.specs.tree_definitions.Verdicts.{HasVerdict}
+use Rattle.report_text.specs.tree_definitions.Replies.{IsVerdict}
 use Rattle.worker_pool.specs.Serial.{IsSerialEnd}
 use Rattle.conclusion.specs.Concludes.{Concludes, proved, maybe, proof_lines, maybe_text}
 use Rattle.conclusion.specs.SerialText.{IsSerialText, IsEnd, won, lost}

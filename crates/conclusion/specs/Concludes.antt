@@ -3,13 +3,13 @@ use Rattle.std.specs.Prelude.{◌++◌, ℕ, List, codes}
 use Rattle.trs_defs.specs.Member.{In}
 use Rattle.names_text.specs.Named.{NamedSystem}
 use Rattle.sexp_core.specs.Printed.{lines}
-use Rattle.cert_step.specs.declared.claim.Claim.{Claim}
-use Rattle.cert_step.specs.ProofStep.{ProofNodeStep}
+use Rattle.cert_text.specs.cert_step.declared.claim.Claim.{Claim}
+use Rattle.cert_text.specs.cert_step.ProofStep.{ProofNodeStep}
 use Rattle.cert_text.specs.CertificateText.{certificate_items}
 use Rattle.conclusion.specs.ProofOf.{proof_of, Proves}
-use Rattle.tree_definitions.specs.declared.question.Question.{Question}
-use Rattle.tree_definitions.specs.Questions.{claims}
-use Rattle.tree_definitions.specs.Reports.{Part, IsTrueReport}
+use Rattle.report_text.specs.tree_definitions.declared.question.Question.{Question}
+use Rattle.report_text.specs.tree_definitions.Questions.{claims}
+use Rattle.report_text.specs.tree_definitions.Reports.{Part, IsTrueReport}
 use Rattle.report_text.specs.GoalLines.{report_lines}
 
 -- the printed certificate of a claim with these steps

@@ -1,10 +1,10 @@
 -- The steps that strategies find are in order.
 use Rattle.std.specs.Prelude.{ℕ}
 use Rattle.trs_defs.specs.System.{System}
-use Rattle.cert_step.specs.ProofProblem.{ProofProblem}
-use Rattle.cert_step.specs.ProofStep.{ProofStep}
-use Rattle.strategies.specs.declared.strategy.Strategy.{Strategy}
-use Rattle.strategies.specs.Conditions.{Finds}
+use Rattle.cert_text.specs.cert_step.ProofProblem.{ProofProblem}
+use Rattle.cert_text.specs.cert_step.ProofStep.{ProofStep}
+use Rattle.report_text.specs.strategies.declared.strategy.Strategy.{Strategy}
+use Rattle.report_text.specs.strategies.Conditions.{Finds}
 use Rattle.conclusion.specs.InOrder.{StartsInOrder}
 
 -- what a strategy finds starts so

@@ -3,11 +3,11 @@ use Rattle.std.specs.Prelude.{List}
 use Rattle.std.specs.List.{AllByRecursion}
 use Rattle.trs_defs.specs.System.{System}
 use Rattle.trs_defs.specs.Variable.{variables_of}
-use Rattle.crit_pairs.specs.PeakList.{IsCount}
-use Rattle.cert_step.specs.ProofProblem.{ProofProblem}
-use Rattle.cert_step.specs.ProofStep.{ProofStep, ProofNodeStep, fork}
-use Rattle.cert_step.specs.Applies.{Applies}
-use Rattle.step_text.specs.Steps.{method_text}
+use Rattle.cert_text.specs.crit_pairs.PeakList.{IsCount}
+use Rattle.cert_text.specs.cert_step.ProofProblem.{ProofProblem}
+use Rattle.cert_text.specs.cert_step.ProofStep.{ProofStep, ProofNodeStep, fork}
+use Rattle.cert_text.specs.cert_step.Applies.{Applies}
+use Rattle.cert_text.specs.step_text.Steps.{method_text}
 
 -- the start of a fork has its variables numbered so
 abbrev pub StartsInOrder : ProofStep → Type 0

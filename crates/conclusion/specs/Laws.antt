@@ -1,8 +1,8 @@
 -- What is known of a text that answers a question.
 use Rattle.std.specs.Prelude.{List, ℕ}
 use Rattle.names_text.specs.Named.{NamedSystem, IsNamed}
-use Rattle.cert_step.specs.declared.claim.Claim.{Claim}
-use Rattle.cert_step.specs.ProofProblem.{Says}
+use Rattle.cert_text.specs.cert_step.declared.claim.Claim.{Claim}
+use Rattle.cert_text.specs.cert_step.ProofProblem.{Says}
 use Rattle.conclusion.specs.ProofOf.{Proves}
 
 -- where a text proves a claim, it is true of the system

@@ -1,12 +1,12 @@
 -- A text that proves a claim.
 use Rattle.std.specs.Prelude.{◌≡◌, ℕ, List}
 use Rattle.names_text.specs.Named.{NamedSystem}
-use Rattle.cert_step.specs.declared.claim.Claim.{Claim}
-use Rattle.cert_step.specs.ProofStep.{ProofNodeStep}
+use Rattle.cert_text.specs.cert_step.declared.claim.Claim.{Claim}
+use Rattle.cert_text.specs.cert_step.ProofStep.{ProofNodeStep}
 use Rattle.cert_text.specs.ProofText.{ProofText}
 use Rattle.cert_text.specs.Headline.{headline_of}
 use Rattle.cert_text.specs.CertificateText.{SaysCertificate}
-use Rattle.cert_step.specs.Nodes.{IsAccepted}
+use Rattle.cert_text.specs.cert_step.Nodes.{IsAccepted}
 
 -- the text says a certificate of the claim, whose headline fits, and whose steps are accepted
 pub record Proves (named : NamedSystem) (claim : Claim) (text : List ℕ) : Type 0 where

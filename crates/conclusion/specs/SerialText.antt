@@ -1,13 +1,13 @@
 -- The text that one worker finds.
 use Rattle.std.specs.Prelude.{◌≡◌, ℕ, List, Some, None, slice_get}
 use Rattle.names_text.specs.Named.{NamedSystem}
-use Rattle.cert_step.specs.declared.claim.Claim.{Claim}
-use Rattle.cert_step.specs.ProofStep.{ProofNodeStep}
-use Rattle.tree_definitions.specs.declared.question.Question.{Question}
-use Rattle.tree_definitions.specs.Questions.{claims}
-use Rattle.tree_definitions.specs.States.{State}
-use Rattle.tree_definitions.specs.Reports.{Part, IsTrueReport, AreStepsOf, ArePartsOf}
-use Rattle.tree_definitions.specs.Trees.{ProofTree}
+use Rattle.cert_text.specs.cert_step.declared.claim.Claim.{Claim}
+use Rattle.cert_text.specs.cert_step.ProofStep.{ProofNodeStep}
+use Rattle.report_text.specs.tree_definitions.declared.question.Question.{Question}
+use Rattle.report_text.specs.tree_definitions.Questions.{claims}
+use Rattle.report_text.specs.tree_definitions.States.{State}
+use Rattle.report_text.specs.tree_definitions.Reports.{Part, IsTrueReport, AreStepsOf, ArePartsOf}
+use Rattle.report_text.specs.tree_definitions.Trees.{ProofTree}
 use Rattle.worker_pool.specs.Serial.{IsSerialEnd}
 use Rattle.conclusion.specs.Concludes.{proof_lines, maybe_text}
 

@@ -1,18 +1,15 @@
 ghost use Rattle.std.specs.Prelude.{◌≡◌, ◌<◌, ◌^◌, ℕ, Some, IfOk, length};
-ghost use Rattle.tree_definitions.specs.Replies.{IsVerdict};
+ghost use Rattle.report_text.specs.tree_definitions.Replies.{IsVerdict};
 ghost use Rattle.conclusion.specs.Concludes.{Concludes};
 ghost use Rattle.conclusion.specs.SerialText.{IsSerialText, IsEnd};
 
-use cert_step::NodeStep;
-use names_text::NamedTrs;
 use crate::print_proof;
-use report_text::print_report;
+use cert_text::NodeStep;
+use names_text::NamedTrs;
+use report_text::{Limits, Question, Verdict, print_report};
 use std::alloc::Global;
-use strategies::Limits;
-use tree_core::Tree;
-use tree_definitions::{Question, Verdict};
 use trs_core::OutOfMemory;
-use worker_pool::prove_alone;
+use worker_pool::{Tree, prove_alone};
 
 /// Answers a question about a system by one worker: where a goal of the question is won, with the
 /// certificate of what it claims; where each is lost, with the line `MAYBE` and a line for each goal.

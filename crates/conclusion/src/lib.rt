@@ -8,6 +8,8 @@ mod laws;
 mod printing;
 
 pub use answering::answer_question;
+pub use cert_text::{fits_version_two, print_version_two};
 pub use in_order::{found_steps_are_in_order, steps_apply_in_order};
 pub use laws::proved_claims_are_true;
 pub use printing::print_proof;
+pub use report_text::Question;

@@ -1,14 +1,13 @@
 ghost use Rattle.std.specs.Prelude.{◌≡◌, All, IfOk, map};
 ghost use Rattle.sexp_core.specs.Printed.{lines};
-ghost use Rattle.cert_step.specs.ProofStep.{node_step_of};
+ghost use Rattle.cert_text.specs.cert_step.ProofStep.{node_step_of};
 ghost use Rattle.cert_text.specs.CertificateText.{certificate_items};
-ghost use Rattle.step_text.specs.Ranges.{IsPrintable};
-ghost use Rattle.cert_step.specs.Nodes.{IsAccepted};
+ghost use Rattle.cert_text.specs.step_text.Ranges.{IsPrintable};
+ghost use Rattle.cert_text.specs.cert_step.Nodes.{IsAccepted};
 ghost use Rattle.conclusion.specs.InOrder.{AreInOrder};
 ghost use Rattle.conclusion.specs.ProofOf.{proof_of, Proves};
 
-use cert_step::{Claim, NodeStep};
-use cert_text::{Certificate, claim_headline, print_certificate};
+use cert_text::{Certificate, Claim, NodeStep, claim_headline, print_certificate};
 use names_text::NamedTrs;
 use std::alloc::Global;
 use trs_core::OutOfMemory;

@@ -12,7 +12,7 @@ use Rattle.trs_caps.specs.Clash.{AreDisjoint}
 use Rattle.trs_caps.specs.HoledCap.{IsHoledCap}
 use Rattle.trs_caps.specs.declared.holed.Cap.{Cap}
 use Rattle.trs_caps.specs.View.{holed}
-use Rattle.nonjoin.specs.Apart.{AreApart}
+use Rattle.cert_step.specs.nonjoin.Apart.{AreApart}
 use Rattle.conf_find.specs.declared.endings.Ending.{Ending}
 use Rattle.conf_find.specs.ForkRows.{AreNormal, AreDifferentNormalForms, NothingParted, IsTestOf, both_normal}
 use Rattle.conf_find.specs.Marks.{AreCaps, AreEndings, IsEnding, AreDifferentEndings}

@@ -9,8 +9,8 @@ use Rattle.trs_caps.specs.HoledTree.{HoledTree}
 use Rattle.trs_caps.specs.HoledCap.{IsHoledCap}
 use Rattle.trs_caps.specs.Clash.{clash, AreDisjoint}
 use Rattle.trs_caps.proofs.Compatible.{disjoint_where_clash}
-use Rattle.nonjoin.specs.Apart.{AreApart}
-use Rattle.nonjoin.proofs.ApartLaws.{apart_where_disjoint}
+use Rattle.cert_step.specs.nonjoin.Apart.{AreApart}
+use Rattle.cert_step.proofs.nonjoin.ApartLaws.{apart_where_disjoint}
 
 pub disjoint_is_apart : (rules : List RewriteRule) (t u : Tree) (c d : HoledTree) → IsHoledCap rules true t c → IsHoledCap rules true u d → AreDisjoint c d ↔ AreApart rules t u
 disjoint_is_apart rules t u c d first second =

@@ -14,10 +14,10 @@ use Rattle.rewrite_core.specs.declared.forks.ForkTest.{ForkTest}
 use Rattle.rewrite_core.specs.declared.forks.ForkTest.TheVariants.{Normal, Apart}
 use Rattle.rewrite_core.specs.Check.{goes_on, absent, holds}
 use Rattle.rewrite_core.specs.PathCheck.{followed}
-use Rattle.crit_pairs.specs.PlainPeak.{plain}
-use Rattle.crit_pairs.specs.PeakList.{Spot, Lists, at_end, no_overlap, one_peak, IsPeakAt, is_small, ListsPeaks}
-use Rattle.nonjoin.specs.Apart.{AreApart}
-use Rattle.nonjoin.proofs.ApartLaws.{system_apart}
+use Rattle.join_find.specs.crit_pairs.PlainPeak.{plain}
+use Rattle.join_find.specs.crit_pairs.PeakList.{Spot, Lists, at_end, no_overlap, one_peak, IsPeakAt, is_small, ListsPeaks}
+use Rattle.cert_step.specs.nonjoin.Apart.{AreApart}
+use Rattle.cert_step.proofs.nonjoin.ApartLaws.{system_apart}
 use Rattle.cert_step.specs.ForkKind.{end_conditions}
 use Rattle.join_find.specs.First.{First, first_here, first_later}
 use Rattle.join_find.proofs.Firsts.{first_in_list}

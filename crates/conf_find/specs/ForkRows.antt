@@ -11,7 +11,7 @@ use Rattle.term_pool.specs.Reach.{IsReachList}
 use Rattle.rewrite_core.specs.PlacedPeak.{PlacedPeak}
 use Rattle.rewrite_core.specs.declared.forks.ForkTest.{ForkTest}
 use Rattle.rewrite_core.specs.declared.forks.ForkTest.TheVariants.{Normal, Apart}
-use Rattle.nonjoin.specs.Apart.{AreApart}
+use Rattle.cert_step.specs.nonjoin.Apart.{AreApart}
 use Rattle.join_find.specs.First.{First, Some_in, None_in}
 use Rattle.conf_find.specs.Fork.{Fork, fork_from}
 

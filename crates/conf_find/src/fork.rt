@@ -2,8 +2,8 @@
 ghost use Rattle.std.specs.Prelude.{◌≡◌, ◌<◌, ◌≤◌, ◌+◌, ◌*◌, All, length, Ok, IfOk, OnOk, MatchOption};
 ghost use Rattle.term_pool.specs.ListedIds.{listed_at};
 ghost use Rattle.term_pool.specs.Pooled.{Extends, tree_at};
-ghost use Rattle.crit_pairs.specs.PeakList.{ListsPeaks};
-ghost use Rattle.nonjoin.specs.Apart.{AreApart};
+ghost use Rattle.join_find.specs.crit_pairs.PeakList.{ListsPeaks};
+ghost use Rattle.cert_step.specs.nonjoin.Apart.{AreApart};
 ghost use Rattle.join_find.specs.Sides.{HasSides};
 ghost use Rattle.join_find.specs.Answers.{IsFinding};
 ghost use Rattle.conf_find.specs.Fork.{fork_of};

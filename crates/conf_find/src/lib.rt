@@ -15,6 +15,9 @@ mod split;
 
 pub use fork::find_fork;
 pub use forks::ForkFound;
+pub use join_find::{
+    find_newman, find_parallel, find_strong, found_fours_join, found_joins_join, found_steps_close,
+};
 pub use label_find::{Labelled, find_label, found_labels_apply};
 pub use laws::{found_forks_apply, found_splits_apply};
 pub use split::find_split;

@@ -1,3 +1,5 @@
+-- what crates above name through this one
+pub use Rattle.pair_order.proofs as pair_order
 pub mod PlacedLaws
 pub mod PairWalk
 pub mod DefinedSymbols

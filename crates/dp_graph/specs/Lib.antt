@@ -1,3 +1,5 @@
+-- what crates above name through this one
+pub use Rattle.dp_core.specs as dp_core
 pub mod Edge
 pub mod GroupOrSingle
 pub mod GraphConditions

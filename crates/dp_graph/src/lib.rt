@@ -25,6 +25,7 @@ mod singles;
 mod waiting;
 
 pub use checking::group_check;
+pub use dp_core::{Pairs, dependency_pairs, pair_numbers};
 pub use edges::{edge, leads, right_cap};
 pub use finding::components;
 pub use graph::PairGraph;

@@ -1,10 +1,10 @@
 //! The finders of forks on small systems: what is found, that there is nothing, and stops.
 use crate::made::{constants, show, term};
-use finder_cases::StopAt;
-use assign_search::{Search, Stop};
 use crate::systems::never;
+use assign_search::{Search, Stop};
 use conf_find::{ForkFound, find_fork, find_split};
 use crit_pairs::critical_pairs;
+use finder_cases::StopAt;
 use rewrite_core::ForkTest;
 use std::alloc::Global;
 use std::test::Fail;

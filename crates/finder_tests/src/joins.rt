@@ -1,9 +1,9 @@
 //! The finders of joins on small systems: what is found, that there is nothing, and stops.
 use crate::made::{constants, show, system};
-use finder_cases::StopAt;
-use assign_search::{Search, Stop};
 use crate::systems::never;
+use assign_search::{Search, Stop};
 use crit_pairs::critical_pairs;
+use finder_cases::StopAt;
 use join_find::{find_newman, find_parallel, find_strong};
 use std::alloc::Global;
 use std::test::Fail;

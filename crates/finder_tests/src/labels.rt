@@ -1,10 +1,10 @@
 //! The finder of ranks on small systems: what is found, that there is nothing, budgets and stops.
 use crate::made::{constants, show, term};
 use crate::slow_labels::{plain_search, rank};
-use finder_cases::StopAt;
-use assign_search::{Search, Stop};
 use crate::systems::never;
+use assign_search::{Search, Stop};
 use crit_pairs::critical_pairs;
+use finder_cases::StopAt;
 use label_find::{Labelled, find_label};
 use std::alloc::Global;
 use std::test::Fail;

@@ -3,12 +3,11 @@ use crate::systems::{addition, huet, never, toyama, turning};
 use assign_search::Search;
 use dp_core::dependency_pairs;
 use finder_cases::{StopAt, all_numbers, system};
-use poly_find::find_poly;
+use poly_find::{find_poly, find_usable};
 use poly_lin::LinTable;
 use std::alloc::Global;
 use std::test::Fail;
 use trs_core::{OutOfMemory, Trs};
-use poly_find::find_usable;
 
 /// Which rules have to be weak: all, or the usable ones.
 #[derive(Clone, Copy)]

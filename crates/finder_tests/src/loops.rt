@@ -1,8 +1,8 @@
 //! The finder of loops, beside a plain program on systems of constants, and at its limits.
 use crate::made::{constants, show, system};
-use finder_cases::StopAt;
-use assign_search::{Search, Stop};
 use crate::systems::never;
+use assign_search::{Search, Stop};
+use finder_cases::StopAt;
 use loop_find::find_loop;
 use std::alloc::Global;
 use std::test::Fail;

@@ -1,7 +1,7 @@
 //! Searches of small spaces: found, none, spent, stopped and want of memory.
 use crate::spaces::{Deep, Pair};
-use finder_cases::StopAt;
 use assign_search::{Never, OutOfMemory, Search, Space, first_solution};
+use finder_cases::StopAt;
 use std::alloc::Global;
 use std::test::Fail;
 

@@ -20,8 +20,8 @@ use Rattle.term_pool.specs.Redexes.{IsNarrow, AreNarrow}
 use Rattle.term_pool.proofs.NarrowLaws.{narrow_of_well_formed, narrow_inside}
 use Rattle.term_pool.proofs.ListingLaws.{either_way}
 use Rattle.rewrite_core.specs.PlacedPeak.{PlacedPeak}
-use Rattle.crit_pairs.specs.PlainPeak.{plain}
-use Rattle.crit_pairs.specs.PeakList.{Spot, Lists, at_end, no_overlap, one_peak, IsPeakAt, is_small, ListsPeaks}
+use Rattle.closed_pairs.specs.crit_pairs.PlainPeak.{plain}
+use Rattle.closed_pairs.specs.crit_pairs.PeakList.{Spot, Lists, at_end, no_overlap, one_peak, IsPeakAt, is_small, ListsPeaks}
 use Rattle.confluence_theory.specs.CriticalPeak.{IsCriticalPeak}
 use Rattle.join_find.specs.Sides.{IsSide, HasSides, HaveSides}
 

@@ -9,8 +9,8 @@ use Rattle.rewrite_core.specs.Check.{Then, goes_on, holds, returned, each, Check
 use Rattle.rewrite_core.specs.PathCheck.{followed}
 use Rattle.rewrite_core.specs.PlacedPeak.{PlacedPeak}
 use Rattle.rewrite_core.specs.PathsOfJoin.{PathsOfJoin}
-use Rattle.crit_pairs.specs.PeakList.{ListsPeaks}
-use Rattle.crit_pairs.specs.PeaksCheck.{listed}
+use Rattle.closed_pairs.specs.crit_pairs.PeakList.{ListsPeaks}
+use Rattle.closed_pairs.specs.crit_pairs.PeaksCheck.{listed}
 use Rattle.closed_pairs.specs.Joined.{joins, are_joined, newman_conditions}
 use Rattle.join_find.specs.First.{Along, along_end, along_item}
 use Rattle.join_find.specs.NewmanRow.{IsFirstJoin, FindsNewman}

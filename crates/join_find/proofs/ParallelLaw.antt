@@ -5,8 +5,8 @@ use Rattle.trs_defs.specs.Path.{PlacedRule}
 use Rattle.rewrite_core.specs.Check.{goes_on, holds}
 use Rattle.rewrite_core.specs.PathCheck.{followed}
 use Rattle.rewrite_core.specs.PlacedPeak.{PlacedPeak}
-use Rattle.crit_pairs.specs.PeakList.{ListsPeaks}
-use Rattle.crit_pairs.specs.PeaksCheck.{listed}
+use Rattle.closed_pairs.specs.crit_pairs.PeakList.{ListsPeaks}
+use Rattle.closed_pairs.specs.crit_pairs.PeaksCheck.{listed}
 use Rattle.closed_pairs.specs.ParallelClosed.{closes_in_parallel, parallel_conditions}
 use Rattle.join_find.specs.ParallelRow.{IsParallelClosing, FindsParallel}
 use Rattle.join_find.proofs.LinearRules.{left_linear_rules_pass}

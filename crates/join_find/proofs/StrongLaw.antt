@@ -14,8 +14,8 @@ use Rattle.rewrite_core.specs.Check.{goes_on, holds}
 use Rattle.rewrite_core.specs.PathCheck.{followed}
 use Rattle.rewrite_core.specs.PlacedPeak.{PlacedPeak}
 use Rattle.rewrite_core.specs.PathsOfJoin.{PathsOfJoin}
-use Rattle.crit_pairs.specs.PeakList.{ListsPeaks}
-use Rattle.crit_pairs.specs.PeaksCheck.{listed}
+use Rattle.closed_pairs.specs.crit_pairs.PeakList.{ListsPeaks}
+use Rattle.closed_pairs.specs.crit_pairs.PeaksCheck.{listed}
 use Rattle.closed_pairs.specs.StronglyClosed.{FourPaths, half_joins, joins_strongly, strong_conditions}
 use Rattle.join_find.specs.StrongRow.{IsNearList, itself, IsFirstHalf, IsFirstFour, FindsStrong}
 use Rattle.join_find.proofs.Firsts.{first_in_list}

@@ -4,7 +4,7 @@ use Rattle.trs_defs.specs.System.{System}
 use Rattle.trs_defs.specs.Path.{PlacedRule}
 use Rattle.rewrite_core.specs.PlacedPeak.{PlacedPeak}
 use Rattle.rewrite_core.specs.PathsOfJoin.{PathsOfJoin}
-use Rattle.crit_pairs.specs.PeakList.{ListsPeaks}
+use Rattle.closed_pairs.specs.crit_pairs.PeakList.{ListsPeaks}
 use Rattle.closed_pairs.specs.Joined.{newman_conditions}
 use Rattle.closed_pairs.specs.StronglyClosed.{FourPaths, strong_conditions}
 use Rattle.join_find.specs.NewmanRow.{FindsNewman}

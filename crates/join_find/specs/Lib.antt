@@ -1,3 +1,5 @@
+-- what crates above name through this one
+pub use Rattle.closed_pairs.specs.crit_pairs
 pub mod First
 pub mod Common
 pub mod CommonIds

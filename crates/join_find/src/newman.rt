@@ -1,6 +1,6 @@
 //! The strategy newman.
 ghost use Rattle.std.specs.Prelude.{◌≡◌, ◌<◌, ◌≤◌, Ok, IfOk, OnOk, MatchOption};
-ghost use Rattle.crit_pairs.specs.PeakList.{ListsPeaks};
+ghost use Rattle.closed_pairs.specs.crit_pairs.PeakList.{ListsPeaks};
 ghost use Rattle.join_find.specs.Sides.{HasSides};
 ghost use Rattle.join_find.specs.NewmanRow.{IsFirstJoin, HasNoJoin, FindsNewman, FailsNewman};
 ghost use Rattle.join_find.specs.ReachedSides.{AreReached};

@@ -2,7 +2,7 @@
 ghost use Rattle.std.specs.Prelude.{◌≡◌, ◌<◌, ◌≤◌, ◌+◌, ◌*◌, ◌↔◌, length, Ok, IsTrue, false, IfOk, OnOk, MatchOption};
 ghost use Rattle.trs_defs.specs.Variable.{IsLinear};
 ghost use Rattle.term_pool.specs.Pooled.{Extends};
-ghost use Rattle.crit_pairs.specs.PeakList.{ListsPeaks};
+ghost use Rattle.closed_pairs.specs.crit_pairs.PeakList.{ListsPeaks};
 ghost use Rattle.closed_pairs.specs.ParallelClosed.{paths_of};
 ghost use Rattle.join_find.specs.Sides.{HasSides};
 ghost use Rattle.join_find.specs.ParallelRow.{AreLeftLinear, IsParallelClosing, HasNoClosing};

@@ -1,6 +1,6 @@
 ghost use Rattle.std.specs.Prelude.{◌≡◌, ◌<◌, ℕ, List, Some, Ok, slice_get};
 ghost use Rattle.rewrite_core.specs.PlacedPeak.{PlacedPeak};
-ghost use Rattle.crit_pairs.specs.PeakList.{ListsPeaks};
+ghost use Rattle.closed_pairs.specs.crit_pairs.PeakList.{ListsPeaks};
 ghost use Rattle.join_find.specs.Sides.{HaveSides};
 
 use trs_core::Trs;

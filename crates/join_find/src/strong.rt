@@ -1,7 +1,7 @@
 //! The strategy strong.
 ghost use Rattle.std.specs.Prelude.{◌≡◌, ◌<◌, ◌≤◌, ◌↔◌, Ok, IsTrue, false, IfOk, OnOk, MatchOption};
 ghost use Rattle.trs_defs.specs.Variable.{IsLinear};
-ghost use Rattle.crit_pairs.specs.PeakList.{ListsPeaks};
+ghost use Rattle.closed_pairs.specs.crit_pairs.PeakList.{ListsPeaks};
 ghost use Rattle.join_find.specs.Sides.{HasSides};
 ghost use Rattle.join_find.specs.ReachedSides.{AreReached};
 ghost use Rattle.join_find.specs.StrongRow.{AreLinear, IsFirstFour, HasNoFour};

@@ -10,12 +10,12 @@ use Rattle.trs_defs.specs.System.{RewriteRule}
 use Rattle.pair_theory.specs.DependencyPair.{DependencyPair, dependency_pairs}
 use Rattle.pair_theory.specs.ReductionPair.{marked_rule}
 use Rattle.order_theory.specs.KnuthBendix.{KnuthWeak, KnuthGreater}
-use Rattle.pair_order.specs.Entries.{has_entry}
+use Rattle.kbo_order.specs.pair_order.Entries.{has_entry}
 use Rattle.kbo_order.specs.declared.entries.KboEntry.{KboEntry}
 use Rattle.kbo_order.specs.Table.{symbol_of, weight_in, rank_in}
 use Rattle.kbo_order.specs.TooBig.{EitherIsBig}
 use Rattle.rewrite_core.specs.Check.{Asks, yes_it_does, no_it_does_not}
-use Rattle.dp_core.specs.PairConditions.{Comparing, comparing_by}
+use Rattle.order_search.specs.dp_core.PairConditions.{Comparing, comparing_by}
 use Rattle.order_search.specs.Slots.{Table, table_of, puzzle_of}
 use Rattle.order_search.proofs.Solutions.{solved}
 use Rattle.order_search.proofs.FewPairs.{taken_in}

@@ -3,7 +3,7 @@ use Rattle.std.specs.Prelude.{◌≡◌, ◌<◌, ◌≤◌, ℕ, ◌+◌, ◌*�
 use Rattle.std.proofs.Common.{sym, ap, ap₂, arith, ◌∙◌, append_assoc}
 use Rattle.std.proofs.lemmas.List.{append-nil, drop_all}
 use Rattle.std.proofs.lemmas.Option.{slice_get-get_or}
-use Rattle.dp_core.proofs.Collecting.{next_item}
+use Rattle.order_search.proofs.dp_core.Collecting.{next_item}
 use Rattle.kbo_order.specs.declared.entries.KboEntry.{KboEntry}
 use Rattle.order_search.specs.Slots.{table_of}
 use Rattle.order_search.specs.OrderSpace.{slots_of}

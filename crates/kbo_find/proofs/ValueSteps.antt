@@ -1,7 +1,7 @@
 -- The value of a symbol's part, by the place of the symbol.
 use Rattle.std.specs.Prelude.{◌≡◌, ◌<◌, ℕ, ◌+◌, ◌*◌, Bool, true, false, ◌==◌, if◌then◌else◌, List, [], ◌∷◌, get_or, Option, Some, None, option_map}
 use Rattle.std.proofs.Common.{suc, refl, sym, ap, arith, ◌∙◌}
-use Rattle.pair_order.specs.Entries.{place_among}
+use Rattle.kbo_order.specs.pair_order.Entries.{place_among}
 use Rattle.order_search.specs.Slots.{table_of}
 use Rattle.order_search.specs.OrderSpace.{slots_of}
 use Rattle.order_search.proofs.SlotLayout.{start_of, value_at, value_from}

@@ -3,11 +3,11 @@ use Rattle.std.specs.Prelude.{ℕ, List, Ok}
 use Rattle.trs_defs.specs.System.{System, IsSystem}
 use Rattle.pair_theory.specs.DependencyPair.{dependency_pairs}
 use Rattle.order_theory.specs.KnuthBendix.{KnuthWeak, KnuthGreater}
-use Rattle.pair_order.specs.Entries.{has_entry}
+use Rattle.kbo_order.specs.pair_order.Entries.{has_entry}
 use Rattle.kbo_order.specs.declared.entries.KboEntry.{KboEntry}
 use Rattle.kbo_order.specs.Table.{symbol_of, weight_in, rank_in}
 use Rattle.kbo_order.specs.TooBig.{EitherIsBig}
-use Rattle.dp_core.specs.PairConditions.{comparing_by, pair_conditions}
+use Rattle.order_search.specs.dp_core.PairConditions.{comparing_by, pair_conditions}
 use Rattle.order_search.specs.OrderRow.{FindsOrder}
 use Rattle.order_search.specs.OrderOver.{search_of}
 use Rattle.kbo_find.specs.KboRow.{kbo_search, kbo_entry}

@@ -1,3 +1,5 @@
+-- what crates above name through this one
+pub use Rattle.kbo_order.specs.pair_order
 pub mod KnuthTest
 pub mod KboSpace
 pub mod KboRow

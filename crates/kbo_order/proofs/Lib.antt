@@ -1,3 +1,5 @@
+-- what crates above name through this one
+pub use Rattle.pair_order.proofs as pair_order
 pub mod Knuth
 pub mod Sums
 pub mod Sight

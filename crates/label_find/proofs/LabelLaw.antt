@@ -12,8 +12,8 @@ use Rattle.rewrite_core.specs.Check.{goes_on, holds}
 use Rattle.rewrite_core.specs.PathCheck.{followed}
 use Rattle.rewrite_core.specs.PlacedPeak.{PlacedPeak}
 use Rattle.rewrite_core.specs.PathsOfJoin.{PathsOfJoin}
-use Rattle.crit_pairs.specs.PeakList.{ListsPeaks}
-use Rattle.crit_pairs.specs.PeaksCheck.{listed}
+use Rattle.join_find.specs.crit_pairs.PeakList.{ListsPeaks}
+use Rattle.join_find.specs.crit_pairs.PeaksCheck.{listed}
 use Rattle.rule_label.specs.Labelled.{ranks_along, joins_decreasing}
 use Rattle.join_find.specs.First.{Along, along_end, along_item}
 use Rattle.join_find.proofs.Firsts.{first_in_list}

@@ -12,7 +12,7 @@ use Rattle.trs_defs.specs.Path.{PlacedRule, Follows}
 use Rattle.trs_defs.proofs.Members.{in_or, in_either, no_in, of_map}
 use Rattle.term_pool.specs.Listed.{Listed}
 use Rattle.rewrite_core.specs.PlacedPeak.{PlacedPeak}
-use Rattle.crit_pairs.specs.PeakList.{Spot, Lists, at_end, no_overlap, one_peak, ListsPeaks, nodes_of_peak}
+use Rattle.join_find.specs.crit_pairs.PeakList.{Spot, Lists, at_end, no_overlap, one_peak, ListsPeaks, nodes_of_peak}
 use Rattle.path_lists.specs.PathList.{IsPathList}
 use Rattle.path_lists.proofs.PathLaws.{paths_lead}
 use Rattle.label_find.specs.LabelRow.{PeakPaths, ArePathsOf, rules_along, rules_of, rules_used}

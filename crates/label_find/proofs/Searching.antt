@@ -17,7 +17,7 @@ use Rattle.assign_search.proofs.Laws.{found_solves}
 use Rattle.term_pool.specs.Listed.{Listed}
 use Rattle.rewrite_core.specs.PlacedPeak.{PlacedPeak}
 use Rattle.rewrite_core.specs.PathsOfJoin.{PathsOfJoin}
-use Rattle.crit_pairs.specs.PeakList.{ListsPeaks}
+use Rattle.join_find.specs.crit_pairs.PeakList.{ListsPeaks}
 use Rattle.join_find.specs.First.{Along, along_end, along_item}
 use Rattle.join_find.specs.StrongRow.{AreLinear}
 use Rattle.join_find.specs.Answers.{IsFinding}

@@ -3,7 +3,7 @@ use Rattle.std.specs.Prelude.{◌<◌, ◌^◌, ℕ, List, Ok, All}
 use Rattle.trs_defs.specs.System.{System}
 use Rattle.rewrite_core.specs.PlacedPeak.{PlacedPeak}
 use Rattle.rewrite_core.specs.PathsOfJoin.{PathsOfJoin}
-use Rattle.crit_pairs.specs.PeakList.{ListsPeaks}
+use Rattle.join_find.specs.crit_pairs.PeakList.{ListsPeaks}
 use Rattle.rule_label.specs.Labelled.{label_conditions}
 use Rattle.label_find.specs.LabelRow.{FindsLabel}
 

@@ -1,7 +1,7 @@
 //! The strategy label.
 ghost use Rattle.std.specs.Prelude.{◌≡◌, ◌<◌, ◌≤◌, ◌↔◌, Ok, IsTrue, IfOk, false};
 ghost use Rattle.trs_defs.specs.Variable.{IsLinear};
-ghost use Rattle.crit_pairs.specs.PeakList.{ListsPeaks};
+ghost use Rattle.join_find.specs.crit_pairs.PeakList.{ListsPeaks};
 ghost use Rattle.join_find.specs.First.{Along};
 ghost use Rattle.join_find.specs.Sides.{HaveSides};
 ghost use Rattle.join_find.specs.StrongRow.{AreLinear};

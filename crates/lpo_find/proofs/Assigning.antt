@@ -6,8 +6,8 @@ use Rattle.std.specs.Option.{option_copied}
 use Rattle.std.specs.Slice.{IsItemAt}
 use Rattle.std.proofs.lemmas.Option.{slice_get-map, slice_get-get_or}
 use Rattle.order_theory.specs.ArgumentFilter.{ArgumentFilter, Keep}
-use Rattle.pair_order.specs.Entries.{place_among, entry_of}
-use Rattle.pair_order.proofs.Placing.{copied_item}
+use Rattle.path_lpo.specs.pair_order.Entries.{place_among, entry_of}
+use Rattle.path_lpo.proofs.pair_order.Placing.{copied_item}
 use Rattle.path_lpo.specs.Table.{PathEntry, symbol_of, rank_of, filter_of, rank_in, filter_in}
 use Rattle.order_search.specs.Slots.{Table, table_of}
 use Rattle.order_search.specs.OrderSpace.{arity_with_mark, slots_of}

@@ -5,7 +5,7 @@ use Rattle.std.proofs.lemmas.Bool.Decides.{nat_tests}
 use Rattle.trs_defs.specs.Member.{in_first, in_rest}
 use Rattle.trs_defs.specs.Variable.{is_listed}
 use Rattle.trs_defs.specs.System.{RewriteRule}
-use Rattle.pair_order.specs.Entries.{entry_of, has_entry}
+use Rattle.path_lpo.specs.pair_order.Entries.{entry_of, has_entry}
 use Rattle.path_lpo.specs.Table.{PathEntry, symbol_of, rank_of, rank_in, filter_of, filter_in}
 use Rattle.order_search.specs.Slots.{Table}
 use Rattle.order_search.specs.OrderSpace.{occurs_in, AreCovered, some_falls}

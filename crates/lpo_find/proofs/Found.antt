@@ -13,10 +13,10 @@ use Rattle.pair_theory.specs.ReductionPair.{marked_rule}
 use Rattle.path_lpo.specs.Table.{PathEntry}
 use Rattle.assign_search.specs.declared.search.Search.{Search}
 use Rattle.assign_search.specs.declared.search.Search.TheVariants.{Found, NotThere, Spent, Stopped}
-use Rattle.dp_core.specs.Markable.{IsMarkable}
-use Rattle.dp_core.specs.Numbered.{ArePairsOf}
-use Rattle.dp_core.specs.Symbols.{symbols_of_rules}
-use Rattle.dp_core.specs.SubtermConditions.{roots_of}
+use Rattle.order_search.specs.dp_core.Markable.{IsMarkable}
+use Rattle.order_search.specs.dp_core.Numbered.{ArePairsOf}
+use Rattle.order_search.specs.dp_core.Symbols.{symbols_of_rules}
+use Rattle.order_search.specs.dp_core.SubtermConditions.{roots_of}
 use Rattle.order_search.specs.Slots.{puzzle_of}
 use Rattle.order_search.specs.Outcome.{IsFinding, IsNotThere, IsSpent}
 use Rattle.order_search.proofs.FewPairs.{few_taken, taken_in, roots_small}

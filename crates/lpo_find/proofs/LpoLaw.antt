@@ -10,14 +10,14 @@ use Rattle.pair_theory.specs.Marked.{mark}
 use Rattle.pair_theory.specs.DependencyPair.{DependencyPair, dependency_pairs}
 use Rattle.pair_theory.specs.ReductionPair.{marked_rule}
 use Rattle.order_theory.specs.ArgumentFilter.{PathWeak, PathStrict}
-use Rattle.pair_order.specs.Entries.{has_entry}
+use Rattle.path_lpo.specs.pair_order.Entries.{has_entry}
 use Rattle.path_lpo.specs.Table.{PathEntry, symbol_of, rank_in, filter_in}
 use Rattle.rewrite_core.specs.Check.{Asks, returned, goes_on, holds, absent, never, each, collect, yes_it_does, no_it_does_not}
-use Rattle.dp_core.specs.Numbered.{ArePairsOf, taken, numbers_from}
-use Rattle.dp_core.specs.Symbols.{symbols_of_rules}
-use Rattle.dp_core.specs.SubtermConditions.{roots_of, unflagged}
-use Rattle.dp_core.specs.PairConditions.{Comparing, comparing_by, rule_is_weak, pair_is_weak, pair_conditions}
-use Rattle.dp_core.proofs.NumberedPairs.{as_many}
+use Rattle.order_search.specs.dp_core.Numbered.{ArePairsOf, taken, numbers_from}
+use Rattle.order_search.specs.dp_core.Symbols.{symbols_of_rules}
+use Rattle.order_search.specs.dp_core.SubtermConditions.{roots_of, unflagged}
+use Rattle.order_search.specs.dp_core.PairConditions.{Comparing, comparing_by, rule_is_weak, pair_is_weak, pair_conditions}
+use Rattle.order_search.proofs.dp_core.NumberedPairs.{as_many}
 use Rattle.assign_search.proofs.Refuting.{true_or_false}
 use Rattle.order_search.specs.Slots.{Table, table_of, puzzle_of}
 use Rattle.order_search.proofs.Solutions.{solved}

@@ -3,7 +3,7 @@ use Rattle.std.specs.Prelude.{◌≡◌, ◌<◌, ◌≤◌, ℕ, ◌+◌, ◌*�
 use Rattle.std.proofs.Common.{sym, ap, ap₂, subst, arith, ◌∙◌, append_assoc}
 use Rattle.std.proofs.lemmas.List.{append-nil, map-append, drop_all}
 use Rattle.std.proofs.lemmas.Option.{slice_get-get_or}
-use Rattle.dp_core.proofs.Collecting.{next_item}
+use Rattle.order_search.proofs.dp_core.Collecting.{next_item}
 use Rattle.path_lpo.specs.declared.entries.LpoEntry.{LpoEntry}
 use Rattle.path_lpo.specs.Plain.{plain}
 use Rattle.path_lpo.specs.Table.{PathEntry}

@@ -3,9 +3,9 @@ use Rattle.std.specs.Prelude.{ℕ, List, Ok}
 use Rattle.trs_defs.specs.System.{System, IsSystem}
 use Rattle.pair_theory.specs.DependencyPair.{dependency_pairs}
 use Rattle.order_theory.specs.ArgumentFilter.{PathWeak, PathStrict}
-use Rattle.pair_order.specs.Entries.{has_entry}
+use Rattle.path_lpo.specs.pair_order.Entries.{has_entry}
 use Rattle.path_lpo.specs.Table.{PathEntry, symbol_of, rank_in, filter_in}
-use Rattle.dp_core.specs.PairConditions.{comparing_by, pair_conditions}
+use Rattle.order_search.specs.dp_core.PairConditions.{comparing_by, pair_conditions}
 use Rattle.order_search.specs.OrderSpace.{arity_with_mark}
 use Rattle.order_search.specs.OrderRow.{FindsOrder}
 use Rattle.lpo_find.specs.LpoRow.{lpo_search, lpo_entry}

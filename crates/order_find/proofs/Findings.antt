@@ -6,8 +6,8 @@ use Rattle.trs_defs.specs.System.{System}
 use Rattle.pair_theory.specs.DependencyPair.{DependencyPair, dependency_pairs}
 use Rattle.assign_search.specs.declared.search.Search.{Search}
 use Rattle.assign_search.specs.declared.search.Search.TheVariants.{Found, NotThere, Spent, Stopped}
-use Rattle.dp_core.specs.Numbered.{ArePairsOf}
-use Rattle.dp_core.specs.SubtermConditions.{roots_of}
+use Rattle.order_search.specs.dp_core.Numbered.{ArePairsOf}
+use Rattle.order_search.specs.dp_core.SubtermConditions.{roots_of}
 use Rattle.order_search.specs.Slots.{puzzle_of}
 use Rattle.order_search.specs.Outcome.{IsFinding, IsNotThere, IsSpent}
 use Rattle.order_search.specs.Ascending.{AreAscending}

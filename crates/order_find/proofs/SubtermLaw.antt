@@ -12,9 +12,9 @@ use Rattle.pair_theory.specs.Marked.{Marked, plain}
 use Rattle.pair_theory.specs.Subterm.{Sub, ProperSubterm}
 use Rattle.pair_theory.specs.DependencyPair.{DependencyPair, dependency_pairs}
 use Rattle.rewrite_core.specs.Check.{Asks, returned, goes_on, holds, never, collect, yes_it_does, no_it_does_not}
-use Rattle.dp_core.specs.Numbered.{ArePairsOf, taken}
-use Rattle.dp_core.specs.SubtermConditions.{place_for, projected, ProjectedAre, roots_of, projects_within, unflagged, subterm_conditions}
-use Rattle.dp_core.proofs.NumberedPairs.{as_many}
+use Rattle.order_search.specs.dp_core.Numbered.{ArePairsOf, taken}
+use Rattle.order_search.specs.dp_core.SubtermConditions.{place_for, projected, ProjectedAre, roots_of, projects_within, unflagged, subterm_conditions}
+use Rattle.order_search.proofs.dp_core.NumberedPairs.{as_many}
 use Rattle.assign_search.proofs.Refuting.{true_or_false}
 use Rattle.order_search.specs.Slots.{table_from, table_of, puzzle_of}
 use Rattle.order_search.specs.Ascending.{AreAscending}

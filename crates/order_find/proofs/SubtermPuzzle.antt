@@ -3,7 +3,7 @@ use Rattle.std.specs.Prelude.{ℕ, ◌+◌, ◌<◌, Bool, true, false, ◌&&◌
 use Rattle.std.proofs.Common.{zero, suc, refl, sym, ap, arith, ◌∙◌}
 use Rattle.std.proofs.lemmas.List.{length-map}
 use Rattle.pair_theory.specs.DependencyPair.{DependencyPair}
-use Rattle.pair_order.specs.Entries.{place_among}
+use Rattle.kbo_find.specs.pair_order.Entries.{place_among}
 use Rattle.order_search.specs.Slots.{Slot, slot, table_from, table_of, puzzle_of}
 use Rattle.order_search.proofs.Lawful.{and_true, test_below}
 use Rattle.order_search.proofs.SlotConstraints.{at_item, at_last, one_more}

@@ -2,7 +2,7 @@
 use Rattle.std.specs.Prelude.{ℕ, List, Ok}
 use Rattle.trs_defs.specs.System.{System}
 use Rattle.pair_theory.specs.DependencyPair.{dependency_pairs}
-use Rattle.dp_core.specs.SubtermConditions.{subterm_conditions}
+use Rattle.order_search.specs.dp_core.SubtermConditions.{subterm_conditions}
 use Rattle.order_find.specs.SubtermRow.{FindsSubterm}
 
 abbrev pub FoundPlacesApply : Type 0

@@ -2,8 +2,8 @@
 use Rattle.std.specs.Prelude.{◌≡◌, ℕ, ◌+◌, List, [], ◌∷◌}
 use Rattle.trs_defs.specs.System.{System}
 use Rattle.pair_theory.specs.DependencyPair.{DependencyPair, dependency_pairs}
-use Rattle.dp_core.specs.Numbered.{ArePairsOf}
-use Rattle.dp_core.specs.SubtermConditions.{roots_of}
+use Rattle.order_search.specs.dp_core.Numbered.{ArePairsOf}
+use Rattle.order_search.specs.dp_core.SubtermConditions.{roots_of}
 use Rattle.assign_search.specs.Puzzle.{Puzzle}
 use Rattle.order_search.specs.Slots.{puzzle_of}
 use Rattle.order_search.specs.Outcome.{IsFirst}

@@ -12,6 +12,8 @@ mod within;
 pub use kbo_find::{find_kbo, find_kbo_in, found_knuth_bendix_orders_apply};
 pub use laws::found_places_apply;
 pub use lpo_find::{find_lpo, find_lpo_in, found_path_orders_apply};
-pub use poly_find::{find_poly, find_poly_in, found_interpretations_apply};
-pub use poly_find::{find_usable, find_usable_in, found_usable_interpretations_apply};
+pub use poly_find::{
+    find_poly, find_poly_in, find_usable, find_usable_in, found_interpretations_apply,
+    found_usable_interpretations_apply,
+};
 pub use subterm::{find_subterm, find_subterm_in};

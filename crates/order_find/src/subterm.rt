@@ -2,18 +2,18 @@
 ghost use Rattle.std.specs.Prelude.{◌≡◌, ◌<◌, ◌≤◌, ◌+◌, ◌^◌, ℕ, All, IfOk, Some, length, slice_get};
 ghost use Rattle.std.specs.List.Sorted.{IsStrictlyIncreasing};
 ghost use Rattle.pair_theory.specs.DependencyPair.{dependency_pairs};
-ghost use Rattle.dp_core.specs.PlacedPairs.{placed_pairs};
+ghost use Rattle.order_search.specs.dp_core.PlacedPairs.{placed_pairs};
 ghost use Rattle.order_search.specs.Outcome.{IsFinding, IsNotThere, IsSpent};
 ghost use Rattle.order_search.specs.Slots.{puzzle_of};
 ghost use Rattle.order_find.specs.SubtermSpace.{subterm_search};
 ghost use Rattle.order_find.specs.SubtermRow.{FindsSubterm, FailsSubterm, ArePlaces, places_of};
 
+use crate::subterm_space::SubtermSpace;
+use assign_search::{Search, Stop, first_solution};
 use order_search::placing::SymbolPlaces;
 use order_search::roots::roots;
-use crate::subterm_space::SubtermSpace;
 use order_search::taken::taken;
-use assign_search::{Search, Stop, first_solution};
-use dp_core::{DpPair, Pairs, Sides, placed_pairs_are_the_pairs};
+use order_search::{DpPair, Pairs, Sides, placed_pairs_are_the_pairs};
 use pair_theory::dependency_pairs_suffice;
 use std::alloc::Global;
 use trs_core::{OutOfMemory, Trs};

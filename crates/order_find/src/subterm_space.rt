@@ -10,11 +10,11 @@ ghost use Rattle.order_find.specs.Subterms.{has_subterm, has_proper_subterm};
 ghost use Rattle.order_find.specs.SubtermSpace.{subterm_search, passes, some_passes, subterm_slots};
 ghost use Rattle.order_find.specs.SubtermLawful.{subterm_lawful};
 
-use order_search::placing::SymbolPlaces;
-use order_search::roots::{from_root, to_root};
 use crate::within::{contains, contains_properly};
 use assign_search::{OutOfMemory, Space};
-use dp_core::{Side, Sides};
+use order_search::placing::SymbolPlaces;
+use order_search::roots::{from_root, to_root};
+use order_search::{Side, Sides};
 use std::alloc::Global;
 use trs_core::Term;
 

@@ -1,3 +1,5 @@
+-- what crates above name through this one
+pub use Rattle.dp_core.proofs as dp_core
 pub mod Agreeing
 pub mod OrderLawful
 pub mod SlotLayout

@@ -3,8 +3,8 @@ use Rattle.std.specs.Prelude.{◌≡◌, ◌<◌, ℕ, Bool, true, false, ◌||�
 use Rattle.std.proofs.Common.{zero, suc, refl, sym, ap, ap₂, arith, ◌∙◌}
 use Rattle.std.proofs.lemmas.Bool.Decides.{nat_tests}
 use Rattle.trs_defs.specs.Variable.{is_listed}
-use Rattle.pair_order.specs.Entries.{place_among, entry_of}
-use Rattle.pair_order.proofs.Placing.{entry_absent}
+use Rattle.dp_core.specs.pair_order.Entries.{place_among, entry_of}
+use Rattle.dp_core.proofs.pair_order.Placing.{entry_absent}
 
 same_number : (g f : ℕ) → (g == f) ≡ true → g ≡ f
 same_number g f e = grind (arith, nat_tests)

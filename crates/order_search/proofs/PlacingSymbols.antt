@@ -3,7 +3,7 @@ use Rattle.std.specs.Prelude.{◌≡◌, ◌<◌, ◌≤◌, ◌⊎◌, ℕ, ◌
 use Rattle.std.proofs.Common.{zero, suc, inl, inr, refl, sym, ap, subst, arith, ◌∙◌, set, replicate}
 use Rattle.std.proofs.lemmas.Bool.Decides.{nat_tests}
 use Rattle.std.proofs.lemmas.List.{take_more, length-take-le, length-set, length-replicate, take_all, get_or-set_same, get_or-set_other}
-use Rattle.pair_order.specs.Entries.{place_among}
+use Rattle.dp_core.specs.pair_order.Entries.{place_among}
 use Rattle.order_search.specs.Placed.{ArePlaced}
 
 -- the first of two, or else the second

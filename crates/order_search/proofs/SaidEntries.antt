@@ -3,7 +3,7 @@ use Rattle.std.specs.Prelude.{◌≡◌, ℕ, Bool, true, false, ◌||◌, ◌==
 use Rattle.std.proofs.Common.{refl, ap, arith, ◌∙◌}
 use Rattle.std.proofs.lemmas.Bool.Decides.{nat_tests}
 use Rattle.trs_defs.specs.Variable.{is_listed}
-use Rattle.pair_order.specs.Entries.{entry_of, has_entry}
+use Rattle.dp_core.specs.pair_order.Entries.{entry_of, has_entry}
 
 same_number : (g f : ℕ) → (g == f) ≡ true → g ≡ f
 same_number g f e = grind (arith, nat_tests)

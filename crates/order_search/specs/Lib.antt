@@ -1,3 +1,5 @@
+-- what crates above name through this one
+pub use Rattle.dp_core.specs as dp_core
 pub mod OrderSpace
 pub mod OrderRow
 pub mod OrderOver

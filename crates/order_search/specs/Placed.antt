@@ -1,6 +1,6 @@
 -- The places of symbols among others, by their numbers.
 use Rattle.std.specs.Prelude.{◌≡◌, ℕ, List, Option, None, get_or}
-use Rattle.pair_order.specs.Entries.{place_among}
+use Rattle.dp_core.specs.pair_order.Entries.{place_among}
 
 -- at the number of each symbol stands its place, and none at other numbers
 abbrev pub ArePlaced : List ℕ → List (Option ℕ) → Type 0

@@ -8,9 +8,9 @@ ghost use Rattle.order_search.specs.Ascending.{AreAscending};
 ghost use Rattle.order_search.specs.OrderRow.{AreSymbols};
 ghost use Rattle.order_search.specs.SymbolSets.{Adds};
 
+use crate::roots::{listed, roots};
 use crate::symbols::{add_marked, add_symbols, symbol_set};
 use dp_core::{Side, Sides};
-use crate::roots::{listed, roots};
 use std::alloc::Global;
 use std::collections::BTreeSet;
 use trs_core::{OutOfMemory, Rule};

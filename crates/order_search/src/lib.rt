@@ -16,6 +16,7 @@ mod values;
 
 pub use arities::arity_of;
 pub use below_roots::symbols_with_sides;
+pub use dp_core::{DpPair, Pairs, Side, Sides, placed_pairs_are_the_pairs};
 pub use falling::falling_at;
 pub use marking::marked_rules;
 pub use occurring::{occurs, occurs_in_rule};

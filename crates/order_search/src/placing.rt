@@ -1,6 +1,6 @@
 //! Where symbols stand among others.
 ghost use Rattle.std.specs.Prelude.{◌≡◌, ◌<◌, ◌≤◌, ◌^◌, ℕ, All, IfOk, None, Some, length, get_or, slice_set};
-ghost use Rattle.pair_order.specs.Entries.{place_among};
+ghost use Rattle.dp_core.specs.pair_order.Entries.{place_among};
 
 use std::alloc::Global;
 use std::marker::Model;

@@ -32,14 +32,14 @@ fn root_set(alloc: Global, pairs: &[Sides]) -> Result<BTreeSet<u32>, OutOfMemory
 }
 
 /// The root of the left side, without its mark.
-pub(crate) fn from_root(pair: &Sides) -> u32
+pub fn from_root(pair: &Sides) -> u32
     ensures { result ≡ pair.now.from.symbol }
 {
     root(&pair.from)
 }
 
 /// The root of the right side, without its mark.
-pub(crate) fn to_root(pair: &Sides) -> u32
+pub fn to_root(pair: &Sides) -> u32
     ensures { result ≡ pair.now.to.symbol }
 {
     root(&pair.to)

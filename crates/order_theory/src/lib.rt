@@ -3,7 +3,7 @@
 //! nothing.
 #![tactic(auto)]
 
-mod usable;
+mod usable_removal;
 
 ghost use Rattle.std.specs.Prelude.{◌≡◌, ◌≤◌, Some, ℕ, List, Option, ◌⊎◌, ◌↔◌, IsTrue, length};
 ghost use Rattle.trs_defs.specs.Member.{In};
@@ -20,7 +20,7 @@ ghost use Rattle.order_theory.specs.LinearInterpretation.{LinearWeak, LinearStri
 ghost use Rattle.order_theory.specs.KnuthBendix.{KnuthGreater, KnuthWeak, arity_with_marks, IsAdmissible};
 ghost use Rattle.pair_theory.specs.Over.{IsOver};
 
-pub use usable::{remove_by_usable_interpretation, remove_by_usable_rules, usable_symbols};
+pub use usable_removal::{remove_by_usable_interpretation, remove_by_usable_rules, usable_symbols};
 
 /// The lexicographic path order with argument filters is a reduction pair on all terms (Kamin and
 /// Lévy; Baader and Nipkow, section 5.4; well-foundedness as in Buchholz, Proof-theoretic analysis

@@ -1,10 +1,10 @@
 //! Edges, steps by the graph and components, beside a table of edges.
-use finder_cases::all_numbers;
 use crate::slow::{self, TextPair};
 use crate::slow_graph::{Component, Table, components};
 use crate::texts::TextRule;
 use dp_core::dependency_pairs;
 use dp_graph::{GraphItem, PairGraph};
+use finder_cases::all_numbers;
 use rewrite_core::{CheckFault, StepRefused};
 use std::alloc::Global;
 use std::test::Fail;

@@ -1,8 +1,8 @@
 //! Pairs, usable rules and the subterm criterion, beside those of texts.
-use finder_cases::all_numbers;
 use crate::slow::{self, TextPair};
 use crate::texts::{TextRule, arity, first_term};
 use dp_core::{DpPair, dependency_pairs, subterm_check};
+use finder_cases::all_numbers;
 use rewrite_core::{CheckFault, StepRefused};
 use std::alloc::Global;
 use trs_core::{OutOfMemory, Term, Trs};

@@ -11,10 +11,10 @@ ghost use Rattle.dp_graph.specs.GroupOrSingle.{item_of};
 ghost use Rattle.pair_text.specs.GraphItems.{group_of, single_of, graph_item, printed_item};
 ghost use Rattle.pair_text.specs.Ranges.{HasPairs};
 
+use crate::read_number_from;
 use dp_graph::GraphItem;
 use sexp_core::Sexp;
 use std::alloc::Global;
-use crate::read_number_from;
 use text_reading::{Read, ended, place, push, put, put_number, read_number};
 use trs_core::OutOfMemory;
 

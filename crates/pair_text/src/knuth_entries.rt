@@ -8,14 +8,13 @@ ghost use Rattle.pair_text.specs.KnuthEntries.{weighed, stated_entry, is_too_lig
 ghost use Rattle.kbo_order.specs.declared.entries.KboEntry.{KboEntry as Entry};
 ghost use Rattle.pair_text.specs.TopRanks.{AreTopRanks, with_read};
 
-use crate::LAST_NUMBER;
 use crate::top_ranks::{TopRanks, are_below, with_rank};
+use crate::{LAST_NUMBER, add_symbol, put_entry_begin, read_marked_symbol};
 use kbo_order::{Kbo, KboEntry};
 use names_text::{NamedTrs, Symbol};
 use pair_order::SymbolIndex;
 use sexp_core::Sexp;
 use std::alloc::Global;
-use crate::{add_symbol, put_entry_begin, read_marked_symbol};
 use text_reading::{Read, and_place, both, ended, place, put, put_number, read_number};
 use trs_core::OutOfMemory;
 

@@ -8,13 +8,12 @@ ghost use Rattle.text_reading.specs.Seen.{seen};
 ghost use Rattle.poly_lin.specs.Plain.{plain};
 ghost use Rattle.pair_text.specs.LinearEntries.{polynomial, coefficients, linear_entry, linear_entry_item, linear_entries};
 
-use crate::LAST_NUMBER;
+use crate::{LAST_NUMBER, add_symbol, put_entry_begin, read_marked_symbol};
 use names_text::{NamedTrs, Symbol};
 use pair_order::SymbolIndex;
 use poly_lin::LinTable;
 use sexp_core::Sexp;
 use std::alloc::Global;
-use crate::{add_symbol, put_entry_begin, read_marked_symbol};
 use text_reading::{Read, ended, place, push, put, put_number, read_number};
 use trs_core::OutOfMemory;
 

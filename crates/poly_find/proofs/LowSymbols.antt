@@ -5,7 +5,7 @@ use Rattle.std.proofs.Common.{inl, inr, ap, subst, arith}
 use Rattle.trs_defs.specs.Member.{In}
 use Rattle.trs_defs.proofs.Members.{in_either, of_map}
 use Rattle.pair_theory.specs.DependencyPair.{DependencyPair}
-use Rattle.dp_core.specs.SubtermConditions.{roots_of}
+use Rattle.order_search.specs.dp_core.SubtermConditions.{roots_of}
 use Rattle.order_search.specs.OrderRow.{AreSymbols}
 use Rattle.order_search.proofs.Covered.{all_small, few_listed}
 

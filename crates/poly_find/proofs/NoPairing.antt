@@ -10,8 +10,8 @@ use Rattle.trs_defs.specs.System.{System, IsSystem}
 use Rattle.trs_defs.proofs.Members.{in_or, no_in, in_either, of_map}
 use Rattle.pair_theory.specs.DependencyPair.{DependencyPair}
 use Rattle.pair_theory.specs.PairProblem.{IsPair}
-use Rattle.dp_core.specs.Symbols.{symbols_of_rules}
-use Rattle.dp_core.specs.SubtermConditions.{roots_of}
+use Rattle.order_search.specs.dp_core.Symbols.{symbols_of_rules}
+use Rattle.order_search.specs.dp_core.SubtermConditions.{roots_of}
 use Rattle.assign_search.proofs.Refuting.{true_or_false}
 use Rattle.order_search.proofs.FewPairs.{roots_small}
 use Rattle.order_search.specs.OrderRow.{AreSymbols}

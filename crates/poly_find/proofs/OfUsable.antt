@@ -12,11 +12,11 @@ use Rattle.pair_theory.specs.PairProblem.{IsPair}
 use Rattle.pair_theory.specs.ReductionPair.{marked_rule}
 use Rattle.assign_search.specs.declared.search.Search.{Search}
 use Rattle.assign_search.specs.declared.search.Search.TheVariants.{Found, NotThere, Spent, Stopped}
-use Rattle.dp_core.specs.Numbered.{ArePairsOf, AreItemsOf}
-use Rattle.dp_core.specs.Symbols.{symbols_of, symbols_of_all, symbols_of_rules, symbols_below_roots}
-use Rattle.dp_core.specs.SubtermConditions.{roots_of}
-use Rattle.dp_core.proofs.NumberedPairs.{as_many, within_all}
-use Rattle.dp_core.proofs.OrderConclusions.{rule_symbols}
+use Rattle.order_search.specs.dp_core.Numbered.{ArePairsOf, AreItemsOf}
+use Rattle.order_search.specs.dp_core.Symbols.{symbols_of, symbols_of_all, symbols_of_rules, symbols_below_roots}
+use Rattle.order_search.specs.dp_core.SubtermConditions.{roots_of}
+use Rattle.order_search.proofs.dp_core.NumberedPairs.{as_many, within_all}
+use Rattle.order_search.proofs.dp_core.OrderConclusions.{rule_symbols}
 use Rattle.usable_rules.specs.AreUsable.{AreUsableRules, Ascends, no_numbers, number}
 use Rattle.usable_rules.proofs.Chosen.{usable_within}
 use Rattle.order_search.specs.Slots.{puzzle_of}

@@ -11,11 +11,11 @@ use Rattle.pair_theory.specs.DependencyPair.{DependencyPair, dependency_pairs}
 use Rattle.pair_theory.specs.ReductionPair.{marked_rule}
 use Rattle.pair_theory.proofs.PairList.{listed_are_pairs}
 use Rattle.order_theory.specs.LinearInterpretation.{LinearWeak, LinearStrict}
-use Rattle.pair_order.specs.Entries.{has_entry}
+use Rattle.poly_lin.specs.pair_order.Entries.{has_entry}
 use Rattle.poly_lin.specs.Table.{symbol_of, coefficient_in}
 use Rattle.poly_lin.specs.TooBig.{EitherIsBig}
 use Rattle.rewrite_core.specs.Check.{Asks, yes_it_does, no_it_does_not}
-use Rattle.dp_core.specs.PairConditions.{Comparing, comparing_by}
+use Rattle.order_search.specs.dp_core.PairConditions.{Comparing, comparing_by}
 use Rattle.trs_defs.specs.Variable.{is_listed}
 use Rattle.order_search.specs.Slots.{table_of, puzzle_of}
 use Rattle.order_search.specs.Outcome.{IsFirst}

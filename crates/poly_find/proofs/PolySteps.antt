@@ -4,7 +4,7 @@ use Rattle.std.specs.declared.alloc.Global.{Global}
 use Rattle.std.proofs.Common.{sym, ap, ap₂, ◌∙◌, append_assoc}
 use Rattle.std.proofs.lemmas.List.{append-nil, map-append, drop_all}
 use Rattle.std.proofs.lemmas.Option.{slice_get-get_or}
-use Rattle.dp_core.proofs.Collecting.{next_item}
+use Rattle.order_search.proofs.dp_core.Collecting.{next_item}
 use Rattle.poly_lin.specs.Plain.{plain}
 use Rattle.order_search.specs.Slots.{table_of}
 use Rattle.order_search.specs.OrderSpace.{slots_of}

@@ -4,7 +4,7 @@ use Rattle.std.proofs.Common.{zero, suc, refl, sym, ap, ap₂, subst, arith, ◌
 use Rattle.std.proofs.lemmas.Bool.Decides.{nat_tests}
 use Rattle.std.proofs.lemmas.List.{append-nil, drop_all, map-append, length-append, length-map}
 use Rattle.std.proofs.lemmas.Option.{slice_get-get_or}
-use Rattle.dp_core.proofs.Collecting.{next_item}
+use Rattle.order_search.proofs.dp_core.Collecting.{next_item}
 use Rattle.order_search.specs.Slots.{Table, table_of}
 use Rattle.order_search.specs.OrderSpace.{parts_from, slots_of}
 use Rattle.order_search.specs.Distinct.{AreDistinct}

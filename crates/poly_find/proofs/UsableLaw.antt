@@ -10,14 +10,14 @@ use Rattle.pair_theory.specs.DependencyPair.{DependencyPair, dependency_pairs}
 use Rattle.pair_theory.specs.ReductionPair.{marked_rule}
 use Rattle.pair_theory.specs.PairProblem.{IsPair}
 use Rattle.pair_theory.proofs.PairList.{listed_are_pairs}
-use Rattle.pair_order.specs.Entries.{has_entry}
+use Rattle.poly_lin.specs.pair_order.Entries.{has_entry}
 use Rattle.poly_lin.specs.Table.{symbol_of, coefficient_in}
 use Rattle.rewrite_core.specs.Check.{goes_on}
-use Rattle.dp_core.specs.Numbered.{taken}
-use Rattle.dp_core.specs.Symbols.{symbols_of, symbols_of_all, symbols_of_rules, symbols_below_roots}
-use Rattle.dp_core.specs.SubtermConditions.{roots_of}
-use Rattle.dp_core.proofs.NumberedPairs.{as_many}
-use Rattle.dp_core.proofs.OrderConclusions.{rule_symbols}
+use Rattle.order_search.specs.dp_core.Numbered.{taken}
+use Rattle.order_search.specs.dp_core.Symbols.{symbols_of, symbols_of_all, symbols_of_rules, symbols_below_roots}
+use Rattle.order_search.specs.dp_core.SubtermConditions.{roots_of}
+use Rattle.order_search.proofs.dp_core.NumberedPairs.{as_many}
+use Rattle.order_search.proofs.dp_core.OrderConclusions.{rule_symbols}
 use Rattle.usable_rules.specs.UsableConditions.{usable_taken}
 use Rattle.order_search.specs.OrderSpace.{occurs_in, AreCovered}
 use Rattle.order_search.specs.OrderRow.{AreSymbols}

@@ -3,10 +3,10 @@ use Rattle.std.specs.Prelude.{ℕ, ◌≤◌, List, Ok, length}
 use Rattle.trs_defs.specs.System.{System, IsSystem}
 use Rattle.pair_theory.specs.DependencyPair.{dependency_pairs}
 use Rattle.order_theory.specs.LinearInterpretation.{LinearWeak, LinearStrict}
-use Rattle.pair_order.specs.Entries.{has_entry}
+use Rattle.poly_lin.specs.pair_order.Entries.{has_entry}
 use Rattle.poly_lin.specs.Table.{symbol_of, coefficient_in}
 use Rattle.poly_lin.specs.TooBig.{EitherIsBig}
-use Rattle.dp_core.specs.PairConditions.{comparing_by}
+use Rattle.order_search.specs.dp_core.PairConditions.{comparing_by}
 use Rattle.usable_rules.specs.UsableConditions.{usable_conditions}
 use Rattle.poly_find.specs.UsableRow.{FindsUsable}
 

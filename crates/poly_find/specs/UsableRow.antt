@@ -4,8 +4,8 @@ use Rattle.trs_defs.specs.System.{RewriteRule, System}
 use Rattle.pair_theory.specs.DependencyPair.{DependencyPair, dependency_pairs}
 use Rattle.pair_theory.specs.ReductionPair.{marked_rule}
 use Rattle.assign_search.specs.Puzzle.{Puzzle}
-use Rattle.dp_core.specs.Numbered.{ArePairsOf, AreItemsOf}
-use Rattle.dp_core.specs.Symbols.{symbols_of_rules, symbols_below_roots}
+use Rattle.order_search.specs.dp_core.Numbered.{ArePairsOf, AreItemsOf}
+use Rattle.order_search.specs.dp_core.Symbols.{symbols_of_rules, symbols_below_roots}
 use Rattle.usable_rules.specs.AreUsable.{AreUsableRules}
 use Rattle.order_search.specs.Slots.{Search, puzzle_of}
 use Rattle.order_search.specs.OrderSpace.{OrderConstraint}

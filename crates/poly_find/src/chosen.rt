@@ -1,6 +1,6 @@
 //! Rules by their numbers.
 ghost use Rattle.std.specs.Prelude.{◌≡◌, ◌<◌, All, IfOk, length};
-ghost use Rattle.dp_core.specs.Numbered.{AreItemsOf};
+ghost use Rattle.order_search.specs.dp_core.Numbered.{AreItemsOf};
 
 use std::alloc::Global;
 use trs_core::{OutOfMemory, Rule};

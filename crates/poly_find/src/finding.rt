@@ -2,7 +2,7 @@
 ghost use Rattle.std.specs.Prelude.{◌≡◌, ◌<◌, ◌≤◌, All, IfOk, length};
 ghost use Rattle.std.specs.List.Sorted.{IsStrictlyIncreasing};
 ghost use Rattle.pair_theory.specs.DependencyPair.{dependency_pairs};
-ghost use Rattle.dp_core.specs.PlacedPairs.{placed_pairs};
+ghost use Rattle.order_search.specs.dp_core.PlacedPairs.{placed_pairs};
 ghost use Rattle.order_search.specs.Outcome.{IsFinding, IsNotThere, IsSpent};
 ghost use Rattle.order_search.specs.OrderRow.{FailsOrder};
 ghost use Rattle.order_search.specs.OrderOver.{search_of};
@@ -11,9 +11,8 @@ ghost use Rattle.poly_find.specs.Laws.{FindsPoly};
 
 use crate::searching::search_linear;
 use assign_search::{Search, Stop};
-use dp_core::{DpPair, Pairs, placed_pairs_are_the_pairs};
 use order_search::taken::taken;
-use order_search::{marked_rules, order_symbols};
+use order_search::{DpPair, Pairs, marked_rules, order_symbols, placed_pairs_are_the_pairs};
 use pair_theory::dependency_pairs_suffice;
 use poly_lin::LinTable;
 use std::alloc::Global;

@@ -2,17 +2,16 @@
 ghost use Rattle.std.specs.Prelude.{◌≡◌, ◌<◌, ◌≤◌, All, IfOk, length};
 ghost use Rattle.std.specs.List.Sorted.{IsStrictlyIncreasing};
 ghost use Rattle.pair_theory.specs.DependencyPair.{dependency_pairs};
-ghost use Rattle.dp_core.specs.PlacedPairs.{placed_pairs};
+ghost use Rattle.order_search.specs.dp_core.PlacedPairs.{placed_pairs};
 ghost use Rattle.order_search.specs.Outcome.{IsFinding, IsNotThere, IsSpent};
 ghost use Rattle.poly_find.specs.UsableRow.{FindsUsable, FailsUsable};
 
 use crate::chosen::chosen;
-use assign_search::{Search, Stop};
-use dp_core::{DpPair, Pairs, placed_pairs_are_the_pairs};
-use order_search::taken::taken;
-use order_search::{marked_rules, symbols_with_sides};
-use pair_theory::dependency_pairs_suffice;
 use crate::search_linear;
+use assign_search::{Search, Stop};
+use order_search::taken::taken;
+use order_search::{DpPair, Pairs, marked_rules, placed_pairs_are_the_pairs, symbols_with_sides};
+use pair_theory::dependency_pairs_suffice;
 use poly_lin::LinTable;
 use std::alloc::Global;
 use trs_core::{OutOfMemory, Trs};

@@ -1,3 +1,5 @@
+-- what crates above name through this one
+pub use Rattle.pair_order.specs as pair_order
 pub mod Plain
 pub mod Table
 pub mod Rows

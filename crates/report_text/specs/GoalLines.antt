@@ -3,12 +3,12 @@ use Rattle.std.specs.Prelude.{ℕ, Bool, true, false, List, [], ◌∷◌, ◌++
 use Rattle.sexp_core.specs.Items.{Item, items_of}
 use Rattle.sexp_core.specs.Printed.{lines}
 use Rattle.names_text.specs.Named.{NamedSystem}
-use Rattle.cert_step.specs.ProofProblem as problem
-use Rattle.cert_step.specs.ProofProblem.{ProofProblem}
+use Rattle.step_text.specs.cert_step.ProofProblem as problem
+use Rattle.step_text.specs.cert_step.ProofProblem.{ProofProblem}
 use Rattle.text_reading.specs.Printed.{word_item, number_item, list_item}
 use Rattle.step_text.specs.Steps.{step_item}
-use Rattle.strategies.specs.declared.strategy.Strategy.{Strategy}
-use Rattle.strategies.specs.Kinds.{word_of}
+use Rattle.tree_definitions.specs.strategies.declared.strategy.Strategy.{Strategy}
+use Rattle.tree_definitions.specs.strategies.Kinds.{word_of}
 use Rattle.tree_definitions.specs.declared.question.Question.{Question}
 use Rattle.tree_definitions.specs.declared.question.Question.TheVariants.{Termination, Confluence, Unique}
 use Rattle.tree_definitions.specs.Reports.{Part}

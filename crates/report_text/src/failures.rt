@@ -3,8 +3,8 @@ ghost use Rattle.sexp_core.specs.Items.{items_of};
 ghost use Rattle.sexp_core.specs.Printed.{text_of, spaced};
 ghost use Rattle.report_text.specs.GoalLines.{reason_word as word_of_reason, failed_item};
 
-use strategies::Strategy;
 use text_reading::put;
+use tree_definitions::Strategy;
 use trs_core::OutOfMemory;
 
 /// Appends the strategies that failed, each `(failed strategy reason)`, with a blank before each.

@@ -2,7 +2,7 @@ ghost use Rattle.std.specs.Prelude.{◌≡◌, ◌<◌, ◌++◌, ◌∷◌, [],
 ghost use Rattle.sexp_core.specs.Items.{items_of};
 ghost use Rattle.sexp_core.specs.Printed.{text_of, spaced};
 ghost use Rattle.names_text.specs.VariableNames.{underscores as underscores_of};
-ghost use Rattle.cert_step.specs.ProofStep.{node_step_of};
+ghost use Rattle.step_text.specs.cert_step.ProofStep.{node_step_of};
 ghost use Rattle.step_text.specs.Steps.{step_item};
 ghost use Rattle.tree_definitions.specs.declared.question.Question.TheVariants.{Termination, Confluence, Unique};
 ghost use Rattle.tree_definitions.specs.Questions.{goals_of};
@@ -11,11 +11,10 @@ ghost use Rattle.report_text.specs.GoalLines.{goal_words, goal_item};
 
 use crate::failures::put_failures;
 use crate::problem_words::put_stuck;
-use cert_step::NodeStep;
 use names_text::NamedTrs;
 use path_text::PathNames;
 use std::alloc::Global;
-use step_text::put_step;
+use step_text::{NodeStep, put_step};
 use text_reading::put;
 use tree_definitions::{GoalReport, Question};
 use trs_core::OutOfMemory;

@@ -7,3 +7,4 @@ mod problem_words;
 mod reports;
 
 pub use reports::print_report;
+pub use tree_definitions::{Limits, Question, Verdict};

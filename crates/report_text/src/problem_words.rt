@@ -2,10 +2,10 @@ ghost use Rattle.std.specs.Prelude.{◌≡◌, ◌++◌, ◌∷◌, map, OnOk};
 ghost use Rattle.sexp_core.specs.Items.{items_of};
 ghost use Rattle.sexp_core.specs.Printed.{text_of, spaced};
 ghost use Rattle.text_reading.specs.Printed.{number_item};
-ghost use Rattle.cert_step.specs.ProofProblem.{problem_of};
+ghost use Rattle.step_text.specs.cert_step.ProofProblem.{problem_of};
 ghost use Rattle.report_text.specs.GoalLines.{problem_items, stuck_item};
 
-use cert_step::Problem;
+use step_text::Problem;
 use text_reading::{put, put_number};
 use trs_core::OutOfMemory;
 

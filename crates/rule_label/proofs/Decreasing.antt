@@ -15,9 +15,9 @@ use Rattle.rewrite_core.specs.PlacedPeak.{PlacedPeak}
 use Rattle.rewrite_core.specs.PathsOfJoin.{PathsOfJoin}
 use Rattle.rewrite_core.specs.Check.{goes_on, holds}
 use Rattle.rewrite_core.specs.PathCheck.{followed}
-use Rattle.crit_pairs.specs.PlainPeak.{plain}
-use Rattle.crit_pairs.specs.PeaksCheck.{listed}
-use Rattle.crit_pairs.specs.Laws.{ListedPeaksCover}
+use Rattle.closed_pairs.specs.crit_pairs.PlainPeak.{plain}
+use Rattle.closed_pairs.specs.crit_pairs.PeaksCheck.{listed}
+use Rattle.closed_pairs.specs.crit_pairs.Laws.{ListedPeaksCover}
 use Rattle.closed_pairs.proofs.Passing.{HasPassed, each_passed, both_left_linear, both_right_linear}
 use Rattle.rule_label.specs.Labelled.{ranks_along, joins_decreasing}
 use Rattle.rule_label.specs.Laws.{DecreasingPeaksConclude}

@@ -4,7 +4,7 @@ use Rattle.trs_defs.specs.System.{System, IsSystem}
 use Rattle.rewrite_core.specs.PathsOfJoin.{PathsOfJoin}
 use Rattle.rewrite_core.specs.Check.{HasOneAnswer}
 use Rattle.rewrite_core.proofs.CheckLaws.{once}
-use Rattle.crit_pairs.specs.PeaksCheck.{ListsCriticalPeaks}
+use Rattle.closed_pairs.specs.crit_pairs.PeaksCheck.{ListsCriticalPeaks}
 use Rattle.rule_label.specs.Labelled.{label_conditions}
 
 module _ (peaks_once : (system : System) → IsSystem system → HasOneAnswer (ListsCriticalPeaks system.rules)) (system : System) where

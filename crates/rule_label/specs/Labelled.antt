@@ -8,7 +8,7 @@ use Rattle.rewrite_core.specs.declared.refusals.StepRefused.TheVariants.{Labels}
 use Rattle.rewrite_core.specs.PlacedPeak.{PlacedPeak}
 use Rattle.rewrite_core.specs.PathsOfJoin.{PathsOfJoin}
 use Rattle.rewrite_core.specs.Check.{Check, Needs, each, has_length, ◌>>=◌, ◌>>◌}
-use Rattle.crit_pairs.specs.PeaksCheck.{ListsCriticalPeaks}
+use Rattle.closed_pairs.specs.crit_pairs.PeaksCheck.{ListsCriticalPeaks}
 use Rattle.closed_pairs.specs.Joined.{joins}
 use Rattle.closed_pairs.specs.LinearRules.{are_linear}
 

@@ -4,8 +4,7 @@ ghost use Rattle.rule_label.specs.Labelled.{joins_decreasing, are_decreasing, la
 ghost use Rattle.rule_label.specs.Labelled.{label_conditions, labels_must_fit};
 
 use crate::fitting::{rank_of, ranks_fit};
-use closed_pairs::{linear_check, peak_is_joined};
-use crit_pairs::first_peaks;
+use closed_pairs::{first_peaks, linear_check, peak_is_joined};
 use rewrite_core::{CheckFault, Join, PathStep, Peak, StepRefused};
 use std::alloc::Global;
 use trs_core::Trs;

@@ -1,7 +1,7 @@
 ghost use Rattle.rule_label.specs.Laws.{DecreasingPeaksConclude, LabelsAnswerOnce};
 
+use closed_pairs::{listed_peaks_cover, peaks_are_listed_once};
 use confluence_theory::{decreasing_peaks, followed_paths};
-use crit_pairs::{listed_peaks_cover, peaks_are_listed_once};
 
 /// A law, with nothing to run: a linear system is confluent if each critical peak is decreasing by
 /// some ranks of its rules. (Van Oostrom, Confluence by decreasing diagrams, 2008.)

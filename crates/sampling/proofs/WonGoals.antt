@@ -1,15 +1,15 @@
 -- What is judged where a goal was won, and the line of a sample.
 use Rattle.std.proofs.Common.{◌≡◌, ◌⊎◌, ◌∙◌, inl, inr, ℕ, zero, suc, Some, slice_get, refl, sym, subst, ap, List, Result, Ok, Err, IfOk}
 use Rattle.trs_defs.specs.System.{System}
-use Rattle.cert_step.specs.ProofProblem.{Says}
-use Rattle.cert_step.specs.ProofStep.{ProofNodeStep}
-use Rattle.cert_step.specs.declared.claim.Claim.{Claim}
-use Rattle.cert_step.specs.declared.claim.Claim.TheVariants.{Terminating, Nonterminating}
-use Rattle.cert_step.specs.Nodes.{IsAccepted}
-use Rattle.tree_definitions.specs.declared.question.Question.{Question}
-use Rattle.tree_definitions.specs.declared.question.Question.TheVariants.{Termination}
-use Rattle.tree_definitions.specs.Questions.{claims}
-use Rattle.tree_definitions.specs.Trees.{ProofTree}
+use Rattle.worker_pool.specs.cert_step.ProofProblem.{Says}
+use Rattle.worker_pool.specs.cert_step.ProofStep.{ProofNodeStep}
+use Rattle.worker_pool.specs.cert_step.declared.claim.Claim.{Claim}
+use Rattle.worker_pool.specs.cert_step.declared.claim.Claim.TheVariants.{Terminating, Nonterminating}
+use Rattle.worker_pool.specs.cert_step.Nodes.{IsAccepted}
+use Rattle.worker_pool.specs.tree_definitions.declared.question.Question.{Question}
+use Rattle.worker_pool.specs.tree_definitions.declared.question.Question.TheVariants.{Termination}
+use Rattle.worker_pool.specs.tree_definitions.Questions.{claims}
+use Rattle.worker_pool.specs.tree_definitions.Trees.{ProofTree}
 use Rattle.sampling.specs.Family.{sample}
 use Rattle.sampling.specs.declared.judgement.Judgement.{Judgement}
 use Rattle.sampling.specs.declared.judgement.Judgement.TheVariants.{Proved, Refuted}

@@ -1,14 +1,14 @@
 -- What is judged of the termination of a system.
 use Rattle.std.specs.Prelude.{◌≡◌, ℕ, List, Some, None}
 use Rattle.trs_defs.specs.System.{System}
-use Rattle.cert_step.specs.ProofStep.{ProofNodeStep}
-use Rattle.cert_step.specs.ProofProblem.{Says}
-use Rattle.cert_step.specs.declared.claim.Claim.TheVariants.{Terminating, Nonterminating}
-use Rattle.cert_step.specs.Nodes.{IsAccepted}
-use Rattle.tree_definitions.specs.declared.question.Question.TheVariants.{Termination}
-use Rattle.tree_definitions.specs.Reports.{Part, IsTrueReport}
-use Rattle.tree_definitions.specs.States.{State}
-use Rattle.tree_definitions.specs.Trees.{ProofTree}
+use Rattle.worker_pool.specs.cert_step.ProofStep.{ProofNodeStep}
+use Rattle.worker_pool.specs.cert_step.ProofProblem.{Says}
+use Rattle.worker_pool.specs.cert_step.declared.claim.Claim.TheVariants.{Terminating, Nonterminating}
+use Rattle.worker_pool.specs.cert_step.Nodes.{IsAccepted}
+use Rattle.worker_pool.specs.tree_definitions.declared.question.Question.TheVariants.{Termination}
+use Rattle.worker_pool.specs.tree_definitions.Reports.{Part, IsTrueReport}
+use Rattle.worker_pool.specs.tree_definitions.States.{State}
+use Rattle.worker_pool.specs.tree_definitions.Trees.{ProofTree}
 use Rattle.worker_pool.specs.Serial.{IsSerialEnd}
 use Rattle.sampling.specs.declared.judgement.Judgement.{Judgement}
 use Rattle.sampling.specs.declared.judgement.Judgement.TheVariants.{Proved, Refuted, Open}

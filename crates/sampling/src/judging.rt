@@ -1,15 +1,11 @@
 ghost use Rattle.std.specs.Prelude.{◌≡◌, ℕ, Some, IfOk};
-ghost use Rattle.tree_definitions.specs.Replies.{IsVerdict};
+ghost use Rattle.worker_pool.specs.tree_definitions.Replies.{IsVerdict};
 ghost use Rattle.sampling.specs.Judged.{IsTrueJudgement, IsSerialJudgement, IsOnTermination};
 
 use crate::Judgement;
-use cert_step::Claim;
 use std::alloc::Global;
-use strategies::Limits;
-use tree_core::Tree;
-use tree_definitions::{Question, Verdict};
 use trs_core::{OutOfMemory, Trs};
-use worker_pool::prove_alone;
+use worker_pool::{Claim, Limits, Question, Tree, Verdict, prove_alone};
 
 /// Judges by one worker whether a system terminates. The budget is how many refuted prefixes, or
 /// attempts, each search may pass.

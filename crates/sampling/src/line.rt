@@ -1,9 +1,8 @@
 ghost use Rattle.std.specs.Prelude.{◌≡◌, ◌≤◌, ◌++◌, IfOk, OnOk};
 ghost use Rattle.sampling.specs.Line.{IsSampleLine, judgement_word, line_of};
 
-use crate::{Judgement, judge};
+use crate::{Judgement, judge, sample_system};
 use dp_core::dependency_pairs;
-use crate::sample_system;
 use std::alloc::Global;
 use text_reading::{put, put_number};
 use trs_core::{OutOfMemory, Trs};

@@ -4,7 +4,7 @@ use Rattle.std.specs.List.{AllByRecursion}
 use Rattle.std.specs.Prelude.{map}
 use Rattle.sexp_core.specs.Items.{items_of}
 use Rattle.trs_defs.specs.System.{System}
-use Rattle.dp_graph.specs.GroupOrSingle.{GroupOrSingle, group, single}
+use Rattle.cert_step.specs.dp_graph.GroupOrSingle.{GroupOrSingle, group, single}
 use Rattle.cert_step.specs.GraphKind.{IsGraphItem}
 use Rattle.cert_step.specs.ProofStep.{ProofStep, graph, IsWellMade}
 use Rattle.text_reading.proofs.Made.{MakesForm, made_rest, made_form}

@@ -2,8 +2,8 @@
 use Rattle.std.proofs.Common.{ℕ, ◌≤◌, List, [], length, arith}
 use Rattle.std.specs.Prelude.{map}
 use Rattle.sexp_core.specs.Items.{items_of}
-use Rattle.kbo_order.specs.Table.{symbol_of}
-use Rattle.kbo_order.specs.declared.entries.KboEntry.{KboEntry}
+use Rattle.cert_step.specs.kbo_order.Table.{symbol_of}
+use Rattle.cert_step.specs.kbo_order.declared.entries.KboEntry.{KboEntry}
 use Rattle.names_text.specs.Named.{NamedSystem, IsNamed}
 use Rattle.cert_step.specs.Entries.{AreKboEntries}
 use Rattle.cert_step.specs.ProofStep.{ProofStep, kbo, IsWellMade}

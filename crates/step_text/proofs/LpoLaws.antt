@@ -3,7 +3,7 @@ use Rattle.std.proofs.Common.{ℕ, ◌≤◌, List, [], length, arith}
 use Rattle.std.specs.List.{AllByRecursion}
 use Rattle.std.specs.Prelude.{map}
 use Rattle.sexp_core.specs.Items.{items_of}
-use Rattle.path_lpo.specs.Table.{PathEntry, symbol_of}
+use Rattle.cert_step.specs.path_lpo.Table.{PathEntry, symbol_of}
 use Rattle.names_text.specs.Named.{NamedSystem, IsNamed}
 use Rattle.cert_step.specs.Entries.{IsPathEntry, ArePathEntries}
 use Rattle.cert_step.specs.ProofStep.{ProofStep, lpo, IsWellMade}

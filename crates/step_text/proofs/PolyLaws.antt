@@ -3,7 +3,7 @@ use Rattle.std.proofs.Common.{ℕ, ◌≤◌, List, [], length, arith}
 use Rattle.std.specs.List.{AllByRecursion}
 use Rattle.std.specs.Prelude.{map}
 use Rattle.sexp_core.specs.Items.{items_of}
-use Rattle.poly_lin.specs.Table.{symbol_of}
+use Rattle.cert_step.specs.poly_lin.Table.{symbol_of}
 use Rattle.names_text.specs.Named.{NamedSystem, IsNamed}
 use Rattle.cert_step.specs.Entries.{AreLinearEntries}
 use Rattle.cert_step.specs.ProofStep.{ProofStep, poly, IsWellMade}

@@ -11,7 +11,7 @@ use Rattle.text_reading.proofs.Again.{Spells, spells_part, spells_done, spells_l
 use Rattle.path_text.specs.Sharing.{Sharing, paths_weight, behind_paths}
 use Rattle.std.specs.List.{AllByRecursion}
 use Rattle.rewrite_core.specs.PathsOfJoin.{PathsOfJoin}
-use Rattle.closed_pairs.specs.StronglyClosed.{FourPaths}
+use Rattle.peak_text.specs.closed_pairs.StronglyClosed.{FourPaths}
 use Rattle.path_text.specs.Paths.{paths_in}
 use Rattle.path_text.specs.Ranges.{IsPlacedInRange, AreDefinedInRange}
 use Rattle.peak_text.specs.TwoPaths.{paths_of_two}

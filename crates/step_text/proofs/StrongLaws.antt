@@ -5,7 +5,7 @@ use Rattle.std.specs.Prelude.{map}
 use Rattle.sexp_core.specs.Items.{items_of}
 use Rattle.trs_defs.specs.Path.{PlacedRule}
 use Rattle.trs_defs.specs.System.{System}
-use Rattle.closed_pairs.specs.StronglyClosed.{FourPaths}
+use Rattle.peak_text.specs.closed_pairs.StronglyClosed.{FourPaths}
 use Rattle.cert_step.specs.ProofStep.{ProofStep, strong, IsWellMade}
 use Rattle.text_reading.proofs.Made.{MakesForm, made_form}
 use Rattle.text_reading.proofs.Again.{SpellsParts, spells_deeper}

@@ -2,7 +2,7 @@
 use Rattle.std.specs.Prelude.{List, [], ◌∷◌, map, codes}
 use Rattle.std.specs.List.{AllByRecursion}
 use Rattle.sexp_core.specs.Items.{Item}
-use Rattle.dp_graph.specs.GroupOrSingle.{GroupOrSingle}
+use Rattle.cert_step.specs.dp_graph.GroupOrSingle.{GroupOrSingle}
 use Rattle.cert_step.specs.ProofStep.{ProofStep, graph}
 use Rattle.text_reading.specs.Reading.{Form, form, Parts, rest}
 use Rattle.text_reading.specs.Printed.{word_item, list_item}

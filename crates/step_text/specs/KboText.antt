@@ -1,7 +1,7 @@
 -- `(kbo ke ..)`
 use Rattle.std.specs.Prelude.{List, [], ◌∷◌, map, codes}
 use Rattle.sexp_core.specs.Items.{Item}
-use Rattle.kbo_order.specs.declared.entries.KboEntry.{KboEntry}
+use Rattle.cert_step.specs.kbo_order.declared.entries.KboEntry.{KboEntry}
 use Rattle.names_text.specs.Named.{NamedSystem}
 use Rattle.cert_step.specs.ProofStep.{ProofStep, kbo}
 use Rattle.text_reading.specs.Reading.{Form, form, Parts}

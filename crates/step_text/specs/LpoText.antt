@@ -2,7 +2,7 @@
 use Rattle.std.specs.Prelude.{List, [], ◌∷◌, map, codes}
 use Rattle.std.specs.List.{AllByRecursion}
 use Rattle.sexp_core.specs.Items.{Item}
-use Rattle.path_lpo.specs.Table.{PathEntry}
+use Rattle.cert_step.specs.path_lpo.Table.{PathEntry}
 use Rattle.names_text.specs.Named.{NamedSystem}
 use Rattle.cert_step.specs.ProofStep.{ProofStep, lpo}
 use Rattle.text_reading.specs.Reading.{Form, form, Parts}

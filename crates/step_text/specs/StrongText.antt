@@ -3,7 +3,7 @@ use Rattle.std.specs.Prelude.{List, ◌∷◌, map, codes}
 use Rattle.std.specs.List.{AllByRecursion}
 use Rattle.sexp_core.specs.Items.{Item}
 use Rattle.trs_defs.specs.Path.{PlacedRule}
-use Rattle.closed_pairs.specs.StronglyClosed.{FourPaths}
+use Rattle.peak_text.specs.closed_pairs.StronglyClosed.{FourPaths}
 use Rattle.cert_step.specs.ProofStep.{ProofStep, strong}
 use Rattle.text_reading.specs.Reading.{Form, form, Parts}
 use Rattle.text_reading.specs.Printed.{word_item, list_item}

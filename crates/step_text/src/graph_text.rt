@@ -1,15 +1,14 @@
 ghost use Rattle.std.specs.Prelude.{◌≡◌, ◌++◌, Ok, map, OnOk, IfOk};
 ghost use Rattle.sexp_core.specs.Items.{views};
 ghost use Rattle.sexp_core.specs.Printed.{text_of};
-ghost use Rattle.dp_graph.specs.GroupOrSingle.{item_of};
+ghost use Rattle.cert_step.specs.dp_graph.GroupOrSingle.{item_of};
 ghost use Rattle.cert_step.specs.ProofStep.{step_of};
 ghost use Rattle.text_reading.specs.Reading.{◌<*>◌, many};
 ghost use Rattle.text_reading.specs.Seen.{seen};
 ghost use Rattle.pair_text.specs.GraphItems.{graph_item};
 ghost use Rattle.step_text.specs.GraphText.{graph_step, graph_step_item, graph_text};
 
-use cert_step::Step;
-use dp_graph::GraphItem;
+use cert_step::{GraphItem, Step};
 use pair_text::{put_graph_items, read_graph_items};
 use sexp_core::Sexp;
 use std::alloc::Global;

@@ -7,8 +7,7 @@ ghost use Rattle.text_reading.specs.Seen.{seen};
 ghost use Rattle.pair_text.specs.KnuthEntries.{kbo_entries};
 ghost use Rattle.step_text.specs.KboText.{kbo_step, kbo_item};
 
-use cert_step::{AnyOrder, Step};
-use kbo_order::Kbo;
+use cert_step::{AnyOrder, Kbo, Step};
 use names_text::NamedTrs;
 use pair_text::{put_kbo_entries, read_knuth_order};
 use sexp_core::Sexp;

@@ -7,10 +7,9 @@ ghost use Rattle.text_reading.specs.Seen.{seen};
 ghost use Rattle.pair_text.specs.PathEntries.{path_entries};
 ghost use Rattle.step_text.specs.LpoText.{lpo_step, lpo_item, lpo_text};
 
-use cert_step::{AnyOrder, Step};
+use cert_step::{AnyOrder, Lpo, Step};
 use names_text::NamedTrs;
 use pair_text::{put_path_entries, read_path_order};
-use path_lpo::Lpo;
 use sexp_core::Sexp;
 use std::alloc::Global;
 use text_reading::{Read, put};

@@ -6,7 +6,7 @@ ghost use Rattle.peak_text.specs.FourPaths.{paths_of_four};
 ghost use Rattle.step_text.specs.Steps.{paths_of_method};
 
 use cert_step::Step;
-use closed_pairs::Four;
+use peak_text::Four;
 use rewrite_core::{Join, PathStep};
 use trs_core::OutOfMemory;
 

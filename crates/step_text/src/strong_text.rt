@@ -11,9 +11,8 @@ ghost use Rattle.step_text.specs.Steps.{paths_of_method};
 ghost use Rattle.step_text.specs.StrongText.{strong_step, strong_item, strong_text};
 
 use cert_step::Step;
-use closed_pairs::Four;
 use path_text::{PathNames, Shared};
-use peak_text::{put_fours, read_fours};
+use peak_text::{Four, put_fours, read_fours};
 use sexp_core::Sexp;
 use std::alloc::Global;
 use text_reading::{Read, put};

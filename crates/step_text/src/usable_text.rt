@@ -7,10 +7,9 @@ ghost use Rattle.text_reading.specs.Seen.{seen};
 ghost use Rattle.pair_text.specs.LinearEntries.{linear_entries};
 ghost use Rattle.step_text.specs.UsableText.{usable_step, usable_item};
 
-use cert_step::Step;
+use cert_step::{LinTable, Step};
 use names_text::NamedTrs;
 use pair_text::{put_linear_entries, read_linear_table};
-use poly_lin::LinTable;
 use sexp_core::Sexp;
 use std::alloc::Global;
 use text_reading::{Read, put};

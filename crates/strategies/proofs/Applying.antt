@@ -4,12 +4,12 @@ use Rattle.std.proofs.Common.{refl, sym, subst, inl, inr}
 use Rattle.trs_defs.specs.System.{System}
 use Rattle.pair_theory.specs.DependencyPair.{dependency_pairs}
 use Rattle.rewrite_core.specs.Check.{holds, returned, goes_on}
-use Rattle.dp_core.specs.Numbered.{numbers_from}
-use Rattle.dp_core.specs.SubtermConditions.{subterm_conditions}
-use Rattle.dp_core.specs.PairConditions.{pair_conditions}
-use Rattle.usable_rules.specs.UsableConditions.{usable_conditions}
-use Rattle.path_lpo.specs.Table.{PathEntry}
-use Rattle.kbo_order.specs.declared.entries.KboEntry.{KboEntry}
+use Rattle.cert_step.specs.dp_core.Numbered.{numbers_from}
+use Rattle.cert_step.specs.dp_core.SubtermConditions.{subterm_conditions}
+use Rattle.cert_step.specs.dp_core.PairConditions.{pair_conditions}
+use Rattle.cert_step.specs.usable_rules.UsableConditions.{usable_conditions}
+use Rattle.cert_step.specs.path_lpo.Table.{PathEntry}
+use Rattle.cert_step.specs.kbo_order.declared.entries.KboEntry.{KboEntry}
 use Rattle.cert_step.specs.ProofProblem as problem
 use Rattle.cert_step.specs.ProofProblem.{ProofProblem}
 use Rattle.cert_step.specs.ProofStep as step
@@ -18,8 +18,8 @@ use Rattle.cert_step.specs.PolyKind.{poly_comparing}
 use Rattle.cert_step.specs.LpoKind.{lpo_comparing}
 use Rattle.cert_step.specs.KboKind.{kbo_comparing}
 use Rattle.trs_core.specs.declared.memory.OutOfMemory.{OutOfMemory}
-use Rattle.dp_graph.specs.GroupOrSingle.{GroupOrSingle, groups_of}
-use Rattle.dp_graph.specs.Laws.{ComponentsPass}
+use Rattle.cert_step.specs.dp_graph.GroupOrSingle.{GroupOrSingle, groups_of}
+use Rattle.cert_step.specs.dp_graph.Laws.{ComponentsPass}
 use Rattle.cert_step.specs.ProofStep.{ProofStep, IsWellMade}
 use Rattle.cert_step.specs.GraphKind.{group_problems}
 use Rattle.strategies.specs.declared.strategy.Strategy.{Strategy}

@@ -8,8 +8,8 @@ use Rattle.std.proofs.lemmas.Option.{slice_get_within, slice_get-get_or}
 use Rattle.trs_defs.specs.Member.{In, in_first, in_rest}
 use Rattle.trs_defs.specs.Variable.{is_listed}
 use Rattle.trs_defs.proofs.Members.{get_of_in}
-use Rattle.order_search.specs.Distinct as placed
-use Rattle.order_search.proofs.Repeats.{once_distinct, distinct_of}
+use Rattle.order_find.specs.order_search.Distinct as placed
+use Rattle.order_find.proofs.order_search.Repeats.{once_distinct, distinct_of}
 use Rattle.cert_step.specs.Entries.{AreDistinct}
 
 pub other_test : (g f : ℕ) → (f ≡ g → ⊥) → (g == f) ≡ false

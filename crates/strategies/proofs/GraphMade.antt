@@ -7,8 +7,8 @@ use Rattle.trs_defs.proofs.Members.{no_in}
 use Rattle.trs_defs.specs.Run.{Stay}
 use Rattle.trs_defs.specs.System.{RewriteRule}
 use Rattle.pair_theory.specs.DependencyPair.{DependencyPair}
-use Rattle.dp_graph.specs.GroupOrSingle.{GroupOrSingle, group, single}
-use Rattle.dp_graph.specs.Components.{IsComponent}
+use Rattle.cert_step.specs.dp_graph.GroupOrSingle.{GroupOrSingle, group, single}
+use Rattle.cert_step.specs.dp_graph.Components.{IsComponent}
 use Rattle.cert_step.specs.GraphKind.{IsGraphItem}
 
 module _ (rules : List RewriteRule) (all : List DependencyPair) (numbers : List ℕ) where

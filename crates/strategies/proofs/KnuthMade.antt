@@ -8,20 +8,20 @@ use Rattle.trs_defs.specs.Variable.{is_listed}
 use Rattle.trs_defs.proofs.Members.{in_or, no_in, in_left, in_right, in_of_get, get_of_in, in_map, of_map}
 use Rattle.trs_defs.specs.System.{System, IsSystem}
 use Rattle.pair_theory.specs.ReductionPair.{marked_rule}
-use Rattle.kbo_order.specs.declared.entries.KboEntry.{KboEntry}
-use Rattle.kbo_order.specs.declared.faults.KboFault.{KboFault}
-use Rattle.kbo_order.specs.declared.faults.KboFault.TheVariants.{Twice, ConstantTooLight, TooBig, UnaryNotTop, OutOfMemory}
-use Rattle.kbo_order.specs.Table.{symbol_of}
-use Rattle.kbo_order.specs.Faults.{HasFaultAt, HasTopFaultAt, IsOnTop, IsFaultless}
-use Rattle.order_search.specs.Slots.{Slot, Table, table_of, puzzle_of}
-use Rattle.order_search.proofs.Solutions.{solved}
-use Rattle.order_search.specs.OrderSpace.{above, is_above, arity_with_mark}
-use Rattle.order_search.specs.OrderOver.{search_of}
-use Rattle.order_search.proofs.Covered.{listed_of}
-use Rattle.order_search.proofs.OwnConstraints.{own_and_others, truth_own}
-use Rattle.kbo_find.specs.KboSpace.{weight_by, kbo_family, kbo_values, above_each, above_all, tops_of, kbo_tops}
-use Rattle.kbo_find.specs.KboRow.{entry_by, kbo_entry, kbo_search}
-use Rattle.kbo_find.specs.Laws.{FindsKbo}
+use Rattle.cert_step.specs.kbo_order.declared.entries.KboEntry.{KboEntry}
+use Rattle.cert_step.specs.kbo_order.declared.faults.KboFault.{KboFault}
+use Rattle.cert_step.specs.kbo_order.declared.faults.KboFault.TheVariants.{Twice, ConstantTooLight, TooBig, UnaryNotTop, OutOfMemory}
+use Rattle.cert_step.specs.kbo_order.Table.{symbol_of}
+use Rattle.cert_step.specs.kbo_order.Faults.{HasFaultAt, HasTopFaultAt, IsOnTop, IsFaultless}
+use Rattle.order_find.specs.order_search.Slots.{Slot, Table, table_of, puzzle_of}
+use Rattle.order_find.proofs.order_search.Solutions.{solved}
+use Rattle.order_find.specs.order_search.OrderSpace.{above, is_above, arity_with_mark}
+use Rattle.order_find.specs.order_search.OrderOver.{search_of}
+use Rattle.order_find.proofs.order_search.Covered.{listed_of}
+use Rattle.order_find.proofs.order_search.OwnConstraints.{own_and_others, truth_own}
+use Rattle.order_find.specs.kbo_find.KboSpace.{weight_by, kbo_family, kbo_values, above_each, above_all, tops_of, kbo_tops}
+use Rattle.order_find.specs.kbo_find.KboRow.{entry_by, kbo_entry, kbo_search}
+use Rattle.order_find.specs.kbo_find.Laws.{FindsKbo}
 use Rattle.cert_step.specs.Entries.{AreDistinct, AreKboEntries}
 use Rattle.strategies.proofs.Distinctness.{other_test, names_said, each_said}
 use Rattle.strategies.proofs.SymbolArities.{arity_there, all_distinct}

@@ -6,14 +6,14 @@ use Rattle.trs_defs.specs.Member.{In}
 use Rattle.trs_defs.specs.System.{RewriteRule, System, IsSystem}
 use Rattle.pair_theory.specs.ReductionPair.{marked_rule}
 use Rattle.order_theory.specs.KnuthBendix.{arity_with_marks}
-use Rattle.poly_lin.specs.Table.{symbol_of}
-use Rattle.order_search.specs.Slots.{Table, table_of}
-use Rattle.order_search.specs.OrderSpace.{arity_with_mark}
-use Rattle.order_search.specs.OrderOver.{IsOrderOver}
-use Rattle.poly_find.specs.PolySpace.{values_from}
-use Rattle.poly_find.specs.PolyRow.{poly_entry, poly_search}
-use Rattle.poly_find.specs.Laws.{FindsPoly}
-use Rattle.poly_find.specs.UsableRow.{FindsUsable}
+use Rattle.cert_step.specs.poly_lin.Table.{symbol_of}
+use Rattle.order_find.specs.order_search.Slots.{Table, table_of}
+use Rattle.order_find.specs.order_search.OrderSpace.{arity_with_mark}
+use Rattle.order_find.specs.order_search.OrderOver.{IsOrderOver}
+use Rattle.order_find.specs.poly_find.PolySpace.{values_from}
+use Rattle.order_find.specs.poly_find.PolyRow.{poly_entry, poly_search}
+use Rattle.order_find.specs.poly_find.Laws.{FindsPoly}
+use Rattle.order_find.specs.poly_find.UsableRow.{FindsUsable}
 use Rattle.cert_step.specs.Entries.{AreDistinct, AreLinearEntries}
 use Rattle.strategies.proofs.Distinctness.{names_said, each_said}
 use Rattle.strategies.proofs.SymbolArities.{arity_there, all_distinct, usable_arity_there, usable_distinct}

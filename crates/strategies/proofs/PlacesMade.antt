@@ -3,8 +3,8 @@ use Rattle.std.specs.Prelude.{◌≡◌, ◌<◌, ◌≤◌, ℕ, ◌+◌, List,
 use Rattle.std.specs.List.{AllByRecursion}
 use Rattle.std.proofs.Common.{suc, refl, sym, ap, subst, arith, ◌∙◌}
 use Rattle.trs_defs.specs.System.{System}
-use Rattle.order_search.specs.Slots.{puzzle_of}
-use Rattle.order_search.proofs.Solutions.{solved}
+use Rattle.order_find.specs.order_search.Slots.{puzzle_of}
+use Rattle.order_find.proofs.order_search.Solutions.{solved}
 use Rattle.order_find.specs.SubtermSpace.{arity_in, subterm_search}
 use Rattle.order_find.specs.SubtermRow.{places_of, FindsSubterm}
 use Rattle.order_find.proofs.SubtermPuzzle.{many_slots, slot_domain}

@@ -11,17 +11,17 @@ use Rattle.trs_defs.specs.System.{RewriteRule, System}
 use Rattle.trs_core.specs.Valid.{IsValid}
 use Rattle.pair_theory.specs.DependencyPair.{DependencyPair, dependency_pairs}
 use Rattle.rewrite_core.specs.Check.{Check, holds, returned, never, goes_on}
-use Rattle.dp_core.specs.Numbered.{numbers_from}
-use Rattle.dp_core.specs.PlacedPairs.{placed_pairs, IsPairAt}
-use Rattle.dp_core.specs.SubtermConditions.{subterm_conditions, unflagged}
-use Rattle.dp_core.specs.PairConditions.{Comparing, pair_conditions}
-use Rattle.dp_core.proofs.AllNumbers.{few_pairs}
-use Rattle.dp_core.proofs.PlacedLaws.{pairs_placed, paired_length}
-use Rattle.dp_core.proofs.SubtermLaws.{collected_length}
-use Rattle.dp_graph.specs.GroupOrSingle.{GroupOrSingle, group, single, all_members, groups_of, singles_of}
-use Rattle.dp_graph.specs.GraphConditions.{are_new, none_is_missing}
-use Rattle.dp_graph.proofs.ComponentLaws.{Ascends, no_numbers, number, ascends_of}
-use Rattle.usable_rules.specs.UsableConditions.{usable_conditions}
+use Rattle.cert_step.specs.dp_core.Numbered.{numbers_from}
+use Rattle.cert_step.specs.dp_core.PlacedPairs.{placed_pairs, IsPairAt}
+use Rattle.cert_step.specs.dp_core.SubtermConditions.{subterm_conditions, unflagged}
+use Rattle.cert_step.specs.dp_core.PairConditions.{Comparing, pair_conditions}
+use Rattle.cert_step.proofs.dp_core.AllNumbers.{few_pairs}
+use Rattle.cert_step.proofs.dp_core.PlacedLaws.{pairs_placed, paired_length}
+use Rattle.cert_step.proofs.dp_core.SubtermLaws.{collected_length}
+use Rattle.cert_step.specs.dp_graph.GroupOrSingle.{GroupOrSingle, group, single, all_members, groups_of, singles_of}
+use Rattle.cert_step.specs.dp_graph.GraphConditions.{are_new, none_is_missing}
+use Rattle.cert_step.proofs.dp_graph.ComponentLaws.{Ascends, no_numbers, number, ascends_of}
+use Rattle.cert_step.specs.usable_rules.UsableConditions.{usable_conditions}
 use Rattle.cert_step.specs.ProofProblem as problem
 use Rattle.cert_step.specs.ProofProblem.{ProofProblem, IsWellMadeProblem}
 use Rattle.cert_step.specs.ProofStep as step

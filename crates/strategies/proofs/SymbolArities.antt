@@ -13,15 +13,15 @@ use Rattle.pair_theory.specs.DependencyPair.{DependencyPair, dependency_pairs}
 use Rattle.pair_theory.specs.PairProblem.{IsPair}
 use Rattle.pair_theory.proofs.PairList.{listed_are_pairs}
 use Rattle.order_theory.specs.KnuthBendix.{arity_with_marks}
-use Rattle.dp_core.specs.Numbered.{ArePairsOf}
-use Rattle.dp_core.specs.Symbols.{symbols_of, symbols_of_all, symbols_of_rules, symbols_below_roots}
-use Rattle.dp_core.specs.SubtermConditions.{roots_of}
-use Rattle.order_search.proofs.FewPairs.{taken_in}
-use Rattle.order_search.specs.OrderSpace.{arity_with_mark}
-use Rattle.order_search.specs.OrderRow.{AreSymbols, AreOfOrder}
-use Rattle.order_search.proofs.Repeats.{symbols_distinct}
-use Rattle.poly_find.specs.UsableRow.{AreOfUsable}
-use Rattle.poly_find.proofs.OfUsable.{items_in}
+use Rattle.cert_step.specs.dp_core.Numbered.{ArePairsOf}
+use Rattle.cert_step.specs.dp_core.Symbols.{symbols_of, symbols_of_all, symbols_of_rules, symbols_below_roots}
+use Rattle.cert_step.specs.dp_core.SubtermConditions.{roots_of}
+use Rattle.order_find.proofs.order_search.FewPairs.{taken_in}
+use Rattle.order_find.specs.order_search.OrderSpace.{arity_with_mark}
+use Rattle.order_find.specs.order_search.OrderRow.{AreSymbols, AreOfOrder}
+use Rattle.order_find.proofs.order_search.Repeats.{symbols_distinct}
+use Rattle.order_find.specs.poly_find.UsableRow.{AreOfUsable}
+use Rattle.order_find.proofs.poly_find.OfUsable.{items_in}
 use Rattle.cert_step.specs.Entries.{AreDistinct}
 use Rattle.strategies.proofs.Distinctness.{listed_distinct}
 

@@ -2,8 +2,8 @@
 use Rattle.std.specs.Prelude.{◌≡◌, ◌<◌, ℕ, ◌+◌, Bool, true, false, ◌&&◌, ◌==◌, if◌then◌else◌, List, [], ◌∷◌, length, get_or, Some}
 use Rattle.std.proofs.Common.{suc, refl, subst, arith}
 use Rattle.assign_search.specs.Puzzle.{solution_of}
-use Rattle.order_search.specs.Slots.{Slot, slot, Search, table_from, table_of, puzzle_of}
-use Rattle.order_search.proofs.Solutions.{solved}
+use Rattle.order_find.specs.order_search.Slots.{Slot, slot, Search, table_from, table_of, puzzle_of}
+use Rattle.order_find.proofs.order_search.Solutions.{solved}
 
 -- each value of a slot for this part is small
 abbrev pub AreSmallAt : ℕ → ℕ → List Slot → (ℕ → ℕ) → Type 0

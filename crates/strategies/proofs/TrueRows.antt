@@ -9,15 +9,15 @@ use Rattle.trs_defs.specs.System.{System, IsSystem}
 use Rattle.trs_core.specs.SystemLimits.{IsWithinLimits}
 use Rattle.rewrite_core.specs.Check.{holds, returned, goes_on}
 use Rattle.rewrite_core.specs.PathsOfJoin.{PathsOfJoin}
-use Rattle.closed_pairs.specs.StronglyClosed.{FourPaths}
+use Rattle.cert_step.specs.closed_pairs.StronglyClosed.{FourPaths}
 use Rattle.loop_find.specs.LoopRow.{FindsLoop}
 use Rattle.loop_find.specs.Laws.{FoundLoopsAreLoops}
-use Rattle.join_find.specs.NewmanRow.{FindsNewman}
-use Rattle.join_find.specs.ParallelRow.{FindsParallel}
-use Rattle.join_find.specs.StrongRow.{FindsStrong}
-use Rattle.join_find.specs.Laws.{FoundJoinsJoin, FoundFoursJoin, FoundStepsClose}
-use Rattle.label_find.specs.LabelRow.{FindsLabel}
-use Rattle.label_find.specs.Laws.{FoundLabelsApply}
+use Rattle.conf_find.specs.join_find.NewmanRow.{FindsNewman}
+use Rattle.conf_find.specs.join_find.ParallelRow.{FindsParallel}
+use Rattle.conf_find.specs.join_find.StrongRow.{FindsStrong}
+use Rattle.conf_find.specs.join_find.Laws.{FoundJoinsJoin, FoundFoursJoin, FoundStepsClose}
+use Rattle.conf_find.specs.label_find.LabelRow.{FindsLabel}
+use Rattle.conf_find.specs.label_find.Laws.{FoundLabelsApply}
 use Rattle.conf_find.specs.Fork.{Fork}
 use Rattle.conf_find.specs.ForkRows.{FindsFork, FindsSplit}
 use Rattle.conf_find.specs.Laws.{FoundForksApply, FoundSplitsApply}

@@ -3,10 +3,10 @@ use Rattle.std.specs.Prelude.{◌≢◌, ℕ, List, [], ◌∷◌, Ok, Err}
 use Rattle.trs_defs.specs.System.{System}
 use Rattle.pair_theory.specs.DependencyPair.{dependency_pairs}
 use Rattle.rewrite_core.specs.PlacedPeak.{PlacedPeak}
-use Rattle.crit_pairs.specs.PeakList.{ListsPeaks}
-use Rattle.crit_pairs.specs.declared.faults.PeakFault.{PeakFault}
-use Rattle.dp_graph.specs.GroupOrSingle.{GroupOrSingle, group}
-use Rattle.dp_graph.specs.Components.{AreComponents}
+use Rattle.loop_find.specs.crit_pairs.PeakList.{ListsPeaks}
+use Rattle.loop_find.specs.crit_pairs.declared.faults.PeakFault.{PeakFault}
+use Rattle.cert_step.specs.dp_graph.GroupOrSingle.{GroupOrSingle, group}
+use Rattle.cert_step.specs.dp_graph.Components.{AreComponents}
 
 -- the components of the graph on the problem of these pairs
 abbrev pub AreComponentsOf : System → List ℕ → List GroupOrSingle → Type 0

@@ -2,8 +2,8 @@
 use Rattle.std.specs.Prelude.{◌≡◌, List, Some, Ok, Err}
 use Rattle.trs_defs.specs.System.{System}
 use Rattle.pair_theory.specs.DependencyPair.{DependencyPair, dependency_pairs}
-use Rattle.crit_pairs.specs.PeakList.{ListsPeaks}
-use Rattle.crit_pairs.specs.declared.faults.PeakFault.{PeakFault}
+use Rattle.loop_find.specs.crit_pairs.PeakList.{ListsPeaks}
+use Rattle.loop_find.specs.crit_pairs.declared.faults.PeakFault.{PeakFault}
 use Rattle.strategies.specs.declared.peaks.KnownPeaks.{KnownPeaks}
 use Rattle.strategies.specs.declared.peaks.KnownPeaks.TheVariants.{Listed, PastLimit}
 use Rattle.strategies.specs.declared.tables.Tables.{Tables}

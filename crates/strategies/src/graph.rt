@@ -3,7 +3,7 @@ ghost use Rattle.std.specs.Prelude.{◌≡◌, ◌↔◌, ◌∷◌, [], ℕ, If
 ghost use Rattle.std.specs.List.Sorted.{IsStrictlyIncreasing};
 ghost use Rattle.cert_step.specs.OnPairs.{for_pairs};
 ghost use Rattle.cert_step.specs.ProofProblem.{problem_of, IsWellMadeProblem};
-ghost use Rattle.dp_graph.specs.GroupOrSingle.{item_of, items_of, group};
+ghost use Rattle.cert_step.specs.dp_graph.GroupOrSingle.{item_of, items_of, group};
 ghost use Rattle.strategies.specs.Rows.{AreComponentsOf};
 ghost use Rattle.strategies.specs.Tables.{AreTablesOf};
 ghost use Rattle.strategies.specs.Truth.{AreTrueFindings};
@@ -11,8 +11,7 @@ ghost use Rattle.strategies.specs.Truth.{AreTrueFindings};
 use crate::found::leaving;
 use crate::tables::Tables;
 use crate::{Findings, Strategy};
-use cert_step::{GraphItem, Problem, Step};
-use dp_graph::components_pass;
+use cert_step::{GraphItem, Problem, Step, components_pass};
 use std::alloc::Global;
 use trs_core::{OutOfMemory, Trs};
 

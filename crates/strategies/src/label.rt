@@ -10,7 +10,7 @@ use crate::searched::Searched;
 use crate::{Findings, Strategy};
 use assign_search::{Search, Stop};
 use cert_step::Step;
-use label_find::{find_label, found_labels_apply};
+use conf_find::{find_label, found_labels_apply};
 use std::alloc::Global;
 use trs_core::{OutOfMemory, Trs};
 

@@ -28,6 +28,7 @@ mod subterm;
 mod tables;
 mod usable;
 
+pub use cert_step::{Claim, GraphItem, Join, NodeStep, Problem, Proof, Step};
 pub use outcome::{Findings, Limits, Outcome};
 pub use ran::Ran;
 pub use run::run_strategy;

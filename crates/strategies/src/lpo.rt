@@ -2,10 +2,10 @@
 ghost use Rattle.std.specs.Prelude.{◌≡◌, ◌<◌, ◌≤◌, All, IfOk, IsTrue, length};
 ghost use Rattle.std.specs.List.Sorted.{IsStrictlyIncreasing};
 ghost use Rattle.pair_theory.specs.DependencyPair.{dependency_pairs};
-ghost use Rattle.lpo_find.specs.Laws.{FindsLpo};
-ghost use Rattle.lpo_find.specs.LpoRow.{lpo_search};
-ghost use Rattle.order_search.specs.OrderRow.{FailsOrder};
-ghost use Rattle.order_search.specs.Outcome.{IsFinding, IsNotThere, IsSpent};
+ghost use Rattle.order_find.specs.lpo_find.Laws.{FindsLpo};
+ghost use Rattle.order_find.specs.lpo_find.LpoRow.{lpo_search};
+ghost use Rattle.order_find.specs.order_search.OrderRow.{FailsOrder};
+ghost use Rattle.order_find.specs.order_search.Outcome.{IsFinding, IsNotThere, IsSpent};
 ghost use Rattle.cert_step.specs.OnPairs.{for_pairs};
 ghost use Rattle.cert_step.specs.ProofProblem.{problem_of, IsWellMadeProblem};
 ghost use Rattle.strategies.specs.Endings.{IsAnswer};
@@ -16,9 +16,8 @@ use crate::searched::Searched;
 use crate::tables::Tables;
 use crate::{Findings, Strategy};
 use assign_search::{Search, Stop};
-use cert_step::{AnyOrder, Problem, Step};
-use lpo_find::{find_lpo_in, found_path_orders_apply};
-use path_lpo::Lpo;
+use cert_step::{AnyOrder, Lpo, Problem, Step};
+use order_find::{find_lpo_in, found_path_orders_apply};
 use std::alloc::Global;
 use trs_core::{OutOfMemory, Trs};
 

@@ -9,7 +9,7 @@ use crate::searched::Searched;
 use crate::{Findings, Strategy};
 use assign_search::{Search, Stop};
 use cert_step::{Problem, Step};
-use join_find::{find_newman, found_joins_join};
+use conf_find::{find_newman, found_joins_join};
 use std::alloc::Global;
 use trs_core::{OutOfMemory, Trs};
 

@@ -10,7 +10,7 @@ use crate::searched::Searched;
 use crate::{Findings, Strategy};
 use assign_search::{Search, Stop};
 use cert_step::Step;
-use join_find::{find_parallel, found_steps_close};
+use conf_find::{find_parallel, found_steps_close};
 use std::alloc::Global;
 use trs_core::{OutOfMemory, Trs};
 

@@ -1,7 +1,7 @@
 ghost use Rattle.std.specs.Prelude.{IfOk};
 ghost use Rattle.strategies.specs.Tables.{AreKnownPeaks};
 
-use crit_pairs::{PeakFault, critical_pairs};
+use loop_find::{PeakFault, critical_pairs};
 use rewrite_core::Peak;
 use std::alloc::Global;
 use trs_core::{OutOfMemory, Trs};

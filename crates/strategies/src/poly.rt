@@ -2,11 +2,11 @@
 ghost use Rattle.std.specs.Prelude.{◌≡◌, ◌<◌, ◌≤◌, All, IfOk, IsTrue, length};
 ghost use Rattle.std.specs.List.Sorted.{IsStrictlyIncreasing};
 ghost use Rattle.pair_theory.specs.DependencyPair.{dependency_pairs};
-ghost use Rattle.poly_find.specs.Laws.{FindsPoly};
-ghost use Rattle.poly_find.specs.PolyRow.{poly_search};
-ghost use Rattle.order_search.specs.OrderOver.{search_of};
-ghost use Rattle.order_search.specs.OrderRow.{FailsOrder};
-ghost use Rattle.order_search.specs.Outcome.{IsFinding, IsNotThere, IsSpent};
+ghost use Rattle.order_find.specs.poly_find.Laws.{FindsPoly};
+ghost use Rattle.order_find.specs.poly_find.PolyRow.{poly_search};
+ghost use Rattle.order_find.specs.order_search.OrderOver.{search_of};
+ghost use Rattle.order_find.specs.order_search.OrderRow.{FailsOrder};
+ghost use Rattle.order_find.specs.order_search.Outcome.{IsFinding, IsNotThere, IsSpent};
 ghost use Rattle.cert_step.specs.OnPairs.{for_pairs};
 ghost use Rattle.cert_step.specs.ProofProblem.{problem_of, IsWellMadeProblem};
 ghost use Rattle.strategies.specs.Endings.{IsAnswer};
@@ -17,9 +17,8 @@ use crate::searched::Searched;
 use crate::tables::Tables;
 use crate::{Findings, Strategy};
 use assign_search::{Search, Stop};
-use cert_step::{AnyOrder, Problem, Step};
-use poly_find::{find_poly_in, found_interpretations_apply};
-use poly_lin::LinTable;
+use cert_step::{AnyOrder, LinTable, Problem, Step};
+use order_find::{find_poly_in, found_interpretations_apply};
 use std::alloc::Global;
 use trs_core::{OutOfMemory, Trs};
 

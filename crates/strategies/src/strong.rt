@@ -10,7 +10,7 @@ use crate::searched::Searched;
 use crate::{Findings, Strategy};
 use assign_search::{Search, Stop};
 use cert_step::Step;
-use join_find::{find_strong, found_fours_join};
+use conf_find::{find_strong, found_fours_join};
 use std::alloc::Global;
 use trs_core::{OutOfMemory, Trs};
 

@@ -3,9 +3,7 @@ ghost use Rattle.pair_theory.specs.DependencyPair.{dependency_pairs};
 ghost use Rattle.strategies.specs.Tables.{AreTablesOf, AreKnownPeaks};
 
 use crate::peaks::{KnownPeaks, known_peaks};
-use cert_step::Prepared;
-use dp_core::Pairs;
-use dp_graph::PairGraph;
+use cert_step::{PairGraph, Pairs, Prepared};
 use std::alloc::Global;
 use trs_core::{OutOfMemory, Trs};
 

@@ -2,8 +2,8 @@
 ghost use Rattle.std.specs.Prelude.{◌≡◌, ◌<◌, ◌≤◌, All, IfOk, IsTrue, length};
 ghost use Rattle.std.specs.List.Sorted.{IsStrictlyIncreasing};
 ghost use Rattle.pair_theory.specs.DependencyPair.{dependency_pairs};
-ghost use Rattle.poly_find.specs.UsableRow.{FindsUsable, FailsUsable};
-ghost use Rattle.order_search.specs.Outcome.{IsFinding, IsNotThere, IsSpent};
+ghost use Rattle.order_find.specs.poly_find.UsableRow.{FindsUsable, FailsUsable};
+ghost use Rattle.order_find.specs.order_search.Outcome.{IsFinding, IsNotThere, IsSpent};
 ghost use Rattle.cert_step.specs.OnPairs.{for_pairs};
 ghost use Rattle.cert_step.specs.ProofProblem.{problem_of, IsWellMadeProblem};
 ghost use Rattle.strategies.specs.Endings.{IsAnswer};
@@ -14,11 +14,10 @@ use crate::searched::Searched;
 use crate::tables::Tables;
 use crate::{Findings, Strategy};
 use assign_search::{Search, Stop};
-use cert_step::{Problem, Step};
-use poly_lin::LinTable;
+use cert_step::{LinTable, Problem, Step};
+use order_find::{find_usable_in, found_usable_interpretations_apply};
 use std::alloc::Global;
 use trs_core::{OutOfMemory, Trs};
-use poly_find::{find_usable_in, found_usable_interpretations_apply};
 
 /// A linear interpretation that makes the usable rules weak and removes pairs.
 pub(crate) fn search_usable<'a, P: Stop>(

@@ -3,15 +3,15 @@ use Rattle.std.specs.Prelude.{◌≡◌, ℕ, Bool, true, false, [], refl}
 use Rattle.trs_defs.specs.Tree.{var}
 use Rattle.trs_defs.specs.System.{System}
 use Rattle.trs_core.specs.Valid.{IsValid}
-use Rattle.nonjoin.specs.Apart.{AreApart}
-use Rattle.order_search.specs.OrderOver.{search_of}
-use Rattle.order_search.specs.OrderSpace.{arity_with_mark}
-use Rattle.poly_find.specs.PolyRow.{poly_search, poly_entry}
-use Rattle.lpo_find.specs.LpoRow.{lpo_search, lpo_entry}
-use Rattle.kbo_find.specs.KboRow.{kbo_search, kbo_entry}
-use Rattle.conf_find.specs.ForkRows.{AreDifferentNormalForms}
-use Rattle.cert_step.specs.ProofProblem.{ProofProblem}
-use Rattle.cert_step.specs.ProofStep.{ProofStep}
+use Rattle.strategies.specs.nonjoin.Apart.{AreApart}
+use Rattle.strategies.specs.order_search.OrderOver.{search_of}
+use Rattle.strategies.specs.order_search.OrderSpace.{arity_with_mark}
+use Rattle.strategies.specs.poly_find.PolyRow.{poly_search, poly_entry}
+use Rattle.strategies.specs.lpo_find.LpoRow.{lpo_search, lpo_entry}
+use Rattle.strategies.specs.kbo_find.KboRow.{kbo_search, kbo_entry}
+use Rattle.strategies.specs.conf_find.ForkRows.{AreDifferentNormalForms}
+use Rattle.strategies.specs.cert_step.ProofProblem.{ProofProblem}
+use Rattle.strategies.specs.cert_step.ProofStep.{ProofStep}
 use Rattle.strategies.specs.declared.strategy.Strategy.{Strategy}
 use Rattle.strategies.specs.Conditions.{Finds, dp_is_found, graph_is_found, confluence_is_found, newman_confluence_is_found}
 use Rattle.strategies.specs.Conditions.{subterm_is_found, poly_is_found, lpo_is_found, kbo_is_found, usable_is_found, loop_is_found}

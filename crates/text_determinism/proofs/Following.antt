@@ -2,22 +2,22 @@
 use Rattle.std.proofs.Common.{◌≡◌, inl, inr, ℕ, zero, suc, List, [], ◌∷◌, ◌++◌, map, length, set, Some, refl, sym, ap, ◌∙◌, subst}
 use Rattle.std.proofs.lemmas.List.{length-map, map-append}
 use Rattle.trs_defs.specs.System.{System}
-use Rattle.cert_step.specs.ProofProblem.{ProofProblem}
-use Rattle.cert_step.specs.ProofStep as step
-use Rattle.cert_step.specs.ProofStep.{ProofStep}
-use Rattle.cert_step.specs.Applies.{Applies}
+use Rattle.strategies.specs.cert_step.ProofProblem.{ProofProblem}
+use Rattle.strategies.specs.cert_step.ProofStep as step
+use Rattle.strategies.specs.cert_step.ProofStep.{ProofStep}
+use Rattle.strategies.specs.cert_step.Applies.{Applies}
 use Rattle.strategies.specs.declared.strategy.Strategy.{Strategy}
 use Rattle.strategies.specs.Runs as strategy
 use Rattle.strategies.specs.Runs.{Found}
-use Rattle.tree_definitions.specs.declared.mark.Mark.{Mark}
-use Rattle.tree_definitions.specs.declared.mark.Mark.TheVariants.{Idle}
-use Rattle.tree_definitions.specs.declared.ticket.Ticket.{Ticket}
-use Rattle.tree_definitions.specs.History.{Event, claimed, found, failed, cancelled, aborted}
-use Rattle.tree_definitions.specs.States.{TreeNode, State, Decided, new_node, marked}
-use Rattle.tree_definitions.specs.Verdicts.{IsFirstWinner}
-use Rattle.tree_definitions.specs.Events.{Claims, RunsAt, IsOver, Decides, EndsLate, Follows, with_claim, without, ended, nodes_with}
-use Rattle.tree_definitions.specs.Replies.{event_of_found}
-use Rattle.worker_pool.specs.Serial.{entry_of}
+use Rattle.conclusion.specs.tree_definitions.declared.mark.Mark.{Mark}
+use Rattle.conclusion.specs.tree_definitions.declared.mark.Mark.TheVariants.{Idle}
+use Rattle.conclusion.specs.tree_definitions.declared.ticket.Ticket.{Ticket}
+use Rattle.conclusion.specs.tree_definitions.History.{Event, claimed, found, failed, cancelled, aborted}
+use Rattle.conclusion.specs.tree_definitions.States.{TreeNode, State, Decided, new_node, marked}
+use Rattle.conclusion.specs.tree_definitions.Verdicts.{IsFirstWinner}
+use Rattle.conclusion.specs.tree_definitions.Events.{Claims, RunsAt, IsOver, Decides, EndsLate, Follows, with_claim, without, ended, nodes_with}
+use Rattle.conclusion.specs.tree_definitions.Replies.{event_of_found}
+use Rattle.conclusion.specs.worker_pool.Serial.{entry_of}
 use Rattle.conclusion.proofs.InOrder.{applies_in_order}
 use Rattle.text_determinism.specs.AnswerLaws.{renumbered}
 use Rattle.text_determinism.proofs.Renumbering.{renumbered_decided, renumbered_node, renumbered_nodes, renumbered_state, there_again, done_before, over_again, over_before, first_again, free_again, some_free_before}

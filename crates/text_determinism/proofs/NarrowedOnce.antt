@@ -11,7 +11,7 @@ use Rattle.trs_defs.specs.Path.{PlacedRule}
 use Rattle.trs_defs.proofs.Substitutions.{apply_apply, same_instance}
 use Rattle.trs_defs.proofs.VariableLaws.{or_cases, or_left, or_right}
 use Rattle.confluence_theory.proofs.Apart.{part_variable, renumbered}
-use Rattle.crit_pairs.proofs.InstanceVariables.{replaced_instance}
+use Rattle.loop_find.proofs.crit_pairs.InstanceVariables.{replaced_instance}
 use Rattle.loop_find.specs.Closures.{Closure, IsNarrowing, IsNarrowed}
 use Rattle.text_determinism.proofs.Renamed.{named, not_moved}
 use Rattle.text_determinism.proofs.Bounds.{above, is_below, joined, joined_low, joined_high, number_of, number_back}

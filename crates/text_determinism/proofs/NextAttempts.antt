@@ -6,7 +6,7 @@ use Rattle.trs_defs.specs.Member.{In, in_first, in_rest}
 use Rattle.trs_defs.specs.System.{RewriteRule}
 use Rattle.trs_defs.specs.Path.{PlacedRule}
 use Rattle.trs_defs.proofs.Members.{in_or, in_either, in_left, in_right}
-use Rattle.crit_pairs.specs.PeakList.{symbol_places}
+use Rattle.loop_find.specs.crit_pairs.PeakList.{symbol_places}
 use Rattle.loop_find.specs.Closures.{Closure, rule_closures, Attempt, attempts_at, attempts_of, attempts_in}
 use Rattle.loop_find.specs.Closures.{IsNarrowed, Give, no_attempt, gives, left_out}
 use Rattle.text_determinism.proofs.VariantAttempts.{attempts_joined}

@@ -2,7 +2,7 @@
 use Rattle.std.specs.Prelude.{ℕ}
 use Rattle.trs_defs.specs.System.{System}
 use Rattle.trs_core.specs.Valid.{IsValid}
-use Rattle.cert_step.specs.ProofProblem.{ProofProblem}
+use Rattle.strategies.specs.cert_step.ProofProblem.{ProofProblem}
 use Rattle.strategies.specs.declared.strategy.Strategy.{Strategy}
 use Rattle.strategies.specs.Runs.{Found, found, failed}
 use Rattle.strategies.specs.Truth.{IsTrueFound}

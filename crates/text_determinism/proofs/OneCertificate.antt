@@ -9,16 +9,16 @@ use Rattle.names_text.specs.Named.{NamedSystem}
 use Rattle.names_text.specs.VariableNames.{underscores}
 use Rattle.term_text.specs.PrintedTerm.{term_item}
 use Rattle.path_text.specs.Paths.{position_item, path_item}
-use Rattle.cert_step.specs.declared.claim.Claim.{Claim}
-use Rattle.cert_step.specs.ProofStep as step
-use Rattle.cert_step.specs.ProofStep.{ProofStep, ProofNodeStep}
-use Rattle.step_text.specs.Steps.{method_item, step_item}
-use Rattle.cert_text.specs.Head.{headline_word, head_item}
-use Rattle.cert_text.specs.Headline.{headline_of}
+use Rattle.strategies.specs.cert_step.declared.claim.Claim.{Claim}
+use Rattle.strategies.specs.cert_step.ProofStep as step
+use Rattle.strategies.specs.cert_step.ProofStep.{ProofStep, ProofNodeStep}
+use Rattle.conclusion.specs.step_text.Steps.{method_item, step_item}
+use Rattle.conclusion.specs.cert_text.Head.{headline_word, head_item}
+use Rattle.conclusion.specs.cert_text.Headline.{headline_of}
 use Rattle.conclusion.specs.Concludes.{proof_lines}
-use Rattle.tree_definitions.specs.States.{TreeNode, Decided}
-use Rattle.tree_definitions.specs.Reports.{Walks, ends, stays, goes_on, children_of, steps_from, with_step, decision_at}
-use Rattle.tree_definitions.proofs.Lookups.{one_value}
+use Rattle.conclusion.specs.tree_definitions.States.{TreeNode, Decided}
+use Rattle.conclusion.specs.tree_definitions.Reports.{Walks, ends, stays, goes_on, children_of, steps_from, with_step, decision_at}
+use Rattle.conclusion.proofs.tree_definitions.Lookups.{one_value}
 use Rattle.text_determinism.specs.AnswerLaws.{renumbered}
 use Rattle.text_determinism.proofs.Renumbering.{renumbered_decided, renumbered_decision, renumbered_node, renumbered_nodes, there_again}
 

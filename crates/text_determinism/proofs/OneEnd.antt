@@ -2,19 +2,19 @@
 use Rattle.std.proofs.Common.{◌≡◌, inl, ℕ, ◌+◌, List, [], ◌∷◌, refl, sym, ap, ◌∙◌, subst}
 use Rattle.trs_defs.specs.System.{System}
 use Rattle.trs_core.specs.Valid.{IsValid}
-use Rattle.cert_step.specs.ProofProblem.{ProofProblem}
+use Rattle.strategies.specs.cert_step.ProofProblem.{ProofProblem}
 use Rattle.strategies.specs.declared.strategy.Strategy.{Strategy}
 use Rattle.strategies.specs.Runs.{Found, found, failed}
 use Rattle.strategies.specs.Truth.{IsTrueFound}
-use Rattle.tree_definitions.specs.declared.question.Question.{Question}
-use Rattle.tree_definitions.specs.Questions.{roots, goals_of}
-use Rattle.tree_definitions.specs.History as event
-use Rattle.tree_definitions.specs.History.{HistoryEntry, claimed}
-use Rattle.tree_definitions.specs.States.{TreeNode, State, new_node, roots_from, opening}
-use Rattle.tree_definitions.specs.Verdicts.{HasVerdict}
-use Rattle.tree_definitions.specs.Events.{Claims, Follows, Replays}
-use Rattle.tree_definitions.specs.Replies.{event_of_found}
-use Rattle.worker_pool.specs.Serial.{IsSerialEnd, entry_of}
+use Rattle.conclusion.specs.tree_definitions.declared.question.Question.{Question}
+use Rattle.conclusion.specs.tree_definitions.Questions.{roots, goals_of}
+use Rattle.conclusion.specs.tree_definitions.History as event
+use Rattle.conclusion.specs.tree_definitions.History.{HistoryEntry, claimed}
+use Rattle.conclusion.specs.tree_definitions.States.{TreeNode, State, new_node, roots_from, opening}
+use Rattle.conclusion.specs.tree_definitions.Verdicts.{HasVerdict}
+use Rattle.conclusion.specs.tree_definitions.Events.{Claims, Follows, Replays}
+use Rattle.conclusion.specs.tree_definitions.Replies.{event_of_found}
+use Rattle.conclusion.specs.worker_pool.Serial.{IsSerialEnd, entry_of}
 use Rattle.text_determinism.specs.AnswerLaws.{AreSameAnswers, AnswersAreOne}
 use Rattle.text_determinism.proofs.Renumbering.{renumbered_nodes, renumbered_state, verdict_again, verdict_before}
 use Rattle.text_determinism.proofs.Following.{renumbered_event, claims_again, post_again}

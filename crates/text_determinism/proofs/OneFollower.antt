@@ -3,19 +3,19 @@ use Rattle.std.proofs.Common.{◌≡◌, ◌⊎◌, inl, inr, ℕ, ◌<◌, Bool
 use native.Mathlib.Decide.{dec_lt}
 use mathlib.Core.Logic.{dite}
 use Rattle.trs_defs.specs.System.{System}
-use Rattle.cert_step.specs.ProofProblem.{ProofProblem}
-use Rattle.cert_step.specs.ProofStep.{ProofStep}
-use Rattle.cert_step.proofs.Once.{applies_once}
+use Rattle.strategies.specs.cert_step.ProofProblem.{ProofProblem}
+use Rattle.strategies.specs.cert_step.ProofStep.{ProofStep}
+use Rattle.strategies.proofs.cert_step.Once.{applies_once}
 use Rattle.strategies.specs.declared.strategy.Strategy.{Strategy}
 use Rattle.strategies.specs.Kinds.{strategies_for}
-use Rattle.tree_definitions.specs.declared.mark.Mark.TheVariants.{Idle, Failed}
-use Rattle.tree_definitions.specs.declared.ticket.Ticket.{Ticket}
-use Rattle.tree_definitions.specs.History.{Event, claimed, found, failed}
-use Rattle.tree_definitions.specs.States.{TreeNode, State}
-use Rattle.tree_definitions.specs.Verdicts.{IsFirstWinner}
-use Rattle.tree_definitions.specs.Events.{Claims, RunsAt, IsOver, Decides, Follows, with_claim, without, ended, nodes_with}
-use Rattle.tree_definitions.proofs.Lookups.{one_value}
-use Rattle.worker_pool.specs.Serial.{entry_of}
+use Rattle.conclusion.specs.tree_definitions.declared.mark.Mark.TheVariants.{Idle, Failed}
+use Rattle.conclusion.specs.tree_definitions.declared.ticket.Ticket.{Ticket}
+use Rattle.conclusion.specs.tree_definitions.History.{Event, claimed, found, failed}
+use Rattle.conclusion.specs.tree_definitions.States.{TreeNode, State}
+use Rattle.conclusion.specs.tree_definitions.Verdicts.{IsFirstWinner}
+use Rattle.conclusion.specs.tree_definitions.Events.{Claims, RunsAt, IsOver, Decides, Follows, with_claim, without, ended, nodes_with}
+use Rattle.conclusion.proofs.tree_definitions.Lookups.{one_value}
+use Rattle.conclusion.specs.worker_pool.Serial.{entry_of}
 use Rattle.text_determinism.proofs.Winners.{IsGrown, one_winner}
 
 -- the least of which something holds is just one

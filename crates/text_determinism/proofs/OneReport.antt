@@ -7,18 +7,18 @@ use Rattle.sexp_core.specs.Items.{Item, items_of}
 use Rattle.sexp_core.specs.Printed.{lines}
 use Rattle.text_reading.specs.Printed.{word_item, list_item}
 use Rattle.names_text.specs.Named.{NamedSystem}
-use Rattle.cert_step.specs.ProofProblem.{ProofProblem}
+use Rattle.strategies.specs.cert_step.ProofProblem.{ProofProblem}
 use Rattle.strategies.specs.declared.strategy.Strategy.{Strategy}
 use Rattle.strategies.specs.Kinds.{strategies_for}
 use Rattle.strategies.specs.Runs.{failed}
-use Rattle.report_text.specs.GoalLines.{goal_words, stuck_item, failed_item, goal_item, goal_items}
+use Rattle.conclusion.specs.report_text.GoalLines.{goal_words, stuck_item, failed_item, goal_item, goal_items}
 use Rattle.conclusion.specs.Concludes.{maybe_text}
-use Rattle.tree_definitions.specs.declared.question.Question.{Question}
-use Rattle.tree_definitions.specs.Questions.{roots}
-use Rattle.tree_definitions.specs.States.{TreeNode}
-use Rattle.tree_definitions.specs.Verdicts.{IsStuck}
-use Rattle.tree_definitions.specs.Reports.{Part, AllFail, IsTruePart, IsTrueReport, IsStuckAt, IsPartOf, ArePartsOf}
-use Rattle.tree_definitions.proofs.Lookups.{one_value, get_below}
+use Rattle.conclusion.specs.tree_definitions.declared.question.Question.{Question}
+use Rattle.conclusion.specs.tree_definitions.Questions.{roots}
+use Rattle.conclusion.specs.tree_definitions.States.{TreeNode}
+use Rattle.conclusion.specs.tree_definitions.Verdicts.{IsStuck}
+use Rattle.conclusion.specs.tree_definitions.Reports.{Part, AllFail, IsTruePart, IsTrueReport, IsStuckAt, IsPartOf, ArePartsOf}
+use Rattle.conclusion.proofs.tree_definitions.Lookups.{one_value, get_below}
 use Rattle.text_determinism.specs.AnswerLaws.{AnswersAreOne}
 use Rattle.text_determinism.proofs.Renumbering.{renumbered_node, renumbered_nodes, there_again, there_before, stuck_again, stuck_before}
 use Rattle.text_determinism.proofs.OneFollower.{one_least}

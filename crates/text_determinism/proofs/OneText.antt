@@ -1,11 +1,11 @@
 -- One worker finds one text, and one line of a sample system.
 use Rattle.std.proofs.Common.{◌≡◌, ℕ, [], ◌∷◌, Some, slice_get, refl, sym, ap, ◌∙◌, subst}
-use Rattle.cert_step.specs.declared.claim.Claim.{Claim}
-use Rattle.tree_definitions.specs.declared.question.Question.TheVariants.{Termination}
-use Rattle.tree_definitions.specs.Questions.{claims}
-use Rattle.tree_definitions.specs.States.{State}
-use Rattle.tree_definitions.specs.Reports.{Walks}
-use Rattle.tree_definitions.proofs.Lookups.{one_value}
+use Rattle.strategies.specs.cert_step.declared.claim.Claim.{Claim}
+use Rattle.conclusion.specs.tree_definitions.declared.question.Question.TheVariants.{Termination}
+use Rattle.conclusion.specs.tree_definitions.Questions.{claims}
+use Rattle.conclusion.specs.tree_definitions.States.{State}
+use Rattle.conclusion.specs.tree_definitions.Reports.{Walks}
+use Rattle.conclusion.proofs.tree_definitions.Lookups.{one_value}
 use Rattle.conclusion.specs.Concludes.{proof_lines}
 use Rattle.conclusion.specs.SerialText.{won, lost}
 use Rattle.sampling.specs.Family.{sample}

@@ -3,13 +3,13 @@ use Rattle.std.specs.Prelude.{◌≡◌, ℕ, ◌+◌, List, ◌++◌, map}
 use Rattle.std.proofs.Common.{ap₂, sym, ◌∙◌, subst}
 use Rattle.trs_defs.specs.System.{System}
 use Rattle.pair_theory.specs.DependencyPair.{DependencyPair, dependency_pairs}
-use Rattle.dp_core.specs.SubtermConditions.{roots_of}
-use Rattle.dp_core.specs.Symbols.{symbols_of_rules}
+use Rattle.sampling.specs.dp_core.SubtermConditions.{roots_of}
+use Rattle.sampling.specs.dp_core.Symbols.{symbols_of_rules}
 use Rattle.assign_search.specs.Puzzle.{Puzzle}
-use Rattle.order_search.specs.Slots.{Table, Search, table_of, puzzle_of}
-use Rattle.order_search.specs.Outcome.{IsNotThere, IsSpent}
-use Rattle.order_search.specs.OrderSpace.{OrderConstraint}
-use Rattle.order_search.specs.OrderRow.{AreSymbols, AreOfOrder, FindsOrder, FailsOrder}
+use Rattle.strategies.specs.order_search.Slots.{Table, Search, table_of, puzzle_of}
+use Rattle.strategies.specs.order_search.Outcome.{IsNotThere, IsSpent}
+use Rattle.strategies.specs.order_search.OrderSpace.{OrderConstraint}
+use Rattle.strategies.specs.order_search.OrderRow.{AreSymbols, AreOfOrder, FindsOrder, FailsOrder}
 use Rattle.text_determinism.specs.LoopLaws.{Exclude}
 use Rattle.text_determinism.proofs.Items.{items_once, ascending_once}
 use Rattle.text_determinism.proofs.Searches.{Found, Failed, found_once, answers_exclude, exclude_by}

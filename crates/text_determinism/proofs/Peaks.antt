@@ -5,11 +5,11 @@ use Rattle.trs_defs.specs.System.{RewriteRule, System, IsSystem}
 use Rattle.rewrite_core.specs.declared.refusals.StepRefused.{StepRefused}
 use Rattle.rewrite_core.specs.declared.refusals.StepRefused.TheVariants.{PeaksTooLarge, PeaksTooMany}
 use Rattle.rewrite_core.specs.PlacedPeak.{PlacedPeak}
-use Rattle.crit_pairs.specs.PeakList.{Spot, Lists, no_overlap, fault_later, too_large, too_many, ListsPeaks}
-use Rattle.crit_pairs.specs.PeaksCheck as check
-use Rattle.crit_pairs.specs.declared.faults.PeakFault.{PeakFault}
-use Rattle.crit_pairs.specs.declared.faults.PeakFault.TheVariants as peak
-use Rattle.crit_pairs.proofs.ListedOnce.{listed_once}
+use Rattle.loop_find.specs.crit_pairs.PeakList.{Spot, Lists, no_overlap, fault_later, too_large, too_many, ListsPeaks}
+use Rattle.loop_find.specs.crit_pairs.PeaksCheck as check
+use Rattle.loop_find.specs.crit_pairs.declared.faults.PeakFault.{PeakFault}
+use Rattle.loop_find.specs.crit_pairs.declared.faults.PeakFault.TheVariants as peak
+use Rattle.loop_find.proofs.crit_pairs.ListedOnce.{listed_once}
 use Rattle.strategies.specs.Rows.{FindsOnPeaks, FailsOnPeaks, peaks_pass_limit, peaks_fail}
 
 faults : {rules : List RewriteRule} {total : ℕ} {left : List Spot} {fault : PeakFault} → Lists rules total left (Err fault)

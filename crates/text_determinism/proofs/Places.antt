@@ -3,13 +3,13 @@ use Rattle.std.specs.Prelude.{◌≡◌, ℕ, List}
 use Rattle.std.proofs.Common.{ap₂, subst}
 use Rattle.trs_defs.specs.System.{System}
 use Rattle.pair_theory.specs.DependencyPair.{DependencyPair, dependency_pairs}
-use Rattle.dp_core.specs.SubtermConditions.{roots_of}
+use Rattle.sampling.specs.dp_core.SubtermConditions.{roots_of}
 use Rattle.assign_search.specs.Puzzle.{Puzzle}
-use Rattle.order_search.specs.Slots.{puzzle_of}
-use Rattle.order_search.specs.Ascending.{AreAscending}
-use Rattle.order_search.specs.Outcome.{IsNotThere, IsSpent}
-use Rattle.order_find.specs.SubtermSpace.{subterm_search}
-use Rattle.order_find.specs.SubtermRow.{AreOfProblem, places_of, FindsSubterm, FailsSubterm}
+use Rattle.strategies.specs.order_search.Slots.{puzzle_of}
+use Rattle.strategies.specs.order_search.Ascending.{AreAscending}
+use Rattle.strategies.specs.order_search.Outcome.{IsNotThere, IsSpent}
+use Rattle.strategies.specs.order_find.SubtermSpace.{subterm_search}
+use Rattle.strategies.specs.order_find.SubtermRow.{AreOfProblem, places_of, FindsSubterm, FailsSubterm}
 use Rattle.text_determinism.specs.LoopLaws.{Exclude}
 use Rattle.text_determinism.proofs.Items.{items_once, ascending_once}
 use Rattle.text_determinism.proofs.Searches.{Found, Failed, found_once, answers_exclude, exclude_by}

@@ -1,10 +1,10 @@
 -- A tree whose steps are renumbered: what is closed, stuck, won, lost, over and free is as before.
 use Rattle.std.proofs.Common.{◌≡◌, inl, inr, ℕ, List, map, Option, Some, None, slice_get, refl, sym, ap, ◌∙◌, subst}
 use Rattle.std.specs.Option.{option_map}
-use Rattle.tree_definitions.specs.States.{TreeNode, State, Decided, IsChild}
-use Rattle.tree_definitions.specs.Verdicts.{IsClosed, closed, IsStuck, IsLost, HasVerdict, IsDone, IsFirstWinner}
-use Rattle.tree_definitions.specs.Events.{IsFree, IsOver, decided, lost, done}
-use Rattle.tree_definitions.proofs.Lookups.{map_there, map_cases}
+use Rattle.conclusion.specs.tree_definitions.States.{TreeNode, State, Decided, IsChild}
+use Rattle.conclusion.specs.tree_definitions.Verdicts.{IsClosed, closed, IsStuck, IsLost, HasVerdict, IsDone, IsFirstWinner}
+use Rattle.conclusion.specs.tree_definitions.Events.{IsFree, IsOver, decided, lost, done}
+use Rattle.conclusion.proofs.tree_definitions.Lookups.{map_there, map_cases}
 use Rattle.text_determinism.specs.AnswerLaws.{renumbered}
 
 abbrev pub renumbered_decided : Decided → Decided

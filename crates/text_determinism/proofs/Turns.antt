@@ -1,13 +1,13 @@
 -- A serial history, turn by turn from its begin.
 use Rattle.std.proofs.Common.{ℕ, List, [], ◌∷◌, ◌++◌}
 use Rattle.trs_defs.specs.System.{System}
-use Rattle.cert_step.specs.ProofProblem.{ProofProblem}
+use Rattle.strategies.specs.cert_step.ProofProblem.{ProofProblem}
 use Rattle.strategies.specs.declared.strategy.Strategy.{Strategy}
 use Rattle.strategies.specs.Runs.{Found}
 use Rattle.strategies.specs.Truth.{IsTrueFound}
-use Rattle.tree_definitions.specs.History.{HistoryEntry, claimed}
-use Rattle.tree_definitions.specs.Replies.{event_of_found}
-use Rattle.worker_pool.specs.Serial.{IsSerial, nothing, one_more, entry_of}
+use Rattle.conclusion.specs.tree_definitions.History.{HistoryEntry, claimed}
+use Rattle.conclusion.specs.tree_definitions.Replies.{event_of_found}
+use Rattle.conclusion.specs.worker_pool.Serial.{IsSerial, nothing, one_more, entry_of}
 
 -- claims, each with the post of what the strategy answers behind it
 pub data AreTurns (system : System) (budget : ℕ) : List HistoryEntry → Type 0 where

@@ -4,17 +4,17 @@ use Rattle.std.proofs.Common.{ap, ap₂, ◌∙◌, subst}
 use Rattle.trs_defs.specs.System.{RewriteRule, System}
 use Rattle.pair_theory.specs.DependencyPair.{DependencyPair, dependency_pairs}
 use Rattle.rewrite_core.specs.declared.refusals.StepRefused.{StepRefused}
-use Rattle.dp_core.specs.Numbered.{AreItemsOf}
-use Rattle.dp_core.specs.Symbols.{symbols_of_rules, symbols_below_roots}
-use Rattle.usable_rules.specs.AreUsable.{AreUsableRules}
-use Rattle.usable_rules.specs.UsableConditions.{usable_taken}
-use Rattle.usable_rules.proofs.Chosen.{takes_usable_once}
+use Rattle.sampling.specs.dp_core.Numbered.{AreItemsOf}
+use Rattle.sampling.specs.dp_core.Symbols.{symbols_of_rules, symbols_below_roots}
+use Rattle.strategies.specs.usable_rules.AreUsable.{AreUsableRules}
+use Rattle.strategies.specs.usable_rules.UsableConditions.{usable_taken}
+use Rattle.strategies.proofs.usable_rules.Chosen.{takes_usable_once}
 use Rattle.assign_search.specs.Puzzle.{Puzzle}
-use Rattle.order_search.specs.Slots.{table_of, puzzle_of}
-use Rattle.order_search.specs.Outcome.{IsNotThere, IsSpent}
-use Rattle.order_search.specs.OrderRow.{AreSymbols}
-use Rattle.poly_find.specs.PolyRow.{poly_entry}
-use Rattle.poly_find.specs.UsableRow.{AreOfUsable, usable_search, FindsUsable, FailsUsable}
+use Rattle.strategies.specs.order_search.Slots.{table_of, puzzle_of}
+use Rattle.strategies.specs.order_search.Outcome.{IsNotThere, IsSpent}
+use Rattle.strategies.specs.order_search.OrderRow.{AreSymbols}
+use Rattle.strategies.specs.poly_find.PolyRow.{poly_entry}
+use Rattle.strategies.specs.poly_find.UsableRow.{AreOfUsable, usable_search, FindsUsable, FailsUsable}
 use Rattle.text_determinism.specs.LoopLaws.{Exclude}
 use Rattle.text_determinism.proofs.Items.{items_once}
 use Rattle.text_determinism.proofs.Orders.{symbols_once}

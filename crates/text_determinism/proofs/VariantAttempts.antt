@@ -4,7 +4,7 @@ use Rattle.std.proofs.Common.{suc, ap, ap₂, sym, ◌∙◌, subst, append_asso
 use Rattle.trs_defs.specs.Tree.{Tree, Trees, var, app, nil, cons}
 use Rattle.trs_defs.specs.Substitution.{apply_all}
 use Rattle.trs_defs.specs.System.{RewriteRule}
-use Rattle.crit_pairs.specs.PeakList.{symbol_places, symbol_places_of_all}
+use Rattle.loop_find.specs.crit_pairs.PeakList.{symbol_places, symbol_places_of_all}
 use Rattle.loop_find.specs.Closures.{Closure, Attempt, attempts_at, attempts_of, attempts_in}
 use Rattle.text_determinism.proofs.Renamed.{named}
 use Rattle.text_determinism.proofs.Variants.{AreVariants, same_variant}

@@ -14,7 +14,7 @@ use Rattle.trs_defs.proofs.Substitutions.{apply_apply, same_instance}
 use Rattle.trs_defs.proofs.VariableLaws.{or_cases, or_left, or_right, has_var_same, has_var_self}
 use Rattle.trs_defs.proofs.Contexts.{replaced_somehow}
 use Rattle.confluence_theory.proofs.Apart.{part_variable}
-use Rattle.crit_pairs.proofs.InstanceVariables.{into_instance, of_instance, replaced_variable}
+use Rattle.loop_find.proofs.crit_pairs.InstanceVariables.{into_instance, of_instance, replaced_variable}
 use Rattle.loop_find.specs.Closures.{Closure, IsNarrowing}
 use Rattle.text_determinism.proofs.Images.{subterm_image, replaced_image}
 use Rattle.text_determinism.proofs.Renamed.{named}

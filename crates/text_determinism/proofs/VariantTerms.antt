@@ -4,8 +4,8 @@ use Rattle.std.proofs.Common.{suc, ap, ap₂, sym, ◌∙◌, subst, arith}
 use native.Mathlib.Decide.{ℕ_discrete}
 use Rattle.trs_defs.specs.Tree.{Tree, Trees, var, app, cons}
 use Rattle.trs_defs.specs.Variable.{variables_of}
-use Rattle.crit_pairs.proofs.Variants.{Paired, paired_variables, paired_symbols, AllPaired, none_paired, one_paired}
-use Rattle.crit_pairs.proofs.Variants.{Swaps, pair, AreRelated, related_variables}
+use Rattle.loop_find.proofs.crit_pairs.Variants.{Paired, paired_variables, paired_symbols, AllPaired, none_paired, one_paired}
+use Rattle.loop_find.proofs.crit_pairs.Variants.{Swaps, pair, AreRelated, related_variables}
 use Rattle.term_text.specs.Renumbered.{number_among, with_numbers, all_with_numbers, in_order}
 use Rattle.text_determinism.proofs.Renamed.{named, unchanged}
 

@@ -3,23 +3,23 @@ use Rattle.std.proofs.Common.{◌≡◌, inl, inr, ℕ, zero, suc, ◌<◌, ◌+
 use native.Mathlib.Decide.{ℕ_discrete}
 use mathlib.Core.Logic.{dite}
 use Rattle.trs_defs.specs.System.{System}
-use Rattle.cert_step.specs.ProofProblem.{ProofProblem}
-use Rattle.cert_step.specs.ProofStep.{ProofStep}
+use Rattle.strategies.specs.cert_step.ProofProblem.{ProofProblem}
+use Rattle.strategies.specs.cert_step.ProofStep.{ProofStep}
 use Rattle.strategies.specs.declared.strategy.Strategy.{Strategy}
-use Rattle.tree_definitions.specs.declared.mark.Mark.{Mark}
-use Rattle.tree_definitions.specs.declared.mark.Mark.TheVariants.{Idle, Running, Failed}
-use Rattle.tree_definitions.specs.declared.question.Question.{Question}
-use Rattle.tree_definitions.specs.declared.ticket.Ticket.{Ticket}
-use Rattle.tree_definitions.specs.Questions.{roots, goals_of}
-use Rattle.tree_definitions.specs.History.{claimed, found, failed}
-use Rattle.tree_definitions.specs.States.{TreeNode, State, Decided, IsChild, new_node, roots_from, opening, marked}
-use Rattle.tree_definitions.specs.Verdicts.{IsClosed, closed, IsWon, IsFirstWinner}
-use Rattle.tree_definitions.specs.Events.{Claims, IsOver, done, Follows, nodes_with, without}
-use Rattle.tree_definitions.proofs.Lookups.{one_value, get_set, length_set, set_cases, set_there, append_left, append_right, append_cases, map_there, map_cases, get_below}
-use Rattle.tree_core.specs.Invariant.{IsOf}
-use Rattle.tree_core.proofs.Won.{closed_decided}
-use Rattle.tree_core.proofs.Marking.{of_same, closed_same, same_later, same_before}
-use Rattle.worker_pool.specs.Serial.{entry_of}
+use Rattle.conclusion.specs.tree_definitions.declared.mark.Mark.{Mark}
+use Rattle.conclusion.specs.tree_definitions.declared.mark.Mark.TheVariants.{Idle, Running, Failed}
+use Rattle.conclusion.specs.tree_definitions.declared.question.Question.{Question}
+use Rattle.conclusion.specs.tree_definitions.declared.ticket.Ticket.{Ticket}
+use Rattle.conclusion.specs.tree_definitions.Questions.{roots, goals_of}
+use Rattle.conclusion.specs.tree_definitions.History.{claimed, found, failed}
+use Rattle.conclusion.specs.tree_definitions.States.{TreeNode, State, Decided, IsChild, new_node, roots_from, opening, marked}
+use Rattle.conclusion.specs.tree_definitions.Verdicts.{IsClosed, closed, IsWon, IsFirstWinner}
+use Rattle.conclusion.specs.tree_definitions.Events.{Claims, IsOver, done, Follows, nodes_with, without}
+use Rattle.conclusion.proofs.tree_definitions.Lookups.{one_value, get_set, length_set, set_cases, set_there, append_left, append_right, append_cases, map_there, map_cases, get_below}
+use Rattle.conclusion.specs.tree_core.Invariant.{IsOf}
+use Rattle.conclusion.proofs.tree_core.Won.{closed_decided}
+use Rattle.conclusion.proofs.tree_core.Marking.{of_same, closed_same, same_later, same_before}
+use Rattle.conclusion.specs.worker_pool.Serial.{entry_of}
 
 -- node g is of goal g, the children of a node are of its goal, and where no goal has won, none is won
 pub record IsGrown (goals : ℕ) (s : State) : Type 0 where

@@ -3,8 +3,8 @@ use Rattle.std.specs.Prelude.{◌≡◌, ℕ}
 use Rattle.trs_defs.specs.System.{System}
 use Rattle.trs_core.specs.Valid.{IsValid}
 use Rattle.term_text.specs.Renumbered.{in_order}
-use Rattle.cert_step.specs.ProofProblem.{ProofProblem}
-use Rattle.cert_step.specs.ProofStep.{ProofStep, loop}
+use Rattle.strategies.specs.cert_step.ProofProblem.{ProofProblem}
+use Rattle.strategies.specs.cert_step.ProofStep.{ProofStep, loop}
 use Rattle.strategies.specs.declared.strategy.Strategy.{Strategy}
 use Rattle.strategies.specs.Runs.{Found, found, failed}
 use Rattle.strategies.specs.Truth.{IsTrueFound}

@@ -2,7 +2,7 @@
 use Rattle.std.specs.Prelude.{◌≡◌, ◌≤◌, ℕ, List}
 use Rattle.names_text.specs.Named.{NamedSystem, IsNamed}
 use Rattle.ari_text.specs.Problem.{SaysSystem}
-use Rattle.tree_definitions.specs.declared.question.Question.{Question}
+use Rattle.conclusion.specs.tree_definitions.declared.question.Question.{Question}
 use Rattle.conclusion.specs.SerialText.{IsSerialText}
 use Rattle.sampling.specs.Line.{IsSampleLine}
 

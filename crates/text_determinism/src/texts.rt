@@ -4,8 +4,8 @@
 ghost use Rattle.text_determinism.specs.TextLaws.{SerialTextsAreOne, ProblemTextsHaveOneText};
 ghost use Rattle.text_determinism.specs.TextLaws.{SampleLinesAreOne};
 
-use ari_text::one_system;
 use crate::answers_are_one;
+use ari_text::one_system;
 
 /// A law, with nothing to run: two texts that one worker finds for a question about a system within
 /// a budget are the same.

@@ -3,21 +3,21 @@ use Rattle.std.proofs.Common.{◌≡◌, ◌<◌, ℕ, zero, suc, ◌+◌, List,
 use Rattle.std.specs.List.{AllByRecursion}
 use Rattle.std.proofs.lemmas.Option.{slice_get_within}
 use Rattle.trs_defs.specs.System.{System}
-use Rattle.cert_step.specs.ProofProblem.{ProofProblem, root_of}
-use Rattle.cert_step.specs.PlainProblem.{plain}
-use Rattle.cert_step.specs.ProofStep.{ProofStep, ProofNodeStep, IsWellMade}
-use Rattle.cert_step.specs.Nodes.{IsAccepted}
-use Rattle.cert_step.specs.declared.claim.Claim.{Claim}
-use Rattle.cert_step.proofs.AnyWay.{applies_plainly}
-use Rattle.tree_definitions.specs.declared.question.Question.{Question}
-use Rattle.tree_definitions.specs.declared.question.Question.TheVariants.{Termination, Confluence, Unique}
-use Rattle.tree_definitions.specs.Questions.{roots, claims, goals_of}
-use Rattle.tree_definitions.specs.States.{TreeNode, Decided}
-use Rattle.tree_definitions.specs.Reports.{Walks, steps_from, with_step, decision_at, IsFoundStep}
+use Rattle.tree_state.specs.cert_step.ProofProblem.{ProofProblem, root_of}
+use Rattle.tree_state.specs.cert_step.PlainProblem.{plain}
+use Rattle.tree_state.specs.cert_step.ProofStep.{ProofStep, ProofNodeStep, IsWellMade}
+use Rattle.tree_state.specs.cert_step.Nodes.{IsAccepted}
+use Rattle.tree_state.specs.cert_step.declared.claim.Claim.{Claim}
+use Rattle.tree_state.proofs.cert_step.AnyWay.{applies_plainly}
+use Rattle.tree_state.specs.tree_definitions.declared.question.Question.{Question}
+use Rattle.tree_state.specs.tree_definitions.declared.question.Question.TheVariants.{Termination, Confluence, Unique}
+use Rattle.tree_state.specs.tree_definitions.Questions.{roots, claims, goals_of}
+use Rattle.tree_state.specs.tree_definitions.States.{TreeNode, Decided}
+use Rattle.tree_state.specs.tree_definitions.Reports.{Walks, steps_from, with_step, decision_at, IsFoundStep}
 use Rattle.tree_state.specs.Ascending.{AreAscending}
 use Rattle.tree_state.specs.Parts.{Parts}
 use Rattle.tree_core.specs.Invariant.{IsTree}
-use Rattle.tree_definitions.proofs.Lookups.{get_below}
+use Rattle.tree_state.proofs.tree_definitions.Lookups.{get_below}
 use Rattle.tree_core.proofs.Walks.{won_accepted}
 
 pub some_same : (a b : ℕ) → Some a ≡ Some b → a ≡ b

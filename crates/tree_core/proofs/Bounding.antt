@@ -4,22 +4,22 @@ use Rattle.std.proofs.Common.{◌≡◌, inl, inr, ℕ, zero, suc, ◌+◌, ◌-
 use Rattle.std.specs.Option.{is_some}
 use Rattle.trs_defs.specs.System.{System}
 use Rattle.trs_core.specs.Valid.{IsValid}
-use Rattle.cert_step.specs.ProofProblem.{ProofProblem}
-use Rattle.cert_step.specs.ProofStep.{ProofStep}
-use Rattle.strategies.specs.declared.strategy.Strategy.{Strategy}
-use Rattle.strategies.specs.Kinds.{strategies_for}
-use Rattle.strategies.specs.TaskBounds.{pairs_in, tasks_below, tasks_of_all}
-use Rattle.strategies.proofs.Shrinking.{few_pairs_in}
-use Rattle.tree_definitions.specs.declared.question.Question.{Question}
-use Rattle.tree_definitions.specs.declared.question.Question.TheVariants.{Termination, Confluence, Unique}
-use Rattle.tree_definitions.specs.declared.mark.Mark.{Mark}
-use Rattle.tree_definitions.specs.declared.mark.Mark.TheVariants.{Idle, Running, Failed}
-use Rattle.tree_definitions.specs.declared.ticket.Ticket.{Ticket}
-use Rattle.tree_definitions.specs.Marks.{is_idle}
-use Rattle.tree_definitions.specs.Questions.{roots}
-use Rattle.tree_definitions.specs.History.{HistoryEntry, Event}
-use Rattle.tree_definitions.specs.States.{TreeNode, State, marked, new_node, roots_from}
-use Rattle.tree_definitions.specs.Events.{nodes_with, without}
+use Rattle.tree_state.specs.cert_step.ProofProblem.{ProofProblem}
+use Rattle.tree_state.specs.cert_step.ProofStep.{ProofStep}
+use Rattle.tree_state.specs.strategies.declared.strategy.Strategy.{Strategy}
+use Rattle.tree_state.specs.strategies.Kinds.{strategies_for}
+use Rattle.tree_state.specs.strategies.TaskBounds.{pairs_in, tasks_below, tasks_of_all}
+use Rattle.tree_state.proofs.strategies.Shrinking.{few_pairs_in}
+use Rattle.tree_state.specs.tree_definitions.declared.question.Question.{Question}
+use Rattle.tree_state.specs.tree_definitions.declared.question.Question.TheVariants.{Termination, Confluence, Unique}
+use Rattle.tree_state.specs.tree_definitions.declared.mark.Mark.{Mark}
+use Rattle.tree_state.specs.tree_definitions.declared.mark.Mark.TheVariants.{Idle, Running, Failed}
+use Rattle.tree_state.specs.tree_definitions.declared.ticket.Ticket.{Ticket}
+use Rattle.tree_state.specs.tree_definitions.Marks.{is_idle}
+use Rattle.tree_state.specs.tree_definitions.Questions.{roots}
+use Rattle.tree_state.specs.tree_definitions.History.{HistoryEntry, Event}
+use Rattle.tree_state.specs.tree_definitions.States.{TreeNode, State, marked, new_node, roots_from}
+use Rattle.tree_state.specs.tree_definitions.Events.{nodes_with, without}
 use Rattle.tree_state.specs.declared.goal.Goal.{Goal}
 use Rattle.tree_state.specs.Parts.{Parts, IsOpening, is_lost_in, is_done_by, is_over_by, has_verdict_by, claimed_parts, ended_parts, failed_parts, aborted_parts, decided_parts, lost_if, all_failed}
 use Rattle.tree_core.specs.Bound.{count_idle, claims_of, claims_of_all, claims_left, IsBounded}

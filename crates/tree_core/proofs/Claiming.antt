@@ -7,31 +7,31 @@ use Rattle.std.proofs.lemmas.Option.{slice_get_within}
 use native.Mathlib.Decide.{dec_le}
 use mathlib.Core.Logic.{dite}
 use Rattle.trs_defs.specs.System.{System}
-use Rattle.cert_step.specs.ProofProblem.{ProofProblem}
-use Rattle.strategies.specs.declared.strategy.Strategy.{Strategy}
-use Rattle.strategies.specs.Kinds.{strategies_for}
-use Rattle.strategies.specs.Conditions.{Fails}
-use Rattle.tree_definitions.specs.declared.question.Question.{Question}
-use Rattle.tree_definitions.specs.declared.mark.Mark.{Mark}
-use Rattle.tree_definitions.specs.declared.mark.Mark.TheVariants.{Idle, Running, Failed}
-use Rattle.tree_definitions.specs.declared.ticket.Ticket.{Ticket}
-use Rattle.tree_definitions.specs.Questions.{goals_of}
-use Rattle.tree_definitions.specs.Marks.{is_idle, has_failed}
-use Rattle.tree_definitions.specs.History.{HistoryEntry, claimed, of_seat, Runs}
-use Rattle.tree_definitions.specs.States.{TreeNode, Decided, HasTask, opening, marked}
-use Rattle.tree_definitions.specs.Verdicts.{IsWon, IsLost, HasFailed, IsDone}
-use Rattle.tree_definitions.specs.Events.{IsFree, with_claim, Follows}
-use Rattle.tree_definitions.specs.Legal.{Names, IsLegal}
+use Rattle.tree_state.specs.cert_step.ProofProblem.{ProofProblem}
+use Rattle.tree_state.specs.strategies.declared.strategy.Strategy.{Strategy}
+use Rattle.tree_state.specs.strategies.Kinds.{strategies_for}
+use Rattle.tree_state.specs.strategies.Conditions.{Fails}
+use Rattle.tree_state.specs.tree_definitions.declared.question.Question.{Question}
+use Rattle.tree_state.specs.tree_definitions.declared.mark.Mark.{Mark}
+use Rattle.tree_state.specs.tree_definitions.declared.mark.Mark.TheVariants.{Idle, Running, Failed}
+use Rattle.tree_state.specs.tree_definitions.declared.ticket.Ticket.{Ticket}
+use Rattle.tree_state.specs.tree_definitions.Questions.{goals_of}
+use Rattle.tree_state.specs.tree_definitions.Marks.{is_idle, has_failed}
+use Rattle.tree_state.specs.tree_definitions.History.{HistoryEntry, claimed, of_seat, Runs}
+use Rattle.tree_state.specs.tree_definitions.States.{TreeNode, Decided, HasTask, opening, marked}
+use Rattle.tree_state.specs.tree_definitions.Verdicts.{IsWon, IsLost, HasFailed, IsDone}
+use Rattle.tree_state.specs.tree_definitions.Events.{IsFree, with_claim, Follows}
+use Rattle.tree_state.specs.tree_definitions.Legal.{Names, IsLegal}
 use Rattle.tree_state.specs.Parts.{Parts, has_verdict_by, free_place, is_lost_in, is_done_by, claimed_parts}
 use Rattle.tree_core.specs.Invariant.{IsRunningAt, IsShaped, IsTree, opens, told}
-use Rattle.tree_definitions.proofs.Lookups.{get_set}
-use Rattle.tree_definitions.proofs.Lookups.{one_value, set_cases, append_left, append_right, more_cases}
+use Rattle.tree_state.proofs.tree_definitions.Lookups.{get_set}
+use Rattle.tree_state.proofs.tree_definitions.Lookups.{one_value, set_cases, append_left, append_right, more_cases}
 use Rattle.tree_core.proofs.Marking.{carries_same, same_later, same_before, before, there_marked, length_later, legal_same, child_same, closed_same, mark_kept, mark_was, shape_marked, problems_marked}
 use Rattle.tree_core.proofs.Endings.{IsFailure, count_more, well_made_ended}
-use Rattle.strategies.specs.TaskBounds.{pairs_in}
+use Rattle.tree_state.specs.strategies.TaskBounds.{pairs_in}
 use Rattle.tree_core.proofs.Counting.{counted_marked}
 use Rattle.tree_core.proofs.Bounding.{bounded_claim}
-use Rattle.tree_definitions.proofs.Lookups.{get_below}
+use Rattle.tree_state.proofs.tree_definitions.Lookups.{get_below}
 use Rattle.tree_core.proofs.Flags.{and_both, no_verdict, is_lost, is_done, not_true, true_false, lost_is, some_not, all_at}
 use Rattle.tree_state.proofs.Idle.{IsOpenAt, open_at, none_free, idle_is, not_idle}
 use Rattle.tree_core.proofs.Told.{told_claim, runs_of_claim}

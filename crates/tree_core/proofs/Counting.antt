@@ -2,13 +2,13 @@
 use Rattle.std.proofs.Common.{◌≡◌, inl, inr, ℕ, ◌<◌, Bool, true, false, ◌||◌, not, List, set, Some, None, slice_get, refl, sym, ◌∙◌, subst, arith}
 use Rattle.std.specs.Option.{is_some}
 use Rattle.tree_state.specs.declared.goal.Goal.{Goal}
-use Rattle.tree_definitions.specs.declared.mark.Mark.{Mark}
-use Rattle.tree_definitions.specs.declared.mark.Mark.TheVariants.{Idle}
-use Rattle.tree_definitions.specs.declared.ticket.Ticket.{Ticket}
-use Rattle.tree_definitions.specs.States.{TreeNode, marked}
-use Rattle.tree_definitions.specs.Verdicts.{HasFailed}
-use Rattle.tree_definitions.specs.Events.{ended}
-use Rattle.tree_definitions.specs.History.{Event, aborted}
+use Rattle.tree_state.specs.tree_definitions.declared.mark.Mark.{Mark}
+use Rattle.tree_state.specs.tree_definitions.declared.mark.Mark.TheVariants.{Idle}
+use Rattle.tree_state.specs.tree_definitions.declared.ticket.Ticket.{Ticket}
+use Rattle.tree_state.specs.tree_definitions.States.{TreeNode, marked}
+use Rattle.tree_state.specs.tree_definitions.Verdicts.{HasFailed}
+use Rattle.tree_state.specs.tree_definitions.Events.{ended}
+use Rattle.tree_state.specs.tree_definitions.History.{Event, aborted}
 use Rattle.tree_state.specs.Parts.{Parts, free_place, is_lost_in, is_done_by, is_over_by, has_verdict_by, ended_parts, aborted_parts}
 use Rattle.tree_core.specs.Invariant.{IsCounted, AreCounted}
 use Rattle.tree_core.proofs.Marking.{length_later, same_later, same_before, before, closed_same, lost_later, lost_before, opens_marked}

@@ -6,21 +6,21 @@ use native.Mathlib.Decide.{ℕ_discrete}
 use mathlib.Core.Logic.{dite}
 use Rattle.trs_defs.specs.System.{System}
 use Rattle.trs_defs.specs.Member.{In}
-use Rattle.cert_step.specs.ProofProblem.{ProofProblem, IsWellMadeProblem}
-use Rattle.cert_step.specs.ProofStep.{ProofStep, IsWellMade}
-use Rattle.cert_step.specs.Applies.{Applies}
-use Rattle.strategies.specs.declared.strategy.Strategy.{Strategy}
-use Rattle.strategies.specs.Kinds.{strategies_for}
-use Rattle.strategies.specs.Conditions.{Finds, Fails}
-use Rattle.tree_definitions.specs.declared.mark.Mark.{Mark}
-use Rattle.tree_definitions.specs.declared.mark.Mark.TheVariants.{Idle, Running, Failed}
-use Rattle.tree_definitions.specs.States.{TreeNode, State, Decided, IsChild, new_node}
-use Rattle.tree_definitions.specs.Verdicts.{IsLost, IsStuck}
-use Rattle.tree_definitions.specs.Legal.{Carries, IsLegallyDecided, IsChildOf, IsLegal}
+use Rattle.tree_state.specs.cert_step.ProofProblem.{ProofProblem, IsWellMadeProblem}
+use Rattle.tree_state.specs.cert_step.ProofStep.{ProofStep, IsWellMade}
+use Rattle.tree_state.specs.cert_step.Applies.{Applies}
+use Rattle.tree_state.specs.strategies.declared.strategy.Strategy.{Strategy}
+use Rattle.tree_state.specs.strategies.Kinds.{strategies_for}
+use Rattle.tree_state.specs.strategies.Conditions.{Finds, Fails}
+use Rattle.tree_state.specs.tree_definitions.declared.mark.Mark.{Mark}
+use Rattle.tree_state.specs.tree_definitions.declared.mark.Mark.TheVariants.{Idle, Running, Failed}
+use Rattle.tree_state.specs.tree_definitions.States.{TreeNode, State, Decided, IsChild, new_node}
+use Rattle.tree_state.specs.tree_definitions.Verdicts.{IsLost, IsStuck}
+use Rattle.tree_state.specs.tree_definitions.Legal.{Carries, IsLegallyDecided, IsChildOf, IsLegal}
 use Rattle.tree_core.specs.Invariant.{IsOf, IsRunningAt, IsShaped, opens}
-use Rattle.tree_definitions.proofs.Lookups.{get_set, length_set}
-use Rattle.tree_definitions.proofs.Lookups.{one_value, set_cases, set_there, append_left, append_right, append_cases, map_there, map_cases}
-use Rattle.tree_definitions.proofs.Lookups.{get_below}
+use Rattle.tree_state.proofs.tree_definitions.Lookups.{get_set, length_set}
+use Rattle.tree_state.proofs.tree_definitions.Lookups.{one_value, set_cases, set_there, append_left, append_right, append_cases, map_there, map_cases}
+use Rattle.tree_state.proofs.tree_definitions.Lookups.{get_below}
 use Rattle.tree_core.proofs.Opening.{idle_marks, some_strategy}
 use Rattle.tree_core.proofs.Won.{is_open_of, open_of, other_of}
 

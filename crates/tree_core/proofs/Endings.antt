@@ -1,18 +1,18 @@
 -- A ticket ends, and its strategy gets another mark: the tree keeps its shape and stays legal.
 use Rattle.std.proofs.Common.{◌≡◌, ◌≢◌, inl, inr, ℕ, zero, suc, ◌≤◌, ◌+◌, Bool, true, false, cond, List, [], ◌∷◌, ◌++◌, length, set, Option, Some, slice_get, refl, sym, ap, ◌∙◌, subst, arith}
 use Rattle.trs_defs.specs.System.{System}
-use Rattle.cert_step.specs.ProofProblem.{ProofProblem, IsWellMadeProblem}
-use Rattle.strategies.specs.declared.strategy.Strategy.{Strategy}
-use Rattle.strategies.specs.Kinds.{strategies_for}
-use Rattle.strategies.specs.Conditions.{Fails}
-use Rattle.tree_definitions.specs.declared.mark.Mark.{Mark}
-use Rattle.tree_definitions.specs.declared.mark.Mark.TheVariants.{Running, Failed}
-use Rattle.tree_definitions.specs.declared.ticket.Ticket.{Ticket}
-use Rattle.tree_definitions.specs.States.{TreeNode, State, marked}
-use Rattle.tree_definitions.specs.Events.{ended, without}
-use Rattle.tree_definitions.specs.Legal.{IsLegal}
+use Rattle.tree_state.specs.cert_step.ProofProblem.{ProofProblem, IsWellMadeProblem}
+use Rattle.tree_state.specs.strategies.declared.strategy.Strategy.{Strategy}
+use Rattle.tree_state.specs.strategies.Kinds.{strategies_for}
+use Rattle.tree_state.specs.strategies.Conditions.{Fails}
+use Rattle.tree_state.specs.tree_definitions.declared.mark.Mark.{Mark}
+use Rattle.tree_state.specs.tree_definitions.declared.mark.Mark.TheVariants.{Running, Failed}
+use Rattle.tree_state.specs.tree_definitions.declared.ticket.Ticket.{Ticket}
+use Rattle.tree_state.specs.tree_definitions.States.{TreeNode, State, marked}
+use Rattle.tree_state.specs.tree_definitions.Events.{ended, without}
+use Rattle.tree_state.specs.tree_definitions.Legal.{IsLegal}
 use Rattle.tree_core.specs.Invariant.{IsShaped, count_running}
-use Rattle.tree_definitions.proofs.Lookups.{one_value, set_cases, set_there}
+use Rattle.tree_state.proofs.tree_definitions.Lookups.{one_value, set_cases, set_there}
 use Rattle.tree_core.proofs.Marking.{same_later, same_before, before, legal_same, child_same, mark_kept, mark_was, shape_marked}
 
 -- what a failure says of its strategy

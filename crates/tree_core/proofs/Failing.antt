@@ -4,16 +4,16 @@ use Rattle.std.specs.Option.{is_some}
 use native.Mathlib.Decide.{ℕ_discrete}
 use mathlib.Core.Logic.{dite}
 use Rattle.tree_state.specs.declared.goal.Goal.{Goal}
-use Rattle.tree_definitions.specs.declared.mark.Mark.{Mark}
-use Rattle.tree_definitions.specs.declared.mark.Mark.TheVariants.{Idle, Running, Failed}
-use Rattle.tree_definitions.specs.declared.ticket.Ticket.{Ticket}
-use Rattle.tree_definitions.specs.Marks.{is_idle, has_failed}
-use Rattle.tree_definitions.specs.States.{TreeNode, Decided, marked}
-use Rattle.tree_definitions.specs.Verdicts.{IsLost, IsStuck, HasFailed}
+use Rattle.tree_state.specs.tree_definitions.declared.mark.Mark.{Mark}
+use Rattle.tree_state.specs.tree_definitions.declared.mark.Mark.TheVariants.{Idle, Running, Failed}
+use Rattle.tree_state.specs.tree_definitions.declared.ticket.Ticket.{Ticket}
+use Rattle.tree_state.specs.tree_definitions.Marks.{is_idle, has_failed}
+use Rattle.tree_state.specs.tree_definitions.States.{TreeNode, Decided, marked}
+use Rattle.tree_state.specs.tree_definitions.Verdicts.{IsLost, IsStuck, HasFailed}
 use Rattle.tree_state.specs.Parts.{Parts, free_place, is_lost_in, is_done_by, is_over_by, all_failed, lost_if, failed_parts}
 use Rattle.tree_core.specs.Invariant.{AreCounted, opens}
-use Rattle.tree_definitions.proofs.Lookups.{get_set, get_set_other, length_set}
-use Rattle.tree_definitions.proofs.Lookups.{one_value, set_cases, set_there}
+use Rattle.tree_state.proofs.tree_definitions.Lookups.{get_set, get_set_other, length_set}
+use Rattle.tree_state.proofs.tree_definitions.Lookups.{one_value, set_cases, set_there}
 use Rattle.tree_core.proofs.Marking.{length_later, same_later, same_before, before, there_marked, closed_same, opens_marked}
 use Rattle.tree_core.proofs.Endings.{count_ended}
 use Rattle.tree_core.proofs.Counting.{shut}

@@ -4,12 +4,12 @@ use Rattle.std.specs.Option.{is_some}
 use Rattle.std.specs.List.{list_all}
 use Rattle.std.proofs.lemmas.Option.{slice_get_within}
 use Rattle.tree_state.specs.declared.goal.Goal.{Goal}
-use Rattle.tree_definitions.specs.States.{TreeNode}
-use Rattle.tree_definitions.specs.Verdicts.{IsLost, AllLost, HasVerdict, IsDone}
-use Rattle.tree_definitions.specs.Events.{IsOver, decided, lost, done}
+use Rattle.tree_state.specs.tree_definitions.States.{TreeNode}
+use Rattle.tree_state.specs.tree_definitions.Verdicts.{IsLost, AllLost, HasVerdict, IsDone}
+use Rattle.tree_state.specs.tree_definitions.Events.{IsOver, decided, lost, done}
 use Rattle.tree_state.specs.Parts.{Parts, lost_at, is_lost_in, all_lost, has_verdict_by, is_done_by, is_over_by}
 use Rattle.tree_core.specs.Invariant.{AreCounted}
-use Rattle.tree_definitions.proofs.Lookups.{get_below}
+use Rattle.tree_state.proofs.tree_definitions.Lookups.{get_below}
 
 pub or_cases : (a b : Bool) → (a || b) ≡ true → (a ≡ true) ⊎ (b ≡ true)
 or_cases true b e = inl refl

@@ -7,22 +7,22 @@ use Rattle.std.proofs.lemmas.List.{length-append, length-map, map-append}
 use Rattle.std.proofs.lemmas.List.Elements.{All-from_recursion}
 use Rattle.std.proofs.lemmas.Option.{slice_get_within}
 use Rattle.trs_defs.specs.System.{System}
-use Rattle.cert_step.specs.ProofProblem.{ProofProblem, problem_of}
-use Rattle.cert_step.specs.ProofStep.{ProofNodeStep, node_step_of, IsWellMade}
-use Rattle.strategies.specs.Kinds.{strategies_for}
-use Rattle.tree_definitions.specs.declared.question.Question.{Question}
-use Rattle.tree_definitions.specs.declared.mark.Mark.{Mark}
-use Rattle.tree_definitions.specs.declared.report.GoalReport.{GoalReport}
-use Rattle.tree_definitions.specs.Marks.{has_failed}
-use Rattle.tree_definitions.specs.Questions.{goals_of}
-use Rattle.tree_definitions.specs.States.{TreeNode, Decided}
-use Rattle.tree_definitions.specs.Verdicts.{IsLost, IsStuck, HasFailed}
-use Rattle.tree_definitions.specs.Reports.{Walks, steps_from, Part, part_of, IsTruePart, ArePartsOf, IsTrueReport}
-use Rattle.tree_definitions.specs.Trees.{ProofTree}
+use Rattle.tree_state.specs.cert_step.ProofProblem.{ProofProblem, problem_of}
+use Rattle.tree_state.specs.cert_step.ProofStep.{ProofNodeStep, node_step_of, IsWellMade}
+use Rattle.tree_state.specs.strategies.Kinds.{strategies_for}
+use Rattle.tree_state.specs.tree_definitions.declared.question.Question.{Question}
+use Rattle.tree_state.specs.tree_definitions.declared.mark.Mark.{Mark}
+use Rattle.tree_state.specs.tree_definitions.declared.report.GoalReport.{GoalReport}
+use Rattle.tree_state.specs.tree_definitions.Marks.{has_failed}
+use Rattle.tree_state.specs.tree_definitions.Questions.{goals_of}
+use Rattle.tree_state.specs.tree_definitions.States.{TreeNode, Decided}
+use Rattle.tree_state.specs.tree_definitions.Verdicts.{IsLost, IsStuck, HasFailed}
+use Rattle.tree_state.specs.tree_definitions.Reports.{Walks, steps_from, Part, part_of, IsTruePart, ArePartsOf, IsTrueReport}
+use Rattle.tree_state.specs.tree_definitions.Trees.{ProofTree}
 use Rattle.tree_state.specs.Parts.{Parts, all_failed}
 use Rattle.tree_state.specs.Stuck.{is_stuck, is_stuck_at, failures}
 use Rattle.tree_state.proofs.Idle.{IsFirstAt, first_position, no_position}
-use Rattle.tree_definitions.proofs.Lookups.{one_value, more_cases}
+use Rattle.tree_state.proofs.tree_definitions.Lookups.{one_value, more_cases}
 use Rattle.tree_core.specs.Invariant.{IsTree}
 use Rattle.tree_core.specs.Reported.{IsReported}
 use Rattle.tree_core.proofs.Flags.{and_both, all_at, all_true}

@@ -1,3 +1,5 @@
+-- what crates above name through this one
+pub use Rattle.tree_state.proofs.tree_definitions
 pub mod Won
 pub mod Flags
 pub mod Told

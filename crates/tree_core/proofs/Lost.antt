@@ -5,26 +5,26 @@ use native.Mathlib.Decide.{dec_le}
 use mathlib.Core.Logic.{dite}
 use Rattle.trs_defs.specs.System.{System}
 use Rattle.trs_defs.specs.Member.{In, in_first, in_rest}
-use Rattle.cert_step.specs.ProofProblem.{ProofProblem}
-use Rattle.cert_step.specs.ProofStep.{ProofStep}
-use Rattle.cert_step.specs.Applies.{Applies}
-use Rattle.cert_step.specs.Nodes as cert
-use Rattle.cert_step.specs.Nodes.{Makes, open_node}
-use Rattle.strategies.specs.declared.strategy.Strategy.{Strategy}
-use Rattle.strategies.specs.Kinds.{strategies_for}
-use Rattle.strategies.specs.Conditions.{Fails}
-use Rattle.tree_definitions.specs.declared.question.Question.{Question}
-use Rattle.tree_definitions.specs.declared.mark.Mark.{Mark}
-use Rattle.tree_definitions.specs.declared.mark.Mark.TheVariants.{Failed}
-use Rattle.tree_definitions.specs.Questions.{roots, goals_of}
-use Rattle.tree_definitions.specs.States.{TreeNode, Decided, IsChild}
-use Rattle.tree_definitions.specs.Legal.{Carries}
-use Rattle.tree_definitions.specs.Verdicts.{IsLost, IsStuck, HasFailed}
+use Rattle.tree_state.specs.cert_step.ProofProblem.{ProofProblem}
+use Rattle.tree_state.specs.cert_step.ProofStep.{ProofStep}
+use Rattle.tree_state.specs.cert_step.Applies.{Applies}
+use Rattle.tree_state.specs.cert_step.Nodes as cert
+use Rattle.tree_state.specs.cert_step.Nodes.{Makes, open_node}
+use Rattle.tree_state.specs.strategies.declared.strategy.Strategy.{Strategy}
+use Rattle.tree_state.specs.strategies.Kinds.{strategies_for}
+use Rattle.tree_state.specs.strategies.Conditions.{Fails}
+use Rattle.tree_state.specs.tree_definitions.declared.question.Question.{Question}
+use Rattle.tree_state.specs.tree_definitions.declared.mark.Mark.{Mark}
+use Rattle.tree_state.specs.tree_definitions.declared.mark.Mark.TheVariants.{Failed}
+use Rattle.tree_state.specs.tree_definitions.Questions.{roots, goals_of}
+use Rattle.tree_state.specs.tree_definitions.States.{TreeNode, Decided, IsChild}
+use Rattle.tree_state.specs.tree_definitions.Legal.{Carries}
+use Rattle.tree_state.specs.tree_definitions.Verdicts.{IsLost, IsStuck, HasFailed}
 use Rattle.tree_state.specs.Parts.{Parts}
 use Rattle.tree_state.specs.Stuck.{is_spent, failures}
 use Rattle.tree_core.specs.Invariant.{IsTree}
-use Rattle.tree_definitions.specs.Reports.{Walks, ends, stays, goes_on, steps_from, decision_at, numbers, children_of, AllFail, IsTruePart}
-use Rattle.tree_definitions.proofs.Lookups.{one_value, map_there}
+use Rattle.tree_state.specs.tree_definitions.Reports.{Walks, ends, stays, goes_on, steps_from, decision_at, numbers, children_of, AllFail, IsTruePart}
+use Rattle.tree_state.proofs.tree_definitions.Lookups.{one_value, map_there}
 use Rattle.tree_core.proofs.Walks.{walk_makes, walked, waits, problem_in}
 
 in_left : {A : Type 0} (x : A) (xs ys : List A) → In x xs → In x (xs ++ ys)

@@ -3,17 +3,17 @@ use Rattle.std.proofs.Common.{◌≡◌, ◌≢◌, ◌⊎◌, inl, inr, ℕ, ze
 use native.Mathlib.Decide.{ℕ_discrete}
 use mathlib.Core.Logic.{dite}
 use Rattle.trs_defs.specs.System.{System}
-use Rattle.cert_step.specs.ProofProblem.{ProofProblem}
-use Rattle.strategies.specs.Kinds.{strategies_for}
-use Rattle.tree_definitions.specs.declared.mark.Mark.{Mark}
-use Rattle.tree_definitions.specs.declared.mark.Mark.TheVariants.{Idle, Running}
-use Rattle.tree_definitions.specs.declared.ticket.Ticket.{Ticket}
-use Rattle.tree_definitions.specs.States.{TreeNode, State, Decided, marked}
-use Rattle.tree_definitions.specs.Verdicts.{IsClosed, closed, IsLost, IsStuck, HasFailed}
-use Rattle.tree_definitions.specs.Legal.{Carries, IsLegallyDecided, IsChildOf}
+use Rattle.tree_state.specs.cert_step.ProofProblem.{ProofProblem}
+use Rattle.tree_state.specs.strategies.Kinds.{strategies_for}
+use Rattle.tree_state.specs.tree_definitions.declared.mark.Mark.{Mark}
+use Rattle.tree_state.specs.tree_definitions.declared.mark.Mark.TheVariants.{Idle, Running}
+use Rattle.tree_state.specs.tree_definitions.declared.ticket.Ticket.{Ticket}
+use Rattle.tree_state.specs.tree_definitions.States.{TreeNode, State, Decided, marked}
+use Rattle.tree_state.specs.tree_definitions.Verdicts.{IsClosed, closed, IsLost, IsStuck, HasFailed}
+use Rattle.tree_state.specs.tree_definitions.Legal.{Carries, IsLegallyDecided, IsChildOf}
 use Rattle.tree_core.specs.Invariant.{IsOf, IsHeld, IsRunningAt, IsShaped, opens}
-use Rattle.tree_definitions.proofs.Lookups.{get_set, length_set}
-use Rattle.tree_definitions.proofs.Lookups.{one_value, set_cases, set_there}
+use Rattle.tree_state.proofs.tree_definitions.Lookups.{get_set, length_set}
+use Rattle.tree_state.proofs.tree_definitions.Lookups.{one_value, set_cases, set_there}
 
 -- two nodes but for their marks
 pub record Alike (x y : TreeNode) : Type 0 where

@@ -6,23 +6,23 @@ use native.Mathlib.Decide.{ℕ_discrete}
 use mathlib.Core.Logic.{dite}
 use Rattle.trs_defs.specs.System.{System}
 use Rattle.trs_core.specs.Valid.{IsValid}
-use Rattle.cert_step.specs.ProofProblem as problem
-use Rattle.cert_step.specs.ProofProblem.{ProofProblem, IsWellMadeProblem}
-use Rattle.strategies.specs.Kinds.{strategies_for}
+use Rattle.tree_state.specs.cert_step.ProofProblem as problem
+use Rattle.tree_state.specs.cert_step.ProofProblem.{ProofProblem, IsWellMadeProblem}
+use Rattle.tree_state.specs.strategies.Kinds.{strategies_for}
 use Rattle.tree_state.specs.declared.goal.Goal.{Goal}
-use Rattle.tree_definitions.specs.declared.mark.Mark.{Mark}
-use Rattle.tree_definitions.specs.declared.mark.Mark.TheVariants.{Idle, Running, Failed}
-use Rattle.tree_definitions.specs.declared.question.Question.{Question}
-use Rattle.tree_definitions.specs.declared.question.Question.TheVariants.{Termination, Confluence, Unique}
-use Rattle.tree_definitions.specs.Questions.{roots, goals_of}
-use Rattle.tree_definitions.specs.States.{TreeNode, Decided, new_node, roots_from, opening}
-use Rattle.tree_definitions.specs.History.{HistoryEntry, IsGiven}
-use Rattle.tree_definitions.specs.Verdicts.{IsClosed, IsLost}
+use Rattle.tree_state.specs.tree_definitions.declared.mark.Mark.{Mark}
+use Rattle.tree_state.specs.tree_definitions.declared.mark.Mark.TheVariants.{Idle, Running, Failed}
+use Rattle.tree_state.specs.tree_definitions.declared.question.Question.{Question}
+use Rattle.tree_state.specs.tree_definitions.declared.question.Question.TheVariants.{Termination, Confluence, Unique}
+use Rattle.tree_state.specs.tree_definitions.Questions.{roots, goals_of}
+use Rattle.tree_state.specs.tree_definitions.States.{TreeNode, Decided, new_node, roots_from, opening}
+use Rattle.tree_state.specs.tree_definitions.History.{HistoryEntry, IsGiven}
+use Rattle.tree_state.specs.tree_definitions.Verdicts.{IsClosed, IsLost}
 use Rattle.tree_state.specs.Parts.{Parts, IsOpening, fresh_goals}
 use Rattle.tree_core.specs.Invariant.{IsShaped, IsTold, IsTree, opens}
-use Rattle.tree_definitions.proofs.Lookups.{map_cases}
-use Rattle.tree_definitions.proofs.Lookups.{get_below}
-use Rattle.strategies.specs.TaskBounds.{pairs_in}
+use Rattle.tree_state.proofs.tree_definitions.Lookups.{map_cases}
+use Rattle.tree_state.proofs.tree_definitions.Lookups.{get_below}
+use Rattle.tree_state.specs.strategies.TaskBounds.{pairs_in}
 use Rattle.tree_core.proofs.Won.{closed_decided}
 use Rattle.tree_core.proofs.Bounding.{bounded_opening}
 

@@ -6,28 +6,28 @@ use native.Mathlib.Decide.{ℕ_discrete}
 use mathlib.Core.Logic.{dite}
 use Rattle.trs_defs.specs.System.{System}
 use Rattle.trs_defs.specs.Member.{In, in_first, in_rest}
-use Rattle.cert_step.specs.ProofProblem.{ProofProblem, IsWellMadeProblem}
-use Rattle.cert_step.specs.ProofStep.{ProofStep}
-use Rattle.strategies.specs.declared.strategy.Strategy.{Strategy}
-use Rattle.strategies.specs.Kinds.{strategies_for}
-use Rattle.strategies.specs.Runs as run
-use Rattle.strategies.specs.Runs.{Found, Run}
-use Rattle.strategies.specs.Truth.{IsFound, IsTrueFound, IsTrueRun}
-use Rattle.tree_definitions.specs.declared.question.Question.{Question}
+use Rattle.tree_state.specs.cert_step.ProofProblem.{ProofProblem, IsWellMadeProblem}
+use Rattle.tree_state.specs.cert_step.ProofStep.{ProofStep}
+use Rattle.tree_state.specs.strategies.declared.strategy.Strategy.{Strategy}
+use Rattle.tree_state.specs.strategies.Kinds.{strategies_for}
+use Rattle.tree_state.specs.strategies.Runs as run
+use Rattle.tree_state.specs.strategies.Runs.{Found, Run}
+use Rattle.tree_state.specs.strategies.Truth.{IsFound, IsTrueFound, IsTrueRun}
+use Rattle.tree_state.specs.tree_definitions.declared.question.Question.{Question}
 use Rattle.tree_state.specs.declared.goal.Goal.{Goal}
-use Rattle.tree_definitions.specs.declared.mark.Mark.TheVariants.{Idle, Running, Failed}
-use Rattle.tree_definitions.specs.declared.ticket.Ticket.{Ticket}
-use Rattle.tree_definitions.specs.Questions.{goals_of}
-use Rattle.tree_definitions.specs.History.{HistoryEntry, Event, claimed, found, failed}
-use Rattle.tree_definitions.specs.States.{TreeNode, State, opening, marked, new_node}
-use Rattle.tree_definitions.specs.Verdicts.{IsWon, HasFailed, IsFirstWinner}
-use Rattle.tree_definitions.specs.Events.{Follows, IsOver, ended, nodes_with, without}
-use Rattle.tree_definitions.specs.Legal.{IsLegal, Carries}
+use Rattle.tree_state.specs.tree_definitions.declared.mark.Mark.TheVariants.{Idle, Running, Failed}
+use Rattle.tree_state.specs.tree_definitions.declared.ticket.Ticket.{Ticket}
+use Rattle.tree_state.specs.tree_definitions.Questions.{goals_of}
+use Rattle.tree_state.specs.tree_definitions.History.{HistoryEntry, Event, claimed, found, failed}
+use Rattle.tree_state.specs.tree_definitions.States.{TreeNode, State, opening, marked, new_node}
+use Rattle.tree_state.specs.tree_definitions.Verdicts.{IsWon, HasFailed, IsFirstWinner}
+use Rattle.tree_state.specs.tree_definitions.Events.{Follows, IsOver, ended, nodes_with, without}
+use Rattle.tree_state.specs.tree_definitions.Legal.{IsLegal, Carries}
 use Rattle.tree_state.specs.Parts.{Parts, HasTicket, free_place, is_lost_in, lost_at, is_done_by, is_over_by, failed_parts, decided_parts, opened, winner_after, no_open_nodes}
-use Rattle.tree_definitions.specs.Replies.{IsTaskOf, event_of_found}
+use Rattle.tree_state.specs.tree_definitions.Replies.{IsTaskOf, event_of_found}
 use Rattle.tree_core.specs.Invariant.{IsTree, IsShaped, AreCounted, IsCounted, opens}
-use Rattle.tree_definitions.proofs.Lookups.{get_set, get_set_other, length_set}
-use Rattle.tree_definitions.proofs.Lookups.{one_value, set_cases}
+use Rattle.tree_state.proofs.tree_definitions.Lookups.{get_set, get_set_other, length_set}
+use Rattle.tree_state.proofs.tree_definitions.Lookups.{one_value, set_cases}
 use Rattle.tree_state.proofs.Changes.{set_twice}
 use Rattle.tree_core.proofs.Marking.{carries_same, there_marked, before, same_later, same_before, closed_same, length_later, problems_marked}
 use Rattle.tree_core.proofs.Endings.{IsFailure, shape_ended, legal_ended, well_made_ended, count_ended}
@@ -36,12 +36,12 @@ use Rattle.tree_core.proofs.Failing.{still_going, node_open, counted_failed, fre
 use Rattle.tree_core.proofs.Deciding as deciding
 use Rattle.tree_core.proofs.Deciding.{At}
 use Rattle.tree_core.proofs.Won.{won_none_open, none_open_won, is_open_of}
-use Rattle.tree_definitions.proofs.Lookups.{get_below}
+use Rattle.tree_state.proofs.tree_definitions.Lookups.{get_below}
 use Rattle.tree_core.proofs.Flags.{over_is, is_over, true_false}
 use Rattle.tree_core.proofs.Told.{told_ending}
 use Rattle.std.proofs.lemmas.List.{length-append}
-use Rattle.strategies.specs.TaskBounds.{pairs_in, tasks_below, tasks_of_all}
-use Rattle.strategies.proofs.Shrinking.{found_shrinks}
+use Rattle.tree_state.specs.strategies.TaskBounds.{pairs_in, tasks_below, tasks_of_all}
+use Rattle.tree_state.proofs.strategies.Shrinking.{found_shrinks}
 use Rattle.tree_core.proofs.Bounding.{bounded_failure, bounded_step}
 use Rattle.tree_core.proofs.Given.{KeepProblems, given_ending, places_ended}
 use Rattle.tree_core.proofs.Trees.{was, running_ok, runs_at, tree_of, replays_more, no_failed_running, not_running_idle, not_failed_idle}

@@ -5,15 +5,15 @@ use mathlib.Core.Logic.{dite}
 use Rattle.trs_defs.specs.System.{System}
 use Rattle.trs_defs.specs.Member.{In}
 use Rattle.trs_defs.proofs.Members.{in_of_get}
-use Rattle.cert_step.specs.ProofProblem.{ProofProblem, problem_of, IsWellMadeProblem}
-use Rattle.cert_step.specs.declared.problem.Problem.{Problem}
-use Rattle.strategies.specs.declared.strategy.Strategy.{Strategy}
-use Rattle.strategies.specs.Kinds.{strategies_for}
-use Rattle.tree_definitions.specs.declared.question.Question.{Question}
-use Rattle.tree_definitions.specs.States.{TreeNode}
+use Rattle.tree_state.specs.cert_step.ProofProblem.{ProofProblem, problem_of, IsWellMadeProblem}
+use Rattle.tree_state.specs.cert_step.declared.problem.Problem.{Problem}
+use Rattle.tree_state.specs.strategies.declared.strategy.Strategy.{Strategy}
+use Rattle.tree_state.specs.strategies.Kinds.{strategies_for}
+use Rattle.tree_state.specs.tree_definitions.declared.question.Question.{Question}
+use Rattle.tree_state.specs.tree_definitions.States.{TreeNode}
 use Rattle.tree_state.specs.Parts.{Parts, free_place, is_done_by, claimed_parts}
-use Rattle.tree_definitions.specs.Trees.{ProofTree}
-use Rattle.tree_definitions.specs.Replies.{IsTask, IsAgain, IsRunnable}
+use Rattle.tree_state.specs.tree_definitions.Trees.{ProofTree}
+use Rattle.tree_state.specs.tree_definitions.Replies.{IsTask, IsAgain, IsRunnable}
 use Rattle.tree_core.specs.Invariant.{IsTree}
 use Rattle.tree_core.proofs.Claiming.{claims, claim_runs, not_done, none_is_free, again}
 use Rattle.tree_core.proofs.Trees.{tree_of}

@@ -3,13 +3,13 @@ use Rattle.std.proofs.Common.{◌≡◌, inl, inr, ℕ, ◌≤◌, Bool, true, f
 use Rattle.std.proofs.lemmas.Option.{slice_get_within}
 use native.Mathlib.Decide.{dec_le}
 use mathlib.Core.Logic.{dite}
-use Rattle.tree_definitions.specs.declared.ticket.Ticket.{Ticket}
-use Rattle.tree_definitions.specs.History.{HistoryEntry, mentions, of_seat, Runs, IsOwned}
+use Rattle.tree_state.specs.tree_definitions.declared.ticket.Ticket.{Ticket}
+use Rattle.tree_state.specs.tree_definitions.History.{HistoryEntry, mentions, of_seat, Runs, IsOwned}
 use Rattle.tree_core.specs.Invariant.{IsTold, told}
-use Rattle.tree_definitions.proofs.Mentions.{mentions-append, of_append, of_le, about_same, about_other, both_same, both_le, owned_more}
-use Rattle.tree_definitions.proofs.Lookups.{set_cases, more_cases}
-use Rattle.tree_definitions.proofs.Lookups.{length_set}
-use Rattle.tree_definitions.proofs.Lookups.{get_below}
+use Rattle.tree_state.proofs.tree_definitions.Mentions.{mentions-append, of_append, of_le, about_same, about_other, both_same, both_le, owned_more}
+use Rattle.tree_state.proofs.tree_definitions.Lookups.{set_cases, more_cases}
+use Rattle.tree_state.proofs.tree_definitions.Lookups.{length_set}
+use Rattle.tree_state.proofs.tree_definitions.Lookups.{get_below}
 
 module _ (es : List HistoryEntry) (tickets : List Ticket) (is : IsTold es tickets) (e : HistoryEntry) where
   -- a claim, under a new ticket

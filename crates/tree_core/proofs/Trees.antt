@@ -2,27 +2,27 @@
 use Rattle.std.proofs.Common.{◌≡◌, inl, inr, ℕ, ◌<◌, Bool, true, false, ◌||◌, not, List, [], ◌∷◌, ◌++◌, set, Some, slice_get, refl, sym, ap, ◌∙◌, subst}
 use Rattle.std.proofs.lemmas.Option.{slice_get_within}
 use Rattle.trs_defs.specs.System.{System}
-use Rattle.cert_step.specs.ProofProblem.{ProofProblem}
-use Rattle.strategies.specs.declared.strategy.Strategy.{Strategy}
-use Rattle.tree_definitions.specs.declared.question.Question.{Question}
-use Rattle.tree_definitions.specs.declared.mark.Mark.TheVariants.{Idle, Running, Failed}
-use Rattle.tree_definitions.specs.declared.ticket.Ticket.{Ticket}
-use Rattle.tree_definitions.specs.Questions.{goals_of}
-use Rattle.tree_definitions.specs.History.{HistoryEntry, Event, claimed, cancelled, aborted, of_seat, Runs}
-use Rattle.tree_definitions.specs.States.{State, opening, marked}
+use Rattle.tree_state.specs.cert_step.ProofProblem.{ProofProblem}
+use Rattle.tree_state.specs.strategies.declared.strategy.Strategy.{Strategy}
+use Rattle.tree_state.specs.tree_definitions.declared.question.Question.{Question}
+use Rattle.tree_state.specs.tree_definitions.declared.mark.Mark.TheVariants.{Idle, Running, Failed}
+use Rattle.tree_state.specs.tree_definitions.declared.ticket.Ticket.{Ticket}
+use Rattle.tree_state.specs.tree_definitions.Questions.{goals_of}
+use Rattle.tree_state.specs.tree_definitions.History.{HistoryEntry, Event, claimed, cancelled, aborted, of_seat, Runs}
+use Rattle.tree_state.specs.tree_definitions.States.{State, opening, marked}
 use Rattle.tree_core.proofs.Marking.{carries_same, same_later, problems_marked}
-use Rattle.tree_definitions.specs.Verdicts.{HasFailed}
-use Rattle.tree_definitions.specs.Events.{Follows, Replays, RunsAt, IsOver, ended}
+use Rattle.tree_state.specs.tree_definitions.Verdicts.{HasFailed}
+use Rattle.tree_state.specs.tree_definitions.Events.{Follows, Replays, RunsAt, IsOver, ended}
 use Rattle.tree_state.specs.Parts.{Parts, HasTicket, ended_parts, aborted_parts, is_over_by, has_verdict_by}
-use Rattle.tree_definitions.specs.Trees.{ProofTree}
-use Rattle.tree_definitions.specs.Replies.{Notes, IsUnwanted}
+use Rattle.tree_state.specs.tree_definitions.Trees.{ProofTree}
+use Rattle.tree_state.specs.tree_definitions.Replies.{Notes, IsUnwanted}
 use Rattle.tree_core.specs.Invariant.{IsTree}
-use Rattle.tree_definitions.proofs.Lookups.{one_value}
+use Rattle.tree_state.proofs.tree_definitions.Lookups.{one_value}
 use Rattle.tree_core.proofs.Told.{runs_there, told_ending, runs_of_seat}
 use Rattle.tree_core.proofs.Given.{given_ending, places_ended}
 use Rattle.tree_core.proofs.Flags.{over_is, is_over, verdict_is, has_verdict, or_right, true_false}
 use Rattle.tree_core.proofs.Endings.{was_running, shape_ended, legal_ended, well_made_ended}
-use Rattle.strategies.specs.TaskBounds.{pairs_in}
+use Rattle.tree_state.specs.strategies.TaskBounds.{pairs_in}
 use Rattle.tree_core.proofs.Counting.{some_run, some_room, counted_late, counted_aborted}
 use Rattle.tree_core.proofs.Bounding.{bounded_late, bounded_abort}
 

@@ -3,17 +3,17 @@ use Rattle.std.proofs.Common.{◌≡◌, ℕ, zero, suc, ◌<◌, ◌≤◌, ◌
 use Rattle.std.specs.Option.{is_none}
 use Rattle.std.proofs.lemmas.List.{length-append, map-append}
 use Rattle.trs_defs.specs.System.{System}
-use Rattle.cert_step.specs.ProofProblem.{ProofProblem, root_of}
-use Rattle.cert_step.specs.PlainProblem.{plain}
-use Rattle.cert_step.specs.ProofStep.{ProofStep, ProofNodeStep}
-use Rattle.cert_step.specs.Applies.{Applies}
-use Rattle.cert_step.specs.Nodes as cert
-use Rattle.cert_step.specs.Nodes.{Makes, IsAccepted, open_node, nodes_after, AreDecided, first_nodes}
-use Rattle.cert_step.specs.declared.claim.Claim.{Claim}
-use Rattle.tree_definitions.specs.States.{TreeNode, Decided}
-use Rattle.tree_definitions.specs.Verdicts.{IsClosed, closed, IsWon}
-use Rattle.tree_definitions.specs.Legal.{Carries}
-use Rattle.tree_definitions.specs.Reports.{Walks, ends, stays, goes_on, steps_from, with_step, decision_at, numbers, children_of}
+use Rattle.tree_state.specs.cert_step.ProofProblem.{ProofProblem, root_of}
+use Rattle.tree_state.specs.cert_step.PlainProblem.{plain}
+use Rattle.tree_state.specs.cert_step.ProofStep.{ProofStep, ProofNodeStep}
+use Rattle.tree_state.specs.cert_step.Applies.{Applies}
+use Rattle.tree_state.specs.cert_step.Nodes as cert
+use Rattle.tree_state.specs.cert_step.Nodes.{Makes, IsAccepted, open_node, nodes_after, AreDecided, first_nodes}
+use Rattle.tree_state.specs.cert_step.declared.claim.Claim.{Claim}
+use Rattle.tree_state.specs.tree_definitions.States.{TreeNode, Decided}
+use Rattle.tree_state.specs.tree_definitions.Verdicts.{IsClosed, closed, IsWon}
+use Rattle.tree_state.specs.tree_definitions.Legal.{Carries}
+use Rattle.tree_state.specs.tree_definitions.Reports.{Walks, ends, stays, goes_on, steps_from, with_step, decision_at, numbers, children_of}
 use Rattle.tree_core.proofs.Won.{closed_decided, closed_child}
 
 -- problems are seen in the certificate by a function that keeps what steps do

@@ -4,11 +4,11 @@ use Rattle.std.specs.Option.{is_none}
 use Rattle.std.proofs.lemmas.Option.{slice_get_within}
 use native.Mathlib.Decide.{ℕ_discrete, dec_le}
 use mathlib.Core.Logic.{dite}
-use Rattle.tree_definitions.specs.States.{TreeNode, State, Decided, IsChild}
-use Rattle.tree_definitions.specs.Verdicts.{IsClosed, closed, IsWon}
-use Rattle.tree_definitions.specs.Legal.{IsChildOf}
+use Rattle.tree_state.specs.tree_definitions.States.{TreeNode, State, Decided, IsChild}
+use Rattle.tree_state.specs.tree_definitions.Verdicts.{IsClosed, closed, IsWon}
+use Rattle.tree_state.specs.tree_definitions.Legal.{IsChildOf}
 use Rattle.tree_core.specs.Invariant.{IsShaped, opens}
-use Rattle.tree_definitions.proofs.Lookups.{one_value}
+use Rattle.tree_state.proofs.tree_definitions.Lookups.{one_value}
 
 -- the node is of the goal and open
 abbrev pub is_open_of : ℕ → TreeNode → Bool

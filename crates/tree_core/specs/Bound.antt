@@ -1,13 +1,13 @@
 -- How many claims can still come to a tree, and how many entries it makes at most.
 use Rattle.std.specs.Prelude.{◌≤◌, ℕ, ◌+◌, ◌*◌, ◌||◌, cond, List, [], ◌∷◌, length}
 use Rattle.std.specs.Option.{is_some}
-use Rattle.strategies.specs.TaskBounds.{tasks_below, tasks_of_all}
+use Rattle.tree_state.specs.strategies.TaskBounds.{tasks_below, tasks_of_all}
 use Rattle.tree_state.specs.declared.goal.Goal.{Goal}
-use Rattle.tree_definitions.specs.declared.mark.Mark.{Mark}
-use Rattle.tree_definitions.specs.declared.question.Question.{Question}
-use Rattle.tree_definitions.specs.Marks.{is_idle}
-use Rattle.tree_definitions.specs.Questions.{roots}
-use Rattle.tree_definitions.specs.States.{TreeNode}
+use Rattle.tree_state.specs.tree_definitions.declared.mark.Mark.{Mark}
+use Rattle.tree_state.specs.tree_definitions.declared.question.Question.{Question}
+use Rattle.tree_state.specs.tree_definitions.Marks.{is_idle}
+use Rattle.tree_state.specs.tree_definitions.Questions.{roots}
+use Rattle.tree_state.specs.tree_definitions.States.{TreeNode}
 use Rattle.tree_state.specs.Parts.{Parts, is_lost_in, is_done_by}
 
 abbrev pub count_idle : List Mark → ℕ

@@ -3,21 +3,21 @@ use Rattle.std.specs.Prelude.{◌≡◌, ◌+◌, ◌<◌, ◌≤◌, ◌&&◌, 
 use Rattle.std.specs.Option.{is_none}
 use Rattle.trs_defs.specs.System.{System}
 use Rattle.trs_core.specs.Valid.{IsValid}
-use Rattle.cert_step.specs.ProofProblem.{ProofProblem, IsWellMadeProblem}
-use Rattle.strategies.specs.declared.strategy.Strategy.{Strategy}
-use Rattle.strategies.specs.Kinds.{strategies_for}
+use Rattle.tree_state.specs.cert_step.ProofProblem.{ProofProblem, IsWellMadeProblem}
+use Rattle.tree_state.specs.strategies.declared.strategy.Strategy.{Strategy}
+use Rattle.tree_state.specs.strategies.Kinds.{strategies_for}
 use Rattle.tree_state.specs.declared.goal.Goal.{Goal}
-use Rattle.tree_definitions.specs.declared.mark.Mark.TheVariants.{Running}
-use Rattle.tree_definitions.specs.declared.ticket.Ticket.{Ticket}
-use Rattle.tree_definitions.specs.declared.question.Question.{Question}
-use Rattle.tree_definitions.specs.Questions.{goals_of, roots}
-use Rattle.tree_definitions.specs.History.{HistoryEntry, mentions, of_seat, IsOwned, IsGiven}
-use Rattle.tree_definitions.specs.States.{TreeNode, State, Decided, IsChild, HasTask, opening}
-use Rattle.tree_definitions.specs.Verdicts.{IsWon, IsLost}
-use Rattle.tree_definitions.specs.Events.{Replays}
-use Rattle.tree_definitions.specs.Legal.{IsLegal, Carries}
+use Rattle.tree_state.specs.tree_definitions.declared.mark.Mark.TheVariants.{Running}
+use Rattle.tree_state.specs.tree_definitions.declared.ticket.Ticket.{Ticket}
+use Rattle.tree_state.specs.tree_definitions.declared.question.Question.{Question}
+use Rattle.tree_state.specs.tree_definitions.Questions.{goals_of, roots}
+use Rattle.tree_state.specs.tree_definitions.History.{HistoryEntry, mentions, of_seat, IsOwned, IsGiven}
+use Rattle.tree_state.specs.tree_definitions.States.{TreeNode, State, Decided, IsChild, HasTask, opening}
+use Rattle.tree_state.specs.tree_definitions.Verdicts.{IsWon, IsLost}
+use Rattle.tree_state.specs.tree_definitions.Events.{Replays}
+use Rattle.tree_state.specs.tree_definitions.Legal.{IsLegal, Carries}
 use Rattle.tree_state.specs.Parts.{Parts, free_place, is_done_by}
-use Rattle.strategies.specs.TaskBounds.{pairs_in}
+use Rattle.tree_state.specs.strategies.TaskBounds.{pairs_in}
 use Rattle.tree_core.specs.Bound.{IsBounded}
 
 -- node n is of this goal

@@ -1,10 +1,10 @@
 -- What is reported of a goal of a tree.
 use Rattle.std.specs.Prelude.{◌≡◌, ℕ, Some, All, slice_get}
-use Rattle.cert_step.specs.ProofProblem.{ProofProblem}
-use Rattle.cert_step.specs.ProofStep.{IsWellMade}
-use Rattle.tree_definitions.specs.Questions.{roots}
-use Rattle.tree_definitions.specs.Trees.{ProofTree}
-use Rattle.tree_definitions.specs.Reports.{Part, IsPartOf, IsTruePart}
+use Rattle.tree_state.specs.cert_step.ProofProblem.{ProofProblem}
+use Rattle.tree_state.specs.cert_step.ProofStep.{IsWellMade}
+use Rattle.tree_state.specs.tree_definitions.Questions.{roots}
+use Rattle.tree_state.specs.tree_definitions.Trees.{ProofTree}
+use Rattle.tree_state.specs.tree_definitions.Reports.{Part, IsPartOf, IsTruePart}
 
 -- the part is the goal's, its steps are well-made, and it is true
 pub record IsReported (tree : ProofTree) (g : ℕ) (part : Part) : Type 0 where

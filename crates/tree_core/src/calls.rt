@@ -1,29 +1,29 @@
 //! The calls of a tree.
 ghost use Rattle.std.specs.Prelude.{◌≡◌, ◌<◌, ◌^◌, ℕ, [], Some, All, map, slice_get, length};
 ghost use Rattle.std.specs.Prelude.{IfOk, OnErr, MatchResult};
-ghost use Rattle.cert_step.specs.ProofProblem.{Says};
+ghost use Rattle.tree_state.specs.cert_step.ProofProblem.{Says};
 ghost use Rattle.trs_core.specs.Valid.{IsValid};
-ghost use Rattle.cert_step.specs.ProofStep.{node_step_of, IsWellMade};
-ghost use Rattle.tree_definitions.specs.Reports.{AreStepsOf, IsFoundStep};
-ghost use Rattle.cert_step.specs.Nodes.{IsAccepted};
-ghost use Rattle.tree_definitions.specs.Questions.{goals_of, claims};
-ghost use Rattle.tree_definitions.specs.History.{Runs, IsOwned, IsFresh, aborted};
-ghost use Rattle.strategies.specs.Truth.{found_of};
+ghost use Rattle.tree_state.specs.cert_step.ProofStep.{node_step_of, IsWellMade};
+ghost use Rattle.tree_state.specs.tree_definitions.Reports.{AreStepsOf, IsFoundStep};
+ghost use Rattle.tree_state.specs.cert_step.Nodes.{IsAccepted};
+ghost use Rattle.tree_state.specs.tree_definitions.Questions.{goals_of, claims};
+ghost use Rattle.tree_state.specs.tree_definitions.History.{Runs, IsOwned, IsFresh, aborted};
+ghost use Rattle.tree_state.specs.strategies.Truth.{found_of};
 ghost use Rattle.tree_state.specs.Seen.{event_of as event_seen};
-ghost use Rattle.tree_definitions.specs.States.{opening};
-ghost use Rattle.tree_definitions.specs.Events.{Replays};
-ghost use Rattle.tree_definitions.specs.Legal.{IsLegal};
-ghost use Rattle.tree_definitions.specs.Verdicts.{IsWon};
-ghost use Rattle.tree_definitions.specs.Replies.{IsClaim, IsPoll, IsPost, IsTaskOf, IsVerdict, Notes};
-ghost use Rattle.tree_definitions.specs.Replies.{event_of_found, left_of, LeavesProblems};
-ghost use Rattle.tree_definitions.specs.Replies.{IfTask, IsRunnable};
+ghost use Rattle.tree_state.specs.tree_definitions.States.{opening};
+ghost use Rattle.tree_state.specs.tree_definitions.Events.{Replays};
+ghost use Rattle.tree_state.specs.tree_definitions.Legal.{IsLegal};
+ghost use Rattle.tree_state.specs.tree_definitions.Verdicts.{IsWon};
+ghost use Rattle.tree_state.specs.tree_definitions.Replies.{IsClaim, IsPoll, IsPost, IsTaskOf, IsVerdict, Notes};
+ghost use Rattle.tree_state.specs.tree_definitions.Replies.{event_of_found, left_of, LeavesProblems};
+ghost use Rattle.tree_state.specs.tree_definitions.Replies.{IfTask, IsRunnable};
 
 use crate::tree::Tree;
-use cert_step::{Claim, Proof};
 use std::alloc::Global;
-use strategies::{Findings, Limits, Outcome};
-use tree_state::{Board, Event};
-use tree_definitions::{Aborted, Claimed, Mark, Polled, Posted, Question, Task, Verdict};
+use tree_state::{
+    Aborted, Board, Claim, Claimed, Event, Findings, Limits, Mark, Outcome, Polled, Posted, Proof,
+    Question, Task, Verdict,
+};
 use trs_core::{OutOfMemory, Trs};
 
 impl<'a> Tree<'a> {

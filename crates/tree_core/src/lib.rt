@@ -7,6 +7,8 @@ mod reporting;
 mod tree;
 
 pub use tree::Tree;
-pub use tree_definitions::{
-    Aborted, Claimed, GoalReport, Polled, Posted, Question, Report, Task, Verdict,
+pub use tree_state::{
+    Aborted, Claim, Claimed, Findings, GoalReport, GraphItem, Join, Limits, Mark, NodeStep,
+    Outcome, Polled, Posted, Problem, Question, Ran, Report, Searcher, Step, Strategy, Task,
+    Ticket, Verdict, run_strategy, strategies_of,
 };

@@ -1,15 +1,15 @@
 //! The report of a tree of which each goal is lost.
 ghost use Rattle.std.specs.Prelude.{◌≡◌, ◌<◌, ℕ, Some, All, map, slice_get, IfOk};
-ghost use Rattle.cert_step.specs.ProofStep.{IsWellMade};
-ghost use Rattle.tree_definitions.specs.Questions.{goals_of};
-ghost use Rattle.tree_definitions.specs.Verdicts.{IsLost};
-ghost use Rattle.tree_definitions.specs.Replies.{IsVerdict};
-ghost use Rattle.tree_definitions.specs.Reports.{Part, part_of, ArePartsOf, IsTrueReport};
+ghost use Rattle.tree_state.specs.cert_step.ProofStep.{IsWellMade};
+ghost use Rattle.tree_state.specs.tree_definitions.Questions.{goals_of};
+ghost use Rattle.tree_state.specs.tree_definitions.Verdicts.{IsLost};
+ghost use Rattle.tree_state.specs.tree_definitions.Replies.{IsVerdict};
+ghost use Rattle.tree_state.specs.tree_definitions.Reports.{Part, part_of, ArePartsOf, IsTrueReport};
 ghost use Rattle.tree_core.specs.Reported.{IsReported};
 
 use crate::tree::Tree;
 use std::alloc::Global;
-use tree_definitions::{GoalReport, Question, Report, Verdict};
+use tree_state::{GoalReport, Question, Report, Verdict};
 use trs_core::OutOfMemory;
 
 impl<'a> Tree<'a> {

@@ -1,9 +1,7 @@
 ghost use Rattle.std.specs.Prelude.{◌≡◌};
 
 use std::marker::Model;
-use strategies::Limits;
-use tree_state::Board;
-use tree_definitions::Question;
+use tree_state::{Board, Limits, Question};
 use trs_core::Trs;
 
 /// The goals of a question on a system, and what was found out about them. Workers claim tasks and
@@ -24,7 +22,7 @@ pub struct Tree<'a> {
 impl<'a> Model for Tree<'a> {
     ghost use Rattle.std.specs.Coded.{codes};
     ghost use Rattle.trs_defs.specs.Tree.{tree_code};
-    ghost use Rattle.tree_definitions.specs.Trees.{ProofTree};
+    ghost use Rattle.tree_state.specs.tree_definitions.Trees.{ProofTree};
 
     ghost Value = { ProofTree };
 

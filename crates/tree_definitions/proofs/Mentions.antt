@@ -4,7 +4,7 @@ use native.Mathlib.Decide.{ℕ_discrete}
 use mathlib.Core.Logic.{dite}
 use Rattle.trs_defs.specs.Member.{In, in_first, in_rest}
 use Rattle.trs_defs.proofs.Members.{in_or}
-use Rattle.cert_step.specs.ProofProblem.{ProofProblem}
+use Rattle.strategies.specs.cert_step.ProofProblem.{ProofProblem}
 use Rattle.strategies.specs.declared.strategy.Strategy.{Strategy}
 use Rattle.tree_definitions.specs.History.{HistoryEntry, mentions, of_seat, Runs, IsOwned, IsGiven}
 

@@ -1,8 +1,8 @@
 -- The history of a proof tree.
 use Rattle.std.specs.Prelude.{◌≡◌, ◌+◌, ◌<◌, ◌≤◌, ℕ, Bool, eqb, cond, List, [], ◌∷◌}
 use Rattle.trs_defs.specs.Member.{In}
-use Rattle.cert_step.specs.ProofProblem.{ProofProblem}
-use Rattle.cert_step.specs.ProofStep.{ProofStep}
+use Rattle.strategies.specs.cert_step.ProofProblem.{ProofProblem}
+use Rattle.strategies.specs.cert_step.ProofStep.{ProofStep}
 use Rattle.strategies.specs.declared.strategy.Strategy.{Strategy}
 
 -- what became of a ticket: it was given for a strategy of a problem, or it ended

@@ -2,9 +2,9 @@
 use Rattle.std.specs.Prelude.{◌≡◌, ◌+◌, ◌≤◌, ℕ, Bool, true, List, length, Some, slice_get}
 use Rattle.trs_defs.specs.System.{System}
 use Rattle.trs_defs.specs.Member.{In}
-use Rattle.cert_step.specs.ProofProblem.{ProofProblem}
-use Rattle.cert_step.specs.ProofStep.{IsWellMade}
-use Rattle.cert_step.specs.Applies.{Applies}
+use Rattle.strategies.specs.cert_step.ProofProblem.{ProofProblem}
+use Rattle.strategies.specs.cert_step.ProofStep.{IsWellMade}
+use Rattle.strategies.specs.cert_step.Applies.{Applies}
 use Rattle.strategies.specs.declared.strategy.Strategy.{Strategy}
 use Rattle.strategies.specs.Kinds.{strategies_for}
 use Rattle.strategies.specs.Conditions.{Finds, Fails}

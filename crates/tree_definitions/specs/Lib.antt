@@ -1,3 +1,7 @@
+-- what crates above name through this one
+pub use Rattle.strategies.specs.cert_step
+pub use Rattle.strategies.specs.conf_find
+pub use Rattle.strategies.specs as strategies
 pub mod Questions
 pub mod History
 pub mod Marks

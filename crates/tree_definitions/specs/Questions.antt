@@ -1,8 +1,8 @@
 -- The goals of a question.
 use Rattle.std.specs.Prelude.{ℕ, List, [], ◌∷◌, length}
-use Rattle.cert_step.specs.ProofProblem.{ProofProblem, sn, loop, cr, cr_newman, fork, unr, unr_newman, split}
-use Rattle.cert_step.specs.declared.claim.Claim.{Claim}
-use Rattle.cert_step.specs.declared.claim.Claim.TheVariants as claim
+use Rattle.strategies.specs.cert_step.ProofProblem.{ProofProblem, sn, loop, cr, cr_newman, fork, unr, unr_newman, split}
+use Rattle.strategies.specs.cert_step.declared.claim.Claim.{Claim}
+use Rattle.strategies.specs.cert_step.declared.claim.Claim.TheVariants as claim
 use Rattle.tree_definitions.specs.declared.question.Question.{Question}
 use Rattle.tree_definitions.specs.declared.question.Question.TheVariants.{Termination, Confluence, Unique}
 

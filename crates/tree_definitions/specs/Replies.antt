@@ -2,7 +2,7 @@
 use Rattle.std.specs.Prelude.{◌≡◌, ◌<◌, ℕ, [], ◌∷◌, ◌++◌, length, Option, Some, None, slice_get}
 use Rattle.trs_defs.specs.System.{System}
 use Rattle.trs_defs.specs.Member.{In}
-use Rattle.cert_step.specs.ProofProblem.{problem_of, IsWellMadeProblem}
+use Rattle.strategies.specs.cert_step.ProofProblem.{problem_of, IsWellMadeProblem}
 use Rattle.strategies.specs.Kinds.{strategies_for}
 use Rattle.strategies.specs.Runs.{Found, Run}
 use Rattle.strategies.specs.Runs as strategy

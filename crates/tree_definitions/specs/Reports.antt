@@ -3,10 +3,10 @@ use Rattle.std.proofs.Common.{zero, suc}
 use Rattle.std.specs.Prelude.{◌≡◌, ◌+◌, ◌<◌, ℕ, Bool, List, [], ◌∷◌, ◌++◌, map, length, Option, Some, None, slice_get}
 use Rattle.trs_defs.specs.System.{System}
 use Rattle.trs_defs.specs.Member.{In}
-use Rattle.cert_step.specs.ProofProblem.{ProofProblem, problem_of, IsWellMadeProblem}
-use Rattle.cert_step.specs.ProofStep.{ProofStep, ProofNodeStep, node_step_of}
-use Rattle.cert_step.specs.Nodes.{Makes, open_node}
-use Rattle.cert_step.specs.Nodes as proof
+use Rattle.strategies.specs.cert_step.ProofProblem.{ProofProblem, problem_of, IsWellMadeProblem}
+use Rattle.strategies.specs.cert_step.ProofStep.{ProofStep, ProofNodeStep, node_step_of}
+use Rattle.strategies.specs.cert_step.Nodes.{Makes, open_node}
+use Rattle.strategies.specs.cert_step.Nodes as proof
 use Rattle.strategies.specs.declared.strategy.Strategy.{Strategy}
 use Rattle.strategies.specs.Kinds.{strategies_for}
 use Rattle.strategies.specs.Conditions.{Finds, Fails}

@@ -1,8 +1,8 @@
 -- The state of a proof tree, as plain data.
 use Rattle.std.specs.Prelude.{◌≡◌, ◌+◌, ◌<◌, ◌≤◌, ℕ, Bool, false, List, [], ◌∷◌, map, Option, Some, None, slice_get, slice_set}
 use Rattle.strategies.specs.declared.strategy.Strategy.{Strategy}
-use Rattle.cert_step.specs.ProofProblem.{ProofProblem}
-use Rattle.cert_step.specs.ProofStep.{ProofStep}
+use Rattle.strategies.specs.cert_step.ProofProblem.{ProofProblem}
+use Rattle.strategies.specs.cert_step.ProofStep.{ProofStep}
 use Rattle.strategies.specs.Kinds.{strategies_for}
 use Rattle.tree_definitions.specs.declared.mark.Mark.{Mark}
 use Rattle.tree_definitions.specs.declared.mark.Mark.TheVariants.{Idle}

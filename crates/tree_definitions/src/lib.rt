@@ -12,4 +12,8 @@ pub use answers::{Aborted, Claimed, Polled, Posted, Task, Verdict};
 pub use mark::Mark;
 pub use question::Question;
 pub use report::{GoalReport, Report};
+pub use strategies::{
+    Claim, Findings, GraphItem, Join, Limits, NodeStep, Outcome, Problem, Proof, Ran, Searcher,
+    Step, Strategy, run_strategy, strategies_of,
+};
 pub use ticket::Ticket;

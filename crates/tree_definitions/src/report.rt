@@ -1,5 +1,4 @@
-use cert_step::{NodeStep, Problem};
-use strategies::Strategy;
+use strategies::{NodeStep, Problem, Strategy};
 
 /// What is reported of a goal that was lost.
 #[derive(Drop)]

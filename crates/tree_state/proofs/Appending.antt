@@ -1,10 +1,10 @@
 -- Nodes that are appended.
 use Rattle.std.proofs.Common.{◌≡◌, ◌++◌, ◌∷◌, [], ℕ, List, length, map, take, None, refl, sym, ap, ◌∙◌}
 use Rattle.std.proofs.lemmas.List.{map-append}
-use Rattle.cert_step.specs.ProofProblem as problem
-use Rattle.cert_step.specs.ProofProblem.{ProofProblem, problem_of}
-use Rattle.cert_step.specs.declared.problem.Problem.{Problem}
-use Rattle.strategies.specs.Kinds.{strategies_for}
+use Rattle.tree_definitions.specs.cert_step.ProofProblem as problem
+use Rattle.tree_definitions.specs.cert_step.ProofProblem.{ProofProblem, problem_of}
+use Rattle.tree_definitions.specs.cert_step.declared.problem.Problem.{Problem}
+use Rattle.tree_definitions.specs.strategies.Kinds.{strategies_for}
 use Rattle.tree_state.specs.declared.node.Node.{Node}
 use Rattle.tree_definitions.specs.declared.mark.Mark.{Mark}
 use Rattle.tree_definitions.specs.declared.mark.Mark.TheVariants.{Idle}

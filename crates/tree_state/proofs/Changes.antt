@@ -2,8 +2,8 @@
 use Rattle.std.proofs.Common.{◌≡◌, ◌<◌, ◌+◌, ◌++◌, ◌∷◌, [], ℕ, zero, suc, Bool, List, length, map, set, Some, slice_get, refl, sym, ap, ◌∙◌, subst, arith}
 use Rattle.std.proofs.lemmas.List.{length-append, length-map}
 use Rattle.std.proofs.lemmas.Option.{slice_get_within}
-use Rattle.cert_step.specs.ProofStep.{ProofStep}
-use Rattle.cert_step.specs.ProofProblem.{ProofProblem}
+use Rattle.tree_definitions.specs.cert_step.ProofStep.{ProofStep}
+use Rattle.tree_definitions.specs.cert_step.ProofProblem.{ProofProblem}
 use Rattle.tree_definitions.specs.declared.mark.Mark.{Mark}
 use Rattle.tree_definitions.specs.declared.mark.Mark.TheVariants.{Idle, Failed}
 use Rattle.tree_definitions.specs.declared.ticket.Ticket.{Ticket}

@@ -6,9 +6,9 @@ use Rattle.std.specs.List.{position_from}
 use Rattle.std.proofs.lemmas.Option.{slice_get-map, slice_get-get_or}
 use Rattle.std.specs.Option.{option_map, is_none, is_some}
 use Rattle.std.proofs.lemmas.Iterator.Adapters.{position_from-zero}
-use Rattle.cert_step.specs.ProofProblem.{problem_of}
-use Rattle.strategies.specs.declared.strategy.Strategy.{Strategy}
-use Rattle.strategies.specs.Kinds.{strategies_for}
+use Rattle.tree_definitions.specs.cert_step.ProofProblem.{problem_of}
+use Rattle.tree_definitions.specs.strategies.declared.strategy.Strategy.{Strategy}
+use Rattle.tree_definitions.specs.strategies.Kinds.{strategies_for}
 use Rattle.tree_definitions.specs.declared.mark.Mark.{Mark}
 use Rattle.tree_definitions.specs.History.{HistoryEntry}
 use Rattle.tree_definitions.specs.States.{TreeNode}

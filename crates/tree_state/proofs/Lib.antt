@@ -1,3 +1,7 @@
+-- what crates above name through this one
+pub use Rattle.tree_definitions.proofs.cert_step
+pub use Rattle.tree_definitions.proofs.strategies
+pub use Rattle.tree_definitions.proofs as tree_definitions
 pub mod SeenNodes
 pub mod Finding
 pub mod Appending

@@ -3,9 +3,9 @@ use Rattle.std.proofs.Common.{◌≡◌, ◌≢◌, ℕ, zero, suc, ◌<◌, ◌
 use Rattle.std.specs.Option.{option_map, is_some}
 use Rattle.std.proofs.lemmas.List.{map-set, map-append, length-map}
 use Rattle.std.proofs.lemmas.Option.{slice_get_within}
-use Rattle.cert_step.specs.ProofProblem as problem
-use Rattle.cert_step.specs.ProofProblem.{ProofProblem, problem_of}
-use Rattle.strategies.specs.Kinds.{strategies_for}
+use Rattle.tree_definitions.specs.cert_step.ProofProblem as problem
+use Rattle.tree_definitions.specs.cert_step.ProofProblem.{ProofProblem, problem_of}
+use Rattle.tree_definitions.specs.strategies.Kinds.{strategies_for}
 use Rattle.tree_state.specs.declared.node.Node.{Node}
 use Rattle.tree_definitions.specs.declared.mark.Mark.{Mark}
 use Rattle.tree_state.specs.declared.node.Decision.{Decision}

@@ -2,7 +2,7 @@
 use Rattle.std.proofs.Common.{◌≡◌, ℕ, zero, suc, ◌<◌, ◌≤◌, ◌+◌, List, [], ◌∷◌, ◌++◌, length, map, take, Option, Some, None, slice_get, refl, sym, ap, ◌∙◌, arith}
 use Rattle.std.specs.Option.{option_map}
 use Rattle.std.proofs.lemmas.List.{length-map}
-use Rattle.cert_step.specs.ProofStep.{ProofStep, ProofNodeStep}
+use Rattle.tree_definitions.specs.cert_step.ProofStep.{ProofStep, ProofNodeStep}
 use Rattle.tree_state.specs.declared.node.Node.{Node}
 use Rattle.tree_state.specs.declared.node.Decision.{Decision}
 use Rattle.tree_definitions.specs.History.{HistoryEntry}

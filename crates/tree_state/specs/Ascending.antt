@@ -1,6 +1,6 @@
 -- Nodes whose children have greater numbers, and their steps one by one.
 use Rattle.std.specs.Prelude.{◌≡◌, ◌<◌, ℕ, List, [], ◌∷◌, length, Option, Some, None, slice_get}
-use Rattle.cert_step.specs.ProofStep.{ProofStep, ProofNodeStep}
+use Rattle.tree_definitions.specs.cert_step.ProofStep.{ProofStep, ProofNodeStep}
 use Rattle.tree_state.specs.declared.node.Node.{Node}
 use Rattle.tree_state.specs.declared.node.Decision.{Decision}
 use Rattle.tree_definitions.specs.States.{TreeNode, Decided, IsChild}

@@ -2,9 +2,9 @@
 use Rattle.std.specs.Prelude.{◌≡◌, ◌+◌, ◌-◌, ◌<◌, ◌==◌, ℕ, Bool, true, false, ◌||◌, not, cond, List, [], ◌∷◌, ◌++◌, length, Option, Some, None, slice_get, slice_set, position}
 use Rattle.std.specs.Option.{is_some}
 use Rattle.std.specs.List.{list_all}
-use Rattle.cert_step.specs.ProofProblem.{ProofProblem}
-use Rattle.cert_step.specs.ProofStep.{ProofStep}
-use Rattle.strategies.specs.declared.strategy.Strategy.{Strategy}
+use Rattle.tree_definitions.specs.cert_step.ProofProblem.{ProofProblem}
+use Rattle.tree_definitions.specs.cert_step.ProofStep.{ProofStep}
+use Rattle.tree_definitions.specs.strategies.declared.strategy.Strategy.{Strategy}
 use Rattle.tree_state.specs.declared.goal.Goal.{Goal}
 use Rattle.tree_definitions.specs.declared.mark.Mark.{Mark}
 use Rattle.tree_definitions.specs.declared.mark.Mark.TheVariants.{Idle, Failed}

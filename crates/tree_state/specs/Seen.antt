@@ -2,9 +2,9 @@
 use Rattle.std.specs.Prelude.{◌<◌, ℕ, List, take, length, Option, Some, None, slice_get}
 use Rattle.std.specs.Option.{option_map}
 use Rattle.std.specs.List.{AllByRecursion}
-use Rattle.cert_step.specs.ProofProblem.{problem_of}
-use Rattle.cert_step.specs.ProofStep.{ProofStep, step_of, dp}
-use Rattle.strategies.specs.Kinds.{strategies_for}
+use Rattle.tree_definitions.specs.cert_step.ProofProblem.{problem_of}
+use Rattle.tree_definitions.specs.cert_step.ProofStep.{ProofStep, step_of, dp}
+use Rattle.tree_definitions.specs.strategies.Kinds.{strategies_for}
 use Rattle.tree_state.specs.declared.entry.Entry.{Entry as OwnedEntry}
 use Rattle.tree_state.specs.declared.entry.Event.{Event as OwnedEvent}
 use Rattle.tree_state.specs.declared.entry.Event.TheVariants as own

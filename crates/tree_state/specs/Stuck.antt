@@ -1,7 +1,7 @@
 -- The stuck nodes of a board, and what is reported of them.
 use Rattle.std.specs.Prelude.{◌&&◌, ℕ, Bool, false, List, [], ◌∷◌, Option, Some, None, slice_get}
 use Rattle.std.specs.Option.{is_none}
-use Rattle.strategies.specs.declared.strategy.Strategy.{Strategy}
+use Rattle.tree_definitions.specs.strategies.declared.strategy.Strategy.{Strategy}
 use Rattle.tree_definitions.specs.declared.mark.Mark.{Mark}
 use Rattle.tree_definitions.specs.declared.mark.Mark.TheVariants.{Failed}
 use Rattle.tree_definitions.specs.States.{TreeNode}

@@ -3,8 +3,8 @@ ghost use Rattle.std.specs.Prelude.{◌≡◌, ◌+◌, ◌-◌, ◌<◌, ◌≤
 ghost use Rattle.std.specs.Prelude.{true, false, length, vec_len, map, slice_get};
 ghost use Rattle.std.specs.Prelude.{IfOk, OnOk, OnErr, MatchOption};
 ghost use Rattle.std.specs.Vec.{vec_capacity};
-ghost use Rattle.cert_step.specs.ProofProblem.{problem_of};
-ghost use Rattle.strategies.specs.Kinds.{strategies_for};
+ghost use Rattle.tree_definitions.specs.cert_step.ProofProblem.{problem_of};
+ghost use Rattle.tree_definitions.specs.strategies.Kinds.{strategies_for};
 ghost use Rattle.tree_definitions.specs.Questions.{roots, goals_of};
 ghost use Rattle.tree_definitions.specs.History.{HistoryEntry, claimed, found};
 ghost use Rattle.tree_state.specs.Seen.{entry_of, node_of, AreWithin};
@@ -19,11 +19,9 @@ use crate::goal_lists::{are_all_lost, is_lost};
 use crate::node::Node;
 use crate::node_lists::set_mark;
 use crate::searching::first_free;
-use cert_step::Problem;
 use std::alloc::{AllocError, Global};
 use std::marker::Model;
-use strategies::{Strategy, strategies_of};
-use tree_definitions::{Mark, Question, Ticket};
+use tree_definitions::{Mark, Problem, Question, Strategy, Ticket, strategies_of};
 use trs_core::OutOfMemory;
 
 /// The history, the nodes and tickets to which it leads, and what is counted of them. Contracts see

@@ -1,8 +1,8 @@
 //! What the end of a ticket changes.
 ghost use Rattle.std.specs.Prelude.{◌≡◌, ◌+◌, ◌-◌, ◌<◌, ◌≤◌, ◌^◌, true, false, Some, ◌++◌};
 ghost use Rattle.std.specs.Prelude.{length, map, slice_get, slice_set};
-ghost use Rattle.cert_step.specs.ProofProblem.{problem_of};
-ghost use Rattle.cert_step.specs.ProofStep.{step_of};
+ghost use Rattle.tree_definitions.specs.cert_step.ProofProblem.{problem_of};
+ghost use Rattle.tree_definitions.specs.cert_step.ProofStep.{step_of};
 ghost use Rattle.tree_state.specs.declared.goal.Goal.{Goal};
 ghost use Rattle.tree_state.specs.Seen.{event_of, entry_of, decided_of};
 ghost use Rattle.tree_definitions.specs.States.{TreeNode, new_node};
@@ -15,8 +15,7 @@ use crate::entry::{Entry, Event};
 use crate::goal_lists::{lose, recount};
 use crate::node::Decision;
 use crate::node_lists::{append_nodes, decide_node, has_failed, set_mark};
-use cert_step::{Problem, Step};
-use tree_definitions::{Mark, Ticket};
+use tree_definitions::{Mark, Problem, Step, Ticket};
 
 impl Board {
     /// The ticket ends with this event, and its strategy has this mark.

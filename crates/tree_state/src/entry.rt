@@ -1,5 +1,4 @@
-use cert_step::{Problem, Step};
-use strategies::Strategy;
+use tree_definitions::{Problem, Step, Strategy};
 
 /// What an entry of the history says of its ticket.
 #[derive(Drop)]

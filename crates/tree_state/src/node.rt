@@ -1,5 +1,4 @@
-use cert_step::Problem;
-use tree_definitions::Mark;
+use tree_definitions::{Mark, Problem};
 
 /// The entry of the history whose step decided a node, and the node's children: so many, from the
 /// first on.

@@ -1,8 +1,8 @@
 ghost use Rattle.std.specs.Prelude.{◌≡◌, ◌+◌, ◌-◌, ◌<◌, ◌≤◌, ℕ, List, None, Some, ◌++◌, length};
 ghost use Rattle.std.specs.Prelude.{vec_len, map, position, slice_get, slice_set};
 ghost use Rattle.std.specs.Vec.{vec_capacity};
-ghost use Rattle.cert_step.specs.ProofProblem.{problem_of};
-ghost use Rattle.strategies.specs.Kinds.{strategies_for};
+ghost use Rattle.tree_definitions.specs.cert_step.ProofProblem.{problem_of};
+ghost use Rattle.tree_definitions.specs.strategies.Kinds.{strategies_for};
 ghost use Rattle.tree_definitions.specs.History.{HistoryEntry};
 ghost use Rattle.tree_state.specs.Seen.{node_of, decided_of, AreWithin};
 ghost use Rattle.tree_definitions.specs.States.{TreeNode, marked, new_node};
@@ -10,9 +10,7 @@ ghost use Rattle.tree_definitions.specs.Marks.{is_idle};
 ghost use Rattle.tree_state.specs.Parts.{all_failed};
 
 use crate::node::{Decision, Node};
-use cert_step::Problem;
-use strategies::strategies_of;
-use tree_definitions::Mark;
+use tree_definitions::{Mark, Problem, strategies_of};
 
 // The strategy at a place of node number n has this mark.
 pub(crate) fn set_mark(nodes: &mut Vec<Node>, n: usize, place: usize, mark: Mark)

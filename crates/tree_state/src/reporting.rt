@@ -1,9 +1,9 @@
 //! The steps of a goal in the order of the walk, and its stuck node.
 ghost use Rattle.std.specs.Prelude.{◌≡◌, ◌<◌, ◌++◌, ◌∷◌, [], ℕ, List, Some, map, length};
 ghost use Rattle.std.specs.Prelude.{position, option_map, slice_get, IfOk, OnOk};
-ghost use Rattle.cert_step.specs.ProofProblem.{problem_of};
-ghost use Rattle.strategies.specs.Kinds.{strategies_for};
-ghost use Rattle.cert_step.specs.ProofStep.{step_of, node_step_of};
+ghost use Rattle.tree_definitions.specs.cert_step.ProofProblem.{problem_of};
+ghost use Rattle.tree_definitions.specs.strategies.Kinds.{strategies_for};
+ghost use Rattle.tree_definitions.specs.cert_step.ProofStep.{step_of, node_step_of};
 ghost use Rattle.tree_definitions.specs.Reports.{Walks, steps_from};
 ghost use Rattle.tree_definitions.specs.States.{TreeNode};
 ghost use Rattle.tree_state.specs.Seen.{entry_of, node_of, step_in};
@@ -16,10 +16,8 @@ use crate::entry::{Entry, Event};
 use crate::node::Node;
 use crate::node_lists::{has_failed, marks_of};
 use crate::walking::walk;
-use cert_step::{NodeStep, Problem, Step};
 use std::alloc::{AllocError, Global};
-use strategies::{Strategy, strategies_of};
-use tree_definitions::Mark;
+use tree_definitions::{Mark, NodeStep, Problem, Step, Strategy, strategies_of};
 use trs_core::OutOfMemory;
 
 impl Board {

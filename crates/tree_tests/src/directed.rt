@@ -4,8 +4,7 @@ use crate::endings::ends_as;
 use crate::systems::{Case, system};
 use std::alloc::Global;
 use std::test::Fail;
-use strategies::Findings;
-use tree_core::Question;
+use tree_core::{Findings, Question};
 
 /// Claims so many tasks, and says whether there were so many.
 fn claim_all(alloc: Global, pair: &mut Pair, count: u64) -> Result<bool, Fail> {

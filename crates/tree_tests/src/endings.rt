@@ -1,14 +1,13 @@
 //! The certificate and the report of a tree, beside those of the plain state.
 ghost use Rattle.std.specs.Prelude.{◌≡◌, ℕ, Some};
-ghost use Rattle.tree_definitions.specs.Replies.{IsVerdict};
+ghost use Rattle.tree_core.specs.tree_definitions.Replies.{IsVerdict};
 
 use crate::events::shown;
 use crate::state::{Node, State};
-use cert_step::{Claim, NodeStep};
 use std::alloc::Global;
-use strategies::{Strategy, strategies_of};
-use tree_core::{GoalReport, Question, Report, Tree};
-use tree_definitions::{Mark, Verdict};
+use tree_core::{
+    Claim, GoalReport, Mark, NodeStep, Question, Report, Strategy, Tree, Verdict, strategies_of,
+};
 use trs_core::OutOfMemory;
 
 /// Whether the steps are those of the nodes in this order, numbered by their places in it.

@@ -1,8 +1,7 @@
 //! Lists of events, in which a step is shown by numbers.
-use cert_step::{GraphItem, Join, Problem, Step};
 use rewrite_core::PathStep;
 use std::alloc::Global;
-use strategies::Findings;
+use tree_core::{Findings, GraphItem, Join, Problem, Step};
 use trs_core::OutOfMemory;
 
 /// A step that was found, and the problems that it leaves.

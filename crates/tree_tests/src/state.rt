@@ -1,9 +1,6 @@
 //! The state of a tree as plain data, and what is said of it.
-use cert_step::Problem;
 use std::alloc::Global;
-use strategies::strategies_of;
-use tree_core::Question;
-use tree_definitions::{Mark, Ticket, Verdict};
+use tree_core::{Mark, Problem, Question, Ticket, Verdict, strategies_of};
 use trs_core::OutOfMemory;
 
 /// A step that decided a node, shown by numbers, and its children: so many, from the first on.

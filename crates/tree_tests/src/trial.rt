@@ -5,8 +5,7 @@ use crate::calls::{claim, clear, end_by_abort, is_running, poll, post, settle};
 use std::alloc::Global;
 use std::marker::Model;
 use std::test::Fail;
-use strategies::{Limits, Outcome};
-use tree_core::{Aborted, Claimed, Polled, Posted, Question, Tree};
+use tree_core::{Aborted, Claimed, Limits, Outcome, Polled, Posted, Question, Tree};
 use trs_core::{OutOfMemory, Trs};
 
 /// A tree, and the outcome of each running ticket at the ticket's number.
@@ -19,7 +18,7 @@ pub struct Trial<'a> {
 impl<'a> Model for Trial<'a> {
     ghost use Rattle.std.specs.Coded.{codes};
     ghost use Rattle.trs_defs.specs.Tree.{tree_code};
-    ghost use Rattle.tree_definitions.specs.Trees.{ProofTree};
+    ghost use Rattle.tree_core.specs.tree_definitions.Trees.{ProofTree};
 
     ghost Value = { ProofTree };
 

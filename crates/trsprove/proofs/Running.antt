@@ -3,13 +3,13 @@ use Rattle.std.proofs.Common.{◌≡◌, ◌++◌, ◌∷◌, [], ℕ, List, Opt
 use Rattle.io_edge.specs.Shelf.{ShelfMeaning, MayBe}
 use Rattle.io_edge.specs.Sink.{SinkMeaning, AppendsTo}
 use Rattle.sexp_core.specs.Items.{Items, no_items, item}
-use Rattle.cert_text.specs.CertificateText.{certificate_items, version_two_items}
+use Rattle.conclusion.specs.cert_text.CertificateText.{certificate_items, version_two_items}
 use Rattle.sexp_core.specs.Printed.{text_of, lines}
 use Rattle.ari_text.specs.Problem.{SaysSystem}
 use Rattle.sexp_core.specs.Items.{items_of}
 use Rattle.conclusion.specs.ProofOf.{proof_of, Proves}
-use Rattle.report_text.specs.GoalLines.{goal_items, goal_words}
-use Rattle.tree_definitions.specs.declared.question.Question as tree
+use Rattle.conclusion.specs.report_text.GoalLines.{goal_items, goal_words}
+use Rattle.conclusion.specs.tree_definitions.declared.question.Question as tree
 use Rattle.conclusion.specs.Concludes.{Concludes, proved, maybe, proof_lines}
 use Rattle.dp_core.specs.PlacedPairs.{placed_pairs}
 use Rattle.sampling.specs.Family.{sample}
@@ -20,9 +20,9 @@ use Rattle.command_line.specs.declared.Question.{Question}
 use Rattle.certifier.specs.declared.rejected.Rejected.{Rejected}
 use Rattle.certifier.specs.Acceptance.{IsAcceptance, IsAcceptedAs}
 use Rattle.certifier.proofs.OneAnswer.{says_of_acceptance}
-use Rattle.cert_step.specs.declared.claim.Claim.{Claim}
-use Rattle.cert_step.specs.declared.claim.Claim.TheVariants.{Terminating, Nonterminating, Confluent, Nonconfluent, Unique, Nonunique}
-use Rattle.cert_text.specs.ProofText.{ProofText}
+use Rattle.conclusion.specs.cert_step.declared.claim.Claim.{Claim}
+use Rattle.conclusion.specs.cert_step.declared.claim.Claim.TheVariants.{Terminating, Nonterminating, Confluent, Nonconfluent, Unique, Nonunique}
+use Rattle.conclusion.specs.cert_text.ProofText.{ProofText}
 use Rattle.names_text.specs.Named.{NamedSystem}
 use Rattle.command_line.specs.Request.{Asked}
 use Rattle.command_line.specs.declared.Wanted.{Wanted}

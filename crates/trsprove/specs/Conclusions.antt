@@ -6,8 +6,8 @@ use Rattle.ari_text.specs.declared.fault.AriFault.{AriFault}
 use Rattle.ari_text.specs.declared.fault.AriFault.TheVariants as ari
 use Rattle.command_line.specs.declared.Question.{Question}
 use Rattle.command_line.specs.declared.Question.TheVariants as word
-use Rattle.tree_definitions.specs.declared.question.Question as tree
-use Rattle.tree_definitions.specs.declared.question.Question.TheVariants as goals
+use Rattle.conclusion.specs.tree_definitions.declared.question.Question as tree
+use Rattle.conclusion.specs.tree_definitions.declared.question.Question.TheVariants as goals
 use Rattle.conclusion.specs.Concludes.{Concludes}
 use Rattle.conclusion.specs.SerialText.{IsSerialText}
 use Rattle.trsprove.specs.declared.status.Status.{Status}

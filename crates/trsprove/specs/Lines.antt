@@ -4,8 +4,8 @@ use Rattle.ari_text.specs.declared.fault.AriFault.{AriFault}
 use Rattle.ari_text.specs.Least.{number_of_fault}
 use Rattle.ari_text.specs.FaultParts.{text_number_of, shown_place}
 use Rattle.rewrite_core.specs.RefusalNumbers.{refusal_number, refusal_fields}
-use Rattle.cert_step.specs.declared.claim.Claim.{Claim}
-use Rattle.cert_step.specs.declared.claim.Claim.TheVariants.{Terminating, Nonterminating, Confluent, Nonconfluent, Unique, Nonunique}
+use Rattle.conclusion.specs.cert_step.declared.claim.Claim.{Claim}
+use Rattle.conclusion.specs.cert_step.declared.claim.Claim.TheVariants.{Terminating, Nonterminating, Confluent, Nonconfluent, Unique, Nonunique}
 use Rattle.certifier.specs.declared.rejected.Rejected.{Rejected}
 use Rattle.certifier.specs.declared.rejected.Rejected.TheVariants as why
 use Rattle.trsprove.specs.Numbers.{fields_text, listed}

@@ -9,15 +9,15 @@ use Rattle.names_text.specs.Named.{NamedSystem}
 use Rattle.ari_text.specs.Problem.{SaysSystem, IsProblemRefused}
 use Rattle.ari_text.specs.declared.fault.AriFault.{AriFault}
 use Rattle.ari_text.specs.declared.fault.AriFault.TheVariants as ari
-use Rattle.cert_step.specs.declared.claim.Claim.{Claim}
-use Rattle.cert_step.specs.ProofProblem.{Says}
-use Rattle.cert_text.specs.ProofText.{ProofText}
-use Rattle.cert_text.specs.CertificateText.{version_two_items, fits_two}
+use Rattle.conclusion.specs.cert_step.declared.claim.Claim.{Claim}
+use Rattle.conclusion.specs.cert_step.ProofProblem.{Says}
+use Rattle.conclusion.specs.cert_text.ProofText.{ProofText}
+use Rattle.conclusion.specs.cert_text.CertificateText.{version_two_items, fits_two}
 use Rattle.certifier.specs.declared.rejected.Rejected.{Rejected}
 use Rattle.certifier.specs.declared.rejected.Rejected.TheVariants as why
 use Rattle.certifier.specs.Acceptance.{IsAcceptance, IsAcceptedAs, IsRejection}
-use Rattle.tree_definitions.specs.Questions.{claims}
-use Rattle.tree_definitions.specs.Reports.{Part, IsTrueReport}
+use Rattle.conclusion.specs.tree_definitions.Questions.{claims}
+use Rattle.conclusion.specs.tree_definitions.Reports.{Part, IsTrueReport}
 use Rattle.conclusion.specs.Concludes.{maybe_text}
 use Rattle.sampling.specs.Line.{IsSampleLine}
 use Rattle.command_line.specs.Request.{Asked, certifies, proves, samples}

@@ -1,7 +1,7 @@
 ghost use Rattle.std.specs.Prelude.{◌≡◌, ◌≤◌, true, Some, IfOk, length, All};
-ghost use Rattle.step_text.specs.Ranges.{IsPrintable};
-ghost use Rattle.cert_text.specs.ProofText.{proof_text_of};
-ghost use Rattle.cert_text.specs.CertificateText.{fits_two};
+ghost use Rattle.conclusion.specs.step_text.Ranges.{IsPrintable};
+ghost use Rattle.conclusion.specs.cert_text.ProofText.{proof_text_of};
+ghost use Rattle.conclusion.specs.cert_text.CertificateText.{fits_two};
 ghost use Rattle.command_line.specs.Request.{request_of, certifies};
 ghost use Rattle.trsprove.specs.Output.{texts, Verdict, IsWritten, IsAnswer, AnswersOnly, TouchesOnlyNeeded, most_problem_bytes, most_certificate_bytes};
 ghost use Rattle.trsprove.specs.Answers.{IsUnfetched, status_of, text_of};
@@ -11,9 +11,9 @@ use crate::lines::rejected_line;
 use crate::samples::sampled;
 use crate::status::Status;
 use ari_text::AriFault;
-use cert_text::{fits_version_two, print_version_two};
 use certifier::{AcceptedProof, Claim, Rejected, accepted_proof};
 use command_line::{Refused, Request, Wanted, parse};
+use conclusion::{fits_version_two, print_version_two};
 use io_edge::{FetchFault, Shelf};
 use std::alloc::{AllocError, Global};
 

@@ -73,12 +73,12 @@ fn answered<'a>(
 }
 
 // The question of the proof tree.
-fn question_of(question: Question) -> tree_definitions::Question
+fn question_of(question: Question) -> conclusion::Question
     ensures { result ≡ question_of_tree question }
 {
     match question {
-        Question::Termination => tree_definitions::Question::Termination,
-        Question::Confluence => tree_definitions::Question::Confluence,
-        Question::Unique => tree_definitions::Question::Unique,
+        Question::Termination => conclusion::Question::Termination,
+        Question::Confluence => conclusion::Question::Confluence,
+        Question::Unique => conclusion::Question::Unique,
     }
 }

@@ -4,8 +4,7 @@ ghost use Rattle.dp_core.specs.Numbered.{ArePairsOf};
 ghost use Rattle.dp_core.specs.Symbols.{symbols_of_all, symbols_below_roots};
 ghost use Rattle.dp_core.specs.LeastLacking.{least_lacking};
 
-use dp_core::{Side, Sides, least_lacking};
-use pair_order::ReductionPair;
+use dp_core::{ReductionPair, Side, Sides, least_lacking};
 
 /// The least symbol below a root of a side of the problem's pairs with no entry, or the least so
 /// far.

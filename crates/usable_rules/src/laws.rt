@@ -2,9 +2,9 @@ ghost use Rattle.dp_core.specs.PairConditions.{comparing_by};
 ghost use Rattle.usable_rules.specs.Laws.{UsableStepsConclude, UsableStepsAnswerOnce};
 ghost use Rattle.usable_rules.specs.Laws.{UsableStepsLeaveNumbers};
 
-use pair_order::PairingOrder;
-use pair_theory::dependency_pairs_suffice;
+use dp_core::PairingOrder;
 use order_theory::remove_by_usable_rules;
+use pair_theory::dependency_pairs_suffice;
 
 /// A law, with nothing to run: a problem is finite if that of the pairs that remain by an order that
 /// makes the usable rules weak is, the conditions have one answer, and the numbers that remain

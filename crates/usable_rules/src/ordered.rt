@@ -7,8 +7,7 @@ ghost use Rattle.usable_rules.specs.UsableConditions.{usable_conditions};
 
 use crate::lacking::lacking_below_roots;
 use crate::rules::usable_for;
-use dp_core::{DpPair, Pairs, lacking_in_rules};
-use pair_order::PairingOrder;
+use dp_core::{DpPair, PairingOrder, Pairs, lacking_in_rules};
 use rewrite_core::CheckFault;
 use std::alloc::Global;
 use trs_core::Trs;

@@ -1,1 +1,3 @@
+-- what crates above name through this one
+pub use Rattle.tree_core.proofs as tree_core
 pub mod Rounds

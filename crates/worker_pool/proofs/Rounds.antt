@@ -4,25 +4,25 @@ use Rattle.std.proofs.Common.{◌≡◌, inl, inr, ℕ, ◌+◌, ◌-◌, ◌<�
 use Rattle.trs_defs.specs.System.{System}
 use Rattle.trs_defs.specs.Member.{In, in_first}
 use Rattle.trs_defs.proofs.Members.{in_right}
-use Rattle.cert_step.specs.ProofProblem.{ProofProblem, problem_of}
-use Rattle.strategies.specs.declared.strategy.Strategy.{Strategy}
-use Rattle.strategies.specs.Kinds.{strategies_for}
-use Rattle.strategies.specs.Runs as run
-use Rattle.strategies.specs.Runs.{Found, Run}
-use Rattle.strategies.specs.Truth.{IsTrueFound}
-use Rattle.tree_definitions.specs.declared.answers.Task.{Task}
-use Rattle.tree_definitions.specs.declared.answers.Posted.{Posted}
-use Rattle.tree_definitions.specs.declared.answers.Posted.TheVariants as posted
-use Rattle.tree_definitions.specs.declared.question.Question.{Question}
-use Rattle.tree_definitions.specs.Questions.{goals_of}
-use Rattle.tree_definitions.specs.History.{HistoryEntry, Event, claimed, mentions, of_seat, Runs, IsOwned}
-use Rattle.tree_definitions.specs.States.{State, opening}
-use Rattle.tree_definitions.specs.Verdicts.{HasVerdict, IsDone}
-use Rattle.tree_definitions.specs.Events.{Follows}
-use Rattle.tree_definitions.specs.Trees.{ProofTree}
-use Rattle.tree_definitions.specs.Replies.{IsTask, IsAgain, IsPost, IsTaskOf, Notes, event_of_found}
-use Rattle.tree_definitions.proofs.Lookups.{length_set}
-use Rattle.tree_definitions.proofs.Mentions.{about, mentions-append, one_owner, runs_of_own}
+use Rattle.tree_core.specs.cert_step.ProofProblem.{ProofProblem, problem_of}
+use Rattle.tree_core.specs.strategies.declared.strategy.Strategy.{Strategy}
+use Rattle.tree_core.specs.strategies.Kinds.{strategies_for}
+use Rattle.tree_core.specs.strategies.Runs as run
+use Rattle.tree_core.specs.strategies.Runs.{Found, Run}
+use Rattle.tree_core.specs.strategies.Truth.{IsTrueFound}
+use Rattle.tree_core.specs.tree_definitions.declared.answers.Task.{Task}
+use Rattle.tree_core.specs.tree_definitions.declared.answers.Posted.{Posted}
+use Rattle.tree_core.specs.tree_definitions.declared.answers.Posted.TheVariants as posted
+use Rattle.tree_core.specs.tree_definitions.declared.question.Question.{Question}
+use Rattle.tree_core.specs.tree_definitions.Questions.{goals_of}
+use Rattle.tree_core.specs.tree_definitions.History.{HistoryEntry, Event, claimed, mentions, of_seat, Runs, IsOwned}
+use Rattle.tree_core.specs.tree_definitions.States.{State, opening}
+use Rattle.tree_core.specs.tree_definitions.Verdicts.{HasVerdict, IsDone}
+use Rattle.tree_core.specs.tree_definitions.Events.{Follows}
+use Rattle.tree_core.specs.tree_definitions.Trees.{ProofTree}
+use Rattle.tree_core.specs.tree_definitions.Replies.{IsTask, IsAgain, IsPost, IsTaskOf, Notes, event_of_found}
+use Rattle.tree_core.proofs.tree_definitions.Lookups.{length_set}
+use Rattle.tree_core.proofs.tree_definitions.Mentions.{about, mentions-append, one_owner, runs_of_own}
 use Rattle.worker_pool.specs.Serial.{IsSerial, nothing, one_more, entry_of}
 use Rattle.worker_pool.specs.Turns.{IsAtRest, IsOnSame, IsAnswerTo, IsTurn, entries_left}
 

@@ -2,18 +2,18 @@
 use Rattle.std.specs.Prelude.{◌≡◌, ℕ, ◌+◌, List, [], ◌∷◌, ◌++◌, length}
 use Rattle.trs_defs.specs.System.{System}
 use Rattle.trs_defs.specs.Member.{In}
-use Rattle.cert_step.specs.ProofProblem.{ProofProblem}
-use Rattle.strategies.specs.declared.strategy.Strategy.{Strategy}
-use Rattle.strategies.specs.Kinds.{strategies_for}
-use Rattle.strategies.specs.Runs.{Found}
-use Rattle.strategies.specs.Truth.{IsTrueFound}
-use Rattle.tree_definitions.specs.declared.question.Question.{Question}
-use Rattle.tree_definitions.specs.Questions.{goals_of}
-use Rattle.tree_definitions.specs.History.{HistoryEntry, Event, claimed}
-use Rattle.tree_definitions.specs.States.{State, opening}
-use Rattle.tree_definitions.specs.Events.{Replays}
-use Rattle.tree_definitions.specs.Verdicts.{HasVerdict}
-use Rattle.tree_definitions.specs.Replies.{event_of_found}
+use Rattle.tree_core.specs.cert_step.ProofProblem.{ProofProblem}
+use Rattle.tree_core.specs.strategies.declared.strategy.Strategy.{Strategy}
+use Rattle.tree_core.specs.strategies.Kinds.{strategies_for}
+use Rattle.tree_core.specs.strategies.Runs.{Found}
+use Rattle.tree_core.specs.strategies.Truth.{IsTrueFound}
+use Rattle.tree_core.specs.tree_definitions.declared.question.Question.{Question}
+use Rattle.tree_core.specs.tree_definitions.Questions.{goals_of}
+use Rattle.tree_core.specs.tree_definitions.History.{HistoryEntry, Event, claimed}
+use Rattle.tree_core.specs.tree_definitions.States.{State, opening}
+use Rattle.tree_core.specs.tree_definitions.Events.{Replays}
+use Rattle.tree_core.specs.tree_definitions.Verdicts.{HasVerdict}
+use Rattle.tree_core.specs.tree_definitions.Replies.{event_of_found}
 
 -- an entry of seat 0
 abbrev pub entry_of : ℕ → Event → HistoryEntry

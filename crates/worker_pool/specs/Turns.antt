@@ -1,13 +1,13 @@
 -- Turns of a worker that is alone.
 use Rattle.std.specs.Prelude.{◌≡◌, ◌<◌, ℕ, ◌+◌, ◌-◌, ◌^◌, Bool, true, false, length}
 use Rattle.trs_defs.specs.System.{System}
-use Rattle.cert_step.specs.ProofProblem.{problem_of}
-use Rattle.strategies.specs.Runs.{Run}
-use Rattle.strategies.specs.Truth.{IsTrueRun}
-use Rattle.tree_definitions.specs.declared.answers.Task.{Task}
-use Rattle.tree_definitions.specs.Questions.{goals_of}
-use Rattle.tree_definitions.specs.Verdicts.{HasVerdict}
-use Rattle.tree_definitions.specs.Trees.{ProofTree}
+use Rattle.tree_core.specs.cert_step.ProofProblem.{problem_of}
+use Rattle.tree_core.specs.strategies.Runs.{Run}
+use Rattle.tree_core.specs.strategies.Truth.{IsTrueRun}
+use Rattle.tree_core.specs.tree_definitions.declared.answers.Task.{Task}
+use Rattle.tree_core.specs.tree_definitions.Questions.{goals_of}
+use Rattle.tree_core.specs.tree_definitions.Verdicts.{HasVerdict}
+use Rattle.tree_core.specs.tree_definitions.Trees.{ProofTree}
 use Rattle.worker_pool.specs.Serial.{IsSerial}
 
 -- between two turns: the history is serial, each ticket has two entries, and nothing was aborted

@@ -1,13 +1,12 @@
 ghost use Rattle.std.specs.Prelude.{◌≡◌, IfOk};
-ghost use Rattle.tree_definitions.specs.Questions.{goals_of};
-ghost use Rattle.tree_definitions.specs.Verdicts.{HasVerdict};
+ghost use Rattle.tree_core.specs.tree_definitions.Questions.{goals_of};
+ghost use Rattle.tree_core.specs.tree_definitions.Verdicts.{HasVerdict};
 ghost use Rattle.worker_pool.specs.Serial.{IsSerial};
 
 use crate::Finished;
 use crate::turn::take_turn;
 use std::alloc::Global;
-use strategies::{Limits, Searcher};
-use tree_core::{Question, Tree};
+use tree_core::{Limits, Question, Searcher, Tree};
 use trs_core::{OutOfMemory, Trs};
 
 /// Proves a question on a system with one worker, which has seat 0: it claims a task, runs it and

@@ -1,8 +1,8 @@
 ghost use Rattle.std.specs.Prelude.{◌≡◌};
-ghost use Rattle.tree_definitions.specs.Events.{Replays};
-ghost use Rattle.tree_definitions.specs.Questions.{goals_of};
-ghost use Rattle.tree_definitions.specs.States.{opening};
-ghost use Rattle.tree_definitions.specs.Verdicts.{HasVerdict};
+ghost use Rattle.tree_core.specs.tree_definitions.Events.{Replays};
+ghost use Rattle.tree_core.specs.tree_definitions.Questions.{goals_of};
+ghost use Rattle.tree_core.specs.tree_definitions.States.{opening};
+ghost use Rattle.tree_core.specs.tree_definitions.Verdicts.{HasVerdict};
 
 use std::marker::Model;
 use tree_core::Tree;
@@ -16,14 +16,14 @@ pub struct Finished<'a> {
 impl<'a> Model for Finished<'a> {
     ghost use Rattle.std.specs.Coded.{codes};
     ghost use Rattle.trs_defs.specs.Tree.{tree_code};
-    ghost use Rattle.tree_definitions.specs.Trees.{ProofTree};
+    ghost use Rattle.tree_core.specs.tree_definitions.Trees.{ProofTree};
 
     ghost Value = { ProofTree };
 
     ghost coded = { Prim.hlevel (codes, tree_code) };
 
-    ghost use Rattle.tree_definitions.specs.Questions.{goals_of};
-    ghost use Rattle.tree_definitions.specs.Verdicts.{HasVerdict};
+    ghost use Rattle.tree_core.specs.tree_definitions.Questions.{goals_of};
+    ghost use Rattle.tree_core.specs.tree_definitions.Verdicts.{HasVerdict};
 
     ghost view = { λ a. a.tree };
 

@@ -8,3 +8,4 @@ mod turn;
 
 pub use alone::prove_alone;
 pub use finished::Finished;
+pub use tree_core::{Claim, Limits, Question, Tree, Verdict};

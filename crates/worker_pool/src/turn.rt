@@ -1,13 +1,12 @@
 //! One turn of a worker that is alone: a claim, and the post of what was answered.
 ghost use Rattle.std.specs.Prelude.{◌≡◌, ◌<◌, ◌^◌, IfOk, length};
-ghost use Rattle.tree_definitions.specs.History.{IsOwned, Runs};
-ghost use Rattle.tree_definitions.specs.Replies.{event_of_found, IsPost, IsRunnable, IsTaskOf};
+ghost use Rattle.tree_core.specs.tree_definitions.History.{IsOwned, Runs};
+ghost use Rattle.tree_core.specs.tree_definitions.Replies.{event_of_found, IsPost, IsRunnable, IsTaskOf};
 ghost use Rattle.worker_pool.specs.Turns.{IsAtRest, IsAnswerTo, IsTurn, IsOnSame};
 
 use assign_search::Never;
 use std::alloc::Global;
-use strategies::{Limits, Outcome, Ran, Searcher};
-use tree_core::{Claimed, Posted, Task, Tree};
+use tree_core::{Claimed, Limits, Outcome, Posted, Ran, Searcher, Task, Tree};
 use trs_core::OutOfMemory;
 
 /// Claims a task, runs it and posts what was answered. Whether there was a task: if there was none,

@@ -1,5 +1,5 @@
 use Rattle.pair_theory.specs.DependencyPair.{dependency_pairs}
-use Rattle.dp_core.specs.PairConditions.{pair_conditions}
+use Rattle.dp_graph.specs.dp_core.PairConditions.{pair_conditions}
 use Rattle.cert_step.specs.OnPairs.{problem_if_any}
 use Rattle.cert_step.specs.ProofStep.{comparing_of}
 use Rattle.cert_step.proofs.AnyOrders.{order_answers}

@@ -1,5 +1,5 @@
 use Rattle.std.proofs.Common.{◌≡◌, take}
-use Rattle.closed_pairs.specs.ParallelClosed.{paths_of}
+use Rattle.rule_label.specs.closed_pairs.ParallelClosed.{paths_of}
 use Rattle.cert_step.proofs.step.copy_paths.Given as goal
 
 abbrev pub invariant-loop-path : goal.invariant-loop-path

@@ -1,5 +1,5 @@
 use Rattle.std.proofs.Common.{◌≡◌, ◌++◌, drop, map}
-use Rattle.cert_step.specs.ProofStep.{node_step_of}
+use Rattle.step_text.specs.cert_step.ProofStep.{node_step_of}
 use Rattle.path_text.specs.Paths.{paths_in}
 use Rattle.step_text.specs.Steps.{paths_of_step}
 use Rattle.cert_text.proofs.printing.paths_of_steps.Given as goal

@@ -1,5 +1,5 @@
 use Rattle.std.proofs.Common.{map}
-use Rattle.cert_step.specs.ProofStep.{node_step_of}
+use Rattle.step_text.specs.cert_step.ProofStep.{node_step_of}
 use Rattle.cert_text.proofs.WrittenLines.{shared_written}
 use Rattle.cert_text.proofs.printing.put_shared_steps.Goals as goal
 

@@ -2,7 +2,7 @@ use Rattle.std.proofs.Common.{◌≡◌, ◌++◌, drop, map}
 use Rattle.std.specs.List.{AllByRecursion}
 use Rattle.sexp_core.specs.Items.{items_of}
 use Rattle.sexp_core.specs.Printed.{lines}
-use Rattle.cert_step.specs.ProofStep.{step_of, node_step_of}
+use Rattle.step_text.specs.cert_step.ProofStep.{step_of, node_step_of}
 use Rattle.step_text.specs.Ranges.{HasNumbersInRange}
 use Rattle.step_text.specs.Steps.{step_item}
 use Rattle.cert_text.proofs.printing.put_steps.Given as goal

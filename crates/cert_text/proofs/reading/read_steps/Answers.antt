@@ -1,5 +1,5 @@
 use Rattle.std.proofs.Common.{◌∙◌, ◌≤◌, map, length, sym, ap, arith}
-use Rattle.cert_step.specs.ProofStep.{node_step_of}
+use Rattle.step_text.specs.cert_step.ProofStep.{node_step_of}
 use Rattle.text_reading.specs.Seen.{seen}
 use Rattle.path_text.proofs.InTurn.{turn_taken, turn_refused, turns_end}
 use Rattle.step_text.specs.Steps.{step, paths_of_step}

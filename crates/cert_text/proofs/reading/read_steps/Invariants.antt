@@ -1,6 +1,6 @@
 use Rattle.std.proofs.Common.{◌≡◌, drop, map}
 use Rattle.sexp_core.specs.Items.{views}
-use Rattle.cert_step.specs.ProofStep.{node_step_of}
+use Rattle.step_text.specs.cert_step.ProofStep.{node_step_of}
 use Rattle.path_text.specs.Paths.{in_turn}
 use Rattle.path_text.proofs.InTurn.{behind_values}
 use Rattle.step_text.specs.Steps.{step, paths_of_step}

@@ -1,5 +1,5 @@
 use Rattle.std.proofs.Common.{refl}
-use Rattle.cert_step.specs.ProofProblem.{problem_of}
+use Rattle.cert_text.specs.cert_step.ProofProblem.{problem_of}
 use Rattle.certifier.proofs.NodeLists.{node_there, open_there, problem_there}
 use Rattle.certifier.proofs.MadeSteps.{step_stuck}
 use Rattle.certifier.proofs.steps.subproblems_of.Goals as goal

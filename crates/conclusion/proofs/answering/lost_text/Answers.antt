@@ -1,8 +1,8 @@
 use Rattle.std.proofs.Common.{rules, ◌≡◌, ◌∙◌, ◌++◌, codes, ap₂, map, ap, subst, sym}
 use Rattle.std.proofs.lemmas.List.{length-map}
 use Rattle.report_text.specs.GoalLines.{report_lines}
-use Rattle.tree_definitions.specs.Questions.{goals_of}
-use Rattle.tree_definitions.specs.Reports.{part_of}
+use Rattle.report_text.specs.tree_definitions.Questions.{goals_of}
+use Rattle.report_text.specs.tree_definitions.Reports.{part_of}
 use Rattle.conclusion.proofs.Texts.{lost_concludes, lost_serial}
 use Rattle.conclusion.proofs.answering.lost_text.Goals as goal
 

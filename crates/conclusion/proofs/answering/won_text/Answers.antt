@@ -1,9 +1,9 @@
 use Rattle.std.proofs.Common.{◌<◌, ◌^◌, All, map, length, subst, sym}
 use Rattle.std.proofs.lemmas.List.{length-map}
 use Rattle.trs_defs.specs.System.{System}
-use Rattle.cert_step.specs.ProofStep.{node_step_of}
-use Rattle.step_text.specs.Ranges.{IsPrintable}
-use Rattle.cert_step.specs.Nodes.{IsAccepted}
+use Rattle.cert_text.specs.cert_step.ProofStep.{node_step_of}
+use Rattle.cert_text.specs.step_text.Ranges.{IsPrintable}
+use Rattle.cert_text.specs.cert_step.Nodes.{IsAccepted}
 use Rattle.conclusion.proofs.StepNumbers.{accepted_printable}
 use Rattle.conclusion.proofs.FoundSteps.{found_steps_in_order}
 use Rattle.conclusion.proofs.Texts.{won_concludes, won_serial}

@@ -1,7 +1,7 @@
 use Rattle.std.proofs.lemmas.List.Elements.{recursion_from_All}
-use Rattle.cert_step.specs.ProofStep.{ProofNodeStep, IsWellMade}
+use Rattle.cert_text.specs.cert_step.ProofStep.{ProofNodeStep, IsWellMade}
 use Rattle.cert_text.proofs.WellMadeSteps.{well_made_steps}
-use Rattle.cert_step.proofs.NodeSoundness.{true_claim}
+use Rattle.cert_text.proofs.cert_step.NodeSoundness.{true_claim}
 use Rattle.conclusion.proofs.laws.proved_claims_are_true.Goals as goal
 
 pub returns : goal.returns

@@ -1,5 +1,5 @@
 use Rattle.std.proofs.Common.{map}
-use Rattle.cert_step.specs.ProofStep.{node_step_of}
+use Rattle.cert_text.specs.cert_step.ProofStep.{node_step_of}
 use Rattle.conclusion.proofs.Accepted.{printed_proves}
 use Rattle.conclusion.proofs.printing.print_proof.Goals as goal
 

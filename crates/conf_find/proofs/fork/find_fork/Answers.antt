@@ -1,5 +1,5 @@
 use Rattle.std.proofs.Common.{◌∙◌, arith}
-use Rattle.nonjoin.specs.Apart.{AreApart}
+use Rattle.cert_step.specs.nonjoin.Apart.{AreApart}
 use Rattle.conf_find.specs.ForkRows.{PartsNot}
 use Rattle.join_find.proofs.Firsts.{read_in}
 use Rattle.conf_find.proofs.PeakList.{none_passed, one_more_passed, all_passed, behind_read}

@@ -1,5 +1,5 @@
 use Rattle.std.proofs.Common.{◌≡◌, ◌≤◌, []}
-use Rattle.nonjoin.specs.Apart.{AreApart}
+use Rattle.cert_step.specs.nonjoin.Apart.{AreApart}
 use Rattle.conf_find.specs.ForkRows.{PartsNot}
 use Rattle.conf_find.proofs.PeakList.{ArePassed}
 use Rattle.conf_find.proofs.fork.find_fork.Given as goal

@@ -1,6 +1,6 @@
 use Rattle.term_pool.specs.ListedIds.{listed_at}
 use Rattle.term_pool.specs.Listed.{Listed}
-use Rattle.nonjoin.specs.Apart.{AreApart}
+use Rattle.cert_step.specs.nonjoin.Apart.{AreApart}
 use Rattle.conf_find.specs.Fork.{fork_of}
 use Rattle.conf_find.proofs.Pairs.{IsFirstOfTerms}
 use Rattle.conf_find.proofs.ForkPeaks.{number_within, entry_below, parted_by}

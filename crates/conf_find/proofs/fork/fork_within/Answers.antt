@@ -1,7 +1,7 @@
 use Rattle.std.proofs.Common.{ap}
 use Rattle.trs_core.specs.View.{tree}
 use Rattle.rewrite_core.specs.PlacedPeak.{PlacedPeak}
-use Rattle.nonjoin.specs.Apart.{AreApart}
+use Rattle.cert_step.specs.nonjoin.Apart.{AreApart}
 use Rattle.conf_find.proofs.ForkPeaks.{parted_within}
 use Rattle.conf_find.proofs.fork.fork_within.Goals as goal
 

@@ -1,8 +1,8 @@
 use Rattle.std.proofs.Common.{◌≡◌, ◌≤◌, List, length, map, ap, sym, ◌∙◌, arith}
 use Rattle.pair_theory.specs.DependencyPair.{DependencyPair, dependency_pairs}
 use Rattle.pair_theory.specs.ReductionPair.{marked_rule}
-use Rattle.dp_core.specs.PlacedPairs.{placed_pairs}
-use Rattle.dp_core.proofs.AllNumbers.{few_pairs}
+use Rattle.order_search.specs.dp_core.PlacedPairs.{placed_pairs}
+use Rattle.order_search.proofs.dp_core.AllNumbers.{few_pairs}
 use Rattle.order_search.proofs.OfProblem.{small_roots, all_markable, distinct, few_of_problem, few_falling, found_of_problem}
 use Rattle.kbo_order.specs.declared.table.Kbo.{Kbo}
 use Rattle.kbo_find.specs.KboRow.{kbo_search, kbo_entry}

@@ -1,8 +1,8 @@
 use Rattle.std.proofs.Common.{◌≡◌, ◌≤◌, List, length, map, ap, sym, ◌∙◌, arith}
 use Rattle.pair_theory.specs.DependencyPair.{DependencyPair, dependency_pairs}
 use Rattle.pair_theory.specs.ReductionPair.{marked_rule}
-use Rattle.dp_core.specs.PlacedPairs.{placed_pairs}
-use Rattle.dp_core.proofs.AllNumbers.{few_pairs}
+use Rattle.order_search.specs.dp_core.PlacedPairs.{placed_pairs}
+use Rattle.order_search.proofs.dp_core.AllNumbers.{few_pairs}
 use Rattle.lpo_find.proofs.Found.{small_roots, all_markable, distinct, covered, few_slots, few_falling, found_of_problem}
 use Rattle.lpo_find.proofs.finding.find_lpo_in.Goals as goal
 

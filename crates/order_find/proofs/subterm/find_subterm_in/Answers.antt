@@ -1,8 +1,8 @@
 use Rattle.std.proofs.Common.{◌≡◌, ◌≤◌, length, subst, ◌∙◌, arith}
 use Rattle.pair_theory.specs.DependencyPair.{dependency_pairs}
-use Rattle.dp_core.specs.PlacedPairs.{placed_pairs}
-use Rattle.dp_core.specs.Numbered.{ArePairsOf}
-use Rattle.dp_core.proofs.AllNumbers.{few_pairs}
+use Rattle.order_search.specs.dp_core.PlacedPairs.{placed_pairs}
+use Rattle.order_search.specs.dp_core.Numbered.{ArePairsOf}
+use Rattle.order_search.proofs.dp_core.AllNumbers.{few_pairs}
 use Rattle.order_search.proofs.FewPairs.{few_taken, few_roots}
 use Rattle.order_find.proofs.Findings.{of_problem, found_of_problem}
 use Rattle.order_find.proofs.subterm.find_subterm_in.Goals as goal

@@ -1,11 +1,11 @@
 use Rattle.std.proofs.Common.{◌≡◌, ◌≤◌, ◌<◌, ℕ, List, All, length, map, refl, ap, sym, subst, ◌∙◌, arith}
 use Rattle.pair_theory.specs.DependencyPair.{DependencyPair, dependency_pairs}
 use Rattle.pair_theory.specs.ReductionPair.{marked_rule}
-use Rattle.dp_core.specs.PlacedPairs.{placed_pairs}
-use Rattle.dp_core.proofs.AllNumbers.{few_pairs}
+use Rattle.order_search.specs.dp_core.PlacedPairs.{placed_pairs}
+use Rattle.order_search.proofs.dp_core.AllNumbers.{few_pairs}
 use Rattle.order_search.proofs.OfProblem.{small_roots, all_markable, distinct, few_of_problem, few_falling, found_of_problem, are_symbols}
 use Rattle.poly_find.specs.PolyRow.{poly_search, poly_entry}
-use Rattle.dp_core.specs.Symbols.{symbols_of_rules}
+use Rattle.order_search.specs.dp_core.Symbols.{symbols_of_rules}
 use Rattle.order_search.proofs.Covered.{plain_small}
 use Rattle.poly_find.proofs.LowSymbols.{low_symbols}
 use Rattle.poly_find.proofs.finding.find_poly_in.Goals as goal

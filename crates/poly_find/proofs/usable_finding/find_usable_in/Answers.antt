@@ -2,10 +2,10 @@ use Rattle.std.proofs.Common.{◌≡◌, ◌≤◌, ◌<◌, ℕ, List, All, len
 use Rattle.trs_defs.specs.System.{RewriteRule}
 use Rattle.pair_theory.specs.DependencyPair.{DependencyPair, dependency_pairs}
 use Rattle.pair_theory.specs.ReductionPair.{marked_rule}
-use Rattle.dp_core.specs.Numbered.{ArePairsOf, AreItemsOf}
-use Rattle.dp_core.specs.Symbols.{symbols_of_rules, symbols_below_roots}
-use Rattle.dp_core.specs.PlacedPairs.{placed_pairs}
-use Rattle.dp_core.proofs.AllNumbers.{few_pairs}
+use Rattle.order_search.specs.dp_core.Numbered.{ArePairsOf, AreItemsOf}
+use Rattle.order_search.specs.dp_core.Symbols.{symbols_of_rules, symbols_below_roots}
+use Rattle.order_search.specs.dp_core.PlacedPairs.{placed_pairs}
+use Rattle.order_search.proofs.dp_core.AllNumbers.{few_pairs}
 use Rattle.usable_rules.specs.AreUsable.{AreUsableRules}
 use Rattle.usable_rules.proofs.Chosen.{usable_within}
 use Rattle.order_search.specs.OrderRow.{AreSymbols}

@@ -1,6 +1,6 @@
 use Rattle.std.proofs.Common.{[], map}
-use Rattle.cert_step.specs.ProofProblem.{problem_of}
-use Rattle.cert_step.specs.ProofStep.{node_step_of}
+use Rattle.step_text.specs.cert_step.ProofProblem.{problem_of}
+use Rattle.step_text.specs.cert_step.ProofStep.{node_step_of}
 use Rattle.step_text.specs.Steps.{step_item}
 use Rattle.report_text.specs.GoalLines.{stuck_item, failed_item}
 use Rattle.report_text.proofs.GoalTexts.{goal_put}

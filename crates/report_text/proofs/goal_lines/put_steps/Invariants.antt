@@ -1,7 +1,7 @@
 use Rattle.std.proofs.Common.{◌≡◌, ◌++◌, [], map, drop}
 use Rattle.sexp_core.specs.Items.{items_of}
 use Rattle.sexp_core.specs.Printed.{spaced}
-use Rattle.cert_step.specs.ProofStep.{node_step_of}
+use Rattle.step_text.specs.cert_step.ProofStep.{node_step_of}
 use Rattle.step_text.specs.Steps.{step_item}
 use Rattle.report_text.proofs.goal_lines.put_steps.Given as goal
 

@@ -2,7 +2,7 @@ use Rattle.std.proofs.Common.{sym, ◌∙◌}
 use Rattle.std.proofs.lemmas.Result.{err_from_is_err_and}
 use Rattle.rewrite_core.specs.Check.{goes_on, stops, lacks}
 use Rattle.rewrite_core.proofs.Answering.{refused_first, refused_later, then_answers}
-use Rattle.crit_pairs.proofs.Answered.{all_listed}
+use Rattle.closed_pairs.proofs.crit_pairs.Answered.{all_listed}
 use Rattle.rule_label.proofs.labelled.labelled_check.Goals as goal
 
 pub returns-in_err-linear_check : goal.returns-in_err-linear_check

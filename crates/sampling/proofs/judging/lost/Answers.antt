@@ -1,6 +1,6 @@
 use Rattle.std.proofs.Common.{map, subst}
-use Rattle.tree_definitions.specs.declared.question.Question.{Question}
-use Rattle.tree_definitions.specs.Reports.{part_of, IsTrueReport}
+use Rattle.worker_pool.specs.tree_definitions.declared.question.Question.{Question}
+use Rattle.worker_pool.specs.tree_definitions.Reports.{part_of, IsTrueReport}
 use Rattle.sampling.specs.Judged.{left_open}
 use Rattle.sampling.proofs.judging.lost.Goals as goal
 

@@ -1,5 +1,5 @@
 use Rattle.std.proofs.Common.{map}
-use Rattle.cert_step.specs.ProofStep.{node_step_of}
+use Rattle.worker_pool.specs.cert_step.ProofStep.{node_step_of}
 use Rattle.sampling.proofs.WonGoals.{no_other, serial_proved, serial_refuted, true_proved, true_refuted}
 use Rattle.sampling.proofs.judging.won.Goals as goal
 

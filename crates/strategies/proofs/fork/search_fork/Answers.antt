@@ -1,6 +1,6 @@
 use Rattle.std.specs.Prelude.{Ok}
 use Rattle.std.proofs.Common.{sym, subst}
-use Rattle.crit_pairs.specs.PeakList.{ListsPeaks}
+use Rattle.loop_find.specs.crit_pairs.PeakList.{ListsPeaks}
 use Rattle.conf_find.specs.Fork.{fork_of}
 use Rattle.cert_step.specs.ProofProblem as problem
 use Rattle.strategies.specs.declared.strategy.Strategy.TheVariants as strategy

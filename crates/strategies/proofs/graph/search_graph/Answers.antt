@@ -1,7 +1,7 @@
 use Rattle.std.specs.Prelude.{◌≡◌, [], ◌∷◌, false}
 use Rattle.std.proofs.Common.{sym, ap, subst, ◌∙◌}
 use Rattle.pair_theory.specs.DependencyPair.{dependency_pairs}
-use Rattle.dp_graph.specs.GroupOrSingle.{group, items_of}
+use Rattle.cert_step.specs.dp_graph.GroupOrSingle.{group, items_of}
 use Rattle.cert_step.specs.ProofProblem as problem
 use Rattle.cert_step.specs.ProofProblem.{problem_of}
 use Rattle.cert_step.specs.ProofStep as step

@@ -1,5 +1,5 @@
 use Rattle.std.specs.Prelude.{Ok}
-use Rattle.crit_pairs.specs.PeakList.{ListsPeaks}
+use Rattle.loop_find.specs.crit_pairs.PeakList.{ListsPeaks}
 use Rattle.strategies.specs.Rows.{peaks_pass_limit, peaks_fail}
 use Rattle.strategies.specs.Conditions.{newman_is_not_there}
 use Rattle.strategies.proofs.TrueRows.{newman_true}

@@ -1,7 +1,7 @@
 use Rattle.std.proofs.Common.{◌≡◌, ◌-◌, ◌≤◌, ◌++◌, ℕ, List, length, map, vec_len}
 use Rattle.std.specs.Vec.{vec_capacity}
 use Rattle.std.specs.Vec.Iter.{into_iter_items}
-use Rattle.cert_step.specs.ProofProblem.{problem_of}
+use Rattle.tree_definitions.specs.cert_step.ProofProblem.{problem_of}
 use Rattle.tree_definitions.specs.History.{HistoryEntry}
 use Rattle.tree_definitions.specs.States.{new_node}
 use Rattle.tree_state.specs.Seen.{node_of, AreWithin}

@@ -1,6 +1,6 @@
 use Rattle.std.proofs.Common.{◌&&◌, not, [], take, length, sym, ap, ◌∙◌}
-use Rattle.cert_step.specs.ProofProblem.{problem_of}
-use Rattle.strategies.specs.Kinds.{strategies_for}
+use Rattle.tree_definitions.specs.cert_step.ProofProblem.{problem_of}
+use Rattle.tree_definitions.specs.strategies.Kinds.{strategies_for}
 use Rattle.tree_state.specs.Parts.{all_failed}
 use Rattle.tree_state.specs.Seen.{node_of, decided_of}
 use Rattle.tree_state.proofs.Failures.{is_none_map, not_some}

@@ -1,6 +1,6 @@
 use Rattle.std.proofs.Common.{◌≡◌, ℕ, suc, ◌+◌, ◌<◌, ◌++◌, ◌∷◌, [], length, take, get_or, subst, sym, ap, ◌∙◌, arith}
 use Rattle.std.proofs.lemmas.Option.{slice_get-get_or}
-use Rattle.strategies.specs.declared.strategy.Strategy.TheVariants.{Dp}
+use Rattle.tree_definitions.specs.strategies.declared.strategy.Strategy.TheVariants.{Dp}
 use Rattle.tree_definitions.specs.declared.mark.Mark.TheVariants.{Idle}
 use Rattle.tree_state.specs.Stuck.{failures, is_spent}
 use Rattle.tree_state.proofs.Failures.{failures_next}

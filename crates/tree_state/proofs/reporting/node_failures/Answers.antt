@@ -1,7 +1,7 @@
 use Rattle.std.proofs.Common.{◌≡◌, [], subst}
 use Rattle.std.specs.Prelude.{IfOk}
-use Rattle.cert_step.specs.ProofProblem.{problem_of}
-use Rattle.strategies.specs.Kinds.{strategies_for}
+use Rattle.tree_definitions.specs.cert_step.ProofProblem.{problem_of}
+use Rattle.tree_definitions.specs.strategies.Kinds.{strategies_for}
 use Rattle.tree_state.specs.Stuck.{failures}
 use Rattle.tree_state.proofs.reporting.node_failures.Goals as goal
 

@@ -1,6 +1,6 @@
 use Rattle.std.proofs.Common.{sym, subst, rules}
 use Rattle.std.proofs.lemmas.Result.{IfOk-weaker}
-use Rattle.cert_text.specs.ProofText.{proof_text_of}
+use Rattle.conclusion.specs.cert_text.ProofText.{proof_text_of}
 use Rattle.certifier.specs.Acceptance.{IsRejection}
 use Rattle.certifier.specs.declared.rejected.Rejected.TheVariants as why
 use Rattle.trsprove.specs.declared.status.Status.TheVariants as status

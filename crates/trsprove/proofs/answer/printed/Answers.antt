@@ -1,5 +1,5 @@
 use Rattle.std.proofs.Common.{sym, subst}
-use Rattle.cert_text.specs.ProofText.{proof_text_of}
+use Rattle.conclusion.specs.cert_text.ProofText.{proof_text_of}
 use Rattle.command_line.specs.declared.Wanted.TheVariants as want
 use Rattle.trsprove.specs.declared.status.Status.TheVariants as status
 use Rattle.trsprove.specs.Output.{IsWritten, in_version_two}

@@ -1,8 +1,8 @@
 use Rattle.std.proofs.Common.{◌≡◌, ◌∙◌, ◌<◌, ap, sym, subst}
-use Rattle.tree_definitions.specs.Questions.{goals_of}
-use Rattle.tree_definitions.specs.Trees.{ProofTree}
-use Rattle.tree_definitions.specs.Verdicts.{HasVerdict}
-use Rattle.tree_definitions.specs.declared.question.Question.{Question}
+use Rattle.tree_core.specs.tree_definitions.Questions.{goals_of}
+use Rattle.tree_core.specs.tree_definitions.Trees.{ProofTree}
+use Rattle.tree_core.specs.tree_definitions.Verdicts.{HasVerdict}
+use Rattle.tree_core.specs.tree_definitions.declared.question.Question.{Question}
 use Rattle.worker_pool.specs.Turns.{IsTurn}
 use Rattle.worker_pool.proofs.Rounds.{new_tree, new_at_rest}
 use Rattle.worker_pool.proofs.alone.prove_alone.Goals as goal

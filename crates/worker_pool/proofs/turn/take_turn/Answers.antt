@@ -1,8 +1,8 @@
 use Rattle.std.proofs.Common.{◌≡◌, ◌∙◌, ℕ, subst, sym}
 use Rattle.trs_defs.specs.System.{System}
-use Rattle.tree_definitions.specs.declared.answers.Claimed.{Claimed}
-use Rattle.tree_definitions.specs.declared.answers.Claimed.TheVariants as claim
-use Rattle.tree_definitions.specs.Replies.{IsClaim, IsTask}
+use Rattle.tree_core.specs.tree_definitions.declared.answers.Claimed.{Claimed}
+use Rattle.tree_core.specs.tree_definitions.declared.answers.Claimed.TheVariants as claim
+use Rattle.tree_core.specs.tree_definitions.Replies.{IsClaim, IsTask}
 use Rattle.worker_pool.specs.Turns.{IsAnswerTo}
 use Rattle.worker_pool.proofs.Rounds.{none_runs, mid_system, task_given, at_rest}
 use Rattle.worker_pool.proofs.turn.take_turn.Goals as goal

@@ -1,7 +1,7 @@
 use Rattle.std.proofs.Common.{ℕ, List, [], map, slice_get, ap, sym, ◌∙◌}
 use Rattle.std.specs.Prelude.{unwrap_or}
 use Rattle.order_theory.specs.ArgumentFilter.{Keep}
-use Rattle.pair_order.specs.Entries.{place_among}
+use Rattle.path_lpo.specs.pair_order.Entries.{place_among}
 use Rattle.lpo_find.specs.Filters.{plain_filters}
 use Rattle.lpo_find.proofs.Assigning.{no_filter, filter_there}
 use Rattle.lpo_find.proofs.assigned.AssignedPrecedence.filter.Goals as goal

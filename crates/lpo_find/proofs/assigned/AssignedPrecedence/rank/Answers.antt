@@ -1,5 +1,5 @@
 use Rattle.std.proofs.Common.{ℕ, List, ap, sym, ◌∙◌}
-use Rattle.pair_order.specs.Entries.{place_among}
+use Rattle.path_lpo.specs.pair_order.Entries.{place_among}
 use Rattle.lpo_find.proofs.Assigning.{no_rank, rank_there}
 use Rattle.lpo_find.proofs.assigned.AssignedPrecedence.rank.Goals as goal
 

@@ -1,5 +1,5 @@
 use Rattle.std.proofs.Common.{ℕ, List, sym, ap, ◌∙◌}
-use Rattle.pair_order.specs.Entries.{place_among}
+use Rattle.kbo_find.specs.pair_order.Entries.{place_among}
 use Rattle.order_find.proofs.SubtermPuzzle.{value_absent, value_there}
 use Rattle.order_find.proofs.subterm_space.SubtermSpace.value_for.Goals as goal
 

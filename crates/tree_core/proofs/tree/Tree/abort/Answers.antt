@@ -1,7 +1,7 @@
 use Rattle.std.proofs.Common.{refl, sym, subst}
-use Rattle.tree_definitions.specs.History.{aborted, Runs}
+use Rattle.tree_state.specs.tree_definitions.History.{aborted, Runs}
 use Rattle.tree_state.specs.Parts.{aborted_parts}
-use Rattle.tree_definitions.specs.Trees.{ProofTree}
+use Rattle.tree_state.specs.tree_definitions.Trees.{ProofTree}
 use Rattle.tree_core.proofs.Trees.{has_ticket, running_ok, room_ok, aborts, abort_tree, owner, notes_left}
 use Rattle.tree_core.proofs.tree.Tree.abort.Goals as goal
 

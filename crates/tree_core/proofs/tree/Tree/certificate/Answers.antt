@@ -1,8 +1,8 @@
 use Rattle.std.proofs.Common.{◌≡◌, ℕ, sym, ◌∙◌, map, subst}
 use Rattle.std.proofs.lemmas.List.Elements.{All-from_recursion}
-use Rattle.cert_step.specs.ProofStep.{ProofNodeStep, node_step_of, IsWellMade}
-use Rattle.cert_step.proofs.NodeSoundness.{true_claim}
-use Rattle.tree_definitions.specs.Reports.{AreStepsOf, IsFoundStep}
+use Rattle.tree_state.specs.cert_step.ProofStep.{ProofNodeStep, node_step_of, IsWellMade}
+use Rattle.tree_state.proofs.cert_step.NodeSoundness.{true_claim}
+use Rattle.tree_state.specs.tree_definitions.Reports.{AreStepsOf, IsFoundStep}
 use Rattle.tree_core.proofs.Accepted.{ascending, goal_made, accepted, steps_well_made, steps_found, some_same}
 use Rattle.tree_core.proofs.tree.Tree.certificate.Goals as goal
 

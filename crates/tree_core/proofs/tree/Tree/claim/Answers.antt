@@ -1,12 +1,12 @@
 use Rattle.std.proofs.Common.{◌≡◌, ◌<◌, ◌≤◌, ℕ, false, Option, Some, None, length, slice_get, refl, sym, ap, ◌∙◌, subst, arith}
 use Rattle.std.specs.Option.{MatchOption}
 use Rattle.std.proofs.lemmas.Option.{slice_get_within}
-use Rattle.strategies.specs.Kinds.{strategies_for}
-use Rattle.cert_step.specs.ProofProblem.{ProofProblem, problem_of}
-use Rattle.tree_definitions.specs.Questions.{goals_of}
-use Rattle.tree_definitions.specs.States.{TreeNode}
+use Rattle.tree_state.specs.strategies.Kinds.{strategies_for}
+use Rattle.tree_state.specs.cert_step.ProofProblem.{ProofProblem, problem_of}
+use Rattle.tree_state.specs.tree_definitions.Questions.{goals_of}
+use Rattle.tree_state.specs.tree_definitions.States.{TreeNode}
 use Rattle.tree_state.specs.Parts.{Parts, free_place, is_done_by, claimed_parts}
-use Rattle.tree_definitions.specs.Replies.{IsAgain}
+use Rattle.tree_state.specs.tree_definitions.Replies.{IsAgain}
 use Rattle.tree_core.specs.Invariant.{IsTree}
 use Rattle.tree_core.proofs.Flags.{done_is}
 use Rattle.tree_state.proofs.Idle.{open_at}

@@ -1,12 +1,12 @@
 use Rattle.std.proofs.Common.{◌≡◌, ◌<◌, ℕ, length, position, slice_get, Some, None, refl, sym, ap, ◌∙◌, subst}
 use Rattle.std.proofs.lemmas.Option.{slice_get_read}
-use Rattle.cert_step.specs.ProofProblem.{problem_of}
-use Rattle.strategies.specs.Kinds.{strategies_for}
-use Rattle.tree_definitions.specs.Questions.{goals_of}
-use Rattle.tree_definitions.specs.States.{TreeNode}
-use Rattle.tree_definitions.specs.Trees.{ProofTree}
-use Rattle.tree_definitions.specs.Verdicts.{IsLost}
-use Rattle.tree_definitions.specs.Reports.{steps_from}
+use Rattle.tree_state.specs.cert_step.ProofProblem.{problem_of}
+use Rattle.tree_state.specs.strategies.Kinds.{strategies_for}
+use Rattle.tree_state.specs.tree_definitions.Questions.{goals_of}
+use Rattle.tree_state.specs.tree_definitions.States.{TreeNode}
+use Rattle.tree_state.specs.tree_definitions.Trees.{ProofTree}
+use Rattle.tree_state.specs.tree_definitions.Verdicts.{IsLost}
+use Rattle.tree_state.specs.tree_definitions.Reports.{steps_from}
 use Rattle.tree_state.specs.Stuck.{is_stuck_at, failures}
 use Rattle.tree_core.proofs.Accepted.{ascending}
 use Rattle.tree_core.proofs.GoalParts.{some_stuck, stuck_within, placed, reported}

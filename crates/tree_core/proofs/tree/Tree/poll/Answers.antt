@@ -1,9 +1,9 @@
 use Rattle.std.proofs.Common.{◌∙◌, refl, sym, subst}
-use Rattle.tree_definitions.specs.History.{cancelled, Runs}
+use Rattle.tree_state.specs.tree_definitions.History.{cancelled, Runs}
 use Rattle.tree_state.specs.Parts.{ended_parts}
-use Rattle.tree_definitions.specs.Trees.{ProofTree}
-use Rattle.tree_definitions.specs.Replies.{IsUnwanted}
-use Rattle.tree_definitions.specs.declared.mark.Mark.TheVariants.{Idle}
+use Rattle.tree_state.specs.tree_definitions.Trees.{ProofTree}
+use Rattle.tree_state.specs.tree_definitions.Replies.{IsUnwanted}
+use Rattle.tree_state.specs.tree_definitions.declared.mark.Mark.TheVariants.{Idle}
 use Rattle.tree_core.proofs.Trees.{has_ticket, running_ok, room_ok, late_tree, cancels, unwanted, wanted, adds_late, notes_left}
 use Rattle.tree_core.proofs.tree.Tree.poll.Goals as goal
 

@@ -1,14 +1,14 @@
 use Rattle.std.proofs.Common.{◌≡◌, ◌∙◌, refl, sym, ap, subst, true, false, map}
-use Rattle.cert_step.specs.ProofProblem.{problem_of}
-use Rattle.cert_step.specs.ProofStep.{step_of}
-use Rattle.strategies.specs.Runs.{Found}
-use Rattle.strategies.specs.Truth.{IsTrueFound}
-use Rattle.tree_definitions.specs.declared.mark.Mark.TheVariants.{Idle}
-use Rattle.tree_definitions.specs.History.{HistoryEntry, Runs}
-use Rattle.tree_definitions.specs.History as history
+use Rattle.tree_state.specs.cert_step.ProofProblem.{problem_of}
+use Rattle.tree_state.specs.cert_step.ProofStep.{step_of}
+use Rattle.tree_state.specs.strategies.Runs.{Found}
+use Rattle.tree_state.specs.strategies.Truth.{IsTrueFound}
+use Rattle.tree_state.specs.tree_definitions.declared.mark.Mark.TheVariants.{Idle}
+use Rattle.tree_state.specs.tree_definitions.History.{HistoryEntry, Runs}
+use Rattle.tree_state.specs.tree_definitions.History as history
 use Rattle.tree_state.specs.Parts.{Parts, HasTicket, ended_parts, failed_parts, decided_parts, is_over_by}
-use Rattle.tree_definitions.specs.Trees.{ProofTree}
-use Rattle.tree_definitions.specs.Replies.{IsUnwanted, Notes, IsTaskOf, event_of_found}
+use Rattle.tree_state.specs.tree_definitions.Trees.{ProofTree}
+use Rattle.tree_state.specs.tree_definitions.Replies.{IsUnwanted, Notes, IsTaskOf, event_of_found}
 use Rattle.tree_core.specs.Invariant.{IsTree}
 use Rattle.tree_core.proofs.Tasks.{node_roomy_tree}
 use Rattle.tree_core.proofs.Trees.{tree_of, has_ticket, running_ok, room_ok, late_tree, unwanted, owner, notes_left}

@@ -1,8 +1,8 @@
 use Rattle.std.proofs.Common.{◌≡◌, map, ap, arith}
 use Rattle.std.proofs.lemmas.List.{length-map}
-use Rattle.tree_definitions.specs.Questions.{goals_of}
-use Rattle.tree_definitions.specs.Trees.{ProofTree}
-use Rattle.tree_definitions.specs.Reports.{part_of}
+use Rattle.tree_state.specs.tree_definitions.Questions.{goals_of}
+use Rattle.tree_state.specs.tree_definitions.Trees.{ProofTree}
+use Rattle.tree_state.specs.tree_definitions.Reports.{part_of}
 use Rattle.tree_core.proofs.GoalParts.{parts_more, parts_of_tree, parts_well_made, parts_true}
 use Rattle.tree_core.proofs.tree.Tree.report.Goals as goal
 

@@ -1,5 +1,5 @@
 use Rattle.std.proofs.Common.{◌≡◌, ℕ, Some, map, length, slice_get}
-use Rattle.tree_definitions.specs.Reports.{Part, part_of}
+use Rattle.tree_state.specs.tree_definitions.Reports.{Part, part_of}
 use Rattle.tree_core.specs.Reported.{IsReported}
 use Rattle.tree_core.proofs.tree.Tree.report.Given as goal
 

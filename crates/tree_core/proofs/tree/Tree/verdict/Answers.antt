@@ -1,5 +1,5 @@
 use Rattle.std.proofs.Common.{◌≡◌, ◌∙◌, sym, None}
-use Rattle.tree_definitions.specs.Questions.{goals_of}
+use Rattle.tree_state.specs.tree_definitions.Questions.{goals_of}
 use Rattle.tree_core.proofs.Flags.{lost_verdict, no_verdict}
 use Rattle.tree_core.proofs.tree.Tree.verdict.Goals as goal
 

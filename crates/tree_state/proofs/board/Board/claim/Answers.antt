@@ -1,7 +1,7 @@
 use Rattle.std.proofs.Common.{◌≡◌, ◌<◌, ◌-◌, ◌+◌, ◌++◌, ◌∷◌, [], map, length, refl, sym, ◌∙◌, subst, arith, vec_len, ℕ, Some, slice_get, true, rules}
 use Rattle.std.specs.Vec.{vec_capacity}
 use Rattle.std.proofs.lemmas.List.{length-map, length-append}
-use Rattle.cert_step.specs.ProofProblem.{problem_of}
+use Rattle.tree_definitions.specs.cert_step.ProofProblem.{problem_of}
 use Rattle.tree_state.specs.Parts.{Parts}
 use Rattle.tree_definitions.specs.States.{TreeNode}
 use Rattle.tree_state.specs.declared.entry.Event.TheVariants as own

@@ -1,7 +1,7 @@
 use Rattle.std.proofs.Common.{◌≡◌, ◌++◌, ℕ, map, length, sym, ◌∙◌, subst, Some, slice_get, slice_set, arith, List}
 use Rattle.std.proofs.lemmas.List.{length-map}
-use Rattle.cert_step.specs.ProofProblem.{problem_of}
-use Rattle.cert_step.specs.ProofStep.{step_of}
+use Rattle.tree_definitions.specs.cert_step.ProofProblem.{problem_of}
+use Rattle.tree_definitions.specs.cert_step.ProofStep.{step_of}
 use Rattle.tree_state.specs.declared.goal.Goal.{Goal}
 use Rattle.tree_definitions.specs.declared.mark.Mark.TheVariants.{Idle}
 use Rattle.tree_state.specs.declared.node.Decision.{Decision}

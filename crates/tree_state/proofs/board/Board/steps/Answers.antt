@@ -1,7 +1,7 @@
 use Rattle.std.proofs.Common.{map, get_or}
 use Rattle.std.specs.Option.{option_map}
 use Rattle.std.proofs.lemmas.Option.{slice_get-get_or}
-use Rattle.cert_step.specs.ProofStep.{step_of, node_step_of}
+use Rattle.tree_definitions.specs.cert_step.ProofStep.{step_of, node_step_of}
 use Rattle.tree_state.proofs.Steps.{steps_next}
 use Rattle.tree_state.proofs.board.Board.steps.Goals as goal
 

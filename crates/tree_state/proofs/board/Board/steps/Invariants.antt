@@ -1,5 +1,5 @@
 use Rattle.std.proofs.Common.{◌≡◌, map, take}
-use Rattle.cert_step.specs.ProofStep.{node_step_of}
+use Rattle.tree_definitions.specs.cert_step.ProofStep.{node_step_of}
 use Rattle.tree_definitions.specs.Reports.{steps_from}
 use Rattle.tree_state.proofs.board.Board.steps.Given as goal
 

@@ -1,5 +1,5 @@
 use Rattle.order_theory.proofs.UsableProblems.{exact_has_usable, usable_within}
-use Rattle.order_theory.proofs.usable.usable_symbols.Goals as goal
+use Rattle.order_theory.proofs.usable_removal.usable_symbols.Goals as goal
 
 pub returns-clause-exact : goal.returns-clause-exact
 returns-clause-exact c = exact_has_usable

@@ -1,5 +1,5 @@
 use Rattle.order_theory.proofs.UsableProblems.{usable_theorem, on_all_terms}
-use Rattle.order_theory.proofs.usable.remove_by_usable_rules.Goals as goal
+use Rattle.order_theory.proofs.usable_removal.remove_by_usable_rules.Goals as goal
 
 pub returns : goal.returns
 returns g c = record {
