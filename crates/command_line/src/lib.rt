@@ -251,6 +251,3 @@ pub fn parse<'a>(alloc: Global, words: &'a [&'a str]) -> Result<Request<'a>, Ref
         Err(error) => Err(refusal(error.kind())),
     }
 }
-
-#[cfg(test)]
-mod tests;

@@ -18,6 +18,3 @@ pub use memory_sink::MemorySink;
 pub use shelf::Shelf;
 pub use sink::Sink;
 pub use writer_sink::{StdSink, WriterSink};
-
-#[cfg(test)]
-mod tests;

@@ -1,4 +1,5 @@
-use super::*;
+//! The words of the command line.
+use command_line::{Refused, parse};
 use std::test::*;
 
 // Words are split at each blank, so that two blanks stand round an empty word.

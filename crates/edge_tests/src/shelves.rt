@@ -1,4 +1,5 @@
-use super::*;
+//! Shelves and sinks, in memory and at the host.
+use io_edge::{FetchFault, FileShelf, MemoryShelf, MemorySink, Shelf, Sink};
 use std::fs;
 use std::test::*;
 
