@@ -1,7 +1,11 @@
 pub mod Conversion
 pub mod GreaterBy
+pub mod ReductionOrder
 pub mod Normalizing
+pub mod Moving
 pub mod Orienting
 pub mod Endings
 pub mod CompletionRun
 pub mod Answers
+pub mod Treating
+pub mod Taking

@@ -7,6 +7,9 @@ ghost use Rattle.completion.specs.Endings.{IsRightEnding};
 ghost use Rattle.completion.specs.Answers.{plain_ending, HasArities};
 
 use crate::Completion;
+use crate::closing::close;
+use crate::known::see_system;
+use crate::taking::{Taken, take};
 use path_lpo::Lpo;
 use std::alloc::Global;
 use trs_core::{OutOfMemory, Trs};
@@ -28,5 +31,9 @@ pub fn complete(
         IsRightEnding equations.now (GreaterBy order.now) (plain_ending c)) }
     ensures arities { IfOk result (HasArities equations.now.arities) }
 {
-    Err(OutOfMemory)
+    see_system(equations);
+    match take(alloc, equations, order, budget)? {
+        Taken::Ended(why) => Ok(why),
+        Taken::Rules(system, units) => close(alloc, order, system, units),
+    }
 }

@@ -2,10 +2,20 @@
 //! problems in universal algebras, 1970; Baader and Nipkow, section 7.1.)
 #![tactic(auto)]
 
+mod closing;
 mod completing;
 mod endings;
+mod first_steps;
+mod known;
+mod laws;
+mod normalizing;
+mod orienting;
+mod renumbering;
+mod taking;
+mod treating;
 mod unfinished;
 
 pub use completing::complete;
 pub use endings::Completion;
+pub use laws::completed_runs_are_right;
 pub use unfinished::Unfinished;

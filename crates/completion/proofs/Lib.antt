@@ -1,0 +1,9 @@
+pub mod Conversions
+pub mod SoundRules
+pub mod PeakPairs
+pub mod RightEndings
+pub mod PathReductions
+pub mod FirstSteps
+pub mod Renumbered
+pub mod TreatLaws
+pub mod LoopLaws

@@ -1,0 +1,247 @@
+-- What the loops of completion keep: what is left answers as the whole.
+use Rattle.std.proofs.Common.{◌≡◌, ◌<◌, ◌≤◌, ℕ, ◌+◌, zero, suc, refl, sym, ap, subst, arith, map, drop, List, [], ◌∷◌, ◌++◌, Option, Some, None, Result, Ok, Err, IfOk, length, get_or, slice_get}
+use Rattle.std.proofs.lemmas.Option.{slice_get_read}
+use Rattle.trs_defs.specs.Tree.{Tree}
+use Rattle.trs_defs.specs.WellFormed.{IsWellFormed}
+use Rattle.trs_defs.specs.Member.{In, in_first, in_rest}
+use Rattle.trs_defs.specs.Size.{size_of}
+use Rattle.trs_core.specs.SystemLimits.{IsWithinLimits, nodes_of}
+use Rattle.trs_defs.proofs.ArgumentLists.{cell}
+use Rattle.trs_defs.specs.System.{RewriteRule, System, IsSystem}
+use Rattle.trs_defs.proofs.Members.{in_of_get, in_map}
+use Rattle.completion.specs.declared.endings.Completion.{Completion}
+use Rattle.completion.specs.declared.endings.Completion.TheVariants as completion
+use Rattle.completion.specs.declared.treating.Outcome.TheVariants as outcome
+use Rattle.completion.specs.Endings.{Ending, Done, Unorientable, Spent, Limit, with_rules, IsRightEnding}
+use Rattle.completion.specs.ReductionOrder.{IsReductionOrder}
+use Rattle.trs_core.specs.declared.memory.OutOfMemory.{OutOfMemory}
+use Rattle.completion.proofs.RightEndings.{completes_right}
+use Rattle.completion.specs.declared.unfinished.Unfinished.{Unfinished}
+use Rattle.completion.specs.declared.unfinished.Unfinished.TheVariants.{NoUnit, TooLarge}
+use Rattle.completion.specs.CompletionRun.{sides, ending_of, Outcome, Passed, Added, Ended, Treats, left_stops, right_stops, no_order, no_unit, no_room, Takes, all_taken, take_passed, take_added, take_ended, Finds, none_found, passed_over, found_rule, found_end, Closes, no_peak_left, one_more, peak_ends, peaks_large, Completes, peaks_close}
+use Rattle.completion.specs.Answers.{plain_ending, HasArities}
+use Rattle.completion.specs.Treating.{pair_of, IsOutcome, IsWithRule}
+use Rattle.completion.specs.Taking.{IsTermOver, ArePairsOver, IsListing}
+use Rattle.rewrite_core.specs.PlacedPeak.{PlacedPeak}
+use Rattle.crit_pairs.specs.PeakList.{ListsPeaks}
+use Rattle.crit_pairs.specs.declared.faults.PeakFault.{PeakFault}
+use Rattle.completion.proofs.PeakPairs.{of_pair}
+use Rattle.completion.proofs.TreatLaws.{found_fewer}
+
+-- the pair of the peak that is read is one of the pairs
+pub read_pair : (arities : List ℕ) (peaks : List PlacedPeak) (i : ℕ) (p : PlacedPeak) → ArePairsOver arities (map sides peaks) → i < length peaks → p ≡ get_or peaks i p
+    → IsTermOver arities p.left × IsTermOver arities p.right
+read_pair arities peaks i p h below is = h (sides p) (in_map sides (in_of_get peaks i p (slice_get_read peaks (length peaks) i p refl below is)))
+
+-- the pairs that are left at a peak
+pub next_pairs : (peaks : List PlacedPeak) (i : ℕ) (p : PlacedPeak) → i < length peaks → p ≡ get_or peaks i p
+    → map sides (drop i peaks) ≡ sides p ∷ map sides (drop (i + 1) peaks)
+next_pairs peaks i p below is = ap (map sides) (cell peaks i p below is)
+
+stop_no_rules : (made : List RewriteRule) (why : Unfinished) → ending_of why ≡ Done made → ⊥
+stop_no_rules made NoUnit e = absurd cc
+stop_no_rules made TooLarge e = absurd cc
+
+module _ (greater : Tree → Tree → Type 0) (system : System) where
+  -- the first of all pairs that is not passed over is the first of these
+  abbrev pub FindsOn : List RewriteRule → ℕ → ℕ → List RewriteRule → Type 0
+  FindsOn all units left rest =
+      (t : Outcome) → Finds system.arities greater system.rules left rest t → Finds system.arities greater system.rules units all t
+
+  module _ (all : List RewriteRule) (units left : ℕ) (rest : List RewriteRule) (p : RewriteRule) (more : List RewriteRule) (is : rest ≡ p ∷ more)
+      (on : FindsOn all units left rest) where
+    abbrev At : Outcome → List RewriteRule → Type 0
+    At t xs = Finds system.arities greater system.rules left xs t
+
+    pub find_next : (n : ℕ) → Treats system.arities greater system.rules left p (Passed n) → FindsOn all units n more
+    find_next n t turn h = on turn (subst (At turn) (sym is) (passed_over t h))
+
+    pub find_rule : (next : System) (n : ℕ) → IsOutcome system (Treats system.arities greater system.rules left p) (outcome.Added next n)
+        → IsOutcome system (Finds system.arities greater system.rules units all) (outcome.Added next n)
+    find_rule next n (r, e, t) = (r, e, on (Added r n) (subst (At (Added r n)) (sym is) (found_rule t)))
+
+    pub find_end : (c : Completion) → IsOutcome system (Treats system.arities greater system.rules left p) (outcome.Ended c)
+        → IsOutcome system (Finds system.arities greater system.rules units all) (outcome.Ended c)
+    find_end c t = on (Ended (plain_ending c)) (subst (At (Ended (plain_ending c))) (sym is) (found_end t))
+
+  pub find_none : (all : List RewriteRule) (units left : ℕ) (rest : List RewriteRule) → rest ≡ [] → FindsOn all units left rest
+      → Finds system.arities greater system.rules units all (Passed left)
+  find_none all units left rest is on =
+      let P : List RewriteRule → Type 0 = λ xs. Finds system.arities greater system.rules left xs (Passed left) in
+      on (Passed left) (subst P (sym is) none_found)
+
+-- ---- the equations
+
+-- the rest of the equations answers as all of them
+pub record IsTaking (greater : Tree → Tree → Type 0) (equations : System) (budget : ℕ) (system : System) (left : ℕ) (rest : List RewriteRule) : Type 0 where
+  pub arities : system.arities ≡ equations.arities
+  pub on : (answer : Result (List RewriteRule × ℕ) Ending) → Takes equations.arities greater system.rules left rest answer
+      → Takes equations.arities greater [] budget equations.rules answer
+
+module _ (greater : Tree → Tree → Type 0) (equations : System) (budget : ℕ) where
+  abbrev Taking : List RewriteRule → ℕ → Result (List RewriteRule × ℕ) Ending → List RewriteRule → Type 0
+  Taking rules left answer es = Takes equations.arities greater rules left es answer
+
+  pub take_begins : (system : System) (rest : List RewriteRule) → system ≡ with_rules equations [] → rest ≡ equations.rules
+      → IsTaking greater equations budget system budget rest
+  take_begins system rest e same =
+      let P : System → Type 0 = λ s. IsTaking greater equations budget s budget rest in
+      subst P (sym e) (record { arities = refl; on = λ answer h. subst (Taking [] budget answer) same h })
+
+  module _ (system : System) (left : ℕ) (rest : List RewriteRule) (e : RewriteRule) (more : List RewriteRule) (is : rest ≡ e ∷ more)
+      (pair : RewriteRule) (same : pair ≡ e) (h : IsTaking greater equations budget system left rest) where
+    at_equation : (t : Outcome) → Treats system.arities greater system.rules left pair t → Treats equations.arities greater system.rules left e t
+    at_equation t turn =
+        let A : List ℕ → Type 0 = λ table. Treats table greater system.rules left pair t in
+        let B : RewriteRule → Type 0 = λ p. Treats equations.arities greater system.rules left p t in
+        subst B same (subst A h.arities turn)
+
+    pub take_next : (n : ℕ) → Treats system.arities greater system.rules left pair (Passed n) → IsTaking greater equations budget system n more
+    take_next n t = record {
+      arities = h.arities;
+      on = λ answer k. h.on answer (subst (Taking system.rules left answer) (sym is) (take_passed (at_equation (Passed n) t) k));
+    }
+
+    pub take_more : (next : System) (n : ℕ) → IsOutcome system (Treats system.arities greater system.rules left pair) (outcome.Added next n)
+        → IsTaking greater equations budget next n more
+    take_more next n (r, e', t) =
+        let P : System → Type 0 = λ s. IsTaking greater equations budget s n more in
+        subst P (sym e')
+        (record {
+          arities = h.arities;
+          on = λ answer k. h.on answer (subst (Taking system.rules left answer) (sym is) (take_added (at_equation (Added r n) t) k));
+        })
+
+    pub take_stops : (c : Completion) → IsOutcome system (Treats system.arities greater system.rules left pair) (outcome.Ended c)
+        → Takes equations.arities greater [] budget equations.rules (Err (plain_ending c))
+    take_stops c t = h.on (Err (plain_ending c)) (subst (Taking system.rules left (Err (plain_ending c))) (sym is) (take_ended (at_equation (Ended (plain_ending c)) t)))
+
+  pub take_all : (system : System) (left : ℕ) (rest : List RewriteRule) → rest ≡ [] → IsTaking greater equations budget system left rest
+      → (system.arities ≡ equations.arities) × Takes equations.arities greater [] budget equations.rules (Ok (system.rules, left))
+  take_all system left rest is h =
+      (h.arities, h.on (Ok (system.rules, left)) (subst (Taking system.rules left (Ok (system.rules, left))) (sym is) all_taken))
+
+-- ---- the peaks
+
+-- the peaks of these rules answer as those of the first ones
+pub record IsClosing (greater : Tree → Tree → Type 0) (start : System) (units : ℕ) (system : System) (left : ℕ) : Type 0 where
+  pub arities : system.arities ≡ start.arities
+  pub on : (ending : Ending) → Closes start.arities greater system.rules left ending → Closes start.arities greater start.rules units ending
+
+module _ (greater : Tree → Tree → Type 0) (start : System) (units : ℕ) where
+  pub close_begins : IsClosing greater start units start units
+  close_begins = record { arities = refl; on = λ ending k. k }
+
+  module _ (system : System) (left : ℕ) (h : IsClosing greater start units system left) where
+    pub close_large : IsListing system.rules None → Closes start.arities greater start.rules units Limit
+    close_large l = h.on Limit (peaks_large l.0 l.1)
+
+    module _ (peaks : List PlacedPeak) (listed : IsListing system.rules (Some peaks)) where
+      at_start : (t : Outcome) → Finds system.arities greater system.rules left (map sides peaks) t
+          → Finds start.arities greater system.rules left (map sides peaks) t
+      at_start t f = let A : List ℕ → Type 0 = λ table. Finds table greater system.rules left (map sides peaks) t in subst A h.arities f
+
+      pub close_done : (n : ℕ) → Finds system.arities greater system.rules left (map sides peaks) (Passed n)
+          → Closes start.arities greater start.rules units (Done system.rules)
+      close_done n f = h.on (Done system.rules) (no_peak_left peaks n listed (at_start (Passed n) f))
+
+      pub close_more : (next : System) (n : ℕ) → IsOutcome system (Finds system.arities greater system.rules left (map sides peaks)) (outcome.Added next n)
+          → IsClosing greater start units next n
+      close_more next n (r, e, f) =
+          let P : System → Type 0 = λ s. IsClosing greater start units s n in
+          subst P (sym e)
+          (record { arities = h.arities; on = λ ending k. h.on ending (one_more peaks r n listed (at_start (Added r n) f) k) })
+
+      pub close_end : (c : Completion) → IsOutcome system (Finds system.arities greater system.rules left (map sides peaks)) (outcome.Ended c)
+          → Closes start.arities greater start.rules units (plain_ending c)
+      close_end c f = h.on (plain_ending c) (peak_ends peaks (plain_ending c) listed (at_start (Ended (plain_ending c)) f))
+
+      pub close_pairs : IsSystem system → ArePairsOver system.arities (map sides peaks)
+      close_pairs valid =
+          of_pair system valid (λ p. IsTermOver system.arities p.left × IsTermOver system.arities p.right) peaks listed
+          (λ peak good. (good.left_over, good.right_over))
+
+  pub close_smaller : (system : System) (left : ℕ) (pairs : List RewriteRule) (next : System) (n : ℕ)
+      → IsOutcome system (Finds system.arities greater system.rules left pairs) (outcome.Added next n) → n < left
+  close_smaller system left pairs next n (r, e, f) = found_fewer f
+
+-- the whole run
+pub run_of : (equations : System) (greater : Tree → Tree → Type 0) (budget : ℕ) (system : System) (units : ℕ) (ending : Ending)
+    → (system.arities ≡ equations.arities) × Takes equations.arities greater [] budget equations.rules (Ok (system.rules, units))
+    → Closes system.arities greater system.rules units ending → Completes equations greater budget ending
+run_of equations greater budget system units ending (e, t) c =
+    let A : List ℕ → Type 0 = λ table. Closes table greater system.rules units ending in
+    peaks_close system.rules units ending t (subst A e c)
+
+-- ---- for the answers
+
+-- a side of a rule has no more nodes than all sides together
+nodes_within : (rules : List RewriteRule) (p : RewriteRule) → In p rules → size_of p.left + size_of p.right ≤ nodes_of rules
+nodes_within rules p (in_first {x = q} {xs = qs}) = omega arith
+nodes_within rules p (in_rest {x = q} {y = r} {xs = qs} i) = let h : size_of p.left + size_of p.right ≤ nodes_of qs = nodes_within qs p i in omega (arith, h)
+
+pub equation_over : (system equations : System) (items : List RewriteRule) (i : ℕ) (p : RewriteRule) → IsSystem equations → IsWithinLimits equations
+    → items ≡ equations.rules → system.arities ≡ equations.arities → i < length items → p ≡ get_or items i p
+    → IsTermOver system.arities p.left × IsTermOver system.arities p.right
+equation_over system equations items i p valid limits same arities below is =
+    let E : List RewriteRule → Type 0 = λ xs. slice_get xs i ≡ Some p in
+    let there : slice_get equations.rules i ≡ Some p = subst E same (slice_get_read items (length items) i p refl below is) in
+    let rule = valid.each i p there in
+    let few : size_of p.left + size_of p.right ≤ nodes_of equations.rules = nodes_within equations.rules p (in_of_get equations.rules i p there) in
+    let all : nodes_of equations.rules ≤ 65536 = limits.nodes in
+    let W : List ℕ → Type 0 = λ table. IsTermOver table p.left × IsTermOver table p.right in
+    subst W (sym arities)
+    (record { well_formed = rule.left_well_formed; small = omega (arith, few, all) }, record { well_formed = rule.right_well_formed; small = omega (arith, few, all) })
+
+pub same_taking : (greater : Tree → Tree → Type 0) (equations : System) (budget : ℕ) (system other : System) (left more : ℕ) (rest : List RewriteRule)
+    → other ≡ system → more ≡ left → IsTaking greater equations budget system left rest → IsTaking greater equations budget other more rest
+same_taking greater equations budget system other left more rest e e' h =
+    let S : System → Type 0 = λ s. IsTaking greater equations budget s more rest in
+    let N : ℕ → Type 0 = λ n. IsTaking greater equations budget system n rest in
+    subst S (sym e) (subst N (sym e') h)
+
+module _ (equations : System) (greater : Tree → Tree → Type 0) (budget : ℕ) where
+  abbrev Runs : Completion → Type 0
+  Runs c = Completes equations greater budget (plain_ending c)
+
+  pub runs_if_ok : (system : System) (units : ℕ) (answer : Result Completion OutOfMemory)
+      → (system.arities ≡ equations.arities) × Takes equations.arities greater [] budget equations.rules (Ok (system.rules, units))
+      → IfOk answer (λ c. Closes system.arities greater system.rules units (plain_ending c)) → IfOk answer Runs
+  runs_if_ok system units (Ok c) t h = run_of equations greater budget system units (plain_ending c) t h
+  runs_if_ok system units (Err e) t h = tt
+
+  pub right_if_ok : IsSystem equations → IsReductionOrder equations.arities greater → (answer : Result Completion OutOfMemory)
+      → IfOk answer Runs → IfOk answer (λ c. IsRightEnding equations greater (plain_ending c))
+  right_if_ok valid order (Ok c) h = completes_right equations valid greater order budget (plain_ending c) h
+  right_if_ok valid order (Err e) h = tt
+
+-- ---- the arity table of the answer
+
+-- an equation ends no run with rules
+treats_no_rules : {arities : List ℕ} {greater : Tree → Tree → Type 0} {rules : List RewriteRule} {units : ℕ} {pair : RewriteRule} (made : List RewriteRule)
+    → (end : Ending) → end ≡ Done made → Treats arities greater rules units pair (Ended end) → ⊥
+treats_no_rules made end e (left_stops why n) = stop_no_rules made why e
+treats_no_rules made end e (right_stops s m why a n) = stop_no_rules made why e
+treats_no_rules made end e (no_order s t u v m n a b differ none) = absurd cc
+treats_no_rules made end e (no_unit s t m a b differ o) = absurd cc
+treats_no_rules made end e (no_room s t m n r a b differ o none) = absurd cc
+
+takes_no_rules : {arities : List ℕ} {greater : Tree → Tree → Type 0} {rules es : List RewriteRule} {units : ℕ} (made : List RewriteRule) (end : Ending) → end ≡ Done made
+    → Takes arities greater rules units es (Err end) → ⊥
+takes_no_rules made end e (take_passed t ts) = takes_no_rules made end e ts
+takes_no_rules made end e (take_added t ts) = takes_no_rules made end e ts
+takes_no_rules made end e (take_ended t) = treats_no_rules made end e t
+
+no_rules_arities : (arities : List ℕ) (c : Completion) → ((made : List RewriteRule) → plain_ending c ≡ Done made → ⊥) → HasArities arities c
+no_rules_arities arities (completion.Done system) none = absurd (none system.rules refl)
+no_rules_arities arities (completion.Unorientable s t) none = tt
+no_rules_arities arities completion.Spent none = tt
+no_rules_arities arities completion.Limit none = tt
+
+pub taken_arities : (equations : System) (greater : Tree → Tree → Type 0) (budget : ℕ) (c : Completion)
+    → Takes equations.arities greater [] budget equations.rules (Err (plain_ending c)) → HasArities equations.arities c
+taken_arities equations greater budget c t = no_rules_arities equations.arities c (λ made e. takes_no_rules made (plain_ending c) e t)
+
+pub closed_arities : (arities others : List ℕ) → others ≡ arities → (answer : Result Completion OutOfMemory) → IfOk answer (HasArities others) → IfOk answer (HasArities arities)
+closed_arities arities others e (Ok c) h = subst (λ table. HasArities table c) e h
+closed_arities arities others e (Err why) h = tt

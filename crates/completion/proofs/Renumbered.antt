@@ -1,0 +1,64 @@
+-- Two terms renumbered one after another are variants of the two, and their variables are numbered in order.
+use Rattle.std.specs.Prelude.{unwrap_or}
+use Rattle.std.specs.Ordering.{nat_cmp}
+use Rattle.std.specs.BTreeMap.{BTreeMap, get}
+use Rattle.std.proofs.Common.{◌≡◌, ◌<◌, ◌≤◌, ℕ, ◌+◌, zero, suc, refl, sym, ap, subst, arith, ◌∙◌, ◌⊎◌, inl, inr, List, [], ◌∷◌, ◌++◌, length, Some, IsTrue, slice_get, length-append}
+use Rattle.std.proofs.lemmas.Option.{slice_get-get_or}
+use Rattle.trs_defs.specs.Tree.{Tree, var}
+use Rattle.trs_defs.specs.Variable.{has_var, variables_of, with_variables}
+use Rattle.trs_defs.specs.Substitution.{apply}
+use Rattle.trs_defs.proofs.Substitutions.{apply_apply, same_instance}
+use Rattle.term_pool.proofs.PoolTrees.{item_of_more}
+use Rattle.trs_unify.specs.Renamed.{AreNames, old_name, first_numbers, IsRenamed}
+use Rattle.trs_unify.proofs.NewNames.{length_first, renamed_still}
+use Rattle.crit_pairs.specs.PeakList.{IsCount}
+use Rattle.crit_pairs.proofs.Bindings.{unchanged}
+use Rattle.completion.specs.Orienting.{AreVariants}
+
+first_count : (n : ℕ) → IsCount 0 (first_numbers n)
+first_count zero i v e = absurd cc
+first_count (suc n) i v e = elim (item_of_more (first_numbers n) n v i e) as (λ _. v ≡ 0 + i) [
+  | inl h ↦ first_count n i v h
+  | inr h ↦ omega (arith, h.0, h.1, length_first n)
+]
+
+module _ (numbers : BTreeMap ℕ ℕ) (first second : List ℕ) (s t l r : Tree) (left : IsRenamed [] first s l) (right : IsRenamed first second t r)
+    (names : AreNames numbers second) where
+  longer : length first ≤ length second
+  longer =
+      let sum : length (first ++ right.more) ≡ length first + length right.more = length-append first right.more in
+      let grown : length second ≡ length (first ++ right.more) = ap length right.grown in
+      omega (arith, sum, grown)
+
+  -- the number of a variable
+  abbrev number : ℕ → ℕ
+  number v = unwrap_or (get nat_cmp numbers v) 0
+
+  back_name : (v : ℕ) → v < length second → number (old_name second v) ≡ v
+  back_name v h = ap (λ o. unwrap_or o 0) (names.one (old_name second v) v (slice_get-get_or second v 0 h))
+
+  turned_back : (u w : Tree) → apply (λ v. var (old_name second v)) w ≡ u → ((v : ℕ) → IsTrue (has_var v w) → v < length second)
+      → apply (λ v. var (number v)) u ≡ w
+  turned_back u w e inside =
+      ap (apply (λ v. var (number v))) (sym e)
+      ∙ (apply_apply (λ v. var (number v)) (λ v. var (old_name second v)) w
+      ∙ (same_instance (λ v. var (number (old_name second v))) (λ v. var v) w (λ v h. ap var (back_name v (inside v h))) ∙ unchanged w))
+
+  left_back : apply (λ v. var (old_name second v)) l ≡ s
+  left_back = renamed_still [] first second right.more s l right.grown left
+
+  pub variants : AreVariants s t l r
+  variants = record {
+    names = old_name second;
+    back = number;
+    left_from = left_back;
+    right_from = right.back;
+    left_to = turned_back s l left_back (λ v h. (let a : v < length first = left.inside v h in let b = longer in omega (arith, a, b)));
+    right_to = turned_back t r right.back right.inside;
+  }
+
+  pub left_counted : IsCount 0 (variables_of l)
+  left_counted = subst (λ vs. IsCount 0 vs) (sym left.counted) (first_count (length first))
+
+  pub both_counted : IsCount 0 (with_variables (variables_of l) r)
+  both_counted = subst (λ vs. IsCount 0 vs) (sym (ap (λ vs. with_variables vs r) left.counted ∙ right.counted)) (first_count (length second))

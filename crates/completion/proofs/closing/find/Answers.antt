@@ -1,0 +1,56 @@
+use Rattle.std.proofs.Common.{◌≡◌, ◌+◌, ap, drop, map, subst, sym}
+use Rattle.completion.specs.Taking.{IsTermOver}
+use Rattle.std.proofs.lemmas.List.{drop_all}
+use Rattle.rewrite_core.specs.PlacedPeak.{PlacedPeak}
+use Rattle.trs_core.specs.View.{tree}
+use Rattle.completion.specs.declared.treating.Outcome.{Outcome as CodeOutcome}
+use Rattle.completion.specs.declared.treating.Outcome.TheVariants as outcome
+use Rattle.completion.specs.CompletionRun.{Treats, sides}
+use Rattle.completion.specs.GreaterBy.{GreaterBy}
+use Rattle.completion.specs.Treating.{pair_of, IsOutcome}
+use Rattle.completion.proofs.LoopLaws.{read_pair, next_pairs, find_next, find_rule, find_end, find_none}
+use Rattle.completion.proofs.closing.find.Goals as goal
+
+pub treat-requires-clause-left : goal.treat-requires-clause-left
+treat-requires-clause-left c =
+    let T : PlacedPeak → Type 0 = λ p. IsTermOver c.args.trs.now.arities p.left in
+    subst T (sym c.peak.view_is)
+    (read_pair c.args.trs.now.arities c.args.peaks.now c.loop-peak.peak-index c.peak-item.result c.requires c.loop-peak-test.true c.peak-item.is).0
+
+pub treat-requires-clause-right : goal.treat-requires-clause-right
+treat-requires-clause-right c =
+    let T : PlacedPeak → Type 0 = λ p. IsTermOver c.args.trs.now.arities p.right in
+    subst T (sym c.peak.view_is)
+    (read_pair c.args.trs.now.arities c.args.peaks.now c.loop-peak.peak-index c.peak-item.result c.requires c.loop-peak-test.true c.peak-item.is).1
+
+pub returns-in-Added : goal.returns-in-Added
+returns-in-Added c =
+    let T : CodeOutcome → PlacedPeak → Type 0 = λ made p. IsOutcome c.args.trs.now (Treats c.args.trs.now.arities (GreaterBy c.args.order.now) c.args.trs.now.rules c.loop-peak.left (sides p)) made in
+    let R : CodeOutcome → Type 0 = λ made. IsOutcome c.args.trs.now (Treats c.args.trs.now.arities (GreaterBy c.args.order.now) c.args.trs.now.rules c.loop-peak.left (pair_of (tree c.peak.inside.left) (tree c.peak.inside.right))) made in
+    find_rule (GreaterBy c.args.order.now) c.args.trs.now (map sides c.args.peaks.now) c.args.units c.loop-peak.left (map sides (drop c.loop-peak.peak-index c.args.peaks.now)) (sides c.peak-item.result)
+    (map sides (drop (c.loop-peak.peak-index + 1) c.args.peaks.now)) (next_pairs c.args.peaks.now c.loop-peak.peak-index c.peak-item.result c.loop-peak-test.true c.peak-item.is)
+    c.loop-peak.invariant c.in-Added.next c.in-Added.more
+    (subst (T (outcome.Added c.in-Added.next c.in-Added.more)) c.peak.view_is (subst R c.in-Added.is c.in_ok-more.ensures))
+
+pub returns-in-Ended : goal.returns-in-Ended
+returns-in-Ended c =
+    let T : CodeOutcome → PlacedPeak → Type 0 = λ made p. IsOutcome c.args.trs.now (Treats c.args.trs.now.arities (GreaterBy c.args.order.now) c.args.trs.now.rules c.loop-peak.left (sides p)) made in
+    let R : CodeOutcome → Type 0 = λ made. IsOutcome c.args.trs.now (Treats c.args.trs.now.arities (GreaterBy c.args.order.now) c.args.trs.now.rules c.loop-peak.left (pair_of (tree c.peak.inside.left) (tree c.peak.inside.right))) made in
+    find_end (GreaterBy c.args.order.now) c.args.trs.now (map sides c.args.peaks.now) c.args.units c.loop-peak.left (map sides (drop c.loop-peak.peak-index c.args.peaks.now)) (sides c.peak-item.result)
+    (map sides (drop (c.loop-peak.peak-index + 1) c.args.peaks.now)) (next_pairs c.args.peaks.now c.loop-peak.peak-index c.peak-item.result c.loop-peak-test.true c.peak-item.is)
+    c.loop-peak.invariant c.in-Ended.why
+    (subst (T (outcome.Ended c.in-Ended.why)) c.peak.view_is (subst R c.in-Ended.is c.in_ok-more.ensures))
+
+pub loop-peak-preserved : goal.loop-peak-preserved
+loop-peak-preserved c =
+    let T : CodeOutcome → PlacedPeak → Type 0 = λ made p. IsOutcome c.args.trs.now (Treats c.args.trs.now.arities (GreaterBy c.args.order.now) c.args.trs.now.rules c.loop-peak.left (sides p)) made in
+    let R : CodeOutcome → Type 0 = λ made. IsOutcome c.args.trs.now (Treats c.args.trs.now.arities (GreaterBy c.args.order.now) c.args.trs.now.rules c.loop-peak.left (pair_of (tree c.peak.inside.left) (tree c.peak.inside.right))) made in
+    find_next (GreaterBy c.args.order.now) c.args.trs.now (map sides c.args.peaks.now) c.args.units c.loop-peak.left (map sides (drop c.loop-peak.peak-index c.args.peaks.now)) (sides c.peak-item.result)
+    (map sides (drop (c.loop-peak.peak-index + 1) c.args.peaks.now)) (next_pairs c.args.peaks.now c.loop-peak.peak-index c.peak-item.result c.loop-peak-test.true c.peak-item.is)
+    c.loop-peak.invariant c.in-Passed.more
+    (subst (T (outcome.Passed c.in-Passed.more)) c.peak.view_is (subst R c.in-Passed.is c.in_ok-more.ensures))
+
+pub returns : goal.returns
+returns c =
+    find_none (GreaterBy c.args.order.now) c.args.trs.now (map sides c.args.peaks.now) c.args.units c.loop-peak.left (map sides (drop c.loop-peak.peak-index c.args.peaks.now))
+    (ap (map sides) (drop_all c.loop-peak.peak-index c.args.peaks.now c.loop-peak-test.false)) c.loop-peak.invariant

@@ -1,0 +1,34 @@
+-- What the loops of completion take and answer.
+use Rattle.std.specs.Prelude.{◌≡◌, ◌≤◌, ℕ, List, [], Option, Some, None, Result, Ok, Err}
+use Rattle.trs_defs.specs.Tree.{Tree}
+use Rattle.trs_defs.specs.Size.{size_of}
+use Rattle.trs_defs.specs.WellFormed.{IsWellFormed}
+use Rattle.trs_defs.specs.Member.{In}
+use Rattle.trs_defs.specs.System.{RewriteRule, System}
+use Rattle.rewrite_core.specs.PlacedPeak.{PlacedPeak}
+use Rattle.crit_pairs.specs.PeakList.{ListsPeaks}
+use Rattle.crit_pairs.specs.declared.faults.PeakFault.{PeakFault}
+use Rattle.completion.specs.declared.taking.Taken.{Taken}
+use Rattle.completion.specs.declared.taking.Taken.TheVariants as taken
+use Rattle.completion.specs.CompletionRun.{Takes}
+use Rattle.completion.specs.Answers.{plain_ending}
+
+-- a well-formed term that a pool takes
+pub record IsTermOver (arities : List ℕ) (t : Tree) : Type 0 where
+  pub well_formed : IsWellFormed arities t
+  pub small : size_of t ≤ 65536
+
+-- pairs of such terms
+abbrev pub ArePairsOver : List ℕ → List RewriteRule → Type 0
+ArePairsOver arities ps = (p : RewriteRule) → In p ps → IsTermOver arities p.left × IsTermOver arities p.right
+
+-- the critical peaks of the rules, or none where they pass a limit
+abbrev pub IsListing : List RewriteRule → Option (List PlacedPeak) → Type 0
+IsListing rules (Some peaks) = ListsPeaks rules (Ok peaks)
+IsListing rules None = (fault : PeakFault) × ListsPeaks rules (Err fault)
+
+-- the equations gave these rules, with so many units left; or the run ended
+abbrev pub HasTaken : System → (Tree → Tree → Type 0) → ℕ → Taken → Type 0
+HasTaken equations greater budget (taken.Rules system units) =
+    (system.arities ≡ equations.arities) × Takes equations.arities greater [] budget equations.rules (Ok (system.rules, units))
+HasTaken equations greater budget (taken.Ended c) = Takes equations.arities greater [] budget equations.rules (Err (plain_ending c))

@@ -1,0 +1,60 @@
+ghost use Rattle.std.specs.Prelude.{◌≡◌, ◌<◌, ◌≤◌, ◌+◌, length, IfOk, OnOk};
+ghost use Rattle.term_pool.specs.Pooled.{Extends, tree_at};
+ghost use Rattle.term_pool.specs.Redexes.{IsNarrow};
+ghost use Rattle.completion.specs.Moving.{IsMove, IsStopOf};
+
+use crate::Unfinished;
+use rewrite_core::StepFault;
+use std::alloc::Global;
+use term_pool::{MOST_IDS, Pool, RulesByRoot};
+use trs_core::{OutOfMemory, Trs};
+
+/// What the first redex of a term leads to.
+#[derive(Clone, Copy)]
+pub(crate) enum Move {
+    Nowhere,
+    To(u32),
+    Stopped(Unfinished),
+}
+
+/// The step at the first redex of an id's term, for which so many units are there.
+pub(crate) fn first_move(
+    alloc: Global,
+    pool: &mut Pool,
+    trs: &Trs,
+    by_root: &RulesByRoot,
+    id: u32,
+    units: u64,
+) -> Result<Move, OutOfMemory>
+    requires there { id < length pool.old }
+    requires room { length pool.old ≤ MOST_IDS }
+    requires narrow { IsNarrow (tree_at pool.old id) }
+    requires same { by_root.now ≡ trs.now }
+    ensures moves { IfOk result (IsMove trs.now.rules units (tree_at pool.old id) pool.new) }
+    ensures kept { OnOk result (Extends pool.old pool.new) }
+    ensures few { OnOk result (length pool.new ≤ length pool.old + 65536) }
+{
+    let found = pool.redexes_at(alloc, by_root, id)?;
+    match found.first() {
+        None => Ok(Move::Nowhere),
+        Some(first) => {
+            if units == 0 {
+                return Ok(Move::Stopped(Unfinished::NoUnit));
+            }
+            match pool.step_at(alloc, trs, id, &first.place, first.rule) {
+                Ok(next) => Ok(Move::To(next)),
+                Err(fault) => stopped(fault),
+            }
+        }
+    }
+}
+
+/// A step that is there is refused for its size alone, unless memory runs out.
+fn stopped(fault: StepFault) -> Result<Move, OutOfMemory>
+    ensures { IfOk result (IsStopOf fault) }
+{
+    match fault {
+        StepFault::TooLarge => Ok(Move::Stopped(Unfinished::TooLarge)),
+        _ => Err(OutOfMemory),
+    }
+}

@@ -1,0 +1,70 @@
+ghost use Rattle.std.specs.Prelude.{◌≡◌, ◌<◌, ◌≤◌, length, IfOk, OnOk};
+ghost use Rattle.trs_core.specs.View.{tree};
+ghost use Rattle.term_pool.specs.Pooled.{tree_at};
+ghost use Rattle.completion.specs.Normalizing.{Normalizes};
+ghost use Rattle.completion.specs.Taking.{IsTermOver};
+ghost use Rattle.completion.specs.Moving.{form_of};
+
+use crate::Unfinished;
+use crate::first_steps::{Move, first_move};
+use crate::known::{see_bytes, see_system};
+use std::alloc::Global;
+use term_pool::{MOST_IDS, Pool, RulesByRoot};
+use trs_core::{OutOfMemory, Term, Trs};
+
+/// The most ids of a pool before all of them but those of the term at hand are given up.
+const MOST_KEPT: u32 = 1_048_576;
+
+/// A normal form with the units that are left, or why there is none.
+#[derive(Drop)]
+pub(crate) enum Form {
+    Normal(Term, u64),
+    Stopped(Unfinished),
+}
+
+/// The normal form of a term by its first redexes. Each step is a unit, and costs what the term at
+/// hand has nodes.
+pub(crate) fn normal_form(
+    alloc: Global,
+    trs: &Trs,
+    t: &Term,
+    units: u64,
+) -> Result<Form, OutOfMemory>
+    requires { IsTermOver trs.now.arities (tree t.now) }
+    ensures { IfOk result (λ form.
+        Normalizes trs.now.rules units (tree t.now) (form_of form)) }
+{
+    see_bytes(trs.arities());
+    see_system(trs);
+    let by_root = RulesByRoot::new(alloc, trs)?;
+    let mut pool = Pool::new(alloc);
+    let mut current = pool.intern(alloc, t)?;
+    let mut left = units;
+    loop {
+        match first_move(alloc, &mut pool, trs, &by_root, current, left)? {
+            Move::Nowhere => return Ok(Form::Normal(pool.read(alloc, current)?, left)),
+            Move::Stopped(why) => return Ok(Form::Stopped(why)),
+            Move::To(next) => {
+                current = carried_over(alloc, &mut pool, next)?;
+                left -= 1;
+            }
+        }
+    }
+}
+
+/// The id of the same term. Where the pool has many ids, only those of the term are kept, so that
+/// many steps take little memory.
+fn carried_over(alloc: Global, pool: &mut Pool, id: u32) -> Result<u32, OutOfMemory>
+    requires there { id < length pool.old }
+    requires room { length pool.old ≤ MOST_IDS }
+    ensures same { IfOk result (λ new. tree_at pool.new new ≡ tree_at pool.old id) }
+    ensures there { IfOk result (λ new. new < length pool.new) }
+    ensures few { OnOk result (length pool.new ≤ MOST_KEPT) }
+{
+    if pool.len() <= MOST_KEPT {
+        return Ok(id);
+    }
+    let term = pool.read(alloc, id)?;
+    pool.release(0);
+    pool.intern(alloc, &term)
+}

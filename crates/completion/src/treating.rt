@@ -1,0 +1,105 @@
+ghost use Rattle.std.specs.Prelude.{◌≡◌, ◌<◌, IfOk, IsTrue};
+ghost use Rattle.trs_core.specs.View.{tree};
+ghost use Rattle.completion.specs.CompletionRun.{Treats, ending_of};
+ghost use Rattle.completion.specs.Answers.{plain_ending};
+ghost use Rattle.completion.specs.GreaterBy.{GreaterBy};
+ghost use Rattle.completion.specs.Taking.{IsTermOver};
+ghost use Rattle.completion.specs.Treating.{pair_of, IsOutcome, IsCompared, IsAdded};
+
+use crate::normalizing::{Form, normal_form};
+use crate::orienting::{is_shallow, with_rule};
+use crate::renumbering::renumbered;
+use path_lpo::{Lpo, is_strict};
+use std::alloc::Global;
+use crate::{Completion, Unfinished};
+use trs_core::{OutOfMemory, Term, Trs};
+
+/// What becomes of a pair: it is passed over, or gives a rule, and so many units are left; or the
+/// run ends.
+#[derive(Drop)]
+pub(crate) enum Outcome {
+    Passed(u64),
+    Added(Trs, u64),
+    Ended(Completion),
+}
+
+/// A pair of terms, brought to normal form and oriented.
+pub(crate) fn treat(
+    alloc: Global,
+    order: &Lpo,
+    trs: &Trs,
+    left: &Term,
+    right: &Term,
+    units: u64,
+) -> Result<Outcome, OutOfMemory>
+    requires left { IsTermOver trs.now.arities (tree left.now) }
+    requires right { IsTermOver trs.now.arities (tree right.now) }
+    ensures { IfOk result (IsOutcome trs.now (Treats trs.now.arities (GreaterBy order.now)
+        trs.now.rules units (pair_of (tree left.now) (tree right.now)))) }
+{
+    match normal_form(alloc, trs, left, units)? {
+        Form::Stopped(why) => Ok(Outcome::Ended(ended(why))),
+        Form::Normal(s, more) => match normal_form(alloc, trs, right, more)? {
+            Form::Stopped(why) => Ok(Outcome::Ended(ended(why))),
+            Form::Normal(t, rest) => compare(alloc, order, trs, &s, &t, rest),
+        },
+    }
+}
+
+/// How a run ends at a term with no normal form.
+fn ended(why: Unfinished) -> Completion
+    ensures { plain_ending result ≡ ending_of why }
+{
+    match why {
+        Unfinished::NoUnit => Completion::Spent,
+        Unfinished::TooLarge => Completion::Limit,
+    }
+}
+
+/// Two normal forms.
+fn compare(
+    alloc: Global,
+    order: &Lpo,
+    trs: &Trs,
+    s: &Term,
+    t: &Term,
+    units: u64,
+) -> Result<Outcome, OutOfMemory>
+    ensures { IfOk result (IsCompared (GreaterBy order.now) trs.now units (tree s.now)
+        (tree t.now)) }
+{
+    if s.same(t) {
+        return Ok(Outcome::Passed(units));
+    }
+    if is_strict(order, s, t) {
+        return add(alloc, trs, s, t, units);
+    }
+    if is_strict(order, t, s) {
+        return add(alloc, trs, t, s, units);
+    }
+    let pair = renumbered(alloc, s, t)?;
+    Ok(Outcome::Ended(Completion::Unorientable(pair.left, pair.right)))
+}
+
+/// A new last rule from the greater normal form to the other.
+fn add(
+    alloc: Global,
+    trs: &Trs,
+    s: &Term,
+    t: &Term,
+    units: u64,
+) -> Result<Outcome, OutOfMemory>
+    ensures { IfOk result (IsAdded trs.now units (tree s.now) (tree t.now)) }
+{
+    if units == 0 {
+        return Ok(Outcome::Ended(Completion::Spent));
+    }
+    let rule = renumbered(alloc, s, t)?;
+    if !is_shallow(&rule) {
+        return Ok(Outcome::Ended(Completion::Limit));
+    }
+    match with_rule(alloc, trs, rule)? {
+        Some(next) => Ok(Outcome::Added(next, units - 1)),
+        None => Ok(Outcome::Ended(Completion::Limit)),
+    }
+}
