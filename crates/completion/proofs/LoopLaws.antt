@@ -54,7 +54,7 @@ module _ (greater : Tree → Tree → Type 0) (system : System) where
     At t xs = Finds system.arities greater system.rules left xs t
 
     pub find_next : (n : ℕ) → Treats system.arities greater system.rules left p (Passed n) → FindsOn all units n more
-    find_next n t turn h = on turn (subst (At turn) (sym is) (passed_over t h))
+    find_next n t made h = on made (subst (At made) (sym is) (passed_over t h))
 
     pub find_rule : (next : System) (n : ℕ) → IsOutcome system (Treats system.arities greater system.rules left p) (outcome.Added next n)
         → IsOutcome system (Finds system.arities greater system.rules units all) (outcome.Added next n)
@@ -91,10 +91,10 @@ module _ (greater : Tree → Tree → Type 0) (equations : System) (budget : ℕ
   module _ (system : System) (left : ℕ) (rest : List RewriteRule) (e : RewriteRule) (more : List RewriteRule) (is : rest ≡ e ∷ more)
       (pair : RewriteRule) (same : pair ≡ e) (h : IsTaking greater equations budget system left rest) where
     at_equation : (t : Outcome) → Treats system.arities greater system.rules left pair t → Treats equations.arities greater system.rules left e t
-    at_equation t turn =
+    at_equation t made =
         let A : List ℕ → Type 0 = λ table. Treats table greater system.rules left pair t in
         let B : RewriteRule → Type 0 = λ p. Treats equations.arities greater system.rules left p t in
-        subst B same (subst A h.arities turn)
+        subst B same (subst A h.arities made)
 
     pub take_next : (n : ℕ) → Treats system.arities greater system.rules left pair (Passed n) → IsTaking greater equations budget system n more
     take_next n t = record {
@@ -237,6 +237,17 @@ no_rules_arities arities (completion.Done system) none = absurd (none system.rul
 no_rules_arities arities (completion.Unorientable s t) none = tt
 no_rules_arities arities completion.Spent none = tt
 no_rules_arities arities completion.Limit none = tt
+
+finds_no_rules : {arities : List ℕ} {greater : Tree → Tree → Type 0} {rules ps : List RewriteRule} {units : ℕ} (made : List RewriteRule) (o : Outcome)
+    → o ≡ Ended (Done made) → Finds arities greater rules units ps o → ⊥
+finds_no_rules made o e none_found = absurd cc
+finds_no_rules made o e (passed_over t rest) = finds_no_rules made o e rest
+finds_no_rules made o e (found_rule t) = absurd cc
+finds_no_rules made o e (found_end {why = why} t) = let h : why ≡ Done made = cc (e) in treats_no_rules made why h t
+
+pub found_arities : (greater : Tree → Tree → Type 0) (system : System) (left : ℕ) (pairs : List RewriteRule) (c : Completion)
+    → IsOutcome system (Finds system.arities greater system.rules left pairs) (outcome.Ended c) → (arities : List ℕ) → HasArities arities c
+found_arities greater system left pairs c f arities = no_rules_arities arities c (λ made e. finds_no_rules made (Ended (plain_ending c)) (ap Ended e) f)
 
 pub taken_arities : (equations : System) (greater : Tree → Tree → Type 0) (budget : ℕ) (c : Completion)
     → Takes equations.arities greater [] budget equations.rules (Err (plain_ending c)) → HasArities equations.arities c

@@ -28,11 +28,11 @@ use Rattle.completion.proofs.PeakPairs.{of_pair, peaks_confluent}
 use Rattle.completion.proofs.SoundRules.{IsSoundPair, IsSoundRule, AreSound, form_run, run_well_formed, pair_converted, sound_system, no_rules_sound, one_more_sound, sound_conversions, sound_forms, variant_converted, oriented_sound}
 
 -- the new rule is sound, and with it the pair is converted
-record IsTakenUp (equations : System) (greater : Tree → Tree → Type 0) (rules : List RewriteRule) (pair r : RewriteRule) : Type 0 where
-  sound : IsSoundRule equations greater r
-  converted : Converted (Step (rules ++ r ∷ [])) pair.left pair.right
+pub record IsTakenUp (equations : System) (greater : Tree → Tree → Type 0) (rules : List RewriteRule) (pair r : RewriteRule) : Type 0 where
+  pub sound : IsSoundRule equations greater r
+  pub converted : Converted (Step (rules ++ r ∷ [])) pair.left pair.right
 
-abbrev IsRightOutcome : System → (Tree → Tree → Type 0) → List RewriteRule → RewriteRule → Outcome → Type 0
+abbrev pub IsRightOutcome : System → (Tree → Tree → Type 0) → List RewriteRule → RewriteRule → Outcome → Type 0
 IsRightOutcome equations greater rules pair (Passed n) = IsJoinable (Step rules) pair.left pair.right
 IsRightOutcome equations greater rules pair (Added r n) = IsTakenUp equations greater rules pair r
 IsRightOutcome equations greater rules pair (Ended why) = IsRightEnding equations greater why
@@ -45,7 +45,7 @@ joinable_converted : {T : Type 0} {R : T → T → Type 0} {s t u : T} → Run R
 joinable_converted p q = onwards (converted_run p) (backwards (converted_run q))
 
 module _ (equations : System) (valid : IsSystem equations) (greater : Tree → Tree → Type 0) (order : IsReductionOrder equations.arities greater) where
-  abbrev Sound : List RewriteRule → Type 0
+  abbrev pub Sound : List RewriteRule → Type 0
   Sound rules = AreSound equations greater rules
 
   unoriented_right : (s t u v : Tree) → IsSoundPair equations (record { left = s; right = t }) → IsUnoriented greater s t u v
@@ -58,24 +58,24 @@ module _ (equations : System) (valid : IsSystem equations) (greater : Tree → T
         (λ g. none.not_right (subst (λ x. greater x s) none.variants.right_from (subst (greater (apply names v)) none.variants.left_from (order.instance names v u g)))),
       )
 
-  outcome_right : (rules : List RewriteRule) → Sound rules → (units : ℕ) (pair : RewriteRule) → IsSoundPair equations pair → (turn : Outcome)
-      → Treats equations.arities greater rules units pair turn → IsRightOutcome equations greater rules pair turn
-  outcome_right rules sound units pair h turn (left_stops why n) = stop_right equations greater why
-  outcome_right rules sound units pair h turn (right_stops s m why a n) = stop_right equations greater why
-  outcome_right rules sound units pair h turn (equal_forms s m n a b) =
+  pub outcome_right : (rules : List RewriteRule) → Sound rules → (units : ℕ) (pair : RewriteRule) → IsSoundPair equations pair → (made : Outcome)
+      → Treats equations.arities greater rules units pair made → IsRightOutcome equations greater rules pair made
+  outcome_right rules sound units pair h made (left_stops why n) = stop_right equations greater why
+  outcome_right rules sound units pair h made (right_stops s m why a n) = stop_right equations greater why
+  outcome_right rules sound units pair h made (equal_forms s m n a b) =
       (s, reaches_of_run (form_run a), reaches_of_run (form_run b))
-  outcome_right rules sound units pair h turn (no_order s t u v m n a b differ none) =
+  outcome_right rules sound units pair h made (no_order s t u v m n a b differ none) =
       unoriented_right s t u v (sound_forms equations greater order rules sound pair s t h (form_run a) (form_run b)) none
-  outcome_right rules sound units pair h turn (no_unit s t m a b differ o) = tt
-  outcome_right rules sound units pair h turn (new_rule s t m n r a b differ o fits) = record {
+  outcome_right rules sound units pair h made (no_unit s t m a b differ o) = tt
+  outcome_right rules sound units pair h made (new_rule s t m n r a b differ o fits) = record {
     sound = oriented_sound equations greater order s t r (sound_forms equations greater order rules sound pair s t h (form_run a) (form_run b)) o;
     converted = pair_converted rules r greater pair.left pair.right s t (form_run a) (form_run b) o;
   }
-  outcome_right rules sound units pair h turn (no_room s t m n r a b differ o none) = tt
+  outcome_right rules sound units pair h made (no_room s t m n r a b differ o none) = tt
 
   -- ---- the equations
 
-  equation_sound : (e : RewriteRule) → In e equations.rules → IsSoundPair equations e
+  pub equation_sound : (e : RewriteRule) → In e equations.rules → IsSoundPair equations e
   equation_sound e i =
       let rule : IsRule equations.arities e = rule_among equations valid e i in
       record {
@@ -85,12 +85,12 @@ module _ (equations : System) (valid : IsSystem equations) (greater : Tree → T
       }
 
   -- these rules convert more, and each of the equations
-  record AreTaken (rules es all : List RewriteRule) : Type 0 where
-    sound : Sound all
-    keeps : (s t : Tree) → Converted (Step rules) s t → Converted (Step all) s t
-    each : (e : RewriteRule) → In e es → Converted (Step all) e.left e.right
+  pub record AreTaken (rules es all : List RewriteRule) : Type 0 where
+    pub sound : Sound all
+    pub keeps : (s t : Tree) → Converted (Step rules) s t → Converted (Step all) s t
+    pub each : (e : RewriteRule) → In e es → Converted (Step all) e.left e.right
 
-  abbrev IsRightAnswer : List RewriteRule → List RewriteRule → Result (List RewriteRule × ℕ) Ending → Type 0
+  abbrev pub IsRightAnswer : List RewriteRule → List RewriteRule → Result (List RewriteRule × ℕ) Ending → Type 0
   IsRightAnswer rules es (Ok p) = AreTaken rules es p.0
   IsRightAnswer rules es (Err why) = IsRightEnding equations greater why
 
@@ -111,7 +111,7 @@ module _ (equations : System) (valid : IsSystem equations) (greater : Tree → T
   joined_converted : (rules : List RewriteRule) (s t : Tree) → IsJoinable (Step rules) s t → Converted (Step rules) s t
   joined_converted rules s t (u, p, q) = joinable_converted (run_of_reaches (Step rules) s u p) (run_of_reaches (Step rules) t u q)
 
-  takes_right : (rules : List RewriteRule) → Sound rules → {units : ℕ} (es : List RewriteRule) → ((e : RewriteRule) → In e es → IsSoundPair equations e)
+  pub takes_right : (rules : List RewriteRule) → Sound rules → {units : ℕ} (es : List RewriteRule) → ((e : RewriteRule) → In e es → IsSoundPair equations e)
       → (answer : Result (List RewriteRule × ℕ) Ending) → Takes equations.arities greater rules units es answer → IsRightAnswer rules es answer
   takes_right rules sound es h answer all_taken = record { sound = sound; keeps = λ s t c. c; each = λ e i. absurd (no_in i) }
   takes_right rules sound es h answer (take_passed {es = rest} {e = e} t ts) =
@@ -125,7 +125,7 @@ module _ (equations : System) (valid : IsSystem equations) (greater : Tree → T
 
   -- ---- the peaks
 
-  sides_sound : (rules : List RewriteRule) → Sound rules → (peaks : List PlacedPeak) → ListsPeaks rules (Ok peaks) → (p : RewriteRule) → In p (map sides peaks)
+  pub sides_sound : (rules : List RewriteRule) → Sound rules → (peaks : List PlacedPeak) → ListsPeaks rules (Ok peaks) → (p : RewriteRule) → In p (map sides peaks)
       → IsSoundPair equations p
   sides_sound rules sound peaks listed =
       of_pair (with_rules equations rules) (sound_system equations greater order rules sound) (IsSoundPair equations) peaks listed
@@ -135,13 +135,13 @@ module _ (equations : System) (valid : IsSystem equations) (greater : Tree → T
         converted = sound_conversions equations greater order rules sound (onwards (backwards (by_step good.to_left)) (by_step good.to_right));
       })
 
-  abbrev IsRightFind : List RewriteRule → List RewriteRule → Outcome → Type 0
+  abbrev pub IsRightFind : List RewriteRule → List RewriteRule → Outcome → Type 0
   IsRightFind rules ps (Passed n) = (p : RewriteRule) → In p ps → IsJoinable (Step rules) p.left p.right
   IsRightFind rules ps (Added r n) = IsSoundRule equations greater r
   IsRightFind rules ps (Ended why) = IsRightEnding equations greater why
 
-  behind_one : (rules : List RewriteRule) (p : RewriteRule) (ps : List RewriteRule) (turn : Outcome) → IsJoinable (Step rules) p.left p.right → IsRightFind rules ps turn
-      → IsRightFind rules (p ∷ ps) turn
+  behind_one : (rules : List RewriteRule) (p : RewriteRule) (ps : List RewriteRule) (made : Outcome) → IsJoinable (Step rules) p.left p.right → IsRightFind rules ps made
+      → IsRightFind rules (p ∷ ps) made
   behind_one rules p ps (Passed n) h rest = λ x i. elim (in_or i) as (λ _. IsJoinable (Step rules) x.left x.right) [
     | inl same ↦ (let J : RewriteRule → Type 0 = λ y. IsJoinable (Step rules) y.left y.right in subst J (sym same) h)
     | inr j ↦ rest x j
@@ -149,13 +149,13 @@ module _ (equations : System) (valid : IsSystem equations) (greater : Tree → T
   behind_one rules p ps (Added r n) h rest = rest
   behind_one rules p ps (Ended why) h rest = rest
 
-  finds_right : (rules : List RewriteRule) → Sound rules → {units : ℕ} (ps : List RewriteRule) → ((p : RewriteRule) → In p ps → IsSoundPair equations p)
-      → (turn : Outcome) → Finds equations.arities greater rules units ps turn → IsRightFind rules ps turn
-  finds_right rules sound ps h turn none_found = λ p i. absurd (no_in i)
-  finds_right rules sound ps h turn (passed_over {p = p} {ps = rest} t ts) =
-      behind_one rules p rest turn (outcome_right rules sound _ p (h p in_first) _ t) (finds_right rules sound rest (λ x i. h x (in_rest i)) turn ts)
-  finds_right rules sound ps h turn (found_rule {p = p} t) = (outcome_right rules sound _ p (h p in_first) turn t).sound
-  finds_right rules sound ps h turn (found_end {p = p} t) = outcome_right rules sound _ p (h p in_first) turn t
+  pub finds_right : (rules : List RewriteRule) → Sound rules → {units : ℕ} (ps : List RewriteRule) → ((p : RewriteRule) → In p ps → IsSoundPair equations p)
+      → (made : Outcome) → Finds equations.arities greater rules units ps made → IsRightFind rules ps made
+  finds_right rules sound ps h made none_found = λ p i. absurd (no_in i)
+  finds_right rules sound ps h made (passed_over {p = p} {ps = rest} t ts) =
+      behind_one rules p rest made (outcome_right rules sound _ p (h p in_first) _ t) (finds_right rules sound rest (λ x i. h x (in_rest i)) made ts)
+  finds_right rules sound ps h made (found_rule {p = p} t) = (outcome_right rules sound _ p (h p in_first) made t).sound
+  finds_right rules sound ps h made (found_end {p = p} t) = outcome_right rules sound _ p (h p in_first) made t
 
   abbrev ConvertsEach : List RewriteRule → Type 0
   ConvertsEach rules = (e : RewriteRule) → In e equations.rules → Converted (Step rules) e.left e.right

@@ -59,8 +59,8 @@ module _ (arities : List ℕ) (greater : Tree → Tree → Type 0) where
   -- the first of the pairs that is not passed over
   pub data Finds (rules : List RewriteRule) : ℕ → List RewriteRule → Outcome → Type 0 where
     none_found : {units : ℕ} → Finds rules units [] (Passed units)
-    passed_over : {units n : ℕ} {p : RewriteRule} {ps : List RewriteRule} {turn : Outcome}
-        → Treats rules units p (Passed n) → Finds rules n ps turn → Finds rules units (p ∷ ps) turn
+    passed_over : {units n : ℕ} {p : RewriteRule} {ps : List RewriteRule} {made : Outcome}
+        → Treats rules units p (Passed n) → Finds rules n ps made → Finds rules units (p ∷ ps) made
     found_rule : {units n : ℕ} {p r : RewriteRule} {ps : List RewriteRule} → Treats rules units p (Added r n) → Finds rules units (p ∷ ps) (Added r n)
     found_end : {units : ℕ} {p : RewriteRule} {ps : List RewriteRule} {why : Ending} → Treats rules units p (Ended why)
         → Finds rules units (p ∷ ps) (Ended why)

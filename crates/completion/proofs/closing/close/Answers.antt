@@ -6,7 +6,7 @@ use Rattle.completion.specs.GreaterBy.{GreaterBy}
 use Rattle.completion.specs.CompletionRun.{Finds, sides}
 use Rattle.completion.specs.Treating.{IsOutcome}
 use Rattle.completion.specs.Taking.{ArePairsOver, IsListing}
-use Rattle.completion.proofs.LoopLaws.{close_begins, close_large, close_done, close_more, close_end, close_pairs, close_smaller}
+use Rattle.completion.proofs.LoopLaws.{close_begins, close_large, close_done, close_more, close_end, close_pairs, close_smaller, found_arities}
 use Rattle.completion.proofs.closing.close.Goals as goal
 
 pub loop-system-init : goal.loop-system-init
@@ -47,6 +47,14 @@ returns-in-Ended-clause-closes c =
     let R : List PlacedPeak → Type 0 = λ ps. F ps c.in_ok-find.field-0 in
     let found : F c.in-Some.peaks.items c.in_ok-find.field-0 = subst R c.deref.ensures.value c.in_ok-find.ensures in
     close_end (GreaterBy c.args.order.now) c.args.rules c.args.units c.loop-system.system c.loop-system.left c.loop-system.invariant c.in-Some.peaks.items listed c.in-Ended.why (subst (F c.in-Some.peaks.items) c.in-Ended.is found)
+
+pub returns-in-Ended-clause-arities : goal.returns-in-Ended-clause-arities
+returns-in-Ended-clause-arities c =
+    let F : List PlacedPeak → CodeOutcome → Type 0 = λ ps made. IsOutcome c.loop-system.system (Finds c.loop-system.system.arities (GreaterBy c.args.order.now) c.loop-system.system.rules c.loop-system.left (map sides ps)) made in
+    let R : List PlacedPeak → Type 0 = λ ps. F ps c.in_ok-find.field-0 in
+    let found : F c.in-Some.peaks.items c.in_ok-find.field-0 = subst R c.deref.ensures.value c.in_ok-find.ensures in
+    found_arities (GreaterBy c.args.order.now) c.loop-system.system c.loop-system.left (map sides c.in-Some.peaks.items) c.in-Ended.why (subst (F c.in-Some.peaks.items) c.in-Ended.is found)
+    c.args.rules.arities
 
 pub loop-system-smaller : goal.loop-system-smaller
 loop-system-smaller c =
