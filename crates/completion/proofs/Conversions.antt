@@ -1,15 +1,13 @@
 -- Conversions go on under substitutions and in contexts; rules that others convert make no further conversions.
-use Rattle.std.proofs.Common.{◌≡◌, ℕ, zero, suc, refl, sym, ap, subst, List, ◌∷◌, [], ◌++◌}
+use Rattle.std.proofs.Common.{ℕ, sym, subst, List, ◌∷◌, [], ◌++◌}
 use Rattle.trs_defs.specs.Tree.{Tree, Trees, app, cons}
 use Rattle.trs_defs.specs.Substitution.{apply}
-use Rattle.trs_defs.specs.Member.{In}
 use Rattle.trs_defs.specs.System.{RewriteRule, Among}
-use Rattle.trs_defs.specs.Step.{Inside, InsideOne, here, deep, first, later, RootStep, Step}
-use Rattle.trs_defs.specs.Derivation.{Derivation, Reaches}
+use Rattle.trs_defs.specs.Step.{InsideOne, here, deep, first, later, RootStep, Step}
 use Rattle.trs_defs.specs.Run.{Run, Stay, Go}
 use Rattle.trs_defs.proofs.Substitutions.{step_closed}
 use Rattle.trs_defs.proofs.StepLaws.{step_of_more}
-use Rattle.trs_defs.proofs.Members.{in_left, in_right}
+use Rattle.trs_defs.proofs.Members.{in_left}
 use Rattle.completion.specs.Conversion.{Converted, by_step, no_step, backwards, onwards}
 
 -- a map whose steps are conversions

@@ -1,11 +1,11 @@
 -- The first of the listed redexes, and steps at first redexes in a row.
-use Rattle.std.proofs.Common.{◌≡◌, ◌<◌, ◌≤◌, ℕ, ◌+◌, ◌-◌, zero, suc, ◌⊎◌, inl, inr, refl, sym, ap, subst, arith, ◌∙◌, List, [], ◌∷◌, Some, None, slice_get, Result, Ok, Err, IfOk, IsTrue, length}
+use Rattle.std.proofs.Common.{◌≡◌, ◌<◌, ◌≤◌, ℕ, ◌+◌, ◌-◌, suc, ◌⊎◌, inl, inr, refl, sym, subst, arith, ◌∙◌, List, [], ◌∷◌, Some, None, slice_get, Result, Ok, Err, IfOk, IsTrue, length}
 use Rattle.std.proofs.lemmas.Option.{same_Some}
 use Rattle.trs_defs.specs.Tree.{Tree}
 use Rattle.trs_defs.specs.Size.{size_of, within_limits}
 use Rattle.term_pool.specs.Pooled.{StandsFor, Extends, tree_at}
 use Rattle.term_pool.proofs.PoolTrees.{stands, stands_at, stands_within}
-use Rattle.trs_defs.specs.Member.{In, in_first, in_rest}
+use Rattle.trs_defs.specs.Member.{in_first}
 use Rattle.trs_defs.specs.WellFormed.{IsWellFormed}
 use Rattle.trs_defs.specs.System.{RewriteRule, System, IsSystem}
 use Rattle.trs_defs.specs.Path.{PlacedRule, StepsAt}
@@ -15,7 +15,7 @@ use Rattle.trs_defs.specs.NormalForm.{IsNormalForm}
 use Rattle.trs_defs.proofs.Members.{in_or, no_in}
 use Rattle.trs_defs.proofs.Places.{place_of_step, step_of_place}
 use Rattle.term_pool.specs.Redexes.{HasRedexes, ComesBefore}
-use Rattle.term_pool.specs.Steps.{IsTooLarge, IsStepFault}
+use Rattle.term_pool.specs.Steps.{IsStepFault}
 use Rattle.completion.specs.declared.unfinished.Unfinished.{Unfinished}
 use Rattle.completion.specs.declared.unfinished.Unfinished.TheVariants as unfinished
 use Rattle.completion.specs.Normalizing.{IsFirstRedex, Leads, at_once, by_first, Normalizes, to_normal_form, to_no_unit, to_too_large}

@@ -1,8 +1,7 @@
 -- What the loops of completion keep: what is left answers as the whole.
-use Rattle.std.proofs.Common.{◌≡◌, ◌<◌, ◌≤◌, ℕ, ◌+◌, zero, suc, refl, sym, ap, subst, arith, map, drop, List, [], ◌∷◌, ◌++◌, Option, Some, None, Result, Ok, Err, IfOk, length, get_or, slice_get}
+use Rattle.std.proofs.Common.{◌≡◌, ◌<◌, ◌≤◌, ℕ, ◌+◌, refl, sym, ap, subst, arith, map, drop, List, [], ◌∷◌, Some, None, Result, Ok, Err, IfOk, length, get_or, slice_get}
 use Rattle.std.proofs.lemmas.Option.{slice_get_read}
 use Rattle.trs_defs.specs.Tree.{Tree}
-use Rattle.trs_defs.specs.WellFormed.{IsWellFormed}
 use Rattle.trs_defs.specs.Member.{In, in_first, in_rest}
 use Rattle.trs_defs.specs.Size.{size_of}
 use Rattle.trs_core.specs.SystemLimits.{IsWithinLimits, nodes_of}
@@ -12,7 +11,7 @@ use Rattle.trs_defs.proofs.Members.{in_of_get, in_map}
 use Rattle.completion.specs.declared.endings.Completion.{Completion}
 use Rattle.completion.specs.declared.endings.Completion.TheVariants as completion
 use Rattle.completion.specs.declared.treating.Outcome.TheVariants as outcome
-use Rattle.completion.specs.Endings.{Ending, Done, Unorientable, Spent, Limit, with_rules, IsRightEnding}
+use Rattle.completion.specs.Endings.{Ending, Done, Limit, with_rules, IsRightEnding}
 use Rattle.completion.specs.ReductionOrder.{IsReductionOrder}
 use Rattle.trs_core.specs.declared.memory.OutOfMemory.{OutOfMemory}
 use Rattle.completion.proofs.RightEndings.{completes_right}
@@ -20,11 +19,9 @@ use Rattle.completion.specs.declared.unfinished.Unfinished.{Unfinished}
 use Rattle.completion.specs.declared.unfinished.Unfinished.TheVariants.{NoUnit, TooLarge}
 use Rattle.completion.specs.CompletionRun.{sides, ending_of, Outcome, Passed, Added, Ended, Treats, left_stops, right_stops, no_order, no_unit, no_room, Takes, all_taken, take_passed, take_added, take_ended, Finds, none_found, passed_over, found_rule, found_end, Closes, no_peak_left, one_more, peak_ends, peaks_large, Completes, peaks_close}
 use Rattle.completion.specs.Answers.{plain_ending, HasArities}
-use Rattle.completion.specs.Treating.{pair_of, IsOutcome, IsWithRule}
+use Rattle.completion.specs.Treating.{IsOutcome}
 use Rattle.completion.specs.Taking.{IsTermOver, ArePairsOver, IsListing}
 use Rattle.rewrite_core.specs.PlacedPeak.{PlacedPeak}
-use Rattle.crit_pairs.specs.PeakList.{ListsPeaks}
-use Rattle.crit_pairs.specs.declared.faults.PeakFault.{PeakFault}
 use Rattle.completion.proofs.PeakPairs.{of_pair}
 use Rattle.completion.proofs.TreatLaws.{found_fewer}
 

@@ -1,7 +1,6 @@
 -- The path order with filters that keep all places is a reduction order.
-use Rattle.std.proofs.Common.{◌≡◌, ℕ, sym, subst, List, IsTrue}
-use Rattle.trs_defs.specs.Tree.{Tree, var}
-use Rattle.trs_defs.specs.Variable.{has_var, IsVariable}
+use Rattle.std.proofs.Common.{ℕ, subst, List}
+use Rattle.trs_defs.specs.Tree.{Tree}
 use Rattle.trs_defs.specs.System.{RewriteRule}
 use Rattle.pair_theory.proofs.Subterms.{sub_of_has, has_of_sub}
 use Rattle.order_theory.specs.ArgumentFilter.{ArgumentFilter, PathStrict}

@@ -1,6 +1,6 @@
 -- The two results of a listed critical peak: well-formed small terms, one step from the top. A terminating system whose listed
 -- peaks are joinable is confluent.
-use Rattle.std.proofs.Common.{◌≡◌, ◌≤◌, ℕ, ◌&&◌, sym, subst, inl, inr, List, [], ◌∷◌, map, Ok, IsTrue}
+use Rattle.std.proofs.Common.{◌≤◌, ℕ, ◌&&◌, sym, subst, inl, inr, List, [], map, Ok, IsTrue}
 use Rattle.std.specs.Prelude.{nat_le}
 use Rattle.std.proofs.lemmas.Bool.{and_parts, leb-true}
 use Rattle.trs_defs.specs.Tree.{Tree}

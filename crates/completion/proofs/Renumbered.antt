@@ -1,5 +1,5 @@
 -- Two terms renumbered one after another are variants of the two, and their variables are numbered in order.
-use Rattle.std.proofs.Common.{◌≡◌, ◌<◌, ◌≤◌, ℕ, ◌+◌, zero, suc, refl, sym, ap, subst, arith, ◌∙◌, ◌⊎◌, inl, inr, List, [], ◌∷◌, ◌++◌, length, Some, IsTrue, slice_get, length-append}
+use Rattle.std.proofs.Common.{◌≡◌, ◌<◌, ◌≤◌, ℕ, ◌+◌, zero, suc, refl, sym, ap, subst, arith, ◌∙◌, inl, inr, List, [], ◌∷◌, ◌++◌, length, Some, IsTrue, slice_get, length-append}
 use Rattle.std.proofs.Math.Decide.{ℕ_discrete}
 use Rattle.std.proofs.lemmas.Option.{slice_get-get_or, same_Some}
 use Rattle.trs_defs.specs.Tree.{Tree, var}

@@ -1,31 +1,30 @@
 -- How a run ends says what it should: rules that end it are convergent and make the same conversions as the equations; a pair
 -- that ends it is converted by the equations, and neither side is greater.
-use Rattle.std.proofs.Common.{◌≡◌, ℕ, zero, suc, ◌⊎◌, inl, inr, refl, sym, ap, subst, ◌∙◌, List, [], ◌∷◌, ◌++◌, map, Result, Ok, Err}
+use Rattle.std.proofs.Common.{ℕ, inl, inr, sym, subst, List, [], ◌∷◌, ◌++◌, map, Result, Ok, Err}
 use Rattle.trs_defs.specs.Tree.{Tree, var}
 use Rattle.trs_defs.specs.Substitution.{apply}
 use Rattle.trs_defs.specs.Member.{In, in_first, in_rest}
-use Rattle.trs_defs.specs.System.{RewriteRule, System, IsRule, IsSystem, Among}
+use Rattle.trs_defs.specs.System.{RewriteRule, System, IsRule, IsSystem}
 use Rattle.trs_defs.specs.Step.{Step, here}
-use Rattle.trs_defs.specs.WellFormed.{IsWellFormed}
 use Rattle.pair_theory.proofs.Systems.{rule_among}
 use Rattle.crit_pairs.proofs.Bindings.{unchanged}
 use Rattle.trs_defs.specs.Run.{Run}
 use Rattle.trs_defs.specs.Joinable.{IsJoinable}
-use Rattle.trs_defs.specs.Claims.{IsTerminating, IsConfluent}
+use Rattle.trs_defs.specs.Claims.{IsTerminating}
 use Rattle.trs_defs.proofs.Derivations.{reaches_of_run, run_of_reaches}
 use Rattle.trs_defs.proofs.Members.{in_or, no_in}
-use Rattle.completion.specs.Conversion.{Converted, by_step, no_step, backwards, onwards, HaveSameConversions}
-use Rattle.completion.specs.ReductionOrder.{GoesDown, IsReductionOrder}
+use Rattle.completion.specs.Conversion.{Converted, by_step, backwards, onwards}
+use Rattle.completion.specs.ReductionOrder.{IsReductionOrder}
 use Rattle.rewrite_core.specs.PlacedPeak.{PlacedPeak}
 use Rattle.crit_pairs.specs.PeakList.{ListsPeaks}
 use Rattle.completion.specs.declared.unfinished.Unfinished.{Unfinished}
 use Rattle.completion.specs.declared.unfinished.Unfinished.TheVariants.{NoUnit, TooLarge}
 use Rattle.completion.specs.Orienting.{IsUnoriented}
-use Rattle.completion.specs.Endings.{Ending, Done, Unorientable, Spent, Limit, with_rules, IsConvergentFor, IsRightEnding}
+use Rattle.completion.specs.Endings.{Ending, Unorientable, with_rules, IsConvergentFor, IsRightEnding}
 use Rattle.completion.specs.CompletionRun.{sides, ending_of, Outcome, Passed, Added, Ended, Treats, left_stops, right_stops, equal_forms, no_order, no_unit, new_rule, no_room, Takes, all_taken, take_passed, take_added, take_ended, Finds, none_found, passed_over, found_rule, found_end, Closes, no_peak_left, one_more, peak_ends, peaks_large, Completes, equations_end, peaks_close}
-use Rattle.completion.proofs.Conversions.{converted_run, step_converts, conversions_convert, more_converted}
+use Rattle.completion.proofs.Conversions.{converted_run, conversions_convert, more_converted}
 use Rattle.completion.proofs.PeakPairs.{of_pair, peaks_confluent}
-use Rattle.completion.proofs.SoundRules.{IsSoundPair, IsSoundRule, AreSound, form_run, run_well_formed, pair_converted, sound_system, no_rules_sound, one_more_sound, sound_conversions, sound_forms, variant_converted, oriented_sound}
+use Rattle.completion.proofs.SoundRules.{IsSoundPair, IsSoundRule, AreSound, form_run, pair_converted, sound_system, no_rules_sound, one_more_sound, sound_conversions, sound_forms, variant_converted, oriented_sound}
 
 -- the new rule is sound, and with it the pair is converted
 pub record IsTakenUp (equations : System) (greater : Tree → Tree → Type 0) (rules : List RewriteRule) (pair r : RewriteRule) : Type 0 where
@@ -51,8 +50,7 @@ module _ (equations : System) (valid : IsSystem equations) (greater : Tree → T
   unoriented_right : (s t u v : Tree) → IsSoundPair equations (record { left = s; right = t }) → IsUnoriented greater s t u v
       → IsRightEnding equations greater (Unorientable u v)
   unoriented_right s t u v h none =
-      let names : ℕ → Tree = λ x. var (none.variants.names x) in
-      (
+      let names : ℕ → Tree = λ x. var (none.variants.names x) in (
         variant_converted equations greater order s t u v none.variants h.converted,
         (λ g. none.not_left (subst (λ x. greater x t) none.variants.left_from (subst (greater (apply names u)) none.variants.right_from (order.instance names u v g)))),
         (λ g. none.not_right (subst (λ x. greater x s) none.variants.right_from (subst (greater (apply names v)) none.variants.left_from (order.instance names v u g)))),

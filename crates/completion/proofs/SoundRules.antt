@@ -1,5 +1,5 @@
 -- The rules of a run: each goes down, and is converted by the equations.
-use Rattle.std.proofs.Common.{◌≡◌, ℕ, zero, suc, ◌⊎◌, inl, inr, refl, sym, ap, subst, ◌∙◌, List, [], ◌∷◌, ◌++◌, Some, slice_get, Result, Ok, Err}
+use Rattle.std.proofs.Common.{ℕ, inl, inr, sym, subst, List, [], ◌∷◌, ◌++◌, Ok}
 use Rattle.trs_defs.specs.Tree.{Tree, var}
 use Rattle.trs_defs.specs.Substitution.{apply}
 use Rattle.trs_defs.specs.WellFormed.{IsWellFormed}
@@ -7,19 +7,17 @@ use Rattle.trs_defs.specs.Member.{In, in_first}
 use Rattle.trs_defs.specs.System.{RewriteRule, System, IsRule, IsSystem, Among}
 use Rattle.trs_defs.specs.Step.{Step, here}
 use Rattle.trs_defs.specs.Run.{Run, Stay, Go}
-use Rattle.trs_defs.specs.NormalForm.{IsNormalForm}
-use Rattle.trs_defs.proofs.Runs.{run_keeps, each}
+use Rattle.trs_defs.proofs.Runs.{run_keeps}
 use Rattle.trs_defs.proofs.Places.{step_of_place}
-use Rattle.trs_defs.proofs.StepLaws.{step_of_more}
-use Rattle.trs_defs.proofs.Members.{in_of_get, in_left, in_right, in_or, no_in, each_of_both}
+use Rattle.trs_defs.proofs.Members.{in_of_get, in_right, in_or, no_in, each_of_both}
 use Rattle.pair_theory.proofs.Over.{step_over, over_of_well_formed, well_formed_of_over, declared}
 use Rattle.pair_theory.proofs.Systems.{right_over, no_new_variables}
-use Rattle.completion.specs.Conversion.{Converted, by_step, no_step, backwards, onwards}
+use Rattle.completion.specs.Conversion.{Converted, by_step, backwards, onwards}
 use Rattle.completion.specs.Endings.{with_rules}
 use Rattle.completion.specs.ReductionOrder.{GoesDown, IsReductionOrder}
 use Rattle.completion.specs.Normalizing.{Leads, at_once, by_first, Normalizes, to_normal_form}
 use Rattle.completion.specs.Orienting.{AreVariants, IsNewRule, IsOriented}
-use Rattle.completion.proofs.Conversions.{converted_apply, converted_run, step_converts, conversions_convert, more_converted}
+use Rattle.completion.proofs.Conversions.{converted_apply, converted_run, conversions_convert, more_converted}
 use Rattle.crit_pairs.proofs.WellFormedTops.{well_formed_image}
 
 -- both sides are well-formed, and the equations convert them

@@ -1,5 +1,5 @@
 -- What becomes of a pair, from what became of its two normal forms; and the units that are left.
-use Rattle.std.proofs.Common.{◌≡◌, ◌≢◌, ◌<◌, ◌≤◌, ℕ, ◌+◌, zero, suc, ◌⊎◌, inl, inr, refl, sym, ap, subst, arith, ◌∙◌, List, [], ◌∷◌, ◌++◌, Result, Ok, Err, IfOk}
+use Rattle.std.proofs.Common.{◌≡◌, ◌≢◌, ◌<◌, ◌≤◌, ℕ, zero, suc, sym, subst, arith, List, Result, Ok, Err, IfOk}
 use Rattle.trs_defs.specs.Tree.{Tree}
 use Rattle.trs_defs.specs.System.{RewriteRule, System}
 use Rattle.trs_core.specs.declared.memory.OutOfMemory.{OutOfMemory}
@@ -9,10 +9,10 @@ use Rattle.completion.specs.declared.treating.Outcome.{Outcome as CodeOutcome}
 use Rattle.completion.specs.declared.treating.Outcome.TheVariants as outcome
 use Rattle.completion.specs.Normalizing.{Normalizes, to_normal_form}
 use Rattle.completion.specs.Orienting.{IsOriented, Fits}
-use Rattle.completion.specs.Endings.{Ending, Done, Unorientable, Spent, Limit, with_rules}
-use Rattle.completion.specs.CompletionRun.{ending_of, Outcome, Passed, Added, Ended, Treats, left_stops, right_stops, equal_forms, no_order, no_unit, new_rule, no_room, Finds, none_found, passed_over, found_rule, found_end}
+use Rattle.completion.specs.Endings.{Ending, Done, Unorientable, Spent, Limit}
+use Rattle.completion.specs.CompletionRun.{ending_of, Outcome, Passed, Added, Ended, Treats, left_stops, right_stops, equal_forms, no_order, no_unit, new_rule, no_room, Finds, passed_over, found_rule}
 use Rattle.completion.specs.Answers.{plain_ending}
-use Rattle.completion.specs.Treating.{pair_of, IsOutcome, IsWithRule, IsCompared, IsComparedEnding}
+use Rattle.completion.specs.Treating.{pair_of, IsOutcome, IsCompared, IsComparedEnding}
 
 module _ (greater : Tree → Tree → Type 0) (system : System) (units : ℕ) (left right : Tree) where
   abbrev Treated : Outcome → Type 0

@@ -1,6 +1,6 @@
 -- Runs of completion, by an order and with so many units. (Knuth and Bendix, Simple word problems in universal algebras,
 -- 1970; Baader and Nipkow, section 7.1. No rule is dropped or reduced.) An equation is given as a rule, and so is a pair of terms.
-use Rattle.std.specs.Prelude.{◌≡◌, ◌≢◌, ℕ, ◌⊎◌, List, [], ◌∷◌, ◌++◌, map, Result, Ok, Err}
+use Rattle.std.specs.Prelude.{◌≢◌, ℕ, ◌⊎◌, List, [], ◌∷◌, ◌++◌, map, Result, Ok, Err}
 use Rattle.std.proofs.Common.{suc}
 use Rattle.trs_defs.specs.Tree.{Tree}
 use Rattle.trs_defs.specs.System.{RewriteRule, System}

@@ -9,9 +9,9 @@ ghost use Rattle.completion.specs.Treating.{pair_of, IsOutcome, IsCompared, IsAd
 use crate::normalizing::{Form, normal_form};
 use crate::orienting::{is_shallow, with_rule};
 use crate::renumbering::renumbered;
+use crate::{Completion, Unfinished};
 use path_lpo::{Lpo, is_strict};
 use std::alloc::Global;
-use crate::{Completion, Unfinished};
 use trs_core::{OutOfMemory, Term, Trs};
 
 /// What becomes of a pair: it is passed over, or gives a rule, and so many units are left; or the
@@ -82,13 +82,7 @@ fn compare(
 }
 
 /// A new last rule from the greater normal form to the other.
-fn add(
-    alloc: Global,
-    trs: &Trs,
-    s: &Term,
-    t: &Term,
-    units: u64,
-) -> Result<Outcome, OutOfMemory>
+fn add(alloc: Global, trs: &Trs, s: &Term, t: &Term, units: u64) -> Result<Outcome, OutOfMemory>
     ensures { IfOk result (IsAdded trs.now units (tree s.now) (tree t.now)) }
 {
     if units == 0 {

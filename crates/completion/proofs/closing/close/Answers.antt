@@ -1,4 +1,4 @@
-use Rattle.std.proofs.Common.{◌≡◌, List, Option, Some, None, subst, sym, ap, map}
+use Rattle.std.proofs.Common.{◌≡◌, List, Some, None, subst, sym, ap, map}
 use Rattle.std.specs.Option.{option_map}
 use Rattle.rewrite_core.specs.PlacedPeak.{PlacedPeak}
 use Rattle.completion.specs.declared.treating.Outcome.{Outcome as CodeOutcome}

@@ -1,4 +1,4 @@
-use Rattle.std.proofs.Common.{◌≡◌, ◌+◌, ap, drop, map, subst, sym}
+use Rattle.std.proofs.Common.{◌+◌, ap, drop, map, subst, sym}
 use Rattle.completion.specs.Taking.{IsTermOver}
 use Rattle.std.proofs.lemmas.List.{drop_all}
 use Rattle.rewrite_core.specs.PlacedPeak.{PlacedPeak}

@@ -1,5 +1,4 @@
 use Rattle.trs_core.specs.View.{tree}
-use Rattle.crit_pairs.proofs.Renumbering.{none_distinct}
 use Rattle.completion.proofs.Renumbered.{variants, left_counted, both_counted}
 use Rattle.completion.proofs.renumbering.renumbered.Goals as goal
 

@@ -1,4 +1,4 @@
-use Rattle.std.proofs.Common.{◌≡◌, ◌∷◌, ◌+◌, List, drop, subst, sym}
+use Rattle.std.proofs.Common.{◌+◌, drop, subst, sym}
 use Rattle.std.proofs.lemmas.List.{drop_all}
 use Rattle.trs_defs.specs.System.{RewriteRule}
 use Rattle.completion.specs.Taking.{IsTermOver}
@@ -46,13 +46,13 @@ loop-equation-preserved c =
       | in-Passed w ↦ same_taking greater c.args.equations.now c.args.budget c.loop-equation.system c.match-branch-3.system w.in-Passed.units c.match-branch-3.left
           (drop (c.loop-equation.equation-index + 1) items) w.system-is w.left-is
           (take_next greater c.args.equations.now c.args.budget c.loop-equation.system c.loop-equation.left (drop c.loop-equation.equation-index items) c.equation-item.result
-    (drop (c.loop-equation.equation-index + 1) items) (cell items c.loop-equation.equation-index c.equation-item.result c.loop-equation-test.true c.equation-item.is)
-    pair c.equation.view_is c.loop-equation.invariant w.in-Passed.units (subst T w.in-Passed.is c.in_ok-units.ensures))
+          (drop (c.loop-equation.equation-index + 1) items) (cell items c.loop-equation.equation-index c.equation-item.result c.loop-equation-test.true c.equation-item.is)
+          pair c.equation.view_is c.loop-equation.invariant w.in-Passed.units (subst T w.in-Passed.is c.in_ok-units.ensures))
       | in-Added w ↦ same_taking greater c.args.equations.now c.args.budget w.in-Added.next c.match-branch-3.system w.in-Added.units c.match-branch-3.left
           (drop (c.loop-equation.equation-index + 1) items) w.system-is w.left-is
           (take_more greater c.args.equations.now c.args.budget c.loop-equation.system c.loop-equation.left (drop c.loop-equation.equation-index items) c.equation-item.result
-    (drop (c.loop-equation.equation-index + 1) items) (cell items c.loop-equation.equation-index c.equation-item.result c.loop-equation-test.true c.equation-item.is)
-    pair c.equation.view_is c.loop-equation.invariant w.in-Added.next w.in-Added.units (subst T w.in-Added.is c.in_ok-units.ensures))
+          (drop (c.loop-equation.equation-index + 1) items) (cell items c.loop-equation.equation-index c.equation-item.result c.loop-equation-test.true c.equation-item.is)
+          pair c.equation.view_is c.loop-equation.invariant w.in-Added.next w.in-Added.units (subst T w.in-Added.is c.in_ok-units.ensures))
     ]
 
 pub returns : goal.returns

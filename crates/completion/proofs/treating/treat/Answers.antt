@@ -1,4 +1,4 @@
-use Rattle.std.proofs.Common.{ℕ, subst}
+use Rattle.std.proofs.Common.{subst}
 use Rattle.trs_core.specs.View.{tree}
 use Rattle.completion.specs.declared.normalizing.Form.{Form}
 use Rattle.completion.specs.GreaterBy.{GreaterBy}
