@@ -12,8 +12,9 @@ td, pre, .term { font-family: monospace; font-size: 14px; } td { padding: 0 1.5e
 def page(name, line, found):
     """The page of some blocks. The line is that of the certifier, if there is one."""
     title = escaped(f"{name}: {line}" if line else name)
-    body = "\n".join(WRITINGS[type(block)](block) for block in found)
-    return f'<!DOCTYPE html>\n<html lang="en">\n<head><meta charset="utf-8"/><title>{title}</title><style>{STYLE}</style></head>\n<body>\n{body}\n</body>\n</html>\n'
+    body = "\n".join(WRITINGS[type(block)](block) for block in blocks.merged(found))
+    head = f'<head><meta charset="utf-8"/><title>{title}</title><style>{STYLE}</style></head>'
+    return f'<!DOCTYPE html>\n<html lang="en">\n{head}\n<body>\n{body}\n</body>\n</html>\n'
 
 
 def heading(block):

@@ -8,10 +8,7 @@ WIDTH = 118
 
 def written(found):
     """The lines of some blocks."""
-    lines = []
-    for place, block in enumerate(found):
-        follows_row = isinstance(block, blocks.Table) and place and isinstance(found[place - 1], blocks.Table)
-        lines += WRITINGS[type(block)](block) if not follows_row else rows_of(block)
+    lines = [line for block in blocks.merged(found) for line in WRITINGS[type(block)](block)]
     return "\n".join(lines) + "\n"
 
 
@@ -42,7 +39,8 @@ def graph(block):
     for word, members in block.groups:
         for n in members:
             follow = ", ".join(map(str, block.edges[n])) or "none"
-            rows.append((f"{word} {', '.join(map(str, members))}", f"pair {n}", block.labels[n], f"followed by {follow}"))
+            group = [f"{word} {', '.join(map(str, members))}"] if word != "pair" else []
+            rows.append((*group, f"pair {n}", block.labels[n], f"followed by {follow}"))
     return rows_of(blocks.Table(rows))
 
 

@@ -16,3 +16,14 @@ Graph = namedtuple("Graph", "edges groups labels")
 # A peak with its two sides: chains of terms, each with the step that led there, and whether the two ends are one term.
 Diagram = namedtuple("Diagram", "top left right is_joined")
 Link = namedtuple("Link", "step term")
+
+
+def merged(found):
+    """The blocks, with rows that follow each other as one table, so that their columns stand below each other."""
+    result = []
+    for block in found:
+        if isinstance(block, Table) and result and isinstance(result[-1], Table):
+            result[-1] = Table(result[-1].rows + block.rows)
+        else:
+            result.append(block)
+    return result

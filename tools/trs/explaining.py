@@ -71,7 +71,7 @@ def facts_blocks(facts):
     else:
         found.append(Say("There are none, so the system terminates."))
     peaks, limit = facts.peaks
-    found += [Heading(1, "Critical peaks"), Say(f"There are {count_text(len(peaks), 'critical peak')}.")]
+    found += [Heading(1, "Critical peaks"), Say(f"{count_text(len(peaks), 'critical peak')}.")]
     if limit:
         found.append(Say("A limit is passed behind these: methods on critical peaks are refused."))
     return found + [Table(peak_rows(facts, number, peak)) for number, peak in enumerate(peaks)]
