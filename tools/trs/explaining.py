@@ -1,23 +1,17 @@
 """What a text means for a problem, as blocks: a certificate, a report, a line of the program, an order, or nothing at all."""
 import re
 
-from .account import NODE_OF_CLAIM, PAIRS, WORDS
+from .account import NODE_OF_CLAIM, WORDS
 from .blocks import Graph, Heading, Lines, Say, Table
 from .certificates import CLAIMS, CertificateRefused, read_certificate
 from .certifying import proved
 from .facts import Facts
-from .notation import Notation, at_place, count_text, pairs_text
+from .notation import Notation, at_place, count_text
 from .places import spot
 from .problems import ProblemRefused, read_problem
+from .proof_blocks import node_text, proof_blocks
 from .refusals import CAUSES_IN_CERTIFICATES, causes_in_problem, line_blocks, problem_numbers
 from .reports import report_blocks
-
-METHOD_NAMES = {
-    "Dp": "dependency pairs", "Graph": "the dependency graph", "Subterm": "the subterm criterion", "Poly": "a linear interpretation",
-    "Lpo": "a path order", "Kbo": "a Knuth-Bendix order", "Loop": "a loop", "Newman": "joined peaks, where the system terminates",
-    "Parallel": "peaks closed by parallel steps", "Strong": "strongly joined peaks", "Label": "decreasing peaks", "Fork": "a fork",
-    "Confluence": "unique normal forms by confluence",
-}
 
 KNOWN_LINE = re.compile(r"(ACCEPTED|REJECTED|problem refused|order refused|too long|UNORIENTABLE|SPENT|LIMIT|usage:)( |$)")
 
@@ -54,7 +48,8 @@ def system_blocks(facts):
     """The symbols and the rules, by their numbers."""
     arities = facts.system.arities
     found = [Heading(1, "The system")]
-    found.append(Say("Symbols, each with the number of its arguments: " + (", ".join(f"{f}/{arities[f]}" for f in arities) or "none") + "."))
+    symbols = ", ".join(f"{f}/{arities[f]}" for f in arities) or "none"
+    found.append(Say(f"Symbols, each with the number of its arguments: {symbols}."))
     return found + [table_of([(f"rule {k}", facts.rule_text(k)) for k in range(len(facts.rules))], "It has no rules.")]
 
 
@@ -67,7 +62,8 @@ def facts_blocks(facts):
     numbers = range(len(facts.pairs))
     found = [Heading(1, "Dependency pairs")]
     if facts.pairs:
-        found.append(Graph(facts.edges(numbers), [("pair", [n]) for n in numbers], {n: facts.pair_text(n) for n in numbers}))
+        labels = {n: facts.pair_text(n) for n in numbers}
+        found.append(Graph(facts.edges(numbers), [("pair", [n]) for n in numbers], labels))
     else:
         found.append(Say("There are none, so the system terminates."))
     peaks, limit = facts.peaks
@@ -101,7 +97,8 @@ def certificate_blocks(facts, text):
 def refused_text(text, refused):
     found = [Heading(1, refused.line)]
     if refused.place is not None:
-        found += [Say("The text is no certificate. What can't stand where it does begins here:"), Lines(list(spot(text, refused.place)))]
+        found += [Say("The text is no certificate. What can't stand where it does begins here:")]
+        found += [Lines(list(spot(text, refused.place)))]
         return found + [Heading(2, "Usual causes"), *(Say("* " + cause) for cause in CAUSES_IN_CERTIFICATES)]
     if refused.line == "REJECTED headline":
         return found + [Say("YES goes with " + claims_of("YES") + ", and NO with " + claims_of("NO") + ".")]
@@ -110,32 +107,6 @@ def refused_text(text, refused):
 
 def claims_of(headline):
     return ", ".join(claim for claim, of in CLAIMS.items() if of == headline)
-
-
-def node_text(node):
-    """What a node asks for."""
-    if node.asks == PAIRS:
-        return f"that {pairs_text(node.pairs)} make{'s' if len(node.pairs) == 1 else ''} no endless chain" if node.pairs else "nothing of any pair; a node with no pairs is closed by an empty (graph)"
-    return WORDS[node.asks]
-
-
-def proof_blocks(proof):
-    """A section for each step that was looked at."""
-    found = []
-    for made in proof.steps:
-        node = proof.nodes[made.node]
-        found.append(Heading(2, f"Step {made.number}, on node {made.node}: {METHOD_NAMES[type(made.method).__name__]}"))
-        found.append(Say(f"To show {node_text(node)}."))
-        found += made.account.blocks
-        if not made.account.refusal:
-            found += left_blocks(made)
-    return found
-
-
-def left_blocks(made):
-    if not made.account.left:
-        return [Say("Nothing is left open by this step.")]
-    return [Say(f"Left open: node {made.first_left + place}, {node_text(node)}.") for place, node in enumerate(made.account.left)]
 
 
 def ending(proof):
@@ -149,7 +120,8 @@ def ending(proof):
         found.append(Say("All steps hold, and these nodes have no step:"))
         return found + [Table([(f"node {n}", node_text(node)) for n, node in enumerate(proof.nodes) if n not in decided])]
     if words[1] == "no-node":
-        return found + [Say(f"Step {words[2]} stands on a node that is not made by the steps before it; these are nodes 0 to {len(proof.nodes) - 1}.")]
+        last = len(proof.nodes) - 1
+        return found + [Say(f"Step {words[2]} stands on a node that the steps before it do not make; these are nodes 0 to {last}.")]
     if words[1] == "decided":
         return found + [Say(f"Step {words[2]} stands on a node that has a step already.")]
     return found + [Say(f"Step {words[2]} is refused by condition {words[3]}; the reason stands above.")]

@@ -46,8 +46,10 @@ class Hunt:
         if question == "termination":
             return [("terminating", self.by_pairs), ("nonterminating", self.by_loop)]
         if question == "confluence":
-            return [("nonconfluent", lambda clock: self.by_fork(clock, False)), ("confluent", self.by_joins), ("confluent", self.by_ranks)]
-        return [("nonunique", lambda clock: self.by_fork(clock, True)), ("unique", confluence_of(self.by_joins)), ("unique", confluence_of(self.by_ranks))]
+            fork = lambda clock: self.by_fork(clock, False)
+            return [("nonconfluent", fork), ("confluent", self.by_joins), ("confluent", self.by_ranks)]
+        split = lambda clock: self.by_fork(clock, True)
+        return [("nonunique", split), *(("unique", confluence_of(search)) for search in (self.by_joins, self.by_ranks))]
 
     def text(self, term):
         return term_text(self.facts.system, term)
@@ -65,7 +67,8 @@ class Hunt:
             for start in starts(self.facts, MOST_STARTS):
                 found = fork_from(self.facts, start, clock, most, wants_normal)
                 if found:
-                    return Proved(member("fork", self.text(found.start), path_text(found.left), path_text(found.right), found.test))
+                    paths = path_text(found.left), path_text(found.right)
+                    return Proved(member("fork", self.text(found.start), *paths, found.test))
         return None
 
     def by_joins(self, clock):

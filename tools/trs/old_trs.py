@@ -121,7 +121,8 @@ def read_rules(tokens, system, variables):
         if arrow == "==":
             tokens.fail("it is equational, or conditional: ==")
         if arrow != "->":
-            tokens.fail("it is a string rewriting system (.srs), or a rule has no arrow" if kind == "name" else f"-> is wanted, and {arrow} is there")
+            is_string = kind == "name"
+            tokens.fail("it is a string rewriting system (.srs)" if is_string else f"-> is wanted, and {arrow} is there")
         right = read_term(tokens, system, variables, 1)
         if tokens.peek()[1] in ("|", "<="):
             tokens.fail("it is conditional: a rule with |")

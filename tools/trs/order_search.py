@@ -50,7 +50,8 @@ class Linear(Family):
         return z3.SolverFor("QF_BV")
 
     def coefficient(self, symbol, i):
-        return self.unknown(symbol, i, lambda name: z3.ZeroExt(BITS_OF_VALUE - BITS_OF_COEFFICIENT, z3.BitVec(name, BITS_OF_COEFFICIENT)))
+        more = BITS_OF_VALUE - BITS_OF_COEFFICIENT
+        return self.unknown(symbol, i, lambda name: z3.ZeroExt(more, z3.BitVec(name, BITS_OF_COEFFICIENT)))
 
     def polynomial(self, term):
         if is_variable(term):
@@ -111,7 +112,8 @@ class Path(Family):
 
     def through(self, term, test):
         """That a term goes to an argument of which the test holds."""
-        return z3.And(z3.Not(self.is_list(term[0])), disjunction([z3.And(self.keeps(term[0], i), test(part)) for i, part in self.parts(term)]))
+        cases = [z3.And(self.keeps(term[0], i), test(part)) for i, part in self.parts(term)]
+        return z3.And(z3.Not(self.is_list(term[0])), disjunction(cases))
 
     def equal(self, s, t):
         if is_variable(s):
@@ -190,7 +192,8 @@ class Knuth(Family):
     def strict(self, s, t):
         if is_variable(s) or Counter(variables(t)) - Counter(variables(s)):
             return z3.BoolVal(False)
-        return self.once((s, t), lambda: z3.Or(self.weigh(s) > self.weigh(t), z3.And(self.weigh(s) == self.weigh(t), self.breaks_tie(s, t))))
+        v, w = self.weigh(s), self.weigh(t)
+        return self.once((s, t), lambda: z3.Or(v > w, z3.And(v == w, self.breaks_tie(s, t))))
 
     def breaks_tie(self, s, t):
         if is_variable(t):

@@ -60,12 +60,14 @@ def check_edges(facts, edges, items):
         for m in members:
             for n in earlier:
                 if n in edges[m]:
-                    raise StepRefused([9, m, n], f"Pair {m} may be followed by pair {n}, which stands in an earlier item.{why_edge(facts, m, n)}")
+                    text = f"Pair {m} may be followed by pair {n}, which stands in an earlier item.{why_edge(facts, m, n)}"
+                    raise StepRefused([9, m, n], text)
         earlier += members
     for word, members in items:
         if word == "single" and members[0] in edges[members[0]]:
             n = members[0]
-            raise StepRefused([10, n], f"Pair {n} is said to be single, but it may follow itself.{why_edge(facts, n, n)}")
+            text = f"Pair {n} is said to be single, but it may follow itself.{why_edge(facts, n, n)}"
+            raise StepRefused([10, n], text)
 
 
 def why_edge(facts, number, other):
@@ -132,7 +134,8 @@ def explain_poly(facts, node, method, account):
     check_asks(node, PAIRS)
     rules = facts.usable_rules(node.pairs) if is_usable else list(range(len(facts.rules)))
     if is_usable:
-        account.say(("The usable rules are " + numbers_text(rules) if rules else "No rule is usable") + "; only usable rules need be weakly above.")
+        usable = "The usable rules are " + numbers_text(rules) if rules else "No rule is usable"
+        account.say(usable + "; only usable rules need be weakly above.")
     below = [part for n in node.pairs for side in sides(facts, n) for part in side[1:]] if is_usable else []
     explain_order(facts, node, LinearOrder(method.table), rules, below, account)
 

@@ -142,11 +142,13 @@ def explain_loop(facts, node, method, notation, account):
     account.add(Lines(walk.lines(notation)))
     part = subterm_at(walk.end, method.place)
     if part is None:
-        raise StepRefused([5], f"The position {place_text(method.place)} is not in the last term, {notation.term(walk.end)}.")
+        text = f"The position {place_text(method.place)} is not in the last term, {notation.term(walk.end)}."
+        raise StepRefused([5], text)
     found = match(method.start, part)
     if found is None:
         words = notation.term(part), notation.term(method.start)
-        raise StepRefused([6], f"The subterm {at_place(method.place)} of the last term, {words[0]}, is no instance of the start, {words[1]}.")
+        text = f"The subterm {at_place(method.place)} of the last term, {words[0]}, is no instance of the start, {words[1]}."
+        raise StepRefused([6], text)
     account.say(f"{at_place(method.place).capitalize()} of the last term stands {notation.term(part)}, an instance of the start"
                 + substitution_text(notation, found) + ". So the steps can be made again and again.")
 
@@ -175,7 +177,8 @@ def explain_normal_ends(facts, notation, u, v, account):
     for number, end in enumerate((u, v)):
         if not is_normal(facts.rules_for([end]), end):
             step = redexes(facts.rules, end)[0]
-            raise StepRefused([21, number], f"The end of path {number}, {notation.term(end)}, is no normal form: {step_words(step)} applies.")
+            text = f"The end of path {number}, {notation.term(end)}, is no normal form: {step_words(step)} applies."
+            raise StepRefused([21, number], text)
     if u == v:
         raise StepRefused([22], f"Both paths end in {notation.term(u)}.")
     account.say("The two ends are different normal forms: they are never joined.")

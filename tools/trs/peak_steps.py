@@ -96,7 +96,8 @@ def explain_closing(facts, notation, number, peak, steps, account):
 def explain_strong(facts, node, method, account):
     check_asks(node, CONFLUENT)
     check_linear(facts, "left", "right")
-    explain_peaks(facts, method.items, account, "From each side of each, steps lead to what the other side is, or reaches in one step:", explain_four)
+    name = "From each side of each, steps lead to what the other side is, or reaches in one step:"
+    explain_peaks(facts, method.items, account, name, explain_four)
     account.say("A linear system whose critical peaks are joined so from both sides is confluent (Huet, 1980).")
 
 

@@ -21,14 +21,16 @@ def peak_svg(diagram):
         above = (top, 24)
         for row, link in enumerate(chain):
             y = 18 + (row + 1) * 3 * LINE
-            parts += [arrow(*above, centre, y - 14), text((above[0] + centre) // 2, y - LINE - 10, link.step, "step"), text(centre, y, link.term)]
+            middle = (above[0] + centre) // 2
+            parts += [arrow(*above, centre, y - 14), text(middle, y - LINE - 10, link.step, "step"), text(centre, y, link.term)]
             above = (centre, y + 6)
     bottom = 18 + rows * 3 * LINE + LINE
     if diagram.is_joined:
         ends = [chain[-1].term for chain in chains if chain]
         parts.append(text(top, bottom + 6, f"both end in {ends[0]}" if ends else "", "step"))
     height = bottom + LINE
-    return f'<svg xmlns="http://www.w3.org/2000/svg" viewBox="0 0 {width} {height}" width="{width}" height="{height}">{"".join(parts)}</svg>'
+    size = f'viewBox="0 0 {width} {height}" width="{width}" height="{height}"'
+    return f'<svg xmlns="http://www.w3.org/2000/svg" {size}>{"".join(parts)}</svg>'
 
 
 def text(x, y, words, kind="term"):

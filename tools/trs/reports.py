@@ -9,6 +9,7 @@ from .items import TextFault, head_word, is_word, read_items
 from .methods import Names
 
 from .paths import Definitions
+from .proof_blocks import node_text, proof_blocks
 from .reading import Bad
 
 Goal = namedtuple("Goal", "name steps texts stuck asks numbers failed")
@@ -42,7 +43,8 @@ def report_blocks(facts, text):
         goals = [read_goal(facts.system, text, item) for item in items]
     except (TextFault, Bad) as fault:
         return [Heading(1, "MAYBE"), Say(f"This is no report of the program: byte {fault.place} is not as it should be.")]
-    found = [Heading(1, "MAYBE"), Say("No proof was found, and no refutation. Each goal got stuck at a node that no strategy could handle.")]
+    found = [Heading(1, "MAYBE")]
+    found.append(Say("No proof was found, and no refutation. Each goal got stuck at a node that no strategy could handle."))
     for goal in goals:
         found += goal_blocks(facts, goal)
     return found
@@ -82,7 +84,6 @@ def texts_of(text, item, steps):
 
 
 def goal_blocks(facts, goal):
-    from .explaining import node_text, proof_blocks
     claim = CLAIM_OF.get(goal.name, goal.name)
     if claim not in NODE_OF_CLAIM:
         return [Heading(1, f"Goal {goal.name}"), Say("This goal is not known.")]
@@ -92,10 +93,10 @@ def goal_blocks(facts, goal):
     found += proof_blocks(proof)
     if not proof.line.startswith("REJECTED open"):
         return found + [Say(f"The steps of this report come to: {proof.line}. It does not belong to this problem.")]
-    return found + open_blocks(facts, goal, proof, node_text) + [*failure_blocks(goal), *beginning(claim, goal)]
+    return found + open_blocks(facts, goal, proof) + [*failure_blocks(goal), *beginning(claim, goal)]
 
 
-def open_blocks(facts, goal, proof, node_text):
+def open_blocks(facts, goal, proof):
     """The nodes that have no step, with their pairs."""
     decided = {made.node for made in proof.steps}
     found = [Heading(2, "Still open")]
@@ -111,11 +112,12 @@ def open_blocks(facts, goal, proof, node_text):
 def failure_blocks(goal):
     if not goal.failed:
         return []
-    rows = [(name, HELPED if how == "spent" else CUT_OFFS.get(name, "nothing is there")) for name, how in goal.failed]
-    return [Heading(2, f"What was tried on node {goal.stuck}"), Table([(name, how, why) for (name, how), (_, why) in zip(goal.failed, rows)])]
+    rows = [(name, how, HELPED if how == "spent" else CUT_OFFS.get(name, "nothing is there")) for name, how in goal.failed]
+    return [Heading(2, f"What was tried on node {goal.stuck}"), Table(rows)]
 
 
 def beginning(claim, goal):
     """The certificate as far as it goes; what is open can be added by hand, or by tools/hunt."""
     lines = [CLAIMS[claim], f"(certificate 1 {claim})", *goal.texts]
-    return [Heading(2, "The beginning of a certificate"), Say("Add a step for each node that is open, by hand or with tools/hunt:"), Lines(lines)]
+    advice = "Add a step for each node that is open, by hand or with tools/hunt:"
+    return [Heading(2, "The beginning of a certificate"), Say(advice), Lines(lines)]
