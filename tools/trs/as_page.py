@@ -5,7 +5,7 @@ from .pictures import NO_GRAPHVIZ, escaped, graph_svg, peak_svg
 
 STYLE = """body { font-family: sans-serif; max-width: 75em; margin: 2em auto; padding: 0 1em; }
 td, pre, .term { font-family: monospace; font-size: 14px; } td { padding: 0 1.5em 0 0; white-space: pre-wrap; }
-.step { font-family: sans-serif; font-size: 12px; fill: #555; } svg { max-width: 100%; height: auto; }
+.step { font-family: sans-serif; font-size: 12px; fill: #555; paint-order: stroke; stroke: white; stroke-width: 4px; } svg { max-width: 100%; height: auto; }
 .failure { color: #a00; font-weight: bold; } h1 { font-size: 1.4em; } h2 { font-size: 1.1em; }"""
 
 

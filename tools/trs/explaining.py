@@ -7,6 +7,7 @@ from .certificates import CLAIMS, CertificateRefused, read_certificate
 from .certifying import proved
 from .facts import Facts
 from .notation import Notation, at_place, count_text
+from .path_steps import TooManySteps
 from .places import spot
 from .problems import ProblemRefused, read_problem
 from .proof_blocks import node_text, proof_blocks
@@ -28,12 +29,23 @@ def explained(problem_text, text):
     words = text.decode("utf-8", "surrogateescape")
     if KNOWN_LINE.match(words):
         return system_blocks(facts) + line_blocks(facts, words.strip()), None
+    if words.startswith("COMPLETE\n"):
+        return completion_blocks(facts, text), None
     if words.startswith("MAYBE\n(goal "):
         return system_blocks(facts) + report_blocks(facts, text), None
     return certificate_blocks(facts, text)
 
 
 # ---- a problem
+
+
+def completion_blocks(facts, text):
+    """The system that a completion ends with, beside the one that it began with."""
+    found = system_blocks(facts) + [Heading(1, "COMPLETE"), Say("The completion ended. The rules that it found:")]
+    try:
+        return found + system_blocks(Facts(read_problem(text.partition(b"\n")[2])))[2:]
+    except ProblemRefused as refused:
+        return found + [Say(f"But what it printed is no problem text: {refused.line()}.")]
 
 
 def refused_problem(text, refused):
@@ -90,7 +102,10 @@ def certificate_blocks(facts, text):
     except CertificateRefused as refused:
         return found + refused_text(text, refused), refused.line
     found += [Heading(1, f"The certificate claims {WORDS[NODE_OF_CLAIM[certificate.claim]]}")]
-    proof = proved(facts, certificate)
+    try:
+        proof = proved(facts, certificate)
+    except TooManySteps as fault:
+        return found + [Say(f"{fault} `trsprove certify` does.")], None
     return found + proof_blocks(proof) + ending(proof), proof.line
 
 

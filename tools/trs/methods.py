@@ -1,8 +1,6 @@
 """The methods of steps, as their items say them. Each kind has a class with its parts; `explain` gives them meaning."""
 from collections import namedtuple
 
-from plain_prover.terms import depth, size
-
 from .items import is_word, size_as_written
 from .paths import read_at
 from .reading import Bad, check_end, check_length, list_of, number, position, word_in

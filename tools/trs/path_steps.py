@@ -4,7 +4,7 @@ from plain_prover.terms import apply, at, is_variable, match, put
 
 from .account import CONFLUENT, FORKS, LOOPS, SPLITS, UNIQUE, Node, StepRefused, check_asks
 from .blocks import Diagram, Lines, Link
-from .notation import Notation, at_place, count_text, place_text
+from .notation import at_place, count_text, place_text
 
 MOST_NODES = 65_536
 GREATEST_DEPTH = 1_024
@@ -18,6 +18,20 @@ FAULTS = {
     3: "the system has no rule of this number",
     4: "the result would have more than 65,536 nodes or a depth above 1,024",
 }
+
+
+# A longer path is not gone through: the certifier takes millions of steps, and this would take hours.
+MOST_STEPS = 200_000
+
+
+class TooManySteps(Exception):
+    """A path that is too long for this tool, with its number of steps."""
+
+
+def steps_of(path):
+    if path.count > MOST_STEPS:
+        raise TooManySteps(f"A path has {path.count} steps, and this tool does not go through more than {MOST_STEPS}.")
+    return path.steps()
 
 
 class StepFault(Exception):
@@ -138,7 +152,7 @@ def explain_loop(facts, node, method, notation, account):
     check_asks(node, LOOPS)
     if not method.path.count:
         raise StepRefused([4], "The path has no steps.")
-    walk = run_or_refuse(facts, notation, method.start, method.path.steps(), [0, 0], "the path")
+    walk = run_or_refuse(facts, notation, method.start, steps_of(method.path), [0, 0], "the path")
     account.add(Lines(walk.lines(notation)))
     part = subterm_at(walk.end, method.place)
     if part is None:
@@ -163,8 +177,8 @@ def substitution_text(notation, found):
 
 def explain_fork(facts, node, method, notation, account):
     check_asks(node, *((FORKS, SPLITS) if method.test == "normal" else (FORKS,)))
-    left = run_or_refuse(facts, notation, method.start, method.left.steps(), [0, 0], "path 0")
-    right = run_or_refuse(facts, notation, method.start, method.right.steps(), [0, 1], "path 1")
+    left = run_or_refuse(facts, notation, method.start, steps_of(method.left), [0, 0], "path 0")
+    right = run_or_refuse(facts, notation, method.start, steps_of(method.right), [0, 1], "path 1")
     account.say(f"From {notation.term(method.start)} both sides are reached:")
     account.add(Diagram(notation.term(method.start), left.links(notation), right.links(notation), False))
     if method.test == "normal":

@@ -2,7 +2,7 @@
 from .account import CONFLUENT, TERMINATES, Node, StepRefused, check_asks
 from .blocks import Diagram, Heading, Link
 from .notation import Notation, at_place, count_text, place_text
-from .path_steps import run_or_refuse, step_words
+from .path_steps import run_or_refuse, step_words, steps_of
 
 LIMITS = {
     24: "A critical peak has a term of more than 65,536 nodes or a depth above 1,024.",
@@ -53,7 +53,7 @@ def peak_diagram(notation, peak, left, right, is_joined=True):
 
 def joined(facts, notation, number, starts, paths, numbers):
     """The walks of two paths that must end in one term."""
-    walks = [run_or_refuse(facts, notation, start, path.steps(), [number, n], f"path {n} of item {number}")
+    walks = [run_or_refuse(facts, notation, start, steps_of(path), [number, n], f"path {n} of item {number}")
              for start, path, n in zip(starts, paths, numbers)]
     if walks[0].end != walks[1].end:
         ends = [notation.term(walk.end) for walk in walks]
