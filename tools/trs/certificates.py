@@ -2,7 +2,8 @@
 from collections import namedtuple
 
 from .items import TextFault, is_word, read_items
-from .methods import Names, read_method
+from .methods import read_method
+from .names import Names
 from .paths import Definitions
 from .reading import Bad, check_length, number, word_in
 

@@ -1,7 +1,7 @@
 """A plain certifier that gives its reasons: the account of each step of a certificate, and the line that it comes to."""
 from collections import namedtuple
 
-from . import methods, pair_steps, path_steps, peak_steps
+from . import kinds, pair_steps, path_steps, peak_steps
 from .account import NODE_OF_CLAIM, Account, Node, StepRefused
 from .notation import Notation
 
@@ -12,13 +12,13 @@ Made = namedtuple("Made", "number node method account first_left")
 
 # The accounts of steps that say terms need names for the variables of the step.
 ON_FACTS = {
-    methods.Dp: pair_steps.explain_dp, methods.Graph: pair_steps.explain_graph, methods.Subterm: pair_steps.explain_subterm,
-    methods.Poly: pair_steps.explain_poly, methods.Lpo: pair_steps.explain_lpo, methods.Kbo: pair_steps.explain_kbo,
-    methods.Newman: peak_steps.explain_newman, methods.Parallel: peak_steps.explain_parallel,
-    methods.Strong: peak_steps.explain_strong, methods.Label: peak_steps.explain_label,
-    methods.Confluence: path_steps.explain_confluence,
+    kinds.Dp: pair_steps.explain_dp, kinds.Graph: pair_steps.explain_graph, kinds.Subterm: pair_steps.explain_subterm,
+    kinds.Poly: pair_steps.explain_poly, kinds.Lpo: pair_steps.explain_lpo, kinds.Kbo: pair_steps.explain_kbo,
+    kinds.Newman: peak_steps.explain_newman, kinds.Parallel: peak_steps.explain_parallel,
+    kinds.Strong: peak_steps.explain_strong, kinds.Label: peak_steps.explain_label,
+    kinds.Confluence: path_steps.explain_confluence,
 }
-ON_TERMS = {methods.Loop: path_steps.explain_loop, methods.Fork: path_steps.explain_fork}
+ON_TERMS = {kinds.Loop: path_steps.explain_loop, kinds.Fork: path_steps.explain_fork}
 
 
 def account_of(facts, node, step):

@@ -6,7 +6,7 @@ from .blocks import Heading, Lines, Say, Table
 from .certificates import CLAIMS, read_step
 from .certifying import proof_from
 from .items import TextFault, head_word, is_word, read_items
-from .methods import Names
+from .names import Names
 
 from .paths import Definitions
 from .proof_blocks import node_text, proof_blocks
