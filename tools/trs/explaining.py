@@ -81,7 +81,7 @@ def facts_blocks(facts):
     peaks, limit = facts.peaks
     found += [Heading(1, "Critical peaks"), Say(f"{count_text(len(peaks), 'critical peak')}.")]
     if limit:
-        found.append(Say("A limit is passed behind these: methods on critical peaks are refused."))
+        found.append(Say("A limit is passed after these: methods on critical peaks are refused."))
     return found + [Table(peak_rows(facts, number, peak)) for number, peak in enumerate(peaks)]
 
 

@@ -1,4 +1,4 @@
-"""The methods of steps: for each kind what stands behind its word. An entry of a table is under its symbol; marked symbols are
+"""The methods of steps: for each kind what stands after its word. An entry of a table is under its symbol; marked symbols are
 those of `plain_prover`: ("mark", name)."""
 from collections import namedtuple
 

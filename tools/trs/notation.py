@@ -6,7 +6,7 @@ FIRST_NAMES = ["x", "y", "z", "u", "v", "w"]
 
 
 def symbol_text(symbol):
-    """A symbol; a marked one with a sharp behind its name."""
+    """A symbol; a marked one with a sharp after its name."""
     return symbol[1] + "#" if isinstance(symbol, tuple) else symbol
 
 

@@ -44,7 +44,7 @@ class Tokens:
         raise NotRead(f"line {self.text.count(chr(10), 0, self.place) + 1}: {reason}")
 
     def skip_section(self):
-        """Goes behind the bracket that closes the section, whatever stands in it."""
+        """Goes past the bracket that closes the section, whatever stands in it."""
         depth = 1
         for found in re.compile(r"[()]").finditer(self.text, self.place):
             depth += 1 if found[0] == "(" else -1
@@ -74,7 +74,7 @@ def read_old_trs(text):
             tokens.fail(REFUSED_SECTIONS.get(word, f"the section {word} is not known"))
     if not rules:
         raise NotRead("it has no (RULES ..)")
-    # Variables may be declared behind the rules.
+    # Variables may be declared after the rules.
     for place in rules:
         tokens.place = place
         read_rules(tokens, system, variables)

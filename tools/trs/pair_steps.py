@@ -190,7 +190,7 @@ def compared(facts, order, number, name, two, too_big, not_weak, notation):
 
 
 def needed_symbols(facts, node, rules, below):
-    """The symbols of the rules and below the roots, in order, and behind them the marked roots."""
+    """The symbols of the rules and below the roots, in order, and after them the marked roots."""
     terms = [side for k in rules for side in facts.rules[k]] + below
     found = {f for term in terms for f in symbols(term)}
     return [f for f in facts.system.names if f in found] + roots_of(facts, node.pairs)

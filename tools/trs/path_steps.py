@@ -76,7 +76,7 @@ class Sizes:
 
 
 def made(rules, term, step, number, sizes):
-    """The term behind a step."""
+    """The term after a step."""
     if step.rule >= len(rules):
         raise StepFault(3, number, step, term)
     part = subterm_at(term, step.place)
@@ -93,7 +93,7 @@ def made(rules, term, step, number, sizes):
 
 
 def run(rules, start, steps):
-    """The links of a path from a term: each step with the term behind it. Only the first ones and the last are kept."""
+    """The links of a path from a term: each step with the term after it. Only the first ones and the last are kept."""
     first, last, term, count = [], [], start, 0
     sizes = Sizes()
     for number, step in enumerate(steps):

@@ -150,4 +150,4 @@ def labels_text(labels):
 
 def label_text(number, path, labels, low, once):
     return (f"The labels of path {path} of item {number} are {labels_text(labels)}. They must begin with labels below {low}; then one "
-            f"label {once} may come; and each behind it must be below {low} or below {once}.")
+            f"label {once} may come; and each after it must be below {low} or below {once}.")

@@ -52,7 +52,7 @@ def check_format(items):
 
 
 class Reading:
-    """The symbols and rules of the items behind the format, and all faults as places with numbers."""
+    """The symbols and rules of the items after the format, and all faults as places with numbers."""
 
     def __init__(self, items):
         self.faults, self.arities, self.rules, self.variables = [], {}, [], []

@@ -29,7 +29,7 @@ def word_in(item, words):
 
 
 def list_of(item, word, fewest=1):
-    """The members behind the head word of a list."""
+    """The members after the head word of a list."""
     check_length(item, fewest)
     word_in(item.members[0], (word,))
     return item.members[1:]

@@ -55,15 +55,15 @@ TEXT_KINDS = {
 
 CAUSES_IN_CERTIFICATES = [
     "A place within a position counted from 0: places count the arguments from 1.",
-    "A bracket too few: the outermost one that is never closed is named, though the slip may stand far behind it.",
+    "A bracket too few: the outermost one that is never closed is named, though the slip may stand far after it.",
     "A symbol in a term with too many or too few arguments, or a misspelt one with arguments.",
     "A byte order mark at the beginning, which editors do not show, or lines that end with carriage returns alone.",
-    "A use or a define in version 1, or a define that stands behind a step or behind its use.",
+    "A use or a define in version 1, or a define that stands after a step or after its use.",
     "Another kind of certificate, such as the XML of other tools: only the format of docs/CERTIFICATE-FORMAT.md is read.",
 ]
 
 CAUSES_BY_NUMBER = {
-    1: ["A bracket too few or too many. The outermost bracket that is never closed is named; the slip may stand far behind it.",
+    1: ["A bracket too few or too many. The outermost bracket that is never closed is named; the slip may stand far after it.",
         "A semicolon in front of a closing bracket: what follows on the line is a comment."],
     4: ["A quoted name with a blank in it: it is read as two words.", "(VAR ..) or (var ..): variables are not declared."],
     5: ["The same (fun ..) line twice, or one name with two arities."],
@@ -95,7 +95,7 @@ def causes_in_problem(text, refused):
         found.append("This is XML: `tools/to-ari FILE` writes TPDB's XML as ARI.")
     if refused.number in (2, 3):
         found.append("Another format of ARI (CTRS, CSTRS, MSTRS, LCTRS, ..): conditional, context-sensitive, sorted and constrained "
-                     "systems are not read. The word is TRS in upper case, with nothing behind it.")
+                     "systems are not read. The word is TRS in upper case, with nothing after it.")
     return found + CAUSES_BY_NUMBER.get(refused.number, [])
 
 
@@ -133,7 +133,7 @@ LINES = {
 
 
 def field_texts(facts, number, fields):
-    """What the numbers behind the condition point to."""
+    """What the numbers after the condition point to."""
     if number == 2 and len(fields) == 2:
         yield f"Wanted are {fields[0]}, and there are {fields[1]}."
     elif number == 3 and len(fields) == 4:

@@ -70,7 +70,7 @@ def read_goal(system, text, item):
 
 
 def words_of(item, fewest):
-    """The words behind the head of a list of words."""
+    """The words after the head of a list of words."""
     if len(item.members) < 1 + fewest or not all(is_word(member) for member in item.members):
         raise Bad(item.place)
     return [member.text for member in item.members[1:]]
@@ -78,8 +78,8 @@ def words_of(item, fewest):
 
 def texts_of(text, item, steps):
     """The steps as they stand in the report."""
-    behind = [member.place for member in item.members[2:]]
-    ends = {start: end for start, end in zip(behind, behind[1:])}
+    places = [member.place for member in item.members[2:]]
+    ends = dict(zip(places, places[1:]))
     return [text[step.place:ends[step.place]].decode("utf-8", "surrogateescape").strip() for step in steps]
 
 

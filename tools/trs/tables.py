@@ -67,7 +67,7 @@ def read_filter(item, arity):
 
 
 def read_kbo(names, definitions, item):
-    """As the other tables; but an entry that no Knuth-Bendix order has is refused at its place, before faults behind it."""
+    """As the other tables; but an entry that no Knuth-Bendix order has is refused at its place, before faults after it."""
     fault, table, places = None, {}, {}
     try:
         for member in item.members[1:]:
