@@ -17,7 +17,8 @@ def heading(block):
 
 
 def said(block):
-    return textwrap.wrap(block.text, WIDTH, break_long_words=False, break_on_hyphens=False)
+    indent = "  " if block.text.startswith("* ") else ""
+    return textwrap.wrap(block.text, WIDTH, subsequent_indent=indent, break_long_words=False, break_on_hyphens=False)
 
 
 def failed(block):
