@@ -9,7 +9,7 @@ use Rattle.completion.specs.GreaterBy.{GreaterBy}
 use Rattle.completion.specs.CompletionRun.{Completes}
 use Rattle.completion.specs.Endings.{Ending, Done, with_rules, IsRightEnding}
 use Rattle.ari_text.specs.Problem.{SaysSystem}
-use Rattle.order_text.specs.OrderText.{SaysOrder}
+use Rattle.completion_text.specs.OrderText.{SaysOrder}
 use Rattle.completion_text.specs.CompletionText.{ending_text, IsCompletionText}
 use Rattle.completion_text.specs.Answers.{IsCompleted, IsOrderAnswer, IsCompletionAnswer}
 use Rattle.completion_text.specs.declared.answering.CompletionAnswer.{CompletionAnswer}

@@ -1,2 +1,7 @@
+pub mod OneOrder
+mod Orders
+mod MadeOrders
+mod SeenEntries
+mod PlacesFrom
 mod Names
 mod Completed

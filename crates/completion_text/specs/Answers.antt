@@ -4,8 +4,8 @@ use Rattle.names_text.specs.Named.{NamedSystem}
 use Rattle.ari_text.specs.Problem.{SaysSystem, IsProblemRefused}
 use Rattle.ari_text.specs.declared.fault.AriFault.TheVariants as ari
 use Rattle.path_lpo.specs.Table.{PathEntry}
-use Rattle.order_text.specs.OrderText.{SaysOrder, IsOrderRefused}
-use Rattle.order_text.specs.declared.refused.OrderRefused.TheVariants.{At}
+use Rattle.completion_text.specs.OrderText.{SaysOrder, IsOrderRefused}
+use Rattle.completion_text.specs.declared.refused.OrderRefused.TheVariants.{At}
 use Rattle.completion_text.specs.CompletionText.{IsCompletionText}
 use Rattle.completion_text.specs.declared.answering.CompletionAnswer.{CompletionAnswer}
 use Rattle.completion_text.specs.declared.answering.CompletionAnswer.TheVariants.{Ended, ProblemRefused, OrderRefused}

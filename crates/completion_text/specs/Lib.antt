@@ -1,5 +1,8 @@
 -- what crates above name through this one
-pub use Rattle.order_text.specs as order_text
+pub use Rattle.path_lpo.specs as path_lpo
 pub use Rattle.completion.specs as completion
+pub mod OrderText
+pub mod Unreadable
+pub mod OrderAnswers
 pub mod CompletionText
 pub mod Answers

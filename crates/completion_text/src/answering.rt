@@ -3,9 +3,10 @@ ghost use Rattle.ari_text.specs.Problem.{SaysSystem};
 ghost use Rattle.completion_text.specs.Answers.{IsCompletionAnswer, IsOrderAnswer};
 
 use crate::completing::completion_text;
+use crate::reading::read_order;
+use crate::refused::OrderRefused;
 use ari_text::{AriFault, read_problem};
 use names_text::NamedTrs;
-use order_text::{OrderRefused, read_order};
 use std::alloc::Global;
 use trs_core::OutOfMemory;
 

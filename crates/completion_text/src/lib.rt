@@ -1,9 +1,16 @@
-//! Completion of problem texts by order texts: what is answered, and how it is written.
+//! Texts of completion: an order text is read as the path order that it says, one that keeps all
+//! arguments; and a problem text is completed by it, and the ending written.
 #![tactic(auto)]
 
 mod answering;
 mod completing;
+mod entries;
+mod laws;
 mod printing;
+mod reading;
+mod refused;
 
 pub use answering::{CompletionAnswer, complete_texts};
-pub use order_text::OrderRefused;
+pub use laws::order_texts_say_one_order;
+pub use reading::read_order;
+pub use refused::OrderRefused;

@@ -1,8 +1,8 @@
 -- The refusal of an order text that has a fault as a list of items.
 use Rattle.sexp_core.specs.declared.fault.TextFault.{TextFault}
 use Rattle.sexp_core.specs.declared.fault.TextFault.TheVariants as text
-use Rattle.order_text.specs.declared.refused.OrderRefused.{OrderRefused}
-use Rattle.order_text.specs.declared.refused.OrderRefused.TheVariants.{At, OutOfMemory}
+use Rattle.completion_text.specs.declared.refused.OrderRefused.{OrderRefused}
+use Rattle.completion_text.specs.declared.refused.OrderRefused.TheVariants.{At, OutOfMemory}
 
 abbrev pub from_text : TextFault → OrderRefused
 from_text (text.BadByte p) = At p

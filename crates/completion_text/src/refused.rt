@@ -1,6 +1,6 @@
 ghost use Rattle.std.specs.Prelude.{◌≡◌};
-ghost use Rattle.order_text.specs.Unreadable.{from_text};
-ghost use Rattle.order_text.specs.declared.refused.OrderRefused.TheVariants.{OutOfMemory as no_memory};
+ghost use Rattle.completion_text.specs.Unreadable.{from_text};
+ghost use Rattle.completion_text.specs.declared.refused.OrderRefused.TheVariants.{OutOfMemory as no_memory};
 
 use sexp_core::TextFault;
 

@@ -3,7 +3,7 @@ ghost use Rattle.sexp_core.specs.Items.{view, views};
 ghost use Rattle.text_reading.specs.Seen.{seen};
 ghost use Rattle.order_theory.specs.Keeping.{places_from};
 ghost use Rattle.path_lpo.specs.Plain.{plain};
-ghost use Rattle.order_text.specs.OrderText.{plain_symbol, ranked, entry, entries};
+ghost use Rattle.completion_text.specs.OrderText.{plain_symbol, ranked, entry, entries};
 
 use names_text::{NamedTrs, Symbol};
 use pair_order::SymbolIndex;

@@ -5,8 +5,8 @@ use Rattle.path_lpo.specs.Table.{symbol_of}
 use Rattle.path_lpo.specs.Plain.{plain}
 use Rattle.pair_text.specs.InTurn.{in_turn}
 use Rattle.pair_text.specs.Entries.{with_symbol_of}
-use Rattle.order_text.specs.OrderText.{entry, entries}
-use Rattle.order_text.proofs.entries.read_entries.Given as goal
+use Rattle.completion_text.specs.OrderText.{entry, entries}
+use Rattle.completion_text.proofs.entries.read_entries.Given as goal
 
 abbrev pub invariant-loop-item : goal.invariant-loop-item
 invariant-loop-item l =

@@ -5,8 +5,8 @@ ghost use Rattle.order_theory.specs.Keeping.{KeepsAllPlaces};
 ghost use Rattle.pair_order.specs.Entries.{has_entry};
 ghost use Rattle.path_lpo.specs.Plain.{plain};
 ghost use Rattle.path_lpo.specs.Table.{PathEntry, symbol_of, filter_in};
-ghost use Rattle.order_text.specs.OrderText.{has_each, order, with_each, order_items, SaysOrder, IsOrderRefused};
-ghost use Rattle.order_text.specs.Answers.{Answers};
+ghost use Rattle.completion_text.specs.OrderText.{has_each, order, with_each, order_items, SaysOrder, IsOrderRefused};
+ghost use Rattle.completion_text.specs.OrderAnswers.{Answers};
 
 use crate::entries::read_entries;
 use crate::refused::OrderRefused;

@@ -1,8 +1,8 @@
 ghost use Rattle.std.specs.Prelude.{◌≡◌, ℕ, List};
 ghost use Rattle.names_text.specs.Named.{NamedSystem};
 ghost use Rattle.path_lpo.specs.Table.{PathEntry};
-ghost use Rattle.order_text.specs.OrderText.{SaysOrder, IsOrderRefused};
-ghost use Rattle.order_text.specs.declared.refused.OrderRefused.TheVariants.{At};
+ghost use Rattle.completion_text.specs.OrderText.{SaysOrder, IsOrderRefused};
+ghost use Rattle.completion_text.specs.declared.refused.OrderRefused.TheVariants.{At};
 
 /// A text says at most one order, and is refused at one place at most, where it says none.
 pub fn order_texts_say_one_order()

@@ -5,8 +5,8 @@ use Rattle.path_lpo.specs.Table.{symbol_of}
 use Rattle.path_lpo.specs.Plain.{plain}
 use Rattle.pair_text.specs.Entries.{with_symbol_of}
 use Rattle.pair_text.proofs.InTurnLaws.{one_more_in_turn}
-use Rattle.order_text.specs.OrderText.{entry}
-use Rattle.order_text.proofs.entries.read_entries.Goals as goal
+use Rattle.completion_text.specs.OrderText.{entry}
+use Rattle.completion_text.proofs.entries.read_entries.Goals as goal
 
 pub loop-item-preserved : goal.loop-item-preserved
 loop-item-preserved c =

@@ -6,9 +6,9 @@ use Rattle.text_reading.proofs.SeenParts.{first, last, as_it_is}
 use Rattle.text_reading.proofs.Members.{three_views, list_seen}
 use Rattle.path_lpo.specs.Plain.{plain}
 use Rattle.pair_text.specs.Entries.{new_symbol}
-use Rattle.order_text.specs.OrderText.{ranked, entry}
-use Rattle.order_text.proofs.SeenEntries.{entry_lacks, entry_new}
-use Rattle.order_text.proofs.entries.read_entry.Goals as goal
+use Rattle.completion_text.specs.OrderText.{ranked, entry}
+use Rattle.completion_text.proofs.SeenEntries.{entry_lacks, entry_new}
+use Rattle.completion_text.proofs.entries.read_entry.Goals as goal
 
 pub returns-in_default-members-clause-entry : goal.returns-in_default-members-clause-entry
 returns-in_default-members-clause-entry c =

@@ -7,7 +7,7 @@ use Rattle.names_text.specs.declared.table.Symbol.{Symbol}
 use Rattle.text_reading.specs.Reading.{Read, ◌<*>◌, ended, form}
 use Rattle.text_reading.specs.Numbers.{number}
 use Rattle.pair_text.specs.Entries.{new_symbol, by_symbol}
-use Rattle.order_text.specs.OrderText.{ranked, plain_symbol, rank, entry}
+use Rattle.completion_text.specs.OrderText.{ranked, plain_symbol, rank, entry}
 
 module _ (named : NamedSystem) (known : List ℕ) where
   -- a list that lacks a member

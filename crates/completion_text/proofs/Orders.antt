@@ -5,11 +5,11 @@ use Rattle.sexp_core.specs.declared.fault.TextFault.TheVariants as text
 use Rattle.sexp_core.specs.Items.{Items}
 use Rattle.sexp_core.specs.Reads.{Reads, Fails, fault_of}
 use Rattle.names_text.specs.Named.{NamedSystem}
-use Rattle.order_text.specs.declared.refused.OrderRefused.{OrderRefused}
-use Rattle.order_text.specs.declared.refused.OrderRefused.TheVariants.{At, OutOfMemory}
-use Rattle.order_text.specs.Unreadable.{from_text}
-use Rattle.order_text.specs.Answers as answers
-use Rattle.order_text.specs.OrderText.{order_items, IsOrderRefused}
+use Rattle.completion_text.specs.declared.refused.OrderRefused.{OrderRefused}
+use Rattle.completion_text.specs.declared.refused.OrderRefused.TheVariants.{At, OutOfMemory}
+use Rattle.completion_text.specs.Unreadable.{from_text}
+use Rattle.completion_text.specs.OrderAnswers as answers
+use Rattle.completion_text.specs.OrderText.{order_items, IsOrderRefused}
 
 unreadable : (named : NamedSystem) (bytes : List ℕ) (f : TextFault) (p : ℕ) → fault_of 1040 bytes ≡ Some f → from_text f ≡ At p → IsOrderRefused named bytes (At p)
 unreadable named bytes f p e is = inl (record { cause = f; fault = e; place = is })

@@ -20,9 +20,9 @@ use Rattle.pair_text.proofs.InTurnLaws.{made_in_turn}
 use Rattle.pair_text.proofs.SymbolLaws.{symbol_made}
 use Rattle.pair_order.specs.Entries.{entry_of, has_entry}
 use Rattle.path_lpo.specs.Table.{PathEntry, symbol_of, filter_of, filter_in}
-use Rattle.order_text.specs.OrderText.{ranked, plain_symbol, rank, entry, entries, order, has_each, with_each, order_items}
-use Rattle.order_text.specs.declared.refused.OrderRefused.{OrderRefused}
-use Rattle.order_text.specs.Answers.{Answers}
+use Rattle.completion_text.specs.OrderText.{ranked, plain_symbol, rank, entry, entries, order, has_each, with_each, order_items}
+use Rattle.completion_text.specs.declared.refused.OrderRefused.{OrderRefused}
+use Rattle.completion_text.specs.OrderAnswers.{Answers}
 
 -- ---- what is read
 

@@ -2,8 +2,8 @@
 use Rattle.std.specs.Prelude.{◌≡◌, List, Result, Ok, Err}
 use Rattle.path_lpo.specs.Table.{PathEntry}
 use Rattle.text_reading.specs.Reading.{Read}
-use Rattle.order_text.specs.declared.refused.OrderRefused.{OrderRefused}
-use Rattle.order_text.specs.declared.refused.OrderRefused.TheVariants.{At, OutOfMemory}
+use Rattle.completion_text.specs.declared.refused.OrderRefused.{OrderRefused}
+use Rattle.completion_text.specs.declared.refused.OrderRefused.TheVariants.{At, OutOfMemory}
 
 -- it is refused so, or memory ran out
 abbrev pub Fails : OrderRefused → Read (List PathEntry) → Type 0

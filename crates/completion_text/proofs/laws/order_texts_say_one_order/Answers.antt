@@ -1,5 +1,5 @@
-use Rattle.order_text.proofs.OneOrder.{one_order, no_refusal, one_place}
-use Rattle.order_text.proofs.laws.order_texts_say_one_order.Goals as goal
+use Rattle.completion_text.proofs.OneOrder.{one_order, no_refusal, one_place}
+use Rattle.completion_text.proofs.laws.order_texts_say_one_order.Goals as goal
 
 pub returns-clause-one : goal.returns-clause-one
 returns-clause-one c = one_order

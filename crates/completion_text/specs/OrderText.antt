@@ -14,9 +14,9 @@ use Rattle.order_theory.specs.ArgumentFilter.{Keep}
 use Rattle.order_theory.specs.Keeping.{places_from}
 use Rattle.pair_order.specs.Entries.{has_entry}
 use Rattle.path_lpo.specs.Table.{PathEntry, symbol_of}
-use Rattle.order_text.specs.declared.refused.OrderRefused.{OrderRefused}
-use Rattle.order_text.specs.declared.refused.OrderRefused.TheVariants.{At, OutOfMemory}
-use Rattle.order_text.specs.Unreadable.{from_text}
+use Rattle.completion_text.specs.declared.refused.OrderRefused.{OrderRefused}
+use Rattle.completion_text.specs.declared.refused.OrderRefused.TheVariants.{At, OutOfMemory}
+use Rattle.completion_text.specs.Unreadable.{from_text}
 
 -- ---- entries
 

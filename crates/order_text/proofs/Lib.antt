@@ -1,5 +1,0 @@
-pub mod OneOrder
-mod Orders
-mod MadeOrders
-mod SeenEntries
-mod PlacesFrom
