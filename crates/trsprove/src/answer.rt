@@ -1,7 +1,7 @@
 ghost use Rattle.std.specs.Prelude.{◌≡◌, ◌≤◌, IfOk};
 ghost use Rattle.command_line.specs.Request.{request_of};
 ghost use Rattle.program_edge.specs.Fetching.{IsUnfetched};
-ghost use Rattle.trsprove.specs.Output.{texts, IsAnswer, AnswersOnly, TouchesOnlyNeeded};
+ghost use Rattle.trsprove.specs.Output.{texts, IsAnswer, AnswersOnly, TouchesOnlyNeeded, CanAskAgain};
 ghost use Rattle.trsprove.specs.Answers.{status_of, text_of};
 
 use crate::asking::concluded;
@@ -64,6 +64,7 @@ pub(crate) fn answer_for<'a, S: Shelf>(
         AnswersOnly (request_of (texts words.now)) (S.means shelf.old) (status_of a)) }
     ensures untouched { TouchesOnlyNeeded (request_of (texts words.now))
         (S.means shelf.old) (S.means shelf.new) }
+    ensures again { CanAskAgain (S.means shelf.old) (S.means shelf.new) }
 {
     match parse(alloc, words) {
         Ok(

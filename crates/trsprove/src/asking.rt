@@ -3,7 +3,7 @@ ghost use Rattle.std.specs.Prelude.{◌≡◌, ◌≤◌, ℕ, Some, IfOk, lengt
 ghost use Rattle.command_line.specs.Request.{proves};
 ghost use Rattle.program_edge.specs.Conclusions.{IsConclusion};
 ghost use Rattle.program_edge.specs.Fetching.{most_problem_bytes};
-ghost use Rattle.trsprove.specs.Output.{IsAnswer, AnswersOnly, TouchesOnlyNeeded};
+ghost use Rattle.trsprove.specs.Output.{IsAnswer, AnswersOnly, TouchesOnlyNeeded, CanAskAgain};
 ghost use Rattle.trsprove.specs.Answers.{status_of, text_of};
 
 use crate::answer::{Answer, not_fetched};
@@ -29,6 +29,7 @@ pub(crate) fn concluded<'a, S: Shelf>(
     ensures untouched { (workers : ℕ) → TouchesOnlyNeeded
         (Some (proves question problem.now workers budget))
         (S.means shelf.old) (S.means shelf.new) }
+    ensures again { CanAskAgain (S.means shelf.old) (S.means shelf.new) }
 {
     match shelf.fetch(problem, MOST_PROBLEM_BYTES) {
         Ok(text) => answered(alloc, question, budget, &text),
