@@ -29,12 +29,11 @@ puts_first (Err e) before now xs ys err ((n, h), rose, counts) =
 -- where the first was, and the second was then put
 pub puts_then : {X E : Type 0} (r : Result X E) (before middle now : SinkMeaning) (xs ys : List ℕ) → AppendsTo before xs middle × NoSinkCountFell before middle
     → Puts r middle ys now → Puts r before (xs ++ ys) now
-puts_then (Ok x) before middle now xs ys (a, f, c) (b, g, d) = (Appends-trans before.taken middle.taken now.taken xs ys a b, omega (arith, f, g), omega (arith, c, d))
-puts_then (Err e) before middle now xs ys (a, f, c) ((n, h), rose, g, d) = (
+puts_then (Ok x) before middle now xs ys (a, (f, c)) (b, (g, d)) = (Appends-trans before.taken middle.taken now.taken xs ys a b, (omega (arith, f, g), omega (arith, c, d)))
+puts_then (Err e) before middle now xs ys (a, (f, c)) ((n, h), rose, (g, d)) = (
   (length xs + n, subst (Appends before.taken now.taken) (sym (take-append-add xs ys n)) (Appends-trans before.taken middle.taken now.taken xs (take n ys) a h)),
   omega (arith, f, rose),
-  omega (arith, f, g),
-  omega (arith, c, d),
+  (omega (arith, f, g), omega (arith, c, d)),
 )
 
 -- numbers of which the first was not put whole

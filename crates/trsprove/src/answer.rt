@@ -11,7 +11,7 @@ use ari_text::AriFault;
 use certifier::Claim;
 use command_line::{Refused, Request, parse};
 use io_edge::{FetchFault, Shelf};
-use program_edge::{Status, Unfetched, unfetched};
+use program_edge::{Status, Unfetched, name_fault};
 use std::alloc::{AllocError, Global};
 
 /// What is to be written.
@@ -49,7 +49,7 @@ impl<'a> Answer<'a> {
 pub(crate) fn not_fetched<'a>(name: &'a str, fault: FetchFault) -> Result<Answer<'a>, AllocError>
     ensures { IfOk result (λ a. IsUnfetched fault name.now (status_of a) (text_of a)) }
 {
-    Ok(Answer::Unfetched(unfetched(name, fault)?))
+    Ok(Answer::Unfetched(name_fault(name, fault)?))
 }
 
 /// What the words ask for, by the texts of the shelf.

@@ -2,8 +2,8 @@ use Rattle.std.proofs.Common.{length}
 use Rattle.program_edge.proofs.PuttingLines.{SoFar}
 use Rattle.program_edge.proofs.pieces.put_lines.Given as goal
 
-abbrev pub invariant-loop-rest : goal.invariant-loop-rest
-invariant-loop-rest g l = SoFar l.text (g.K.Sink.means l.fn.out) (g.K.Sink.means l.out) l.rest.now
+abbrev pub invariant-loop-line : goal.invariant-loop-line
+invariant-loop-line g l = SoFar l.text (g.K.Sink.means l.fn.out) (g.K.Sink.means l.out) l.rest
 
-abbrev pub decreases-loop-rest : goal.decreases-loop-rest
-decreases-loop-rest g l = length l.rest.now
+abbrev pub decreases-loop-line : goal.decreases-loop-line
+decreases-loop-line g l = length l.rest
