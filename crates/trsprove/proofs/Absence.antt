@@ -67,7 +67,7 @@ module _ (request : Option Asked) (before now : ShelfMeaning) where
   not_too_long long most (as_problem wanted p c e) passes name limit (as_certificate other q d k (text, told, within)) gone =
       let same : q ≡ p = cc in not_long most_problem_bytes before p text (subst (λ z. Told before z text) same told) within passes
   not_too_long long most (as_problem wanted p c e) passes name limit (as_question other q hands bound k) gone = absurd cc
-  not_too_long long most (as_certificate wanted p c e (kept, text, may_be, within)) passes name limit (as_problem other q d k) gone =
+  not_too_long long most (as_certificate wanted p c e (kept, (text, may_be, within))) passes name limit (as_problem other q d k) gone =
       let same : q ≡ p = cc in no_text before most_problem_bytes p text (subst (ToldAbsent before most_problem_bytes) same gone) may_be
   not_too_long long most (as_certificate wanted p c e fetched) passes name limit (as_certificate other q d k within) gone =
       let same : d ≡ c = cc in no_length before most_certificate_bytes c (subst (ToldAbsent before most_certificate_bytes) same gone) passes
