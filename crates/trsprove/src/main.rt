@@ -4,20 +4,19 @@
 mod answer;
 mod arguments;
 mod asking;
+mod certifying;
 mod lines;
-mod pieces;
 mod report;
 mod run;
 mod samples;
-mod status;
-mod words;
 
 use crate::arguments::run_arguments;
-use io_edge::{FileShelf, StdSink};
+use io_edge::{FileShelf, HostFiles, HostOutput, WriterSink};
 use std::env;
 use std::process::ExitCode;
 
 fn main(rt: HostRuntime) -> ExitCode {
-    let (mut shelf, mut out) = (FileShelf::new(&rt, rt.alloc()), StdSink::new(&rt));
+    let mut shelf = FileShelf::new(HostFiles::new(&rt), rt.alloc());
+    let mut out = WriterSink::new(HostOutput::new(&rt));
     run_arguments(rt.alloc(), env::args(&rt), &mut shelf, &mut out)
 }

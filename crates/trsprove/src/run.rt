@@ -1,12 +1,13 @@
 ghost use Rattle.std.specs.Prelude.{◌≡◌};
 ghost use Rattle.io_edge.specs.Edge.{Rose};
 ghost use Rattle.command_line.specs.Request.{request_of};
-ghost use Rattle.trsprove.specs.Output.{texts, Writes, AnswersOnly, IsTrueAnswer, TouchesOnlyNeeded};
+ghost use Rattle.trsprove.specs.Output.{texts, Writes, AnswersOnly, TouchesOnlyNeeded, AnswersNoAbsence, CanRunAgain};
+ghost use Rattle.trsprove.specs.Truth.{IsTrueAnswer};
 
 use crate::answer::answer_for;
 use crate::report::put_answer;
-use crate::status::Status;
 use io_edge::{Shelf, Sink, SinkFailed};
+use program_edge::Status;
 use std::alloc::Global;
 
 /// Runs the program: reads what the words ask for, fetches the texts, and writes the answer. The
@@ -30,6 +31,13 @@ pub fn run<S: Shelf, K: Sink>(alloc: Global, words: &[&str], shelf: &mut S, out:
     // No other text is fetched than those that are needed.
     ensures untouched { TouchesOnlyNeeded (request_of (texts words.now))
         (S.means shelf.old) (S.means shelf.new) }
+
+    // Where the shelf tells that a text that is needed is not there, no answer is given.
+    ensures absent { AnswersNoAbsence (request_of (texts words.now)) (S.means shelf.old) result }
+
+    // It can be called again: no count fell, and the shelf tells the same texts.
+    ensures again { CanRunAgain (S.means shelf.old) (S.means shelf.new)
+        (K.means out.old) (K.means out.new) }
 {
     let Ok(answer) = answer_for(alloc, words, shelf) else {
         return Status::OutOfMemory;

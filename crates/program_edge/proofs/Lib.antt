@@ -1,0 +1,4 @@
+pub mod Putting
+pub mod Splitting
+pub mod PuttingLines
+pub mod OneConclusion
