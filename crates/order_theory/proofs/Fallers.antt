@@ -1,14 +1,18 @@
 -- Pairs that a map makes fall, or makes equal: the images of those that fall are a system, and a bound in this system of the
 -- image of a term bounds the strict moves from the term.
 use Rattle.std.proofs.Common.{◌≡◌, ℕ, zero, suc, ◌≤◌, refl, sym, ap, subst, arith, ◌∙◌, ◌⊎◌, inl, inr, List, [], ◌∷◌, map}
-use Rattle.trs_defs.specs.Tree.{Tree}
+use Rattle.trs_defs.specs.Tree.{Tree, Trees}
 use Rattle.trs_defs.specs.Substitution.{apply}
 use Rattle.trs_defs.specs.System.{RewriteRule, Among}
 use Rattle.trs_defs.specs.Member.{In, in_first, in_rest}
 use Rattle.trs_defs.specs.Run.{Run, Stay, Go}
-use Rattle.trs_defs.specs.Step.{RootStep, StepBy, here}
+use Rattle.trs_defs.specs.Step.{RootStep, StepBy, here, deep, first, later}
 use Rattle.trs_defs.specs.Bounded.{IsBounded, IsBoundedBy}
 use Rattle.pair_theory.specs.Moves.{Moves, no_moves, weakly, strictly, MovesAtMost}
+use Rattle.pair_theory.specs.Terminates.{ArgumentStep}
+use Rattle.order_theory.specs.MovesInContexts.{MovesInContexts}
+use Rattle.order_theory.specs.MovesInContexts as free
+use Rattle.trs_defs.proofs.StepLaws.{step_of_more, run_in_app, run_in_cons}
 use Rattle.trs_defs.proofs.BoundLaws.{bound_after_run}
 use Rattle.trs_defs.proofs.Members.{in_map, of_map}
 use Rattle.pair_theory.proofs.Matching.{same_term, pick}
@@ -102,3 +106,30 @@ module _ (g : Tree → Tree) (ws ss : List RewriteRule) where
       -- the strict moves from a term are no more than a bound of its image
       pub moves_bounded : (t : Tree) → IsBounded (StepBy (Among system)) (g t) → (n : ℕ) × MovesAtMost ws ss n t
       moves_bounded t b = (b.0, λ m u ms. few_moves b.0 ms b.1)
+
+-- where the map changes nothing: a weak step anywhere is a run of the system, and a strict one is a step of it
+module _ (ws ss : List RewriteRule) where
+  abbrev pub falling : List RewriteRule
+  falling = system (λ t. t) ws ss
+
+  mutual
+    pub weak_run : {s t : Tree} → StepBy (Among ws) s t → Run (StepBy (Among falling)) s t
+    weak_run (here r) = weak_at_root (λ t. t) ws ss (λ σ. σ) (λ σ t. refl) r
+    weak_run (deep {f = f} d) = run_in_app f (weak_runs d)
+
+    weak_runs : {us vs : Trees} → ArgumentStep (Among ws) us vs → Run (ArgumentStep (Among falling)) us vs
+    weak_runs (first d) = run_in_cons (weak_run d) Stay
+    weak_runs (later d) = run_in_cons Stay (weak_runs d)
+
+  pub strict_falls : {s t : Tree} → StepBy (Among ss) s t → StepBy (Among falling) s t
+  strict_falls = step_of_more (Among ss) (Among falling) (λ l r i. base_in (λ t. t) (map (image (λ t. t)) ss) ws (in_map (image (λ t. t)) i))
+
+  few_moves_in_contexts : (n : ℕ) {m : ℕ} {s u : Tree} → MovesInContexts ws ss m s u → IsBoundedBy (StepBy (Among falling)) n s → m ≤ n
+  few_moves_in_contexts n free.no_moves b = omega arith
+  few_moves_in_contexts n (free.weakly d ms) b = few_moves_in_contexts n ms (bound_after_run (StepBy (Among falling)) n (weak_run d) b)
+  few_moves_in_contexts zero (free.strictly d ms) b = absurd (b _ (strict_falls d))
+  few_moves_in_contexts (suc n) (free.strictly {n = k} d ms) b =
+      let h : k ≤ n = few_moves_in_contexts n ms (b _ (strict_falls d)) in omega arith
+
+  pub contexts_bounded : (t : Tree) → IsBounded (StepBy (Among falling)) t → (n : ℕ) × ((m : ℕ) (u : Tree) → MovesInContexts ws ss m t u → m ≤ n)
+  contexts_bounded t b = (b.0, λ m u ms. few_moves_in_contexts b.0 ms b.1)

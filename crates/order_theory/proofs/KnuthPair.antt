@@ -1,18 +1,15 @@
 -- The Knuth-Bendix order is well-founded in the finite sense, on well-formed terms.
 use Rattle.std.proofs.Common.{◌≡◌, ℕ, ◌+◌, ◌-◌, ◌≤◌, ◌<◌, refl, sym, ap, subst, arith, ◌⊎◌, inl, inr, List, true, false, Option, Some, slice_get, length, nat_lt}
 use Rattle.std.proofs.lemmas.Option.{slice_get_within}
-use Rattle.trs_defs.specs.Tree.{Tree, Trees, var, count}
+use Rattle.trs_defs.specs.Tree.{Tree, var, count}
 use Rattle.trs_defs.specs.Substitution.{apply}
-use Rattle.trs_defs.specs.Step.{StepBy, here, deep, first, later}
-use Rattle.pair_theory.specs.Terminates.{ArgumentStep, Terminates}
+use Rattle.pair_theory.specs.Terminates.{Terminates}
 use Rattle.trs_defs.specs.System.{RewriteRule, Among}
 use Rattle.trs_defs.specs.Member.{In}
 use Rattle.pair_theory.specs.Subterm.{Sub}
-use Rattle.trs_defs.specs.Run.{Run, Stay}
 use Rattle.pair_theory.specs.Moves.{MovesAtMost, IsOrdered, IsWellFounded}
-use Rattle.trs_defs.proofs.StepLaws.{run_in_app, run_in_cons}
 use Rattle.pair_theory.proofs.Reducts.{bounded}
-use Rattle.order_theory.proofs.Fallers.{system, each_of_system, weak_at_root, moves_bounded}
+use Rattle.order_theory.proofs.Fallers.{falling, each_of_system, weak_run, moves_bounded}
 use Rattle.pair_theory.specs.ReductionPair.{ReductionPair, Speaks}
 use Rattle.order_theory.specs.KnuthBendix.{KnuthGreater, KnuthWeak, IsAdmissible, arity_with_marks}
 use Rattle.pair_theory.specs.Over.{IsOver}
@@ -25,30 +22,18 @@ module _ (arity : ℕ → Option ℕ) (w rank : ℕ → ℕ) (admissible : IsAdm
 
   module _ (ws ss : List RewriteRule) (weak : (p : RewriteRule) → In p ws → (p.left ≡ p.right) ⊎ KnuthGreater w rank p.left p.right) (strict : (p : RewriteRule) → In p ss → KnuthGreater w rank p.left p.right)
       (good : (p : RewriteRule) → In p ws → Good p) (good' : (p : RewriteRule) → In p ss → Good p) where
-    abbrev falling : List RewriteRule
-    falling = system (λ t. t) ws ss
-
     abbrev Fits : RewriteRule → Type 0
     Fits q = KnuthGreater w rank q.left q.right × Good q
 
-    fits : (q : RewriteRule) → In q falling → Fits q
+    fits : (q : RewriteRule) → In q (falling ws ss) → Fits q
     fits = each_of_system (λ t. t) ws ss Fits (λ p i. (strict p i, good' p i))
         (λ p i n. elim (weak p i) [ inl e ↦ absurd (n e) | inr g ↦ (g, good p i) ])
 
-    system_terminates : (t : Tree) → IsOver arity t → Terminates (Among falling) t
-    system_terminates = falling_terminates arity w rank admissible (Among falling) (λ l r i. (fits _ i).0) (λ l r i. (fits _ i).1.0) (λ l r i. (fits _ i).1.1) (λ l r i. (fits _ i).1.2)
-
-    mutual
-      weak_step : {s t : Tree} → StepBy (Among ws) s t → Run (StepBy (Among falling)) s t
-      weak_step (here r) = weak_at_root (λ t. t) ws ss (λ σ. σ) (λ σ t. refl) r
-      weak_step (deep {f = f} s) = run_in_app f (weak_steps s)
-
-      weak_steps : {us vs : Trees} → ArgumentStep (Among ws) us vs → Run (ArgumentStep (Among falling)) us vs
-      weak_steps (first s) = run_in_cons (weak_step s) Stay
-      weak_steps (later s) = run_in_cons Stay (weak_steps s)
+    system_terminates : (t : Tree) → IsOver arity t → Terminates (Among (falling ws ss)) t
+    system_terminates = falling_terminates arity w rank admissible (Among (falling ws ss)) (λ l r i. (fits _ i).0) (λ l r i. (fits _ i).1.0) (λ l r i. (fits _ i).1.1) (λ l r i. (fits _ i).1.2)
 
     pub knuth_bound : (t : Tree) → IsOver arity t → (n : ℕ) × MovesAtMost ws ss n t
-    knuth_bound t v = moves_bounded (λ t. t) ws ss (λ σ. σ) (λ σ t. refl) (λ s u d. weak_step d) t (bounded falling (λ q i. (fits q i).1.2) (system_terminates t v))
+    knuth_bound t v = moves_bounded (λ t. t) ws ss (λ σ. σ) (λ σ t. refl) (λ s u d. weak_run ws ss d) t (bounded (falling ws ss) (λ q i. (fits q i).1.2) (system_terminates t v))
 
   ordered_good : (order : Tree → Tree → Type 0) (p : RewriteRule) → IsOrdered (IsOver arity) order p → Good p
   ordered_good order p h = (h.left_spoken, h.right_spoken, h.variables)

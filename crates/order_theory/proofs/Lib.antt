@@ -5,6 +5,8 @@ pub mod Fallers
 pub mod Filters
 pub mod PathPair
 pub mod PathDecides
+pub mod KeptWhole
+pub mod Contexts
 pub mod Linear
 pub mod Coefficients
 pub mod KnuthAccessible

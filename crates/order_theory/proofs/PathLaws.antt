@@ -2,8 +2,9 @@
 use Rattle.std.proofs.Common.{◌≡◌, ℕ, ◌<◌, refl, sym, subst, arith, ◌∙◌}
 use Rattle.trs_defs.specs.Tree.{Tree, var, app, Trees, nil, cons, count}
 use Rattle.trs_defs.specs.Substitution.{apply, apply_all}
-use Rattle.trs_defs.specs.Step.{StepBy, here, deep, first, later}
-use Rattle.pair_theory.specs.Terminates.{ArgumentStep, Terminates}
+use Rattle.trs_defs.specs.Step.{Inside, InsideOne, RootStep, StepBy, here, deep, first, later}
+use Rattle.trs_defs.proofs.StepLaws.{inside_of_more}
+use Rattle.pair_theory.specs.Terminates.{Terminates}
 use Rattle.pair_theory.specs.Subterm.{Sub, under, Subs, in_head, in_tail}
 use Rattle.trs_defs.specs.Every.{Every, every_nil, every_cons}
 use Rattle.order_theory.specs.PathOrder.{PathGreater, by_arg, by_rank, by_lex, SomeAtLeast, equal_here, greater_here, further, GreaterThanAll, all_nil, all_cons, LexGreater, lex_here, lex_later}
@@ -40,32 +41,40 @@ module _ (rank : ℕ → ℕ) where
   all_of f us nil k = all_nil
   all_of f us (cons t ts) k = all_cons (by_arg (k t mem_head)) (all_of f us ts (λ x m. k x (mem_tail m)))
 
+  some_mem : {ss : Trees} (t : Tree) → Mem t ss → SomeAtLeast rank ss t
+  some_mem t mem_head = equal_here
+  some_mem t (mem_tail m) = further (some_mem t m)
+
+  some_first : {s t u : Tree} {ts : Trees} → PathGreater rank s t → Mem u (cons t ts) → SomeAtLeast rank (cons s ts) u
+  some_first g mem_head = greater_here g
+  some_first g (mem_tail m) = further (some_mem _ m)
+
+  some_later : {s u : Tree} {ss ts : Trees} → ((t : Tree) → Mem t ts → SomeAtLeast rank ss t) → Mem u (cons s ts) → SomeAtLeast rank (cons s ss) u
+  some_later k mem_head = equal_here
+  some_later k (mem_tail m) = further (k _ m)
+
+  -- closed under contexts
+  mutual
+    pub greater_context : {s t : Tree} → Inside (PathGreater rank) s t → PathGreater rank s t
+    greater_context (here g) = g
+    greater_context (deep {ss = ss} {ts = ts} d) = by_lex (context_lex d) (all_of _ ss ts (λ t m. context_some d t m))
+
+    context_lex : {ss ts : Trees} → InsideOne (PathGreater rank) ss ts → LexGreater rank ss ts
+    context_lex (first d) = lex_here (greater_context d) refl
+    context_lex (later d) = lex_later (context_lex d)
+
+    context_some : {ss ts : Trees} → InsideOne (PathGreater rank) ss ts → (t : Tree) → Mem t ts → SomeAtLeast rank ss t
+    context_some (first d) t m = some_first (greater_context d) m
+    context_some (later d) t m = some_later (context_some d) m
+
   -- a system whose rules go down goes down in every context
   module _ (rule : Tree → Tree → Type 0) (falls : (l r : Tree) → rule l r → PathGreater rank l r) where
-    pub some_mem : {ss : Trees} (t : Tree) → Mem t ss → SomeAtLeast rank ss t
-    some_mem t mem_head = equal_here
-    some_mem t (mem_tail m) = further (some_mem t m)
+    root_greater : (s t : Tree) → RootStep rule s t → PathGreater rank s t
+    root_greater s t (l, r, σ, h, e, e') =
+        subst (λ z. PathGreater rank z t) (sym e) (subst (PathGreater rank (apply σ l)) (sym e') (greater_apply σ (falls l r h)))
 
-    some_first : {s t u : Tree} {ts : Trees} → PathGreater rank s t → Mem u (cons t ts) → SomeAtLeast rank (cons s ts) u
-    some_first g mem_head = greater_here g
-    some_first g (mem_tail m) = further (some_mem _ m)
-
-    some_later : {s u : Tree} {ss ts : Trees} → ((t : Tree) → Mem t ts → SomeAtLeast rank ss t) → Mem u (cons s ts) → SomeAtLeast rank (cons s ss) u
-    some_later k mem_head = equal_here
-    some_later k (mem_tail m) = further (k _ m)
-
-    mutual
-      pub step_greater : {s t : Tree} → StepBy rule s t → PathGreater rank s t
-      step_greater (here {t = t'} (l, r, σ, h, e, e')) = subst (λ z. PathGreater rank z t') (sym e) (subst (PathGreater rank (apply σ l)) (sym e') (greater_apply σ (falls l r h)))
-      step_greater (deep {ss = ss} {ts = ts} s) = by_lex (steps_lex s) (all_of _ ss ts (λ t m. steps_some s t m))
-
-      steps_lex : {ss ts : Trees} → ArgumentStep rule ss ts → LexGreater rank ss ts
-      steps_lex (first s) = lex_here (step_greater s) refl
-      steps_lex (later s) = lex_later (steps_lex s)
-
-      steps_some : {ss ts : Trees} → ArgumentStep rule ss ts → (t : Tree) → Mem t ts → SomeAtLeast rank ss t
-      steps_some (first s) t m = some_first (step_greater s) m
-      steps_some (later s) t m = some_later (steps_some s) m
+    step_greater : {s t : Tree} → StepBy rule s t → PathGreater rank s t
+    step_greater d = greater_context (inside_of_more (RootStep rule) (PathGreater rank) root_greater d)
 
     pub falling_terminates : (t : Tree) → Terminates rule t
     falling_terminates t = acc_image (λ x. x) (StepBy rule) (PathGreater rank) (λ x y s. step_greater s) (path_acc rank t) t refl

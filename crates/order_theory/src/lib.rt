@@ -9,6 +9,9 @@ ghost use Rattle.std.specs.Prelude.{◌≡◌, ◌≤◌, Some, ℕ, List, Optio
 ghost use Rattle.trs_defs.specs.Member.{In};
 ghost use Rattle.trs_defs.specs.Tree.{Tree};
 ghost use Rattle.trs_defs.specs.System.{RewriteRule, System, IsSystem};
+ghost use Rattle.trs_defs.specs.WellFormed.{IsWellFormed};
+ghost use Rattle.trs_defs.specs.Step.{Inside};
+ghost use Rattle.trs_defs.specs.Claims.{IsTerminating};
 ghost use Rattle.pair_theory.specs.Marked.{mark};
 ghost use Rattle.pair_theory.specs.DependencyPair.{DependencyPair};
 ghost use Rattle.pair_theory.specs.PairProblem.{IsFiniteProblem, IsPair};
@@ -16,6 +19,8 @@ ghost use Rattle.pair_theory.specs.ReductionPair.{ReductionPair, Speaks, AllTerm
 ghost use Rattle.order_theory.specs.PathOrder.{PathGreater};
 ghost use Rattle.order_theory.specs.PathTest.{path_greater};
 ghost use Rattle.order_theory.specs.ArgumentFilter.{ArgumentFilter, PathStrict, PathWeak};
+ghost use Rattle.order_theory.specs.Keeping.{KeepsAllPlaces};
+ghost use Rattle.order_theory.specs.MovesInContexts.{IsWellFoundedInContexts};
 ghost use Rattle.order_theory.specs.LinearInterpretation.{LinearWeak, LinearStrict, CoefficientWeak, CoefficientStrict};
 ghost use Rattle.order_theory.specs.KnuthBendix.{KnuthGreater, KnuthWeak, arity_with_marks, IsAdmissible};
 ghost use Rattle.pair_theory.specs.Over.{IsOver};
@@ -30,6 +35,25 @@ pub fn path_order_laws()
         ReductionPair (PathWeak rank filter) (PathStrict rank filter) AllTerms }
     ensures test { (rank : ℕ → ℕ) (s t : Tree) →
         IsTrue (path_greater rank s t) ↔ PathGreater rank s t }
+{}
+
+/// Where the filters keep all places, the path order is a reduction order on the terms of the arity
+/// table (Kamin and Lévy; Baader and Nipkow, section 5.4): strict is closed under contexts, and
+/// strict moves have a bound in any context too. So a system whose rules go down strictly terminates.
+pub fn keeping_path_order_laws()
+    ensures context { (arities : List ℕ) (rank : ℕ → ℕ) (filter : ℕ → ArgumentFilter) →
+        KeepsAllPlaces arities filter → (s t : Tree) →
+        IsWellFormed arities s → IsWellFormed arities t →
+        Inside (PathStrict rank filter) s t → PathStrict rank filter s t }
+    ensures bound { (arities : List ℕ) (rank : ℕ → ℕ) (filter : ℕ → ArgumentFilter) →
+        KeepsAllPlaces arities filter →
+        IsWellFoundedInContexts (PathWeak rank filter) (PathStrict rank filter)
+        (IsWellFormed arities) }
+    ensures terminating { (system : System) (rank : ℕ → ℕ) (filter : ℕ → ArgumentFilter) →
+        KeepsAllPlaces system.arities filter →
+        ((r : RewriteRule) → In r system.rules → IsWellFormed system.arities r.left
+        × IsWellFormed system.arities r.right × PathStrict rank filter r.left r.right) →
+        IsTerminating system }
 {}
 
 /// A linear interpretation over the naturals is a reduction pair on all terms (Baader and Nipkow,

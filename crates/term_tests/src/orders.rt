@@ -1,0 +1,137 @@
+//! The three orders on the rules of addition, and tables that are refused.
+use kbo_order::{Kbo, KboEntry, KboFault};
+use pair_order::{ReductionPair, TooBig};
+use path_lpo::{Filter, Lpo, LpoEntry};
+use poly_lin::{LinTable, TableFault};
+use std::alloc::Global;
+use std::test::Fail;
+use trs_core::{Args, OutOfMemory, Term};
+
+/// The term of a text, symbol first, one letter a node. The variables `x` and `y` are 0 and 1, the
+/// symbols `0`, `s`, `+` and `d` are 0, 1, 2 and 3, and `#` is the marked `+`.
+fn read(alloc: Global, text: &[u8]) -> Result<Term, OutOfMemory> {
+    let mut stack: Vec<Term> = Vec::new(alloc);
+    for letter in text.iter().rev() {
+        let (symbol, arity) = match *letter {
+            b'0' => (0, 0),
+            b's' => (1, 1),
+            b'+' => (2, 2),
+            b'#' => (4_098, 2),
+            _ => (3, 1),
+        };
+        let mut items = Vec::new(alloc);
+        for _ in 0..arity {
+            items.push(stack.pop().unwrap_or(Term::Var(2)))?;
+        }
+        stack.push(match *letter {
+            b'x' => Term::Var(0),
+            b'y' => Term::Var(1),
+            _ => Term::App(symbol, Args { items }),
+        })?;
+    }
+    Ok(stack.pop().unwrap_or(Term::Var(2)))
+}
+
+/// Whether a term is weakly above another one, and strictly.
+type Compared = (Result<bool, TooBig>, Result<bool, TooBig>);
+
+/// How the terms of two texts compare.
+fn compared<O: ReductionPair>(
+    alloc: Global,
+    order: &O,
+    left: &[u8],
+    right: &[u8],
+) -> Result<Compared, OutOfMemory> {
+    let left = read(alloc, left)?;
+    let right = read(alloc, right)?;
+    Ok((order.weak(&left, &right), order.strict(&left, &right)))
+}
+
+/// An interpretation, by symbols and their numbers.
+fn linear(
+    alloc: Global,
+    of: &[(u32, &[u64])],
+) -> Result<Result<LinTable, TableFault>, OutOfMemory> {
+    let mut entries = Vec::new(alloc);
+    for (symbol, numbers) in of {
+        let numbers = Vec::from_slice(alloc, numbers)?;
+        entries.push((*symbol, numbers))?;
+    }
+    Ok(LinTable::new(alloc, entries))
+}
+
+#[test]
+fn a_linear_interpretation_compares(rt: HostRuntime) -> Result<(), Fail> {
+    let alloc = rt.alloc();
+    let entries: [(u32, &[u64]); 5] = [
+        (0, &[0]),
+        (1, &[1, 1]),
+        (2, &[0, 1, 1]),
+        (4_098, &[0, 1]),
+        (3, &[0, 1 << 62]),
+    ];
+    let table = linear(alloc, &entries)??;
+    let rows: [(&[u8], &[u8], Compared); 3] = [
+        (b"+sxy", b"s+xy", (Ok(true), Ok(false))),
+        (b"#sxy", b"#xy", (Ok(true), Ok(true))),
+        (b"ddx", b"x", (Err(TooBig), Err(TooBig))),
+    ];
+    for (left, right, want) in rows {
+        assert!(rt; compared(alloc, &table, left, right)? == want);
+    }
+    let fault = linear(alloc, &[(8191, &[0])])?.err();
+    assert!(rt; fault == Some(TableFault::Twice(8191)));
+    Ok(())
+}
+
+/// A path order that keeps so many arguments, by symbols and ranks.
+fn path(alloc: Global, of: &[(u32, u64, &[u8])]) -> Result<Lpo, Fail> {
+    let mut entries = Vec::new(alloc);
+    for (symbol, rank, places) in of {
+        let filter = Filter::Keep(Vec::from_slice(alloc, places)?);
+        entries.push(LpoEntry {
+            symbol: *symbol,
+            rank: *rank,
+            filter,
+        })?;
+    }
+    Ok(Lpo::new(alloc, entries)?)
+}
+
+#[test]
+fn a_path_order_compares(rt: HostRuntime) -> Result<(), Fail> {
+    let alloc = rt.alloc();
+    let order = path(alloc, &[(1, 0, &[1]), (2, 1, &[1, 2])])?;
+    let found = compared(alloc, &order, b"+sxy", b"s+xy")?;
+    assert!(rt; found == (Ok(true), Ok(true)));
+    let found = compared(alloc, &order, b"s+xy", b"+sxy")?;
+    assert!(rt; found == (Ok(false), Ok(false)));
+    Ok(())
+}
+
+/// An order where `s` and `+` weigh nothing and have these ranks.
+fn knuth(alloc: Global, s: u64, plus: u64) -> Result<Result<Kbo, KboFault>, OutOfMemory> {
+    let mut entries = Vec::new(alloc);
+    for (symbol, arity, rank) in [(1, 1, s), (2, 2, plus)] {
+        entries.push(KboEntry {
+            symbol,
+            arity,
+            weight: 0,
+            rank,
+        })?;
+    }
+    Ok(Kbo::new(alloc, entries))
+}
+
+#[test]
+fn a_knuth_bendix_order_compares(rt: HostRuntime) -> Result<(), Fail> {
+    let alloc = rt.alloc();
+    let order = knuth(alloc, 2, 1)??;
+    let found = compared(alloc, &order, b"s+xy", b"+sxy")?;
+    assert!(rt; found == (Ok(true), Ok(true)));
+    let found = compared(alloc, &order, b"+sxy", b"s+xy")?;
+    assert!(rt; found == (Ok(false), Ok(false)));
+    let fault = knuth(alloc, 0, 1)?.err();
+    assert!(rt; fault == Some(KboFault::UnaryNotTop(1)));
+    Ok(())
+}
