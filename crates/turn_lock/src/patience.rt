@@ -7,10 +7,10 @@ use std::time::Duration;
 // The first and the longest sleep, in microseconds.
 const SHORTEST: u64 = 50;
 
-const LONGEST: u64 = 10_000;
+const LONGEST: u64 = 4_000;
 
 /// How long a thread waits between two tries: it spins and yields a few times, and then sleeps, each
-/// time twice as long, up to a hundredth of a second.
+/// time twice as long, up to four thousandths of a second.
 #[derive(Drop)]
 pub struct Patience {
     backoff: Backoff,

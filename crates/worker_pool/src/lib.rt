@@ -3,10 +3,16 @@
 #![tactic(auto)]
 
 mod alone;
+mod entry;
 mod finished;
 mod gate;
 mod pool;
+mod seated;
+mod shared;
 mod turn;
+mod watch;
+mod watching;
+mod worker;
 
 pub use alone::prove_alone;
 pub use finished::Finished;
