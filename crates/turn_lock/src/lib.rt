@@ -6,6 +6,7 @@
 mod chronicle;
 mod lends;
 mod lock;
+mod patience;
 mod plays;
 mod rule;
 mod sharing;
@@ -14,6 +15,7 @@ mod sitting;
 
 pub use chronicle::Chronicle;
 pub use lock::{Grip, Held, Seat, TurnLock};
+pub use patience::Patience;
 pub use sharing::take_apart;
 pub use signed::Signed;
 pub use sitting::Sitting;

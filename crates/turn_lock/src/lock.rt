@@ -8,10 +8,10 @@ ghost use Rattle.turn_lock.specs.Rules.{of, AddsOne};
 ghost use Rattle.turn_lock.specs.Seats.{Has};
 
 use crate::chronicle::Chronicle;
+use crate::patience::Patience;
 use crate::plays::{Free, Next, Weigh, Win};
 use crate::rule::{About, Turns, View};
 use atomic_table::{Refused, Table};
-use crossbeam_utils::Backoff;
 use std::alloc::{AllocFailed, Global};
 use std::marker::Model;
 use std::snapshot::Snapshot;
@@ -174,7 +174,7 @@ impl<T: Chronicle> TurnLock<T> {
             free,
             seats,
         } = seat;
-        let backoff = Backoff::new();
+        let patience = Patience::new();
         for _ in rt.forever() {
             let found = self.table.shared.fetch_or::<Win<T>>(&mut place, 0, 1);
             if found % 2 == 0 {
@@ -188,7 +188,7 @@ impl<T: Chronicle> TurnLock<T> {
                 };
                 return Held { grip, value };
             }
-            backoff.snooze();
+            patience.wait(rt);
         }
         unreachable!()
     }

@@ -1,6 +1,6 @@
 -- A claim and the post that follows it.
 use Rattle.std.specs.Prelude.{◌^◌}
-use Rattle.std.proofs.Common.{◌≡◌, inl, inr, ℕ, ◌+◌, ◌-◌, ◌<◌, ◌≤◌, Bool, true, false, List, [], ◌∷◌, ◌++◌, length, length-append, append_assoc, slice_set, refl, sym, ap, ◌∙◌, subst, arith}
+use Rattle.std.proofs.Common.{◌≡◌, inl, inr, ℕ, ◌+◌, ◌<◌, true, false, List, [], ◌∷◌, ◌++◌, length, length-append, append_assoc, refl, sym, ap, ◌∙◌, subst, arith}
 use Rattle.trs_defs.specs.System.{System}
 use Rattle.trs_defs.specs.Member.{In, in_first}
 use Rattle.trs_defs.proofs.Members.{in_right}
@@ -15,14 +15,14 @@ use Rattle.tree_core.specs.tree_definitions.declared.answers.Posted.{Posted}
 use Rattle.tree_core.specs.tree_definitions.declared.answers.Posted.TheVariants as posted
 use Rattle.tree_core.specs.tree_definitions.declared.question.Question.{Question}
 use Rattle.tree_core.specs.tree_definitions.Questions.{goals_of}
-use Rattle.tree_core.specs.tree_definitions.History.{HistoryEntry, Event, claimed, mentions, of_seat, Runs, IsOwned}
+use Rattle.tree_core.specs.tree_definitions.History.{HistoryEntry, Event, claimed, mentions, Runs, IsOwned}
 use Rattle.tree_core.specs.tree_definitions.States.{State, opening}
 use Rattle.tree_core.specs.tree_definitions.Verdicts.{HasVerdict, IsDone}
 use Rattle.tree_core.specs.tree_definitions.Events.{Follows}
 use Rattle.tree_core.specs.tree_definitions.Trees.{ProofTree}
 use Rattle.tree_core.specs.tree_definitions.Replies.{IsTask, IsAgain, IsPost, IsTaskOf, Notes, event_of_found}
 use Rattle.tree_core.proofs.tree_definitions.Lookups.{length_set}
-use Rattle.tree_core.proofs.tree_definitions.Mentions.{about, mentions-append, one_owner, runs_of_own}
+use Rattle.tree_core.proofs.tree_definitions.Mentions.{about, one_owner, runs_of_own}
 use Rattle.worker_pool.specs.Serial.{IsSerial, nothing, one_more, entry_of}
 use Rattle.worker_pool.specs.Turns.{IsAtRest, IsOnSame, IsAnswerTo, IsTurn, entries_left}
 

@@ -4,3 +4,6 @@ pub use Rattle.tree_core.specs as tree_core
 pub use Rattle.tree_core.specs.tree_definitions
 pub mod Serial
 pub mod Turns
+pub mod Said
+pub mod Shared
+pub mod Watched

@@ -3,9 +3,19 @@
 #![tactic(auto)]
 
 mod alone;
+mod entry;
 mod finished;
+mod gate;
+mod pool;
+mod seated;
+mod shared;
 mod turn;
+mod watch;
+mod watching;
+mod worker;
 
 pub use alone::prove_alone;
 pub use finished::Finished;
+pub use gate::{Gate, OpenGate};
+pub use pool::prove_with;
 pub use tree_core::{Claim, Limits, Question, Tree, Verdict};

@@ -1,4 +1,4 @@
-use Rattle.std.proofs.Common.{◌≡◌, ◌∙◌, ◌<◌, ap, sym, subst}
+use Rattle.std.proofs.Common.{◌≡◌, ◌∙◌, ap, sym, subst}
 use Rattle.tree_core.specs.tree_definitions.Questions.{goals_of}
 use Rattle.tree_core.specs.tree_definitions.Trees.{ProofTree}
 use Rattle.tree_core.specs.tree_definitions.Verdicts.{HasVerdict}

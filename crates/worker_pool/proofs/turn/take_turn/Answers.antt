@@ -1,4 +1,4 @@
-use Rattle.std.proofs.Common.{◌≡◌, ◌∙◌, ℕ, subst, sym}
+use Rattle.std.proofs.Common.{◌∙◌, ℕ, subst, sym}
 use Rattle.trs_defs.specs.System.{System}
 use Rattle.tree_core.specs.tree_definitions.declared.answers.Claimed.{Claimed}
 use Rattle.tree_core.specs.tree_definitions.declared.answers.Claimed.TheVariants as claim
