@@ -1,9 +1,14 @@
-//! Tests of what the program does not show of texts: calls that only other callers make, printed
-//! texts, limits that no text of the examples meets, and the sample systems. There is no code here.
+//! Tests of what the program does not show of texts and of its edge: calls that only other callers
+//! make, printed texts, limits that no text of the examples meets, the sample systems, shelves and
+//! sinks, items and words. There is no code here.
 #![tactic(auto)]
 
 #[cfg(test)]
+mod broken;
+#[cfg(test)]
 mod certifying;
+#[cfg(test)]
+mod items;
 #[cfg(test)]
 mod named_systems;
 #[cfg(test)]
@@ -13,4 +18,8 @@ mod problems;
 #[cfg(test)]
 mod samples;
 #[cfg(test)]
+mod shelves;
+#[cfg(test)]
 mod version_two;
+#[cfg(test)]
+mod words;

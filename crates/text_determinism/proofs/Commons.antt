@@ -9,9 +9,9 @@ use Rattle.term_pool.specs.Listed.{Listed, HasTerm}
 use Rattle.term_pool.specs.Reach.{AreReducts, no_step, kept, left_out, after_step, is_kept}
 use Rattle.term_pool.proofs.ReachOnce.{redexes_once}
 use Rattle.rewrite_core.specs.PathsOfJoin.{PathsOfJoin}
-use Rattle.strategies.specs.join_find.First.{First}
-use Rattle.strategies.specs.join_find.Common.{IsFirstCommon, HasNoCommon}
-use Rattle.strategies.specs.join_find.StrongRow.{itself, IsNearList}
+use Rattle.conclusion.specs.report_text.strategies.join_find.First.{First}
+use Rattle.conclusion.specs.report_text.strategies.join_find.Common.{IsFirstCommon, HasNoCommon}
+use Rattle.conclusion.specs.report_text.strategies.join_find.StrongRow.{itself, IsNearList}
 use Rattle.text_determinism.proofs.Firsts.{first_once, first_is_some}
 
 abbrev pub join_of : List PlacedRule → List PlacedRule → PathsOfJoin

@@ -3,23 +3,23 @@ use Rattle.std.specs.Prelude.{◌≡◌, ℕ, Bool, true, false, [], refl}
 use Rattle.trs_defs.specs.Tree.{var}
 use Rattle.trs_defs.specs.System.{System}
 use Rattle.trs_core.specs.Valid.{IsValid}
-use Rattle.strategies.specs.nonjoin.Apart.{AreApart}
-use Rattle.strategies.specs.order_search.OrderOver.{search_of}
-use Rattle.strategies.specs.order_search.OrderSpace.{arity_with_mark}
-use Rattle.strategies.specs.poly_find.PolyRow.{poly_search, poly_entry}
-use Rattle.strategies.specs.lpo_find.LpoRow.{lpo_search, lpo_entry}
-use Rattle.strategies.specs.kbo_find.KboRow.{kbo_search, kbo_entry}
-use Rattle.strategies.specs.conf_find.ForkRows.{AreDifferentNormalForms}
-use Rattle.strategies.specs.cert_step.ProofProblem.{ProofProblem}
-use Rattle.strategies.specs.cert_step.ProofStep.{ProofStep}
-use Rattle.strategies.specs.declared.strategy.Strategy.{Strategy}
-use Rattle.strategies.specs.Conditions.{Finds, dp_is_found, graph_is_found, confluence_is_found, newman_confluence_is_found}
-use Rattle.strategies.specs.Conditions.{subterm_is_found, poly_is_found, lpo_is_found, kbo_is_found, usable_is_found, loop_is_found}
-use Rattle.strategies.specs.Conditions.{parallel_is_found, strong_is_found, label_is_found, newman_is_found, fork_is_found, split_is_found}
-use Rattle.strategies.specs.Conditions.{Fails, graph_is_not_there, subterm_is_not_there, subterm_is_spent, poly_is_not_there, poly_is_spent}
-use Rattle.strategies.specs.Conditions.{lpo_is_not_there, lpo_is_spent, kbo_is_not_there, kbo_is_spent, usable_is_not_there, usable_is_spent}
-use Rattle.strategies.specs.Conditions.{loop_is_not_there, loop_is_spent, parallel_is_not_there, strong_is_not_there, newman_is_not_there}
-use Rattle.strategies.specs.Conditions.{label_is_not_there, label_is_spent, fork_is_not_there, split_is_not_there}
+use Rattle.conclusion.specs.report_text.strategies.nonjoin.Apart.{AreApart}
+use Rattle.conclusion.specs.report_text.strategies.order_search.OrderOver.{search_of}
+use Rattle.conclusion.specs.report_text.strategies.order_search.OrderSpace.{arity_with_mark}
+use Rattle.conclusion.specs.report_text.strategies.poly_find.PolyRow.{poly_search, poly_entry}
+use Rattle.conclusion.specs.report_text.strategies.lpo_find.LpoRow.{lpo_search, lpo_entry}
+use Rattle.conclusion.specs.report_text.strategies.kbo_find.KboRow.{kbo_search, kbo_entry}
+use Rattle.conclusion.specs.report_text.strategies.conf_find.ForkRows.{AreDifferentNormalForms}
+use Rattle.conclusion.specs.report_text.strategies.cert_step.ProofProblem.{ProofProblem}
+use Rattle.conclusion.specs.report_text.strategies.cert_step.ProofStep.{ProofStep}
+use Rattle.conclusion.specs.report_text.strategies.declared.strategy.Strategy.{Strategy}
+use Rattle.conclusion.specs.report_text.strategies.Conditions.{Finds, dp_is_found, graph_is_found, confluence_is_found, newman_confluence_is_found}
+use Rattle.conclusion.specs.report_text.strategies.Conditions.{subterm_is_found, poly_is_found, lpo_is_found, kbo_is_found, usable_is_found, loop_is_found}
+use Rattle.conclusion.specs.report_text.strategies.Conditions.{parallel_is_found, strong_is_found, label_is_found, newman_is_found, fork_is_found, split_is_found}
+use Rattle.conclusion.specs.report_text.strategies.Conditions.{Fails, graph_is_not_there, subterm_is_not_there, subterm_is_spent, poly_is_not_there, poly_is_spent}
+use Rattle.conclusion.specs.report_text.strategies.Conditions.{lpo_is_not_there, lpo_is_spent, kbo_is_not_there, kbo_is_spent, usable_is_not_there, usable_is_spent}
+use Rattle.conclusion.specs.report_text.strategies.Conditions.{loop_is_not_there, loop_is_spent, parallel_is_not_there, strong_is_not_there, newman_is_not_there}
+use Rattle.conclusion.specs.report_text.strategies.Conditions.{label_is_not_there, label_is_spent, fork_is_not_there, split_is_not_there}
 use Rattle.text_determinism.specs.LoopLaws.{LoopAnswersExclude}
 use Rattle.text_determinism.proofs.Graphs.{graph_not_failed}
 use Rattle.text_determinism.proofs.Places.{subterm_exclude}

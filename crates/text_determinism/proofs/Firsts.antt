@@ -3,7 +3,7 @@ use Rattle.std.specs.Prelude.{◌≡◌, List, ◌∷◌, refl}
 use Rattle.std.proofs.Common.{ap₂}
 use Rattle.trs_defs.specs.Member.{In, in_first, in_rest}
 use Rattle.trs_defs.proofs.Members.{no_in}
-use Rattle.strategies.specs.join_find.First.{First, first_here, first_later, Some_in, Along, along_end, along_item}
+use Rattle.conclusion.specs.report_text.strategies.join_find.First.{First, first_here, first_later, Some_in, Along, along_end, along_item}
 
 pub first_once : {A : Type 0} (fact : A → Type 0) {xs : List A} {a b : A} → First fact xs a → First fact xs b → a ≡ b
 first_once fact (first_here h) (first_here k) = refl

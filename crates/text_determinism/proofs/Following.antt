@@ -2,13 +2,13 @@
 use Rattle.std.proofs.Common.{◌≡◌, inl, inr, ℕ, zero, suc, List, [], ◌∷◌, ◌++◌, map, length, set, Some, refl, sym, ap, ◌∙◌, subst}
 use Rattle.std.proofs.lemmas.List.{length-map, map-append}
 use Rattle.trs_defs.specs.System.{System}
-use Rattle.strategies.specs.cert_step.ProofProblem.{ProofProblem}
-use Rattle.strategies.specs.cert_step.ProofStep as step
-use Rattle.strategies.specs.cert_step.ProofStep.{ProofStep}
-use Rattle.strategies.specs.cert_step.Applies.{Applies}
-use Rattle.strategies.specs.declared.strategy.Strategy.{Strategy}
-use Rattle.strategies.specs.Runs as strategy
-use Rattle.strategies.specs.Runs.{Found}
+use Rattle.conclusion.specs.report_text.strategies.cert_step.ProofProblem.{ProofProblem}
+use Rattle.conclusion.specs.report_text.strategies.cert_step.ProofStep as step
+use Rattle.conclusion.specs.report_text.strategies.cert_step.ProofStep.{ProofStep}
+use Rattle.conclusion.specs.report_text.strategies.cert_step.Applies.{Applies}
+use Rattle.conclusion.specs.report_text.strategies.declared.strategy.Strategy.{Strategy}
+use Rattle.conclusion.specs.report_text.strategies.Runs as strategy
+use Rattle.conclusion.specs.report_text.strategies.Runs.{Found}
 use Rattle.conclusion.specs.tree_definitions.declared.mark.Mark.{Mark}
 use Rattle.conclusion.specs.tree_definitions.declared.mark.Mark.TheVariants.{Idle}
 use Rattle.conclusion.specs.tree_definitions.declared.ticket.Ticket.{Ticket}

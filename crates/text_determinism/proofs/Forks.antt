@@ -8,10 +8,10 @@ use Rattle.term_pool.specs.Listed.{Listed}
 use Rattle.term_pool.proofs.ReachOnce.{reach_once}
 use Rattle.rewrite_core.specs.PlacedPeak.{PlacedPeak}
 use Rattle.rewrite_core.specs.declared.forks.ForkTest.{ForkTest}
-use Rattle.strategies.specs.join_find.First.{First, Some_in}
-use Rattle.strategies.specs.conf_find.Fork.{Fork, fork_from}
-use Rattle.strategies.specs.conf_find.ForkRows.{Behind, behind_none, behind_one, IsTestOf, both_normal, not_both, IsShortReach}
-use Rattle.strategies.specs.conf_find.ForkRows.{NothingParted, PartsLists, PartsNot, PartsBy, FindsParted, FailsParted}
+use Rattle.conclusion.specs.report_text.strategies.join_find.First.{First, Some_in}
+use Rattle.conclusion.specs.report_text.strategies.conf_find.Fork.{Fork, fork_from}
+use Rattle.conclusion.specs.report_text.strategies.conf_find.ForkRows.{Behind, behind_none, behind_one, IsTestOf, both_normal, not_both, IsShortReach}
+use Rattle.conclusion.specs.report_text.strategies.conf_find.ForkRows.{NothingParted, PartsLists, PartsNot, PartsBy, FindsParted, FailsParted}
 use Rattle.text_determinism.proofs.Firsts.{first_once, first_is_some}
 
 behind_once : {A : Type 0} {passed : A → Type 0} {xs : List A} {a b : A} → Behind passed xs a → Behind passed xs b

@@ -10,10 +10,10 @@ use Rattle.trs_defs.proofs.Runs.{then}
 use Rattle.trs_defs.specs.System.{RewriteRule, System}
 use Rattle.pair_theory.specs.DependencyPair.{DependencyPair, dependency_pairs}
 use Rattle.rewrite_core.specs.Check.{holds, never, goes_on}
-use Rattle.strategies.specs.dp_graph.GroupOrSingle.{GroupOrSingle, group, single, members_of, all_members}
-use Rattle.strategies.specs.dp_graph.GraphConditions.{are_new, none_is_missing}
-use Rattle.strategies.specs.dp_graph.Components.{AreConnected, LiesOnCycle, IsComponent, IsReady, HasLesser, StandInOrder, next, AreComponents}
-use Rattle.strategies.specs.Rows.{FindsGraph, FailsGraph}
+use Rattle.conclusion.specs.report_text.strategies.dp_graph.GroupOrSingle.{GroupOrSingle, group, single, members_of, all_members}
+use Rattle.conclusion.specs.report_text.strategies.dp_graph.GraphConditions.{are_new, none_is_missing}
+use Rattle.conclusion.specs.report_text.strategies.dp_graph.Components.{AreConnected, LiesOnCycle, IsComponent, IsReady, HasLesser, StandInOrder, next, AreComponents}
+use Rattle.conclusion.specs.report_text.strategies.Rows.{FindsGraph, FailsGraph}
 use Rattle.text_determinism.proofs.Items.{increasing_once}
 
 -- ---- members

@@ -5,8 +5,8 @@ use Rattle.std.specs.List.Sorted.{IsStrictlyIncreasing}
 use Rattle.trs_defs.specs.Member.{In, in_first, in_rest}
 use Rattle.trs_defs.proofs.Members.{in_or, no_in}
 use Rattle.sampling.specs.dp_core.Numbered.{AreItemsOf}
-use Rattle.strategies.proofs.dp_graph.ComponentLaws.{Ascends, number, ascends_of}
-use Rattle.strategies.specs.order_search.Ascending.{AreAscending}
+use Rattle.conclusion.proofs.tree_definitions.strategies.dp_graph.ComponentLaws.{Ascends, number, ascends_of}
+use Rattle.conclusion.specs.report_text.strategies.order_search.Ascending.{AreAscending}
 
 same_items : {A : Type 0} (xs ys : List A) → map (λ x. Some x) xs ≡ map (λ x. Some x) ys → xs ≡ ys
 same_items [] [] e = refl

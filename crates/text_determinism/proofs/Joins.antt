@@ -7,11 +7,11 @@ use Rattle.trs_defs.specs.Path.{PlacedRule}
 use Rattle.term_pool.proofs.ReachOnce.{reach_once}
 use Rattle.rewrite_core.specs.PlacedPeak.{PlacedPeak}
 use Rattle.rewrite_core.specs.PathsOfJoin.{PathsOfJoin}
-use Rattle.strategies.specs.closed_pairs.StronglyClosed.{FourPaths}
-use Rattle.strategies.specs.join_find.ParallelRow.{IsParallelClosing, FindsParallel, FailsParallel, not_left_linear, not_closed}
-use Rattle.strategies.specs.join_find.NewmanRow.{IsFirstJoin, HasNoJoin, FindsNewman, FailsNewman}
-use Rattle.strategies.specs.join_find.StrongRow.{IsFirstHalf, HasNoHalf, IsFirstFour, HasNoFour, none_from_left, none_from_right}
-use Rattle.strategies.specs.join_find.StrongRow.{FindsStrong, FailsStrong, not_linear, not_joined}
+use Rattle.conclusion.specs.report_text.strategies.closed_pairs.StronglyClosed.{FourPaths}
+use Rattle.conclusion.specs.report_text.strategies.join_find.ParallelRow.{IsParallelClosing, FindsParallel, FailsParallel, not_left_linear, not_closed}
+use Rattle.conclusion.specs.report_text.strategies.join_find.NewmanRow.{IsFirstJoin, HasNoJoin, FindsNewman, FailsNewman}
+use Rattle.conclusion.specs.report_text.strategies.join_find.StrongRow.{IsFirstHalf, HasNoHalf, IsFirstFour, HasNoFour, none_from_left, none_from_right}
+use Rattle.conclusion.specs.report_text.strategies.join_find.StrongRow.{FindsStrong, FailsStrong, not_linear, not_joined}
 use Rattle.text_determinism.proofs.Firsts.{along_once, along_at}
 use Rattle.text_determinism.proofs.ParallelSteps.{parallel_once}
 use Rattle.text_determinism.proofs.Commons.{join_of, common_same, common_or_none, near_once}

@@ -7,9 +7,9 @@ use Rattle.rewrite_core.specs.PlacedPeak.{PlacedPeak}
 use Rattle.rewrite_core.specs.PathsOfJoin.{PathsOfJoin}
 use Rattle.assign_search.specs.Puzzle.{Puzzle, solution_of, count_of}
 use Rattle.path_lists.proofs.PathsOnce.{path_lists_once}
-use Rattle.strategies.specs.join_find.First.{First, Along}
-use Rattle.strategies.specs.label_find.LabelRow.{PeakPaths, ArePathsOf, Closes, CanCloseFrom, IsLabelSearch, HasSearch, IsFirstClosing}
-use Rattle.strategies.specs.label_find.LabelRow.{FindsLabel, FailsLabel, not_linear, no_ranks, SpendsLabel}
+use Rattle.conclusion.specs.report_text.strategies.join_find.First.{First, Along}
+use Rattle.conclusion.specs.report_text.strategies.label_find.LabelRow.{PeakPaths, ArePathsOf, Closes, CanCloseFrom, IsLabelSearch, HasSearch, IsFirstClosing}
+use Rattle.conclusion.specs.report_text.strategies.label_find.LabelRow.{FindsLabel, FailsLabel, not_linear, no_ranks, SpendsLabel}
 use Rattle.text_determinism.proofs.Firsts.{first_once, along_once}
 use Rattle.text_determinism.proofs.Puzzles.{AreAlike, same_solution, same_count}
 use Rattle.text_determinism.proofs.Commons.{join_of}

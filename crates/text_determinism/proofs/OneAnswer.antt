@@ -2,10 +2,10 @@
 use Rattle.std.specs.Prelude.{ℕ}
 use Rattle.trs_defs.specs.System.{System}
 use Rattle.trs_core.specs.Valid.{IsValid}
-use Rattle.strategies.specs.cert_step.ProofProblem.{ProofProblem}
-use Rattle.strategies.specs.declared.strategy.Strategy.{Strategy}
-use Rattle.strategies.specs.Runs.{Found, found, failed}
-use Rattle.strategies.specs.Truth.{IsTrueFound}
+use Rattle.conclusion.specs.report_text.strategies.cert_step.ProofProblem.{ProofProblem}
+use Rattle.conclusion.specs.report_text.strategies.declared.strategy.Strategy.{Strategy}
+use Rattle.conclusion.specs.report_text.strategies.Runs.{Found, found, failed}
+use Rattle.conclusion.specs.report_text.strategies.Truth.{IsTrueFound}
 use Rattle.text_determinism.specs.LoopLaws.{LoopsAreOne, LoopAnswersExclude}
 use Rattle.text_determinism.specs.AnswerLaws.{AreSameAnswers, AnswersAreOne}
 use Rattle.text_determinism.proofs.SameSteps.{same_left, one_step}

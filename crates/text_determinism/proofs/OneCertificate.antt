@@ -9,9 +9,9 @@ use Rattle.names_text.specs.Named.{NamedSystem}
 use Rattle.names_text.specs.VariableNames.{underscores}
 use Rattle.term_text.specs.PrintedTerm.{term_item}
 use Rattle.path_text.specs.Paths.{position_item, path_item}
-use Rattle.strategies.specs.cert_step.declared.claim.Claim.{Claim}
-use Rattle.strategies.specs.cert_step.ProofStep as step
-use Rattle.strategies.specs.cert_step.ProofStep.{ProofStep, ProofNodeStep}
+use Rattle.conclusion.specs.report_text.strategies.cert_step.declared.claim.Claim.{Claim}
+use Rattle.conclusion.specs.report_text.strategies.cert_step.ProofStep as step
+use Rattle.conclusion.specs.report_text.strategies.cert_step.ProofStep.{ProofStep, ProofNodeStep}
 use Rattle.conclusion.specs.step_text.Steps.{method_item, step_item}
 use Rattle.conclusion.specs.cert_text.Head.{headline_word, head_item}
 use Rattle.conclusion.specs.cert_text.Headline.{headline_of}

@@ -3,11 +3,11 @@ use Rattle.std.proofs.Common.{◌≡◌, ◌⊎◌, inl, inr, ℕ, ◌<◌, Bool
 use native.Mathlib.Decide.{dec_lt}
 use mathlib.Core.Logic.{dite}
 use Rattle.trs_defs.specs.System.{System}
-use Rattle.strategies.specs.cert_step.ProofProblem.{ProofProblem}
-use Rattle.strategies.specs.cert_step.ProofStep.{ProofStep}
-use Rattle.strategies.proofs.cert_step.Once.{applies_once}
-use Rattle.strategies.specs.declared.strategy.Strategy.{Strategy}
-use Rattle.strategies.specs.Kinds.{strategies_for}
+use Rattle.conclusion.specs.report_text.strategies.cert_step.ProofProblem.{ProofProblem}
+use Rattle.conclusion.specs.report_text.strategies.cert_step.ProofStep.{ProofStep}
+use Rattle.conclusion.proofs.tree_definitions.strategies.cert_step.Once.{applies_once}
+use Rattle.conclusion.specs.report_text.strategies.declared.strategy.Strategy.{Strategy}
+use Rattle.conclusion.specs.report_text.strategies.Kinds.{strategies_for}
 use Rattle.conclusion.specs.tree_definitions.declared.mark.Mark.TheVariants.{Idle, Failed}
 use Rattle.conclusion.specs.tree_definitions.declared.ticket.Ticket.{Ticket}
 use Rattle.conclusion.specs.tree_definitions.History.{Event, claimed, found, failed}

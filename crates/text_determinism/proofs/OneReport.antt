@@ -7,10 +7,10 @@ use Rattle.sexp_core.specs.Items.{Item, items_of}
 use Rattle.sexp_core.specs.Printed.{lines}
 use Rattle.text_reading.specs.Printed.{word_item, list_item}
 use Rattle.names_text.specs.Named.{NamedSystem}
-use Rattle.strategies.specs.cert_step.ProofProblem.{ProofProblem}
-use Rattle.strategies.specs.declared.strategy.Strategy.{Strategy}
-use Rattle.strategies.specs.Kinds.{strategies_for}
-use Rattle.strategies.specs.Runs.{failed}
+use Rattle.conclusion.specs.report_text.strategies.cert_step.ProofProblem.{ProofProblem}
+use Rattle.conclusion.specs.report_text.strategies.declared.strategy.Strategy.{Strategy}
+use Rattle.conclusion.specs.report_text.strategies.Kinds.{strategies_for}
+use Rattle.conclusion.specs.report_text.strategies.Runs.{failed}
 use Rattle.conclusion.specs.report_text.GoalLines.{goal_words, stuck_item, failed_item, goal_item, goal_items}
 use Rattle.conclusion.specs.Concludes.{maybe_text}
 use Rattle.conclusion.specs.tree_definitions.declared.question.Question.{Question}

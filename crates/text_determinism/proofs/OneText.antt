@@ -1,6 +1,6 @@
 -- One worker finds one text, and one line of a sample system.
 use Rattle.std.proofs.Common.{◌≡◌, ℕ, [], ◌∷◌, Some, slice_get, refl, sym, ap, ◌∙◌, subst}
-use Rattle.strategies.specs.cert_step.declared.claim.Claim.{Claim}
+use Rattle.conclusion.specs.report_text.strategies.cert_step.declared.claim.Claim.{Claim}
 use Rattle.conclusion.specs.tree_definitions.declared.question.Question.TheVariants.{Termination}
 use Rattle.conclusion.specs.tree_definitions.Questions.{claims}
 use Rattle.conclusion.specs.tree_definitions.States.{State}

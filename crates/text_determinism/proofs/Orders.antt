@@ -6,10 +6,10 @@ use Rattle.pair_theory.specs.DependencyPair.{DependencyPair, dependency_pairs}
 use Rattle.sampling.specs.dp_core.SubtermConditions.{roots_of}
 use Rattle.sampling.specs.dp_core.Symbols.{symbols_of_rules}
 use Rattle.assign_search.specs.Puzzle.{Puzzle}
-use Rattle.strategies.specs.order_search.Slots.{Table, Search, table_of, puzzle_of}
-use Rattle.strategies.specs.order_search.Outcome.{IsNotThere, IsSpent}
-use Rattle.strategies.specs.order_search.OrderSpace.{OrderConstraint}
-use Rattle.strategies.specs.order_search.OrderRow.{AreSymbols, AreOfOrder, FindsOrder, FailsOrder}
+use Rattle.conclusion.specs.report_text.strategies.order_search.Slots.{Table, Search, table_of, puzzle_of}
+use Rattle.conclusion.specs.report_text.strategies.order_search.Outcome.{IsNotThere, IsSpent}
+use Rattle.conclusion.specs.report_text.strategies.order_search.OrderSpace.{OrderConstraint}
+use Rattle.conclusion.specs.report_text.strategies.order_search.OrderRow.{AreSymbols, AreOfOrder, FindsOrder, FailsOrder}
 use Rattle.text_determinism.specs.LoopLaws.{Exclude}
 use Rattle.text_determinism.proofs.Items.{items_once, ascending_once}
 use Rattle.text_determinism.proofs.Searches.{Found, Failed, found_once, answers_exclude, exclude_by}

@@ -6,8 +6,8 @@ use Rattle.trs_defs.specs.Tree.{Tree, Trees, var, app, nil, cons}
 use Rattle.trs_defs.specs.System.{RewriteRule}
 use Rattle.trs_defs.specs.Path.{PlacedRule}
 use Rattle.term_pool.specs.Redexes.{below}
-use Rattle.strategies.specs.join_find.ParallelRow.{HasNoRootStep, IsRootStep, IsParallelStep, no_step, at_root, in_arguments}
-use Rattle.strategies.specs.join_find.ParallelRow.{AreParallelSteps, no_argument, one_argument}
+use Rattle.conclusion.specs.report_text.strategies.join_find.ParallelRow.{HasNoRootStep, IsRootStep, IsParallelStep, no_step, at_root, in_arguments}
+use Rattle.conclusion.specs.report_text.strategies.join_find.ParallelRow.{AreParallelSteps, no_argument, one_argument}
 
 module _ (rules : List RewriteRule) where
   abbrev InArguments : Tree → Tree → List PlacedRule → Type 0

@@ -10,7 +10,7 @@ use Rattle.loop_find.specs.crit_pairs.PeaksCheck as check
 use Rattle.loop_find.specs.crit_pairs.declared.faults.PeakFault.{PeakFault}
 use Rattle.loop_find.specs.crit_pairs.declared.faults.PeakFault.TheVariants as peak
 use Rattle.loop_find.proofs.crit_pairs.ListedOnce.{listed_once}
-use Rattle.strategies.specs.Rows.{FindsOnPeaks, FailsOnPeaks, peaks_pass_limit, peaks_fail}
+use Rattle.conclusion.specs.report_text.strategies.Rows.{FindsOnPeaks, FailsOnPeaks, peaks_pass_limit, peaks_fail}
 
 faults : {rules : List RewriteRule} {total : ℕ} {left : List Spot} {fault : PeakFault} → Lists rules total left (Err fault)
     → (fault ≡ peak.TooLarge) ⊎ (fault ≡ peak.TooMany)

@@ -5,11 +5,11 @@ use Rattle.trs_defs.specs.System.{System}
 use Rattle.pair_theory.specs.DependencyPair.{DependencyPair, dependency_pairs}
 use Rattle.sampling.specs.dp_core.SubtermConditions.{roots_of}
 use Rattle.assign_search.specs.Puzzle.{Puzzle}
-use Rattle.strategies.specs.order_search.Slots.{puzzle_of}
-use Rattle.strategies.specs.order_search.Ascending.{AreAscending}
-use Rattle.strategies.specs.order_search.Outcome.{IsNotThere, IsSpent}
-use Rattle.strategies.specs.order_find.SubtermSpace.{subterm_search}
-use Rattle.strategies.specs.order_find.SubtermRow.{AreOfProblem, places_of, FindsSubterm, FailsSubterm}
+use Rattle.conclusion.specs.report_text.strategies.order_search.Slots.{puzzle_of}
+use Rattle.conclusion.specs.report_text.strategies.order_search.Ascending.{AreAscending}
+use Rattle.conclusion.specs.report_text.strategies.order_search.Outcome.{IsNotThere, IsSpent}
+use Rattle.conclusion.specs.report_text.strategies.order_find.SubtermSpace.{subterm_search}
+use Rattle.conclusion.specs.report_text.strategies.order_find.SubtermRow.{AreOfProblem, places_of, FindsSubterm, FailsSubterm}
 use Rattle.text_determinism.specs.LoopLaws.{Exclude}
 use Rattle.text_determinism.proofs.Items.{items_once, ascending_once}
 use Rattle.text_determinism.proofs.Searches.{Found, Failed, found_once, answers_exclude, exclude_by}

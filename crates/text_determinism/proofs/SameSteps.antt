@@ -7,22 +7,22 @@ use Rattle.trs_defs.specs.Path.{PlacedRule}
 use Rattle.trs_core.specs.Valid.{IsValid}
 use Rattle.term_text.specs.Renumbered.{in_order}
 use Rattle.rewrite_core.specs.Check.{goes_on, returned}
-use Rattle.strategies.specs.nonjoin.Apart.{AreApart}
-use Rattle.strategies.specs.order_search.OrderOver.{search_of}
-use Rattle.strategies.specs.poly_find.PolyRow.{poly_search, poly_entry}
-use Rattle.strategies.specs.lpo_find.LpoRow.{lpo_search, lpo_entry}
-use Rattle.strategies.specs.kbo_find.KboRow.{kbo_search, kbo_entry}
-use Rattle.strategies.specs.order_search.OrderSpace.{arity_with_mark}
-use Rattle.strategies.specs.conf_find.ForkRows.{AreDifferentNormalForms}
-use Rattle.strategies.specs.cert_step.ProofProblem.{ProofProblem}
-use Rattle.strategies.specs.cert_step.ProofStep as step
-use Rattle.strategies.specs.cert_step.ProofStep.{ProofStep}
-use Rattle.strategies.specs.cert_step.Applies.{Applies}
-use Rattle.strategies.proofs.cert_step.Once.{applies_once}
-use Rattle.strategies.specs.declared.strategy.Strategy.{Strategy}
-use Rattle.strategies.specs.Conditions.{fork_step, Finds, dp_is_found, graph_is_found, confluence_is_found, newman_confluence_is_found}
-use Rattle.strategies.specs.Conditions.{subterm_is_found, poly_is_found, lpo_is_found, kbo_is_found, usable_is_found, loop_is_found}
-use Rattle.strategies.specs.Conditions.{parallel_is_found, strong_is_found, label_is_found, newman_is_found, fork_is_found, split_is_found}
+use Rattle.conclusion.specs.report_text.strategies.nonjoin.Apart.{AreApart}
+use Rattle.conclusion.specs.report_text.strategies.order_search.OrderOver.{search_of}
+use Rattle.conclusion.specs.report_text.strategies.poly_find.PolyRow.{poly_search, poly_entry}
+use Rattle.conclusion.specs.report_text.strategies.lpo_find.LpoRow.{lpo_search, lpo_entry}
+use Rattle.conclusion.specs.report_text.strategies.kbo_find.KboRow.{kbo_search, kbo_entry}
+use Rattle.conclusion.specs.report_text.strategies.order_search.OrderSpace.{arity_with_mark}
+use Rattle.conclusion.specs.report_text.strategies.conf_find.ForkRows.{AreDifferentNormalForms}
+use Rattle.conclusion.specs.report_text.strategies.cert_step.ProofProblem.{ProofProblem}
+use Rattle.conclusion.specs.report_text.strategies.cert_step.ProofStep as step
+use Rattle.conclusion.specs.report_text.strategies.cert_step.ProofStep.{ProofStep}
+use Rattle.conclusion.specs.report_text.strategies.cert_step.Applies.{Applies}
+use Rattle.conclusion.proofs.tree_definitions.strategies.cert_step.Once.{applies_once}
+use Rattle.conclusion.specs.report_text.strategies.declared.strategy.Strategy.{Strategy}
+use Rattle.conclusion.specs.report_text.strategies.Conditions.{fork_step, Finds, dp_is_found, graph_is_found, confluence_is_found, newman_confluence_is_found}
+use Rattle.conclusion.specs.report_text.strategies.Conditions.{subterm_is_found, poly_is_found, lpo_is_found, kbo_is_found, usable_is_found, loop_is_found}
+use Rattle.conclusion.specs.report_text.strategies.Conditions.{parallel_is_found, strong_is_found, label_is_found, newman_is_found, fork_is_found, split_is_found}
 use Rattle.text_determinism.specs.LoopLaws.{IsSameLoop, LoopsAreOne}
 use Rattle.text_determinism.specs.AnswerLaws.{renumbered, AreSameSteps}
 use Rattle.text_determinism.proofs.Graphs.{graph_once}

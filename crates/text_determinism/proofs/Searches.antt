@@ -3,7 +3,7 @@
 use Rattle.std.specs.Prelude.{◌≡◌, ℕ, List, Option, Some, None}
 use Rattle.std.proofs.Common.{ap, sym, ◌∙◌, subst, arith}
 use Rattle.assign_search.specs.Puzzle.{Puzzle}
-use Rattle.strategies.specs.order_search.Outcome.{IsFirst, IsNotThere, IsSpent}
+use Rattle.conclusion.specs.report_text.strategies.order_search.Outcome.{IsFirst, IsNotThere, IsSpent}
 use Rattle.text_determinism.specs.LoopLaws.{Exclude}
 
 values_once : (budget : ℕ) (z : Puzzle) (a b : List ℕ) → IsFirst budget a z → IsFirst budget b z → a ≡ b

@@ -1,10 +1,10 @@
 -- A serial history, turn by turn from its begin.
 use Rattle.std.proofs.Common.{ℕ, List, [], ◌∷◌, ◌++◌}
 use Rattle.trs_defs.specs.System.{System}
-use Rattle.strategies.specs.cert_step.ProofProblem.{ProofProblem}
-use Rattle.strategies.specs.declared.strategy.Strategy.{Strategy}
-use Rattle.strategies.specs.Runs.{Found}
-use Rattle.strategies.specs.Truth.{IsTrueFound}
+use Rattle.conclusion.specs.report_text.strategies.cert_step.ProofProblem.{ProofProblem}
+use Rattle.conclusion.specs.report_text.strategies.declared.strategy.Strategy.{Strategy}
+use Rattle.conclusion.specs.report_text.strategies.Runs.{Found}
+use Rattle.conclusion.specs.report_text.strategies.Truth.{IsTrueFound}
 use Rattle.conclusion.specs.tree_definitions.History.{HistoryEntry, claimed}
 use Rattle.conclusion.specs.tree_definitions.Replies.{event_of_found}
 use Rattle.conclusion.specs.worker_pool.Serial.{IsSerial, nothing, one_more, entry_of}

@@ -6,15 +6,15 @@ use Rattle.pair_theory.specs.DependencyPair.{DependencyPair, dependency_pairs}
 use Rattle.rewrite_core.specs.declared.refusals.StepRefused.{StepRefused}
 use Rattle.sampling.specs.dp_core.Numbered.{AreItemsOf}
 use Rattle.sampling.specs.dp_core.Symbols.{symbols_of_rules, symbols_below_roots}
-use Rattle.strategies.specs.usable_rules.AreUsable.{AreUsableRules}
-use Rattle.strategies.specs.usable_rules.UsableConditions.{usable_taken}
-use Rattle.strategies.proofs.usable_rules.Chosen.{takes_usable_once}
+use Rattle.conclusion.specs.report_text.strategies.usable_rules.AreUsable.{AreUsableRules}
+use Rattle.conclusion.specs.report_text.strategies.usable_rules.UsableConditions.{usable_taken}
+use Rattle.conclusion.proofs.tree_definitions.strategies.usable_rules.Chosen.{takes_usable_once}
 use Rattle.assign_search.specs.Puzzle.{Puzzle}
-use Rattle.strategies.specs.order_search.Slots.{table_of, puzzle_of}
-use Rattle.strategies.specs.order_search.Outcome.{IsNotThere, IsSpent}
-use Rattle.strategies.specs.order_search.OrderRow.{AreSymbols}
-use Rattle.strategies.specs.poly_find.PolyRow.{poly_entry}
-use Rattle.strategies.specs.poly_find.UsableRow.{AreOfUsable, usable_search, FindsUsable, FailsUsable}
+use Rattle.conclusion.specs.report_text.strategies.order_search.Slots.{table_of, puzzle_of}
+use Rattle.conclusion.specs.report_text.strategies.order_search.Outcome.{IsNotThere, IsSpent}
+use Rattle.conclusion.specs.report_text.strategies.order_search.OrderRow.{AreSymbols}
+use Rattle.conclusion.specs.report_text.strategies.poly_find.PolyRow.{poly_entry}
+use Rattle.conclusion.specs.report_text.strategies.poly_find.UsableRow.{AreOfUsable, usable_search, FindsUsable, FailsUsable}
 use Rattle.text_determinism.specs.LoopLaws.{Exclude}
 use Rattle.text_determinism.proofs.Items.{items_once}
 use Rattle.text_determinism.proofs.Orders.{symbols_once}

@@ -3,9 +3,9 @@ use Rattle.std.proofs.Common.{◌≡◌, inl, inr, ℕ, zero, suc, ◌<◌, ◌+
 use native.Mathlib.Decide.{ℕ_discrete}
 use mathlib.Core.Logic.{dite}
 use Rattle.trs_defs.specs.System.{System}
-use Rattle.strategies.specs.cert_step.ProofProblem.{ProofProblem}
-use Rattle.strategies.specs.cert_step.ProofStep.{ProofStep}
-use Rattle.strategies.specs.declared.strategy.Strategy.{Strategy}
+use Rattle.conclusion.specs.report_text.strategies.cert_step.ProofProblem.{ProofProblem}
+use Rattle.conclusion.specs.report_text.strategies.cert_step.ProofStep.{ProofStep}
+use Rattle.conclusion.specs.report_text.strategies.declared.strategy.Strategy.{Strategy}
 use Rattle.conclusion.specs.tree_definitions.declared.mark.Mark.{Mark}
 use Rattle.conclusion.specs.tree_definitions.declared.mark.Mark.TheVariants.{Idle, Running, Failed}
 use Rattle.conclusion.specs.tree_definitions.declared.question.Question.{Question}

@@ -3,11 +3,11 @@ use Rattle.std.specs.Prelude.{◌≡◌, ℕ}
 use Rattle.trs_defs.specs.System.{System}
 use Rattle.trs_core.specs.Valid.{IsValid}
 use Rattle.term_text.specs.Renumbered.{in_order}
-use Rattle.strategies.specs.cert_step.ProofProblem.{ProofProblem}
-use Rattle.strategies.specs.cert_step.ProofStep.{ProofStep, loop}
-use Rattle.strategies.specs.declared.strategy.Strategy.{Strategy}
-use Rattle.strategies.specs.Runs.{Found, found, failed}
-use Rattle.strategies.specs.Truth.{IsTrueFound}
+use Rattle.conclusion.specs.report_text.strategies.cert_step.ProofProblem.{ProofProblem}
+use Rattle.conclusion.specs.report_text.strategies.cert_step.ProofStep.{ProofStep, loop}
+use Rattle.conclusion.specs.report_text.strategies.declared.strategy.Strategy.{Strategy}
+use Rattle.conclusion.specs.report_text.strategies.Runs.{Found, found, failed}
+use Rattle.conclusion.specs.report_text.strategies.Truth.{IsTrueFound}
 
 -- the variables of a loop's term are numbered in the order of their first occurrences; other steps stay as they are
 abbrev pub renumbered : ProofStep → ProofStep
