@@ -57,12 +57,10 @@ impl Source for BrokenFile {
 
     fn read(&mut self, buffer: &mut [u8]) -> Result<usize, ReadFailed> {
         let most = self.most()?;
-        let mut count = 0;
-        while count < most && count < buffer.len() && self.place < TEXT.len() {
-            buffer[count] = TEXT[self.place];
-            self.place += 1;
-            count += 1;
-        }
+        let rest = TEXT.get(self.place..).unwrap_or(&[]);
+        let count = most.min(buffer.len()).min(rest.len());
+        buffer[..count].copy_from_slice(&rest[..count]);
+        self.place = self.place.saturating_add(count);
         Ok(count)
     }
 }
