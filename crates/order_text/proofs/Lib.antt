@@ -1,0 +1,3 @@
+pub mod OneOrder
+mod Orders
+mod MadeOrders
