@@ -1,31 +1,19 @@
-//! Tests of the searches and the finders: what they find, that there is nothing, that the budget is
-//! spent, and that a stop is seen. There is no code here. (tests/beside-plain-prover runs them
-//! beside a plain search on many systems.)
+//! Tests of the searches and the finders: that each finds something, and that a stop is seen before
+//! the first attempt. There is no code here. (tests/beside-plain-prover compares what they find, that
+//! there is nothing, and spent budgets with a plain prover, on many systems.)
 #![tactic(auto)]
 
-#[cfg(test)]
-mod forks;
-#[cfg(test)]
-mod joins;
-#[cfg(test)]
-mod labels;
-#[cfg(test)]
-mod linear;
 #[cfg(test)]
 mod loops;
 #[cfg(test)]
 mod made;
 #[cfg(test)]
-mod paths;
+mod of_orders;
 #[cfg(test)]
-mod places;
+mod of_peaks;
 #[cfg(test)]
 mod searches;
 #[cfg(test)]
-mod slow_labels;
-#[cfg(test)]
 mod spaces;
 #[cfg(test)]
-mod systems;
-#[cfg(test)]
-mod weights;
+mod stops;

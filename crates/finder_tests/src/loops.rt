@@ -1,6 +1,6 @@
-//! The finder of loops, beside a plain program on systems of constants, and at its limits.
-use crate::made::{constants, show, system};
-use crate::systems::never;
+//! The finder of loops, at its limits.
+use crate::made::{show, system};
+use crate::stops::never;
 use assign_search::{Search, Stop};
 use finder_cases::StopAt;
 use loop_find::find_loop;
@@ -135,100 +135,6 @@ fn stops_of_the_finder(rt: HostRuntime) -> Result<(), Fail> {
         let mut stop = StopAt { left, stops: 0 };
         let found = shown(rt.alloc(), &trs, 20_000, &mut stop)?;
         assert!(rt; (found.as_slice() == [STOPPED].as_slice()) == (left < 3));
-    }
-    Ok(())
-}
-
-/// A closure of a system of constants: its ends, and its start and rules as they are shown.
-#[derive(Drop)]
-struct Chain {
-    from: u32,
-    to: u32,
-    shown: Vec<u32>,
-}
-
-fn longer(alloc: Global, shown: &[u32], next: u32) -> Result<Vec<u32>, OutOfMemory> {
-    let mut made = Vec::from_slice(alloc, shown)?;
-    made.push(next)?;
-    Ok(made)
-}
-
-/// A chain and one more rule, for each rule that continues it, of the first so many rules.
-fn continued(
-    alloc: Global,
-    chain: &Chain,
-    pairs: &[(u32, u32)],
-    tries: u64,
-) -> Result<Vec<Chain>, OutOfMemory> {
-    let mut made = Vec::new(alloc);
-    let mut left = tries;
-    let mut rule: u32 = 100;
-    for (from, to) in pairs {
-        if left > 0 && *from == chain.to {
-            let shown = longer(alloc, &chain.shown, rule)?;
-            let (from, to) = (chain.from, *to);
-            made.push(Chain { from, to, shown })?;
-        }
-        left = left.saturating_sub(1);
-        rule = rule.saturating_add(1);
-    }
-    Ok(made)
-}
-
-/// All chains of rules from one constant to another, one after another.
-fn plainly(alloc: Global, pairs: &[(u32, u32)], budget: u64) -> Result<Vec<u32>, OutOfMemory> {
-    let mut chains = Vec::new(alloc);
-    let mut rule: u32 = 100;
-    for (from, to) in pairs {
-        let (from, to) = (*from, *to);
-        let shown = longer(alloc, &[from], rule)?;
-        if from == to {
-            return longer(alloc, &shown, 99);
-        }
-        chains.push(Chain { from, to, shown })?;
-        rule = rule.saturating_add(1);
-    }
-    let mut left = budget;
-    for next in 0..1_000 {
-        let Some(chain) = chains.get(next) else {
-            break;
-        };
-        for chain in continued(alloc, chain, pairs, left)? {
-            if chain.from == chain.to {
-                return longer(alloc, &chain.shown, 99);
-            }
-            chains.push(chain)?;
-        }
-        left = left.saturating_sub(pairs.len() as u64);
-        if left == 0 {
-            return longer(alloc, &[], SPENT);
-        }
-    }
-    longer(alloc, &[], NOT_THERE)
-}
-
-/// Whether both ways show the same within each of some budgets.
-fn same_shown(alloc: Global, pairs: &[(u32, u32)]) -> Result<bool, Fail> {
-    let trs = constants(alloc, 3, pairs)?;
-    for budget in [0, 1, 5, 12, 60] {
-        let found = shown(alloc, &trs, budget, &mut never())?;
-        if found.as_slice() != plainly(alloc, pairs, budget)?.as_slice() {
-            return Ok(false);
-        }
-    }
-    Ok(true)
-}
-
-/// All systems of three rules over three constants.
-#[test]
-fn chains_of_constants(rt: HostRuntime) -> Result<(), Fail> {
-    for a in 0..9 {
-        for b in 0..9 {
-            for c in 0..9 {
-                let pairs = [(a / 3, a % 3), (b / 3, b % 3), (c / 3, c % 3)];
-                assert!(rt; same_shown(rt.alloc(), &pairs)?, "of {a}, {b} and {c}");
-            }
-        }
     }
     Ok(())
 }

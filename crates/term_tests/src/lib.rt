@@ -1,4 +1,7 @@
-//! Tests of terms, systems, steps, unifiers and peaks. There is no code here.
+//! Tests of terms, systems, steps, reachable terms, unifiers, caps, peaks and orders: calls that only
+//! other callers make, and limits that no text of the examples meets. There is no code here.
+//! (tests/beside-plain-prover compares what steps, peaks, pairs, their graph and usable rules lead to
+//! with a plain prover, on many systems.)
 #![tactic(auto)]
 
 #[cfg(test)]
@@ -8,13 +11,11 @@ mod exploding;
 #[cfg(test)]
 mod made;
 #[cfg(test)]
+mod orders;
+#[cfg(test)]
 mod peaks;
 #[cfg(test)]
-mod slow;
-#[cfg(test)]
-mod slow_peaks;
-#[cfg(test)]
-mod solving;
+mod reaching;
 #[cfg(test)]
 mod steps;
 #[cfg(test)]

@@ -1,7 +1,6 @@
 //! Steps, paths and loops, at the limits of terms too.
 use crate::made::{ones, repeated, term, tower};
-use crate::slow::{slow_system, steps, text};
-use crate::texts::{ARITIES, first_term, system};
+use crate::texts::{ARITIES, system};
 use rewrite_core::{
     CheckFault, PathFault, PathStep, StepFault, StepRefused, is_normal, loop_check, redexes,
     run_path, step_at,
@@ -175,28 +174,5 @@ fn the_start_of_a_path_may_pass_the_limits(rt: HostRuntime) -> Result<(), Fail> 
         let found = cut(alloc, branches, steps)?;
         assert!(rt; found == want, "after {steps} steps");
     }
-    Ok(())
-}
-
-/// The steps of each term of at most five nodes over a constant, a variable, a unary and a binary
-/// symbol are those that a slow search finds.
-#[test]
-fn steps_of_small_terms(rt: HostRuntime) -> Result<(), Fail> {
-    let alloc = rt.alloc();
-    let trs = slow_system(alloc)?;
-    let mut terms: usize = 0;
-    let mut count: usize = 0;
-    for (letters, texts) in [(1, 4), (2, 16), (3, 64), (4, 256), (5, 1_024)] {
-        for n in 0..texts {
-            let text = text(alloc, letters, n)?;
-            if first_term(&text).len() == text.len() {
-                terms = terms.saturating_add(1);
-                let found = steps(alloc, &trs, &text)?;
-                count = count.saturating_add(found.ok_or("the steps differ")?);
-            }
-        }
-    }
-    assert!(rt; terms == 66);
-    assert!(rt; count > 40);
     Ok(())
 }

@@ -1,61 +1,11 @@
-//! Terms are unified: small ones as by solving equations one after another, and large ones at
-//! once.
+//! Large terms are unified at once.
 use crate::exploding::{chained, doubled};
 use crate::made::term;
-use crate::solving::solvable;
 use crate::texts::{ARITIES, read};
 use std::alloc::Global;
 use std::test::Fail;
 use trs_core::{Args, OutOfMemory, Term};
 use trs_unify::unify;
-
-/// So many terms over `c`, the unary `g`, the binary `f` and the variables 0 and 1, each made of
-/// earlier ones.
-fn small_terms(alloc: Global, count: u32) -> Result<Vec<Term>, Fail> {
-    let mut terms = Vec::from_array(alloc, [Term::Var(0), Term::Var(1), term(alloc, 0, [])?])?;
-    for n in 0..count {
-        let rest = (n / 2) as usize;
-        let next = if n % 2 == 0 {
-            let first = earlier(alloc, &terms, rest / 6)?;
-            let second = earlier(alloc, &terms, rest % 6)?;
-            term(alloc, 2, [first, second])?
-        } else {
-            term(alloc, 1, [earlier(alloc, &terms, rest)?])?
-        };
-        terms.push(next)?;
-    }
-    Ok(terms)
-}
-
-fn earlier(alloc: Global, terms: &[Term], n: usize) -> Result<Term, Fail> {
-    match terms.get(n) {
-        Some(t) => Ok(t.copy(alloc)?),
-        None => Ok(Term::Var(0)),
-    }
-}
-
-/// Whether two terms have a unifier just where their equation is solvable, and it makes them
-/// equal.
-fn is_unified(alloc: Global, a: &Term, b: &Term) -> Result<bool, Fail> {
-    let solvable = solvable(alloc, a.copy(alloc)?, b.copy(alloc)?)?;
-    let Some(unifier) = unify(alloc, a, b)? else {
-        return Ok(!solvable);
-    };
-    let first = unifier.instance(alloc, a)?;
-    let second = unifier.instance(alloc, b)?;
-    Ok(solvable && first.same(&second))
-}
-
-#[test]
-fn small_terms_are_unified(rt: HostRuntime) -> Result<(), Fail> {
-    let terms = small_terms(rt.alloc(), 57)?;
-    for a in &terms {
-        for b in &terms {
-            assert!(rt; is_unified(rt.alloc(), a, b)?);
-        }
-    }
-    Ok(())
-}
 
 /// The sides of the exploding system's overlap.
 #[test]

@@ -1,20 +1,11 @@
 //! Lists of reachable terms.
-ghost use Rattle.std.specs.Prelude.{◌≡◌, map, IfOk};
-ghost use Rattle.trs_defs.specs.Tree.{app, trees};
-ghost use Rattle.trs_core.specs.View.{tree};
 
-use crate::texts::system;
+use crate::made::term;
+use crate::texts::{ARITIES, system};
 use rewrite_core::{Reached, reach, run_path};
 use std::alloc::Global;
 use std::test::Fail;
-use trs_core::{Args, OutOfMemory, Term, Trs};
-
-/// A symbol with these arguments.
-fn term<const N: usize>(alloc: Global, symbol: u32, args: [Term; N]) -> Result<Term, OutOfMemory>
-    ensures { IfOk result (λ t. tree t ≡ app symbol (trees (map tree args.entry))) }
-{
-    Ok(Term::App(symbol, Args::new(Vec::from_array(alloc, args)?)))
-}
+use trs_core::{Term, Trs};
 
 fn is_among(found: &[Reached], t: &Term) -> bool {
     for one in found {
@@ -41,12 +32,12 @@ fn is_list_of(alloc: Global, trs: &Trs, start: &Term, found: &[Reached]) -> Resu
 #[test]
 fn terms_are_reached_once(rt: HostRuntime) -> Result<(), Fail> {
     let alloc = rt.alloc();
-    let trs = system(alloc, 1, 6)?;
+    let trs = system(alloc, &ARITIES, &[(b"c01", b"c10"), (b"ba", b"a")])?;
     let start = term(alloc, 2, [Term::Var(0), Term::Var(1)])?;
     let found = reach(alloc, &trs, &start, 8, 32, 4_096)?;
     assert_eq!(rt; found.len(), 2);
     assert!(rt; is_list_of(alloc, &trs, &start, &found)?);
-    let trs = system(alloc, 1, 8)?;
+    let trs = system(alloc, &ARITIES, &[(b"c01", b"c10"), (b"b0", b"c00")])?;
     let start = term(alloc, 1, [Term::Var(0)])?;
     let found = reach(alloc, &trs, &start, 8, 32, 4_096)?;
     assert_eq!(rt; found.len(), 2);
