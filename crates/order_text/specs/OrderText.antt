@@ -1,5 +1,5 @@
 -- What an order text says, and where it is refused. (docs/ORDER-FORMAT.md has the grammar.)
-use Rattle.std.specs.Prelude.{◌≡◌, ◌⊎◌, ℕ, zero, suc, ◌-◌, ◌^◌, ◌&&◌, Bool, true, List, [], ◌∷◌, length, codes, Some, None, Ok, Err, IsTrue, slice_get, if◌then◌else◌}
+use Rattle.std.specs.Prelude.{◌≡◌, ◌⊎◌, ℕ, zero, suc, ◌-◌, ◌^◌, ◌&&◌, Bool, true, List, [], ◌∷◌, length, codes, Some, None, Ok, Err, if◌then◌else◌}
 use Rattle.sexp_core.specs.Items.{Item, a_word, a_list, Items, no_items, item}
 use Rattle.sexp_core.specs.Reads.{Reads, fault_of}
 use Rattle.sexp_core.specs.declared.fault.TextFault.{TextFault}
@@ -91,7 +91,3 @@ pub record IsUnreadable (text : List ℕ) (p : ℕ) : Type 0 where
 abbrev pub IsOrderRefused : NamedSystem → List ℕ → OrderRefused → Type 0
 IsOrderRefused named text (At p) = IsUnreadable text p ⊎ HasOrderFault named text p
 IsOrderRefused named text OutOfMemory = Unit {0}
-
--- each symbol of the arity table has an entry
-abbrev pub HasEach : List ℕ → List PathEntry → Type 0
-HasEach arities es = (f n : ℕ) → slice_get arities f ≡ Some n → IsTrue (has_entry symbol_of es f)

@@ -1,12 +1,11 @@
-ghost use Rattle.std.specs.Prelude.{◌≡◌, ◌≤◌, ◌^◌, ℕ, List, map, Ok, length, IfOk, IfErr, MatchResult};
-ghost use Rattle.std.specs.Prelude.{IsTrue};
+ghost use Rattle.std.specs.Prelude.{◌≡◌, ◌≤◌, ◌^◌, ℕ, List, map, Ok, Some, length, slice_get, IsTrue, IfOk, IfErr, MatchResult};
 ghost use Rattle.sexp_core.specs.Items.{view, views};
 ghost use Rattle.text_reading.specs.Seen.{seen};
 ghost use Rattle.order_theory.specs.Keeping.{KeepsAllPlaces};
 ghost use Rattle.pair_order.specs.Entries.{has_entry};
 ghost use Rattle.path_lpo.specs.Plain.{plain};
 ghost use Rattle.path_lpo.specs.Table.{PathEntry, symbol_of, filter_in};
-ghost use Rattle.order_text.specs.OrderText.{HasEach, has_each, order, with_each, order_items, SaysOrder, IsOrderRefused};
+ghost use Rattle.order_text.specs.OrderText.{has_each, order, with_each, order_items, SaysOrder, IsOrderRefused};
 ghost use Rattle.order_text.specs.Answers.{Answers};
 
 use crate::entries::read_entries;
@@ -35,7 +34,8 @@ pub fn read_order(alloc: Global, system: &NamedTrs, text: &[u8]) -> Result<Lpo, 
     ensures refused { IfErr result (IsOrderRefused system.now text.now) }
     ensures keeps { IfOk result (λ order.
         KeepsAllPlaces system.now.system.arities (filter_in order)) }
-    ensures each { IfOk result (λ order. HasEach system.now.system.arities order) }
+    ensures each { IfOk result (λ order. (f n : ℕ) → slice_get system.now.system.arities f ≡ Some n
+        → IsTrue (has_entry symbol_of order f)) }
 
     // What a text says is read, unless memory runs out.
     ensures only { (says : List PathEntry) → SaysOrder system.now text.now says
