@@ -81,6 +81,20 @@ def of_terms(chosen):
     return system(arities, [rule(chosen, arities, left(), 2) for _ in range(chosen.randint(1, 3))])
 
 
+def of_towers(chosen):
+    """Constants and towers of one symbol, which rules that are made of them can make too deep."""
+    arities = {"a": 0, "b": 0, "c": 0, "d": 0, "s": 1}
+    tower = lambda height: (chosen.choice("abcd"),) if height == 0 else ("s", tower(height - 1))
+    side = lambda: tower(chosen.choice([0, 0, 1, 2, 100, 200]))
+    return system(arities, [Rule(side(), side()) for _ in range(chosen.randint(2, 4))])
+
+
+def random_ranks(seed, names):
+    """The rank of each symbol in an order."""
+    chosen = random.Random(f"ranks {seed}")
+    return {name: chosen.randint(0, 3) for name in names}
+
+
 def rule(chosen, arities, left, depth):
     """With variables in the order of their first occurrences, and a right side of at most this depth."""
     known = list(dict.fromkeys(variables(left)))
@@ -105,4 +119,5 @@ KINDS = {
     "termination": [by_constructors, of_strings, of_hard_strings, of_hard_strings, of_two_parts, of_terms],
     "confluence": [between_constants, below_symbols, by_constructors, of_strings, of_terms],
     "unique": [between_constants, below_symbols, of_strings],
+    "complete": [between_constants, below_symbols, of_strings, of_terms, of_towers],
 }
