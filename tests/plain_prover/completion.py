@@ -15,12 +15,25 @@ class Ended(Exception):
     """How a run ends that gives no system: its line."""
 
 
+class KeepingPath(Path):
+    """The order, which remembers what it compared."""
+
+    def __init__(self, system):
+        super().__init__(system)
+        self.compared = {}
+
+    def greater(self, table, s, t):
+        if (s, t) not in self.compared:
+            self.compared[s, t] = super().greater(table, s, t)
+        return self.compared[s, t]
+
+
 class Completion:
     """A run on its way: the rules so far, and the units that are left."""
 
     def __init__(self, equations, ranks, budget):
         self.equations, self.rules, self.left = equations, [], budget
-        self.path, self.ranks = Path(equations), {(f, 1): rank for f, rank in ranks.items()}
+        self.path, self.ranks = KeepingPath(equations), {(f, 1): rank for f, rank in ranks.items()}
 
     def greater(self, s, t):
         return self.path.greater(self.ranks, s, t)

@@ -82,17 +82,17 @@ def of_terms(chosen):
 
 
 def of_towers(chosen):
-    """Constants and towers of one symbol, which rules that are made of them can make too deep."""
-    arities = {"a": 0, "b": 0, "c": 0, "d": 0, "s": 1}
-    tower = lambda height: (chosen.choice("abcd"),) if height == 0 else ("s", tower(height - 1))
-    side = lambda: tower(chosen.choice([0, 0, 1, 2, 100, 200]))
-    return system(arities, [Rule(side(), side()) for _ in range(chosen.randint(2, 4))])
+    """A tower of symbols that are towers themselves, by which a rule can get too deep."""
+    tower = lambda f, height, t: t if height == 0 else (f, tower(f, height - 1, t))
+    links = [Rule(("h", 0), tower("s", chosen.choice([1, 14]), 0)), Rule(("a",), tower("h", chosen.choice([1, 20, 20]), ("b",)))]
+    return system({"a": 0, "h": 1, "s": 1, "b": 0}, chosen.sample(links, 2))
 
 
 def random_ranks(seed, names):
-    """The rank of each symbol in an order."""
+    """The rank of each symbol in an order; those of half of the seeds fall."""
     chosen = random.Random(f"ranks {seed}")
-    return {name: chosen.randint(0, 3) for name in names}
+    falls = chosen.random() < 0.5
+    return {name: len(names) - i if falls else chosen.randint(0, 3) for i, name in enumerate(names)}
 
 
 def rule(chosen, arities, left, depth):
@@ -119,5 +119,5 @@ KINDS = {
     "termination": [by_constructors, of_strings, of_hard_strings, of_hard_strings, of_two_parts, of_terms],
     "confluence": [between_constants, below_symbols, by_constructors, of_strings, of_terms],
     "unique": [between_constants, below_symbols, of_strings],
-    "complete": [between_constants, below_symbols, of_strings, of_terms, of_towers],
+    "complete": [between_constants, below_symbols, of_strings, of_terms, of_towers, of_towers],
 }
