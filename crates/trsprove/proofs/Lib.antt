@@ -1,5 +1,6 @@
 pub mod Fetching
 pub mod Answering
 pub mod Questions
+pub mod Completing
 pub mod SampleLines
 pub mod Running

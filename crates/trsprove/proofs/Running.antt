@@ -28,9 +28,14 @@ use Rattle.program_edge.specs.Numbers.{fields_text}
 use Rattle.program_edge.proofs.Ends.{behind_front, lines_end, conclusion_ends}
 use Rattle.trsprove.specs.Lines.{accepted_line, rejected_line, rejected_words, rejected_numbers, rejected_fields}
 use Rattle.program_edge.specs.LinePuts.{EndsLine, IsPutByLine}
-use Rattle.trsprove.specs.Output.{Output, usage, too_long, decided, answered, sampled, AreFetched, IsAsked, IsAnswer, GivesVerdict, Writes}
+use Rattle.trsprove.specs.Output.{Output, usage, too_long, decided, answered, completed, sampled, AreFetched, IsAsked, AreEquations, IsAnswer, GivesVerdict, Writes}
 use Rattle.trsprove.specs.Verdicts.{IsWritten, with_claim, in_version_two, too_heavy, Verdict, refused, rejected, accepted}
-use Rattle.trsprove.specs.Truth.{IsTrueAnswer, by_certificate, by_proof, by_report, by_sample}
+use Rattle.trsprove.specs.Truth.{IsTrueAnswer, by_certificate, by_proof, by_report, by_completion, by_sample}
+use Rattle.ari_text.specs.PrintedProblem.{problem_items}
+use Rattle.completion_text.specs.completion.Endings.{Ending, Done, Unorientable, Spent, Limit, with_rules}
+use Rattle.completion_text.specs.CompletionText.{term_text, ending_text, IsCompletionText}
+use Rattle.completion_text.specs.Answers.{IsCompleted}
+use Rattle.trsprove.specs.Completions.{IsCompletion, no_equations, no_order, ended}
 use Rattle.program_edge.specs.Conclusions.{IsConclusion, no_system, concluded, question_of}
 
 -- ---- a verdict ends with a line feed
@@ -76,12 +81,31 @@ never_rejected : (problem : List ℕ) (question : Question) (budget : ℕ) (s : 
 never_rejected problem question budget s text (no_system fault h m) e = cc
 never_rejected problem question budget s text (concluded named says c alone) e = cc
 
+-- how completion ends is written in lines
+ending_ends : (named : NamedSystem) (ending : Ending) → EndsLine (ending_text named ending)
+ending_ends named (Done rules) =
+    let items = problem_items (record { names = named.names; system = with_rules named.system rules }) in
+    behind_front (codes "COMPLETE\n") (lines items) (lines_end items tt)
+ending_ends named (Unorientable s t) =
+    behind_front (codes "UNORIENTABLE ") (term_text named s ++ 32 ∷ (term_text named t ++ 10 ∷ []))
+    (behind_front (term_text named s) (32 ∷ (term_text named t ++ 10 ∷ [])) (behind_front (32 ∷ []) (term_text named t ++ 10 ∷ []) (term_text named t, refl)))
+ending_ends named Spent = (codes "SPENT", refl)
+ending_ends named Limit = (codes "LIMIT", refl)
+
+completion_ends : (problem order : List ℕ) (budget : ℕ) (s : Status) (text : List ℕ) → IsCompletion problem order budget s text → GivesVerdict s → EndsLine text
+completion_ends problem order budget s text (no_equations fault h m) (inl e) = absurd cc
+completion_ends problem order budget s text (no_equations fault h m) (inr e) = absurd cc
+completion_ends problem order budget s text (no_order named at says h) (inl e) = absurd cc
+completion_ends problem order budget s text (no_order named at says h) (inr e) = absurd cc
+completion_ends problem order budget s text (ended named says c) judges = subst EndsLine (sym c.completion.written) (ending_ends named c.completion.ending)
+
 output_ends : (request : Option Asked) (under : List ℕ → List ℕ → Type 0) (s : Status) (text : List ℕ) → Output request under s text → GivesVerdict s → EndsLine text
 output_ends request under s text (usage none) (inl e) = absurd cc
 output_ends request under s text (usage none) (inr e) = absurd cc
 output_ends request under s text (too_long name limit needed long) (inl e) = absurd cc
 output_ends request under s text (too_long name limit needed long) (inr e) = absurd cc
 output_ends request under s text (decided wanted problem certificate fetched verdict) judges = verdict_ends problem certificate wanted s text verdict judges
+output_ends request under s text (completed budget problem order f completion) judges = completion_ends problem order budget s text completion judges
 output_ends request under s text (sampled size workers budget asks line) judges = sample_ends size budget text line
 output_ends request under s text (answered question budget problem asked conclusion) (inl e) = conclusion_ends problem question budget s text conclusion e
 output_ends request under s text (answered question budget problem asked conclusion) (inr e) = absurd (never_rejected problem question budget s text conclusion e)
@@ -192,11 +216,33 @@ module _ (request : Option Asked) (before now : ShelfMeaning) where
     true_conclusion question budget problem s text asked (no_system fault h m) e w = absurd cc
     true_conclusion question budget problem s text asked (concluded named says c alone) e w = true_concluded question budget problem named text asked says c w
 
+    -- ---- how completion ends is right
+
+    true_completion : (budget : ℕ) (problem order : List ℕ) (s : Status) (text : List ℕ) → AreEquations request budget (MayBe before) problem order
+        → IsCompletion problem order budget s text → s ≡ status.Answered → AppendsTo taken text later → IsTrueAnswer request before taken later
+    true_completion budget problem order s text f (no_equations fault h m) e w = absurd cc
+    true_completion budget problem order s text f (no_order named at says h) e w = absurd cc
+    true_completion budget problem order s text f (ended named says c) e w =
+        by_completion (record {
+          budget = budget;
+          problem = problem;
+          order_text = order;
+          named = named;
+          order = c.order;
+          ending = c.completion.ending;
+          equations = f;
+          problem_says = says;
+          order_says = c.says;
+          truth = c.completion.right;
+          written = subst (λ z. AppendsTo taken z later) c.completion.written w;
+        })
+
     true_output : (s : Status) (text : List ℕ) → Output request (MayBe before) s text → s ≡ status.Answered → AppendsTo taken text later → IsTrueAnswer request before taken later
     true_output s text (usage none) e w = absurd cc
     true_output s text (too_long name limit needed long) e w = absurd cc
     true_output s text (sampled size workers budget asks line) e w =
         by_sample (record { size = size; workers = workers; budget = budget; line = text; asked = asks; truth = line; written = w })
+    true_output s text (completed budget problem order f completion) e w = true_completion budget problem order s text f completion e w
     true_output s text (decided wanted problem certificate fetched verdict) e w = true_verdict wanted problem certificate s text fetched verdict e w
     true_output s text (answered question budget problem asked conclusion) e w = true_conclusion question budget problem s text asked conclusion e w
 
