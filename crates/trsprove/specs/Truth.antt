@@ -23,7 +23,7 @@ use Rattle.program_edge.specs.Conclusions.{question_of}
 use Rattle.trsprove.specs.Lines.{accepted_line}
 use Rattle.completion_text.specs.completion.Endings.{Ending, IsRightEnding}
 use Rattle.completion_text.specs.completion.GreaterBy.{GreaterBy}
-use Rattle.completion_text.specs.completion.path_lpo.Table.{PathEntry}
+use Rattle.completion_text.specs.order_text.path_lpo.Table.{PathEntry}
 use Rattle.completion_text.specs.order_text.OrderText.{SaysOrder}
 use Rattle.completion_text.specs.CompletionText.{ending_text}
 use Rattle.trsprove.specs.Output.{AreFetched, IsAsked, AreEquations}
