@@ -3,7 +3,7 @@ use Rattle.std.specs.Prelude.{◌≢◌, ℕ, List}
 use Rattle.names_text.specs.Named.{NamedSystem}
 use Rattle.ari_text.specs.Problem.{SaysSystem, IsProblemRefused}
 use Rattle.ari_text.specs.declared.fault.AriFault.TheVariants as ari
-use Rattle.completion.specs.path_lpo.Table.{PathEntry}
+use Rattle.path_lpo.specs.Table.{PathEntry}
 use Rattle.order_text.specs.OrderText.{SaysOrder, IsOrderRefused}
 use Rattle.order_text.specs.declared.refused.OrderRefused.TheVariants.{At}
 use Rattle.completion_text.specs.CompletionText.{IsCompletionText}

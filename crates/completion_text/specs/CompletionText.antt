@@ -6,7 +6,7 @@ use Rattle.names_text.specs.Named.{NamedSystem}
 use Rattle.names_text.specs.VariableNames.{underscores}
 use Rattle.term_text.specs.PrintedTerm.{term_item}
 use Rattle.ari_text.specs.PrintedProblem.{problem_items}
-use Rattle.completion.specs.path_lpo.Table.{PathEntry}
+use Rattle.path_lpo.specs.Table.{PathEntry}
 use Rattle.completion.specs.GreaterBy.{GreaterBy}
 use Rattle.completion.specs.CompletionRun.{Completes}
 use Rattle.completion.specs.Endings.{Ending, Done, Unorientable, Spent, Limit, with_rules, IsRightEnding}

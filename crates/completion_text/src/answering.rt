@@ -40,6 +40,7 @@ pub fn complete_texts(
 }
 
 // What is answered for a system and an order text.
+#[tactic(auto, using(crate::proofs::Completed::is_completed))]
 fn completed(
     alloc: Global,
     system: &NamedTrs,
@@ -50,9 +51,7 @@ fn completed(
     ensures { IfOk result (IsOrderAnswer system.now order.now budget) }
 {
     match read_order(alloc, system, order) {
-        Ok(order) => Ok(CompletionAnswer::Ended(completion_text(
-            alloc, system, &order, budget,
-        )?)),
+        Ok(order) => Ok(CompletionAnswer::Ended(completion_text(alloc, system, &order, budget)?)),
         Err(OrderRefused::At(at)) => Ok(CompletionAnswer::OrderRefused(at)),
         Err(OrderRefused::OutOfMemory) => Err(OutOfMemory),
     }

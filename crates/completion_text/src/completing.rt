@@ -1,6 +1,6 @@
 ghost use Rattle.std.specs.Prelude.{IfOk, Some, slice_get, ◌≡◌, ℕ, IsTrue};
 ghost use Rattle.order_theory.specs.Keeping.{KeepsAllPlaces};
-ghost use Rattle.completion.specs.path_lpo.Table.{filter_in};
+ghost use Rattle.path_lpo.specs.Table.{filter_in};
 ghost use Rattle.completion.specs.GreaterBy.{HasEntryForEach};
 ghost use Rattle.completion_text.specs.CompletionText.{IsCompletionText};
 
@@ -12,6 +12,7 @@ use std::alloc::Global;
 use trs_core::OutOfMemory;
 
 /// The text of how completion of the rules of a system, read as equations, ends.
+#[tactic(auto, using(crate::proofs::Completed::text_of_run))]
 pub(crate) fn completion_text(
     alloc: Global,
     system: &NamedTrs,

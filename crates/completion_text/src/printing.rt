@@ -10,6 +10,7 @@ use term_text::put_term;
 use trs_core::{OutOfMemory, Term, Trs};
 
 /// The line `COMPLETE`, and the problem text of the rules over the symbols of a system.
+#[tactic(auto, using(crate::proofs::Completed::complete_text))]
 pub(crate) fn print_system(
     alloc: Global,
     system: &NamedTrs,
@@ -29,6 +30,7 @@ pub(crate) fn print_system(
 }
 
 /// The names of the symbols of a system, in order.
+#[tactic(auto, using(crate::proofs::Names::next_name, crate::proofs::Names::all_named))]
 fn names_of(alloc: Global, system: &NamedTrs) -> Result<Vec<Vec<u8>>, OutOfMemory>
     ensures { IfOk result (λ names. map (λ n. n.items) names.items ≡ system.now.names) }
 {

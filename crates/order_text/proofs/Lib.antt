@@ -1,3 +1,5 @@
 pub mod OneOrder
 mod Orders
 mod MadeOrders
+mod SeenEntries
+mod PlacesFrom

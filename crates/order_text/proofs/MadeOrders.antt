@@ -1,5 +1,5 @@
 -- Orders that are read keep all places, and each symbol has an entry.
-use Rattle.std.proofs.Common.{◌≡◌, ℕ, zero, suc, ◌<◌, ◌≤◌, ◌-◌, ◌^◌, ◌==◌, Bool, true, false, cond, List, [], ◌∷◌, length, codes, Option, Some, None, is_some, slice_get, Result, Ok, Err, IsTrue, refl, sym, ap, subst, ◌∙◌, arith, inl, inr, ◌⊎◌}
+use Rattle.std.proofs.Common.{◌≡◌, ℕ, zero, suc, ◌<◌, ◌≤◌, ◌-◌, ◌^◌, ◌==◌, Bool, true, false, cond, List, [], ◌∷◌, length, codes, Some, is_some, slice_get, Result, Ok, Err, IsTrue, IfOk, refl, sym, ap, subst, ◌∙◌, arith, inl, inr, ◌⊎◌}
 use Rattle.std.specs.List.{AllByRecursion}
 use native.Mathlib.Decide.{dec_lt}
 use Rattle.std.proofs.lemmas.Bool.{and_parts, eqb-true}
@@ -100,6 +100,14 @@ has_each_at es (suc n) f lt e =
       | inr same ↦ (let T : ℕ → Type 0 = λ g. IsTrue (has_entry symbol_of es g) in subst T (sym same) last)
     ]
 
+none_or_each : (es : List PathEntry) (n f : ℕ) (b : Bool) → has_each es n ≡ b → f < n → has_entry symbol_of es f ≡ false → false ≡ b
+none_or_each es n f true test lt e = let has = has_each_at es n f lt test in absurd cc
+none_or_each es n f false test lt e = refl
+
+-- one of them has none
+pub one_missing : (es : List PathEntry) (n f : ℕ) → f < n → has_entry symbol_of es f ≡ false → false ≡ has_each es n
+one_missing es n f lt e = none_or_each es n f (has_each es n) refl lt e
+
 -- what is read, where something is
 record IsMade (named : NamedSystem) (es : List PathEntry) : Type 0 where
   whole : AllByRecursion (IsWhole named.system.arities) es
@@ -130,26 +138,28 @@ items_made named size (item x xs) vs e =
 kept_by : (arities : List ℕ) (f n : ℕ) (es : List PathEntry) → AllByRecursion (IsWhole arities) es → slice_get arities f ≡ Some n → IsTrue (has_entry symbol_of es f)
     → filter_in es f ≡ Keep (places_from 1 n)
 kept_by arities f n [] whole arity has = absurd cc
-kept_by arities f n (e ∷ es) whole arity has = kept_first (symbol_of e == f) refl has
+kept_by arities f n (e ∷ es) whole arity has = kept_first (symbol_of e == f) refl (λ h. kept_by arities f n es whole.1 arity h) has
   where
-    kept_first : (b : Bool) → (symbol_of e == f) ≡ b → IsTrue (is_some (cond b (Some e) (entry_of symbol_of es f))) → filter_of (cond b (Some e) (entry_of symbol_of es f)) ≡ Keep (places_from 1 n)
-    kept_first true test h =
+    kept_first : (b : Bool) → (symbol_of e == f) ≡ b → (IsTrue (is_some (entry_of symbol_of es f)) → filter_of (entry_of symbol_of es f) ≡ Keep (places_from 1 n))
+        → IsTrue (is_some (cond b (Some e) (entry_of symbol_of es f))) → filter_of (cond b (Some e) (entry_of symbol_of es f)) ≡ Keep (places_from 1 n)
+    kept_first true test more h =
         let same : e.symbol ≡ f = eqb-true e.symbol f test in
         let (m, at, filter) = whole.0 in
+        let both : Some m ≡ Some n = sym at ∙ ap (slice_get arities) same ∙ arity in
         let sizes : m ≡ n = cc in
         filter ∙ ap (λ k. Keep (places_from 1 k)) sizes
-    kept_first false test h = kept_by arities f n es whole.1 arity h
+    kept_first false test more h = more h
 
-pub keeps_answer : (named : NamedSystem) (size : ℕ) (xs : Items) (r : Result (List PathEntry) OrderRefused) (es : List PathEntry) → Answers r (order_items named size xs) → r ≡ Ok es
-    → KeepsAllPlaces named.system.arities (filter_in es)
-keeps_answer named size xs r es answers is f n arity =
-    let h : Answers (let a : Result (List PathEntry) OrderRefused = Ok es in a) (order_items named size xs) = subst (λ (a : Result (List PathEntry) OrderRefused). Answers a (order_items named size xs)) is answers in
+pub keeps_answer : (named : NamedSystem) (size : ℕ) (xs : Items) (r : Result (List PathEntry) OrderRefused) → Answers r (order_items named size xs)
+    → IfOk r (λ es. KeepsAllPlaces named.system.arities (filter_in es))
+keeps_answer named size xs (Ok es) h = λ f n arity.
     let made = items_made named size xs es h in
     kept_by named.system.arities f n es made.whole arity (has_each_at es (length named.system.arities) f (slice_get_within named.system.arities f n arity) made.each)
+keeps_answer named size xs (Err e) h = tt
 
-pub each_answer : (named : NamedSystem) (size : ℕ) (xs : Items) (r : Result (List PathEntry) OrderRefused) (es : List PathEntry) → Answers r (order_items named size xs) → r ≡ Ok es
-    → (f n : ℕ) → slice_get named.system.arities f ≡ Some n → IsTrue (has_entry symbol_of es f)
-each_answer named size xs r es answers is f n arity =
-    let h : Answers (let a : Result (List PathEntry) OrderRefused = Ok es in a) (order_items named size xs) = subst (λ (a : Result (List PathEntry) OrderRefused). Answers a (order_items named size xs)) is answers in
+pub each_answer : (named : NamedSystem) (size : ℕ) (xs : Items) (r : Result (List PathEntry) OrderRefused) → Answers r (order_items named size xs)
+    → IfOk r (λ es. (f n : ℕ) → slice_get named.system.arities f ≡ Some n → IsTrue (has_entry symbol_of es f))
+each_answer named size xs (Ok es) h = λ f n arity.
     let made = items_made named size xs es h in
     has_each_at es (length named.system.arities) f (slice_get_within named.system.arities f n arity) made.each
+each_answer named size xs (Err e) h = tt

@@ -1,12 +1,11 @@
 -- An order text has one reading: at most one order, or one place at which it is refused.
-use Rattle.std.proofs.Common.{◌≡◌, inl, inr, ℕ, List, refl, sym, ap, ◌∙◌}
+use Rattle.std.proofs.Common.{◌≡◌, inl, inr, ℕ, List, sym, ap, ◌∙◌}
 use Rattle.sexp_core.proofs.Viewing.{text_read_once}
 use Rattle.names_text.specs.Named.{NamedSystem}
 use Rattle.path_lpo.specs.Table.{PathEntry}
-use Rattle.order_text.specs.declared.refused.OrderRefused.{OrderRefused}
 use Rattle.order_text.specs.declared.refused.OrderRefused.TheVariants.{At}
 use Rattle.order_text.specs.Unreadable.{from_text}
-use Rattle.order_text.specs.OrderText.{SaysOrder, HasOrderFault, IsUnreadable, IsOrderRefused}
+use Rattle.order_text.specs.OrderText.{SaysOrder, IsOrderRefused}
 
 pub one_order : (named : NamedSystem) (text : List ℕ) (order other : List PathEntry) → SaysOrder named text order → SaysOrder named text other → order ≡ other
 one_order named text order other h k =

@@ -1,5 +1,5 @@
 -- Answers of the code.
-use Rattle.std.specs.Prelude.{◌≡◌, ℕ, List, Result, Ok, Err}
+use Rattle.std.specs.Prelude.{◌≡◌, List, Result, Ok, Err}
 use Rattle.path_lpo.specs.Table.{PathEntry}
 use Rattle.text_reading.specs.Reading.{Read}
 use Rattle.order_text.specs.declared.refused.OrderRefused.{OrderRefused}

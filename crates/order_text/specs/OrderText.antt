@@ -1,6 +1,6 @@
 -- What an order text says, and where it is refused. (docs/ORDER-FORMAT.md has the grammar.)
-use Rattle.std.specs.Prelude.{◌≡◌, ◌⊎◌, ℕ, zero, suc, ◌-◌, ◌^◌, ◌&&◌, Bool, true, List, [], ◌∷◌, length, codes, Some, None, Ok, Err, if◌then◌else◌}
-use Rattle.sexp_core.specs.Items.{Item, a_word, a_list, Items, no_items, item}
+use Rattle.std.specs.Prelude.{◌≡◌, ◌⊎◌, ℕ, zero, suc, ◌-◌, ◌^◌, ◌&&◌, Bool, true, List, length, codes, Some, None, Ok, Err, if◌then◌else◌}
+use Rattle.sexp_core.specs.Items.{Item, a_list, Items, no_items, item}
 use Rattle.sexp_core.specs.Reads.{Reads, fault_of}
 use Rattle.sexp_core.specs.declared.fault.TextFault.{TextFault}
 use Rattle.names_text.specs.Named.{NamedSystem}

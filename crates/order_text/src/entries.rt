@@ -18,6 +18,7 @@ use trs_core::OutOfMemory;
 const LAST_RANK: u64 = 9_223_372_036_854_775_807;
 
 /// Entries `(sym name rank)`, no symbol twice.
+#[tactic(auto, using(text_reading::proofs::SeenParts::joined_none, pair_text::proofs::InTurnLaws::refused_in_turn, pair_text::proofs::InTurnLaws::all_in_turn))]
 pub(crate) fn read_entries(
     alloc: Global,
     system: &NamedTrs,
@@ -99,6 +100,7 @@ fn ranked(alloc: Global, symbol: Symbol, rank: u64) -> Result<LpoEntry, OutOfMem
 }
 
 /// The places of all arguments, from 1 on.
+#[tactic(auto, using(crate::proofs::PlacesFrom::no_place, crate::proofs::PlacesFrom::next_place, crate::proofs::PlacesFrom::all_listed))]
 fn all_places(alloc: Global, arity: u8) -> Result<Vec<u8>, OutOfMemory>
     ensures { IfOk result (λ places. places.items ≡ places_from 1 arity) }
 {

@@ -79,7 +79,10 @@ fn read_list(
     let Some((head, entries)) = members.split_first() else {
         return Ok(Err(*at));
     };
-    match both(keyword(b"order", head), read_entries(alloc, system, entries)?) {
+    match both(
+        keyword(b"order", head),
+        read_entries(alloc, system, entries)?,
+    ) {
         Ok(((), entries)) => Ok(Ok(entries)),
         Err(at) => Ok(Err(at)),
     }
@@ -106,6 +109,7 @@ fn order_of(
 }
 
 /// Whether each of the first so many symbols has an entry.
+#[tactic(auto, using(crate::proofs::MadeOrders::one_missing))]
 fn has_each(order: &Lpo, count: u32) -> bool
     ensures { result ≡ has_each order.now count }
 {
