@@ -81,6 +81,20 @@ def of_terms(chosen):
     return system(arities, [rule(chosen, arities, left(), 2) for _ in range(chosen.randint(1, 3))])
 
 
+def of_towers(chosen):
+    """A tower of symbols that are towers themselves, by which a rule can get too deep."""
+    tower = lambda f, height, t: t if height == 0 else (f, tower(f, height - 1, t))
+    links = [Rule(("h", 0), tower("s", chosen.choice([1, 14]), 0)), Rule(("a",), tower("h", chosen.choice([1, 20, 20]), ("b",)))]
+    return system({"a": 0, "h": 1, "s": 1, "b": 0}, chosen.sample(links, 2))
+
+
+def random_ranks(seed, names):
+    """The rank of each symbol in an order; those of half of the seeds fall."""
+    chosen = random.Random(f"ranks {seed}")
+    falls = chosen.random() < 0.5
+    return {name: len(names) - i if falls else chosen.randint(0, 3) for i, name in enumerate(names)}
+
+
 def rule(chosen, arities, left, depth):
     """With variables in the order of their first occurrences, and a right side of at most this depth."""
     known = list(dict.fromkeys(variables(left)))
@@ -105,4 +119,5 @@ KINDS = {
     "termination": [by_constructors, of_strings, of_hard_strings, of_hard_strings, of_two_parts, of_terms],
     "confluence": [between_constants, below_symbols, by_constructors, of_strings, of_terms],
     "unique": [between_constants, below_symbols, of_strings],
+    "complete": [between_constants, below_symbols, of_strings, of_terms, of_towers, of_towers],
 }

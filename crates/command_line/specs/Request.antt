@@ -38,6 +38,7 @@ command_app =
 pub data Asked : Type 0 where
   certifies : (wanted : Wanted) (problem certificate : Text) → Asked
   proves : (question : Question) (problem : Text) (workers budget : ℕ) → Asked
+  completes : (problem order : Text) (budget : ℕ) → Asked
   samples : (size workers budget : ℕ) → Asked
 
 abbrev pub not_zero : Option ℕ → Option ℕ
@@ -61,13 +62,16 @@ action_of word =
     else if bytes_eq word (codes "termination") then Some (action.Prove Termination)
     else if bytes_eq word (codes "confluence") then Some (action.Prove Confluence)
     else if bytes_eq word (codes "unique") then Some (action.Prove Unique)
+    else if bytes_eq word (codes "complete") then Some action.Complete
     else if bytes_eq word (codes "sample") then Some action.Sample
     else None
 
--- an action on a certificate has one, and the others have none; a sample has a size from 1 to 512 in place of a problem
+-- an action on a certificate has one, completion has an order in its place, and the others have none; a sample has a size
+-- from 1 to 512 in place of a problem
 abbrev pub requested : Action → Text → Option Text → ℕ → ℕ → Option Asked
 requested (action.Certify wanted) problem (Some certificate) workers budget = Some (certifies wanted problem certificate)
 requested (action.Prove question) problem None workers budget = Some (proves question problem workers budget)
+requested action.Complete problem (Some order) workers budget = Some (completes problem order budget)
 requested action.Sample size None workers budget = option_map (λ n. samples n workers budget) (positive 512 size)
 requested _ _ _ _ _ = None
 
@@ -100,6 +104,7 @@ request_of words = where_none (fault_of command_app words) (asked_by (matches_of
 abbrev pub request_view : Request → Asked
 request_view (request.Certify wanted problem certificate) = certifies wanted problem.now certificate.now
 request_view (request.Prove question problem workers budget) = proves question problem.now workers budget
+request_view (request.Complete problem order budget) = completes problem.now order.now budget
 request_view (request.Sample size workers budget) = samples size workers budget
 
 abbrev pub IsFrom1To : ℕ → ℕ → Type 0
@@ -109,6 +114,7 @@ IsFrom1To limit n = (1 ≤ n) × (n ≤ limit)
 abbrev pub IsInRange : Request → Type 0
 IsInRange (request.Certify wanted problem certificate) = Unit {0}
 IsInRange (request.Prove question problem workers budget) = IsFrom1To 16 workers × IsFrom1To 1000000 budget
+IsInRange (request.Complete problem order budget) = IsFrom1To 1000000 budget
 IsInRange (request.Sample size workers budget) = IsFrom1To 512 size × IsFrom1To 16 workers × IsFrom1To 1000000 budget
 
 abbrev pub Answers : Result Request Refused → Option Asked → Type 0

@@ -1,8 +1,8 @@
 //! The words of the command line.
 //!
 //! `trsprove <action> <problem> [certificate] [--workers N] [--budget B]` is one simple `clap`
-//! command without subcommands, help or version flags. The action `sample` has a size, a number,
-//! in place of a problem.
+//! command without subcommands, help or version flags. The action `complete` has an order text in
+//! place of a certificate, and the action `sample` a size, a number, in place of a problem.
 #![tactic(auto)]
 
 ghost use Rattle.std.specs.Prelude.{◌≡◌, ◌≤◌, IfOk, IfSome, map, option_map};
@@ -44,6 +44,8 @@ pub enum Action {
     Certify(Wanted),
     /// It looks for a proof or a refutation.
     Prove(Question),
+    /// It completes equations by an order.
+    Complete,
     /// It looks for a proof about a sample system, which no text says.
     Sample,
 }
@@ -62,6 +64,13 @@ pub enum Request<'a> {
         question: Question,
         problem: &'a str,
         workers: u32,
+        budget: u64,
+    },
+    /// To complete the rules of the problem under the first name, read as equations, by the order
+    /// under the second.
+    Complete {
+        problem: &'a str,
+        order: &'a str,
         budget: u64,
     },
     /// To look for a proof about the sample system of a size, from 1 to 512.
@@ -173,6 +182,8 @@ fn action_of(word: &str) -> Option<Action>
         Some(Action::Prove(Question::Confluence))
     } else if word == "unique" {
         Some(Action::Prove(Question::Unique))
+    } else if word == "complete" {
+        Some(Action::Complete)
     } else if word == "sample" {
         Some(Action::Sample)
     } else {
@@ -180,7 +191,8 @@ fn action_of(word: &str) -> Option<Action>
     }
 }
 
-// What an action asks for with a problem, or a size of samples, and a certificate if there is one.
+// What an action asks for with a problem, or a size of samples, and a certificate, or an order text,
+// if there is one.
 fn requested<'a>(
     action: Action,
     problem: &'a str,
@@ -204,6 +216,11 @@ fn requested<'a>(
             question,
             problem,
             workers,
+            budget,
+        }),
+        (Action::Complete, Some(order)) => Some(Request::Complete {
+            problem,
+            order,
             budget,
         }),
         (Action::Sample, None) => {
@@ -234,10 +251,11 @@ fn request_from<'a>(matches: &ArgMatches<'a>) -> Option<Request<'a>>
 
 /// What the words ask for, the program's name left out. `Usage` comes exactly where they ask for
 /// nothing: where `clap`'s rules for the simple command refuse them; the action is none of
-/// `certify`, `upgrade`, `termination`, `confluence`, `unique` and `sample`; the first two have no
-/// certificate, or another has one; the second word of `sample` is no size from 1 to 512; or
-/// `--workers` is not from 1 to 16, or `--budget` not from 1 to 1,000,000. A certificate is judged
-/// with no look at the two numbers.
+/// `certify`, `upgrade`, `termination`, `confluence`, `unique`, `complete` and `sample`; the first
+/// two have no certificate or `complete` no order, or another has a third word; the second word of
+/// `sample` is no size from 1 to 512; or `--workers` is not from 1 to 16, or `--budget` not from 1
+/// to 1,000,000. A certificate is judged with no look at the two numbers, and equations are
+/// completed with no look at the first.
 pub fn parse<'a>(alloc: Global, words: &'a [&'a str]) -> Result<Request<'a>, Refused>
     ensures answer { Answers result (request_of (map (λ w. w.now) words.now)) }
     ensures range { IfOk result IsInRange }

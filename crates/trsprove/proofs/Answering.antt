@@ -11,13 +11,13 @@ use Rattle.certifier.specs.declared.rejected.Rejected.{Rejected}
 use Rattle.certifier.specs.declared.rejected.Rejected.TheVariants as why
 use Rattle.certifier.specs.Acceptance.{IsAcceptedAs, IsRejection}
 use Rattle.certifier.proofs.OneAnswer.{said_once, one_rejection, not_both}
-use Rattle.command_line.specs.Request.{Asked, certifies, proves}
+use Rattle.command_line.specs.Request.{Asked, certifies, proves, completes}
 use Rattle.command_line.specs.declared.Wanted.{Wanted}
 use Rattle.io_edge.specs.declared.fault.FetchFault.{FetchFault}
 use Rattle.io_edge.specs.declared.fault.FetchFault.TheVariants as fetch
 use Rattle.program_edge.specs.declared.status.Status.{Status}
 use Rattle.program_edge.specs.declared.status.Status.TheVariants as status
-use Rattle.trsprove.specs.Output.{usage, too_long, decided, answered, sampled, AreFetched, IsNeeded, as_problem, as_certificate, as_question, IsWithin, IsTooLong, IsOr, AnswersOnly}
+use Rattle.trsprove.specs.Output.{usage, too_long, decided, answered, completed, sampled, AreFetched, IsNeeded, as_problem, as_certificate, as_question, as_equations, as_order, IsWithin, IsTooLong, IsOr, AnswersOnly}
 use Rattle.trsprove.specs.Verdicts.{IsWritten, with_claim, in_version_two, too_heavy, Verdict, refused, rejected, accepted, most_certificate_bytes}
 use Rattle.program_edge.specs.Fetching.{most_problem_bytes, IsUnfetched}
 
@@ -112,6 +112,7 @@ module _ (shelf : ShelfMeaning) (wanted : Wanted) (p c : List ℕ) where
   long_only h s text (usage none) = absurd cc
   long_only h s text (too_long name limit needed long) = refl
   long_only h s text (answered question budget problem f conclusion) = let asks : Some (certifies wanted p c) ≡ Some (proves question f.name f.workers budget) = f.asked in absurd cc
+  long_only h s text (completed budget problem order f completion) = let asks : Some (certifies wanted p c) ≡ Some (completes f.problem_name f.order_name budget) = f.asked in absurd cc
   long_only h s text (sampled size workers budget asks line) = absurd cc
   long_only (inl h) s text (decided other problem certificate f verdict) =
       absurd (not_long most_problem_bytes shelf p problem (under_first other problem certificate f) f.problem_size h)
@@ -134,12 +135,15 @@ module _ (shelf : ShelfMeaning) (wanted : Wanted) (p c : List ℕ) where
         too_long_within most_certificate_bytes shelf c w second second_size
         (subst (λ z. IsTooLong most_certificate_bytes (Told shelf) z) (sym (same_asked wanted other p q c d e).certificates) long)
     not_too_long name limit (as_question question q workers budget e) long = absurd cc
+    not_too_long name limit (as_equations q d budget e) long = absurd cc
+    not_too_long name limit (as_order q d budget e within) long = absurd cc
 
     -- the verdict for two texts is the defined one
     pub verdict_only : (s : Status) (text : List ℕ) → Verdict v w wanted s text → AnswersOnly Request shelf s
     verdict_only s text verdict other defined (usage none) = absurd cc
     verdict_only s text verdict other defined (too_long name limit needed long) = absurd (not_too_long name limit needed long)
     verdict_only s text verdict other defined (answered question budget problem f conclusion) = let asks : Some (certifies wanted p c) ≡ Some (proves question f.name f.workers budget) = f.asked in absurd cc
+    verdict_only s text verdict other defined (completed budget problem order f completion) = let asks : Some (certifies wanted p c) ≡ Some (completes f.problem_name f.order_name budget) = f.asked in absurd cc
     verdict_only s text verdict other defined (sampled size workers budget asks line) = absurd cc
     verdict_only s text verdict other defined (decided asked problem certificate f found) =
         let is_first : v ≡ problem = told_is shelf p v problem first (under_first asked problem certificate f) in

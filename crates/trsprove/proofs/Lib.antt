@@ -1,6 +1,7 @@
 pub mod Fetching
 pub mod Answering
 pub mod Questions
+pub mod Completing
 pub mod SampleLines
 pub mod AskingAgain
 pub mod Absence

@@ -5,12 +5,12 @@ use Rattle.io_edge.specs.declared.fault.FetchFault.{FetchFault}
 use Rattle.io_edge.specs.declared.fault.FetchFault.TheVariants as fetch
 use Rattle.io_edge.proofs.Counting.{same_or_not}
 use Rattle.program_edge.proofs.OneConclusion.{one_conclusion}
-use Rattle.command_line.specs.Request.{Asked, certifies, proves}
+use Rattle.command_line.specs.Request.{Asked, certifies, proves, completes}
 use Rattle.command_line.specs.declared.Question.{Question}
 use Rattle.program_edge.specs.declared.status.Status.{Status}
 use Rattle.program_edge.specs.declared.status.Status.TheVariants as status
 use Rattle.program_edge.specs.Conclusions.{IsConclusion, no_system, concluded}
-use Rattle.trsprove.specs.Output.{Output, usage, too_long, decided, answered, sampled, IsAsked, IsNeeded, as_problem, as_certificate, as_question, IsWithin, IsTooLong, WasFetched, IsAnswer, IsOr, AnswersOnly, TouchesOnlyNeeded}
+use Rattle.trsprove.specs.Output.{Output, usage, too_long, decided, answered, completed, sampled, IsAsked, IsNeeded, as_problem, as_certificate, as_question, as_equations, as_order, IsWithin, IsTooLong, WasFetched, IsAnswer, IsOr, AnswersOnly, TouchesOnlyNeeded}
 use Rattle.program_edge.specs.Fetching.{most_problem_bytes, IsUnfetched}
 use Rattle.trsprove.proofs.Answering.{told_is, not_long, too_long_within}
 
@@ -63,6 +63,7 @@ module _ (shelf : ShelfMeaning) (question : Question) (p : List ℕ) (workers bu
   too_long_only h s text (usage none) = absurd cc
   too_long_only h s text (too_long name limit needed long) = refl
   too_long_only h s text (decided wanted problem certificate f verdict) = let asks : Some (proves question p workers budget) ≡ Some (certifies wanted f.problem_name f.certificate_name) = f.asked in absurd cc
+  too_long_only h s text (completed bound problem order f completion) = let asks : Some (proves question p workers budget) ≡ Some (completes f.problem_name f.order_name bound) = f.asked in absurd cc
   too_long_only h s text (sampled size hands bound asks line) = absurd cc
   too_long_only h s text (answered other limit problem f conclusion) = absurd (not_long most_problem_bytes shelf p problem (told_of other limit problem f) f.size h)
 
@@ -77,6 +78,8 @@ module _ (shelf : ShelfMeaning) (question : Question) (p : List ℕ) (workers bu
     not_too_long : (name : List ℕ) (limit : ℕ) → IsNeeded Request (IsWithin most_problem_bytes (Told shelf)) name limit → IsTooLong limit (Told shelf) name → ⊥
     not_too_long name limit (as_problem wanted q d e) long = absurd cc
     not_too_long name limit (as_certificate wanted q d e within) long = absurd cc
+    not_too_long name limit (as_equations q d bound e) long = absurd cc
+    not_too_long name limit (as_order q d bound e within) long = absurd cc
     not_too_long name limit (as_question other q hands bound e) long =
         too_long_within most_problem_bytes shelf p v may_be size
         (subst (λ z. IsTooLong most_problem_bytes (Told shelf) z) (sym (same_question question other p q workers hands budget bound e).problems) long)
@@ -86,6 +89,7 @@ module _ (shelf : ShelfMeaning) (question : Question) (p : List ℕ) (workers bu
     conclusion_only s text h other defined (usage none) = absurd cc
     conclusion_only s text h other defined (too_long name limit needed long) = absurd (not_too_long name limit needed long)
     conclusion_only s text h other defined (decided wanted problem certificate f verdict) = let asks : Some (proves question p workers budget) ≡ Some (certifies wanted f.problem_name f.certificate_name) = f.asked in absurd cc
+    conclusion_only s text h other defined (completed bound problem order f completion) = let asks : Some (proves question p workers budget) ≡ Some (completes f.problem_name f.order_name bound) = f.asked in absurd cc
     conclusion_only s text h other defined (sampled size hands bound asks line) = absurd cc
     conclusion_only s text h other defined (answered asked limit problem f found) =
         let same = same_of asked limit problem f in

@@ -16,9 +16,10 @@ use Rattle.command_line.specs.declared.Wanted.{Wanted}
 use Rattle.program_edge.specs.declared.status.Status.{Status}
 use Rattle.program_edge.specs.declared.status.Status.TheVariants as status
 use Rattle.program_edge.specs.LinePuts.{lines_of, ArePut}
-use Rattle.trsprove.specs.Output.{Output, usage, too_long, decided, answered, sampled, AreFetched, IsAsked, IsAnswer, GivesVerdict, Writes}
+use Rattle.trsprove.specs.Output.{Output, usage, too_long, decided, answered, completed, sampled, AreFetched, IsAsked, AreEquations, IsAnswer, GivesVerdict, Writes}
 use Rattle.trsprove.specs.Verdicts.{IsWritten, with_claim, in_version_two, too_heavy, Verdict, refused, rejected, accepted}
-use Rattle.trsprove.specs.Truth.{IsTrueAnswer, by_certificate, by_proof, by_report, by_sample}
+use Rattle.trsprove.specs.Truth.{IsTrueAnswer, by_certificate, by_proof, by_report, by_completion, by_sample}
+use Rattle.trsprove.specs.Completions.{IsCompletion, no_equations, no_order, ended}
 use Rattle.program_edge.specs.Conclusions.{IsConclusion, no_system, concluded, question_of}
 
 module _ (request : Option Asked) (before now : ShelfMeaning) where
@@ -124,11 +125,33 @@ module _ (request : Option Asked) (before now : ShelfMeaning) where
     true_conclusion question budget problem s text asked (no_system fault h m) e w = absurd cc
     true_conclusion question budget problem s text asked (concluded named says c alone) e w = true_concluded question budget problem named text asked says c w
 
+    -- ---- how completion ends is right
+
+    true_completion : (budget : ℕ) (problem order : List ℕ) (s : Status) (text : List ℕ) → AreEquations request budget (MayBe before) problem order
+        → IsCompletion problem order budget s text → s ≡ status.Answered → AppendsTo taken text later → IsTrueAnswer request before taken later
+    true_completion budget problem order s text f (no_equations fault h m) e w = absurd cc
+    true_completion budget problem order s text f (no_order named at says h) e w = absurd cc
+    true_completion budget problem order s text f (ended named says c) e w =
+        by_completion (record {
+          budget = budget;
+          problem = problem;
+          order_text = order;
+          named = named;
+          order = c.order;
+          ending = c.completion.ending;
+          equations = f;
+          problem_says = says;
+          order_says = c.says;
+          truth = c.completion.right;
+          written = subst (λ z. AppendsTo taken z later) c.completion.written w;
+        })
+
     true_output : (s : Status) (text : List ℕ) → Output request (MayBe before) s text → s ≡ status.Answered → AppendsTo taken text later → IsTrueAnswer request before taken later
     true_output s text (usage none) e w = absurd cc
     true_output s text (too_long name limit needed long) e w = absurd cc
     true_output s text (sampled size workers budget asks line) e w =
         by_sample (record { size = size; workers = workers; budget = budget; line = text; asked = asks; truth = line; written = w })
+    true_output s text (completed budget problem order f completion) e w = true_completion budget problem order s text f completion e w
     true_output s text (decided wanted problem certificate fetched verdict) e w = true_verdict wanted problem certificate s text fetched verdict e w
     true_output s text (answered question budget problem asked conclusion) e w = true_conclusion question budget problem s text asked conclusion e w
 

@@ -1,11 +1,11 @@
 -- Samples: what is answered, and that it is the only answer.
 use Rattle.std.proofs.Common.{◌≡◌, inl, ℕ, List, Option, Some, Result, Ok, Err, IfOk, refl, sym, subst}
 use Rattle.io_edge.specs.Shelf.{ShelfMeaning, Told}
-use Rattle.command_line.specs.Request.{Asked, certifies, proves, samples}
+use Rattle.command_line.specs.Request.{Asked, certifies, proves, completes, samples}
 use Rattle.sampling.specs.Line.{IsSampleLine}
 use Rattle.program_edge.specs.declared.status.Status.{Status}
 use Rattle.program_edge.specs.declared.status.Status.TheVariants as status
-use Rattle.trsprove.specs.Output.{usage, too_long, decided, answered, sampled, IsNeeded, as_problem, as_certificate, as_question, IsWithin, IsAnswer, AnswersOnly, TouchesOnlyNeeded}
+use Rattle.trsprove.specs.Output.{usage, too_long, decided, answered, completed, sampled, IsNeeded, as_problem, as_certificate, as_question, as_equations, as_order, IsWithin, IsAnswer, AnswersOnly, TouchesOnlyNeeded}
 use Rattle.program_edge.specs.Fetching.{most_problem_bytes}
 
 module _ (request : Option Asked) (size workers budget : ℕ) (asks : request ≡ Some (samples size workers budget)) where
@@ -17,12 +17,15 @@ module _ (request : Option Asked) (size workers budget : ℕ) (asks : request �
   needs_none is_fetched name limit (as_problem wanted problem certificate e) = absurd cc
   needs_none is_fetched name limit (as_certificate wanted problem certificate e within) = absurd cc
   needs_none is_fetched name limit (as_question question problem hands bound e) = absurd cc
+  needs_none is_fetched name limit (as_equations problem order bound e) = absurd cc
+  needs_none is_fetched name limit (as_order problem order bound e within) = absurd cc
 
   only_answered : (shelf : ShelfMeaning) → AnswersOnly request shelf status.Answered
   only_answered shelf s text (usage none) = absurd cc
   only_answered shelf s text (too_long name limit needed long) = absurd (needs_none (IsWithin most_problem_bytes (Told shelf)) name limit needed)
   only_answered shelf s text (decided wanted problem certificate f verdict) = let other : request ≡ Some (certifies wanted f.problem_name f.certificate_name) = f.asked in absurd cc
   only_answered shelf s text (answered question bound problem f conclusion) = let other : request ≡ Some (proves question f.name f.workers bound) = f.asked in absurd cc
+  only_answered shelf s text (completed bound problem order f completion) = let other : request ≡ Some (completes f.problem_name f.order_name bound) = f.asked in absurd cc
   only_answered shelf s text (sampled other hands bound e line) = refl
 
   -- no other answer is defined

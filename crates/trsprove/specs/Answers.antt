@@ -6,7 +6,7 @@ use Rattle.program_edge.specs.Lines.{refused_line}
 use Rattle.program_edge.specs.Fetching.{unfetched_status, unfetched_line}
 use Rattle.trsprove.specs.declared.answer.Answer.{Answer}
 use Rattle.trsprove.specs.declared.answer.Answer.TheVariants as answer
-use Rattle.trsprove.specs.Lines.{usage_line, accepted_line, too_heavy_line}
+use Rattle.trsprove.specs.Lines.{usage_line, accepted_line, too_heavy_line, order_refused_line}
 
 -- the status of an answer
 abbrev pub status_of : Answer → Status
@@ -16,6 +16,7 @@ status_of (answer.Rejected line) = status.Rejected
 status_of answer.TooHeavy = status.Rejected
 status_of answer.Usage = status.Usage
 status_of (answer.Refused fault) = status.Refused
+status_of (answer.OrderRefused at) = status.Refused
 status_of (answer.Unfetched u) = unfetched_status u
 
 -- the text that is written for it
@@ -26,4 +27,5 @@ text_of (answer.Rejected line) = line.items
 text_of answer.TooHeavy = too_heavy_line
 text_of answer.Usage = usage_line
 text_of (answer.Refused fault) = refused_line fault
+text_of (answer.OrderRefused at) = order_refused_line at
 text_of (answer.Unfetched u) = unfetched_line u

@@ -53,3 +53,7 @@ rejected_line r = (rejected_words r ++ fields_text (rejected_numbers r)) ++ (fie
 -- the line of a certificate that is accepted, and weighs too much in version 2
 abbrev pub too_heavy_line : List ℕ
 too_heavy_line = codes "REJECTED too-heavy\n"
+
+-- the line of an order text that is refused at a place
+abbrev pub order_refused_line : ℕ → List ℕ
+order_refused_line at = codes "order refused" ++ (fields_text (at ∷ []) ++ 10 ∷ [])

@@ -4,7 +4,7 @@ use denote.Ref.{Bor}
 use Rattle.io_edge.specs.Shelf.{ShelfMeaning, Told, ToldAbsent, MayBe, MayPass, TellsTheSame, NoCountFell, FaultRose, ReadPast, IsUntouched}
 use Rattle.io_edge.specs.Sink.{SinkMeaning, AppendsTo, AppendsPrefix, NoSinkCountFell}
 use Rattle.sampling.specs.Line.{IsSampleLine}
-use Rattle.command_line.specs.Request.{Asked, certifies, proves, samples}
+use Rattle.command_line.specs.Request.{Asked, certifies, proves, completes, samples}
 use Rattle.command_line.specs.declared.Question.{Question}
 use Rattle.command_line.specs.declared.Wanted.{Wanted}
 use Rattle.program_edge.specs.declared.status.Status.{Status}
@@ -15,6 +15,7 @@ use Rattle.program_edge.specs.Fetching.{most_problem_bytes}
 use Rattle.program_edge.specs.Conclusions.{IsConclusion}
 use Rattle.trsprove.specs.Lines.{usage_line}
 use Rattle.trsprove.specs.Verdicts.{Verdict, most_certificate_bytes}
+use Rattle.trsprove.specs.Completions.{IsCompletion, most_order_bytes}
 
 -- the words as texts
 abbrev pub texts : List (Bor (List ℕ)) → List (List ℕ)
@@ -39,6 +40,17 @@ pub record IsAsked (request : Option Asked) (question : Question) (budget : ℕ)
   pub name_under : under name problem
   pub size : length problem ≤ most_problem_bytes
 
+-- it is asked to complete the equations of the problem under a name by the order under another, within this budget, and these
+-- are texts under them
+pub record AreEquations (request : Option Asked) (budget : ℕ) (under : List ℕ → List ℕ → Type 0) (problem order : List ℕ) : Type 0 where
+  pub problem_name : List ℕ
+  pub order_name : List ℕ
+  pub asked : request ≡ Some (completes problem_name order_name budget)
+  pub problem_under : under problem_name problem
+  pub order_under : under order_name order
+  pub problem_size : length problem ≤ most_problem_bytes
+  pub order_size : length order ≤ most_order_bytes
+
 -- a text under a name is within a limit
 abbrev pub IsWithin : ℕ → (List ℕ → List ℕ → Type 0) → List ℕ → Type 0
 IsWithin limit under name = (text : List ℕ) × under name text × (length text ≤ limit)
@@ -47,8 +59,8 @@ IsWithin limit under name = (text : List ℕ) × under name text × (length text
 abbrev pub IsTooLong : ℕ → (List ℕ → List ℕ → Type 0) → List ℕ → Type 0
 IsTooLong limit under name = (text : List ℕ) × under name text × (limit < length text)
 
--- the text under a name is needed, with so many bytes at most: that of the problem, or that of the certificate once the
--- problem's is fetched; a question needs its problem alone
+-- the text under a name is needed, with so many bytes at most: that of the problem, or that of the certificate or the order
+-- once the problem's is fetched; a question needs its problem alone
 pub data IsNeeded (request : Option Asked) (is_fetched : List ℕ → Type 0) : List ℕ → ℕ → Type 0 where
   as_problem : (wanted : Wanted) (problem certificate : List ℕ) → request ≡ Some (certifies wanted problem certificate)
       → IsNeeded request is_fetched problem most_problem_bytes
@@ -56,6 +68,10 @@ pub data IsNeeded (request : Option Asked) (is_fetched : List ℕ → Type 0) : 
       → is_fetched problem → IsNeeded request is_fetched certificate most_certificate_bytes
   as_question : (question : Question) (problem : List ℕ) (workers budget : ℕ) → request ≡ Some (proves question problem workers budget)
       → IsNeeded request is_fetched problem most_problem_bytes
+  as_equations : (problem order : List ℕ) (budget : ℕ) → request ≡ Some (completes problem order budget)
+      → IsNeeded request is_fetched problem most_problem_bytes
+  as_order : (problem order : List ℕ) (budget : ℕ) → request ≡ Some (completes problem order budget)
+      → is_fetched problem → IsNeeded request is_fetched order most_order_bytes
 
 -- the answer: a status, and the text that is written
 pub data Output (request : Option Asked) (under : List ℕ → List ℕ → Type 0) : Status → List ℕ → Type 0 where
@@ -67,6 +83,9 @@ pub data Output (request : Option Asked) (under : List ℕ → List ℕ → Type
       → Output request under s text
   answered : {s : Status} {text : List ℕ} (question : Question) (budget : ℕ) (problem : List ℕ)
       → IsAsked request question budget under problem → IsConclusion problem question budget s text
+      → Output request under s text
+  completed : {s : Status} {text : List ℕ} (budget : ℕ) (problem order : List ℕ)
+      → AreEquations request budget under problem order → IsCompletion problem order budget s text
       → Output request under s text
   sampled : {line : List ℕ} (size workers budget : ℕ) → request ≡ Some (samples size workers budget) → IsSampleLine size budget line
       → Output request under status.Answered line
@@ -87,7 +106,7 @@ IsAnswer request before now status.WriteFault text = ⊥
 IsAnswer request before now status.OutOfMemory text = ⊥
 IsAnswer request before now s text = Output request (MayBe before) s text
 
--- the defined answer is a verdict: on a certificate, a question or a sample
+-- the defined answer is a verdict: on a certificate, a question, equations or a sample
 abbrev pub GivesVerdict : Status → Type 0
 GivesVerdict s = (s ≡ status.Answered) ⊎ (s ≡ status.Rejected)
 

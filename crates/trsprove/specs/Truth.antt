@@ -21,7 +21,12 @@ use Rattle.command_line.specs.declared.Wanted.{Wanted}
 use Rattle.command_line.specs.declared.Wanted.TheVariants as want
 use Rattle.program_edge.specs.Conclusions.{question_of}
 use Rattle.trsprove.specs.Lines.{accepted_line}
-use Rattle.trsprove.specs.Output.{AreFetched, IsAsked}
+use Rattle.completion_text.specs.completion.Endings.{Ending, IsRightEnding}
+use Rattle.completion_text.specs.completion.GreaterBy.{GreaterBy}
+use Rattle.completion_text.specs.path_lpo.Table.{PathEntry}
+use Rattle.completion_text.specs.OrderText.{SaysOrder}
+use Rattle.completion_text.specs.CompletionText.{ending_text}
+use Rattle.trsprove.specs.Output.{AreFetched, IsAsked, AreEquations}
 
 -- what is written of a certificate that is accepted
 abbrev pub accepted_text : Wanted → NamedSystem → ProofText → List ℕ
@@ -67,6 +72,21 @@ pub record IsTrueMaybe (request : Option Asked) (before : ShelfMeaning) (taken l
   pub truth : IsTrueReport named.system (question_of question) budget parts
   pub written : AppendsTo taken (maybe_text named (question_of question) parts) later
 
+-- how completion ends was written, and the ending is right: a system that is written is convergent, with the conversions of the
+-- equations that the problem text says; two terms that are written are converted by them, and neither is greater by the order
+pub record IsTrueEnding (request : Option Asked) (before : ShelfMeaning) (taken later : SinkMeaning) : Type 0 where
+  pub budget : ℕ
+  pub problem : List ℕ
+  pub order_text : List ℕ
+  pub named : NamedSystem
+  pub order : List PathEntry
+  pub ending : Ending
+  pub equations : AreEquations request budget (MayBe before) problem order_text
+  pub problem_says : SaysSystem problem named
+  pub order_says : SaysOrder named order_text order
+  pub truth : IsRightEnding named.system (GreaterBy order) ending
+  pub written : AppendsTo taken (ending_text named ending) later
+
 -- the line of a sample system was written, and it is true of that system
 pub record IsTrueSample (request : Option Asked) (taken later : SinkMeaning) : Type 0 where
   pub size : ℕ
@@ -82,4 +102,5 @@ pub data IsTrueAnswer (request : Option Asked) (before : ShelfMeaning) (taken la
   by_certificate : IsTrueAcceptance request before taken later → IsTrueAnswer request before taken later
   by_proof : IsTrueProof request before taken later → IsTrueAnswer request before taken later
   by_report : IsTrueMaybe request before taken later → IsTrueAnswer request before taken later
+  by_completion : IsTrueEnding request before taken later → IsTrueAnswer request before taken later
   by_sample : IsTrueSample request taken later → IsTrueAnswer request before taken later

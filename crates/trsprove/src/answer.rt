@@ -6,6 +6,7 @@ ghost use Rattle.trsprove.specs.Answers.{status_of, text_of};
 
 use crate::asking::concluded;
 use crate::certifying::certified;
+use crate::completing::completed;
 use crate::samples::sampled;
 use ari_text::AriFault;
 use certifier::Claim;
@@ -19,8 +20,8 @@ use std::alloc::{AllocError, Global};
 pub(crate) enum Answer<'a> {
     /// The claim of an accepted certificate.
     Accepted(Claim),
-    /// The text of an answer: an accepted certificate in version 2, what answers a question, or the
-    /// line of a sample.
+    /// The text of an answer: an accepted certificate in version 2, what answers a question, how
+    /// completion ends, or the line of a sample.
     Answered(Vec<u8>),
     /// The line of a rejection.
     Rejected(Vec<u8>),
@@ -28,6 +29,8 @@ pub(crate) enum Answer<'a> {
     TooHeavy,
     Usage,
     Refused(AriFault),
+    /// The order text is refused at a place.
+    OrderRefused(u32),
     Unfetched(Unfetched<'a>),
 }
 
@@ -39,7 +42,7 @@ impl<'a> Answer<'a> {
             Answer::Accepted(_) | Answer::Answered(_) => Status::Answered,
             Answer::Rejected(_) | Answer::TooHeavy => Status::Rejected,
             Answer::Usage => Status::Usage,
-            Answer::Refused(_) => Status::Refused,
+            Answer::Refused(_) | Answer::OrderRefused(_) => Status::Refused,
             Answer::Unfetched(unfetched) => unfetched.status(),
         }
     }
@@ -82,6 +85,13 @@ pub(crate) fn answer_for<'a, S: Shelf>(
                 budget,
             },
         ) => concluded(alloc, shelf, question, problem, budget),
+        Ok(
+            Request::Complete {
+                problem,
+                order,
+                budget,
+            },
+        ) => completed(alloc, shelf, problem, order, budget),
         Ok(
             Request::Sample {
                 size,

@@ -5,6 +5,7 @@ mod answer;
 mod arguments;
 mod asking;
 mod certifying;
+mod completing;
 mod lines;
 mod report;
 mod run;

@@ -1,12 +1,13 @@
 ghost use Rattle.std.specs.Prelude.{◌≡◌};
 ghost use Rattle.program_edge.specs.Puts.{Puts, PutsLines};
+ghost use Rattle.trsprove.specs.Lines.{order_refused_line};
 ghost use Rattle.trsprove.specs.Output.{GivesVerdict};
 ghost use Rattle.trsprove.specs.Answers.{status_of, text_of};
 
 use crate::answer::Answer;
 use crate::lines::accepted_line;
 use io_edge::{Sink, SinkFailed};
-use program_edge::{put_lines, put_one, put_refused};
+use program_edge::{put_fields, put_lines, put_one, put_refused};
 
 /// The line of words that ask for nothing.
 const USAGE: &[u8] =
@@ -27,6 +28,16 @@ pub(crate) fn put_answer<K: Sink>(answer: &Answer<'_>, out: &mut K) -> Result<()
         Answer::TooHeavy => put_lines(out, TOO_HEAVY),
         Answer::Usage => put_one(out, USAGE),
         Answer::Refused(fault) => put_refused(out, fault),
+        Answer::OrderRefused(at) => put_order_refused(out, *at),
         Answer::Unfetched(unfetched) => unfetched.put(out),
     }
+}
+
+// Puts the line of an order text that is refused at a place.
+fn put_order_refused<K: Sink>(out: &mut K, at: u32) -> Result<(), SinkFailed>
+    ensures { Puts result (K.means out.old) (order_refused_line at) (K.means out.new) }
+{
+    put_one(out, b"order refused")?;
+    put_fields(out, &[u64::from(at)])?;
+    put_one(out, b"\n")
 }
