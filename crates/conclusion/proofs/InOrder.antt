@@ -12,7 +12,7 @@ use Rattle.trs_defs.proofs.Substitutions.{apply_apply, same_instance}
 use Rattle.rewrite_core.specs.Check.{Then, stops, goes_on, holds, there, absent}
 use Rattle.rewrite_core.specs.PathCheck.{Runs, followed}
 use Rattle.rewrite_core.specs.LoopConditions.{loop_conditions}
-use Rattle.report_text.proofs.conf_find.InstancePlaces.{subterm_image, replaced_image}
+use Rattle.cert_text.proofs.crit_pairs.InstancePlaces.{subterm_image, replaced_image}
 use Rattle.cert_text.specs.cert_step.ProofProblem.{ProofProblem}
 use Rattle.cert_text.specs.cert_step.ProofStep as step
 use Rattle.cert_text.specs.cert_step.ProofStep.{ProofStep}

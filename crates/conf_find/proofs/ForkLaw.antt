@@ -24,8 +24,8 @@ use Rattle.join_find.proofs.Firsts.{first_in_list}
 use Rattle.conf_find.specs.Fork.{Fork, fork_from}
 use Rattle.conf_find.specs.ForkRows.{Behind, behind_none, behind_one, AreNormal, AreDifferentNormalForms, IsTestOf, both_normal, not_both, PartsBy, FindsFork, FindsSplit}
 use Rattle.conf_find.specs.Laws.{IsForkStep}
-use Rattle.conf_find.proofs.PeakSteps.{HasSteps, peak_steps}
-use Rattle.conf_find.proofs.WellFormedTops.{top_well_formed}
+use Rattle.join_find.proofs.crit_pairs.PeakSteps.{HasSteps, peak_steps}
+use Rattle.join_find.proofs.crit_pairs.WellFormedTops.{top_well_formed}
 
 behind_in : {A : Type 0} {passed : A → Type 0} {xs : List A} {a : A} → Behind passed xs a → In a xs
 behind_in behind_none = in_first

@@ -3,8 +3,5 @@ pub mod ForkPeaks
 pub mod PeakList
 pub mod CapMarks
 pub mod EndingMarks
-pub mod InstancePlaces
-pub mod PeakSteps
-pub mod WellFormedTops
 pub mod ForkLaw
 pub mod BetweenLists

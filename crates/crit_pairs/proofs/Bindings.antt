@@ -87,7 +87,7 @@ general : (bs : List Binding) (θ : ℕ → Tree) → Solves bs θ → (v : ℕ)
 general bs θ h v = unless_bound (bound_term bs v) v θ (λ t e. h.solves v t e)
 
 mutual
-  unchanged : (t : Tree) → apply (λ v. var v) t ≡ t
+  pub unchanged : (t : Tree) → apply (λ v. var v) t ≡ t
   unchanged (var v) = refl
   unchanged (app f ts) = ap (app f) (all_unchanged ts)
 

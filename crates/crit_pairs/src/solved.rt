@@ -81,7 +81,7 @@ pub(crate) fn renumbered(
     match t {
         Term::Var(v) => match find(bindings, *v) {
             None => number_variable(*v, names),
-            Some(bound) => numbered(alloc, bound, names),
+            Some(bound) => number_variables(alloc, bound, names),
         },
         Term::App(f, args) => {
             let mut built = Vec::with_capacity(alloc, args.items.len())?;
@@ -93,8 +93,9 @@ pub(crate) fn renumbered(
     }
 }
 
-/// The term, with new numbers for its variables.
-fn numbered(alloc: Global, t: &Term, names: &mut Vec<u32>) -> Result<Term, OutOfMemory>
+/// The term, with new numbers for its variables, from 0 on: those that are not yet among the names
+/// come behind them as they are met. Names are looked for one by one.
+pub fn number_variables(alloc: Global, t: &Term, names: &mut Vec<u32>) -> Result<Term, OutOfMemory>
     requires { IsDistinct names.old.items }
     ensures distinct { OnOk result (IsDistinct names.new.items) }
     ensures renamed { IfOk result (λ u.
@@ -105,7 +106,7 @@ fn numbered(alloc: Global, t: &Term, names: &mut Vec<u32>) -> Result<Term, OutOf
         Term::App(f, args) => {
             let mut built = Vec::with_capacity(alloc, args.items.len())?;
             for arg in &args.items {
-                built.push(numbered(alloc, arg, names)?)?;
+                built.push(number_variables(alloc, arg, names)?)?;
             }
             Ok(Term::App(*f, Args { items: built }))
         }

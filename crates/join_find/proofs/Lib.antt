@@ -1,3 +1,5 @@
+-- what crates above name through this one
+pub use Rattle.closed_pairs.proofs.crit_pairs
 pub mod Firsts
 pub mod SharedIds
 pub mod Joining

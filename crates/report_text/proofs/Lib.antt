@@ -1,4 +1,3 @@
 -- what crates above name through this one
-pub use Rattle.tree_definitions.proofs.conf_find
 pub use Rattle.tree_definitions.proofs as tree_definitions
 pub mod GoalTexts

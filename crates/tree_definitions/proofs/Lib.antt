@@ -1,6 +1,5 @@
 -- what crates above name through this one
 pub use Rattle.strategies.proofs.cert_step
-pub use Rattle.strategies.proofs.conf_find
 pub use Rattle.strategies.proofs as strategies
 pub mod Lookups
 pub mod Weights

@@ -3,7 +3,7 @@ use Rattle.trs_defs.specs.Size.{size_of}
 use Rattle.trs_core.specs.View.{tree, forest}
 use Rattle.trs_unify.proofs.NewNames.{AreRenaming}
 use Rattle.crit_pairs.specs.Sides.{IsDistinct}
-use Rattle.crit_pairs.proofs.solved.+numbered.Given as goal
+use Rattle.crit_pairs.proofs.solved.+number_variables.Given as goal
 
 abbrev pub invariant-loop-arg : goal.invariant-loop-arg
 invariant-loop-arg l = record {
@@ -11,5 +11,5 @@ invariant-loop-arg l = record {
   renaming : AreRenaming l.fn.names.items l.f (tree l.t) (map tree l.built.items) l.names.items (forest (drop l.arg-index l.arg-items));
 }
 
-abbrev pub decreases-numbered : goal.decreases-numbered
-decreases-numbered l = size_of (tree l.t.now)
+abbrev pub decreases-number_variables : goal.decreases-number_variables
+decreases-number_variables l = size_of (tree l.t.now)

@@ -2,10 +2,10 @@
 use Rattle.std.specs.Prelude.{◌≡◌, ◌<◌, ℕ, ◌+◌, Bool, true, false, cond, ◌&&◌, ◌||◌, ◌==◌, max, List, [], Some, IsTrue, slice_get, refl}
 use Rattle.std.proofs.Common.{zero, suc, ap, sym, ◌∙◌, subst, arith, inl, inr}
 use Rattle.std.proofs.lemmas.Bool.Decides.{nat_tests}
-use Rattle.trs_defs.specs.Tree.{Tree, Trees, var, app, nil, cons}
+use Rattle.trs_defs.specs.Tree.{Tree, var}
 use Rattle.trs_defs.specs.Variable.{has_var}
 use Rattle.trs_defs.specs.Renaming.{shifted}
-use Rattle.trs_defs.specs.Substitution.{apply, apply_all}
+use Rattle.trs_defs.specs.Substitution.{apply}
 use Rattle.trs_defs.specs.Position.{subterm_at, replaced_at}
 use Rattle.trs_defs.specs.Path.{StepsAt}
 use Rattle.trs_defs.specs.System.{RewriteRule}
@@ -14,16 +14,8 @@ use Rattle.trs_defs.proofs.VariableLaws.{or_left, or_right, or_cases}
 use Rattle.trs_caps.proofs.CapLaws.{variable_bound, below_bound}
 use Rattle.confluence_theory.specs.Peak.{Peak}
 use Rattle.confluence_theory.specs.CriticalPeak.{occurs_in_peak, IsCriticalPeak}
-use Rattle.conf_find.proofs.InstancePlaces.{subterm_image, replaced_image}
-
-mutual
-  unchanged : (t : Tree) → apply (λ v. var v) t ≡ t
-  unchanged (var v) = refl
-  unchanged (app f ts) = ap (app f) (all_unchanged ts)
-
-  all_unchanged : (ts : Trees) → apply_all (λ v. var v) ts ≡ ts
-  all_unchanged nil = refl
-  all_unchanged (cons t ts) = cc (unchanged t, all_unchanged ts)
+use Rattle.crit_pairs.proofs.Bindings.{unchanged}
+use Rattle.crit_pairs.proofs.InstancePlaces.{subterm_image, replaced_image}
 
 -- the variable that had a name
 module _ (peak : Peak) (names : ℕ → ℕ)

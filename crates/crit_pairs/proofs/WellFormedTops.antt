@@ -9,20 +9,17 @@ use Rattle.trs_defs.specs.Substitution.{apply, apply_all}
 use Rattle.trs_defs.specs.Unifier.{IsMostGeneralUnifier}
 use Rattle.trs_defs.specs.WellFormed.{IsWellFormed, AreWellFormed}
 use Rattle.trs_defs.specs.System.{RewriteRule}
+use Rattle.trs_defs.proofs.ArgumentLists.{count_apply_all}
 use Rattle.trs_defs.proofs.Substitutions.{apply_apply, same_instance}
 use Rattle.trs_defs.proofs.WellFormedness.{subterm_there}
 use Rattle.confluence_theory.specs.Peak.{Peak}
 use Rattle.confluence_theory.specs.CriticalPeak.{IsCriticalPeak}
 
-count_apply : (σ : ℕ → Tree) (ts : Trees) → count (apply_all σ ts) ≡ count ts
-count_apply σ nil = refl
-count_apply σ (cons t ts) = ap (λ n. 1 + n) (count_apply σ ts)
-
 module _ (arities : List ℕ) where
   mutual
-    well_formed_image : (σ : ℕ → Tree) → ((v : ℕ) → IsWellFormed arities (σ v)) → (t : Tree) → IsWellFormed arities t → IsWellFormed arities (apply σ t)
+    pub well_formed_image : (σ : ℕ → Tree) → ((v : ℕ) → IsWellFormed arities (σ v)) → (t : Tree) → IsWellFormed arities t → IsWellFormed arities (apply σ t)
     well_formed_image σ images (var n) well = images n
-    well_formed_image σ images (app f ts) well = (well.0 ∙ ap (λ n. Some n) (sym (count_apply σ ts)), well_formed_images σ images ts well.1)
+    well_formed_image σ images (app f ts) well = (well.0 ∙ ap (λ n. Some n) (sym (count_apply_all σ ts)), well_formed_images σ images ts well.1)
 
     well_formed_images : (σ : ℕ → Tree) → ((v : ℕ) → IsWellFormed arities (σ v)) → (ts : Trees) → AreWellFormed arities ts → AreWellFormed arities (apply_all σ ts)
     well_formed_images σ images nil well = tt
@@ -32,7 +29,7 @@ module _ (arities : List ℕ) where
   mutual
     well_formed_pattern : (σ : ℕ → Tree) (t : Tree) → IsWellFormed arities (apply σ t) → IsWellFormed arities t
     well_formed_pattern σ (var n) well = tt
-    well_formed_pattern σ (app f ts) well = (well.0 ∙ ap (λ n. Some n) (count_apply σ ts), well_formed_patterns σ ts well.1)
+    well_formed_pattern σ (app f ts) well = (well.0 ∙ ap (λ n. Some n) (count_apply_all σ ts), well_formed_patterns σ ts well.1)
 
     well_formed_patterns : (σ : ℕ → Tree) (ts : Trees) → AreWellFormed arities (apply_all σ ts) → AreWellFormed arities ts
     well_formed_patterns σ nil well = tt
@@ -88,7 +85,7 @@ module _ (arities : List ℕ) where
     pruned_instance σ (var n) well = refl
     pruned_instance σ (app f ts) well =
         let kept : is_arity (slice_get arities f) (count (apply_all σ ts)) ≡ true =
-        test_of (slice_get arities f) (count (apply_all σ ts)) (well.0 ∙ ap (λ n. Some n) (sym (count_apply σ ts))) in
+        test_of (slice_get arities f) (count (apply_all σ ts)) (well.0 ∙ ap (λ n. Some n) (sym (count_apply_all σ ts))) in
         ap (λ b. cut b (app f (all_pruned (apply_all σ ts)))) kept ∙ ap (app f) (all_pruned_instances σ ts well.1)
 
     all_pruned_instances : (σ : ℕ → Tree) (ts : Trees) → AreWellFormed arities ts → all_pruned (apply_all σ ts) ≡ apply_all (λ v. pruned (σ v)) ts
