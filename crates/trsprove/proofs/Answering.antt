@@ -14,10 +14,11 @@ use Rattle.command_line.specs.Request.{Asked, certifies, proves}
 use Rattle.command_line.specs.declared.Wanted.{Wanted}
 use Rattle.io_edge.specs.declared.fault.FetchFault.{FetchFault}
 use Rattle.io_edge.specs.declared.fault.FetchFault.TheVariants as fetch
-use Rattle.trsprove.specs.declared.status.Status.{Status}
-use Rattle.trsprove.specs.declared.status.Status.TheVariants as status
-use Rattle.trsprove.specs.Output.{IsWritten, with_claim, in_version_two, too_heavy, Verdict, refused, rejected, accepted, usage, too_long, decided, answered, sampled, AreFetched, IsNeeded, as_problem, as_certificate, as_question, IsWithin, IsTooLong, IsOr, AnswersOnly, most_problem_bytes, most_certificate_bytes}
-use Rattle.trsprove.specs.Answers.{IsUnfetched}
+use Rattle.program_edge.specs.declared.status.Status.{Status}
+use Rattle.program_edge.specs.declared.status.Status.TheVariants as status
+use Rattle.trsprove.specs.Output.{usage, too_long, decided, answered, sampled, AreFetched, IsNeeded, as_problem, as_certificate, as_question, IsWithin, IsTooLong, IsOr, AnswersOnly}
+use Rattle.trsprove.specs.Verdicts.{IsWritten, with_claim, in_version_two, too_heavy, Verdict, refused, rejected, accepted, most_certificate_bytes}
+use Rattle.program_edge.specs.Fetching.{most_problem_bytes, IsUnfetched}
 
 -- ---- one verdict for two texts
 

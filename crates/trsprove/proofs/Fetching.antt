@@ -9,9 +9,10 @@ use Rattle.names_text.specs.Named.{NamedSystem}
 use Rattle.conclusion.specs.cert_text.ProofText.{ProofText}
 use Rattle.command_line.specs.Request.{Asked, certifies}
 use Rattle.command_line.specs.declared.Wanted.{Wanted}
-use Rattle.trsprove.specs.declared.status.Status.{Status}
-use Rattle.trsprove.specs.Output.{most_problem_bytes, most_certificate_bytes, IsWritten, with_claim, in_version_two, too_heavy, Verdict, refused, rejected, accepted, AreFetched, Output, decided, IsNeeded, as_problem, as_certificate, WasFetched, IsAnswer, TouchesOnlyNeeded}
-use Rattle.trsprove.specs.Answers.{IsUnfetched}
+use Rattle.program_edge.specs.declared.status.Status.{Status}
+use Rattle.trsprove.specs.Output.{AreFetched, Output, decided, IsNeeded, as_problem, as_certificate, WasFetched, IsAnswer, TouchesOnlyNeeded}
+use Rattle.program_edge.specs.Fetching.{most_problem_bytes, IsUnfetched}
+use Rattle.trsprove.specs.Verdicts.{most_certificate_bytes, IsWritten, with_claim, in_version_two, too_heavy, Verdict, refused, rejected, accepted}
 
 -- a failure that is counted is a fault that came, also since an earlier time
 pub fault_came : (X : Type 0) (fault : FetchFault) (before middle now : List ℕ → ℕ) (name : List ℕ) → before name ≤ middle name

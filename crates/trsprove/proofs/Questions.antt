@@ -4,14 +4,14 @@ use Rattle.io_edge.specs.Shelf.{ShelfMeaning, Told, MayBe, MayPass, CountsRise, 
 use Rattle.io_edge.specs.declared.fault.FetchFault.{FetchFault}
 use Rattle.io_edge.specs.declared.fault.FetchFault.TheVariants as fetch
 use Rattle.io_edge.proofs.Counting.{same_or_not}
-use Rattle.ari_text.proofs.OneSystem.{no_refusal}
+use Rattle.program_edge.proofs.OneConclusion.{one_conclusion}
 use Rattle.command_line.specs.Request.{Asked, certifies, proves}
 use Rattle.command_line.specs.declared.Question.{Question}
-use Rattle.trsprove.specs.declared.status.Status.{Status}
-use Rattle.trsprove.specs.declared.status.Status.TheVariants as status
-use Rattle.trsprove.specs.Conclusions.{IsConclusion, no_system, concluded}
-use Rattle.trsprove.specs.Output.{Output, usage, too_long, decided, answered, sampled, IsAsked, IsNeeded, as_problem, as_certificate, as_question, IsWithin, IsTooLong, WasFetched, IsAnswer, IsOr, AnswersOnly, TouchesOnlyNeeded, most_problem_bytes}
-use Rattle.trsprove.specs.Answers.{IsUnfetched}
+use Rattle.program_edge.specs.declared.status.Status.{Status}
+use Rattle.program_edge.specs.declared.status.Status.TheVariants as status
+use Rattle.program_edge.specs.Conclusions.{IsConclusion, no_system, concluded}
+use Rattle.trsprove.specs.Output.{Output, usage, too_long, decided, answered, sampled, IsAsked, IsNeeded, as_problem, as_certificate, as_question, IsWithin, IsTooLong, WasFetched, IsAnswer, IsOr, AnswersOnly, TouchesOnlyNeeded}
+use Rattle.program_edge.specs.Fetching.{most_problem_bytes, IsUnfetched}
 use Rattle.trsprove.proofs.Answering.{told_is, not_long, too_long_within}
 
 -- ---- what is answered
@@ -28,14 +28,12 @@ fetched_conclusion question p workers budget v before now s text may_be size h =
     answer_of (Some (proves question p workers budget)) before now question budget v s text h
     (answered question budget v (record { name = p; workers = workers; asked = refl; name_under = may_be; size = size }) h)
 
--- ---- one conclusion for a text
+-- ---- one status for a text
 
-pub one_conclusion : (problem : List ℕ) (question : Question) (budget : ℕ) (s other : Status) (text defined : List ℕ) → IsConclusion problem question budget s text
-    → IsConclusion problem question budget other defined → IsOr other s
-one_conclusion problem question budget s other text defined (no_system f h m) (no_system g k n) = refl
-one_conclusion problem question budget s other text defined (no_system f h m) (concluded named says c alone) = absurd (m (no_refusal problem named f says h))
-one_conclusion problem question budget s other text defined (concluded named says c alone) (no_system g k n) = absurd (n (no_refusal problem named g says k))
-one_conclusion problem question budget s other text defined (concluded named says c alone) (concluded system told d serial) = refl
+-- the status of an answer is no fault, so that no other is possible
+or_same : (problem : List ℕ) (question : Question) (budget : ℕ) (s other : Status) (text : List ℕ) → IsConclusion problem question budget s text → s ≡ other → IsOr other s
+or_same problem question budget s other text (no_system fault h m) e = e
+or_same problem question budget s other text (concluded named says c alone) e = e
 
 -- ---- texts that are told
 
@@ -92,9 +90,10 @@ module _ (shelf : ShelfMeaning) (question : Question) (p : List ℕ) (workers bu
     conclusion_only s text h other defined (answered asked limit problem f found) =
         let same = same_of asked limit problem f in
         let is : v ≡ problem = told_is shelf p v problem may_be (told_of asked limit problem f) in
-        one_conclusion v question budget s other text defined h
+        or_same v question budget s other text h
+        (one_conclusion v question budget s other text defined h
         (subst (λ z. IsConclusion z question budget other defined) (sym is) (subst (λ b. IsConclusion problem question b other defined) (sym same.budgets)
-        (subst (λ q. IsConclusion problem q limit other defined) (sym same.questions) found)))
+        (subst (λ q. IsConclusion problem q limit other defined) (sym same.questions) found))))
 
 -- ---- names that are touched
 

@@ -2,14 +2,10 @@
 use Rattle.std.proofs.Common.{◌≡◌, ◌++◌, ◌∷◌, [], ℕ, List, Option, inl, inr, refl, sym, ap, subst, ◌∙◌, append_assoc, codes, decimal, length}
 use Rattle.io_edge.specs.Shelf.{ShelfMeaning, MayBe}
 use Rattle.io_edge.specs.Sink.{SinkMeaning, AppendsTo}
-use Rattle.sexp_core.specs.Items.{Items, no_items, item}
-use Rattle.conclusion.specs.cert_text.CertificateText.{certificate_items, version_two_items}
-use Rattle.sexp_core.specs.Printed.{text_of, lines}
+use Rattle.conclusion.specs.cert_text.CertificateText.{version_two_items}
+use Rattle.sexp_core.specs.Printed.{lines}
 use Rattle.ari_text.specs.Problem.{SaysSystem}
-use Rattle.sexp_core.specs.Items.{items_of}
-use Rattle.conclusion.specs.ProofOf.{proof_of, Proves}
-use Rattle.conclusion.specs.report_text.GoalLines.{goal_items, goal_words}
-use Rattle.conclusion.specs.tree_definitions.declared.question.Question as tree
+use Rattle.conclusion.specs.ProofOf.{Proves}
 use Rattle.conclusion.specs.Concludes.{Concludes, proved, maybe, proof_lines}
 use Rattle.dp_core.specs.PlacedPairs.{placed_pairs}
 use Rattle.sampling.specs.Family.{sample}
@@ -26,27 +22,18 @@ use Rattle.conclusion.specs.cert_text.ProofText.{ProofText}
 use Rattle.names_text.specs.Named.{NamedSystem}
 use Rattle.command_line.specs.Request.{Asked}
 use Rattle.command_line.specs.declared.Wanted.{Wanted}
-use Rattle.trsprove.specs.declared.status.Status.{Status}
-use Rattle.trsprove.specs.declared.status.Status.TheVariants as status
-use Rattle.trsprove.specs.Numbers.{fields_text}
+use Rattle.program_edge.specs.declared.status.Status.{Status}
+use Rattle.program_edge.specs.declared.status.Status.TheVariants as status
+use Rattle.program_edge.specs.Numbers.{fields_text}
+use Rattle.program_edge.proofs.Ends.{behind_front, lines_end, conclusion_ends}
 use Rattle.trsprove.specs.Lines.{accepted_line, rejected_line, rejected_words, rejected_numbers, rejected_fields}
-use Rattle.trsprove.specs.LinePuts.{EndsLine, IsPutByLine}
-use Rattle.trsprove.specs.Output.{IsWritten, with_claim, in_version_two, too_heavy, Verdict, refused, rejected, accepted, Output, usage, too_long, decided, answered, sampled, AreFetched, IsAsked, IsAnswer, GivesVerdict, Writes, IsTrueAnswer, by_certificate, by_proof, by_report, by_sample}
-use Rattle.trsprove.specs.Conclusions.{IsConclusion, no_system, concluded, question_of}
+use Rattle.program_edge.specs.LinePuts.{EndsLine, IsPutByLine}
+use Rattle.trsprove.specs.Output.{Output, usage, too_long, decided, answered, sampled, AreFetched, IsAsked, IsAnswer, GivesVerdict, Writes}
+use Rattle.trsprove.specs.Verdicts.{IsWritten, with_claim, in_version_two, too_heavy, Verdict, refused, rejected, accepted}
+use Rattle.trsprove.specs.Truth.{IsTrueAnswer, by_certificate, by_proof, by_report, by_sample}
+use Rattle.program_edge.specs.Conclusions.{IsConclusion, no_system, concluded, question_of}
 
 -- ---- a verdict ends with a line feed
-
-behind_front : (front text : List ℕ) → EndsLine text → EndsLine (front ++ text)
-behind_front front text (rest, is) = (front ++ rest, ap (λ t. front ++ t) is ∙ sym (append_assoc front rest (10 ∷ [])))
-
-abbrev HasItems : Items → Type 0
-HasItems no_items = ⊥
-HasItems (item x xs) = Unit {0}
-
-lines_end : (xs : Items) → HasItems xs → EndsLine (lines xs)
-lines_end no_items h = absurd h
-lines_end (item x no_items) h = (text_of x, refl)
-lines_end (item x (item y xs)) h = behind_front (text_of x) (10 ∷ lines (item y xs)) (behind_front (10 ∷ []) (lines (item y xs)) (lines_end (item y xs) tt))
 
 claim_ends : (claim : Claim) → EndsLine (accepted_line claim)
 claim_ends Terminating = (codes "ACCEPTED terminating", refl)
@@ -71,20 +58,6 @@ verdict_ends problem certificate wanted s text (refused fault h m) (inr e) = abs
 verdict_ends problem certificate wanted s text (rejected reason h p m) judges = rejected_ends reason
 verdict_ends problem certificate wanted s text (accepted named says a w) judges = written_ends named says wanted s text w
 
--- the line `MAYBE` with other lines behind it
-maybe_ends : (xs : Items) → EndsLine (codes "MAYBE\n" ++ lines xs)
-maybe_ends no_items = (codes "MAYBE", refl)
-maybe_ends (item x xs) = behind_front (codes "MAYBE\n") (lines (item x xs)) (lines_end (item x xs) tt)
-
-concluded_ends : (named : NamedSystem) (question : tree.Question) (budget : ℕ) (text : List ℕ) → Concludes named question budget text → EndsLine text
-concluded_ends named question budget text (proved claim steps goal proves) = lines_end (certificate_items named (proof_of claim steps)) tt
-concluded_ends named question budget text (maybe parts is_true) = maybe_ends (items_of (goal_items named (goal_words question) parts))
-
-conclusion_ends : (problem : List ℕ) (question : Question) (budget : ℕ) (s : Status) (text : List ℕ) → IsConclusion problem question budget s text → GivesVerdict s → EndsLine text
-conclusion_ends problem question budget s text (no_system fault h m) (inl e) = absurd cc
-conclusion_ends problem question budget s text (no_system fault h m) (inr e) = absurd cc
-conclusion_ends problem question budget s text (concluded named says c alone) gives = concluded_ends named (question_of question) budget text c
-
 judgement_ends : (judgement : Judgement) → EndsLine (judgement_word judgement)
 judgement_ends Proved = (codes " proved", refl)
 judgement_ends Refuted = (codes " refuted", refl)
@@ -99,6 +72,10 @@ sample_ends size budget line (judged judgement is_true serial) =
     (behind_front (codes " pairs ") (pairs ++ judgement_word judgement)
     (behind_front pairs (judgement_word judgement) (judgement_ends judgement))))
 
+never_rejected : (problem : List ℕ) (question : Question) (budget : ℕ) (s : Status) (text : List ℕ) → IsConclusion problem question budget s text → s ≡ status.Rejected → ⊥
+never_rejected problem question budget s text (no_system fault h m) e = cc
+never_rejected problem question budget s text (concluded named says c alone) e = cc
+
 output_ends : (request : Option Asked) (under : List ℕ → List ℕ → Type 0) (s : Status) (text : List ℕ) → Output request under s text → GivesVerdict s → EndsLine text
 output_ends request under s text (usage none) (inl e) = absurd cc
 output_ends request under s text (usage none) (inr e) = absurd cc
@@ -106,7 +83,8 @@ output_ends request under s text (too_long name limit needed long) (inl e) = abs
 output_ends request under s text (too_long name limit needed long) (inr e) = absurd cc
 output_ends request under s text (decided wanted problem certificate fetched verdict) judges = verdict_ends problem certificate wanted s text verdict judges
 output_ends request under s text (sampled size workers budget asks line) judges = sample_ends size budget text line
-output_ends request under s text (answered question budget problem asked conclusion) judges = conclusion_ends problem question budget s text conclusion judges
+output_ends request under s text (answered question budget problem asked conclusion) (inl e) = conclusion_ends problem question budget s text conclusion e
+output_ends request under s text (answered question budget problem asked conclusion) (inr e) = absurd (never_rejected problem question budget s text conclusion e)
 
 module _ (request : Option Asked) (before now : ShelfMeaning) where
   output_of : (s : Status) (text : List ℕ) → IsAnswer request before now s text → GivesVerdict s → Output request (MayBe before) s text

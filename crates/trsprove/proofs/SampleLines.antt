@@ -3,9 +3,10 @@ use Rattle.std.proofs.Common.{◌≡◌, inl, ℕ, List, Option, Some, Result, O
 use Rattle.io_edge.specs.Shelf.{ShelfMeaning, Told}
 use Rattle.command_line.specs.Request.{Asked, certifies, proves, samples}
 use Rattle.sampling.specs.Line.{IsSampleLine}
-use Rattle.trsprove.specs.declared.status.Status.{Status}
-use Rattle.trsprove.specs.declared.status.Status.TheVariants as status
-use Rattle.trsprove.specs.Output.{usage, too_long, decided, answered, sampled, IsNeeded, as_problem, as_certificate, as_question, IsWithin, IsAnswer, AnswersOnly, TouchesOnlyNeeded, most_problem_bytes}
+use Rattle.program_edge.specs.declared.status.Status.{Status}
+use Rattle.program_edge.specs.declared.status.Status.TheVariants as status
+use Rattle.trsprove.specs.Output.{usage, too_long, decided, answered, sampled, IsNeeded, as_problem, as_certificate, as_question, IsWithin, IsAnswer, AnswersOnly, TouchesOnlyNeeded}
+use Rattle.program_edge.specs.Fetching.{most_problem_bytes}
 
 module _ (request : Option Asked) (size workers budget : ℕ) (asks : request ≡ Some (samples size workers budget)) where
   -- the line is the answer

@@ -1,8 +1,6 @@
-pub mod Numbers
 pub mod Lines
-pub mod Puts
-pub mod LinePuts
-pub mod Conclusions
+pub mod Verdicts
 pub mod Output
+pub mod Truth
 pub mod Answers
 pub mod Run

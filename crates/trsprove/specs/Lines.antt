@@ -1,14 +1,11 @@
 -- The lines that the program writes.
 use Rattle.std.specs.Prelude.{ℕ, List, [], ◌∷◌, ◌++◌, codes}
-use Rattle.ari_text.specs.declared.fault.AriFault.{AriFault}
-use Rattle.ari_text.specs.Least.{number_of_fault}
-use Rattle.ari_text.specs.FaultParts.{text_number_of, shown_place}
 use Rattle.rewrite_core.specs.RefusalNumbers.{refusal_number, refusal_fields}
 use Rattle.conclusion.specs.cert_step.declared.claim.Claim.{Claim}
 use Rattle.conclusion.specs.cert_step.declared.claim.Claim.TheVariants.{Terminating, Nonterminating, Confluent, Nonconfluent, Unique, Nonunique}
 use Rattle.certifier.specs.declared.rejected.Rejected.{Rejected}
 use Rattle.certifier.specs.declared.rejected.Rejected.TheVariants as why
-use Rattle.trsprove.specs.Numbers.{fields_text, listed}
+use Rattle.program_edge.specs.Numbers.{fields_text}
 
 abbrev pub usage_line : List ℕ
 usage_line = codes "usage: trsprove <action> <problem> [certificate] [--workers N] [--budget B]\n"
@@ -56,16 +53,3 @@ rejected_line r = (rejected_words r ++ fields_text (rejected_numbers r)) ++ (fie
 -- the line of a certificate that is accepted, and weighs too much in version 2
 abbrev pub too_heavy_line : List ℕ
 too_heavy_line = codes "REJECTED too-heavy\n"
-
--- the number of a fault of a problem text, that of a text fault, and its place, if it has one
-abbrev pub problem_fields : AriFault → List ℕ
-problem_fields f = number_of_fault f ∷ (listed (text_number_of f) ++ listed (shown_place f))
-
-abbrev pub refused_line : AriFault → List ℕ
-refused_line f = codes "problem refused" ++ (fields_text (problem_fields f) ++ 10 ∷ [])
-
-abbrev pub read_fault_line : List ℕ → List ℕ
-read_fault_line name = codes "read fault " ++ (name ++ 10 ∷ [])
-
-abbrev pub too_long_line : List ℕ → List ℕ
-too_long_line name = codes "too long " ++ (name ++ 10 ∷ [])

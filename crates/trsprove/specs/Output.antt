@@ -1,64 +1,24 @@
 -- What the program answers: a status and a text, by what its words ask for and by the texts under their names.
-use Rattle.std.specs.Prelude.{◌≡◌, ◌≢◌, ◌⊎◌, ◌<◌, ◌≤◌, ℕ, true, false, List, map, Option, Some, None, length}
+use Rattle.std.specs.Prelude.{◌≡◌, ◌⊎◌, ◌<◌, ◌≤◌, ℕ, List, map, Option, Some, None, length}
 use denote.Ref.{Bor}
 use Rattle.io_edge.specs.Shelf.{ShelfMeaning, Told, MayBe, MayPass, FaultRose, ReadPast, IsUntouched}
 use Rattle.io_edge.specs.Sink.{SinkMeaning, AppendsTo, AppendsPrefix}
-use Rattle.trs_defs.specs.Member.{In}
-use Rattle.sexp_core.specs.Printed.{lines}
-use Rattle.names_text.specs.Named.{NamedSystem}
-use Rattle.ari_text.specs.Problem.{SaysSystem, IsProblemRefused}
-use Rattle.ari_text.specs.declared.fault.AriFault.{AriFault}
-use Rattle.ari_text.specs.declared.fault.AriFault.TheVariants as ari
-use Rattle.conclusion.specs.cert_step.declared.claim.Claim.{Claim}
-use Rattle.conclusion.specs.cert_step.ProofProblem.{Says}
-use Rattle.conclusion.specs.cert_text.ProofText.{ProofText}
-use Rattle.conclusion.specs.cert_text.CertificateText.{version_two_items, fits_two}
-use Rattle.certifier.specs.declared.rejected.Rejected.{Rejected}
-use Rattle.certifier.specs.declared.rejected.Rejected.TheVariants as why
-use Rattle.certifier.specs.Acceptance.{IsAcceptance, IsAcceptedAs, IsRejection}
-use Rattle.conclusion.specs.tree_definitions.Questions.{claims}
-use Rattle.conclusion.specs.tree_definitions.Reports.{Part, IsTrueReport}
-use Rattle.conclusion.specs.Concludes.{maybe_text}
 use Rattle.sampling.specs.Line.{IsSampleLine}
 use Rattle.command_line.specs.Request.{Asked, certifies, proves, samples}
 use Rattle.command_line.specs.declared.Question.{Question}
 use Rattle.command_line.specs.declared.Wanted.{Wanted}
-use Rattle.command_line.specs.declared.Wanted.TheVariants as want
-use Rattle.trsprove.specs.declared.status.Status.{Status}
-use Rattle.trsprove.specs.declared.status.Status.TheVariants as status
-use Rattle.trsprove.specs.Lines.{usage_line, accepted_line, rejected_line, too_heavy_line, refused_line, too_long_line, read_fault_line}
-use Rattle.trsprove.specs.LinePuts.{IsPutByLine, IsFrontPutByLine}
-use Rattle.trsprove.specs.Conclusions.{question_of, IsConclusion}
+use Rattle.program_edge.specs.declared.status.Status.{Status}
+use Rattle.program_edge.specs.declared.status.Status.TheVariants as status
+use Rattle.program_edge.specs.Lines.{too_long_line, read_fault_line}
+use Rattle.program_edge.specs.LinePuts.{IsPutByLine, IsFrontPutByLine}
+use Rattle.program_edge.specs.Fetching.{most_problem_bytes}
+use Rattle.program_edge.specs.Conclusions.{IsConclusion}
+use Rattle.trsprove.specs.Lines.{usage_line}
+use Rattle.trsprove.specs.Verdicts.{Verdict, most_certificate_bytes}
 
 -- the words as texts
 abbrev pub texts : List (Bor (List ℕ)) → List (List ℕ)
 texts words = map (λ w. w.now) words
-
--- the most bytes of a problem text, and of a certificate text
-abbrev pub most_problem_bytes : ℕ
-most_problem_bytes = 1048576
-
-abbrev pub most_certificate_bytes : ℕ
-most_certificate_bytes = 8388608
-
--- what is written of a certificate that is accepted, by what is wanted of it, with the status
-pub data IsWritten (named : NamedSystem) (says : ProofText) : Wanted → Status → List ℕ → Type 0 where
-  with_claim : IsWritten named says want.Claim status.Answered (accepted_line says.claim)
-  in_version_two : fits_two says ≡ true
-      → IsWritten named says want.VersionTwo status.Answered (lines (version_two_items named says))
-  too_heavy : fits_two says ≡ false → IsWritten named says want.VersionTwo status.Rejected too_heavy_line
-
--- what is answered for a problem text and a certificate text, by what is wanted of a certificate that is accepted: a status,
--- and the text that is written
-pub data Verdict (problem certificate : List ℕ) (wanted : Wanted) : Status → List ℕ → Type 0 where
-  refused : (fault : AriFault) → IsProblemRefused problem fault → fault ≢ ari.OutOfMemory
-      → Verdict problem certificate wanted status.Refused (refused_line fault)
-  rejected : (reason : Rejected) → IsRejection problem certificate reason
-      → ((fault : AriFault) → reason ≢ why.Problem fault) → reason ≢ why.OutOfMemory
-      → Verdict problem certificate wanted status.Rejected (rejected_line reason)
-  accepted : {s : Status} {text : List ℕ} (named : NamedSystem) (says : ProofText)
-      → IsAcceptedAs problem certificate named says → IsWritten named says wanted s text
-      → Verdict problem certificate wanted s text
 
 -- it is asked to certify the text under a name for the problem under another, and to write what is wanted of it, and these
 -- are texts under them
@@ -142,67 +102,6 @@ Writes request before now s taken later = (text : List ℕ)
     × IsAnswer request before now s text × AppendsTo taken text later
     × (GivesVerdict s → IsPutByLine taken text later)
 
--- what is written of a certificate that is accepted
-abbrev pub accepted_text : Wanted → NamedSystem → ProofText → List ℕ
-accepted_text want.Claim named says = accepted_line says.claim
-accepted_text want.VersionTwo named says = lines (version_two_items named says)
-
--- a certificate was accepted, and its claim is true of the system that the problem text says
-pub record IsTrueAcceptance (request : Option Asked) (before : ShelfMeaning) (taken later : SinkMeaning) : Type 0 where
-  pub wanted : Wanted
-  pub problem : List ℕ
-  pub certificate : List ℕ
-  pub named : NamedSystem
-  pub says : ProofText
-  pub fetched : AreFetched request wanted (MayBe before) problem certificate
-  pub acceptance : IsAcceptedAs problem certificate named says
-  pub truth : Says named.system says.claim
-  pub written : AppendsTo taken (accepted_text wanted named says) later
-
--- what was written is a certificate that is accepted for the problem text, of a claim that a goal of the question has, and the
--- claim is true of the system
-pub record IsTrueProof (request : Option Asked) (before : ShelfMeaning) (taken later : SinkMeaning) : Type 0 where
-  pub question : Question
-  pub budget : ℕ
-  pub problem : List ℕ
-  pub text : List ℕ
-  pub named : NamedSystem
-  pub claim : Claim
-  pub asked : IsAsked request question budget (MayBe before) problem
-  pub goal : In claim (claims (question_of question))
-  pub acceptance : IsAcceptance problem text claim named
-  pub truth : Says named.system claim
-  pub written : AppendsTo taken text later
-
--- a report was written, and it is true of the system that the problem text says
-pub record IsTrueMaybe (request : Option Asked) (before : ShelfMeaning) (taken later : SinkMeaning) : Type 0 where
-  pub question : Question
-  pub budget : ℕ
-  pub problem : List ℕ
-  pub named : NamedSystem
-  pub parts : List Part
-  pub asked : IsAsked request question budget (MayBe before) problem
-  pub problem_says : SaysSystem problem named
-  pub truth : IsTrueReport named.system (question_of question) budget parts
-  pub written : AppendsTo taken (maybe_text named (question_of question) parts) later
-
--- the line of a sample system was written, and it is true of that system
-pub record IsTrueSample (request : Option Asked) (taken later : SinkMeaning) : Type 0 where
-  pub size : ℕ
-  pub workers : ℕ
-  pub budget : ℕ
-  pub line : List ℕ
-  pub asked : request ≡ Some (samples size workers budget)
-  pub truth : IsSampleLine size budget line
-  pub written : AppendsTo taken line later
-
--- what was written is true
-pub data IsTrueAnswer (request : Option Asked) (before : ShelfMeaning) (taken later : SinkMeaning) : Type 0 where
-  by_certificate : IsTrueAcceptance request before taken later → IsTrueAnswer request before taken later
-  by_proof : IsTrueProof request before taken later → IsTrueAnswer request before taken later
-  by_report : IsTrueMaybe request before taken later → IsTrueAnswer request before taken later
-  by_sample : IsTrueSample request taken later → IsTrueAnswer request before taken later
-
 -- this status, unless a fault or want of memory came
 abbrev pub IsOr : Status → Status → Type 0
 IsOr wanted status.ReadFault = Unit {0}
@@ -218,13 +117,3 @@ AnswersOnly request shelf s = (wanted : Status) (text : List ℕ) → Output req
 abbrev pub TouchesOnlyNeeded : Option Asked → ShelfMeaning → ShelfMeaning → Type 0
 TouchesOnlyNeeded request before now =
     (name : List ℕ) → IsUntouched before now name ⊎ ((limit : ℕ) × IsNeeded request (WasFetched before now) name limit)
-
-abbrev pub code_of : Status → ℕ
-code_of status.Answered = 0
-code_of status.Rejected = 1
-code_of status.Usage = 2
-code_of status.Refused = 3
-code_of status.ReadFault = 4
-code_of status.WriteFault = 5
-code_of status.OutOfMemory = 6
-code_of status.TooLong = 7

@@ -8,9 +8,11 @@ use Rattle.io_edge.specs.Edge.{Rose}
 use Rattle.io_edge.specs.Shelf.{ShelfMeaning}
 use Rattle.io_edge.specs.Sink.{SinkMeaning}
 use Rattle.command_line.specs.Request.{Asked, request_of}
-use Rattle.trsprove.specs.declared.status.Status.{Status}
-use Rattle.trsprove.specs.declared.status.Status.TheVariants as status
-use Rattle.trsprove.specs.Output.{Writes, AnswersOnly, IsTrueAnswer, TouchesOnlyNeeded, code_of}
+use Rattle.program_edge.specs.declared.status.Status.{Status}
+use Rattle.program_edge.specs.declared.status.Status.TheVariants as status
+use Rattle.trsprove.specs.Output.{Writes, AnswersOnly, TouchesOnlyNeeded}
+use Rattle.trsprove.specs.Truth.{IsTrueAnswer}
+use Rattle.program_edge.specs.Statuses.{code_of}
 
 -- the clauses of `run`
 pub record IsRun (request : Option Asked) (before now : ShelfMeaning) (s : Status) (taken later : SinkMeaning) : Type 0 where

@@ -1,5 +1,5 @@
 ghost use Rattle.std.specs.Prelude.{◌≡◌, ◌++◌, ◌∷◌, [], IfOk, OnOk};
-ghost use Rattle.trsprove.specs.Numbers.{fields_text};
+ghost use Rattle.program_edge.specs.Numbers.{fields_text};
 ghost use Rattle.trsprove.specs.Lines.{accepted_line, rejected_words, rejected_numbers, rejected_fields, rejected_line};
 
 use certifier::{Claim, Rejected};

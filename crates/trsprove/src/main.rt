@@ -4,13 +4,11 @@
 mod answer;
 mod arguments;
 mod asking;
+mod certifying;
 mod lines;
-mod pieces;
 mod report;
 mod run;
 mod samples;
-mod status;
-mod words;
 
 use crate::arguments::run_arguments;
 use io_edge::{FileShelf, StdSink};

@@ -1,12 +1,13 @@
 ghost use Rattle.std.specs.Prelude.{◌≡◌};
 ghost use Rattle.io_edge.specs.Edge.{Rose};
 ghost use Rattle.command_line.specs.Request.{request_of};
-ghost use Rattle.trsprove.specs.Output.{texts, Writes, AnswersOnly, IsTrueAnswer, TouchesOnlyNeeded};
+ghost use Rattle.trsprove.specs.Output.{texts, Writes, AnswersOnly, TouchesOnlyNeeded};
+ghost use Rattle.trsprove.specs.Truth.{IsTrueAnswer};
 
 use crate::answer::answer_for;
 use crate::report::put_answer;
-use crate::status::Status;
 use io_edge::{Shelf, Sink, SinkFailed};
+use program_edge::Status;
 use std::alloc::Global;
 
 /// Runs the program: reads what the words ask for, fetches the texts, and writes the answer. The

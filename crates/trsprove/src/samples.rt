@@ -4,7 +4,7 @@ ghost use Rattle.sampling.specs.Line.{IsSampleLine};
 ghost use Rattle.trsprove.specs.Answers.{status_of, text_of};
 
 use crate::answer::Answer;
-use crate::status::Status;
+use program_edge::Status;
 use sampling::sample_line;
 use std::alloc::{AllocError, Global};
 
@@ -15,7 +15,7 @@ pub(crate) fn sampled<'a>(alloc: Global, size: u32, budget: u64) -> Result<Answe
     ensures line { IfOk result (λ a. IsSampleLine size budget (text_of a)) }
 {
     match sample_line(alloc, size, budget) {
-        Ok(line) => Ok(Answer::Concluded(line)),
+        Ok(line) => Ok(Answer::Answered(line)),
         Err(_) => Err(AllocError),
     }
 }

@@ -1,5 +1,5 @@
 use Rattle.std.proofs.Common.{sym, subst}
-use Rattle.trsprove.specs.Puts.{Puts, PutsLines}
+use Rattle.program_edge.specs.Puts.{Puts, PutsLines}
 use Rattle.trsprove.specs.Answers.{text_of}
 use Rattle.trsprove.proofs.report.put_answer.Goals as goal
 

@@ -1,0 +1,4 @@
+pub mod Putting
+pub mod PuttingLines
+pub mod Ends
+pub mod OneConclusion

@@ -1,0 +1,7 @@
+pub mod Statuses
+pub mod Numbers
+pub mod Lines
+pub mod Puts
+pub mod LinePuts
+pub mod Fetching
+pub mod Conclusions

@@ -1,0 +1,14 @@
+-- The exit codes.
+use Rattle.std.specs.Prelude.{ℕ}
+use Rattle.program_edge.specs.declared.status.Status.{Status}
+use Rattle.program_edge.specs.declared.status.Status.TheVariants as status
+
+abbrev pub code_of : Status → ℕ
+code_of status.Answered = 0
+code_of status.Rejected = 1
+code_of status.Usage = 2
+code_of status.Refused = 3
+code_of status.ReadFault = 4
+code_of status.WriteFault = 5
+code_of status.OutOfMemory = 6
+code_of status.TooLong = 7

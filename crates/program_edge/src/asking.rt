@@ -1,0 +1,78 @@
+//! Questions about the system of a problem text, which a search for proofs answers.
+ghost use Rattle.std.specs.Prelude.{◌≡◌, ◌≤◌, ℕ, List, IfOk, length};
+ghost use Rattle.ari_text.specs.Problem.{SaysSystem};
+ghost use Rattle.program_edge.specs.Conclusions.{question_of as question_of_tree, IsConclusion, conclusion_status, conclusion_text};
+ghost use Rattle.program_edge.specs.Fetching.{most_problem_bytes};
+
+use crate::status::Status;
+use ari_text::{AriFault, read_problem};
+use command_line::Question;
+use conclusion::answer_question;
+use names_text::NamedTrs;
+use std::alloc::{AllocError, Global};
+
+/// What is answered to a question about a problem text.
+#[derive(Drop)]
+pub enum Conclusion {
+    /// The text that answers it: a certificate, or a report.
+    Concluded(Vec<u8>),
+    /// The problem text has no system.
+    Refused(AriFault),
+}
+
+impl Conclusion {
+    pub fn status(&self) -> Status
+        ensures { result ≡ conclusion_status self.now }
+    {
+        match self {
+            Conclusion::Concluded(_) => Status::Answered,
+            Conclusion::Refused(_) => Status::Refused,
+        }
+    }
+}
+
+/// Answers a question about the system of a problem text, by the searches of one worker within a
+/// budget.
+pub fn conclude(
+    alloc: Global,
+    problem: &[u8],
+    question: Question,
+    budget: u64,
+) -> Result<Conclusion, AllocError>
+    requires { length problem.now ≤ most_problem_bytes }
+    ensures { IfOk result (λ c.
+        IsConclusion problem.now question budget (conclusion_status c) (conclusion_text c)) }
+{
+    match read_problem(alloc, problem) {
+        Ok(system) => answered(alloc, &system, question, budget),
+        Err(AriFault::OutOfMemory) => Err(AllocError),
+        Err(fault) => Ok(Conclusion::Refused(fault)),
+    }
+}
+
+// The answer to a question about a system, for each text that says it.
+fn answered(
+    alloc: Global,
+    system: &NamedTrs,
+    question: Question,
+    budget: u64,
+) -> Result<Conclusion, AllocError>
+    ensures { (problem : List ℕ) → SaysSystem problem system.now → IfOk result (λ c.
+        IsConclusion problem question budget (conclusion_status c) (conclusion_text c)) }
+{
+    match answer_question(alloc, system, question_of(question), budget) {
+        Ok(text) => Ok(Conclusion::Concluded(text)),
+        Err(_) => Err(AllocError),
+    }
+}
+
+// The question of the proof tree.
+fn question_of(question: Question) -> conclusion::Question
+    ensures { result ≡ question_of_tree question }
+{
+    match question {
+        Question::Termination => conclusion::Question::Termination,
+        Question::Confluence => conclusion::Question::Confluence,
+        Question::Unique => conclusion::Question::Unique,
+    }
+}

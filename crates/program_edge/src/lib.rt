@@ -1,0 +1,18 @@
+//! What both programs do at their edge. They end with a status; they put lines into a sink, those
+//! that name a fault among them; they take the words of a host; and they answer a question about a
+//! problem text.
+#![tactic(auto)]
+
+mod asking;
+mod fetching;
+mod lines;
+mod pieces;
+mod status;
+mod words;
+
+pub use asking::{Conclusion, conclude};
+pub use fetching::{MOST_PROBLEM_BYTES, Unfetched, unfetched};
+pub use lines::{put_read_fault, put_refused, put_too_long};
+pub use pieces::{put_fields, put_line, put_lines, put_one};
+pub use status::Status;
+pub use words::words_of;

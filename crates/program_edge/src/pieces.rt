@@ -1,0 +1,70 @@
+ghost use Rattle.std.specs.Prelude.{◌++◌, ◌∷◌, [], decimal};
+ghost use Rattle.io_edge.specs.Sink.{SinkMeaning, IsOnePut};
+ghost use Rattle.program_edge.specs.Puts.{Puts, PutsLines};
+ghost use Rattle.program_edge.specs.LinePuts.{EndsLine};
+ghost use Rattle.program_edge.specs.Numbers.{fields_text};
+
+use io_edge::{Sink, SinkFailed};
+use itoa::Buffer;
+
+/// Puts one piece.
+pub fn put_one<K: Sink>(out: &mut K, piece: &[u8]) -> Result<(), SinkFailed>
+    ensures puts { Puts result (K.means out.old) piece.now (K.means out.new) }
+    ensures put { IsOnePut (K.means out.old) (K.means out.new) }
+{
+    out.put(piece)
+}
+
+/// Puts the lines of a text, one after the other.
+pub fn put_lines<K: Sink>(out: &mut K, text: &[u8]) -> Result<(), SinkFailed>
+    requires { EndsLine text.now }
+    ensures puts { Puts result (K.means out.old) text.now (K.means out.new) }
+    ensures lines { PutsLines result (K.means out.old) text.now (K.means out.new) }
+{
+    let mut start = 0;
+    for (i, byte) in text.iter().enumerate() {
+        if *byte == b'\n' {
+            put_one(out, &text[start..i + 1])?;
+            start = i + 1;
+        }
+    }
+    Ok(())
+}
+
+// Puts two pieces, one behind the other.
+fn put_both<K: Sink>(out: &mut K, first: &[u8], second: &[u8]) -> Result<(), SinkFailed>
+    ensures { Puts result (K.means out.old) (first.now ++ second.now) (K.means out.new) }
+{
+    put_one(out, first)?;
+    put_one(out, second)
+}
+
+/// Puts words, a name and a line feed.
+pub fn put_line<K: Sink>(out: &mut K, words: &[u8], name: &str) -> Result<(), SinkFailed>
+    ensures { Puts result (K.means out.old) (words.now ++ (name.now ++ 10 ∷ []))
+        (K.means out.new) }
+{
+    put_one(out, words)?;
+    put_both(out, name.as_bytes(), b"\n")
+}
+
+// Puts a blank and a number.
+fn put_number<K: Sink>(out: &mut K, number: u64) -> Result<(), SinkFailed>
+    ensures { Puts result (K.means out.old) (32 ∷ decimal number) (K.means out.new) }
+{
+    let mut buffer = Buffer::new();
+    put_both(out, b" ", buffer.format(number).as_bytes())
+}
+
+/// Puts numbers, with a blank before each.
+pub fn put_fields<K: Sink>(out: &mut K, fields: &[u64]) -> Result<(), SinkFailed>
+    ensures { Puts result (K.means out.old) (fields_text fields.now) (K.means out.new) }
+{
+    match fields.split_first() {
+        None => Ok(()),
+        Some((number, rest)) => {
+            put_number(out, *number)?;
+            put_fields(out, rest)
+        }
+    }
+}

@@ -1,0 +1,85 @@
+-- What is written is true.
+use Rattle.std.specs.Prelude.{◌≡◌, ℕ, List, Option, Some}
+use Rattle.io_edge.specs.Shelf.{ShelfMeaning, MayBe}
+use Rattle.io_edge.specs.Sink.{SinkMeaning, AppendsTo}
+use Rattle.trs_defs.specs.Member.{In}
+use Rattle.sexp_core.specs.Printed.{lines}
+use Rattle.names_text.specs.Named.{NamedSystem}
+use Rattle.ari_text.specs.Problem.{SaysSystem}
+use Rattle.conclusion.specs.cert_step.declared.claim.Claim.{Claim}
+use Rattle.conclusion.specs.cert_step.ProofProblem.{Says}
+use Rattle.conclusion.specs.cert_text.ProofText.{ProofText}
+use Rattle.conclusion.specs.cert_text.CertificateText.{version_two_items}
+use Rattle.certifier.specs.Acceptance.{IsAcceptance, IsAcceptedAs}
+use Rattle.conclusion.specs.tree_definitions.Questions.{claims}
+use Rattle.conclusion.specs.tree_definitions.Reports.{Part, IsTrueReport}
+use Rattle.conclusion.specs.Concludes.{maybe_text}
+use Rattle.sampling.specs.Line.{IsSampleLine}
+use Rattle.command_line.specs.Request.{Asked, samples}
+use Rattle.command_line.specs.declared.Question.{Question}
+use Rattle.command_line.specs.declared.Wanted.{Wanted}
+use Rattle.command_line.specs.declared.Wanted.TheVariants as want
+use Rattle.program_edge.specs.Conclusions.{question_of}
+use Rattle.trsprove.specs.Lines.{accepted_line}
+use Rattle.trsprove.specs.Output.{AreFetched, IsAsked}
+
+-- what is written of a certificate that is accepted
+abbrev pub accepted_text : Wanted → NamedSystem → ProofText → List ℕ
+accepted_text want.Claim named says = accepted_line says.claim
+accepted_text want.VersionTwo named says = lines (version_two_items named says)
+
+-- a certificate was accepted, and its claim is true of the system that the problem text says
+pub record IsTrueAcceptance (request : Option Asked) (before : ShelfMeaning) (taken later : SinkMeaning) : Type 0 where
+  pub wanted : Wanted
+  pub problem : List ℕ
+  pub certificate : List ℕ
+  pub named : NamedSystem
+  pub says : ProofText
+  pub fetched : AreFetched request wanted (MayBe before) problem certificate
+  pub acceptance : IsAcceptedAs problem certificate named says
+  pub truth : Says named.system says.claim
+  pub written : AppendsTo taken (accepted_text wanted named says) later
+
+-- what was written is a certificate that is accepted for the problem text, of a claim that a goal of the question has, and the
+-- claim is true of the system
+pub record IsTrueProof (request : Option Asked) (before : ShelfMeaning) (taken later : SinkMeaning) : Type 0 where
+  pub question : Question
+  pub budget : ℕ
+  pub problem : List ℕ
+  pub text : List ℕ
+  pub named : NamedSystem
+  pub claim : Claim
+  pub asked : IsAsked request question budget (MayBe before) problem
+  pub goal : In claim (claims (question_of question))
+  pub acceptance : IsAcceptance problem text claim named
+  pub truth : Says named.system claim
+  pub written : AppendsTo taken text later
+
+-- a report was written, and it is true of the system that the problem text says
+pub record IsTrueMaybe (request : Option Asked) (before : ShelfMeaning) (taken later : SinkMeaning) : Type 0 where
+  pub question : Question
+  pub budget : ℕ
+  pub problem : List ℕ
+  pub named : NamedSystem
+  pub parts : List Part
+  pub asked : IsAsked request question budget (MayBe before) problem
+  pub problem_says : SaysSystem problem named
+  pub truth : IsTrueReport named.system (question_of question) budget parts
+  pub written : AppendsTo taken (maybe_text named (question_of question) parts) later
+
+-- the line of a sample system was written, and it is true of that system
+pub record IsTrueSample (request : Option Asked) (taken later : SinkMeaning) : Type 0 where
+  pub size : ℕ
+  pub workers : ℕ
+  pub budget : ℕ
+  pub line : List ℕ
+  pub asked : request ≡ Some (samples size workers budget)
+  pub truth : IsSampleLine size budget line
+  pub written : AppendsTo taken line later
+
+-- what was written is true
+pub data IsTrueAnswer (request : Option Asked) (before : ShelfMeaning) (taken later : SinkMeaning) : Type 0 where
+  by_certificate : IsTrueAcceptance request before taken later → IsTrueAnswer request before taken later
+  by_proof : IsTrueProof request before taken later → IsTrueAnswer request before taken later
+  by_report : IsTrueMaybe request before taken later → IsTrueAnswer request before taken later
+  by_sample : IsTrueSample request taken later → IsTrueAnswer request before taken later
