@@ -14,40 +14,51 @@ use Rattle.report_text.specs.tree_definitions.Trees.{ProofTree}
 use Rattle.report_text.specs.tree_definitions.Verdicts.{HasVerdict}
 use Rattle.report_text.specs.tree_definitions.Replies.{IsVerdict}
 use Rattle.worker_pool.specs.Serial.{IsSerialEnd}
-use Rattle.conclusion.specs.Concludes.{Concludes, proved, maybe, proof_lines, maybe_text}
-use Rattle.conclusion.specs.SerialText.{IsSerialText, IsEnd, won, lost}
-
--- a certificate of the claim of the goal that was won
-pub won_concludes : (named : NamedSystem) (question : Question) (budget g : ℕ) (claim : Claim) (steps : List ProofNodeStep) (text : List ℕ) → slice_get (claims question) g ≡ Some claim
-    → text ≡ proof_lines named claim steps → Proves named claim text → Concludes named question budget text
-won_concludes named question budget g claim steps text there is proves =
-    subst (Concludes named question budget) (sym is) (proved claim steps (in_of_get (claims question) g claim there) (subst (Proves named claim) is proves))
-
--- the line `MAYBE` and the lines of a true report
-pub lost_concludes : (named : NamedSystem) (system : System) (question : Question) (budget : ℕ) (parts : List Part) (lines text : List ℕ) → system ≡ named.system
-    → IsTrueReport system question budget parts → lines ≡ report_lines named question parts → text ≡ codes "MAYBE\n" ++ lines → Concludes named question budget text
-lost_concludes named system question budget parts lines text same is_true are is =
-    subst (Concludes named question budget) (sym is)
-    (subst (λ z. Concludes named question budget (codes "MAYBE\n" ++ z)) (sym are) (maybe parts (subst (λ (z : System). IsTrueReport z question budget parts) same is_true)))
+use Rattle.conclusion.specs.Concludes.{Concludes, proved, maybe, proof_lines}
+use Rattle.conclusion.specs.SerialText.{IsSerialText, won, lost}
+use Rattle.conclusion.specs.TextOf.{IsTextOf, certified, reported}
 
 -- where a verdict stands there is one
 pub some_verdict : (tree : ProofTree) → HasVerdict (goals_of tree.question) tree.state → IsVerdict tree None → ⊥
 some_verdict tree (inl (g, is_won)) (none, h) = absurd cc
 some_verdict tree (inr all) (none, (g, within, not_lost)) = not_lost (all g within)
 
--- the certificate of the goal that was won in the state of a serial history
-pub won_serial : (named : NamedSystem) (tree : ProofTree) (g : ℕ) (claim : Claim) (steps : List ProofNodeStep) (text : List ℕ) → tree.system ≡ named.system → IsEnd tree
-    → tree.state.winner ≡ Some g → slice_get (claims tree.question) g ≡ Some claim → AreStepsOf tree.state.nodes g steps → text ≡ proof_lines named claim steps
-    → IsSerialText named tree.question tree.budget text
-won_serial named tree g claim steps text same end is_won there are is =
-    subst (IsSerialText named tree.question tree.budget) (sym is)
-    (won tree.state g claim steps (subst (λ (z : System). IsSerialEnd z tree.question tree.budget tree.state) same end) is_won there are)
+-- ---- the text of a tree
 
--- the report of the state of a serial history
-pub lost_serial : (named : NamedSystem) (tree : ProofTree) (parts : List Part) (text : List ℕ) → tree.system ≡ named.system → IsEnd tree
-    → tree.state.winner ≡ None → IsTrueReport tree.system tree.question tree.budget parts → ArePartsOf tree.state.nodes parts
-    → text ≡ maybe_text named tree.question parts → IsSerialText named tree.question tree.budget text
-lost_serial named tree parts text same end none is_true are is =
-    subst (IsSerialText named tree.question tree.budget) (sym is)
-    (lost tree.state parts (subst (λ (z : System). IsSerialEnd z tree.question tree.budget tree.state) same end) none
-    (subst (λ (z : System). IsTrueReport z tree.question tree.budget parts) same is_true) are)
+-- a certificate of the claim of the goal that was won
+pub won_is_text : (named : NamedSystem) (tree : ProofTree) (g : ℕ) (claim : Claim) (steps : List ProofNodeStep) (text : List ℕ) → tree.state.winner ≡ Some g
+    → slice_get (claims tree.question) g ≡ Some claim → AreStepsOf tree.state.nodes g steps → text ≡ proof_lines named claim steps → Proves named claim text
+    → IsTextOf named tree text
+won_is_text named tree g claim steps text is_won there are is proves =
+    subst (IsTextOf named tree) (sym is) (certified g claim steps is_won there are (subst (Proves named claim) is proves))
+
+-- the line `MAYBE` and the lines of a true report
+pub lost_is_text : (named : NamedSystem) (tree : ProofTree) (parts : List Part) (lines text : List ℕ) → tree.system ≡ named.system → tree.state.winner ≡ None
+    → IsTrueReport tree.system tree.question tree.budget parts → ArePartsOf tree.state.nodes parts → lines ≡ report_lines named tree.question parts
+    → text ≡ codes "MAYBE\n" ++ lines → IsTextOf named tree text
+lost_is_text named tree parts lines text same none is_true are lines_are is =
+    subst (IsTextOf named tree) (sym is)
+    (subst (λ z. IsTextOf named tree (codes "MAYBE\n" ++ z)) (sym lines_are)
+    (reported parts none (subst (λ (z : System). IsTrueReport z tree.question tree.budget parts) same is_true) are))
+
+-- ---- what it says
+
+text_concludes : (named : NamedSystem) (tree : ProofTree) (text : List ℕ) → IsTextOf named tree text → Concludes named tree.question tree.budget text
+text_concludes named tree text (certified g claim steps is_won there are proves) = proved claim steps (in_of_get (claims tree.question) g claim there) proves
+text_concludes named tree text (reported parts none is_true are) = maybe parts is_true
+
+-- the text of a tree on a question answers it
+pub answers : (named : NamedSystem) (question : Question) (budget : ℕ) (tree : ProofTree) (text : List ℕ) → tree.question ≡ question → tree.budget ≡ budget
+    → IsTextOf named tree text → Concludes named question budget text
+answers named question budget tree text asked within h =
+    subst (λ (q : Question). Concludes named q budget text) asked (subst (λ b. Concludes named tree.question b text) within (text_concludes named tree text h))
+
+-- the text of a tree whose state is that of a serial history
+pub text_serial : (named : NamedSystem) (question : Question) (budget : ℕ) (tree : ProofTree) (text : List ℕ) → IsSerialEnd named.system question budget tree.state
+    → tree.question ≡ question → tree.budget ≡ budget → IsTextOf named tree text → IsSerialText named question budget text
+text_serial named question budget tree text end asked within (certified g claim steps is_won there are proves) =
+    won tree.state g claim steps end is_won (subst (λ (q : Question). slice_get (claims q) g ≡ Some claim) asked there) are
+text_serial named question budget tree text end asked within (reported parts none is_true are) =
+    let report : IsTrueReport named.system question budget parts =
+    subst (λ (q : Question). IsTrueReport named.system q budget parts) asked (subst (λ b. IsTrueReport named.system tree.question b parts) within is_true) in
+    subst (λ (q : Question). IsSerialText named question budget (codes "MAYBE\n" ++ report_lines named q parts)) (sym asked) (lost tree.state parts end none report are)

@@ -7,6 +7,7 @@ pub use Rattle.worker_pool.specs.tree_core
 pub use Rattle.report_text.specs.tree_definitions
 pub use Rattle.worker_pool.specs as worker_pool
 pub mod Concludes
+pub mod TextOf
 pub mod SerialText
 pub mod Laws
 pub mod InOrder

@@ -7,13 +7,8 @@ use Rattle.report_text.specs.tree_definitions.declared.question.Question.{Questi
 use Rattle.report_text.specs.tree_definitions.Questions.{claims}
 use Rattle.report_text.specs.tree_definitions.States.{State}
 use Rattle.report_text.specs.tree_definitions.Reports.{Part, IsTrueReport, AreStepsOf, ArePartsOf}
-use Rattle.report_text.specs.tree_definitions.Trees.{ProofTree}
 use Rattle.worker_pool.specs.Serial.{IsSerialEnd}
 use Rattle.conclusion.specs.Concludes.{proof_lines, maybe_text}
-
--- the tree's state is such a state
-abbrev pub IsEnd : ProofTree → Type 0
-IsEnd tree = IsSerialEnd tree.system tree.question tree.budget tree.state
 
 -- The text is read off the state to which a serial history leads: the certificate of the goal that was won, or the true report
 -- of all goals.

@@ -1,15 +1,15 @@
-ghost use Rattle.std.specs.Prelude.{◌≡◌, ◌<◌, ◌^◌, ℕ, Some, IfOk, length};
-ghost use Rattle.report_text.specs.tree_definitions.Replies.{IsVerdict};
+ghost use Rattle.std.specs.Prelude.{◌≤◌, IfOk};
 ghost use Rattle.conclusion.specs.Concludes.{Concludes};
-ghost use Rattle.conclusion.specs.SerialText.{IsSerialText, IsEnd};
+ghost use Rattle.conclusion.specs.SerialText.{IsSerialText};
 
-use crate::print_proof;
-use cert_text::NodeStep;
+use crate::tree_text::tree_text;
 use names_text::NamedTrs;
-use report_text::{Limits, Question, Verdict, print_report};
+use report_text::{Limits, Question};
 use std::alloc::Global;
+use std::sync::Wait;
+use std::thread::Threads;
 use trs_core::OutOfMemory;
-use worker_pool::{Tree, prove_alone};
+use worker_pool::{Gate, prove_alone, prove_with};
 
 /// Answers a question about a system by one worker: where a goal of the question is won, with the
 /// certificate of what it claims; where each is lost, with the line `MAYBE` and a line for each goal.
@@ -27,50 +27,24 @@ pub fn answer_question(
     ensures serial { IfOk result (λ text. IsSerialText system.now question budget text.items) }
 {
     let finished = prove_alone(alloc, question, system.trs(), Limits { budget })?;
-    let tree = finished.tree();
-    match tree.verdict() {
-        Some(Verdict::Won(_)) => won_text(alloc, system, tree),
-        Some(Verdict::Maybe) => lost_text(alloc, system, tree),
-        None => unreachable!(),
-    }
+    tree_text(alloc, system, finished.tree())
 }
 
-// The certificate of the goal that was won.
-fn won_text(alloc: Global, system: &NamedTrs, tree: &Tree<'_>) -> Result<Vec<u8>, OutOfMemory>
-    requires system { tree.now.system ≡ system.now.system }
-    requires won { (g : ℕ) × (tree.now.state.winner ≡ Some g) }
-    requires end { IsEnd tree.now }
-    ensures concludes { IfOk result (λ text.
-        Concludes system.now tree.now.question tree.now.budget text.items) }
-    ensures serial { IfOk result (λ text.
-        IsSerialText system.now tree.now.question tree.now.budget text.items) }
+/// Answers a question about a system as `answer_question` does, by several workers on one proof
+/// tree. Which of the possible texts comes depends on how they take turns. It may wait.
+pub fn answer_question_with<R: Threads + Wait + Sync, G: Gate>(
+    rt: &R,
+    alloc: Global,
+    system: &NamedTrs,
+    question: Question,
+    budget: u64,
+    workers: u32,
+    gate: &G,
+) -> Result<Vec<u8>, OutOfMemory>
+    requires workers { (2 ≤ workers) × (workers ≤ 16) }
+    ensures concludes { IfOk result (λ text. Concludes system.now question budget text.items) }
 {
-    let proof = tree.certificate(alloc)?;
-    check_few(&proof.steps);
-    let text = print_proof(alloc, system, proof.claim, proof.steps)?;
-    Ok(text)
-}
-
-// What is known of the number of steps. There is nothing to run.
-fn check_few(steps: &[NodeStep])
-    ensures { length steps.now < 2 ^ 63 }
-{
-    let _count = steps.len();
-}
-
-// The report of the goals that were lost.
-fn lost_text(alloc: Global, system: &NamedTrs, tree: &Tree<'_>) -> Result<Vec<u8>, OutOfMemory>
-    requires system { tree.now.system ≡ system.now.system }
-    requires lost { IsVerdict tree.now (Some Verdict.Maybe) }
-    requires end { IsEnd tree.now }
-    ensures concludes { IfOk result (λ text.
-        Concludes system.now tree.now.question tree.now.budget text.items) }
-    ensures serial { IfOk result (λ text.
-        IsSerialText system.now tree.now.question tree.now.budget text.items) }
-{
-    let report = tree.report(alloc)?;
-    let lines = print_report(alloc, system, tree.question(), &report)?;
-    let mut text = Vec::from_slice(alloc, b"MAYBE\n")?;
-    text.extend_from_slice(&lines)?;
-    Ok(text)
+    let limits = Limits { budget };
+    let finished = prove_with(rt, alloc, question, system.trs(), limits, workers, gate)?;
+    tree_text(alloc, system, finished.tree())
 }

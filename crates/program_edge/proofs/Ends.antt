@@ -36,7 +36,7 @@ concluded_ends named question budget text (proved claim steps goal proves) = lin
 concluded_ends named question budget text (maybe parts is_true) = maybe_ends (items_of (goal_items named (goal_words question) parts))
 
 -- what answers a question ends with a line feed
-pub conclusion_ends : (problem : List ℕ) (question : Question) (budget : ℕ) (s : Status) (text : List ℕ) → IsConclusion problem question budget s text
+pub conclusion_ends : (problem : List ℕ) (question : Question) (workers budget : ℕ) (s : Status) (text : List ℕ) → IsConclusion problem question workers budget s text
     → s ≡ status.Answered → EndsLine text
-conclusion_ends problem question budget s text (no_system fault h m) e = absurd cc
-conclusion_ends problem question budget s text (concluded named says c alone) e = concluded_ends named (question_of question) budget text c
+conclusion_ends problem question workers budget s text (no_system fault h m) e = absurd cc
+conclusion_ends problem question workers budget s text (concluded named says by) e = concluded_ends named (question_of question) budget text by.concludes

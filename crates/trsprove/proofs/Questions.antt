@@ -16,24 +16,24 @@ use Rattle.trsprove.proofs.Answering.{told_is, not_long, too_long_within}
 
 -- ---- what is answered
 
-answer_of : (request : Option Asked) (before now : ShelfMeaning) (question : Question) (budget : ℕ) (v : List ℕ) (s : Status) (text : List ℕ) → IsConclusion v question budget s text
+answer_of : (request : Option Asked) (before now : ShelfMeaning) (question : Question) (workers budget : ℕ) (v : List ℕ) (s : Status) (text : List ℕ) → IsConclusion v question workers budget s text
     → Output request (MayBe before) s text → IsAnswer request before now s text
-answer_of request before now question budget v s text (no_system fault h m) o = o
-answer_of request before now question budget v s text (concluded named says c alone) o = o
+answer_of request before now question workers budget v s text (no_system fault h m) o = o
+answer_of request before now question workers budget v s text (concluded named says by) o = o
 
 -- the answer for a text of the problem
 pub fetched_conclusion : (question : Question) (p : List ℕ) (workers budget : ℕ) (v : List ℕ) (before now : ShelfMeaning) (s : Status) (text : List ℕ) → MayBe before p v
-    → length v ≤ most_problem_bytes → IsConclusion v question budget s text → IsAnswer (Some (proves question p workers budget)) before now s text
+    → length v ≤ most_problem_bytes → IsConclusion v question workers budget s text → IsAnswer (Some (proves question p workers budget)) before now s text
 fetched_conclusion question p workers budget v before now s text may_be size h =
-    answer_of (Some (proves question p workers budget)) before now question budget v s text h
+    answer_of (Some (proves question p workers budget)) before now question workers budget v s text h
     (answered question budget v (record { name = p; workers = workers; asked = refl; name_under = may_be; size = size }) h)
 
 -- ---- one status for a text
 
 -- the status of an answer is no fault, so that no other is possible
-or_same : (problem : List ℕ) (question : Question) (budget : ℕ) (s other : Status) (text : List ℕ) → IsConclusion problem question budget s text → s ≡ other → IsOr other s
-or_same problem question budget s other text (no_system fault h m) e = e
-or_same problem question budget s other text (concluded named says c alone) e = e
+or_same : (problem : List ℕ) (question : Question) (workers budget : ℕ) (s other : Status) (text : List ℕ) → IsConclusion problem question workers budget s text → s ≡ other → IsOr other s
+or_same problem question workers budget s other text (no_system fault h m) e = e
+or_same problem question workers budget s other text (concluded named says by) e = e
 
 -- ---- texts that are told
 
@@ -82,7 +82,7 @@ module _ (shelf : ShelfMeaning) (question : Question) (p : List ℕ) (workers bu
         (subst (λ z. IsTooLong most_problem_bytes (Told shelf) z) (sym (same_question question other p q workers hands budget bound e).problems) long)
 
     -- the conclusion for the text is the defined one
-    pub conclusion_only : (s : Status) (text : List ℕ) → IsConclusion v question budget s text → AnswersOnly Request shelf s
+    pub conclusion_only : (s : Status) (text : List ℕ) → IsConclusion v question workers budget s text → AnswersOnly Request shelf s
     conclusion_only s text h other defined (usage none) = absurd cc
     conclusion_only s text h other defined (too_long name limit needed long) = absurd (not_too_long name limit needed long)
     conclusion_only s text h other defined (decided wanted problem certificate f verdict) = let asks : Some (proves question p workers budget) ≡ Some (certifies wanted f.problem_name f.certificate_name) = f.asked in absurd cc
@@ -90,10 +90,10 @@ module _ (shelf : ShelfMeaning) (question : Question) (p : List ℕ) (workers bu
     conclusion_only s text h other defined (answered asked limit problem f found) =
         let same = same_of asked limit problem f in
         let is : v ≡ problem = told_is shelf p v problem may_be (told_of asked limit problem f) in
-        or_same v question budget s other text h
-        (one_conclusion v question budget s other text defined h
-        (subst (λ z. IsConclusion z question budget other defined) (sym is) (subst (λ b. IsConclusion problem question b other defined) (sym same.budgets)
-        (subst (λ q. IsConclusion problem q limit other defined) (sym same.questions) found))))
+        or_same v question workers budget s other text h
+        (one_conclusion v question workers f.workers budget s other text defined h
+        (subst (λ z. IsConclusion z question f.workers budget other defined) (sym is) (subst (λ b. IsConclusion problem question f.workers b other defined) (sym same.budgets)
+        (subst (λ q. IsConclusion problem q f.workers limit other defined) (sym same.questions) found))))
 
 -- ---- names that are touched
 

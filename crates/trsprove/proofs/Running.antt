@@ -64,7 +64,7 @@ judgement_ends Refuted = (codes " refuted", refl)
 judgement_ends Open = (codes " open", refl)
 
 sample_ends : (size budget : ℕ) (line : List ℕ) → IsSampleLine size budget line → EndsLine line
-sample_ends size budget line (judged judgement is_true serial) =
+sample_ends size budget line (judged judgement is_true) =
     let rules = (sample size).system.rules in
     let pairs = decimal (length (placed_pairs rules)) in
     behind_front (codes "rules ") (decimal (length rules) ++ (codes " pairs " ++ (pairs ++ judgement_word judgement)))
@@ -72,9 +72,9 @@ sample_ends size budget line (judged judgement is_true serial) =
     (behind_front (codes " pairs ") (pairs ++ judgement_word judgement)
     (behind_front pairs (judgement_word judgement) (judgement_ends judgement))))
 
-never_rejected : (problem : List ℕ) (question : Question) (budget : ℕ) (s : Status) (text : List ℕ) → IsConclusion problem question budget s text → s ≡ status.Rejected → ⊥
-never_rejected problem question budget s text (no_system fault h m) e = cc
-never_rejected problem question budget s text (concluded named says c alone) e = cc
+never_rejected : (problem : List ℕ) (question : Question) (workers budget : ℕ) (s : Status) (text : List ℕ) → IsConclusion problem question workers budget s text → s ≡ status.Rejected → ⊥
+never_rejected problem question workers budget s text (no_system fault h m) e = cc
+never_rejected problem question workers budget s text (concluded named says by) e = cc
 
 output_ends : (request : Option Asked) (under : List ℕ → List ℕ → Type 0) (s : Status) (text : List ℕ) → Output request under s text → GivesVerdict s → EndsLine text
 output_ends request under s text (usage none) (inl e) = absurd cc
@@ -82,9 +82,9 @@ output_ends request under s text (usage none) (inr e) = absurd cc
 output_ends request under s text (too_long name limit needed long) (inl e) = absurd cc
 output_ends request under s text (too_long name limit needed long) (inr e) = absurd cc
 output_ends request under s text (decided wanted problem certificate fetched verdict) judges = verdict_ends problem certificate wanted s text verdict judges
-output_ends request under s text (sampled size workers budget asks line) judges = sample_ends size budget text line
-output_ends request under s text (answered question budget problem asked conclusion) (inl e) = conclusion_ends problem question budget s text conclusion e
-output_ends request under s text (answered question budget problem asked conclusion) (inr e) = absurd (never_rejected problem question budget s text conclusion e)
+output_ends request under s text (sampled size workers budget asks by) judges = sample_ends size budget text by.is_true
+output_ends request under s text (answered question budget problem asked conclusion) (inl e) = conclusion_ends problem question asked.workers budget s text conclusion e
+output_ends request under s text (answered question budget problem asked conclusion) (inr e) = absurd (never_rejected problem question asked.workers budget s text conclusion e)
 
 module _ (request : Option Asked) (before now : ShelfMeaning) where
   output_of : (s : Status) (text : List ℕ) → IsAnswer request before now s text → GivesVerdict s → Output request (MayBe before) s text
@@ -187,18 +187,18 @@ module _ (request : Option Asked) (before now : ShelfMeaning) where
           written = w;
         })
 
-    true_conclusion : (question : Question) (budget : ℕ) (problem : List ℕ) (s : Status) (text : List ℕ) → IsAsked request question budget (MayBe before) problem
-        → IsConclusion problem question budget s text → s ≡ status.Answered → AppendsTo taken text later → IsTrueAnswer request before taken later
-    true_conclusion question budget problem s text asked (no_system fault h m) e w = absurd cc
-    true_conclusion question budget problem s text asked (concluded named says c alone) e w = true_concluded question budget problem named text asked says c w
+    true_conclusion : (question : Question) (workers budget : ℕ) (problem : List ℕ) (s : Status) (text : List ℕ) → IsAsked request question budget (MayBe before) problem
+        → IsConclusion problem question workers budget s text → s ≡ status.Answered → AppendsTo taken text later → IsTrueAnswer request before taken later
+    true_conclusion question workers budget problem s text asked (no_system fault h m) e w = absurd cc
+    true_conclusion question workers budget problem s text asked (concluded named says by) e w = true_concluded question budget problem named text asked says by.concludes w
 
     true_output : (s : Status) (text : List ℕ) → Output request (MayBe before) s text → s ≡ status.Answered → AppendsTo taken text later → IsTrueAnswer request before taken later
     true_output s text (usage none) e w = absurd cc
     true_output s text (too_long name limit needed long) e w = absurd cc
-    true_output s text (sampled size workers budget asks line) e w =
-        by_sample (record { size = size; workers = workers; budget = budget; line = text; asked = asks; truth = line; written = w })
+    true_output s text (sampled size workers budget asks by) e w =
+        by_sample (record { size = size; workers = workers; budget = budget; line = text; asked = asks; truth = by.is_true; written = w })
     true_output s text (decided wanted problem certificate fetched verdict) e w = true_verdict wanted problem certificate s text fetched verdict e w
-    true_output s text (answered question budget problem asked conclusion) e w = true_conclusion question budget problem s text asked conclusion e w
+    true_output s text (answered question budget problem asked conclusion) e w = true_conclusion question asked.workers budget problem s text asked conclusion e w
 
     pub answered_truly : (s : Status) (text : List ℕ) → IsAnswer request before now s text → AppendsTo taken text later → s ≡ status.Answered
         → IsTrueAnswer request before taken later

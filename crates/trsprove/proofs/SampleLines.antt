@@ -2,15 +2,15 @@
 use Rattle.std.proofs.Common.{◌≡◌, inl, ℕ, List, Option, Some, Result, Ok, Err, IfOk, refl, sym, subst}
 use Rattle.io_edge.specs.Shelf.{ShelfMeaning, Told}
 use Rattle.command_line.specs.Request.{Asked, certifies, proves, samples}
-use Rattle.sampling.specs.Line.{IsSampleLine}
 use Rattle.program_edge.specs.declared.status.Status.{Status}
 use Rattle.program_edge.specs.declared.status.Status.TheVariants as status
+use Rattle.trsprove.specs.Workers.{IsSampledBy}
 use Rattle.trsprove.specs.Output.{usage, too_long, decided, answered, sampled, IsNeeded, as_problem, as_certificate, as_question, IsWithin, IsAnswer, AnswersOnly, TouchesOnlyNeeded}
 use Rattle.program_edge.specs.Fetching.{most_problem_bytes}
 
 module _ (request : Option Asked) (size workers budget : ℕ) (asks : request ≡ Some (samples size workers budget)) where
   -- the line is the answer
-  pub line_answers : (before now : ShelfMeaning) (s : Status) (line : List ℕ) → s ≡ status.Answered → IsSampleLine size budget line → IsAnswer request before now s line
+  pub line_answers : (before now : ShelfMeaning) (s : Status) (line : List ℕ) → s ≡ status.Answered → IsSampledBy workers size budget line → IsAnswer request before now s line
   line_answers before now s line is h = subst (λ x. IsAnswer request before now x line) (sym is) (sampled size workers budget asks h)
 
   needs_none : (is_fetched : List ℕ → Type 0) (name : List ℕ) (limit : ℕ) → IsNeeded request is_fetched name limit → ⊥

@@ -1,5 +1,6 @@
 pub mod Lines
 pub mod Verdicts
+pub mod Workers
 pub mod Output
 pub mod Truth
 pub mod Answers

@@ -3,7 +3,6 @@ use Rattle.std.specs.Prelude.{◌≡◌, ◌⊎◌, ◌<◌, ◌≤◌, ℕ, Lis
 use denote.Ref.{Bor}
 use Rattle.io_edge.specs.Shelf.{ShelfMeaning, Told, MayBe, MayPass, FaultRose, ReadPast, IsUntouched}
 use Rattle.io_edge.specs.Sink.{SinkMeaning, AppendsTo, AppendsPrefix}
-use Rattle.sampling.specs.Line.{IsSampleLine}
 use Rattle.command_line.specs.Request.{Asked, certifies, proves, samples}
 use Rattle.command_line.specs.declared.Question.{Question}
 use Rattle.command_line.specs.declared.Wanted.{Wanted}
@@ -14,6 +13,7 @@ use Rattle.program_edge.specs.LinePuts.{IsPutByLine, IsFrontPutByLine}
 use Rattle.program_edge.specs.Fetching.{most_problem_bytes}
 use Rattle.program_edge.specs.Conclusions.{IsConclusion}
 use Rattle.trsprove.specs.Lines.{usage_line}
+use Rattle.trsprove.specs.Workers.{IsSampledBy}
 use Rattle.trsprove.specs.Verdicts.{Verdict, most_certificate_bytes}
 
 -- the words as texts
@@ -66,10 +66,10 @@ pub data Output (request : Option Asked) (under : List ℕ → List ℕ → Type
       → AreFetched request wanted under problem certificate → Verdict problem certificate wanted s text
       → Output request under s text
   answered : {s : Status} {text : List ℕ} (question : Question) (budget : ℕ) (problem : List ℕ)
-      → IsAsked request question budget under problem → IsConclusion problem question budget s text
+      (asked : IsAsked request question budget under problem) → IsConclusion problem question asked.workers budget s text
       → Output request under s text
-  sampled : {line : List ℕ} (size workers budget : ℕ) → request ≡ Some (samples size workers budget) → IsSampleLine size budget line
-      → Output request under status.Answered line
+  sampled : {line : List ℕ} (size workers budget : ℕ) → request ≡ Some (samples size workers budget)
+      → IsSampledBy workers size budget line → Output request under status.Answered line
 
 -- the text of the problem was fetched under a name: no fault came, and a text within the limit may stand there
 abbrev pub WasFetched : ShelfMeaning → ShelfMeaning → List ℕ → Type 0

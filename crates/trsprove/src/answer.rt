@@ -3,9 +3,11 @@ ghost use Rattle.command_line.specs.Request.{request_of};
 ghost use Rattle.program_edge.specs.Fetching.{IsUnfetched};
 ghost use Rattle.trsprove.specs.Output.{texts, IsAnswer, AnswersOnly, TouchesOnlyNeeded};
 ghost use Rattle.trsprove.specs.Answers.{status_of, text_of};
+ghost use Rattle.trsprove.specs.Workers.{asked_of};
 
 use crate::asking::concluded;
 use crate::certifying::certified;
+use crate::prover::Prover;
 use crate::samples::sampled;
 use ari_text::AriFault;
 use certifier::Claim;
@@ -52,17 +54,21 @@ pub(crate) fn not_fetched<'a>(name: &'a str, fault: FetchFault) -> Result<Answer
     Ok(Answer::Unfetched(unfetched(name, fault)?))
 }
 
-/// What the words ask for, by the texts of the shelf.
-pub(crate) fn answer_for<'a, S: Shelf>(
+/// What the words ask of a prover, by the texts of the shelf.
+pub(crate) fn answer_for<'a, S: Shelf, P: Prover>(
     alloc: Global,
     words: &'a [&'a str],
     shelf: &mut S,
+    prover: &P,
 ) -> Result<Answer<'a>, AllocError>
-    ensures answer { IfOk result (λ a. IsAnswer (request_of (texts words.now))
+    ensures answer { IfOk result (λ a.
+        IsAnswer (asked_of (P.workers prover.now) (request_of (texts words.now)))
         (S.means shelf.old) (S.means shelf.new) (status_of a) (text_of a)) }
     ensures only { IfOk result (λ a.
-        AnswersOnly (request_of (texts words.now)) (S.means shelf.old) (status_of a)) }
-    ensures untouched { TouchesOnlyNeeded (request_of (texts words.now))
+        AnswersOnly (asked_of (P.workers prover.now) (request_of (texts words.now)))
+        (S.means shelf.old) (status_of a)) }
+    ensures untouched {
+        TouchesOnlyNeeded (asked_of (P.workers prover.now) (request_of (texts words.now)))
         (S.means shelf.old) (S.means shelf.new) }
 {
     match parse(alloc, words) {
@@ -80,14 +86,14 @@ pub(crate) fn answer_for<'a, S: Shelf>(
                 workers: _,
                 budget,
             },
-        ) => concluded(alloc, shelf, question, problem, budget),
+        ) => concluded(alloc, shelf, prover, question, problem, budget),
         Ok(
             Request::Sample {
                 size,
                 workers: _,
                 budget,
             },
-        ) => sampled(alloc, size, budget),
+        ) => sampled(alloc, prover, size, budget),
         Err(Refused::Usage) => Ok(Answer::Usage),
         Err(Refused::OutOfMemory) => Err(AllocError),
     }

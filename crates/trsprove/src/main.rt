@@ -1,21 +1,25 @@
 //! trsprove: finds and certifies proofs of termination and confluence of term rewriting systems.
 #![tactic(auto)]
 
+mod alone;
 mod answer;
 mod arguments;
 mod asking;
 mod certifying;
 mod lines;
+mod prover;
 mod report;
 mod run;
 mod samples;
+mod team;
 
 use crate::arguments::run_arguments;
+use conclusion::OpenGate;
 use io_edge::{FileShelf, StdSink};
 use std::env;
 use std::process::ExitCode;
 
 fn main(rt: HostRuntime) -> ExitCode {
     let (mut shelf, mut out) = (FileShelf::new(&rt, rt.alloc()), StdSink::new(&rt));
-    run_arguments(rt.alloc(), env::args(&rt), &mut shelf, &mut out)
+    run_arguments(&rt, rt.alloc(), env::args(&rt), &mut shelf, &mut out, &OpenGate)
 }

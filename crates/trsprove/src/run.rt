@@ -1,18 +1,35 @@
-ghost use Rattle.std.specs.Prelude.{◌≡◌};
+ghost use Rattle.std.specs.Prelude.{◌≡◌, ◌≤◌, IfOk};
 ghost use Rattle.io_edge.specs.Edge.{Rose};
 ghost use Rattle.command_line.specs.Request.{request_of};
 ghost use Rattle.trsprove.specs.Output.{texts, Writes, AnswersOnly, TouchesOnlyNeeded};
 ghost use Rattle.trsprove.specs.Truth.{IsTrueAnswer};
+ghost use Rattle.trsprove.specs.Workers.{asked_of};
 
+use crate::alone::Alone;
 use crate::answer::answer_for;
+use crate::prover::Prover;
 use crate::report::put_answer;
+use crate::team::Team;
+use command_line::{Refused, Request, parse};
+use conclusion::Gate;
 use io_edge::{Shelf, Sink, SinkFailed};
 use program_edge::Status;
-use std::alloc::Global;
+use std::alloc::{AllocError, Global};
+use std::sync::Wait;
+use std::thread::Threads;
 
 /// Runs the program: reads what the words ask for, fetches the texts, and writes the answer. The
-/// words are those of the command line, without the program's name.
-pub fn run<S: Shelf, K: Sink>(alloc: Global, words: &[&str], shelf: &mut S, out: &mut K) -> Status
+/// words are those of the command line, without the program's name. Where an action that proves
+/// asks for several workers, they work on one proof tree and may wait for each other; in every other
+/// case `run_alone` does it.
+pub fn run<R: Threads + Wait + Sync, S: Shelf, K: Sink, G: Gate>(
+    rt: &R,
+    alloc: Global,
+    words: &[&str],
+    shelf: &mut S,
+    out: &mut K,
+    gate: &G,
+) -> Status
     // The text that is written is the defined answer of the words and the texts, or names a fault
     // that came. Where a verdict is given, each line is one put.
     ensures output { Writes (request_of (texts words.now)) (S.means shelf.old) (S.means shelf.new)
@@ -32,7 +49,76 @@ pub fn run<S: Shelf, K: Sink>(alloc: Global, words: &[&str], shelf: &mut S, out:
     ensures untouched { TouchesOnlyNeeded (request_of (texts words.now))
         (S.means shelf.old) (S.means shelf.new) }
 {
-    let Ok(answer) = answer_for(alloc, words, shelf) else {
+    let Ok(workers) = workers_for(alloc, words) else {
+        return Status::OutOfMemory;
+    };
+    if workers == 1 {
+        return run_alone(alloc, words, shelf, out);
+    }
+    let team = Team { rt, workers, gate };
+    run_by(alloc, words, shelf, out, &team)
+}
+
+/// Runs the program with one worker, whatever number the words ask for. It waits for nobody and
+/// always returns.
+pub fn run_alone<S: Shelf, K: Sink>(
+    alloc: Global,
+    words: &[&str],
+    shelf: &mut S,
+    out: &mut K,
+) -> Status
+    // The clauses are those of `run`, as if one worker were asked for.
+    ensures output { Writes (asked_of 1 (request_of (texts words.now)))
+        (S.means shelf.old) (S.means shelf.new) result (K.means out.old) (K.means out.new) }
+    ensures write { result ≡ Status.WriteFault →
+        Rose (K.means out.old).faults (K.means out.new).faults }
+    ensures only { AnswersOnly (asked_of 1 (request_of (texts words.now)))
+        (S.means shelf.old) result }
+    ensures truth { result ≡ Status.Answered →
+        IsTrueAnswer (asked_of 1 (request_of (texts words.now)))
+        (S.means shelf.old) (K.means out.old) (K.means out.new) }
+    ensures untouched { TouchesOnlyNeeded (asked_of 1 (request_of (texts words.now)))
+        (S.means shelf.old) (S.means shelf.new) }
+{
+    run_by(alloc, words, shelf, out, &Alone)
+}
+
+// How many workers are to look for a proof: as many as the words ask for, if they ask for a proof.
+fn workers_for(alloc: Global, words: &[&str]) -> Result<u32, AllocError>
+    ensures some { IfOk result (λ n. 1 ≤ n) }
+    ensures few { IfOk result (λ n. n ≤ 16) }
+    ensures asked { IfOk result (λ n.
+        asked_of n (request_of (texts words.now)) ≡ request_of (texts words.now)) }
+{
+    match parse(alloc, words) {
+        Ok(Request::Prove { workers, .. } | Request::Sample { workers, .. }) => Ok(workers),
+        Ok(Request::Certify { .. }) | Err(Refused::Usage) => Ok(1),
+        Err(Refused::OutOfMemory) => Err(AllocError),
+    }
+}
+
+// Runs the program with a prover. The clauses are those of `run`, as if its workers were asked for.
+fn run_by<S: Shelf, K: Sink, P: Prover>(
+    alloc: Global,
+    words: &[&str],
+    shelf: &mut S,
+    out: &mut K,
+    prover: &P,
+) -> Status
+    ensures output { Writes (asked_of (P.workers prover.now) (request_of (texts words.now)))
+        (S.means shelf.old) (S.means shelf.new) result (K.means out.old) (K.means out.new) }
+    ensures write { result ≡ Status.WriteFault →
+        Rose (K.means out.old).faults (K.means out.new).faults }
+    ensures only { AnswersOnly (asked_of (P.workers prover.now) (request_of (texts words.now)))
+        (S.means shelf.old) result }
+    ensures truth { result ≡ Status.Answered →
+        IsTrueAnswer (asked_of (P.workers prover.now) (request_of (texts words.now)))
+        (S.means shelf.old) (K.means out.old) (K.means out.new) }
+    ensures untouched {
+        TouchesOnlyNeeded (asked_of (P.workers prover.now) (request_of (texts words.now)))
+        (S.means shelf.old) (S.means shelf.new) }
+{
+    let Ok(answer) = answer_for(alloc, words, shelf, prover) else {
         return Status::OutOfMemory;
     };
     match put_answer(&answer, out) {

@@ -10,35 +10,39 @@ use Rattle.trsprove.proofs.Questions.{fetched_conclusion, conclusion_only, not_f
 use Rattle.trsprove.proofs.asking.concluded.Goals as goal
 
 pub returns-in-Ok-clause-answer : goal.returns-in-Ok-clause-answer
-returns-in-Ok-clause-answer g c = λ workers.
+returns-in-Ok-clause-answer g c =
+    let workers = g.P.Prover.workers c.args.prover.now in
     let before = g.S.Shelf.means c.args.shelf.now in
     let now = g.S.Shelf.means c.fetch.new.self in
     let p = c.args.problem.now in
     let v = c.in-Ok.text.items in
     let question = c.args.question in
     let budget = c.args.budget in
-    IfOk-weaker c.answered.result (λ a. IsConclusion v question budget (status_of a) (text_of a)) (λ a. IsAnswer (Some (proves question p workers budget)) before now (status_of a) (text_of a))
+    IfOk-weaker c.answered.result (λ a. IsConclusion v question workers budget (status_of a) (text_of a)) (λ a. IsAnswer (Some (proves question p workers budget)) before now (status_of a) (text_of a))
     (λ a. fetched_conclusion question p workers budget v before now (status_of a) (text_of a) c.in-Ok.ensures.whole c.in-Ok.ensures.bound)
-    (subst (λ z. IfOk c.answered.result (λ a. IsConclusion z question budget (status_of a) (text_of a))) c.deref.ensures.value c.answered.ensures)
+    (subst (λ z. IfOk c.answered.result (λ a. IsConclusion z question workers budget (status_of a) (text_of a))) c.deref.ensures.value c.answered.ensures)
 
 pub returns-in-Ok-clause-only : goal.returns-in-Ok-clause-only
-returns-in-Ok-clause-only g c = λ workers.
+returns-in-Ok-clause-only g c =
+    let workers = g.P.Prover.workers c.args.prover.now in
     let before = g.S.Shelf.means c.args.shelf.now in
     let p = c.args.problem.now in
     let v = c.in-Ok.text.items in
     let question = c.args.question in
     let budget = c.args.budget in
-    IfOk-weaker c.answered.result (λ a. IsConclusion v question budget (status_of a) (text_of a)) (λ a. AnswersOnly (Some (proves question p workers budget)) before (status_of a))
+    IfOk-weaker c.answered.result (λ a. IsConclusion v question workers budget (status_of a) (text_of a)) (λ a. AnswersOnly (Some (proves question p workers budget)) before (status_of a))
     (λ a. conclusion_only before question p workers budget v c.in-Ok.ensures.whole c.in-Ok.ensures.bound (status_of a) (text_of a))
-    (subst (λ z. IfOk c.answered.result (λ a. IsConclusion z question budget (status_of a) (text_of a))) c.deref.ensures.value c.answered.ensures)
+    (subst (λ z. IfOk c.answered.result (λ a. IsConclusion z question workers budget (status_of a) (text_of a))) c.deref.ensures.value c.answered.ensures)
 
 pub returns-in-Ok-clause-untouched : goal.returns-in-Ok-clause-untouched
-returns-in-Ok-clause-untouched g c = λ workers.
+returns-in-Ok-clause-untouched g c =
+    let workers = g.P.Prover.workers c.args.prover.now in
     touched_problem c.args.question c.args.problem.now workers c.args.budget (g.S.Shelf.means c.args.shelf.now) (g.S.Shelf.means c.fetch.new.self) c.fetch.ensures.faults
     c.fetch.ensures.read
 
 pub returns-in-Err-clause-answer : goal.returns-in-Err-clause-answer
-returns-in-Err-clause-answer g c = λ workers.
+returns-in-Err-clause-answer g c =
+    let workers = g.P.Prover.workers c.args.prover.now in
     let before = g.S.Shelf.means c.args.shelf.now in
     let now = g.S.Shelf.means c.fetch.new.self in
     let p = c.args.problem.now in
@@ -53,7 +57,8 @@ returns-in-Err-clause-answer g c = λ workers.
     c.not_fetched.ensures
 
 pub returns-in-Err-clause-only : goal.returns-in-Err-clause-only
-returns-in-Err-clause-only g c = λ workers.
+returns-in-Err-clause-only g c =
+    let workers = g.P.Prover.workers c.args.prover.now in
     let before = g.S.Shelf.means c.args.shelf.now in
     let p = c.args.problem.now in
     let question = c.args.question in
@@ -63,6 +68,7 @@ returns-in-Err-clause-only g c = λ workers.
     c.not_fetched.ensures
 
 pub returns-in-Err-clause-untouched : goal.returns-in-Err-clause-untouched
-returns-in-Err-clause-untouched g c = λ workers.
+returns-in-Err-clause-untouched g c =
+    let workers = g.P.Prover.workers c.args.prover.now in
     touched_problem c.args.question c.args.problem.now workers c.args.budget (g.S.Shelf.means c.args.shelf.now) (g.S.Shelf.means c.fetch.new.self) c.fetch.ensures.faults
     c.fetch.ensures.read

@@ -6,8 +6,8 @@ use Rattle.cert_text.specs.step_text.Ranges.{IsPrintable}
 use Rattle.cert_text.specs.cert_step.Nodes.{IsAccepted}
 use Rattle.conclusion.proofs.StepNumbers.{accepted_printable}
 use Rattle.conclusion.proofs.FoundSteps.{found_steps_in_order}
-use Rattle.conclusion.proofs.Texts.{won_concludes, won_serial}
-use Rattle.conclusion.proofs.answering.won_text.Goals as goal
+use Rattle.conclusion.proofs.Texts.{won_is_text}
+use Rattle.conclusion.proofs.tree_text.won_text.Goals as goal
 
 pub print_proof-requires-clause-printable : goal.print_proof-requires-clause-printable
 print_proof-requires-clause-printable c =
@@ -27,17 +27,9 @@ print_proof-requires-clause-accepted c =
     let proof = c.in_ok-proof.proof in
     subst (λ (system : System). IsAccepted system proof.claim (map node_step_of proof.steps.items)) c.requires.system c.in_ok-proof.ensures.accepted
 
-pub returns-clause-concludes : goal.returns-clause-concludes
-returns-clause-concludes c =
-    let tree = c.args.tree.now in
-    let proof = c.in_ok-proof.proof in
-    won_concludes c.args.system.now tree.question tree.budget c.requires.won.0 proof.claim (map node_step_of proof.steps.items) c.in_ok-text.text.items
-    (c.in_ok-proof.ensures.claim c.requires.won.0 c.requires.won.1) c.in_ok-text.ensures.text c.in_ok-text.ensures.proves
-
-pub returns-clause-serial : goal.returns-clause-serial
-returns-clause-serial c =
-    let tree = c.args.tree.now in
+pub returns : goal.returns
+returns c =
     let proof = c.in_ok-proof.proof in
     let g = c.requires.won.0 in
-    won_serial c.args.system.now tree g proof.claim (map node_step_of proof.steps.items) c.in_ok-text.text.items c.requires.system c.requires.end c.requires.won.1
-    (c.in_ok-proof.ensures.claim g c.requires.won.1) (c.in_ok-proof.ensures.steps g c.requires.won.1) c.in_ok-text.ensures.text
+    won_is_text c.args.system.now c.args.tree.now g proof.claim (map node_step_of proof.steps.items) c.in_ok-text.text.items c.requires.won.1
+    (c.in_ok-proof.ensures.claim g c.requires.won.1) (c.in_ok-proof.ensures.steps g c.requires.won.1) c.in_ok-text.ensures.text c.in_ok-text.ensures.proves

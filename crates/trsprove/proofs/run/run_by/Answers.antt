@@ -2,17 +2,18 @@ use Rattle.std.proofs.Common.{sym, ◌∙◌, subst}
 use Rattle.command_line.specs.Request.{request_of}
 use Rattle.trsprove.specs.Output.{texts, Writes}
 use Rattle.trsprove.specs.Answers.{status_of, text_of}
+use Rattle.trsprove.specs.Workers.{asked_of}
 use Rattle.trsprove.proofs.Running.{answer_ends, whole_text, answered_truly}
-use Rattle.trsprove.proofs.run.run.Goals as goal
+use Rattle.trsprove.proofs.run.run_by.Goals as goal
 
 pub put_answer-requires : goal.put_answer-requires
 put_answer-requires g c =
-    answer_ends (request_of (texts c.args.words.now)) (g.S.Shelf.means c.args.shelf.now) (g.S.Shelf.means c.answer_for.new.shelf) (status_of c.in-Ok.answer)
+    answer_ends (asked_of (g.P.Prover.workers c.args.prover.now) (request_of (texts c.args.words.now))) (g.S.Shelf.means c.args.shelf.now) (g.S.Shelf.means c.answer_for.new.shelf) (status_of c.in-Ok.answer)
     (text_of c.in-Ok.answer) c.in-Ok.ensures.answer
 
 pub returns-in-Ok-put_answer-clause-output : goal.returns-in-Ok-put_answer-clause-output
 returns-in-Ok-put_answer-clause-output g c =
-    let request = request_of (texts c.args.words.now) in
+    let request = asked_of (g.P.Prover.workers c.args.prover.now) (request_of (texts c.args.words.now)) in
     let before = g.S.Shelf.means c.args.shelf.now in
     let now = g.S.Shelf.means c.answer_for.new.shelf in
     let taken = g.K.Sink.means c.args.out.now in
@@ -23,6 +24,6 @@ returns-in-Ok-put_answer-clause-output g c =
 
 pub returns-in-Ok-put_answer-clause-truth : goal.returns-in-Ok-put_answer-clause-truth
 returns-in-Ok-put_answer-clause-truth g c = λ e.
-    answered_truly (request_of (texts c.args.words.now)) (g.S.Shelf.means c.args.shelf.now) (g.S.Shelf.means c.answer_for.new.shelf) (g.K.Sink.means c.args.out.now)
+    answered_truly (asked_of (g.P.Prover.workers c.args.prover.now) (request_of (texts c.args.words.now))) (g.S.Shelf.means c.args.shelf.now) (g.S.Shelf.means c.answer_for.new.shelf) (g.K.Sink.means c.args.out.now)
     (g.K.Sink.means c.put_answer.new.out) (status_of c.in-Ok.answer) (text_of c.in-Ok.answer) c.in-Ok.ensures.answer c.in-Ok-put_answer.ensures.puts.0
     (sym c.status.ensures ∙ e)
