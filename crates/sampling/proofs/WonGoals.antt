@@ -63,6 +63,12 @@ module _ (system : System) (budget : ℕ) (claim : Claim) (steps : List ProofNod
   pub true_refuted : claim ≡ Nonterminating → IsTrueJudgement system budget Refuted
   true_refuted is = refuted steps (subst (λ (k : Claim). IsAccepted system k steps) is accepted) (subst (λ (k : Claim). Says system k) is says)
 
+-- what is judged of a tree on this system is judged of the system
+pub judged_in : (system : System) (budget : ℕ) (tree : ProofTree) (judgement : Judgement) → tree.system ≡ system → tree.budget ≡ budget
+    → IsTrueJudgement tree.system tree.budget judgement → IsTrueJudgement system budget judgement
+judged_in system budget tree judgement of within h =
+    subst (λ (s : System). IsTrueJudgement s budget judgement) of (subst (λ b. IsTrueJudgement tree.system b judgement) within h)
+
 -- ---- the line of a sample
 
 module _ (size budget : ℕ) (system : System) (judgement : Judgement) (line : List ℕ) (same : system ≡ (sample size).system) (is : line ≡ line_of system judgement) where
