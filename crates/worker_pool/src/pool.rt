@@ -28,7 +28,9 @@ pub fn prove_with<'a, R: Threads + Wait + Sync, G: Gate>(
     ensures budget { IfOk result (λ f. f.budget ≡ limits.budget) }
     ensures verdict { IfOk result (λ f. HasVerdict (goals_of question) f.state) }
 {
-    let _ = (rt, alloc, question, trs, limits, workers);
+    let _ = (alloc, question, limits, workers);
+    let _ = rt;
+    let _ = trs;
     gate.after(0);
     Err(OutOfMemory)
 }
