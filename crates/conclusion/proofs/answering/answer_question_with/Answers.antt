@@ -12,5 +12,7 @@ returns g c =
     let same : tree ≡ c.in_ok-finished.finished = c.tree.ensures.tree in
     let asked : tree.question ≡ c.args.question = ap (λ (t : ProofTree). t.question) same ∙ c.in_ok-finished.ensures.question in
     let within : tree.budget ≡ c.args.budget = ap (λ (t : ProofTree). t.budget) same ∙ c.in_ok-finished.ensures.budget in
-    IfOk-weaker c.tree_text.result (λ text. IsTextOf c.args.system.now tree text.items) (λ text. Concludes c.args.system.now c.args.question c.args.budget text.items)
-    (λ text. answers c.args.system.now c.args.question c.args.budget tree text.items asked within) c.tree_text.ensures
+    record {
+      concludes = IfOk-weaker c.tree_text.result (λ text. IsTextOf c.args.system.now tree text.items) (λ text. Concludes c.args.system.now c.args.question c.args.budget text.items)
+          (λ text. answers c.args.system.now c.args.question c.args.budget tree text.items asked within) c.tree_text.ensures;
+    }

@@ -1,9 +1,7 @@
-use Rattle.std.proofs.Common.{◌≡◌, ◌∙◌, ap, sym, subst}
+use Rattle.std.proofs.Common.{◌≡◌, ◌∙◌, ap, subst}
 use Rattle.std.proofs.lemmas.Result.{IfOk-weaker}
-use Rattle.trs_defs.specs.System.{System}
 use Rattle.worker_pool.specs.tree_definitions.declared.question.Question.TheVariants.{Termination}
 use Rattle.worker_pool.specs.tree_definitions.Trees.{ProofTree}
-use Rattle.worker_pool.specs.Serial.{IsSerial}
 use Rattle.worker_pool.proofs.SerialEnds.{serial_end}
 use Rattle.sampling.specs.Judged.{IsTrueJudgement, IsSerialJudgement, IsJudgementOf}
 use Rattle.sampling.proofs.WonGoals.{judged_in}
@@ -19,13 +17,11 @@ returns-clause-is_true c =
 
 pub returns-clause-serial : goal.returns-clause-serial
 returns-clause-serial c =
-    let tree = c.tree.result.now in
     let system = c.args.trs.now in
-    let same : tree ≡ c.in_ok-finished.finished = c.tree.ensures.tree in
-    let of : tree.system ≡ system = ap (λ (t : ProofTree). t.system) same ∙ c.in_ok-finished.ensures.system in
-    let asked : tree.question ≡ Termination = ap (λ (t : ProofTree). t.question) same ∙ c.in_ok-finished.ensures.question in
-    let serial : IsSerial system c.args.budget tree.history =
-    subst (λ h. IsSerial system c.args.budget h) (ap (λ (t : ProofTree). t.history) (sym same)) c.in_ok-finished.ensures.serial in
-    let end = serial_end system Termination c.args.budget tree of asked serial c.tree.ensures.replays c.tree.ensures.verdict in
-    IfOk-weaker c.judgement_of.result (IsJudgementOf tree.state) (IsSerialJudgement system c.args.budget)
-    (λ judgement judged. record { state = tree.state; ends = end; judged = judged }) c.judgement_of.ensures.of_tree
+    let finished = c.in_ok-finished.finished in
+    let same : c.tree.result.now ≡ finished = c.tree.ensures.tree in
+    let end = serial_end system Termination c.args.budget finished c.in_ok-finished.ensures.system c.in_ok-finished.ensures.question c.in_ok-finished.ensures.serial
+    c.tree.ensures.replays c.tree.ensures.verdict in
+    IfOk-weaker c.judgement_of.result (IsJudgementOf c.tree.result.now.state) (IsSerialJudgement system c.args.budget)
+    (λ judgement judged. record { state = finished.state; ends = end; judged = subst (λ (t : ProofTree). IsJudgementOf t.state judgement) same judged })
+    c.judgement_of.ensures.of_tree

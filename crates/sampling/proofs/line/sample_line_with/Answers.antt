@@ -14,6 +14,8 @@ returns g c =
     let system = c.trs.result.now in
     let sampled : system ≡ (sample size).system = c.trs.ensures.trs ∙ ap (λ (s : NamedSystem). s.system) c.in_ok-sample.ensures in
     let again : c.trs-2.result.now ≡ system = c.trs-2.ensures.trs ∙ sym c.trs.ensures.trs in
-    IfOk-weaker c.line_of.result _ (λ line. IsSampleLine size c.args.budget line.items)
-    (λ line is. line_judged size c.args.budget system judgement line.items sampled (is ∙ ap (λ (s : System). line_of s judgement) again) c.in_ok-judgement.ensures.is_true)
-    c.line_of.ensures
+    record {
+      line = IfOk-weaker c.line_of.result _ (λ line. IsSampleLine size c.args.budget line.items)
+          (λ line is. line_judged size c.args.budget system judgement line.items sampled (is ∙ ap (λ (s : System). line_of s judgement) again) c.in_ok-judgement.ensures.is_true)
+          c.line_of.ensures;
+    }
