@@ -1,5 +1,8 @@
 //! Shelves and sinks, in memory and at the host.
-use io_edge::{FetchFault, FileShelf, MemoryShelf, MemorySink, Shelf, Sink};
+use crate::broken::{Broken, Reads};
+use io_edge::{
+    FetchFault, FileShelf, HostFiles, HostOutput, MemoryShelf, MemorySink, Shelf, Sink, WriterSink,
+};
 use std::fs;
 use std::test::*;
 
@@ -19,7 +22,7 @@ fn answers<S: Shelf>(
 #[test]
 fn files(rt: HostRuntime) -> Result<(), Fail> {
     fs::write(&rt, "seven", b"7 bytes")?;
-    let mut shelf = FileShelf::new(&rt, rt.alloc());
+    let mut shelf = FileShelf::new(HostFiles::new(&rt), rt.alloc());
     for (name, limit, wanted) in [
         ("seven", 7, Ok(b"7 bytes".as_slice())),
         ("seven", 6, Err(FetchFault::TooLong)),
@@ -42,5 +45,33 @@ fn memory(rt: HostRuntime) -> Result<(), Fail> {
     let mut sink = MemorySink::new(alloc, 4, Vec::new(alloc))?;
     assert!(rt; sink.put(b"abcd").is_ok());
     assert_eq!(rt; sink.taken(), b"abcd".as_slice());
+    Ok(())
+}
+
+// A file that is read in short pieces is read whole; one whose reader fails is no text, however much
+// of it was read before.
+#[test]
+fn readers(rt: HostRuntime) -> Result<(), Fail> {
+    for (reads, limit, wanted) in [
+        (Reads::Whole, 7, Ok(b"7 bytes".as_slice())),
+        (Reads::Whole, 6, Err(FetchFault::TooLong)),
+        (Reads::Short, 7, Ok(b"7 bytes".as_slice())),
+        (Reads::Short, 6, Err(FetchFault::TooLong)),
+        (Reads::FailsBehind(3), 7, Err(FetchFault::Failed)),
+        (Reads::FailsBehind(0), 7, Err(FetchFault::Failed)),
+        (Reads::FailsBehind(3), 2, Err(FetchFault::TooLong)),
+    ] {
+        let mut shelf = FileShelf::new(Broken { reads }, rt.alloc());
+        assert!(rt; answers(&mut shelf, "any", limit, wanted));
+    }
+    Ok(())
+}
+
+// What is put into the host's output goes there.
+#[test]
+fn output(rt: HostRuntime) -> Result<(), Fail> {
+    let mut sink = WriterSink::new(HostOutput::new(&rt));
+    assert!(rt; sink.put(b"a line\n").is_ok());
+    assert!(rt; sink.put(b"").is_ok());
     Ok(())
 }

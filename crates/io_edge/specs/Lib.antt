@@ -1,4 +1,5 @@
 pub mod Edge
+pub mod Telling
 pub mod Shelf
 pub mod Sink
 pub mod Named

@@ -3,6 +3,7 @@ use Rattle.std.specs.Prelude.{ℕ, List, map, Option, Some, None, String, string
 use Rattle.std.specs.declared.alloc.Global.{Global}
 use Rattle.std.specs.Map.{lookup}
 use Rattle.std.specs.Str.{bytes_eq}
+use Rattle.io_edge.specs.Telling.{Telling}
 use Rattle.io_edge.specs.Shelf.{ShelfMeaning}
 use Rattle.io_edge.specs.declared.counts.Tally.{Tally}
 
@@ -30,6 +31,6 @@ bytes_of (Some t) = t.bytes
 abbrev pub bytes_under : List (List ℕ × Tally) → List ℕ → ℕ
 bytes_under tallies name = bytes_of (first_under tallies name)
 
--- what a shelf means that counts so, and tells no texts
-abbrev pub untold : List (List ℕ × Tally) → ShelfMeaning
-untold tallies = record { text = λ _. None; faults = faults_under tallies; bytes = bytes_under tallies }
+-- what a shelf means that tells so, and counts so
+abbrev pub shelf_with : (List ℕ → Telling) → List (List ℕ × Tally) → ShelfMeaning
+shelf_with tells tallies = record { tells = tells; faults = faults_under tallies; bytes = bytes_under tallies }

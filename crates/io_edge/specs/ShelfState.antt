@@ -1,10 +1,11 @@
 -- What a shelf in memory is.
-use Rattle.std.specs.Prelude.{◌≡◌, ◌⊎◌, ℕ, Bool, List, map, length, Vec, String, string_bytes, Option, Some, None, Result, Ok, Err, nat_eq, nat_le, if◌then◌else◌}
+use Rattle.std.specs.Prelude.{◌≡◌, ◌⊎◌, ℕ, Bool, List, [], map, length, Vec, String, string_bytes, Option, Some, None, Result, Ok, Err, nat_eq, nat_le, if◌then◌else◌}
 use Rattle.std.specs.declared.alloc.Global.{Global}
 use Rattle.std.specs.List.{list_any}
 use Rattle.io_edge.specs.Edge.{count_after}
 use Rattle.io_edge.specs.Shelf.{ShelfMeaning}
-use Rattle.io_edge.specs.Named.{first_under, faults_under, bytes_under}
+use Rattle.io_edge.specs.Telling.{Telling, told, absent}
+use Rattle.io_edge.specs.Named.{first_under, shelf_with}
 use Rattle.io_edge.specs.declared.counts.Tally.{Tally}
 use Rattle.io_edge.specs.declared.fault.FetchFault.{FetchFault}
 use Rattle.io_edge.specs.declared.fault.FetchFault.TheVariants.{TooLong, Failed, OutOfMemory}
@@ -19,9 +20,14 @@ pub record ShelfState : Type 0 where
   -- counts of faults and of bytes read under names
   pub tallies : List (List ℕ × Tally)
 
--- what it means: it tells its texts, of which the first under a name counts
+-- what is told of a text that lies in memory, or is not there
+abbrev pub telling_of : Option (List ℕ) → Telling
+telling_of None = absent []
+telling_of (Some text) = told text
+
+-- what it means: it tells its texts, of which the first under a name counts, and that no others are there
 abbrev pub shelf_meaning : ShelfState → ShelfMeaning
-shelf_meaning s = record { text = first_under s.texts; faults = faults_under s.tallies; bytes = bytes_under s.tallies }
+shelf_meaning s = shelf_with (λ name. telling_of (first_under s.texts name)) s.tallies
 
 -- texts under names, as they lie in memory
 abbrev pub texts_of : List (String Global × Vec ℕ Global) → List (List ℕ × List ℕ)

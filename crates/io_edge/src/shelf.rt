@@ -9,7 +9,8 @@ use crate::fault::FetchFault;
 pub trait Shelf {
     ghost means: { Self → ShelfMeaning };
 
-    /// The whole text under a name, of at most `limit` bytes. A name with no text is a fault.
+    /// The whole text under a name, of at most `limit` bytes. A name with no text is a fault: where
+    /// the shelf tells that there is none, no text is answered.
     fn fetch(&mut self, name: &str, limit: u64) -> Result<Vec<u8>, FetchFault>
         ensures whole { IfOk result (λ v. MayBe (means self.old) name.now v.items) }
         ensures bound { IfOk result (λ v. length v.items ≤ limit) }

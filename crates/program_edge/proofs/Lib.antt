@@ -1,4 +1,4 @@
 pub mod Putting
+pub mod Splitting
 pub mod PuttingLines
-pub mod Ends
 pub mod OneConclusion

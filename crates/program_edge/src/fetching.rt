@@ -43,7 +43,7 @@ impl<'a> Unfetched<'a> {
 
 /// What is said of the text under a name that a shelf did not answer. Only want of memory has no
 /// line.
-pub fn unfetched<'a>(name: &'a str, fault: FetchFault) -> Result<Unfetched<'a>, AllocError>
+pub fn name_fault<'a>(name: &'a str, fault: FetchFault) -> Result<Unfetched<'a>, AllocError>
     ensures { IfOk result (λ u.
         IsUnfetched fault name.now (unfetched_status u) (unfetched_line u)) }
 {

@@ -1,7 +1,6 @@
-ghost use Rattle.std.specs.Prelude.{◌++◌, ◌∷◌, [], decimal};
-ghost use Rattle.io_edge.specs.Sink.{SinkMeaning, IsOnePut};
-ghost use Rattle.program_edge.specs.Puts.{Puts, PutsLines};
-ghost use Rattle.program_edge.specs.LinePuts.{EndsLine};
+ghost use Rattle.std.specs.Prelude.{◌≡◌, ◌++◌, ◌∷◌, [], decimal, IfSome, IsNone};
+ghost use Rattle.program_edge.specs.Puts.{Puts, PutsOne, PutsLines};
+ghost use Rattle.program_edge.specs.LinePuts.{IsFirstLine};
 ghost use Rattle.program_edge.specs.Numbers.{fields_text};
 
 use io_edge::{Sink, SinkFailed};
@@ -10,25 +9,38 @@ use itoa::Buffer;
 /// Puts one piece.
 pub fn put_one<K: Sink>(out: &mut K, piece: &[u8]) -> Result<(), SinkFailed>
     ensures puts { Puts result (K.means out.old) piece.now (K.means out.new) }
-    ensures put { IsOnePut (K.means out.old) (K.means out.new) }
+    ensures one { PutsOne result (K.means out.old) piece.now (K.means out.new) }
 {
     out.put(piece)
 }
 
-/// Puts the lines of a text, one after the other.
+/// Puts the lines of a text, one after the other: it is split behind each line feed.
 pub fn put_lines<K: Sink>(out: &mut K, text: &[u8]) -> Result<(), SinkFailed>
-    requires { EndsLine text.now }
     ensures puts { Puts result (K.means out.old) text.now (K.means out.new) }
     ensures lines { PutsLines result (K.means out.old) text.now (K.means out.new) }
 {
-    let mut start = 0;
-    for (i, byte) in text.iter().enumerate() {
-        if *byte == b'\n' {
-            put_one(out, &text[start..i + 1])?;
-            start = i + 1;
-        }
+    let mut rest = text;
+    while let Some((line, behind)) = first_line(rest) {
+        put_one(out, line)?;
+        rest = behind;
     }
     Ok(())
+}
+
+// The first line of a text that is not empty, and what stands behind it.
+fn first_line(text: &[u8]) -> Option<(&[u8], &[u8])>
+    ensures some { IfSome result (λ p. IsFirstLine text.now p.0.now p.1.now) }
+    ensures none { IsNone result → text.now ≡ [] }
+{
+    for (i, byte) in text.iter().enumerate() {
+        if *byte == b'\n' {
+            return Some(text.split_at(i + 1));
+        }
+    }
+    if text.is_empty() {
+        return None;
+    }
+    Some((text, &[]))
 }
 
 // Puts two pieces, one behind the other.

@@ -5,10 +5,7 @@ ghost use Rattle.std.specs.String.{string_bytes};
 use std::alloc::{AllocError, Global};
 
 /// The arguments behind the program's name.
-pub fn words_of<'a>(
-    alloc: Global,
-    arguments: &'a [String],
-) -> Result<Vec<&'a str>, AllocError>
+pub fn words_of<'a>(alloc: Global, arguments: &'a [String]) -> Result<Vec<&'a str>, AllocError>
     ensures { IfOk result (λ words.
         map (λ w. w.now) words.items ≡ map string_bytes (drop 1 arguments.now)) }
 {

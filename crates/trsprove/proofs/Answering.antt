@@ -1,5 +1,6 @@
 -- That the answer is the only one.
-use Rattle.std.proofs.Common.{◌≡◌, ◌≢◌, ◌≤◌, ◌<◌, ◌⊎◌, inl, inr, ℕ, List, length, Option, Some, IfSome, refl, sym, subst, arith}
+use Rattle.std.proofs.Common.{◌≡◌, ◌≢◌, ◌≤◌, ◌<◌, ◌⊎◌, inl, inr, ℕ, List, length, Option, Some, refl, sym, subst, arith}
+use Rattle.io_edge.specs.Telling.{CanBe, CanPass}
 use Rattle.io_edge.specs.Shelf.{ShelfMeaning, Told, MayBe, MayPass}
 use Rattle.names_text.specs.Named.{NamedSystem}
 use Rattle.ari_text.specs.Problem.{IsProblemRefused}
@@ -72,11 +73,11 @@ module _ (problem certificate : List ℕ) where
 
 -- a text that is told is the one that may be there
 pub told_is : (shelf : ShelfMeaning) (name v t : List ℕ) → MayBe shelf name v → Told shelf name t → v ≡ t
-told_is shelf name v t may_be told = subst (λ o. IfSome o (λ u. v ≡ u)) told may_be
+told_is shelf name v t may_be told = subst (λ o. CanBe o v) told may_be
 
 pub not_long : (limit : ℕ) (shelf : ShelfMeaning) (name t : List ℕ) → Told shelf name t → length t ≤ limit → MayPass limit shelf name → ⊥
 not_long limit shelf name t told within passes =
-    let long : limit < length t = subst (λ o. IfSome o (λ u. limit < length u)) told passes in omega arith
+    let long : limit < length t = subst (CanPass limit) told passes in omega arith
 
 pub too_long_within : (limit : ℕ) (shelf : ShelfMeaning) (name v : List ℕ) → MayBe shelf name v → length v ≤ limit → IsTooLong limit (Told shelf) name → ⊥
 too_long_within limit shelf name v may_be within (t, told, long) =

@@ -1,6 +1,7 @@
 -- What is known of a shelf after texts were fetched.
-use Rattle.std.proofs.Common.{◌≡◌, ◌≢◌, ◌≤◌, ◌<◌, ◌⊎◌, inl, inr, ℕ, List, length, Option, Some, IfSome, Result, Ok, Err, IfOk, refl, sym, subst, ◌∙◌, arith}
+use Rattle.std.proofs.Common.{◌≡◌, ◌≢◌, ◌≤◌, ◌⊎◌, inl, inr, ℕ, List, length, Option, Some, Result, Ok, Err, IfOk, refl, sym, subst, ◌∙◌, arith}
 use Rattle.io_edge.specs.Edge.{Rose, RoseBy}
+use Rattle.io_edge.specs.Telling.{CanBe, CanPass}
 use Rattle.io_edge.specs.Shelf.{ShelfMeaning, MayBe, MayPass, TellsTheSame, CountsRise, CountsFault, FaultRose, ReadPast, IsUntouched}
 use Rattle.io_edge.specs.declared.fault.FetchFault.{FetchFault}
 use Rattle.io_edge.specs.declared.fault.FetchFault.TheVariants as fetch
@@ -33,10 +34,10 @@ rose_by_later n a b c h k = omega arith
 
 -- what may stand on a shelf stood there before, where it tells the same
 pub may_be_before : (before middle : ShelfMeaning) (name text : List ℕ) → TellsTheSame before middle → MayBe middle name text → MayBe before name text
-may_be_before before middle name text same h = subst (λ o. IfSome o (λ u. text ≡ u)) (same name) h
+may_be_before before middle name text same h = subst (λ o. CanBe o text) (same name) h
 
 pub may_pass_before : (limit : ℕ) (before middle : ShelfMeaning) (name : List ℕ) → TellsTheSame before middle → MayPass limit middle name → MayPass limit before name
-may_pass_before limit before middle name same h = subst (λ o. IfSome o (λ u. limit < length u)) (same name) h
+may_pass_before limit before middle name same h = subst (CanPass limit) (same name) h
 
 -- a fault came under a name that is needed
 abbrev pub IsFault : Option Asked → ShelfMeaning → ShelfMeaning → List ℕ → Type 0

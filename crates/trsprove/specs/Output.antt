@@ -1,15 +1,15 @@
 -- What the program answers: a status and a text, by what its words ask for and by the texts under their names.
 use Rattle.std.specs.Prelude.{◌≡◌, ◌⊎◌, ◌<◌, ◌≤◌, ℕ, List, map, Option, Some, None, length}
 use denote.Ref.{Bor}
-use Rattle.io_edge.specs.Shelf.{ShelfMeaning, Told, MayBe, MayPass, FaultRose, ReadPast, IsUntouched}
-use Rattle.io_edge.specs.Sink.{SinkMeaning, AppendsTo, AppendsPrefix}
+use Rattle.io_edge.specs.Shelf.{ShelfMeaning, Told, ToldAbsent, MayBe, MayPass, TellsTheSame, NoCountFell, FaultRose, ReadPast, IsUntouched}
+use Rattle.io_edge.specs.Sink.{SinkMeaning, AppendsTo, AppendsPrefix, NoSinkCountFell}
 use Rattle.command_line.specs.Request.{Asked, certifies, proves, samples}
 use Rattle.command_line.specs.declared.Question.{Question}
 use Rattle.command_line.specs.declared.Wanted.{Wanted}
 use Rattle.program_edge.specs.declared.status.Status.{Status}
 use Rattle.program_edge.specs.declared.status.Status.TheVariants as status
 use Rattle.program_edge.specs.Lines.{too_long_line, read_fault_line}
-use Rattle.program_edge.specs.LinePuts.{IsPutByLine, IsFrontPutByLine}
+use Rattle.program_edge.specs.LinePuts.{lines_of, ArePut, IsFrontPut}
 use Rattle.program_edge.specs.Fetching.{most_problem_bytes}
 use Rattle.program_edge.specs.Conclusions.{IsConclusion}
 use Rattle.trsprove.specs.Lines.{usage_line}
@@ -92,15 +92,15 @@ abbrev pub GivesVerdict : Status → Type 0
 GivesVerdict s = (s ≡ status.Answered) ⊎ (s ≡ status.Rejected)
 
 -- what a status says of the bytes that the sink took: they are the text, or, where writing failed, a front of a text; where
--- it gives a verdict, each line is one put
+-- it gives a verdict, each line is one put, and where writing failed, each line of a front is, and a prefix of the next
 abbrev pub Writes : Option Asked → ShelfMeaning → ShelfMeaning → Status → SinkMeaning → SinkMeaning → Type 0
 Writes request before now status.WriteFault taken later = (s : Status) × (text : List ℕ)
     × IsAnswer request before now s text × AppendsPrefix taken text later
-    × (GivesVerdict s → IsFrontPutByLine taken text later)
+    × (GivesVerdict s → IsFrontPut taken (lines_of text) later)
 Writes request before now status.OutOfMemory taken later = later ≡ taken
 Writes request before now s taken later = (text : List ℕ)
     × IsAnswer request before now s text × AppendsTo taken text later
-    × (GivesVerdict s → IsPutByLine taken text later)
+    × (GivesVerdict s → ArePut taken (lines_of text) later)
 
 -- this status, unless a fault or want of memory came
 abbrev pub IsOr : Status → Status → Type 0
@@ -112,6 +112,22 @@ IsOr wanted s = s ≡ wanted
 -- where the texts that the shelf tells have an answer, the status is that of the answer, faults and want of memory aside
 abbrev pub AnswersOnly : Option Asked → ShelfMeaning → Status → Type 0
 AnswersOnly request shelf s = (wanted : Status) (text : List ℕ) → Output request (Told shelf) wanted text → IsOr wanted s
+
+-- where the shelf tells that a text that is needed is not there, no answer is given: it is a read fault, unless another
+-- fault or want of memory comes
+abbrev pub AnswersNoAbsence : Option Asked → ShelfMeaning → Status → Type 0
+AnswersNoAbsence request shelf s = (name : List ℕ) (limit : ℕ)
+    → IsNeeded request (IsWithin most_problem_bytes (Told shelf)) name limit → ToldAbsent shelf limit name
+    → IsOr status.ReadFault s
+
+-- the shelf can be asked again: it tells the same texts, and no count fell
+pub record CanAskAgain (before now : ShelfMeaning) : Type 0 where
+  pub told : TellsTheSame before now
+  pub counts : NoCountFell before now
+
+-- the program can be run again, on this shelf and this sink
+abbrev pub CanRunAgain : ShelfMeaning → ShelfMeaning → SinkMeaning → SinkMeaning → Type 0
+CanRunAgain before now taken later = CanAskAgain before now × NoSinkCountFell taken later
 
 -- nothing is counted under a name, unless its text is needed
 abbrev pub TouchesOnlyNeeded : Option Asked → ShelfMeaning → ShelfMeaning → Type 0

@@ -10,7 +10,7 @@ use Rattle.io_edge.specs.Sink.{SinkMeaning}
 use Rattle.command_line.specs.Request.{Asked, request_of}
 use Rattle.program_edge.specs.declared.status.Status.{Status}
 use Rattle.program_edge.specs.declared.status.Status.TheVariants as status
-use Rattle.trsprove.specs.Output.{Writes, AnswersOnly, TouchesOnlyNeeded}
+use Rattle.trsprove.specs.Output.{Writes, AnswersOnly, TouchesOnlyNeeded, AnswersNoAbsence, CanRunAgain}
 use Rattle.trsprove.specs.Truth.{IsTrueAnswer}
 use Rattle.program_edge.specs.Statuses.{code_of}
 
@@ -21,6 +21,8 @@ pub record IsRun (request : Option Asked) (before now : ShelfMeaning) (s : Statu
   pub only : AnswersOnly request before s
   pub truth : s ≡ status.Answered → IsTrueAnswer request before taken later
   pub untouched : TouchesOnlyNeeded request before now
+  pub absent : AnswersNoAbsence request before s
+  pub again : CanRunAgain before now taken later
 
 -- a run ended with this exit code
 abbrev pub EndsWith : Option Asked → ShelfMeaning → ShelfMeaning → ℕ → SinkMeaning → SinkMeaning → Type 0

@@ -1,7 +1,7 @@
 ghost use Rattle.std.specs.Prelude.{◌≡◌, ◌≤◌, IfOk};
 ghost use Rattle.command_line.specs.Request.{request_of};
 ghost use Rattle.program_edge.specs.Fetching.{IsUnfetched};
-ghost use Rattle.trsprove.specs.Output.{texts, IsAnswer, AnswersOnly, TouchesOnlyNeeded};
+ghost use Rattle.trsprove.specs.Output.{texts, IsAnswer, AnswersOnly, TouchesOnlyNeeded, CanAskAgain};
 ghost use Rattle.trsprove.specs.Answers.{status_of, text_of};
 ghost use Rattle.trsprove.specs.Workers.{asked_of};
 
@@ -13,7 +13,7 @@ use ari_text::AriFault;
 use certifier::Claim;
 use command_line::{Refused, Request, parse};
 use io_edge::{FetchFault, Shelf};
-use program_edge::{Status, Unfetched, unfetched};
+use program_edge::{Status, Unfetched, name_fault};
 use std::alloc::{AllocError, Global};
 
 /// What is to be written.
@@ -51,7 +51,7 @@ impl<'a> Answer<'a> {
 pub(crate) fn not_fetched<'a>(name: &'a str, fault: FetchFault) -> Result<Answer<'a>, AllocError>
     ensures { IfOk result (λ a. IsUnfetched fault name.now (status_of a) (text_of a)) }
 {
-    Ok(Answer::Unfetched(unfetched(name, fault)?))
+    Ok(Answer::Unfetched(name_fault(name, fault)?))
 }
 
 /// What the words ask of a prover, by the texts of the shelf.
@@ -70,6 +70,7 @@ pub(crate) fn answer_for<'a, S: Shelf, P: Prover>(
     ensures untouched {
         TouchesOnlyNeeded (asked_of (P.workers prover.now) (request_of (texts words.now)))
         (S.means shelf.old) (S.means shelf.new) }
+    ensures again { CanAskAgain (S.means shelf.old) (S.means shelf.new) }
 {
     match parse(alloc, words) {
         Ok(

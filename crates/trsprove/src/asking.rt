@@ -3,7 +3,7 @@ ghost use Rattle.std.specs.Prelude.{◌≡◌, ◌≤◌, Some, IfOk, length};
 ghost use Rattle.command_line.specs.Request.{proves};
 ghost use Rattle.program_edge.specs.Conclusions.{IsConclusion};
 ghost use Rattle.program_edge.specs.Fetching.{most_problem_bytes};
-ghost use Rattle.trsprove.specs.Output.{IsAnswer, AnswersOnly, TouchesOnlyNeeded};
+ghost use Rattle.trsprove.specs.Output.{IsAnswer, AnswersOnly, TouchesOnlyNeeded, CanAskAgain};
 ghost use Rattle.trsprove.specs.Answers.{status_of, text_of};
 
 use crate::answer::{Answer, not_fetched};
@@ -31,6 +31,7 @@ pub(crate) fn concluded<'a, S: Shelf, P: Prover>(
     ensures untouched { TouchesOnlyNeeded
         (Some (proves question problem.now (P.workers prover.now) budget))
         (S.means shelf.old) (S.means shelf.new) }
+    ensures again { CanAskAgain (S.means shelf.old) (S.means shelf.new) }
 {
     match shelf.fetch(problem, MOST_PROBLEM_BYTES) {
         Ok(text) => answered(alloc, prover, question, budget, &text),

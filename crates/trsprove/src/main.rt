@@ -15,11 +15,12 @@ mod team;
 
 use crate::arguments::run_arguments;
 use conclusion::OpenGate;
-use io_edge::{FileShelf, StdSink};
+use io_edge::{FileShelf, HostFiles, HostOutput, WriterSink};
 use std::env;
 use std::process::ExitCode;
 
 fn main(rt: HostRuntime) -> ExitCode {
-    let (mut shelf, mut out) = (FileShelf::new(&rt, rt.alloc()), StdSink::new(&rt));
+    let mut shelf = FileShelf::new(HostFiles::new(&rt), rt.alloc());
+    let mut out = WriterSink::new(HostOutput::new(&rt));
     run_arguments(&rt, rt.alloc(), env::args(&rt), &mut shelf, &mut out, &OpenGate)
 }

@@ -1,6 +1,5 @@
 ghost use Rattle.std.specs.Prelude.{◌≡◌};
 ghost use Rattle.program_edge.specs.Puts.{Puts, PutsLines};
-ghost use Rattle.program_edge.specs.LinePuts.{EndsLine};
 ghost use Rattle.trsprove.specs.Output.{GivesVerdict};
 ghost use Rattle.trsprove.specs.Answers.{status_of, text_of};
 
@@ -18,7 +17,6 @@ const TOO_HEAVY: &[u8] = b"REJECTED too-heavy\n";
 
 /// Puts the text of an answer.
 pub(crate) fn put_answer<K: Sink>(answer: &Answer<'_>, out: &mut K) -> Result<(), SinkFailed>
-    requires { GivesVerdict (status_of answer.now) → EndsLine (text_of answer.now) }
     ensures puts { Puts result (K.means out.old) (text_of answer.now) (K.means out.new) }
     ensures lines { GivesVerdict (status_of answer.now) →
         PutsLines result (K.means out.old) (text_of answer.now) (K.means out.new) }

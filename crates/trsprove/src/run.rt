@@ -1,7 +1,7 @@
 ghost use Rattle.std.specs.Prelude.{◌≡◌, ◌≤◌, IfOk};
 ghost use Rattle.io_edge.specs.Edge.{Rose};
 ghost use Rattle.command_line.specs.Request.{request_of};
-ghost use Rattle.trsprove.specs.Output.{texts, Writes, AnswersOnly, TouchesOnlyNeeded};
+ghost use Rattle.trsprove.specs.Output.{texts, Writes, AnswersOnly, TouchesOnlyNeeded, AnswersNoAbsence, CanRunAgain};
 ghost use Rattle.trsprove.specs.Truth.{IsTrueAnswer};
 ghost use Rattle.trsprove.specs.Workers.{asked_of};
 
@@ -48,6 +48,13 @@ pub fn run<R: Threads + Wait + Sync, S: Shelf, K: Sink, G: Gate>(
     // No other text is fetched than those that are needed.
     ensures untouched { TouchesOnlyNeeded (request_of (texts words.now))
         (S.means shelf.old) (S.means shelf.new) }
+
+    // Where the shelf tells that a text that is needed is not there, no answer is given.
+    ensures absent { AnswersNoAbsence (request_of (texts words.now)) (S.means shelf.old) result }
+
+    // It can be called again: no count fell, and the shelf tells the same texts.
+    ensures again { CanRunAgain (S.means shelf.old) (S.means shelf.new)
+        (K.means out.old) (K.means out.new) }
 {
     let Ok(workers) = workers_for(alloc, words) else {
         return Status::OutOfMemory;
@@ -79,6 +86,10 @@ pub fn run_alone<S: Shelf, K: Sink>(
         (S.means shelf.old) (K.means out.old) (K.means out.new) }
     ensures untouched { TouchesOnlyNeeded (asked_of 1 (request_of (texts words.now)))
         (S.means shelf.old) (S.means shelf.new) }
+    ensures absent { AnswersNoAbsence (asked_of 1 (request_of (texts words.now))) (S.means shelf.old)
+        result }
+    ensures again { CanRunAgain (S.means shelf.old) (S.means shelf.new)
+        (K.means out.old) (K.means out.new) }
 {
     run_by(alloc, words, shelf, out, &Alone)
 }
@@ -117,6 +128,10 @@ fn run_by<S: Shelf, K: Sink, P: Prover>(
     ensures untouched {
         TouchesOnlyNeeded (asked_of (P.workers prover.now) (request_of (texts words.now)))
         (S.means shelf.old) (S.means shelf.new) }
+    ensures absent { AnswersNoAbsence (asked_of (P.workers prover.now) (request_of (texts words.now))) (S.means shelf.old)
+        result }
+    ensures again { CanRunAgain (S.means shelf.old) (S.means shelf.new)
+        (K.means out.old) (K.means out.new) }
 {
     let Ok(answer) = answer_for(alloc, words, shelf, prover) else {
         return Status::OutOfMemory;

@@ -1,11 +1,11 @@
 use Rattle.std.proofs.Common.{ℕ, ◌≡◌, ◌⊎◌, ◌+◌, ◌*◌, ◌-◌, ◌≤◌, length}
-use Rattle.std.specs.Io.KnownBytes.{Consumes}
+use Rattle.io_edge.specs.Telling.{Gives}
 use Rattle.io_edge.proofs.file_shelf.read_to_limit.Given as goal
 
 abbrev pub invariant-loop-file : goal.invariant-loop-file
 invariant-loop-file g l = record {
   bound : length l.text.items ≤ l.limit + 1;
-  consumed : Consumes (g.F.Read.remaining l.fn.file) (g.F.Read.remaining l.file) l.text.items;
+  given : Gives (g.F.Source.left l.fn.file) l.text.items (g.F.Source.left l.file);
   chunks : ((chunks : ℕ) × (length l.text.items ≡ chunks * 4096)) ⊎ (length l.text.items ≡ l.limit + 1);
 }
 

@@ -2,7 +2,7 @@ use Rattle.std.proofs.Common.{◌∷◌, [], ◌++◌, codes}
 use Rattle.program_edge.specs.Numbers.{fields_text}
 use Rattle.program_edge.specs.Lines.{problem_fields}
 use Rattle.program_edge.proofs.Putting.{puts_first, puts_then}
-use Rattle.program_edge.proofs.report.put_refused.Goals as goal
+use Rattle.program_edge.proofs.lines.put_refused.Goals as goal
 
 pub returns-in_err-put_one : goal.returns-in_err-put_one
 returns-in_err-put_one g c =

@@ -63,7 +63,7 @@ returns-in-Ok-Sample-clause-answer g c =
     let asks : request ≡ Some (samples asked.size workers asked.budget) = ap (asked_of workers) said in
     for_both_ok _ _ _ c.sampled.result
     (λ a status line. line_answers request asked.size workers asked.budget asks before
-    (record { text = before.text; faults = _; bytes = _ }) (status_of a) (text_of a) status line)
+    (record { tells = before.tells; faults = _; bytes = _ }) (status_of a) (text_of a) status line)
     c.sampled.ensures.status c.sampled.ensures.line
 
 pub returns-in-Ok-Sample-clause-only : goal.returns-in-Ok-Sample-clause-only

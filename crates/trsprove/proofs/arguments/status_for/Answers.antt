@@ -13,4 +13,6 @@ returns-in-Err-2 g c =
       only = c.run.ensures.only;
       truth = c.run.ensures.truth;
       untouched = c.run.ensures.untouched;
+      absent = c.run.ensures.absent;
+      again = c.run.ensures.again;
     }))

@@ -23,4 +23,6 @@ returns-in-Ok-words_of g c =
       only = c.run.ensures.only;
       truth = c.run.ensures.truth;
       untouched = c.run.ensures.untouched;
+      absent = c.run.ensures.absent;
+      again = c.run.ensures.again;
     })

@@ -7,6 +7,7 @@ use Rattle.program_edge.specs.Fetching.{most_problem_bytes}
 use Rattle.trsprove.specs.Answers.{status_of, text_of}
 use Rattle.trsprove.proofs.Fetching.{fault_came, unfetched_line}
 use Rattle.trsprove.proofs.Questions.{fetched_conclusion, conclusion_only, not_fetched_only, touched_problem}
+use Rattle.trsprove.proofs.AskingAgain.{once_again}
 use Rattle.trsprove.proofs.asking.concluded.Goals as goal
 
 pub returns-in-Ok-clause-answer : goal.returns-in-Ok-clause-answer
@@ -72,3 +73,11 @@ returns-in-Err-clause-untouched g c =
     let workers = g.P.Prover.workers c.args.prover.now in
     touched_problem c.args.question c.args.problem.now workers c.args.budget (g.S.Shelf.means c.args.shelf.now) (g.S.Shelf.means c.fetch.new.self) c.fetch.ensures.faults
     c.fetch.ensures.read
+
+pub returns-in-Ok-clause-again : goal.returns-in-Ok-clause-again
+returns-in-Ok-clause-again g c =
+    once_again (g.S.Shelf.means c.args.shelf.now) (g.S.Shelf.means c.fetch.new.self) c.args.problem.now c.fetch.ensures.told c.fetch.ensures.faults c.fetch.ensures.read
+
+pub returns-in-Err-clause-again : goal.returns-in-Err-clause-again
+returns-in-Err-clause-again g c =
+    once_again (g.S.Shelf.means c.args.shelf.now) (g.S.Shelf.means c.fetch.new.self) c.args.problem.now c.fetch.ensures.told c.fetch.ensures.faults c.fetch.ensures.read

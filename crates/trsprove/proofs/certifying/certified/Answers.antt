@@ -7,6 +7,7 @@ use Rattle.program_edge.specs.Fetching.{most_problem_bytes}
 use Rattle.trsprove.specs.Answers.{status_of, text_of}
 use Rattle.trsprove.proofs.Fetching.{fault_came, not_counted, rose_by_later, may_be_before, may_pass_before, unfetched_line, fetched_text, touched_first, second_fault, second_long, touched_both}
 use Rattle.trsprove.proofs.Answering.{unfetched_only, verdict_only}
+use Rattle.trsprove.proofs.AskingAgain.{once_again, twice_again}
 use Rattle.trsprove.proofs.certifying.certified.Goals as goal
 
 pub returns-in-Ok-fetch-clause-answer : goal.returns-in-Ok-fetch-clause-answer
@@ -109,3 +110,23 @@ pub returns-clause-untouched : goal.returns-clause-untouched
 returns-clause-untouched g c =
     touched_first c.args.wanted c.args.problem.now c.args.certificate.now (g.S.Shelf.means c.args.shelf.now) (g.S.Shelf.means c.fetch.new.self) c.fetch.ensures.faults
     c.fetch.ensures.read
+
+pub returns-in-Ok-fetch-clause-again : goal.returns-in-Ok-fetch-clause-again
+returns-in-Ok-fetch-clause-again g c =
+    let before = g.S.Shelf.means c.args.shelf.now in
+    let middle = g.S.Shelf.means c.fetch.new.self in
+    let now = g.S.Shelf.means c.fetch-in-Ok.new.self in
+    twice_again before middle now (once_again before middle c.args.problem.now c.fetch.ensures.told c.fetch.ensures.faults c.fetch.ensures.read)
+    (once_again middle now c.args.certificate.now c.fetch-in-Ok.ensures.told c.fetch-in-Ok.ensures.faults c.fetch-in-Ok.ensures.read)
+
+pub returns-in-Ok-clause-again : goal.returns-in-Ok-clause-again
+returns-in-Ok-clause-again g c =
+    let before = g.S.Shelf.means c.args.shelf.now in
+    let middle = g.S.Shelf.means c.fetch.new.self in
+    let now = g.S.Shelf.means c.fetch-in-Ok.new.self in
+    twice_again before middle now (once_again before middle c.args.problem.now c.fetch.ensures.told c.fetch.ensures.faults c.fetch.ensures.read)
+    (once_again middle now c.args.certificate.now c.fetch-in-Ok.ensures.told c.fetch-in-Ok.ensures.faults c.fetch-in-Ok.ensures.read)
+
+pub returns-clause-again : goal.returns-clause-again
+returns-clause-again g c =
+    once_again (g.S.Shelf.means c.args.shelf.now) (g.S.Shelf.means c.fetch.new.self) c.args.problem.now c.fetch.ensures.told c.fetch.ensures.faults c.fetch.ensures.read

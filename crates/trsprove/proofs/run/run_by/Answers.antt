@@ -3,13 +3,8 @@ use Rattle.command_line.specs.Request.{request_of}
 use Rattle.trsprove.specs.Output.{texts, Writes}
 use Rattle.trsprove.specs.Answers.{status_of, text_of}
 use Rattle.trsprove.specs.Workers.{asked_of}
-use Rattle.trsprove.proofs.Running.{answer_ends, whole_text, answered_truly}
+use Rattle.trsprove.proofs.Running.{whole_text, answered_truly}
 use Rattle.trsprove.proofs.run.run_by.Goals as goal
-
-pub put_answer-requires : goal.put_answer-requires
-put_answer-requires g c =
-    answer_ends (asked_of (g.P.Prover.workers c.args.prover.now) (request_of (texts c.args.words.now))) (g.S.Shelf.means c.args.shelf.now) (g.S.Shelf.means c.answer_for.new.shelf) (status_of c.in-Ok.answer)
-    (text_of c.in-Ok.answer) c.in-Ok.ensures.answer
 
 pub returns-in-Ok-put_answer-clause-output : goal.returns-in-Ok-put_answer-clause-output
 returns-in-Ok-put_answer-clause-output g c =
