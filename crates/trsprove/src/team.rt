@@ -13,6 +13,7 @@ use std::sync::Wait;
 use std::thread::Threads;
 
 /// Several workers on one proof tree, who may wait for each other.
+#[derive(Drop)]
 pub(crate) struct Team<'r, R: Threads + Wait + Sync, G: Gate> {
     pub(crate) rt: &'r R,
     pub(crate) workers: u32,
