@@ -1,5 +1,5 @@
 -- What is answered to a question about the system of a problem text.
-use Rattle.std.specs.Prelude.{◌≢◌, ℕ, List}
+use Rattle.std.specs.Prelude.{◌≡◌, ◌≢◌, ℕ, List}
 use Rattle.names_text.specs.Named.{NamedSystem}
 use Rattle.ari_text.specs.Problem.{SaysSystem, IsProblemRefused}
 use Rattle.ari_text.specs.declared.fault.AriFault.{AriFault}
@@ -22,13 +22,19 @@ question_of word.Termination = goals.Termination
 question_of word.Confluence = goals.Confluence
 question_of word.Unique = goals.Unique
 
--- what is answered to a question about the system of a problem text, by the searches of one worker within a budget: a status,
--- and the text that is written
-pub data IsConclusion (problem : List ℕ) (question : Question) (budget : ℕ) : Status → List ℕ → Type 0 where
+-- the text answers the question, and is that of the serial history where there is one worker
+pub record IsAnsweredBy (workers : ℕ) (named : NamedSystem) (question : tree.Question) (budget : ℕ) (text : List ℕ) : Type 0 where
+  pub concludes : Concludes named question budget text
+  pub serial : workers ≡ 1 → IsSerialText named question budget text
+
+-- what is answered to a question about the system of a problem text, by the searches of so many workers within a budget: a
+-- status, and the text that is written
+pub data IsConclusion (problem : List ℕ) (question : Question) (workers budget : ℕ) : Status → List ℕ → Type 0 where
   no_system : (fault : AriFault) → IsProblemRefused problem fault → fault ≢ ari.OutOfMemory
-      → IsConclusion problem question budget status.Refused (refused_line fault)
-  concluded : {text : List ℕ} (named : NamedSystem) → SaysSystem problem named → Concludes named (question_of question) budget text
-      → IsSerialText named (question_of question) budget text → IsConclusion problem question budget status.Answered text
+      → IsConclusion problem question workers budget status.Refused (refused_line fault)
+  concluded : {text : List ℕ} (named : NamedSystem) → SaysSystem problem named
+      → IsAnsweredBy workers named (question_of question) budget text
+      → IsConclusion problem question workers budget status.Answered text
 
 -- the status and the text of an answer
 abbrev pub conclusion_status : Conclusion → Status

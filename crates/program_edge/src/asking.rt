@@ -7,9 +7,11 @@ ghost use Rattle.program_edge.specs.Fetching.{most_problem_bytes};
 use crate::status::Status;
 use ari_text::{AriFault, read_problem};
 use command_line::Question;
-use conclusion::answer_question;
+use conclusion::{Gate, answer_question, answer_question_with};
 use names_text::NamedTrs;
 use std::alloc::{AllocError, Global};
+use std::sync::Wait;
+use std::thread::Threads;
 
 /// What is answered to a question about a problem text.
 #[derive(Drop)]
@@ -41,7 +43,7 @@ pub fn conclude(
 ) -> Result<Conclusion, AllocError>
     requires { length problem.now ≤ most_problem_bytes }
     ensures { IfOk result (λ c.
-        IsConclusion problem.now question budget (conclusion_status c) (conclusion_text c)) }
+        IsConclusion problem.now question 1 budget (conclusion_status c) (conclusion_text c)) }
 {
     match read_problem(alloc, problem) {
         Ok(system) => answered(alloc, &system, question, budget),
@@ -50,7 +52,30 @@ pub fn conclude(
     }
 }
 
-// The answer to a question about a system, for each text that says it.
+/// Answers a question about the system of a problem text, by the searches of several workers on one
+/// proof tree. It may wait.
+pub fn conclude_with<R: Threads + Wait + Sync, G: Gate>(
+    rt: &R,
+    alloc: Global,
+    problem: &[u8],
+    question: Question,
+    budget: u64,
+    workers: u32,
+    gate: &G,
+) -> Result<Conclusion, AllocError>
+    requires size { length problem.now ≤ most_problem_bytes }
+    requires workers { (2 ≤ workers) × (workers ≤ 16) }
+    ensures { IfOk result (λ c.
+        IsConclusion problem.now question workers budget (conclusion_status c) (conclusion_text c)) }
+{
+    match read_problem(alloc, problem) {
+        Ok(system) => answered_with(rt, alloc, &system, question, budget, workers, gate),
+        Err(AriFault::OutOfMemory) => Err(AllocError),
+        Err(fault) => Ok(Conclusion::Refused(fault)),
+    }
+}
+
+// One worker's answer to a question about a system, for each text that says it.
 fn answered(
     alloc: Global,
     system: &NamedTrs,
@@ -58,9 +83,29 @@ fn answered(
     budget: u64,
 ) -> Result<Conclusion, AllocError>
     ensures { (problem : List ℕ) → SaysSystem problem system.now → IfOk result (λ c.
-        IsConclusion problem question budget (conclusion_status c) (conclusion_text c)) }
+        IsConclusion problem question 1 budget (conclusion_status c) (conclusion_text c)) }
 {
     match answer_question(alloc, system, question_of(question), budget) {
+        Ok(text) => Ok(Conclusion::Concluded(text)),
+        Err(_) => Err(AllocError),
+    }
+}
+
+// The same by several workers.
+fn answered_with<R: Threads + Wait + Sync, G: Gate>(
+    rt: &R,
+    alloc: Global,
+    system: &NamedTrs,
+    question: Question,
+    budget: u64,
+    workers: u32,
+    gate: &G,
+) -> Result<Conclusion, AllocError>
+    requires { (2 ≤ workers) × (workers ≤ 16) }
+    ensures { (problem : List ℕ) → SaysSystem problem system.now → IfOk result (λ c.
+        IsConclusion problem question workers budget (conclusion_status c) (conclusion_text c)) }
+{
+    match answer_question_with(rt, alloc, system, question_of(question), budget, workers, gate) {
         Ok(text) => Ok(Conclusion::Concluded(text)),
         Err(_) => Err(AllocError),
     }

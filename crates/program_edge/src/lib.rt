@@ -10,7 +10,7 @@ mod pieces;
 mod status;
 mod words;
 
-pub use asking::{Conclusion, conclude};
+pub use asking::{Conclusion, conclude, conclude_with};
 pub use fetching::{MOST_PROBLEM_BYTES, Unfetched, name_fault};
 pub use lines::{put_read_fault, put_refused, put_too_long};
 pub use pieces::{put_fields, put_line, put_lines, put_one};

@@ -13,8 +13,8 @@ use Rattle.worker_pool.specs.tree_definitions.Trees.{ProofTree}
 use Rattle.sampling.specs.Family.{sample}
 use Rattle.sampling.specs.declared.judgement.Judgement.{Judgement}
 use Rattle.sampling.specs.declared.judgement.Judgement.TheVariants.{Proved, Refuted}
-use Rattle.sampling.specs.Judged.{IsTrueJudgement, IsSerialJudgement, IsOnTermination, proved, refuted}
-use Rattle.sampling.specs.Line.{IsSampleLine, judged, line_of}
+use Rattle.sampling.specs.Judged.{IsTrueJudgement, IsSerialJudgement, IsJudgementOf, proved, refuted}
+use Rattle.sampling.specs.Line.{IsSampleLine, IsSerialLine, judged, judged_alone, line_of}
 
 -- ---- what a goal claims
 
@@ -39,9 +39,9 @@ pub record IsWonClaim (tree : ProofTree) (claim : Claim) : Type 0 where
   pub won : tree.state.winner ≡ Some g
   pub claims_it : slice_get (claims tree.question) g ≡ Some claim
 
-module _ (tree : ProofTree) (asks : IsOnTermination tree) (claim : Claim) (w : IsWonClaim tree claim) where
+module _ (tree : ProofTree) (asks : tree.question ≡ Termination) (claim : Claim) (w : IsWonClaim tree claim) where
   claims_it : slice_get (claims Termination) w.g ≡ Some claim
-  claims_it = subst (λ (q : Question). slice_get (claims q) w.g ≡ Some claim) asks.question w.claims_it
+  claims_it = subst (λ (q : Question). slice_get (claims q) w.g ≡ Some claim) asks w.claims_it
 
   pub no_other : (claim ≡ Terminating → ⊥) → (claim ≡ Nonterminating → ⊥) → ⊥
   no_other not_first not_second = go (one_of_two w.g claim claims_it)
@@ -50,19 +50,11 @@ module _ (tree : ProofTree) (asks : IsOnTermination tree) (claim : Claim) (w : I
       go (inl e) = not_first e
       go (inr e) = not_second e
 
-  pub serial_proved : claim ≡ Terminating → IsSerialJudgement tree.system tree.budget Proved
-  serial_proved is = record {
-    state = tree.state;
-    ends = asks.ends;
-    judged = w.won ∙ ap Some (first_goal w.g (claims_it ∙ ap Some is));
-  }
+  pub won_proved : claim ≡ Terminating → IsJudgementOf tree.state Proved
+  won_proved is = w.won ∙ ap Some (first_goal w.g (claims_it ∙ ap Some is))
 
-  pub serial_refuted : claim ≡ Nonterminating → IsSerialJudgement tree.system tree.budget Refuted
-  serial_refuted is = record {
-    state = tree.state;
-    ends = asks.ends;
-    judged = w.won ∙ ap Some (second_goal w.g (claims_it ∙ ap Some is));
-  }
+  pub won_refuted : claim ≡ Nonterminating → IsJudgementOf tree.state Refuted
+  won_refuted is = w.won ∙ ap Some (second_goal w.g (claims_it ∙ ap Some is))
 
 module _ (system : System) (budget : ℕ) (claim : Claim) (steps : List ProofNodeStep) (accepted : IsAccepted system claim steps) (says : Says system claim) where
   pub true_proved : claim ≡ Terminating → IsTrueJudgement system budget Proved
@@ -71,10 +63,22 @@ module _ (system : System) (budget : ℕ) (claim : Claim) (steps : List ProofNod
   pub true_refuted : claim ≡ Nonterminating → IsTrueJudgement system budget Refuted
   true_refuted is = refuted steps (subst (λ (k : Claim). IsAccepted system k steps) is accepted) (subst (λ (k : Claim). Says system k) is says)
 
+-- what is judged of a tree on this system is judged of the system
+pub judged_in : (system : System) (budget : ℕ) (tree : ProofTree) (judgement : Judgement) → tree.system ≡ system → tree.budget ≡ budget
+    → IsTrueJudgement tree.system tree.budget judgement → IsTrueJudgement system budget judgement
+judged_in system budget tree judgement of within h =
+    subst (λ (s : System). IsTrueJudgement s budget judgement) of (subst (λ b. IsTrueJudgement tree.system b judgement) within h)
+
 -- ---- the line of a sample
 
-pub line_judged : (size budget : ℕ) (system : System) (judgement : Judgement) (line : List ℕ) → system ≡ (sample size).system → IsTrueJudgement system budget judgement
-    → IsSerialJudgement system budget judgement → line ≡ line_of system judgement → IsSampleLine size budget line
-line_judged size budget system judgement line same is_true serial is =
-    subst (IsSampleLine size budget) (sym (is ∙ ap (λ (s : System). line_of s judgement) same))
-    (judged judgement (subst (λ (s : System). IsTrueJudgement s budget judgement) same is_true) (subst (λ (s : System). IsSerialJudgement s budget judgement) same serial))
+module _ (size budget : ℕ) (system : System) (judgement : Judgement) (line : List ℕ) (same : system ≡ (sample size).system) (is : line ≡ line_of system judgement) where
+  is_line : line ≡ line_of (sample size).system judgement
+  is_line = is ∙ ap (λ (s : System). line_of s judgement) same
+
+  pub line_judged : IsTrueJudgement system budget judgement → IsSampleLine size budget line
+  line_judged is_true =
+      subst (IsSampleLine size budget) (sym is_line) (judged judgement (subst (λ (s : System). IsTrueJudgement s budget judgement) same is_true))
+
+  pub line_serial : IsSerialJudgement system budget judgement → IsSerialLine size budget line
+  line_serial serial =
+      subst (IsSerialLine size budget) (sym is_line) (judged_alone judgement (subst (λ (s : System). IsSerialJudgement s budget judgement) same serial))

@@ -8,7 +8,6 @@ use Rattle.worker_pool.specs.cert_step.Nodes.{IsAccepted}
 use Rattle.worker_pool.specs.tree_definitions.declared.question.Question.TheVariants.{Termination}
 use Rattle.worker_pool.specs.tree_definitions.Reports.{Part, IsTrueReport}
 use Rattle.worker_pool.specs.tree_definitions.States.{State}
-use Rattle.worker_pool.specs.tree_definitions.Trees.{ProofTree}
 use Rattle.worker_pool.specs.Serial.{IsSerialEnd}
 use Rattle.sampling.specs.declared.judgement.Judgement.{Judgement}
 use Rattle.sampling.specs.declared.judgement.Judgement.TheVariants.{Proved, Refuted, Open}
@@ -31,8 +30,3 @@ pub record IsSerialJudgement (system : System) (budget : ℕ) (judgement : Judge
   pub state : State
   pub ends : IsSerialEnd system Termination budget state
   pub judged : IsJudgementOf state judgement
-
--- the tree asks for termination, and is that of a serial history
-pub record IsOnTermination (tree : ProofTree) : Type 0 where
-  pub question : tree.question ≡ Termination
-  pub ends : IsSerialEnd tree.system Termination tree.budget tree.state

@@ -17,7 +17,12 @@ abbrev pub line_of : System → Judgement → List ℕ
 line_of system judgement =
     codes "rules " ++ (decimal (length system.rules) ++ (codes " pairs " ++ (decimal (length (placed_pairs system.rules)) ++ judgement_word judgement)))
 
--- the line of the sample system of a number, which is judged truly, by one worker
+-- the line of the sample system of a number, which is judged truly
 pub data IsSampleLine (size budget : ℕ) : List ℕ → Type 0 where
-  judged : (judgement : Judgement) → IsTrueJudgement (sample size).system budget judgement → IsSerialJudgement (sample size).system budget judgement
+  judged : (judgement : Judgement) → IsTrueJudgement (sample size).system budget judgement
       → IsSampleLine size budget (line_of (sample size).system judgement)
+
+-- the line of the sample system of a number, as one worker judges it
+pub data IsSerialLine (size budget : ℕ) : List ℕ → Type 0 where
+  judged_alone : (judgement : Judgement) → IsSerialJudgement (sample size).system budget judgement
+      → IsSerialLine size budget (line_of (sample size).system judgement)

@@ -1,11 +1,16 @@
-ghost use Rattle.std.specs.Prelude.{◌≡◌, ℕ, Some, IfOk};
+ghost use Rattle.std.specs.Prelude.{◌≡◌, ◌≤◌, ℕ, Some, IfOk};
 ghost use Rattle.worker_pool.specs.tree_definitions.Replies.{IsVerdict};
-ghost use Rattle.sampling.specs.Judged.{IsTrueJudgement, IsSerialJudgement, IsOnTermination};
+ghost use Rattle.worker_pool.specs.tree_definitions.Questions.{goals_of};
+ghost use Rattle.worker_pool.specs.tree_definitions.Verdicts.{HasVerdict};
+ghost use Rattle.worker_pool.specs.tree_definitions.declared.question.Question.TheVariants.{Termination};
+ghost use Rattle.sampling.specs.Judged.{IsTrueJudgement, IsSerialJudgement, IsJudgementOf};
 
 use crate::Judgement;
 use std::alloc::Global;
+use std::sync::Wait;
+use std::thread::Threads;
 use trs_core::{OutOfMemory, Trs};
-use worker_pool::{Claim, Limits, Question, Tree, Verdict, prove_alone};
+use worker_pool::{Claim, Gate, Limits, Question, Tree, Verdict, prove_alone, prove_with};
 
 /// Judges by one worker whether a system terminates. The budget is how many refuted prefixes, or
 /// attempts, each search may pass.
@@ -18,7 +23,33 @@ pub fn judge(alloc: Global, trs: &Trs, budget: u64) -> Result<Judgement, OutOfMe
     ensures serial { IfOk result (IsSerialJudgement trs.now budget) }
 {
     let finished = prove_alone(alloc, Question::Termination, trs, Limits { budget })?;
-    let tree = finished.tree();
+    judgement_of(alloc, finished.tree())
+}
+
+/// Judges as `judge` does, by several workers on one proof tree. It may wait.
+pub fn judge_with<R: Threads + Wait + Sync, G: Gate>(
+    rt: &R,
+    alloc: Global,
+    trs: &Trs,
+    budget: u64,
+    workers: u32,
+    gate: &G,
+) -> Result<Judgement, OutOfMemory>
+    requires workers { (2 ≤ workers) × (workers ≤ 16) }
+    ensures is_true { IfOk result (IsTrueJudgement trs.now budget) }
+{
+    let limits = Limits { budget };
+    let finished = prove_with(rt, alloc, Question::Termination, trs, limits, workers, gate)?;
+    judgement_of(alloc, finished.tree())
+}
+
+// The judgement of a tree on which a verdict stands.
+fn judgement_of(alloc: Global, tree: &Tree<'_>) -> Result<Judgement, OutOfMemory>
+    requires question { tree.now.question ≡ Termination }
+    requires verdict { HasVerdict (goals_of tree.now.question) tree.now.state }
+    ensures is_true { IfOk result (IsTrueJudgement tree.now.system tree.now.budget) }
+    ensures of_tree { IfOk result (IsJudgementOf tree.now.state) }
+{
     match tree.verdict() {
         Some(Verdict::Won(_)) => won(alloc, tree),
         Some(Verdict::Maybe) => lost(alloc, tree),
@@ -28,10 +59,10 @@ pub fn judge(alloc: Global, trs: &Trs, budget: u64) -> Result<Judgement, OutOfMe
 
 // The judgement where a goal was won: its certificate is accepted.
 fn won(alloc: Global, tree: &Tree<'_>) -> Result<Judgement, OutOfMemory>
-    requires question { IsOnTermination tree.now }
+    requires question { tree.now.question ≡ Termination }
     requires won { (g : ℕ) × (tree.now.state.winner ≡ Some g) }
     ensures is_true { IfOk result (IsTrueJudgement tree.now.system tree.now.budget) }
-    ensures serial { IfOk result (IsSerialJudgement tree.now.system tree.now.budget) }
+    ensures of_tree { IfOk result (IsJudgementOf tree.now.state) }
 {
     let proof = tree.certificate(alloc)?;
     match proof.claim {
@@ -43,10 +74,10 @@ fn won(alloc: Global, tree: &Tree<'_>) -> Result<Judgement, OutOfMemory>
 
 // The judgement where both goals were lost: their report is true.
 fn lost(alloc: Global, tree: &Tree<'_>) -> Result<Judgement, OutOfMemory>
-    requires question { IsOnTermination tree.now }
+    requires question { tree.now.question ≡ Termination }
     requires lost { IsVerdict tree.now (Some Verdict.Maybe) }
     ensures is_true { IfOk result (IsTrueJudgement tree.now.system tree.now.budget) }
-    ensures serial { IfOk result (IsSerialJudgement tree.now.system tree.now.budget) }
+    ensures of_tree { IfOk result (IsJudgementOf tree.now.state) }
 {
     let _report = tree.report(alloc)?;
     Ok(Judgement::Open)

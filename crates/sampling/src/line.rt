@@ -1,20 +1,43 @@
 ghost use Rattle.std.specs.Prelude.{◌≡◌, ◌≤◌, ◌++◌, IfOk, OnOk};
-ghost use Rattle.sampling.specs.Line.{IsSampleLine, judgement_word, line_of};
+ghost use Rattle.sampling.specs.Line.{IsSampleLine, IsSerialLine, judgement_word, line_of};
 
-use crate::{Judgement, judge, sample_system};
+use crate::{Judgement, judge, judge_with, sample_system};
 use dp_core::dependency_pairs;
 use std::alloc::Global;
+use std::sync::Wait;
+use std::thread::Threads;
 use text_reading::{put, put_number};
 use trs_core::{OutOfMemory, Trs};
+use worker_pool::Gate;
 
-/// The line of the sample system of a number, which is judged by searches within a budget:
+/// The line of the sample system of a number, which one worker judges by searches within a budget:
 /// `rules <rules> pairs <dependency pairs> <proved, refuted or open>`, with a line feed.
 pub fn sample_line(alloc: Global, size: u32, budget: u64) -> Result<Vec<u8>, OutOfMemory>
     requires { (1 ≤ size) × (size ≤ 512) }
-    ensures { IfOk result (λ line. IsSampleLine size budget line.items) }
+    ensures line { IfOk result (λ line. IsSampleLine size budget line.items) }
+    ensures serial { IfOk result (λ line. IsSerialLine size budget line.items) }
 {
     let sample = sample_system(alloc, size)?;
     let judgement = judge(alloc, sample.trs(), budget)?;
+    line_of(alloc, sample.trs(), judgement)
+}
+
+/// The line of the sample system of a number, which several workers judge on one proof tree. It may
+/// wait.
+pub fn sample_line_with<R: Threads + Wait + Sync, G: Gate>(
+    rt: &R,
+    alloc: Global,
+    size: u32,
+    budget: u64,
+    workers: u32,
+    gate: &G,
+) -> Result<Vec<u8>, OutOfMemory>
+    requires size { (1 ≤ size) × (size ≤ 512) }
+    requires workers { (2 ≤ workers) × (workers ≤ 16) }
+    ensures line { IfOk result (λ line. IsSampleLine size budget line.items) }
+{
+    let sample = sample_system(alloc, size)?;
+    let judgement = judge_with(rt, alloc, sample.trs(), budget, workers, gate)?;
     line_of(alloc, sample.trs(), judgement)
 }
 

@@ -13,7 +13,7 @@ use Rattle.sampling.proofs.SampleSystems.{sample_valid}
 use Rattle.sampling.specs.declared.judgement.Judgement.{Judgement}
 use Rattle.sampling.specs.declared.judgement.Judgement.TheVariants.{Proved, Refuted, Open}
 use Rattle.sampling.specs.Judged.{IsJudgementOf}
-use Rattle.sampling.specs.Line.{judged, line_of}
+use Rattle.sampling.specs.Line.{judged_alone, line_of}
 use Rattle.text_determinism.specs.TextLaws.{SerialTextsAreOne, SampleLinesAreOne}
 use Rattle.text_determinism.specs.AnswerLaws.{AnswersAreOne}
 use Rattle.text_determinism.proofs.Renumbering.{renumbered_state}
@@ -59,6 +59,6 @@ module _ (answers : AnswersAreOne) where
   one_judgement u v Open Open w a b = refl
 
   pub one_sample_line : SampleLinesAreOne
-  one_sample_line size budget _ _ small (judged j is_true a) (judged k also_true b) =
+  one_sample_line size budget _ _ small (judged_alone j a) (judged_alone k b) =
       let same = one_serial_end answers (sample size).system (sample_valid size small) Termination budget a.state b.state a.ends b.ends in
       ap (line_of (sample size).system) (one_judgement a.state b.state j k (same_winner a.state b.state same) a.judged b.judged)

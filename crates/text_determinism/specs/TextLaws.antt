@@ -4,7 +4,7 @@ use Rattle.names_text.specs.Named.{NamedSystem, IsNamed}
 use Rattle.ari_text.specs.Problem.{SaysSystem}
 use Rattle.conclusion.specs.tree_definitions.declared.question.Question.{Question}
 use Rattle.conclusion.specs.SerialText.{IsSerialText}
-use Rattle.sampling.specs.Line.{IsSampleLine}
+use Rattle.sampling.specs.Line.{IsSerialLine}
 
 abbrev pub SerialTextsAreOne : Type 0
 SerialTextsAreOne =
@@ -20,4 +20,4 @@ ProblemTextsHaveOneText =
 
 abbrev pub SampleLinesAreOne : Type 0
 SampleLinesAreOne =
-    (size budget : ℕ) (line other : List ℕ) → size ≤ 512 → IsSampleLine size budget line → IsSampleLine size budget other → line ≡ other
+    (size budget : ℕ) (line other : List ℕ) → size ≤ 512 → IsSerialLine size budget line → IsSerialLine size budget other → line ≡ other

@@ -8,5 +8,7 @@ pub returns-in-Ok : goal.returns-in-Ok
 returns-in-Ok c = λ problem says.
     let system = c.args.system.now in
     let text = c.in-Ok.text.items in
-    concluded system says (subst (λ question. Concludes system question c.args.budget text) c.question_of.ensures c.in-Ok.ensures.concludes)
-    (subst (λ question. IsSerialText system question c.args.budget text) c.question_of.ensures c.in-Ok.ensures.serial)
+    concluded system says (record {
+      concludes = subst (λ question. Concludes system question c.args.budget text) c.question_of.ensures c.in-Ok.ensures.concludes;
+      serial = λ one. subst (λ question. IsSerialText system question c.args.budget text) c.question_of.ensures c.in-Ok.ensures.serial;
+    })

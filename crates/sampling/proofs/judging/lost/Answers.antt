@@ -8,4 +8,4 @@ pub returns-clause-is_true : goal.returns-clause-is_true
 returns-clause-is_true c =
     let tree = c.args.tree.now in
     let parts = map part_of c.in_ok-_report._report.goals.items in
-    left_open parts (subst (λ (q : Question). IsTrueReport tree.system q tree.budget parts) c.requires.question.question c.in_ok-_report.ensures.is_true)
+    left_open parts (subst (λ (q : Question). IsTrueReport tree.system q tree.budget parts) c.requires.question c.in_ok-_report.ensures.is_true)
