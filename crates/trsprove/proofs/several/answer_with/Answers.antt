@@ -1,0 +1,21 @@
+use Rattle.std.proofs.Common.{◌≡◌, Some, None, rules, sym, subst}
+use Rattle.command_line.specs.Request.{request_of, request_view}
+use Rattle.trsprove.specs.Output.{texts, usage}
+use Rattle.trsprove.specs.Run.{IsAnswered}
+use Rattle.trsprove.proofs.several.answer_with.Goals as goal
+
+pub returns-in-Ok : goal.returns-in-Ok
+returns-in-Ok g c =
+    let before = g.S.Shelf.means c.args.shelf.now in
+    let now = g.S.Shelf.means c.answer_to_with.new.shelf in
+    let asks : request_of (texts c.args.words.now) ≡ Some (request_view c.in-Ok.request) = c.in-Ok.ensures.answer in
+    let told = c.answer_to_with.ensures in
+    let known =
+    subst (λ r. IsAnswered r before now c.answer_to_with.result) (sym asks)
+    (record { answer = told.answer; only = told.only; untouched = told.untouched; again = told.again }) in
+    record { answer = known.answer; only = known.only; untouched = known.untouched; again = known.again }
+
+pub returns-in-Err-Usage-clause-answer : goal.returns-in-Err-Usage-clause-answer
+returns-in-Err-Usage-clause-answer g c =
+    let none : request_of (texts c.args.words.now) ≡ None = search rules in
+    usage none
