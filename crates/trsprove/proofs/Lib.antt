@@ -3,6 +3,7 @@ pub mod Answering
 pub mod Questions
 pub mod Completing
 pub mod SampleLines
+pub mod Usage
 pub mod AskingAgain
 pub mod Absence
 pub mod Running

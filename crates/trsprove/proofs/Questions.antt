@@ -15,7 +15,7 @@ use Rattle.trsprove.specs.Output.{Output, usage, too_long, decided, answered, co
 use Rattle.program_edge.specs.Fetching.{most_problem_bytes, IsUnfetched}
 use Rattle.trsprove.specs.declared.answer.Answer.{Answer}
 use Rattle.trsprove.specs.Answers.{status_of, text_of}
-use Rattle.trsprove.specs.Run.{IsAnswered}
+use Rattle.trsprove.specs.Answered.{IsAnswered}
 use Rattle.trsprove.proofs.Answering.{told_is, not_long, too_long_within}
 use Rattle.trsprove.proofs.AskingAgain.{once_again}
 use Rattle.trsprove.proofs.Fetching.{fault_came, unfetched_line}

@@ -7,7 +7,7 @@ use Rattle.program_edge.specs.declared.status.Status.{Status}
 use Rattle.program_edge.specs.declared.status.Status.TheVariants as status
 use Rattle.trsprove.specs.declared.answer.Answer.{Answer}
 use Rattle.trsprove.specs.Answers.{status_of, text_of}
-use Rattle.trsprove.specs.Run.{IsAnswered}
+use Rattle.trsprove.specs.Answered.{IsAnswered}
 use Rattle.trsprove.specs.Workers.{IsSampledBy}
 use Rattle.trsprove.specs.Output.{usage, too_long, decided, answered, completed, sampled, IsNeeded, as_problem, as_certificate, as_question, as_equations, as_order, IsWithin, IsAnswer, AnswersOnly}
 use Rattle.program_edge.specs.Fetching.{most_problem_bytes}

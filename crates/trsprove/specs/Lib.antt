@@ -5,4 +5,5 @@ pub mod Workers
 pub mod Output
 pub mod Truth
 pub mod Answers
+pub mod Answered
 pub mod Run

@@ -1,5 +1,5 @@
 -- What a run promises of its status, and what the arguments of a host ask for.
-use Rattle.std.specs.Prelude.{◌≡◌, ℕ, map, drop, Option, None, Result, Ok, Err, IfOk, String, string_bytes}
+use Rattle.std.specs.Prelude.{◌≡◌, ℕ, map, drop, Option, None, Result, Ok, Err, String, string_bytes}
 use Rattle.std.specs.declared.alloc.Global.{Global}
 use Rattle.std.specs.declared.io.Error.{Error}
 use Rattle.std.specs.declared.vec.IntoIter.{IntoIter}
@@ -10,18 +10,9 @@ use Rattle.io_edge.specs.Sink.{SinkMeaning}
 use Rattle.command_line.specs.Request.{Asked, request_of}
 use Rattle.program_edge.specs.declared.status.Status.{Status}
 use Rattle.program_edge.specs.declared.status.Status.TheVariants as status
-use Rattle.trsprove.specs.declared.answer.Answer.{Answer}
-use Rattle.trsprove.specs.Answers.{status_of, text_of}
-use Rattle.trsprove.specs.Output.{IsAnswer, Writes, AnswersOnly, TouchesOnlyNeeded, AnswersNoAbsence, CanAskAgain, CanRunAgain}
+use Rattle.trsprove.specs.Output.{Writes, AnswersOnly, TouchesOnlyNeeded, AnswersNoAbsence, CanRunAgain}
 use Rattle.trsprove.specs.Truth.{IsTrueAnswer}
 use Rattle.program_edge.specs.Statuses.{code_of}
-
--- what is known of an answer before it is written
-pub record IsAnswered {E : Type 0} (request : Option Asked) (before now : ShelfMeaning) (r : Result Answer E) : Type 0 where
-  pub answer : IfOk r (λ a. IsAnswer request before now (status_of a) (text_of a))
-  pub only : IfOk r (λ a. AnswersOnly request before (status_of a))
-  pub untouched : TouchesOnlyNeeded request before now
-  pub again : CanAskAgain before now
 
 -- the clauses of `run`
 pub record IsRun (request : Option Asked) (before now : ShelfMeaning) (s : Status) (taken later : SinkMeaning) : Type 0 where

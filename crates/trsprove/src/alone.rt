@@ -1,8 +1,8 @@
 //! What is answered where one worker looks for proofs.
-ghost use Rattle.std.specs.Prelude.{Some, IfOk};
+ghost use Rattle.std.specs.Prelude.{Some};
 ghost use Rattle.command_line.specs.Request.{request_of, request_view, IsInRange};
-ghost use Rattle.trsprove.specs.Output.{texts, IsAnswer, AnswersOnly, TouchesOnlyNeeded, CanAskAgain};
-ghost use Rattle.trsprove.specs.Answers.{status_of, text_of};
+ghost use Rattle.trsprove.specs.Output.{texts};
+ghost use Rattle.trsprove.specs.Answered.{IsAnswered};
 ghost use Rattle.trsprove.specs.Workers.{asked_of};
 
 use crate::answer::Answer;
@@ -20,13 +20,8 @@ pub(crate) fn answer_for<'a, S: Shelf>(
     words: &'a [&'a str],
     shelf: &mut S,
 ) -> Result<Answer<'a>, AllocError>
-    ensures answer { IfOk result (λ a. IsAnswer (asked_of 1 (request_of (texts words.now)))
-        (S.means shelf.old) (S.means shelf.new) (status_of a) (text_of a)) }
-    ensures only { IfOk result (λ a.
-        AnswersOnly (asked_of 1 (request_of (texts words.now))) (S.means shelf.old) (status_of a)) }
-    ensures untouched { TouchesOnlyNeeded (asked_of 1 (request_of (texts words.now)))
-        (S.means shelf.old) (S.means shelf.new) }
-    ensures again { CanAskAgain (S.means shelf.old) (S.means shelf.new) }
+    ensures { IsAnswered (asked_of 1 (request_of (texts words.now)))
+        (S.means shelf.old) (S.means shelf.new) result }
 {
     match parse(alloc, words) {
         Ok(request) => answer_to(alloc, request, shelf),
@@ -42,13 +37,8 @@ pub(crate) fn answer_to<'a, S: Shelf>(
     shelf: &mut S,
 ) -> Result<Answer<'a>, AllocError>
     requires { IsInRange request }
-    ensures answer { IfOk result (λ a. IsAnswer (asked_of 1 (Some (request_view request.entry)))
-        (S.means shelf.old) (S.means shelf.new) (status_of a) (text_of a)) }
-    ensures only { IfOk result (λ a. AnswersOnly (asked_of 1 (Some (request_view request.entry)))
-        (S.means shelf.old) (status_of a)) }
-    ensures untouched { TouchesOnlyNeeded (asked_of 1 (Some (request_view request.entry)))
-        (S.means shelf.old) (S.means shelf.new) }
-    ensures again { CanAskAgain (S.means shelf.old) (S.means shelf.new) }
+    ensures { IsAnswered (asked_of 1 (Some (request_view request.entry)))
+        (S.means shelf.old) (S.means shelf.new) result }
 {
     match request {
         Request::Certify {

@@ -3,7 +3,7 @@ ghost use Rattle.std.specs.Prelude.{◌≡◌, ◌≤◌, Some, IfOk, length};
 ghost use Rattle.command_line.specs.Request.{proves};
 ghost use Rattle.program_edge.specs.Conclusions.{IsConclusion, conclusion_status, conclusion_text};
 ghost use Rattle.program_edge.specs.Fetching.{most_problem_bytes};
-ghost use Rattle.trsprove.specs.Output.{IsAnswer, AnswersOnly, TouchesOnlyNeeded, CanAskAgain};
+ghost use Rattle.trsprove.specs.Answered.{IsAnswered};
 ghost use Rattle.trsprove.specs.Answers.{status_of, text_of};
 
 use crate::answer::{Answer, not_fetched};
@@ -24,13 +24,8 @@ pub(crate) fn concluded<'a, S: Shelf>(
     problem: &'a str,
     budget: u64,
 ) -> Result<Answer<'a>, AllocError>
-    ensures answer { IfOk result (λ a. IsAnswer (Some (proves question problem.now 1 budget))
-        (S.means shelf.old) (S.means shelf.new) (status_of a) (text_of a)) }
-    ensures only { IfOk result (λ a. AnswersOnly (Some (proves question problem.now 1 budget))
-        (S.means shelf.old) (status_of a)) }
-    ensures untouched { TouchesOnlyNeeded (Some (proves question problem.now 1 budget))
-        (S.means shelf.old) (S.means shelf.new) }
-    ensures again { CanAskAgain (S.means shelf.old) (S.means shelf.new) }
+    ensures { IsAnswered (Some (proves question problem.now 1 budget))
+        (S.means shelf.old) (S.means shelf.new) result }
 {
     match shelf.fetch(problem, MOST_PROBLEM_BYTES) {
         Ok(text) => answered(alloc, question, budget, &text),
@@ -51,14 +46,8 @@ pub(crate) fn concluded_with<'a, R: Threads + Wait + Sync, S: Shelf, G: Gate>(
     workers: u32,
 ) -> Result<Answer<'a>, AllocError>
     requires workers { (1 ≤ workers) × (workers ≤ 16) }
-    ensures answer { IfOk result (λ a. IsAnswer
-        (Some (proves question problem.now workers budget))
-        (S.means shelf.old) (S.means shelf.new) (status_of a) (text_of a)) }
-    ensures only { IfOk result (λ a. AnswersOnly
-        (Some (proves question problem.now workers budget)) (S.means shelf.old) (status_of a)) }
-    ensures untouched { TouchesOnlyNeeded (Some (proves question problem.now workers budget))
-        (S.means shelf.old) (S.means shelf.new) }
-    ensures again { CanAskAgain (S.means shelf.old) (S.means shelf.new) }
+    ensures { IsAnswered (Some (proves question problem.now workers budget))
+        (S.means shelf.old) (S.means shelf.new) result }
 {
     match shelf.fetch(problem, MOST_PROBLEM_BYTES) {
         Ok(text) => answered_with(rt, alloc, gate, question, budget, workers, &text),

@@ -5,7 +5,8 @@ ghost use Rattle.command_line.specs.Request.{Asked, request_of};
 ghost use Rattle.trsprove.specs.Output.{texts, Writes, AnswersOnly, TouchesOnlyNeeded, AnswersNoAbsence, CanRunAgain};
 ghost use Rattle.trsprove.specs.Truth.{IsTrueAnswer};
 ghost use Rattle.trsprove.specs.Workers.{asked_of};
-ghost use Rattle.trsprove.specs.Run.{IsAnswered, IsRun};
+ghost use Rattle.trsprove.specs.Answered.{IsAnswered};
+ghost use Rattle.trsprove.specs.Run.{IsRun};
 
 use crate::alone::answer_for;
 use crate::answer::Answer;

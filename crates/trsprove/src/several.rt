@@ -1,8 +1,8 @@
 //! What is answered where so many workers look for proofs as are asked for.
-ghost use Rattle.std.specs.Prelude.{Some, IfOk};
+ghost use Rattle.std.specs.Prelude.{Some};
 ghost use Rattle.command_line.specs.Request.{request_of, request_view, IsInRange};
-ghost use Rattle.trsprove.specs.Output.{texts, IsAnswer, AnswersOnly, TouchesOnlyNeeded, CanAskAgain};
-ghost use Rattle.trsprove.specs.Answers.{status_of, text_of};
+ghost use Rattle.trsprove.specs.Output.{texts};
+ghost use Rattle.trsprove.specs.Answered.{IsAnswered};
 
 use crate::alone::answer_to;
 use crate::answer::Answer;
@@ -23,13 +23,8 @@ pub(crate) fn answer_with<'a, R: Threads + Wait + Sync, S: Shelf, G: Gate>(
     shelf: &mut S,
     gate: &G,
 ) -> Result<Answer<'a>, AllocError>
-    ensures answer { IfOk result (λ a. IsAnswer (request_of (texts words.now))
-        (S.means shelf.old) (S.means shelf.new) (status_of a) (text_of a)) }
-    ensures only { IfOk result (λ a.
-        AnswersOnly (request_of (texts words.now)) (S.means shelf.old) (status_of a)) }
-    ensures untouched { TouchesOnlyNeeded (request_of (texts words.now))
-        (S.means shelf.old) (S.means shelf.new) }
-    ensures again { CanAskAgain (S.means shelf.old) (S.means shelf.new) }
+    ensures { IsAnswered (request_of (texts words.now))
+        (S.means shelf.old) (S.means shelf.new) result }
 {
     match parse(alloc, words) {
         Ok(request) => answer_to_with(rt, alloc, request, shelf, gate),
@@ -47,13 +42,8 @@ fn answer_to_with<'a, R: Threads + Wait + Sync, S: Shelf, G: Gate>(
     gate: &G,
 ) -> Result<Answer<'a>, AllocError>
     requires { IsInRange request }
-    ensures answer { IfOk result (λ a. IsAnswer (Some (request_view request.entry))
-        (S.means shelf.old) (S.means shelf.new) (status_of a) (text_of a)) }
-    ensures only { IfOk result (λ a.
-        AnswersOnly (Some (request_view request.entry)) (S.means shelf.old) (status_of a)) }
-    ensures untouched { TouchesOnlyNeeded (Some (request_view request.entry))
-        (S.means shelf.old) (S.means shelf.new) }
-    ensures again { CanAskAgain (S.means shelf.old) (S.means shelf.new) }
+    ensures { IsAnswered (Some (request_view request.entry))
+        (S.means shelf.old) (S.means shelf.new) result }
 {
     match request {
         Request::Prove {

@@ -6,16 +6,12 @@ use Rattle.trsprove.proofs.asking.concluded.Goals as goal
 
 pub returns-in-Ok : goal.returns-in-Ok
 returns-in-Ok g c =
-    let known =
     known_of_text c.args.question c.args.problem.now 1 c.args.budget (g.S.Shelf.means c.args.shelf.now) (g.S.Shelf.means c.fetch.new.self) c.answered.result
     c.fetch.ensures.told c.fetch.ensures.faults c.fetch.ensures.read c.in-Ok.text.items c.in-Ok.ensures.whole c.in-Ok.ensures.bound
-    (subst (λ z. IfOk c.answered.result (λ a. IsConclusion z c.args.question 1 c.args.budget (status_of a) (text_of a))) c.deref.ensures.value c.answered.ensures) in
-    record { answer = known.answer; only = known.only; untouched = known.untouched; again = known.again }
+    (subst (λ z. IfOk c.answered.result (λ a. IsConclusion z c.args.question 1 c.args.budget (status_of a) (text_of a))) c.deref.ensures.value c.answered.ensures)
 
 pub returns-in-Err : goal.returns-in-Err
 returns-in-Err g c =
-    let known =
     known_of_fault c.args.question c.args.problem.now 1 c.args.budget (g.S.Shelf.means c.args.shelf.now) (g.S.Shelf.means c.fetch.new.self) c.not_fetched.result
     c.fetch.ensures.told c.fetch.ensures.faults c.fetch.ensures.read c.in-Err.fault c.in-Err.ensures.counted (λ e. c.in-Err.ensures.too_long (ap Err e))
-    (λ e. c.in-Err.ensures.long (ap Err e)) c.not_fetched.ensures in
-    record { answer = known.answer; only = known.only; untouched = known.untouched; again = known.again }
+    (λ e. c.in-Err.ensures.long (ap Err e)) c.not_fetched.ensures

@@ -1,6 +1,7 @@
 use Rattle.std.proofs.Common.{sym, subst}
 use Rattle.trsprove.specs.Answers.{status_of, text_of}
-use Rattle.trsprove.specs.Run.{IsAnswered, IsRun}
+use Rattle.trsprove.specs.Answered.{IsAnswered}
+use Rattle.trsprove.specs.Run.{IsRun}
 use Rattle.trsprove.proofs.Running.{whole_run, front_run, no_run}
 use Rattle.trsprove.proofs.run.finish.Goals as goal
 

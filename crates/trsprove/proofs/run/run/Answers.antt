@@ -4,9 +4,8 @@ use Rattle.trsprove.proofs.run.run.Goals as goal
 
 pub returns : goal.returns
 returns g c =
-    let told = c.answer_with.ensures in
     let run = c.finish.ensures (request_of (texts c.args.words.now)) (g.S.Shelf.means c.args.shelf.now) (g.S.Shelf.means c.answer_with.new.shelf)
-    (record { answer = told.answer; only = told.only; untouched = told.untouched; again = told.again }) in
+    c.answer_with.ensures in
     record {
       output = run.output;
       write = run.write;

@@ -5,9 +5,8 @@ use Rattle.trsprove.proofs.run.run_alone.Goals as goal
 
 pub returns : goal.returns
 returns g c =
-    let told = c.answer_for.ensures in
     let run = c.finish.ensures (asked_of 1 (request_of (texts c.args.words.now))) (g.S.Shelf.means c.args.shelf.now) (g.S.Shelf.means c.answer_for.new.shelf)
-    (record { answer = told.answer; only = told.only; untouched = told.untouched; again = told.again }) in
+    c.answer_for.ensures in
     record {
       output = run.output;
       write = run.write;

@@ -1,7 +1,8 @@
-use Rattle.std.proofs.Common.{◌≡◌, Some, None, rules, sym, subst}
+use Rattle.std.proofs.Common.{◌≡◌, Some, None, sym, subst}
 use Rattle.command_line.specs.Request.{request_of, request_view}
-use Rattle.trsprove.specs.Output.{texts, usage}
-use Rattle.trsprove.specs.Run.{IsAnswered}
+use Rattle.trsprove.specs.Output.{texts}
+use Rattle.trsprove.specs.Answered.{IsAnswered}
+use Rattle.trsprove.proofs.Usage.{known_of_usage}
 use Rattle.trsprove.proofs.several.answer_with.Goals as goal
 
 pub returns-in-Ok : goal.returns-in-Ok
@@ -9,13 +10,9 @@ returns-in-Ok g c =
     let before = g.S.Shelf.means c.args.shelf.now in
     let now = g.S.Shelf.means c.answer_to_with.new.shelf in
     let asks : request_of (texts c.args.words.now) ≡ Some (request_view c.in-Ok.request) = c.in-Ok.ensures.answer in
-    let told = c.answer_to_with.ensures in
-    let known =
-    subst (λ r. IsAnswered r before now c.answer_to_with.result) (sym asks)
-    (record { answer = told.answer; only = told.only; untouched = told.untouched; again = told.again }) in
-    record { answer = known.answer; only = known.only; untouched = known.untouched; again = known.again }
+    subst (λ r. IsAnswered r before now c.answer_to_with.result) (sym asks) c.answer_to_with.ensures
 
-pub returns-in-Err-Usage-clause-answer : goal.returns-in-Err-Usage-clause-answer
-returns-in-Err-Usage-clause-answer g c =
-    let none : request_of (texts c.args.words.now) ≡ None = search rules in
-    usage none
+pub returns-in-Err-Usage : goal.returns-in-Err-Usage
+returns-in-Err-Usage g c =
+    let none : request_of (texts c.args.words.now) ≡ None = c.in-Err-Usage.ensures.answer in
+    known_of_usage _ (g.S.Shelf.means c.args.shelf.now) none
