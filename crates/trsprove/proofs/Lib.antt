@@ -6,4 +6,5 @@ pub mod SampleLines
 pub mod Usage
 pub mod AskingAgain
 pub mod Absence
+pub mod Completeness
 pub mod Running

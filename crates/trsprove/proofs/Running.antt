@@ -24,6 +24,7 @@ use Rattle.trsprove.specs.Completions.{IsCompletion, no_equations, no_order, end
 use Rattle.trsprove.specs.Run.{IsRun}
 use Rattle.program_edge.specs.Conclusions.{IsConclusion, no_system, concluded, question_of}
 use Rattle.trsprove.proofs.Absence.{no_absence, no_write, no_memory}
+use Rattle.trsprove.proofs.Completeness.{complete_answer, complete_without_memory}
 
 module _ (request : Option Asked) (before now : ShelfMeaning) where
   output_of : (s : Status) (text : List ℕ) → IsAnswer request before now s text → GivesVerdict s → Output request (MayBe before) s text
@@ -175,6 +176,7 @@ module _ (request : Option Asked) (before now : ShelfMeaning) where
       truth = answered_truly s text h wrote.0;
       untouched = untouched;
       absent = no_absence request before now s text h;
+      complete = λ none. complete_answer request before now s text h none.reading;
       again = (again, wrote.1);
     }
 
@@ -189,6 +191,7 @@ module _ (request : Option Asked) (before now : ShelfMeaning) where
       truth = λ e. absurd cc;
       untouched = untouched;
       absent = no_write request before;
+      complete = λ none. absurd (none.writing wrote.1);
       again = (again, wrote.2);
     }
 
@@ -201,5 +204,6 @@ module _ (request : Option Asked) (before now : ShelfMeaning) where
     truth = λ e. absurd cc;
     untouched = untouched;
     absent = no_memory request before;
+    complete = λ none. complete_without_memory request before;
     again = (again, (omega arith, omega arith));
   }

@@ -4,6 +4,7 @@ pub mod Completions
 pub mod Workers
 pub mod Output
 pub mod Truth
+pub mod Completeness
 pub mod Answers
 pub mod Answered
 pub mod Run

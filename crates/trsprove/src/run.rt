@@ -4,6 +4,7 @@ ghost use Rattle.io_edge.specs.Shelf.{ShelfMeaning};
 ghost use Rattle.command_line.specs.Request.{Asked, request_of};
 ghost use Rattle.trsprove.specs.Output.{texts, Writes, AnswersOnly, TouchesOnlyNeeded, AnswersNoAbsence, CanRunAgain};
 ghost use Rattle.trsprove.specs.Truth.{IsTrueAnswer};
+ghost use Rattle.trsprove.specs.Completeness.{NoFaultRose, IsComplete};
 ghost use Rattle.trsprove.specs.Workers.{asked_of};
 ghost use Rattle.trsprove.specs.Answered.{IsAnswered};
 ghost use Rattle.trsprove.specs.Run.{IsRun};
@@ -53,6 +54,12 @@ pub fn run<R: Threads + Wait + Sync, S: Shelf, K: Sink, G: Gate>(
     // Where the shelf tells that a text that is needed is not there, no answer is given.
     ensures absent { AnswersNoAbsence (request_of (texts words.now)) (S.means shelf.old) result }
 
+    // Good words about good texts are answered, unless a fault rises or memory runs out: a question,
+    // completion and a sample with status 0, a certificate with 0 where it is accepted, else with 1.
+    ensures complete {
+        NoFaultRose (S.means shelf.old) (S.means shelf.new) (K.means out.old) (K.means out.new) →
+        IsComplete (request_of (texts words.now)) (S.means shelf.old) result }
+
     // It can be called again: no count fell, and the shelf tells the same texts.
     ensures again { CanRunAgain (S.means shelf.old) (S.means shelf.new)
         (K.means out.old) (K.means out.new) }
@@ -82,6 +89,9 @@ pub fn run_alone<S: Shelf, K: Sink>(
         (S.means shelf.old) (S.means shelf.new) }
     ensures absent { AnswersNoAbsence (asked_of 1 (request_of (texts words.now)))
         (S.means shelf.old) result }
+    ensures complete {
+        NoFaultRose (S.means shelf.old) (S.means shelf.new) (K.means out.old) (K.means out.new) →
+        IsComplete (asked_of 1 (request_of (texts words.now))) (S.means shelf.old) result }
     ensures again { CanRunAgain (S.means shelf.old) (S.means shelf.new)
         (K.means out.old) (K.means out.new) }
 {

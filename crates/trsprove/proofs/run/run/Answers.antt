@@ -13,5 +13,6 @@ returns g c =
       truth = run.truth;
       untouched = run.untouched;
       absent = run.absent;
+      complete = run.complete;
       again = run.again;
     }

@@ -14,5 +14,6 @@ returns g c =
       truth = run.truth;
       untouched = run.untouched;
       absent = run.absent;
+      complete = run.complete;
       again = run.again;
     }
