@@ -1,7 +1,7 @@
 pub mod Fetching
 pub mod Answering
 pub mod Questions
-pub mod Completing
+pub mod Equations
 pub mod SampleLines
 pub mod Usage
 pub mod AskingAgain

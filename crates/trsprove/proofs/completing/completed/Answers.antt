@@ -6,7 +6,7 @@ use Rattle.trsprove.specs.Completions.{IsCompletion, most_order_bytes}
 use Rattle.program_edge.specs.Fetching.{most_problem_bytes}
 use Rattle.trsprove.specs.Answers.{status_of, text_of}
 use Rattle.trsprove.proofs.Fetching.{fault_came, not_counted, rose_by_later, may_be_before, may_pass_before, unfetched_line}
-use Rattle.trsprove.proofs.Completing.{fetched_completion, unfetched_only, completion_only, touched_first, second_fault, second_long, touched_both}
+use Rattle.trsprove.proofs.Equations.{fetched_completion, unfetched_only, completion_only, touched_first, second_fault, second_long, touched_both}
 use Rattle.trsprove.proofs.AskingAgain.{once_again, twice_again}
 use Rattle.trsprove.proofs.completing.completed.Goals as goal
 
