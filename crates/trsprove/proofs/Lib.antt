@@ -1,8 +1,10 @@
 pub mod Fetching
 pub mod Answering
 pub mod Questions
-pub mod Completing
+pub mod Equations
 pub mod SampleLines
+pub mod Usage
 pub mod AskingAgain
 pub mod Absence
+pub mod Completeness
 pub mod Running

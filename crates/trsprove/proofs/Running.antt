@@ -1,7 +1,8 @@
 -- What a run writes, by what the program knew before it wrote.
-use Rattle.std.proofs.Common.{◌≡◌, ℕ, List, Option, inl, inr, sym, subst}
+use Rattle.std.proofs.Common.{◌≡◌, ℕ, List, Option, Result, Err, inl, inr, refl, sym, subst, arith}
+use Rattle.io_edge.specs.Edge.{Rose}
 use Rattle.io_edge.specs.Shelf.{ShelfMeaning, MayBe}
-use Rattle.io_edge.specs.Sink.{SinkMeaning, AppendsTo}
+use Rattle.io_edge.specs.Sink.{SinkMeaning, AppendsTo, AppendsPrefix, NoSinkCountFell}
 use Rattle.ari_text.specs.Problem.{SaysSystem}
 use Rattle.conclusion.specs.ProofOf.{Proves}
 use Rattle.conclusion.specs.Concludes.{Concludes, proved, maybe, proof_lines}
@@ -15,12 +16,15 @@ use Rattle.command_line.specs.Request.{Asked}
 use Rattle.command_line.specs.declared.Wanted.{Wanted}
 use Rattle.program_edge.specs.declared.status.Status.{Status}
 use Rattle.program_edge.specs.declared.status.Status.TheVariants as status
-use Rattle.program_edge.specs.LinePuts.{lines_of, ArePut}
-use Rattle.trsprove.specs.Output.{Output, usage, too_long, decided, answered, completed, sampled, AreFetched, IsAsked, AreEquations, IsAnswer, GivesVerdict, Writes}
+use Rattle.program_edge.specs.LinePuts.{lines_of, ArePut, IsFrontPut}
+use Rattle.trsprove.specs.Output.{Output, usage, too_long, decided, answered, completed, sampled, AreFetched, IsAsked, AreEquations, IsAnswer, AnswersOnly, TouchesOnlyNeeded, CanAskAgain, GivesVerdict, Writes}
 use Rattle.trsprove.specs.Verdicts.{IsWritten, with_claim, in_version_two, too_heavy, Verdict, refused, rejected, accepted}
 use Rattle.trsprove.specs.Truth.{IsTrueAnswer, by_certificate, by_proof, by_report, by_completion, by_sample}
 use Rattle.trsprove.specs.Completions.{IsCompletion, no_equations, no_order, ended}
+use Rattle.trsprove.specs.Run.{IsRun}
 use Rattle.program_edge.specs.Conclusions.{IsConclusion, no_system, concluded, question_of}
+use Rattle.trsprove.proofs.Absence.{no_absence, no_write, no_memory}
+use Rattle.trsprove.proofs.Completeness.{complete_answer, complete_without_memory}
 
 module _ (request : Option Asked) (before now : ShelfMeaning) where
   output_of : (s : Status) (text : List ℕ) → IsAnswer request before now s text → GivesVerdict s → Output request (MayBe before) s text
@@ -30,7 +34,7 @@ module _ (request : Option Asked) (before now : ShelfMeaning) where
   module _ (taken later : SinkMeaning) where
     -- ---- what is written
 
-    pub whole_text : (s : Status) (text : List ℕ) → IsAnswer request before now s text → AppendsTo taken text later
+    whole_text : (s : Status) (text : List ℕ) → IsAnswer request before now s text → AppendsTo taken text later
         → (GivesVerdict s → ArePut taken (lines_of text) later) → Writes request before now s taken later
     whole_text status.Answered text h a p = (text, h, a, p)
     whole_text status.Rejected text h a p = (text, h, a, p)
@@ -120,10 +124,10 @@ module _ (request : Option Asked) (before now : ShelfMeaning) where
           written = w;
         })
 
-    true_conclusion : (question : Question) (budget : ℕ) (problem : List ℕ) (s : Status) (text : List ℕ) → IsAsked request question budget (MayBe before) problem
-        → IsConclusion problem question budget s text → s ≡ status.Answered → AppendsTo taken text later → IsTrueAnswer request before taken later
-    true_conclusion question budget problem s text asked (no_system fault h m) e w = absurd cc
-    true_conclusion question budget problem s text asked (concluded named says c alone) e w = true_concluded question budget problem named text asked says c w
+    true_conclusion : (question : Question) (workers budget : ℕ) (problem : List ℕ) (s : Status) (text : List ℕ) → IsAsked request question budget (MayBe before) problem
+        → IsConclusion problem question workers budget s text → s ≡ status.Answered → AppendsTo taken text later → IsTrueAnswer request before taken later
+    true_conclusion question workers budget problem s text asked (no_system fault h m) e w = absurd cc
+    true_conclusion question workers budget problem s text asked (concluded named says by) e w = true_concluded question budget problem named text asked says by.concludes w
 
     -- ---- how completion ends is right
 
@@ -149,12 +153,57 @@ module _ (request : Option Asked) (before now : ShelfMeaning) where
     true_output : (s : Status) (text : List ℕ) → Output request (MayBe before) s text → s ≡ status.Answered → AppendsTo taken text later → IsTrueAnswer request before taken later
     true_output s text (usage none) e w = absurd cc
     true_output s text (too_long name limit needed long) e w = absurd cc
-    true_output s text (sampled size workers budget asks line) e w =
-        by_sample (record { size = size; workers = workers; budget = budget; line = text; asked = asks; truth = line; written = w })
+    true_output s text (sampled size workers budget asks by) e w =
+        by_sample (record { size = size; workers = workers; budget = budget; line = text; asked = asks; truth = by.is_true; written = w })
     true_output s text (completed budget problem order f completion) e w = true_completion budget problem order s text f completion e w
     true_output s text (decided wanted problem certificate fetched verdict) e w = true_verdict wanted problem certificate s text fetched verdict e w
-    true_output s text (answered question budget problem asked conclusion) e w = true_conclusion question budget problem s text asked conclusion e w
+    true_output s text (answered question budget problem asked conclusion) e w = true_conclusion question asked.workers budget problem s text asked conclusion e w
 
-    pub answered_truly : (s : Status) (text : List ℕ) → IsAnswer request before now s text → AppendsTo taken text later → s ≡ status.Answered
+    answered_truly : (s : Status) (text : List ℕ) → IsAnswer request before now s text → AppendsTo taken text later → s ≡ status.Answered
         → IsTrueAnswer request before taken later
     answered_truly s text h w e = true_output s text (output_of s text h (inl e)) e w
+
+    -- ---- how a run ends
+
+    -- the text of an answer was written
+    pub whole_run : (s : Status) (text : List ℕ) → IsAnswer request before now s text → AnswersOnly request before s → TouchesOnlyNeeded request before now
+        → CanAskAgain before now → AppendsTo taken text later × NoSinkCountFell taken later → (GivesVerdict s → ArePut taken (lines_of text) later)
+        → IsRun request before now s taken later
+    whole_run s text h only untouched again wrote lines = record {
+      output = whole_text s text h wrote.0 lines;
+      write = λ e. absurd (subst (λ z. IsAnswer request before now z text) e h);
+      only = only;
+      truth = answered_truly s text h wrote.0;
+      untouched = untouched;
+      absent = no_absence request before now s text h;
+      complete = λ none. complete_answer request before now s text h none.reading;
+      again = (again, wrote.1);
+    }
+
+    -- a front of it was
+    pub front_run : (s : Status) (text : List ℕ) → IsAnswer request before now s text → TouchesOnlyNeeded request before now → CanAskAgain before now
+        → AppendsPrefix taken text later × Rose taken.faults later.faults × NoSinkCountFell taken later → (GivesVerdict s → IsFrontPut taken (lines_of text) later)
+        → IsRun request before now status.WriteFault taken later
+    front_run s text h untouched again wrote lines = record {
+      output = (s, text, h, wrote.0, lines);
+      write = λ e. wrote.1;
+      only = λ wanted defined o. tt;
+      truth = λ e. absurd cc;
+      untouched = untouched;
+      absent = no_write request before;
+      complete = λ none. absurd (none.writing wrote.1);
+      again = (again, wrote.2);
+    }
+
+  -- memory did not suffice for an answer
+  pub no_run : (sink : SinkMeaning) → TouchesOnlyNeeded request before now → CanAskAgain before now → IsRun request before now status.OutOfMemory sink sink
+  no_run sink untouched again = record {
+    output = refl;
+    write = λ e. absurd cc;
+    only = λ wanted defined o. tt;
+    truth = λ e. absurd cc;
+    untouched = untouched;
+    absent = no_memory request before;
+    complete = λ none. complete_without_memory request before;
+    again = (again, (omega arith, omega arith));
+  }

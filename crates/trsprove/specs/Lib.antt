@@ -1,7 +1,10 @@
 pub mod Lines
 pub mod Verdicts
 pub mod Completions
+pub mod Workers
 pub mod Output
 pub mod Truth
+pub mod Completeness
 pub mod Answers
+pub mod Answered
 pub mod Run

@@ -3,7 +3,6 @@ use Rattle.std.specs.Prelude.{◌≡◌, ◌⊎◌, ◌<◌, ◌≤◌, ℕ, Lis
 use denote.Ref.{Bor}
 use Rattle.io_edge.specs.Shelf.{ShelfMeaning, Told, ToldAbsent, MayBe, MayPass, TellsTheSame, NoCountFell, FaultRose, ReadPast, IsUntouched}
 use Rattle.io_edge.specs.Sink.{SinkMeaning, AppendsTo, AppendsPrefix, NoSinkCountFell}
-use Rattle.sampling.specs.Line.{IsSampleLine}
 use Rattle.command_line.specs.Request.{Asked, certifies, proves, completes, samples}
 use Rattle.command_line.specs.declared.Question.{Question}
 use Rattle.command_line.specs.declared.Wanted.{Wanted}
@@ -14,6 +13,7 @@ use Rattle.program_edge.specs.LinePuts.{lines_of, ArePut, IsFrontPut}
 use Rattle.program_edge.specs.Fetching.{most_problem_bytes}
 use Rattle.program_edge.specs.Conclusions.{IsConclusion}
 use Rattle.trsprove.specs.Lines.{usage_line}
+use Rattle.trsprove.specs.Workers.{IsSampledBy}
 use Rattle.trsprove.specs.Verdicts.{Verdict, most_certificate_bytes}
 use Rattle.trsprove.specs.Completions.{IsCompletion, most_order_bytes}
 
@@ -82,13 +82,13 @@ pub data Output (request : Option Asked) (under : List ℕ → List ℕ → Type
       → AreFetched request wanted under problem certificate → Verdict problem certificate wanted s text
       → Output request under s text
   answered : {s : Status} {text : List ℕ} (question : Question) (budget : ℕ) (problem : List ℕ)
-      → IsAsked request question budget under problem → IsConclusion problem question budget s text
+      (asked : IsAsked request question budget under problem) → IsConclusion problem question asked.workers budget s text
       → Output request under s text
   completed : {s : Status} {text : List ℕ} (budget : ℕ) (problem order : List ℕ)
       → AreEquations request budget under problem order → IsCompletion problem order budget s text
       → Output request under s text
-  sampled : {line : List ℕ} (size workers budget : ℕ) → request ≡ Some (samples size workers budget) → IsSampleLine size budget line
-      → Output request under status.Answered line
+  sampled : {line : List ℕ} (size workers budget : ℕ) → request ≡ Some (samples size workers budget)
+      → IsSampledBy workers size budget line → Output request under status.Answered line
 
 -- the text of the problem was fetched under a name: no fault came, and a text within the limit may stand there
 abbrev pub WasFetched : ShelfMeaning → ShelfMeaning → List ℕ → Type 0

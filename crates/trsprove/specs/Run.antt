@@ -12,6 +12,7 @@ use Rattle.program_edge.specs.declared.status.Status.{Status}
 use Rattle.program_edge.specs.declared.status.Status.TheVariants as status
 use Rattle.trsprove.specs.Output.{Writes, AnswersOnly, TouchesOnlyNeeded, AnswersNoAbsence, CanRunAgain}
 use Rattle.trsprove.specs.Truth.{IsTrueAnswer}
+use Rattle.trsprove.specs.Completeness.{NoFaultRose, IsComplete}
 use Rattle.program_edge.specs.Statuses.{code_of}
 
 -- the clauses of `run`
@@ -22,6 +23,7 @@ pub record IsRun (request : Option Asked) (before now : ShelfMeaning) (s : Statu
   pub truth : s ≡ status.Answered → IsTrueAnswer request before taken later
   pub untouched : TouchesOnlyNeeded request before now
   pub absent : AnswersNoAbsence request before s
+  pub complete : NoFaultRose before now taken later → IsComplete request before s
   pub again : CanRunAgain before now taken later
 
 -- a run ended with this exit code

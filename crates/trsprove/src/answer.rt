@@ -1,19 +1,12 @@
-ghost use Rattle.std.specs.Prelude.{◌≡◌, ◌≤◌, IfOk};
-ghost use Rattle.command_line.specs.Request.{request_of};
+ghost use Rattle.std.specs.Prelude.{◌≡◌, IfOk};
 ghost use Rattle.program_edge.specs.Fetching.{IsUnfetched};
-ghost use Rattle.trsprove.specs.Output.{texts, IsAnswer, AnswersOnly, TouchesOnlyNeeded, CanAskAgain};
 ghost use Rattle.trsprove.specs.Answers.{status_of, text_of};
 
-use crate::asking::concluded;
-use crate::certifying::certified;
-use crate::completing::completed;
-use crate::samples::sampled;
 use ari_text::AriFault;
 use certifier::Claim;
-use command_line::{Refused, Request, parse};
-use io_edge::{FetchFault, Shelf};
+use io_edge::FetchFault;
 use program_edge::{Status, Unfetched, name_fault};
-use std::alloc::{AllocError, Global};
+use std::alloc::AllocError;
 
 /// What is to be written.
 #[derive(Drop)]
@@ -53,53 +46,4 @@ pub(crate) fn not_fetched<'a>(name: &'a str, fault: FetchFault) -> Result<Answer
     ensures { IfOk result (λ a. IsUnfetched fault name.now (status_of a) (text_of a)) }
 {
     Ok(Answer::Unfetched(name_fault(name, fault)?))
-}
-
-/// What the words ask for, by the texts of the shelf.
-pub(crate) fn answer_for<'a, S: Shelf>(
-    alloc: Global,
-    words: &'a [&'a str],
-    shelf: &mut S,
-) -> Result<Answer<'a>, AllocError>
-    ensures answer { IfOk result (λ a. IsAnswer (request_of (texts words.now))
-        (S.means shelf.old) (S.means shelf.new) (status_of a) (text_of a)) }
-    ensures only { IfOk result (λ a.
-        AnswersOnly (request_of (texts words.now)) (S.means shelf.old) (status_of a)) }
-    ensures untouched { TouchesOnlyNeeded (request_of (texts words.now))
-        (S.means shelf.old) (S.means shelf.new) }
-    ensures again { CanAskAgain (S.means shelf.old) (S.means shelf.new) }
-{
-    match parse(alloc, words) {
-        Ok(
-            Request::Certify {
-                wanted,
-                problem,
-                certificate,
-            },
-        ) => certified(alloc, shelf, wanted, problem, certificate),
-        Ok(
-            Request::Prove {
-                question,
-                problem,
-                workers: _,
-                budget,
-            },
-        ) => concluded(alloc, shelf, question, problem, budget),
-        Ok(
-            Request::Complete {
-                problem,
-                order,
-                budget,
-            },
-        ) => completed(alloc, shelf, problem, order, budget),
-        Ok(
-            Request::Sample {
-                size,
-                workers: _,
-                budget,
-            },
-        ) => sampled(alloc, size, budget),
-        Err(Refused::Usage) => Ok(Answer::Usage),
-        Err(Refused::OutOfMemory) => Err(AllocError),
-    }
 }

@@ -6,7 +6,7 @@ ghost use Rattle.conclusion.specs.cert_text.CertificateText.{fits_two};
 ghost use Rattle.command_line.specs.Request.{certifies};
 ghost use Rattle.program_edge.specs.Fetching.{most_problem_bytes};
 ghost use Rattle.trsprove.specs.Verdicts.{Verdict, IsWritten, most_certificate_bytes};
-ghost use Rattle.trsprove.specs.Output.{IsAnswer, AnswersOnly, TouchesOnlyNeeded, CanAskAgain};
+ghost use Rattle.trsprove.specs.Answered.{IsAnswered};
 ghost use Rattle.trsprove.specs.Answers.{status_of, text_of};
 
 use crate::answer::{Answer, not_fetched};
@@ -29,15 +29,8 @@ pub(crate) fn certified<'a, S: Shelf>(
     problem: &'a str,
     certificate: &'a str,
 ) -> Result<Answer<'a>, AllocError>
-    ensures answer { IfOk result (λ a. IsAnswer
-        (Some (certifies wanted problem.now certificate.now))
-        (S.means shelf.old) (S.means shelf.new) (status_of a) (text_of a)) }
-    ensures only { IfOk result (λ a.
-        AnswersOnly (Some (certifies wanted problem.now certificate.now)) (S.means shelf.old)
-        (status_of a)) }
-    ensures untouched { TouchesOnlyNeeded (Some (certifies wanted problem.now certificate.now))
-        (S.means shelf.old) (S.means shelf.new) }
-    ensures again { CanAskAgain (S.means shelf.old) (S.means shelf.new) }
+    ensures { IsAnswered (Some (certifies wanted problem.now certificate.now))
+        (S.means shelf.old) (S.means shelf.new) result }
 {
     match shelf.fetch(problem, MOST_PROBLEM_BYTES) {
         Ok(problem_text) => match shelf.fetch(certificate, MOST_CERTIFICATE_BYTES) {

@@ -3,7 +3,7 @@ ghost use Rattle.std.specs.Prelude.{◌≡◌, ◌≤◌, Some, IfOk, length};
 ghost use Rattle.command_line.specs.Request.{completes};
 ghost use Rattle.program_edge.specs.Fetching.{most_problem_bytes};
 ghost use Rattle.trsprove.specs.Completions.{IsCompletion, most_order_bytes};
-ghost use Rattle.trsprove.specs.Output.{IsAnswer, AnswersOnly, TouchesOnlyNeeded, CanAskAgain};
+ghost use Rattle.trsprove.specs.Answered.{IsAnswered};
 ghost use Rattle.trsprove.specs.Answers.{status_of, text_of};
 
 use crate::answer::{Answer, not_fetched};
@@ -23,15 +23,8 @@ pub(crate) fn completed<'a, S: Shelf>(
     order: &'a str,
     budget: u64,
 ) -> Result<Answer<'a>, AllocError>
-    ensures answer { IfOk result (λ a. IsAnswer
-        (Some (completes problem.now order.now budget))
-        (S.means shelf.old) (S.means shelf.new) (status_of a) (text_of a)) }
-    ensures only { IfOk result (λ a.
-        AnswersOnly (Some (completes problem.now order.now budget)) (S.means shelf.old)
-        (status_of a)) }
-    ensures untouched { TouchesOnlyNeeded (Some (completes problem.now order.now budget))
-        (S.means shelf.old) (S.means shelf.new) }
-    ensures again { CanAskAgain (S.means shelf.old) (S.means shelf.new) }
+    ensures { IsAnswered (Some (completes problem.now order.now budget))
+        (S.means shelf.old) (S.means shelf.new) result }
 {
     match shelf.fetch(problem, MOST_PROBLEM_BYTES) {
         Ok(problem_text) => match shelf.fetch(order, MOST_ORDER_BYTES) {

@@ -1,6 +1,7 @@
 //! trsprove: finds and certifies proofs of termination and confluence of term rewriting systems.
 #![tactic(auto)]
 
+mod alone;
 mod answer;
 mod arguments;
 mod asking;
@@ -10,8 +11,10 @@ mod lines;
 mod report;
 mod run;
 mod samples;
+mod several;
 
 use crate::arguments::run_arguments;
+use conclusion::OpenGate;
 use io_edge::{FileShelf, HostFiles, HostOutput, WriterSink};
 use std::env;
 use std::process::ExitCode;
@@ -19,5 +22,5 @@ use std::process::ExitCode;
 fn main(rt: HostRuntime) -> ExitCode {
     let mut shelf = FileShelf::new(HostFiles::new(&rt), rt.alloc());
     let mut out = WriterSink::new(HostOutput::new(&rt));
-    run_arguments(rt.alloc(), env::args(&rt), &mut shelf, &mut out)
+    run_arguments(&rt, rt.alloc(), env::args(&rt), &mut shelf, &mut out, &OpenGate)
 }

@@ -14,5 +14,6 @@ returns-in-Err-2 g c =
       truth = c.run.ensures.truth;
       untouched = c.run.ensures.untouched;
       absent = c.run.ensures.absent;
+      complete = c.run.ensures.complete;
       again = c.run.ensures.again;
     }))

@@ -24,5 +24,6 @@ returns-in-Ok-words_of g c =
       truth = c.run.ensures.truth;
       untouched = c.run.ensures.untouched;
       absent = c.run.ensures.absent;
+      complete = c.run.ensures.complete;
       again = c.run.ensures.again;
     })

@@ -10,41 +10,34 @@ use Rattle.trsprove.proofs.Answering.{unfetched_only, verdict_only}
 use Rattle.trsprove.proofs.AskingAgain.{once_again, twice_again}
 use Rattle.trsprove.proofs.certifying.certified.Goals as goal
 
-pub returns-in-Ok-fetch-clause-answer : goal.returns-in-Ok-fetch-clause-answer
-returns-in-Ok-fetch-clause-answer g c =
+pub returns-in-Ok-fetch : goal.returns-in-Ok-fetch
+returns-in-Ok-fetch g c =
     let before = g.S.Shelf.means c.args.shelf.now in
     let middle = g.S.Shelf.means c.fetch.new.self in
     let now = g.S.Shelf.means c.fetch-in-Ok.new.self in
     let v = c.in-Ok.problem_text.items in
     let w = c.in-Ok-fetch.certificate_text.items in
     let wanted = c.args.wanted in
-    IfOk-weaker c.decided.result (λ a. Verdict v w wanted (status_of a) (text_of a)) (λ a. IsAnswer (Some (certifies wanted c.args.problem.now c.args.certificate.now)) before now (status_of a) (text_of a))
-    (λ a. fetched_text wanted c.args.problem.now c.args.certificate.now v w before middle now (status_of a) (text_of a) c.in-Ok.ensures.whole c.in-Ok.ensures.bound
-    c.fetch.ensures.told c.in-Ok-fetch.ensures.whole c.in-Ok-fetch.ensures.bound)
-    (subst (λ z. IfOk c.decided.result (λ a. Verdict v z wanted (status_of a) (text_of a))) c.deref-in-Ok-fetch.ensures.value
-    (subst (λ z. IfOk c.decided.result (λ a. Verdict z c.deref-in-Ok-fetch.result.now wanted (status_of a) (text_of a))) c.deref.ensures.value c.decided.ensures))
+    record {
+      answer = IfOk-weaker c.decided.result (λ a. Verdict v w wanted (status_of a) (text_of a)) (λ a. IsAnswer (Some (certifies wanted c.args.problem.now c.args.certificate.now)) before now (status_of a) (text_of a))
+          (λ a. fetched_text wanted c.args.problem.now c.args.certificate.now v w before middle now (status_of a) (text_of a) c.in-Ok.ensures.whole c.in-Ok.ensures.bound
+          c.fetch.ensures.told c.in-Ok-fetch.ensures.whole c.in-Ok-fetch.ensures.bound)
+          (subst (λ z. IfOk c.decided.result (λ a. Verdict v z wanted (status_of a) (text_of a))) c.deref-in-Ok-fetch.ensures.value
+          (subst (λ z. IfOk c.decided.result (λ a. Verdict z c.deref-in-Ok-fetch.result.now wanted (status_of a) (text_of a))) c.deref.ensures.value c.decided.ensures));
+      only = IfOk-weaker c.decided.result (λ a. Verdict v w wanted (status_of a) (text_of a)) (λ a. AnswersOnly (Some (certifies wanted c.args.problem.now c.args.certificate.now)) before (status_of a))
+          (λ a. verdict_only before wanted c.args.problem.now c.args.certificate.now v w c.in-Ok.ensures.whole
+          (may_be_before before middle c.args.certificate.now w c.fetch.ensures.told c.in-Ok-fetch.ensures.whole) c.in-Ok.ensures.bound c.in-Ok-fetch.ensures.bound (status_of a) (text_of a))
+          (subst (λ z. IfOk c.decided.result (λ a. Verdict v z wanted (status_of a) (text_of a))) c.deref-in-Ok-fetch.ensures.value
+          (subst (λ z. IfOk c.decided.result (λ a. Verdict z c.deref-in-Ok-fetch.result.now wanted (status_of a) (text_of a))) c.deref.ensures.value c.decided.ensures));
+      untouched = touched_both c.args.wanted c.args.problem.now c.args.certificate.now c.in-Ok.problem_text.items (g.S.Shelf.means c.args.shelf.now) (g.S.Shelf.means c.fetch.new.self)
+          (g.S.Shelf.means c.fetch-in-Ok.new.self) c.in-Ok.ensures.whole c.in-Ok.ensures.bound c.in-Ok.ensures.counted c.fetch-in-Ok.ensures.faults c.fetch.ensures.read
+          c.fetch-in-Ok.ensures.read;
+      again = twice_again before middle now (once_again before middle c.args.problem.now c.fetch.ensures.told c.fetch.ensures.faults c.fetch.ensures.read)
+          (once_again middle now c.args.certificate.now c.fetch-in-Ok.ensures.told c.fetch-in-Ok.ensures.faults c.fetch-in-Ok.ensures.read);
+    }
 
-pub returns-in-Ok-fetch-clause-only : goal.returns-in-Ok-fetch-clause-only
-returns-in-Ok-fetch-clause-only g c =
-    let before = g.S.Shelf.means c.args.shelf.now in
-    let middle = g.S.Shelf.means c.fetch.new.self in
-    let v = c.in-Ok.problem_text.items in
-    let w = c.in-Ok-fetch.certificate_text.items in
-    let wanted = c.args.wanted in
-    IfOk-weaker c.decided.result (λ a. Verdict v w wanted (status_of a) (text_of a)) (λ a. AnswersOnly (Some (certifies wanted c.args.problem.now c.args.certificate.now)) before (status_of a))
-    (λ a. verdict_only before wanted c.args.problem.now c.args.certificate.now v w c.in-Ok.ensures.whole
-    (may_be_before before middle c.args.certificate.now w c.fetch.ensures.told c.in-Ok-fetch.ensures.whole) c.in-Ok.ensures.bound c.in-Ok-fetch.ensures.bound (status_of a) (text_of a))
-    (subst (λ z. IfOk c.decided.result (λ a. Verdict v z wanted (status_of a) (text_of a))) c.deref-in-Ok-fetch.ensures.value
-    (subst (λ z. IfOk c.decided.result (λ a. Verdict z c.deref-in-Ok-fetch.result.now wanted (status_of a) (text_of a))) c.deref.ensures.value c.decided.ensures))
-
-pub returns-in-Ok-fetch-clause-untouched : goal.returns-in-Ok-fetch-clause-untouched
-returns-in-Ok-fetch-clause-untouched g c =
-    touched_both c.args.wanted c.args.problem.now c.args.certificate.now c.in-Ok.problem_text.items (g.S.Shelf.means c.args.shelf.now) (g.S.Shelf.means c.fetch.new.self)
-    (g.S.Shelf.means c.fetch-in-Ok.new.self) c.in-Ok.ensures.whole c.in-Ok.ensures.bound c.in-Ok.ensures.counted c.fetch-in-Ok.ensures.faults c.fetch.ensures.read
-    c.fetch-in-Ok.ensures.read
-
-pub returns-in-Ok-clause-answer : goal.returns-in-Ok-clause-answer
-returns-in-Ok-clause-answer g c =
+pub returns-in-Ok : goal.returns-in-Ok
+returns-in-Ok g c =
     let before = g.S.Shelf.means c.args.shelf.now in
     let middle = g.S.Shelf.means c.fetch.new.self in
     let now = g.S.Shelf.means c.fetch-in-Ok.new.self in
@@ -53,36 +46,29 @@ returns-in-Ok-clause-answer g c =
     let wanted = c.args.wanted in
     let request = Some (certifies wanted p d) in
     let fault = c.in-Err-fetch.fault in
-    IfOk-weaker c.not_fetched.result _ (λ a. IsAnswer request before now (status_of a) (text_of a))
-    (λ a is. unfetched_line request before now d fault (status_of a) (text_of a) is
-    (λ e. second_fault wanted p d c.in-Ok.problem_text.items before middle now c.in-Ok.ensures.whole c.in-Ok.ensures.bound c.in-Ok.ensures.counted c.fetch-in-Ok.ensures.faults
-    (fault_came (Vec ℕ Global) fault before.faults middle.faults now.faults d (c.fetch.ensures.faults.later d) c.in-Err-fetch.ensures.counted e))
-    (λ e. second_long wanted p d c.in-Ok.problem_text.items before middle now c.in-Ok.ensures.whole c.in-Ok.ensures.bound c.in-Ok.ensures.counted
-    (not_counted (Vec ℕ Global) fault middle.faults now.faults d c.in-Err-fetch.ensures.counted e)
-    (may_pass_before most_certificate_bytes before middle d c.fetch.ensures.told (c.in-Err-fetch.ensures.too_long (ap Err e)))
-    (rose_by_later 8388609 (before.bytes d) (middle.bytes d) (now.bytes d) (c.fetch.ensures.read.later d) (c.in-Err-fetch.ensures.long (ap Err e)))))
-    c.not_fetched.ensures
+    record {
+      answer = IfOk-weaker c.not_fetched.result _ (λ a. IsAnswer request before now (status_of a) (text_of a))
+          (λ a is. unfetched_line request before now d fault (status_of a) (text_of a) is
+          (λ e. second_fault wanted p d c.in-Ok.problem_text.items before middle now c.in-Ok.ensures.whole c.in-Ok.ensures.bound c.in-Ok.ensures.counted c.fetch-in-Ok.ensures.faults
+          (fault_came (Vec ℕ Global) fault before.faults middle.faults now.faults d (c.fetch.ensures.faults.later d) c.in-Err-fetch.ensures.counted e))
+          (λ e. second_long wanted p d c.in-Ok.problem_text.items before middle now c.in-Ok.ensures.whole c.in-Ok.ensures.bound c.in-Ok.ensures.counted
+          (not_counted (Vec ℕ Global) fault middle.faults now.faults d c.in-Err-fetch.ensures.counted e)
+          (may_pass_before most_certificate_bytes before middle d c.fetch.ensures.told (c.in-Err-fetch.ensures.too_long (ap Err e)))
+          (rose_by_later 8388609 (before.bytes d) (middle.bytes d) (now.bytes d) (c.fetch.ensures.read.later d) (c.in-Err-fetch.ensures.long (ap Err e)))))
+          c.not_fetched.ensures;
+      only = IfOk-weaker c.not_fetched.result _ (λ a. AnswersOnly (Some (certifies wanted p d)) before (status_of a))
+          (λ a is. unfetched_only before wanted p d d c.in-Err-fetch.fault (status_of a) (text_of a) is
+          (λ e. inr (may_pass_before most_certificate_bytes before middle d c.fetch.ensures.told (c.in-Err-fetch.ensures.too_long (ap Err e)))))
+          c.not_fetched.ensures;
+      untouched = touched_both c.args.wanted c.args.problem.now c.args.certificate.now c.in-Ok.problem_text.items (g.S.Shelf.means c.args.shelf.now) (g.S.Shelf.means c.fetch.new.self)
+          (g.S.Shelf.means c.fetch-in-Ok.new.self) c.in-Ok.ensures.whole c.in-Ok.ensures.bound c.in-Ok.ensures.counted c.fetch-in-Ok.ensures.faults c.fetch.ensures.read
+          c.fetch-in-Ok.ensures.read;
+      again = twice_again before middle now (once_again before middle c.args.problem.now c.fetch.ensures.told c.fetch.ensures.faults c.fetch.ensures.read)
+          (once_again middle now c.args.certificate.now c.fetch-in-Ok.ensures.told c.fetch-in-Ok.ensures.faults c.fetch-in-Ok.ensures.read);
+    }
 
-pub returns-in-Ok-clause-only : goal.returns-in-Ok-clause-only
-returns-in-Ok-clause-only g c =
-    let before = g.S.Shelf.means c.args.shelf.now in
-    let middle = g.S.Shelf.means c.fetch.new.self in
-    let p = c.args.problem.now in
-    let d = c.args.certificate.now in
-    let wanted = c.args.wanted in
-    IfOk-weaker c.not_fetched.result _ (λ a. AnswersOnly (Some (certifies wanted p d)) before (status_of a))
-    (λ a is. unfetched_only before wanted p d d c.in-Err-fetch.fault (status_of a) (text_of a) is
-    (λ e. inr (may_pass_before most_certificate_bytes before middle d c.fetch.ensures.told (c.in-Err-fetch.ensures.too_long (ap Err e)))))
-    c.not_fetched.ensures
-
-pub returns-in-Ok-clause-untouched : goal.returns-in-Ok-clause-untouched
-returns-in-Ok-clause-untouched g c =
-    touched_both c.args.wanted c.args.problem.now c.args.certificate.now c.in-Ok.problem_text.items (g.S.Shelf.means c.args.shelf.now) (g.S.Shelf.means c.fetch.new.self)
-    (g.S.Shelf.means c.fetch-in-Ok.new.self) c.in-Ok.ensures.whole c.in-Ok.ensures.bound c.in-Ok.ensures.counted c.fetch-in-Ok.ensures.faults c.fetch.ensures.read
-    c.fetch-in-Ok.ensures.read
-
-pub returns-clause-answer : goal.returns-clause-answer
-returns-clause-answer g c =
+pub returns : goal.returns
+returns g c =
     let before = g.S.Shelf.means c.args.shelf.now in
     let now = g.S.Shelf.means c.fetch.new.self in
     let p = c.args.problem.now in
@@ -90,43 +76,16 @@ returns-clause-answer g c =
     let wanted = c.args.wanted in
     let request = Some (certifies wanted p d) in
     let fault = c.in-Err.fault in
-    IfOk-weaker c.not_fetched-in-Err.result _ (λ a. IsAnswer request before now (status_of a) (text_of a))
-    (λ a is. unfetched_line request before now p fault (status_of a) (text_of a) is
-    (λ e. (most_problem_bytes, as_problem wanted p d refl, fault_came (Vec ℕ Global) fault before.faults before.faults now.faults p (omega arith) c.in-Err.ensures.counted e))
-    (λ e. (most_problem_bytes, as_problem wanted p d refl, c.in-Err.ensures.too_long (ap Err e), c.in-Err.ensures.long (ap Err e))))
-    c.not_fetched-in-Err.ensures
-
-pub returns-clause-only : goal.returns-clause-only
-returns-clause-only g c =
-    let before = g.S.Shelf.means c.args.shelf.now in
-    let p = c.args.problem.now in
-    let d = c.args.certificate.now in
-    let wanted = c.args.wanted in
-    IfOk-weaker c.not_fetched-in-Err.result _ (λ a. AnswersOnly (Some (certifies wanted p d)) before (status_of a))
-    (λ a is. unfetched_only before wanted p d p c.in-Err.fault (status_of a) (text_of a) is (λ e. inl (c.in-Err.ensures.too_long (ap Err e))))
-    c.not_fetched-in-Err.ensures
-
-pub returns-clause-untouched : goal.returns-clause-untouched
-returns-clause-untouched g c =
-    touched_first c.args.wanted c.args.problem.now c.args.certificate.now (g.S.Shelf.means c.args.shelf.now) (g.S.Shelf.means c.fetch.new.self) c.fetch.ensures.faults
-    c.fetch.ensures.read
-
-pub returns-in-Ok-fetch-clause-again : goal.returns-in-Ok-fetch-clause-again
-returns-in-Ok-fetch-clause-again g c =
-    let before = g.S.Shelf.means c.args.shelf.now in
-    let middle = g.S.Shelf.means c.fetch.new.self in
-    let now = g.S.Shelf.means c.fetch-in-Ok.new.self in
-    twice_again before middle now (once_again before middle c.args.problem.now c.fetch.ensures.told c.fetch.ensures.faults c.fetch.ensures.read)
-    (once_again middle now c.args.certificate.now c.fetch-in-Ok.ensures.told c.fetch-in-Ok.ensures.faults c.fetch-in-Ok.ensures.read)
-
-pub returns-in-Ok-clause-again : goal.returns-in-Ok-clause-again
-returns-in-Ok-clause-again g c =
-    let before = g.S.Shelf.means c.args.shelf.now in
-    let middle = g.S.Shelf.means c.fetch.new.self in
-    let now = g.S.Shelf.means c.fetch-in-Ok.new.self in
-    twice_again before middle now (once_again before middle c.args.problem.now c.fetch.ensures.told c.fetch.ensures.faults c.fetch.ensures.read)
-    (once_again middle now c.args.certificate.now c.fetch-in-Ok.ensures.told c.fetch-in-Ok.ensures.faults c.fetch-in-Ok.ensures.read)
-
-pub returns-clause-again : goal.returns-clause-again
-returns-clause-again g c =
-    once_again (g.S.Shelf.means c.args.shelf.now) (g.S.Shelf.means c.fetch.new.self) c.args.problem.now c.fetch.ensures.told c.fetch.ensures.faults c.fetch.ensures.read
+    record {
+      answer = IfOk-weaker c.not_fetched-in-Err.result _ (λ a. IsAnswer request before now (status_of a) (text_of a))
+          (λ a is. unfetched_line request before now p fault (status_of a) (text_of a) is
+          (λ e. (most_problem_bytes, as_problem wanted p d refl, fault_came (Vec ℕ Global) fault before.faults before.faults now.faults p (omega arith) c.in-Err.ensures.counted e))
+          (λ e. (most_problem_bytes, as_problem wanted p d refl, c.in-Err.ensures.too_long (ap Err e), c.in-Err.ensures.long (ap Err e))))
+          c.not_fetched-in-Err.ensures;
+      only = IfOk-weaker c.not_fetched-in-Err.result _ (λ a. AnswersOnly (Some (certifies wanted p d)) before (status_of a))
+          (λ a is. unfetched_only before wanted p d p c.in-Err.fault (status_of a) (text_of a) is (λ e. inl (c.in-Err.ensures.too_long (ap Err e))))
+          c.not_fetched-in-Err.ensures;
+      untouched = touched_first c.args.wanted c.args.problem.now c.args.certificate.now (g.S.Shelf.means c.args.shelf.now) (g.S.Shelf.means c.fetch.new.self) c.fetch.ensures.faults
+          c.fetch.ensures.read;
+      again = once_again (g.S.Shelf.means c.args.shelf.now) (g.S.Shelf.means c.fetch.new.self) c.args.problem.now c.fetch.ensures.told c.fetch.ensures.faults c.fetch.ensures.read;
+    }

@@ -1,32 +1,18 @@
-use Rattle.std.proofs.Common.{sym, ◌∙◌, subst}
 use Rattle.command_line.specs.Request.{request_of}
-use Rattle.trsprove.specs.Output.{texts, Writes, AnswersNoAbsence}
-use Rattle.trsprove.specs.Answers.{status_of, text_of}
-use Rattle.trsprove.proofs.Running.{whole_text, answered_truly}
-use Rattle.trsprove.proofs.Absence.{no_absence}
+use Rattle.trsprove.specs.Output.{texts}
 use Rattle.trsprove.proofs.run.run.Goals as goal
 
-pub returns-in-Ok-put_answer-clause-output : goal.returns-in-Ok-put_answer-clause-output
-returns-in-Ok-put_answer-clause-output g c =
-    let request = request_of (texts c.args.words.now) in
-    let before = g.S.Shelf.means c.args.shelf.now in
-    let now = g.S.Shelf.means c.answer_for.new.shelf in
-    let taken = g.K.Sink.means c.args.out.now in
-    let later = g.K.Sink.means c.put_answer.new.out in
-    subst (λ s. Writes request before now s taken later) (sym c.status.ensures)
-    (whole_text request before now taken later (status_of c.in-Ok.answer) (text_of c.in-Ok.answer) c.in-Ok.ensures.answer c.in-Ok-put_answer.ensures.puts.0
-    c.in-Ok-put_answer.ensures.lines)
-
-pub returns-in-Ok-put_answer-clause-truth : goal.returns-in-Ok-put_answer-clause-truth
-returns-in-Ok-put_answer-clause-truth g c = λ e.
-    answered_truly (request_of (texts c.args.words.now)) (g.S.Shelf.means c.args.shelf.now) (g.S.Shelf.means c.answer_for.new.shelf) (g.K.Sink.means c.args.out.now)
-    (g.K.Sink.means c.put_answer.new.out) (status_of c.in-Ok.answer) (text_of c.in-Ok.answer) c.in-Ok.ensures.answer c.in-Ok-put_answer.ensures.puts.0
-    (sym c.status.ensures ∙ e)
-
-pub returns-in-Ok-put_answer-clause-absent : goal.returns-in-Ok-put_answer-clause-absent
-returns-in-Ok-put_answer-clause-absent g c =
-    let request = request_of (texts c.args.words.now) in
-    let before = g.S.Shelf.means c.args.shelf.now in
-    let now = g.S.Shelf.means c.answer_for.new.shelf in
-    subst (AnswersNoAbsence request before) (sym c.status.ensures)
-    (no_absence request before now (status_of c.in-Ok.answer) (text_of c.in-Ok.answer) c.in-Ok.ensures.answer)
+pub returns : goal.returns
+returns g c =
+    let run = c.finish.ensures (request_of (texts c.args.words.now)) (g.S.Shelf.means c.args.shelf.now) (g.S.Shelf.means c.answer_with.new.shelf)
+    c.answer_with.ensures in
+    record {
+      output = run.output;
+      write = run.write;
+      only = run.only;
+      truth = run.truth;
+      untouched = run.untouched;
+      absent = run.absent;
+      complete = run.complete;
+      again = run.again;
+    }

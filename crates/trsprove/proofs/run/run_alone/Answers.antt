@@ -1,0 +1,19 @@
+use Rattle.command_line.specs.Request.{request_of}
+use Rattle.trsprove.specs.Output.{texts}
+use Rattle.trsprove.specs.Workers.{asked_of}
+use Rattle.trsprove.proofs.run.run_alone.Goals as goal
+
+pub returns : goal.returns
+returns g c =
+    let run = c.finish.ensures (asked_of 1 (request_of (texts c.args.words.now))) (g.S.Shelf.means c.args.shelf.now) (g.S.Shelf.means c.answer_for.new.shelf)
+    c.answer_for.ensures in
+    record {
+      output = run.output;
+      write = run.write;
+      only = run.only;
+      truth = run.truth;
+      untouched = run.untouched;
+      absent = run.absent;
+      complete = run.complete;
+      again = run.again;
+    }
