@@ -7,3 +7,6 @@ pub mod FirstSteps
 pub mod Renumbered
 pub mod TreatLaws
 pub mod LoopLaws
+pub mod OneForm
+pub mod OneRule
+pub mod OneEnding

@@ -1,4 +1,4 @@
-ghost use Rattle.std.specs.Prelude.{ℕ, List};
+ghost use Rattle.std.specs.Prelude.{◌≡◌, ℕ, List};
 ghost use Rattle.trs_defs.specs.Tree.{Tree};
 ghost use Rattle.trs_defs.specs.System.{System, IsSystem};
 ghost use Rattle.path_lpo.specs.Table.{PathEntry, filter_in};
@@ -19,4 +19,12 @@ pub fn completed_runs_are_right()
         IsRightEnding equations (GreaterBy order) ending }
     ensures path { (arities : List ℕ) (order : List PathEntry) →
         KeepsAllPlaces arities (filter_in order) → IsReductionOrder arities (GreaterBy order) }
+{}
+
+/// A law, with nothing to run: a run of completion by a reduction order on rules has one ending.
+pub fn runs_have_one_ending()
+    ensures { (equations : System) (order : List PathEntry) (budget : ℕ) (one other : Ending) →
+        IsSystem equations → IsReductionOrder equations.arities (GreaterBy order) →
+        Completes equations (GreaterBy order) budget one →
+        Completes equations (GreaterBy order) budget other → one ≡ other }
 {}

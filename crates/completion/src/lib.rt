@@ -17,5 +17,5 @@ mod unfinished;
 
 pub use completing::complete;
 pub use endings::Completion;
-pub use laws::completed_runs_are_right;
+pub use laws::{completed_runs_are_right, runs_have_one_ending};
 pub use unfinished::Unfinished;
