@@ -1,12 +1,14 @@
 //! Tests of what the program does not show of texts and of its edge: calls that only other callers
-//! make, printed texts, limits that no text of the examples meets, the sample systems, shelves and
-//! sinks, items and words. There is no code here.
+//! make, printed texts, limits that no text of the examples meets, completion and its order texts, the
+//! sample systems, shelves and sinks, items and words. There is no code here.
 #![tactic(auto)]
 
 #[cfg(test)]
 mod broken;
 #[cfg(test)]
 mod certifying;
+#[cfg(test)]
+mod completing;
 #[cfg(test)]
 mod items;
 #[cfg(test)]

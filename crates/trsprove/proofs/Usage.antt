@@ -29,5 +29,5 @@ module _ (request : Option Asked) (shelf : ShelfMeaning) (none : request ≡ Non
   usage_only s text (completed budget problem order f completion) = absurd (not_asked (completes f.problem_name f.order_name budget) f.asked)
   usage_only s text (sampled size workers budget e line) = absurd (not_asked (samples size workers budget) e)
 
-  pub known_of_usage : {E : Type 0} → IsAnswered request shelf shelf (Ok {E = E} answer.Usage)
+  pub known_of_usage : {E : Type 0} → IsAnswered {E = E} request shelf shelf (Ok answer.Usage)
   known_of_usage = record { answer = usage none; only = usage_only; untouched = λ name. inl (refl, refl); again = untouched_again shelf }

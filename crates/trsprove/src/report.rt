@@ -38,6 +38,6 @@ fn put_order_refused<K: Sink>(out: &mut K, at: u32) -> Result<(), SinkFailed>
     ensures { Puts result (K.means out.old) (order_refused_line at) (K.means out.new) }
 {
     put_one(out, b"order refused")?;
-    put_fields(out, &[u64::from(at)])?;
+    put_fields(out, &[at as u64])?;
     put_one(out, b"\n")
 }

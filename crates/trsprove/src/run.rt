@@ -101,7 +101,7 @@ pub fn run_alone<S: Shelf, K: Sink>(
 // Puts an answer, if memory sufficed for it, and says how the run ends.
 fn finish<K: Sink>(answer: Result<Answer<'_>, AllocError>, out: &mut K) -> Status
     ensures { (request : Option Asked) (before now : ShelfMeaning) →
-        IsAnswered request before now answer →
+        IsAnswered request before now answer.entry →
         IsRun request before now result (K.means out.old) (K.means out.new) }
 {
     let Ok(answer) = answer else {

@@ -1,4 +1,4 @@
-use Rattle.std.proofs.Common.{◌≡◌, Some, None, sym, subst, ap}
+use Rattle.std.proofs.Common.{◌≡◌, Some, None, rules, sym, subst, ap}
 use Rattle.command_line.specs.Request.{request_of, request_view}
 use Rattle.trsprove.specs.Output.{texts}
 use Rattle.trsprove.specs.Answered.{IsAnswered}
@@ -15,5 +15,5 @@ returns-in-Ok g c =
 
 pub returns-in-Err-Usage : goal.returns-in-Err-Usage
 returns-in-Err-Usage g c =
-    let none : request_of (texts c.args.words.now) ≡ None = c.in-Err-Usage.ensures.answer in
+    let none : request_of (texts c.args.words.now) ≡ None = search rules in
     known_of_usage _ (g.S.Shelf.means c.args.shelf.now) (ap (asked_of 1) none)

@@ -1,4 +1,4 @@
-use Rattle.std.proofs.Common.{◌≡◌, Some, None, sym, subst}
+use Rattle.std.proofs.Common.{◌≡◌, Some, None, rules, sym, subst}
 use Rattle.command_line.specs.Request.{request_of, request_view}
 use Rattle.trsprove.specs.Output.{texts}
 use Rattle.trsprove.specs.Answered.{IsAnswered}
@@ -14,5 +14,5 @@ returns-in-Ok g c =
 
 pub returns-in-Err-Usage : goal.returns-in-Err-Usage
 returns-in-Err-Usage g c =
-    let none : request_of (texts c.args.words.now) ≡ None = c.in-Err-Usage.ensures.answer in
+    let none : request_of (texts c.args.words.now) ≡ None = search rules in
     known_of_usage _ (g.S.Shelf.means c.args.shelf.now) none
