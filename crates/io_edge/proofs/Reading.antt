@@ -1,6 +1,6 @@
 -- What a reader gives in several calls.
 use Rattle.std.proofs.Common.{◌≡◌, ◌<◌, ◌≤◌, ◌+◌, ℕ, List, [], ◌++◌, length, refl, sym, ap, subst, ◌∙◌, append_assoc, append-nil, length-append, arith}
-use Rattle.io_edge.specs.Telling.{Telling, untold, absent, told, CanBe, CanPass, Gives, IsAtEnd, IsAtFault, CanFailBehind}
+use Rattle.io_edge.specs.Telling.{Telling, untold, absent, told, CanBe, CanPass, CanGive, Gives, IsAtEnd, IsAtFault, CanFailBehind}
 
 pub gives_none : (a : Telling) → Gives a [] a
 gives_none untold = tt
@@ -26,6 +26,12 @@ pub long_given : (limit : ℕ) (a b : Telling) (xs : List ℕ) → Gives a xs b 
 long_given limit untold b xs g long = tt
 long_given limit (absent front) b xs (rest, is, left) long = omega (arith, long, ap length is, length-append xs rest)
 long_given limit (told whole) b xs (rest, is, left) long = omega (arith, long, ap length is, length-append xs rest)
+
+-- what was read is there
+pub read_given : (a b : Telling) (xs : List ℕ) → Gives a xs b → CanGive (length xs) a
+read_given untold b xs g = tt
+read_given (absent front) b xs (rest, is, left) = omega (arith, ap length is, length-append xs rest)
+read_given (told whole) b xs (rest, is, left) = omega (arith, ap length is, length-append xs rest)
 
 -- a fault comes behind what was read before it
 pub fault_behind : (a b : Telling) (xs : List ℕ) → Gives a xs b → IsAtFault b → CanFailBehind (length xs) a

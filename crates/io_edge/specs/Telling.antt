@@ -22,6 +22,12 @@ CanPass limit untold = Unit {0}
 CanPass limit (absent front) = limit < length front
 CanPass limit (told whole) = limit < length whole
 
+-- so many bytes may be there, or more
+abbrev pub CanGive : ℕ → Telling → Type 0
+CanGive n untold = Unit {0}
+CanGive n (absent front) = n ≤ length front
+CanGive n (told whole) = n ≤ length whole
+
 -- these bytes were read, and this is told of what is left
 abbrev pub Gives : Telling → List ℕ → Telling → Type 0
 Gives untold bytes left = Unit {0}

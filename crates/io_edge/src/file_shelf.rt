@@ -1,6 +1,6 @@
 ghost use Rattle.std.specs.Prelude.{◌≡◌, ◌≢◌, ◌+◌, ◌<◌, ◌≤◌, ◌++◌, ℕ, List, [], false, length, IsTrue, IfOk, IfErr, IsErrOf, IsNone};
 ghost use Rattle.io_edge.specs.Edge.{count_after, RoseBy};
-ghost use Rattle.io_edge.specs.Telling.{CanBe, CanPass, Gives, IsAtEnd, IsAtFault, CanFailBehind, BreaksOff};
+ghost use Rattle.io_edge.specs.Telling.{CanBe, CanPass, CanGive, Gives, IsAtEnd, IsAtFault, CanFailBehind, BreaksOff};
 ghost use Rattle.io_edge.specs.Shelf.{CountsRise, CountsFault};
 ghost use Rattle.io_edge.specs.Named.{first_under, faults_under, bytes_under, shelf_with};
 ghost use Rattle.io_edge.specs.Chunks.{IsChunkMore, AreChunks, CountsChunks};
@@ -85,6 +85,7 @@ fn read_to_limit<F: Source>(alloc: Global, file: &mut F, limit: u64) -> Reading
         CanFailBehind result.bytes (F.left file.old) }
     ensures before { IsErrOf result.outcome Failed → result.bytes ≤ limit }
     ensures chunks { IsErrOf result.outcome OutOfMemory → AreChunks limit result.bytes }
+    ensures there { IsErrOf result.outcome OutOfMemory → CanGive result.bytes (F.left file.old) }
 {
     let mut text: Vec<u8> = Vec::new(alloc);
     while text.len() as u64 <= limit {
@@ -121,6 +122,8 @@ fn read_file<O: Opener>(files: &O, alloc: Global, name: &str, limit: u64) -> Rea
         CanFailBehind result.bytes (O.tells files.now name.now) }
     ensures before { IsErrOf result.outcome Failed → result.bytes ≤ limit }
     ensures chunks { IsErrOf result.outcome OutOfMemory → AreChunks limit result.bytes }
+    ensures there { IsErrOf result.outcome OutOfMemory →
+        CanGive result.bytes (O.tells files.now name.now) }
 {
     let Ok(mut file) = files.open(name) else {
         return Reading::failed();
@@ -156,8 +159,9 @@ impl<O: Opener + Drop> Shelf for FileShelf<O> {
             count_after (limit + 1) (bytes_under self.old.tallies name.now) }
 
         // Memory is asked for the name and before each chunk. Where it is wanting, whole chunks
-        // were read. Without memory for a new name no count changes.
-        ensures chunks { IsErrOf result OutOfMemory → CountsChunks limit
+        // that are there were read. Without memory for a new name no count changes.
+        ensures chunks { IsErrOf result OutOfMemory →
+            CountsChunks limit (O.tells self.old.files name.now)
             (bytes_under self.old.tallies name.now) (bytes_under self.new.tallies name.now) }
         ensures unnoted { IsNone (first_under self.new.tallies name.now) → self.new ≡ self.old }
     {
