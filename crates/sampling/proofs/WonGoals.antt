@@ -1,5 +1,5 @@
 -- What is judged where a goal was won, and the line of a sample.
-use Rattle.std.proofs.Common.{◌≡◌, ◌⊎◌, ◌∙◌, inl, inr, ℕ, zero, suc, Some, slice_get, refl, sym, subst, ap, List, Result, Ok, Err, IfOk}
+use Rattle.std.proofs.Common.{◌≡◌, ◌⊎◌, ◌∙◌, inl, inr, ℕ, zero, suc, Some, slice_get, refl, sym, subst, ap, List}
 use Rattle.trs_defs.specs.System.{System}
 use Rattle.worker_pool.specs.cert_step.ProofProblem.{Says}
 use Rattle.worker_pool.specs.cert_step.ProofStep.{ProofNodeStep}
