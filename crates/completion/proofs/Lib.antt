@@ -7,6 +7,7 @@ pub mod FirstSteps
 pub mod Renumbered
 pub mod TreatLaws
 pub mod LoopLaws
+pub mod Looking
 pub mod OneForm
 pub mod OneRule
 pub mod OneEnding

@@ -1,5 +1,5 @@
 -- What the loops of completion keep: what is left answers as the whole.
-use Rattle.std.proofs.Common.{◌≡◌, ◌<◌, ◌≤◌, ℕ, ◌+◌, refl, sym, ap, subst, arith, map, drop, List, [], ◌∷◌, Some, None, Result, Ok, Err, IfOk, length, get_or, slice_get}
+use Rattle.std.proofs.Common.{◌≡◌, ◌<◌, ◌≤◌, ℕ, ◌+◌, refl, sym, ap, subst, arith, map, drop, List, [], ◌∷◌, ◌++◌, Some, Result, Ok, Err, IfOk, length, get_or, slice_get}
 use Rattle.std.proofs.lemmas.Option.{slice_get_read}
 use Rattle.trs_defs.specs.Tree.{Tree}
 use Rattle.trs_defs.specs.Member.{In, in_first, in_rest}
@@ -20,9 +20,8 @@ use Rattle.completion.specs.declared.unfinished.Unfinished.TheVariants.{NoUnit, 
 use Rattle.completion.specs.CompletionRun.{sides, ending_of, Outcome, Passed, Added, Ended, Treats, left_stops, right_stops, no_order, no_unit, no_room, Takes, all_taken, take_passed, take_added, take_ended, Finds, none_found, passed_over, found_rule, found_end, Closes, no_peak_left, one_more, peak_ends, peaks_large, Completes, peaks_close}
 use Rattle.completion.specs.Answers.{plain_ending, HasArities}
 use Rattle.completion.specs.Treating.{IsOutcome}
-use Rattle.completion.specs.Taking.{IsTermOver, ArePairsOver, IsListing}
+use Rattle.completion.specs.Taking.{IsTermOver, ArePairsOver, Looks, at_peaks, past_limit}
 use Rattle.rewrite_core.specs.PlacedPeak.{PlacedPeak}
-use Rattle.completion.proofs.PeakPairs.{of_pair}
 use Rattle.completion.proofs.TreatLaws.{found_fewer}
 
 -- the pair of the peak that is read is one of the pairs
@@ -130,37 +129,48 @@ module _ (greater : Tree → Tree → Type 0) (start : System) (units : ℕ) whe
   close_begins = record { arities = refl; on = λ ending k. k }
 
   module _ (system : System) (left : ℕ) (h : IsClosing greater start units system left) where
-    pub close_large : IsListing system.rules None → Closes start.arities greater start.rules units Limit
-    close_large l = h.on Limit (peaks_large l.0 l.1)
+    abbrev Looked : Outcome → Type 0
+    Looked made = Looks system.arities greater system.rules left made
 
-    module _ (peaks : List PlacedPeak) (listed : IsListing system.rules (Some peaks)) where
-      at_start : (t : Outcome) → Finds system.arities greater system.rules left (map sides peaks) t
-          → Finds start.arities greater system.rules left (map sides peaks) t
-      at_start t f = let A : List ℕ → Type 0 = λ table. Finds table greater system.rules left (map sides peaks) t in subst A h.arities f
+    -- at the arity table of the first rules
+    at_start : (peaks : List PlacedPeak) (made : Outcome) → Finds system.arities greater system.rules left (map sides peaks) made
+        → Finds start.arities greater system.rules left (map sides peaks) made
+    at_start peaks made f = let F : List ℕ → Type 0 = λ table. Finds table greater system.rules left (map sides peaks) made in subst F h.arities f
 
-      pub close_done : (n : ℕ) → Finds system.arities greater system.rules left (map sides peaks) (Passed n)
-          → Closes start.arities greater start.rules units (Done system.rules)
-      close_done n f = h.on (Done system.rules) (no_peak_left peaks n listed (at_start (Passed n) f))
+    passed_all : (made : Outcome) (n : ℕ) → made ≡ Passed n → Looked made → Closes start.arities greater system.rules left (Done system.rules)
+    passed_all made n e (at_peaks peaks listed f) = no_peak_left peaks n listed (at_start peaks (Passed n) (subst (Finds system.arities greater system.rules left (map sides peaks)) e f))
+    passed_all made n e (past_limit fault large) = absurd cc
 
-      pub close_more : (next : System) (n : ℕ) → IsOutcome system (Finds system.arities greater system.rules left (map sides peaks)) (outcome.Added next n)
-          → IsClosing greater start units next n
-      close_more next n (r, e, f) =
-          let P : System → Type 0 = λ s. IsClosing greater start units s n in
-          subst P (sym e)
-          (record { arities = h.arities; on = λ ending k. h.on ending (one_more peaks r n listed (at_start (Added r n) f) k) })
+    added_one : (made : Outcome) (r : RewriteRule) (n : ℕ) → made ≡ Added r n → Looked made → (ending : Ending)
+        → Closes start.arities greater (system.rules ++ r ∷ []) n ending → Closes start.arities greater system.rules left ending
+    added_one made r n e (at_peaks peaks listed f) ending k =
+        one_more peaks r n listed (at_start peaks (Added r n) (subst (Finds system.arities greater system.rules left (map sides peaks)) e f)) k
+    added_one made r n e (past_limit fault large) ending k = absurd cc
 
-      pub close_end : (c : Completion) → IsOutcome system (Finds system.arities greater system.rules left (map sides peaks)) (outcome.Ended c)
-          → Closes start.arities greater start.rules units (plain_ending c)
-      close_end c f = h.on (plain_ending c) (peak_ends peaks (plain_ending c) listed (at_start (Ended (plain_ending c)) f))
+    ended_there : (made : Outcome) (why : Ending) → made ≡ Ended why → Looked made → Closes start.arities greater system.rules left why
+    ended_there made why e (at_peaks peaks listed f) =
+        peak_ends peaks why listed (at_start peaks (Ended why) (subst (Finds system.arities greater system.rules left (map sides peaks)) e f))
+    ended_there made why e (past_limit fault large) = let same : Limit ≡ why = cc (e) in subst (Closes start.arities greater system.rules left) same (peaks_large fault large)
 
-      pub close_pairs : IsSystem system → ArePairsOver system.arities (map sides peaks)
-      close_pairs valid =
-          of_pair system valid (λ p. IsTermOver system.arities p.left × IsTermOver system.arities p.right) peaks listed
-          (λ peak good. (good.left_over, good.right_over))
+    pub close_done : (n : ℕ) → Looked (Passed n) → Closes start.arities greater start.rules units (Done system.rules)
+    close_done n l = h.on (Done system.rules) (passed_all (Passed n) n refl l)
 
-  pub close_smaller : (system : System) (left : ℕ) (pairs : List RewriteRule) (next : System) (n : ℕ)
-      → IsOutcome system (Finds system.arities greater system.rules left pairs) (outcome.Added next n) → n < left
-  close_smaller system left pairs next n (r, e, f) = found_fewer f
+    pub close_more : (next : System) (n : ℕ) → IsOutcome system Looked (outcome.Added next n) → IsClosing greater start units next n
+    close_more next n (r, e, l) =
+        let P : System → Type 0 = λ s. IsClosing greater start units s n in
+        subst P (sym e)
+        (record { arities = h.arities; on = λ ending k. h.on ending (added_one (Added r n) r n refl l ending k) })
+
+    pub close_end : (c : Completion) → IsOutcome system Looked (outcome.Ended c) → Closes start.arities greater start.rules units (plain_ending c)
+    close_end c l = h.on (plain_ending c) (ended_there (Ended (plain_ending c)) (plain_ending c) refl l)
+
+  looked_fewer : (system : System) (left : ℕ) (made : Outcome) (r : RewriteRule) (n : ℕ) → made ≡ Added r n → Looks system.arities greater system.rules left made → n < left
+  looked_fewer system left made r n e (at_peaks peaks listed f) = found_fewer (subst (Finds system.arities greater system.rules left (map sides peaks)) e f)
+  looked_fewer system left made r n e (past_limit fault large) = absurd cc
+
+  pub close_smaller : (system : System) (left : ℕ) (next : System) (n : ℕ)
+      → IsOutcome system (Looks system.arities greater system.rules left) (outcome.Added next n) → n < left
+  close_smaller system left next n (r, e, l) = looked_fewer system left (Added r n) r n refl l
 
 -- the whole run
 pub run_of : (equations : System) (greater : Tree → Tree → Type 0) (budget : ℕ) (system : System) (units : ℕ) (ending : Ending)
@@ -242,9 +252,14 @@ finds_no_rules made o e (passed_over t rest) = finds_no_rules made o e rest
 finds_no_rules made o e (found_rule t) = absurd cc
 finds_no_rules made o e (found_end {why = why} t) = let h : why ≡ Done made = cc (e) in treats_no_rules made why h t
 
-pub found_arities : (greater : Tree → Tree → Type 0) (system : System) (left : ℕ) (pairs : List RewriteRule) (c : Completion)
-    → IsOutcome system (Finds system.arities greater system.rules left pairs) (outcome.Ended c) → (arities : List ℕ) → HasArities arities c
-found_arities greater system left pairs c f arities = no_rules_arities arities c (λ made e. finds_no_rules made (Ended (plain_ending c)) (ap Ended e) f)
+looks_no_rules : {arities : List ℕ} {greater : Tree → Tree → Type 0} {rules : List RewriteRule} {units : ℕ} (made : List RewriteRule) (o : Outcome)
+    → o ≡ Ended (Done made) → Looks arities greater rules units o → ⊥
+looks_no_rules made o e (at_peaks peaks listed f) = finds_no_rules made o e f
+looks_no_rules made o e (past_limit fault large) = absurd cc
+
+pub looked_arities : (greater : Tree → Tree → Type 0) (system : System) (left : ℕ) (c : Completion)
+    → IsOutcome system (Looks system.arities greater system.rules left) (outcome.Ended c) → (arities : List ℕ) → HasArities arities c
+looked_arities greater system left c l arities = no_rules_arities arities c (λ made e. looks_no_rules made (Ended (plain_ending c)) (ap Ended e) l)
 
 pub taken_arities : (equations : System) (greater : Tree → Tree → Type 0) (budget : ℕ) (c : Completion)
     → Takes equations.arities greater [] budget equations.rules (Err (plain_ending c)) → HasArities equations.arities c

@@ -1,5 +1,5 @@
 -- What the loops of completion take and answer.
-use Rattle.std.specs.Prelude.{◌≡◌, ◌≤◌, ℕ, List, [], Option, Some, None, Ok, Err}
+use Rattle.std.specs.Prelude.{◌≡◌, ◌≤◌, ℕ, List, [], map, Ok, Err}
 use Rattle.trs_defs.specs.Tree.{Tree}
 use Rattle.trs_defs.specs.Size.{size_of}
 use Rattle.trs_defs.specs.WellFormed.{IsWellFormed}
@@ -10,7 +10,8 @@ use Rattle.crit_pairs.specs.PeakList.{ListsPeaks}
 use Rattle.crit_pairs.specs.declared.faults.PeakFault.{PeakFault}
 use Rattle.completion.specs.declared.taking.Taken.{Taken}
 use Rattle.completion.specs.declared.taking.Taken.TheVariants as taken
-use Rattle.completion.specs.CompletionRun.{Takes}
+use Rattle.completion.specs.Endings.{Limit}
+use Rattle.completion.specs.CompletionRun.{sides, Outcome, Ended, Finds, Takes}
 use Rattle.completion.specs.Answers.{plain_ending}
 
 -- a well-formed term that a pool takes
@@ -22,10 +23,11 @@ pub record IsTermOver (arities : List ℕ) (t : Tree) : Type 0 where
 abbrev pub ArePairsOver : List ℕ → List RewriteRule → Type 0
 ArePairsOver arities ps = (p : RewriteRule) → In p ps → IsTermOver arities p.left × IsTermOver arities p.right
 
--- the critical peaks of the rules, or none where they pass a limit
-abbrev pub IsListing : List RewriteRule → Option (List PlacedPeak) → Type 0
-IsListing rules (Some peaks) = ListsPeaks rules (Ok peaks)
-IsListing rules None = (fault : PeakFault) × ListsPeaks rules (Err fault)
+-- the first of the critical peaks that is not passed over; or these pass a limit
+pub data Looks (arities : List ℕ) (greater : Tree → Tree → Type 0) (rules : List RewriteRule) (units : ℕ) : Outcome → Type 0 where
+  at_peaks : {made : Outcome} (peaks : List PlacedPeak) → ListsPeaks rules (Ok peaks) → Finds arities greater rules units (map sides peaks) made
+      → Looks arities greater rules units made
+  past_limit : (fault : PeakFault) → ListsPeaks rules (Err fault) → Looks arities greater rules units (Ended Limit)
 
 -- the equations gave these rules, with so many units left; or the run ended
 abbrev pub HasTaken : System → (Tree → Tree → Type 0) → ℕ → Taken → Type 0

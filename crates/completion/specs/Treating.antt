@@ -1,5 +1,5 @@
 -- What the code makes of a pair.
-use Rattle.std.specs.Prelude.{◌≡◌, ◌≢◌, ◌<◌, ℕ, ◌⊎◌, [], ◌∷◌, ◌++◌}
+use Rattle.std.specs.Prelude.{◌≡◌, ◌≢◌, ◌<◌, ℕ, ◌⊎◌, Bool, true, false, [], ◌∷◌, ◌++◌}
 use Rattle.std.proofs.Common.{suc}
 use Rattle.trs_defs.specs.Tree.{Tree}
 use Rattle.trs_defs.specs.System.{RewriteRule, System}
@@ -49,3 +49,9 @@ IsCompared greater system units s t (outcome.Passed n) = (s ≡ t) × (n ≡ uni
 IsCompared greater system units s t (outcome.Added next n) =
     (s ≢ t) × (units ≡ suc n) × ((r : RewriteRule) × IsWithRule system r next × IsOriented greater s t r × Fits system.arities system.rules r)
 IsCompared greater system units s t (outcome.Ended c) = (s ≢ t) × IsComparedEnding greater system units s t (plain_ending c)
+
+-- the pair was passed over
+abbrev pub is_passed : CodeOutcome → Bool
+is_passed (outcome.Passed n) = true
+is_passed (outcome.Added next n) = false
+is_passed (outcome.Ended c) = false

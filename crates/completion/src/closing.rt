@@ -1,17 +1,21 @@
-ghost use Rattle.std.specs.Prelude.{IfOk, map, option_map};
+ghost use Rattle.std.specs.Prelude.{◌≡◌, ◌≤◌, ◌⊎◌, IfOk, IsTrue, false, map};
 ghost use Rattle.completion.specs.GreaterBy.{GreaterBy};
 ghost use Rattle.completion.specs.CompletionRun.{Closes, Finds, sides};
 ghost use Rattle.completion.specs.Answers.{plain_ending, HasArities};
-ghost use Rattle.completion.specs.Treating.{IsOutcome};
-ghost use Rattle.completion.specs.Taking.{ArePairsOver, IsListing};
+ghost use Rattle.completion.specs.Treating.{IsOutcome, is_passed};
+ghost use Rattle.completion.specs.Taking.{ArePairsOver, Looks};
 
 use crate::Completion;
 use crate::known::see_system;
 use crate::treating::{Outcome, treat};
-use crit_pairs::{Peak, PeakFault, critical_pairs};
+use crit_pairs::{Peak, PeakFault, critical_pairs, first_peaks};
 use path_lpo::Lpo;
+use rewrite_core::CheckFault;
 use std::alloc::Global;
 use trs_core::{OutOfMemory, Trs};
+
+/// How many critical peaks are made at first: mostly one of them gives a rule.
+const FEW: usize = 64;
 
 /// The critical peaks of the rules, and after each new rule those of all rules anew.
 pub(crate) fn close(
@@ -27,11 +31,7 @@ pub(crate) fn close(
     let mut system = rules;
     let mut left = units;
     loop {
-        let Some(peaks) = peaks_of(alloc, &system)? else {
-            return Ok(Completion::Limit);
-        };
-        see_system(&system);
-        match find(alloc, order, &system, &peaks, left)? {
+        match look(alloc, order, &system, left)? {
             Outcome::Passed(_) => return Ok(Completion::Done(system)),
             Outcome::Added(next, more) => {
                 system = next;
@@ -42,15 +42,47 @@ pub(crate) fn close(
     }
 }
 
-/// The critical peaks, or `None` where they pass a limit.
-fn peaks_of(alloc: Global, trs: &Trs) -> Result<Option<Vec<Peak>>, OutOfMemory>
-    ensures { IfOk result (λ o. IsListing trs.now.rules (option_map (λ v. v.items) o)) }
+/// The first of the critical peaks that is not passed over. All of them are counted, but only where
+/// a few are passed over are all of them made.
+fn look(alloc: Global, order: &Lpo, trs: &Trs, units: u64) -> Result<Outcome, OutOfMemory>
+    ensures { IfOk result (IsOutcome trs.now (Looks trs.now.arities (GreaterBy order.now)
+        trs.now.rules units)) }
 {
+    see_system(trs);
+    match first_peaks(alloc, trs, FEW) {
+        Ok(few) => {
+            let found = find(alloc, order, trs, &few.peaks, units)?;
+            if is_settled(&found, few.count) {
+                return Ok(found);
+            }
+            look_at_all(alloc, order, trs, units)
+        }
+        Err(CheckFault::OutOfMemory) => Err(OutOfMemory),
+        Err(CheckFault::Refused(_)) => Ok(Outcome::Ended(Completion::Limit)),
+    }
+}
+
+/// The same, where all peaks are made.
+fn look_at_all(alloc: Global, order: &Lpo, trs: &Trs, units: u64) -> Result<Outcome, OutOfMemory>
+    ensures { IfOk result (IsOutcome trs.now (Looks trs.now.arities (GreaterBy order.now)
+        trs.now.rules units)) }
+{
+    see_system(trs);
     match critical_pairs(alloc, trs) {
-        Ok(peaks) => Ok(Some(peaks)),
-        Err(PeakFault::TooLarge) => Ok(None),
-        Err(PeakFault::TooMany) => Ok(None),
+        Ok(peaks) => find(alloc, order, trs, &peaks, units),
+        Err(PeakFault::TooLarge) => Ok(Outcome::Ended(Completion::Limit)),
+        Err(PeakFault::TooMany) => Ok(Outcome::Ended(Completion::Limit)),
         Err(PeakFault::OutOfMemory) => Err(OutOfMemory),
+    }
+}
+
+/// Whether the first of so many peaks decide: they are all, or one of them is not passed over.
+fn is_settled(found: &Outcome, count: u64) -> bool
+    ensures { IsTrue result → (count ≤ 64) ⊎ (is_passed found.now ≡ false) }
+{
+    match found {
+        Outcome::Passed(_) => count <= FEW as u64,
+        _ => true,
     }
 }
 

@@ -1,0 +1,29 @@
+use Rattle.std.proofs.Common.{List, map, refl, subst, sym}
+use Rattle.rewrite_core.specs.Check.{Refuses}
+use Rattle.rewrite_core.specs.PlacedPeak.{PlacedPeak}
+use Rattle.rewrite_core.specs.declared.refusals.CheckFault.{CheckFault}
+use Rattle.crit_pairs.specs.PeaksCheck.{ListsCriticalPeaks}
+use Rattle.completion.specs.GreaterBy.{GreaterBy}
+use Rattle.completion.specs.CompletionRun.{Finds, sides}
+use Rattle.completion.specs.Treating.{IsOutcome}
+use Rattle.completion.specs.Taking.{ArePairsOver}
+use Rattle.completion.proofs.Looking.{few_pairs, few_looked_at, refused_there}
+use Rattle.completion.proofs.closing.look.Goals as goal
+
+pub find-requires : goal.find-requires
+find-requires c =
+    let P : List PlacedPeak → Type 0 = λ ps. ArePairsOver c.args.trs.now.arities (map sides ps) in
+    subst P (sym c.deref.ensures.value) (few_pairs c.args.trs.now c.see_system.ensures.valid 64 c.in-Ok.few c.in-Ok.ensures.first)
+
+pub returns-then-is_settled : goal.returns-then-is_settled
+returns-then-is_settled c =
+    let F : List PlacedPeak → Type 0 = λ ps.
+    IsOutcome c.args.trs.now (Finds c.args.trs.now.arities (GreaterBy c.args.order.now) c.args.trs.now.rules c.args.units (map sides ps)) c.in_ok-found-in-Ok.found in
+    few_looked_at (GreaterBy c.args.order.now) c.args.trs.now c.args.units 64 c.in-Ok.few c.in-Ok.ensures.first c.in_ok-found-in-Ok.found
+    (c.if-is_settled.ensures refl) (subst F c.deref.ensures.value c.in_ok-found-in-Ok.ensures)
+
+pub returns-in-Err-Refused : goal.returns-in-Err-Refused
+returns-in-Err-Refused c =
+    let R : CheckFault → Type 0 = Refuses (ListsCriticalPeaks c.args.trs.now.rules) in
+    refused_there c.args.trs.now.arities (GreaterBy c.args.order.now) c.args.trs.now.rules c.args.units c.in-Err-Refused.field-0-0
+    (subst R c.in-Err-Refused.field-0-is c.in-Err-Refused.ensures.refused)
