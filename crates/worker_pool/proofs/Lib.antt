@@ -3,3 +3,4 @@ pub use Rattle.tree_core.proofs as tree_core
 pub mod Rounds
 pub mod Sharing
 pub mod SerialEnds
+mod Crossing

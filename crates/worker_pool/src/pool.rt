@@ -1,9 +1,10 @@
 //! Several workers on one proof tree.
-ghost use Rattle.std.specs.Prelude.{◌≡◌, ℕ, ◌+◌, ◌<◌, ◌≤◌, IfOk};
+ghost use Rattle.std.specs.Prelude.{◌≡◌, ℕ, ◌+◌, ◌-◌, ◌<◌, ◌≤◌, IfOk};
+ghost use denote.Param.Send.{IsSync};
 ghost use mathlib.Core.List.{IsPrefix};
 ghost use Rattle.tree_core.specs.tree_definitions.Questions.{goals_of};
 ghost use Rattle.tree_core.specs.tree_definitions.Verdicts.{HasVerdict};
-ghost use Rattle.turn_lock.specs.Seats.{Has};
+ghost use Rattle.turn_lock.specs.Seats.{Has, After};
 ghost use Rattle.worker_pool.specs.Shared.{Opens};
 
 use crate::Finished;
@@ -12,14 +13,15 @@ use crate::shared::SharedTree;
 use crate::worker::{Worker, work};
 use std::alloc::Global;
 use std::sync::Wait;
-use std::thread::Threads;
+use std::thread::{Threads, join};
 use tree_core::{Limits, Question, Tree};
 use trs_core::{OutOfMemory, Trs};
 use turn_lock::{Seat, TurnLock};
 
-/// Proves a question on a system with several workers, which claim tasks, run them and post what was
-/// answered, until a verdict stands. It may wait; its clauses hold if it returns. `gate` is a hook for
-/// tests. As yet the workers run one after another, on the thread of the caller.
+/// Proves a question on a system with several workers, which claim tasks, run them beside each other
+/// and post what was answered, until a verdict stands. Each has a thread of its own, the last one that
+/// of the caller; a worker for which no thread can be made works after the others. It may wait; its
+/// clauses hold if it returns. `gate` is a hook for tests.
 pub fn prove_with<'a, R: Threads + Wait + Sync, G: Gate>(
     rt: &R,
     alloc: Global,
@@ -62,8 +64,7 @@ fn finish<'a>(tree: Tree<'a>) -> Result<Finished<'a>, OutOfMemory>
     }
 }
 
-// So many workers, each but the last with a free number of the seat. They work one after another, on
-// one thread.
+// So many workers, each but the last with a free number of the seat and in a thread of its own.
 fn crew<'l, 'a, R: Threads + Wait + Sync, G: Gate>(
     rt: &R,
     alloc: Global,
@@ -104,7 +105,21 @@ fn crew<'l, 'a, R: Threads + Wait + Sync, G: Gate>(
         trs,
         limits,
     };
-    let done = work(rt, alloc, one, gate);
-    let rest = crew(rt, alloc, others, workers - 1, gate);
+    let (done, rest) = join(
+        rt,
+        || -> Seat<SharedTree>
+            requires { Opens one.question one.trs.now one.limits.budget one.seat.seen }
+            ensures { After one.entry.seat result }
+        { work(rt, alloc, one, gate) },
+        || -> Seat<SharedTree>
+            requires { IsSync R.row
+                × Opens others.question others.trs.now others.limits.budget others.seat.seen
+                × (others.seat.free + (workers - 1) ≤ others.seat.seats + 1) × (1 < workers) }
+            ensures { (result.lock ≡ others.entry.seat.lock)
+                × (result.seats ≡ others.entry.seat.seats)
+                × ((x : ℕ) → Has others.entry.seat x → Has result x)
+                × IsPrefix others.entry.seat.seen result.seen }
+        { crew(rt, alloc, others, workers - 1, gate) },
+    );
     lock.join(rest, done)
 }
