@@ -29,8 +29,6 @@ pub mod Failures
 pub mod OneAnswer
 pub mod Renumbering
 pub mod Following
-pub mod Winners
-pub mod OneFollower
 pub mod Turns
 pub mod OneEnd
 pub mod OneCertificate

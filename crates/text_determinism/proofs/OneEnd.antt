@@ -18,8 +18,8 @@ use Rattle.conclusion.specs.worker_pool.Serial.{IsSerialEnd, entry_of}
 use Rattle.text_determinism.specs.AnswerLaws.{AreSameAnswers, AnswersAreOne}
 use Rattle.text_determinism.proofs.Renumbering.{renumbered_nodes, renumbered_state, verdict_again, verdict_before}
 use Rattle.text_determinism.proofs.Following.{renumbered_event, claims_again, post_again}
-use Rattle.text_determinism.proofs.Winners.{IsGrown, grown_opening, grown_claim, grown_found, grown_failed}
-use Rattle.text_determinism.proofs.OneFollower.{same_ticket, same_problem, same_strategy, same_claim, one_found, one_failed}
+use Rattle.conclusion.proofs.tree_core.Winners.{IsGrown, grown_opening, grown_claim, grown_found, grown_failed}
+use Rattle.conclusion.proofs.tree_core.OneFollower.{same_ticket, same_problem, same_strategy, same_claim, one_found, one_failed}
 use Rattle.text_determinism.proofs.Turns.{AreTurns, rest, turn, turns_of}
 
 -- the opening has no step
@@ -37,15 +37,15 @@ module _ (goals : ℕ) (system : System) (s : State) (ticket : ℕ) where
 
   one_post : IsGrown goals s → (a b : Found) (m o : State) → AreSameAnswers a b → Posts a m → Posts b o → m ≡ o
   one_post grown (found step left) (found other others) m o (same, _) f g =
-      one_found goals system s ticket grown _ m o f (subst (λ z. Follows goals system s (entry_of ticket (event.found z)) o) (sym same) g)
+      one_found goals system s 0 ticket grown _ m o f (subst (λ z. Follows goals system s (entry_of ticket (event.found z)) o) (sym same) g)
   one_post grown (failed spent) (failed other) m o same f g =
-      one_failed goals system s ticket spent m o f (subst (λ z. Follows goals system s (entry_of ticket (event.failed z)) o) (sym same) g)
+      one_failed goals system s 0 ticket spent m o f (subst (λ z. Follows goals system s (entry_of ticket (event.failed z)) o) (sym same) g)
   one_post grown (found step left) (failed other) m o same f g = absurd same
   one_post grown (failed spent) (found other others) m o same f g = absurd same
 
   grown_post : IsGrown goals s → (a : Found) (m : State) → Posts a m → IsGrown goals m
-  grown_post grown (found step left) m f = grown_found goals system s grown ticket _ m f
-  grown_post grown (failed spent) m f = grown_failed goals system s grown ticket spent m f
+  grown_post grown (found step left) m f = grown_found goals system s grown 0 ticket _ m f
+  grown_post grown (failed spent) m f = grown_failed goals system s grown 0 ticket spent m f
 
 module _ (answers : AnswersAreOne) (goals : ℕ) (system : System) (valid : IsValid system) (budget : ℕ) where
   -- two states that are the same but for the numbers of variables, and of which each leads to a verdict by turns
@@ -68,14 +68,16 @@ module _ (answers : AnswersAreOne) (goals : ℕ) (system : System) (valid : IsVa
       let c = subst (λ (z : State). Claims goals z (entry_of t (claimed p a)) p a (renumbered_state m)) is_x (claims_again goals x t p a m claim) in
       let c' = subst (λ (z : State). Claims goals z (entry_of t' (claimed p' a')) p' a' (renumbered_state m')) is_y
       (claims_again goals y t' p' a' m' claim') in
-      let e_t : t ≡ t' = same_ticket goals s t t' p p' a a' (renumbered_state m) (renumbered_state m') c c' in
-      let e_p : p ≡ p' = same_problem goals s t t' p p' a a' (renumbered_state m) (renumbered_state m') c c' in
-      let e_a : a ≡ a' = same_strategy goals s t t' p p' a a' (renumbered_state m) (renumbered_state m') c c' in
-      let e_m : renumbered_state m ≡ renumbered_state m' = same_claim goals s t t' p p' a a' (renumbered_state m) (renumbered_state m') c c' in
+      let e = entry_of t (claimed p a) in
+      let e' = entry_of t' (claimed p' a') in
+      let e_t : t ≡ t' = same_ticket goals s e e' p p' a a' (renumbered_state m) (renumbered_state m') c c' in
+      let e_p : p ≡ p' = same_problem goals s e e' p p' a a' (renumbered_state m) (renumbered_state m') c c' in
+      let e_a : a ≡ a' = same_strategy goals s e e' p p' a a' (renumbered_state m) (renumbered_state m') c c' in
+      let e_m : renumbered_state m ≡ renumbered_state m' = same_claim goals s e e' p p' a a' (renumbered_state m) (renumbered_state m') c c' refl in
       let same : AreSameAnswers answer answer' = answers system budget a p answer answer' valid is_true
       (subst (λ (z : Strategy). IsTrueFound system budget z p answer') (sym e_a)
       (subst (λ (z : ProofProblem). IsTrueFound system budget a' z answer') (sym e_p) is_true')) in
-      let grown_m : IsGrown goals (renumbered_state m) = grown_claim goals system s grown t p a (renumbered_state m) c in
+      let grown_m : IsGrown goals (renumbered_state m) = grown_claim goals system s grown 0 t p a (renumbered_state m) c in
       let q : Posts goals system (renumbered_state m) t answer (renumbered_state l) = post_again goals m system t answer l post in
       let q_m = post_again goals m' system t' answer' l' post' in
       let event' = renumbered_event (event_of_found answer') in

@@ -21,7 +21,7 @@ use Rattle.conclusion.specs.tree_definitions.Reports.{Part, AllFail, IsTruePart,
 use Rattle.conclusion.proofs.tree_definitions.Lookups.{one_value, get_below}
 use Rattle.text_determinism.specs.AnswerLaws.{AnswersAreOne}
 use Rattle.text_determinism.proofs.Renumbering.{renumbered_node, renumbered_nodes, there_again, there_before, stuck_again, stuck_before}
-use Rattle.text_determinism.proofs.OneFollower.{one_least}
+use Rattle.conclusion.proofs.tree_core.OneFollower.{one_least}
 use Rattle.text_determinism.proofs.OneCertificate.{renumbered_step, same_items, one_order, same_steps}
 
 -- ---- how strategies fail

@@ -24,7 +24,7 @@ pub some_same : (a b : ℕ) → Some a ≡ Some b → a ≡ b
 some_same a b e = cc
 
 -- the root's problem is that of the claim, but for its way
-claims_fit : (question : Question) (g : ℕ) (p : ProofProblem) (claim : Claim) → slice_get (roots question) g ≡ Some p → slice_get (claims question) g ≡ Some claim → plain p ≡ root_of claim
+pub claims_fit : (question : Question) (g : ℕ) (p : ProofProblem) (claim : Claim) → slice_get (roots question) g ≡ Some p → slice_get (claims question) g ≡ Some claim → plain p ≡ root_of claim
 claims_fit Termination zero p claim a b = cc
 claims_fit Termination (suc zero) p claim a b = cc
 claims_fit Termination (suc (suc g)) p claim a b = absurd cc

@@ -19,3 +19,7 @@ pub mod Walks
 pub mod Accepted
 pub mod Lost
 pub mod GoalParts
+pub mod Winners
+pub mod OneFollower
+pub mod OneReplay
+pub mod WonClaims

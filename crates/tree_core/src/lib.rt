@@ -3,9 +3,11 @@
 #![tactic(auto)]
 
 mod calls;
+mod laws;
 mod reporting;
 mod tree;
 
+pub use laws::{opposite_claims_are_not_both_won, replays_are_one, won_claims_are_true};
 pub use tree::Tree;
 pub use tree_state::{
     Aborted, Claim, Claimed, Findings, GoalReport, GraphItem, Join, Limits, Mark, NodeStep,

@@ -3,23 +3,22 @@ use Rattle.std.proofs.Common.{◌≡◌, inl, inr, ℕ, zero, suc, ◌<◌, ◌+
 use native.Mathlib.Decide.{ℕ_discrete}
 use mathlib.Core.Logic.{dite}
 use Rattle.trs_defs.specs.System.{System}
-use Rattle.conclusion.specs.report_text.strategies.cert_step.ProofProblem.{ProofProblem}
-use Rattle.conclusion.specs.report_text.strategies.cert_step.ProofStep.{ProofStep}
-use Rattle.conclusion.specs.report_text.strategies.declared.strategy.Strategy.{Strategy}
-use Rattle.conclusion.specs.tree_definitions.declared.mark.Mark.{Mark}
-use Rattle.conclusion.specs.tree_definitions.declared.mark.Mark.TheVariants.{Idle, Running, Failed}
-use Rattle.conclusion.specs.tree_definitions.declared.question.Question.{Question}
-use Rattle.conclusion.specs.tree_definitions.declared.ticket.Ticket.{Ticket}
-use Rattle.conclusion.specs.tree_definitions.Questions.{roots, goals_of}
-use Rattle.conclusion.specs.tree_definitions.History.{claimed, found, failed}
-use Rattle.conclusion.specs.tree_definitions.States.{TreeNode, State, Decided, IsChild, new_node, roots_from, opening, marked}
-use Rattle.conclusion.specs.tree_definitions.Verdicts.{IsClosed, closed, IsWon, IsFirstWinner}
-use Rattle.conclusion.specs.tree_definitions.Events.{Claims, IsOver, done, Follows, nodes_with, without}
-use Rattle.conclusion.proofs.tree_definitions.Lookups.{one_value, get_set, length_set, set_cases, set_there, append_left, append_right, append_cases, map_there, map_cases, get_below}
-use Rattle.conclusion.specs.tree_core.Invariant.{IsOf}
-use Rattle.conclusion.proofs.tree_core.Won.{closed_decided}
-use Rattle.conclusion.proofs.tree_core.Marking.{of_same, closed_same, same_later, same_before}
-use Rattle.conclusion.specs.worker_pool.Serial.{entry_of}
+use Rattle.tree_state.specs.cert_step.ProofProblem.{ProofProblem}
+use Rattle.tree_state.specs.cert_step.ProofStep.{ProofStep}
+use Rattle.tree_state.specs.strategies.declared.strategy.Strategy.{Strategy}
+use Rattle.tree_state.specs.tree_definitions.declared.mark.Mark.{Mark}
+use Rattle.tree_state.specs.tree_definitions.declared.mark.Mark.TheVariants.{Idle, Running, Failed}
+use Rattle.tree_state.specs.tree_definitions.declared.question.Question.{Question}
+use Rattle.tree_state.specs.tree_definitions.declared.ticket.Ticket.{Ticket}
+use Rattle.tree_state.specs.tree_definitions.Questions.{roots, goals_of}
+use Rattle.tree_state.specs.tree_definitions.History.{HistoryEntry, Event, claimed, found, failed, cancelled, aborted}
+use Rattle.tree_state.specs.tree_definitions.States.{TreeNode, State, Decided, IsChild, new_node, roots_from, opening, marked}
+use Rattle.tree_state.specs.tree_definitions.Verdicts.{IsClosed, closed, IsWon, IsFirstWinner}
+use Rattle.tree_state.specs.tree_definitions.Events.{Claims, RunsAt, IsOver, done, Follows, ended, nodes_with, without}
+use Rattle.tree_state.proofs.tree_definitions.Lookups.{one_value, get_set, length_set, set_cases, set_there, append_left, append_right, append_cases, map_there, map_cases, get_below}
+use Rattle.tree_core.specs.Invariant.{IsOf}
+use Rattle.tree_core.proofs.Won.{closed_decided}
+use Rattle.tree_core.proofs.Marking.{of_same, closed_same, same_later, same_before}
 
 -- node g is of goal g, the children of a node are of its goal, and where no goal has won, none is won
 pub record IsGrown (goals : ℕ) (s : State) : Type 0 where
@@ -188,21 +187,38 @@ module _ (goals : ℕ) (s : State) (grown : IsGrown goals s) (t : Ticket) (node 
 
 -- ---- an entry
 
-module _ (goals : ℕ) (system : System) (s : State) (grown : IsGrown goals s) (ticket : ℕ) where
+module _ (goals : ℕ) (system : System) (s : State) (grown : IsGrown goals s) (seat ticket : ℕ) where
+  abbrev entry : Event → HistoryEntry
+  entry event = record { seat = seat; ticket = ticket; event = event }
+
+  grown_end : (event : Event) (r : RunsAt s (entry event)) (mark : Mark) (next : State) → next ≡ ended s ticket r.ticket r.node mark → IsGrown goals next
+  grown_end event r mark next after =
+      subst (IsGrown goals) (sym after) (grown_marked goals s r.ticket.node r.ticket.place r.node mark _ r.made grown)
+
   pub grown_claim : (problem : ProofProblem) (strategy : Strategy) (next : State)
-      → Claims goals s (entry_of ticket (claimed problem strategy)) problem strategy next → IsGrown goals next
+      → Claims goals s (entry (claimed problem strategy)) problem strategy next → IsGrown goals next
   grown_claim problem strategy next c =
       subst (IsGrown goals) (sym c.after) (grown_marked goals s c.n c.place c.node Running _ c.free.there grown)
 
-  pub grown_found : (step : ProofStep) (next : State) → Follows goals system s (entry_of ticket (found step)) next → IsGrown goals next
-  grown_found step next (r, inl late) =
-      subst (IsGrown goals) (sym late.1) (grown_marked goals s r.ticket.node r.ticket.place r.node Idle _ r.made grown)
+  pub grown_found : (step : ProofStep) (next : State) → Follows goals system s (entry (found step)) next → IsGrown goals next
+  grown_found step next (r, inl late) = grown_end (found step) r Idle next late.1
   grown_found step next (r, inr (wanted, d)) =
       subst (IsGrown goals) (sym d.after)
       (grown_decided goals s grown r.ticket r.node r.made step d.left (without s.tickets ticket r.ticket) d.winner d.first)
 
-  pub grown_failed : (spent : Bool) (next : State) → Follows goals system s (entry_of ticket (failed spent)) next → IsGrown goals next
-  grown_failed spent next (r, inl late) =
-      subst (IsGrown goals) (sym late.1) (grown_marked goals s r.ticket.node r.ticket.place r.node Idle _ r.made grown)
-  grown_failed spent next (r, inr (wanted, after)) =
-      subst (IsGrown goals) (sym after) (grown_marked goals s r.ticket.node r.ticket.place r.node (Failed spent) _ r.made grown)
+  pub grown_failed : (spent : Bool) (next : State) → Follows goals system s (entry (failed spent)) next → IsGrown goals next
+  grown_failed spent next (r, inl late) = grown_end (failed spent) r Idle next late.1
+  grown_failed spent next (r, inr (wanted, after)) = grown_end (failed spent) r (Failed spent) next after
+
+  grown_aborted : (next : State) → Follows goals system s (entry aborted) next → IsGrown goals next
+  grown_aborted next (r, inl late) = grown_end aborted r Idle next late.1
+  grown_aborted next (r, inr (none, after)) =
+      let g = grown_end aborted r Idle (ended s ticket r.ticket r.node Idle) refl in
+      subst (IsGrown goals) (sym after) (record { root = g.root; kin = g.kin; not_won = g.not_won })
+
+  pub grown_later : (event : Event) (next : State) → Follows goals system s (entry event) next → IsGrown goals next
+  grown_later (claimed problem strategy) next f = grown_claim problem strategy next f
+  grown_later (found step) next f = grown_found step next f
+  grown_later (failed spent) next f = grown_failed spent next f
+  grown_later cancelled next (r, late) = grown_end cancelled r Idle next late.1
+  grown_later aborted next f = grown_aborted next f
