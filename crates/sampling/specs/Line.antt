@@ -1,7 +1,7 @@
 -- The line of a sample system.
 use Rattle.std.specs.Prelude.{ℕ, List, ◌++◌, codes, decimal, length}
 use Rattle.trs_defs.specs.System.{System}
-use Rattle.dp_core.specs.PlacedPairs.{placed_pairs}
+use Rattle.pair_theory.specs.DependencyPair.{dependency_pairs}
 use Rattle.sampling.specs.Family.{sample}
 use Rattle.sampling.specs.declared.judgement.Judgement.{Judgement}
 use Rattle.sampling.specs.declared.judgement.Judgement.TheVariants.{Proved, Refuted, Open}
@@ -15,7 +15,7 @@ judgement_word Open = codes " open\n"
 -- how many rules and dependency pairs a system has, and what is judged of it
 abbrev pub line_of : System → Judgement → List ℕ
 line_of system judgement =
-    codes "rules " ++ (decimal (length system.rules) ++ (codes " pairs " ++ (decimal (length (placed_pairs system.rules)) ++ judgement_word judgement)))
+    codes "rules " ++ (decimal (length system.rules) ++ (codes " pairs " ++ (decimal (length (dependency_pairs system.rules)) ++ judgement_word judgement)))
 
 -- the line of the sample system of a number, which is judged truly
 pub data IsSampleLine (size budget : ℕ) : List ℕ → Type 0 where

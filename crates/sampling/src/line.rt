@@ -1,8 +1,9 @@
-ghost use Rattle.std.specs.Prelude.{◌≡◌, ◌≤◌, ◌++◌, IfOk, OnOk};
+ghost use Rattle.std.specs.Prelude.{◌≡◌, ◌≤◌, ◌++◌, IfOk, OnOk, length};
+ghost use Rattle.pair_theory.specs.DependencyPair.{dependency_pairs};
 ghost use Rattle.sampling.specs.Line.{IsSampleLine, IsSerialLine, judgement_word, line_of};
 
 use crate::{Judgement, judge, judge_with, sample_system};
-use dp_core::dependency_pairs;
+use dp_core::{dependency_pairs, placed_pairs_are_the_pairs};
 use std::alloc::Global;
 use std::sync::Wait;
 use std::thread::Threads;
@@ -45,14 +46,24 @@ pub fn sample_line_with<R: Threads + Wait + Sync, G: Gate>(
 fn line_of(alloc: Global, trs: &Trs, judgement: Judgement) -> Result<Vec<u8>, OutOfMemory>
     ensures { IfOk result (λ line. line.items ≡ line_of trs.now judgement) }
 {
-    let pairs = dependency_pairs(alloc, trs)?;
+    let pairs = count_pairs(alloc, trs)?;
     let mut line = Vec::new(alloc);
     put(&mut line, b"rules ")?;
     put_number(&mut line, trs.rules().len() as u64)?;
     put(&mut line, b" pairs ")?;
-    put_number(&mut line, pairs.len() as u64)?;
+    put_number(&mut line, pairs)?;
     put(&mut line, word_of(judgement))?;
     Ok(line)
+}
+
+// How many dependency pairs a system has.
+fn count_pairs(alloc: Global, trs: &Trs) -> Result<u64, OutOfMemory>
+    ensures { IfOk result (λ n. n ≡ length (dependency_pairs trs.now.rules)) }
+{
+    let _rules = trs.rules();
+    placed_pairs_are_the_pairs();
+    let pairs = dependency_pairs(alloc, trs)?;
+    Ok(pairs.len() as u64)
 }
 
 // How the line ends.
