@@ -1,3 +1,5 @@
+-- what the programs name through this crate
+pub use Rattle.conclusion.specs as conclusion
 pub mod Statuses
 pub mod Numbers
 pub mod Lines

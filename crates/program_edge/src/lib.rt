@@ -11,6 +11,7 @@ mod status;
 mod words;
 
 pub use asking::{Conclusion, conclude, conclude_with};
+pub use conclusion::{Gate, OpenGate, fits_version_two, print_version_two};
 pub use fetching::{MOST_PROBLEM_BYTES, Unfetched, name_fault};
 pub use lines::{put_read_fault, put_refused, put_too_long};
 pub use pieces::{put_fields, put_line, put_lines, put_one};

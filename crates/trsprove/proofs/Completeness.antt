@@ -6,8 +6,8 @@ use Rattle.names_text.specs.Named.{NamedSystem}
 use Rattle.ari_text.specs.Problem.{SaysSystem}
 use Rattle.ari_text.proofs.OneSystem as ari_text
 use Rattle.ari_text.proofs.OneSystem.{one_system}
-use Rattle.conclusion.specs.cert_text.ProofText.{ProofText}
-use Rattle.conclusion.specs.cert_text.CertificateText.{fits_two}
+use Rattle.program_edge.specs.conclusion.cert_text.ProofText.{ProofText}
+use Rattle.program_edge.specs.conclusion.cert_text.CertificateText.{fits_two}
 use Rattle.certifier.specs.Acceptance.{IsAcceptedAs}
 use Rattle.certifier.proofs.OneAnswer.{said_once, not_both}
 use Rattle.completion_text.specs.path_lpo.Table.{PathEntry}

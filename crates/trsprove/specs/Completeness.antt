@@ -5,8 +5,8 @@ use Rattle.io_edge.specs.Shelf.{ShelfMeaning, Told, FaultRose}
 use Rattle.io_edge.specs.Sink.{SinkMeaning}
 use Rattle.names_text.specs.Named.{NamedSystem}
 use Rattle.ari_text.specs.Problem.{SaysSystem}
-use Rattle.conclusion.specs.cert_text.ProofText.{ProofText}
-use Rattle.conclusion.specs.cert_text.CertificateText.{fits_two}
+use Rattle.program_edge.specs.conclusion.cert_text.ProofText.{ProofText}
+use Rattle.program_edge.specs.conclusion.cert_text.CertificateText.{fits_two}
 use Rattle.certifier.specs.Acceptance.{IsAcceptedAs}
 use Rattle.completion_text.specs.path_lpo.Table.{PathEntry}
 use Rattle.completion_text.specs.OrderText.{SaysOrder}

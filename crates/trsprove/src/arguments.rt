@@ -6,9 +6,8 @@ ghost use Rattle.command_line.specs.Request.{request_of};
 ghost use Rattle.trsprove.specs.Run.{IsRun, EndsWith, request_given};
 
 use crate::run::run;
-use conclusion::Gate;
 use io_edge::{Shelf, Sink};
-use program_edge::{Status, words_of};
+use program_edge::{Gate, Status, words_of};
 use std::alloc::Global;
 use std::env::Args;
 use std::io;

@@ -8,9 +8,8 @@ ghost use Rattle.trsprove.specs.Answers.{status_of, text_of};
 
 use crate::answer::{Answer, not_fetched};
 use command_line::Question;
-use conclusion::Gate;
 use io_edge::Shelf;
-use program_edge::{Conclusion, MOST_PROBLEM_BYTES, conclude, conclude_with};
+use program_edge::{Conclusion, Gate, MOST_PROBLEM_BYTES, conclude, conclude_with};
 use std::alloc::{AllocError, Global};
 use std::sync::Wait;
 use std::thread::Threads;

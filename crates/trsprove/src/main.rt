@@ -14,7 +14,7 @@ mod samples;
 mod several;
 
 use crate::arguments::run_arguments;
-use conclusion::OpenGate;
+use program_edge::OpenGate;
 use io_edge::{FileShelf, HostFiles, HostOutput, WriterSink};
 use std::env;
 use std::process::ExitCode;

@@ -4,8 +4,7 @@ ghost use Rattle.trsprove.specs.Answers.{status_of, text_of};
 ghost use Rattle.trsprove.specs.Workers.{IsSampledBy};
 
 use crate::answer::Answer;
-use conclusion::Gate;
-use program_edge::Status;
+use program_edge::{Gate, Status};
 use sampling::{sample_line, sample_line_with};
 use std::alloc::{AllocError, Global};
 use std::sync::Wait;

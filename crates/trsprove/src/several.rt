@@ -9,7 +9,7 @@ use crate::answer::Answer;
 use crate::asking::concluded_with;
 use crate::samples::sampled_with;
 use command_line::{Refused, Request, parse};
-use conclusion::Gate;
+use program_edge::Gate;
 use io_edge::Shelf;
 use std::alloc::{AllocError, Global};
 use std::sync::Wait;

@@ -1,5 +1,5 @@
 //! The finder of loops, at its limits.
-use crate::made::{show, system};
+use crate::lettered::{show, system};
 use crate::stops::never;
 use assign_search::{Search, Stop};
 use finder_cases::StopAt;

@@ -1,5 +1,5 @@
 //! Small spaces.
-ghost use Rattle.finder_tests.specs.Puzzles.{pair_puzzle, pair_lawful, deep_puzzle, deep_lawful};
+ghost use Rattle.term_tests.specs.Puzzles.{pair_puzzle, pair_lawful, deep_puzzle, deep_lawful};
 
 use assign_search::{OutOfMemory, Space};
 use std::alloc::Global;

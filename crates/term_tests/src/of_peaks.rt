@@ -1,6 +1,6 @@
 //! The finders of what confluence needs: what is found at critical peaks, and that a stop is seen
 //! before the first.
-use crate::made::constants;
+use crate::lettered::constants;
 use crate::stops::{BUDGET, at_once, never};
 use assign_search::Search;
 use conf_find::{find_fork, find_split};

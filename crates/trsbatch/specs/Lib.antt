@@ -1,0 +1,10 @@
+pub mod ListText
+pub mod Cutting
+pub mod ListAnswers
+pub mod Words
+pub mod Lines
+pub mod Blocks
+pub mod Output
+pub mod Problems
+pub mod Answers
+pub mod Run
