@@ -34,11 +34,14 @@ good_written : (problem certificate : List ℕ) (wanted : Wanted) (named : Named
 good_written problem certificate wanted named says s text a with_claim = inl (refl, record { named = named; says = says; accepted = a; fits = λ e. absurd cc })
 good_written problem certificate wanted named says s text a (in_version_two fits) = inl (refl, record { named = named; says = says; accepted = a; fits = λ e. fits })
 good_written problem certificate wanted named says s text a (too_heavy heavy) =
-    inr (inl (refl, (λ good.
-    let same = said_once problem certificate named good.named says good.says a good.accepted in
-    let fits : fits_two good.says ≡ true = good.fits refl in
-    let heavy_too : fits_two good.says ≡ false = subst (λ x. fits_two x ≡ false) same.1 heavy in
-    cc)))
+    inr (inl (
+      refl,
+      (λ good.
+          let same = said_once problem certificate named good.named says good.says a good.accepted in
+          let fits : fits_two good.says ≡ true = good.fits refl in
+          let heavy_too : fits_two good.says ≡ false = subst (λ x. fits_two x ≡ false) same.1 heavy in
+          cc),
+    ))
 
 good_verdict : (problem certificate : List ℕ) (wanted : Wanted) (named : NamedSystem) (s : Status) (text : List ℕ) → SaysSystem problem named
     → Verdict problem certificate wanted s text → IsJudged (IsGoodCertificate wanted problem certificate) s

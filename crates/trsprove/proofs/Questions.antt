@@ -142,8 +142,11 @@ module _ {E : Type 0} (question : Question) (p : List ℕ) (workers budget : ℕ
     answer = IfOk-weaker r (λ a. IsUnfetched fault p (status_of a) (text_of a))
         (λ a. IsAnswer (Some (proves question p workers budget)) before now (status_of a) (text_of a))
         (λ a is. unfetched_line (Some (proves question p workers budget)) before now p fault (status_of a) (text_of a) is
-        (λ e. (most_problem_bytes, as_question question p workers budget refl,
-        fault_came (Vec ℕ Global) fault before.faults before.faults now.faults p (omega arith) counted e))
+        (λ e. (
+          most_problem_bytes,
+          as_question question p workers budget refl,
+          fault_came (Vec ℕ Global) fault before.faults before.faults now.faults p (omega arith) counted e,
+        ))
         (λ e. (most_problem_bytes, as_question question p workers budget refl, passes e, long e))) h;
     only = IfOk-weaker r (λ a. IsUnfetched fault p (status_of a) (text_of a)) (λ a. AnswersOnly (Some (proves question p workers budget)) before (status_of a))
         (λ a is. not_fetched_only before question p workers budget fault (status_of a) (text_of a) is passes) h;

@@ -22,5 +22,12 @@ use std::process::ExitCode;
 fn main(rt: HostRuntime) -> ExitCode {
     let mut shelf = FileShelf::new(HostFiles::new(&rt), rt.alloc());
     let mut out = WriterSink::new(HostOutput::new(&rt));
-    run_arguments(&rt, rt.alloc(), env::args(&rt), &mut shelf, &mut out, &OpenGate)
+    run_arguments(
+        &rt,
+        rt.alloc(),
+        env::args(&rt),
+        &mut shelf,
+        &mut out,
+        &OpenGate,
+    )
 }
