@@ -1,5 +1,6 @@
 -- what the programs name through this crate
 pub use Rattle.conclusion.specs as conclusion
+pub use Rattle.names_text.specs as names_text
 pub mod Statuses
 pub mod Numbers
 pub mod Lines

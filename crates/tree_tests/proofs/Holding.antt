@@ -6,20 +6,20 @@ use mathlib.Core.Logic.{dite}
 use Rattle.trs_defs.specs.System.{System}
 use Rattle.trs_defs.specs.Member.{In, in_first}
 use Rattle.trs_defs.proofs.Members.{in_right}
-use Rattle.tree_core.specs.cert_step.ProofProblem.{problem_of}
-use Rattle.tree_core.specs.strategies.Runs.{Run}
-use Rattle.tree_core.specs.tree_definitions.declared.answers.Task.{Task}
-use Rattle.tree_core.specs.tree_definitions.declared.answers.Claimed.{Claimed}
-use Rattle.tree_core.specs.tree_definitions.declared.answers.Claimed.TheVariants as claim
-use Rattle.tree_core.specs.tree_definitions.declared.answers.Polled.{Polled}
-use Rattle.tree_core.specs.tree_definitions.declared.answers.Polled.TheVariants as polled
-use Rattle.tree_core.specs.tree_definitions.declared.answers.Posted.{Posted}
-use Rattle.tree_core.specs.tree_definitions.declared.answers.Posted.TheVariants as posted
-use Rattle.tree_core.specs.tree_definitions.History.{HistoryEntry, Event, claimed, cancelled, mentions, Runs, IsOwned, IsFresh, IsGiven}
-use Rattle.tree_core.specs.tree_definitions.Trees.{ProofTree}
-use Rattle.tree_core.specs.tree_definitions.Replies.{Adds, IfTask, IsClaim, IsPoll, IsPost, IsRunnable, IsTask, IsTaskOf, Notes}
-use Rattle.tree_core.proofs.tree_definitions.Lookups.{get_set_other, more_cases}
-use Rattle.tree_core.proofs.tree_definitions.Mentions.{mentions-append, about_other, runs_of_own, given_later}
+use Rattle.worker_pool.specs.tree_core.cert_step.ProofProblem.{problem_of}
+use Rattle.worker_pool.specs.tree_core.strategies.Runs.{Run}
+use Rattle.worker_pool.specs.tree_core.tree_definitions.declared.answers.Task.{Task}
+use Rattle.worker_pool.specs.tree_core.tree_definitions.declared.answers.Claimed.{Claimed}
+use Rattle.worker_pool.specs.tree_core.tree_definitions.declared.answers.Claimed.TheVariants as claim
+use Rattle.worker_pool.specs.tree_core.tree_definitions.declared.answers.Polled.{Polled}
+use Rattle.worker_pool.specs.tree_core.tree_definitions.declared.answers.Polled.TheVariants as polled
+use Rattle.worker_pool.specs.tree_core.tree_definitions.declared.answers.Posted.{Posted}
+use Rattle.worker_pool.specs.tree_core.tree_definitions.declared.answers.Posted.TheVariants as posted
+use Rattle.worker_pool.specs.tree_core.tree_definitions.History.{HistoryEntry, Event, claimed, cancelled, mentions, Runs, IsOwned, IsFresh, IsGiven}
+use Rattle.worker_pool.specs.tree_core.tree_definitions.Trees.{ProofTree}
+use Rattle.worker_pool.specs.tree_core.tree_definitions.Replies.{Adds, IfTask, IsClaim, IsPoll, IsPost, IsRunnable, IsTask, IsTaskOf, Notes}
+use Rattle.worker_pool.proofs.tree_core.tree_definitions.Lookups.{get_set_other, more_cases}
+use Rattle.worker_pool.proofs.tree_core.tree_definitions.Mentions.{mentions-append, about_other, runs_of_own, given_later}
 use Rattle.tree_tests.specs.Held.{IsHeld, AreHeld, IsAnswerTo, IsClaimed, after_poll}
 
 -- an entry of another ticket keeps what is held

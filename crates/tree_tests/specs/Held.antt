@@ -1,14 +1,14 @@
 -- Outcomes that are held back until they are posted.
 use Rattle.std.specs.Prelude.{◌≡◌, ℕ, List, Option, Some, None, slice_get, slice_set}
 use Rattle.trs_defs.specs.System.{System}
-use Rattle.tree_core.specs.cert_step.ProofProblem.{problem_of}
-use Rattle.tree_core.specs.strategies.Runs.{Run}
-use Rattle.tree_core.specs.tree_definitions.declared.answers.Task.{Task}
-use Rattle.tree_core.specs.tree_definitions.declared.answers.Polled.{Polled}
-use Rattle.tree_core.specs.tree_definitions.declared.answers.Polled.TheVariants.{Go, Cancelled}
-use Rattle.tree_core.specs.tree_definitions.History.{Runs, IsGiven}
-use Rattle.tree_core.specs.tree_definitions.Trees.{ProofTree}
-use Rattle.tree_core.specs.tree_definitions.Replies.{IsRunnable, IsTaskOf}
+use Rattle.worker_pool.specs.tree_core.cert_step.ProofProblem.{problem_of}
+use Rattle.worker_pool.specs.tree_core.strategies.Runs.{Run}
+use Rattle.worker_pool.specs.tree_core.tree_definitions.declared.answers.Task.{Task}
+use Rattle.worker_pool.specs.tree_core.tree_definitions.declared.answers.Polled.{Polled}
+use Rattle.worker_pool.specs.tree_core.tree_definitions.declared.answers.Polled.TheVariants.{Go, Cancelled}
+use Rattle.worker_pool.specs.tree_core.tree_definitions.History.{Runs, IsGiven}
+use Rattle.worker_pool.specs.tree_core.tree_definitions.Trees.{ProofTree}
+use Rattle.worker_pool.specs.tree_core.tree_definitions.Replies.{IsRunnable, IsTaskOf}
 
 -- the ticket is running, and the outcome is of its task
 pub record IsHeld (tree : ProofTree) (ticket : ℕ) (outcome : Run) : Type 0 where

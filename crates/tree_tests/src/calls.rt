@@ -1,14 +1,14 @@
 //! Calls of a tree whose outcomes are held back, each with what it keeps of those.
 ghost use Rattle.std.specs.Prelude.{◌≡◌, ◌++◌, ◌∷◌, [], List, Option, Some, None};
 ghost use Rattle.std.specs.Prelude.{length, slice_get, slice_set, IfOk, IfSome, IsTrue, OnOk, OnErr};
-ghost use Rattle.tree_core.specs.strategies.Runs.{Run};
-ghost use Rattle.tree_core.specs.tree_definitions.History.{IsFresh, IsOwned, Runs};
-ghost use Rattle.tree_core.specs.tree_definitions.Replies.{IfTask, IsRunnable};
+ghost use Rattle.worker_pool.specs.tree_core.strategies.Runs.{Run};
+ghost use Rattle.worker_pool.specs.tree_core.tree_definitions.History.{IsFresh, IsOwned, Runs};
+ghost use Rattle.worker_pool.specs.tree_core.tree_definitions.Replies.{IfTask, IsRunnable};
 ghost use Rattle.tree_tests.specs.Held.{AreHeld, IsHeld, IsAnswerTo, IsClaimed, after_poll};
 
 use assign_search::Never;
 use std::alloc::Global;
-use tree_core::{Aborted, Claimed, Limits, Outcome, Polled, Posted, Ran, Task, Tree, run_strategy};
+use worker_pool::{Aborted, Claimed, Limits, Outcome, Polled, Posted, Ran, Task, Tree, run_strategy};
 use trs_core::{OutOfMemory, Trs};
 
 /// Claims a task, and runs it.

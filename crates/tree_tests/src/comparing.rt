@@ -5,7 +5,7 @@ use crate::state::State;
 use crate::trial::Trial;
 use std::alloc::Global;
 use std::test::Fail;
-use tree_core::{Claimed, Polled, Posted, Question, Task, strategies_of};
+use worker_pool::{Claimed, Polled, Posted, Question, Task, strategies_of};
 use trs_core::Trs;
 
 /// A tree, the list of all events, and the state to which it leads.

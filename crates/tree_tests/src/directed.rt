@@ -4,7 +4,7 @@ use crate::endings::ends_as;
 use crate::systems::{Case, system};
 use std::alloc::Global;
 use std::test::Fail;
-use tree_core::{Findings, Question};
+use worker_pool::{Findings, Question};
 
 /// Claims so many tasks, and says whether there were so many.
 fn claim_all(alloc: Global, pair: &mut Pair, count: u64) -> Result<bool, Fail> {

@@ -1,11 +1,11 @@
 //! The certificate and the report of a tree, beside those of the plain state.
 ghost use Rattle.std.specs.Prelude.{◌≡◌, ℕ, Some};
-ghost use Rattle.tree_core.specs.tree_definitions.Replies.{IsVerdict};
+ghost use Rattle.worker_pool.specs.tree_core.tree_definitions.Replies.{IsVerdict};
 
 use crate::events::shown;
 use crate::state::{Node, State};
 use std::alloc::Global;
-use tree_core::{
+use worker_pool::{
     Claim, GoalReport, Mark, NodeStep, Question, Report, Strategy, Tree, Verdict, strategies_of,
 };
 use trs_core::OutOfMemory;

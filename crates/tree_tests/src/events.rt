@@ -1,7 +1,7 @@
 //! Lists of events, in which a step is shown by numbers.
 use rewrite_core::PathStep;
 use std::alloc::Global;
-use tree_core::{Findings, GraphItem, Join, Problem, Step};
+use worker_pool::{Findings, GraphItem, Join, Problem, Step};
 use trs_core::OutOfMemory;
 
 /// A step that was found, and the problems that it leaves.

@@ -1,4 +1,5 @@
-//! Tests of the proof tree, beside a plain replay of lists of events. There is no code here.
+//! Tests of the proof tree, beside a plain replay of lists of events, and of several workers on it,
+//! each in a thread. There is no code here.
 #![tactic(auto)]
 
 #[cfg(test)]
@@ -14,6 +15,8 @@ mod endings;
 #[cfg(test)]
 mod events;
 #[cfg(test)]
+mod gates;
+#[cfg(test)]
 mod lists;
 #[cfg(test)]
 mod replay;
@@ -23,3 +26,5 @@ mod state;
 mod systems;
 #[cfg(test)]
 mod trial;
+#[cfg(test)]
+mod workers;

@@ -5,7 +5,7 @@ use crate::endings::ends_as;
 use crate::systems::{Case, system};
 use std::alloc::Global;
 use std::test::Fail;
-use tree_core::{Question, Verdict};
+use worker_pool::{Question, Verdict};
 use trs_core::Trs;
 
 /// How many lists are tried for a case, and how many calls a list has at most.

@@ -2,7 +2,7 @@
 use crate::events::{Entry, Event, FoundStep};
 use crate::state::{Decided, State, new_node, opening};
 use std::alloc::Global;
-use tree_core::{Mark, Question, Ticket};
+use worker_pool::{Mark, Question, Ticket};
 use trs_core::OutOfMemory;
 
 /// The state after these entries.

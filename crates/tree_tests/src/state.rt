@@ -1,6 +1,6 @@
 //! The state of a tree as plain data, and what is said of it.
 use std::alloc::Global;
-use tree_core::{Mark, Problem, Question, Ticket, Verdict, strategies_of};
+use worker_pool::{Mark, Problem, Question, Ticket, Verdict, strategies_of};
 use trs_core::OutOfMemory;
 
 /// A step that decided a node, shown by numbers, and its children: so many, from the first on.

@@ -1,7 +1,7 @@
 //! Small systems, with a question each.
 use std::alloc::Global;
 use std::test::Fail;
-use tree_core::Question;
+use worker_pool::Question;
 use trs_core::Trs;
 
 /// A question on a system of these letters and rules, and how far searches go.

@@ -5,7 +5,7 @@ use crate::calls::{claim, clear, end_by_abort, is_running, poll, post, settle};
 use std::alloc::Global;
 use std::marker::Model;
 use std::test::Fail;
-use tree_core::{Aborted, Claimed, Limits, Outcome, Polled, Posted, Question, Tree};
+use worker_pool::{Aborted, Claimed, Limits, Outcome, Polled, Posted, Question, Tree};
 use trs_core::{OutOfMemory, Trs};
 
 /// A tree, and the outcome of each running ticket at the ticket's number.
@@ -18,7 +18,7 @@ pub struct Trial<'a> {
 impl<'a> Model for Trial<'a> {
     ghost use Rattle.std.specs.Coded.{codes};
     ghost use Rattle.trs_defs.specs.Tree.{tree_code};
-    ghost use Rattle.tree_core.specs.tree_definitions.Trees.{ProofTree};
+    ghost use Rattle.worker_pool.specs.tree_core.tree_definitions.Trees.{ProofTree};
 
     ghost Value = { ProofTree };
 

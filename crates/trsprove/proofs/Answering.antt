@@ -2,7 +2,7 @@
 use Rattle.std.proofs.Common.{◌≡◌, ◌≢◌, ◌≤◌, ◌<◌, ◌⊎◌, inl, inr, ℕ, List, length, Option, Some, refl, sym, subst, arith}
 use Rattle.io_edge.specs.Telling.{CanBe, CanPass}
 use Rattle.io_edge.specs.Shelf.{ShelfMeaning, Told, MayBe, MayPass}
-use Rattle.names_text.specs.Named.{NamedSystem}
+use Rattle.program_edge.specs.names_text.Named.{NamedSystem}
 use Rattle.ari_text.specs.Problem.{IsProblemRefused}
 use Rattle.ari_text.specs.declared.fault.AriFault.{AriFault}
 use Rattle.ari_text.specs.declared.fault.AriFault.TheVariants as ari

@@ -2,7 +2,7 @@
 use Rattle.std.proofs.Common.{◌≡◌, ◌≤◌, ◌⊎◌, inl, inr, ℕ, true, false, List, length, Option, Some, refl, sym, subst, ◌∙◌}
 use Rattle.io_edge.specs.Shelf.{ShelfMeaning, Told, MayBe, MayPass, FaultRose}
 use Rattle.io_edge.specs.Sink.{SinkMeaning}
-use Rattle.names_text.specs.Named.{NamedSystem}
+use Rattle.program_edge.specs.names_text.Named.{NamedSystem}
 use Rattle.ari_text.specs.Problem.{SaysSystem}
 use Rattle.ari_text.proofs.OneSystem as ari_text
 use Rattle.ari_text.proofs.OneSystem.{one_system}

@@ -6,7 +6,7 @@ use Rattle.io_edge.specs.declared.fault.FetchFault.TheVariants as fetch
 use Rattle.io_edge.proofs.Counting.{same_or_not}
 use Rattle.ari_text.proofs.OneSystem as ari_text
 use Rattle.ari_text.proofs.OneSystem.{one_system}
-use Rattle.names_text.specs.Named.{NamedSystem}
+use Rattle.program_edge.specs.names_text.Named.{NamedSystem}
 use Rattle.command_line.specs.Request.{Asked, certifies, proves, completes}
 use Rattle.completion_text.specs.OrderText.{IsOrderRefused}
 use Rattle.completion_text.specs.declared.refused.OrderRefused.TheVariants.{At}

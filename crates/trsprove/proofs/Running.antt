@@ -11,7 +11,7 @@ use Rattle.certifier.specs.Acceptance.{IsAcceptance, IsAcceptedAs}
 use Rattle.certifier.proofs.OneAnswer.{says_of_acceptance}
 use Rattle.program_edge.specs.conclusion.cert_step.declared.claim.Claim.{Claim}
 use Rattle.program_edge.specs.conclusion.cert_text.ProofText.{ProofText}
-use Rattle.names_text.specs.Named.{NamedSystem}
+use Rattle.program_edge.specs.names_text.Named.{NamedSystem}
 use Rattle.command_line.specs.Request.{Asked}
 use Rattle.command_line.specs.declared.Wanted.{Wanted}
 use Rattle.program_edge.specs.declared.status.Status.{Status}

@@ -3,7 +3,7 @@ use Rattle.std.specs.Prelude.{◌≡◌, ◌⊎◌, ℕ, true, List, Option, Som
 use Rattle.io_edge.specs.Edge.{Rose}
 use Rattle.io_edge.specs.Shelf.{ShelfMeaning, Told, FaultRose}
 use Rattle.io_edge.specs.Sink.{SinkMeaning}
-use Rattle.names_text.specs.Named.{NamedSystem}
+use Rattle.program_edge.specs.names_text.Named.{NamedSystem}
 use Rattle.ari_text.specs.Problem.{SaysSystem}
 use Rattle.program_edge.specs.conclusion.cert_text.ProofText.{ProofText}
 use Rattle.program_edge.specs.conclusion.cert_text.CertificateText.{fits_two}

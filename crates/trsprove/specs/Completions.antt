@@ -1,6 +1,6 @@
 -- What is answered for the equations of a problem text and an order text.
 use Rattle.std.specs.Prelude.{◌≢◌, ℕ, List}
-use Rattle.names_text.specs.Named.{NamedSystem}
+use Rattle.program_edge.specs.names_text.Named.{NamedSystem}
 use Rattle.ari_text.specs.Problem.{SaysSystem, IsProblemRefused}
 use Rattle.ari_text.specs.declared.fault.AriFault.{AriFault}
 use Rattle.ari_text.specs.declared.fault.AriFault.TheVariants as ari

@@ -4,7 +4,7 @@ use Rattle.io_edge.specs.Shelf.{ShelfMeaning, MayBe}
 use Rattle.io_edge.specs.Sink.{SinkMeaning, AppendsTo}
 use Rattle.trs_defs.specs.Member.{In}
 use Rattle.sexp_core.specs.Printed.{lines}
-use Rattle.names_text.specs.Named.{NamedSystem}
+use Rattle.program_edge.specs.names_text.Named.{NamedSystem}
 use Rattle.ari_text.specs.Problem.{SaysSystem}
 use Rattle.program_edge.specs.conclusion.cert_step.declared.claim.Claim.{Claim}
 use Rattle.program_edge.specs.conclusion.cert_step.ProofProblem.{Says}

@@ -1,7 +1,7 @@
 -- What is answered for a problem text and a certificate text.
 use Rattle.std.specs.Prelude.{◌≡◌, ◌≢◌, ℕ, true, false, List}
 use Rattle.sexp_core.specs.Printed.{lines}
-use Rattle.names_text.specs.Named.{NamedSystem}
+use Rattle.program_edge.specs.names_text.Named.{NamedSystem}
 use Rattle.ari_text.specs.Problem.{IsProblemRefused}
 use Rattle.ari_text.specs.declared.fault.AriFault.{AriFault}
 use Rattle.ari_text.specs.declared.fault.AriFault.TheVariants as ari

@@ -18,4 +18,8 @@ pub use alone::prove_alone;
 pub use finished::Finished;
 pub use gate::{Gate, OpenGate};
 pub use pool::prove_with;
-pub use tree_core::{Claim, Limits, Question, Tree, Verdict};
+pub use tree_core::{
+    Aborted, Claim, Claimed, Findings, GoalReport, GraphItem, Join, Limits, Mark, NodeStep,
+    Outcome, Polled, Posted, Problem, Question, Ran, Report, Step, Strategy, Task, Ticket, Tree,
+    Verdict, run_strategy, strategies_of,
+};

@@ -1,4 +1,4 @@
-use Rattle.tree_core.specs.tree_definitions.History.{aborted}
+use Rattle.worker_pool.specs.tree_core.tree_definitions.History.{aborted}
 use Rattle.tree_tests.proofs.Holding.{ended_held}
 use Rattle.tree_tests.proofs.calls.end_by_abort.Goals as goal
 

@@ -1,4 +1,4 @@
-use Rattle.tree_core.specs.tree_definitions.Replies.{event_of_found}
+use Rattle.worker_pool.specs.tree_core.tree_definitions.Replies.{event_of_found}
 use Rattle.tree_tests.proofs.Holding.{posted_keeps}
 use Rattle.tree_tests.proofs.calls.post_outcome.Goals as goal
 
