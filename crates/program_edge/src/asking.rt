@@ -105,15 +105,8 @@ fn answered_with<R: Threads + Wait + Sync, G: Gate>(
     ensures { (problem : List ℕ) → SaysSystem problem system.now → IfOk result (λ c.
         IsConclusion problem question workers budget (conclusion_status c) (conclusion_text c)) }
 {
-    match answer_question_with(
-        rt,
-        alloc,
-        system,
-        question_of(question),
-        budget,
-        workers,
-        gate,
-    ) {
+    let asked = question_of(question);
+    match answer_question_with(rt, alloc, system, asked, budget, workers, gate) {
         Ok(text) => Ok(Conclusion::Concluded(text)),
         Err(_) => Err(AllocError),
     }

@@ -55,7 +55,8 @@ pub fn run<R: Threads + Wait + Sync, S: Shelf, K: Sink, G: Gate>(
 
     // Good words about good texts are answered, unless a fault rises or memory runs out: a question,
     // completion and a sample with status 0, a certificate with 0 where it is accepted, else with 1.
-    ensures complete { NoFaultRose (S.means shelf.old) (S.means shelf.new) (K.means out.old) (K.means out.new) →
+    ensures complete { NoFaultRose (S.means shelf.old) (S.means shelf.new)
+        (K.means out.old) (K.means out.new) →
         IsComplete (request_of (texts words.now)) (S.means shelf.old) result }
 
     // It can be called again: no count fell, and the shelf tells the same texts.
@@ -87,7 +88,8 @@ pub fn run_alone<S: Shelf, K: Sink>(
         (S.means shelf.old) (S.means shelf.new) }
     ensures absent { AnswersNoAbsence (asked_of 1 (request_of (texts words.now)))
         (S.means shelf.old) result }
-    ensures complete { NoFaultRose (S.means shelf.old) (S.means shelf.new) (K.means out.old) (K.means out.new) →
+    ensures complete { NoFaultRose (S.means shelf.old) (S.means shelf.new)
+        (K.means out.old) (K.means out.new) →
         IsComplete (asked_of 1 (request_of (texts words.now))) (S.means shelf.old) result }
     ensures again { CanRunAgain (S.means shelf.old) (S.means shelf.new)
         (K.means out.old) (K.means out.new) }
