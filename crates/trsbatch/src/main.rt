@@ -6,6 +6,8 @@ mod answer;
 mod answering;
 mod arguments;
 mod beside;
+#[cfg(test)]
+mod beside_each_other;
 mod block;
 mod desks;
 mod list;
