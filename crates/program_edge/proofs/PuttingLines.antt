@@ -1,11 +1,10 @@
 -- Texts that are put line by line.
-use Rattle.std.proofs.Common.{◌≡◌, ◌≤◌, ◌<◌, ◌+◌, ℕ, suc, List, [], ◌∷◌, ◌++◌, length, take, Option, Some, None, Result, Ok, Err, IsErr, refl, sym, ap, subst, ◌∙◌, arith, append_assoc, append-nil}
+use Rattle.std.proofs.Common.{◌≡◌, ◌<◌, ℕ, suc, List, [], ◌∷◌, ◌++◌, length, take, Option, Some, None, Result, Ok, Err, IsErr, refl, sym, ap, subst, ◌∙◌, arith, append_assoc, append-nil}
 use Rattle.std.specs.List.{concat}
-use Rattle.std.specs.Io.KnownBytes.{Appends}
 use Rattle.std.proofs.KnownBytes.{Appends-trans, Appends-nil}
 use Rattle.io_edge.specs.Edge.{Rose, next_count}
 use Rattle.io_edge.specs.Sink.{SinkMeaning, AppendsTo, AppendsPrefix, PiecesGrow, pieces_in, TakesPieces, IsOnePut, NoSinkCountFell}
-use Rattle.program_edge.specs.Puts.{Puts, PutsOne, PutsLines}
+use Rattle.program_edge.specs.Puts.{Puts, PutsLines}
 use Rattle.program_edge.specs.LinePuts.{lines_of, IsFirstLine, after_calls, ArePut, IsFrontPut}
 use Rattle.program_edge.proofs.Putting.{puts_first, puts_then}
 

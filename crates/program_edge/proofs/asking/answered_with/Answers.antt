@@ -1,4 +1,4 @@
-use Rattle.std.proofs.Common.{◌≡◌, ℕ, subst, arith}
+use Rattle.std.proofs.Common.{subst, arith}
 use Rattle.conclusion.specs.Concludes.{Concludes}
 use Rattle.program_edge.specs.Conclusions.{concluded}
 use Rattle.program_edge.proofs.asking.answered_with.Goals as goal
