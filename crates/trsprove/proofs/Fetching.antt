@@ -7,7 +7,7 @@ use Rattle.io_edge.specs.declared.fault.FetchFault.{FetchFault}
 use Rattle.io_edge.specs.declared.fault.FetchFault.TheVariants as fetch
 use Rattle.io_edge.proofs.Counting.{same_or_not}
 use Rattle.names_text.specs.Named.{NamedSystem}
-use Rattle.conclusion.specs.cert_text.ProofText.{ProofText}
+use Rattle.program_edge.specs.conclusion.cert_text.ProofText.{ProofText}
 use Rattle.command_line.specs.Request.{Asked, certifies}
 use Rattle.command_line.specs.declared.Wanted.{Wanted}
 use Rattle.program_edge.specs.declared.status.Status.{Status}

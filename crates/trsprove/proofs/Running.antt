@@ -3,13 +3,13 @@ use Rattle.std.proofs.Common.{◌≡◌, ℕ, List, Option, inl, inr, sym, subst
 use Rattle.io_edge.specs.Shelf.{ShelfMeaning, MayBe}
 use Rattle.io_edge.specs.Sink.{SinkMeaning, AppendsTo}
 use Rattle.ari_text.specs.Problem.{SaysSystem}
-use Rattle.conclusion.specs.ProofOf.{Proves}
-use Rattle.conclusion.specs.Concludes.{Concludes, proved, maybe, proof_lines}
+use Rattle.program_edge.specs.conclusion.ProofOf.{Proves}
+use Rattle.program_edge.specs.conclusion.Concludes.{Concludes, proved, maybe, proof_lines}
 use Rattle.command_line.specs.declared.Question.{Question}
 use Rattle.certifier.specs.Acceptance.{IsAcceptance, IsAcceptedAs}
 use Rattle.certifier.proofs.OneAnswer.{says_of_acceptance}
-use Rattle.conclusion.specs.cert_step.declared.claim.Claim.{Claim}
-use Rattle.conclusion.specs.cert_text.ProofText.{ProofText}
+use Rattle.program_edge.specs.conclusion.cert_step.declared.claim.Claim.{Claim}
+use Rattle.program_edge.specs.conclusion.cert_text.ProofText.{ProofText}
 use Rattle.names_text.specs.Named.{NamedSystem}
 use Rattle.command_line.specs.Request.{Asked}
 use Rattle.command_line.specs.declared.Wanted.{Wanted}

@@ -1,8 +1,8 @@
 -- The lines that the program writes.
 use Rattle.std.specs.Prelude.{ℕ, List, [], ◌∷◌, ◌++◌, codes}
 use Rattle.rewrite_core.specs.RefusalNumbers.{refusal_number, refusal_fields}
-use Rattle.conclusion.specs.cert_step.declared.claim.Claim.{Claim}
-use Rattle.conclusion.specs.cert_step.declared.claim.Claim.TheVariants.{Terminating, Nonterminating, Confluent, Nonconfluent, Unique, Nonunique}
+use Rattle.program_edge.specs.conclusion.cert_step.declared.claim.Claim.{Claim}
+use Rattle.program_edge.specs.conclusion.cert_step.declared.claim.Claim.TheVariants.{Terminating, Nonterminating, Confluent, Nonconfluent, Unique, Nonunique}
 use Rattle.certifier.specs.declared.rejected.Rejected.{Rejected}
 use Rattle.certifier.specs.declared.rejected.Rejected.TheVariants as why
 use Rattle.program_edge.specs.Numbers.{fields_text}

@@ -6,14 +6,14 @@ use Rattle.trs_defs.specs.Member.{In}
 use Rattle.sexp_core.specs.Printed.{lines}
 use Rattle.names_text.specs.Named.{NamedSystem}
 use Rattle.ari_text.specs.Problem.{SaysSystem}
-use Rattle.conclusion.specs.cert_step.declared.claim.Claim.{Claim}
-use Rattle.conclusion.specs.cert_step.ProofProblem.{Says}
-use Rattle.conclusion.specs.cert_text.ProofText.{ProofText}
-use Rattle.conclusion.specs.cert_text.CertificateText.{version_two_items}
+use Rattle.program_edge.specs.conclusion.cert_step.declared.claim.Claim.{Claim}
+use Rattle.program_edge.specs.conclusion.cert_step.ProofProblem.{Says}
+use Rattle.program_edge.specs.conclusion.cert_text.ProofText.{ProofText}
+use Rattle.program_edge.specs.conclusion.cert_text.CertificateText.{version_two_items}
 use Rattle.certifier.specs.Acceptance.{IsAcceptance, IsAcceptedAs}
-use Rattle.conclusion.specs.tree_definitions.Questions.{claims}
-use Rattle.conclusion.specs.tree_definitions.Reports.{Part, IsTrueReport}
-use Rattle.conclusion.specs.Concludes.{maybe_text}
+use Rattle.program_edge.specs.conclusion.tree_definitions.Questions.{claims}
+use Rattle.program_edge.specs.conclusion.tree_definitions.Reports.{Part, IsTrueReport}
+use Rattle.program_edge.specs.conclusion.Concludes.{maybe_text}
 use Rattle.sampling.specs.Line.{IsSampleLine}
 use Rattle.command_line.specs.Request.{Asked, samples}
 use Rattle.command_line.specs.declared.Question.{Question}

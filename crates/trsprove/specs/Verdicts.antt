@@ -5,8 +5,8 @@ use Rattle.names_text.specs.Named.{NamedSystem}
 use Rattle.ari_text.specs.Problem.{IsProblemRefused}
 use Rattle.ari_text.specs.declared.fault.AriFault.{AriFault}
 use Rattle.ari_text.specs.declared.fault.AriFault.TheVariants as ari
-use Rattle.conclusion.specs.cert_text.ProofText.{ProofText}
-use Rattle.conclusion.specs.cert_text.CertificateText.{version_two_items, fits_two}
+use Rattle.program_edge.specs.conclusion.cert_text.ProofText.{ProofText}
+use Rattle.program_edge.specs.conclusion.cert_text.CertificateText.{version_two_items, fits_two}
 use Rattle.certifier.specs.declared.rejected.Rejected.{Rejected}
 use Rattle.certifier.specs.declared.rejected.Rejected.TheVariants as why
 use Rattle.certifier.specs.Acceptance.{IsAcceptedAs, IsRejection}

@@ -1,8 +1,8 @@
 //! Certificates for a problem, by the actions `certify` and `upgrade`.
 ghost use Rattle.std.specs.Prelude.{◌≡◌, ◌≤◌, true, Some, IfOk, length, All};
-ghost use Rattle.conclusion.specs.step_text.Ranges.{IsPrintable};
-ghost use Rattle.conclusion.specs.cert_text.ProofText.{proof_text_of};
-ghost use Rattle.conclusion.specs.cert_text.CertificateText.{fits_two};
+ghost use Rattle.program_edge.specs.conclusion.step_text.Ranges.{IsPrintable};
+ghost use Rattle.program_edge.specs.conclusion.cert_text.ProofText.{proof_text_of};
+ghost use Rattle.program_edge.specs.conclusion.cert_text.CertificateText.{fits_two};
 ghost use Rattle.command_line.specs.Request.{certifies};
 ghost use Rattle.program_edge.specs.Fetching.{most_problem_bytes};
 ghost use Rattle.trsprove.specs.Verdicts.{Verdict, IsWritten, most_certificate_bytes};
@@ -13,9 +13,8 @@ use crate::answer::{Answer, not_fetched};
 use crate::lines::rejected_line;
 use certifier::{AcceptedProof, Rejected, accepted_proof};
 use command_line::Wanted;
-use conclusion::{fits_version_two, print_version_two};
 use io_edge::Shelf;
-use program_edge::MOST_PROBLEM_BYTES;
+use program_edge::{MOST_PROBLEM_BYTES, fits_version_two, print_version_two};
 use std::alloc::{AllocError, Global};
 
 /// The most bytes of a certificate text.

@@ -1,6 +1,6 @@
 use Rattle.std.proofs.Common.{sym, subst, rules}
 use Rattle.std.proofs.lemmas.Result.{IfOk-weaker}
-use Rattle.conclusion.specs.cert_text.ProofText.{proof_text_of}
+use Rattle.program_edge.specs.conclusion.cert_text.ProofText.{proof_text_of}
 use Rattle.certifier.specs.Acceptance.{IsRejection}
 use Rattle.certifier.specs.declared.rejected.Rejected.TheVariants as why
 use Rattle.program_edge.specs.declared.status.Status.TheVariants as status

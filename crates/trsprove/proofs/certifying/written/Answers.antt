@@ -1,5 +1,5 @@
 use Rattle.std.proofs.Common.{sym, subst}
-use Rattle.conclusion.specs.cert_text.ProofText.{proof_text_of}
+use Rattle.program_edge.specs.conclusion.cert_text.ProofText.{proof_text_of}
 use Rattle.program_edge.specs.declared.status.Status.TheVariants as status
 use Rattle.trsprove.specs.Lines.{accepted_line}
 use Rattle.trsprove.specs.Verdicts.{IsWritten, with_claim}
