@@ -8,8 +8,10 @@ ghost use Rattle.tree_tests.specs.Held.{AreHeld, IsHeld, IsAnswerTo, IsClaimed, 
 
 use assign_search::Never;
 use std::alloc::Global;
-use worker_pool::{Aborted, Claimed, Limits, Outcome, Polled, Posted, Ran, Task, Tree, run_strategy};
 use trs_core::{OutOfMemory, Trs};
+use worker_pool::{
+    Aborted, Claimed, Limits, Outcome, Polled, Posted, Ran, Task, Tree, run_strategy,
+};
 
 /// Claims a task, and runs it.
 pub fn claim<'a>(

@@ -5,8 +5,8 @@ use crate::state::State;
 use crate::trial::Trial;
 use std::alloc::Global;
 use std::test::Fail;
-use worker_pool::{Claimed, Polled, Posted, Question, Task, strategies_of};
 use trs_core::Trs;
+use worker_pool::{Claimed, Polled, Posted, Question, Task, strategies_of};
 
 /// A tree, the list of all events, and the state to which it leads.
 #[derive(Drop)]

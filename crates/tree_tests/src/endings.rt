@@ -5,10 +5,10 @@ ghost use Rattle.worker_pool.specs.tree_core.tree_definitions.Replies.{IsVerdict
 use crate::events::shown;
 use crate::state::{Node, State};
 use std::alloc::Global;
+use trs_core::OutOfMemory;
 use worker_pool::{
     Claim, GoalReport, Mark, NodeStep, Question, Report, Strategy, Tree, Verdict, strategies_of,
 };
-use trs_core::OutOfMemory;
 
 /// Whether the steps are those of the nodes in this order, numbered by their places in it.
 fn are_steps(

@@ -1,8 +1,8 @@
 //! Lists of events, in which a step is shown by numbers.
 use rewrite_core::PathStep;
 use std::alloc::Global;
-use worker_pool::{Findings, GraphItem, Join, Problem, Step};
 use trs_core::OutOfMemory;
+use worker_pool::{Findings, GraphItem, Join, Problem, Step};
 
 /// A step that was found, and the problems that it leaves.
 #[derive(Drop)]

@@ -5,8 +5,8 @@ use crate::endings::ends_as;
 use crate::systems::{Case, system};
 use std::alloc::Global;
 use std::test::Fail;
-use worker_pool::{Question, Verdict};
 use trs_core::Trs;
+use worker_pool::{Question, Verdict};
 
 /// How many lists are tried for a case, and how many calls a list has at most.
 const LISTS: u64 = 200;

@@ -2,8 +2,8 @@
 use crate::events::{Entry, Event, FoundStep};
 use crate::state::{Decided, State, new_node, opening};
 use std::alloc::Global;
-use worker_pool::{Mark, Question, Ticket};
 use trs_core::OutOfMemory;
+use worker_pool::{Mark, Question, Ticket};
 
 /// The state after these entries.
 pub fn state_after(

@@ -1,7 +1,7 @@
 //! The state of a tree as plain data, and what is said of it.
 use std::alloc::Global;
-use worker_pool::{Mark, Problem, Question, Ticket, Verdict, strategies_of};
 use trs_core::OutOfMemory;
+use worker_pool::{Mark, Problem, Question, Ticket, Verdict, strategies_of};
 
 /// A step that decided a node, shown by numbers, and its children: so many, from the first on.
 #[derive(Drop)]

@@ -1,8 +1,8 @@
 //! Small systems, with a question each.
 use std::alloc::Global;
 use std::test::Fail;
-use worker_pool::Question;
 use trs_core::Trs;
+use worker_pool::Question;
 
 /// A question on a system of these letters and rules, and how far searches go.
 #[derive(Clone, Copy)]

@@ -5,8 +5,8 @@ use crate::calls::{claim, clear, end_by_abort, is_running, poll, post, settle};
 use std::alloc::Global;
 use std::marker::Model;
 use std::test::Fail;
-use worker_pool::{Aborted, Claimed, Limits, Outcome, Polled, Posted, Question, Tree};
 use trs_core::{OutOfMemory, Trs};
+use worker_pool::{Aborted, Claimed, Limits, Outcome, Polled, Posted, Question, Tree};
 
 /// A tree, and the outcome of each running ticket at the ticket's number.
 #[derive(Drop)]
