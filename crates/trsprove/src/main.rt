@@ -14,8 +14,8 @@ mod samples;
 mod several;
 
 use crate::arguments::run_arguments;
-use program_edge::OpenGate;
 use io_edge::{FileShelf, HostFiles, HostOutput, WriterSink};
+use program_edge::OpenGate;
 use std::env;
 use std::process::ExitCode;
 
