@@ -1,5 +1,5 @@
 -- Where a text that is needed is told to be absent, no answer is given.
-use Rattle.std.proofs.Common.{◌≡◌, ◌≤◌, ◌<◌, ℕ, List, Option, Some, None, length, refl, sym, subst, ◌∙◌, arith}
+use Rattle.std.proofs.Common.{◌≡◌, ◌<◌, ℕ, List, Option, Some, None, length, refl, subst, arith}
 use Rattle.io_edge.specs.Telling.{CanBe, CanPass}
 use Rattle.io_edge.specs.Shelf.{ShelfMeaning, Told, ToldAbsent, MayBe, MayPass}
 use Rattle.command_line.specs.Request.{Asked, certifies, proves, completes, samples}
@@ -10,7 +10,7 @@ use Rattle.program_edge.specs.declared.status.Status.TheVariants as status
 use Rattle.program_edge.specs.Fetching.{most_problem_bytes}
 use Rattle.trsprove.specs.Verdicts.{most_certificate_bytes}
 use Rattle.trsprove.specs.Completions.{most_order_bytes}
-use Rattle.trsprove.specs.Output.{Output, usage, too_long, decided, answered, completed, sampled, IsNeeded, as_problem, as_certificate, as_question, as_equations, as_order, IsWithin, WasFetched, IsAnswer, IsOr, AnswersNoAbsence}
+use Rattle.trsprove.specs.Output.{Output, usage, too_long, decided, answered, completed, sampled, IsNeeded, as_problem, as_certificate, as_question, as_equations, as_order, IsWithin, WasFetched, IsAnswer, AnswersNoAbsence}
 use Rattle.trsprove.proofs.Answering.{not_long}
 
 -- what is told to be absent may not be, and may not be too long

@@ -1,5 +1,5 @@
 -- A shelf can be asked again after texts were fetched.
-use Rattle.std.proofs.Common.{◌≡◌, ◌≤◌, ℕ, List, refl, ◌∙◌, arith}
+use Rattle.std.proofs.Common.{ℕ, List, refl, ◌∙◌, arith}
 use Rattle.io_edge.specs.Shelf.{ShelfMeaning, TellsTheSame, CountsRise}
 use Rattle.trsprove.specs.Output.{CanAskAgain}
 

@@ -1,5 +1,5 @@
 -- What is known of a shelf after texts were fetched.
-use Rattle.std.proofs.Common.{◌≡◌, ◌≢◌, ◌≤◌, ◌⊎◌, inl, inr, ℕ, List, length, Option, Some, Result, Ok, Err, IfOk, refl, sym, subst, ◌∙◌, arith}
+use Rattle.std.proofs.Common.{◌≡◌, ◌≢◌, ◌≤◌, ◌⊎◌, inl, inr, ℕ, List, length, Option, Some, Err, refl, sym, subst, ◌∙◌, arith}
 use Rattle.io_edge.specs.Edge.{Rose, RoseBy}
 use Rattle.io_edge.specs.Telling.{CanBe, CanPass}
 use Rattle.io_edge.specs.Shelf.{ShelfMeaning, MayBe, MayPass, TellsTheSame, CountsRise, CountsFault, FaultRose, ReadPast, IsUntouched}

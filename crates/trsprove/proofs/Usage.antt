@@ -1,10 +1,9 @@
 -- Words that ask for nothing: what is answered, and that it is the only answer.
-use Rattle.std.proofs.Common.{◌≡◌, inl, ℕ, List, Option, Some, None, Result, Ok, refl, sym, ◌∙◌}
+use Rattle.std.proofs.Common.{◌≡◌, inl, ℕ, List, Option, Some, None, Ok, refl, sym, ◌∙◌}
 use Rattle.io_edge.specs.Shelf.{ShelfMeaning, Told}
 use Rattle.command_line.specs.Request.{Asked, certifies, proves, completes, samples}
 use Rattle.program_edge.specs.declared.status.Status.TheVariants as status
 use Rattle.program_edge.specs.Fetching.{most_problem_bytes}
-use Rattle.trsprove.specs.declared.answer.Answer.{Answer}
 use Rattle.trsprove.specs.declared.answer.Answer.TheVariants as answer
 use Rattle.trsprove.specs.Answered.{IsAnswered}
 use Rattle.trsprove.specs.Output.{usage, too_long, decided, answered, completed, sampled, IsNeeded, as_problem, as_certificate, as_question, as_equations, as_order, IsWithin, AnswersOnly}
