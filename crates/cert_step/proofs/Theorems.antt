@@ -21,16 +21,16 @@ peaks_cover : ListedPeaksCover
 peaks_cover system peaks valid all = covered system (map plain peaks) valid (has_all system peaks all)
 
 pub joined_peaks : JoinedPeaksConclude
-joined_peaks = joined_concludes peaks_cover joined
+joined_peaks = joined_concludes joined peaks_cover
 
 pub parallel_closed_peaks : ParallelClosedPeaksConclude
-parallel_closed_peaks = parallel_concludes peaks_cover parallel_closed parallel_path
+parallel_closed_peaks = parallel_concludes parallel_closed parallel_path peaks_cover
 
 pub strongly_closed_peaks : StronglyClosedPeaksConclude
-strongly_closed_peaks = strong_concludes peaks_cover strongly_closed
+strongly_closed_peaks = strong_concludes strongly_closed peaks_cover
 
 pub decreasing_peaks : DecreasingPeaksConclude
-decreasing_peaks = decreasing_concludes numbered_path peaks_cover decreasing
+decreasing_peaks = decreasing_concludes numbered_path decreasing peaks_cover
 
 pub all_pairs : AllPairsConclude
 all_pairs = all_conclude listed_theorem

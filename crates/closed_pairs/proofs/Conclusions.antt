@@ -1,5 +1,5 @@
 -- What the conditions say of the critical peaks.
-use Rattle.std.specs.Prelude.{◌≤◌, ℕ, List, [], ◌∷◌, length, map, Ok}
+use Rattle.std.specs.Prelude.{◌≤◌, ℕ, List, [], ◌∷◌, length, map, Result, Ok, Err, IfOk}
 use Rattle.std.proofs.Common.{sym, subst, arith}
 use Rattle.trs_defs.specs.Member.{In}
 use Rattle.trs_defs.specs.Tree.{Tree}
@@ -17,7 +17,8 @@ use Rattle.confluence_theory.specs.ParallelPositions.{ArePairwiseParallel}
 use Rattle.confluence_theory.specs.Peak.{Peak, Covers}
 use Rattle.rewrite_core.specs.PlacedPeak.{PlacedPeak}
 use Rattle.rewrite_core.specs.PathsOfJoin.{PathsOfJoin}
-use Rattle.rewrite_core.specs.Check.{goes_on, holds}
+use Rattle.rewrite_core.specs.declared.refusals.CheckFault.{CheckFault}
+use Rattle.rewrite_core.specs.Check.{Check, Answers, goes_on, holds}
 use Rattle.rewrite_core.specs.PathCheck.{followed}
 use Rattle.crit_pairs.specs.PlainPeak.{plain}
 use Rattle.crit_pairs.specs.PeaksCheck.{listed}
@@ -26,6 +27,7 @@ use Rattle.closed_pairs.specs.Joined.{joins}
 use Rattle.closed_pairs.specs.ParallelClosed.{closes_in_parallel}
 use Rattle.closed_pairs.specs.StronglyClosed.{FourPaths, half_joins, joins_strongly}
 use Rattle.closed_pairs.specs.Laws.{JoinedPeaksConclude, ParallelClosedPeaksConclude, StronglyClosedPeaksConclude}
+use Rattle.closed_pairs.specs.Laws.{JoinedListConcludes, ParallelListConcludes, StrongListConcludes}
 use Rattle.closed_pairs.proofs.Passing.{HasPassed, each_passed, left_linear, both_left_linear, both_right_linear}
 
 module _ (rules : List RewriteRule) where
@@ -74,32 +76,48 @@ module _ (rules : List RewriteRule) where
       subst (λ x. JoinsStrongly (Step rules) x.left x.right × JoinsStrongly (Step rules) x.right x.left) (sym h.is)
       (strong h.number h.placed h.item h.passed)
 
--- ---- the theorems on covering peaks, at the listed ones
+-- ---- the theorems on covering peaks, at a list that covers and at the listed ones
 
-module _ (cover : ListedPeaksCover) where
-  -- Knuth and Bendix's theorem
-  module _ (theorem : (system : System) (peaks : List Peak) → IsSystem system → Covers system.rules peaks
-      → ((peak : Peak) → In peak peaks → IsJoinable (Step system.rules) peak.left peak.right) → IsTerminating system → IsConfluent system) where
-    pub joined_concludes : JoinedPeaksConclude
-    joined_concludes system items valid (goes_on _ _ (listed peaks all) (goes_on _ _ (holds same) h)) =
-        theorem system (map plain peaks) valid (cover system peaks valid all)
-        (λ peak member. joined_peak system.rules peak (each_passed (joins system.rules) 0 peaks items peak same h member))
+-- Knuth and Bendix's theorem
+module _ (theorem : (system : System) (peaks : List Peak) → IsSystem system → Covers system.rules peaks
+    → ((peak : Peak) → In peak peaks → IsJoinable (Step system.rules) peak.left peak.right) → IsTerminating system → IsConfluent system) where
+  pub joined_list : (system : System) → IsSystem system → JoinedListConcludes system
+  joined_list system valid peaks items covers (goes_on _ _ (holds same) h) =
+      theorem system (map plain peaks) valid covers
+      (λ peak member. joined_peak system.rules peak (each_passed (joins system.rules) 0 peaks items peak same h member))
 
-  -- Huet's theorem on parallel closed systems
-  module _ (theorem : (system : System) (peaks : List Peak) → IsSystem system → AreLeftLinear system.rules → Covers system.rules peaks
-      → ((peak : Peak) → In peak peaks → ParallelStepBy system.rules peak.left peak.right) → IsConfluent system)
-      (by_path : (rules : List RewriteRule) (path : List PlacedRule) (t u : Tree) → ArePairwiseParallel path → Follows rules path t u → ParallelStepBy rules t u) where
-    pub parallel_concludes : ParallelClosedPeaksConclude
-    parallel_concludes system items valid (goes_on _ _ linear (goes_on _ _ (listed peaks all) (goes_on _ _ (holds same) h))) =
-        theorem system (map plain peaks) valid (left_linear system.rules linear) (cover system peaks valid all)
-        (λ peak member. closed_peak system.rules (by_path system.rules) peak (each_passed (closes_in_parallel system.rules) 0 peaks items peak same h member))
+  pub joined_concludes : ListedPeaksCover → JoinedPeaksConclude
+  joined_concludes cover system items valid (goes_on _ _ (listed peaks all) h) = joined_list system valid peaks items (cover system peaks valid all) h
 
-  -- Huet's theorem on strongly closed systems
-  module _ (theorem : (system : System) (peaks : List Peak) → IsSystem system → AreLeftLinear system.rules → AreRightLinear system.rules
-      → Covers system.rules peaks
-      → ((peak : Peak) → In peak peaks → JoinsStrongly (Step system.rules) peak.left peak.right × JoinsStrongly (Step system.rules) peak.right peak.left)
-      → IsConfluent system) where
-    pub strong_concludes : StronglyClosedPeaksConclude
-    strong_concludes system items valid (goes_on _ _ linear (goes_on _ _ (listed peaks all) (goes_on _ _ (holds same) h))) =
-        theorem system (map plain peaks) valid (both_left_linear system.rules linear) (both_right_linear system.rules linear) (cover system peaks valid all)
-        (λ peak member. strong_peak system.rules peak (each_passed (joins_strongly system.rules) 0 peaks items peak same h member))
+-- Huet's theorem on parallel closed systems
+module _ (theorem : (system : System) (peaks : List Peak) → IsSystem system → AreLeftLinear system.rules → Covers system.rules peaks
+    → ((peak : Peak) → In peak peaks → ParallelStepBy system.rules peak.left peak.right) → IsConfluent system)
+    (by_path : (rules : List RewriteRule) (path : List PlacedRule) (t u : Tree) → ArePairwiseParallel path → Follows rules path t u → ParallelStepBy rules t u) where
+  pub parallel_list : (system : System) → IsSystem system → ParallelListConcludes system
+  parallel_list system valid peaks items covers (goes_on _ _ linear (goes_on _ _ (holds same) h)) =
+      theorem system (map plain peaks) valid (left_linear system.rules linear) covers
+      (λ peak member. closed_peak system.rules (by_path system.rules) peak (each_passed (closes_in_parallel system.rules) 0 peaks items peak same h member))
+
+  pub parallel_concludes : ListedPeaksCover → ParallelClosedPeaksConclude
+  parallel_concludes cover system items valid (goes_on _ _ linear (goes_on _ _ (listed peaks all) h)) =
+      parallel_list system valid peaks items (cover system peaks valid all) (goes_on tt _ linear h)
+
+-- Huet's theorem on strongly closed systems
+module _ (theorem : (system : System) (peaks : List Peak) → IsSystem system → AreLeftLinear system.rules → AreRightLinear system.rules
+    → Covers system.rules peaks
+    → ((peak : Peak) → In peak peaks → JoinsStrongly (Step system.rules) peak.left peak.right × JoinsStrongly (Step system.rules) peak.right peak.left)
+    → IsConfluent system) where
+  pub strong_list : (system : System) → IsSystem system → StrongListConcludes system
+  strong_list system valid peaks items covers (goes_on _ _ linear (goes_on _ _ (holds same) h)) =
+      theorem system (map plain peaks) valid (both_left_linear system.rules linear) (both_right_linear system.rules linear) covers
+      (λ peak member. strong_peak system.rules peak (each_passed (joins_strongly system.rules) 0 peaks items peak same h member))
+
+  pub strong_concludes : ListedPeaksCover → StronglyClosedPeaksConclude
+  strong_concludes cover system items valid (goes_on _ _ linear (goes_on _ _ (listed peaks all) h)) =
+      strong_list system valid peaks items (cover system peaks valid all) (goes_on tt _ linear h)
+
+-- ---- a check that answers Ok has passed
+
+pub concludes : {fact : Type 0} (check : Check (Unit {0})) (r : Result (Unit {0}) CheckFault) → Answers check r → (check (Ok tt) → fact) → IfOk r (λ _. fact)
+concludes check (Ok u) h shown = shown h
+concludes check (Err fault) h shown = tt

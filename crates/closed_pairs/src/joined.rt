@@ -1,7 +1,12 @@
+ghost use Rattle.std.specs.Prelude.{IfOk, map};
+ghost use Rattle.trs_defs.specs.Claims.{IsTerminating, IsConfluent};
+ghost use Rattle.confluence_theory.specs.Peak.{Covers};
 ghost use Rattle.rewrite_core.specs.Check.{Answers};
+ghost use Rattle.crit_pairs.specs.PlainPeak.{plain};
 ghost use Rattle.closed_pairs.specs.Joined.{joins, are_joined, newman_conditions};
 
 use crate::counting::peaks_for;
+use crate::covering::joined_list_concludes;
 use crate::ends::{ItemPath, meet};
 use rewrite_core::{CheckFault, Join, Peak, StepRefused};
 use std::alloc::Global;
@@ -16,7 +21,8 @@ pub fn newman_check(alloc: Global, trs: &Trs, joins: &[Join]) -> Result<(), Chec
     join_check(alloc, trs, &peaks, joins)
 }
 
-/// Sees that there is an item for each peak, and that its paths join the peak.
+/// Sees that there is an item for each peak, and that its paths join the peak. Of a system that
+/// terminates, the list may be any one that covers it.
 pub fn join_check(
     alloc: Global,
     trs: &Trs,
@@ -24,6 +30,21 @@ pub fn join_check(
     joins: &[Join],
 ) -> Result<(), CheckFault>
     ensures answers { Answers (are_joined trs.now.rules peaks.now joins.now) result }
+    ensures confluent { Covers trs.now.rules (map plain peaks.now) → IsTerminating trs.now →
+        IfOk result (λ _. IsConfluent trs.now) }
+{
+    joined_list_concludes(trs);
+    peaks_are_joined(alloc, trs, peaks, joins)
+}
+
+/// Sees that there is an item for each peak, and that its paths join the peak.
+fn peaks_are_joined(
+    alloc: Global,
+    trs: &Trs,
+    peaks: &[Peak],
+    joins: &[Join],
+) -> Result<(), CheckFault>
+    ensures { Answers (are_joined trs.now.rules peaks.now joins.now) result }
 {
     if joins.len() != peaks.len() {
         return Err(CheckFault::Refused(StepRefused::Count(peaks.len() as u64, joins.len() as u64)));

@@ -1,6 +1,8 @@
 ghost use Rattle.closed_pairs.specs.Laws.{JoinedPeaksConclude, ParallelClosedPeaksConclude};
 ghost use Rattle.closed_pairs.specs.Laws.{StronglyClosedPeaksConclude, JoinsAnswerOnce};
 ghost use Rattle.closed_pairs.specs.Laws.{ParallelStepsAnswerOnce, StrongJoinsAnswerOnce};
+ghost use Rattle.closed_pairs.specs.Laws.{GivenJoinsAnswerOnce, GivenParallelStepsAnswerOnce};
+ghost use Rattle.closed_pairs.specs.Laws.{GivenStrongJoinsAnswerOnce};
 
 use confluence_theory::{
     joined_peaks, parallel_closed_peaks, parallel_paths, strongly_closed_peaks,
@@ -36,11 +38,14 @@ pub fn strongly_closed_peaks_conclude()
 }
 
 /// A law, with nothing to run: the conditions on joined peaks, on parallel steps and on strongly
-/// joined peaks have at most one answer each.
+/// joined peaks have at most one answer each, on the critical peaks and on any list of peaks.
 pub fn conditions_answer_once()
     ensures joins { JoinsAnswerOnce }
     ensures parallel { ParallelStepsAnswerOnce }
     ensures strong { StrongJoinsAnswerOnce }
+    ensures given_joins { GivenJoinsAnswerOnce }
+    ensures given_parallel { GivenParallelStepsAnswerOnce }
+    ensures given_strong { GivenStrongJoinsAnswerOnce }
 {
     peaks_are_listed_once();
 }

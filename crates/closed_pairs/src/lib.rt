@@ -4,6 +4,7 @@
 #![tactic(auto)]
 
 mod counting;
+mod covering;
 mod ends;
 mod joined;
 mod laws;

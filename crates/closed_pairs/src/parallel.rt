@@ -1,11 +1,15 @@
-ghost use Rattle.std.specs.Prelude.{◌↔◌, IsTrue};
+ghost use Rattle.std.specs.Prelude.{◌↔◌, IfOk, IsTrue, map};
+ghost use Rattle.trs_defs.specs.Claims.{IsConfluent};
+ghost use Rattle.confluence_theory.specs.Peak.{Covers};
 ghost use Rattle.rewrite_core.specs.Check.{Answers};
+ghost use Rattle.crit_pairs.specs.PlainPeak.{plain};
 ghost use Rattle.closed_pairs.specs.ParallelClosed.{paths_of, IsParallel};
 ghost use Rattle.closed_pairs.specs.ParallelClosed.{closes_in_parallel, are_parallel_closed};
 ghost use Rattle.closed_pairs.specs.ParallelClosed.{parallel_conditions_on, parallel_conditions};
 ghost use Rattle.closed_pairs.specs.LeftOf.{IsLeftOf};
 
 use crate::counting::peaks_for;
+use crate::covering::parallel_list_concludes;
 use crate::ends::{ItemPath, end_of, run, same_ends};
 use crate::left_linear_check;
 use rewrite_core::{CheckFault, PathStep, Peak, StepRefused};
@@ -36,7 +40,10 @@ pub fn parallel_check(
 ) -> Result<(), CheckFault>
     ensures answers { Answers
         (parallel_conditions_on trs.now.rules peaks.now (paths_of steps.now)) result }
+    ensures confluent { Covers trs.now.rules (map plain peaks.now) →
+        IfOk result (λ _. IsConfluent trs.now) }
 {
+    parallel_list_concludes(trs);
     left_linear_check(trs)?;
     peaks_are_closed(alloc, trs, peaks, steps)
 }

@@ -1,11 +1,15 @@
-ghost use Rattle.std.specs.Prelude.{◌≡◌, IfOk};
+ghost use Rattle.std.specs.Prelude.{◌≡◌, IfOk, map};
+ghost use Rattle.trs_defs.specs.Claims.{IsConfluent};
 ghost use Rattle.trs_core.specs.View.{tree};
+ghost use Rattle.confluence_theory.specs.Peak.{Covers};
 ghost use Rattle.rewrite_core.specs.Check.{Answers};
+ghost use Rattle.crit_pairs.specs.PlainPeak.{plain};
 ghost use Rattle.closed_pairs.specs.StronglyClosed.{half_joins, joins_strongly};
 ghost use Rattle.closed_pairs.specs.StronglyClosed.{are_strongly_closed, strong_conditions_on};
 ghost use Rattle.closed_pairs.specs.StronglyClosed.{strong_conditions};
 
 use crate::counting::peaks_for;
+use crate::covering::strong_list_concludes;
 use crate::ends::{ItemPath, meet};
 use crate::linear_check;
 use rewrite_core::{CheckFault, PathStep, Peak, StepRefused, copy_path};
@@ -69,7 +73,10 @@ pub fn strong_check(
     fours: &[Four],
 ) -> Result<(), CheckFault>
     ensures answers { Answers (strong_conditions_on trs.now.rules peaks.now fours.now) result }
+    ensures confluent { Covers trs.now.rules (map plain peaks.now) →
+        IfOk result (λ _. IsConfluent trs.now) }
 {
+    strong_list_concludes(trs);
     linear_check(trs)?;
     peaks_are_joined_strongly(alloc, trs, peaks, fours)
 }

@@ -20,7 +20,7 @@ use Rattle.closed_pairs.specs.crit_pairs.PeaksCheck.{listed}
 use Rattle.closed_pairs.specs.crit_pairs.Laws.{ListedPeaksCover}
 use Rattle.closed_pairs.proofs.Passing.{HasPassed, each_passed, both_left_linear, both_right_linear}
 use Rattle.rule_label.specs.Labelled.{ranks_along, joins_decreasing}
-use Rattle.rule_label.specs.Laws.{DecreasingPeaksConclude}
+use Rattle.rule_label.specs.Laws.{DecreasingListConcludes, DecreasingPeaksConclude}
 
 same_ranks : (ranks : List ℕ) (path : List PlacedRule) → ranks_along ranks path ≡ map (rank_of ranks) (map (λ s. s.rule) path)
 same_ranks ranks [] = refl
@@ -43,10 +43,14 @@ module _ (by_path : (rules : List RewriteRule) (path : List PlacedRule) (t u : T
     decreasing_peak : (peak : Peak) → HasPassed (joins_decreasing rules ranks) peak → IsDecreasing rules ranks peak
     decreasing_peak peak h = subst (λ x. IsDecreasing rules ranks x) (sym h.is) (decreasing h.number h.placed h.item h.passed)
 
-  -- the theorem on decreasing peaks that cover a system, at the listed ones
-  module _ (cover : ListedPeaksCover) (theorem : (system : System) (ranks : List ℕ) (peaks : List Peak) → IsSystem system → AreLeftLinear system.rules → AreRightLinear system.rules
+  -- the theorem on decreasing peaks that cover a system, at a list that covers and at the listed ones
+  module _ (theorem : (system : System) (ranks : List ℕ) (peaks : List Peak) → IsSystem system → AreLeftLinear system.rules → AreRightLinear system.rules
       → Covers system.rules peaks → ((peak : Peak) → In peak peaks → IsDecreasing system.rules ranks peak) → IsConfluent system) where
-    pub decreasing_concludes : DecreasingPeaksConclude
-    decreasing_concludes system ranks items valid (goes_on _ _ linear (goes_on _ _ (listed peaks all) (goes_on _ _ (holds ranked) (goes_on _ _ (holds same) h)))) =
-        theorem system ranks (map plain peaks) valid (both_left_linear system.rules linear) (both_right_linear system.rules linear) (cover system peaks valid all)
+    pub decreasing_list : (system : System) → IsSystem system → DecreasingListConcludes system
+    decreasing_list system valid peaks ranks items covers (goes_on _ _ linear (goes_on _ _ (holds ranked) (goes_on _ _ (holds same) h))) =
+        theorem system ranks (map plain peaks) valid (both_left_linear system.rules linear) (both_right_linear system.rules linear) covers
         (λ peak member. decreasing_peak system.rules ranks peak (each_passed (joins_decreasing system.rules ranks) 0 peaks items peak same h member))
+
+    pub decreasing_concludes : ListedPeaksCover → DecreasingPeaksConclude
+    decreasing_concludes cover system ranks items valid (goes_on _ _ linear (goes_on _ _ (listed peaks all) h)) =
+        decreasing_list system valid peaks ranks items (cover system peaks valid all) (goes_on tt _ linear h)

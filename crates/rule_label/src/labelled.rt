@@ -1,8 +1,12 @@
-ghost use Rattle.std.specs.Prelude.{length};
+ghost use Rattle.std.specs.Prelude.{IfOk, length, map};
+ghost use Rattle.trs_defs.specs.Claims.{IsConfluent};
+ghost use Rattle.confluence_theory.specs.Peak.{Covers};
 ghost use Rattle.rewrite_core.specs.Check.{Answers, has_length};
+ghost use Rattle.closed_pairs.specs.crit_pairs.PlainPeak.{plain};
 ghost use Rattle.rule_label.specs.Labelled.{joins_decreasing, are_decreasing, label_conditions_on};
 ghost use Rattle.rule_label.specs.Labelled.{label_conditions, labels_must_fit};
 
+use crate::covering::decreasing_list_concludes;
 use crate::fitting::{rank_of, ranks_fit};
 use closed_pairs::{first_peaks, linear_check, peak_is_joined};
 use rewrite_core::{CheckFault, Join, PathStep, Peak, StepRefused};
@@ -39,7 +43,10 @@ pub fn label_check(
 ) -> Result<(), CheckFault>
     ensures answers { Answers
         (label_conditions_on trs.now.rules peaks.now ranks.now joins.now) result }
+    ensures confluent { Covers trs.now.rules (map plain peaks.now) →
+        IfOk result (λ _. IsConfluent trs.now) }
 {
+    decreasing_list_concludes(trs);
     linear_check(trs)?;
     peaks_are_decreasing(alloc, trs, peaks, ranks, joins)
 }

@@ -1,4 +1,5 @@
 ghost use Rattle.rule_label.specs.Laws.{DecreasingPeaksConclude, LabelsAnswerOnce};
+ghost use Rattle.rule_label.specs.Laws.{GivenLabelsAnswerOnce};
 
 use closed_pairs::{listed_peaks_cover, peaks_are_listed_once};
 use confluence_theory::{decreasing_peaks, followed_paths};
@@ -13,9 +14,11 @@ pub fn decreasing_peaks_conclude()
     followed_paths();
 }
 
-/// A law, with nothing to run: the conditions on decreasing peaks have at most one answer.
+/// A law, with nothing to run: the conditions on decreasing peaks have at most one answer, on the
+/// critical peaks and on any list of peaks.
 pub fn labels_answer_once()
-    ensures { LabelsAnswerOnce }
+    ensures labels { LabelsAnswerOnce }
+    ensures given_labels { GivenLabelsAnswerOnce }
 {
     peaks_are_listed_once();
 }

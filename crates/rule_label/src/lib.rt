@@ -2,6 +2,7 @@
 //! with fitting ranks. (Van Oostrom, Confluence by decreasing diagrams, 2008.)
 #![tactic(auto)]
 
+mod covering;
 mod fitting;
 mod labelled;
 mod laws;

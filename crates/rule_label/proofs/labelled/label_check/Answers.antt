@@ -1,11 +1,24 @@
 use Rattle.std.proofs.lemmas.Result.{err_from_is_err_and}
 use Rattle.rewrite_core.proofs.Answering.{refused_first, then_answers}
+use Rattle.closed_pairs.proofs.Conclusions.{concludes}
+use Rattle.rule_label.specs.Labelled.{label_conditions_on}
 use Rattle.rule_label.proofs.labelled.label_check.Goals as goal
 
 pub returns-in_err-linear_check : goal.returns-in_err-linear_check
 returns-in_err-linear_check c =
     let p = err_from_is_err_and c.from_residual.result c.from_residual.ensures.1 in
-    rw (p.1, p.2) (record { answers = refused_first _ _ _ c.in_err-linear_check.ensures.answers })
+    rw (p.1, p.2) (record { answers = refused_first _ _ _ c.in_err-linear_check.ensures.answers; confluent = λ _. tt })
 
 pub returns : goal.returns
-returns c = record { answers = then_answers _ _ (λ u. u) tt c.peaks_are_decreasing.result c.in_ok-linear_check.ensures.answers c.peaks_are_decreasing.ensures }
+returns c =
+    let trs = c.args.trs.now in
+    let peaks = c.args.peaks.now in
+    let ranks = c.args.ranks.now in
+    let joins = c.args.joins.now in
+    let answers = then_answers _ _ (λ u. u) tt c.peaks_are_decreasing.result c.in_ok-linear_check.ensures.answers c.peaks_are_decreasing.ensures in
+    record {
+      answers = answers;
+      confluent = λ covers.
+          concludes (label_conditions_on trs.rules peaks ranks joins) c.peaks_are_decreasing.result answers
+          (λ passed. c.decreasing_list_concludes.ensures peaks ranks joins covers passed);
+    }
