@@ -1,20 +1,17 @@
--- The first of the listed redexes, and steps at first redexes in a row.
-use Rattle.std.proofs.Common.{◌≡◌, ◌<◌, ◌≤◌, ℕ, ◌+◌, ◌-◌, suc, ◌⊎◌, inl, inr, refl, sym, subst, arith, ◌∙◌, List, [], ◌∷◌, Some, None, slice_get, Result, Ok, Err, IfOk, IsTrue, length}
+-- Steps at first redexes in a row.
+use Rattle.std.proofs.Common.{◌≡◌, ◌<◌, ◌≤◌, ℕ, ◌+◌, ◌-◌, suc, sym, subst, arith, ◌∙◌, List, Result, Ok, Err, IfOk, IsTrue, length}
 use Rattle.std.proofs.lemmas.Option.{same_Some}
 use Rattle.trs_defs.specs.Tree.{Tree}
 use Rattle.trs_defs.specs.Size.{size_of, within_limits}
 use Rattle.term_pool.specs.Pooled.{StandsFor, Extends, tree_at}
 use Rattle.term_pool.proofs.PoolTrees.{stands, stands_at, stands_within}
-use Rattle.trs_defs.specs.Member.{in_first}
 use Rattle.trs_defs.specs.WellFormed.{IsWellFormed}
 use Rattle.trs_defs.specs.System.{RewriteRule, System, IsSystem}
 use Rattle.trs_defs.specs.Path.{PlacedRule, StepsAt}
 use Rattle.trs_defs.specs.Step.{Step}
 use Rattle.trs_defs.specs.Run.{Stay, Go}
 use Rattle.trs_defs.specs.NormalForm.{IsNormalForm}
-use Rattle.trs_defs.proofs.Members.{in_or, no_in}
-use Rattle.trs_defs.proofs.Places.{place_of_step, step_of_place}
-use Rattle.term_pool.specs.Redexes.{HasRedexes, ComesBefore}
+use Rattle.trs_defs.proofs.Places.{step_of_place}
 use Rattle.term_pool.specs.Steps.{IsStepFault}
 use Rattle.completion.specs.declared.unfinished.Unfinished.{Unfinished}
 use Rattle.completion.specs.declared.unfinished.Unfinished.TheVariants as unfinished
@@ -25,29 +22,6 @@ use Rattle.completion.specs.Taking.{IsTermOver}
 use Rattle.trs_core.specs.declared.memory.OutOfMemory.{OutOfMemory}
 use Rattle.term_pool.specs.declared.steps.StepFault.{StepFault}
 use Rattle.completion.proofs.SoundRules.{run_well_formed}
-
-pub first_listed : (rules : List RewriteRule) (t : Tree) (ss : List PlacedRule) (s : PlacedRule) → HasRedexes rules t ss → slice_get ss 0 ≡ Some s
-    → IsFirstRedex rules t s
-first_listed rules t [] s lists e = absurd cc
-first_listed rules t (x ∷ ss) s lists e =
-    let same : x ≡ s = same_Some x s e in
-    let P : PlacedRule → Type 0 = IsFirstRedex rules t in
-    subst P same
-    (record {
-      redex = (lists.each x).0 in_first;
-      first = λ u r. elim (in_or ((lists.each u).1 r)) as (λ _. (x ≡ u) ⊎ ComesBefore x u) [
-        | inl e' ↦ inl (sym e')
-        | inr j ↦ inr (lists.ascend.0 u j)
-      ];
-    })
-
-pub none_listed : (rules : List RewriteRule) (t : Tree) (ss : List PlacedRule) → HasRedexes rules t ss → slice_get ss 0 ≡ None → IsNormalForm (Step rules) t
-none_listed rules t [] lists e u step =
-    let at = place_of_step rules t u step in
-    let h = at.steps in
-    no_in ((lists.each (record { place = at.place; rule = at.number })).1
-    (record { rule = h.rule; numbered = h.numbered; part = _; there = h.from; instance = (h.substitution, refl) }))
-none_listed rules t (x ∷ ss) lists e u step = absurd cc
 
 -- a step of a well-formed term
 pub next_well_formed : (system : System) → IsSystem system → (s : PlacedRule) (t u : Tree) → StepsAt system.rules s.place s.rule t u → IsWellFormed system.arities t
@@ -68,7 +42,7 @@ pub record IsOnTheWay (system : System) (units left : ℕ) (t : Tree) (pool : Li
   pub sum : steps + left ≡ units
   pub well_formed : IsWellFormed system.arities (tree_at pool id)
   pub there : id < length pool
-  pub room : length pool ≤ 1048576
+  pub room : length pool ≤ 131072
 
 pub way_begins : (system : System) (units : ℕ) (t : Tree) (pool : List Tree) (id : ℕ) → StandsFor pool id t → length pool ≤ 0 + size_of t
     → IsTermOver system.arities t → IsOnTheWay system units units t pool id
@@ -88,7 +62,7 @@ way_begins system units t pool id e few h =
 
 -- the step, and the id of its result in the pool that goes on
 pub way_goes_on : (system : System) → IsSystem system → (units left : ℕ) (t : Tree) (pool next kept : List Tree) (id new same : ℕ) → IsOnTheWay system units left t pool id
-    → IsFirstStep system.rules left (tree_at pool id) (tree_at next new) → tree_at kept same ≡ tree_at next new → same < length kept → length kept ≤ 1048576
+    → IsFirstStep system.rules left (tree_at pool id) (tree_at next new) → tree_at kept same ≡ tree_at next new → same < length kept → length kept ≤ 131072
     → IsOnTheWay system units (left - 1) t kept same
 way_goes_on system valid units left t pool next kept id new same h s e there room =
     let sum : h.steps + left ≡ units = h.sum in

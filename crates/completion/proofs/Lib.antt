@@ -4,6 +4,7 @@ pub mod PeakPairs
 pub mod RightEndings
 pub mod PathReductions
 pub mod FirstSteps
+pub mod SearchLaws
 pub mod Renumbered
 pub mod TreatLaws
 pub mod LoopLaws

@@ -1,12 +1,16 @@
-ghost use Rattle.std.specs.Prelude.{◌≡◌, ◌<◌, ◌≤◌, ◌+◌, length, IfOk, OnOk};
+ghost use Rattle.std.specs.Prelude.{◌<◌, ◌≤◌, ◌+◌, length, IfOk, OnOk};
 ghost use Rattle.term_pool.specs.Pooled.{Extends, tree_at};
 ghost use Rattle.term_pool.specs.Redexes.{IsNarrow};
 ghost use Rattle.completion.specs.Moving.{IsMove, IsStopOf};
+ghost use Rattle.completion.specs.Searching.{HaveNoPlace};
 
 use crate::Unfinished;
+use crate::known::see_system;
+use crate::searching::{first_redex, position};
 use rewrite_core::StepFault;
 use std::alloc::Global;
-use term_pool::{MOST_IDS, Pool, RulesByRoot};
+use std::collections::BTreeSet;
+use term_pool::{MOST_IDS, Pool};
 use trs_core::{OutOfMemory, Trs};
 
 /// What the first redex of a term leads to.
@@ -22,26 +26,29 @@ pub(crate) fn first_move(
     alloc: Global,
     pool: &mut Pool,
     trs: &Trs,
-    by_root: &RulesByRoot,
     id: u32,
+    passed: &mut BTreeSet<u32>,
     units: u64,
 ) -> Result<Move, OutOfMemory>
     requires there { id < length pool.old }
     requires room { length pool.old ≤ MOST_IDS }
     requires narrow { IsNarrow (tree_at pool.old id) }
-    requires same { by_root.now ≡ trs.now }
+    requires passed { HaveNoPlace trs.now.rules pool.old passed.old }
     ensures moves { IfOk result (IsMove trs.now.rules units (tree_at pool.old id) pool.new) }
     ensures kept { OnOk result (Extends pool.old pool.new) }
     ensures few { OnOk result (length pool.new ≤ length pool.old + 65536) }
+    ensures passed { OnOk result (HaveNoPlace trs.now.rules pool.new passed.new) }
 {
-    let found = pool.redexes_at(alloc, by_root, id)?;
-    match found.first() {
+    see_system(trs);
+    let mut place = Vec::new(alloc);
+    match first_redex(alloc, pool, trs.rules(), id, &mut place, passed)? {
         None => Ok(Move::Nowhere),
-        Some(first) => {
+        Some(rule) => {
             if units == 0 {
                 return Ok(Move::Stopped(Unfinished::NoUnit));
             }
-            match pool.step_at(alloc, trs, id, &first.place, first.rule) {
+            let place = position(alloc, &place)?;
+            match pool.step_at(alloc, trs, id, &place, rule) {
                 Ok(next) => Ok(Move::To(next)),
                 Err(fault) => stopped(fault),
             }

@@ -11,6 +11,7 @@ mod laws;
 mod normalizing;
 mod orienting;
 mod renumbering;
+mod searching;
 mod taking;
 mod treating;
 mod unfinished;

@@ -1,51 +1,39 @@
-use Rattle.std.proofs.Common.{◌≡◌, ◌<◌, sym, subst, arith, List, Some, None, slice_get}
-use Rattle.trs_defs.specs.Path.{PlacedRule}
-use Rattle.trs_defs.specs.System.{System}
+use Rattle.std.proofs.Common.{List, subst, sym}
+use Rattle.trs_defs.specs.System.{RewriteRule}
 use Rattle.term_pool.specs.Pooled.{tree_at}
-use Rattle.term_pool.specs.Redexes.{HasRedexes}
-use Rattle.completion.proofs.FirstSteps.{first_listed, none_listed, stops_move}
+use Rattle.completion.specs.Searching.{HaveNoPlace}
+use Rattle.completion.proofs.SearchLaws.{found_none, passed_still, when_ok}
 use Rattle.completion.proofs.first_steps.first_move.Goals as goal
+
+pub first_redex-requires-clause-passed : goal.first_redex-requires-clause-passed
+first_redex-requires-clause-passed c =
+    let H : List RewriteRule → Type 0 = λ rs. HaveNoPlace rs c.args.pool.now c.args.passed.now in
+    subst H (sym c.rules.ensures.rules) c.requires.passed
 
 pub returns-in-None-clause-moves : goal.returns-in-None-clause-moves
 returns-in-None-clause-moves c =
-    let P : List PlacedRule → Type 0 = λ xs. slice_get xs 0 ≡ None in
-    let R : System → Type 0 = λ s. HasRedexes s.rules (tree_at c.args.pool.now c.args.id) c.in_ok-found.found.items in
-    none_listed c.args.trs.now.rules (tree_at c.args.pool.now c.args.id) c.in_ok-found.found.items (subst R c.requires.same c.in_ok-found.ensures)
-    (subst P c.deref.ensures.value (sym c.in-None.ensures.value))
+    found_none c.args.trs.now.rules c.rules.result.now (tree_at c.args.pool.now c.args.id) c.new-place.result.items c.first_redex.new.place.items c.in_ok-first_redex.field-0
+    c.rules.ensures.rules c.in-None.is c.in_ok-first_redex.ensures.found
 
-pub returns-then-units-eq0-clause-moves : goal.returns-then-units-eq0-clause-moves
-returns-then-units-eq0-clause-moves c =
-    let P : List PlacedRule → Type 0 = λ xs. slice_get xs 0 ≡ Some c.in-Some.first.now in
-    let R : System → Type 0 = λ s. HasRedexes s.rules (tree_at c.args.pool.now c.args.id) c.in_ok-found.found.items in (
-      c.if-units-eq0.true,
-      (
-        c.in-Some.first.now,
-        first_listed c.args.trs.now.rules (tree_at c.args.pool.now c.args.id) c.in_ok-found.found.items c.in-Some.first.now
-            (subst R c.requires.same c.in_ok-found.ensures) (subst P c.deref.ensures.value (sym c.in-Some.ensures.value)),
-      ),
-    )
+pub returns-in-None-clause-passed : goal.returns-in-None-clause-passed
+returns-in-None-clause-passed c =
+    let H : List RewriteRule → Type 0 = λ rs. HaveNoPlace rs c.args.pool.now c.first_redex.new.passed in
+    subst H c.rules.ensures.rules c.in_ok-first_redex.ensures.passed
 
-pub returns-in-Ok-clause-moves : goal.returns-in-Ok-clause-moves
-returns-in-Ok-clause-moves c =
-    let s : PlacedRule = record { place = c.first-in-Some.inside.place; rule = c.first-in-Some.inside.rule } in
-    let e : slice_get c.in_ok-found.found.items 0 ≡ Some s = cc (c.first-in-Some.view_is, c.in-Some.ensures.value, c.deref.ensures.value) in
-    let R : System → Type 0 = λ s. HasRedexes s.rules (tree_at c.args.pool.now c.args.id) c.in_ok-found.found.items in (
-      record {
-        step = s;
-        first = first_listed c.args.trs.now.rules (tree_at c.args.pool.now c.args.id) c.in_ok-found.found.items s (subst R c.requires.same c.in_ok-found.ensures) e;
-        steps = c.in-Ok.ensures.step;
-        limits = c.in-Ok.ensures.limits;
-        unit_there = omega (arith, c.if-units-eq0.false);
-      },
-      c.in-Ok.ensures.there,
-    )
+pub returns-then-units-eq0-clause-passed : goal.returns-then-units-eq0-clause-passed
+returns-then-units-eq0-clause-passed c =
+    let H : List RewriteRule → Type 0 = λ rs. HaveNoPlace rs c.args.pool.now c.first_redex.new.passed in
+    subst H c.rules.ensures.rules c.in_ok-first_redex.ensures.passed
 
-pub returns-clause-moves : goal.returns-clause-moves
-returns-clause-moves c =
-    let s : PlacedRule = record { place = c.first-in-Some.inside.place; rule = c.first-in-Some.inside.rule } in
-    let e : slice_get c.in_ok-found.found.items 0 ≡ Some s = cc (c.first-in-Some.view_is, c.in-Some.ensures.value, c.deref.ensures.value) in
-    let R : System → Type 0 = λ s. HasRedexes s.rules (tree_at c.args.pool.now c.args.id) c.in_ok-found.found.items in
-    let there : 0 < c.args.units = omega (arith, c.if-units-eq0.false) in
-    stops_move c.args.trs.now.rules c.args.units (tree_at c.args.pool.now c.args.id) _ s c.in-Err.fault c.stopped.result c.stopped.ensures c.in-Err.ensures.fault
-    (first_listed c.args.trs.now.rules (tree_at c.args.pool.now c.args.id) c.in_ok-found.found.items s (subst R c.requires.same c.in_ok-found.ensures) e)
-    there
+pub returns-in-Ok-clause-passed : goal.returns-in-Ok-clause-passed
+returns-in-Ok-clause-passed c =
+    let H : List RewriteRule → Type 0 = λ rs. HaveNoPlace rs c.args.pool.now c.first_redex.new.passed in
+    passed_still c.args.trs.now.rules c.args.pool.now c.step_at.new.self c.first_redex.new.passed c.in-Ok.ensures.kept
+    (subst H c.rules.ensures.rules c.in_ok-first_redex.ensures.passed)
+
+pub returns-clause-passed : goal.returns-clause-passed
+returns-clause-passed c =
+    let H : List RewriteRule → Type 0 = λ rs. HaveNoPlace rs c.args.pool.now c.first_redex.new.passed in
+    when_ok c.stopped.result (HaveNoPlace c.args.trs.now.rules c.step_at.new.self c.first_redex.new.passed)
+    (passed_still c.args.trs.now.rules c.args.pool.now c.step_at.new.self c.first_redex.new.passed c.in-Err.ensures.kept
+    (subst H c.rules.ensures.rules c.in_ok-first_redex.ensures.passed))
