@@ -1,6 +1,7 @@
-// Put before a program (LD_PRELOAD), it refuses one call: of memory (malloc and its like), of reading or of writing.
-// REFUSE names the kind (memory, read, write), REFUSE_AT the number of the call from 1 on, 0 for none, REFUSE_HOW how: `fail`,
-// or `short` for a read or a write of one byte. At the end the number of calls of each kind is written to REFUSE_COUNTS.
+// Put before a program (LD_PRELOAD), it refuses one call: of memory (malloc and its like), of reading or of writing; or all
+// requests for memory that the second thread makes, from one on.
+// REFUSE names the kind (memory, read, write, thread), REFUSE_AT the number of the call from 1 on, 0 for none, REFUSE_HOW how:
+// `fail`, or `short` for a read or a write of one byte. At the end the number of calls of each kind is written to REFUSE_COUNTS.
 #define _GNU_SOURCE
 #include <dlfcn.h>
 #include <errno.h>
@@ -13,10 +14,13 @@
 #include <sys/uio.h>
 #include <unistd.h>
 
-enum kind { MEMORY, READ, WRITE, KINDS };
+// THREAD counts the second thread's requests for memory.
+enum kind { MEMORY, READ, WRITE, THREAD, KINDS };
 
-static const char *const NAMES[KINDS] = {"memory", "read", "write"};
+static const char *const NAMES[KINDS] = {"memory", "read", "write", "thread"};
 static atomic_long counts[KINDS];
+static atomic_int threads;
+static __thread int number __attribute__((tls_model("initial-exec")));
 static long refused_at[KINDS];
 static int cuts_short;
 static int is_ready;
@@ -40,7 +44,7 @@ __attribute__((destructor)) static void end(void) {
     const char *path = getenv("REFUSE_COUNTS");
     int file = path ? open(path, O_WRONLY | O_CREAT | O_TRUNC, 0600) : -1;
     if (file >= 0)
-        dprintf(file, "%ld %ld %ld\n", counts[MEMORY], counts[READ], counts[WRITE]);
+        dprintf(file, "%ld %ld %ld %ld\n", counts[MEMORY], counts[READ], counts[WRITE], counts[THREAD]);
 }
 
 // A program that ends by `_exit` runs no destructor.
@@ -55,7 +59,21 @@ static int is_refused(enum kind kind) {
     return is_ready && atomic_fetch_add(&counts[kind], 1) + 1 == refused_at[kind];
 }
 
-#define OF_MEMORY(call) (is_refused(MEMORY) ? (errno = ENOMEM, NULL) : (call))
+// Threads are numbered from 1 on as they first ask for memory.
+static int of_second_thread(void) {
+    if (!number)
+        number = atomic_fetch_add(&threads, 1) + 1;
+    return number == 2;
+}
+
+static int is_without_memory(void) {
+    if (!is_ready)
+        return 0;
+    int is_cut_off = of_second_thread() && atomic_fetch_add(&counts[THREAD], 1) + 1 >= refused_at[THREAD] && refused_at[THREAD];
+    return is_refused(MEMORY) || is_cut_off;
+}
+
+#define OF_MEMORY(call) (is_without_memory() ? (errno = ENOMEM, NULL) : (call))
 
 void *malloc(size_t size) { return OF_MEMORY(__libc_malloc(size)); }
 void *calloc(size_t count, size_t size) { return OF_MEMORY(__libc_calloc(count, size)); }
