@@ -1,5 +1,5 @@
--- The steps of a certificate that is read are well-made, and can be printed.
-use Rattle.std.proofs.Common.{◌≡◌, ℕ, ◌==◌, Bool, true, false, cond, List, [], ◌∷◌, length, codes, Some, None, Result, Ok, Err, IfOk, refl, ap, subst, ◌∙◌}
+-- The steps of a certificate that is read are well-made, can be printed, and are read as they are where they are printed.
+use Rattle.std.proofs.Common.{◌≡◌, ℕ, ◌==◌, Bool, true, false, cond, List, [], ◌∷◌, length, map, codes, Some, None, Result, Ok, Err, IfOk, refl, ap, ap₂, subst, ◌∙◌}
 use Rattle.std.specs.List.{All, AllByRecursion}
 use Rattle.std.proofs.lemmas.List.Elements.{All-from_recursion}
 use Rattle.sexp_core.specs.Items.{Items, no_items, item}
@@ -17,20 +17,21 @@ use Rattle.path_text.specs.Defining.{define}
 use Rattle.path_text.specs.Ranges.{IsPlacedInRange, AreDefinedInRange}
 use Rattle.path_text.proofs.PathMade.{then_ok, made_in_turn}
 use Rattle.path_text.proofs.DefineLaws.{define_made}
-use Rattle.step_text.specs.Ranges.{IsWellMadeInRange, IsPrintable}
-use Rattle.step_text.specs.Steps.{step, paths_of_step}
+use Rattle.step_text.specs.Ranges.{IsWellMadeInRange, IsReadStep, IsPrintable}
+use Rattle.step_text.specs.Steps.{step, paths_of_step, step_renumbered}
 use Rattle.step_text.proofs.StepLaws.{step_made}
 use Rattle.cert_text.specs.declared.fault.CertFault.{CertFault}
 use Rattle.cert_text.specs.declared.fault.CertFault.TheVariants.{Version}
 use Rattle.cert_text.specs.ProofText.{ProofText, proof_text_of}
 use Rattle.cert_text.specs.declared.certificate.Certificate.{Certificate}
 use Rattle.cert_text.specs.Answers.{Answers}
+use Rattle.cert_text.specs.Renumbered.{renumbered}
 use Rattle.cert_text.specs.declared.head.Head.{Head}
 use Rattle.cert_text.specs.Head.{headline, head}
 use Rattle.cert_text.specs.CertificateText.{◌>>=◌, says_of, steps_alone, steps_behind, body, behind_head, behind_headline, certificate, SaysCertificate}
 
 abbrev AreMade : NamedSystem → ProofText → Type 0
-AreMade named says = AllByRecursion (IsWellMadeInRange named.system) says.steps
+AreMade named says = AllByRecursion (IsReadStep named.system) says.steps
 
 read_first : {A : Type 0} (r : Read A) (behind : A → Result ProofText CertFault) (says : ProofText) → r >>= behind ≡ Ok says → (x : A) × (r ≡ Ok x) × (behind x ≡ Ok says)
 read_first (Ok x) behind says e = (x, refl, e)
@@ -38,10 +39,10 @@ read_first (Err p) behind says e = absurd cc
 
 module _ (named : NamedSystem) (is : IsNamed named) (says : ProofText) where
   abbrev Made : List ProofNodeStep → Type 0
-  Made steps = AllByRecursion (IsWellMadeInRange named.system) steps
+  Made steps = AllByRecursion (IsReadStep named.system) steps
 
   in_turn_made : (sharing : Sharing) → AreDefinedInRange sharing → (xs : Items) (vs : List ProofNodeStep) → in_turn (step named) paths_of_step sharing xs ≡ Ok vs → Made vs
-  in_turn_made sharing defined xs vs e = made_in_turn (step named) paths_of_step (IsWellMadeInRange named.system) (λ s h. step_made named is s h) sharing defined xs vs e
+  in_turn_made sharing defined xs vs e = made_in_turn (step named) paths_of_step (IsReadStep named.system) (λ s h. step_made named is s h) sharing defined xs vs e
 
   behind_made : (shared : Shared) → AreDefinedInRange (Some shared) → (xs : Items) (vs : List ProofNodeStep) → steps_behind named shared xs ≡ Ok vs → Made vs
   behind_made shared defined no_items vs e = subst Made (ok_same [] vs e) tt
@@ -85,13 +86,21 @@ module _ (named : NamedSystem) (is : IsNamed named) (says : ProofText) where
       let (positive, is, behind) = read_first (headline x) (λ b. behind_headline named size b xs) says e in
       headline_made size positive xs behind
 
-well_made_only : (system : System) (steps : List ProofNodeStep) → AllByRecursion (IsWellMadeInRange system) steps → AllByRecursion (λ s. IsWellMade system s.step) steps
+well_made_only : (system : System) (steps : List ProofNodeStep) → AllByRecursion (IsReadStep system) steps → AllByRecursion (λ s. IsWellMade system s.step) steps
 well_made_only system [] h = tt
-well_made_only system (s ∷ steps) h = (h.0.well_made, well_made_only system steps h.1)
+well_made_only system (s ∷ steps) h = (h.0.made.well_made, well_made_only system steps h.1)
 
-printable_only : (system : System) (steps : List ProofNodeStep) → AllByRecursion (IsWellMadeInRange system) steps → AllByRecursion (IsPrintable system) steps
+printable_only : (system : System) (steps : List ProofNodeStep) → AllByRecursion (IsReadStep system) steps → AllByRecursion (IsPrintable system) steps
 printable_only system [] h = tt
-printable_only system (s ∷ steps) h = ((h.0.well_made, h.0.node), printable_only system steps h.1)
+printable_only system (s ∷ steps) h = ((h.0.made.well_made, h.0.made.node), printable_only system steps h.1)
+
+in_range_only : (system : System) (steps : List ProofNodeStep) → AllByRecursion (IsReadStep system) steps → AllByRecursion (IsWellMadeInRange system) steps
+in_range_only system [] h = tt
+in_range_only system (s ∷ steps) h = (h.0.made, in_range_only system steps h.1)
+
+same_renumbered : (system : System) (steps : List ProofNodeStep) → AllByRecursion (IsReadStep system) steps → map step_renumbered steps ≡ steps
+same_renumbered system [] h = refl
+same_renumbered system (s ∷ steps) h = ap₂ (λ t ts. t ∷ ts) h.0.in_order (same_renumbered system steps h.1)
 
 pub well_made_steps : (named : NamedSystem) (text : List ℕ) (says : ProofText) → IsNamed named → SaysCertificate named text says
     → All (λ s. IsWellMade named.system s.step) says.steps
@@ -104,6 +113,15 @@ pub printable_steps : (named : NamedSystem) (text : List ℕ) (says : ProofText)
 printable_steps named text says is h =
     All-from_recursion (IsPrintable named.system) says.steps
     (printable_only named.system says.steps (certificate_made named is says (length text) h.items h.read))
+
+pub steps_in_range : (named : NamedSystem) (text : List ℕ) (says : ProofText) → IsNamed named → SaysCertificate named text says
+    → AllByRecursion (IsWellMadeInRange named.system) says.steps
+steps_in_range named text says is h = in_range_only named.system says.steps (certificate_made named is says (length text) h.items h.read)
+
+-- the variables of their terms are numbered in the order of their first occurrences
+pub steps_in_order : (named : NamedSystem) (text : List ℕ) (says : ProofText) → IsNamed named → SaysCertificate named text says
+    → map step_renumbered says.steps ≡ says.steps
+steps_in_order named text says is h = same_renumbered named.system says.steps (certificate_made named is says (length text) h.items h.read)
 
 -- ---- answers of the code
 
@@ -120,3 +138,10 @@ printable_answer named size xs (Ok c) is e =
     let steps = (proof_text_of c).steps in
     All-from_recursion (IsPrintable named.system) steps (printable_only named.system steps (certificate_made named is (proof_text_of c) size xs e))
 printable_answer named size xs (Err f) is e = tt
+
+pub in_order_answer : (named : NamedSystem) (size : ℕ) (xs : Items) (r : Result Certificate CertFault) → IsNamed named → Answers r (certificate named size xs)
+    → IfOk r (λ c. renumbered c.version (proof_text_of c) ≡ proof_text_of c)
+in_order_answer named size xs (Ok c) is e =
+    let says = proof_text_of c in
+    ap (says_of c.version c.headline c.claim) (same_renumbered named.system says.steps (certificate_made named is says size xs e))
+in_order_answer named size xs (Err f) is e = tt

@@ -3,6 +3,7 @@
 use Rattle.std.specs.Prelude.{◌≡◌, ◌⊎◌, ◌==◌, ◌++◌, nat_le, ℕ, Bool, List, [], ◌∷◌, length, map, codes, Some, None, Result, Ok, Err, if◌then◌else◌}
 use Rattle.trs_defs.specs.Path.{PlacedRule}
 use Rattle.sexp_core.specs.Items.{Item, Items, no_items, item, items_of}
+use Rattle.sexp_core.specs.Printed.{lines}
 use Rattle.sexp_core.specs.Reads.{Reads, fault_of}
 use Rattle.sexp_core.specs.declared.fault.TextFault.{TextFault}
 use Rattle.names_text.specs.Named.{NamedSystem}
@@ -85,6 +86,9 @@ shared_lines named steps = lines_of_two named (repeated_paths (paths_in paths_of
 abbrev pub version_two_items : NamedSystem → ProofText → Items
 version_two_items named says =
     item (word_item (headline_word says.headline)) (item (head_item 2 says.claim) (items_of (shared_lines named says.steps)))
+
+abbrev pub version_two_text : NamedSystem → ProofText → List ℕ
+version_two_text named says = lines (version_two_items named says)
 
 -- the weights of all paths so printed are at most this together
 abbrev pub fits_two : ProofText → Bool

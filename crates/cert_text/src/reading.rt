@@ -9,6 +9,7 @@ ghost use Rattle.step_text.specs.Ranges.{IsPrintable};
 ghost use Rattle.step_text.specs.Steps.{step, paths_of_step};
 ghost use Rattle.cert_text.specs.ProofText.{ProofText, proof_text_of};
 ghost use Rattle.cert_text.specs.Answers.{Answers};
+ghost use Rattle.cert_text.specs.Renumbered.{renumbered};
 ghost use Rattle.cert_text.specs.CertificateText.{steps_alone, steps_behind, behind_head, behind_headline, certificate, SaysCertificate, IsCertificateRefused};
 
 use crate::certificate::Certificate;
@@ -44,6 +45,11 @@ pub fn read_certificate(
     // So it can be printed.
     ensures printable { IfOk result (λ c.
         All (IsPrintable system.now.system) (proof_text_of c).steps) }
+
+    // The variables of its terms are numbered in the order of their first occurrences, so that what
+    // is printed of it says the same.
+    ensures in_order { IfOk result (λ c.
+        renumbered c.version (proof_text_of c) ≡ proof_text_of c) }
 
     // What a text says is read, unless memory runs out.
     ensures only { (says : ProofText) → SaysCertificate system.now text.now says

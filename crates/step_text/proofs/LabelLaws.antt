@@ -1,5 +1,5 @@
 -- Steps of labels that are read are well-made, and printed ones are read again.
-use Rattle.std.proofs.Common.{◌≡◌, ℕ, List, ◌∷◌, Vec, Global, Ok, Err, IfOk, ap, subst, ◌∙◌, arith}
+use Rattle.std.proofs.Common.{◌≡◌, ℕ, List, ◌∷◌, Vec, Global, Ok, Err, IfOk, refl, ap, subst, ◌∙◌, arith}
 use Rattle.std.specs.Prelude.{map, All}
 use Rattle.std.specs.List.{AllByRecursion}
 use Rattle.std.proofs.lemmas.List.Elements.{All-from_recursion, recursion_from_All}
@@ -8,7 +8,7 @@ use Rattle.trs_defs.specs.Path.{PlacedRule}
 use Rattle.trs_defs.specs.System.{System}
 use Rattle.rewrite_core.specs.declared.joins.Join.{Join}
 use Rattle.rewrite_core.specs.PathsOfJoin.{PathsOfJoin}
-use Rattle.cert_step.specs.ProofStep.{ProofStep, label, IsWellMade}
+use Rattle.cert_step.specs.ProofStep.{ProofStep, label}
 use Rattle.text_reading.proofs.Made.{MakesForm, applied, ok_same, made_part, made_form}
 use Rattle.text_reading.proofs.Again.{SpellsParts, spells_part}
 use Rattle.text_reading.specs.Reading.{Read, ◌<*>◌}
@@ -24,18 +24,17 @@ use Rattle.peak_text.specs.RuleRanks.{ranks, ranks_item}
 use Rattle.peak_text.specs.Ranges.{IsRank, AreTwoInRange}
 use Rattle.peak_text.proofs.TwoPathsLaws.{pair_made, pair_again}
 use Rattle.peak_text.proofs.RuleRanksLaws.{ranks_made, ranks_again}
-use Rattle.step_text.specs.Ranges.{HasNumbersInRange}
+use Rattle.step_text.specs.Ranges.{IsReadMethod}
 use Rattle.step_text.specs.Steps.{paths_of_method}
 use Rattle.step_text.specs.LabelText.{label_parts, label_step, label_form}
 
-pub label_made : (system : System) (sharing : Sharing) → AreDefinedInRange sharing → MakesForm (label_form sharing) (λ s. IsWellMade system s × HasNumbersInRange s)
+pub label_made : (system : System) (sharing : Sharing) → AreDefinedInRange sharing → MakesForm (label_form sharing) (IsReadMethod system)
 label_made system sharing defined at xs v e =
     let (numbers, are_ranks, (joins, are, same)) =
     made_form (label_parts sharing) _ label_step
     (made_part ranks _ (AllByRecursion IsRank) _ ranks_made (made_rest_in_turn pair paths_of_two AreTwoInRange pair_made sharing defined)) at xs v e
     in
-    let P : ProofStep → Type 0 = λ s. IsWellMade system s × HasNumbersInRange s in
-    subst P same (All-from_recursion IsRank numbers are_ranks, are)
+    subst (IsReadMethod system) same (All-from_recursion IsRank numbers are_ranks, are, refl)
 
 pub label_again : (names : List (List PlacedRule)) (sharing : Sharing) (numbers : List ℕ) (joins : List PathsOfJoin) → All IsRank numbers → AllByRecursion AreTwoInRange joins
     → Carries sharing names (paths_weight (paths_in paths_of_two joins))

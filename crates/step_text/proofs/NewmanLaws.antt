@@ -1,12 +1,12 @@
 -- Steps of joins that are read are well-made, and printed ones are read again.
-use Rattle.std.proofs.Common.{List, subst, arith}
+use Rattle.std.proofs.Common.{List, refl, subst, arith}
 use Rattle.std.specs.List.{AllByRecursion}
 use Rattle.sexp_core.specs.Items.{items_of}
 use Rattle.std.specs.Prelude.{map}
 use Rattle.trs_defs.specs.Path.{PlacedRule}
 use Rattle.trs_defs.specs.System.{System}
 use Rattle.rewrite_core.specs.PathsOfJoin.{PathsOfJoin}
-use Rattle.cert_step.specs.ProofStep.{ProofStep, newman, IsWellMade}
+use Rattle.cert_step.specs.ProofStep.{newman}
 use Rattle.text_reading.proofs.Made.{MakesForm, made_form}
 use Rattle.text_reading.proofs.Again.{SpellsParts, spells_deeper}
 use Rattle.path_text.specs.Sharing.{Sharing, paths_weight}
@@ -18,14 +18,13 @@ use Rattle.path_text.proofs.SharedAgain.{spells_each_in_turn, spells_rest_in_tur
 use Rattle.peak_text.specs.TwoPaths.{join, paths_of_two, join_item}
 use Rattle.peak_text.specs.Ranges.{AreTwoInRange}
 use Rattle.peak_text.proofs.TwoPathsLaws.{join_made, join_again}
-use Rattle.step_text.specs.Ranges.{HasNumbersInRange}
+use Rattle.step_text.specs.Ranges.{IsReadMethod}
 use Rattle.step_text.specs.NewmanText.{newman_parts, newman_step, newman_form}
 
-pub newman_made : (system : System) (sharing : Sharing) → AreDefinedInRange sharing → MakesForm (newman_form sharing) (λ s. IsWellMade system s × HasNumbersInRange s)
+pub newman_made : (system : System) (sharing : Sharing) → AreDefinedInRange sharing → MakesForm (newman_form sharing) (IsReadMethod system)
 newman_made system sharing defined at xs v e =
     let (joins, are, same) = made_form (newman_parts sharing) _ newman_step (made_rest_in_turn join paths_of_two AreTwoInRange join_made sharing defined) at xs v e in
-    let P : ProofStep → Type 0 = λ s. IsWellMade system s × HasNumbersInRange s in
-    subst P same (tt, are)
+    subst (IsReadMethod system) same (tt, are, refl)
 
 pub newman_again : (names : List (List PlacedRule)) (sharing : Sharing) (joins : List PathsOfJoin) → AllByRecursion AreTwoInRange joins → Carries sharing names (paths_weight (paths_in paths_of_two joins))
     → SpellsParts (newman_parts sharing) 1023 (items_of (map (join_item names) joins)) newman_step (newman joins)

@@ -19,7 +19,7 @@ use Rattle.peak_text.specs.FourPaths.{paths_of_four}
 use Rattle.peak_text.specs.Ranges.{AreTwoInRange, AreFourInRange}
 use Rattle.path_text.specs.Carrying.{Carries}
 use Rattle.path_text.proofs.InTurn.{ended_read}
-use Rattle.step_text.specs.Ranges.{HasNumbersInRange, IsWellMadeInRange}
+use Rattle.step_text.specs.Ranges.{HasNumbersInRange, IsReadMethod, IsReadStep, IsWellMadeInRange}
 use Rattle.step_text.specs.DpText.{dp_parts}
 use Rattle.step_text.specs.GraphText.{graph_parts, graph_step}
 use Rattle.step_text.specs.SubtermText.{subterm_parts, subterm_step}
@@ -50,13 +50,10 @@ use Rattle.step_text.proofs.LabelLaws.{label_made, label_again}
 use Rattle.step_text.proofs.ForkLaws.{fork_made, fork_again}
 use Rattle.step_text.proofs.ConfluenceLaws.{confluence_made, confluence_again}
 
-abbrev IsMade : NamedSystem → ProofStep → Type 0
-IsMade named s = IsWellMade named.system s × HasNumbersInRange s
-
-method_made : (named : NamedSystem) → IsNamed named → (sharing : Sharing) → AreDefinedInRange sharing → Makes (method named sharing) (IsMade named)
+method_made : (named : NamedSystem) → IsNamed named → (sharing : Sharing) → AreDefinedInRange sharing → Makes (method named sharing) (IsReadMethod named.system)
 method_made named is sharing defined =
     let few = is.valid.within_limits.symbols in
-    made_by_word (forms named sharing) (IsMade named) (
+    made_by_word (forms named sharing) (IsReadMethod named.system) (
       dp_made named.system,
       (
         graph_made named.system,
@@ -85,16 +82,17 @@ method_made named is sharing defined =
       ),
     )
 
-pub step_made : (named : NamedSystem) → IsNamed named → (sharing : Sharing) → AreDefinedInRange sharing → Makes (step named sharing) (IsWellMadeInRange named.system)
+pub step_made : (named : NamedSystem) → IsNamed named → (sharing : Sharing) → AreDefinedInRange sharing → Makes (step named sharing) (IsReadStep named.system)
 step_made named is sharing defined x v e =
     let (h, k, (node, le, (s, made, same))) =
     made_list _ _ node_step
     (made_part (keyword (codes "step")) _ (λ _. Unit {0}) _ (made_any (keyword (codes "step")))
     (made_part (number (2 ^ 63 - 1)) _ (λ n. n ≤ (2 ^ 63 - 1)) _ (made_number (2 ^ 63 - 1))
-    (made_part (method named sharing) done (IsMade named) (λ f w. f ≡ w) (method_made named is sharing defined) made_done)))
+    (made_part (method named sharing) done (IsReadMethod named.system) (λ f w. f ≡ w) (method_made named is sharing defined) made_done)))
     x v e
     in
-    subst (IsWellMadeInRange named.system) same (record { well_made = made.0; node = omega (arith, le); numbers = made.1 })
+    subst (IsReadStep named.system) same
+    (record { made = record { well_made = made.0; node = omega (arith, le); numbers = made.1 }; in_order = ap (node_step h node) made.2 })
 
 method_again : (named : NamedSystem) → IsNamed named → (names : List (List PlacedRule)) (sharing : Sharing) (s : ProofStep) → IsWellMade named.system s → HasNumbersInRange s
     → Carries sharing names (paths_weight (paths_of_method s)) → Spells (method named sharing) 1024 (method_item named names s) (method_text s).in_order

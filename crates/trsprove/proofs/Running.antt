@@ -9,6 +9,7 @@ use Rattle.program_edge.specs.conclusion.Concludes.{Concludes, proved, maybe, pr
 use Rattle.command_line.specs.declared.Question.{Question}
 use Rattle.certifier.specs.Acceptance.{IsAcceptance, IsAcceptedAs}
 use Rattle.certifier.proofs.OneAnswer.{says_of_acceptance}
+use Rattle.certifier.proofs.Upgraded.{upgrade_accepted}
 use Rattle.program_edge.specs.conclusion.cert_step.declared.claim.Claim.{Claim}
 use Rattle.program_edge.specs.conclusion.cert_text.ProofText.{ProofText}
 use Rattle.program_edge.specs.names_text.Named.{NamedSystem}
@@ -60,6 +61,7 @@ module _ (request : Option Asked) (before now : ShelfMeaning) where
           fetched = fetched;
           acceptance = acceptance;
           truth = says_of_acceptance problem certificate says.claim named acceptance.acceptance;
+          upgraded = λ two. absurd cc;
           written = w;
         })
     true_written wanted problem certificate named says s text fetched acceptance (in_version_two fits) e w =
@@ -72,6 +74,7 @@ module _ (request : Option Asked) (before now : ShelfMeaning) where
           fetched = fetched;
           acceptance = acceptance;
           truth = says_of_acceptance problem certificate says.claim named acceptance.acceptance;
+          upgraded = λ two. upgrade_accepted problem certificate named says acceptance fits;
           written = w;
         })
     true_written wanted problem certificate named says s text fetched acceptance (too_heavy heavy) e w = absurd cc

@@ -3,13 +3,12 @@ use Rattle.std.specs.Prelude.{◌≡◌, ℕ, List, Option, Some}
 use Rattle.io_edge.specs.Shelf.{ShelfMeaning, MayBe}
 use Rattle.io_edge.specs.Sink.{SinkMeaning, AppendsTo}
 use Rattle.trs_defs.specs.Member.{In}
-use Rattle.sexp_core.specs.Printed.{lines}
 use Rattle.program_edge.specs.names_text.Named.{NamedSystem}
 use Rattle.ari_text.specs.Problem.{SaysSystem}
 use Rattle.program_edge.specs.conclusion.cert_step.declared.claim.Claim.{Claim}
 use Rattle.program_edge.specs.conclusion.cert_step.ProofProblem.{Says}
-use Rattle.program_edge.specs.conclusion.cert_text.ProofText.{ProofText}
-use Rattle.program_edge.specs.conclusion.cert_text.CertificateText.{version_two_items}
+use Rattle.program_edge.specs.conclusion.cert_text.ProofText.{ProofText, in_version}
+use Rattle.program_edge.specs.conclusion.cert_text.CertificateText.{version_two_text}
 use Rattle.certifier.specs.Acceptance.{IsAcceptance, IsAcceptedAs}
 use Rattle.program_edge.specs.conclusion.tree_definitions.Questions.{claims}
 use Rattle.program_edge.specs.conclusion.tree_definitions.Reports.{Part, IsTrueReport}
@@ -31,9 +30,10 @@ use Rattle.trsprove.specs.Output.{AreFetched, IsAsked, AreEquations}
 -- what is written of a certificate that is accepted
 abbrev pub accepted_text : Wanted → NamedSystem → ProofText → List ℕ
 accepted_text want.Claim named says = accepted_line says.claim
-accepted_text want.VersionTwo named says = lines (version_two_items named says)
+accepted_text want.VersionTwo named says = version_two_text named says
 
--- a certificate was accepted, and its claim is true of the system that the problem text says
+-- a certificate was accepted, and its claim is true of the system that the problem text says; what was written of it in version 2
+-- is itself a certificate that is accepted for the problem text, of the same claim and with the same steps
 pub record IsTrueAcceptance (request : Option Asked) (before : ShelfMeaning) (taken later : SinkMeaning) : Type 0 where
   pub wanted : Wanted
   pub problem : List ℕ
@@ -43,6 +43,7 @@ pub record IsTrueAcceptance (request : Option Asked) (before : ShelfMeaning) (ta
   pub fetched : AreFetched request wanted (MayBe before) problem certificate
   pub acceptance : IsAcceptedAs problem certificate named says
   pub truth : Says named.system says.claim
+  pub upgraded : wanted ≡ want.VersionTwo → IsAcceptedAs problem (accepted_text wanted named says) named (in_version 2 says)
   pub written : AppendsTo taken (accepted_text wanted named says) later
 
 -- what was written is a certificate that is accepted for the problem text, of a claim that a goal of the question has, and the

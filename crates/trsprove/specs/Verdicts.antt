@@ -1,12 +1,11 @@
 -- What is answered for a problem text and a certificate text.
 use Rattle.std.specs.Prelude.{◌≡◌, ◌≢◌, ℕ, true, false, List}
-use Rattle.sexp_core.specs.Printed.{lines}
 use Rattle.program_edge.specs.names_text.Named.{NamedSystem}
 use Rattle.ari_text.specs.Problem.{IsProblemRefused}
 use Rattle.ari_text.specs.declared.fault.AriFault.{AriFault}
 use Rattle.ari_text.specs.declared.fault.AriFault.TheVariants as ari
 use Rattle.program_edge.specs.conclusion.cert_text.ProofText.{ProofText}
-use Rattle.program_edge.specs.conclusion.cert_text.CertificateText.{version_two_items, fits_two}
+use Rattle.program_edge.specs.conclusion.cert_text.CertificateText.{version_two_text, fits_two}
 use Rattle.certifier.specs.declared.rejected.Rejected.{Rejected}
 use Rattle.certifier.specs.declared.rejected.Rejected.TheVariants as why
 use Rattle.certifier.specs.Acceptance.{IsAcceptedAs, IsRejection}
@@ -25,7 +24,7 @@ most_certificate_bytes = 8388608
 pub data IsWritten (named : NamedSystem) (says : ProofText) : Wanted → Status → List ℕ → Type 0 where
   with_claim : IsWritten named says want.Claim status.Answered (accepted_line says.claim)
   in_version_two : fits_two says ≡ true
-      → IsWritten named says want.VersionTwo status.Answered (lines (version_two_items named says))
+      → IsWritten named says want.VersionTwo status.Answered (version_two_text named says)
   too_heavy : fits_two says ≡ false → IsWritten named says want.VersionTwo status.Rejected too_heavy_line
 
 -- what is answered for a problem text and a certificate text, by what is wanted of a certificate that is accepted: a status,

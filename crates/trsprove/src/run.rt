@@ -42,7 +42,8 @@ pub fn run<R: Threads + Wait + Sync, S: Shelf, K: Sink, G: Gate>(
     ensures only { AnswersOnly (request_of (texts words.now)) (S.means shelf.old) result }
 
     // What is written is true of the system that the problem text says: the claim of a certificate
-    // that is accepted or was found, a report, or how completion ends.
+    // that is accepted or was found, a report, or how completion ends. A certificate that is
+    // written, found or in version 2, is accepted for the problem text.
     ensures truth { result ≡ Status.Answered → IsTrueAnswer (request_of (texts words.now))
         (S.means shelf.old) (K.means out.old) (K.means out.new) }
 
