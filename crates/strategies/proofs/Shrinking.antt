@@ -2,7 +2,7 @@
 use Rattle.std.specs.Prelude.{◌≡◌, ◌≢◌, ◌⊎◌, ℕ, ◌+◌, ◌-◌, ◌*◌, ◌<◌, ◌≤◌, Bool, true, false, List, [], ◌∷◌, ◌++◌, length, zip, Ok}
 use Rattle.std.specs.List.{AllByRecursion}
 use Rattle.std.specs.List.Sorted.{IsStrictlyIncreasing}
-use Rattle.std.proofs.Common.{zero, suc, inl, inr, refl, sym, ap, subst, arith, ◌∙◌, length-append}
+use Rattle.std.proofs.Common.{suc, inl, inr, refl, sym, ap, subst, arith, ◌∙◌, length-append}
 use native.Mathlib.Decide.{ℕ_discrete}
 use mathlib.Core.Logic.{dite}
 use Rattle.trs_defs.specs.Member.{In, in_first, in_rest}
@@ -20,7 +20,7 @@ use Rattle.cert_step.proofs.dp_core.PlacedLaws.{pairs_placed, paired_length}
 use Rattle.cert_step.proofs.dp_core.SubtermLaws.{collected_length}
 use Rattle.cert_step.specs.dp_graph.GroupOrSingle.{GroupOrSingle, group, single, all_members, groups_of, singles_of}
 use Rattle.cert_step.specs.dp_graph.GraphConditions.{are_new, none_is_missing}
-use Rattle.cert_step.proofs.dp_graph.ComponentLaws.{Ascends, no_numbers, number, ascends_of}
+use Rattle.cert_step.proofs.dp_graph.ComponentLaws.{Ascends, number, ascends_of}
 use Rattle.cert_step.specs.usable_rules.UsableConditions.{usable_conditions}
 use Rattle.cert_step.specs.ProofProblem as problem
 use Rattle.cert_step.specs.ProofProblem.{ProofProblem, IsWellMadeProblem}

@@ -1,13 +1,11 @@
 //! The strategy confluence.
 ghost use Rattle.std.specs.Prelude.{◌≡◌, ◌⊎◌, ℕ, IfOk};
 ghost use Rattle.cert_step.specs.ProofProblem.{problem_of, unr, unr_newman};
-ghost use Rattle.strategies.specs.Tables.{AreTablesOf};
 ghost use Rattle.strategies.specs.Truth.{AreTrueFindings};
 
 use crate::found::leaving;
-use crate::tables::Tables;
 use crate::{Findings, Strategy};
-use cert_step::{Problem, Step};
+use cert_step::{Prepared, Problem, Step};
 use std::alloc::Global;
 use trs_core::{OutOfMemory, Trs};
 
@@ -15,14 +13,14 @@ use trs_core::{OutOfMemory, Trs};
 pub(crate) fn search_confluence<'a>(
     alloc: Global,
     trs: &'a Trs,
-    tables: &mut Tables<'a>,
+    prepared: &mut Prepared<'a>,
     problem: &Problem,
 ) -> Result<Findings, OutOfMemory>
-    requires tables { AreTablesOf trs.now tables.old }
+    requires prepared { prepared.old ≡ trs.now }
     requires problem { (problem_of problem.now ≡ unr) ⊎ (problem_of problem.now ≡ unr_newman) }
     ensures answer { IfOk result (λ findings. (budget : ℕ) → AreTrueFindings
         trs.now budget Strategy.Confluence (problem_of problem.now) findings) }
-    ensures tables { AreTablesOf trs.now tables.new }
+    ensures prepared { prepared.new ≡ trs.now }
 {
-    leaving(alloc, &mut tables.prepared, problem, Step::Confluence)
+    leaving(alloc, prepared, problem, Step::Confluence)
 }

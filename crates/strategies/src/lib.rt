@@ -34,3 +34,4 @@ pub use ran::Ran;
 pub use run::run_strategy;
 pub use searcher::Searcher;
 pub use strategy::{Strategy, strategies_of};
+pub use tables::Tables;

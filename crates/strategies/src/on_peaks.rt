@@ -1,49 +1,50 @@
 //! The strategies on critical peaks.
-ghost use Rattle.std.specs.Prelude.{◌≡◌, ◌<◌, ◌≤◌, IfOk};
+ghost use Rattle.std.specs.Prelude.{◌≡◌, ◌<◌, ◌≤◌, IfOk, IfSome};
 ghost use Rattle.trs_defs.specs.Member.{In};
 ghost use Rattle.cert_step.specs.ProofProblem.{problem_of};
 ghost use Rattle.strategies.specs.Endings.{IsAnswer};
 ghost use Rattle.strategies.specs.Kinds.{strategies_for, IsOnPeaks};
-ghost use Rattle.strategies.specs.Tables.{AreTablesOf, AreKnownPeaks};
+ghost use Rattle.strategies.specs.Tables.{AreKnownPeaks};
 
 use crate::Strategy;
 use crate::fork::search_fork;
 use crate::label::search_label;
 use crate::newman::search_newman;
 use crate::parallel::search_parallel;
-use crate::peaks::KnownPeaks;
+use crate::peaks::{KnownPeaks, known_peaks};
 use crate::searched::Searched;
 use crate::split::search_split;
 use crate::strong::search_strong;
-use crate::tables::Tables;
 use assign_search::Stop;
 use cert_step::Problem;
 use std::alloc::Global;
 use trs_core::{OutOfMemory, Trs};
 
-/// What a strategy on critical peaks answers of a problem.
-pub(crate) fn search_on_peaks<'a, P: Stop>(
+/// What a strategy on critical peaks answers of a problem. The peaks are listed where they are not known.
+pub(crate) fn search_on_peaks<P: Stop>(
     alloc: Global,
-    trs: &'a Trs,
-    tables: &mut Tables<'a>,
+    trs: &Trs,
+    peaks: Option<&KnownPeaks>,
     problem: &Problem,
     strategy: Strategy,
     budget: u64,
     stop: &mut P,
 ) -> Result<Searched, OutOfMemory>
-    requires tables { AreTablesOf trs.now tables.old }
+    requires peaks { IfSome peaks (λ peaks. AreKnownPeaks trs.now peaks.now) }
     requires kind { In strategy (strategies_for (problem_of problem.now)) }
     requires on_peaks { IsOnPeaks strategy }
     ensures answer { IfOk result (IsAnswer trs.now budget strategy (problem_of problem.now)
         (P.stops stop.old < P.stops stop.new)) }
-    ensures tables { AreTablesOf trs.now tables.new }
     ensures later { P.stops stop.old ≤ P.stops stop.new }
     ensures kept { P.kept stop.new ≡ P.kept stop.old }
 {
-    let peaks = tables.take_peaks(alloc, trs)?;
-    let searched = search_peaks(alloc, trs, &peaks, problem, strategy, budget, stop);
-    tables.peaks = Some(peaks);
-    searched
+    match peaks {
+        Some(peaks) => search_peaks(alloc, trs, peaks, problem, strategy, budget, stop),
+        None => {
+            let peaks = known_peaks(alloc, trs)?;
+            search_peaks(alloc, trs, &peaks, problem, strategy, budget, stop)
+        }
+    }
 }
 
 /// The same, over the critical peaks.

@@ -1,23 +1,15 @@
 //! The strategy poly.
-ghost use Rattle.std.specs.Prelude.{◌≡◌, ◌<◌, ◌≤◌, All, IfOk, IsTrue, length};
-ghost use Rattle.std.specs.List.Sorted.{IsStrictlyIncreasing};
+ghost use Rattle.std.specs.Prelude.{◌≡◌, ◌<◌, ◌≤◌, IfOk, IsTrue};
 ghost use Rattle.pair_theory.specs.DependencyPair.{dependency_pairs};
-ghost use Rattle.order_find.specs.poly_find.Laws.{FindsPoly};
-ghost use Rattle.order_find.specs.poly_find.PolyRow.{poly_search};
-ghost use Rattle.order_find.specs.order_search.OrderOver.{search_of};
-ghost use Rattle.order_find.specs.order_search.OrderRow.{FailsOrder};
-ghost use Rattle.order_find.specs.order_search.Outcome.{IsFinding, IsNotThere, IsSpent};
 ghost use Rattle.cert_step.specs.OnPairs.{for_pairs};
 ghost use Rattle.cert_step.specs.ProofProblem.{problem_of, IsWellMadeProblem};
 ghost use Rattle.strategies.specs.Endings.{IsAnswer};
-ghost use Rattle.strategies.specs.Tables.{AreTablesOf};
 
 use crate::found::leaving;
 use crate::searched::Searched;
-use crate::tables::Tables;
 use crate::{Findings, Strategy};
 use assign_search::{Search, Stop};
-use cert_step::{AnyOrder, LinTable, Problem, Step};
+use cert_step::{AnyOrder, Pairs, Prepared, Problem, Step};
 use order_find::{find_poly_in, found_interpretations_apply};
 use std::alloc::Global;
 use trs_core::{OutOfMemory, Trs};
@@ -26,17 +18,19 @@ use trs_core::{OutOfMemory, Trs};
 pub(crate) fn search_poly<'a, P: Stop>(
     alloc: Global,
     trs: &'a Trs,
-    tables: &mut Tables<'a>,
+    pairs: &Pairs,
+    prepared: &mut Prepared<'a>,
     problem: &Problem,
     budget: u64,
     stop: &mut P,
 ) -> Result<Searched, OutOfMemory>
-    requires tables { AreTablesOf trs.now tables.old }
-    requires pairs { IsTrue (for_pairs (problem_of problem.now)) }
+    requires pairs { pairs.now ≡ dependency_pairs trs.now.rules }
+    requires prepared { prepared.old ≡ trs.now }
+    requires on_pairs { IsTrue (for_pairs (problem_of problem.now)) }
     requires well_made { IsWellMadeProblem trs.now (problem_of problem.now) }
     ensures answer { IfOk result (IsAnswer trs.now budget Strategy.Poly (problem_of problem.now)
         (P.stops stop.old < P.stops stop.new)) }
-    ensures tables { AreTablesOf trs.now tables.new }
+    ensures prepared { prepared.new ≡ trs.now }
     ensures later { P.stops stop.old ≤ P.stops stop.new }
     ensures kept { P.kept stop.new ≡ P.kept stop.old }
 {
@@ -45,41 +39,14 @@ pub(crate) fn search_poly<'a, P: Stop>(
     };
     let _rules = trs.rules();
     found_interpretations_apply();
-    match interpretation(alloc, trs, tables, numbers, budget, stop)? {
+    match find_poly_in(alloc, trs, pairs, numbers, budget, stop)? {
         Search::Found(found) => {
             let step = Step::Order(AnyOrder::Poly(found));
-            let findings = leaving(alloc, &mut tables.prepared, problem, step)?;
+            let findings = leaving(alloc, prepared, problem, step)?;
             Ok(Searched::Ended(findings))
         }
         Search::NotThere => Ok(Searched::Ended(Findings::NotThere)),
         Search::Spent => Ok(Searched::Ended(Findings::Spent)),
         Search::Stopped => Ok(Searched::Stopped),
     }
-}
-
-/// The interpretation that is found over the pairs of the system, which are made once.
-fn interpretation<'a, P: Stop>(
-    alloc: Global,
-    trs: &'a Trs,
-    tables: &mut Tables<'a>,
-    numbers: &[u32],
-    budget: u64,
-    stop: &mut P,
-) -> Result<Search<LinTable>, OutOfMemory>
-    requires tables { AreTablesOf trs.now tables.old }
-    requires ascending { IsStrictlyIncreasing numbers.now }
-    requires numbers { All (λ n. n < length (dependency_pairs trs.now.rules)) numbers.now }
-    ensures answer { IfOk result (IsFinding
-        (λ order. FindsPoly trs.now numbers.now budget order)
-        (FailsOrder trs.now numbers.now (search_of poly_search trs.now) (IsNotThere budget))
-        (FailsOrder trs.now numbers.now (search_of poly_search trs.now) (IsSpent budget))
-        (P.stops stop.old < P.stops stop.new)) }
-    ensures tables { AreTablesOf trs.now tables.new }
-    ensures later { P.stops stop.old ≤ P.stops stop.new }
-    ensures kept { P.kept stop.new ≡ P.kept stop.old }
-{
-    let pairs = tables.take_pairs(alloc, trs)?;
-    let found = find_poly_in(alloc, trs, &pairs, numbers, budget, stop);
-    tables.pairs = Some(pairs);
-    found
 }

@@ -3,7 +3,6 @@ ghost use Rattle.trs_defs.specs.Member.{In};
 ghost use Rattle.cert_step.specs.ProofProblem.{problem_of, IsWellMadeProblem};
 ghost use Rattle.strategies.specs.Endings.{IsAnswer, IfEnded, IfStopped};
 ghost use Rattle.strategies.specs.Kinds.{strategies_for};
-ghost use Rattle.strategies.specs.Tables.{AreTablesOf};
 
 use crate::confluence::search_confluence;
 use crate::dp::search_dp;
@@ -20,13 +19,13 @@ use crate::tables::Tables;
 use crate::usable::search_usable;
 use crate::{Limits, Ran, Strategy};
 use assign_search::Stop;
-use cert_step::Problem;
+use cert_step::{Prepared, Problem};
 use std::alloc::Global;
 use trs_core::{OutOfMemory, Trs};
 
 /// Runs a strategy on a problem of a system. It ends with an outcome, which is true by its type, or
 /// it was stopped, and then the count of stops rose. Where several strategies are run on one system,
-/// a `Searcher` makes what they look up once.
+/// make its `Tables` once, and run them by a `Searcher`.
 pub fn run_strategy<'a, P: Stop>(
     alloc: Global,
     trs: &'a Trs,
@@ -45,7 +44,8 @@ pub fn run_strategy<'a, P: Stop>(
     ensures later { P.stops stop.old ≤ P.stops stop.new }
     ensures kept { P.kept stop.new ≡ P.kept stop.old }
 {
-    let mut searcher = Searcher::new(trs);
+    let tables = Tables::new(alloc, trs)?;
+    let mut searcher = Searcher::new(&tables);
     searcher.run(alloc, problem, strategy, limits, stop)
 }
 
@@ -53,31 +53,34 @@ pub fn run_strategy<'a, P: Stop>(
 pub(crate) fn search<'a, P: Stop>(
     alloc: Global,
     trs: &'a Trs,
-    tables: &mut Tables<'a>,
+    tables: &Tables<'a>,
+    prepared: &mut Prepared<'a>,
     problem: &Problem,
     strategy: Strategy,
     budget: u64,
     stop: &mut P,
 ) -> Result<Searched, OutOfMemory>
-    requires tables { AreTablesOf trs.now tables.old }
+    requires tables { tables.now ≡ trs.now }
+    requires prepared { prepared.old ≡ trs.now }
     requires problem { IsWellMadeProblem trs.now (problem_of problem.now) }
     requires kind { In strategy (strategies_for (problem_of problem.now)) }
     ensures answer { IfOk result (IsAnswer trs.now budget strategy (problem_of problem.now)
         (P.stops stop.old < P.stops stop.new)) }
-    ensures tables { AreTablesOf trs.now tables.new }
+    ensures prepared { prepared.new ≡ trs.now }
     ensures later { P.stops stop.old ≤ P.stops stop.new }
     ensures kept { P.kept stop.new ≡ P.kept stop.old }
 {
+    let pairs = tables.pairs();
     match strategy {
-        Strategy::Dp => ended(search_dp(alloc, trs, tables, problem)),
-        Strategy::Graph => ended(search_graph(alloc, trs, tables, problem)),
-        Strategy::Subterm => search_subterm(alloc, trs, tables, problem, budget, stop),
-        Strategy::Poly => search_poly(alloc, trs, tables, problem, budget, stop),
-        Strategy::Lpo => search_lpo(alloc, trs, tables, problem, budget, stop),
-        Strategy::Kbo => search_kbo(alloc, trs, tables, problem, budget, stop),
-        Strategy::Usable => search_usable(alloc, trs, tables, problem, budget, stop),
+        Strategy::Dp => ended(search_dp(alloc, trs, prepared, problem)),
+        Strategy::Graph => ended(search_graph(alloc, trs, tables.graph(), prepared, problem)),
+        Strategy::Subterm => search_subterm(alloc, trs, pairs, prepared, problem, budget, stop),
+        Strategy::Poly => search_poly(alloc, trs, pairs, prepared, problem, budget, stop),
+        Strategy::Lpo => search_lpo(alloc, trs, pairs, prepared, problem, budget, stop),
+        Strategy::Kbo => search_kbo(alloc, trs, pairs, prepared, problem, budget, stop),
+        Strategy::Usable => search_usable(alloc, trs, pairs, prepared, problem, budget, stop),
         Strategy::Loop => search_loop(alloc, trs, budget, stop),
-        Strategy::Confluence => ended(search_confluence(alloc, trs, tables, problem)),
-        _ => search_on_peaks(alloc, trs, tables, problem, strategy, budget, stop),
+        Strategy::Confluence => ended(search_confluence(alloc, trs, prepared, problem)),
+        _ => search_on_peaks(alloc, trs, tables.peaks(), problem, strategy, budget, stop),
     }
 }

@@ -9,40 +9,39 @@ use crate::searched::Searched;
 use crate::tables::Tables;
 use crate::{Limits, Outcome, Ran, Strategy};
 use assign_search::Stop;
-use cert_step::Problem;
+use cert_step::{Prepared, Problem};
 use std::alloc::Global;
 use std::marker::Model;
-use trs_core::{OutOfMemory, Trs};
+use trs_core::OutOfMemory;
 
-/// A system, and what strategies look up in it: its dependency pairs, their graph and its critical
-/// peaks, each made once for all strategies that are run. Contracts see the system.
+/// What runs strategies on a system, over tables that it was lent. Contracts see the system.
 #[derive(Drop)]
-pub struct Searcher<'a> {
-    trs: &'a Trs,
-    tables: Tables<'a>,
+pub struct Searcher<'t, 'a> {
+    tables: &'t Tables<'a>,
+    prepared: Prepared<'a>,
 }
 
-impl<'a> Model for Searcher<'a> {
+impl<'t, 'a> Model for Searcher<'t, 'a> {
+    ghost use Rattle.std.specs.Prelude.{◌≡◌};
     ghost use Rattle.trs_defs.specs.System.{System, system_code};
-    ghost use Rattle.strategies.specs.Tables.{AreTablesOf};
 
     ghost Value = { System };
 
     ghost coded = { system_code };
 
-    ghost view = { λ a. a.trs.now };
+    ghost view = { λ a. a.tables.now };
 
-    ghost invariant = { λ a. AreTablesOf a.trs.now a.tables };
+    ghost invariant = { λ a. a.prepared ≡ a.tables.now };
 }
 
-impl<'a> Searcher<'a> {
-    /// Nothing is made yet.
-    pub fn new(trs: &'a Trs) -> Searcher<'a>
-        ensures { result ≡ trs.now }
+impl<'t, 'a> Searcher<'t, 'a> {
+    /// A searcher to which the tables are lent.
+    pub fn new(tables: &'t Tables<'a>) -> Searcher<'t, 'a>
+        ensures { result ≡ tables.now }
     {
         Searcher {
-            trs,
-            tables: Tables::new(trs),
+            tables,
+            prepared: Prepared::new(tables.system()),
         }
     }
 
@@ -66,11 +65,13 @@ impl<'a> Searcher<'a> {
         ensures later { P.stops stop.old ≤ P.stops stop.new }
         ensures kept { P.kept stop.new ≡ P.kept stop.old }
     {
+        let trs = self.tables.system();
         let budget = limits.budget;
         let searched = search(
             alloc,
-            self.trs,
-            &mut self.tables,
+            trs,
+            self.tables,
+            &mut self.prepared,
             problem,
             strategy,
             budget,
@@ -79,7 +80,7 @@ impl<'a> Searcher<'a> {
         match searched {
             Searched::Ended(findings) => {
                 let problem = problem.copy(alloc)?;
-                let outcome = Outcome::new(self.trs, *limits, problem, strategy, findings);
+                let outcome = Outcome::new(trs, *limits, problem, strategy, findings);
                 Ok(Ran::Ended(outcome))
             }
             Searched::Stopped => Ok(Ran::Stopped),

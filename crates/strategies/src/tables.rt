@@ -1,80 +1,83 @@
-ghost use Rattle.std.specs.Prelude.{◌≡◌, IfOk};
+ghost use Rattle.std.specs.Prelude.{◌≡◌, IfOk, IfSome};
 ghost use Rattle.pair_theory.specs.DependencyPair.{dependency_pairs};
-ghost use Rattle.strategies.specs.Tables.{AreTablesOf, AreKnownPeaks};
+ghost use Rattle.strategies.specs.Tables.{AreKnownPeaks};
 
 use crate::peaks::{KnownPeaks, known_peaks};
-use cert_step::{PairGraph, Pairs, Prepared};
+use cert_step::{PairGraph, Pairs};
 use std::alloc::Global;
+use std::marker::Model;
 use trs_core::{OutOfMemory, Trs};
 
-/// The dependency pairs of a system, their graph and its critical peaks, each made at the first
-/// strategy that looks into it, and what found steps look up.
+/// What strategies look up in a system: its dependency pairs, their graph and, where they were asked
+/// for, its critical peaks. They are made once, and lent to all who search. Contracts see the system.
 #[derive(Drop)]
-pub(crate) struct Tables<'a> {
-    pub(crate) pairs: Option<Pairs<'a>>,
-    pub(crate) graph: Option<PairGraph<'a>>,
-    pub(crate) peaks: Option<KnownPeaks>,
-    pub(crate) prepared: Prepared<'a>,
+pub struct Tables<'a> {
+    trs: &'a Trs,
+    pairs: Pairs<'a>,
+    graph: PairGraph<'a>,
+    peaks: Option<KnownPeaks>,
+}
+
+impl<'a> Model for Tables<'a> {
+    ghost use Rattle.trs_defs.specs.System.{System, system_code};
+    ghost use Rattle.strategies.specs.Tables.{AreTablesOf};
+
+    ghost Value = { System };
+
+    ghost coded = { system_code };
+
+    ghost view = { λ a. a.trs.now };
+
+    ghost invariant = { λ a. AreTablesOf a.trs.now a.pairs a.graph a.peaks };
 }
 
 impl<'a> Tables<'a> {
-    /// Nothing is made yet.
-    pub(crate) fn new(trs: &'a Trs) -> Tables<'a>
-        ensures { AreTablesOf trs.now result }
+    /// The pairs and their graph. A strategy on critical peaks lists the peaks each time that it runs.
+    pub fn new(alloc: Global, trs: &'a Trs) -> Result<Tables<'a>, OutOfMemory>
+        ensures { IfOk result (λ tables. tables ≡ trs.now) }
     {
-        Tables {
-            pairs: None,
-            graph: None,
+        Ok(Tables {
+            trs,
+            pairs: Pairs::new(alloc, trs)?,
+            graph: PairGraph::new(alloc, trs)?,
             peaks: None,
-            prepared: Prepared::new(trs),
-        }
+        })
     }
 
-    /// Takes the pairs out, which are made where they are not there. To be put back.
-    pub(crate) fn take_pairs(
-        &mut self,
-        alloc: Global,
-        trs: &'a Trs,
-    ) -> Result<Pairs<'a>, OutOfMemory>
-        requires { AreTablesOf trs.now self.old }
-        ensures pairs { IfOk result (λ pairs. pairs ≡ dependency_pairs trs.now.rules) }
-        ensures tables { AreTablesOf trs.now self.new }
+    /// The pairs, their graph and the critical peaks.
+    pub fn with_peaks(alloc: Global, trs: &'a Trs) -> Result<Tables<'a>, OutOfMemory>
+        ensures { IfOk result (λ tables. tables ≡ trs.now) }
     {
-        match self.pairs.take() {
-            Some(pairs) => Ok(pairs),
-            None => Pairs::new(alloc, trs),
-        }
+        let mut tables = Tables::new(alloc, trs)?;
+        tables.peaks = Some(known_peaks(alloc, trs)?);
+        Ok(tables)
     }
 
-    /// Takes the graph out, which is made where it is not there. To be put back.
-    pub(crate) fn take_graph(
-        &mut self,
-        alloc: Global,
-        trs: &'a Trs,
-    ) -> Result<PairGraph<'a>, OutOfMemory>
-        requires { AreTablesOf trs.now self.old }
-        ensures graph { IfOk result (λ graph. graph ≡ trs.now) }
-        ensures tables { AreTablesOf trs.now self.new }
+    /// The system.
+    pub(crate) fn system(&self) -> &'a Trs
+        ensures { result.now ≡ self.now }
     {
-        match self.graph.take() {
-            Some(graph) => Ok(graph),
-            None => PairGraph::new(alloc, trs),
-        }
+        self.trs
     }
 
-    /// Takes the critical peaks out, which are listed where they are not there. To be put back.
-    pub(crate) fn take_peaks(
-        &mut self,
-        alloc: Global,
-        trs: &'a Trs,
-    ) -> Result<KnownPeaks, OutOfMemory>
-        requires { AreTablesOf trs.now self.old }
-        ensures peaks { IfOk result (AreKnownPeaks trs.now) }
-        ensures tables { AreTablesOf trs.now self.new }
+    /// The dependency pairs.
+    pub(crate) fn pairs(&self) -> &Pairs<'a>
+        ensures { result.now ≡ dependency_pairs self.now.rules }
     {
-        match self.peaks.take() {
-            Some(peaks) => Ok(peaks),
-            None => known_peaks(alloc, trs),
-        }
+        &self.pairs
+    }
+
+    /// Their graph.
+    pub(crate) fn graph(&self) -> &PairGraph<'a>
+        ensures { result.now ≡ self.now }
+    {
+        &self.graph
+    }
+
+    /// The critical peaks, where they were asked for.
+    pub(crate) fn peaks(&self) -> Option<&KnownPeaks>
+        ensures { IfSome result (λ peaks. AreKnownPeaks self.now peaks.now) }
+    {
+        self.peaks.as_ref()
     }
 }

@@ -11,6 +11,6 @@ pub use laws::{opposite_claims_are_not_both_won, replays_are_one, won_claims_are
 pub use tree::Tree;
 pub use tree_state::{
     Aborted, Claim, Claimed, Findings, GoalReport, GraphItem, Join, Limits, Mark, NodeStep,
-    Outcome, Polled, Posted, Problem, Question, Ran, Report, Searcher, Step, Strategy, Task,
-    Ticket, Verdict, run_strategy, strategies_of,
+    Outcome, Polled, Posted, Problem, Question, Ran, Report, Searcher, Step, Strategy, Tables,
+    Task, Ticket, Verdict, run_strategy, strategies_of,
 };

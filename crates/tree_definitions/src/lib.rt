@@ -14,6 +14,6 @@ pub use question::Question;
 pub use report::{GoalReport, Report};
 pub use strategies::{
     Claim, Findings, GraphItem, Join, Limits, NodeStep, Outcome, Problem, Proof, Ran, Searcher,
-    Step, Strategy, run_strategy, strategies_of,
+    Step, Strategy, Tables, run_strategy, strategies_of,
 };
 pub use ticket::Ticket;

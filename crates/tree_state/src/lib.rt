@@ -18,6 +18,6 @@ pub use entry::Event;
 pub use goal::Goal;
 pub use tree_definitions::{
     Aborted, Claim, Claimed, Findings, GoalReport, GraphItem, Join, Limits, Mark, NodeStep,
-    Outcome, Polled, Posted, Problem, Proof, Question, Ran, Report, Searcher, Step, Strategy, Task,
-    Ticket, Verdict, run_strategy, strategies_of,
+    Outcome, Polled, Posted, Problem, Proof, Question, Ran, Report, Searcher, Step, Strategy,
+    Tables, Task, Ticket, Verdict, run_strategy, strategies_of,
 };

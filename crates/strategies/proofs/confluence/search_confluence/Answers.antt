@@ -8,10 +8,10 @@ use Rattle.strategies.proofs.confluence.search_confluence.Goals as goal
 
 pub leaving-requires-clause-applies : goal.leaving-requires-clause-applies
 leaving-requires-clause-applies c =
-    subst (λ s. DoesApply s (problem_of c.args.problem.now) step.confluence) (sym c.requires.tables.prepared)
+    subst (λ s. DoesApply s (problem_of c.args.problem.now) step.confluence) (sym c.requires.prepared)
     (confluence_applies c.args.trs.now (problem_of c.args.problem.now) c.requires.problem)
 
 pub returns-clause-answer : goal.returns-clause-answer
 returns-clause-answer c =
-    found_always c.args.tables.now.prepared c.args.trs.now strategy.Confluence (problem_of c.args.problem.now) step.confluence c.leaving.result
-    c.requires.tables.prepared (λ budget. confluence_found c.args.trs.now budget (problem_of c.args.problem.now) c.requires.problem) c.leaving.ensures.is_true
+    found_always c.args.prepared.now c.args.trs.now strategy.Confluence (problem_of c.args.problem.now) step.confluence c.leaving.result
+    c.requires.prepared (λ budget. confluence_found c.args.trs.now budget (problem_of c.args.problem.now) c.requires.problem) c.leaving.ensures.is_true

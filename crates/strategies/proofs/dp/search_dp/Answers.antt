@@ -9,10 +9,10 @@ use Rattle.strategies.proofs.dp.search_dp.Goals as goal
 
 pub leaving-requires-clause-applies : goal.leaving-requires-clause-applies
 leaving-requires-clause-applies c =
-    subst (λ s. DoesApply s (problem_of c.args.problem.now) step.dp) (sym c.requires.tables.prepared)
+    subst (λ s. DoesApply s (problem_of c.args.problem.now) step.dp) (sym c.requires.prepared)
     (subst (λ p. DoesApply c.args.trs.now p step.dp) (sym c.requires.problem) (dp_applies c.args.trs.now))
 
 pub returns-clause-answer : goal.returns-clause-answer
 returns-clause-answer c =
-    found_always c.args.tables.now.prepared c.args.trs.now strategy.Dp (problem_of c.args.problem.now) step.dp c.leaving.result c.requires.tables.prepared
+    found_always c.args.prepared.now c.args.trs.now strategy.Dp (problem_of c.args.problem.now) step.dp c.leaving.result c.requires.prepared
     (λ budget. subst (λ p. Finds c.args.trs.now budget strategy.Dp p step.dp) (sym c.requires.problem) dp_is_found) c.leaving.ensures.is_true

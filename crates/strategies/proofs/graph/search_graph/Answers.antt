@@ -16,38 +16,38 @@ pub returns-then-is_all-clause-answer : goal.returns-then-is_all-clause-answer
 returns-then-is_all-clause-answer c = λ budget.
     (let all = ap items_of (sym c.deref-2.ensures.value) ∙ (c.is_all.ensures.0 c.if-is_all.true ∙ ap (λ l. group l ∷ []) (c.deref-3.ensures.value ∙ sym c.deref.ensures.value)) in
     failed_for c.args.trs.now budget strategy.Graph (problem_of c.args.problem.now) (problem.dp c.deref.result.now) false (ap problem_of c.in-Dp.is ∙ ap (λ l. problem.dp l) (sym c.deref.ensures.value))
-    (graph_is_not_there (subst (AreComponentsOf c.args.trs.now c.deref.result.now) all c.in_ok-items.ensures.components)))
+    (graph_is_not_there (subst (AreComponentsOf c.args.trs.now c.deref.result.now) all (rw c.requires.graph at c.in_ok-items.ensures))))
 
 pub leaving-requires-clause-step : goal.leaving-requires-clause-step
 leaving-requires-clause-step c =
-    let are = c.in_ok-items.ensures.components in
+    let are = rw c.requires.graph at c.in_ok-items.ensures in
     let split : (items_of c.in_ok-items.items.items) ≡ group c.deref.result.now ∷ [] → ⊥ = λ e.
     split_by c.is_all.result c.if-is_all.false
     (c.is_all.ensures.1 (ap items_of c.deref-2.ensures.value ∙ (e ∙ ap (λ l. group l ∷ []) (c.deref.ensures.value ∙ sym c.deref-3.ensures.value)))) in
-    (ready c.components.new.tables.prepared c.args.trs.now 0 strategy.Graph (problem_of c.args.problem.now) (problem.dp c.deref.result.now) (step.graph (items_of c.in_ok-items.items.items))
-    c.components.ensures.tables.prepared (ap problem_of c.in-Dp.is ∙ ap (λ l. problem.dp l) (sym c.deref.ensures.value)) (graph_is_found (record { components = are; split = split }))
+    (ready c.args.prepared.now c.args.trs.now 0 strategy.Graph (problem_of c.args.problem.now) (problem.dp c.deref.result.now) (step.graph (items_of c.in_ok-items.items.items))
+    c.requires.prepared (ap problem_of c.in-Dp.is ∙ ap (λ l. problem.dp l) (sym c.deref.ensures.value)) (graph_is_found (record { components = are; split = split }))
     (items_made c.args.trs.now.rules (dependency_pairs c.args.trs.now.rules) c.deref.result.now (items_of c.in_ok-items.items.items) are.components)
     (graph_applies c.args.trs.now c.deref.result.now (items_of c.in_ok-items.items.items) c.components_pass.ensures are)).made
 
 pub leaving-requires-clause-applies : goal.leaving-requires-clause-applies
 leaving-requires-clause-applies c =
-    let are = c.in_ok-items.ensures.components in
+    let are = rw c.requires.graph at c.in_ok-items.ensures in
     let split : (items_of c.in_ok-items.items.items) ≡ group c.deref.result.now ∷ [] → ⊥ = λ e.
     split_by c.is_all.result c.if-is_all.false
     (c.is_all.ensures.1 (ap items_of c.deref-2.ensures.value ∙ (e ∙ ap (λ l. group l ∷ []) (c.deref.ensures.value ∙ sym c.deref-3.ensures.value)))) in
-    (ready c.components.new.tables.prepared c.args.trs.now 0 strategy.Graph (problem_of c.args.problem.now) (problem.dp c.deref.result.now) (step.graph (items_of c.in_ok-items.items.items))
-    c.components.ensures.tables.prepared (ap problem_of c.in-Dp.is ∙ ap (λ l. problem.dp l) (sym c.deref.ensures.value)) (graph_is_found (record { components = are; split = split }))
+    (ready c.args.prepared.now c.args.trs.now 0 strategy.Graph (problem_of c.args.problem.now) (problem.dp c.deref.result.now) (step.graph (items_of c.in_ok-items.items.items))
+    c.requires.prepared (ap problem_of c.in-Dp.is ∙ ap (λ l. problem.dp l) (sym c.deref.ensures.value)) (graph_is_found (record { components = are; split = split }))
     (items_made c.args.trs.now.rules (dependency_pairs c.args.trs.now.rules) c.deref.result.now (items_of c.in_ok-items.items.items) are.components)
     (graph_applies c.args.trs.now c.deref.result.now (items_of c.in_ok-items.items.items) c.components_pass.ensures are)).applies
 
 pub returns-clause-answer : goal.returns-clause-answer
 returns-clause-answer c =
-    let are = c.in_ok-items.ensures.components in
+    let are = rw c.requires.graph at c.in_ok-items.ensures in
     let split : (items_of c.in_ok-items.items.items) ≡ group c.deref.result.now ∷ [] → ⊥ = λ e.
     split_by c.is_all.result c.if-is_all.false
     (c.is_all.ensures.1 (ap items_of c.deref-2.ensures.value ∙ (e ∙ ap (λ l. group l ∷ []) (c.deref.ensures.value ∙ sym c.deref-3.ensures.value)))) in
-    found_always c.components.new.tables.prepared c.args.trs.now strategy.Graph (problem_of c.args.problem.now) (step.graph (items_of c.in_ok-items.items.items)) c.leaving.result
-    c.components.ensures.tables.prepared (λ budget. (ready c.components.new.tables.prepared c.args.trs.now budget strategy.Graph (problem_of c.args.problem.now) (problem.dp c.deref.result.now) (step.graph (items_of c.in_ok-items.items.items))
-    c.components.ensures.tables.prepared (ap problem_of c.in-Dp.is ∙ ap (λ l. problem.dp l) (sym c.deref.ensures.value)) (graph_is_found (record { components = are; split = split }))
+    found_always c.args.prepared.now c.args.trs.now strategy.Graph (problem_of c.args.problem.now) (step.graph (items_of c.in_ok-items.items.items)) c.leaving.result
+    c.requires.prepared (λ budget. (ready c.args.prepared.now c.args.trs.now budget strategy.Graph (problem_of c.args.problem.now) (problem.dp c.deref.result.now) (step.graph (items_of c.in_ok-items.items.items))
+    c.requires.prepared (ap problem_of c.in-Dp.is ∙ ap (λ l. problem.dp l) (sym c.deref.ensures.value)) (graph_is_found (record { components = are; split = split }))
     (items_made c.args.trs.now.rules (dependency_pairs c.args.trs.now.rules) c.deref.result.now (items_of c.in_ok-items.items.items) are.components)
     (graph_applies c.args.trs.now c.deref.result.now (items_of c.in_ok-items.items.items) c.components_pass.ensures are)).finds) c.leaving.ensures.is_true

@@ -11,26 +11,26 @@ use Rattle.strategies.proofs.poly.search_poly.Goals as goal
 pub leaving-requires-clause-step : goal.leaving-requires-clause-step
 leaving-requires-clause-step g c =
     let h = rw c.in-Found.is at c.in_ok-found.ensures.answer in
-    (ready c.interpretation.new.tables.prepared c.args.trs.now c.args.budget strategy.Poly (problem_of c.args.problem.now) (problem.dp c.deref.result.now) (step.poly c.in-Found.found)
-    c.interpretation.ensures.tables.prepared (ap problem_of c.in-Dp.is ∙ ap (λ l. problem.dp l) (sym c.deref.ensures.value)) (poly_is_found h)
+    (ready c.args.prepared.now c.args.trs.now c.args.budget strategy.Poly (problem_of c.args.problem.now) (problem.dp c.deref.result.now) (step.poly c.in-Found.found)
+    c.requires.prepared (ap problem_of c.in-Dp.is ∙ ap (λ l. problem.dp l) (sym c.deref.ensures.value)) (poly_is_found h)
     (linear_made c.args.trs.now c.rules-rules.ensures.valid c.rules-rules.ensures.limits.symbols c.deref.result.now c.args.budget c.in-Found.found h)
     (poly_applies c.args.trs.now c.deref.result.now c.in-Found.found (c.found_interpretations_apply.ensures c.args.trs.now c.deref.result.now c.args.budget c.in-Found.found c.rules-rules.ensures.valid c.rules-rules.ensures.limits.symbols h))).made
 
 pub leaving-requires-clause-applies : goal.leaving-requires-clause-applies
 leaving-requires-clause-applies g c =
     let h = rw c.in-Found.is at c.in_ok-found.ensures.answer in
-    (ready c.interpretation.new.tables.prepared c.args.trs.now c.args.budget strategy.Poly (problem_of c.args.problem.now) (problem.dp c.deref.result.now) (step.poly c.in-Found.found)
-    c.interpretation.ensures.tables.prepared (ap problem_of c.in-Dp.is ∙ ap (λ l. problem.dp l) (sym c.deref.ensures.value)) (poly_is_found h)
+    (ready c.args.prepared.now c.args.trs.now c.args.budget strategy.Poly (problem_of c.args.problem.now) (problem.dp c.deref.result.now) (step.poly c.in-Found.found)
+    c.requires.prepared (ap problem_of c.in-Dp.is ∙ ap (λ l. problem.dp l) (sym c.deref.ensures.value)) (poly_is_found h)
     (linear_made c.args.trs.now c.rules-rules.ensures.valid c.rules-rules.ensures.limits.symbols c.deref.result.now c.args.budget c.in-Found.found h)
     (poly_applies c.args.trs.now c.deref.result.now c.in-Found.found (c.found_interpretations_apply.ensures c.args.trs.now c.deref.result.now c.args.budget c.in-Found.found c.rules-rules.ensures.valid c.rules-rules.ensures.limits.symbols h))).applies
 
 pub returns-in_ok-findings-in-Found-clause-answer : goal.returns-in_ok-findings-in-Found-clause-answer
 returns-in_ok-findings-in-Found-clause-answer g c =
     let h = rw c.in-Found.is at c.in_ok-found.ensures.answer in
-    found_for c.interpretation.new.tables.prepared c.args.trs.now c.args.budget strategy.Poly (problem_of c.args.problem.now) (step.poly c.in-Found.found) c.in_ok-findings-in-Found.findings
-    c.interpretation.ensures.tables.prepared c.in_ok-findings-in-Found.ensures.is_true
-    (ready c.interpretation.new.tables.prepared c.args.trs.now c.args.budget strategy.Poly (problem_of c.args.problem.now) (problem.dp c.deref.result.now) (step.poly c.in-Found.found)
-    c.interpretation.ensures.tables.prepared (ap problem_of c.in-Dp.is ∙ ap (λ l. problem.dp l) (sym c.deref.ensures.value)) (poly_is_found h)
+    found_for c.args.prepared.now c.args.trs.now c.args.budget strategy.Poly (problem_of c.args.problem.now) (step.poly c.in-Found.found) c.in_ok-findings-in-Found.findings
+    c.requires.prepared c.in_ok-findings-in-Found.ensures.is_true
+    (ready c.args.prepared.now c.args.trs.now c.args.budget strategy.Poly (problem_of c.args.problem.now) (problem.dp c.deref.result.now) (step.poly c.in-Found.found)
+    c.requires.prepared (ap problem_of c.in-Dp.is ∙ ap (λ l. problem.dp l) (sym c.deref.ensures.value)) (poly_is_found h)
     (linear_made c.args.trs.now c.rules-rules.ensures.valid c.rules-rules.ensures.limits.symbols c.deref.result.now c.args.budget c.in-Found.found h)
     (poly_applies c.args.trs.now c.deref.result.now c.in-Found.found (c.found_interpretations_apply.ensures c.args.trs.now c.deref.result.now c.args.budget c.in-Found.found c.rules-rules.ensures.valid c.rules-rules.ensures.limits.symbols h))).finds
 

@@ -14,20 +14,20 @@ search_confluence-requires-clause-problem g c = is_for_this (problem_of c.args.p
 pub search_graph-requires-clause-pairs : goal.search_graph-requires-clause-pairs
 search_graph-requires-clause-pairs g c = is_for_this (problem_of c.args.problem.now) c.args.strategy strategy.Graph c.requires.kind c.in-Graph.is
 
-pub search_subterm-requires-clause-pairs : goal.search_subterm-requires-clause-pairs
-search_subterm-requires-clause-pairs g c = is_for_this (problem_of c.args.problem.now) c.args.strategy strategy.Subterm c.requires.kind c.in-Subterm.is
+pub search_subterm-requires-clause-on_pairs : goal.search_subterm-requires-clause-on_pairs
+search_subterm-requires-clause-on_pairs g c = is_for_this (problem_of c.args.problem.now) c.args.strategy strategy.Subterm c.requires.kind c.in-Subterm.is
 
-pub search_poly-requires-clause-pairs : goal.search_poly-requires-clause-pairs
-search_poly-requires-clause-pairs g c = is_for_this (problem_of c.args.problem.now) c.args.strategy strategy.Poly c.requires.kind c.in-Poly.is
+pub search_poly-requires-clause-on_pairs : goal.search_poly-requires-clause-on_pairs
+search_poly-requires-clause-on_pairs g c = is_for_this (problem_of c.args.problem.now) c.args.strategy strategy.Poly c.requires.kind c.in-Poly.is
 
-pub search_lpo-requires-clause-pairs : goal.search_lpo-requires-clause-pairs
-search_lpo-requires-clause-pairs g c = is_for_this (problem_of c.args.problem.now) c.args.strategy strategy.Lpo c.requires.kind c.in-Lpo.is
+pub search_lpo-requires-clause-on_pairs : goal.search_lpo-requires-clause-on_pairs
+search_lpo-requires-clause-on_pairs g c = is_for_this (problem_of c.args.problem.now) c.args.strategy strategy.Lpo c.requires.kind c.in-Lpo.is
 
-pub search_kbo-requires-clause-pairs : goal.search_kbo-requires-clause-pairs
-search_kbo-requires-clause-pairs g c = is_for_this (problem_of c.args.problem.now) c.args.strategy strategy.Kbo c.requires.kind c.in-Kbo.is
+pub search_kbo-requires-clause-on_pairs : goal.search_kbo-requires-clause-on_pairs
+search_kbo-requires-clause-on_pairs g c = is_for_this (problem_of c.args.problem.now) c.args.strategy strategy.Kbo c.requires.kind c.in-Kbo.is
 
-pub search_usable-requires-clause-pairs : goal.search_usable-requires-clause-pairs
-search_usable-requires-clause-pairs g c = is_for_this (problem_of c.args.problem.now) c.args.strategy strategy.Usable c.requires.kind c.in-Usable.is
+pub search_usable-requires-clause-on_pairs : goal.search_usable-requires-clause-on_pairs
+search_usable-requires-clause-on_pairs g c = is_for_this (problem_of c.args.problem.now) c.args.strategy strategy.Usable c.requires.kind c.in-Usable.is
 
 pub returns-in-Dp-clause-answer : goal.returns-in-Dp-clause-answer
 returns-in-Dp-clause-answer g c =

@@ -11,26 +11,26 @@ use Rattle.strategies.proofs.subterm.search_subterm.Goals as goal
 pub leaving-requires-clause-step : goal.leaving-requires-clause-step
 leaving-requires-clause-step g c =
     let h = rw c.in-Found.is at c.in_ok-found.ensures.answer in
-    (ready c.projection.new.tables.prepared c.args.trs.now c.args.budget strategy.Subterm (problem_of c.args.problem.now) (problem.dp c.deref.result.now) (step.subterm c.in-Found.found.items)
-    c.projection.ensures.tables.prepared (ap problem_of c.in-Dp.is ∙ ap (λ l. problem.dp l) (sym c.deref.ensures.value)) (subterm_is_found h)
+    (ready c.args.prepared.now c.args.trs.now c.args.budget strategy.Subterm (problem_of c.args.problem.now) (problem.dp c.deref.result.now) (step.subterm c.in-Found.found.items)
+    c.requires.prepared (ap problem_of c.in-Dp.is ∙ ap (λ l. problem.dp l) (sym c.deref.ensures.value)) (subterm_is_found h)
     (places_made c.args.trs.now c.deref.result.now c.args.budget c.in-Found.found.items h)
     (subterm_applies c.args.trs.now c.deref.result.now c.in-Found.found.items (c.found_places_apply.ensures c.args.trs.now c.deref.result.now c.args.budget c.in-Found.found.items h))).made
 
 pub leaving-requires-clause-applies : goal.leaving-requires-clause-applies
 leaving-requires-clause-applies g c =
     let h = rw c.in-Found.is at c.in_ok-found.ensures.answer in
-    (ready c.projection.new.tables.prepared c.args.trs.now c.args.budget strategy.Subterm (problem_of c.args.problem.now) (problem.dp c.deref.result.now) (step.subterm c.in-Found.found.items)
-    c.projection.ensures.tables.prepared (ap problem_of c.in-Dp.is ∙ ap (λ l. problem.dp l) (sym c.deref.ensures.value)) (subterm_is_found h)
+    (ready c.args.prepared.now c.args.trs.now c.args.budget strategy.Subterm (problem_of c.args.problem.now) (problem.dp c.deref.result.now) (step.subterm c.in-Found.found.items)
+    c.requires.prepared (ap problem_of c.in-Dp.is ∙ ap (λ l. problem.dp l) (sym c.deref.ensures.value)) (subterm_is_found h)
     (places_made c.args.trs.now c.deref.result.now c.args.budget c.in-Found.found.items h)
     (subterm_applies c.args.trs.now c.deref.result.now c.in-Found.found.items (c.found_places_apply.ensures c.args.trs.now c.deref.result.now c.args.budget c.in-Found.found.items h))).applies
 
 pub returns-in_ok-findings-in-Found-clause-answer : goal.returns-in_ok-findings-in-Found-clause-answer
 returns-in_ok-findings-in-Found-clause-answer g c =
     let h = rw c.in-Found.is at c.in_ok-found.ensures.answer in
-    found_for c.projection.new.tables.prepared c.args.trs.now c.args.budget strategy.Subterm (problem_of c.args.problem.now) (step.subterm c.in-Found.found.items) c.in_ok-findings-in-Found.findings
-    c.projection.ensures.tables.prepared c.in_ok-findings-in-Found.ensures.is_true
-    (ready c.projection.new.tables.prepared c.args.trs.now c.args.budget strategy.Subterm (problem_of c.args.problem.now) (problem.dp c.deref.result.now) (step.subterm c.in-Found.found.items)
-    c.projection.ensures.tables.prepared (ap problem_of c.in-Dp.is ∙ ap (λ l. problem.dp l) (sym c.deref.ensures.value)) (subterm_is_found h)
+    found_for c.args.prepared.now c.args.trs.now c.args.budget strategy.Subterm (problem_of c.args.problem.now) (step.subterm c.in-Found.found.items) c.in_ok-findings-in-Found.findings
+    c.requires.prepared c.in_ok-findings-in-Found.ensures.is_true
+    (ready c.args.prepared.now c.args.trs.now c.args.budget strategy.Subterm (problem_of c.args.problem.now) (problem.dp c.deref.result.now) (step.subterm c.in-Found.found.items)
+    c.requires.prepared (ap problem_of c.in-Dp.is ∙ ap (λ l. problem.dp l) (sym c.deref.ensures.value)) (subterm_is_found h)
     (places_made c.args.trs.now c.deref.result.now c.args.budget c.in-Found.found.items h)
     (subterm_applies c.args.trs.now c.deref.result.now c.in-Found.found.items (c.found_places_apply.ensures c.args.trs.now c.deref.result.now c.args.budget c.in-Found.found.items h))).finds
 
