@@ -1,4 +1,4 @@
--- The shared tree and seats may go to other threads, and threads may share the lock.
+-- The shared tree and seats may go to other threads, and threads may share the lock and the tables.
 use denote.Ref.{NamedLft}
 use denote.Param.Send.{IsSend, IsSync, sendable, shr_send}
 use denote.Param.SendFields.{declared_send, as_row_send}
@@ -15,6 +15,8 @@ use Rattle.tree_core.below.cert_step.proofs.problem.Problem.TheSendSync as probl
 use Rattle.tree_core.below.tree_state.proofs.node.Node.TheSendSync as node
 use Rattle.tree_core.below.tree_definitions.proofs.question.Question.TheSendSync as question
 use Rattle.tree_core.below.strategies.proofs.outcome.Limits.TheSendSync as limits
+use Rattle.tree_core.below.trs_caps.proofs.holed.Parts.TheLaws.TheKnot as caps
+use Rattle.tree_core.below.strategies.specs.contracts.tables.Tables as Tables
 use Rattle.tree_core.below.cert_step.specs.contracts.step.Step as Step
 use Rattle.tree_core.below.tree_state.specs.contracts.entry.Event as Event
 use Rattle.tree_core.below.tree_state.specs.contracts.board.Board as Board
@@ -41,6 +43,10 @@ board_send = search (event_parts_send, node.the_send, crosses, sendable) depth 6
 system_sync : IsSync Trs.the_row
 system_sync = search (crosses, terms.crosses, sendable) depth 60 fits 20000
 
+-- what strategies look up in the system is lent to all workers
+tables_sync : (a : NamedLft) → IsSync (Tables.the_row a)
+tables_sync a = search (system_sync, position.the_sync, crosses, terms.crosses, caps.crosses, sendable) depth 60 fits 20000
+
 tree_send : (a : NamedLft) → IsSend (Tree.the_row a)
 tree_send a = search (board_send, system_sync, crosses, sendable) depth 60 fits 20000
 
@@ -56,4 +62,4 @@ lock_sync a = search (lock.the_sync, shared_send) depth 60 fits 20000
 pub worker_send : (l a : NamedLft) → IsSend (Worker.the_row l a)
 worker_send l a =
     declared_send (Worker.the_type l a)
-    (search (lock_sync, as_row_send, shr_send), (seat_send a, (question.the_send, (search (system_sync, as_row_send, shr_send), (limits.the_send, tt)))))
+    (search (lock_sync, as_row_send, shr_send), (seat_send a, (question.the_send, (search (tables_sync, as_row_send, shr_send), (limits.the_send, tt)))))

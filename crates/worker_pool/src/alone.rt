@@ -4,6 +4,7 @@ ghost use Rattle.tree_core.specs.tree_definitions.Verdicts.{HasVerdict};
 ghost use Rattle.worker_pool.specs.Serial.{IsSerial};
 
 use crate::Finished;
+use crate::tables::tables_for;
 use crate::turn::take_turn;
 use std::alloc::Global;
 use tree_core::{Limits, Question, Searcher, Tree};
@@ -26,7 +27,8 @@ pub fn prove_alone<'a>(
     ensures verdict { IfOk result (λ f. HasVerdict (goals_of question) f.state) }
 {
     let mut tree = Tree::new(alloc, question, trs, limits)?;
-    let mut searcher = Searcher::new(trs);
+    let tables = tables_for(alloc, question, trs)?;
+    let mut searcher = Searcher::new(&tables);
     while take_turn(alloc, &mut tree, &mut searcher)? {}
     Ok(Finished::new(tree))
 }

@@ -9,6 +9,7 @@ mod gate;
 mod pool;
 mod seated;
 mod shared;
+mod tables;
 mod turn;
 mod watch;
 mod watching;

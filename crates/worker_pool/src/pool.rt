@@ -10,6 +10,7 @@ ghost use Rattle.worker_pool.specs.Shared.{Opens};
 use crate::Finished;
 use crate::gate::Gate;
 use crate::shared::SharedTree;
+use crate::tables::tables_for;
 use crate::worker::{Worker, work};
 use std::alloc::Global;
 use std::sync::Wait;
@@ -37,6 +38,7 @@ pub fn prove_with<'a, R: Threads + Wait + Sync, G: Gate>(
     ensures budget { IfOk result (λ f. f.budget ≡ limits.budget) }
     ensures verdict { IfOk result (λ f. HasVerdict (goals_of question) f.state) }
 {
+    let tables = tables_for(alloc, question, trs)?;
     let shared = SharedTree::new(alloc, question, trs, limits)?;
     let Ok((lock, seat)) = TurnLock::new(alloc, shared, workers) else {
         return Err(OutOfMemory);
@@ -45,7 +47,7 @@ pub fn prove_with<'a, R: Threads + Wait + Sync, G: Gate>(
         lock: &lock,
         seat,
         question,
-        trs,
+        tables: &tables,
         limits,
     };
     let last = crew(rt, alloc, first, workers, gate);
@@ -72,7 +74,7 @@ fn crew<'l, 'a, R: Threads + Wait + Sync, G: Gate>(
     workers: u32,
     gate: &G,
 ) -> Seat<SharedTree<'a>>
-    requires opens { Opens worker.question worker.trs.now worker.limits.budget worker.seat.seen }
+    requires opens { Opens worker.question worker.tables.now worker.limits.budget worker.seat.seen }
     requires room { worker.seat.free + workers ≤ worker.seat.seats + 1 }
     requires some { 0 < workers }
     ensures lock { result.lock ≡ worker.entry.seat.lock }
@@ -87,7 +89,7 @@ fn crew<'l, 'a, R: Threads + Wait + Sync, G: Gate>(
         lock,
         seat,
         question,
-        trs,
+        tables,
         limits,
     } = worker;
     let (old, new) = lock.split(seat);
@@ -95,25 +97,25 @@ fn crew<'l, 'a, R: Threads + Wait + Sync, G: Gate>(
         lock,
         seat: new,
         question,
-        trs,
+        tables,
         limits,
     };
     let others = Worker {
         lock,
         seat: old,
         question,
-        trs,
+        tables,
         limits,
     };
     let (done, rest) = join(
         rt,
         || -> Seat<SharedTree>
-            requires { Opens one.question one.trs.now one.limits.budget one.seat.seen }
+            requires { Opens one.question one.tables.now one.limits.budget one.seat.seen }
             ensures { After one.entry.seat result }
         { work(rt, alloc, one, gate) },
         || -> Seat<SharedTree>
             requires { IsSync R.row
-                × Opens others.question others.trs.now others.limits.budget others.seat.seen
+                × Opens others.question others.tables.now others.limits.budget others.seat.seen
                 × (others.seat.free + (workers - 1) ≤ others.seat.seats + 1) × (1 < workers) }
             ensures { (result.lock ≡ others.entry.seat.lock)
                 × (result.seats ≡ others.entry.seat.seats)

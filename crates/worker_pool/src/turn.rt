@@ -11,10 +11,10 @@ use trs_core::OutOfMemory;
 
 /// Claims a task, runs it and posts what was answered. Whether there was a task: if there was none,
 /// a verdict stands.
-pub(crate) fn take_turn<'a>(
+pub(crate) fn take_turn<'t, 'a>(
     alloc: Global,
     tree: &mut Tree<'a>,
-    searcher: &mut Searcher<'a>,
+    searcher: &mut Searcher<'t, 'a>,
 ) -> Result<bool, OutOfMemory>
     requires rest { IsAtRest tree.old }
     requires searcher { searcher.old ≡ tree.old.system }
@@ -50,9 +50,9 @@ fn post<'a>(tree: &mut Tree<'a>, ticket: u64, outcome: Outcome<'a>) -> Result<Po
 }
 
 // What the task's strategy answers. Nothing stops it.
-fn run_task<'a>(
+fn run_task<'t, 'a>(
     alloc: Global,
-    searcher: &mut Searcher<'a>,
+    searcher: &mut Searcher<'t, 'a>,
     task: &Task,
     limits: &Limits,
 ) -> Result<Outcome<'a>, OutOfMemory>

@@ -12,18 +12,18 @@ use crate::shared::SharedTree;
 use crate::watch::Watch;
 use std::alloc::Global;
 use std::sync::Wait;
-use tree_core::{Claimed, Limits, Question, Ran, Searcher, Task};
-use trs_core::{OutOfMemory, Trs};
+use tree_core::{Claimed, Limits, Question, Ran, Searcher, Tables, Task};
+use trs_core::OutOfMemory;
 use turn_lock::{Patience, Seat, TurnLock};
 
-/// A seat beside its lock, and what the shared tree is of. All are in one struct, so that a closure that
-/// takes them names the tree's lifetime once.
+/// A seat beside its lock, what the shared tree is of, and the tables of its system, which are lent to all
+/// workers. All are in one struct, so that a closure that takes them names the tree's lifetime once.
 #[derive(Drop)]
 pub(crate) struct Worker<'l, 'a> {
     pub(crate) lock: &'l TurnLock<SharedTree<'a>>,
     pub(crate) seat: Seat<SharedTree<'a>>,
     pub(crate) question: Question,
-    pub(crate) trs: &'a Trs,
+    pub(crate) tables: &'l Tables<'a>,
     pub(crate) limits: Limits,
     ghost fits: { seat.lock ≡ lock.now },
 }
@@ -35,17 +35,17 @@ pub(crate) fn work<'l, 'a, R: Wait, G: Gate>(
     worker: Worker<'l, 'a>,
     gate: &G,
 ) -> Seat<SharedTree<'a>>
-    requires { Opens worker.question worker.trs.now worker.limits.budget worker.seat.seen }
+    requires { Opens worker.question worker.tables.now worker.limits.budget worker.seat.seen }
     ensures { After worker.entry.seat result }
 {
     let Worker {
         lock,
         mut seat,
         question: _,
-        trs,
+        tables,
         limits,
     } = worker;
-    let mut searcher = Searcher::new(trs);
+    let mut searcher = Searcher::new(tables);
     let mut patience = Patience::new();
     for _ in rt.forever() {
         let (next, claimed) = claim(rt, alloc, lock, seat);
@@ -67,12 +67,12 @@ pub(crate) fn work<'l, 'a, R: Wait, G: Gate>(
 }
 
 // Runs a task that the seat has claimed, and ends its ticket.
-fn run_task<'a, R: Wait, G: Gate>(
+fn run_task<'t, 'a, R: Wait, G: Gate>(
     rt: &R,
     alloc: Global,
     lock: &TurnLock<SharedTree<'a>>,
     seat: Seat<SharedTree<'a>>,
-    searcher: &mut Searcher<'a>,
+    searcher: &mut Searcher<'t, 'a>,
     task: &Task,
     limits: &Limits,
     gate: &G,

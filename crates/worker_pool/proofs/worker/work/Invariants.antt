@@ -5,5 +5,5 @@ use Rattle.worker_pool.proofs.worker.work.Given as goal
 abbrev pub invariant-loop : goal.invariant-loop
 invariant-loop g l = record {
   after : After l.fn.worker.seat l.seat;
-  searcher : l.searcher ≡ l.fn.worker.trs.now;
+  searcher : l.searcher ≡ l.fn.worker.tables.now;
 }
