@@ -17,7 +17,7 @@ use Rattle.crit_pairs.specs.Sides.{DoNotMeet}
 use Rattle.crit_pairs.specs.declared.meeting.Binding.{Binding}
 use Rattle.crit_pairs.specs.Meeting.{bound_term, solution, Solves, IsFree}
 
-solves_nothing : (θ : ℕ → Tree) → Solves [] θ
+pub solves_nothing : (θ : ℕ → Tree) → Solves [] θ
 solves_nothing θ = record { solves = λ v t e. absurd cc }
 
 -- one binding more
@@ -139,6 +139,23 @@ clash old f g fs gs t u is_t is_u ne θ s e =
 
     same_length : (fs gs : List Term) → count (apply_all θ (forest fs)) ≡ count (apply_all θ (forest gs)) → length fs ≡ length gs
     same_length fs gs k = omega (arith, k, count_apply_all θ (forest fs), count_apply_all θ (forest gs), count_forest fs, count_forest gs)
+
+-- one pair of arguments is apart
+pub arguments_apart : (fs gs : List Term) (i : ℕ) (x y : Term) (f g : ℕ) (t u : Tree) → t ≡ app f (forest fs) → u ≡ app g (forest gs) → i < length fs → length fs ≡ length gs
+    → x ≡ get_or fs i x → y ≡ get_or gs i y → DoNotMeet (tree x) (tree y) → DoNotMeet t u
+arguments_apart fs gs i x y f g t u is_t is_u h long is_x is_y none θ e =
+    let whole : app f (apply_all θ (forest fs)) ≡ app g (apply_all θ (forest gs)) = sym (ap (apply θ) is_t) ∙ (e ∙ ap (apply θ) is_u) in
+    let args : apply_all θ (forest fs) ≡ apply_all θ (forest gs) = cc (whole) in
+    none θ (equal_at fs gs i h long is_x is_y args)
+  where
+    equal_at : (fs gs : List Term) (i : ℕ) → i < length fs → length fs ≡ length gs → x ≡ get_or fs i x → y ≡ get_or gs i y
+        → apply_all θ (forest fs) ≡ apply_all θ (forest gs) → apply θ (tree x) ≡ apply θ (tree y)
+    equal_at [] gs i h long is_x is_y e = absurd (omega arith)
+    equal_at (a ∷ fs) [] i h long is_x is_y e = absurd (omega (arith, long))
+    equal_at (a ∷ fs) (b ∷ gs) zero h long is_x is_y e =
+        let first : apply θ (tree a) ≡ apply θ (tree b) = cc (e) in
+        ap (λ z. apply θ (tree z)) is_x ∙ (first ∙ sym (ap (λ z. apply θ (tree z)) is_y))
+    equal_at (a ∷ fs) (b ∷ gs) (suc i) h long is_x is_y e = equal_at fs gs i (omega (arith, h)) (omega (arith, long)) is_x is_y (cc (e))
 
 -- What is left of two argument lists says, with the bindings, what the whole said with the old ones.
 abbrev pub SaysAsWhole : List Binding → List Term → List Term → List Binding → List Term → List Term → Type 0

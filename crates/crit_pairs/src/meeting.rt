@@ -3,6 +3,7 @@ ghost use Rattle.std.specs.Option.{option_copied, option_map};
 ghost use Rattle.trs_defs.specs.Tree.{var};
 ghost use Rattle.trs_core.specs.View.{tree};
 ghost use Rattle.crit_pairs.specs.Meeting.{bound_term, Meets, IsFree, IsSolution};
+ghost use Rattle.crit_pairs.specs.Sides.{DoNotMeet};
 
 use std::alloc::Global;
 use trs_core::{OutOfMemory, Term};
@@ -54,6 +55,27 @@ pub(crate) fn solve(alloc: Global, a: &Term, b: &Term) -> Result<Solution, OutOf
             }
             Ok(Solution::Unclear)
         }
+    }
+}
+
+/// Whether two symbols differ that stand at one place, or their numbers of arguments. Then nothing
+/// makes the terms equal. It takes no memory, and refutes most overlaps at once.
+pub(crate) fn clash(a: &Term, b: &Term) -> bool
+    ensures { IsTrue result → DoNotMeet (tree a.now) (tree b.now) }
+{
+    match (a, b) {
+        (Term::App(f, fs), Term::App(g, gs)) => {
+            if *f != *g || fs.items.len() != gs.items.len() {
+                return true;
+            }
+            for (i, x) in fs.items.iter().enumerate() {
+                if clash(x, &gs.items[i]) {
+                    return true;
+                }
+            }
+            false
+        }
+        _ => false,
     }
 }
 
