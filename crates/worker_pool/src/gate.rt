@@ -3,7 +3,8 @@ pub trait Gate: Sync {
     /// A worker has claimed the ticket, and has not begun its search.
     fn before(&self, ticket: u64);
 
-    /// The ticket's search asks whether it is to stop, and does not have the turn.
+    /// The ticket's search asks whether it is to stop, and the tree is polled next. The worker does not
+    /// have the turn.
     fn asked(&self, ticket: u64);
 
     /// The ticket has ended.

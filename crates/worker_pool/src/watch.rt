@@ -14,8 +14,13 @@ use std::sync::Wait;
 use tree_core::Polled;
 use turn_lock::{Seat, TurnLock};
 
-/// It has the worker's seat while a search runs, and polls the tree under the seat's turn. Once the
-/// ticket was cancelled, it stops the search each time.
+/// How many askings of a search pass unpolled between two polls: a poll takes the turn, which costs
+/// more than a step of most searches.
+const UNPOLLED: u32 = 15;
+
+/// It has the worker's seat while a search runs, and polls the tree under the seat's turn, at the
+/// first asking and then at every sixteenth. Once the ticket was cancelled, it stops the search each
+/// time.
 pub(crate) struct Watch<'w, 'a, R: Wait, G: Gate> {
     rt: &'w R,
     gate: &'w G,
@@ -24,6 +29,7 @@ pub(crate) struct Watch<'w, 'a, R: Wait, G: Gate> {
     first: Snapshot<Seat<SharedTree<'a>>>,
     ticket: u64,
     stops: u64,
+    unpolled: u32,
 }
 
 impl<'w, 'a, R: Wait, G: Gate> Model for Watch<'w, 'a, R, G> {
@@ -62,6 +68,11 @@ impl<'w, 'a, R: Wait, G: Gate> Stop for Watch<'w, 'a, R, G> {
             self.stops += 1;
             return true;
         }
+        if self.unpolled > 0 {
+            self.unpolled -= 1;
+            return false;
+        }
+        self.unpolled = UNPOLLED;
         self.gate.asked(self.ticket);
         let Some(seat) = self.seat.take() else {
             unreachable!()
@@ -101,6 +112,7 @@ impl<'w, 'a, R: Wait, G: Gate> Watch<'w, 'a, R, G> {
             seat: Some(seat),
             ticket,
             stops: 0,
+            unpolled: 0,
         }
     }
 
@@ -119,6 +131,7 @@ impl<'w, 'a, R: Wait, G: Gate> Watch<'w, 'a, R, G> {
             first: _,
             ticket: _,
             stops,
+            unpolled: _,
         } = self;
         let Some(seat) = seat else { unreachable!() };
         (seat, stops)
