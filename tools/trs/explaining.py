@@ -7,12 +7,16 @@ from .certificates import CLAIMS, CertificateRefused, read_certificate
 from .certifying import proved
 from .facts import Facts
 from .notation import Notation, at_place, count_text
+from .order_blocks import order_blocks
 from .path_steps import TooManySteps
 from .places import spot
 from .problems import ProblemRefused, read_problem
 from .proof_blocks import node_text, proof_blocks
 from .refusals import CAUSES_IN_CERTIFICATES, causes_in_problem, line_blocks, problem_numbers
 from .reports import report_blocks
+
+# What an order text begins with, after comments.
+ORDER_TEXT = re.compile(rb"(\s|;[^\n]*(\n|$))*\(\s*order\b")
 
 KNOWN_LINE = re.compile(r"(ACCEPTED|REJECTED|problem refused|order refused|too long|UNORIENTABLE|SPENT|LIMIT|usage:)( |$)")
 
@@ -33,6 +37,9 @@ def explained(problem_text, text):
         return completion_blocks(facts, text), None
     if words.startswith("MAYBE\n(goal "):
         return system_blocks(facts) + report_blocks(facts, text), None
+    if ORDER_TEXT.match(text):
+        found, line = order_blocks(facts, text)
+        return system_blocks(facts) + found, line
     return certificate_blocks(facts, text)
 
 
@@ -112,7 +119,7 @@ def certificate_blocks(facts, text):
 def refused_text(text, refused):
     found = [Heading(1, refused.line)]
     if refused.place is not None:
-        found += [Say("The text is no certificate. What can't stand where it does begins here:")]
+        found += [Say("The text is no certificate. Its first fault is here:")]
         found += [Lines(list(spot(text, refused.place)))]
         return found + [Heading(2, "Usual causes"), *(Say("* " + cause) for cause in CAUSES_IN_CERTIFICATES)]
     if refused.line == "REJECTED headline":
@@ -136,7 +143,7 @@ def ending(proof):
         return found + [Table([(f"node {n}", node_text(node)) for n, node in enumerate(proof.nodes) if n not in decided])]
     if words[1] == "no-node":
         last = len(proof.nodes) - 1
-        return found + [Say(f"Step {words[2]} stands on a node that the steps before it do not make; these are nodes 0 to {last}.")]
+        return found + [Say(f"Step {words[2]} is for a node that does not exist: the steps before it make nodes 0 to {last}.")]
     if words[1] == "decided":
-        return found + [Say(f"Step {words[2]} stands on a node that has a step already.")]
-    return found + [Say(f"Step {words[2]} is refused by condition {words[3]}; the reason stands above.")]
+        return found + [Say(f"Step {words[2]} is for a node that has a step already.")]
+    return found + [Say(f"Step {words[2]} is refused by condition {words[3]}; the reason is given above.")]
