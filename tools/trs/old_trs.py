@@ -38,7 +38,7 @@ class Tokens:
     def take(self, mark):
         kind, token = self.next()
         if (kind, token) != ("mark", mark):
-            self.fail(f"{mark} is wanted, and {token} is there")
+            self.fail(f"{mark} is expected, but {token} is there")
 
     def fail(self, reason):
         raise NotRead(f"line {self.text.count(chr(10), 0, self.place) + 1}: {reason}")
@@ -86,7 +86,7 @@ def names_until_bracket(tokens):
     while tokens.peek() != ("mark", ")"):
         kind, name = tokens.next()
         if kind != "name":
-            tokens.fail(f"a name is wanted, and {name} is there")
+            tokens.fail(f"a name is expected, but {name} is there")
         found.append(name)
     tokens.take(")")
     return found
@@ -122,7 +122,7 @@ def read_rules(tokens, system, variables):
             tokens.fail("it is equational, or conditional: ==")
         if arrow != "->":
             is_string = kind == "name"
-            tokens.fail("it is a string rewriting system (.srs)" if is_string else f"-> is wanted, and {arrow} is there")
+            tokens.fail("it is a string rewriting system (.srs)" if is_string else f"-> is expected, but {arrow} is there")
         right = read_term(tokens, system, variables, 1)
         if tokens.peek()[1] in ("|", "<="):
             tokens.fail("it is conditional: a rule with |")
@@ -136,7 +136,7 @@ def read_term(tokens, system, variables, depth):
     check_depth(depth)
     kind, name = tokens.next()
     if kind != "name":
-        tokens.fail(f"a term is wanted, and {name} is there")
+        tokens.fail(f"a term is expected, but {name} is there")
     parts = read_parts(tokens, system, variables, depth) if tokens.peek() == ("mark", "(") else ()
     if name in variables:
         if parts:

@@ -47,11 +47,11 @@ def check_members(node, items):
             if n not in node.pairs:
                 raise StepRefused([7, n], f"Pair {n} is none of this node, which has {pairs_text(node.pairs)}.")
             if n in seen:
-                raise StepRefused([7, n], f"Pair {n} stands in two items.")
+                raise StepRefused([7, n], f"Pair {n} is in two items.")
             seen.add(n)
     for n in node.pairs:
         if n not in seen:
-            raise StepRefused([8, n], f"Pair {n} of this node stands in no item.")
+            raise StepRefused([8, n], f"Pair {n} of this node is in no item.")
 
 
 def check_edges(facts, edges, items):
@@ -60,7 +60,7 @@ def check_edges(facts, edges, items):
         for m in members:
             for n in earlier:
                 if n in edges[m]:
-                    text = f"Pair {m} may be followed by pair {n}, which stands in an earlier item.{why_edge(facts, m, n)}"
+                    text = f"Pair {m} may be followed by pair {n}, which is in an earlier item.{why_edge(facts, m, n)}"
                     raise StepRefused([9, m, n], text)
         earlier += members
     for word, members in items:
@@ -87,9 +87,9 @@ def explain_subterm(facts, node, method, account):
         if f not in method.places:
             number = facts.system.names.index(f[1])
             raise StepRefused([11, number], f"{symbol_text(f)} has no entry; it is symbol {number}.")
-    account.say("Each marked term is taken to one of its arguments:")
+    account.say("Each marked term is replaced by one of its arguments:")
     account.table([(symbol_text(f), f"argument {method.places[f]}") for f in roots])
-    account.say("For each pair the argument of the right side is that of the left side, or stands properly inside of it:")
+    account.say("For each pair the argument of the right side is that of the left side, or a proper subterm of it:")
     removed, rows = [], []
     for n in node.pairs:
         rows.append(project(facts, method, n, removed))
@@ -111,9 +111,9 @@ def project(facts, method, number, removed):
     if left == right:
         return f"pair {number}", f"{words[0]} = {words[1]}", "stays"
     if not any(part == right for _, part in subterms(left)):
-        raise StepRefused([14, number], f"Pair {number}, {facts.pair_text(number)}: {words[1]} does not stand in {words[0]}.")
+        raise StepRefused([14, number], f"Pair {number}, {facts.pair_text(number)}: {words[1]} is not inside {words[0]}.")
     removed.append(number)
-    return f"pair {number}", f"{words[1]} stands in {words[0]}", "removed"
+    return f"pair {number}", f"{words[1]} is inside {words[0]}", "removed"
 
 
 def conclude(node, removed, account, nothing):

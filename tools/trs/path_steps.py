@@ -43,7 +43,7 @@ class StepFault(Exception):
 
 
 def subterm_at(term, place):
-    """What stands at a position, or None where it is not in the term."""
+    """The subterm at a position, or None if it is not in the term."""
     for i in place:
         if is_variable(term) or i >= len(term):
             return None
@@ -141,7 +141,7 @@ def fault_text(facts, notation, fault, name):
         return f"{text} It has {count_text(len(facts.rules), 'rule')}, counted from 0."
     if fault.fault == 2:
         part = notation.term(at(fault.term, step.place))
-        return f"{text} There stands {part}, and rule {step.rule} is {facts.rule_text(step.rule)}."
+        return f"{text} The subterm there is {part}, and rule {step.rule} is {facts.rule_text(step.rule)}."
     return text
 
 
@@ -161,9 +161,9 @@ def explain_loop(facts, node, method, notation, account):
     found = match(method.start, part)
     if found is None:
         words = notation.term(part), notation.term(method.start)
-        text = f"The subterm {at_place(method.place)} of the last term, {words[0]}, is no instance of the start, {words[1]}."
+        text = f"The subterm {at_place(method.place)} of the last term, {words[0]}, is no instance of the starting term, {words[1]}."
         raise StepRefused([6], text)
-    account.say(f"{at_place(method.place).capitalize()} of the last term stands {notation.term(part)}, an instance of the start"
+    account.say(f"{at_place(method.place).capitalize()} of the last term there is {notation.term(part)}, an instance of the starting term"
                 + substitution_text(notation, found) + ". So the steps can be made again and again.")
 
 

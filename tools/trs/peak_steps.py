@@ -26,7 +26,7 @@ def check_linear(facts, *sides):
 
 def check_count(wanted, given, what):
     if wanted != given:
-        raise StepRefused([2, wanted, given], f"The system has {wanted} {what[0]}, and {given} {what[1]} stand here.")
+        raise StepRefused([2, wanted, given], f"The system has {wanted} {what[0]}, and there are {given} {what[1]} here.")
 
 
 def explain_peaks(facts, items, account, name, explain_item):

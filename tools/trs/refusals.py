@@ -1,17 +1,17 @@
-"""The numbers of refusals in words, and what usually stands behind them."""
+"""The numbers of refusals in words, and their usual causes."""
 from .blocks import Heading, Say
 from .notation import symbol_text
 from .path_steps import FAULTS
 
 STEP_NUMBERS = {
     1: "the method is not for what the node asks",
-    2: "a list has another length than it must",
+    2: "a list has the wrong length",
     3: "a step of a path can't be made",
     4: "the path of a loop is empty",
     5: "the position of a loop is not in the last term",
-    6: "the subterm there is no instance of the start",
-    7: "a number in an item of graph is that of no pair of the node, or stands twice",
-    8: "a pair of the node stands in no item of graph",
+    6: "the subterm there is no instance of the starting term",
+    7: "a number in an item of graph is that of no pair of the node, or occurs twice",
+    8: "a pair of the node is in no item of graph",
     9: "an edge leads from a later item to an earlier one",
     10: "a single pair has an edge to itself",
     11: "a symbol has no entry",
@@ -22,7 +22,7 @@ STEP_NUMBERS = {
     16: "a side of a rule has a variable twice",
     17: "the positions of a parallel step are not parallel, or do not ascend",
     18: "two ends that must be equal differ",
-    19: "a path that may have one step has more",
+    19: "a path that may have at most one step has more",
     20: "the labels of a path do not fit",
     21: "the end of a path of a fork is no normal form",
     22: "the two ends of a fork are equal",
@@ -33,10 +33,10 @@ STEP_NUMBERS = {
 
 PROBLEM_NUMBERS = {
     2: "There is no format: the first item must be (format TRS).",
-    3: "The format is another one than TRS.",
+    3: "The format is not TRS.",
     4: "An item or a term is not of a known form.",
     5: "A name is declared again.",
-    6: "An arity is no run of digits of value at most 255.",
+    6: "An arity is no number up to 255, written in digits.",
     7: "The head of a term's list is not declared.",
     8: "A term has a wrong number of arguments.",
     9: "A left side is a variable.",
@@ -47,32 +47,32 @@ PROBLEM_NUMBERS = {
 }
 
 TEXT_KINDS = {
-    1: "A control byte stands outside a comment.",
+    1: "There is a control byte outside a comment.",
     2: "This bracket is never closed.",
-    3: "This closing bracket has no open list.",
+    3: "No list is open that this bracket could close.",
     4: "Too many lists are open here.",
 }
 
 CAUSES_IN_CERTIFICATES = [
     "A place within a position counted from 0: places count the arguments from 1.",
-    "A bracket too few: the outermost one that is never closed is named, though the slip may stand far after it.",
+    "A missing bracket: the outermost one that is never closed is named, though the mistake may be far after it.",
     "A symbol in a term with too many or too few arguments, or a misspelt one with arguments.",
     "A byte order mark at the beginning, which editors do not show, or lines that end with carriage returns alone.",
-    "A use or a define in version 1, or a define that stands after a step or after its use.",
+    "A use or a define in version 1, or a define after a step or after its use.",
     "Another kind of certificate, such as the XML of other tools: only the format of docs/CERTIFICATE-FORMAT.md is read.",
 ]
 
 CAUSES_BY_NUMBER = {
-    1: ["A bracket too few or too many. The outermost bracket that is never closed is named; the slip may stand far after it.",
-        "A semicolon in front of a closing bracket: what follows on the line is a comment."],
+    1: ["A missing bracket, or one too many. The outermost bracket that is never closed is named; the mistake may be far after it.",
+        "A semicolon before a closing bracket: the rest of the line is a comment."],
     4: ["A quoted name with a blank in it: it is read as two words.", "(VAR ..) or (var ..): variables are not declared."],
     5: ["The same (fun ..) line twice, or one name with two arities."],
-    6: ["More than 255 arguments, or a word where the number of arguments should stand."],
-    7: ["A declaration that is missing or misspelt. Bars belong to a name: |f| and f are two names."],
+    6: ["More than 255 arguments, or a word in place of the number of arguments."],
+    7: ["A declaration that is missing or misspelt. Bars are part of a name: |f| and f are two names."],
     8: ["The number in (fun ..) does not fit the uses, or an argument was forgotten."],
     9: ["A constant that was not declared is read as a variable."],
     10: ["A constant that was not declared is read as a variable: add (fun name 0).",
-         "Rules with new variables on the right side are not read."],
+         "Rules with new variables on the right side are not allowed."],
     11: ["Sorts, costs and other attributes of the ARI format: remove them."],
     12: ["At most 4,095 symbols, 4,095 rules and 65,536 nodes are read."],
     13: ["Numbers written as towers of s: at most 256 levels are read."],
@@ -111,21 +111,21 @@ def line_blocks(facts, line):
         found.append(Say("The certificate is accepted, and what it claims is true of this system."))
     else:
         found.append(Say(next((text for start, text in LINES.items() if line.startswith(start)), "It is no line of `certify`.")))
-    return found + [Say("With the text itself in place of the line, the place and the reason are shown: tools/explain PROBLEM CERTIFICATE.")]
+    return found + [Say("To see the place and the reason, give the text itself in place of the line: tools/explain PROBLEM TEXT.")]
 
 
 LINES = {
-    "REJECTED text": "The certificate is not of the grammar. The number is a place: the number of bytes before it.",
+    "REJECTED text": "The certificate does not follow the grammar. The number is a place: the number of bytes before it.",
     "REJECTED version": "The version of the certificate is neither 1 nor 2.",
     "REJECTED headline": "YES or NO does not go with the claim.",
-    "REJECTED no-node": "This step, counted from 0, stands on a node that is not made by the steps before it.",
-    "REJECTED decided": "This step, counted from 0, stands on a node that has a step already.",
+    "REJECTED no-node": "This step, counted from 0, is for a node that the steps before it do not make.",
+    "REJECTED decided": "This step, counted from 0, is for a node that has a step already.",
     "REJECTED open": "All steps hold, but this node has no step.",
     "REJECTED too-heavy": "The certificate is accepted, but in version 2 its paths would weigh more than 8,388,608.",
-    "problem refused": "The problem text was refused; but this one is read. Was it another one?",
+    "problem refused": "That problem text was refused, but this one can be read. Is it the same text?",
     "order refused": "The order text has a fault. The number is a place: the number of bytes before it.",
     "too long": "A text passes its limit: 1,048,576 bytes for a problem, 8,388,608 for a certificate.",
-    "UNORIENTABLE": "By completion an equation was found that the order does not orient.",
+    "UNORIENTABLE": "Completion found an equation that the order does not orient.",
     "SPENT": "The completion did not end within the budget.",
     "LIMIT": "The completion passed a limit.",
     "usage:": "The command line is invalid: see the table of actions in README.md.",
@@ -135,7 +135,7 @@ LINES = {
 def field_texts(facts, number, fields):
     """What the numbers after the condition point to."""
     if number == 2 and len(fields) == 2:
-        yield f"Wanted are {fields[0]}, and there are {fields[1]}."
+        yield f"{fields[0]} are needed, and there are {fields[1]}."
     elif number == 3 and len(fields) == 4:
         yield f"Item {fields[0]}, path {fields[1]}, step {fields[2]}, each counted from 0: {FAULTS.get(fields[3], 'an unknown fault')}."
     elif number in (7, 8, 9, 10, 14):

@@ -21,10 +21,10 @@ CLAIM_OF = {"confluent-newman": "confluent", "unique-newman": "unique"}
 CUT_OFFS = {
     "graph": "the dependency graph is one group of all pairs, so it does not split them",
     "subterm": "no choice of one argument for each marked symbol fits",
-    "poly": "there is no linear interpretation with coefficients 0 to 2 that makes all rules fall weakly and a pair strictly",
+    "poly": "there is no linear interpretation with coefficients 0 to 2 by which all rules decrease weakly and some pair strictly",
     "lpo": "there is no path order with ranks 0 to 7 and the filters that are tried (one argument, all, all but one, none)",
     "kbo": "there is no Knuth-Bendix order with weights 0 to 2 and ranks 0 to 7",
-    "usable": "there is no linear interpretation with coefficients 0 to 2 that makes the usable rules fall weakly and a pair strictly",
+    "usable": "there is no linear interpretation with coefficients 0 to 2 by which the usable rules decrease weakly and some pair strictly",
     "loop": "all forward closures with sides of at most 256 nodes are made, and none loops; a loop that no forward closure has is not found",
     "newman": "for some peak the first 256 terms within 16 steps of both sides, of at most 4,096 nodes, have none in common",
     "strong": "a rule is not linear, or for some peak no such join is among the first 256 terms within 16 steps",
@@ -42,7 +42,7 @@ def report_blocks(facts, text):
         items = read_items(text, 1_040)[1:]
         goals = [read_goal(facts.system, text, item) for item in items]
     except (TextFault, Bad) as fault:
-        return [Heading(1, "MAYBE"), Say(f"This is no report of the program: byte {fault.place} is not as it should be.")]
+        return [Heading(1, "MAYBE"), Say(f"This is no report of the program: byte {fault.place} is wrong.")]
     found = [Heading(1, "MAYBE")]
     found.append(Say("No proof was found, and no refutation. Each goal got stuck at a node that no strategy could handle."))
     for goal in goals:

@@ -1,7 +1,7 @@
 """z3, where it is there. Debian's package belongs to Debian's own Python; it works for another one of the same version too."""
 import sys
 
-MISSING = "z3 is not there (Debian's package python3-z3), so no orders and no ranks of rules are looked for"
+MISSING = "z3 is not installed (Debian's package python3-z3), so no orders and no ranks of rules are searched for"
 DEBIAN = "/usr/lib/python3/dist-packages"
 
 

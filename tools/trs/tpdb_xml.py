@@ -81,7 +81,7 @@ def term(element, system, depth):
     if element.tag == "var":
         return Variable((element.text or "").strip())
     if element.tag != "funapp":
-        raise NotRead(f"a term is wanted, and <{element.tag}> is there")
+        raise NotRead(f"a term is expected, but <{element.tag}> is there")
     arguments = [child for child in element if child.tag == "arg"]
     if len(arguments) + 1 != len(element) or any(len(argument) != 1 for argument in arguments):
         raise NotRead("a <funapp> has something beside its name and its arguments")
