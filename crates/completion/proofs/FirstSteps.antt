@@ -42,7 +42,7 @@ pub record IsOnTheWay (system : System) (units left : ℕ) (t : Tree) (pool : Li
   pub sum : steps + left ≡ units
   pub well_formed : IsWellFormed system.arities (tree_at pool id)
   pub there : id < length pool
-  pub room : length pool ≤ 131072
+  pub room : length pool ≤ 65536
 
 pub way_begins : (system : System) (units : ℕ) (t : Tree) (pool : List Tree) (id : ℕ) → StandsFor pool id t → length pool ≤ 0 + size_of t
     → IsTermOver system.arities t → IsOnTheWay system units units t pool id
@@ -62,7 +62,7 @@ way_begins system units t pool id e few h =
 
 -- the step, and the id of its result in the pool that goes on
 pub way_goes_on : (system : System) → IsSystem system → (units left : ℕ) (t : Tree) (pool next kept : List Tree) (id new same : ℕ) → IsOnTheWay system units left t pool id
-    → IsFirstStep system.rules left (tree_at pool id) (tree_at next new) → tree_at kept same ≡ tree_at next new → same < length kept → length kept ≤ 131072
+    → IsFirstStep system.rules left (tree_at pool id) (tree_at next new) → tree_at kept same ≡ tree_at next new → same < length kept → length kept ≤ 65536
     → IsOnTheWay system units (left - 1) t kept same
 way_goes_on system valid units left t pool next kept id new same h s e there room =
     let sum : h.steps + left ≡ units = h.sum in

@@ -5,6 +5,8 @@ pub mod RightEndings
 pub mod PathReductions
 pub mod FirstSteps
 pub mod SearchLaws
+pub mod Untouched
+pub mod Room
 pub mod Renumbered
 pub mod TreatLaws
 pub mod LoopLaws

@@ -79,21 +79,21 @@ module _ (greater : Tree → Tree → Type 0) (system : System) (units most : �
       at_peaks h.all (all_of h.all h.lists) (subst G (split_sides most h.all) (found_earlier (map sides (drop most h.all)) made stays (subst F h.first f)))
 
   -- all peaks were among the few, or one of these was not passed over
-  pub few_looked_at : (made : CodeOutcome) → (few.count ≤ most) ⊎ (is_passed made ≡ false) → IsOutcome system FoundFew made
-      → IsOutcome system (Looks system.arities greater system.rules units) made
+  pub few_looked_at : (made : CodeOutcome) → (few.count ≤ most) ⊎ (is_passed made ≡ false) → IsOutcome FoundFew made
+      → IsOutcome (Looks system.arities greater system.rules units) made
   few_looked_at (outcome.Passed n) (inl less) f = whole_list less (Passed n) f
   few_looked_at (outcome.Passed n) (inr no_pass) f = absurd cc
-  few_looked_at (outcome.Added next n) which (r, e, f) = (r, e, early (Added r n) (λ m k. absurd cc) f)
+  few_looked_at (outcome.Added r n) which f = early (Added r n) (λ m k. absurd cc) f
   few_looked_at (outcome.Ended c) which f = early (Ended _) (λ m k. absurd cc) f
 
 all_looked_at : (greater : Tree → Tree → Type 0) (system : System) (units : ℕ) (peaks : List PlacedPeak) → ListsPeaks system.rules (Ok peaks) → (made : CodeOutcome)
-    → IsOutcome system (Finds system.arities greater system.rules units (map sides peaks)) made → IsOutcome system (Looks system.arities greater system.rules units) made
+    → IsOutcome (Finds system.arities greater system.rules units (map sides peaks)) made → IsOutcome (Looks system.arities greater system.rules units) made
 all_looked_at greater system units peaks h (outcome.Passed n) f = at_peaks peaks h f
-all_looked_at greater system units peaks h (outcome.Added next n) (r, e, f) = (r, e, at_peaks peaks h f)
+all_looked_at greater system units peaks h (outcome.Added r n) f = at_peaks peaks h f
 all_looked_at greater system units peaks h (outcome.Ended c) f = at_peaks peaks h f
 
 pub all_if_ok : (greater : Tree → Tree → Type 0) (system : System) (units : ℕ) (peaks : List PlacedPeak) → ListsPeaks system.rules (Ok peaks)
-    → (answer : Result CodeOutcome OutOfMemory) → IfOk answer (IsOutcome system (Finds system.arities greater system.rules units (map sides peaks)))
-    → IfOk answer (IsOutcome system (Looks system.arities greater system.rules units))
+    → (answer : Result CodeOutcome OutOfMemory) → IfOk answer (IsOutcome (Finds system.arities greater system.rules units (map sides peaks)))
+    → IfOk answer (IsOutcome (Looks system.arities greater system.rules units))
 all_if_ok greater system units peaks h (Ok made) f = all_looked_at greater system units peaks h made f
 all_if_ok greater system units peaks h (Err e) f = tt

@@ -1,10 +1,11 @@
 -- What the loops of completion keep: what is left answers as the whole.
-use Rattle.std.proofs.Common.{◌≡◌, ◌<◌, ◌≤◌, ℕ, ◌+◌, refl, sym, ap, subst, arith, map, drop, List, [], ◌∷◌, ◌++◌, Some, Result, Ok, Err, IfOk, length, get_or, slice_get}
+use Rattle.std.proofs.Common.{◌≡◌, ◌<◌, ◌≤◌, ℕ, ◌+◌, refl, sym, ap, subst, ◌∙◌, arith, map, drop, List, [], ◌∷◌, ◌++◌, append_assoc, Some, Result, Ok, Err, IfOk, length, get_or, slice_get}
 use Rattle.std.proofs.lemmas.Option.{slice_get_read}
+use Rattle.std.proofs.lemmas.List.Elements.{All-nil}
 use Rattle.trs_defs.specs.Tree.{Tree}
 use Rattle.trs_defs.specs.Member.{In, in_first, in_rest}
 use Rattle.trs_defs.specs.Size.{size_of}
-use Rattle.trs_core.specs.SystemLimits.{IsWithinLimits, nodes_of}
+use Rattle.trs_core.specs.SystemLimits.{IsWithinLimits, IsShallow, nodes_of}
 use Rattle.trs_defs.proofs.ArgumentLists.{cell}
 use Rattle.trs_defs.specs.System.{RewriteRule, System, IsSystem}
 use Rattle.trs_defs.proofs.Members.{in_of_get, in_map}
@@ -19,10 +20,10 @@ use Rattle.completion.specs.declared.unfinished.Unfinished.{Unfinished}
 use Rattle.completion.specs.declared.unfinished.Unfinished.TheVariants.{NoUnit, TooLarge}
 use Rattle.completion.specs.CompletionRun.{sides, ending_of, Outcome, Passed, Added, Ended, Treats, left_stops, right_stops, no_order, no_unit, no_room, Takes, all_taken, take_passed, take_added, take_ended, Finds, none_found, passed_over, found_rule, found_end, Closes, no_peak_left, one_more, peak_ends, peaks_large, Completes, peaks_close}
 use Rattle.completion.specs.Answers.{plain_ending, HasArities}
-use Rattle.completion.specs.Treating.{IsOutcome}
+use Rattle.completion.specs.Treating.{whole, IsOutcome}
 use Rattle.completion.specs.Taking.{IsTermOver, ArePairsOver, Looks, at_peaks, past_limit}
 use Rattle.rewrite_core.specs.PlacedPeak.{PlacedPeak}
-use Rattle.completion.proofs.TreatLaws.{found_fewer}
+use Rattle.completion.proofs.TreatLaws.{found_fewer, added_fits, none_more}
 
 -- the pair of the peak that is read is one of the pairs
 pub read_pair : (arities : List ℕ) (peaks : List PlacedPeak) (i : ℕ) (p : PlacedPeak) → ArePairsOver arities (map sides peaks) → i < length peaks → p ≡ get_or peaks i p
@@ -52,12 +53,12 @@ module _ (greater : Tree → Tree → Type 0) (system : System) where
     pub find_next : (n : ℕ) → Treats system.arities greater system.rules left p (Passed n) → FindsOn all units n more
     find_next n t made h = on made (subst (At made) (sym is) (passed_over t h))
 
-    pub find_rule : (next : System) (n : ℕ) → IsOutcome system (Treats system.arities greater system.rules left p) (outcome.Added next n)
-        → IsOutcome system (Finds system.arities greater system.rules units all) (outcome.Added next n)
-    find_rule next n (r, e, t) = (r, e, on (Added r n) (subst (At (Added r n)) (sym is) (found_rule t)))
+    pub find_rule : (r : RewriteRule) (n : ℕ) → IsOutcome (Treats system.arities greater system.rules left p) (outcome.Added r n)
+        → IsOutcome (Finds system.arities greater system.rules units all) (outcome.Added r n)
+    find_rule r n t = on (Added r n) (subst (At (Added r n)) (sym is) (found_rule t))
 
-    pub find_end : (c : Completion) → IsOutcome system (Treats system.arities greater system.rules left p) (outcome.Ended c)
-        → IsOutcome system (Finds system.arities greater system.rules units all) (outcome.Ended c)
+    pub find_end : (c : Completion) → IsOutcome (Treats system.arities greater system.rules left p) (outcome.Ended c)
+        → IsOutcome (Finds system.arities greater system.rules units all) (outcome.Ended c)
     find_end c t = on (Ended (plain_ending c)) (subst (At (Ended (plain_ending c))) (sym is) (found_end t))
 
   pub find_none : (all : List RewriteRule) (units left : ℕ) (rest : List RewriteRule) → rest ≡ [] → FindsOn all units left rest
@@ -71,6 +72,7 @@ module _ (greater : Tree → Tree → Type 0) (system : System) where
 -- the rest of the equations answers as all of them
 pub record IsTaking (greater : Tree → Tree → Type 0) (equations : System) (budget : ℕ) (system : System) (left : ℕ) (rest : List RewriteRule) : Type 0 where
   pub arities : system.arities ≡ equations.arities
+  pub limits : IsWithinLimits system
   pub on : (answer : Result (List RewriteRule × ℕ) Ending) → Takes equations.arities greater system.rules left rest answer
       → Takes equations.arities greater [] budget equations.rules answer
 
@@ -78,11 +80,16 @@ module _ (greater : Tree → Tree → Type 0) (equations : System) (budget : ℕ
   abbrev Taking : List RewriteRule → ℕ → Result (List RewriteRule × ℕ) Ending → List RewriteRule → Type 0
   Taking rules left answer es = Takes equations.arities greater rules left es answer
 
-  pub take_begins : (system : System) (rest : List RewriteRule) → system ≡ with_rules equations [] → rest ≡ equations.rules
-      → IsTaking greater equations budget system budget rest
-  take_begins system rest e same =
+  pub take_begins : IsWithinLimits equations → (system : System) (more rest : List RewriteRule) → system ≡ with_rules equations [] → more ≡ [] → rest ≡ equations.rules
+      → IsTaking greater equations budget (whole system more) budget rest
+  take_begins limits system more rest e none same =
       let P : System → Type 0 = λ s. IsTaking greater equations budget s budget rest in
-      subst P (sym e) (record { arities = refl; on = λ answer h. subst (Taking [] budget answer) same h })
+      let empty : whole system more ≡ with_rules equations [] = ap (whole system) none ∙ (none_more system ∙ e) in
+      subst P (sym empty) (record {
+        arities = refl;
+        limits = record { symbols = limits.symbols; rules = omega arith; nodes = omega arith; shallow = All-nil IsShallow };
+        on = λ answer h. subst (Taking [] budget answer) same h;
+      })
 
   module _ (system : System) (left : ℕ) (rest : List RewriteRule) (e : RewriteRule) (more : List RewriteRule) (is : rest ≡ e ∷ more)
       (pair : RewriteRule) (same : pair ≡ e) (h : IsTaking greater equations budget system left rest) where
@@ -95,20 +102,19 @@ module _ (greater : Tree → Tree → Type 0) (equations : System) (budget : ℕ
     pub take_next : (n : ℕ) → Treats system.arities greater system.rules left pair (Passed n) → IsTaking greater equations budget system n more
     take_next n t = record {
       arities = h.arities;
+      limits = h.limits;
       on = λ answer k. h.on answer (subst (Taking system.rules left answer) (sym is) (take_passed (at_equation (Passed n) t) k));
     }
 
-    pub take_more : (next : System) (n : ℕ) → IsOutcome system (Treats system.arities greater system.rules left pair) (outcome.Added next n)
-        → IsTaking greater equations budget next n more
-    take_more next n (r, e', t) =
-        let P : System → Type 0 = λ s. IsTaking greater equations budget s n more in
-        subst P (sym e')
-        (record {
-          arities = h.arities;
-          on = λ answer k. h.on answer (subst (Taking system.rules left answer) (sym is) (take_added (at_equation (Added r n) t) k));
-        })
+    pub take_more : (r : RewriteRule) (n : ℕ) → IsOutcome (Treats system.arities greater system.rules left pair) (outcome.Added r n)
+        → IsTaking greater equations budget (whole system (r ∷ [])) n more
+    take_more r n t = record {
+      arities = h.arities;
+      limits = (added_fits t).limits;
+      on = λ answer k. h.on answer (subst (Taking system.rules left answer) (sym is) (take_added (at_equation (Added r n) t) k));
+    }
 
-    pub take_stops : (c : Completion) → IsOutcome system (Treats system.arities greater system.rules left pair) (outcome.Ended c)
+    pub take_stops : (c : Completion) → IsOutcome (Treats system.arities greater system.rules left pair) (outcome.Ended c)
         → Takes equations.arities greater [] budget equations.rules (Err (plain_ending c))
     take_stops c t = h.on (Err (plain_ending c)) (subst (Taking system.rules left (Err (plain_ending c))) (sym is) (take_ended (at_equation (Ended (plain_ending c)) t)))
 
@@ -116,6 +122,10 @@ module _ (greater : Tree → Tree → Type 0) (equations : System) (budget : ℕ
       → (system.arities ≡ equations.arities) × Takes equations.arities greater [] budget equations.rules (Ok (system.rules, left))
   take_all system left rest is h =
       (h.arities, h.on (Ok (system.rules, left)) (subst (Taking system.rules left (Ok (system.rules, left))) (sym is) all_taken))
+
+-- one rule more behind the others
+pub whole_more : (system : System) (more : List RewriteRule) (r : RewriteRule) → whole (whole system more) (r ∷ []) ≡ whole system (more ++ r ∷ [])
+whole_more system more r = ap (with_rules system) (append_assoc system.rules more (r ∷ []))
 
 -- ---- the peaks
 
@@ -155,22 +165,24 @@ module _ (greater : Tree → Tree → Type 0) (start : System) (units : ℕ) whe
     pub close_done : (n : ℕ) → Looked (Passed n) → Closes start.arities greater start.rules units (Done system.rules)
     close_done n l = h.on (Done system.rules) (passed_all (Passed n) n refl l)
 
-    pub close_more : (next : System) (n : ℕ) → IsOutcome system Looked (outcome.Added next n) → IsClosing greater start units next n
-    close_more next n (r, e, l) =
+    pub close_more : (next : System) (none last : List RewriteRule) (r : RewriteRule) (n : ℕ) → next ≡ whole system last → last ≡ none ++ r ∷ [] → none ≡ [] → IsOutcome Looked (outcome.Added r n)
+        → IsClosing greater start units next n
+    close_more next none last r n e one empty l =
         let P : System → Type 0 = λ s. IsClosing greater start units s n in
-        subst P (sym e)
+        let same : last ≡ r ∷ [] = one ∙ ap (λ xs. xs ++ r ∷ []) empty in
+        subst P (sym (e ∙ ap (whole system) same))
         (record { arities = h.arities; on = λ ending k. h.on ending (added_one (Added r n) r n refl l ending k) })
 
-    pub close_end : (c : Completion) → IsOutcome system Looked (outcome.Ended c) → Closes start.arities greater start.rules units (plain_ending c)
+    pub close_end : (c : Completion) → IsOutcome Looked (outcome.Ended c) → Closes start.arities greater start.rules units (plain_ending c)
     close_end c l = h.on (plain_ending c) (ended_there (Ended (plain_ending c)) (plain_ending c) refl l)
 
   looked_fewer : (system : System) (left : ℕ) (made : Outcome) (r : RewriteRule) (n : ℕ) → made ≡ Added r n → Looks system.arities greater system.rules left made → n < left
   looked_fewer system left made r n e (at_peaks peaks listed f) = found_fewer (subst (Finds system.arities greater system.rules left (map sides peaks)) e f)
   looked_fewer system left made r n e (past_limit fault large) = absurd cc
 
-  pub close_smaller : (system : System) (left : ℕ) (next : System) (n : ℕ)
-      → IsOutcome system (Looks system.arities greater system.rules left) (outcome.Added next n) → n < left
-  close_smaller system left next n (r, e, l) = looked_fewer system left (Added r n) r n refl l
+  pub close_smaller : (system : System) (left : ℕ) (r : RewriteRule) (n : ℕ)
+      → IsOutcome (Looks system.arities greater system.rules left) (outcome.Added r n) → n < left
+  close_smaller system left r n l = looked_fewer system left (Added r n) r n refl l
 
 -- the whole run
 pub run_of : (equations : System) (greater : Tree → Tree → Type 0) (budget : ℕ) (system : System) (units : ℕ) (ending : Ending)
@@ -258,7 +270,7 @@ looks_no_rules made o e (at_peaks peaks listed f) = finds_no_rules made o e f
 looks_no_rules made o e (past_limit fault large) = absurd cc
 
 pub looked_arities : (greater : Tree → Tree → Type 0) (system : System) (left : ℕ) (c : Completion)
-    → IsOutcome system (Looks system.arities greater system.rules left) (outcome.Ended c) → (arities : List ℕ) → HasArities arities c
+    → IsOutcome (Looks system.arities greater system.rules left) (outcome.Ended c) → (arities : List ℕ) → HasArities arities c
 looked_arities greater system left c l arities = no_rules_arities arities c (λ made e. looks_no_rules made (Ended (plain_ending c)) (ap Ended e) l)
 
 pub taken_arities : (equations : System) (greater : Tree → Tree → Type 0) (budget : ℕ) (c : Completion)

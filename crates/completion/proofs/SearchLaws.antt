@@ -239,15 +239,18 @@ none_passed rules pool ids empty v h = absurd (never (sym (ap (list_any (is_at (
 
 -- ---- what was found
 
+pub normal_without : (rules : List RewriteRule) (t : Tree) → HasNoPlace rules t → IsNormalForm (Step rules) t
+normal_without rules t none u step =
+    let at = place_of_step rules t u step in
+    let s = at.steps in
+    none (record { place = at.place; rule = at.number }) (record { rule = s.rule; numbered = s.numbered; part = _; there = s.from; instance = (s.substitution, refl) })
+
 pub found_none : (rules others : List RewriteRule) (t : Tree) (old new : List ℕ) (o : Option ℕ) → others ≡ rules → o ≡ None → IsFound others t old new o
     → IsNormalForm (Step rules) t
 found_none rules others t old new o same e h u step =
     let F : Option ℕ → Type 0 = IsFound others t old new in
     let N : List RewriteRule → Type 0 = λ rs. HasNoPlace rs t in
-    let none : HasNoPlace rules t = subst N same (subst F e h).0 in
-    let at = place_of_step rules t u step in
-    let s = at.steps in
-    none (record { place = at.place; rule = at.number }) (record { rule = s.rule; numbered = s.numbered; part = _; there = s.from; instance = (s.substitution, refl) })
+    normal_without rules t (subst N same (subst F e h).0) u step
 
 pub found_first : (rules others : List RewriteRule) (t : Tree) (old new : List ℕ) (o : Option ℕ) (k : ℕ) → others ≡ rules → old ≡ [] → o ≡ Some k
     → IsFound others t old new o → IsFirstRedex rules t (record { place = new; rule = k })

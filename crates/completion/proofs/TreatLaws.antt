@@ -1,5 +1,5 @@
 -- What becomes of a pair, from what became of its two normal forms; and the units that are left.
-use Rattle.std.proofs.Common.{◌≡◌, ◌≢◌, ◌<◌, ◌≤◌, ℕ, zero, suc, sym, subst, arith, List, Result, Ok, Err, IfOk}
+use Rattle.std.proofs.Common.{◌≡◌, ◌≢◌, ◌<◌, ◌≤◌, ℕ, zero, suc, ap, sym, subst, ◌∙◌, arith, append-nil, List, [], ◌++◌, Result, Ok, Err, IfOk}
 use Rattle.trs_defs.specs.Tree.{Tree}
 use Rattle.trs_defs.specs.System.{RewriteRule, System}
 use Rattle.trs_core.specs.declared.memory.OutOfMemory.{OutOfMemory}
@@ -9,20 +9,22 @@ use Rattle.completion.specs.declared.treating.Outcome.{Outcome as CodeOutcome}
 use Rattle.completion.specs.declared.treating.Outcome.TheVariants as outcome
 use Rattle.completion.specs.Normalizing.{Normalizes, to_normal_form}
 use Rattle.completion.specs.Orienting.{IsOriented, Fits}
-use Rattle.completion.specs.Endings.{Ending, Done, Unorientable, Spent, Limit}
+use Rattle.completion.specs.Endings.{Ending, Done, Unorientable, Spent, Limit, with_rules}
 use Rattle.completion.specs.CompletionRun.{ending_of, Outcome, Passed, Added, Ended, Treats, left_stops, right_stops, equal_forms, no_order, no_unit, new_rule, no_room, Finds, passed_over, found_rule}
 use Rattle.completion.specs.Answers.{plain_ending}
-use Rattle.completion.specs.Treating.{pair_of, IsOutcome, IsCompared, IsComparedEnding}
+use Rattle.completion.specs.Treating.{pair_of, whole, IsOutcome, IsCompared, IsComparedEnding}
+use Rattle.completion.specs.Sparing.{Spare}
+use Rattle.completion.proofs.Untouched.{untouched_form}
 
 module _ (greater : Tree → Tree → Type 0) (system : System) (units : ℕ) (left right : Tree) where
   abbrev Treated : Outcome → Type 0
   Treated = Treats system.arities greater system.rules units (pair_of left right)
 
-  pub left_ended : (why : Unfinished) (c : Completion) → plain_ending c ≡ ending_of why → Normalizes system.rules units left (Err why) → IsOutcome system Treated (outcome.Ended c)
+  pub left_ended : (why : Unfinished) (c : Completion) → plain_ending c ≡ ending_of why → Normalizes system.rules units left (Err why) → IsOutcome Treated (outcome.Ended c)
   left_ended why c e n = let P : Ending → Type 0 = λ x. Treated (Ended x) in subst P (sym e) (left_stops why n)
 
   module _ (s : Tree) (m : ℕ) (left_form : Normalizes system.rules units left (Ok (s, m))) where
-    pub right_ended : (why : Unfinished) (c : Completion) → plain_ending c ≡ ending_of why → Normalizes system.rules m right (Err why) → IsOutcome system Treated (outcome.Ended c)
+    pub right_ended : (why : Unfinished) (c : Completion) → plain_ending c ≡ ending_of why → Normalizes system.rules m right (Err why) → IsOutcome Treated (outcome.Ended c)
     right_ended why c e n = let P : Ending → Type 0 = λ x. Treated (Ended x) in subst P (sym e) (right_stops s m why left_form n)
 
     form_at : (t : Tree) (n k : ℕ) → n ≡ k → Normalizes system.rules m right (Ok (t, n)) → Normalizes system.rules m right (Ok (t, k))
@@ -39,18 +41,48 @@ module _ (greater : Tree → Tree → Type 0) (system : System) (units : ℕ) (l
     ended_case t n h differ Spent c = no_unit s t m left_form (form_at t n 0 c.0 h) differ c.1
     ended_case t n h differ Limit c = no_room_case t n h differ c.0 c.1.0 c.1.1 c.1.2
 
-    pub treated : (t : Tree) (n : ℕ) → Normalizes system.rules m right (Ok (t, n)) → (made : CodeOutcome) → IsCompared greater system n s t made → IsOutcome system Treated made
+    pub treated : (t : Tree) (n : ℕ) → Normalizes system.rules m right (Ok (t, n)) → (made : CodeOutcome) → IsCompared greater system n s t made → IsOutcome Treated made
     treated t n h (outcome.Passed k) c =
         let P : Tree → Type 0 = λ x. Normalizes system.rules m right (Ok (x, n)) in
         let Q : ℕ → Type 0 = λ x. Treated (Passed x) in
         subst Q (sym c.1) (equal_forms s m n left_form (subst P (sym c.0) h))
-    treated t n h (outcome.Added next k) c = (c.2.0, c.2.1, new_rule s t m k c.2.0 left_form (form_at t n (suc k) c.1 h) c.0 c.2.2 c.2.3)
+    treated t n h (outcome.Added r k) c = new_rule s t m k r left_form (form_at t n (suc k) c.1 h) c.0 c.2 c.3
     treated t n h (outcome.Ended end) c = ended_case t n h c.0 (plain_ending end) c.1
 
     pub treated_if_ok : (t : Tree) (n : ℕ) → Normalizes system.rules m right (Ok (t, n)) → (answer : Result CodeOutcome OutOfMemory)
-        → IfOk answer (IsCompared greater system n s t) → IfOk answer (IsOutcome system Treated)
+        → IfOk answer (IsCompared greater system n s t) → IfOk answer (IsOutcome Treated)
     treated_if_ok t n h (Ok made) c = treated t n h made c
     treated_if_ok t n h (Err e) c = tt
+
+-- the same of terms that are their own normal forms
+pub untouched_if_ok : (greater : Tree → Tree → Type 0) (system : System) (units : ℕ) (left right : Tree) → Spare system.rules left → Spare system.rules right
+    → (answer : Result CodeOutcome OutOfMemory) → IfOk answer (IsCompared greater system units left right)
+    → IfOk answer (IsOutcome (Treats system.arities greater system.rules units (pair_of left right)))
+untouched_if_ok greater system units left right a b answer c =
+    treated_if_ok greater system units left right left units (untouched_form system.rules units left a) right units (untouched_form system.rules units right b) answer c
+
+-- the same, as it is read
+pub equation_untouched : (greater : Tree → Tree → Type 0) (system : System) (units : ℕ) (rules more others items : List RewriteRule) (equation : RewriteRule) (l r : Tree)
+    → rules ≡ system.rules → more ≡ items → others ≡ items → pair_of l r ≡ equation → Spare (rules ++ more) equation.left → Spare (rules ++ more) equation.right
+    → (answer : Result CodeOutcome OutOfMemory) → IfOk answer (IsCompared greater (whole system others) units l r)
+    → IfOk answer (IsOutcome (Treats system.arities greater (system.rules ++ items) units equation))
+equation_untouched greater system units rules more others items equation l r e e' e'' view a b answer c =
+    let A : RewriteRule → Type 0 = λ p. IfOk answer (IsOutcome (Treats system.arities greater (system.rules ++ items) units p)) in
+    let C : List RewriteRule → Type 0 = λ xs. IfOk answer (IsCompared greater (whole system xs) units l r) in
+    let S : List RewriteRule → Type 0 = λ xs. Spare xs equation.left × Spare xs equation.right in
+    let T : RewriteRule → Type 0 = λ p. Spare (system.rules ++ items) p.left × Spare (system.rules ++ items) p.right in
+    let same : rules ++ more ≡ system.rules ++ items = ap (λ xs. xs ++ more) e ∙ ap (λ xs. system.rules ++ xs) e' in
+    let both : T (pair_of l r) = subst T (sym view) (subst S same (a, b)) in
+    subst A view (untouched_if_ok greater (whole system items) units l r both.0 both.1 answer (subst C e'' c))
+
+-- with no rules behind its own a system is the same
+pub none_more : (system : System) → whole system [] ≡ system
+none_more system = ap (with_rules system) (append-nil system.rules)
+
+-- a new rule keeps the limits
+pub added_fits : {arities : List ℕ} {greater : Tree → Tree → Type 0} {rules : List RewriteRule} {units n : ℕ} {pair r : RewriteRule}
+    → Treats arities greater rules units pair (Added r n) → Fits arities rules r
+added_fits (new_rule s t m n r a b differ o fits) = fits
 
 -- ---- the units that are left
 

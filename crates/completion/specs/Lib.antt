@@ -3,6 +3,7 @@ pub mod GreaterBy
 pub mod ReductionOrder
 pub mod Normalizing
 pub mod Searching
+pub mod Sparing
 pub mod Moving
 pub mod Orienting
 pub mod Endings

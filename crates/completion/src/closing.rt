@@ -7,6 +7,7 @@ ghost use Rattle.completion.specs.Taking.{ArePairsOver, Looks};
 
 use crate::Completion;
 use crate::known::see_system;
+use crate::orienting::take_in;
 use crate::treating::{Outcome, treat};
 use crit_pairs::{Peak, PeakFault, critical_pairs, first_peaks};
 use path_lpo::Lpo;
@@ -33,9 +34,11 @@ pub(crate) fn close(
     loop {
         match look(alloc, order, &system, left)? {
             Outcome::Passed(_) => return Ok(Completion::Done(system)),
-            Outcome::Added(next, more) => {
-                system = next;
-                left = more;
+            Outcome::Added(rule, units) => {
+                let mut last = Vec::new(alloc);
+                last.push(rule)?;
+                take_in(alloc, &mut system, &mut last)?;
+                left = units;
             }
             Outcome::Ended(why) => return Ok(why),
         }
@@ -45,7 +48,7 @@ pub(crate) fn close(
 /// The first of the critical peaks that is not passed over. All of them are counted, but only where
 /// a few are passed over are all of them made.
 fn look(alloc: Global, order: &Lpo, trs: &Trs, units: u64) -> Result<Outcome, OutOfMemory>
-    ensures { IfOk result (IsOutcome trs.now (Looks trs.now.arities (GreaterBy order.now)
+    ensures { IfOk result (IsOutcome (Looks trs.now.arities (GreaterBy order.now)
         trs.now.rules units)) }
 {
     see_system(trs);
@@ -64,7 +67,7 @@ fn look(alloc: Global, order: &Lpo, trs: &Trs, units: u64) -> Result<Outcome, Ou
 
 /// The same, where all peaks are made.
 fn look_at_all(alloc: Global, order: &Lpo, trs: &Trs, units: u64) -> Result<Outcome, OutOfMemory>
-    ensures { IfOk result (IsOutcome trs.now (Looks trs.now.arities (GreaterBy order.now)
+    ensures { IfOk result (IsOutcome (Looks trs.now.arities (GreaterBy order.now)
         trs.now.rules units)) }
 {
     see_system(trs);
@@ -95,14 +98,14 @@ fn find(
     units: u64,
 ) -> Result<Outcome, OutOfMemory>
     requires { ArePairsOver trs.now.arities (map sides peaks.now) }
-    ensures { IfOk result (IsOutcome trs.now (Finds trs.now.arities (GreaterBy order.now)
+    ensures { IfOk result (IsOutcome (Finds trs.now.arities (GreaterBy order.now)
         trs.now.rules units (map sides peaks.now))) }
 {
     let mut left = units;
     for peak in peaks {
         match treat(alloc, order, trs, &peak.left, &peak.right, left)? {
             Outcome::Passed(more) => left = more,
-            Outcome::Added(next, more) => return Ok(Outcome::Added(next, more)),
+            Outcome::Added(rule, more) => return Ok(Outcome::Added(rule, more)),
             Outcome::Ended(why) => return Ok(Outcome::Ended(why)),
         }
     }

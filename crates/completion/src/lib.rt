@@ -12,6 +12,7 @@ mod normalizing;
 mod orienting;
 mod renumbering;
 mod searching;
+mod sparing;
 mod taking;
 mod treating;
 mod unfinished;

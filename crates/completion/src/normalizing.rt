@@ -16,7 +16,7 @@ use term_pool::{MOST_IDS, Pool};
 use trs_core::{OutOfMemory, Term, Trs};
 
 /// The most ids of a pool before all of them but those of the term at hand are given up.
-const MOST_KEPT: u32 = 131_072;
+const MOST_KEPT: u32 = 65_536;
 
 /// A normal form with the units that are left, or why there is none.
 #[derive(Drop)]

@@ -1,36 +1,69 @@
-ghost use Rattle.std.specs.Prelude.{◌≡◌, ◌≤◌, ◌↔◌, ◌++◌, ◌∷◌, [], IsTrue, IfOk, IfSome, IfNone};
+ghost use Rattle.std.specs.Prelude.{◌≡◌, ◌≤◌, ◌↔◌, ◌+◌, ◌++◌, [], min, length, IsTrue, IfOk, OnOk};
 ghost use Rattle.trs_defs.specs.Size.{depth_of};
-ghost use Rattle.trs_core.specs.SystemLimits.{IsWithinLimits};
-ghost use Rattle.trs_core.specs.Valid.{system};
+ghost use Rattle.trs_core.specs.SystemLimits.{IsWithinLimits, nodes_of};
+ghost use Rattle.completion.specs.Orienting.{Fits};
+ghost use Rattle.completion.specs.Treating.{whole, HasRoom};
 
 use std::alloc::Global;
-use trs_core::{OutOfMemory, Rule, Trs, TrsFault};
+use trs_core::{OutOfMemory, Rule, Trs};
 
 /// The deepest side of a new rule, so that the system can be printed.
 const DEEPEST: u64 = 256;
 
+/// Whether a new rule may come behind those of a system and some more.
+pub(crate) fn fits(trs: &Trs, more: &[Rule], rule: &Rule) -> bool
+    requires { IsWithinLimits (whole trs.now more.now) }
+    ensures { IsTrue result ↔ Fits trs.now.arities (trs.now.rules ++ more.now) rule.now }
+{
+    is_shallow(rule) && has_room(trs.rules(), more, rule)
+}
+
 /// Whether both sides of a rule can be printed.
-pub(crate) fn is_shallow(rule: &Rule) -> bool
+fn is_shallow(rule: &Rule) -> bool
     ensures shallow { IsTrue result
         ↔ ((depth_of rule.now.left ≤ 256) × (depth_of rule.now.right ≤ 256)) }
 {
     rule.left.depth() <= DEEPEST && rule.right.depth() <= DEEPEST
 }
 
-/// The system with one rule more, or `None` where that passes the limits on systems.
-pub(crate) fn with_rule(alloc: Global, trs: &Trs, rule: Rule) -> Result<Option<Trs>, OutOfMemory>
-    ensures some { IfOk result (λ o. IfSome o (λ next.
-        next ≡ system trs.now.arities (trs.now.rules ++ rule ∷ []))) }
-    ensures fits { IfOk result (λ o. IfSome o (λ next.
-        IsWithinLimits (system trs.now.arities (trs.now.rules ++ rule ∷ [])))) }
-    ensures none { IfOk result (λ o. IfNone o (
-        IsWithinLimits (system trs.now.arities (trs.now.rules ++ rule ∷ [])) → ⊥)) }
+/// Whether rules, some more and one more are few, and have few nodes.
+fn has_room(rules: &[Rule], more: &[Rule], rule: &Rule) -> bool
+    requires { length rules.now + length more.now ≤ 4095 }
+    ensures { IsTrue result ↔ HasRoom rules.now more.now rule.now }
 {
+    let nodes = total_nodes(rules).saturating_add(total_nodes(more));
+    let added = rule.left.size().saturating_add(rule.right.size());
+    rules.len() + more.len() < 4_095 && nodes.saturating_add(added) <= 65_536
+}
+
+/// The nodes of all sides. It stands still at the last `u64`.
+fn total_nodes(rules: &[Rule]) -> u64
+    ensures { result ≡ min (nodes_of rules.now) u64.MAX }
+{
+    let mut total: u64 = 0;
+    for rule in rules {
+        total = total
+            .saturating_add(rule.left.size())
+            .saturating_add(rule.right.size());
+    }
+    total
+}
+
+/// Makes the last rules part of the system, where there are any.
+pub(crate) fn take_in(alloc: Global, trs: &mut Trs, more: &mut Vec<Rule>) -> Result<(), OutOfMemory>
+    ensures whole { OnOk result (trs.new ≡ whole trs.old more.old.items) }
+    ensures none { OnOk result (more.new.items ≡ []) }
+{
+    if more.is_empty() {
+        return Ok(());
+    }
     let mut rules = copied_rules(alloc, trs)?;
-    rules.push(rule)?;
+    rules.append(more)?;
     match Trs::new(Vec::from_slice(alloc, trs.arities())?, rules) {
-        Ok(next) => Ok(Some(next)),
-        Err(TrsFault::TooMany) => Ok(None),
+        Ok(next) => {
+            *trs = next;
+            Ok(())
+        }
         Err(_) => Err(OutOfMemory),
     }
 }

@@ -1,13 +1,20 @@
-ghost use Rattle.std.specs.Prelude.{◌≡◌, [], IfOk};
+ghost use Rattle.std.specs.Prelude.{◌≡◌, ◌++◌, [], IfOk, OnOk, IsTrue};
+ghost use Rattle.trs_core.specs.SystemLimits.{IsWithinLimits};
+ghost use Rattle.trs_core.specs.View.{tree};
 ghost use Rattle.completion.specs.GreaterBy.{GreaterBy};
 ghost use Rattle.completion.specs.Endings.{with_rules};
-ghost use Rattle.completion.specs.Taking.{HasTaken};
+ghost use Rattle.completion.specs.CompletionRun.{Treats};
+ghost use Rattle.completion.specs.Sparing.{Spare};
+ghost use Rattle.completion.specs.Treating.{whole, IsOutcome};
+ghost use Rattle.completion.specs.Taking.{HasTaken, IsTermOver};
 
 use crate::Completion;
-use crate::treating::{Outcome, treat};
+use crate::orienting::take_in;
+use crate::sparing::spare;
+use crate::treating::{Outcome, compare, treat};
 use path_lpo::Lpo;
 use std::alloc::Global;
-use trs_core::{OutOfMemory, Trs};
+use trs_core::{OutOfMemory, Rule, Term, Trs};
 
 /// The rules that all equations gave, and the units that are left; or how the run ended.
 #[derive(Drop)]
@@ -26,18 +33,67 @@ pub(crate) fn take(
     ensures { IfOk result (HasTaken equations.now (GreaterBy order.now) budget) }
 {
     let mut system = no_rules(alloc, equations)?;
+    let mut more = Vec::new(alloc);
     let mut left = budget;
     for equation in equations.rules() {
-        match treat(alloc, order, &system, &equation.left, &equation.right, left)? {
+        match take_one(alloc, order, &mut system, &mut more, equation, left)? {
             Outcome::Passed(units) => left = units,
-            Outcome::Added(next, units) => {
-                system = next;
+            Outcome::Added(rule, units) => {
+                more.push(rule)?;
                 left = units;
             }
             Outcome::Ended(why) => return Ok(Taken::Ended(why)),
         }
     }
+    take_in(alloc, &mut system, &mut more)?;
     Ok(Taken::Rules(system, left))
+}
+
+/// One equation, by the rules of a system and some more. These become part of the system, whose
+/// rules are copied then, only where a side may have a redex.
+fn take_one(
+    alloc: Global,
+    order: &Lpo,
+    system: &mut Trs,
+    more: &mut Vec<Rule>,
+    equation: &Rule,
+    units: u64,
+) -> Result<Outcome, OutOfMemory>
+    requires left { IsTermOver system.old.arities equation.now.left }
+    requires right { IsTermOver system.old.arities equation.now.right }
+    requires limits { IsWithinLimits (whole system.old more.old.items) }
+    ensures outcome { IfOk result (IsOutcome (Treats system.old.arities (GreaterBy order.now)
+        (whole system.old more.old.items).rules units equation.now)) }
+    ensures same { OnOk result (whole system.new more.new.items ≡ whole system.old more.old.items) }
+{
+    if leave_alone(system.rules(), more, equation) {
+        return compare(
+            alloc,
+            order,
+            system,
+            more,
+            &equation.left,
+            &equation.right,
+            units,
+        );
+    }
+    take_in(alloc, system, more)?;
+    treat(alloc, order, system, &equation.left, &equation.right, units)
+}
+
+/// Whether rules and some more leave both sides of an equation as they are: symbols alone are looked
+/// at, and others may do so too.
+fn leave_alone(rules: &[Rule], more: &[Rule], equation: &Rule) -> bool
+    ensures left { IsTrue result → Spare (rules.now ++ more.now) equation.now.left }
+    ensures right { IsTrue result → Spare (rules.now ++ more.now) equation.now.right }
+{
+    both_spare(rules, more, &equation.left) && both_spare(rules, more, &equation.right)
+}
+
+fn both_spare(rules: &[Rule], more: &[Rule], t: &Term) -> bool
+    ensures { IsTrue result → Spare (rules.now ++ more.now) (tree t.now) }
+{
+    spare(rules, t) && spare(more, t)
 }
 
 /// No rules over the arity table.

@@ -1,25 +1,27 @@
 ghost use Rattle.std.specs.Prelude.{◌≡◌, ◌<◌, IfOk, IsTrue};
+ghost use Rattle.trs_core.specs.SystemLimits.{IsWithinLimits};
 ghost use Rattle.trs_core.specs.View.{tree};
 ghost use Rattle.completion.specs.CompletionRun.{Treats, ending_of};
 ghost use Rattle.completion.specs.Answers.{plain_ending};
 ghost use Rattle.completion.specs.GreaterBy.{GreaterBy};
 ghost use Rattle.completion.specs.Taking.{IsTermOver};
-ghost use Rattle.completion.specs.Treating.{pair_of, IsOutcome, IsCompared, IsAdded};
+ghost use Rattle.completion.specs.Treating.{pair_of, whole, IsOutcome, IsCompared, IsAdded};
 
+use crate::known::see_system;
 use crate::normalizing::{Form, normal_form};
-use crate::orienting::{is_shallow, with_rule};
+use crate::orienting::fits;
 use crate::renumbering::renumbered;
 use crate::{Completion, Unfinished};
 use path_lpo::{Lpo, is_strict};
 use std::alloc::Global;
-use trs_core::{OutOfMemory, Term, Trs};
+use trs_core::{OutOfMemory, Rule, Term, Trs};
 
 /// What becomes of a pair: it is passed over, or gives a rule, and so many units are left; or the
 /// run ends.
 #[derive(Drop)]
 pub(crate) enum Outcome {
     Passed(u64),
-    Added(Trs, u64),
+    Added(Rule, u64),
     Ended(Completion),
 }
 
@@ -34,14 +36,15 @@ pub(crate) fn treat(
 ) -> Result<Outcome, OutOfMemory>
     requires left { IsTermOver trs.now.arities (tree left.now) }
     requires right { IsTermOver trs.now.arities (tree right.now) }
-    ensures { IfOk result (IsOutcome trs.now (Treats trs.now.arities (GreaterBy order.now)
+    ensures { IfOk result (IsOutcome (Treats trs.now.arities (GreaterBy order.now)
         trs.now.rules units (pair_of (tree left.now) (tree right.now)))) }
 {
+    see_system(trs);
     match normal_form(alloc, trs, left, units)? {
         Form::Stopped(why) => Ok(Outcome::Ended(ended(why))),
         Form::Normal(s, more) => match normal_form(alloc, trs, right, more)? {
             Form::Stopped(why) => Ok(Outcome::Ended(ended(why))),
-            Form::Normal(t, rest) => compare(alloc, order, trs, &s, &t, rest),
+            Form::Normal(t, rest) => compare(alloc, order, trs, &[], &s, &t, rest),
         },
     }
 }
@@ -56,44 +59,51 @@ fn ended(why: Unfinished) -> Completion
     }
 }
 
-/// Two normal forms.
-fn compare(
+/// Two normal forms, by the rules of a system and some more.
+pub(crate) fn compare(
     alloc: Global,
     order: &Lpo,
     trs: &Trs,
+    more: &[Rule],
     s: &Term,
     t: &Term,
     units: u64,
 ) -> Result<Outcome, OutOfMemory>
-    ensures { IfOk result (IsCompared (GreaterBy order.now) trs.now units (tree s.now)
-        (tree t.now)) }
+    requires { IsWithinLimits (whole trs.now more.now) }
+    ensures { IfOk result (IsCompared (GreaterBy order.now) (whole trs.now more.now) units
+        (tree s.now) (tree t.now)) }
 {
     if s.same(t) {
         return Ok(Outcome::Passed(units));
     }
     if is_strict(order, s, t) {
-        return add(alloc, trs, s, t, units);
+        return add(alloc, trs, more, s, t, units);
     }
     if is_strict(order, t, s) {
-        return add(alloc, trs, t, s, units);
+        return add(alloc, trs, more, t, s, units);
     }
     let pair = renumbered(alloc, s, t)?;
     Ok(Outcome::Ended(Completion::Unorientable(pair.left, pair.right)))
 }
 
 /// A new last rule from the greater normal form to the other.
-fn add(alloc: Global, trs: &Trs, s: &Term, t: &Term, units: u64) -> Result<Outcome, OutOfMemory>
-    ensures { IfOk result (IsAdded trs.now units (tree s.now) (tree t.now)) }
+fn add(
+    alloc: Global,
+    trs: &Trs,
+    more: &[Rule],
+    s: &Term,
+    t: &Term,
+    units: u64,
+) -> Result<Outcome, OutOfMemory>
+    requires { IsWithinLimits (whole trs.now more.now) }
+    ensures { IfOk result (IsAdded (whole trs.now more.now) units (tree s.now) (tree t.now)) }
 {
     if units == 0 {
         return Ok(Outcome::Ended(Completion::Spent));
     }
     let rule = renumbered(alloc, s, t)?;
-    if !is_shallow(&rule) {
+    if !fits(trs, more, &rule) {
         return Ok(Outcome::Ended(Completion::Limit));
     }
-    match with_rule(alloc, trs, rule)? {
-        Some(next) => Ok(Outcome::Added(next, units - 1)),
-        None => Ok(Outcome::Ended(Completion::Limit)),
-    }
+    Ok(Outcome::Added(rule, units - 1))
 }

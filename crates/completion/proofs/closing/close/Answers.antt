@@ -11,7 +11,7 @@ loop-system-init c = close_begins (GreaterBy c.args.order.now) c.args.rules c.ar
 
 pub returns-in-Passed-clause-closes : goal.returns-in-Passed-clause-closes
 returns-in-Passed-clause-closes c =
-    let F : CodeOutcome → Type 0 = IsOutcome c.loop-system.system (Looks c.loop-system.system.arities (GreaterBy c.args.order.now) c.loop-system.system.rules c.loop-system.left) in
+    let F : CodeOutcome → Type 0 = IsOutcome (Looks c.loop-system.system.arities (GreaterBy c.args.order.now) c.loop-system.system.rules c.loop-system.left) in
     close_done (GreaterBy c.args.order.now) c.args.rules c.args.units c.loop-system.system c.loop-system.left c.loop-system.invariant c.in-Passed.field-0
     (subst F c.in-Passed.is c.in_ok-look.ensures)
 
@@ -20,23 +20,23 @@ returns-in-Passed-clause-arities c = c.loop-system.invariant.arities
 
 pub loop-system-smaller : goal.loop-system-smaller
 loop-system-smaller c =
-    let F : CodeOutcome → Type 0 = IsOutcome c.loop-system.system (Looks c.loop-system.system.arities (GreaterBy c.args.order.now) c.loop-system.system.rules c.loop-system.left) in
-    close_smaller (GreaterBy c.args.order.now) c.args.rules c.args.units c.loop-system.system c.loop-system.left c.in-Added.next c.in-Added.more
+    let F : CodeOutcome → Type 0 = IsOutcome (Looks c.loop-system.system.arities (GreaterBy c.args.order.now) c.loop-system.system.rules c.loop-system.left) in
+    close_smaller (GreaterBy c.args.order.now) c.args.rules c.args.units c.loop-system.system c.loop-system.left c.in-Added.rule c.in-Added.units
     (subst F c.in-Added.is c.in_ok-look.ensures)
 
 pub loop-system-preserved : goal.loop-system-preserved
 loop-system-preserved c =
-    let F : CodeOutcome → Type 0 = IsOutcome c.loop-system.system (Looks c.loop-system.system.arities (GreaterBy c.args.order.now) c.loop-system.system.rules c.loop-system.left) in
-    close_more (GreaterBy c.args.order.now) c.args.rules c.args.units c.loop-system.system c.loop-system.left c.loop-system.invariant c.in-Added.next c.in-Added.more
+    let F : CodeOutcome → Type 0 = IsOutcome (Looks c.loop-system.system.arities (GreaterBy c.args.order.now) c.loop-system.system.rules c.loop-system.left) in
+    close_more (GreaterBy c.args.order.now) c.args.rules c.args.units c.loop-system.system c.loop-system.left c.loop-system.invariant c.take_in.new.trs c.new-last.result.items c.push.new.self.items c.in-Added.rule c.in-Added.units c.in_ok-take_in-in-Added.ensures.whole c.in_ok-push-in-Added.ensures.items c.new-last.ensures.items
     (subst F c.in-Added.is c.in_ok-look.ensures)
 
 pub returns-in-Ended-clause-closes : goal.returns-in-Ended-clause-closes
 returns-in-Ended-clause-closes c =
-    let F : CodeOutcome → Type 0 = IsOutcome c.loop-system.system (Looks c.loop-system.system.arities (GreaterBy c.args.order.now) c.loop-system.system.rules c.loop-system.left) in
+    let F : CodeOutcome → Type 0 = IsOutcome (Looks c.loop-system.system.arities (GreaterBy c.args.order.now) c.loop-system.system.rules c.loop-system.left) in
     close_end (GreaterBy c.args.order.now) c.args.rules c.args.units c.loop-system.system c.loop-system.left c.loop-system.invariant c.in-Ended.why
     (subst F c.in-Ended.is c.in_ok-look.ensures)
 
 pub returns-in-Ended-clause-arities : goal.returns-in-Ended-clause-arities
 returns-in-Ended-clause-arities c =
-    let F : CodeOutcome → Type 0 = IsOutcome c.loop-system.system (Looks c.loop-system.system.arities (GreaterBy c.args.order.now) c.loop-system.system.rules c.loop-system.left) in
+    let F : CodeOutcome → Type 0 = IsOutcome (Looks c.loop-system.system.arities (GreaterBy c.args.order.now) c.loop-system.system.rules c.loop-system.left) in
     looked_arities (GreaterBy c.args.order.now) c.loop-system.system c.loop-system.left c.in-Ended.why (subst F c.in-Ended.is c.in_ok-look.ensures) c.args.rules.arities

@@ -25,17 +25,17 @@ treat-requires-clause-right c =
 
 pub returns-in-Added : goal.returns-in-Added
 returns-in-Added c =
-    let T : CodeOutcome → PlacedPeak → Type 0 = λ made p. IsOutcome c.args.trs.now (Treats c.args.trs.now.arities (GreaterBy c.args.order.now) c.args.trs.now.rules c.loop-peak.left (sides p)) made in
-    let R : CodeOutcome → Type 0 = λ made. IsOutcome c.args.trs.now (Treats c.args.trs.now.arities (GreaterBy c.args.order.now) c.args.trs.now.rules c.loop-peak.left (pair_of (tree c.peak.inside.left) (tree c.peak.inside.right))) made in
+    let T : CodeOutcome → PlacedPeak → Type 0 = λ made p. IsOutcome (Treats c.args.trs.now.arities (GreaterBy c.args.order.now) c.args.trs.now.rules c.loop-peak.left (sides p)) made in
+    let R : CodeOutcome → Type 0 = λ made. IsOutcome (Treats c.args.trs.now.arities (GreaterBy c.args.order.now) c.args.trs.now.rules c.loop-peak.left (pair_of (tree c.peak.inside.left) (tree c.peak.inside.right))) made in
     find_rule (GreaterBy c.args.order.now) c.args.trs.now (map sides c.args.peaks.now) c.args.units c.loop-peak.left (map sides (drop c.loop-peak.peak-index c.args.peaks.now)) (sides c.peak-item.result)
     (map sides (drop (c.loop-peak.peak-index + 1) c.args.peaks.now)) (next_pairs c.args.peaks.now c.loop-peak.peak-index c.peak-item.result c.loop-peak-test.true c.peak-item.is)
-    c.loop-peak.invariant c.in-Added.next c.in-Added.more
-    (subst (T (outcome.Added c.in-Added.next c.in-Added.more)) c.peak.view_is (subst R c.in-Added.is c.in_ok-more.ensures))
+    c.loop-peak.invariant c.in-Added.rule c.in-Added.more
+    (subst (T (outcome.Added c.in-Added.rule c.in-Added.more)) c.peak.view_is (subst R c.in-Added.is c.in_ok-more.ensures))
 
 pub returns-in-Ended : goal.returns-in-Ended
 returns-in-Ended c =
-    let T : CodeOutcome → PlacedPeak → Type 0 = λ made p. IsOutcome c.args.trs.now (Treats c.args.trs.now.arities (GreaterBy c.args.order.now) c.args.trs.now.rules c.loop-peak.left (sides p)) made in
-    let R : CodeOutcome → Type 0 = λ made. IsOutcome c.args.trs.now (Treats c.args.trs.now.arities (GreaterBy c.args.order.now) c.args.trs.now.rules c.loop-peak.left (pair_of (tree c.peak.inside.left) (tree c.peak.inside.right))) made in
+    let T : CodeOutcome → PlacedPeak → Type 0 = λ made p. IsOutcome (Treats c.args.trs.now.arities (GreaterBy c.args.order.now) c.args.trs.now.rules c.loop-peak.left (sides p)) made in
+    let R : CodeOutcome → Type 0 = λ made. IsOutcome (Treats c.args.trs.now.arities (GreaterBy c.args.order.now) c.args.trs.now.rules c.loop-peak.left (pair_of (tree c.peak.inside.left) (tree c.peak.inside.right))) made in
     find_end (GreaterBy c.args.order.now) c.args.trs.now (map sides c.args.peaks.now) c.args.units c.loop-peak.left (map sides (drop c.loop-peak.peak-index c.args.peaks.now)) (sides c.peak-item.result)
     (map sides (drop (c.loop-peak.peak-index + 1) c.args.peaks.now)) (next_pairs c.args.peaks.now c.loop-peak.peak-index c.peak-item.result c.loop-peak-test.true c.peak-item.is)
     c.loop-peak.invariant c.in-Ended.why
@@ -43,8 +43,8 @@ returns-in-Ended c =
 
 pub loop-peak-preserved : goal.loop-peak-preserved
 loop-peak-preserved c =
-    let T : CodeOutcome → PlacedPeak → Type 0 = λ made p. IsOutcome c.args.trs.now (Treats c.args.trs.now.arities (GreaterBy c.args.order.now) c.args.trs.now.rules c.loop-peak.left (sides p)) made in
-    let R : CodeOutcome → Type 0 = λ made. IsOutcome c.args.trs.now (Treats c.args.trs.now.arities (GreaterBy c.args.order.now) c.args.trs.now.rules c.loop-peak.left (pair_of (tree c.peak.inside.left) (tree c.peak.inside.right))) made in
+    let T : CodeOutcome → PlacedPeak → Type 0 = λ made p. IsOutcome (Treats c.args.trs.now.arities (GreaterBy c.args.order.now) c.args.trs.now.rules c.loop-peak.left (sides p)) made in
+    let R : CodeOutcome → Type 0 = λ made. IsOutcome (Treats c.args.trs.now.arities (GreaterBy c.args.order.now) c.args.trs.now.rules c.loop-peak.left (pair_of (tree c.peak.inside.left) (tree c.peak.inside.right))) made in
     find_next (GreaterBy c.args.order.now) c.args.trs.now (map sides c.args.peaks.now) c.args.units c.loop-peak.left (map sides (drop c.loop-peak.peak-index c.args.peaks.now)) (sides c.peak-item.result)
     (map sides (drop (c.loop-peak.peak-index + 1) c.args.peaks.now)) (next_pairs c.args.peaks.now c.loop-peak.peak-index c.peak-item.result c.loop-peak-test.true c.peak-item.is)
     c.loop-peak.invariant c.in-Passed.more

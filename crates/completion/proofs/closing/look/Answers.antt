@@ -18,7 +18,7 @@ find-requires c =
 pub returns-then-is_settled : goal.returns-then-is_settled
 returns-then-is_settled c =
     let F : List PlacedPeak → Type 0 = λ ps.
-    IsOutcome c.args.trs.now (Finds c.args.trs.now.arities (GreaterBy c.args.order.now) c.args.trs.now.rules c.args.units (map sides ps)) c.in_ok-found-in-Ok.found in
+    IsOutcome (Finds c.args.trs.now.arities (GreaterBy c.args.order.now) c.args.trs.now.rules c.args.units (map sides ps)) c.in_ok-found-in-Ok.found in
     few_looked_at (GreaterBy c.args.order.now) c.args.trs.now c.args.units 64 c.in-Ok.few c.in-Ok.ensures.first c.in_ok-found-in-Ok.found
     (c.if-is_settled.ensures refl) (subst F c.deref.ensures.value c.in_ok-found-in-Ok.ensures)
 

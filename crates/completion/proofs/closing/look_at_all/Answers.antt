@@ -15,7 +15,7 @@ find-requires c =
 pub returns-in-Ok : goal.returns-in-Ok
 returns-in-Ok c =
     let R : List PlacedPeak → Type 0 = λ ps.
-    IfOk c.find.result (IsOutcome c.args.trs.now (Finds c.args.trs.now.arities (GreaterBy c.args.order.now) c.args.trs.now.rules c.args.units (map sides ps))) in
+    IfOk c.find.result (IsOutcome (Finds c.args.trs.now.arities (GreaterBy c.args.order.now) c.args.trs.now.rules c.args.units (map sides ps))) in
     all_if_ok (GreaterBy c.args.order.now) c.args.trs.now c.args.units c.in-Ok.peaks.items c.in-Ok.ensures.peaks c.find.result (subst R c.deref.ensures.value c.find.ensures)
 
 pub returns-in-Err-TooLarge : goal.returns-in-Err-TooLarge

@@ -1,0 +1,15 @@
+-- Terms that rules leave alone: no subterm is an instance of a left side.
+use Rattle.std.specs.Prelude.{◌≡◌, ℕ, List, Some}
+use Rattle.trs_defs.specs.Tree.{Tree}
+use Rattle.trs_defs.specs.Member.{In}
+use Rattle.trs_defs.specs.Position.{subterm_at}
+use Rattle.trs_defs.specs.Substitution.{IsInstance}
+use Rattle.trs_defs.specs.System.{RewriteRule}
+
+-- no subterm is an instance of the pattern
+abbrev pub HasNoInstance : Tree → Tree → Type 0
+HasNoInstance pattern t = (p : List ℕ) (part : Tree) → subterm_at p t ≡ Some part → IsInstance pattern part → ⊥
+
+-- no subterm is an instance of a left side of these rules
+abbrev pub Spare : List RewriteRule → Tree → Type 0
+Spare rules t = (r : RewriteRule) → In r rules → HasNoInstance r.left t
