@@ -14,7 +14,7 @@ loop-searcher-init c =
     let system : tree.system ≡ c.args.trs.now = ap (λ (t : ProofTree). t.system) is in
     record {
       rest = new_at_rest c.args.question c.args.trs.now c.args.limits.budget tree is;
-      searcher = c.new-searcher.ensures ∙ sym system;
+      searcher = c.new-searcher.ensures ∙ (c.in_ok-tables.ensures ∙ sym system);
       question = ap (λ (t : ProofTree). t.question) is;
       system = system;
       budget = ap (λ (t : ProofTree). t.budget) is;
