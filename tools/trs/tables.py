@@ -27,12 +27,11 @@ def symbol_of(names, member, fewest):
     """The symbol of an entry that is long enough; None where it has another head, or a name that is not declared."""
     check_length(member, fewest(0))
     word, name = member.members[:2]
-    if not is_word(name) or name.text not in names.arities:
+    if not is_word(word) or word.text not in ("sym", "mark") or not is_word(name) or name.text not in names.arities:
         return None
     if len(member.members) < fewest(names.arities[name.text]):
         raise Bad(member.place)
-    heads = {"sym": name.text, "mark": ("mark", name.text)}
-    return heads.get(word.text) if is_word(word) else None
+    return name.text if word.text == "sym" else ("mark", name.text)
 
 
 def check_entry_head(names, member):
