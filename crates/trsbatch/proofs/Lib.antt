@@ -2,7 +2,9 @@ mod BareLines
 mod ListLines
 mod OneReading
 mod Zipping
+mod Placing
 mod Fetching
 mod BlocksOfNames
 mod FromLists
 mod Running
+mod WrittenOnce

@@ -1,5 +1,5 @@
 -- Facts of two lists, place by place.
-use Rattle.std.proofs.Common.{◌≡◌, ◌<◌, ◌+◌, ℕ, suc, List, [], ◌∷◌, ◌++◌, length, Vec, Result, Ok, Err, IfOk, arith, Global, slice_index_or, get_or, take, sym, ap, subst, ◌∙◌}
+use Rattle.std.proofs.Common.{◌≡◌, ◌<◌, ◌+◌, ℕ, zero, suc, List, [], ◌∷◌, ◌++◌, length, arith, get_or, slice_set, take, sym, ap, subst, ◌∙◌}
 use Rattle.std.proofs.lemmas.List.{take_more}
 use Rattle.std.specs.List.{AllZip}
 
@@ -14,15 +14,23 @@ pub zip_more : {A B : Type 0} (R : A → B → Type 0) (xs : List A) (ys : List 
 zip_more R xs ys i x y within is h r =
     subst (λ zs. AllZip R zs (ys ++ y ∷ [])) (sym (take_more xs i x within ∙ ap (λ z. take i xs ++ z ∷ []) (sym is))) (zip_push R (take i xs) ys x y h r)
 
-pub zip_at : {A B : Type 0} (R : A → B → Type 0) (xs : List A) (ys : List B) → length ys ≡ length xs
-    → ((i : ℕ) (d : A) (e : B) → i < length xs → R (slice_index_or xs i d) (slice_index_or ys i e)) → AllZip R xs ys
-zip_at R [] [] e h = tt
-zip_at R [] (y ∷ ys) e h = absurd cc
-zip_at R (x ∷ xs) [] e h = absurd cc
-zip_at R (x ∷ xs) (y ∷ ys) e h =
-    (h 0 x y (omega arith), zip_at R xs ys (omega (arith, e)) (λ i d f within. h (suc i) d f (omega (arith, within))))
+-- the relation at a place, and after a write there
+pub zip_set : {A B : Type 0} (R : A → B → Type 0) (xs : List A) (ys : List B) (i : ℕ) (y : B) → i < length xs
+    → ((d : A) → R (get_or xs i d) y) → AllZip R xs ys → AllZip R xs (slice_set ys i y)
+zip_set R [] ys i y within r h = absurd (omega arith)
+zip_set R (x ∷ xs) [] i y within r h = absurd h
+zip_set R (x ∷ xs) (z ∷ zs) zero y within r (h, hs) = (r x, hs)
+zip_set R (x ∷ xs) (z ∷ zs) (suc i) y within r (h, hs) = (h, zip_set R xs zs i y (omega arith) r hs)
 
-pub zip_ok : {A B E : Type 0} (R : A → B → Type 0) (xs : List A) (r : Result (Vec B Global) E) → IfOk r (λ v. length v.items ≡ length xs)
-    → IfOk r (λ v. (i : ℕ) (d : A) (e : B) → i < length xs → R (slice_index_or xs i d) (slice_index_or v.items i e)) → IfOk r (λ v. AllZip R xs v.items)
-zip_ok R xs (Ok v) e h = zip_at R xs v.items e h
-zip_ok R xs (Err x) e h = tt
+pub zip_get : {A B : Type 0} (R : A → B → Type 0) (xs : List A) (ys : List B) (i : ℕ) (d : A) (e : B) → AllZip R xs ys → i < length xs
+    → R (get_or xs i d) (get_or ys i e)
+zip_get R [] ys i d e h within = absurd (omega arith)
+zip_get R (x ∷ xs) [] i d e h within = absurd h
+zip_get R (x ∷ xs) (y ∷ ys) zero d e (h, hs) within = h
+zip_get R (x ∷ xs) (y ∷ ys) (suc i) d e (h, hs) within = zip_get R xs ys i d e hs (omega arith)
+
+pub zip_long : {A B : Type 0} (R : A → B → Type 0) (xs : List A) (ys : List B) → AllZip R xs ys → length ys ≡ length xs
+zip_long R [] [] h = omega arith
+zip_long R [] (y ∷ ys) h = absurd h
+zip_long R (x ∷ xs) [] h = absurd h
+zip_long R (x ∷ xs) (y ∷ ys) (h, hs) = let e = zip_long R xs ys hs in omega (arith, e)

@@ -6,5 +6,7 @@ pub mod Lines
 pub mod Blocks
 pub mod Output
 pub mod Problems
+pub mod Placing
 pub mod Answers
 pub mod Run
+pub mod OneText

@@ -12,7 +12,6 @@ use command_line::Refused;
 use io_edge::Shelf;
 use program_edge::{Gate, Status, Unfetched};
 use std::alloc::{AllocError, Global};
-use std::sync::Wait;
 use std::thread::Threads;
 
 /// What is to be written.
@@ -83,8 +82,8 @@ fn batch_answered_alone<'a, S: Shelf, G: Gate>(
     }
 }
 
-/// The same by several workers. It may wait.
-pub(crate) fn batch_answered_beside<'a, R: Threads + Wait + Sync, S: Shelf, G: Gate>(
+/// The same by several workers.
+pub(crate) fn batch_answered_beside<'a, R: Threads + Sync, S: Shelf, G: Gate>(
     rt: &R,
     alloc: Global,
     batch: &Batch<'a>,

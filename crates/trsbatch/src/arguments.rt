@@ -13,12 +13,11 @@ use std::env::Args;
 use std::io;
 use std::io::ErrorKind;
 use std::process::ExitCode;
-use std::sync::Wait;
 use std::thread::Threads;
 
 /// Runs the program on the arguments as a host gives them, and answers the exit code of its status.
 /// Arguments that are not text ask for nothing.
-pub(crate) fn run_arguments<R: Threads + Wait + Sync, S: Shelf, K: Sink>(
+pub(crate) fn run_arguments<R: Threads + Sync, S: Shelf, K: Sink>(
     rt: &R,
     alloc: Global,
     arguments: io::Result<Args>,
@@ -31,7 +30,7 @@ pub(crate) fn run_arguments<R: Threads + Wait + Sync, S: Shelf, K: Sink>(
     ExitCode::from(status_for(rt, alloc, arguments, shelf, out).code())
 }
 
-fn status_for<R: Threads + Wait + Sync, S: Shelf, K: Sink>(
+fn status_for<R: Threads + Sync, S: Shelf, K: Sink>(
     rt: &R,
     alloc: Global,
     arguments: io::Result<Args>,
@@ -48,7 +47,7 @@ fn status_for<R: Threads + Wait + Sync, S: Shelf, K: Sink>(
     }
 }
 
-fn status_for_texts<R: Threads + Wait + Sync, S: Shelf, K: Sink>(
+fn status_for_texts<R: Threads + Sync, S: Shelf, K: Sink>(
     rt: &R,
     alloc: Global,
     arguments: Args,

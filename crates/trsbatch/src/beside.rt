@@ -1,15 +1,16 @@
 //! Workers that answer a question about problems, by one or by several beside each other.
-ghost use Rattle.std.specs.Prelude.{◌≡◌, ◌<◌, ℕ, IfOk, All, length, slice_index_or};
+ghost use Rattle.std.specs.Prelude.{◌≡◌, ◌<◌, ℕ, IfOk, IfSome, All, length, slice_index_or};
 ghost use Rattle.trsbatch.specs.Problems.{IsWithinLimit, IsBlockOf, AreBlocksOf};
+ghost use Rattle.trsbatch.specs.Placing.{ArePlaced, AreInSlots};
 
 use crate::answering::block_of;
 use crate::block::Block;
-use crate::desks::Desks;
+use crate::placed::{Placed, in_slots};
 use crate::problem::Problem;
 use command_line::Question;
 use program_edge::Gate;
 use std::alloc::{AllocError, Global};
-use std::sync::Wait;
+use std::sync::atomic::{AtomicUsize, Ordering};
 use std::thread;
 use std::thread::Threads;
 
@@ -31,8 +32,8 @@ pub(crate) fn blocks_alone<G: Gate>(
     Ok(blocks)
 }
 
-/// The blocks of problems, answered beside each other by so many workers. It may wait.
-pub(crate) fn blocks_beside<R: Threads + Wait + Sync, G: Gate>(
+/// The blocks of problems, answered beside each other by so many workers.
+pub(crate) fn blocks_beside<R: Threads + Sync, G: Gate>(
     rt: &R,
     alloc: Global,
     problems: &[Problem],
@@ -44,57 +45,105 @@ pub(crate) fn blocks_beside<R: Threads + Wait + Sync, G: Gate>(
     requires { All IsWithinLimit problems.now }
     ensures { IfOk result (λ blocks. AreBlocksOf question budget problems.now blocks.items) }
 {
-    let desks = Desks::new(workers);
-    blocks_at_desks(rt, alloc, problems, question, budget, &desks, gate)
+    let workers = problems.len().min(workers as usize);
+    let placed = placed_blocks(rt, alloc, problems, question, budget, workers, gate)?;
+    let slots = in_slots(alloc, problems, placed)?;
+    blocks_of(alloc, problems, slots, question, budget, gate)
 }
 
-// The blocks of problems. Each problem has a thread of its own, which begins when a desk is free.
-fn blocks_at_desks<R: Threads + Wait + Sync, G: Gate>(
+// The blocks that each worker makes. Whoever is free takes the next problem of the list.
+fn placed_blocks<R: Threads + Sync, G: Gate>(
     rt: &R,
     alloc: Global,
     problems: &[Problem],
     question: Question,
     budget: u64,
-    desks: &Desks,
+    workers: usize,
     gate: &G,
-) -> Result<Vec<Block>, AllocError>
+) -> Result<Vec<Vec<Placed>>, AllocError>
     requires { All IsWithinLimit problems.now }
-    ensures len { IfOk result (λ blocks. length blocks.items ≡ length problems.now) }
-    ensures each { IfOk result (λ blocks. (i : ℕ) (p : _) (b : _) → i < length problems.now →
-        IsBlockOf question budget (slice_index_or problems.now i p)
-        (slice_index_or blocks.items i b)) }
+    ensures len { IfOk result (λ lists. length lists.items ≡ workers) }
+    ensures each { IfOk result (λ lists. (i : ℕ) (d : _) → i < workers →
+        ArePlaced question budget problems.now (slice_index_or lists.items i d)) }
 {
+    let next = AtomicUsize::new(0);
     thread::map_indices(
         rt,
         alloc,
-        problems.len(),
-        &|place: usize| -> Block
-            requires { (place < length problems.now) × All IsWithinLimit problems.now }
-            ensures { (p : _) → IsBlockOf question budget
-                (slice_index_or problems.entry.now place p) result }
-        { block_at_desk(rt, alloc, place, problems, question, budget, desks, gate) },
+        workers,
+        &|_worker: usize| -> Vec<Placed>
+            requires { All IsWithinLimit problems.now }
+            ensures { ArePlaced question budget problems.entry.now result }
+        { placed_by_one(alloc, problems, question, budget, &next, gate) },
     )
 }
 
-// The block of a problem, once a desk is free.
-fn block_at_desk<R: Wait, G: Gate>(
-    rt: &R,
+// The blocks that one worker makes. Where memory for the list of them is wanting, it stops.
+fn placed_by_one<G: Gate>(
     alloc: Global,
-    place: usize,
     problems: &[Problem],
     question: Question,
     budget: u64,
-    desks: &Desks,
+    next: &AtomicUsize,
+    gate: &G,
+) -> Vec<Placed>
+    requires { All IsWithinLimit problems.now }
+    ensures { ArePlaced question budget problems.now result }
+{
+    let mut placed = Vec::new(alloc);
+    for _ in problems {
+        let place = next.fetch_add(1, Ordering::SeqCst);
+        if place >= problems.len() {
+            break;
+        }
+        let block = block_at(alloc, place, &problems[place], question, budget, gate);
+        if placed.push(Placed { place, block }).is_err() {
+            break;
+        }
+    }
+    placed
+}
+
+// The blocks of problems, in order. One that is in no slot, since a worker stopped, is made here.
+fn blocks_of<G: Gate>(
+    alloc: Global,
+    problems: &[Problem],
+    slots: Vec<Option<Block>>,
+    question: Question,
+    budget: u64,
+    gate: &G,
+) -> Result<Vec<Block>, AllocError>
+    requires within { All IsWithinLimit problems.now }
+    requires slots { AreInSlots question budget problems.now slots.items }
+    ensures { IfOk result (λ blocks. AreBlocksOf question budget problems.now blocks.items) }
+{
+    let mut slots = slots;
+    let mut blocks = Vec::new(alloc);
+    for (place, problem) in problems.iter().enumerate() {
+        let made = slots[place].take();
+        blocks.push(block_or(alloc, made, place, problem, question, budget, gate))?;
+    }
+    Ok(blocks)
+}
+
+// The block that was made for a problem. If none was, it is made here.
+fn block_or<G: Gate>(
+    alloc: Global,
+    made: Option<Block>,
+    place: usize,
+    problem: &Problem,
+    question: Question,
+    budget: u64,
     gate: &G,
 ) -> Block
-    requires place { place < length problems.now }
-    requires within { All IsWithinLimit problems.now }
-    ensures { (d : _) → IsBlockOf question budget (slice_index_or problems.now place d) result }
+    requires within { IsWithinLimit problem.now }
+    requires made { IfSome made (IsBlockOf question budget problem.now) }
+    ensures { IsBlockOf question budget problem.now result }
 {
-    desks.take(rt);
-    let block = block_at(alloc, place, &problems[place], question, budget, gate);
-    desks.leave(rt);
-    block
+    match made {
+        Some(block) => block,
+        None => block_at(alloc, place, problem, question, budget, gate),
+    }
 }
 
 // The block of a problem, which stands at a place of the list.

@@ -9,10 +9,11 @@ mod beside;
 #[cfg(test)]
 mod beside_each_other;
 mod block;
-mod desks;
+mod laws;
 mod list;
 mod list_lines;
 mod listed;
+mod placed;
 mod problem;
 mod report;
 mod run;

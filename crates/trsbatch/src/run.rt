@@ -10,15 +10,14 @@ use crate::words::{Batch, parse_batch};
 use io_edge::{Shelf, Sink};
 use program_edge::{Gate, Status};
 use std::alloc::Global;
-use std::sync::Wait;
 use std::thread::Threads;
 
 /// Runs the program with as many workers as the words ask for. The problems of the list are fetched
-/// one after the other; then the workers answer the question about each, beside each other, and the
-/// blocks are written in the order of the list. It may wait; its clauses hold if it returns. Where
-/// the words ask for one worker or for nothing, its work is that of `batch_alone`. `gate` is a hook
-/// for tests: a worker calls `before(i)` and `after(i)` round problem `i`.
-pub fn run_batch<R: Threads + Wait + Sync, S: Shelf, K: Sink, G: Gate>(
+/// one after the other; then the workers answer the question about each, beside each other, whoever
+/// is free the next, and the blocks are written in the order of the list. Where the words ask for
+/// one worker or for nothing, its work is that of `batch_alone`. `gate` is a hook for tests: a worker
+/// calls `before(i)` and `after(i)` round problem `i`.
+pub fn run_batch<R: Threads + Sync, S: Shelf, K: Sink, G: Gate>(
     rt: &R,
     alloc: Global,
     words: &[&str],
@@ -78,7 +77,7 @@ pub fn batch_alone<S: Shelf, K: Sink, G: Gate>(
 }
 
 // Answers the question about the problems of a list, by several workers.
-fn run_beside<R: Threads + Wait + Sync, S: Shelf, K: Sink, G: Gate>(
+fn run_beside<R: Threads + Sync, S: Shelf, K: Sink, G: Gate>(
     rt: &R,
     alloc: Global,
     batch: &Batch<'_>,

@@ -1,8 +1,7 @@
-use Rattle.trsbatch.specs.Problems.{IsBlockOf}
-use Rattle.trsbatch.proofs.Zipping.{zip_ok}
+use Rattle.std.proofs.Common.{arith}
 use Rattle.trsbatch.proofs.beside.blocks_beside.Goals as goal
 
-pub returns : goal.returns
-returns g c =
-    zip_ok (IsBlockOf c.args.question c.args.budget) c.args.problems.now c.blocks_at_desks.result c.blocks_at_desks.ensures.len
-    c.blocks_at_desks.ensures.each
+pub blocks_of-requires-clause-slots : goal.blocks_of-requires-clause-slots
+blocks_of-requires-clause-slots g c κs live =
+    c.in_ok-slots.ensures c.args.question c.args.budget (λ i d within.
+    let len = c.in_ok-placed.ensures.len in c.in_ok-placed.ensures.each i d (omega (arith, len, within)))
