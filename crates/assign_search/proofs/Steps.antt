@@ -3,7 +3,7 @@ use Rattle.std.proofs.lemmas.List.{get_or_append_left, take-append-le}
 use Rattle.std.proofs.Math.Seq.{get_or-append_seam, take-append_seam}
 use Rattle.assign_search.specs.Rest.{IsStanding, IsAt, rest_of, todo}
 use Rattle.assign_search.specs.Puzzle.{Puzzle, IsLawful, is_refuted, prefixes, solution_of, count_of, first_in, count_in}
-use Rattle.assign_search.specs.Rest.{IsGroup, AreGroups}
+use Rattle.assign_search.specs.Rest.{IsGroup, AreAllGroups}
 use Rattle.assign_search.proofs.Groups.{group_of}
 use Rattle.std.proofs.Common.{◌≢◌, map}
 use Rattle.assign_search.specs.Turns.{IsTurn, Passes}
@@ -168,11 +168,11 @@ past_turn_ok z budget n p q (Err e) less past h = h
 
 -- the steps of `visit`, with what the calls told
 pub visit_group : {A : Type 0} (f : A → List ℕ) (z : Puzzle) (n : ℕ) (p values group : List ℕ) (gs : List A) (a : A) (d : ℕ)
-    → IsAt z n p → AreGroups z (z.slots + 1) (map f gs) → d ≡ length p → a ≡ get_or gs d a → group ≡ f a → values ≡ p
+    → IsAt z n p → AreAllGroups z (map f gs) → d ≡ length p → a ≡ get_or gs d a → group ≡ f a → values ≡ p
     → IsGroup z (length values) group
 visit_group f z n p values group gs a d here groups ed ea eg ev =
     let short = here.standing.short in
-    let at : IsGroup z d (f a) = group_of f z (z.slots + 1) d gs a groups (omega (arith, short, ed)) ea in
+    let at : IsGroup z d (f a) = group_of f z d gs a groups (omega (arith, short, ed)) ea in
     subst (λ (xs : List ℕ). IsGroup z (length values) xs) (sym eg)
     (subst (λ (i : ℕ). IsGroup z i (f a)) (ed ∙ ap (λ (xs : List ℕ). length xs) (sym ev)) at)
 

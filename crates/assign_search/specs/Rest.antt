@@ -1,4 +1,4 @@
-use Rattle.std.specs.Prelude.{◌≡◌, ℕ, zero, suc, ◌+◌, ◌-◌, ◌<◌, ◌≤◌, Bool, true, false, List, [], ◌∷◌, ◌++◌, length, take, get_or, cond}
+use Rattle.std.specs.Prelude.{◌≡◌, ◌≢◌, ℕ, zero, suc, ◌+◌, ◌-◌, ◌<◌, ◌≤◌, Bool, true, false, List, [], ◌∷◌, ◌++◌, length, take, get_or, cond}
 use Rattle.assign_search.specs.Puzzle.{Puzzle, each_from, extensions, is_refuted, solution_of, count_of, first_in, count_in}
 
 -- what comes after the part at the value `v` of the next slot
@@ -53,14 +53,6 @@ reach_below u (suc s) = cond (u s) (suc s) (reach_below u s)
 unfoldable pub reach : Puzzle → ℕ → ℕ
 reach z c = reach_below (z.uses c) z.slots
 
--- how far each of the first constraints reaches
-pub record AreReaches (z : Puzzle) (n : ℕ) (reaches : List ℕ) : Type 0 where
-  pub many : length reaches ≡ n
-  pub each : (c : ℕ) → c < n → get_or reaches c 0 ≡ reach z c
-
-abbrev pub AreAllReaches : Puzzle → List ℕ → Type 0
-AreAllReaches z reaches = AreReaches z z.constraints reaches
-
 -- of the numbers below `n`, those where `f` gives `depth`
 pub record IsGroupOf (f : ℕ → ℕ) (depth n : ℕ) (group : List ℕ) : Type 0 where
   pub sound : (k : ℕ) → k < length group → (get_or group k 0 < n) × (f (get_or group k 0) ≡ depth)
@@ -70,10 +62,22 @@ pub record IsGroupOf (f : ℕ → ℕ) (depth n : ℕ) (group : List ℕ) : Type
 abbrev pub IsGroup : Puzzle → ℕ → List ℕ → Type 0
 IsGroup z depth group = IsGroupOf (reach z) depth z.constraints group
 
-pub record AreGroups (z : Puzzle) (n : ℕ) (groups : List (List ℕ)) : Type 0 where
-  pub many : length groups ≡ n
-  pub each : (d : ℕ) → d < n → IsGroup z d (get_or groups d [])
+-- so many groups: each has the numbers below `n` where `f` gives its place
+pub record AreGroups (f : ℕ → ℕ) (n count : ℕ) (groups : List (List ℕ)) : Type 0 where
+  pub many : length groups ≡ count
+  pub each : (d : ℕ) → d < count → IsGroupOf f d n (get_or groups d [])
 
 -- one group for each number of slots
 abbrev pub AreAllGroups : Puzzle → List (List ℕ) → Type 0
-AreAllGroups z groups = AreGroups z (z.slots + 1) groups
+AreAllGroups z groups = AreGroups (reach z) z.constraints (z.slots + 1) groups
+
+-- so many groups, and nothing in them
+pub record AreEmpty (count : ℕ) (groups : List (List ℕ)) : Type 0 where
+  pub many : length groups ≡ count
+  pub none : (d : ℕ) → get_or groups d [] ≡ []
+
+-- the group at the place has one number more, and the other groups are as before
+pub record Joins (old new : List (List ℕ)) (place n : ℕ) : Type 0 where
+  pub many : length new ≡ length old
+  pub here : get_or new place [] ≡ get_or old place [] ++ (n ∷ [])
+  pub others : (d : ℕ) → d ≢ place → get_or new d [] ≡ get_or old d []

@@ -1,5 +1,6 @@
 ghost use Rattle.std.specs.Prelude.{◌≡◌, ℕ, ◌<◌, ◌≤◌, IfOk};
 ghost use Rattle.assign_search.specs.Puzzle.{Puzzle, Covers, IsLawful};
+ghost use Rattle.assign_search.specs.Rest.{reach};
 
 use crate::memory::OutOfMemory;
 use std::alloc::Global;
@@ -25,6 +26,22 @@ pub trait Space {
         requires constraint { c < (puzzle self.now).constraints }
         requires slot { slot < (puzzle self.now).slots }
         ensures { result ≡ (puzzle self.now).uses c slot };
+
+    /// One more than the last slot that constraint `c` uses, or 0 where it uses none.
+    #[tactic(auto, unfolding(crate::specs::Rest::reach))]
+    fn reach(&self, c: u32) -> u32
+        requires { c < (puzzle self.now).constraints }
+        ensures { result ≡ reach (puzzle self.now) c }
+    {
+        let mut end = self.slots();
+        while end > 0 {
+            if self.uses(c, end - 1) {
+                return end;
+            }
+            end -= 1;
+        }
+        0
+    }
 
     /// Whether constraint `c` is true of the values, which cover the slots that it uses.
     fn holds(&self, alloc: Global, c: u32, values: &[u32]) -> Result<bool, OutOfMemory>

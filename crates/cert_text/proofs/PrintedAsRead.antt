@@ -1,7 +1,6 @@
 -- What a text says is said by what is printed of it: the variables of its terms are numbered in order already.
-use Rattle.std.proofs.Common.{◌≡◌, ℕ, true, List, map, ap, subst}
+use Rattle.std.proofs.Common.{◌≡◌, ℕ, true, List, ap, subst}
 use Rattle.names_text.specs.Named.{NamedSystem, IsNamed}
-use Rattle.step_text.specs.cert_step.ProofStep.{ProofNodeStep}
 use Rattle.cert_text.specs.ProofText.{ProofText, in_version}
 use Rattle.cert_text.specs.CertificateText.{says_of, version_two_text, fits_two, SaysCertificate}
 use Rattle.cert_text.specs.Renumbered.{renumbered}

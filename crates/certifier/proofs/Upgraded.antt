@@ -1,5 +1,5 @@
 -- What is printed in version 2 of a certificate that is accepted is accepted.
-use Rattle.std.proofs.Common.{◌≡◌, ◌∙◌, ap, subst, sym, refl}
+use Rattle.std.proofs.Common.{◌∙◌, ap, subst, sym, refl}
 use Rattle.cert_text.specs.cert_step.Nodes.{IsAccepted}
 use Rattle.cert_text.specs.ProofText.{ProofText, in_version}
 use Rattle.cert_text.specs.CertificateText.{SaysCertificate}

@@ -19,14 +19,14 @@ use Rattle.rewrite_core.specs.declared.refusals.StepRefused.TheVariants.{EdgeBac
 use Rattle.dp_graph.specs.declared.items.GraphItem.{GraphItem}
 use Rattle.dp_graph.specs.GroupOrSingle.{GroupOrSingle, items_of, group, single, members_of, all_members, singles_of, groups_of}
 use Rattle.dp_graph.specs.GraphConditions.{HasEdge, are_new, leads_to_none, lead_to_none, graph_conditions}
-use Rattle.dp_graph.specs.Rows.{EdgeOf, Follows, AreRows}
-use Rattle.dp_graph.specs.Leaders.{AreLeaders}
+use Rattle.dp_graph.specs.Rows.{EdgeOf, Follows, FollowsByRule, AreRows}
+use Rattle.dp_graph.specs.Leaders.{AreMutual, AreLeaders}
 use Rattle.dp_graph.specs.Components.{IsEdgeWithin, LiesOnCycle, IsComponent, IsReady, HasLesser, StandInOrder, no_items, next, AreComponents}
-use Rattle.dp_graph.specs.PutOut.{led_by, IsBlocked, IsUndoneLeader, IsItemOf, Finishes, ArePutOut, all_done, put_out, PutsOut}
+use Rattle.dp_graph.specs.PutOut.{led_by, IsBlocked, IsUndoneLeader, IsNextReady, IsItemOf, Finishes, ArePutOut, all_done, put_out, PutsOut, AreItemsOf, no_leaders, a_pair, a_rule}
 use Rattle.dp_graph.proofs.EachOfList.{each_passes}
 use Rattle.dp_graph.proofs.UnnamedPairs.{both_new}
-use Rattle.dp_graph.proofs.ListPlaces.{within, there, some_same, at_repeat}
-use Rattle.dp_graph.proofs.PutOutLaws.{one_leader, led_mutual, DoneTogether, still_together, together_at_first}
+use Rattle.dp_graph.proofs.ListPlaces.{within, there, some_same, set_at, unset_there, at_repeat, in_repeat, length_repeat}
+use Rattle.dp_graph.proofs.PutOutLaws.{leads_itself, one_leader, led_mutual, DoneTogether, still_together, together_at_first}
 
 -- ---- lists that ascend
 
@@ -41,7 +41,7 @@ lesser_of numbers up i j m n lt e d =
     let b = get_or_from_slice_get numbers j n 0 d in
     omega (arith, h, a, b)
 
-ascends_by : (numbers : List ℕ) → ((i j m n : ℕ) → i < j → slice_get numbers i ≡ Some m → slice_get numbers j ≡ Some n → m < n) → Ascends numbers
+pub ascends_by : (numbers : List ℕ) → ((i j m n : ℕ) → i < j → slice_get numbers i ≡ Some m → slice_get numbers j ≡ Some n → m < n) → Ascends numbers
 ascends_by [] h = no_numbers
 ascends_by (n ∷ ns) h =
     number (λ m i. let at = get_of_in i in h zero (suc at.0) n m (omega arith) refl at.1)
@@ -115,10 +115,20 @@ cycle_of : {R : ℕ → ℕ → Type 0} {v w : ℕ} → Run R v w → (w ≡ v �
 cycle_of Stay differ back = absurd (differ refl)
 cycle_of (Go {m = k} s r) differ back = (k, s, then r back)
 
+last_step : {R : ℕ → ℕ → Type 0} {i j : ℕ} → Run R i j → (i ≡ j) ⊎ ((k : ℕ) × Run R i k × R k j)
+last_step Stay = inl refl
+last_step {R} (Go {s = i} {m = k} s r) = elim (last_step r) [
+  | inl e ↦ inr (i, Stay, subst (R i) e s)
+  | inr (m, run, t) ↦ inr (m, Go s run, t)
+]
+
 module _ (rules : List RewriteRule) (all : List DependencyPair) (numbers : List ℕ) (up : IsStrictlyIncreasing numbers) (rows : List (List ℕ))
     (are_rows : AreRows (λ m n. HasEdge rules all m n) numbers rows) (leaders : List ℕ) (led : AreLeaders rows leaders) where
   abbrev Edge : ℕ → ℕ → Type 0
   Edge = IsEdgeWithin rules all numbers
+
+  abbrev pairs : ℕ
+  pairs = length numbers
 
   place_once : (i j m : ℕ) → slice_get numbers i ≡ Some m → slice_get numbers j ≡ Some m → i ≡ j
   place_once i j m e d = elim (dec_lt i j) [
@@ -126,59 +136,79 @@ module _ (rules : List RewriteRule) (all : List DependencyPair) (numbers : List 
     | no ge ↦ elim (dec_lt j i) [ yes lt ↦ absurd (let h = lesser_of numbers up j i m m lt d e in omega (arith, h)) | no le ↦ omega (arith, ge, le) ]
   ]
 
-  step_up : (i j m n : ℕ) → Follows rows i j → slice_get numbers i ≡ Some m → slice_get numbers j ≡ Some n → Edge m n
+  -- edges lead from pairs to rules, and from rules to pairs
+  to_rule : (i j : ℕ) → Follows rows i j → i < pairs → pairs ≤ j × j < length leaders
+  to_rule i j f lt = elim (are_rows.between i j f) [
+    | inl h ↦ (let c = led.count in let k = h.1.1 in (h.1.0, omega (arith, c, k)))
+    | inr h ↦ absurd (let k = h.0 in omega (arith, k, lt))
+  ]
+
+  to_pair : (i j : ℕ) → Follows rows i j → pairs ≤ i → j < pairs
+  to_pair i j f ge = elim (are_rows.between i j f) [ inl h ↦ absurd (let k = h.0 in omega (arith, k, ge)) | inr h ↦ h.1 ]
+
+  from_pair : (i j : ℕ) → Follows rows i j → pairs ≤ j → i < pairs
+  from_pair i j f ge = elim (are_rows.between i j f) [ inl h ↦ h.0 | inr h ↦ absurd (let k = h.1 in omega (arith, k, ge)) ]
+
+  step_up : (i j m n : ℕ) → FollowsByRule pairs rows i j → slice_get numbers i ≡ Some m → slice_get numbers j ≡ Some n → Edge m n
   step_up i j m n f e d =
       let (a, b, at, there_b, edge) = (are_rows.exact i j).0 f in
       let same_a : a ≡ m = some_same a m (sym at ∙ e) in
       let same_b : b ≡ n = some_same b n (sym there_b ∙ d) in
       (in_of_get numbers i m e, in_of_get numbers j n d, subst (λ z. HasEdge rules all m z) same_b (subst (λ z. HasEdge rules all z b) same_a edge))
 
-  step_down : (i j m n : ℕ) → Edge m n → slice_get numbers i ≡ Some m → slice_get numbers j ≡ Some n → Follows rows i j
+  step_down : (i j m n : ℕ) → Edge m n → slice_get numbers i ≡ Some m → slice_get numbers j ≡ Some n → FollowsByRule pairs rows i j
   step_down i j m n edge e d = (are_rows.exact i j).1 (m, n, e, d, edge.2)
 
+  -- two steps are one edge between pairs
   run_up : {i j : ℕ} → Run (Follows rows) i j → (m n : ℕ) → slice_get numbers i ≡ Some m → slice_get numbers j ≡ Some n → Run Edge m n
   run_up Stay m n e d = subst (Run Edge m) (some_same m n (sym e ∙ d)) Stay
-  run_up (Go {s = i} {m = k} step run) m n e d =
-      let (a, b, at, there_b, edge) = (are_rows.exact i k).0 step in
-      Go (step_up i k m b step e there_b) (run_up run b n there_b d)
+  run_up (Go {s = i} {m = k} step Stay) m n e d = absurd (let h = (to_rule i k step (within numbers i m e)).0 in let w = within numbers k n d in omega (arith, h, w))
+  run_up (Go {s = i} {m = r} step (Go {m = k} second run)) m n e d =
+      let by : FollowsByRule pairs rows i k = (within numbers i m e, (r, step, second)) in
+      let (a, b, at, there_b, edge) = (are_rows.exact i k).0 by in
+      Go (step_up i k m b by e there_b) (run_up run b n there_b d)
 
   run_down : {m n : ℕ} → Run Edge m n → (i j : ℕ) → slice_get numbers i ≡ Some m → slice_get numbers j ≡ Some n → Run (Follows rows) i j
   run_down (Stay {s = m}) i j e d = subst (Run (Follows rows) i) (place_once i j m e d) Stay
   run_down (Go {s = m} {m = k} step run) i j e d =
       let at = get_of_in step.1 in
-      Go (step_down i at.0 m k step e at.1) (run_down run at.0 j at.1 d)
+      let (lt, (r, first, second)) = step_down i at.0 m k step e at.1 in
+      Go first (Go second (run_down run at.0 j at.1 d))
 
-  leader_there : (w n : ℕ) → slice_get numbers w ≡ Some n → (l : ℕ) × (slice_get leaders w ≡ Some l)
-  leader_there w n e = there leaders w (let h = within numbers w n e in let c = led.count in let d = are_rows.count in omega (arith, h, c, d))
+  leader_of : (w : ℕ) → w < pairs → (l : ℕ) × (slice_get leaders w ≡ Some l)
+  leader_of w lt = there leaders w (let c = led.count in let d = are_rows.count in omega (arith, lt, c, d))
 
-  number_there : (w l : ℕ) → slice_get leaders w ≡ Some l → (n : ℕ) × (slice_get numbers w ≡ Some n)
-  number_there w l e = there numbers w (let h = within leaders w l e in let c = led.count in let d = are_rows.count in omega (arith, h, c, d))
+  number_of : (w : ℕ) → w < pairs → (n : ℕ) × (slice_get numbers w ≡ Some n)
+  number_of w lt = there numbers w lt
 
   -- the members of the item of a leader
-  in_item : (v : ℕ) (item : GroupOrSingle) → slice_get leaders v ≡ Some v → IsItemOf numbers rows leaders v item → (n : ℕ) → In n (members_of item)
+  in_item : (v : ℕ) (item : GroupOrSingle) → slice_get leaders v ≡ Some v → IsItemOf numbers leaders v item → (n : ℕ) → In n (members_of item)
       → (w : ℕ) × (slice_get numbers w ≡ Some n) × (slice_get leaders w ≡ Some v)
   in_item v (group members) own is n i = in_led_by v numbers leaders n (subst (In n) is.0 i)
   in_item v (single member) own is n i = elim (in_or i) [ inl e ↦ (v, is.0 ∙ ap (λ z. Some z) (sym e), own) | inr none ↦ absurd (no_in none) ]
 
-  item_in : (v : ℕ) (item : GroupOrSingle) → IsItemOf numbers rows leaders v item → (n w : ℕ) → slice_get numbers w ≡ Some n → slice_get leaders w ≡ Some v → In n (members_of item)
+  item_in : (v : ℕ) (item : GroupOrSingle) → IsItemOf numbers leaders v item → (n w : ℕ) → slice_get numbers w ≡ Some n → slice_get leaders w ≡ Some v → In n (members_of item)
   item_in v (group members) is n w e d = subst (In n) (sym is.0) (led_by_in v numbers leaders n w e d)
   item_in v (single member) is n w e d =
       let same : w ≡ v = is.1 w d in
       let here : n ≡ member = some_same n member (sym e ∙ (ap (slice_get numbers) same ∙ is.0)) in
       subst (λ z. In z (member ∷ [])) (sym here) in_first
 
-  lies_on_cycle : (v m : ℕ) → slice_get leaders v ≡ Some v → slice_get numbers v ≡ Some m → ((w : ℕ) × (slice_get leaders w ≡ Some v) × (w ≡ v → ⊥)) ⊎ Follows rows v v
-      → LiesOnCycle rules all numbers m
-  lies_on_cycle v m own e (inl (w, d, differ)) =
+  by_rule : {k v : ℕ} → v < pairs → Follows rows v k → Run (Follows rows) k v → (j : ℕ) × FollowsByRule pairs rows v j × Run (Follows rows) j v
+  by_rule lt step (Stay {s = v}) = absurd (let h = (to_rule v v step lt).0 in omega (arith, h, lt))
+  by_rule lt step (Go {s = k} {m = j} second run) = (j, (lt, (k, step, second)), run)
+
+  lies_on_cycle : (v m : ℕ) → slice_get leaders v ≡ Some v → slice_get numbers v ≡ Some m → ((w : ℕ) × (slice_get leaders w ≡ Some v) × (w ≡ v → ⊥)) → LiesOnCycle rules all numbers m
+  lies_on_cycle v m own e (w, d, differ) =
       let joined = led_mutual rows leaders led v w v own d in
       let (k, step, run) = cycle_of joined.0 differ joined.1 in
-      let (a, b, at, there_b, edge) = (are_rows.exact v k).0 step in
-      (b, step_up v k m b step e there_b, run_up run b m there_b e)
-  lies_on_cycle v m own e (inr self) = (m, step_up v v m m self e e, Stay)
+      let (j, by, back) = by_rule (within numbers v m e) step run in
+      let (a, b, at, there_b, edge) = (are_rows.exact v j).0 by in
+      (b, step_up v j m b by e there_b, run_up back b m there_b e)
 
-  pub is_component : (v : ℕ) (item : GroupOrSingle) → slice_get leaders v ≡ Some v → IsItemOf numbers rows leaders v item → IsComponent rules all numbers item
-  is_component v (group members) own is =
-      let at = number_there v v own in (
+  pub is_component : (v : ℕ) (item : GroupOrSingle) → v < pairs → slice_get leaders v ≡ Some v → IsItemOf numbers leaders v item → IsComponent rules all numbers item
+  is_component v (group members) lt own is =
+      let at = number_of v lt in (
         subst IsStrictlyIncreasing (sym is.0) (increasing_of (led_by v numbers leaders) (led_ascends v numbers leaders (ascends_of numbers up))),
         (
           at.0,
@@ -190,20 +220,21 @@ module _ (rules : List RewriteRule) (all : List DependencyPair) (numbers : List 
                 (in_of_get numbers w n e, (run_up joined.0 at.0 n at.1 e, run_up joined.1 n at.0 e at.1)),
             λ h.
                 let w = get_of_in h.0 in
-                let l = leader_there w.0 n w.1 in
+                let l = leader_of w.0 (within numbers w.0 n w.1) in
                 let same : l.0 ≡ v = one_leader rows leaders led w.0 v l.0 v l.1 own (run_down h.1.1 w.0 v w.1 at.1, run_down h.1.0 v w.0 at.1 w.1) in
                 subst (In n) (sym is.0) (led_by_in v numbers leaders n w.0 w.1 (l.1 ∙ ap (λ z. Some z) same)),
           ),
         ),
       )
-  is_component v (single member) own is = λ (k, edge, run).
+  is_component v (single member) lt own is = λ (k, edge, run).
       let j = get_of_in edge.1 in
-      let step = step_down v j.0 member k edge is.0 j.1 in
+      let (small, (r, first, second)) = step_down v j.0 member k edge is.0 j.1 in
       let back = run_down run j.0 v j.1 is.0 in
-      let l = leader_there j.0 k j.1 in
-      let same : l.0 ≡ v = one_leader rows leaders led j.0 v l.0 v l.1 own (back, one step) in
-      let here : j.0 ≡ v = is.1 j.0 (l.1 ∙ ap (λ z. Some z) same) in
-      is.2 (subst (Follows rows v) here step)
+      let (behind, few) = to_rule v r first lt in
+      let l = there leaders r few in
+      let same : l.0 ≡ v = one_leader rows leaders led r v l.0 v l.1 own (Go second back, one first) in
+      let here : r ≡ v = is.1 r (l.1 ∙ ap (λ z. Some z) same) in
+      omega (arith, here, behind, lt)
 
   -- ---- the items of the places that are not done
 
@@ -213,138 +244,289 @@ module _ (rules : List RewriteRule) (all : List DependencyPair) (numbers : List 
   still_undone : (v : ℕ) (done new : List Bool) → Finishes v leaders done new → (i : ℕ) → slice_get new i ≡ Some false → slice_get done i ≡ Some false
   still_undone v done new finishes i e = sym (finishes.others i (λ g. false_true new i e (finishes.led i g))) ∙ e
 
-  covers : (done : List Bool) (items : List GroupOrSingle) → DoneTogether leaders done → ArePutOut numbers rows leaders done items → (n : ℕ)
+  -- no place has a greater leader
+  led_low : (i l : ℕ) → slice_get leaders i ≡ Some l → l ≤ i
+  led_low i l e = (led.each i l e).least i (Stay, Stay)
+
+  -- Places of one leader are done together, and what leads to one that is done is done.
+  pub record IsPassed (done : List Bool) : Type 0 where
+    pub size : length done ≡ length leaders
+    pub together : DoneTogether leaders done
+    pub closed : (i j : ℕ) → Follows rows i j → slice_get done j ≡ Some true → slice_get done i ≡ Some true
+
+  undone_or_done : (done : List Bool) → length done ≡ length leaders → (i : ℕ) → i < length leaders → (slice_get done i ≡ Some false) ⊎ (slice_get done i ≡ Some true)
+  undone_or_done done size i lt = elim (set_at done i) [ yes e ↦ inr e | no h ↦ inl (unset_there done i (omega (arith, size, lt)) h) ]
+
+  still_passed : (v : ℕ) (done new : List Bool) → IsNextReady pairs rows leaders done (Some v) → Finishes v leaders done new → IsPassed done → IsPassed new
+  still_passed v done new ready finishes passed = record {
+    size = finishes.count ∙ passed.size;
+    together = still_together rows leaders led v done new ready.0.0 finishes passed.together;
+    closed = λ i j f e.
+        let lt : i < length leaders = (let (row, at, k) = f in let w = within rows i row at in let c = led.count in omega (arith, w, c)) in
+        let li = there leaders i lt in
+        let lj = there leaders j (let w = within new j true e in let c = finishes.count in let s = passed.size in omega (arith, w, c, s)) in
+        go i j f e li.0 li.1 lj.0 lj.1 lt (ℕ_discrete li.0 v) (ℕ_discrete lj.0 v);
+  }
+    where
+      stays : (i l : ℕ) → slice_get leaders i ≡ Some l → (l ≡ v → ⊥) → slice_get new i ≡ slice_get done i
+      stays i l at other = finishes.others i (λ g. other (some_same l v (sym at ∙ g)))
+
+      go : (i j : ℕ) → Follows rows i j → slice_get new j ≡ Some true → (a : ℕ) → slice_get leaders i ≡ Some a → (b : ℕ) → slice_get leaders j ≡ Some b → i < length leaders → Dec (a ≡ v) → Dec (b ≡ v)
+          → slice_get new i ≡ Some true
+      go i j f e a at b to lt (yes same) d = finishes.led i (at ∙ ap (λ z. Some z) same)
+      go i j f e a at b to lt (no other) (no differ) = stays i a at other ∙ passed.closed i j f (sym (stays j b to differ) ∙ e)
+      go i j f e a at b to lt (no other) (yes same) = stays i a at other ∙ elim (undone_or_done done passed.size i lt) [
+        | inr set ↦ set
+        | inl undone ↦ absurd (ready.1 (record {
+          from = i;
+          to = j;
+          leader = a;
+          undone = undone;
+          follows = f;
+          of_other = at;
+          of_this = to ∙ ap (λ z. Some z) same;
+          differ = other;
+        }))
+      ]
+
+  covers : (done : List Bool) (order : List ℕ) (items : List GroupOrSingle) → IsPassed done → ArePutOut pairs rows leaders done order → AreItemsOf numbers leaders order items → (n : ℕ)
       → In n (all_members items) ↔ ((i : ℕ) × (slice_get numbers i ≡ Some n) × (slice_get done i ≡ Some false))
-  covers done _ together (all_done none) n = (λ i. absurd (no_in i), λ (i, e, d). absurd (none i d))
-  covers done _ together (put_out {item = item} {items = items} v new ready is finishes rest) n =
+  covers done _ _ passed (all_done none) no_leaders n = (λ i. absurd (no_in i), λ (i, e, d). absurd (none i d))
+  covers done _ _ passed (put_out {vs = vs} v new ready finishes rest) (a_pair {item = item} {items = items} _ lt is more) n =
       let own = ready.0.0 in
-      let later = covers new items (still_together rows leaders led v done new own finishes together) rest n in (
+      let later = covers new vs items (still_passed v done new ready finishes passed) rest more n in (
         λ i. elim (in_either (members_of item) (all_members items) i) [
-          | inl j ↦ (let (w, e, d) = in_item v item own is n j in (w, e, together w v d ∙ ready.0.1))
+          | inl j ↦ (let (w, e, d) = in_item v item own is n j in (w, e, passed.together w v d ∙ ready.0.1))
           | inr j ↦ (let (w, e, d) = later.0 j in (w, e, still_undone v done new finishes w d))
         ],
         λ (i, e, d).
-            let l = leader_there i n e in
+            let l = leader_of i (within numbers i n e) in
             elim (ℕ_discrete l.0 v) [
               | yes same ↦ in_left (all_members items) (item_in v item is n i e (l.1 ∙ ap (λ z. Some z) same))
               | no other ↦ in_right (members_of item) (later.1 (i, e, finishes.others i (λ g. other (some_same l.0 v (sym l.1 ∙ g))) ∙ d))
             ],
       )
+  covers done _ items passed (put_out {vs = vs} v new ready finishes rest) (a_rule _ ge more) n =
+      let later = covers new vs items (still_passed v done new ready finishes passed) rest more n in (
+        λ i. (let (w, e, d) = later.0 i in (w, e, still_undone v done new finishes w d)),
+        λ (i, e, d). later.1 (i, e, finishes.others i (λ g. let low = led_low i v g in let w = within numbers i n e in omega (arith, low, w, ge)) ∙ d),
+      )
 
   -- each item is that of a leader that is not done
-  of_leader : (done : List Bool) (items : List GroupOrSingle) → DoneTogether leaders done → ArePutOut numbers rows leaders done items → (item : GroupOrSingle) → In item items
-      → (v : ℕ) × IsUndoneLeader leaders done v × IsItemOf numbers rows leaders v item
-  of_leader done _ together (all_done none) other i = absurd (no_in i)
-  of_leader done _ together (put_out {item = item} {items = items} v new ready is finishes rest) other i = elim (in_or i) [
-    | inl e ↦ (v, ready.0, subst (IsItemOf numbers rows leaders v) (sym e) is)
-    | inr j ↦ (let (u, undone, also) = of_leader new items (still_together rows leaders led v done new ready.0.0 finishes together) rest other j in
-        (u, (undone.0, still_undone v done new finishes u undone.1), also))
+  of_leader : (done : List Bool) (order : List ℕ) (items : List GroupOrSingle) → ArePutOut pairs rows leaders done order → AreItemsOf numbers leaders order items → (item : GroupOrSingle) → In item items
+      → (v : ℕ) × IsUndoneLeader leaders done v × v < pairs × IsItemOf numbers leaders v item
+  of_leader done _ _ (all_done none) no_leaders other i = absurd (no_in i)
+  of_leader done _ _ (put_out {vs = vs} v new ready finishes rest) (a_pair {item = item} {items = items} _ lt is more) other i = elim (in_or i) [
+    | inl e ↦ (v, ready.0, lt, subst (IsItemOf numbers leaders v) (sym e) is)
+    | inr j ↦ (let (u, undone, small, also) = of_leader new vs items rest more other j in (u, (undone.0, still_undone v done new finishes u undone.1), small, also))
   ]
+  of_leader done _ items (put_out {vs = vs} v new ready finishes rest) (a_rule _ ge more) other i =
+      let (u, undone, small, also) = of_leader new vs items rest more other i in (u, (undone.0, still_undone v done new finishes u undone.1), small, also)
 
-  stand_in_order : (done : List Bool) (items : List GroupOrSingle) → DoneTogether leaders done → ArePutOut numbers rows leaders done items → StandInOrder rules all numbers items
-  stand_in_order done _ together (all_done none) = no_items
-  stand_in_order done _ together (put_out {item = item} {items = items} v new ready is finishes rest) =
-      next is_ready is_least (stand_in_order new items after rest)
-    where
-      after : DoneTogether leaders new
-      after = still_together rows leaders led v done new ready.0.0 finishes together
+  -- what is ready among the items that are left is not blocked, and the other way round
+  module _ (done : List Bool) (order : List ℕ) (items : List GroupOrSingle) (passed : IsPassed done) (out : ArePutOut pairs rows leaders done order) (of_order : AreItemsOf numbers leaders order items)
+      (u : ℕ) (small : u < pairs) (own : slice_get leaders u ≡ Some u) (x : GroupOrSingle) (of : IsItemOf numbers leaders u x) where
+    leads_within : (IsBlocked rows leaders done u → ⊥) → IsReady rules all numbers items x
+    leads_within free m n i j edge =
+        let (a, e, undone) = (covers done order items passed out of_order m).0 i in
+        let (w, d, led_w) = in_item u x own of n j in
+        let (lt, (r, first, second)) = step_down a w m n edge e d in
+        let l = leader_of a lt in
+        let k = there leaders r (to_rule a r first lt).1 in
+        go a r w e undone first second led_w l.0 l.1 k.0 k.1 (ℕ_discrete k.0 u) (ℕ_discrete l.0 u) (undone_or_done done passed.size r (to_rule a r first lt).1)
+      where
+        go : (a r w : ℕ) → slice_get numbers a ≡ Some m → slice_get done a ≡ Some false → Follows rows a r → Follows rows r w → slice_get leaders w ≡ Some u → (l : ℕ) → slice_get leaders a ≡ Some l
+            → (k : ℕ) → slice_get leaders r ≡ Some k → Dec (k ≡ u) → Dec (l ≡ u) → (slice_get done r ≡ Some false) ⊎ (slice_get done r ≡ Some true) → In m (members_of x)
+        go a r w e undone first second led_w l at k to (yes here) (yes same) o = item_in u x of m a e (at ∙ ap (λ z. Some z) same)
+        go a r w e undone first second led_w l at k to (yes here) (no other) o = absurd (free (record {
+          from = a;
+          to = r;
+          leader = l;
+          undone = undone;
+          follows = first;
+          of_other = at;
+          of_this = to ∙ ap (λ z. Some z) here;
+          differ = other;
+        }))
+        go a r w e undone first second led_w l at k to (no other) d (inl left) = absurd (free (record {
+          from = r;
+          to = w;
+          leader = k;
+          undone = left;
+          follows = second;
+          of_other = to;
+          of_this = led_w;
+          differ = other;
+        }))
+        go a r w e undone first second led_w l at k to (no other) d (inr set) = absurd (false_true done a undone (passed.closed a r first set))
 
-      whole : ArePutOut numbers rows leaders done (item ∷ items)
-      whole = put_out v new ready is finishes rest
+    module _ (free : IsReady rules all numbers items x) (wait : (k : ℕ) → pairs ≤ k → IsUndoneLeader leaders done k → IsBlocked rows leaders done k) where
+      -- a pair that is left, and that leads to one of the item, is one of it
+      is_within : (a r w : ℕ) → a < pairs → Follows rows a r → Follows rows r w → slice_get done a ≡ Some false → slice_get leaders w ≡ Some u → slice_get leaders a ≡ Some u
+      is_within a r w lt first second undone led_w =
+          let m = number_of a lt in
+          let n = number_of w (to_pair r w second (to_rule a r first lt).0) in
+          let i = (covers done order items passed out of_order m.0).1 (a, m.1, undone) in
+          let (b, e, d) = in_item u x own of m.0 (free m.0 n.0 i (item_in u x of n.0 w n.1 led_w) (step_up a w m.0 n.0 (lt, (r, first, second)) m.1 n.1)) in
+          subst (λ z. slice_get leaders z ≡ Some u) (place_once b a m.0 e m.1) d
 
-      -- what leads to the item of a leader that is not blocked is in it
-      leads_within : (u : ℕ) (x : GroupOrSingle) → slice_get leaders u ≡ Some u → IsItemOf numbers rows leaders u x → (IsBlocked rows leaders done u → ⊥)
-          → IsReady rules all numbers (item ∷ items) x
-      leads_within u x own of free m n i j edge =
-          let (a, e, undone) = (covers done (item ∷ items) together whole m).0 i in
-          let (w, d, led_w) = in_item u x own of n j in
-          let l = leader_there a m e in
-          go a w e d undone led_w l.0 l.1 (ℕ_discrete l.0 u)
+      -- a pair leads to a rule of the component
+      by_pair : (a r : ℕ) → a < pairs → Follows rows a r → slice_get done a ≡ Some false → slice_get leaders r ≡ Some u → slice_get leaders a ≡ Some u
+      by_pair a r lt first undone led_r = go (led.each r u led_r).connected.0 (led.each r u led_r).connected.1
         where
-          go : (a w : ℕ) → slice_get numbers a ≡ Some m → slice_get numbers w ≡ Some n → slice_get done a ≡ Some false → slice_get leaders w ≡ Some u → (l : ℕ) → slice_get leaders a ≡ Some l
-              → Dec (l ≡ u) → In m (members_of x)
-          go a w e d undone led_w l at (yes same) = item_in u x of m a e (at ∙ ap (λ z. Some z) same)
-          go a w e d undone led_w l at (no other) = absurd (free (record {
-            from = a;
-            to = w;
-            leader = l;
-            undone = undone;
-            follows = step_down a w m n edge e d;
-            of_other = at;
-            of_this = led_w;
-            differ = other;
-          }))
+          behind : pairs ≤ r
+          behind = (to_rule a r first lt).0
+
+          from_rule : {k j : ℕ} → pairs ≤ k → j < pairs → Run (Follows rows) k j → (w : ℕ) × Follows rows k w × Run (Follows rows) w j
+          from_rule ge less (Stay {s = k}) = absurd (omega (arith, ge, less))
+          from_rule ge less (Go {m = w} s run) = (w, s, run)
+
+          go : Run (Follows rows) r u → Run (Follows rows) u r → slice_get leaders a ≡ Some u
+          go there_u back =
+              let (w, second, run) = from_rule behind small there_u in
+              let l = leader_of w (to_pair r w second behind) in
+              let same : l.0 ≡ u = one_leader rows leaders led w u l.0 u l.1 own (run, then back (one second)) in
+              is_within a r w lt first second undone (l.1 ∙ ap (λ z. Some z) same)
+
+      -- a rule of another component leads to a pair
+      by_other : (r w l : ℕ) → pairs ≤ r → Follows rows r w → slice_get done r ≡ Some false → slice_get leaders r ≡ Some l → slice_get leaders w ≡ Some u → (l ≡ u → ⊥) → ⊥
+      by_other r w l ge second undone at led_w differ = go (dec_lt l pairs)
+        where
+          joined : AreMutual rows r l
+          joined = (led.each r l at).connected
+
+          left : slice_get done l ≡ Some false
+          left = sym (passed.together r l at) ∙ undone
+
+          go : Dec (l < pairs) → ⊥
+          go (yes lt) = elim (last_step joined.1) [
+            | inl same ↦ omega (arith, same, lt, ge)
+            | inr (a, run, first) ↦
+                let small_a = from_pair a r first ge in
+                let k = leader_of a small_a in
+                let same : k.0 ≡ l = one_leader rows leaders led a l k.0 l k.1 (leads_itself rows leaders led r l at) (Go first joined.0, run) in
+                let led_a : slice_get leaders a ≡ Some l = k.1 ∙ ap (λ z. Some z) same in
+                differ (some_same l u (sym led_a ∙ is_within a r w small_a first second (passed.together a l led_a ∙ left) led_w))
+          ]
+          go (no high) =
+              let far : pairs ≤ l = omega (arith, high) in
+              let b = wait l far (leads_itself rows leaders led r l at, left) in
+              let to_far : pairs ≤ b.to = (let low = led_low b.to l b.of_this in omega (arith, low, far)) in
+              let same : b.to ≡ r = alone (led_mutual rows leaders led b.to r l b.of_this at).0 b.of_this to_far in
+              let first : Follows rows b.from r = subst (Follows rows b.from) same b.follows in
+              let lt = from_pair b.from r first ge in
+              let led_from = is_within b.from r w lt first second b.undone led_w in
+              let joined_u = led_mutual rows leaders led w b.from u led_w led_from in
+              let one_u : l ≡ u = one_leader rows leaders led r b.from l u at led_from (Go second joined_u.0, one first) in
+              differ one_u
+            where
+              alone : {k : ℕ} → Run (Follows rows) k r → slice_get leaders k ≡ Some l → pairs ≤ k → k ≡ r
+              alone Stay e far = refl
+              alone (Go {s = k} {m = j} s run) e far_k =
+                  let small_j = to_pair k j s far_k in
+                  let p = leader_of j small_j in
+                  let to_k : Run (Follows rows) r k = (led_mutual rows leaders led r k l at e).0 in
+                  let same : p.0 ≡ l = one_leader rows leaders led j k p.0 l p.1 e (then run to_k, one s) in
+                  let low = led_low j l (p.1 ∙ ap (λ z. Some z) same) in
+                  absurd (omega (arith, low, small_j, high))
+
+      not_blocked : IsBlocked rows leaders done u → ⊥
+      not_blocked b = elim (dec_lt b.from pairs) [
+        | yes lt ↦ b.differ (some_same b.leader u (sym b.of_other ∙ by_pair b.from b.to lt b.follows b.undone b.of_this))
+        | no ge ↦ by_other b.from b.to b.leader (omega (arith, ge)) b.follows b.undone b.of_other b.of_this b.differ
+      ]
+
+  stand_in_order : (done : List Bool) (order : List ℕ) (items : List GroupOrSingle) → IsPassed done → ArePutOut pairs rows leaders done order → AreItemsOf numbers leaders order items
+      → StandInOrder rules all numbers items
+  stand_in_order done _ _ passed (all_done none) no_leaders = no_items
+  stand_in_order done _ items passed (put_out {vs = vs} v new ready finishes rest) (a_rule _ ge more) =
+      stand_in_order new vs items (still_passed v done new ready finishes passed) rest more
+  stand_in_order done _ _ passed (put_out {vs = vs} v new ready finishes rest) (a_pair {item = item} {items = items} _ lt is more) =
+      next is_ready is_least (stand_in_order new vs items after rest more)
+    where
+      after : IsPassed new
+      after = still_passed v done new ready finishes passed
+
+      whole : ArePutOut pairs rows leaders done (v ∷ vs)
+      whole = put_out v new ready finishes rest
+
+      of_whole : AreItemsOf numbers leaders (v ∷ vs) (item ∷ items)
+      of_whole = a_pair v lt is more
 
       is_ready : IsReady rules all numbers (item ∷ items) item
-      is_ready = leads_within v item ready.0.0 is ready.1
-
-      -- a leader whose item is ready is not blocked
-      free_of : (u : ℕ) (x : GroupOrSingle) → slice_get leaders u ≡ Some u → IsItemOf numbers rows leaders u x → IsReady rules all numbers (item ∷ items) x → IsBlocked rows leaders done u → ⊥
-      free_of u x own of free b =
-          let m = number_there b.from b.leader b.of_other in
-          let n = number_there b.to u b.of_this in
-          let i = (covers done (item ∷ items) together whole m.0).1 (b.from, m.1, b.undone) in
-          let (w, e, d) = in_item u x own of m.0 (free m.0 n.0 i (item_in u x of n.0 b.to n.1 b.of_this) (step_up b.from b.to m.0 n.0 b.follows m.1 n.1)) in
-          let same : w ≡ b.from = place_once w b.from m.0 e m.1 in
-          b.differ (some_same b.leader u (sym b.of_other ∙ (ap (slice_get leaders) (sym same) ∙ d)))
+      is_ready = leads_within done (v ∷ vs) (item ∷ items) passed whole of_whole v lt ready.0.0 item is ready.1
 
       is_least : (other : GroupOrSingle) → In other items → IsReady rules all numbers (item ∷ items) other → HasLesser rules all numbers item other
       is_least other i free =
-          let (u, undone, of) = of_leader new items after rest other i in
-          let m = number_there v v ready.0.0 in (
+          let (u, undone, small, of) = of_leader new vs items rest more other i in
+          let m = number_of v lt in (
             m.0,
             item_in v item is m.0 v m.1 ready.0.0,
             λ n j.
                 let (w, e, d) = in_item u other undone.0 of n j in
-                lesser_of numbers up v w m.0 n (before u w other undone of free d) m.1 e,
+                lesser_of numbers up v w m.0 n (before u w other undone small of free d) m.1 e,
           )
         where
-          before : (u w : ℕ) (x : GroupOrSingle) → IsUndoneLeader leaders new u → IsItemOf numbers rows leaders u x → IsReady rules all numbers (item ∷ items) x → slice_get leaders w ≡ Some u → v < w
-          before u w x undone of free d =
-              let low : u ≤ w = (led.each w u d).least w (Stay, Stay) in
+          before : (u w : ℕ) (x : GroupOrSingle) → IsUndoneLeader leaders new u → u < pairs → IsItemOf numbers leaders u x → IsReady rules all numbers (item ∷ items) x → slice_get leaders w ≡ Some u → v < w
+          before u w x undone small of free d =
+              let low : u ≤ w = led_low w u d in
               elim (dec_lt v u) [
-                | yes lt ↦ omega (arith, lt, low)
+                | yes less ↦ omega (arith, less, low)
                 | no ge ↦ elim (dec_lt u v) [
-                  | yes lt ↦ absurd (free_of u x undone.0 of free (ready.2 u lt (undone.0, still_undone v done new finishes u undone.1)))
+                  | yes less ↦ absurd (not_blocked done (v ∷ vs) (item ∷ items) passed whole of_whole u small undone.0 x of free (λ k far left. ready.2 k (lt, inl far) left)
+                      (ready.2 u (lt, inr less) (undone.0, still_undone v done new finishes u undone.1)))
                   | no le ↦ absurd (
                       let same : u ≡ v = omega (arith, ge, le) in
                       false_true new u undone.1 (subst (λ z. slice_get new z ≡ Some true) (sym same) (finishes.led v ready.0.0)))
                 ]
               ]
 
-  item_new : (v : ℕ) (item : GroupOrSingle) (before : List ℕ) → slice_get leaders v ≡ Some v → IsItemOf numbers rows leaders v item → ((n : ℕ) → In n (members_of item) → In n before → ⊥)
+  item_new : (v : ℕ) (item : GroupOrSingle) (before : List ℕ) → slice_get leaders v ≡ Some v → IsItemOf numbers leaders v item → ((n : ℕ) → In n (members_of item) → In n before → ⊥)
       → are_new numbers before (members_of item) (Ok tt)
   item_new v item before own is none = ascending_new numbers before (members_of item) (ascends v item is)
       (λ n i. let (w, e, d) = in_item v item own is n i in (in_of_get numbers w n e, none n i))
     where
-      ascends : (v : ℕ) (x : GroupOrSingle) → IsItemOf numbers rows leaders v x → Ascends (members_of x)
+      ascends : (v : ℕ) (x : GroupOrSingle) → IsItemOf numbers leaders v x → Ascends (members_of x)
       ascends v (group members) of = subst Ascends (sym of.0) (led_ascends v numbers leaders (ascends_of numbers up))
       ascends v (single member) of = number (λ m i. absurd (no_in i)) no_numbers
 
-  all_new : (done : List Bool) (items : List GroupOrSingle) (before : List ℕ) → DoneTogether leaders done → ArePutOut numbers rows leaders done items
+  all_new : (done : List Bool) (order : List ℕ) (items : List GroupOrSingle) (before : List ℕ) → IsPassed done → ArePutOut pairs rows leaders done order → AreItemsOf numbers leaders order items
       → ((n : ℕ) → In n (all_members items) → In n before → ⊥) → are_new numbers before (all_members items) (Ok tt)
-  all_new done _ before together (all_done none) apart = returned
-  all_new done _ before together (put_out {item = item} {items = items} v new ready is finishes rest) apart =
-      let after = still_together rows leaders led v done new ready.0.0 finishes together in
+  all_new done _ _ before passed (all_done none) no_leaders apart = returned
+  all_new done _ items before passed (put_out {vs = vs} v new ready finishes rest) (a_rule _ ge more) apart =
+      all_new new vs items before (still_passed v done new ready finishes passed) rest more apart
+  all_new done _ _ before passed (put_out {vs = vs} v new ready finishes rest) (a_pair {item = item} {items = items} _ lt is more) apart =
+      let after = still_passed v done new ready finishes passed in
       both_new numbers before (members_of item) (all_members items) (Ok tt) (item_new v item before ready.0.0 is (λ n i. apart n (in_left (all_members items) i)))
-      (all_new new items (before ++ members_of item) after rest (λ n i j. elim (in_either before (members_of item) j) [
+      (all_new new vs items (before ++ members_of item) after rest more (λ n i j. elim (in_either before (members_of item) j) [
         | inl k ↦ apart n (in_right (members_of item) i) k
         | inr k ↦ (let (w, e, d) = in_item v item ready.0.0 is n k in
-            let (a, at, undone) = (covers new items after rest n).0 i in
+            let (a, at, undone) = (covers new vs items after rest more n).0 i in
             let same : a ≡ w = place_once a w n at e in
             false_true new a undone (subst (λ z. slice_get new z ≡ Some true) (sym same) (finishes.led w d)))
       ]))
 
-  pub are_components : (done : List Bool) (items : List GroupOrSingle) → DoneTogether leaders done → ((i : ℕ) → i < length leaders → slice_get done i ≡ Some false)
-      → ArePutOut numbers rows leaders done items → AreComponents rules all numbers items
-  are_components done items together fresh out = record {
-    named = all_new done items [] together out (λ n i j. no_in j);
+  pub are_components : (done : List Bool) (order : List ℕ) (items : List GroupOrSingle) → IsPassed done → ((i : ℕ) → i < length leaders → slice_get done i ≡ Some false)
+      → ArePutOut pairs rows leaders done order → AreItemsOf numbers leaders order items → AreComponents rules all numbers items
+  are_components done order items passed fresh out of = record {
+    named = all_new done order items [] passed out of (λ n i j. no_in j);
     whole = never (λ n h.
         let w = get_of_in h.0 in
-        h.1 ((covers done items together out n).1 (w.0, w.1, fresh w.0 (let k = within numbers w.0 n w.1 in let c = led.count in let d = are_rows.count in omega (arith, k, c, d)))));
-    components = λ item i. let (v, undone, is) = of_leader done items together out item i in is_component v item undone.0 is;
-    in_order = stand_in_order done items together out;
+        h.1 ((covers done order items passed out of n).1 (w.0, w.1, fresh w.0 (let k = within numbers w.0 n w.1 in let c = led.count in let d = are_rows.count in omega (arith, k, c, d)))));
+    components = λ item i. let (v, undone, small, is) = of_leader done order items out of item i in is_component v item small undone.0 is;
+    in_order = stand_in_order done order items passed out of;
   }
+
+  -- at first no place is done
+  pub first_components : (order : List ℕ) (items : List GroupOrSingle) → PutsOut pairs rows leaders order → AreItemsOf numbers leaders order items → AreComponents rules all numbers items
+  first_components order items out of =
+      are_components (replicate (length leaders) false) order items
+      (record {
+        size = length_repeat (length leaders) false;
+        together = together_at_first rows leaders led (replicate (length leaders) false) (length leaders) refl refl;
+        closed = λ i j f e. absurd (let h : true ≡ false = in_repeat (length leaders) j false true e in cc);
+      })
+      (λ i lt. at_repeat (length leaders) i false lt) out of
 
 -- ---- a step by the components
 
@@ -419,11 +601,11 @@ module _ (rules : List RewriteRule) (all : List DependencyPair) (numbers : List 
       are.components (single n) (single_there items n i) (n, (there, there, edge), Stay))))
       returned)))
 
--- the items that are put out for a graph
+-- the items of the leaders that are put out for a graph
 pub all_components : {E : Type 0} (system : System) (numbers : List ℕ) → IsStrictlyIncreasing numbers → (rows : List (List ℕ)) → AreRows (EdgeOf system) numbers rows → (leaders : List ℕ)
-    → AreLeaders rows leaders → (result : Result (Vec GraphItem Global) E) → IfOk result (λ items. PutsOut numbers rows leaders (items_of items.items))
+    → AreLeaders rows leaders → (order : List ℕ) → PutsOut (length numbers) rows leaders order → (result : Result (Vec GraphItem Global) E)
+    → IfOk result (λ items. AreItemsOf numbers leaders order (items_of items.items))
     → IfOk result (λ items. AreComponents system.rules (dependency_pairs system.rules) numbers (items_of items.items))
-all_components system numbers up rows are_rows leaders led (Ok items) out =
-    are_components system.rules (dependency_pairs system.rules) numbers up rows are_rows leaders led (replicate (length leaders) false) (items_of items.items)
-    (together_at_first rows leaders led (replicate (length leaders) false) (length leaders) refl refl) (λ i lt. at_repeat (length leaders) i false lt) out
-all_components system numbers up rows are_rows leaders led (Err e) out = out
+all_components system numbers up rows are_rows leaders led order out (Ok items) of =
+    first_components system.rules (dependency_pairs system.rules) numbers up rows are_rows leaders led order (items_of items.items) out of
+all_components system numbers up rows are_rows leaders led order out (Err e) of = of

@@ -37,7 +37,7 @@ same_mark a b e =
     cc
 
 -- pairs of one rule have one left side
-same_left : (rules : List RewriteRule) (r : ℕ) (p q : DependencyPair) → IsOfRule rules r p → IsOfRule rules r q → mark p.from ≡ mark q.from
+pub same_left : (rules : List RewriteRule) (r : ℕ) (p q : DependencyPair) → IsOfRule rules r p → IsOfRule rules r q → mark p.from ≡ mark q.from
 same_left rules r p q (a, at, is) (b, there, also) =
     let same : a ≡ b = the_same a b (sym at ∙ there) in
     same_mark p.from q.from (sym is ∙ (ap (λ (x : RewriteRule). x.left) same ∙ also))
@@ -60,19 +60,22 @@ module _ (system : System) (valid : IsSystem system) (few : length system.aritie
       let root : e.from.to.symbol ≡ e.to.from.symbol = ((edges_by_arguments system e.from e.to valid few).0 e.edge).0 in
       ap (λ (x : DependencyPair). x.to.symbol) (sym from) ∙ (root ∙ ap (λ (x : DependencyPair). x.from.symbol) to)
 
+  -- an edge to a pair is one to each other pair with its left side
+  pub edge_to_alike : (m n k : ℕ) (p q : DependencyPair) → slice_get all n ≡ Some p → slice_get all k ≡ Some q → mark p.from ≡ mark q.from → Edge m n → Edge m k
+  edge_to_alike m n k p q at there alike e =
+      let to : e.to ≡ p = the_same e.to p (sym e.to_numbered ∙ at) in
+      record {
+        from = e.from;
+        to = q;
+        from_numbered = e.from_numbered;
+        to_numbered = there;
+        edge = (e.edge.0, e.edge.1, subst (MeetsLeft e.edge.0) (ap (λ (x : DependencyPair). mark x.from) to ∙ alike) e.edge.2);
+      }
+
   -- an edge to a pair of a rule is one to each other pair of it
   edge_to_kept : (m n r : ℕ) (q : DependencyPair) (by_root : BTreeMap ℕ (Vec ℕ Global)) → slice_get all n ≡ Some q → IsOfRule system.rules r q
       → (kept : IsKept system by_root r) → Edge m n → Edge m kept.number
-  edge_to_kept m n r q by_root there of kept e =
-      let to : e.to ≡ q = the_same e.to q (sym e.to_numbered ∙ there) in
-      let left : mark e.to.from ≡ mark kept.pair.from = ap (λ (x : DependencyPair). mark x.from) to ∙ same_left system.rules r q kept.pair of kept.of_rule in
-      record {
-        from = e.from;
-        to = kept.pair;
-        from_numbered = e.from_numbered;
-        to_numbered = kept.numbered;
-        edge = (e.edge.0, e.edge.1, subst (MeetsLeft e.edge.0) left e.edge.2);
-      }
+  edge_to_kept m n r q by_root there of kept e = edge_to_alike m n kept.number q kept.pair there kept.numbered (same_left system.rules r q kept.pair of kept.of_rule) e
 
   pub no_edge_from_none : (m : ℕ) (ns : List ℕ) → slice_get all m ≡ None → leads_to_none_of system m ns (Ok tt)
   no_edge_from_none m ns none = each_passes (to_one m) 0 ns (λ n i. absent (λ e. let h : None ≡ Some e.from = sym none ∙ e.from_numbered in absurd cc))
@@ -163,7 +166,7 @@ module _ (system : System) (valid : IsSystem system) (few : length system.aritie
 
 -- ---- no pairs
 
-pub none_at : (by_root : BTreeMap ℕ (Vec ℕ Global)) → by_root.entries ≡ [] → (f : ℕ) → items_at by_root f ≡ []
+pub none_at : {T : Type 0} (by_root : BTreeMap ℕ (Vec T Global)) → by_root.entries ≡ [] → (f : ℕ) → items_at by_root f ≡ []
 none_at by_root e f = ap (λ es. entry_items (lookup (is_at (nat_cmp f)) es)) e
 
 pub none_earlier : (system : System) (earlier : Earlier) → earlier.by_root.entries ≡ [] → earlier.rules.keys ≡ [] → IsEarlier system [] earlier

@@ -1,20 +1,20 @@
 -- The item of a leader.
-use Rattle.std.specs.Prelude.{◌≡◌, ◌<◌, ◌≤◌, ℕ, ◌+◌, ◌==◌, Bool, true, false, List, [], ◌∷◌, ◌++◌, take, map, get_or, length, Some, slice_get, refl}
-use Rattle.std.specs.List.Sorted.{IsStrictlyIncreasing}
+use Rattle.std.specs.Prelude.{◌≡◌, ◌<◌, ◌≤◌, ℕ, ◌+◌, ◌==◌, Bool, true, false, List, [], ◌∷◌, ◌++◌, take, get_or, length, Option, Some, None, slice_get, refl}
 use Rattle.std.proofs.Common.{zero, suc, inl, inr, sym, ap, subst, arith, ◌∙◌, add-one}
-use Rattle.std.proofs.lemmas.List.{take_all, take_more, append-nil}
+use Rattle.std.proofs.lemmas.Option.{slice_get-get_or}
+use Rattle.std.proofs.lemmas.List.{take_all, append-nil}
 use Rattle.std.proofs.lemmas.Bool.{eqb-true, eq-eqb}
 use native.Mathlib.Decide.{dec_lt, ℕ_discrete}
 use Rattle.trs_defs.specs.Member.{In, in_first, in_rest}
-use Rattle.trs_defs.proofs.Members.{in_or, no_in, in_of_get}
+use Rattle.trs_defs.proofs.Members.{no_in}
 use Rattle.pair_theory.specs.DependencyPair.{keep_if}
-use Rattle.dp_graph.specs.GroupOrSingle.{group, single}
-use Rattle.dp_graph.specs.Rows.{Follows}
-use Rattle.dp_graph.specs.PutOut.{led_by, IsItemOf}
-use Rattle.dp_graph.specs.PlaceLists.{AreEmpty, PutsBehind, places_below, AreLed}
+use Rattle.dp_graph.specs.declared.items.GraphItem.{GraphItem}
+use Rattle.dp_graph.specs.GroupOrSingle.{GroupOrSingle, group, single, item_of, items_of}
+use Rattle.dp_graph.specs.PutOut.{led_by, IsItemOf, AddsItem, AreItemsOf, no_leaders, a_pair, a_rule}
+use Rattle.dp_graph.specs.PlaceLists.{AreEmpty, PutsBehind, places_below, before_others, numbers_of, AreLed}
 use Rattle.dp_graph.proofs.ItemLists.{one_taken}
-use Rattle.dp_graph.proofs.ListPlaces.{within, there, some_same, length_more, still_there, last_there}
-use Rattle.dp_graph.proofs.ComponentLaws.{Ascends, no_numbers, number, ascends_of, in_led_by, led_by_in, led_ascends}
+use Rattle.dp_graph.proofs.ListPlaces.{past_none, in_single, within, there, some_same, length_more, still_there, last_there}
+use Rattle.dp_graph.proofs.ComponentLaws.{Ascends, number, ascends_by, in_led_by, led_by_in, led_ascends}
 
 keep_before : {A : Type 0} (b : Bool) (x : A) (xs ys : List A) → keep_if b x xs ++ ys ≡ keep_if b x (xs ++ ys)
 keep_before true x xs ys = refl
@@ -103,100 +103,136 @@ pub place_led : (leaders : List ℕ) (led : List (List ℕ)) → AreLed leaders 
 place_led leaders led are v places at w e =
     subst (In w) (sym (are.each v places at)) (led_by_in v (places_below (length leaders)) leaders w w (place_there (length leaders) w (within leaders w v e)) e)
 
-map_led : (f : ℕ → ℕ) (v : ℕ) (numbers leaders : List ℕ) → map f (led_by v numbers leaders) ≡ led_by v (map f numbers) leaders
-map_led f v [] leaders = refl
-map_led f v (n ∷ numbers) [] = refl
-map_led f v (n ∷ numbers) (l ∷ leaders) = go (l == v) (map_led f v numbers leaders)
+-- ---- the numbers of the places of a leader
+
+numbers_led : (v : ℕ) (all numbers leaders places : List ℕ) (k : ℕ) → ((i w : ℕ) → slice_get places i ≡ Some w → w ≡ k + i) → ((i : ℕ) → slice_get numbers i ≡ slice_get all (k + i))
+    → length numbers ≤ length leaders → length places ≡ length leaders → numbers_of all (led_by v places leaders) ≡ led_by v numbers leaders
+numbers_led v all [] [] [] k places_are are few size = refl
+numbers_led v all [] [] (w ∷ places) k places_are are few size = absurd (omega (arith, size))
+numbers_led v all (n ∷ numbers) [] places k places_are are few size = absurd (omega (arith, few))
+numbers_led v all numbers (l ∷ leaders) [] k places_are are few size = absurd (omega (arith, size))
+numbers_led v all [] (l ∷ leaders) (w ∷ places) k places_are are few size =
+    let here : w ≡ k = (let h = places_are zero w refl in omega (arith, h)) in
+    let none : slice_get all w ≡ None = ap (slice_get all) (let same : w ≡ k + 0 = omega (arith, here) in same) ∙ sym (are zero) in
+    go (l == v) none
+    (numbers_led v all [] leaders places (suc k) (λ i u e. let h = places_are (suc i) u e in omega (arith, h))
+    (λ i. are (suc i) ∙ ap (slice_get all) (let same : k + suc i ≡ suc k + i = omega arith in same)) (omega arith) (omega (arith, size)))
   where
-    go : (b : Bool) → map f (led_by v numbers leaders) ≡ led_by v (map f numbers) leaders → map f (keep_if b n (led_by v numbers leaders)) ≡ keep_if b (f n) (led_by v (map f numbers) leaders)
-    go true h = ap (λ z. f n ∷ z) h
-    go false h = h
+    go : (b : Bool) → slice_get all w ≡ None → numbers_of all (led_by v places leaders) ≡ [] → numbers_of all (keep_if b w (led_by v places leaders)) ≡ []
+    go true none rest = ap (λ z. before_others z (numbers_of all (led_by v places leaders))) none ∙ rest
+    go false none rest = rest
+numbers_led v all (n ∷ numbers) (l ∷ leaders) (w ∷ places) k places_are are few size =
+    let here : w ≡ k = (let h = places_are zero w refl in omega (arith, h)) in
+    let some : slice_get all w ≡ Some n = ap (slice_get all) (let same : w ≡ k + 0 = omega (arith, here) in same) ∙ sym (are zero) in
+    go (l == v) some
+    (numbers_led v all numbers leaders places (suc k) (λ i u e. let h = places_are (suc i) u e in omega (arith, h))
+    (λ i. are (suc i) ∙ ap (slice_get all) (let same : k + suc i ≡ suc k + i = omega arith in same)) (omega (arith, few)) (omega (arith, size)))
+  where
+    go : (b : Bool) → slice_get all w ≡ Some n → numbers_of all (led_by v places leaders) ≡ led_by v numbers leaders
+        → numbers_of all (keep_if b w (led_by v places leaders)) ≡ keep_if b n (led_by v numbers leaders)
+    go true some rest = ap (λ z. before_others z (numbers_of all (led_by v places leaders))) some ∙ ap (λ z. n ∷ z) rest
+    go false some rest = rest
 
-map_more : (f : ℕ → ℕ) (xs : List ℕ) (x : ℕ) → map f (xs ++ x ∷ []) ≡ map f xs ++ f x ∷ []
-map_more f [] x = refl
-map_more f (y ∷ xs) x = ap (λ z. f y ∷ z) (map_more f xs x)
+place_is : (n i w : ℕ) → slice_get (places_below n) i ≡ Some w → w ≡ i
+place_is n i w e =
+    let h = within (places_below n) i w e in
+    let c = places_length n in
+    some_same w i (sym e ∙ place_there n i (omega (arith, h, c)))
 
-numbers_below : (numbers : List ℕ) (n : ℕ) → n ≤ length numbers → map (λ w. get_or numbers w 0) (places_below n) ≡ take n numbers
-numbers_below numbers zero h = refl
-numbers_below numbers (suc n) h =
-    let t : take (suc n) numbers ≡ take n numbers ++ get_or numbers n 0 ∷ [] = rw (← add-one) (take_more numbers n 0 (omega (arith, h))) in
-    map_more (λ w. get_or numbers w 0) (places_below n) n ∙ (ap (λ z. z ++ get_or numbers n 0 ∷ []) (numbers_below numbers n (omega (arith, h))) ∙ sym t)
+places_ascend : (n : ℕ) → Ascends (places_below n)
+places_ascend n = ascends_by (places_below n) (λ i j a b lt e d. let h = place_is n i a e in let k = place_is n j b d in omega (arith, lt, h, k))
 
-pub led_numbers : (numbers leaders : List ℕ) (led : List (List ℕ)) → length leaders ≡ length numbers → AreLed leaders led → (v : ℕ) (places : List ℕ) → slice_get led v ≡ Some places
-    → map (λ w. get_or numbers w 0) places ≡ led_by v numbers leaders
-led_numbers numbers leaders led size are v places at =
-    ap (map (λ w. get_or numbers w 0)) (are.each v places at)
-    ∙ (map_led (λ w. get_or numbers w 0) v (places_below (length leaders)) leaders
-    ∙ ap (λ z. led_by v z leaders) (numbers_below numbers (length leaders) (omega (arith, size)) ∙ take_all (length leaders) numbers (omega (arith, size))))
+numbers_more : (numbers xs : List ℕ) (x : ℕ) → numbers_of numbers (xs ++ x ∷ []) ≡ numbers_of numbers xs ++ before_others (slice_get numbers x) []
+numbers_more numbers [] x = refl
+numbers_more numbers (y ∷ xs) x = ap (before_others (slice_get numbers y)) (numbers_more numbers xs x) ∙ go (slice_get numbers y)
+  where
+    go : (o : Option ℕ) → before_others o (numbers_of numbers xs ++ before_others (slice_get numbers x) []) ≡ before_others o (numbers_of numbers xs) ++ before_others (slice_get numbers x) []
+    go None = refl
+    go (Some n) = refl
 
--- ---- the numbers at places
-
-pub one_more_number : (numbers places old new : List ℕ) (i x : ℕ) → i < length places → x ≡ get_or places i 0 → old ≡ map (λ w. get_or numbers w 0) (take i places) → new ≡ old ++ get_or numbers x 0 ∷ []
-    → new ≡ map (λ w. get_or numbers w 0) (take (i + 1) places)
+pub one_more_number : (numbers places old new : List ℕ) (i x : ℕ) → i < length places → x ≡ get_or places i 0 → old ≡ numbers_of numbers (take i places) → new ≡ old ++ before_others (slice_get numbers x) []
+    → new ≡ numbers_of numbers (take (i + 1) places)
 one_more_number numbers places old new i x lt is before grown =
-    grown ∙ (ap (λ z. z ++ get_or numbers x 0 ∷ []) before ∙ (sym (map_more (λ w. get_or numbers w 0) (take i places) x) ∙ ap (map (λ w. get_or numbers w 0)) (sym (one_taken places i x 0 lt is))))
+    grown ∙ (ap (λ z. z ++ before_others (slice_get numbers x) []) before
+    ∙ (sym (numbers_more numbers (take i places) x) ∙ ap (numbers_of numbers) (sym (one_taken places i x 0 lt is))))
 
-pub all_numbers : (numbers places members : List ℕ) (i : ℕ) → length places ≤ i → members ≡ map (λ w. get_or numbers w 0) (take i places) → members ≡ map (λ w. get_or numbers w 0) places
-all_numbers numbers places members i ge e = e ∙ ap (map (λ w. get_or numbers w 0)) (take_all i places ge)
+pub number_added : (numbers old new : List ℕ) (x : ℕ) → x < length numbers → new ≡ old ++ get_or numbers x 0 ∷ [] → new ≡ old ++ before_others (slice_get numbers x) []
+number_added numbers old new x small grown = grown ∙ ap (λ z. old ++ before_others z []) (sym (slice_get-get_or numbers x 0 small))
+
+pub no_number_added : (numbers old : List ℕ) (x : ℕ) → length numbers ≤ x → old ≡ old ++ before_others (slice_get numbers x) []
+no_number_added numbers old x ge = sym (append-nil old) ∙ ap (λ z. old ++ before_others z []) (sym (past_none numbers x ge))
+
+pub all_numbers : (numbers places members : List ℕ) (i : ℕ) → length places ≤ i → members ≡ numbers_of numbers (take i places) → members ≡ numbers_of numbers places
+all_numbers numbers places members i ge e = e ∙ ap (numbers_of numbers) (take_all i places ge)
+
+-- ---- the item of a leader
 
 single_of : (xs : List ℕ) → length xs ≡ 1 → (x : ℕ) × (xs ≡ x ∷ [])
 single_of [] e = absurd (omega (arith, e))
 single_of (x ∷ []) e = (x, refl)
 single_of (x ∷ y ∷ xs) e = absurd (omega (arith, e))
 
-module _ (numbers : List ℕ) (up : IsStrictlyIncreasing numbers) (rows : List (List ℕ)) (leaders : List ℕ) (size : length leaders ≡ length numbers) (v : ℕ) (own : slice_get leaders v ≡ Some v) where
-  own_number : (n : ℕ) × (slice_get numbers v ≡ Some n)
-  own_number = there numbers v (let w = within leaders v v own in omega (arith, w, size))
+module _ (numbers leaders : List ℕ) (size : length numbers ≤ length leaders) (v : ℕ) (own : slice_get leaders v ≡ Some v) (led : List ℕ) (are : led ≡ led_by v (places_below (length leaders)) leaders) where
+  in_led : (w : ℕ) → slice_get leaders w ≡ Some v → In w led
+  in_led w e = subst (In w) (sym are) (led_by_in v (places_below (length leaders)) leaders w w (place_there (length leaders) w (within leaders w v e)) e)
 
-  once : (i j m : ℕ) → slice_get numbers i ≡ Some m → slice_get numbers j ≡ Some m → i ≡ j
-  once i j m e d = same_place numbers (ascends_of numbers up) i j m e d
-    where
-      same_place : (ns : List ℕ) → Ascends ns → (i j m : ℕ) → slice_get ns i ≡ Some m → slice_get ns j ≡ Some m → i ≡ j
-      same_place _ no_numbers i j m e d = absurd cc
-      same_place _ (number {n = n} {ns = ns} below up) zero zero m e d = refl
-      same_place _ (number {n = n} {ns = ns} below up) zero (suc j) m e d = absurd (let lt = below m (in_of_get ns j m d) in let same : n ≡ m = some_same n m e in omega (arith, lt, same))
-      same_place _ (number {n = n} {ns = ns} below up) (suc i) zero m e d = absurd (let lt = below m (in_of_get ns i m e) in let same : n ≡ m = some_same n m d in omega (arith, lt, same))
-      same_place _ (number {n = n} {ns = ns} below up) (suc i) (suc j) m e d = ap suc (same_place ns up i j m e d)
+  has_leader : (w : ℕ) → In w led → slice_get leaders w ≡ Some v
+  has_leader w i =
+      let (k, e, d) = in_led_by v (places_below (length leaders)) leaders w (subst (In w) are i) in
+      subst (λ z. slice_get leaders z ≡ Some v) (sym (place_is (length leaders) k w e)) d
 
-  -- it leads no other place, and has no edge to itself
-  pub single_item : (members : List ℕ) (n : ℕ) → members ≡ led_by v numbers leaders → length members ≡ 1 → slice_get numbers v ≡ Some n → (Follows rows v v → ⊥)
-      → IsItemOf numbers rows leaders v (single n)
-  single_item members n is one at none = (
+  -- it leads no other place
+  pub single_item : (n : ℕ) → length led ≡ 1 → slice_get numbers v ≡ Some n → IsItemOf numbers leaders v (single n)
+  single_item n one at = (
     at,
     λ w e.
-        let m = there numbers w (let h = within leaders w v e in omega (arith, h, size)) in
-        let (x, all) = single_of members one in
-        let here : In n (x ∷ []) = subst (In n) (sym is ∙ all) (led_by_in v numbers leaders n v at own) in
-        let also : In m.0 (x ∷ []) = subst (In m.0) (sym is ∙ all) (led_by_in v numbers leaders m.0 w m.1 e) in
-        once w v n (m.1 ∙ ap (λ z. Some z) (only_one m.0 x also ∙ sym (only_one n x here))) at,
-    none,
+        let (x, all) = single_of led one in
+        in_single (subst (In w) all (in_led w e)) ∙ sym (in_single (subst (In v) all (in_led v own))),
+  )
+
+  pub group_item : (members : List ℕ) → members ≡ numbers_of numbers led → (length led ≡ 1 → ⊥) → IsItemOf numbers leaders v (group members)
+  group_item members is more = (
+    is ∙ (ap (numbers_of numbers) are
+        ∙ numbers_led v numbers numbers leaders (places_below (length leaders)) 0 (λ i w e. let h = place_is (length leaders) i w e in omega (arith, h)) (λ i. ap (slice_get numbers) (let same : i ≡ 0 + i = omega arith in same)) size (places_length (length leaders))),
+    other led refl more (subst Ascends (sym are) (led_ascends v (places_below (length leaders)) leaders (places_ascend (length leaders)))),
   )
     where
-      only_one : (y x : ℕ) → In y (x ∷ []) → y ≡ x
-      only_one y x i = elim (in_or i) [ inl e ↦ e | inr k ↦ absurd (no_in k) ]
-
-  pub group_by_edge : (members : List ℕ) → members ≡ led_by v numbers leaders → Follows rows v v → IsItemOf numbers rows leaders v (group members)
-  group_by_edge members is self = (is, inr self)
-
-  pub group_by_more : (members : List ℕ) → members ≡ led_by v numbers leaders → (length members ≡ 1 → ⊥) → IsItemOf numbers rows leaders v (group members)
-  group_by_more members is more = (is, inl (other members is more (led_ascends v numbers leaders (ascends_of numbers up))))
-    where
-      other : (ms : List ℕ) → ms ≡ led_by v numbers leaders → (length ms ≡ 1 → ⊥) → Ascends (led_by v numbers leaders) → (w : ℕ) × (slice_get leaders w ≡ Some v) × (w ≡ v → ⊥)
-      other [] e not up = absurd (let n = own_number in no_in (subst (In n.0) (sym e) (led_by_in v numbers leaders n.0 v n.1 own)))
+      other : (ms : List ℕ) → ms ≡ led → (length ms ≡ 1 → ⊥) → Ascends ms → (w : ℕ) × (slice_get leaders w ≡ Some v) × (w ≡ v → ⊥)
+      other [] e not up = absurd (no_in (subst (In v) (sym e) (in_led v own)))
       other (a ∷ []) e not up = absurd (not refl)
-      other (a ∷ b ∷ ms) e not up = go (in_led_by v numbers leaders a (subst (In a) e in_first)) (in_led_by v numbers leaders b (subst (In b) e (in_rest in_first))) (lt (subst Ascends (sym e) up))
-        where
-          lt : Ascends (a ∷ b ∷ ms) → a < b
-          lt (number below rest) = below b in_first
+      other (a ∷ b ∷ ms) e not (number below up) = elim (ℕ_discrete a v) [
+        | yes same ↦ (b, has_leader b (subst (In b) e (in_rest in_first)), λ also. let lt = below b in_first in omega (arith, lt, same, also))
+        | no differ ↦ (a, has_leader a (subst (In a) e in_first), differ)
+      ]
 
-          go : ((w : ℕ) × (slice_get numbers w ≡ Some a) × (slice_get leaders w ≡ Some v)) → ((w : ℕ) × (slice_get numbers w ≡ Some b) × (slice_get leaders w ≡ Some v)) → a < b
-              → (w : ℕ) × (slice_get leaders w ≡ Some v) × (w ≡ v → ⊥)
-          go (i, at_i, led_i) (j, at_j, led_j) less = elim (ℕ_discrete i v) [
-            | yes same ↦ (
-              j,
-              led_j,
-              λ also.
-                  let e : a ≡ b = some_same a b (sym at_i ∙ (ap (slice_get numbers) (same ∙ sym also) ∙ at_j)) in omega (arith, less, e),
-            )
-            | no differ ↦ (i, led_i, differ)
-          ]
+-- ---- the items of leaders
+
+pub no_items_yet : (numbers leaders order : List ℕ) (items : List GraphItem) → items ≡ [] → AreItemsOf numbers leaders (take 0 order) (items_of items)
+no_items_yet numbers leaders order items none = subst (λ z. AreItemsOf numbers leaders [] (items_of z)) (sym none) no_leaders
+
+items_more : (items : List GraphItem) (item : GraphItem) → items_of (items ++ item ∷ []) ≡ items_of items ++ item_of item ∷ []
+items_more [] item = refl
+items_more (x ∷ items) item = ap (λ z. item_of x ∷ z) (items_more items item)
+
+module _ (numbers leaders : List ℕ) where
+  pair_behind : (vs : List ℕ) (items : List GroupOrSingle) (v : ℕ) (item : GroupOrSingle) → v < length numbers → IsItemOf numbers leaders v item → AreItemsOf numbers leaders vs items
+      → AreItemsOf numbers leaders (vs ++ v ∷ []) (items ++ item ∷ [])
+  pair_behind _ _ v item lt is no_leaders = a_pair v lt is no_leaders
+  pair_behind _ _ v item lt is (a_pair {vs = vs} {items = items} u small of rest) = a_pair u small of (pair_behind vs items v item lt is rest)
+  pair_behind _ items v item lt is (a_rule {vs = vs} u large rest) = a_rule u large (pair_behind vs items v item lt is rest)
+
+  rule_behind : (vs : List ℕ) (items : List GroupOrSingle) (v : ℕ) → length numbers ≤ v → AreItemsOf numbers leaders vs items → AreItemsOf numbers leaders (vs ++ v ∷ []) items
+  rule_behind _ _ v ge no_leaders = a_rule v ge no_leaders
+  rule_behind _ _ v ge (a_pair {vs = vs} {items = items} u small of rest) = a_pair u small of (rule_behind vs items v ge rest)
+  rule_behind _ items v ge (a_rule {vs = vs} u large rest) = a_rule u large (rule_behind vs items v ge rest)
+
+  pub one_more_item : (order : List ℕ) (items new : List GraphItem) (i v : ℕ) → i < length order → v ≡ get_or order i 0 → AddsItem numbers leaders v items new
+      → AreItemsOf numbers leaders (take i order) (items_of items) → AreItemsOf numbers leaders (take (i + 1) order) (items_of new)
+  one_more_item order items new i v lt at adds before = subst (λ z. AreItemsOf numbers leaders z (items_of new)) (sym (one_taken order i v 0 lt at)) (elim adds [
+    | inl (small, (item, is, grown)) ↦
+        subst (AreItemsOf numbers leaders (take i order ++ v ∷ [])) (sym (ap items_of grown ∙ items_more items item)) (pair_behind (take i order) (items_of items) v (item_of item) small is before)
+    | inr (ge, same) ↦ subst (λ z. AreItemsOf numbers leaders (take i order ++ v ∷ []) (items_of z)) (sym same) (rule_behind (take i order) (items_of items) v ge before)
+  ])
+
+  pub all_items : (order : List ℕ) (items : List GraphItem) (i : ℕ) → length order ≤ i → AreItemsOf numbers leaders (take i order) (items_of items) → AreItemsOf numbers leaders order (items_of items)
+  all_items order items i ge before = subst (λ z. AreItemsOf numbers leaders z (items_of items)) (take_all i order ge) before

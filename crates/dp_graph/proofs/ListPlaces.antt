@@ -1,5 +1,5 @@
 -- Items of lists by their places: read, set, and put behind others.
-use Rattle.std.specs.Prelude.{◌≡◌, ◌<◌, ◌⊎◌, ℕ, ◌+◌, Bool, true, false, List, [], ◌∷◌, ◌++◌, length, replicate, get_or, All, Some, Vec, slice_get, slice_set, refl}
+use Rattle.std.specs.Prelude.{◌≡◌, ◌<◌, ◌≤◌, ◌⊎◌, ℕ, ◌+◌, Bool, true, false, List, [], ◌∷◌, ◌++◌, length, replicate, get_or, All, Some, None, Vec, slice_get, slice_set, refl}
 use Rattle.std.specs.declared.alloc.Global.{Global}
 use Rattle.std.proofs.Common.{zero, suc, inl, inr, sym, ap, subst, arith, ◌∙◌, length-append}
 use Rattle.std.proofs.lemmas.Option.{slice_get-get_or, get_or_from_slice_get}
@@ -25,6 +25,11 @@ pub there : {A : Type 0} (xs : List A) (n : ℕ) → n < length xs → (x : A) �
 there [] n h = absurd (omega arith)
 there (x ∷ xs) zero h = (x, refl)
 there (x ∷ xs) (suc n) h = there xs n (omega arith)
+
+pub past_none : {A : Type 0} (xs : List A) (n : ℕ) → length xs ≤ n → slice_get xs n ≡ None
+past_none [] n h = refl
+past_none (x ∷ xs) zero h = absurd (omega (arith, h))
+past_none (x ∷ xs) (suc n) h = past_none xs n (omega (arith, h))
 
 pub flag_at : (flags : List Bool) (i : ℕ) (d b : Bool) → i < length flags → get_or flags i d ≡ b → slice_get flags i ≡ Some b
 flag_at [] i d b lt e = absurd (omega (arith, lt))

@@ -22,6 +22,7 @@ use Rattle.dp_graph.specs.Edge.{IsEdge}
 use Rattle.dp_graph.specs.GraphConditions.{HasEdge}
 use Rattle.dp_graph.specs.GraphNodes.{IsEndOf, IsNodeOf, IsNodeFor, AreNodesOf}
 use Rattle.dp_graph.specs.EarlierPairs.{IsOfRule}
+use Rattle.dp_graph.proofs.ListPlaces.{past_none}
 use Rattle.dp_graph.proofs.Covering.{edge_by_caps}
 
 -- an item, as it is read
@@ -88,11 +89,6 @@ none_past : {A : Type 0} (xs : List A) (n : ℕ) → slice_get xs n ≡ None →
 none_past [] n e = omega arith
 none_past (x ∷ xs) zero e = absurd cc
 none_past (x ∷ xs) (suc n) e = let h = none_past xs n e in omega (arith, h)
-
-past_none : {A : Type 0} (xs : List A) (n : ℕ) → length xs ≤ n → slice_get xs n ≡ None
-past_none [] n h = refl
-past_none (x ∷ xs) zero h = absurd (omega (arith, h))
-past_none (x ∷ xs) (suc n) h = past_none xs n (omega (arith, h))
 
 there_is : {A : Type 0} (xs : List A) (n : ℕ) → n < length xs → (x : A) × (slice_get xs n ≡ Some x)
 there_is [] n h = absurd (omega (arith, h))

@@ -6,11 +6,9 @@ use Rattle.trs_defs.specs.Member.{In}
 use Rattle.trs_defs.specs.Run.{Stay}
 use Rattle.trs_defs.proofs.Members.{get_of_in}
 use Rattle.std.specs.BTreeSet.{BTreeSet}
-use Rattle.dp_graph.specs.declared.items.GraphItem.{GraphItem}
 use Rattle.dp_graph.specs.Leaders.{AreLeaders}
-use Rattle.dp_graph.specs.PutOut.{IsBlocked, IsUndoneLeader, IsNextReady, IsItemOf, Finishes, PutsOut}
+use Rattle.dp_graph.specs.PutOut.{IsBlocked, IsUndoneLeader, IsNextReady, Finishes, PutsOut}
 use Rattle.dp_graph.specs.FoundPlaces.{unset}
-use Rattle.dp_graph.specs.GroupOrSingle.{item_of, items_of}
 use Rattle.dp_graph.specs.Waiting.{Has, HasAt, AreAtFirst, TakesOut, Releases, OfRows}
 use Rattle.dp_graph.specs.declared.waiting.Waiting.{Waiting}
 use Rattle.dp_graph.proofs.ListPlaces.{within, there, some_same, not_both, unset_there, at_repeat, in_repeat, length_repeat, length_more}
@@ -57,7 +55,7 @@ at_first rows leaders waiting n size is = record {
     undone : (i l : ℕ) → slice_get leaders i ≡ Some l → slice_get (replicate n false) i ≡ Some false
     undone i l e = at_repeat n i false (let w = within leaders i l e in omega (arith, w, size))
 
-module _ (rows : List (List ℕ)) (leaders : List ℕ) (are : AreLeaders rows leaders) (done : List Bool) (size : length done ≡ length leaders) (old : Waiting) (is : IsWaiting rows leaders done old) where
+module _ (pairs : ℕ) (rows : List (List ℕ)) (leaders : List ℕ) (are : AreLeaders rows leaders) (done : List Bool) (size : length done ≡ length leaders) (old : Waiting) (is : IsWaiting rows leaders done old) where
   -- a leader that is left and not ready is blocked
   blocked_or_ready : (l : ℕ) → IsUndoneLeader leaders done l → (Has old.ready l → ⊥) → IsBlocked rows leaders done l
   blocked_or_ready l undone not_ready = go (some_blocker (there old.blockers.items l (let w = within leaders l l undone.0 in let c = is.count in omega (arith, w, c))))
@@ -73,18 +71,18 @@ module _ (rows : List (List ℕ)) (leaders : List ℕ) (are : AreLeaders rows le
           first [] e = inr (λ k h. has_none s k e (subst (λ z. Has z k) (some_same h.0 s (sym h.1 ∙ at)) h.2))
           first (k ∷ keys) e = inl (k, (s, at, has_first s k keys e))
 
-  pub next_ready : (new : Waiting) (v : ℕ) → TakesOut old new (Some v) → IsNextReady rows leaders done (Some v)
+  pub next_ready : (new : Waiting) (v : ℕ) → TakesOut pairs old new (Some v) → IsNextReady pairs rows leaders done (Some v)
   next_ready new v takes =
       let (undone, free) = (is.ready v).0 takes.0 in (
         undone,
         λ b. free b.leader (is.all v b),
-        λ u lt also. blocked_or_ready u also (λ h. let low = takes.1 u h in omega (arith, low, lt)),
+        λ u sooner also. blocked_or_ready u also (λ h. takes.1 u h sooner),
       )
 
-  pub none_ready : (new : Waiting) → TakesOut old new None → IsNextReady rows leaders done None
+  pub none_ready : (new : Waiting) → TakesOut pairs old new None → IsNextReady pairs rows leaders done None
   none_ready new takes = λ v undone. blocked_or_ready v undone (takes.0 v)
 
-  module _ (mid new : Waiting) (v : ℕ) (takes : TakesOut old mid (Some v)) (next : List Bool) (finishes : Finishes v leaders done next) (places : List ℕ) (led : (w : ℕ) → slice_get leaders w ≡ Some v → In w places)
+  module _ (mid new : Waiting) (v : ℕ) (takes : TakesOut pairs old mid (Some v)) (next : List Bool) (finishes : Finishes v leaders done next) (places : List ℕ) (led : (w : ℕ) → slice_get leaders w ≡ Some v → In w places)
       (releases : Releases mid new v (OfRows rows leaders places)) where
     own : slice_get leaders v ≡ Some v
     own = ((is.ready v).0 takes.0).0.0
@@ -182,68 +180,68 @@ module _ (rows : List (List ℕ)) (leaders : List ℕ) (are : AreLeaders rows le
               ))
             ]
 
--- ---- the items so far
+-- ---- the leaders so far
 
-pub record IsOrdering (numbers : List ℕ) (rows : List (List ℕ)) (leaders : List ℕ) (items : List GraphItem) (waiting : Waiting) : Type 0 where
+pub record IsOrdering (pairs : ℕ) (rows : List (List ℕ)) (leaders : List ℕ) (order : List ℕ) (waiting : Waiting) : Type 0 where
   pub done : List Bool
-  pub passed : PutOutSoFar numbers rows leaders done items
+  pub passed : PutOutSoFar pairs rows leaders done order
   pub size : length done ≡ length leaders
   pub together : DoneTogether leaders done
   pub waits : IsWaiting rows leaders done waiting
-  pub few : length items + unset done ≤ length leaders
+  pub few : length order + unset done ≤ length leaders
 
 few_unset : (flags : List Bool) → unset flags ≤ length flags
 few_unset [] = omega arith
 few_unset (true ∷ flags) = let h = few_unset flags in omega (arith, h)
 few_unset (false ∷ flags) = let h = few_unset flags in omega (arith, h)
 
-pub starts : (numbers : List ℕ) (rows : List (List ℕ)) (leaders : List ℕ) → AreLeaders rows leaders → (items : List GraphItem) (waiting : Waiting) → items ≡ [] → AreAtFirst rows leaders waiting
-    → IsOrdering numbers rows leaders items waiting
-starts numbers rows leaders are items waiting none first =
+pub starts : (pairs : ℕ) (rows : List (List ℕ)) (leaders : List ℕ) → AreLeaders rows leaders → (order : List ℕ) (waiting : Waiting) → order ≡ [] → AreAtFirst rows leaders waiting
+    → IsOrdering pairs rows leaders order waiting
+starts pairs rows leaders are order waiting none first =
     let n = length leaders in
     let done : List Bool = replicate n false in
     let size : length done ≡ n = length_repeat n false in record {
       done = done;
-      passed = none_put_out numbers rows leaders done n items refl refl none;
+      passed = none_put_out pairs rows leaders done n order refl refl none;
       size = size;
       together = together_at_first rows leaders are done n refl refl;
       waits = at_first rows leaders waiting n refl first;
       few = let a = ap length none in let b = few_unset done in omega (arith, a, b, size);
     }
 
-module _ (numbers : List ℕ) (rows : List (List ℕ)) (leaders : List ℕ) (are : AreLeaders rows leaders) (items : List GraphItem) (old mid : Waiting) (is : IsOrdering numbers rows leaders items old) where
-  pub ends : TakesOut old mid None → PutsOut numbers rows leaders (items_of items)
-  ends takes = all_put_out numbers rows leaders is.done items (none_undone rows leaders are is.done is.size is.together (none_ready rows leaders are is.done is.size old is.waits mid takes)) is.passed
+module _ (pairs : ℕ) (rows : List (List ℕ)) (leaders : List ℕ) (are : AreLeaders rows leaders) (order : List ℕ) (old mid : Waiting) (is : IsOrdering pairs rows leaders order old) where
+  pub ends : TakesOut pairs old mid None → PutsOut pairs rows leaders order
+  ends takes = all_put_out pairs rows leaders is.done order (none_undone rows leaders are is.done is.size is.together (none_ready pairs rows leaders are is.done is.size old is.waits mid takes)) is.passed
 
-  module _ (v : ℕ) (takes : TakesOut old mid (Some v)) where
+  module _ (v : ℕ) (takes : TakesOut pairs old mid (Some v)) where
     pub leads_itself_now : slice_get leaders v ≡ Some v
-    leads_itself_now = (next_ready rows leaders are is.done is.size old is.waits mid v takes).0.0
+    leads_itself_now = (next_ready pairs rows leaders are is.done is.size old is.waits mid v takes).0.0
 
-    pub room : length items < length leaders
+    pub room : length order < length leaders
     room =
-        let n = next_ready rows leaders are is.done is.size old is.waits mid v takes in
+        let n = next_ready pairs rows leaders are is.done is.size old is.waits mid v takes in
         let f = fewer_left leaders v is.done (finished v leaders is.done) is.size n.0 (finishes_all v leaders is.done is.size) in
         let few = is.few in omega (arith, f, few)
 
     pub blockers_count : length mid.blockers.items ≡ length leaders
     blockers_count = ap (λ z. length z.items) takes.3 ∙ is.waits.count
 
-    pub goes_on : (new : Waiting) (places : List ℕ) → ((w : ℕ) → slice_get leaders w ≡ Some v → In w places) → Releases mid new v (OfRows rows leaders places) → (item : GraphItem) (more : List GraphItem)
-        → IsItemOf numbers rows leaders v (item_of item) → more ≡ items ++ item ∷ [] → IsOrdering numbers rows leaders more new
-    goes_on new places led releases item more of grown =
-        let n = next_ready rows leaders are is.done is.size old is.waits mid v takes in
+    pub goes_on : (new : Waiting) (places : List ℕ) → ((w : ℕ) → slice_get leaders w ≡ Some v → In w places) → Releases mid new v (OfRows rows leaders places) → (more : List ℕ) → more ≡ order ++ v ∷ []
+        → IsOrdering pairs rows leaders more new
+    goes_on new places led releases more grown =
+        let n = next_ready pairs rows leaders are is.done is.size old is.waits mid v takes in
         let done = finished v leaders is.done in
         let finishes = finishes_all v leaders is.done is.size in record {
           done = done;
-          passed = one_more_put_out numbers rows leaders is.done done items more item v n of finishes grown is.passed;
+          passed = one_more_put_out pairs rows leaders is.done done order more v n finishes grown is.passed;
           size = finishes.count ∙ is.size;
           together = still_together rows leaders are v is.done done n.0.0 finishes is.together;
-          waits = still_waiting rows leaders are is.done is.size old is.waits mid new v takes done finishes places led releases;
+          waits = still_waiting pairs rows leaders are is.done is.size old is.waits mid new v takes done finishes places led releases;
           few =
               let f = fewer_left leaders v is.done done is.size n.0 finishes in
               let few = is.few in
               let a = ap length grown in
-              let b = length_more items item in omega (arith, f, few, a, b);
+              let b = length_more order v in omega (arith, f, few, a, b);
         }
 
 pub leaders_within : (rows : List (List ℕ)) (leaders : List ℕ) → AreLeaders rows leaders → (l : ℕ) → In l leaders → l < length leaders

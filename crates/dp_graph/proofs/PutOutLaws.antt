@@ -1,16 +1,16 @@
 -- Components are put out one after another.
 use Rattle.std.specs.Prelude.{◌≡◌, ◌<◌, ◌≤◌, ℕ, ◌+◌, ◌==◌, Bool, true, false, cond, List, [], ◌∷◌, ◌++◌, length, replicate, Option, Some, slice_get, refl}
-use Rattle.std.proofs.Common.{zero, suc, sym, ap, subst, arith, ◌∙◌}
+use Rattle.std.proofs.Common.{zero, suc, inl, inr, append_assoc, sym, ap, subst, arith, ◌∙◌}
 use Rattle.std.proofs.lemmas.List.{append-nil}
 use Rattle.std.proofs.lemmas.Bool.{eqb-true, eq-eqb}
 use native.Mathlib.Decide.{ℕ_discrete}
+use Rattle.trs_defs.specs.Member.{In}
+use Rattle.trs_defs.proofs.Members.{in_or, no_in}
 use Rattle.trs_defs.specs.Run.{Stay}
 use Rattle.trs_defs.proofs.Runs.{then}
-use Rattle.dp_graph.specs.declared.items.GraphItem.{GraphItem}
-use Rattle.dp_graph.specs.GroupOrSingle.{GroupOrSingle, item_of, items_of}
 use Rattle.dp_graph.specs.FoundPlaces.{unset}
 use Rattle.dp_graph.specs.Leaders.{AreMutual, AreLeaders}
-use Rattle.dp_graph.specs.PutOut.{IsBlocked, IsUndoneLeader, IsNextReady, IsItemOf, Finishes, ArePutOut, all_done, put_out, PutsOut}
+use Rattle.dp_graph.specs.PutOut.{IsBlocked, IsUndoneLeader, IsNextReady, Finishes, ArePutOut, all_done, put_out, PutsOut}
 use Rattle.dp_graph.proofs.ListPlaces.{within, there, some_same, at_repeat, length_repeat}
 
 some_not_both : {o : Option Bool} → o ≡ Some true → o ≡ Some false → ⊥
@@ -127,31 +127,33 @@ together_at_first rows leaders are done n e is i l h =
 pub size_at_first : (done : List Bool) (n m : ℕ) → n ≡ m → done ≡ replicate n false → length done ≡ m
 size_at_first done n m e is = ap length is ∙ (length_repeat n false ∙ e)
 
--- the items before are put out: the whole is put out as the rest is
-abbrev pub PutOutSoFar : List ℕ → List (List ℕ) → List ℕ → List Bool → List GraphItem → Type 0
-PutOutSoFar numbers rows leaders done items =
-    (rest : List GroupOrSingle) → ArePutOut numbers rows leaders done rest → PutsOut numbers rows leaders (items_of items ++ rest)
+-- the leaders before are put out: the whole is put out as the rest is
+abbrev pub PutOutSoFar : ℕ → List (List ℕ) → List ℕ → List Bool → List ℕ → Type 0
+PutOutSoFar pairs rows leaders done order = (rest : List ℕ) → ArePutOut pairs rows leaders done rest → PutsOut pairs rows leaders (order ++ rest)
 
-pub none_put_out : (numbers : List ℕ) (rows : List (List ℕ)) (leaders : List ℕ) (done : List Bool) (n : ℕ) (items : List GraphItem) → n ≡ length leaders → done ≡ replicate n false → items ≡ []
-    → PutOutSoFar numbers rows leaders done items
-none_put_out numbers rows leaders done n items e is none rest h =
-    subst (λ z. PutsOut numbers rows leaders (items_of z ++ rest)) (sym none)
-    (subst (λ z. ArePutOut numbers rows leaders z rest) (is ∙ ap (λ z. replicate z false) e) h)
+pub none_put_out : (pairs : ℕ) (rows : List (List ℕ)) (leaders : List ℕ) (done : List Bool) (n : ℕ) (order : List ℕ) → n ≡ length leaders → done ≡ replicate n false → order ≡ []
+    → PutOutSoFar pairs rows leaders done order
+none_put_out pairs rows leaders done n order e is none rest h =
+    subst (λ z. PutsOut pairs rows leaders (z ++ rest)) (sym none)
+    (subst (λ z. ArePutOut pairs rows leaders z rest) (is ∙ ap (λ z. replicate z false) e) h)
 
-items_more : (items : List GraphItem) (item : GraphItem) (rest : List GroupOrSingle) → items_of (items ++ item ∷ []) ++ rest ≡ items_of items ++ item_of item ∷ rest
-items_more [] item rest = refl
-items_more (x ∷ items) item rest = ap (λ z. item_of x ∷ z) (items_more items item rest)
+pub one_more_put_out : (pairs : ℕ) (rows : List (List ℕ)) (leaders : List ℕ) (done next : List Bool) (order new : List ℕ) (v : ℕ) → IsNextReady pairs rows leaders done (Some v)
+    → Finishes v leaders done next → new ≡ order ++ v ∷ [] → PutOutSoFar pairs rows leaders done order → PutOutSoFar pairs rows leaders next new
+one_more_put_out pairs rows leaders done next order new v ready finishes grown before rest h =
+    subst (PutsOut pairs rows leaders) (sym (ap (λ z. z ++ rest) grown ∙ append_assoc order (v ∷ []) rest)) (before (v ∷ rest) (put_out v next ready finishes h))
 
-pub one_more_put_out : (numbers : List ℕ) (rows : List (List ℕ)) (leaders : List ℕ) (done next : List Bool) (items new : List GraphItem) (item : GraphItem) (v : ℕ)
-    → IsNextReady rows leaders done (Some v) → IsItemOf numbers rows leaders v (item_of item) → Finishes v leaders done next → new ≡ items ++ item ∷ []
-    → PutOutSoFar numbers rows leaders done items → PutOutSoFar numbers rows leaders next new
-one_more_put_out numbers rows leaders done next items new item v ready is finishes grown before rest h =
-    subst (PutsOut numbers rows leaders) (sym (ap (λ z. items_of z ++ rest) grown ∙ items_more items item rest))
-    (before (item_of item ∷ rest) (put_out v next ready is finishes h))
+pub all_put_out : (pairs : ℕ) (rows : List (List ℕ)) (leaders : List ℕ) (done : List Bool) (order : List ℕ) → ((i : ℕ) → slice_get done i ≡ Some false → ⊥)
+    → PutOutSoFar pairs rows leaders done order → PutsOut pairs rows leaders order
+all_put_out pairs rows leaders done order none before = subst (PutsOut pairs rows leaders) (append-nil order) (before [] (all_done none))
 
-pub all_put_out : (numbers : List ℕ) (rows : List (List ℕ)) (leaders : List ℕ) (done : List Bool) (items : List GraphItem) → ((i : ℕ) → slice_get done i ≡ Some false → ⊥)
-    → PutOutSoFar numbers rows leaders done items → PutsOut numbers rows leaders (items_of items)
-all_put_out numbers rows leaders done items none before = subst (PutsOut numbers rows leaders) (append-nil (items_of items)) (before [] (all_done none))
+-- each leader that is put out leads itself
+pub put_out_lead : (pairs : ℕ) (rows : List (List ℕ)) (leaders : List ℕ) (done : List Bool) (order : List ℕ) → ArePutOut pairs rows leaders done order → (v : ℕ) → In v order
+    → slice_get leaders v ≡ Some v
+put_out_lead pairs rows leaders done _ (all_done none) u i = absurd (no_in i)
+put_out_lead pairs rows leaders done _ (put_out {vs = vs} v new ready finishes rest) u i = elim (in_or i) [
+  | inl e ↦ subst (λ z. slice_get leaders z ≡ Some z) (sym e) ready.0.0
+  | inr j ↦ put_out_lead pairs rows leaders new vs rest u j
+]
 
 fewer_unset : (done new : List Bool) (v : ℕ) → length new ≡ length done → ((k : ℕ) → slice_get done k ≡ Some true → slice_get new k ≡ Some true) → slice_get done v ≡ Some false
     → slice_get new v ≡ Some true → unset new < unset done

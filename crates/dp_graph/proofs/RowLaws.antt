@@ -1,190 +1,447 @@
--- Rows of edges, one place after another.
-use Rattle.std.specs.Prelude.{◌≡◌, ◌<◌, ◌≤◌, ◌↔◌, ◌⊎◌, ℕ, ◌+◌, Bool, true, false, All, IfOk, IsTrue, List, [], ◌∷◌, ◌++◌, length, take, get_or, Some, None, Result, Ok, Err, Vec, slice_get, refl}
+-- The rules of pairs, one pair after another; and the rows of edges to rules.
+use Rattle.std.specs.Prelude.{◌≡◌, ◌<◌, ◌≤◌, ◌↔◌, ◌⊎◌, ℕ, ◌+◌, Bool, true, false, cond, IsTrue, List, [], ◌∷◌, ◌++◌, length, Some, None, Vec, slice_get, refl}
 use Rattle.std.specs.declared.alloc.Global.{Global}
 use Rattle.std.specs.Ordering.{nat_cmp}
-use Rattle.std.specs.BTreeMap.{BTreeMap, get}
-use Rattle.std.proofs.Common.{inl, inr, sym, ap, subst, arith, ◌∙◌, length-append}
-use Rattle.std.proofs.lemmas.List.{append-nil, take_all}
+use Rattle.std.specs.BTreeMap.{BTreeMap, get, is_at}
+use Rattle.std.specs.Map.{lookup}
+use Rattle.std.proofs.Common.{inl, inr, sym, ap, subst, arith, ◌∙◌}
+use Rattle.std.proofs.lemmas.Grind.{common_steps}
 use native.Mathlib.Decide.{dec_lt, ℕ_discrete}
 use Rattle.trs_defs.specs.Member.{In, in_first}
-use Rattle.trs_defs.proofs.Members.{no_in, in_left, in_right, in_either}
+use Rattle.trs_defs.proofs.Members.{no_in, in_left, in_right, in_either, in_or, get_of_in, in_of_get}
 use Rattle.trs_defs.specs.System.{System, IsSystem}
-use Rattle.pair_theory.specs.DependencyPair.{DependencyPair, dependency_pairs, keep_if}
+use Rattle.pair_theory.specs.Marked.{mark}
+use Rattle.pair_theory.specs.DependencyPair.{DependencyPair, dependency_pairs}
 use Rattle.dp_graph.specs.ByRoot.{entry_items, items_at}
+use Rattle.dp_graph.specs.EarlierPairs.{IsOfRule}
 use Rattle.dp_graph.specs.GraphConditions.{lists_of}
 use Rattle.dp_graph.specs.GraphNodes.{IsNodeFor}
+use Rattle.dp_graph.specs.PlaceLists.{PutsBehind}
 use Rattle.dp_graph.specs.declared.graph.Node.{Node}
-use Rattle.dp_graph.specs.Rows.{EdgeOf, StayWithin, IsRowOf, AreRows, AreEdgesAmong, HasRoot, AreByRoot, AddsByRoot}
-use Rattle.dp_graph.proofs.EarlierLaws.{edge_root, none_at}
-use Rattle.dp_graph.proofs.FoundLaws.{taken_more, more_taken}
-use Rattle.dp_graph.proofs.ListPlaces.{within, there, some_same, last_or_there, lists_more, in_single, all_of_each}
+use Rattle.dp_graph.specs.declared.rows.RulePlace.{RulePlace}
+use Rattle.dp_graph.specs.declared.rows.Rules.{Rules}
+use Rattle.dp_graph.specs.Rows.{EdgeOf, AtPlaces, Follows, FollowsByRule, IsBetween, StayWithin, AreRows}
+use Rattle.dp_graph.specs.RulePlaces.{IsPlaceOf, IsInRule, AreRules, HaveRows, AreNoRules, AddsPair, AddsRule, RulesAt, LeadsByRules}
+use Rattle.dp_graph.proofs.EarlierLaws.{none_at, edge_root, edge_to_alike, same_left}
+use Rattle.dp_graph.proofs.NodeLists.{of_rule}
+use Rattle.dp_graph.proofs.ListPlaces.{within, there, some_same, last_or_there, still_there, last_there, lists_length, lists_more, length_more, in_single}
+use Rattle.dp_graph.proofs.ReversedLaws.{put_follows}
 
--- ---- a row
+-- ---- the rules
 
-pub none_among : (edge : ℕ → ℕ → Type 0) (numbers : List ℕ) (m : ℕ) (places : List ℕ) → AreEdgesAmong edge numbers m (take 0 places) []
-none_among edge numbers m places j = (λ i. absurd (no_in i), λ h. absurd (no_in h.0))
+same_number : (k q : ℕ) → is_at (nat_cmp k) q ≡ true → k ≡ q
+same_number k q h = grind (arith, common_steps)
 
-pub among_more : (edge : ℕ → ℕ → Type 0) (numbers : List ℕ) (m : ℕ) (places row new : List ℕ) (b : Bool) (i x n : ℕ) → i < length places → x ≡ get_or places i 0 → slice_get numbers x ≡ Some n
-    → IsTrue b ↔ edge m n → new ≡ row ++ keep_if b x [] → AreEdgesAmong edge numbers m (take i places) row → AreEdgesAmong edge numbers m (take (i + 1) places) new
-among_more edge numbers m places row new true i x n lt is at says grown before j = (
-  λ h. elim (in_either row (x ∷ []) (subst (In j) grown h)) [
-    | inl k ↦ (let e = (before j).0 k in (more_taken places i x j lt is (inl e.0), e.1))
-    | inr k ↦ (let same = in_single k in (more_taken places i x j lt is (inr same), (n, subst (λ z. slice_get numbers z ≡ Some n) (sym same) at, says.0 refl)))
-  ],
-  λ h. subst (In j) (sym grown) (elim (taken_more places i x j lt is h.0) [
-    | inl k ↦ in_left (x ∷ []) ((before j).1 (k, h.1))
-    | inr same ↦ in_right row (subst (λ z. In z (x ∷ [])) (sym same) in_first)
-  ]),
-)
-among_more edge numbers m places row new false i x n lt is at says grown before j = (
-  λ h. (let e = (before j).0 (subst (In j) (grown ∙ append-nil row) h) in (more_taken places i x j lt is (inl e.0), e.1)),
-  λ h. subst (In j) (sym (grown ∙ append-nil row)) (elim (taken_more places i x j lt is h.0) [
-    | inl k ↦ (before j).1 (k, h.1)
-    | inr same ↦ absurd (
-        let (a, at_j, e) = h.1 in
-        let here : a ≡ n = some_same a n (sym at_j ∙ (ap (slice_get numbers) same ∙ at)) in
-        let yes : false ≡ true = says.1 (subst (edge m) here e) in cc)
-  ]),
-)
+no_place : (places : BTreeMap ℕ ℕ) → places.entries ≡ [] → (r : ℕ) → get nat_cmp places r ≡ None
+no_place places none r = ap (λ es. lookup (is_at (nat_cmp r)) es) none
 
-pub all_among : (edge : ℕ → ℕ → Type 0) (numbers : List ℕ) (m : ℕ) (places row : List ℕ) (i : ℕ) → length places ≤ i → AreEdgesAmong edge numbers m (take i places) row
-    → AreEdgesAmong edge numbers m places row
-all_among edge numbers m places row i ge among = subst (λ z. AreEdgesAmong edge numbers m z row) (take_all i places ge) among
+pub no_rules : (system : System) (numbers : List ℕ) (n : ℕ) (rules : Rules) → n ≡ length numbers → AreNoRules n rules → AreRules system numbers 0 rules
+no_rules system numbers n rules size are = record {
+  low = (let c = are.rows.count in let l = lists_length rules.rows.items in omega (arith, size, c, l));
+  placed = λ r k e. absurd (let d : None ≡ Some k = sym (no_place rules.places are.places r) ∙ e in cc);
+  found = λ f rule i. absurd (no_in (subst (In rule) (none_at rules.by_root are.by_root f) i));
+  once = λ f g rule other i j same. absurd (no_in (subst (In rule) (none_at rules.by_root are.by_root f) i));
+  alike = λ f j rule q i e d. absurd (no_in (subst (In rule) (none_at rules.by_root are.by_root f) i));
+  reached = λ k j (row, at, i). absurd (no_in (subst (In j) (are.rows.none k row at) i));
+  all = λ j p lt is. absurd (omega (arith, lt));
+}
 
--- ---- places by roots
+pub no_pair_added : (system : System) (n j : ℕ) (old : Rules) → IsNodeFor system n None → AddsPair system n j old old
+no_pair_added system n j old none numbers at are = record {
+  low = are.low;
+  placed = are.placed;
+  found = are.found;
+  once = are.once;
+  alike = are.alike;
+  reached = are.reached;
+  all = λ i p lt is. elim (dec_lt i j) [
+    | yes less ↦ are.all i p less is
+    | no ge ↦ absurd (
+        let same : i ≡ j = omega (arith, ge, lt) in
+        let (m, e, d) = is in
+        let here : m ≡ n = some_same m n (sym e ∙ (ap (slice_get numbers) same ∙ at)) in
+        let h : None ≡ Some p = sym none ∙ (ap (slice_get (dependency_pairs system.rules)) (sym here) ∙ d) in cc)
+  ];
+}
 
-pub ByRootSoFar : System → List ℕ → BTreeMap ℕ (Vec ℕ Global) → ℕ → Type 0
-ByRootSoFar system numbers by_root i = (f j : ℕ) → In j (items_at by_root f) ↔ ((n : ℕ) × (slice_get numbers j ≡ Some n) × HasRoot system n f × (j < i))
+pub have_rows : (system : System) (numbers : List ℕ) (i : ℕ) (rules : Rules) → AreRules system numbers i rules → HaveRows rules
+have_rows system numbers i rules are r k e =
+    let is = are.placed r k e in
+    let h = (are.found is.root is.rule is.listed).small in
+    let same = is.at in omega (arith, h, same)
 
-pub none_by_root : (system : System) (numbers : List ℕ) (by_root : BTreeMap ℕ (Vec ℕ Global)) → by_root.entries ≡ [] → ByRootSoFar system numbers by_root 0
-unfolding ByRootSoFar
-none_by_root system numbers by_root none f j = (
-  λ i. absurd (no_in (subst (In j) (none_at by_root none f) i)),
-  λ h. absurd (let lt = h.3 in omega (arith, lt)),
-)
+module _ (system : System) (n j : ℕ) (node : Node) (old new : Rules) (is_node : IsNodeFor system n (Some node)) where
+  -- a pair of a rule that has a place
+  pub pair_added : (place : ℕ) → Some place ≡ get nat_cmp old.places node.rule → place < length old.rows.items → PutsBehind (lists_of old.rows.items) (lists_of new.rows.items) place j
+      → new.places ≡ old.places → new.by_root ≡ old.by_root → AddsPair system n j old new
+  pair_added place e small puts same_places same_roots numbers at are =
+      let (p, numbered, is) = is_node in
+      let owner = are.placed node.rule place (sym e) in
+      let left : mark p.from ≡ mark owner.pair.from = same_left system.rules node.rule p owner.pair (of_rule system.rules p node is) owner.of_rule in
+      let len : length new.rows.items ≡ length old.rows.items = (let a = lists_length new.rows.items in let b = lists_length old.rows.items in let c = puts.count in omega (arith, a, b, c)) in
+      let lt : place < length (lists_of old.rows.items) = (let b = lists_length old.rows.items in omega (arith, small, b)) in
+      let follows = put_follows (lists_of old.rows.items) (lists_of new.rows.items) place j lt puts in
+      let to_old : (f : ℕ) (rule : RulePlace) → In rule (items_at new.by_root f) → In rule (items_at old.by_root f) = (λ f rule i. subst (λ z. In rule (items_at z f)) same_roots i) in
+      let to_new : (f : ℕ) (rule : RulePlace) → In rule (items_at old.by_root f) → In rule (items_at new.by_root f) = (λ f rule i. subst (λ z. In rule (items_at z f)) (sym same_roots) i) in
+      let in_rule : (k i : ℕ) → IsInRule old k i → IsInRule new k i =
+      (λ k i h. record { root = h.root; rule = h.rule; listed = to_new h.root h.rule h.listed; at = h.at; follows = (follows k i).1 (inl h.follows) }) in
+      let here : IsInRule new place j =
+      (record { root = owner.root; rule = owner.rule; listed = to_new owner.root owner.rule owner.listed; at = owner.at; follows = (follows place j).1 (inr (refl, refl)) }) in record {
+        low = (let h = are.low in omega (arith, h, len));
+        placed = λ r k d.
+            let o = are.placed r k (subst (λ z. get nat_cmp z r ≡ Some k) same_places d) in
+            record { rule = o.rule; at = o.at; root = o.root; listed = to_new o.root o.rule o.listed; pair = o.pair; numbered = o.numbered; of_rule = o.of_rule };
+        found = λ f rule i.
+            let o = are.found f rule (to_old f rule i) in
+            record { pair = o.pair; numbered = o.numbered; root = o.root; behind = o.behind; small = (let h = o.small in omega (arith, h, len)) };
+        once = λ f g rule other i k same. are.once f g rule other (to_old f rule i) (to_old g other k) same;
+        alike = λ f i rule q k d t. elim ((follows rule.place i).0 t) [
+          | inl h ↦ are.alike f i rule q (to_old f rule k) d h
+          | inr h ↦
+              let one : rule.pair ≡ owner.rule.pair = are.once f owner.root rule owner.rule (to_old f rule k) owner.listed (h.0 ∙ sym owner.at) in
+              let same : q ≡ owner.pair = some_same q owner.pair (sym d ∙ (ap (slice_get (dependency_pairs system.rules)) one ∙ owner.numbered)) in
+              (p, (n, ap (slice_get numbers) h.1 ∙ at, numbered), left ∙ ap (λ (x : DependencyPair). mark x.from) (sym same))
+        ];
+        reached = λ k i t. elim ((follows k i).0 t) [
+          | inl h ↦ in_rule k i (are.reached k i h)
+          | inr h ↦ subst (λ z. IsInRule new z i) (sym h.0) (subst (IsInRule new place) (sym h.1) here)
+        ];
+        all = λ i x less is_pair. elim (dec_lt i j) [
+          | yes s ↦ (let (k, h) = are.all i x s is_pair in (k, in_rule k i h))
+          | no s ↦ (let same : i ≡ j = omega (arith, s, less) in (place, subst (IsInRule new place) (sym same) here))
+        ];
+      }
 
-pub by_root_more : (system : System) (numbers : List ℕ) (old new : BTreeMap ℕ (Vec ℕ Global)) (i n : ℕ) → slice_get numbers i ≡ Some n → AddsByRoot system n i old new
-    → ByRootSoFar system numbers old i → ByRootSoFar system numbers new (i + 1)
-unfolding ByRootSoFar
-by_root_more system numbers old new i n at adds before f j = (
-  λ h. elim ((adds f j).0 h) [
-    | inl k ↦ (let (a, e, root, lt) = (before f j).0 k in (a, e, root, omega (arith, lt)))
-    | inr k ↦ (let same = k.0 in (n, subst (λ z. slice_get numbers z ≡ Some n) (sym same) at, k.1, omega (arith, same)))
-  ],
-  λ (a, e, root, lt). (adds f j).1 (elim (dec_lt j i) [
-    | yes s ↦ inl ((before f j).1 (a, e, root, s))
-    | no s ↦
-        let same : j ≡ i = omega (arith, s, lt) in
-        inr (same, subst (λ z. HasRoot system z f) (some_same a n (sym e ∙ (ap (slice_get numbers) same ∙ at))) root)
-  ]),
-)
+  -- the first pair of a rule
+  pub rule_added : AddsRule node n j old new → AddsPair system n j old new
+  rule_added adds numbers at are =
+      let (p, numbered, is) = is_node in
+      let place : ℕ = length old.rows.items in
+      let size : place ≡ length (lists_of old.rows.items) = sym (lists_length old.rows.items) in
+      let len : length new.rows.items ≡ place + 1 = (let a = lists_length new.rows.items in let b = ap length adds.rows in let c = length_more (lists_of old.rows.items) (j ∷ []) in omega (arith, a, b, c, size)) in
+      let own : RulePlace = record { place = place; pair = n } in
+      let here : In own (items_at new.by_root node.from) = subst (In own) (sym adds.here) (in_right (items_at old.by_root node.from) in_first) in
+      let row : Follows (lists_of new.rows.items) place j = (
+        j ∷ [],
+        subst (λ z. slice_get z place ≡ Some (j ∷ [])) (sym adds.rows)
+            (subst (λ z. slice_get (lists_of old.rows.items ++ (j ∷ []) ∷ []) z ≡ Some (j ∷ [])) (sym size) (last_there (lists_of old.rows.items) (j ∷ []))),
+        in_first,
+      ) in
+      let in_rule : (k i : ℕ) → IsInRule old k i → IsInRule new k i =
+      (λ k i h. record { root = h.root; rule = h.rule; listed = still h.root h.rule h.listed; at = h.at; follows = still_follows k i h.follows }) in
+      let in_own : IsInRule new place j = (record { root = node.from; rule = own; listed = here; at = refl; follows = row }) in record {
+        low = (let h = are.low in omega (arith, h, len));
+        placed = λ r k e. by_number r k e (is_at (nat_cmp node.rule) r) refl;
+        found = λ f rule i. elim (listed f rule i) [
+          | inl h ↦ (let o = are.found f rule h in record { pair = o.pair; numbered = o.numbered; root = o.root; behind = o.behind; small = (let s = o.small in omega (arith, s, len)) })
+          | inr h ↦ record {
+            pair = p;
+            numbered = ap (λ (z : RulePlace). slice_get (dependency_pairs system.rules) z.pair) h.1 ∙ numbered;
+            root = sym is.from ∙ sym h.0;
+            behind = (let s = ap (λ (z : RulePlace). z.place) h.1 in let l = are.low in omega (arith, s, l));
+            small = (let s = ap (λ (z : RulePlace). z.place) h.1 in omega (arith, s, len));
+          }
+        ];
+        once = λ f g rule other i k same. elim (listed f rule i) [
+          | inl h ↦ elim (listed g other k) [
+            | inl h2 ↦ are.once f g rule other h h2 same
+            | inr h2 ↦ absurd (let s = (are.found f rule h).small in let t = ap (λ (z : RulePlace). z.place) h2.1 in omega (arith, s, t, same))
+          ]
+          | inr h ↦ elim (listed g other k) [
+            | inl h2 ↦ absurd (let s = (are.found g other h2).small in let t = ap (λ (z : RulePlace). z.place) h.1 in omega (arith, s, t, same))
+            | inr h2 ↦ ap (λ (z : RulePlace). z.pair) (h.1 ∙ sym h2.1)
+          ]
+        ];
+        alike = λ f i rule q k d t. elim (listed f rule k) [
+          | inl h ↦ elim (follow rule.place i t) [
+            | inl t2 ↦ are.alike f i rule q h d t2
+            | inr t2 ↦ absurd (let s = (are.found f rule h).small in let u = t2.0 in omega (arith, s, u))
+          ]
+          | inr h ↦ elim (follow rule.place i t) [
+            | inl t2 ↦ absurd (let w = (let (r, e, m) = t2 in within (lists_of old.rows.items) rule.place r e) in let u = ap (λ (z : RulePlace). z.place) h.1 in omega (arith, w, u, size))
+            | inr t2 ↦
+                let same : p ≡ q = some_same p q (sym numbered ∙ (ap (λ (z : RulePlace). slice_get (dependency_pairs system.rules) z.pair) (sym h.1) ∙ d)) in
+                (p, (n, ap (slice_get numbers) t2.1 ∙ at, numbered), ap (λ (x : DependencyPair). mark x.from) same)
+          ]
+        ];
+        reached = λ k i t. elim (follow k i t) [
+          | inl h ↦ in_rule k i (are.reached k i h)
+          | inr h ↦ subst (λ z. IsInRule new z i) (sym h.0) (subst (IsInRule new place) (sym h.1) in_own)
+        ];
+        all = λ i x less is_pair. elim (dec_lt i j) [
+          | yes s ↦ (let (k, h) = are.all i x s is_pair in (k, in_rule k i h))
+          | no s ↦ (let same : i ≡ j = omega (arith, s, less) in (place, subst (IsInRule new place) (sym same) in_own))
+        ];
+      }
+    where
+      listed : (f : ℕ) (rule : RulePlace) → In rule (items_at new.by_root f) → In rule (items_at old.by_root f) ⊎ ((f ≡ node.from) × (rule ≡ record { place = length old.rows.items; pair = n }))
+      listed f rule i = elim (ℕ_discrete f node.from) [
+        | yes same ↦ elim (in_either (items_at old.by_root node.from) (record { place = length old.rows.items; pair = n } ∷ []) (subst (In rule) adds.here (subst (λ z. In rule (items_at new.by_root z)) same i))) [
+          | inl h ↦ inl (subst (λ z. In rule (items_at old.by_root z)) (sym same) h)
+          | inr h ↦ elim (in_or h) [ inl e ↦ inr (same, e) | inr none ↦ absurd (no_in none) ]
+        ]
+        | no differ ↦ inl (subst (In rule) (adds.others f differ) i)
+      ]
 
-pub all_by_root : (system : System) (numbers : List ℕ) (by_root : BTreeMap ℕ (Vec ℕ Global)) (i : ℕ) → length numbers ≤ i → ByRootSoFar system numbers by_root i → AreByRoot system numbers by_root
-unfolding ByRootSoFar
-all_by_root system numbers by_root i ge so_far f j = (
-  λ h. (let (a, e, root, lt) = (so_far f j).0 h in (a, e, root)),
-  λ (a, e, root). (so_far f j).1 (a, e, root, (let w = within numbers j a e in omega (arith, w, ge))),
-)
+      still : (f : ℕ) (rule : RulePlace) → In rule (items_at old.by_root f) → In rule (items_at new.by_root f)
+      still f rule i = elim (ℕ_discrete f node.from) [
+        | yes same ↦ subst (λ z. In rule (items_at new.by_root z)) (sym same)
+            (subst (In rule) (sym adds.here) (in_left (record { place = length old.rows.items; pair = n } ∷ []) (subst (λ z. In rule (items_at old.by_root z)) same i)))
+        | no differ ↦ subst (In rule) (sym (adds.others f differ)) i
+      ]
 
-pub no_place_added : (system : System) (n place : ℕ) (old : BTreeMap ℕ (Vec ℕ Global)) → IsNodeFor system n None → AddsByRoot system n place old old
-no_place_added system n place old none f j = (
-  λ i. inl i,
-  λ h. elim h [ inl i ↦ i | inr k ↦ absurd (let (p, at, root) = k.1 in let d : None ≡ Some p = sym none ∙ at in cc) ],
-)
+      still_follows : (k i : ℕ) → Follows (lists_of old.rows.items) k i → Follows (lists_of new.rows.items) k i
+      still_follows k i (row, e, m) = (row, subst (λ z. slice_get z k ≡ Some row) (sym adds.rows) (still_there (lists_of old.rows.items) ((j ∷ []) ∷ []) k row e), m)
 
-pub place_added : (system : System) (n place : ℕ) (node : Node) (old new : BTreeMap ℕ (Vec ℕ Global)) → IsNodeFor system n (Some node) → items_at new node.from ≡ items_at old node.from ++ place ∷ []
-    → ((f : ℕ) → (f ≡ node.from → ⊥) → items_at new f ≡ items_at old f) → AddsByRoot system n place old new
-place_added system n place node old new (p, at, is) here others f j = go (ℕ_discrete f node.from)
-  where
-    to : (q : DependencyPair) → slice_get (dependency_pairs system.rules) n ≡ Some q → q.from.symbol ≡ f → f ≡ node.from
-    to q there root =
-        let same : p ≡ q = some_same p q (sym at ∙ there) in
-        sym root ∙ (ap (λ (z : DependencyPair). z.from.symbol) (sym same) ∙ sym is.from)
+      follow : (k i : ℕ) → Follows (lists_of new.rows.items) k i → Follows (lists_of old.rows.items) k i ⊎ ((k ≡ length old.rows.items) × (i ≡ j))
+      follow k i (row, e, m) = elim (last_or_there (lists_of old.rows.items) (j ∷ []) row k (subst (λ z. slice_get z k ≡ Some row) adds.rows e)) [
+        | inl h ↦ inl (row, h, m)
+        | inr h ↦ inr (h.0 ∙ lists_length old.rows.items, in_single (subst (In i) (sym h.1) m))
+      ]
 
-    go : Dec (f ≡ node.from) → In j (items_at new f) ↔ (In j (items_at old f) ⊎ ((j ≡ place) × HasRoot system n f))
-    go (yes same) = (
-      λ i. elim (in_either (items_at old node.from) (place ∷ []) (subst (In j) here (subst (λ z. In j (items_at new z)) same i))) [
-        | inl k ↦ inl (subst (λ z. In j (items_at old z)) (sym same) k)
-        | inr k ↦ inr (in_single k, (p, at, sym is.from ∙ sym same))
-      ],
-      λ h. subst (λ z. In j (items_at new z)) (sym same) (subst (In j) (sym here) (elim h [
-        | inl k ↦ in_left (place ∷ []) (subst (λ z. In j (items_at old z)) same k)
-        | inr k ↦ in_right (items_at old node.from) (subst (λ z. In z (place ∷ [])) (sym k.0) in_first)
-      ])),
-    )
-    go (no other) = (
-      λ i. inl (subst (In j) (others f other) i),
-      λ h. elim h [ inl k ↦ subst (In j) (sym (others f other)) k | inr k ↦ absurd (let (q, there, root) = k.1 in other (to q there root)) ],
-    )
+      by_number : (r k : ℕ) → get nat_cmp new.places r ≡ Some k → (b : Bool) → is_at (nat_cmp node.rule) r ≡ b → IsPlaceOf system new r k
+      by_number r k e true same =
+          let (p, numbered, is) = is_node in
+          let here : length old.rows.items ≡ k = some_same (length old.rows.items) k (sym (adds.places r ∙ ap (λ b. cond b (Some (length old.rows.items)) (get nat_cmp old.places r)) same) ∙ e) in record {
+            rule = record { place = length old.rows.items; pair = n };
+            at = here;
+            root = node.from;
+            listed = subst (In (record { place = length old.rows.items; pair = n })) (sym adds.here) (in_right (items_at old.by_root node.from) in_first);
+            pair = p;
+            numbered = numbered;
+            of_rule = subst (λ z. IsOfRule system.rules z p) (same_number node.rule r same) (of_rule system.rules p node is);
+          }
+      by_number r k e false other =
+          let o = are.placed r k (sym (adds.places r ∙ ap (λ b. cond b (Some (length old.rows.items)) (get nat_cmp old.places r)) other) ∙ e) in
+          record { rule = o.rule; at = o.at; root = o.root; listed = still o.root o.rule o.listed; pair = o.pair; numbered = o.numbered; of_rule = o.of_rule }
 
--- the row of a pair: of the places at the root of its right side
-pub row_at_root : (system : System) (numbers : List ℕ) (by_root : BTreeMap ℕ (Vec ℕ Global)) (m : ℕ) (node : Node) (row : List ℕ) → IsSystem system → length system.arities ≤ 4095
-    → IsNodeFor system m (Some node) → AreByRoot system numbers by_root → AreEdgesAmong (EdgeOf system) numbers m (items_at by_root node.to) row → IsRowOf (EdgeOf system) numbers m row
-row_at_root system numbers by_root m node row valid few (p, at, is) by among j = (
-  λ i. ((among j).0 i).1,
-  λ (n, e, edge).
-      let root = edge_root system valid few m n p edge.to at edge.to_numbered edge in
-      (among j).1 ((by node.to j).1 (n, e, (edge.to, edge.to_numbered, sym root ∙ sym is.to)), (n, e, edge)),
-)
+pub rule_put : (node : Node) (n j place : ℕ) (old new : Rules) (row : Vec ℕ Global) → place ≡ length old.rows.items → row.items ≡ j ∷ [] → new.rows.items ≡ old.rows.items ++ row ∷ []
+    → ((r : ℕ) → get nat_cmp new.places r ≡ cond (is_at (nat_cmp node.rule) r) (Some place) (get nat_cmp old.places r))
+    → items_at new.by_root node.from ≡ items_at old.by_root node.from ++ record { place = place; pair = n } ∷ [] → ((f : ℕ) → (f ≡ node.from → ⊥) → items_at new.by_root f ≡ items_at old.by_root f)
+    → AddsRule node n j old new
+rule_put node n j place old new row same one grown places here others = record {
+  rows = ap lists_of grown ∙ (lists_more old.rows.items row ∙ ap (λ z. lists_of old.rows.items ++ z ∷ []) one);
+  places = λ r. places r ∙ ap (λ z. cond (is_at (nat_cmp node.rule) r) (Some z) (get nat_cmp old.places r)) same;
+  here = here ∙ ap (λ z. items_at old.by_root node.from ++ record { place = z; pair = n } ∷ []) same;
+  others = others;
+}
 
-pub no_row_from_none : (system : System) (numbers : List ℕ) (m : ℕ) → IsNodeFor system m None → IsRowOf (EdgeOf system) numbers m []
-no_row_from_none system numbers m none j = (λ i. absurd (no_in i), λ (n, e, edge). absurd (let d : None ≡ Some edge.from = sym none ∙ edge.from_numbered in cc))
+-- ---- the row of a pair
 
-pub no_row_at_root : (system : System) (numbers : List ℕ) (by_root : BTreeMap ℕ (Vec ℕ Global)) (m : ℕ) (node : Node) → IsSystem system → length system.arities ≤ 4095
-    → IsNodeFor system m (Some node) → AreByRoot system numbers by_root → None ≡ get nat_cmp by_root node.to → IsRowOf (EdgeOf system) numbers m []
-no_row_at_root system numbers by_root m node valid few is by none =
-    row_at_root system numbers by_root m node [] valid few is by
-    (λ j. (λ i. absurd (no_in i), λ h. absurd (no_in (subst (In j) (ap entry_items (sym none)) h.0))))
+leads_by_none : (system : System) (rules : RulePlace → Type 0) (m i : ℕ) (rows : List (List ℕ)) → ((rule : RulePlace) → rules rule → EdgeOf system m rule.pair → ⊥) → LeadsByRules system rules m i rows rows
+leads_by_none system rules m i rows none = record {
+  count = refl;
+  others = λ k d. refl;
+  exact = λ j. (λ f. inl f, λ h. elim h [ inl f ↦ f | inr (rule, is, at, edge) ↦ absurd (none rule is edge) ]);
+}
 
-pub row_of_places : {E : Type 0} (system : System) (numbers : List ℕ) (by_root : BTreeMap ℕ (Vec ℕ Global)) (m : ℕ) (node : Node) (places : Vec ℕ Global) (result : Result (Vec ℕ Global) E)
-    → IsSystem system → length system.arities ≤ 4095 → IsNodeFor system m (Some node) → AreByRoot system numbers by_root → Some places ≡ get nat_cmp by_root node.to
-    → IfOk result (λ row. AreEdgesAmong (EdgeOf system) numbers m places.items row.items) → IfOk result (λ row. IsRowOf (EdgeOf system) numbers m row.items)
-row_of_places system numbers by_root m node places (Ok row) valid few is by there among =
-    row_at_root system numbers by_root m node row.items valid few is by (subst (λ z. AreEdgesAmong (EdgeOf system) numbers m z row.items) (ap entry_items there) among)
-row_of_places system numbers by_root m node places (Err e) valid few is by there among = among
+pub leads_from_none : (system : System) (by_root : BTreeMap ℕ (Vec RulePlace Global)) (m i : ℕ) (rows : List (List ℕ)) → IsNodeFor system m None → LeadsByRules system (RulesAt system by_root m) m i rows rows
+leads_from_none system by_root m i rows none =
+    leads_by_none system (RulesAt system by_root m) m i rows (λ rule (p, at, is) edge. let d : None ≡ Some p = sym none ∙ at in absurd cc)
 
-pub places_within : (system : System) (numbers : List ℕ) (by_root : BTreeMap ℕ (Vec ℕ Global)) (f : ℕ) (places : Vec ℕ Global) → AreByRoot system numbers by_root → Some places ≡ get nat_cmp by_root f
-    → All (λ j. j < length numbers) places.items
-places_within system numbers by_root f places by there =
-    all_of_each (λ j. j < length numbers) places.items
-    (λ j i. let (n, e, root) = (by f j).0 (subst (In j) (ap entry_items there) i) in within numbers j n e)
+leads_same : (system : System) (V W : RulePlace → Type 0) (m i : ℕ) (old new : List (List ℕ)) → ((rule : RulePlace) → V rule → W rule) → ((rule : RulePlace) → W rule → V rule) → LeadsByRules system V m i old new
+    → LeadsByRules system W m i old new
+leads_same system V W m i old new to from leads = record {
+  count = leads.count;
+  others = leads.others;
+  exact = λ j. (
+    λ f. elim ((leads.exact j).0 f) [ inl h ↦ inl h | inr (rule, is, at, edge) ↦ inr (rule, to rule is, at, edge) ],
+    λ h. (leads.exact j).1 (elim h [ inl f ↦ inl f | inr (rule, is, at, edge) ↦ inr (rule, from rule is, at, edge) ]),
+  );
+}
 
--- the rows of the first i places
-abbrev pub RowsSoFar : (ℕ → ℕ → Type 0) → List ℕ → List (List ℕ) → ℕ → Type 0
-RowsSoFar edge numbers rows i =
-    (length rows ≡ i) × ((k m : ℕ) (row : List ℕ) → slice_get rows k ≡ Some row → slice_get numbers k ≡ Some m → IsRowOf edge numbers m row)
+module _ (system : System) (by_root : BTreeMap ℕ (Vec RulePlace Global)) (m i : ℕ) (node : Node) (is : IsNodeFor system m (Some node)) where
+  at_root : (rule : RulePlace) → In rule (items_at by_root node.to) → RulesAt system by_root m rule
+  at_root rule h = let (p, at, node_of) = is in (p, at, subst (λ z. In rule (items_at by_root z)) node_of.to h)
 
-module _ (edge : ℕ → ℕ → Type 0) (numbers : List ℕ) where
-  pub one_row_more : (rows new : List (Vec ℕ Global)) (row : Vec ℕ Global) (i m : ℕ) → slice_get numbers i ≡ Some m → IsRowOf edge numbers m row.items → new ≡ rows ++ row ∷ []
-      → RowsSoFar edge numbers (lists_of rows) i → RowsSoFar edge numbers (lists_of new) (i + 1)
-  one_row_more rows new row i m at is grown (count, each) =
-      let whole : lists_of new ≡ lists_of rows ++ row.items ∷ [] = ap lists_of grown ∙ lists_more rows row in (
-        ap length whole ∙ (length-append (lists_of rows) (row.items ∷ []) ∙ ap (λ z. z + 1) count),
-        λ k n r e d. elim (last_or_there (lists_of rows) row.items r k (subst (λ z. slice_get z k ≡ Some r) whole e)) [
-          | inl h ↦ each k n r h d
-          | inr h ↦ (let here : n ≡ m = some_same n m (sym d ∙ (ap (slice_get numbers) (h.0 ∙ count) ∙ at)) in
-              subst (λ z. IsRowOf edge numbers z r) (sym here) (subst (IsRowOf edge numbers m) h.1 is))
+  of_root : (rule : RulePlace) → RulesAt system by_root m rule → In rule (items_at by_root node.to)
+  of_root rule (q, there_q, h) =
+      let (p, at, node_of) = is in
+      let same : q ≡ p = some_same q p (sym there_q ∙ at) in
+      subst (λ z. In rule (items_at by_root z)) (ap (λ (x : DependencyPair). x.to.symbol) same ∙ sym node_of.to) h
+
+  pub leads_to_no_root : (rows : List (List ℕ)) → None ≡ get nat_cmp by_root node.to → LeadsByRules system (RulesAt system by_root m) m i rows rows
+  leads_to_no_root rows none =
+      leads_by_none system (RulesAt system by_root m) m i rows (λ rule h edge. no_in (subst (In rule) (ap entry_items (sym none)) (of_root rule h)))
+
+  pub leads_at_root : (rules : Vec RulePlace Global) (old new : List (List ℕ)) → Some rules ≡ get nat_cmp by_root node.to → LeadsByRules system (λ rule. In rule rules.items) m i old new
+      → LeadsByRules system (RulesAt system by_root m) m i old new
+  leads_at_root rules old new there_is leads =
+      leads_same system (λ rule. In rule rules.items) (RulesAt system by_root m) m i old new (λ rule h. at_root rule (subst (In rule) (ap entry_items there_is) h))
+      (λ rule h. subst (In rule) (sym (ap entry_items there_is)) (of_root rule h)) leads
+
+-- one of the first rules
+abbrev pub AmongFirst : List RulePlace → ℕ → RulePlace → Type 0
+AmongFirst rules n rule = (k : ℕ) × k < n × (slice_get rules k ≡ Some rule)
+
+module _ (system : System) (rules : List RulePlace) (m i : ℕ) where
+  pub leads_to_no_rule : (rows : List (List ℕ)) → LeadsByRules system (AmongFirst rules 0) m i rows rows
+  leads_to_no_rule rows = leads_by_none system (AmongFirst rules 0) m i rows (λ rule (k, lt, at) edge. omega (arith, lt))
+
+  pub leads_to_all : (old new : List (List ℕ)) (n : ℕ) → length rules ≤ n → LeadsByRules system (AmongFirst rules n) m i old new → LeadsByRules system (λ rule. In rule rules) m i old new
+  leads_to_all old new n ge leads =
+      leads_same system (AmongFirst rules n) (λ rule. In rule rules) m i old new (λ rule (k, lt, at). in_of_get rules k rule at)
+      (λ rule h. let at = get_of_in h in (at.0, (let w = within rules at.0 rule at.1 in omega (arith, w, ge)), at.1)) leads
+
+  module _ (old mid : List (List ℕ)) (n : ℕ) (rule : RulePlace) (at : slice_get rules n ≡ Some rule) (leads : LeadsByRules system (AmongFirst rules n) m i old mid) where
+    later : (other : RulePlace) → AmongFirst rules n other → AmongFirst rules (n + 1) other
+    later other (k, lt, e) = (k, omega (arith, lt), e)
+
+    sooner : (other : RulePlace) → AmongFirst rules (n + 1) other → AmongFirst rules n other ⊎ (other ≡ rule)
+    sooner other (k, lt, e) = elim (dec_lt k n) [
+      | yes s ↦ inl (k, s, e)
+      | no s ↦ inr (let same : k ≡ n = omega (arith, s, lt) in some_same other rule (sym e ∙ (ap (slice_get rules) same ∙ at)))
+    ]
+
+    pub leads_to_more : (new : List (List ℕ)) → EdgeOf system m rule.pair → i < length mid → PutsBehind mid new i rule.place → LeadsByRules system (AmongFirst rules (n + 1)) m i old new
+    leads_to_more new edge lt puts = record {
+      count = puts.count ∙ leads.count;
+      others = λ k d. puts.others k d ∙ leads.others k d;
+      exact = λ j. (
+        λ f. elim ((put_follows mid new i rule.place lt puts i j).0 f) [
+          | inl h ↦ elim ((leads.exact j).0 h) [ inl g ↦ inl g | inr (other, is, e, yes_edge) ↦ inr (other, later other is, e, yes_edge) ]
+          | inr h ↦ inr (rule, (n, omega arith, at), sym h.1, edge)
         ],
-      )
+        λ h. (put_follows mid new i rule.place lt puts i j).1 (elim h [
+          | inl g ↦ inl ((leads.exact j).1 (inl g))
+          | inr (other, is, e, yes_edge) ↦ elim (sooner other is) [
+            | inl was ↦ inl ((leads.exact j).1 (inr (other, was, e, yes_edge)))
+            | inr same ↦ inr (refl, sym e ∙ ap (λ (z : RulePlace). z.place) same)
+          ]
+        ]),
+      );
+    }
 
-  pub all_rows : (rows : List (List ℕ)) (i : ℕ) → length rows ≡ length numbers → RowsSoFar edge numbers rows i → AreRows edge numbers rows
-  all_rows rows i count so_far = record {
-    count = count;
-    exact = λ a b. (
-      λ (row, at, i).
-          let m = there numbers a (let h = within rows a row at in omega (arith, h, count)) in
-          let (n, d, e) = (so_far.1 a m.0 row at m.1 b).0 i in (m.0, n, m.1, d, e),
-      λ (m, n, e, d, has).
-          let row = there rows a (let h = within numbers a m e in omega (arith, h, count)) in
-          (row.0, row.1, (so_far.1 a m row.0 row.1 e b).1 (n, d, has)),
-    );
+    pub leads_past : (EdgeOf system m rule.pair → ⊥) → LeadsByRules system (AmongFirst rules (n + 1)) m i old mid
+    leads_past none = record {
+      count = leads.count;
+      others = leads.others;
+      exact = λ j. (
+        λ f. elim ((leads.exact j).0 f) [ inl g ↦ inl g | inr (other, is, e, edge) ↦ inr (other, later other is, e, edge) ],
+        λ h. (leads.exact j).1 (elim h [
+          | inl g ↦ inl g
+          | inr (other, is, e, edge) ↦ elim (sooner other is) [
+            | inl was ↦ inr (other, was, e, edge)
+            | inr same ↦ absurd (none (subst (λ (z : RulePlace). EdgeOf system m z.pair) same edge))
+          ]
+        ]),
+      );
+    }
+
+  -- one rule more, where the truth value says whether an edge leads to its pairs
+  pub leads_to_one : (old mid new : List (List ℕ)) (n : ℕ) (rule : RulePlace) (b : Bool) → slice_get rules n ≡ Some rule → IsTrue b ↔ EdgeOf system m rule.pair → i < length mid
+      → (IsTrue b → PutsBehind mid new i rule.place) → (b ≡ false → new ≡ mid) → LeadsByRules system (AmongFirst rules n) m i old mid → LeadsByRules system (AmongFirst rules (n + 1)) m i old new
+  leads_to_one old mid new n rule true at says lt puts same leads = leads_to_more old mid n rule at leads new (says.0 refl) lt (puts refl)
+  leads_to_one old mid new n rule false at says lt puts same leads =
+      subst (LeadsByRules system (AmongFirst rules (n + 1)) m i old) (sym (same refl)) (leads_past old mid n rule at leads (λ edge. let h : false ≡ true = says.1 edge in cc))
+
+-- ---- the rows of all pairs
+
+-- the rows of the first n pairs are made
+pub record LedSoFar (system : System) (numbers : List ℕ) (by_root : BTreeMap ℕ (Vec RulePlace Global)) (before rows : List (List ℕ)) (n : ℕ) : Type 0 where
+  pub count : length rows ≡ length before
+  pub valid : (k : ℕ) → k < n → IsSystem system × length system.arities ≤ 4095
+  pub later : (k : ℕ) → n ≤ k → slice_get rows k ≡ slice_get before k
+  pub exact : (k j m : ℕ) → k < n → slice_get numbers k ≡ Some m → Follows rows k j ↔ (Follows before k j ⊎ ((rule : RulePlace) × RulesAt system by_root m rule × (rule.place ≡ j) × EdgeOf system m rule.pair))
+
+pub none_led_yet : (system : System) (numbers : List ℕ) (by_root : BTreeMap ℕ (Vec RulePlace Global)) (rows : List (List ℕ)) → LedSoFar system numbers by_root rows rows 0
+none_led_yet system numbers by_root rows = record { count = refl; valid = λ k lt. absurd (omega (arith, lt)); later = λ k ge. refl; exact = λ k j m lt e. absurd (omega (arith, lt)) }
+
+pub one_more_row : (system : System) (numbers : List ℕ) (by_root : BTreeMap ℕ (Vec RulePlace Global)) (before rows new : List (List ℕ)) (n m : ℕ) → slice_get numbers n ≡ Some m → IsSystem system
+    → length system.arities ≤ 4095 → LeadsByRules system (RulesAt system by_root m) m n rows new → LedSoFar system numbers by_root before rows n → LedSoFar system numbers by_root before new (n + 1)
+one_more_row system numbers by_root before rows new n m at valid few leads so_far = record {
+  count = leads.count ∙ so_far.count;
+  valid = λ k lt. (valid, few);
+  later = λ k ge. leads.others k (λ e. omega (arith, e, ge)) ∙ so_far.later k (omega (arith, ge));
+  exact = λ k j a lt e. elim (dec_lt k n) [
+    | yes s ↦ (
+        let same : slice_get new k ≡ slice_get rows k = leads.others k (λ d. omega (arith, d, s)) in
+        (λ (row, t, i). (so_far.exact k j a s e).0 (row, sym same ∙ t, i), λ h. let (row, t, i) = (so_far.exact k j a s e).1 h in (row, same ∙ t, i)))
+    | no s ↦ (
+        let here : k ≡ n = omega (arith, s, lt) in
+        let number : m ≡ a = some_same m a (sym at ∙ (ap (slice_get numbers) (sym here) ∙ e)) in
+        let old : slice_get rows n ≡ slice_get before n = so_far.later n (omega arith) in
+        subst (λ z. Follows new z j ↔ (Follows before z j ⊎ ((rule : RulePlace) × RulesAt system by_root a rule × (rule.place ≡ j) × EdgeOf system a rule.pair))) (sym here)
+        (subst (λ z. Follows new n j ↔ (Follows before n j ⊎ ((rule : RulePlace) × RulesAt system by_root z rule × (rule.place ≡ j) × EdgeOf system z rule.pair))) number (
+          λ f. elim ((leads.exact j).0 f) [ inl (row, t, i) ↦ inl (row, sym old ∙ t, i) | inr h ↦ inr h ],
+          λ h. (leads.exact j).1 (elim h [ inl (row, t, i) ↦ inl (row, old ∙ t, i) | inr g ↦ inr g ]),
+        )))
+  ];
+}
+
+module _ (system : System) (numbers : List ℕ) (rules : Rules) (are : AreRules system numbers (length numbers) rules) (rows : List (List ℕ))
+    (led : LedSoFar system numbers rules.by_root (lists_of rules.rows.items) rows (length numbers)) where
+  abbrev pairs : ℕ
+  pairs = length numbers
+
+  abbrev before : List (List ℕ)
+  before = lists_of rules.rows.items
+
+  from_rule : (k j : ℕ) → Follows before k j → pairs ≤ k × j < pairs
+  from_rule k j f =
+      let h = are.reached k j f in
+      let is = are.found h.root h.rule h.listed in
+      let (p, (m, e, d), same) = are.alike h.root j h.rule is.pair h.listed is.numbered (subst (λ z. Follows before z j) (sym h.at) f) in
+      let low : pairs ≤ k = (let b = is.behind in let a = h.at in omega (arith, a, b)) in
+      (low, within numbers j m e)
+
+  of_before : (k j : ℕ) → pairs ≤ k → Follows rows k j → Follows before k j
+  of_before k j low (row, e, i) = (row, sym (led.later k low) ∙ e, i)
+
+  to_before : (k j : ℕ) → pairs ≤ k → Follows before k j → Follows rows k j
+  to_before k j low (row, e, i) = (row, led.later k low ∙ e, i)
+
+  -- the row of a pair has rules
+  to_rule : (i j m : ℕ) → slice_get numbers i ≡ Some m → Follows rows i j → (rule : RulePlace) × RulesAt system rules.by_root m rule × (rule.place ≡ j) × EdgeOf system m rule.pair
+  to_rule i j m e f =
+      let lt = within numbers i m e in
+      elim ((led.exact i j m lt e).0 f) [ inl h ↦ absurd (let low = (from_rule i j h).0 in omega (arith, low, lt)) | inr h ↦ h ]
+
+  between_places : (i j : ℕ) → Follows rows i j → Dec (i < pairs) → IsBetween pairs (length rows) i j
+  between_places i j f (yes lt) =
+      let m = there numbers i lt in
+      let (rule, (p, at_p, listed), at, edge) = to_rule i j m.0 m.1 f in
+      let is = are.found p.to.symbol rule listed in
+      let low : pairs ≤ j = (let b = is.behind in omega (arith, at, b)) in
+      let small : j < length rows = (let s = is.small in let c = led.count in let l = lists_length rules.rows.items in omega (arith, at, s, c, l)) in
+      inl (lt, (low, small))
+  between_places i j f (no ge) =
+      let low : pairs ≤ i = omega (arith, ge) in
+      inr (low, (from_rule i j (of_before i j low f)).1)
+
+  up : (i k : ℕ) → FollowsByRule pairs rows i k → AtPlaces (EdgeOf system) numbers i k
+  up i k (lt, (j, first, second)) =
+      let m = there numbers i lt in
+      let (rule, (p, at_p, listed), at, edge) = to_rule i j m.0 m.1 first in
+      let is = are.found p.to.symbol rule listed in
+      let low : pairs ≤ j = (let b = is.behind in omega (arith, at, b)) in
+      let (q, (n, e, d), same) = are.alike p.to.symbol k rule is.pair listed is.numbered (subst (λ z. Follows before z k) (sym at) (of_before j k low second)) in
+      let (valid, few) = led.valid i lt in
+      (m.0, n, m.1, e, edge_to_alike system valid few m.0 rule.pair n is.pair q is.numbered d (sym same) edge)
+
+  down : (i k : ℕ) → AtPlaces (EdgeOf system) numbers i k → FollowsByRule pairs rows i k
+  down i k (m, n, e, d, edge) =
+      let lt = within numbers i m e in
+      let (valid, few) = led.valid i lt in
+      let (j, h) = are.all k edge.to (within numbers k n d) (n, d, edge.to_numbered) in
+      let is = are.found h.root h.rule h.listed in
+      let (q, (a, at_a, numbered), same) = are.alike h.root k h.rule is.pair h.listed is.numbered (subst (λ z. Follows before z k) (sym h.at) h.follows) in
+      let here : q ≡ edge.to = some_same q edge.to (sym numbered ∙ (ap (slice_get (dependency_pairs system.rules)) (some_same a n (sym at_a ∙ d)) ∙ edge.to_numbered)) in
+      let alike : mark edge.to.from ≡ mark is.pair.from = ap (λ (x : DependencyPair). mark x.from) (sym here) ∙ same in
+      let to_first : EdgeOf system m h.rule.pair = edge_to_alike system valid few m n h.rule.pair edge.to is.pair edge.to_numbered is.numbered alike edge in
+      let root : edge.from.to.symbol ≡ is.pair.from.symbol = edge_root system valid few m h.rule.pair edge.from is.pair edge.from_numbered is.numbered to_first in
+      let listed : In h.rule (items_at rules.by_root edge.from.to.symbol) = subst (λ z. In h.rule (items_at rules.by_root z)) (sym (root ∙ is.root)) h.listed in
+      let low : pairs ≤ j = (from_rule j k h.follows).0 in
+      (lt, (j, (led.exact i j m lt e).1 (inr (h.rule, (edge.from, edge.from_numbered, listed), h.at, to_first)), to_before j k low h.follows))
+
+  pub are_rows : AreRows (EdgeOf system) numbers rows
+  are_rows = record {
+    count = (let l = are.low in let c = led.count in let s = lists_length rules.rows.items in omega (arith, l, c, s));
+    between = λ i j f. between_places i j f (dec_lt i pairs);
+    exact = λ i k. (up i k, down i k);
   }
 
 pub rows_within : (edge : ℕ → ℕ → Type 0) (numbers : List ℕ) (rows : List (List ℕ)) → AreRows edge numbers rows → StayWithin rows
 rows_within edge numbers rows are i j f =
-    let (m, n, e, d, has) = (are.exact i j).0 f in
-    let h = within numbers j n d in
-    let c = are.count in omega (arith, h, c)
-
-pub no_rows : (edge : ℕ → ℕ → Type 0) (numbers : List ℕ) → RowsSoFar edge numbers [] 0
-no_rows edge numbers = (refl, λ k m row e d. absurd cc)
+    let c = are.count in
+    elim (are.between i j f) [ inl h ↦ h.1.1 | inr h ↦ (let lt = h.1 in omega (arith, lt, c)) ]

@@ -1,6 +1,6 @@
 -- Components that wait for others, one edge after another.
 use Rattle.std.specs.Prelude.{◌≡◌, ◌<◌, ◌≤◌, ◌↔◌, ◌⊎◌, ℕ, ◌+◌, Bool, true, false, IsTrue, IsSome, IfSome, List, [], ◌∷◌, ◌++◌, length, take, get_or, Option, Some, None, slice_get, slice_set, refl}
-use Rattle.std.specs.Ordering.{nat_cmp, is_gt}
+use Rattle.std.specs.Ordering.{nat_cmp, is_gt, is_lt}
 use Rattle.std.specs.List.{list_any}
 use Rattle.std.specs.BTreeMap.{is_at}
 use Rattle.std.specs.BTreeSet.{BTreeSet, contains, Updates}
@@ -10,6 +10,7 @@ use Rattle.std.proofs.lemmas.List.{take_all}
 use native.Mathlib.Decide.{dec_lt, ℕ_discrete}
 use Rattle.trs_defs.specs.Member.{In}
 use Rattle.trs_defs.proofs.Members.{no_in}
+use Rattle.dp_graph.specs.PutOut.{ComesBefore}
 use Rattle.dp_graph.specs.Waiting.{Has, HasAt, Sets, AreNone, Adds, OneEdge, RowEdges, LeadsTo, AllEdges, IsFreeLeader, IsReadySet, AddsIf, TakesOut, Releases, IsOne, OfRow, OfRows}
 use Rattle.dp_graph.specs.declared.waiting.Waiting.{Waiting}
 use Rattle.dp_graph.proofs.FoundLaws.{taken_more, more_taken}
@@ -236,14 +237,17 @@ all_ready leaders sets set i ge so_far l = (
 not_above : (v q : ℕ) → is_gt (nat_cmp v q) ≡ false → v ≤ q
 not_above v q h = grind (arith, common_steps)
 
-pub nothing_taken : (old new : Waiting) → old.ready.keys ≡ [] → new.blockers ≡ old.blockers → TakesOut old new None
-nothing_taken old new none same = (λ l h. none_in_empty old.ready l none h, same)
+not_below : (v q : ℕ) → is_lt (nat_cmp v q) ≡ false → q ≤ v
+not_below v q h = grind (arith, common_steps)
 
-pub one_taken_out : (old new : Waiting) (v : ℕ) → Has old.ready v → ((q : ℕ) → Has old.ready q → is_gt (nat_cmp v q) ≡ false) → Sets old.ready new.ready v false → new.blockers ≡ old.blockers
-    → TakesOut old new (Some v)
-one_taken_out old new v there least sets same = (
+pub nothing_taken : (pairs : ℕ) (old new : Waiting) → old.ready.keys ≡ [] → new.blockers ≡ old.blockers → TakesOut pairs old new None
+nothing_taken pairs old new none same = (λ l h. none_in_empty old.ready l none h, same)
+
+pub one_taken_out : (pairs : ℕ) (old new : Waiting) (v : ℕ) → Has old.ready v → ((l : ℕ) → Has old.ready l → ComesBefore pairs l v → ⊥) → Sets old.ready new.ready v false → new.blockers ≡ old.blockers
+    → TakesOut pairs old new (Some v)
+one_taken_out pairs old new v there first sets same = (
   there,
-  λ l h. not_above v l (least l h),
+  first,
   λ l. (
     λ h. (was_in old.ready new.ready v sets l h, λ e. gone old.ready new.ready v sets (subst (λ z. Has new.ready z) e h)),
     λ h. still_in old.ready new.ready v sets l h.1 h.0,
@@ -251,13 +255,23 @@ one_taken_out old new v there least sets same = (
   same,
 )
 
-pub takes_out : (old new : Waiting) (result : Option ℕ) → new.blockers ≡ old.blockers → IsSome result ↔ (0 < length old.ready.keys) → IfSome result (λ v. Has old.ready v)
-    → IfSome result (λ v. (q : ℕ) → Has old.ready q → is_gt (nat_cmp v q) ≡ false) → IfSome result (λ v. Sets old.ready new.ready v false) → TakesOut old new result
-takes_out old new None same variant has least sets = nothing_taken old new (no_keys old.ready.keys (λ lt. no_truth (variant.1 lt))) same
-  where
-    no_truth : false ≡ true → ⊥
-    no_truth h = absurd cc
-takes_out old new (Some v) same variant has least sets = one_taken_out old new v has least sets same
+no_key : (old : Waiting) → false ≡ true ↔ (0 < length old.ready.keys) → old.ready.keys ≡ []
+no_key old variant = no_keys old.ready.keys (λ lt. let h : false ≡ true = variant.1 lt in absurd cc)
+
+-- the least, where all are pairs
+pub takes_first : (pairs : ℕ) (old new : Waiting) (result : Option ℕ) → ((l : ℕ) → Has old.ready l → l < pairs) → new.blockers ≡ old.blockers → IsSome result ↔ (0 < length old.ready.keys)
+    → IfSome result (λ v. Has old.ready v) → IfSome result (λ v. (q : ℕ) → Has old.ready q → is_gt (nat_cmp v q) ≡ false) → IfSome result (λ v. Sets old.ready new.ready v false) → TakesOut pairs old new result
+takes_first pairs old new None few same variant has least sets = nothing_taken pairs old new (no_key old variant) same
+takes_first pairs old new (Some v) few same variant has least sets = one_taken_out pairs old new v has
+    (λ l h sooner. elim sooner.1 [ inl ge ↦ (let lt = few l h in omega (arith, lt, ge)) | inr lt ↦ (let le = not_above v l (least l h) in omega (arith, le, lt)) ])
+    sets same
+
+-- the greatest, where some is no pair
+pub takes_last : (pairs : ℕ) (old new : Waiting) (result : Option ℕ) → ((l : ℕ) × Has old.ready l × pairs ≤ l) → new.blockers ≡ old.blockers → IsSome result ↔ (0 < length old.ready.keys)
+    → IfSome result (λ v. Has old.ready v) → IfSome result (λ v. (q : ℕ) → Has old.ready q → is_lt (nat_cmp v q) ≡ false) → IfSome result (λ v. Sets old.ready new.ready v false) → TakesOut pairs old new result
+takes_last pairs old new None some same variant has greatest sets = nothing_taken pairs old new (no_key old variant) same
+takes_last pairs old new (Some v) (l, h, ge) same variant has greatest sets = one_taken_out pairs old new v has
+    (λ _ _ sooner. let le = not_below v l (greatest l h) in let lt = sooner.0 in omega (arith, le, lt, ge)) sets same
 
 pub first_update : (old new : BTreeSet ℕ) (result : Option ℕ) → IfSome result (λ v. Updates nat_cmp old new v false) → IfSome result (λ v. Sets old new v false)
 first_update old new None h = h
@@ -387,3 +401,14 @@ rows_released rows leaders places a b c v i w row lt is row_is first second =
           let (r, e, j_in) = follows in
           inr (j, subst (In j) (some_same r row (sym e ∙ (ap (slice_get rows) same ∙ row_is))) j_in, at)
     ]) (releases_more a b c v (OfRows rows leaders (take i places)) (OfRow leaders row) first second)
+
+-- ---- whether some place is no pair
+
+pub last_from : (set : BTreeSet ℕ) (v n : ℕ) (b : Bool) → Has set v → IsTrue b ↔ (n ≤ v) → IsTrue b → (l : ℕ) × Has set l × n ≤ l
+last_from set v n b there says e = (v, there, says.0 e)
+
+pub none_from : (set : BTreeSet ℕ) (v n : ℕ) → ((q : ℕ) → Has set q → is_lt (nat_cmp v q) ≡ false) → v < n → (l : ℕ) → Has set l → l < n
+none_from set v n greatest lt l h = let le = not_below v l (greatest l h) in omega (arith, le, lt)
+
+pub none_in : (set : BTreeSet ℕ) (n : ℕ) → false ≡ true ↔ (0 < length set.keys) → (l : ℕ) → Has set l → l < n
+none_in set n variant l h = absurd (none_in_empty set l (no_keys set.keys (λ lt. let e : false ≡ true = variant.1 lt in absurd cc)) h)

@@ -9,6 +9,7 @@ pub mod Unnamed
 pub mod EarlierPairs
 pub mod ByRoot
 pub mod Rows
+pub mod RulePlaces
 pub mod Reversed
 pub mod FoundPlaces
 pub mod Leaders

@@ -1,5 +1,5 @@
 -- Lists of places, one for each place.
-use Rattle.std.specs.Prelude.{◌≡◌, ℕ, zero, suc, List, [], ◌∷◌, ◌++◌, length, Some, slice_get}
+use Rattle.std.specs.Prelude.{◌≡◌, ℕ, zero, suc, List, [], ◌∷◌, ◌++◌, length, Option, Some, None, slice_get}
 use Rattle.dp_graph.specs.PutOut.{led_by}
 
 -- so many lists, and no place in them
@@ -17,6 +17,16 @@ pub record PutsBehind (old new : List (List ℕ)) (k place : ℕ) : Type 0 where
 abbrev pub places_below : ℕ → List ℕ
 places_below zero = []
 places_below (suc n) = places_below n ++ n ∷ []
+
+-- a number that is there before the others
+abbrev pub before_others : Option ℕ → List ℕ → List ℕ
+before_others None ns = ns
+before_others (Some n) ns = n ∷ ns
+
+-- the numbers at those of the places that have one
+abbrev pub numbers_of : List ℕ → List ℕ → List ℕ
+numbers_of numbers [] = []
+numbers_of numbers (w ∷ places) = before_others (slice_get numbers w) (numbers_of numbers places)
 
 -- the list of each place has the places that it leads, in order
 pub record AreLed (leaders : List ℕ) (led : List (List ℕ)) : Type 0 where

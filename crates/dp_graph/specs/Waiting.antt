@@ -1,9 +1,10 @@
 -- Components that wait for others, by their leaders.
-use Rattle.std.specs.Prelude.{◌≡◌, ◌≤◌, ◌↔◌, ◌⊎◌, ℕ, Bool, cond, List, length, Option, Some, None, IsTrue, slice_get}
+use Rattle.std.specs.Prelude.{◌≡◌, ◌↔◌, ◌⊎◌, ℕ, Bool, cond, List, length, Option, Some, None, IsTrue, slice_get}
 use Rattle.std.specs.Ordering.{nat_cmp}
 use Rattle.std.specs.BTreeMap.{is_at}
 use Rattle.std.specs.BTreeSet.{BTreeSet, contains}
 use Rattle.trs_defs.specs.Member.{In}
+use Rattle.dp_graph.specs.PutOut.{ComesBefore}
 use Rattle.dp_graph.specs.Rows.{Follows}
 use Rattle.dp_graph.specs.declared.waiting.Waiting.{Waiting}
 
@@ -67,11 +68,11 @@ pub record AreAtFirst (rows : List (List ℕ)) (leaders : List ℕ) (waiting : W
 
 -- ---- components that are put out
 
--- the least of those that are ready, if there is one, is so no more
-abbrev pub TakesOut : Waiting → Waiting → Option ℕ → Type 0
-TakesOut old new None = ((l : ℕ) → Has old.ready l → ⊥) × (new.blockers ≡ old.blockers)
-TakesOut old new (Some v) =
-    Has old.ready v × ((l : ℕ) → Has old.ready l → v ≤ l) × ((l : ℕ) → Has new.ready l ↔ (Has old.ready l × (l ≡ v → ⊥)))
+-- One of those that are ready, before which none of them comes, is so no more, if there is one.
+abbrev pub TakesOut : ℕ → Waiting → Waiting → Option ℕ → Type 0
+TakesOut pairs old new None = ((l : ℕ) → Has old.ready l → ⊥) × (new.blockers ≡ old.blockers)
+TakesOut pairs old new (Some v) =
+    Has old.ready v × ((l : ℕ) → Has old.ready l → ComesBefore pairs l v → ⊥) × ((l : ℕ) → Has new.ready l ↔ (Has old.ready l × (l ≡ v → ⊥)))
     × (new.blockers ≡ old.blockers)
 
 -- the released leaders do not wait for leader v any more, and those of them that wait for none then are ready

@@ -8,6 +8,7 @@ ghost use Rattle.dp_graph.specs.Components.{AreComponents};
 use crate::finishing::finishing_order;
 use crate::leaders::leaders;
 use crate::ordering::ordered;
+use crate::places::{items, led};
 use crate::reversed::reversed;
 use crate::rows::rows;
 use crate::{GraphItem, PairGraph};
@@ -34,9 +35,10 @@ pub fn components(
 }
 
 impl<'a> PairGraph<'a> {
-    /// The components of the graph on a problem, in order. It takes steps for each two pairs of the
-    /// problem whose roots agree, and beside these a number of steps that is linear in the number
-    /// of pairs and edges, up to a logarithm.
+    /// The components of the graph on a problem, in order. Edges to pairs of one rule are looked at
+    /// as one. It takes steps for each pair of the problem and each rule of such pairs whose roots
+    /// agree, and beside these a number of steps that is linear in the number of pairs and of edges
+    /// to rules, up to a logarithm.
     pub fn components(&self, alloc: Global, problem: &[u32]) -> Result<Vec<GraphItem>, OutOfMemory>
         requires ascending { IsStrictlyIncreasing problem.now }
         ensures { IfOk result (λ items. AreComponents self.now.rules
@@ -46,6 +48,8 @@ impl<'a> PairGraph<'a> {
         let order = finishing_order(alloc, &rows)?;
         let back = reversed(alloc, &rows)?;
         let leaders = leaders(alloc, &back, &order)?;
-        ordered(alloc, problem, &rows, &leaders)
+        let led = led(alloc, &leaders)?;
+        let sorted = ordered(alloc, problem.len(), &rows, &leaders, &led)?;
+        items(alloc, problem, &leaders, &led, &sorted)
     }
 }

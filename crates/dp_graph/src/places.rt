@@ -1,10 +1,8 @@
-ghost use Rattle.std.specs.Prelude.{ℕ, ◌≡◌, ◌↔◌, ◌<◌, List, All, IfOk, IsTrue, Some, length, map, get_or, slice_get};
-ghost use Rattle.std.specs.List.Sorted.{IsStrictlyIncreasing};
-ghost use Rattle.trs_defs.specs.Member.{In};
+ghost use Rattle.std.specs.Prelude.{ℕ, ◌≡◌, ◌<◌, ◌≤◌, ◌++◌, List, [], All, IfOk, OnOk, Some, length, slice_get};
 ghost use Rattle.dp_graph.specs.GraphConditions.{lists_of};
-ghost use Rattle.dp_graph.specs.GroupOrSingle.{item_of};
-ghost use Rattle.dp_graph.specs.PlaceLists.{AreLed};
-ghost use Rattle.dp_graph.specs.PutOut.{IsItemOf, led_by};
+ghost use Rattle.dp_graph.specs.GroupOrSingle.{item_of, items_of};
+ghost use Rattle.dp_graph.specs.PlaceLists.{AreLed, before_others, places_below, numbers_of};
+ghost use Rattle.dp_graph.specs.PutOut.{AddsItem, AreItemsOf, IsItemOf, led_by};
 
 use crate::GraphItem;
 use crate::lists::{empty_lists, put_behind};
@@ -23,52 +21,78 @@ pub(crate) fn led(alloc: Global, leaders: &[usize]) -> Result<Vec<Vec<usize>>, O
     Ok(led)
 }
 
-/// The component of a leader: a single pair where it leads no other place and has no edge to
-/// itself.
-pub(crate) fn item(
+/// The components of those leaders that are pairs, in the same order.
+pub(crate) fn items(
     alloc: Global,
     problem: &[u32],
-    rows: &[Vec<usize>],
+    leaders: &[usize],
+    led: &[Vec<usize>],
+    order: &[usize],
+) -> Result<Vec<GraphItem>, OutOfMemory>
+    requires places { length problem.now ≤ length leaders.now }
+    requires led { AreLed leaders.now (lists_of led.now) }
+    requires order { All (λ v. slice_get leaders.now v ≡ Some v) order.now }
+    ensures { IfOk result
+        (λ items. AreItemsOf problem.now leaders.now order.now (items_of items.items)) }
+{
+    let mut items = Vec::new(alloc);
+    for v in order {
+        let places = &led[*v];
+        add_item(alloc, problem, places, *v, &mut items)?;
+    }
+    Ok(items)
+}
+
+/// Adds the component of a leader, if it is a pair.
+fn add_item(
+    alloc: Global,
+    problem: &[u32],
     led: &[usize],
     v: usize,
-) -> Result<GraphItem, OutOfMemory>
-    requires ascending { IsStrictlyIncreasing problem.now }
-    requires rows { length rows.now ≡ length problem.now }
-    requires place { v < length problem.now }
-    requires within { All (λ w. w < length problem.now) led.now }
-    ensures { IfOk result (λ item. (leaders : List ℕ) → length leaders ≡ length problem.now →
-        slice_get leaders v ≡ Some v →
-        map (λ w. get_or problem.now w 0) led.now ≡ led_by v problem.now leaders →
-        IsItemOf problem.now (lists_of rows.now) leaders v (item_of item)) }
+    items: &mut Vec<GraphItem>,
+) -> Result<(), OutOfMemory>
+    ensures { OnOk result ((leaders : List ℕ) → length problem.now ≤ length leaders →
+        slice_get leaders v ≡ Some v → led.now ≡ led_by v (places_below (length leaders)) leaders →
+        AddsItem problem.now leaders v items.old.items items.new.items) }
 {
-    let members = numbers_at(alloc, problem, led)?;
-    if members.len() == 1 && !has(&rows[v], v) {
+    if v < problem.len() {
+        items.push(item(alloc, problem, led, v)?)?;
+    }
+    Ok(())
+}
+
+/// The component of a leader: a single pair where it leads no other place.
+fn item(alloc: Global, problem: &[u32], led: &[usize], v: usize) -> Result<GraphItem, OutOfMemory>
+    requires { v < length problem.now }
+    ensures { IfOk result (λ item. (leaders : List ℕ) → length problem.now ≤ length leaders →
+        slice_get leaders v ≡ Some v → led.now ≡ led_by v (places_below (length leaders)) leaders →
+        IsItemOf problem.now leaders v (item_of item)) }
+{
+    if led.len() == 1 {
         return Ok(GraphItem::Single(problem[v]));
     }
+    let members = numbers_at(alloc, problem, led)?;
     Ok(GraphItem::Group(members))
 }
 
-/// The numbers at these places.
+/// The numbers at those of these places that are pairs.
 fn numbers_at(alloc: Global, problem: &[u32], places: &[usize]) -> Result<Vec<u32>, OutOfMemory>
-    requires { All (λ w. w < length problem.now) places.now }
-    ensures { IfOk result
-        (λ numbers. numbers.items ≡ map (λ w. get_or problem.now w 0) places.now) }
+    ensures { IfOk result (λ numbers. numbers.items ≡ numbers_of problem.now places.now) }
 {
-    let mut numbers = Vec::with_capacity(alloc, places.len())?;
+    let mut numbers = Vec::new(alloc);
     for w in places {
-        numbers.push(problem[*w])?;
+        add_number(problem, *w, &mut numbers)?;
     }
     Ok(numbers)
 }
 
-/// Whether a place stands in a row.
-fn has(row: &[usize], v: usize) -> bool
-    ensures { IsTrue result ↔ In v row.now }
+/// Adds the number at a place, if it is a pair.
+fn add_number(problem: &[u32], w: usize, numbers: &mut Vec<u32>) -> Result<(), OutOfMemory>
+    ensures { OnOk result (numbers.new.items
+        ≡ numbers.old.items ++ before_others (slice_get problem.now w) []) }
 {
-    for j in row {
-        if *j == v {
-            return true;
-        }
+    if w < problem.len() {
+        numbers.push(problem[w])?;
     }
-    false
+    Ok(())
 }

@@ -1,17 +1,44 @@
-ghost use Rattle.std.specs.Prelude.{ℕ, ◌≡◌, ◌<◌, ◌++◌, [], All, IfOk, OnOk, length};
+//! The graph on a problem, as rows of places: those of its pairs come first, those of their rules
+//! behind them. An edge to a pair depends on the pair's left side alone, and so on its rule.
+ghost use Rattle.std.specs.Prelude.{ℕ, ◌≡◌, ◌<◌, ◌≤◌, List, IfOk, OnOk, IsTrue, Some, false, length, slice_get};
+ghost use Rattle.trs_defs.specs.Member.{In};
 ghost use Rattle.trs_defs.specs.System.{IsSystem};
-ghost use Rattle.pair_theory.specs.DependencyPair.{keep_if};
 ghost use Rattle.dp_graph.specs.GraphConditions.{lists_of};
-ghost use Rattle.dp_graph.specs.Rows.{AreRows, EdgeOf, IsRowOf, AreByRoot, AddsByRoot, AreEdgesAmong};
+ghost use Rattle.dp_graph.specs.PlaceLists.{PutsBehind};
+ghost use Rattle.dp_graph.specs.Rows.{AreRows, EdgeOf};
+ghost use Rattle.dp_graph.specs.RulePlaces.{AreNoRules, AreRules, HaveRows, AddsPair, AddsRule, LeadsByRules, RulesAt};
 
 use crate::PairGraph;
 use crate::by_root::push_at;
+use crate::graph::Node;
+use crate::lists::{empty_lists, put_behind};
 use std::alloc::Global;
 use std::collections::BTreeMap;
 use trs_core::OutOfMemory;
 
-/// For each pair of a problem, by its place from 0, the places of the pairs to which edges lead.
-/// Edges are looked for only to pairs with the root of the right side.
+/// A rule that has pairs in a problem.
+#[derive(Drop)]
+pub(crate) struct RulePlace {
+    /// Its place, behind those of all pairs.
+    pub(crate) place: usize,
+    /// The number of its first pair.
+    pub(crate) pair: u32,
+}
+
+/// The rules that have pairs in a problem.
+#[derive(Drop)]
+pub(crate) struct Rules {
+    /// The rows of all places. That of a rule has its pairs.
+    rows: Vec<Vec<usize>>,
+    /// The places of the rules, by their numbers.
+    places: BTreeMap<u32, usize>,
+    /// The rules by the roots of their left sides.
+    by_root: BTreeMap<u32, Vec<RulePlace>>,
+}
+
+/// The rows of a problem. The row of a pair has the rules to whose pairs edges lead, and the row of
+/// a rule has its pairs. Edges are looked for only to one pair of a rule, and to rules with the root
+/// of the pair's right side.
 pub(crate) fn rows(
     alloc: Global,
     graph: &PairGraph,
@@ -20,92 +47,131 @@ pub(crate) fn rows(
     ensures { IfOk result
         (λ rows. AreRows (EdgeOf graph.now) problem.now (lists_of rows.items)) }
 {
-    let by_root = places_by_root(alloc, graph, problem)?;
-    let mut rows = Vec::with_capacity(alloc, problem.len())?;
-    for m in problem {
-        let found = row(alloc, graph, problem, &by_root, *m)?;
-        rows.push(found)?;
+    let rules = rules_of(alloc, graph, problem)?;
+    let Rules {
+        mut rows,
+        by_root,
+        ..
+    } = rules;
+    for (i, m) in problem.iter().enumerate() {
+        lead(alloc, graph, &by_root, *m, i, &mut rows)?;
     }
     Ok(rows)
 }
 
-/// The places of a problem by the roots of the left sides of their pairs.
-fn places_by_root(
-    alloc: Global,
-    graph: &PairGraph,
-    problem: &[u32],
-) -> Result<BTreeMap<u32, Vec<usize>>, OutOfMemory>
-    ensures { IfOk result (AreByRoot graph.now problem.now) }
+/// The rules of the pairs of a problem.
+fn rules_of(alloc: Global, graph: &PairGraph, problem: &[u32]) -> Result<Rules, OutOfMemory>
+    ensures { IfOk result (AreRules graph.now problem.now (length problem.now)) }
 {
-    let mut by_root = BTreeMap::new(alloc);
+    let mut rules = Rules::new(alloc, problem.len())?;
     for (j, n) in problem.iter().enumerate() {
-        add_place(alloc, graph, *n, j, &mut by_root)?;
+        rules.add(alloc, graph, *n, j)?;
     }
-    Ok(by_root)
+    Ok(rules)
 }
 
-/// Adds the place of pair number `n`.
-fn add_place(
+impl Rules {
+    /// No rule has pairs.
+    fn new(alloc: Global, pairs: usize) -> Result<Rules, OutOfMemory>
+        ensures { IfOk result (AreNoRules pairs) }
+    {
+        Ok(Rules {
+            rows: empty_lists(alloc, pairs)?,
+            places: BTreeMap::new(alloc),
+            by_root: BTreeMap::new(alloc),
+        })
+    }
+
+    /// Adds pair number `n`, which has place `j`.
+    fn add(&mut self, alloc: Global, graph: &PairGraph, n: u32, j: usize) -> Result<(), OutOfMemory>
+        requires { HaveRows self.old }
+        ensures { OnOk result (AddsPair graph.now n j self.old self.new) }
+    {
+        let Some(node) = graph.node(n) else {
+            return Ok(());
+        };
+        match self.places.get(&node.rule) {
+            Some(place) => {
+                put_behind(&mut self.rows, *place, j)?;
+                Ok(())
+            }
+            None => {
+                self.add_rule(alloc, node, n, j)?;
+                Ok(())
+            }
+        }
+    }
+
+    /// Adds a rule with its first pair.
+    fn add_rule(&mut self, alloc: Global, node: &Node, n: u32, j: usize) -> Result<(), OutOfMemory>
+        ensures { OnOk result (AddsRule node.now n j self.old self.new) }
+    {
+        let place = self.rows.len();
+        let mut row = Vec::new(alloc);
+        row.push(j)?;
+        self.rows.push(row)?;
+        self.places.insert(node.rule, place)?;
+        let rule = RulePlace { place, pair: n };
+        push_at(alloc, &mut self.by_root, node.from, rule)?;
+        Ok(())
+    }
+}
+
+/// Makes the row of pair number `m`, which has place `i`.
+fn lead(
     alloc: Global,
     graph: &PairGraph,
-    n: u32,
-    j: usize,
-    by_root: &mut BTreeMap<u32, Vec<usize>>,
+    by_root: &BTreeMap<u32, Vec<RulePlace>>,
+    m: u32,
+    i: usize,
+    rows: &mut Vec<Vec<usize>>,
 ) -> Result<(), OutOfMemory>
-    ensures { OnOk result (AddsByRoot graph.now n j by_root.old by_root.new) }
+    requires { i < length rows.old.items }
+    ensures valid { OnOk result (IsSystem graph.now) }
+    ensures symbols { OnOk result (length graph.now.arities ≤ 4095) }
+    ensures leads { OnOk result (LeadsByRules graph.now (RulesAt graph.now by_root.now m) m i
+        (lists_of rows.old.items) (lists_of rows.new.items)) }
 {
-    let Some(node) = graph.node(n) else {
+    let Some(node) = graph.node(m) else {
         return Ok(());
     };
-    push_at(alloc, by_root, node.from, j)?;
+    match by_root.get(&node.to) {
+        Some(rules) => {
+            lead_to(alloc, graph, rules, m, i, rows)?;
+            Ok(())
+        }
+        None => Ok(()),
+    }
+}
+
+/// Puts the places of those of the rules into a row to whose pairs edges lead.
+fn lead_to(
+    alloc: Global,
+    graph: &PairGraph,
+    rules: &[RulePlace],
+    m: u32,
+    i: usize,
+    rows: &mut Vec<Vec<usize>>,
+) -> Result<(), OutOfMemory>
+    requires { i < length rows.old.items }
+    ensures { OnOk result (LeadsByRules graph.now (λ rule. In rule rules.now) m i
+        (lists_of rows.old.items) (lists_of rows.new.items)) }
+{
+    for rule in rules {
+        let yes = graph.leads(alloc, m, rule.pair)?;
+        put_if(yes, rows, i, rule.place)?;
+    }
     Ok(())
 }
 
-/// The row of a pair.
-fn row(
-    alloc: Global,
-    graph: &PairGraph,
-    problem: &[u32],
-    by_root: &BTreeMap<u32, Vec<usize>>,
-    m: u32,
-) -> Result<Vec<usize>, OutOfMemory>
-    requires { AreByRoot graph.now problem.now by_root.now }
-    ensures { IfOk result (λ row. IsRowOf (EdgeOf graph.now) problem.now m row.items) }
-{
-    let Some(node) = graph.node(m) else {
-        return Ok(Vec::new(alloc));
-    };
-    match by_root.get(&node.to) {
-        Some(places) => edges_among(alloc, graph, problem, places, m),
-        None => Ok(Vec::new(alloc)),
-    }
-}
-
-/// Those of the places to whose pairs edges lead.
-fn edges_among(
-    alloc: Global,
-    graph: &PairGraph,
-    problem: &[u32],
-    places: &[usize],
-    m: u32,
-) -> Result<Vec<usize>, OutOfMemory>
-    requires { All (λ j. j < length problem.now) places.now }
-    ensures { IfOk result
-        (λ row. AreEdgesAmong (EdgeOf graph.now) problem.now m places.now row.items) }
-{
-    let mut row = Vec::new(alloc);
-    for j in places {
-        let yes = graph.leads(alloc, m, problem[*j])?;
-        add_if(yes, *j, &mut row)?;
-    }
-    Ok(row)
-}
-
-fn add_if(yes: bool, j: usize, row: &mut Vec<usize>) -> Result<(), OutOfMemory>
-    ensures { OnOk result (row.new.items ≡ row.old.items ++ keep_if yes j []) }
+fn put_if(yes: bool, rows: &mut Vec<Vec<usize>>, i: usize, place: usize) -> Result<(), OutOfMemory>
+    requires { i < length rows.old.items }
+    ensures put { OnOk result (IsTrue yes →
+        PutsBehind (lists_of rows.old.items) (lists_of rows.new.items) i place) }
+    ensures none { OnOk result (yes ≡ false → rows.new.items ≡ rows.old.items) }
 {
     if yes {
-        row.push(j)?;
+        put_behind(rows, i, place)?;
     }
     Ok(())
 }

@@ -1,5 +1,5 @@
 //! Components that wait for others.
-ghost use Rattle.std.specs.Prelude.{ℕ, ◌≡◌, ◌<◌, ◌↔◌, All, IfOk, OnOk, IsTrue, false, length};
+ghost use Rattle.std.specs.Prelude.{ℕ, ◌≡◌, ◌<◌, ◌≤◌, ◌↔◌, All, IfOk, OnOk, IsTrue, false, length};
 ghost use Rattle.dp_graph.specs.GraphConditions.{lists_of};
 ghost use Rattle.dp_graph.specs.Rows.{StayWithin};
 ghost use Rattle.dp_graph.specs.Waiting.{Has, Sets, AreNone, Adds, OneEdge, RowEdges, AllEdges, IsReadySet, IsFreeLeader, AddsIf};
@@ -36,10 +36,14 @@ impl Waiting {
         Ok(Waiting { blockers, ready })
     }
 
-    /// Takes out the least leader that is ready.
-    pub(crate) fn take_ready(&mut self) -> Option<usize>
-        ensures { TakesOut self.old self.new result }
+    /// Takes out a leader that is ready: that of a rule alone, if there is one, else the least. The
+    /// first places are those of so many pairs.
+    pub(crate) fn take_ready(&mut self, pairs: usize) -> Option<usize>
+        ensures { TakesOut pairs self.old self.new result }
     {
+        if has_from(&self.ready, pairs) {
+            return self.ready.pop_last();
+        }
         self.ready.pop_first()
     }
 
@@ -84,6 +88,17 @@ impl Waiting {
         let last = take_out(&mut self.blockers[l], v);
         add_if(last, l, &mut self.ready)?;
         Ok(())
+    }
+}
+
+/// Whether a set has a place from `n` on.
+fn has_from(set: &BTreeSet<usize>, n: usize) -> bool
+    ensures there { IsTrue result → (l : ℕ) × Has set.now l × n ≤ l }
+    ensures none { result ≡ false → (l : ℕ) → Has set.now l → l < n }
+{
+    match set.last() {
+        Some(l) => *l >= n,
+        None => false,
     }
 }
 

@@ -1,15 +1,19 @@
 -- The search for a Knuth-Bendix order by the numbers of its slots and constraints.
 use Rattle.std.specs.Prelude.{◌≡◌, ◌<◌, ◌≤◌, ℕ, ◌+◌, ◌-◌, ◌*◌, ◌/◌, ◌%◌, Bool, true, false, ◌||◌, ◌==◌, if◌then◌else◌, List, [], ◌∷◌, ◌++◌, length, get_or, map, Option, Some, None, slice_get}
-use Rattle.std.proofs.Common.{zero, suc, sym, ap, arith, ◌∙◌}
+use Rattle.std.proofs.Common.{zero, suc, sym, ap, ap₂, arith, ◌∙◌}
+use Rattle.std.proofs.lemmas.Bool.Decides.{nat_tests}
 use Rattle.std.proofs.lemmas.List.{length-append, length-map}
 use Rattle.trs_defs.specs.System.{RewriteRule}
 use Rattle.trs_defs.proofs.Members.{in_of_get, in_right}
 use Rattle.kbo_order.specs.declared.entries.KboEntry.{KboEntry}
 use Rattle.kbo_order.specs.Table.{weight_in, rank_in}
+use Rattle.assign_search.specs.Rest.{reach}
+use Rattle.order_search.specs.Ends.{end_among}
 use Rattle.order_search.specs.Slots.{Slot, slot, table_of, puzzle_of}
 use Rattle.order_search.specs.OrderSpace.{OrderConstraint, above, AreCovered, arity_with_mark, slots_of, some_falls, occurs_in, concerns, is_above}
 use Rattle.order_search.proofs.Constraints.{past_end, truth_falls, truth_last, uses_all, uses_symbols, last_number, many_constraints}
 use Rattle.order_search.proofs.OwnConstraints.{own_and_others, uses_own, truth_own, uses_behind, truth_behind}
+use Rattle.order_search.proofs.LastPlaces.{end_of_all, reach_of_symbols}
 use Rattle.order_search.proofs.TwoParts.{many_slots, slot_at}
 use Rattle.kbo_find.specs.KnuthTest.{knuth_weak, knuth_strict}
 use Rattle.kbo_find.specs.KboSpace.{kbo_family, kbo_values, above_each, above_all, tops_of, kbo_tops, weight_count, weight_by, rank_by}
@@ -22,6 +26,12 @@ get_mapped : {A B : Type 0} (f : A → B) (xs : List A) (c : ℕ) (x : A) → sl
 get_mapped f [] c x e = absurd cc
 get_mapped f (y ∷ xs) zero x e = let same : y ≡ x = cc in ap (λ z. Some (f z)) same
 get_mapped f (y ∷ xs) (suc c) x e = get_mapped f xs c x e
+
+test_turned : (a b : ℕ) → (a == b) ≡ (b == a)
+test_turned a b = grind (arith, nat_tests)
+
+tests_turned : (f a b : ℕ) → (f == a || f == b) ≡ (a == f || b == f)
+tests_turned f a b = ap₂ (λ x y. x || y) (test_turned f a) (test_turned f b)
 
 -- ---- few constraints
 
@@ -95,6 +105,13 @@ module _ (arities symbols : List ℕ) (rules pairs : List RewriteRule) where
         uses_own (kbo_family (arity_with_mark arities)) symbols (kbo_tops (arity_with_mark arities) symbols) rules pairs c s (asked_of top) (number_there c top e) (omega (arith, many, h))
         ∙ ap (concerns (asked_of top)) (slot_at symbols s 0 h)
 
+    pub reach_top : (c e : ℕ) (top : Top) → slice_get tops c ≡ Some top → e ≡ end_among (λ f. top.unary == f || top.other == f) symbols
+        → 2 * e ≡ reach (puzzle_of (kbo_search arities symbols rules pairs)) c
+    reach_top c e top at is =
+        ap (λ (n : ℕ). 2 * n) is
+        ∙ sym (reach_of_symbols (puzzle_of (kbo_search arities symbols rules pairs)) c (λ f. top.unary == f || top.other == f) symbols (many_slots symbols)
+        (λ s below. uses_top c s top at below ∙ tests_turned (get_or symbols (s / 2) 0) top.unary top.other))
+
     pub truth_top : (c : ℕ) (values : List ℕ) (top : Top) → slice_get tops c ≡ Some top
         → (puzzle_of (kbo_search arities symbols rules pairs)).truth c values ≡ is_above (table_of (slots_of (λ _. 2) symbols) values) top.unary top.other
     truth_top c values top e =
@@ -126,6 +143,20 @@ module _ (arities symbols : List ℕ) (rules pairs : List RewriteRule) where
         → s < 2 * length symbols → (puzzle_of (kbo_search arities symbols rules pairs)).uses c s ≡ uses_by (get_or symbols (s / 2) 0) o
     uses_falling s (Some r) e below h = uses_rule s r e h
     uses_falling s None e below h = uses_last s e below h
+
+    pub reach_falling : (r : RewriteRule) (e : ℕ) → slice_get (rules ++ pairs) k ≡ Some r → e ≡ end_among (λ f. occurs_in f r.left || occurs_in f r.right) symbols
+        → 2 * e ≡ reach (puzzle_of (kbo_search arities symbols rules pairs)) c
+    reach_falling r e at is =
+        ap (λ (n : ℕ). 2 * n) is
+        ∙ sym (reach_of_symbols (puzzle_of (kbo_search arities symbols rules pairs)) c (λ f. occurs_in f r.left || occurs_in f r.right) symbols (many_slots symbols)
+        (λ s below. uses_rule s r at below))
+
+    pub reach_last : slice_get (rules ++ pairs) k ≡ None → c < (puzzle_of (kbo_search arities symbols rules pairs)).constraints
+        → 2 * length symbols ≡ reach (puzzle_of (kbo_search arities symbols rules pairs)) c
+    reach_last none below =
+        ap (λ (n : ℕ). 2 * n) (sym (end_of_all symbols))
+        ∙ sym (reach_of_symbols (puzzle_of (kbo_search arities symbols rules pairs)) c (λ f. true) symbols (many_slots symbols)
+        (λ s l. uses_last s none below l))
 
     -- by the weights and ranks that the values say
     pub truth_falling : (values : List ℕ) (b : Bool) (o : Option RewriteRule) → slice_get (rules ++ pairs) k ≡ o → c < (puzzle_of (kbo_search arities symbols rules pairs)).constraints

@@ -1,5 +1,7 @@
 //! The finite search for weights and ranks.
-ghost use Rattle.std.specs.Prelude.{◌≡◌, ◌<◌, ◌*◌, ◌^◌, ◌++◌, map, length, slice_get};
+ghost use Rattle.std.specs.Prelude.{◌≡◌, ◌<◌, ◌*◌, ◌^◌, ◌++◌, ◌||◌, ◌==◌, map, length, slice_get};
+ghost use Rattle.order_search.specs.Distinct.{AreDistinct};
+ghost use Rattle.order_search.specs.Ends.{end_among};
 ghost use Rattle.order_search.specs.Slots.{slot, puzzle_of};
 ghost use Rattle.order_search.specs.OrderSpace.{arity_with_mark, concerns};
 ghost use Rattle.kbo_find.specs.KboSpace.{kbo_tops, weight_count};
@@ -11,6 +13,7 @@ use crate::assigned::Assigned;
 use crate::comparing::falls;
 use crate::tops::{Top, top_at};
 use assign_search::{OutOfMemory, Space};
+use order_search::ends::{end_of, end_of_rule, later};
 use order_search::placing::SymbolPlaces;
 use order_search::{arity_of, falling_at, occurs_in_rule};
 use std::alloc::Global;
@@ -30,6 +33,7 @@ pub(crate) struct KboSpace<'a> {
     pub(crate) rules: &'a [Rule],
     pub(crate) pairs: &'a [Rule],
     pub(crate) ghost placed: { places.now ≡ symbols.now },
+    pub(crate) ghost distinct: { AreDistinct symbols.now },
     pub(crate) ghost tops_are: { map asked_of tops.now
         ≡ kbo_tops (arity_with_mark arities.now) symbols.now },
     pub(crate) ghost few_symbols: { 2 * length symbols.now < 2 ^ 32 },
@@ -67,6 +71,16 @@ impl<'a> Space for KboSpace<'a> {
         }
     }
 
+    fn reach(&self, c: u32) -> u32 {
+        match top_at(self.tops, c as usize) {
+            Some(top) => 2 * end_of_top(self.places, top),
+            None => match falling_at(self.rules, self.pairs, c as usize - self.tops.len()) {
+                Some(rule) => 2 * end_of_rule(self.places, rule),
+                None => self.slots(),
+            },
+        }
+    }
+
     fn holds(&self, _alloc: Global, c: u32, values: &[u32]) -> Result<bool, OutOfMemory> {
         let order = Assigned {
             arities: self.arities,
@@ -88,6 +102,15 @@ fn concerns(top: &Top, symbol: u32) -> bool
     ensures { result ≡ concerns (asked_of top.now) (slot symbol 0) }
 {
     symbol == top.unary || symbol == top.other
+}
+
+/// One more than the last place of the two, or 0 where none has a place.
+fn end_of_top(places: &SymbolPlaces, top: &Top) -> u32
+    requires distinct { AreDistinct places.now }
+    requires few { length places.now < 2 ^ 32 }
+    ensures { result ≡ end_among (λ f. top.now.unary == f || top.now.other == f) places.now }
+{
+    later(end_of(places, top.unary), end_of(places, top.other))
 }
 
 /// How many weights a symbol with so many arguments has.

@@ -11,6 +11,7 @@ use crate::assigned::Assigned;
 use crate::comparing::{falls_weakly, some_falls_strictly};
 use crate::filters::filter_count;
 use assign_search::{OutOfMemory, Space};
+use order_search::ends::end_of_rule;
 use order_search::placing::SymbolPlaces;
 use order_search::{arity_of, falling_at, occurs_in_rule};
 use path_lpo::Filter;
@@ -68,6 +69,13 @@ impl<'a> Space for LpoSpace<'a> {
         match falling_at(self.rules, self.pairs, c as usize) {
             Some(rule) => occurs_in_rule(symbol, rule),
             None => true,
+        }
+    }
+
+    fn reach(&self, c: u32) -> u32 {
+        match falling_at(self.rules, self.pairs, c as usize) {
+            Some(rule) => 2 * end_of_rule(self.places, rule),
+            None => self.slots(),
         }
     }
 

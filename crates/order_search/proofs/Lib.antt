@@ -20,3 +20,4 @@ pub mod TakenPairs
 pub mod RootSets
 pub mod FewPairs
 pub mod PlacingSymbols
+pub mod LastPlaces

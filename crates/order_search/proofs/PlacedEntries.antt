@@ -6,7 +6,7 @@ use Rattle.trs_defs.specs.Variable.{is_listed}
 use Rattle.dp_core.specs.pair_order.Entries.{place_among, entry_of}
 use Rattle.dp_core.proofs.pair_order.Placing.{entry_absent}
 
-same_number : (g f : ℕ) → (g == f) ≡ true → g ≡ f
+pub same_number : (g f : ℕ) → (g == f) ≡ true → g ≡ f
 same_number g f e = grind (arith, nat_tests)
 
 -- the symbol stands at this place

@@ -9,3 +9,4 @@ pub mod Slots
 pub mod Outcome
 pub mod Ascending
 pub mod Placed
+pub mod Ends

@@ -5,6 +5,7 @@
 
 mod arities;
 mod below_roots;
+pub mod ends;
 mod falling;
 mod marking;
 mod occurring;

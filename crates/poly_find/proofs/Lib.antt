@@ -4,6 +4,7 @@ pub mod PolyEntries
 pub mod PolyPuzzle
 pub mod NoPairing
 pub mod Starts
+pub mod SlotEnds
 pub mod SpanValues
 pub mod SmallCoefficients
 pub mod SpanTruth

@@ -6,13 +6,17 @@ use Rattle.trs_defs.specs.Variable.{is_listed}
 use Rattle.trs_defs.specs.System.{RewriteRule}
 use Rattle.trs_defs.proofs.Members.{in_of_get, in_right}
 use Rattle.poly_lin.specs.Table.{coefficient_in}
+use Rattle.assign_search.specs.Rest.{reach}
+use Rattle.order_search.specs.Ends.{end_among}
 use Rattle.order_search.specs.Slots.{Slot, slot, table_of, puzzle_of}
 use Rattle.order_search.specs.OrderSpace.{AreCovered, arity_with_mark, slots_of, some_falls, occurs_in}
 use Rattle.order_search.proofs.Constraints.{truth_falls, truth_last, uses_all, uses_symbols, last_number}
+use Rattle.order_search.proofs.LastPlaces.{end_within, end_of_all, reach_of_owners}
 use Rattle.poly_find.specs.LinearTest.{linear_weak, linear_strict}
 use Rattle.poly_find.specs.PolySpace.{poly_family}
 use Rattle.poly_find.specs.PolyRow.{poly_entry, poly_search}
-use Rattle.poly_find.specs.PolyPlaces.{owner_of, parts_by, owners_of}
+use Rattle.poly_find.specs.PolyPlaces.{owner_of, parts_by, owners_of, starts}
+use Rattle.poly_find.proofs.SlotEnds.{end_of_owners}
 use Rattle.poly_find.proofs.PolyEntries.{weak_by_entries, some_by_entries}
 
 owner_at : (slots : List Slot) (s d : ℕ) → s < length slots → get_or (map owner_of slots) s d ≡ owner_of (get_or slots s (slot 0 0))
@@ -36,6 +40,29 @@ module _ (arities symbols : List ℕ) (rules pairs : List RewriteRule) where
       → s < (puzzle_of (poly_search arities symbols rules pairs)).slots → (puzzle_of (poly_search arities symbols rules pairs)).uses c s ≡ true
   uses_last c s e below h =
       uses_all (poly_family (arity_with_mark arities)) symbols rules pairs c s (last_number (poly_family (arity_with_mark arities)) symbols rules pairs c e below) h
+
+  pub reach_of_rule : (owners : List ℕ) (c : ℕ) (r : RewriteRule) → owners ≡ owners_of arities symbols → slice_get (rules ++ pairs) c ≡ Some r
+      → reach (puzzle_of (poly_search arities symbols rules pairs)) c ≡ starts (parts_by arities) symbols (end_among (λ f. occurs_in f r.left || occurs_in f r.right) symbols)
+  reach_of_rule owners c r are at =
+      let test : ℕ → Bool = λ f. occurs_in f r.left || occurs_in f r.right in
+      let many = slot_count owners are in
+      reach_of_owners (puzzle_of (poly_search arities symbols rules pairs)) c test owners (sym many) (λ s below. uses_rule owners c s 0 r are at (omega (arith, many, below)))
+      ∙ (ap (end_among test) are ∙ end_of_owners (parts_by arities) (λ f. omega arith) test symbols)
+
+  pub reach_of_last : (owners : List ℕ) (c : ℕ) → owners ≡ owners_of arities symbols → slice_get (rules ++ pairs) c ≡ None
+      → c < (puzzle_of (poly_search arities symbols rules pairs)).constraints → reach (puzzle_of (poly_search arities symbols rules pairs)) c ≡ (puzzle_of (poly_search arities symbols rules pairs)).slots
+  reach_of_last owners c are none below =
+      let many = slot_count owners are in
+      reach_of_owners (puzzle_of (poly_search arities symbols rules pairs)) c (λ f. true) owners (sym many) (λ s l. uses_last c s none below (omega (arith, many, l)))
+      ∙ (end_of_all owners ∙ many)
+
+  -- the slots of the first symbols, up to the last that stands in the rule, are some of all
+  pub few_of_rule : (owners : List ℕ) (e n : ℕ) (test : ℕ → Bool) → owners ≡ owners_of arities symbols → e ≡ end_among test symbols → length owners < n
+      → starts (parts_by arities) symbols e < n
+  few_of_rule owners e n test are is few =
+      let same = ap (starts (parts_by arities) symbols) is ∙ (sym (end_of_owners (parts_by arities) (λ f. omega arith) test symbols) ∙ ap (end_among test) (sym are)) in
+      let within = end_within test owners in
+      omega (arith, same, within, few)
 
   -- what the interpretation of the values says is what the values say
   module _ (no_pairing : is_listed 8191 symbols ≡ false) (covered : AreCovered symbols (rules ++ pairs)) (values : List ℕ) (entries : List (ℕ × List ℕ))

@@ -29,7 +29,7 @@ found_later false o e = refl
 -- ---- where they begin
 
 module _ (parts : ℕ → ℕ) where
-  starts_first : (symbols : List ℕ) → starts parts symbols 0 ≡ 0
+  pub starts_first : (symbols : List ℕ) → starts parts symbols 0 ≡ 0
   starts_first [] = refl
   starts_first (f ∷ symbols) = refl
 

@@ -12,6 +12,7 @@ use crate::space::PolySpace;
 use crate::spans::spans;
 use crate::table::interpretation;
 use assign_search::{Search, Stop, first_solution};
+use order_search::placing::SymbolPlaces;
 use poly_lin::LinTable;
 use std::alloc::Global;
 use trs_core::{OutOfMemory, Rule};
@@ -46,9 +47,11 @@ pub fn search_linear<P: Stop>(
     let owners = owners(alloc, arities, symbols)?;
     let spans = spans(alloc, arities, symbols)?;
     let small = small_ones(alloc, rules, pairs)?;
+    let places = SymbolPlaces::of(alloc, symbols)?;
     let space = PolySpace {
         arities,
         symbols,
+        places: &places,
         owners: &owners,
         spans: &spans,
         rules,

@@ -1,16 +1,18 @@
 //! The finite search for coefficients.
-ghost use Rattle.std.specs.Prelude.{◌≡◌, ◌<◌, ◌+◌, ◌^◌, ◌++◌, map, length};
+ghost use Rattle.std.specs.Prelude.{◌≡◌, ◌<◌, ◌≤◌, ◌+◌, ◌^◌, ◌++◌, map, length};
 ghost use Rattle.order_search.specs.Slots.{puzzle_of};
 ghost use Rattle.order_search.specs.Distinct.{AreDistinct};
 ghost use Rattle.poly_find.specs.PolyRow.{poly_search};
-ghost use Rattle.poly_find.specs.PolyPlaces.{owners_of};
+ghost use Rattle.poly_find.specs.PolyPlaces.{owners_of, parts_by, starts};
 ghost use Rattle.poly_find.specs.Spans.{AreSpans};
 ghost use Rattle.poly_find.specs.SmallTerms.{has_small_sides};
 ghost use Rattle.poly_find.specs.PolyLawful.{poly_lawful};
 
 use crate::comparing::{flag_at, is_weak, some_is_strict};
-use crate::spans::{SlotValues, Span};
+use crate::spans::{SlotValues, Span, span_at};
 use assign_search::{OutOfMemory, Space};
+use order_search::ends::end_of_rule;
+use order_search::placing::SymbolPlaces;
 use order_search::{falling_at, occurs_in_rule};
 use std::alloc::Global;
 use trs_core::Rule;
@@ -18,18 +20,21 @@ use trs_core::Rule;
 /// How many values a coefficient has.
 const VALUES: u32 = 3;
 
-/// The symbols, the symbol of each slot and the slots of each symbol, the rules and marked pairs
-/// that are to fall, and which of them are small.
+/// The symbols with their places, the symbol of each slot and the slots of each symbol, the rules
+/// and marked pairs that are to fall, and which of them are small.
 #[derive(Drop)]
 pub(crate) struct PolySpace<'a> {
     pub(crate) arities: &'a [u8],
     pub(crate) symbols: &'a [u32],
+    pub(crate) places: &'a SymbolPlaces<'a>,
     pub(crate) owners: &'a [u32],
     pub(crate) spans: &'a [Span],
     pub(crate) rules: &'a [Rule],
     pub(crate) pairs: &'a [Rule],
     pub(crate) small: &'a [bool],
+    pub(crate) ghost placed: { places.now ≡ symbols.now },
     pub(crate) ghost distinct: { AreDistinct symbols.now },
+    pub(crate) ghost few_symbols: { length symbols.now < 2 ^ 32 },
     pub(crate) ghost owners_are: { owners.now ≡ owners_of arities.now symbols.now },
     pub(crate) ghost spans_are: { AreSpans arities.now symbols.now spans.now },
     pub(crate) ghost small_are: { small.now ≡ map has_small_sides (rules.now ++ pairs.now) },
@@ -63,6 +68,13 @@ impl<'a> Space for PolySpace<'a> {
         }
     }
 
+    fn reach(&self, c: u32) -> u32 {
+        match falling_at(self.rules, self.pairs, c as usize) {
+            Some(rule) => self.slots_of_first(end_of_rule(self.places, rule)),
+            None => self.slots(),
+        }
+    }
+
     fn holds(&self, _alloc: Global, c: u32, values: &[u32]) -> Result<bool, OutOfMemory> {
         let table = SlotValues {
             spans: self.spans,
@@ -72,5 +84,21 @@ impl<'a> Space for PolySpace<'a> {
             Some(rule) => Ok(is_weak(&table, flag_at(self.small, c as usize), rule)),
             None => Ok(some_is_strict(&table, self.small, self.rules.len(), self.pairs)),
         }
+    }
+}
+
+impl<'a> PolySpace<'a> {
+    /// How many slots so many of the symbols have, from the first on.
+    fn slots_of_first(&self, count: u32) -> u32
+        requires within { count ≤ length self.now.symbols.now }
+        requires few { starts (parts_by self.now.arities.now) self.now.symbols.now count < 2 ^ 32 }
+        ensures { result ≡ starts (parts_by self.now.arities.now) self.now.symbols.now count }
+    {
+        if count == 0 {
+            return 0;
+        }
+        let last = self.symbols[count as usize - 1];
+        let span = span_at(self.spans, last as usize);
+        span.start + span.parts
     }
 }

@@ -74,7 +74,8 @@ impl<'a> Coefficients for SlotValues<'a> {
     }
 }
 
-fn span_at(spans: &[Span], f: usize) -> Span
+/// The span of a symbol, the empty one where it has no slots.
+pub(crate) fn span_at(spans: &[Span], f: usize) -> Span
     ensures { result ≡ span_of spans.now f }
 {
     match spans.get(f) {

@@ -3,4 +3,5 @@ pub mod InOrder
 pub mod Deciding
 pub mod AtRows
 pub mod Saturation
+pub mod Windows
 pub mod SmallDeciding

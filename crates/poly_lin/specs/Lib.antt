@@ -5,6 +5,6 @@ pub mod Table
 pub mod Rows
 pub mod Faults
 pub mod Coefficients
-pub mod EachVariable
+pub mod Covering
 pub mod TooBig
 pub mod Laws

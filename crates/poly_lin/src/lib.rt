@@ -4,6 +4,7 @@
 
 mod coefficients;
 mod comparing;
+mod covering;
 mod faults;
 mod monomial;
 mod orders;

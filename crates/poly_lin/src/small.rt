@@ -1,12 +1,10 @@
 ghost use Rattle.std.specs.Prelude.{◌≡◌, ◌↔◌, ◌+◌, ◌*◌, ◌-◌, ◌^◌, min, IsTrue};
 ghost use Rattle.trs_core.specs.View.{tree};
-ghost use Rattle.order_theory.specs.LinearInterpretation.{LinearWeak, LinearStrict};
-ghost use Rattle.poly_lin.specs.Coefficients.{coefficient_of};
-ghost use Rattle.poly_lin.specs.EachVariable.{each_variable, is_at_least};
+ghost use Rattle.order_theory.specs.LinearInterpretation.{constant, LinearWeak, LinearStrict};
 ghost use Rattle.poly_lin.specs.TooBig.{EitherIsBig};
 
 use crate::Coefficients;
-use crate::monomial::Monomial;
+use crate::covering::covers;
 use trs_core::Term;
 
 /// Whether the first term's polynomial is at least the second's wherever variables stand for
@@ -16,12 +14,12 @@ pub fn is_weakly_above_if_small<T: Coefficients>(table: &T, a: &Term, b: &Term) 
     ensures { (EitherIsBig (T.coefficient table.now) (tree a.now) (tree b.now) → ⊥) →
         (IsTrue result ↔ LinearWeak (T.coefficient table.now) (tree a.now) (tree b.now)) }
 {
-    let right = saturated(table, Monomial::One, b);
-    let left = saturated(table, Monomial::One, a);
+    let right = saturated(table, b);
+    let left = saturated(table, a);
     if left < right {
         return false;
     }
-    covers(table, a, b, b)
+    covers(table, a, b)
 }
 
 /// Whether it is greater there; the same otherwise.
@@ -29,52 +27,31 @@ pub fn is_strictly_above_if_small<T: Coefficients>(table: &T, a: &Term, b: &Term
     ensures { (EitherIsBig (T.coefficient table.now) (tree a.now) (tree b.now) → ⊥) →
         (IsTrue result ↔ LinearStrict (T.coefficient table.now) (tree a.now) (tree b.now)) }
 {
-    let right = saturated(table, Monomial::One, b);
-    let left = saturated(table, Monomial::One, a);
+    let right = saturated(table, b);
+    let left = saturated(table, a);
     if left <= right {
         return false;
     }
-    covers(table, a, b, b)
+    covers(table, a, b)
 }
 
-/// The coefficient of a monomial in the term's polynomial, or the last `u64` where it is greater.
-fn saturated<T: Coefficients>(table: &T, of: Monomial, t: &Term) -> u64
-    ensures { result ≡ min (coefficient_of (T.coefficient table.now) of (tree t.now)) (2 ^ 64 - 1) }
+/// The constant of the term's polynomial, or the last `u64` where it is greater.
+fn saturated<T: Coefficients>(table: &T, t: &Term) -> u64
+    ensures { result ≡ min (constant (T.coefficient table.now) (tree t.now)) (2 ^ 64 - 1) }
 {
     match t {
-        Term::Var(x) => of.in_variable(*x),
+        Term::Var(_) => 0,
         Term::App(f, args) => {
             let row = table.row(*f);
-            let mut sum = of.in_constant(table.at(row, 0));
+            let mut sum = table.at(row, 0);
             for (i, arg) in args.items.iter().enumerate() {
                 let factor = table.at(row, i + 1);
                 if factor == 0 {
                     continue;
                 }
-                sum = plus_saturated(sum, factor, saturated(table, of, arg));
+                sum = plus_saturated(sum, factor, saturated(table, arg));
             }
             sum
-        }
-    }
-}
-
-/// Whether the coefficient in `a` of each variable of a part is at least that in `b`.
-fn covers<T: Coefficients>(table: &T, a: &Term, b: &Term, part: &Term) -> bool
-    ensures { result ≡ each_variable
-        (is_at_least (T.coefficient table.now) (tree a.now) (tree b.now)) (tree part.now) }
-{
-    match part {
-        Term::Var(x) => {
-            let right = saturated(table, Monomial::Variable(*x), b);
-            right <= saturated(table, Monomial::Variable(*x), a)
-        }
-        Term::App(_, args) => {
-            for arg in &args.items {
-                if !covers(table, a, b, arg) {
-                    return false;
-                }
-            }
-            true
         }
     }
 }

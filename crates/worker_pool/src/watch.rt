@@ -60,6 +60,10 @@ impl<'w, 'a, R: Wait, G: Gate> Stop for Watch<'w, 'a, R, G> {
     ghost stops = { λ w. w.stops };
 
     fn stopped(&mut self) -> bool {
+        if self.unpolled > 0 {
+            self.unpolled -= 1;
+            return false;
+        }
         if self.stops == u64::MAX {
             for _ in self.rt.forever() {}
             unreachable!();
@@ -68,11 +72,6 @@ impl<'w, 'a, R: Wait, G: Gate> Stop for Watch<'w, 'a, R, G> {
             self.stops += 1;
             return true;
         }
-        if self.unpolled > 0 {
-            self.unpolled -= 1;
-            return false;
-        }
-        self.unpolled = UNPOLLED;
         self.gate.asked(self.ticket);
         let Some(seat) = self.seat.take() else {
             unreachable!()
@@ -80,7 +79,10 @@ impl<'w, 'a, R: Wait, G: Gate> Stop for Watch<'w, 'a, R, G> {
         let (seat, polled) = poll(self.rt, self.lock, seat, self.ticket);
         self.seat = Some(seat);
         match polled {
-            Polled::Go => false,
+            Polled::Go => {
+                self.unpolled = UNPOLLED;
+                false
+            }
             Polled::Cancelled => {
                 self.stops = 1;
                 true

@@ -1,7 +1,10 @@
+use Rattle.std.proofs.Common.{◌≤◌, length}
 use Rattle.dp_graph.specs.GraphConditions.{lists_of}
-use Rattle.dp_graph.specs.Rows.{EdgeOf}
-use Rattle.dp_graph.proofs.RowLaws.{RowsSoFar}
+use Rattle.dp_graph.proofs.RowLaws.{LedSoFar}
 use Rattle.dp_graph.proofs.rows.rows.Given as goal
 
-abbrev pub invariant-loop-m : goal.invariant-loop-m
-invariant-loop-m l = RowsSoFar (EdgeOf l.graph) l.problem (lists_of l.rows.items) l.m-index
+abbrev pub invariant-loop-i : goal.invariant-loop-i
+invariant-loop-i l = record {
+  low : l.i ≤ length l.problem;
+  led : LedSoFar l.graph l.problem l.by_root (lists_of l.initial.rows.items) (lists_of l.rows.items) l.i;
+}

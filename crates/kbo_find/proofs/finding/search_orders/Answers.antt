@@ -20,6 +20,7 @@ invariant_of-space g c =
     let mapped = length-map tops asked_of in
     record {
       placed = c.in_ok-places.ensures;
+      distinct = c.requires.distinct;
       tops_are = are;
       few_symbols = omega (arith, c.requires.few_symbols);
       few_constraints = omega (arith, few, same, mapped, c.requires.few_falling);

@@ -13,7 +13,9 @@ invariant_of-space g c =
     let owners = c.deref.result.now in
     let same : length owners ≡ length c.in_ok-owners.owners.items = ap length c.deref.ensures.value in
     record {
+      placed = c.in_ok-places.ensures;
       distinct = c.requires.distinct;
+      few_symbols = omega (arith, c.requires.few_symbols);
       owners_are = c.deref.ensures.value ∙ c.in_ok-owners.ensures.owners;
       spans_are = subst (λ l. AreSpans c.args.arities.now c.args.symbols.now l) (sym c.deref-2.ensures.value) c.in_ok-spans.ensures;
       small_are = c.deref-3.ensures.value ∙ c.in_ok-small.ensures;

@@ -7,4 +7,4 @@ use Rattle.poly_lin.proofs.small.+saturated.Given as goal
 abbrev pub invariant-loop-i : goal.invariant-loop-i
 invariant-loop-i g l =
     (f : ℕ) → tree l.t ≡ app f (forest l.arg-items)
-    → Partly (g.T.Coefficients.coefficient l.table) l.of f (forest l.arg-items) (forest (drop l.i l.arg-items)) (l.i + 1) l.sum
+    → Partly (g.T.Coefficients.coefficient l.table) f (forest l.arg-items) (forest (drop l.i l.arg-items)) (l.i + 1) l.sum
