@@ -31,6 +31,7 @@ pub mod ConfluenceKind
 pub mod ProofStep
 pub mod Applies
 pub mod Refused
+pub mod Table
 pub mod Tables
 pub mod Opposites
 pub mod Laws

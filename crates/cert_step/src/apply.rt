@@ -64,10 +64,10 @@ pub(crate) fn keeps_system(trs: &Trs)
 }
 
 /// The subproblems that a step leaves, by its conditions alone.
-pub(crate) fn checked<'a>(
+pub(crate) fn checked<'t, 'a>(
     alloc: Global,
     trs: &'a Trs,
-    tables: &mut Tables<'a>,
+    tables: &mut Tables<'t, 'a>,
     problem: &Problem,
     step: &Step,
 ) -> Result<Vec<Problem>, CheckFault>
@@ -85,10 +85,10 @@ pub(crate) fn checked<'a>(
 }
 
 /// The subproblems that a step leaves of a problem that it is for.
-fn checked_kind<'a>(
+fn checked_kind<'t, 'a>(
     alloc: Global,
     trs: &'a Trs,
-    tables: &mut Tables<'a>,
+    tables: &mut Tables<'t, 'a>,
     problem: &Problem,
     step: &Step,
 ) -> Result<Vec<Problem>, CheckFault>

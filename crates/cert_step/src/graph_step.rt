@@ -15,10 +15,10 @@ use trs_core::Trs;
 
 /// Groups along the dependency graph. A problem is finite if that of each group is, which are left
 /// to show. (Arts and Giesl, 2000; Giesl, Thiemann and Schneider-Kamp, 2005.)
-pub(crate) fn apply_graph<'a>(
+pub(crate) fn apply_graph<'t, 'a>(
     alloc: Global,
     trs: &'a Trs,
-    tables: &mut Tables<'a>,
+    tables: &mut Tables<'t, 'a>,
     numbers: &[u32],
     items: &[GraphItem],
 ) -> Result<Vec<Problem>, CheckFault>
@@ -28,7 +28,7 @@ pub(crate) fn apply_graph<'a>(
     ensures tables { AreTablesOf trs.now tables.new }
 {
     let graph = tables.take_graph(alloc, trs)?;
-    let groups = graph.group_check(alloc, numbers, items);
+    let groups = graph.get().group_check(alloc, numbers, items);
     tables.graph = Some(graph);
     split(alloc, groups)
 }

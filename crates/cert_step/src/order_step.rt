@@ -17,10 +17,10 @@ use trs_core::Trs;
 
 /// Removal of pairs by an order. Rules are weak, and each pair is weak and stays or is strict.
 /// (Arts and Giesl, 2000.)
-pub(crate) fn apply_order<'a>(
+pub(crate) fn apply_order<'t, 'a>(
     alloc: Global,
     trs: &'a Trs,
-    tables: &mut Tables<'a>,
+    tables: &mut Tables<'t, 'a>,
     numbers: &[u32],
     order: &AnyOrder,
 ) -> Result<Vec<Problem>, CheckFault>
@@ -31,7 +31,7 @@ pub(crate) fn apply_order<'a>(
     ensures tables { AreTablesOf trs.now tables.new }
 {
     let pairs = tables.take_pairs(alloc, trs)?;
-    let left = pairs_left(alloc, trs, &pairs, numbers, order);
+    let left = pairs_left(alloc, trs, pairs.get(), numbers, order);
     tables.pairs = Some(pairs);
     remaining(alloc, left)
 }

@@ -1,4 +1,5 @@
 ghost use Rattle.std.specs.Prelude.{◌≡◌, List, IfOk, IfErr};
+ghost use Rattle.pair_theory.specs.DependencyPair.{dependency_pairs};
 ghost use Rattle.rewrite_core.specs.Check.{RefusedFor};
 ghost use Rattle.cert_step.specs.ProofProblem.{ProofProblem, problem_of, Holds, IsWellMadeProblem};
 ghost use Rattle.cert_step.specs.ProofStep.{step_of, IsWellMade};
@@ -8,23 +9,25 @@ ghost use Rattle.cert_step.specs.Subproblems.{AllHold, AreWellMadeProblems};
 ghost use Rattle.cert_step.specs.Subproblems.{GivesSubproblems, problems_of};
 
 use crate::apply::{checked, keeps_system};
+use crate::table::Table;
 use crate::tables::Tables;
 use crate::{Problem, Step};
+use dp_graph::{PairGraph, Pairs};
 use rewrite_core::CheckFault;
 use std::alloc::Global;
 use std::marker::Model;
 use trs_core::Trs;
 
 /// A system, and what the steps of a proof look up in it: its dependency pairs and their graph,
-/// each made once for all steps. So a step on pairs costs in proportion to its own pairs, beside
-/// what it looks at in the rules. Contracts see the system.
+/// each lent, or made once for all steps. So a step on pairs costs in proportion to its own pairs,
+/// beside what it looks at in the rules. Contracts see the system.
 #[derive(Drop)]
-pub struct Prepared<'a> {
+pub struct Prepared<'t, 'a> {
     trs: &'a Trs,
-    tables: Tables<'a>,
+    tables: Tables<'t, 'a>,
 }
 
-impl<'a> Model for Prepared<'a> {
+impl<'t, 'a> Model for Prepared<'t, 'a> {
     ghost use Rattle.trs_defs.specs.System.{System, system_code};
     ghost use Rattle.cert_step.specs.Tables.{AreTablesOf};
 
@@ -37,9 +40,9 @@ impl<'a> Model for Prepared<'a> {
     ghost invariant = { λ a. AreTablesOf a.trs.now a.tables };
 }
 
-impl<'a> Prepared<'a> {
+impl<'t, 'a> Prepared<'t, 'a> {
     /// Nothing is made yet.
-    pub fn new(trs: &'a Trs) -> Prepared<'a>
+    pub fn new(trs: &'a Trs) -> Prepared<'t, 'a>
         ensures { result ≡ trs.now }
     {
         Prepared {
@@ -47,6 +50,21 @@ impl<'a> Prepared<'a> {
             tables: Tables {
                 pairs: None,
                 graph: None,
+            },
+        }
+    }
+
+    /// Looks into tables that are lent.
+    pub fn over(trs: &'a Trs, pairs: &'t Pairs<'a>, graph: &'t PairGraph<'a>) -> Prepared<'t, 'a>
+        requires pairs { pairs.now ≡ dependency_pairs trs.now.rules }
+        requires graph { graph.now ≡ trs.now }
+        ensures { result ≡ trs.now }
+    {
+        Prepared {
+            trs,
+            tables: Tables {
+                pairs: Some(Table::Lent(pairs)),
+                graph: Some(Table::Lent(graph)),
             },
         }
     }

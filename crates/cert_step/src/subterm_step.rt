@@ -15,10 +15,10 @@ use trs_core::Trs;
 
 /// The subterm criterion. Pairs go whose right side projects to a proper subterm of what the left
 /// side projects to. (Hirokawa and Middeldorp, 2007.)
-pub(crate) fn apply_subterm<'a>(
+pub(crate) fn apply_subterm<'t, 'a>(
     alloc: Global,
     trs: &'a Trs,
-    tables: &mut Tables<'a>,
+    tables: &mut Tables<'t, 'a>,
     numbers: &[u32],
     projection: &[(u32, u8)],
 ) -> Result<Vec<Problem>, CheckFault>
@@ -29,7 +29,7 @@ pub(crate) fn apply_subterm<'a>(
     ensures tables { AreTablesOf trs.now tables.new }
 {
     let pairs = tables.take_pairs(alloc, trs)?;
-    let left = pairs.subterm_check(alloc, numbers, projection);
+    let left = pairs.get().subterm_check(alloc, numbers, projection);
     tables.pairs = Some(pairs);
     remaining(alloc, left)
 }

@@ -17,10 +17,10 @@ use usable_rules::prepared_usable_check;
 
 /// Removal of pairs by a linear interpretation under which the usable rules alone are weak.
 /// (Hirokawa and Middeldorp, 2007; Giesl, Thiemann, Schneider-Kamp and Falke, 2006.)
-pub(crate) fn apply_usable<'a>(
+pub(crate) fn apply_usable<'t, 'a>(
     alloc: Global,
     trs: &'a Trs,
-    tables: &mut Tables<'a>,
+    tables: &mut Tables<'t, 'a>,
     numbers: &[u32],
     table: &LinTable,
 ) -> Result<Vec<Problem>, CheckFault>
@@ -31,7 +31,7 @@ pub(crate) fn apply_usable<'a>(
     ensures tables { AreTablesOf trs.now tables.new }
 {
     let pairs = tables.take_pairs(alloc, trs)?;
-    let left = prepared_usable_check(alloc, trs, &pairs, numbers, table);
+    let left = prepared_usable_check(alloc, trs, pairs.get(), numbers, table);
     tables.pairs = Some(pairs);
     remaining(alloc, left)
 }

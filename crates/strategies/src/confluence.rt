@@ -10,10 +10,10 @@ use std::alloc::Global;
 use trs_core::{OutOfMemory, Trs};
 
 /// The step to confluence, which is always found.
-pub(crate) fn search_confluence<'a>(
+pub(crate) fn search_confluence(
     alloc: Global,
-    trs: &'a Trs,
-    prepared: &mut Prepared<'a>,
+    trs: &Trs,
+    prepared: &mut Prepared,
     problem: &Problem,
 ) -> Result<Findings, OutOfMemory>
     requires prepared { prepared.old ≡ trs.now }

@@ -10,10 +10,10 @@ use std::alloc::Global;
 use trs_core::{OutOfMemory, Trs};
 
 /// The step to the problem of all dependency pairs, which is always found. (Arts and Giesl, 2000.)
-pub(crate) fn search_dp<'a>(
+pub(crate) fn search_dp(
     alloc: Global,
-    trs: &'a Trs,
-    prepared: &mut Prepared<'a>,
+    trs: &Trs,
+    prepared: &mut Prepared,
     problem: &Problem,
 ) -> Result<Findings, OutOfMemory>
     requires prepared { prepared.old ≡ trs.now }

@@ -12,9 +12,9 @@ use std::alloc::Global;
 use trs_core::OutOfMemory;
 
 /// A found step, with the problems that it leaves.
-pub(crate) fn leaving<'a>(
+pub(crate) fn leaving(
     alloc: Global,
-    prepared: &mut Prepared<'a>,
+    prepared: &mut Prepared,
     problem: &Problem,
     step: Step,
 ) -> Result<Findings, OutOfMemory>

@@ -14,11 +14,11 @@ use std::alloc::Global;
 use trs_core::{OutOfMemory, Trs};
 
 /// The components of the dependency graph, unless they are one group of all pairs.
-pub(crate) fn search_graph<'a>(
+pub(crate) fn search_graph(
     alloc: Global,
-    trs: &'a Trs,
+    trs: &Trs,
     graph: &PairGraph,
-    prepared: &mut Prepared<'a>,
+    prepared: &mut Prepared,
     problem: &Problem,
 ) -> Result<Findings, OutOfMemory>
     requires graph { graph.now ≡ trs.now }

@@ -15,11 +15,11 @@ use std::alloc::Global;
 use trs_core::{OutOfMemory, Trs};
 
 /// A Knuth-Bendix order that removes pairs.
-pub(crate) fn search_kbo<'a, P: Stop>(
+pub(crate) fn search_kbo<P: Stop>(
     alloc: Global,
-    trs: &'a Trs,
+    trs: &Trs,
     pairs: &Pairs,
-    prepared: &mut Prepared<'a>,
+    prepared: &mut Prepared,
     problem: &Problem,
     budget: u64,
     stop: &mut P,

@@ -15,11 +15,11 @@ use std::alloc::Global;
 use trs_core::{OutOfMemory, Trs};
 
 /// A path order with filters that removes pairs.
-pub(crate) fn search_lpo<'a, P: Stop>(
+pub(crate) fn search_lpo<P: Stop>(
     alloc: Global,
-    trs: &'a Trs,
+    trs: &Trs,
     pairs: &Pairs,
-    prepared: &mut Prepared<'a>,
+    prepared: &mut Prepared,
     problem: &Problem,
     budget: u64,
     stop: &mut P,

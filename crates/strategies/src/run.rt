@@ -50,11 +50,11 @@ pub fn run_strategy<'a, P: Stop>(
 }
 
 /// What a strategy answers of a problem.
-pub(crate) fn search<'a, P: Stop>(
+pub(crate) fn search<P: Stop>(
     alloc: Global,
-    trs: &'a Trs,
-    tables: &Tables<'a>,
-    prepared: &mut Prepared<'a>,
+    trs: &Trs,
+    tables: &Tables,
+    prepared: &mut Prepared,
     problem: &Problem,
     strategy: Strategy,
     budget: u64,

@@ -18,7 +18,7 @@ use trs_core::OutOfMemory;
 #[derive(Drop)]
 pub struct Searcher<'t, 'a> {
     tables: &'t Tables<'a>,
-    prepared: Prepared<'a>,
+    prepared: Prepared<'t, 'a>,
 }
 
 impl<'t, 'a> Model for Searcher<'t, 'a> {
@@ -41,7 +41,7 @@ impl<'t, 'a> Searcher<'t, 'a> {
     {
         Searcher {
             tables,
-            prepared: Prepared::new(tables.system()),
+            prepared: Prepared::over(tables.system(), tables.pairs(), tables.graph()),
         }
     }
 
