@@ -7,6 +7,8 @@ mod arguments;
 mod asking;
 mod certifying;
 mod completing;
+#[cfg(test)]
+mod faulty;
 mod lines;
 mod report;
 mod run;
