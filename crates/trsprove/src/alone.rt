@@ -6,10 +6,10 @@ ghost use Rattle.trsprove.specs.Answered.{IsAnswered};
 ghost use Rattle.trsprove.specs.Workers.{asked_of};
 
 use crate::answer::Answer;
-use crate::asking::concluded;
-use crate::certifying::certified;
-use crate::completing::completed;
-use crate::samples::sampled;
+use crate::asking::ask;
+use crate::certifying::certify;
+use crate::completing::complete;
+use crate::samples::sample;
 use command_line::{Refused, Request, parse};
 use io_edge::Shelf;
 use std::alloc::{AllocError, Global};
@@ -45,18 +45,18 @@ pub(crate) fn answer_to<'a, S: Shelf>(
             wanted,
             problem,
             certificate,
-        } => certified(alloc, shelf, wanted, problem, certificate),
+        } => certify(alloc, shelf, wanted, problem, certificate),
         Request::Prove {
             question,
             problem,
             budget,
             ..
-        } => concluded(alloc, shelf, question, problem, budget),
+        } => ask(alloc, shelf, question, problem, budget),
         Request::Complete {
             problem,
             order,
             budget,
-        } => completed(alloc, shelf, problem, order, budget),
-        Request::Sample { size, budget, .. } => sampled(alloc, size, budget),
+        } => complete(alloc, shelf, problem, order, budget),
+        Request::Sample { size, budget, .. } => sample(alloc, size, budget),
     }
 }

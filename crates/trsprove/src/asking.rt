@@ -16,7 +16,7 @@ use std::thread::Threads;
 
 /// The answer to a question about the problem under a name, by the searches of one worker within a
 /// budget.
-pub(crate) fn concluded<'a, S: Shelf>(
+pub(crate) fn ask<'a, S: Shelf>(
     alloc: Global,
     shelf: &mut S,
     question: Question,
@@ -27,14 +27,14 @@ pub(crate) fn concluded<'a, S: Shelf>(
         (S.means shelf.old) (S.means shelf.new) result }
 {
     match shelf.fetch(problem, MOST_PROBLEM_BYTES) {
-        Ok(text) => answered(alloc, question, budget, &text),
+        Ok(text) => ask_about(alloc, question, budget, &text),
         Err(fault) => not_fetched(problem, fault),
     }
 }
 
 /// The answer to a question about the problem under a name, by the searches of so many workers
 /// within a budget. Where they are several they may wait.
-pub(crate) fn concluded_with<'a, R: Threads + Wait + Sync, S: Shelf, G: Gate>(
+pub(crate) fn ask_with<'a, R: Threads + Wait + Sync, S: Shelf, G: Gate>(
     rt: &R,
     alloc: Global,
     shelf: &mut S,
@@ -49,13 +49,13 @@ pub(crate) fn concluded_with<'a, R: Threads + Wait + Sync, S: Shelf, G: Gate>(
         (S.means shelf.old) (S.means shelf.new) result }
 {
     match shelf.fetch(problem, MOST_PROBLEM_BYTES) {
-        Ok(text) => answered_with(rt, alloc, gate, question, budget, workers, &text),
+        Ok(text) => ask_about_with(rt, alloc, gate, question, budget, workers, &text),
         Err(fault) => not_fetched(problem, fault),
     }
 }
 
 // One worker's answer to a question about the system of a problem text.
-fn answered<'a>(
+fn ask_about<'a>(
     alloc: Global,
     question: Question,
     budget: u64,
@@ -70,7 +70,7 @@ fn answered<'a>(
 }
 
 // The answer of so many workers to a question about the system of a problem text.
-fn answered_with<'a, R: Threads + Wait + Sync, G: Gate>(
+fn ask_about_with<'a, R: Threads + Wait + Sync, G: Gate>(
     rt: &R,
     alloc: Global,
     gate: &G,
@@ -85,7 +85,7 @@ fn answered_with<'a, R: Threads + Wait + Sync, G: Gate>(
         IsConclusion problem.now question workers budget (status_of a) (text_of a)) }
 {
     if workers == 1 {
-        return answered(alloc, question, budget, problem);
+        return ask_about(alloc, question, budget, problem);
     }
     let conclusion = conclude_with(rt, alloc, problem, question, budget, workers, gate)?;
     Ok(answer_of(conclusion))

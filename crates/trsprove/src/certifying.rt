@@ -21,7 +21,7 @@ use std::alloc::{AllocError, Global};
 const MOST_CERTIFICATE_BYTES: u64 = 8_388_608;
 
 /// The answer for the problem and the certificate under two names.
-pub(crate) fn certified<'a, S: Shelf>(
+pub(crate) fn certify<'a, S: Shelf>(
     alloc: Global,
     shelf: &mut S,
     wanted: Wanted,
@@ -33,7 +33,7 @@ pub(crate) fn certified<'a, S: Shelf>(
 {
     match shelf.fetch(problem, MOST_PROBLEM_BYTES) {
         Ok(problem_text) => match shelf.fetch(certificate, MOST_CERTIFICATE_BYTES) {
-            Ok(certificate_text) => decided(alloc, wanted, &problem_text, &certificate_text),
+            Ok(certificate_text) => judge(alloc, wanted, &problem_text, &certificate_text),
             Err(fault) => not_fetched(certificate, fault),
         },
         Err(fault) => not_fetched(problem, fault),
@@ -41,7 +41,7 @@ pub(crate) fn certified<'a, S: Shelf>(
 }
 
 // The answer for two texts.
-fn decided<'a>(
+fn judge<'a>(
     alloc: Global,
     wanted: Wanted,
     problem: &[u8],
@@ -53,7 +53,7 @@ fn decided<'a>(
         Verdict problem.now certificate.now wanted (status_of a) (text_of a)) }
 {
     match accepted_proof(alloc, problem, certificate) {
-        Ok(proof) => written(alloc, wanted, &proof),
+        Ok(proof) => write_proof(alloc, wanted, &proof),
         Err(Rejected::Problem(fault)) => Ok(Answer::Refused(fault)),
         Err(Rejected::OutOfMemory) => Err(AllocError),
         Err(rejected) => Ok(Answer::Rejected(rejected_line(alloc, &rejected)?)),
@@ -61,7 +61,7 @@ fn decided<'a>(
 }
 
 // What is written of a proof that is accepted.
-fn written<'a>(
+fn write_proof<'a>(
     alloc: Global,
     wanted: Wanted,
     proof: &AcceptedProof,
@@ -73,26 +73,26 @@ fn written<'a>(
 {
     match wanted {
         Wanted::Claim => Ok(Answer::Accepted(proof.certificate.claim)),
-        Wanted::VersionTwo => upgraded(alloc, proof),
+        Wanted::VersionTwo => upgrade(alloc, proof),
     }
 }
 
 // A proof that is accepted, in version 2.
-fn upgraded<'a>(alloc: Global, proof: &AcceptedProof) -> Result<Answer<'a>, AllocError>
+fn upgrade<'a>(alloc: Global, proof: &AcceptedProof) -> Result<Answer<'a>, AllocError>
     requires printable { All (IsPrintable proof.now.system.system)
         (proof_text_of proof.now.certificate).steps }
     ensures { IfOk result (λ a. IsWritten proof.now.system
         (proof_text_of proof.now.certificate) Wanted.VersionTwo (status_of a) (text_of a)) }
 {
     match fits_version_two(alloc, &proof.certificate) {
-        Ok(true) => printed(alloc, proof),
+        Ok(true) => print_proof(alloc, proof),
         Ok(false) => Ok(Answer::TooHeavy),
         Err(_) => Err(AllocError),
     }
 }
 
 // The text in version 2 of a proof that fits it.
-fn printed<'a>(alloc: Global, proof: &AcceptedProof) -> Result<Answer<'a>, AllocError>
+fn print_proof<'a>(alloc: Global, proof: &AcceptedProof) -> Result<Answer<'a>, AllocError>
     requires printable { All (IsPrintable proof.now.system.system)
         (proof_text_of proof.now.certificate).steps }
     requires fits { fits_two (proof_text_of proof.now.certificate) ≡ true }

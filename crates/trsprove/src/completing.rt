@@ -16,7 +16,7 @@ use std::alloc::{AllocError, Global};
 const MOST_ORDER_BYTES: u64 = 1_048_576;
 
 /// The answer for the problem and the order under two names, within a budget.
-pub(crate) fn completed<'a, S: Shelf>(
+pub(crate) fn complete<'a, S: Shelf>(
     alloc: Global,
     shelf: &mut S,
     problem: &'a str,
@@ -28,7 +28,7 @@ pub(crate) fn completed<'a, S: Shelf>(
 {
     match shelf.fetch(problem, MOST_PROBLEM_BYTES) {
         Ok(problem_text) => match shelf.fetch(order, MOST_ORDER_BYTES) {
-            Ok(order_text) => ended(alloc, &problem_text, &order_text, budget),
+            Ok(order_text) => run_completion(alloc, &problem_text, &order_text, budget),
             Err(fault) => not_fetched(order, fault),
         },
         Err(fault) => not_fetched(problem, fault),
@@ -36,7 +36,7 @@ pub(crate) fn completed<'a, S: Shelf>(
 }
 
 /// The answer for two texts.
-fn ended<'a>(
+fn run_completion<'a>(
     alloc: Global,
     problem: &[u8],
     order: &[u8],

@@ -11,7 +11,7 @@ use std::sync::Wait;
 use std::thread::Threads;
 
 /// The line of the sample system of a number, which one worker judges by searches within a budget.
-pub(crate) fn sampled<'a>(alloc: Global, size: u32, budget: u64) -> Result<Answer<'a>, AllocError>
+pub(crate) fn sample<'a>(alloc: Global, size: u32, budget: u64) -> Result<Answer<'a>, AllocError>
     requires { (1 ≤ size) × (size ≤ 512) }
     ensures status { IfOk result (λ a. status_of a ≡ Status.Answered) }
     ensures line { IfOk result (λ a. IsSampledBy 1 size budget (text_of a)) }
@@ -24,7 +24,7 @@ pub(crate) fn sampled<'a>(alloc: Global, size: u32, budget: u64) -> Result<Answe
 
 /// The line of the sample system of a number, which so many workers judge by searches within a
 /// budget. Where they are several they may wait.
-pub(crate) fn sampled_with<'a, R: Threads + Wait + Sync, G: Gate>(
+pub(crate) fn sample_with<'a, R: Threads + Wait + Sync, G: Gate>(
     rt: &R,
     alloc: Global,
     gate: &G,
@@ -38,7 +38,7 @@ pub(crate) fn sampled_with<'a, R: Threads + Wait + Sync, G: Gate>(
     ensures line { IfOk result (λ a. IsSampledBy workers size budget (text_of a)) }
 {
     if workers == 1 {
-        return sampled(alloc, size, budget);
+        return sample(alloc, size, budget);
     }
     match sample_line_with(rt, alloc, size, budget, workers, gate) {
         Ok(line) => Ok(Answer::Answered(line)),

@@ -6,8 +6,8 @@ ghost use Rattle.trsprove.specs.Answered.{IsAnswered};
 
 use crate::alone::answer_to;
 use crate::answer::Answer;
-use crate::asking::concluded_with;
-use crate::samples::sampled_with;
+use crate::asking::ask_with;
+use crate::samples::sample_with;
 use command_line::{Refused, Request, parse};
 use io_edge::Shelf;
 use program_edge::Gate;
@@ -51,12 +51,12 @@ fn answer_to_with<'a, R: Threads + Wait + Sync, S: Shelf, G: Gate>(
             problem,
             workers,
             budget,
-        } => concluded_with(rt, alloc, shelf, gate, question, problem, budget, workers),
+        } => ask_with(rt, alloc, shelf, gate, question, problem, budget, workers),
         Request::Sample {
             size,
             workers,
             budget,
-        } => sampled_with(rt, alloc, gate, size, budget, workers),
+        } => sample_with(rt, alloc, gate, size, budget, workers),
         Request::Certify { .. } | Request::Complete { .. } => answer_to(alloc, request, shelf),
     }
 }

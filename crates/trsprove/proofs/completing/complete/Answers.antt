@@ -8,7 +8,7 @@ use Rattle.trsprove.specs.Answers.{status_of, text_of}
 use Rattle.trsprove.proofs.Fetching.{fault_came, not_counted, rose_by_later, may_be_before, may_pass_before, unfetched_line}
 use Rattle.trsprove.proofs.Equations.{fetched_completion, unfetched_only, completion_only, touched_first, second_fault, second_long, touched_both}
 use Rattle.trsprove.proofs.AskingAgain.{once_again, twice_again}
-use Rattle.trsprove.proofs.completing.completed.Goals as goal
+use Rattle.trsprove.proofs.completing.complete.Goals as goal
 
 pub returns-in-Ok-fetch : goal.returns-in-Ok-fetch
 returns-in-Ok-fetch g c =
@@ -19,16 +19,16 @@ returns-in-Ok-fetch g c =
     let w = c.in-Ok-fetch.order_text.items in
     let budget = c.args.budget in
     record {
-      answer = IfOk-weaker c.ended.result (λ a. IsCompletion v w budget (status_of a) (text_of a)) (λ a. IsAnswer (Some (completes c.args.problem.now c.args.order.now budget)) before now (status_of a) (text_of a))
+      answer = IfOk-weaker c.run_completion.result (λ a. IsCompletion v w budget (status_of a) (text_of a)) (λ a. IsAnswer (Some (completes c.args.problem.now c.args.order.now budget)) before now (status_of a) (text_of a))
           (λ a. fetched_completion c.args.problem.now c.args.order.now budget v w before middle now (status_of a) (text_of a) c.in-Ok.ensures.whole c.in-Ok.ensures.bound
           c.fetch.ensures.told c.in-Ok-fetch.ensures.whole c.in-Ok-fetch.ensures.bound)
-          (subst (λ z. IfOk c.ended.result (λ a. IsCompletion v z budget (status_of a) (text_of a))) c.deref-in-Ok-fetch.ensures.value
-          (subst (λ z. IfOk c.ended.result (λ a. IsCompletion z c.deref-in-Ok-fetch.result.now budget (status_of a) (text_of a))) c.deref.ensures.value c.ended.ensures));
-      only = IfOk-weaker c.ended.result (λ a. IsCompletion v w budget (status_of a) (text_of a)) (λ a. AnswersOnly (Some (completes c.args.problem.now c.args.order.now budget)) before (status_of a))
+          (subst (λ z. IfOk c.run_completion.result (λ a. IsCompletion v z budget (status_of a) (text_of a))) c.deref-in-Ok-fetch.ensures.value
+          (subst (λ z. IfOk c.run_completion.result (λ a. IsCompletion z c.deref-in-Ok-fetch.result.now budget (status_of a) (text_of a))) c.deref.ensures.value c.run_completion.ensures));
+      only = IfOk-weaker c.run_completion.result (λ a. IsCompletion v w budget (status_of a) (text_of a)) (λ a. AnswersOnly (Some (completes c.args.problem.now c.args.order.now budget)) before (status_of a))
           (λ a. completion_only before c.args.problem.now c.args.order.now budget v w c.in-Ok.ensures.whole
           (may_be_before before middle c.args.order.now w c.fetch.ensures.told c.in-Ok-fetch.ensures.whole) c.in-Ok.ensures.bound c.in-Ok-fetch.ensures.bound (status_of a) (text_of a))
-          (subst (λ z. IfOk c.ended.result (λ a. IsCompletion v z budget (status_of a) (text_of a))) c.deref-in-Ok-fetch.ensures.value
-          (subst (λ z. IfOk c.ended.result (λ a. IsCompletion z c.deref-in-Ok-fetch.result.now budget (status_of a) (text_of a))) c.deref.ensures.value c.ended.ensures));
+          (subst (λ z. IfOk c.run_completion.result (λ a. IsCompletion v z budget (status_of a) (text_of a))) c.deref-in-Ok-fetch.ensures.value
+          (subst (λ z. IfOk c.run_completion.result (λ a. IsCompletion z c.deref-in-Ok-fetch.result.now budget (status_of a) (text_of a))) c.deref.ensures.value c.run_completion.ensures));
       untouched = touched_both c.args.problem.now c.args.order.now c.args.budget c.in-Ok.problem_text.items (g.S.Shelf.means c.args.shelf.now) (g.S.Shelf.means c.fetch.new.self)
           (g.S.Shelf.means c.fetch-in-Ok.new.self) c.in-Ok.ensures.whole c.in-Ok.ensures.bound c.in-Ok.ensures.counted c.fetch-in-Ok.ensures.faults c.fetch.ensures.read
           c.fetch-in-Ok.ensures.read;

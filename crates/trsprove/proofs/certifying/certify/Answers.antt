@@ -8,7 +8,7 @@ use Rattle.trsprove.specs.Answers.{status_of, text_of}
 use Rattle.trsprove.proofs.Fetching.{fault_came, not_counted, rose_by_later, may_be_before, may_pass_before, unfetched_line, fetched_text, touched_first, second_fault, second_long, touched_both}
 use Rattle.trsprove.proofs.Answering.{unfetched_only, verdict_only}
 use Rattle.trsprove.proofs.AskingAgain.{once_again, twice_again}
-use Rattle.trsprove.proofs.certifying.certified.Goals as goal
+use Rattle.trsprove.proofs.certifying.certify.Goals as goal
 
 pub returns-in-Ok-fetch : goal.returns-in-Ok-fetch
 returns-in-Ok-fetch g c =
@@ -19,16 +19,16 @@ returns-in-Ok-fetch g c =
     let w = c.in-Ok-fetch.certificate_text.items in
     let wanted = c.args.wanted in
     record {
-      answer = IfOk-weaker c.decided.result (λ a. Verdict v w wanted (status_of a) (text_of a)) (λ a. IsAnswer (Some (certifies wanted c.args.problem.now c.args.certificate.now)) before now (status_of a) (text_of a))
+      answer = IfOk-weaker c.judge.result (λ a. Verdict v w wanted (status_of a) (text_of a)) (λ a. IsAnswer (Some (certifies wanted c.args.problem.now c.args.certificate.now)) before now (status_of a) (text_of a))
           (λ a. fetched_text wanted c.args.problem.now c.args.certificate.now v w before middle now (status_of a) (text_of a) c.in-Ok.ensures.whole c.in-Ok.ensures.bound
           c.fetch.ensures.told c.in-Ok-fetch.ensures.whole c.in-Ok-fetch.ensures.bound)
-          (subst (λ z. IfOk c.decided.result (λ a. Verdict v z wanted (status_of a) (text_of a))) c.deref-in-Ok-fetch.ensures.value
-          (subst (λ z. IfOk c.decided.result (λ a. Verdict z c.deref-in-Ok-fetch.result.now wanted (status_of a) (text_of a))) c.deref.ensures.value c.decided.ensures));
-      only = IfOk-weaker c.decided.result (λ a. Verdict v w wanted (status_of a) (text_of a)) (λ a. AnswersOnly (Some (certifies wanted c.args.problem.now c.args.certificate.now)) before (status_of a))
+          (subst (λ z. IfOk c.judge.result (λ a. Verdict v z wanted (status_of a) (text_of a))) c.deref-in-Ok-fetch.ensures.value
+          (subst (λ z. IfOk c.judge.result (λ a. Verdict z c.deref-in-Ok-fetch.result.now wanted (status_of a) (text_of a))) c.deref.ensures.value c.judge.ensures));
+      only = IfOk-weaker c.judge.result (λ a. Verdict v w wanted (status_of a) (text_of a)) (λ a. AnswersOnly (Some (certifies wanted c.args.problem.now c.args.certificate.now)) before (status_of a))
           (λ a. verdict_only before wanted c.args.problem.now c.args.certificate.now v w c.in-Ok.ensures.whole
           (may_be_before before middle c.args.certificate.now w c.fetch.ensures.told c.in-Ok-fetch.ensures.whole) c.in-Ok.ensures.bound c.in-Ok-fetch.ensures.bound (status_of a) (text_of a))
-          (subst (λ z. IfOk c.decided.result (λ a. Verdict v z wanted (status_of a) (text_of a))) c.deref-in-Ok-fetch.ensures.value
-          (subst (λ z. IfOk c.decided.result (λ a. Verdict z c.deref-in-Ok-fetch.result.now wanted (status_of a) (text_of a))) c.deref.ensures.value c.decided.ensures));
+          (subst (λ z. IfOk c.judge.result (λ a. Verdict v z wanted (status_of a) (text_of a))) c.deref-in-Ok-fetch.ensures.value
+          (subst (λ z. IfOk c.judge.result (λ a. Verdict z c.deref-in-Ok-fetch.result.now wanted (status_of a) (text_of a))) c.deref.ensures.value c.judge.ensures));
       untouched = touched_both c.args.wanted c.args.problem.now c.args.certificate.now c.in-Ok.problem_text.items (g.S.Shelf.means c.args.shelf.now) (g.S.Shelf.means c.fetch.new.self)
           (g.S.Shelf.means c.fetch-in-Ok.new.self) c.in-Ok.ensures.whole c.in-Ok.ensures.bound c.in-Ok.ensures.counted c.fetch-in-Ok.ensures.faults c.fetch.ensures.read
           c.fetch-in-Ok.ensures.read;

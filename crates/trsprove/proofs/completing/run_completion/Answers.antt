@@ -1,7 +1,7 @@
 use Rattle.std.proofs.Common.{subst}
 use Rattle.completion_text.specs.Answers.{IsCompletionAnswer}
 use Rattle.trsprove.specs.Completions.{no_equations, no_order, ended}
-use Rattle.trsprove.proofs.completing.ended.Goals as goal
+use Rattle.trsprove.proofs.completing.run_completion.Goals as goal
 
 pub returns-in-Ok-Ended : goal.returns-in-Ok-Ended
 returns-in-Ok-Ended c =

@@ -7,13 +7,13 @@ use Rattle.program_edge.specs.declared.status.Status.TheVariants as status
 use Rattle.program_edge.specs.Lines.{refused_line}
 use Rattle.trsprove.specs.Verdicts.{Verdict, IsWritten, accepted, refused, rejected}
 use Rattle.trsprove.specs.Answers.{status_of, text_of}
-use Rattle.trsprove.proofs.certifying.decided.Goals as goal
+use Rattle.trsprove.proofs.certifying.judge.Goals as goal
 
 pub returns-in-Ok : goal.returns-in-Ok
 returns-in-Ok c =
     let named = c.in-Ok.proof.system in
     let says = proof_text_of c.in-Ok.proof.certificate in
-    IfOk-weaker c.written.result (λ a. IsWritten named says c.args.wanted (status_of a) (text_of a)) (λ a. Verdict c.args.problem.now c.args.certificate.now c.args.wanted (status_of a) (text_of a)) (λ a. accepted named says c.in-Ok.ensures.accepted) c.written.ensures
+    IfOk-weaker c.write_proof.result (λ a. IsWritten named says c.args.wanted (status_of a) (text_of a)) (λ a. Verdict c.args.problem.now c.args.certificate.now c.args.wanted (status_of a) (text_of a)) (λ a. accepted named says c.in-Ok.ensures.accepted) c.write_proof.ensures
 
 pub returns-in-Err-Problem : goal.returns-in-Err-Problem
 returns-in-Err-Problem c =
