@@ -64,7 +64,7 @@ pub(crate) fn keeps_system(trs: &Trs)
 }
 
 /// The subproblems that a step leaves, by its conditions alone.
-pub(crate) fn checked<'t, 'a>(
+pub(crate) fn check<'t, 'a>(
     alloc: Global,
     trs: &'a Trs,
     tables: &mut Tables<'t, 'a>,
@@ -81,11 +81,11 @@ pub(crate) fn checked<'t, 'a>(
     if !step.is_for(problem) {
         return Err(CheckFault::Refused(StepRefused::WrongProblem));
     }
-    checked_kind(alloc, trs, tables, problem, step)
+    check_kind(alloc, trs, tables, problem, step)
 }
 
 /// The subproblems that a step leaves of a problem that it is for.
-fn checked_kind<'t, 'a>(
+fn check_kind<'t, 'a>(
     alloc: Global,
     trs: &'a Trs,
     tables: &mut Tables<'t, 'a>,

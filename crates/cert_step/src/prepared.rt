@@ -8,7 +8,7 @@ ghost use Rattle.cert_step.specs.Refused.{IsStepRefused};
 ghost use Rattle.cert_step.specs.Subproblems.{AllHold, AreWellMadeProblems};
 ghost use Rattle.cert_step.specs.Subproblems.{GivesSubproblems, problems_of};
 
-use crate::apply::{checked, keeps_system};
+use crate::apply::{check, keeps_system};
 use crate::table::Table;
 use crate::tables::Tables;
 use crate::{Problem, Step};
@@ -94,6 +94,6 @@ impl<'t, 'a> Prepared<'t, 'a> {
             AreWellMadeProblems self.old (problems_of subproblems)) }
     {
         keeps_system(self.trs);
-        checked(alloc, self.trs, &mut self.tables, problem, step)
+        check(alloc, self.trs, &mut self.tables, problem, step)
     }
 }

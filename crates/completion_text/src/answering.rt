@@ -34,7 +34,7 @@ pub fn complete_texts(
     ensures { IfOk result (IsCompletionAnswer problem.now order.now budget) }
 {
     match read_problem(alloc, problem) {
-        Ok(system) => completed(alloc, &system, order, budget),
+        Ok(system) => complete_by_text(alloc, &system, order, budget),
         Err(AriFault::OutOfMemory) => Err(OutOfMemory),
         Err(fault) => Ok(CompletionAnswer::ProblemRefused(fault)),
     }
@@ -42,7 +42,7 @@ pub fn complete_texts(
 
 // What is answered for a system and an order text.
 #[tactic(auto, using(crate::proofs::Completed::is_completed))]
-fn completed(
+fn complete_by_text(
     alloc: Global,
     system: &NamedTrs,
     order: &[u8],

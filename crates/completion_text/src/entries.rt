@@ -82,13 +82,13 @@ fn ranked_if_read(
     ensures symbol { IfOk result (λ r. IfOk r (λ e. e.symbol ≡ symbol.number)) }
 {
     match rank {
-        Ok(rank) => Ok(Ok(ranked(alloc, symbol, rank)?)),
+        Ok(rank) => Ok(Ok(entry_of(alloc, symbol, rank)?)),
         Err(at) => Ok(Err(at)),
     }
 }
 
 /// The entry of a symbol, which keeps all its arguments.
-fn ranked(alloc: Global, symbol: Symbol, rank: u64) -> Result<LpoEntry, OutOfMemory>
+fn entry_of(alloc: Global, symbol: Symbol, rank: u64) -> Result<LpoEntry, OutOfMemory>
     ensures entry { IfOk result (λ e. plain e ≡ ranked symbol rank) }
     ensures symbol { IfOk result (λ e. e.symbol ≡ symbol.number) }
 {

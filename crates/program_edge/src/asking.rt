@@ -46,7 +46,7 @@ pub fn conclude(
         IsConclusion problem.now question 1 budget (conclusion_status c) (conclusion_text c)) }
 {
     match read_problem(alloc, problem) {
-        Ok(system) => answered(alloc, &system, question, budget),
+        Ok(system) => conclude_about(alloc, &system, question, budget),
         Err(AriFault::OutOfMemory) => Err(AllocError),
         Err(fault) => Ok(Conclusion::Refused(fault)),
     }
@@ -69,14 +69,14 @@ pub fn conclude_with<R: Threads + Wait + Sync, G: Gate>(
         IsConclusion problem.now question workers budget (conclusion_status c) (conclusion_text c)) }
 {
     match read_problem(alloc, problem) {
-        Ok(system) => answered_with(rt, alloc, &system, question, budget, workers, gate),
+        Ok(system) => conclude_about_with(rt, alloc, &system, question, budget, workers, gate),
         Err(AriFault::OutOfMemory) => Err(AllocError),
         Err(fault) => Ok(Conclusion::Refused(fault)),
     }
 }
 
 // One worker's answer to a question about a system, for each text that says it.
-fn answered(
+fn conclude_about(
     alloc: Global,
     system: &NamedTrs,
     question: Question,
@@ -92,7 +92,7 @@ fn answered(
 }
 
 // The same by several workers.
-fn answered_with<R: Threads + Wait + Sync, G: Gate>(
+fn conclude_about_with<R: Threads + Wait + Sync, G: Gate>(
     rt: &R,
     alloc: Global,
     system: &NamedTrs,

@@ -52,7 +52,7 @@ fn judgement_of(alloc: Global, tree: &Tree<'_>) -> Result<Judgement, OutOfMemory
 {
     match tree.verdict() {
         Some(Verdict::Won(_)) => won(alloc, tree),
-        Some(Verdict::Maybe) => lost(alloc, tree),
+        Some(Verdict::Maybe) => judge_lost(alloc, tree),
         None => unreachable!(),
     }
 }
@@ -73,7 +73,7 @@ fn won(alloc: Global, tree: &Tree<'_>) -> Result<Judgement, OutOfMemory>
 }
 
 // The judgement where both goals were lost: their report is true.
-fn lost(alloc: Global, tree: &Tree<'_>) -> Result<Judgement, OutOfMemory>
+fn judge_lost(alloc: Global, tree: &Tree<'_>) -> Result<Judgement, OutOfMemory>
     requires question { tree.now.question ≡ Termination }
     requires lost { IsVerdict tree.now (Some Verdict.Maybe) }
     ensures is_true { IfOk result (IsTrueJudgement tree.now.system tree.now.budget) }

@@ -12,7 +12,7 @@ use crate::loops::search_loop;
 use crate::lpo::search_lpo;
 use crate::on_peaks::search_on_peaks;
 use crate::poly::search_poly;
-use crate::searched::{Searched, ended};
+use crate::searched::{Searched, ending};
 use crate::searcher::Searcher;
 use crate::subterm::search_subterm;
 use crate::tables::Tables;
@@ -72,15 +72,15 @@ pub(crate) fn search<P: Stop>(
 {
     let pairs = tables.pairs();
     match strategy {
-        Strategy::Dp => ended(search_dp(alloc, trs, prepared, problem)),
-        Strategy::Graph => ended(search_graph(alloc, trs, tables.graph(), prepared, problem)),
+        Strategy::Dp => ending(search_dp(alloc, trs, prepared, problem)),
+        Strategy::Graph => ending(search_graph(alloc, trs, tables.graph(), prepared, problem)),
         Strategy::Subterm => search_subterm(alloc, trs, pairs, prepared, problem, budget, stop),
         Strategy::Poly => search_poly(alloc, trs, pairs, prepared, problem, budget, stop),
         Strategy::Lpo => search_lpo(alloc, trs, pairs, prepared, problem, budget, stop),
         Strategy::Kbo => search_kbo(alloc, trs, pairs, prepared, problem, budget, stop),
         Strategy::Usable => search_usable(alloc, trs, pairs, prepared, problem, budget, stop),
         Strategy::Loop => search_loop(alloc, trs, budget, stop),
-        Strategy::Confluence => ended(search_confluence(alloc, trs, prepared, problem)),
+        Strategy::Confluence => ending(search_confluence(alloc, trs, prepared, problem)),
         _ => search_on_peaks(alloc, trs, tables.peaks(), problem, strategy, budget, stop),
     }
 }

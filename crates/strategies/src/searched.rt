@@ -13,7 +13,7 @@ pub(crate) enum Searched {
 }
 
 /// The search of a strategy that is never stopped.
-pub(crate) fn ended(findings: Result<Findings, OutOfMemory>) -> Result<Searched, OutOfMemory>
+pub(crate) fn ending(findings: Result<Findings, OutOfMemory>) -> Result<Searched, OutOfMemory>
     ensures { EndsAs findings result }
 {
     match findings {

@@ -43,13 +43,13 @@ fn answer_to(
         problem.now.text a.0 a.1.items) }
 {
     match &problem.text {
-        Ok(text) => concluded(alloc, text, question, budget),
-        Err(fault) => unfetched(alloc, problem.name.as_str(), *fault),
+        Ok(text) => answer_text(alloc, text, question, budget),
+        Err(fault) => answer_unfetched(alloc, problem.name.as_str(), *fault),
     }
 }
 
 // The answer for a problem text.
-fn concluded(
+fn answer_text(
     alloc: Global,
     text: &[u8],
     question: Question,
@@ -89,7 +89,11 @@ fn empty_sink(alloc: Global, room: u64) -> Result<MemorySink, AllocError>
 }
 
 // The answer where the text was not fetched.
-fn unfetched(alloc: Global, name: &str, fault: FetchFault) -> Result<(Status, Vec<u8>), AllocError>
+fn answer_unfetched(
+    alloc: Global,
+    name: &str,
+    fault: FetchFault,
+) -> Result<(Status, Vec<u8>), AllocError>
     ensures { IfOk result (λ a. IsUnfetched fault name.now a.0 a.1.items) }
 {
     let unfetched = name_fault(name, fault)?;

@@ -9,8 +9,8 @@ returns-in-Ok c =
     let problem = c.args.problem.now in
     let order = c.args.order.now in
     let budget = c.args.budget in
-    IfOk-weaker c.completed.result (λ a. IsOrderAnswer c.in-Ok.system order budget a) (λ a. IsCompletionAnswer problem order budget a)
-    (λ a. for_problem problem order budget c.in-Ok.system c.in-Ok.ensures.found a) c.completed.ensures
+    IfOk-weaker c.complete_by_text.result (λ a. IsOrderAnswer c.in-Ok.system order budget a) (λ a. IsCompletionAnswer problem order budget a)
+    (λ a. for_problem problem order budget c.in-Ok.system c.in-Ok.ensures.found a) c.complete_by_text.ensures
 
 pub returns-in-Err : goal.returns-in-Err
 returns-in-Err c = (c.in-Err.ensures.refused, search rules)

@@ -31,17 +31,17 @@ search_usable-requires-clause-on_pairs g c = is_for_this (problem_of c.args.prob
 
 pub returns-in-Dp-clause-answer : goal.returns-in-Dp-clause-answer
 returns-in-Dp-clause-answer g c =
-    answers_always c.args.trs.now c.args.budget c.args.strategy strategy.Dp (problem_of c.args.problem.now) _ c.search_dp.result c.ended.result c.in-Dp.is c.ended.ensures
+    answers_always c.args.trs.now c.args.budget c.args.strategy strategy.Dp (problem_of c.args.problem.now) _ c.search_dp.result c.ending.result c.in-Dp.is c.ending.ensures
     c.search_dp.ensures.answer
 
 pub returns-in-Graph-clause-answer : goal.returns-in-Graph-clause-answer
 returns-in-Graph-clause-answer g c =
-    answers_always c.args.trs.now c.args.budget c.args.strategy strategy.Graph (problem_of c.args.problem.now) _ c.search_graph.result c.ended-in-Graph.result c.in-Graph.is c.ended-in-Graph.ensures
+    answers_always c.args.trs.now c.args.budget c.args.strategy strategy.Graph (problem_of c.args.problem.now) _ c.search_graph.result c.ending-in-Graph.result c.in-Graph.is c.ending-in-Graph.ensures
     c.search_graph.ensures.answer
 
 pub returns-in-Confluence-clause-answer : goal.returns-in-Confluence-clause-answer
 returns-in-Confluence-clause-answer g c =
-    answers_always c.args.trs.now c.args.budget c.args.strategy strategy.Confluence (problem_of c.args.problem.now) _ c.search_confluence.result c.ended-in-Confluence.result c.in-Confluence.is c.ended-in-Confluence.ensures
+    answers_always c.args.trs.now c.args.budget c.args.strategy strategy.Confluence (problem_of c.args.problem.now) _ c.search_confluence.result c.ending-in-Confluence.result c.in-Confluence.is c.ending-in-Confluence.ensures
     c.search_confluence.ensures.answer
 
 pub returns-in-Subterm-clause-answer : goal.returns-in-Subterm-clause-answer

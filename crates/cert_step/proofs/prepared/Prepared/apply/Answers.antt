@@ -11,17 +11,17 @@ pub returns-clause-only : goal.returns-clause-only
 returns-clause-only c =
     let system = c.self.inside.trs.now in
     rw (← c.self.view_is) (λ left applies.
-    only_answer (step_conditions system (problem_of c.args.problem.now) (step_of c.args.step.now)) problems_of c.checked.result left
-    (step_once system c.keeps_system.ensures (problem_of c.args.problem.now) (step_of c.args.step.now)) c.checked.ensures.answers applies)
+    only_answer (step_conditions system (problem_of c.args.problem.now) (step_of c.args.step.now)) problems_of c.check.result left
+    (step_once system c.keeps_system.ensures (problem_of c.args.problem.now) (step_of c.args.step.now)) c.check.ensures.answers applies)
 
 pub returns-clause-sound : goal.returns-clause-sound
 returns-clause-sound c =
     rw (← c.self.view_is)
-    (sound_answer c.self.inside.trs.now (problem_of c.args.problem.now) (step_of c.args.step.now) c.checked.result c.keeps_system.ensures
-    (rw (← c.self.view_is) at c.requires.well_made_step) c.checked.ensures.answers)
+    (sound_answer c.self.inside.trs.now (problem_of c.args.problem.now) (step_of c.args.step.now) c.check.result c.keeps_system.ensures
+    (rw (← c.self.view_is) at c.requires.well_made_step) c.check.ensures.answers)
 
 pub returns-clause-well_made : goal.returns-clause-well_made
 returns-clause-well_made c =
     rw (← c.self.view_is)
-    (well_made_answer c.self.inside.trs.now (problem_of c.args.problem.now) (step_of c.args.step.now) c.checked.result
-    (rw (← c.self.view_is) at c.requires.well_made_problem) (rw (← c.self.view_is) at c.requires.well_made_step) c.checked.ensures.answers)
+    (well_made_answer c.self.inside.trs.now (problem_of c.args.problem.now) (step_of c.args.step.now) c.check.result
+    (rw (← c.self.view_is) at c.requires.well_made_problem) (rw (← c.self.view_is) at c.requires.well_made_step) c.check.ensures.answers)

@@ -1,4 +1,4 @@
-use Rattle.cert_step.proofs.apply.checked_kind.Goals as goal
+use Rattle.cert_step.proofs.apply.check_kind.Goals as goal
 
 pub returns-in-Parallel-clause-answers : goal.returns-in-Parallel-clause-answers
 returns-in-Parallel-clause-answers c = rw c.in-Parallel.is (rw c.deref-in-Parallel.ensures.value at c.apply_parallel.ensures)

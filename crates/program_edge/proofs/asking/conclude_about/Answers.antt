@@ -2,7 +2,7 @@ use Rattle.std.proofs.Common.{subst}
 use Rattle.conclusion.specs.Concludes.{Concludes}
 use Rattle.conclusion.specs.SerialText.{IsSerialText}
 use Rattle.program_edge.specs.Conclusions.{concluded}
-use Rattle.program_edge.proofs.asking.answered.Goals as goal
+use Rattle.program_edge.proofs.asking.conclude_about.Goals as goal
 
 pub returns-in-Ok : goal.returns-in-Ok
 returns-in-Ok c = λ problem says.

@@ -2,7 +2,7 @@ use Rattle.std.proofs.Common.{map, subst}
 use Rattle.worker_pool.specs.tree_definitions.declared.question.Question.{Question}
 use Rattle.worker_pool.specs.tree_definitions.Reports.{part_of, IsTrueReport}
 use Rattle.sampling.specs.Judged.{left_open}
-use Rattle.sampling.proofs.judging.lost.Goals as goal
+use Rattle.sampling.proofs.judging.judge_lost.Goals as goal
 
 pub returns-clause-is_true : goal.returns-clause-is_true
 returns-clause-is_true c =

@@ -1,7 +1,7 @@
 use Rattle.std.proofs.Common.{subst, arith}
 use Rattle.conclusion.specs.Concludes.{Concludes}
 use Rattle.program_edge.specs.Conclusions.{concluded}
-use Rattle.program_edge.proofs.asking.answered_with.Goals as goal
+use Rattle.program_edge.proofs.asking.conclude_about_with.Goals as goal
 
 pub returns-in-Ok : goal.returns-in-Ok
 returns-in-Ok g c = λ problem says.
