@@ -13,7 +13,7 @@ use Rattle.completion.specs.Endings.{Ending, Done, Unorientable, Spent, Limit, w
 use Rattle.completion.specs.CompletionRun.{ending_of, Outcome, Passed, Added, Ended, Treats, left_stops, right_stops, equal_forms, no_order, no_unit, new_rule, no_room, Finds, passed_over, found_rule}
 use Rattle.completion.specs.Answers.{plain_ending}
 use Rattle.completion.specs.Treating.{pair_of, whole, IsOutcome, IsCompared, IsComparedEnding}
-use Rattle.completion.specs.Sparing.{Spare}
+use Rattle.completion.specs.NoRedex.{HasNoRedex}
 use Rattle.completion.proofs.Untouched.{untouched_form}
 
 module _ (greater : Tree → Tree → Type 0) (system : System) (units : ℕ) (left right : Tree) where
@@ -55,7 +55,7 @@ module _ (greater : Tree → Tree → Type 0) (system : System) (units : ℕ) (l
     treated_if_ok t n h (Err e) c = tt
 
 -- the same of terms that are their own normal forms
-pub untouched_if_ok : (greater : Tree → Tree → Type 0) (system : System) (units : ℕ) (left right : Tree) → Spare system.rules left → Spare system.rules right
+pub untouched_if_ok : (greater : Tree → Tree → Type 0) (system : System) (units : ℕ) (left right : Tree) → HasNoRedex system.rules left → HasNoRedex system.rules right
     → (answer : Result CodeOutcome OutOfMemory) → IfOk answer (IsCompared greater system units left right)
     → IfOk answer (IsOutcome (Treats system.arities greater system.rules units (pair_of left right)))
 untouched_if_ok greater system units left right a b answer c =
@@ -63,14 +63,14 @@ untouched_if_ok greater system units left right a b answer c =
 
 -- the same, as it is read
 pub equation_untouched : (greater : Tree → Tree → Type 0) (system : System) (units : ℕ) (rules more others items : List RewriteRule) (equation : RewriteRule) (l r : Tree)
-    → rules ≡ system.rules → more ≡ items → others ≡ items → pair_of l r ≡ equation → Spare (rules ++ more) equation.left → Spare (rules ++ more) equation.right
+    → rules ≡ system.rules → more ≡ items → others ≡ items → pair_of l r ≡ equation → HasNoRedex (rules ++ more) equation.left → HasNoRedex (rules ++ more) equation.right
     → (answer : Result CodeOutcome OutOfMemory) → IfOk answer (IsCompared greater (whole system others) units l r)
     → IfOk answer (IsOutcome (Treats system.arities greater (system.rules ++ items) units equation))
 equation_untouched greater system units rules more others items equation l r e e' e'' view a b answer c =
     let A : RewriteRule → Type 0 = λ p. IfOk answer (IsOutcome (Treats system.arities greater (system.rules ++ items) units p)) in
     let C : List RewriteRule → Type 0 = λ xs. IfOk answer (IsCompared greater (whole system xs) units l r) in
-    let S : List RewriteRule → Type 0 = λ xs. Spare xs equation.left × Spare xs equation.right in
-    let T : RewriteRule → Type 0 = λ p. Spare (system.rules ++ items) p.left × Spare (system.rules ++ items) p.right in
+    let S : List RewriteRule → Type 0 = λ xs. HasNoRedex xs equation.left × HasNoRedex xs equation.right in
+    let T : RewriteRule → Type 0 = λ p. HasNoRedex (system.rules ++ items) p.left × HasNoRedex (system.rules ++ items) p.right in
     let same : rules ++ more ≡ system.rules ++ items = ap (λ xs. xs ++ more) e ∙ ap (λ xs. system.rules ++ xs) e' in
     let both : T (pair_of l r) = subst T (sym view) (subst S same (a, b)) in
     subst A view (untouched_if_ok greater (whole system items) units l r both.0 both.1 answer (subst C e'' c))

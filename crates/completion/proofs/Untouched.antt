@@ -12,7 +12,7 @@ use Rattle.trs_defs.proofs.Members.{in_of_get, in_or, no_in, each_of_both}
 use Rattle.trs_core.specs.declared.terms.Term.{Term}
 use Rattle.trs_core.specs.View.{tree, forest}
 use Rattle.completion.specs.Searching.{HasNoPlace}
-use Rattle.completion.specs.Sparing.{HasNoInstance, Spare}
+use Rattle.completion.specs.NoRedex.{HasNoInstance, HasNoRedex}
 use Rattle.completion.specs.Normalizing.{Normalizes, to_normal_form, at_once}
 use Rattle.completion.proofs.SearchLaws.{normal_without}
 
@@ -58,24 +58,24 @@ none_in_rest pattern ts i h = subst (NoneIn pattern) (sym (ap forest (drop_all i
 
 -- ---- rules
 
-pub spare_next : (rules : List RewriteRule) (t : Tree) (i : ℕ) (rule : RewriteRule) → i < length rules → rule ≡ get_or rules i rule → HasNoInstance rule.left t
-    → Spare (drop (i + 1) rules) t → Spare (drop i rules) t
-spare_next rules t i rule h e one rest =
-    let S : List RewriteRule → Type 0 = λ rs. Spare rs t in
+pub no_redex_next : (rules : List RewriteRule) (t : Tree) (i : ℕ) (rule : RewriteRule) → i < length rules → rule ≡ get_or rules i rule → HasNoInstance rule.left t
+    → HasNoRedex (drop (i + 1) rules) t → HasNoRedex (drop i rules) t
+no_redex_next rules t i rule h e one rest =
+    let S : List RewriteRule → Type 0 = λ rs. HasNoRedex rs t in
     subst S (sym (cell rules i rule h e)) (λ r at. elim (in_or at) as (λ _. HasNoInstance r.left t) [
       | inl same ↦ subst (λ s. HasNoInstance s.left t) (sym same) one
       | inr later ↦ rest r later
     ])
 
-pub spare_rest : (rules : List RewriteRule) (t : Tree) (i : ℕ) → length rules ≤ i → Spare (drop i rules) t
-spare_rest rules t i h =
-    let S : List RewriteRule → Type 0 = λ rs. Spare rs t in
+pub no_redex_rest : (rules : List RewriteRule) (t : Tree) (i : ℕ) → length rules ≤ i → HasNoRedex (drop i rules) t
+no_redex_rest rules t i h =
+    let S : List RewriteRule → Type 0 = λ rs. HasNoRedex rs t in
     subst S (sym (drop_all i rules h)) (λ r at. absurd (no_in at))
 
-pub spare_both : (rules more : List RewriteRule) (t : Tree) → Spare rules t → Spare more t → Spare (rules ++ more) t
-spare_both rules more t a b = each_of_both (λ r. HasNoInstance r.left t) rules more a b
+pub no_redex_both : (rules more : List RewriteRule) (t : Tree) → HasNoRedex rules t → HasNoRedex more t → HasNoRedex (rules ++ more) t
+no_redex_both rules more t a b = each_of_both (λ r. HasNoInstance r.left t) rules more a b
 
-pub untouched_form : (rules : List RewriteRule) (units : ℕ) (t : Tree) → Spare rules t → Normalizes rules units t (Ok (t, units))
-untouched_form rules units t spare =
-    let none : HasNoPlace rules t = λ u r. spare r.rule (in_of_get rules u.rule r.rule r.numbered) u.place r.part r.there r.instance in
+pub untouched_form : (rules : List RewriteRule) (units : ℕ) (t : Tree) → HasNoRedex rules t → Normalizes rules units t (Ok (t, units))
+untouched_form rules units t has_no_redex =
+    let none : HasNoPlace rules t = λ u r. has_no_redex r.rule (in_of_get rules u.rule r.rule r.numbered) u.place r.part r.there r.instance in
     to_normal_form 0 units t at_once (normal_without rules t none) (omega arith)

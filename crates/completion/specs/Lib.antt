@@ -3,7 +3,7 @@ pub mod GreaterBy
 pub mod ReductionOrder
 pub mod Normalizing
 pub mod Searching
-pub mod Sparing
+pub mod NoRedex
 pub mod Moving
 pub mod Orienting
 pub mod Endings

@@ -10,6 +10,12 @@ use trs_core::{OutOfMemory, Rule, Trs};
 /// The deepest side of a new rule, so that the system can be printed.
 const DEEPEST: u64 = 256;
 
+/// The most rules of a system.
+const MOST_RULES: usize = 4_095;
+
+/// The most nodes of all sides of a system.
+const MOST_NODES: u64 = 65_536;
+
 /// Whether a new rule may come behind those of a system and some more.
 pub(crate) fn fits(trs: &Trs, more: &[Rule], rule: &Rule) -> bool
     requires { IsWithinLimits (whole trs.now more.now) }
@@ -33,7 +39,7 @@ fn has_room(rules: &[Rule], more: &[Rule], rule: &Rule) -> bool
 {
     let nodes = total_nodes(rules).saturating_add(total_nodes(more));
     let added = rule.left.size().saturating_add(rule.right.size());
-    rules.len() + more.len() < 4_095 && nodes.saturating_add(added) <= 65_536
+    rules.len() + more.len() < MOST_RULES && nodes.saturating_add(added) <= MOST_NODES
 }
 
 /// The nodes of all sides. It stands still at the last `u64`.

@@ -4,13 +4,13 @@ ghost use Rattle.trs_core.specs.View.{tree};
 ghost use Rattle.completion.specs.GreaterBy.{GreaterBy};
 ghost use Rattle.completion.specs.Endings.{with_rules};
 ghost use Rattle.completion.specs.CompletionRun.{Treats};
-ghost use Rattle.completion.specs.Sparing.{Spare};
+ghost use Rattle.completion.specs.NoRedex.{HasNoRedex};
 ghost use Rattle.completion.specs.Treating.{whole, IsOutcome};
 ghost use Rattle.completion.specs.Taking.{HasTaken, IsTermOver};
 
 use crate::Completion;
+use crate::no_redex::has_no_redex;
 use crate::orienting::take_in;
-use crate::sparing::spare;
 use crate::treating::{Outcome, compare, treat};
 use path_lpo::Lpo;
 use std::alloc::Global;
@@ -84,16 +84,16 @@ fn take_one(
 /// Whether rules and some more leave both sides of an equation as they are: symbols alone are looked
 /// at, and others may do so too.
 fn leave_alone(rules: &[Rule], more: &[Rule], equation: &Rule) -> bool
-    ensures left { IsTrue result → Spare (rules.now ++ more.now) equation.now.left }
-    ensures right { IsTrue result → Spare (rules.now ++ more.now) equation.now.right }
+    ensures left { IsTrue result → HasNoRedex (rules.now ++ more.now) equation.now.left }
+    ensures right { IsTrue result → HasNoRedex (rules.now ++ more.now) equation.now.right }
 {
-    both_spare(rules, more, &equation.left) && both_spare(rules, more, &equation.right)
+    have_no_redex(rules, more, &equation.left) && have_no_redex(rules, more, &equation.right)
 }
 
-fn both_spare(rules: &[Rule], more: &[Rule], t: &Term) -> bool
-    ensures { IsTrue result → Spare (rules.now ++ more.now) (tree t.now) }
+fn have_no_redex(rules: &[Rule], more: &[Rule], t: &Term) -> bool
+    ensures { IsTrue result → HasNoRedex (rules.now ++ more.now) (tree t.now) }
 {
-    spare(rules, t) && spare(more, t)
+    has_no_redex(rules, t) && has_no_redex(more, t)
 }
 
 /// No rules over the arity table.

@@ -3,7 +3,7 @@ use Rattle.trs_defs.specs.Tree.{trees, app}
 use Rattle.trs_core.specs.View.{tree, forest}
 use Rattle.rewrite_core.proofs.RedexWalk.{applied}
 use Rattle.completion.proofs.Untouched.{none_in_variable, none_in_application, none_in_next, none_in_rest}
-use Rattle.completion.proofs.sparing.+may_occur.Goals as goal
+use Rattle.completion.proofs.no_redex.+may_occur.Goals as goal
 
 pub returns-in-Var : goal.returns-in-Var
 returns-in-Var t c = λ _. none_in_variable (tree c.args.pattern.now) (tree c.args.t.now) c.in-Var.field-0 (ap tree c.in-Var.is) (c.may_match.ensures c.if-may_match.false)

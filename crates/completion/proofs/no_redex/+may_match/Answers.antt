@@ -1,8 +1,8 @@
 use Rattle.std.proofs.Common.{arith, ap, length}
 use Rattle.trs_core.specs.View.{tree}
 use Rattle.term_pool.proofs.Refutations.{no_instance_in_variable, no_instance_of_other_read, no_instance_read}
-use Rattle.completion.proofs.sparing.+may_match.Goals.{then-f-g-via-then-f-g, then-f-g-via-else-f-g+then-len}
-use Rattle.completion.proofs.sparing.+may_match.Goals as goal
+use Rattle.completion.proofs.no_redex.+may_match.Goals.{then-f-g-via-then-f-g, then-f-g-via-else-f-g+then-len}
+use Rattle.completion.proofs.no_redex.+may_match.Goals as goal
 
 pub returns-then-f-g : goal.returns-then-f-g
 returns-then-f-g t c =

@@ -1,14 +1,14 @@
 ghost use Rattle.std.specs.Prelude.{◌≡◌, IsTrue, false};
 ghost use Rattle.trs_defs.specs.Substitution.{IsInstance};
 ghost use Rattle.trs_core.specs.View.{tree};
-ghost use Rattle.completion.specs.Sparing.{HasNoInstance, Spare};
+ghost use Rattle.completion.specs.NoRedex.{HasNoInstance, HasNoRedex};
 
 use trs_core::{Rule, Term};
 
 /// Whether no subterm has the symbols of a left side of these rules. Then the term has no redex by
 /// them. It takes no memory.
-pub(crate) fn spare(rules: &[Rule], t: &Term) -> bool
-    ensures { IsTrue result → Spare rules.now (tree t.now) }
+pub(crate) fn has_no_redex(rules: &[Rule], t: &Term) -> bool
+    ensures { IsTrue result → HasNoRedex rules.now (tree t.now) }
 {
     for rule in rules {
         if may_occur(&rule.left, t) {

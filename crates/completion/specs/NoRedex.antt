@@ -1,4 +1,4 @@
--- Terms that rules leave alone: no subterm is an instance of a left side.
+-- Terms without a redex: no subterm is an instance of a left side.
 use Rattle.std.specs.Prelude.{◌≡◌, ℕ, List, Some}
 use Rattle.trs_defs.specs.Tree.{Tree}
 use Rattle.trs_defs.specs.Member.{In}
@@ -11,5 +11,5 @@ abbrev pub HasNoInstance : Tree → Tree → Type 0
 HasNoInstance pattern t = (p : List ℕ) (part : Tree) → subterm_at p t ≡ Some part → IsInstance pattern part → ⊥
 
 -- no subterm is an instance of a left side of these rules
-abbrev pub Spare : List RewriteRule → Tree → Type 0
-Spare rules t = (r : RewriteRule) → In r rules → HasNoInstance r.left t
+abbrev pub HasNoRedex : List RewriteRule → Tree → Type 0
+HasNoRedex rules t = (r : RewriteRule) → In r rules → HasNoInstance r.left t
