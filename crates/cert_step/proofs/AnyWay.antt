@@ -19,7 +19,7 @@ use Rattle.cert_step.specs.ParallelKind.{for_parallel}
 use Rattle.cert_step.specs.StrongKind.{for_strong}
 use Rattle.cert_step.specs.LabelKind.{for_label}
 use Rattle.cert_step.specs.ForkKind.{for_fork}
-use Rattle.cert_step.specs.ConfluenceKind.{for_confluence, confluence_kind}
+use Rattle.cert_step.specs.ConfluenceKind.{confluence_kind}
 use Rattle.cert_step.specs.Applies.{Applies}
 
 -- what a kind of step is for and asks does not depend on the way

@@ -3,7 +3,7 @@ use Rattle.std.specs.Prelude.{◌≡◌, ℕ, Bool, true, false, List, [], ◌�
 use Rattle.std.specs.List.{AllByRecursion}
 use Rattle.std.proofs.Common.{cond, ap, subst, arith, ◌∙◌}
 use Rattle.std.proofs.lemmas.Bool.{eqb-true}
-use Rattle.trs_defs.specs.System.{System, IsSystem}
+use Rattle.trs_defs.specs.System.{System}
 use Rattle.pair_theory.specs.Over.{IsOver}
 use Rattle.order_theory.specs.KnuthBendix.{arity_with_marks}
 use Rattle.order_theory.proofs.KnuthPair.{knuth_pair}
