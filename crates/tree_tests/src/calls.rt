@@ -13,19 +13,23 @@ use worker_pool::{
     Aborted, Claimed, Limits, Outcome, Polled, Posted, Ran, Task, Tree, run_strategy,
 };
 
-/// Claims a task, and runs it.
+/// Claims a task, and runs it. The inner answer is the tree's own.
 pub fn claim<'a>(
     alloc: Global,
     tree: &mut Tree<'a>,
     held: &mut Vec<Option<Outcome<'a>>>,
     seat: u32,
-) -> Result<Claimed, OutOfMemory>
+) -> Result<Result<Claimed, OutOfMemory>, OutOfMemory>
     requires { AreHeld tree.old held.old.items }
     ensures { AreHeld tree.new held.new.items }
 {
-    let claimed = claim_task(alloc, tree, seat)?;
-    hold(alloc, tree, held, &claimed)?;
-    Ok(claimed)
+    match claim_task(alloc, tree, seat) {
+        Ok(claimed) => {
+            hold(alloc, tree, held, &claimed)?;
+            Ok(Ok(claimed))
+        }
+        Err(refused) => Ok(Err(refused)),
+    }
 }
 
 fn claim_task(alloc: Global, tree: &mut Tree, seat: u32) -> Result<Claimed, OutOfMemory>

@@ -69,7 +69,7 @@ impl<'a> Pair<'a> {
     /// Claims, and says whether the answer was right.
     pub fn claim(&mut self, alloc: Global, seat: u32) -> Result<bool, Fail> {
         let is_done = self.state.is_done();
-        match self.trial.claim(alloc, seat)? {
+        match self.trial.claim(alloc, seat)?? {
             Claimed::Task(task) => {
                 let is_right = !is_done && self.is_task(&task);
                 self.note(alloc, seat, task.ticket, Event::Claimed)?;

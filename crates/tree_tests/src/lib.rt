@@ -1,5 +1,6 @@
 //! Tests of the proof tree, beside a plain replay of lists of events, and of several workers on it,
-//! each in a thread. There is no code here.
+//! each in a thread. And of what a call leaves that the tree refuses for want of memory. There is no
+//! code here.
 #![tactic(auto)]
 
 #[cfg(test)]
@@ -18,6 +19,8 @@ mod events;
 mod gates;
 #[cfg(test)]
 mod lists;
+#[cfg(test)]
+mod refused;
 #[cfg(test)]
 mod replay;
 #[cfg(test)]

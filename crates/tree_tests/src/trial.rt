@@ -4,7 +4,6 @@ ghost use Rattle.std.specs.Prelude.{◌≡◌};
 use crate::calls::{claim, clear, end_by_abort, is_running, poll, post, settle};
 use std::alloc::Global;
 use std::marker::Model;
-use std::test::Fail;
 use trs_core::{OutOfMemory, Trs};
 use worker_pool::{Aborted, Claimed, Limits, Outcome, Polled, Posted, Question, Tree};
 
@@ -55,9 +54,13 @@ impl<'a> Trial<'a> {
         self.held.get(ticket as usize)?.as_ref()
     }
 
-    /// Claims a task, and runs it.
-    pub fn claim(&mut self, alloc: Global, seat: u32) -> Result<Claimed, Fail> {
-        Ok(claim(alloc, &mut self.tree, &mut self.held, seat)?)
+    /// Claims a task, and runs it. The inner answer is the tree's own.
+    pub fn claim(
+        &mut self,
+        alloc: Global,
+        seat: u32,
+    ) -> Result<Result<Claimed, OutOfMemory>, OutOfMemory> {
+        claim(alloc, &mut self.tree, &mut self.held, seat)
     }
 
     /// Polls a ticket that is running.
@@ -70,9 +73,9 @@ impl<'a> Trial<'a> {
         Some(polled)
     }
 
-    /// Posts what is held for a ticket that is running.
-    pub fn post(&mut self, ticket: u64) -> Result<Posted, Fail> {
-        Ok(post(&mut self.tree, &mut self.held, ticket)?)
+    /// Posts what is held for a ticket that is running. A post that the tree refuses loses it.
+    pub fn post(&mut self, ticket: u64) -> Result<Posted, OutOfMemory> {
+        post(&mut self.tree, &mut self.held, ticket)
     }
 
     /// Aborts a ticket that is running.
