@@ -1,6 +1,6 @@
 //! Finders of what the kinds of steps on confluence need beside joins: forks to two terms that
 //! never meet again, and forks to two different normal forms. Each finder has a file of its own; the
-//! one of ranks of rules is in a crate of its own, and is handed on, as is the pool of terms.
+//! one of ranks of rules is in a crate of its own, and is handed on.
 //! (Zankl, Felgenhauer and Middeldorp, CSI, a confluence tool, 2011.)
 #![tactic(auto)]
 
@@ -21,4 +21,3 @@ pub use join_find::{
 pub use label_find::{Labelled, find_label, found_labels_apply};
 pub use laws::{found_forks_apply, found_splits_apply};
 pub use split::find_split;
-pub use term_pool::Pool;

@@ -4,8 +4,8 @@ use crate::texts::{ARITIES, system};
 use nonjoin::apart;
 use std::alloc::Global;
 use std::test::Fail;
-use trs_caps::tcap;
 use trs_core::{Term, Trs};
+use trs_unify::tcap;
 
 /// `f(x, x) -> c` and `g(c) -> c`, with the symbols `c`, `g` and `f`.
 fn two_rules(alloc: Global) -> Result<Trs, Fail> {

@@ -2,10 +2,10 @@
 //! with each request for memory refused in turn; undisturbed no call is refused.
 use crate::made::position;
 use crate::texts::{ARITIES, read, system};
-use conf_find::Pool;
 use rewrite_core::StepFault;
 use std::alloc::Global;
 use std::test::Fail;
+use term_pool::Pool;
 use trs_core::{OutOfMemory, Position, Term, Trs};
 
 /// The ids of a pool of this test, and the nodes of its terms, are fewer.
@@ -191,6 +191,9 @@ fn a_refused_call_leaves_the_terms(rt: HostRuntime) -> Result<(), Fail> {
     assert!(rt; twins.is_kept(alloc)? && twins.given.len() == 8);
     assert!(rt; twins.gave(alloc, 3, b"cc00a")?);
     assert!(rt; twins.gave(alloc, 6, b"cc10c2c3cc44b5")?);
-    println!(rt; "refused: terms {}, steps {}", twins.refused_terms, twins.refused_steps)?;
+    println!(rt;
+        "refused: terms {}, steps {}",
+        twins.refused_terms, twins.refused_steps
+    )?;
     Ok(())
 }

@@ -157,7 +157,10 @@ fn a_refused_call_leaves_the_tree(rt: HostRuntime) -> Result<(), Fail> {
     let mut twins = Twins::new(alloc, &case, &trs)?;
     assert!(rt; twins.agree_on(alloc, &TO_AN_ABORT)?);
     assert!(rt; twins.came_to(14, None, true));
-    println!(rt; "refused: claims {}, posts {}", twins.refused_claims, twins.refused_posts)?;
+    println!(rt;
+        "refused: claims {}, posts {}",
+        twins.refused_claims, twins.refused_posts
+    )?;
     Ok(())
 }
 
@@ -188,6 +191,9 @@ fn a_refused_call_leaves_the_verdict(rt: HostRuntime) -> Result<(), Fail> {
     let mut twins = Twins::new(alloc, &case, &trs)?;
     assert!(rt; twins.agree_on(alloc, &TO_A_VERDICT)?);
     assert!(rt; twins.came_to(8, Some(Verdict::Won(0)), false));
-    println!(rt; "refused: claims {}, posts {}", twins.refused_claims, twins.refused_posts)?;
+    println!(rt;
+        "refused: claims {}, posts {}",
+        twins.refused_claims, twins.refused_posts
+    )?;
     Ok(())
 }
