@@ -40,6 +40,7 @@ const FOUND: [&[u8]; 4] = [
 ];
 
 /// A problem, a certificate, and the numbers of the calls that fail, from 0.
+#[derive(Clone, Copy)]
 struct Trial<'a> {
     problem: &'a [u8],
     certificate: &'a [u8],

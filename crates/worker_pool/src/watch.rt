@@ -14,13 +14,13 @@ use std::sync::Wait;
 use tree_core::Polled;
 use turn_lock::{Seat, TurnLock};
 
-/// How many askings of a search pass unpolled between two polls: a poll takes the turn, which costs
-/// more than a step of most searches.
-const UNPOLLED: u32 = 15;
+/// The most askings of a search that pass unpolled between two polls.
+const MOST_UNPOLLED: u32 = 255;
 
-/// It has the worker's seat while a search runs, and polls the tree under the seat's turn, at the
-/// first asking and then at every sixteenth. Once the ticket was cancelled, it stops the search each
-/// time.
+/// It has the worker's seat while a search runs, and polls the tree under the seat's turn. A poll
+/// costs more than a step of most searches, so one more asking passes unpolled after each poll, up to
+/// a limit: a search with few long steps polls often, and one with many short steps seldom. Once the
+/// ticket was cancelled, it stops the search each time.
 pub(crate) struct Watch<'w, 'a, R: Wait, G: Gate> {
     rt: &'w R,
     gate: &'w G,
@@ -29,7 +29,9 @@ pub(crate) struct Watch<'w, 'a, R: Wait, G: Gate> {
     first: Snapshot<Seat<SharedTree<'a>>>,
     ticket: u64,
     stops: u64,
+    // How many askings are to pass before the next poll, and how many after it.
     unpolled: u32,
+    interval: u32,
 }
 
 impl<'w, 'a, R: Wait, G: Gate> Model for Watch<'w, 'a, R, G> {
@@ -80,7 +82,8 @@ impl<'w, 'a, R: Wait, G: Gate> Stop for Watch<'w, 'a, R, G> {
         self.seat = Some(seat);
         match polled {
             Polled::Go => {
-                self.unpolled = UNPOLLED;
+                self.interval = self.interval.saturating_add(1).min(MOST_UNPOLLED);
+                self.unpolled = self.interval;
                 false
             }
             Polled::Cancelled => {
@@ -115,6 +118,7 @@ impl<'w, 'a, R: Wait, G: Gate> Watch<'w, 'a, R, G> {
             ticket,
             stops: 0,
             unpolled: 0,
+            interval: 0,
         }
     }
 
@@ -134,6 +138,7 @@ impl<'w, 'a, R: Wait, G: Gate> Watch<'w, 'a, R, G> {
             ticket: _,
             stops,
             unpolled: _,
+            interval: _,
         } = self;
         let Some(seat) = seat else { unreachable!() };
         (seat, stops)
