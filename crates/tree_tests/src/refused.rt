@@ -150,7 +150,7 @@ fn a_refused_call_leaves_the_tree(rt: HostRuntime) -> Result<(), Fail> {
     let case = Case {
         question: Question::Termination,
         letters: b"fgs",
-        rules: &[b"fsx>fx", b"gsx>gsx"],
+        rules: &[b"fsx>fx", b"gsx>gx"],
         budget: 0,
     };
     let trs = system(alloc, &case)?;
