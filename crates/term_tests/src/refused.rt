@@ -161,8 +161,9 @@ impl Twins {
     }
 }
 
-/// The last two steps are none: there is no instance of the left side, and no such place.
-const CALLS: [Call; 10] = [
+/// The steps from a tower of eight symbols make so many new terms that the pool asks for memory. The
+/// last two steps are none: there is no instance of the left side, and no such place.
+const CALLS: [Call; 19] = [
     Call::Term(b"cbab0"),
     Call::Step(0, &[1], 1),
     Call::Step(1, &[], 0),
@@ -171,6 +172,15 @@ const CALLS: [Call; 10] = [
     Call::Step(4, &[1], 0),
     Call::Step(5, &[2, 2, 2, 1], 2),
     Call::Term(b"cbab0"),
+    Call::Term(b"bbbbbbbb0"),
+    Call::Step(8, &[], 2),
+    Call::Step(8, &[1], 2),
+    Call::Step(8, &[1, 1], 2),
+    Call::Step(8, &[1, 1, 1], 2),
+    Call::Step(8, &[1, 1, 1, 1], 2),
+    Call::Step(8, &[1, 1, 1, 1, 1], 2),
+    Call::Step(8, &[1, 1, 1, 1, 1, 1], 2),
+    Call::Step(8, &[1, 1, 1, 1, 1, 1, 1], 2),
     Call::Step(3, &[1], 1),
     Call::Step(3, &[2, 1], 0),
 ];
@@ -188,9 +198,10 @@ fn a_refused_call_leaves_the_terms(rt: HostRuntime) -> Result<(), Fail> {
     for call in CALLS {
         assert!(rt; twins.call(alloc, &trs, call)?);
     }
-    assert!(rt; twins.is_kept(alloc)? && twins.given.len() == 8);
+    assert!(rt; twins.is_kept(alloc)? && twins.given.len() == 17);
     assert!(rt; twins.gave(alloc, 3, b"cc00a")?);
     assert!(rt; twins.gave(alloc, 6, b"cc10c2c3cc44b5")?);
+    assert!(rt; twins.gave(alloc, 10, b"bcbbbbbb0bbbbbb0")?);
     println!(rt;
         "refused: terms {}, steps {}",
         twins.refused_terms, twins.refused_steps
