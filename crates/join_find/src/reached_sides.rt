@@ -24,7 +24,7 @@ use trs_core::{OutOfMemory, Term, Trs};
 const MOST_KEPT_IDS: u32 = 262_144;
 
 /// The most bytes of lists, by estimate, that are kept from one peak to the next.
-const MOST_KEPT_BYTES: u64 = 16_777_216;
+const MOST_KEPT_BYTES: u64 = 268_435_456;
 
 /// Sides of peaks in one pool. What a side reaches is listed once, and what is near it once for as
 /// long as the pool has no new terms.
