@@ -3,6 +3,7 @@ pub use Rattle.pair_order.proofs as pair_order
 pub mod Knuth
 pub mod Sums
 pub mod Sight
+pub mod Walking
 pub mod Towers
 pub mod Viewers
 pub mod Admitting

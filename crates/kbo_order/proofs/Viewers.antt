@@ -1,6 +1,5 @@
--- The variables of the second term see the two terms, one after another.
-use Rattle.std.proofs.Common.{◌≡◌, ℕ, ◌+◌, ◌≤◌, ◌<◌, ◌^◌, ◌⊎◌, ◌↔◌, inl, inr, refl, sym, subst, ◌∙◌, arith, true, false, Bool, IsTrue, ◌&&◌, Option, Some, None}
-use Rattle.std.specs.Prelude.{not}
+-- The variables of the second term see the two terms, 8 after 8.
+use Rattle.std.proofs.Common.{◌≡◌, ℕ, ◌+◌, ◌-◌, ◌≤◌, ◌<◌, ◌^◌, ◌⊎◌, ◌↔◌, inl, inr, refl, sym, subst, ◌∙◌, arith, true, false, Bool, IsTrue, Option, Some, None}
 use Rattle.std.proofs.lemmas.Bool.{cases_lt}
 use Rattle.trs_defs.specs.Tree.{Tree, Trees}
 use Rattle.trs_defs.specs.Variable.{has_var, occurrences}
@@ -9,8 +8,7 @@ use Rattle.pair_theory.specs.Subterm.{Sub, itself, under, Subs, in_head, in_tail
 use Rattle.order_theory.specs.KnuthBendix.{weigh, weigh_all, KnuthGreater}
 use Rattle.pair_order.specs.LeastVariable.{least_variable}
 use Rattle.pair_order.proofs.LeastVariables.{IsBelow, IsFrom, least_skips, least_from}
-use Rattle.kbo_order.specs.declared.measure.Seen.{Seen}
-use Rattle.kbo_order.specs.Seen.{SeenGreater, SeesTerms}
+use Rattle.kbo_order.specs.Seen.{SeenGreater, View}
 use Rattle.kbo_order.specs.TooBig.{HasBigWeight, EitherIsBig}
 use Rattle.kbo_order.proofs.Knuth.{seen_of, greater_of, absent}
 
@@ -47,75 +45,61 @@ no_variable y t none = go (has_var y t) refl
     go true e = absurd (none e)
     go false e = no_occurrence y t e
 
-pub unset : (b : Bool) → not b ≡ true → b ≡ false
-unset true e = absurd cc
-unset false e = refl
-
-pub is_set : (b : Bool) → not b ≡ false → b ≡ true
-is_set true e = refl
-is_set false e = absurd cc
-
 module _ (w rank : ℕ → ℕ) (s t : Tree) where
-  -- whether variable 0 and the variables below a number all see that s is greater
-  pub record SeenBelow (from : ℕ) (greater : Bool) : Type 0 where
+  -- variable 0 and the variables below a number all see that s is greater
+  pub record SeenBelow (from : ℕ) : Type 0 where
     pub left_small : weigh w s < 2 ^ 63
     pub right_small : weigh w t < 2 ^ 63
-    pub seen : IsTrue greater → SeenGreater w rank 0 s t × ((x : ℕ) → x < from → SeenGreater w rank x s t)
-    pub all : ((x : ℕ) → SeenGreater w rank x s t) → IsTrue greater
+    pub first : SeenGreater w rank 0 s t
+    pub below : (x : ℕ) → x < from → SeenGreater w rank x s t
 
-  -- a variable that does not see it decides
-  pub unseen : (x : ℕ) (seen : Seen) → SeesTerms w rank x s t seen → seen.greater ≡ false → (EitherIsBig w s t → ⊥) × (IsTrue false ↔ KnuthGreater w rank s t)
-  unseen x seen is e = (
-    λ big. elim big [ inl b ↦ not_big w s is.left.2 b | inr b ↦ not_big w t is.right.2 b ],
-    (λ yes. absurd cc, λ g. let sees : IsTrue seen.greater = is.greater.1 (seen_of w rank x g) in absurd (cc (sees, e))),
+  -- variables that do not all see it decide
+  pub unseen : (from : ℕ) (b : Bool) → View w rank from s t b → b ≡ false → (EitherIsBig w s t → ⊥) × (IsTrue false ↔ KnuthGreater w rank s t)
+  unseen from b view e = (
+    λ big. elim big [ inl k ↦ not_big w s view.left_small k | inr k ↦ not_big w t view.right_small k ],
+    (λ yes. absurd cc, λ g. let sees : IsTrue b = view.greater.1 (λ i small. seen_of w rank (from + i) g) in absurd (cc (sees, e))),
   )
 
-  pub seen_first : (seen : Seen) → SeesTerms w rank 0 s t seen → SeenBelow 0 seen.greater
-  seen_first seen is = record {
-    left_small = is.left.2;
-    right_small = is.right.2;
-    seen = λ h. (is.greater.0 h, λ x below. absurd (omega arith));
-    all = λ h. is.greater.1 (h 0);
+  -- one of the variables that a walk takes
+  seen_at : (from : ℕ) (b : Bool) → View w rank from s t b → b ≡ true → (x : ℕ) → from ≤ x → x < from + 8 → SeenGreater w rank x s t
+  seen_at from b view all x le lt =
+      let at : from + (x - from) ≡ x = omega arith in
+      let small : x - from < 8 = omega arith in
+      subst (λ z. SeenGreater w rank z s t) at (view.greater.0 all (x - from) small)
+
+  pub seen_first : (b : Bool) → View w rank 0 s t b → b ≡ true → SeenBelow 8
+  seen_first b view all = record {
+    left_small = view.left_small;
+    right_small = view.right_small;
+    first = seen_at 0 b view all 0 (omega arith) (omega arith);
+    below = λ x below. seen_at 0 b view all x (omega arith) (omega (arith, below));
   }
 
-  both_true : (a b : Bool) → IsTrue (a && b) → IsTrue a × IsTrue b
-  both_true true true h = (refl, refl)
-  both_true true false h = absurd cc
-  both_true false b h = absurd cc
-
-  both_are : (a b : Bool) → IsTrue a → IsTrue b → IsTrue (a && b)
-  both_are true true h k = refl
-  both_are true false h k = k
-  both_are false b h k = h
-
-  module _ (from : ℕ) (greater : Bool) (h : SeenBelow from greater) (o : Option ℕ) (e : o ≡ least_variable from None t) where
-    between : (x : ℕ) → ((y : ℕ) → from ≤ y → y < x → occurrences y t ≡ 0) → IsTrue greater → (y : ℕ) → y < x → SeenGreater w rank y s t
-    between x none is y below = elim (cases_lt y from) [
-      | inl less ↦ (h.seen is).1 y less
-      | inr more ↦ absent w rank y 0 s t (none y more below) (h.seen is).0
+  module _ (from : ℕ) (h : SeenBelow from) (o : Option ℕ) (e : o ≡ least_variable from None t) where
+    between : (x : ℕ) → ((y : ℕ) → from ≤ y → y < x → occurrences y t ≡ 0) → (y : ℕ) → y < x → SeenGreater w rank y s t
+    between x none y below = elim (cases_lt y from) [
+      | inl less ↦ h.below y less
+      | inr more ↦ absent w rank y 0 s t (none y more below) h.first
     ]
 
-    pub seen_more : (x : ℕ) (seen : Seen) (both : Bool) → o ≡ Some x → SeesTerms w rank x s t seen → both ≡ (greater && seen.greater) → SeenBelow (x + 1) both
-    seen_more x seen both is sees is_both = record {
+    pub seen_more : (x : ℕ) (b : Bool) → o ≡ Some x → View w rank x s t b → b ≡ true → SeenBelow (x + 8)
+    seen_more x b is view all = record {
       left_small = h.left_small;
       right_small = h.right_small;
-      seen = λ k. let p = both_true greater seen.greater (sym is_both ∙ k) in (
-        (h.seen p.0).0,
-        λ y below. elim (cases_lt y x) [
-          | inl less ↦ between x none p.0 y less
-          | inr more ↦ let same : x ≡ y = omega arith in subst (λ z. SeenGreater w rank z s t) same (sees.greater.0 p.1)
-        ],
-      );
-      all = λ k. is_both ∙ both_are greater seen.greater (h.all k) (sees.greater.1 (k x));
+      first = h.first;
+      below = λ y below. elim (cases_lt y x) [
+        | inl less ↦ between x none y less
+        | inr more ↦ seen_at x b view all y more below
+      ];
     }
       where
         none : (y : ℕ) → from ≤ y → y < x → occurrences y t ≡ 0
         none y le below = no_variable y t (least_skips from t None y le (subst (IsBelow y) (sym is ∙ e) below)).1
 
-    pub seen_all : o ≡ None → (EitherIsBig w s t → ⊥) × (IsTrue greater ↔ KnuthGreater w rank s t)
+    pub seen_all : o ≡ None → (EitherIsBig w s t → ⊥) × (IsTrue true ↔ KnuthGreater w rank s t)
     seen_all is = (
       λ big. elim big [ inl b ↦ not_big w s h.left_small b | inr b ↦ not_big w t h.right_small b ],
-      (λ k. greater_of w rank s t (λ x. between (x + 1) (none x) k x (omega arith)), λ g. h.all (λ x. seen_of w rank x g)),
+      (λ k. greater_of w rank s t (λ x. between (x + 1) (none x) x (omega arith)), λ g. refl),
     )
       where
         none : (x y : ℕ) → from ≤ y → y < x + 1 → occurrences y t ≡ 0

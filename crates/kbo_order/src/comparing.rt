@@ -1,12 +1,12 @@
-ghost use Rattle.std.specs.Prelude.{◌≡◌, ◌↔◌, ◌&&◌, ℕ, IsTrue, if◌then◌else◌};
+ghost use Rattle.std.specs.Prelude.{◌≡◌, ◌↔◌, ℕ, length, IfOk, IsTrue};
 ghost use Rattle.trs_core.specs.View.{tree};
 ghost use Rattle.order_theory.specs.KnuthBendix.{KnuthGreater, KnuthWeak, Tower};
 ghost use Rattle.pair_order.specs.Compared.{IsAnswer};
 ghost use Rattle.kbo_order.specs.TooBig.{EitherIsBig};
-ghost use Rattle.kbo_order.specs.Seen.{IsMeasure, Sees, AreApart, Decides};
+ghost use Rattle.kbo_order.specs.Seen.{Sees, IsView, AreNone, AreCounted, IsWeight, AreWeights, AreApart, Decides};
 
 use crate::Weighting;
-use crate::measure::{Measure, Seen};
+use crate::measure::{Seen, WINDOW, Weights, add_at, plus};
 use pair_order::{TooBig, least_variable};
 use trs_core::Term;
 
@@ -28,75 +28,102 @@ pub fn is_strict<W: Weighting>(order: &W, s: &Term, t: &Term) -> Result<bool, To
     is_greater(order, s, t)
 }
 
-/// Whether the first term is greater. Each variable that occurs in the second sees the terms in one
-/// walk, so the cost is linear for each; the first that sees that it is not greater is the last.
+/// Whether the first term is greater. Some variables that occur in the second see the terms in one
+/// walk; the first that see that it is not greater are the last.
 fn is_greater<W: Weighting>(order: &W, s: &Term, t: &Term) -> Result<bool, TooBig>
     ensures { IsAnswer (EitherIsBig (W.weights order.now) (tree s.now) (tree t.now))
         (KnuthGreater (W.weights order.now) (W.ranks order.now)
         (tree s.now) (tree t.now)) result }
 {
-    let first = see(order, 0, s, t)?;
-    if !first.greater {
+    let first = view(order, 0, s, t)?;
+    if !first {
         return Ok(false);
     }
-    let mut from: u64 = 0;
+    let mut from: u64 = WINDOW as u64;
     while let Some(x) = least_variable(t, from, None) {
-        let seen = see(order, x, s, t)?;
-        if !seen.greater {
+        let next = view(order, x, s, t)?;
+        if !next {
             return Ok(false);
         }
-        from = u64::from(x) + 1;
+        from = u64::from(x) + WINDOW as u64;
     }
     Ok(true)
 }
 
-fn see<W: Weighting>(order: &W, x: u32, s: &Term, t: &Term) -> Result<Seen, TooBig>
-    ensures { Sees (W.weights order.now) (W.ranks order.now) x
+/// Whether each variable from a number on, of those that one walk takes, sees that the first term is
+/// greater.
+fn view<W: Weighting>(order: &W, from: u32, s: &Term, t: &Term) -> Result<bool, TooBig>
+    ensures { IsView (W.weights order.now) (W.ranks order.now) from
         (tree s.now) (tree t.now) result }
 {
+    let mut left = [0; WINDOW];
+    let mut right = [0; WINDOW];
+    let seen = see(order, from, s, t, &mut left, &mut right)?;
+    Ok(seen.greater)
+}
+
+/// What the variables see. Of arguments before the first that differ, no occurrences are counted.
+fn see<W: Weighting>(
+    order: &W,
+    from: u32,
+    s: &Term,
+    t: &Term,
+    left: &mut [u64; WINDOW],
+    right: &mut [u64; WINDOW],
+) -> Result<Seen, TooBig>
+    requires none_left { AreNone left.old }
+    requires none_right { AreNone right.old }
+    ensures left_length { length left.new ≡ 8 }
+    ensures right_length { length right.new ≡ 8 }
+    ensures seen { Sees (W.weights order.now) (W.ranks order.now) from
+        (tree s.now) (tree t.now) left.new right.new result }
+{
     match s {
-        Term::Var(_) => see_apart(order, x, s, t),
+        Term::Var(_) => see_apart(order, from, s, t, left, right),
         Term::App(f, ss) => match t {
-            Term::Var(_) => see_apart(order, x, s, t),
+            Term::Var(_) => see_apart(order, from, s, t, left, right),
             Term::App(g, ts) => {
                 if f != g {
-                    return see_apart(order, x, s, t);
+                    return see_apart(order, from, s, t, left, right);
                 }
                 if ss.items.len() != ts.items.len() {
-                    return see_apart(order, x, s, t);
+                    return see_apart(order, from, s, t, left, right);
                 }
                 let mut seen = Seen {
-                    left: Measure {
-                        weight: 0,
-                        count: 0,
-                    },
-                    right: Measure {
-                        weight: 0,
-                        count: 0,
-                    },
+                    weights: Weights { left: 0, right: 0 },
                     same: true,
                     greater: false,
                 };
                 for (i, a) in ss.items.iter().enumerate() {
-                    let next = see(order, x, a, &ts.items[i])?;
+                    let b = &ts.items[i];
+                    if seen.same {
+                        let next = see(order, from, a, b, left, right)?;
+                        let sums = seen.weights.plus(next.weights)?;
+                        seen = Seen {
+                            weights: sums,
+                            same: next.same,
+                            greater: next.greater,
+                        };
+                        continue;
+                    }
+                    let more = measure_both(order, from, a, b, left, right)?;
+                    let sums = seen.weights.plus(more)?;
                     seen = Seen {
-                        left: seen.left.plus(next.left)?,
-                        right: seen.right.plus(next.right)?,
-                        same: both(seen.same, next.same),
-                        greater: either(seen.same, next.greater, seen.greater),
+                        weights: sums,
+                        same: false,
+                        greater: seen.greater,
                     };
                 }
-                let root = Measure {
-                    weight: order.weight(*f),
-                    count: 0,
-                };
-                let left = seen.left.plus(root)?;
-                let right = seen.right.plus(root)?;
+                let root = order.weight(*f);
+                let weights = seen.weights.plus(Weights {
+                    left: root,
+                    right: root,
+                })?;
+                let greater = weights.are_above(seen.greater, left, right);
                 Ok(Seen {
-                    left,
-                    right,
+                    weights,
                     same: seen.same,
-                    greater: left.is_above(right, seen.greater),
+                    greater,
                 })
             }
         },
@@ -104,42 +131,86 @@ fn see<W: Weighting>(order: &W, x: u32, s: &Term, t: &Term) -> Result<Seen, TooB
 }
 
 /// The same of terms that are no applications of one symbol to as many arguments.
-fn see_apart<W: Weighting>(order: &W, x: u32, s: &Term, t: &Term) -> Result<Seen, TooBig>
-    requires { AreApart (tree s.now) (tree t.now) }
-    ensures { Sees (W.weights order.now) (W.ranks order.now) x
-        (tree s.now) (tree t.now) result }
+fn see_apart<W: Weighting>(
+    order: &W,
+    from: u32,
+    s: &Term,
+    t: &Term,
+    left: &mut [u64; WINDOW],
+    right: &mut [u64; WINDOW],
+) -> Result<Seen, TooBig>
+    requires apart { AreApart (tree s.now) (tree t.now) }
+    requires none_left { AreNone left.old }
+    requires none_right { AreNone right.old }
+    ensures left_length { length left.new ≡ 8 }
+    ensures right_length { length right.new ≡ 8 }
+    ensures seen { Sees (W.weights order.now) (W.ranks order.now) from
+        (tree s.now) (tree t.now) left.new right.new result }
 {
-    let left = measure(order, x, s)?;
-    let right = measure(order, x, t)?;
+    let same = are_one_variable(s, t);
+    if same {
+        return Ok(Seen {
+            weights: Weights { left: 1, right: 1 },
+            same: true,
+            greater: false,
+        });
+    }
+    let weights = measure_both(order, from, s, t, left, right)?;
+    let rest = decides(order, s, t);
+    let greater = weights.are_above(rest, left, right);
     Ok(Seen {
-        left,
-        right,
-        same: are_one_variable(s, t),
-        greater: left.is_above(right, decides(order, s, t)),
+        weights,
+        same: false,
+        greater,
     })
 }
 
-fn measure<W: Weighting>(order: &W, x: u32, t: &Term) -> Result<Measure, TooBig>
-    ensures { IsMeasure (W.weights order.now) x (tree t.now) result }
+/// The weights of two terms; to each count the occurrences of its variable are added.
+fn measure_both<W: Weighting>(
+    order: &W,
+    from: u32,
+    s: &Term,
+    t: &Term,
+    left: &mut [u64; WINDOW],
+    right: &mut [u64; WINDOW],
+) -> Result<Weights, TooBig>
+    ensures left_length { length left.new ≡ 8 }
+    ensures right_length { length right.new ≡ 8 }
+    ensures weights { AreWeights (W.weights order.now) (tree s.now) (tree t.now) result }
+    ensures left_counts { IfOk result (λ _. AreCounted from (tree s.now) left.old left.new) }
+    ensures right_counts { IfOk result (λ _. AreCounted from (tree t.now) right.old right.new) }
+{
+    let left_weight = measure(order, from, s, left)?;
+    let right_weight = measure(order, from, t, right)?;
+    Ok(Weights {
+        left: left_weight,
+        right: right_weight,
+    })
+}
+
+/// The term's weight; to each count the occurrences of its variable are added.
+fn measure<W: Weighting>(
+    order: &W,
+    from: u32,
+    t: &Term,
+    counts: &mut [u64; WINDOW],
+) -> Result<u64, TooBig>
+    ensures length { length counts.new ≡ 8 }
+    ensures weight { IsWeight (W.weights order.now) (tree t.now) result }
+    ensures counts { IfOk result (λ _. AreCounted from (tree t.now) counts.old counts.new) }
 {
     match t {
-        Term::Var(y) => Ok(Measure {
-            weight: 1,
-            count: once_if(*y == x),
-        }),
+        Term::Var(x) => {
+            add_at(counts, from, *x);
+            Ok(1)
+        }
         Term::App(f, args) => {
-            let mut sum = Measure {
-                weight: 0,
-                count: 0,
-            };
+            let mut sum = 0;
             for arg in &args.items {
-                let next = measure(order, x, arg)?;
-                sum = sum.plus(next)?;
+                let next = measure(order, from, arg, counts)?;
+                sum = plus(sum, next)?;
             }
-            sum.plus(Measure {
-                weight: order.weight(*f),
-                count: 0,
-            })
+            plus(sum, order.weight(*f))
         }
     }
 }
@@ -191,22 +262,4 @@ fn are_one_variable(s: &Term, t: &Term) -> bool
         },
         Term::App(_, _) => false,
     }
-}
-
-fn both(a: bool, b: bool) -> bool
-    ensures { result ≡ (a && b) }
-{
-    a && b
-}
-
-fn either(first: bool, a: bool, b: bool) -> bool
-    ensures { result ≡ (if first then a else b) }
-{
-    if first { a } else { b }
-}
-
-fn once_if(yes: bool) -> u64
-    ensures { result ≡ (if yes then 1 else 0) }
-{
-    u64::from(yes)
 }

@@ -1,55 +1,92 @@
-ghost use Rattle.std.specs.Prelude.{◌≤◌, ◌↔◌, IsTrue};
-ghost use Rattle.kbo_order.specs.Seen.{IsSum, Above};
+ghost use Rattle.std.specs.Prelude.{◌≡◌, ◌↔◌, ◌<◌, ◌+◌, ◌-◌, ◌^◌, ℕ, length, min, slice_index, IsTrue, ◌==◌, if◌then◌else◌};
+ghost use Rattle.kbo_order.specs.Seen.{IsSum, AreSums, Outweighs, AreAtLeast, IsAbove};
 
 use crate::MOST;
 use pair_order::TooBig;
 
-/// A term's weight, and how often some variable occurs in it.
+/// How many variables one walk takes.
+pub(crate) const WINDOW: usize = 8;
+
+/// The weights of two terms.
 #[derive(Clone, Copy)]
-pub(crate) struct Measure {
-    pub weight: u64,
-    pub count: u64,
+pub(crate) struct Weights {
+    pub left: u64,
+    pub right: u64,
 }
 
-/// What one variable sees of two terms: their measures, whether they are the same, and whether the
-/// first is greater, if only the occurrences of this variable count.
+/// What some variables see of two terms: their weights, whether they are the same, and whether the
+/// first is greater, if only the occurrences of these variables count.
 #[derive(Clone, Copy)]
 pub(crate) struct Seen {
-    pub left: Measure,
-    pub right: Measure,
+    pub weights: Weights,
     pub same: bool,
     pub greater: bool,
 }
 
-impl Measure {
-    /// The sum of two measures. A variable weighs 1, so it doesn't occur more often than the weight.
-    pub(crate) fn plus(self, other: Measure) -> Result<Measure, TooBig>
-        requires first { self.count ≤ self.weight }
-        requires second { other.count ≤ other.weight }
-        ensures { IsSum self other result }
+impl Weights {
+    pub(crate) fn plus(self, other: Weights) -> Result<Weights, TooBig>
+        ensures { AreSums self other result }
     {
-        let weight = u128::from(self.weight) + u128::from(other.weight);
-        if weight > u128::from(MOST) {
-            return Err(TooBig);
-        }
-        Ok(Measure {
-            weight: weight as u64,
-            count: self.count + other.count,
-        })
+        let left = plus(self.left, other.left)?;
+        let right = plus(self.right, other.right)?;
+        Ok(Weights { left, right })
     }
 
-    /// Whether a term of this measure is greater than one of the other, where `rest` decides between
-    /// those of one weight.
-    pub(crate) fn is_above(self, other: Measure, rest: bool) -> bool
+    /// Whether a term of the left weight and with these counts is greater than the other, where
+    /// `rest` decides between those of one weight.
+    pub(crate) fn are_above(self, rest: bool, left: &[u64; WINDOW], right: &[u64; WINDOW]) -> bool
         ensures { IsTrue result
-            ↔ Above self.weight self.count other.weight other.count (IsTrue rest) }
+            ↔ IsAbove self.left self.right (IsTrue rest) left.now right.now }
     {
-        if self.count < other.count {
+        if !outweighs(self.left, self.right, rest) {
             return false;
         }
-        if self.weight == other.weight {
-            return rest;
-        }
-        other.weight < self.weight
+        are_at_least(left, right)
     }
+}
+
+/// The sum of two weights.
+pub(crate) fn plus(a: u64, b: u64) -> Result<u64, TooBig>
+    ensures { IsSum a b result }
+{
+    let sum = u128::from(a) + u128::from(b);
+    if sum > u128::from(MOST) {
+        return Err(TooBig);
+    }
+    Ok(sum as u64)
+}
+
+/// Counts an occurrence of the variable, if it is one of those from a number on.
+pub(crate) fn add_at(counts: &mut [u64; WINDOW], from: u32, x: u32)
+    ensures length { length counts.new ≡ 8 }
+    ensures added { (i : ℕ) → i < 8 → min (slice_index counts.new i) (2 ^ 64 - 1)
+        ≡ min (slice_index counts.old i + (if x == from + i then 1 else 0)) (2 ^ 64 - 1) }
+{
+    if x < from {
+        return;
+    }
+    let place = (x - from) as usize;
+    if place < WINDOW {
+        counts[place] = counts[place].saturating_add(1);
+    }
+}
+
+fn outweighs(weight: u64, other: u64, rest: bool) -> bool
+    ensures { IsTrue result ↔ Outweighs weight other (IsTrue rest) }
+{
+    if weight == other {
+        return rest;
+    }
+    other < weight
+}
+
+fn are_at_least(left: &[u64; WINDOW], right: &[u64; WINDOW]) -> bool
+    ensures { IsTrue result ↔ AreAtLeast left.now right.now }
+{
+    for i in 0..WINDOW {
+        if left[i] < right[i] {
+            return false;
+        }
+    }
+    true
 }

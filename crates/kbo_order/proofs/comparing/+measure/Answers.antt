@@ -1,17 +1,23 @@
-use Rattle.std.proofs.Common.{◌+◌, subst, drop}
+use Rattle.std.proofs.Common.{rules, ◌+◌, subst, drop}
 use Rattle.trs_defs.proofs.ArgumentLists.{cell}
 use Rattle.trs_core.specs.View.{tree, forest}
-use Rattle.kbo_order.proofs.Sums.{Left, next, counted_next}
+use Rattle.kbo_order.proofs.Sums.{Left, start, next, Remains, all_remain, more_counted}
 use Rattle.kbo_order.proofs.comparing.+measure.Goals as goal
 
-pub plus-requires-clause-second : goal.plus-requires-clause-second
-plus-requires-clause-second g t c =
-    counted_next (g.W.Weighting.weights c.args.order.now) c.args.x (tree c.arg-item.result) c.in_ok-next-in-App.next c.in_ok-next-in-App.ensures
+pub loop-arg-init : goal.loop-arg-init
+loop-arg-init g t c =
+    let us = forest c.deref-arg-items.result.now in
+    (search rules, start (g.W.Weighting.weights c.args.order.now) us, all_remain c.args.from us c.args.counts.now)
 
 pub loop-arg-preserved : goal.loop-arg-preserved
 loop-arg-preserved g t c =
+    let w = g.W.Weighting.weights c.args.order.now in
     let items = c.deref-arg-items.result.now in
-    next (g.W.Weighting.weights c.args.order.now) c.args.x (forest items) (tree c.arg-item.result) (forest (drop (c.loop-arg.arg-index + 1) items)) c.loop-arg.sum
-    (subst (λ us. Left (g.W.Weighting.weights c.args.order.now) c.args.x (forest items) (forest us) c.loop-arg.sum)
-    (cell items c.loop-arg.arg-index c.arg-item.result c.loop-arg-test.true c.arg-item.is) c.loop-arg.invariant)
-    c.in_ok-next-in-App.next c.in_ok-sum-in-App.sum c.in_ok-next-in-App.ensures c.in_ok-sum-in-App.ensures
+    let rest = forest (drop (c.loop-arg.arg-index + 1) items) in
+    let here = cell items c.loop-arg.arg-index c.arg-item.result c.loop-arg-test.true c.arg-item.is in
+    let before = subst (λ us. Left w (forest items) (forest us) c.loop-arg.sum × Remains c.args.from (forest items) (forest us) c.args.counts.now c.loop-arg.counts) here
+    (c.loop-arg.invariant.1, c.loop-arg.invariant.2) in (
+      c.in_ok-next-in-App.ensures.length,
+      next w (forest items) (tree c.arg-item.result) rest c.loop-arg.sum before.0 c.in_ok-next-in-App.next c.in_ok-sum-in-App.sum c.in_ok-next-in-App.ensures.weight c.in_ok-sum-in-App.ensures,
+      more_counted c.args.from (forest items) (tree c.arg-item.result) rest c.args.counts.now c.loop-arg.counts c.measure.new.counts before.1 c.in_ok-next-in-App.ensures.counts,
+    )
