@@ -8,8 +8,8 @@ use Rattle.std.proofs.lemmas.Result.{err_from_is_err_and}
 use Rattle.rewrite_core.specs.Check.{Refuses, stops, goes_on, missing, there, holds, lacks}
 use Rattle.rewrite_core.specs.PathCheck.{Runs}
 use Rattle.rewrite_core.proofs.Answering.{refused_first}
-use Rattle.rewrite_core.proofs.loops.returns_in_pool.Goals.{In_ok-end}
-use Rattle.rewrite_core.proofs.loops.returns_in_pool.Goals as goal
+use Rattle.rewrite_core.proofs.loops.returns.Goals.{In_ok-end}
+use Rattle.rewrite_core.proofs.loops.returns.Goals as goal
 
 pub returns-in_err-end : goal.returns-in_err-end
 returns-in_err-end c =
