@@ -24,9 +24,10 @@ instance-requires t c =
     let args = c.deref-arg-items.result.now in
     let m = c.args.found.now in
     let k = c.loop-arg.arg-index in
-    let smaller = next_smaller tree args k c.arg-item.result c.loop-arg-test.true c.arg-item.is (tree c.args.t.now) c.in-App.f (node t a) in
-    (omega (arith, smaller, c.decreases),
-    call_ids c.args.self.now c.loop-arg.self m args c.loop-arg.ids.items k c.requires c.loop-arg.invariant c.arg-item.result c.loop-arg-test.true c.arg-item.is)
+    let smaller = next_smaller tree args k c.arg-item.result c.loop-arg-test.true c.arg-item.is (tree c.args.t.now) c.in-App.f (node t a) in (
+      omega (arith, smaller, c.decreases),
+      call_ids c.args.self.now c.loop-arg.self m args c.loop-arg.ids.items k c.requires c.loop-arg.invariant c.arg-item.result c.loop-arg-test.true c.arg-item.is,
+    )
 
 few_after : (t : ℕ) (c : After-deref-arg-items t) → (now next : List Tree) (ids : List ℕ) (k : ℕ) (arg : Term) → AreMade (value_in c.args.self.now c.args.found.now) c.args.self.now now c.deref-arg-items.result.now ids k
     → k < length c.deref-arg-items.result.now → arg ≡ get_or c.deref-arg-items.result.now k arg
