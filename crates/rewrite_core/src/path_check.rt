@@ -1,4 +1,4 @@
-ghost use Rattle.std.specs.Prelude.{◌≡◌, ◌<◌, ◌≤◌, ◌+◌, length, IfOk};
+ghost use Rattle.std.specs.Prelude.{◌≡◌, ◌<◌, length, IfOk};
 ghost use Rattle.trs_core.specs.View.{tree};
 ghost use Rattle.term_pool.specs.Pooled.{tree_at};
 ghost use Rattle.rewrite_core.specs.Check.{AnswersBy};
@@ -6,7 +6,7 @@ ghost use Rattle.rewrite_core.specs.PathCheck.{Runs, number_of_fault, path_refus
 
 use crate::{CheckFault, PathFault, PathStep, StepFault, StepRefused, run_path};
 use std::alloc::Global;
-use term_pool::{MOST_ADDED, MOST_IDS, Pool};
+use term_pool::Pool;
 use trs_core::{Term, Trs};
 
 /// What a check answers where a path is not followed: path number `path` of item number `item`,
@@ -49,8 +49,7 @@ pub(crate) fn end_in_pool(
     item: u64,
     number: u64,
 ) -> Result<u32, CheckFault>
-    requires there { start < length pool.old }
-    requires room { length pool.old + MOST_ADDED ≤ MOST_IDS }
+    requires { start < length pool.old }
     ensures end { AnswersBy (tree_at pool.new)
         (Runs trs.now.rules (tree_at pool.old start) path.now item number) result }
     ensures there { IfOk result (λ end. end < length pool.new) }

@@ -1,29 +1,23 @@
-ghost use Rattle.std.specs.Prelude.{◌≡◌, ◌<◌, ◌≤◌, ◌+◌, ◌*◌, All, length, IfOk};
+ghost use Rattle.std.specs.Prelude.{◌≡◌, ◌<◌, All, length, IfOk};
 ghost use Rattle.trs_core.specs.View.{tree};
 ghost use Rattle.trs_defs.specs.Member.{In};
 ghost use Rattle.trs_defs.specs.Path.{Follows};
-ghost use Rattle.trs_defs.specs.Size.{size_of};
 ghost use Rattle.term_pool.specs.ListedIds.{listed_at};
 ghost use Rattle.term_pool.specs.Redexes.{IsNarrow};
 ghost use Rattle.term_pool.specs.Listed.{Listed};
 ghost use Rattle.term_pool.specs.Reach.{IsReachList};
 
-use crate::paths::MOST_NODES;
-use crate::reaching_trees::reach_on_trees;
 use crate::{PathStep, Reached};
 use std::alloc::Global;
-use term_pool::{MOST_IDS, Pool};
+use term_pool::Pool;
 use trs_core::{OutOfMemory, Term, Trs};
-
-/// The most ids that a search may add to a pool that has a term of `MOST_NODES` nodes.
-const MOST_REACHED: u64 = MOST_IDS as u64 - MOST_NODES;
 
 /// The terms that steps lead to from `t`, each once with the first path that leads to it. The list
 /// begins with `t`; for each of its terms in order that is fewer than `depth` steps away, the
 /// reducts follow in the order of the redexes, if they have at most `size` nodes and keep the
-/// limits. It ends at `count` terms (at one, where `count` is 0). Where `t` has more than 65,536
-/// nodes, or the list may have more nodes in all than a pool takes, each step costs what its term
-/// has nodes. (Baader and Nipkow, section 2.1.)
+/// limits. It ends at `count` terms (at one, where `count` is 0). Want of memory also says that
+/// there are more different subterms than a pool takes, which are 4,294,967,295.
+/// (Baader and Nipkow, section 2.1.)
 pub fn reach(
     alloc: Global,
     trs: &Trs,
@@ -33,31 +27,6 @@ pub fn reach(
     size: u64,
 ) -> Result<Vec<Reached>, OutOfMemory>
     requires { IsNarrow (tree t.now) }
-    ensures list { IfOk result (λ found.
-        IsReachList trs.now.rules (tree t.now) depth count size found.items) }
-    ensures follow { IfOk result (λ found. (e : Listed) → In e found.items
-        → Follows trs.now.rules e.path (tree t.now) e.term) }
-{
-    let most = size.min(MOST_NODES);
-    if t.size() <= MOST_NODES && u64::from(count) * most <= MOST_REACHED {
-        reach_in_pool(alloc, trs, t, depth, count, most)
-    } else {
-        reach_on_trees(alloc, trs, t, depth, count, size)
-    }
-}
-
-/// The same list, where a pool takes all its terms.
-fn reach_in_pool(
-    alloc: Global,
-    trs: &Trs,
-    t: &Term,
-    depth: u32,
-    count: u32,
-    size: u64,
-) -> Result<Vec<Reached>, OutOfMemory>
-    requires narrow { IsNarrow (tree t.now) }
-    requires small { size_of (tree t.now) ≤ 65536 }
-    requires room { 65536 + count * size ≤ MOST_IDS }
     ensures list { IfOk result (λ found.
         IsReachList trs.now.rules (tree t.now) depth count size found.items) }
     ensures follow { IfOk result (λ found. (e : Listed) → In e found.items

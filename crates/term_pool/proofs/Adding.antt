@@ -1,5 +1,5 @@
 -- A node that is looked up or added.
-use Rattle.std.proofs.Common.{◌≡◌, All, ℕ, ◌+◌, ◌<◌, ◌≤◌, ◌^◌, Bool, true, false, ◌⊎◌, inl, inr, List, [], ◌∷◌, ◌++◌, map, length, Some, is_some, not, refl, ap, sym, ◌∙◌, arith, slice_get, get_or, length-append, cond, if◌then◌else◌, zero, suc}
+use Rattle.std.proofs.Common.{◌≡◌, All, ℕ, ◌+◌, ◌-◌, ◌<◌, ◌≤◌, ◌^◌, min, Bool, true, false, ◌⊎◌, inl, inr, List, [], ◌∷◌, ◌++◌, map, length, Some, is_some, not, refl, ap, sym, ◌∙◌, arith, slice_get, get_or, length-append, cond, if◌then◌else◌, zero, suc}
 use Rattle.std.proofs.lemmas.Option.{same_Some, slice_get_within, slice_get-get_or}
 use Rattle.std.proofs.lemmas.List.Elements.{All-head, All-tail, All-weaker}
 use Rattle.std.specs.List.{position_or_len}
@@ -128,7 +128,7 @@ module _ (eq : Node → Node → Bool) (laws : IsNodeEquality eq) where
       rw root (laws.symbols g a b ids)
 
   module _ (es : List (Node × Measure)) (view : List Tree) (pool : IsPool es) (is : pool_trees es ≡ view) (n : Node) where
-    module _ (m : Measure) (below : StandsBelow (length view) n) (measure : IsMeasure (node_tree view n) m) (small : size_of (node_tree view n) ≤ 65536)
+    module _ (m : Measure) (below : StandsBelow (length view) n) (measure : IsMeasure (node_tree view n) m)
         (room : length view + 1 < 2 ^ 32) (none : is_some (lookup (eq n) es) ≡ false) where
       distinct_view : AreDistinct view
       distinct_view = rw (← is) pool.distinct
@@ -191,18 +191,11 @@ module _ (eq : Node → Node → Bool) (laws : IsNodeEquality eq) where
         ]
       ]
 
-      more_small : (i : ℕ) (t : Tree) → StandsFor (pool_trees (es ++ (n, m) ∷ [])) i t → size_of t ≤ 65536
-      more_small i t s = elim (more_item i t s) as (λ _. size_of t ≤ 65536) [
-        | inl h ↦ pool.small.size i t (rw is h)
-        | inr h ↦ rw h.1 small
-      ]
-
       added : IsPool (es ++ (n, m) ∷ [])
       added = record {
         below = more_below;
         measured = more_measured;
         distinct = record { same = more_distinct };
-        small = record { size = more_small };
         few = omega (arith, room, same_length es view pool is, length-append es ((n, m) ∷ []));
       }
 
@@ -220,7 +213,7 @@ module _ (eq : Node → Node → Bool) (laws : IsNodeEquality eq) where
           let read : StandsFor view i (node_tree view e.0) = reads es view pool is i e (sym at) in
           let old : IsMeasure (node_tree view e.0) e.1 = pool.measured i e (node_tree view e.0) at (rw is read) in
           let tree : node_tree view n ≡ node_tree view e.0 = laws.sound view n e.0 same in
-          same_measures e.1 m (old.size ∙ sym (measure.size ∙ ap size_of tree)) (old.depth ∙ sym (measure.depth ∙ ap depth_of tree))
+          same_measures e.1 m (old.size ∙ sym (measure.size ∙ ap (λ t. min (size_of t) (2 ^ 32 - 1)) tree)) (old.depth ∙ sym (measure.depth ∙ ap (λ t. min (depth_of t) (2 ^ 32 - 1)) tree))
 
       old_entry : is_some (lookup (eq n) es) ≡ true → IsEntered view n (position_or_len (eq n) (keys_of es)) (insert_entry eq es n m)
       old_entry there =
@@ -234,10 +227,10 @@ module _ (eq : Node → Node → Bool) (laws : IsNodeEquality eq) where
             few = rw is (omega arith);
           })
 
-      pub entered : StandsBelow (length view) n → size_of (node_tree view n) ≤ 65536 → length view + 1 < 2 ^ 32
+      pub entered : StandsBelow (length view) n → length view + 1 < 2 ^ 32
           → IsEntered view n (position_or_len (eq n) (keys_of es)) (insert_entry eq es n m)
-      entered below small room = go (is_some (lookup (eq n) es)) refl
+      entered below room = go (is_some (lookup (eq n) es)) refl
         where
           go : (b : Bool) → is_some (lookup (eq n) es) ≡ b → IsEntered view n (position_or_len (eq n) (keys_of es)) (insert_entry eq es n m)
           go true there = old_entry there
-          go false none = new_entry m below measure small room none
+          go false none = new_entry m below measure room none

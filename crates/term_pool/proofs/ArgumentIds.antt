@@ -1,5 +1,5 @@
 -- The arguments of a term as they get their ids, and terms as they are read.
-use Rattle.std.proofs.Common.{◌≡◌, All, ℕ, ◌+◌, ◌<◌, ◌≤◌, ◌^◌, List, [], ◌∷◌, ◌++◌, map, take, drop, length, refl, ap, sym, ◌∙◌, zero, suc, arith, get_or}
+use Rattle.std.proofs.Common.{◌≡◌, All, ℕ, ◌+◌, ◌<◌, ◌≤◌, List, [], ◌∷◌, ◌++◌, map, take, drop, length, refl, ap, sym, ◌∙◌, zero, suc, arith, get_or}
 use Rattle.std.proofs.lemmas.List.{take_more, take_all, map-append}
 use Rattle.std.proofs.lemmas.List.Elements.{All-nil, All-push}
 use Rattle.trs_defs.specs.Tree.{Tree, app, trees}
@@ -44,9 +44,6 @@ module _ (value : Term → Tree) (args : List Term) (k : ℕ) (arg : Term) (with
     next_smaller = omega (arith, size_whole, nodes_left value args k, next_nodes)
 
     module _ (start now : List Tree) (ids : List ℕ) (so_far : AreMade value start now args ids k) where
-      pub next_room : length start + size_of t < 2 ^ 32 → length now + size_of (value arg) < 2 ^ 32
-      next_room h = let few = so_far.few in omega (arith, size_whole, few, next_nodes, h)
-
       pub next_few : (next : List Tree) → length next ≤ length now + size_of (value arg) → length next ≤ length start + size_of t
       next_few next h = let few = so_far.few in omega (arith, size_whole, few, next_nodes, h)
 
@@ -76,9 +73,6 @@ module _ (value : Term → Tree) (start now : List Tree) (args : List Term) (ids
   whole_made =
       let terms : map (tree_at now) ids ≡ map value args = so_far.terms ∙ ap (map value) (take_all k args all) in
       ap (λ ts. app f (trees ts)) terms ∙ sym whole
-
-  pub whole_small : size_of t ≤ 65536 → size_of (app f (trees (map (tree_at now) ids))) ≤ 65536
-  whole_small h = let same : size_of (app f (trees (map (tree_at now) ids))) ≡ size_of t = ap size_of whole_made in omega (arith, same, h)
 
   pub whole_few : length now + 1 ≤ length start + size_of t
   whole_few =

@@ -1,13 +1,14 @@
 -- A term with an instance at a position, which is made in a pool that has grown.
-use Rattle.std.proofs.Common.{◌≡◌, ℕ, ◌+◌, ◌<◌, ◌≤◌, ◌^◌, List, [], ◌∷◌, length, Some, slice_get, ap, sym, ◌∙◌, zero, suc, arith}
+use Rattle.std.proofs.Common.{◌≡◌, ℕ, ◌+◌, ◌<◌, ◌≤◌, ◌⊎◌, inl, inr, min, List, [], ◌∷◌, length, Some, slice_get, ap, sym, ◌∙◌, zero, suc, arith}
 use Rattle.std.proofs.lemmas.Option.{same_Some}
 use Rattle.trs_defs.specs.Tree.{Tree, Trees, var, app, nil, cons, items}
 use Rattle.trs_defs.specs.Size.{size_of, size_of_all, depth_of}
-use Rattle.trs_defs.specs.Position.{argument_at, replaced_at}
-use Rattle.trs_defs.proofs.Limits.{limits_kept, limits_passed_by_depth}
+use Rattle.trs_defs.specs.Position.{argument_at, subterm_at, replaced_at}
+use Rattle.trs_defs.proofs.Contexts.{replaced_somehow}
+use Rattle.trs_defs.proofs.Limits.{limits_kept, limits_passed_by_size, limits_passed_by_depth}
 use Rattle.trs_defs.proofs.Positions.{replaced_inside}
 use Rattle.term_pool.specs.Pooled.{StandsFor, Extends, tree_at}
-use Rattle.term_pool.specs.Placing.{HasPut, HasRoom, IsPlaced, IsTooLargePut}
+use Rattle.term_pool.specs.Placing.{HasPut, IsPlaced, IsTooLargePut}
 use Rattle.term_pool.proofs.PoolTrees.{stands_at}
 use Rattle.term_pool.proofs.PoolPlaces.{argument_set}
 use Rattle.term_pool.proofs.Extending.{same_tree_at}
@@ -31,43 +32,39 @@ size_way (place ∷ p) t new u e =
     let there : argument_at u place ≡ Some r.changed = ap (λ z. argument_at z place) (sym r.whole) ∙ argument_set t place r.argument r.changed r.there in
     omega (arith, rest, argument_below u place r.changed there)
 
-pub instance_room : (a n : ℕ) → a ≤ 4294836224 → n ≤ 65536 → a + n < 2 ^ 32
-instance_room a n h k = omega arith
-
 -- the instance has an id in a pool that has grown
-module _ (pool next : List Tree) (p : List ℕ) (id by : ℕ) (value : Tree) (within : id < length pool) (extends : Extends pool next) (stand : StandsFor next by value)
-    (room : HasRoom p (tree_at pool id) value) where
-  next_put : replaced_at p (tree_at next id) (tree_at next by) ≡ Some room.result
+module _ (pool next : List Tree) (p : List ℕ) (id by : ℕ) (part value : Tree) (within : id < length pool) (extends : Extends pool next) (stand : StandsFor next by value)
+    (there : subterm_at p (tree_at pool id) ≡ Some part) where
+  whole : (u : Tree) × (replaced_at p (tree_at pool id) value ≡ Some u)
+  whole = replaced_somehow p (tree_at pool id) part value there
+
+  next_put : replaced_at p (tree_at next id) (tree_at next by) ≡ Some whole.0
   next_put =
       let old : tree_at next id ≡ tree_at pool id = same_tree_at pool next extends id within in
       let new : tree_at next by ≡ value = stands_at next by value stand in
-      rw (old, new) room.put
+      rw (old, new) whole.1
 
   pub has_put : HasPut next p id by
-  has_put = record { result = room.result; put = next_put; small = room.nodes }
+  has_put = record { result = whole.0; put = next_put }
 
-  pub put_room : length pool ≤ 4294836224 → length next ≤ length pool + size_of value → length next + length p + 1 < 2 ^ 32
-  put_room h l = let size = room.part in let way = room.way in omega (arith, h, l, size, way)
-
-  module _ (last : List Tree) (new : ℕ) (made : replaced_at p (tree_at next id) (tree_at next by) ≡ Some (tree_at last new)) where
-    made_is : tree_at last new ≡ room.result
-    made_is = same_Some (tree_at last new) room.result (sym made ∙ next_put)
-
+  module _ (last : List Tree) (new : ℕ) (made : replaced_at p (tree_at next id) (tree_at next by) ≡ Some (tree_at last new))
+      (size depth : ℕ) (sized : size ≡ min (size_of (tree_at last new)) 4294967295) (deep : depth ≡ min (depth_of (tree_at last new)) 4294967295) where
     made_put : replaced_at p (tree_at pool id) value ≡ Some (tree_at last new)
-    made_put = room.put ∙ ap (λ z. Some z) (sym made_is)
+    made_put =
+        let same : tree_at last new ≡ whole.0 = same_Some (tree_at last new) whole.0 (sym made ∙ next_put) in
+        whole.1 ∙ ap (λ z. Some z) (sym same)
 
-    pub is_placed : (depth : ℕ) → depth ≡ depth_of (tree_at last new) → depth ≤ 1024 → new < length last
-        → length next ≤ length pool + size_of value → length last ≤ length next + length p → IsPlaced p (tree_at pool id) value pool last new
-    is_placed depth e d there h l =
-        let nodes = room.nodes in
-        let small : size_of (tree_at last new) ≡ size_of room.result = ap size_of made_is in
+    pub is_placed : size ≤ 65536 → depth ≤ 1024 → new < length last → length next ≤ length pool + size_of value → length last ≤ length next + length p
+        → IsPlaced p (tree_at pool id) value pool last new
+    is_placed s d there h l =
         let way = size_way p (tree_at pool id) value (tree_at last new) made_put in
         record {
           put = made_put;
           there = there;
-          limits = limits_kept (tree_at last new) (omega (arith, nodes, small)) (omega (arith, e, d));
+          limits = limits_kept (tree_at last new) (omega (arith, sized, s)) (omega (arith, deep, d));
           few = omega (arith, h, l, way);
         }
 
-    pub is_too_deep : (depth : ℕ) → depth ≡ depth_of (tree_at last new) → 1024 < depth → IsTooLargePut p (tree_at pool id) value
-    is_too_deep depth e h = record { result = tree_at last new; put = made_put; large = limits_passed_by_depth (tree_at last new) (omega (arith, e, h)) }
+    pub is_too_large : (65536 < size) ⊎ (1024 < depth) → IsTooLargePut p (tree_at pool id) value
+    is_too_large (inl s) = record { result = tree_at last new; put = made_put; large = limits_passed_by_size (tree_at last new) (omega (arith, sized, s)) }
+    is_too_large (inr d) = record { result = tree_at last new; put = made_put; large = limits_passed_by_depth (tree_at last new) (omega (arith, deep, d)) }

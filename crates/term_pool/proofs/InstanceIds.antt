@@ -46,7 +46,7 @@ module _ (start now : List Tree) (m : Bindings) (args : List Term) (ids : List �
   same_value : instance_of now m (tree arg) ≡ instance_of start m (tree arg)
   same_value = same_bound start now m so_far.kept known (tree arg)
 
-  pub same_size : size_of (instance_of now m (tree arg)) ≡ size_of (instance_of start m (tree arg))
+  same_size : size_of (instance_of now m (tree arg)) ≡ size_of (instance_of start m (tree arg))
   same_size = ap size_of same_value
 
   pub call_ids : HasIds now m

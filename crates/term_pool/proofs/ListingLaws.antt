@@ -90,15 +90,6 @@ on_both (Err e) f h k = h
 
 -- ---- one reduct
 
-module _ (rules : List RewriteRule) (size limit : ℕ) (es : List Listed) where
-  pub reduct_left_out : (e : Listed) (s : PlacedRule) (u : Tree) → StepsAt rules s.place s.rule e.term u → is_kept size u ≡ false
-      → ListsMore limit (AreReducts rules size e (s ∷ [])) es es
-  reduct_left_out e s u step large = ([], left_out step large no_step, no_more)
-
-  pub reduct_kept : (e : Listed) (s : PlacedRule) (u : Tree) (fs : List Listed) → StepsAt rules s.place s.rule e.term u → IsTrue (is_kept size u)
-      → ListsOn limit es (after_step e s u ∷ []) fs → ListsMore limit (AreReducts rules size e (s ∷ [])) es fs
-  reduct_kept e s u fs step small lists = (after_step e s u ∷ [], kept step small no_step, lists)
-
 pub large_not_kept : (size : ℕ) (u : Tree) → size < size_of u → is_kept size u ≡ false
 large_not_kept size u large = ap (λ c. c && within_limits u) (not_within (size_of u) size large)
   where
@@ -131,10 +122,6 @@ refused_step rules t s fault.TooLarge redex large memory = (large.result, large.
 refused_step rules t s fault.OutOfMemory redex none memory = absurd (memory refl)
 
 -- ---- the reducts of one entry
-
-pub too_deep_to_look : (rules : List RewriteRule) (depth size limit : ℕ) (e : Listed) (es : List Listed) → depth ≤ length e.path
-    → ListsMore limit (AreCandidates rules depth size (e ∷ [])) es es
-too_deep_to_look rules depth size limit e es far = ([], too_deep far no_entry, no_more)
 
 module _ (rules : List RewriteRule) (depth size limit : ℕ) (e : Listed) (steps : List PlacedRule) (es : List Listed) where
   pub one_more_reduct : (j : ℕ) (s : PlacedRule) (fs gs : List Listed) → j < length steps → s ≡ get_or steps j s

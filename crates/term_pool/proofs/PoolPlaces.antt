@@ -1,19 +1,17 @@
 -- Arguments of ids by their places.
 use Rattle.std.proofs.Common.{◌≡◌, ◌≢◌, ℕ, ◌+◌, ◌-◌, ◌<◌, ◌≤◌, List, [], ◌∷◌, ◌++◌, map, take, length, Option, Some, None, refl, ap, sym, ◌∙◌, zero, suc, arith, slice_get, slice_set, get_or, sub-one, drop, length-set, Result, Ok, Err, IfOk}
 use Rattle.std.specs.Borrow.{Bor}
-use Rattle.std.specs.Option.{option_map, option_copied, option_and_then}
+use Rattle.std.specs.Option.{option_map, option_copied}
 use Rattle.std.specs.Slice.{IsItemAt}
 use Rattle.smallvec.specs.SmallVec.{SmallVec}
 use Rattle.term_pool.specs.declared.nodes.Node.{Node}
 use Rattle.term_pool.specs.declared.nodes.Node.TheVariants.{Var, App}
 use Rattle.std.proofs.lemmas.Option.{slice_get-map, slice_get_read, slice_get_past, same_Some}
 use Rattle.std.proofs.lemmas.List.{take_all}
-use Rattle.trs_defs.specs.Size.{size_of}
-use Rattle.trs_defs.proofs.Limits.{size_there}
 use Rattle.trs_defs.proofs.Positions.{IsReplacedInside, replaced_inside}
 use Rattle.trs_core.specs.declared.memory.OutOfMemory.{OutOfMemory}
 use Rattle.trs_defs.specs.Tree.{Tree, var, app, trees, items, trees_items, items_trees}
-use Rattle.trs_defs.specs.Position.{argument_at, with_argument, replaced_at, subterm_at}
+use Rattle.trs_defs.specs.Position.{argument_at, with_argument, replaced_at}
 use Rattle.term_pool.specs.Pooled.{StandsFor, Extends, tree_at}
 use Rattle.term_pool.specs.Placing.{HasPut}
 use Rattle.term_pool.specs.Nodes.{node_tree}
@@ -92,9 +90,6 @@ module _ (pool : List Tree) (id g place by k : ℕ) (n : Node) (args : SmallVec 
       let whole : xs ≡ set_place ids place by = so_far ∙ take_all k (set_place ids place by) (omega (arith, all, length_set ids place by)) in
       rw (whole, t) (set_tree pool g ids place by)
 
-  pub placed_small : size_of (with_argument (tree_at pool id) place (tree_at pool by)) ≤ 65536 → size_of (app g (trees (map (tree_at pool) xs))) ≤ 65536
-  placed_small h = let same : size_of (app g (trees (map (tree_at pool) xs))) ≡ size_of (with_argument (tree_at pool id) place (tree_at pool by)) = ap size_of placed in omega (arith, same, h)
-
 pub variable_kept : (pool : List Tree) (id v place by : ℕ) (n : Node) → id < length pool → StandsFor pool id (node_tree pool n) → n ≡ Var v
     → StandsFor pool id (with_argument (tree_at pool id) place (tree_at pool by))
 variable_kept pool id v place by n h stand is =
@@ -130,9 +125,6 @@ argument_kept (var n) place a e = refl
 argument_kept (app f ts) zero a e = refl
 argument_kept (app f ts) (suc i) a e = ap (λ us. app f us) (ap trees (set_same (items ts) i a e) ∙ trees_items ts)
 
-one_place : (t : Tree) (place : ℕ) (u : Tree) → argument_at t place ≡ Some u → subterm_at (place ∷ []) t ≡ Some u
-one_place t place u e = ap (option_and_then (subterm_at [])) e
-
 module _ (pool : List Tree) (xs : List ℕ) (id by : ℕ) (some : 0 < length xs) (h : HasPut pool xs id by) where
   inside : IsReplacedInside (get_or xs 0 0) (take (length xs - 1) (drop 1 xs)) (tree_at pool id) (tree_at pool by) h.result
   inside = replaced_inside (get_or xs 0 0) (take (length xs - 1) (drop 1 xs)) (tree_at pool id) (tree_at pool by) h.result
@@ -148,16 +140,8 @@ module _ (pool : List Tree) (xs : List ℕ) (id by : ℕ) (some : 0 < length xs)
     rest_put : replaced_at (take (length xs - 1) (drop 1 xs)) (tree_at pool part) (tree_at pool by) ≡ Some inside.changed
     rest_put = ap (λ t. replaced_at (take (length xs - 1) (drop 1 xs)) t (tree_at pool by)) (sym same_part) ∙ inside.below
 
-    changed_small : size_of inside.changed ≤ 65536
-    changed_small =
-        let there : argument_at h.result (get_or xs 0 0) ≡ Some inside.changed =
-        ap (λ t. argument_at t (get_or xs 0 0)) (sym inside.whole) ∙ argument_set (tree_at pool id) (get_or xs 0 0) inside.argument inside.changed inside.there in
-        let smaller = size_there (get_or xs 0 0 ∷ []) h.result inside.changed (one_place h.result (get_or xs 0 0) inside.changed there) in
-        let small = h.small in
-        omega (arith, smaller, small)
-
     pub put_part : HasPut pool (take (length xs - 1) (drop 1 xs)) part by
-    put_part = record { result = inside.changed; put = rest_put; small = changed_small }
+    put_part = record { result = inside.changed; put = rest_put }
 
     module _ (next : List Tree) (changed : ℕ) (extends : Extends pool next) (within : id < length pool)
         (made : replaced_at (take (length xs - 1) (drop 1 xs)) (tree_at pool part) (tree_at pool by) ≡ Some (tree_at next changed)) where
@@ -166,9 +150,6 @@ module _ (pool : List Tree) (xs : List ℕ) (id by : ℕ) (some : 0 < length xs)
           let same : inside.changed ≡ tree_at next changed = same_Some inside.changed (tree_at next changed) (sym rest_put ∙ made) in
           let old : tree_at next id ≡ tree_at pool id = same_tree_at pool next extends id within in
           rw (old, ← same) inside.whole
-
-      pub whole_small : size_of (with_argument (tree_at next id) (get_or xs 0 0) (tree_at next changed)) ≤ 65536
-      whole_small = let small = h.small in rw whole_put small
 
       pub is_put : (last : List Tree) (r : Result ℕ OutOfMemory) → IfOk r (λ new. StandsFor last new (with_argument (tree_at next id) (get_or xs 0 0) (tree_at next changed)))
           → IfOk r (λ new. replaced_at xs (tree_at pool id) (tree_at pool by) ≡ Some (tree_at last new))

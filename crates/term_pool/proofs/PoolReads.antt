@@ -1,8 +1,7 @@
 -- What is read of a pool's entries.
-use Rattle.std.proofs.Common.{◌≡◌, ℕ, ◌<◌, ◌≤◌, List, length, Some, None, ap, sym, ◌∙◌, arith, slice_get, get_or}
+use Rattle.std.proofs.Common.{◌≡◌, ℕ, ◌<◌, List, length, Some, None, ap, sym, ◌∙◌, arith, slice_get, get_or}
 use Rattle.std.proofs.lemmas.Option.{slice_get-get_or}
 use Rattle.trs_defs.specs.Tree.{Tree}
-use Rattle.trs_defs.proofs.ArgumentLists.{depth_le_size}
 use Rattle.term_pool.specs.declared.nodes.Node.{Node}
 use Rattle.term_pool.specs.declared.nodes.Node.TheVariants.{Var}
 use Rattle.term_pool.specs.declared.nodes.Measure.{Measure}
@@ -30,19 +29,3 @@ module _ (es : List (Node × Measure)) (view : List Tree) (pool : IsPool es) (is
         let at : StandsFor (pool_trees es) id (node_tree (pool_trees es) e.0) = node_stands es id e pool (sym there) in
         let same : tree_at (pool_trees es) id ≡ node_tree (pool_trees es) e.0 = stands_at (pool_trees es) id (node_tree (pool_trees es) e.0) at in
         rw (← is, same) (pool.measured id e (node_tree (pool_trees es) e.0) (sym there) at)
-
-    pub small_size : e.1.size ≤ 65536
-    small_size =
-        let at : StandsFor (pool_trees es) id (node_tree (pool_trees es) e.0) = node_stands es id e pool (sym there) in
-        let m : IsMeasure (node_tree (pool_trees es) e.0) e.1 = pool.measured id e (node_tree (pool_trees es) e.0) (sym there) at in
-        let small = pool.small.size id (node_tree (pool_trees es) e.0) at in
-        let same = m.size in
-        omega (arith, small, same)
-
-    pub small_depth : e.1.depth ≤ 65536
-    small_depth =
-        let at : StandsFor (pool_trees es) id (node_tree (pool_trees es) e.0) = node_stands es id e pool (sym there) in
-        let m : IsMeasure (node_tree (pool_trees es) e.0) e.1 = pool.measured id e (node_tree (pool_trees es) e.0) (sym there) at in
-        let small = pool.small.size id (node_tree (pool_trees es) e.0) at in
-        let same = m.depth in
-        omega (arith, small, same, depth_le_size (node_tree (pool_trees es) e.0))

@@ -110,7 +110,6 @@ released n es pool = record {
   below = λ i e h. pool.below i e (taken_item n es i e h);
   measured = λ i e t h s. pool.measured i e t (taken_item n es i e h) (taken_item n (pool_trees es) i t (rw (pool_take n es) at s));
   distinct = record { same = λ i j t s r. pool.distinct.same i j t (taken_item n (pool_trees es) i t (rw (pool_take n es) at s)) (taken_item n (pool_trees es) j t (rw (pool_take n es) at r)) };
-  small = record { size = λ i t s. pool.small.size i t (taken_item n (pool_trees es) i t (rw (pool_take n es) at s)) };
   few = omega (arith, pool.few, length_taken n es);
 }
   where

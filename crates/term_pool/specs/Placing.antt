@@ -1,23 +1,14 @@
 -- Terms with another subterm at a position.
 use Rattle.std.specs.Prelude.{◌≡◌, ◌<◌, ◌≤◌, ℕ, ◌+◌, List, Some, false, IsTrue, length}
 use Rattle.trs_defs.specs.Tree.{Tree}
-use Rattle.trs_defs.specs.Size.{size_of, depth_of, within_limits}
+use Rattle.trs_defs.specs.Size.{size_of, within_limits}
 use Rattle.trs_defs.specs.Position.{replaced_at}
 use Rattle.term_pool.specs.Pooled.{tree_at}
 
--- the position is in the id's term, and the term with the other id's term there has at most 65,536 nodes
+-- the position is in the id's term, where the other id's term can be put
 pub record HasPut (pool : List Tree) (p : List ℕ) (id by : ℕ) : Type 0 where
   pub result : Tree
   pub put : replaced_at p (tree_at pool id) (tree_at pool by) ≡ Some result
-  pub small : size_of result ≤ 65536
-
--- `by` and the term with it at the position have at most 65,536 nodes, and with the way to it `by` is at most 1,024 deep
-pub record HasRoom (p : List ℕ) (t by : Tree) : Type 0 where
-  pub result : Tree
-  pub put : replaced_at p t by ≡ Some result
-  pub nodes : size_of result ≤ 65536
-  pub part : size_of by ≤ 65536
-  pub way : length p + depth_of by ≤ 1024
 
 -- the term with another subterm at the position has this id; it keeps the limits, and took at most as many ids as it has nodes
 pub record IsPlaced (p : List ℕ) (t by : Tree) (old new : List Tree) (id : ℕ) : Type 0 where

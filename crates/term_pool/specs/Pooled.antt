@@ -1,7 +1,6 @@
 -- The terms of a pool by their numbers, which are called ids.
 use Rattle.std.specs.Prelude.{◌≡◌, ◌≤◌, ℕ, List, Some, length, slice_get, slice_index_or}
 use Rattle.trs_defs.specs.Tree.{Tree, var}
-use Rattle.trs_defs.specs.Size.{size_of}
 
 -- the id is there, and its term is this one
 abbrev pub StandsFor : List Tree → ℕ → Tree → Type 0
@@ -14,10 +13,6 @@ tree_at pool id = slice_index_or pool id (var 0)
 -- equal terms have one id
 pub record AreDistinct (pool : List Tree) : Type 0 where
   pub same : (i j : ℕ) (t : Tree) → StandsFor pool i t → StandsFor pool j t → i ≡ j
-
--- each term has at most 65,536 nodes
-pub record AreSmall (pool : List Tree) : Type 0 where
-  pub size : (i : ℕ) (t : Tree) → StandsFor pool i t → size_of t ≤ 65536
 
 -- the ids that were there keep their terms
 pub record Extends (old new : List Tree) : Type 0 where

@@ -1,12 +1,12 @@
-ghost use Rattle.std.specs.Prelude.{◌≡◌, ◌<◌, ◌≤◌, Some, false, length, IsTrue, IfOk, IfSome, IfNone};
+ghost use Rattle.std.specs.Prelude.{◌≡◌, ◌<◌, Some, length, IsTrue, IfOk, IfSome, IfNone};
 ghost use Rattle.trs_defs.specs.Position.{subterm_at};
 ghost use Rattle.trs_core.specs.View.{tree};
 ghost use Rattle.term_pool.specs.Pooled.{Extends, tree_at};
 ghost use Rattle.term_pool.specs.Bindings.{HasIds, instance_of};
-ghost use Rattle.term_pool.specs.Placing.{HasRoom, IsPlaced, IsTooLargePut};
+ghost use Rattle.term_pool.specs.Placing.{IsPlaced, IsTooLargePut};
 
+use crate::Pool;
 use crate::bindings::Bindings;
-use crate::{MOST_IDS, Pool};
 use std::alloc::Global;
 use trs_core::{OutOfMemory, Term};
 
@@ -20,7 +20,7 @@ impl Pool {
     /// The id of a term with the instance of `t` in place of a part of it, or `None` where that
     /// would pass the limits. Only the instance and the nodes on the way to it are made. Sizes and
     /// depths are known before, so that nothing is made in vain unless the old term is too deep
-    /// itself; what is made then is released.
+    /// itself, or has 2^32 - 1 nodes or more; what is made then is released.
     pub(crate) fn put_instance(
         &mut self,
         alloc: Global,
@@ -35,7 +35,6 @@ impl Pool {
         requires there { subterm_at places.now (tree_at self.old id)
             ≡ Some (tree_at self.old part) }
         requires ids { HasIds self.old found.now }
-        requires room { length self.old ≤ MOST_IDS }
         ensures put { IfOk result (λ made. IfSome made (
             IsPlaced places.now (tree_at self.old id)
             (instance_of self.old found.now (tree t.now)) self.old self.new)) }
@@ -45,37 +44,34 @@ impl Pool {
         ensures kept { Extends self.old self.new }
         ensures unchanged { IfOk result (λ made. IfNone made (self.new ≡ self.old)) }
     {
-        if !self.has_room(id, places, part, found, t) {
+        if self.is_too_large(id, places, part, found, t) {
             return Ok(None);
         }
         let mark = self.mark();
         let by = self.instance(alloc, found, t)?;
         let new = self.put(alloc, id, places, by)?;
-        if u64::from(self.measure(new).depth) > GREATEST_DEPTH {
+        let made = self.measure(new);
+        if u64::from(made.size) > MOST_NODES || u64::from(made.depth) > GREATEST_DEPTH {
             self.release(mark);
             return Ok(None);
         }
         Ok(Some(new))
     }
 
-    /// Whether the instance of `t` may stand in place of a part: the whole has not too many nodes,
-    /// and the instance with the way to it is not too deep.
-    fn has_room(&self, id: u32, places: &[u8], part: u32, found: &Bindings, t: &Term) -> bool
+    /// Whether it is seen before that the whole would pass the limits with the instance of `t` in
+    /// place of a part: by its nodes, or by the depth of the instance and the way to it.
+    fn is_too_large(&self, id: u32, places: &[u8], part: u32, found: &Bindings, t: &Term) -> bool
         requires id { id < length self.now }
         requires part { part < length self.now }
         requires there { subterm_at places.now (tree_at self.now id)
             ≡ Some (tree_at self.now part) }
         requires ids { HasIds self.now found.now }
-        ensures room { IsTrue result → HasRoom places.now (tree_at self.now id)
-            (instance_of self.now found.now (tree t.now)) }
-        ensures none { result ≡ false → IsTooLargePut places.now (tree_at self.now id)
+        ensures { IsTrue result → IsTooLargePut places.now (tree_at self.now id)
             (instance_of self.now found.now (tree t.now)) }
     {
-        let (size, depth) = self.instance_measure(found, t);
-        if size > MOST_NODES || depth > GREATEST_DEPTH {
-            return false;
-        }
-        let kept = u64::from(self.measure(id).size) - u64::from(self.measure(part).size);
-        kept + size <= MOST_NODES && places.len() as u64 + depth <= GREATEST_DEPTH
+        let put = self.instance_measure(found, t);
+        let kept = self.measure(id).size - self.measure(part).size;
+        u64::from(kept) + u64::from(put.size) > MOST_NODES
+            || places.len() as u64 + u64::from(put.depth) > GREATEST_DEPTH
     }
 }

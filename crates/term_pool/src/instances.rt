@@ -1,4 +1,4 @@
-ghost use Rattle.std.specs.Prelude.{◌≡◌, ◌<◌, ◌≤◌, ◌+◌, ◌^◌, min, length, IfOk};
+ghost use Rattle.std.specs.Prelude.{◌≡◌, ◌≤◌, ◌+◌, min, length, IfOk};
 ghost use Rattle.trs_defs.specs.Size.{size_of, depth_of};
 ghost use Rattle.trs_core.specs.View.{tree};
 ghost use Rattle.term_pool.specs.Pooled.{Extends, StandsFor};
@@ -6,38 +6,38 @@ ghost use Rattle.term_pool.specs.Bindings.{HasIds, instance_of};
 
 use crate::Pool;
 use crate::bindings::Bindings;
-use crate::nodes::Node;
+use crate::nodes::{Measure, Node};
 use smallvec::SmallVec;
 use std::alloc::Global;
 use trs_core::{OutOfMemory, Term};
 
 impl Pool {
-    /// The number of nodes and the depth of an instance. Each stands still at the last `u64`, and
-    /// nothing is made.
-    pub(crate) fn instance_measure(&self, found: &Bindings, t: &Term) -> (u64, u64)
+    /// The size and the depth of an instance. Each stands still at the last `u32`, and nothing is
+    /// made.
+    pub(crate) fn instance_measure(&self, found: &Bindings, t: &Term) -> Measure
         requires { HasIds self.now found.now }
-        ensures size { result.0
-            ≡ min (size_of (instance_of self.now found.now (tree t.now))) u64.MAX }
-        ensures depth { result.1
-            ≡ min (depth_of (instance_of self.now found.now (tree t.now))) u64.MAX }
+        ensures size { result.size
+            ≡ min (size_of (instance_of self.now found.now (tree t.now))) u32.MAX }
+        ensures depth { result.depth
+            ≡ min (depth_of (instance_of self.now found.now (tree t.now))) u32.MAX }
     {
         match t {
             Term::Var(v) => match found.get(*v) {
-                None => (1, 1),
-                Some(id) => {
-                    let measure = self.measure(id);
-                    (u64::from(measure.size), u64::from(measure.depth))
-                }
+                None => Measure { size: 1, depth: 1 },
+                Some(id) => self.measure(id),
             },
             Term::App(_, args) => {
-                let mut total: u64 = 1;
-                let mut deepest: u64 = 0;
+                let mut size: u32 = 1;
+                let mut deepest: u32 = 0;
                 for arg in &args.items {
-                    let (size, depth) = self.instance_measure(found, arg);
-                    total = total.saturating_add(size);
-                    deepest = deepest.max(depth);
+                    let part = self.instance_measure(found, arg);
+                    size = size.saturating_add(part.size);
+                    deepest = deepest.max(part.depth);
                 }
-                (total, deepest.saturating_add(1))
+                Measure {
+                    size,
+                    depth: deepest.saturating_add(1),
+                }
             }
         }
     }
@@ -49,10 +49,7 @@ impl Pool {
         found: &Bindings,
         t: &Term,
     ) -> Result<u32, OutOfMemory>
-        requires ids { HasIds self.old found.now }
-        requires small { size_of (instance_of self.old found.now (tree t.now)) ≤ 65536 }
-        requires room { length self.old
-            + size_of (instance_of self.old found.now (tree t.now)) < 2 ^ 32 }
+        requires { HasIds self.old found.now }
         ensures id { IfOk result (λ id.
             StandsFor self.new id (instance_of self.old found.now (tree t.now))) }
         ensures kept { Extends self.old self.new }

@@ -1,20 +1,19 @@
-ghost use Rattle.std.specs.Prelude.{◌≡◌, ◌<◌, ◌≤◌, ◌+◌, ◌^◌, length, IfOk, IfErr};
+ghost use Rattle.std.specs.Prelude.{◌≡◌, ◌<◌, ◌≤◌, ◌+◌, length, IfOk, IfErr};
 ghost use Rattle.trs_defs.specs.Size.{size_of};
 ghost use Rattle.trs_core.specs.View.{tree};
 ghost use Rattle.term_pool.specs.Pooled.{Extends, StandsFor};
 
+use crate::Pool;
 use crate::nodes::Node;
-use crate::{MOST_IDS, Pool};
 use smallvec::SmallVec;
 use std::alloc::Global;
 use trs_core::{Args, OutOfMemory, Term};
 
 impl Pool {
-    /// The id of a term. It adds at most as many ids as the term has nodes, one for each subterm
-    /// that the pool lacks. Where memory runs out, what was added is released.
+    /// The id of a term, whatever its size. It adds at most as many ids as the term has nodes, one
+    /// for each subterm that the pool lacks. Where memory or the ids run out, what was added is
+    /// released.
     pub fn intern(&mut self, alloc: Global, t: &Term) -> Result<u32, OutOfMemory>
-        requires small { size_of (tree t.now) ≤ 65536 }
-        requires room { length self.old ≤ MOST_IDS }
         ensures id { IfOk result (λ id. StandsFor self.new id (tree t.now)) }
         ensures kept { Extends self.old self.new }
         ensures few { length self.new ≤ length self.old + size_of (tree t.now) }
@@ -31,8 +30,6 @@ impl Pool {
     }
 
     fn insert(&mut self, alloc: Global, t: &Term) -> Result<u32, OutOfMemory>
-        requires small { size_of (tree t.now) ≤ 65536 }
-        requires room { length self.old + size_of (tree t.now) < 2 ^ 32 }
         ensures id { IfOk result (λ id. StandsFor self.new id (tree t.now)) }
         ensures kept { Extends self.old self.new }
         ensures few { length self.new ≤ length self.old + size_of (tree t.now) }

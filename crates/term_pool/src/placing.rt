@@ -1,6 +1,5 @@
-ghost use Rattle.std.specs.Prelude.{◌≡◌, ◌≢◌, ◌<◌, ◌≤◌, ◌+◌, ◌^◌, Some, length, IfOk, IfSome};
+ghost use Rattle.std.specs.Prelude.{◌≡◌, ◌≢◌, ◌<◌, ◌≤◌, ◌+◌, Some, length, IfOk, IfSome};
 ghost use Rattle.std.specs.Option.{option_map};
-ghost use Rattle.trs_defs.specs.Size.{size_of};
 ghost use Rattle.trs_defs.specs.Position.{argument_at, subterm_at, replaced_at, with_argument};
 ghost use Rattle.term_pool.specs.Pooled.{Extends, StandsFor, tree_at};
 ghost use Rattle.term_pool.specs.Placing.{HasPut};
@@ -59,7 +58,6 @@ impl Pool {
         requires there { id < length self.old }
         requires by { by < length self.old }
         requires put { HasPut self.old places.now id by }
-        requires room { length self.old + length places.now + 1 < 2 ^ 32 }
         ensures id { IfOk result (λ new.
             replaced_at places.now (tree_at self.old id) (tree_at self.old by)
             ≡ Some (tree_at self.new new)) }
@@ -92,9 +90,6 @@ impl Pool {
     ) -> Result<u32, OutOfMemory>
         requires there { id < length self.old }
         requires by { by < length self.old }
-        requires small { size_of (with_argument (tree_at self.old id) place (tree_at self.old by))
-            ≤ 65536 }
-        requires room { length self.old + 1 < 2 ^ 32 }
         ensures id { IfOk result (λ new. StandsFor self.new new
             (with_argument (tree_at self.old id) place (tree_at self.old by))) }
         ensures kept { Extends self.old self.new }

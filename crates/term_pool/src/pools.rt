@@ -1,6 +1,6 @@
-ghost use Rattle.std.specs.Prelude.{◌≡◌, ◌<◌, ◌≤◌, ◌+◌, ◌^◌, [], Some, length, take, slice_get, IfOk};
+ghost use Rattle.std.specs.Prelude.{◌≡◌, ◌<◌, ◌≤◌, ◌+◌, [], Some, min, length, take, slice_get, IfOk};
 ghost use Rattle.trs_defs.specs.Size.{size_of, depth_of};
-ghost use Rattle.term_pool.specs.Pooled.{AreDistinct, AreSmall, Extends, StandsFor, tree_at};
+ghost use Rattle.term_pool.specs.Pooled.{AreDistinct, Extends, StandsFor, tree_at};
 ghost use Rattle.term_pool.specs.Nodes.{StandsBelow, node_tree};
 
 use crate::nodes::{Measure, Node};
@@ -9,11 +9,13 @@ use std::alloc::Global;
 use std::marker::Model;
 use trs_core::OutOfMemory;
 
-/// The most ids at which a term or a step may still be added: 2^32 - 131,072.
+/// The most ids that callers reckon with: 2^32 - 131,072, at which a term within the limits or a
+/// step can still be added.
 pub const MOST_IDS: u32 = 4_294_836_224;
 
 /// Terms by their numbers, which are called ids and go from 0. Equal terms have one id, and a term
-/// that stands in several others is kept once. A term has at most 65,536 nodes.
+/// that stands in several others is kept once. A term may have any size. Where ids have run out, a
+/// call that needs one more answers want of memory.
 #[derive(Drop)]
 pub struct Pool {
     entries: IndexMap<Node, Measure>,
@@ -50,7 +52,6 @@ impl Pool {
 
         // Two ids are equal exactly where their terms are.
         ensures distinct { AreDistinct self.now }
-        ensures small { AreSmall self.now }
     {
         self.entries.len() as u32
     }
@@ -83,13 +84,11 @@ impl Pool {
         }
     }
 
-    /// The size and the depth of an id's term.
+    /// The size and the depth of an id's term. Each stands still at the last `u32`.
     pub(crate) fn measure(&self, id: u32) -> Measure
         requires { id < length self.now }
-        ensures size { result.size ≡ size_of (tree_at self.now id) }
-        ensures depth { result.depth ≡ depth_of (tree_at self.now id) }
-        ensures small { result.size ≤ 65536 }
-        ensures shallow { result.depth ≤ 65536 }
+        ensures size { result.size ≡ min (size_of (tree_at self.now id)) u32.MAX }
+        ensures depth { result.depth ≡ min (depth_of (tree_at self.now id)) u32.MAX }
         ensures distinct { AreDistinct self.now }
     {
         match self.entries.get_index(id as usize) {
@@ -98,26 +97,27 @@ impl Pool {
         }
     }
 
-    /// The id of a node's term, which is made if no id stands for it yet.
+    /// The id of a node's term, which is made if no id stands for it yet. Where all ids are taken,
+    /// memory has run out.
     pub(crate) fn add(&mut self, node: Node) -> Result<u32, OutOfMemory>
-        requires below { StandsBelow (length self.old) node }
-        requires small { size_of (node_tree self.old node) ≤ 65536 }
-        requires room { length self.old + 1 < 2 ^ 32 }
+        requires { StandsBelow (length self.old) node }
         ensures id { IfOk result (λ id. StandsFor self.new id (node_tree self.old node)) }
         ensures kept { Extends self.old self.new }
         ensures few { length self.new ≤ length self.old + 1 }
     {
+        if self.len() == u32::MAX {
+            return Err(OutOfMemory);
+        }
         let measure = self.measure_of(&node);
         let (index, _) = self.entries.insert_full(node, measure)?;
         Ok(index as u32)
     }
 
-    /// The size and the depth of a node's term.
+    /// The size and the depth of a node's term. Each stands still at the last `u32`.
     fn measure_of(&self, node: &Node) -> Measure
-        requires below { StandsBelow (length self.now) node.now }
-        requires small { size_of (node_tree self.now node.now) ≤ 65536 }
-        ensures size { result.size ≡ size_of (node_tree self.now node.now) }
-        ensures depth { result.depth ≡ depth_of (node_tree self.now node.now) }
+        requires { StandsBelow (length self.now) node.now }
+        ensures size { result.size ≡ min (size_of (node_tree self.now node.now)) u32.MAX }
+        ensures depth { result.depth ≡ min (depth_of (node_tree self.now node.now)) u32.MAX }
     {
         match node {
             Node::Var(_) => Measure { size: 1, depth: 1 },
@@ -126,12 +126,12 @@ impl Pool {
                 let mut deepest: u32 = 0;
                 for arg in args.as_slice() {
                     let part = self.measure(*arg);
-                    size += part.size;
+                    size = size.saturating_add(part.size);
                     deepest = deepest.max(part.depth);
                 }
                 Measure {
                     size,
-                    depth: deepest + 1,
+                    depth: deepest.saturating_add(1),
                 }
             }
         }

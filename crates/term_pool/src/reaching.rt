@@ -7,12 +7,12 @@ ghost use Rattle.term_pool.specs.Listed.{Listed};
 ghost use Rattle.term_pool.specs.Reach.{IsReachList, AreReducts, AreCandidates};
 ghost use Rattle.term_pool.specs.ListedIds.{listed, listed_at};
 ghost use Rattle.term_pool.specs.Reached.{AreBelow, IsReached};
-ghost use Rattle.term_pool.specs.Reaching.{most_ids, Adds, IsNewReduct, IsPassedOver};
+ghost use Rattle.term_pool.specs.Reaching.{Adds, IsNewReduct, IsPassedOver};
 
 use crate::narrow::paths_keep_narrow;
 use crate::paths::one_longer;
 use crate::reached::Reached;
-use crate::{MOST_IDS, PathStep, Pool, RulesByRoot};
+use crate::{PathStep, Pool, RulesByRoot};
 use std::alloc::Global;
 use std::collections::BTreeSet;
 use trs_core::{OutOfMemory, Trs};
@@ -32,7 +32,7 @@ impl Pool {
     /// than `depth` steps away, the reducts follow in the order of the redexes, if they have at
     /// most `size` nodes and keep the limits. It ends at `count` terms (at one, where `count` is
     /// 0). What is made of a reduct that is not listed is released, and so is all that was made where
-    /// memory runs out.
+    /// memory or the ids run out.
     pub fn reach(
         &mut self,
         alloc: Global,
@@ -44,7 +44,6 @@ impl Pool {
     ) -> Result<Vec<(u32, Vec<PathStep>)>, OutOfMemory>
         requires there { id < length self.old }
         requires narrow { IsNarrow (tree_at self.old id) }
-        requires room { length self.old + count * size ≤ MOST_IDS }
         ensures list { IfOk result (λ found. IsReachList trs.now.rules (tree_at self.old id)
             depth count size (listed_at self.new found.items)) }
         ensures there { IfOk result (λ found. All (λ e. e.0 < length self.new) found.items) }
@@ -78,7 +77,6 @@ impl Pool {
     ) -> Result<Vec<(u32, Vec<PathStep>)>, OutOfMemory>
         requires there { id < length self.old }
         requires narrow { IsNarrow (tree_at self.old id) }
-        requires room { length self.old + count * size ≤ MOST_IDS }
         ensures list { IfOk result (λ found. IsReachList trs.now.rules (tree_at self.old id)
             depth count size (listed_at self.new found.items)) }
         ensures there { IfOk result (λ found. All (λ e. e.0 < length self.new) found.items) }
@@ -116,7 +114,6 @@ impl Pool {
         requires there { entry.now.0 < length self.old }
         requires narrow { IsNarrow (tree_at self.old entry.now.0) }
         requires reached { IsReached self.old reached.old }
-        requires room { most_ids bounds.limit bounds.size self.old reached.old ≤ MOST_IDS }
         ensures adds { OnOk result (Adds bounds.limit bounds.size (AreCandidates by_root.now.rules
             bounds.depth bounds.size (listed self.old entry.now ∷ []))
             self.old self.new reached.old reached.new) }
@@ -149,7 +146,6 @@ impl Pool {
         requires redex { IsRedexAt trs.now.rules (tree_at self.old entry.now.0) step.now }
         requires reached { IsReached self.old reached.old }
         requires space { length reached.old.list.items < bounds.limit }
-        requires room { most_ids bounds.limit bounds.size self.old reached.old ≤ MOST_IDS }
         ensures adds { OnOk result (Adds bounds.limit bounds.size (AreReducts trs.now.rules
             bounds.size (listed self.old entry.now) (step.now ∷ []))
             self.old self.new reached.old reached.new) }
@@ -175,7 +171,6 @@ impl Pool {
         requires there { id < length self.old }
         requires redex { IsRedexAt trs.now.rules (tree_at self.old id) step.now }
         requires below { AreBelow (length self.old) ids.now }
-        requires room { length self.old ≤ MOST_IDS }
         ensures new { IfOk result (λ found. IfSome found (IsNewReduct trs.now.rules size
             step.now (tree_at self.old id) ids.now self.old self.new)) }
         ensures none { IfOk result (λ found. IfNone found (IsPassedOver trs.now.rules size

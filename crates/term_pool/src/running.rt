@@ -1,11 +1,12 @@
 ghost use Rattle.std.specs.Prelude.{◌≡◌, ◌<◌, ◌≤◌, ◌+◌, length, take, IfOk, IfErr, OnOk};
 ghost use Rattle.trs_defs.specs.Tree.{Tree};
+ghost use Rattle.trs_defs.specs.Size.{size_of};
 ghost use Rattle.trs_defs.specs.Path.{Follows};
 ghost use Rattle.term_pool.specs.Pooled.{Extends, tree_at};
 ghost use Rattle.term_pool.specs.Answers.{GivesId};
 ghost use Rattle.term_pool.specs.Paths.{IsPathFault};
 
-use crate::{MOST_IDS, PathFault, PathStep, Pool};
+use crate::{PathFault, PathStep, Pool};
 use std::alloc::Global;
 use trs_core::{OutOfMemory, Trs};
 
@@ -14,9 +15,9 @@ pub const MOST_ADDED: u32 = 1_048_576;
 
 /// A term of n nodes is carried over once more than `FEW_ADDED` and n times `ADDED_FOR_A_NODE` ids
 /// have been added, which is `MOST_ADDED` for the largest terms.
-const FEW_ADDED: u32 = 65_536;
+const FEW_ADDED: u64 = 65_536;
 
-const ADDED_FOR_A_NODE: u32 = 15;
+const ADDED_FOR_A_NODE: u64 = 15;
 
 impl Pool {
     /// The id of the end of a path. Each term after the start keeps the limits. A step costs what
@@ -31,8 +32,7 @@ impl Pool {
         id: u32,
         path: &[PathStep],
     ) -> Result<u32, PathFault>
-        requires there { id < length self.old }
-        requires room { length self.old + MOST_ADDED ≤ MOST_IDS }
+        requires { id < length self.old }
         ensures end { IfOk result (λ end.
             Follows trs.now.rules path.now (tree_at self.old id) (tree_at self.new end)) }
         ensures there { IfOk result (λ end. end < length self.new) }
@@ -80,14 +80,14 @@ impl Pool {
     fn carry_over(&mut self, alloc: Global, mark: u32, id: u32) -> Result<u32, OutOfMemory>
         requires there { id < length self.old }
         requires marked { mark ≤ length self.old }
-        requires room { mark + MOST_ADDED ≤ MOST_IDS }
+        requires small { mark < length self.old → size_of (tree_at self.old id) ≤ 65536 }
         ensures same { IfOk result (λ new. tree_at self.new new ≡ tree_at self.old id) }
         ensures there { IfOk result (λ new. new < length self.new) }
         ensures room { OnOk result (length self.new ≤ mark + MOST_ADDED) }
         ensures kept { Extends (take mark self.old) self.new }
     {
-        let many = FEW_ADDED + ADDED_FOR_A_NODE * self.measure(id).size;
-        if self.len() - mark <= many {
+        let many = FEW_ADDED + ADDED_FOR_A_NODE * u64::from(self.measure(id).size);
+        if u64::from(self.len() - mark) <= many {
             return Ok(id);
         }
         let term = self.read(alloc, id)?;

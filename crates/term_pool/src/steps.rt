@@ -7,7 +7,7 @@ ghost use Rattle.term_pool.specs.Pooled.{Extends, tree_at};
 ghost use Rattle.term_pool.specs.Answers.{GivesId};
 ghost use Rattle.term_pool.specs.Steps.{IsStepFault};
 
-use crate::{MOST_IDS, Pool};
+use crate::Pool;
 use std::alloc::Global;
 use trs_core::{ApplySize, OutOfMemory, Position, Trs};
 
@@ -76,8 +76,7 @@ impl Pool {
         place: &Position,
         rule: u32,
     ) -> Result<u32, StepFault>
-        requires there { id < length self.old }
-        requires room { length self.old ≤ MOST_IDS }
+        requires { id < length self.old }
         ensures step { IfOk result (λ new.
             StepsAt trs.now.rules place.now rule (tree_at self.old id) (tree_at self.new new)) }
         ensures limits { IfOk result (λ new. IsTrue (within_limits (tree_at self.new new))) }

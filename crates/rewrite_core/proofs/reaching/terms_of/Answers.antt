@@ -1,6 +1,6 @@
 use Rattle.std.proofs.Common.{ap, ◌∙◌, sym, [], ◌∷◌, ◌++◌, append_assoc}
 use Rattle.trs_core.specs.View.{tree}
-use Rattle.rewrite_core.proofs.ReachSizes.{one_more_read}
+use Rattle.rewrite_core.proofs.ReadTerms.{one_more_read}
 use Rattle.rewrite_core.proofs.reaching.terms_of.Goals as goal
 
 pub loop-id-preserved : goal.loop-id-preserved

@@ -5,8 +5,8 @@ use Rattle.trs_core.specs.declared.terms.Term.{Term}
 use Rattle.trs_core.specs.View.{tree, forest}
 use Rattle.term_pool.specs.Pooled.{StandsFor}
 use Rattle.term_pool.specs.Bindings.{instance_of}
-use Rattle.term_pool.proofs.ArgumentIds.{AreMade, next_smaller, next_room, next_few, whole_made, whole_small, whole_few}
-use Rattle.term_pool.proofs.InstanceIds.{value_in, bound_at, instance_whole, call_ids, call_few, call_made, same_size}
+use Rattle.term_pool.proofs.ArgumentIds.{AreMade, next_smaller, next_few, whole_made, whole_few}
+use Rattle.term_pool.proofs.InstanceIds.{value_in, bound_at, instance_whole, call_ids, call_few, call_made}
 use Rattle.term_pool.proofs.pools.Pool.+instance.Goals.{After-deref-arg-items}
 use Rattle.term_pool.proofs.pools.Pool.+instance.Goals as goal
 
@@ -23,16 +23,11 @@ instance-requires t c =
     let a = (goal.at.instance-requires t c).After-deref-arg-items in
     let args = c.deref-arg-items.result.now in
     let m = c.args.found.now in
-    let value = value_in c.args.self.now m in
     let k = c.loop-arg.arg-index in
-    let smaller = next_smaller tree args k c.arg-item.result c.loop-arg-test.true c.arg-item.is (tree c.args.t.now) c.in-App.f (node t a) in
-    let part = next_smaller value args k c.arg-item.result c.loop-arg-test.true c.arg-item.is (instance_of c.args.self.now m (tree c.args.t.now)) c.in-App.f (whole t a) in
-    let room = next_room value args k c.arg-item.result c.loop-arg-test.true c.arg-item.is (instance_of c.args.self.now m (tree c.args.t.now)) c.in-App.f (whole t a)
-    c.args.self.now c.loop-arg.self c.loop-arg.ids.items c.loop-arg.invariant c.requires.room in
-    let same : size_of (instance_of c.loop-arg.self m (tree c.arg-item.result)) ≡ size_of (value c.arg-item.result) =
-    same_size c.args.self.now c.loop-arg.self m args c.loop-arg.ids.items k c.requires.ids c.loop-arg.invariant c.arg-item.result c.loop-arg-test.true c.arg-item.is in
-    let ids = call_ids c.args.self.now c.loop-arg.self m args c.loop-arg.ids.items k c.requires.ids c.loop-arg.invariant c.arg-item.result c.loop-arg-test.true c.arg-item.is in
-    (omega (arith, smaller, c.decreases), (ids, (omega (arith, same, part, c.requires.small), omega (arith, same, room))))
+    let smaller = next_smaller tree args k c.arg-item.result c.loop-arg-test.true c.arg-item.is (tree c.args.t.now) c.in-App.f (node t a) in (
+      omega (arith, smaller, c.decreases),
+      call_ids c.args.self.now c.loop-arg.self m args c.loop-arg.ids.items k c.requires c.loop-arg.invariant c.arg-item.result c.loop-arg-test.true c.arg-item.is,
+    )
 
 few_after : (t : ℕ) (c : After-deref-arg-items t) → (now next : List Tree) (ids : List ℕ) (k : ℕ) (arg : Term) → AreMade (value_in c.args.self.now c.args.found.now) c.args.self.now now c.deref-arg-items.result.now ids k
     → k < length c.deref-arg-items.result.now → arg ≡ get_or c.deref-arg-items.result.now k arg
@@ -41,7 +36,7 @@ few_after : (t : ℕ) (c : After-deref-arg-items t) → (now next : List Tree) (
 few_after t c now next ids k arg so_far within is few =
     next_few (value_in c.args.self.now c.args.found.now) c.deref-arg-items.result.now k arg within is
     (instance_of c.args.self.now c.args.found.now (tree c.args.t.now)) c.in-App.f (whole t c) c.args.self.now now ids so_far next
-    (call_few c.args.self.now now c.args.found.now c.deref-arg-items.result.now ids k c.requires.ids so_far arg within is next few)
+    (call_few c.args.self.now now c.args.found.now c.deref-arg-items.result.now ids k c.requires so_far arg within is next few)
 
 pub returns-in_err-instance-in-App-clause-few : goal.returns-in_err-instance-in-App-clause-few
 returns-in_err-instance-in-App-clause-few t c =
@@ -55,14 +50,8 @@ returns-in_err-push-in-App-clause-few t c =
 
 pub loop-arg-preserved : goal.loop-arg-preserved
 loop-arg-preserved t c =
-    rw c.in_ok-push-in-App.ensures.ok (call_made c.args.self.now c.loop-arg.self c.args.found.now c.deref-arg-items.result.now c.loop-arg.ids.items c.loop-arg.arg-index c.requires.ids c.loop-arg.invariant
+    rw c.in_ok-push-in-App.ensures.ok (call_made c.args.self.now c.loop-arg.self c.args.found.now c.deref-arg-items.result.now c.loop-arg.ids.items c.loop-arg.arg-index c.requires c.loop-arg.invariant
     c.arg-item.result c.loop-arg-test.true c.arg-item.is c.instance.new.self _ c.in_ok-instance-in-App.ensures.kept c.in_ok-instance-in-App.ensures.id c.in_ok-instance-in-App.ensures.few)
-
-pub add-requires-in-App-clause-small : goal.add-requires-in-App-clause-small
-add-requires-in-App-clause-small t c =
-    let a = (goal.at.add-requires-in-App-clause-small t c).After-deref-arg-items in
-    whole_small (value_in c.args.self.now c.args.found.now) c.args.self.now c.loop-arg.self c.deref-arg-items.result.now c.loop-arg.ids.items c.loop-arg.arg-index c.loop-arg.invariant
-    c.loop-arg-test.false (instance_of c.args.self.now c.args.found.now (tree c.args.t.now)) c.in-App.f (whole t a) c.requires.small
 
 few_made : (t : ℕ) (c : After-deref-arg-items t) → (now : List Tree) (ids : List ℕ) (k : ℕ) → AreMade (value_in c.args.self.now c.args.found.now) c.args.self.now now c.deref-arg-items.result.now ids k
     → length c.deref-arg-items.result.now ≤ k → length now + 1 ≤ length c.args.self.now + size_of (instance_of c.args.self.now c.args.found.now (tree c.args.t.now))
@@ -70,18 +59,13 @@ few_made t c now ids k so_far all =
     whole_few (value_in c.args.self.now c.args.found.now) c.args.self.now now c.deref-arg-items.result.now ids k so_far all
     (instance_of c.args.self.now c.args.found.now (tree c.args.t.now)) c.in-App.f (whole t c)
 
-pub add-requires-in-App-clause-room : goal.add-requires-in-App-clause-room
-add-requires-in-App-clause-room t c =
-    let few = few_made t (goal.at.add-requires-in-App-clause-room t c).After-deref-arg-items c.loop-arg.self c.loop-arg.ids.items c.loop-arg.arg-index c.loop-arg.invariant c.loop-arg-test.false in
-    omega (arith, few, c.requires.room)
-
 pub returns-after-loop-arg-clause-few : goal.returns-after-loop-arg-clause-few
 returns-after-loop-arg-clause-few t c =
     let few = few_made t (goal.at.returns-after-loop-arg-clause-few t c).After-deref-arg-items c.loop-arg.self c.loop-arg.ids.items c.loop-arg.arg-index c.loop-arg.invariant c.loop-arg-test.false in
     omega (arith, few, c.add-in-App.ensures.few)
 
 pub returns-in-Some-clause-id : goal.returns-in-Some-clause-id
-returns-in-Some-clause-id t c = rw c.in-Var.is (bound_at c.args.self.now c.args.found.now c.in-Var.v c.in-Some.id c.in-Some.ensures c.requires.ids)
+returns-in-Some-clause-id t c = rw c.in-Var.is (bound_at c.args.self.now c.args.found.now c.in-Var.v c.in-Some.id c.in-Some.ensures c.requires)
 
 pub returns-after-loop-arg-clause-id : goal.returns-after-loop-arg-clause-id
 returns-after-loop-arg-clause-id t c =

@@ -63,6 +63,7 @@ loop-k-preserved c =
       there = rw current c.in-Ok-step_at.ensures.there;
       kept = extends_on c.args.self.now c.carry_over.new.self c.step_at.new.self (kept (goal.at.loop-k-preserved c).After-step_at) c.in-Ok-step_at.ensures.kept;
       few = omega (arith, small, c.in-Ok-step_at.ensures.few, c.in-Ok.ensures.room, c.mark-mark.ensures);
+      small = λ _. rw current small;
       made = rw current (one_more_step c.args.trs.now c.args.path.now c.loop-k.k _ c.loop-k-test.true is (tree_at c.args.self.now c.args.id) (tree_at c.loop-k.self c.loop-k.current)
           (tree_at c.step_at.new.self c.in-Ok-step_at.next) c.loop-k.invariant.made step c.in-Ok-step_at.ensures.limits);
       idle = idle_is c;
@@ -80,6 +81,7 @@ loop-k-preserved-then-is_same c =
       there = c.loop-k.invariant.there;
       kept = c.loop-k.invariant.kept;
       few = c.loop-k.invariant.few;
+      small = c.loop-k.invariant.small;
       made = one_more_step c.args.trs.now c.args.path.now c.loop-k.k _ c.loop-k-test.true is (tree_at c.args.self.now c.args.id) t t c.loop-k.invariant.made stays.steps stays.small;
       idle = c.loop-k.invariant.idle;
       only = λ v follows. rest_of_path c.args.trs.now c.args.path.now c.loop-k.k _ c.loop-k-test.true is t t v stays.valid stays.steps (c.loop-k.invariant.only v follows);
