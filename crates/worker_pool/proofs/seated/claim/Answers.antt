@@ -1,9 +1,19 @@
-use Rattle.std.proofs.Common.{subst}
+use Rattle.std.proofs.Common.{◌∙◌, ap, sym, subst}
 use Rattle.turn_lock.specs.Rules.{AddsOne}
+use Rattle.turn_lock.specs.declared.sitting.Sitting.{Sitting}
 use Rattle.turn_lock.proofs.Turns.{turn_after}
 use Rattle.worker_pool.specs.Shared.{history_of}
+use Rattle.worker_pool.specs.declared.entry.Entry.{Entry}
 use Rattle.worker_pool.specs.declared.shared.SharedTree.{SharedTree}
+use Rattle.worker_pool.proofs.Turning.{adds_at}
 use Rattle.worker_pool.proofs.seated.claim.Goals as goal
+
+pub give-requires-clause-adds : goal.give-requires-clause-adds
+give-requires-clause-adds g c =
+    adds_at c.number-number.result c.take-held.result.grip.number (history_of c.value_mut.result.now.tree) c.take-held.result.grip.seen
+    (history_of c.claim-claimed.new.self.tree) c.number-number.ensures
+    (ap (λ (s : SharedTree). history_of s.tree) c.value_mut.ensures.value ∙ sym (ap (λ (s : Sitting Entry). s.seen) c.take-held.ensures.seat))
+    c.claim-claimed.ensures.adds
 
 pub returns-clause-after : goal.returns-clause-after
 returns-clause-after g c =
