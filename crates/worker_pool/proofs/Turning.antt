@@ -1,6 +1,6 @@
 -- What a seat knows while it has the turn, and once it has given the tree back; and what is known of a tree by its opening.
 use Rattle.std.specs.Prelude.{IfOk}
-use Rattle.std.proofs.Common.{◌≡◌, ◌<◌, ◌≤◌, ◌∙◌, ℕ, List, [], ◌∷◌, ap, refl, sym, subst, Option, Some, Result, Ok, Err, inl, inr, arith}
+use Rattle.std.proofs.Common.{◌≡◌, ◌≤◌, ◌∙◌, ℕ, List, [], ◌∷◌, ap, refl, sym, subst, Option, Some, Result, Ok, Err, inl, inr, arith}
 use mathlib.Core.List.{IsPrefix}
 use Rattle.atomic_table.specs.Seated.{TableId}
 use Rattle.trs_defs.specs.System.{System}

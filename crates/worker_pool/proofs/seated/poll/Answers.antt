@@ -1,5 +1,5 @@
 use Rattle.std.proofs.Common.{◌∙◌, ap, sym, subst}
-use Rattle.turn_lock.specs.Rules.{of, AddsOne}
+use Rattle.turn_lock.specs.Rules.{AddsOne}
 use Rattle.turn_lock.specs.declared.sitting.Sitting.{Sitting}
 use Rattle.turn_lock.proofs.Turns.{turn_after}
 use Rattle.worker_pool.specs.Shared.{history_of}

@@ -1,4 +1,4 @@
-use Rattle.std.proofs.Common.{◌≡◌, ◌<◌, ◌∙◌, ℕ, List, sym, subst, arith}
+use Rattle.std.proofs.Common.{◌<◌, ◌∙◌, ℕ, List, sym, subst, arith}
 use Rattle.tree_core.specs.cert_step.ProofProblem.{problem_of}
 use Rattle.tree_core.specs.tree_definitions.History.{Runs}
 use Rattle.turn_lock.specs.declared.signed.Signed.{Signed}
