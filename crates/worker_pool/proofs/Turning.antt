@@ -1,6 +1,6 @@
 -- What a seat knows while it has the turn, and once it has given the tree back; and what is known of a tree by its opening.
 use Rattle.std.specs.Prelude.{IfOk}
-use Rattle.std.proofs.Common.{◌≡◌, ◌≤◌, ◌∙◌, ℕ, List, [], ◌∷◌, ap, refl, sym, subst, Option, Some, Result, Ok, Err, inl, inr, arith}
+use Rattle.std.proofs.Common.{◌≡◌, ◌<◌, ◌≤◌, ◌∙◌, ℕ, List, [], ◌∷◌, ap, refl, sym, subst, Option, Some, Result, Ok, Err, inl, inr, arith}
 use mathlib.Core.List.{IsPrefix}
 use Rattle.atomic_table.specs.Seated.{TableId}
 use Rattle.trs_defs.specs.System.{System}
@@ -86,9 +86,9 @@ module _ (lock : TableId) (first : Sitting Entry) (ticket stops : ℕ) (kept : O
   is_now = cc (watched.there, there)
 
   -- before the first stop the ticket runs
-  pub watched_runs : stops ≡ 0 → Runs ticket (tree_entries seat.mine)
+  pub watched_runs : stops ≤ 0 → Runs ticket (tree_entries seat.mine)
   watched_runs none =
-      subst (λ (es : List (Signed Entry)). Runs ticket (tree_entries es)) (sym (watched.same none) ∙ ap (λ (s : Sitting Entry). s.mine) is_now) watched.runs
+      subst (λ (es : List (Signed Entry)). Runs ticket (tree_entries es)) (sym (watched.same (omega (arith, none))) ∙ ap (λ (s : Sitting Entry). s.mine) is_now) watched.runs
 
   -- with the first stop it has ended
   pub watched_over : (next : Sitting Entry) → After seat next → HasEnded ticket next.mine → IsWatched lock first ticket 1 (Some next)
@@ -114,6 +114,9 @@ pub still_same : (old new : Watching) (seat next : Sitting Entry) (stops : ℕ) 
 still_same old new seat next stops kept first after same is none =
     let from : new.first ≡ seat = first_kept old new kept ∙ first in
     (after.number ∙ ap (λ (s : Sitting Entry). s.number) from, same (omega (arith, is, none)) ∙ ap (λ (s : Sitting Entry). s.mine) from)
+
+pub none_rose : (old new stops : ℕ) → old < new → stops ≡ new → stops ≤ 0 → ⊥
+none_rose old new stops rose is none = omega (arith, rose, is, none)
 
 -- it has the task still, as the outcome names it
 pub still_has : (seat next : Sitting Entry) (ticket : ℕ) (problem p : ProofProblem) (strategy s : Strategy) → (next.number ≡ seat.number) × (next.mine ≡ seat.mine)

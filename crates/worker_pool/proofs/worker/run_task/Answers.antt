@@ -1,10 +1,10 @@
-use Rattle.std.proofs.Common.{◌<◌, ◌∙◌, ℕ, List, sym, subst, arith}
+use Rattle.std.proofs.Common.{◌<◌, ◌∙◌, ℕ, List, sym, subst}
 use Rattle.tree_core.specs.cert_step.ProofProblem.{problem_of}
 use Rattle.tree_core.specs.tree_definitions.History.{Runs}
 use Rattle.turn_lock.specs.declared.signed.Signed.{Signed}
 use Rattle.worker_pool.specs.declared.entry.Entry.{Entry}
 use Rattle.worker_pool.specs.Shared.{HasEnded, tree_entries}
-use Rattle.worker_pool.proofs.Turning.{ticket_kept, still_same, still_has}
+use Rattle.worker_pool.proofs.Turning.{ticket_kept, still_same, still_has, none_rose}
 use Rattle.worker_pool.proofs.worker.run_task.Goals as goal
 
 pub returns-then-stops-gt0-clause-ended : goal.returns-then-stops-gt0-clause-ended
@@ -31,5 +31,5 @@ post-requires-clause-task g c =
 
 pub unreachable-requires : goal.unreachable-requires
 unreachable-requires g c =
-    let rose = rw c.in-Ok-Stopped.field-0-is at c.in-Ok-Stopped.ensures.stopped in
-    omega (arith, rose, c.leave-seat.ensures.stops, c.if-stops-gt0.false)
+    none_rose c.new-watch.result.stops c.run-ran.new.stop.stops c.leave-seat.result.1 (rw c.in-Ok-Stopped.field-0-is at c.in-Ok-Stopped.ensures.stopped)
+    c.leave-seat.ensures.stops c.if-stops-gt0.false
