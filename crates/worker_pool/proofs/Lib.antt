@@ -4,3 +4,4 @@ pub mod Rounds
 pub mod Sharing
 pub mod SerialEnds
 mod Crossing
+mod Turning
