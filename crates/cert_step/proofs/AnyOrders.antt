@@ -4,7 +4,7 @@ use Rattle.std.specs.declared.alloc.Global.{Global}
 use Rattle.trs_defs.specs.System.{System}
 use Rattle.pair_theory.specs.DependencyPair.{dependency_pairs}
 use Rattle.dp_graph.specs.dp_core.PairConditions.{pair_conditions}
-use Rattle.rewrite_core.specs.declared.refusals.CheckFault.{CheckFault}
+use Rattle.rewrite_core.specs.declared.checks.refusals.CheckFault.{CheckFault}
 use Rattle.rewrite_core.specs.Check.{AnswersBy, Then, Returns}
 use Rattle.cert_step.specs.declared.any_order.AnyOrder.{AnyOrder}
 use Rattle.cert_step.specs.declared.any_order.AnyOrder.TheVariants.{Poly, Lpo, Kbo}

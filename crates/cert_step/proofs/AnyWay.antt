@@ -2,8 +2,8 @@
 use Rattle.std.specs.Prelude.{◌≡◌, ℕ, Bool, List, [], ◌∷◌, map, Ok, IsTrue, refl}
 use Rattle.std.proofs.Common.{sym, ap, subst}
 use Rattle.trs_defs.specs.System.{System}
-use Rattle.rewrite_core.specs.declared.forks.ForkTest.{ForkTest}
-use Rattle.rewrite_core.specs.declared.forks.ForkTest.TheVariants.{Normal, Apart}
+use Rattle.rewrite_core.specs.declared.checks.forks.ForkTest.{ForkTest}
+use Rattle.rewrite_core.specs.declared.checks.forks.ForkTest.TheVariants.{Normal, Apart}
 use Rattle.rewrite_core.specs.Check.{Check, Returns, returned, goes_on, holds}
 use Rattle.cert_step.specs.ProofProblem as problem
 use Rattle.cert_step.specs.ProofProblem.{ProofProblem}

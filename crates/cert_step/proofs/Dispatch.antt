@@ -3,8 +3,8 @@ use Rattle.std.specs.Prelude.{◌≡◌, Bool, true, false, Vec, Result, Ok, Err
 use Rattle.std.proofs.Common.{sym, ◌∙◌}
 use Rattle.std.specs.declared.alloc.Global.{Global}
 use Rattle.trs_defs.specs.System.{System, IsSystem}
-use Rattle.rewrite_core.specs.declared.refusals.CheckFault.{CheckFault}
-use Rattle.rewrite_core.specs.declared.refusals.StepRefused.TheVariants.{WrongProblem}
+use Rattle.rewrite_core.specs.declared.checks.refusals.CheckFault.{CheckFault}
+use Rattle.rewrite_core.specs.declared.checks.refusals.StepRefused.TheVariants.{WrongProblem}
 use Rattle.rewrite_core.specs.Check.{AnswersBy, stops, lacks, holds}
 use Rattle.rewrite_core.proofs.Answering.{then_answers}
 use Rattle.cert_step.specs.declared.problem.Problem.{Problem}

@@ -14,9 +14,9 @@ use Rattle.trs_defs.specs.UniqueNormalForms.{IsSplit}
 use Rattle.trs_defs.proofs.Places.{derivation_of_follows}
 use Rattle.confluence_theory.proofs.NormalForms.{split_forked}
 use Rattle.nonjoin.proofs.ApartLaws.{system_apart}
-use Rattle.rewrite_core.specs.declared.forks.ForkTest.{ForkTest}
-use Rattle.rewrite_core.specs.declared.forks.ForkTest.TheVariants.{Normal, Apart}
-use Rattle.rewrite_core.specs.declared.refusals.CheckFault.{CheckFault}
+use Rattle.rewrite_core.specs.declared.checks.forks.ForkTest.{ForkTest}
+use Rattle.rewrite_core.specs.declared.checks.forks.ForkTest.TheVariants.{Normal, Apart}
+use Rattle.rewrite_core.specs.declared.checks.refusals.CheckFault.{CheckFault}
 use Rattle.rewrite_core.specs.Reducible.{IsReducible}
 use Rattle.rewrite_core.specs.Check.{HasOneAnswer, Answers, goes_on, absent, holds}
 use Rattle.rewrite_core.specs.PathCheck.{Runs, followed}

@@ -3,7 +3,7 @@ use Rattle.std.specs.Prelude.{◌≡◌, List, Vec, Result, Ok, Err, refl}
 use Rattle.std.specs.declared.alloc.Global.{Global}
 use Rattle.std.proofs.Common.{sym, subst}
 use Rattle.trs_defs.specs.System.{System}
-use Rattle.rewrite_core.specs.declared.refusals.CheckFault.{CheckFault}
+use Rattle.rewrite_core.specs.declared.checks.refusals.CheckFault.{CheckFault}
 use Rattle.rewrite_core.specs.Check.{Check, Refuses, AnswersBy, Answers, Then, Returns, returned, goes_on}
 use Rattle.rewrite_core.proofs.Answering.{refused_first}
 use Rattle.cert_step.specs.declared.problem.Problem.{Problem}

@@ -1,8 +1,8 @@
 -- A step has at most one answer.
 use Rattle.std.specs.Prelude.{◌≡◌, List, Ok, Err, IsTrue}
 use Rattle.trs_defs.specs.System.{System, IsSystem}
-use Rattle.rewrite_core.specs.declared.refusals.StepRefused.{StepRefused}
-use Rattle.rewrite_core.specs.declared.refusals.StepRefused.TheVariants.{WrongProblem}
+use Rattle.rewrite_core.specs.declared.checks.refusals.StepRefused.{StepRefused}
+use Rattle.rewrite_core.specs.declared.checks.refusals.StepRefused.TheVariants.{WrongProblem}
 use Rattle.rewrite_core.specs.Check.{HasOneAnswer, goes_on}
 use Rattle.rewrite_core.proofs.CheckLaws.{then_once, needs_once}
 use Rattle.cert_step.specs.ProofProblem.{ProofProblem}

@@ -4,7 +4,7 @@ use Rattle.trs_defs.specs.Tree.{Tree}
 use Rattle.trs_defs.specs.System.{System}
 use Rattle.trs_defs.specs.Path.{PlacedRule}
 use Rattle.trs_core.specs.View.{tree}
-use Rattle.rewrite_core.specs.declared.forks.ForkTest.{ForkTest}
+use Rattle.rewrite_core.specs.declared.checks.forks.ForkTest.{ForkTest}
 use Rattle.rewrite_core.specs.PathsOfJoin.{PathsOfJoin}
 use Rattle.rule_label.specs.closed_pairs.ParallelClosed.{paths_of}
 use Rattle.rule_label.specs.closed_pairs.StronglyClosed.{FourPaths}

@@ -1,7 +1,7 @@
 -- Why a step does not apply to a problem: the first of its conditions that fails.
 use Rattle.std.specs.Prelude.{Err}
 use Rattle.trs_defs.specs.System.{System}
-use Rattle.rewrite_core.specs.declared.refusals.StepRefused.{StepRefused}
+use Rattle.rewrite_core.specs.declared.checks.refusals.StepRefused.{StepRefused}
 use Rattle.cert_step.specs.ProofProblem.{ProofProblem}
 use Rattle.cert_step.specs.ProofStep.{ProofStep}
 use Rattle.cert_step.specs.Applies.{step_conditions}

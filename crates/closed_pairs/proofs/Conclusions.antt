@@ -17,7 +17,7 @@ use Rattle.confluence_theory.specs.ParallelPositions.{ArePairwiseParallel}
 use Rattle.confluence_theory.specs.Peak.{Peak, Covers}
 use Rattle.rewrite_core.specs.PlacedPeak.{PlacedPeak}
 use Rattle.rewrite_core.specs.PathsOfJoin.{PathsOfJoin}
-use Rattle.rewrite_core.specs.declared.refusals.CheckFault.{CheckFault}
+use Rattle.rewrite_core.specs.declared.checks.refusals.CheckFault.{CheckFault}
 use Rattle.rewrite_core.specs.Check.{Check, Answers, goes_on, holds}
 use Rattle.rewrite_core.specs.PathCheck.{followed}
 use Rattle.crit_pairs.specs.PlainPeak.{plain}

@@ -6,7 +6,7 @@ use Rattle.std.proofs.lemmas.List.{length-map}
 use Rattle.std.proofs.lemmas.Option.{slice_get_read}
 use Rattle.trs_defs.specs.Path.{PlacedRule}
 use Rattle.rewrite_core.specs.PlacedPeak.{PlacedPeak}
-use Rattle.rewrite_core.specs.declared.refusals.StepRefused.TheVariants.{Count}
+use Rattle.rewrite_core.specs.declared.checks.refusals.StepRefused.TheVariants.{Count}
 use Rattle.rewrite_core.specs.Check.{Check, has_length, Then, stops, lacks}
 use Rattle.rewrite_core.proofs.Items.{zipped, read_image}
 use Rattle.closed_pairs.specs.ParallelClosed.{paths_of}

@@ -5,7 +5,7 @@ use Rattle.trs_defs.specs.Member.{In, in_first, in_rest}
 use Rattle.trs_defs.specs.System.{RewriteRule}
 use Rattle.confluence_theory.specs.Linear.{AreLeftLinear, AreRightLinear}
 use Rattle.confluence_theory.specs.Peak.{Peak}
-use Rattle.rewrite_core.specs.declared.refusals.StepRefused.{StepRefused}
+use Rattle.rewrite_core.specs.declared.checks.refusals.StepRefused.{StepRefused}
 use Rattle.rewrite_core.specs.PlacedPeak.{PlacedPeak}
 use Rattle.rewrite_core.specs.Check.{Check, Needs, holds, goes_on, each}
 use Rattle.rewrite_core.proofs.Items.{passed_item}

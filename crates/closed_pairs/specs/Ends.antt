@@ -5,7 +5,7 @@ use Rattle.trs_defs.specs.System.{RewriteRule}
 use Rattle.trs_defs.specs.Path.{PlacedRule}
 use Rattle.trs_core.specs.View.{tree}
 use Rattle.trs_core.specs.declared.terms.Term.{Term}
-use Rattle.rewrite_core.specs.declared.refusals.StepRefused.TheVariants.{EndsDiffer}
+use Rattle.rewrite_core.specs.declared.checks.refusals.StepRefused.TheVariants.{EndsDiffer}
 use Rattle.rewrite_core.specs.Check.{Check, Needs, ◌>>=◌}
 use Rattle.rewrite_core.specs.PathCheck.{Runs}
 

@@ -2,7 +2,7 @@
 use Rattle.std.specs.Prelude.{ℕ, List}
 use Rattle.trs_defs.specs.Variable.{IsLinear}
 use Rattle.trs_defs.specs.System.{RewriteRule}
-use Rattle.rewrite_core.specs.declared.refusals.StepRefused.TheVariants.{NotLinear}
+use Rattle.rewrite_core.specs.declared.checks.refusals.StepRefused.TheVariants.{NotLinear}
 use Rattle.rewrite_core.specs.Check.{Check, Needs, each}
 
 abbrev pub is_left_linear : ℕ → RewriteRule → Check (Unit {0})

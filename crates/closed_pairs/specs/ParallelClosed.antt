@@ -4,7 +4,7 @@ use Rattle.std.specs.declared.alloc.Global.{Global}
 use Rattle.trs_defs.specs.System.{RewriteRule, System}
 use Rattle.trs_defs.specs.Path.{PlacedRule}
 use Rattle.confluence_theory.specs.ParallelPositions.{ArePairwiseParallel}
-use Rattle.rewrite_core.specs.declared.refusals.StepRefused.TheVariants.{NotParallel, EndsDiffer}
+use Rattle.rewrite_core.specs.declared.checks.refusals.StepRefused.TheVariants.{NotParallel, EndsDiffer}
 use Rattle.rewrite_core.specs.PlacedPeak.{PlacedPeak}
 use Rattle.rewrite_core.specs.Check.{Check, Needs, each, has_length, ◌>>=◌, ◌>>◌}
 use Rattle.rewrite_core.specs.PathCheck.{Runs}

@@ -4,7 +4,7 @@ use Rattle.std.specs.Coded.{Coded, code_by, coded×, coded_list}
 use Rattle.trs_defs.specs.Tree.{Tree}
 use Rattle.trs_defs.specs.System.{RewriteRule, System}
 use Rattle.trs_defs.specs.Path.{PlacedRule, placed_code}
-use Rattle.rewrite_core.specs.declared.refusals.StepRefused.TheVariants.{TooLong}
+use Rattle.rewrite_core.specs.declared.checks.refusals.StepRefused.TheVariants.{TooLong}
 use Rattle.rewrite_core.specs.PlacedPeak.{PlacedPeak}
 use Rattle.rewrite_core.specs.Check.{Check, Needs, each, has_length, ◌>>=◌, ◌>>◌}
 use Rattle.crit_pairs.specs.PeaksCheck.{ListsCriticalPeaks}

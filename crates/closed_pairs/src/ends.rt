@@ -1,7 +1,7 @@
 ghost use Rattle.std.specs.Prelude.{◌≡◌};
 ghost use Rattle.trs_core.specs.View.{tree};
 ghost use Rattle.rewrite_core.specs.Check.{Answers, AnswersBy, Needs};
-ghost use Rattle.rewrite_core.specs.declared.refusals.StepRefused.TheVariants.{EndsDiffer};
+ghost use Rattle.rewrite_core.specs.declared.checks.refusals.StepRefused.TheVariants.{EndsDiffer};
 ghost use Rattle.rewrite_core.specs.PathCheck.{Runs};
 ghost use Rattle.closed_pairs.specs.Ends.{ends_meet, made_of};
 

@@ -5,7 +5,7 @@ use Rattle.trs_defs.specs.Tree.{Tree}
 use Rattle.trs_defs.specs.System.{RewriteRule, System, IsSystem}
 use Rattle.trs_defs.proofs.Members.{in_left}
 use Rattle.rewrite_core.specs.PlacedPeak.{PlacedPeak}
-use Rattle.rewrite_core.specs.declared.refusals.StepRefused.{StepRefused}
+use Rattle.rewrite_core.specs.declared.checks.refusals.StepRefused.{StepRefused}
 use Rattle.crit_pairs.specs.PeakList.{ListsPeaks}
 use Rattle.crit_pairs.specs.PeaksCheck.{ListsCriticalPeaks, listed, too_large, too_many}
 use Rattle.crit_pairs.specs.FirstPeaks.{AreFirst}

@@ -7,7 +7,7 @@ use Rattle.rewrite_core.specs.PlacedPeak.{PlacedPeak}
 use Rattle.crit_pairs.specs.PeakList.{Spot, Lists, no_overlap, fault_later, too_large, too_many, ListsPeaks}
 use Rattle.crit_pairs.specs.PeaksCheck as check
 use Rattle.crit_pairs.specs.declared.faults.PeakFault.TheVariants as fault
-use Rattle.rewrite_core.specs.declared.refusals.StepRefused.TheVariants.{PeaksTooLarge, PeaksTooMany}
+use Rattle.rewrite_core.specs.declared.checks.refusals.StepRefused.TheVariants.{PeaksTooLarge, PeaksTooMany}
 use Rattle.crit_pairs.specs.declared.faults.PeakFault.{PeakFault}
 use Rattle.crit_pairs.proofs.ListedOnce.{listed_once}
 use Rattle.completion.specs.ReductionOrder.{IsReductionOrder}

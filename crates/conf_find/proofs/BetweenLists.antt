@@ -5,7 +5,7 @@ use Rattle.trs_defs.specs.Tree.{Tree}
 use Rattle.trs_defs.specs.System.{RewriteRule}
 use Rattle.term_pool.specs.Pooled.{AreDistinct, tree_at}
 use Rattle.term_pool.specs.ListedIds.{listed, listed_at}
-use Rattle.rewrite_core.specs.declared.forks.ForkTest.TheVariants.{Normal}
+use Rattle.rewrite_core.specs.declared.checks.forks.ForkTest.TheVariants.{Normal}
 use Rattle.join_find.specs.CommonIds.{Reached}
 use Rattle.term_pool.specs.Listed.{Listed}
 use Rattle.trs_caps.specs.Clash.{AreDisjoint}

@@ -10,8 +10,8 @@ use Rattle.trs_defs.specs.System.{RewriteRule, System, IsSystem}
 use Rattle.trs_defs.specs.Path.{StepsAt, Follows}
 use Rattle.term_pool.proofs.ReachLaws.{paths_lead}
 use Rattle.rewrite_core.specs.PlacedPeak.{PlacedPeak}
-use Rattle.rewrite_core.specs.declared.forks.ForkTest.{ForkTest}
-use Rattle.rewrite_core.specs.declared.forks.ForkTest.TheVariants.{Normal, Apart}
+use Rattle.rewrite_core.specs.declared.checks.forks.ForkTest.{ForkTest}
+use Rattle.rewrite_core.specs.declared.checks.forks.ForkTest.TheVariants.{Normal, Apart}
 use Rattle.rewrite_core.specs.Check.{goes_on, absent, holds}
 use Rattle.rewrite_core.specs.PathCheck.{followed}
 use Rattle.join_find.specs.crit_pairs.PlainPeak.{plain}

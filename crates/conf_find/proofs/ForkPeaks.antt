@@ -12,7 +12,7 @@ use Rattle.term_pool.specs.Listed.{Listed}
 use Rattle.term_pool.specs.ListedIds.{listed, listed_at}
 use Rattle.term_pool.proofs.ReachedIds.{same_listed, length_listed}
 use Rattle.rewrite_core.specs.PlacedPeak.{PlacedPeak}
-use Rattle.rewrite_core.specs.declared.forks.ForkTest.{ForkTest}
+use Rattle.rewrite_core.specs.declared.checks.forks.ForkTest.{ForkTest}
 use Rattle.join_find.specs.First.{Along}
 use Rattle.join_find.specs.CommonIds.{Reached}
 use Rattle.join_find.proofs.Firsts.{along_one_more, along_all}

@@ -4,7 +4,7 @@ use Rattle.trs_core.specs.View.{tree}
 use Rattle.trs_defs.specs.Tree.{Tree}
 use Rattle.trs_defs.specs.Path.{PlacedRule}
 use Rattle.rewrite_core.specs.PlacedPeak.{PlacedPeak}
-use Rattle.rewrite_core.specs.declared.forks.ForkTest.{ForkTest}
+use Rattle.rewrite_core.specs.declared.checks.forks.ForkTest.{ForkTest}
 use Rattle.conf_find.specs.declared.forks.ForkFound.{ForkFound}
 
 -- a start, two paths from it, and how it is seen that their ends never meet

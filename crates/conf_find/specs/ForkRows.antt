@@ -9,8 +9,8 @@ use Rattle.trs_defs.specs.NormalForm.{IsNormalForm}
 use Rattle.term_pool.specs.Listed.{Listed}
 use Rattle.term_pool.specs.Reach.{IsReachList}
 use Rattle.rewrite_core.specs.PlacedPeak.{PlacedPeak}
-use Rattle.rewrite_core.specs.declared.forks.ForkTest.{ForkTest}
-use Rattle.rewrite_core.specs.declared.forks.ForkTest.TheVariants.{Normal, Apart}
+use Rattle.rewrite_core.specs.declared.checks.forks.ForkTest.{ForkTest}
+use Rattle.rewrite_core.specs.declared.checks.forks.ForkTest.TheVariants.{Normal, Apart}
 use Rattle.cert_step.specs.nonjoin.Apart.{AreApart}
 use Rattle.join_find.specs.First.{First, Some_in, None_in}
 use Rattle.conf_find.specs.Fork.{Fork, fork_from}

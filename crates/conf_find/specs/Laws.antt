@@ -2,7 +2,7 @@
 use Rattle.std.specs.Prelude.{◌≡◌, List, Ok}
 use Rattle.trs_defs.specs.System.{System, IsSystem}
 use Rattle.rewrite_core.specs.PlacedPeak.{PlacedPeak}
-use Rattle.rewrite_core.specs.declared.forks.ForkTest.TheVariants.{Normal}
+use Rattle.rewrite_core.specs.declared.checks.forks.ForkTest.TheVariants.{Normal}
 use Rattle.join_find.specs.crit_pairs.PeakList.{ListsPeaks}
 use Rattle.cert_step.specs.ForkKind.{fork_kind, fork_conditions}
 use Rattle.conf_find.specs.Fork.{Fork}

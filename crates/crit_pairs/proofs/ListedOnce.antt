@@ -3,7 +3,7 @@ use Rattle.std.specs.Prelude.{◌≡◌, ◌≤◌, ◌<◌, ℕ, ◌+◌, ◌�
 use Rattle.std.proofs.Common.{inl, inr, sym, ◌∙◌, ap, subst, arith}
 use Rattle.trs_defs.specs.Member.{In, in_first, in_rest}
 use Rattle.trs_defs.specs.System.{RewriteRule, System, IsSystem}
-use Rattle.rewrite_core.specs.declared.refusals.StepRefused.{StepRefused}
+use Rattle.rewrite_core.specs.declared.checks.refusals.StepRefused.{StepRefused}
 use Rattle.rewrite_core.specs.PlacedPeak.{PlacedPeak}
 use Rattle.rewrite_core.specs.Check.{HasOneAnswer}
 use Rattle.crit_pairs.specs.PeakList.{Spot, spots, OverlapsAt, IsPeakAt, is_small, nodes_of_peak, Lists, at_end, no_overlap, one_peak, fault_later, too_large, too_many, ListsPeaks}

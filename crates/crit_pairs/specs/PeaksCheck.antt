@@ -1,10 +1,10 @@
 -- The critical peaks of a system, as a condition of a step of a proof.
 use Rattle.std.specs.Prelude.{List, Result, Ok, Err}
 use Rattle.trs_defs.specs.System.{RewriteRule}
-use Rattle.rewrite_core.specs.declared.refusals.StepRefused.{StepRefused}
-use Rattle.rewrite_core.specs.declared.refusals.StepRefused.TheVariants.{PeaksTooLarge, PeaksTooMany}
-use Rattle.rewrite_core.specs.declared.refusals.CheckFault.{CheckFault}
-use Rattle.rewrite_core.specs.declared.refusals.CheckFault.TheVariants.{Refused, OutOfMemory}
+use Rattle.rewrite_core.specs.declared.checks.refusals.StepRefused.{StepRefused}
+use Rattle.rewrite_core.specs.declared.checks.refusals.StepRefused.TheVariants.{PeaksTooLarge, PeaksTooMany}
+use Rattle.rewrite_core.specs.declared.checks.refusals.CheckFault.{CheckFault}
+use Rattle.rewrite_core.specs.declared.checks.refusals.CheckFault.TheVariants.{Refused, OutOfMemory}
 use Rattle.rewrite_core.specs.PlacedPeak.{PlacedPeak}
 use Rattle.crit_pairs.specs.PeakList.{ListsPeaks}
 use Rattle.crit_pairs.specs.declared.faults.PeakFault.{PeakFault}

@@ -13,7 +13,7 @@ use Rattle.pair_theory.specs.Marked.{plain}
 use Rattle.pair_theory.specs.DependencyPair.{DependencyPair, dependency_pairs}
 use Rattle.pair_theory.specs.PairProblem.{IsFiniteProblem, IsPair}
 use Rattle.pair_theory.specs.SubtermCriterion.{Projects}
-use Rattle.rewrite_core.specs.declared.refusals.StepRefused.{StepRefused}
+use Rattle.rewrite_core.specs.declared.checks.refusals.StepRefused.{StepRefused}
 use Rattle.rewrite_core.specs.Check.{HasOneAnswer, goes_on, holds, returned, yes_it_does, no_it_does_not}
 use Rattle.rewrite_core.proofs.CheckLaws.{once}
 use Rattle.dp_core.specs.Numbered.{ArePairsOf, TakesPairs, taken, numbers_from}

@@ -3,8 +3,8 @@ use Rattle.std.specs.Prelude.{◌≡◌, ℕ, Bool, List, length, zip, Result, O
 use Rattle.std.proofs.Common.{◌∙◌}
 use Rattle.trs_defs.specs.System.{RewriteRule}
 use Rattle.pair_theory.specs.DependencyPair.{DependencyPair}
-use Rattle.rewrite_core.specs.declared.refusals.StepRefused.TheVariants.{NoEntry}
-use Rattle.rewrite_core.specs.declared.refusals.CheckFault.{CheckFault}
+use Rattle.rewrite_core.specs.declared.checks.refusals.StepRefused.TheVariants.{NoEntry}
+use Rattle.rewrite_core.specs.declared.checks.refusals.CheckFault.{CheckFault}
 use Rattle.rewrite_core.specs.Check.{Check, Refuses, AnswersBy, ForbidsAny, Then, each, collect}
 use Rattle.rewrite_core.proofs.Answering.{refused_first, refused_later, then_answers}
 use Rattle.dp_core.specs.Numbered.{ArePairsOf, TakesPairs, taken}

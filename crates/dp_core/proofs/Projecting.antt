@@ -10,7 +10,7 @@ use Rattle.trs_core.proofs.Lookups.{argument_at_past}
 use Rattle.pair_theory.specs.Marked.{Marked, marked}
 use Rattle.pair_theory.specs.Subterm.{Sub, itself, ProperSubterm}
 use Rattle.pair_theory.specs.DependencyPair.{DependencyPair}
-use Rattle.rewrite_core.specs.declared.refusals.StepRefused.TheVariants.{PairNotWeak}
+use Rattle.rewrite_core.specs.declared.checks.refusals.StepRefused.TheVariants.{PairNotWeak}
 use Rattle.rewrite_core.specs.Check.{stops, goes_on, lacks, holds, yes_it_does, no_it_does_not}
 use Rattle.dp_core.specs.SubtermConditions.{place_for, projected, ProjectedAre, projects_within}
 use Rattle.dp_core.proofs.Containment.{not_proper, proper_of}

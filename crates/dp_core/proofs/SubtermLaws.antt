@@ -3,8 +3,8 @@ use Rattle.std.specs.Prelude.{◌≡◌, ℕ, ◌+◌, Bool, true, List, [], ◌
 use Rattle.std.proofs.Common.{suc, refl, sym, ap, subst, ◌∙◌}
 use Rattle.trs_defs.specs.Member.{In}
 use Rattle.pair_theory.specs.DependencyPair.{DependencyPair}
-use Rattle.rewrite_core.specs.declared.refusals.StepRefused.TheVariants.{NoEntry, NothingRemoved}
-use Rattle.rewrite_core.specs.declared.refusals.CheckFault.{CheckFault}
+use Rattle.rewrite_core.specs.declared.checks.refusals.StepRefused.TheVariants.{NoEntry, NothingRemoved}
+use Rattle.rewrite_core.specs.declared.checks.refusals.CheckFault.{CheckFault}
 use Rattle.rewrite_core.specs.Check.{Check, Refuses, AnswersBy, ForbidsAny, Needs, Returns, Then, returned, stops, goes_on, holds, lacks, collect}
 use Rattle.rewrite_core.proofs.Answering.{refused_first, refused_later, then_answers}
 use Rattle.dp_core.specs.Numbered.{ArePairsOf, TakesPairs, taken}

@@ -1,6 +1,6 @@
 -- Pairs by their numbers.
 use Rattle.std.specs.Prelude.{◌≡◌, ℕ, ◌+◌, List, [], ◌∷◌, map, Some, Result, Ok, slice_get}
-use Rattle.rewrite_core.specs.declared.refusals.StepRefused.{StepRefused}
+use Rattle.rewrite_core.specs.declared.checks.refusals.StepRefused.{StepRefused}
 use Rattle.pair_theory.specs.DependencyPair.{DependencyPair}
 
 -- these are the items of these numbers

@@ -6,8 +6,8 @@ use Rattle.trs_defs.specs.Tree.{Tree}
 use Rattle.trs_defs.specs.System.{RewriteRule}
 use Rattle.pair_theory.specs.Marked.{mark}
 use Rattle.pair_theory.specs.DependencyPair.{DependencyPair}
-use Rattle.rewrite_core.specs.declared.refusals.StepRefused.{StepRefused}
-use Rattle.rewrite_core.specs.declared.refusals.StepRefused.TheVariants.{NoEntry, TooBig, RuleNotWeak, PairNotWeak, NothingRemoved}
+use Rattle.rewrite_core.specs.declared.checks.refusals.StepRefused.{StepRefused}
+use Rattle.rewrite_core.specs.declared.checks.refusals.StepRefused.TheVariants.{NoEntry, TooBig, RuleNotWeak, PairNotWeak, NothingRemoved}
 use Rattle.rewrite_core.specs.Check.{Check, Returns, Needs, Forbids, ForbidsAny, Asks, each, collect, ◌>>=◌, ◌>>◌}
 use Rattle.dp_core.specs.Numbered.{TakesPairs, numbers_from}
 use Rattle.dp_core.specs.Symbols.{symbols_of_rules}

@@ -7,7 +7,7 @@ use Rattle.trs_defs.specs.Position.{argument_at}
 use Rattle.pair_theory.specs.Subterm.{Sub, ProperSubterm}
 use Rattle.pair_theory.specs.Marked.{Marked, plain}
 use Rattle.pair_theory.specs.DependencyPair.{DependencyPair}
-use Rattle.rewrite_core.specs.declared.refusals.StepRefused.TheVariants.{NoEntry, PairNotWeak, NothingRemoved}
+use Rattle.rewrite_core.specs.declared.checks.refusals.StepRefused.TheVariants.{NoEntry, PairNotWeak, NothingRemoved}
 use Rattle.rewrite_core.specs.Check.{Check, Returns, Needs, ForbidsAny, Asks, collect, ◌>>=◌, ◌>>◌}
 use Rattle.dp_core.specs.Numbered.{TakesPairs}
 

@@ -4,7 +4,7 @@ ghost use Rattle.trs_defs.specs.System.{RewriteRule};
 ghost use Rattle.trs_core.specs.View.{tree};
 ghost use Rattle.pair_theory.specs.DependencyPair.{DependencyPair};
 ghost use Rattle.rewrite_core.specs.Check.{Answers, ForbidsAny};
-ghost use Rattle.rewrite_core.specs.declared.refusals.StepRefused.TheVariants.{NoEntry};
+ghost use Rattle.rewrite_core.specs.declared.checks.refusals.StepRefused.TheVariants.{NoEntry};
 ghost use Rattle.dp_core.specs.Numbered.{AreItemsOf, ArePairsOf};
 ghost use Rattle.dp_core.specs.SubtermConditions.{roots_of};
 ghost use Rattle.dp_core.specs.Symbols.{symbols_of, symbols_of_rules};

@@ -15,7 +15,7 @@ use Rattle.trs_defs.proofs.Runs.{one, then}
 use Rattle.trs_defs.specs.System.{RewriteRule, System}
 use Rattle.pair_theory.specs.DependencyPair.{DependencyPair, dependency_pairs, keep_if}
 use Rattle.rewrite_core.specs.Check.{Forbids, holds, absent, never, returned, goes_on, each_after}
-use Rattle.rewrite_core.specs.declared.refusals.StepRefused.TheVariants.{EdgeBack, SelfEdge}
+use Rattle.rewrite_core.specs.declared.checks.refusals.StepRefused.TheVariants.{EdgeBack, SelfEdge}
 use Rattle.dp_graph.specs.declared.items.GraphItem.{GraphItem}
 use Rattle.dp_graph.specs.GroupOrSingle.{GroupOrSingle, items_of, group, single, members_of, all_members, singles_of, groups_of}
 use Rattle.dp_graph.specs.GraphConditions.{HasEdge, are_new, leads_to_none, lead_to_none, graph_conditions}

@@ -21,7 +21,7 @@ use Rattle.dp_graph.specs.GraphConditions.{HasEdge, are_members, leads_to_none, 
 use Rattle.dp_graph.proofs.Covering.{edges_cover}
 use Rattle.dp_graph.proofs.EachOfList.{each_passed, it_is_absent}
 use Rattle.dp_graph.specs.Laws.{GraphStepsConclude, GraphStepsAnswerOnce, GroupsAreOfProblem}
-use Rattle.rewrite_core.specs.declared.refusals.StepRefused.TheVariants.{Member, EdgeBack, SelfEdge}
+use Rattle.rewrite_core.specs.declared.checks.refusals.StepRefused.TheVariants.{Member, EdgeBack, SelfEdge}
 
 pub graph_once : GraphStepsAnswerOnce
 graph_once rules all numbers items = search once depth 30

@@ -13,8 +13,8 @@ use Rattle.trs_defs.specs.System.{RewriteRule, System, IsSystem}
 use Rattle.trs_caps.specs.HoledCap.{MeetsLeft}
 use Rattle.pair_theory.specs.Marked.{Marked, plain, mark}
 use Rattle.pair_theory.specs.DependencyPair.{DependencyPair, dependency_pairs}
-use Rattle.rewrite_core.specs.declared.refusals.StepRefused.{StepRefused}
-use Rattle.rewrite_core.specs.declared.refusals.StepRefused.TheVariants.{EdgeBack}
+use Rattle.rewrite_core.specs.declared.checks.refusals.StepRefused.{StepRefused}
+use Rattle.rewrite_core.specs.declared.checks.refusals.StepRefused.TheVariants.{EdgeBack}
 use Rattle.rewrite_core.specs.Check.{Check, Forbids, absent, returned}
 use Rattle.dp_graph.specs.GraphConditions.{HasEdge}
 use Rattle.dp_graph.specs.ByRoot.{entry_items, items_at}

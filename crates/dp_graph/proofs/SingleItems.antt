@@ -5,10 +5,10 @@ use Rattle.std.proofs.Common.{refl, sym, ap, subst, ◌∙◌}
 use Rattle.std.proofs.lemmas.List.{drop_all, take_all, append-nil}
 use Rattle.trs_defs.specs.System.{System}
 use Rattle.pair_theory.specs.DependencyPair.{dependency_pairs}
-use Rattle.rewrite_core.specs.declared.refusals.StepRefused.{StepRefused}
-use Rattle.rewrite_core.specs.declared.refusals.StepRefused.TheVariants.{SelfEdge}
-use Rattle.rewrite_core.specs.declared.refusals.CheckFault.{CheckFault}
-use Rattle.rewrite_core.specs.declared.refusals.CheckFault.TheVariants.{Refused, OutOfMemory}
+use Rattle.rewrite_core.specs.declared.checks.refusals.StepRefused.{StepRefused}
+use Rattle.rewrite_core.specs.declared.checks.refusals.StepRefused.TheVariants.{SelfEdge}
+use Rattle.rewrite_core.specs.declared.checks.refusals.CheckFault.{CheckFault}
+use Rattle.rewrite_core.specs.declared.checks.refusals.CheckFault.TheVariants.{Refused, OutOfMemory}
 use Rattle.rewrite_core.specs.Check.{Check, Refuses, Forbids, returned}
 use Rattle.dp_graph.specs.declared.items.GraphItem.{GraphItem}
 use Rattle.dp_graph.specs.GroupOrSingle.{GroupOrSingle, group, single, item_of, items_of, groups_of, singles_of}

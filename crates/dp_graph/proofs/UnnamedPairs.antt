@@ -8,10 +8,10 @@ use Rattle.std.proofs.lemmas.Map.Keys.{le_from_not_gt}
 use native.Mathlib.Decide.{ℕ_discrete}
 use Rattle.trs_defs.specs.Member.{In, in_first}
 use Rattle.trs_defs.proofs.Members.{in_or, no_in, in_left, in_right, in_either}
-use Rattle.rewrite_core.specs.declared.refusals.StepRefused.{StepRefused}
-use Rattle.rewrite_core.specs.declared.refusals.StepRefused.TheVariants.{Member, Missing}
-use Rattle.rewrite_core.specs.declared.refusals.CheckFault.{CheckFault}
-use Rattle.rewrite_core.specs.declared.refusals.CheckFault.TheVariants.{Refused, OutOfMemory}
+use Rattle.rewrite_core.specs.declared.checks.refusals.StepRefused.{StepRefused}
+use Rattle.rewrite_core.specs.declared.checks.refusals.StepRefused.TheVariants.{Member, Missing}
+use Rattle.rewrite_core.specs.declared.checks.refusals.CheckFault.{CheckFault}
+use Rattle.rewrite_core.specs.declared.checks.refusals.CheckFault.TheVariants.{Refused, OutOfMemory}
 use Rattle.rewrite_core.specs.Check.{Refuses, holds, lacks, never, least, returned, stops, goes_on}
 use Rattle.dp_graph.specs.declared.items.GraphItem.{GraphItem}
 use Rattle.dp_graph.specs.GroupOrSingle.{item_of, items_of, members_of, all_members}

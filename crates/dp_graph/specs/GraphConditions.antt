@@ -5,7 +5,7 @@ use Rattle.std.specs.declared.alloc.Global.{Global}
 use Rattle.trs_defs.specs.Member.{In}
 use Rattle.trs_defs.specs.System.{RewriteRule}
 use Rattle.pair_theory.specs.DependencyPair.{DependencyPair}
-use Rattle.rewrite_core.specs.declared.refusals.StepRefused.TheVariants.{Member, Missing, EdgeBack, SelfEdge}
+use Rattle.rewrite_core.specs.declared.checks.refusals.StepRefused.TheVariants.{Member, Missing, EdgeBack, SelfEdge}
 use Rattle.rewrite_core.specs.Check.{Check, Returns, Needs, Forbids, ForbidsAny, each, each_after, ◌>>◌}
 use Rattle.dp_graph.specs.Edge.{IsEdge}
 use Rattle.dp_graph.specs.GroupOrSingle.{GroupOrSingle, members_of, all_members, groups_of, singles_of}

@@ -7,10 +7,10 @@ use Rattle.term_pool.specs.declared.steps.StepFault.{StepFault}
 use Rattle.term_pool.specs.declared.steps.StepFault.TheVariants as step
 use Rattle.term_pool.specs.declared.paths.PathFault.{PathFault}
 use Rattle.term_pool.specs.declared.paths.PathFault.TheVariants as fault
-use Rattle.rewrite_core.specs.declared.refusals.StepRefused.{StepRefused}
-use Rattle.rewrite_core.specs.declared.refusals.StepRefused.TheVariants.{Path}
-use Rattle.rewrite_core.specs.declared.refusals.CheckFault.{CheckFault}
-use Rattle.rewrite_core.specs.declared.refusals.CheckFault.TheVariants.{Refused, OutOfMemory}
+use Rattle.rewrite_core.specs.declared.checks.refusals.StepRefused.{StepRefused}
+use Rattle.rewrite_core.specs.declared.checks.refusals.StepRefused.TheVariants.{Path}
+use Rattle.rewrite_core.specs.declared.checks.refusals.CheckFault.{CheckFault}
+use Rattle.rewrite_core.specs.declared.checks.refusals.CheckFault.TheVariants.{Refused, OutOfMemory}
 use Rattle.term_pool.specs.Paths.{PathStops}
 
 abbrev pub number_of_fault : StepFault → ℕ

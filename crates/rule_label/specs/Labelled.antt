@@ -4,7 +4,7 @@ use Rattle.trs_defs.specs.System.{RewriteRule, System}
 use Rattle.trs_defs.specs.Path.{PlacedRule}
 use Rattle.confluence_theory.specs.RanksFit.{RanksFit}
 use Rattle.confluence_theory.specs.RuleRanks.{rank_of}
-use Rattle.rewrite_core.specs.declared.refusals.StepRefused.TheVariants.{Labels}
+use Rattle.rewrite_core.specs.declared.checks.refusals.StepRefused.TheVariants.{Labels}
 use Rattle.rewrite_core.specs.PlacedPeak.{PlacedPeak}
 use Rattle.rewrite_core.specs.PathsOfJoin.{PathsOfJoin}
 use Rattle.rewrite_core.specs.Check.{Check, Needs, each, has_length, ◌>>=◌, ◌>>◌}

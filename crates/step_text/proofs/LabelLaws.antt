@@ -6,7 +6,7 @@ use Rattle.std.proofs.lemmas.List.Elements.{All-from_recursion, recursion_from_A
 use Rattle.sexp_core.specs.Items.{items_of}
 use Rattle.trs_defs.specs.Path.{PlacedRule}
 use Rattle.trs_defs.specs.System.{System}
-use Rattle.rewrite_core.specs.declared.joins.Join.{Join}
+use Rattle.rewrite_core.specs.declared.checks.joins.Join.{Join}
 use Rattle.rewrite_core.specs.PathsOfJoin.{PathsOfJoin}
 use Rattle.cert_step.specs.ProofStep.{ProofStep, label}
 use Rattle.text_reading.proofs.Made.{MakesForm, applied, ok_same, made_part, made_form}

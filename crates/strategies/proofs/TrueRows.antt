@@ -28,8 +28,8 @@ use Rattle.cert_step.specs.ProofStep.{ProofStep, IsWellMade}
 use Rattle.cert_step.specs.Applies.{Applies}
 use Rattle.cert_step.specs.Subproblems.{AreWellMadeProblems}
 use Rattle.cert_step.specs.ForkKind.{for_fork}
-use Rattle.rewrite_core.specs.declared.forks.ForkTest.{ForkTest}
-use Rattle.rewrite_core.specs.declared.forks.ForkTest.TheVariants.{Normal, Apart}
+use Rattle.rewrite_core.specs.declared.checks.forks.ForkTest.{ForkTest}
+use Rattle.rewrite_core.specs.declared.checks.forks.ForkTest.TheVariants.{Normal, Apart}
 use Rattle.strategies.specs.declared.strategy.Strategy.{Strategy}
 use Rattle.strategies.specs.declared.strategy.Strategy.TheVariants as strategy
 use Rattle.strategies.specs.Rows.{FindsOnPeaks}

@@ -7,7 +7,7 @@ use Rattle.trs_defs.specs.System.{RewriteRule, System, IsSystem}
 use Rattle.term_pool.specs.Listed.{Listed}
 use Rattle.term_pool.proofs.ReachOnce.{reach_once}
 use Rattle.rewrite_core.specs.PlacedPeak.{PlacedPeak}
-use Rattle.rewrite_core.specs.declared.forks.ForkTest.{ForkTest}
+use Rattle.rewrite_core.specs.declared.checks.forks.ForkTest.{ForkTest}
 use Rattle.conclusion.specs.report_text.strategies.join_find.First.{First, Some_in}
 use Rattle.conclusion.specs.report_text.strategies.conf_find.Fork.{Fork, fork_from}
 use Rattle.conclusion.specs.report_text.strategies.conf_find.ForkRows.{Behind, behind_none, behind_one, IsTestOf, both_normal, not_both, IsShortReach}

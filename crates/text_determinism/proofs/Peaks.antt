@@ -2,8 +2,8 @@
 use Rattle.std.specs.Prelude.{◌≡◌, ◌⊎◌, ℕ, List, Result, Ok, Err, refl}
 use Rattle.std.proofs.Common.{inl, inr, subst}
 use Rattle.trs_defs.specs.System.{RewriteRule, System, IsSystem}
-use Rattle.rewrite_core.specs.declared.refusals.StepRefused.{StepRefused}
-use Rattle.rewrite_core.specs.declared.refusals.StepRefused.TheVariants.{PeaksTooLarge, PeaksTooMany}
+use Rattle.rewrite_core.specs.declared.checks.refusals.StepRefused.{StepRefused}
+use Rattle.rewrite_core.specs.declared.checks.refusals.StepRefused.TheVariants.{PeaksTooLarge, PeaksTooMany}
 use Rattle.rewrite_core.specs.PlacedPeak.{PlacedPeak}
 use Rattle.loop_find.specs.crit_pairs.PeakList.{Spot, Lists, no_overlap, fault_later, too_large, too_many, ListsPeaks}
 use Rattle.loop_find.specs.crit_pairs.PeaksCheck as check

@@ -3,7 +3,7 @@ use Rattle.std.specs.Prelude.{◌≡◌, ℕ, List, ◌++◌, map, Result, Ok}
 use Rattle.std.proofs.Common.{ap, ap₂, ◌∙◌, subst}
 use Rattle.trs_defs.specs.System.{RewriteRule, System}
 use Rattle.pair_theory.specs.DependencyPair.{DependencyPair, dependency_pairs}
-use Rattle.rewrite_core.specs.declared.refusals.StepRefused.{StepRefused}
+use Rattle.rewrite_core.specs.declared.checks.refusals.StepRefused.{StepRefused}
 use Rattle.sampling.specs.dp_core.Numbered.{AreItemsOf}
 use Rattle.sampling.specs.dp_core.Symbols.{symbols_of_rules, symbols_below_roots}
 use Rattle.conclusion.specs.report_text.strategies.usable_rules.AreUsable.{AreUsableRules}

@@ -8,7 +8,7 @@ use Rattle.trs_defs.specs.System.{RewriteRule, Among, IsDefined, is_defined}
 use Rattle.pair_theory.specs.DependencyPair.{DependencyPair}
 use Rattle.pair_theory.proofs.PairList.{defined_true, true_defined}
 use Rattle.order_theory.specs.UsableRules.{IsUsable, in_pair, in_rule, HasUsable, root_in}
-use Rattle.rewrite_core.specs.declared.refusals.StepRefused.{StepRefused}
+use Rattle.rewrite_core.specs.declared.checks.refusals.StepRefused.{StepRefused}
 use Rattle.rewrite_core.specs.Check.{HasOneAnswer}
 use Rattle.dp_core.specs.Numbered.{AreItemsOf}
 use Rattle.dp_core.proofs.Conclusions.{same_pairs}

@@ -8,7 +8,7 @@ use Rattle.pair_theory.specs.Marked.{mark}
 use Rattle.pair_theory.specs.DependencyPair.{DependencyPair, dependency_pairs}
 use Rattle.pair_theory.specs.PairProblem.{IsFiniteProblem, IsPair}
 use Rattle.order_theory.specs.UsableRules.{HasUsable, root_in, choices}
-use Rattle.rewrite_core.specs.declared.refusals.CheckFault.{CheckFault}
+use Rattle.rewrite_core.specs.declared.checks.refusals.CheckFault.{CheckFault}
 use Rattle.rewrite_core.specs.Check.{Check, AnswersBy, Then, goes_on}
 use Rattle.rewrite_core.proofs.Answering.{then_answers}
 use Rattle.rewrite_core.proofs.CheckLaws.{once}

@@ -3,7 +3,7 @@
 use Rattle.std.specs.Prelude.{ℕ, List, ◌++◌, zip, length, Result, Ok}
 use Rattle.trs_defs.specs.System.{RewriteRule}
 use Rattle.pair_theory.specs.DependencyPair.{DependencyPair}
-use Rattle.rewrite_core.specs.declared.refusals.StepRefused.{StepRefused}
+use Rattle.rewrite_core.specs.declared.checks.refusals.StepRefused.{StepRefused}
 use Rattle.rewrite_core.specs.Check.{Check, ◌>>=◌}
 use Rattle.dp_core.specs.Numbered.{TakesPairs, AreItemsOf}
 use Rattle.dp_core.specs.Symbols.{symbols_of_rules, symbols_below_roots}

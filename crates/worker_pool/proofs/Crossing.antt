@@ -7,7 +7,7 @@ use Rattle.trs_core.proofs.terms.Args.TheLaws.TheKnot as terms
 use Rattle.trs_core.proofs.positions.Position.TheSendSync as position
 use Rattle.trs_core.specs.contracts.rules.Trs as Trs
 use Rattle.tree_core.below.term_pool.proofs.paths.PathStep.TheSendSync as path_step
-use Rattle.tree_core.below.rewrite_core.proofs.joins.Join.TheSendSync as join
+use Rattle.tree_core.below.rewrite_core.proofs.checks.joins.Join.TheSendSync as join
 use Rattle.tree_core.below.closed_pairs.proofs.strong.Four.TheSendSync as four
 use Rattle.tree_core.below.dp_graph.proofs.items.GraphItem.TheSendSync as item
 use Rattle.tree_core.below.poly_lin.proofs.table.LinTable.TheSendSync as table

@@ -1,8 +1,8 @@
 use Rattle.std.specs.Prelude.{◌≡◌, slice_get, Some, length, refl}
 use Rattle.std.proofs.lemmas.List.{drop_all}
 use Rattle.rewrite_core.specs.Check.{holds, lacks}
-use Rattle.rewrite_core.specs.declared.refusals.CheckFault.TheVariants.{Refused}
-use Rattle.rewrite_core.specs.declared.refusals.StepRefused.TheVariants.{NotLinear}
+use Rattle.rewrite_core.specs.declared.checks.refusals.CheckFault.TheVariants.{Refused}
+use Rattle.rewrite_core.specs.declared.checks.refusals.StepRefused.TheVariants.{NotLinear}
 use Rattle.rewrite_core.proofs.Items.{one_more_passed, item_refused, all_passed}
 use Rattle.std.proofs.lemmas.Option.{slice_get_read}
 use Rattle.closed_pairs.specs.LinearRules.{is_left_linear}

@@ -1,7 +1,7 @@
 use Rattle.std.proofs.Common.{List, map, refl, subst, sym}
 use Rattle.rewrite_core.specs.Check.{Refuses}
 use Rattle.rewrite_core.specs.PlacedPeak.{PlacedPeak}
-use Rattle.rewrite_core.specs.declared.refusals.CheckFault.{CheckFault}
+use Rattle.rewrite_core.specs.declared.checks.refusals.CheckFault.{CheckFault}
 use Rattle.crit_pairs.specs.PeaksCheck.{ListsCriticalPeaks}
 use Rattle.completion.specs.GreaterBy.{GreaterBy}
 use Rattle.completion.specs.CompletionRun.{Finds, sides}

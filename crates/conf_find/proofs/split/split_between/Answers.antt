@@ -4,7 +4,7 @@ use Rattle.conf_find.specs.ForkRows.{AreDifferentNormalForms}
 use Rattle.conf_find.specs.Fork.{fork_of}
 use Rattle.conf_find.proofs.Pairs.{IsFirstOfTerms}
 use Rattle.conf_find.proofs.ForkPeaks.{number_within, parted_by}
-use Rattle.rewrite_core.specs.declared.forks.ForkTest.TheVariants.{Normal}
+use Rattle.rewrite_core.specs.declared.checks.forks.ForkTest.TheVariants.{Normal}
 use Rattle.conf_find.proofs.BetweenLists.{different_terms, none_different, normal_ends}
 use Rattle.conf_find.proofs.split.split_between.Goals.{In-Some}
 use Rattle.conf_find.proofs.split.split_between.Goals as goal

@@ -3,8 +3,8 @@ use Rattle.std.proofs.lemmas.List.{drop_all}
 use Rattle.std.proofs.lemmas.Option.{slice_get-get_or}
 use Rattle.pair_theory.specs.DependencyPair.{dependency_pairs}
 use Rattle.rewrite_core.specs.Check.{Check, Forbids, present, absent}
-use Rattle.rewrite_core.specs.declared.refusals.CheckFault.TheVariants.{Refused}
-use Rattle.rewrite_core.specs.declared.refusals.StepRefused.TheVariants.{EdgeBack}
+use Rattle.rewrite_core.specs.declared.checks.refusals.CheckFault.TheVariants.{Refused}
+use Rattle.rewrite_core.specs.declared.checks.refusals.StepRefused.TheVariants.{EdgeBack}
 use Rattle.rewrite_core.proofs.Items.{one_more_passed, item_refused, all_passed}
 use Rattle.trs_defs.specs.System.{System}
 use Rattle.dp_graph.specs.GraphConditions.{HasEdge}

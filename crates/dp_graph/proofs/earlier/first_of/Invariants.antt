@@ -1,5 +1,5 @@
 use Rattle.rewrite_core.specs.Check.{Forbids}
-use Rattle.rewrite_core.specs.declared.refusals.StepRefused.TheVariants.{EdgeBack}
+use Rattle.rewrite_core.specs.declared.checks.refusals.StepRefused.TheVariants.{EdgeBack}
 use Rattle.rewrite_core.proofs.Items.{Passed}
 use Rattle.pair_theory.specs.DependencyPair.{dependency_pairs}
 use Rattle.dp_graph.specs.GraphConditions.{HasEdge}

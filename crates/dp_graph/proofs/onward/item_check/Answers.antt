@@ -1,8 +1,8 @@
 use Rattle.std.proofs.Common.{get_or, subst}
 use Rattle.std.proofs.lemmas.List.{drop_all}
 use Rattle.std.proofs.lemmas.Option.{slice_get-get_or}
-use Rattle.rewrite_core.specs.declared.refusals.CheckFault.TheVariants.{Refused}
-use Rattle.rewrite_core.specs.declared.refusals.StepRefused.TheVariants.{EdgeBack}
+use Rattle.rewrite_core.specs.declared.checks.refusals.CheckFault.TheVariants.{Refused}
+use Rattle.rewrite_core.specs.declared.checks.refusals.StepRefused.TheVariants.{EdgeBack}
 use Rattle.rewrite_core.proofs.Items.{one_more_passed, item_refused, all_passed}
 use Rattle.dp_graph.specs.EarlierPairs.{leads_to_none_of, first_led_to}
 use Rattle.dp_graph.proofs.onward.item_check.Goals as goal

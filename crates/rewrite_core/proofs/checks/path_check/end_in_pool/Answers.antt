@@ -1,7 +1,7 @@
 use Rattle.term_pool.specs.Pooled.{tree_at}
 use Rattle.rewrite_core.specs.PathCheck.{followed}
 use Rattle.rewrite_core.proofs.Answering.{path_answered}
-use Rattle.rewrite_core.proofs.path_check.end_in_pool.Goals as goal
+use Rattle.rewrite_core.proofs.checks.path_check.end_in_pool.Goals as goal
 
 pub returns-in-Ok-clause-end : goal.returns-in-Ok-clause-end
 returns-in-Ok-clause-end c = followed (tree_at c.run_path.new.self c.in-Ok.end) c.in-Ok.ensures.end

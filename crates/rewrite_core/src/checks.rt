@@ -1,0 +1,19 @@
+//! What is said of any check of a step of a proof: why it refuses (`StepRefused`, with its number
+//! and fields), what a check answers (`CheckFault`), and what steps hold that are checked: peaks,
+//! joins and the tests of forks. The conditions of a check and their answers are defined in
+//! specs/Check.antt.
+
+mod forks;
+mod joins;
+mod path_check;
+mod peaks;
+mod reasons;
+mod refusals;
+
+pub use forks::ForkTest;
+pub use joins::{Join, copy_path};
+pub(crate) use path_check::end_in_pool;
+pub use path_check::end_of_path;
+pub use peaks::Peak;
+pub use reasons::RefusalFields;
+pub use refusals::{CheckFault, StepRefused};
