@@ -41,7 +41,7 @@ pub(crate) fn apply_fork(
 /// 0), for the right one (path 1), and then for an end that is no normal form (0 or 1), for equal
 /// ends, or for caps that unify, whichever comes first.
 /// (Baader and Nipkow, section 2.1; Zankl, Felgenhauer and Middeldorp, 2011.)
-pub fn fork_check(
+fn fork_check(
     alloc: Global,
     trs: &Trs,
     start: &Term,

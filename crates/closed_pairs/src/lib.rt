@@ -17,7 +17,7 @@ pub use joined::{join_check, newman_check, peak_is_joined};
 pub use laws::{
     joined_peaks_conclude, parallel_closed_peaks_conclude, strongly_closed_peaks_conclude,
 };
-pub use linear::{left_linear_check, linear_check};
+pub use linear::linear_check;
 pub use parallel::{parallel_check, parallel_closed_check};
 pub use rewrite_core::{Join, Peak};
 pub use strong::{Four, strong_check, strongly_closed_check};

@@ -7,7 +7,7 @@ use rewrite_core::{CheckFault, StepRefused};
 use trs_core::{Rule, Trs};
 
 /// Sees that each left side is linear. It takes no memory.
-pub fn left_linear_check(trs: &Trs) -> Result<(), CheckFault>
+pub(crate) fn left_linear_check(trs: &Trs) -> Result<(), CheckFault>
     ensures answers { Answers (are_left_linear trs.now.rules) result }
 {
     for (n, rule) in trs.rules().iter().enumerate() {

@@ -11,7 +11,7 @@ ghost use Rattle.closed_pairs.specs.LeftOf.{IsLeftOf};
 use crate::counting::peaks_for;
 use crate::covering::parallel_list_concludes;
 use crate::ends::{ItemPath, end_of, run, same_ends};
-use crate::left_linear_check;
+use crate::linear::left_linear_check;
 use rewrite_core::{CheckFault, PathStep, Peak, StepRefused};
 use std::alloc::Global;
 use trs_core::Trs;

@@ -14,8 +14,8 @@ use term_pool::RulesByRoot;
 use trs_caps::{Cap, cap};
 use trs_core::{OutOfMemory, Term, Trs};
 
-/// Whether an edge leads from a pair to a pair in the graph that is estimated by caps. It takes a
-/// table of rules and a cap: for many edges, take `right_cap` of each pair once, and `leads`.
+/// Whether an edge leads from a pair to a pair in the graph that is estimated by caps. It makes a
+/// table of rules and a cap: for many edges of one system, make a `PairGraph`.
 pub fn edge(alloc: Global, trs: &Trs, from: &DpPair, to: &DpPair) -> Result<bool, OutOfMemory>
     requires from { IsPlacedPair trs.now.rules from.now }
     requires to { IsPlacedPair trs.now.rules to.now }
@@ -29,7 +29,7 @@ pub fn edge(alloc: Global, trs: &Trs, from: &DpPair, to: &DpPair) -> Result<bool
 }
 
 /// The cap of the marked right side of a pair.
-pub fn right_cap(
+fn right_cap(
     alloc: Global,
     trs: &Trs,
     by_root: &RulesByRoot,
@@ -46,7 +46,7 @@ pub fn right_cap(
 
 /// Whether an edge leads from a pair whose marked right side has this cap, to a pair with this
 /// marked left side.
-pub fn leads(alloc: Global, end: &Cap, left: &Term) -> Result<bool, OutOfMemory>
+fn leads(alloc: Global, end: &Cap, left: &Term) -> Result<bool, OutOfMemory>
     ensures { IfOk result (λ yes. (rules : List RewriteRule) (p q : DependencyPair)
         → IsHoledCap rules false (mark p.to) (holed end.now) → tree left.now ≡ mark q.from
         → (IsTrue yes ↔ IsEdge rules p q)) }

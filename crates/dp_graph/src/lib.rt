@@ -26,7 +26,7 @@ mod waiting;
 
 pub use checking::group_check;
 pub use dp_core::{Pairs, dependency_pairs, pair_numbers};
-pub use edges::{edge, leads, right_cap};
+pub use edges::edge;
 pub use finding::components;
 pub use graph::PairGraph;
 pub use items::GraphItem;

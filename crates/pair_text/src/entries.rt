@@ -30,7 +30,11 @@ pub fn add_symbol(
 }
 
 /// Appends the begin of an entry, `(sym name` or `(mark name`, by the number that the symbol has in tables.
-pub fn put_entry_begin(out: &mut Vec<u8>, system: &NamedTrs, symbol: u32) -> Result<(), OutOfMemory>
+pub(crate) fn put_entry_begin(
+    out: &mut Vec<u8>,
+    system: &NamedTrs,
+    symbol: u32,
+) -> Result<(), OutOfMemory>
     ensures { OnOk result (out.new.items
         ≡ out.old.items ++ 40 ∷ (mark_word symbol ++ 32 ∷ name_of system.now (unmarked symbol))) }
 {

@@ -11,7 +11,7 @@ ghost use Rattle.dp_graph.specs.GroupOrSingle.{item_of};
 ghost use Rattle.pair_text.specs.GraphItems.{group_of, single_of, graph_item, printed_item};
 ghost use Rattle.pair_text.specs.Ranges.{HasPairs};
 
-use crate::read_number_from;
+use crate::ascending::read_number_from;
 use dp_graph::GraphItem;
 use sexp_core::Sexp;
 use std::alloc::Global;

@@ -8,8 +8,10 @@ ghost use Rattle.pair_text.specs.KnuthEntries.{weighed, stated_entry, is_too_lig
 ghost use Rattle.kbo_order.specs.declared.entries.KboEntry.{KboEntry as Entry};
 ghost use Rattle.pair_text.specs.TopRanks.{AreTopRanks, with_read};
 
+use crate::entries::put_entry_begin;
+use crate::symbols::read_marked_symbol;
 use crate::top_ranks::{TopRanks, are_below, with_rank};
-use crate::{LAST_NUMBER, add_symbol, put_entry_begin, read_marked_symbol};
+use crate::{LAST_NUMBER, add_symbol};
 use kbo_order::{Kbo, KboEntry};
 use names_text::{NamedTrs, Symbol};
 use pair_order::SymbolIndex;

@@ -12,14 +12,13 @@ mod projections;
 mod symbols;
 mod top_ranks;
 
-pub use ascending::read_number_from;
-pub use entries::{add_symbol, put_entry_begin};
+pub use entries::add_symbol;
 pub use graph_items::{put_graph_items, read_graph_items};
 pub use knuth_entries::{put_kbo_entries, read_knuth_order};
 pub use linear_entries::{put_linear_entries, read_linear_table};
 pub use path_entries::{put_path_entries, read_path_order};
 pub use projections::{put_projections, read_projections};
-pub use symbols::{put_name, read_argument_place, read_marked_symbol, read_symbol};
+pub use symbols::{put_name, read_symbol};
 
 /// The greatest coefficient, weight and rank, 2^63 - 1.
 const LAST_NUMBER: u64 = 9_223_372_036_854_775_807;

@@ -8,7 +8,9 @@ ghost use Rattle.text_reading.specs.Seen.{seen};
 ghost use Rattle.poly_lin.specs.Plain.{plain};
 ghost use Rattle.pair_text.specs.LinearEntries.{polynomial, coefficients, linear_entry, linear_entry_item, linear_entries};
 
-use crate::{LAST_NUMBER, add_symbol, put_entry_begin, read_marked_symbol};
+use crate::entries::put_entry_begin;
+use crate::symbols::read_marked_symbol;
+use crate::{LAST_NUMBER, add_symbol};
 use names_text::{NamedTrs, Symbol};
 use pair_order::SymbolIndex;
 use poly_lin::LinTable;

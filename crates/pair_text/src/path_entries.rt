@@ -10,10 +10,10 @@ ghost use Rattle.path_lpo.specs.Plain.{plain, plain_filter};
 ghost use Rattle.pair_text.specs.PathEntries.{filter, path_entry_of, path_entry, filter_item, path_entry_item, path_entries};
 ghost use Rattle.pair_text.specs.EntryRanges.{HasBytes, HasPlaces};
 
-use crate::{
-    LAST_NUMBER, add_symbol, put_entry_begin, read_argument_place, read_marked_symbol,
-    read_number_from,
-};
+use crate::ascending::read_number_from;
+use crate::entries::put_entry_begin;
+use crate::symbols::{read_argument_place, read_marked_symbol};
+use crate::{LAST_NUMBER, add_symbol};
 use names_text::{NamedTrs, Symbol};
 use pair_order::SymbolIndex;
 use path_lpo::{Filter, Lpo, LpoEntry};

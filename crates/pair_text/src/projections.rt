@@ -6,7 +6,8 @@ ghost use Rattle.text_reading.specs.Seen.{seen};
 ghost use Rattle.pair_text.specs.Projections.{projected, projection, projection_item, projections};
 ghost use Rattle.pair_text.specs.Ranges.{HasPlace};
 
-use crate::{add_symbol, put_name, read_argument_place, read_symbol};
+use crate::symbols::read_argument_place;
+use crate::{add_symbol, put_name, read_symbol};
 use names_text::{NamedTrs, Symbol};
 use pair_order::SymbolIndex;
 use sexp_core::Sexp;

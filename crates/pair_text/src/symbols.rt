@@ -27,7 +27,7 @@ pub fn read_symbol(system: &NamedTrs, item: &Sexp) -> Read<Symbol>
 }
 
 /// The symbol of an entry, `sym name` or `mark name`, with the number that it has in tables.
-pub fn read_marked_symbol(system: &NamedTrs, head: &Sexp, name: &Sexp) -> Read<Symbol>
+pub(crate) fn read_marked_symbol(system: &NamedTrs, head: &Sexp, name: &Sexp) -> Read<Symbol>
     ensures { result ≡ marked_symbol system.now (view head.now) (view name.now) }
 {
     let added = read_mark(head);
@@ -60,7 +60,7 @@ fn read_mark(item: &Sexp) -> Read<u32>
 }
 
 /// The place of an argument, from 1 to the arity of a symbol.
-pub fn read_argument_place(arity: u8, item: &Sexp) -> Read<u8>
+pub(crate) fn read_argument_place(arity: u8, item: &Sexp) -> Read<u8>
     ensures { result ≡ argument_place arity (view item.now) }
 {
     match read_positive(u64::from(arity), item) {

@@ -156,7 +156,7 @@ impl DefinedPath {
 
     /// Whether a place of the path, put behind a position, would have more than 1,024 numbers. At
     /// the whole term none is too long.
-    pub fn is_too_deep_at(&self, position: &Position) -> bool
+    pub(crate) fn is_too_deep_at(&self, position: &Position) -> bool
         ensures { result ≡ is_too_deep position.now self.now }
     {
         let by = position.places().len();

@@ -19,6 +19,5 @@ mod usable_laws;
 
 pub use finding::{find_poly, find_poly_in};
 pub use laws::found_interpretations_apply;
-pub use searching::search_linear;
 pub use usable_finding::{find_usable, find_usable_in};
 pub use usable_laws::found_usable_interpretations_apply;

@@ -21,7 +21,7 @@ use trs_core::{OutOfMemory, Rule};
 /// some pair strictly: the first with values 0 to 2, a slot for the constant and one for the
 /// coefficient of each argument of a symbol. The budget is that of `first_solution`; a test of
 /// values takes no memory.
-pub fn search_linear<P: Stop>(
+pub(crate) fn search_linear<P: Stop>(
     alloc: Global,
     arities: &[u8],
     symbols: &[u32],

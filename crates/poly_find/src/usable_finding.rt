@@ -7,7 +7,7 @@ ghost use Rattle.order_search.specs.Outcome.{IsFinding, IsNotThere, IsSpent};
 ghost use Rattle.poly_find.specs.UsableRow.{FindsUsable, FailsUsable};
 
 use crate::chosen::chosen;
-use crate::search_linear;
+use crate::searching::search_linear;
 use assign_search::{Search, Stop};
 use order_search::taken::taken;
 use order_search::{DpPair, Pairs, marked_rules, placed_pairs_are_the_pairs, symbols_with_sides};

@@ -33,14 +33,14 @@ fn put_fault<K: Sink>(out: &mut K, fault: &AriFault) -> Result<(), SinkFailed>
 }
 
 /// Puts the line of a text that could not be fetched.
-pub fn put_read_fault<K: Sink>(out: &mut K, name: &str) -> Result<(), SinkFailed>
+pub(crate) fn put_read_fault<K: Sink>(out: &mut K, name: &str) -> Result<(), SinkFailed>
     ensures { Puts result (K.means out.old) (read_fault_line name.now) (K.means out.new) }
 {
     put_line(out, b"read fault ", name)
 }
 
 /// Puts the line of a text that is too long.
-pub fn put_too_long<K: Sink>(out: &mut K, name: &str) -> Result<(), SinkFailed>
+pub(crate) fn put_too_long<K: Sink>(out: &mut K, name: &str) -> Result<(), SinkFailed>
     ensures { Puts result (K.means out.old) (too_long_line name.now) (K.means out.new) }
 {
     put_line(out, b"too long ", name)

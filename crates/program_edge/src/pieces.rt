@@ -52,7 +52,7 @@ fn put_both<K: Sink>(out: &mut K, first: &[u8], second: &[u8]) -> Result<(), Sin
 }
 
 /// Puts words, a name and a line feed.
-pub fn put_line<K: Sink>(out: &mut K, words: &[u8], name: &str) -> Result<(), SinkFailed>
+pub(crate) fn put_line<K: Sink>(out: &mut K, words: &[u8], name: &str) -> Result<(), SinkFailed>
     ensures { Puts result (K.means out.old) (words.now ++ (name.now ++ 10 ∷ []))
         (K.means out.new) }
 {

@@ -27,7 +27,7 @@ pub fn judge(alloc: Global, trs: &Trs, budget: u64) -> Result<Judgement, OutOfMe
 }
 
 /// Judges as `judge` does, by several workers on one proof tree. It may wait.
-pub fn judge_with<R: Threads + Wait + Sync, G: Gate>(
+pub(crate) fn judge_with<R: Threads + Wait + Sync, G: Gate>(
     rt: &R,
     alloc: Global,
     trs: &Trs,

@@ -13,5 +13,5 @@ mod terms;
 
 pub use family::sample_system;
 pub use judgement::Judgement;
-pub use judging::{judge, judge_with};
+pub use judging::judge;
 pub use line::{sample_line, sample_line_with};

@@ -2,7 +2,8 @@ ghost use Rattle.std.specs.Prelude.{◌≡◌, ◌≤◌, ◌++◌, IfOk, OnOk, 
 ghost use Rattle.pair_theory.specs.DependencyPair.{dependency_pairs};
 ghost use Rattle.sampling.specs.Line.{IsSampleLine, IsSerialLine, judgement_word, line_of};
 
-use crate::{Judgement, judge, judge_with, sample_system};
+use crate::judging::judge_with;
+use crate::{Judgement, judge, sample_system};
 use dp_core::{dependency_pairs, placed_pairs_are_the_pairs};
 use std::alloc::Global;
 use std::sync::Wait;

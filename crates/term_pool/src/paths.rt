@@ -59,7 +59,7 @@ pub enum PathFault {
 
 impl PathFault {
     /// A fault of step number `k`.
-    pub fn at_step(k: u64, fault: StepFault) -> PathFault
+    pub(crate) fn at_step(k: u64, fault: StepFault) -> PathFault
         ensures { result ≡ fault_at k fault }
     {
         match fault {

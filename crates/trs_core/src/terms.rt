@@ -60,13 +60,6 @@ impl Args {
         Args { items }
     }
 
-    /// The terms, as they were given.
-    pub fn into_items(self) -> Vec<Term>
-        ensures { map tree result.items ≡ self }
-    {
-        self.items
-    }
-
     /// The terms, from the left. Code that recurses over terms reads `items`.
     pub fn as_slice(&self) -> &[Term]
         ensures { map tree result.now ≡ self.now }
