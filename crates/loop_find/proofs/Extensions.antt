@@ -74,6 +74,7 @@ module _ (t : Trial) (k : Closures) (trial : IsTrial t k) where
     sides = λ c e. trial.sides c (subst (λ cs. slice_get cs t.number ≡ Some c) (same_closures new a b) e);
     left_fit = trial.left_fit;
     right_fit = trial.right_fit;
+    right_size = trial.right_size;
     within = omega (arith, counted, h);
   }
     where
@@ -123,6 +124,7 @@ module _ (t : Trial) (k : Closures) (trial : IsTrial t k) where
         sides = λ c e. trial.sides c (old_item_of (closures_of k) (extension ∷ []) t.number c (let before = trial.there in omega (arith, before, length_of k)) (subst (λ cs. slice_get cs t.number ≡ Some c) added e));
         left_fit = trial.left_fit;
         right_fit = trial.right_fit;
+        right_size = trial.right_size;
         within = let before = trial.within in omega (arith, before, counted);
       }
 

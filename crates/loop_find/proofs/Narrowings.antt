@@ -15,6 +15,7 @@ use Rattle.trs_defs.proofs.Substitutions.{apply_apply, same_instance}
 use Rattle.trs_defs.proofs.ArgumentLists.{depth_le_size}
 use Rattle.trs_defs.proofs.VariableLaws.{or_cases, or_left, or_right}
 use Rattle.trs_defs.proofs.Contexts.{replaced_somehow}
+use Rattle.trs_defs.proofs.Limits.{size_replaced}
 use Rattle.trs_core.specs.SystemLimits.{HasSmallVariables}
 use Rattle.trs_core.specs.View.{tree}
 use Rattle.trs_unify.specs.Renamed.{AreNames, old_name, first_numbers, IsRenamed}
@@ -64,6 +65,21 @@ no_smaller : (t u : Tree) → size_of t ≤ size_of u → (IsSmallSide t → ⊥
 no_smaller t u h large small = let few = small.nodes in large (small_of_few t (omega (arith, h, few)))
 
 -- ---- any narrowing at the place
+
+-- it keeps the nodes of the right side but for those of the part, and these are too many
+pub large_without : (rule : RewriteRule) (place : List ℕ) (left right part : Tree) → subterm_at place right ≡ Some part → 256 + size_of part < size_of right
+    → NarrowsNot rule place left right
+large_without rule place left right part there many = record { none = λ l r h a b. no_smaller h.result r (right_kept r h) (large h) b }
+  where
+    right_kept : {l : Tree} (r : Tree) (h : IsNarrowing rule place left right l r) → size_of h.result ≤ size_of r
+    right_kept r h =
+        let e : size_of (apply h.unifier h.result) ≡ size_of r = ap size_of h.right_is ∙ size_named h.names r in
+        omega (arith, size_instance h.unifier h.result, e)
+
+    large : {l r : Tree} (h : IsNarrowing rule place left right l r) → IsSmallSide h.result → ⊥
+    large h small =
+        let few = small.nodes in
+        omega (arith, size_replaced place right part (shifted h.offset rule.right) h.result there h.replaced, few, many)
 
 module _ (rule : RewriteRule) (place : List ℕ) (left right part : Tree) (there : subterm_at place right ≡ Some part)
     (left_low : HasSmallVariables left) (right_low : HasSmallVariables right) where

@@ -4,6 +4,7 @@ use Rattle.trs_defs.specs.Tree.{Tree}
 use Rattle.trs_defs.specs.Position.{subterm_at}
 use Rattle.trs_defs.specs.System.{RewriteRule, IsSystem}
 use Rattle.trs_core.specs.View.{tree}
+use Rattle.trs_unify.specs.Bindings.{stopped_size}
 use Rattle.term_pool.specs.Redexes.{IsNarrow}
 use Rattle.crit_pairs.specs.Apart.{AreApart}
 use Rattle.loop_find.specs.Closures.{Closure, Attempt, IsNarrowed, IsSmall}
@@ -15,7 +16,8 @@ use Rattle.loop_find.specs.declared.trying.Trial.{Trial}
 use Rattle.loop_find.specs.declared.trying.Turn.{Turn}
 use Rattle.loop_find.specs.declared.trying.Turn.TheVariants.{Next, Found, Spent, Stopped}
 
--- the closure of this number is there, with these sides, and the rules are renamed apart
+-- The closure of this number is there, with these sides, and the nodes of the right one are counted. The rules are renamed
+-- apart.
 pub record IsTrial (t : Trial) (k : Closures) : Type 0 where
   pub system : IsSystem t.trs.now
   pub arities : HasSmallArities t.trs.now.arities
@@ -26,6 +28,7 @@ pub record IsTrial (t : Trial) (k : Closures) : Type 0 where
   pub sides : (c : Closure) → slice_get (closures_of k) t.number ≡ Some c → (tree t.left.now ≡ c.left) × (tree t.right.now ≡ c.right)
   pub left_fit : IsFit t.trs.now.arities (tree t.left.now)
   pub right_fit : IsFit t.trs.now.arities (tree t.right.now)
+  pub right_size : t.right_size ≡ stopped_size (tree t.right.now)
   pub within : k.attempts ≤ t.budget
 
 -- the part stands at the place of the right side

@@ -7,6 +7,7 @@ mod apart;
 mod binding;
 mod clashing;
 mod closures;
+mod counting;
 mod decoding;
 mod found;
 mod instances;

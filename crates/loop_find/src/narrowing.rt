@@ -4,6 +4,7 @@ ghost use Rattle.trs_defs.specs.Position.{subterm_at};
 ghost use Rattle.trs_defs.specs.System.{RewriteRule};
 ghost use Rattle.trs_core.specs.SystemLimits.{HasSmallVariables};
 ghost use Rattle.trs_core.specs.View.{tree};
+ghost use Rattle.trs_unify.specs.Bindings.{stopped_size};
 ghost use Rattle.crit_pairs.specs.Apart.{renamed_apart};
 ghost use Rattle.loop_find.specs.Bindings.{resolved};
 ghost use Rattle.loop_find.specs.Flat.{AreTokensOf};
@@ -12,6 +13,7 @@ ghost use Rattle.loop_find.specs.Narrowed.{NarrowsTo, NarrowsNot, IsMade, IsLarg
 use crate::binding::{Binding, quick_bindings};
 use crate::clashing::clash;
 use crate::closures::Sides;
+use crate::counting::is_large_without;
 use crate::tokens::{SideTokens, term_tokens};
 use crate::unifying::narrow_by_unifier;
 use crate::writing::{write, write_replaced};
@@ -20,15 +22,18 @@ use trs_core::{OutOfMemory, Rule, Term};
 
 /// The sides of the closure that the rule, which is renamed apart, gives at a place of the right
 /// side, where `part` stands. `None` where there is none, or it would not be small. Where symbols
-/// differ, it takes no memory; and mostly only what it gives.
+/// differ, or the right side is too large without the part, it takes no memory; and mostly only
+/// what it gives.
 pub(crate) fn narrow(
     alloc: Global,
     left: &Term,
     right: &Term,
+    right_size: u64,
     part: &Term,
     place: &[u8],
     apart: &Rule,
 ) -> Result<Option<SideTokens>, OutOfMemory>
+    requires size { right_size ≡ stopped_size (tree right.now) }
     requires there { subterm_at place.now (tree right.now) ≡ Some (tree part.now) }
     requires positive { All (λ n. 0 < n) place.now }
     requires left { HasSmallVariables (tree left.now) }
@@ -39,6 +44,9 @@ pub(crate) fn narrow(
         (NarrowsTo rule place.now (tree left.now) (tree right.now))) }
 {
     if clash(part, &apart.left) {
+        return Ok(None);
+    }
+    if is_large_without(right_size, part) {
         return Ok(None);
     }
     match quick_bindings(alloc, part, &apart.left)? {

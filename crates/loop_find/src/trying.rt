@@ -52,6 +52,8 @@ pub(crate) struct Trial<'a> {
     pub number: usize,
     pub left: &'a Term,
     pub right: &'a Term,
+    /// The number of nodes of the right side. It stands still at the last `u64`.
+    pub right_size: u64,
     pub budget: u64,
 }
 
@@ -87,6 +89,7 @@ pub(crate) fn expand<P: Stop>(
         number,
         left: &sides.left,
         right: &sides.right,
+        right_size: sides.right.size(),
         budget,
     };
     let mut place = Vec::new(alloc);
@@ -200,7 +203,15 @@ fn try_rule<P: Stop>(
         return Ok(Turn::Stopped);
     }
     closures.attempts += 1;
-    match narrow(alloc, trial.left, trial.right, part, place, &trial.apart[k])? {
+    match narrow(
+        alloc,
+        trial.left,
+        trial.right,
+        trial.right_size,
+        part,
+        place,
+        &trial.apart[k],
+    )? {
         None => Ok(Turn::Next),
         Some(sides) => {
             let turn = extend(alloc, trial, place, k, &sides, closures)?;

@@ -19,6 +19,7 @@ try_below-requires-clause-trial g c =
       sides = c.in_ok-sides.ensures;
       left_fit = fit.0;
       right_fit = fit.1;
+      right_size = c.size.ensures;
       within = c.requires.within;
     }
 
