@@ -6,12 +6,12 @@ ghost use Rattle.completion.specs.Searching.{HaveNoPlace};
 
 use crate::Unfinished;
 use crate::known::see_system;
-use crate::searching::{first_redex, position};
+use crate::searching::first_redex;
 use rewrite_core::StepFault;
 use std::alloc::Global;
 use std::collections::BTreeSet;
 use term_pool::{MOST_IDS, Pool};
-use trs_core::{OutOfMemory, Trs};
+use trs_core::{OutOfMemory, Position, Trs};
 
 /// What the first redex of a term leads to.
 #[derive(Clone, Copy)]
@@ -47,7 +47,7 @@ pub(crate) fn first_move(
             if units == 0 {
                 return Ok(Move::Stopped(Unfinished::NoUnit));
             }
-            let place = position(alloc, &place)?;
+            let place = Position::of(alloc, &place)?;
             match pool.step_at(alloc, trs, id, &place, rule) {
                 Ok(next) => Ok(Move::To(next)),
                 Err(fault) => stopped(fault),

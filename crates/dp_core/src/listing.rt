@@ -85,19 +85,8 @@ fn add_here(
     if is_defined(by_root, symbol) {
         pairs.push(DpPair {
             rule: k,
-            place: position(alloc, place)?,
+            place: Position::of(alloc, place)?,
         })?;
     }
     Ok(())
-}
-
-fn position(alloc: Global, places: &[u8]) -> Result<Position, OutOfMemory>
-    requires { All (λ n. 0 < n) places.now }
-    ensures { IfOk result (λ p. p ≡ places.now) }
-{
-    let mut made = Position::new(alloc);
-    for place in places {
-        made.push(*place)?;
-    }
-    Ok(made)
 }

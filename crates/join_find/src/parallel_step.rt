@@ -49,7 +49,7 @@ pub(crate) fn add_steps(
         return Ok(true);
     }
     if let Some(rule) = root_rule(alloc, pool, trs, by_root, from, ids)? {
-        let at = position(alloc, place)?;
+        let at = Position::of(alloc, place)?;
         steps.push(PathStep { place: at, rule })?;
         return Ok(true);
     }
@@ -91,16 +91,4 @@ fn argument(pool: &Pool, id: u32, place: u8) -> u32
         Some(part) => part,
         None => unreachable!(),
     }
-}
-
-/// The position with these places.
-fn position(alloc: Global, places: &[u8]) -> Result<Position, OutOfMemory>
-    requires { All (λ n. 0 < n) places.now }
-    ensures { IfOk result (λ p. p ≡ places.now) }
-{
-    let mut made = Position::new(alloc);
-    for place in places {
-        made.push(*place)?;
-    }
-    Ok(made)
 }

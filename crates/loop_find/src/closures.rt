@@ -9,7 +9,6 @@ ghost use Rattle.loop_find.specs.LoopRow.{LoopsNot, Recurs};
 ghost use Rattle.loop_find.specs.Links.{closures_of, path_to, HasSmallArities, IsFit, IsSound};
 ghost use Rattle.loop_find.specs.Tries.{IsFoundOf};
 
-use crate::apart::position;
 use crate::decoding::read_term;
 use crate::found::LoopFound;
 use crate::instances::first_instance;
@@ -18,7 +17,7 @@ use crate::running::leads;
 use crate::tokens::{SideTokens, Token, part};
 use rewrite_core::PathStep;
 use std::alloc::Global;
-use trs_core::{OutOfMemory, Term, Trs};
+use trs_core::{OutOfMemory, Position, Term, Trs};
 
 /// A closure: the places of the tokens of its sides, where the last ones end, the number of the
 /// closure that it extends, if it extends one, and the last step of its path.
@@ -197,7 +196,7 @@ impl Closures {
             return Ok(None);
         }
         let start = sides.left.copy(alloc)?;
-        let at = position(alloc, &place)?;
+        let at = Position::of(alloc, &place)?;
         Ok(Some(LoopFound {
             start,
             path,

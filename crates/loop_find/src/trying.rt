@@ -12,7 +12,6 @@ ghost use Rattle.crit_pairs.specs.Apart.{AreApart};
 ghost use Rattle.loop_find.specs.Narrowed.{NarrowsTo};
 ghost use Rattle.loop_find.specs.Trials.{IsTrial, IsPart, Extended, one_attempt};
 
-use crate::apart::position;
 use crate::closures::Closures;
 use crate::found::LoopFound;
 use crate::narrowing::narrow;
@@ -20,7 +19,7 @@ use crate::tokens::SideTokens;
 use assign_search::Stop;
 use rewrite_core::PathStep;
 use std::alloc::Global;
-use trs_core::{OutOfMemory, Rule, Term, Trs};
+use trs_core::{OutOfMemory, Position, Rule, Term, Trs};
 
 /// How a part of the attempts ended: none of the closures that they gave loops, or one does, or the
 /// budget was spent, or the stop came.
@@ -229,7 +228,7 @@ fn extend(
         closures.old closures.new turn) }
     ensures trial { IfOk result (λ _. IsTrial trial.now closures.new) }
 {
-    let at = position(alloc, place)?;
+    let at = Position::of(alloc, place)?;
     let step = PathStep {
         place: at,
         rule: k as u32,
