@@ -21,6 +21,9 @@ mod variables;
 pub use applying::ApplySize;
 pub use bindings::Subst;
 pub use faults::TrsFault;
+pub use limits::{
+    GREATEST_DEPTH, GREATEST_NUMBER, MOST_NODES, MOST_RULES, MOST_SYMBOLS, MOST_VARIABLES,
+};
 pub use matching::match_term;
 pub use memory::OutOfMemory;
 pub use positions::Position;
