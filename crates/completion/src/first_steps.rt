@@ -5,13 +5,12 @@ ghost use Rattle.completion.specs.Moving.{IsMove, IsStopOf};
 ghost use Rattle.completion.specs.Searching.{HaveNoPlace};
 
 use crate::Unfinished;
-use crate::known::see_system;
 use crate::searching::first_redex;
 use rewrite_core::StepFault;
 use std::alloc::Global;
 use std::collections::BTreeSet;
 use term_pool::{MOST_IDS, Pool};
-use trs_core::{OutOfMemory, Position, Trs};
+use trs_core::{OutOfMemory, Position, Trs, systems_are_valid};
 
 /// What the first redex of a term leads to.
 #[derive(Clone, Copy)]
@@ -39,7 +38,7 @@ pub(crate) fn first_move(
     ensures few { OnOk result (length pool.new ≤ length pool.old + 65536) }
     ensures passed { OnOk result (HaveNoPlace trs.now.rules pool.new passed.new) }
 {
-    see_system(trs);
+    systems_are_valid(trs);
     let mut place = Vec::new(alloc);
     match first_redex(alloc, pool, trs.rules(), id, &mut place, passed)? {
         None => Ok(Move::Nowhere),

@@ -1,12 +1,13 @@
 //! Closures as tokens.
 ghost use Rattle.std.specs.Prelude.{◌≡◌, ◌<◌, ◌≤◌, ℕ, List, [], ◌∷◌, ◌++◌, Some, false, length, slice_get, IfOk, OnOk, MatchOption};
 ghost use Rattle.trs_defs.specs.Tree.{Tree};
+ghost use Rattle.trs_core.specs.SystemLimits.{AreBytes};
 ghost use Rattle.trs_core.specs.View.{tree};
 ghost use Rattle.term_pool.specs.Redexes.{IsNarrow};
 ghost use Rattle.loop_find.specs.Closures.{Closure};
 ghost use Rattle.loop_find.specs.Flat.{AreTokensOf};
 ghost use Rattle.loop_find.specs.LoopRow.{LoopsNot, Recurs};
-ghost use Rattle.loop_find.specs.Links.{closures_of, path_to, HasSmallArities, IsFit, IsSound};
+ghost use Rattle.loop_find.specs.Links.{closures_of, path_to, IsFit, IsSound};
 ghost use Rattle.loop_find.specs.Tries.{IsFoundOf};
 
 use crate::decoding::read_term;
@@ -156,7 +157,7 @@ impl Closures {
         number: usize,
     ) -> Result<Option<LoopFound>, OutOfMemory>
         requires sound { IsSound trs.now.arities self.now }
-        requires arities { HasSmallArities trs.now.arities }
+        requires arities { AreBytes trs.now.arities }
         requires there { number < length self.now.links.items }
         ensures { IfOk result (λ found. (c : Closure)
             → slice_get (closures_of self.now) number ≡ Some c

@@ -11,7 +11,7 @@ use assign_search::{Search, Stop};
 use cert_step::{Problem, Step};
 use conf_find::{find_newman, found_joins_join};
 use std::alloc::Global;
-use trs_core::{OutOfMemory, Trs};
+use trs_core::{OutOfMemory, Trs, systems_are_valid};
 
 /// Critical peaks whose sides reach one term. That the system terminates is left to show.
 pub(crate) fn search_newman<P: Stop>(
@@ -29,7 +29,7 @@ pub(crate) fn search_newman<P: Stop>(
     let KnownPeaks::Listed(peaks) = peaks else {
         return Ok(Searched::Ended(Findings::NotThere));
     };
-    let _rules = trs.rules();
+    systems_are_valid(trs);
     found_joins_join();
     match find_newman(alloc, trs, peaks, stop)? {
         Search::Found(found) => {

@@ -12,7 +12,7 @@ use assign_search::{Search, Stop};
 use cert_step::Step;
 use conf_find::{find_parallel, found_steps_close};
 use std::alloc::Global;
-use trs_core::{OutOfMemory, Trs};
+use trs_core::{OutOfMemory, Trs, systems_are_valid};
 
 /// Critical peaks that are closed by parallel steps.
 pub(crate) fn search_parallel<P: Stop>(
@@ -30,7 +30,7 @@ pub(crate) fn search_parallel<P: Stop>(
     let KnownPeaks::Listed(peaks) = peaks else {
         return Ok(Searched::Ended(Findings::NotThere));
     };
-    let _rules = trs.rules();
+    systems_are_valid(trs);
     found_steps_close();
     match find_parallel(alloc, trs, peaks, stop)? {
         Search::Found(found) => {
