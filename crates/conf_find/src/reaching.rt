@@ -1,7 +1,7 @@
 //! What the sides of a peak reach in few steps.
 ghost use Rattle.std.specs.Prelude.{◌≡◌, ◌<◌, ◌≤◌, ◌+◌, All, Some, length, slice_get, IfOk};
 ghost use Rattle.trs_core.specs.View.{tree};
-ghost use Rattle.term_pool.specs.Pooled.{AreDistinct, Extends};
+ghost use Rattle.term_pool.specs.Pooled.{Extends};
 ghost use Rattle.term_pool.specs.ListedIds.{listed_at};
 ghost use Rattle.join_find.specs.Sides.{IsSide};
 ghost use Rattle.conf_find.specs.ForkRows.{IsShortReach};
@@ -45,11 +45,4 @@ pub(crate) fn entry(entries: &[(u32, Vec<PathStep>)], i: usize) -> &(u32, Vec<Pa
     ensures { slice_get entries.now i ≡ Some result.now }
 {
     &entries[i]
-}
-
-/// Equal terms of a pool have one id.
-pub(crate) fn ids_are_distinct(pool: &Pool)
-    ensures { AreDistinct pool.now }
-{
-    let _ids = pool.len();
 }

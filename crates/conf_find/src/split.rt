@@ -12,12 +12,12 @@ ghost use Rattle.conf_find.specs.ForkRows.{AreDifferentNormalForms, NothingParte
 use crate::endings::endings_of;
 use crate::forks::{ForkFound, fork_from};
 use crate::parting::first_parted;
-use crate::reaching::{MOST_OF_A_SIDE, entry, ids_are_distinct, reached};
+use crate::reaching::{MOST_OF_A_SIDE, entry, reached};
 use assign_search::{Search, Stop};
 use join_find::critical_peaks_have_sides;
 use rewrite_core::{ForkTest, PathStep, Peak};
 use std::alloc::Global;
-use term_pool::{MOST_IDS, Pool, RulesByRoot};
+use term_pool::{MOST_IDS, Pool, RulesByRoot, ids_are_distinct};
 use trs_core::{OutOfMemory, Trs};
 
 /// A fork to two different normal forms. At the first peak that has one: the first normal form that

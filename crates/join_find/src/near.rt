@@ -5,10 +5,9 @@ ghost use Rattle.term_pool.specs.Redexes.{IsNarrow, IsRedexAt};
 ghost use Rattle.join_find.specs.ReachedSides.{IsNarrowAt};
 ghost use Rattle.join_find.specs.Near.{IsSiftedNear, AddsReduct};
 
-use crate::reaching::ids_are_distinct;
 use rewrite_core::PathStep;
 use std::alloc::Global;
-use term_pool::{MOST_IDS, Pool, RulesByRoot, one_longer};
+use term_pool::{MOST_IDS, Pool, RulesByRoot, ids_are_distinct, one_longer};
 use trs_core::{OutOfMemory, Trs};
 
 /// The term of an id, and after it those of its reducts that the pool has already, by its redexes

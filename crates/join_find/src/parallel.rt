@@ -10,13 +10,13 @@ ghost use Rattle.join_find.specs.ParallelRow.{FindsParallel, FailsParallel};
 ghost use Rattle.join_find.specs.Answers.{IsFinding};
 
 use crate::parallel_step::add_steps;
-use crate::reaching::{MOST_OF_A_SIDE, ids_are_distinct};
+use crate::reaching::MOST_OF_A_SIDE;
 use crate::sides::critical_peaks_have_sides;
 use assign_search::{Search, Stop};
 use closed_pairs::Peak;
 use rewrite_core::PathStep;
 use std::alloc::Global;
-use term_pool::{MOST_IDS, PathFault, Pool, RulesByRoot};
+use term_pool::{MOST_IDS, PathFault, Pool, RulesByRoot, ids_are_distinct};
 use trs_core::{OutOfMemory, Rule, Trs};
 
 /// One parallel step from the left side of each peak to its right side: none where they are equal,

@@ -9,11 +9,10 @@ ghost use Rattle.term_pool.specs.Pooled.{StandsFor, tree_at};
 ghost use Rattle.term_pool.specs.Redexes.{IsNarrow, Grows};
 ghost use Rattle.join_find.specs.ParallelRow.{IsParallelStep};
 
-use crate::reaching::ids_are_distinct;
 use crate::root_rule::root_rule;
 use rewrite_core::PathStep;
 use std::alloc::Global;
-use term_pool::{MOST_IDS, Pool, RulesByRoot};
+use term_pool::{MOST_IDS, Pool, RulesByRoot, ids_are_distinct};
 use trs_core::{OutOfMemory, Position, Term, Trs};
 
 /// Adds the steps of the parallel step between two subterms, which stand at the place. Where there

@@ -14,10 +14,10 @@ ghost use Rattle.join_find.specs.StrongRow.{IsFirstHalf, HasNoHalf};
 use crate::common::first_common;
 use crate::kept_lists::KeptLists;
 use crate::near::near;
-use crate::reaching::{MOST_OF_A_SIDE, MOST_REACHED, ids_are_distinct, reached};
+use crate::reaching::{MOST_OF_A_SIDE, MOST_REACHED, reached};
 use closed_pairs::Join;
 use std::alloc::Global;
-use term_pool::{MOST_IDS, Pool, RulesByRoot};
+use term_pool::{MOST_IDS, Pool, RulesByRoot, ids_are_distinct};
 use trs_core::{OutOfMemory, Term, Trs};
 
 /// The most ids that are kept from one peak to the next.

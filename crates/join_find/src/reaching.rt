@@ -1,6 +1,6 @@
 //! What the sides of a peak reach.
 ghost use Rattle.std.specs.Prelude.{◌<◌, ◌≤◌, ◌+◌, All, length, IfOk};
-ghost use Rattle.term_pool.specs.Pooled.{AreDistinct, Extends, tree_at};
+ghost use Rattle.term_pool.specs.Pooled.{Extends, tree_at};
 ghost use Rattle.term_pool.specs.ListedIds.{listed_at};
 ghost use Rattle.join_find.specs.NewmanRow.{IsReach};
 ghost use Rattle.join_find.specs.ReachedSides.{IsNarrowAt};
@@ -38,11 +38,4 @@ pub(crate) fn reached(
     ensures few { length pool.new ≤ length pool.old + MOST_REACHED }
 {
     pool.reach(alloc, trs, id, MOST_STEPS, MOST_TERMS, MOST_NODES)
-}
-
-/// Equal terms of a pool have one id.
-pub(crate) fn ids_are_distinct(pool: &Pool)
-    ensures { AreDistinct pool.now }
-{
-    let _ids = pool.len();
 }

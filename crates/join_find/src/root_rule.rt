@@ -6,9 +6,8 @@ ghost use Rattle.trs_defs.specs.Path.{StepsAt};
 ghost use Rattle.term_pool.specs.Pooled.{StandsFor, tree_at};
 ghost use Rattle.join_find.specs.ParallelRow.{HasNoRootStep, IsRootStep};
 
-use crate::reaching::ids_are_distinct;
 use std::alloc::Global;
-use term_pool::{MOST_IDS, Pool, RulesByRoot};
+use term_pool::{MOST_IDS, Pool, RulesByRoot, ids_are_distinct};
 use trs_core::{OutOfMemory, Position, Term, Trs};
 
 /// The least rule that leads at the root from the term of one id to that of another. Only rules

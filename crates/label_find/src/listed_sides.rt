@@ -2,7 +2,7 @@
 ghost use Rattle.std.specs.Prelude.{◌≡◌, ◌<◌, ◌≤◌, ◌+◌, ◌*◌, ℕ, List, length, Some, is_some, IsTrue, IfOk, OnOk};
 ghost use Rattle.trs_defs.specs.System.{RewriteRule};
 ghost use Rattle.trs_core.specs.View.{tree};
-ghost use Rattle.term_pool.specs.Pooled.{AreDistinct, Extends, StandsFor};
+ghost use Rattle.term_pool.specs.Pooled.{Extends, StandsFor};
 ghost use Rattle.join_find.specs.Sides.{IsSide};
 ghost use Rattle.join_find.specs.KeptLists.{list_of};
 ghost use Rattle.path_lists.specs.Growth.{GrowsBy};
@@ -94,12 +94,10 @@ impl ListedSides {
         self.lists.at(id)
     }
 
-    /// The pool of all sides and of what they reach. Equal terms have one id.
+    /// The pool of all sides and of what they reach.
     pub(crate) fn pool(&self) -> &Pool
         ensures is { result.now ≡ self.now.pool }
-        ensures distinct { AreDistinct self.now.pool }
     {
-        let _ids = self.pool.len();
         &self.pool
     }
 }
