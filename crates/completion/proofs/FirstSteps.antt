@@ -42,29 +42,26 @@ pub record IsOnTheWay (system : System) (units left : ℕ) (t : Tree) (pool : Li
   pub sum : steps + left ≡ units
   pub well_formed : IsWellFormed system.arities (tree_at pool id)
   pub there : id < length pool
-  pub room : length pool ≤ 65536
 
-pub way_begins : (system : System) (units : ℕ) (t : Tree) (pool : List Tree) (id : ℕ) → StandsFor pool id t → length pool ≤ 0 + size_of t
+pub way_begins : (system : System) (units : ℕ) (t : Tree) (pool : List Tree) (id : ℕ) → StandsFor pool id t
     → IsTermOver system.arities t → IsOnTheWay system units units t pool id
-way_begins system units t pool id e few h =
+way_begins system units t pool id e h =
     let same : tree_at pool id ≡ t = stands_at pool id t e in
     let W : Tree → Type 0 = IsWellFormed system.arities in
     let P : Tree → Type 0 = Leads system.rules 0 t in
-    let small : size_of t ≤ 65536 = h.small in
     record {
       steps = 0;
       leads = subst P (sym same) at_once;
       sum = omega arith;
       well_formed = subst W (sym same) h.well_formed;
       there = stands_within pool id t e;
-      room = omega (arith, few, small);
     }
 
 -- the step, and the id of its result in the pool that goes on
 pub way_goes_on : (system : System) → IsSystem system → (units left : ℕ) (t : Tree) (pool next kept : List Tree) (id new same : ℕ) → IsOnTheWay system units left t pool id
-    → IsFirstStep system.rules left (tree_at pool id) (tree_at next new) → tree_at kept same ≡ tree_at next new → same < length kept → length kept ≤ 65536
+    → IsFirstStep system.rules left (tree_at pool id) (tree_at next new) → tree_at kept same ≡ tree_at next new → same < length kept
     → IsOnTheWay system units (left - 1) t kept same
-way_goes_on system valid units left t pool next kept id new same h s e there room =
+way_goes_on system valid units left t pool next kept id new same h s e there =
     let sum : h.steps + left ≡ units = h.sum in
     let unit : 0 < left = s.unit_there in
     let L : Tree → Type 0 = Leads system.rules (suc h.steps) t in
@@ -75,7 +72,6 @@ way_goes_on system valid units left t pool next kept id new same h s e there roo
       sum = omega (arith, sum, unit);
       well_formed = subst W (sym e) (next_well_formed system valid s.step (tree_at pool id) (tree_at next new) s.steps h.well_formed);
       there = there;
-      room = room;
     }
 
 -- at a normal form, which is read from the pool that goes on

@@ -1,4 +1,4 @@
-ghost use Rattle.std.specs.Prelude.{◌<◌, ◌≤◌, ◌+◌, length, IfOk, OnOk};
+ghost use Rattle.std.specs.Prelude.{◌<◌, length, IfOk, OnOk};
 ghost use Rattle.term_pool.specs.Pooled.{Extends, tree_at};
 ghost use Rattle.term_pool.specs.Redexes.{IsNarrow};
 ghost use Rattle.completion.specs.Moving.{IsMove, IsStopOf};
@@ -9,7 +9,7 @@ use crate::searching::first_redex;
 use rewrite_core::StepFault;
 use std::alloc::Global;
 use std::collections::BTreeSet;
-use term_pool::{MOST_IDS, Pool};
+use term_pool::Pool;
 use trs_core::{OutOfMemory, Position, Trs, systems_are_valid};
 
 /// What the first redex of a term leads to.
@@ -30,12 +30,10 @@ pub(crate) fn first_move(
     units: u64,
 ) -> Result<Move, OutOfMemory>
     requires there { id < length pool.old }
-    requires room { length pool.old ≤ MOST_IDS }
     requires narrow { IsNarrow (tree_at pool.old id) }
     requires passed { HaveNoPlace trs.now.rules pool.old passed.old }
     ensures moves { IfOk result (IsMove trs.now.rules units (tree_at pool.old id) pool.new) }
     ensures kept { OnOk result (Extends pool.old pool.new) }
-    ensures few { OnOk result (length pool.new ≤ length pool.old + 65536) }
     ensures passed { OnOk result (HaveNoPlace trs.now.rules pool.new passed.new) }
 {
     systems_are_valid(trs);

@@ -1,4 +1,4 @@
-ghost use Rattle.std.specs.Prelude.{◌≡◌, ◌<◌, ◌≤◌, List, length, IfOk, OnOk};
+ghost use Rattle.std.specs.Prelude.{◌≡◌, ◌<◌, List, length, IfOk, OnOk};
 ghost use Rattle.trs_defs.specs.System.{RewriteRule};
 ghost use Rattle.trs_core.specs.View.{tree};
 ghost use Rattle.term_pool.specs.Pooled.{tree_at};
@@ -11,7 +11,7 @@ use crate::Unfinished;
 use crate::first_steps::{Move, first_move};
 use std::alloc::Global;
 use std::collections::BTreeSet;
-use term_pool::{MOST_IDS, Pool};
+use term_pool::Pool;
 use trs_core::{OutOfMemory, Term, Trs, systems_are_valid};
 
 /// The most ids of a pool before all of them but those of the term at hand are given up.
@@ -62,10 +62,8 @@ fn carried_over(
     passed: &mut BTreeSet<u32>,
 ) -> Result<u32, OutOfMemory>
     requires there { id < length pool.old }
-    requires room { length pool.old ≤ MOST_IDS }
     ensures same { IfOk result (λ new. tree_at pool.new new ≡ tree_at pool.old id) }
     ensures there { IfOk result (λ new. new < length pool.new) }
-    ensures few { OnOk result (length pool.new ≤ MOST_KEPT) }
     ensures passed { OnOk result ((rules : List RewriteRule) →
         HaveNoPlace rules pool.old passed.old → HaveNoPlace rules pool.new passed.new) }
 {

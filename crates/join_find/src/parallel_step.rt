@@ -1,5 +1,5 @@
 //! The parallel step from one term to another.
-ghost use Rattle.std.specs.Prelude.{◌≡◌, ◌<◌, ◌≤◌, ℕ, List, Some, All, false, [], ◌∷◌, length, IsTrue, IfOk};
+ghost use Rattle.std.specs.Prelude.{◌≡◌, ◌<◌, ℕ, List, Some, All, false, [], ◌∷◌, length, IsTrue, IfOk};
 ghost use Rattle.trs_core.specs.View.{tree};
 ghost use Rattle.trs_defs.specs.Tree.{Tree};
 ghost use Rattle.trs_defs.specs.Size.{within_limits};
@@ -12,7 +12,7 @@ ghost use Rattle.join_find.specs.ParallelRow.{IsParallelStep};
 use crate::root_rule::root_rule;
 use rewrite_core::PathStep;
 use std::alloc::Global;
-use term_pool::{MOST_IDS, Pool, RulesByRoot, ids_are_distinct};
+use term_pool::{Pool, RulesByRoot, ids_are_distinct};
 use trs_core::{OutOfMemory, Position, Term, Trs};
 
 /// Adds the steps of the parallel step between two subterms, which stand at the place. Where there
@@ -33,7 +33,6 @@ pub(crate) fn add_steps(
     requires to { StandsFor pool.old ids.1 (tree to.now) }
     requires narrow { IsNarrow (tree from.now) }
     requires limits { IsTrue (within_limits (tree to.now)) }
-    requires room { length pool.old ≤ MOST_IDS }
     requires positive { All (λ n. 0 < n) place.old.items }
     ensures same { pool.new ≡ pool.old }
     ensures place { IfOk result (λ yes. IsTrue yes → place.new.items ≡ place.old.items) }

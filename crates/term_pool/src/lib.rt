@@ -26,7 +26,7 @@ mod steps;
 pub use distinct::ids_are_distinct;
 pub use narrow::paths_keep_narrow;
 pub use paths::{PathFault, PathStep, one_longer};
-pub use pools::{MOST_IDS, Pool};
+pub use pools::Pool;
 pub use roots::RulesByRoot;
 pub use running::MOST_ADDED;
 pub use steps::StepFault;

@@ -10,8 +10,7 @@ use Rattle.completion.proofs.normalizing.normal_form.Goals as goal
 
 pub loop-passed-init : goal.loop-passed-init
 loop-passed-init c = record {
-  way = way_begins c.args.trs.now c.args.units (tree c.args.t.now) c.intern.new.self c.in_ok-current.current c.in_ok-current.ensures.id
-      (rw c.new-pool.ensures at c.in_ok-current.ensures.few) c.requires;
+  way = way_begins c.args.trs.now c.args.units (tree c.args.t.now) c.intern.new.self c.in_ok-current.current c.in_ok-current.ensures.id c.requires;
   passed = none_passed c.args.trs.now.rules c.intern.new.self c.new-passed.result c.new-passed.ensures.empty;
 }
 
@@ -38,6 +37,6 @@ loop-passed-preserved c =
     record {
       way = way_goes_on c.args.trs.now c.systems_are_valid.ensures.valid c.args.units c.loop-passed.left (tree c.args.t.now) c.loop-passed.pool c.first_move.new.pool c.carried_over.new.pool
           c.loop-passed.current c.in-To.next c.in_ok-current-in-To.current c.loop-passed.invariant.way (subst M c.in-To.is c.in_ok-first_move.ensures.moves).0
-          c.in_ok-current-in-To.ensures.same c.in_ok-current-in-To.ensures.there c.in_ok-current-in-To.ensures.few;
+          c.in_ok-current-in-To.ensures.same c.in_ok-current-in-To.ensures.there;
       passed = c.in_ok-current-in-To.ensures.passed c.args.trs.now.rules c.in_ok-first_move.ensures.passed;
     }
