@@ -9,6 +9,7 @@ use crate::entry::{Entry, Saying};
 use sexp_core::Sexp;
 use std::marker::Model;
 use term_text::nodes_left_behind;
+use trs_core::{MOST_NODES, MOST_RULES, MOST_SYMBOLS};
 
 /// How many `fun` and `rule` items come up to the first that is too many, and how many nodes may still come.
 #[derive(Drop)]
@@ -31,9 +32,9 @@ impl Room {
         ensures { result ≡ whole_room }
     {
         Room {
-            funs: 4_096,
-            rules: 4_096,
-            nodes: Some(65_536),
+            funs: MOST_SYMBOLS as u32 + 1,
+            rules: MOST_RULES as u32 + 1,
+            nodes: Some(MOST_NODES as u32),
         }
     }
 

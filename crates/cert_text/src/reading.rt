@@ -16,7 +16,7 @@ use crate::certificate::Certificate;
 use crate::fault::CertFault;
 use crate::head::{Head, read_head, read_headline};
 use bumpalo::Bump;
-use names_text::NamedTrs;
+use names_text::{NamedTrs, systems_are_named};
 use path_text::{Shared, begins_with, read_define};
 use sexp_core::{Sexp, read_all};
 use std::alloc::Global;
@@ -55,8 +55,7 @@ pub fn read_certificate(
     ensures only { (says : ProofText) → SaysCertificate system.now text.now says
         → MatchResult result (λ c. proof_text_of c ≡ says) (λ e. e ≡ CertFault.OutOfMemory) }
 {
-    // The system is named, by the contract of `trs`.
-    let _trs = system.trs();
+    systems_are_named(system);
     let arena = Bump::new(alloc);
     let items = read_all(&arena, alloc, text, MOST_OPEN_LISTS)?;
     read_items(alloc, system, text.len() as u32, &items)

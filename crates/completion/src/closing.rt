@@ -6,14 +6,13 @@ ghost use Rattle.completion.specs.Treating.{IsOutcome, is_passed};
 ghost use Rattle.completion.specs.Taking.{ArePairsOver, Looks};
 
 use crate::Completion;
-use crate::known::see_system;
 use crate::orienting::take_in;
 use crate::treating::{Outcome, treat};
 use crit_pairs::{Peak, PeakFault, critical_pairs, first_peaks};
 use path_lpo::Lpo;
 use rewrite_core::CheckFault;
 use std::alloc::Global;
-use trs_core::{OutOfMemory, Trs};
+use trs_core::{OutOfMemory, Trs, systems_are_valid};
 
 /// How many critical peaks are made at first: mostly one of them gives a rule.
 const FEW: usize = 64;
@@ -51,7 +50,7 @@ fn look(alloc: Global, order: &Lpo, trs: &Trs, units: u64) -> Result<Outcome, Ou
     ensures { IfOk result (IsOutcome (Looks trs.now.arities (GreaterBy order.now)
         trs.now.rules units)) }
 {
-    see_system(trs);
+    systems_are_valid(trs);
     match first_peaks(alloc, trs, FEW) {
         Ok(few) => {
             let found = find(alloc, order, trs, &few.peaks, units)?;
@@ -70,7 +69,7 @@ fn look_at_all(alloc: Global, order: &Lpo, trs: &Trs, units: u64) -> Result<Outc
     ensures { IfOk result (IsOutcome (Looks trs.now.arities (GreaterBy order.now)
         trs.now.rules units)) }
 {
-    see_system(trs);
+    systems_are_valid(trs);
     match critical_pairs(alloc, trs) {
         Ok(peaks) => find(alloc, order, trs, &peaks, units),
         Err(PeakFault::TooLarge) => Ok(Outcome::Ended(Completion::Limit)),

@@ -8,11 +8,10 @@ ghost use Rattle.completion.specs.Answers.{plain_ending, HasArities};
 
 use crate::Completion;
 use crate::closing::close;
-use crate::known::see_system;
 use crate::taking::{Taken, take};
 use path_lpo::Lpo;
 use std::alloc::Global;
-use trs_core::{OutOfMemory, Trs};
+use trs_core::{OutOfMemory, Trs, systems_are_valid};
 
 /// Completion of equations, which are given as rules, with so many units: each rewrite step and
 /// each new rule is one. Rules are neither dropped nor reduced, and after each new rule all
@@ -31,7 +30,7 @@ pub fn complete(
         IsRightEnding equations.now (GreaterBy order.now) (plain_ending c)) }
     ensures arities { IfOk result (HasArities equations.now.arities) }
 {
-    see_system(equations);
+    systems_are_valid(equations);
     match take(alloc, equations, order, budget)? {
         Taken::Ended(why) => Ok(why),
         Taken::Rules(system, units) => close(alloc, order, system, units),

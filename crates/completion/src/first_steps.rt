@@ -5,13 +5,12 @@ ghost use Rattle.completion.specs.Moving.{IsMove, IsStopOf};
 ghost use Rattle.completion.specs.Searching.{HaveNoPlace};
 
 use crate::Unfinished;
-use crate::known::see_system;
-use crate::searching::{first_redex, position};
+use crate::searching::first_redex;
 use rewrite_core::StepFault;
 use std::alloc::Global;
 use std::collections::BTreeSet;
 use term_pool::Pool;
-use trs_core::{OutOfMemory, Trs};
+use trs_core::{OutOfMemory, Position, Trs, systems_are_valid};
 
 /// What the first redex of a term leads to.
 #[derive(Clone, Copy)]
@@ -37,7 +36,7 @@ pub(crate) fn first_move(
     ensures kept { OnOk result (Extends pool.old pool.new) }
     ensures passed { OnOk result (HaveNoPlace trs.now.rules pool.new passed.new) }
 {
-    see_system(trs);
+    systems_are_valid(trs);
     let mut place = Vec::new(alloc);
     match first_redex(alloc, pool, trs.rules(), id, &mut place, passed)? {
         None => Ok(Move::Nowhere),
@@ -45,7 +44,7 @@ pub(crate) fn first_move(
             if units == 0 {
                 return Ok(Move::Stopped(Unfinished::NoUnit));
             }
-            let place = position(alloc, &place)?;
+            let place = Position::of(alloc, &place)?;
             match pool.step_at(alloc, trs, id, &place, rule) {
                 Ok(next) => Ok(Move::To(next)),
                 Err(fault) => stopped(fault),

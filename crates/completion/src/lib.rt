@@ -6,7 +6,6 @@ mod closing;
 mod completing;
 mod endings;
 mod first_steps;
-mod known;
 mod laws;
 mod no_redex;
 mod normalizing;

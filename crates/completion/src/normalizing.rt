@@ -9,11 +9,10 @@ ghost use Rattle.completion.specs.Searching.{HaveNoPlace};
 
 use crate::Unfinished;
 use crate::first_steps::{Move, first_move};
-use crate::known::{see_bytes, see_system};
 use std::alloc::Global;
 use std::collections::BTreeSet;
 use term_pool::Pool;
-use trs_core::{OutOfMemory, Term, Trs};
+use trs_core::{OutOfMemory, Term, Trs, systems_are_valid};
 
 /// The most ids of a pool before all of them but those of the term at hand are given up.
 const MOST_KEPT: u32 = 65_536;
@@ -37,8 +36,7 @@ pub(crate) fn normal_form(
     ensures { IfOk result (λ form.
         Normalizes trs.now.rules units (tree t.now) (form_of form)) }
 {
-    see_bytes(trs.arities());
-    see_system(trs);
+    systems_are_valid(trs);
     let mut pool = Pool::new(alloc);
     let mut passed = BTreeSet::new(alloc);
     let mut current = pool.intern(alloc, t)?;

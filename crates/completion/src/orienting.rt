@@ -5,16 +5,10 @@ ghost use Rattle.completion.specs.Orienting.{Fits};
 ghost use Rattle.completion.specs.Treating.{whole, HasRoom};
 
 use std::alloc::Global;
-use trs_core::{OutOfMemory, Rule, Trs};
+use trs_core::{MOST_NODES, MOST_RULES, OutOfMemory, Rule, Trs};
 
 /// The deepest side of a new rule, so that the system can be printed.
 const DEEPEST: u64 = 256;
-
-/// The most rules of a system.
-const MOST_RULES: usize = 4_095;
-
-/// The most nodes of all sides of a system.
-const MOST_NODES: u64 = 65_536;
 
 /// Whether a new rule may come behind those of a system and some more.
 pub(crate) fn fits(trs: &Trs, more: &[Rule], rule: &Rule) -> bool

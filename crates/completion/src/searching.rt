@@ -8,7 +8,7 @@ ghost use Rattle.completion.specs.Searching.{HaveNoPlace, IsFound, IsRootFound};
 use std::alloc::Global;
 use std::collections::BTreeSet;
 use term_pool::Pool;
-use trs_core::{OutOfMemory, Position, Rule};
+use trs_core::{OutOfMemory, Rule};
 
 /// The rule of the first redex of an id's term, whose place is added to the given one; or none, and
 /// then the id has been passed. Nothing below an id that has been passed is looked at again.
@@ -81,16 +81,4 @@ fn argument_behind(pool: &Pool, id: u32, count: u8) -> Option<u32>
         return None;
     }
     pool.at(id, &[count + 1])
-}
-
-/// The position with these places.
-pub(crate) fn position(alloc: Global, places: &[u8]) -> Result<Position, OutOfMemory>
-    requires { All (λ n. 0 < n) places.now }
-    ensures { IfOk result (λ p. p ≡ places.now) }
-{
-    let mut made = Position::new(alloc);
-    for place in places {
-        made.push(*place)?;
-    }
-    Ok(made)
 }

@@ -7,14 +7,13 @@ ghost use Rattle.completion.specs.GreaterBy.{GreaterBy};
 ghost use Rattle.completion.specs.Taking.{IsTermOver};
 ghost use Rattle.completion.specs.Treating.{pair_of, whole, IsOutcome, IsCompared, IsAdded};
 
-use crate::known::see_system;
 use crate::normalizing::{Form, normal_form};
 use crate::orienting::fits;
 use crate::renumbering::renumbered;
 use crate::{Completion, Unfinished};
 use path_lpo::{Lpo, is_strict};
 use std::alloc::Global;
-use trs_core::{OutOfMemory, Rule, Term, Trs};
+use trs_core::{OutOfMemory, Rule, Term, Trs, systems_are_valid};
 
 /// What becomes of a pair: it is passed over, or gives a rule, and so many units are left; or the
 /// run ends.
@@ -39,7 +38,7 @@ pub(crate) fn treat(
     ensures { IfOk result (IsOutcome (Treats trs.now.arities (GreaterBy order.now)
         trs.now.rules units (pair_of (tree left.now) (tree right.now)))) }
 {
-    see_system(trs);
+    systems_are_valid(trs);
     match normal_form(alloc, trs, left, units)? {
         Form::Stopped(why) => Ok(Outcome::Ended(ended(why))),
         Form::Normal(s, more) => match normal_form(alloc, trs, right, more)? {

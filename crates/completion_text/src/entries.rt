@@ -12,10 +12,7 @@ use path_lpo::{Filter, LpoEntry};
 use sexp_core::Sexp;
 use std::alloc::Global;
 use text_reading::{Read, both, ended, keyword, place, read_number};
-use trs_core::OutOfMemory;
-
-/// The greatest rank, 2^63 - 1.
-const LAST_RANK: u64 = 9_223_372_036_854_775_807;
+use trs_core::{GREATEST_NUMBER, OutOfMemory};
 
 /// Entries `(sym name rank)`, no symbol twice.
 #[tactic(auto, using(text_reading::proofs::SeenParts::joined_none, pair_text::proofs::InTurnLaws::refused_in_turn, pair_text::proofs::InTurnLaws::all_in_turn))]
@@ -56,7 +53,7 @@ fn read_entry(
     };
     match add_symbol(known, *at, read_plain_symbol(system, head, name))? {
         Ok(symbol) => {
-            let rank = read_number(LAST_RANK, rank);
+            let rank = read_number(GREATEST_NUMBER, rank);
             ranked_if_read(alloc, symbol, ended(rank, more))
         }
         Err(at) => Ok(Err(at)),

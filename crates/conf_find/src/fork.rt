@@ -1,5 +1,5 @@
 //! The strategy fork.
-ghost use Rattle.std.specs.Prelude.{◌≡◌, ◌<◌, ◌≤◌, ◌+◌, ◌*◌, All, length, Ok, IfOk, OnOk, MatchOption};
+ghost use Rattle.std.specs.Prelude.{◌≡◌, ◌<◌, ◌≤◌, All, length, Ok, IfOk, OnOk, MatchOption};
 ghost use Rattle.term_pool.specs.ListedIds.{listed_at};
 ghost use Rattle.term_pool.specs.Pooled.{Extends, tree_at};
 ghost use Rattle.join_find.specs.crit_pairs.PeakList.{ListsPeaks};
@@ -13,12 +13,12 @@ ghost use Rattle.conf_find.specs.ForkRows.{NothingParted, PartsLists};
 use crate::caps::caps_of;
 use crate::forks::{ForkFound, fork_from};
 use crate::parting::first_parted;
-use crate::reaching::{MOST_OF_A_SIDE, entry, reached};
+use crate::reaching::{entry, reached};
 use assign_search::{Search, Stop};
 use join_find::critical_peaks_have_sides;
 use rewrite_core::{ForkTest, PathStep, Peak};
 use std::alloc::Global;
-use term_pool::{MOST_IDS, Pool, RulesByRoot};
+use term_pool::{Pool, RulesByRoot};
 use trs_core::{OutOfMemory, Trs};
 
 /// A fork to two terms that are apart by their caps. At the first peak that has one: the first term
@@ -69,7 +69,6 @@ fn fork_at(
 ) -> Result<Option<ForkFound>, OutOfMemory>
     requires table { by_root.now ≡ trs.now }
     requires sides { HasSides peak.now }
-    requires room { length pool.old + 2 * MOST_OF_A_SIDE ≤ MOST_IDS }
     ensures fork { IfOk result (λ found. MatchOption found
         (PartsNot AreApart trs.now.rules peak.now)
         (λ f. PartsBy AreApart trs.now.rules peak.now (fork_of f))) }
@@ -91,7 +90,6 @@ fn fork_within(
 ) -> Result<Option<ForkFound>, OutOfMemory>
     requires table { by_root.now ≡ trs.now }
     requires sides { HasSides peak.now }
-    requires room { length pool.old + 2 * MOST_OF_A_SIDE ≤ MOST_IDS }
     ensures fork { IfOk result (λ found. MatchOption found
         (PartsNot AreApart trs.now.rules peak.now)
         (λ f. PartsBy AreApart trs.now.rules peak.now (fork_of f))) }

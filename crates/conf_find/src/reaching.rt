@@ -1,14 +1,14 @@
 //! What the sides of a peak reach in few steps.
-ghost use Rattle.std.specs.Prelude.{◌≡◌, ◌<◌, ◌≤◌, ◌+◌, All, Some, length, slice_get, IfOk};
+ghost use Rattle.std.specs.Prelude.{◌≡◌, ◌<◌, All, Some, length, slice_get, IfOk};
 ghost use Rattle.trs_core.specs.View.{tree};
-ghost use Rattle.term_pool.specs.Pooled.{AreDistinct, Extends};
+ghost use Rattle.term_pool.specs.Pooled.{Extends};
 ghost use Rattle.term_pool.specs.ListedIds.{listed_at};
 ghost use Rattle.join_find.specs.Sides.{IsSide};
 ghost use Rattle.conf_find.specs.ForkRows.{IsShortReach};
 
 use rewrite_core::PathStep;
 use std::alloc::Global;
-use term_pool::{MOST_IDS, Pool};
+use term_pool::Pool;
 use trs_core::{OutOfMemory, Term, Trs};
 
 const MOST_STEPS: u32 = 8;
@@ -16,9 +16,6 @@ const MOST_STEPS: u32 = 8;
 const MOST_TERMS: u32 = 32;
 
 const MOST_NODES: u64 = 4_096;
-
-/// The most ids that a side, and what it reaches, add.
-pub(crate) const MOST_OF_A_SIDE: u32 = 196_608;
 
 /// The terms that a side of a peak reaches, in up to 8 steps, up to 32 of up to 4,096 nodes.
 pub(crate) fn reached(
@@ -28,12 +25,10 @@ pub(crate) fn reached(
     side: &Term,
 ) -> Result<Vec<(u32, Vec<PathStep>)>, OutOfMemory>
     requires side { IsSide (tree side.now) }
-    requires room { length pool.old + MOST_OF_A_SIDE ≤ MOST_IDS }
     ensures list { IfOk result (λ found.
         IsShortReach trs.now.rules (tree side.now) (listed_at pool.new found.items)) }
     ensures there { IfOk result (λ found. All (λ e. e.0 < length pool.new) found.items) }
     ensures kept { Extends pool.old pool.new }
-    ensures few { length pool.new ≤ length pool.old + MOST_OF_A_SIDE }
 {
     let id = pool.intern(alloc, side)?;
     pool.reach(alloc, trs, id, MOST_STEPS, MOST_TERMS, MOST_NODES)
@@ -45,11 +40,4 @@ pub(crate) fn entry(entries: &[(u32, Vec<PathStep>)], i: usize) -> &(u32, Vec<Pa
     ensures { slice_get entries.now i ≡ Some result.now }
 {
     &entries[i]
-}
-
-/// Equal terms of a pool have one id.
-pub(crate) fn ids_are_distinct(pool: &Pool)
-    ensures { AreDistinct pool.now }
-{
-    let _ids = pool.len();
 }

@@ -1,5 +1,5 @@
 //! The strategy split.
-ghost use Rattle.std.specs.Prelude.{◌≡◌, ◌<◌, ◌≤◌, ◌+◌, ◌*◌, All, length, Ok, IfOk, OnOk, MatchOption};
+ghost use Rattle.std.specs.Prelude.{◌≡◌, ◌<◌, ◌≤◌, All, length, Ok, IfOk, OnOk, MatchOption};
 ghost use Rattle.term_pool.specs.ListedIds.{listed_at};
 ghost use Rattle.term_pool.specs.Pooled.{Extends};
 ghost use Rattle.join_find.specs.crit_pairs.PeakList.{ListsPeaks};
@@ -12,12 +12,12 @@ ghost use Rattle.conf_find.specs.ForkRows.{AreDifferentNormalForms, NothingParte
 use crate::endings::endings_of;
 use crate::forks::{ForkFound, fork_from};
 use crate::parting::first_parted;
-use crate::reaching::{MOST_OF_A_SIDE, entry, ids_are_distinct, reached};
+use crate::reaching::{entry, reached};
 use assign_search::{Search, Stop};
 use join_find::critical_peaks_have_sides;
 use rewrite_core::{ForkTest, PathStep, Peak};
 use std::alloc::Global;
-use term_pool::{MOST_IDS, Pool, RulesByRoot};
+use term_pool::{Pool, RulesByRoot, ids_are_distinct};
 use trs_core::{OutOfMemory, Trs};
 
 /// A fork to two different normal forms. At the first peak that has one: the first normal form that
@@ -67,7 +67,6 @@ fn split_at(
 ) -> Result<Option<ForkFound>, OutOfMemory>
     requires table { by_root.now ≡ trs.now }
     requires sides { HasSides peak.now }
-    requires room { length pool.old + 2 * MOST_OF_A_SIDE ≤ MOST_IDS }
     ensures fork { IfOk result (λ found. MatchOption found
         (PartsNot AreDifferentNormalForms trs.now.rules peak.now)
         (λ f. PartsBy AreDifferentNormalForms trs.now.rules peak.now (fork_of f))) }
@@ -89,7 +88,6 @@ fn split_within(
 ) -> Result<Option<ForkFound>, OutOfMemory>
     requires table { by_root.now ≡ trs.now }
     requires sides { HasSides peak.now }
-    requires room { length pool.old + 2 * MOST_OF_A_SIDE ≤ MOST_IDS }
     ensures fork { IfOk result (λ found. MatchOption found
         (PartsNot AreDifferentNormalForms trs.now.rules peak.now)
         (λ f. PartsBy AreDifferentNormalForms trs.now.rules peak.now (fork_of f))) }

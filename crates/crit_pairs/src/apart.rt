@@ -7,11 +7,8 @@ ghost use Rattle.crit_pairs.specs.Apart.{renamed_apart, AreApart};
 use std::alloc::Global;
 use std::marker::Model;
 use term_pool::RulesByRoot;
-use trs_core::{OutOfMemory, Rule, Trs};
+use trs_core::{MOST_VARIABLES, OutOfMemory, Rule, Trs};
 use trs_unify::rename_apart;
-
-/// The variables of rules have numbers below this one.
-const OFFSET: u32 = 65_536;
 
 /// A system with its rules by the roots of their left sides, and with a copy of each rule whose
 /// variables are renamed apart from those of all rules. It is made once for all overlaps.
@@ -97,7 +94,7 @@ fn renamed_rule(alloc: Global, rule: &Rule) -> Result<Rule, OutOfMemory>
     ensures { IfOk result (λ r. r ≡ renamed_apart rule.now) }
 {
     Ok(Rule {
-        left: rename_apart(alloc, &rule.left, OFFSET)?,
-        right: rename_apart(alloc, &rule.right, OFFSET)?,
+        left: rename_apart(alloc, &rule.left, MOST_VARIABLES)?,
+        right: rename_apart(alloc, &rule.right, MOST_VARIABLES)?,
     })
 }

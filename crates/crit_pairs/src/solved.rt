@@ -10,7 +10,7 @@ ghost use Rattle.crit_pairs.specs.Sides.{IsDistinct};
 
 use crate::meeting::{Binding, find};
 use std::alloc::Global;
-use trs_core::{Args, OutOfMemory, Term};
+use trs_core::{Args, GREATEST_DEPTH, MOST_NODES, OutOfMemory, Term};
 
 /// The number of nodes of an instance. `None` exactly where the instance passes the limits on
 /// computed terms.
@@ -22,7 +22,7 @@ pub(crate) fn small_size(bindings: &[Binding], t: &Term) -> Option<u64>
     ensures size { IfSome result (λ n. n ≡ size_of (apply (solution bindings.now) (tree t.now))) }
 {
     let size = size(bindings, t);
-    if size <= 65_536 && depth(bindings, t) <= 1_024 {
+    if size <= MOST_NODES && depth(bindings, t) <= GREATEST_DEPTH {
         Some(size)
     } else {
         None

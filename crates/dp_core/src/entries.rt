@@ -11,8 +11,7 @@ ghost use Rattle.dp_core.specs.Symbols.{symbols_of, symbols_of_rules};
 ghost use Rattle.dp_core.specs.LeastLacking.{least_lacking, lacking_with, lower_of};
 ghost use Rattle.dp_core.specs.Markable.{IsMarkable};
 
-use crate::sides::MARK;
-use crate::{Side, Sides};
+use crate::{MARK, Side, Sides};
 use pair_order::ReductionPair;
 use rewrite_core::{CheckFault, StepRefused};
 use trs_core::{Rule, Term};

@@ -23,7 +23,7 @@ pub use laws::{
 pub use listing::dependency_pairs;
 pub use numbers::pair_numbers;
 pub use ordered::pair_check;
-pub use pair_order::{PairingOrder, ReductionPair};
+pub use pair_order::{MARK, PairingOrder, ReductionPair};
 pub use pairs::DpPair;
 pub use prepared::Pairs;
 pub use sides::{Side, Sides, pair_left, pair_right};

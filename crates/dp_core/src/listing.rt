@@ -1,4 +1,4 @@
-ghost use Rattle.std.specs.Prelude.{ℕ, ◌≡◌, ◌<◌, ◌++◌, [], All, IfOk, OnOk, Some, slice_get};
+ghost use Rattle.std.specs.Prelude.{◌≡◌, ◌<◌, ◌++◌, [], All, IfOk, OnOk};
 ghost use Rattle.trs_defs.specs.System.{is_defined};
 ghost use Rattle.trs_core.specs.View.{tree};
 ghost use Rattle.term_pool.specs.Redexes.{IsNarrow};
@@ -9,14 +9,14 @@ use crate::DpPair;
 use crate::defined::is_defined;
 use std::alloc::Global;
 use term_pool::RulesByRoot;
-use trs_core::{OutOfMemory, Position, Term, Trs};
+use trs_core::{OutOfMemory, Position, Term, Trs, systems_are_valid};
 
 /// The dependency pairs: rules in order, and within a rule the subterms of the right side with a
 /// defined root, in preorder.
 pub fn dependency_pairs(alloc: Global, trs: &Trs) -> Result<Vec<DpPair>, OutOfMemory>
     ensures pairs { IfOk result (λ found. found.items ≡ placed_pairs trs.now.rules) }
 {
-    see_bytes(trs.arities());
+    systems_are_valid(trs);
     let by_root = RulesByRoot::new(alloc, trs)?;
     let mut pairs = Vec::new(alloc);
     for (k, rule) in trs.rules().iter().enumerate() {
@@ -31,13 +31,6 @@ pub fn dependency_pairs(alloc: Global, trs: &Trs) -> Result<Vec<DpPair>, OutOfMe
         )?;
     }
     Ok(pairs)
-}
-
-/// Numbers of arguments are bytes.
-fn see_bytes(arities: &[u8])
-    ensures { (f n : ℕ) → slice_get arities.now f ≡ Some n → n < 256 }
-{
-    let _count = arities.len();
 }
 
 /// Adds the pairs of rule k at a position of its right side and below it, where `part` stands.
@@ -85,19 +78,8 @@ fn add_here(
     if is_defined(by_root, symbol) {
         pairs.push(DpPair {
             rule: k,
-            place: position(alloc, place)?,
+            place: Position::of(alloc, place)?,
         })?;
     }
     Ok(())
-}
-
-fn position(alloc: Global, places: &[u8]) -> Result<Position, OutOfMemory>
-    requires { All (λ n. 0 < n) places.now }
-    ensures { IfOk result (λ p. p ≡ places.now) }
-{
-    let mut made = Position::new(alloc);
-    for place in places {
-        made.push(*place)?;
-    }
-    Ok(made)
 }

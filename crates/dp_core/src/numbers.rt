@@ -6,7 +6,7 @@ ghost use Rattle.dp_core.specs.Numbered.{numbers_from};
 use crate::DpPair;
 use crate::laws::placed_pairs_are_the_pairs;
 use std::alloc::Global;
-use trs_core::{OutOfMemory, Rule, Trs};
+use trs_core::{OutOfMemory, Rule, Trs, systems_are_valid};
 
 /// The numbers of all pairs of a system, from 0: the problem that a step to dependency pairs
 /// leaves.
@@ -15,7 +15,7 @@ pub fn pair_numbers(alloc: Global, trs: &Trs, all: &[DpPair]) -> Result<Vec<u32>
     ensures { IfOk result (λ numbers.
         numbers.items ≡ numbers_from 0 (dependency_pairs trs.now.rules)) }
 {
-    let _rules = trs.rules();
+    systems_are_valid(trs);
     placed_pairs_are_the_pairs();
     let mut numbers = Vec::with_capacity(alloc, all.len())?;
     for n in 0..all.len() {

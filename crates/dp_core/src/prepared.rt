@@ -7,7 +7,7 @@ use crate::sides::{Sides, sides_of};
 use crate::{DpPair, dependency_pairs};
 use std::alloc::Global;
 use std::marker::Model;
-use trs_core::{OutOfMemory, Trs};
+use trs_core::{OutOfMemory, Trs, systems_are_valid};
 
 /// The dependency pairs of a system with their sides at hand, by their numbers from 0. They are
 /// made once for all steps of a proof, and lend the sides from the system. Contracts see the list
@@ -44,7 +44,7 @@ impl<'a> Pairs<'a> {
         requires { all.now ≡ placed_pairs trs.now.rules }
         ensures { IfOk result (λ pairs. pairs ≡ dependency_pairs trs.now.rules) }
     {
-        let _rules = trs.rules();
+        systems_are_valid(trs);
         placed_pairs_are_the_pairs();
         let mut sides = Vec::with_capacity(alloc, all.len())?;
         for p in all {

@@ -4,13 +4,10 @@ ghost use Rattle.pair_theory.specs.Marked.{Marked, plain, mark};
 ghost use Rattle.pair_theory.specs.DependencyPair.{DependencyPair};
 ghost use Rattle.dp_core.specs.PlacedPairs.{IsPairAt, IsPlacedPair};
 
-use crate::DpPair;
+use crate::{DpPair, MARK};
 use std::alloc::Global;
 use std::marker::Model;
 use trs_core::{Args, OutOfMemory, Term, Trs};
-
-/// What the number of a symbol grows by where it is marked.
-pub(crate) const MARK: u32 = 4_096;
 
 /// A side of a pair, lent by the system: the number of its root without the mark, and the
 /// arguments. Contracts see it as a marked term.

@@ -1,14 +1,13 @@
 //! A term and its reducts.
-ghost use Rattle.std.specs.Prelude.{◌≡◌, ◌<◌, ◌≤◌, length, IfOk, OnOk};
+ghost use Rattle.std.specs.Prelude.{◌≡◌, ◌<◌, length, IfOk, OnOk};
 ghost use Rattle.term_pool.specs.Pooled.{tree_at};
 ghost use Rattle.term_pool.specs.Redexes.{IsNarrow, IsRedexAt};
 ghost use Rattle.join_find.specs.ReachedSides.{IsNarrowAt};
 ghost use Rattle.join_find.specs.Near.{IsSiftedNear, AddsReduct};
 
-use crate::reaching::ids_are_distinct;
 use rewrite_core::PathStep;
 use std::alloc::Global;
-use term_pool::{MOST_IDS, Pool, RulesByRoot, one_longer};
+use term_pool::{Pool, RulesByRoot, ids_are_distinct, one_longer};
 use trs_core::{OutOfMemory, Trs};
 
 /// The term of an id, and after it those of its reducts that the pool has already, by its redexes
@@ -22,7 +21,6 @@ pub(crate) fn near(
 ) -> Result<Vec<(u32, Vec<PathStep>)>, OutOfMemory>
     requires rules { by_root.now ≡ trs.now }
     requires narrow { IsNarrowAt pool.old id }
-    requires room { length pool.old ≤ MOST_IDS }
     ensures near { IfOk result (λ found.
         IsSiftedNear trs.now.rules (tree_at pool.old id) pool.old found.items) }
     ensures same { pool.new ≡ pool.old }
@@ -47,7 +45,6 @@ fn add_reduct(
 ) -> Result<(), OutOfMemory>
     requires there { id < length pool.old }
     requires redex { IsRedexAt trs.now.rules (tree_at pool.old id) step.now }
-    requires room { length pool.old ≤ MOST_IDS }
     ensures adds { OnOk result (AddsReduct trs.now.rules pool.old
         (tree_at pool.old id) step.now near.old.items near.new.items) }
     ensures same { pool.new ≡ pool.old }

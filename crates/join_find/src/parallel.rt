@@ -1,5 +1,5 @@
 //! The strategy parallel.
-ghost use Rattle.std.specs.Prelude.{◌≡◌, ◌<◌, ◌≤◌, ◌+◌, ◌*◌, ◌↔◌, length, Ok, IsTrue, false, IfOk, OnOk, MatchOption};
+ghost use Rattle.std.specs.Prelude.{◌≡◌, ◌<◌, ◌≤◌, ◌↔◌, Ok, IsTrue, false, IfOk, OnOk, MatchOption};
 ghost use Rattle.trs_defs.specs.Variable.{IsLinear};
 ghost use Rattle.term_pool.specs.Pooled.{Extends};
 ghost use Rattle.closed_pairs.specs.crit_pairs.PeakList.{ListsPeaks};
@@ -10,13 +10,12 @@ ghost use Rattle.join_find.specs.ParallelRow.{FindsParallel, FailsParallel};
 ghost use Rattle.join_find.specs.Answers.{IsFinding};
 
 use crate::parallel_step::add_steps;
-use crate::reaching::{MOST_OF_A_SIDE, ids_are_distinct};
 use crate::sides::critical_peaks_have_sides;
 use assign_search::{Search, Stop};
 use closed_pairs::Peak;
 use rewrite_core::PathStep;
 use std::alloc::Global;
-use term_pool::{MOST_IDS, PathFault, Pool, RulesByRoot};
+use term_pool::{PathFault, Pool, RulesByRoot, ids_are_distinct};
 use trs_core::{OutOfMemory, Rule, Trs};
 
 /// One parallel step from the left side of each peak to its right side: none where they are equal,
@@ -86,7 +85,6 @@ fn closing(
     peak: &Peak,
 ) -> Result<Option<Vec<PathStep>>, OutOfMemory>
     requires sides { HasSides peak.now }
-    requires room { length pool.old + 2 * MOST_OF_A_SIDE ≤ MOST_IDS }
     ensures step { IfOk result (λ found. MatchOption found
         (HasNoClosing trs.now.rules peak.now)
         (λ steps. IsParallelClosing trs.now.rules peak.now steps.items)) }
@@ -106,7 +104,6 @@ fn closing_within(
     peak: &Peak,
 ) -> Result<Option<Vec<PathStep>>, OutOfMemory>
     requires sides { HasSides peak.now }
-    requires room { length pool.old + 2 * MOST_OF_A_SIDE ≤ MOST_IDS }
     ensures step { IfOk result (λ found. MatchOption found
         (HasNoClosing trs.now.rules peak.now)
         (λ steps. IsParallelClosing trs.now.rules peak.now steps.items)) }

@@ -1,5 +1,5 @@
 //! The parallel step from one term to another.
-ghost use Rattle.std.specs.Prelude.{◌≡◌, ◌<◌, ◌≤◌, ℕ, List, Some, All, false, [], ◌∷◌, length, IsTrue, IfOk};
+ghost use Rattle.std.specs.Prelude.{◌≡◌, ◌<◌, ℕ, List, Some, All, false, [], ◌∷◌, length, IsTrue, IfOk};
 ghost use Rattle.trs_core.specs.View.{tree};
 ghost use Rattle.trs_defs.specs.Tree.{Tree};
 ghost use Rattle.trs_defs.specs.Size.{within_limits};
@@ -9,11 +9,10 @@ ghost use Rattle.term_pool.specs.Pooled.{StandsFor, tree_at};
 ghost use Rattle.term_pool.specs.Redexes.{IsNarrow, Grows};
 ghost use Rattle.join_find.specs.ParallelRow.{IsParallelStep};
 
-use crate::reaching::ids_are_distinct;
 use crate::root_rule::root_rule;
 use rewrite_core::PathStep;
 use std::alloc::Global;
-use term_pool::{MOST_IDS, Pool, RulesByRoot};
+use term_pool::{Pool, RulesByRoot, ids_are_distinct};
 use trs_core::{OutOfMemory, Position, Term, Trs};
 
 /// Adds the steps of the parallel step between two subterms, which stand at the place. Where there
@@ -34,7 +33,6 @@ pub(crate) fn add_steps(
     requires to { StandsFor pool.old ids.1 (tree to.now) }
     requires narrow { IsNarrow (tree from.now) }
     requires limits { IsTrue (within_limits (tree to.now)) }
-    requires room { length pool.old ≤ MOST_IDS }
     requires positive { All (λ n. 0 < n) place.old.items }
     ensures same { pool.new ≡ pool.old }
     ensures place { IfOk result (λ yes. IsTrue yes → place.new.items ≡ place.old.items) }
@@ -49,7 +47,7 @@ pub(crate) fn add_steps(
         return Ok(true);
     }
     if let Some(rule) = root_rule(alloc, pool, trs, by_root, from, ids)? {
-        let at = position(alloc, place)?;
+        let at = Position::of(alloc, place)?;
         steps.push(PathStep { place: at, rule })?;
         return Ok(true);
     }
@@ -91,16 +89,4 @@ fn argument(pool: &Pool, id: u32, place: u8) -> u32
         Some(part) => part,
         None => unreachable!(),
     }
-}
-
-/// The position with these places.
-fn position(alloc: Global, places: &[u8]) -> Result<Position, OutOfMemory>
-    requires { All (λ n. 0 < n) places.now }
-    ensures { IfOk result (λ p. p ≡ places.now) }
-{
-    let mut made = Position::new(alloc);
-    for place in places {
-        made.push(*place)?;
-    }
-    Ok(made)
 }

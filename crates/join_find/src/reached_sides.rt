@@ -1,5 +1,5 @@
 //! The sides of peaks, with what they reach.
-ghost use Rattle.std.specs.Prelude.{◌≡◌, ◌<◌, ◌≤◌, ◌+◌, ◌*◌, ℕ, List, length, is_some, IsTrue, IfOk, OnOk, MatchOption};
+ghost use Rattle.std.specs.Prelude.{◌≡◌, ◌<◌, ℕ, List, is_some, IsTrue, IfOk, OnOk, MatchOption};
 ghost use Rattle.trs_defs.specs.Tree.{Tree};
 ghost use Rattle.trs_defs.specs.System.{RewriteRule};
 ghost use Rattle.trs_core.specs.View.{tree};
@@ -14,10 +14,10 @@ ghost use Rattle.join_find.specs.StrongRow.{IsFirstHalf, HasNoHalf};
 use crate::common::first_common;
 use crate::kept_lists::KeptLists;
 use crate::near::near;
-use crate::reaching::{MOST_OF_A_SIDE, MOST_REACHED, ids_are_distinct, reached};
+use crate::reaching::reached;
 use closed_pairs::Join;
 use std::alloc::Global;
-use term_pool::{MOST_IDS, Pool, RulesByRoot};
+use term_pool::{Pool, RulesByRoot, ids_are_distinct};
 use trs_core::{OutOfMemory, Term, Trs};
 
 /// The most ids that are kept from one peak to the next.
@@ -38,7 +38,6 @@ pub(crate) struct ReachedSides {
 impl ReachedSides {
     /// No sides. It takes no memory.
     pub(crate) fn new(alloc: Global) -> ReachedSides
-        ensures few { length result.pool ≡ 0 }
         ensures sides { (rules : List RewriteRule) → AreReached rules result }
     {
         ReachedSides {
@@ -50,7 +49,6 @@ impl ReachedSides {
 
     /// Makes room for two sides. Where many ids or long lists are kept, all are given up.
     pub(crate) fn make_room(&mut self, alloc: Global)
-        ensures room { length self.new.pool + 2 * MOST_OF_A_SIDE ≤ MOST_IDS }
         ensures sides { (rules : List RewriteRule) → AreReached rules self.old
             → AreReached rules self.new }
     {
@@ -66,12 +64,10 @@ impl ReachedSides {
     /// The id of a side.
     pub(crate) fn intern(&mut self, alloc: Global, side: &Term) -> Result<u32, OutOfMemory>
         requires side { IsSide (tree side.now) }
-        requires room { length self.old.pool ≤ MOST_IDS }
         ensures id { IfOk result (λ id. StandsFor self.new.pool id (tree side.now)) }
         ensures sides { OnOk result ((rules : List RewriteRule) → AreReached rules self.old
             → AreReached rules self.new) }
         ensures kept { OnOk result (Extends self.old.pool self.new.pool) }
-        ensures few { OnOk result (length self.new.pool ≤ length self.old.pool + 65536) }
     {
         let mark = self.pool.mark();
         let id = self.pool.intern(alloc, side)?;
@@ -95,7 +91,6 @@ impl ReachedSides {
         requires left { IsNarrowAt self.old.pool left }
         requires right { IsNarrowAt self.old.pool right }
         requires sides { AreReached trs.now.rules self.old }
-        requires room { length self.old.pool + 2 * MOST_REACHED ≤ MOST_IDS }
         ensures join { (peak : PlacedPeak) → StandsFor self.old.pool left peak.left
             → StandsFor self.old.pool right peak.right → IfOk result (λ found. MatchOption found
             (HasNoJoin trs.now.rules peak) (IsFirstJoin trs.now.rules peak)) }
@@ -121,13 +116,11 @@ impl ReachedSides {
         requires from { IsNarrowAt self.old.pool from }
         requires to { IsNarrowAt self.old.pool to }
         requires sides { AreReached trs.now.rules self.old }
-        requires room { length self.old.pool + MOST_REACHED ≤ MOST_IDS }
         ensures half { (s t : Tree) → StandsFor self.old.pool from s
             → StandsFor self.old.pool to t → IfOk result (λ found. MatchOption found
             (HasNoHalf trs.now.rules s t) (IsFirstHalf trs.now.rules s t)) }
         ensures sides { OnOk result (AreReached trs.now.rules self.new) }
         ensures kept { OnOk result (Extends self.old.pool self.new.pool) }
-        ensures few { OnOk result (length self.new.pool ≤ length self.old.pool + MOST_REACHED) }
     {
         self.list_reached(alloc, trs, from)?;
         self.list_near(alloc, trs, by_root, to)?;
@@ -139,13 +132,11 @@ impl ReachedSides {
     fn list_reached(&mut self, alloc: Global, trs: &Trs, id: u32) -> Result<(), OutOfMemory>
         requires narrow { IsNarrowAt self.old.pool id }
         requires sides { AreReached trs.now.rules self.old }
-        requires room { length self.old.pool + MOST_REACHED ≤ MOST_IDS }
         ensures listed { OnOk result (IsTrue (is_some (list_of self.new.reached id))) }
         ensures still { OnOk result ((i : ℕ) → IsTrue (is_some (list_of self.old.reached i))
             → IsTrue (is_some (list_of self.new.reached i))) }
         ensures sides { OnOk result (AreReached trs.now.rules self.new) }
         ensures kept { OnOk result (Extends self.old.pool self.new.pool) }
-        ensures few { OnOk result (length self.new.pool ≤ length self.old.pool + MOST_REACHED) }
     {
         if self.reached.has(id) {
             return Ok(());
@@ -166,7 +157,6 @@ impl ReachedSides {
         requires rules { by_root.now ≡ trs.now }
         requires narrow { IsNarrowAt self.old.pool id }
         requires sides { AreReached trs.now.rules self.old }
-        requires room { length self.old.pool ≤ MOST_IDS }
         ensures listed { OnOk result (IsTrue (is_some (list_of self.new.near id))) }
         ensures sides { OnOk result (AreReached trs.now.rules self.new) }
         ensures reached { OnOk result (self.new.reached ≡ self.old.reached) }

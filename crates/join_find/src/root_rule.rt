@@ -1,14 +1,13 @@
 //! The least rule that leads from one term to another at the root.
-ghost use Rattle.std.specs.Prelude.{◌≡◌, ◌<◌, ◌≤◌, ◌↔◌, [], length, IsTrue, IfOk, MatchOption};
+ghost use Rattle.std.specs.Prelude.{◌≡◌, ◌<◌, ◌↔◌, [], length, IsTrue, IfOk, MatchOption};
 ghost use Rattle.trs_core.specs.View.{tree};
 ghost use Rattle.trs_defs.specs.Size.{within_limits};
 ghost use Rattle.trs_defs.specs.Path.{StepsAt};
 ghost use Rattle.term_pool.specs.Pooled.{StandsFor, tree_at};
 ghost use Rattle.join_find.specs.ParallelRow.{HasNoRootStep, IsRootStep};
 
-use crate::reaching::ids_are_distinct;
 use std::alloc::Global;
-use term_pool::{MOST_IDS, Pool, RulesByRoot};
+use term_pool::{Pool, RulesByRoot, ids_are_distinct};
 use trs_core::{OutOfMemory, Position, Term, Trs};
 
 /// The least rule that leads at the root from the term of one id to that of another. Only rules
@@ -25,7 +24,6 @@ pub(crate) fn root_rule(
     requires from { StandsFor pool.old ids.0 (tree from.now) }
     requires to { ids.1 < length pool.old }
     requires limits { IsTrue (within_limits (tree_at pool.old ids.1)) }
-    requires room { length pool.old ≤ MOST_IDS }
     ensures same { pool.new ≡ pool.old }
     ensures rule { IfOk result (λ found. MatchOption found
         (HasNoRootStep trs.now.rules (tree from.now) (tree_at pool.old ids.1))
@@ -57,7 +55,6 @@ fn leads(
     requires from { ids.0 < length pool.old }
     requires to { ids.1 < length pool.old }
     requires limits { IsTrue (within_limits (tree_at pool.old ids.1)) }
-    requires room { length pool.old ≤ MOST_IDS }
     ensures same { pool.new ≡ pool.old }
     ensures leads { IfOk result (λ yes. IsTrue yes
         ↔ StepsAt trs.now.rules [] k (tree_at pool.old ids.0) (tree_at pool.old ids.1)) }

@@ -15,6 +15,3 @@ pub use entries::KboEntry;
 pub use faults::KboFault;
 pub use table::Kbo;
 pub use weighting::Weighting;
-
-/// The greatest weight, 2^63 - 1.
-const MOST: u64 = 9_223_372_036_854_775_807;

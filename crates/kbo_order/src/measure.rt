@@ -1,8 +1,8 @@
 ghost use Rattle.std.specs.Prelude.{◌≡◌, ◌↔◌, ◌<◌, ◌+◌, ◌-◌, ◌^◌, ℕ, length, min, slice_index, IsTrue, ◌==◌, if◌then◌else◌};
 ghost use Rattle.kbo_order.specs.Seen.{IsSum, AreSums, Outweighs, AreAtLeast, IsAbove};
 
-use crate::MOST;
 use pair_order::TooBig;
+use trs_core::GREATEST_NUMBER;
 
 /// How many variables one walk takes.
 pub(crate) const WINDOW: usize = 8;
@@ -50,7 +50,7 @@ pub(crate) fn plus(a: u64, b: u64) -> Result<u64, TooBig>
     ensures { IsSum a b result }
 {
     let sum = u128::from(a) + u128::from(b);
-    if sum > u128::from(MOST) {
+    if sum > u128::from(GREATEST_NUMBER) {
         return Err(TooBig);
     }
     Ok(sum as u64)

@@ -6,10 +6,10 @@ ghost use Rattle.order_theory.specs.KnuthBendix.{IsAdmissible};
 ghost use Rattle.kbo_order.specs.Faults.{IsFaultless, IsFirstFault, IsEntryFault, IsOnTop, IsRankedBelow, number};
 ghost use Rattle.kbo_order.specs.declared.faults.KboFault.{KboFault as Fault};
 
-use crate::{KboEntry, KboFault, MOST};
+use crate::{KboEntry, KboFault};
 use pair_order::SymbolIndex;
 use std::alloc::Global;
-use trs_core::OutOfMemory;
+use trs_core::{GREATEST_NUMBER, OutOfMemory};
 
 /// A Knuth-Bendix order: for some symbols their arities, weights and ranks. It is admissible by its
 /// type.
@@ -88,7 +88,7 @@ fn add_entry(symbols: &mut SymbolIndex, entry: &KboEntry) -> Result<(), KboFault
             return Err(KboFault::ConstantTooLight(entry.symbol));
         }
     }
-    if entry.weight > MOST {
+    if entry.weight > GREATEST_NUMBER {
         return Err(KboFault::TooBig(entry.symbol));
     }
     Ok(())

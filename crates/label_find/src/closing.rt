@@ -3,7 +3,6 @@ ghost use Rattle.std.specs.Prelude.{◌≡◌, ◌<◌, ◌↔◌, All, IsTrue, 
 ghost use Rattle.confluence_theory.specs.RanksFit.{RanksFit};
 ghost use Rattle.confluence_theory.specs.RuleRanks.{rank_of as rank_of_rule};
 ghost use Rattle.rule_label.specs.Labelled.{ranks_along};
-ghost use Rattle.term_pool.specs.Pooled.{AreDistinct};
 ghost use Rattle.join_find.specs.First.{First, None_in};
 ghost use Rattle.label_find.specs.Closing.{ClosesFrom, CanCloseIds, IsFirstClosingIds};
 
@@ -11,7 +10,7 @@ use crate::fitting::{rank_of, ranks_fit};
 use crate::meeting::rules_along;
 use rewrite_core::{Join, PathStep, copy_path};
 use std::alloc::Global;
-use term_pool::Pool;
+use term_pool::{Pool, ids_are_distinct};
 use trs_core::OutOfMemory;
 
 /// The first left path for which some right path closes the peak of two rules, and for it the
@@ -109,11 +108,4 @@ fn path_fits(
     let a = rank_of(ranks, first);
     let b = rank_of(ranks, second);
     Ok(ranks_fit(ranks, a, b, &rules))
-}
-
-/// Equal terms of a pool have one id.
-fn ids_are_distinct(pool: &Pool)
-    ensures { AreDistinct pool.now }
-{
-    let _ids = pool.len();
 }

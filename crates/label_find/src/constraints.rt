@@ -11,7 +11,7 @@ use crate::listed_sides::ListedSides;
 use assign_search::Stop;
 use rewrite_core::Peak;
 use std::alloc::Global;
-use term_pool::RulesByRoot;
+use term_pool::{RulesByRoot, ids_are_distinct};
 use trs_core::{OutOfMemory, Trs};
 
 /// The constraint of each peak, or `None` where it was stopped. What paths of sides are still
@@ -66,7 +66,7 @@ fn constraint_at(
     sides.make_room(alloc);
     let left = sides.list(alloc, trs, by_root, growth, &peak.left)?;
     let right = sides.list(alloc, trs, by_root, growth, &peak.right)?;
-    let _pool = sides.pool();
+    ids_are_distinct(sides.pool());
     PeakConstraint::new(
         alloc,
         peak.inner,

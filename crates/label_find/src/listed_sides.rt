@@ -1,18 +1,18 @@
 //! The sides of peaks, with the paths from them.
-ghost use Rattle.std.specs.Prelude.{◌≡◌, ◌<◌, ◌≤◌, ◌+◌, ◌*◌, ℕ, List, length, Some, is_some, IsTrue, IfOk, OnOk};
+ghost use Rattle.std.specs.Prelude.{◌≡◌, ◌<◌, ℕ, List, Some, is_some, IsTrue, IfOk, OnOk};
 ghost use Rattle.trs_defs.specs.System.{RewriteRule};
 ghost use Rattle.trs_core.specs.View.{tree};
-ghost use Rattle.term_pool.specs.Pooled.{AreDistinct, Extends, StandsFor};
+ghost use Rattle.term_pool.specs.Pooled.{Extends, StandsFor};
 ghost use Rattle.join_find.specs.Sides.{IsSide};
 ghost use Rattle.join_find.specs.KeptLists.{list_of};
 ghost use Rattle.path_lists.specs.Growth.{GrowsBy};
 ghost use Rattle.label_find.specs.ListedSides.{AreListed};
 
 use join_find::KeptLists;
-use path_lists::{MOST_OF_PATHS, paths_from};
+use path_lists::paths_from;
 use rewrite_core::PathStep;
 use std::alloc::Global;
-use term_pool::{MOST_IDS, Pool, RulesByRoot};
+use term_pool::{Pool, RulesByRoot};
 use trs_core::{OutOfMemory, Term, Trs};
 
 /// The most ids that are kept from one peak to the next.
@@ -20,9 +20,6 @@ const MOST_KEPT_IDS: u32 = 262_144;
 
 /// The most bytes of lists, by estimate, that are kept from one peak to the next.
 const MOST_KEPT_BYTES: u64 = 67_108_864;
-
-/// The most ids that a side, and the paths from it, add.
-pub(crate) const MOST_OF_A_SIDE: u32 = MOST_OF_PATHS + 65_536;
 
 /// Sides of peaks in one pool. The paths from a side are listed once.
 #[derive(Drop)]
@@ -44,7 +41,6 @@ impl ListedSides {
 
     /// Makes room for two sides. Where many ids or long lists are kept, all are given up.
     pub(crate) fn make_room(&mut self, alloc: Global)
-        ensures room { length self.new.pool + 2 * MOST_OF_A_SIDE ≤ MOST_IDS }
         ensures sides { (rules : List RewriteRule) → AreListed rules self.old
             → AreListed rules self.new }
     {
@@ -68,14 +64,12 @@ impl ListedSides {
         requires grows { GrowsBy trs.now.rules growth }
         requires side { IsSide (tree side.now) }
         requires sides { AreListed trs.now.rules self.old }
-        requires room { length self.old.pool + MOST_OF_A_SIDE ≤ MOST_IDS }
         ensures id { IfOk result (λ id. StandsFor self.new.pool id (tree side.now)) }
         ensures listed { IfOk result (λ id. IsTrue (is_some (list_of self.new.lists id))) }
         ensures still { OnOk result ((i : ℕ) → IsTrue (is_some (list_of self.old.lists i))
             → IsTrue (is_some (list_of self.new.lists i))) }
         ensures sides { OnOk result (AreListed trs.now.rules self.new) }
         ensures kept { OnOk result (Extends self.old.pool self.new.pool) }
-        ensures few { OnOk result (length self.new.pool ≤ length self.old.pool + MOST_OF_A_SIDE) }
     {
         let id = self.pool.intern(alloc, side)?;
         if self.lists.has(id) {
@@ -94,12 +88,10 @@ impl ListedSides {
         self.lists.at(id)
     }
 
-    /// The pool of all sides and of what they reach. Equal terms have one id.
+    /// The pool of all sides and of what they reach.
     pub(crate) fn pool(&self) -> &Pool
         ensures is { result.now ≡ self.now.pool }
-        ensures distinct { AreDistinct self.now.pool }
     {
-        let _ids = self.pool.len();
         &self.pool
     }
 }

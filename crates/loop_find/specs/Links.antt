@@ -41,10 +41,6 @@ pub record IsFit (arities : List ℕ) (t : Tree) : Type 0 where
   pub well_formed : IsWellFormed arities t
   pub variables : HasSmallVariables t
 
--- the numbers of arguments are bytes
-abbrev pub HasSmallArities : List ℕ → Type 0
-HasSmallArities arities = (f n : ℕ) → slice_get arities f ≡ Some n → n < 256
-
 -- the tokens of the term stand from place i to place j
 pub record StandsFrom (tokens : List Token) (i j : ℕ) (t : Tree) : Type 0 where
   pub rest : List Token

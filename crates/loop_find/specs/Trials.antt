@@ -3,13 +3,14 @@ use Rattle.std.specs.Prelude.{◌≡◌, ◌<◌, ◌≤◌, ℕ, List, [], ◌�
 use Rattle.trs_defs.specs.Tree.{Tree}
 use Rattle.trs_defs.specs.Position.{subterm_at}
 use Rattle.trs_defs.specs.System.{RewriteRule, IsSystem}
+use Rattle.trs_core.specs.SystemLimits.{AreBytes}
 use Rattle.trs_core.specs.View.{tree}
 use Rattle.trs_unify.specs.Bindings.{stopped_size}
 use Rattle.term_pool.specs.Redexes.{IsNarrow}
 use Rattle.crit_pairs.specs.Apart.{AreApart}
 use Rattle.loop_find.specs.Closures.{Closure, Attempt, IsNarrowed, IsSmall}
 use Rattle.loop_find.specs.LoopRow.{LoopsNot}
-use Rattle.loop_find.specs.Links.{closures_of, HasSmallArities, IsFit, IsSound}
+use Rattle.loop_find.specs.Links.{closures_of, IsFit, IsSound}
 use Rattle.loop_find.specs.Tries.{IsFoundOf}
 use Rattle.loop_find.specs.declared.closures.Closures.{Closures}
 use Rattle.loop_find.specs.declared.trying.Trial.{Trial}
@@ -20,7 +21,7 @@ use Rattle.loop_find.specs.declared.trying.Turn.TheVariants.{Next, Found, Spent,
 -- apart.
 pub record IsTrial (t : Trial) (k : Closures) : Type 0 where
   pub system : IsSystem t.trs.now
-  pub arities : HasSmallArities t.trs.now.arities
+  pub arities : AreBytes t.trs.now.arities
   pub few : length t.trs.now.rules ≤ 4095
   pub apart : AreApart t.trs.now.rules t.apart.now
   pub sound : IsSound t.trs.now.arities k

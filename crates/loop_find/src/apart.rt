@@ -1,14 +1,11 @@
-//! Rules renamed apart, and positions.
-ghost use Rattle.std.specs.Prelude.{◌≡◌, ◌<◌, All, IfOk};
+//! Rules renamed apart.
+ghost use Rattle.std.specs.Prelude.{◌≡◌, ◌<◌, IfOk};
 ghost use Rattle.trs_core.specs.SystemLimits.{HasSmallVariables, HaveSmallVariables};
 ghost use Rattle.crit_pairs.specs.Apart.{renamed_apart, AreApart};
 
 use std::alloc::Global;
-use trs_core::{OutOfMemory, Position, Rule};
+use trs_core::{MOST_VARIABLES, OutOfMemory, Rule};
 use trs_unify::rename_apart;
-
-/// The variables of rules and of closures have numbers below this one.
-pub(crate) const OFFSET: u32 = 65_536;
 
 /// Each rule, its variables renamed apart from those of all closures.
 pub(crate) fn renamed_rules(alloc: Global, rules: &[Rule]) -> Result<Vec<Rule>, OutOfMemory>
@@ -28,19 +25,7 @@ fn renamed_rule(alloc: Global, rule: &Rule) -> Result<Rule, OutOfMemory>
     ensures { IfOk result (λ r. r ≡ renamed_apart rule.now) }
 {
     Ok(Rule {
-        left: rename_apart(alloc, &rule.left, OFFSET)?,
-        right: rename_apart(alloc, &rule.right, OFFSET)?,
+        left: rename_apart(alloc, &rule.left, MOST_VARIABLES)?,
+        right: rename_apart(alloc, &rule.right, MOST_VARIABLES)?,
     })
-}
-
-/// The position of these places.
-pub(crate) fn position(alloc: Global, places: &[u8]) -> Result<Position, OutOfMemory>
-    requires { All (λ n. 0 < n) places.now }
-    ensures { IfOk result (λ p. p ≡ places.now) }
-{
-    let mut made = Position::new(alloc);
-    for place in places {
-        made.push(*place)?;
-    }
-    Ok(made)
 }

@@ -7,9 +7,8 @@ ghost use Rattle.trs_core.specs.SystemLimits.{HasSmallVariables};
 ghost use Rattle.trs_core.specs.View.{tree};
 ghost use Rattle.loop_find.specs.Bindings.{term_for, resolved, IsFree, Adds, Binds};
 
-use crate::apart::OFFSET;
 use std::alloc::Global;
-use trs_core::{OutOfMemory, Term};
+use trs_core::{MOST_VARIABLES, OutOfMemory, Term};
 
 /// The most bindings. A look-up goes through all of them.
 const MOST_BINDINGS: usize = 64;
@@ -117,7 +116,7 @@ fn is_settled(found: &[Binding], binding: &Binding) -> bool
     ensures { IsTrue result → binding.now.variable < 65536
         → IsFree found.now (tree binding.now.term.now) }
 {
-    if binding.variable >= OFFSET {
+    if binding.variable >= MOST_VARIABLES {
         return true;
     }
     is_free(found, binding.term)

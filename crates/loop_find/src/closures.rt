@@ -1,15 +1,15 @@
 //! Closures as tokens.
 ghost use Rattle.std.specs.Prelude.{◌≡◌, ◌<◌, ◌≤◌, ℕ, List, [], ◌∷◌, ◌++◌, Some, false, length, slice_get, IfOk, OnOk, MatchOption};
 ghost use Rattle.trs_defs.specs.Tree.{Tree};
+ghost use Rattle.trs_core.specs.SystemLimits.{AreBytes};
 ghost use Rattle.trs_core.specs.View.{tree};
 ghost use Rattle.term_pool.specs.Redexes.{IsNarrow};
 ghost use Rattle.loop_find.specs.Closures.{Closure};
 ghost use Rattle.loop_find.specs.Flat.{AreTokensOf};
 ghost use Rattle.loop_find.specs.LoopRow.{LoopsNot, Recurs};
-ghost use Rattle.loop_find.specs.Links.{closures_of, path_to, HasSmallArities, IsFit, IsSound};
+ghost use Rattle.loop_find.specs.Links.{closures_of, path_to, IsFit, IsSound};
 ghost use Rattle.loop_find.specs.Tries.{IsFoundOf};
 
-use crate::apart::position;
 use crate::decoding::read_term;
 use crate::found::LoopFound;
 use crate::instances::first_instance;
@@ -18,7 +18,7 @@ use crate::running::leads;
 use crate::tokens::{SideTokens, Token, part};
 use rewrite_core::PathStep;
 use std::alloc::Global;
-use trs_core::{OutOfMemory, Term, Trs};
+use trs_core::{OutOfMemory, Position, Term, Trs};
 
 /// A closure: the places of the tokens of its sides, where the last ones end, the number of the
 /// closure that it extends, if it extends one, and the last step of its path.
@@ -157,7 +157,7 @@ impl Closures {
         number: usize,
     ) -> Result<Option<LoopFound>, OutOfMemory>
         requires sound { IsSound trs.now.arities self.now }
-        requires arities { HasSmallArities trs.now.arities }
+        requires arities { AreBytes trs.now.arities }
         requires there { number < length self.now.links.items }
         ensures { IfOk result (λ found. (c : Closure)
             → slice_get (closures_of self.now) number ≡ Some c
@@ -197,7 +197,7 @@ impl Closures {
             return Ok(None);
         }
         let start = sides.left.copy(alloc)?;
-        let at = position(alloc, &place)?;
+        let at = Position::of(alloc, &place)?;
         Ok(Some(LoopFound {
             start,
             path,

@@ -9,11 +9,11 @@ use crate::apart::renamed_rules;
 use crate::closures::{Closures, no_closures};
 use crate::found::LoopFound;
 use crate::tokens::{SideTokens, term_tokens};
-use crate::trying::{Turn, expand, see_bytes};
+use crate::trying::{Turn, expand};
 use assign_search::{Search, Stop};
 use rewrite_core::PathStep;
 use std::alloc::Global;
-use trs_core::{OutOfMemory, Position, Trs};
+use trs_core::{OutOfMemory, Position, Trs, systems_are_valid};
 
 /// The first forward closure that loops. The closures begin with the rules. An attempt is a place of
 /// a closure's right side, at which a symbol stands, with a rule: places in preorder, and at each
@@ -70,7 +70,7 @@ fn loop_of_rules(
     ensures sound { OnOk result (IsSound trs.now.arities closures.new) }
     ensures attempts { OnOk result (closures.new.attempts ≡ closures.old.attempts) }
 {
-    see_bytes(trs.arities());
+    systems_are_valid(trs);
     for (k, rule) in trs.rules().iter().enumerate() {
         let step = PathStep {
             place: Position::new(alloc),

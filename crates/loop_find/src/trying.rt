@@ -6,13 +6,12 @@ ghost use Rattle.trs_core.specs.View.{tree};
 ghost use Rattle.term_pool.specs.Redexes.{IsNarrow};
 ghost use Rattle.crit_pairs.specs.PeakList.{symbol_places};
 ghost use Rattle.loop_find.specs.Closures.{Closure, attempts_at, attempts_of};
-ghost use Rattle.loop_find.specs.Links.{closures_of, HasSmallArities, IsSound};
+ghost use Rattle.loop_find.specs.Links.{closures_of, IsSound};
 ghost use Rattle.loop_find.specs.Tries.{Ends};
 ghost use Rattle.crit_pairs.specs.Apart.{AreApart};
 ghost use Rattle.loop_find.specs.Narrowed.{NarrowsTo};
 ghost use Rattle.loop_find.specs.Trials.{IsTrial, IsPart, Extended, one_attempt};
 
-use crate::apart::position;
 use crate::closures::Closures;
 use crate::found::LoopFound;
 use crate::narrowing::narrow;
@@ -20,7 +19,7 @@ use crate::tokens::SideTokens;
 use assign_search::Stop;
 use rewrite_core::PathStep;
 use std::alloc::Global;
-use trs_core::{OutOfMemory, Rule, Term, Trs};
+use trs_core::{OutOfMemory, Position, Rule, Term, Trs, systems_are_valid};
 
 /// How a part of the attempts ended: none of the closures that they gave loops, or one does, or the
 /// budget was spent, or the stop came.
@@ -80,8 +79,7 @@ pub(crate) fn expand<P: Stop>(
     ensures later { P.stops stop.old ≤ P.stops stop.new }
     ensures kept { P.kept stop.new ≡ P.kept stop.old }
 {
-    let _rules = trs.rules();
-    see_bytes(trs.arities());
+    systems_are_valid(trs);
     let sides = closures.sides(alloc, number)?;
     let trial = Trial {
         trs,
@@ -95,13 +93,6 @@ pub(crate) fn expand<P: Stop>(
     let mut place = Vec::new(alloc);
     let turn = try_below(alloc, &trial, &sides.right, &mut place, closures, stop)?;
     Ok(turn)
-}
-
-/// Numbers of arguments are bytes.
-pub(crate) fn see_bytes(arities: &[u8])
-    ensures { HasSmallArities arities.now }
-{
-    let _count = arities.len();
 }
 
 /// Makes the attempts at a place of the right side, where `part` stands, and below it.
@@ -240,7 +231,7 @@ fn extend(
         closures.old closures.new turn) }
     ensures trial { IfOk result (λ _. IsTrial trial.now closures.new) }
 {
-    let at = position(alloc, place)?;
+    let at = Position::of(alloc, place)?;
     let step = PathStep {
         place: at,
         rule: k as u32,

@@ -9,11 +9,10 @@ ghost use Rattle.crit_pairs.specs.Apart.{renamed_apart};
 ghost use Rattle.loop_find.specs.Closures.{IsSmallSide};
 ghost use Rattle.loop_find.specs.Narrowed.{NarrowsToTerms, NarrowsNot};
 
-use crate::apart::position;
 use crate::closures::Sides;
 use crate::writing::MOST_NODES;
 use std::alloc::Global;
-use trs_core::{OutOfMemory, Rule, Term};
+use trs_core::{OutOfMemory, Position, Rule, Term};
 use trs_unify::{Unifier, no_names, unify};
 
 /// The sides of the closure that the rule, which is renamed apart, gives at a place of the right
@@ -76,6 +75,6 @@ fn contracted(alloc: Global, right: &Term, place: &[u8], by: &Term) -> Result<Te
         return by.copy(alloc);
     }
     let mut result = right.copy(alloc)?;
-    result.put(&position(alloc, place)?, by.copy(alloc)?);
+    result.put(&Position::of(alloc, place)?, by.copy(alloc)?);
     Ok(result)
 }

@@ -8,7 +8,7 @@ mod symbols;
 mod table;
 mod variable_names;
 
-pub use named::NamedTrs;
+pub use named::{NamedTrs, systems_are_named};
 pub use names::Names;
 pub use names_fault::NamesFault;
 pub use symbols::Symbols;

@@ -117,6 +117,14 @@ impl NamedTrs {
     }
 }
 
+/// A law, with nothing to run but the reading of the system: by its type its names are words, each once, no side is too
+/// deep, and the variables of its rules are numbered in order.
+pub fn systems_are_named(system: &NamedTrs)
+    ensures { IsNamed system.now }
+{
+    let _trs = system.trs();
+}
+
 /// The names as a set, where each is a word that does not stand before.
 #[tactic(auto, using(crate::proofs::NamedSteps::names_next, crate::proofs::NamedSteps::names_fail, std::proofs::lemmas::Grind::common_steps))]
 fn distinct_words(alloc: Global, names: Vec<Vec<u8>>) -> Result<Names, NamesFault>

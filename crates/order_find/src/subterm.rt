@@ -1,6 +1,7 @@
 //! The strategy subterm.
-ghost use Rattle.std.specs.Prelude.{◌≡◌, ◌<◌, ◌≤◌, ◌+◌, ◌^◌, ℕ, All, IfOk, Some, length, slice_get};
+ghost use Rattle.std.specs.Prelude.{◌≡◌, ◌<◌, ◌≤◌, ◌+◌, ◌^◌, All, IfOk, length};
 ghost use Rattle.std.specs.List.Sorted.{IsStrictlyIncreasing};
+ghost use Rattle.trs_core.specs.SystemLimits.{AreBytes};
 ghost use Rattle.pair_theory.specs.DependencyPair.{dependency_pairs};
 ghost use Rattle.order_search.specs.dp_core.PlacedPairs.{placed_pairs};
 ghost use Rattle.order_search.specs.Outcome.{IsFinding, IsNotThere, IsSpent};
@@ -16,7 +17,7 @@ use order_search::taken::taken;
 use order_search::{DpPair, Pairs, Sides, placed_pairs_are_the_pairs};
 use pair_theory::dependency_pairs_suffice;
 use std::alloc::Global;
-use trs_core::{OutOfMemory, Trs};
+use trs_core::{OutOfMemory, Trs, systems_are_valid};
 
 /// The places of a projection by which the subterm criterion removes a pair of the problem, each
 /// root with a place, counted from 1. It is the first solution of a finite search: a slot for each
@@ -69,8 +70,7 @@ pub fn find_subterm_in<P: Stop>(
     ensures kept { P.kept stop.new ≡ P.kept stop.old }
 {
     let arities = trs.arities();
-    arities_are_bytes(arities);
-    let _rules = trs.rules();
+    systems_are_valid(trs);
     placed_pairs_are_the_pairs();
     dependency_pairs_suffice();
     let taken = taken(alloc, pairs.sides(), problem)?;
@@ -87,7 +87,7 @@ fn search_places<P: Stop>(
     budget: u64,
     stop: &mut P,
 ) -> Result<Search<Vec<(u32, u8)>>, OutOfMemory>
-    requires bytes { (f n : ℕ) → slice_get arities.now f ≡ Some n → n < 256 }
+    requires bytes { AreBytes arities.now }
     requires few_roots { length roots.now < 2 ^ 32 }
     requires few_pairs { length pairs.now + 1 < 2 ^ 32 }
     ensures answer { IfOk result (IsFinding
@@ -125,10 +125,4 @@ fn places_of(alloc: Global, roots: &[u32], values: Vec<u32>) -> Result<Vec<(u32,
         places.push((*f, values[i] as u8 + 1))?;
     }
     Ok(places)
-}
-
-fn arities_are_bytes(arities: &[u8])
-    ensures { (f n : ℕ) → slice_get arities.now f ≡ Some n → n < 256 }
-{
-    for _arity in arities {}
 }

@@ -2,7 +2,7 @@
 ghost use Rattle.std.specs.Prelude.{◌≡◌, ◌<◌};
 ghost use Rattle.order_search.specs.OrderSpace.{arity_with_mark, unmarked};
 
-use crate::marking::MARK;
+use dp_core::MARK;
 
 /// How many arguments a symbol has; a marked symbol has the number of the plain one and 4,096.
 pub fn arity_of(arities: &[u8], symbol: u32) -> u32

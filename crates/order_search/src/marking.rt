@@ -5,12 +5,9 @@ ghost use Rattle.pair_theory.specs.Marked.{mark};
 ghost use Rattle.pair_theory.specs.ReductionPair.{marked_rule};
 ghost use Rattle.dp_core.specs.Markable.{IsMarkable};
 
-use dp_core::{Side, Sides};
+use dp_core::{MARK, Side, Sides};
 use std::alloc::Global;
 use trs_core::{Args, OutOfMemory, Rule, Term};
-
-/// What the number of a symbol grows by where it is marked.
-pub(crate) const MARK: u32 = 4_096;
 
 /// The pairs as rules whose sides have marked roots.
 pub fn marked_rules(alloc: Global, pairs: &[Sides]) -> Result<Vec<Rule>, OutOfMemory>

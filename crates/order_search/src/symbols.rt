@@ -8,9 +8,8 @@ ghost use Rattle.order_search.specs.Ascending.{AreAscending};
 ghost use Rattle.order_search.specs.OrderRow.{AreSymbols};
 ghost use Rattle.order_search.specs.SymbolSets.{Adds, HasOnly};
 
-use crate::marking::MARK;
 use crate::roots::{add, listed, roots};
-use dp_core::Sides;
+use dp_core::{MARK, Sides};
 use std::alloc::Global;
 use std::collections::BTreeSet;
 use trs_core::{OutOfMemory, Rule, Term};

@@ -2,9 +2,9 @@ ghost use Rattle.std.specs.Prelude.{◌≡◌, ◌++◌, ◌∷◌, [], IfOk, On
 ghost use Rattle.pair_text.specs.Symbols.{mark_word, unmarked, name_of};
 ghost use Rattle.pair_text.specs.Entries.{new_symbol};
 
-use crate::symbols::{MARK, put_name};
+use crate::symbols::put_name;
 use names_text::{NamedTrs, Symbol};
-use pair_order::SymbolIndex;
+use pair_order::{MARK, SymbolIndex};
 use text_reading::{Read, put};
 use trs_core::OutOfMemory;
 

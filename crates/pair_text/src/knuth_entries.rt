@@ -8,17 +8,17 @@ ghost use Rattle.pair_text.specs.KnuthEntries.{weighed, stated_entry, is_too_lig
 ghost use Rattle.kbo_order.specs.declared.entries.KboEntry.{KboEntry as Entry};
 ghost use Rattle.pair_text.specs.TopRanks.{AreTopRanks, with_read};
 
+use crate::add_symbol;
 use crate::entries::put_entry_begin;
 use crate::symbols::read_marked_symbol;
 use crate::top_ranks::{TopRanks, are_below, with_rank};
-use crate::{LAST_NUMBER, add_symbol};
 use kbo_order::{Kbo, KboEntry};
 use names_text::{NamedTrs, Symbol};
 use pair_order::SymbolIndex;
 use sexp_core::Sexp;
 use std::alloc::Global;
 use text_reading::{Read, and_place, both, ended, place, put, put_number, read_number};
-use trs_core::OutOfMemory;
+use trs_core::{GREATEST_NUMBER, OutOfMemory};
 
 /// A Knuth-Bendix order, by its entries `(sym name weight rank)` and `(mark name weight rank)`, no symbol twice. Constants
 /// weigh, and a symbol with one argument that weighs nothing is ranked above all others.
@@ -94,8 +94,8 @@ fn read_kbo_entry(
     match add_symbol(known, *at, read_marked_symbol(system, head, name))? {
         Ok(symbol) => {
             let numbers = both(
-                read_number(LAST_NUMBER, weight),
-                read_number(LAST_NUMBER, rank),
+                read_number(GREATEST_NUMBER, weight),
+                read_number(GREATEST_NUMBER, rank),
             );
             Ok(only_stated(*at, more, weighed(symbol, numbers)))
         }
@@ -116,8 +116,8 @@ fn read_stated(system: &NamedTrs, item: &Sexp) -> Read<KboEntry>
     match read_marked_symbol(system, head, name) {
         Ok(symbol) => {
             let numbers = both(
-                read_number(LAST_NUMBER, weight),
-                read_number(LAST_NUMBER, rank),
+                read_number(GREATEST_NUMBER, weight),
+                read_number(GREATEST_NUMBER, rank),
             );
             weighed(symbol, numbers)
         }

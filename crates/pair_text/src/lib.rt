@@ -19,6 +19,3 @@ pub use linear_entries::{put_linear_entries, read_linear_table};
 pub use path_entries::{put_path_entries, read_path_order};
 pub use projections::{put_projections, read_projections};
 pub use symbols::{put_name, read_symbol};
-
-/// The greatest coefficient, weight and rank, 2^63 - 1.
-const LAST_NUMBER: u64 = 9_223_372_036_854_775_807;

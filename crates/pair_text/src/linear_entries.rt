@@ -8,16 +8,16 @@ ghost use Rattle.text_reading.specs.Seen.{seen};
 ghost use Rattle.poly_lin.specs.Plain.{plain};
 ghost use Rattle.pair_text.specs.LinearEntries.{polynomial, coefficients, linear_entry, linear_entry_item, linear_entries};
 
+use crate::add_symbol;
 use crate::entries::put_entry_begin;
 use crate::symbols::read_marked_symbol;
-use crate::{LAST_NUMBER, add_symbol};
 use names_text::{NamedTrs, Symbol};
 use pair_order::SymbolIndex;
 use poly_lin::LinTable;
 use sexp_core::Sexp;
 use std::alloc::Global;
 use text_reading::{Read, ended, place, push, put, put_number, read_number};
-use trs_core::OutOfMemory;
+use trs_core::{GREATEST_NUMBER, OutOfMemory};
 
 /// A table of linear polynomials, by its entries `(sym name number ..)` and `(mark name number ..)`, no symbol twice.
 pub fn read_linear_table(
@@ -111,7 +111,7 @@ fn read_numbers(alloc: Global, items: &[Sexp]) -> Result<Read<Vec<u64>>, OutOfMe
 {
     let mut numbers = Ok(Vec::with_capacity(alloc, items.len())?);
     for item in items {
-        push(&mut numbers, read_number(LAST_NUMBER, item))?;
+        push(&mut numbers, read_number(GREATEST_NUMBER, item))?;
     }
     Ok(numbers)
 }

@@ -10,17 +10,17 @@ ghost use Rattle.path_lpo.specs.Plain.{plain, plain_filter};
 ghost use Rattle.pair_text.specs.PathEntries.{filter, path_entry_of, path_entry, filter_item, path_entry_item, path_entries};
 ghost use Rattle.pair_text.specs.EntryRanges.{HasBytes, HasPlaces};
 
+use crate::add_symbol;
 use crate::ascending::read_number_from;
 use crate::entries::put_entry_begin;
 use crate::symbols::{read_argument_place, read_marked_symbol};
-use crate::{LAST_NUMBER, add_symbol};
 use names_text::{NamedTrs, Symbol};
 use pair_order::SymbolIndex;
 use path_lpo::{Filter, Lpo, LpoEntry};
 use sexp_core::Sexp;
 use std::alloc::Global;
 use text_reading::{Read, both, ended, place, put, put_number, read_number};
-use trs_core::OutOfMemory;
+use trs_core::{GREATEST_NUMBER, OutOfMemory};
 
 /// A path order, by its entries `(sym name number filter)` and `(mark name number filter)`, no symbol twice.
 pub fn read_path_order(
@@ -78,7 +78,7 @@ fn read_path_entry(
     };
     match add_symbol(known, *at, read_marked_symbol(system, head, name))? {
         Ok(symbol) => {
-            let rank = read_number(LAST_NUMBER, rank);
+            let rank = read_number(GREATEST_NUMBER, rank);
             let kept = read_filter(alloc, symbol.arity, kept)?;
             Ok(path_entry_of(symbol, ended(both(rank, kept), more)))
         }

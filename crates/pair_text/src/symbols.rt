@@ -3,12 +3,10 @@ ghost use Rattle.sexp_core.specs.Items.{view};
 ghost use Rattle.pair_text.specs.Symbols.{symbol, mark, with_mark, marked_symbol, argument_place, name_of};
 
 use names_text::{NamedTrs, Symbol};
+use pair_order::MARK;
 use sexp_core::Sexp;
 use text_reading::{Read, both, place, put, read_positive};
 use trs_core::OutOfMemory;
-
-/// What is added to the number of a symbol for the marked one.
-pub const MARK: u32 = 4_096;
 
 /// The symbol with a name.
 pub fn read_symbol(system: &NamedTrs, item: &Sexp) -> Read<Symbol>

@@ -9,13 +9,13 @@ ghost use Rattle.term_pool.specs.Redexes.{IsNarrow, IsRedexAt};
 ghost use Rattle.term_pool.specs.Reach.{AreReducts, AreCandidates};
 ghost use Rattle.path_lists.specs.PathList.{IsPathList};
 ghost use Rattle.path_lists.specs.Growth.{GrowsBy};
-ghost use Rattle.path_lists.specs.Adding.{AddsPaths, IsEntryAt, most_ids, KeepsSmall};
+ghost use Rattle.path_lists.specs.Adding.{AddsPaths, IsEntryAt, KeepsSmall};
 ghost use Rattle.path_lists.specs.Adding.{IsKeptEnd, IsLeftOut};
 
 use crate::growth::stays_small;
 use rewrite_core::copy_path;
 use std::alloc::Global;
-use term_pool::{MOST_IDS, PathStep, Pool, RulesByRoot, paths_keep_narrow};
+use term_pool::{PathStep, Pool, RulesByRoot, paths_keep_narrow};
 use trs_core::{OutOfMemory, Term, Trs};
 
 const MOST_STEPS: usize = 4;
@@ -44,7 +44,6 @@ pub fn paths_from(
     requires small { IsTrue (within_limits (tree start.now)) }
     requires narrow { IsNarrow (tree start.now) }
     requires grows { GrowsBy trs.now.rules growth }
-    requires room { length pool.old + MOST_OF_PATHS ≤ MOST_IDS }
     ensures list { IfOk result (λ found.
         IsPathList trs.now.rules (tree start.now) (listed_at pool.new found.items)) }
     ensures there { IfOk result (λ found. All (λ e. e.0 < length pool.new) found.items) }
@@ -96,7 +95,6 @@ fn add_longer(
     requires sure { IsTrue is_sure → KeepsSmall trs.now.rules (listed pool.old entry.now) }
     requires below { All (λ e. e.0 < length pool.old) paths.old.items }
     requires few { length paths.old.items ≤ 256 }
-    requires room { most_ids pool.old paths.old.items ≤ MOST_IDS }
     ensures adds { OnOk result (AddsPaths (AreCandidates trs.now.rules 4 4096
         (listed pool.old entry.now ∷ [])) pool.old pool.new paths.old.items paths.new.items) }
     ensures kept { Extends pool.old pool.new }
@@ -130,7 +128,6 @@ fn add_path(
     requires sure { IsTrue is_sure → KeepsSmall trs.now.rules (listed pool.old entry.now) }
     requires below { All (λ e. e.0 < length pool.old) paths.old.items }
     requires space { length paths.old.items < 256 }
-    requires room { most_ids pool.old paths.old.items ≤ MOST_IDS }
     ensures adds { OnOk result (AddsPaths (AreReducts trs.now.rules 4096
         (listed pool.old entry.now) (step.now ∷ [])) pool.old pool.new
         paths.old.items paths.new.items) }
@@ -171,7 +168,6 @@ fn small_end(
     requires short { length entry.now.1.items < 4 }
     requires redex { IsRedexAt trs.now.rules (tree_at pool.old entry.now.0) step.now }
     requires sure { IsTrue is_sure → KeepsSmall trs.now.rules (listed pool.old entry.now) }
-    requires room { length pool.old ≤ MOST_IDS }
     ensures end { IfOk result (λ found. IfSome found (IsKeptEnd trs.now.rules step.now
         (tree_at pool.old entry.now.0) pool.old pool.new)) }
     ensures none { IfOk result (λ found. IfNone found (IsLeftOut trs.now.rules step.now

@@ -10,10 +10,7 @@ ghost use Rattle.peak_text.specs.RuleRanks.{ranks, ranks_item};
 use sexp_core::Sexp;
 use std::alloc::Global;
 use text_reading::{Read, both, keyword, place, push, put, put_number, read_number};
-use trs_core::OutOfMemory;
-
-/// The greatest rank, 2^63 - 1.
-const LAST_RANK: u64 = 9_223_372_036_854_775_807;
+use trs_core::{GREATEST_NUMBER, OutOfMemory};
 
 /// The rank of each rule, `(ranks number ..)`.
 pub fn read_ranks(alloc: Global, item: &Sexp) -> Result<Read<Vec<u64>>, OutOfMemory>
@@ -39,7 +36,7 @@ fn read_numbers(alloc: Global, items: &[Sexp]) -> Result<Read<Vec<u64>>, OutOfMe
 {
     let mut numbers = Ok(Vec::new(alloc));
     for item in items {
-        push(&mut numbers, read_number(LAST_RANK, item))?;
+        push(&mut numbers, read_number(GREATEST_NUMBER, item))?;
     }
     Ok(numbers)
 }

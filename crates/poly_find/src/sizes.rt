@@ -4,10 +4,7 @@ ghost use Rattle.trs_core.specs.View.{tree};
 ghost use Rattle.poly_find.specs.SmallTerms.{greatest, has_small_sides};
 
 use std::alloc::Global;
-use trs_core::{OutOfMemory, Rule, Term};
-
-/// The greatest coefficient that is not too big, 2^63 - 1.
-const MOST: u64 = 9_223_372_036_854_775_807;
+use trs_core::{GREATEST_NUMBER, OutOfMemory, Rule, Term};
 
 /// Of each rule, and of each pair behind them, whether both sides are small.
 pub(crate) fn small_ones(
@@ -41,7 +38,7 @@ fn has_small_sides(rule: &Rule) -> bool
 fn is_small(t: &Term) -> bool
     ensures { result ≡ nat_lt (greatest (tree t.now)) (2 ^ 63) }
 {
-    greatest(t) <= MOST
+    greatest(t) <= GREATEST_NUMBER
 }
 
 /// The value of the term's polynomial where all coefficients are 2 and variables stand for 1, or

@@ -5,10 +5,10 @@ ghost use Rattle.pair_order.specs.Compared.{IsAnswer};
 ghost use Rattle.poly_lin.specs.Coefficients.{IsSmall, IsCoefficient, AreCoefficients, HasBigVariable, VariablesAtLeast};
 ghost use Rattle.poly_lin.specs.TooBig.{EitherIsBig};
 
+use crate::Coefficients;
 use crate::monomial::Monomial;
-use crate::{Coefficients, MOST};
 use pair_order::{TooBig, next_variable};
-use trs_core::Term;
+use trs_core::{GREATEST_NUMBER, Term};
 
 /// Whether the first term's polynomial is at least the second's wherever variables stand for
 /// numbers. `TooBig` comes where some subterm's polynomial has a coefficient above 2^63 - 1. It takes
@@ -90,7 +90,7 @@ fn plus_multiple(sum: u64, factor: u64, value: u64) -> Result<u64, TooBig>
     ensures { IsSmall (sum + factor * value) result }
 {
     let total = u128::from(sum) + u128::from(factor) * u128::from(value);
-    if total > u128::from(MOST) {
+    if total > u128::from(GREATEST_NUMBER) {
         return Err(TooBig);
     }
     Ok(total as u64)

@@ -21,6 +21,3 @@ pub use table::LinTable;
 
 /// What a symbol stands for that no system has: C(x1, x2) is x1 + x2.
 const PAIRING: u32 = 8191;
-
-/// The greatest coefficient, 2^63 - 1.
-const MOST: u64 = 9_223_372_036_854_775_807;

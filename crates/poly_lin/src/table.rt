@@ -8,11 +8,11 @@ ghost use Rattle.poly_lin.specs.Faults.{HasFaultAt, IsEntryFault, number, has_bi
 ghost use Rattle.poly_lin.specs.declared.faults.TableFault.{TableFault as Fault};
 
 use crate::rows::Row;
-use crate::{MOST, PAIRING, TableFault};
+use crate::{PAIRING, TableFault};
 use pair_order::SymbolIndex;
 use std::alloc::Global;
 use std::marker::Model;
-use trs_core::OutOfMemory;
+use trs_core::{GREATEST_NUMBER, OutOfMemory};
 
 /// A linear interpretation: for some symbols their polynomials, `(f, [c0, c1, .., cn])` for
 /// c0 + c1 x1 + .. + cn xn. Symbol 8191 stands for x1 + x2. Contracts see the list of the entries.
@@ -127,5 +127,5 @@ fn add_entry(symbols: &mut SymbolIndex, symbol: u32, coefficients: &[u64]) -> Re
 fn has_big(coefficients: &[u64]) -> bool
     ensures { result ≡ has_big coefficients.now }
 {
-    coefficients.iter().any(|c| *c > MOST)
+    coefficients.iter().any(|c| *c > GREATEST_NUMBER)
 }

@@ -9,7 +9,7 @@ use std::alloc::Global;
 use std::sync::Wait;
 use std::thread::Threads;
 use text_reading::{put, put_number};
-use trs_core::{OutOfMemory, Trs};
+use trs_core::{OutOfMemory, Trs, systems_are_valid};
 use worker_pool::Gate;
 
 /// The line of the sample system of a number, which one worker judges by searches within a budget:
@@ -61,7 +61,7 @@ fn line_of(alloc: Global, trs: &Trs, judgement: Judgement) -> Result<Vec<u8>, Ou
 fn count_pairs(alloc: Global, trs: &Trs) -> Result<u64, OutOfMemory>
     ensures { IfOk result (λ n. n ≡ length (dependency_pairs trs.now.rules)) }
 {
-    let _rules = trs.rules();
+    systems_are_valid(trs);
     placed_pairs_are_the_pairs();
     let pairs = dependency_pairs(alloc, trs)?;
     Ok(pairs.len() as u64)

@@ -31,10 +31,7 @@ use path_text::{PathNames, Shared};
 use sexp_core::Sexp;
 use std::alloc::Global;
 use text_reading::{Read, both, ended, keyword, place, put, put_number, read_number};
-use trs_core::OutOfMemory;
-
-/// The greatest number of a node, 2^63 - 1.
-const LAST_NODE: u64 = 9_223_372_036_854_775_807;
+use trs_core::{GREATEST_NUMBER, OutOfMemory};
 
 /// A method, `(word ..)`, by its word.
 fn read_method(
@@ -111,7 +108,7 @@ pub fn read_step(
         return Ok(Err(*at));
     };
     let head = keyword(b"step", head);
-    let node = read_number(LAST_NODE, node);
+    let node = read_number(GREATEST_NUMBER, node);
     let method = read_method(alloc, system, sharing, method)?;
     Ok(node_step(ended(both(both(head, node), method), more)))
 }

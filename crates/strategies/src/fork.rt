@@ -6,7 +6,7 @@ use assign_search::{Search, Stop};
 use conf_find::{ForkFound, find_fork, found_forks_apply};
 use rewrite_core::Peak;
 use std::alloc::Global;
-use trs_core::{OutOfMemory, Trs};
+use trs_core::{OutOfMemory, Trs, systems_are_valid};
 
 /// The search for a fork to two terms that never meet, as their caps do not unify.
 pub(crate) struct Forks;
@@ -35,7 +35,7 @@ impl SearchOnPeaks for Forks {
         _budget: u64,
         stop: &mut P,
     ) -> Result<Search<ForkFound>, OutOfMemory> {
-        let _rules = trs.rules();
+        systems_are_valid(trs);
         found_forks_apply();
         find_fork(alloc, trs, peaks, stop)
     }

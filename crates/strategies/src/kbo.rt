@@ -4,7 +4,7 @@ use assign_search::{Search, Stop};
 use cert_step::{AnyOrder, Kbo, Pairs, Step};
 use order_find::{find_kbo_in, found_knuth_bendix_orders_apply};
 use std::alloc::Global;
-use trs_core::{OutOfMemory, Trs};
+use trs_core::{OutOfMemory, Trs, systems_are_valid};
 
 /// The search for a Knuth-Bendix order that removes pairs.
 pub(crate) struct KnuthBendixOrders;
@@ -27,7 +27,7 @@ impl SearchOnPairs for KnuthBendixOrders {
         budget: u64,
         stop: &mut P,
     ) -> Result<Search<Kbo>, OutOfMemory> {
-        let _rules = trs.rules();
+        systems_are_valid(trs);
         found_knuth_bendix_orders_apply();
         find_kbo_in(alloc, trs, pairs, numbers, budget, stop)
     }

@@ -10,7 +10,7 @@ use assign_search::{Search, Stop};
 use cert_step::Step;
 use loop_find::{find_loop, found_loops_are_loops};
 use std::alloc::Global;
-use trs_core::{OutOfMemory, Trs};
+use trs_core::{OutOfMemory, Trs, systems_are_valid};
 
 /// A loop by forward closures.
 pub(crate) fn search_loop<P: Stop>(
@@ -24,7 +24,7 @@ pub(crate) fn search_loop<P: Stop>(
     ensures later { P.stops stop.old ≤ P.stops stop.new }
     ensures kept { P.kept stop.new ≡ P.kept stop.old }
 {
-    let _rules = trs.rules();
+    systems_are_valid(trs);
     found_loops_are_loops();
     match find_loop(alloc, trs, budget, stop)? {
         Search::Found(found) => {

@@ -4,7 +4,7 @@ use assign_search::{Search, Stop};
 use cert_step::{AnyOrder, Lpo, Pairs, Step};
 use order_find::{find_lpo_in, found_path_orders_apply};
 use std::alloc::Global;
-use trs_core::{OutOfMemory, Trs};
+use trs_core::{OutOfMemory, Trs, systems_are_valid};
 
 /// The search for a path order with filters that removes pairs.
 pub(crate) struct PathOrders;
@@ -27,7 +27,7 @@ impl SearchOnPairs for PathOrders {
         budget: u64,
         stop: &mut P,
     ) -> Result<Search<Lpo>, OutOfMemory> {
-        let _rules = trs.rules();
+        systems_are_valid(trs);
         found_path_orders_apply();
         find_lpo_in(alloc, trs, pairs, numbers, budget, stop)
     }

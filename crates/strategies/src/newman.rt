@@ -6,7 +6,7 @@ use cert_step::{Join, Problem, Step};
 use conf_find::{find_newman, found_joins_join};
 use rewrite_core::Peak;
 use std::alloc::Global;
-use trs_core::{OutOfMemory, Trs};
+use trs_core::{OutOfMemory, Trs, systems_are_valid};
 
 /// The search for joins of the critical peaks. That the system terminates is left to show.
 pub(crate) struct Joins;
@@ -35,7 +35,7 @@ impl SearchOnPeaks for Joins {
         _budget: u64,
         stop: &mut P,
     ) -> Result<Search<Vec<Join>>, OutOfMemory> {
-        let _rules = trs.rules();
+        systems_are_valid(trs);
         found_joins_join();
         find_newman(alloc, trs, peaks, stop)
     }

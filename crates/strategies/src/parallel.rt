@@ -7,7 +7,7 @@ use cert_step::Step;
 use conf_find::{find_parallel, found_steps_close};
 use rewrite_core::{PathStep, Peak};
 use std::alloc::Global;
-use trs_core::{OutOfMemory, Trs};
+use trs_core::{OutOfMemory, Trs, systems_are_valid};
 
 /// The search for parallel steps that close the critical peaks.
 pub(crate) struct ParallelSteps;
@@ -37,7 +37,7 @@ impl SearchOnPeaks for ParallelSteps {
         _budget: u64,
         stop: &mut P,
     ) -> Result<Search<Vec<Vec<PathStep>>>, OutOfMemory> {
-        let _rules = trs.rules();
+        systems_are_valid(trs);
         found_steps_close();
         find_parallel(alloc, trs, peaks, stop)
     }

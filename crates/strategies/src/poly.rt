@@ -4,7 +4,7 @@ use assign_search::{Search, Stop};
 use cert_step::{AnyOrder, LinTable, Pairs, Step};
 use order_find::{find_poly_in, found_interpretations_apply};
 use std::alloc::Global;
-use trs_core::{OutOfMemory, Trs};
+use trs_core::{OutOfMemory, Trs, systems_are_valid};
 
 /// The search for a linear interpretation that removes pairs.
 pub(crate) struct Interpretations;
@@ -27,7 +27,7 @@ impl SearchOnPairs for Interpretations {
         budget: u64,
         stop: &mut P,
     ) -> Result<Search<LinTable>, OutOfMemory> {
-        let _rules = trs.rules();
+        systems_are_valid(trs);
         found_interpretations_apply();
         find_poly_in(alloc, trs, pairs, numbers, budget, stop)
     }

@@ -16,8 +16,5 @@ pub(crate) enum Searched {
 pub(crate) fn ending(findings: Result<Findings, OutOfMemory>) -> Result<Searched, OutOfMemory>
     ensures { EndsAs findings result }
 {
-    match findings {
-        Ok(findings) => Ok(Searched::Ended(findings)),
-        Err(OutOfMemory) => Err(OutOfMemory),
-    }
+    Ok(Searched::Ended(findings?))
 }

@@ -6,7 +6,7 @@ use assign_search::{Search, Stop};
 use conf_find::{ForkFound, find_split, found_splits_apply};
 use rewrite_core::Peak;
 use std::alloc::Global;
-use trs_core::{OutOfMemory, Trs};
+use trs_core::{OutOfMemory, Trs, systems_are_valid};
 
 /// The search for a fork to two different normal forms.
 pub(crate) struct Splits;
@@ -35,7 +35,7 @@ impl SearchOnPeaks for Splits {
         _budget: u64,
         stop: &mut P,
     ) -> Result<Search<ForkFound>, OutOfMemory> {
-        let _rules = trs.rules();
+        systems_are_valid(trs);
         found_splits_apply();
         find_split(alloc, trs, peaks, stop)
     }

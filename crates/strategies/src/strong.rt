@@ -7,7 +7,7 @@ use cert_step::{Four, Step};
 use conf_find::{find_strong, found_fours_join};
 use rewrite_core::Peak;
 use std::alloc::Global;
-use trs_core::{OutOfMemory, Trs};
+use trs_core::{OutOfMemory, Trs, systems_are_valid};
 
 /// The search for joins that close the critical peaks strongly.
 pub(crate) struct StrongJoins;
@@ -36,7 +36,7 @@ impl SearchOnPeaks for StrongJoins {
         _budget: u64,
         stop: &mut P,
     ) -> Result<Search<Vec<Four>>, OutOfMemory> {
-        let _rules = trs.rules();
+        systems_are_valid(trs);
         found_fours_join();
         find_strong(alloc, trs, peaks, stop)
     }

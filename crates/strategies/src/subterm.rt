@@ -4,7 +4,7 @@ use assign_search::{Search, Stop};
 use cert_step::{Pairs, Step};
 use order_find::{find_subterm_in, found_places_apply};
 use std::alloc::Global;
-use trs_core::{OutOfMemory, Trs};
+use trs_core::{OutOfMemory, Trs, systems_are_valid};
 
 /// The search for a projection by which the subterm criterion removes pairs.
 pub(crate) struct Projections;
@@ -27,7 +27,7 @@ impl SearchOnPairs for Projections {
         budget: u64,
         stop: &mut P,
     ) -> Result<Search<Vec<(u32, u8)>>, OutOfMemory> {
-        let _rules = trs.rules();
+        systems_are_valid(trs);
         found_places_apply();
         find_subterm_in(alloc, trs, pairs, numbers, budget, stop)
     }

@@ -8,13 +8,7 @@ ghost use Rattle.term_pool.specs.Placing.{IsPlaced, IsTooLargePut};
 use crate::Pool;
 use crate::bindings::Bindings;
 use std::alloc::Global;
-use trs_core::{OutOfMemory, Term};
-
-/// The most nodes of a computed term.
-const MOST_NODES: u64 = 65_536;
-
-/// The greatest depth of a computed term, in nodes.
-const GREATEST_DEPTH: u64 = 1_024;
+use trs_core::{GREATEST_DEPTH, MOST_NODES, OutOfMemory, Term};
 
 impl Pool {
     /// The id of a term with the instance of `t` in place of a part of it, or `None` where that

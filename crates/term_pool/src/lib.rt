@@ -6,6 +6,7 @@
 
 mod bindings;
 mod contracting;
+mod distinct;
 mod instances;
 mod interning;
 mod listing;
@@ -22,9 +23,10 @@ mod roots;
 mod running;
 mod steps;
 
+pub use distinct::ids_are_distinct;
 pub use narrow::paths_keep_narrow;
 pub use paths::{PathFault, PathStep, one_longer};
-pub use pools::{MOST_IDS, Pool};
+pub use pools::Pool;
 pub use roots::RulesByRoot;
 pub use running::MOST_ADDED;
 pub use steps::StepFault;

@@ -102,21 +102,9 @@ impl Pool {
             (record { place = place.now; rule = k }) found.old.items found.new.items) }
     {
         if self.is_instance(alloc, rule, id)? {
-            let place = position(alloc, place)?;
+            let place = Position::of(alloc, place)?;
             found.push(PathStep { place, rule: k })?;
         }
         Ok(())
     }
-}
-
-/// The position with these places.
-fn position(alloc: Global, places: &[u8]) -> Result<Position, OutOfMemory>
-    requires { All (λ n. 0 < n) places.now }
-    ensures { IfOk result (λ p. p ≡ places.now) }
-{
-    let mut made = Position::new(alloc);
-    for place in places {
-        made.push(*place)?;
-    }
-    Ok(made)
 }

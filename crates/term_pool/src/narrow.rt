@@ -1,9 +1,9 @@
-ghost use Rattle.std.specs.Prelude.{◌≡◌, ◌<◌, ℕ, List, Some, slice_get};
+ghost use Rattle.std.specs.Prelude.{List};
 ghost use Rattle.trs_defs.specs.Tree.{Tree};
 ghost use Rattle.trs_defs.specs.Path.{PlacedRule, Follows};
 ghost use Rattle.term_pool.specs.Redexes.{IsNarrow};
 
-use trs_core::Trs;
+use trs_core::{Trs, systems_are_valid};
 
 /// A law, with nothing to run but the reading of the system: a path from a term none of whose
 /// symbols has more than 255 arguments leads to such a term.
@@ -11,14 +11,5 @@ pub fn paths_keep_narrow(trs: &Trs)
     ensures { (path : List PlacedRule) (t u : Tree) → Follows trs.now.rules path t u
         → IsNarrow t → IsNarrow u }
 {
-    let _rules = trs.rules();
-    let arities = trs.arities();
-    arities_are_bytes(arities);
-}
-
-/// Each arity is a byte.
-fn arities_are_bytes(arities: &[u8])
-    ensures { (f n : ℕ) → slice_get arities.now f ≡ Some n → n < 256 }
-{
-    for _arity in arities {}
+    systems_are_valid(trs);
 }

@@ -9,10 +9,6 @@ use std::alloc::Global;
 use std::marker::Model;
 use trs_core::OutOfMemory;
 
-/// The most ids that callers reckon with: 2^32 - 131,072, at which a term within the limits or a
-/// step can still be added.
-pub const MOST_IDS: u32 = 4_294_836_224;
-
 /// Terms by their numbers, which are called ids and go from 0. Equal terms have one id, and a term
 /// that stands in several others is kept once. A term may have any size. Where ids have run out, a
 /// call that needs one more answers want of memory.

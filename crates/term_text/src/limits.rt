@@ -4,10 +4,7 @@ ghost use Rattle.sexp_core.specs.Items.{view, views};
 ghost use Rattle.term_text.specs.Limits.{nodes_left, nodes_of, nodes_of_all, depth_of, depth_of_all, keeps_limits as limits_kept};
 
 use sexp_core::Sexp;
-
-const MOST_NODES: u32 = 65_536;
-
-const GREATEST_DEPTH: u32 = 1_024;
+use trs_core::{GREATEST_DEPTH, MOST_NODES};
 
 /// How many nodes are left of so many behind those of a term, as it is written.
 #[cycle(nodes)]
@@ -76,5 +73,6 @@ fn are_within_depth(terms: &[Sexp], depth: u32) -> bool
 pub fn keeps_limits(term: &Sexp) -> bool
     ensures { result ≡ limits_kept (view term.now) }
 {
-    nodes_left_behind(term, Some(MOST_NODES)).is_some() && is_within_depth(term, GREATEST_DEPTH)
+    nodes_left_behind(term, Some(MOST_NODES as u32)).is_some()
+        && is_within_depth(term, GREATEST_DEPTH as u32)
 }

@@ -1,5 +1,5 @@
 -- The limits on a system.
-use Rattle.std.specs.Prelude.{◌<◌, ◌≤◌, ℕ, ◌+◌, List, [], ◌∷◌, length, All, IsTrue}
+use Rattle.std.specs.Prelude.{◌≡◌, ◌<◌, ◌≤◌, ℕ, ◌+◌, List, [], ◌∷◌, Some, length, slice_get, All, IsTrue}
 use Rattle.trs_defs.specs.Tree.{Tree}
 use Rattle.trs_defs.specs.Size.{size_of, depth_of}
 use Rattle.trs_defs.specs.Variable.{has_var}
@@ -20,6 +20,10 @@ pub record IsWithinLimits (system : System) : Type 0 where
   pub rules : length system.rules ≤ 4095
   pub nodes : nodes_of system.rules ≤ 65536
   pub shallow : All IsShallow system.rules
+
+-- the number of arguments of each symbol is a byte
+abbrev pub AreBytes : List ℕ → Type 0
+AreBytes arities = (f n : ℕ) → slice_get arities f ≡ Some n → n < 256
 
 -- each variable of the term has a number below 65,536
 abbrev pub HasSmallVariables : Tree → Type 0

@@ -4,7 +4,7 @@ ghost use Rattle.trs_defs.specs.Substitution.{apply, bound};
 ghost use Rattle.trs_core.specs.Limits.{Gives, instance};
 ghost use Rattle.trs_core.specs.View.{tree};
 
-use crate::{Args, OutOfMemory, Subst, Term};
+use crate::{Args, GREATEST_DEPTH, MOST_NODES, OutOfMemory, Subst, Term};
 use std::alloc::Global;
 
 /// Why an instance was not made.
@@ -31,7 +31,7 @@ impl Subst {
     pub fn apply(&self, alloc: Global, t: &Term) -> Result<Term, ApplySize>
         ensures { Gives ApplySize.OutOfMemory result (instance self.now (tree t.now)) }
     {
-        if self.instance_size(t) <= 65_536 && self.instance_depth(t) <= 1_024 {
+        if self.instance_size(t) <= MOST_NODES && self.instance_depth(t) <= GREATEST_DEPTH {
             Ok(self.build(alloc, t)?)
         } else {
             Err(ApplySize::TooLarge)

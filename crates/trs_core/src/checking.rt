@@ -6,7 +6,7 @@ ghost use Rattle.trs_core.specs.RuleChecks.{IsFaultless, IsFirstRuleFault};
 ghost use Rattle.trs_core.specs.View.{tree};
 
 use crate::extra::extra_variable;
-use crate::{Rule, Term, TrsFault};
+use crate::{MOST_VARIABLES, Rule, Term, TrsFault};
 use std::alloc::Global;
 
 /// Whether each symbol is declared, and has as many arguments as the table says.
@@ -38,7 +38,7 @@ fn has_small_variables(t: &Term) -> bool
     ensures { IsTrue result ↔ HasSmallVariables (tree t.now) }
 {
     match t {
-        Term::Var(v) => *v < 65_536,
+        Term::Var(v) => *v < MOST_VARIABLES,
         Term::App(_, args) => {
             for arg in &args.items {
                 if !has_small_variables(arg) {

@@ -8,6 +8,7 @@ mod bindings;
 mod checking;
 mod extra;
 mod faults;
+mod laws;
 mod limits;
 mod matching;
 mod memory;
@@ -21,6 +22,10 @@ mod variables;
 pub use applying::ApplySize;
 pub use bindings::Subst;
 pub use faults::TrsFault;
+pub use laws::systems_are_valid;
+pub use limits::{
+    GREATEST_DEPTH, GREATEST_NUMBER, MOST_NODES, MOST_RULES, MOST_SYMBOLS, MOST_VARIABLES,
+};
 pub use matching::match_term;
 pub use memory::OutOfMemory;
 pub use positions::Position;

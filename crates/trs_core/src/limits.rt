@@ -4,13 +4,31 @@ ghost use Rattle.trs_core.specs.Valid.{system};
 
 use crate::Rule;
 
+/// The most symbols of a system.
+pub const MOST_SYMBOLS: usize = 4_095;
+
+/// The most rules of a system.
+pub const MOST_RULES: usize = 4_095;
+
+/// The most nodes of a computed term, and of all sides of a system together.
+pub const MOST_NODES: u64 = 65_536;
+
+/// The greatest depth of a computed term and of a side, in nodes.
+pub const GREATEST_DEPTH: u64 = 1_024;
+
+/// The most variables of a rule: their numbers are below this one.
+pub const MOST_VARIABLES: u32 = 65_536;
+
+/// The greatest coefficient, weight, rank and number in a certificate, 2^63 - 1.
+pub const GREATEST_NUMBER: u64 = 9_223_372_036_854_775_807;
+
 /// Whether an arity table and rules keep the limits on systems.
 pub(crate) fn are_within_limits(arities: &[u8], rules: &[Rule]) -> bool
     ensures { IsTrue result ↔ IsWithinLimits (system arities.now rules.now) }
 {
-    arities.len() <= 4_095
-        && rules.len() <= 4_095
-        && total_nodes(rules) <= 65_536
+    arities.len() <= MOST_SYMBOLS
+        && rules.len() <= MOST_RULES
+        && total_nodes(rules) <= MOST_NODES
         && are_shallow(rules)
 }
 
@@ -41,5 +59,5 @@ fn are_shallow(rules: &[Rule]) -> bool
 fn is_shallow(rule: &Rule) -> bool
     ensures { IsTrue result ↔ IsShallow rule.now }
 {
-    rule.left.depth() <= 1_024 && rule.right.depth() <= 1_024
+    rule.left.depth() <= GREATEST_DEPTH && rule.right.depth() <= GREATEST_DEPTH
 }

@@ -8,7 +8,7 @@ ghost use Rattle.trs_defs.specs.Order.{tree_cmp};
 ghost use Rattle.trs_defs.specs.Position.{argument_at, subterm_at};
 ghost use Rattle.trs_core.specs.View.{tree};
 
-use crate::{OutOfMemory, Position};
+use crate::{GREATEST_DEPTH, MOST_NODES, OutOfMemory, Position};
 use std::alloc::Global;
 use std::cmp::Ordering;
 use std::marker::Model;
@@ -112,7 +112,7 @@ impl Term {
     pub fn is_within_limits(&self) -> bool
         ensures { result ≡ within_limits (tree self.now) }
     {
-        self.size() <= 65_536 && self.depth() <= 1_024
+        self.size() <= MOST_NODES && self.depth() <= GREATEST_DEPTH
     }
 
     /// Whether the variable occurs in the term.

@@ -13,7 +13,7 @@ use Rattle.completion.proofs.closing.look.Goals as goal
 pub find-requires : goal.find-requires
 find-requires c =
     let P : List PlacedPeak → Type 0 = λ ps. ArePairsOver c.args.trs.now.arities (map sides ps) in
-    subst P (sym c.deref.ensures.value) (few_pairs c.args.trs.now c.see_system.ensures.valid 64 c.in-Ok.few c.in-Ok.ensures.first)
+    subst P (sym c.deref.ensures.value) (few_pairs c.args.trs.now c.systems_are_valid.ensures.valid 64 c.in-Ok.few c.in-Ok.ensures.first)
 
 pub returns-then-is_settled : goal.returns-then-is_settled
 returns-then-is_settled c =

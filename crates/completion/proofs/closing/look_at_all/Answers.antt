@@ -10,7 +10,7 @@ use Rattle.completion.proofs.closing.look_at_all.Goals as goal
 pub find-requires : goal.find-requires
 find-requires c =
     let P : List PlacedPeak → Type 0 = λ ps. ArePairsOver c.args.trs.now.arities (map sides ps) in
-    subst P (sym c.deref.ensures.value) (all_pairs c.args.trs.now c.see_system.ensures.valid c.in-Ok.peaks.items c.in-Ok.ensures.peaks)
+    subst P (sym c.deref.ensures.value) (all_pairs c.args.trs.now c.systems_are_valid.ensures.valid c.in-Ok.peaks.items c.in-Ok.ensures.peaks)
 
 pub returns-in-Ok : goal.returns-in-Ok
 returns-in-Ok c =

@@ -17,7 +17,7 @@ returns-in-Ended-clause-run c =
 pub returns-in-Ended-clause-right : goal.returns-in-Ended-clause-right
 returns-in-Ended-clause-right c =
     let H : Taken → Type 0 = HasTaken c.args.equations.now (GreaterBy c.args.order.now) c.args.budget in
-    completes_right c.args.equations.now c.see_system.ensures.valid (GreaterBy c.args.order.now) (reduction_order c.args.equations.now.arities c.args.order.now c.requires.full)
+    completes_right c.args.equations.now c.systems_are_valid.ensures.valid (GreaterBy c.args.order.now) (reduction_order c.args.equations.now.arities c.args.order.now c.requires.full)
     c.args.budget (plain_ending c.in-Ended.why) (equations_end (plain_ending c.in-Ended.why) (subst H c.in-Ended.is c.in_ok-why.ensures))
 
 pub returns-in-Ended-clause-arities : goal.returns-in-Ended-clause-arities
@@ -34,7 +34,7 @@ returns-in-Rules-clause-run c =
 pub returns-in-Rules-clause-right : goal.returns-in-Rules-clause-right
 returns-in-Rules-clause-right c =
     let H : Taken → Type 0 = HasTaken c.args.equations.now (GreaterBy c.args.order.now) c.args.budget in
-    right_if_ok c.args.equations.now (GreaterBy c.args.order.now) c.args.budget c.see_system.ensures.valid (reduction_order c.args.equations.now.arities c.args.order.now c.requires.full) c.close.result
+    right_if_ok c.args.equations.now (GreaterBy c.args.order.now) c.args.budget c.systems_are_valid.ensures.valid (reduction_order c.args.equations.now.arities c.args.order.now c.requires.full) c.close.result
     (runs_if_ok c.args.equations.now (GreaterBy c.args.order.now) c.args.budget c.in-Rules.system c.in-Rules.units c.close.result
     (subst H c.in-Rules.is c.in_ok-why.ensures) c.close.ensures.closes)
 

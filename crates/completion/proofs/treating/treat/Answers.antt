@@ -25,7 +25,7 @@ returns-in-Stopped-2 c =
     (subst R c.in-Stopped-2.is c.in_ok-why-in-Normal.ensures)
 
 pub compare-requires : goal.compare-requires
-compare-requires c = subst IsWithinLimits (sym (none_more c.args.trs.now)) c.see_system.ensures.limits
+compare-requires c = subst IsWithinLimits (sym (none_more c.args.trs.now)) c.systems_are_valid.ensures.limits
 
 pub returns : goal.returns
 returns c =

@@ -8,7 +8,6 @@ use Rattle.conf_find.proofs.split.find_split.Goals as goal
 pub loop-peak-init : goal.loop-peak-init
 loop-peak-init g c = record {
   passed = none_passed (PartsNot AreDifferentNormalForms c.args.trs.now.rules) c.args.peaks.now;
-  empty = c.new-pool.ensures;
   later = c.stopped.ensures.later;
   kept = c.stopped.ensures.kept;
 }
@@ -29,7 +28,6 @@ pub loop-peak-preserved : goal.loop-peak-preserved
 loop-peak-preserved g c = record {
   passed = one_more_passed (PartsNot AreDifferentNormalForms c.args.trs.now.rules) c.args.peaks.now c.loop-peak.peak-index c.peak-item.result c.loop-peak-test.true c.peak-item.is
       (rw c.in-None.is at c.in_ok-found.ensures.fork) c.loop-peak.invariant.passed;
-  empty = c.in_ok-found.ensures.released ∙ c.loop-peak.invariant.empty;
   later = omega (arith, c.loop-peak.invariant.later, c.stopped-in-loop-peak.ensures.later);
   kept = c.stopped-in-loop-peak.ensures.kept ∙ c.loop-peak.invariant.kept;
 }

@@ -1,4 +1,4 @@
-use Rattle.std.proofs.Common.{◌≡◌, ◌≤◌, []}
+use Rattle.std.proofs.Common.{◌≡◌, ◌≤◌}
 use Rattle.conf_find.specs.ForkRows.{AreDifferentNormalForms}
 use Rattle.conf_find.specs.ForkRows.{PartsNot}
 use Rattle.conf_find.proofs.PeakList.{ArePassed}
@@ -7,7 +7,6 @@ use Rattle.conf_find.proofs.split.find_split.Given as goal
 abbrev pub invariant-loop-peak : goal.invariant-loop-peak
 invariant-loop-peak g l = record {
   passed : ArePassed (PartsNot AreDifferentNormalForms l.trs.rules) l.peaks l.peak-index;
-  empty : l.pool ≡ [];
   later : g.P.Stop.stops l.fn.stop ≤ g.P.Stop.stops l.stop;
   kept : g.P.Stop.kept l.stop ≡ g.P.Stop.kept l.fn.stop;
 }

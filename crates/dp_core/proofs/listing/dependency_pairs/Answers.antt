@@ -16,4 +16,4 @@ right c = ap (λ (r : RewriteRule). r.right) c.rule.view_is
 pub add_below-requires-clause-narrow : goal.add_below-requires-clause-narrow
 add_below-requires-clause-narrow c =
     let a = (goal.at.add_below-requires-clause-narrow c).After-new-place in
-    narrow_right c.args.trs.now (rw c.arities.ensures at c.see_bytes.ensures) c.rules-rule-items.ensures.valid c.loop-k.k c.rule-item.result (tree c.rule.inside.right) (right a) (numbered a)
+    narrow_right c.args.trs.now c.systems_are_valid.ensures.bytes c.rules-rule-items.ensures.valid c.loop-k.k c.rule-item.result (tree c.rule.inside.right) (right a) (numbered a)

@@ -11,7 +11,7 @@ use Rattle.join_find.proofs.parallel.find_parallel.Goals as goal
 pub loop-peak-init : goal.loop-peak-init
 loop-peak-init g c =
     let P : List (Vec PlacedRule) → Type 0 = λ xs. Along (IsParallelClosing c.args.trs.now.rules) [] (paths_of xs) in
-    record { joined = subst P (sym c.new-steps.ensures.items) along_end; empty = c.new-pool.ensures; later = c.stopped.ensures.later; kept = c.stopped.ensures.kept }
+    record { joined = subst P (sym c.new-steps.ensures.items) along_end; later = c.stopped.ensures.later; kept = c.stopped.ensures.kept }
 
 pub closing-requires-clause-sides : goal.closing-requires-clause-sides
 closing-requires-clause-sides g c =
@@ -26,7 +26,6 @@ pub loop-peak-preserved : goal.loop-peak-preserved
 loop-peak-preserved g c = record {
   joined = one_more_closing c.args.trs.now.rules c.args.peaks.now c.loop-peak.steps.items c.push.new.self.items c.loop-peak.peak-index c.peak-item.result c.in-Some.step
       c.loop-peak-test.true c.peak-item.is c.loop-peak.invariant.joined (rw c.in-Some.is at c.in_ok-step.ensures.step) c.in_ok-push-in-Some.ensures.items;
-  empty = c.in_ok-step.ensures.released ∙ c.loop-peak.invariant.empty;
   later = omega (arith, c.loop-peak.invariant.later, c.stopped-in-loop-peak.ensures.later);
   kept = c.stopped-in-loop-peak.ensures.kept ∙ c.loop-peak.invariant.kept;
 }

@@ -123,8 +123,7 @@ add_steps-requires t c =
     let limits = limits_inside (tree c.args.to.now) (tree c.index-rights-i.result) ((c.loop-i.i + 1) ∷ []) c.requires.limits inside in
     let from = c.argument.ensures (tree c.index-lefts-i.result) (left_there t b a (left_is t a)) in
     let to = c.argument-in-loop-i.ensures (tree c.index-rights-i.result) (right_there t b (right_is t a)) in
-    let room : length c.loop-i.pool ≤ 4294836224 = rw c.loop-i.invariant.same c.requires.room in
-    (omega (arith, smaller, c.decreases), (c.requires.rules, (from, (to, (narrow.0, (limits, (room, positive)))))))
+    (omega (arith, smaller, c.decreases), (c.requires.rules, (from, (to, (narrow.0, (limits, positive))))))
 
 pub returns-then-not-branch-clause-none : goal.returns-then-not-branch-clause-none
 returns-then-not-branch-clause-none t c = λ _.

@@ -17,7 +17,7 @@ returns-clause-constraint c =
     let from_right = list_from c.args.trs.now.rules c.list-2.new.self c.in_ok-right.ensures.sides c.in_ok-right.right (tree c.peak.inside.right) c.at-2.result.now c.at-2.ensures c.in_ok-right.ensures.id in
     ok_map c.new.result (IsConstraintOf c.peak.inside.inner c.peak.inside.outer c.at.result.now c.at-2.result.now) (IsConstraintFor c.args.trs.now.rules c.args.peak.now)
     (λ d h. constraint_for c.args.trs.now.rules c.list-2.new.self.pool c.list-2.new.self.pool c.at.result.now c.at-2.result.now c.at.result.now c.at-2.result.now
-    c.args.peak.now (tree c.peak.inside.left) (tree c.peak.inside.right) c.peak.inside.inner c.peak.inside.outer d (extends_itself c.list-2.new.self.pool) c.pool-pool.ensures.distinct
+    c.args.peak.now (tree c.peak.inside.left) (tree c.peak.inside.right) c.peak.inside.inner c.peak.inside.outer d (extends_itself c.list-2.new.self.pool) (rw c.pool.ensures.is at c.ids_are_distinct.ensures)
     (ends_below c.args.trs.now.rules c.list-2.new.self c.in_ok-right.ensures.sides c.in_ok-left.left (tree c.peak.inside.left) c.at.result.now c.at.ensures)
     (ends_below c.args.trs.now.rules c.list-2.new.self c.in_ok-right.ensures.sides c.in_ok-right.right (tree c.peak.inside.right) c.at-2.result.now c.at-2.ensures)
     (ap (λ (p : PlacedPeak). p.left) c.peak.view_is) (ap (λ (p : PlacedPeak). p.right) c.peak.view_is) (ap (λ (p : PlacedPeak). p.inner) c.peak.view_is)

@@ -10,9 +10,9 @@ pub try_below-requires-clause-trial : goal.try_below-requires-clause-trial
 try_below-requires-clause-trial g c =
     let fit = fit_sides c.args.trs.now.arities c.args.closures.now c.requires.sound c.args.number c.requires.there (tree c.in_ok-sides.sides.left) (tree c.in_ok-sides.sides.right) c.in_ok-sides.ensures in
     record {
-      system = c.rules-rules.ensures.valid;
-      arities = rw c.arities.ensures at c.see_bytes.ensures;
-      few = c.rules-rules.ensures.limits.rules;
+      system = c.systems_are_valid.ensures.valid;
+      arities = c.systems_are_valid.ensures.bytes;
+      few = c.systems_are_valid.ensures.limits.rules;
       apart = c.requires.apart;
       sound = c.requires.sound;
       there = c.requires.there;
@@ -29,7 +29,7 @@ try_below-requires-clause-part g c =
     rw c.new-place.ensures.items (record {
       there = refl;
       positive = All-nil (λ n. 0 < n);
-      narrow = narrow_of_well_formed c.args.trs.now.arities (rw c.arities.ensures at c.see_bytes.ensures) (tree c.in_ok-sides.sides.right) fit.1.well_formed;
+      narrow = narrow_of_well_formed c.args.trs.now.arities c.systems_are_valid.ensures.bytes (tree c.in_ok-sides.sides.right) fit.1.well_formed;
     })
 
 pub returns-clause-turn : goal.returns-clause-turn

@@ -8,20 +8,20 @@ use Rattle.order_find.proofs.Findings.{of_problem, found_of_problem}
 use Rattle.order_find.proofs.subterm.find_subterm_in.Goals as goal
 
 pub search_places-requires-clause-bytes : goal.search_places-requires-clause-bytes
-search_places-requires-clause-bytes g c = c.arities_are_bytes.ensures
+search_places-requires-clause-bytes g c = rw c.arities-arities.ensures c.systems_are_valid.ensures.bytes
 
 pub search_places-requires-clause-few_roots : goal.search_places-requires-clause-few_roots
 search_places-requires-clause-few_roots g c =
-    let few = few_roots c.args.trs.now.arities c.rules-rules.ensures.limits.symbols (dependency_pairs c.args.trs.now.rules) (c.dependency_pairs_suffice.ensures.pairs c.args.trs.now c.rules-rules.ensures.valid)
+    let few = few_roots c.args.trs.now.arities c.systems_are_valid.ensures.limits.symbols (dependency_pairs c.args.trs.now.rules) (c.dependency_pairs_suffice.ensures.pairs c.args.trs.now c.systems_are_valid.ensures.valid)
     c.args.problem.now c.in_ok-taken.taken.items (subst (λ l. ArePairsOf l c.args.problem.now c.in_ok-taken.taken.items) (c.sides.ensures ∙ c.requires.pairs) c.in_ok-taken.ensures)
     c.deref.result.now c.in_ok-roots.roots.items c.deref-2.result.now c.deref.ensures.value c.in_ok-roots.ensures c.deref-2.ensures.value in
     omega (arith, few)
 
 pub search_places-requires-clause-few_pairs : goal.search_places-requires-clause-few_pairs
 search_places-requires-clause-few_pairs g c =
-    let count : length (placed_pairs c.args.trs.now.rules) ≡ length (dependency_pairs c.args.trs.now.rules) = c.placed_pairs_are_the_pairs.ensures.all c.args.trs.now c.rules-rules.ensures.valid in
+    let count : length (placed_pairs c.args.trs.now.rules) ≡ length (dependency_pairs c.args.trs.now.rules) = c.placed_pairs_are_the_pairs.ensures.all c.args.trs.now c.systems_are_valid.ensures.valid in
     let placed = few_pairs c.args.trs.now.rules in
-    let nodes = c.rules-rules.ensures.limits.nodes in
+    let nodes = c.systems_are_valid.ensures.limits.nodes in
     let all : length (dependency_pairs c.args.trs.now.rules) ≤ 65536 = omega (arith, count, placed, nodes) in
     let few = few_taken (dependency_pairs c.args.trs.now.rules) c.args.problem.now c.in_ok-taken.taken.items c.deref-3.result.now 65536 c.requires.ascending c.requires.numbers
     (subst (λ l. ArePairsOf l c.args.problem.now c.in_ok-taken.taken.items) (c.sides.ensures ∙ c.requires.pairs) c.in_ok-taken.ensures) c.deref-3.ensures.value all in

@@ -11,8 +11,8 @@ pub returns-in-Found-clause-answer : goal.returns-in-Found-clause-answer
 returns-in-Found-clause-answer g c =
     let h = rw c.in-Found.is at c.in_ok-found.ensures.answer in
     subst (IsTrueFound c.args.trs.now c.args.budget strategy.Loop problem.loop) (sym c.closing.ensures)
-    (loop_true c.args.trs.now c.args.budget (tree c.in-Found.found.start) c.in-Found.found.path.items c.in-Found.found.place c.rules-rules.ensures.valid
-    c.rules-rules.ensures.limits c.found_loops_are_loops.ensures h)
+    (loop_true c.args.trs.now c.args.budget (tree c.in-Found.found.start) c.in-Found.found.path.items c.in-Found.found.place c.systems_are_valid.ensures.valid
+    c.systems_are_valid.ensures.limits c.found_loops_are_loops.ensures h)
 
 pub returns-in-NotThere-clause-answer : goal.returns-in-NotThere-clause-answer
 returns-in-NotThere-clause-answer g c = loop_is_not_there (rw c.in-NotThere.is at c.in_ok-found.ensures.answer)

@@ -13,8 +13,8 @@ returns-clause-answer g c =
     let system = c.args.trs.now in
     let numbers = c.args.numbers.now in
     let budget = c.args.budget in
-    let valid = c.rules-rules.ensures.valid in
-    let few = c.rules-rules.ensures.limits.symbols in
+    let valid = c.systems_are_valid.ensures.valid in
+    let few = c.systems_are_valid.ensures.limits.symbols in
     answers_for_pairs c.find_poly_in.result system budget strategy.Poly (problem.dp numbers) (λ found. FindsPoly system numbers budget found) step.poly _ _ _
     (λ found h. (record {
       finds = poly_is_found h;

@@ -16,5 +16,5 @@ returns-clause-answer g c =
     let peaks = c.args.peaks.now in
     let budget = c.args._budget in
     answers_for_peaks c.find_split.result system budget strategy.Split problem.split (λ it. FindsSplit system.rules peaks (fork_of it)) (λ it. found (fork_step (fork_of it)) []) _ _
-    (λ it h. split_true system budget (fork_of it) c.rules-rules.ensures.valid c.found_splits_apply.ensures (record { peaks = peaks; listed = c.requires; found = h }))
+    (λ it h. split_true system budget (fork_of it) c.systems_are_valid.ensures.valid c.found_splits_apply.ensures (record { peaks = peaks; listed = c.requires; found = h }))
     (λ h. split_is_not_there (peaks_fail peaks c.requires h)) c.find_split.ensures.answer
