@@ -7,12 +7,12 @@ use Rattle.kbo_order.specs.TooBig.{EitherIsBig}
 use Rattle.kbo_find.specs.KnuthTest.{knuth_strict, knuth_weak}
 use Rattle.kbo_find.proofs.KnuthDecides.{weak_fits, weak_is, strict_fits, strict_is, is_weak, is_strict}
 
-same_both : (a b : Bool) → (a ≡ true → b ≡ true) → (b ≡ true → a ≡ true) → a ≡ b
+pub same_both : (a b : Bool) → (a ≡ true → b ≡ true) → (b ≡ true → a ≡ true) → a ≡ b
 same_both true b to from = sym (to refl)
 same_both false true to from = from refl
 same_both false false to from = refl
 
-never_true : (b : Bool) → (b ≡ true → ⊥) → false ≡ b
+pub never_true : (b : Bool) → (b ≡ true → ⊥) → false ≡ b
 never_true true h = absurd (h refl)
 never_true false h = refl
 

@@ -26,10 +26,10 @@ le_is a b e = grind (arith, nat_tests)
 is_le : (a b : ℕ) → a ≤ b → nat_le a b ≡ true
 is_le a b e = grind (arith, nat_tests)
 
-lt_is : (a b : ℕ) → nat_lt a b ≡ true → a < b
+pub lt_is : (a b : ℕ) → nat_lt a b ≡ true → a < b
 lt_is a b e = grind (arith, nat_tests)
 
-is_lt : (a b : ℕ) → a < b → nat_lt a b ≡ true
+pub is_lt : (a b : ℕ) → a < b → nat_lt a b ≡ true
 is_lt a b e = grind (arith, nat_tests)
 
 eq_is : (a b : ℕ) → (a == b) ≡ true → a ≡ b

@@ -7,3 +7,6 @@ pub mod TopSteps
 pub mod TableSteps
 pub mod Answered
 pub mod KboLaw
+pub mod OccurrenceSums
+pub mod Standing
+pub mod Telling

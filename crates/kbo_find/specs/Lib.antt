@@ -7,3 +7,6 @@ pub mod KboPlaces
 pub mod KboDepends
 pub mod KboLawful
 pub mod Laws
+pub mod Occurring
+pub mod Counted
+pub mod Balanced

@@ -16,6 +16,7 @@ ghost use Rattle.kbo_find.specs.Laws.{FindsKbo};
 use crate::space::KboSpace;
 use crate::table::order_of;
 use crate::tops::all_tops;
+use crate::weighing::balances;
 use assign_search::{Search, Stop, first_solution};
 use kbo_order::Kbo;
 use order_search::placing::SymbolPlaces;
@@ -112,6 +113,7 @@ fn search_orders<P: Stop>(
 {
     let tops = all_tops(alloc, arities, symbols)?;
     let places = SymbolPlaces::of(alloc, symbols)?;
+    let balances = balances(alloc, rules, pairs)?;
     let space = KboSpace {
         arities,
         symbols,
@@ -119,6 +121,7 @@ fn search_orders<P: Stop>(
         tops: &tops,
         rules,
         pairs,
+        balances: &balances,
     };
     match first_solution(alloc, &space, budget, stop) {
         Err(_) => Err(OutOfMemory),

@@ -8,8 +8,10 @@ ghost use Rattle.kbo_find.specs.KboSpace.{kbo_tops, weight_count};
 ghost use Rattle.kbo_find.specs.KboRow.{kbo_search};
 ghost use Rattle.kbo_find.specs.KboPlaces.{AreFew, asked_of, uses_by};
 ghost use Rattle.kbo_find.specs.KboLawful.{kbo_lawful};
+ghost use Rattle.kbo_find.specs.Balanced.{rule_of};
 
 use crate::assigned::Assigned;
+use crate::balance::Balance;
 use crate::comparing::falls;
 use crate::tops::{Top, top_at};
 use assign_search::{OutOfMemory, Space};
@@ -23,7 +25,7 @@ use trs_core::Rule;
 const RANKS: u32 = 8;
 
 /// The symbols, of which each has a slot for its weight and one for its rank, with their places;
-/// which are to be above which; and the rules and marked pairs that are to fall.
+/// which are to be above which; and the rules and marked pairs that are to fall, also as balances.
 #[derive(Drop)]
 pub(crate) struct KboSpace<'a> {
     pub(crate) arities: &'a [u8],
@@ -32,10 +34,12 @@ pub(crate) struct KboSpace<'a> {
     pub(crate) tops: &'a [Top],
     pub(crate) rules: &'a [Rule],
     pub(crate) pairs: &'a [Rule],
+    pub(crate) balances: &'a [Balance<'a>],
     pub(crate) ghost placed: { places.now ≡ symbols.now },
     pub(crate) ghost distinct: { AreDistinct symbols.now },
     pub(crate) ghost tops_are: { map asked_of tops.now
         ≡ kbo_tops (arity_with_mark arities.now) symbols.now },
+    pub(crate) ghost balanced: { map rule_of balances.now ≡ rules.now ++ pairs.now },
     pub(crate) ghost few_symbols: { 2 * length symbols.now < 2 ^ 32 },
     pub(crate) ghost few_constraints: { AreFew tops.now rules.now pairs.now },
 }
@@ -91,7 +95,7 @@ impl<'a> Space for KboSpace<'a> {
             Some(top) => Ok(order.is_above(top)),
             None => {
                 let number = c as usize - self.tops.len();
-                Ok(falls(&order, self.rules, self.pairs, number))
+                Ok(falls(&order, self.balances, self.rules.len(), number))
             }
         }
     }

@@ -6,6 +6,7 @@ use Rattle.order_search.specs.OrderSpace.{arity_with_mark}
 use Rattle.kbo_find.specs.KboSpace.{kbo_tops}
 use Rattle.kbo_find.specs.KboRow.{kbo_search, entries_of}
 use Rattle.kbo_find.specs.KboPlaces.{asked_of}
+use Rattle.kbo_find.specs.Balanced.{rule_of}
 use Rattle.kbo_find.proofs.Answered.{first_of}
 use Rattle.kbo_find.proofs.KboPuzzle.{few_tops}
 use Rattle.kbo_find.proofs.finding.search_orders.Goals as goal
@@ -22,6 +23,7 @@ invariant_of-space g c =
       placed = c.in_ok-places.ensures;
       distinct = c.requires.distinct;
       tops_are = are;
+      balanced = ap (map rule_of) c.deref-2.ensures.value ∙ c.in_ok-balances.ensures;
       few_symbols = omega (arith, c.requires.few_symbols);
       few_constraints = omega (arith, few, same, mapped, c.requires.few_falling);
     }

@@ -3,7 +3,7 @@ use Rattle.trs_defs.specs.System.{RewriteRule}
 use Rattle.trs_core.specs.View.{tree}
 use Rattle.kbo_find.specs.KnuthTest.{knuth_weak}
 use Rattle.kbo_find.proofs.KboTests.{weak_answer, weak_too_big}
-use Rattle.kbo_find.proofs.comparing.falls_weakly.Goals as goal
+use Rattle.kbo_find.proofs.comparing.is_weakly_above.Goals as goal
 
 pub returns-in-Ok : goal.returns-in-Ok
 returns-in-Ok g c =

@@ -1,0 +1,64 @@
+//! A rule with how often symbols and variables occur in its sides.
+ghost use Rattle.std.specs.Prelude.{◌≡◌, ◌↔◌, IfOk, IfSome, IsTrue};
+ghost use Rattle.order_theory.specs.KnuthBendix.{KeepsOccurrences};
+ghost use Rattle.kbo_find.specs.Counted.{AreCountsOf};
+ghost use Rattle.kbo_find.specs.KnuthTest.{knuth_weak, knuth_strict};
+
+use crate::counts::Counts;
+use crate::occurrences::{Occurrences, stands_as_often};
+use kbo_order::Weighting;
+use std::alloc::Global;
+use trs_core::{OutOfMemory, Rule};
+
+/// The greatest weight, 2^63 - 1.
+const MOST: u64 = i64::MAX as u64;
+
+/// A rule, how often symbols occur in its sides, and whether each variable occurs in the left side
+/// at least as often as in the right one.
+#[derive(Drop)]
+pub(crate) struct Balance<'a> {
+    pub(crate) rule: &'a Rule,
+    left: Counts,
+    right: Counts,
+    keeps: bool,
+    ghost left_counted: { AreCountsOf rule.now.left left },
+    ghost right_counted: { AreCountsOf rule.now.right right },
+    ghost kept: { IsTrue keeps ↔ KeepsOccurrences rule.now.left rule.now.right },
+}
+
+impl<'a> Balance<'a> {
+    pub(crate) fn of(alloc: Global, rule: &'a Rule) -> Result<Balance<'a>, OutOfMemory>
+        ensures { IfOk result (λ balance. balance.rule.now ≡ rule.now) }
+    {
+        let left = Occurrences::of(alloc, &rule.left)?;
+        let right = Occurrences::of(alloc, &rule.right)?;
+        Ok(Balance {
+            rule,
+            left: Counts::of(alloc, &left)?,
+            right: Counts::of(alloc, &right)?,
+            keeps: stands_as_often(&left.variables, &right.variables),
+        })
+    }
+
+    /// Whether the left side is greater, where the occurrences of variables or the weights tell.
+    /// Where they do, no side is the other. A side that weighs too much is not compared.
+    pub(crate) fn tells<W: Weighting>(&self, order: &W) -> Option<bool>
+        ensures strict { IfSome result (λ greater. greater ≡ knuth_strict (W.weights order.now)
+            (W.ranks order.now) self.now.rule.now.left self.now.rule.now.right) }
+        ensures weak { IfSome result (λ greater. greater ≡ knuth_weak (W.weights order.now)
+            (W.ranks order.now) self.now.rule.now.left self.now.rule.now.right) }
+    {
+        if !self.keeps {
+            return Some(false);
+        }
+        let left = self.left.weight(order);
+        let right = self.right.weight(order);
+        if left > MOST || right > MOST {
+            return Some(false);
+        }
+        if left == right {
+            return None;
+        }
+        Some(left > right)
+    }
+}
