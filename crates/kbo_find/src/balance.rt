@@ -8,10 +8,7 @@ use crate::counts::Counts;
 use crate::occurrences::{Occurrences, stands_as_often};
 use kbo_order::Weighting;
 use std::alloc::Global;
-use trs_core::{OutOfMemory, Rule};
-
-/// The greatest weight, 2^63 - 1.
-const MOST: u64 = i64::MAX as u64;
+use trs_core::{GREATEST_NUMBER, OutOfMemory, Rule};
 
 /// A rule, how often symbols occur in its sides, and whether each variable occurs in the left side
 /// at least as often as in the right one.
@@ -53,7 +50,7 @@ impl<'a> Balance<'a> {
         }
         let left = self.left.weight(order);
         let right = self.right.weight(order);
-        if left > MOST || right > MOST {
+        if left > GREATEST_NUMBER || right > GREATEST_NUMBER {
             return Some(false);
         }
         if left == right {
