@@ -21,7 +21,7 @@ returns-clause-strict g c =
     let left = c.weight-left.ensures ∙ ap (λ (n : ℕ). min n (2 ^ 64 - 1)) (sym (x.left_counted weights)) in
     let right = c.weight-right.ensures ∙ ap (λ (n : ℕ). min n (2 ^ 64 - 1)) (sym (x.right_counted weights)) in
     told_strict weights (g.W.Weighting.ranks c.args.order.now) x.rule.now.left x.rule.now.right c.weight-left.result c.weight-right.result left right
-    (omega (arith, c.if-left-gt-MOST.false)) (omega (arith, c.if-right-gt-MOST.false)) c.if-left-right.false (x.kept.0 c.if-not-self.false)
+    (omega (arith, c.if-left-gt-GREATEST_NUMBER.false)) (omega (arith, c.if-right-gt-GREATEST_NUMBER.false)) c.if-left-right.false (x.kept.0 c.if-not-self.false)
 
 pub returns-clause-weak : goal.returns-clause-weak
 returns-clause-weak g c =
@@ -30,4 +30,4 @@ returns-clause-weak g c =
     let left = c.weight-left.ensures ∙ ap (λ (n : ℕ). min n (2 ^ 64 - 1)) (sym (x.left_counted weights)) in
     let right = c.weight-right.ensures ∙ ap (λ (n : ℕ). min n (2 ^ 64 - 1)) (sym (x.right_counted weights)) in
     told_weak weights (g.W.Weighting.ranks c.args.order.now) x.rule.now.left x.rule.now.right c.weight-left.result c.weight-right.result left right
-    (omega (arith, c.if-left-gt-MOST.false)) (omega (arith, c.if-right-gt-MOST.false)) c.if-left-right.false (x.kept.0 c.if-not-self.false)
+    (omega (arith, c.if-left-gt-GREATEST_NUMBER.false)) (omega (arith, c.if-right-gt-GREATEST_NUMBER.false)) c.if-left-right.false (x.kept.0 c.if-not-self.false)
