@@ -1,13 +1,12 @@
 use Rattle.std.proofs.Common.{◌∙◌, arith}
-use Rattle.cert_step.specs.nonjoin.Apart.{AreApart}
 use Rattle.conf_find.specs.ForkRows.{PartsNot}
 use Rattle.join_find.proofs.Firsts.{read_in}
 use Rattle.conf_find.proofs.PeakList.{none_passed, one_more_passed, all_passed, behind_read}
-use Rattle.conf_find.proofs.fork.find_fork.Goals as goal
+use Rattle.conf_find.proofs.first_fork.first_fork.Goals as goal
 
 pub loop-peak-init : goal.loop-peak-init
 loop-peak-init g c = record {
-  passed = none_passed (PartsNot AreApart c.args.trs.now.rules) c.args.peaks.now;
+  passed = none_passed (PartsNot g.M.Mark.never_meet c.args.trs.now.rules) c.args.peaks.now;
   empty = c.new-pool.ensures;
   later = c.stopped.ensures.later;
   kept = c.stopped.ensures.kept;
@@ -21,13 +20,13 @@ fork_at-requires-clause-sides g c =
 pub returns-in-Some-clause-answer : goal.returns-in-Some-clause-answer
 returns-in-Some-clause-answer g c = (
   c.peak-item.result,
-  behind_read (PartsNot AreApart c.args.trs.now.rules) c.args.peaks.now c.loop-peak.peak-index c.peak-item.result c.loop-peak-test.true c.peak-item.is c.loop-peak.invariant.passed,
+  behind_read (PartsNot g.M.Mark.never_meet c.args.trs.now.rules) c.args.peaks.now c.loop-peak.peak-index c.peak-item.result c.loop-peak-test.true c.peak-item.is c.loop-peak.invariant.passed,
   rw c.in-Some.is at c.in_ok-found.ensures.fork,
 )
 
 pub loop-peak-preserved : goal.loop-peak-preserved
 loop-peak-preserved g c = record {
-  passed = one_more_passed (PartsNot AreApart c.args.trs.now.rules) c.args.peaks.now c.loop-peak.peak-index c.peak-item.result c.loop-peak-test.true c.peak-item.is
+  passed = one_more_passed (PartsNot g.M.Mark.never_meet c.args.trs.now.rules) c.args.peaks.now c.loop-peak.peak-index c.peak-item.result c.loop-peak-test.true c.peak-item.is
       (rw c.in-None.is at c.in_ok-found.ensures.fork) c.loop-peak.invariant.passed;
   empty = c.in_ok-found.ensures.released ∙ c.loop-peak.invariant.empty;
   later = omega (arith, c.loop-peak.invariant.later, c.stopped-in-loop-peak.ensures.later);
@@ -35,4 +34,4 @@ loop-peak-preserved g c = record {
 }
 
 pub returns-clause-answer : goal.returns-clause-answer
-returns-clause-answer g c = all_passed (PartsNot AreApart c.args.trs.now.rules) c.args.peaks.now c.loop-peak.peak-index c.loop-peak-test.false c.loop-peak.invariant.passed
+returns-clause-answer g c = all_passed (PartsNot g.M.Mark.never_meet c.args.trs.now.rules) c.args.peaks.now c.loop-peak.peak-index c.loop-peak-test.false c.loop-peak.invariant.passed

@@ -1,6 +1,6 @@
 use Rattle.conf_find.specs.ForkRows.{both_normal, not_both}
-use Rattle.conf_find.proofs.fork.test_of.Goals.{else-branch-via-then-branch+in_ok-is_normal-2+else-branch-2, else-branch-via-else-branch}
-use Rattle.conf_find.proofs.fork.test_of.Goals as goal
+use Rattle.conf_find.proofs.first_fork.test_of.Goals.{else-branch-via-then-branch+in_ok-is_normal-2+else-branch-2, else-branch-via-else-branch}
+use Rattle.conf_find.proofs.first_fork.test_of.Goals as goal
 
 pub returns-then-branch-2 : goal.returns-then-branch-2
 returns-then-branch-2 c = both_normal (c.in_ok-is_normal.ensures.normal c.if-branch.true, c.in_ok-is_normal-2.ensures.normal c.if-branch-2.true)
