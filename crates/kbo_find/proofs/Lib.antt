@@ -5,5 +5,4 @@ pub mod KboPuzzle
 pub mod ValueSteps
 pub mod TopSteps
 pub mod TableSteps
-pub mod Answered
 pub mod KboLaw
