@@ -9,11 +9,11 @@ ghost use Rattle.order_find.specs.SubtermSpace.{subterm_search};
 ghost use Rattle.order_find.specs.SubtermRow.{FindsSubterm, FailsSubterm, ArePlaces, places_of};
 
 use crate::subterm_space::SubtermSpace;
-use assign_search::{Search, Stop, first_solution};
+use assign_search::{Search, Stop};
 use order_search::placing::SymbolPlaces;
 use order_search::roots::roots;
 use order_search::taken::taken;
-use order_search::{DpPair, Pairs, Sides, placed_pairs_are_the_pairs};
+use order_search::{DpPair, Pairs, Readable, Sides, find_first, placed_pairs_are_the_pairs};
 use pair_theory::dependency_pairs_suffice;
 use std::alloc::Global;
 use trs_core::{OutOfMemory, Trs};
@@ -69,7 +69,6 @@ pub fn find_subterm_in<P: Stop>(
     ensures kept { P.kept stop.new ≡ P.kept stop.old }
 {
     let arities = trs.arities();
-    arities_are_bytes(arities);
     let _rules = trs.rules();
     placed_pairs_are_the_pairs();
     dependency_pairs_suffice();
@@ -87,7 +86,6 @@ fn search_places<P: Stop>(
     budget: u64,
     stop: &mut P,
 ) -> Result<Search<Vec<(u32, u8)>>, OutOfMemory>
-    requires bytes { (f n : ℕ) → slice_get arities.now f ≡ Some n → n < 256 }
     requires few_roots { length roots.now < 2 ^ 32 }
     requires few_pairs { length pairs.now + 1 < 2 ^ 32 }
     ensures answer { IfOk result (IsFinding
@@ -105,20 +103,26 @@ fn search_places<P: Stop>(
         slots: &slots,
         pairs,
     };
-    match first_solution(alloc, &space, budget, stop) {
-        Err(_) => Err(OutOfMemory),
-        Ok(Search::Found(values)) => Ok(Search::Found(places_of(alloc, roots, values)?)),
-        Ok(Search::NotThere) => Ok(Search::NotThere),
-        Ok(Search::Spent) => Ok(Search::Spent),
-        Ok(Search::Stopped) => Ok(Search::Stopped),
+    find_first(alloc, &space, budget, stop)
+}
+
+impl<'a> Readable for SubtermSpace<'a> {
+    type Found = Vec<(u32, u8)>;
+
+    ghost finds = { λ x budget places.
+        ArePlaces budget x.arities.now x.roots.now x.pairs.now places.items };
+
+    fn read(&self, alloc: Global, values: &[u32]) -> Result<Vec<(u32, u8)>, OutOfMemory> {
+        arities_are_bytes(self.arities);
+        places_of(alloc, self.roots, values)
     }
 }
 
 /// Each root with its place.
-fn places_of(alloc: Global, roots: &[u32], values: Vec<u32>) -> Result<Vec<(u32, u8)>, OutOfMemory>
-    requires each { length values.items ≡ length roots.now }
-    requires small { All (λ v. v < 255) values.items }
-    ensures { IfOk result (λ places. places.items ≡ places_of roots.now values.items) }
+fn places_of(alloc: Global, roots: &[u32], values: &[u32]) -> Result<Vec<(u32, u8)>, OutOfMemory>
+    requires each { length values.now ≡ length roots.now }
+    requires small { All (λ v. v < 255) values.now }
+    ensures { IfOk result (λ places. places.items ≡ places_of roots.now values.now) }
 {
     let mut places = Vec::with_capacity(alloc, roots.len())?;
     for (i, f) in roots.iter().enumerate() {

@@ -7,9 +7,6 @@ use Rattle.order_search.proofs.FewPairs.{few_taken, few_roots}
 use Rattle.order_find.proofs.Findings.{of_problem, found_of_problem}
 use Rattle.order_find.proofs.subterm.find_subterm_in.Goals as goal
 
-pub search_places-requires-clause-bytes : goal.search_places-requires-clause-bytes
-search_places-requires-clause-bytes g c = c.arities_are_bytes.ensures
-
 pub search_places-requires-clause-few_roots : goal.search_places-requires-clause-few_roots
 search_places-requires-clause-few_roots g c =
     let few = few_roots c.args.trs.now.arities c.rules-rules.ensures.limits.symbols (dependency_pairs c.args.trs.now.rules) (c.dependency_pairs_suffice.ensures.pairs c.args.trs.now c.rules-rules.ensures.valid)
