@@ -20,7 +20,7 @@ use Rattle.cert_step.specs.KboKind.{kbo_comparing}
 use Rattle.trs_core.specs.declared.memory.OutOfMemory.{OutOfMemory}
 use Rattle.cert_step.specs.dp_graph.GroupOrSingle.{GroupOrSingle, groups_of}
 use Rattle.cert_step.specs.dp_graph.Laws.{ComponentsPass}
-use Rattle.cert_step.specs.ProofStep.{ProofStep, IsWellMade}
+use Rattle.cert_step.specs.ProofStep.{ProofStep}
 use Rattle.cert_step.specs.GraphKind.{group_problems}
 use Rattle.strategies.specs.declared.strategy.Strategy.{Strategy}
 use Rattle.strategies.specs.declared.strategy.Strategy.TheVariants as strategy
@@ -28,7 +28,7 @@ use Rattle.strategies.specs.declared.outcome.Findings.{Findings}
 use Rattle.strategies.specs.Rows.{AreComponentsOf}
 use Rattle.strategies.specs.Conditions.{Finds, Fails, confluence_is_found, newman_confluence_is_found}
 use Rattle.strategies.specs.Truth.{AreTrueFindings}
-use Rattle.strategies.specs.Endings.{AreTrueIfFound, DoesApply}
+use Rattle.strategies.specs.Endings.{AreTrueIfFound, DoesApply, FindsStep}
 
 pub dp_applies : (system : System) → DoesApply system problem.sn step.dp
 dp_applies system = (problem.dp (numbers_from 0 (dependency_pairs system.rules)) ∷ [], goes_on tt _ (holds refl) returned)
@@ -66,19 +66,12 @@ module _ (system : System) (numbers : List ℕ) where
 
 -- ---- a step that is found
 
--- it is well-made and applies, as the tables see the system
-pub record IsReady (prepared system : System) (budget : ℕ) (s : Strategy) (p : ProofProblem) (st : ProofStep) : Type 0 where
-  pub finds : Finds system budget s p st
-  pub made : IsWellMade prepared st
-  pub applies : DoesApply prepared p st
-
-pub ready : (prepared system : System) (budget : ℕ) (s : Strategy) (p q : ProofProblem) (st : ProofStep) → prepared ≡ system → p ≡ q
-    → Finds system budget s q st → IsWellMade system st → DoesApply system q st → IsReady prepared system budget s p st
-ready prepared system budget s p q st same is finds made applies = record {
-  finds = subst (λ x. Finds system budget s x st) (sym is) finds;
-  made = subst (λ x. IsWellMade x st) (sym same) made;
-  applies = subst (λ x. DoesApply x p st) (sym same) (subst (λ x. DoesApply system x st) (sym is) applies);
-}
+-- the strategy finds the step for the same problem of the same system
+pub finds_for : (prepared system : System) (budget : ℕ) (s : Strategy) (p q : ProofProblem) (made st : ProofStep) → prepared ≡ system → p ≡ q → made ≡ st
+    → FindsStep system budget s q st → FindsStep prepared budget s p made
+finds_for prepared system budget s p q made st same is e h =
+    subst (λ x. FindsStep x budget s p made) (sym same)
+    (subst (λ x. FindsStep system budget s x made) (sym is) (subst (λ x. FindsStep system budget s q x) (sym e) h))
 
 -- findings that are true where the strategy finds the step are true
 pub found_for : (prepared system : System) (budget : ℕ) (s : Strategy) (p : ProofProblem) (st : ProofStep) (findings : Findings) → prepared ≡ system

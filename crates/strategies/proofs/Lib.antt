@@ -12,5 +12,6 @@ pub mod PathMade
 pub mod KnuthMade
 pub mod GraphMade
 pub mod Applying
+pub mod Answering
 pub mod TrueRows
 pub mod Shrinking

@@ -60,17 +60,7 @@ pub answers_for : (system : System) (budget : ℕ) (s t : Strategy) (p q : Proof
 answers_for system budget s t p q rose result same is h =
     subst (λ x. IfOk result (IsAnswer system budget x p rose)) (sym same) (subst (λ x. IfOk result (IsAnswer system budget t x rose)) (sym is) h)
 
-at_budget : (system : System) (budget : ℕ) (t : Strategy) (q : ProofProblem) (rose : Type 0) (result : Result Searched OutOfMemory)
-    → IfOk result (λ searched. (b : ℕ) → IsAnswer system b t q rose searched) → IfOk result (IsAnswer system budget t q rose)
-at_budget system budget t q rose (Ok searched) h = h budget
-at_budget system budget t q rose (Err fault) h = tt
-
-pub answers_peaks : (system : System) (budget : ℕ) (s t : Strategy) (p q : ProofProblem) (rose : Type 0) (result : Result Searched OutOfMemory) → s ≡ t → p ≡ q
-    → IfOk result (λ searched. (b : ℕ) → IsAnswer system b t q rose searched) → IfOk result (IsAnswer system budget s p rose)
-answers_peaks system budget s t p q rose result same is h =
-    answers_for system budget s t p q rose result same is (at_budget system budget t q rose result h)
-
--- the same, where it is never stopped
+-- what a strategy answers whose search is never stopped
 pub answers_always : (system : System) (budget : ℕ) (s t : Strategy) (p : ProofProblem) (rose : Type 0) (found : Result Findings OutOfMemory) (result : Result Searched OutOfMemory)
     → s ≡ t → EndsAs found result → IfOk found (λ findings. (b : ℕ) → AreTrueFindings system b t p findings) → IfOk result (IsAnswer system budget s p rose)
 answers_always system budget s t p rose (Ok findings) result same ends h =

@@ -1,17 +1,19 @@
 -- How the run of a strategy ends.
-use Rattle.std.specs.Prelude.{◌≡◌, ℕ, List, Result, Ok, Err, IsErr}
+use Rattle.std.specs.Prelude.{◌≡◌, ℕ, true, false, List, Result, Ok, Err, IsErr}
 use Rattle.trs_defs.specs.System.{System}
 use Rattle.trs_core.specs.declared.memory.OutOfMemory.{OutOfMemory}
 use Rattle.cert_step.specs.ProofProblem.{ProofProblem}
-use Rattle.cert_step.specs.ProofStep.{ProofStep}
+use Rattle.cert_step.specs.ProofStep.{ProofStep, IsWellMade}
 use Rattle.cert_step.specs.Applies.{Applies}
+use Rattle.assign_search.specs.declared.search.Search.{Search}
+use Rattle.order_find.specs.order_search.Outcome.{IsFinding}
 use Rattle.strategies.specs.declared.strategy.Strategy.{Strategy}
 use Rattle.strategies.specs.declared.outcome.Findings.{Findings}
 use Rattle.strategies.specs.declared.ran.Ran.{Ran}
 use Rattle.strategies.specs.declared.ran.Ran.TheVariants as ran
 use Rattle.strategies.specs.declared.searched.Searched.{Searched}
 use Rattle.strategies.specs.declared.searched.Searched.TheVariants as searched
-use Rattle.strategies.specs.Conditions.{Finds}
+use Rattle.strategies.specs.Conditions.{Finds, Fails}
 use Rattle.strategies.specs.Runs.{Run}
 use Rattle.strategies.specs.Truth.{found_of, IsTrueFound}
 
@@ -38,6 +40,18 @@ AreTrueIfFound system p step findings =
 -- the step applies to the problem
 abbrev pub DoesApply : System → ProofProblem → ProofStep → Type 0
 DoesApply system p step = (left : List ProofProblem) × Applies system p step left
+
+-- the strategy finds the step for the problem, and the step is well-made and applies
+pub record FindsStep (system : System) (budget : ℕ) (strategy : Strategy) (p : ProofProblem) (step : ProofStep) : Type 0 where
+  pub finds : Finds system budget strategy p step
+  pub made : IsWellMade system step
+  pub applies : DoesApply system p step
+
+-- what a search answers for the strategy: `finds` holds of what is found, and where nothing is found the strategy fails for the
+-- problem; `rose` says that the count of stops rose
+abbrev pub IsSearchFor : {A : Type 0} → System → ℕ → Strategy → ProofProblem → (A → Type 0) → Type 0 → Search A → Type 0
+IsSearchFor system budget strategy p finds rose search =
+    IsFinding finds (Fails system budget strategy p false) (Fails system budget strategy p true) rose search
 
 -- the search ended with these findings, unless memory ran out
 abbrev pub EndsAs : Result Findings OutOfMemory → Result Searched OutOfMemory → Type 0

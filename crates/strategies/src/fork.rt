@@ -1,49 +1,49 @@
 //! The strategy fork.
-ghost use Rattle.std.specs.Prelude.{◌≡◌, ◌<◌, ◌≤◌, ℕ, IfOk};
-ghost use Rattle.cert_step.specs.ProofProblem.{fork};
-ghost use Rattle.strategies.specs.Endings.{IsAnswer};
-ghost use Rattle.strategies.specs.Tables.{AreKnownPeaks};
-
-use crate::found::closing;
-use crate::peaks::KnownPeaks;
-use crate::searched::Searched;
+use crate::found::{closing, fork_step};
+use crate::peak_search::SearchOnPeaks;
 use crate::{Findings, Strategy};
 use assign_search::{Search, Stop};
-use cert_step::Step;
-use conf_find::{find_fork, found_forks_apply};
+use conf_find::{ForkFound, find_fork, found_forks_apply};
+use rewrite_core::Peak;
 use std::alloc::Global;
 use trs_core::{OutOfMemory, Trs};
 
-/// A fork to two terms that never meet, as their caps do not unify.
-pub(crate) fn search_fork<P: Stop>(
-    alloc: Global,
-    trs: &Trs,
-    peaks: &KnownPeaks,
-    stop: &mut P,
-) -> Result<Searched, OutOfMemory>
-    requires { AreKnownPeaks trs.now peaks.now }
-    ensures answer { IfOk result (λ searched. (budget : ℕ) → IsAnswer
-        trs.now budget Strategy.Fork fork (P.stops stop.old < P.stops stop.new) searched) }
-    ensures later { P.stops stop.old ≤ P.stops stop.new }
-    ensures kept { P.kept stop.new ≡ P.kept stop.old }
-{
-    let KnownPeaks::Listed(peaks) = peaks else {
-        return Ok(Searched::Ended(Findings::NotThere));
-    };
-    let _rules = trs.rules();
-    found_forks_apply();
-    match find_fork(alloc, trs, peaks, stop)? {
-        Search::Found(found) => {
-            let step = Step::Fork {
-                start: found.start,
-                left: found.left,
-                right: found.right,
-                test: found.test,
-            };
-            Ok(Searched::Ended(closing(alloc, step)))
-        }
-        Search::NotThere => Ok(Searched::Ended(Findings::NotThere)),
-        Search::Spent => unreachable!(),
-        Search::Stopped => Ok(Searched::Stopped),
+/// The search for a fork to two terms that never meet, as their caps do not unify.
+pub(crate) struct Forks;
+
+impl SearchOnPeaks for Forks {
+    ghost use Rattle.std.specs.Prelude.{[]};
+    ghost use Rattle.conf_find.specs.Fork.{fork_of};
+    ghost use Rattle.cert_step.specs.ProofProblem.{fork};
+    ghost use Rattle.strategies.specs.declared.strategy.Strategy.{Strategy};
+    ghost use Rattle.strategies.specs.Conditions.{fork_step, fork_is_not_there};
+    ghost use Rattle.strategies.specs.Rows.{peaks_pass_limit};
+    ghost use Rattle.strategies.specs.Runs.{found};
+
+    type Evidence = ForkFound;
+
+    ghost strategy = { Strategy.Fork };
+
+    ghost problem = { fork };
+
+    ghost answer = { λ it. found (fork_step (fork_of it)) [] };
+
+    fn find<P: Stop>(
+        alloc: Global,
+        trs: &Trs,
+        peaks: &[Peak],
+        _budget: u64,
+        stop: &mut P,
+    ) -> Result<Search<ForkFound>, OutOfMemory> {
+        let _rules = trs.rules();
+        found_forks_apply();
+        find_fork(alloc, trs, peaks, stop)
     }
+
+    fn findings(alloc: Global, found: ForkFound) -> Result<Findings, OutOfMemory> {
+        Ok(closing(alloc, fork_step(found)))
+    }
+
+    ghost fails_past_limit = { λ _ _ fault passed.
+        fork_is_not_there (peaks_pass_limit fault passed) };
 }

@@ -1,12 +1,15 @@
 ghost use Rattle.std.specs.Prelude.{◌≡◌, [], IfOk};
+ghost use Rattle.conf_find.specs.Fork.{fork_of};
 ghost use Rattle.cert_step.specs.ProofProblem.{problem_of, IsWellMadeProblem};
 ghost use Rattle.cert_step.specs.ProofStep.{step_of, IsWellMade};
+ghost use Rattle.strategies.specs.Conditions.{fork_step};
 ghost use Rattle.strategies.specs.Endings.{AreTrueIfFound, DoesApply};
 ghost use Rattle.strategies.specs.Runs.{found};
 ghost use Rattle.strategies.specs.Truth.{found_of};
 
 use crate::Findings;
 use cert_step::{Prepared, Problem, Step};
+use conf_find::ForkFound;
 use rewrite_core::CheckFault;
 use std::alloc::Global;
 use trs_core::OutOfMemory;
@@ -37,4 +40,16 @@ pub(crate) fn closing(alloc: Global, step: Step) -> Findings
     ensures { found_of result ≡ found (step_of step) [] }
 {
     Findings::Found(step, Vec::new(alloc))
+}
+
+/// The step by a fork.
+pub(crate) fn fork_step(fork: ForkFound) -> Step
+    ensures { step_of result ≡ fork_step (fork_of fork) }
+{
+    Step::Fork {
+        start: fork.start,
+        left: fork.left,
+        right: fork.right,
+        test: fork.test,
+    }
 }

@@ -1,47 +1,53 @@
 //! The strategy label.
-ghost use Rattle.std.specs.Prelude.{◌≡◌, ◌<◌, ◌≤◌, IfOk};
-ghost use Rattle.cert_step.specs.ProofProblem.{cr};
-ghost use Rattle.strategies.specs.Endings.{IsAnswer};
-ghost use Rattle.strategies.specs.Tables.{AreKnownPeaks};
-
 use crate::found::closing;
-use crate::peaks::KnownPeaks;
-use crate::searched::Searched;
+use crate::peak_search::SearchOnPeaks;
 use crate::{Findings, Strategy};
 use assign_search::{Search, Stop};
 use cert_step::Step;
-use conf_find::{find_label, found_labels_apply};
+use conf_find::{Labelled, find_label, found_labels_apply};
+use rewrite_core::Peak;
 use std::alloc::Global;
 use trs_core::{OutOfMemory, Trs};
 
-/// Critical peaks that are decreasing by ranks of rules.
-pub(crate) fn search_label<P: Stop>(
-    alloc: Global,
-    trs: &Trs,
-    peaks: &KnownPeaks,
-    budget: u64,
-    stop: &mut P,
-) -> Result<Searched, OutOfMemory>
-    requires { AreKnownPeaks trs.now peaks.now }
-    ensures answer { IfOk result
-        (IsAnswer trs.now budget Strategy.Label cr (P.stops stop.old < P.stops stop.new)) }
-    ensures later { P.stops stop.old ≤ P.stops stop.new }
-    ensures kept { P.kept stop.new ≡ P.kept stop.old }
-{
-    let KnownPeaks::Listed(peaks) = peaks else {
-        return Ok(Searched::Ended(Findings::NotThere));
-    };
-    found_labels_apply();
-    match find_label(alloc, trs, peaks, budget, stop)? {
-        Search::Found(found) => {
-            let step = Step::Label {
-                ranks: found.ranks,
-                joins: found.joins,
-            };
-            Ok(Searched::Ended(closing(alloc, step)))
-        }
-        Search::NotThere => Ok(Searched::Ended(Findings::NotThere)),
-        Search::Spent => Ok(Searched::Ended(Findings::Spent)),
-        Search::Stopped => Ok(Searched::Stopped),
+/// The search for ranks of rules by which the critical peaks are decreasing.
+pub(crate) struct Ranks;
+
+impl SearchOnPeaks for Ranks {
+    ghost use Rattle.std.specs.Prelude.{[]};
+    ghost use Rattle.cert_step.specs.ProofProblem.{cr};
+    ghost use Rattle.cert_step.specs.ProofStep.{label};
+    ghost use Rattle.strategies.specs.declared.strategy.Strategy.{Strategy};
+    ghost use Rattle.strategies.specs.Conditions.{label_is_not_there};
+    ghost use Rattle.strategies.specs.Rows.{peaks_pass_limit};
+    ghost use Rattle.strategies.specs.Runs.{found};
+
+    type Evidence = Labelled;
+
+    ghost strategy = { Strategy.Label };
+
+    ghost problem = { cr };
+
+    ghost answer = { λ it. found (label it.ranks.items it.joins.items) [] };
+
+    fn find<P: Stop>(
+        alloc: Global,
+        trs: &Trs,
+        peaks: &[Peak],
+        budget: u64,
+        stop: &mut P,
+    ) -> Result<Search<Labelled>, OutOfMemory> {
+        found_labels_apply();
+        find_label(alloc, trs, peaks, budget, stop)
     }
+
+    fn findings(alloc: Global, found: Labelled) -> Result<Findings, OutOfMemory> {
+        let step = Step::Label {
+            ranks: found.ranks,
+            joins: found.joins,
+        };
+        Ok(closing(alloc, step))
+    }
+
+    ghost fails_past_limit = { λ _ _ fault passed.
+        label_is_not_there (peaks_pass_limit fault passed) };
 }

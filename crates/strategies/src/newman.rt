@@ -1,44 +1,51 @@
 //! The strategy newman.
-ghost use Rattle.std.specs.Prelude.{◌≡◌, ◌<◌, ◌≤◌, ℕ, IfOk};
-ghost use Rattle.cert_step.specs.ProofProblem.{cr_newman};
-ghost use Rattle.strategies.specs.Endings.{IsAnswer};
-ghost use Rattle.strategies.specs.Tables.{AreKnownPeaks};
-
-use crate::peaks::KnownPeaks;
-use crate::searched::Searched;
+use crate::peak_search::SearchOnPeaks;
 use crate::{Findings, Strategy};
 use assign_search::{Search, Stop};
-use cert_step::{Problem, Step};
+use cert_step::{Join, Problem, Step};
 use conf_find::{find_newman, found_joins_join};
+use rewrite_core::Peak;
 use std::alloc::Global;
 use trs_core::{OutOfMemory, Trs};
 
-/// Critical peaks whose sides reach one term. That the system terminates is left to show.
-pub(crate) fn search_newman<P: Stop>(
-    alloc: Global,
-    trs: &Trs,
-    peaks: &KnownPeaks,
-    stop: &mut P,
-) -> Result<Searched, OutOfMemory>
-    requires { AreKnownPeaks trs.now peaks.now }
-    ensures answer { IfOk result (λ searched. (budget : ℕ) → IsAnswer
-        trs.now budget Strategy.Newman cr_newman (P.stops stop.old < P.stops stop.new) searched) }
-    ensures later { P.stops stop.old ≤ P.stops stop.new }
-    ensures kept { P.kept stop.new ≡ P.kept stop.old }
-{
-    let KnownPeaks::Listed(peaks) = peaks else {
-        return Ok(Searched::Ended(Findings::NotThere));
-    };
-    let _rules = trs.rules();
-    found_joins_join();
-    match find_newman(alloc, trs, peaks, stop)? {
-        Search::Found(found) => {
-            let mut left = Vec::new(alloc);
-            left.push(Problem::Sn)?;
-            Ok(Searched::Ended(Findings::Found(Step::Newman(found), left)))
-        }
-        Search::NotThere => Ok(Searched::Ended(Findings::NotThere)),
-        Search::Spent => unreachable!(),
-        Search::Stopped => Ok(Searched::Stopped),
+/// The search for joins of the critical peaks. That the system terminates is left to show.
+pub(crate) struct Joins;
+
+impl SearchOnPeaks for Joins {
+    ghost use Rattle.std.specs.Prelude.{[], ◌∷◌};
+    ghost use Rattle.cert_step.specs.ProofProblem.{cr_newman, sn};
+    ghost use Rattle.cert_step.specs.ProofStep.{newman};
+    ghost use Rattle.strategies.specs.declared.strategy.Strategy.{Strategy};
+    ghost use Rattle.strategies.specs.Conditions.{newman_is_not_there};
+    ghost use Rattle.strategies.specs.Rows.{peaks_pass_limit};
+    ghost use Rattle.strategies.specs.Runs.{found};
+
+    type Evidence = Vec<Join>;
+
+    ghost strategy = { Strategy.Newman };
+
+    ghost problem = { cr_newman };
+
+    ghost answer = { λ it. found (newman it.items) (sn ∷ []) };
+
+    fn find<P: Stop>(
+        alloc: Global,
+        trs: &Trs,
+        peaks: &[Peak],
+        _budget: u64,
+        stop: &mut P,
+    ) -> Result<Search<Vec<Join>>, OutOfMemory> {
+        let _rules = trs.rules();
+        found_joins_join();
+        find_newman(alloc, trs, peaks, stop)
     }
+
+    fn findings(alloc: Global, found: Vec<Join>) -> Result<Findings, OutOfMemory> {
+        let mut left = Vec::new(alloc);
+        left.push(Problem::Sn)?;
+        Ok(Findings::Found(Step::Newman(found), left))
+    }
+
+    ghost fails_past_limit = { λ _ _ fault passed.
+        newman_is_not_there (peaks_pass_limit fault passed) };
 }

@@ -7,14 +7,15 @@ ghost use Rattle.strategies.specs.Kinds.{strategies_for, IsOnPeaks};
 ghost use Rattle.strategies.specs.Tables.{AreKnownPeaks};
 
 use crate::Strategy;
-use crate::fork::search_fork;
-use crate::label::search_label;
-use crate::newman::search_newman;
-use crate::parallel::search_parallel;
+use crate::fork::Forks;
+use crate::label::Ranks;
+use crate::newman::Joins;
+use crate::parallel::ParallelSteps;
+use crate::peak_search::search_among;
 use crate::peaks::{KnownPeaks, known_peaks};
 use crate::searched::Searched;
-use crate::split::search_split;
-use crate::strong::search_strong;
+use crate::split::Splits;
+use crate::strong::StrongJoins;
 use assign_search::Stop;
 use cert_step::Problem;
 use std::alloc::Global;
@@ -66,12 +67,12 @@ fn search_peaks<P: Stop>(
     ensures kept { P.kept stop.new ≡ P.kept stop.old }
 {
     match strategy {
-        Strategy::Parallel => search_parallel(alloc, trs, peaks, stop),
-        Strategy::Strong => search_strong(alloc, trs, peaks, stop),
-        Strategy::Label => search_label(alloc, trs, peaks, budget, stop),
-        Strategy::Newman => search_newman(alloc, trs, peaks, stop),
-        Strategy::Fork => search_fork(alloc, trs, peaks, stop),
-        Strategy::Split => search_split(alloc, trs, peaks, stop),
+        Strategy::Parallel => search_among::<ParallelSteps, P>(alloc, trs, peaks, budget, stop),
+        Strategy::Strong => search_among::<StrongJoins, P>(alloc, trs, peaks, budget, stop),
+        Strategy::Label => search_among::<Ranks, P>(alloc, trs, peaks, budget, stop),
+        Strategy::Newman => search_among::<Joins, P>(alloc, trs, peaks, budget, stop),
+        Strategy::Fork => search_among::<Forks, P>(alloc, trs, peaks, budget, stop),
+        Strategy::Split => search_among::<Splits, P>(alloc, trs, peaks, budget, stop),
         _ => unreachable!(),
     }
 }

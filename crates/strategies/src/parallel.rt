@@ -1,44 +1,51 @@
 //! The strategy parallel.
-ghost use Rattle.std.specs.Prelude.{◌≡◌, ◌<◌, ◌≤◌, ℕ, IfOk};
-ghost use Rattle.cert_step.specs.ProofProblem.{cr};
-ghost use Rattle.strategies.specs.Endings.{IsAnswer};
-ghost use Rattle.strategies.specs.Tables.{AreKnownPeaks};
-
 use crate::found::closing;
-use crate::peaks::KnownPeaks;
-use crate::searched::Searched;
+use crate::peak_search::SearchOnPeaks;
 use crate::{Findings, Strategy};
 use assign_search::{Search, Stop};
 use cert_step::Step;
 use conf_find::{find_parallel, found_steps_close};
+use rewrite_core::{PathStep, Peak};
 use std::alloc::Global;
 use trs_core::{OutOfMemory, Trs};
 
-/// Critical peaks that are closed by parallel steps.
-pub(crate) fn search_parallel<P: Stop>(
-    alloc: Global,
-    trs: &Trs,
-    peaks: &KnownPeaks,
-    stop: &mut P,
-) -> Result<Searched, OutOfMemory>
-    requires { AreKnownPeaks trs.now peaks.now }
-    ensures answer { IfOk result (λ searched. (budget : ℕ) → IsAnswer
-        trs.now budget Strategy.Parallel cr (P.stops stop.old < P.stops stop.new) searched) }
-    ensures later { P.stops stop.old ≤ P.stops stop.new }
-    ensures kept { P.kept stop.new ≡ P.kept stop.old }
-{
-    let KnownPeaks::Listed(peaks) = peaks else {
-        return Ok(Searched::Ended(Findings::NotThere));
-    };
-    let _rules = trs.rules();
-    found_steps_close();
-    match find_parallel(alloc, trs, peaks, stop)? {
-        Search::Found(found) => {
-            let step = Step::Parallel(found);
-            Ok(Searched::Ended(closing(alloc, step)))
-        }
-        Search::NotThere => Ok(Searched::Ended(Findings::NotThere)),
-        Search::Spent => unreachable!(),
-        Search::Stopped => Ok(Searched::Stopped),
+/// The search for parallel steps that close the critical peaks.
+pub(crate) struct ParallelSteps;
+
+impl SearchOnPeaks for ParallelSteps {
+    ghost use Rattle.std.specs.Prelude.{[]};
+    ghost use Rattle.cert_step.specs.closed_pairs.ParallelClosed.{paths_of};
+    ghost use Rattle.cert_step.specs.ProofProblem.{cr};
+    ghost use Rattle.cert_step.specs.ProofStep.{parallel};
+    ghost use Rattle.strategies.specs.declared.strategy.Strategy.{Strategy};
+    ghost use Rattle.strategies.specs.Conditions.{parallel_is_not_there};
+    ghost use Rattle.strategies.specs.Rows.{peaks_pass_limit};
+    ghost use Rattle.strategies.specs.Runs.{found};
+
+    type Evidence = Vec<Vec<PathStep>>;
+
+    ghost strategy = { Strategy.Parallel };
+
+    ghost problem = { cr };
+
+    ghost answer = { λ it. found (parallel (paths_of it.items)) [] };
+
+    fn find<P: Stop>(
+        alloc: Global,
+        trs: &Trs,
+        peaks: &[Peak],
+        _budget: u64,
+        stop: &mut P,
+    ) -> Result<Search<Vec<Vec<PathStep>>>, OutOfMemory> {
+        let _rules = trs.rules();
+        found_steps_close();
+        find_parallel(alloc, trs, peaks, stop)
     }
+
+    fn findings(alloc: Global, found: Vec<Vec<PathStep>>) -> Result<Findings, OutOfMemory> {
+        Ok(closing(alloc, Step::Parallel(found)))
+    }
+
+    ghost fails_past_limit = { λ _ _ fault passed.
+        parallel_is_not_there (peaks_pass_limit fault passed) };
 }

@@ -7,16 +7,17 @@ ghost use Rattle.strategies.specs.Kinds.{strategies_for};
 use crate::confluence::search_confluence;
 use crate::dp::search_dp;
 use crate::graph::search_graph;
-use crate::kbo::search_kbo;
+use crate::kbo::KnuthBendixOrders;
 use crate::loops::search_loop;
-use crate::lpo::search_lpo;
+use crate::lpo::PathOrders;
 use crate::on_peaks::search_on_peaks;
-use crate::poly::search_poly;
+use crate::pair_search::search_on_pairs;
+use crate::poly::Interpretations;
 use crate::searched::{Searched, ending};
 use crate::searcher::Searcher;
-use crate::subterm::search_subterm;
+use crate::subterm::Projections;
 use crate::tables::Tables;
-use crate::usable::search_usable;
+use crate::usable::UsableInterpretations;
 use crate::{Limits, Ran, Strategy};
 use assign_search::Stop;
 use cert_step::{Prepared, Problem};
@@ -74,11 +75,27 @@ pub(crate) fn search<P: Stop>(
     match strategy {
         Strategy::Dp => ending(search_dp(alloc, trs, prepared, problem)),
         Strategy::Graph => ending(search_graph(alloc, trs, tables.graph(), prepared, problem)),
-        Strategy::Subterm => search_subterm(alloc, trs, pairs, prepared, problem, budget, stop),
-        Strategy::Poly => search_poly(alloc, trs, pairs, prepared, problem, budget, stop),
-        Strategy::Lpo => search_lpo(alloc, trs, pairs, prepared, problem, budget, stop),
-        Strategy::Kbo => search_kbo(alloc, trs, pairs, prepared, problem, budget, stop),
-        Strategy::Usable => search_usable(alloc, trs, pairs, prepared, problem, budget, stop),
+        Strategy::Subterm => {
+            search_on_pairs::<Projections, P>(alloc, trs, pairs, prepared, problem, budget, stop)
+        }
+        Strategy::Poly => {
+            search_on_pairs::<Interpretations, P>(
+                alloc, trs, pairs, prepared, problem, budget, stop,
+            )
+        }
+        Strategy::Lpo => {
+            search_on_pairs::<PathOrders, P>(alloc, trs, pairs, prepared, problem, budget, stop)
+        }
+        Strategy::Kbo => {
+            search_on_pairs::<KnuthBendixOrders, P>(
+                alloc, trs, pairs, prepared, problem, budget, stop,
+            )
+        }
+        Strategy::Usable => {
+            search_on_pairs::<UsableInterpretations, P>(
+                alloc, trs, pairs, prepared, problem, budget, stop,
+            )
+        }
         Strategy::Loop => search_loop(alloc, trs, budget, stop),
         Strategy::Confluence => ending(search_confluence(alloc, trs, prepared, problem)),
         _ => search_on_peaks(alloc, trs, tables.peaks(), problem, strategy, budget, stop),

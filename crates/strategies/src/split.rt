@@ -1,49 +1,49 @@
 //! The strategy split.
-ghost use Rattle.std.specs.Prelude.{◌≡◌, ◌<◌, ◌≤◌, ℕ, IfOk};
-ghost use Rattle.cert_step.specs.ProofProblem.{split};
-ghost use Rattle.strategies.specs.Endings.{IsAnswer};
-ghost use Rattle.strategies.specs.Tables.{AreKnownPeaks};
-
-use crate::found::closing;
-use crate::peaks::KnownPeaks;
-use crate::searched::Searched;
+use crate::found::{closing, fork_step};
+use crate::peak_search::SearchOnPeaks;
 use crate::{Findings, Strategy};
 use assign_search::{Search, Stop};
-use cert_step::Step;
-use conf_find::{find_split, found_splits_apply};
+use conf_find::{ForkFound, find_split, found_splits_apply};
+use rewrite_core::Peak;
 use std::alloc::Global;
 use trs_core::{OutOfMemory, Trs};
 
-/// A fork to two different normal forms.
-pub(crate) fn search_split<P: Stop>(
-    alloc: Global,
-    trs: &Trs,
-    peaks: &KnownPeaks,
-    stop: &mut P,
-) -> Result<Searched, OutOfMemory>
-    requires { AreKnownPeaks trs.now peaks.now }
-    ensures answer { IfOk result (λ searched. (budget : ℕ) → IsAnswer
-        trs.now budget Strategy.Split split (P.stops stop.old < P.stops stop.new) searched) }
-    ensures later { P.stops stop.old ≤ P.stops stop.new }
-    ensures kept { P.kept stop.new ≡ P.kept stop.old }
-{
-    let KnownPeaks::Listed(peaks) = peaks else {
-        return Ok(Searched::Ended(Findings::NotThere));
-    };
-    let _rules = trs.rules();
-    found_splits_apply();
-    match find_split(alloc, trs, peaks, stop)? {
-        Search::Found(found) => {
-            let step = Step::Fork {
-                start: found.start,
-                left: found.left,
-                right: found.right,
-                test: found.test,
-            };
-            Ok(Searched::Ended(closing(alloc, step)))
-        }
-        Search::NotThere => Ok(Searched::Ended(Findings::NotThere)),
-        Search::Spent => unreachable!(),
-        Search::Stopped => Ok(Searched::Stopped),
+/// The search for a fork to two different normal forms.
+pub(crate) struct Splits;
+
+impl SearchOnPeaks for Splits {
+    ghost use Rattle.std.specs.Prelude.{[]};
+    ghost use Rattle.conf_find.specs.Fork.{fork_of};
+    ghost use Rattle.cert_step.specs.ProofProblem.{split};
+    ghost use Rattle.strategies.specs.declared.strategy.Strategy.{Strategy};
+    ghost use Rattle.strategies.specs.Conditions.{fork_step, split_is_not_there};
+    ghost use Rattle.strategies.specs.Rows.{peaks_pass_limit};
+    ghost use Rattle.strategies.specs.Runs.{found};
+
+    type Evidence = ForkFound;
+
+    ghost strategy = { Strategy.Split };
+
+    ghost problem = { split };
+
+    ghost answer = { λ it. found (fork_step (fork_of it)) [] };
+
+    fn find<P: Stop>(
+        alloc: Global,
+        trs: &Trs,
+        peaks: &[Peak],
+        _budget: u64,
+        stop: &mut P,
+    ) -> Result<Search<ForkFound>, OutOfMemory> {
+        let _rules = trs.rules();
+        found_splits_apply();
+        find_split(alloc, trs, peaks, stop)
     }
+
+    fn findings(alloc: Global, found: ForkFound) -> Result<Findings, OutOfMemory> {
+        Ok(closing(alloc, fork_step(found)))
+    }
+
+    ghost fails_past_limit = { λ _ _ fault passed.
+        split_is_not_there (peaks_pass_limit fault passed) };
 }

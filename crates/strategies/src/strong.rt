@@ -1,44 +1,50 @@
 //! The strategy strong.
-ghost use Rattle.std.specs.Prelude.{◌≡◌, ◌<◌, ◌≤◌, ℕ, IfOk};
-ghost use Rattle.cert_step.specs.ProofProblem.{cr};
-ghost use Rattle.strategies.specs.Endings.{IsAnswer};
-ghost use Rattle.strategies.specs.Tables.{AreKnownPeaks};
-
 use crate::found::closing;
-use crate::peaks::KnownPeaks;
-use crate::searched::Searched;
+use crate::peak_search::SearchOnPeaks;
 use crate::{Findings, Strategy};
 use assign_search::{Search, Stop};
-use cert_step::Step;
+use cert_step::{Four, Step};
 use conf_find::{find_strong, found_fours_join};
+use rewrite_core::Peak;
 use std::alloc::Global;
 use trs_core::{OutOfMemory, Trs};
 
-/// Critical peaks that are joined strongly.
-pub(crate) fn search_strong<P: Stop>(
-    alloc: Global,
-    trs: &Trs,
-    peaks: &KnownPeaks,
-    stop: &mut P,
-) -> Result<Searched, OutOfMemory>
-    requires { AreKnownPeaks trs.now peaks.now }
-    ensures answer { IfOk result (λ searched. (budget : ℕ) → IsAnswer
-        trs.now budget Strategy.Strong cr (P.stops stop.old < P.stops stop.new) searched) }
-    ensures later { P.stops stop.old ≤ P.stops stop.new }
-    ensures kept { P.kept stop.new ≡ P.kept stop.old }
-{
-    let KnownPeaks::Listed(peaks) = peaks else {
-        return Ok(Searched::Ended(Findings::NotThere));
-    };
-    let _rules = trs.rules();
-    found_fours_join();
-    match find_strong(alloc, trs, peaks, stop)? {
-        Search::Found(found) => {
-            let step = Step::Strong(found);
-            Ok(Searched::Ended(closing(alloc, step)))
-        }
-        Search::NotThere => Ok(Searched::Ended(Findings::NotThere)),
-        Search::Spent => unreachable!(),
-        Search::Stopped => Ok(Searched::Stopped),
+/// The search for joins that close the critical peaks strongly.
+pub(crate) struct StrongJoins;
+
+impl SearchOnPeaks for StrongJoins {
+    ghost use Rattle.std.specs.Prelude.{[]};
+    ghost use Rattle.cert_step.specs.ProofProblem.{cr};
+    ghost use Rattle.cert_step.specs.ProofStep.{strong};
+    ghost use Rattle.strategies.specs.declared.strategy.Strategy.{Strategy};
+    ghost use Rattle.strategies.specs.Conditions.{strong_is_not_there};
+    ghost use Rattle.strategies.specs.Rows.{peaks_pass_limit};
+    ghost use Rattle.strategies.specs.Runs.{found};
+
+    type Evidence = Vec<Four>;
+
+    ghost strategy = { Strategy.Strong };
+
+    ghost problem = { cr };
+
+    ghost answer = { λ it. found (strong it.items) [] };
+
+    fn find<P: Stop>(
+        alloc: Global,
+        trs: &Trs,
+        peaks: &[Peak],
+        _budget: u64,
+        stop: &mut P,
+    ) -> Result<Search<Vec<Four>>, OutOfMemory> {
+        let _rules = trs.rules();
+        found_fours_join();
+        find_strong(alloc, trs, peaks, stop)
     }
+
+    fn findings(alloc: Global, found: Vec<Four>) -> Result<Findings, OutOfMemory> {
+        Ok(closing(alloc, Step::Strong(found)))
+    }
+
+    ghost fails_past_limit = { λ _ _ fault passed.
+        strong_is_not_there (peaks_pass_limit fault passed) };
 }

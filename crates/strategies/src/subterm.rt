@@ -1,52 +1,38 @@
 //! The strategy subterm.
-ghost use Rattle.std.specs.Prelude.{◌≡◌, ◌<◌, ◌≤◌, IfOk, IsTrue};
-ghost use Rattle.pair_theory.specs.DependencyPair.{dependency_pairs};
-ghost use Rattle.cert_step.specs.OnPairs.{for_pairs};
-ghost use Rattle.cert_step.specs.ProofProblem.{problem_of, IsWellMadeProblem};
-ghost use Rattle.strategies.specs.Endings.{IsAnswer};
-
-use crate::found::leaving;
-use crate::searched::Searched;
-use crate::{Findings, Strategy};
+use crate::pair_search::SearchOnPairs;
 use assign_search::{Search, Stop};
-use cert_step::{Pairs, Prepared, Problem, Step};
+use cert_step::{Pairs, Step};
 use order_find::{find_subterm_in, found_places_apply};
 use std::alloc::Global;
 use trs_core::{OutOfMemory, Trs};
 
-/// A projection by which the subterm criterion removes pairs.
-pub(crate) fn search_subterm<P: Stop>(
-    alloc: Global,
-    trs: &Trs,
-    pairs: &Pairs,
-    prepared: &mut Prepared,
-    problem: &Problem,
-    budget: u64,
-    stop: &mut P,
-) -> Result<Searched, OutOfMemory>
-    requires pairs { pairs.now ≡ dependency_pairs trs.now.rules }
-    requires prepared { prepared.old ≡ trs.now }
-    requires on_pairs { IsTrue (for_pairs (problem_of problem.now)) }
-    requires well_made { IsWellMadeProblem trs.now (problem_of problem.now) }
-    ensures answer { IfOk result (IsAnswer trs.now budget Strategy.Subterm (problem_of problem.now)
-        (P.stops stop.old < P.stops stop.new)) }
-    ensures prepared { prepared.new ≡ trs.now }
-    ensures later { P.stops stop.old ≤ P.stops stop.new }
-    ensures kept { P.kept stop.new ≡ P.kept stop.old }
-{
-    let Problem::Dp(numbers) = problem else {
-        unreachable!()
-    };
-    let _rules = trs.rules();
-    found_places_apply();
-    match find_subterm_in(alloc, trs, pairs, numbers, budget, stop)? {
-        Search::Found(found) => {
-            let step = Step::Subterm(found);
-            let findings = leaving(alloc, prepared, problem, step)?;
-            Ok(Searched::Ended(findings))
-        }
-        Search::NotThere => Ok(Searched::Ended(Findings::NotThere)),
-        Search::Spent => Ok(Searched::Ended(Findings::Spent)),
-        Search::Stopped => Ok(Searched::Stopped),
+/// The search for a projection by which the subterm criterion removes pairs.
+pub(crate) struct Projections;
+
+impl SearchOnPairs for Projections {
+    ghost use Rattle.cert_step.specs.ProofStep.{subterm};
+    ghost use Rattle.strategies.specs.declared.strategy.Strategy.{Strategy};
+
+    type Found = Vec<(u32, u8)>;
+
+    ghost strategy = { Strategy.Subterm };
+
+    ghost step = { λ found. subterm found.items };
+
+    fn find<P: Stop>(
+        alloc: Global,
+        trs: &Trs,
+        pairs: &Pairs,
+        numbers: &[u32],
+        budget: u64,
+        stop: &mut P,
+    ) -> Result<Search<Vec<(u32, u8)>>, OutOfMemory> {
+        let _rules = trs.rules();
+        found_places_apply();
+        find_subterm_in(alloc, trs, pairs, numbers, budget, stop)
+    }
+
+    fn into_step(found: Vec<(u32, u8)>) -> Step {
+        Step::Subterm(found)
     }
 }

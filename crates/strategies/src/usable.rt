@@ -1,52 +1,38 @@
 //! The strategy usable.
-ghost use Rattle.std.specs.Prelude.{◌≡◌, ◌<◌, ◌≤◌, IfOk, IsTrue};
-ghost use Rattle.pair_theory.specs.DependencyPair.{dependency_pairs};
-ghost use Rattle.cert_step.specs.OnPairs.{for_pairs};
-ghost use Rattle.cert_step.specs.ProofProblem.{problem_of, IsWellMadeProblem};
-ghost use Rattle.strategies.specs.Endings.{IsAnswer};
-
-use crate::found::leaving;
-use crate::searched::Searched;
-use crate::{Findings, Strategy};
+use crate::pair_search::SearchOnPairs;
 use assign_search::{Search, Stop};
-use cert_step::{Pairs, Prepared, Problem, Step};
+use cert_step::{LinTable, Pairs, Step};
 use order_find::{find_usable_in, found_usable_interpretations_apply};
 use std::alloc::Global;
 use trs_core::{OutOfMemory, Trs};
 
-/// A linear interpretation that makes the usable rules weak and removes pairs.
-pub(crate) fn search_usable<P: Stop>(
-    alloc: Global,
-    trs: &Trs,
-    pairs: &Pairs,
-    prepared: &mut Prepared,
-    problem: &Problem,
-    budget: u64,
-    stop: &mut P,
-) -> Result<Searched, OutOfMemory>
-    requires pairs { pairs.now ≡ dependency_pairs trs.now.rules }
-    requires prepared { prepared.old ≡ trs.now }
-    requires on_pairs { IsTrue (for_pairs (problem_of problem.now)) }
-    requires well_made { IsWellMadeProblem trs.now (problem_of problem.now) }
-    ensures answer { IfOk result (IsAnswer trs.now budget Strategy.Usable (problem_of problem.now)
-        (P.stops stop.old < P.stops stop.new)) }
-    ensures prepared { prepared.new ≡ trs.now }
-    ensures later { P.stops stop.old ≤ P.stops stop.new }
-    ensures kept { P.kept stop.new ≡ P.kept stop.old }
-{
-    let Problem::Dp(numbers) = problem else {
-        unreachable!()
-    };
-    let _rules = trs.rules();
-    found_usable_interpretations_apply();
-    match find_usable_in(alloc, trs, pairs, numbers, budget, stop)? {
-        Search::Found(found) => {
-            let step = Step::UsablePoly(found);
-            let findings = leaving(alloc, prepared, problem, step)?;
-            Ok(Searched::Ended(findings))
-        }
-        Search::NotThere => Ok(Searched::Ended(Findings::NotThere)),
-        Search::Spent => Ok(Searched::Ended(Findings::Spent)),
-        Search::Stopped => Ok(Searched::Stopped),
+/// The search for a linear interpretation that makes the usable rules weak and removes pairs.
+pub(crate) struct UsableInterpretations;
+
+impl SearchOnPairs for UsableInterpretations {
+    ghost use Rattle.cert_step.specs.ProofStep.{usable_poly};
+    ghost use Rattle.strategies.specs.declared.strategy.Strategy.{Strategy};
+
+    type Found = LinTable;
+
+    ghost strategy = { Strategy.Usable };
+
+    ghost step = { usable_poly };
+
+    fn find<P: Stop>(
+        alloc: Global,
+        trs: &Trs,
+        pairs: &Pairs,
+        numbers: &[u32],
+        budget: u64,
+        stop: &mut P,
+    ) -> Result<Search<LinTable>, OutOfMemory> {
+        let _rules = trs.rules();
+        found_usable_interpretations_apply();
+        find_usable_in(alloc, trs, pairs, numbers, budget, stop)
+    }
+
+    fn into_step(found: LinTable) -> Step {
+        Step::UsablePoly(found)
     }
 }

@@ -1,5 +1,5 @@
 use Rattle.std.specs.Prelude.{◌≡◌, [], ◌∷◌, false}
-use Rattle.std.proofs.Common.{sym, ap, subst, ◌∙◌}
+use Rattle.std.proofs.Common.{refl, sym, ap, subst, ◌∙◌}
 use Rattle.pair_theory.specs.DependencyPair.{dependency_pairs}
 use Rattle.cert_step.specs.dp_graph.GroupOrSingle.{group, items_of}
 use Rattle.cert_step.specs.ProofProblem as problem
@@ -9,7 +9,7 @@ use Rattle.strategies.specs.declared.strategy.Strategy.TheVariants as strategy
 use Rattle.strategies.specs.Rows.{AreComponentsOf}
 use Rattle.strategies.specs.Conditions.{graph_is_found, graph_is_not_there}
 use Rattle.strategies.proofs.GraphMade.{items_made, split_by}
-use Rattle.strategies.proofs.Applying.{graph_applies, ready, found_always, failed_for}
+use Rattle.strategies.proofs.Applying.{graph_applies, finds_for, found_always, failed_for}
 use Rattle.strategies.proofs.graph.search_graph.Goals as goal
 
 pub returns-then-is_all-clause-answer : goal.returns-then-is_all-clause-answer
@@ -24,10 +24,12 @@ leaving-requires-clause-step c =
     let split : (items_of c.in_ok-items.items.items) ≡ group c.deref.result.now ∷ [] → ⊥ = λ e.
     split_by c.is_all.result c.if-is_all.false
     (c.is_all.ensures.1 (ap items_of c.deref-2.ensures.value ∙ (e ∙ ap (λ l. group l ∷ []) (c.deref.ensures.value ∙ sym c.deref-3.ensures.value)))) in
-    (ready c.args.prepared.now c.args.trs.now 0 strategy.Graph (problem_of c.args.problem.now) (problem.dp c.deref.result.now) (step.graph (items_of c.in_ok-items.items.items))
-    c.requires.prepared (ap problem_of c.in-Dp.is ∙ ap (λ l. problem.dp l) (sym c.deref.ensures.value)) (graph_is_found (record { components = are; split = split }))
-    (items_made c.args.trs.now.rules (dependency_pairs c.args.trs.now.rules) c.deref.result.now (items_of c.in_ok-items.items.items) are.components)
-    (graph_applies c.args.trs.now c.deref.result.now (items_of c.in_ok-items.items.items) c.components_pass.ensures are)).made
+    (finds_for c.args.prepared.now c.args.trs.now 0 strategy.Graph (problem_of c.args.problem.now) (problem.dp c.deref.result.now) (step.graph (items_of c.in_ok-items.items.items))
+    (step.graph (items_of c.in_ok-items.items.items)) c.requires.prepared (ap problem_of c.in-Dp.is ∙ ap (λ l. problem.dp l) (sym c.deref.ensures.value)) refl (record {
+      finds = graph_is_found (record { components = are; split = split });
+      made = items_made c.args.trs.now.rules (dependency_pairs c.args.trs.now.rules) c.deref.result.now (items_of c.in_ok-items.items.items) are.components;
+      applies = graph_applies c.args.trs.now c.deref.result.now (items_of c.in_ok-items.items.items) c.components_pass.ensures are;
+    })).made
 
 pub leaving-requires-clause-applies : goal.leaving-requires-clause-applies
 leaving-requires-clause-applies c =
@@ -35,10 +37,12 @@ leaving-requires-clause-applies c =
     let split : (items_of c.in_ok-items.items.items) ≡ group c.deref.result.now ∷ [] → ⊥ = λ e.
     split_by c.is_all.result c.if-is_all.false
     (c.is_all.ensures.1 (ap items_of c.deref-2.ensures.value ∙ (e ∙ ap (λ l. group l ∷ []) (c.deref.ensures.value ∙ sym c.deref-3.ensures.value)))) in
-    (ready c.args.prepared.now c.args.trs.now 0 strategy.Graph (problem_of c.args.problem.now) (problem.dp c.deref.result.now) (step.graph (items_of c.in_ok-items.items.items))
-    c.requires.prepared (ap problem_of c.in-Dp.is ∙ ap (λ l. problem.dp l) (sym c.deref.ensures.value)) (graph_is_found (record { components = are; split = split }))
-    (items_made c.args.trs.now.rules (dependency_pairs c.args.trs.now.rules) c.deref.result.now (items_of c.in_ok-items.items.items) are.components)
-    (graph_applies c.args.trs.now c.deref.result.now (items_of c.in_ok-items.items.items) c.components_pass.ensures are)).applies
+    (finds_for c.args.prepared.now c.args.trs.now 0 strategy.Graph (problem_of c.args.problem.now) (problem.dp c.deref.result.now) (step.graph (items_of c.in_ok-items.items.items))
+    (step.graph (items_of c.in_ok-items.items.items)) c.requires.prepared (ap problem_of c.in-Dp.is ∙ ap (λ l. problem.dp l) (sym c.deref.ensures.value)) refl (record {
+      finds = graph_is_found (record { components = are; split = split });
+      made = items_made c.args.trs.now.rules (dependency_pairs c.args.trs.now.rules) c.deref.result.now (items_of c.in_ok-items.items.items) are.components;
+      applies = graph_applies c.args.trs.now c.deref.result.now (items_of c.in_ok-items.items.items) c.components_pass.ensures are;
+    })).applies
 
 pub returns-clause-answer : goal.returns-clause-answer
 returns-clause-answer c =
@@ -47,7 +51,9 @@ returns-clause-answer c =
     split_by c.is_all.result c.if-is_all.false
     (c.is_all.ensures.1 (ap items_of c.deref-2.ensures.value ∙ (e ∙ ap (λ l. group l ∷ []) (c.deref.ensures.value ∙ sym c.deref-3.ensures.value)))) in
     found_always c.args.prepared.now c.args.trs.now strategy.Graph (problem_of c.args.problem.now) (step.graph (items_of c.in_ok-items.items.items)) c.leaving.result
-    c.requires.prepared (λ budget. (ready c.args.prepared.now c.args.trs.now budget strategy.Graph (problem_of c.args.problem.now) (problem.dp c.deref.result.now) (step.graph (items_of c.in_ok-items.items.items))
-    c.requires.prepared (ap problem_of c.in-Dp.is ∙ ap (λ l. problem.dp l) (sym c.deref.ensures.value)) (graph_is_found (record { components = are; split = split }))
-    (items_made c.args.trs.now.rules (dependency_pairs c.args.trs.now.rules) c.deref.result.now (items_of c.in_ok-items.items.items) are.components)
-    (graph_applies c.args.trs.now c.deref.result.now (items_of c.in_ok-items.items.items) c.components_pass.ensures are)).finds) c.leaving.ensures.is_true
+    c.requires.prepared (λ budget. (finds_for c.args.trs.now c.args.trs.now budget strategy.Graph (problem_of c.args.problem.now) (problem.dp c.deref.result.now) (step.graph (items_of c.in_ok-items.items.items))
+    (step.graph (items_of c.in_ok-items.items.items)) refl (ap problem_of c.in-Dp.is ∙ ap (λ l. problem.dp l) (sym c.deref.ensures.value)) refl (record {
+      finds = graph_is_found (record { components = are; split = split });
+      made = items_made c.args.trs.now.rules (dependency_pairs c.args.trs.now.rules) c.deref.result.now (items_of c.in_ok-items.items.items) are.components;
+      applies = graph_applies c.args.trs.now c.deref.result.now (items_of c.in_ok-items.items.items) c.components_pass.ensures are;
+    })).finds) c.leaving.ensures.is_true

@@ -14,20 +14,20 @@ search_confluence-requires-clause-problem g c = is_for_this (problem_of c.args.p
 pub search_graph-requires-clause-pairs : goal.search_graph-requires-clause-pairs
 search_graph-requires-clause-pairs g c = is_for_this (problem_of c.args.problem.now) c.args.strategy strategy.Graph c.requires.kind c.in-Graph.is
 
-pub search_subterm-requires-clause-on_pairs : goal.search_subterm-requires-clause-on_pairs
-search_subterm-requires-clause-on_pairs g c = is_for_this (problem_of c.args.problem.now) c.args.strategy strategy.Subterm c.requires.kind c.in-Subterm.is
+pub search_on_pairs-requires-clause-on_pairs : goal.search_on_pairs-requires-clause-on_pairs
+search_on_pairs-requires-clause-on_pairs g c = is_for_this (problem_of c.args.problem.now) c.args.strategy strategy.Subterm c.requires.kind c.in-Subterm.is
 
-pub search_poly-requires-clause-on_pairs : goal.search_poly-requires-clause-on_pairs
-search_poly-requires-clause-on_pairs g c = is_for_this (problem_of c.args.problem.now) c.args.strategy strategy.Poly c.requires.kind c.in-Poly.is
+pub search_on_pairs-requires-in-Poly-clause-on_pairs : goal.search_on_pairs-requires-in-Poly-clause-on_pairs
+search_on_pairs-requires-in-Poly-clause-on_pairs g c = is_for_this (problem_of c.args.problem.now) c.args.strategy strategy.Poly c.requires.kind c.in-Poly.is
 
-pub search_lpo-requires-clause-on_pairs : goal.search_lpo-requires-clause-on_pairs
-search_lpo-requires-clause-on_pairs g c = is_for_this (problem_of c.args.problem.now) c.args.strategy strategy.Lpo c.requires.kind c.in-Lpo.is
+pub search_on_pairs-requires-in-Lpo-clause-on_pairs : goal.search_on_pairs-requires-in-Lpo-clause-on_pairs
+search_on_pairs-requires-in-Lpo-clause-on_pairs g c = is_for_this (problem_of c.args.problem.now) c.args.strategy strategy.Lpo c.requires.kind c.in-Lpo.is
 
-pub search_kbo-requires-clause-on_pairs : goal.search_kbo-requires-clause-on_pairs
-search_kbo-requires-clause-on_pairs g c = is_for_this (problem_of c.args.problem.now) c.args.strategy strategy.Kbo c.requires.kind c.in-Kbo.is
+pub search_on_pairs-requires-in-Kbo-clause-on_pairs : goal.search_on_pairs-requires-in-Kbo-clause-on_pairs
+search_on_pairs-requires-in-Kbo-clause-on_pairs g c = is_for_this (problem_of c.args.problem.now) c.args.strategy strategy.Kbo c.requires.kind c.in-Kbo.is
 
-pub search_usable-requires-clause-on_pairs : goal.search_usable-requires-clause-on_pairs
-search_usable-requires-clause-on_pairs g c = is_for_this (problem_of c.args.problem.now) c.args.strategy strategy.Usable c.requires.kind c.in-Usable.is
+pub search_on_pairs-requires-in-Usable-clause-on_pairs : goal.search_on_pairs-requires-in-Usable-clause-on_pairs
+search_on_pairs-requires-in-Usable-clause-on_pairs g c = is_for_this (problem_of c.args.problem.now) c.args.strategy strategy.Usable c.requires.kind c.in-Usable.is
 
 pub returns-in-Dp-clause-answer : goal.returns-in-Dp-clause-answer
 returns-in-Dp-clause-answer g c =
@@ -46,23 +46,23 @@ returns-in-Confluence-clause-answer g c =
 
 pub returns-in-Subterm-clause-answer : goal.returns-in-Subterm-clause-answer
 returns-in-Subterm-clause-answer g c =
-    answers_for c.args.trs.now c.args.budget c.args.strategy strategy.Subterm (problem_of c.args.problem.now) (problem_of c.args.problem.now) _ c.search_subterm.result c.in-Subterm.is refl c.search_subterm.ensures.answer
+    answers_for c.args.trs.now c.args.budget c.args.strategy strategy.Subterm (problem_of c.args.problem.now) (problem_of c.args.problem.now) _ c.search_on_pairs.result c.in-Subterm.is refl c.search_on_pairs.ensures.answer
 
 pub returns-in-Poly-clause-answer : goal.returns-in-Poly-clause-answer
 returns-in-Poly-clause-answer g c =
-    answers_for c.args.trs.now c.args.budget c.args.strategy strategy.Poly (problem_of c.args.problem.now) (problem_of c.args.problem.now) _ c.search_poly.result c.in-Poly.is refl c.search_poly.ensures.answer
+    answers_for c.args.trs.now c.args.budget c.args.strategy strategy.Poly (problem_of c.args.problem.now) (problem_of c.args.problem.now) _ c.search_on_pairs-in-Poly.result c.in-Poly.is refl c.search_on_pairs-in-Poly.ensures.answer
 
 pub returns-in-Lpo-clause-answer : goal.returns-in-Lpo-clause-answer
 returns-in-Lpo-clause-answer g c =
-    answers_for c.args.trs.now c.args.budget c.args.strategy strategy.Lpo (problem_of c.args.problem.now) (problem_of c.args.problem.now) _ c.search_lpo.result c.in-Lpo.is refl c.search_lpo.ensures.answer
+    answers_for c.args.trs.now c.args.budget c.args.strategy strategy.Lpo (problem_of c.args.problem.now) (problem_of c.args.problem.now) _ c.search_on_pairs-in-Lpo.result c.in-Lpo.is refl c.search_on_pairs-in-Lpo.ensures.answer
 
 pub returns-in-Kbo-clause-answer : goal.returns-in-Kbo-clause-answer
 returns-in-Kbo-clause-answer g c =
-    answers_for c.args.trs.now c.args.budget c.args.strategy strategy.Kbo (problem_of c.args.problem.now) (problem_of c.args.problem.now) _ c.search_kbo.result c.in-Kbo.is refl c.search_kbo.ensures.answer
+    answers_for c.args.trs.now c.args.budget c.args.strategy strategy.Kbo (problem_of c.args.problem.now) (problem_of c.args.problem.now) _ c.search_on_pairs-in-Kbo.result c.in-Kbo.is refl c.search_on_pairs-in-Kbo.ensures.answer
 
 pub returns-in-Usable-clause-answer : goal.returns-in-Usable-clause-answer
 returns-in-Usable-clause-answer g c =
-    answers_for c.args.trs.now c.args.budget c.args.strategy strategy.Usable (problem_of c.args.problem.now) (problem_of c.args.problem.now) _ c.search_usable.result c.in-Usable.is refl c.search_usable.ensures.answer
+    answers_for c.args.trs.now c.args.budget c.args.strategy strategy.Usable (problem_of c.args.problem.now) (problem_of c.args.problem.now) _ c.search_on_pairs-in-Usable.result c.in-Usable.is refl c.search_on_pairs-in-Usable.ensures.answer
 
 pub returns-in-Loop-clause-answer : goal.returns-in-Loop-clause-answer
 returns-in-Loop-clause-answer g c =
