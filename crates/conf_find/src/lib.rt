@@ -6,9 +6,11 @@
 
 mod caps;
 mod endings;
+mod first_fork;
 mod fork;
 mod forks;
 mod laws;
+mod mark;
 mod parting;
 mod reaching;
 mod split;

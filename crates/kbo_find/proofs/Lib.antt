@@ -5,7 +5,6 @@ pub mod KboPuzzle
 pub mod ValueSteps
 pub mod TopSteps
 pub mod TableSteps
-pub mod Answered
 pub mod KboLaw
 pub mod OccurrenceSums
 pub mod Standing

@@ -1,5 +1,5 @@
 //! The strategy kbo.
-ghost use Rattle.std.specs.Prelude.{◌≡◌, ◌<◌, ◌≤◌, ◌+◌, ◌*◌, ◌^◌, ◌++◌, All, IfOk, length};
+ghost use Rattle.std.specs.Prelude.{◌≡◌, ◌<◌, ◌≤◌, All, IfOk, length};
 ghost use Rattle.std.specs.List.Sorted.{IsStrictlyIncreasing};
 ghost use Rattle.pair_theory.specs.DependencyPair.{dependency_pairs};
 ghost use Rattle.order_search.specs.dp_core.PlacedPairs.{placed_pairs};
@@ -7,22 +7,17 @@ ghost use Rattle.order_search.specs.Outcome.{IsFinding, IsNotThere, IsSpent};
 ghost use Rattle.order_search.specs.Slots.{puzzle_of};
 ghost use Rattle.order_search.specs.OrderRow.{FailsOrder};
 ghost use Rattle.order_search.specs.OrderOver.{search_of, IsOrderOver};
-ghost use Rattle.order_search.specs.OrderSpace.{arity_with_mark};
-ghost use Rattle.order_search.specs.Distinct.{AreDistinct};
-ghost use Rattle.kbo_find.specs.KboSpace.{kbo_tops};
+ghost use Rattle.order_search.specs.OrderProblem.{IsSearchable};
 ghost use Rattle.kbo_find.specs.KboRow.{kbo_search, kbo_entry};
 ghost use Rattle.kbo_find.specs.Laws.{FindsKbo};
 
 use crate::space::KboSpace;
-use crate::table::order_of;
 use crate::tops::all_tops;
 use crate::weighing::balances;
-use assign_search::{Search, Stop, first_solution};
+use assign_search::{Search, Stop};
 use kbo_order::Kbo;
 use order_search::placing::SymbolPlaces;
-use order_search::taken::taken;
-use order_search::{DpPair, Pairs, marked_rules, order_symbols, placed_pairs_are_the_pairs};
-use pair_theory::dependency_pairs_suffice;
+use order_search::{DpPair, OrderProblem, Pairs, find_first};
 use std::alloc::Global;
 use trs_core::{OutOfMemory, Rule, Trs};
 
@@ -78,14 +73,16 @@ pub fn find_kbo_in<P: Stop>(
     ensures later { P.stops stop.old ≤ P.stops stop.new }
     ensures kept { P.kept stop.new ≡ P.kept stop.old }
 {
-    let arities = trs.arities();
-    let rules = trs.rules();
-    placed_pairs_are_the_pairs();
-    dependency_pairs_suffice();
-    let taken = taken(alloc, pairs.sides(), problem)?;
-    let symbols = order_symbols(alloc, rules, &taken)?;
-    let marked = marked_rules(alloc, &taken)?;
-    search_orders(alloc, arities, &symbols, rules, &marked, budget, stop)
+    let over = OrderProblem::of(alloc, trs, pairs, problem)?;
+    search_orders(
+        alloc,
+        over.arities,
+        &over.symbols,
+        over.rules,
+        &over.marked,
+        budget,
+        stop,
+    )
 }
 
 /// The order over these symbols by which the rules and the marked pairs fall.
@@ -98,9 +95,7 @@ fn search_orders<P: Stop>(
     budget: u64,
     stop: &mut P,
 ) -> Result<Search<Kbo>, OutOfMemory>
-    requires distinct { AreDistinct symbols.now }
-    requires few_symbols { length symbols.now ≤ 8192 }
-    requires few_falling { length rules.now + length pairs.now + 1 < 2 ^ 31 }
+    requires { IsSearchable symbols.now rules.now pairs.now }
     ensures answer { IfOk result (IsFinding
         (λ order. IsOrderOver (kbo_entry arities.now)
         (kbo_search arities.now symbols.now rules.now pairs.now)
@@ -123,13 +118,5 @@ fn search_orders<P: Stop>(
         pairs,
         balances: &balances,
     };
-    match first_solution(alloc, &space, budget, stop) {
-        Err(_) => Err(OutOfMemory),
-        Ok(Search::Found(values)) => {
-            Ok(Search::Found(order_of(alloc, arities, symbols, &values)?))
-        }
-        Ok(Search::NotThere) => Ok(Search::NotThere),
-        Ok(Search::Spent) => Ok(Search::Spent),
-        Ok(Search::Stopped) => Ok(Search::Stopped),
-    }
+    find_first(alloc, &space, budget, stop)
 }

@@ -4,13 +4,29 @@ ghost use Rattle.order_search.specs.Distinct.{AreDistinct};
 ghost use Rattle.kbo_find.specs.KboRow.{entries_of};
 ghost use Rattle.kbo_find.specs.KboPlaces.{entry_with};
 
+use crate::space::KboSpace;
 use kbo_order::{Kbo, KboEntry};
-use order_search::{arity_of, value_at};
+use order_search::{Readable, arity_of, value_at};
 use std::alloc::Global;
 use trs_core::OutOfMemory;
 
+impl<'a> Readable for KboSpace<'a> {
+    ghost use Rattle.order_search.specs.OrderOver.{IsOrderOver};
+    ghost use Rattle.kbo_find.specs.KboRow.{kbo_entry, kbo_search};
+
+    type Found = Kbo;
+
+    ghost finds = { λ x budget order. IsOrderOver (kbo_entry x.arities.now)
+        (kbo_search x.arities.now x.symbols.now x.rules.now x.pairs.now)
+        budget x.symbols.now order.entries.items };
+
+    fn read(&self, alloc: Global, values: &[u32]) -> Result<Kbo, OutOfMemory> {
+        order_of(alloc, self.arities, self.symbols, values)
+    }
+}
+
 /// The order by which each symbol has the weight and the rank of its two slots.
-pub(crate) fn order_of(
+fn order_of(
     alloc: Global,
     arities: &[u8],
     symbols: &[u32],

@@ -4,7 +4,6 @@ pub mod Entries
 pub mod SlotNumbers
 pub mod LpoPuzzle
 pub mod TableSteps
-pub mod Found
 pub mod LpoLaw
 pub mod FilterLists
 pub mod Assigning

@@ -1,11 +1,11 @@
 -- What the strategy lpo looks for.
-use Rattle.std.specs.Prelude.{◌≡◌, ℕ, List, [], map}
-use Rattle.trs_defs.specs.System.{RewriteRule, System}
+use Rattle.std.specs.Prelude.{ℕ, List, [], map}
+use Rattle.trs_defs.specs.System.{System}
 use Rattle.pair_theory.specs.DependencyPair.{DependencyPair}
 use Rattle.pair_theory.specs.ReductionPair.{marked_rule}
 use Rattle.path_lpo.specs.Table.{PathEntry}
-use Rattle.order_search.specs.Slots.{Table, Search, table_of, puzzle_of}
-use Rattle.order_search.specs.Outcome.{IsFirst}
+use Rattle.order_search.specs.Slots.{Table, Search, table_of}
+use Rattle.order_search.specs.OrderOver.{SearchOver}
 use Rattle.order_search.specs.OrderSpace.{OrderConstraint, order_search, slots_of, arity_with_mark}
 use Rattle.lpo_find.specs.LpoSpace.{lpo_family, filter_by, rank_by}
 
@@ -13,8 +13,12 @@ use Rattle.lpo_find.specs.LpoSpace.{lpo_family, filter_by, rank_by}
 abbrev pub lpo_entry : (ℕ → ℕ) → Table → ℕ → PathEntry
 lpo_entry arity table f = record { symbol = f; rank = rank_by table f; filter = filter_by arity table f }
 
+-- the same, by a list of arities
+abbrev pub path_entry : List ℕ → Table → ℕ → PathEntry
+path_entry arities table f = lpo_entry (arity_with_mark arities) table f
+
 -- over these symbols, rules and marked pairs
-abbrev pub path_search : List ℕ → List ℕ → List RewriteRule → List RewriteRule → Search OrderConstraint
+abbrev pub path_search : SearchOver
 path_search arities symbols rules pairs = order_search (lpo_family (arity_with_mark arities)) symbols [] rules pairs
 
 -- of a system, over these pairs and symbols
@@ -24,9 +28,3 @@ lpo_search system pairs symbols = path_search system.arities symbols system.rule
 -- the entries that values in the order of the slots say for the symbols
 abbrev pub entries_of : List ℕ → List ℕ → List ℕ → List PathEntry
 entries_of arities symbols values = map (lpo_entry (arity_with_mark arities) (table_of (slots_of (λ _. 2) symbols) values)) symbols
-
--- the entries of the symbols are those of the first solution, within the budget
-pub record IsOrder (budget : ℕ) (arities symbols : List ℕ) (rules pairs : List RewriteRule) (entries : List PathEntry) : Type 0 where
-  pub values : List ℕ
-  pub first : IsFirst budget values (puzzle_of (path_search arities symbols rules pairs))
-  pub are : entries ≡ entries_of arities symbols values

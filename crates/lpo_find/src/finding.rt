@@ -1,24 +1,21 @@
 //! The strategy lpo.
-ghost use Rattle.std.specs.Prelude.{◌≡◌, ◌<◌, ◌≤◌, ◌+◌, ◌*◌, ◌^◌, ◌++◌, All, IfOk, length};
+ghost use Rattle.std.specs.Prelude.{◌≡◌, ◌<◌, ◌≤◌, All, IfOk, length};
 ghost use Rattle.std.specs.List.Sorted.{IsStrictlyIncreasing};
 ghost use Rattle.pair_theory.specs.DependencyPair.{dependency_pairs};
 ghost use Rattle.order_search.specs.dp_core.PlacedPairs.{placed_pairs};
 ghost use Rattle.order_search.specs.Outcome.{IsFinding, IsNotThere, IsSpent};
 ghost use Rattle.order_search.specs.Slots.{puzzle_of};
 ghost use Rattle.order_search.specs.OrderRow.{FailsOrder};
-ghost use Rattle.order_search.specs.OrderSpace.{AreCovered};
-ghost use Rattle.order_search.specs.Distinct.{AreDistinct};
-ghost use Rattle.lpo_find.specs.LpoRow.{IsOrder, path_search, lpo_search};
+ghost use Rattle.order_search.specs.OrderOver.{IsOrderOver};
+ghost use Rattle.order_search.specs.OrderProblem.{IsSearchable};
+ghost use Rattle.lpo_find.specs.LpoRow.{path_entry, path_search, lpo_search};
 ghost use Rattle.lpo_find.specs.Laws.{FindsLpo};
 
 use crate::filters::symbol_filters;
 use crate::space::LpoSpace;
-use crate::table::order_of;
-use assign_search::{Search, Stop, first_solution};
+use assign_search::{Search, Stop};
 use order_search::placing::SymbolPlaces;
-use order_search::taken::taken;
-use order_search::{DpPair, Pairs, marked_rules, order_symbols, placed_pairs_are_the_pairs};
-use pair_theory::dependency_pairs_suffice;
+use order_search::{DpPair, OrderProblem, Pairs, find_first};
 use path_lpo::Lpo;
 use std::alloc::Global;
 use trs_core::{OutOfMemory, Rule, Trs};
@@ -74,14 +71,16 @@ pub fn find_lpo_in<P: Stop>(
     ensures later { P.stops stop.old ≤ P.stops stop.new }
     ensures kept { P.kept stop.new ≡ P.kept stop.old }
 {
-    let arities = trs.arities();
-    let rules = trs.rules();
-    placed_pairs_are_the_pairs();
-    dependency_pairs_suffice();
-    let taken = taken(alloc, pairs.sides(), problem)?;
-    let symbols = order_symbols(alloc, rules, &taken)?;
-    let marked = marked_rules(alloc, &taken)?;
-    search_orders(alloc, arities, &symbols, rules, &marked, budget, stop)
+    let over = OrderProblem::of(alloc, trs, pairs, problem)?;
+    search_orders(
+        alloc,
+        over.arities,
+        &over.symbols,
+        over.rules,
+        &over.marked,
+        budget,
+        stop,
+    )
 }
 
 /// The order over these symbols by which the rules and the marked pairs fall.
@@ -94,12 +93,10 @@ fn search_orders<P: Stop>(
     budget: u64,
     stop: &mut P,
 ) -> Result<Search<Lpo>, OutOfMemory>
-    requires distinct { AreDistinct symbols.now }
-    requires covered { AreCovered symbols.now (rules.now ++ pairs.now) }
-    requires few_symbols { 2 * length symbols.now < 2 ^ 32 }
-    requires few_falling { length rules.now + length pairs.now + 1 < 2 ^ 32 }
+    requires { IsSearchable symbols.now rules.now pairs.now }
     ensures answer { IfOk result (IsFinding
-        (λ order. IsOrder budget arities.now symbols.now rules.now pairs.now order)
+        (λ order. IsOrderOver (path_entry arities.now)
+        (path_search arities.now symbols.now rules.now pairs.now) budget symbols.now order)
         (IsNotThere budget (puzzle_of (path_search arities.now symbols.now rules.now pairs.now)))
         (IsSpent budget (puzzle_of (path_search arities.now symbols.now rules.now pairs.now)))
         (P.stops stop.old < P.stops stop.new)) }
@@ -116,13 +113,5 @@ fn search_orders<P: Stop>(
         rules,
         pairs,
     };
-    match first_solution(alloc, &space, budget, stop) {
-        Err(_) => Err(OutOfMemory),
-        Ok(Search::Found(values)) => {
-            Ok(Search::Found(order_of(alloc, arities, symbols, &values)?))
-        }
-        Ok(Search::NotThere) => Ok(Search::NotThere),
-        Ok(Search::Spent) => Ok(Search::Spent),
-        Ok(Search::Stopped) => Ok(Search::Stopped),
-    }
+    find_first(alloc, &space, budget, stop)
 }

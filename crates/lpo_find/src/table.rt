@@ -6,13 +6,29 @@ ghost use Rattle.lpo_find.specs.LpoSpace.{filter_number};
 ghost use Rattle.lpo_find.specs.LpoRow.{entries_of};
 
 use crate::filters::filter_number;
-use order_search::{arity_of, value_at};
+use crate::space::LpoSpace;
+use order_search::{Readable, arity_of, value_at};
 use path_lpo::{Lpo, LpoEntry};
 use std::alloc::Global;
 use trs_core::OutOfMemory;
 
+impl<'a> Readable for LpoSpace<'a> {
+    ghost use Rattle.order_search.specs.OrderOver.{IsOrderOver};
+    ghost use Rattle.lpo_find.specs.LpoRow.{path_entry, path_search};
+
+    type Found = Lpo;
+
+    ghost finds = { λ x budget order. IsOrderOver (path_entry x.arities.now)
+        (path_search x.arities.now x.symbols.now x.rules.now x.pairs.now)
+        budget x.symbols.now order };
+
+    fn read(&self, alloc: Global, values: &[u32]) -> Result<Lpo, OutOfMemory> {
+        order_of(alloc, self.arities, self.symbols, values)
+    }
+}
+
 /// The order by which each symbol has the filter and the rank of its two slots.
-pub(crate) fn order_of(
+fn order_of(
     alloc: Global,
     arities: &[u8],
     symbols: &[u32],

@@ -9,10 +9,10 @@ use Rattle.assign_search.specs.declared.search.Search.TheVariants.{Found, NotThe
 use Rattle.order_search.specs.dp_core.Numbered.{ArePairsOf}
 use Rattle.order_search.specs.dp_core.SubtermConditions.{roots_of}
 use Rattle.order_search.specs.Slots.{puzzle_of}
-use Rattle.order_search.specs.Outcome.{IsFinding, IsNotThere, IsSpent}
+use Rattle.order_search.specs.Outcome.{IsFinding, IsFirst, IsNotThere, IsSpent}
 use Rattle.order_search.specs.Ascending.{AreAscending}
 use Rattle.order_find.specs.SubtermSpace.{subterm_search}
-use Rattle.order_find.specs.SubtermRow.{AreOfProblem, ArePlaces, FindsSubterm, FailsSubterm}
+use Rattle.order_find.specs.SubtermRow.{AreOfProblem, ArePlaces, FindsSubterm, FailsSubterm, places_of}
 
 pub of_problem : (system : System) (numbers : List ℕ) (all taken pairs listed : List DependencyPair) (items roots : List ℕ) → all ≡ dependency_pairs system.rules
     → ArePairsOf all numbers taken → pairs ≡ taken → AreAscending (roots_of listed) items → listed ≡ taken → roots ≡ items → AreOfProblem system numbers pairs roots
@@ -41,3 +41,10 @@ module _ (system : System) (numbers : List ℕ) (pairs : List DependencyPair) (r
       (IsSpent budget (puzzle_of (subterm_search arities roots pairs))) rose)
       → IfOk result (IsFinding (λ v. FindsSubterm system numbers budget v.items) (FailsSubterm system numbers (IsNotThere budget)) (FailsSubterm system numbers (IsSpent budget)) rose)
   found_of_problem arities result same h = found_here result (subst (λ (a : List ℕ). Finds a result) same h)
+
+-- the places that the values of the first solution say
+pub reads_places : {E : Type 0} (arities roots values : List ℕ) (pairs : List DependencyPair) (result : Result (Vec (ℕ × ℕ) Global) E)
+    → IfOk result (λ places. places.items ≡ places_of roots values)
+    → IfOk result (λ places. (budget : ℕ) → IsFirst budget values (puzzle_of (subterm_search arities roots pairs)) → ArePlaces budget arities roots pairs places.items)
+reads_places arities roots values pairs (Ok places) e = λ budget first. record { values = values; first = first; are = e }
+reads_places arities roots values pairs (Err fault) e = tt

@@ -10,11 +10,11 @@ ghost use Rattle.order_find.specs.SubtermSpace.{subterm_search};
 ghost use Rattle.order_find.specs.SubtermRow.{FindsSubterm, FailsSubterm, ArePlaces, places_of};
 
 use crate::subterm_space::SubtermSpace;
-use assign_search::{Search, Stop, first_solution};
+use assign_search::{Search, Stop};
 use order_search::placing::SymbolPlaces;
 use order_search::roots::roots;
 use order_search::taken::taken;
-use order_search::{DpPair, Pairs, Sides, placed_pairs_are_the_pairs};
+use order_search::{DpPair, Pairs, Readable, Sides, find_first, placed_pairs_are_the_pairs};
 use pair_theory::dependency_pairs_suffice;
 use std::alloc::Global;
 use trs_core::{OutOfMemory, Trs, systems_are_valid};
@@ -105,20 +105,25 @@ fn search_places<P: Stop>(
         slots: &slots,
         pairs,
     };
-    match first_solution(alloc, &space, budget, stop) {
-        Err(_) => Err(OutOfMemory),
-        Ok(Search::Found(values)) => Ok(Search::Found(places_of(alloc, roots, values)?)),
-        Ok(Search::NotThere) => Ok(Search::NotThere),
-        Ok(Search::Spent) => Ok(Search::Spent),
-        Ok(Search::Stopped) => Ok(Search::Stopped),
+    find_first(alloc, &space, budget, stop)
+}
+
+impl<'a> Readable for SubtermSpace<'a> {
+    type Found = Vec<(u32, u8)>;
+
+    ghost finds = { λ x budget places.
+        ArePlaces budget x.arities.now x.roots.now x.pairs.now places.items };
+
+    fn read(&self, alloc: Global, values: &[u32]) -> Result<Vec<(u32, u8)>, OutOfMemory> {
+        places_of(alloc, self.roots, values)
     }
 }
 
 /// Each root with its place.
-fn places_of(alloc: Global, roots: &[u32], values: Vec<u32>) -> Result<Vec<(u32, u8)>, OutOfMemory>
-    requires each { length values.items ≡ length roots.now }
-    requires small { All (λ v. v < 255) values.items }
-    ensures { IfOk result (λ places. places.items ≡ places_of roots.now values.items) }
+fn places_of(alloc: Global, roots: &[u32], values: &[u32]) -> Result<Vec<(u32, u8)>, OutOfMemory>
+    requires each { length values.now ≡ length roots.now }
+    requires small { All (λ v. v < 255) values.now }
+    ensures { IfOk result (λ places. places.items ≡ places_of roots.now values.now) }
 {
     let mut places = Vec::with_capacity(alloc, roots.len())?;
     for (i, f) in roots.iter().enumerate() {

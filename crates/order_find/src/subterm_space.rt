@@ -3,6 +3,7 @@ ghost use Rattle.std.specs.Prelude.{◌≡◌, ◌<◌, ◌^◌, ◌+◌, ◌==�
 ghost use Rattle.std.specs.Option.{option_copied, option_map};
 ghost use Rattle.trs_defs.specs.Tree.{Tree};
 ghost use Rattle.trs_defs.specs.Position.{argument_at};
+ghost use Rattle.trs_core.specs.SystemLimits.{AreBytes};
 ghost use Rattle.trs_core.specs.View.{tree};
 ghost use Rattle.pair_theory.specs.Marked.{plain};
 ghost use Rattle.order_search.specs.Slots.{puzzle_of, table_of};
@@ -26,6 +27,7 @@ pub(crate) struct SubtermSpace<'a> {
     pub(crate) slots: &'a SymbolPlaces<'a>,
     pub(crate) pairs: &'a [Sides<'a>],
     pub(crate) ghost indexed: { slots.now ≡ roots.now },
+    pub(crate) ghost bytes: { AreBytes arities.now },
     pub(crate) ghost few_roots: { length roots.now < 2 ^ 32 },
     pub(crate) ghost few_pairs: { length pairs.now + 1 < 2 ^ 32 },
 }

@@ -1,9 +1,9 @@
 -- The puzzle of a search is lawful where each constraint depends only on the slots that it is about.
-use Rattle.std.specs.Prelude.{ℕ, ◌+◌, ◌<◌, Bool, true, false, ◌&&◌, ◌==◌, nat_lt, if◌then◌else◌, List, [], ◌∷◌, length, get_or, IsTrue, ◌≡◌}
-use Rattle.std.proofs.Common.{zero, suc, refl, sym, ap, ap₂, subst, arith, ◌∙◌, nat_eq, ◌⊎◌, inl, inr}
+use Rattle.std.specs.Prelude.{ℕ, ◌+◌, ◌<◌, Bool, true, false, ◌&&◌, ◌==◌, nat_lt, if◌then◌else◌, List, [], ◌∷◌, length, get_or, ◌≡◌}
+use Rattle.std.proofs.Common.{zero, suc, refl, sym, ap₂, subst, arith, ◌⊎◌, inl, inr}
 use Rattle.std.proofs.lemmas.Bool.Decides.{nat_tests}
-use Rattle.assign_search.specs.Puzzle.{Puzzle, IsLawful, Covers}
-use Rattle.order_search.specs.Slots.{Slot, slot, Table, table_from, table_of, Search, at_constraint, puzzle_of, DependsOnSlots}
+use Rattle.assign_search.specs.Puzzle.{IsLawful}
+use Rattle.order_search.specs.Slots.{Slot, slot, table_from, table_of, Search, at_constraint, puzzle_of, DependsOnSlots}
 
 pub both_true : (a b : Bool) → a && b ≡ true → (a ≡ true) × (b ≡ true)
 both_true true b e = (refl, e)

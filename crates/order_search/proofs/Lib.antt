@@ -10,6 +10,8 @@ pub mod Repeats
 pub mod TwoParts
 pub mod OwnConstraints
 pub mod SaidEntries
+pub mod LowSymbols
+pub mod Answered
 pub mod OfProblem
 pub mod OrderLaw
 pub mod PlacedEntries

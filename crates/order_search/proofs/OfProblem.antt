@@ -23,7 +23,9 @@ use Rattle.order_search.specs.OrderSpace.{AreCovered}
 use Rattle.order_search.specs.OrderRow.{AreSymbols, AreOfOrder, FindsOrder, FailsOrder}
 use Rattle.order_search.specs.OrderOver.{SearchOver, search_of, IsOrderOver}
 use Rattle.order_search.specs.Distinct.{AreDistinct}
+use Rattle.order_search.specs.OrderProblem.{IsOrderProblem, IsSearchable}
 use Rattle.order_search.proofs.Covered.{all_covered, few_symbols, plain_small, both_roots}
+use Rattle.order_search.proofs.LowSymbols.{low_symbols}
 use Rattle.order_search.proofs.Repeats.{symbols_distinct}
 
 module _ (system : System) (valid : IsSystem system) (few : length system.arities ≤ 4095)
@@ -81,33 +83,58 @@ module _ (system : System) (valid : IsSystem system) (few : length system.aritie
           let c = length-map taken marked_rule in
           omega (arith, few_rules, few_pairs, a, b, c)
 
-      of_problem : AreOfOrder system numbers taken symbols
-      of_problem = record { taken = are_of; are_symbols = are_symbols }
+      pub is_order_problem : (arities : List ℕ) → arities ≡ system.arities → IsOrderProblem system numbers arities symbols rules pairs
+      is_order_problem arities arities_are = record {
+        pairs = taken;
+        of_problem = record { taken = are_of; are_symbols = are_symbols };
+        arities_are = arities_are;
+        rules_are = rules_are;
+        marked_are = of_taken;
+      }
 
-      module _ {Entry Answer : Type 0} (over : SearchOver) (entry : List ℕ → Table → ℕ → Entry) (entries : Answer → List Entry) (budget : ℕ) (rose : Type 0) where
-        -- over the symbols, these rules and these marked pairs
-        abbrev Answered : {E : Type 0} → List ℕ → List RewriteRule → List RewriteRule → Result (Search Answer) E → Type 0
-        Answered arities of_rules of_pairs result =
-            IfOk result (IsFinding (λ order. IsOrderOver (entry arities) (over arities symbols of_rules of_pairs) budget symbols (entries order))
-            (IsNotThere budget (puzzle_of (over arities symbols of_rules of_pairs))) (IsSpent budget (puzzle_of (over arities symbols of_rules of_pairs))) rose)
+      pub searchable : length system.rules ≤ 4095 → length (dependency_pairs system.rules) ≤ 65536 → IsStrictlyIncreasing numbers
+          → All (λ n. n < length (dependency_pairs system.rules)) numbers → IsSearchable symbols rules pairs
+      searchable few_rules few_all up within = record {
+        distinct = distinct;
+        covered = covered;
+        small_symbols = low_symbols (symbols_of_rules system.rules) taken symbols (plain_small system valid few taken small_root symbols are_symbols) small_root are_symbols;
+        few_symbols = few_of_problem;
+        few_falling = few_falling few_rules few_all up within;
+      }
 
-        -- for the problem
-        abbrev FoundFor : {E : Type 0} → Result (Search Answer) E → Type 0
-        FoundFor result =
-            IfOk result (IsFinding (λ order. FindsOrder system numbers (search_of over system) (entry system.arities) budget (entries order))
-            (FailsOrder system numbers (search_of over system) (IsNotThere budget)) (FailsOrder system numbers (search_of over system) (IsSpent budget)) rose)
+-- the same lists
+pub searchable_as : (symbols items : List ℕ) (rules pairs marked : List RewriteRule) → symbols ≡ items → pairs ≡ marked → IsSearchable items rules marked
+    → IsSearchable symbols rules pairs
+searchable_as symbols items rules pairs marked symbols_are pairs_are h =
+    subst (λ (l : List ℕ). IsSearchable l rules pairs) (sym symbols_are) (subst (λ (l : List RewriteRule). IsSearchable items rules l) (sym pairs_are) h)
 
-        found_here : {E : Type 0} (result : Result (Search Answer) E) → Answered system.arities system.rules (map marked_rule taken) result → FoundFor result
-        found_here (Err e) h = h
-        found_here (Ok (Found order)) h = record { pairs = taken; symbols = symbols; of_problem = of_problem; values = h.values; first = h.first; are = h.are }
-        found_here (Ok NotThere) h = record { pairs = taken; symbols = symbols; of_problem = of_problem; fails = h }
-        found_here (Ok Spent) h = record { pairs = taken; symbols = symbols; of_problem = of_problem; fails = h }
-        found_here (Ok Stopped) h = h
+module _ {Entry Answer : Type 0} (over : SearchOver) (entry : List ℕ → Table → ℕ → Entry) (entries : Answer → List Entry) (budget : ℕ) (rose : Type 0) where
+  -- over these symbols, rules and marked pairs
+  abbrev Answered : {E : Type 0} → List ℕ → List ℕ → List RewriteRule → List RewriteRule → Result (Search Answer) E → Type 0
+  Answered arities symbols rules pairs result =
+      IfOk result (IsFinding (λ order. IsOrderOver (entry arities) (over arities symbols rules pairs) budget symbols (entries order))
+      (IsNotThere budget (puzzle_of (over arities symbols rules pairs))) (IsSpent budget (puzzle_of (over arities symbols rules pairs))) rose)
 
-        pub found_of_problem : {E : Type 0} (arities : List ℕ) (result : Result (Search Answer) E) → arities ≡ system.arities → Answered arities rules pairs result
-            → FoundFor result
-        found_of_problem arities result arities_are h =
-            found_here result
-            (subst (λ (l : List RewriteRule). Answered system.arities system.rules l result) of_taken
-            (subst (λ (l : List RewriteRule). Answered system.arities l pairs result) rules_are
-            (subst (λ (l : List ℕ). Answered l rules pairs result) arities_are h)))
+  -- for the problem
+  abbrev FoundFor : {E : Type 0} → System → List ℕ → Result (Search Answer) E → Type 0
+  FoundFor system numbers result =
+      IfOk result (IsFinding (λ order. FindsOrder system numbers (search_of over system) (entry system.arities) budget (entries order))
+      (FailsOrder system numbers (search_of over system) (IsNotThere budget)) (FailsOrder system numbers (search_of over system) (IsSpent budget)) rose)
+
+  module _ (system : System) (numbers : List ℕ) (taken : List DependencyPair) (symbols : List ℕ) (of_problem : AreOfOrder system numbers taken symbols) where
+    found_here : {E : Type 0} (result : Result (Search Answer) E) → Answered system.arities symbols system.rules (map marked_rule taken) result → FoundFor system numbers result
+    found_here (Err e) h = h
+    found_here (Ok (Found order)) h = record { pairs = taken; symbols = symbols; of_problem = of_problem; values = h.values; first = h.first; are = h.are }
+    found_here (Ok NotThere) h = record { pairs = taken; symbols = symbols; of_problem = of_problem; fails = h }
+    found_here (Ok Spent) h = record { pairs = taken; symbols = symbols; of_problem = of_problem; fails = h }
+    found_here (Ok Stopped) h = h
+
+  -- what is found over what is looked for in the problem
+  pub found_of_problem : {E : Type 0} (system : System) (numbers arities symbols items : List ℕ) (rules pairs marked : List RewriteRule) (result : Result (Search Answer) E)
+      → symbols ≡ items → pairs ≡ marked → IsOrderProblem system numbers arities items rules marked → Answered arities symbols rules pairs result → FoundFor system numbers result
+  found_of_problem system numbers arities symbols items rules pairs marked result symbols_are pairs_are is h =
+      found_here system numbers is.pairs items is.of_problem result
+      (subst (λ (l : List RewriteRule). Answered system.arities items system.rules l result) (pairs_are ∙ is.marked_are)
+      (subst (λ (l : List RewriteRule). Answered system.arities items l pairs result) is.rules_are
+      (subst (λ (l : List ℕ). Answered system.arities l rules pairs result) symbols_are
+      (subst (λ (l : List ℕ). Answered l symbols rules pairs result) is.arities_are h))))

@@ -1,6 +1,6 @@
 -- What a first solution says: each slot has a value in its domain, and each constraint is true.
-use Rattle.std.specs.Prelude.{ℕ, ◌+◌, ◌<◌, Bool, true, false, not, ◌&&◌, eqb, List, [], ◌∷◌, length, get_or, Some, ◌≡◌}
-use Rattle.std.proofs.Common.{zero, suc, refl, sym, ap, subst, arith, ◌∙◌}
+use Rattle.std.specs.Prelude.{ℕ, ◌+◌, ◌<◌, true, false, not, eqb, List, [], ◌∷◌, length, get_or, Some, ◌≡◌}
+use Rattle.std.proofs.Common.{zero, suc, subst, arith}
 use Rattle.std.proofs.lemmas.Bool.Decides.{nat_tests}
 use Rattle.assign_search.specs.Puzzle.{Puzzle, any_below, is_solution, solution_of}
 use Rattle.assign_search.proofs.Refuting.{and_true, not_true, not_false, any_below_each}

@@ -3,6 +3,7 @@ pub use Rattle.dp_core.specs as dp_core
 pub mod OrderSpace
 pub mod OrderRow
 pub mod OrderOver
+pub mod OrderProblem
 pub mod SymbolSets
 pub mod Distinct
 pub mod Slots

@@ -8,9 +8,7 @@ pub mod SlotEnds
 pub mod SpanValues
 pub mod SmallCoefficients
 pub mod SpanTruth
-pub mod LowSymbols
 pub mod PolySteps
-pub mod Answered
 pub mod PolyLaw
 pub mod OfUsable
 pub mod UsableLaw

@@ -28,7 +28,7 @@ use Rattle.order_search.specs.Distinct.{AreDistinct}
 use Rattle.order_search.proofs.Covered.{from_symbols, to_symbols, symbols_within}
 use Rattle.order_search.proofs.Repeats.{symbols_distinct}
 use Rattle.poly_find.specs.PolyRow.{poly_search, poly_entry}
-use Rattle.poly_find.proofs.LowSymbols.{low_symbols, few_by_numbers}
+use Rattle.order_search.proofs.LowSymbols.{low_symbols, few_by_numbers}
 use Rattle.poly_find.specs.UsableRow.{AreOfUsable, FindsUsable, FailsUsable}
 
 pub items_in : {A : Type 0} (all : List A) (numbers : List ℕ) (items : List A) → AreItemsOf all numbers items → (x : A) → In x items → In x all

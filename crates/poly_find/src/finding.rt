@@ -11,9 +11,7 @@ ghost use Rattle.poly_find.specs.Laws.{FindsPoly};
 
 use crate::searching::search_linear;
 use assign_search::{Search, Stop};
-use order_search::taken::taken;
-use order_search::{DpPair, Pairs, marked_rules, order_symbols, placed_pairs_are_the_pairs};
-use pair_theory::dependency_pairs_suffice;
+use order_search::{DpPair, OrderProblem, Pairs};
 use poly_lin::LinTable;
 use std::alloc::Global;
 use trs_core::{OutOfMemory, Trs};
@@ -68,12 +66,14 @@ pub fn find_poly_in<P: Stop>(
     ensures later { P.stops stop.old ≤ P.stops stop.new }
     ensures kept { P.kept stop.new ≡ P.kept stop.old }
 {
-    let arities = trs.arities();
-    let rules = trs.rules();
-    placed_pairs_are_the_pairs();
-    dependency_pairs_suffice();
-    let taken = taken(alloc, pairs.sides(), problem)?;
-    let symbols = order_symbols(alloc, rules, &taken)?;
-    let marked = marked_rules(alloc, &taken)?;
-    search_linear(alloc, arities, &symbols, rules, &marked, budget, stop)
+    let over = OrderProblem::of(alloc, trs, pairs, problem)?;
+    search_linear(
+        alloc,
+        over.arities,
+        &over.symbols,
+        over.rules,
+        &over.marked,
+        budget,
+        stop,
+    )
 }

@@ -10,8 +10,8 @@ use crate::owners::owners;
 use crate::sizes::small_ones;
 use crate::space::PolySpace;
 use crate::spans::spans;
-use crate::table::interpretation;
-use assign_search::{Search, Stop, first_solution};
+use assign_search::{Search, Stop};
+use order_search::find_first;
 use order_search::placing::SymbolPlaces;
 use poly_lin::LinTable;
 use std::alloc::Global;
@@ -58,13 +58,5 @@ pub(crate) fn search_linear<P: Stop>(
         pairs,
         small: &small,
     };
-    match first_solution(alloc, &space, budget, stop) {
-        Err(_) => Err(OutOfMemory),
-        Ok(Search::Found(values)) => {
-            Ok(Search::Found(interpretation(alloc, arities, symbols, &values)?))
-        }
-        Ok(Search::NotThere) => Ok(Search::NotThere),
-        Ok(Search::Spent) => Ok(Search::Spent),
-        Ok(Search::Stopped) => Ok(Search::Stopped),
-    }
+    find_first(alloc, &space, budget, stop)
 }

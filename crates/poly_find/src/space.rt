@@ -34,7 +34,7 @@ pub(crate) struct PolySpace<'a> {
     pub(crate) small: &'a [bool],
     pub(crate) ghost placed: { places.now ≡ symbols.now },
     pub(crate) ghost distinct: { AreDistinct symbols.now },
-    pub(crate) ghost few_symbols: { length symbols.now < 2 ^ 32 },
+    pub(crate) ghost few_symbols: { length symbols.now ≤ 8192 },
     pub(crate) ghost owners_are: { owners.now ≡ owners_of arities.now symbols.now },
     pub(crate) ghost spans_are: { AreSpans arities.now symbols.now spans.now },
     pub(crate) ghost small_are: { small.now ≡ map has_small_sides (rules.now ++ pairs.now) },

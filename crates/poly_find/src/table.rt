@@ -6,13 +6,29 @@ ghost use Rattle.order_search.specs.Distinct.{AreDistinct};
 ghost use Rattle.poly_find.specs.PolyRow.{poly_entry};
 ghost use Rattle.poly_find.specs.PolyPlaces.{parts_by, values_at};
 
-use order_search::{arity_of, value_at};
+use crate::space::PolySpace;
+use order_search::{Readable, arity_of, value_at};
 use poly_lin::LinTable;
 use std::alloc::Global;
 use trs_core::OutOfMemory;
 
+impl<'a> Readable for PolySpace<'a> {
+    ghost use Rattle.order_search.specs.OrderOver.{IsOrderOver};
+    ghost use Rattle.poly_find.specs.PolyRow.{poly_entry, poly_search};
+
+    type Found = LinTable;
+
+    ghost finds = { λ x budget table. IsOrderOver (poly_entry x.arities.now)
+        (poly_search x.arities.now x.symbols.now x.rules.now x.pairs.now)
+        budget x.symbols.now table };
+
+    fn read(&self, alloc: Global, values: &[u32]) -> Result<LinTable, OutOfMemory> {
+        interpretation(alloc, self.arities, self.symbols, values)
+    }
+}
+
 /// The interpretation by which each symbol has the constant and the coefficients of its slots.
-pub(crate) fn interpretation(
+fn interpretation(
     alloc: Global,
     arities: &[u8],
     symbols: &[u32],

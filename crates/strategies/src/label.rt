@@ -48,5 +48,6 @@ impl SearchOnPeaks for Ranks {
         Ok(closing(alloc, step))
     }
 
-    ghost fails_past_limit = { λ _ _ fault passed. label_is_not_there (peaks_pass_limit fault passed) };
+    ghost fails_past_limit = { λ _ _ fault passed.
+        label_is_not_there (peaks_pass_limit fault passed) };
 }

@@ -46,5 +46,6 @@ impl SearchOnPeaks for Joins {
         Ok(Findings::Found(Step::Newman(found), left))
     }
 
-    ghost fails_past_limit = { λ _ _ fault passed. newman_is_not_there (peaks_pass_limit fault passed) };
+    ghost fails_past_limit = { λ _ _ fault passed.
+        newman_is_not_there (peaks_pass_limit fault passed) };
 }

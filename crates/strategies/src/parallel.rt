@@ -46,5 +46,6 @@ impl SearchOnPeaks for ParallelSteps {
         Ok(closing(alloc, Step::Parallel(found)))
     }
 
-    ghost fails_past_limit = { λ _ _ fault passed. parallel_is_not_there (peaks_pass_limit fault passed) };
+    ghost fails_past_limit = { λ _ _ fault passed.
+        parallel_is_not_there (peaks_pass_limit fault passed) };
 }

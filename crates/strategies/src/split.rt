@@ -44,5 +44,6 @@ impl SearchOnPeaks for Splits {
         Ok(closing(alloc, fork_step(found)))
     }
 
-    ghost fails_past_limit = { λ _ _ fault passed. split_is_not_there (peaks_pass_limit fault passed) };
+    ghost fails_past_limit = { λ _ _ fault passed.
+        split_is_not_there (peaks_pass_limit fault passed) };
 }

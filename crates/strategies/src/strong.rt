@@ -45,5 +45,6 @@ impl SearchOnPeaks for StrongJoins {
         Ok(closing(alloc, Step::Strong(found)))
     }
 
-    ghost fails_past_limit = { λ _ _ fault passed. strong_is_not_there (peaks_pass_limit fault passed) };
+    ghost fails_past_limit = { λ _ _ fault passed.
+        strong_is_not_there (peaks_pass_limit fault passed) };
 }

@@ -2,4 +2,4 @@ use Rattle.conf_find.proofs.PeakList.{ArePassed}
 use Rattle.conf_find.proofs.parting.first_from.Given as goal
 
 abbrev pub invariant-loop-j : goal.invariant-loop-j
-invariant-loop-j g l = ArePassed (λ other. g.T.Parted.parted l.left other → ⊥) l.rights l.j
+invariant-loop-j g l = ArePassed (λ other. g.M.Mark.parted l.left other → ⊥) l.rights l.j

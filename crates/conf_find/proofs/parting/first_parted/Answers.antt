@@ -20,10 +20,10 @@ returns-in-Some g c =
 
 pub loop-i-preserved : goal.loop-i-preserved
 loop-i-preserved g c =
-    one_more_passed (λ left. Some_in (g.T.Parted.parted left) c.args.rights.now → ⊥) c.args.lefts.now c.loop-i.i c.index-lefts-i.result c.loop-i-test.true c.index-lefts-i.is
+    one_more_passed (λ left. Some_in (g.M.Mark.parted left) c.args.rights.now → ⊥) c.args.lefts.now c.loop-i.i c.index-lefts-i.result c.loop-i-test.true c.index-lefts-i.is
     (λ (a, i, h). c.in-None.ensures a i h) c.loop-i.invariant
 
 pub returns : goal.returns
 returns g c = record {
-  none = all_passed (λ left. Some_in (g.T.Parted.parted left) c.args.rights.now → ⊥) c.args.lefts.now c.loop-i.i c.loop-i-test.false c.loop-i.invariant;
+  none = all_passed (λ left. Some_in (g.M.Mark.parted left) c.args.rights.now → ⊥) c.args.lefts.now c.loop-i.i c.loop-i-test.false c.loop-i.invariant;
 }

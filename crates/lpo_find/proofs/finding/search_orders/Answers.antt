@@ -1,4 +1,4 @@
-use Rattle.std.proofs.Common.{map, ap, ◌∙◌}
+use Rattle.std.proofs.Common.{map, ap, ◌∙◌, arith}
 use Rattle.lpo_find.specs.Filters.{plain_filters}
 use Rattle.lpo_find.proofs.finding.search_orders.Goals as goal
 
@@ -8,6 +8,6 @@ invariant_of-space g c = record {
   filters_are = ap (map plain_filters) c.deref.ensures.value ∙ c.in_ok-filters.ensures;
   distinct = c.requires.distinct;
   covered = c.requires.covered;
-  few_symbols = c.requires.few_symbols;
-  few_falling = c.requires.few_falling;
+  few_symbols = omega (arith, c.requires.few_symbols);
+  few_falling = omega (arith, c.requires.few_falling);
 }

@@ -1,76 +1,30 @@
-use Rattle.std.proofs.Common.{◌≡◌, ◌≤◌, ◌<◌, ℕ, List, All, length, map, refl, ap, sym, subst, ◌∙◌, arith}
-use Rattle.pair_theory.specs.DependencyPair.{DependencyPair, dependency_pairs}
-use Rattle.pair_theory.specs.ReductionPair.{marked_rule}
-use Rattle.order_search.specs.dp_core.PlacedPairs.{placed_pairs}
-use Rattle.order_search.proofs.dp_core.AllNumbers.{few_pairs}
-use Rattle.order_search.proofs.OfProblem.{small_roots, all_markable, distinct, few_of_problem, few_falling, found_of_problem, are_symbols}
+use Rattle.std.proofs.Common.{ℕ, List}
+use Rattle.order_search.proofs.OfProblem.{searchable_as, found_of_problem}
 use Rattle.poly_find.specs.PolyRow.{poly_search, poly_entry}
-use Rattle.order_search.specs.dp_core.Symbols.{symbols_of_rules}
-use Rattle.order_search.proofs.Covered.{plain_small}
-use Rattle.poly_find.proofs.LowSymbols.{low_symbols}
 use Rattle.poly_find.proofs.finding.find_poly_in.Goals as goal
-
-pub order_symbols-requires : goal.order_symbols-requires
-order_symbols-requires g c =
-    small_roots c.args.trs.now c.rules-rules.ensures.valid c.rules-rules.ensures.limits.symbols (c.dependency_pairs_suffice.ensures.pairs c.args.trs.now c.rules-rules.ensures.valid)
-    c.args.problem.now c.sides.result.now c.in_ok-taken.taken.items (c.sides.ensures ∙ c.requires.pairs) c.in_ok-taken.ensures
-    c.deref.result.now c.deref.ensures.value
-
-pub marked_rules-requires : goal.marked_rules-requires
-marked_rules-requires g c =
-    all_markable c.args.trs.now c.rules-rules.ensures.valid c.rules-rules.ensures.limits.symbols (c.dependency_pairs_suffice.ensures.pairs c.args.trs.now c.rules-rules.ensures.valid)
-    c.args.problem.now c.sides.result.now c.in_ok-taken.taken.items (c.sides.ensures ∙ c.requires.pairs) c.in_ok-taken.ensures
-    c.deref-2.result.now c.deref-2.ensures.value
 
 pub search_linear-requires-clause-distinct : goal.search_linear-requires-clause-distinct
 search_linear-requires-clause-distinct g c =
-    distinct c.args.trs.now c.rules-rules.ensures.valid c.rules-rules.ensures.limits.symbols (c.dependency_pairs_suffice.ensures.pairs c.args.trs.now c.rules-rules.ensures.valid)
-    c.args.problem.now c.sides.result.now c.in_ok-taken.taken.items (c.sides.ensures ∙ c.requires.pairs) c.in_ok-taken.ensures
-    c.deref.result.now c.deref.ensures.value c.rules-rules.result.now c.rules-rules.ensures.rules
-    c.deref-3.result.now c.in_ok-symbols.symbols.items c.deref-3.ensures.value c.in_ok-symbols.ensures
+    (searchable_as c.deref.result.now c.in_ok-over.over.symbols.items c.in_ok-over.over.rules.now c.deref-2.result.now c.in_ok-over.over.marked.items
+    c.deref.ensures.value c.deref-2.ensures.value c.in_ok-over.ensures.searchable).distinct
 
 pub search_linear-requires-clause-small_symbols : goal.search_linear-requires-clause-small_symbols
 search_linear-requires-clause-small_symbols g c =
-    let system = c.args.trs.now in
-    let valid = c.rules-rules.ensures.valid in
-    let few = c.rules-rules.ensures.limits.symbols in
-    let good = c.dependency_pairs_suffice.ensures.pairs system valid in
-    let of = c.sides.ensures ∙ c.requires.pairs in
-    let taken = c.in_ok-taken.taken.items in
-    let are = are_symbols system valid few good c.args.problem.now c.sides.result.now taken of c.in_ok-taken.ensures
-    c.deref.result.now c.deref.ensures.value c.rules-rules.result.now c.rules-rules.ensures.rules
-    c.deref-3.result.now c.in_ok-symbols.symbols.items c.deref-3.ensures.value c.in_ok-symbols.ensures in
-    let roots = small_roots system valid few good c.args.problem.now c.sides.result.now taken of c.in_ok-taken.ensures taken refl in
-    low_symbols (symbols_of_rules system.rules) taken c.deref-3.result.now (plain_small system valid few taken roots c.deref-3.result.now are) roots are
+    (searchable_as c.deref.result.now c.in_ok-over.over.symbols.items c.in_ok-over.over.rules.now c.deref-2.result.now c.in_ok-over.over.marked.items
+    c.deref.ensures.value c.deref-2.ensures.value c.in_ok-over.ensures.searchable).small_symbols
 
 pub search_linear-requires-clause-few_symbols : goal.search_linear-requires-clause-few_symbols
 search_linear-requires-clause-few_symbols g c =
-    few_of_problem c.args.trs.now c.rules-rules.ensures.valid c.rules-rules.ensures.limits.symbols (c.dependency_pairs_suffice.ensures.pairs c.args.trs.now c.rules-rules.ensures.valid)
-    c.args.problem.now c.sides.result.now c.in_ok-taken.taken.items (c.sides.ensures ∙ c.requires.pairs) c.in_ok-taken.ensures
-    c.deref.result.now c.deref.ensures.value c.rules-rules.result.now c.rules-rules.ensures.rules
-    c.deref-3.result.now c.in_ok-symbols.symbols.items c.deref-3.ensures.value c.in_ok-symbols.ensures
+    (searchable_as c.deref.result.now c.in_ok-over.over.symbols.items c.in_ok-over.over.rules.now c.deref-2.result.now c.in_ok-over.over.marked.items
+    c.deref.ensures.value c.deref-2.ensures.value c.in_ok-over.ensures.searchable).few_symbols
 
 pub search_linear-requires-clause-few_falling : goal.search_linear-requires-clause-few_falling
 search_linear-requires-clause-few_falling g c =
-    let count : length (placed_pairs c.args.trs.now.rules) ≡ length (dependency_pairs c.args.trs.now.rules) = c.placed_pairs_are_the_pairs.ensures.all c.args.trs.now c.rules-rules.ensures.valid in
-    let placed = few_pairs c.args.trs.now.rules in
-    let nodes = c.rules-rules.ensures.limits.nodes in
-    let all : length (dependency_pairs c.args.trs.now.rules) ≤ 65536 = omega (arith, count, placed, nodes) in
-    few_falling c.args.trs.now c.rules-rules.ensures.valid c.rules-rules.ensures.limits.symbols (c.dependency_pairs_suffice.ensures.pairs c.args.trs.now c.rules-rules.ensures.valid)
-    c.args.problem.now c.sides.result.now c.in_ok-taken.taken.items (c.sides.ensures ∙ c.requires.pairs) c.in_ok-taken.ensures
-    c.deref.result.now c.deref.ensures.value c.rules-rules.result.now c.rules-rules.ensures.rules
-    c.deref-3.result.now c.in_ok-symbols.symbols.items c.deref-3.ensures.value c.in_ok-symbols.ensures
-    c.deref-4.result.now c.in_ok-marked.marked.items c.deref-4.ensures.value
-    (c.in_ok-marked.ensures ∙ ap (λ (l : List DependencyPair). map marked_rule l) (c.deref-2.ensures.value ∙ sym c.deref.ensures.value))
-    c.rules-rules.ensures.limits.rules all c.requires.ascending
-    (subst (λ (l : List DependencyPair). All (λ n. n < length l) c.args.problem.now) c.requires.pairs c.requires.numbers)
+    (searchable_as c.deref.result.now c.in_ok-over.over.symbols.items c.in_ok-over.over.rules.now c.deref-2.result.now c.in_ok-over.over.marked.items
+    c.deref.ensures.value c.deref-2.ensures.value c.in_ok-over.ensures.searchable).few_falling
 
 pub returns-clause-answer : goal.returns-clause-answer
 returns-clause-answer g c =
-    found_of_problem c.args.trs.now c.rules-rules.ensures.valid c.rules-rules.ensures.limits.symbols (c.dependency_pairs_suffice.ensures.pairs c.args.trs.now c.rules-rules.ensures.valid)
-    c.args.problem.now c.sides.result.now c.in_ok-taken.taken.items (c.sides.ensures ∙ c.requires.pairs) c.in_ok-taken.ensures
-    c.deref.result.now c.deref.ensures.value c.rules-rules.result.now c.rules-rules.ensures.rules
-    c.deref-3.result.now c.in_ok-symbols.symbols.items c.deref-3.ensures.value c.in_ok-symbols.ensures
-    c.deref-4.result.now c.in_ok-marked.marked.items c.deref-4.ensures.value
-    (c.in_ok-marked.ensures ∙ ap (λ (l : List DependencyPair). map marked_rule l) (c.deref-2.ensures.value ∙ sym c.deref.ensures.value))
-    poly_search poly_entry (λ (order : List (ℕ × List ℕ)). order) c.args.budget _ c.arities-arities.result.now c.search_linear.result c.arities-arities.ensures c.search_linear.ensures.answer
+    found_of_problem poly_search poly_entry (λ (order : List (ℕ × List ℕ)). order) c.args.budget _ c.args.trs.now c.args.problem.now c.in_ok-over.over.arities.now
+    c.deref.result.now c.in_ok-over.over.symbols.items c.in_ok-over.over.rules.now c.deref-2.result.now c.in_ok-over.over.marked.items c.search_linear.result
+    c.deref.ensures.value c.deref-2.ensures.value c.in_ok-over.ensures.of_problem c.search_linear.ensures.answer

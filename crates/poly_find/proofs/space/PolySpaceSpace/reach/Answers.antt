@@ -1,9 +1,9 @@
-use Rattle.std.proofs.Common.{ℕ, List, ◌||◌, ◌^◌, ap, sym, subst, length, arith, ◌∙◌, ◌≤◌}
+use Rattle.std.proofs.Common.{ℕ, List, ◌||◌, ◌^◌, ap, sym, arith, ◌∙◌}
 use Rattle.order_search.specs.Ends.{end_among}
 use Rattle.order_search.specs.OrderSpace.{occurs_in}
 use Rattle.order_search.proofs.LastPlaces.{end_within}
 use Rattle.poly_find.specs.PolyPlaces.{parts_by, starts}
-use Rattle.poly_find.proofs.PolyPuzzle.{slot_count, reach_of_rule, reach_of_last, few_of_rule}
+use Rattle.poly_find.proofs.PolyPuzzle.{reach_of_rule, reach_of_last, few_of_rule}
 use Rattle.poly_find.proofs.space.PolySpaceSpace.reach.Goals as goal
 
 pub slots_of_first-requires-clause-within : goal.slots_of_first-requires-clause-within

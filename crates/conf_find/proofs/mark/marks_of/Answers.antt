@@ -1,0 +1,28 @@
+use Rattle.std.proofs.Common.{[], sym, subst}
+use Rattle.term_pool.specs.Listed.{Listed}
+use Rattle.join_find.specs.First.{along_end}
+use Rattle.conf_find.specs.Marks.{AreMarks}
+use Rattle.conf_find.proofs.ForkPeaks.{one_mark, all_marks, read_below}
+use Rattle.conf_find.proofs.mark.marks_of.Goals as goal
+
+pub of-requires : goal.of-requires
+of-requires g c =
+    read_below c.args.pool.now c.args.entries.now c.loop-entry.entry-index c.entry-item.result c.loop-entry-test.true c.entry-item.is c.requires
+
+pub loop-entry-init : goal.loop-entry-init
+loop-entry-init g c =
+    let marks = g.M.Mark.marks c.args.by_root.now.rules c.args.pool.now in
+    subst (λ ms. AreMarks marks [] ms) (sym c.in_ok-marks.ensures.items) along_end
+
+pub loop-entry-preserved : goal.loop-entry-preserved
+loop-entry-preserved g c =
+    let marks = g.M.Mark.marks c.args.by_root.now.rules c.args.pool.now in
+    one_mark (λ (e : Listed) m. marks e.term m) c.args.pool.now c.args.entries.now c.loop-entry.marks.items c.push.new.self.items
+    c.loop-entry.entry-index c.entry-item.result c.in_ok-mark.mark c.loop-entry-test.true c.entry-item.is c.loop-entry.invariant c.in_ok-mark.ensures
+    c.in_ok-push.ensures.items
+
+pub returns : goal.returns
+returns g c =
+    let marks = g.M.Mark.marks c.args.by_root.now.rules c.args.pool.now in
+    all_marks (λ (e : Listed) m. marks e.term m) c.args.pool.now c.args.entries.now c.loop-entry.marks.items c.loop-entry.entry-index
+    c.loop-entry-test.false c.loop-entry.invariant
