@@ -78,7 +78,7 @@ fn fork_at<M: Mark>(
     Ok(found)
 }
 
-/// The same. What both sides reach stays in the pool.
+/// The same. What both sides reach stays in the pool, and is listed once where they are equal.
 fn fork_within<M: Mark>(
     alloc: Global,
     pool: &mut Pool,
@@ -94,6 +94,9 @@ fn fork_within<M: Mark>(
     ensures kept { Extends pool.old pool.new }
 {
     let lefts = reached(alloc, pool, trs, &peak.left)?;
+    if peak.left.same(&peak.right) {
+        return fork_between::<M>(alloc, pool, by_root, peak, &lefts, &lefts);
+    }
     let rights = reached(alloc, pool, trs, &peak.right)?;
     fork_between::<M>(alloc, pool, by_root, peak, &lefts, &rights)
 }
