@@ -8,6 +8,8 @@ mod bindings;
 mod contracting;
 mod instances;
 mod interning;
+mod knowing;
+mod known;
 mod listing;
 mod matching;
 mod narrow;
