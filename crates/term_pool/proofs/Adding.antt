@@ -1,5 +1,5 @@
 -- A node that is looked up or added.
-use Rattle.std.proofs.Common.{◌≡◌, All, ℕ, ◌+◌, ◌-◌, ◌<◌, ◌≤◌, ◌^◌, min, Bool, true, false, ◌⊎◌, inl, inr, List, [], ◌∷◌, ◌++◌, map, length, Some, is_some, not, refl, ap, sym, ◌∙◌, arith, slice_get, get_or, length-append, cond, if◌then◌else◌, zero, suc}
+use Rattle.std.proofs.Common.{◌≡◌, All, ℕ, ◌+◌, ◌-◌, ◌<◌, ◌≤◌, ◌^◌, min, Bool, true, false, ◌⊎◌, inl, inr, List, [], ◌∷◌, ◌++◌, map, length, Some, None, is_some, not, nat_lt, position, subst, refl, ap, sym, ◌∙◌, arith, slice_get, get_or, length-append, cond, if◌then◌else◌, zero, suc}
 use Rattle.std.proofs.lemmas.Option.{same_Some, slice_get_within, slice_get-get_or}
 use Rattle.std.proofs.lemmas.List.Elements.{All-head, All-tail, All-weaker}
 use Rattle.std.specs.List.{position_or_len}
@@ -20,6 +20,10 @@ use Rattle.term_pool.proofs.PoolReads.{reads, same_length}
 clash : (b : Bool) → b ≡ false → b ≡ true → ⊥
 clash true f t = absurd cc
 clash false f t = absurd cc
+
+index_read : (b : Bool) (k i : ℕ) → cond b (Some k) None ≡ Some i → k ≡ i
+index_read true k i e = same_Some k i e
+index_read false k i e = absurd cc
 
 -- a look-up that finds nothing, and one that finds an index
 module _ {X : Type 0} (eq : Node → Node → Bool) (n : Node) where
@@ -203,6 +207,15 @@ module _ (eq : Node → Node → Bool) (laws : IsNodeEquality eq) where
       new_entry =
           let index : position_or_len (eq n) (keys_of es) ≡ length view = last_index eq n es none ∙ same_length es view pool is in
           rw (goes_last eq n es m none, index) (record { pool = added; stands = new_stands; extends = extends; few = few_more })
+
+    -- a node that is found stands at its index
+    pub found_stands : (i : ℕ) → is_some (lookup (eq n) es) ≡ true → position (eq n) (keys_of es) ≡ Some i → StandsFor view i (node_tree view n)
+    found_stands i there at =
+        let found = found_index eq n es there in
+        let here : position_or_len (eq n) (keys_of es) ≡ i = index_read (nat_lt (position_or_len (eq n) (keys_of es)) (length (keys_of es))) (position_or_len (eq n) (keys_of es)) i at in
+        let read : StandsFor view (position_or_len (eq n) (keys_of es)) (node_tree view found.0.0) = reads es view pool is _ found.0 (sym found.1) in
+        let tree : node_tree view n ≡ node_tree view found.0.0 = laws.sound view n found.0.0 found.2 in
+        rw tree (subst (λ k. StandsFor view k (node_tree view found.0.0)) here read)
 
     module _ (m : Measure) (measure : IsMeasure (node_tree view n) m) where
       same_measures : (a b : Measure) → a.size ≡ b.size → a.depth ≡ b.depth → a ≡ b

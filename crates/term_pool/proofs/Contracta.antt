@@ -1,11 +1,10 @@
 -- A term with an instance at a position, which is made in a pool that has grown.
-use Rattle.std.proofs.Common.{◌≡◌, ℕ, ◌+◌, ◌<◌, ◌≤◌, ◌⊎◌, inl, inr, min, List, [], ◌∷◌, length, Some, slice_get, ap, sym, ◌∙◌, zero, suc, arith}
+use Rattle.std.proofs.Common.{◌≡◌, ℕ, ◌+◌, ◌<◌, ◌≤◌, List, [], ◌∷◌, length, Some, false, IsTrue, slice_get, ap, sym, ◌∙◌, zero, suc, arith}
 use Rattle.std.proofs.lemmas.Option.{same_Some}
 use Rattle.trs_defs.specs.Tree.{Tree, Trees, var, app, nil, cons, items}
-use Rattle.trs_defs.specs.Size.{size_of, size_of_all, depth_of}
+use Rattle.trs_defs.specs.Size.{size_of, size_of_all, within_limits}
 use Rattle.trs_defs.specs.Position.{argument_at, subterm_at, replaced_at}
 use Rattle.trs_defs.proofs.Contexts.{replaced_somehow}
-use Rattle.trs_defs.proofs.Limits.{limits_kept, limits_passed_by_size, limits_passed_by_depth}
 use Rattle.trs_defs.proofs.Positions.{replaced_inside}
 use Rattle.term_pool.specs.Pooled.{StandsFor, Extends, tree_at}
 use Rattle.term_pool.specs.Placing.{HasPut, IsPlaced, IsTooLargePut}
@@ -32,6 +31,13 @@ size_way (place ∷ p) t new u e =
     let there : argument_at u place ≡ Some r.changed = ap (λ z. argument_at z place) (sym r.whole) ∙ argument_set t place r.argument r.changed r.there in
     omega (arith, rest, argument_below u place r.changed there)
 
+-- a term with what was put, within the limits
+pub placed_within : (p : List ℕ) (t by : Tree) (old new : List Tree) (id : ℕ) → replaced_at p t by ≡ Some (tree_at new id) → IsTrue (within_limits (tree_at new id)) → id < length new
+    → length new ≤ length old + length p → IsPlaced p t by old new id
+placed_within p t by old new id put limits there few =
+    let way = size_way p t by (tree_at new id) put in
+    record { put = put; there = there; limits = limits; few = omega (arith, few, way) }
+
 -- the instance has an id in a pool that has grown
 module _ (pool next : List Tree) (p : List ℕ) (id by : ℕ) (part value : Tree) (within : id < length pool) (extends : Extends pool next) (stand : StandsFor next by value)
     (there : subterm_at p (tree_at pool id) ≡ Some part) where
@@ -47,24 +53,22 @@ module _ (pool next : List Tree) (p : List ℕ) (id by : ℕ) (part value : Tree
   pub has_put : HasPut next p id by
   has_put = record { result = whole.0; put = next_put }
 
-  module _ (last : List Tree) (new : ℕ) (made : replaced_at p (tree_at next id) (tree_at next by) ≡ Some (tree_at last new))
-      (size depth : ℕ) (sized : size ≡ min (size_of (tree_at last new)) 4294967295) (deep : depth ≡ min (depth_of (tree_at last new)) 4294967295) where
+  module _ (last : List Tree) (new : ℕ) (made : replaced_at p (tree_at next id) (tree_at next by) ≡ Some (tree_at last new)) where
     made_put : replaced_at p (tree_at pool id) value ≡ Some (tree_at last new)
     made_put =
         let same : tree_at last new ≡ whole.0 = same_Some (tree_at last new) whole.0 (sym made ∙ next_put) in
         whole.1 ∙ ap (λ z. Some z) (sym same)
 
-    pub is_placed : size ≤ 65536 → depth ≤ 1024 → new < length last → length next ≤ length pool + size_of value → length last ≤ length next + length p
+    pub is_placed : IsTrue (within_limits (tree_at last new)) → new < length last → length next ≤ length pool + size_of value → length last ≤ length next + length p
         → IsPlaced p (tree_at pool id) value pool last new
-    is_placed s d there h l =
+    is_placed limits there h l =
         let way = size_way p (tree_at pool id) value (tree_at last new) made_put in
         record {
           put = made_put;
           there = there;
-          limits = limits_kept (tree_at last new) (omega (arith, sized, s)) (omega (arith, deep, d));
+          limits = limits;
           few = omega (arith, h, l, way);
         }
 
-    pub is_too_large : (65536 < size) ⊎ (1024 < depth) → IsTooLargePut p (tree_at pool id) value
-    is_too_large (inl s) = record { result = tree_at last new; put = made_put; large = limits_passed_by_size (tree_at last new) (omega (arith, sized, s)) }
-    is_too_large (inr d) = record { result = tree_at last new; put = made_put; large = limits_passed_by_depth (tree_at last new) (omega (arith, deep, d)) }
+    pub is_too_large : within_limits (tree_at last new) ≡ false → IsTooLargePut p (tree_at pool id) value
+    is_too_large large = record { result = tree_at last new; put = made_put; large = large }

@@ -10,11 +10,13 @@ pub mod RootSkips
 pub mod NormalForms
 pub mod RedexWalk
 pub mod RedexLists
+pub mod NoRedexes
 pub mod MatchSteps
 pub mod PassedIds
 pub mod PoolPlaces
 pub mod Rooms
 pub mod Contracta
+pub mod KnownLaws
 pub mod StepLemmas
 pub mod PathLemmas
 pub mod NarrowLaws

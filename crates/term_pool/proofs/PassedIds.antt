@@ -1,21 +1,10 @@
--- Ids that were passed on the way through a term.
-use Rattle.std.proofs.Common.{◌≡◌, ℕ, ◌≤◌, true, List, map, drop, length, nat_cmp, inl, inr, ◌↔◌}
-use Rattle.std.proofs.Math.Decide.{ℕ_discrete}
+-- What is left of a term on the way through it.
+use Rattle.std.proofs.Common.{◌≡◌, ℕ, ◌≤◌, List, map, drop, length, inl, inr, ◌↔◌}
 use Rattle.std.proofs.lemmas.List.{drop_all}
-use Rattle.std.specs.BTreeSet.{BTreeSet, Updates}
 use Rattle.trs_defs.specs.Tree.{Tree, Trees, var, app, trees}
 use Rattle.trs_defs.specs.System.{RewriteRule}
 use Rattle.term_pool.specs.Pooled.{tree_at}
 use Rattle.term_pool.specs.Redex.{IsRedex, HasRedex, SomeHasRedex}
-use Rattle.term_pool.specs.Passed.{HaveNoRedex}
-use Rattle.term_pool.proofs.MatchSteps.{at_other}
-
-pub one_more_passed : (rules : List RewriteRule) (pool : List Tree) (old new : BTreeSet ℕ) (id : ℕ) → Updates nat_cmp old new id true → HaveNoRedex rules pool old
-    → (HasRedex rules (tree_at pool id) → ⊥) → HaveNoRedex rules pool new
-one_more_passed rules pool old new id updates before none v h r = elim (ℕ_discrete id v) as (λ _. ⊥) [
-  | yes same ↦ none (rw same r)
-  | no other ↦ before v (rw (updates.0 v, at_other id v other) at h) r
-]
 
 -- what is left of a term after its root
 pub root_then_arguments : (rules : List RewriteRule) (t : Tree) (f : ℕ) (ts : Trees) → t ≡ app f ts → (IsRedex rules t → ⊥) → SomeHasRedex rules ts ↔ HasRedex rules t

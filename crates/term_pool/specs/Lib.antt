@@ -16,5 +16,6 @@ pub mod Listed
 pub mod Reach
 pub mod ListedIds
 pub mod Reached
+pub mod Known
 pub mod Reaching
 pub mod Hashed

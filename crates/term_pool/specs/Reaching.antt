@@ -3,6 +3,7 @@ use Rattle.std.specs.Prelude.{◌≡◌, ◌<◌, ◌≤◌, ◌⊎◌, ℕ, ◌
 use Rattle.std.specs.Ordering.{nat_cmp}
 use Rattle.std.specs.BTreeSet.{BTreeSet, contains}
 use Rattle.trs_defs.specs.Tree.{Tree}
+use Rattle.trs_defs.specs.Size.{size_of, within_limits}
 use Rattle.trs_defs.specs.System.{RewriteRule}
 use Rattle.trs_defs.specs.Path.{PlacedRule, StepsAt}
 use Rattle.term_pool.specs.Pooled.{AreDistinct, StandsFor, tree_at}
@@ -25,6 +26,13 @@ pub record Adds (limit size : ℕ) (kind : List Listed → Type 0) (old new : Li
   pub lists : ListsMore limit kind (listed_at old before.list.items) (listed_at new after.list.items)
   pub reached : IsReached new after
   pub room : most_ids limit size new after ≤ most_ids limit size old before
+
+-- the id is the result of a step, which keeps the limits; at most as many ids were added as it has nodes
+pub record IsReduct (rules : List RewriteRule) (s : PlacedRule) (t : Tree) (old new : List Tree) (id : ℕ) : Type 0 where
+  pub steps : StepsAt rules s.place s.rule t (tree_at new id)
+  pub limits : IsTrue (within_limits (tree_at new id))
+  pub there : id < length new
+  pub few : length new ≤ length old + size_of (tree_at new id)
 
 -- the id is the result of a step, which is small enough, and not in the set; at most `size` ids were added
 pub record IsNewReduct (rules : List RewriteRule) (size : ℕ) (s : PlacedRule) (t : Tree) (ids : BTreeSet ℕ) (old new : List Tree) (id : ℕ) : Type 0 where

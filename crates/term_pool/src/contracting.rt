@@ -1,9 +1,10 @@
 ghost use Rattle.std.specs.Prelude.{◌≡◌, ◌<◌, Some, length, IsTrue, IfOk, IfSome, IfNone};
+ghost use Rattle.trs_defs.specs.Size.{within_limits};
 ghost use Rattle.trs_defs.specs.Position.{subterm_at};
 ghost use Rattle.trs_core.specs.View.{tree};
 ghost use Rattle.term_pool.specs.Pooled.{Extends, tree_at};
 ghost use Rattle.term_pool.specs.Bindings.{HasIds, instance_of};
-ghost use Rattle.term_pool.specs.Placing.{IsPlaced, IsTooLargePut};
+ghost use Rattle.term_pool.specs.Placing.{HasPut, IsPlaced, IsTooLargePut};
 
 use crate::Pool;
 use crate::bindings::Bindings;
@@ -44,12 +45,48 @@ impl Pool {
         let mark = self.mark();
         let by = self.instance(alloc, found, t)?;
         let new = self.put(alloc, id, places, by)?;
-        let made = self.measure(new);
-        if u64::from(made.size) > MOST_NODES || u64::from(made.depth) > GREATEST_DEPTH {
+        if !self.keeps_limits(new) {
             self.release(mark);
             return Ok(None);
         }
         Ok(Some(new))
+    }
+
+    /// The id of a term with another subterm at a position, or `None` where that passes the limits.
+    /// Only the nodes on the way to it are made, and none is kept where it passes the limits.
+    pub(crate) fn put_within(
+        &mut self,
+        alloc: Global,
+        id: u32,
+        places: &[u8],
+        by: u32,
+    ) -> Result<Option<u32>, OutOfMemory>
+        requires there { id < length self.old }
+        requires by { by < length self.old }
+        requires put { HasPut self.old places.now id by }
+        ensures put { IfOk result (λ made. IfSome made (IsPlaced places.now
+            (tree_at self.old id) (tree_at self.old by) self.old self.new)) }
+        ensures none { IfOk result (λ made. IfNone made (
+            IsTooLargePut places.now (tree_at self.old id) (tree_at self.old by))) }
+        ensures kept { Extends self.old self.new }
+        ensures unchanged { IfOk result (λ made. IfNone made (self.new ≡ self.old)) }
+    {
+        let mark = self.mark();
+        let new = self.put(alloc, id, places, by)?;
+        if !self.keeps_limits(new) {
+            self.release(mark);
+            return Ok(None);
+        }
+        Ok(Some(new))
+    }
+
+    /// Whether the id's term keeps the limits.
+    fn keeps_limits(&self, id: u32) -> bool
+        requires { id < length self.now }
+        ensures { result ≡ within_limits (tree_at self.now id) }
+    {
+        let made = self.measure(id);
+        u64::from(made.size) <= MOST_NODES && u64::from(made.depth) <= GREATEST_DEPTH
     }
 
     /// Whether it is seen before that the whole would pass the limits with the instance of `t` in

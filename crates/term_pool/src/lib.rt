@@ -9,6 +9,8 @@ mod contracting;
 mod distinct;
 mod instances;
 mod interning;
+mod knowing;
+mod known;
 mod listing;
 mod matching;
 mod narrow;

@@ -4,17 +4,17 @@ ghost use Rattle.trs_defs.specs.Step.{Step};
 ghost use Rattle.trs_defs.specs.NormalForm.{IsNormalForm};
 ghost use Rattle.term_pool.specs.Pooled.{tree_at};
 ghost use Rattle.term_pool.specs.Redex.{IsRedex, HasRedex};
-ghost use Rattle.term_pool.specs.Passed.{HaveNoRedex};
+ghost use Rattle.term_pool.specs.Known.{IsKnown};
 
+use crate::known::Known;
 use crate::nodes::Node;
 use crate::{Pool, RulesByRoot};
 use std::alloc::Global;
-use std::collections::BTreeSet;
 use trs_core::OutOfMemory;
 
 impl Pool {
-    /// Whether no step leaves the id's term. Each subterm is looked at once, however often it
-    /// stands in the term. (Baader and Nipkow, definition 2.1.1.)
+    /// Whether no step leaves the id's term. Each large subterm is looked at once, however often
+    /// it stands in the term. (Baader and Nipkow, definition 2.1.1.)
     pub fn is_normal(
         &self,
         alloc: Global,
@@ -27,46 +27,54 @@ impl Pool {
         ensures reducible { IfOk result (λ yes.
             yes ≡ false → (u : Tree) × Step by_root.now.rules (tree_at self.now id) u) }
     {
-        let mut passed = BTreeSet::new(alloc);
-        Ok(!self.has_redex(alloc, by_root, id, &mut passed)?)
+        let mut known = Known::new(alloc);
+        Ok(!self.has_redex(alloc, by_root, id, &mut known)?)
     }
 
-    /// Whether some subterm is a redex. Those of the ids that were passed have none.
+    /// Whether some subterm is a redex.
     fn has_redex(
         &self,
         alloc: Global,
         by_root: &RulesByRoot,
         id: u32,
-        passed: &mut BTreeSet<u32>,
+        known: &mut Known,
     ) -> Result<bool, OutOfMemory>
         requires there { id < length self.now }
-        requires passed { HaveNoRedex by_root.now.rules self.now passed.old }
+        requires known { IsKnown by_root.now.rules self.now known.old }
         ensures redex { IfOk result (λ yes.
             IsTrue yes ↔ HasRedex by_root.now.rules (tree_at self.now id)) }
-        ensures passed { OnOk result (HaveNoRedex by_root.now.rules self.now passed.new) }
+        ensures known { OnOk result (IsKnown by_root.now.rules self.now known.new) }
     {
-        if passed.contains(&id) {
+        if self.is_passed(by_root, id, known) {
             return Ok(false);
         }
-        if self.is_redex(alloc, by_root, id)? {
+        if self.is_redex(alloc, by_root, id, known)? {
             return Ok(true);
         }
         if let Node::App(_, args) = self.node(id) {
             for arg in args.as_slice() {
-                if self.has_redex(alloc, by_root, *arg, passed)? {
+                if self.has_redex(alloc, by_root, *arg, known)? {
                     return Ok(true);
                 }
             }
         }
-        passed.insert(id)?;
+        self.pass(by_root, id, known)?;
         Ok(false)
     }
 
     /// Whether the id's term is an instance of the left side of a rule.
-    fn is_redex(&self, alloc: Global, by_root: &RulesByRoot, id: u32) -> Result<bool, OutOfMemory>
-        requires { id < length self.now }
-        ensures { IfOk result (λ yes.
+    fn is_redex(
+        &self,
+        alloc: Global,
+        by_root: &RulesByRoot,
+        id: u32,
+        known: &mut Known,
+    ) -> Result<bool, OutOfMemory>
+        requires there { id < length self.now }
+        requires known { IsKnown by_root.now.rules self.now known.old }
+        ensures redex { IfOk result (λ yes.
             IsTrue yes ↔ IsRedex by_root.now.rules (tree_at self.now id)) }
+        ensures known { OnOk result (IsKnown by_root.now.rules self.now known.new) }
     {
         let rules = by_root.rules();
         let Node::App(f, _) = self.node(id) else {
@@ -74,7 +82,7 @@ impl Pool {
         };
         let mut k = by_root.first(*f);
         while (k as usize) < rules.len() {
-            if self.is_instance(alloc, &rules[k as usize], id)? {
+            if self.is_redex_by(alloc, by_root, &rules[k as usize], k, id, known)? {
                 return Ok(true);
             }
             k = by_root.next(k);

@@ -101,6 +101,10 @@ impl Pool {
         ensures kept { Extends self.old self.new }
         ensures few { length self.new ≤ length self.old + 1 }
     {
+        // Most terms have an id already, and a measure with it.
+        if let Some(index) = self.entries.get_index_of(&node) {
+            return Ok(index as u32);
+        }
         if self.len() == u32::MAX {
             return Err(OutOfMemory);
         }

@@ -7,8 +7,11 @@ ghost use Rattle.term_pool.specs.Listed.{Listed};
 ghost use Rattle.term_pool.specs.Reach.{IsReachList, AreReducts, AreCandidates};
 ghost use Rattle.term_pool.specs.ListedIds.{listed, listed_at};
 ghost use Rattle.term_pool.specs.Reached.{AreBelow, IsReached};
-ghost use Rattle.term_pool.specs.Reaching.{Adds, IsNewReduct, IsPassedOver};
+ghost use Rattle.term_pool.specs.Known.{IsKnown};
+ghost use Rattle.term_pool.specs.Steps.{IsTooLarge};
+ghost use Rattle.term_pool.specs.Reaching.{Adds, IsReduct, IsNewReduct, IsPassedOver};
 
+use crate::known::Known;
 use crate::narrow::paths_keep_narrow;
 use crate::paths::one_longer;
 use crate::reached::Reached;
@@ -92,11 +95,12 @@ impl Pool {
             limit: count.max(1) as usize,
             size,
         };
+        let mut known = Known::new(alloc);
         let mut reached = Reached::new(alloc, id)?;
         let mut next = 0;
         while next < reached.list.len() && reached.list.len() < bounds.limit {
             let entry = reached.entry(alloc, next)?;
-            self.look_at(alloc, &by_root, bounds, &entry, &mut reached)?;
+            self.look_at(alloc, &by_root, bounds, &entry, &mut known, &mut reached)?;
             next += 1;
         }
         Ok(reached.list)
@@ -109,25 +113,28 @@ impl Pool {
         by_root: &RulesByRoot,
         bounds: Bounds,
         entry: &(u32, Vec<PathStep>),
+        known: &mut Known,
         reached: &mut Reached,
     ) -> Result<(), OutOfMemory>
         requires there { entry.now.0 < length self.old }
         requires narrow { IsNarrow (tree_at self.old entry.now.0) }
+        requires known { IsKnown by_root.now.rules self.old known.old }
         requires reached { IsReached self.old reached.old }
         ensures adds { OnOk result (Adds bounds.limit bounds.size (AreCandidates by_root.now.rules
             bounds.depth bounds.size (listed self.old entry.now ∷ []))
             self.old self.new reached.old reached.new) }
+        ensures known { OnOk result (IsKnown by_root.now.rules self.new known.new) }
         ensures kept { Extends self.old self.new }
     {
         if entry.1.len() >= bounds.depth as usize {
             return Ok(());
         }
-        let steps = self.redexes_at(alloc, by_root, entry.0)?;
+        let steps = self.list_redexes(alloc, by_root, entry.0, known)?;
         for step in &steps {
             if reached.list.len() >= bounds.limit {
                 return Ok(());
             }
-            self.add_reduct(alloc, by_root.trs(), bounds, entry, step, reached)?;
+            self.add_reduct(alloc, by_root.trs(), bounds, entry, step, known, reached)?;
         }
         Ok(())
     }
@@ -140,18 +147,21 @@ impl Pool {
         bounds: Bounds,
         entry: &(u32, Vec<PathStep>),
         step: &PathStep,
+        known: &mut Known,
         reached: &mut Reached,
     ) -> Result<(), OutOfMemory>
         requires there { entry.now.0 < length self.old }
         requires redex { IsRedexAt trs.now.rules (tree_at self.old entry.now.0) step.now }
+        requires known { IsKnown trs.now.rules self.old known.old }
         requires reached { IsReached self.old reached.old }
         requires space { length reached.old.list.items < bounds.limit }
         ensures adds { OnOk result (Adds bounds.limit bounds.size (AreReducts trs.now.rules
             bounds.size (listed self.old entry.now) (step.now ∷ []))
             self.old self.new reached.old reached.new) }
+        ensures known { OnOk result (IsKnown trs.now.rules self.new known.new) }
         ensures kept { Extends self.old self.new }
     {
-        match self.new_reduct(alloc, trs, entry.0, step, bounds.size, &reached.ids)? {
+        match self.new_reduct(alloc, trs, entry.0, step, bounds.size, known, &reached.ids)? {
             None => Ok(()),
             Some(reduct) => reached.push(reduct, one_longer(alloc, &entry.1, step)?),
         }
@@ -166,30 +176,67 @@ impl Pool {
         id: u32,
         step: &PathStep,
         size: u64,
+        known: &mut Known,
         ids: &BTreeSet<u32>,
     ) -> Result<Option<u32>, OutOfMemory>
         requires there { id < length self.old }
         requires redex { IsRedexAt trs.now.rules (tree_at self.old id) step.now }
+        requires known { IsKnown trs.now.rules self.old known.old }
         requires below { AreBelow (length self.old) ids.now }
         ensures new { IfOk result (λ found. IfSome found (IsNewReduct trs.now.rules size
             step.now (tree_at self.old id) ids.now self.old self.new)) }
         ensures none { IfOk result (λ found. IfNone found (IsPassedOver trs.now.rules size
             step.now (tree_at self.old id) ids.now self.old)) }
         ensures unchanged { IfOk result (λ found. IfNone found (self.new ≡ self.old)) }
+        ensures known { OnOk result (IsKnown trs.now.rules self.new known.new) }
         ensures kept { Extends self.old self.new }
     {
         let mark = self.mark();
-        let reduct = match self.step_at(alloc, trs, id, &step.place, step.rule) {
-            Ok(reduct) => reduct,
-            Err(fault) => {
-                fault.unless_no_memory()?;
-                return Ok(None);
-            }
+        let Some(reduct) = self.reduct(alloc, trs, id, step, known)? else {
+            return Ok(None);
         };
-        if u64::from(self.measure(reduct).size) > size || ids.contains(&reduct) {
+        if u64::from(self.measure(reduct).size) > size {
             self.release(mark);
             return Ok(None);
         }
+        if ids.contains(&reduct) {
+            self.release(mark);
+            self.note_contractum(trs, id, step, reduct, known)?;
+            return Ok(None);
+        }
+        self.note_contractum(trs, id, step, reduct, known)?;
         Ok(Some(reduct))
+    }
+
+    /// The id of the reduct by a step at a redex, or `None` where it passes the limits. A
+    /// contractum that is known is not made again.
+    fn reduct(
+        &mut self,
+        alloc: Global,
+        trs: &Trs,
+        id: u32,
+        step: &PathStep,
+        known: &Known,
+    ) -> Result<Option<u32>, OutOfMemory>
+        requires there { id < length self.old }
+        requires redex { IsRedexAt trs.now.rules (tree_at self.old id) step.now }
+        requires known { IsKnown trs.now.rules self.old known.now }
+        ensures reduct { IfOk result (λ found. IfSome found (IsReduct trs.now.rules
+            step.now (tree_at self.old id) self.old self.new)) }
+        ensures none { IfOk result (λ found. IfNone found (IsTooLarge trs.now.rules
+            step.now.place step.now.rule (tree_at self.old id))) }
+        ensures unchanged { IfOk result (λ found. IfNone found (self.new ≡ self.old)) }
+        ensures kept { Extends self.old self.new }
+    {
+        match self.known_contractum(id, step, known) {
+            Some(by) => self.put_within(alloc, id, step.place.places(), by),
+            None => match self.step_at(alloc, trs, id, &step.place, step.rule) {
+                Ok(reduct) => Ok(Some(reduct)),
+                Err(fault) => {
+                    fault.unless_no_memory()?;
+                    Ok(None)
+                }
+            },
+        }
     }
 }

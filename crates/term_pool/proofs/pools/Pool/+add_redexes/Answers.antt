@@ -1,11 +1,13 @@
-use Rattle.std.proofs.Common.{◌≡◌, [], map, ℕ, get_or, refl, arith}
+use Rattle.std.proofs.Common.{◌≡◌, [], map, ℕ, length, get_or, refl, arith}
 use Rattle.trs_defs.specs.Tree.{app, trees}
 use Rattle.term_pool.specs.Pooled.{tree_at}
-use Rattle.term_pool.specs.Redexes.{AreRedexes}
+use Rattle.term_pool.specs.Redexes.{AreRedexes, Grows}
+use Rattle.term_pool.specs.Known.{IsKnown}
 use Rattle.term_pool.proofs.MatchSteps.{read_again}
+use Rattle.term_pool.proofs.NoRedexes.{none_grown, none_listed}
 use Rattle.term_pool.proofs.PoolPlaces.{id_tree, id_variable}
 use Rattle.term_pool.proofs.RedexWalk.{popped, narrow_app, narrow_next, root_then_arguments, argument_then_rest, grown_all, no_argument_left, root_alone}
-use Rattle.term_pool.proofs.pools.Pool.+add_redexes.Goals.{After-as_slice-arg-items}
+use Rattle.term_pool.proofs.pools.Pool.+add_redexes.Goals.{After-as_slice-arg-items, Joined-node, in-Var, in-App+else-loop-i-test}
 use Rattle.term_pool.proofs.pools.Pool.+add_redexes.Goals as goal
 
 -- the term is its root over its arguments
@@ -19,17 +21,12 @@ loop-i-init t c =
     let n = narrow_app (tree_at c.args.self.now) c.as_slice-arg-items.result.now c.in-App.field-0 term is c.requires.narrow in
     record {
       rest = λ rest h. root_then_arguments (tree_at c.args.self.now) c.as_slice-arg-items.result.now c.args.by_root.now.rules c.args.place.now.items c.in-App.field-0 term
-          c.args.found.now.items c.add_root_redexes.new.found.items rest is (rw c.deref.ensures.value at c.in_ok-add_root_redexes.ensures) h;
+          c.args.found.now.items c.add_root_redexes.new.found.items rest is (rw c.deref.ensures.value at c.in_ok-add_root_redexes.ensures.found) h;
       narrow = n.1;
       few = n.0;
       same = refl;
+      known = c.in_ok-add_root_redexes.ensures.known;
     }
-
-pub returns-in-Var-clause-found : goal.returns-in-Var-clause-found
-returns-in-Var-clause-found t c =
-    let is = id_variable c.args.self.now c.args.id c.in-Var.field-0 c.node.result.now c.node.ensures.is c.in-Var.is in
-    root_alone c.args.by_root.now.rules c.args.place.now.items (tree_at c.args.self.now c.args.id) c.in-Var.field-0 c.args.found.now.items c.add_root_redexes.new.found.items is
-    (rw c.deref.ensures.value at c.in_ok-add_root_redexes.ensures)
 
 pub loop-i-preserved : goal.loop-i-preserved
 loop-i-preserved t c =
@@ -48,9 +45,47 @@ loop-i-preserved t c =
       few = c.loop-i.invariant.few;
       same = popped place c.push.new.self.items c.add_redexes.new.place.items c.pop.new.self.items _ c.add_redexes.new.place.len pushed c.in_ok-add_redexes-in-App.ensures.place
           (omega (arith, c.add_redexes.new.place.ok.0)) c.pop.ensures.rest;
+      known = c.in_ok-add_redexes-in-App.ensures.known;
     }
 
-pub returns-after-loop-i-clause-found : goal.returns-after-loop-i-clause-found
-returns-after-loop-i-clause-found t c =
-    grown_all c.args.place.now.items (AreRedexes c.args.by_root.now.rules (tree_at c.args.self.now c.args.id)) c.args.found.now.items c.loop-i.found.items
-    (c.loop-i.invariant.rest [] (no_argument_left (tree_at c.args.self.now) c.as_slice-arg-items.result.now c.args.by_root.now.rules c.loop-i.i c.loop-i-test.false))
+pub returns-then-is_passed-clause-found : goal.returns-then-is_passed-clause-found
+returns-then-is_passed-clause-found t c =
+    none_grown c.args.by_root.now.rules (tree_at c.args.self.now c.args.id) c.args.place.now.items c.args.found.now.items (c.is_passed.ensures c.if-is_passed.true)
+
+-- what was added after the root and the arguments
+grown : (t : ℕ) (c : Joined-node t)
+    → Grows c.args.place.now.items (AreRedexes c.args.by_root.now.rules (tree_at c.args.self.now c.args.id)) c.args.found.now.items c.match-node.found.items
+grown t c = elim c.match-node.branch as (λ _. Grows c.args.place.now.items (AreRedexes c.args.by_root.now.rules (tree_at c.args.self.now c.args.id)) c.args.found.now.items c.match-node.found.items) [
+  | in-Var w ↦
+      let is = id_variable c.args.self.now c.args.id w.in-Var.field-0 c.node.result.now c.node.ensures.is w.in-Var.is in
+      rw w.found-is (root_alone c.args.by_root.now.rules c.args.place.now.items (tree_at c.args.self.now c.args.id) w.in-Var.field-0 c.args.found.now.items c.add_root_redexes.new.found.items is
+      (rw c.deref.ensures.value at c.in_ok-add_root_redexes.ensures.found))
+  | in-App+else-loop-i-test w ↦
+      rw w.found-is (grown_all c.args.place.now.items (AreRedexes c.args.by_root.now.rules (tree_at c.args.self.now c.args.id)) c.args.found.now.items w.loop-i.found.items
+      (w.loop-i.invariant.rest [] (no_argument_left (tree_at c.args.self.now) w.as_slice-arg-items.result.now c.args.by_root.now.rules w.loop-i.i w.loop-i-test.false)))
+]
+
+known : (t : ℕ) (c : Joined-node t) → IsKnown c.args.by_root.now.rules c.args.self.now c.match-node.known
+known t c = elim c.match-node.branch as (λ _. IsKnown c.args.by_root.now.rules c.args.self.now c.match-node.known) [
+  | in-Var w ↦ rw w.known-is c.in_ok-add_root_redexes.ensures.known
+  | in-App+else-loop-i-test w ↦ rw w.known-is w.loop-i.invariant.known
+]
+
+pub pass-requires-clause-normal : goal.pass-requires-clause-normal
+pass-requires-clause-normal t c =
+    let same : length c.match-node.found.items ≡ length c.args.found.now.items =
+    omega (arith, c.if-len-before.true, c.len-before.ensures, c.len.ensures, c.args.found.now.ok.0, c.match-node.found.ok.0) in
+    none_listed c.args.by_root.now.rules (tree_at c.args.self.now c.args.id) c.args.place.now.items c.args.found.now.items c.match-node.found.items
+    (grown t (goal.at.pass-requires-clause-normal t c).Joined-node) same
+
+pub pass-requires-clause-known : goal.pass-requires-clause-known
+pass-requires-clause-known t c = known t (goal.at.pass-requires-clause-known t c).Joined-node
+
+pub returns-in_ok-pass-clause-found : goal.returns-in_ok-pass-clause-found
+returns-in_ok-pass-clause-found t c = grown t (goal.at.returns-in_ok-pass-clause-found t c).Joined-node
+
+pub returns-else-len-before-clause-found : goal.returns-else-len-before-clause-found
+returns-else-len-before-clause-found t c = grown t (goal.at.returns-else-len-before-clause-found t c).Joined-node
+
+pub returns-else-len-before-clause-known : goal.returns-else-len-before-clause-known
+returns-else-len-before-clause-known t c = known t (goal.at.returns-else-len-before-clause-known t c).Joined-node

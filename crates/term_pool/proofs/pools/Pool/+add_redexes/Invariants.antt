@@ -3,6 +3,7 @@ use Rattle.trs_defs.specs.Path.{PlacedRule}
 use Rattle.trs_defs.specs.Tree.{trees}
 use Rattle.term_pool.specs.Pooled.{tree_at}
 use Rattle.term_pool.specs.Redexes.{AreRedexes, AreRedexesOfAll, AreNarrow, Grows, below}
+use Rattle.term_pool.specs.Known.{IsKnown}
 use Rattle.term_pool.proofs.pools.Pool.+add_redexes.Given as goal
 
 abbrev pub invariant-loop-i : goal.invariant-loop-i
@@ -13,6 +14,7 @@ invariant-loop-i l = record {
   narrow : AreNarrow (trees (map (tree_at l.self) (drop l.i l.arg-items)));
   few : length l.arg-items ≤ 255;
   same : l.place.items ≡ l.fn.place.items;
+  known : IsKnown l.by_root.rules l.self l.known;
 }
 
 abbrev pub decreases-add_redexes : goal.decreases-add_redexes

@@ -9,8 +9,8 @@ use Rattle.term_pool.proofs.RootSkips.{AreProper, proper_sides, no_roots_at_vari
 use Rattle.term_pool.proofs.pools.Pool.add_root_redexes.Goals.{In-App, After-next-k}
 use Rattle.term_pool.proofs.pools.Pool.add_root_redexes.Goals as goal
 
-pub returns-in_default : goal.returns-in_default
-returns-in_default c =
+pub returns-in_default-clause-found : goal.returns-in_default-clause-found
+returns-in_default-clause-found c =
     let is = id_variable c.args.self.now c.args.id c.in_default.field-0 c.node.result.now c.node.ensures.is c.in_default.is in
     let proper = proper_sides c.args.by_root.now c.args.by_root.now.rules refl c.rules-rules.ensures.valid in
     nothing_grown c.args.place.now (AreRootRedexes c.args.by_root.now.rules 0 (tree_at c.args.self.now c.args.id)) c.args.found.now.items
@@ -32,6 +32,7 @@ loop-k-init c =
     record {
       rooted = root_of_next t c.in-App.f _ rules 0 c.first-k.result (node a) next;
       rest = λ rest h. (rest, roots_skipped rules (proper a) t c.in-App.f _ (node a) 0 c.first-k.result next rest h, refl);
+      known = c.requires.known;
     }
 
 next : (c : After-next-k) → IsNextRooted c.rules-rules.result.now c.in-App.f (c.loop-k.k + 1) c.next-k.result
@@ -56,10 +57,14 @@ loop-k-preserved c =
     record {
       rooted = root_of_next t c.in-App.f _ rules (c.loop-k.k + 1) c.next-k.result is onward;
       rest = λ rest h. rule_tried rules t c.loop-k.k c.index-rules-k.result here c.args.place.now (AreRootRedexes rules 0 t) c.args.found.now.items c.loop-k.found.items c.try_rule.new.found.items
-          c.in_ok-try_rule.ensures c.loop-k.invariant.rest rest (roots_skipped rules (proper (goal.at.loop-k-preserved c).In-App) t c.in-App.f _ is (c.loop-k.k + 1) c.next-k.result onward rest h);
+          c.in_ok-try_rule.ensures.tried c.loop-k.invariant.rest rest (roots_skipped rules (proper (goal.at.loop-k-preserved c).In-App) t c.in-App.f _ is (c.loop-k.k + 1) c.next-k.result onward rest h);
+      known = c.in_ok-try_rule.ensures.known;
     }
 
-pub returns : goal.returns
-returns c =
+pub returns-clause-known : goal.returns-clause-known
+returns-clause-known c = c.loop-k.invariant.known
+
+pub returns-clause-found : goal.returns-clause-found
+returns-clause-found c =
     rw (← c.rules-rules.ensures.rules) (grown_all c.args.place.now (AreRootRedexes c.rules-rules.result.now 0 (tree_at c.args.self.now c.args.id)) c.args.found.now.items c.loop-k.found.items
     (c.loop-k.invariant.rest [] (no_rule_left c.rules-rules.result.now c.loop-k.k (tree_at c.args.self.now c.args.id) c.loop-k-test.false)))

@@ -7,3 +7,6 @@ returns-clause-normal c = normal_found c.args.by_root.now.rules (tree_at c.args.
 
 pub returns-clause-reducible : goal.returns-clause-reducible
 returns-clause-reducible c = reducible_found c.args.by_root.now.rules (tree_at c.args.self.now c.args.id) c.in_ok-has_redex.field-0 c.in_ok-has_redex.ensures.redex
+
+pub has_redex-requires-clause-known : goal.has_redex-requires-clause-known
+has_redex-requires-clause-known c = c.new-known.ensures c.args.by_root.now.rules c.args.self.now

@@ -8,8 +8,8 @@ use Rattle.term_pool.proofs.RootSkips.{AreProper, proper_sides, no_redex_at_vari
 use Rattle.term_pool.proofs.pools.Pool.is_redex.Goals.{In-App, After-next-k}
 use Rattle.term_pool.proofs.pools.Pool.is_redex.Goals as goal
 
-pub returns-in_default : goal.returns-in_default
-returns-in_default c =
+pub returns-in_default-clause-redex : goal.returns-in_default-clause-redex
+returns-in_default-clause-redex c =
     let is = id_variable c.args.self.now c.args.id c.in_default.field-0 c.node.result.now c.node.ensures.is c.in_default.is in
     let proper = proper_sides c.args.by_root.now c.args.by_root.now.rules refl c.rules-rules.ensures.valid in
     (λ e. absurd cc, λ r. absurd (no_redex_at_variable c.args.by_root.now.rules (tree_at c.args.self.now c.args.id) c.in_default.field-0 proper is r))
@@ -29,6 +29,7 @@ loop-k-init c =
     record {
       rooted = root_of_next t c.in-App.f _ c.rules-rules.result.now 0 c.first-k.result (node a) next;
       same = redexes_skipped c.rules-rules.result.now (proper a) t c.in-App.f _ (node a) 0 c.first-k.result next;
+      known = c.requires.known;
     }
 
 next : (c : After-next-k) → IsNextRooted c.rules-rules.result.now c.in-App.f (c.loop-k.k + 1) c.next-k.result
@@ -43,12 +44,12 @@ loop-k-smaller c =
     let falls : length c.rules-rules.result.now - c.next-k.result < length c.rules-rules.result.now - c.loop-k.k = omega (arith, h, c.loop-k-test.true) in
     falls
 
-pub returns-then-branch : goal.returns-then-branch
-returns-then-branch c =
+pub returns-then-branch-clause-redex : goal.returns-then-branch-clause-redex
+returns-then-branch-clause-redex c =
     let rules = c.rules-rules.result.now in
     let t = tree_at c.args.self.now c.args.id in
     let here = read_rule rules c.loop-k.k c.index-rules-k.result c.loop-k-test.true c.index-rules-k.is in
-    let found : IsRedex rules t = c.loop-k.invariant.same.0 (redex_found rules t c.loop-k.k c.index-rules-k.result here (c.in_ok-is_instance.ensures.0 c.if-branch.true)) in
+    let found : IsRedex rules t = c.loop-k.invariant.same.0 (redex_found rules t c.loop-k.k c.index-rules-k.result here (c.in_ok-is_redex_by.ensures.redex.0 c.if-branch.true)) in
     rw (← c.rules-rules.ensures.rules) (λ _. found, λ _. refl)
 
 pub loop-k-preserved : goal.loop-k-preserved
@@ -59,11 +60,15 @@ loop-k-preserved c =
     let onward = next (goal.at.loop-k-preserved c).After-next-k in
     let here = read_rule rules c.loop-k.k c.index-rules-k.result c.loop-k-test.true c.index-rules-k.is in
     let skipped = redexes_skipped rules (proper (goal.at.loop-k-preserved c).In-App) t c.in-App.f _ is (c.loop-k.k + 1) c.next-k.result onward in
-    let tried = redex_later rules t c.loop-k.k c.index-rules-k.result here (λ inst. let e = c.in_ok-is_instance.ensures.1 inst in absurd (cc (e, c.if-branch.false))) in
+    let tried = redex_later rules t c.loop-k.k c.index-rules-k.result here (λ inst. let e = c.in_ok-is_redex_by.ensures.redex.1 inst in absurd (cc (e, c.if-branch.false))) in
     record {
       rooted = root_of_next t c.in-App.f _ rules (c.loop-k.k + 1) c.next-k.result is onward;
       same = (λ r. c.loop-k.invariant.same.0 (tried.0 (skipped.0 r)), λ r. skipped.1 (tried.1 (c.loop-k.invariant.same.1 r)));
+      known = c.in_ok-is_redex_by.ensures.known;
     }
 
-pub returns : goal.returns
-returns c = rw (← c.rules-rules.ensures.rules) (λ e. absurd cc, λ r. absurd (no_redex_left c.rules-rules.result.now c.loop-k.k (tree_at c.args.self.now c.args.id) c.loop-k-test.false (c.loop-k.invariant.same.1 r)))
+pub returns-clause-known : goal.returns-clause-known
+returns-clause-known c = c.loop-k.invariant.known
+
+pub returns-clause-redex : goal.returns-clause-redex
+returns-clause-redex c = rw (← c.rules-rules.ensures.rules) (λ e. absurd cc, λ r. absurd (no_redex_left c.rules-rules.result.now c.loop-k.k (tree_at c.args.self.now c.args.id) c.loop-k-test.false (c.loop-k.invariant.same.1 r)))

@@ -18,10 +18,11 @@ pub loop-step-init : goal.loop-step-init
 loop-step-init c = record {
   adds = nothing_added c.args.bounds.limit c.args.bounds.size _ c.args.self.now c.args.reached.now c.requires.reached no_step;
   kept = extends_itself c.args.self.now;
+  known = c.in_ok-steps.ensures.known;
 }
 
 redexes : (c : After-deref-step-items) → HasRedexes c.args.by_root.now.rules (tree_at c.args.self.now c.args.entry.now.0) c.deref-step-items.result.now
-redexes c = rw c.deref-step-items.ensures.value c.in_ok-steps.ensures
+redexes c = rw c.deref-step-items.ensures.value c.in_ok-steps.ensures.redexes
 
 near : (c : After-deref-step-items) → length c.args.entry.now.1.items < c.args.bounds.depth
 near c = omega (arith, c.if-len-bounds.false, c.len.ensures, c.args.entry.now.1.ok.0)
@@ -65,4 +66,17 @@ loop-step-preserved c =
           c.deref-step-items.result.now c.args.self.now c.loop-step.self c.add_reduct.new.self c.args.reached.now c.loop-step.reached c.add_reduct.new.reached c.loop-step.step-index c.step-item.result
           c.loop-step-test.true c.step-item.is c.loop-step.invariant.adds more;
       kept = extends_on c.args.self.now c.loop-step.self c.add_reduct.new.self c.loop-step.invariant.kept c.in_ok-add_reduct.ensures.kept;
+      known = rw c.trs.ensures at c.in_ok-add_reduct.ensures.known;
     }
+
+pub add_reduct-requires-clause-known : goal.add_reduct-requires-clause-known
+add_reduct-requires-clause-known c = rw c.trs.ensures c.loop-step.invariant.known
+
+pub returns-in_err-add_reduct-clause-kept : goal.returns-in_err-add_reduct-clause-kept
+returns-in_err-add_reduct-clause-kept c = extends_on c.args.self.now c.loop-step.self c.add_reduct.new.self c.loop-step.invariant.kept c.in_err-add_reduct.ensures.kept
+
+pub returns-then-len-bounds-2-clause-known : goal.returns-then-len-bounds-2-clause-known
+returns-then-len-bounds-2-clause-known c = c.loop-step.invariant.known
+
+pub returns-clause-known : goal.returns-clause-known
+returns-clause-known c = c.loop-step.invariant.known

@@ -1,5 +1,6 @@
 use Rattle.std.proofs.Common.{take}
 use Rattle.term_pool.specs.Pooled.{Extends}
+use Rattle.term_pool.specs.Known.{IsKnown}
 use Rattle.term_pool.specs.ListedIds.{listed}
 use Rattle.term_pool.specs.Reach.{AreReducts}
 use Rattle.term_pool.specs.Reaching.{Adds}
@@ -10,4 +11,5 @@ invariant-loop-step l = record {
   adds : Adds l.bounds.limit l.bounds.size (AreReducts l.by_root.rules l.bounds.size (listed l.fn.self l.entry) (take l.step-index l.step-items))
       l.fn.self l.self l.fn.reached l.reached;
   kept : Extends l.fn.self l.self;
+  known : IsKnown l.by_root.rules l.self l.known;
 }

@@ -1,10 +1,4 @@
-use Rattle.term_pool.specs.Pooled.{tree_at}
-use Rattle.term_pool.proofs.RedexLists.{grown_whole, redexes_listed}
 use Rattle.term_pool.proofs.pools.Pool.redexes_at.Goals as goal
 
-pub returns : goal.returns
-returns c =
-    let rules = c.args.by_root.now.rules in
-    let t = tree_at c.args.self.now c.args.id in
-    redexes_listed rules t c.add_redexes.new.found.items (grown_whole rules t c.new-place.result.items c.new-found.result.items c.add_redexes.new.found.items
-    c.new-place.ensures.items c.new-found.ensures.items c.in_ok-add_redexes.ensures.found)
+pub list_redexes-requires-clause-known : goal.list_redexes-requires-clause-known
+list_redexes-requires-clause-known c = c.new-known.ensures c.args.by_root.now.rules c.args.self.now

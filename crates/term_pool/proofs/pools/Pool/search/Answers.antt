@@ -28,6 +28,7 @@ loop-next-init c =
       lists = ([], no_entry, subst P (sym is) no_more);
       reached = begun_reached c.args.id first c.in_ok-reached.ensures pool c.requires.there;
       kept = extends_itself pool;
+      known = c.new-known.ensures c.args.trs.now.rules pool;
       room = omega (arith, ids, room_at_start c.args.count c.args.size);
       follow = start_follows c.args.trs.now.rules t (listed_at pool first.list.items) is;
       next = omega arith;
@@ -68,8 +69,12 @@ loop-next-preserved c =
       lists = looked_at_one c.args.trs.now.rules c.args.depth c.args.size limit (start_of t) found new c.loop-next.next e there below i.lists adds.lists;
       reached = adds.reached;
       kept = extends_on c.args.self.now c.loop-next.self c.look_at.new.self i.kept c.in_ok-look_at.ensures.kept;
+      known = rw c.in_ok-by_root.ensures at c.in_ok-look_at.ensures.known;
       room = let more = adds.room in let was = i.room in omega (arith, more, was);
       follow = looked_follow c.args.trs.now.rules c.args.depth c.args.size limit t found new c.loop-next.next e there adds.lists i.follow;
       next = omega (arith, below, longer, now);
       short = omega (arith, short, now);
     }
+
+pub look_at-requires-clause-known : goal.look_at-requires-clause-known
+look_at-requires-clause-known c = rw c.in_ok-by_root.ensures c.loop-next.invariant.known
