@@ -4,9 +4,9 @@ use Rattle.std.specs.List.{list_all, AllByRecursion}
 use Rattle.std.specs.Str.{bytes_eq}
 use Rattle.std.proofs.lemmas.Bool.{and_parts, and_from}
 use Rattle.std.proofs.lemmas.List.{length-append, map-append}
-use Rattle.sexp_core.specs.Tokens.{class_of, is_letter}
 use Rattle.sexp_core.specs.Items.{Item, a_word, a_list, Items, no_items, item}
 use Rattle.sexp_core.specs.Printed.{IsWord, HasWords, AreWords}
+use Rattle.sexp_core.proofs.Words.{all_letters}
 use Rattle.numerals.specs.Numerals.{digits_value}
 use Rattle.numerals.proofs.Limits.{digits_within}
 use Rattle.ari_text.specs.declared.fault.AriFault.{AriFault}
@@ -47,10 +47,6 @@ SaysWord (declares name q arity r) = is_word name ≡ true
 SaysWord (rewrites left right) = Unit {0}
 SaysWord (attributed s at) = Unit {0}
 SaysWord says_nothing = Unit {0}
-
-all_letters : (bs : List ℕ) → AllByRecursion (λ x. is_letter (class_of x) ≡ true) bs → list_all (λ x. is_letter (class_of x)) bs ≡ true
-all_letters [] h = refl
-all_letters (b ∷ bs) h = and_from (is_letter (class_of b)) (list_all (λ x. is_letter (class_of x)) bs) h.0 (all_letters bs h.1)
 
 word_test : (w : List ℕ) → IsWord w → is_word w ≡ true
 word_test [] h = absurd h

@@ -1,9 +1,8 @@
 -- A text has one reading: at most one system or fault.
 use Rattle.std.proofs.Common.{◌≡◌, ◌≢◌, ◌⊎◌, inl, inr, ℕ, List, Some, Ok, refl, sym, ap, ◌∙◌}
-use Rattle.sexp_core.specs.Items.{Items}
-use Rattle.sexp_core.specs.Reads.{Reads, fault_of}
+use Rattle.sexp_core.specs.Reads.{fault_of}
 use Rattle.sexp_core.specs.declared.fault.TextFault.{TextFault}
-use Rattle.sexp_core.proofs.Once.{one_reading}
+use Rattle.sexp_core.proofs.Viewing.{text_read_once}
 use Rattle.ari_text.specs.declared.fault.AriFault.{AriFault}
 use Rattle.ari_text.specs.declared.fault.AriFault.TheVariants as fault
 use Rattle.term_text.specs.Checked.{Checked}
@@ -11,15 +10,12 @@ use Rattle.term_text.proofs.CheckedParts.{ok_same}
 use Rattle.names_text.specs.Named.{NamedSystem}
 use Rattle.ari_text.specs.Problem.{later_items, system_of, SaysSystem, HasProblemFault, IsProblemRefused}
 
-pub same_items : (text : List ℕ) (xs ys : Items) → Reads text xs → Reads text ys → xs ≡ ys
-same_items text xs ys h k = one_reading xs ys (sym h ∙ k)
-
 read_once : (r q : Checked NamedSystem) (s t : NamedSystem) → r ≡ Ok s → q ≡ Ok t → r ≡ q → s ≡ t
 read_once r q s t e f h = ok_same s t (sym e ∙ h ∙ f)
 
 pub one_system : (text : List ℕ) (s t : NamedSystem) → SaysSystem text s → SaysSystem text t → s ≡ t
 one_system text s t h k =
-    let same : h.items ≡ k.items = same_items text h.items k.items h.reads k.reads in
+    let same : h.items ≡ k.items = text_read_once text h.items k.items h.reads k.reads in
     read_once (system_of (later_items h.items)) (system_of (later_items k.items)) s t h.system k.system (ap (λ items. system_of (later_items items)) same)
 
 -- the cause of a fault that is not want of memory
@@ -45,7 +41,7 @@ memory_or_cause text fault.OutOfMemory h = inl refl
 no_cause : (text : List ℕ) (s : NamedSystem) (f : AriFault) → SaysSystem text s → Cause text f → ⊥
 no_cause text s f h (inl k) = let none = h.readable in let some = k.2 in cc
 no_cause text s f h (inr k) =
-    let same : h.items ≡ k.items = same_items text h.items k.items h.reads k.reads in
+    let same : h.items ≡ k.items = text_read_once text h.items k.items h.reads k.reads in
     let none = h.faultless in let some = k.fault in cc
 
 -- a text that says a system is refused for want of memory alone
@@ -60,7 +56,7 @@ same_cause text f g (inl h) (inl k) = let a = h.1 in let b = k.1 in let c = h.2 
 same_cause text f g (inl h) (inr k) = let some = h.2 in let none = k.readable in absurd cc
 same_cause text f g (inr h) (inl k) = let none = h.readable in let some = k.2 in absurd cc
 same_cause text f g (inr h) (inr k) =
-    let same : h.items ≡ k.items = same_items text h.items k.items h.reads k.reads in
+    let same : h.items ≡ k.items = text_read_once text h.items k.items h.reads k.reads in
     let a = h.fault in let b = k.fault in cc
 
 -- want of memory aside, a text is refused for one fault at most

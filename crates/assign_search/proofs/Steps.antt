@@ -1,4 +1,4 @@
-use Rattle.std.proofs.Common.{◌≡◌, ℕ, suc, ◌+◌, ◌-◌, ◌<◌, ◌≤◌, Bool, true, false, List, [], ◌∷◌, ◌++◌, length, take, get_or, refl, sym, ◌∙◌, ap, subst, arith, length-append, ◌⊎◌, inl, inr}
+use Rattle.std.proofs.Common.{◌≡◌, ℕ, suc, ◌+◌, ◌-◌, ◌<◌, ◌≤◌, Bool, true, false, List, [], ◌∷◌, ◌++◌, length, take, get_or, refl, sym, ◌∙◌, ap, subst, arith, ◌⊎◌, inl, inr}
 use Rattle.std.proofs.lemmas.List.{get_or_append_left, take-append-le}
 use Rattle.std.proofs.Math.Seq.{get_or-append_seam, take-append_seam}
 use Rattle.assign_search.specs.Rest.{IsStanding, IsAt, rest_of, todo}
@@ -10,7 +10,7 @@ use Rattle.assign_search.specs.Turns.{IsTurn, Passes}
 use Rattle.assign_search.specs.declared.visiting.Turn.{Turn}
 use Rattle.assign_search.specs.declared.visiting.Turn.TheVariants.{Next, Solved, Exhausted, Spent}
 use Rattle.assign_search.proofs.Refuting.{lt_suc, minimal_refuted, solution_true, solution_short}
-use Rattle.assign_search.proofs.Lists.{count_plain, first_not, first_is, count_solution, count_none, extensions_refuted}
+use Rattle.assign_search.proofs.Lists.{count_plain, first_not, first_is, count_solution, count_none, extensions_refuted, step_length}
 use Rattle.assign_search.proofs.Rests.{todo_full, todo_dead, todo_push, todo_start, rest_shorter, pop_next, pop_last, rest_start}
 use Rattle.std.specs.Prelude.{Result, Ok, Err, IfOk}
 
@@ -18,9 +18,6 @@ pub record IsPast (z : Puzzle) (n : ℕ) (p : List ℕ) : Type 0 where
   pub standing : IsStanding z p
   pub count : count_of z ≡ n + count_in z (rest_of z p)
   pub first : solution_of z ≡ first_in z (rest_of z p)
-
-last_length : (q : List ℕ) (v : ℕ) → length (q ++ (v ∷ [])) ≡ suc (length q)
-last_length q v = omega (arith, length-append q (v ∷ []))
 
 pub record Pops (z : Puzzle) (q : List ℕ) (v : ℕ) : Type 0 where
   pub standing : IsStanding z q
@@ -30,7 +27,7 @@ pub record Pops (z : Puzzle) (q : List ℕ) (v : ℕ) : Type 0 where
 
 pub standing_pop : (z : Puzzle) (q : List ℕ) (v : ℕ) → IsStanding z (q ++ (v ∷ [])) → Pops z q v
 standing_pop z q v st =
-    let long = last_length q v in
+    let long = step_length q v in
     record {
       standing = record {
         in_domain = λ s l. subst (λ (n : ℕ). n < z.domain s) (get_or_append_left q (v ∷ []) 0 s l) (st.in_domain s (omega (arith, long, l)));
@@ -44,7 +41,7 @@ standing_pop z q v st =
 
 pub standing_push : (z : Puzzle) (q : List ℕ) (w : ℕ) → IsStanding z q → is_refuted z q ≡ false → w < z.domain (length q) → length q < z.slots → IsStanding z (q ++ (w ∷ []))
 standing_push z q w st clear below room =
-    let long = last_length q w in
+    let long = step_length q w in
     record {
       in_domain = λ s l. elim (lt_suc s (length q) (omega (arith, long, l))) [
         | inl same ↦ subst (λ (i : ℕ). get_or (q ++ (w ∷ [])) i 0 < z.domain i) (sym same)

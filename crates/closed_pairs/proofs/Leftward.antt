@@ -11,13 +11,13 @@ use Rattle.closed_pairs.specs.ParallelClosed.{StandsBefore, DoAscend, IsParallel
 
 -- ---- two positions
 
-left_before : (p q : List ℕ) → IsLeftOf p q → StandsBefore p q
+pub left_before : (p q : List ℕ) → IsLeftOf p q → StandsBefore p q
 left_before [] q h = absurd h
 left_before (a ∷ p) [] h = absurd h
 left_before (a ∷ p) (b ∷ q) (inl lt) = inl lt
 left_before (a ∷ p) (b ∷ q) (inr (e, h)) = inr (e, left_before p q h)
 
-left_parallel : (p q : List ℕ) → IsLeftOf p q → AreParallel p q
+pub left_parallel : (p q : List ℕ) → IsLeftOf p q → AreParallel p q
 left_parallel [] q h = absurd h
 left_parallel (a ∷ p) [] h = absurd h
 left_parallel (a ∷ p) (b ∷ q) (inl lt) = inl (λ e. omega (arith, lt, e))

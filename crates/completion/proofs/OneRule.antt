@@ -1,5 +1,6 @@
 -- What becomes of a pair is one thing: its normal forms make one new rule, or are one pair with no order.
 use Rattle.std.proofs.Common.{◌≡◌, ℕ, zero, suc, inl, inr, refl, sym, ap, subst, ◌∙◌, List, [], ◌∷◌, true, Some, IsTrue, slice_get, ◌==◌}
+use Rattle.std.proofs.lemmas.Bool.{or_left, or_right}
 use Rattle.trs_defs.specs.Tree.{Tree, Trees, var, app, nil, cons}
 use Rattle.trs_defs.specs.Variable.{has_var, some_has_var, is_listed, variables_of, with_variables, with_variables_of_all}
 use Rattle.trs_defs.specs.Substitution.{apply}
@@ -9,7 +10,7 @@ use Rattle.trs_defs.specs.Step.{Step, here}
 use Rattle.trs_defs.specs.Bounded.{IsBoundedBy}
 use Rattle.trs_defs.proofs.Members.{in_or, no_in}
 use Rattle.trs_defs.proofs.Substitutions.{apply_apply}
-use Rattle.trs_defs.proofs.VariableLaws.{or_left, or_right, has_var_self}
+use Rattle.trs_defs.proofs.VariableLaws.{has_var_self}
 use Rattle.crit_pairs.specs.PeakList.{IsCount}
 use Rattle.crit_pairs.proofs.Bindings.{unchanged}
 use Rattle.crit_pairs.proofs.Variants.{Paired, Swaps, pair, paired_equal, numbered_alike, among_variables}

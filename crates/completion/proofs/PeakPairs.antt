@@ -1,10 +1,8 @@
 -- The two results of a listed critical peak: well-formed small terms, one step from the top. A terminating system whose listed
 -- peaks are joinable is confluent.
-use Rattle.std.proofs.Common.{◌≤◌, ℕ, ◌&&◌, sym, subst, inl, inr, List, [], map, Ok, IsTrue}
-use Rattle.std.specs.Prelude.{nat_le}
-use Rattle.std.proofs.lemmas.Bool.{and_parts, leb-true}
-use Rattle.trs_defs.specs.Tree.{Tree}
-use Rattle.trs_defs.specs.Size.{size_of, depth_of, within_limits}
+use Rattle.std.proofs.Common.{ℕ, ◌&&◌, sym, subst, inl, inr, List, [], map, Ok, IsTrue}
+use Rattle.std.proofs.lemmas.Bool.{and_parts}
+use Rattle.trs_defs.specs.Size.{within_limits}
 use Rattle.trs_defs.specs.WellFormed.{IsWellFormed}
 use Rattle.trs_defs.specs.Member.{In}
 use Rattle.trs_defs.specs.System.{RewriteRule, System, IsSystem}
@@ -14,6 +12,7 @@ use Rattle.trs_defs.specs.Joinable.{IsJoinable}
 use Rattle.trs_defs.specs.Claims.{IsTerminating, IsConfluent}
 use Rattle.trs_defs.proofs.Members.{in_or, in_map, of_map}
 use Rattle.trs_defs.proofs.Places.{step_of_place}
+use Rattle.trs_defs.proofs.Limits.{limits_size}
 use Rattle.confluence_theory.specs.Peak.{Peak}
 use Rattle.confluence_theory.proofs.CriticalCover.{covered}
 use Rattle.confluence_theory.proofs.Claims.{joined}
@@ -33,9 +32,6 @@ pub record HasGoodSides (system : System) (peak : PlacedPeak) : Type 0 where
   pub to_left : Step system.rules peak.top peak.left
   pub to_right : Step system.rules peak.top peak.right
 
-few_nodes : (t : Tree) → IsTrue (within_limits t) → size_of t ≤ 65536
-few_nodes t h = leb-true (size_of t) 65536 (and_parts (nat_le (size_of t) 65536) (nat_le (depth_of t) 1024) h).0
-
 module _ (system : System) (is : IsSystem system) where
   peak_good : (s : Spot) (peak : PlacedPeak) → IsPeakAt system.rules s peak → IsTrue (is_small peak) → HasGoodSides system peak
   peak_good s peak h small =
@@ -49,8 +45,8 @@ module _ (system : System) (is : IsSystem system) where
       let right : Step system.rules peak.top peak.right = step_of_place system.rules [] s.outer peak.top peak.right steps.to_right in
       let results = and_parts (within_limits peak.left) (within_limits peak.right) (and_parts (within_limits peak.top) (within_limits peak.left && within_limits peak.right) small).1 in
       record {
-        left_over = record { well_formed = run_well_formed system is top (Go left Stay); small = few_nodes peak.left results.0 };
-        right_over = record { well_formed = run_well_formed system is top (Go right Stay); small = few_nodes peak.right results.1 };
+        left_over = record { well_formed = run_well_formed system is top (Go left Stay); small = limits_size peak.left results.0 };
+        right_over = record { well_formed = run_well_formed system is top (Go right Stay); small = limits_size peak.right results.1 };
         to_left = left;
         to_right = right;
       }

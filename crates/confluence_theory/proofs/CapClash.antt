@@ -2,8 +2,8 @@
 use Rattle.std.specs.Prelude.{◌≡◌, ℕ, Bool, true, false, not, ◌||◌, ◌==◌, IsTrue}
 use Rattle.std.proofs.Common.{refl, inl, inr, arith, subst}
 use Rattle.std.proofs.lemmas.Bool.Decides.{nat_tests}
+use Rattle.std.proofs.lemmas.Bool.{or_cases}
 use Rattle.trs_defs.specs.Tree.{Tree, Trees, var, app, nil, cons}
-use Rattle.trs_defs.proofs.VariableLaws.{or_cases}
 use Rattle.trs_defs.specs.Cap.{Fits, EachFits, fits_variable, fits_symbol, fits_nil, fits_cons}
 use Rattle.confluence_theory.specs.Clash.{clash, some_clash}
 

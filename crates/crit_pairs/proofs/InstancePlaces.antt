@@ -1,16 +1,12 @@
 -- Positions in instances of terms.
-use Rattle.std.specs.Prelude.{◌≡◌, ℕ, List, [], ◌∷◌, Option, Some, None, slice_get, slice_set, refl}
+use Rattle.std.specs.Prelude.{◌≡◌, ℕ, List, [], ◌∷◌, Some, slice_get, slice_set, refl}
 use Rattle.std.specs.Option.{option_and_then, option_map}
 use Rattle.std.proofs.Common.{zero, suc, ap, sym, ◌∙◌}
-use Rattle.std.proofs.lemmas.Option.{same_Some}
+use Rattle.std.proofs.lemmas.Option.{same_Some, option_and_then_some}
 use Rattle.trs_defs.specs.Tree.{Tree, Trees, var, app, nil, cons, trees, items, trees_items}
 use Rattle.trs_defs.specs.Substitution.{apply, apply_all}
 use Rattle.trs_defs.specs.Position.{subterm_at, with_argument, replaced_at}
 use Rattle.trs_defs.proofs.Positions.{IsReplacedInside, replaced_inside}
-
-step_down : (p : List ℕ) (o : Option Tree) (part : Tree) → option_and_then (subterm_at p) o ≡ Some part → (a : Tree) × (o ≡ Some a) × (subterm_at p a ≡ Some part)
-step_down p None part h = absurd cc
-step_down p (Some a) part h = (a, refl, h)
 
 module _ (σ : ℕ → Tree) where
   item_image : (ts : Trees) (i : ℕ) (a : Tree) → slice_get (items ts) i ≡ Some a → slice_get (items (apply_all σ ts)) i ≡ Some (apply σ a)
@@ -23,7 +19,9 @@ module _ (σ : ℕ → Tree) where
   subterm_image (place ∷ p) (var n) part e = absurd cc
   subterm_image (zero ∷ p) (app f ts) part e = absurd cc
   subterm_image (suc i ∷ p) (app f ts) part e =
-      let (a, at, below) = step_down p (slice_get (items ts) i) part e in
+      let found : (a : Tree) × (slice_get (items ts) i ≡ Some a) × (subterm_at p a ≡ Some part) =
+      option_and_then_some (subterm_at p) (slice_get (items ts) i) part e (λ a at below. (a, at, below)) in
+      let (a, at, below) = found in
       ap (option_and_then (subterm_at p)) (item_image ts i a at) ∙ subterm_image p a part below
 
   set_image : (ts : Trees) (i : ℕ) (b : Tree) → trees (slice_set (items (apply_all σ ts)) i (apply σ b)) ≡ apply_all σ (trees (slice_set (items ts) i b))

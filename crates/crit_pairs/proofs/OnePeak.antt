@@ -2,13 +2,14 @@
 use Rattle.std.specs.Prelude.{◌≡◌, ℕ, ◌+◌, ◌||◌, List, IsTrue}
 use Rattle.std.proofs.Common.{inl, inr, sym, ◌∙◌, ap, subst}
 use Rattle.std.proofs.lemmas.Option.{same_Some}
+use Rattle.std.proofs.lemmas.Bool.{or_left, or_right, or_cases}
 use Rattle.trs_defs.specs.Tree.{Tree, var}
 use Rattle.trs_defs.specs.Variable.{has_var, variables_of}
 use Rattle.trs_defs.specs.Substitution.{apply}
 use Rattle.trs_defs.specs.Renaming.{shifted}
 use Rattle.trs_defs.specs.System.{RewriteRule, System, IsSystem}
 use Rattle.trs_defs.proofs.Substitutions.{apply_apply, same_instance}
-use Rattle.trs_defs.proofs.VariableLaws.{or_cases, or_left, or_right, has_var_same, has_var_self}
+use Rattle.trs_defs.proofs.VariableLaws.{has_var_same, has_var_self}
 use Rattle.confluence_theory.specs.Peak.{Peak}
 use Rattle.confluence_theory.specs.CriticalPeak.{occurs_in_peak, IsCriticalPeak}
 use Rattle.confluence_theory.proofs.Apart.{glue, glue_low, apply_high, part_variable, renumbered}

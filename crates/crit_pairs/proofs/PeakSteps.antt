@@ -2,6 +2,7 @@
 use Rattle.std.specs.Prelude.{◌≡◌, ◌<◌, ℕ, ◌+◌, Bool, true, false, cond, ◌&&◌, ◌||◌, ◌==◌, max, List, [], Some, IsTrue, slice_get, refl}
 use Rattle.std.proofs.Common.{zero, suc, ap, sym, ◌∙◌, subst, arith, inl, inr}
 use Rattle.std.proofs.lemmas.Bool.Decides.{nat_tests}
+use Rattle.std.proofs.lemmas.Bool.{or_left, or_right, or_cases}
 use Rattle.trs_defs.specs.Tree.{Tree, var}
 use Rattle.trs_defs.specs.Variable.{has_var}
 use Rattle.trs_defs.specs.Renaming.{shifted}
@@ -10,7 +11,6 @@ use Rattle.trs_defs.specs.Position.{subterm_at, replaced_at}
 use Rattle.trs_defs.specs.Path.{StepsAt}
 use Rattle.trs_defs.specs.System.{RewriteRule}
 use Rattle.trs_defs.proofs.Substitutions.{apply_apply, same_instance}
-use Rattle.trs_defs.proofs.VariableLaws.{or_left, or_right, or_cases}
 use Rattle.trs_caps.proofs.CapLaws.{variable_bound, below_bound}
 use Rattle.confluence_theory.specs.Peak.{Peak}
 use Rattle.confluence_theory.specs.CriticalPeak.{occurs_in_peak, IsCriticalPeak}

@@ -11,6 +11,10 @@ use Rattle.dp_core.specs.Numbered.{AreItemsOf, numbers_from}
 use Rattle.dp_core.specs.PlacedPairs.{defined_places, defined_places_of_all, placed_below, placed_pairs_from, placed_pairs}
 use Rattle.dp_core.proofs.Conclusions.{numbered_all}
 
+pub as_many_numbers : {A : Type 0} (k : ℕ) (xs : List A) → length (numbers_from k xs) ≡ length xs
+as_many_numbers k [] = refl
+as_many_numbers k (x ∷ xs) = ap suc (as_many_numbers (k + 1) xs)
+
 one_kept : {A : Type 0} (b : Bool) (x : A) (xs : List A) → length (keep_if b x xs) ≤ 1 + length xs
 one_kept true x xs = omega arith
 one_kept false x xs = omega arith

@@ -2,6 +2,7 @@
 use Rattle.std.specs.Prelude.{◌≡◌, ◌≤◌, ◌<◌, ℕ, Bool, true, false, ◌||◌, List, [], ◌∷◌, length, Some, slice_get}
 use Rattle.std.proofs.Common.{zero, suc, refl, sym, arith, nat_lt}
 use Rattle.std.proofs.lemmas.Bool.{ltb-true, ltb-false}
+use Rattle.std.proofs.lemmas.Option.{slice_get_within}
 use Rattle.trs_defs.specs.System.{RewriteRule, has_root, is_defined}
 use Rattle.term_pool.specs.Roots.{IsNextRooted}
 
@@ -30,13 +31,8 @@ there (x ∷ xs) (suc n) h = there xs n (omega arith)
 pub first_is_there : (rules : List RewriteRule) (f n : ℕ) → IsNextRooted rules f 0 n → n < length rules → is_defined rules f ≡ true
 first_is_there rules f n next h = let r = there rules n h in a_root rules f n r.0 r.1 (next.rooted r.0 r.1)
 
-within : {A : Type 0} (xs : List A) (i : ℕ) (x : A) → slice_get xs i ≡ Some x → i < length xs
-within [] i x e = absurd cc
-within (y ∷ xs) zero x e = omega arith
-within (y ∷ xs) (suc i) x e = omega (arith, within xs i x e)
-
 pub no_first : (rules : List RewriteRule) (f n : ℕ) → IsNextRooted rules f 0 n → length rules ≤ n → is_defined rules f ≡ false
-no_first rules f n next h = no_root rules f (λ i r e. next.passed i r (omega arith) (omega (arith, h, within rules i r e)) e)
+no_first rules f n next h = no_root rules f (λ i r e. next.passed i r (omega arith) (omega (arith, h, slice_get_within rules i r e)) e)
 
 -- whether the number of the first rule is one
 pub defined_by_first : (rules : List RewriteRule) (f n most : ℕ) → most ≡ length rules → IsNextRooted rules f 0 n → (n < most → is_defined rules f ≡ true) × (most ≤ n → is_defined rules f ≡ false)

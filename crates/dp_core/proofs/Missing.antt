@@ -1,25 +1,23 @@
 -- The least symbol without an entry, with one symbol more.
 use Rattle.std.specs.Prelude.{◌≡◌, ◌<◌, ◌≤◌, ℕ, ◌+◌, List, [], ◌∷◌, take, Option, Some, None, slice_get}
 use Rattle.std.proofs.Common.{inl, inr, ◌⊎◌, suc, zero, sym, subst, arith, ◌∙◌, add-one}
+use Rattle.std.proofs.lemmas.Option.{none-some}
 use Rattle.trs_defs.specs.Member.{In, in_first, in_rest}
 use Rattle.trs_defs.proofs.Members.{in_or}
 use Rattle.pair_theory.specs.DependencyPair.{DependencyPair}
 use Rattle.dp_core.specs.SubtermConditions.{place_for, roots_of}
 use Rattle.dp_core.specs.LeastMissing.{IsMissing, IsLeastMissing}
 
-none_is_not : {A : Type 0} (o : Option A) (x : A) → o ≡ None → o ≡ Some x → ⊥
-none_is_not o x e d = let f : Some x ≡ None = sym d ∙ e in absurd cc
-
 module _ (projection : List (ℕ × ℕ)) (f : ℕ) (symbols : List ℕ) where
   either : (g : ℕ) → IsMissing projection (f ∷ symbols) g → (g ≡ f) ⊎ IsMissing projection symbols g
   either g m = elim (in_or m.0) [ inl e ↦ inl e | inr i ↦ inr (i, m.1) ]
 
   pub has_place : (k : ℕ) (o : Option ℕ) → place_for projection f ≡ Some k → IsLeastMissing projection symbols o → IsLeastMissing projection (f ∷ symbols) o
-  has_place k None e h = λ g m. elim (either g m) [ inl same ↦ none_is_not (place_for projection f) k (subst (λ z. place_for projection z ≡ None) same m.1) e | inr i ↦ h g i ]
+  has_place k None e h = λ g m. elim (either g m) [ inl same ↦ none-some k (sym (subst (λ z. place_for projection z ≡ None) same m.1) ∙ e) | inr i ↦ h g i ]
   has_place k (Some n) e h = (
     (in_rest (h.0).0, (h.0).1),
     λ g lt m. elim (either g m) [
-      | inl same ↦ none_is_not (place_for projection f) k (subst (λ z. place_for projection z ≡ None) same m.1) e
+      | inl same ↦ none-some k (sym (subst (λ z. place_for projection z ≡ None) same m.1) ∙ e)
       | inr i ↦ h.1 g lt i
     ],
   )

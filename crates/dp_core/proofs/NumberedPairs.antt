@@ -1,15 +1,12 @@
 -- Items of a list, by their numbers.
-use Rattle.std.specs.Prelude.{◌≡◌, ◌<◌, ◌≤◌, ℕ, List, [], ◌∷◌, length, All, map, drop, zip, get_or, Some, slice_get}
+use Rattle.std.specs.Prelude.{◌≡◌, ◌<◌, ℕ, List, [], ◌∷◌, length, All, map, zip, get_or, Some, slice_get}
 use Rattle.std.proofs.Common.{zero, suc, refl, sym, ap, subst, arith, ◌∙◌}
-use Rattle.std.proofs.lemmas.Option.{slice_get_read, slice_get-get_or, get_or_from_slice_get, slice_get_within}
+use Rattle.std.proofs.lemmas.Option.{slice_get_read, slice_get-get_or, get_or_from_slice_get, slice_get_within, same_Some}
 use Rattle.rewrite_core.proofs.Items.{zipped}
 use Rattle.dp_core.specs.Numbered.{AreItemsOf}
 
-head_of : {A : Type 0} (x y : A) (xs ys : List A) → x ∷ xs ≡ y ∷ ys → (x ≡ y) × (xs ≡ ys)
+pub head_of : {A : Type 0} (x y : A) (xs ys : List A) → x ∷ xs ≡ y ∷ ys → (x ≡ y) × (xs ≡ ys)
 head_of x y xs ys e = (cc, cc)
-
-some_same : {A : Type 0} (x y : A) → Some x ≡ Some y → x ≡ y
-some_same x y e = cc
 
 module _ {A : Type 0} (all : List A) where
   -- there are such pairs
@@ -35,7 +32,7 @@ module _ {A : Type 0} (all : List A) where
   pair_of_number (m ∷ numbers) [] k n p are e d = absurd cc
   pair_of_number (m ∷ numbers) (q ∷ pairs) zero n p are e d =
       let h = head_of (slice_get all m) (Some q) (map (slice_get all) numbers) (map (λ x. Some x) pairs) are in
-      let same : m ≡ n = some_same m n e in
+      let same : m ≡ n = same_Some m n e in
       let here : slice_get all m ≡ Some p = rw same d in
       sym h.0 ∙ here
   pair_of_number (m ∷ numbers) (q ∷ pairs) (suc k) n p are e d =
@@ -61,16 +58,6 @@ module _ {A : Type 0} (all : List A) where
       → k < length numbers → p ≡ get_or all (get_or numbers k 0) p → slice_get (zip numbers taken) k ≡ Some (get_or numbers k 0, p)
   item_at numbers taken k p within are h e =
       zipped numbers taken k (get_or numbers k 0) p (slice_get-get_or numbers k 0 h) (pair_at numbers taken k p within are h e)
-
-drop_none : (A : Type 0) (i : ℕ) → let none : List A = [] in drop i none ≡ none
-drop_none A zero = refl
-drop_none A (suc i) = refl
-
-pub none_left : {A B : Type 0} (xs : List A) (ys : List B) (i : ℕ) → length xs ≤ i → drop i (zip xs ys) ≡ []
-none_left [] ys i le = drop_none _ i
-none_left (x ∷ xs) [] i le = drop_none _ i
-none_left (x ∷ xs) (y ∷ ys) zero le = absurd (omega arith)
-none_left (x ∷ xs) (y ∷ ys) (suc i) le = none_left xs ys i (omega arith)
 
 pub zip_length : {A B : Type 0} (xs : List A) (ys : List B) → length ys ≡ length xs → length (zip xs ys) ≡ length xs
 zip_length [] ys e = refl

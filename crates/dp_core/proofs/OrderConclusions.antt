@@ -96,7 +96,7 @@ module _ (has : ℕ → Bool) where
     all_symbols_have (cons t ts) h =
         (symbols_have t (λ g i. h g (in_left (symbols_of_all ts) i)), all_symbols_have ts (λ g i. h g (in_right (symbols_of t) i)))
 
-root_listed : (pairs : List DependencyPair) (p : DependencyPair) → In p pairs → In p.from.symbol (roots_of pairs) × In p.to.symbol (roots_of pairs)
+pub root_listed : (pairs : List DependencyPair) (p : DependencyPair) → In p pairs → In p.from.symbol (roots_of pairs) × In p.to.symbol (roots_of pairs)
 root_listed [] p i = absurd (no_in i)
 root_listed (q ∷ pairs) p i = elim (in_or i) [
   | inl same ↦ (subst (λ (z : DependencyPair). In z.from.symbol (roots_of (q ∷ pairs))) (sym same) in_first, subst (λ (z : DependencyPair). In z.to.symbol (roots_of (q ∷ pairs))) (sym same) (in_rest in_first))
@@ -112,17 +112,17 @@ rule_symbols (rule ∷ rules) r i f m = elim (in_or i) [
   | inr later ↦ in_right (symbols_of rule.left ++ symbols_of rule.right) (rule_symbols rules r later f m)
 ]
 
-item_symbols : (ts : Trees) (k : ℕ) (a : Tree) → slice_get (items ts) k ≡ Some a → (f : ℕ) → In f (symbols_of a) → In f (symbols_of_all ts)
+pub item_symbols : (ts : Trees) (k : ℕ) (a : Tree) → slice_get (items ts) k ≡ Some a → (f : ℕ) → In f (symbols_of a) → In f (symbols_of_all ts)
 item_symbols nil k a e f i = absurd cc
 item_symbols (cons t ts) zero a e f i = let same : t ≡ a = cc in in_left (symbols_of_all ts) (subst (λ z. In f (symbols_of z)) (sym same) i)
 item_symbols (cons t ts) (suc k) a e f i = in_right (symbols_of t) (item_symbols ts k a e f i)
 
-argument_symbols : (t : Tree) (place : ℕ) (a : Tree) → argument_at t place ≡ Some a → (f : ℕ) → In f (symbols_of a) → In f (symbols_of t)
+pub argument_symbols : (t : Tree) (place : ℕ) (a : Tree) → argument_at t place ≡ Some a → (f : ℕ) → In f (symbols_of a) → In f (symbols_of t)
 argument_symbols (var x) place a e f i = absurd cc
 argument_symbols (app g ts) zero a e f i = absurd cc
 argument_symbols (app g ts) (suc k) a e f i = in_rest (item_symbols ts k a e f i)
 
-at_place_symbols : (p : List ℕ) (t s : Tree) → subterm_at p t ≡ Some s → (f : ℕ) → In f (symbols_of s) → In f (symbols_of t)
+pub at_place_symbols : (p : List ℕ) (t s : Tree) → subterm_at p t ≡ Some s → (f : ℕ) → In f (symbols_of s) → In f (symbols_of t)
 at_place_symbols [] t s e f i = let same : t ≡ s = cc in subst (λ z. In f (symbols_of z)) (sym same) i
 at_place_symbols (place ∷ p) t s e f i = go (argument_at t place) refl e (λ a d. at_place_symbols p a s d f i)
   where
@@ -130,7 +130,7 @@ at_place_symbols (place ∷ p) t s e f i = go (argument_at t place) refl e (λ a
     go None is d below = absurd cc
     go (Some a) is d below = argument_symbols t place a is f (below a d)
 
-paired_first : {A B : Type 0} (R : A → B → Type 0) (xs : List A) (ys : List B) → Paired R xs ys → (y : B) → In y ys → (x : A) × R x y
+pub paired_first : {A B : Type 0} (R : A → B → Type 0) (xs : List A) (ys : List B) → Paired R xs ys → (y : B) → In y ys → (x : A) × R x y
 paired_first R [] [] h y i = absurd (no_in i)
 paired_first R [] (z ∷ ys) h y i = absurd h
 paired_first R (x ∷ xs) [] h y i = absurd h

@@ -2,7 +2,7 @@
 use Rattle.std.specs.Prelude.{◌≡◌, ◌≤◌, ◌<◌, ℕ, ◌+◌, List, [], ◌∷◌, ◌++◌, length, take, get_or, All, Some, slice_get}
 use Rattle.std.proofs.Common.{suc, refl, sym, ap, subst, arith, ◌∙◌, add-one}
 use Rattle.std.proofs.Math.Seq.{take-suc}
-use Rattle.std.proofs.lemmas.Option.{slice_get_within, slice_get-get_or, get_or_from_slice_get, slice_get_read}
+use Rattle.std.proofs.lemmas.Option.{slice_get_within, slice_get-get_or, get_or_from_slice_get, slice_get_read, same_Some}
 use Rattle.trs_defs.specs.Member.{In}
 use Rattle.trs_defs.proofs.Members.{in_of_get}
 use Rattle.trs_defs.specs.Tree.{Tree, nil, count}
@@ -17,9 +17,6 @@ use Rattle.pair_theory.specs.PairProblem.{IsPair}
 use Rattle.dp_core.specs.Markable.{IsMarkable}
 use Rattle.dp_core.specs.PlacedPairs.{placed_pairs, IsPairAt, IsPlacedPair}
 use Rattle.dp_core.specs.Laws.{AllPairsArePlaced, PairsArePlacedInOrder}
-
-pub the_same : {A : Type 0} (x y : A) → Some x ≡ Some y → x ≡ y
-the_same x y e = cc
 
 pub small_symbol : (arities : List ℕ) → length arities ≤ 4095 → (t : Tree) (m : Marked) → IsWellFormed arities t → t ≡ plain m → m.symbol < 4096
 small_symbol arities few t m well is =
@@ -56,7 +53,7 @@ module _ (system : System) (valid : IsSystem system) (few : length system.aritie
       let right : r ≡ p.rule.right = ap (λ (z : RewriteRule). z.right) (is_rule p.rule p.numbered) in
       let position : place ≡ s.place = ap (λ (z : PlacedRule). z.place) is_pair in
       let stands : subterm_at place r ≡ Some (plain pair.to) = rw (position, right) p.right in
-      the_same part (plain pair.to) (sym there ∙ stands)
+      same_Some part (plain pair.to) (sym there ∙ stands)
 
 -- pair number i, whose place is known
 pub pair_there : AllPairsArePlaced → PairsArePlacedInOrder → (system : System) → IsSystem system → (all : List PlacedRule) → all ≡ placed_pairs system.rules

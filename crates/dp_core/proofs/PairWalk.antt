@@ -2,7 +2,7 @@
 use Rattle.std.specs.Prelude.{◌≡◌, ◌≤◌, ◌<◌, ℕ, ◌+◌, Bool, true, false, List, [], ◌∷◌, ◌++◌, map, length, drop, get_or, Some, slice_get}
 use Rattle.std.proofs.Common.{refl, sym, ap, subst, ◌∙◌, append_assoc}
 use Rattle.std.proofs.lemmas.List.{drop_all, map-append, append-nil}
-use Rattle.std.proofs.lemmas.Option.{slice_get_within, slice_get_read, get_or_from_slice_get}
+use Rattle.std.proofs.lemmas.Option.{slice_get_within, get_or_from_slice_get}
 use Rattle.trs_defs.specs.Tree.{Tree, Trees, app}
 use Rattle.trs_defs.specs.System.{RewriteRule, System, IsSystem, is_defined}
 use Rattle.trs_defs.specs.Path.{PlacedRule}
@@ -74,9 +74,6 @@ pub from_root : (rules : List RewriteRule) (k : ℕ) (p : List ℕ) (f : ℕ) (t
 from_root rules k p f ts t is old new grown =
     ap (λ l. old ++ l) (root_first rules k p f ts t is)
     ∙ (sym (append_assoc old (placed_below k p (keep_if (is_defined rules f) [] [])) (below_arguments rules k p 1 ts)) ∙ ap (λ l. l ++ below_arguments rules k p 1 ts) (sym grown))
-
-pub rule_read : (rules : List RewriteRule) (i : ℕ) (rule : RewriteRule) → i < length rules → rule ≡ get_or rules i rule → slice_get rules i ≡ Some rule
-rule_read rules i rule h e = slice_get_read rules (length rules) i rule refl h e
 
 pub narrow_right : (system : System) (small : (f n : ℕ) → slice_get system.arities f ≡ Some n → n < 256) → IsSystem system → (k : ℕ) (rule : RewriteRule) (t : Tree) → t ≡ rule.right
     → slice_get system.rules k ≡ Some rule → IsNarrow t

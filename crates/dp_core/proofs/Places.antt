@@ -3,9 +3,9 @@ use Rattle.std.specs.Prelude.{◌≡◌, ◌==◌, ◌<◌, ◌≤◌, ℕ, ◌-
 use Rattle.std.specs.Ordering.{nat_cmp}
 use Rattle.std.specs.BTreeMap.{BTreeMap, get, is_at}
 use Rattle.std.proofs.Common.{zero, suc, refl, sym, ap, subst, arith, ◌∙◌, drop-cons, sub-one}
-use Rattle.std.proofs.lemmas.Grind.{common_steps}
 use Rattle.dp_core.specs.SubtermConditions.{place_for}
 use Rattle.dp_core.specs.Places.{ArePlacesOf}
+use Rattle.trs_core.proofs.NumberKeys.{at_number}
 
 -- the table has the place of the entry for its symbol, and the others stay
 abbrev pub IsUpdate : BTreeMap ℕ ℕ → BTreeMap ℕ ℕ → ℕ × ℕ → Type 0
@@ -14,9 +14,6 @@ IsUpdate old new entry = (q : ℕ) → get nat_cmp new q ≡ cond (is_at (nat_cm
 as_test : (b : Bool) (x y : Option ℕ) → cond b x y ≡ (if b then x else y)
 as_test true x y = refl
 as_test false x y = refl
-
-at_number : (n v : ℕ) → is_at (nat_cmp n) v ≡ (n == v)
-at_number n v = grind (arith, common_steps)
 
 pub one_entry_more : (entries : List (ℕ × ℕ)) (i : ℕ) (d : ℕ × ℕ) (old new : BTreeMap ℕ ℕ) → 0 < i → i ≤ length entries
     → ArePlacesOf (drop i entries) old → IsUpdate old new (get_or entries (i - 1) d) → ArePlacesOf (drop (i - 1) entries) new

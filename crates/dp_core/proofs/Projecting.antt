@@ -2,6 +2,7 @@
 use Rattle.std.specs.Prelude.{◌≡◌, ℕ, ◌-◌, true, false, List, Option, Some, None, Ok, Err, slice_get}
 use Rattle.std.specs.Option.{option_and_then, option_map, option_copied}
 use Rattle.std.proofs.Common.{Bor, sym, ap, subst, ◌∙◌}
+use Rattle.std.proofs.lemmas.Option.{same_Some, none-some}
 use Rattle.trs_defs.specs.Tree.{Tree, Trees, app}
 use Rattle.trs_defs.specs.Position.{argument_at}
 use Rattle.trs_core.specs.declared.terms.Term.{Term}
@@ -24,27 +25,21 @@ projected_to projection m f args is place ts got listed same positive found =
     ∙ (sym (argument_at_past f ts args place same positive)
     ∙ ap (λ o. option_and_then (argument_at (app f args)) o) (sym listed)))
 
-same_some : {A : Type 0} (x y : A) → Some x ≡ Some y → x ≡ y
-same_some x y e = cc
-
-none_is_not : {A : Type 0} (o : Option A) (x : A) → o ≡ None → o ≡ Some x → ⊥
-none_is_not o x e d = let f : Some x ≡ None = sym d ∙ e in absurd cc
-
 module _ (projection : List (ℕ × ℕ)) (n : ℕ) (from to : Marked) (p : DependencyPair) (is : record { from = from; to = to } ≡ p) where
   pub no_left : projected projection from ≡ None → projects_within projection n p (Err (PairNotWeak n))
   no_left e = subst (λ q. projects_within projection n q (Err (PairNotWeak n))) is
-      (stops _ (lacks (λ h. none_is_not (projected projection from) h.left e h.left_there)))
+      (stops _ (lacks (λ h. none-some h.left (sym e ∙ h.left_there))))
 
   pub no_right : projected projection to ≡ None → projects_within projection n p (Err (PairNotWeak n))
   no_right e = subst (λ q. projects_within projection n q (Err (PairNotWeak n))) is
-      (stops _ (lacks (λ h. none_is_not (projected projection to) h.right e h.right_there)))
+      (stops _ (lacks (λ h. none-some h.right (sym e ∙ h.right_there))))
 
   module _ (l r : Tree) (left : projected projection from ≡ Some l) (right : projected projection to ≡ Some r) where
     -- what is related
     related_sides : (related : Tree → Tree → Type 0) → ProjectedAre projection related (record { from = from; to = to }) → related l r
     related_sides related h =
-        subst (λ z. related l z) (same_some h.right r (sym h.right_there ∙ right))
-        (subst (λ z. related z h.right) (same_some h.left l (sym h.left_there ∙ left)) h.relation)
+        subst (λ z. related l z) (same_Some h.right r (sym h.right_there ∙ right))
+        (subst (λ z. related z h.right) (same_Some h.left l (sym h.left_there ∙ left)) h.relation)
 
     pub equal_sides : l ≡ r → projects_within projection n p (Ok false)
     equal_sides same = subst (λ q. projects_within projection n q (Ok false)) is

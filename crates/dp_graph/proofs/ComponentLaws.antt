@@ -5,7 +5,7 @@ use Rattle.std.specs.List.Sorted.{IsStrictlyIncreasing}
 use Rattle.std.proofs.Common.{zero, suc, inl, inr, sym, ap, subst, arith, ◌∙◌, add-one, append_assoc}
 use Rattle.std.proofs.lemmas.List.{append-nil}
 use Rattle.std.proofs.lemmas.List.Kept.{AllPairs-from_increasing}
-use Rattle.std.proofs.lemmas.Option.{get_or_from_slice_get}
+use Rattle.std.proofs.lemmas.Option.{get_or_from_slice_get, same_Some, slice_get_within}
 use Rattle.std.proofs.lemmas.Bool.{eqb-true, eq-eqb}
 use native.Mathlib.Decide.{dec_lt, ℕ_discrete}
 use Rattle.trs_defs.specs.Member.{In, in_first, in_rest}
@@ -25,7 +25,7 @@ use Rattle.dp_graph.specs.Components.{IsEdgeWithin, LiesOnCycle, IsComponent, Is
 use Rattle.dp_graph.specs.PutOut.{led_by, IsBlocked, IsUndoneLeader, IsNextReady, IsItemOf, Finishes, ArePutOut, all_done, put_out, PutsOut, AreItemsOf, no_leaders, a_pair, a_rule}
 use Rattle.dp_graph.proofs.EachOfList.{each_passes}
 use Rattle.dp_graph.proofs.UnnamedPairs.{both_new}
-use Rattle.dp_graph.proofs.ListPlaces.{within, there, some_same, set_at, unset_there, at_repeat, in_repeat, length_repeat}
+use Rattle.dp_graph.proofs.ListPlaces.{there, set_at, unset_there, at_repeat, in_repeat, length_repeat}
 use Rattle.dp_graph.proofs.PutOutLaws.{leads_itself, one_leader, led_mutual, DoneTogether, still_together, together_at_first}
 
 -- ---- lists that ascend
@@ -36,7 +36,7 @@ pub data Ascends : List ℕ → Type 0 where
 
 lesser_of : (numbers : List ℕ) → IsStrictlyIncreasing numbers → (i j m n : ℕ) → i < j → slice_get numbers i ≡ Some m → slice_get numbers j ≡ Some n → m < n
 lesser_of numbers up i j m n lt e d =
-    let h = AllPairs-from_increasing numbers up i j 0 lt (within numbers j n d) in
+    let h = AllPairs-from_increasing numbers up i j 0 lt (slice_get_within numbers j n d) in
     let a = get_or_from_slice_get numbers i m 0 e in
     let b = get_or_from_slice_get numbers j n 0 d in
     omega (arith, h, a, b)
@@ -78,10 +78,10 @@ in_led_by v (m ∷ numbers) (l ∷ leaders) n i = go (in_led_by v numbers leader
 pub led_by_in : (v : ℕ) (numbers leaders : List ℕ) (n w : ℕ) → slice_get numbers w ≡ Some n → slice_get leaders w ≡ Some v → In n (led_by v numbers leaders)
 led_by_in v [] leaders n w e d = absurd cc
 led_by_in v (m ∷ numbers) [] n w e d = absurd cc
-led_by_in v (m ∷ numbers) (l ∷ leaders) n zero e d = first (l == v) (eq-eqb l v (some_same l v d))
+led_by_in v (m ∷ numbers) (l ∷ leaders) n zero e d = first (l == v) (eq-eqb l v (same_Some l v d))
   where
     first : (b : Bool) → b ≡ true → In n (keep_if b m (led_by v numbers leaders))
-    first true h = subst (λ z. In z (m ∷ led_by v numbers leaders)) (some_same m n e) in_first
+    first true h = subst (λ z. In z (m ∷ led_by v numbers leaders)) (same_Some m n e) in_first
     first false h = absurd cc
 led_by_in v (m ∷ numbers) (l ∷ leaders) n (suc w) e d = later (l == v) (led_by_in v numbers leaders n w e d)
   where
@@ -152,8 +152,8 @@ module _ (rules : List RewriteRule) (all : List DependencyPair) (numbers : List 
   step_up : (i j m n : ℕ) → FollowsByRule pairs rows i j → slice_get numbers i ≡ Some m → slice_get numbers j ≡ Some n → Edge m n
   step_up i j m n f e d =
       let (a, b, at, there_b, edge) = (are_rows.exact i j).0 f in
-      let same_a : a ≡ m = some_same a m (sym at ∙ e) in
-      let same_b : b ≡ n = some_same b n (sym there_b ∙ d) in
+      let same_a : a ≡ m = same_Some a m (sym at ∙ e) in
+      let same_b : b ≡ n = same_Some b n (sym there_b ∙ d) in
       (in_of_get numbers i m e, in_of_get numbers j n d, subst (λ z. HasEdge rules all m z) same_b (subst (λ z. HasEdge rules all z b) same_a edge))
 
   step_down : (i j m n : ℕ) → Edge m n → slice_get numbers i ≡ Some m → slice_get numbers j ≡ Some n → FollowsByRule pairs rows i j
@@ -161,10 +161,10 @@ module _ (rules : List RewriteRule) (all : List DependencyPair) (numbers : List 
 
   -- two steps are one edge between pairs
   run_up : {i j : ℕ} → Run (Follows rows) i j → (m n : ℕ) → slice_get numbers i ≡ Some m → slice_get numbers j ≡ Some n → Run Edge m n
-  run_up Stay m n e d = subst (Run Edge m) (some_same m n (sym e ∙ d)) Stay
-  run_up (Go {s = i} {m = k} step Stay) m n e d = absurd (let h = (to_rule i k step (within numbers i m e)).0 in let w = within numbers k n d in omega (arith, h, w))
+  run_up Stay m n e d = subst (Run Edge m) (same_Some m n (sym e ∙ d)) Stay
+  run_up (Go {s = i} {m = k} step Stay) m n e d = absurd (let h = (to_rule i k step (slice_get_within numbers i m e)).0 in let w = slice_get_within numbers k n d in omega (arith, h, w))
   run_up (Go {s = i} {m = r} step (Go {m = k} second run)) m n e d =
-      let by : FollowsByRule pairs rows i k = (within numbers i m e, (r, step, second)) in
+      let by : FollowsByRule pairs rows i k = (slice_get_within numbers i m e, (r, step, second)) in
       let (a, b, at, there_b, edge) = (are_rows.exact i k).0 by in
       Go (step_up i k m b by e there_b) (run_up run b n there_b d)
 
@@ -191,7 +191,7 @@ module _ (rules : List RewriteRule) (all : List DependencyPair) (numbers : List 
   item_in v (group members) is n w e d = subst (In n) (sym is.0) (led_by_in v numbers leaders n w e d)
   item_in v (single member) is n w e d =
       let same : w ≡ v = is.1 w d in
-      let here : n ≡ member = some_same n member (sym e ∙ (ap (slice_get numbers) same ∙ is.0)) in
+      let here : n ≡ member = same_Some n member (sym e ∙ (ap (slice_get numbers) same ∙ is.0)) in
       subst (λ z. In z (member ∷ [])) (sym here) in_first
 
   by_rule : {k v : ℕ} → v < pairs → Follows rows v k → Run (Follows rows) k v → (j : ℕ) × FollowsByRule pairs rows v j × Run (Follows rows) j v
@@ -202,7 +202,7 @@ module _ (rules : List RewriteRule) (all : List DependencyPair) (numbers : List 
   lies_on_cycle v m own e (w, d, differ) =
       let joined = led_mutual rows leaders led v w v own d in
       let (k, step, run) = cycle_of joined.0 differ joined.1 in
-      let (j, by, back) = by_rule (within numbers v m e) step run in
+      let (j, by, back) = by_rule (slice_get_within numbers v m e) step run in
       let (a, b, at, there_b, edge) = (are_rows.exact v j).0 by in
       (b, step_up v j m b by e there_b, run_up back b m there_b e)
 
@@ -220,7 +220,7 @@ module _ (rules : List RewriteRule) (all : List DependencyPair) (numbers : List 
                 (in_of_get numbers w n e, (run_up joined.0 at.0 n at.1 e, run_up joined.1 n at.0 e at.1)),
             λ h.
                 let w = get_of_in h.0 in
-                let l = leader_of w.0 (within numbers w.0 n w.1) in
+                let l = leader_of w.0 (slice_get_within numbers w.0 n w.1) in
                 let same : l.0 ≡ v = one_leader rows leaders led w.0 v l.0 v l.1 own (run_down h.1.1 w.0 v w.1 at.1, run_down h.1.0 v w.0 at.1 w.1) in
                 subst (In n) (sym is.0) (led_by_in v numbers leaders n w.0 w.1 (l.1 ∙ ap (λ z. Some z) same)),
           ),
@@ -239,7 +239,7 @@ module _ (rules : List RewriteRule) (all : List DependencyPair) (numbers : List 
   -- ---- the items of the places that are not done
 
   false_true : (o : List Bool) (i : ℕ) → slice_get o i ≡ Some false → slice_get o i ≡ Some true → ⊥
-  false_true o i e d = let h : false ≡ true = some_same false true (sym e ∙ d) in absurd cc
+  false_true o i e d = let h : false ≡ true = same_Some false true (sym e ∙ d) in absurd cc
 
   still_undone : (v : ℕ) (done new : List Bool) → Finishes v leaders done new → (i : ℕ) → slice_get new i ≡ Some false → slice_get done i ≡ Some false
   still_undone v done new finishes i e = sym (finishes.others i (λ g. false_true new i e (finishes.led i g))) ∙ e
@@ -262,14 +262,14 @@ module _ (rules : List RewriteRule) (all : List DependencyPair) (numbers : List 
     size = finishes.count ∙ passed.size;
     together = still_together rows leaders led v done new ready.0.0 finishes passed.together;
     closed = λ i j f e.
-        let lt : i < length leaders = (let (row, at, k) = f in let w = within rows i row at in let c = led.count in omega (arith, w, c)) in
+        let lt : i < length leaders = (let (row, at, k) = f in let w = slice_get_within rows i row at in let c = led.count in omega (arith, w, c)) in
         let li = there leaders i lt in
-        let lj = there leaders j (let w = within new j true e in let c = finishes.count in let s = passed.size in omega (arith, w, c, s)) in
+        let lj = there leaders j (let w = slice_get_within new j true e in let c = finishes.count in let s = passed.size in omega (arith, w, c, s)) in
         go i j f e li.0 li.1 lj.0 lj.1 lt (ℕ_discrete li.0 v) (ℕ_discrete lj.0 v);
   }
     where
       stays : (i l : ℕ) → slice_get leaders i ≡ Some l → (l ≡ v → ⊥) → slice_get new i ≡ slice_get done i
-      stays i l at other = finishes.others i (λ g. other (some_same l v (sym at ∙ g)))
+      stays i l at other = finishes.others i (λ g. other (same_Some l v (sym at ∙ g)))
 
       go : (i j : ℕ) → Follows rows i j → slice_get new j ≡ Some true → (a : ℕ) → slice_get leaders i ≡ Some a → (b : ℕ) → slice_get leaders j ≡ Some b → i < length leaders → Dec (a ≡ v) → Dec (b ≡ v)
           → slice_get new i ≡ Some true
@@ -300,16 +300,16 @@ module _ (rules : List RewriteRule) (all : List DependencyPair) (numbers : List 
           | inr j ↦ (let (w, e, d) = later.0 j in (w, e, still_undone v done new finishes w d))
         ],
         λ (i, e, d).
-            let l = leader_of i (within numbers i n e) in
+            let l = leader_of i (slice_get_within numbers i n e) in
             elim (ℕ_discrete l.0 v) [
               | yes same ↦ in_left (all_members items) (item_in v item is n i e (l.1 ∙ ap (λ z. Some z) same))
-              | no other ↦ in_right (members_of item) (later.1 (i, e, finishes.others i (λ g. other (some_same l.0 v (sym l.1 ∙ g))) ∙ d))
+              | no other ↦ in_right (members_of item) (later.1 (i, e, finishes.others i (λ g. other (same_Some l.0 v (sym l.1 ∙ g))) ∙ d))
             ],
       )
   covers done _ items passed (put_out {vs = vs} v new ready finishes rest) (a_rule _ ge more) n =
       let later = covers new vs items (still_passed v done new ready finishes passed) rest more n in (
         λ i. (let (w, e, d) = later.0 i in (w, e, still_undone v done new finishes w d)),
-        λ (i, e, d). later.1 (i, e, finishes.others i (λ g. let low = led_low i v g in let w = within numbers i n e in omega (arith, low, w, ge)) ∙ d),
+        λ (i, e, d). later.1 (i, e, finishes.others i (λ g. let low = led_low i v g in let w = slice_get_within numbers i n e in omega (arith, low, w, ge)) ∙ d),
       )
 
   -- each item is that of a leader that is not done
@@ -406,7 +406,7 @@ module _ (rules : List RewriteRule) (all : List DependencyPair) (numbers : List 
                 let k = leader_of a small_a in
                 let same : k.0 ≡ l = one_leader rows leaders led a l k.0 l k.1 (leads_itself rows leaders led r l at) (Go first joined.0, run) in
                 let led_a : slice_get leaders a ≡ Some l = k.1 ∙ ap (λ z. Some z) same in
-                differ (some_same l u (sym led_a ∙ is_within a r w small_a first second (passed.together a l led_a ∙ left) led_w))
+                differ (same_Some l u (sym led_a ∙ is_within a r w small_a first second (passed.together a l led_a ∙ left) led_w))
           ]
           go (no high) =
               let far : pairs ≤ l = omega (arith, high) in
@@ -432,7 +432,7 @@ module _ (rules : List RewriteRule) (all : List DependencyPair) (numbers : List 
 
       not_blocked : IsBlocked rows leaders done u → ⊥
       not_blocked b = elim (dec_lt b.from pairs) [
-        | yes lt ↦ b.differ (some_same b.leader u (sym b.of_other ∙ by_pair b.from b.to lt b.follows b.undone b.of_this))
+        | yes lt ↦ b.differ (same_Some b.leader u (sym b.of_other ∙ by_pair b.from b.to lt b.follows b.undone b.of_this))
         | no ge ↦ by_other b.from b.to b.leader (omega (arith, ge)) b.follows b.undone b.of_other b.of_this b.differ
       ]
 
@@ -512,7 +512,7 @@ module _ (rules : List RewriteRule) (all : List DependencyPair) (numbers : List 
     named = all_new done order items [] passed out of (λ n i j. no_in j);
     whole = never (λ n h.
         let w = get_of_in h.0 in
-        h.1 ((covers done order items passed out of n).1 (w.0, w.1, fresh w.0 (let k = within numbers w.0 n w.1 in let c = led.count in let d = are_rows.count in omega (arith, k, c, d)))));
+        h.1 ((covers done order items passed out of n).1 (w.0, w.1, fresh w.0 (let k = slice_get_within numbers w.0 n w.1 in let c = led.count in let d = are_rows.count in omega (arith, k, c, d)))));
     components = λ item i. let (v, undone, small, is) = of_leader done order items out of item i in is_component v item small undone.0 is;
     in_order = stand_in_order done order items passed out of;
   }

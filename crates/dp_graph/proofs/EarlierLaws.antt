@@ -6,6 +6,7 @@ use Rattle.std.specs.BTreeMap.{BTreeMap, get, is_at}
 use Rattle.std.specs.Map.{lookup}
 use Rattle.std.specs.BTreeSet.{contains}
 use Rattle.std.proofs.Common.{inl, inr, sym, ap, subst, ◌∙◌}
+use Rattle.std.proofs.lemmas.Option.{same_Some}
 use native.Mathlib.Decide.{ℕ_discrete}
 use Rattle.trs_defs.specs.Member.{In, in_first}
 use Rattle.trs_defs.proofs.Members.{in_left, in_right}
@@ -27,9 +28,6 @@ use Rattle.dp_graph.specs.Waiting.{Sets}
 use Rattle.dp_graph.proofs.Sets.{at_others, none_in_empty}
 use Rattle.dp_graph.proofs.EachOfList.{first_refuses, with_last, last_or_before, each_passes, each_passed, it_is_absent}
 
-the_same : {A : Type 0} (x y : A) → Some x ≡ Some y → x ≡ y
-the_same x y e = cc
-
 same_mark : (a b : Marked) → plain a ≡ plain b → mark a ≡ mark b
 same_mark a b e =
     let root : a.symbol ≡ b.symbol = cc in
@@ -39,7 +37,7 @@ same_mark a b e =
 -- pairs of one rule have one left side
 pub same_left : (rules : List RewriteRule) (r : ℕ) (p q : DependencyPair) → IsOfRule rules r p → IsOfRule rules r q → mark p.from ≡ mark q.from
 same_left rules r p q (a, at, is) (b, there, also) =
-    let same : a ≡ b = the_same a b (sym at ∙ there) in
+    let same : a ≡ b = same_Some a b (sym at ∙ there) in
     same_mark p.from q.from (sym is ∙ (ap (λ (x : RewriteRule). x.left) same ∙ also))
 
 module _ (system : System) (valid : IsSystem system) (few : length system.arities ≤ 4095) where
@@ -55,15 +53,15 @@ module _ (system : System) (valid : IsSystem system) (few : length system.aritie
   -- an edge leads from a pair to pairs with the root of its right side
   pub edge_root : (m n : ℕ) (p q : DependencyPair) → slice_get all m ≡ Some p → slice_get all n ≡ Some q → Edge m n → p.to.symbol ≡ q.from.symbol
   edge_root m n p q at there e =
-      let from : e.from ≡ p = the_same e.from p (sym e.from_numbered ∙ at) in
-      let to : e.to ≡ q = the_same e.to q (sym e.to_numbered ∙ there) in
+      let from : e.from ≡ p = same_Some e.from p (sym e.from_numbered ∙ at) in
+      let to : e.to ≡ q = same_Some e.to q (sym e.to_numbered ∙ there) in
       let root : e.from.to.symbol ≡ e.to.from.symbol = ((edges_by_arguments system e.from e.to valid few).0 e.edge).0 in
       ap (λ (x : DependencyPair). x.to.symbol) (sym from) ∙ (root ∙ ap (λ (x : DependencyPair). x.from.symbol) to)
 
   -- an edge to a pair is one to each other pair with its left side
   pub edge_to_alike : (m n k : ℕ) (p q : DependencyPair) → slice_get all n ≡ Some p → slice_get all k ≡ Some q → mark p.from ≡ mark q.from → Edge m n → Edge m k
   edge_to_alike m n k p q at there alike e =
-      let to : e.to ≡ p = the_same e.to p (sym e.to_numbered ∙ at) in
+      let to : e.to ≡ p = same_Some e.to p (sym e.to_numbered ∙ at) in
       record {
         from = e.from;
         to = q;

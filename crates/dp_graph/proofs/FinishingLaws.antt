@@ -1,6 +1,7 @@
 -- A walk in depth: places that are entered, tried and finished.
 use Rattle.std.specs.Prelude.{◌≡◌, ◌<◌, ◌≤◌, ◌⊎◌, ℕ, ◌+◌, ◌*◌, Bool, true, false, List, [], ◌∷◌, ◌++◌, length, replicate, Some, slice_get, slice_set}
 use Rattle.std.proofs.Common.{zero, suc, inl, inr, sym, ap, subst, arith, ◌∙◌}
+use Rattle.std.proofs.lemmas.Option.{same_Some, slice_get_within}
 use native.Mathlib.Decide.{dec_lt, ℕ_discrete}
 use Rattle.trs_defs.specs.Member.{In, in_first}
 use Rattle.trs_defs.specs.Run.{Run, Stay, Go}
@@ -11,7 +12,7 @@ use Rattle.dp_graph.specs.FoundPlaces.{unset}
 use Rattle.dp_graph.specs.Leaders.{AreMutual}
 use Rattle.dp_graph.specs.Finishing.{IsMutualBehind, IsMutualBefore, IsFinishingOrder, IsWalk, Enters, untried, effort}
 use Rattle.dp_graph.proofs.FoundLaws.{unset_set}
-use Rattle.dp_graph.proofs.ListPlaces.{within, some_same, set_at, not_both, unset_there, length_set, set_here, set_elsewhere, set_cases, set_kept, last_or_there, still_there, last_there, get_left, length_more, in_single, in_repeat, length_repeat}
+use Rattle.dp_graph.proofs.ListPlaces.{set_at, not_both, unset_there, length_set, set_here, set_elsewhere, set_cases, set_kept, last_or_there, still_there, last_there, get_left, length_more, in_single, in_repeat, length_repeat}
 
 pub walk_starts : (rows : List (List ℕ)) (entered : List Bool) (next way finished : List ℕ) (n : ℕ) → n ≡ length rows → entered ≡ replicate n false → next ≡ replicate n 0 → way ≡ [] → finished ≡ []
     → IsWalk rows entered next way finished
@@ -69,7 +70,7 @@ module _ (rows : List (List ℕ)) where
     back_new j u free i run =
         let (z, z_in, r) = leaves run i free in
         let at = get_of_in z_in in
-        let lt = within way at.0 z at.1 in
+        let lt = slice_get_within way at.0 z at.1 in
         elim (is.back at.0 z u at.1 i r) [
           | inl back_to ↦ (at.0, z, lt, at.1, (r, back_to))
           | inr h ↦ before_later way at.0 (length way) u (omega (arith, lt)) h
@@ -77,7 +78,7 @@ module _ (rows : List (List ℕ)) where
 
     module _ (j : ℕ) (free : slice_get entered j ≡ Some false) (leads_to : (k v : ℕ) → slice_get way k ≡ Some v → Run (Follows rows) v j) where
       small : j < length entered
-      small = within entered j false free
+      small = slice_get_within entered j false free
 
       order_new : (k x u : ℕ) → slice_get finished k ≡ Some x → Run (Follows rows) u x → Dec (u ≡ j)
           → Run (Follows rows) x u ⊎ (IsMutualBehind rows finished k u ⊎ (IsMutualBefore rows (way ++ j ∷ []) (length (way ++ j ∷ [])) u ⊎ (slice_get (slice_set entered j true) u ≡ Some true → ⊥)))
@@ -115,7 +116,7 @@ module _ (rows : List (List ℕ)) where
         followed = λ i k i_in step. set_kept entered j k (is.followed i k i_in step);
         tried = λ i m n k row e lt d at. set_kept entered j k (is.tried i m n k row e lt d at);
         leads = λ k m u v lt e d. elim (last_or_there way j v m d) [
-          | inl h ↦ is.leads k m u v lt (get_left way (j ∷ []) k u (let w = within way m v h in omega (arith, lt, w)) e) h
+          | inl h ↦ is.leads k m u v lt (get_left way (j ∷ []) k u (let w = slice_get_within way m v h in omega (arith, lt, w)) e) h
           | inr h ↦ subst (Run (Follows rows) u) h.1 (leads_to k u (get_left way (j ∷ []) k u (let w = h.0 in omega (arith, lt, w)) e))
         ];
         back = λ k v u e i run. elim (last_or_there way j v k e) [
@@ -137,13 +138,13 @@ module _ (rows : List (List ℕ)) where
       followed = is.followed;
       tried = λ a m b k other e lt d k_at. elim (set_cases next i a (n + 1) b e) [
         | inl h ↦
-            let row_same : other ≡ row = some_same other row (sym d ∙ (ap (slice_get rows) h.0 ∙ row_is)) in
+            let row_same : other ≡ row = same_Some other row (sym d ∙ (ap (slice_get rows) h.0 ∙ row_is)) in
             let below : m < n + 1 = (let g = h.1 in omega (arith, lt, g)) in
             elim (dec_lt m n) [
               | yes s ↦ is.tried i m n k row at s row_is (subst (λ z. slice_get z m ≡ Some k) row_same k_at)
               | no s ↦
                   let same : m ≡ n = omega (arith, s, below) in
-                  let k_is : k ≡ j = some_same k j (sym (subst (λ z. slice_get z m ≡ Some k) row_same k_at) ∙ (ap (slice_get row) same ∙ j_at)) in
+                  let k_is : k ≡ j = same_Some k j (sym (subst (λ z. slice_get z m ≡ Some k) row_same k_at) ∙ (ap (slice_get row) same ∙ j_at)) in
                   subst (λ z. slice_get entered z ≡ Some true) (sym k_is) set
             ]
         | inr h ↦ is.tried a m b k other h.1 lt d k_at
@@ -163,8 +164,8 @@ module _ (rows : List (List ℕ)) where
         | inl g ↦ inl (behind_more finished x k u g)
         | inr g ↦ elim g [
           | inl (m, w, lt, d, both) ↦ elim (last_or_there way x w m d) [
-            | inl f ↦ inr (inl (m, w, within way m w f, f, both))
-            | inr f ↦ inl (length finished, x, within finished k y e, last_there finished x, subst (AreMutual rows u) (sym f.1) both)
+            | inl f ↦ inr (inl (m, w, slice_get_within way m w f, f, both))
+            | inr f ↦ inl (length finished, x, slice_get_within finished k y e, last_there finished x, subst (AreMutual rows u) (sym f.1) both)
           ]
           | inr f ↦ inr (inr f)
         ]
@@ -181,7 +182,7 @@ module _ (rows : List (List ℕ)) where
           | inr h ↦ inr (inr (inl (before_less way x (length way) u (omega arith) h)))
         ]
         | inr i ↦ elim (in_either way (x ∷ []) i) [
-          | inl h ↦ let k = get_of_in h in inr (inr (inl (k.0, u, within way k.0 u k.1, k.1, (Stay, Stay))))
+          | inl h ↦ let k = get_of_in h in inr (inr (inl (k.0, u, slice_get_within way k.0 u k.1, k.1, (Stay, Stay))))
           | inr h ↦ inl (subst (Run (Follows rows) x) (sym (in_single h)) Stay)
         ]
       ]
@@ -203,14 +204,14 @@ module _ (rows : List (List ℕ)) where
         | inl h ↦ is.followed i j h step
         | inr h ↦
             let (other, d, j_in) = step in
-            let same : other ≡ row = some_same other row (sym d ∙ (ap (slice_get rows) (in_single h) ∙ row_is)) in
+            let same : other ≡ row = same_Some other row (sym d ∙ (ap (slice_get rows) (in_single h) ∙ row_is)) in
             let k = get_of_in (subst (In j) same j_in) in
-            is.tried x k.0 n j row at (let w = within row k.0 j k.1 in omega (arith, w, all)) row_is k.1
+            is.tried x k.0 n j row at (let w = slice_get_within row k.0 j k.1 in omega (arith, w, all)) row_is k.1
       ];
       tried = is.tried;
       leads = λ k m u v lt e d. is.leads k m u v lt (still_there way (x ∷ []) k u e) (still_there way (x ∷ []) m v d);
       back = λ k v u e i run.
-          let low = within way k v e in
+          let low = slice_get_within way k v e in
           elim (in_either finished (x ∷ []) i) [
             | inl h ↦ elim (is.back k v u (still_there way (x ∷ []) k v e) h run) [
               | inl g ↦ inl g
@@ -250,7 +251,7 @@ module _ (rows : List (List ℕ)) where
       (enters_walk old new next before after finished j enters (λ k v e. absurd (no_in (subst (In v) none (in_of_get before k v e)))) is))
 
   pub last_within : (entered : List Bool) (next way finished : List ℕ) (x : ℕ) → IsWalk rows entered next (way ++ x ∷ []) finished → x < length rows
-  last_within entered next way finished x is = let w = within entered x true (is.met x (inr (in_right way in_first))) in let c = is.count in omega (arith, w, c)
+  last_within entered next way finished x is = let w = slice_get_within entered x true (is.met x (inr (in_right way in_first))) in let c = is.count in omega (arith, w, c)
 
   -- the last place of the way tries one more of its row
   pub follow_walk : StayWithin rows → (old new : List Bool) (next next_new way after finished finished_new : List ℕ) (x n j : ℕ) (row : List ℕ) → IsWalk rows old next (way ++ x ∷ []) finished
@@ -266,7 +267,7 @@ module _ (rows : List (List ℕ)) where
     where
       leads_to : Follows rows x j → (k v : ℕ) → slice_get (way ++ x ∷ []) k ≡ Some v → Run (Follows rows) v j
       leads_to step k v e = elim (last_or_there way x v k e) [
-        | inl h ↦ then (is.leads k (length way) v x (within way k v h) e (last_there way x)) (one step)
+        | inl h ↦ then (is.leads k (length way) v x (slice_get_within way k v h) e (last_there way x)) (one step)
         | inr h ↦ subst (λ z. Run (Follows rows) z j) h.1 (one step)
       ]
 
@@ -288,11 +289,11 @@ module _ (rows : List (List ℕ)) where
   }
     where
       places : (i : ℕ) → In i finished → i < length rows
-      places i h = let w = within entered i true (is.met i (inl h)) in let c = is.count in omega (arith, w, c)
+      places i h = let w = slice_get_within entered i true (is.met i (inl h)) in let c = is.count in omega (arith, w, c)
 
       begins_within : {u x : ℕ} → Run (Follows rows) u x → x < length rows → u < length rows
       begins_within Stay lt = lt
-      begins_within (Go {s = s} step run) lt = within rows s step.0 step.1
+      begins_within (Go {s = s} step run) lt = slice_get_within rows s step.0 step.1
 
 -- ---- the steps that are left
 
@@ -301,8 +302,8 @@ untried_less : (rows : List (List ℕ)) (next : List ℕ) (i n : ℕ) (row : Lis
 untried_less [] next i n row e d lt = absurd cc
 untried_less (r ∷ rows) [] i n row e d lt = absurd cc
 untried_less (r ∷ rows) (m ∷ next) zero n row e d lt =
-    let a : m ≡ n = some_same m n e in
-    let b : r ≡ row = some_same r row d in
+    let a : m ≡ n = same_Some m n e in
+    let b : r ≡ row = same_Some r row d in
     let l : length r ≡ length row = ap length b in
     omega (arith, a, l, lt)
 untried_less (r ∷ rows) (m ∷ next) (suc i) n row e d lt = let h = untried_less rows next i n row e d lt in omega (arith, h)

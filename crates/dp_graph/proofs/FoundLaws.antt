@@ -2,6 +2,7 @@
 use Rattle.std.specs.Prelude.{◌≡◌, ◌<◌, ◌≤◌, ◌⊎◌, ℕ, ◌+◌, Bool, true, false, List, [], ◌∷◌, ◌++◌, length, take, drop, get_or, Some, slice_get, slice_set, refl}
 use Rattle.std.proofs.Common.{zero, suc, inl, inr, sym, ap, subst, arith, ◌∙◌, append_assoc, length-append}
 use Rattle.std.proofs.lemmas.List.{append-nil}
+use Rattle.std.proofs.lemmas.Option.{same_Some, slice_get_within}
 use native.Mathlib.Decide.{dec_lt}
 use Rattle.trs_defs.specs.Member.{In, in_first}
 use Rattle.trs_defs.specs.Run.{Run, Stay, Go}
@@ -10,7 +11,7 @@ use Rattle.trs_defs.proofs.Members.{in_or, no_in, in_left, in_right, in_either, 
 use Rattle.dp_graph.specs.Rows.{Follows}
 use Rattle.dp_graph.specs.FoundPlaces.{unset, AreFound, Finds, FollowsFree, AreCollected}
 use Rattle.dp_graph.proofs.ItemLists.{one_taken, next_item}
-use Rattle.dp_graph.proofs.ListPlaces.{within, some_same, not_both, unset_there, length_set, set_here, set_cases, set_kept, get_left, in_single}
+use Rattle.dp_graph.proofs.ListPlaces.{not_both, unset_there, length_set, set_here, set_cases, set_kept, get_left, in_single}
 
 pub unset_set : (flags : List Bool) (k : ℕ) → slice_get flags k ≡ Some false → unset (slice_set flags k true) + 1 ≡ unset flags
 unset_set [] k e = absurd cc
@@ -35,7 +36,7 @@ one_found flags k e = record {
   places = length_set flags k true;
   marked = λ j h. elim (set_cases flags k j true true h) [ inl s ↦ inr (subst (λ z. In z (k ∷ [])) (sym s.0) in_first) | inr s ↦ inl s.1 ];
   kept = λ j h. set_kept flags k j h;
-  found_marked = λ j i. subst (λ z. slice_get (slice_set flags k true) z ≡ Some true) (sym (in_single i)) (set_here flags k true (within flags k false e));
+  found_marked = λ j i. subst (λ z. slice_get (slice_set flags k true) z ≡ Some true) (sym (in_single i)) (set_here flags k true (slice_get_within flags k false e));
   fresh = λ j i. subst (λ z. slice_get flags z ≡ Some false) (sym (in_single i)) e;
 }
 
@@ -52,7 +53,7 @@ found_more a b c xs ys first second = record {
   fresh = λ k i. elim (in_either xs ys i) [
     | inl h ↦ first.fresh k h
     | inr h ↦ (let free = second.fresh k h in
-        unset_there a k (let w = within b k false free in let p = first.places in omega (arith, w, p)) (λ set. not_both b k (first.kept k set) free))
+        unset_there a k (let w = slice_get_within b k false free in let p = first.places in omega (arith, w, p)) (λ set. not_both b k (first.kept k set) free))
   ];
 }
 
@@ -73,7 +74,7 @@ finds_one flags found k e = record {
   grown = refl;
   are = one_found flags k e;
   only = λ j i. in_single i;
-  all = λ j same lt. subst (λ z. slice_get (slice_set flags k true) z ≡ Some true) (sym same) (set_here flags k true (within flags k false e));
+  all = λ j same lt. subst (λ z. slice_get (slice_set flags k true) z ≡ Some true) (sym same) (set_here flags k true (slice_get_within flags k false e));
 }
 
 pub finds_more : (V W : ℕ → Type 0) (a b c : List Bool) (xs ys zs : List ℕ) → Finds V a b xs ys → Finds W b c ys zs → Finds (λ j. V j ⊎ W j) a c xs zs
@@ -120,7 +121,7 @@ module _ (rows : List (List ℕ)) (before : List Bool) (start : ℕ) where
   pub begins : (flags : List Bool) (found : List ℕ) → slice_get before start ≡ Some false → Finds (λ j. j ≡ start) before flags [] found → IsCollecting flags found 0
   begins flags found free finds = record {
     are = subst (AreFound before flags) (sym finds.grown) finds.are;
-    begun = elim (finds.are.marked start (finds.all start refl (within before start false free))) [
+    begun = elim (finds.are.marked start (finds.all start refl (slice_get_within before start false free))) [
       | inl set ↦ absurd (not_both before start set free)
       | inr i ↦ subst (In start) (sym finds.grown) i
     ];
@@ -134,14 +135,14 @@ module _ (rows : List (List ℕ)) (before : List Bool) (start : ℕ) where
   goes_on flags new found after i x at is finds = record {
     are = subst (AreFound before new) (sym finds.grown) (found_more before flags new found finds.more is.are finds.are);
     begun = subst (In start) (sym finds.grown) (in_left finds.more is.begun);
-    low = let lt = within found i x at in let l = ap length finds.grown in let k = length-append found finds.more in omega (arith, lt, l, k);
+    low = let lt = slice_get_within found i x at in let l = ap length finds.grown in let k = length-append found finds.more in omega (arith, lt, l, k);
     closed = λ m k j lt e follows small.
-        let old : slice_get found m ≡ Some k = get_left found finds.more m k (let h = within found i x at in omega (arith, lt, h)) (subst (λ z. slice_get z m ≡ Some k) finds.grown e) in
+        let old : slice_get found m ≡ Some k = get_left found finds.more m k (let h = slice_get_within found i x at in omega (arith, lt, h)) (subst (λ z. slice_get z m ≡ Some k) finds.grown e) in
         elim (dec_lt m i) [
           | yes s ↦ finds.are.kept j (is.closed m k j s old follows small)
           | no s ↦
               let same : m ≡ i = omega (arith, s, lt) in
-              let k_is : k ≡ x = some_same k x (sym (subst (λ n. slice_get found n ≡ Some k) same old) ∙ at) in
+              let k_is : k ≡ x = same_Some k x (sym (subst (λ n. slice_get found n ≡ Some k) same old) ∙ at) in
               finds.all j (subst (λ z. Follows rows z j) k_is follows) (let p = is.are.places in omega (arith, small, p))
         ];
     only = λ k i_in. elim (in_either found finds.more (subst (In k) finds.grown i_in)) [
@@ -149,7 +150,7 @@ module _ (rows : List (List ℕ)) (before : List Bool) (start : ℕ) where
       | inr h ↦
           let free = finds.are.fresh k h in
           let was_free : slice_get before k ≡ Some false =
-          unset_there before k (let w = within flags k false free in let p = is.are.places in omega (arith, w, p)) (λ set. not_both flags k (is.are.kept k set) free) in
+          unset_there before k (let w = slice_get_within flags k false free in let p = is.are.places in omega (arith, w, p)) (λ set. not_both flags k (is.are.kept k set) free) in
           then (is.only x (in_of_get found i x at)) (one (finds.only k h, was_free))
     ];
   }
@@ -158,7 +159,7 @@ module _ (rows : List (List ℕ)) (before : List Bool) (start : ℕ) where
   reaches flags found is Stay i_in = i_in
   reaches flags found is (Go {m = m} step run) i_in =
       let at = get_of_in i_in in
-      let set = is.closed at.0 _ m (within found at.0 _ at.1) at.1 step.0 (within before m false step.1) in
+      let set = is.closed at.0 _ m (slice_get_within found at.0 _ at.1) at.1 step.0 (slice_get_within before m false step.1) in
       reaches flags found is run (elim (is.are.marked m set) [ inl was ↦ absurd (not_both before m was step.1) | inr h ↦ h ])
 
   pub ends : (flags : List Bool) (found : List ℕ) (i : ℕ) → length found ≤ i → IsCollecting flags found i → AreCollected rows before flags start found
@@ -171,7 +172,7 @@ module _ (rows : List (List ℕ)) (before : List Bool) (start : ℕ) where
       }
 
   pub found_place : (flags : List Bool) (found : List ℕ) (i k : ℕ) → IsCollecting flags found i → In k found → k < length before
-  found_place flags found i k is h = within before k false (is.are.fresh k h)
+  found_place flags found i k is h = slice_get_within before k false (is.are.fresh k h)
 
   pub some_left : (flags : List Bool) (found : List ℕ) (i : ℕ) → i < length found → IsCollecting flags found i → i < unset before
   some_left flags found i lt is = let h = is.are.once in omega (arith, lt, h)

@@ -1,7 +1,7 @@
 -- The item of a leader.
 use Rattle.std.specs.Prelude.{◌≡◌, ◌<◌, ◌≤◌, ℕ, ◌+◌, ◌==◌, Bool, true, false, List, [], ◌∷◌, ◌++◌, take, get_or, length, Option, Some, None, slice_get, refl}
 use Rattle.std.proofs.Common.{zero, suc, inl, inr, sym, ap, subst, arith, ◌∙◌, add-one}
-use Rattle.std.proofs.lemmas.Option.{slice_get-get_or}
+use Rattle.std.proofs.lemmas.Option.{slice_get-get_or, same_Some, slice_get_within}
 use Rattle.std.proofs.lemmas.List.{take_all, append-nil}
 use Rattle.std.proofs.lemmas.Bool.{eqb-true, eq-eqb}
 use native.Mathlib.Decide.{dec_lt, ℕ_discrete}
@@ -13,7 +13,7 @@ use Rattle.dp_graph.specs.GroupOrSingle.{GroupOrSingle, group, single, item_of, 
 use Rattle.dp_graph.specs.PutOut.{led_by, IsItemOf, AddsItem, AreItemsOf, no_leaders, a_pair, a_rule}
 use Rattle.dp_graph.specs.PlaceLists.{AreEmpty, PutsBehind, places_below, before_others, numbers_of, AreLed}
 use Rattle.dp_graph.proofs.ItemLists.{one_taken}
-use Rattle.dp_graph.proofs.ListPlaces.{past_none, in_single, within, there, some_same, length_more, still_there, last_there}
+use Rattle.dp_graph.proofs.ListPlaces.{past_none, in_single, there, length_more, still_there, last_there}
 use Rattle.dp_graph.proofs.ComponentLaws.{Ascends, number, ascends_by, in_led_by, led_by_in, led_ascends}
 
 keep_before : {A : Type 0} (b : Bool) (x : A) (xs ys : List A) → keep_if b x xs ++ ys ≡ keep_if b x (xs ++ ys)
@@ -73,7 +73,7 @@ one_more_led leaders led new w l lt is small puts before = record {
     go : (v : ℕ) (places : List ℕ) → slice_get new v ≡ Some places → Dec (v ≡ l) → places ≡ led_by v (places_below (suc w)) (take (suc w) leaders)
     go v places e (yes same) =
         let r = there led l small in
-        let here : places ≡ r.0 ++ w ∷ [] = some_same places (r.0 ++ w ∷ []) (sym (subst (λ z. slice_get new z ≡ Some places) same e) ∙ puts.here r.0 r.1) in
+        let here : places ≡ r.0 ++ w ∷ [] = same_Some places (r.0 ++ w ∷ []) (sym (subst (λ z. slice_get new z ≡ Some places) same e) ∙ puts.here r.0 r.1) in
         let old : r.0 ≡ led_by v (places_below w) (take w leaders) = before.each v r.0 (subst (λ z. slice_get led z ≡ Some r.0) (sym same) r.1) in
         here ∙ (ap (λ z. z ++ w ∷ []) old ∙ (ap (λ b. led_by v (places_below w) (take w leaders) ++ keep_if b w []) (sym (eq-eqb l v (sym same))) ∙ sym (whole v)))
     go v places e (no other) =
@@ -95,13 +95,13 @@ all_led_lists leaders led w ge le before =
 pub led_place : (leaders : List ℕ) (led : List (List ℕ)) → AreLed leaders led → (v : ℕ) (places : List ℕ) → slice_get led v ≡ Some places → (w : ℕ) → In w places → slice_get leaders w ≡ Some v
 led_place leaders led are v places at w i =
     let (k, e, d) = in_led_by v (places_below (length leaders)) leaders w (subst (In w) (are.each v places at) i) in
-    let lt = within leaders k v d in
-    let same : k ≡ w = some_same k w (sym (place_there (length leaders) k lt) ∙ e) in
+    let lt = slice_get_within leaders k v d in
+    let same : k ≡ w = same_Some k w (sym (place_there (length leaders) k lt) ∙ e) in
     subst (λ z. slice_get leaders z ≡ Some v) same d
 
 pub place_led : (leaders : List ℕ) (led : List (List ℕ)) → AreLed leaders led → (v : ℕ) (places : List ℕ) → slice_get led v ≡ Some places → (w : ℕ) → slice_get leaders w ≡ Some v → In w places
 place_led leaders led are v places at w e =
-    subst (In w) (sym (are.each v places at)) (led_by_in v (places_below (length leaders)) leaders w w (place_there (length leaders) w (within leaders w v e)) e)
+    subst (In w) (sym (are.each v places at)) (led_by_in v (places_below (length leaders)) leaders w w (place_there (length leaders) w (slice_get_within leaders w v e)) e)
 
 -- ---- the numbers of the places of a leader
 
@@ -135,9 +135,9 @@ numbers_led v all (n ∷ numbers) (l ∷ leaders) (w ∷ places) k places_are ar
 
 place_is : (n i w : ℕ) → slice_get (places_below n) i ≡ Some w → w ≡ i
 place_is n i w e =
-    let h = within (places_below n) i w e in
+    let h = slice_get_within (places_below n) i w e in
     let c = places_length n in
-    some_same w i (sym e ∙ place_there n i (omega (arith, h, c)))
+    same_Some w i (sym e ∙ place_there n i (omega (arith, h, c)))
 
 places_ascend : (n : ℕ) → Ascends (places_below n)
 places_ascend n = ascends_by (places_below n) (λ i j a b lt e d. let h = place_is n i a e in let k = place_is n j b d in omega (arith, lt, h, k))
@@ -174,7 +174,7 @@ single_of (x ∷ y ∷ xs) e = absurd (omega (arith, e))
 
 module _ (numbers leaders : List ℕ) (size : length numbers ≤ length leaders) (v : ℕ) (own : slice_get leaders v ≡ Some v) (led : List ℕ) (are : led ≡ led_by v (places_below (length leaders)) leaders) where
   in_led : (w : ℕ) → slice_get leaders w ≡ Some v → In w led
-  in_led w e = subst (In w) (sym are) (led_by_in v (places_below (length leaders)) leaders w w (place_there (length leaders) w (within leaders w v e)) e)
+  in_led w e = subst (In w) (sym are) (led_by_in v (places_below (length leaders)) leaders w w (place_there (length leaders) w (slice_get_within leaders w v e)) e)
 
   has_leader : (w : ℕ) → In w led → slice_get leaders w ≡ Some v
   has_leader w i =

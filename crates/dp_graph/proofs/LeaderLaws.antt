@@ -2,6 +2,7 @@
 use Rattle.std.specs.Prelude.{◌≡◌, ◌<◌, ◌≤◌, ℕ, ◌+◌, Bool, true, false, List, length, replicate, take, get_or, Some, slice_get, slice_set, refl}
 use Rattle.std.proofs.Common.{inl, inr, sym, ap, subst, arith, ◌∙◌}
 use Rattle.std.proofs.lemmas.List.{take_all}
+use Rattle.std.proofs.lemmas.Option.{same_Some, slice_get_within}
 use native.Mathlib.Decide.{ℕ_discrete}
 use Rattle.trs_defs.specs.Member.{In}
 use Rattle.trs_defs.specs.Run.{Run, Stay, Go}
@@ -13,7 +14,7 @@ use Rattle.dp_graph.specs.FoundPlaces.{FollowsFree, AreCollected}
 use Rattle.dp_graph.specs.Finishing.{IsFinishingOrder}
 use Rattle.dp_graph.specs.Leaders.{AreMutual, IsLeader, AreLeaders, Leads, LeadsFrom}
 use Rattle.dp_graph.proofs.FoundLaws.{taken_more, in_row}
-use Rattle.dp_graph.proofs.ListPlaces.{within, some_same, set_at, not_both, unset_there, length_set, set_here, set_elsewhere, in_repeat, length_repeat}
+use Rattle.dp_graph.proofs.ListPlaces.{set_at, not_both, unset_there, length_set, set_here, set_elsewhere, in_repeat, length_repeat}
 
 turned : (rows back : List (List ℕ)) → AreReversed rows back → {i j : ℕ} → Run (Follows back) i j → Run (Follows rows) j i
 turned rows back are Stay = Stay
@@ -61,7 +62,7 @@ none_led rows order leaders flags n m k size also is unset ge = record {
   places = ap length unset ∙ (length_repeat m false ∙ also);
   each = λ i l set e. absurd (none i set);
   closed = λ i j follows set. absurd (none j set);
-  passed = λ j x le e. absurd (let w = within order j x e in omega (arith, w, le, ge));
+  passed = λ j x le e. absurd (let w = slice_get_within order j x e in omega (arith, w, le, ge));
   ranked = record {
     rank = λ l. 0;
     bound = 0;
@@ -96,7 +97,7 @@ module _ (rows back : List (List ℕ)) (are : AreReversed rows back) (order : Li
     each = before.each;
     closed = before.closed;
     passed = λ m x le e. elim (ℕ_discrete m k) [
-      | yes same ↦ subst (λ z. slice_get flags z ≡ Some true) (some_same v x (sym at ∙ subst (λ z. slice_get order z ≡ Some x) same e)) set
+      | yes same ↦ subst (λ z. slice_get flags z ≡ Some true) (same_Some v x (sym at ∙ subst (λ z. slice_get order z ≡ Some x) same e)) set
       | no other ↦ later m x le e other
     ];
     ranked = before.ranked;
@@ -124,7 +125,7 @@ module _ (rows back : List (List ℕ)) (are : AreReversed rows back) (order : Li
         Go (step, unset_there flags m (omega (arith, low, p)) (λ set. unled (then from (turned rows back are run)) set)) (free_run run from)
       where
         from_within : (i j : ℕ) → Follows rows i j → i < length rows
-        from_within i j (row, is, h) = within rows i row is
+        from_within i j (row, is, h) = slice_get_within rows i row is
 
     -- what is connected with v is found
     mutual_found : (u : ℕ) → AreMutual rows v u → In u component
@@ -141,7 +142,7 @@ module _ (rows back : List (List ℕ)) (are : AreReversed rows back) (order : Li
     old_leader i l set e = sym (leads.others i (not_old i set)) ∙ e
 
     new_leader : (i l : ℕ) → In i component → slice_get leaders i ≡ Some l → l ≡ leads.leader
-    new_leader i l i_in e = some_same l leads.leader (sym e ∙ leads.led i i_in)
+    new_leader i l i_in e = same_Some l leads.leader (sym e ∙ leads.led i i_in)
 
     old_differs : (i l : ℕ) → slice_get flags i ≡ Some true → slice_get old i ≡ Some l → l ≡ leads.leader → ⊥
     old_differs i l set e same =
@@ -165,7 +166,7 @@ module _ (rows back : List (List ℕ)) (are : AreReversed rows back) (order : Li
       | inr j_in ↦ elim (set_at flags i) [
         | yes was ↦ collected.are.kept i was
         | no free ↦
-            let low = within rows i follows.0 follows.1 in
+            let low = slice_get_within rows i follows.0 follows.1 in
             let p = before.places in
             let step : FollowsFree back flags j i = ((are.reversed i j).0 follows, unset_there flags i (omega (arith, low, p)) free) in
             collected.are.found_marked i ((collected.exact i).1 (then ((collected.exact j).0 j_in) (one step)))
@@ -185,7 +186,7 @@ module _ (rows back : List (List ℕ)) (are : AreReversed rows back) (order : Li
       ];
       closed = closed_new;
       passed = λ m x le e. elim (ℕ_discrete m k) [
-        | yes same ↦ collected.are.found_marked x (subst (λ z. In z component) (some_same v x (sym at ∙ subst (λ z. slice_get order z ≡ Some x) same e)) v_found)
+        | yes same ↦ collected.are.found_marked x (subst (λ z. In z component) (same_Some v x (sym at ∙ subst (λ z. slice_get order z ≡ Some x) same e)) v_found)
         | no other ↦ collected.are.kept x (later m x le e other)
       ];
       ranked = record {
@@ -230,11 +231,11 @@ next_led rows back are order finishes old leaders flags new k v at before (inr a
 pub all_led : (rows : List (List ℕ)) (order leaders : List ℕ) (flags : List Bool) → IsFinishingOrder rows order → LedSoFar rows order leaders flags 0 → AreLeaders rows leaders
 all_led rows order leaders flags finishes led = record {
   count = led.count;
-  each = λ i l e. led.each i l (set i (let w = within leaders i l e in let c = led.count in omega (arith, w, c))) e;
+  each = λ i l e. led.each i l (set i (let w = slice_get_within leaders i l e in let c = led.count in omega (arith, w, c))) e;
   ranked = record {
     rank = led.ranked.rank;
     rises = λ i j a b follows e d differ.
-        led.ranked.rises i j a b follows (set j (let w = within leaders j b d in let c = led.count in omega (arith, w, c))) e d differ;
+        led.ranked.rises i j a b follows (set j (let w = slice_get_within leaders j b d in let c = led.count in omega (arith, w, c))) e d differ;
   };
 }
   where
@@ -247,10 +248,10 @@ leads_lengths back v flags new_flags old new (inl (set, same_flags, same)) = (ap
 leads_lengths back v flags new_flags old new (inr all) = (all.leads.count, all.are.are.places)
 
 pub found_some : (back : List (List ℕ)) (flags new : List Bool) (v : ℕ) (found : List ℕ) → AreCollected back flags new v found → 0 < length found
-found_some back flags new v found are = let at = get_of_in ((are.exact v).1 Stay) in let w = within found at.0 v at.1 in omega (arith, w)
+found_some back flags new v found are = let at = get_of_in ((are.exact v).1 Stay) in let w = slice_get_within found at.0 v at.1 in omega (arith, w)
 
 pub found_within : (back : List (List ℕ)) (flags new : List Bool) (v : ℕ) (found : List ℕ) → AreCollected back flags new v found → (w : ℕ) → In w found → w < length flags
-found_within back flags new v found are w i = within flags w false (are.are.fresh w i)
+found_within back flags new v found are w i = slice_get_within flags w false (are.are.fresh w i)
 
 -- ---- the least of some places
 

@@ -2,24 +2,11 @@
 use Rattle.std.specs.Prelude.{◌≡◌, ◌<◌, ◌≤◌, ◌⊎◌, ℕ, ◌+◌, Bool, true, false, List, [], ◌∷◌, ◌++◌, length, replicate, get_or, All, Some, None, Vec, slice_get, slice_set, refl}
 use Rattle.std.specs.declared.alloc.Global.{Global}
 use Rattle.std.proofs.Common.{zero, suc, inl, inr, sym, ap, subst, arith, ◌∙◌, length-append}
-use Rattle.std.proofs.lemmas.Option.{slice_get-get_or, get_or_from_slice_get}
+use Rattle.std.proofs.lemmas.Option.{slice_get-get_or, get_or_from_slice_get, same_Some, slice_get_within}
 use native.Mathlib.Decide.{ℕ_discrete}
 use Rattle.trs_defs.specs.Member.{In}
 use Rattle.trs_defs.proofs.Members.{in_or, no_in, get_of_in, in_of_get}
 use Rattle.dp_graph.specs.GraphConditions.{lists_of}
-
-pub read : {T : Type 0} (xs : List T) (i : ℕ) (x y : T) → i < length xs → x ≡ get_or xs i x → x ≡ y → slice_get xs i ≡ Some y
-read [] i x y h e s = absurd (omega arith)
-read (z ∷ xs) zero x y h e s = ap (λ v. Some v) (sym e ∙ s)
-read (z ∷ xs) (suc i) x y h e s = read xs i x y (omega arith) e s
-
-pub within : {A : Type 0} (xs : List A) (i : ℕ) (x : A) → slice_get xs i ≡ Some x → i < length xs
-within [] i x e = absurd cc
-within (y ∷ xs) zero x e = omega arith
-within (y ∷ xs) (suc i) x e = omega (arith, within xs i x e)
-
-pub some_same : {A : Type 0} (x y : A) → Some x ≡ Some y → x ≡ y
-some_same x y e = cc
 
 pub there : {A : Type 0} (xs : List A) (n : ℕ) → n < length xs → (x : A) × (slice_get xs n ≡ Some x)
 there [] n h = absurd (omega arith)
@@ -43,7 +30,7 @@ set_at (false ∷ flags) zero = no (λ e. cc)
 set_at (b ∷ flags) (suc w) = set_at flags w
 
 pub not_both : (flags : List Bool) (i : ℕ) → slice_get flags i ≡ Some true → slice_get flags i ≡ Some false → ⊥
-not_both flags i e d = let h : true ≡ false = some_same true false (sym e ∙ d) in absurd cc
+not_both flags i e d = let h : true ≡ false = same_Some true false (sym e ∙ d) in absurd cc
 
 -- a flag that is there and is not set
 pub unset_there : (flags : List Bool) (i : ℕ) → i < length flags → (slice_get flags i ≡ Some true → ⊥) → slice_get flags i ≡ Some false
@@ -76,15 +63,15 @@ pub set_cases : {A : Type 0} (xs : List A) (k j : ℕ) (x y : A) → slice_get (
 set_cases xs k j x y e = elim (ℕ_discrete j k) [
   | yes same ↦
       let at : slice_get (slice_set xs k x) k ≡ Some y = subst (λ z. slice_get (slice_set xs k x) z ≡ Some y) same e in
-      let lt : k < length xs = (let w = within (slice_set xs k x) k y at in let c = length_set xs k x in omega (arith, w, c)) in
-      inl (same, some_same x y (sym (set_here xs k x lt) ∙ at))
+      let lt : k < length xs = (let w = slice_get_within (slice_set xs k x) k y at in let c = length_set xs k x in omega (arith, w, c)) in
+      inl (same, same_Some x y (sym (set_here xs k x lt) ∙ at))
   | no other ↦ inr (other, sym (set_elsewhere xs k j x other) ∙ e)
 ]
 
 pub set_kept : (xs : List Bool) (k j : ℕ) → slice_get xs j ≡ Some true → slice_get (slice_set xs k true) j ≡ Some true
 set_kept xs k j e = elim (ℕ_discrete j k) [
   | yes same ↦
-      let lt : k < length xs = subst (λ z. z < length xs) same (within xs j true e) in
+      let lt : k < length xs = subst (λ z. z < length xs) same (slice_get_within xs j true e) in
       subst (λ z. slice_get (slice_set xs k true) z ≡ Some true) (sym same) (set_here xs k true lt)
   | no other ↦ set_elsewhere xs k j true other ∙ e
 ]
@@ -92,7 +79,7 @@ set_kept xs k j e = elim (ℕ_discrete j k) [
 -- ---- items behind others
 
 pub last_or_there : {A : Type 0} (xs : List A) (y x : A) (n : ℕ) → slice_get (xs ++ y ∷ []) n ≡ Some x → (slice_get xs n ≡ Some x) ⊎ ((n ≡ length xs) × (y ≡ x))
-last_or_there [] y x zero e = inr (refl, some_same y x e)
+last_or_there [] y x zero e = inr (refl, same_Some y x e)
 last_or_there [] y x (suc n) e = absurd cc
 last_or_there (z ∷ xs) y x zero e = inl e
 last_or_there (z ∷ xs) y x (suc n) e = elim (last_or_there xs y x n e) [ inl h ↦ inl h | inr h ↦ inr (ap suc h.0, h.1) ]
@@ -121,7 +108,7 @@ in_single i = elim (in_or i) [ inl e ↦ e | inr h ↦ absurd (no_in h) ]
 
 pub in_repeat : {A : Type 0} (n k : ℕ) (x y : A) → slice_get (replicate n x) k ≡ Some y → y ≡ x
 in_repeat zero k x y e = absurd cc
-in_repeat (suc n) zero x y e = sym (some_same x y e)
+in_repeat (suc n) zero x y e = sym (same_Some x y e)
 in_repeat (suc n) (suc k) x y e = in_repeat n k x y e
 
 pub length_repeat : {A : Type 0} (n : ℕ) (x : A) → length (replicate n x) ≡ n
@@ -157,7 +144,7 @@ lists_set (x ∷ rows) (suc k) row = ap (λ z. x.items ∷ z) (lists_set rows k 
 pub each_of_all : (P : ℕ → Type 0) (xs : List ℕ) → All P xs → (x : ℕ) → In x xs → P x
 each_of_all P xs h x i =
     let at = get_of_in i in
-    subst P (get_or_from_slice_get xs at.0 x 0 at.1) (h at.0 0 (within xs at.0 x at.1))
+    subst P (get_or_from_slice_get xs at.0 x 0 at.1) (h at.0 0 (slice_get_within xs at.0 x at.1))
 
 pub all_of_each : (P : ℕ → Type 0) (xs : List ℕ) → ((x : ℕ) → In x xs → P x) → All P xs
 all_of_each P xs h = λ k d lt. h (get_or xs k d) (in_of_get xs k (get_or xs k d) (slice_get-get_or xs k d lt))

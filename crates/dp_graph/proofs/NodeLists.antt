@@ -1,7 +1,7 @@
 -- The nodes of pairs, one after another, and edges between them.
 use Rattle.std.specs.Prelude.{◌≡◌, ◌<◌, ◌≤◌, ◌⊎◌, ◌↔◌, ℕ, ◌+◌, Bool, false, List, [], ◌∷◌, ◌++◌, length, take, get_or, Option, Some, None, Result, Ok, Err, IfOk, IsTrue, slice_get, refl}
 use Rattle.std.proofs.Common.{zero, suc, inl, inr, sym, ap, subst, arith, ◌∙◌, length-append}
-use Rattle.std.proofs.lemmas.Option.{slice_get_within, slice_get_past, slice_get_read, get_or_from_slice_get}
+use Rattle.std.proofs.lemmas.Option.{slice_get_within, slice_get_past, slice_get_read, get_or_from_slice_get, same_Some}
 use Rattle.std.proofs.lemmas.List.{take_all}
 use Rattle.std.specs.Borrow.{Bor}
 use Rattle.std.specs.Option.{option_copied}
@@ -62,12 +62,9 @@ NodesSoFar rules nodes k =
     (length nodes ≡ k)
     × ((n : ℕ) (p : DependencyPair) (node : Node) → slice_get (dependency_pairs rules) n ≡ Some p → slice_get nodes n ≡ Some node → IsNodeOf rules p node)
 
-the_same : {A : Type 0} (x y : A) → Some x ≡ Some y → x ≡ y
-the_same x y e = cc
-
 -- an item of a list with one more, that is the last or was there
 last_or_there : {A : Type 0} (xs : List A) (y x : A) (n : ℕ) → slice_get (xs ++ y ∷ []) n ≡ Some x → (slice_get xs n ≡ Some x) ⊎ ((n ≡ length xs) × (y ≡ x))
-last_or_there [] y x zero e = inr (refl, the_same y x e)
+last_or_there [] y x zero e = inr (refl, same_Some y x e)
 last_or_there [] y x (suc n) e = absurd cc
 last_or_there (z ∷ xs) y x zero e = inl e
 last_or_there (z ∷ xs) y x (suc n) e = elim (last_or_there xs y x n e) [ inl h ↦ inl h | inr h ↦ inr (ap suc h.0, h.1) ]
@@ -80,7 +77,7 @@ one_more_node rules nodes new k p node at is grown (count, each) = (
     | inl h ↦ each n q x there h
     | inr h ↦
         let here : slice_get (dependency_pairs rules) n ≡ Some p = subst (λ z. slice_get (dependency_pairs rules) z ≡ Some p) (sym (h.0 ∙ count)) at in
-        let same : p ≡ q = the_same p q (sym here ∙ there) in
+        let same : p ≡ q = same_Some p q (sym here ∙ there) in
         subst (λ z. IsNodeOf rules q z) h.1 (subst (λ z. IsNodeOf rules z node) same is)
   ],
 )
@@ -123,8 +120,8 @@ module _ (system : System) (valid : IsSystem system) (few : length system.aritie
       let edge = meets_edge p q from to is also in (
         λ e. record { from = p; to = q; from_numbered = at; to_numbered = there; edge = edge.0 (meets.0 e) },
         λ h.
-            let e : h.from ≡ p = the_same h.from p (sym h.from_numbered ∙ at) in
-            let d : h.to ≡ q = the_same h.to q (sym h.to_numbered ∙ there) in
+            let e : h.from ≡ p = same_Some h.from p (sym h.from_numbered ∙ at) in
+            let d : h.to ≡ q = same_Some h.to q (sym h.to_numbered ∙ there) in
             meets.1 (edge.1 (subst (λ z. IsEdge system.rules p z) d (subst (λ z. IsEdge system.rules z h.to) e h.edge))),
       )
 

@@ -6,12 +6,13 @@ use Rattle.trs_defs.specs.Member.{In}
 use Rattle.trs_defs.specs.Run.{Stay}
 use Rattle.trs_defs.proofs.Members.{get_of_in}
 use Rattle.std.specs.BTreeSet.{BTreeSet}
+use Rattle.std.proofs.lemmas.Option.{same_Some, slice_get_within}
 use Rattle.dp_graph.specs.Leaders.{AreLeaders}
 use Rattle.dp_graph.specs.PutOut.{IsBlocked, IsUndoneLeader, IsNextReady, Finishes, PutsOut}
 use Rattle.dp_graph.specs.FoundPlaces.{unset}
 use Rattle.dp_graph.specs.Waiting.{Has, HasAt, AreAtFirst, TakesOut, Releases, OfRows}
 use Rattle.dp_graph.specs.declared.waiting.Waiting.{Waiting}
-use Rattle.dp_graph.proofs.ListPlaces.{within, there, some_same, not_both, unset_there, at_repeat, in_repeat, length_repeat, length_more}
+use Rattle.dp_graph.proofs.ListPlaces.{there, not_both, unset_there, at_repeat, in_repeat, length_repeat, length_more}
 use Rattle.dp_graph.proofs.PutOutLaws.{leads_itself, DoneTogether, PutOutSoFar, none_put_out, one_more_put_out, all_put_out, none_undone, fewer_left, still_together, together_at_first, finished, finishes_all}
 use Rattle.dp_graph.proofs.WaitingLaws.{dec_has, has_none, has_first}
 
@@ -53,12 +54,12 @@ at_first rows leaders waiting n size is = record {
 }
   where
     undone : (i l : ℕ) → slice_get leaders i ≡ Some l → slice_get (replicate n false) i ≡ Some false
-    undone i l e = at_repeat n i false (let w = within leaders i l e in omega (arith, w, size))
+    undone i l e = at_repeat n i false (let w = slice_get_within leaders i l e in omega (arith, w, size))
 
 module _ (pairs : ℕ) (rows : List (List ℕ)) (leaders : List ℕ) (are : AreLeaders rows leaders) (done : List Bool) (size : length done ≡ length leaders) (old : Waiting) (is : IsWaiting rows leaders done old) where
   -- a leader that is left and not ready is blocked
   blocked_or_ready : (l : ℕ) → IsUndoneLeader leaders done l → (Has old.ready l → ⊥) → IsBlocked rows leaders done l
-  blocked_or_ready l undone not_ready = go (some_blocker (there old.blockers.items l (let w = within leaders l l undone.0 in let c = is.count in omega (arith, w, c))))
+  blocked_or_ready l undone not_ready = go (some_blocker (there old.blockers.items l (let w = slice_get_within leaders l l undone.0 in let c = is.count in omega (arith, w, c))))
     where
       go : ((k : ℕ) × HasAt old.blockers.items l k) ⊎ IsFree old l → IsBlocked rows leaders done l
       go (inl (k, h)) = (is.blocks l k h).0
@@ -68,7 +69,7 @@ module _ (pairs : ℕ) (rows : List (List ℕ)) (leaders : List ℕ) (are : AreL
       some_blocker (s, at) = first s.keys refl
         where
           first : (keys : List ℕ) → s.keys ≡ keys → ((k : ℕ) × HasAt old.blockers.items l k) ⊎ IsFree old l
-          first [] e = inr (λ k h. has_none s k e (subst (λ z. Has z k) (some_same h.0 s (sym h.1 ∙ at)) h.2))
+          first [] e = inr (λ k h. has_none s k e (subst (λ z. Has z k) (same_Some h.0 s (sym h.1 ∙ at)) h.2))
           first (k ∷ keys) e = inl (k, (s, at, has_first s k keys e))
 
   pub next_ready : (new : Waiting) (v : ℕ) → TakesOut pairs old new (Some v) → IsNextReady pairs rows leaders done (Some v)
@@ -97,11 +98,11 @@ module _ (pairs : ℕ) (rows : List (List ℕ)) (leaders : List ℕ) (are : AreL
     was_undone : (i l : ℕ) → slice_get leaders i ≡ Some l → slice_get next i ≡ Some false → (slice_get done i ≡ Some false) × (l ≡ v → ⊥)
     was_undone i l e undone = elim (ℕ_discrete l v) [
       | yes same ↦ absurd (not_both next i (finishes.led i (e ∙ ap (λ z. Some z) same)) undone)
-      | no other ↦ (sym (finishes.others i (λ g. other (some_same l v (sym e ∙ g)))) ∙ undone, other)
+      | no other ↦ (sym (finishes.others i (λ g. other (same_Some l v (sym e ∙ g)))) ∙ undone, other)
     ]
 
     still_undone : (i l : ℕ) → slice_get leaders i ≡ Some l → (l ≡ v → ⊥) → slice_get done i ≡ Some false → slice_get next i ≡ Some false
-    still_undone i l e other undone = finishes.others i (λ g. other (some_same l v (sym e ∙ g))) ∙ undone
+    still_undone i l e other undone = finishes.others i (λ g. other (same_Some l v (sym e ∙ g))) ∙ undone
 
     not_blocked_by : (l : ℕ) → HasAt new.blockers.items l v → ⊥
     not_blocked_by l h =
@@ -144,7 +145,7 @@ module _ (pairs : ℕ) (rows : List (List ℕ)) (leaders : List ℕ) (are : AreL
       ready = λ l. (ready_to l, ready_from l);
       free = λ l set at k h. elim (ℕ_discrete l v) [
         | yes same ↦ ((is.ready v).0 takes.0).1 k (subst (λ z. HasAt old.blockers.items z k) same (shrunk l k h))
-        | no other ↦ is.free l (sym (finishes.others l (λ g. other (some_same l v (sym at ∙ g)))) ∙ set) at k (shrunk l k h)
+        | no other ↦ is.free l (sym (finishes.others l (λ g. other (same_Some l v (sym at ∙ g)))) ∙ set) at k (shrunk l k h)
       ];
     }
       where
@@ -159,7 +160,7 @@ module _ (pairs : ℕ) (rows : List (List ℕ)) (leaders : List ℕ) (are : AreL
               let at = leads_itself rows leaders are b.to l b.of_this in
               let other : l ≡ v → ⊥ = (λ e. b.differ (same ∙ sym e)) in
               let left : slice_get done l ≡ Some false =
-              unset_there done l (let w = within leaders l l at in omega (arith, w, size)) (λ set. is.free l set at v (to_old l v blocked)) in
+              unset_there done l (let w = slice_get_within leaders l l at in omega (arith, w, size)) (λ set. is.free l set at v (to_old l v blocked)) in
               ((at, still_undone l l at other left), free)
         ]
 
@@ -248,4 +249,4 @@ pub leaders_within : (rows : List (List ℕ)) (leaders : List ℕ) → AreLeader
 leaders_within rows leaders are l i =
     let at = get_of_in i in
     let low = (are.each at.0 l at.1).least at.0 (Stay, Stay) in
-    let w = within leaders at.0 l at.1 in omega (arith, low, w)
+    let w = slice_get_within leaders at.0 l at.1 in omega (arith, low, w)

@@ -3,6 +3,7 @@ use Rattle.std.specs.Prelude.{◌≡◌, ◌<◌, ◌≤◌, ℕ, ◌+◌, ◌==
 use Rattle.std.proofs.Common.{zero, suc, inl, inr, append_assoc, sym, ap, subst, arith, ◌∙◌}
 use Rattle.std.proofs.lemmas.List.{append-nil}
 use Rattle.std.proofs.lemmas.Bool.{eqb-true, eq-eqb}
+use Rattle.std.proofs.lemmas.Option.{same_Some, slice_get_within}
 use native.Mathlib.Decide.{ℕ_discrete}
 use Rattle.trs_defs.specs.Member.{In}
 use Rattle.trs_defs.proofs.Members.{in_or, no_in}
@@ -11,10 +12,10 @@ use Rattle.trs_defs.proofs.Runs.{then}
 use Rattle.dp_graph.specs.FoundPlaces.{unset}
 use Rattle.dp_graph.specs.Leaders.{AreMutual, AreLeaders}
 use Rattle.dp_graph.specs.PutOut.{IsBlocked, IsUndoneLeader, IsNextReady, Finishes, ArePutOut, all_done, put_out, PutsOut}
-use Rattle.dp_graph.proofs.ListPlaces.{within, there, some_same, at_repeat, length_repeat}
+use Rattle.dp_graph.proofs.ListPlaces.{there, at_repeat, length_repeat}
 
 some_not_both : {o : Option Bool} → o ≡ Some true → o ≡ Some false → ⊥
-some_not_both e d = let h : true ≡ false = some_same true false (sym e ∙ d) in absurd cc
+some_not_both e d = let h : true ≡ false = same_Some true false (sym e ∙ d) in absurd cc
 
 -- ---- leaders
 
@@ -24,7 +25,7 @@ module _ (rows : List (List ℕ)) (leaders : List ℕ) (are : AreLeaders rows le
   leads_itself i l h =
       let is = are.each i l h in
       let low : l ≤ i = is.least i (Stay, Stay) in
-      let at = there leaders l (let w = within leaders i l h in omega (arith, w, low)) in
+      let at = there leaders l (let w = slice_get_within leaders i l h in omega (arith, w, low)) in
       let other = are.each l at.0 at.1 in
       let below : at.0 ≤ l = other.least l (Stay, Stay) in
       let above : l ≤ at.0 = is.least at.0 (then is.connected.0 other.connected.0, then other.connected.1 is.connected.1) in
@@ -65,7 +66,7 @@ module _ (rows : List (List ℕ)) (leaders : List ℕ) (are : AreLeaders rows le
 
   pub none_undone : (i : ℕ) → slice_get done i ≡ Some false → ⊥
   none_undone i e =
-      let l = there leaders i (let w = within done i false e in omega (arith, w, size)) in
+      let l = there leaders i (let w = slice_get_within done i false e in omega (arith, w, size)) in
       climb (are.ranked.rank l.0 + 1) l.0 (omega arith) (leads_itself rows leaders are i l.0 l.1, sym (together i l.0 l.1) ∙ e)
 
 -- ---- the places of a leader are done
@@ -85,7 +86,7 @@ finished_led : (v : ℕ) (leaders : List ℕ) (done : List Bool) (w : ℕ) → l
 unfolding finished
 finished_led v [] done w e at = absurd cc
 finished_led v (l ∷ leaders) [] w e at = absurd (omega (arith, e))
-finished_led v (l ∷ leaders) (d ∷ done) zero e at = ap (λ b. Some (cond b true d)) (eq-eqb l v (some_same l v at))
+finished_led v (l ∷ leaders) (d ∷ done) zero e at = ap (λ b. Some (cond b true d)) (eq-eqb l v (same_Some l v at))
 finished_led v (l ∷ leaders) (d ∷ done) (suc w) e at = finished_led v leaders done w (omega (arith, e)) at
 
 other_flag : (b d : Bool) → (b ≡ true → ⊥) → Some (cond b true d) ≡ Some d
@@ -115,14 +116,14 @@ still_together rows leaders are v done new at finishes together i l h = go (ℕ_
     go : Dec (l ≡ v) → slice_get new i ≡ slice_get new l
     go (yes e) = finishes.led i (h ∙ ap (λ z. Some z) e) ∙ sym (subst (λ z. slice_get new z ≡ Some true) (sym e) (finishes.led v at))
     go (no other) =
-        let first : slice_get new i ≡ slice_get done i = finishes.others i (λ g. other (some_same l v (sym h ∙ g))) in
-        let second : slice_get new l ≡ slice_get done l = finishes.others l (λ g. other (some_same l v (sym (leads_itself rows leaders are i l h) ∙ g))) in
+        let first : slice_get new i ≡ slice_get done i = finishes.others i (λ g. other (same_Some l v (sym h ∙ g))) in
+        let second : slice_get new l ≡ slice_get done l = finishes.others l (λ g. other (same_Some l v (sym (leads_itself rows leaders are i l h) ∙ g))) in
         first ∙ (together i l h ∙ sym second)
 
 pub together_at_first : (rows : List (List ℕ)) (leaders : List ℕ) → AreLeaders rows leaders → (done : List Bool) (n : ℕ) → n ≡ length leaders → done ≡ replicate n false → DoneTogether leaders done
 together_at_first rows leaders are done n e is i l h =
     let all : (k : ℕ) → k < length leaders → slice_get done k ≡ Some false = (λ k lt. subst (λ z. slice_get z k ≡ Some false) (sym is) (at_repeat n k false (omega (arith, lt, e)))) in
-    all i (within leaders i l h) ∙ sym (all l (within leaders l l (leads_itself rows leaders are i l h)))
+    all i (slice_get_within leaders i l h) ∙ sym (all l (slice_get_within leaders l l (leads_itself rows leaders are i l h)))
 
 pub size_at_first : (done : List Bool) (n m : ℕ) → n ≡ m → done ≡ replicate n false → length done ≡ m
 size_at_first done n m e is = ap length is ∙ (length_repeat n false ∙ e)
@@ -180,9 +181,9 @@ pub fewer_left : (leaders : List ℕ) (v : ℕ) (done new : List Bool) → lengt
 fewer_left leaders v done new size undone finishes =
     fewer_unset done new v finishes.count
     (λ k e.
-    let l = there leaders k (let w = within done k true e in omega (arith, w, size)) in
+    let l = there leaders k (let w = slice_get_within done k true e in omega (arith, w, size)) in
     elim (ℕ_discrete l.0 v) [
       | yes same ↦ finishes.led k (l.1 ∙ ap (λ z. Some z) same)
-      | no other ↦ finishes.others k (λ g. other (some_same l.0 v (sym l.1 ∙ g))) ∙ e
+      | no other ↦ finishes.others k (λ g. other (same_Some l.0 v (sym l.1 ∙ g))) ∙ e
     ])
     undone.1 (finishes.led v undone.0)

@@ -3,6 +3,7 @@ use Rattle.std.specs.Prelude.{◌≡◌, ◌<◌, ◌≤◌, ◌↔◌, ◌⊎�
 use Rattle.std.specs.declared.alloc.Global.{Global}
 use Rattle.std.proofs.Common.{inl, inr, sym, ap, subst, arith, ◌∙◌}
 use Rattle.std.proofs.lemmas.List.{take_all}
+use Rattle.std.proofs.lemmas.Option.{same_Some, slice_get_within}
 use native.Mathlib.Decide.{dec_lt, ℕ_discrete}
 use Rattle.trs_defs.specs.Member.{In, in_first}
 use Rattle.trs_defs.proofs.Members.{no_in, in_left, in_right, in_either}
@@ -11,7 +12,7 @@ use Rattle.dp_graph.specs.Rows.{Follows, StayWithin}
 use Rattle.dp_graph.specs.Reversed.{AreReversed, AddsBack}
 use Rattle.dp_graph.specs.PlaceLists.{AreEmpty, PutsBehind}
 use Rattle.dp_graph.proofs.FoundLaws.{taken_more, more_taken}
-use Rattle.dp_graph.proofs.ListPlaces.{within, there, some_same, length_set, set_here, set_elsewhere, last_or_there, lists_more, lists_set, row_at, length_more, in_single}
+use Rattle.dp_graph.proofs.ListPlaces.{there, length_set, set_here, set_elsewhere, last_or_there, lists_more, lists_set, row_at, length_more, in_single}
 
 -- ---- lists
 
@@ -32,8 +33,8 @@ put_at lists k place list new lt is grown =
     subst (λ z. PutsBehind (lists_of lists) z k place) (sym (lists_set lists k new)) (record {
       count = length_set (lists_of lists) k new.items;
       here = λ row e.
-          let same : list.items ≡ row = some_same list.items row (sym (row_at lists k list lt is) ∙ e) in
-          set_here (lists_of lists) k new.items (within (lists_of lists) k row e) ∙ ap (λ z. Some z) (grown ∙ ap (λ z. z ++ place ∷ []) same);
+          let same : list.items ≡ row = same_Some list.items row (sym (row_at lists k list lt is) ∙ e) in
+          set_here (lists_of lists) k new.items (slice_get_within (lists_of lists) k row e) ∙ ap (λ z. Some z) (grown ∙ ap (λ z. z ++ place ∷ []) same);
       others = λ l other. set_elsewhere (lists_of lists) k l new.items other;
     })
 
@@ -44,7 +45,7 @@ module _ (old new : List (List ℕ)) (k place : ℕ) (lt : k < length old) (puts
       to : Follows new j l → Dec (j ≡ k) → Follows old j l ⊎ ((j ≡ k) × (l ≡ place))
       to (row, at, i) (yes same) =
           let r = there old k lt in
-          let e : row ≡ r.0 ++ place ∷ [] = some_same row (r.0 ++ place ∷ []) (sym (subst (λ z. slice_get new z ≡ Some row) same at) ∙ puts.here r.0 r.1) in
+          let e : row ≡ r.0 ++ place ∷ [] = same_Some row (r.0 ++ place ∷ []) (sym (subst (λ z. slice_get new z ≡ Some row) same at) ∙ puts.here r.0 r.1) in
           elim (in_either r.0 (place ∷ []) (subst (In l) e i)) [
             | inl h ↦ inl (r.0, subst (λ z. slice_get old z ≡ Some r.0) (sym same) r.1, h)
             | inr h ↦ inr (same, in_single h)
@@ -108,7 +109,7 @@ next_back rows old new i row at adds before = record {
       | no s ↦
           let same : k ≡ i = omega (arith, s, lt) in
           let (r, e, j_in) = f in
-          inr (subst (In j) (some_same r row (sym e ∙ (ap (slice_get rows) same ∙ at))) j_in, same)
+          inr (subst (In j) (same_Some r row (sym e ∙ (ap (slice_get rows) same ∙ at))) j_in, same)
     ]),
   );
 }
@@ -117,7 +118,7 @@ pub all_back : (rows back : List (List ℕ)) (i : ℕ) → length rows ≤ i →
 all_back rows back i ge stay so_far = record {
   count = sym so_far.count;
   reversed = λ a b. (
-    λ f. (so_far.exact b a).1 (f, (let w = within rows a f.0 f.1 in omega (arith, w, ge))),
+    λ f. (so_far.exact b a).1 (f, (let w = slice_get_within rows a f.0 f.1 in omega (arith, w, ge))),
     λ f. ((so_far.exact b a).0 f).0,
   );
   within = stay;

@@ -6,6 +6,7 @@ use Rattle.std.specs.BTreeMap.{BTreeMap, get, is_at}
 use Rattle.std.specs.Map.{lookup}
 use Rattle.std.proofs.Common.{inl, inr, sym, ap, subst, arith, ◌∙◌}
 use Rattle.std.proofs.lemmas.Grind.{common_steps}
+use Rattle.std.proofs.lemmas.Option.{same_Some, slice_get_within}
 use native.Mathlib.Decide.{dec_lt, ℕ_discrete}
 use Rattle.trs_defs.specs.Member.{In, in_first}
 use Rattle.trs_defs.proofs.Members.{no_in, in_left, in_right, in_either, in_or, get_of_in, in_of_get}
@@ -24,7 +25,7 @@ use Rattle.dp_graph.specs.Rows.{EdgeOf, AtPlaces, Follows, FollowsByRule, IsBetw
 use Rattle.dp_graph.specs.RulePlaces.{IsPlaceOf, IsInRule, AreRules, HaveRows, AreNoRules, AddsPair, AddsRule, RulesAt, LeadsByRules}
 use Rattle.dp_graph.proofs.EarlierLaws.{none_at, edge_root, edge_to_alike, same_left}
 use Rattle.dp_graph.proofs.NodeLists.{of_rule}
-use Rattle.dp_graph.proofs.ListPlaces.{within, there, some_same, last_or_there, still_there, last_there, lists_length, lists_more, length_more, in_single}
+use Rattle.dp_graph.proofs.ListPlaces.{there, last_or_there, still_there, last_there, lists_length, lists_more, length_more, in_single}
 use Rattle.dp_graph.proofs.ReversedLaws.{put_follows}
 
 -- ---- the rules
@@ -59,7 +60,7 @@ no_pair_added system n j old none numbers at are = record {
     | no ge ↦ absurd (
         let same : i ≡ j = omega (arith, ge, lt) in
         let (m, e, d) = is in
-        let here : m ≡ n = some_same m n (sym e ∙ (ap (slice_get numbers) same ∙ at)) in
+        let here : m ≡ n = same_Some m n (sym e ∙ (ap (slice_get numbers) same ∙ at)) in
         let h : None ≡ Some p = sym none ∙ (ap (slice_get (dependency_pairs system.rules)) (sym here) ∙ d) in cc)
   ];
 }
@@ -99,7 +100,7 @@ module _ (system : System) (n j : ℕ) (node : Node) (old new : Rules) (is_node 
           | inl h ↦ are.alike f i rule q (to_old f rule k) d h
           | inr h ↦
               let one : rule.pair ≡ owner.rule.pair = are.once f owner.root rule owner.rule (to_old f rule k) owner.listed (h.0 ∙ sym owner.at) in
-              let same : q ≡ owner.pair = some_same q owner.pair (sym d ∙ (ap (slice_get (dependency_pairs system.rules)) one ∙ owner.numbered)) in
+              let same : q ≡ owner.pair = same_Some q owner.pair (sym d ∙ (ap (slice_get (dependency_pairs system.rules)) one ∙ owner.numbered)) in
               (p, (n, ap (slice_get numbers) h.1 ∙ at, numbered), left ∙ ap (λ (x : DependencyPair). mark x.from) (sym same))
         ];
         reached = λ k i t. elim ((follows k i).0 t) [
@@ -158,9 +159,9 @@ module _ (system : System) (n j : ℕ) (node : Node) (old new : Rules) (is_node 
             | inr t2 ↦ absurd (let s = (are.found f rule h).small in let u = t2.0 in omega (arith, s, u))
           ]
           | inr h ↦ elim (follow rule.place i t) [
-            | inl t2 ↦ absurd (let w = (let (r, e, m) = t2 in within (lists_of old.rows.items) rule.place r e) in let u = ap (λ (z : RulePlace). z.place) h.1 in omega (arith, w, u, size))
+            | inl t2 ↦ absurd (let w = (let (r, e, m) = t2 in slice_get_within (lists_of old.rows.items) rule.place r e) in let u = ap (λ (z : RulePlace). z.place) h.1 in omega (arith, w, u, size))
             | inr t2 ↦
-                let same : p ≡ q = some_same p q (sym numbered ∙ (ap (λ (z : RulePlace). slice_get (dependency_pairs system.rules) z.pair) (sym h.1) ∙ d)) in
+                let same : p ≡ q = same_Some p q (sym numbered ∙ (ap (λ (z : RulePlace). slice_get (dependency_pairs system.rules) z.pair) (sym h.1) ∙ d)) in
                 (p, (n, ap (slice_get numbers) t2.1 ∙ at, numbered), ap (λ (x : DependencyPair). mark x.from) same)
           ]
         ];
@@ -202,7 +203,7 @@ module _ (system : System) (n j : ℕ) (node : Node) (old new : Rules) (is_node 
       by_number : (r k : ℕ) → get nat_cmp new.places r ≡ Some k → (b : Bool) → is_at (nat_cmp node.rule) r ≡ b → IsPlaceOf system new r k
       by_number r k e true same =
           let (p, numbered, is) = is_node in
-          let here : length old.rows.items ≡ k = some_same (length old.rows.items) k (sym (adds.places r ∙ ap (λ b. cond b (Some (length old.rows.items)) (get nat_cmp old.places r)) same) ∙ e) in record {
+          let here : length old.rows.items ≡ k = same_Some (length old.rows.items) k (sym (adds.places r ∙ ap (λ b. cond b (Some (length old.rows.items)) (get nat_cmp old.places r)) same) ∙ e) in record {
             rule = record { place = length old.rows.items; pair = n };
             at = here;
             root = node.from;
@@ -257,7 +258,7 @@ module _ (system : System) (by_root : BTreeMap ℕ (Vec RulePlace Global)) (m i 
   of_root : (rule : RulePlace) → RulesAt system by_root m rule → In rule (items_at by_root node.to)
   of_root rule (q, there_q, h) =
       let (p, at, node_of) = is in
-      let same : q ≡ p = some_same q p (sym there_q ∙ at) in
+      let same : q ≡ p = same_Some q p (sym there_q ∙ at) in
       subst (λ z. In rule (items_at by_root z)) (ap (λ (x : DependencyPair). x.to.symbol) same ∙ sym node_of.to) h
 
   pub leads_to_no_root : (rows : List (List ℕ)) → None ≡ get nat_cmp by_root node.to → LeadsByRules system (RulesAt system by_root m) m i rows rows
@@ -281,7 +282,7 @@ module _ (system : System) (rules : List RulePlace) (m i : ℕ) where
   pub leads_to_all : (old new : List (List ℕ)) (n : ℕ) → length rules ≤ n → LeadsByRules system (AmongFirst rules n) m i old new → LeadsByRules system (λ rule. In rule rules) m i old new
   leads_to_all old new n ge leads =
       leads_same system (AmongFirst rules n) (λ rule. In rule rules) m i old new (λ rule (k, lt, at). in_of_get rules k rule at)
-      (λ rule h. let at = get_of_in h in (at.0, (let w = within rules at.0 rule at.1 in omega (arith, w, ge)), at.1)) leads
+      (λ rule h. let at = get_of_in h in (at.0, (let w = slice_get_within rules at.0 rule at.1 in omega (arith, w, ge)), at.1)) leads
 
   module _ (old mid : List (List ℕ)) (n : ℕ) (rule : RulePlace) (at : slice_get rules n ≡ Some rule) (leads : LeadsByRules system (AmongFirst rules n) m i old mid) where
     later : (other : RulePlace) → AmongFirst rules n other → AmongFirst rules (n + 1) other
@@ -290,7 +291,7 @@ module _ (system : System) (rules : List RulePlace) (m i : ℕ) where
     sooner : (other : RulePlace) → AmongFirst rules (n + 1) other → AmongFirst rules n other ⊎ (other ≡ rule)
     sooner other (k, lt, e) = elim (dec_lt k n) [
       | yes s ↦ inl (k, s, e)
-      | no s ↦ inr (let same : k ≡ n = omega (arith, s, lt) in some_same other rule (sym e ∙ (ap (slice_get rules) same ∙ at)))
+      | no s ↦ inr (let same : k ≡ n = omega (arith, s, lt) in same_Some other rule (sym e ∙ (ap (slice_get rules) same ∙ at)))
     ]
 
     pub leads_to_more : (new : List (List ℕ)) → EdgeOf system m rule.pair → i < length mid → PutsBehind mid new i rule.place → LeadsByRules system (AmongFirst rules (n + 1)) m i old new
@@ -359,7 +360,7 @@ one_more_row system numbers by_root before rows new n m at valid few leads so_fa
         (λ (row, t, i). (so_far.exact k j a s e).0 (row, sym same ∙ t, i), λ h. let (row, t, i) = (so_far.exact k j a s e).1 h in (row, same ∙ t, i)))
     | no s ↦ (
         let here : k ≡ n = omega (arith, s, lt) in
-        let number : m ≡ a = some_same m a (sym at ∙ (ap (slice_get numbers) (sym here) ∙ e)) in
+        let number : m ≡ a = same_Some m a (sym at ∙ (ap (slice_get numbers) (sym here) ∙ e)) in
         let old : slice_get rows n ≡ slice_get before n = so_far.later n (omega arith) in
         subst (λ z. Follows new z j ↔ (Follows before z j ⊎ ((rule : RulePlace) × RulesAt system by_root a rule × (rule.place ≡ j) × EdgeOf system a rule.pair))) (sym here)
         (subst (λ z. Follows new n j ↔ (Follows before n j ⊎ ((rule : RulePlace) × RulesAt system by_root z rule × (rule.place ≡ j) × EdgeOf system z rule.pair))) number (
@@ -383,7 +384,7 @@ module _ (system : System) (numbers : List ℕ) (rules : Rules) (are : AreRules 
       let is = are.found h.root h.rule h.listed in
       let (p, (m, e, d), same) = are.alike h.root j h.rule is.pair h.listed is.numbered (subst (λ z. Follows before z j) (sym h.at) f) in
       let low : pairs ≤ k = (let b = is.behind in let a = h.at in omega (arith, a, b)) in
-      (low, within numbers j m e)
+      (low, slice_get_within numbers j m e)
 
   of_before : (k j : ℕ) → pairs ≤ k → Follows rows k j → Follows before k j
   of_before k j low (row, e, i) = (row, sym (led.later k low) ∙ e, i)
@@ -394,7 +395,7 @@ module _ (system : System) (numbers : List ℕ) (rules : Rules) (are : AreRules 
   -- the row of a pair has rules
   to_rule : (i j m : ℕ) → slice_get numbers i ≡ Some m → Follows rows i j → (rule : RulePlace) × RulesAt system rules.by_root m rule × (rule.place ≡ j) × EdgeOf system m rule.pair
   to_rule i j m e f =
-      let lt = within numbers i m e in
+      let lt = slice_get_within numbers i m e in
       elim ((led.exact i j m lt e).0 f) [ inl h ↦ absurd (let low = (from_rule i j h).0 in omega (arith, low, lt)) | inr h ↦ h ]
 
   between_places : (i j : ℕ) → Follows rows i j → Dec (i < pairs) → IsBetween pairs (length rows) i j
@@ -421,12 +422,12 @@ module _ (system : System) (numbers : List ℕ) (rules : Rules) (are : AreRules 
 
   down : (i k : ℕ) → AtPlaces (EdgeOf system) numbers i k → FollowsByRule pairs rows i k
   down i k (m, n, e, d, edge) =
-      let lt = within numbers i m e in
+      let lt = slice_get_within numbers i m e in
       let (valid, few) = led.valid i lt in
-      let (j, h) = are.all k edge.to (within numbers k n d) (n, d, edge.to_numbered) in
+      let (j, h) = are.all k edge.to (slice_get_within numbers k n d) (n, d, edge.to_numbered) in
       let is = are.found h.root h.rule h.listed in
       let (q, (a, at_a, numbered), same) = are.alike h.root k h.rule is.pair h.listed is.numbered (subst (λ z. Follows before z k) (sym h.at) h.follows) in
-      let here : q ≡ edge.to = some_same q edge.to (sym numbered ∙ (ap (slice_get (dependency_pairs system.rules)) (some_same a n (sym at_a ∙ d)) ∙ edge.to_numbered)) in
+      let here : q ≡ edge.to = same_Some q edge.to (sym numbered ∙ (ap (slice_get (dependency_pairs system.rules)) (same_Some a n (sym at_a ∙ d)) ∙ edge.to_numbered)) in
       let alike : mark edge.to.from ≡ mark is.pair.from = ap (λ (x : DependencyPair). mark x.from) (sym here) ∙ same in
       let to_first : EdgeOf system m h.rule.pair = edge_to_alike system valid few m n h.rule.pair edge.to is.pair edge.to_numbered is.numbered alike edge in
       let root : edge.from.to.symbol ≡ is.pair.from.symbol = edge_root system valid few m h.rule.pair edge.from is.pair edge.from_numbered is.numbered to_first in

@@ -7,6 +7,7 @@ use Rattle.std.specs.BTreeSet.{BTreeSet, contains, Updates}
 use Rattle.std.proofs.Common.{zero, suc, inl, inr, sym, ap, subst, arith, ◌∙◌}
 use Rattle.std.proofs.lemmas.Grind.{common_steps}
 use Rattle.std.proofs.lemmas.List.{take_all}
+use Rattle.std.proofs.lemmas.Option.{same_Some, slice_get_within, slice_get_read}
 use native.Mathlib.Decide.{dec_lt, ℕ_discrete}
 use Rattle.trs_defs.specs.Member.{In}
 use Rattle.trs_defs.proofs.Members.{no_in}
@@ -14,7 +15,7 @@ use Rattle.dp_graph.specs.PutOut.{ComesBefore}
 use Rattle.dp_graph.specs.Waiting.{Has, HasAt, Sets, AreNone, Adds, OneEdge, RowEdges, LeadsTo, AllEdges, IsFreeLeader, IsReadySet, AddsIf, TakesOut, Releases, IsOne, OfRow, OfRows}
 use Rattle.dp_graph.specs.declared.waiting.Waiting.{Waiting}
 use Rattle.dp_graph.proofs.FoundLaws.{taken_more, more_taken}
-use Rattle.dp_graph.proofs.ListPlaces.{read, within, there, some_same, length_set, set_here, set_elsewhere, set_cases, last_or_there, length_more}
+use Rattle.dp_graph.proofs.ListPlaces.{there, length_set, set_here, set_elsewhere, set_cases, last_or_there, length_more}
 use Rattle.dp_graph.proofs.Sets.{at_itself, at_number, at_others, true_is_not_false, none_in_empty, no_keys}
 
 -- ---- sets by places
@@ -25,7 +26,7 @@ dec_has (s ∷ sets) zero k = go (contains nat_cmp s k) refl
   where
     go : (b : Bool) → contains nat_cmp s k ≡ b → Dec (HasAt (s ∷ sets) zero k)
     go true e = yes (s, refl, e)
-    go false e = no (λ h. true_is_not_false (contains nat_cmp s k) (subst (λ z. Has z k) (sym (some_same s h.0 h.1)) h.2) e)
+    go false e = no (λ h. true_is_not_false (contains nat_cmp s k) (subst (λ z. Has z k) (sym (same_Some s h.0 h.1)) h.2) e)
 dec_has (s ∷ sets) (suc l) k = dec_has sets l k
 
 pub has_none : (set : BTreeSet ℕ) (k : ℕ) → set.keys ≡ [] → Has set k → ⊥
@@ -111,11 +112,11 @@ edge_added sets from to set now lt is differ adds = record {
 }
   where
     at : slice_get sets to ≡ Some set
-    at = read sets to set set lt is refl
+    at = slice_get_read sets _ to set refl lt is
 
     go : (l k : ℕ) → HasAt sets l k ⊎ OneEdge from to l k → Dec (l ≡ to) → HasAt (slice_set sets to now) l k
     go l k (inl (s, e, i)) (yes same) =
-        let s_is : s ≡ set = some_same s set (sym (subst (λ z. slice_get sets z ≡ Some s) same e) ∙ at) in
+        let s_is : s ≡ set = same_Some s set (sym (subst (λ z. slice_get sets z ≡ Some s) same e) ∙ at) in
         (now, subst (λ z. slice_get (slice_set sets to now) z ≡ Some now) (sym same) (set_here sets to now lt), new_in set now from adds k (inl (subst (λ z. Has z k) s_is i)))
     go l k (inl (s, e, i)) (no other) = (s, set_elsewhere sets to l now other ∙ e, i)
     go l k (inr (same, k_is, d)) dec =
@@ -144,7 +145,7 @@ row_more row leaders from i x to old mid new lt is led before adds = record {
       | inr (j, j_in, at, k_is, d) ↦ elim (taken_more row i x j lt is j_in) [
         | inl g ↦ inl ((before.exact l k).1 (inr (j, g, at, k_is, d)))
         | inr same ↦
-            let l_is : l ≡ to = some_same l to (sym at ∙ (ap (slice_get leaders) same ∙ led)) in
+            let l_is : l ≡ to = same_Some l to (sym at ∙ (ap (slice_get leaders) same ∙ led)) in
             inr (l_is, k_is, λ e. d (e ∙ sym l_is))
       ]
     ]),
@@ -188,8 +189,8 @@ edges_more rows leaders old new i from row at led adds before = record {
       | no s ↦
           let same : e.from ≡ i = omega (arith, s, lt) in
           let (r, is, j_in) = e.follows in
-          let k_is : k ≡ from = some_same k from (sym e.of_other ∙ (ap (slice_get leaders) same ∙ led)) in
-          inr (e.to, subst (In e.to) (some_same r row (sym is ∙ (ap (slice_get rows) same ∙ at))) j_in, e.of_this, k_is, λ d. e.differ (k_is ∙ d))
+          let k_is : k ≡ from = same_Some k from (sym e.of_other ∙ (ap (slice_get leaders) same ∙ led)) in
+          inr (e.to, subst (In e.to) (same_Some r row (sym is ∙ (ap (slice_get rows) same ∙ at))) j_in, e.of_this, k_is, λ d. e.differ (k_is ∙ d))
     ]),
   );
 }
@@ -199,7 +200,7 @@ all_edges rows leaders sets i ge so_far = record {
   count = so_far.count;
   exact = λ l k. (
     λ h. ((so_far.exact l k).0 h).0,
-    λ e. (so_far.exact l k).1 (e, (let w = within rows e.from e.follows.0 e.follows.1 in omega (arith, w, ge))),
+    λ e. (so_far.exact l k).1 (e, (let w = slice_get_within rows e.from e.follows.0 e.follows.1 in omega (arith, w, ge))),
   );
 }
 
@@ -229,7 +230,7 @@ pub all_ready : (leaders : List ℕ) (sets : List (BTreeSet ℕ)) (set : BTreeSe
 unfolding ReadySoFar
 all_ready leaders sets set i ge so_far l = (
   λ h. ((so_far l).0 h).0,
-  λ f. (so_far l).1 (f, (let w = within leaders l l f.0 in omega (arith, w, ge))),
+  λ f. (so_far l).1 (f, (let w = slice_get_within leaders l l f.0 in omega (arith, w, ge))),
 )
 
 -- ---- components that are put out
@@ -282,16 +283,16 @@ pub free_leader : (leaders : List ℕ) (sets : List (BTreeSet ℕ)) (v : ℕ) (s
 free_leader leaders sets v set empty own small is says = (
   λ e. (
     own,
-    λ k h. has_none set k (no_keys set.keys (λ some. let z = says.0 e in omega (arith, z, some))) (subst (λ z. Has z k) (some_same h.0 set (sym h.1 ∙ at)) h.2),
+    λ k h. has_none set k (no_keys set.keys (λ some. let z = says.0 e in omega (arith, z, some))) (subst (λ z. Has z k) (same_Some h.0 set (sym h.1 ∙ at)) h.2),
   ),
   λ h. says.1 (ap length (no_members set (λ k i. h.1 k (set, at, i)))),
 )
   where
     at : slice_get sets v ≡ Some set
-    at = read sets v set set small is refl
+    at = slice_get_read sets _ v set refl small is
 
 pub no_free_leader : (leaders : List ℕ) (sets : List (BTreeSet ℕ)) (v l : ℕ) → slice_get leaders v ≡ Some l → (l ≡ v → ⊥) → IsTrue false ↔ IsFreeLeader leaders sets v
-no_free_leader leaders sets v l at other = (λ e. absurd cc, λ h. absurd (other (some_same l v (sym at ∙ h.0))))
+no_free_leader leaders sets v l at other = (λ e. absurd cc, λ h. absurd (other (same_Some l v (sym at ∙ h.0))))
 
 pub releases_none : (a : Waiting) (v : ℕ) (S : ℕ → Type 0) → ((l : ℕ) → S l → ⊥) → Releases a a v S
 releases_none a v S h = record {
@@ -352,7 +353,7 @@ unblocked old new l v set now last lt is grown sets says adds = record {
   ];
   all = λ m h none. elim (ℕ_discrete m l) [
     | yes same ↦
-        let s_is : h.0 ≡ set = some_same h.0 set (sym (subst (λ z. slice_get sets_old z ≡ Some h.0) same h.1) ∙ at) in
+        let s_is : h.0 ≡ set = same_Some h.0 set (sym (subst (λ z. slice_get sets_old z ≡ Some h.0) same h.1) ∙ at) in
         (adds m).1 (inr (says.1 (subst (λ z. Has z v) s_is h.2, λ k i. none k (now, here m same, i)), same))
     | no other ↦ absurd (none v (h.0, elsewhere m other ∙ h.1, h.2))
   ];
@@ -362,7 +363,7 @@ unblocked old new l v set now last lt is grown sets says adds = record {
     sets_old = old.blockers.items
 
     at : slice_get old.blockers.items l ≡ Some set
-    at = read old.blockers.items l set set lt is refl
+    at = slice_get_read old.blockers.items _ l set refl lt is
 
     here : (m : ℕ) → m ≡ l → slice_get new.blockers.items m ≡ Some now
     here m same = subst (λ z. slice_get z m ≡ Some now) (sym grown) (subst (λ z. slice_get (slice_set old.blockers.items l now) z ≡ Some now) (sym same) (set_here old.blockers.items l now lt))
@@ -378,7 +379,7 @@ unblocked old new l v set now last lt is grown sets says adds = record {
 
     keeps : (m k : ℕ) → (k ≡ v → ⊥) → HasAt old.blockers.items m k → Dec (m ≡ l) → HasAt new.blockers.items m k
     keeps m k d (s, e, i) (yes same) =
-        let s_is : s ≡ set = some_same s set (sym (subst (λ z. slice_get old.blockers.items z ≡ Some s) same e) ∙ at) in
+        let s_is : s ≡ set = same_Some s set (sym (subst (λ z. slice_get old.blockers.items z ≡ Some s) same e) ∙ at) in
         (now, here m same, still_in set now v sets k d (subst (λ z. Has z k) s_is i))
     keeps m k d (s, e, i) (no other) = (s, elsewhere m other ∙ e, i)
 
@@ -388,7 +389,7 @@ row_released leaders row a b c v i x to lt is led first second =
     releases_same a c v (λ l. OfRow leaders (take i row) l ⊎ IsOne to l) (OfRow leaders (take (i + 1) row))
     (λ l (j, j_in, at). elim (taken_more row i x j lt is j_in) [
       | inl g ↦ inl (j, g, at)
-      | inr same ↦ inr (some_same l to (sym at ∙ (ap (slice_get leaders) same ∙ led)))
+      | inr same ↦ inr (same_Some l to (sym at ∙ (ap (slice_get leaders) same ∙ led)))
     ]) (releases_more a b c v (OfRow leaders (take i row)) (IsOne to) first second)
 
 pub rows_released : (rows : List (List ℕ)) (leaders places : List ℕ) (a b c : Waiting) (v i w : ℕ) (row : List ℕ) → i < length places → w ≡ get_or places i 0 → slice_get rows w ≡ Some row
@@ -399,7 +400,7 @@ rows_released rows leaders places a b c v i w row lt is row_is first second =
       | inl g ↦ inl (u, j, g, follows, at)
       | inr same ↦
           let (r, e, j_in) = follows in
-          inr (j, subst (In j) (some_same r row (sym e ∙ (ap (slice_get rows) same ∙ row_is))) j_in, at)
+          inr (j, subst (In j) (same_Some r row (sym e ∙ (ap (slice_get rows) same ∙ row_is))) j_in, at)
     ]) (releases_more a b c v (OfRows rows leaders (take i places)) (OfRow leaders row) first second)
 
 -- ---- whether some place is no pair

@@ -23,6 +23,11 @@ pub first_read : {A : Type 0} (fact : A → Type 0) (xs : List A) (i : ℕ) (a :
     → ((k : ℕ) (b : A) → k < i → slice_get xs k ≡ Some b → fact b → ⊥) → First fact xs a
 first_read fact xs i a below is holds before = first_at fact xs i a (slice_get_read xs (length xs) i a refl below is) holds before
 
+-- the first item of which a fact holds
+pub holds_now : {A : Type 0} {fact : A → Type 0} {xs : List A} {a : A} → First fact xs a → fact a
+holds_now (first_here is) = is
+holds_now (first_later passed rest) = holds_now rest
+
 pub first_in_list : {A : Type 0} {fact : A → Type 0} {xs : List A} {a : A} → First fact xs a → In a xs
 first_in_list (first_here is) = in_first
 first_in_list (first_later passed rest) = in_rest (first_in_list rest)

@@ -1,9 +1,8 @@
 -- The sides of critical peaks are small: no symbol has more than 255 arguments.
-use Rattle.std.specs.Prelude.{◌≡◌, ◌<◌, ◌≤◌, ℕ, ◌+◌, Bool, true, false, cond, ◌&&◌, leb, List, [], ◌∷◌, Option, None, Some, Ok, IsTrue, slice_get, refl}
+use Rattle.std.specs.Prelude.{◌≡◌, ◌<◌, ◌≤◌, ℕ, ◌+◌, Bool, true, false, cond, ◌&&◌, leb, List, [], ◌∷◌, Some, Ok, IsTrue, slice_get, refl}
 use Rattle.std.proofs.Common.{zero, suc, ap, subst, sym, ◌∙◌, arith, inl, inr, ◌⊎◌}
 use Rattle.std.proofs.lemmas.Bool.Decides.{nat_tests}
-use Rattle.std.specs.Option.{option_and_then}
-use Rattle.std.proofs.lemmas.Option.{same_Some}
+use Rattle.std.proofs.lemmas.Option.{same_Some, option_and_then_some}
 use Rattle.trs_defs.specs.Member.{In, in_first, in_rest}
 use Rattle.trs_defs.specs.Tree.{Tree, Trees, var, app, nil, cons, count, items}
 use Rattle.trs_defs.specs.Size.{within_limits}
@@ -16,6 +15,7 @@ use Rattle.trs_defs.specs.Position.{subterm_at, replaced_at}
 use Rattle.trs_defs.proofs.Contexts.{inside_at}
 use Rattle.trs_defs.proofs.Members.{in_or}
 use Rattle.trs_defs.proofs.Substitutions.{apply_apply, same_instance}
+use Rattle.trs_defs.proofs.ArgumentLists.{count_apply_all}
 use Rattle.term_pool.specs.Redexes.{IsNarrow, AreNarrow}
 use Rattle.term_pool.proofs.NarrowLaws.{narrow_of_well_formed, narrow_inside}
 use Rattle.term_pool.proofs.ListingLaws.{either_way}
@@ -27,15 +27,11 @@ use Rattle.join_find.specs.Sides.{IsSide, HasSides, HaveSides}
 
 -- ---- instances
 
-count_apply : (σ : ℕ → Tree) (ts : Trees) → count (apply_all σ ts) ≡ count ts
-count_apply σ nil = refl
-count_apply σ (cons t ts) = ap (λ n. 1 + n) (count_apply σ ts)
-
 mutual
   narrow_image : (σ : ℕ → Tree) → ((v : ℕ) → IsNarrow (σ v)) → (t : Tree) → IsNarrow t → IsNarrow (apply σ t)
   narrow_image σ images (var n) narrow = images n
   narrow_image σ images (app f ts) narrow =
-      let same = count_apply σ ts in
+      let same = count_apply_all σ ts in
       let few = narrow.0 in
       (omega (arith, same, few), narrow_images σ images ts narrow.1)
 
@@ -48,7 +44,7 @@ mutual
   narrow_pattern : (σ : ℕ → Tree) (t : Tree) → IsNarrow (apply σ t) → IsNarrow t
   narrow_pattern σ (var n) narrow = tt
   narrow_pattern σ (app f ts) narrow =
-      let same = count_apply σ ts in
+      let same = count_apply_all σ ts in
       let few = narrow.0 in
       (omega (arith, same, few), narrow_patterns σ ts narrow.1)
 
@@ -99,7 +95,7 @@ mutual
   pruned_instance : (σ : ℕ → Tree) (t : Tree) → IsNarrow t → pruned (apply σ t) ≡ apply (λ v. pruned (σ v)) t
   pruned_instance σ (var n) narrow = refl
   pruned_instance σ (app f ts) narrow =
-      let same : count (apply_all σ ts) ≡ count ts = count_apply σ ts in
+      let same : count (apply_all σ ts) ≡ count ts = count_apply_all σ ts in
       let few : count ts ≤ 255 = narrow.0 in
       let kept : leb (count (apply_all σ ts)) 255 ≡ true = test_of (count (apply_all σ ts)) (omega (arith, same, few)) in
       ap (λ b. cut b (app f (all_pruned (apply_all σ ts)))) kept ∙ ap (app f) (all_pruned_instances σ ts narrow.1)
@@ -130,10 +126,6 @@ narrow_replaced : (p : List ℕ) (t part by u : Tree) → subterm_at p t ≡ Som
 narrow_replaced p t part by u there put narrow narrow_by =
     narrow_inside ToNarrow (λ a b step old. step) (inside_at ToNarrow p t part by u there put (here narrow_by)) narrow
 
-step_down : (p : List ℕ) (o : Option Tree) (part : Tree) → option_and_then (subterm_at p) o ≡ Some part → (a : Tree) × (o ≡ Some a) × (subterm_at p a ≡ Some part)
-step_down p None part h = absurd cc
-step_down p (Some a) part h = (a, refl, h)
-
 narrow_item : (ts : Trees) (i : ℕ) (a : Tree) → AreNarrow ts → slice_get (items ts) i ≡ Some a → IsNarrow a
 narrow_item nil i a narrow there = absurd cc
 narrow_item (cons t ts) zero a narrow there = subst IsNarrow (same_Some t a there) narrow.0
@@ -144,7 +136,9 @@ narrow_part [] t part narrow there = subst IsNarrow (same_Some t part there) nar
 narrow_part (place ∷ p) (var n) part narrow there = absurd cc
 narrow_part (zero ∷ p) (app f ts) part narrow there = absurd cc
 narrow_part (suc i ∷ p) (app f ts) part narrow there =
-    let (a, at, below) = step_down p (slice_get (items ts) i) part there in
+    let found : (a : Tree) × (slice_get (items ts) i ≡ Some a) × (subterm_at p a ≡ Some part) =
+    option_and_then_some (subterm_at p) (slice_get (items ts) i) part there (λ a at below. (a, at, below)) in
+    let (a, at, below) = found in
     narrow_part p a part (narrow_item ts i a narrow.1 at) below
 
 module _ (system : System) (is : IsSystem system) (small : (f n : ℕ) → slice_get system.arities f ≡ Some n → n < 256) where

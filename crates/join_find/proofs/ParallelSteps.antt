@@ -9,9 +9,10 @@ use Rattle.trs_defs.specs.System.{RewriteRule}
 use Rattle.trs_defs.specs.Path.{PlacedRule}
 use Rattle.trs_defs.proofs.Members.{in_either, in_or, no_in, of_map}
 use Rattle.term_pool.specs.Redexes.{below}
-use Rattle.confluence_theory.specs.ParallelPositions.{AreParallel, IsParallelToAll, ArePairwiseParallel}
+use Rattle.confluence_theory.specs.ParallelPositions.{IsParallelToAll, ArePairwiseParallel}
 use Rattle.closed_pairs.specs.LeftOf.{IsLeftOf}
-use Rattle.closed_pairs.specs.ParallelClosed.{StandsBefore, DoAscend, IsParallel}
+use Rattle.closed_pairs.specs.ParallelClosed.{DoAscend, IsParallel}
+use Rattle.closed_pairs.proofs.Leftward.{left_parallel, left_before}
 use Rattle.join_find.specs.ParallelRow.{HasNoRootStep, IsRootStep, IsParallelStep, no_step, at_root, in_arguments, AreParallelSteps, no_argument, one_argument}
 
 -- what the parallel step between two terms may be
@@ -151,21 +152,9 @@ mutual
   all_go_left rules (one_argument {place = place} {first = first} {rest = rest} p later) =
       go_left_below place first rest (go_left rules p) (steps_begin rules later) (all_go_left rules later)
 
-left_is_parallel : (p q : List ℕ) → IsLeftOf p q → AreParallel p q
-left_is_parallel [] q h = absurd h
-left_is_parallel (a ∷ p) [] h = absurd h
-left_is_parallel (a ∷ p) (b ∷ q) (inl less) = inl (omega (arith, less))
-left_is_parallel (a ∷ p) (b ∷ q) (inr (same, later)) = inr (left_is_parallel p q later)
-
-left_stands_before : (p q : List ℕ) → IsLeftOf p q → StandsBefore p q
-left_stands_before [] q h = absurd h
-left_stands_before (a ∷ p) [] h = absurd h
-left_stands_before (a ∷ p) (b ∷ q) (inl less) = inl less
-left_stands_before (a ∷ p) (b ∷ q) (inr (same, later)) = inr (same, left_stands_before p q later)
-
 parallel_to_all : (p : List ℕ) (ss : List PlacedRule) → ((u : PlacedRule) → In u ss → IsLeftOf p u.place) → IsParallelToAll p ss
 parallel_to_all p [] h = tt
-parallel_to_all p (s ∷ ss) h = (left_is_parallel p s.place (h s in_first), parallel_to_all p ss (λ u i. h u (in_rest i)))
+parallel_to_all p (s ∷ ss) h = (left_parallel p s.place (h s in_first), parallel_to_all p ss (λ u i. h u (in_rest i)))
 
 left_pairwise : (ss : List PlacedRule) → GoLeft ss → ArePairwiseParallel ss
 left_pairwise [] h = tt
@@ -174,7 +163,7 @@ left_pairwise (s ∷ ss) h = (parallel_to_all s.place ss h.0, left_pairwise ss h
 left_ascend : (ss : List PlacedRule) → GoLeft ss → DoAscend ss
 left_ascend [] h = tt
 left_ascend (s ∷ []) h = tt
-left_ascend (s ∷ t ∷ ss) h = (left_stands_before s.place t.place (h.0 t in_first), left_ascend (t ∷ ss) h.1)
+left_ascend (s ∷ t ∷ ss) h = (left_before s.place t.place (h.0 t in_first), left_ascend (t ∷ ss) h.1)
 
 -- it is a parallel step, written from the left
 pub found_is_parallel : (rules : List RewriteRule) {s t : Tree} {steps : List PlacedRule} → IsParallelStep rules s t steps → IsParallel steps

@@ -3,8 +3,8 @@ use Rattle.std.specs.Prelude.{◌≡◌, ◌≢◌, ◌<◌, ◌≤◌, ℕ, ◌
 use Rattle.std.proofs.Common.{zero, suc, ap, sym, subst, ◌∙◌, append_assoc, append-nil, get_or, arith}
 use Rattle.std.proofs.lemmas.List.{map-append, length-map, drop_all}
 use Rattle.std.proofs.lemmas.Option.{same_Some, slice_get_read}
-use Rattle.trs_defs.specs.Tree.{Tree, Trees, var, app, nil, cons, count, trees, items, items_trees}
-use Rattle.trs_defs.specs.Size.{size_of, size_of_all, depth_of, within_limits}
+use Rattle.trs_defs.specs.Tree.{Tree, var, app, nil, cons, count, trees, items, items_trees}
+use Rattle.trs_defs.specs.Size.{depth_of, within_limits}
 use Rattle.trs_defs.specs.Position.{subterm_at}
 use Rattle.trs_defs.specs.System.{RewriteRule}
 use Rattle.trs_defs.specs.Path.{PlacedRule}
@@ -29,17 +29,8 @@ map_read (y ∷ xs) zero x there = ap (λ z. Some (tree z)) (same_Some y x there
 map_read (y ∷ xs) (suc i) x there = map_read xs i x there
 
 -- an application by the list of its arguments
-pub applied : (ts : List Term) (f : ℕ) (args : Trees) (t : Tree) → forest ts ≡ args → t ≡ app f args → t ≡ app f (forest ts)
-applied ts f args t listed is = rw (is, listed) refl
-
-argument_size : (ts : List Term) (i : ℕ) (t : Term) → i < length ts → t ≡ get_or ts i t → size_of (tree t) ≤ size_of_all (forest ts)
-argument_size [] i t h e = absurd (omega arith)
-argument_size (u ∷ ts) zero t h e = rw e (omega arith)
-argument_size (u ∷ ts) (suc i) t h e = omega (arith, argument_size ts i t (omega arith) e)
 
 -- an argument is smaller than the term
-pub smaller_argument : (ts : List Term) (i f : ℕ) (t : Tree) (arg : Term) → t ≡ app f (forest ts) → i < length ts → arg ≡ get_or ts i arg → size_of (tree arg) < size_of t
-smaller_argument ts i f t arg is h e = let k = argument_size ts i arg h e in rw is (omega arith)
 
 -- an argument of a term
 pub argument_there : (t : Tree) (f : ℕ) (xs : List Term) (i : ℕ) (x : Term) → t ≡ app f (forest xs) → i < length xs → x ≡ get_or xs i x → subterm_at ((i + 1) ∷ []) t ≡ Some (tree x)

@@ -14,7 +14,7 @@ use Rattle.rewrite_core.specs.PathsOfJoin.{PathsOfJoin}
 use Rattle.join_find.specs.First.{First, first_here, first_later}
 use Rattle.join_find.specs.Common.{IsFirstCommon, HasNoCommon}
 use Rattle.join_find.specs.CommonIds.{Reached, IsFirstCommonId, HasNoCommonId, IsSifted, sifted_none, sifted_there, sifted_out}
-use Rattle.join_find.proofs.Firsts.{none_of_all, first_in_list}
+use Rattle.join_find.proofs.Firsts.{none_of_all, first_in_list, holds_now}
 
 -- an id of the list is that of some entry
 pub id_nowhere : (entries : List Reached) (id k : ℕ) → length entries ≤ k → ((j : ℕ) (e : Reached) → j < k → slice_get entries j ≡ Some e → e.0 ≡ id → ⊥) → In id (ids_of entries) → ⊥
@@ -22,14 +22,10 @@ id_nowhere entries id k all none there =
     let (e, i, same) = of_map (λ (x : Reached). x.0) entries there in
     none_of_all (λ (x : Reached). x.0 ≡ id) entries k all none e i (sym same)
 
-first_is : {A : Type 0} {fact : A → Type 0} {xs : List A} {a : A} → First fact xs a → fact a
-first_is (first_here is) = is
-first_is (first_later passed rest) = first_is rest
-
 pub id_of_first : (entries : List Reached) (id : ℕ) (e : Reached) → First (λ (x : Reached). x.0 ≡ id) entries e → In id (ids_of entries)
 id_of_first entries id e first =
     let P : ℕ → Type 0 = λ i. In i (ids_of entries) in
-    subst P (first_is first) (in_map (λ (x : Reached). x.0) (first_in_list first))
+    subst P (holds_now first) (in_map (λ (x : Reached). x.0) (first_in_list first))
 
 first_or : {A : Type 0} {fact : A → Type 0} {x a : A} {xs : List A} → First fact (x ∷ xs) a → ((x ≡ a) × fact x) ⊎ ((fact x → ⊥) × First fact xs a)
 first_or (first_here is) = inl (refl, is)

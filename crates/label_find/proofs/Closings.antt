@@ -21,10 +21,6 @@ use Rattle.label_find.specs.LabelRow.{PeakPaths, Closes, CanCloseFrom, CanClose,
 use Rattle.label_find.specs.Closing.{ClosesFrom, CanCloseIds, IsFirstClosingIds, CanBeClosed, IsJoinBy}
 use Rattle.label_find.proofs.ConstraintLaws.{paths_of}
 
-pub holds_now : {A : Type 0} {fact : A → Type 0} {xs : List A} {a : A} → First fact xs a → fact a
-holds_now (first_here h) = h
-holds_now (first_later h rest) = holds_now rest
-
 -- the first item of an image
 first_image : {A B : Type 0} (f : A → B) (fact : B → Type 0) {xs : List A} {a : A} → First (λ x. fact (f x)) xs a → First fact (map f xs) (f a)
 first_image f fact (first_here is) = first_here is

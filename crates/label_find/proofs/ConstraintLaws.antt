@@ -3,6 +3,7 @@ use Rattle.std.specs.Prelude.{◌≡◌, ◌<◌, ◌↔◌, ◌⊎◌, ℕ, ◌
 use Rattle.std.specs.Global.{Vec}
 use Rattle.std.proofs.Common.{inl, inr, arith, ap, sym, ◌∙◌, subst}
 use Rattle.std.proofs.lemmas.List.Elements.{All-head, All-tail, All-weaker}
+use Rattle.std.proofs.lemmas.Bool.{or_right, or_left}
 use Rattle.trs_defs.specs.Member.{In, in_first, in_rest}
 use Rattle.trs_defs.specs.Tree.{Tree}
 use Rattle.trs_defs.specs.Variable.{is_listed}
@@ -11,7 +12,6 @@ use Rattle.trs_defs.specs.System.{RewriteRule}
 use Rattle.trs_defs.proofs.Members.{in_map, of_map}
 use Rattle.confluence_theory.specs.RanksFit.{RanksFit}
 use Rattle.confluence_theory.specs.RuleRanks.{rank_of}
-use Rattle.assign_search.proofs.Refuting.{or_left, or_right}
 use Rattle.term_pool.specs.Pooled.{AreDistinct, Extends, tree_at}
 use Rattle.term_pool.specs.Listed.{Listed}
 use Rattle.term_pool.specs.ListedIds.{listed, listed_at}

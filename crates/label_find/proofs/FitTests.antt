@@ -5,10 +5,10 @@ use Rattle.std.proofs.Common.{ap, sym, ◌∙◌, drop, get_or, arith}
 use Rattle.std.proofs.lemmas.List.{drop_more}
 use Rattle.std.proofs.Math.Decide.{dec_lt, ℕ_discrete}
 use Rattle.std.proofs.lemmas.Bool.Decides.{nat_tests}
+use Rattle.std.proofs.lemmas.Bool.{or_right, or_left, and_parts, and_from}
 use Rattle.trs_defs.specs.Member.{In, in_first, in_rest}
 use Rattle.confluence_theory.specs.RanksFit.{AreBelowOne, RanksFit}
 use Rattle.confluence_theory.specs.RuleRanks.{rank_of}
-use Rattle.assign_search.proofs.Refuting.{or_left, or_right, and_true, both_true}
 use Rattle.trs_defs.specs.Path.{PlacedRule}
 use Rattle.rule_label.specs.Labelled.{ranks_along}
 use Rattle.rule_label.specs.FittingRanks.{FitAfter}
@@ -109,14 +109,14 @@ module _ (ranks : List ℕ) where
     where
       go : (t : Bool) → (some_fit ranks a b m.lefts.items && some_fit ranks b a m.rights.items) ≡ t → (IsTrue (some_meet ranks a b ms) → (n : Meeting) × In n ms × Meets a b n)
           → (n : Meeting) × In n (m ∷ ms) × Meets a b n
-      go true e rest = (m, in_first, and_true (some_fit ranks a b m.lefts.items) (some_fit ranks b a m.rights.items) e)
+      go true e rest = (m, in_first, and_parts (some_fit ranks a b m.lefts.items) (some_fit ranks b a m.rights.items) e)
       go false e rest = let later : IsTrue (some_meet ranks a b ms) = rw e at h in let (n, i, k) = rest later in (n, in_rest i, k)
 
   pub some_meet_from : (a b : ℕ) (ms : List Meeting) (m : Meeting) → In m ms → Meets a b m → IsTrue (some_meet ranks a b ms)
   some_meet_from a b [] m i h = elim i [ ]
   some_meet_from a b (x ∷ ms) m in_first h =
       or_left (some_fit ranks a b m.lefts.items && some_fit ranks b a m.rights.items) (some_meet ranks a b ms)
-      (both_true (some_fit ranks a b m.lefts.items) (some_fit ranks b a m.rights.items) h.0 h.1)
+      (and_from (some_fit ranks a b m.lefts.items) (some_fit ranks b a m.rights.items) h.0 h.1)
   some_meet_from a b (x ∷ ms) m (in_rest i) h = or_right (some_fit ranks a b x.lefts.items && some_fit ranks b a x.rights.items) (some_meet ranks a b ms) (some_meet_from a b ms m i h)
 
 -- ---- as they are read

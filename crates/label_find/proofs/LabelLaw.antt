@@ -16,13 +16,12 @@ use Rattle.join_find.specs.crit_pairs.PeakList.{ListsPeaks}
 use Rattle.join_find.specs.crit_pairs.PeaksCheck.{listed}
 use Rattle.rule_label.specs.Labelled.{ranks_along, joins_decreasing}
 use Rattle.join_find.specs.First.{Along, along_end, along_item}
-use Rattle.join_find.proofs.Firsts.{first_in_list}
+use Rattle.join_find.proofs.Firsts.{first_in_list, holds_now}
 use Rattle.join_find.proofs.LinearRules.{linear_rules_pass}
 use Rattle.join_find.proofs.NewmanLaw.{along_length, along_each}
 use Rattle.path_lists.proofs.PathLaws.{paths_lead}
 use Rattle.label_find.specs.LabelRow.{PeakPaths, ArePathsOf, Closes, IsFirstClosing, FindsLabel}
 use Rattle.label_find.specs.Laws.{IsLabelStep}
-use Rattle.label_find.proofs.Closings.{holds_now}
 use Rattle.label_find.proofs.Searching.{solution_parts}
 
 -- a peak with the paths from its sides, of which two close it

@@ -4,6 +4,7 @@ use Rattle.std.specs.Global.{Vec}
 use Rattle.std.proofs.Common.{zero, suc, ap, sym, ◌∙◌, subst, arith}
 use Rattle.std.proofs.lemmas.Bool.Decides.{nat_tests}
 use Rattle.std.proofs.lemmas.Option.{same_Some, slice_get_within}
+use Rattle.std.proofs.lemmas.Bool.{or_right, or_left, and_parts, not-true, not-false}
 use Rattle.trs_defs.specs.Member.{In}
 use Rattle.trs_defs.specs.Variable.{is_listed}
 use Rattle.trs_defs.specs.System.{System, IsSystem, RewriteRule}
@@ -12,7 +13,7 @@ use Rattle.assign_search.specs.Puzzle.{Puzzle, any_below, solution_of, is_soluti
 use Rattle.assign_search.specs.Searched.{IsAnswer}
 use Rattle.assign_search.specs.declared.search.Search.{Search}
 use Rattle.assign_search.specs.declared.search.Search.TheVariants.{Found, NotThere, Spent, Stopped}
-use Rattle.assign_search.proofs.Refuting.{or_left, or_right, and_true, not_true, not_false, any_below_each}
+use Rattle.assign_search.proofs.Refuting.{any_below_each}
 use Rattle.assign_search.proofs.Laws.{found_solves}
 use Rattle.term_pool.specs.Listed.{Listed}
 use Rattle.rewrite_core.specs.PlacedPeak.{PlacedPeak}
@@ -115,13 +116,13 @@ eqb_true m n h = grind (arith, nat_tests)
 pub solution_parts : (z : Puzzle) (p : List ℕ) → is_solution z p ≡ true → (length p ≡ z.slots) × (any_below (λ c. not (z.truth c p)) z.constraints ≡ false)
 unfolding is_solution
 solution_parts z p h =
-    let both = and_true (eqb (length p) z.slots) (not (any_below (λ c. not (z.truth c p)) z.constraints)) h in
-    (eqb_true (length p) z.slots both.0, not_true (any_below (λ c. not (z.truth c p)) z.constraints) both.1)
+    let both = and_parts (eqb (length p) z.slots) (not (any_below (λ c. not (z.truth c p)) z.constraints)) h in
+    (eqb_true (length p) z.slots both.0, not-true (any_below (λ c. not (z.truth c p)) z.constraints) both.1)
 
 true_at : (z : Puzzle) (p : List ℕ) → solution_of z ≡ Some p → (c : ℕ) → c < z.constraints → IsTrue (z.truth c p)
 true_at z p e c below =
     let parts = solution_parts z p (found_solves z p e).0 in
-    not_false (z.truth c p) (any_below_each (λ d. not (z.truth d p)) z.constraints c parts.1 below)
+    not-false (z.truth c p) (any_below_each (λ d. not (z.truth d p)) z.constraints c parts.1 below)
 
 same_paths : (system : System) → IsSystem system → (peak : PlacedPeak) (p q : PeakPaths) → ArePathsOf system.rules peak p → ArePathsOf system.rules peak q → p ≡ q
 same_paths system valid peak p q h k =

@@ -4,11 +4,11 @@ use Rattle.std.specs.Global.{Vec}
 use Rattle.std.proofs.Common.{zero, suc, refl, ap, ap₂, sym, ◌∙◌, arith}
 use Rattle.std.proofs.lemmas.Bool.Decides.{nat_tests}
 use Rattle.std.proofs.lemmas.Option.{unwrap_or-slice_get}
+use Rattle.std.proofs.lemmas.Bool.{or_right, or_left}
 use Rattle.trs_defs.specs.Member.{In, in_first, in_rest}
 use Rattle.trs_defs.specs.Variable.{is_listed}
 use Rattle.confluence_theory.specs.RuleRanks.{rank_of}
 use Rattle.assign_search.specs.Puzzle.{IsLawful}
-use Rattle.assign_search.proofs.Refuting.{or_left, or_right}
 use Rattle.label_find.specs.declared.meeting.Meeting.{Meeting}
 use Rattle.label_find.specs.declared.constraint.PeakConstraint.{PeakConstraint}
 use Rattle.label_find.specs.Constraint.{fit_after, some_fit, some_meet}

@@ -120,10 +120,6 @@ instance_tokens σ t = sym (append-nil (tokens_of (apply σ t))) ∙ (tokens_of_
 pub next_tokens : (ts : List Term) (i : ℕ) (t : Term) → i < length ts → t ≡ get_or ts i t → tokens_of_all (forest (drop i ts)) ≡ tokens_of (tree t) ++ tokens_of_all (forest (drop (i + 1) ts))
 next_tokens ts i t h e = ap (λ us. tokens_of_all (forest us)) (cell ts i t h e)
 
-pub count_forest : (ts : List Term) → count (forest ts) ≡ length ts
-count_forest [] = refl
-count_forest (t ∷ ts) = omega (arith, count_forest ts)
-
 pub few_arguments : (ts : List Term) → length ts ≤ size_of_all (forest ts)
 few_arguments [] = omega arith
 few_arguments (t ∷ ts) = omega (arith, few_arguments ts, count_tokens (tree t), some_token (tree t))

@@ -60,7 +60,7 @@ of_closure rules c (p ∷ ps) a i = elim (in_either (attempts_at c p 0 rules) (a
   | inr j ↦ of_closure rules c ps a j
 ]
 
-attempt_source : (rules : List RewriteRule) (cs : List Closure) (a : Attempt) → In a (attempts_in rules cs) → In a.closure cs
+pub attempt_source : (rules : List RewriteRule) (cs : List Closure) (a : Attempt) → In a (attempts_in rules cs) → In a.closure cs
 attempt_source rules [] a i = elim i [ ]
 attempt_source rules (c ∷ cs) a i = elim (in_either (attempts_of rules c (symbol_places c.right)) (attempts_in rules cs) i) [
   | inl j ↦ subst (λ z. In z (c ∷ cs)) (sym (of_closure rules c (symbol_places c.right) a j)) in_first

@@ -3,6 +3,7 @@ use Rattle.std.specs.Prelude.{◌||◌, if◌then◌else◌, MatchOption}
 use Rattle.std.proofs.Common.{◌≡◌, ℕ, ◌+◌, ◌<◌, ◌≤◌, inl, inr, Bool, true, false, List, [], ◌∷◌, ◌++◌, length, Option, Some, None, IsTrue, refl, ap, sym, ◌∙◌, subst, arith, slice_get, length-append}
 use Rattle.std.proofs.lemmas.Option.{same_Some, slice_get-get_or}
 use Rattle.std.specs.BTreeMap.{BTreeMap}
+use Rattle.std.proofs.lemmas.Bool.{or_left, or_right, or_cases}
 use Rattle.trs_defs.specs.Tree.{Tree, Trees, var, app, nil, cons}
 use Rattle.trs_defs.specs.Variable.{has_var, is_listed, with_variables, with_variables_of_all}
 use Rattle.trs_defs.specs.Size.{size_of, size_of_all}
@@ -13,7 +14,6 @@ use Rattle.trs_defs.specs.System.{RewriteRule}
 use Rattle.trs_defs.specs.Unifier.{IsMostGeneralUnifier}
 use Rattle.trs_defs.proofs.Substitutions.{apply_apply, same_instance}
 use Rattle.trs_defs.proofs.ArgumentLists.{depth_le_size}
-use Rattle.trs_defs.proofs.VariableLaws.{or_cases, or_left, or_right}
 use Rattle.trs_defs.proofs.Contexts.{replaced_somehow}
 use Rattle.trs_defs.proofs.Limits.{size_replaced}
 use Rattle.trs_core.specs.SystemLimits.{HasSmallVariables}
@@ -23,6 +23,7 @@ use Rattle.trs_unify.proofs.NewNames.{length_first, renamed_still}
 use Rattle.confluence_theory.proofs.Apart.{glue, glue_low, apply_high, part_variable}
 use Rattle.crit_pairs.specs.Apart.{renamed_apart}
 use Rattle.crit_pairs.proofs.InstanceVariables.{replaced_instance}
+use Rattle.crit_pairs.proofs.Renumbering.{renamed_size}
 use Rattle.loop_find.specs.Closures.{IsNarrowing, IsSmallSide}
 use Rattle.loop_find.specs.Narrowed.{NarrowsToTrees, NarrowsTo, NarrowsNot, IsMade, IsLarge}
 use Rattle.loop_find.specs.Flat.{tokens_of}
@@ -153,9 +154,6 @@ few_names old new t u h =
     let counted = ap length h.counted in
     let most = count_variables (first_numbers (length old)) u in
     omega (arith, counted, most, length_first (length old), length_first (length new))
-
-renamed_size : (old new : List ℕ) (t u : Tree) → IsRenamed old new t u → size_of u ≡ size_of t
-renamed_size old new t u r = sym (size_named (old_name new) u) ∙ ap size_of r.back
 
 -- ---- the narrowing that is made
 

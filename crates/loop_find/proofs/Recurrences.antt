@@ -10,6 +10,7 @@ use Rattle.trs_defs.proofs.ArgumentLists.{count_apply_all}
 use Rattle.trs_core.specs.declared.terms.Term.{Term}
 use Rattle.trs_core.specs.View.{tree, forest}
 use Rattle.trs_core.proofs.Lookups.{items_forest, slice_get_map}
+use Rattle.trs_core.proofs.Comparing.{count_forest}
 use Rattle.term_pool.specs.Redexes.{IsEarlier}
 use Rattle.loop_find.specs.LoopRow.{Recurs, RecursFirst}
 use Rattle.loop_find.specs.Instances.{Leads}
@@ -25,10 +26,6 @@ other_root f g fs gs t u is_t is_u ne σ τ e =
     let args : apply_all σ (forest fs) ≡ apply_all τ (forest gs) = cc (whole) in
     let same : f ≡ g = cc (whole) in
     ne same (omega (arith, ap count args, count_apply_all σ (forest fs), count_apply_all τ (forest gs), count_forest fs, count_forest gs))
-  where
-    count_forest : (ts : List Term) → count (forest ts) ≡ length ts
-    count_forest [] = refl
-    count_forest (t ∷ ts) = omega (arith, count_forest ts)
 
 item_image : (σ : ℕ → Tree) (ts : List Term) (i : ℕ) (x : Term) → slice_get ts i ≡ Some x → slice_get (items (apply_all σ (forest ts))) i ≡ Some (apply σ (tree x))
 item_image σ [] i x e = absurd cc

@@ -5,6 +5,7 @@ use Rattle.std.specs.Str.{bytes_eq}
 use Rattle.std.proofs.lemmas.Bool.{and_parts, and_from, or_parts, or_from, not-true, false_from_ne_true}
 use Rattle.std.proofs.lemmas.List.{map-append}
 use Rattle.std.proofs.lemmas.Slice.Eq.{bytes_eq-Decides}
+use Rattle.std.proofs.lemmas.Option.{same_Some}
 use Rattle.names_text.specs.Names.{number_among, are_distinct}
 use Rattle.names_text.specs.Symbols.{Declared, names_of, arities_of, one_behind, symbol_named}
 use Rattle.names_text.specs.declared.table.Symbol.{Symbol}
@@ -52,18 +53,15 @@ distinct_symbol symbols name n e h =
 
 -- ---- symbols by their names
 
-some_same : {A : Type 0} (x y : A) → Some x ≡ Some y → x ≡ y
-some_same x y e = cc
-
 known_behind : (b : Bool) (a : ℕ) (arities : List ℕ) (o : Option Symbol) (s : Symbol) → cond b (Some (record { number = 0; arity = a })) (option_map one_behind o) ≡ Some s
     → ((r : Symbol) → o ≡ Some r → slice_get arities r.number ≡ Some r.arity) → slice_get (a ∷ arities) s.number ≡ Some s.arity
 known_behind true a arities o s e h =
     let P : Symbol → Type 0 = λ r. slice_get (a ∷ arities) r.number ≡ Some r.arity in
-    subst P (some_same (record { number = 0; arity = a }) s e) refl
+    subst P (same_Some (record { number = 0; arity = a }) s e) refl
 known_behind false a arities None s e h = absurd cc
 known_behind false a arities (Some r) s e h =
     let P : Symbol → Type 0 = λ q. slice_get (a ∷ arities) q.number ≡ Some q.arity in
-    subst P (some_same (one_behind r) s e) (h r refl)
+    subst P (same_Some (one_behind r) s e) (h r refl)
 
 -- a symbol that is found takes the arguments that its arity says
 pub symbol_known : (symbols : List Declared) (name : List ℕ) (s : Symbol) → symbol_named symbols name ≡ Some s → slice_get (arities_of symbols) s.number ≡ Some s.arity

@@ -1,5 +1,6 @@
 -- Terms that are apart by their caps are not joinable.
 use Rattle.std.proofs.Common.{◌↔◌, ℕ, ◌<◌, max, Bool, true, IsTrue, List, inl, inr, sym, ◌∙◌, subst, arith}
+use Rattle.std.proofs.lemmas.Bool.{or_left, or_right, or_cases}
 use Rattle.trs_defs.specs.Tree.{Tree}
 use Rattle.trs_defs.specs.Variable.{has_var}
 use Rattle.trs_defs.specs.System.{RewriteRule, System, IsSystem}
@@ -7,7 +8,6 @@ use Rattle.trs_defs.specs.Step.{Step}
 use Rattle.trs_defs.specs.Derivation.{Reaches}
 use Rattle.trs_defs.specs.Joinable.{IsJoinable}
 use Rattle.trs_defs.specs.Substitution.{apply}
-use Rattle.trs_defs.proofs.VariableLaws.{or_left, or_right, or_cases}
 use Rattle.trs_caps.specs.Caps.{Leaves, IsCapWith}
 use Rattle.trs_caps.specs.HoledTree.{HoledTree, Fits}
 use Rattle.trs_caps.specs.HoledCap.{IsHoledCap}

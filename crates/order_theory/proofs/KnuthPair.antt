@@ -71,10 +71,10 @@ module _ (arity : ℕ → Option ℕ) (w rank : ℕ → ℕ) (admissible : IsAdm
   }
 
 -- well-formed terms, plain and marked, are terms of the arities with marks
-arity_below : (arities : List ℕ) (f n : ℕ) → f < 4096 → slice_get arities f ≡ Some n → arity_with_marks arities f ≡ Some n
+pub arity_below : (arities : List ℕ) (f n : ℕ) → f < 4096 → slice_get arities f ≡ Some n → arity_with_marks arities f ≡ Some n
 arity_below arities f n lt e = let test : nat_lt f 4096 ≡ true = grind arith in rw test e
 
-arity_above : (arities : List ℕ) (f n : ℕ) → slice_get arities f ≡ Some n → arity_with_marks arities (f + 4096) ≡ Some n
+pub arity_above : (arities : List ℕ) (f n : ℕ) → slice_get arities f ≡ Some n → arity_with_marks arities (f + 4096) ≡ Some n
 arity_above arities f n e =
     let test : nat_lt (f + 4096) 4096 ≡ false = grind arith in let same : f + 4096 - 4096 ≡ f = omega arith in rw test (rw same e)
 

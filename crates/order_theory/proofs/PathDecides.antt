@@ -1,25 +1,16 @@
 -- The test decides the order.
 use Rattle.std.proofs.Common.{◌≡◌, inl, inr, ℕ, ◌<◌, refl, sym, ap, subst, arith, List, Bool, true, false, cond, ◌||◌, ◌&&◌, nat_eq, nat_lt, Decides, true≢false}
-use Rattle.std.proofs.lemmas.Bool.{eqb-true, eq-eqb}
+use Rattle.std.proofs.lemmas.Bool.{eqb-true, eq-eqb, and_parts, and_from, or_left, or_right, or_cases}
 use Rattle.trs_defs.specs.Tree.{Tree, var, app, Trees, nil, cons, count}
 use Rattle.pair_theory.specs.Accessible.{Acc, acc}
 use Rattle.trs_defs.specs.Every.{Every, every_nil, every_cons}
 use Rattle.order_theory.specs.PathOrder.{PathGreater, by_arg, by_rank, by_lex, SomeAtLeast, equal_here, greater_here, further, GreaterThanAll, all_nil, all_cons, LexGreater, lex_here, lex_later}
 use Rattle.order_theory.specs.PathTest.{same_tree, same_trees, some_at_least, lex_greater, app_greater, app_greater_than_all, path_greater, path_greater_each}
 use Rattle.trs_defs.proofs.EqualTerms.{join_app, join_cons}
-use Rattle.trs_defs.proofs.VariableLaws.{or_left, or_right, or_cases}
 use Rattle.order_theory.proofs.PathAccessible.{path_acc, all_head, all_tail, var_least}
 
 or_case : {P : Type 0} (a b : Bool) → (a || b) ≡ true → (a ≡ true → P) → (b ≡ true → P) → P
 or_case a b e f g = elim (or_cases a b e) [ inl h ↦ f h | inr h ↦ g h ]
-
-and_case : (a b : Bool) → (a && b) ≡ true → (a ≡ true) × (b ≡ true)
-and_case true b e = (refl, e)
-and_case false b e = absurd (true≢false (sym e))
-
-and_both : (a b : Bool) → a ≡ true → b ≡ true → (a && b) ≡ true
-and_both true b e e' = e'
-and_both false b e e' = absurd (true≢false (sym e))
 
 nat_lt_is : (m n : ℕ) → nat_lt m n ≡ true → m < n
 nat_lt_is m n e = grind arith
@@ -32,27 +23,27 @@ mutual
   same_is (var x) (var y) e = ap var (eqb-true x y e)
   same_is (var x) (app g ts) e = absurd (true≢false (sym e))
   same_is (app f ss) (var y) e = absurd (true≢false (sym e))
-  same_is (app f ss) (app g ts) e = let h : (nat_eq f g ≡ true) × (same_trees ss ts ≡ true) = and_case (nat_eq f g) (same_trees ss ts) e in join_app (eqb-true f g h.0) (sames_is ss ts h.1)
+  same_is (app f ss) (app g ts) e = let h : (nat_eq f g ≡ true) × (same_trees ss ts ≡ true) = and_parts (nat_eq f g) (same_trees ss ts) e in join_app (eqb-true f g h.0) (sames_is ss ts h.1)
 
   sames_is : (ss ts : Trees) → same_trees ss ts ≡ true → ss ≡ ts
   sames_is nil nil e = refl
   sames_is nil (cons t ts) e = absurd (true≢false (sym e))
   sames_is (cons s ss) nil e = absurd (true≢false (sym e))
-  sames_is (cons s ss) (cons t ts) e = let h : (same_tree s t ≡ true) × (same_trees ss ts ≡ true) = and_case (same_tree s t) (same_trees ss ts) e in join_cons (same_is s t h.0) (sames_is ss ts h.1)
+  sames_is (cons s ss) (cons t ts) e = let h : (same_tree s t ≡ true) × (same_trees ss ts ≡ true) = and_parts (same_tree s t) (same_trees ss ts) e in join_cons (same_is s t h.0) (sames_is ss ts h.1)
 
 mutual
   pub same_self : (t : Tree) → same_tree t t ≡ true
   same_self (var x) = eq-eqb x x refl
-  same_self (app f ts) = and_both (nat_eq f f) (same_trees ts ts) (eq-eqb f f refl) (sames_self ts)
+  same_self (app f ts) = and_from (nat_eq f f) (same_trees ts ts) (eq-eqb f f refl) (sames_self ts)
 
   sames_self : (ts : Trees) → same_trees ts ts ≡ true
   sames_self nil = refl
-  sames_self (cons t ts) = and_both (same_tree t t) (same_trees ts ts) (same_self t) (sames_self ts)
+  sames_self (cons t ts) = and_from (same_tree t t) (same_trees ts ts) (same_self t) (sames_self ts)
 
-irreflexive : {A : Type 0} {r : A → A → Type 0} {x : A} → Acc r x → r x x → ⊥
+pub irreflexive : {A : Type 0} {r : A → A → Type 0} {x : A} → Acc r x → r x x → ⊥
 irreflexive {x = x} (acc h) s = irreflexive (h x s) s
 
-arg_case : {P : Type 0} {rank : ℕ → ℕ} {f y : ℕ} {ss : Trees} → PathGreater rank (app f ss) (var y) → (SomeAtLeast rank ss (var y) → P) → P
+pub arg_case : {P : Type 0} {rank : ℕ → ℕ} {f y : ℕ} {ss : Trees} → PathGreater rank (app f ss) (var y) → (SomeAtLeast rank ss (var y) → P) → P
 arg_case (by_arg p) k = k p
 
 head_case : {P : Type 0} {rank : ℕ → ℕ} {f h : ℕ} {ss us : Trees} → PathGreater rank (app f ss) (app h us)
@@ -97,13 +88,13 @@ module _ (rank : ℕ → ℕ) where
   lex_is (cons s ss) nil ks e = absurd (true≢false (sym e))
   lex_is (cons s ss) (cons t ts) (every_cons k ks) e = cond_case (same_tree s t) (lex_greater ss (path_greater_each rank ss) ts) (path_greater rank s t && nat_eq (count ss) (count ts)) e
       (λ h l. subst (λ z. LexGreater rank (cons s ss) (cons z ts)) (same_is s t h) (lex_later (lex_is ss ts ks l)))
-      (λ h. let p : (path_greater rank s t ≡ true) × (nat_eq (count ss) (count ts) ≡ true) = and_case (path_greater rank s t) (nat_eq (count ss) (count ts)) h in lex_here ((k t).0 p.0) (eqb-true (count ss) (count ts) p.1))
+      (λ h. let p : (path_greater rank s t ≡ true) × (nat_eq (count ss) (count ts) ≡ true) = and_parts (path_greater rank s t) (nat_eq (count ss) (count ts)) h in lex_here ((k t).0 p.0) (eqb-true (count ss) (count ts) p.1))
 
   is_lex : {ss ts : Trees} → Every Tested ss → LexGreater rank ss ts → lex_greater ss (path_greater_each rank ss) ts ≡ true
   is_lex every_nil l = elim l [ ]
   is_lex (every_cons {t = s} {ts = ss} k ks) (lex_here {t = t} {ts = ts} g e) =
       cond_false (same_tree s t) (lex_greater ss (path_greater_each rank ss) ts) (path_greater rank s t && nat_eq (count ss) (count ts)) (λ h. not_self (subst (λ z. PathGreater rank z t) (same_is s t h) g))
-      (and_both (path_greater rank s t) (nat_eq (count ss) (count ts)) ((k t).1 g) (eq-eqb (count ss) (count ts) e))
+      (and_from (path_greater rank s t) (nat_eq (count ss) (count ts)) ((k t).1 g) (eq-eqb (count ss) (count ts) e))
   is_lex (every_cons {t = s} {ts = ss} k ks) (lex_later {ts = ts} l) =
       cond_true (same_tree s s) (lex_greater ss (path_greater_each rank ss) ts) (path_greater rank s s && nat_eq (count ss) (count ts)) (same_self s) (is_lex ks l)
 
@@ -115,10 +106,10 @@ module _ (rank : ℕ → ℕ) where
     first_case g ts e all = or_case (some_at_least ss gs (app g ts)) ((nat_lt (rank g) (rank f) || (nat_eq f g && lex_greater ss gs ts)) && app_greater_than_all rank f ss gs ts) e
         (λ h. by_arg (some_is ss (app g ts) ks h))
         (λ h. let p : ((nat_lt (rank g) (rank f) || (nat_eq f g && lex_greater ss gs ts)) ≡ true) × (app_greater_than_all rank f ss gs ts ≡ true) =
-        and_case (nat_lt (rank g) (rank f) || (nat_eq f g && lex_greater ss gs ts)) (app_greater_than_all rank f ss gs ts) h in
+        and_parts (nat_lt (rank g) (rank f) || (nat_eq f g && lex_greater ss gs ts)) (app_greater_than_all rank f ss gs ts) h in
         or_case (nat_lt (rank g) (rank f)) (nat_eq f g && lex_greater ss gs ts) p.0
         (λ r. by_rank (nat_lt_is (rank g) (rank f) r) (all p.1))
-        (λ q. let m : (nat_eq f g ≡ true) × (lex_greater ss gs ts ≡ true) = and_case (nat_eq f g) (lex_greater ss gs ts) q in
+        (λ q. let m : (nat_eq f g ≡ true) × (lex_greater ss gs ts ≡ true) = and_parts (nat_eq f g) (lex_greater ss gs ts) q in
         subst (λ k. PathGreater rank (app f ss) (app k ts)) (eqb-true f g m.0) (by_lex (lex_is ss ts ks m.1) (all p.1))))
 
     mutual
@@ -128,7 +119,7 @@ module _ (rank : ℕ → ℕ) where
 
       above_all_is : (ts : Trees) → app_greater_than_all rank f ss gs ts ≡ true → GreaterThanAll rank (app f ss) ts
       above_all_is nil e = all_nil
-      above_all_is (cons t ts) e = let h : (app_greater rank f ss gs t ≡ true) × (app_greater_than_all rank f ss gs ts ≡ true) = and_case (app_greater rank f ss gs t) (app_greater_than_all rank f ss gs ts) e in
+      above_all_is (cons t ts) e = let h : (app_greater rank f ss gs t ≡ true) × (app_greater_than_all rank f ss gs ts ≡ true) = and_parts (app_greater rank f ss gs t) (app_greater_than_all rank f ss gs ts) e in
           all_cons (above_is t h.0) (above_all_is ts h.1)
 
     above_some : (t : Tree) → some_at_least ss gs t ≡ true → app_greater rank f ss gs t ≡ true
@@ -137,7 +128,7 @@ module _ (rank : ℕ → ℕ) where
 
     above_head : (g : ℕ) (ts : Trees) → (nat_lt (rank g) (rank f) || (nat_eq f g && lex_greater ss gs ts)) ≡ true → app_greater_than_all rank f ss gs ts ≡ true → app_greater rank f ss gs (app g ts) ≡ true
     above_head g ts e e' = or_right (some_at_least ss gs (app g ts)) ((nat_lt (rank g) (rank f) || (nat_eq f g && lex_greater ss gs ts)) && app_greater_than_all rank f ss gs ts)
-        (and_both (nat_lt (rank g) (rank f) || (nat_eq f g && lex_greater ss gs ts)) (app_greater_than_all rank f ss gs ts) e e')
+        (and_from (nat_lt (rank g) (rank f) || (nat_eq f g && lex_greater ss gs ts)) (app_greater_than_all rank f ss gs ts) e e')
 
     to_var : {y : ℕ} → PathGreater rank (app f ss) (var y) → some_at_least ss gs (var y) ≡ true
     to_var g = arg_case g (λ p. is_some ks p)
@@ -146,7 +137,7 @@ module _ (rank : ℕ → ℕ) where
     second_case h us g all = head_case g
         (λ p. above_some (app h us) (is_some ks p))
         (λ r gs'. above_head h us (or_left (nat_lt (rank h) (rank f)) (nat_eq f h && lex_greater ss gs us) (nat_lt_of (rank h) (rank f) r)) (all gs'))
-        (λ e l gs'. above_head h us (or_right (nat_lt (rank h) (rank f)) (nat_eq f h && lex_greater ss gs us) (and_both (nat_eq f h) (lex_greater ss gs us) (eq-eqb f h e) (is_lex ks l))) (all gs'))
+        (λ e l gs'. above_head h us (or_right (nat_lt (rank h) (rank f)) (nat_eq f h && lex_greater ss gs us) (and_from (nat_eq f h) (lex_greater ss gs us) (eq-eqb f h e) (is_lex ks l))) (all gs'))
 
     mutual
       is_above : (t : Tree) → PathGreater rank (app f ss) t → app_greater rank f ss gs t ≡ true
@@ -155,7 +146,7 @@ module _ (rank : ℕ → ℕ) where
 
       is_above_all : (ts : Trees) → GreaterThanAll rank (app f ss) ts → app_greater_than_all rank f ss gs ts ≡ true
       is_above_all nil all = refl
-      is_above_all (cons t ts) all = and_both (app_greater rank f ss gs t) (app_greater_than_all rank f ss gs ts) (is_above t (all_head all)) (is_above_all ts (all_tail all))
+      is_above_all (cons t ts) all = and_from (app_greater rank f ss gs t) (app_greater_than_all rank f ss gs ts) (is_above t (all_head all)) (is_above_all ts (all_tail all))
 
   mutual
     pub path_decides : (s : Tree) → Tested s

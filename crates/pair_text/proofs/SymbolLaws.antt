@@ -1,11 +1,12 @@
 -- Symbols by their names: what is read, and what is read again.
-use Rattle.std.proofs.Common.{◌≡◌, inl, inr, ℕ, zero, suc, ◌+◌, ◌-◌, ◌<◌, ◌≤◌, min, nat_lt, ◌⊎◌, Bool, true, false, cond, List, [], ◌∷◌, length, get_or, Option, Some, None, option_map, slice_get, Ok, Err, codes, refl, sym, ap, subst, ◌∙◌, arith}
+use Rattle.std.proofs.Common.{◌≡◌, inl, inr, ℕ, zero, suc, ◌+◌, ◌<◌, ◌≤◌, min, nat_lt, ◌⊎◌, Bool, true, false, cond, List, [], ◌∷◌, length, get_or, Option, Some, None, option_map, slice_get, Ok, Err, codes, refl, sym, ap, subst, ◌∙◌, arith}
 use Rattle.std.specs.List.{list_all}
-use Rattle.std.proofs.lemmas.Bool.{and_parts, lt-ltb, le-ltb, ltb-true, ltb-false}
+use Rattle.std.proofs.lemmas.Bool.{and_parts, ltb-true, ltb-false}
 use Rattle.std.proofs.lemmas.Option.{slice_get_within, get_or_from_slice_get}
 use Rattle.sexp_core.specs.Items.{Item, a_word, a_list}
 use Rattle.sexp_core.specs.Printed.{IsWord}
 use Rattle.order_theory.specs.KnuthBendix.{arity_with_marks}
+use Rattle.order_theory.proofs.KnuthPair.{arity_below, arity_above}
 use Rattle.names_text.specs.Named.{NamedSystem, IsNamed, is_word, table_of}
 use Rattle.names_text.specs.Symbols.{paired, symbol_named}
 use Rattle.names_text.specs.declared.table.Symbol.{Symbol}
@@ -19,9 +20,6 @@ use Rattle.text_reading.proofs.Again.{Spells, spells_by, spells_word, spells_pos
 use Rattle.pair_text.specs.Symbols.{symbol_at, symbol, marks, mark, with_mark, marked_symbol, argument_place, mark_word, unmarked, name_of, name_item}
 
 -- ---- what is read
-
-some_same : {A : Type 0} (x y : A) → Some x ≡ Some y → x ≡ y
-some_same x y e = cc
 
 pub known_arity : (named : NamedSystem) (w : List ℕ) (s : Symbol) → symbol_named (table_of named) w ≡ Some s → slice_get named.system.arities s.number ≡ Some s.arity
 known_arity named w s e = arity_kept named.names named.system.arities s.number s.arity (symbol_known (table_of named) w s e)
@@ -47,23 +45,14 @@ IsAdded n = (n ≡ 0) ⊎ (n ≡ 4096)
 mark_made : Makes mark IsAdded
 mark_made = made_word marks IsAdded (inl refl, (inr refl, tt))
 
-plain_arity : (arities : List ℕ) (f n : ℕ) → f < 4096 → slice_get arities f ≡ Some n → arity_with_marks arities f ≡ Some n
-plain_arity arities f n lt e = let test : nat_lt f 4096 ≡ true = lt-ltb f 4096 lt in rw test e
-
-marked_arity : (arities : List ℕ) (f n : ℕ) → slice_get arities f ≡ Some n → arity_with_marks arities (f + 4096) ≡ Some n
-marked_arity arities f n e =
-    let test : nat_lt (f + 4096) 4096 ≡ false = le-ltb (f + 4096) 4096 (omega arith) in
-    let same : f + 4096 - 4096 ≡ f = omega arith in
-    rw test (rw same e)
-
 added_arity : (arities : List ℕ) → length arities ≤ 4095 → (added f n : ℕ) → IsAdded added → slice_get arities f ≡ Some n → arity_with_marks arities (f + added) ≡ Some n
 added_arity arities few added f n (inl is) e =
     let T : ℕ → Type 0 = λ g. arity_with_marks arities g ≡ Some n in
     let same : f ≡ f + added = omega arith in
-    subst T same (plain_arity arities f n (omega (arith, slice_get_within arities f n e)) e)
+    subst T same (arity_below arities f n (omega (arith, slice_get_within arities f n e)) e)
 added_arity arities few added f n (inr is) e =
     let T : ℕ → Type 0 = λ g. arity_with_marks arities (f + g) ≡ Some n in
-    subst T (sym is) (marked_arity arities f n e)
+    subst T (sym is) (arity_above arities f n e)
 
 pub marked_made : (named : NamedSystem) → length named.system.arities ≤ 4095 → (head name : Item) (v : Symbol) → marked_symbol named head name ≡ Ok v
     → arity_with_marks named.system.arities v.number ≡ Some v.arity

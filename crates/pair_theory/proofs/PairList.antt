@@ -1,6 +1,6 @@
 -- The list of the dependency pairs has each of them, and pairs over the system's arities alone.
 use Rattle.std.proofs.Common.{◌≡◌, ℕ, refl, sym, ap, subst, ◌∙◌, ◌⊎◌, inl, inr, List, [], ◌∷◌, ◌++◌, Bool, true, false, ◌||◌, ◌==◌}
-use Rattle.std.proofs.lemmas.Bool.{eqb-true, eq-eqb}
+use Rattle.std.proofs.lemmas.Bool.{eqb-true, eq-eqb, or_right}
 use Rattle.trs_defs.specs.Member.{In, in_first, in_rest}
 use Rattle.trs_defs.specs.Tree.{Tree, Trees, var, app, nil, cons}
 use Rattle.trs_defs.specs.WellFormed.{IsWellFormed, AreWellFormed}
@@ -10,7 +10,6 @@ use Rattle.pair_theory.specs.Marked.{Marked, marked, plain}
 use Rattle.pair_theory.specs.DependencyPair.{IsDependencyPair, from_rule, DependencyPair, subterms, subterms_of_all, keep_if, pairs_to, pairs_of, pairs_of_each, dependency_pairs}
 use Rattle.pair_theory.specs.PairProblem.{PairAmong, IsPair}
 use Rattle.trs_defs.proofs.Members.{in_left, in_right, in_either, no_in, in_or}
-use Rattle.trs_defs.proofs.VariableLaws.{or_right}
 use Rattle.pair_theory.proofs.Subterms.{below_root, subs_of_has, has_of_subs, sub_trans}
 use Rattle.pair_theory.proofs.Systems.{left_over, right_over, no_new_variables}
 

@@ -3,19 +3,13 @@ use Rattle.std.proofs.Common.{◌≡◌, ℕ, ◌+◌, ◌≤◌, ◌<◌, ◌�
 use Rattle.std.proofs.lemmas.Bool.{eqb-true, eq-eqb}
 use Rattle.trs_defs.specs.Tree.{Tree, Trees, var, app, nil, cons, count}
 use Rattle.trs_defs.proofs.EqualTerms.{app_root, app_args}
-use Rattle.pair_theory.specs.Accessible.{Acc, acc}
 use Rattle.order_theory.specs.PathOrder.{PathGreater, by_arg, by_rank, by_lex, SomeAtLeast, equal_here, greater_here, further, GreaterThanAll, all_nil, all_cons, LexGreater, lex_here, lex_later}
 use Rattle.order_theory.proofs.PathAccessible.{path_acc, var_least, lex_count, all_head, all_tail}
 use Rattle.order_theory.proofs.PathLaws.{Mem, mem_head, mem_tail, greater_trans}
+use Rattle.order_theory.proofs.PathDecides.{irreflexive, arg_case}
 use Rattle.path_lpo.specs.declared.comparison.Comparison.{Comparison}
 use Rattle.path_lpo.specs.declared.comparison.Comparison.TheVariants.{Same, Greater, Neither}
 use Rattle.path_lpo.specs.Comparison.{IsComparison, same_if, greater_if, is_greater, is_at_least}
-
-irreflexive : {A : Type 0} {r : A → A → Type 0} {x : A} → Acc r x → r x x → ⊥
-irreflexive {x = x} (acc h) s = irreflexive (h x s) s
-
-to_var : {P : Type 0} {rank : ℕ → ℕ} {f y : ℕ} {ss : Trees} → PathGreater rank (app f ss) (var y) → (SomeAtLeast rank ss (var y) → P) → P
-to_var (by_arg p) k = k p
 
 to_app : {P : Type 0} {rank : ℕ → ℕ} {f g : ℕ} {ss ts : Trees} → PathGreater rank (app f ss) (app g ts)
     → (SomeAtLeast rank ss (app g ts) → P) → (rank g < rank f → GreaterThanAll rank (app f ss) ts → P) → (f ≡ g → LexGreater rank ss ts → P) → P
@@ -85,7 +79,7 @@ module _ (rank : ℕ → ℕ) where
     variable_second y is_t test =
         decided s t b (SomeAtLeast rank ss t) (λ same. let k : app f ss ≡ var y = cc in absurd cc) test
         (λ p. subst (λ u. PathGreater rank u t) is_s (by_arg p))
-        (λ g. subst (SomeAtLeast rank ss) is_t (to_var (subst (PathGreater rank (app f ss)) (sym is_t) (subst (λ u. PathGreater rank u t) (sym is_s) g)) (λ p. p))) c e
+        (λ g. subst (SomeAtLeast rank ss) is_t (arg_case (subst (PathGreater rank (app f ss)) (sym is_t) (subst (λ u. PathGreater rank u t) (sym is_s) g)) (λ p. p))) c e
 
     module _ (g : ℕ) (ts : Trees) (is_t : app g ts ≡ t) where
       above : PathGreater rank s t → PathGreater rank (app f ss) (app g ts)

@@ -1,9 +1,10 @@
 -- The number of a path is that of its text.
-use Rattle.std.proofs.Common.{◌≡◌, ℕ, suc, ◌==◌, ◌&&◌, Bool, true, false, cond, List, [], ◌∷◌, map, Option, Some, option_map, refl, sym, ap, ap₂, subst, ◌∙◌}
+use Rattle.std.proofs.Common.{◌≡◌, ℕ, suc, ◌==◌, ◌&&◌, Bool, true, cond, List, [], ◌∷◌, map, Option, Some, option_map, refl, ap, ap₂, subst, ◌∙◌}
 use Rattle.std.specs.List.{AllByRecursion}
 use Rattle.std.specs.Str.{bytes_eq}
 use Rattle.std.proofs.lemmas.Bool.{and_parts, eqb-true, eq-eqb}
 use Rattle.std.proofs.lemmas.Slice.Eq.{bytes_eq-Decides}
+use Rattle.std.proofs.lemmas.Bool.Decides.{same_from_decides}
 use Rattle.trs_defs.specs.Path.{PlacedRule}
 use Rattle.names_text.specs.Names.{number_among}
 use Rattle.path_text.specs.PathNames.{is_same_path, path_number}
@@ -27,18 +28,11 @@ pub is_itself : (p : List PlacedRule) → is_same_path p p ≡ true
 is_itself [] = refl
 is_itself (s ∷ p) = rw ((bytes_eq-Decides s.place s.place).1 refl, eq-eqb s.rule s.rule refl, is_itself p) refl
 
--- two tests that say the same
-same_tests : (a b : Bool) → (a ≡ true → b ≡ true) → (b ≡ true → a ≡ true) → a ≡ b
-same_tests true true f g = refl
-same_tests true false f g = sym (f refl)
-same_tests false true f g = g refl
-same_tests false false f g = refl
-
 pub texts_tell : (p q : List PlacedRule) → AllByRecursion IsPlacedInRange p → AllByRecursion IsPlacedInRange q → bytes_eq (path_text p) (path_text q) ≡ is_same_path p q
 texts_tell p q in_p in_q =
-    same_tests (bytes_eq (path_text p) (path_text q)) (is_same_path p q)
-    (λ e. (let T : List PlacedRule → Type 0 = λ r. is_same_path p r ≡ true in subst T (one_path p q in_p in_q ((bytes_eq-Decides (path_text p) (path_text q)).0 e)) (is_itself p)))
-    (λ e. (bytes_eq-Decides (path_text p) (path_text q)).1 (ap path_text (same_path p q e)))
+    same_from_decides {P = p ≡ q} (bytes_eq (path_text p) (path_text q)) (is_same_path p q)
+    ((λ e. one_path p q in_p in_q ((bytes_eq-Decides (path_text p) (path_text q)).0 e)), (λ same. (bytes_eq-Decides (path_text p) (path_text q)).1 (ap path_text same)))
+    (same_path p q, (λ same. let T : List PlacedRule → Type 0 = λ r. is_same_path p r ≡ true in subst T same (is_itself p)))
 
 pub number_by_text : (names : List (List PlacedRule)) (p : List PlacedRule) → AllByRecursion (AllByRecursion IsPlacedInRange) names → AllByRecursion IsPlacedInRange p
     → number_among (map path_text names) (path_text p) ≡ path_number names p

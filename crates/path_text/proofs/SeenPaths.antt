@@ -24,10 +24,6 @@ or_false : (b : Bool) → b || false ≡ b
 or_false true = refl
 or_false false = refl
 
-none_or_some : (o : Option ℕ) → is_some o ≡ false → o ≡ None
-none_or_some None e = refl
-none_or_some (Some k) e = absurd cc
-
 -- ---- one more path
 
 some_or : (a b : Bool) (n m : Option ℕ) → is_some n ≡ is_some m || b → is_some (cond a (Some 0) (option_map suc n)) ≡ is_some (cond a (Some 0) (option_map suc m)) || b

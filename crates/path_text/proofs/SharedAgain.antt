@@ -2,7 +2,7 @@
 use Rattle.std.proofs.Common.{◌≡◌, ℕ, zero, suc, ◌+◌, ◌≤◌, ◌<◌, ◌^◌, Bool, true, false, cond, List, [], ◌∷◌, ◌++◌, map, slice_get, Option, Some, None, option_map, Ok, codes, decimal, refl, sym, ap, subst, ◌∙◌, arith}
 use Rattle.std.specs.List.{AllByRecursion}
 use Rattle.std.proofs.lemmas.Bool.{le-leb}
-use Rattle.std.proofs.lemmas.List.{append-nil}
+use Rattle.std.proofs.lemmas.List.{append-nil, map-id}
 use Rattle.sexp_core.specs.Items.{Item, a_word, a_list, Items, no_items, item, items_of}
 use Rattle.std.proofs.lemmas.Option.{slice_get_within}
 use Rattle.sexp_core.specs.Tokens.{class_of, is_letter}
@@ -208,9 +208,6 @@ spells_in_turn {X} {A} read paths print become depth P names each s (x ∷ xs) h
         ∙ ap (λ (r : Read (List A)). Ok (λ zs. become x ∷ zs) <*> r) (more.again ys cc)
 
 -- each value is read as itself
-same_list : {A : Type 0} (xs : List A) → map (λ x. x) xs ≡ xs
-same_list [] = refl
-same_list (x ∷ xs) = ap (λ ys. x ∷ ys) (same_list xs)
 
 pub spells_each_in_turn : {A : Type 0} (read : Sharing → Item → Read A) (paths : A → List (List PlacedRule)) (print : A → Item) (depth : ℕ) (P : A → Type 0) (names : List (List PlacedRule))
     → ((s : Sharing) (x : A) → P x → Carries s names (paths_weight (paths x)) → Spells (read s) depth (print x) x)
@@ -219,7 +216,7 @@ pub spells_each_in_turn : {A : Type 0} (read : Sharing → Item → Read A) (pat
 spells_each_in_turn {A} read paths print depth P names each s xs h c =
     let T : List A → Type 0 = λ ys. SpellsAll (in_turn read paths s) depth (items_of (map print xs)) ys in
     let W : List A → Type 0 = λ ys. Carries s names (paths_weight (paths_in paths ys)) in
-    subst T (same_list xs) (spells_in_turn read paths print (λ x. x) depth P names each s xs h (subst W (sym (same_list xs)) c))
+    subst T (map-id xs) (spells_in_turn read paths print (λ x. x) depth P names each s xs h (subst W (sym (map-id xs)) c))
 
 pub spells_rest_in_turn : {A B : Type 0} (read : Sharing → Item → Read A) (paths : A → List (List PlacedRule)) (s : Sharing) {depth : ℕ} {xs : Items} {values : List A} (make : List A → B)
     → SpellsAll (in_turn read paths s) depth xs values → SpellsParts (rest_in_turn read paths s) depth xs make (make values)

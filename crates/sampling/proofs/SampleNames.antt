@@ -1,6 +1,6 @@
 -- The names of sample systems are words, and distinct.
 use Rattle.std.proofs.Common.{◌≡◌, ℕ, zero, suc, ◌+◌, ◌^◌, ◌<◌, ◌≤◌, Bool, true, false, cond, ◌&&◌, List, [], ◌∷◌, ◌++◌, length, Option, Some, None, option_map, is_none, codes, decimal, refl, ap, append_assoc, arith}
-use Rattle.std.specs.List.{AllByRecursion, list_all}
+use Rattle.std.specs.List.{list_all}
 use Rattle.std.specs.Str.{bytes_eq}
 use Rattle.std.proofs.lemmas.Bool.{false_from_ne_true}
 use Rattle.std.proofs.lemmas.Fmt.{decimal_injective}
@@ -8,6 +8,7 @@ use Rattle.std.proofs.lemmas.List.{append-nil, append_cancel_left, length-append
 use Rattle.std.proofs.lemmas.Slice.Eq.{bytes_eq-Decides}
 use Rattle.sexp_core.specs.Tokens.{class_of, is_letter}
 use Rattle.sexp_core.specs.Printed.{IsWord}
+use Rattle.sexp_core.proofs.Words.{all_letters}
 use Rattle.names_text.specs.Names.{number_among}
 use Rattle.names_text.specs.Named.{is_word}
 use Rattle.names_text.specs.NamesFault.{first_bad_name}
@@ -16,13 +17,9 @@ use Rattle.sampling.specs.Family.{function_name, names_to}
 
 -- ---- words
 
-letters_true : (bs : List ℕ) → AllByRecursion (λ x. is_letter (class_of x) ≡ true) bs → list_all (λ x. is_letter (class_of x)) bs ≡ true
-letters_true [] h = refl
-letters_true (b ∷ bs) h = rw (h.0, letters_true bs h.1) refl
-
 word_letters : (bs : List ℕ) → IsWord bs → list_all (λ x. is_letter (class_of x)) bs ≡ true
 word_letters [] h = absurd h
-word_letters (b ∷ bs) h = letters_true (b ∷ bs) h
+word_letters (b ∷ bs) h = all_letters (b ∷ bs) h
 
 f_is_letter : is_letter (class_of 102) ≡ true
 unfolding class_of

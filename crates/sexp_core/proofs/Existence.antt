@@ -7,7 +7,8 @@ use Rattle.sexp_core.specs.Items.{a_word, a_list, Items, no_items, item, spelled
 use Rattle.sexp_core.specs.Reads.{Reads, shape, first_fault, is_closed_by, first_unclosed, fault_of}
 use Rattle.sexp_core.specs.declared.fault.TextFault.{TextFault}
 use Rattle.sexp_core.specs.declared.fault.TextFault.TheVariants.{UnclosedAt}
-use Rattle.sexp_core.proofs.Stack.{is_closed-items, inner}
+use Rattle.sexp_core.proofs.Stack.{is_closed-items, is_closed-shape}
+use Rattle.sexp_core.proofs.Once.{inner}
 
 -- closing brackets, with the items behind each
 abbrev ends : List Items → List Token
@@ -28,15 +29,6 @@ else_none false x y e = e
 then_none : (b : Bool) (x : Option ℕ) (p : ℕ) → cond b x (Some p) ≡ None → (b ≡ true) × (x ≡ None)
 then_none true x p e = (refl, e)
 then_none false x p e = absurd cc
-
-is_closed-shape : (ts : List Token) (level : ℕ) → is_closed_by level (map shape ts) ≡ is_closed_by level ts
-unfolding is_closed_by
-is_closed-shape [] level = refl
-is_closed-shape (word w p ∷ ts) level = is_closed-shape ts level
-is_closed-shape (control p ∷ ts) level = is_closed-shape ts level
-is_closed-shape (opens p ∷ ts) level = is_closed-shape ts (suc level)
-is_closed-shape (closes p ∷ ts) zero = refl
-is_closed-shape (closes p ∷ ts) (suc level) = is_closed-shape ts level
 
 not_closed : (ts : List Token) (xs : Items) → map shape ts ≡ spelled_all xs ++ [] → is_closed_by 0 ts ≡ false
 unfolding is_closed_by

@@ -11,6 +11,7 @@ use Rattle.sexp_core.specs.declared.sexp.Sexp.{Sexp, Word as word_of}
 use Rattle.sexp_core.specs.declared.sexp.Word.{Word}
 use Rattle.sexp_core.specs.declared.reading.Opened.{Opened}
 use Rattle.sexp_core.proofs.Viewing.{view_word}
+use Rattle.sexp_core.proofs.Once.{inner}
 
 -- the tokens of the items from a number on, in the lists among them that are open, the outermost first
 abbrev pub taken : ℕ → List Opened → List Sexp → List Token
@@ -174,9 +175,6 @@ stands_close {depth} {all} {rest} {lists} {fewer} {items} {outer} {later} f whol
 
 -- ---- what is closed
 
-pub inner : (a xs : List Token) (ts : List Token) → ((a ++ closes 0 ∷ []) ++ xs) ++ ts ≡ a ++ (closes 0 ∷ (xs ++ ts))
-inner a xs ts = simp append_assoc
-
 pub is_closed-items : (xs : Items) (level : ℕ) (ts : List Token) → is_closed_by level (spelled_all xs ++ ts) ≡ is_closed_by level ts
 unfolding is_closed_by
 is_closed-items no_items level ts = refl
@@ -208,7 +206,7 @@ first_unclosed-taken f fs xs =
     first_unclosed-items (views (take (f.first - 0) xs)) (opens f.place ∷ taken f.first fs (drop (f.first - 0) xs))
     ∙ rw (never_closed f.first fs (drop (f.first - 0) xs) 0) refl
 
-is_closed-shape : (ts : List Token) (level : ℕ) → is_closed_by level (map shape ts) ≡ is_closed_by level ts
+pub is_closed-shape : (ts : List Token) (level : ℕ) → is_closed_by level (map shape ts) ≡ is_closed_by level ts
 unfolding is_closed_by
 is_closed-shape [] level = refl
 is_closed-shape (word w p ∷ ts) level = is_closed-shape ts level

@@ -1,5 +1,7 @@
 -- Every word of the items that a text is read as is one or more letters.
 use Rattle.std.proofs.Common.{◌≡◌, ℕ, ◌+◌, Bool, true, false, List, [], ◌∷◌, ◌++◌, map, refl, subst, ap}
+use Rattle.std.specs.List.{AllByRecursion, list_all}
+use Rattle.std.proofs.lemmas.Bool.{and_from}
 use Rattle.sexp_core.specs.Tokens.{Token, opens, closes, word, control, tokens, with_byte, with_letter, lengthened, seen_as, comment_after, begins_word, class_of, is_letter}
 use Rattle.sexp_core.specs.Items.{Item, a_word, a_list, Items, no_items, item, spelled, spelled_all}
 use Rattle.sexp_core.specs.Reads.{Reads, shape}
@@ -76,3 +78,8 @@ mutual
 
 pub words_of_reading : (text : List ℕ) (items : Items) → Reads text items → AreWords items
 words_of_reading text items reads = words_of_items items (subst SpellWords reads (words_of_shapes (tokens false 0 text) (words_of_tokens false 0 text)))
+
+-- each of a word's bytes is a letter
+pub all_letters : (bs : List ℕ) → AllByRecursion (λ x. is_letter (class_of x) ≡ true) bs → list_all (λ x. is_letter (class_of x)) bs ≡ true
+all_letters [] h = refl
+all_letters (b ∷ bs) h = and_from (is_letter (class_of b)) (list_all (λ x. is_letter (class_of x)) bs) h.0 (all_letters bs h.1)

@@ -2,6 +2,7 @@
 use Rattle.std.specs.Prelude.{◌≡◌, ◌<◌, ℕ, ◌+◌, max, Bool, ◌||◌, List, [], ◌∷◌, ◌++◌, IsTrue, refl}
 use Rattle.std.proofs.Common.{ap, sym, ◌∙◌, subst, inl, inr, arith}
 use Rattle.std.proofs.lemmas.Option.{same_Some}
+use Rattle.std.proofs.lemmas.Bool.{or_left, or_right, or_cases}
 use Rattle.trs_defs.specs.Tree.{Tree, var}
 use Rattle.trs_defs.specs.Variable.{has_var}
 use Rattle.trs_defs.specs.Substitution.{apply}
@@ -9,7 +10,6 @@ use Rattle.trs_defs.specs.Renaming.{shifted}
 use Rattle.trs_defs.specs.System.{RewriteRule}
 use Rattle.trs_defs.specs.Path.{PlacedRule}
 use Rattle.trs_defs.proofs.Substitutions.{apply_apply, same_instance}
-use Rattle.trs_defs.proofs.VariableLaws.{or_cases, or_left, or_right}
 use Rattle.confluence_theory.proofs.Apart.{part_variable, renumbered}
 use Rattle.loop_find.proofs.crit_pairs.InstanceVariables.{replaced_instance}
 use Rattle.loop_find.specs.Closures.{Closure, IsNarrowing, IsNarrowed}

@@ -5,31 +5,13 @@ use native.Mathlib.Decide.{dec_lt}
 use Rattle.trs_defs.specs.Member.{In, in_first, in_rest}
 use Rattle.trs_defs.specs.System.{RewriteRule}
 use Rattle.trs_defs.specs.Path.{PlacedRule}
-use Rattle.trs_defs.proofs.Members.{in_or, in_either, in_left, in_right}
-use Rattle.loop_find.specs.crit_pairs.PeakList.{symbol_places}
-use Rattle.loop_find.specs.Closures.{Closure, rule_closures, Attempt, attempts_at, attempts_of, attempts_in}
+use Rattle.trs_defs.proofs.Members.{in_or, in_left, in_right}
+use Rattle.loop_find.specs.Closures.{Closure, rule_closures, Attempt, attempts_in}
 use Rattle.loop_find.specs.Closures.{IsNarrowed, Give, no_attempt, gives, left_out}
+use Rattle.loop_find.proofs.LoopSteps.{attempt_source}
 use Rattle.text_determinism.proofs.VariantAttempts.{attempts_joined}
 
 -- ---- where attempts and closures come from
-
-attempt_at : (c : Closure) (p : List ℕ) (k : ℕ) (rules : List RewriteRule) (a : Attempt) → In a (attempts_at c p k rules) → a.closure ≡ c
-attempt_at c p k [] a i = elim i [ ]
-attempt_at c p k (r ∷ rules) a i = elim (in_or i) [ inl same ↦ ap (λ (z : Attempt). z.closure) same | inr j ↦ attempt_at c p (k + 1) rules a j ]
-
-attempt_of : (rules : List RewriteRule) (c : Closure) (ps : List (List ℕ)) (a : Attempt) → In a (attempts_of rules c ps) → a.closure ≡ c
-attempt_of rules c [] a i = elim i [ ]
-attempt_of rules c (p ∷ ps) a i = elim (in_either (attempts_at c p 0 rules) (attempts_of rules c ps) i) [
-  | inl j ↦ attempt_at c p 0 rules a j
-  | inr j ↦ attempt_of rules c ps a j
-]
-
-attempt_in : (rules : List RewriteRule) (cs : List Closure) (a : Attempt) → In a (attempts_in rules cs) → In a.closure cs
-attempt_in rules [] a i = elim i [ ]
-attempt_in rules (c ∷ cs) a i = elim (in_either (attempts_of rules c (symbol_places c.right)) (attempts_in rules cs) i) [
-  | inl j ↦ subst (λ z. In z (c ∷ cs)) (sym (attempt_of rules c (symbol_places c.right) a j)) in_first
-  | inr j ↦ in_rest (attempt_in rules cs a j)
-]
 
 longer_path : (rules : List RewriteRule) (c d : Closure) (at : PlacedRule) → IsNarrowed rules c at d → length d.path ≡ length c.path + 1
 longer_path rules c d at h = ap length h.path ∙ length-append c.path (at ∷ [])
@@ -76,7 +58,7 @@ module _ (rules : List RewriteRule) where
     from_rest : {first second : List Closure} {tried todo : List Attempt} → IsDone first second tried todo
         → length (attempts_in rules (listed first)) ≤ length tried → (a : Attempt) → In a todo → In a.closure second
     from_rest {first = first} {second = second} {tried = tried} {todo = todo} h le a i =
-        attempt_in rules second a
+        attempt_source rules second a
         (in_behind (attempts_in rules (listed first)) tried (attempts_in rules second) (todo ++ later) (parted h) le (in_left later i))
 
     pub next_there : {first second : List Closure} {tried todo : List Attempt} → IsDone first second tried todo → Give rules todo second

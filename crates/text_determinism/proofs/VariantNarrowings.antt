@@ -2,6 +2,7 @@
 use Rattle.std.specs.Prelude.{◌≡◌, ◌<◌, ◌⊎◌, ℕ, ◌+◌, ◌-◌, max, Bool, ◌||◌, List, Some, IsTrue}
 use Rattle.std.proofs.Common.{ap, sym, ◌∙◌, subst, inl, inr, arith}
 use Rattle.std.proofs.lemmas.Option.{same_Some}
+use Rattle.std.proofs.lemmas.Bool.{or_left, or_right, or_cases}
 use native.Mathlib.Decide.{dec_lt}
 use Rattle.trs_defs.specs.Tree.{Tree, var}
 use Rattle.trs_defs.specs.Variable.{has_var}
@@ -11,7 +12,7 @@ use Rattle.trs_defs.specs.Renaming.{shifted}
 use Rattle.trs_defs.specs.Unifier.{IsMostGeneralUnifier}
 use Rattle.trs_defs.specs.System.{RewriteRule}
 use Rattle.trs_defs.proofs.Substitutions.{apply_apply, same_instance}
-use Rattle.trs_defs.proofs.VariableLaws.{or_cases, or_left, or_right, has_var_same, has_var_self}
+use Rattle.trs_defs.proofs.VariableLaws.{has_var_same, has_var_self}
 use Rattle.trs_defs.proofs.Contexts.{replaced_somehow}
 use Rattle.confluence_theory.proofs.Apart.{part_variable}
 use Rattle.loop_find.proofs.crit_pairs.InstanceVariables.{into_instance, of_instance, replaced_variable}

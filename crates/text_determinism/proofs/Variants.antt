@@ -1,6 +1,7 @@
 -- Closures that differ in the numbers of their variables alone, and loop at one place.
 use Rattle.std.specs.Prelude.{◌≡◌, ◌⊎◌, ℕ, Bool, ◌||◌, List, [], ◌∷◌, Some, IsTrue, refl}
 use Rattle.std.proofs.Common.{ap, sym, ◌∙◌, subst, inl, inr, arith}
+use Rattle.std.proofs.lemmas.Bool.{or_cases}
 use native.Mathlib.Decide.{dec_lt}
 use Rattle.trs_defs.specs.Tree.{Tree, var, app}
 use Rattle.trs_defs.specs.Variable.{has_var}
@@ -9,7 +10,6 @@ use Rattle.trs_defs.specs.Position.{subterm_at}
 use Rattle.trs_defs.specs.System.{RewriteRule}
 use Rattle.trs_defs.specs.Path.{Follows}
 use Rattle.trs_defs.proofs.Substitutions.{apply_apply, same_instance}
-use Rattle.trs_defs.proofs.VariableLaws.{or_cases}
 use Rattle.term_pool.specs.Redexes.{IsEarlier}
 use Rattle.loop_find.specs.Closures.{Closure}
 use Rattle.loop_find.specs.LoopRow.{Recurs, RecursFirst, LoopsAt, LoopsNot}

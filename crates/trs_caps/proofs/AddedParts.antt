@@ -16,6 +16,8 @@ use Rattle.trs_caps.specs.Parts.{FitsEach, HaveInstance, Holds, HaveInstances, A
 use Rattle.trs_caps.specs.PartLists.{caps_of, entry_parts, parts_at}
 use Rattle.trs_caps.specs.declared.holed.Cap.{Cap}
 use Rattle.trs_caps.specs.View.{holed, holed_all}
+use Rattle.trs_caps.proofs.Fitting.{fits_root}
+use Rattle.trs_caps.proofs.Rows.{caps_last}
 
 fits_more_each : (cs : List HoledTree) (d : HoledTree) (t : Tree) → FitsEach cs t → Fits d t → FitsEach (cs ++ d ∷ []) t
 fits_more_each [] d t h p = (p, tt)
@@ -43,10 +45,6 @@ added old new v c here others = record {
   ];
 }
 
-caps_more : (xs : List (Bor Cap)) (x : Bor Cap) → caps_of (xs ++ x ∷ []) ≡ caps_of xs ++ holed x.now ∷ []
-caps_more [] x = refl
-caps_more (y ∷ xs) x = ap (λ z. holed y.now ∷ z) (caps_more xs x)
-
 not_at : (v w : ℕ) → (w ≡ v → ⊥) → is_at (nat_cmp v) w ≡ false
 not_at v w other = grind (arith, common_steps)
 
@@ -61,7 +59,7 @@ pub part_added : (old rest new : BTreeMap ℕ (Vec (Bor Cap) Global)) (v : ℕ) 
     → Adds c (var v) (parts_at old) (parts_at new)
 part_added old rest new v part c there more_there is_c taken others pushed updates =
     let here : parts_at new v ≡ parts_at old v ++ c ∷ [] =
-    ap entry_parts updates.1 ∙ (ap caps_of pushed ∙ (caps_more there part ∙ rw (taken, is_c) refl)) in
+    ap entry_parts updates.1 ∙ (ap caps_of pushed ∙ (caps_last there part ∙ rw (taken, is_c) refl)) in
     added (parts_at old) (parts_at new) v c here (λ w other. others_stay rest new v (Some more_there) updates w other ∙ others w other)
 
 -- what is left of two argument lists: the parts so far, and these arguments
@@ -98,9 +96,6 @@ next_walk old mid new cs ts i c t l h is_c is_t same adds =
 args_fit : (f g : ℕ) (cs : HoledTrees) (ts : Trees) → Fits (symbol f cs) (app g ts) → EachFits cs ts
 args_fit f g cs ts (fits_symbol p) = p
 
-same_roots : (f g : ℕ) (cs : HoledTrees) (ts : Trees) → Fits (symbol f cs) (app g ts) → f ≡ g
-same_roots f g cs ts (fits_symbol p) = refl
-
 pub no_next_walk : (old mid : ℕ → List HoledTree) (cs : List Cap) (ts : List Term) (i f g : ℕ) (c : Cap) (t : Term) → length cs ≡ length ts → i < length cs → c ≡ get_or cs i c → t ≡ get_or ts i t
     → SameFits old cs ts mid (drop i cs) (drop i ts) → Refutes (holed c) (tree t) mid → Refutes (symbol f (holed_all cs)) (app g (forest ts)) old
 no_next_walk old mid cs ts i f g c t l h is_c is_t same refutes = record {
@@ -127,7 +122,7 @@ each_length τ (c ∷ cs) (t ∷ ts) p = ap suc (each_length τ cs ts (first_fit
 pub unlike_heads : (old : ℕ → List HoledTree) (c : HoledTree) (l : Tree) (cs : List Cap) (ts : List Term) (f g : ℕ) → c ≡ symbol f (holed_all cs) → l ≡ app g (forest ts)
     → (f ≡ g → length cs ≡ length ts → ⊥) → Refutes c l old
 unlike_heads old c l cs ts f g is_c is_l differ = rw (is_c, is_l) (record {
-  none = λ τ holds p. differ (same_roots f g (holed_all cs) (apply_all τ (forest ts)) p) (each_length τ cs ts (args_fit f g (holed_all cs) (apply_all τ (forest ts)) p));
+  none = λ τ holds p. differ (fits_root f g (holed_all cs) (apply_all τ (forest ts)) p) (each_length τ cs ts (args_fit f g (holed_all cs) (apply_all τ (forest ts)) p));
 })
 
 pub hole_walks : (old : ℕ → List HoledTree) (c : HoledTree) (l : Tree) → c ≡ hole → Adds c l old old

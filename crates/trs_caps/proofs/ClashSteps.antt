@@ -2,8 +2,8 @@
 use Rattle.std.specs.Prelude.{not, ◌||◌, ◌==◌}
 use Rattle.std.proofs.Common.{◌≡◌, ℕ, true, false, List, [], ◌∷◌, length, suc, refl, ap, sym, arith}
 use Rattle.std.proofs.lemmas.Bool.Decides.{nat_tests}
+use Rattle.std.proofs.lemmas.Bool.{or_right}
 use native.Mathlib.Decide.{ℕ_discrete}
-use Rattle.trs_defs.proofs.VariableLaws.{or_right}
 use Rattle.trs_caps.specs.HoledTree.{HoledTree, symbol}
 use Rattle.trs_caps.specs.Clash.{clash, some_clash}
 use Rattle.trs_caps.specs.declared.holed.Cap.{Cap}

@@ -2,9 +2,8 @@
 use Rattle.std.specs.Prelude.{◌≡◌, ◌↔◌, ℕ, Bool, true, false, not, ◌==◌, IsTrue}
 use Rattle.std.proofs.Common.{refl, sym, ◌∙◌, inl, inr, arith, subst}
 use Rattle.std.proofs.lemmas.Bool.Decides.{nat_tests}
+use Rattle.std.proofs.lemmas.Bool.{or_cases, or_parts}
 use Rattle.trs_defs.specs.Tree.{Tree, Trees, var, app, nil, cons}
-use Rattle.trs_defs.proofs.VariableLaws.{or_cases}
-use Rattle.trs_defs.proofs.OccurrenceLaws.{neither}
 use Rattle.trs_caps.specs.HoledTree.{HoledTree, HoledTrees, hole, own, symbol, none, more, Fits, EachFits, fits_hole, fits_own, fits_symbol, fits_none, fits_more}
 use Rattle.trs_caps.specs.Clash.{clash, some_clash, AreDisjoint}
 
@@ -82,14 +81,14 @@ mutual
   merged_first (symbol f cs) (own w) t e p = p
   merged_first (symbol f cs) (symbol g ds) (var x) e p = elim p [ ]
   merged_first (symbol f cs) (symbol g ds) (app k ts) e (fits_symbol p) =
-      fits_symbol (all_merged_first cs ds ts (neither (not (f == g)) (some_clash cs ds) e).1 p)
+      fits_symbol (all_merged_first cs ds ts (or_parts (not (f == g)) (some_clash cs ds) e).1 p)
 
   all_merged_first : (cs ds : HoledTrees) (ts : Trees) → some_clash cs ds ≡ false → EachFits (all_merged cs ds) ts → EachFits cs ts
   all_merged_first none ds ts e p = p
   all_merged_first (more c cs) none ts e p = p
   all_merged_first (more c cs) (more d ds) nil e p = elim p [ ]
   all_merged_first (more c cs) (more d ds) (cons t ts) e (fits_more p ps) =
-      let h = neither (clash c d) (some_clash cs ds) e in
+      let h = or_parts (clash c d) (some_clash cs ds) e in
       fits_more (merged_first c d t h.0 p) (all_merged_first cs ds ts h.1 ps)
 
 mutual
@@ -102,7 +101,7 @@ mutual
   merged_second (symbol f cs) (own w) t e p = absurd cc
   merged_second (symbol f cs) (symbol g ds) (var x) e p = elim p [ ]
   merged_second (symbol f cs) (symbol g ds) (app k ts) e (fits_symbol p) =
-      let h = neither (not (f == g)) (some_clash cs ds) e in
+      let h = or_parts (not (f == g)) (some_clash cs ds) e in
       subst (λ z. Fits (symbol z ds) (app f ts)) (same_number f g h.0) (fits_symbol (all_merged_second cs ds ts h.1 p))
 
   all_merged_second : (cs ds : HoledTrees) (ts : Trees) → some_clash cs ds ≡ false → EachFits (all_merged cs ds) ts → EachFits ds ts
@@ -111,7 +110,7 @@ mutual
   all_merged_second (more c cs) none ts e p = absurd cc
   all_merged_second (more c cs) (more d ds) nil e p = elim p [ ]
   all_merged_second (more c cs) (more d ds) (cons t ts) e (fits_more p ps) =
-      let h = neither (clash c d) (some_clash cs ds) e in
+      let h = or_parts (clash c d) (some_clash cs ds) e in
       fits_more (merged_second c d t h.0 p) (all_merged_second cs ds ts h.1 ps)
 
 false_of : (b : Bool) → (IsTrue b → ⊥) → b ≡ false

@@ -20,6 +20,10 @@ pub system_symbols : (system : System) → IsSystem system → HaveSymbols syste
 system_symbols system valid l r a =
     let k = get_of_in a in (valid.each k.0 (record { left = l; right = r }) k.1).left_no_variable
 
+-- a term that fits a symbol with arguments has its root
+pub fits_root : (f g : ℕ) (cs : HoledTrees) (ts : Trees) → Fits (symbol f cs) (app g ts) → f ≡ g
+fits_root f g cs ts (fits_symbol p) = refl
+
 root_variable : (l : Tree) (σ : ℕ → Tree) (v : ℕ) → var v ≡ apply σ l → IsVariable l
 root_variable (var w) σ v e = (w, refl)
 root_variable (app f ts) σ v e = absurd cc

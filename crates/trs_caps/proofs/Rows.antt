@@ -4,6 +4,7 @@ use Rattle.std.specs.Prelude.{◌==◌}
 use Rattle.std.proofs.lemmas.Bool.Decides.{nat_tests}
 use Rattle.std.proofs.lemmas.List.{take_all, take_more}
 use Rattle.std.specs.Borrow.{Bor}
+use Rattle.std.proofs.lemmas.Bool.{and_parts}
 use native.Mathlib.Decide.{dec_lt}
 use Rattle.trs_defs.specs.Tree.{Tree, Trees, var, app, nil, cons, count}
 use Rattle.trs_caps.specs.HoledTree.{HoledTree, HoledTrees, hole, own, symbol, none, more, Fits, EachFits, fits_hole, fits_own, fits_symbol, fits_none, fits_more, holed_size, holed_sizes}
@@ -14,10 +15,6 @@ use Rattle.trs_caps.specs.declared.holed.Cap.{Cap}
 use Rattle.trs_caps.specs.declared.holed.Cap.TheVariants.{Symbol}
 use Rattle.trs_caps.specs.View.{holed, holed_all}
 use Rattle.trs_caps.proofs.Compatible.{filled, filled_fits}
-
-and_both : (a b : Bool) → IsTrue (a && b) → IsTrue a × IsTrue b
-and_both true b h = (refl, h)
-and_both false b h = absurd cc
 
 equal_numbers : (f g : ℕ) → IsTrue (f == g) → f ≡ g
 equal_numbers f g h = grind (arith, nat_tests)
@@ -78,7 +75,7 @@ columns_fit f ps (c ∷ cs) ts like n h = (go c like.0 (λ i l. (h i l).0), colu
     go hole like h = fits_hole
     go (own v) like h = absurd cc
     go (symbol g qs) like h =
-        let both = and_both (f == g) (holed_count ps == holed_count qs) like in
+        let both = and_parts (f == g) (holed_count ps == holed_count qs) like in
         let same : holed_count ps ≡ holed_count qs = equal_numbers (holed_count ps) (holed_count qs) both.1 in
         subst (λ z. Fits (symbol z qs) (app f ts)) (equal_numbers f g both.0) (fits_symbol (at_each qs ts (sym same ∙ sym n) (λ i l. h i (omega (arith, l, same)))))
 
@@ -212,7 +209,7 @@ pub split : (cs : List (Bor Cap)) (c : Bor Cap) → 0 < length cs → c ≡ get_
 split [] c h e = absurd (omega arith)
 split (d ∷ cs) c h e = ap (λ z. z ∷ cs) (sym e)
 
-caps_last : (xs : List (Bor Cap)) (x : Bor Cap) → caps_of (xs ++ x ∷ []) ≡ caps_of xs ++ holed x.now ∷ []
+pub caps_last : (xs : List (Bor Cap)) (x : Bor Cap) → caps_of (xs ++ x ∷ []) ≡ caps_of xs ++ holed x.now ∷ []
 caps_last [] x = refl
 caps_last (y ∷ xs) x = ap (λ z. holed y.now ∷ z) (caps_last xs x)
 

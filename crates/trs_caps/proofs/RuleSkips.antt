@@ -2,13 +2,14 @@
 use Rattle.std.proofs.Common.{◌≡◌, ℕ, ◌+◌, ◌<◌, ◌≤◌, true, false, IsTrue, List, [], ◌∷◌, Some, length, zero, suc, slice_get, refl, sym, subst, arith}
 use Rattle.std.proofs.lemmas.Bool.Decides.{nat_tests}
 use native.Mathlib.Decide.{ℕ_discrete, dec_lt}
-use Rattle.trs_defs.specs.Tree.{Tree, Trees, var, app}
+use Rattle.trs_defs.specs.Tree.{Tree, var, app}
 use Rattle.trs_defs.specs.Variable.{IsVariable}
 use Rattle.trs_defs.specs.System.{RewriteRule, System, IsSystem, has_root}
 use Rattle.trs_defs.proofs.Members.{in_of_get, get_of_in}
 use Rattle.term_pool.specs.Roots.{IsNextRooted}
-use Rattle.trs_caps.specs.HoledTree.{HoledTree, HoledTrees, symbol, Fits, fits_symbol}
+use Rattle.trs_caps.specs.HoledTree.{HoledTree, HoledTrees, symbol}
 use Rattle.trs_caps.specs.HoledCap.{MeetsLeft, MeetsSome, HasRoot}
+use Rattle.trs_caps.proofs.Fitting.{fits_root}
 
 -- no rule before number k is met
 abbrev pub NoneBefore : HoledTree → List RewriteRule → ℕ → Type 0
@@ -17,9 +18,6 @@ NoneBefore c rules k = (i : ℕ) (r : RewriteRule) → i < k → slice_get rules
 -- rule k has this root, if there is one
 abbrev pub IsRootedAt : ℕ → List RewriteRule → ℕ → Type 0
 IsRootedAt f rules k = (r : RewriteRule) → slice_get rules k ≡ Some r → IsTrue (has_root f r.left)
-
-fits_root : (f g : ℕ) (cs : HoledTrees) (ts : Trees) → Fits (symbol f cs) (app g ts) → f ≡ g
-fits_root f g cs ts (fits_symbol p) = refl
 
 other_root : (f : ℕ) (cs : HoledTrees) (l : Tree) → has_root f l ≡ false → (IsVariable l → ⊥) → MeetsLeft (symbol f cs) l → ⊥
 other_root f cs (var x) h proper m = proper (x, refl)

@@ -7,4 +7,5 @@ pub mod MatchSteps
 pub mod Putting
 pub mod RuleLists
 pub mod Unknown
+pub mod NumberKeys
 pub mod SeenItems

@@ -1,14 +1,10 @@
 -- One more variable is seen.
 use Rattle.std.specs.Prelude.{◌==◌}
-use Rattle.std.proofs.Common.{◌≡◌, ℕ, Bool, true, false, cond, ◌||◌, List, [], ◌∷◌, ◌++◌, nat_cmp, refl, arith}
-use Rattle.std.proofs.lemmas.Grind.{common_steps}
+use Rattle.std.proofs.Common.{◌≡◌, ℕ, Bool, true, false, cond, ◌||◌, List, [], ◌∷◌, ◌++◌, nat_cmp, refl}
 use Rattle.std.specs.BTreeSet.{BTreeSet, Updates}
-use Rattle.std.specs.BTreeMap.{is_at}
 use Rattle.trs_defs.specs.Variable.{is_listed}
 use Rattle.trs_core.specs.Seen.{HasItems}
-
-at_number : (n v : ℕ) → is_at (nat_cmp n) v ≡ (n == v)
-at_number n v = grind (arith, common_steps)
+use Rattle.trs_core.proofs.NumberKeys.{at_number}
 
 swap_tests : (a b : Bool) (c : Bool) → (a || cond b true c) ≡ cond b true (a || c)
 swap_tests true true c = refl

@@ -1,6 +1,6 @@
 -- The usable rules, as they are chosen by their numbers.
 use Rattle.std.proofs.Common.{◌≡◌, ◌<◌, ℕ, List, [], ◌∷◌, length, map, zip, All, get_or, Some, Result, slice_get, true, IsTrue, inl, inr, refl, sym, ap, subst, ◌∙◌, arith}
-use Rattle.std.proofs.lemmas.Option.{slice_get-get_or, slice_get_within}
+use Rattle.std.proofs.lemmas.Option.{slice_get-get_or, slice_get_within, same_Some}
 use Rattle.trs_defs.specs.Member.{In, in_first, in_rest}
 use Rattle.trs_defs.proofs.Members.{in_or, no_in, in_of_get, get_of_in}
 use Rattle.trs_defs.specs.Tree.{Tree, Trees, var, app}
@@ -12,26 +12,21 @@ use Rattle.rewrite_core.specs.declared.checks.refusals.StepRefused.{StepRefused}
 use Rattle.rewrite_core.specs.Check.{HasOneAnswer}
 use Rattle.dp_core.specs.Numbered.{AreItemsOf}
 use Rattle.dp_core.proofs.Conclusions.{same_pairs}
+use Rattle.dp_core.proofs.NumberedPairs.{head_of}
 use Rattle.usable_rules.specs.AreUsable.{IsUsableRule, Ascends, number, AreUsableRules}
 use Rattle.usable_rules.specs.UsableConditions.{TakesUsableRules, usable_taken}
 
 -- ---- items by their numbers
-
-some_same : {A : Type 0} (x y : A) → Some x ≡ Some y → x ≡ y
-some_same x y e = cc
-
-head_same : {A : Type 0} (x y : A) (xs ys : List A) → x ∷ xs ≡ y ∷ ys → (x ≡ y) × (xs ≡ ys)
-head_same x y xs ys e = (cc, cc)
 
 module _ {A : Type 0} (all : List A) where
   item_chosen : (numbers : List ℕ) (chosen : List A) → AreItemsOf all numbers chosen → (k : ℕ) (x : A) → In k numbers → slice_get all k ≡ Some x → In (k, x) (zip numbers chosen)
   item_chosen [] chosen are k x i e = absurd (no_in i)
   item_chosen (n ∷ numbers) [] are k x i e = absurd cc
   item_chosen (n ∷ numbers) (y ∷ chosen) are k x i e =
-      let h = head_same (slice_get all n) (Some y) (map (slice_get all) numbers) (map (λ z. Some z) chosen) are in
+      let h = head_of (slice_get all n) (Some y) (map (slice_get all) numbers) (map (λ z. Some z) chosen) are in
       elim (in_or i) [
         | inl same ↦
-            let item : y ≡ x = some_same y x (sym h.0 ∙ (ap (slice_get all) (sym same) ∙ e)) in
+            let item : y ≡ x = same_Some y x (sym h.0 ∙ (ap (slice_get all) (sym same) ∙ e)) in
             let pair : (n, y) ≡ (k, x) = cc in
             subst (λ z. In (k, x) (z ∷ zip numbers chosen)) (sym pair) in_first
         | inr later ↦ in_rest (item_chosen numbers chosen h.1 k x later e)
@@ -42,7 +37,7 @@ module _ {A : Type 0} (all : List A) where
   number_of_chosen [] (y ∷ chosen) are x i = absurd cc
   number_of_chosen (n ∷ numbers) [] are x i = absurd (no_in i)
   number_of_chosen (n ∷ numbers) (y ∷ chosen) are x i =
-      let h = head_same (slice_get all n) (Some y) (map (slice_get all) numbers) (map (λ z. Some z) chosen) are in
+      let h = head_of (slice_get all n) (Some y) (map (slice_get all) numbers) (map (λ z. Some z) chosen) are in
       elim (in_or i) [
         | inl same ↦ (n, in_first, h.0 ∙ ap (λ z. Some z) (sym same))
         | inr later ↦ let r = number_of_chosen numbers chosen h.1 x later in (r.0, in_rest r.1, r.2)
@@ -80,7 +75,7 @@ module _ (rules : List RewriteRule) (pairs : List DependencyPair) (numbers : Lis
       let d = true_defined chosen g e in
       let n = number_of_chosen rules numbers chosen are (record { left = app g d.0; right = d.1 }) d.2 in
       let u = (usable.exact n.0).0 n.1 in
-      let same = some_same (record { left = app u.root u.args; right = u.right }) (record { left = app g d.0; right = d.1 }) (sym u.numbered ∙ n.2) in
+      let same = same_Some (record { left = app u.root u.args; right = u.right }) (record { left = app g d.0; right = d.1 }) (sym u.numbered ∙ n.2) in
       let sides : app u.root u.args ≡ app g d.0 = ap (λ (r : RewriteRule). r.left) same in
       subst (IsUsable rules pairs) (root_same u.root g u.args d.0 sides) u.usable
 

@@ -1,12 +1,13 @@
 -- Found rules and their flags.
-use Rattle.std.proofs.Common.{◌≡◌, ◌<◌, ◌≤◌, ◌+◌, ◌++◌, ℕ, zero, suc, refl, sym, ap, subst, arith, ◌⊎◌, inl, inr, Bool, true, false, List, [], ◌∷◌, Some, length, slice_get, slice_set, drop, replicate, get_or, ◌∙◌}
-use Rattle.std.proofs.lemmas.List.{drop_all}
+use Rattle.std.proofs.Common.{◌≡◌, ◌<◌, ◌≤◌, ◌+◌, ◌++◌, ℕ, zero, suc, refl, sym, ap, subst, arith, ◌⊎◌, inl, inr, Bool, true, false, List, [], ◌∷◌, Some, length, slice_get, slice_set, drop, replicate, get_or, ◌∙◌, append_assoc}
+use Rattle.std.proofs.lemmas.List.{drop_all, append-nil, length_push}
 use Rattle.std.proofs.lemmas.Bool.{eqb-true, eq-eqb}
+use Rattle.std.proofs.lemmas.Option.{same_Some, slice_get_within, slice_get_read}
 use native.Mathlib.Decide.{ℕ_discrete, dec_lt}
 use Rattle.trs_defs.specs.Member.{In, in_first, in_rest}
 use Rattle.trs_defs.specs.Tree.{Tree, Trees, var, app, cons}
 use Rattle.trs_defs.specs.System.{RewriteRule, has_root}
-use Rattle.trs_defs.proofs.Members.{in_left, in_right, in_either, in_of_get, get_of_in}
+use Rattle.trs_defs.proofs.Members.{in_left, in_right, in_either, in_of_get, get_of_in, in_or}
 use Rattle.trs_defs.proofs.ArgumentLists.{cell}
 use Rattle.trs_core.specs.declared.terms.Term.{Term}
 use Rattle.trs_core.specs.View.{tree, forest}
@@ -51,10 +52,6 @@ set_keeps (b ∷ flags) zero (suc j) e = e
 set_keeps (b ∷ flags) (suc k) zero e = e
 set_keeps (b ∷ flags) (suc k) (suc j) e = set_keeps flags k j e
 
-length_more : (ns : List ℕ) (n : ℕ) → length (ns ++ n ∷ []) ≡ length ns + 1
-length_more [] n = refl
-length_more (m ∷ ns) n = let h = length_more ns n in omega (arith, h)
-
 in_single : {j k : ℕ} → In j (k ∷ []) → j ≡ k
 in_single in_first = refl
 in_single (in_rest i) = elim i [ ]
@@ -62,7 +59,7 @@ in_single (in_rest i) = elim i [ ]
 module _ (flags : List Bool) (found : List ℕ) (k : ℕ) (unmarked : slice_get flags k ≡ Some false) (m : AreMarked flags found) where
   pub one_more : AreMarked (slice_set flags k true) (found ++ k ∷ [])
   one_more = record {
-    once = let a = unset_set flags k unmarked in let b = length_set flags k in let d = length_more found k in let e = m.once in omega (arith, a, b, d, e);
+    once = let a = unset_set flags k unmarked in let b = length_set flags k in let d = length_push found k in let e = m.once in omega (arith, a, b, d, e);
     marked = λ j e. elim (set_other flags k j e) [ inl s ↦ subst (λ x. In x (found ++ k ∷ [])) (sym s) (in_right found in_first) | inr s ↦ in_left (k ∷ []) (m.marked j s) ];
     found_marked = λ j i. elim (in_either found (k ∷ []) i) [
       | inl h ↦ set_keeps flags k j (m.found_marked j h)
@@ -76,16 +73,8 @@ last_found found k = in_right found in_first
 pub found_or_last : (found : List ℕ) (j k : ℕ) → In j (found ++ k ∷ []) → In j found ⊎ (j ≡ k)
 found_or_last found j k i = elim (in_either found (k ∷ []) i) [ inl h ↦ inl h | inr h ↦ inr (in_single h) ]
 
-append_assoc : (xs ys zs : List ℕ) → (xs ++ ys) ++ zs ≡ xs ++ (ys ++ zs)
-append_assoc [] ys zs = refl
-append_assoc (x ∷ xs) ys zs = ap (λ r. x ∷ r) (append_assoc xs ys zs)
-
-append_none : (xs : List ℕ) → xs ++ [] ≡ xs
-append_none [] = refl
-append_none (x ∷ xs) = ap (λ r. x ∷ r) (append_none xs)
-
 pub no_more : (xs : List ℕ) → Extends xs xs
-no_more xs = ([], sym (append_none xs))
+no_more xs = ([], sym (append-nil xs))
 
 pub grown_twice : (xs ys zs : List ℕ) → Extends zs ys → Extends ys xs → Extends zs xs
 grown_twice xs ys zs (b, q) (a, p) = (a ++ b, q ∙ ap (λ r. r ++ b) p ∙ append_assoc xs a b)
@@ -100,11 +89,6 @@ get_left (x ∷ xs) ys (suc m) k h e = get_left xs ys m k (omega arith) e
 
 pub get_grown : (xs ys : List ℕ) (m k : ℕ) → Extends ys xs → m < length xs → slice_get ys m ≡ Some k → slice_get xs m ≡ Some k
 get_grown xs ys m k (a, p) h e = get_left xs a m k h (subst (λ r. slice_get r m ≡ Some k) p e)
-
-pub read : {T : Type 0} (xs : List T) (i : ℕ) (x y : T) → i < length xs → x ≡ get_or xs i x → x ≡ y → slice_get xs i ≡ Some y
-read [] i x y h e s = absurd (omega arith)
-read (z ∷ xs) zero x y h e s = ap (λ v. Some v) (sym e ∙ s)
-read (z ∷ xs) (suc i) x y h e s = read xs i x y (omega arith) e s
 
 there : {A : Type 0} (xs : List A) (n : ℕ) → n < length xs → (x : A) × (slice_get xs n ≡ Some x)
 there [] n h = absurd (omega arith)
@@ -174,22 +158,10 @@ pub next_only : {A B : ℕ → Type 0} (old found new : List ℕ) → ((k : ℕ)
     → ((k : ℕ) → In k found → In k old ⊎ B k) → (k : ℕ) → In k new → In k old ⊎ B k
 next_only old found new a ab b k i = elim (a k i) [ inl h ↦ b k h | inr h ↦ inr (ab k h) ]
 
-within : {A : Type 0} (xs : List A) (i : ℕ) (x : A) → slice_get xs i ≡ Some x → i < length xs
-within [] i x e = absurd cc
-within (y ∷ xs) zero x e = omega arith
-within (y ∷ xs) (suc i) x e = omega (arith, within xs i x e)
-
-some_same : {A : Type 0} (x y : A) → Some x ≡ Some y → x ≡ y
-some_same x y e = cc
-
 drop_get : {A : Type 0} (xs : List A) (i : ℕ) (x : A) → slice_get xs i ≡ Some x → drop i xs ≡ x ∷ drop (suc i) xs
 drop_get [] i x e = absurd cc
-drop_get (y ∷ xs) zero x e = ap (λ z. z ∷ xs) (some_same y x e)
+drop_get (y ∷ xs) zero x e = ap (λ z. z ∷ xs) (same_Some y x e)
 drop_get (y ∷ xs) (suc i) x e = drop_get xs i x e
-
-in_or : {T : Type 0} {x y : T} {ys : List T} → In x (y ∷ ys) → (x ≡ y) ⊎ In x ys
-in_or in_first = inl refl
-in_or (in_rest i) = inr i
 
 module _ (rules : List RewriteRule) where
   pub pairs_all : (taken : List DependencyPair) (i k : ℕ) (p : DependencyPair) (found new : List ℕ) → slice_get taken i ≡ Some p
@@ -211,8 +183,8 @@ module _ (rules : List RewriteRule) where
 
 pub found_there : (flags : List Bool) (found : List ℕ) (n m x : ℕ) → AreMarked flags found → length flags ≡ n → m < length found → x ≡ get_or found m x → x < n
 found_there flags found n m x a same h e =
-    let i = in_of_get found m x (read found m x x h e refl) in
-    let w = within flags x true (a.found_marked x i) in omega (arith, w, same)
+    let i = in_of_get found m x (slice_get_read found _ m x refl h e) in
+    let w = slice_get_within flags x true (a.found_marked x i) in omega (arith, w, same)
 
 pub longer : (xs ys : List ℕ) → Extends ys xs → length xs ≤ length ys
 longer xs ys (a, p) = let h : length ys ≡ length (xs ++ a) = ap length p in omega (arith, h, go xs)
@@ -230,7 +202,7 @@ all_done rules found new i x h e grown led done m k j l at is =
       | yes s ↦ in_grown found new j grown (done m k j s old is)
       | no s ↦ (let same : m ≡ i = omega (arith, s, l) in
           let at_i : slice_get found i ≡ Some k = subst (λ n. slice_get found n ≡ Some k) same old in
-          let x_is : k ≡ x = some_same k x (sym at_i ∙ read found i x x h e refl) in
+          let x_is : k ≡ x = same_Some k x (sym at_i ∙ slice_get_read found _ i x refl h e) in
           led j (subst (λ n. IsLed rules n j) x_is is))
     ]
 
@@ -260,11 +232,11 @@ module _ (rules : List RewriteRule) (pairs : List DependencyPair) where
 
   pub led_usable : (k j : ℕ) → IsUsableRule rules pairs k → IsLed rules k j → IsUsableRule rules pairs j
   led_usable k j u (called r e (g, us, q, first)) =
-      let same = some_same r (record { left = app u.root u.args; right = u.right }) (sym e ∙ u.numbered) in
+      let same = same_Some r (record { left = app u.root u.args; right = u.right }) (sym e ∙ u.numbered) in
       first_usable g j first (λ d. in_rule u.root g u.args us u.right u.usable (in_of_get rules k (record { left = app u.root u.args; right = u.right }) u.numbered)
       (subst (λ (x : RewriteRule). Sub (app g us) x.right) same q) d)
   led_usable k j u (following r f e h n l) =
-      let same = some_same r (record { left = app u.root u.args; right = u.right }) (sym e ∙ u.numbered) in
+      let same = same_Some r (record { left = app u.root u.args; right = u.right }) (sym e ∙ u.numbered) in
       let root : has_root f (app u.root u.args) ≡ true = subst (λ (x : RewriteRule). has_root f x.left ≡ true) same h in
       let is : u.root ≡ f = eqb-true u.root f root in
       let s = there rules j l in
@@ -278,21 +250,21 @@ module _ (rules : List RewriteRule) (g k : ℕ) (r : RewriteRule) (e : slice_get
   next_from : (m : ℕ) → m ≤ k → ((i : ℕ) (q : RewriteRule) → m ≤ i → i < k → slice_get rules i ≡ Some q → has_root g q.left ≡ false) → IsNextRooted rules g m k
   next_from m l none = record {
     from = l;
-    within = (let w = within rules k r e in omega (arith, w));
-    rooted = λ q d. subst (λ (x : RewriteRule). has_root g x.left ≡ true) (some_same r q (sym e ∙ d)) h;
+    within = (let w = slice_get_within rules k r e in omega (arith, w));
+    rooted = λ q d. subst (λ (x : RewriteRule). has_root g x.left ≡ true) (same_Some r q (sym e ∙ d)) h;
     passed = none;
   }
 
   before : (m : ℕ) → m ≤ k → ((i : ℕ) (q : RewriteRule) → m ≤ i → i < k → slice_get rules i ≡ Some q → has_root g q.left ≡ false) → Before rules g k
   unfolding Before
-  before zero l none = inl (record { there = within rules k r e; first = next_from 0 l none })
-  before (suc m) l none = let q = there rules m (let w = within rules k r e in omega (arith, w, l)) in go q.0 q.1 (has_root g q.0.left) refl (before m (omega (arith, l)))
+  before zero l none = inl (record { there = slice_get_within rules k r e; first = next_from 0 l none })
+  before (suc m) l none = let q = there rules m (let w = slice_get_within rules k r e in omega (arith, w, l)) in go q.0 q.1 (has_root g q.0.left) refl (before m (omega (arith, l)))
     where
       go : (q : RewriteRule) → slice_get rules m ≡ Some q → (b : Bool) → has_root g q.left ≡ b
           → (((i : ℕ) (q : RewriteRule) → m ≤ i → i < k → slice_get rules i ≡ Some q → has_root g q.left ≡ false) → Before rules g k) → Before rules g k
       go q d true is rec = inr (m, q, omega (arith, l), d, is, (let same : suc m ≡ m + 1 = omega arith in subst (λ x. IsNextRooted rules g x k) same (next_from (suc m) l none)))
       go q d false is rec = rec (λ i p a b c. elim (ℕ_discrete m i) [
-        | yes s ↦ (let same : q ≡ p = some_same q p (sym d ∙ subst (λ x. slice_get rules x ≡ Some p) (sym s) c) in subst (λ (x : RewriteRule). has_root g x.left ≡ false) same is)
+        | yes s ↦ (let same : q ≡ p = same_Some q p (sym d ∙ subst (λ x. slice_get rules x ≡ Some p) (sym s) c) in subst (λ (x : RewriteRule). has_root g x.left ≡ false) same is)
         | no ne ↦ none i p (omega (arith, a, ne)) b c
       ])
 
@@ -302,7 +274,7 @@ module _ (rules : List RewriteRule) (found : List ℕ) (closed : (k j : ℕ) →
   each_rooted g base zero k r l e h = absurd (omega (arith, l))
   each_rooted g base (suc bound) k r l e h = elim (before rules g k r e h k (omega arith) (λ i q a b c. absurd (omega (arith, a, b)))) [
     | inl first ↦ base k first
-    | inr (i, q, below_k, d, is, n) ↦ closed i k (each_rooted g base bound i q (omega (arith, l, below_k)) d is) (following q g d is n (within rules k r e))
+    | inr (i, q, below_k, d, is, n) ↦ closed i k (each_rooted g base bound i q (omega (arith, l, below_k)) d is) (following q g d is n (slice_get_within rules k r e))
   ]
 
   module _ (pairs : List DependencyPair) (start : (j : ℕ) → IsLedByPairs rules pairs j → In j found) where
@@ -355,11 +327,11 @@ whole rules pairs flags started found numbers m e kept start begun closed only =
 })
 
 pub item_in : (found : List ℕ) (i k : ℕ) → i < length found → k ≡ get_or found i k → In k found
-item_in found i k h e = in_of_get found i k (read found i k k h e refl)
+item_in found i k h e = in_of_get found i k (slice_get_read found _ i k refl h e)
 
 pub done_all : (rules : List RewriteRule) (found : List ℕ) (i k j : ℕ) → length found ≤ i
     → ((m k j : ℕ) → m < i → slice_get found m ≡ Some k → IsLed rules k j → In j found) → In k found → IsLed rules k j → In j found
-done_all rules found i k j h done m led = let at = get_of_in m in done at.0 k j (let w = within found at.0 k at.1 in omega (arith, w, h)) at.1 led
+done_all rules found i k j h done m led = let at = get_of_in m in done at.0 k j (let w = slice_get_within found at.0 k at.1 in omega (arith, w, h)) at.1 led
 
 module _ (rules : List RewriteRule) (k : ℕ) (r : RewriteRule) (at : slice_get rules k ≡ Some r) (f : ℕ) (rooted : has_root f r.left ≡ true) (n : ℕ) (nx : IsNextRooted rules f (k + 1) n) (most : ℕ) (same : most ≡ length rules) where
   root_once : (g : ℕ) (t : Tree) → has_root f t ≡ true → has_root g t ≡ true → f ≡ g
@@ -367,9 +339,9 @@ module _ (rules : List RewriteRule) (k : ℕ) (r : RewriteRule) (at : slice_get 
   root_once g (app h ts) a b = sym (eqb-true h f a) ∙ eqb-true h g b
 
   pub led_found : (found new : List ℕ) → ((j : ℕ) → IsCalled rules r.right j → In j found) → ((j : ℕ) → In j found → In j new) → (n < most → In n new) → (j : ℕ) → IsLed rules k j → In j new
-  led_found found new calls keeps last j (called q e c) = keeps j (calls j (subst (λ (x : RewriteRule). IsCalled rules x.right j) (some_same q r (sym e ∙ at)) c))
+  led_found found new calls keeps last j (called q e c) = keeps j (calls j (subst (λ (x : RewriteRule). IsCalled rules x.right j) (same_Some q r (sym e ∙ at)) c))
   led_found found new calls keeps last j (following q g e h m l) =
-      let rg : has_root g r.left ≡ true = subst (λ (x : RewriteRule). has_root g x.left ≡ true) (some_same q r (sym e ∙ at)) h in
+      let rg : has_root g r.left ≡ true = subst (λ (x : RewriteRule). has_root g x.left ≡ true) (same_Some q r (sym e ∙ at)) h in
       let fg : f ≡ g = root_once g r.left rooted rg in
       let j_is : n ≡ j = next_once rules g (k + 1) n j (subst (λ x. IsNextRooted rules x (k + 1) n) fg nx) m in
       subst (λ x. In x new) j_is (last (omega (arith, l, j_is, same)))

@@ -1,6 +1,7 @@
 use Rattle.std.proofs.Common.{refl}
+use Rattle.std.proofs.lemmas.Option.{slice_get_read}
 use Rattle.cert_text.specs.cert_step.ProofProblem.{problem_of}
-use Rattle.certifier.proofs.NodeLists.{node_there, open_there, problem_there}
+use Rattle.certifier.proofs.NodeLists.{open_there, problem_there}
 use Rattle.certifier.proofs.MadeSteps.{step_stuck}
 use Rattle.certifier.proofs.steps.subproblems_of.Goals as goal
 
@@ -8,7 +9,7 @@ pub returns-then-not-node-clause-stuck : goal.returns-then-not-node-clause-stuck
 returns-then-not-node-clause-stuck c =
     let found = c.in-Some.ensures.lookup.3 in
     let node = c.in-Some.node.now in
-    (refl, (node, node_there c.args.nodes.now c.args.step.now.node node found.0 (found.1 node), rw (← c.node.view_is) c.if-not-node.true))
+    (refl, (node, slice_get_read c.args.nodes.now _ c.args.step.now.node node refl found.0 (found.1 node), rw (← c.node.view_is) c.if-not-node.true))
 
 pub apply-requires-clause-well_made_problem : goal.apply-requires-clause-well_made_problem
 apply-requires-clause-well_made_problem c =

@@ -1,8 +1,8 @@
 use Rattle.std.proofs.lemmas.Result.{err_from_is_err_and}
 use Rattle.rewrite_core.specs.Check.{goes_on, stops, holds, lacks}
 use Rattle.rewrite_core.proofs.Answering.{refused_later}
-use Rattle.rewrite_core.proofs.Items.{one_more_passed, item_refused, all_passed}
-use Rattle.closed_pairs.proofs.PairsOfLists.{both_read, none_left}
+use Rattle.rewrite_core.proofs.Items.{one_more_passed, item_refused, all_passed, none_left}
+use Rattle.closed_pairs.proofs.PairsOfLists.{both_read}
 use Rattle.closed_pairs.proofs.joined.peaks_are_joined.Goals as goal
 
 pub returns-then-joins-peaks : goal.returns-then-joins-peaks

@@ -1,9 +1,8 @@
 use Rattle.std.proofs.lemmas.Result.{err_from_is_err_and}
 use Rattle.rewrite_core.specs.Check.{goes_on, holds}
 use Rattle.rewrite_core.proofs.Answering.{refused_later}
-use Rattle.rewrite_core.proofs.Items.{one_more_passed, item_refused, all_passed}
+use Rattle.rewrite_core.proofs.Items.{one_more_passed, item_refused, all_passed, none_left}
 use Rattle.closed_pairs.specs.ParallelClosed.{paths_of}
-use Rattle.closed_pairs.proofs.PairsOfLists.{none_left}
 use Rattle.closed_pairs.proofs.ParallelItems.{path_read, same_count, wrong_count}
 use Rattle.closed_pairs.proofs.parallel.peaks_are_closed.Goals as goal
 

@@ -1,8 +1,8 @@
 use Rattle.std.proofs.Common.{get_or, zip}
 use Rattle.std.proofs.lemmas.Result.{err_from_is_err_and}
-use Rattle.rewrite_core.proofs.Items.{item_refused, one_more_passed, all_passed}
+use Rattle.rewrite_core.proofs.Items.{item_refused, one_more_passed, all_passed, none_left}
 use Rattle.dp_core.specs.PairConditions.{comparing_by, rule_is_weak}
-use Rattle.dp_core.proofs.NumberedPairs.{item_at, none_left}
+use Rattle.dp_core.proofs.NumberedPairs.{item_at}
 use Rattle.dp_core.proofs.comparing.rules_check.Goals as goal
 
 pub returns-in_err-rule_check : goal.returns-in_err-rule_check

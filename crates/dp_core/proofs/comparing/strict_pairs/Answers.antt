@@ -2,8 +2,9 @@ use Rattle.std.proofs.Common.{get_or, zip}
 use Rattle.std.proofs.lemmas.Result.{err_from_is_err_and}
 use Rattle.dp_core.specs.PairConditions.{comparing_by, pair_is_weak}
 use Rattle.dp_core.proofs.Collecting.{item_stops, one_more_collected, all_collected}
-use Rattle.dp_core.proofs.NumberedPairs.{item_at, none_left}
+use Rattle.dp_core.proofs.NumberedPairs.{item_at}
 use Rattle.dp_core.proofs.comparing.strict_pairs.Goals as goal
+use Rattle.rewrite_core.proofs.Items.{none_left}
 
 pub returns-in_err-flag : goal.returns-in_err-flag
 returns-in_err-flag g c = λ taken are.

@@ -1,14 +1,15 @@
-use Rattle.std.proofs.Common.{◌≡◌, Some, slice_get, ap, sym, ◌∙◌}
+use Rattle.std.proofs.Common.{◌≡◌, Some, slice_get, ap, sym, ◌∙◌, refl}
+use Rattle.std.proofs.lemmas.Option.{slice_get_read}
 use Rattle.trs_defs.specs.System.{RewriteRule}
 use Rattle.trs_core.specs.View.{tree}
-use Rattle.dp_core.proofs.PairWalk.{narrow_right, rule_read}
+use Rattle.dp_core.proofs.PairWalk.{narrow_right}
 use Rattle.dp_core.proofs.listing.dependency_pairs.Goals.{After-new-place}
 use Rattle.dp_core.proofs.listing.dependency_pairs.Goals as goal
 
 -- the rule, as it is read
 numbered : (c : After-new-place) → slice_get c.args.trs.now.rules c.loop-k.k ≡ Some c.rule-item.result
 numbered c =
-    ap (λ rs. slice_get rs c.loop-k.k) (sym c.rules-rule-items.ensures.rules) ∙ rule_read c.rules-rule-items.result.now c.loop-k.k c.rule-item.result c.loop-k-test.true c.rule-item.is
+    ap (λ rs. slice_get rs c.loop-k.k) (sym c.rules-rule-items.ensures.rules) ∙ slice_get_read c.rules-rule-items.result.now _ c.loop-k.k c.rule-item.result refl c.loop-k-test.true c.rule-item.is
 
 right : (c : After-new-place) → tree c.rule.inside.right ≡ c.rule-item.result.right
 right c = ap (λ (r : RewriteRule). r.right) c.rule.view_is

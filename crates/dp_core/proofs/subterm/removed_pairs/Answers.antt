@@ -2,8 +2,9 @@ use Rattle.std.proofs.Common.{get_or, zip}
 use Rattle.std.proofs.lemmas.Result.{err_from_is_err_and}
 use Rattle.dp_core.specs.SubtermConditions.{projects_within}
 use Rattle.dp_core.proofs.Collecting.{item_stops, one_more_collected, all_collected}
-use Rattle.dp_core.proofs.NumberedPairs.{item_at, none_left}
+use Rattle.dp_core.proofs.NumberedPairs.{item_at}
 use Rattle.dp_core.proofs.subterm.removed_pairs.Goals as goal
+use Rattle.rewrite_core.proofs.Items.{none_left}
 
 pub returns-in_err-flag : goal.returns-in_err-flag
 returns-in_err-flag c = λ taken are.

@@ -1,8 +1,8 @@
 use Rattle.std.proofs.Common.{◌<◌, length, refl, arith}
+use Rattle.std.proofs.lemmas.Option.{slice_get_read}
 use Rattle.trs_defs.proofs.Members.{in_of_get}
 use Rattle.dp_graph.specs.GraphConditions.{lists_of}
 use Rattle.dp_graph.proofs.FoundLaws.{begins, goes_on, ends, found_place, some_left}
-use Rattle.dp_graph.proofs.ListPlaces.{read}
 use Rattle.dp_graph.proofs.collecting.collect.Goals as goal
 
 pub loop-i-init : goal.loop-i-init
@@ -12,7 +12,7 @@ loop-i-init c =
 pub walk-requires : goal.walk-requires
 walk-requires c =
     let lt : c.loop-i.i < length c.loop-i.found.items = omega (arith, c.loop-i-test.true, c.len.ensures) in
-    let at = read c.loop-i.found.items c.loop-i.i c.index.result.now c.index.result.now lt c.index.ensures refl in
+    let at = slice_get_read c.loop-i.found.items _ c.loop-i.i c.index.result.now refl lt c.index.ensures in
     let h = found_place (lists_of c.args.rows.now) c.args.flags.now.items c.args.start c.loop-i.flags.items c.loop-i.found.items c.loop-i.i c.index.result.now c.loop-i.invariant
     (in_of_get c.loop-i.found.items c.loop-i.i c.index.result.now at) in
     let size = c.requires.places in
@@ -22,7 +22,7 @@ pub loop-i-preserved : goal.loop-i-preserved
 loop-i-preserved c =
     let x = c.index.result.now in
     let lt : c.loop-i.i < length c.loop-i.found.items = omega (arith, c.loop-i-test.true, c.len.ensures) in
-    let at = read c.loop-i.found.items c.loop-i.i x x lt c.index.ensures refl in
+    let at = slice_get_read c.loop-i.found.items _ c.loop-i.i x refl lt c.index.ensures in
     goes_on (lists_of c.args.rows.now) c.args.flags.now.items c.args.start c.loop-i.flags.items c.walk.new.flags.items c.loop-i.found.items c.walk.new.found.items c.loop-i.i x at c.loop-i.invariant
     c.in_ok-walk.ensures
 

@@ -1,20 +1,20 @@
-use Rattle.std.proofs.Common.{true, false, arith, refl, inl, inr}
+use Rattle.std.proofs.Common.{true, false, arith, refl, inl, inr, ap, Some, ◌∙◌}
+use Rattle.std.proofs.lemmas.Option.{slice_get_read}
 use Rattle.dp_graph.specs.GraphConditions.{lists_of}
 use Rattle.dp_graph.proofs.LeaderLaws.{found_some, found_within}
-use Rattle.dp_graph.proofs.ListPlaces.{read}
 use Rattle.dp_graph.proofs.leaders.lead_from.Goals as goal
 
 pub returns-then-index : goal.returns-then-index
 returns-then-index c =
     let place = c.requires.place in
     let size = c.requires.flags in
-    inl (read c.args.flags.now.items c.args.v c.index.result.now true (omega (arith, place, size)) c.index.ensures c.if-index.true, refl, refl)
+    inl (slice_get_read c.args.flags.now.items _ c.args.v c.index.result.now refl (omega (arith, place, size)) c.index.ensures ∙ ap (λ v. Some v) c.if-index.true, refl, refl)
 
 pub collect-requires-clause-unset : goal.collect-requires-clause-unset
 collect-requires-clause-unset c =
     let place = c.requires.place in
     let size = c.requires.flags in
-    read c.args.flags.now.items c.args.v c.index.result.now false (omega (arith, place, size)) c.index.ensures c.if-index.false
+    slice_get_read c.args.flags.now.items _ c.args.v c.index.result.now refl (omega (arith, place, size)) c.index.ensures ∙ ap (λ v. Some v) c.if-index.false
 
 pub lead-requires-clause-some : goal.lead-requires-clause-some
 lead-requires-clause-some c =
@@ -33,7 +33,7 @@ returns c =
     let place = c.requires.place in
     let size = c.requires.flags in
     inr (record {
-      unset = read c.args.flags.now.items c.args.v c.index.result.now false (omega (arith, place, size)) c.index.ensures c.if-index.false;
+      unset = slice_get_read c.args.flags.now.items _ c.args.v c.index.result.now refl (omega (arith, place, size)) c.index.ensures ∙ ap (λ v. Some v) c.if-index.false;
       component = c.in_ok-component.component.items;
       are = c.in_ok-component.ensures;
       leads = rw c.deref.ensures.value at c.lead.ensures;

@@ -1,7 +1,8 @@
 use Rattle.std.proofs.Common.{◌<◌, length, arith, ap, subst}
+use Rattle.std.proofs.lemmas.Option.{slice_get_within}
 use Rattle.dp_graph.specs.GraphConditions.{lists_of}
 use Rattle.dp_graph.specs.Waiting.{TakesOut}
-use Rattle.dp_graph.proofs.ListPlaces.{within, row_at, lists_length, length_more, all_of_each}
+use Rattle.dp_graph.proofs.ListPlaces.{row_at, lists_length, length_more, all_of_each}
 use Rattle.dp_graph.proofs.ItemLaws.{led_place, place_led}
 use Rattle.dp_graph.proofs.OrderLaws.{starts, goes_on, ends, room, leads_itself_now, blockers_count, leaders_within}
 use Rattle.dp_graph.proofs.ordering.ordered.Goals as goal
@@ -22,7 +23,7 @@ pub bounds-led-v : goal.bounds-led-v
 bounds-led-v c =
     let own = leads_itself_now c.args.pairs (lists_of c.args.rows.now) c.args.leaders.now c.requires.leaders c.loop-v.order.items c.loop-v.waiting c.take_ready.new.self c.loop-v.invariant c.in-Some.v
     c.in-Some.ensures in
-    let lt = within c.args.leaders.now c.in-Some.v c.in-Some.v own in
+    let lt = slice_get_within c.args.leaders.now c.in-Some.v c.in-Some.v own in
     let count = c.requires.led.count in
     let size = lists_length c.args.led.now in
     omega (arith, lt, count, size)
@@ -40,7 +41,7 @@ pub release-requires-clause-places : goal.release-requires-clause-places
 release-requires-clause-places c =
     let own = leads_itself_now c.args.pairs (lists_of c.args.rows.now) c.args.leaders.now c.requires.leaders c.loop-v.order.items c.loop-v.waiting c.take_ready.new.self c.loop-v.invariant c.in-Some.v
     c.in-Some.ensures in
-    let lt = within c.args.leaders.now c.in-Some.v c.in-Some.v own in
+    let lt = slice_get_within c.args.leaders.now c.in-Some.v c.in-Some.v own in
     let count = c.requires.led.count in
     let size = lists_length c.args.led.now in
     let total = c.requires.leaders.count in
@@ -49,7 +50,7 @@ release-requires-clause-places c =
     rw c.deref.ensures.value
     (all_of_each (λ w. w < length c.args.rows.now) c.index-led-v.result.items
     (λ w i.
-    let h = within c.args.leaders.now w c.in-Some.v (led_place c.args.leaders.now (lists_of c.args.led.now) c.requires.led c.in-Some.v c.index-led-v.result.items at w i) in
+    let h = slice_get_within c.args.leaders.now w c.in-Some.v (led_place c.args.leaders.now (lists_of c.args.led.now) c.requires.led c.in-Some.v c.index-led-v.result.items at w i) in
     omega (arith, h, total, rows)))
 
 pub loop-v-smaller : goal.loop-v-smaller
@@ -64,7 +65,7 @@ pub loop-v-preserved : goal.loop-v-preserved
 loop-v-preserved c =
     let own = leads_itself_now c.args.pairs (lists_of c.args.rows.now) c.args.leaders.now c.requires.leaders c.loop-v.order.items c.loop-v.waiting c.take_ready.new.self c.loop-v.invariant c.in-Some.v
     c.in-Some.ensures in
-    let lt = within c.args.leaders.now c.in-Some.v c.in-Some.v own in
+    let lt = slice_get_within c.args.leaders.now c.in-Some.v c.in-Some.v own in
     let count = c.requires.led.count in
     let size = lists_length c.args.led.now in
     let at = row_at c.args.led.now c.in-Some.v c.index-led-v.result (omega (arith, lt, count, size)) c.index-led-v.is in

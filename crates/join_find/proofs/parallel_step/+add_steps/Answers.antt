@@ -7,9 +7,10 @@ use Rattle.term_pool.specs.Pooled.{tree_at}
 use Rattle.term_pool.proofs.PoolTrees.{stands_at, stands_within}
 use Rattle.term_pool.proofs.RedexWalk.{popped, narrow_app, narrow_next, positive_below, grown_all}
 use Rattle.join_find.specs.ParallelRow.{HasNoRootStep, IsRootStep, IsParallelStep}
-use Rattle.join_find.proofs.ParallelWalk.{applied, smaller_argument, argument_there, limits_inside, equal_terms, different_terms, no_step_added, root_step_added, none_from_variable, none_to_variable, none_of_other_root, none_of_other_count, arguments_begin, arguments_refute, argument_then_rest, no_rest_further, no_first, no_argument_left}
+use Rattle.join_find.proofs.ParallelWalk.{argument_there, limits_inside, equal_terms, different_terms, no_step_added, root_step_added, none_from_variable, none_to_variable, none_of_other_root, none_of_other_count, arguments_begin, arguments_refute, argument_then_rest, no_rest_further, no_first, no_argument_left}
 use Rattle.join_find.proofs.parallel_step.+add_steps.Goals.{In_ok-rule, In_default, After-as_slice-rights, After-index-rights-i}
 use Rattle.join_find.proofs.parallel_step.+add_steps.Goals as goal
+use Rattle.rewrite_core.proofs.RedexWalk.{smaller_argument, applied}
 
 pub returns-then-ids-clause-found : goal.returns-then-ids-clause-found
 returns-then-ids-clause-found t c = λ _.

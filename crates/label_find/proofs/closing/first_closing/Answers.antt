@@ -1,9 +1,8 @@
 use Rattle.std.proofs.Common.{◌∙◌}
 use Rattle.join_find.specs.First.{First, Some_in, None_in}
-use Rattle.join_find.proofs.Firsts.{first_read, first_in_list, none_further, none_of_all}
+use Rattle.join_find.proofs.Firsts.{first_read, first_in_list, none_further, none_of_all, holds_now}
 use Rattle.path_lists.specs.Adding.{Entry}
 use Rattle.label_find.specs.Closing.{ClosesFrom}
-use Rattle.label_find.proofs.Closings.{holds_now}
 use Rattle.label_find.proofs.closing.first_closing.Goals as goal
 
 pub returns-in-Some : goal.returns-in-Some

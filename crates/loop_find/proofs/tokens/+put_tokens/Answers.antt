@@ -1,7 +1,8 @@
 use Rattle.std.proofs.Common.{◌≡◌, length, arith, ap, refl}
 use Rattle.trs_defs.specs.Tree.{app}
 use Rattle.trs_core.specs.View.{tree, forest}
-use Rattle.loop_find.proofs.FlatTerms.{count_forest, put_begins}
+use Rattle.trs_core.proofs.Comparing.{count_forest}
+use Rattle.loop_find.proofs.FlatTerms.{put_begins}
 use Rattle.loop_find.proofs.tokens.+put_tokens.Goals as goal
 
 pub loop-arg-init : goal.loop-arg-init

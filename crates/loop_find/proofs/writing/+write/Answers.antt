@@ -3,9 +3,10 @@ use Rattle.trs_defs.specs.Tree.{Tree, app, trees}
 use Rattle.trs_defs.specs.Substitution.{apply, apply_all}
 use Rattle.trs_defs.proofs.ArgumentLists.{count_apply_all}
 use Rattle.trs_core.specs.View.{tree, forest}
+use Rattle.trs_core.proofs.Comparing.{count_forest}
 use Rattle.rewrite_core.proofs.RedexWalk.{applied}
 use Rattle.loop_find.specs.Bindings.{resolved}
-use Rattle.loop_find.proofs.FlatTerms.{count_forest, symbol_first, symbol_too_many, next_written, none_written, smaller_instance}
+use Rattle.loop_find.proofs.FlatTerms.{symbol_first, symbol_too_many, next_written, none_written, smaller_instance}
 use Rattle.loop_find.proofs.Renumbering.{way_begins, way_goes_on, way_stops, way_ends}
 use Rattle.loop_find.proofs.writing.+write.Goals as goal
 

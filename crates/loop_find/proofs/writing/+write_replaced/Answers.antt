@@ -3,12 +3,13 @@ use Rattle.std.proofs.Common.{◌≡◌, ◌-◌, ◌∷◌, ℕ, length, arith,
 use Rattle.trs_defs.specs.Tree.{Tree, app, trees}
 use Rattle.trs_defs.specs.Substitution.{apply_all}
 use Rattle.trs_core.specs.View.{tree, forest}
+use Rattle.trs_core.proofs.Comparing.{count_forest}
 use Rattle.rewrite_core.proofs.RedexWalk.{applied}
 use Rattle.loop_find.specs.declared.tokens.Token.TheVariants.{App}
 use Rattle.loop_find.specs.Bindings.{resolved}
 use Rattle.loop_find.specs.Flat.{tokens_of_all}
 use Rattle.loop_find.specs.Written.{put_into}
-use Rattle.loop_find.proofs.FlatTerms.{count_forest, symbol_first, symbol_too_many}
+use Rattle.loop_find.proofs.FlatTerms.{symbol_first, symbol_too_many}
 use Rattle.loop_find.proofs.Renumbering.{way_begins, way_goes_on, way_stops, way_ends}
 use Rattle.loop_find.proofs.Ways.{put_symbol, count_put_symbol, next_put_tokens, none_put_left}
 use Rattle.loop_find.proofs.writing.+write_replaced.Goals as goal

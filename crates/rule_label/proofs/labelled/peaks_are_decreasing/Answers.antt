@@ -1,8 +1,8 @@
 use Rattle.std.proofs.lemmas.Result.{err_from_is_err_and}
 use Rattle.rewrite_core.specs.Check.{goes_on, stops, holds, lacks}
 use Rattle.rewrite_core.proofs.Answering.{refused_first, refused_later}
-use Rattle.rewrite_core.proofs.Items.{one_more_passed, item_refused, all_passed}
-use Rattle.closed_pairs.proofs.PairsOfLists.{both_read, none_left}
+use Rattle.rewrite_core.proofs.Items.{one_more_passed, item_refused, all_passed, none_left}
+use Rattle.closed_pairs.proofs.PairsOfLists.{both_read}
 use Rattle.rule_label.proofs.labelled.peaks_are_decreasing.Goals as goal
 
 pub returns-in_err-ranks_are_counted : goal.returns-in_err-ranks_are_counted

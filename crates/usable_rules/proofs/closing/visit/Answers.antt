@@ -1,9 +1,10 @@
 use Rattle.std.proofs.Common.{◌≡◌, ◌⊎◌, refl, sym, ap, subst, length, slice_get, Some}
+use Rattle.std.proofs.lemmas.Option.{slice_get_read}
 use Rattle.trs_defs.specs.System.{RewriteRule}
 use Rattle.trs_defs.specs.Member.{In}
 use Rattle.trs_core.specs.View.{tree}
 use Rattle.usable_rules.specs.Worklist.{IsCalled}
-use Rattle.usable_rules.proofs.Found.{read, left_root, led_found, found_led, in_grown}
+use Rattle.usable_rules.proofs.Found.{left_root, led_found, found_led, in_grown}
 use Rattle.usable_rules.proofs.closing.visit.Goals as goal
 
 pub returns-clause-all : goal.returns-clause-all
@@ -11,7 +12,7 @@ returns-clause-all c =
     let rules = c.args.by_root.now.rules in
     let k = c.args.k in
     let r = c.index-rules-k.result in
-    let at : slice_get rules k ≡ Some r = subst (λ rs. slice_get rs k ≡ Some r) c.rules.ensures.rules (read c.rules.result.now k r r (rw c.rules.ensures.rules c.requires.there) c.index-rules-k.is refl) in
+    let at : slice_get rules k ≡ Some r = subst (λ rs. slice_get rs k ≡ Some r) c.rules.ensures.rules (slice_get_read c.rules.result.now _ k r refl (rw c.rules.ensures.rules c.requires.there) c.index-rules-k.is) in
     let root = left_root c.args.by_root.now c.rules.ensures.valid k r at in
     let right : tree c.rule.inside.right ≡ r.right = ap (λ (x : RewriteRule). x.right) c.rule.view_is in
     let found = c.mark_below.new.found.items in
@@ -24,7 +25,7 @@ returns-clause-only c =
     let rules = c.args.by_root.now.rules in
     let k = c.args.k in
     let r = c.index-rules-k.result in
-    let at : slice_get rules k ≡ Some r = subst (λ rs. slice_get rs k ≡ Some r) c.rules.ensures.rules (read c.rules.result.now k r r (rw c.rules.ensures.rules c.requires.there) c.index-rules-k.is refl) in
+    let at : slice_get rules k ≡ Some r = subst (λ rs. slice_get rs k ≡ Some r) c.rules.ensures.rules (slice_get_read c.rules.result.now _ k r refl (rw c.rules.ensures.rules c.requires.there) c.index-rules-k.is) in
     let root = left_root c.args.by_root.now c.rules.ensures.valid k r at in
     let right : tree c.rule.inside.right ≡ r.right = ap (λ (x : RewriteRule). x.right) c.rule.view_is in
     let found = c.mark_below.new.found.items in

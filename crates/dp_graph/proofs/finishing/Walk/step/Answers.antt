@@ -1,8 +1,9 @@
 use Rattle.std.proofs.Common.{◌++◌, [], ◌∷◌, ℕ, List, arith, refl, sym, subst}
+use Rattle.std.proofs.lemmas.Option.{slice_get_read}
 use Rattle.dp_graph.specs.GraphConditions.{lists_of}
 use Rattle.dp_graph.specs.Finishing.{IsWalk}
 use Rattle.dp_graph.proofs.FinishingLaws.{last_within, follow_walk, follow_effort, finish_place, enters_kept}
-use Rattle.dp_graph.proofs.ListPlaces.{lists_length, row_at, read}
+use Rattle.dp_graph.proofs.ListPlaces.{lists_length, row_at}
 use Rattle.dp_graph.proofs.finishing.Walk.step.Goals as goal
 
 pub offset_bounds-rows-place : goal.offset_bounds-rows-place
@@ -46,8 +47,8 @@ returns-then-next-len-clause-walk c =
     let row = c.index-rows-place.result in
     let e = c.in_ok-follow.ensures in
     follow_walk rows c.requires.within w.entered.items new.entered.items w.next.items new.next.items w.way.items new.way.items w.finished.items new.finished.items c.args.place n j row.items c.requires.walk
-    e.enters e.next e.finished (read w.next.items c.args.place n n (omega (arith, h, nexts)) c.index-next.ensures refl)
-    (row_at c.args.rows.now c.args.place row (omega (arith, h, size)) c.index-rows-place.is) (read row.items n j j (omega (arith, c.if-next-len.true, c.len.ensures)) c.index.ensures refl)
+    e.enters e.next e.finished (slice_get_read w.next.items _ c.args.place n refl (omega (arith, h, nexts)) c.index-next.ensures)
+    (row_at c.args.rows.now c.args.place row (omega (arith, h, size)) c.index-rows-place.is) (slice_get_read row.items _ n j refl (omega (arith, c.if-next-len.true, c.len.ensures)) c.index.ensures)
 
 pub returns-then-next-len-clause-kept : goal.returns-then-next-len-clause-kept
 returns-then-next-len-clause-kept c =
@@ -67,7 +68,7 @@ returns-then-next-len-clause-effort c =
     let row = c.index-rows-place.result in
     let e = c.in_ok-follow.ensures in
     follow_effort rows w.entered.items new.entered.items w.next.items new.next.items w.way.items (w.way.items ++ c.args.place ∷ []) new.way.items c.args.place n c.index.result.now row.items e.enters refl
-    (read w.next.items c.args.place n n (omega (arith, h, nexts)) c.index-next.ensures refl) (row_at c.args.rows.now c.args.place row (omega (arith, h, size)) c.index-rows-place.is)
+    (slice_get_read w.next.items _ c.args.place n refl (omega (arith, h, nexts)) c.index-next.ensures) (row_at c.args.rows.now c.args.place row (omega (arith, h, size)) c.index-rows-place.is)
     (omega (arith, c.if-next-len.true, c.len.ensures)) e.next
 
 pub returns-clause-walk : goal.returns-clause-walk
@@ -81,5 +82,5 @@ returns-clause-walk c =
     let row = c.index-rows-place.result in
     subst (λ (z : List ℕ). IsWalk rows w.entered.items w.next.items w.way.items z) (sym c.in_ok-push.ensures.items)
     (finish_place rows w.entered.items w.next.items w.way.items w.finished.items c.args.place n row.items c.requires.walk
-    (read w.next.items c.args.place n n (omega (arith, h, nexts)) c.index-next.ensures refl) (row_at c.args.rows.now c.args.place row (omega (arith, h, size)) c.index-rows-place.is)
+    (slice_get_read w.next.items _ c.args.place n refl (omega (arith, h, nexts)) c.index-next.ensures) (row_at c.args.rows.now c.args.place row (omega (arith, h, size)) c.index-rows-place.is)
     (omega (arith, c.if-next-len.false, c.len.ensures)))
