@@ -3,11 +3,11 @@ use Rattle.std.proofs.Common.{◌≡◌, ℕ, ◌+◌, ◌<◌, List, [], ◌∷
 use Rattle.sexp_core.specs.Items.{Item, a_word, Items, no_items, item}
 use Rattle.sexp_core.specs.Printed.{text_of, lines}
 use Rattle.trs_defs.specs.System.{RewriteRule}
+use Rattle.trs_defs.proofs.ListItems.{next_item}
 use Rattle.names_text.specs.VariableNames.{underscores}
 use Rattle.term_text.specs.PrintedTerm.{term_item}
 use Rattle.ari_text.specs.PrintedProblem.{three_members, symbol_items, rule_items, problem_items}
 use Rattle.names_text.specs.Named.{NamedSystem}
-use Rattle.names_text.proofs.UnderscoreSteps.{drop_at}
 
 first_line : (x : Item) (xs : Items) → lines (item x xs) ≡ lines (item x no_items) ++ lines xs
 first_line x xs = sym (append_assoc (text_of x) (10 ∷ []) (lines xs))
@@ -26,7 +26,7 @@ pub symbols_step : (names : List (List ℕ)) (arities : List ℕ) (f : ℕ) (nam
     → (out ++ lines (symbol_items (name ∷ []) (a ∷ []) no_items)) ++ lines (symbol_items (drop (f + 1) names) (drop (f + 1) arities) no_items) ≡ all
 symbols_step names arities f name a out all e lt g h =
     let here : drop f arities ≡ a ∷ drop (f + 1) arities = drop-cons arities f 0 lt ∙ rw (sym g, add-one) refl in
-    next_lines out all _ _ _ h (rw (drop_at names f name e, here) (first_symbol name a _ _))
+    next_lines out all _ _ _ h (rw (next_item names f name e, here) (first_symbol name a _ _))
 
 -- the lines of symbols, and those behind them
 pub symbols_lines : (ns : List (List ℕ)) (as' : List ℕ) (more : Items)

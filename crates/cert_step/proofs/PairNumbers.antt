@@ -1,17 +1,13 @@
 -- The pairs of the numbers of a problem.
-use Rattle.std.specs.Prelude.{◌≡◌, ◌<◌, ℕ, List, [], ◌∷◌, length, map, Some, slice_get, refl}
-use Rattle.std.proofs.Common.{zero, suc, arith}
+use Rattle.std.specs.Prelude.{◌≡◌, ◌<◌, ℕ, List, [], ◌∷◌, length, map, Some, refl}
 use Rattle.std.specs.List.{AllByRecursion}
 use Rattle.std.proofs.lemmas.List.Elements.{recursion_from_All}
 use Rattle.pair_theory.specs.DependencyPair.{DependencyPair, dependency_pairs}
 use Rattle.dp_graph.specs.dp_core.Numbered.{ArePairsOf}
 use Rattle.cert_step.specs.Laws.{ProblemsHavePairs, PairsAreOne}
+use Rattle.trs_defs.proofs.ListItems.{item_there}
 
 -- the item that stands at a number
-item_there : {A : Type 0} (xs : List A) (n : ℕ) → n < length xs → (x : A) × (slice_get xs n ≡ Some x)
-item_there [] n lt = absurd (omega arith)
-item_there (x ∷ xs) zero lt = (x, refl)
-item_there (x ∷ xs) (suc n) lt = item_there xs n (omega arith)
 
 pairs_there : (all : List DependencyPair) (numbers : List ℕ) → AllByRecursion (λ n. n < length all) numbers
     → (pairs : List DependencyPair) × ArePairsOf all numbers pairs

@@ -1,10 +1,10 @@
 -- Paths whose positions each stand left of the next one are parallel steps, written from the left.
 use Rattle.std.specs.Prelude.{◌≡◌, ◌≢◌, ◌↔◌, ◌<◌, ℕ, ◌+◌, List, [], ◌∷◌, drop, take, length, slice_get, Some, IsTrue}
-use Rattle.std.proofs.Common.{◌≤◌, ◌-◌, inl, inr, get_or, ltb, refl, sym, ap, ◌∙◌, subst, arith}
+use Rattle.std.proofs.Common.{◌≤◌, ◌-◌, inl, inr, get_or, ltb, refl, sym, subst, arith}
 use Rattle.std.proofs.lemmas.Bool.{ltb-true, lt-ltb}
-use Rattle.std.proofs.lemmas.List.{take_all, drop_more}
-use Rattle.std.proofs.lemmas.Option.{slice_get_within, get_or_from_slice_get}
+use Rattle.std.proofs.lemmas.List.{take_all}
 use Rattle.trs_defs.specs.Path.{PlacedRule}
+use Rattle.trs_defs.proofs.ListItems.{next_item}
 use Rattle.confluence_theory.specs.ParallelPositions.{AreParallel, IsParallelToAll, ArePairwiseParallel}
 use Rattle.closed_pairs.specs.LeftOf.{IsLeftOf}
 use Rattle.closed_pairs.specs.ParallelClosed.{StandsBefore, DoAscend, IsParallel}
@@ -82,10 +82,6 @@ here : (a b : ℕ) (p q : List ℕ) → a ≢ b → IsLeftOf (a ∷ p) (b ∷ q)
 here a b p q differ (inl lt) = lt
 here a b p q differ (inr (e, h)) = absurd (differ e)
 
-from_place : {A : Type 0} (xs : List A) (i : ℕ) (x : A) → slice_get xs i ≡ Some x → drop i xs ≡ x ∷ drop (i + 1) xs
-from_place xs i x e =
-    drop_more xs i x (slice_get_within xs i x e) ∙ ap (λ y. y ∷ drop (i + 1) xs) (get_or_from_slice_get xs i x x e)
-
 -- the positions agree before place number i
 module _ (p q : List ℕ) (i : ℕ) (agree : (IsLeftOf (drop i p) (drop i q)) ↔ (IsLeftOf p q)) where
   pub left_ends : drop i p ≡ [] → IsLeftOf p q → ⊥
@@ -96,7 +92,7 @@ module _ (p q : List ℕ) (i : ℕ) (agree : (IsLeftOf (drop i p) (drop i q)) �
 
   differ_here : (a b : ℕ) → slice_get p i ≡ Some a → slice_get q i ≡ Some b → a ≢ b → (a < b) ↔ (IsLeftOf p q)
   differ_here a b e d differ =
-      let both = rw (from_place p i a e, from_place q i b d) at agree in
+      let both = rw (next_item p i a e, next_item q i b d) at agree in
       (λ lt. both.0 (inl lt), λ h. here a b (drop (i + 1) p) (drop (i + 1) q) differ (both.1 h))
 
   pub differ_by_test : (a b : ℕ) → slice_get p i ≡ Some a → slice_get q i ≡ Some b → a ≢ b → (IsTrue (ltb a b)) ↔ (IsLeftOf p q)
@@ -106,7 +102,7 @@ module _ (p q : List ℕ) (i : ℕ) (agree : (IsLeftOf (drop i p) (drop i q)) �
 
   pub agree_here : (a : ℕ) → slice_get p i ≡ Some a → slice_get q i ≡ Some a → (IsLeftOf (drop (i + 1) p) (drop (i + 1) q)) ↔ (IsLeftOf p q)
   agree_here a e d =
-      let both = rw (from_place p i a e, from_place q i a d) at agree in
+      let both = rw (next_item p i a e, next_item q i a d) at agree in
       (λ h. both.0 (inr (refl, h)), λ h. later a (drop (i + 1) p) (drop (i + 1) q) (both.1 h))
 
 -- ---- paths, step by step
@@ -129,10 +125,10 @@ module _ (path rest : List PlacedRule) (s t : PlacedRule) (i : ℕ) (so_far : (G
 
   pub goes_on_right : slice_get rest i ≡ Some t → IsLeftOf s.place t.place → (GoesRight (t ∷ drop (i + 1) rest)) ↔ (GoesRight path)
   goes_on_right e h =
-      let both = rw (from_place rest i t e) at so_far in
+      let both = rw (next_item rest i t e) at so_far in
       (λ k. both.0 (h, k), λ k. (both.1 k).1)
 
   pub no_parallel_step : slice_get rest i ≡ Some t → (IsLeftOf s.place t.place → ⊥) → IsParallel path → ⊥
   no_parallel_step e none h =
-      let both = rw (from_place rest i t e) at so_far in
+      let both = rw (next_item rest i t e) at so_far in
       none (both.1 (goes_right path h.0 h.1)).0

@@ -5,10 +5,11 @@ use Rattle.std.proofs.Common.{get_or, refl, arith, ◌∙◌}
 use Rattle.std.proofs.lemmas.List.{length-map}
 use Rattle.std.proofs.lemmas.Option.{slice_get_read}
 use Rattle.trs_defs.specs.Path.{PlacedRule}
+use Rattle.trs_defs.proofs.ListItems.{read_image}
 use Rattle.rewrite_core.specs.PlacedPeak.{PlacedPeak}
 use Rattle.rewrite_core.specs.declared.checks.refusals.StepRefused.TheVariants.{Count}
 use Rattle.rewrite_core.specs.Check.{Check, has_length, Then, stops, lacks}
-use Rattle.rewrite_core.proofs.Items.{zipped, read_image}
+use Rattle.rewrite_core.proofs.Items.{zipped}
 use Rattle.closed_pairs.specs.ParallelClosed.{paths_of}
 
 module _ (peaks : List PlacedPeak) (paths : List (Vec PlacedRule Global)) where

@@ -7,7 +7,7 @@ use Rattle.std.specs.BTreeSet.{BTreeSet, IsEmpty, Updates}
 use Rattle.std.specs.BTreeMap.{is_at}
 use Rattle.std.specs.List.{list_any}
 use Rattle.trs_defs.specs.Tree.{Tree, Trees, var, app, nil, cons, items, count}
-use Rattle.trs_defs.specs.Size.{size_of, size_of_all}
+use Rattle.trs_defs.specs.Size.{size_of}
 use Rattle.trs_defs.specs.Substitution.{IsInstance}
 use Rattle.trs_defs.specs.Position.{argument_at, subterm_at}
 use Rattle.trs_defs.specs.System.{RewriteRule}
@@ -15,6 +15,7 @@ use Rattle.trs_defs.specs.Path.{PlacedRule}
 use Rattle.trs_defs.specs.Step.{Step}
 use Rattle.trs_defs.specs.NormalForm.{IsNormalForm}
 use Rattle.trs_defs.proofs.Places.{place_of_step}
+use Rattle.trs_defs.proofs.ArgumentLists.{item_size}
 use Rattle.term_pool.specs.Pooled.{Extends, tree_at}
 use Rattle.term_pool.specs.Redexes.{IsRedexAt, IsNarrow, AreNarrow, IsEarlier, ComesBefore}
 use Rattle.term_pool.proofs.Extending.{same_tree_at}
@@ -23,11 +24,6 @@ use Rattle.completion.specs.Normalizing.{IsFirstRedex}
 use Rattle.completion.specs.Searching.{HasNoPlace, HaveNoPlace, IsFound, IsRootFound, BeginsBehind, HasNoneUpTo}
 
 -- ---- arguments
-
-item_size : (ts : Trees) (i : ℕ) (a : Tree) → slice_get (items ts) i ≡ Some a → size_of a ≤ size_of_all ts
-item_size nil i a e = absurd cc
-item_size (cons t ts) zero a e = let same : size_of t ≡ size_of a = ap size_of (same_Some t a e) in omega (arith, same)
-item_size (cons t ts) (suc i) a e = omega (arith, item_size ts i a e)
 
 pub argument_smaller : (t : Tree) (place : ℕ) (a : Tree) → argument_at t place ≡ Some a → size_of a < size_of t
 argument_smaller (var n) place a e = absurd cc

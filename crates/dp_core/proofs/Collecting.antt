@@ -1,24 +1,18 @@
 -- A loop over the items of a list, each of which is checked and gives a value.
 use Rattle.std.specs.Prelude.{◌≡◌, ℕ, ◌+◌, List, [], ◌∷◌, ◌++◌, drop, slice_get, Some, Result, Ok, Err}
-use Rattle.std.proofs.Common.{suc, zero, add-one, refl, sym, ap, subst, append_assoc}
+use Rattle.std.proofs.Common.{refl, sym, ap, subst, append_assoc}
 use Rattle.std.proofs.lemmas.List.{append-nil}
 use Rattle.rewrite_core.specs.declared.checks.refusals.StepRefused.{StepRefused}
 use Rattle.rewrite_core.specs.declared.checks.refusals.CheckFault.{CheckFault}
 use Rattle.rewrite_core.specs.declared.checks.refusals.CheckFault.TheVariants.{Refused, OutOfMemory}
 use Rattle.rewrite_core.specs.Check.{Check, Refuses, returned, stops, goes_on, collect}
+-- what crates above cite from here
+pub use Rattle.trs_defs.proofs.ListItems.{next_item}
 
 -- the answer with these values before it
 abbrev pub with_before : {B : Type 0} → List B → Result (List B) StepRefused → Result (List B) StepRefused
 with_before ys (Ok zs) = Ok (ys ++ zs)
 with_before ys (Err why) = Err why
-
-from_item : {A : Type 0} (xs : List A) (i : ℕ) (x : A) → slice_get xs i ≡ Some x → drop i xs ≡ x ∷ drop (suc i) xs
-from_item [] i x e = absurd cc
-from_item (y ∷ xs) zero x e = cc
-from_item (y ∷ xs) (suc i) x e = from_item xs i x e
-
-pub next_item : {A : Type 0} (xs : List A) (i : ℕ) (x : A) → slice_get xs i ≡ Some x → drop i xs ≡ x ∷ drop (i + 1) xs
-next_item xs i x e = rw add-one (from_item xs i x e)
 
 module _ {A B : Type 0} (check : ℕ → A → Check B) (xs : List A) where
   -- the items before number i gave these values: the whole is answered as the rest is

@@ -4,6 +4,7 @@ use Rattle.std.proofs.Common.{zero, suc, refl, sym, arith, nat_lt}
 use Rattle.std.proofs.lemmas.Bool.{ltb-true, ltb-false}
 use Rattle.std.proofs.lemmas.Option.{slice_get_within}
 use Rattle.trs_defs.specs.System.{RewriteRule, has_root, is_defined}
+use Rattle.trs_defs.proofs.ListItems.{item_there}
 use Rattle.term_pool.specs.Roots.{IsNextRooted}
 
 no_root : (rules : List RewriteRule) (f : ℕ) → ((i : ℕ) (r : RewriteRule) → slice_get rules i ≡ Some r → has_root f r.left ≡ false) → is_defined rules f ≡ false
@@ -23,13 +24,8 @@ a_root (rule ∷ rules) f (suc i) r e h = go (has_root f rule.left) (a_root rule
     go true k = refl
     go false k = k
 
-there : {A : Type 0} (xs : List A) (n : ℕ) → n < length xs → (x : A) × (slice_get xs n ≡ Some x)
-there [] n h = absurd (omega arith)
-there (x ∷ xs) zero h = (x, refl)
-there (x ∷ xs) (suc n) h = there xs n (omega arith)
-
 pub first_is_there : (rules : List RewriteRule) (f n : ℕ) → IsNextRooted rules f 0 n → n < length rules → is_defined rules f ≡ true
-first_is_there rules f n next h = let r = there rules n h in a_root rules f n r.0 r.1 (next.rooted r.0 r.1)
+first_is_there rules f n next h = let r = item_there rules n h in a_root rules f n r.0 r.1 (next.rooted r.0 r.1)
 
 pub no_first : (rules : List RewriteRule) (f n : ℕ) → IsNextRooted rules f 0 n → length rules ≤ n → is_defined rules f ≡ false
 no_first rules f n next h = no_root rules f (λ i r e. next.passed i r (omega arith) (omega (arith, h, slice_get_within rules i r e)) e)

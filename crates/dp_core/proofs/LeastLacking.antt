@@ -6,11 +6,11 @@ use Rattle.trs_defs.specs.Member.{In, in_first, in_rest}
 use Rattle.trs_defs.proofs.Members.{in_or, no_in}
 use Rattle.trs_defs.specs.Tree.{Tree, Trees, cons}
 use Rattle.trs_defs.specs.System.{RewriteRule}
+use Rattle.trs_defs.proofs.ListItems.{next_item}
 use Rattle.pair_theory.specs.DependencyPair.{DependencyPair}
 use Rattle.dp_core.specs.SubtermConditions.{roots_of}
 use Rattle.dp_core.specs.Symbols.{symbols_of, symbols_of_all, symbols_of_rules}
 use Rattle.dp_core.specs.LeastLacking.{lower_of, lacking_with, least_lacking}
-use Rattle.dp_core.proofs.Collecting.{next_item}
 
 -- the least number of which the fact holds, if there is one
 abbrev pub IsLeast : (ℕ → Type 0) → Option ℕ → Type 0

@@ -4,9 +4,7 @@ use Rattle.std.proofs.Common.{zero, suc, refl, sym, ap, subst, arith, ◌∙◌}
 use Rattle.std.proofs.lemmas.Option.{slice_get_read, slice_get-get_or, get_or_from_slice_get, slice_get_within, same_Some}
 use Rattle.rewrite_core.proofs.Items.{zipped}
 use Rattle.dp_core.specs.Numbered.{AreItemsOf}
-
-pub head_of : {A : Type 0} (x y : A) (xs ys : List A) → x ∷ xs ≡ y ∷ ys → (x ≡ y) × (xs ≡ ys)
-head_of x y xs ys e = (cc, cc)
+use Rattle.trs_defs.proofs.ListItems.{item_there, cons_parts}
 
 module _ {A : Type 0} (all : List A) where
   -- there are such pairs
@@ -17,11 +15,6 @@ module _ {A : Type 0} (all : List A) where
       let here = item_there all n (within zero n refl) in
       (here.0 ∷ rest.0, cons_both here.1 rest.1)
     where
-      item_there : (xs : List A) (i : ℕ) → i < length xs → (x : A) × (slice_get xs i ≡ Some x)
-      item_there [] i h = absurd (omega arith)
-      item_there (x ∷ xs) zero h = (x, refl)
-      item_there (x ∷ xs) (suc i) h = item_there xs i (omega arith)
-
       cons_both : {B : Type 0} {x y : B} {xs ys : List B} → x ≡ y → xs ≡ ys → x ∷ xs ≡ y ∷ ys
       cons_both e d = cc
 
@@ -31,12 +24,12 @@ module _ {A : Type 0} (all : List A) where
   pair_of_number [] pairs k n p are e d = absurd cc
   pair_of_number (m ∷ numbers) [] k n p are e d = absurd cc
   pair_of_number (m ∷ numbers) (q ∷ pairs) zero n p are e d =
-      let h = head_of (slice_get all m) (Some q) (map (slice_get all) numbers) (map (λ x. Some x) pairs) are in
+      let h = cons_parts (slice_get all m) (Some q) (map (slice_get all) numbers) (map (λ x. Some x) pairs) are in
       let same : m ≡ n = same_Some m n e in
       let here : slice_get all m ≡ Some p = rw same d in
       sym h.0 ∙ here
   pair_of_number (m ∷ numbers) (q ∷ pairs) (suc k) n p are e d =
-      let h = head_of (slice_get all m) (Some q) (map (slice_get all) numbers) (map (λ x. Some x) pairs) are in
+      let h = cons_parts (slice_get all m) (Some q) (map (slice_get all) numbers) (map (λ x. Some x) pairs) are in
       pair_of_number numbers pairs k n p h.1 e d
 
   pub as_many : (numbers : List ℕ) (pairs : List A) → AreItemsOf all numbers pairs → length pairs ≡ length numbers
@@ -44,7 +37,7 @@ module _ {A : Type 0} (all : List A) where
   as_many [] (q ∷ pairs) are = absurd cc
   as_many (m ∷ numbers) [] are = absurd cc
   as_many (m ∷ numbers) (q ∷ pairs) are =
-      let h = head_of (slice_get all m) (Some q) (map (slice_get all) numbers) (map (λ x. Some x) pairs) are in
+      let h = cons_parts (slice_get all m) (Some q) (map (slice_get all) numbers) (map (λ x. Some x) pairs) are in
       ap suc (as_many numbers pairs h.1)
 
   -- the pair, as it is read

@@ -13,6 +13,7 @@ use Rattle.trs_defs.proofs.Members.{in_or, no_in, in_left, in_right, in_either, 
 use Rattle.trs_defs.specs.Run.{Run, Stay, Go}
 use Rattle.trs_defs.proofs.Runs.{one, then}
 use Rattle.trs_defs.specs.System.{RewriteRule, System}
+use Rattle.trs_defs.proofs.ListItems.{item_there}
 use Rattle.pair_theory.specs.DependencyPair.{DependencyPair, dependency_pairs, keep_if}
 use Rattle.rewrite_core.specs.Check.{Forbids, holds, absent, never, returned, goes_on, each_after}
 use Rattle.rewrite_core.specs.declared.checks.refusals.StepRefused.TheVariants.{EdgeBack, SelfEdge}
@@ -25,7 +26,7 @@ use Rattle.dp_graph.specs.Components.{IsEdgeWithin, LiesOnCycle, IsComponent, Is
 use Rattle.dp_graph.specs.PutOut.{led_by, IsBlocked, IsUndoneLeader, IsNextReady, IsItemOf, Finishes, ArePutOut, all_done, put_out, PutsOut, AreItemsOf, no_leaders, a_pair, a_rule}
 use Rattle.dp_graph.proofs.EachOfList.{each_passes}
 use Rattle.dp_graph.proofs.UnnamedPairs.{both_new}
-use Rattle.dp_graph.proofs.ListPlaces.{there, set_at, unset_there, at_repeat, in_repeat, length_repeat}
+use Rattle.dp_graph.proofs.ListPlaces.{set_at, unset_there, at_repeat, in_repeat, length_repeat}
 use Rattle.dp_graph.proofs.PutOutLaws.{leads_itself, one_leader, led_mutual, DoneTogether, still_together, together_at_first}
 
 -- ---- lists that ascend
@@ -176,10 +177,10 @@ module _ (rules : List RewriteRule) (all : List DependencyPair) (numbers : List 
       Go first (Go second (run_down run at.0 j at.1 d))
 
   leader_of : (w : ℕ) → w < pairs → (l : ℕ) × (slice_get leaders w ≡ Some l)
-  leader_of w lt = there leaders w (let c = led.count in let d = are_rows.count in omega (arith, lt, c, d))
+  leader_of w lt = item_there leaders w (let c = led.count in let d = are_rows.count in omega (arith, lt, c, d))
 
   number_of : (w : ℕ) → w < pairs → (n : ℕ) × (slice_get numbers w ≡ Some n)
-  number_of w lt = there numbers w lt
+  number_of w lt = item_there numbers w lt
 
   -- the members of the item of a leader
   in_item : (v : ℕ) (item : GroupOrSingle) → slice_get leaders v ≡ Some v → IsItemOf numbers leaders v item → (n : ℕ) → In n (members_of item)
@@ -231,7 +232,7 @@ module _ (rules : List RewriteRule) (all : List DependencyPair) (numbers : List 
       let (small, (r, first, second)) = step_down v j.0 member k edge is.0 j.1 in
       let back = run_down run j.0 v j.1 is.0 in
       let (behind, few) = to_rule v r first lt in
-      let l = there leaders r few in
+      let l = item_there leaders r few in
       let same : l.0 ≡ v = one_leader rows leaders led r v l.0 v l.1 own (Go second back, one first) in
       let here : r ≡ v = is.1 r (l.1 ∙ ap (λ z. Some z) same) in
       omega (arith, here, behind, lt)
@@ -263,8 +264,8 @@ module _ (rules : List RewriteRule) (all : List DependencyPair) (numbers : List 
     together = still_together rows leaders led v done new ready.0.0 finishes passed.together;
     closed = λ i j f e.
         let lt : i < length leaders = (let (row, at, k) = f in let w = slice_get_within rows i row at in let c = led.count in omega (arith, w, c)) in
-        let li = there leaders i lt in
-        let lj = there leaders j (let w = slice_get_within new j true e in let c = finishes.count in let s = passed.size in omega (arith, w, c, s)) in
+        let li = item_there leaders i lt in
+        let lj = item_there leaders j (let w = slice_get_within new j true e in let c = finishes.count in let s = passed.size in omega (arith, w, c, s)) in
         go i j f e li.0 li.1 lj.0 lj.1 lt (ℕ_discrete li.0 v) (ℕ_discrete lj.0 v);
   }
     where
@@ -332,7 +333,7 @@ module _ (rules : List RewriteRule) (all : List DependencyPair) (numbers : List 
         let (w, d, led_w) = in_item u x own of n j in
         let (lt, (r, first, second)) = step_down a w m n edge e d in
         let l = leader_of a lt in
-        let k = there leaders r (to_rule a r first lt).1 in
+        let k = item_there leaders r (to_rule a r first lt).1 in
         go a r w e undone first second led_w l.0 l.1 k.0 k.1 (ℕ_discrete k.0 u) (ℕ_discrete l.0 u) (undone_or_done done passed.size r (to_rule a r first lt).1)
       where
         go : (a r w : ℕ) → slice_get numbers a ≡ Some m → slice_get done a ≡ Some false → Follows rows a r → Follows rows r w → slice_get leaders w ≡ Some u → (l : ℕ) → slice_get leaders a ≡ Some l
@@ -576,7 +577,7 @@ module _ (rules : List RewriteRule) (all : List DependencyPair) (numbers : List 
             (ready m n (in_right (members_of item) i) k (member_there numbers named (members_of item ++ all_members items) news m (in_right (members_of item) i), member_there numbers named (members_of item ++ all_members items) news n (in_left (all_members items) k), edge)) i
       ])
       (λ n j. elim (in_either (all_members before) (members_of item) (subst (In n) (members_append before item) j)) [
-        | inl k ↦ there n k
+        | inl k ↦ item_there n k
         | inr k ↦ member_there numbers named (members_of item ++ all_members items) news n (in_left (all_members items) k)
       ]))
 

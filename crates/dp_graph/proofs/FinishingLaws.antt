@@ -7,12 +7,13 @@ use Rattle.trs_defs.specs.Member.{In, in_first}
 use Rattle.trs_defs.specs.Run.{Run, Stay, Go}
 use Rattle.trs_defs.proofs.Runs.{one, then}
 use Rattle.trs_defs.proofs.Members.{no_in, in_left, in_right, in_either, get_of_in, in_of_get}
+use Rattle.trs_defs.proofs.ListItems.{last_item}
 use Rattle.dp_graph.specs.Rows.{Follows, StayWithin}
 use Rattle.dp_graph.specs.FoundPlaces.{unset}
 use Rattle.dp_graph.specs.Leaders.{AreMutual}
 use Rattle.dp_graph.specs.Finishing.{IsMutualBehind, IsMutualBefore, IsFinishingOrder, IsWalk, Enters, untried, effort}
 use Rattle.dp_graph.proofs.FoundLaws.{unset_set}
-use Rattle.dp_graph.proofs.ListPlaces.{set_at, not_both, unset_there, length_set, set_here, set_elsewhere, set_cases, set_kept, last_or_there, still_there, last_there, get_left, length_more, in_single, in_repeat, length_repeat}
+use Rattle.dp_graph.proofs.ListPlaces.{set_at, not_both, unset_there, length_set, set_here, set_elsewhere, set_cases, set_kept, last_or_there, still_there, get_left, length_more, in_single, in_repeat, length_repeat}
 
 pub walk_starts : (rows : List (List ℕ)) (entered : List Bool) (next way finished : List ℕ) (n : ℕ) → n ≡ length rows → entered ≡ replicate n false → next ≡ replicate n 0 → way ≡ [] → finished ≡ []
     → IsWalk rows entered next way finished
@@ -95,7 +96,7 @@ module _ (rows : List (List ℕ)) where
         where
           on_way : Dec (u ≡ j) → (slice_get entered u ≡ Some true → ⊥)
               → IsMutualBefore rows (way ++ j ∷ []) (length (way ++ j ∷ [])) u ⊎ (slice_get (slice_set entered j true) u ≡ Some true → ⊥)
-          on_way (yes same) f = inl (length way, j, (let l = length_more way j in omega (arith, l)), last_there way j, subst (λ z. AreMutual rows z j) (sym same) (Stay, Stay))
+          on_way (yes same) f = inl (length way, j, (let l = length_more way j in omega (arith, l)), last_item way j [], subst (λ z. AreMutual rows z j) (sym same) (Stay, Stay))
           on_way (no other) f = inr (λ set. f (sym (set_elsewhere entered j u true other) ∙ set))
 
       pub enter_place : IsWalk rows (slice_set entered j true) next (way ++ j ∷ []) finished
@@ -165,7 +166,7 @@ module _ (rows : List (List ℕ)) where
         | inr g ↦ elim g [
           | inl (m, w, lt, d, both) ↦ elim (last_or_there way x w m d) [
             | inl f ↦ inr (inl (m, w, slice_get_within way m w f, f, both))
-            | inr f ↦ inl (length finished, x, slice_get_within finished k y e, last_there finished x, subst (AreMutual rows u) (sym f.1) both)
+            | inr f ↦ inl (length finished, x, slice_get_within finished k y e, last_item finished x [], subst (AreMutual rows u) (sym f.1) both)
           ]
           | inr f ↦ inr (inr f)
         ]
@@ -177,7 +178,7 @@ module _ (rows : List (List ℕ)) where
     order_last u run = elim (set_at entered u) [
       | no free ↦ inr (inr (inr free))
       | yes set ↦ elim (is.seen u set) [
-        | inl i ↦ elim (is.back (length way) x u (last_there way x) i run) [
+        | inl i ↦ elim (is.back (length way) x u (last_item way x []) i run) [
           | inl h ↦ inl h
           | inr h ↦ inr (inr (inl (before_less way x (length way) u (omega arith) h)))
         ]
@@ -217,7 +218,7 @@ module _ (rows : List (List ℕ)) where
               | inl g ↦ inl g
               | inr g ↦ inr (before_less way x k u (omega (arith, low)) g)
             ]
-            | inr h ↦ inl (subst (Run (Follows rows) v) (sym (in_single h)) (is.leads k (length way) v x low (still_there way (x ∷ []) k v e) (last_there way x)))
+            | inr h ↦ inl (subst (Run (Follows rows) v) (sym (in_single h)) (is.leads k (length way) v x low (still_there way (x ∷ []) k v e) (last_item way x [])))
           ];
       order = λ k y u e run. elim (last_or_there finished x y k e) [
         | inl h ↦ order_old k y u h run
@@ -267,7 +268,7 @@ module _ (rows : List (List ℕ)) where
     where
       leads_to : Follows rows x j → (k v : ℕ) → slice_get (way ++ x ∷ []) k ≡ Some v → Run (Follows rows) v j
       leads_to step k v e = elim (last_or_there way x v k e) [
-        | inl h ↦ then (is.leads k (length way) v x (slice_get_within way k v h) e (last_there way x)) (one step)
+        | inl h ↦ then (is.leads k (length way) v x (slice_get_within way k v h) e (last_item way x [])) (one step)
         | inr h ↦ subst (λ z. Run (Follows rows) z j) h.1 (one step)
       ]
 

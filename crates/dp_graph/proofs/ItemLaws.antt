@@ -7,13 +7,14 @@ use Rattle.std.proofs.lemmas.Bool.{eqb-true, eq-eqb}
 use native.Mathlib.Decide.{dec_lt, ℕ_discrete}
 use Rattle.trs_defs.specs.Member.{In, in_first, in_rest}
 use Rattle.trs_defs.proofs.Members.{no_in}
+use Rattle.trs_defs.proofs.ListItems.{item_there, last_item}
 use Rattle.pair_theory.specs.DependencyPair.{keep_if}
 use Rattle.dp_graph.specs.declared.items.GraphItem.{GraphItem}
 use Rattle.dp_graph.specs.GroupOrSingle.{GroupOrSingle, group, single, item_of, items_of}
 use Rattle.dp_graph.specs.PutOut.{led_by, IsItemOf, AddsItem, AreItemsOf, no_leaders, a_pair, a_rule}
 use Rattle.dp_graph.specs.PlaceLists.{AreEmpty, PutsBehind, places_below, before_others, numbers_of, AreLed}
 use Rattle.dp_graph.proofs.ItemLists.{one_taken}
-use Rattle.dp_graph.proofs.ListPlaces.{past_none, in_single, there, length_more, still_there, last_there}
+use Rattle.dp_graph.proofs.ListPlaces.{past_none, in_single, length_more, still_there}
 use Rattle.dp_graph.proofs.ComponentLaws.{Ascends, number, ascends_by, in_led_by, led_by_in, led_ascends}
 
 keep_before : {A : Type 0} (b : Bool) (x : A) (xs ys : List A) → keep_if b x xs ++ ys ≡ keep_if b x (xs ++ ys)
@@ -44,7 +45,7 @@ place_there (suc n) w h = elim (dec_lt w n) [
   | yes s ↦ still_there (places_below n) (n ∷ []) w w (place_there n w s)
   | no s ↦
       let same : w ≡ n = omega (arith, s, h) in
-      let at : slice_get (places_below n ++ n ∷ []) n ≡ Some n = subst (λ z. slice_get (places_below n ++ n ∷ []) z ≡ Some n) (places_length n) (last_there (places_below n) n) in
+      let at : slice_get (places_below n ++ n ∷ []) n ≡ Some n = subst (λ z. slice_get (places_below n ++ n ∷ []) z ≡ Some n) (places_length n) (last_item (places_below n) n []) in
       subst (λ z. slice_get (places_below n ++ n ∷ []) z ≡ Some z) (sym same) at
 ]
 
@@ -72,7 +73,7 @@ one_more_led leaders led new w l lt is small puts before = record {
 
     go : (v : ℕ) (places : List ℕ) → slice_get new v ≡ Some places → Dec (v ≡ l) → places ≡ led_by v (places_below (suc w)) (take (suc w) leaders)
     go v places e (yes same) =
-        let r = there led l small in
+        let r = item_there led l small in
         let here : places ≡ r.0 ++ w ∷ [] = same_Some places (r.0 ++ w ∷ []) (sym (subst (λ z. slice_get new z ≡ Some places) same e) ∙ puts.here r.0 r.1) in
         let old : r.0 ≡ led_by v (places_below w) (take w leaders) = before.each v r.0 (subst (λ z. slice_get led z ≡ Some r.0) (sym same) r.1) in
         here ∙ (ap (λ z. z ++ w ∷ []) old ∙ (ap (λ b. led_by v (places_below w) (take w leaders) ++ keep_if b w []) (sym (eq-eqb l v (sym same))) ∙ sym (whole v)))

@@ -8,11 +8,6 @@ use Rattle.trs_defs.specs.Member.{In}
 use Rattle.trs_defs.proofs.Members.{in_or, no_in, get_of_in, in_of_get}
 use Rattle.dp_graph.specs.GraphConditions.{lists_of}
 
-pub there : {A : Type 0} (xs : List A) (n : ℕ) → n < length xs → (x : A) × (slice_get xs n ≡ Some x)
-there [] n h = absurd (omega arith)
-there (x ∷ xs) zero h = (x, refl)
-there (x ∷ xs) (suc n) h = there xs n (omega arith)
-
 pub past_none : {A : Type 0} (xs : List A) (n : ℕ) → length xs ≤ n → slice_get xs n ≡ None
 past_none [] n h = refl
 past_none (x ∷ xs) zero h = absurd (omega (arith, h))
@@ -88,10 +83,6 @@ pub still_there : {A : Type 0} (xs ys : List A) (n : ℕ) (x : A) → slice_get 
 still_there [] ys n x e = absurd cc
 still_there (z ∷ xs) ys zero x e = e
 still_there (z ∷ xs) ys (suc n) x e = still_there xs ys n x e
-
-pub last_there : {A : Type 0} (xs : List A) (y : A) → slice_get (xs ++ y ∷ []) (length xs) ≡ Some y
-last_there [] y = refl
-last_there (z ∷ xs) y = last_there xs y
 
 pub get_left : {A : Type 0} (xs ys : List A) (m : ℕ) (k : A) → m < length xs → slice_get (xs ++ ys) m ≡ Some k → slice_get xs m ≡ Some k
 get_left [] ys m k h e = absurd (omega arith)

@@ -1,5 +1,5 @@
 -- The nodes of pairs, one after another, and edges between them.
-use Rattle.std.specs.Prelude.{◌≡◌, ◌<◌, ◌≤◌, ◌⊎◌, ◌↔◌, ℕ, ◌+◌, Bool, false, List, [], ◌∷◌, ◌++◌, length, take, get_or, Option, Some, None, Result, Ok, Err, IfOk, IsTrue, slice_get, refl}
+use Rattle.std.specs.Prelude.{◌≡◌, ◌<◌, ◌≤◌, ◌↔◌, ℕ, ◌+◌, Bool, false, List, [], ◌∷◌, ◌++◌, length, take, get_or, Option, Some, None, Result, Ok, Err, IfOk, IsTrue, slice_get, refl}
 use Rattle.std.proofs.Common.{zero, suc, inl, inr, sym, ap, subst, arith, ◌∙◌, length-append}
 use Rattle.std.proofs.lemmas.Option.{slice_get_within, slice_get_past, slice_get_read, get_or_from_slice_get, same_Some}
 use Rattle.std.proofs.lemmas.List.{take_all}
@@ -10,6 +10,7 @@ use Rattle.trs_defs.specs.System.{RewriteRule, System, IsSystem}
 use Rattle.trs_core.specs.View.{tree, forest}
 use Rattle.trs_core.specs.declared.terms.Term.{Term}
 use Rattle.trs_defs.specs.Path.{PlacedRule}
+use Rattle.trs_defs.proofs.ListItems.{item_there}
 use Rattle.dp_core.specs.PlacedPairs.{IsPairAt}
 use Rattle.trs_caps.specs.declared.holed.Cap.{Cap}
 use Rattle.trs_caps.specs.HoledTree.{symbol}
@@ -22,7 +23,7 @@ use Rattle.dp_graph.specs.Edge.{IsEdge}
 use Rattle.dp_graph.specs.GraphConditions.{HasEdge}
 use Rattle.dp_graph.specs.GraphNodes.{IsEndOf, IsNodeOf, IsNodeFor, AreNodesOf}
 use Rattle.dp_graph.specs.EarlierPairs.{IsOfRule}
-use Rattle.dp_graph.proofs.ListPlaces.{past_none}
+use Rattle.dp_graph.proofs.ListPlaces.{past_none, last_or_there}
 use Rattle.dp_graph.proofs.Covering.{edge_by_caps}
 
 -- an item, as it is read
@@ -63,11 +64,6 @@ NodesSoFar rules nodes k =
     × ((n : ℕ) (p : DependencyPair) (node : Node) → slice_get (dependency_pairs rules) n ≡ Some p → slice_get nodes n ≡ Some node → IsNodeOf rules p node)
 
 -- an item of a list with one more, that is the last or was there
-last_or_there : {A : Type 0} (xs : List A) (y x : A) (n : ℕ) → slice_get (xs ++ y ∷ []) n ≡ Some x → (slice_get xs n ≡ Some x) ⊎ ((n ≡ length xs) × (y ≡ x))
-last_or_there [] y x zero e = inr (refl, same_Some y x e)
-last_or_there [] y x (suc n) e = absurd cc
-last_or_there (z ∷ xs) y x zero e = inl e
-last_or_there (z ∷ xs) y x (suc n) e = elim (last_or_there xs y x n e) [ inl h ↦ inl h | inr h ↦ inr (ap suc h.0, h.1) ]
 
 pub one_more_node : (rules : List RewriteRule) (nodes new : List Node) (k : ℕ) (p : DependencyPair) (node : Node) → slice_get (dependency_pairs rules) k ≡ Some p → IsNodeOf rules p node
     → new ≡ nodes ++ node ∷ [] → NodesSoFar rules nodes k → NodesSoFar rules new (k + 1)
@@ -87,16 +83,11 @@ none_past [] n e = omega arith
 none_past (x ∷ xs) zero e = absurd cc
 none_past (x ∷ xs) (suc n) e = let h = none_past xs n e in omega (arith, h)
 
-there_is : {A : Type 0} (xs : List A) (n : ℕ) → n < length xs → (x : A) × (slice_get xs n ≡ Some x)
-there_is [] n h = absurd (omega (arith, h))
-there_is (x ∷ xs) zero h = (x, refl)
-there_is (x ∷ xs) (suc n) h = there_is xs n (omega (arith, h))
-
 pub node_read : (system : System) (nodes : List Node) (n : ℕ) (found : Option Node) → AreNodesOf system nodes → found ≡ slice_get nodes n → IsNodeFor system n found
 node_read system nodes n None are e = past_none (dependency_pairs system.rules) n (let h = none_past nodes n (sym e) in let c = are.count in omega (arith, h, c))
 node_read system nodes n (Some node) are e =
     let lt = slice_get_within nodes n node (sym e) in
-    let p = there_is (dependency_pairs system.rules) n (let c = are.count in omega (arith, lt, c)) in
+    let p = item_there (dependency_pairs system.rules) n (let c = are.count in omega (arith, lt, c)) in
     (p.0, p.1, are.each n p.0 node p.1 (sym e))
 
 pub of_rule : (rules : List RewriteRule) (p : DependencyPair) (node : Node) → IsNodeOf rules p node → IsOfRule rules node.rule p

@@ -5,6 +5,7 @@ use native.Mathlib.Decide.{ℕ_discrete}
 use Rattle.trs_defs.specs.Member.{In}
 use Rattle.trs_defs.specs.Run.{Stay}
 use Rattle.trs_defs.proofs.Members.{get_of_in}
+use Rattle.trs_defs.proofs.ListItems.{item_there}
 use Rattle.std.specs.BTreeSet.{BTreeSet}
 use Rattle.std.proofs.lemmas.Option.{same_Some, slice_get_within}
 use Rattle.dp_graph.specs.Leaders.{AreLeaders}
@@ -12,7 +13,7 @@ use Rattle.dp_graph.specs.PutOut.{IsBlocked, IsUndoneLeader, IsNextReady, Finish
 use Rattle.dp_graph.specs.FoundPlaces.{unset}
 use Rattle.dp_graph.specs.Waiting.{Has, HasAt, AreAtFirst, TakesOut, Releases, OfRows}
 use Rattle.dp_graph.specs.declared.waiting.Waiting.{Waiting}
-use Rattle.dp_graph.proofs.ListPlaces.{there, not_both, unset_there, at_repeat, in_repeat, length_repeat, length_more}
+use Rattle.dp_graph.proofs.ListPlaces.{not_both, unset_there, at_repeat, in_repeat, length_repeat, length_more}
 use Rattle.dp_graph.proofs.PutOutLaws.{leads_itself, DoneTogether, PutOutSoFar, none_put_out, one_more_put_out, all_put_out, none_undone, fewer_left, still_together, together_at_first, finished, finishes_all}
 use Rattle.dp_graph.proofs.WaitingLaws.{dec_has, has_none, has_first}
 
@@ -59,7 +60,7 @@ at_first rows leaders waiting n size is = record {
 module _ (pairs : ℕ) (rows : List (List ℕ)) (leaders : List ℕ) (are : AreLeaders rows leaders) (done : List Bool) (size : length done ≡ length leaders) (old : Waiting) (is : IsWaiting rows leaders done old) where
   -- a leader that is left and not ready is blocked
   blocked_or_ready : (l : ℕ) → IsUndoneLeader leaders done l → (Has old.ready l → ⊥) → IsBlocked rows leaders done l
-  blocked_or_ready l undone not_ready = go (some_blocker (there old.blockers.items l (let w = slice_get_within leaders l l undone.0 in let c = is.count in omega (arith, w, c))))
+  blocked_or_ready l undone not_ready = go (some_blocker (item_there old.blockers.items l (let w = slice_get_within leaders l l undone.0 in let c = is.count in omega (arith, w, c))))
     where
       go : ((k : ℕ) × HasAt old.blockers.items l k) ⊎ IsFree old l → IsBlocked rows leaders done l
       go (inl (k, h)) = (is.blocks l k h).0

@@ -9,10 +9,11 @@ use Rattle.trs_defs.specs.Member.{In}
 use Rattle.trs_defs.proofs.Members.{in_or, no_in}
 use Rattle.trs_defs.specs.Run.{Stay}
 use Rattle.trs_defs.proofs.Runs.{then}
+use Rattle.trs_defs.proofs.ListItems.{item_there}
 use Rattle.dp_graph.specs.FoundPlaces.{unset}
 use Rattle.dp_graph.specs.Leaders.{AreMutual, AreLeaders}
 use Rattle.dp_graph.specs.PutOut.{IsBlocked, IsUndoneLeader, IsNextReady, Finishes, ArePutOut, all_done, put_out, PutsOut}
-use Rattle.dp_graph.proofs.ListPlaces.{there, at_repeat, length_repeat}
+use Rattle.dp_graph.proofs.ListPlaces.{at_repeat, length_repeat}
 
 some_not_both : {o : Option Bool} → o ≡ Some true → o ≡ Some false → ⊥
 some_not_both e d = let h : true ≡ false = same_Some true false (sym e ∙ d) in absurd cc
@@ -25,7 +26,7 @@ module _ (rows : List (List ℕ)) (leaders : List ℕ) (are : AreLeaders rows le
   leads_itself i l h =
       let is = are.each i l h in
       let low : l ≤ i = is.least i (Stay, Stay) in
-      let at = there leaders l (let w = slice_get_within leaders i l h in omega (arith, w, low)) in
+      let at = item_there leaders l (let w = slice_get_within leaders i l h in omega (arith, w, low)) in
       let other = are.each l at.0 at.1 in
       let below : at.0 ≤ l = other.least l (Stay, Stay) in
       let above : l ≤ at.0 = is.least at.0 (then is.connected.0 other.connected.0, then other.connected.1 is.connected.1) in
@@ -66,7 +67,7 @@ module _ (rows : List (List ℕ)) (leaders : List ℕ) (are : AreLeaders rows le
 
   pub none_undone : (i : ℕ) → slice_get done i ≡ Some false → ⊥
   none_undone i e =
-      let l = there leaders i (let w = slice_get_within done i false e in omega (arith, w, size)) in
+      let l = item_there leaders i (let w = slice_get_within done i false e in omega (arith, w, size)) in
       climb (are.ranked.rank l.0 + 1) l.0 (omega arith) (leads_itself rows leaders are i l.0 l.1, sym (together i l.0 l.1) ∙ e)
 
 -- ---- the places of a leader are done
@@ -181,7 +182,7 @@ pub fewer_left : (leaders : List ℕ) (v : ℕ) (done new : List Bool) → lengt
 fewer_left leaders v done new size undone finishes =
     fewer_unset done new v finishes.count
     (λ k e.
-    let l = there leaders k (let w = slice_get_within done k true e in omega (arith, w, size)) in
+    let l = item_there leaders k (let w = slice_get_within done k true e in omega (arith, w, size)) in
     elim (ℕ_discrete l.0 v) [
       | yes same ↦ finishes.led k (l.1 ∙ ap (λ z. Some z) same)
       | no other ↦ finishes.others k (λ g. other (same_Some l.0 v (sym l.1 ∙ g))) ∙ e

@@ -7,12 +7,13 @@ use Rattle.std.proofs.lemmas.Option.{same_Some, slice_get_within}
 use native.Mathlib.Decide.{dec_lt, ℕ_discrete}
 use Rattle.trs_defs.specs.Member.{In, in_first}
 use Rattle.trs_defs.proofs.Members.{no_in, in_left, in_right, in_either}
+use Rattle.trs_defs.proofs.ListItems.{item_there}
 use Rattle.dp_graph.specs.GraphConditions.{lists_of}
 use Rattle.dp_graph.specs.Rows.{Follows, StayWithin}
 use Rattle.dp_graph.specs.Reversed.{AreReversed, AddsBack}
 use Rattle.dp_graph.specs.PlaceLists.{AreEmpty, PutsBehind}
 use Rattle.dp_graph.proofs.FoundLaws.{taken_more, more_taken}
-use Rattle.dp_graph.proofs.ListPlaces.{there, length_set, set_here, set_elsewhere, last_or_there, lists_more, lists_set, row_at, length_more, in_single}
+use Rattle.dp_graph.proofs.ListPlaces.{length_set, set_here, set_elsewhere, last_or_there, lists_more, lists_set, row_at, length_more, in_single}
 
 -- ---- lists
 
@@ -44,7 +45,7 @@ module _ (old new : List (List ℕ)) (k place : ℕ) (lt : k < length old) (puts
     where
       to : Follows new j l → Dec (j ≡ k) → Follows old j l ⊎ ((j ≡ k) × (l ≡ place))
       to (row, at, i) (yes same) =
-          let r = there old k lt in
+          let r = item_there old k lt in
           let e : row ≡ r.0 ++ place ∷ [] = same_Some row (r.0 ++ place ∷ []) (sym (subst (λ z. slice_get new z ≡ Some row) same at) ∙ puts.here r.0 r.1) in
           elim (in_either r.0 (place ∷ []) (subst (In l) e i)) [
             | inl h ↦ inl (r.0, subst (λ z. slice_get old z ≡ Some r.0) (sym same) r.1, h)
@@ -57,7 +58,7 @@ module _ (old new : List (List ℕ)) (k place : ℕ) (lt : k < length old) (puts
           (row ++ place ∷ [], subst (λ z. slice_get new z ≡ Some (row ++ place ∷ [])) (sym same) (puts.here row (subst (λ z. slice_get old z ≡ Some row) same at)), in_left (place ∷ []) i)
       from (inl (row, at, i)) (no other) = (row, puts.others j other ∙ at, i)
       from (inr (same, is)) d =
-          let r = there old k lt in
+          let r = item_there old k lt in
           (r.0 ++ place ∷ [], subst (λ z. slice_get new z ≡ Some (r.0 ++ place ∷ [])) (sym same) (puts.here r.0 r.1), in_right r.0 (subst (λ z. In z (place ∷ [])) (sym is) in_first))
 
 -- ---- a row

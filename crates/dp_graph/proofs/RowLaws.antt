@@ -11,6 +11,7 @@ use native.Mathlib.Decide.{dec_lt, ℕ_discrete}
 use Rattle.trs_defs.specs.Member.{In, in_first}
 use Rattle.trs_defs.proofs.Members.{no_in, in_left, in_right, in_either, in_or, get_of_in, in_of_get}
 use Rattle.trs_defs.specs.System.{System, IsSystem}
+use Rattle.trs_defs.proofs.ListItems.{item_there, last_item}
 use Rattle.pair_theory.specs.Marked.{mark}
 use Rattle.pair_theory.specs.DependencyPair.{DependencyPair, dependency_pairs}
 use Rattle.dp_graph.specs.ByRoot.{entry_items, items_at}
@@ -25,7 +26,7 @@ use Rattle.dp_graph.specs.Rows.{EdgeOf, AtPlaces, Follows, FollowsByRule, IsBetw
 use Rattle.dp_graph.specs.RulePlaces.{IsPlaceOf, IsInRule, AreRules, HaveRows, AreNoRules, AddsPair, AddsRule, RulesAt, LeadsByRules}
 use Rattle.dp_graph.proofs.EarlierLaws.{none_at, edge_root, edge_to_alike, same_left}
 use Rattle.dp_graph.proofs.NodeLists.{of_rule}
-use Rattle.dp_graph.proofs.ListPlaces.{there, last_or_there, still_there, last_there, lists_length, lists_more, length_more, in_single}
+use Rattle.dp_graph.proofs.ListPlaces.{last_or_there, still_there, lists_length, lists_more, length_more, in_single}
 use Rattle.dp_graph.proofs.ReversedLaws.{put_follows}
 
 -- ---- the rules
@@ -125,7 +126,7 @@ module _ (system : System) (n j : ℕ) (node : Node) (old new : Rules) (is_node 
       let row : Follows (lists_of new.rows.items) place j = (
         j ∷ [],
         subst (λ z. slice_get z place ≡ Some (j ∷ [])) (sym adds.rows)
-            (subst (λ z. slice_get (lists_of old.rows.items ++ (j ∷ []) ∷ []) z ≡ Some (j ∷ [])) (sym size) (last_there (lists_of old.rows.items) (j ∷ []))),
+            (subst (λ z. slice_get (lists_of old.rows.items ++ (j ∷ []) ∷ []) z ≡ Some (j ∷ [])) (sym size) (last_item (lists_of old.rows.items) (j ∷ []) [])),
         in_first,
       ) in
       let in_rule : (k i : ℕ) → IsInRule old k i → IsInRule new k i =
@@ -400,7 +401,7 @@ module _ (system : System) (numbers : List ℕ) (rules : Rules) (are : AreRules 
 
   between_places : (i j : ℕ) → Follows rows i j → Dec (i < pairs) → IsBetween pairs (length rows) i j
   between_places i j f (yes lt) =
-      let m = there numbers i lt in
+      let m = item_there numbers i lt in
       let (rule, (p, at_p, listed), at, edge) = to_rule i j m.0 m.1 f in
       let is = are.found p.to.symbol rule listed in
       let low : pairs ≤ j = (let b = is.behind in omega (arith, at, b)) in
@@ -412,7 +413,7 @@ module _ (system : System) (numbers : List ℕ) (rules : Rules) (are : AreRules 
 
   up : (i k : ℕ) → FollowsByRule pairs rows i k → AtPlaces (EdgeOf system) numbers i k
   up i k (lt, (j, first, second)) =
-      let m = there numbers i lt in
+      let m = item_there numbers i lt in
       let (rule, (p, at_p, listed), at, edge) = to_rule i j m.0 m.1 first in
       let is = are.found p.to.symbol rule listed in
       let low : pairs ≤ j = (let b = is.behind in omega (arith, at, b)) in

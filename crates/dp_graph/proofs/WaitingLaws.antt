@@ -15,7 +15,7 @@ use Rattle.dp_graph.specs.PutOut.{ComesBefore}
 use Rattle.dp_graph.specs.Waiting.{Has, HasAt, Sets, AreNone, Adds, OneEdge, RowEdges, LeadsTo, AllEdges, IsFreeLeader, IsReadySet, AddsIf, TakesOut, Releases, IsOne, OfRow, OfRows}
 use Rattle.dp_graph.specs.declared.waiting.Waiting.{Waiting}
 use Rattle.dp_graph.proofs.FoundLaws.{taken_more, more_taken}
-use Rattle.dp_graph.proofs.ListPlaces.{there, length_set, set_here, set_elsewhere, set_cases, last_or_there, length_more}
+use Rattle.dp_graph.proofs.ListPlaces.{length_set, set_here, set_elsewhere, set_cases, last_or_there, length_more}
 use Rattle.dp_graph.proofs.Sets.{at_itself, at_number, at_others, true_is_not_false, none_in_empty, no_keys}
 
 -- ---- sets by places

@@ -6,16 +6,10 @@ use Rattle.trs_core.proofs.Comparing.{count_forest}
 use Rattle.std.proofs.lemmas.Bool.Decides.{nat_tests}
 use Rattle.trs_defs.specs.Tree.{Tree, Trees, var, app, nil, cons, count}
 use Rattle.trs_defs.specs.Variable.{occurrences}
-use Rattle.trs_defs.proofs.EqualTerms.{app_args}
+use Rattle.trs_defs.proofs.EqualTerms.{app_args, cons_first, cons_rest}
 use Rattle.order_theory.specs.KnuthBendix.{weigh}
 use Rattle.kbo_order.specs.Seen.{Decides, DecideLater, SeenGreater, AllSeeGreater, IsWeight, IsAbove, AreNone, Differ, SeesTerms, AreApart}
 use Rattle.kbo_order.proofs.Knuth.{not_same}
-
-first_is : {a b : Tree} {us vs : Trees} → cons a us ≡ cons b vs → a ≡ b
-first_is e = cc
-
-rest_is : {a b : Tree} {us vs : Trees} → cons a us ≡ cons b vs → us ≡ vs
-rest_is e = cc
 
 module _ (w rank : ℕ → ℕ) (from : ℕ) where
   weight_of_one : (s t : Tree) → s ≡ t → AreApart s t → IsWeight w s (Ok 1)
@@ -67,7 +61,7 @@ module _ (w rank : ℕ → ℕ) (from : ℕ) where
         record {
           as_many = tails;
           same_so_far = λ _. (
-            (λ k. before.0.0 (ap (λ z. cons z us) equal ∙ ap (cons b) k), λ k. rest_is (before.0.1 k)),
+            (λ k. before.0.0 (ap (λ z. cons z us) equal ∙ ap (cons b) k), λ k. cons_rest (before.0.1 k)),
             (λ l. before.1.0 (rest.0 l), λ l. rest.1 (before.1.1 l)),
             λ yes. none_of_same a b equal (g.0 yes),
           );
@@ -80,7 +74,7 @@ module _ (w rank : ℕ → ℕ) (from : ℕ) where
         record {
           as_many = tails;
           same_so_far = λ yes. absurd cc;
-          differ = λ _. (λ k. other (first_is (before.0.1 k)), (λ yes. before.1.0 (first.0 (g.0 yes)), λ l. g.1 (first.1 (before.1.1 l))));
+          differ = λ _. (λ k. other (cons_first (before.0.1 k)), (λ yes. before.1.0 (first.0 (g.0 yes)), λ l. g.1 (first.1 (before.1.1 l))));
         }
 
     -- some before differ

@@ -6,10 +6,8 @@ use Rattle.trs_core.specs.declared.terms.Term.{Term}
 use Rattle.trs_core.specs.View.{tree, forest}
 use Rattle.trs_core.proofs.Comparing.{count_forest}
 use Rattle.trs_defs.specs.Tree.{Tree, Trees, var, app, nil, cons, count}
+use Rattle.trs_defs.proofs.EqualTerms.{cons_first}
 use Rattle.order_theory.specs.KnuthBendix.{Tower, one_high, higher}
-
-pub first_is : {a b : Tree} {us vs : Trees} → cons a us ≡ cons b vs → a ≡ b
-first_is e = cc
 
 pub tower_case : {P : Type 0} {f x g : ℕ} {ts : Trees} → Tower f x (app g ts) → (g ≡ f → ts ≡ cons (var x) nil → P)
     → ((t : Tree) → g ≡ f → ts ≡ cons t nil → Tower f x t → P) → P
@@ -40,8 +38,8 @@ module _ (f x g : ℕ) (xs : List Term) (t : Tree) (is : t ≡ app g (forest xs)
   over_variable a y e one is_a = (
     λ yes. subst (Tower f x) (sym (is ∙ ap (app g) (one ∙ ap (λ z. cons z nil) is_a))) (raised_one f x g y e (eqb-true y x yes)),
     λ h. tower_case (opened h)
-        (λ k q. let same : var y ≡ var x = sym is_a ∙ first_is (sym one ∙ q) in eq-eqb y x (cc))
-        (λ u k q r. absurd (no_tower (subst (Tower f x) (sym (first_is (sym one ∙ q)) ∙ is_a) r))),
+        (λ k q. let same : var y ≡ var x = sym is_a ∙ cons_first (sym one ∙ q) in eq-eqb y x (cc))
+        (λ u k q r. absurd (no_tower (subst (Tower f x) (sym (cons_first (sym one ∙ q)) ∙ is_a) r))),
   )
 
   pub over_application : (a : Term) (h : ℕ) (us : Trees) (b : Bool) → g ≡ f → forest xs ≡ cons (tree a) nil → tree a ≡ app h us → IsTrue b ↔ Tower f x (tree a)
@@ -49,8 +47,8 @@ module _ (f x g : ℕ) (xs : List Term) (t : Tree) (is : t ≡ app g (forest xs)
   over_application a h us b e one is_a rest = (
     λ yes. subst (Tower f x) (sym (is ∙ ap (app g) one)) (raised f x g (tree a) e (rest.0 yes)),
     λ k. tower_case (opened k)
-        (λ m q. let same : app h us ≡ var x = sym is_a ∙ first_is (sym one ∙ q) in absurd cc)
-        (λ u m q r. rest.1 (subst (Tower f x) (sym (first_is (sym one ∙ q))) r)),
+        (λ m q. let same : app h us ≡ var x = sym is_a ∙ cons_first (sym one ∙ q) in absurd cc)
+        (λ u m q r. rest.1 (subst (Tower f x) (sym (cons_first (sym one ∙ q))) r)),
   )
 
 pub only_one : (xs : List Term) (a : Term) → length xs ≡ 1 → a ≡ get_or xs 0 a → forest xs ≡ cons (tree a) nil

@@ -5,6 +5,7 @@ use Rattle.trs_defs.specs.Tree.{Tree, app}
 use Rattle.trs_defs.specs.System.{RewriteRule}
 use Rattle.trs_defs.specs.Position.{subterm_at}
 use Rattle.trs_defs.specs.Path.{PlacedRule}
+use Rattle.trs_defs.proofs.ListItems.{last_item}
 use Rattle.trs_core.specs.declared.terms.Term.{Term}
 use Rattle.trs_core.specs.View.{tree, forest}
 use Rattle.term_pool.specs.Redexes.{IsNarrow}
@@ -22,7 +23,7 @@ use Rattle.loop_find.specs.declared.closures.Closures.{Closures}
 use Rattle.loop_find.specs.declared.tokens.SideTokens.{SideTokens}
 use Rattle.loop_find.specs.declared.trying.Trial.{Trial}
 use Rattle.loop_find.specs.declared.trying.Turn.{Turn}
-use Rattle.loop_find.proofs.LinkLists.{item_after, old_item_of, length_of}
+use Rattle.loop_find.proofs.LinkLists.{old_item_of, length_of}
 use Rattle.loop_find.proofs.WellFormedSides.{narrowing_well_formed}
 
 -- ---- rules renamed apart, by their numbers
@@ -103,7 +104,7 @@ module _ (t : Trial) (k : Closures) (trial : IsTrial t k) where
       at_end : (n : ℕ) → n ≡ length k.links.items → slice_get (closures_of new) n ≡ Some extension
       at_end n e =
           let place : length (closures_of k) ≡ n = length_of k ∙ sym e in
-          ap (λ cs. slice_get cs n) added ∙ subst (λ m. slice_get (closures_of k ++ extension ∷ []) m ≡ Some extension) place (item_after (closures_of k) extension [])
+          ap (λ cs. slice_get cs n) added ∙ subst (λ m. slice_get (closures_of k ++ extension ∷ []) m ≡ Some extension) place (last_item (closures_of k) extension [])
 
       pub one_longer : length new.links.items ≡ length k.links.items + 1
       one_longer = let e = ap length added in omega (arith, e, length-append (closures_of k) (extension ∷ []), length_of k, length_of new)

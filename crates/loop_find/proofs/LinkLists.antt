@@ -5,6 +5,7 @@ use Rattle.std.proofs.lemmas.Option.{same_Some, slice_get_within, slice_get_read
 use Rattle.std.proofs.lemmas.List.{reverse-append, length-take}
 use Rattle.trs_defs.specs.Tree.{Tree}
 use Rattle.trs_defs.specs.Path.{PlacedRule}
+use Rattle.trs_defs.proofs.ListItems.{last_item}
 use Rattle.term_pool.proofs.PoolTrees.{item_of_more}
 use Rattle.loop_find.specs.Flat.{tokens_of, term_of}
 use Rattle.loop_find.specs.declared.tokens.Token.{Token}
@@ -25,10 +26,6 @@ pub old_item_of : {X : Type 0} (xs ys : List X) (i : ℕ) (x : X) → i < length
 old_item_of [] ys i x h e = absurd (omega arith)
 old_item_of (z ∷ xs) ys zero x h e = e
 old_item_of (z ∷ xs) ys (suc i) x h e = old_item_of xs ys i x (omega (arith, h)) e
-
-pub item_after : {X : Type 0} (xs : List X) (x : X) (ys : List X) → slice_get (xs ++ x ∷ ys) (length xs) ≡ Some x
-item_after [] x ys = refl
-item_after (z ∷ xs) x ys = item_after xs x ys
 
 pub item_somewhere : {X : Type 0} (xs : List X) (i : ℕ) → i < length xs → (x : X) × (slice_get xs i ≡ Some x)
 item_somewhere [] i h = absurd (omega arith)
@@ -80,7 +77,7 @@ at_link pool cs (x ∷ ls) zero l e h =
     let whole : closures_after pool cs (x ∷ ls) ≡ cs ++ link_closure pool cs x ∷ more = is ∙ append_assoc cs (link_closure pool cs x ∷ []) more in
     let place : length cs + zero ≡ length cs = omega arith in
     let here : slice_get (closures_after pool cs (x ∷ ls)) (length cs + zero) ≡ Some (link_closure pool cs x) =
-    ap (λ n. slice_get (closures_after pool cs (x ∷ ls)) n) place ∙ (ap (λ z. slice_get z (length cs)) whole ∙ item_after cs (link_closure pool cs x) more) in
+    ap (λ n. slice_get (closures_after pool cs (x ∷ ls)) n) place ∙ (ap (λ z. slice_get z (length cs)) whole ∙ last_item cs (link_closure pool cs x) more) in
     let path : path_to (closures_after pool cs (x ∷ ls)) x.before ≡ path_to cs x.before =
     ap (λ z. path_to z x.before) whole ∙ same_path_to cs (link_closure pool cs x ∷ more) x.before (λ b k. let low = h b (subst (λ z. z.before ≡ Some b) same k) in omega (arith, low)) in
     let closure : link_closure pool cs x ≡ closure_at pool (closures_after pool cs (x ∷ ls)) x = ap (with_path pool x) (sym path) in

@@ -5,6 +5,7 @@ use Rattle.trs_defs.proofs.ArgumentLists.{cell}
 use Rattle.trs_defs.specs.Tree.{Tree}
 use Rattle.trs_defs.specs.System.{RewriteRule}
 use Rattle.trs_defs.proofs.Members.{each_of_both}
+use Rattle.trs_defs.proofs.ListItems.{last_item}
 use Rattle.trs_core.specs.View.{tree}
 use Rattle.crit_pairs.specs.PeakList.{symbol_places}
 use Rattle.loop_find.specs.Closures.{Closure, Attempt, Give, no_attempt, attempts_of, attempts_in, rule_closure, rule_closures, IsClosureList}
@@ -13,7 +14,7 @@ use Rattle.loop_find.specs.Links.{closures_of}
 use Rattle.loop_find.specs.Tries.{IsFoundOf, Tries, TriesTo, TriesAll}
 use Rattle.loop_find.specs.declared.closures.Closures.{Closures}
 use Rattle.loop_find.specs.declared.found.LoopFound.{LoopFound}
-use Rattle.loop_find.proofs.LinkLists.{item_after, length_of}
+use Rattle.loop_find.proofs.LinkLists.{length_of}
 use Rattle.loop_find.proofs.Tried.{give_both, give_few, none_loops, one_loops_not}
 
 module _ (rules : List RewriteRule) where
@@ -200,7 +201,7 @@ module _ (rules : List RewriteRule) where
     pub rule_at_end : slice_get (closures_of new) i ≡ Some (rule_closure i r)
     rule_at_end =
         let place : length (closures_of old) ≡ i = ap length before.is ∙ before.long in
-        ap (λ cs. slice_get cs i) added ∙ subst (λ n. slice_get (closures_of old ++ rule_closure i r ∷ []) n ≡ Some (rule_closure i r)) place (item_after (closures_of old) (rule_closure i r) [])
+        ap (λ cs. slice_get cs i) added ∙ subst (λ n. slice_get (closures_of old ++ rule_closure i r ∷ []) n ≡ Some (rule_closure i r)) place (last_item (closures_of old) (rule_closure i r) [])
 
     pub rule_there : i < length new.links.items
     rule_there = let e = ap length added in let place = ap length before.is ∙ before.long in omega (arith, e, place, length-append (closures_of old) (rule_closure i r ∷ []), length_of new)

@@ -1,12 +1,8 @@
 -- Steps of counting and printing underscores.
-use Rattle.std.proofs.Common.{◌≡◌, ℕ, suc, ◌+◌, ◌≤◌, max, List, [], ◌∷◌, ◌++◌, drop, replicate, Some, slice_get, refl, ap, ◌∙◌, append_assoc, arith, add-one, drop-cons}
+use Rattle.std.proofs.Common.{◌≡◌, ℕ, suc, ◌+◌, ◌≤◌, max, List, [], ◌∷◌, ◌++◌, drop, replicate, Some, slice_get, ap, ◌∙◌, append_assoc, arith}
 use Rattle.std.proofs.lemmas.List.{replicate-append-replicate}
-use Rattle.std.proofs.lemmas.Option.{slice_get_within, get_or_from_slice_get}
 use Rattle.names_text.specs.VariableNames.{leading_underscores, underscores}
-
-pub drop_at : {X : Type 0} (xs : List X) (i : ℕ) (x : X) → slice_get xs i ≡ Some x → drop i xs ≡ x ∷ drop (i + 1) xs
-drop_at xs i x e =
-    drop-cons xs i x (slice_get_within xs i x e) ∙ rw (get_or_from_slice_get xs i x x e, add-one) refl
+use Rattle.trs_defs.proofs.ListItems.{next_item}
 
 -- one more underscore
 pub underscore_step : (out : List ℕ) (i : ℕ) → (out ++ replicate i 95) ++ 95 ∷ [] ≡ out ++ replicate (i + 1) 95
@@ -21,5 +17,5 @@ pub underscores_step : (names : List (List ℕ)) (f : ℕ) (name : List ℕ) (mo
     → max most (underscores (drop f names)) ≡ underscores names
     → max (max most (leading_underscores name + 1)) (underscores (drop (f + 1) names)) ≡ underscores names
 underscores_step names f name most e h =
-    let here : max most (max (suc (leading_underscores name)) (underscores (drop (f + 1) names))) ≡ underscores names = rw (drop_at names f name e) at h in
+    let here : max most (max (suc (leading_underscores name)) (underscores (drop (f + 1) names))) ≡ underscores names = rw (next_item names f name e) at h in
     omega (arith, here)

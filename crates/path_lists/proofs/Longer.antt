@@ -3,7 +3,7 @@ use Rattle.std.specs.Prelude.{◌≡◌, ◌<◌, ◌≤◌, ℕ, ◌+◌, List,
 use Rattle.std.specs.Global.{Vec}
 use Rattle.std.proofs.Common.{zero, suc, ap, sym, ◌∙◌, subst, get_or, drop, append_assoc, append-nil, length-append, arith}
 use Rattle.std.proofs.Math.Seq.{take-suc}
-use Rattle.std.proofs.lemmas.List.{take_all, take-append-drop, take-append-le, map-append, length-take}
+use Rattle.std.proofs.lemmas.List.{take_all, take-append-drop, map-append, length-take}
 use Rattle.std.proofs.lemmas.List.Elements.{All-weaker, All-push, All-nil}
 use Rattle.std.proofs.lemmas.Option.{get_or_from_slice_get, same_Some, slice_get_within}
 use Rattle.trs_defs.specs.Member.{In}
@@ -11,6 +11,7 @@ use Rattle.trs_defs.specs.Tree.{Tree}
 use Rattle.trs_defs.specs.System.{RewriteRule}
 use Rattle.trs_defs.specs.Path.{PlacedRule}
 use Rattle.trs_defs.proofs.Members.{in_right}
+use Rattle.trs_defs.proofs.ListItems.{take_one_more}
 use Rattle.term_pool.specs.Pooled.{Extends, StandsFor, tree_at}
 use Rattle.term_pool.specs.Redexes.{HasRedexes, IsRedexAt}
 use Rattle.term_pool.specs.Listed.{Listed}
@@ -149,12 +150,6 @@ module _ (rules : List RewriteRule) (e : Listed) (steps : List PlacedRule) where
         }
 
 -- ---- what is looked at
-
-take_one_more : (es more : List Listed) (i : ℕ) (e : Listed) → i < length es → slice_get es i ≡ Some e → take (i + 1) (es ++ more) ≡ take i es ++ e ∷ []
-take_one_more es more i e below there =
-    let n : i + 1 ≡ suc i = omega arith in
-    let within : i + 1 ≤ length es = omega (arith, below) in
-    take-append-le (i + 1) es more within ∙ ap (λ k. take k es) n ∙ take-suc es i e below ∙ ap (λ x. take i es ++ x ∷ []) (get_or_from_slice_get es i e e there)
 
 pub looked_at_one_more : (rules : List RewriteRule) (t : Tree) (next : ℕ) (found new cs : List Listed) (e : Listed) → slice_get found next ≡ Some e → next < length found
     → length found ≤ 256 → IsLookedAt rules t next found → AreCandidates rules 4 4096 (e ∷ []) cs → new ≡ take 256 (found ++ cs) → IsLookedAt rules t (next + 1) new

@@ -1,13 +1,12 @@
 -- The listed paths from a term lead to their ends.
 use Rattle.std.specs.Prelude.{◌≡◌, ◌<◌, ℕ, nat_le, List, [], ◌∷◌, ◌++◌, length, take, IsTrue, refl}
-use Rattle.std.proofs.Common.{zero, suc, ap, subst, sym, inl, inr, length-append, drop, arith}
-use Rattle.std.proofs.lemmas.List.{take-append-drop}
+use Rattle.std.proofs.Common.{zero, suc, ap, subst, sym, inl, inr, length-append, arith}
 use Rattle.trs_defs.specs.Member.{In, in_first, in_rest}
 use Rattle.trs_defs.specs.Tree.{Tree}
 use Rattle.trs_defs.specs.Size.{size_of, within_limits}
 use Rattle.trs_defs.specs.System.{RewriteRule}
 use Rattle.trs_defs.specs.Path.{PlacedRule, StepsAt, Follows}
-use Rattle.trs_defs.proofs.Members.{in_left, in_either, in_or}
+use Rattle.trs_defs.proofs.Members.{in_either, in_or, in_take}
 use Rattle.term_pool.specs.Listed.{Listed}
 use Rattle.term_pool.specs.Reach.{AreReducts, no_step, kept, left_out, AreCandidates, no_entry, expanded, too_deep, after_step}
 use Rattle.term_pool.proofs.FollowLaws.{one_step_more, second_holds}
@@ -38,9 +37,6 @@ module _ (rules : List RewriteRule) (depth size : ℕ) where
   ]
   candidates_come (too_deep far rest) c i = let (d, there, comes) = candidates_come rest c i in (d, in_rest there, comes)
 
-in_take : (n : ℕ) (es : List Listed) (e : Listed) → In e (take n es) → In e es
-in_take n es e i = subst (λ (xs : List Listed). In e xs) (take-append-drop n es) (in_left (drop n es) i)
-
 -- the list has the paths that are one step longer than its first n ones
 pub record IsLookedAt (rules : List RewriteRule) (t : Tree) (n : ℕ) (es : List Listed) : Type 0 where
   pub candidates : List Listed
@@ -50,14 +46,14 @@ pub record IsLookedAt (rules : List RewriteRule) (t : Tree) (n : ℕ) (es : List
 paths_lead_below : (rules : List RewriteRule) (t : Tree) (n : ℕ) (es : List Listed) → IsLookedAt rules t n es → (k : ℕ) (e : Listed) → length e.path < k → In e es → Follows rules e.path t e.term
 paths_lead_below rules t n es is zero e short i = absurd (omega (arith, short))
 paths_lead_below rules t n es is (suc k) e short i =
-    let there : In e (no_steps t ∷ is.candidates) = in_take 256 (no_steps t ∷ is.candidates) e (subst (λ (xs : List Listed). In e xs) is.listed i) in
+    let there : In e (no_steps t ∷ is.candidates) = in_take 256 (no_steps t ∷ is.candidates) (subst (λ (xs : List Listed). In e xs) is.listed i) in
     elim (in_or there) [
       | inl same ↦ (let P : Listed → Type 0 = λ x. Follows rules x.path t x.term in subst P (sym same) refl)
       | inr new ↦
           let (d, place, comes) = candidates_come rules 4 4096 is.longer e new in
           let longer = length-append d.path (comes.step ∷ []) in
           let count = ap (λ (p : List PlacedRule). length p) comes.path in
-          let before = paths_lead_below rules t n es is k d (omega (arith, short, longer, count)) (in_take n es d place) in
+          let before = paths_lead_below rules t n es is k d (omega (arith, short, longer, count)) (in_take n es place) in
           let P : List PlacedRule → Type 0 = λ p. Follows rules p t e.term in
           subst P (sym comes.path) (one_step_more rules d.path comes.step t d.term e.term before comes.steps comes.within)
     ]

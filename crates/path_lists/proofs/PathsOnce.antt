@@ -7,34 +7,13 @@ use Rattle.trs_defs.specs.Member.{In, in_first, in_rest}
 use Rattle.trs_defs.specs.Tree.{Tree}
 use Rattle.trs_defs.specs.System.{System, IsSystem}
 use Rattle.trs_defs.specs.Path.{PlacedRule}
-use Rattle.trs_defs.proofs.Members.{in_or, in_either, no_in}
+use Rattle.trs_defs.proofs.Members.{in_or, in_either, no_in, in_behind, in_taken}
 use Rattle.trs_defs.proofs.Places.{steps_at_once}
 use Rattle.term_pool.specs.Listed.{Listed}
 use Rattle.term_pool.specs.Reach.{AreReducts, no_step, kept, left_out, AreCandidates, no_entry, expanded, too_deep, is_kept}
 use Rattle.term_pool.proofs.ReachOnce.{redexes_once}
 use Rattle.path_lists.specs.PathList.{no_steps, IsPathList}
 use Rattle.path_lists.proofs.Longer.{take_take, take_full}
-
-in_drop : (n : ℕ) (es : List Listed) {e : Listed} → In e (drop n es) → In e es
-in_drop zero es i = i
-in_drop (suc n) [] i = absurd (no_in i)
-in_drop (suc n) (x ∷ es) i = in_rest (in_drop n es i)
-
-in_behind : (n : ℕ) (es more : List Listed) {e : Listed} → length es ≤ n → In e (drop n (es ++ more)) → In e more
-in_behind n [] more short i = in_drop n more i
-in_behind zero (x ∷ es) more short i = absurd (omega (arith, short))
-in_behind (suc n) (x ∷ es) more short i = in_behind n es more (omega (arith, short)) i
-
-in_taken : (n a : ℕ) (es : List Listed) {e : Listed} → In e (drop n (take a es)) → In e (drop n es)
-in_taken zero zero es i = absurd (no_in i)
-in_taken zero (suc a) [] i = absurd (no_in i)
-in_taken zero (suc a) (x ∷ es) i = elim (in_or i) [
-  | inl same ↦ subst (λ (y : Listed). In y (x ∷ es)) (sym same) in_first
-  | inr j ↦ in_rest (in_taken zero a es j)
-]
-in_taken (suc n) zero es i = absurd (no_in i)
-in_taken (suc n) (suc a) [] i = absurd (no_in i)
-in_taken (suc n) (suc a) (x ∷ es) i = in_taken n a es i
 
 take_of_front : (k m : ℕ) (es more : List Listed) → k ≤ length es → take k (take m (es ++ more)) ≡ take k (take m es)
 take_of_front zero m es more le = refl

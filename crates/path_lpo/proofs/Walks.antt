@@ -2,7 +2,7 @@
 use Rattle.std.proofs.Common.{◌≡◌, ℕ, ◌+◌, ◌≤◌, ◌<◌, ◌↔◌, ◌⊎◌, inl, inr, refl, sym, ap, subst, ◌∙◌, arith, Bool, true, false, IsTrue, ◌==◌}
 use Rattle.std.proofs.lemmas.Bool.{eqb-true, eq-eqb}
 use Rattle.trs_defs.specs.Tree.{Tree, Trees, var, app, nil, cons, count}
-use Rattle.trs_defs.proofs.EqualTerms.{app_root, app_args}
+use Rattle.trs_defs.proofs.EqualTerms.{app_root, app_args, cons_first, cons_rest}
 use Rattle.order_theory.specs.PathOrder.{PathGreater, by_arg, by_rank, by_lex, SomeAtLeast, equal_here, greater_here, further, GreaterThanAll, all_nil, all_cons, LexGreater, lex_here, lex_later}
 use Rattle.order_theory.proofs.PathAccessible.{path_acc, var_least, lex_count, all_head, all_tail}
 use Rattle.order_theory.proofs.PathLaws.{Mem, mem_head, mem_tail, greater_trans}
@@ -32,12 +32,6 @@ no_lex l = elim l [ ]
 
 no_some : {rank : ℕ → ℕ} {t : Tree} → SomeAtLeast rank nil t → ⊥
 no_some p = elim p [ ]
-
-first_is : {a b : Tree} {us vs : Trees} → cons a us ≡ cons b vs → a ≡ b
-first_is e = cc
-
-rest_is : {a b : Tree} {us vs : Trees} → cons a us ≡ cons b vs → us ≡ vs
-rest_is e = cc
 
 module _ (rank : ℕ → ℕ) where
   not_self : {t : Tree} → PathGreater rank t t → ⊥
@@ -163,7 +157,7 @@ module _ (rank : ℕ → ℕ) where
       next e = record {
         as_many = tails;
         same = λ k. h.same (ap (λ z. cons z us) e ∙ ap (cons b) k);
-        same_back = λ k. rest_is (h.same_back k);
+        same_back = λ k. cons_rest (h.same_back k);
         lex = λ l all. h.lex (subst (λ z. LexGreater rank (cons a us) (cons z vs)) e (lex_later l)) (all_cons (subst (PathGreater rank s) e (h.above_first a mem_head)) all);
         some = λ p. h.some (further p);
         cases = λ g. elim (h.cases g) [
@@ -177,7 +171,7 @@ module _ (rank : ℕ → ℕ) where
       }
 
       other : (a ≡ b → ⊥) → s ≡ t → ⊥
-      other n k = n (first_is (h.same_back k))
+      other n k = n (cons_first (h.same_back k))
 
       in_rest : (v : Tree) → Mem v vs → PathGreater rank t v
       in_rest v m = h.above_second v (mem_tail m)

@@ -1,7 +1,8 @@
 -- The ranks and paths that the strategy label finds on a list of peaks are one, and at most one of its answers is true.
-use Rattle.std.specs.Prelude.{◌≡◌, ◌<◌, ℕ, Bool, true, false, List, [], ◌∷◌, Some, None, IsTrue, length, slice_get, refl, Option}
-use Rattle.std.proofs.Common.{zero, suc, ap, ap₂, sym, ◌∙◌, subst, arith}
+use Rattle.std.specs.Prelude.{◌≡◌, ◌<◌, ℕ, Bool, true, false, List, Some, None, IsTrue, length, refl, Option}
+use Rattle.std.proofs.Common.{ap, ap₂, sym, ◌∙◌, subst, arith}
 use Rattle.trs_defs.specs.System.{RewriteRule, System, IsSystem}
+use Rattle.trs_defs.proofs.ListItems.{item_there}
 use Rattle.term_pool.specs.Listed.{Listed}
 use Rattle.rewrite_core.specs.PlacedPeak.{PlacedPeak}
 use Rattle.rewrite_core.specs.PathsOfJoin.{PathsOfJoin}
@@ -23,11 +24,6 @@ same_truth false false to back = refl
 same_truth true false to back = sym (to refl)
 same_truth false true to back = back refl
 
-item_at : {A : Type 0} (xs : List A) (k : ℕ) → k < length xs → (x : A) × (slice_get xs k ≡ Some x)
-item_at [] k l = absurd (omega (arith, l))
-item_at (x ∷ xs) zero l = (x, refl)
-item_at (x ∷ xs) (suc k) l = item_at xs k (omega (arith, l))
-
 -- two searches over the same paths are alike
 searches_alike : (rules : List RewriteRule) (paths : List PeakPaths) (z w : Puzzle) → IsLabelSearch rules paths z
     → IsLabelSearch rules paths w → AreAlike z w
@@ -35,8 +31,8 @@ searches_alike rules paths z w h k = record {
   slots = h.slots ∙ sym k.slots;
   domain = λ s. h.ranks s ∙ sym (k.ranks s);
   constraints = h.constraints ∙ sym k.constraints;
-  uses = λ c s l. let (p, at) = item_at paths c (within c l) in h.uses c s p at ∙ sym (k.uses c s p at);
-  truth = λ c ranks l. let (p, at) = item_at paths c (within c l) in
+  uses = λ c s l. let (p, at) = item_there paths c (within c l) in h.uses c s p at ∙ sym (k.uses c s p at);
+  truth = λ c ranks l. let (p, at) = item_there paths c (within c l) in
       same_truth (z.truth c ranks) (w.truth c ranks)
       (λ t. (k.truth c ranks p at).1 ((h.truth c ranks p at).0 t)) (λ t. (h.truth c ranks p at).1 ((k.truth c ranks p at).0 t));
 }

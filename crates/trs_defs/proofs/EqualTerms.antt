@@ -13,3 +13,9 @@ join_app e e' = cc (e, e')
 
 pub join_cons : {s t : Tree} {ss ts : Trees} → s ≡ t → ss ≡ ts → cons s ss ≡ cons t ts
 join_cons e e' = cc (e, e')
+
+pub cons_first : {s t : Tree} {ss ts : Trees} → cons s ss ≡ cons t ts → s ≡ t
+cons_first e = cc e
+
+pub cons_rest : {s t : Tree} {ss ts : Trees} → cons s ss ≡ cons t ts → ss ≡ ts
+cons_rest e = cc e

@@ -1,5 +1,6 @@
 pub mod EqualTerms
 pub mod Members
+pub mod ListItems
 pub mod Runs
 pub mod Derivations
 pub mod BoundLaws

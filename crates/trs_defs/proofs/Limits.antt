@@ -2,6 +2,7 @@
 use Rattle.std.specs.Prelude.{◌≡◌, ◌↔◌, ℕ, ◌+◌, ◌≤◌, ◌<◌, max, Bool, true, false, ◌&&◌, nat_le, List, [], ◌∷◌, length, IsTrue, Some, slice_get, slice_set, refl}
 use Rattle.std.proofs.Common.{zero, suc, ap, subst, arith}
 use Rattle.std.proofs.lemmas.Bool.Decides.{nat_tests}
+use Rattle.std.proofs.lemmas.Bool.{and_parts, leb-true}
 use Rattle.trs_defs.specs.Tree.{Tree, var, app, trees, items, trees_items}
 use Rattle.trs_defs.specs.Size.{size_of, size_of_all, depth_of, depth_of_all, within_limits}
 use Rattle.trs_defs.specs.Position.{argument_at, subterm_at, with_argument, replaced_at}
@@ -100,13 +101,6 @@ too_large_inside p t part new u at e h =
     let k = replaced_measured p t part new u at e in
     not_within _ _ _ _ h (smaller_within (size_of new) (size_of u) 65536 (omega arith)) (smaller_within (depth_of new) (depth_of u) 1024 (omega arith))
 
-both : (a b : Bool) → IsTrue (a && b) → IsTrue a × IsTrue b
-both true b h = (refl, h)
-both false b h = absurd cc
-
-at_most : (m n : ℕ) → IsTrue (nat_le m n) → m ≤ n
-at_most m n h = grind (arith, nat_tests)
-
 test_of : (m n : ℕ) → m ≤ n → nat_le m n ≡ true
 test_of m n h = grind (arith, nat_tests)
 
@@ -119,10 +113,10 @@ and_false false b e = refl
 
 -- The limits as a test, and as facts on the size and the depth.
 pub limits_size : (t : Tree) → IsTrue (within_limits t) → size_of t ≤ 65536
-limits_size t h = at_most (size_of t) 65536 (both (nat_le (size_of t) 65536) (nat_le (depth_of t) 1024) h).0
+limits_size t h = leb-true (size_of t) 65536 (and_parts (nat_le (size_of t) 65536) (nat_le (depth_of t) 1024) h).0
 
 pub limits_depth : (t : Tree) → IsTrue (within_limits t) → depth_of t ≤ 1024
-limits_depth t h = at_most (depth_of t) 1024 (both (nat_le (size_of t) 65536) (nat_le (depth_of t) 1024) h).1
+limits_depth t h = leb-true (depth_of t) 1024 (and_parts (nat_le (size_of t) 65536) (nat_le (depth_of t) 1024) h).1
 
 pub limits_kept : (t : Tree) → size_of t ≤ 65536 → depth_of t ≤ 1024 → IsTrue (within_limits t)
 limits_kept t h k = rw (test_of (size_of t) 65536 h, test_of (depth_of t) 1024 k) refl

@@ -1,6 +1,6 @@
 -- Members of a list: its items, read by number; members of two lists together, and of a list's image.
-use Rattle.std.specs.Prelude.{◌≡◌, ℕ, ◌⊎◌, List, [], ◌∷◌, ◌++◌, map, Some, slice_get, refl}
-use Rattle.std.proofs.Common.{inl, inr, zero, suc}
+use Rattle.std.specs.Prelude.{◌≡◌, ℕ, ◌≤◌, ◌⊎◌, List, [], ◌∷◌, ◌++◌, map, length, take, drop, Some, slice_get, refl}
+use Rattle.std.proofs.Common.{inl, inr, zero, suc, subst, arith, take-append-drop}
 use Rattle.trs_defs.specs.Member.{In, in_first, in_rest}
 
 pub in_of_get : {T : Type 0} (xs : List T) (k : ℕ) (x : T) → slice_get xs k ≡ Some x → In x xs
@@ -50,3 +50,23 @@ of_map f (x ∷ xs) i = elim (in_or i) [
   | inl e ↦ (x, in_first, e)
   | inr j ↦ let o = of_map f xs j in (o.0, in_rest o.1, o.2)
 ]
+
+-- members of a front of a list, and of what is left of it
+pub in_take : {T : Type 0} (n : ℕ) (xs : List T) {x : T} → In x (take n xs) → In x xs
+in_take n xs {x = x} i = subst (λ ys. In x ys) (take-append-drop n xs) (in_left (drop n xs) i)
+
+pub in_drop : {T : Type 0} (n : ℕ) (xs : List T) {x : T} → In x (drop n xs) → In x xs
+in_drop zero xs i = i
+in_drop (suc n) [] i = absurd (no_in i)
+in_drop (suc n) (y ∷ xs) i = in_rest (in_drop n xs i)
+
+pub in_behind : {T : Type 0} (n : ℕ) (xs more : List T) {x : T} → length xs ≤ n → In x (drop n (xs ++ more)) → In x more
+in_behind n [] more short i = in_drop n more i
+in_behind zero (y ∷ xs) more short i = absurd (omega (arith, short))
+in_behind (suc n) (y ∷ xs) more short i = in_behind n xs more (omega (arith, short)) i
+
+pub in_taken : {T : Type 0} (n k : ℕ) (xs : List T) {x : T} → In x (drop n (take k xs)) → In x (drop n xs)
+in_taken zero k xs i = in_take k xs i
+in_taken (suc n) zero xs i = absurd (no_in i)
+in_taken (suc n) (suc k) [] i = absurd (no_in i)
+in_taken (suc n) (suc k) (y ∷ xs) i = in_taken n k xs i

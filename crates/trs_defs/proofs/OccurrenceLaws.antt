@@ -1,12 +1,9 @@
 -- How often variables occur.
-use Rattle.std.specs.Prelude.{◌≡◌, ◌≤◌, ◌↔◌, ℕ, Bool, true, false, ◌||◌, IsTrue, refl}
+use Rattle.std.specs.Prelude.{◌≡◌, ◌≤◌, ◌↔◌, ℕ, Bool, true, false, IsTrue, refl}
 use Rattle.std.proofs.Common.{arith}
+use Rattle.std.proofs.lemmas.Bool.{or_parts}
 use Rattle.trs_defs.specs.Tree.{Tree, Trees, var, app, nil, cons}
 use Rattle.trs_defs.specs.Variable.{has_var, some_has_var, occurrences, occurrences_in_all, IsLinear}
-
-pub neither : (a b : Bool) → (a || b) ≡ false → (a ≡ false) × (b ≡ false)
-neither true b e = absurd cc
-neither false b e = (refl, e)
 
 mutual
   -- a variable that a term lacks does not occur in it
@@ -17,7 +14,7 @@ mutual
   pub no_occurrence_in_all : (v : ℕ) (ts : Trees) → some_has_var v ts ≡ false → occurrences_in_all v ts ≡ 0
   no_occurrence_in_all v nil e = refl
   no_occurrence_in_all v (cons t ts) e =
-      let none = neither (has_var v t) (some_has_var v ts) e in
+      let none = or_parts (has_var v t) (some_has_var v ts) e in
       omega (arith, no_occurrence v t none.0, no_occurrence_in_all v ts none.1)
 
 -- a term is linear where each variable that it has occurs at most once

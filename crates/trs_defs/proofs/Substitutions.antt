@@ -1,10 +1,11 @@
 -- Instances: one substitution after another, steps under substitutions, and what two equal instances share.
 use Rattle.std.specs.Prelude.{◌≡◌, ℕ, IsTrue, refl}
 use Rattle.std.proofs.Common.{ap, ◌∙◌, inl, inr}
+use Rattle.std.proofs.lemmas.Bool.{or_left, or_right, or_cases}
 use Rattle.trs_defs.specs.Tree.{Tree, Trees, var, app, nil, cons}
 use Rattle.trs_defs.specs.Variable.{has_var, some_has_var}
 use Rattle.trs_defs.specs.Substitution.{apply, apply_all}
-use Rattle.trs_defs.proofs.VariableLaws.{or_left, or_right, or_cases, has_var_same, has_var_self}
+use Rattle.trs_defs.proofs.VariableLaws.{has_var_same, has_var_self}
 use Rattle.trs_defs.specs.Step.{Inside, InsideOne, here, deep, first, later, RootStep, StepBy}
 
 -- one substitution after another

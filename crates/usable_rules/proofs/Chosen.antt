@@ -5,6 +5,7 @@ use Rattle.trs_defs.specs.Member.{In, in_first, in_rest}
 use Rattle.trs_defs.proofs.Members.{in_or, no_in, in_of_get, get_of_in}
 use Rattle.trs_defs.specs.Tree.{Tree, Trees, var, app}
 use Rattle.trs_defs.specs.System.{RewriteRule, Among, IsDefined, is_defined}
+use Rattle.trs_defs.proofs.ListItems.{cons_parts}
 use Rattle.pair_theory.specs.DependencyPair.{DependencyPair}
 use Rattle.pair_theory.proofs.PairList.{defined_true, true_defined}
 use Rattle.order_theory.specs.UsableRules.{IsUsable, in_pair, in_rule, HasUsable, root_in}
@@ -12,7 +13,6 @@ use Rattle.rewrite_core.specs.declared.checks.refusals.StepRefused.{StepRefused}
 use Rattle.rewrite_core.specs.Check.{HasOneAnswer}
 use Rattle.dp_core.specs.Numbered.{AreItemsOf}
 use Rattle.dp_core.proofs.Conclusions.{same_pairs}
-use Rattle.dp_core.proofs.NumberedPairs.{head_of}
 use Rattle.usable_rules.specs.AreUsable.{IsUsableRule, Ascends, number, AreUsableRules}
 use Rattle.usable_rules.specs.UsableConditions.{TakesUsableRules, usable_taken}
 
@@ -23,7 +23,7 @@ module _ {A : Type 0} (all : List A) where
   item_chosen [] chosen are k x i e = absurd (no_in i)
   item_chosen (n ∷ numbers) [] are k x i e = absurd cc
   item_chosen (n ∷ numbers) (y ∷ chosen) are k x i e =
-      let h = head_of (slice_get all n) (Some y) (map (slice_get all) numbers) (map (λ z. Some z) chosen) are in
+      let h = cons_parts (slice_get all n) (Some y) (map (slice_get all) numbers) (map (λ z. Some z) chosen) are in
       elim (in_or i) [
         | inl same ↦
             let item : y ≡ x = same_Some y x (sym h.0 ∙ (ap (slice_get all) (sym same) ∙ e)) in
@@ -37,7 +37,7 @@ module _ {A : Type 0} (all : List A) where
   number_of_chosen [] (y ∷ chosen) are x i = absurd cc
   number_of_chosen (n ∷ numbers) [] are x i = absurd (no_in i)
   number_of_chosen (n ∷ numbers) (y ∷ chosen) are x i =
-      let h = head_of (slice_get all n) (Some y) (map (slice_get all) numbers) (map (λ z. Some z) chosen) are in
+      let h = cons_parts (slice_get all n) (Some y) (map (slice_get all) numbers) (map (λ z. Some z) chosen) are in
       elim (in_or i) [
         | inl same ↦ (n, in_first, h.0 ∙ ap (λ z. Some z) (sym same))
         | inr later ↦ let r = number_of_chosen numbers chosen h.1 x later in (r.0, in_rest r.1, r.2)

@@ -18,6 +18,7 @@ use Rattle.term_pool.specs.Roots.{IsNextRooted}
 use Rattle.pair_theory.specs.DependencyPair.{DependencyPair}
 use Rattle.order_theory.specs.UsableRules.{IsUsable, in_pair, in_rule}
 use Rattle.trs_defs.specs.System.{Among, IsDefined, System, IsSystem}
+use Rattle.trs_defs.proofs.ListItems.{from_item, item_there}
 use Rattle.usable_rules.specs.AreUsable.{IsUsableRule, Ascends, no_numbers, number, AreUsableRules}
 use Rattle.usable_rules.specs.Worklist.{unset, AreMarked, IsFirst, IsCalled, IsCalledInAny, Extends, IsLed, called, following, IsLedByPairs, set_from}
 
@@ -90,18 +91,13 @@ get_left (x ∷ xs) ys (suc m) k h e = get_left xs ys m k (omega arith) e
 pub get_grown : (xs ys : List ℕ) (m k : ℕ) → Extends ys xs → m < length xs → slice_get ys m ≡ Some k → slice_get xs m ≡ Some k
 get_grown xs ys m k (a, p) h e = get_left xs a m k h (subst (λ r. slice_get r m ≡ Some k) p e)
 
-there : {A : Type 0} (xs : List A) (n : ℕ) → n < length xs → (x : A) × (slice_get xs n ≡ Some x)
-there [] n h = absurd (omega arith)
-there (x ∷ xs) zero h = (x, refl)
-there (x ∷ xs) (suc n) h = there xs n (omega arith)
-
 not_both : {b : Bool} → b ≡ true → b ≡ false → ⊥
 not_both a e = absurd cc
 
 -- the next rule with a root is one
 not_less : (rules : List RewriteRule) (f i k n : ℕ) → IsNextRooted rules f i k → IsNextRooted rules f i n → k < n → ⊥
 not_less rules f i k n a b h =
-    let r = there rules k (let w = b.within in omega (arith, w, h)) in
+    let r = item_there rules k (let w = b.within in omega (arith, w, h)) in
     not_both (a.rooted r.0 r.1) (b.passed k r.0 a.from h r.1)
 
 pub next_once : (rules : List RewriteRule) (f i k n : ℕ) → IsNextRooted rules f i k → IsNextRooted rules f i n → k ≡ n
@@ -158,18 +154,13 @@ pub next_only : {A B : ℕ → Type 0} (old found new : List ℕ) → ((k : ℕ)
     → ((k : ℕ) → In k found → In k old ⊎ B k) → (k : ℕ) → In k new → In k old ⊎ B k
 next_only old found new a ab b k i = elim (a k i) [ inl h ↦ b k h | inr h ↦ inr (ab k h) ]
 
-drop_get : {A : Type 0} (xs : List A) (i : ℕ) (x : A) → slice_get xs i ≡ Some x → drop i xs ≡ x ∷ drop (suc i) xs
-drop_get [] i x e = absurd cc
-drop_get (y ∷ xs) zero x e = ap (λ z. z ∷ xs) (same_Some y x e)
-drop_get (y ∷ xs) (suc i) x e = drop_get xs i x e
-
 module _ (rules : List RewriteRule) where
   pub pairs_all : (taken : List DependencyPair) (i k : ℕ) (p : DependencyPair) (found new : List ℕ) → slice_get taken i ≡ Some p
       → (In k found → In k new) → (IsCalledInAny rules p.to.args k → In k new)
       → In k found ⊎ IsLedByPairs rules (drop i taken) k → In k new ⊎ IsLedByPairs rules (drop (i + 1) taken) k
   pairs_all taken i k p found new e keeps calls (inl a) = inl (keeps a)
   pairs_all taken i k p found new e keeps calls (inr (q, m, call)) =
-      elim (in_or (subst (λ ps. In q ps) (drop_get taken i p e) m)) [
+      elim (in_or (subst (λ ps. In q ps) (from_item taken i p e) m)) [
         | inl s ↦ inl (calls (subst (λ (x : DependencyPair). IsCalledInAny rules x.to.args k) s call))
         | inr s ↦ inr (q, (let same : suc i ≡ i + 1 = omega arith in subst (λ n. In q (drop n taken)) same s), call)
       ]
@@ -225,7 +216,7 @@ module _ (rules : List RewriteRule) (pairs : List DependencyPair) where
       record { root = g; args = s.0; right = r.right; numbered = at; usable = u (s.0, r.right, in_of_get rules j (record { left = app g s.0; right = r.right }) at) }
 
   first_usable : (g j : ℕ) → IsFirst rules g j → (IsDefined (Among rules) g → IsUsable rules pairs g) → IsUsableRule rules pairs j
-  first_usable g j first u = let r = there rules j first.there in rooted_usable g j r.0 r.1 (first.first.rooted r.0 r.1) u
+  first_usable g j first u = let r = item_there rules j first.there in rooted_usable g j r.0 r.1 (first.first.rooted r.0 r.1) u
 
   pub pair_usable : (j : ℕ) → IsLedByPairs rules pairs j → IsUsableRule rules pairs j
   pair_usable j (p, m, (g, us, q, first)) = first_usable g j first (λ d. in_pair p g us m q d)
@@ -239,7 +230,7 @@ module _ (rules : List RewriteRule) (pairs : List DependencyPair) where
       let same = same_Some r (record { left = app u.root u.args; right = u.right }) (sym e ∙ u.numbered) in
       let root : has_root f (app u.root u.args) ≡ true = subst (λ (x : RewriteRule). has_root f x.left ≡ true) same h in
       let is : u.root ≡ f = eqb-true u.root f root in
-      let s = there rules j l in
+      let s = item_there rules j l in
       rooted_usable f j s.0 s.1 (n.rooted s.0 s.1) (λ d. subst (λ x. IsUsable rules pairs x) is u.usable)
 
 -- the last rule with this root below k, or none
@@ -258,7 +249,7 @@ module _ (rules : List RewriteRule) (g k : ℕ) (r : RewriteRule) (e : slice_get
   before : (m : ℕ) → m ≤ k → ((i : ℕ) (q : RewriteRule) → m ≤ i → i < k → slice_get rules i ≡ Some q → has_root g q.left ≡ false) → Before rules g k
   unfolding Before
   before zero l none = inl (record { there = slice_get_within rules k r e; first = next_from 0 l none })
-  before (suc m) l none = let q = there rules m (let w = slice_get_within rules k r e in omega (arith, w, l)) in go q.0 q.1 (has_root g q.0.left) refl (before m (omega (arith, l)))
+  before (suc m) l none = let q = item_there rules m (let w = slice_get_within rules k r e in omega (arith, w, l)) in go q.0 q.1 (has_root g q.0.left) refl (before m (omega (arith, l)))
     where
       go : (q : RewriteRule) → slice_get rules m ≡ Some q → (b : Bool) → has_root g q.left ≡ b
           → (((i : ℕ) (q : RewriteRule) → m ≤ i → i < k → slice_get rules i ≡ Some q → has_root g q.left ≡ false) → Before rules g k) → Before rules g k

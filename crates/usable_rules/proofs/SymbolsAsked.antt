@@ -3,8 +3,8 @@ use Rattle.std.proofs.Common.{◌≡◌, ◌+◌, ◌++◌, ◌∷◌, ℕ, Bool
 use Rattle.pair_theory.specs.DependencyPair.{DependencyPair}
 use Rattle.dp_core.specs.Symbols.{symbols_of_all, symbols_below_roots}
 use Rattle.dp_core.specs.LeastLacking.{least_lacking}
-use Rattle.dp_core.proofs.Collecting.{next_item}
 use Rattle.dp_core.proofs.LeastLacking.{least_lacking_both}
+use Rattle.trs_defs.proofs.ListItems.{next_item}
 
 module _ (has : ℕ → Bool) where
   -- the one symbols, and then the other ones

@@ -1,8 +1,9 @@
 use Rattle.std.proofs.Common.{◌≡◌, ap, sym, ◌∙◌, arith, refl, length}
 use Rattle.trs_core.specs.View.{tree}
 use Rattle.pair_order.proofs.Opening.{application}
-use Rattle.kbo_order.proofs.Towers.{other_count, over_variable, over_application, only_one, first_is}
+use Rattle.kbo_order.proofs.Towers.{other_count, over_variable, over_application, only_one}
 use Rattle.kbo_order.proofs.comparing.+is_tower.Goals as goal
+use Rattle.trs_defs.proofs.EqualTerms.{cons_first}
 
 pub returns-then-len-ne1 : goal.returns-then-len-ne1
 returns-then-len-ne1 t c = (
@@ -26,4 +27,4 @@ returns-in-App-index t c =
     let again = only_one c.args-in-App.inside.items.items c.index-in-App-index.result.now one c.index-in-App-index.ensures in
     over_application c.args.f c.args.x c.in-App.g c.args-in-App.inside.items.items (tree c.args.t.now)
     (application c.in-App.g _ _ _ _ (ap tree c.in-App.is) c.args-in-App.view_is refl) c.index-in-App-index.result.now c.in-App-index.field-0 _
-    c.is_tower.result c.if-g-f.false again (first_is (sym again ∙ first) ∙ ap tree c.in-App-index.is) c.is_tower.ensures
+    c.is_tower.result c.if-g-f.false again (cons_first (sym again ∙ first) ∙ ap tree c.in-App-index.is) c.is_tower.ensures

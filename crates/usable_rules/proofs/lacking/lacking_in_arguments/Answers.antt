@@ -4,9 +4,9 @@ use Rattle.std.proofs.lemmas.Option.{slice_get_read}
 use Rattle.trs_core.specs.View.{tree, forest}
 use Rattle.dp_core.specs.Symbols.{symbols_of_all}
 use Rattle.dp_core.specs.LeastLacking.{least_lacking}
-use Rattle.dp_core.proofs.Collecting.{next_item}
 use Rattle.dp_core.proofs.LeastLacking.{argument_asked}
 use Rattle.usable_rules.proofs.lacking.lacking_in_arguments.Goals as goal
+use Rattle.trs_defs.proofs.ListItems.{next_item}
 
 pub loop-arg-preserved : goal.loop-arg-preserved
 loop-arg-preserved g c =
