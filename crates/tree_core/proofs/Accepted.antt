@@ -1,16 +1,15 @@
 -- The steps of the goal that was won are accepted for its claim.
-use Rattle.std.proofs.Common.{◌≡◌, ◌<◌, ℕ, zero, suc, ◌+◌, List, [], ◌∷◌, length, Option, Some, None, slice_get, refl, sym, ap, ◌∙◌, subst}
+use Rattle.std.proofs.Common.{◌≡◌, ◌<◌, ℕ, ◌+◌, List, [], ◌∷◌, length, Option, Some, None, slice_get, refl, sym, ap, ◌∙◌, subst}
 use Rattle.std.specs.List.{AllByRecursion}
 use Rattle.std.proofs.lemmas.Option.{slice_get_within}
 use Rattle.trs_defs.specs.System.{System}
-use Rattle.tree_state.specs.cert_step.ProofProblem.{ProofProblem, root_of}
 use Rattle.tree_state.specs.cert_step.PlainProblem.{plain}
 use Rattle.tree_state.specs.cert_step.ProofStep.{ProofStep, ProofNodeStep, IsWellMade}
 use Rattle.tree_state.specs.cert_step.Nodes.{IsAccepted}
 use Rattle.tree_state.specs.cert_step.declared.claim.Claim.{Claim}
 use Rattle.tree_state.proofs.cert_step.AnyWay.{applies_plainly}
 use Rattle.tree_state.specs.tree_definitions.declared.question.Question.{Question}
-use Rattle.tree_state.specs.tree_definitions.Questions.{roots, claims, goal_count}
+use Rattle.tree_state.specs.tree_definitions.Questions.{claims, goal_count}
 use Rattle.tree_state.specs.tree_definitions.States.{TreeNode, Decided}
 use Rattle.tree_state.specs.tree_definitions.Reports.{Walks, steps_from, with_step, decision_at, IsFoundStep}
 use Rattle.tree_state.specs.Ascending.{AreAscending}

@@ -7,7 +7,7 @@ use mathlib.Core.Logic.{dite}
 use Rattle.trs_defs.specs.System.{System}
 use Rattle.trs_core.specs.Valid.{IsValid}
 use Rattle.tree_state.specs.cert_step.ProofProblem as problem
-use Rattle.tree_state.specs.cert_step.ProofProblem.{ProofProblem, IsWellMadeProblem}
+use Rattle.tree_state.specs.cert_step.ProofProblem.{ProofProblem}
 use Rattle.tree_state.specs.strategies.Kinds.{strategies_for}
 use Rattle.tree_state.specs.declared.goal_state.GoalState.{GoalState}
 use Rattle.tree_state.specs.tree_definitions.declared.mark.Mark.{Mark}

@@ -10,7 +10,7 @@ use Rattle.tree_state.specs.cert_step.declared.claim.Claim.{Claim}
 use Rattle.tree_state.specs.cert_step.declared.claim.Claim.TheVariants as claim
 use Rattle.tree_state.proofs.cert_step.Soundness.{sound_step}
 use Rattle.tree_state.specs.tree_definitions.declared.question.Question.{Question}
-use Rattle.tree_state.specs.tree_definitions.Questions.{roots, claims}
+use Rattle.tree_state.specs.tree_definitions.Questions.{claims}
 use Rattle.tree_state.specs.tree_definitions.States.{TreeNode, Decided}
 use Rattle.tree_state.specs.tree_definitions.Verdicts.{IsClosed, closed}
 use Rattle.tree_state.specs.tree_definitions.Legal.{IsLegallyDecided}

@@ -1,5 +1,5 @@
 -- Nodes that are appended.
-use Rattle.std.proofs.Common.{◌≡◌, ◌++◌, ◌∷◌, [], ℕ, List, length, map, None, refl, sym, ap, ◌∙◌, subst}
+use Rattle.std.proofs.Common.{◌≡◌, ◌++◌, ◌∷◌, [], ℕ, List, map, None, refl, sym, ap, ◌∙◌, subst}
 use Rattle.std.proofs.lemmas.List.{map-append}
 use Rattle.tree_definitions.specs.cert_step.ProofProblem.{problem_of}
 use Rattle.tree_definitions.specs.cert_step.declared.problem.Problem.{Problem}

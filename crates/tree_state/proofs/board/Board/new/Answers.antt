@@ -1,4 +1,4 @@
-use Rattle.std.proofs.Common.{◌≡◌, ◌∙◌, false, map, length, None, refl, ap, arith}
+use Rattle.std.proofs.Common.{◌∙◌, false, map, None, refl, ap, arith}
 use Rattle.tree_definitions.specs.declared.goal.Goal.TheVariants.{Terminating}
 use Rattle.tree_definitions.specs.States.{roots_from}
 use Rattle.tree_state.specs.Parts.{fresh_goals}

@@ -1,8 +1,7 @@
-use Rattle.std.proofs.Common.{◌≡◌, ◌∷◌, [], List, length, map, take, None, refl}
+use Rattle.std.proofs.Common.{◌≡◌, ◌∷◌, [], length, map, take, None, refl}
 use Rattle.tree_definitions.specs.cert_step.ProofProblem as problem
 use Rattle.tree_definitions.specs.cert_step.ProofProblem.{ProofProblem, problem_of}
 use Rattle.tree_definitions.specs.strategies.Kinds.{strategies_for}
-use Rattle.tree_definitions.specs.declared.mark.Mark.{Mark}
 use Rattle.tree_definitions.specs.declared.mark.Mark.TheVariants.{Idle}
 use Rattle.tree_state.proofs.node.Node.new.Goals as goal
 
