@@ -8,7 +8,7 @@ use Rattle.cert_text.specs.cert_step.ProofStep.{ProofNodeStep}
 use Rattle.conclusion.specs.ProofOf.{Proves}
 use Rattle.report_text.specs.GoalLines.{report_lines}
 use Rattle.report_text.specs.tree_definitions.declared.question.Question.{Question}
-use Rattle.report_text.specs.tree_definitions.Questions.{goals_of, claims}
+use Rattle.report_text.specs.tree_definitions.Questions.{goal_count, claims}
 use Rattle.report_text.specs.tree_definitions.Reports.{Part, IsTrueReport, AreStepsOf, ArePartsOf}
 use Rattle.report_text.specs.tree_definitions.Trees.{ProofTree}
 use Rattle.report_text.specs.tree_definitions.Verdicts.{HasVerdict}
@@ -19,7 +19,7 @@ use Rattle.conclusion.specs.SerialText.{IsSerialText, won, lost}
 use Rattle.conclusion.specs.TextOf.{IsTextOf, certified, reported}
 
 -- where a verdict stands there is one
-pub some_verdict : (tree : ProofTree) → HasVerdict (goals_of tree.question) tree.state → IsVerdict tree None → ⊥
+pub some_verdict : (tree : ProofTree) → HasVerdict (goal_count tree.question) tree.state → IsVerdict tree None → ⊥
 some_verdict tree (inl (g, is_won)) (none, h) = absurd cc
 some_verdict tree (inr all) (none, (g, within, not_lost)) = not_lost (all g within)
 

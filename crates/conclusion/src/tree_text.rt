@@ -1,6 +1,6 @@
 //! The text of a proof tree on which a verdict stands.
 ghost use Rattle.std.specs.Prelude.{◌≡◌, ◌<◌, ◌^◌, ℕ, Some, IfOk, length};
-ghost use Rattle.report_text.specs.tree_definitions.Questions.{goals_of};
+ghost use Rattle.report_text.specs.tree_definitions.Questions.{goal_count};
 ghost use Rattle.report_text.specs.tree_definitions.Replies.{IsVerdict};
 ghost use Rattle.report_text.specs.tree_definitions.Verdicts.{HasVerdict};
 ghost use Rattle.conclusion.specs.TextOf.{IsTextOf};
@@ -20,7 +20,7 @@ pub(crate) fn tree_text(
     tree: &Tree<'_>,
 ) -> Result<Vec<u8>, OutOfMemory>
     requires system { tree.now.system ≡ system.now.system }
-    requires verdict { HasVerdict (goals_of tree.now.question) tree.now.state }
+    requires verdict { HasVerdict (goal_count tree.now.question) tree.now.state }
     ensures { IfOk result (λ text. IsTextOf system.now tree.now text.items) }
 {
     match tree.verdict() {
@@ -37,13 +37,13 @@ fn won_text(alloc: Global, system: &NamedTrs, tree: &Tree<'_>) -> Result<Vec<u8>
     ensures { IfOk result (λ text. IsTextOf system.now tree.now text.items) }
 {
     let proof = tree.certificate(alloc)?;
-    check_few(&proof.steps);
+    lists_are_short(&proof.steps);
     let text = print_proof(alloc, system, proof.claim, proof.steps)?;
     Ok(text)
 }
 
-// What is known of the number of steps. There is nothing to run.
-fn check_few(steps: &[NodeStep])
+// A law, with nothing to run but the reading of the list: a list of steps has fewer than 2^63.
+fn lists_are_short(steps: &[NodeStep])
     ensures { length steps.now < 2 ^ 63 }
 {
     let _count = steps.len();

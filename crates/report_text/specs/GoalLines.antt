@@ -1,5 +1,5 @@
 -- The text of a report: one line for each goal.
-use Rattle.std.specs.Prelude.{ℕ, Bool, true, false, List, [], ◌∷◌, ◌++◌, map, codes}
+use Rattle.std.specs.Prelude.{ℕ, List, [], ◌∷◌, ◌++◌, map, codes}
 use Rattle.sexp_core.specs.Items.{Item, items_of}
 use Rattle.sexp_core.specs.Printed.{lines}
 use Rattle.names_text.specs.Named.{NamedSystem}
@@ -7,17 +7,18 @@ use Rattle.step_text.specs.cert_step.ProofProblem as problem
 use Rattle.step_text.specs.cert_step.ProofProblem.{ProofProblem}
 use Rattle.text_reading.specs.Printed.{word_item, number_item, list_item}
 use Rattle.step_text.specs.Steps.{step_item}
+use Rattle.tree_definitions.specs.strategies.declared.failure.Failure.{Failure}
+use Rattle.tree_definitions.specs.strategies.declared.failure.Failure.TheVariants.{NotThere, Spent}
 use Rattle.tree_definitions.specs.strategies.declared.strategy.Strategy.{Strategy}
 use Rattle.tree_definitions.specs.strategies.Kinds.{word_of}
 use Rattle.tree_definitions.specs.declared.question.Question.{Question}
-use Rattle.tree_definitions.specs.declared.question.Question.TheVariants.{Termination, Confluence, Unique}
+use Rattle.tree_definitions.specs.Goals.{goal_word}
+use Rattle.tree_definitions.specs.Questions.{goals_for}
 use Rattle.tree_definitions.specs.Reports.{Part}
 
 -- the words of a question's goals, in order
 abbrev pub goal_words : Question → List (List ℕ)
-goal_words Termination = codes "terminating" ∷ codes "nonterminating" ∷ []
-goal_words Confluence = codes "confluent" ∷ codes "confluent-newman" ∷ codes "nonconfluent" ∷ []
-goal_words Unique = codes "unique" ∷ codes "unique-newman" ∷ codes "nonunique" ∷ []
+goal_words question = map goal_word (goals_for question)
 
 -- a problem by its word, and the numbers of its pairs
 abbrev pub problem_items : ProofProblem → List Item
@@ -36,12 +37,12 @@ abbrev pub stuck_item : ℕ → ProofProblem → Item
 stuck_item node p = list_item (word_item (codes "stuck") ∷ number_item node ∷ problem_items p)
 
 -- why a strategy failed: its search has no solution, or its budget was spent
-abbrev pub reason_word : Bool → List ℕ
-reason_word false = codes "none"
-reason_word true = codes "spent"
+abbrev pub reason_word : Failure → List ℕ
+reason_word NotThere = codes "none"
+reason_word Spent = codes "spent"
 
 -- `(failed strategy reason)`
-abbrev pub failed_item : Strategy × Bool → Item
+abbrev pub failed_item : Strategy × Failure → Item
 failed_item f = list_item (word_item (codes "failed") ∷ word_item (word_of f.0) ∷ word_item (reason_word f.1) ∷ [])
 
 -- `(goal word step .. (stuck node problem) (failed strategy reason) ..)`

@@ -4,8 +4,7 @@ ghost use Rattle.sexp_core.specs.Printed.{text_of, spaced};
 ghost use Rattle.names_text.specs.VariableNames.{underscores as underscores_of};
 ghost use Rattle.step_text.specs.cert_step.ProofStep.{node_step_of};
 ghost use Rattle.step_text.specs.Steps.{step_item};
-ghost use Rattle.tree_definitions.specs.declared.question.Question.TheVariants.{Termination, Confluence, Unique};
-ghost use Rattle.tree_definitions.specs.Questions.{goals_of};
+ghost use Rattle.tree_definitions.specs.Questions.{goal_count};
 ghost use Rattle.tree_definitions.specs.Reports.{part_of};
 ghost use Rattle.report_text.specs.GoalLines.{goal_words, goal_item};
 
@@ -16,51 +15,15 @@ use path_text::PathNames;
 use std::alloc::Global;
 use step_text::{NodeStep, put_step};
 use text_reading::put;
-use tree_definitions::{GoalReport, Question};
+use tree_definitions::{GoalReport, Question, goals_of};
 use trs_core::OutOfMemory;
 
 /// The word of a goal of a question, by its number.
 pub(crate) fn goal_word(question: Question, goal: usize) -> &'static [u8]
-    requires { goal < goals_of question }
+    requires { goal < goal_count question }
     ensures { slice_get (goal_words question) goal ≡ Some result.now }
 {
-    match question {
-        Question::Termination => termination_word(goal),
-        Question::Confluence => confluence_word(goal),
-        Question::Unique => unique_word(goal),
-    }
-}
-
-fn termination_word(goal: usize) -> &'static [u8]
-    requires { goal < goals_of Termination }
-    ensures { slice_get (goal_words Termination) goal ≡ Some result.now }
-{
-    match goal {
-        0 => b"terminating",
-        _ => b"nonterminating",
-    }
-}
-
-fn confluence_word(goal: usize) -> &'static [u8]
-    requires { goal < goals_of Confluence }
-    ensures { slice_get (goal_words Confluence) goal ≡ Some result.now }
-{
-    match goal {
-        0 => b"confluent",
-        1 => b"confluent-newman",
-        _ => b"nonconfluent",
-    }
-}
-
-fn unique_word(goal: usize) -> &'static [u8]
-    requires { goal < goals_of Unique }
-    ensures { slice_get (goal_words Unique) goal ≡ Some result.now }
-{
-    match goal {
-        0 => b"unique",
-        1 => b"unique-newman",
-        _ => b"nonunique",
-    }
+    goals_of(question)[goal].word().as_bytes()
 }
 
 /// Appends the line of a goal with this word.

@@ -2,7 +2,7 @@ ghost use Rattle.std.specs.Prelude.{◌≡◌, ◌≤◌, ◌++◌, length, map,
 ghost use Rattle.sexp_core.specs.Items.{items_of};
 ghost use Rattle.sexp_core.specs.Printed.{lines};
 ghost use Rattle.names_text.specs.VariableNames.{underscores as underscores_of};
-ghost use Rattle.tree_definitions.specs.Questions.{goals_of};
+ghost use Rattle.tree_definitions.specs.Questions.{goal_count};
 ghost use Rattle.tree_definitions.specs.Reports.{part_of};
 ghost use Rattle.report_text.specs.GoalLines.{goal_words, goal_items, report_lines};
 
@@ -22,7 +22,7 @@ pub fn print_report(
     question: Question,
     report: &Report,
 ) -> Result<Vec<u8>, OutOfMemory>
-    requires goals { length report.now.goals.items ≡ goals_of question }
+    requires goals { length report.now.goals.items ≡ goal_count question }
     ensures { IfOk result (λ text. text.items
         ≡ report_lines system.now question (map part_of report.now.goals.items)) }
 {
@@ -45,22 +45,16 @@ fn put_goals(
     system: &NamedTrs,
     underscores: usize,
     question: Question,
-    goals: &[GoalReport],
+    parts: &[GoalReport],
 ) -> Result<(), OutOfMemory>
     requires underscores { underscores ≡ underscores_of system.now.names }
-    requires goals { length goals.now ≤ goals_of question }
+    requires parts { length parts.now ≤ goal_count question }
     ensures { OnOk result (out.new.items ≡ out.old.items ++ lines (items_of
-        (goal_items system.now (goal_words question) (map part_of goals.now)))) }
+        (goal_items system.now (goal_words question) (map part_of parts.now)))) }
 {
-    for (i, goal) in goals.iter().enumerate() {
-        put_goal(
-            alloc,
-            out,
-            system,
-            underscores,
-            goal_word(question, i),
-            goal,
-        )?;
+    for (i, part) in parts.iter().enumerate() {
+        let word = goal_word(question, i);
+        put_goal(alloc, out, system, underscores, word, part)?;
     }
     Ok(())
 }

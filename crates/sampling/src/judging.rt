@@ -1,6 +1,6 @@
 ghost use Rattle.std.specs.Prelude.{◌≡◌, ◌≤◌, ℕ, Some, IfOk};
 ghost use Rattle.worker_pool.specs.tree_definitions.Replies.{IsVerdict};
-ghost use Rattle.worker_pool.specs.tree_definitions.Questions.{goals_of};
+ghost use Rattle.worker_pool.specs.tree_definitions.Questions.{goal_count};
 ghost use Rattle.worker_pool.specs.tree_definitions.Verdicts.{HasVerdict};
 ghost use Rattle.worker_pool.specs.tree_definitions.declared.question.Question.TheVariants.{Termination};
 ghost use Rattle.sampling.specs.Judged.{IsTrueJudgement, IsSerialJudgement, IsJudgementOf};
@@ -10,7 +10,10 @@ use std::alloc::Global;
 use std::sync::Wait;
 use std::thread::Threads;
 use trs_core::{OutOfMemory, Trs};
-use worker_pool::{Claim, Gate, Limits, Question, Tree, Verdict, prove_alone, prove_with};
+use worker_pool::{
+    Claim, Gate, Limits, Question, Tree, Verdict, lost_goals_have_a_true_report, prove_alone,
+    prove_with,
+};
 
 /// Judges by one worker whether a system terminates. The budget is how many refuted prefixes, or
 /// attempts, each search may pass.
@@ -46,13 +49,13 @@ pub(crate) fn judge_with<R: Threads + Wait + Sync, G: Gate>(
 // The judgement of a tree on which a verdict stands.
 fn judgement_of(alloc: Global, tree: &Tree<'_>) -> Result<Judgement, OutOfMemory>
     requires question { tree.now.question ≡ Termination }
-    requires verdict { HasVerdict (goals_of tree.now.question) tree.now.state }
+    requires verdict { HasVerdict (goal_count tree.now.question) tree.now.state }
     ensures is_true { IfOk result (IsTrueJudgement tree.now.system tree.now.budget) }
     ensures of_tree { IfOk result (IsJudgementOf tree.now.state) }
 {
     match tree.verdict() {
         Some(Verdict::Won(_)) => won(alloc, tree),
-        Some(Verdict::Maybe) => judge_lost(alloc, tree),
+        Some(Verdict::Maybe) => Ok(judge_lost(tree)),
         None => unreachable!(),
     }
 }
@@ -72,13 +75,13 @@ fn won(alloc: Global, tree: &Tree<'_>) -> Result<Judgement, OutOfMemory>
     }
 }
 
-// The judgement where both goals were lost: their report is true.
-fn judge_lost(alloc: Global, tree: &Tree<'_>) -> Result<Judgement, OutOfMemory>
+// The judgement where both goals were lost: there is a true report.
+fn judge_lost(tree: &Tree<'_>) -> Judgement
     requires question { tree.now.question ≡ Termination }
     requires lost { IsVerdict tree.now (Some Verdict.Maybe) }
-    ensures is_true { IfOk result (IsTrueJudgement tree.now.system tree.now.budget) }
-    ensures of_tree { IfOk result (IsJudgementOf tree.now.state) }
+    ensures is_true { IsTrueJudgement tree.now.system tree.now.budget result }
+    ensures of_tree { IsJudgementOf tree.now.state result }
 {
-    let _report = tree.report(alloc)?;
-    Ok(Judgement::Open)
+    lost_goals_have_a_true_report(tree);
+    Judgement::Open
 }

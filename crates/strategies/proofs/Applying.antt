@@ -1,5 +1,5 @@
 -- What is found for a problem of pairs applies to it, as do the steps that are always found.
-use Rattle.std.specs.Prelude.{◌≡◌, ◌⊎◌, ℕ, Bool, List, [], ◌∷◌, Result, Ok, Err, IfOk}
+use Rattle.std.specs.Prelude.{◌≡◌, ◌⊎◌, ℕ, List, [], ◌∷◌, Result, Ok, Err, IfOk}
 use Rattle.std.proofs.Common.{refl, sym, subst, inl, inr}
 use Rattle.trs_defs.specs.System.{System}
 use Rattle.pair_theory.specs.DependencyPair.{dependency_pairs}
@@ -22,6 +22,7 @@ use Rattle.cert_step.specs.dp_graph.GroupOrSingle.{GroupOrSingle, groups_of}
 use Rattle.cert_step.specs.dp_graph.Laws.{ComponentsPass}
 use Rattle.cert_step.specs.ProofStep.{ProofStep}
 use Rattle.cert_step.specs.GraphKind.{group_problems}
+use Rattle.strategies.specs.declared.failure.Failure.{Failure}
 use Rattle.strategies.specs.declared.strategy.Strategy.{Strategy}
 use Rattle.strategies.specs.declared.strategy.Strategy.TheVariants as strategy
 use Rattle.strategies.specs.declared.outcome.Findings.{Findings}
@@ -93,5 +94,5 @@ confluence_found system budget p e = elim e [
   | inr same ↦ subst (λ x. Finds system budget strategy.Confluence x step.confluence) (sym same) newman_confluence_is_found
 ]
 
-pub failed_for : (system : System) (budget : ℕ) (s : Strategy) (p q : ProofProblem) (spent : Bool) → p ≡ q → Fails system budget s q spent → Fails system budget s p spent
-failed_for system budget s p q spent is fails = subst (λ x. Fails system budget s x spent) (sym is) fails
+pub failed_for : (system : System) (budget : ℕ) (s : Strategy) (p q : ProofProblem) (failure : Failure) → p ≡ q → Fails system budget s q failure → Fails system budget s p failure
+failed_for system budget s p q failure is fails = subst (λ x. Fails system budget s x failure) (sym is) fails

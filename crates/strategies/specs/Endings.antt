@@ -1,5 +1,5 @@
 -- How the run of a strategy ends.
-use Rattle.std.specs.Prelude.{◌≡◌, ℕ, true, false, List, Result, Ok, Err, IsErr}
+use Rattle.std.specs.Prelude.{◌≡◌, ℕ, List, Result, Ok, Err, IsErr}
 use Rattle.trs_defs.specs.System.{System}
 use Rattle.trs_core.specs.declared.memory.OutOfMemory.{OutOfMemory}
 use Rattle.cert_step.specs.ProofProblem.{ProofProblem}
@@ -7,6 +7,7 @@ use Rattle.cert_step.specs.ProofStep.{ProofStep, IsWellMade}
 use Rattle.cert_step.specs.Applies.{Applies}
 use Rattle.assign_search.specs.declared.search.Search.{Search}
 use Rattle.order_find.specs.order_search.Outcome.{IsFinding}
+use Rattle.strategies.specs.declared.failure.Failure.TheVariants.{NotThere, Spent}
 use Rattle.strategies.specs.declared.strategy.Strategy.{Strategy}
 use Rattle.strategies.specs.declared.outcome.Findings.{Findings}
 use Rattle.strategies.specs.declared.ran.Ran.{Ran}
@@ -51,7 +52,7 @@ pub record FindsStep (system : System) (budget : ℕ) (strategy : Strategy) (p :
 -- problem; `rose` says that the count of stops rose
 abbrev pub IsSearchFor : {A : Type 0} → System → ℕ → Strategy → ProofProblem → (A → Type 0) → Type 0 → Search A → Type 0
 IsSearchFor system budget strategy p finds rose search =
-    IsFinding finds (Fails system budget strategy p false) (Fails system budget strategy p true) rose search
+    IsFinding finds (Fails system budget strategy p NotThere) (Fails system budget strategy p Spent) rose search
 
 -- the search ended with these findings, unless memory ran out
 abbrev pub EndsAs : Result Findings OutOfMemory → Result Searched OutOfMemory → Type 0

@@ -4,6 +4,7 @@
 
 mod confluence;
 mod dp;
+mod failure;
 mod fork;
 mod found;
 mod graph;
@@ -31,9 +32,10 @@ mod tables;
 mod usable;
 
 pub use cert_step::{Claim, GraphItem, Join, NodeStep, Problem, Proof, Step};
+pub use failure::Failure;
 pub use outcome::{Findings, Limits, Outcome};
 pub use ran::Ran;
 pub use run::run_strategy;
 pub use searcher::Searcher;
-pub use strategy::{Strategy, strategies_of};
+pub use strategy::{MOST_STRATEGIES, Strategy, strategies_of};
 pub use tables::Tables;

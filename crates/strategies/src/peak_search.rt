@@ -15,10 +15,11 @@ use trs_core::{OutOfMemory, Trs};
 
 /// A search for a step on critical peaks.
 pub(crate) trait SearchOnPeaks {
-    ghost use Rattle.std.specs.Prelude.{ℕ, false, Err};
+    ghost use Rattle.std.specs.Prelude.{ℕ, Err};
     ghost use Rattle.trs_defs.specs.System.{System};
     ghost use Rattle.loop_find.specs.crit_pairs.declared.faults.PeakFault.{PeakFault};
     ghost use Rattle.cert_step.specs.ProofProblem.{ProofProblem};
+    ghost use Rattle.strategies.specs.declared.failure.Failure.{Failure};
     ghost use Rattle.strategies.specs.declared.strategy.Strategy.{Strategy};
     ghost use Rattle.strategies.specs.Conditions.{Fails};
     ghost use Rattle.strategies.specs.Runs.{Found};
@@ -53,7 +54,7 @@ pub(crate) trait SearchOnPeaks {
         ensures { IfOk result (λ findings. found_of findings ≡ answer found) };
 
     ghost fails_past_limit: { (system : System) (budget : ℕ) (fault : PeakFault)
-        → ListsPeaks system.rules (Err fault) → Fails system budget strategy problem false };
+        → ListsPeaks system.rules (Err fault) → Fails system budget strategy problem Failure.NotThere };
 }
 
 /// What the strategy of a search answers over the critical peaks.

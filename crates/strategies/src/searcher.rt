@@ -3,6 +3,7 @@ ghost use Rattle.trs_defs.specs.Member.{In};
 ghost use Rattle.cert_step.specs.ProofProblem.{problem_of, IsWellMadeProblem};
 ghost use Rattle.strategies.specs.Endings.{IfEnded, IfStopped};
 ghost use Rattle.strategies.specs.Kinds.{strategies_for};
+ghost use Rattle.strategies.specs.Truth.{IsTrueRun};
 
 use crate::run::search;
 use crate::searched::Searched;
@@ -61,6 +62,7 @@ impl<'t, 'a> Searcher<'t, 'a> {
         ensures limits { IfOk result (IfEnded (λ o. o.budget ≡ limits.now.budget)) }
         ensures problem { IfOk result (IfEnded (λ o. o.problem ≡ problem_of problem.now)) }
         ensures strategy { IfOk result (IfEnded (λ o. o.strategy ≡ strategy)) }
+        ensures is_true { IfOk result (IfEnded IsTrueRun) }
         ensures stopped { IfOk result (IfStopped (P.stops stop.old < P.stops stop.new)) }
         ensures later { P.stops stop.old ≤ P.stops stop.new }
         ensures kept { P.kept stop.new ≡ P.kept stop.old }

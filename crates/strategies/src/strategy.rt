@@ -66,7 +66,10 @@ impl Strategy {
 
 const DP: [Strategy; 1] = [Strategy::Dp];
 
-const PAIRS: [Strategy; 6] = [
+/// The most strategies that a problem has: those on pairs.
+pub const MOST_STRATEGIES: usize = 6;
+
+const PAIRS: [Strategy; MOST_STRATEGIES] = [
     Strategy::Graph,
     Strategy::Subterm,
     Strategy::Poly,

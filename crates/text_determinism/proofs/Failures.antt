@@ -1,5 +1,5 @@
 -- A strategy that finds a step does not fail, and one that fails does so for one reason.
-use Rattle.std.specs.Prelude.{◌≡◌, ℕ, Bool, true, false, [], refl}
+use Rattle.std.specs.Prelude.{◌≡◌, ℕ, [], refl}
 use Rattle.trs_defs.specs.Tree.{var}
 use Rattle.trs_defs.specs.System.{System}
 use Rattle.trs_core.specs.Valid.{IsValid}
@@ -12,6 +12,8 @@ use Rattle.conclusion.specs.report_text.strategies.kbo_find.KboRow.{kbo_search, 
 use Rattle.conclusion.specs.report_text.strategies.conf_find.ForkRows.{AreDifferentNormalForms}
 use Rattle.conclusion.specs.report_text.strategies.cert_step.ProofProblem.{ProofProblem}
 use Rattle.conclusion.specs.report_text.strategies.cert_step.ProofStep.{ProofStep}
+use Rattle.conclusion.specs.report_text.strategies.declared.failure.Failure.{Failure}
+use Rattle.conclusion.specs.report_text.strategies.declared.failure.Failure.TheVariants.{NotThere, Spent}
 use Rattle.conclusion.specs.report_text.strategies.declared.strategy.Strategy.{Strategy}
 use Rattle.conclusion.specs.report_text.strategies.Conditions.{Finds, dp_is_found, graph_is_found, confluence_is_found, newman_confluence_is_found}
 use Rattle.conclusion.specs.report_text.strategies.Conditions.{subterm_is_found, poly_is_found, lpo_is_found, kbo_is_found, usable_is_found, loop_is_found}
@@ -31,8 +33,8 @@ use Rattle.text_determinism.proofs.Labels.{label_not_failed, label_not_spent, sp
 use Rattle.text_determinism.proofs.Forks.{fork_not_failed}
 
 module _ (system : System) (valid : IsValid system) (budget : ℕ) (loops : LoopAnswersExclude) where
-  pub found_or_failed : {strategy : Strategy} {p : ProofProblem} {s : ProofStep} {spent : Bool} → Finds system budget strategy p s
-      → Fails system budget strategy p spent → ⊥
+  pub found_or_failed : {strategy : Strategy} {p : ProofProblem} {s : ProofStep} {failure : Failure} → Finds system budget strategy p s
+      → Fails system budget strategy p failure → ⊥
   found_or_failed dp_is_found k = elim k [ ]
   found_or_failed confluence_is_found k = elim k [ ]
   found_or_failed newman_confluence_is_found k = elim k [ ]
@@ -77,7 +79,7 @@ module _ (system : System) (valid : IsValid system) (budget : ℕ) (loops : Loop
   found_or_failed (split_is_found {fork = a} h) (split_is_not_there k) =
       not_found system valid.is_system (λ ps f g. fork_not_failed AreDifferentNormalForms system valid.is_system ps a f g) h k
 
-  not_both : {strategy : Strategy} {p : ProofProblem} → Fails system budget strategy p false → Fails system budget strategy p true → ⊥
+  not_both : {strategy : Strategy} {p : ProofProblem} → Fails system budget strategy p NotThere → Fails system budget strategy p Spent → ⊥
   not_both (graph_is_not_there h) k = elim k [ ]
   not_both (parallel_is_not_there h) k = elim k [ ]
   not_both (strong_is_not_there h) k = elim k [ ]
@@ -96,9 +98,9 @@ module _ (system : System) (valid : IsValid system) (budget : ℕ) (loops : Loop
   not_both (label_is_not_there h) (label_is_spent k) =
       not_found system valid.is_system (λ ps f g. spent_not_failed system valid.is_system ps budget f g) k h
 
-  pub one_reason : {strategy : Strategy} {p : ProofProblem} (spent other : Bool) → Fails system budget strategy p spent
-      → Fails system budget strategy p other → spent ≡ other
-  one_reason true true h k = refl
-  one_reason false false h k = refl
-  one_reason false true h k = absurd (not_both h k)
-  one_reason true false h k = absurd (not_both k h)
+  pub one_reason : {strategy : Strategy} {p : ProofProblem} (failure other : Failure) → Fails system budget strategy p failure
+      → Fails system budget strategy p other → failure ≡ other
+  one_reason NotThere NotThere h k = refl
+  one_reason Spent Spent h k = refl
+  one_reason NotThere Spent h k = absurd (not_both h k)
+  one_reason Spent NotThere h k = absurd (not_both k h)

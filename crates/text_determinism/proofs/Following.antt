@@ -25,7 +25,7 @@ use Rattle.text_determinism.proofs.Renumbering.{renumbered_decided, renumbered_n
 abbrev pub renumbered_event : Event → Event
 renumbered_event (claimed problem strategy) = claimed problem strategy
 renumbered_event (found step) = found (renumbered step)
-renumbered_event (failed spent) = failed spent
+renumbered_event (failed failure) = failed failure
 renumbered_event cancelled = cancelled
 renumbered_event aborted = aborted
 
@@ -139,8 +139,8 @@ module _ (goals : ℕ) (s : State) where
   post_again system ticket (strategy.found step left) later (r, inr (still, decides)) =
       let wanted : IsOver goals (renumbered_state s) (renumbered_node r.node) → ⊥ = λ over. still (over_before goals s r.node over) in
       (runs_again ticket (found step) r, inr (wanted, decides_again system ticket r.ticket r.node step later decides))
-  post_again system ticket (strategy.failed spent) later (r, inl late) =
-      (runs_again ticket (failed spent) r, inl (late_again ticket (failed spent) later r late))
-  post_again system ticket (strategy.failed spent) later (r, inr (still, after)) =
+  post_again system ticket (strategy.failed failure) later (r, inl late) =
+      (runs_again ticket (failed failure) r, inl (late_again ticket (failed failure) later r late))
+  post_again system ticket (strategy.failed failure) later (r, inr (still, after)) =
       let wanted : IsOver goals (renumbered_state s) (renumbered_node r.node) → ⊥ = λ over. still (over_before goals s r.node over) in
-      (runs_again ticket (failed spent) r, inr (wanted, ap renumbered_state after ∙ ended_again s ticket r.ticket r.node _))
+      (runs_again ticket (failed failure) r, inr (wanted, ap renumbered_state after ∙ ended_again s ticket r.ticket r.node _))

@@ -16,9 +16,9 @@ module _ (loops : LoopsAreOne) (exclude : LoopAnswersExclude) where
       → IsTrueFound system budget strategy p a → IsTrueFound system budget strategy p b → AreSameAnswers a b
   one_answer system budget strategy p (found s left) (found t others) valid h k =
       same_left system p s t left others (one_step system valid budget loops h.finds k.finds) h.applies k.applies
-  one_answer system budget strategy p (found s left) (failed spent) valid h k = found_or_failed system valid budget exclude h.finds k
-  one_answer system budget strategy p (failed spent) (found t others) valid h k = found_or_failed system valid budget exclude k.finds h
-  one_answer system budget strategy p (failed spent) (failed other) valid h k = one_reason system valid budget exclude spent other h k
+  one_answer system budget strategy p (found s left) (failed failure) valid h k = found_or_failed system valid budget exclude h.finds k
+  one_answer system budget strategy p (failed failure) (found t others) valid h k = found_or_failed system valid budget exclude k.finds h
+  one_answer system budget strategy p (failed failure) (failed other) valid h k = one_reason system valid budget exclude failure other h k
 
   pub answers_one : AnswersAreOne
   answers_one = one_answer

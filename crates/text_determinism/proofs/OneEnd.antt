@@ -7,7 +7,7 @@ use Rattle.conclusion.specs.report_text.strategies.declared.strategy.Strategy.{S
 use Rattle.conclusion.specs.report_text.strategies.Runs.{Found, found, failed}
 use Rattle.conclusion.specs.report_text.strategies.Truth.{IsTrueFound}
 use Rattle.conclusion.specs.tree_definitions.declared.question.Question.{Question}
-use Rattle.conclusion.specs.tree_definitions.Questions.{roots, goals_of}
+use Rattle.conclusion.specs.tree_definitions.Questions.{roots, goal_count}
 use Rattle.conclusion.specs.tree_definitions.History as event
 use Rattle.conclusion.specs.tree_definitions.History.{HistoryEntry, claimed}
 use Rattle.conclusion.specs.tree_definitions.States.{TreeNode, State, new_node, roots_from, opening}
@@ -38,14 +38,14 @@ module _ (goals : ℕ) (system : System) (s : State) (ticket : ℕ) where
   one_post : IsGrown goals s → (a b : Found) (m o : State) → AreSameAnswers a b → Posts a m → Posts b o → m ≡ o
   one_post grown (found step left) (found other others) m o (same, _) f g =
       one_found goals system s 0 ticket grown _ m o f (subst (λ z. Follows goals system s (entry_of ticket (event.found z)) o) (sym same) g)
-  one_post grown (failed spent) (failed other) m o same f g =
-      one_failed goals system s 0 ticket spent m o f (subst (λ z. Follows goals system s (entry_of ticket (event.failed z)) o) (sym same) g)
+  one_post grown (failed failure) (failed other) m o same f g =
+      one_failed goals system s 0 ticket failure m o f (subst (λ z. Follows goals system s (entry_of ticket (event.failed z)) o) (sym same) g)
   one_post grown (found step left) (failed other) m o same f g = absurd same
-  one_post grown (failed spent) (found other others) m o same f g = absurd same
+  one_post grown (failed failure) (found other others) m o same f g = absurd same
 
   grown_post : IsGrown goals s → (a : Found) (m : State) → Posts a m → IsGrown goals m
   grown_post grown (found step left) m f = grown_found goals system s grown 0 ticket _ m f
-  grown_post grown (failed spent) m f = grown_failed goals system s grown 0 ticket spent m f
+  grown_post grown (failed failure) m f = grown_failed goals system s grown 0 ticket failure m f
 
 module _ (answers : AnswersAreOne) (goals : ℕ) (system : System) (valid : IsValid system) (budget : ℕ) where
   -- two states that are the same but for the numbers of variables, and of which each leads to a verdict by turns
@@ -94,7 +94,7 @@ pub one_serial_end : AnswersAreOne → (system : System) → IsValid system → 
     → IsSerialEnd system question budget u
     → IsSerialEnd system question budget v → renumbered_state u ≡ renumbered_state v
 one_serial_end answers system valid question budget u v a b =
-    one_end answers (goals_of question) system valid budget (opening question) (opening question) (opening question) u v a.history b.history
+    one_end answers (goal_count question) system valid budget (opening question) (opening question) (opening question) u v a.history b.history
     (grown_opening question) (opening_again question) (opening_again question)
     (turns_of system budget a.history a.serial) (turns_of system budget b.history b.serial)
     a.replays b.replays a.verdict b.verdict

@@ -1,5 +1,5 @@
 -- The reports of trees that are the same but for the numbers of variables are printed alike.
-use Rattle.std.proofs.Common.{◌≡◌, ℕ, suc, ◌<◌, Bool, List, [], ◌∷◌, ◌++◌, map, length, Some, slice_get, codes, refl, sym, ap, ◌∙◌, subst, arith}
+use Rattle.std.proofs.Common.{◌≡◌, ℕ, suc, ◌<◌, List, [], ◌∷◌, ◌++◌, map, length, Some, slice_get, codes, refl, sym, ap, ◌∙◌, subst, arith}
 use Rattle.std.proofs.lemmas.Option.{slice_get_within}
 use Rattle.trs_defs.specs.System.{System}
 use Rattle.trs_core.specs.Valid.{IsValid}
@@ -8,17 +8,19 @@ use Rattle.sexp_core.specs.Printed.{lines}
 use Rattle.text_reading.specs.Printed.{word_item, list_item}
 use Rattle.names_text.specs.Named.{NamedSystem}
 use Rattle.conclusion.specs.report_text.strategies.cert_step.ProofProblem.{ProofProblem}
+use Rattle.conclusion.specs.report_text.strategies.declared.failure.Failure.{Failure}
 use Rattle.conclusion.specs.report_text.strategies.declared.strategy.Strategy.{Strategy}
 use Rattle.conclusion.specs.report_text.strategies.Kinds.{strategies_for}
 use Rattle.conclusion.specs.report_text.strategies.Runs.{failed}
 use Rattle.conclusion.specs.report_text.GoalLines.{goal_words, stuck_item, failed_item, goal_item, goal_items}
 use Rattle.conclusion.specs.Concludes.{maybe_text}
 use Rattle.conclusion.specs.tree_definitions.declared.question.Question.{Question}
-use Rattle.conclusion.specs.tree_definitions.Questions.{roots}
+use Rattle.conclusion.specs.tree_definitions.Questions.{goal_count}
 use Rattle.conclusion.specs.tree_definitions.States.{TreeNode}
 use Rattle.conclusion.specs.tree_definitions.Verdicts.{IsStuck}
 use Rattle.conclusion.specs.tree_definitions.Reports.{Part, AllFail, IsTruePart, IsTrueReport, IsStuckAt, IsPartOf, ArePartsOf}
-use Rattle.conclusion.proofs.tree_definitions.Lookups.{one_value, get_below}
+use Rattle.conclusion.proofs.tree_definitions.Lookups.{one_value}
+use Rattle.conclusion.proofs.tree_definitions.Roots.{root_below}
 use Rattle.text_determinism.specs.AnswerLaws.{AnswersAreOne}
 use Rattle.text_determinism.proofs.Renumbering.{renumbered_node, renumbered_nodes, there_again, there_before, stuck_again, stuck_before}
 use Rattle.conclusion.proofs.tree_core.OneFollower.{one_least}
@@ -27,7 +29,7 @@ use Rattle.text_determinism.proofs.OneCertificate.{renumbered_step, same_items, 
 -- ---- how strategies fail
 
 module _ (answers : AnswersAreOne) (system : System) (valid : IsValid system) (budget : ℕ) where
-  one_failure : (p : ProofProblem) (ss : List Strategy) (fs gs : List (Strategy × Bool)) → AllFail system budget p ss fs
+  one_failure : (p : ProofProblem) (ss : List Strategy) (fs gs : List (Strategy × Failure)) → AllFail system budget p ss fs
       → AllFail system budget p ss gs → fs ≡ gs
   one_failure p [] [] [] a b = refl
   one_failure p [] [] (g ∷ gs) a b = absurd b
@@ -36,9 +38,9 @@ module _ (answers : AnswersAreOne) (system : System) (valid : IsValid system) (b
   one_failure p (s ∷ ss) (f ∷ fs) [] a b = absurd b
   one_failure p (s ∷ ss) (f ∷ fs) (g ∷ gs) a b =
       let named : f.0 ≡ g.0 = a.0 ∙ sym b.0 in
-      let spent : f.1 ≡ g.1 = answers system budget s p (failed f.1) (failed g.1) valid a.1 b.1 in
+      let reason : f.1 ≡ g.1 = answers system budget s p (failed f.1) (failed g.1) valid a.1 b.1 in
       let rest = one_failure p ss fs gs a.2 b.2 in
-      λ i. (named i, spent i) ∷ rest i
+      λ i. (named i, reason i) ∷ rest i
 
   -- ---- the part of a goal
 
@@ -110,8 +112,8 @@ module _ (answers : AnswersAreOne) (system : System) (valid : IsValid system) (b
       let each : (k : ℕ) (p q : Part) → slice_get ps k ≡ Some p → slice_get qs k ≡ Some q → (word : List ℕ)
       → goal_item named word p ≡ goal_item named word q =
       λ k p q at_p at_q word.
-      let lt : k < length (roots question) = let w = slice_get_within ps k p at_p in let c = true_p.count in omega (arith, w, c) in
-      let root = get_below (roots question) k lt in
+      let lt : k < goal_count question = let w = slice_get_within ps k p at_p in let c = true_p.count in omega (arith, w, c) in
+      let root = root_below question k lt in
       part_printed xs ys same root.0 k p q (true_p.each k root.0 p root.1 at_p).1 (true_q.each k root.0 q root.1 at_q).1
       (are_p k p at_p) (are_q k q at_q) named word in
       ap (λ (is : List Item). codes "MAYBE\n" ++ lines (items_of is))

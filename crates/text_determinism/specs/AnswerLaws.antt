@@ -21,7 +21,7 @@ AreSameSteps s t = renumbered s ≡ renumbered t
 -- both answers are such steps, which leave the same problems; or both fail for one reason
 abbrev pub AreSameAnswers : Found → Found → Type 0
 AreSameAnswers (found s left) (found t others) = AreSameSteps s t × (left ≡ others)
-AreSameAnswers (failed spent) (failed other) = spent ≡ other
+AreSameAnswers (failed failure) (failed other) = failure ≡ other
 AreSameAnswers _ _ = ⊥
 
 abbrev pub AnswersAreOne : Type 0

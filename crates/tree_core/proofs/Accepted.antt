@@ -1,41 +1,25 @@
 -- The steps of the goal that was won are accepted for its claim.
-use Rattle.std.proofs.Common.{◌≡◌, ◌<◌, ℕ, zero, suc, ◌+◌, List, [], ◌∷◌, length, Option, Some, None, slice_get, refl, sym, ap, ◌∙◌, subst}
+use Rattle.std.proofs.Common.{◌≡◌, ◌<◌, ℕ, ◌+◌, List, [], ◌∷◌, length, Option, Some, None, slice_get, refl, sym, ap, ◌∙◌, subst}
 use Rattle.std.specs.List.{AllByRecursion}
 use Rattle.std.proofs.lemmas.Option.{slice_get_within}
 use Rattle.trs_defs.specs.System.{System}
-use Rattle.tree_state.specs.cert_step.ProofProblem.{ProofProblem, root_of}
 use Rattle.tree_state.specs.cert_step.PlainProblem.{plain}
 use Rattle.tree_state.specs.cert_step.ProofStep.{ProofStep, ProofNodeStep, IsWellMade}
 use Rattle.tree_state.specs.cert_step.Nodes.{IsAccepted}
 use Rattle.tree_state.specs.cert_step.declared.claim.Claim.{Claim}
 use Rattle.tree_state.proofs.cert_step.AnyWay.{applies_plainly}
 use Rattle.tree_state.specs.tree_definitions.declared.question.Question.{Question}
-use Rattle.tree_state.specs.tree_definitions.declared.question.Question.TheVariants.{Termination, Confluence, Unique}
-use Rattle.tree_state.specs.tree_definitions.Questions.{roots, claims, goals_of}
+use Rattle.tree_state.specs.tree_definitions.Questions.{claims, goal_count}
 use Rattle.tree_state.specs.tree_definitions.States.{TreeNode, Decided}
 use Rattle.tree_state.specs.tree_definitions.Reports.{Walks, steps_from, with_step, decision_at, IsFoundStep}
 use Rattle.tree_state.specs.Ascending.{AreAscending}
 use Rattle.tree_state.specs.Parts.{Parts}
 use Rattle.tree_core.specs.Invariant.{IsTree}
-use Rattle.tree_state.proofs.tree_definitions.Lookups.{get_below}
+use Rattle.tree_state.proofs.tree_definitions.Roots.{root_below, claims_fit}
 use Rattle.tree_core.proofs.Walks.{won_accepted}
 
 pub some_same : (a b : ℕ) → Some a ≡ Some b → a ≡ b
 some_same a b e = cc
-
--- the root's problem is that of the claim, but for its way
-pub claims_fit : (question : Question) (g : ℕ) (p : ProofProblem) (claim : Claim) → slice_get (roots question) g ≡ Some p → slice_get (claims question) g ≡ Some claim → plain p ≡ root_of claim
-claims_fit Termination zero p claim a b = cc
-claims_fit Termination (suc zero) p claim a b = cc
-claims_fit Termination (suc (suc g)) p claim a b = absurd cc
-claims_fit Confluence zero p claim a b = cc
-claims_fit Confluence (suc zero) p claim a b = cc
-claims_fit Confluence (suc (suc zero)) p claim a b = cc
-claims_fit Confluence (suc (suc (suc g))) p claim a b = absurd cc
-claims_fit Unique zero p claim a b = cc
-claims_fit Unique (suc zero) p claim a b = cc
-claims_fit Unique (suc (suc zero)) p claim a b = cc
-claims_fit Unique (suc (suc (suc g))) p claim a b = absurd cc
 
 module _ (question : Question) (system : System) (budget : ℕ) (p : Parts) (tree : IsTree question system budget p) where
   pub ascending : AreAscending p.state.nodes
@@ -43,7 +27,7 @@ module _ (question : Question) (system : System) (budget : ℕ) (p : Parts) (tre
       let a = tree.shaped.later n node d there dec c child in
       (a.0, slice_get_within p.state.nodes c a.1.node a.1.there)
 
-  pub goal_made : (g : ℕ) → p.state.winner ≡ Some g → (g < goals_of question) × (g < length p.state.nodes)
+  pub goal_made : (g : ℕ) → p.state.winner ≡ Some g → (g < goal_count question) × (g < length p.state.nodes)
   goal_made g e =
       let w = tree.counted.winner g e in
       let r = tree.shaped.root g w.0 in
@@ -53,7 +37,7 @@ module _ (question : Question) (system : System) (budget : ℕ) (p : Parts) (tre
       → (steps : List ProofNodeStep) → steps ≡ steps_from p.state.nodes 0 order → IsAccepted system claim steps
   accepted g e claim is order w steps same =
       let won = tree.counted.winner g e in
-      let q = get_below (roots question) g won.0 in
+      let q = root_below question g won.0 in
       let r = tree.rooted g q.0 q.1 in
       let fits = ap plain r.problem_is ∙ claims_fit question g q.0 claim q.1 is in
       subst (IsAccepted system claim) (sym same) (won_accepted system p.state.nodes (applies_plainly system) (λ n node d there dec.
@@ -91,5 +75,5 @@ module _ (question : Question) (system : System) (budget : ℕ) (p : Parts) (tre
           let l = tree.legal.decided n node d there dec in
           record { problem = node.problem; strategy = l.strategy; well_made = tree.well_made n node there; kind = l.kind; finds = l.finds }
 
-  pub goal_within : (g : ℕ) → g < goals_of question → g < length p.state.nodes
+  pub goal_within : (g : ℕ) → g < goal_count question → g < length p.state.nodes
   goal_within g low = let r = tree.shaped.root g low in slice_get_within p.state.nodes g r.node r.there

@@ -6,6 +6,7 @@ use Rattle.trs_defs.specs.System.{System}
 use Rattle.trs_core.specs.Valid.{IsValid}
 use Rattle.tree_state.specs.cert_step.ProofProblem.{ProofProblem}
 use Rattle.tree_state.specs.cert_step.ProofStep.{ProofStep}
+use Rattle.tree_state.specs.strategies.declared.failure.Failure.{Failure}
 use Rattle.tree_state.specs.strategies.declared.strategy.Strategy.{Strategy}
 use Rattle.tree_state.specs.strategies.Kinds.{strategies_for}
 use Rattle.tree_state.specs.strategies.TaskBounds.{pairs_in, tasks_below, tasks_of_all}
@@ -20,7 +21,7 @@ use Rattle.tree_state.specs.tree_definitions.Questions.{roots}
 use Rattle.tree_state.specs.tree_definitions.History.{HistoryEntry, Event}
 use Rattle.tree_state.specs.tree_definitions.States.{TreeNode, State, marked, new_node, roots_from}
 use Rattle.tree_state.specs.tree_definitions.Events.{nodes_with, without}
-use Rattle.tree_state.specs.declared.goal.Goal.{Goal}
+use Rattle.tree_state.specs.declared.goal_state.GoalState.{GoalState}
 use Rattle.tree_state.specs.Parts.{Parts, IsOpening, is_lost_in, is_done_by, is_over_by, has_verdict_by, claimed_parts, ended_parts, failed_parts, aborted_parts, decided_parts, lost_if, all_failed}
 use Rattle.tree_core.specs.Bound.{count_idle, claims_of, claims_of_all, claims_left, IsBounded}
 use Rattle.tree_core.proofs.Flags.{or_cases, or_left, or_right}
@@ -51,7 +52,7 @@ all_idle : (strategies : List Strategy) → count_idle (map (λ _. Idle) strateg
 all_idle [] = refl
 all_idle (s ∷ strategies) = let rest = all_idle strategies in omega (arith, rest)
 
-module _ (pairs : ℕ) (goals : List Goal) where
+module _ (pairs : ℕ) (goals : List GoalState) where
   all_set : (nodes : List TreeNode) (n : ℕ) (x y : TreeNode) → slice_get nodes n ≡ Some x
       → claims_of_all pairs goals (set nodes n y) + claims_of pairs goals x ≡ claims_of_all pairs goals nodes + claims_of pairs goals y
   all_set [] n x y there = absurd cc
@@ -94,7 +95,7 @@ module _ (pairs : ℕ) (goals : List Goal) where
       a ∙ sym c
 
   -- where more goals are lost, no more can be claimed
-  module _ (more : List Goal) (grows : (h : ℕ) → is_lost_in goals h ≡ true → is_lost_in more h ≡ true) where
+  module _ (more : List GoalState) (grows : (h : ℕ) → is_lost_in goals h ≡ true → is_lost_in more h ≡ true) where
     of_more : (node : TreeNode) → claims_of pairs more node ≤ claims_of pairs goals node
     of_more node = cond_mono (is_some node.decision || is_lost_in goals node.goal) (is_some node.decision || is_lost_in more node.goal) (count_idle node.marks + tasks_below pairs node.problem) (count_idle node.marks + tasks_below pairs node.problem) (λ e. elim (or_cases (is_some node.decision) (is_lost_in goals node.goal) e) [
       | inl a ↦ or_left (is_some node.decision) (is_lost_in more node.goal) a
@@ -166,20 +167,20 @@ module _ (question : Question) (pairs : ℕ) (p : Parts) (bounded : IsBounded qu
       was_left : claims_left pairs p ≡ claims_of_all pairs p.goals p.state.nodes
       was_left = going_left (or_false (is_some node.decision || is_lost_in p.goals node.goal) (is_done_by p) wanted).1
 
-      pub bounded_failure : (spent : Bool) → IsBounded question pairs (failed_parts p number t node spent)
-      bounded_failure spent =
-          let after : Parts = failed_parts p number t node spent in
-          let nodes : List TreeNode = set p.state.nodes t.node (marked node t.place (Failed spent)) in
-          let stuck : Bool = all_failed (marked node t.place (Failed spent)).marks in
+      pub bounded_failure : (failure : Failure) → IsBounded question pairs (failed_parts p number t node failure)
+      bounded_failure failure =
+          let after : Parts = failed_parts p number t node failure in
+          let nodes : List TreeNode = set p.state.nodes t.node (marked node t.place (Failed failure)) in
+          let stuck : Bool = all_failed (marked node t.place (Failed failure)).marks in
           let c : claims_left pairs after ≤ claims_of_all pairs after.goals nodes = cond_le (is_done_by after) (claims_of_all pairs after.goals nodes) in
           let g : claims_of_all pairs after.goals nodes ≤ claims_of_all pairs p.goals nodes = all_more pairs p.goals (lost_if stuck p.goals node.goal) (lost_grows stuck p.goals node.goal) nodes in
-          let s = all_set pairs p.goals p.state.nodes t.node node (marked node t.place (Failed spent)) made in
-          let m : claims_of pairs p.goals (marked node t.place (Failed spent)) + 0 ≡ claims_of pairs p.goals node + 0 = marked_live pairs p.goals node t.place Running (Failed spent) running live in
+          let s = all_set pairs p.goals p.state.nodes t.node node (marked node t.place (Failed failure)) made in
+          let m : claims_of pairs p.goals (marked node t.place (Failed failure)) + 0 ≡ claims_of pairs p.goals node + 0 = marked_live pairs p.goals node t.place Running (Failed failure) running live in
           let was = was_left in
           ends_once after (length-append p.history _) fewer_run (omega (arith, c, g, s, m, was))
 
       -- a step that leaves no more tasks than stand below its problem, in any goals of which no fewer are lost
-      pub bounded_step : (step : ProofStep) (left : List ProofProblem) → tasks_of_all pairs left ≤ tasks_below pairs node.problem → (more : List Goal)
+      pub bounded_step : (step : ProofStep) (left : List ProofProblem) → tasks_of_all pairs left ≤ tasks_below pairs node.problem → (more : List GoalState)
           → ((h : ℕ) → is_lost_in p.goals h ≡ true → is_lost_in more h ≡ true) → (q : Parts) → length q.history ≡ length p.history + 1 → q.running + 1 ≡ p.running
           → q.goals ≡ more → q.state.nodes ≡ nodes_with p.state t node step left → IsBounded question pairs q
       bounded_step step left shrinks more grows q h r goals_are nodes_are =

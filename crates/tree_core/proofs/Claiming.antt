@@ -15,7 +15,7 @@ use Rattle.tree_state.specs.tree_definitions.declared.question.Question.{Questio
 use Rattle.tree_state.specs.tree_definitions.declared.mark.Mark.{Mark}
 use Rattle.tree_state.specs.tree_definitions.declared.mark.Mark.TheVariants.{Idle, Running, Failed}
 use Rattle.tree_state.specs.tree_definitions.declared.ticket.Ticket.{Ticket}
-use Rattle.tree_state.specs.tree_definitions.Questions.{goals_of}
+use Rattle.tree_state.specs.tree_definitions.Questions.{goal_count}
 use Rattle.tree_state.specs.tree_definitions.Marks.{is_idle, has_failed}
 use Rattle.tree_state.specs.tree_definitions.History.{HistoryEntry, claimed, of_seat, Runs}
 use Rattle.tree_state.specs.tree_definitions.States.{TreeNode, Decided, HasTask, opening, marked}
@@ -45,12 +45,12 @@ idle_ok h = let e = h.1 in absurd cc
 pub failed_is : (m : Mark) → has_failed m ≡ true → HasFailed m
 failed_is Idle e = absurd cc
 failed_is Running e = absurd cc
-failed_is (Failed spent) e = (spent, refl)
+failed_is (Failed failure) e = (failure, refl)
 
 is_running_mark : (m : Mark) → is_idle m ≡ false → has_failed m ≡ false → m ≡ Running
 is_running_mark Idle a b = absurd cc
 is_running_mark Running a b = refl
-is_running_mark (Failed spent) a b = absurd cc
+is_running_mark (Failed failure) a b = absurd cc
 
 no_winner_of : (o : Option ℕ) → is_some o ≡ false → o ≡ None
 no_winner_of None e = refl
@@ -82,7 +82,7 @@ open_or_none g (x ∷ nodes) = go (is_open_of g x) refl (open_or_none g nodes)
 
 module _ (question : Question) (system : System) (budget : ℕ) (p : Parts) (tree : IsTree question system budget p) (going : is_done_by p ≡ false) where
   abbrev goals : ℕ
-  goals = goals_of question
+  goals = goal_count question
 
   pub not_done : IsDone goals p.state → ⊥
   not_done d = true_false (is_done_by p) (is_done goals p tree.counted d) going
@@ -187,20 +187,20 @@ module _ (question : Question) (system : System) (budget : ℕ) (p : Parts) (tre
             decided = λ m y d here dec.
                 let b = before p.state.nodes n place node Running there m y here in
                 legal_same system budget p.state.nodes nodes forth b.0 y d b.2 (legal.decided m b.0 d b.1 (sym b.2.decision ∙ dec));
-            failed = λ m j y spent here f.
+            failed = λ m j y failure here f.
                 let b = before p.state.nodes n place node Running there m y here in
-                let old : slice_get b.0.marks j ≡ Some (Failed spent) → IsFailure system budget y j spent =
-                λ g. subst (λ (q : ProofProblem). (strategy : Strategy) × (slice_get (strategies_for q) j ≡ Some strategy) × Fails system budget strategy q spent) (sym b.2.problem)
-                (legal.failed m j b.0 spent b.1 g) in
+                let old : slice_get b.0.marks j ≡ Some (Failed failure) → IsFailure system budget y j failure =
+                λ g. subst (λ (q : ProofProblem). (strategy : Strategy) × (slice_get (strategies_for q) j ≡ Some strategy) × Fails system budget strategy q failure) (sym b.2.problem)
+                (legal.failed m j b.0 failure b.1 g) in
                 elim b.3 [
                   | inl w ↦
-                      let here_f = subst (λ (x : TreeNode). slice_get x.marks j ≡ Some (Failed spent)) w.1 f in
+                      let here_f = subst (λ (x : TreeNode). slice_get x.marks j ≡ Some (Failed failure)) w.1 f in
                       let is : b.0 ≡ node = one_value (slice_get p.state.nodes n) b.0 node (subst (λ (i : ℕ). slice_get p.state.nodes i ≡ Some b.0) w.0 b.1) there in
-                      elim (set_cases node.marks place j Idle Running (Failed spent) idle here_f) [
+                      elim (set_cases node.marks place j Idle Running (Failed failure) idle here_f) [
                         | inl v ↦ let e = v.1 in absurd cc
-                        | inr v ↦ old (subst (λ (x : TreeNode). slice_get x.marks j ≡ Some (Failed spent)) (sym is) v.1)
+                        | inr v ↦ old (subst (λ (x : TreeNode). slice_get x.marks j ≡ Some (Failed failure)) (sym is) v.1)
                       ]
-                  | inr w ↦ old (subst (λ (x : TreeNode). slice_get x.marks j ≡ Some (Failed spent)) w.1 f)
+                  | inr w ↦ old (subst (λ (x : TreeNode). slice_get x.marks j ≡ Some (Failed failure)) w.1 f)
                 ];
             born = λ m y le here.
                 let b = before p.state.nodes n place node Running there m y here in

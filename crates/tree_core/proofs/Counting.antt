@@ -1,7 +1,7 @@
 -- The counts and flags of a board when a ticket has ended.
 use Rattle.std.proofs.Common.{◌≡◌, inl, inr, ℕ, ◌<◌, Bool, true, false, ◌||◌, not, List, set, Some, None, slice_get, refl, sym, ◌∙◌, subst, arith}
 use Rattle.std.specs.Option.{is_some}
-use Rattle.tree_state.specs.declared.goal.Goal.{Goal}
+use Rattle.tree_state.specs.declared.goal_state.GoalState.{GoalState}
 use Rattle.tree_state.specs.tree_definitions.declared.mark.Mark.{Mark}
 use Rattle.tree_state.specs.tree_definitions.declared.mark.Mark.TheVariants.{Idle}
 use Rattle.tree_state.specs.tree_definitions.declared.ticket.Ticket.{Ticket}
@@ -16,11 +16,11 @@ use Rattle.tree_core.proofs.Endings.{count_ended}
 use Rattle.tree_core.proofs.Flags.{or_cases, true_false}
 
 -- of a decided node, or one of a lost goal, nothing can be claimed
-pub shut : (goals : List Goal) (node : TreeNode) → (is_some node.decision || is_lost_in goals node.goal) ≡ true → free_place goals node ≡ None
+pub shut : (goals : List GoalState) (node : TreeNode) → (is_some node.decision || is_lost_in goals node.goal) ≡ true → free_place goals node ≡ None
 shut goals node e = rw e refl
 
 pub counted_marked : (nodes : List TreeNode) (n place : ℕ) (node : TreeNode) (mark old : Mark) → slice_get nodes n ≡ Some node → slice_get node.marks place ≡ Some old
-    → (HasFailed old → ⊥) → (HasFailed mark → ⊥) → (g : ℕ) (goal : Goal) → IsCounted nodes g goal → IsCounted (set nodes n (marked node place mark)) g goal
+    → (HasFailed old → ⊥) → (HasFailed mark → ⊥) → (g : ℕ) (goal : GoalState) → IsCounted nodes g goal → IsCounted (set nodes n (marked node place mark)) g goal
 counted_marked nodes n place node mark old there was old_ok new_ok g goal h = record {
   open_is = h.open_is ∙ sym (opens_marked g nodes n place node mark there);
   lost = λ e. lost_later nodes n place node mark there old was old_ok new_ok g (h.lost e);

@@ -1,5 +1,5 @@
 -- A step decides an open node: the tree keeps its shape and stays legal.
-use Rattle.std.proofs.Common.{◌≡◌, ◌≢◌, ◌⊎◌, inl, inr, ℕ, zero, suc, ◌<◌, ◌≤◌, ◌+◌, ◌-◌, Bool, cond, List, [], ◌∷◌, ◌++◌, length, map, set, Option, Some, None, slice_get, refl, sym, ap, ◌∙◌, subst, arith}
+use Rattle.std.proofs.Common.{◌≡◌, ◌≢◌, ◌⊎◌, inl, inr, ℕ, zero, suc, ◌<◌, ◌≤◌, ◌+◌, ◌-◌, cond, List, [], ◌∷◌, ◌++◌, length, map, set, Option, Some, None, slice_get, refl, sym, ap, ◌∙◌, subst, arith}
 use Rattle.std.proofs.lemmas.List.{length-map, length-append}
 use Rattle.std.proofs.lemmas.Option.{slice_get_within}
 use native.Mathlib.Decide.{ℕ_discrete}
@@ -9,6 +9,7 @@ use Rattle.trs_defs.specs.Member.{In}
 use Rattle.tree_state.specs.cert_step.ProofProblem.{ProofProblem, IsWellMadeProblem}
 use Rattle.tree_state.specs.cert_step.ProofStep.{ProofStep, IsWellMade}
 use Rattle.tree_state.specs.cert_step.Applies.{Applies}
+use Rattle.tree_state.specs.strategies.declared.failure.Failure.{Failure}
 use Rattle.tree_state.specs.strategies.declared.strategy.Strategy.{Strategy}
 use Rattle.tree_state.specs.strategies.Kinds.{strategies_for}
 use Rattle.tree_state.specs.strategies.Conditions.{Finds, Fails}
@@ -168,7 +169,7 @@ module _ (goals : ℕ) (system : System) (budget : ℕ) (s : State) (shaped : Is
     pub decide_legal : (winner : Option ℕ) → IsLegal goals system budget (record s { nodes = later; winner = winner })
     decide_legal winner = record {
       decided = λ k y d at dec. decided_at k y d dec (at_cases k y at);
-      failed = λ k place y spent at f. failed_at k place y spent f (at_cases k y at);
+      failed = λ k place y failure at f. failed_at k place y failure f (at_cases k y at);
       born = λ k y le at. born_at k y le (at_cases k y at);
       once = λ k m i a b. once_at k m i (parent_cases k m a) (parent_cases k i b);
       named = λ i u at run.
@@ -191,14 +192,14 @@ module _ (goals : ℕ) (system : System) (budget : ℕ) (s : State) (shaped : Is
             subst (λ (z : Decided). IsLegallyDecided system budget later y z) same (subst (λ (z : TreeNode). IsLegallyDecided system budget later z decision) (sym is) at_shut)
         decided_at k y d dec (new j q e at is) = let none : y.decision ≡ None = ap (λ (z : TreeNode). z.decision) is in absurd cc
 
-        failed_at : (k place : ℕ) (y : TreeNode) (spent : Bool) → slice_get y.marks place ≡ Some (Failed spent) → At k y
-            → (st : Strategy) × (slice_get (strategies_for y.problem) place ≡ Some st) × Fails system budget st y.problem spent
-        failed_at k place y spent f (old ne at) = legal.failed k place y spent at f
-        failed_at k place y spent f (here e is) =
-            let r = legal.failed n place node spent there (subst (λ (z : TreeNode). slice_get z.marks place ≡ Some (Failed spent)) is f) in
-            subst (λ (z : TreeNode). (st : Strategy) × (slice_get (strategies_for z.problem) place ≡ Some st) × Fails system budget st z.problem spent) (sym is) r
-        failed_at k place y spent f (new j q e at is) =
-            let idle = idle_marks q place (Failed spent) (subst (λ (z : TreeNode). slice_get z.marks place ≡ Some (Failed spent)) is f) in absurd cc
+        failed_at : (k place : ℕ) (y : TreeNode) (failure : Failure) → slice_get y.marks place ≡ Some (Failed failure) → At k y
+            → (st : Strategy) × (slice_get (strategies_for y.problem) place ≡ Some st) × Fails system budget st y.problem failure
+        failed_at k place y failure f (old ne at) = legal.failed k place y failure at f
+        failed_at k place y failure f (here e is) =
+            let r = legal.failed n place node failure there (subst (λ (z : TreeNode). slice_get z.marks place ≡ Some (Failed failure)) is f) in
+            subst (λ (z : TreeNode). (st : Strategy) × (slice_get (strategies_for z.problem) place ≡ Some st) × Fails system budget st z.problem failure) (sym is) r
+        failed_at k place y failure f (new j q e at is) =
+            let idle = idle_marks q place (Failed failure) (subst (λ (z : TreeNode). slice_get z.marks place ≡ Some (Failed failure)) is f) in absurd cc
 
         lift : (k m : ℕ) (c : IsChildOf s.nodes k m) → (e : IsChildOf later k m) × (e.parent.goal ≡ c.parent.goal)
         lift k m c = (record { parent = c.parent; d = c.d; there = there_old m c.parent (decided_old m c.parent c.d c.there c.decided) c.there; decided = c.decided; child = c.child }, refl)

@@ -2,6 +2,7 @@
 use Rattle.std.proofs.Common.{◌≡◌, ◌≢◌, inl, inr, ℕ, zero, suc, ◌≤◌, ◌+◌, Bool, true, false, cond, List, [], ◌∷◌, ◌++◌, length, set, Option, Some, slice_get, refl, sym, ap, ◌∙◌, subst, arith}
 use Rattle.trs_defs.specs.System.{System}
 use Rattle.tree_state.specs.cert_step.ProofProblem.{ProofProblem, IsWellMadeProblem}
+use Rattle.tree_state.specs.strategies.declared.failure.Failure.{Failure}
 use Rattle.tree_state.specs.strategies.declared.strategy.Strategy.{Strategy}
 use Rattle.tree_state.specs.strategies.Kinds.{strategies_for}
 use Rattle.tree_state.specs.strategies.Conditions.{Fails}
@@ -16,9 +17,9 @@ use Rattle.tree_state.proofs.tree_definitions.Lookups.{one_value, set_cases, set
 use Rattle.tree_core.proofs.Marking.{same_later, same_before, before, legal_same, child_same, mark_kept, mark_was, shape_marked}
 
 -- what a failure says of its strategy
-abbrev pub IsFailure : System → ℕ → TreeNode → ℕ → Bool → Type 0
-IsFailure system budget node place spent =
-    (strategy : Strategy) × (slice_get (strategies_for node.problem) place ≡ Some strategy) × Fails system budget strategy node.problem spent
+abbrev pub IsFailure : System → ℕ → TreeNode → ℕ → Failure → Type 0
+IsFailure system budget node place failure =
+    (strategy : Strategy) × (slice_get (strategies_for node.problem) place ≡ Some strategy) × Fails system budget strategy node.problem failure
 
 pub count_ended : (tickets : List Ticket) (number : ℕ) (t : Ticket) → slice_get tickets number ≡ Some t → t.is_running ≡ true
     → count_running (set tickets number (record t { is_running = false })) + 1 ≡ count_running tickets
@@ -70,7 +71,7 @@ module _ (goals : ℕ) (system : System) (budget : ℕ) (s : State) (shaped : Is
           | inr w ↦ absurd (idle w.2)
         ])
 
-    pub legal_ended : (winner : Option ℕ) (aborted : Bool) → ((spent : Bool) → mark ≡ Failed spent → IsFailure system budget node t.place spent)
+    pub legal_ended : (winner : Option ℕ) (aborted : Bool) → ((failure : Failure) → mark ≡ Failed failure → IsFailure system budget node t.place failure)
         → IsLegal goals system budget (record (ended s number t node mark) { winner = winner; is_aborted = aborted })
     legal_ended winner aborted fails =
         let nodes : List TreeNode = set s.nodes t.node (marked node t.place mark) in
@@ -80,23 +81,23 @@ module _ (goals : ℕ) (system : System) (budget : ℕ) (s : State) (shaped : Is
           decided = λ n y d here dec.
               let b = before s.nodes t.node t.place node mark made n y here in
               legal_same system budget s.nodes nodes forth b.0 y d b.2 (legal.decided n b.0 d b.1 (sym b.2.decision ∙ dec));
-          failed = λ n place y spent here f.
+          failed = λ n place y failure here f.
               let b = before s.nodes t.node t.place node mark made n y here in
-              let old : slice_get b.0.marks place ≡ Some (Failed spent) → IsFailure system budget y place spent =
-              λ g. subst (λ (p : ProofProblem). (strategy : Strategy) × (slice_get (strategies_for p) place ≡ Some strategy) × Fails system budget strategy p spent) (sym b.2.problem)
-              (legal.failed n place b.0 spent b.1 g) in
+              let old : slice_get b.0.marks place ≡ Some (Failed failure) → IsFailure system budget y place failure =
+              λ g. subst (λ (p : ProofProblem). (strategy : Strategy) × (slice_get (strategies_for p) place ≡ Some strategy) × Fails system budget strategy p failure) (sym b.2.problem)
+              (legal.failed n place b.0 failure b.1 g) in
               elim b.3 [
                 | inl w ↦
-                    let here_f = subst (λ (x : TreeNode). slice_get x.marks place ≡ Some (Failed spent)) w.1 f in
+                    let here_f = subst (λ (x : TreeNode). slice_get x.marks place ≡ Some (Failed failure)) w.1 f in
                     let is : b.0 ≡ node = one_value (slice_get s.nodes t.node) b.0 node (subst (λ (i : ℕ). slice_get s.nodes i ≡ Some b.0) w.0 b.1) made in
-                    elim (set_cases node.marks t.place place Running mark (Failed spent) was_running here_f) [
+                    elim (set_cases node.marks t.place place Running mark (Failed failure) was_running here_f) [
                       | inl v ↦
-                          let fail = fails spent (sym v.1) in
-                          let at = subst (λ (j : ℕ). IsFailure system budget node j spent) (sym v.0) fail in
-                          subst (λ (x : TreeNode). IsFailure system budget x place spent) (sym w.1) at
-                      | inr v ↦ old (subst (λ (x : TreeNode). slice_get x.marks place ≡ Some (Failed spent)) (sym is) v.1)
+                          let fail = fails failure (sym v.1) in
+                          let at = subst (λ (j : ℕ). IsFailure system budget node j failure) (sym v.0) fail in
+                          subst (λ (x : TreeNode). IsFailure system budget x place failure) (sym w.1) at
+                      | inr v ↦ old (subst (λ (x : TreeNode). slice_get x.marks place ≡ Some (Failed failure)) (sym is) v.1)
                     ]
-                | inr w ↦ old (subst (λ (x : TreeNode). slice_get x.marks place ≡ Some (Failed spent)) w.1 f)
+                | inr w ↦ old (subst (λ (x : TreeNode). slice_get x.marks place ≡ Some (Failed failure)) w.1 f)
               ];
           born = λ n y le here.
               let b = before s.nodes t.node t.place node mark made n y here in

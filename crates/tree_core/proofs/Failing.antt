@@ -3,7 +3,8 @@ use Rattle.std.proofs.Common.{◌≡◌, ◌⊎◌, inl, inr, ℕ, Bool, true, f
 use Rattle.std.specs.Option.{is_some}
 use native.Mathlib.Decide.{ℕ_discrete}
 use mathlib.Core.Logic.{dite}
-use Rattle.tree_state.specs.declared.goal.Goal.{Goal}
+use Rattle.tree_state.specs.strategies.declared.failure.Failure.{Failure}
+use Rattle.tree_state.specs.declared.goal_state.GoalState.{GoalState}
 use Rattle.tree_state.specs.tree_definitions.declared.mark.Mark.{Mark}
 use Rattle.tree_state.specs.tree_definitions.declared.mark.Mark.TheVariants.{Idle, Running, Failed}
 use Rattle.tree_state.specs.tree_definitions.declared.ticket.Ticket.{Ticket}
@@ -37,7 +38,7 @@ none_at true o e = refl
 none_at false o e = e
 
 -- where more goals are lost, no more can be claimed
-pub free_more : (goals more : List Goal) → ((h : ℕ) → is_lost_in goals h ≡ true → is_lost_in more h ≡ true) → (x : TreeNode) → free_place goals x ≡ None → free_place more x ≡ None
+pub free_more : (goals more : List GoalState) → ((h : ℕ) → is_lost_in goals h ≡ true → is_lost_in more h ≡ true) → (x : TreeNode) → free_place goals x ≡ None → free_place more x ≡ None
 free_more goals more grows x e = go (is_some x.decision) refl (is_lost_in goals x.goal) refl e
   where
     go : (a : Bool) → is_some x.decision ≡ a → (b : Bool) → is_lost_in goals x.goal ≡ b → cond (a || b) None (position is_idle x.marks) ≡ None → free_place more x ≡ None
@@ -46,13 +47,13 @@ free_more goals more grows x e = go (is_some x.decision) refl (is_lost_in goals 
     go false a false f e = none_at (is_some x.decision || is_lost_in more x.goal) (position is_idle x.marks) e
 
 -- the goals when one was lost
-pub lost_cases : (b : Bool) (goals : List Goal) (g h : ℕ) (goal : Goal) → slice_get (lost_if b goals g) h ≡ Some goal
-    → ((slice_get goals h ≡ Some goal) × ((h ≡ g) → b ≡ true → ⊥)) ⊎ ((h ≡ g) × (b ≡ true) × (old : Goal) × (slice_get goals g ≡ Some old) × (goal ≡ record old { is_lost = true }))
+pub lost_cases : (b : Bool) (goals : List GoalState) (g h : ℕ) (goal : GoalState) → slice_get (lost_if b goals g) h ≡ Some goal
+    → ((slice_get goals h ≡ Some goal) × ((h ≡ g) → b ≡ true → ⊥)) ⊎ ((h ≡ g) × (b ≡ true) × (old : GoalState) × (slice_get goals g ≡ Some old) × (goal ≡ record old { is_lost = true }))
 lost_cases false goals g h goal there = inl (there, λ e f. cc)
 lost_cases true goals g h goal there = go (slice_get goals g) refl there
   where
-    go : (o : Option Goal) → slice_get goals g ≡ o → slice_get (lost_if true goals g) h ≡ Some goal
-        → ((slice_get goals h ≡ Some goal) × ((h ≡ g) → true ≡ true → ⊥)) ⊎ ((h ≡ g) × (true ≡ true) × (old : Goal) × (slice_get goals g ≡ Some old) × (goal ≡ record old { is_lost = true }))
+    go : (o : Option GoalState) → slice_get goals g ≡ o → slice_get (lost_if true goals g) h ≡ Some goal
+        → ((slice_get goals h ≡ Some goal) × ((h ≡ g) → true ≡ true → ⊥)) ⊎ ((h ≡ g) × (true ≡ true) × (old : GoalState) × (slice_get goals g ≡ Some old) × (goal ≡ record old { is_lost = true }))
     go None e there =
         let same : lost_if true goals g ≡ goals = rw e refl in
         let here : slice_get goals h ≡ Some goal = rw (← same) there in
@@ -65,19 +66,19 @@ lost_cases true goals g h goal there = go (slice_get goals g) refl there
           | inr w ↦ inl (w.1, λ f t. w.0 f)
         ]
 
-pub lost_length : (b : Bool) (goals : List Goal) (g : ℕ) → length (lost_if b goals g) ≡ length goals
+pub lost_length : (b : Bool) (goals : List GoalState) (g : ℕ) → length (lost_if b goals g) ≡ length goals
 lost_length false goals g = refl
 lost_length true goals g = go (slice_get goals g) refl
   where
-    go : (o : Option Goal) → slice_get goals g ≡ o → length (lost_if true goals g) ≡ length goals
+    go : (o : Option GoalState) → slice_get goals g ≡ o → length (lost_if true goals g) ≡ length goals
     go None e = rw e refl
     go (Some old) e = rw e (length_set goals g (record old { is_lost = true }))
 
-pub lost_grows : (b : Bool) (goals : List Goal) (g h : ℕ) → is_lost_in goals h ≡ true → is_lost_in (lost_if b goals g) h ≡ true
+pub lost_grows : (b : Bool) (goals : List GoalState) (g h : ℕ) → is_lost_in goals h ≡ true → is_lost_in (lost_if b goals g) h ≡ true
 lost_grows false goals g h e = e
 lost_grows true goals g h e = go (slice_get goals g) refl
   where
-    go : (o : Option Goal) → slice_get goals g ≡ o → is_lost_in (lost_if true goals g) h ≡ true
+    go : (o : Option GoalState) → slice_get goals g ≡ o → is_lost_in (lost_if true goals g) h ≡ true
     go None f = rw f e
     go (Some old) f = dite (ℕ_discrete h g)
         (λ same. let here = get_set goals g (record old { is_lost = true }) old f in
@@ -88,13 +89,13 @@ lost_grows true goals g h e = go (slice_get goals g) refl
 failed_of : (m : Mark) → has_failed m ≡ true → HasFailed m
 failed_of Idle e = absurd cc
 failed_of Running e = absurd cc
-failed_of (Failed spent) e = (spent, refl)
+failed_of (Failed failure) e = (failure, refl)
 
 of_failed : (m : Mark) → HasFailed m → has_failed m ≡ true
 of_failed m h = rw (h.1) refl
 
 module _ (goals : ℕ) (p : Parts) (c : AreCounted goals p) (number : ℕ) (t : Ticket) (there : slice_get p.state.tickets number ≡ Some t) (runs : t.is_running ≡ true)
-    (node : TreeNode) (made : slice_get p.state.nodes t.node ≡ Some node) (was : slice_get node.marks t.place ≡ Some Running) (wanted : is_over_by p node ≡ false) (spent : Bool) where
+    (node : TreeNode) (made : slice_get p.state.nodes t.node ≡ Some node) (was : slice_get node.marks t.place ≡ Some Running) (wanted : is_over_by p node ≡ false) (failure : Failure) where
   pub still_going : is_done_by p ≡ false
   still_going = (or_none (is_some node.decision || is_lost_in p.goals node.goal) (is_done_by p) wanted).1
 
@@ -105,7 +106,7 @@ module _ (goals : ℕ) (p : Parts) (c : AreCounted goals p) (number : ℕ) (t : 
   goal_live = (or_none (is_some node.decision) (is_lost_in p.goals node.goal) (or_none (is_some node.decision || is_lost_in p.goals node.goal) (is_done_by p) wanted).0).1
 
   abbrev new : TreeNode
-  new = marked node t.place (Failed spent)
+  new = marked node t.place (Failed failure)
 
   abbrev nodes : List TreeNode
   nodes = set p.state.nodes t.node new
@@ -133,46 +134,46 @@ module _ (goals : ℕ) (p : Parts) (c : AreCounted goals p) (number : ℕ) (t : 
   lost_now all = record {
     n = t.node;
     node = new;
-    there = there_marked p.state.nodes t.node t.place node (Failed spent) made;
+    there = there_marked p.state.nodes t.node t.place node (Failed failure) made;
     goal = refl;
     stuck = record { is_open = node_open; failed = λ place mark at. failed_of mark (all_at has_failed new.marks all place mark at) };
   }
 
-  pub counted_failed : AreCounted goals (failed_parts p number t node spent)
+  pub counted_failed : AreCounted goals (failed_parts p number t node failure)
   counted_failed = record {
     length_is = lost_length stuck p.goals node.goal ∙ c.length_is;
     each = λ g goal here. elim (lost_cases stuck p.goals node.goal g goal here) [
       | inl w ↦
           let h = c.each g goal w.0 in
           record {
-            open_is = h.open_is ∙ sym (opens_marked g p.state.nodes t.node t.place node (Failed spent) made);
+            open_is = h.open_is ∙ sym (opens_marked g p.state.nodes t.node t.place node (Failed failure) made);
             lost = λ e. lost_still g (h.lost e);
             not_lost = λ l. elim (lost_was g l) [ inl v ↦ h.not_lost v | inr v ↦ absurd (w.1 v.0 v.1) ];
           }
       | inr w ↦
           let h = c.each node.goal w.2 w.3 in
-          let opens_g : goal.open_nodes ≡ opens g p.state.nodes = ap (λ (x : Goal). x.open_nodes) w.4 ∙ (h.open_is ∙ ap (λ (k : ℕ). opens k p.state.nodes) (sym w.0)) in
+          let opens_g : goal.open_nodes ≡ opens g p.state.nodes = ap (λ (x : GoalState). x.open_nodes) w.4 ∙ (h.open_is ∙ ap (λ (k : ℕ). opens k p.state.nodes) (sym w.0)) in
           record {
-            open_is = opens_g ∙ sym (opens_marked g p.state.nodes t.node t.place node (Failed spent) made);
+            open_is = opens_g ∙ sym (opens_marked g p.state.nodes t.node t.place node (Failed failure) made);
             lost = λ e. subst (IsLost nodes) (sym w.0) (lost_now w.1);
-            not_lost = λ l. ap (λ (x : Goal). x.is_lost) w.4;
+            not_lost = λ l. ap (λ (x : GoalState). x.is_lost) w.4;
           }
     ];
-    winner = λ g w. let x = c.winner g w in (x.0, closed_same p.state.nodes nodes (same_later p.state.nodes t.node t.place node (Failed spent) made) g x.1);
-    no_winner = λ w g lt won. c.no_winner w g lt (closed_same nodes p.state.nodes (same_before p.state.nodes t.node t.place node (Failed spent) made) g won);
-    only = λ g lt won. c.only g lt (closed_same nodes p.state.nodes (same_before p.state.nodes t.node t.place node (Failed spent) made) g won);
+    winner = λ g w. let x = c.winner g w in (x.0, closed_same p.state.nodes nodes (same_later p.state.nodes t.node t.place node (Failed failure) made) g x.1);
+    no_winner = λ w g lt won. c.no_winner w g lt (closed_same nodes p.state.nodes (same_before p.state.nodes t.node t.place node (Failed failure) made) g won);
+    only = λ g lt won. c.only g lt (closed_same nodes p.state.nodes (same_before p.state.nodes t.node t.place node (Failed failure) made) g won);
     running = omega (arith, c.running, count_ended p.state.tickets number t there runs);
     room = omega (arith, c.room);
-    cursor = omega (arith, c.cursor, length_later p.state.nodes t.node t.place node (Failed spent) made);
+    cursor = omega (arith, c.cursor, length_later p.state.nodes t.node t.place node (Failed failure) made);
     passed = λ going k y lt here.
-        let b = before p.state.nodes t.node t.place node (Failed spent) made k y here in
+        let b = before p.state.nodes t.node t.place node (Failed failure) made k y here in
         elim b.3 [
           | inl w ↦
               let there_n = subst (λ (j : ℕ). slice_get p.state.nodes j ≡ Some node) (sym w.0) made in
               let old = c.passed still_going k node lt there_n in
               let pos : position is_idle node.marks ≡ None = subst (λ (z : Bool). cond z None (position is_idle node.marks) ≡ None) (both_false (is_some node.decision) (is_lost_in p.goals node.goal)
               (ap (λ (d : Option Decided). is_some d) node_open) goal_live) old in
-              let pos_new : position is_idle new.marks ≡ None = position_set node.marks t.place Running (Failed spent) was refl refl ∙ pos in
+              let pos_new : position is_idle new.marks ≡ None = position_set node.marks t.place Running (Failed failure) was refl refl ∙ pos in
               subst (λ (x : TreeNode). free_place (lost_if stuck p.goals node.goal) x ≡ None) (sym w.1)
               (none_at (is_some new.decision || is_lost_in (lost_if stuck p.goals node.goal) new.goal) (position is_idle new.marks) pos_new)
           | inr w ↦ subst (λ (x : TreeNode). free_place (lost_if stuck p.goals node.goal) x ≡ None) (sym w.1)

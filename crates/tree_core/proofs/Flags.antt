@@ -3,7 +3,7 @@ use Rattle.std.proofs.Common.{◌≡◌, ◌⊎◌, inl, inr, ℕ, zero, suc, �
 use Rattle.std.specs.Option.{is_some}
 use Rattle.std.specs.List.{list_all}
 use Rattle.std.proofs.lemmas.Option.{slice_get_within}
-use Rattle.tree_state.specs.declared.goal.Goal.{Goal}
+use Rattle.tree_state.specs.declared.goal_state.GoalState.{GoalState}
 use Rattle.tree_state.specs.tree_definitions.States.{TreeNode}
 use Rattle.tree_state.specs.tree_definitions.Verdicts.{IsLost, AllLost, HasVerdict, IsDone}
 use Rattle.tree_state.specs.tree_definitions.Events.{IsOver, decided, lost, done}
@@ -59,7 +59,7 @@ pub is_some_of : {A : Type 0} (o : Option A) (x : A) → o ≡ Some x → is_som
 is_some_of o x e = rw e refl
 
 module _ (goals : ℕ) (p : Parts) (c : AreCounted goals p) where
-  lost_by : (g : ℕ) (o : Option Goal) → slice_get p.goals g ≡ o → lost_at o ≡ true → IsLost p.state.nodes g
+  lost_by : (g : ℕ) (o : Option GoalState) → slice_get p.goals g ≡ o → lost_at o ≡ true → IsLost p.state.nodes g
   lost_by g None there e = absurd cc
   lost_by g (Some goal) there e = (c.each g goal there).lost e
 
@@ -75,10 +75,10 @@ module _ (goals : ℕ) (p : Parts) (c : AreCounted goals p) where
   pub all_lost_is : all_lost p.goals ≡ true → AllLost goals p.state.nodes
   all_lost_is e g lt =
       let there = get_below p.goals g (omega (arith, lt, c.length_is)) in
-      (c.each g there.0 there.1).lost (all_at (λ (x : Goal). x.is_lost) p.goals e g there.0 there.1)
+      (c.each g there.0 there.1).lost (all_at (λ (x : GoalState). x.is_lost) p.goals e g there.0 there.1)
 
   pub are_all_lost : AllLost goals p.state.nodes → all_lost p.goals ≡ true
-  are_all_lost h = all_true (λ (x : Goal). x.is_lost) p.goals (λ k x there.
+  are_all_lost h = all_true (λ (x : GoalState). x.is_lost) p.goals (λ k x there.
       let within = slice_get_within p.goals k x there in
       (c.each k x there).not_lost (h k (omega (arith, within, c.length_is))))
 
@@ -91,7 +91,7 @@ module _ (goals : ℕ) (p : Parts) (c : AreCounted goals p) where
   pub no_verdict : has_verdict_by p ≡ false → (g : ℕ) × (g < goals) × (IsLost p.state.nodes g → ⊥)
   no_verdict e =
       let flag : all_lost p.goals ≡ false = not_true (all_lost p.goals) (λ t. true_false (has_verdict_by p) (or_right (is_some p.state.winner) (all_lost p.goals) t) e) in
-      let x = some_not (λ (y : Goal). y.is_lost) p.goals flag in
+      let x = some_not (λ (y : GoalState). y.is_lost) p.goals flag in
       let within = slice_get_within p.goals x.0 x.1 x.2 in
       (x.0, omega (arith, within, c.length_is), λ l. true_false x.1.is_lost ((c.each x.0 x.1 x.2).not_lost l) x.3)
 

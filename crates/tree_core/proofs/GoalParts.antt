@@ -14,10 +14,10 @@ use Rattle.tree_state.specs.tree_definitions.declared.question.Question.{Questio
 use Rattle.tree_state.specs.tree_definitions.declared.mark.Mark.{Mark}
 use Rattle.tree_state.specs.tree_definitions.declared.report.GoalReport.{GoalReport}
 use Rattle.tree_state.specs.tree_definitions.Marks.{has_failed}
-use Rattle.tree_state.specs.tree_definitions.Questions.{goals_of}
+use Rattle.tree_state.specs.tree_definitions.Questions.{goal_count}
 use Rattle.tree_state.specs.tree_definitions.States.{TreeNode, Decided}
 use Rattle.tree_state.specs.tree_definitions.Verdicts.{IsLost, IsStuck, HasFailed}
-use Rattle.tree_state.specs.tree_definitions.Reports.{Walks, steps_from, Part, part_of, IsTruePart, ArePartsOf, IsTrueReport}
+use Rattle.tree_state.specs.tree_definitions.Reports.{Walks, steps_from, Part, failed_of, part_of, IsTruePart, ArePartsOf, IsTrueReport}
 use Rattle.tree_state.specs.tree_definitions.Trees.{ProofTree}
 use Rattle.tree_state.specs.Parts.{Parts, all_failed}
 use Rattle.tree_state.specs.Stuck.{is_stuck, is_stuck_at, failures}
@@ -62,7 +62,7 @@ placed nodes order place n e read =
     let there = read (slice_get_within order place first.x first.there) in
     record { first = first; is = one_value (slice_get order place) first.x n first.there there }
 
-module _ (question : Question) (system : System) (budget : ℕ) (p : Parts) (tree : IsTree question system budget p) (g : ℕ) (low : g < goals_of question)
+module _ (question : Question) (system : System) (budget : ℕ) (p : Parts) (tree : IsTree question system budget p) (g : ℕ) (low : g < goal_count question)
     (order : List ℕ) (w : Walks p.state.nodes (g ∷ []) order) where
   -- some node of the walk is stuck
   pub some_stuck : IsLost p.state.nodes g → position (is_stuck_at p.state.nodes) order ≡ None → ⊥
@@ -81,9 +81,9 @@ module _ (question : Question) (system : System) (budget : ℕ) (p : Parts) (tre
   reported r goal_is steps first problem failed =
       let s = read_stuck (slice_get p.state.nodes first.x) first.passes in
       let node = s.0 in
-      let part : Part = record { goal = g; steps = steps_from p.state.nodes 0 order; node = r.node; problem = node.problem; failed = failures (strategies_for node.problem) node.marks } in
+      let part : Part = record { goal = g; steps = steps_from p.state.nodes 0 order; node = r.node; problem = node.problem; failed = map failed_of (failures (strategies_for node.problem) node.marks) } in
       let same : part ≡ part_of r =
-      λ i. record { goal = sym goal_is i; steps = sym steps i; node = r.node; problem = sym (problem node s.1) i; failed = sym (failed node s.1) i } in
+      λ i. record { goal = sym goal_is i; steps = sym steps i; node = r.node; problem = sym (problem node s.1) i; failed = map failed_of (sym (failed node s.1) i) } in
       record {
         of_tree = record {
           goal_is = goal_is;
@@ -122,7 +122,7 @@ parts_more tree rs rs' goal r len each more is = (
       ],
 )
 
-module _ (tree : ProofTree) (parts : List Part) (count : length parts ≡ goals_of tree.question)
+module _ (tree : ProofTree) (parts : List Part) (count : length parts ≡ goal_count tree.question)
     (each : (g : ℕ) (part : Part) → slice_get parts g ≡ Some part → IsReported tree g part) where
   pub parts_of_tree : ArePartsOf tree.state.nodes parts
   parts_of_tree g part there = (each g part there).of_tree

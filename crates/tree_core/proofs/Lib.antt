@@ -18,6 +18,7 @@ pub mod Posting
 pub mod Walks
 pub mod Accepted
 pub mod Lost
+pub mod LostReports
 pub mod GoalParts
 pub mod Winners
 pub mod OneFollower

@@ -1,5 +1,5 @@
 -- The steps of a goal that is lost, in the order of the walk, and its stuck node make a true part of a report.
-use Rattle.std.proofs.Common.{◌≡◌, ℕ, zero, suc, ◌<◌, ◌≤◌, ◌+◌, Bool, false, List, [], ◌∷◌, ◌++◌, length, map, Option, Some, None, slice_get, refl, sym, ap, ◌∙◌, subst, arith}
+use Rattle.std.proofs.Common.{◌≡◌, ℕ, zero, suc, ◌<◌, ◌≤◌, ◌+◌, List, [], ◌∷◌, ◌++◌, length, map, Option, Some, None, slice_get, refl, sym, ap, ◌∙◌, subst, arith}
 use Rattle.std.specs.Option.{is_none}
 use native.Mathlib.Decide.{dec_le}
 use mathlib.Core.Logic.{dite}
@@ -10,20 +10,22 @@ use Rattle.tree_state.specs.cert_step.ProofStep.{ProofStep}
 use Rattle.tree_state.specs.cert_step.Applies.{Applies}
 use Rattle.tree_state.specs.cert_step.Nodes as cert
 use Rattle.tree_state.specs.cert_step.Nodes.{Makes, open_node}
+use Rattle.tree_state.specs.strategies.declared.failure.Failure.{Failure}
+use Rattle.tree_state.specs.strategies.declared.failure.Failure.TheVariants.{NotThere, Spent}
 use Rattle.tree_state.specs.strategies.declared.strategy.Strategy.{Strategy}
 use Rattle.tree_state.specs.strategies.Kinds.{strategies_for}
 use Rattle.tree_state.specs.strategies.Conditions.{Fails}
 use Rattle.tree_state.specs.tree_definitions.declared.question.Question.{Question}
 use Rattle.tree_state.specs.tree_definitions.declared.mark.Mark.{Mark}
 use Rattle.tree_state.specs.tree_definitions.declared.mark.Mark.TheVariants.{Failed}
-use Rattle.tree_state.specs.tree_definitions.Questions.{roots, goals_of}
+use Rattle.tree_state.specs.tree_definitions.Questions.{roots, goal_count}
 use Rattle.tree_state.specs.tree_definitions.States.{TreeNode, Decided, IsChild}
 use Rattle.tree_state.specs.tree_definitions.Legal.{Carries}
 use Rattle.tree_state.specs.tree_definitions.Verdicts.{IsLost, IsStuck, HasFailed}
 use Rattle.tree_state.specs.Parts.{Parts}
 use Rattle.tree_state.specs.Stuck.{is_spent, failures}
 use Rattle.tree_core.specs.Invariant.{IsTree}
-use Rattle.tree_state.specs.tree_definitions.Reports.{Walks, ends, stays, goes_on, steps_from, decision_at, numbers, children_of, AllFail, IsTruePart}
+use Rattle.tree_state.specs.tree_definitions.Reports.{Walks, ends, stays, goes_on, steps_from, decision_at, numbers, children_of, failure_by, failed_of, AllFail, IsTruePart}
 use Rattle.tree_state.proofs.tree_definitions.Lookups.{one_value, map_there}
 use Rattle.tree_core.proofs.Walks.{walk_makes, walked, waits, problem_in}
 
@@ -70,30 +72,34 @@ place_of : {A : Type 0} (x : A) (xs : List A) → In x xs → (k : ℕ) × (slic
 place_of x _ in_first = (0, refl)
 place_of x (y ∷ xs) (in_rest h) = let k = place_of x xs h in (suc k.0, k.1)
 
+failure_of_spent : (failure : Failure) → failure_by (is_spent (Failed failure)) ≡ failure
+failure_of_spent NotThere = refl
+failure_of_spent Spent = refl
+
 all_fail : (system : System) (budget : ℕ) (p : ProofProblem) (ss : List Strategy) (ms : List Mark) → length ms ≡ length ss
     → ((k : ℕ) (m : Mark) → slice_get ms k ≡ Some m → HasFailed m)
-    → ((k : ℕ) (spent : Bool) → slice_get ms k ≡ Some (Failed spent) → (st : Strategy) × (slice_get ss k ≡ Some st) × Fails system budget st p spent)
-    → AllFail system budget p ss (failures ss ms)
+    → ((k : ℕ) (failure : Failure) → slice_get ms k ≡ Some (Failed failure) → (st : Strategy) × (slice_get ss k ≡ Some st) × Fails system budget st p failure)
+    → AllFail system budget p ss (map failed_of (failures ss ms))
 all_fail system budget p [] ms e failed truth = tt
 all_fail system budget p (s ∷ ss) [] e failed truth = absurd (omega (arith, e))
 all_fail system budget p (s ∷ ss) (m ∷ ms) e failed truth =
     let f = failed 0 m refl in
     let t = truth 0 f.0 (ap (λ x. Some x) f.1) in
     let same : t.0 ≡ s = one_value (Some s) t.0 s t.1 refl in
-    let spent : f.0 ≡ is_spent m = sym (ap is_spent f.1) in
+    let reason : f.0 ≡ failure_by (is_spent m) = sym (ap (λ x. failure_by (is_spent x)) f.1 ∙ failure_of_spent f.0) in
     let fails = subst (λ st. Fails system budget st p f.0) same t.2 in
-    (refl, subst (λ b. Fails system budget s p b) spent fails, all_fail system budget p ss ms (omega (arith, e)) (λ k. failed (suc k)) (λ k. truth (suc k)))
+    (refl, subst (λ b. Fails system budget s p b) reason fails, all_fail system budget p ss ms (omega (arith, e)) (λ k. failed (suc k)) (λ k. truth (suc k)))
 
 map_id : {A : Type 0} (xs : List A) → xs ≡ map (λ x. x) xs
 map_id [] = refl
 map_id (x ∷ xs) = ap (λ ys. x ∷ ys) (map_id xs)
 
-module _ (question : Question) (system : System) (budget : ℕ) (p : Parts) (tree : IsTree question system budget p) (g : ℕ) (low : g < goals_of question)
+module _ (question : Question) (system : System) (budget : ℕ) (p : Parts) (tree : IsTree question system budget p) (g : ℕ) (low : g < goal_count question)
     (order : List ℕ) (w : Walks p.state.nodes (g ∷ []) order) where
   -- each node of the goal is walked
   pub all_walked : (fuel n : ℕ) (node : TreeNode) → n < fuel → slice_get p.state.nodes n ≡ Some node → node.goal ≡ g → In n order
   all_walked zero n node lt there goal = absurd (omega (arith, lt))
-  all_walked (suc fuel) n node lt there goal = dite (dec_le (goals_of question) n)
+  all_walked (suc fuel) n node lt there goal = dite (dec_le (goal_count question) n)
       (λ le.
       let b = tree.legal.born n node le there in
       let after = tree.shaped.later b.0 b.1.parent b.1.d b.1.there b.1.decided n b.1.child in
@@ -117,7 +123,7 @@ module _ (question : Question) (system : System) (budget : ℕ) (p : Parts) (tre
         steps = steps_from p.state.nodes 0 order;
         node = k;
         problem = node.problem;
-        failed = failures (strategies_for node.problem) node.marks;
+        failed = map failed_of (failures (strategies_for node.problem) node.marks);
       })
   stuck_part k n node at there stuck root is =
       let nodes = p.state.nodes in
@@ -140,5 +146,5 @@ module _ (question : Question) (system : System) (budget : ℕ) (p : Parts) (tre
             (walk_makes system nodes view keeps root legal (g ∷ []) order w []);
         there = map_there (walked system nodes view keeps root legal) order k n at ∙ ap (λ (x : cert.Node). Some x) here;
         failed = all_fail system budget node.problem (strategies_for node.problem) node.marks (tree.shaped.fits n node there)
-            stuck.failed (λ j spent f. tree.legal.failed n j node spent there f);
+            stuck.failed (λ j failure f. tree.legal.failed n j node failure there f);
       }

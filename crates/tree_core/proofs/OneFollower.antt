@@ -1,11 +1,12 @@
 -- A state that follows by an entry is just one; and so is what is claimed.
-use Rattle.std.proofs.Common.{◌≡◌, ◌⊎◌, inl, inr, ℕ, ◌<◌, Bool, true, List, Some, slice_get, refl, sym, ap, ◌∙◌, subst, arith}
+use Rattle.std.proofs.Common.{◌≡◌, ◌⊎◌, inl, inr, ℕ, ◌<◌, true, List, Some, slice_get, refl, sym, ap, ◌∙◌, subst, arith}
 use native.Mathlib.Decide.{dec_lt}
 use mathlib.Core.Logic.{dite}
 use Rattle.trs_defs.specs.System.{System}
 use Rattle.tree_state.specs.cert_step.ProofProblem.{ProofProblem}
 use Rattle.tree_state.specs.cert_step.ProofStep.{ProofStep}
 use Rattle.tree_state.proofs.cert_step.Once.{applies_once}
+use Rattle.tree_state.specs.strategies.declared.failure.Failure.{Failure}
 use Rattle.tree_state.specs.strategies.declared.strategy.Strategy.{Strategy}
 use Rattle.tree_state.specs.strategies.Kinds.{strategies_for}
 use Rattle.tree_state.specs.tree_definitions.declared.mark.Mark.TheVariants.{Idle, Failed}
@@ -104,12 +105,12 @@ module _ (goals : ℕ) (system : System) (s : State) (seat number : ℕ) where
       one_end does q.ticket q.node m o (λ still c d. one_decided grown q.ticket q.node q.made step still m o c d)
       (at_one (found step) r q (λ t x. Ends does t x m) a) b
 
-  pub one_failed : (spent : Bool) (m o : State) → Follows goals system s (entry (failed spent)) m
-      → Follows goals system s (entry (failed spent)) o → m ≡ o
-  one_failed spent m o (r, a) (q, b) =
-      let does : Ticket → TreeNode → State → Type 0 = λ t x later. later ≡ ended s number t x (Failed spent) in
+  pub one_failed : (failure : Failure) (m o : State) → Follows goals system s (entry (failed failure)) m
+      → Follows goals system s (entry (failed failure)) o → m ≡ o
+  one_failed failure m o (r, a) (q, b) =
+      let does : Ticket → TreeNode → State → Type 0 = λ t x later. later ≡ ended s number t x (Failed failure) in
       one_end does q.ticket q.node m o (λ still c d. c ∙ sym d)
-      (at_one (failed spent) r q (λ t x. Ends does t x m) a) b
+      (at_one (failed failure) r q (λ t x. Ends does t x m) a) b
 
   one_cancelled : (m o : State) → Follows goals system s (entry cancelled) m → Follows goals system s (entry cancelled) o → m ≡ o
   one_cancelled m o (r, a) (q, b) = at_one cancelled r q (λ t x. m ≡ ended s number t x Idle) a.1 ∙ sym b.1
@@ -129,6 +130,6 @@ module _ (goals : ℕ) (system : System) (s : State) (seat number : ℕ) where
       let e = entry (claimed problem strategy) in
       same_claim goals s e e problem problem strategy strategy m o a b refl
   one_follower grown (found step) m o a b = one_found grown step m o a b
-  one_follower grown (failed spent) m o a b = one_failed spent m o a b
+  one_follower grown (failed failure) m o a b = one_failed failure m o a b
   one_follower grown cancelled m o a b = one_cancelled m o a b
   one_follower grown aborted m o a b = one_aborted m o a b

@@ -2,7 +2,7 @@
 use Rattle.std.specs.Prelude.{◌≡◌, ℕ, List, [], ◌∷◌}
 use Rattle.std.proofs.Common.{sym, ◌∙◌, subst}
 use Rattle.trs_defs.specs.System.{System}
-use Rattle.tree_state.specs.tree_definitions.Questions.{goals_of}
+use Rattle.tree_state.specs.tree_definitions.Questions.{goal_count}
 use Rattle.tree_state.specs.tree_definitions.History.{HistoryEntry}
 use Rattle.tree_state.specs.tree_definitions.States.{State, opening}
 use Rattle.tree_state.specs.tree_definitions.Events.{Replays}
@@ -20,4 +20,4 @@ module _ (goals : ℕ) (system : System) where
       (subst (λ (x : State). Replays goals system x es other) same b)
 
 pub one_replay : ReplaysAreOne
-one_replay question system history last other = one_last (goals_of question) system (opening question) (grown_opening question) history last other
+one_replay question system history last other = one_last (goal_count question) system (opening question) (grown_opening question) history last other

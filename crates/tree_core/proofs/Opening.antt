@@ -7,22 +7,22 @@ use mathlib.Core.Logic.{dite}
 use Rattle.trs_defs.specs.System.{System}
 use Rattle.trs_core.specs.Valid.{IsValid}
 use Rattle.tree_state.specs.cert_step.ProofProblem as problem
-use Rattle.tree_state.specs.cert_step.ProofProblem.{ProofProblem, IsWellMadeProblem}
+use Rattle.tree_state.specs.cert_step.ProofProblem.{ProofProblem}
 use Rattle.tree_state.specs.strategies.Kinds.{strategies_for}
-use Rattle.tree_state.specs.declared.goal.Goal.{Goal}
+use Rattle.tree_state.specs.declared.goal_state.GoalState.{GoalState}
 use Rattle.tree_state.specs.tree_definitions.declared.mark.Mark.{Mark}
 use Rattle.tree_state.specs.tree_definitions.declared.mark.Mark.TheVariants.{Idle, Running, Failed}
 use Rattle.tree_state.specs.tree_definitions.declared.question.Question.{Question}
-use Rattle.tree_state.specs.tree_definitions.declared.question.Question.TheVariants.{Termination, Confluence, Unique}
-use Rattle.tree_state.specs.tree_definitions.Questions.{roots, goals_of}
+use Rattle.tree_state.specs.tree_definitions.Questions.{roots, goal_count}
 use Rattle.tree_state.specs.tree_definitions.States.{TreeNode, Decided, new_node, roots_from, opening}
 use Rattle.tree_state.specs.tree_definitions.History.{HistoryEntry, IsGiven}
 use Rattle.tree_state.specs.tree_definitions.Verdicts.{IsClosed, IsLost}
 use Rattle.tree_state.specs.Parts.{Parts, IsOpening, fresh_goals}
 use Rattle.tree_core.specs.Invariant.{IsShaped, IsTold, IsTree, opens}
 use Rattle.tree_state.proofs.tree_definitions.Lookups.{map_cases}
-use Rattle.tree_state.proofs.tree_definitions.Lookups.{get_below}
+use Rattle.tree_state.proofs.tree_definitions.Roots.{root_count, root_below, root_within, roots_well_made}
 use Rattle.tree_state.specs.strategies.TaskBounds.{pairs_in}
+use Rattle.tree_state.proofs.FirstRoots.{length_fresh}
 use Rattle.tree_core.proofs.Won.{closed_decided}
 use Rattle.tree_core.proofs.Bounding.{bounded_opening}
 
@@ -53,19 +53,6 @@ some_strategy problem.unr = refl
 some_strategy problem.unr_newman = refl
 some_strategy problem.split = refl
 
-roots_well_made : (system : System) (question : Question) (k : ℕ) (p : ProofProblem) → slice_get (roots question) k ≡ Some p → IsWellMadeProblem system p
-roots_well_made system Termination zero p there = let e : problem.sn ≡ p = cc in subst (IsWellMadeProblem system) e tt
-roots_well_made system Termination (suc zero) p there = let e : problem.loop ≡ p = cc in subst (IsWellMadeProblem system) e tt
-roots_well_made system Termination (suc (suc k)) p there = absurd cc
-roots_well_made system Confluence zero p there = let e : problem.cr ≡ p = cc in subst (IsWellMadeProblem system) e tt
-roots_well_made system Confluence (suc zero) p there = let e : problem.cr_newman ≡ p = cc in subst (IsWellMadeProblem system) e tt
-roots_well_made system Confluence (suc (suc zero)) p there = let e : problem.fork ≡ p = cc in subst (IsWellMadeProblem system) e tt
-roots_well_made system Confluence (suc (suc (suc k))) p there = absurd cc
-roots_well_made system Unique zero p there = let e : problem.unr ≡ p = cc in subst (IsWellMadeProblem system) e tt
-roots_well_made system Unique (suc zero) p there = let e : problem.unr_newman ≡ p = cc in subst (IsWellMadeProblem system) e tt
-roots_well_made system Unique (suc (suc zero)) p there = let e : problem.split ≡ p = cc in subst (IsWellMadeProblem system) e tt
-roots_well_made system Unique (suc (suc (suc k))) p there = absurd cc
-
 opens_before : (g h : ℕ) (ps : List ProofProblem) → g < h → opens g (roots_from h ps) ≡ 0
 opens_before g h [] lt = refl
 opens_before g h (p ∷ ps) lt =
@@ -89,11 +76,7 @@ opens_one g h (p ∷ ps) le lt = dite (ℕ_discrete h g)
     let none : ◌≡◌ {A = ℕ} (cond (eqb h g) 1 0) 0 = rw no refl in
     omega (arith, rest, none))
 
-length_fresh : (ps : List ProofProblem) → length (fresh_goals ps) ≡ length ps
-length_fresh [] = refl
-length_fresh (p ∷ ps) = ap suc (length_fresh ps)
-
-fresh_is : (ps : List ProofProblem) (k : ℕ) (goal : Goal) → slice_get (fresh_goals ps) k ≡ Some goal → goal ≡ record { open_nodes = 1; is_lost = false }
+fresh_is : (ps : List ProofProblem) (k : ℕ) (goal : GoalState) → slice_get (fresh_goals ps) k ≡ Some goal → goal ≡ record { open_nodes = 1; is_lost = false }
 fresh_is [] k goal there = absurd cc
 fresh_is (p ∷ ps) zero goal there = cc
 fresh_is (p ∷ ps) (suc k) goal there = fresh_is ps k goal there
@@ -123,19 +106,19 @@ module _ (system : System) (budget : ℕ) (question : Question) where
       let f = h.stuck.failed 0 Idle idle in
       let e = f.1 in absurd cc
 
-  not_won : (g : ℕ) → g < goals_of question → IsClosed nodes g → ⊥
+  not_won : (g : ℕ) → g < goal_count question → IsClosed nodes g → ⊥
   not_won g lt c =
-      let q = get_below (roots question) g lt in
+      let q = root_below question g lt in
       let there = root_there 0 (roots question) g q.0 q.1 in
       let d = closed_decided nodes g c (new_node (0 + g) q.0) there in
       undecided g (new_node (0 + g) q.0) d.0 there d.1
 
-  opening_shape : IsShaped (goals_of question) (opening question)
+  opening_shape : IsShaped (goal_count question) (opening question)
   opening_shape = record {
     root = λ g lt.
-        let q = get_below (roots question) g lt in
+        let q = root_below question g lt in
         record { node = new_node (0 + g) q.0; there = root_there 0 (roots question) g q.0 q.1; goal_is = omega arith };
-    range = λ n y there. let r = node_is n y there in rw r.2 (slice_get_within (roots question) n r.0 r.1);
+    range = λ n y there. let r = node_is n y there in rw r.2 (root_within question n r.0 r.1);
     fits = λ n y there. let r = node_is n y there in rw r.2 (length-map (strategies_for r.0) (λ _. Idle));
     later = λ m y d there dec c child. absurd (undecided m y d there dec);
     runs = λ number t there run. absurd cc;
@@ -156,8 +139,8 @@ module _ (system : System) (budget : ℕ) (question : Question) where
     replays = rw (is.history, is.state) refl;
     legal = rw is.state (record {
       decided = λ n y d there dec. absurd (undecided n y d there dec);
-      failed = λ n place y spent there f. let e = mark_is n y place (Failed spent) there f in absurd cc;
-      born = λ n y le there. let r = node_is n y there in let lt = slice_get_within (roots question) n r.0 r.1 in absurd (omega (arith, le, lt));
+      failed = λ n place y failure there f. let e = mark_is n y place (Failed failure) there f in absurd cc;
+      born = λ n y le there. let r = node_is n y there in let lt = root_within question n r.0 r.1 in absurd (omega (arith, le, lt));
       once = λ n m k a b. absurd (undecided m a.parent a.d a.there a.decided);
       named = λ i t there run. absurd cc;
       alone = λ i j t u a b ru rv sn sp. absurd cc;
@@ -166,7 +149,7 @@ module _ (system : System) (budget : ℕ) (question : Question) where
     rooted = rw is.state (λ g q at. record { node = new_node (0 + g) q; there = root_there 0 (roots question) g q at; goal_is = omega arith; problem_is = refl });
     shaped = rw is.state opening_shape;
     counted = record {
-      length_is = rw is.goals (length_fresh (roots question));
+      length_is = rw is.goals (length_fresh (roots question) ∙ root_count question);
       each = rw (is.goals, is.state) (λ g goal there.
           let f = fresh_is (roots question) g goal there in
           let lt = slice_get_within (fresh_goals (roots question)) g goal there in

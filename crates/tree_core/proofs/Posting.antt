@@ -8,16 +8,18 @@ use Rattle.trs_defs.specs.System.{System}
 use Rattle.trs_defs.specs.Member.{In, in_first, in_rest}
 use Rattle.tree_state.specs.cert_step.ProofProblem.{ProofProblem, IsWellMadeProblem}
 use Rattle.tree_state.specs.cert_step.ProofStep.{ProofStep}
+use Rattle.tree_state.specs.strategies.declared.failure.Failure.{Failure}
+use Rattle.tree_state.specs.strategies.declared.failure.Failure.TheVariants.{Spent}
 use Rattle.tree_state.specs.strategies.declared.strategy.Strategy.{Strategy}
 use Rattle.tree_state.specs.strategies.Kinds.{strategies_for}
 use Rattle.tree_state.specs.strategies.Runs as run
 use Rattle.tree_state.specs.strategies.Runs.{Found, Run}
 use Rattle.tree_state.specs.strategies.Truth.{IsFound, IsTrueFound, IsTrueRun}
 use Rattle.tree_state.specs.tree_definitions.declared.question.Question.{Question}
-use Rattle.tree_state.specs.declared.goal.Goal.{Goal}
+use Rattle.tree_state.specs.declared.goal_state.GoalState.{GoalState}
 use Rattle.tree_state.specs.tree_definitions.declared.mark.Mark.TheVariants.{Idle, Running, Failed}
 use Rattle.tree_state.specs.tree_definitions.declared.ticket.Ticket.{Ticket}
-use Rattle.tree_state.specs.tree_definitions.Questions.{goals_of}
+use Rattle.tree_state.specs.tree_definitions.Questions.{goal_count}
 use Rattle.tree_state.specs.tree_definitions.History.{HistoryEntry, Event, claimed, found, failed}
 use Rattle.tree_state.specs.tree_definitions.States.{TreeNode, State, opening, marked, new_node}
 use Rattle.tree_state.specs.tree_definitions.Verdicts.{IsWon, HasFailed, IsFirstWinner}
@@ -51,20 +53,20 @@ some_in [] k x there = absurd cc
 some_in (y ∷ xs) zero x there = let same : y ≡ x = cc in subst (λ z. In z (y ∷ xs)) same in_first
 some_in (y ∷ xs) (suc k) x there = in_rest (some_in xs k x there)
 
-opened_is : (goals : List Goal) (g count : ℕ) (old : Goal) → slice_get goals g ≡ Some old → opened goals g count ≡ set goals g (record old { open_nodes = old.open_nodes - 1 + count })
+opened_is : (goals : List GoalState) (g count : ℕ) (old : GoalState) → slice_get goals g ≡ Some old → opened goals g count ≡ set goals g (record old { open_nodes = old.open_nodes - 1 + count })
 opened_is goals g count old e = rw e refl
 
 -- what an outcome says of its ticket is no claim
 pub no_claim : (f : Found) (problem : ProofProblem) (strategy : Strategy) → event_of_found f ≡ claimed problem strategy → ⊥
 no_claim (run.found step left) problem strategy e = absurd cc
-no_claim (run.failed spent) problem strategy e = absurd cc
+no_claim (run.failed failure) problem strategy e = absurd cc
 
 idle_ok : HasFailed Idle → ⊥
 idle_ok h = let e = h.1 in absurd cc
 
 module _ (question : Question) (system : System) (budget : ℕ) (p : Parts) (tree : IsTree question system budget p) (number : ℕ) (h : HasTicket p number) where
   abbrev goals : ℕ
-  goals = goals_of question
+  goals = goal_count question
 
   abbrev entry : Event → HistoryEntry
   entry event = record { seat = h.ticket.seat; ticket = number; event = event }
@@ -81,7 +83,7 @@ module _ (question : Question) (system : System) (budget : ℕ) (p : Parts) (tre
   -- an answer that comes late
   pub late_post : (f : Found) → is_over_by p h.node ≡ true → Follows goals system p.state (entry (event_of_found f)) (ended p.state number h.ticket h.node Idle)
   late_post (run.found step left) over = (runs_at question system budget p tree number h (found step), inl (over_is goals p tree.counted h.node over, refl))
-  late_post (run.failed spent) over = (runs_at question system budget p tree number h (failed spent), inl (over_is goals p tree.counted h.node over, refl))
+  late_post (run.failed failure) over = (runs_at question system budget p tree number h (failed failure), inl (over_is goals p tree.counted h.node over, refl))
 
   -- what is true of the outcome of the ticket's task
   pub record IsTaskTruth (o : Run) : Type 0 where
@@ -108,30 +110,30 @@ module _ (question : Question) (system : System) (budget : ℕ) (p : Parts) (tre
     not_over o = true_false (is_over_by p h.node) (is_over goals p tree.counted h.node (tree.shaped.range h.ticket.node h.node h.made) o) wanted
 
     going : is_done_by p ≡ false
-    going = still_going goals p tree.counted number h.ticket h.there h.runs h.node h.made was_here wanted true
+    going = still_going goals p tree.counted number h.ticket h.there h.runs h.node h.made was_here wanted Spent
 
     is_open : h.node.decision ≡ None
-    is_open = node_open goals p tree.counted number h.ticket h.there h.runs h.node h.made was_here wanted true
+    is_open = node_open goals p tree.counted number h.ticket h.there h.runs h.node h.made was_here wanted Spent
 
     -- ---- a failure is taken
 
-    pub fail_follows : (spent : Bool) → Follows goals system p.state (entry (failed spent)) (ended p.state number h.ticket h.node (Failed spent))
-    fail_follows spent = (runs_at question system budget p tree number h (failed spent), inr (not_over, refl))
+    pub fail_follows : (failure : Failure) → Follows goals system p.state (entry (failed failure)) (ended p.state number h.ticket h.node (Failed failure))
+    fail_follows failure = (runs_at question system budget p tree number h (failed failure), inr (not_over, refl))
 
-    pub fail_tree : (spent : Bool) → IsFailure system budget h.node h.ticket.place spent → IsTree question system budget (failed_parts p number h.ticket h.node spent)
-    fail_tree spent fails = record {
+    pub fail_tree : (failure : Failure) → IsFailure system budget h.node h.ticket.place failure → IsTree question system budget (failed_parts p number h.ticket h.node failure)
+    fail_tree failure fails = record {
       valid = tree.valid;
-      replays = replays_more goals system (opening question) p.history p.state (entry (failed spent)) (ended p.state number h.ticket h.node (Failed spent)) tree.replays (fail_follows spent);
-      legal = legal_ended goals system budget p.state tree.shaped tree.legal number h.ticket h.there h.runs h.node h.made (Failed spent) (λ e. cc) p.state.winner p.state.is_aborted
-          (λ b e. let same : spent ≡ b = cc in subst (IsFailure system budget h.node h.ticket.place) same fails);
-      well_made = well_made_ended system p.state.nodes h.ticket.node h.ticket.place h.node (Failed spent) h.made tree.well_made;
-      rooted = λ g q at. carries_same p.state.nodes (set p.state.nodes h.ticket.node (marked h.node h.ticket.place (Failed spent))) (same_later p.state.nodes h.ticket.node h.ticket.place h.node (Failed spent) h.made) g g q (tree.rooted g q at);
-      shaped = shape_ended goals system budget p.state tree.shaped tree.legal number h.ticket h.there h.runs h.node h.made (Failed spent) (λ e. cc) p.state.winner p.state.is_aborted;
-      counted = counted_failed goals p tree.counted number h.ticket h.there h.runs h.node h.made was_here wanted spent;
-      is_told = told_ending p.history p.state.tickets tree.is_told (entry (failed spent)) h.ticket h.there refl h.runs;
-      given = given_ending p.history p.state (failed_parts p number h.ticket h.node spent).state tree.given (entry (failed spent))
-          (problems_marked p.state.nodes h.ticket.node h.ticket.place h.node (Failed spent) h.made) (places_ended p.state.tickets number h.ticket h.there) (λ q st e. cc);
-      bounded = bounded_failure question (pairs_in system) p tree.bounded number h.ticket h.node h.made run_more was_here wanted spent;
+      replays = replays_more goals system (opening question) p.history p.state (entry (failed failure)) (ended p.state number h.ticket h.node (Failed failure)) tree.replays (fail_follows failure);
+      legal = legal_ended goals system budget p.state tree.shaped tree.legal number h.ticket h.there h.runs h.node h.made (Failed failure) (λ e. cc) p.state.winner p.state.is_aborted
+          (λ b e. let same : failure ≡ b = cc in subst (IsFailure system budget h.node h.ticket.place) same fails);
+      well_made = well_made_ended system p.state.nodes h.ticket.node h.ticket.place h.node (Failed failure) h.made tree.well_made;
+      rooted = λ g q at. carries_same p.state.nodes (set p.state.nodes h.ticket.node (marked h.node h.ticket.place (Failed failure))) (same_later p.state.nodes h.ticket.node h.ticket.place h.node (Failed failure) h.made) g g q (tree.rooted g q at);
+      shaped = shape_ended goals system budget p.state tree.shaped tree.legal number h.ticket h.there h.runs h.node h.made (Failed failure) (λ e. cc) p.state.winner p.state.is_aborted;
+      counted = counted_failed goals p tree.counted number h.ticket h.there h.runs h.node h.made was_here wanted failure;
+      is_told = told_ending p.history p.state.tickets tree.is_told (entry (failed failure)) h.ticket h.there refl h.runs;
+      given = given_ending p.history p.state (failed_parts p number h.ticket h.node failure).state tree.given (entry (failed failure))
+          (problems_marked p.state.nodes h.ticket.node h.ticket.place h.node (Failed failure) h.made) (places_ended p.state.tickets number h.ticket h.there) (λ q st e. cc);
+      bounded = bounded_failure question (pairs_in system) p tree.bounded number h.ticket h.node h.made run_more was_here wanted failure;
     }
 
     -- ---- a step is taken
@@ -152,7 +154,7 @@ module _ (question : Question) (system : System) (budget : ℕ) (p : Parts) (tre
 
       legal1 : IsLegal goals system budget s1
       legal1 = legal_ended goals system budget p.state tree.shaped tree.legal number h.ticket h.there h.runs h.node h.made Idle not_running_idle p.state.winner p.state.is_aborted
-          (λ spent e. absurd (not_failed_idle spent e))
+          (λ failure e. absurd (not_failed_idle failure e))
 
       there1 : slice_get s1.nodes n ≡ Some node1
       there1 = there_marked p.state.nodes n h.ticket.place h.node Idle h.made
@@ -175,7 +177,7 @@ module _ (question : Question) (system : System) (budget : ℕ) (p : Parts) (tre
       abbrev g : ℕ
       g = h.node.goal
 
-      abbrev more : List Goal
+      abbrev more : List GoalState
       more = opened p.goals g (length left)
 
       abbrev winner : Option ℕ
@@ -204,7 +206,7 @@ module _ (question : Question) (system : System) (budget : ℕ) (p : Parts) (tre
       shrinks : tasks_of_all (pairs_in system) left ≤ tasks_below (pairs_in system) h.node.problem
       shrinks = found_shrinks system budget strategy h.node.problem step left (tree.well_made n h.node h.made) is.finds is.applies
 
-      old_goal : (old : Goal) × (slice_get p.goals g ≡ Some old)
+      old_goal : (old : GoalState) × (slice_get p.goals g ≡ Some old)
       old_goal = get_below p.goals g (omega (arith, g_low, tree.counted.length_is))
 
       more_is : more ≡ set p.goals g (record old_goal.0 { open_nodes = old_goal.0.open_nodes - 1 + length left })
@@ -213,7 +215,7 @@ module _ (question : Question) (system : System) (budget : ℕ) (p : Parts) (tre
       more_there : slice_get more g ≡ Some (record old_goal.0 { open_nodes = old_goal.0.open_nodes - 1 + length left })
       more_there = rw more_is (get_set p.goals g (record old_goal.0 { open_nodes = old_goal.0.open_nodes - 1 + length left }) old_goal.0 old_goal.1)
 
-      counted1 : (k : ℕ) (goal : Goal) → slice_get p.goals k ≡ Some goal → IsCounted s1.nodes k goal
+      counted1 : (k : ℕ) (goal : GoalState) → slice_get p.goals k ≡ Some goal → IsCounted s1.nodes k goal
       counted1 k goal at = counted_marked p.state.nodes n h.ticket.place h.node Idle Running h.made was_here no_failed_running idle_ok k goal (tree.counted.each k goal at)
 
       idle1 : slice_get node1.marks h.ticket.place ≡ Some Idle
@@ -236,7 +238,7 @@ module _ (question : Question) (system : System) (budget : ℕ) (p : Parts) (tre
       -- a goal is won in the new nodes exactly where none of them is open
       won_g : no_open_nodes (slice_get more g) ≡ true → IsWon L g
       won_g e =
-          let flag : (old_goal.0.open_nodes - 1 + length left == 0) ≡ true = subst (λ (o : Option Goal). no_open_nodes o ≡ true) more_there e in
+          let flag : (old_goal.0.open_nodes - 1 + length left == 0) ≡ true = subst (λ (o : Option GoalState). no_open_nodes o ≡ true) more_there e in
           let zero_g = eqb-true (old_goal.0.open_nodes - 1 + length left) 0 flag in
           none_open_won goals (record s1 { nodes = L; winner = winner }) (shape2 winner) (legal2 winner).born g g_low (sym opens_g ∙ zero_g)
 
@@ -245,7 +247,7 @@ module _ (question : Question) (system : System) (budget : ℕ) (p : Parts) (tre
           let zero_k = won_none_open goals (record s1 { nodes = L; winner = winner }) (shape2 winner) (legal2 winner).born k won in
           dite (ℕ_discrete g k)
           (λ same.
-          let flag : (old_goal.0.open_nodes - 1 + length left == 0) ≡ false = subst (λ (o : Option Goal). no_open_nodes o ≡ false) more_there e in
+          let flag : (old_goal.0.open_nodes - 1 + length left == 0) ≡ false = subst (λ (o : Option GoalState). no_open_nodes o ≡ false) more_there e in
           let zero_g : opens g L ≡ 0 = subst (λ (j : ℕ). opens j L ≡ 0) (sym same) zero_k in
           eqb-false (old_goal.0.open_nodes - 1 + length left) 0 flag (opens_g ∙ zero_g))
           (λ other.
@@ -291,12 +293,12 @@ module _ (question : Question) (system : System) (budget : ℕ) (p : Parts) (tre
       lost_flag k e = dite (ℕ_discrete k g)
           (λ same.
           let old = subst (λ (j : ℕ). is_lost_in p.goals j ≡ true) same e in
-          let flag : old_goal.0.is_lost ≡ true = subst (λ (o : Option Goal). lost_at o ≡ true) old_goal.1 old in
-          let at_g : is_lost_in more g ≡ true = subst (λ (o : Option Goal). lost_at o ≡ true) (sym more_there) flag in
+          let flag : old_goal.0.is_lost ≡ true = subst (λ (o : Option GoalState). lost_at o ≡ true) old_goal.1 old in
+          let at_g : is_lost_in more g ≡ true = subst (λ (o : Option GoalState). lost_at o ≡ true) (sym more_there) flag in
           subst (λ (j : ℕ). is_lost_in more j ≡ true) (sym same) at_g)
           (λ other.
-          let at : slice_get more k ≡ slice_get p.goals k = ap (λ (gs : List Goal). slice_get gs k) more_is ∙ get_set_other p.goals g k (record old_goal.0 { open_nodes = old_goal.0.open_nodes - 1 + length left }) (λ q. other q) in
-          subst (λ (o : Option Goal). lost_at o ≡ true) (sym at) e)
+          let at : slice_get more k ≡ slice_get p.goals k = ap (λ (gs : List GoalState). slice_get gs k) more_is ∙ get_set_other p.goals g k (record old_goal.0 { open_nodes = old_goal.0.open_nodes - 1 + length left }) (λ q. other q) in
+          subst (λ (o : Option GoalState). lost_at o ≡ true) (sym at) e)
 
       only_here : (k : ℕ) → k < goals → IsWon L k → winner ≡ Some k
       only_here k lt won = go (no_open_nodes (slice_get more g)) refl
@@ -316,7 +318,7 @@ module _ (question : Question) (system : System) (budget : ℕ) (p : Parts) (tre
       counted2 = record {
         length_is = ap length more_is ∙ (length_set p.goals g (record old_goal.0 { open_nodes = old_goal.0.open_nodes - 1 + length left }) ∙ tree.counted.length_is);
         each = λ k goal at. elim (set_cases p.goals g k old_goal.0 (record old_goal.0 { open_nodes = old_goal.0.open_nodes - 1 + length left }) goal old_goal.1
-            (subst (λ (gs : List Goal). slice_get gs k ≡ Some goal) more_is at)) [
+            (subst (λ (gs : List GoalState). slice_get gs k ≡ Some goal) more_is at)) [
               | inl w ↦
                   let c = counted1 g old_goal.0 old_goal.1 in
                   let at_g : IsCounted L g (record old_goal.0 { open_nodes = old_goal.0.open_nodes - 1 + length left }) = record {
@@ -390,6 +392,6 @@ opens_le : (g : ℕ) (nodes : List TreeNode) → opens g nodes ≤ length nodes
 opens_le g [] = omega arith
 opens_le g (x ∷ nodes) = let one : cond (is_open_of g x) 1 0 ≤ 1 = elim (is_open_of g x) as (λ b. cond b 1 0 ≤ 1) [ true ↦ omega arith | false ↦ omega arith ] in omega (arith, one, opens_le g nodes)
 
-pub open_few : (question : Question) (system : System) (budget : ℕ) (p : Parts) → IsTree question system budget p → (g : ℕ) (goal : Goal) → slice_get p.goals g ≡ Some goal
+pub open_few : (question : Question) (system : System) (budget : ℕ) (p : Parts) → IsTree question system budget p → (g : ℕ) (goal : GoalState) → slice_get p.goals g ≡ Some goal
     → goal.open_nodes ≤ length p.state.nodes
 open_few question system budget p tree g goal there = omega (arith, (tree.counted.each g goal there).open_is, opens_le g p.state.nodes)

@@ -3,11 +3,12 @@ use Rattle.std.proofs.Common.{◌≡◌, inl, inr, ℕ, ◌<◌, Bool, true, fal
 use Rattle.std.proofs.lemmas.Option.{slice_get_within}
 use Rattle.trs_defs.specs.System.{System}
 use Rattle.tree_state.specs.cert_step.ProofProblem.{ProofProblem}
+use Rattle.tree_state.specs.strategies.declared.failure.Failure.{Failure}
 use Rattle.tree_state.specs.strategies.declared.strategy.Strategy.{Strategy}
 use Rattle.tree_state.specs.tree_definitions.declared.question.Question.{Question}
 use Rattle.tree_state.specs.tree_definitions.declared.mark.Mark.TheVariants.{Idle, Running, Failed}
 use Rattle.tree_state.specs.tree_definitions.declared.ticket.Ticket.{Ticket}
-use Rattle.tree_state.specs.tree_definitions.Questions.{goals_of}
+use Rattle.tree_state.specs.tree_definitions.Questions.{goal_count}
 use Rattle.tree_state.specs.tree_definitions.History.{HistoryEntry, Event, claimed, cancelled, aborted, of_seat, Runs}
 use Rattle.tree_state.specs.tree_definitions.States.{State, opening, marked}
 use Rattle.tree_core.proofs.Marking.{carries_same, same_later, problems_marked}
@@ -37,8 +38,8 @@ no_failed_running h = let e = h.1 in absurd cc
 pub not_running_idle : Idle ≡ Running → ⊥
 not_running_idle e = absurd cc
 
-pub not_failed_idle : (spent : Bool) → Idle ≡ Failed spent → ⊥
-not_failed_idle spent e = absurd cc
+pub not_failed_idle : (failure : Failure) → Idle ≡ Failed failure → ⊥
+not_failed_idle failure e = absurd cc
 
 or_none : (b : Bool) → (b || false) ≡ b
 or_none true = refl
@@ -57,24 +58,24 @@ module _ (question : Question) (system : System) (budget : ℕ) (p : Parts) (tre
 
   module _ (h : HasTicket p number) where
     pub was : slice_get h.node.marks h.ticket.place ≡ Some Running
-    was = was_running (goals_of question) system budget p.state tree.shaped tree.legal number h.ticket h.there h.runs h.node h.made Idle
+    was = was_running (goal_count question) system budget p.state tree.shaped tree.legal number h.ticket h.there h.runs h.node h.made Idle
 
     pub running_ok : 0 < p.running
-    running_ok = some_run (goals_of question) p tree.counted number h.ticket h.there h.runs h.node h.made Running was no_failed_running
+    running_ok = some_run (goal_count question) p tree.counted number h.ticket h.there h.runs h.node h.made Running was no_failed_running
 
     pub room_ok : 0 < p.room
-    room_ok = some_room (goals_of question) p tree.counted number h.ticket h.there h.runs h.node h.made Running was no_failed_running
+    room_ok = some_room (goal_count question) p tree.counted number h.ticket h.there h.runs h.node h.made Running was no_failed_running
 
     -- the ticket's node, by what is seen of the tree
     pub unwanted : is_over_by p h.node ≡ true → IsUnwanted (tree_of question system budget p) number
-    unwanted over = (record { ticket = h.ticket; there = h.there; node = h.node; made = h.made }, over_is (goals_of question) p tree.counted h.node over)
+    unwanted over = (record { ticket = h.ticket; there = h.there; node = h.node; made = h.made }, over_is (goal_count question) p tree.counted h.node over)
 
     pub wanted : is_over_by p h.node ≡ false → IsUnwanted (tree_of question system budget p) number → ⊥
     wanted goes u =
         let t = one_value (slice_get p.state.tickets number) u.0.ticket h.ticket u.0.there h.there in
         let made_h = subst (λ (x : Ticket). slice_get p.state.nodes x.node ≡ Some u.0.node) t u.0.made in
         let n = one_value (slice_get p.state.nodes h.ticket.node) u.0.node h.node made_h h.made in
-        let over = is_over (goals_of question) p tree.counted h.node (tree.shaped.range h.ticket.node h.node h.made) (subst (IsOver (goals_of question) p.state) n u.1) in
+        let over = is_over (goal_count question) p tree.counted h.node (tree.shaped.range h.ticket.node h.node h.made) (subst (IsOver (goal_count question) p.state) n u.1) in
         absurd cc
 
     abbrev pub runs_at : (event : Event) → RunsAt p.state (record { seat = h.ticket.seat; ticket = number; event = event })
@@ -82,18 +83,18 @@ module _ (question : Question) (system : System) (budget : ℕ) (p : Parts) (tre
 
     -- an ending that comes late, in each of its ways
     pub late_tree : (event : Event) → ((problem : ProofProblem) (strategy : Strategy) → event ≡ claimed problem strategy → ⊥) → is_over_by p h.node ≡ true
-        → Follows (goals_of question) system p.state (record { seat = h.ticket.seat; ticket = number; event = event }) (ended p.state number h.ticket h.node Idle)
+        → Follows (goal_count question) system p.state (record { seat = h.ticket.seat; ticket = number; event = event }) (ended p.state number h.ticket h.node Idle)
         → IsTree question system budget (ended_parts p number h.ticket h.node event Idle)
     late_tree event ends over follows = record {
       valid = tree.valid;
-      replays = replays_more (goals_of question) system (opening question) p.history p.state (record { seat = h.ticket.seat; ticket = number; event = event })
+      replays = replays_more (goal_count question) system (opening question) p.history p.state (record { seat = h.ticket.seat; ticket = number; event = event })
           (ended p.state number h.ticket h.node Idle) tree.replays follows;
-      legal = legal_ended (goals_of question) system budget p.state tree.shaped tree.legal number h.ticket h.there h.runs h.node h.made Idle not_running_idle p.state.winner p.state.is_aborted
-          (λ spent e. absurd (not_failed_idle spent e));
+      legal = legal_ended (goal_count question) system budget p.state tree.shaped tree.legal number h.ticket h.there h.runs h.node h.made Idle not_running_idle p.state.winner p.state.is_aborted
+          (λ failure e. absurd (not_failed_idle failure e));
       well_made = well_made_ended system p.state.nodes h.ticket.node h.ticket.place h.node Idle h.made tree.well_made;
       rooted = λ g q at. carries_same p.state.nodes (set p.state.nodes h.ticket.node (marked h.node h.ticket.place Idle)) (same_later p.state.nodes h.ticket.node h.ticket.place h.node Idle h.made) g g q (tree.rooted g q at);
-      shaped = shape_ended (goals_of question) system budget p.state tree.shaped tree.legal number h.ticket h.there h.runs h.node h.made Idle not_running_idle p.state.winner p.state.is_aborted;
-      counted = counted_late (goals_of question) p tree.counted number h.ticket h.there h.runs h.node h.made Running was no_failed_running event over;
+      shaped = shape_ended (goal_count question) system budget p.state tree.shaped tree.legal number h.ticket h.there h.runs h.node h.made Idle not_running_idle p.state.winner p.state.is_aborted;
+      counted = counted_late (goal_count question) p tree.counted number h.ticket h.there h.runs h.node h.made Running was no_failed_running event over;
       is_told = told_ending p.history p.state.tickets tree.is_told (record { seat = h.ticket.seat; ticket = number; event = event }) h.ticket h.there refl h.runs;
       given = given_ending p.history p.state (ended p.state number h.ticket h.node Idle) tree.given (record { seat = h.ticket.seat; ticket = number; event = event })
           (problems_marked p.state.nodes h.ticket.node h.ticket.place h.node Idle h.made) (places_ended p.state.tickets number h.ticket h.there) ends;
@@ -104,31 +105,31 @@ module _ (question : Question) (system : System) (budget : ℕ) (p : Parts) (tre
     pub owner : Runs number (of_seat h.ticket.seat p.history)
     owner = runs_of_seat p.history p.state.tickets tree.is_told number h.ticket h.there h.runs
 
-    pub adds_late : (event : Event) → Follows (goals_of question) system p.state (record { seat = h.ticket.seat; ticket = number; event = event }) (ended p.state number h.ticket h.node Idle)
+    pub adds_late : (event : Event) → Follows (goal_count question) system p.state (record { seat = h.ticket.seat; ticket = number; event = event }) (ended p.state number h.ticket h.node Idle)
         → Notes (tree_of question system budget p) number event (tree_of question system budget (ended_parts p number h.ticket h.node event Idle))
     adds_late event follows = record { seat = h.ticket.seat; owner = owner; adds = record { follows = follows; tree = refl } }
 
     pub cancels : is_over_by p h.node ≡ true
-        → Follows (goals_of question) system p.state (record { seat = h.ticket.seat; ticket = number; event = cancelled }) (ended p.state number h.ticket h.node Idle)
-    cancels over = (runs_at cancelled, (over_is (goals_of question) p tree.counted h.node over, refl))
+        → Follows (goal_count question) system p.state (record { seat = h.ticket.seat; ticket = number; event = cancelled }) (ended p.state number h.ticket h.node Idle)
+    cancels over = (runs_at cancelled, (over_is (goal_count question) p tree.counted h.node over, refl))
 
     -- an abort
-    pub aborts : Follows (goals_of question) system p.state (record { seat = h.ticket.seat; ticket = number; event = aborted }) (aborted_parts p number h.ticket h.node).state
+    pub aborts : Follows (goal_count question) system p.state (record { seat = h.ticket.seat; ticket = number; event = aborted }) (aborted_parts p number h.ticket h.node).state
     aborts = go (has_verdict_by p) refl
       where
         go : (b : Bool) → has_verdict_by p ≡ b
-            → Follows (goals_of question) system p.state (record { seat = h.ticket.seat; ticket = number; event = aborted }) (aborted_parts p number h.ticket h.node).state
+            → Follows (goal_count question) system p.state (record { seat = h.ticket.seat; ticket = number; event = aborted }) (aborted_parts p number h.ticket h.node).state
         go true e = (
           runs_at aborted,
           inl (
-            verdict_is (goals_of question) p tree.counted e,
+            verdict_is (goal_count question) p tree.counted e,
             ap (λ (b : Bool). record (ended p.state number h.ticket h.node Idle) { is_aborted = b }) (ap (λ (v : Bool). p.state.is_aborted || not v) e ∙ or_none p.state.is_aborted),
           ),
         )
         go false e = (
           runs_at aborted,
           inr (
-            (λ v. true_false (has_verdict_by p) (has_verdict (goals_of question) p tree.counted v) e),
+            (λ v. true_false (has_verdict_by p) (has_verdict (goal_count question) p tree.counted v) e),
             ap (λ (b : Bool). record (ended p.state number h.ticket h.node Idle) { is_aborted = b }) (ap (λ (v : Bool). p.state.is_aborted || not v) e ∙ or_right p.state.is_aborted true refl),
           ),
         )
@@ -136,15 +137,15 @@ module _ (question : Question) (system : System) (budget : ℕ) (p : Parts) (tre
     pub abort_tree : IsTree question system budget (aborted_parts p number h.ticket h.node)
     abort_tree = record {
       valid = tree.valid;
-      replays = replays_more (goals_of question) system (opening question) p.history p.state (record { seat = h.ticket.seat; ticket = number; event = aborted })
+      replays = replays_more (goal_count question) system (opening question) p.history p.state (record { seat = h.ticket.seat; ticket = number; event = aborted })
           (aborted_parts p number h.ticket h.node).state tree.replays aborts;
-      legal = legal_ended (goals_of question) system budget p.state tree.shaped tree.legal number h.ticket h.there h.runs h.node h.made Idle not_running_idle p.state.winner
-          (p.state.is_aborted || not (has_verdict_by p)) (λ spent e. absurd (not_failed_idle spent e));
+      legal = legal_ended (goal_count question) system budget p.state tree.shaped tree.legal number h.ticket h.there h.runs h.node h.made Idle not_running_idle p.state.winner
+          (p.state.is_aborted || not (has_verdict_by p)) (λ failure e. absurd (not_failed_idle failure e));
       well_made = well_made_ended system p.state.nodes h.ticket.node h.ticket.place h.node Idle h.made tree.well_made;
       rooted = λ g q at. carries_same p.state.nodes (set p.state.nodes h.ticket.node (marked h.node h.ticket.place Idle)) (same_later p.state.nodes h.ticket.node h.ticket.place h.node Idle h.made) g g q (tree.rooted g q at);
-      shaped = shape_ended (goals_of question) system budget p.state tree.shaped tree.legal number h.ticket h.there h.runs h.node h.made Idle not_running_idle p.state.winner
+      shaped = shape_ended (goal_count question) system budget p.state tree.shaped tree.legal number h.ticket h.there h.runs h.node h.made Idle not_running_idle p.state.winner
           (p.state.is_aborted || not (has_verdict_by p));
-      counted = counted_aborted (goals_of question) p tree.counted number h.ticket h.there h.runs h.node h.made Running was no_failed_running;
+      counted = counted_aborted (goal_count question) p tree.counted number h.ticket h.there h.runs h.node h.made Running was no_failed_running;
       is_told = told_ending p.history p.state.tickets tree.is_told (record { seat = h.ticket.seat; ticket = number; event = aborted }) h.ticket h.there refl h.runs;
       given = given_ending p.history p.state (aborted_parts p number h.ticket h.node).state tree.given (record { seat = h.ticket.seat; ticket = number; event = aborted })
           (problems_marked p.state.nodes h.ticket.node h.ticket.place h.node Idle h.made) (places_ended p.state.tickets number h.ticket h.there) (λ q st e. cc);

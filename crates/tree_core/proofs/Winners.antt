@@ -1,21 +1,23 @@
 -- Where a step decides a node, no goal but the node's is won by it.
-use Rattle.std.proofs.Common.{◌≡◌, inl, inr, ℕ, zero, suc, ◌<◌, ◌+◌, ◌-◌, Bool, List, [], ◌∷◌, map, length, set, Option, Some, None, slice_get, refl, sym, ap, ◌∙◌, subst, arith}
+use Rattle.std.proofs.Common.{◌≡◌, inl, inr, ℕ, zero, suc, ◌<◌, ◌+◌, ◌-◌, List, [], ◌∷◌, map, length, set, Option, Some, None, slice_get, refl, sym, ap, ◌∙◌, subst, arith}
 use native.Mathlib.Decide.{ℕ_discrete}
 use mathlib.Core.Logic.{dite}
 use Rattle.trs_defs.specs.System.{System}
 use Rattle.tree_state.specs.cert_step.ProofProblem.{ProofProblem}
 use Rattle.tree_state.specs.cert_step.ProofStep.{ProofStep}
+use Rattle.tree_state.specs.strategies.declared.failure.Failure.{Failure}
 use Rattle.tree_state.specs.strategies.declared.strategy.Strategy.{Strategy}
 use Rattle.tree_state.specs.tree_definitions.declared.mark.Mark.{Mark}
 use Rattle.tree_state.specs.tree_definitions.declared.mark.Mark.TheVariants.{Idle, Running, Failed}
 use Rattle.tree_state.specs.tree_definitions.declared.question.Question.{Question}
 use Rattle.tree_state.specs.tree_definitions.declared.ticket.Ticket.{Ticket}
-use Rattle.tree_state.specs.tree_definitions.Questions.{roots, goals_of}
+use Rattle.tree_state.specs.tree_definitions.Questions.{roots, goal_count}
 use Rattle.tree_state.specs.tree_definitions.History.{HistoryEntry, Event, claimed, found, failed, cancelled, aborted}
 use Rattle.tree_state.specs.tree_definitions.States.{TreeNode, State, Decided, IsChild, new_node, roots_from, opening, marked}
 use Rattle.tree_state.specs.tree_definitions.Verdicts.{IsClosed, closed, IsWon, IsFirstWinner}
 use Rattle.tree_state.specs.tree_definitions.Events.{Claims, RunsAt, IsOver, done, Follows, ended, nodes_with, without}
 use Rattle.tree_state.proofs.tree_definitions.Lookups.{one_value, get_set, length_set, set_cases, set_there, append_left, append_right, append_cases, map_there, map_cases, get_below}
+use Rattle.tree_state.proofs.tree_definitions.Roots.{root_below}
 use Rattle.tree_core.specs.Invariant.{IsOf}
 use Rattle.tree_core.proofs.Won.{closed_decided}
 use Rattle.tree_core.proofs.Marking.{of_same, closed_same, same_later, same_before}
@@ -43,10 +45,10 @@ root_open h (q ∷ ps) zero y d there dec =
     let none : None ≡ y.decision = ap (λ (x : TreeNode). x.decision) same in absurd cc
 root_open h (q ∷ ps) (suc k) y d there dec = root_open (h + 1) ps k y d there dec
 
-pub grown_opening : (question : Question) → IsGrown (goals_of question) (opening question)
+pub grown_opening : (question : Question) → IsGrown (goal_count question) (opening question)
 grown_opening question =
-    let there : (g : ℕ) → g < goals_of question → (p : ProofProblem) × (slice_get (roots_from 0 (roots question)) g ≡ Some (new_node (0 + g) p)) =
-    λ g lt. let q = get_below (roots question) g lt in (q.0, root_there 0 (roots question) g q.0 q.1) in
+    let there : (g : ℕ) → g < goal_count question → (p : ProofProblem) × (slice_get (roots_from 0 (roots question)) g ≡ Some (new_node (0 + g) p)) =
+    λ g lt. let q = root_below question g lt in (q.0, root_there 0 (roots question) g q.0 q.1) in
     record {
       root = λ g lt. let q = there g lt in record { node = new_node (0 + g) q.0; there = q.1; goal_is = omega arith };
       kin = λ n node d at dec c child. absurd (root_open 0 (roots question) n node d at dec);
@@ -206,9 +208,9 @@ module _ (goals : ℕ) (system : System) (s : State) (grown : IsGrown goals s) (
       subst (IsGrown goals) (sym d.after)
       (grown_decided goals s grown r.ticket r.node r.made step d.left (without s.tickets ticket r.ticket) d.winner d.first)
 
-  pub grown_failed : (spent : Bool) (next : State) → Follows goals system s (entry (failed spent)) next → IsGrown goals next
-  grown_failed spent next (r, inl late) = grown_end (failed spent) r Idle next late.1
-  grown_failed spent next (r, inr (wanted, after)) = grown_end (failed spent) r (Failed spent) next after
+  pub grown_failed : (failure : Failure) (next : State) → Follows goals system s (entry (failed failure)) next → IsGrown goals next
+  grown_failed failure next (r, inl late) = grown_end (failed failure) r Idle next late.1
+  grown_failed failure next (r, inr (wanted, after)) = grown_end (failed failure) r (Failed failure) next after
 
   grown_aborted : (next : State) → Follows goals system s (entry aborted) next → IsGrown goals next
   grown_aborted next (r, inl late) = grown_end aborted r Idle next late.1
@@ -219,6 +221,6 @@ module _ (goals : ℕ) (system : System) (s : State) (grown : IsGrown goals s) (
   pub grown_later : (event : Event) (next : State) → Follows goals system s (entry event) next → IsGrown goals next
   grown_later (claimed problem strategy) next f = grown_claim problem strategy next f
   grown_later (found step) next f = grown_found step next f
-  grown_later (failed spent) next f = grown_failed spent next f
+  grown_later (failed failure) next f = grown_failed failure next f
   grown_later cancelled next (r, late) = grown_end cancelled r Idle next late.1
   grown_later aborted next f = grown_aborted next f

@@ -10,14 +10,14 @@ use Rattle.tree_state.specs.cert_step.declared.claim.Claim.{Claim}
 use Rattle.tree_state.specs.cert_step.declared.claim.Claim.TheVariants as claim
 use Rattle.tree_state.proofs.cert_step.Soundness.{sound_step}
 use Rattle.tree_state.specs.tree_definitions.declared.question.Question.{Question}
-use Rattle.tree_state.specs.tree_definitions.Questions.{roots, claims}
+use Rattle.tree_state.specs.tree_definitions.Questions.{claims}
 use Rattle.tree_state.specs.tree_definitions.States.{TreeNode, Decided}
 use Rattle.tree_state.specs.tree_definitions.Verdicts.{IsClosed, closed}
 use Rattle.tree_state.specs.tree_definitions.Legal.{IsLegallyDecided}
 use Rattle.tree_state.specs.Parts.{Parts}
-use Rattle.tree_state.proofs.tree_definitions.Lookups.{one_value, get_below}
+use Rattle.tree_state.proofs.tree_definitions.Lookups.{one_value}
 use Rattle.tree_core.specs.Invariant.{IsTree}
-use Rattle.tree_core.proofs.Accepted.{claims_fit}
+use Rattle.tree_state.proofs.tree_definitions.Roots.{root_below, claims_fit}
 
 each_holds : (system : System) (ps : List ProofProblem) → ((k : ℕ) (q : ProofProblem) → slice_get ps k ≡ Some q → Holds system q) → AllHold system ps
 each_holds system [] h = tt
@@ -61,7 +61,7 @@ module _ (question : Question) (system : System) (budget : ℕ) (p : Parts) (tre
   pub won_says : (g : ℕ) → p.state.winner ≡ Some g → (c : Claim) → slice_get (claims question) g ≡ Some c → Says system c
   won_says g e c is =
       let won = tree.counted.winner g e in
-      let q = get_below (roots question) g won.0 in
+      let q = root_below question g won.0 in
       let r = tree.rooted g q.0 q.1 in
       let h = closed_holds system tree.valid.is_system budget p.state.nodes tree.legal.decided g won.1 r.node r.there in
       let fits = ap plain r.problem_is ∙ claims_fit question g q.0 c q.1 is in

@@ -2,7 +2,7 @@
 use Rattle.std.specs.Prelude.{◌≤◌, ℕ, ◌+◌, ◌*◌, ◌||◌, cond, List, [], ◌∷◌, length}
 use Rattle.std.specs.Option.{is_some}
 use Rattle.tree_state.specs.strategies.TaskBounds.{tasks_below, tasks_of_all}
-use Rattle.tree_state.specs.declared.goal.Goal.{Goal}
+use Rattle.tree_state.specs.declared.goal_state.GoalState.{GoalState}
 use Rattle.tree_state.specs.tree_definitions.declared.mark.Mark.{Mark}
 use Rattle.tree_state.specs.tree_definitions.declared.question.Question.{Question}
 use Rattle.tree_state.specs.tree_definitions.Marks.{is_idle}
@@ -15,10 +15,10 @@ count_idle [] = 0
 count_idle (m ∷ marks) = cond (is_idle m) 1 0 + count_idle marks
 
 -- of a node and those below it: none where it is decided or its goal is lost
-abbrev pub claims_of : ℕ → List Goal → TreeNode → ℕ
+abbrev pub claims_of : ℕ → List GoalState → TreeNode → ℕ
 claims_of pairs goals node = cond (is_some node.decision || is_lost_in goals node.goal) 0 (count_idle node.marks + tasks_below pairs node.problem)
 
-abbrev pub claims_of_all : ℕ → List Goal → List TreeNode → ℕ
+abbrev pub claims_of_all : ℕ → List GoalState → List TreeNode → ℕ
 claims_of_all pairs goals [] = 0
 claims_of_all pairs goals (node ∷ nodes) = claims_of pairs goals node + claims_of_all pairs goals nodes
 

@@ -6,11 +6,11 @@ use Rattle.trs_core.specs.Valid.{IsValid}
 use Rattle.tree_state.specs.cert_step.ProofProblem.{ProofProblem, IsWellMadeProblem}
 use Rattle.tree_state.specs.strategies.declared.strategy.Strategy.{Strategy}
 use Rattle.tree_state.specs.strategies.Kinds.{strategies_for}
-use Rattle.tree_state.specs.declared.goal.Goal.{Goal}
+use Rattle.tree_state.specs.declared.goal_state.GoalState.{GoalState}
 use Rattle.tree_state.specs.tree_definitions.declared.mark.Mark.TheVariants.{Running}
 use Rattle.tree_state.specs.tree_definitions.declared.ticket.Ticket.{Ticket}
 use Rattle.tree_state.specs.tree_definitions.declared.question.Question.{Question}
-use Rattle.tree_state.specs.tree_definitions.Questions.{goals_of, roots}
+use Rattle.tree_state.specs.tree_definitions.Questions.{goal_count, roots}
 use Rattle.tree_state.specs.tree_definitions.History.{HistoryEntry, mentions, of_seat, IsOwned, IsGiven}
 use Rattle.tree_state.specs.tree_definitions.States.{TreeNode, State, Decided, IsChild, HasTask, opening}
 use Rattle.tree_state.specs.tree_definitions.Verdicts.{IsWon, IsLost}
@@ -61,14 +61,14 @@ count_running [] = 0
 count_running (t ∷ ts) = cond t.is_running 1 0 + count_running ts
 
 -- the counts and flags of a goal are right
-pub record IsCounted (nodes : List TreeNode) (g : ℕ) (goal : Goal) : Type 0 where
+pub record IsCounted (nodes : List TreeNode) (g : ℕ) (goal : GoalState) : Type 0 where
   pub open_is : goal.open_nodes ≡ opens g nodes
   pub lost : goal.is_lost ≡ true → IsLost nodes g
   pub not_lost : IsLost nodes g → goal.is_lost ≡ true
 
 pub record AreCounted (goals : ℕ) (p : Parts) : Type 0 where
   pub length_is : length p.goals ≡ goals
-  pub each : (g : ℕ) (goal : Goal) → slice_get p.goals g ≡ Some goal → IsCounted p.state.nodes g goal
+  pub each : (g : ℕ) (goal : GoalState) → slice_get p.goals g ≡ Some goal → IsCounted p.state.nodes g goal
   pub winner : (g : ℕ) → p.state.winner ≡ Some g → (g < goals) × IsWon p.state.nodes g
   pub no_winner : p.state.winner ≡ None → (g : ℕ) → g < goals → IsWon p.state.nodes g → ⊥
   pub only : (g : ℕ) → g < goals → IsWon p.state.nodes g → p.state.winner ≡ Some g
@@ -97,12 +97,12 @@ AreTasks history s =
 
 pub record IsTree (question : Question) (system : System) (budget : ℕ) (p : Parts) : Type 0 where
   pub valid : IsValid system
-  pub replays : Replays (goals_of question) system (opening question) p.history p.state
-  pub legal : IsLegal (goals_of question) system budget p.state
+  pub replays : Replays (goal_count question) system (opening question) p.history p.state
+  pub legal : IsLegal (goal_count question) system budget p.state
   pub well_made : (n : ℕ) (node : TreeNode) → slice_get p.state.nodes n ≡ Some node → IsWellMadeProblem system node.problem
   pub rooted : (g : ℕ) (q : ProofProblem) → slice_get (roots question) g ≡ Some q → Carries p.state.nodes g g q
-  pub shaped : IsShaped (goals_of question) p.state
-  pub counted : AreCounted (goals_of question) p
+  pub shaped : IsShaped (goal_count question) p.state
+  pub counted : AreCounted (goal_count question) p
   pub is_told : IsTold p.history p.state.tickets
   pub given : AreTasks p.history p.state
   pub bounded : IsBounded question (pairs_in system) p

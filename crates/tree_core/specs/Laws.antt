@@ -3,7 +3,7 @@ use Rattle.std.specs.Prelude.{◌≡◌, ℕ, List, Some, slice_get}
 use Rattle.trs_defs.specs.System.{System}
 use Rattle.tree_state.specs.cert_step.declared.claim.Claim.{Claim}
 use Rattle.tree_state.specs.tree_definitions.declared.question.Question.{Question}
-use Rattle.tree_state.specs.tree_definitions.Questions.{goals_of, claims}
+use Rattle.tree_state.specs.tree_definitions.Questions.{goal_count, claims}
 use Rattle.tree_state.specs.tree_definitions.History.{HistoryEntry}
 use Rattle.tree_state.specs.tree_definitions.States.{State, opening}
 use Rattle.tree_state.specs.tree_definitions.Events.{Replays}
@@ -13,8 +13,8 @@ use Rattle.tree_state.specs.tree_definitions.Trees.{ProofTree}
 abbrev pub ReplaysAreOne : Type 0
 ReplaysAreOne =
     (question : Question) (system : System) (history : List HistoryEntry) (state other : State)
-    → Replays (goals_of question) system (opening question) history state
-    → Replays (goals_of question) system (opening question) history other → state ≡ other
+    → Replays (goal_count question) system (opening question) history state
+    → Replays (goal_count question) system (opening question) history other → state ≡ other
 
 -- the goal that was won first claims this
 abbrev pub IsWonBy : ProofTree → Claim → Type 0

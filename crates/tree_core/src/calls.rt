@@ -6,7 +6,7 @@ ghost use Rattle.trs_core.specs.Valid.{IsValid};
 ghost use Rattle.tree_state.specs.cert_step.ProofStep.{node_step_of, IsWellMade};
 ghost use Rattle.tree_state.specs.tree_definitions.Reports.{AreStepsOf, IsFoundStep};
 ghost use Rattle.tree_state.specs.cert_step.Nodes.{IsAccepted};
-ghost use Rattle.tree_state.specs.tree_definitions.Questions.{goals_of, claims};
+ghost use Rattle.tree_state.specs.tree_definitions.Questions.{goal_count, claims};
 ghost use Rattle.tree_state.specs.tree_definitions.History.{Runs, IsOwned, IsFresh, aborted};
 ghost use Rattle.tree_state.specs.strategies.Truth.{found_of};
 ghost use Rattle.tree_state.specs.Seen.{event_of as event_seen};
@@ -21,8 +21,8 @@ ghost use Rattle.tree_state.specs.tree_definitions.Replies.{IfTask, IsRunnable};
 use crate::tree::Tree;
 use std::alloc::Global;
 use tree_state::{
-    Aborted, Board, Claim, Claimed, Event, Findings, Limits, Mark, Outcome, Polled, Posted, Proof,
-    Question, Task, Verdict,
+    Aborted, Board, Claim, Claimed, Event, Failure, Findings, Limits, Mark, Outcome, Polled,
+    Posted, Proof, Question, Task, Verdict, goals_of,
 };
 use trs_core::{OutOfMemory, Trs};
 
@@ -42,7 +42,7 @@ impl<'a> Tree<'a> {
           state = opening question;
         }) }
     {
-        check_valid(system);
+        systems_are_valid(system);
         let board = Board::new(alloc, question)?;
         Ok(Tree {
             question,
@@ -117,8 +117,8 @@ impl<'a> Tree<'a> {
         }
         match outcome.into_findings() {
             Findings::Found(step, left) => self.board.decide(ticket, step, left),
-            Findings::NotThere => self.board.fail(ticket, false),
-            Findings::Spent => self.board.fail(ticket, true),
+            Findings::NotThere => self.board.fail(ticket, Failure::NotThere),
+            Findings::Spent => self.board.fail(ticket, Failure::Spent),
         }
         Ok(Posted::Taken)
     }
@@ -178,9 +178,9 @@ impl<'a> Tree<'a> {
     pub fn history_len(&self) -> u64
         ensures length { result ≡ length self.now.history }
         ensures bound { length self.now.history < 2 ^ 21 }
-        ensures replays { Replays (goals_of self.now.question) self.now.system
+        ensures replays { Replays (goal_count self.now.question) self.now.system
             (opening self.now.question) self.now.history self.now.state }
-        ensures legal { IsLegal (goals_of self.now.question) self.now.system self.now.budget
+        ensures legal { IsLegal (goal_count self.now.question) self.now.system self.now.budget
             self.now.state }
 
         // All entries about a ticket are of one seat, and none is about a ticket not yet given.
@@ -188,8 +188,8 @@ impl<'a> Tree<'a> {
         ensures fresh { IsFresh (length self.now.state.tickets) self.now.history }
 
         // At most one goal is ever won.
-        ensures once { (g h : ℕ) → g < goals_of self.now.question
-            → h < goals_of self.now.question → IsWon self.now.state.nodes g
+        ensures once { (g h : ℕ) → g < goal_count self.now.question
+            → h < goal_count self.now.question → IsWon self.now.state.nodes g
             → IsWon self.now.state.nodes h → g ≡ h }
     {
         self.board.history_len() as u64
@@ -214,8 +214,8 @@ impl<'a> Tree<'a> {
     }
 }
 
-// What is known of each system. There is nothing to run.
-fn check_valid(system: &Trs)
+// A law, with nothing to run but the reading of the system: each system is valid.
+fn systems_are_valid(system: &Trs)
     ensures { IsValid system.now }
 {
     let _rules = system.rules();
@@ -227,8 +227,8 @@ fn event_of(findings: Findings) -> Event
 {
     match findings {
         Findings::Found(step, _) => Event::Found(step),
-        Findings::NotThere => Event::Failed(false),
-        Findings::Spent => Event::Failed(true),
+        Findings::NotThere => Event::Failed(Failure::NotThere),
+        Findings::Spent => Event::Failed(Failure::Spent),
     }
 }
 
@@ -244,23 +244,8 @@ fn count_left(findings: &Findings) -> usize
 
 // What a goal claims.
 fn claim_of(question: Question, goal: u32) -> Claim
-    requires { goal < goals_of question }
+    requires { goal < goal_count question }
     ensures { slice_get (claims question) goal ≡ Some result }
 {
-    match question {
-        Question::Termination => match goal {
-            0 => Claim::Terminating,
-            _ => Claim::Nonterminating,
-        },
-        Question::Confluence => match goal {
-            0 => Claim::Confluent,
-            1 => Claim::Confluent,
-            _ => Claim::Nonconfluent,
-        },
-        Question::Unique => match goal {
-            0 => Claim::Unique,
-            1 => Claim::Unique,
-            _ => Claim::Nonunique,
-        },
-    }
+    goals_of(question)[goal as usize].claim()
 }

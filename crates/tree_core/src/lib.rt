@@ -7,10 +7,13 @@ mod laws;
 mod reporting;
 mod tree;
 
-pub use laws::{opposite_claims_are_not_both_won, replays_are_one, won_claims_are_true};
+pub use laws::{
+    lost_goals_have_a_true_report, opposite_claims_are_not_both_won, replays_are_one,
+    won_claims_are_true,
+};
 pub use tree::Tree;
 pub use tree_state::{
-    Aborted, Claim, Claimed, Findings, GoalReport, GraphItem, Join, Limits, Mark, NodeStep,
-    Outcome, Polled, Posted, Problem, Question, Ran, Report, Searcher, Step, Strategy, Tables,
-    Task, Ticket, Verdict, run_strategy, strategies_of,
+    Aborted, Claim, Claimed, Failure, Findings, GoalReport, GraphItem, Join, Limits, Mark,
+    NodeStep, Outcome, Polled, Posted, Problem, Question, Ran, Report, Searcher, Step, Strategy,
+    Tables, Task, Ticket, Verdict, run_strategy, strategies_of,
 };

@@ -1,7 +1,7 @@
 //! The report of a tree of which each goal is lost.
 ghost use Rattle.std.specs.Prelude.{◌≡◌, ◌<◌, ℕ, Some, All, map, slice_get, IfOk};
 ghost use Rattle.tree_state.specs.cert_step.ProofStep.{IsWellMade};
-ghost use Rattle.tree_state.specs.tree_definitions.Questions.{goals_of};
+ghost use Rattle.tree_state.specs.tree_definitions.Questions.{goal_count};
 ghost use Rattle.tree_state.specs.tree_definitions.Verdicts.{IsLost};
 ghost use Rattle.tree_state.specs.tree_definitions.Replies.{IsVerdict};
 ghost use Rattle.tree_state.specs.tree_definitions.Reports.{Part, part_of, ArePartsOf, IsTrueReport};
@@ -9,7 +9,7 @@ ghost use Rattle.tree_core.specs.Reported.{IsReported};
 
 use crate::tree::Tree;
 use std::alloc::Global;
-use tree_state::{GoalReport, Question, Report, Verdict};
+use tree_state::{GoalReport, Report, Verdict, goals_of};
 use trs_core::OutOfMemory;
 
 impl<'a> Tree<'a> {
@@ -27,7 +27,7 @@ impl<'a> Tree<'a> {
             self.now.budget (map part_of r.goals.items)) }
     {
         let mut goals = Vec::new(alloc);
-        for goal in 0..count_goals(self.question) {
+        for goal in 0..goals_of(self.question).len() as u32 {
             let part = self.goal_report(alloc, goal)?;
             goals.push(part)?;
         }
@@ -36,7 +36,7 @@ impl<'a> Tree<'a> {
 
     // What is reported of a goal.
     fn goal_report(&self, alloc: Global, goal: u32) -> Result<GoalReport, OutOfMemory>
-        requires goal { goal < goals_of self.now.question }
+        requires goal { goal < goal_count self.now.question }
         requires lost { IsLost self.now.state.nodes goal }
         ensures { IfOk result (λ r. IsReported self.now goal (part_of r)) }
     {
@@ -55,15 +55,5 @@ impl<'a> Tree<'a> {
             problem,
             failed,
         })
-    }
-}
-
-// How many goals a question has.
-fn count_goals(question: Question) -> u32
-    ensures { result ≡ goals_of question }
-{
-    match question {
-        Question::Termination => 2,
-        Question::Confluence | Question::Unique => 3,
     }
 }

@@ -2,5 +2,6 @@
 pub use Rattle.strategies.proofs.cert_step
 pub use Rattle.strategies.proofs as strategies
 pub mod Lookups
+pub mod Roots
 pub mod Weights
 pub mod Mentions

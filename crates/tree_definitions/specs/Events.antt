@@ -95,9 +95,9 @@ Follows goals system s e later = go e.event
     go (claimed problem strategy) = Claims goals s e problem strategy later
     go (found step) =
         (r : RunsAt s e) × (EndsLate goals s e r later ⊎ ((IsOver goals s r.node → ⊥) × Decides goals system s e.ticket r.ticket r.node step later))
-    go (failed spent) =
+    go (failed failure) =
         (r : RunsAt s e)
-        × (EndsLate goals s e r later ⊎ ((IsOver goals s r.node → ⊥) × (later ≡ ended s e.ticket r.ticket r.node (Failed spent))))
+        × (EndsLate goals s e r later ⊎ ((IsOver goals s r.node → ⊥) × (later ≡ ended s e.ticket r.ticket r.node (Failed failure))))
     go cancelled = (r : RunsAt s e) × EndsLate goals s e r later
     go aborted =
         (r : RunsAt s e)

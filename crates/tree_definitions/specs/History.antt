@@ -1,15 +1,16 @@
 -- The history of a proof tree.
-use Rattle.std.specs.Prelude.{◌≡◌, ◌+◌, ◌<◌, ◌≤◌, ℕ, Bool, eqb, cond, List, [], ◌∷◌}
+use Rattle.std.specs.Prelude.{◌≡◌, ◌+◌, ◌<◌, ◌≤◌, ℕ, eqb, cond, List, [], ◌∷◌}
 use Rattle.trs_defs.specs.Member.{In}
 use Rattle.strategies.specs.cert_step.ProofProblem.{ProofProblem}
 use Rattle.strategies.specs.cert_step.ProofStep.{ProofStep}
+use Rattle.strategies.specs.declared.failure.Failure.{Failure}
 use Rattle.strategies.specs.declared.strategy.Strategy.{Strategy}
 
 -- what became of a ticket: it was given for a strategy of a problem, or it ended
 pub data Event : Type 0 where
   claimed : (problem : ProofProblem) (strategy : Strategy) → Event
   found : (step : ProofStep) → Event
-  failed : (spent : Bool) → Event
+  failed : (failure : Failure) → Event
   cancelled : Event
   aborted : Event
 

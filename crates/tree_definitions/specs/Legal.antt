@@ -1,10 +1,11 @@
 -- When the state of a proof tree is legal.
-use Rattle.std.specs.Prelude.{◌≡◌, ◌+◌, ◌≤◌, ℕ, Bool, true, List, length, Some, slice_get}
+use Rattle.std.specs.Prelude.{◌≡◌, ◌+◌, ◌≤◌, ℕ, true, List, length, Some, slice_get}
 use Rattle.trs_defs.specs.System.{System}
 use Rattle.trs_defs.specs.Member.{In}
 use Rattle.strategies.specs.cert_step.ProofProblem.{ProofProblem}
 use Rattle.strategies.specs.cert_step.ProofStep.{IsWellMade}
 use Rattle.strategies.specs.cert_step.Applies.{Applies}
+use Rattle.strategies.specs.declared.failure.Failure.{Failure}
 use Rattle.strategies.specs.declared.strategy.Strategy.{Strategy}
 use Rattle.strategies.specs.Kinds.{strategies_for}
 use Rattle.strategies.specs.Conditions.{Finds, Fails}
@@ -49,8 +50,8 @@ pub record Names (nodes : List TreeNode) (t : Ticket) : Type 0 where
 pub record IsLegal (goals : ℕ) (system : System) (budget : ℕ) (s : State) : Type 0 where
   pub decided : (n : ℕ) (node : TreeNode) (d : Decided) → slice_get s.nodes n ≡ Some node → node.decision ≡ Some d
       → IsLegallyDecided system budget s.nodes node d
-  pub failed : (n place : ℕ) (node : TreeNode) (spent : Bool) → slice_get s.nodes n ≡ Some node → slice_get node.marks place ≡ Some (Failed spent)
-      → (strategy : Strategy) × (slice_get (strategies_for node.problem) place ≡ Some strategy) × Fails system budget strategy node.problem spent
+  pub failed : (n place : ℕ) (node : TreeNode) (failure : Failure) → slice_get s.nodes n ≡ Some node → slice_get node.marks place ≡ Some (Failed failure)
+      → (strategy : Strategy) × (slice_get (strategies_for node.problem) place ≡ Some strategy) × Fails system budget strategy node.problem failure
   -- each node but the roots is the child of one decided node, which is of its goal
   pub born : (n : ℕ) (node : TreeNode) → goals ≤ n → slice_get s.nodes n ≡ Some node
       → (m : ℕ) × (c : IsChildOf s.nodes n m) × (c.parent.goal ≡ node.goal)

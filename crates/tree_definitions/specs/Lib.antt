@@ -2,6 +2,7 @@
 pub use Rattle.strategies.specs.cert_step
 pub use Rattle.strategies.specs.conf_find
 pub use Rattle.strategies.specs as strategies
+pub mod Goals
 pub mod Questions
 pub mod History
 pub mod Marks

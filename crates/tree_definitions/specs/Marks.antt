@@ -8,5 +8,5 @@ is_idle Idle = true
 is_idle _ = false
 
 abbrev pub has_failed : Mark → Bool
-has_failed (Failed spent) = true
+has_failed (Failed failure) = true
 has_failed _ = false

@@ -1,22 +1,26 @@
 -- The goals of a question.
-use Rattle.std.specs.Prelude.{ℕ, List, [], ◌∷◌, length}
-use Rattle.strategies.specs.cert_step.ProofProblem.{ProofProblem, sn, loop, cr, cr_newman, fork, unr, unr_newman, split}
+use Rattle.std.specs.Prelude.{ℕ, List, [], ◌∷◌, map, length}
+use Rattle.strategies.specs.cert_step.ProofProblem.{ProofProblem}
 use Rattle.strategies.specs.cert_step.declared.claim.Claim.{Claim}
-use Rattle.strategies.specs.cert_step.declared.claim.Claim.TheVariants as claim
+use Rattle.tree_definitions.specs.declared.goal.Goal.{Goal}
+use Rattle.tree_definitions.specs.declared.goal.Goal.TheVariants as goal
 use Rattle.tree_definitions.specs.declared.question.Question.{Question}
 use Rattle.tree_definitions.specs.declared.question.Question.TheVariants.{Termination, Confluence, Unique}
+use Rattle.tree_definitions.specs.Goals.{goal_root, goal_claim}
+
+-- the goals, in order
+abbrev pub goals_for : Question → List Goal
+goals_for Termination = goal.Terminating ∷ goal.Nonterminating ∷ []
+goals_for Confluence = goal.Confluent ∷ goal.ConfluentNewman ∷ goal.Nonconfluent ∷ []
+goals_for Unique = goal.Unique ∷ goal.UniqueNewman ∷ goal.Nonunique ∷ []
+
+abbrev pub goal_count : Question → ℕ
+goal_count question = length (goals_for question)
 
 -- the problem with which each goal begins, in the order of the goals
 abbrev pub roots : Question → List ProofProblem
-roots Termination = sn ∷ loop ∷ []
-roots Confluence = cr ∷ cr_newman ∷ fork ∷ []
-roots Unique = unr ∷ unr_newman ∷ split ∷ []
+roots question = map goal_root (goals_for question)
 
 -- what each goal claims
 abbrev pub claims : Question → List Claim
-claims Termination = claim.Terminating ∷ claim.Nonterminating ∷ []
-claims Confluence = claim.Confluent ∷ claim.Confluent ∷ claim.Nonconfluent ∷ []
-claims Unique = claim.Unique ∷ claim.Unique ∷ claim.Nonunique ∷ []
-
-abbrev pub goals_of : Question → ℕ
-goals_of question = length (roots question)
+claims question = map goal_claim (goals_for question)

@@ -16,7 +16,7 @@ use Rattle.tree_definitions.specs.declared.answers.Posted.TheVariants as posted
 use Rattle.tree_definitions.specs.declared.answers.Verdict.{Verdict}
 use Rattle.tree_definitions.specs.declared.answers.Verdict.TheVariants.{Won, Maybe}
 use Rattle.tree_definitions.specs.declared.ticket.Ticket.{Ticket}
-use Rattle.tree_definitions.specs.Questions.{goals_of}
+use Rattle.tree_definitions.specs.Questions.{goal_count}
 use Rattle.tree_definitions.specs.History.{HistoryEntry, Event, claimed, found, failed, cancelled, of_seat, Runs, IsGiven}
 use Rattle.tree_definitions.specs.States.{TreeNode, State}
 use Rattle.tree_definitions.specs.Verdicts.{IsLost, AllLost, IsDone}
@@ -25,7 +25,7 @@ use Rattle.tree_definitions.specs.Trees.{ProofTree}
 
 -- one entry is made, by which the state follows from the state before
 pub record Adds (old : ProofTree) (e : HistoryEntry) (new : ProofTree) : Type 0 where
-  pub follows : Follows (goals_of old.question) old.system old.state e new.state
+  pub follows : Follows (goal_count old.question) old.system old.state e new.state
   pub tree : new ≡ record old { history = old.history ++ e ∷ []; state = new.state }
 
 -- the claim's entry names the task, and is all that the seat's own entries say of its ticket
@@ -46,7 +46,7 @@ IfTask fact Done = Unit {0}
 
 -- nothing can be claimed, and some ticket is running
 pub record IsAgain (old : ProofTree) : Type 0 where
-  pub going : IsDone (goals_of old.question) old.state → ⊥
+  pub going : IsDone (goal_count old.question) old.state → ⊥
   pub none : (n place : ℕ) (node : TreeNode) → IsFree old.state n place node → ⊥
   pub ticket : ℕ
   pub runs : Runs ticket old.history
@@ -54,7 +54,7 @@ pub record IsAgain (old : ProofTree) : Type 0 where
 abbrev pub IsClaim : ProofTree → ℕ → ProofTree → Claimed → Type 0
 IsClaim old seat new (TaskOf task) = IsTask old seat new task
 IsClaim old seat new Again = IsAgain old × (new ≡ old)
-IsClaim old seat new Done = IsDone (goals_of old.question) old.state × (new ≡ old)
+IsClaim old seat new Done = IsDone (goal_count old.question) old.state × (new ≡ old)
 
 -- the ticket's node in the state
 pub record NodeOf (s : State) (number : ℕ) : Type 0 where
@@ -65,7 +65,7 @@ pub record NodeOf (s : State) (number : ℕ) : Type 0 where
 
 -- no answer is wanted under the ticket any more
 abbrev pub IsUnwanted : ProofTree → ℕ → Type 0
-IsUnwanted tree number = (at : NodeOf tree.state number) × IsOver (goals_of tree.question) tree.state at.node
+IsUnwanted tree number = (at : NodeOf tree.state number) × IsOver (goal_count tree.question) tree.state at.node
 
 -- one entry of this ticket is made, which says this, and is of the seat that claimed it
 pub record Notes (old : ProofTree) (number : ℕ) (event : Event) (new : ProofTree) : Type 0 where
@@ -79,7 +79,7 @@ IsPoll old number new Cancelled = IsUnwanted old number × Notes old number canc
 
 abbrev pub event_of_found : Found → Event
 event_of_found (strategy.found step left) = found step
-event_of_found (strategy.failed spent) = failed spent
+event_of_found (strategy.failed failure) = failed failure
 
 abbrev pub IsPost : ProofTree → ℕ → Event → ProofTree → Posted → Type 0
 IsPost old number event new posted.Late = IsUnwanted old number × Notes old number event new
@@ -88,19 +88,19 @@ IsPost old number event new posted.Taken = (IsUnwanted old number → ⊥) × No
 -- how many problems are left
 abbrev pub left_of : Found → ℕ
 left_of (strategy.found step left) = length left
-left_of (strategy.failed spent) = 0
+left_of (strategy.failed failure) = 0
 
 -- only a step that leaves problems can want memory
 abbrev pub LeavesProblems : Found → Type 0
 LeavesProblems (strategy.found step left) = left ≡ [] → ⊥
-LeavesProblems (strategy.failed spent) = ⊥
+LeavesProblems (strategy.failed failure) = ⊥
 
 -- the verdict that stands
 abbrev pub IsVerdict : ProofTree → Option Verdict → Type 0
 IsVerdict tree (Some (Won g)) = tree.state.winner ≡ Some g
-IsVerdict tree (Some Maybe) = (tree.state.winner ≡ None) × AllLost (goals_of tree.question) tree.state.nodes
+IsVerdict tree (Some Maybe) = (tree.state.winner ≡ None) × AllLost (goal_count tree.question) tree.state.nodes
 IsVerdict tree None =
-    (tree.state.winner ≡ None) × ((g : ℕ) × (g < goals_of tree.question) × (IsLost tree.state.nodes g → ⊥))
+    (tree.state.winner ≡ None) × ((g : ℕ) × (g < goal_count tree.question) × (IsLost tree.state.nodes g → ⊥))
 
 -- the outcome is of the tree's system and budget, and of the task for which the ticket was given
 pub record IsTaskOf (tree : ProofTree) (number : ℕ) (outcome : Run) : Type 0 where

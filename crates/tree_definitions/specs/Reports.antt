@@ -1,18 +1,20 @@
 -- The proof of a goal that was won, and the report of one that was lost.
 use Rattle.std.proofs.Common.{zero, suc}
-use Rattle.std.specs.Prelude.{◌≡◌, ◌+◌, ◌<◌, ℕ, Bool, List, [], ◌∷◌, ◌++◌, map, length, Option, Some, None, slice_get}
+use Rattle.std.specs.Prelude.{◌≡◌, ◌+◌, ◌<◌, ℕ, Bool, true, false, List, [], ◌∷◌, ◌++◌, map, length, Option, Some, None, slice_get}
 use Rattle.trs_defs.specs.System.{System}
 use Rattle.trs_defs.specs.Member.{In}
 use Rattle.strategies.specs.cert_step.ProofProblem.{ProofProblem, problem_of, IsWellMadeProblem}
 use Rattle.strategies.specs.cert_step.ProofStep.{ProofStep, ProofNodeStep, node_step_of}
 use Rattle.strategies.specs.cert_step.Nodes.{Makes, open_node}
 use Rattle.strategies.specs.cert_step.Nodes as proof
+use Rattle.strategies.specs.declared.failure.Failure.{Failure}
+use Rattle.strategies.specs.declared.failure.Failure.TheVariants.{NotThere, Spent}
 use Rattle.strategies.specs.declared.strategy.Strategy.{Strategy}
 use Rattle.strategies.specs.Kinds.{strategies_for}
 use Rattle.strategies.specs.Conditions.{Finds, Fails}
 use Rattle.tree_definitions.specs.declared.question.Question.{Question}
 use Rattle.tree_definitions.specs.declared.report.GoalReport.{GoalReport}
-use Rattle.tree_definitions.specs.Questions.{roots, goals_of}
+use Rattle.tree_definitions.specs.Questions.{roots, goal_count}
 use Rattle.tree_definitions.specs.States.{TreeNode, Decided}
 use Rattle.tree_definitions.specs.Verdicts.{IsStuck}
 
@@ -66,7 +68,15 @@ pub record Part : Type 0 where
   pub steps : List ProofNodeStep
   pub node : ℕ
   pub problem : ProofProblem
-  pub failed : List (Strategy × Bool)
+  pub failed : List (Strategy × Failure)
+
+-- why a strategy failed, by whether its budget was spent
+abbrev pub failure_by : Bool → Failure
+failure_by false = NotThere
+failure_by true = Spent
+
+abbrev pub failed_of : Strategy × Bool → Strategy × Failure
+failed_of f = (f.0, failure_by f.1)
 
 abbrev pub part_of : GoalReport → Part
 part_of r = record {
@@ -74,11 +84,11 @@ part_of r = record {
   steps = map node_step_of r.steps.items;
   node = r.node;
   problem = problem_of r.problem;
-  failed = r.failed.items;
+  failed = map failed_of r.failed.items;
 }
 
--- each strategy, in order, fails as it is said
-abbrev pub AllFail : System → ℕ → ProofProblem → List Strategy → List (Strategy × Bool) → Type 0
+-- each strategy, in order, fails for the reason that is said
+abbrev pub AllFail : System → ℕ → ProofProblem → List Strategy → List (Strategy × Failure) → Type 0
 AllFail system budget p [] [] = Unit {0}
 AllFail system budget p (s ∷ ss) (f ∷ fs) = (f.0 ≡ s) × Fails system budget s p f.1 × AllFail system budget p ss fs
 AllFail system budget p _ _ = ⊥
@@ -93,7 +103,7 @@ pub record IsTruePart (system : System) (budget : ℕ) (root : ProofProblem) (pa
 
 -- one true part for each goal, in order
 pub record IsTrueReport (system : System) (question : Question) (budget : ℕ) (parts : List Part) : Type 0 where
-  pub count : length parts ≡ goals_of question
+  pub count : length parts ≡ goal_count question
   pub each : (g : ℕ) (root : ProofProblem) (part : Part) → slice_get (roots question) g ≡ Some root → slice_get parts g ≡ Some part
       → (part.goal ≡ g) × IsTruePart system budget root part
 

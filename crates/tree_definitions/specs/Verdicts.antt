@@ -1,5 +1,6 @@
 -- When a node is closed or stuck, a goal is won or lost, and which verdict stands.
-use Rattle.std.specs.Prelude.{◌≡◌, ◌<◌, ◌⊎◌, ℕ, Bool, true, List, Option, Some, None, slice_get}
+use Rattle.std.specs.Prelude.{◌≡◌, ◌<◌, ◌⊎◌, ℕ, true, List, Option, Some, None, slice_get}
+use Rattle.strategies.specs.declared.failure.Failure.{Failure}
 use Rattle.tree_definitions.specs.declared.mark.Mark.{Mark}
 use Rattle.tree_definitions.specs.declared.mark.Mark.TheVariants.{Failed}
 use Rattle.tree_definitions.specs.States.{TreeNode, State, Decided, IsChild}
@@ -10,7 +11,7 @@ pub data IsClosed (nodes : List TreeNode) : ℕ → Type 0 where
       → ((c : ℕ) → IsChild d c → IsClosed nodes c) → IsClosed nodes n
 
 abbrev pub HasFailed : Mark → Type 0
-HasFailed mark = (spent : Bool) × (mark ≡ Failed spent)
+HasFailed mark = (failure : Failure) × (mark ≡ Failed failure)
 
 -- the node is open, and each strategy of its problem has failed
 pub record IsStuck (node : TreeNode) : Type 0 where

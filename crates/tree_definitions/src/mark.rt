@@ -1,13 +1,14 @@
 ghost use Rattle.std.specs.Prelude.{◌≡◌};
 ghost use Rattle.tree_definitions.specs.Marks.{is_idle as idle, has_failed as failed};
 
-/// How a strategy of a node stands: it may be claimed, it runs, or it failed, by its budget (true)
-/// or by its search.
+use strategies::Failure;
+
+/// How a strategy of a node stands: it may be claimed, it runs, or it failed, for this reason.
 #[derive(Clone, Copy, Debug, PartialEq, Eq)]
 pub enum Mark {
     Idle,
     Running,
-    Failed(bool),
+    Failed(Failure),
 }
 
 impl Mark {

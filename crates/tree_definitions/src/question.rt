@@ -1,11 +1,29 @@
-/// What is asked of a system. Each question has goals, numbered from 0 in order, and each goal a
-/// problem with which it begins.
+ghost use Rattle.std.specs.Prelude.{◌≡◌};
+ghost use Rattle.tree_definitions.specs.Questions.{goals_for};
+
+use crate::Goal;
+
+/// What is asked of a system.
 #[derive(Clone, Copy, Debug, PartialEq, Eq)]
 pub enum Question {
-    /// The goals `terminating` and `nonterminating`.
     Termination,
-    /// The goals `confluent`, `confluent` by joined peaks and termination, and `nonconfluent`.
     Confluence,
-    /// The goals `unique`, `unique` by confluence by joined peaks and termination, and `nonunique`.
     Unique,
+}
+
+const TERMINATION: [Goal; 2] = [Goal::Terminating, Goal::Nonterminating];
+
+const CONFLUENCE: [Goal; 3] = [Goal::Confluent, Goal::ConfluentNewman, Goal::Nonconfluent];
+
+const UNIQUE: [Goal; 3] = [Goal::Unique, Goal::UniqueNewman, Goal::Nonunique];
+
+/// The goals of a question, which are numbered from 0 in order.
+pub fn goals_of(question: Question) -> &'static [Goal]
+    ensures { result.now ≡ goals_for question }
+{
+    match question {
+        Question::Termination => &TERMINATION,
+        Question::Confluence => &CONFLUENCE,
+        Question::Unique => &UNIQUE,
+    }
 }

@@ -1,9 +1,10 @@
 -- The changes of a board, put together from their parts.
-use Rattle.std.proofs.Common.{◌≡◌, ◌<◌, ◌+◌, ◌++◌, ◌∷◌, [], ℕ, zero, suc, Bool, List, length, map, set, Some, slice_get, refl, sym, ap, ◌∙◌, subst, arith}
+use Rattle.std.proofs.Common.{◌≡◌, ◌<◌, ◌+◌, ◌++◌, ◌∷◌, [], ℕ, zero, suc, List, length, map, set, Some, slice_get, refl, sym, ap, ◌∙◌, subst, arith}
 use Rattle.std.proofs.lemmas.List.{length-append, length-map}
 use Rattle.std.proofs.lemmas.Option.{slice_get_within}
 use Rattle.tree_definitions.specs.cert_step.ProofStep.{ProofStep}
 use Rattle.tree_definitions.specs.cert_step.ProofProblem.{ProofProblem}
+use Rattle.tree_definitions.specs.strategies.declared.failure.Failure.{Failure}
 use Rattle.tree_definitions.specs.declared.mark.Mark.{Mark}
 use Rattle.tree_definitions.specs.declared.mark.Mark.TheVariants.{Idle, Failed}
 use Rattle.tree_definitions.specs.declared.ticket.Ticket.{Ticket}
@@ -32,13 +33,13 @@ module _ (p q : Parts) (number : ℕ) (t : Ticket) (node : TreeNode) (event : Ev
   pub history_ended : length q.history ≡ length p.history + 1
   history_ended = ap (λ (x : Parts). length x.history) ends ∙ length-append p.history (record { seat = t.seat; ticket = number; event = event } ∷ [])
 
-pub fail_parts : (p q r : Parts) (number : ℕ) (t : Ticket) (node : TreeNode) (spent : Bool) → slice_get p.state.nodes t.node ≡ Some node
-    → q ≡ ended_parts p number t node (failed spent) (Failed spent)
+pub fail_parts : (p q r : Parts) (number : ℕ) (t : Ticket) (node : TreeNode) (failure : Failure) → slice_get p.state.nodes t.node ≡ Some node
+    → q ≡ ended_parts p number t node (failed failure) (Failed failure)
     → ((x : TreeNode) → slice_get q.state.nodes t.node ≡ Some x → r ≡ record q { goals = lost_if (all_failed x.marks) q.goals x.goal })
-    → r ≡ failed_parts p number t node spent
-fail_parts p q r number t node spent made ends next =
-    let x = marked node t.place (Failed spent) in
-    next x (node_ended p q number t node (failed spent) (Failed spent) made ends) ∙ ap (λ (y : Parts). record y { goals = lost_if (all_failed x.marks) y.goals x.goal }) ends
+    → r ≡ failed_parts p number t node failure
+fail_parts p q r number t node failure made ends next =
+    let x = marked node t.place (Failed failure) in
+    next x (node_ended p q number t node (failed failure) (Failed failure) made ends) ∙ ap (λ (y : Parts). record y { goals = lost_if (all_failed x.marks) y.goals x.goal }) ends
 
 get_last : {A : Type 0} (xs : List A) (y : A) → slice_get (xs ++ y ∷ []) (length xs) ≡ Some y
 get_last [] y = refl

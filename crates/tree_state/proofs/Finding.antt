@@ -3,7 +3,7 @@ use Rattle.std.proofs.Common.{◌≡◌, ◌<◌, ◌≤◌, ◌+◌, ◌==◌, 
 use Rattle.std.specs.Option.{is_some, MatchOption, option_map}
 use Rattle.std.proofs.lemmas.Bool.{eqb-true, eqb-false}
 use Rattle.std.proofs.lemmas.Option.{slice_get-map, slice_get-get_or}
-use Rattle.tree_state.specs.declared.goal.Goal.{Goal}
+use Rattle.tree_state.specs.declared.goal_state.GoalState.{GoalState}
 use Rattle.tree_state.specs.declared.node.Node.{Node}
 use Rattle.tree_definitions.specs.History.{HistoryEntry}
 use Rattle.tree_definitions.specs.States.{TreeNode}
@@ -19,13 +19,13 @@ there_at : (h : List HistoryEntry) (nodes : List Node) (k : ℕ) (x : Node) → 
 there_at h nodes k x lt is =
     slice_get-map (node_of h) nodes k ∙ ap (λ o. option_map (node_of h) o) (slice_get-get_or nodes k x lt ∙ ap (λ y. Some y) (sym is))
 
-pub found_there : (goals : List Goal) (nodes : List Node) (k : ℕ) (x : Node) (place : Option ℕ) → k < length nodes → x ≡ get_or nodes k x
+pub found_there : (goals : List GoalState) (nodes : List Node) (k : ℕ) (x : Node) (place : Option ℕ) → k < length nodes → x ≡ get_or nodes k x
     → ((h : List HistoryEntry) → place ≡ free_place goals (node_of h x)) → is_some place ≡ true
     → MatchOption place (length nodes ≤ k) (λ p. (h : List HistoryEntry) → (node : TreeNode) × (slice_get (map (node_of h) nodes) k ≡ Some node) × (free_place goals node ≡ Some p))
 found_there goals nodes k x None lt is free some = absurd cc
 found_there goals nodes k x (Some p) lt is free some = λ h. (node_of h x, there_at h nodes k x lt is, sym (free h))
 
-pub none_there : (goals : List Goal) (nodes : List Node) (k : ℕ) (x : Node) (place : Option ℕ) → x ≡ get_or nodes k x
+pub none_there : (goals : List GoalState) (nodes : List Node) (k : ℕ) (x : Node) (place : Option ℕ) → x ≡ get_or nodes k x
     → ((h : List HistoryEntry) → place ≡ free_place goals (node_of h x)) → is_some place ≡ false
     → (h : List HistoryEntry) (j : ℕ) (node : TreeNode) → j < k + 1 → slice_get (map (node_of h) nodes) j ≡ Some node
     → (j < k → slice_get (map (node_of h) nodes) j ≡ Some node → free_place goals node ≡ None) → free_place goals node ≡ None

@@ -3,7 +3,7 @@ use Rattle.std.proofs.Common.{◌≡◌, ℕ, zero, suc, ◌<◌, ◌+◌, Bool,
 use Rattle.std.specs.Option.{is_some}
 use Rattle.std.specs.List.{position_from}
 use Rattle.std.proofs.lemmas.Iterator.Adapters.{position_from-zero}
-use Rattle.tree_state.specs.declared.goal.Goal.{Goal}
+use Rattle.tree_state.specs.declared.goal_state.GoalState.{GoalState}
 use Rattle.tree_definitions.specs.declared.mark.Mark.{Mark}
 use Rattle.tree_definitions.specs.declared.mark.Mark.TheVariants.{Idle, Running, Failed}
 use Rattle.tree_definitions.specs.Marks.{is_idle}
@@ -70,18 +70,18 @@ position_set marks n old new t o w = position_from-zero is_idle (set marks n new
 pub idle_is : (m : Mark) → is_idle m ≡ true → m ≡ Idle
 idle_is Idle e = refl
 idle_is Running e = absurd cc
-idle_is (Failed spent) e = absurd cc
+idle_is (Failed failure) e = absurd cc
 
 pub not_idle : (m : Mark) → is_idle m ≡ false → m ≡ Idle → ⊥
 not_idle m e f = let g : is_idle m ≡ true = rw f refl in absurd cc
 
 -- what a node is whose strategy can be claimed
-pub record IsOpenAt (goals : List Goal) (node : TreeNode) (place : ℕ) : Type 0 where
+pub record IsOpenAt (goals : List GoalState) (node : TreeNode) (place : ℕ) : Type 0 where
   pub is_open : node.decision ≡ None
   pub not_lost : is_lost_in goals node.goal ≡ false
   pub first : IsFirstAt is_idle node.marks place
 
-pub open_at : (goals : List Goal) (node : TreeNode) (place : ℕ) → free_place goals node ≡ Some place → IsOpenAt goals node place
+pub open_at : (goals : List GoalState) (node : TreeNode) (place : ℕ) → free_place goals node ≡ Some place → IsOpenAt goals node place
 open_at goals node place e = go node.decision refl (is_lost_in goals node.goal) refl e
   where
     go : (d : Option Decided) → node.decision ≡ d → (b : Bool) → is_lost_in goals node.goal ≡ b → cond (is_some d || b) None (position is_idle node.marks) ≡ Some place → IsOpenAt goals node place
@@ -90,7 +90,7 @@ open_at goals node place e = go node.decision refl (is_lost_in goals node.goal) 
     go (Some x) d b f e = absurd cc
 
 -- of a node that is open and of a goal that is not lost, no strategy is idle where none can be claimed
-pub none_free : (goals : List Goal) (node : TreeNode) → free_place goals node ≡ None → node.decision ≡ None → is_lost_in goals node.goal ≡ false
+pub none_free : (goals : List GoalState) (node : TreeNode) → free_place goals node ≡ None → node.decision ≡ None → is_lost_in goals node.goal ≡ false
     → (m : ℕ) (y : Mark) → slice_get node.marks m ≡ Some y → is_idle y ≡ false
 none_free goals node e is_open not_lost = none_idle node.marks (sym position_is ∙ e)
   where

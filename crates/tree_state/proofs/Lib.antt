@@ -8,5 +8,6 @@ pub mod Appending
 pub mod Changes
 pub mod Idle
 pub mod Turns
+pub mod FirstRoots
 pub mod Steps
 pub mod Failures

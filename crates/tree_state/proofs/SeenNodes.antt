@@ -5,6 +5,7 @@ use Rattle.std.proofs.lemmas.List.{map-set, map-append, length-map}
 use Rattle.std.proofs.lemmas.Option.{slice_get_within}
 use Rattle.tree_definitions.specs.cert_step.ProofProblem as problem
 use Rattle.tree_definitions.specs.cert_step.ProofProblem.{ProofProblem, problem_of}
+use Rattle.tree_definitions.specs.strategies.declared.strategy.TheConstants.{MOST_STRATEGIES}
 use Rattle.tree_definitions.specs.strategies.Kinds.{strategies_for}
 use Rattle.tree_state.specs.declared.node.Node.{Node}
 use Rattle.tree_definitions.specs.declared.mark.Mark.{Mark}
@@ -68,7 +69,7 @@ set_decided h nodes n x node d is there =
     ap (λ (y : TreeNode). record y { decision = Some (decided_of h d) }) same in
     map-set (node_of h) nodes n (record x { decision = Some d }) ∙ ap (λ y. set (map (node_of h) nodes) n y) new
 
-few_strategies : (p : ProofProblem) → length (strategies_for p) ≤ 6
+few_strategies : (p : ProofProblem) → length (strategies_for p) ≤ MOST_STRATEGIES
 few_strategies problem.sn = omega arith
 few_strategies (problem.dp pairs) = omega arith
 few_strategies problem.loop = omega arith
@@ -79,16 +80,16 @@ few_strategies problem.unr = omega arith
 few_strategies problem.unr_newman = omega arith
 few_strategies problem.split = omega arith
 
-few_marks : (h : List HistoryEntry) (x : Node) → length (node_of h x).marks ≤ 6
+few_marks : (h : List HistoryEntry) (x : Node) → length (node_of h x).marks ≤ MOST_STRATEGIES
 few_marks h x = omega (arith, length_take_le (length (strategies_for (problem_of x.problem))) x.marks, few_strategies (problem_of x.problem))
 
--- a place among the marks of a node is below 6
+-- a place among the marks of a node is one of those that each node has
 pub place_fits : (h : List HistoryEntry) (nodes : List Node) (n place : ℕ) (node : TreeNode) → slice_get (map (node_of h) nodes) n ≡ Some node
-    → place < length node.marks → place < 6
+    → place < length node.marks → place < MOST_STRATEGIES
 place_fits h [] n place node there lt = absurd cc
 place_fits h (x ∷ nodes) zero place node there lt =
     let same : node_of h x ≡ node = cc in
-    let few : length node.marks ≤ 6 = subst (λ (y : TreeNode). length y.marks ≤ 6) same (few_marks h x) in
+    let few : length node.marks ≤ MOST_STRATEGIES = subst (λ (y : TreeNode). length y.marks ≤ MOST_STRATEGIES) same (few_marks h x) in
     omega (arith, few, lt)
 place_fits h (x ∷ nodes) (suc n) place node there lt = place_fits h nodes n place node there lt
 

@@ -4,8 +4,9 @@ use Rattle.std.specs.Option.{is_some}
 use Rattle.std.specs.List.{list_all}
 use Rattle.tree_definitions.specs.cert_step.ProofProblem.{ProofProblem}
 use Rattle.tree_definitions.specs.cert_step.ProofStep.{ProofStep}
+use Rattle.tree_definitions.specs.strategies.declared.failure.Failure.{Failure}
 use Rattle.tree_definitions.specs.strategies.declared.strategy.Strategy.{Strategy}
-use Rattle.tree_state.specs.declared.goal.Goal.{Goal}
+use Rattle.tree_state.specs.declared.goal_state.GoalState.{GoalState}
 use Rattle.tree_definitions.specs.declared.mark.Mark.{Mark}
 use Rattle.tree_definitions.specs.declared.mark.Mark.TheVariants.{Idle, Failed}
 use Rattle.tree_definitions.specs.declared.ticket.Ticket.{Ticket}
@@ -21,7 +22,7 @@ use Rattle.tree_definitions.specs.Events.{with_claim, ended, without, nodes_with
 pub record Parts : Type 0 where
   pub history : List HistoryEntry
   pub state : State
-  pub goals : List Goal
+  pub goals : List GoalState
   pub running : ℕ
   pub room : ℕ
   pub node_room : ℕ
@@ -30,15 +31,15 @@ pub record Parts : Type 0 where
 abbrev pub all_failed : List Mark → Bool
 all_failed marks = list_all has_failed marks
 
-abbrev pub all_lost : List Goal → Bool
-all_lost goals = list_all (λ (g : Goal). g.is_lost) goals
+abbrev pub all_lost : List GoalState → Bool
+all_lost goals = list_all (λ (g : GoalState). g.is_lost) goals
 
-abbrev pub lost_at : Option Goal → Bool
+abbrev pub lost_at : Option GoalState → Bool
 lost_at None = false
 lost_at (Some g) = g.is_lost
 
 -- whether the goal is lost
-abbrev pub is_lost_in : List Goal → ℕ → Bool
+abbrev pub is_lost_in : List GoalState → ℕ → Bool
 is_lost_in goals g = lost_at (slice_get goals g)
 
 -- whether a verdict stands, or the tree was aborted
@@ -53,23 +54,23 @@ abbrev pub is_over_by : Parts → TreeNode → Bool
 is_over_by p node = is_some node.decision || is_lost_in p.goals node.goal || is_done_by p
 
 -- the strategy of the node that can be claimed
-abbrev pub free_place : List Goal → TreeNode → Option ℕ
+abbrev pub free_place : List GoalState → TreeNode → Option ℕ
 free_place goals node = cond (is_some node.decision || is_lost_in goals node.goal) None (position is_idle node.marks)
 
 -- the goals when one of them is lost, if this is so
-abbrev pub lost_if : Bool → List Goal → ℕ → List Goal
+abbrev pub lost_if : Bool → List GoalState → ℕ → List GoalState
 lost_if false goals g = goals
 lost_if true goals g = set_lost (slice_get goals g)
   where
-    set_lost : Option Goal → List Goal
+    set_lost : Option GoalState → List GoalState
     set_lost None = goals
     set_lost (Some goal) = slice_set goals g (record goal { is_lost = true })
 
 -- the goals when a node of this one was decided and so many nodes were made
-abbrev pub opened : List Goal → ℕ → ℕ → List Goal
+abbrev pub opened : List GoalState → ℕ → ℕ → List GoalState
 opened goals g count = set_open (slice_get goals g)
   where
-    set_open : Option Goal → List Goal
+    set_open : Option GoalState → List GoalState
     set_open None = goals
     set_open (Some goal) = slice_set goals g (record goal { open_nodes = goal.open_nodes - 1 + count })
 
@@ -95,21 +96,21 @@ pub record HasTicket (p : Parts) (number : ℕ) : Type 0 where
   pub made : slice_get p.state.nodes ticket.node ≡ Some node
   pub place : ticket.place < length node.marks
 
-abbrev pub failed_parts : Parts → ℕ → Ticket → TreeNode → Bool → Parts
-failed_parts p number t node spent = record (ended_parts p number t node (failed spent) (Failed spent)) {
-  goals = lost_if (all_failed (slice_set node.marks t.place (Failed spent))) p.goals node.goal;
+abbrev pub failed_parts : Parts → ℕ → Ticket → TreeNode → Failure → Parts
+failed_parts p number t node failure = record (ended_parts p number t node (failed failure) (Failed failure)) {
+  goals = lost_if (all_failed (slice_set node.marks t.place (Failed failure))) p.goals node.goal;
 }
 
 abbrev pub aborted_parts : Parts → ℕ → Ticket → TreeNode → Parts
 aborted_parts p number t node =
     record (ended_parts p number t node aborted Idle) { state = record (ended p.state number t node Idle) { is_aborted = p.state.is_aborted || not (has_verdict_by p) } }
 
-abbrev pub no_open_nodes : Option Goal → Bool
+abbrev pub no_open_nodes : Option GoalState → Bool
 no_open_nodes None = false
 no_open_nodes (Some goal) = goal.open_nodes == 0
 
 -- the winner when the nodes of this goal were counted
-abbrev pub winner_after : List Goal → ℕ → Option ℕ → Option ℕ
+abbrev pub winner_after : List GoalState → ℕ → Option ℕ → Option ℕ
 winner_after goals g winner = cond (no_open_nodes (slice_get goals g)) (Some g) winner
 
 abbrev pub decided_parts : Parts → ℕ → Ticket → TreeNode → ProofStep → List ProofProblem → Parts
@@ -130,7 +131,7 @@ claimed_parts p seat n place problem strategy node = record p {
   running = p.running + 1;
 }
 
-abbrev pub fresh_goals : List ProofProblem → List Goal
+abbrev pub fresh_goals : List ProofProblem → List GoalState
 fresh_goals [] = []
 fresh_goals (p ∷ ps) = record { open_nodes = 1; is_lost = false } ∷ fresh_goals ps
 

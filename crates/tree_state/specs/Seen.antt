@@ -16,7 +16,7 @@ use Rattle.tree_definitions.specs.States.{TreeNode, Decided}
 abbrev pub event_of : OwnedEvent → Event
 event_of (own.Claimed problem strategy) = claimed (problem_of problem) strategy
 event_of (own.Found step) = found (step_of step)
-event_of (own.Failed spent) = failed spent
+event_of (own.Failed failure) = failed failure
 event_of own.Cancelled = cancelled
 event_of own.Aborted = aborted
 

@@ -1,6 +1,7 @@
 -- The stuck nodes of a board, and what is reported of them.
-use Rattle.std.specs.Prelude.{◌&&◌, ℕ, Bool, false, List, [], ◌∷◌, Option, Some, None, slice_get}
+use Rattle.std.specs.Prelude.{◌&&◌, ℕ, Bool, true, false, List, [], ◌∷◌, Option, Some, None, slice_get}
 use Rattle.std.specs.Option.{is_none}
+use Rattle.tree_definitions.specs.strategies.declared.failure.Failure.TheVariants.{Spent}
 use Rattle.tree_definitions.specs.strategies.declared.strategy.Strategy.{Strategy}
 use Rattle.tree_definitions.specs.declared.mark.Mark.{Mark}
 use Rattle.tree_definitions.specs.declared.mark.Mark.TheVariants.{Failed}
@@ -17,7 +18,7 @@ is_stuck_at nodes n = is_stuck (slice_get nodes n)
 
 -- whether a strategy failed by its budget
 abbrev pub is_spent : Mark → Bool
-is_spent (Failed spent) = spent
+is_spent (Failed Spent) = true
 is_spent _ = false
 
 -- the strategies in order, and whether each failed by its budget

@@ -5,7 +5,7 @@ ghost use Rattle.std.specs.Prelude.{IfOk, OnOk, OnErr, MatchOption};
 ghost use Rattle.std.specs.Vec.{vec_capacity};
 ghost use Rattle.tree_definitions.specs.cert_step.ProofProblem.{problem_of};
 ghost use Rattle.tree_definitions.specs.strategies.Kinds.{strategies_for};
-ghost use Rattle.tree_definitions.specs.Questions.{roots, goals_of};
+ghost use Rattle.tree_definitions.specs.Goals.{goal_root};
 ghost use Rattle.tree_definitions.specs.History.{HistoryEntry, claimed, found};
 ghost use Rattle.tree_state.specs.Seen.{entry_of, node_of, AreWithin};
 ghost use Rattle.tree_definitions.specs.States.{TreeNode, new_node};
@@ -14,14 +14,14 @@ ghost use Rattle.tree_state.specs.Parts.{Parts, HasTicket, IsOpening, free_place
 ghost use Rattle.tree_state.specs.Parts.{has_verdict_by, is_done_by, is_over_by};
 
 use crate::entry::{Entry, Event};
-use crate::goal::Goal;
 use crate::goal_lists::{are_all_lost, is_lost};
+use crate::goal_state::GoalState;
 use crate::node::Node;
 use crate::node_lists::set_mark;
 use crate::searching::first_free;
 use std::alloc::{AllocError, Global};
 use std::marker::Model;
-use tree_definitions::{Mark, Problem, Question, Strategy, Ticket, strategies_of};
+use tree_definitions::{Goal, Mark, Problem, Question, Strategy, Ticket, goals_of, strategies_of};
 use trs_core::OutOfMemory;
 
 /// The history, the nodes and tickets to which it leads, and what is counted of them. Contracts see
@@ -31,7 +31,7 @@ pub struct Board {
     pub(crate) history: Vec<Entry>,
     pub(crate) nodes: Vec<Node>,
     pub(crate) tickets: Vec<Ticket>,
-    pub(crate) goals: Vec<Goal>,
+    pub(crate) goals: Vec<GoalState>,
     pub(crate) winner: Option<u32>,
     pub(crate) is_aborted: bool,
     pub(crate) running: usize,
@@ -77,10 +77,8 @@ impl Board {
     {
         let mut nodes = Vec::new(alloc);
         let mut goals = Vec::new(alloc);
-        push_root(&mut nodes, &mut goals, root(question, 0))?;
-        push_root(&mut nodes, &mut goals, root(question, 1))?;
-        if let Question::Confluence | Question::Unique = question {
-            push_root(&mut nodes, &mut goals, root(question, 2))?;
+        for goal in goals_of(question) {
+            push_root(&mut nodes, &mut goals, goal)?;
         }
         Ok(Board {
             history: Vec::new(alloc),
@@ -222,52 +220,24 @@ impl Board {
     }
 }
 
-// The problem of a goal's root.
-fn root(question: Question, goal: u32) -> Problem
-    requires { goal < goals_of question }
-    ensures { slice_get (roots question) goal ≡ Some (problem_of result) }
-{
-    match question {
-        Question::Termination => match goal {
-            0 => Problem::Sn,
-            _ => Problem::Loop,
-        },
-        Question::Confluence => match goal {
-            0 => Problem::Cr,
-            1 => Problem::CrNewman,
-            _ => Problem::Fork,
-        },
-        Question::Unique => match goal {
-            0 => Problem::Unr,
-            1 => Problem::UnrNewman,
-            _ => Problem::Split,
-        },
-    }
-}
-
 // The next goal, with its root.
 fn push_root(
     nodes: &mut Vec<Node>,
-    goals: &mut Vec<Goal>,
-    problem: Problem,
+    goals: &mut Vec<GoalState>,
+    goal: &Goal,
 ) -> Result<(), AllocError>
     requires { length goals.old.items < 2 ^ 32 }
     ensures goals { OnOk result (goals.new.items
         ≡ goals.old.items ++ record { open_nodes = 1; is_lost = false } ∷ []) }
     ensures nodes { OnOk result ((history : List HistoryEntry)
         → map (node_of history) nodes.new.items ≡ map (node_of history) nodes.old.items
-        ++ new_node (length goals.old.items) (problem_of problem) ∷ []) }
+        ++ new_node (length goals.old.items) (goal_root goal.now) ∷ []) }
     ensures within { OnOk result ((bound : ℕ)
         → AreWithin bound nodes.old.items → AreWithin bound nodes.new.items) }
 {
-    let goal = goals.len() as u32;
-    nodes.push(Node {
-        goal,
-        problem,
-        decision: None,
-        marks: [Mark::Idle; 6],
-    })?;
-    goals.push(Goal {
+    let number = goals.len() as u32;
+    nodes.push(Node::new(number, goal.root()))?;
+    goals.push(GoalState {
         open_nodes: 1,
         is_lost: false,
     })?;

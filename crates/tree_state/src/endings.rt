@@ -3,7 +3,7 @@ ghost use Rattle.std.specs.Prelude.{◌≡◌, ◌+◌, ◌-◌, ◌<◌, ◌≤
 ghost use Rattle.std.specs.Prelude.{length, map, slice_get, slice_set};
 ghost use Rattle.tree_definitions.specs.cert_step.ProofProblem.{problem_of};
 ghost use Rattle.tree_definitions.specs.cert_step.ProofStep.{step_of};
-ghost use Rattle.tree_state.specs.declared.goal.Goal.{Goal};
+ghost use Rattle.tree_state.specs.declared.goal_state.GoalState.{GoalState};
 ghost use Rattle.tree_state.specs.Seen.{event_of, entry_of, decided_of};
 ghost use Rattle.tree_definitions.specs.States.{TreeNode, new_node};
 ghost use Rattle.tree_definitions.specs.Events.{without};
@@ -15,7 +15,7 @@ use crate::entry::{Entry, Event};
 use crate::goal_lists::{lose, recount};
 use crate::node::Decision;
 use crate::node_lists::{append_nodes, decide_node, has_failed, set_mark};
-use tree_definitions::{Mark, Problem, Step, Ticket};
+use tree_definitions::{Failure, Mark, Problem, Step, Ticket};
 
 impl Board {
     /// The ticket ends with this event, and its strategy has this mark.
@@ -32,17 +32,17 @@ impl Board {
         self.history.push_reserved(entry);
     }
 
-    /// The ticket ends with a failure of its strategy. The node's goal is lost where that was the
+    /// The ticket ends with this failure of its strategy. The node's goal is lost where that was the
     /// node's last strategy.
-    pub fn fail(&mut self, ticket: u64, spent: bool)
+    pub fn fail(&mut self, ticket: u64, failure: Failure)
         requires has { HasTicket self.old ticket }
         requires room { 0 < self.old.room }
         requires running { 0 < self.old.running }
         ensures { (h : HasTicket self.old ticket)
-            → self.new ≡ failed_parts self.old ticket h.ticket h.node spent }
+            → self.new ≡ failed_parts self.old ticket h.ticket h.node failure }
     {
         let node = self.tickets[ticket as usize].node;
-        self.end(ticket, Event::Failed(spent), Mark::Failed(spent));
+        self.end(ticket, Event::Failed(failure), Mark::Failed(failure));
         self.note_stuck(node);
     }
 
@@ -82,7 +82,7 @@ impl Board {
         requires room { 0 < self.old.room }
         requires running { 0 < self.old.running }
         requires node_room { length left.items ≤ self.old.node_room }
-        requires open_nodes { (h : HasTicket self.old ticket) (g : Goal)
+        requires open_nodes { (h : HasTicket self.old ticket) (g : GoalState)
             → slice_get self.old.goals h.node.goal ≡ Some g
             → g.open_nodes ≤ length self.old.state.nodes }
         ensures parts { (h : HasTicket self.old ticket) → self.new ≡ record
@@ -138,7 +138,7 @@ impl Board {
 
     // A node of the goal was decided and so many were made.
     fn count(&mut self, goal: u32, count: usize)
-        requires { (g : Goal) → slice_get self.old.goals goal ≡ Some g
+        requires { (g : GoalState) → slice_get self.old.goals goal ≡ Some g
             → g.open_nodes + count < 2 ^ 64 }
         ensures { self.new ≡ record self.old {
           goals = opened self.old.goals goal count;

@@ -1,4 +1,4 @@
-use tree_definitions::{Problem, Step, Strategy};
+use tree_definitions::{Failure, Problem, Step, Strategy};
 
 /// What an entry of the history says of its ticket.
 #[derive(Drop)]
@@ -6,8 +6,7 @@ pub enum Event {
     /// It was given for this strategy of this problem.
     Claimed(Problem, Strategy),
     Found(Step),
-    /// Whether the budget was spent.
-    Failed(bool),
+    Failed(Failure),
     Cancelled,
     Aborted,
 }

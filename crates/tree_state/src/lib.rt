@@ -5,8 +5,8 @@
 mod board;
 mod endings;
 mod entry;
-mod goal;
 mod goal_lists;
+mod goal_state;
 mod node;
 mod node_lists;
 mod reporting;
@@ -15,9 +15,9 @@ mod walking;
 
 pub use board::Board;
 pub use entry::Event;
-pub use goal::Goal;
+pub use goal_state::GoalState;
 pub use tree_definitions::{
-    Aborted, Claim, Claimed, Findings, GoalReport, GraphItem, Join, Limits, Mark, NodeStep,
-    Outcome, Polled, Posted, Problem, Proof, Question, Ran, Report, Searcher, Step, Strategy,
-    Tables, Task, Ticket, Verdict, run_strategy, strategies_of,
+    Aborted, Claim, Claimed, Failure, Findings, GoalReport, GraphItem, Join, Limits, Mark,
+    NodeStep, Outcome, Polled, Posted, Problem, Proof, Question, Ran, Report, Searcher, Step,
+    Strategy, Tables, Task, Ticket, Verdict, goals_of, run_strategy, strategies_of,
 };

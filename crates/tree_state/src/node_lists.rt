@@ -10,12 +10,12 @@ ghost use Rattle.tree_definitions.specs.Marks.{is_idle};
 ghost use Rattle.tree_state.specs.Parts.{all_failed};
 
 use crate::node::{Decision, Node};
-use tree_definitions::{Mark, Problem, strategies_of};
+use tree_definitions::{MOST_STRATEGIES, Mark, Problem, strategies_of};
 
 // The strategy at a place of node number n has this mark.
 pub(crate) fn set_mark(nodes: &mut Vec<Node>, n: usize, place: usize, mark: Mark)
     requires node { n < length nodes.old.items }
-    requires place { place < 6 }
+    requires place { place < MOST_STRATEGIES }
     ensures room { vec_capacity nodes.new - vec_len nodes.new
         ≡ vec_capacity nodes.old - vec_len nodes.old }
     ensures within { (bound : ℕ) → AreWithin bound nodes.old.items
@@ -38,12 +38,7 @@ pub(crate) fn append_nodes(nodes: &mut Vec<Node>, goal: u32, problems: Vec<Probl
         ++ map (new_node goal) (map problem_of problems.items) }
 {
     for problem in problems {
-        nodes.push_reserved(Node {
-            goal,
-            problem,
-            decision: None,
-            marks: [Mark::Idle; 6],
-        });
+        nodes.push_reserved(Node::new(goal, problem));
     }
 }
 

@@ -17,7 +17,7 @@ use crate::node::Node;
 use crate::node_lists::{has_failed, marks_of};
 use crate::walking::walk;
 use std::alloc::{AllocError, Global};
-use tree_definitions::{Mark, NodeStep, Problem, Step, Strategy, strategies_of};
+use tree_definitions::{Failure, Mark, NodeStep, Problem, Step, Strategy, strategies_of};
 use trs_core::OutOfMemory;
 
 impl Board {
@@ -177,5 +177,5 @@ fn mark_failures(
 fn is_spent(mark: Mark) -> bool
     ensures { result ≡ spent mark }
 {
-    matches!(mark, Mark::Failed(true))
+    matches!(mark, Mark::Failed(Failure::Spent))
 }

@@ -5,13 +5,13 @@ ghost use Rattle.tree_state.specs.Seen.{node_of};
 ghost use Rattle.tree_definitions.specs.States.{TreeNode};
 ghost use Rattle.tree_state.specs.Parts.{free_place};
 
-use crate::goal::Goal;
 use crate::goal_lists::is_lost;
+use crate::goal_state::GoalState;
 use crate::node::Node;
 use crate::node_lists::{first_idle, marks_of};
 
 // The least node, from this one on, with a strategy that can be claimed, and the strategy's place.
-pub(crate) fn first_free(nodes: &[Node], goals: &[Goal], from: usize) -> (usize, Option<usize>)
+pub(crate) fn first_free(nodes: &[Node], goals: &[GoalState], from: usize) -> (usize, Option<usize>)
     ensures later { from ≤ result.0 }
     ensures within { from ≤ length nodes.now → result.0 ≤ length nodes.now }
     ensures passed { (history : List HistoryEntry) (k : ℕ) (node : TreeNode) → from ≤ k
@@ -34,7 +34,7 @@ pub(crate) fn first_free(nodes: &[Node], goals: &[Goal], from: usize) -> (usize,
 }
 
 // The place of the strategy of the node that can be claimed.
-fn place_of(goals: &[Goal], node: &Node) -> Option<usize>
+fn place_of(goals: &[GoalState], node: &Node) -> Option<usize>
     ensures { (history : List HistoryEntry)
         → result ≡ free_place goals.now (node_of history node.now) }
 {

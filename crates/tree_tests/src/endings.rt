@@ -7,7 +7,8 @@ use crate::state::{Node, State};
 use std::alloc::Global;
 use trs_core::OutOfMemory;
 use worker_pool::{
-    Claim, GoalReport, Mark, NodeStep, Question, Report, Strategy, Tree, Verdict, strategies_of,
+    Claim, Failure, GoalReport, Mark, NodeStep, Question, Report, Strategy, Tree, Verdict,
+    strategies_of,
 };
 
 /// Whether the steps are those of the nodes in this order, numbered by their places in it.
@@ -68,6 +69,14 @@ fn first_stuck<'a>(state: &'a State, order: &[usize]) -> Option<(usize, &'a Node
     None
 }
 
+fn failure(spent: bool) -> Failure {
+    if spent {
+        Failure::Spent
+    } else {
+        Failure::NotThere
+    }
+}
+
 /// Whether each strategy of the node failed as it is said.
 fn are_failures(node: &Node, failed: &[(Strategy, bool)]) -> bool {
     let strategies = strategies_of(&node.problem);
@@ -76,7 +85,7 @@ fn are_failures(node: &Node, failed: &[(Strategy, bool)]) -> bool {
         .zip(node.marks.iter())
         .zip(failed.iter())
     {
-        if strategy != named || *mark != Mark::Failed(*spent) {
+        if strategy != named || *mark != Mark::Failed(failure(*spent)) {
             return false;
         }
     }

@@ -2,7 +2,7 @@
 use rewrite_core::PathStep;
 use std::alloc::Global;
 use trs_core::OutOfMemory;
-use worker_pool::{Findings, GraphItem, Join, Problem, Step};
+use worker_pool::{Failure, Findings, GraphItem, Join, Problem, Step};
 
 /// A step that was found, and the problems that it leaves.
 #[derive(Drop)]
@@ -16,8 +16,7 @@ pub struct FoundStep {
 pub enum Event {
     Claimed,
     Found(FoundStep),
-    /// Whether the budget was spent.
-    Failed(bool),
+    Failed(Failure),
     Cancelled,
     Aborted,
 }
@@ -43,8 +42,8 @@ pub fn event_of(alloc: Global, findings: &Findings) -> Result<Event, OutOfMemory
                 left: problems,
             }))
         }
-        Findings::NotThere => Ok(Event::Failed(false)),
-        Findings::Spent => Ok(Event::Failed(true)),
+        Findings::NotThere => Ok(Event::Failed(Failure::NotThere)),
+        Findings::Spent => Ok(Event::Failed(Failure::Spent)),
     }
 }
 

@@ -23,7 +23,9 @@ fn follow(alloc: Global, state: &mut State, entry: &Entry) -> Result<(), OutOfMe
     match &entry.event {
         Event::Claimed => claim(state, entry.seat),
         Event::Found(found) if !is_over => decide(alloc, state, entry.ticket, found),
-        Event::Failed(spent) if !is_over => Ok(end(state, entry.ticket, Mark::Failed(*spent))),
+        Event::Failed(failure) if !is_over => {
+            Ok(end(state, entry.ticket, Mark::Failed(*failure)))
+        }
         Event::Aborted => Ok(abort(state, entry.ticket)),
         _ => Ok(end(state, entry.ticket, Mark::Idle)),
     }

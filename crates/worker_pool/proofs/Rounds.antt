@@ -14,7 +14,7 @@ use Rattle.tree_core.specs.tree_definitions.declared.answers.Task.{Task}
 use Rattle.tree_core.specs.tree_definitions.declared.answers.Posted.{Posted}
 use Rattle.tree_core.specs.tree_definitions.declared.answers.Posted.TheVariants as posted
 use Rattle.tree_core.specs.tree_definitions.declared.question.Question.{Question}
-use Rattle.tree_core.specs.tree_definitions.Questions.{goals_of}
+use Rattle.tree_core.specs.tree_definitions.Questions.{goal_count}
 use Rattle.tree_core.specs.tree_definitions.History.{HistoryEntry, Event, claimed, mentions, Runs, IsOwned}
 use Rattle.tree_core.specs.tree_definitions.States.{State, opening}
 use Rattle.tree_core.specs.tree_definitions.Verdicts.{HasVerdict, IsDone}
@@ -57,7 +57,7 @@ none_runs tree rest again =
     absurd (omega (arith, one, e))
 
 -- where nothing is claimed any more, a verdict stands
-pub done_verdict : (tree : ProofTree) → IsAtRest tree → IsDone (goals_of tree.question) tree.state → HasVerdict (goals_of tree.question) tree.state
+pub done_verdict : (tree : ProofTree) → IsAtRest tree → IsDone (goal_count tree.question) tree.state → HasVerdict (goal_count tree.question) tree.state
 done_verdict tree rest (inl verdict) = verdict
 done_verdict tree rest (inr aborted) = let going = rest.going in absurd cc
 
@@ -71,9 +71,9 @@ kept goals system s seat ticket (run.found step left) later (r, inl (over, after
     (ap (λ (x : State). length x.tickets) after ∙ length_set s.tickets ticket (record r.ticket { is_running = false }), ap (λ (x : State). x.is_aborted) after)
 kept goals system s seat ticket (run.found step left) later (r, inr (still, decides)) =
     (ap (λ (x : State). length x.tickets) decides.after ∙ length_set s.tickets ticket (record r.ticket { is_running = false }), ap (λ (x : State). x.is_aborted) decides.after)
-kept goals system s seat ticket (run.failed spent) later (r, inl (over, after)) =
+kept goals system s seat ticket (run.failed failure) later (r, inl (over, after)) =
     (ap (λ (x : State). length x.tickets) after ∙ length_set s.tickets ticket (record r.ticket { is_running = false }), ap (λ (x : State). x.is_aborted) after)
-kept goals system s seat ticket (run.failed spent) later (r, inr (still, after)) =
+kept goals system s seat ticket (run.failed failure) later (r, inr (still, after)) =
     (ap (λ (x : State). length x.tickets) after ∙ length_set s.tickets ticket (record r.ticket { is_running = false }), ap (λ (x : State). x.is_aborted) after)
 
 notes_of : (old : ProofTree) (number : ℕ) (event : Event) (new : ProofTree) (p : Posted) → IsPost old number event new p → Notes old number event new
@@ -144,7 +144,7 @@ module _ (old mid : ProofTree) (rest : IsAtRest old) (task : Task) (is_task : Is
     }
 
     kept_new : (length new.state.tickets ≡ length mid.state.tickets) × (new.state.is_aborted ≡ mid.state.is_aborted)
-    kept_new = kept (goals_of mid.question) mid.system mid.state notes.seat task.ticket o.found new.state notes.adds.follows
+    kept_new = kept (goal_count mid.question) mid.system mid.state notes.seat task.ticket o.found new.state notes.adds.follows
 
     is_true : IsTrueFound old.system old.budget task.strategy (problem_of task.problem) o.found
     is_true = subst (λ (s : System). IsTrueFound s old.budget task.strategy (problem_of task.problem) o.found) (answer.system_is ∙ mid_system)

@@ -10,7 +10,7 @@ use Rattle.tree_core.specs.tree_definitions.declared.answers.Claimed.{Claimed}
 use Rattle.tree_core.specs.tree_definitions.declared.answers.Verdict.{Verdict}
 use Rattle.tree_core.specs.tree_definitions.declared.answers.Verdict.TheVariants as verdict
 use Rattle.tree_core.specs.tree_definitions.History.{Runs}
-use Rattle.tree_core.specs.tree_definitions.Questions.{goals_of}
+use Rattle.tree_core.specs.tree_definitions.Questions.{goal_count}
 use Rattle.tree_core.specs.tree_definitions.declared.question.Question.{Question}
 use Rattle.tree_core.specs.tree_definitions.Replies.{IfTask, IsRunnable, IsVerdict}
 use Rattle.tree_core.specs.tree_definitions.Trees.{ProofTree}
@@ -44,12 +44,12 @@ pub ended_at : (n m ticket : ℕ) (mine log : List (Signed Entry)) → n ≡ m �
 ended_at n m ticket mine log same is ended =
     subst (λ (es : List (Signed Entry)). HasEnded ticket es) (sym is) (subst (λ (k : ℕ). HasEnded ticket (of k log)) same ended)
 
-stands : (tree : ProofTree) (v : Verdict) → IsVerdict tree (Some v) → HasVerdict (goals_of tree.question) tree.state
+stands : (tree : ProofTree) (v : Verdict) → IsVerdict tree (Some v) → HasVerdict (goal_count tree.question) tree.state
 stands tree (verdict.Won g) is = inl (g, is)
 stands tree verdict.Maybe is = inr is.1
 
 -- a verdict that is answered stands
-pub verdict_stands : (tree : ProofTree) (r : Option Verdict) (v : Verdict) → r ≡ Some v → IsVerdict tree r → HasVerdict (goals_of tree.question) tree.state
+pub verdict_stands : (tree : ProofTree) (r : Option Verdict) (v : Verdict) → r ≡ Some v → IsVerdict tree r → HasVerdict (goal_count tree.question) tree.state
 verdict_stands tree r v is answered = stands tree v (subst (λ (x : Option Verdict). IsVerdict tree x) is answered)
 
 -- ---- a claim
@@ -145,6 +145,6 @@ answered fact tree (Ok f) is holds = subst fact (sym is) holds
 answered fact tree (Err e) is holds = tt
 
 pub verdict_on : {E : Type 0} (question : Question) (r : Result ProofTree E) → IfOk r (λ f. f.question ≡ question)
-    → IfOk r (λ f. HasVerdict (goals_of f.question) f.state) → IfOk r (λ f. HasVerdict (goals_of question) f.state)
-verdict_on question (Ok f) is has = subst (λ (q : Question). HasVerdict (goals_of q) f.state) is has
+    → IfOk r (λ f. HasVerdict (goal_count f.question) f.state) → IfOk r (λ f. HasVerdict (goal_count question) f.state)
+verdict_on question (Ok f) is has = subst (λ (q : Question). HasVerdict (goal_count q) f.state) is has
 verdict_on question (Err e) is has = tt

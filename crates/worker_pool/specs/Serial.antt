@@ -8,7 +8,7 @@ use Rattle.tree_core.specs.strategies.Kinds.{strategies_for}
 use Rattle.tree_core.specs.strategies.Runs.{Found}
 use Rattle.tree_core.specs.strategies.Truth.{IsTrueFound}
 use Rattle.tree_core.specs.tree_definitions.declared.question.Question.{Question}
-use Rattle.tree_core.specs.tree_definitions.Questions.{goals_of}
+use Rattle.tree_core.specs.tree_definitions.Questions.{goal_count}
 use Rattle.tree_core.specs.tree_definitions.History.{HistoryEntry, Event, claimed}
 use Rattle.tree_core.specs.tree_definitions.States.{State, opening}
 use Rattle.tree_core.specs.tree_definitions.Events.{Replays}
@@ -32,5 +32,5 @@ pub data IsSerial (system : System) (budget : ℕ) : List HistoryEntry → Type 
 pub record IsSerialEnd (system : System) (question : Question) (budget : ℕ) (state : State) : Type 0 where
   pub history : List HistoryEntry
   pub serial : IsSerial system budget history
-  pub replays : Replays (goals_of question) system (opening question) history state
-  pub verdict : HasVerdict (goals_of question) state
+  pub replays : Replays (goal_count question) system (opening question) history state
+  pub verdict : HasVerdict (goal_count question) state

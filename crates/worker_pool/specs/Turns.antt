@@ -5,7 +5,7 @@ use Rattle.tree_core.specs.cert_step.ProofProblem.{problem_of}
 use Rattle.tree_core.specs.strategies.Runs.{Run}
 use Rattle.tree_core.specs.strategies.Truth.{IsTrueRun}
 use Rattle.tree_core.specs.tree_definitions.declared.answers.Task.{Task}
-use Rattle.tree_core.specs.tree_definitions.Questions.{goals_of}
+use Rattle.tree_core.specs.tree_definitions.Questions.{goal_count}
 use Rattle.tree_core.specs.tree_definitions.Verdicts.{HasVerdict}
 use Rattle.tree_core.specs.tree_definitions.Trees.{ProofTree}
 use Rattle.worker_pool.specs.Serial.{IsSerial}
@@ -37,4 +37,4 @@ entries_left tree = 2 ^ 21 - length tree.history
 -- a turn makes entries where there was a task; where there was none, a verdict stands
 abbrev pub IsTurn : ProofTree → ProofTree → Bool → Type 0
 IsTurn old new true = entries_left new < entries_left old
-IsTurn old new false = HasVerdict (goals_of new.question) new.state
+IsTurn old new false = HasVerdict (goal_count new.question) new.state

@@ -1,5 +1,5 @@
 ghost use Rattle.std.specs.Prelude.{◌≡◌, IfOk};
-ghost use Rattle.tree_core.specs.tree_definitions.Questions.{goals_of};
+ghost use Rattle.tree_core.specs.tree_definitions.Questions.{goal_count};
 ghost use Rattle.tree_core.specs.tree_definitions.Verdicts.{HasVerdict};
 ghost use Rattle.worker_pool.specs.Serial.{IsSerial};
 
@@ -24,7 +24,7 @@ pub fn prove_alone<'a>(
 
     // Each claim is followed by the post of what the strategy answers of the problem.
     ensures serial { IfOk result (λ f. IsSerial trs.now limits.budget f.history) }
-    ensures verdict { IfOk result (λ f. HasVerdict (goals_of question) f.state) }
+    ensures verdict { IfOk result (λ f. HasVerdict (goal_count question) f.state) }
 {
     let mut tree = Tree::new(alloc, question, trs, limits)?;
     let tables = tables_for(alloc, question, trs)?;

@@ -1,9 +1,10 @@
 ghost use Rattle.std.specs.Prelude.{◌≡◌};
 ghost use Rattle.tree_core.specs.tree_definitions.Events.{Replays};
-ghost use Rattle.tree_core.specs.tree_definitions.Questions.{goals_of};
+ghost use Rattle.tree_core.specs.tree_definitions.Questions.{goal_count};
 ghost use Rattle.tree_core.specs.tree_definitions.States.{opening};
 ghost use Rattle.tree_core.specs.tree_definitions.Verdicts.{HasVerdict};
 
+use crate::laws::trees_are_replays;
 use std::marker::Model;
 use tree_core::Tree;
 
@@ -22,17 +23,17 @@ impl<'a> Model for Finished<'a> {
 
     ghost coded = { Prim.hlevel (codes, tree_code) };
 
-    ghost use Rattle.tree_core.specs.tree_definitions.Questions.{goals_of};
+    ghost use Rattle.tree_core.specs.tree_definitions.Questions.{goal_count};
     ghost use Rattle.tree_core.specs.tree_definitions.Verdicts.{HasVerdict};
 
     ghost view = { λ a. a.tree };
 
-    ghost invariant = { λ a. HasVerdict (goals_of a.tree.question) a.tree.state };
+    ghost invariant = { λ a. HasVerdict (goal_count a.tree.question) a.tree.state };
 }
 
 impl<'a> Finished<'a> {
     pub(crate) fn new(tree: Tree<'a>) -> Finished<'a>
-        requires { HasVerdict (goals_of tree.question) tree.state }
+        requires { HasVerdict (goal_count tree.question) tree.state }
         ensures { result ≡ tree.entry }
     {
         Finished { tree }
@@ -41,11 +42,11 @@ impl<'a> Finished<'a> {
     /// The tree. A verdict stands on it, and its state is that to which its history leads.
     pub fn tree(&self) -> &Tree<'a>
         ensures tree { result.now ≡ self.now }
-        ensures verdict { HasVerdict (goals_of self.now.question) self.now.state }
-        ensures replays { Replays (goals_of self.now.question) self.now.system
+        ensures verdict { HasVerdict (goal_count self.now.question) self.now.state }
+        ensures replays { Replays (goal_count self.now.question) self.now.system
             (opening self.now.question) self.now.history self.now.state }
     {
-        let _entries = self.tree.history_len();
+        trees_are_replays(&self.tree);
         &self.tree
     }
 }

@@ -6,6 +6,7 @@ mod alone;
 mod entry;
 mod finished;
 mod gate;
+mod laws;
 mod pool;
 mod seated;
 mod shared;
@@ -20,7 +21,7 @@ pub use finished::Finished;
 pub use gate::{Gate, OpenGate};
 pub use pool::prove_with;
 pub use tree_core::{
-    Aborted, Claim, Claimed, Findings, GoalReport, GraphItem, Join, Limits, Mark, NodeStep,
-    Outcome, Polled, Posted, Problem, Question, Ran, Report, Step, Strategy, Task, Ticket, Tree,
-    Verdict, run_strategy, strategies_of,
+    Aborted, Claim, Claimed, Failure, Findings, GoalReport, GraphItem, Join, Limits, Mark,
+    NodeStep, Outcome, Polled, Posted, Problem, Question, Ran, Report, Step, Strategy, Task,
+    Ticket, Tree, Verdict, lost_goals_have_a_true_report, run_strategy, strategies_of,
 };

@@ -2,7 +2,7 @@
 ghost use Rattle.std.specs.Prelude.{◌≡◌, ℕ, ◌+◌, ◌-◌, ◌<◌, ◌≤◌, IfOk};
 ghost use denote.Param.Send.{IsSync};
 ghost use mathlib.Core.List.{IsPrefix};
-ghost use Rattle.tree_core.specs.tree_definitions.Questions.{goals_of};
+ghost use Rattle.tree_core.specs.tree_definitions.Questions.{goal_count};
 ghost use Rattle.tree_core.specs.tree_definitions.Verdicts.{HasVerdict};
 ghost use Rattle.turn_lock.specs.Seats.{Has, After};
 ghost use Rattle.worker_pool.specs.Shared.{Opens};
@@ -36,7 +36,7 @@ pub fn prove_with<'a, R: Threads + Wait + Sync, G: Gate>(
     ensures question { IfOk result (λ f. f.question ≡ question) }
     ensures system { IfOk result (λ f. f.system ≡ trs.now) }
     ensures budget { IfOk result (λ f. f.budget ≡ limits.budget) }
-    ensures verdict { IfOk result (λ f. HasVerdict (goals_of question) f.state) }
+    ensures verdict { IfOk result (λ f. HasVerdict (goal_count question) f.state) }
 {
     let tables = tables_for(alloc, question, trs)?;
     let shared = SharedTree::new(alloc, question, trs, limits)?;
@@ -58,7 +58,7 @@ pub fn prove_with<'a, R: Threads + Wait + Sync, G: Gate>(
 // The tree, if a verdict stands on it. If none does, memory was wanting.
 fn finish<'a>(tree: Tree<'a>) -> Result<Finished<'a>, OutOfMemory>
     ensures tree { IfOk result (λ f. f ≡ tree.entry) }
-    ensures verdict { IfOk result (λ f. HasVerdict (goals_of f.question) f.state) }
+    ensures verdict { IfOk result (λ f. HasVerdict (goal_count f.question) f.state) }
 {
     match tree.verdict() {
         Some(_) => Ok(Finished::new(tree)),

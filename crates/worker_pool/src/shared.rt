@@ -7,6 +7,7 @@ ghost use Rattle.turn_lock.specs.Rules.{of, AddsOne};
 ghost use Rattle.worker_pool.specs.Shared.{history_of, opening_of, tree_entries, HasEnded, HasTask};
 
 use crate::entry::Entry;
+use crate::laws::{histories_are_short, tickets_have_one_seat};
 use std::alloc::Global;
 use tree_core::{Claimed, Limits, Outcome, Polled, Question, Tree};
 use trs_core::{OutOfMemory, Trs};
@@ -53,7 +54,7 @@ impl<'a> SharedTree<'a> {
         ensures runnable { IfOk result (IfTask (IsRunnable self.old.tree.system)) }
     {
         let claimed = self.tree.claim(alloc, seat);
-        let _entries = self.tree.history_len();
+        histories_are_short(&self.tree);
         claimed
     }
 
@@ -66,9 +67,9 @@ impl<'a> SharedTree<'a> {
         ensures ended { result ≡ Polled.Cancelled
             → HasEnded ticket (of seat (history_of self.new.tree)) }
     {
-        let _before = self.tree.history_len();
+        tickets_have_one_seat(&self.tree);
         let polled = self.tree.poll(ticket);
-        let _after = self.tree.history_len();
+        histories_are_short(&self.tree);
         polled
     }
 
@@ -88,10 +89,10 @@ impl<'a> SharedTree<'a> {
         ensures short { length (history_of self.new.tree) < 2 ^ 62 }
         ensures ended { HasEnded ticket (of seat (history_of self.new.tree)) }
     {
-        let _before = self.tree.history_len();
+        tickets_have_one_seat(&self.tree);
         match self.tree.post(ticket, outcome) {
             Ok(_) => {
-                let _after = self.tree.history_len();
+                histories_are_short(&self.tree);
                 None
             }
             Err(outcome) => {
@@ -108,8 +109,8 @@ impl<'a> SharedTree<'a> {
         ensures short { length (history_of self.new.tree) < 2 ^ 62 }
         ensures ended { HasEnded ticket (of seat (history_of self.new.tree)) }
     {
-        let _before = self.tree.history_len();
+        tickets_have_one_seat(&self.tree);
         self.tree.abort(ticket);
-        let _after = self.tree.history_len();
+        histories_are_short(&self.tree);
     }
 }

@@ -1,9 +1,10 @@
 //! One turn of a worker that is alone: a claim, and the post of what was answered.
-ghost use Rattle.std.specs.Prelude.{◌≡◌, ◌<◌, ◌^◌, IfOk, length};
-ghost use Rattle.tree_core.specs.tree_definitions.History.{IsOwned, Runs};
+ghost use Rattle.std.specs.Prelude.{◌≡◌, IfOk};
+ghost use Rattle.tree_core.specs.tree_definitions.History.{Runs};
 ghost use Rattle.tree_core.specs.tree_definitions.Replies.{event_of_found, IsPost, IsRunnable, IsTaskOf};
 ghost use Rattle.worker_pool.specs.Turns.{IsAtRest, IsAnswerTo, IsTurn, IsOnSame};
 
+use crate::laws::{histories_are_short, tickets_have_one_seat};
 use assign_search::Never;
 use std::alloc::Global;
 use tree_core::{Claimed, Limits, Outcome, Posted, Ran, Searcher, Task, Tree};
@@ -28,11 +29,12 @@ pub(crate) fn take_turn<'t, 'a>(
         Claimed::Again => unreachable!(),
         Claimed::Done => return Ok(false),
     };
-    check_tree(tree);
+    tickets_have_one_seat(tree);
+    histories_are_short(tree);
     let limits = tree.limits();
     let outcome = run_task(alloc, searcher, &task, &limits)?;
     post(tree, task.ticket, outcome)?;
-    check_tree(tree);
+    histories_are_short(tree);
     Ok(true)
 }
 
@@ -61,18 +63,7 @@ fn run_task<'t, 'a>(
     ensures answer { IfOk result (IsAnswerTo searcher.old limits.now.budget task.now) }
 {
     match searcher.run(alloc, &task.problem, task.strategy, limits, &mut Never)? {
-        Ran::Ended(outcome) => {
-            let _findings = outcome.findings();
-            Ok(outcome)
-        }
+        Ran::Ended(outcome) => Ok(outcome),
         Ran::Stopped => unreachable!(),
     }
-}
-
-// What is known of each tree. There is nothing to run.
-fn check_tree(tree: &Tree)
-    ensures bound { length tree.now.history < 2 ^ 21 }
-    ensures owned { IsOwned tree.now.history }
-{
-    let _entries = tree.history_len();
 }

@@ -1,14 +1,14 @@
 use Rattle.std.proofs.Common.{rules, ◌≡◌, ◌∙◌, ◌++◌, codes, ap₂, map, ap, subst, sym}
 use Rattle.std.proofs.lemmas.List.{length-map}
 use Rattle.report_text.specs.GoalLines.{report_lines}
-use Rattle.report_text.specs.tree_definitions.Questions.{goals_of}
+use Rattle.report_text.specs.tree_definitions.Questions.{goal_count}
 use Rattle.report_text.specs.tree_definitions.Reports.{part_of}
 use Rattle.conclusion.proofs.Texts.{lost_is_text}
 use Rattle.conclusion.proofs.tree_text.lost_text.Goals as goal
 
 pub print_report-requires : goal.print_report-requires
 print_report-requires c = record {
-  goals = sym (length-map c.in_ok-report.report.goals.items part_of) ∙ c.in_ok-report.ensures.is_true.count ∙ ap goals_of (sym c.question.ensures);
+  goals = sym (length-map c.in_ok-report.report.goals.items part_of) ∙ c.in_ok-report.ensures.is_true.count ∙ ap goal_count (sym c.question.ensures);
 }
 
 pub returns : goal.returns

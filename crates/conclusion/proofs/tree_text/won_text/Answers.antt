@@ -14,7 +14,7 @@ print_proof-requires-clause-printable c =
     let proof = c.in_ok-proof.proof in
     let steps = map node_step_of proof.steps.items in
     let few : length steps < 2 ^ 63 =
-    subst (λ n. n < 2 ^ 63) (sym (length-map proof.steps.items node_step_of)) (subst (λ s. length s < 2 ^ 63) c.deref.ensures.value c.check_few.ensures) in
+    subst (λ n. n < 2 ^ 63) (sym (length-map proof.steps.items node_step_of)) (subst (λ s. length s < 2 ^ 63) c.deref.ensures.value c.lists_are_short.ensures) in
     subst (λ (system : System). All (IsPrintable system) steps) c.requires.system
     (accepted_printable c.args.tree.now.system proof.claim steps few c.in_ok-proof.ensures.well_made c.in_ok-proof.ensures.accepted)
 

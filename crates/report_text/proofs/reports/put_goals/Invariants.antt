@@ -7,5 +7,5 @@ use Rattle.report_text.proofs.reports.put_goals.Given as goal
 
 abbrev pub invariant-loop-i : goal.invariant-loop-i
 invariant-loop-i l =
-    l.out.items ++ lines (items_of (goal_items l.system (drop l.i (goal_words l.question)) (map part_of (drop l.i l.goals))))
-    ≡ l.fn.out.items ++ lines (items_of (goal_items l.system (goal_words l.question) (map part_of l.goals)))
+    l.out.items ++ lines (items_of (goal_items l.system (drop l.i (goal_words l.question)) (map part_of (drop l.i l.parts))))
+    ≡ l.fn.out.items ++ lines (items_of (goal_items l.system (goal_words l.question) (map part_of l.parts)))

@@ -1,4 +1,4 @@
-use Rattle.std.specs.Prelude.{◌≡◌, [], ◌∷◌, false}
+use Rattle.std.specs.Prelude.{◌≡◌, [], ◌∷◌}
 use Rattle.std.proofs.Common.{refl, sym, ap, subst, ◌∙◌}
 use Rattle.pair_theory.specs.DependencyPair.{dependency_pairs}
 use Rattle.cert_step.specs.dp_graph.GroupOrSingle.{group, items_of}
@@ -15,7 +15,7 @@ use Rattle.strategies.proofs.graph.search_graph.Goals as goal
 pub returns-then-is_all-clause-answer : goal.returns-then-is_all-clause-answer
 returns-then-is_all-clause-answer c = λ budget.
     (let all = ap items_of (sym c.deref-2.ensures.value) ∙ (c.is_all.ensures.0 c.if-is_all.true ∙ ap (λ l. group l ∷ []) (c.deref-3.ensures.value ∙ sym c.deref.ensures.value)) in
-    failed_for c.args.trs.now budget strategy.Graph (problem_of c.args.problem.now) (problem.dp c.deref.result.now) false (ap problem_of c.in-Dp.is ∙ ap (λ l. problem.dp l) (sym c.deref.ensures.value))
+    failed_for c.args.trs.now budget strategy.Graph (problem_of c.args.problem.now) (problem.dp c.deref.result.now) _ (ap problem_of c.in-Dp.is ∙ ap (λ l. problem.dp l) (sym c.deref.ensures.value))
     (graph_is_not_there (subst (AreComponentsOf c.args.trs.now c.deref.result.now) all (rw c.requires.graph at c.in_ok-items.ensures))))
 
 pub leaving-requires-clause-step : goal.leaving-requires-clause-step

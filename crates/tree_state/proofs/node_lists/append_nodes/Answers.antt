@@ -9,8 +9,8 @@ loop-problem-preserved c =
     let longer : length (into_iter_items c.loop-problem.problem-iterator) ≡ length (into_iter_items c.next.new.self) + 1 = rw steps (omega arith) in
     let more = c.push_reserved.ensures.items in (
       omega (arith, longer, c.loop-problem.invariant.0, c.push_reserved.ensures.len, c.push_reserved.ensures.capacity),
-      λ bound w. append_within bound c.loop-problem.nodes.items c.push_reserved.new.self.items c.args.goal c.in-Some.problem more (c.loop-problem.invariant.1 bound w),
+      λ bound w. append_within bound c.loop-problem.nodes.items c.push_reserved.new.self.items c.new.result more c.new.ensures.open (c.loop-problem.invariant.1 bound w),
       λ history.
-          append_step history c.loop-problem.nodes.items c.push_reserved.new.self.items c.args.goal c.in-Some.problem (into_iter_items c.next.new.self)
-          (into_iter_items c.loop-problem.problem-iterator) _ more steps (c.loop-problem.invariant.2 history),
+          append_step history c.loop-problem.nodes.items c.push_reserved.new.self.items c.new.result c.args.goal c.in-Some.problem (into_iter_items c.next.new.self)
+          (into_iter_items c.loop-problem.problem-iterator) _ more (c.new.ensures.seen history) steps (c.loop-problem.invariant.2 history),
     )

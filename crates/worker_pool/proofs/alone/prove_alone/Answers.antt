@@ -1,5 +1,5 @@
 use Rattle.std.proofs.Common.{◌≡◌, ◌∙◌, ap, sym, subst}
-use Rattle.tree_core.specs.tree_definitions.Questions.{goals_of}
+use Rattle.tree_core.specs.tree_definitions.Questions.{goal_count}
 use Rattle.tree_core.specs.tree_definitions.Trees.{ProofTree}
 use Rattle.tree_core.specs.tree_definitions.Verdicts.{HasVerdict}
 use Rattle.tree_core.specs.tree_definitions.declared.question.Question.{Question}
@@ -25,6 +25,6 @@ returns-clause-verdict c =
     let old = c.loop-searcher.tree in
     let new = c.take_turn.new.tree in
     let question : new.question ≡ c.args.question = c.in_ok-take_turn.ensures.same.question ∙ c.loop-searcher.invariant.question in
-    let verdict : HasVerdict (goals_of new.question) new.state = subst (IsTurn old new) c.if-branch.false c.in_ok-take_turn.ensures.turn in
-    subst (λ (t : ProofTree). HasVerdict (goals_of c.args.question) t.state) (sym c.new-2.ensures)
-    (subst (λ (q : Question). HasVerdict (goals_of q) new.state) question verdict)
+    let verdict : HasVerdict (goal_count new.question) new.state = subst (IsTurn old new) c.if-branch.false c.in_ok-take_turn.ensures.turn in
+    subst (λ (t : ProofTree). HasVerdict (goal_count c.args.question) t.state) (sym c.new-2.ensures)
+    (subst (λ (q : Question). HasVerdict (goal_count q) new.state) question verdict)

@@ -32,4 +32,4 @@ returns-clause-rest c =
     let answer : IsAnswerTo mid.system mid.budget task c.in_ok-outcome.outcome =
     subst (λ (s : System). IsAnswerTo s mid.budget task c.in_ok-outcome.outcome) (c.requires.searcher ∙ sym (mid_system old mid c.requires.rest task is_task))
     (subst (λ (b : ℕ). IsAnswerTo c.args.searcher.now b task c.in_ok-outcome.outcome) c.limits-limits.ensures c.in_ok-outcome.ensures.answer) in
-    at_rest old mid c.requires.rest task is_task c.check_tree.ensures.owned c.in_ok-outcome.outcome answer c.post.new.tree c.in_ok-post.field-0 c.in_ok-post.ensures
+    at_rest old mid c.requires.rest task is_task c.tickets_have_one_seat.ensures c.in_ok-outcome.outcome answer c.post.new.tree c.in_ok-post.field-0 c.in_ok-post.ensures

@@ -3,7 +3,7 @@ use Rattle.std.specs.Option.{MatchOption}
 use Rattle.std.proofs.lemmas.Option.{slice_get_within}
 use Rattle.tree_state.specs.strategies.Kinds.{strategies_for}
 use Rattle.tree_state.specs.cert_step.ProofProblem.{ProofProblem, problem_of}
-use Rattle.tree_state.specs.tree_definitions.Questions.{goals_of}
+use Rattle.tree_state.specs.tree_definitions.Questions.{goal_count}
 use Rattle.tree_state.specs.tree_definitions.States.{TreeNode}
 use Rattle.tree_state.specs.Parts.{Parts, free_place, is_done_by, claimed_parts}
 use Rattle.tree_state.specs.tree_definitions.Replies.{IsAgain}
@@ -19,7 +19,7 @@ use Rattle.tree_core.proofs.tree.Tree.claim.Goals as goal
 pub returns-then-is_done-clause-claim : goal.returns-then-is_done-clause-claim
 returns-then-is_done-clause-claim c =
     let i = c.self.inside in
-    rw (← c.self.view_is) (done_is (goals_of i.question) i.board c.self.invariant.counted (sym c.is_done.ensures ∙ c.if-is_done.true), refl)
+    rw (← c.self.view_is) (done_is (goal_count i.question) i.board c.self.invariant.counted (sym c.is_done.ensures ∙ c.if-is_done.true), refl)
 
 pub invariant_of-self : goal.invariant_of-self
 invariant_of-self c =

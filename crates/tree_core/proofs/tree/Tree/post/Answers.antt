@@ -1,6 +1,7 @@
 use Rattle.std.proofs.Common.{◌≡◌, ◌∙◌, refl, sym, ap, subst, true, false, map}
 use Rattle.tree_state.specs.cert_step.ProofProblem.{problem_of}
 use Rattle.tree_state.specs.cert_step.ProofStep.{step_of}
+use Rattle.tree_state.specs.strategies.declared.failure.Failure.TheVariants.{NotThere, Spent}
 use Rattle.tree_state.specs.strategies.Runs.{Found}
 use Rattle.tree_state.specs.strategies.Truth.{IsTrueFound}
 use Rattle.tree_state.specs.tree_definitions.declared.mark.Mark.TheVariants.{Idle}
@@ -199,8 +200,8 @@ invariant_of-self-in-NotThere c =
     let task : IsTaskOf (tree_of i.question i.system.now i.limits.budget board) c.args.ticket c.args.outcome = subst (λ (t : ProofTree). IsTaskOf t c.args.ticket c.args.outcome) (sym c.self.view_is) c.requires.outcome in
     let true_of = truth i.question i.system.now i.limits.budget board tree c.args.ticket h c.args.outcome task c.into_findings-2.ensures.is_true in
     let fails = subst (λ (f : Found). IsTrueFound i.system.now i.limits.budget c.args.outcome.strategy h.node.problem f) (sym (c.in-NotThere.ensures.found)) true_of.holds in
-    let parts = subst (λ (x : Parts). (y : HasTicket x c.args.ticket) → c.fail.new.self ≡ failed_parts x c.args.ticket y.ticket y.node false) c.reserve_nodes.ensures.parts c.fail.ensures in
-    rw (parts h) (fail_tree i.question i.system.now i.limits.budget board tree c.args.ticket h wanted false (c.args.outcome.strategy, true_of.strategy_at, fails))
+    let parts = subst (λ (x : Parts). (y : HasTicket x c.args.ticket) → c.fail.new.self ≡ failed_parts x c.args.ticket y.ticket y.node NotThere) c.reserve_nodes.ensures.parts c.fail.ensures in
+    rw (parts h) (fail_tree i.question i.system.now i.limits.budget board tree c.args.ticket h wanted NotThere (c.args.outcome.strategy, true_of.strategy_at, fails))
 
 pub invariant_of-self-in-Spent : goal.invariant_of-self-in-Spent
 invariant_of-self-in-Spent c =
@@ -214,8 +215,8 @@ invariant_of-self-in-Spent c =
     let task : IsTaskOf (tree_of i.question i.system.now i.limits.budget board) c.args.ticket c.args.outcome = subst (λ (t : ProofTree). IsTaskOf t c.args.ticket c.args.outcome) (sym c.self.view_is) c.requires.outcome in
     let true_of = truth i.question i.system.now i.limits.budget board tree c.args.ticket h c.args.outcome task c.into_findings-2.ensures.is_true in
     let fails = subst (λ (f : Found). IsTrueFound i.system.now i.limits.budget c.args.outcome.strategy h.node.problem f) (sym (c.in-Spent.ensures.found)) true_of.holds in
-    let parts = subst (λ (x : Parts). (y : HasTicket x c.args.ticket) → c.fail-in-Spent.new.self ≡ failed_parts x c.args.ticket y.ticket y.node true) c.reserve_nodes.ensures.parts c.fail-in-Spent.ensures in
-    rw (parts h) (fail_tree i.question i.system.now i.limits.budget board tree c.args.ticket h wanted true (c.args.outcome.strategy, true_of.strategy_at, fails))
+    let parts = subst (λ (x : Parts). (y : HasTicket x c.args.ticket) → c.fail-in-Spent.new.self ≡ failed_parts x c.args.ticket y.ticket y.node Spent) c.reserve_nodes.ensures.parts c.fail-in-Spent.ensures in
+    rw (parts h) (fail_tree i.question i.system.now i.limits.budget board tree c.args.ticket h wanted Spent (c.args.outcome.strategy, true_of.strategy_at, fails))
 
 pub returns-clause-post : goal.returns-clause-post
 returns-clause-post c =
@@ -244,20 +245,20 @@ returns-clause-post c =
           )
       | in-NotThere w ↦
           let fails = subst (λ (f : Found). IsTrueFound i.system.now i.limits.budget c.args.outcome.strategy h.node.problem f) (sym (w.in-NotThere.ensures.found)) true_of.holds in
-          let parts = subst (λ (x : Parts). (y : HasTicket x c.args.ticket) → w.fail.new.self ≡ failed_parts x c.args.ticket y.ticket y.node false) c.reserve_nodes.ensures.parts w.fail.ensures in
+          let parts = subst (λ (x : Parts). (y : HasTicket x c.args.ticket) → w.fail.new.self ≡ failed_parts x c.args.ticket y.ticket y.node NotThere) c.reserve_nodes.ensures.parts w.fail.ensures in
           rw w.self-is (
             not,
             subst (λ (f : Found). Notes c.args.self.now c.args.ticket (event_of_found f) (tree_of i.question i.system.now i.limits.budget w.fail.new.self)) w.in-NotThere.ensures.found
-                (notes_left i.question i.system.now i.limits.budget board w.fail.new.self (failed_parts board c.args.ticket h.ticket h.node false) c.args.self.now c.args.ticket (history.failed false)
-                c.self.view_is (parts h) (record { seat = h.ticket.seat; owner = owner i.question i.system.now i.limits.budget board tree c.args.ticket h; adds = record { follows = fail_follows i.question i.system.now i.limits.budget board tree c.args.ticket h wanted false; tree = refl } })),
+                (notes_left i.question i.system.now i.limits.budget board w.fail.new.self (failed_parts board c.args.ticket h.ticket h.node NotThere) c.args.self.now c.args.ticket (history.failed NotThere)
+                c.self.view_is (parts h) (record { seat = h.ticket.seat; owner = owner i.question i.system.now i.limits.budget board tree c.args.ticket h; adds = record { follows = fail_follows i.question i.system.now i.limits.budget board tree c.args.ticket h wanted NotThere; tree = refl } })),
           )
       | in-Spent w ↦
           let fails = subst (λ (f : Found). IsTrueFound i.system.now i.limits.budget c.args.outcome.strategy h.node.problem f) (sym (w.in-Spent.ensures.found)) true_of.holds in
-          let parts = subst (λ (x : Parts). (y : HasTicket x c.args.ticket) → w.fail-in-Spent.new.self ≡ failed_parts x c.args.ticket y.ticket y.node true) c.reserve_nodes.ensures.parts w.fail-in-Spent.ensures in
+          let parts = subst (λ (x : Parts). (y : HasTicket x c.args.ticket) → w.fail-in-Spent.new.self ≡ failed_parts x c.args.ticket y.ticket y.node Spent) c.reserve_nodes.ensures.parts w.fail-in-Spent.ensures in
           rw w.self-is (
             not,
             subst (λ (f : Found). Notes c.args.self.now c.args.ticket (event_of_found f) (tree_of i.question i.system.now i.limits.budget w.fail-in-Spent.new.self)) w.in-Spent.ensures.found
-                (notes_left i.question i.system.now i.limits.budget board w.fail-in-Spent.new.self (failed_parts board c.args.ticket h.ticket h.node true) c.args.self.now c.args.ticket (history.failed true)
-                c.self.view_is (parts h) (record { seat = h.ticket.seat; owner = owner i.question i.system.now i.limits.budget board tree c.args.ticket h; adds = record { follows = fail_follows i.question i.system.now i.limits.budget board tree c.args.ticket h wanted true; tree = refl } })),
+                (notes_left i.question i.system.now i.limits.budget board w.fail-in-Spent.new.self (failed_parts board c.args.ticket h.ticket h.node Spent) c.args.self.now c.args.ticket (history.failed Spent)
+                c.self.view_is (parts h) (record { seat = h.ticket.seat; owner = owner i.question i.system.now i.limits.budget board tree c.args.ticket h; adds = record { follows = fail_follows i.question i.system.now i.limits.budget board tree c.args.ticket h wanted Spent; tree = refl } })),
           )
     ]

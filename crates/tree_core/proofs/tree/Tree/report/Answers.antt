@@ -1,6 +1,6 @@
-use Rattle.std.proofs.Common.{◌≡◌, map, ap, arith}
+use Rattle.std.proofs.Common.{◌≡◌, map, length, ap, arith}
 use Rattle.std.proofs.lemmas.List.{length-map}
-use Rattle.tree_state.specs.tree_definitions.Questions.{goals_of}
+use Rattle.tree_state.specs.tree_definitions.Questions.{goal_count}
 use Rattle.tree_state.specs.tree_definitions.Trees.{ProofTree}
 use Rattle.tree_state.specs.tree_definitions.Reports.{part_of}
 use Rattle.tree_core.proofs.GoalParts.{parts_more, parts_of_tree, parts_well_made, parts_true}
@@ -19,7 +19,8 @@ returns-clause-well_made c = λ g part there. (c.loop-goal.invariant.1 g part th
 
 pub returns-clause-is_true : goal.returns-clause-is_true
 returns-clause-is_true c =
-    let same : goals_of c.self.inside.question ≡ goals_of c.args.self.now.question = ap (λ (t : ProofTree). goals_of t.question) c.self.view_is in
+    let same : goal_count c.self.inside.question ≡ goal_count c.args.self.now.question = ap (λ (t : ProofTree). goal_count t.question) c.self.view_is in
+    let count : length c.goals_of.result.now ≡ goal_count c.self.inside.question = ap length c.goals_of.ensures in
     let len = length-map c.loop-goal.goals.items part_of in
     parts_true c.args.self.now (map part_of c.loop-goal.goals.items)
-    (omega (arith, len, c.loop-goal.invariant.0, c.loop-goal-test.false, c.loop-goal.auto.goal-end, c.count_goals-goal-end.ensures, same)) c.loop-goal.invariant.1
+    (omega (arith, len, c.loop-goal.invariant.0, c.loop-goal-test.false, c.loop-goal.auto.goal-end, count, same)) c.loop-goal.invariant.1

@@ -2,7 +2,7 @@ use Rattle.std.proofs.Common.{◌≡◌, ◌++◌, ℕ, map, length, sym, ◌∙
 use Rattle.std.proofs.lemmas.List.{length-map}
 use Rattle.tree_definitions.specs.cert_step.ProofProblem.{problem_of}
 use Rattle.tree_definitions.specs.cert_step.ProofStep.{step_of}
-use Rattle.tree_state.specs.declared.goal.Goal.{Goal}
+use Rattle.tree_state.specs.declared.goal_state.GoalState.{GoalState}
 use Rattle.tree_definitions.specs.declared.mark.Mark.TheVariants.{Idle}
 use Rattle.tree_state.specs.declared.node.Decision.{Decision}
 use Rattle.tree_definitions.specs.History.{found}
@@ -49,7 +49,7 @@ count-requires c = λ g there.
     let more = nodes_more p c.end.new.self c.set_decision.new.self c.args.ticket has.ticket has.node (step_of c.args.step) has.made d (c.end.ensures has) decides
     c.append.new.self (map problem_of c.args.left.items) c.node_of_ticket-n.result.1 c.append.ensures.parts in
     let goal_is = (c.node_of_ticket-n.ensures has).1 in
-    let here : slice_get p.goals c.node_of_ticket-n.result.1 ≡ Some g = subst (λ (gs : List Goal). slice_get gs c.node_of_ticket-n.result.1 ≡ Some g) goals there in
+    let here : slice_get p.goals c.node_of_ticket-n.result.1 ≡ Some g = subst (λ (gs : List GoalState). slice_get gs c.node_of_ticket-n.result.1 ≡ Some g) goals there in
     let open_nodes = c.requires.open_nodes has g (subst (λ (n : ℕ). slice_get p.goals n ≡ Some g) goal_is here) in
     let count = c.len-count.ensures ∙ c.args.left.ok.0 ∙ sym (length-map c.args.left.items problem_of) in
     omega (arith, more, open_nodes, count, c.append.ensures.few)

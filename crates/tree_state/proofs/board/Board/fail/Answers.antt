@@ -13,7 +13,7 @@ note_stuck-requires c =
     let has = c.requires.has in
     let in_items = subst (λ (p : Parts). slice_get p.state.tickets c.args.ticket ≡ Some has.ticket) (sym c.self.view_is) has.there in
     let same : c.index.result.now ≡ has.ticket = c.index.ensures ∙ get_or_from_slice_get c.self.inside.tickets.items c.args.ticket has.ticket c.index.result.now in_items in
-    let n = nodes_ended c.args.self.now c.end.new.self c.args.ticket has.ticket has.node (failed c.args.spent) (Failed c.args.spent) has.made (c.end.ensures has) in
+    let n = nodes_ended c.args.self.now c.end.new.self c.args.ticket has.ticket has.node (failed c.args.failure) (Failed c.args.failure) has.made (c.end.ensures has) in
     rw same (omega (arith, n, node_made c.args.self.now c.args.ticket has))
 
 pub returns : goal.returns
@@ -22,4 +22,4 @@ returns c = λ has.
     let same : c.index.result.now ≡ has.ticket = c.index.ensures ∙ get_or_from_slice_get c.self.inside.tickets.items c.args.ticket has.ticket c.index.result.now in_items in
     let next = subst (λ (t : Ticket). (x : TreeNode) → slice_get c.end.new.self.state.nodes t.node ≡ Some x
     → c.note_stuck.new.self ≡ record c.end.new.self { goals = lost_if (all_failed x.marks) c.end.new.self.goals x.goal }) same c.note_stuck.ensures in
-    fail_parts c.args.self.now c.end.new.self c.note_stuck.new.self c.args.ticket has.ticket has.node c.args.spent has.made (c.end.ensures has) next
+    fail_parts c.args.self.now c.end.new.self c.note_stuck.new.self c.args.ticket has.ticket has.node c.args.failure has.made (c.end.ensures has) next
