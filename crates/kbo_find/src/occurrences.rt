@@ -17,6 +17,7 @@ pub(crate) struct Occurrences {
 }
 
 impl Occurrences {
+    /// Those of a term.
     pub(crate) fn of(alloc: Global, t: &Term) -> Result<Occurrences, OutOfMemory>
         ensures { IfOk result (AreOccurrences (tree t.now)) }
     {
