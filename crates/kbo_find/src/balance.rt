@@ -13,8 +13,8 @@ use trs_core::{OutOfMemory, Rule};
 /// The greatest weight, 2^63 - 1.
 const MOST: u64 = i64::MAX as u64;
 
-/// A rule and how often symbols occur in its sides; whether each variable occurs in the left side at
-/// least as often as in the right one; and whether both sides weigh the same by all weights.
+/// A rule and how often symbols occur in its sides; whether each variable occurs in the left side
+/// at least as often as in the right one; and whether both sides weigh the same by all weights.
 #[derive(Drop)]
 pub(crate) struct Balance<'a> {
     pub(crate) rule: &'a Rule,
