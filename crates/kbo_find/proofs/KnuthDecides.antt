@@ -32,10 +32,10 @@ lt_is a b e = grind (arith, nat_tests)
 pub is_lt : (a b : ℕ) → a < b → nat_lt a b ≡ true
 is_lt a b e = grind (arith, nat_tests)
 
-eq_is : (a b : ℕ) → (a == b) ≡ true → a ≡ b
+pub eq_is : (a b : ℕ) → (a == b) ≡ true → a ≡ b
 eq_is a b e = grind (arith, nat_tests)
 
-is_eq : (a b : ℕ) → a ≡ b → (a == b) ≡ true
+pub is_eq : (a b : ℕ) → a ≡ b → (a == b) ≡ true
 is_eq a b e = grind (arith, nat_tests)
 
 -- ---- occurrences

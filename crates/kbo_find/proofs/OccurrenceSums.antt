@@ -1,9 +1,8 @@
 -- The weight of a term and the occurrences in it, by the lists of its symbols and variables.
 use Rattle.std.specs.Prelude.{◌≡◌, ◌+◌, ◌==◌, ◌↔◌, ℕ, cond, Bool, IsTrue, List, [], ◌∷◌, length, sum_by}
-use Rattle.std.specs.List.Sorted.{IsPermutation}
 use Rattle.std.proofs.Common.{sym, arith, ◌∙◌, length-append}
 use Rattle.std.proofs.lemmas.List.Sums.{sum_by-cons, sum_by-append}
-use Rattle.std.proofs.lemmas.List.Sorted.{sum_by-IsPermutation}
+use Rattle.std.proofs.lemmas.List.Sorted.{sum_by-IsPermutation, length_permutation}
 use Rattle.trs_defs.specs.Tree.{Tree, Trees, var, app, nil, cons}
 use Rattle.trs_defs.specs.Variable.{occurrences, occurrences_in_all}
 use Rattle.order_theory.specs.KnuthBendix.{weigh, weigh_all, KeepsOccurrences}
@@ -47,20 +46,15 @@ module _ (v : ℕ) where
         let both = sum_by-append is_it (occurring_in t) (occurring_in_all ts) in
         omega (arith, first, rest, both)
 
-length_by : {A : Type 0} (xs : List A) → sum_by (λ _. 1) xs ≡ length xs
-length_by [] = omega arith
-length_by (x ∷ xs) = let rest = length_by xs in let more = sum_by-cons (λ _. 1) x xs in omega (arith, rest, more)
-
-as_long : {A : Type 0} (xs ys : List A) → IsPermutation xs ys → length ys ≡ length xs
-as_long xs ys p = let same = sum_by-IsPermutation (λ _. 1) xs ys p in omega (arith, same, length_by xs, length_by ys)
-
+-- a sum of ones
 pub length_of : (xs : List ℕ) → sum_by (λ _. 1) xs ≡ length xs
-length_of xs = length_by xs
+length_of [] = omega arith
+length_of (x ∷ xs) = let rest = length_of xs in let more = sum_by-cons (λ _. 1) x xs in omega (arith, rest, more)
 
 module _ (t : Tree) (all : Occurrences) (are : AreOccurrences t all) where
   pub counted : (counts : Counts) → ((weight : ℕ → ℕ) → total weight counts ≡ length all.variables.items + sum_by weight all.symbols.items) → AreCountsOf t counts
   counted counts h weight =
-      let variables = as_long (occurring_in t) all.variables.items are.variables in
+      let variables = length_permutation (occurring_in t) all.variables.items are.variables in
       let symbols = sum_by-IsPermutation weight (symbols_of t) all.symbols.items are.symbols in
       omega (arith, weigh_is weight t, h weight, variables, symbols)
 

@@ -8,6 +8,7 @@ use Rattle.std.proofs.lemmas.List.{drop_all, get_or_default, get_or-drop}
 use Rattle.std.proofs.lemmas.List.Sums.{sum_by-cons}
 use Rattle.trs_defs.proofs.ArgumentLists.{cell}
 use Rattle.kbo_find.specs.Occurring.{times_in, StandAsOften}
+use Rattle.kbo_find.proofs.KnuthDecides.{eq_is, is_eq}
 
 abbrev is_it : ℕ → ℕ → ℕ
 is_it v n = cond (n == v) 1 0
@@ -20,12 +21,6 @@ is_itself v = grind (arith, nat_tests)
 
 is_other : (v n : ℕ) → v < n → is_it v n ≡ 0
 is_other v n less = grind (arith, nat_tests)
-
-same_of : (a b : ℕ) → IsTrue (nat_eq a b) → a ≡ b
-same_of a b e = grind (arith, nat_tests)
-
-of_same : (a b : ℕ) → a ≡ b → IsTrue (nat_eq a b)
-of_same a b e = grind (arith, nat_tests)
 
 -- all numbers of the list are above this one
 abbrev AreAbove : ℕ → List ℕ → Type 0
@@ -149,4 +144,4 @@ module _ (many few : List ℕ) where
             omega (arith, at_end.0 all y, one, one_more y y (drop (found + 1) few), is_itself y)
 
     pub ended : IsTrue (nat_eq found (length few)) ↔ StandAsOften many few
-    ended = (λ e. stand (same_of found (length few) e), λ all. of_same found (length few) (found_all all))
+    ended = (λ e. stand (eq_is found (length few) e), λ all. is_eq found (length few) (found_all all))

@@ -10,20 +10,22 @@ use kbo_order::Weighting;
 use std::alloc::Global;
 use trs_core::{GREATEST_NUMBER, OutOfMemory, Rule};
 
-/// A rule, how often symbols occur in its sides, and whether each variable occurs in the left side
-/// at least as often as in the right one.
+/// A rule and how often symbols occur in its sides; whether each variable occurs in the left side
+/// at least as often as in the right one; and whether both sides weigh the same by all weights.
 #[derive(Drop)]
 pub(crate) struct Balance<'a> {
     pub(crate) rule: &'a Rule,
     left: Counts,
     right: Counts,
     keeps: bool,
+    is_even: bool,
     ghost left_counted: { AreCountsOf rule.now.left left },
     ghost right_counted: { AreCountsOf rule.now.right right },
     ghost kept: { IsTrue keeps ↔ KeepsOccurrences rule.now.left rule.now.right },
 }
 
 impl<'a> Balance<'a> {
+    /// The balance of a rule.
     pub(crate) fn of(alloc: Global, rule: &'a Rule) -> Result<Balance<'a>, OutOfMemory>
         ensures { IfOk result (λ balance. balance.rule.now ≡ rule.now) }
     {
@@ -34,6 +36,7 @@ impl<'a> Balance<'a> {
             left: Counts::of(alloc, &left)?,
             right: Counts::of(alloc, &right)?,
             keeps: stands_as_often(&left.variables, &right.variables),
+            is_even: left.symbols == right.symbols && left.variables.len() == right.variables.len(),
         })
     }
 
@@ -47,6 +50,9 @@ impl<'a> Balance<'a> {
     {
         if !self.keeps {
             return Some(false);
+        }
+        if self.is_even {
+            return None;
         }
         let left = self.left.weight(order);
         let right = self.right.weight(order);

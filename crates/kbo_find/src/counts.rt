@@ -22,9 +22,11 @@ pub(crate) struct Counts {
 }
 
 impl Counts {
+    /// Each symbol of some occurrences, with how often it is there.
     pub(crate) fn of(alloc: Global, occurrences: &Occurrences) -> Result<Counts, OutOfMemory>
         ensures { IfOk result (λ counts. (weight : ℕ → ℕ) → total weight counts
-            ≡ length occurrences.now.variables.items + sum_by weight occurrences.now.symbols.items) }
+            ≡ length occurrences.now.variables.items
+            + sum_by weight occurrences.now.symbols.items) }
     {
         let symbols = grouped(alloc, &occurrences.symbols)?;
         let variables = occurrences.variables.len() as u64;

@@ -17,6 +17,7 @@ pub(crate) struct Occurrences {
 }
 
 impl Occurrences {
+    /// Those of a term.
     pub(crate) fn of(alloc: Global, t: &Term) -> Result<Occurrences, OutOfMemory>
         ensures { IfOk result (AreOccurrences (tree t.now)) }
     {
@@ -35,7 +36,8 @@ fn add_occurrences(
     symbols: &mut Vec<u32>,
     variables: &mut Vec<u32>,
 ) -> Result<(), OutOfMemory>
-    ensures symbols { OnOk result (symbols.new.items ≡ symbols.old.items ++ symbols_of (tree t.now)) }
+    ensures symbols { OnOk result
+        (symbols.new.items ≡ symbols.old.items ++ symbols_of (tree t.now)) }
     ensures variables { OnOk result
         (variables.new.items ≡ variables.old.items ++ occurring_in (tree t.now)) }
 {
@@ -53,7 +55,8 @@ fn add_occurrences(
     Ok(())
 }
 
-/// Whether each number stands in the first of two ascending lists at least as often as in the second.
+/// Whether each number stands in the first of two ascending lists at least as often as in the
+/// second.
 pub(crate) fn stands_as_often(many: &[u32], few: &[u32]) -> bool
     requires many { IsNonDecreasing many.now }
     requires few { IsNonDecreasing few.now }
