@@ -577,7 +577,7 @@ module _ (rules : List RewriteRule) (all : List DependencyPair) (numbers : List 
             (ready m n (in_right (members_of item) i) k (member_there numbers named (members_of item ++ all_members items) news m (in_right (members_of item) i), member_there numbers named (members_of item ++ all_members items) news n (in_left (all_members items) k), edge)) i
       ])
       (λ n j. elim (in_either (all_members before) (members_of item) (subst (In n) (members_append before item) j)) [
-        | inl k ↦ item_there n k
+        | inl k ↦ there n k
         | inr k ↦ member_there numbers named (members_of item ++ all_members items) news n (in_left (all_members items) k)
       ]))
 
