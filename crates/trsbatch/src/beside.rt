@@ -5,6 +5,7 @@ ghost use Rattle.trsbatch.specs.Placing.{ArePlaced, AreInSlots};
 
 use crate::answering::block_of;
 use crate::block::Block;
+use crate::longest_first::longest_first;
 use crate::placed::{Placed, in_slots};
 use crate::problem::Problem;
 use command_line::Question;
@@ -46,22 +47,25 @@ pub(crate) fn blocks_beside<R: Threads + Sync, G: Gate>(
     ensures { IfOk result (λ blocks. AreBlocksOf question budget problems.now blocks.items) }
 {
     let workers = problems.len().min(workers as usize);
-    let placed = placed_blocks(rt, alloc, problems, question, budget, workers, gate)?;
+    let order = longest_first(alloc, problems)?;
+    let placed = placed_blocks(rt, alloc, problems, &order, question, budget, workers, gate)?;
     let slots = in_slots(alloc, problems, placed)?;
     blocks_of(alloc, problems, slots, question, budget, gate)
 }
 
-// The blocks that each worker makes. Whoever is free takes the next problem of the list.
+// The blocks that each worker makes. Whoever is free takes the next problem of the order.
 fn placed_blocks<R: Threads + Sync, G: Gate>(
     rt: &R,
     alloc: Global,
     problems: &[Problem],
+    order: &[usize],
     question: Question,
     budget: u64,
     workers: usize,
     gate: &G,
 ) -> Result<Vec<Vec<Placed>>, AllocError>
-    requires { All IsWithinLimit problems.now }
+    requires within { All IsWithinLimit problems.now }
+    requires order { All (λ place. place < length problems.now) order.now }
     ensures len { IfOk result (λ lists. length lists.items ≡ workers) }
     ensures each { IfOk result (λ lists. (i : ℕ) (d : _) → i < workers →
         ArePlaced question budget problems.now (slice_index_or lists.items i d)) }
@@ -72,9 +76,10 @@ fn placed_blocks<R: Threads + Sync, G: Gate>(
         alloc,
         workers,
         &|_worker: usize| -> Vec<Placed>
-            requires { All IsWithinLimit problems.now }
+            requires within { All IsWithinLimit problems.now }
+            requires order { All (λ place. place < length problems.now) order.now }
             ensures { ArePlaced question budget problems.entry.now result }
-        { placed_by_one(alloc, problems, question, budget, &next, gate) },
+        { placed_by_one(alloc, problems, order, question, budget, &next, gate) },
     )
 }
 
@@ -82,20 +87,23 @@ fn placed_blocks<R: Threads + Sync, G: Gate>(
 fn placed_by_one<G: Gate>(
     alloc: Global,
     problems: &[Problem],
+    order: &[usize],
     question: Question,
     budget: u64,
     next: &AtomicUsize,
     gate: &G,
 ) -> Vec<Placed>
-    requires { All IsWithinLimit problems.now }
+    requires within { All IsWithinLimit problems.now }
+    requires order { All (λ place. place < length problems.now) order.now }
     ensures { ArePlaced question budget problems.now result }
 {
     let mut placed = Vec::new(alloc);
-    for _ in problems {
-        let place = next.fetch_add(1, Ordering::SeqCst);
-        if place >= problems.len() {
+    for _ in order {
+        let turn = next.fetch_add(1, Ordering::SeqCst);
+        if turn >= order.len() {
             break;
         }
+        let place = order[turn];
         let block = block_at(alloc, place, &problems[place], question, budget, gate);
         if placed.push(Placed { place, block }).is_err() {
             break;

@@ -13,6 +13,7 @@ mod laws;
 mod list;
 mod list_lines;
 mod listed;
+mod longest_first;
 mod placed;
 mod problem;
 mod report;

@@ -14,8 +14,8 @@ use std::thread::Threads;
 
 /// Runs the program with as many workers as the words ask for. The problems of the list are fetched
 /// one after the other; then the workers answer the question about each, beside each other, whoever
-/// is free the next, and the blocks are written in the order of the list. Where the words ask for
-/// one worker or for nothing, its work is that of `batch_alone`. `gate` is a hook for tests: a worker
+/// is free the next, longer texts first, and the blocks are written in the order of the list. Where
+/// the words ask for one worker or for nothing, its work is that of `batch_alone`. `gate` is a hook for tests: a worker
 /// calls `before(i)` and `after(i)` round problem `i`.
 pub fn run_batch<R: Threads + Sync, S: Shelf, K: Sink, G: Gate>(
     rt: &R,
