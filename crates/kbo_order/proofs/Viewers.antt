@@ -1,4 +1,4 @@
--- The variables of the second term see the two terms, 8 after 8.
+-- The variables of the second term see the two terms, walk by walk.
 use Rattle.std.proofs.Common.{◌≡◌, ℕ, ◌+◌, ◌-◌, ◌≤◌, ◌<◌, ◌^◌, ◌⊎◌, ◌↔◌, inl, inr, refl, sym, subst, ◌∙◌, arith, true, false, Bool, IsTrue, Option, Some, None}
 use Rattle.std.proofs.lemmas.Bool.{cases_lt}
 use Rattle.trs_defs.specs.Tree.{Tree, Trees}
@@ -54,25 +54,25 @@ module _ (w rank : ℕ → ℕ) (s t : Tree) where
     pub below : (x : ℕ) → x < from → SeenGreater w rank x s t
 
   -- variables that do not all see it decide
-  pub unseen : (from : ℕ) (b : Bool) → View w rank from s t b → b ≡ false → (EitherIsBig w s t → ⊥) × (IsTrue false ↔ KnuthGreater w rank s t)
-  unseen from b view e = (
+  pub unseen : (size from : ℕ) (b : Bool) → View w rank size from s t b → b ≡ false → (EitherIsBig w s t → ⊥) × (IsTrue false ↔ KnuthGreater w rank s t)
+  unseen size from b view e = (
     λ big. elim big [ inl k ↦ not_big w s view.left_small k | inr k ↦ not_big w t view.right_small k ],
     (λ yes. absurd cc, λ g. let sees : IsTrue b = view.greater.1 (λ i small. seen_of w rank (from + i) g) in absurd (cc (sees, e))),
   )
 
   -- one of the variables that a walk takes
-  seen_at : (from : ℕ) (b : Bool) → View w rank from s t b → b ≡ true → (x : ℕ) → from ≤ x → x < from + 8 → SeenGreater w rank x s t
-  seen_at from b view all x le lt =
+  seen_at : (size from : ℕ) (b : Bool) → View w rank size from s t b → b ≡ true → (x : ℕ) → from ≤ x → x < from + size → SeenGreater w rank x s t
+  seen_at size from b view all x le lt =
       let at : from + (x - from) ≡ x = omega arith in
-      let small : x - from < 8 = omega arith in
+      let small : x - from < size = omega arith in
       subst (λ z. SeenGreater w rank z s t) at (view.greater.0 all (x - from) small)
 
-  pub seen_first : (b : Bool) → View w rank 0 s t b → b ≡ true → SeenBelow 8
-  seen_first b view all = record {
+  pub seen_first : (size : ℕ) (b : Bool) → 0 < size → View w rank size 0 s t b → b ≡ true → SeenBelow size
+  seen_first size b some view all = record {
     left_small = view.left_small;
     right_small = view.right_small;
-    first = seen_at 0 b view all 0 (omega arith) (omega arith);
-    below = λ x below. seen_at 0 b view all x (omega arith) (omega (arith, below));
+    first = seen_at size 0 b view all 0 (omega arith) (omega arith);
+    below = λ x below. seen_at size 0 b view all x (omega arith) (omega (arith, below));
   }
 
   module _ (from : ℕ) (h : SeenBelow from) (o : Option ℕ) (e : o ≡ least_variable from None t) where
@@ -82,14 +82,14 @@ module _ (w rank : ℕ → ℕ) (s t : Tree) where
       | inr more ↦ absent w rank y 0 s t (none y more below) h.first
     ]
 
-    pub seen_more : (x : ℕ) (b : Bool) → o ≡ Some x → View w rank x s t b → b ≡ true → SeenBelow (x + 8)
-    seen_more x b is view all = record {
+    pub seen_more : (size x : ℕ) (b : Bool) → o ≡ Some x → View w rank size x s t b → b ≡ true → SeenBelow (x + size)
+    seen_more size x b is view all = record {
       left_small = h.left_small;
       right_small = h.right_small;
       first = h.first;
       below = λ y below. elim (cases_lt y x) [
         | inl less ↦ between x none y less
-        | inr more ↦ seen_at x b view all y more below
+        | inr more ↦ seen_at size x b view all y more below
       ];
     }
       where

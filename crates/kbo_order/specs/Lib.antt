@@ -2,6 +2,7 @@
 pub use Rattle.pair_order.specs as pair_order
 pub mod Table
 pub mod Faults
+pub mod Balances
 pub mod Seen
 pub mod TooBig
 pub mod Laws

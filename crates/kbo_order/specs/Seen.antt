@@ -1,10 +1,11 @@
--- The Knuth-Bendix order as one variable sees it: only this variable's occurrences are compared. A walk takes 8 variables, from a
+-- The Knuth-Bendix order as one variable sees it: only this variable's occurrences are compared. A walk takes some variables, from a
 -- number on.
-use Rattle.std.specs.Prelude.{◌≡◌, ◌≤◌, ◌<◌, ◌+◌, ◌-◌, ◌^◌, ℕ, ◌⊎◌, ◌↔◌, IsTrue, Bool, List, Result, Ok, Err, min, slice_index}
+use Rattle.std.specs.Prelude.{◌≡◌, ◌≤◌, ◌<◌, ◌+◌, ◌^◌, ℕ, ℤ, ◌⊎◌, ◌↔◌, IsTrue, Bool, List, Result, Ok, Err}
 use Rattle.trs_defs.specs.Tree.{Tree, Trees, var, app, nil, cons, count}
 use Rattle.trs_defs.specs.Variable.{occurrences}
 use Rattle.order_theory.specs.KnuthBendix.{weigh, Tower}
 use Rattle.pair_order.specs.declared.pairs.TooBig.{TooBig}
+use Rattle.kbo_order.specs.Balances.{AreDifferences, HaveNoDeficit}
 use Rattle.kbo_order.specs.declared.measure.Weights.{Weights}
 use Rattle.kbo_order.specs.declared.measure.Seen.{Seen}
 
@@ -32,28 +33,17 @@ module _ (weight rank : ℕ → ℕ) (x : ℕ) where
   abbrev pub SeenGreater : Tree → Tree → Type 0
   SeenGreater s t = AboveTerm s t (Decides s t)
 
--- each of 8 variables sees that s is greater
-abbrev pub AllSeeGreater : (ℕ → ℕ) → (ℕ → ℕ) → ℕ → Tree → Tree → Type 0
-AllSeeGreater weight rank from s t = (i : ℕ) → i < 8 → SeenGreater weight rank (from + i) s t
+-- each of some variables sees that s is greater
+abbrev pub AllSeeGreater : (ℕ → ℕ) → (ℕ → ℕ) → ℕ → ℕ → Tree → Tree → Type 0
+AllSeeGreater weight rank size from s t = (i : ℕ) → i < size → SeenGreater weight rank (from + i) s t
 
 -- m is heavier than n, or as heavy and the rest decides
 abbrev pub Outweighs : ℕ → ℕ → Type 0 → Type 0
 Outweighs m n rest = (n < m) ⊎ ((m ≡ n) × rest)
 
--- none of 8 counts on the right is above that on the left
-abbrev pub AreAtLeast : List ℕ → List ℕ → Type 0
-AreAtLeast left right = (i : ℕ) → i < 8 → slice_index right i ≤ slice_index left i
-
-abbrev pub IsAbove : ℕ → ℕ → Type 0 → List ℕ → List ℕ → Type 0
-IsAbove m n rest left right = Outweighs m n rest × AreAtLeast left right
-
-abbrev pub AreNone : List ℕ → Type 0
-AreNone counts = (i : ℕ) → i < 8 → slice_index counts i ≡ 0
-
--- to each of 8 counts the occurrences of its variable are added, as far as 64 bits tell
-abbrev pub AreCounted : ℕ → Tree → List ℕ → List ℕ → Type 0
-AreCounted from t before after = (i : ℕ) → i < 8 → min (slice_index after i) (2 ^ 64 - 1)
-    ≡ min (slice_index before i + occurrences (from + i) t) (2 ^ 64 - 1)
+-- the same, and each variable occurs at least as often on the left
+abbrev pub IsAbove : ℕ → ℕ → Type 0 → ℕ → List ℤ → Type 0
+IsAbove m n rest size differences = Outweighs m n rest × HaveNoDeficit size differences
 
 -- a term's weight, unless it weighs too much
 abbrev pub IsWeight : (ℕ → ℕ) → Tree → Result ℕ TooBig → Type 0
@@ -73,33 +63,26 @@ abbrev pub AreSums : Weights → Weights → Result Weights TooBig → Type 0
 AreSums m n (Ok sums) = IsSum m.left n.left (Ok sums.left) × IsSum m.right n.right (Ok sums.right)
 AreSums m n (Err e) = (2 ^ 63 ≤ m.left + n.left) ⊎ (2 ^ 63 ≤ m.right + n.right)
 
--- two counts differ as the occurrences of the variable in s and in t; none is above the term's weight
-pub record Differ (weight : ℕ → ℕ) (x : ℕ) (s t : Tree) (left right : ℕ) : Type 0 where
-  pub as_occurrences : left + occurrences x t ≡ right + occurrences x s
-  pub left_light : left ≤ weigh weight s
-  pub right_light : right ≤ weigh weight t
-
-pub record SeesTerms (weight rank : ℕ → ℕ) (from : ℕ) (s t : Tree) (left right : List ℕ) (seen : Seen) : Type 0 where
+pub record SeesTerms (weight rank : ℕ → ℕ) (size from : ℕ) (s t : Tree) (differences : List ℤ) (seen : Seen) : Type 0 where
   pub weights : AreWeights weight s t (Ok seen.weights)
   pub same : IsTrue seen.same ↔ (s ≡ t)
-  pub greater : IsTrue seen.greater ↔ AllSeeGreater weight rank from s t
-  pub counts : (i : ℕ) → i < 8 → Differ weight (from + i) s t (slice_index left i) (slice_index right i)
-  pub none : IsTrue seen.same → AreNone left × AreNone right
+  pub greater : IsTrue seen.greater ↔ AllSeeGreater weight rank size from s t
+  pub differ : AreDifferences size from s t differences
 
--- what 8 variables see, where the counts were none before
-abbrev pub Sees : (ℕ → ℕ) → (ℕ → ℕ) → ℕ → Tree → Tree → List ℕ → List ℕ → Result Seen TooBig → Type 0
-Sees weight rank from s t left right (Ok seen) = SeesTerms weight rank from s t left right seen
-Sees weight rank from s t left right (Err e) = (2 ^ 63 ≤ weigh weight s) ⊎ (2 ^ 63 ≤ weigh weight t)
+-- what some variables see, where they were even before
+abbrev pub Sees : (ℕ → ℕ) → (ℕ → ℕ) → ℕ → ℕ → Tree → Tree → List ℤ → Result Seen TooBig → Type 0
+Sees weight rank size from s t differences (Ok seen) = SeesTerms weight rank size from s t differences seen
+Sees weight rank size from s t differences (Err e) = (2 ^ 63 ≤ weigh weight s) ⊎ (2 ^ 63 ≤ weigh weight t)
 
-pub record View (weight rank : ℕ → ℕ) (from : ℕ) (s t : Tree) (answer : Bool) : Type 0 where
+pub record View (weight rank : ℕ → ℕ) (size from : ℕ) (s t : Tree) (answer : Bool) : Type 0 where
   pub left_small : weigh weight s < 2 ^ 63
   pub right_small : weigh weight t < 2 ^ 63
-  pub greater : IsTrue answer ↔ AllSeeGreater weight rank from s t
+  pub greater : IsTrue answer ↔ AllSeeGreater weight rank size from s t
 
--- whether each of 8 variables sees that s is greater
-abbrev pub IsView : (ℕ → ℕ) → (ℕ → ℕ) → ℕ → Tree → Tree → Result Bool TooBig → Type 0
-IsView weight rank from s t (Ok answer) = View weight rank from s t answer
-IsView weight rank from s t (Err e) = (2 ^ 63 ≤ weigh weight s) ⊎ (2 ^ 63 ≤ weigh weight t)
+-- whether each of some variables sees that s is greater
+abbrev pub IsView : (ℕ → ℕ) → (ℕ → ℕ) → ℕ → ℕ → Tree → Tree → Result Bool TooBig → Type 0
+IsView weight rank size from s t (Ok answer) = View weight rank size from s t answer
+IsView weight rank size from s t (Err e) = (2 ^ 63 ≤ weigh weight s) ⊎ (2 ^ 63 ≤ weigh weight t)
 
 -- no two applications of one symbol to as many arguments
 abbrev pub AreApart : Tree → Tree → Type 0

@@ -1,14 +1,25 @@
-ghost use Rattle.std.specs.Prelude.{◌≡◌, ◌↔◌, ℕ, length, IfOk, IsTrue};
+ghost use Rattle.std.specs.Prelude.{◌≡◌, ◌↔◌, ◌<◌, ◌^◌, ℕ, IfOk, IsTrue};
 ghost use Rattle.trs_core.specs.View.{tree};
 ghost use Rattle.order_theory.specs.KnuthBendix.{KnuthGreater, KnuthWeak, Tower};
 ghost use Rattle.pair_order.specs.Compared.{IsAnswer};
 ghost use Rattle.kbo_order.specs.TooBig.{EitherIsBig};
-ghost use Rattle.kbo_order.specs.Seen.{Sees, IsView, AreNone, AreCounted, IsWeight, AreWeights, AreApart, Decides};
+ghost use Rattle.kbo_order.specs.Balances.{AreEven, TermIsCounted, TermsAreCounted};
+ghost use Rattle.kbo_order.specs.Seen.{Sees, IsView, IsWeight, AreWeights, AreApart, Decides};
 
 use crate::Weighting;
-use crate::measure::{Seen, WINDOW, Weights, add_at, plus};
+use crate::balances::{Balances, Side};
+use crate::measure::{Seen, Weights, plus};
 use pair_order::{TooBig, least_variable};
 use trs_core::Term;
+
+/// How many variables the first walk takes: most terms have no more.
+const FIRST_WINDOW: usize = 8;
+
+/// How many variables the second walk takes.
+const SECOND_WINDOW: usize = 32;
+
+/// How many variables each later walk takes. A walk that takes more costs more to begin.
+const LATER_WINDOW: usize = 4096;
 
 /// Whether the first term is the second, or greater.
 pub fn is_weak<W: Weighting>(order: &W, s: &Term, t: &Term) -> Result<bool, TooBig>
@@ -35,59 +46,69 @@ fn is_greater<W: Weighting>(order: &W, s: &Term, t: &Term) -> Result<bool, TooBi
         (KnuthGreater (W.weights order.now) (W.ranks order.now)
         (tree s.now) (tree t.now)) result }
 {
-    let first = view(order, 0, s, t)?;
+    let first = view::<W, FIRST_WINDOW>(order, 0, s, t)?;
     if !first {
         return Ok(false);
     }
-    let mut from: u64 = WINDOW as u64;
+    let Some(y) = least_variable(t, FIRST_WINDOW as u64, None) else {
+        return Ok(true);
+    };
+    let second = view::<W, SECOND_WINDOW>(order, y, s, t)?;
+    if !second {
+        return Ok(false);
+    }
+    let mut from: u64 = u64::from(y) + SECOND_WINDOW as u64;
     while let Some(x) = least_variable(t, from, None) {
-        let next = view(order, x, s, t)?;
+        let next = view::<W, LATER_WINDOW>(order, x, s, t)?;
         if !next {
             return Ok(false);
         }
-        from = u64::from(x) + WINDOW as u64;
+        from = u64::from(x) + LATER_WINDOW as u64;
     }
     Ok(true)
 }
 
 /// Whether each variable from a number on, of those that one walk takes, sees that the first term is
 /// greater.
-fn view<W: Weighting>(order: &W, from: u32, s: &Term, t: &Term) -> Result<bool, TooBig>
-    ensures { IsView (W.weights order.now) (W.ranks order.now) from
-        (tree s.now) (tree t.now) result }
-{
-    let mut left = [0; WINDOW];
-    let mut right = [0; WINDOW];
-    let seen = see(order, from, s, t, &mut left, &mut right)?;
-    Ok(seen.greater)
-}
-
-/// What the variables see. Of arguments before the first that differ, no occurrences are counted.
-fn see<W: Weighting>(
+fn view<W: Weighting, const N: usize>(
     order: &W,
     from: u32,
     s: &Term,
     t: &Term,
-    left: &mut [u64; WINDOW],
-    right: &mut [u64; WINDOW],
+) -> Result<bool, TooBig>
+    requires some { 0 < N }
+    requires fits { N < 2 ^ 32 }
+    ensures { IsView (W.weights order.now) (W.ranks order.now) N from
+        (tree s.now) (tree t.now) result }
+{
+    let mut balances = Balances::<N>::new();
+    let seen = see(order, from, s, t, &mut balances)?;
+    Ok(seen.greater)
+}
+
+/// What the variables see. Of arguments before the first that differ, no occurrences are counted.
+fn see<W: Weighting, const N: usize>(
+    order: &W,
+    from: u32,
+    s: &Term,
+    t: &Term,
+    balances: &mut Balances<N>,
 ) -> Result<Seen, TooBig>
-    requires none_left { AreNone left.old }
-    requires none_right { AreNone right.old }
-    ensures left_length { length left.new ≡ 8 }
-    ensures right_length { length right.new ≡ 8 }
-    ensures seen { Sees (W.weights order.now) (W.ranks order.now) from
-        (tree s.now) (tree t.now) left.new right.new result }
+    requires some { 0 < N }
+    requires even { AreEven N balances.old }
+    ensures { Sees (W.weights order.now) (W.ranks order.now) N from
+        (tree s.now) (tree t.now) balances.new result }
 {
     match s {
-        Term::Var(_) => see_apart(order, from, s, t, left, right),
+        Term::Var(_) => see_apart(order, from, s, t, balances),
         Term::App(f, ss) => match t {
-            Term::Var(_) => see_apart(order, from, s, t, left, right),
+            Term::Var(_) => see_apart(order, from, s, t, balances),
             Term::App(g, ts) => {
                 if f != g {
-                    return see_apart(order, from, s, t, left, right);
+                    return see_apart(order, from, s, t, balances);
                 }
                 if ss.items.len() != ts.items.len() {
-                    return see_apart(order, from, s, t, left, right);
+                    return see_apart(order, from, s, t, balances);
                 }
                 let mut seen = Seen {
                     weights: Weights { left: 0, right: 0 },
@@ -97,7 +118,7 @@ fn see<W: Weighting>(
                 for (i, a) in ss.items.iter().enumerate() {
                     let b = &ts.items[i];
                     if seen.same {
-                        let next = see(order, from, a, b, left, right)?;
+                        let next = see(order, from, a, b, balances)?;
                         let sums = seen.weights.plus(next.weights)?;
                         seen = Seen {
                             weights: sums,
@@ -106,7 +127,7 @@ fn see<W: Weighting>(
                         };
                         continue;
                     }
-                    let more = measure_both(order, from, a, b, left, right)?;
+                    let more = measure_both(order, from, a, b, balances)?;
                     let sums = seen.weights.plus(more)?;
                     seen = Seen {
                         weights: sums,
@@ -119,7 +140,7 @@ fn see<W: Weighting>(
                     left: root,
                     right: root,
                 })?;
-                let greater = weights.are_above(seen.greater, left, right);
+                let greater = weights.are_above(seen.greater, balances);
                 Ok(Seen {
                     weights,
                     same: seen.same,
@@ -131,21 +152,18 @@ fn see<W: Weighting>(
 }
 
 /// The same of terms that are no applications of one symbol to as many arguments.
-fn see_apart<W: Weighting>(
+fn see_apart<W: Weighting, const N: usize>(
     order: &W,
     from: u32,
     s: &Term,
     t: &Term,
-    left: &mut [u64; WINDOW],
-    right: &mut [u64; WINDOW],
+    balances: &mut Balances<N>,
 ) -> Result<Seen, TooBig>
     requires apart { AreApart (tree s.now) (tree t.now) }
-    requires none_left { AreNone left.old }
-    requires none_right { AreNone right.old }
-    ensures left_length { length left.new ≡ 8 }
-    ensures right_length { length right.new ≡ 8 }
-    ensures seen { Sees (W.weights order.now) (W.ranks order.now) from
-        (tree s.now) (tree t.now) left.new right.new result }
+    requires some { 0 < N }
+    requires even { AreEven N balances.old }
+    ensures { Sees (W.weights order.now) (W.ranks order.now) N from
+        (tree s.now) (tree t.now) balances.new result }
 {
     let same = are_one_variable(s, t);
     if same {
@@ -155,9 +173,9 @@ fn see_apart<W: Weighting>(
             greater: false,
         });
     }
-    let weights = measure_both(order, from, s, t, left, right)?;
+    let weights = measure_both(order, from, s, t, balances)?;
     let rest = decides(order, s, t);
-    let greater = weights.are_above(rest, left, right);
+    let greater = weights.are_above(rest, balances);
     Ok(Seen {
         weights,
         same: false,
@@ -165,49 +183,44 @@ fn see_apart<W: Weighting>(
     })
 }
 
-/// The weights of two terms; to each count the occurrences of its variable are added.
-fn measure_both<W: Weighting>(
+/// The weights of two terms; the occurrences of their variables are counted.
+fn measure_both<W: Weighting, const N: usize>(
     order: &W,
     from: u32,
     s: &Term,
     t: &Term,
-    left: &mut [u64; WINDOW],
-    right: &mut [u64; WINDOW],
+    balances: &mut Balances<N>,
 ) -> Result<Weights, TooBig>
-    ensures left_length { length left.new ≡ 8 }
-    ensures right_length { length right.new ≡ 8 }
     ensures weights { AreWeights (W.weights order.now) (tree s.now) (tree t.now) result }
-    ensures left_counts { IfOk result (λ _. AreCounted from (tree s.now) left.old left.new) }
-    ensures right_counts { IfOk result (λ _. AreCounted from (tree t.now) right.old right.new) }
+    ensures counted { IfOk result (λ _. TermsAreCounted N from (tree s.now) (tree t.now)
+        balances.old balances.new) }
 {
-    let left_weight = measure(order, from, s, left)?;
-    let right_weight = measure(order, from, t, right)?;
-    Ok(Weights {
-        left: left_weight,
-        right: right_weight,
-    })
+    let left = measure(order, from, Side::Left, s, balances)?;
+    let right = measure(order, from, Side::Right, t, balances)?;
+    Ok(Weights { left, right })
 }
 
-/// The term's weight; to each count the occurrences of its variable are added.
-fn measure<W: Weighting>(
+/// The weight of the term on a side; the occurrences of its variables are counted.
+fn measure<W: Weighting, const N: usize>(
     order: &W,
     from: u32,
+    side: Side,
     t: &Term,
-    counts: &mut [u64; WINDOW],
+    balances: &mut Balances<N>,
 ) -> Result<u64, TooBig>
-    ensures length { length counts.new ≡ 8 }
     ensures weight { IsWeight (W.weights order.now) (tree t.now) result }
-    ensures counts { IfOk result (λ _. AreCounted from (tree t.now) counts.old counts.new) }
+    ensures counted { IfOk result (λ _. TermIsCounted N from side (tree t.now)
+        balances.old balances.new) }
 {
     match t {
         Term::Var(x) => {
-            add_at(counts, from, *x);
+            balances.count(from, side, *x);
             Ok(1)
         }
         Term::App(f, args) => {
             let mut sum = 0;
             for arg in &args.items {
-                let next = measure(order, from, arg, counts)?;
+                let next = measure(order, from, side, arg, balances)?;
                 sum = plus(sum, next)?;
             }
             plus(sum, order.weight(*f))

@@ -2,6 +2,7 @@
 //! Baader and Nipkow, section 5.4.)
 #![tactic(auto)]
 
+mod balances;
 mod comparing;
 mod entries;
 mod faults;

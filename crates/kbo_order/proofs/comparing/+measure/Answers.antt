@@ -1,13 +1,14 @@
-use Rattle.std.proofs.Common.{rules, ◌+◌, subst, drop}
+use Rattle.std.proofs.Common.{◌+◌, subst, drop}
 use Rattle.trs_defs.proofs.ArgumentLists.{cell}
 use Rattle.trs_core.specs.View.{tree, forest}
-use Rattle.kbo_order.proofs.Sums.{Left, start, next, Remains, all_remain, more_counted}
+use Rattle.kbo_order.proofs.Sums.{Left, start, next}
+use Rattle.kbo_order.proofs.Differences.{Remains, all_remain, more_counted}
 use Rattle.kbo_order.proofs.comparing.+measure.Goals as goal
 
 pub loop-arg-init : goal.loop-arg-init
 loop-arg-init g t c =
     let us = forest c.deref-arg-items.result.now in
-    (search rules, start (g.W.Weighting.weights c.args.order.now) us, all_remain c.args.from us c.args.counts.now)
+    (start (g.W.Weighting.weights c.args.order.now) us, all_remain g.row.N c.args.from c.args.side us c.args.balances.now)
 
 pub loop-arg-preserved : goal.loop-arg-preserved
 loop-arg-preserved g t c =
@@ -15,9 +16,8 @@ loop-arg-preserved g t c =
     let items = c.deref-arg-items.result.now in
     let rest = forest (drop (c.loop-arg.arg-index + 1) items) in
     let here = cell items c.loop-arg.arg-index c.arg-item.result c.loop-arg-test.true c.arg-item.is in
-    let before = subst (λ us. Left w (forest items) (forest us) c.loop-arg.sum × Remains c.args.from (forest items) (forest us) c.args.counts.now c.loop-arg.counts) here
-    (c.loop-arg.invariant.1, c.loop-arg.invariant.2) in (
-      c.in_ok-next-in-App.ensures.length,
+    let before = subst (λ us. Left w (forest items) (forest us) c.loop-arg.sum × Remains g.row.N c.args.from c.args.side (forest items) (forest us) c.args.balances.now c.loop-arg.balances) here
+    c.loop-arg.invariant in (
       next w (forest items) (tree c.arg-item.result) rest c.loop-arg.sum before.0 c.in_ok-next-in-App.next c.in_ok-sum-in-App.sum c.in_ok-next-in-App.ensures.weight c.in_ok-sum-in-App.ensures,
-      more_counted c.args.from (forest items) (tree c.arg-item.result) rest c.args.counts.now c.loop-arg.counts c.measure.new.counts before.1 c.in_ok-next-in-App.ensures.counts,
+      more_counted g.row.N c.args.from c.args.side (forest items) (tree c.arg-item.result) rest c.args.balances.now c.loop-arg.balances c.measure.new.balances before.1 c.in_ok-next-in-App.ensures.counted,
     )

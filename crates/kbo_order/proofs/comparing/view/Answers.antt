@@ -1,8 +1,8 @@
-use Rattle.kbo_order.proofs.Sums.{zeros_are_none}
+use Rattle.std.proofs.Common.{arith}
 use Rattle.kbo_order.proofs.comparing.view.Goals as goal
 
-pub see-requires-clause-none_left : goal.see-requires-clause-none_left
-see-requires-clause-none_left g c = zeros_are_none
+pub new-balances-requires : goal.new-balances-requires
+new-balances-requires g c = omega arith
 
-pub see-requires-clause-none_right : goal.see-requires-clause-none_right
-see-requires-clause-none_right g c = zeros_are_none
+pub see-requires : goal.see-requires
+see-requires g c = (omega arith, (c.requires.some, c.new-balances.ensures))
