@@ -1,7 +1,7 @@
-pub mod Walk
-pub mod InOrder
-pub mod Deciding
 pub mod AtRows
+pub mod ValueLaws
 pub mod Saturation
 pub mod Windows
 pub mod SmallDeciding
+pub mod BigVariables
+pub mod BehindZero

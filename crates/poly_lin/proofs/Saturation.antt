@@ -1,8 +1,8 @@
--- A walk that computes a constant as far as 64 bits tell.
+-- A walk that computes a value as far as 64 bits tell.
 use Rattle.std.proofs.Common.{◌≡◌, ℕ, ◌+◌, ◌*◌, ◌-◌, ◌<◌, ◌^◌, min, inl, inr, zero, suc, sym, ap, ◌∙◌, arith, add-one}
 use Rattle.std.proofs.lemmas.Bool.{cases_lt}
 use Rattle.trs_defs.specs.Tree.{Tree, Trees, app, nil, cons}
-use Rattle.order_theory.specs.LinearInterpretation.{constant, constants}
+use Rattle.order_theory.specs.LinearInterpretation.{value, values}
 
 pub multiple_saturates : (k q v : ℕ) → v ≡ min q (2 ^ 64 - 1) → min (k * v) (2 ^ 64 - 1) ≡ min (k * q) (2 ^ 64 - 1)
 multiple_saturates zero q v e = omega arith
@@ -15,41 +15,41 @@ sum_saturates : (sum whole product p rest new : ℕ) → p ≡ min product (2 ^ 
     → min (sum + (product + rest)) (2 ^ 64 - 1) ≡ min whole (2 ^ 64 - 1) → (new < 2 ^ 64) × (min (new + rest) (2 ^ 64 - 1) ≡ min whole (2 ^ 64 - 1))
 sum_saturates sum whole product p rest new e d h = (omega arith, omega arith)
 
-module _ (c : ℕ → ℕ → ℕ) where
+module _ (c : ℕ → ℕ → ℕ) (a : ℕ → ℕ) where
   -- what a walk over the arguments has come to
   pub record Partly (f : ℕ) (ts rest : Trees) (i sum : ℕ) : Type 0 where
     pub fits : sum < 2 ^ 64
-    pub sum_is : min (sum + constants c f i rest) (2 ^ 64 - 1) ≡ min (constant c (app f ts)) (2 ^ 64 - 1)
+    pub sum_is : min (sum + values c a f i rest) (2 ^ 64 - 1) ≡ min (value c a (app f ts)) (2 ^ 64 - 1)
 
   pub begun : (f : ℕ) (ts : Trees) (sum : ℕ) → sum < 2 ^ 64 → sum ≡ c f 0 → Partly f ts ts 1 sum
   begun f ts sum fits e =
-      let whole : sum + constants c f 1 ts ≡ constant c (app f ts) = omega arith in
+      let whole : sum + values c a f 1 ts ≡ value c a (app f ts) = omega arith in
       record { fits = fits; sum_is = ap (λ n. min n (2 ^ 64 - 1)) whole }
 
   module _ (f : ℕ) (ts : Trees) (t : Tree) (rest : Trees) (i sum k : ℕ) (is : k ≡ c f i) (h : Partly f ts (cons t rest) i sum) where
-    product : k * constant c t ≡ c f i * constant c t
-    product = ap (λ n. n * constant c t) is
+    product : k * value c a t ≡ c f i * value c a t
+    product = ap (λ n. n * value c a t) is
 
-    opened : constants c f i (cons t rest) ≡ k * constant c t + constants c f (suc i) rest
-    opened = ap (λ n. n + constants c f (suc i) rest) (sym product)
+    opened : values c a f i (cons t rest) ≡ k * value c a t + values c a f (suc i) rest
+    opened = ap (λ n. n + values c a f (suc i) rest) (sym product)
 
-    before : min (sum + (k * constant c t + constants c f (suc i) rest)) (2 ^ 64 - 1) ≡ min (constant c (app f ts)) (2 ^ 64 - 1)
+    before : min (sum + (k * value c a t + values c a f (suc i) rest)) (2 ^ 64 - 1) ≡ min (value c a (app f ts)) (2 ^ 64 - 1)
     before = ap (λ n. min (sum + n) (2 ^ 64 - 1)) (sym opened) ∙ h.sum_is
 
     pub passed : k ≡ 0 → Partly f ts rest (i + 1) sum
     passed none = rw add-one (
-        let nothing : k * constant c t ≡ 0 = omega (arith, ap (λ n. n * constant c t) none) in
+        let nothing : k * value c a t ≡ 0 = omega (arith, ap (λ n. n * value c a t) none) in
         record { fits = h.fits; sum_is = omega (arith, before, nothing) }
         )
 
-    pub added : (v new : ℕ) → v ≡ min (constant c t) (2 ^ 64 - 1) → new ≡ min (sum + min (k * v) (2 ^ 64 - 1)) (2 ^ 64 - 1) → Partly f ts rest (i + 1) new
+    pub added : (v new : ℕ) → v ≡ min (value c a t) (2 ^ 64 - 1) → new ≡ min (sum + min (k * v) (2 ^ 64 - 1)) (2 ^ 64 - 1) → Partly f ts rest (i + 1) new
     added v new e d = rw add-one (
-        let both = sum_saturates sum (constant c (app f ts)) (k * constant c t) (min (k * v) (2 ^ 64 - 1)) (constants c f (suc i) rest) new
-        (multiple_saturates k (constant c t) v e) d before in
+        let both = sum_saturates sum (value c a (app f ts)) (k * value c a t) (min (k * v) (2 ^ 64 - 1)) (values c a f (suc i) rest) new
+        (multiple_saturates k (value c a t) v e) d before in
         record { fits = both.0; sum_is = both.1 }
         )
 
-  pub ended : (f : ℕ) (ts : Trees) (i sum : ℕ) (t : Tree) → t ≡ app f ts → Partly f ts nil i sum → sum ≡ min (constant c t) (2 ^ 64 - 1)
+  pub ended : (f : ℕ) (ts : Trees) (i sum : ℕ) (t : Tree) → t ≡ app f ts → Partly f ts nil i sum → sum ≡ min (value c a t) (2 ^ 64 - 1)
   ended f ts i sum t is h =
-      let here : sum ≡ min (constant c (app f ts)) (2 ^ 64 - 1) = omega (arith, h.fits, h.sum_is) in
-      here ∙ ap (λ u. min (constant c u) (2 ^ 64 - 1)) (sym is)
+      let here : sum ≡ min (value c a (app f ts)) (2 ^ 64 - 1) = omega (arith, h.fits, h.sum_is) in
+      here ∙ ap (λ u. min (value c a u) (2 ^ 64 - 1)) (sym is)

@@ -3,10 +3,11 @@ use Rattle.std.proofs.Common.{◌≡◌, ℕ, ◌-◌, ◌≤◌, ◌<◌, ◌^�
 use Rattle.std.proofs.lemmas.Bool.{cases_lt}
 use Rattle.trs_defs.specs.Tree.{Tree}
 use Rattle.pair_theory.specs.Subterm.{itself}
-use Rattle.order_theory.specs.LinearInterpretation.{constant, coefficient, LinearWeak, LinearStrict}
+use Rattle.order_theory.specs.LinearInterpretation.{value, constant, coefficient, LinearWeak, LinearStrict}
 use Rattle.order_theory.proofs.Coefficients.{weak_by_coefficients, strict_by_coefficients, coefficients_of_weak, coefficients_of_strict}
 use Rattle.poly_lin.specs.Covering.{Covers}
 use Rattle.poly_lin.specs.TooBig.{HasBigCoefficient, EitherIsBig}
+use Rattle.poly_lin.proofs.ValueLaws.{value_at_none}
 
 module _ (c : ℕ → ℕ → ℕ) where
   module _ (u : Tree) (none_big : HasBigCoefficient c u → ⊥) where
@@ -33,12 +34,12 @@ module _ (c : ℕ → ℕ → ℕ) where
     is_covered : ((x : ℕ) → coefficient c x t ≤ coefficient c x s) → Covers c s t
     is_covered all x = let le = all x in omega (arith, le)
 
-    module _ (left right : ℕ) (left_is : left ≡ min (constant c s) (2 ^ 64 - 1)) (right_is : right ≡ min (constant c t) (2 ^ 64 - 1)) where
+    module _ (left right : ℕ) (left_is : left ≡ min (value c (λ x. 0) s) (2 ^ 64 - 1)) (right_is : right ≡ min (value c (λ x. 0) t) (2 ^ 64 - 1)) where
       exact : (left ≡ constant c s) × (right ≡ constant c t)
       exact =
           let a = small_constant s (λ big. none_big (inl big)) in
           let b = small_constant t (λ big. none_big (inr big)) in
-          (omega (arith, a, left_is), omega (arith, b, right_is))
+          (omega (arith, a, left_is, value_at_none c s), omega (arith, b, right_is, value_at_none c t))
 
       pub not_weak : (b : Bool) → b ≡ false → left < right → IsTrue b ↔ LinearWeak c s t
       not_weak b is less = (

@@ -5,7 +5,7 @@ use Rattle.std.proofs.lemmas.List.{get_or-replicate}
 use Rattle.trs_defs.specs.Tree.{Tree, Trees, app, nil, cons}
 use Rattle.order_theory.specs.LinearInterpretation.{coefficient, coefficients}
 use Rattle.pair_order.proofs.LeastVariables.{IsBelow, IsFrom}
-use Rattle.poly_lin.specs.Covering.{CoversAt, Covers, AreAdded, HasNoneBefore}
+use Rattle.poly_lin.specs.Covering.{CoversAt, Covers, AreCovered, AreAdded, HasNoneBefore}
 use Rattle.poly_lin.proofs.Saturation.{multiple_saturates}
 
 times_none : (k : ℕ) → k * 0 ≡ 0
@@ -21,10 +21,10 @@ sum_of_saturated : (sum new product whole p q rest : ℕ) → min product (2 ^ 6
     → q ≡ p + rest → min (sum + q) (2 ^ 64 - 1) ≡ min whole (2 ^ 64 - 1) → min (new + rest) (2 ^ 64 - 1) ≡ min whole (2 ^ 64 - 1)
 sum_of_saturated sum new product whole p q rest e d s h = omega arith
 
-module _ (c : ℕ → ℕ → ℕ) (from factor : ℕ) where
+module _ (c : ℕ → ℕ → ℕ) (w from factor : ℕ) where
   -- what a walk over the arguments has still to add
   abbrev pub Remains : ℕ → Tree → List ℕ → List ℕ → ℕ → Trees → Type 0
-  Remains f t before sums i rest = (j : ℕ) → j < 8 →
+  Remains f t before sums i rest = (j : ℕ) → j < w →
       min (slice_index sums j + factor * coefficients c (from + j) f i rest) (2 ^ 64 - 1) ≡ min (slice_index before j + factor * coefficient c (from + j) t) (2 ^ 64 - 1)
 
   pub all_remains : (f : ℕ) (ts : Trees) (t : Tree) (before : List ℕ) → t ≡ app f ts → Remains f t before before 1 ts
@@ -42,7 +42,7 @@ module _ (c : ℕ → ℕ → ℕ) (from factor : ℕ) where
         ap (λ n. min (slice_index sums j + n) (2 ^ 64 - 1)) (sym whole) ∙ h j small
         )
 
-    pub more_added : (v : ℕ) (new : List ℕ) → v ≡ min (factor * k) (2 ^ 64 - 1) → AreAdded c from v u sums new → Remains f t before new (i + 1) rest
+    pub more_added : (v : ℕ) (new : List ℕ) → v ≡ min (factor * k) (2 ^ 64 - 1) → AreAdded c w from v u sums new → Remains f t before new (i + 1) rest
     more_added v new e added = rw add-one (λ j small.
         let q = coefficient c (from + j) u in
         let product : min (v * q) (2 ^ 64 - 1) ≡ min (q * (factor * k)) (2 ^ 64 - 1) =
@@ -51,16 +51,16 @@ module _ (c : ℕ → ℕ → ℕ) (from factor : ℕ) where
         (factor * coefficients c (from + j) f (suc i) rest) product (added j small) (opened j) (h j small)
         )
 
-  pub none_remains : (f : ℕ) (t : Tree) (before sums : List ℕ) (i : ℕ) → Remains f t before sums i nil → AreAdded c from factor t before sums
+  pub none_remains : (f : ℕ) (t : Tree) (before sums : List ℕ) (i : ℕ) → Remains f t before sums i nil → AreAdded c w from factor t before sums
   none_remains f t before sums i h j small =
       let none : factor * 0 ≡ 0 = times_none factor in
       let same : slice_index sums j + factor * 0 ≡ slice_index sums j = omega (arith, none) in
       ap (λ n. min n (2 ^ 64 - 1)) (sym same) ∙ h j small
 
-module _ (c : ℕ → ℕ → ℕ) (from : ℕ) where
+module _ (c : ℕ → ℕ → ℕ) (end : ℕ) where
   -- what a walk over the arguments knows of the variables before the next one
   abbrev pub IsNext : ℕ → Tree → Option ℕ → Option ℕ → ℕ → Trees → Type 0
-  IsNext f t best next i rest = (y : ℕ) → from + 8 ≤ y → IsBelow y next → IsBelow y best × (coefficient c y t ≡ coefficients c y f i rest)
+  IsNext f t best next i rest = (y : ℕ) → end ≤ y → IsBelow y next → IsBelow y best × (coefficient c y t ≡ coefficients c y f i rest)
 
   pub first_next : (f : ℕ) (ts : Trees) (t : Tree) (best : Option ℕ) → t ≡ app f ts → IsNext f t best best 1 ts
   first_next f ts t best is y behind below = (below, ap (coefficient c y) is)
@@ -74,7 +74,7 @@ module _ (c : ℕ → ℕ → ℕ) (from : ℕ) where
         (so_far.0, omega (arith, so_far.1, nothing))
         )
 
-    pub later_next : (new : Option ℕ) → HasNoneBefore c from u next new → IsNext f t best new (i + 1) rest
+    pub later_next : (new : Option ℕ) → HasNoneBefore c end u next new → IsNext f t best new (i + 1) rest
     later_next new before = rw add-one (λ y behind below.
         let here = before y behind below in
         let so_far = h y behind here.0 in
@@ -82,49 +82,45 @@ module _ (c : ℕ → ℕ → ℕ) (from : ℕ) where
         (so_far.0, omega (arith, so_far.1, nothing))
         )
 
-  pub last_next : (f : ℕ) (t : Tree) (best next : Option ℕ) (i : ℕ) → IsNext f t best next i nil → HasNoneBefore c from t best next
+  pub last_next : (f : ℕ) (t : Tree) (best next : Option ℕ) (i : ℕ) → IsNext f t best next i nil → HasNoneBefore c end t best next
   last_next f t best next i h = h
 
-abbrev pub zeros : List ℕ
-zeros = replicate 8 0
+abbrev pub zeros : ℕ → List ℕ
+zeros w = replicate w 0
 
-zero_at : (i : ℕ) → i < 8 → slice_index zeros i ≡ 0
-zero_at i small = get_or-replicate 8 i 0 0 small
+zero_at : (w i : ℕ) → i < w → slice_index (zeros w) i ≡ 0
+zero_at w i small = get_or-replicate w i 0 0 small
 
-module _ (c : ℕ → ℕ → ℕ) (from : ℕ) (u : Tree) (sums : List ℕ) (at : AreAdded c from 1 u zeros sums) where
+module _ (c : ℕ → ℕ → ℕ) (w from : ℕ) (u : Tree) (sums : List ℕ) (at : AreAdded c w from 1 u (zeros w) sums) where
   -- what is added to zeros
-  pub sums_are : (i : ℕ) → i < 8 → min (slice_index sums i) (2 ^ 64 - 1) ≡ min (coefficient c (from + i) u) (2 ^ 64 - 1)
+  pub sums_are : (i : ℕ) → i < w → min (slice_index sums i) (2 ^ 64 - 1) ≡ min (coefficient c (from + i) u) (2 ^ 64 - 1)
   sums_are i small =
-      let e = zero_at i small in
-      let same : slice_index zeros i + 1 * coefficient c (from + i) u ≡ coefficient c (from + i) u = omega (arith, e) in
+      let e = zero_at w i small in
+      let same : slice_index (zeros w) i + 1 * coefficient c (from + i) u ≡ coefficient c (from + i) u = omega (arith, e) in
       at i small ∙ ap (λ n. min n (2 ^ 64 - 1)) same
 
-  pub these_covered : (right : List ℕ) (b : Bool) → IsTrue b ↔ ((i : ℕ) → i < 8 → min (slice_index right i) (2 ^ 64 - 1) ≤ min (slice_index sums i) (2 ^ 64 - 1))
-      → IsTrue b ↔ ((i : ℕ) → i < 8 → min (slice_index right i) (2 ^ 64 - 1) ≤ min (coefficient c (from + i) u) (2 ^ 64 - 1))
+  pub these_covered : (right : List ℕ) (b : Bool) → IsTrue b ↔ ((i : ℕ) → i < w → min (slice_index right i) (2 ^ 64 - 1) ≤ min (slice_index sums i) (2 ^ 64 - 1))
+      → IsTrue b ↔ ((i : ℕ) → i < w → min (slice_index right i) (2 ^ 64 - 1) ≤ min (coefficient c (from + i) u) (2 ^ 64 - 1))
   these_covered right b h = (
     λ yes i small. let le = h.0 yes i small in omega (arith, le, sums_are i small),
     λ all. h.1 (λ i small. let le = all i small in omega (arith, le, sums_are i small)),
   )
 
-pub none_to_cover : (right : List ℕ) (n : ℕ → ℕ) → ((i : ℕ) → i < 8 → min (slice_index right i) (2 ^ 64 - 1) ≤ min (slice_index zeros i) (2 ^ 64 - 1))
-    → (i : ℕ) → i < 8 → min (slice_index right i) (2 ^ 64 - 1) ≤ min (n i) (2 ^ 64 - 1)
-none_to_cover right n h i small = let le = h i small in let e = zero_at i small in omega (arith, le, e)
+pub none_to_cover : (w : ℕ) (right : List ℕ) (n : ℕ → ℕ) → ((i : ℕ) → i < w → min (slice_index right i) (2 ^ 64 - 1) ≤ min (slice_index (zeros w) i) (2 ^ 64 - 1))
+    → (i : ℕ) → i < w → min (slice_index right i) (2 ^ 64 - 1) ≤ min (n i) (2 ^ 64 - 1)
+none_to_cover w right n h i small = let le = h i small in let e = zero_at w i small in omega (arith, le, e)
 
 module _ (c : ℕ → ℕ → ℕ) (s t : Tree) where
-  -- the variables below the next one, or all where there is none, are covered
-  abbrev pub AreCovered : Option ℕ → Type 0
-  AreCovered next = (x : ℕ) → IsBelow x next → CoversAt c s t x
-
-  module _ (from : ℕ) (right : List ℕ) (right_is : (i : ℕ) → i < 8 → min (slice_index right i) (2 ^ 64 - 1) ≡ min (coefficient c (from + i) t) (2 ^ 64 - 1)) where
-    pub more_covered : (next : Option ℕ) → AreCovered (Some from)
-        → ((i : ℕ) → i < 8 → min (slice_index right i) (2 ^ 64 - 1) ≤ min (coefficient c (from + i) s) (2 ^ 64 - 1))
-        → HasNoneBefore c from t None next → AreCovered next
+  module _ (w from : ℕ) (right : List ℕ) (right_is : (i : ℕ) → i < w → min (slice_index right i) (2 ^ 64 - 1) ≡ min (coefficient c (from + i) t) (2 ^ 64 - 1)) where
+    pub more_covered : (next : Option ℕ) → AreCovered c s t (Some from)
+        → ((i : ℕ) → i < w → min (slice_index right i) (2 ^ 64 - 1) ≤ min (coefficient c (from + i) s) (2 ^ 64 - 1))
+        → HasNoneBefore c (from + w) t None next → AreCovered c s t next
     more_covered next before here none x below = elim (cases_lt x from) [
       | inl less ↦ before x less
-      | inr more ↦ elim (cases_lt x (from + 8)) [
+      | inr more ↦ elim (cases_lt x (from + w)) [
         | inl inside ↦ let at : from + (x - from) ≡ x = omega arith in
             let i = x - from in
-            let small : x - from < 8 = omega arith in
+            let small : x - from < w = omega arith in
             let le = here (x - from) small in
             let e = right_is (x - from) small in
             let there : CoversAt c s t (from + (x - from)) = omega (arith, le, e) in
@@ -133,18 +129,22 @@ module _ (c : ℕ → ℕ → ℕ) (s t : Tree) where
       ]
     ]
 
-    pub all_there : Covers c s t → (i : ℕ) → i < 8 → min (slice_index right i) (2 ^ 64 - 1) ≤ min (coefficient c (from + i) s) (2 ^ 64 - 1)
+    pub all_there : Covers c s t → (i : ℕ) → i < w → min (slice_index right i) (2 ^ 64 - 1) ≤ min (coefficient c (from + i) s) (2 ^ 64 - 1)
     all_there all i small = let le = all (from + i) in omega (arith, le, right_is i small)
 
-    pub not_all : (b d : Bool) → (IsTrue b ↔ ((i : ℕ) → i < 8 → min (slice_index right i) (2 ^ 64 - 1) ≤ min (coefficient c (from + i) s) (2 ^ 64 - 1)))
-        → b ≡ false → d ≡ false → IsTrue d ↔ Covers c s t
-    not_all b d h is fails = (λ yes. absurd cc, λ all. let there = h.1 (all_there all) in absurd (cc (there, is)))
+    pub not_all : (b : Bool) → (IsTrue b ↔ ((i : ℕ) → i < w → min (slice_index right i) (2 ^ 64 - 1) ≤ min (coefficient c (from + i) s) (2 ^ 64 - 1)))
+        → b ≡ false → Covers c s t → ⊥
+    not_all b h is all = let there = h.1 (all_there all) in absurd (cc (there, is))
+
+pub after_window : (w from : ℕ) (next : Option ℕ) → 0 < w → IsFrom (from + w) next → IsFrom (from + 1) next
+after_window w from None some h = tt
+after_window w from (Some x) some h = omega arith
 
 -- how many numbers are left from the next one on
 abbrev pub left : Option ℕ → ℕ
 left None = 0
 left (Some x) = suc (2 ^ 32 - x)
 
-pub fewer_left : (from : ℕ) (next : Option ℕ) → from < 2 ^ 32 → IsFrom (from + 8) next → left next < suc (2 ^ 32 - from)
+pub fewer_left : (from : ℕ) (next : Option ℕ) → from < 2 ^ 32 → IsFrom (from + 1) next → left next < suc (2 ^ 32 - from)
 fewer_left from None small h = omega arith
 fewer_left from (Some x) small h = omega arith

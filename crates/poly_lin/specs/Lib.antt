@@ -4,7 +4,6 @@ pub mod Plain
 pub mod Table
 pub mod Rows
 pub mod Faults
-pub mod Coefficients
 pub mod Covering
 pub mod TooBig
 pub mod Laws

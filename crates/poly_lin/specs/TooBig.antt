@@ -4,9 +4,13 @@ use Rattle.trs_defs.specs.Tree.{Tree}
 use Rattle.pair_theory.specs.Subterm.{Sub}
 use Rattle.order_theory.specs.LinearInterpretation.{constant, coefficient}
 
--- the polynomial of some subterm has a constant or a coefficient above 2^63 - 1
+-- the polynomial of the term has a constant or a coefficient above 2^63 - 1
+abbrev pub IsBig : (ℕ → ℕ → ℕ) → Tree → Type 0
+IsBig c t = (2 ^ 63 ≤ constant c t) ⊎ ((x : ℕ) × (2 ^ 63 ≤ coefficient c x t))
+
+-- that of some subterm has
 abbrev pub HasBigCoefficient : (ℕ → ℕ → ℕ) → Tree → Type 0
-HasBigCoefficient c t = (u : Tree) × Sub u t × ((2 ^ 63 ≤ constant c u) ⊎ ((x : ℕ) × (2 ^ 63 ≤ coefficient c x u)))
+HasBigCoefficient c t = (u : Tree) × Sub u t × IsBig c u
 
 abbrev pub EitherIsBig : (ℕ → ℕ → ℕ) → Tree → Tree → Type 0
 EitherIsBig c s t = HasBigCoefficient c s ⊎ HasBigCoefficient c t

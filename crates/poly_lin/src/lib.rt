@@ -6,11 +6,13 @@ mod coefficients;
 mod comparing;
 mod covering;
 mod faults;
-mod monomial;
 mod orders;
 mod rows;
 mod small;
 mod table;
+mod too_big;
+mod values;
+mod window;
 
 pub use coefficients::Coefficients;
 pub use comparing::{is_strictly_above, is_weakly_above};

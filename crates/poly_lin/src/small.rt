@@ -1,10 +1,11 @@
-ghost use Rattle.std.specs.Prelude.{◌≡◌, ◌↔◌, ◌+◌, ◌*◌, ◌-◌, ◌^◌, min, IsTrue};
+ghost use Rattle.std.specs.Prelude.{◌↔◌, IsTrue};
 ghost use Rattle.trs_core.specs.View.{tree};
-ghost use Rattle.order_theory.specs.LinearInterpretation.{constant, LinearWeak, LinearStrict};
+ghost use Rattle.order_theory.specs.LinearInterpretation.{LinearWeak, LinearStrict};
 ghost use Rattle.poly_lin.specs.TooBig.{EitherIsBig};
 
 use crate::Coefficients;
 use crate::covering::covers;
+use crate::values::saturated;
 use trs_core::Term;
 
 /// Whether the first term's polynomial is at least the second's wherever variables stand for
@@ -14,8 +15,8 @@ pub fn is_weakly_above_if_small<T: Coefficients>(table: &T, a: &Term, b: &Term) 
     ensures { (EitherIsBig (T.coefficient table.now) (tree a.now) (tree b.now) → ⊥) →
         (IsTrue result ↔ LinearWeak (T.coefficient table.now) (tree a.now) (tree b.now)) }
 {
-    let right = saturated(table, b);
-    let left = saturated(table, a);
+    let right = saturated(table, 0, b);
+    let left = saturated(table, 0, a);
     if left < right {
         return false;
     }
@@ -27,37 +28,10 @@ pub fn is_strictly_above_if_small<T: Coefficients>(table: &T, a: &Term, b: &Term
     ensures { (EitherIsBig (T.coefficient table.now) (tree a.now) (tree b.now) → ⊥) →
         (IsTrue result ↔ LinearStrict (T.coefficient table.now) (tree a.now) (tree b.now)) }
 {
-    let right = saturated(table, b);
-    let left = saturated(table, a);
+    let right = saturated(table, 0, b);
+    let left = saturated(table, 0, a);
     if left <= right {
         return false;
     }
     covers(table, a, b)
-}
-
-/// The constant of the term's polynomial, or the last `u64` where it is greater.
-fn saturated<T: Coefficients>(table: &T, t: &Term) -> u64
-    ensures { result ≡ min (constant (T.coefficient table.now) (tree t.now)) (2 ^ 64 - 1) }
-{
-    match t {
-        Term::Var(_) => 0,
-        Term::App(f, args) => {
-            let row = table.row(*f);
-            let mut sum = table.at(row, 0);
-            for (i, arg) in args.items.iter().enumerate() {
-                let factor = table.at(row, i + 1);
-                if factor == 0 {
-                    continue;
-                }
-                sum = plus_saturated(sum, factor, saturated(table, arg));
-            }
-            sum
-        }
-    }
-}
-
-fn plus_saturated(sum: u64, factor: u64, value: u64) -> u64
-    ensures { result ≡ min (sum + min (factor * value) (2 ^ 64 - 1)) (2 ^ 64 - 1) }
-{
-    sum.saturating_add(factor.saturating_mul(value))
 }

@@ -124,8 +124,9 @@ fn add_entry(symbols: &mut SymbolIndex, symbol: u32, coefficients: &[u64]) -> Re
     Ok(())
 }
 
-fn has_big(coefficients: &[u64]) -> bool
-    ensures { result ≡ has_big coefficients.now }
+/// Whether a number passes 2^63 - 1.
+pub(crate) fn has_big(numbers: &[u64]) -> bool
+    ensures { result ≡ has_big numbers.now }
 {
-    coefficients.iter().any(|c| *c > GREATEST_NUMBER)
+    numbers.iter().any(|n| *n > GREATEST_NUMBER)
 }
