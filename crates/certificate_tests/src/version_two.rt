@@ -1,5 +1,8 @@
-//! The greatest weight of a certificate in version 2.
-use certifier::{Certificate, Claim, NodeStep, Step, fits_version_two};
+//! The greatest weight of a certificate in version 2, and paths that use each other.
+use ari_text::read_problem;
+use certifier::{
+    CertFault, Certificate, Claim, NodeStep, Step, fits_version_two, read_certificate,
+};
 use rewrite_core::PathStep;
 use std::alloc::Global;
 use std::test::*;
@@ -33,5 +36,65 @@ fn loop_fits(alloc: Global, steps: usize) -> Result<bool, Fail> {
 fn a_text_has_a_greatest_weight(rt: HostRuntime) -> Result<(), Fail> {
     assert!(rt; loop_fits(rt.alloc(), 8_388_608)?);
     assert!(rt; !loop_fits(rt.alloc(), 8_388_609)?);
+    Ok(())
+}
+
+const PROBLEM: &[u8] = b"(format TRS)\n(fun f 1)\n(rule (f x) (f (f x)))\n";
+
+// A head, and the definition of a path of one step.
+const ONE_STEP: &[u8] = b"NO\n(certificate 2 nonterminating)\n(define q0 (path (at () 0)))\n";
+
+// What a text of at most so many bytes says.
+fn read(alloc: Global, text: &[u8]) -> Result<Certificate, CertFault> {
+    let Ok(system) = read_problem(alloc, PROBLEM) else {
+        return Err(CertFault::OutOfMemory);
+    };
+    if text.len() > 10_000 {
+        return Err(CertFault::OutOfMemory);
+    }
+    read_certificate(alloc, &system, text)
+}
+
+// The paths q0 to q22 weigh 8,388,607 together.
+#[test]
+fn a_path_past_the_greatest_weight_is_refused(rt: HostRuntime) -> Result<(), Fail> {
+    let alloc = rt.alloc();
+    let mut text = Vec::from_slice(alloc, ONE_STEP)?;
+    let mut place = 0;
+    for k in 0..23u32 {
+        let name = format!(in alloc; "(define q{} ", k + 1)?;
+        text.extend_from_slice(name.as_bytes())?;
+        place = text.len();
+        let path = format!(in alloc; "(path (use () q{k}) (use () q{k})))\n")?;
+        text.extend_from_slice(path.as_bytes())?;
+    }
+    let refused = read(alloc, &text);
+    assert!(rt; matches!(refused, Err(CertFault::Text(at)) if at as usize == place));
+    Ok(())
+}
+
+#[test]
+fn a_path_uses_the_one_before_it(rt: HostRuntime) -> Result<(), Fail> {
+    let alloc = rt.alloc();
+    let mut text = Vec::from_slice(alloc, ONE_STEP)?;
+    for k in 0..99u32 {
+        let line = format!(in alloc; "(define q{} (path (use (1) q{k}) (at () 0)))\n", k + 1)?;
+        text.extend_from_slice(line.as_bytes())?;
+    }
+    text.extend_from_slice(b"(step 0 (loop (f x) (path (use () q99)) ()))\n")?;
+    let certificate = read(alloc, &text)?;
+    let [
+        NodeStep {
+            step: Step::Loop { path, .. },
+            ..
+        },
+    ] = certificate.steps.as_slice()
+    else {
+        return Err(Fail::new("a loop"));
+    };
+    assert_eq!(rt; path.len(), 100);
+    for (k, step) in path.iter().enumerate() {
+        assert_eq!(rt; Some(step.place.places().len()), 99usize.checked_sub(k));
+    }
     Ok(())
 }

@@ -1,5 +1,5 @@
 -- What is left of a weight, part by part; and the longest places.
-use Rattle.std.proofs.Common.{◌≡◌, ℕ, ◌+◌, ◌-◌, ◌*◌, ◌<◌, ◌≤◌, nat_lt, ◌==◌, min, max, zero, suc, false, List, [], ◌∷◌, ◌++◌, length, get_or, drop, map, Option, Some, None, refl, ap, ap₂, sym, ◌∙◌, drop-cons, add-one, arith}
+use Rattle.std.proofs.Common.{◌≡◌, ℕ, ◌+◌, ◌-◌, ◌*◌, ◌^◌, ◌<◌, ◌≤◌, nat_lt, ◌==◌, min, max, zero, suc, false, List, [], ◌∷◌, ◌++◌, length, get_or, drop, map, Option, Some, None, refl, ap, ap₂, subst, sym, ◌∙◌, drop-cons, add-one, arith}
 use native.Mathlib.Decide.{dec_lt}
 use Rattle.std.specs.Option.{SomeIff}
 use Rattle.std.proofs.lemmas.Bool.{le-leb, lt-leb, lt-ltb, le-ltb}
@@ -9,6 +9,7 @@ use Rattle.path_text.specs.Sharing.{path_weight, longest_place}
 use Rattle.path_text.specs.Paths.{is_too_deep, all_steps}
 use Rattle.path_text.specs.declared.parts.PathPart.{PathPart}
 use Rattle.path_text.specs.Parts.{steps_of_part, room_left}
+use Rattle.path_text.specs.Measures.{AreMeasures}
 
 pub weight_joined : (p q : List PlacedRule) → path_weight (p ++ q) ≡ path_weight p + path_weight q
 weight_joined [] q = omega arith
@@ -113,6 +114,18 @@ not_deep_empty (n ∷ by) (s ∷ steps) e = absurd (omega (arith, e))
 pub weight_at : (by : List ℕ) (steps : List PlacedRule) → path_weight (shifted_path by steps) ≡ path_weight steps + length by * length steps
 weight_at by [] = omega arith
 weight_at by (s ∷ steps) = let e = length_joined by s.place in let more = weight_at by steps in omega (arith, e, more)
+
+-- each step weighs at least 1
+count_weighs : (steps : List PlacedRule) → length steps ≤ path_weight steps
+count_weighs [] = omega arith
+count_weighs (s ∷ steps) = let e = count_weighs steps in omega (arith, e)
+
+pub measured : (steps path : List PlacedRule) (count longest weight : ℕ) → path ≡ steps → weight < 2 ^ 64 → weight ≡ path_weight steps
+    → count ≡ min (length steps) 18446744073709551615 → longest ≡ min (longest_place steps) 18446744073709551615 → AreMeasures path count longest weight
+measured steps path count longest weight same fits weighs counted longest_is =
+    let most = count_weighs steps in
+    subst (λ (p : List PlacedRule). AreMeasures p count longest weight) (sym same)
+    record { count_is = omega (arith, fits, weighs, counted, most); longest_is = longest_is; weight_is = weighs }
 
 -- what is left behind a path at a position, by its weight and its number of steps
 module _ (by : List ℕ) (steps : List PlacedRule) (room weight more : ℕ) (weight_is : weight ≡ path_weight steps)

@@ -2,15 +2,16 @@ ghost use Rattle.std.specs.Prelude.{◌≡◌, ◌+◌, ◌++◌, ℕ, List, len
 ghost use Rattle.sexp_core.specs.Items.{view, views};
 ghost use Rattle.trs_defs.specs.Path.{PlacedRule};
 ghost use Rattle.rewrite_core.specs.ShiftedPath.{shifted_path};
-ghost use Rattle.text_reading.specs.Reading.{many, word};
+ghost use Rattle.text_reading.specs.Reading.{many, word, place_of};
 ghost use Rattle.text_reading.specs.Seen.{seen};
 ghost use Rattle.path_text.specs.Sharing.{path_weight, longest_place};
-ghost use Rattle.path_text.specs.Paths.{use_list, use_part, path_part, path_of_parts, all_steps, begins_with as is_begun_with, is_word as is_the_word};
+ghost use Rattle.path_text.specs.Paths.{use_list, use_part, path_part, path_of_parts, all_steps, within_room, ◌then_read◌, begins_with as is_begun_with, is_word as is_the_word};
 ghost use Rattle.path_text.specs.Parts.{steps_of_part, room_left};
 
+use crate::pieces::Pieces;
 use crate::reading::{read_placed_rule, read_position};
 use crate::sharing::{DefinedPath, Definitions};
-use rewrite_core::{PathStep, push_shifted};
+use rewrite_core::PathStep;
 use sexp_core::Sexp;
 use std::alloc::Global;
 use text_reading::{Read, both, ended, keyword, place, push};
@@ -25,7 +26,7 @@ pub enum PathPart<'d> {
 }
 
 /// The parts of `(path part ..)`.
-pub fn read_parts_of_path<'d>(
+fn read_parts_of_path<'d>(
     alloc: Global,
     definitions: &'d Definitions,
     item: &Sexp,
@@ -44,6 +45,29 @@ pub fn read_parts_of_path<'d>(
     match both(head, parts) {
         Ok(((), parts)) => Ok(Ok(parts)),
         Err(at) => Ok(Err(at)),
+    }
+}
+
+/// The parts of a path that is within a weight, and what it leaves of that.
+pub fn read_parts_within<'d>(
+    alloc: Global,
+    definitions: &'d Definitions,
+    room: u64,
+    item: &Sexp,
+) -> Result<Read<(Vec<PathPart<'d>>, u64)>, OutOfMemory>
+    ensures parts { IfOk result (λ r. seen (λ p. all_steps (map steps_of_part p.0.items)) r
+        ≡ path_of_parts definitions.now (view item.now)
+        then_read within_room room (place_of (view item.now))) }
+    ensures left { IfOk result (λ r. IfOk r (λ p.
+        p.1 + path_weight (all_steps (map steps_of_part p.0.items)) ≡ room)) }
+{
+    let parts = match read_parts_of_path(alloc, definitions, item)? {
+        Ok(parts) => parts,
+        Err(at) => return Ok(Err(at)),
+    };
+    match room_behind(room, &parts) {
+        Some(left) => Ok(Ok((parts, left))),
+        None => Ok(Err(place(item))),
     }
 }
 
@@ -172,7 +196,7 @@ fn is_word(word: &[u8], item: &Sexp) -> bool
 // ---- the steps of parts
 
 /// What is left of a weight behind the steps of parts; none where they weigh more.
-pub fn room_behind(room: u64, parts: &[PathPart<'_>]) -> Option<u64>
+fn room_behind(room: u64, parts: &[PathPart<'_>]) -> Option<u64>
     ensures { result ≡ room_left room (path_weight (all_steps (map steps_of_part parts.now))) }
 {
     let mut room = room;
@@ -215,8 +239,8 @@ fn room_behind_step(room: u64, step: &PathStep) -> Option<u64>
     room.checked_sub(step.place.places().len() as u64)
 }
 
-/// The path of parts that weigh so much together.
-pub fn written_path(
+/// The path of parts that weigh so much together, in pieces.
+pub fn defined_path(
     alloc: Global,
     parts: &[PathPart<'_>],
     weight: u64,
@@ -224,9 +248,50 @@ pub fn written_path(
     requires { weight ≡ path_weight (all_steps (map steps_of_part parts.now)) }
     ensures { IfOk result (λ path. path ≡ all_steps (map steps_of_part parts.now)) }
 {
-    let steps = steps_of_parts(alloc, parts)?;
+    let pieces = pieces_of_parts(alloc, parts)?;
+    let count = count_of_parts(parts);
     let longest = longest_of_parts(parts);
-    Ok(DefinedPath::new(steps, longest, weight))
+    Ok(DefinedPath::new(pieces, count, longest, weight))
+}
+
+/// The steps of parts in pieces, in order.
+fn pieces_of_parts(alloc: Global, parts: &[PathPart<'_>]) -> Result<Pieces, OutOfMemory>
+    ensures { IfOk result (λ pieces. pieces ≡ all_steps (map steps_of_part parts.now)) }
+{
+    let mut pieces = Pieces::with_capacity(alloc, parts.len())?;
+    for part in parts {
+        append_part(alloc, &mut pieces, part)?;
+    }
+    pieces.shared_if_long(alloc)
+}
+
+fn append_part(alloc: Global, pieces: &mut Pieces, part: &PathPart<'_>) -> Result<(), OutOfMemory>
+    ensures { OnOk result (pieces.new ≡ pieces.old ++ steps_of_part part.now) }
+{
+    match part {
+        PathPart::Step(step) => pieces.push(step.copy(alloc)?),
+        PathPart::Use(by, path) => pieces.append(alloc, path.pieces(), by),
+    }
+}
+
+/// The number of steps of parts. It stands still at the last `usize`.
+fn count_of_parts(parts: &[PathPart<'_>]) -> usize
+    ensures { result ≡ min (length (all_steps (map steps_of_part parts.now))) usize.MAX }
+{
+    let mut count: usize = 0;
+    for part in parts {
+        count = count.saturating_add(count_of_part(part));
+    }
+    count
+}
+
+fn count_of_part(part: &PathPart<'_>) -> usize
+    ensures { result ≡ length (steps_of_part part.now) }
+{
+    match part {
+        PathPart::Step(_) => 1,
+        PathPart::Use(_, path) => path.count(),
+    }
 }
 
 /// The numbers of the longest place of parts. It stands still at the last `usize`.
@@ -250,7 +315,7 @@ fn longest_of_part(part: &PathPart<'_>) -> usize
 }
 
 /// The steps of parts, in order.
-fn steps_of_parts(alloc: Global, parts: &[PathPart<'_>]) -> Result<Vec<PathStep>, OutOfMemory>
+pub fn steps_of_parts(alloc: Global, parts: &[PathPart<'_>]) -> Result<Vec<PathStep>, OutOfMemory>
     ensures { IfOk result (λ steps. steps.items ≡ all_steps (map steps_of_part parts.now)) }
 {
     let mut steps = Vec::with_capacity(alloc, parts.len())?;
@@ -272,6 +337,6 @@ fn push_part(
             steps.push(step.copy(alloc)?)?;
             Ok(())
         }
-        PathPart::Use(by, path) => push_shifted(alloc, steps, path.steps(), by),
+        PathPart::Use(by, path) => path.write_out(alloc, steps, by),
     }
 }

@@ -7,6 +7,7 @@ ghost use Rattle.path_text.specs.Measures.{AreMeasures};
 ghost use Rattle.path_text.specs.Paths.{is_too_deep};
 ghost use Rattle.path_text.specs.Defining.{is_defined};
 
+use crate::pieces::Pieces;
 use names_text::Names;
 use rewrite_core::PathStep;
 use std::alloc::Global;
@@ -19,10 +20,12 @@ pub const MOST_WEIGHT: u64 = 8_388_608;
 /// The most numbers of a place behind a position.
 const LONGEST_PLACE: usize = 1_024;
 
-/// A path with its measures, so that those of its uses are known without a look at its steps.
+/// A path in pieces with its measures, so that those of its uses are known without its steps.
 #[derive(Drop)]
 pub struct DefinedPath {
-    steps: Vec<PathStep>,
+    pieces: Pieces,
+    /// The number of steps.
+    count: usize,
     /// The numbers of the longest place.
     longest: usize,
     weight: u64,
@@ -32,15 +35,16 @@ impl Model for DefinedPath {
     ghost use Rattle.std.specs.Prelude.{List};
     ghost use Rattle.std.specs.Coded.{coded_list};
     ghost use Rattle.trs_defs.specs.Path.{PlacedRule, placed_code};
-    ghost use Rattle.path_text.specs.Measures.{AreMeasures};
 
     ghost Value = { List PlacedRule };
 
     ghost coded = { coded_list placed_code };
 
-    ghost view = { λ p. p.steps.items };
+    ghost use Rattle.path_text.specs.Measures.{AreMeasures};
 
-    ghost invariant = { λ p. AreMeasures p.steps.items p.longest p.weight };
+    ghost view = { λ p. p.pieces };
+
+    ghost invariant = { λ p. AreMeasures p.pieces p.count p.longest p.weight };
 }
 
 /// The words that are defined, each once, with their paths. Contracts see the list of the words
@@ -131,27 +135,41 @@ impl Definitions {
 }
 
 impl DefinedPath {
-    pub(crate) fn new(steps: Vec<PathStep>, longest: usize, weight: u64) -> DefinedPath
-        requires { AreMeasures steps.items longest weight }
-        ensures { result ≡ steps.items }
+    pub(crate) fn new(pieces: Pieces, count: usize, longest: usize, weight: u64) -> DefinedPath
+        requires { AreMeasures pieces count longest weight }
+        ensures { result ≡ pieces }
     {
         DefinedPath {
-            steps,
+            pieces,
+            count,
             longest,
             weight,
         }
     }
 
-    pub fn steps(&self) -> &[PathStep]
-        ensures { result.now ≡ self.now }
+    /// Appends the steps to others, with a position in front of each place.
+    pub fn write_out(
+        &self,
+        alloc: Global,
+        steps: &mut Vec<PathStep>,
+        by: &Position,
+    ) -> Result<(), OutOfMemory>
+        ensures { OnOk result (steps.new.items ≡ steps.old.items ++ shifted_path by.now self.now) }
     {
-        &self.steps
+        self.pieces.write_out(alloc, steps, by)
     }
 
-    pub(crate) fn into_steps(self) -> Vec<PathStep>
-        ensures { result.items ≡ self }
+    pub(crate) fn pieces(&self) -> &Pieces
+        ensures { result.now ≡ self.now }
     {
-        self.steps
+        &self.pieces
+    }
+
+    /// The number of steps.
+    pub(crate) fn count(&self) -> usize
+        ensures { result ≡ length self.now }
+    {
+        self.count
     }
 
     /// Whether a place of the path, put behind a position, would have more than 1,024 numbers. At
@@ -163,7 +181,7 @@ impl DefinedPath {
         if by == 0 {
             return false;
         }
-        if self.steps.is_empty() {
+        if self.count == 0 {
             return false;
         }
         by.saturating_add(self.longest) > LONGEST_PLACE
@@ -173,7 +191,7 @@ impl DefinedPath {
     pub(crate) fn longest_at(&self, position: &Position) -> usize
         ensures { result ≡ min (longest_place (shifted_path position.now self.now)) usize.MAX }
     {
-        if self.steps.is_empty() {
+        if self.count == 0 {
             return 0;
         }
         position.places().len().saturating_add(self.longest)
@@ -185,7 +203,7 @@ impl DefinedPath {
         ensures { (position : List ℕ) → length position ≡ by
             → result ≡ room_left room (path_weight (shifted_path position self.now)) }
     {
-        let more = (by as u64).checked_mul(self.steps.len() as u64)?;
+        let more = (by as u64).checked_mul(self.count as u64)?;
         let weight = self.weight.checked_add(more)?;
         room.checked_sub(weight)
     }
