@@ -5,3 +5,4 @@ pub mod Steps
 pub mod Reaching
 pub mod Groups
 pub mod Laws
+pub mod Continuing

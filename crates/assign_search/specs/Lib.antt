@@ -3,3 +3,4 @@ pub mod Searched
 pub mod Order
 pub mod Rest
 pub mod Turns
+pub mod Continues

@@ -1,5 +1,6 @@
-ghost use Rattle.std.specs.Prelude.{◌≡◌, ◌<◌, ◌≤◌, IfOk};
+ghost use Rattle.std.specs.Prelude.{◌<◌, IfOk};
 ghost use Rattle.assign_search.specs.Searched.{IsAnswer};
+ghost use Rattle.assign_search.specs.Continues.{Continues};
 
 use crate::grouping::groups;
 use crate::memory::OutOfMemory;
@@ -34,8 +35,7 @@ pub fn first_solution<S: Space, P: Stop>(
 ) -> Result<Search<Vec<u32>>, OutOfMemory>
     ensures answer { IfOk result
         (IsAnswer (λ v. v.items) (S.puzzle space.now) budget (P.stops stop.old < P.stops stop.new)) }
-    ensures later { P.stops stop.old ≤ P.stops stop.new }
-    ensures kept { P.kept stop.new ≡ P.kept stop.old }
+    ensures continues { Continues P.Stop stop.old stop.new }
 {
     if stop.stopped() {
         return Ok(Search::Stopped);

@@ -1,7 +1,8 @@
 //! The first fork among critical peaks to two terms that never meet.
-ghost use Rattle.std.specs.Prelude.{◌≡◌, ◌<◌, ◌≤◌, All, length, Ok, IfOk, OnOk, MatchOption};
+ghost use Rattle.std.specs.Prelude.{◌≡◌, ◌<◌, All, length, Ok, IfOk, OnOk, MatchOption};
 ghost use Rattle.term_pool.specs.ListedIds.{listed_at};
 ghost use Rattle.term_pool.specs.Pooled.{Extends, tree_at};
+ghost use Rattle.assign_search.specs.Continues.{Continues};
 ghost use Rattle.join_find.specs.crit_pairs.PeakList.{ListsPeaks};
 ghost use Rattle.join_find.specs.Sides.{HasSides};
 ghost use Rattle.join_find.specs.Answers.{IsFinding};
@@ -36,8 +37,7 @@ pub(crate) fn first_fork<M: Mark, P: Stop>(
     ensures answer { IfOk result (IsFinding
         (λ found. FindsParted M.never_meet trs.now.rules peaks.now (fork_of found))
         (FailsParted M.never_meet trs.now.rules peaks.now) (P.stops stop.old < P.stops stop.new)) }
-    ensures later { P.stops stop.old ≤ P.stops stop.new }
-    ensures kept { P.kept stop.new ≡ P.kept stop.old }
+    ensures continues { Continues P.Stop stop.old stop.new }
 {
     if stop.stopped() {
         return Ok(Search::Stopped);

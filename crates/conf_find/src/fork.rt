@@ -1,5 +1,6 @@
 //! The strategy fork.
-ghost use Rattle.std.specs.Prelude.{◌≡◌, ◌<◌, ◌≤◌, Ok, IfOk};
+ghost use Rattle.std.specs.Prelude.{◌<◌, Ok, IfOk};
+ghost use Rattle.assign_search.specs.Continues.{Continues};
 ghost use Rattle.join_find.specs.crit_pairs.PeakList.{ListsPeaks};
 ghost use Rattle.join_find.specs.Answers.{IsFinding};
 ghost use Rattle.conf_find.specs.Fork.{fork_of};
@@ -30,8 +31,7 @@ pub fn find_fork<P: Stop>(
     ensures answer { IfOk result (IsFinding
         (λ found. FindsFork trs.now.rules peaks.now (fork_of found))
         (FailsFork trs.now.rules peaks.now) (P.stops stop.old < P.stops stop.new)) }
-    ensures later { P.stops stop.old ≤ P.stops stop.new }
-    ensures kept { P.kept stop.new ≡ P.kept stop.old }
+    ensures continues { Continues P.Stop stop.old stop.new }
 {
     first_fork::<Cap, P>(alloc, trs, peaks, stop)
 }

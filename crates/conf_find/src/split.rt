@@ -1,5 +1,6 @@
 //! The strategy split.
-ghost use Rattle.std.specs.Prelude.{◌≡◌, ◌<◌, ◌≤◌, Ok, IfOk};
+ghost use Rattle.std.specs.Prelude.{◌<◌, Ok, IfOk};
+ghost use Rattle.assign_search.specs.Continues.{Continues};
 ghost use Rattle.join_find.specs.crit_pairs.PeakList.{ListsPeaks};
 ghost use Rattle.join_find.specs.Answers.{IsFinding};
 ghost use Rattle.conf_find.specs.Fork.{fork_of};
@@ -29,8 +30,7 @@ pub fn find_split<P: Stop>(
     ensures answer { IfOk result (IsFinding
         (λ found. FindsSplit trs.now.rules peaks.now (fork_of found))
         (FailsSplit trs.now.rules peaks.now) (P.stops stop.old < P.stops stop.new)) }
-    ensures later { P.stops stop.old ≤ P.stops stop.new }
-    ensures kept { P.kept stop.new ≡ P.kept stop.old }
+    ensures continues { Continues P.Stop stop.old stop.new }
 {
     first_fork::<Ending, P>(alloc, trs, peaks, stop)
 }

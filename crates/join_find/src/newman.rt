@@ -1,6 +1,7 @@
 //! The strategy newman.
-ghost use Rattle.std.specs.Prelude.{◌≡◌, ◌<◌, ◌≤◌, Ok, IfOk, OnOk, MatchOption};
+ghost use Rattle.std.specs.Prelude.{◌<◌, Ok, IfOk, OnOk, MatchOption};
 ghost use Rattle.closed_pairs.specs.crit_pairs.PeakList.{ListsPeaks};
+ghost use Rattle.assign_search.specs.Continues.{Continues};
 ghost use Rattle.join_find.specs.Sides.{HasSides};
 ghost use Rattle.join_find.specs.NewmanRow.{IsFirstJoin, HasNoJoin, FindsNewman, FailsNewman};
 ghost use Rattle.join_find.specs.ReachedSides.{AreReached};
@@ -28,8 +29,7 @@ pub fn find_newman<P: Stop>(
     ensures answer { IfOk result (IsFinding
         (λ joins. FindsNewman trs.now.rules peaks.now joins.items)
         (FailsNewman trs.now.rules peaks.now) (P.stops stop.old < P.stops stop.new)) }
-    ensures later { P.stops stop.old ≤ P.stops stop.new }
-    ensures kept { P.kept stop.new ≡ P.kept stop.old }
+    ensures continues { Continues P.Stop stop.old stop.new }
 {
     if stop.stopped() {
         return Ok(Search::Stopped);

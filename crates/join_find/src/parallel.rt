@@ -1,9 +1,10 @@
 //! The strategy parallel.
-ghost use Rattle.std.specs.Prelude.{◌≡◌, ◌<◌, ◌≤◌, ◌↔◌, Ok, IsTrue, false, IfOk, OnOk, MatchOption};
+ghost use Rattle.std.specs.Prelude.{◌≡◌, ◌<◌, ◌↔◌, Ok, IsTrue, false, IfOk, OnOk, MatchOption};
 ghost use Rattle.trs_defs.specs.Variable.{IsLinear};
 ghost use Rattle.term_pool.specs.Pooled.{Extends};
 ghost use Rattle.closed_pairs.specs.crit_pairs.PeakList.{ListsPeaks};
 ghost use Rattle.closed_pairs.specs.ParallelClosed.{paths_of};
+ghost use Rattle.assign_search.specs.Continues.{Continues};
 ghost use Rattle.join_find.specs.Sides.{HasSides};
 ghost use Rattle.join_find.specs.ParallelRow.{AreLeftLinear, IsParallelClosing, HasNoClosing};
 ghost use Rattle.join_find.specs.ParallelRow.{FindsParallel, FailsParallel};
@@ -34,8 +35,7 @@ pub fn find_parallel<P: Stop>(
     ensures answer { IfOk result (IsFinding
         (λ steps. FindsParallel trs.now.rules peaks.now (paths_of steps.items))
         (FailsParallel trs.now.rules peaks.now) (P.stops stop.old < P.stops stop.new)) }
-    ensures later { P.stops stop.old ≤ P.stops stop.new }
-    ensures kept { P.kept stop.new ≡ P.kept stop.old }
+    ensures continues { Continues P.Stop stop.old stop.new }
 {
     if stop.stopped() {
         return Ok(Search::Stopped);

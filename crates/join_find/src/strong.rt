@@ -1,7 +1,8 @@
 //! The strategy strong.
-ghost use Rattle.std.specs.Prelude.{◌≡◌, ◌<◌, ◌≤◌, ◌↔◌, Ok, IsTrue, false, IfOk, OnOk, MatchOption};
+ghost use Rattle.std.specs.Prelude.{◌≡◌, ◌<◌, ◌↔◌, Ok, IsTrue, false, IfOk, OnOk, MatchOption};
 ghost use Rattle.trs_defs.specs.Variable.{IsLinear};
 ghost use Rattle.closed_pairs.specs.crit_pairs.PeakList.{ListsPeaks};
+ghost use Rattle.assign_search.specs.Continues.{Continues};
 ghost use Rattle.join_find.specs.Sides.{HasSides};
 ghost use Rattle.join_find.specs.ReachedSides.{AreReached};
 ghost use Rattle.join_find.specs.StrongRow.{AreLinear, IsFirstFour, HasNoFour};
@@ -32,8 +33,7 @@ pub fn find_strong<P: Stop>(
     ensures answer { IfOk result (IsFinding
         (λ fours. FindsStrong trs.now.rules peaks.now fours.items)
         (FailsStrong trs.now.rules peaks.now) (P.stops stop.old < P.stops stop.new)) }
-    ensures later { P.stops stop.old ≤ P.stops stop.new }
-    ensures kept { P.kept stop.new ≡ P.kept stop.old }
+    ensures continues { Continues P.Stop stop.old stop.new }
 {
     if stop.stopped() {
         return Ok(Search::Stopped);

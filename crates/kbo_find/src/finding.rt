@@ -1,7 +1,8 @@
 //! The strategy kbo.
-ghost use Rattle.std.specs.Prelude.{◌≡◌, ◌<◌, ◌≤◌, All, IfOk, length};
+ghost use Rattle.std.specs.Prelude.{◌≡◌, ◌<◌, All, IfOk, length};
 ghost use Rattle.std.specs.List.Sorted.{IsStrictlyIncreasing};
 ghost use Rattle.pair_theory.specs.DependencyPair.{dependency_pairs};
+ghost use Rattle.assign_search.specs.Continues.{Continues};
 ghost use Rattle.order_search.specs.dp_core.PlacedPairs.{placed_pairs};
 ghost use Rattle.order_search.specs.Outcome.{IsFinding, IsNotThere, IsSpent};
 ghost use Rattle.order_search.specs.Slots.{puzzle_of};
@@ -45,8 +46,7 @@ pub fn find_kbo<P: Stop>(
         (FailsOrder trs.now problem.now (search_of kbo_search trs.now) (IsNotThere budget))
         (FailsOrder trs.now problem.now (search_of kbo_search trs.now) (IsSpent budget))
         (P.stops stop.old < P.stops stop.new)) }
-    ensures later { P.stops stop.old ≤ P.stops stop.new }
-    ensures kept { P.kept stop.new ≡ P.kept stop.old }
+    ensures continues { Continues P.Stop stop.old stop.new }
 {
     let pairs = Pairs::of(alloc, trs, all)?;
     find_kbo_in(alloc, trs, &pairs, problem, budget, stop)
@@ -70,8 +70,7 @@ pub fn find_kbo_in<P: Stop>(
         (FailsOrder trs.now problem.now (search_of kbo_search trs.now) (IsNotThere budget))
         (FailsOrder trs.now problem.now (search_of kbo_search trs.now) (IsSpent budget))
         (P.stops stop.old < P.stops stop.new)) }
-    ensures later { P.stops stop.old ≤ P.stops stop.new }
-    ensures kept { P.kept stop.new ≡ P.kept stop.old }
+    ensures continues { Continues P.Stop stop.old stop.new }
 {
     let over = OrderProblem::of(alloc, trs, pairs, problem)?;
     search_orders(
@@ -103,8 +102,7 @@ fn search_orders<P: Stop>(
         (IsNotThere budget (puzzle_of (kbo_search arities.now symbols.now rules.now pairs.now)))
         (IsSpent budget (puzzle_of (kbo_search arities.now symbols.now rules.now pairs.now)))
         (P.stops stop.old < P.stops stop.new)) }
-    ensures later { P.stops stop.old ≤ P.stops stop.new }
-    ensures kept { P.kept stop.new ≡ P.kept stop.old }
+    ensures continues { Continues P.Stop stop.old stop.new }
 {
     let tops = all_tops(alloc, arities, symbols)?;
     let places = SymbolPlaces::of(alloc, symbols)?;

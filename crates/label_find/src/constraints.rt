@@ -1,5 +1,6 @@
 //! The constraints of all peaks.
-ghost use Rattle.std.specs.Prelude.{◌≡◌, ◌<◌, ◌≤◌, IfOk, OnOk, MatchOption};
+ghost use Rattle.std.specs.Prelude.{◌≡◌, ◌<◌, IfOk, OnOk, MatchOption};
+ghost use Rattle.assign_search.specs.Continues.{Continues};
 ghost use Rattle.join_find.specs.First.{Along};
 ghost use Rattle.join_find.specs.Sides.{HasSides, HaveSides};
 ghost use Rattle.path_lists.specs.Growth.{GrowsBy};
@@ -33,8 +34,7 @@ pub(crate) fn constraints_of<P: Stop>(
         (P.stops stop.old < P.stops stop.new)
         (λ constraints. Along (IsConstraintFor trs.now.rules) peaks.now constraints.items)) }
     ensures listed { OnOk result (AreListed trs.now.rules sides.new) }
-    ensures later { P.stops stop.old ≤ P.stops stop.new }
-    ensures kept { P.kept stop.new ≡ P.kept stop.old }
+    ensures continues { Continues P.Stop stop.old stop.new }
 {
     let mut constraints = Vec::new(alloc);
     for peak in peaks {

@@ -1,5 +1,6 @@
 //! The paths that close all peaks by given ranks.
-ghost use Rattle.std.specs.Prelude.{◌≡◌, ◌<◌, ◌≤◌, IfOk, OnOk, MatchOption};
+ghost use Rattle.std.specs.Prelude.{◌≡◌, ◌<◌, IfOk, OnOk, MatchOption};
+ghost use Rattle.assign_search.specs.Continues.{Continues};
 ghost use Rattle.join_find.specs.First.{Along};
 ghost use Rattle.join_find.specs.Sides.{HasSides, HaveSides};
 ghost use Rattle.path_lists.specs.Growth.{GrowsBy};
@@ -34,8 +35,7 @@ pub(crate) fn joins_by<P: Stop>(
     ensures joins { IfOk result (λ found. MatchOption found
         (P.stops stop.old < P.stops stop.new)
         (λ joins. Along (IsJoinBy trs.now.rules ranks.now) peaks.now joins.items)) }
-    ensures later { P.stops stop.old ≤ P.stops stop.new }
-    ensures kept { P.kept stop.new ≡ P.kept stop.old }
+    ensures continues { Continues P.Stop stop.old stop.new }
 {
     let mut joins = Vec::new(alloc);
     for peak in peaks {

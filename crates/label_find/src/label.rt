@@ -1,6 +1,7 @@
 //! The strategy label.
-ghost use Rattle.std.specs.Prelude.{◌≡◌, ◌<◌, ◌≤◌, ◌↔◌, Ok, IsTrue, IfOk, false};
+ghost use Rattle.std.specs.Prelude.{◌≡◌, ◌<◌, ◌↔◌, Ok, IsTrue, IfOk, false};
 ghost use Rattle.trs_defs.specs.Variable.{IsLinear};
+ghost use Rattle.assign_search.specs.Continues.{Continues};
 ghost use Rattle.join_find.specs.crit_pairs.PeakList.{ListsPeaks};
 ghost use Rattle.join_find.specs.First.{Along};
 ghost use Rattle.join_find.specs.Sides.{HaveSides};
@@ -52,8 +53,7 @@ pub fn find_label<P: Stop>(
     requires critical { ListsPeaks trs.now.rules (Ok peaks.now) }
     ensures answer { IfOk result (IsLabelling
         trs.now.rules peaks.now budget (P.stops stop.old < P.stops stop.new)) }
-    ensures later { P.stops stop.old ≤ P.stops stop.new }
-    ensures kept { P.kept stop.new ≡ P.kept stop.old }
+    ensures continues { Continues P.Stop stop.old stop.new }
 {
     if stop.stopped() {
         return Ok(Search::Stopped);
@@ -123,8 +123,7 @@ fn search_ranks<P: Stop>(
     requires constraints { Along (IsConstraintFor trs.now.rules) peaks.now constraints.items }
     ensures answer { IfOk result (IsLabelling
         trs.now.rules peaks.now budget (P.stops stop.old < P.stops stop.new)) }
-    ensures later { P.stops stop.old ≤ P.stops stop.new }
-    ensures kept { P.kept stop.new ≡ P.kept stop.old }
+    ensures continues { Continues P.Stop stop.old stop.new }
 {
     path_lists_are_one();
     let rules = trs.rules().len() as u32;
@@ -161,8 +160,7 @@ fn labelled_by<P: Stop>(
     requires can { CanAllBeClosed trs.now.rules ranks.now peaks.now }
     ensures answer { IfOk result (IsFinding (IsLabelledBy trs.now.rules peaks.now ranks.now) ⊥
         (P.stops stop.old < P.stops stop.new)) }
-    ensures later { P.stops stop.old ≤ P.stops stop.new }
-    ensures kept { P.kept stop.new ≡ P.kept stop.old }
+    ensures continues { Continues P.Stop stop.old stop.new }
 {
     match joins_by(alloc, trs, by_root, growth, peaks, ranks, sides, stop)? {
         None => Ok(Search::Stopped),

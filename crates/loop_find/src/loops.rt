@@ -1,6 +1,7 @@
 //! The strategy loop.
-ghost use Rattle.std.specs.Prelude.{◌≡◌, ◌<◌, ◌≤◌, ℕ, [], None, IfOk, OnOk, MatchOption};
+ghost use Rattle.std.specs.Prelude.{◌≡◌, ◌<◌, ℕ, [], None, IfOk, OnOk, MatchOption};
 ghost use Rattle.trs_core.specs.View.{tree};
+ghost use Rattle.assign_search.specs.Continues.{Continues};
 ghost use Rattle.loop_find.specs.Closures.{rule_closures};
 ghost use Rattle.loop_find.specs.LoopRow.{LoopNone, FindsLoop, IsLoopAnswer};
 ghost use Rattle.loop_find.specs.Links.{closures_of, IsSound};
@@ -32,8 +33,7 @@ pub fn find_loop<P: Stop>(
     ensures answer { IfOk result (IsLoopAnswer trs.now.rules budget
         (λ found. tree found.start) (λ found. found.path.items) (λ found. found.place)
         (P.stops stop.old < P.stops stop.new)) }
-    ensures later { P.stops stop.old ≤ P.stops stop.new }
-    ensures kept { P.kept stop.new ≡ P.kept stop.old }
+    ensures continues { Continues P.Stop stop.old stop.new }
 {
     let apart = renamed_rules(alloc, trs.rules())?;
     let mut closures = no_closures(alloc);

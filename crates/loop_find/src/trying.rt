@@ -5,6 +5,7 @@ ghost use Rattle.trs_defs.specs.System.{RewriteRule};
 ghost use Rattle.trs_core.specs.View.{tree};
 ghost use Rattle.term_pool.specs.Redexes.{IsNarrow};
 ghost use Rattle.crit_pairs.specs.PeakList.{symbol_places};
+ghost use Rattle.assign_search.specs.Continues.{Continues};
 ghost use Rattle.loop_find.specs.Closures.{Closure, attempts_at, attempts_of};
 ghost use Rattle.loop_find.specs.Links.{closures_of, IsSound};
 ghost use Rattle.loop_find.specs.Tries.{Ends};
@@ -76,8 +77,7 @@ pub(crate) fn expand<P: Stop>(
         closures.old closures.new (P.stops stop.old < P.stops stop.new) turn) }
     ensures sound { OnOk result (IsSound trs.now.arities closures.new) }
     ensures within { OnOk result (closures.new.attempts ≤ budget) }
-    ensures later { P.stops stop.old ≤ P.stops stop.new }
-    ensures kept { P.kept stop.new ≡ P.kept stop.old }
+    ensures continues { Continues P.Stop stop.old stop.new }
 {
     systems_are_valid(trs);
     let sides = closures.sides(alloc, number)?;
@@ -114,8 +114,7 @@ pub(crate) fn try_below<P: Stop>(
         closures.old closures.new (P.stops stop.old < P.stops stop.new) turn) }
     ensures trial { IfOk result (λ _. IsTrial trial.now closures.new) }
     ensures place { IfOk result (λ turn. turn ≡ Turn.Next → place.new.items ≡ place.old.items) }
-    ensures later { P.stops stop.old ≤ P.stops stop.new }
-    ensures kept { P.kept stop.new ≡ P.kept stop.old }
+    ensures continues { Continues P.Stop stop.old stop.new }
 {
     match part {
         Term::Var(_) => Ok(Turn::Next),
@@ -154,8 +153,7 @@ fn try_rules<P: Stop>(
         (attempts_at c place.now 0 trial.now.trs.now.rules)
         closures.old closures.new (P.stops stop.old < P.stops stop.new) turn) }
     ensures trial { IfOk result (λ _. IsTrial trial.now closures.new) }
-    ensures later { P.stops stop.old ≤ P.stops stop.new }
-    ensures kept { P.kept stop.new ≡ P.kept stop.old }
+    ensures continues { Continues P.Stop stop.old stop.new }
 {
     for k in 0..trial.apart.len() {
         let turn = try_rule(alloc, trial, part, place, k, closures, stop)?;
@@ -184,8 +182,7 @@ fn try_rule<P: Stop>(
         → Ends trial.now.trs.now.rules trial.now.budget (one_attempt c place.now k)
         closures.old closures.new (P.stops stop.old < P.stops stop.new) turn) }
     ensures trial { IfOk result (λ _. IsTrial trial.now closures.new) }
-    ensures later { P.stops stop.old ≤ P.stops stop.new }
-    ensures kept { P.kept stop.new ≡ P.kept stop.old }
+    ensures continues { Continues P.Stop stop.old stop.new }
 {
     if closures.attempts >= trial.budget {
         return Ok(Turn::Spent);

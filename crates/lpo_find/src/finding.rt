@@ -1,7 +1,8 @@
 //! The strategy lpo.
-ghost use Rattle.std.specs.Prelude.{◌≡◌, ◌<◌, ◌≤◌, All, IfOk, length};
+ghost use Rattle.std.specs.Prelude.{◌≡◌, ◌<◌, All, IfOk, length};
 ghost use Rattle.std.specs.List.Sorted.{IsStrictlyIncreasing};
 ghost use Rattle.pair_theory.specs.DependencyPair.{dependency_pairs};
+ghost use Rattle.assign_search.specs.Continues.{Continues};
 ghost use Rattle.order_search.specs.dp_core.PlacedPairs.{placed_pairs};
 ghost use Rattle.order_search.specs.Outcome.{IsFinding, IsNotThere, IsSpent};
 ghost use Rattle.order_search.specs.Slots.{puzzle_of};
@@ -43,8 +44,7 @@ pub fn find_lpo<P: Stop>(
         (FailsOrder trs.now problem.now (lpo_search trs.now) (IsNotThere budget))
         (FailsOrder trs.now problem.now (lpo_search trs.now) (IsSpent budget))
         (P.stops stop.old < P.stops stop.new)) }
-    ensures later { P.stops stop.old ≤ P.stops stop.new }
-    ensures kept { P.kept stop.new ≡ P.kept stop.old }
+    ensures continues { Continues P.Stop stop.old stop.new }
 {
     let pairs = Pairs::of(alloc, trs, all)?;
     find_lpo_in(alloc, trs, &pairs, problem, budget, stop)
@@ -68,8 +68,7 @@ pub fn find_lpo_in<P: Stop>(
         (FailsOrder trs.now problem.now (lpo_search trs.now) (IsNotThere budget))
         (FailsOrder trs.now problem.now (lpo_search trs.now) (IsSpent budget))
         (P.stops stop.old < P.stops stop.new)) }
-    ensures later { P.stops stop.old ≤ P.stops stop.new }
-    ensures kept { P.kept stop.new ≡ P.kept stop.old }
+    ensures continues { Continues P.Stop stop.old stop.new }
 {
     let over = OrderProblem::of(alloc, trs, pairs, problem)?;
     search_orders(
@@ -100,8 +99,7 @@ fn search_orders<P: Stop>(
         (IsNotThere budget (puzzle_of (path_search arities.now symbols.now rules.now pairs.now)))
         (IsSpent budget (puzzle_of (path_search arities.now symbols.now rules.now pairs.now)))
         (P.stops stop.old < P.stops stop.new)) }
-    ensures later { P.stops stop.old ≤ P.stops stop.new }
-    ensures kept { P.kept stop.new ≡ P.kept stop.old }
+    ensures continues { Continues P.Stop stop.old stop.new }
 {
     let places = SymbolPlaces::of(alloc, symbols)?;
     let filters = symbol_filters(alloc, arities, symbols)?;

@@ -1,8 +1,9 @@
 //! The strategy subterm.
-ghost use Rattle.std.specs.Prelude.{◌≡◌, ◌<◌, ◌≤◌, ◌+◌, ◌^◌, All, IfOk, length};
+ghost use Rattle.std.specs.Prelude.{◌≡◌, ◌<◌, ◌+◌, ◌^◌, All, IfOk, length};
 ghost use Rattle.std.specs.List.Sorted.{IsStrictlyIncreasing};
 ghost use Rattle.trs_core.specs.SystemLimits.{AreBytes};
 ghost use Rattle.pair_theory.specs.DependencyPair.{dependency_pairs};
+ghost use Rattle.assign_search.specs.Continues.{Continues};
 ghost use Rattle.order_search.specs.dp_core.PlacedPairs.{placed_pairs};
 ghost use Rattle.order_search.specs.Outcome.{IsFinding, IsNotThere, IsSpent};
 ghost use Rattle.order_search.specs.Slots.{puzzle_of};
@@ -41,8 +42,7 @@ pub fn find_subterm<P: Stop>(
         (FailsSubterm trs.now problem.now (IsNotThere budget))
         (FailsSubterm trs.now problem.now (IsSpent budget))
         (P.stops stop.old < P.stops stop.new)) }
-    ensures later { P.stops stop.old ≤ P.stops stop.new }
-    ensures kept { P.kept stop.new ≡ P.kept stop.old }
+    ensures continues { Continues P.Stop stop.old stop.new }
 {
     let pairs = Pairs::of(alloc, trs, all)?;
     find_subterm_in(alloc, trs, &pairs, problem, budget, stop)
@@ -66,8 +66,7 @@ pub fn find_subterm_in<P: Stop>(
         (FailsSubterm trs.now problem.now (IsNotThere budget))
         (FailsSubterm trs.now problem.now (IsSpent budget))
         (P.stops stop.old < P.stops stop.new)) }
-    ensures later { P.stops stop.old ≤ P.stops stop.new }
-    ensures kept { P.kept stop.new ≡ P.kept stop.old }
+    ensures continues { Continues P.Stop stop.old stop.new }
 {
     let arities = trs.arities();
     systems_are_valid(trs);
@@ -95,8 +94,7 @@ fn search_places<P: Stop>(
         (IsNotThere budget (puzzle_of (subterm_search arities.now roots.now pairs.now)))
         (IsSpent budget (puzzle_of (subterm_search arities.now roots.now pairs.now)))
         (P.stops stop.old < P.stops stop.new)) }
-    ensures later { P.stops stop.old ≤ P.stops stop.new }
-    ensures kept { P.kept stop.new ≡ P.kept stop.old }
+    ensures continues { Continues P.Stop stop.old stop.new }
 {
     let slots = SymbolPlaces::of(alloc, roots)?;
     let space = SubtermSpace {

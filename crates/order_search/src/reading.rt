@@ -1,6 +1,7 @@
 //! The first solution of a finite search, read as what was looked for.
-ghost use Rattle.std.specs.Prelude.{◌≡◌, ◌<◌, ◌≤◌, ℕ, Some, IfOk};
+ghost use Rattle.std.specs.Prelude.{◌≡◌, ◌<◌, ℕ, Some, IfOk};
 ghost use Rattle.assign_search.specs.Puzzle.{solution_of};
+ghost use Rattle.assign_search.specs.Continues.{Continues};
 ghost use Rattle.order_search.specs.Outcome.{IsFinding, IsFirst, IsNotThere, IsSpent};
 
 use assign_search::{Search, Space, Stop, first_solution};
@@ -33,8 +34,7 @@ pub fn find_first<S: Readable, P: Stop>(
     ensures answer { IfOk result (IsFinding (S.finds space.now budget)
         (IsNotThere budget (S.puzzle space.now)) (IsSpent budget (S.puzzle space.now))
         (P.stops stop.old < P.stops stop.new)) }
-    ensures later { P.stops stop.old ≤ P.stops stop.new }
-    ensures kept { P.kept stop.new ≡ P.kept stop.old }
+    ensures continues { Continues P.Stop stop.old stop.new }
 {
     match first_solution(alloc, space, budget, stop) {
         Err(_) => Err(OutOfMemory),

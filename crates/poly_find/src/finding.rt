@@ -1,7 +1,8 @@
 //! The strategy poly.
-ghost use Rattle.std.specs.Prelude.{◌≡◌, ◌<◌, ◌≤◌, All, IfOk, length};
+ghost use Rattle.std.specs.Prelude.{◌≡◌, ◌<◌, All, IfOk, length};
 ghost use Rattle.std.specs.List.Sorted.{IsStrictlyIncreasing};
 ghost use Rattle.pair_theory.specs.DependencyPair.{dependency_pairs};
+ghost use Rattle.assign_search.specs.Continues.{Continues};
 ghost use Rattle.order_search.specs.dp_core.PlacedPairs.{placed_pairs};
 ghost use Rattle.order_search.specs.Outcome.{IsFinding, IsNotThere, IsSpent};
 ghost use Rattle.order_search.specs.OrderRow.{FailsOrder};
@@ -39,8 +40,7 @@ pub fn find_poly<P: Stop>(
         (FailsOrder trs.now problem.now (search_of poly_search trs.now) (IsNotThere budget))
         (FailsOrder trs.now problem.now (search_of poly_search trs.now) (IsSpent budget))
         (P.stops stop.old < P.stops stop.new)) }
-    ensures later { P.stops stop.old ≤ P.stops stop.new }
-    ensures kept { P.kept stop.new ≡ P.kept stop.old }
+    ensures continues { Continues P.Stop stop.old stop.new }
 {
     let pairs = Pairs::of(alloc, trs, all)?;
     find_poly_in(alloc, trs, &pairs, problem, budget, stop)
@@ -63,8 +63,7 @@ pub fn find_poly_in<P: Stop>(
         (FailsOrder trs.now problem.now (search_of poly_search trs.now) (IsNotThere budget))
         (FailsOrder trs.now problem.now (search_of poly_search trs.now) (IsSpent budget))
         (P.stops stop.old < P.stops stop.new)) }
-    ensures later { P.stops stop.old ≤ P.stops stop.new }
-    ensures kept { P.kept stop.new ≡ P.kept stop.old }
+    ensures continues { Continues P.Stop stop.old stop.new }
 {
     let over = OrderProblem::of(alloc, trs, pairs, problem)?;
     search_linear(

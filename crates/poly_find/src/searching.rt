@@ -1,5 +1,6 @@
 //! The search over given symbols, rules and marked pairs.
-ghost use Rattle.std.specs.Prelude.{◌≡◌, ◌<◌, ◌≤◌, ◌+◌, ◌^◌, All, IfOk, length};
+ghost use Rattle.std.specs.Prelude.{◌<◌, ◌≤◌, ◌+◌, ◌^◌, All, IfOk, length};
+ghost use Rattle.assign_search.specs.Continues.{Continues};
 ghost use Rattle.order_search.specs.Outcome.{IsFinding, IsNotThere, IsSpent};
 ghost use Rattle.order_search.specs.Slots.{puzzle_of};
 ghost use Rattle.order_search.specs.OrderOver.{IsOrderOver};
@@ -41,8 +42,7 @@ pub(crate) fn search_linear<P: Stop>(
         (IsNotThere budget (puzzle_of (poly_search arities.now symbols.now rules.now pairs.now)))
         (IsSpent budget (puzzle_of (poly_search arities.now symbols.now rules.now pairs.now)))
         (P.stops stop.old < P.stops stop.new)) }
-    ensures later { P.stops stop.old ≤ P.stops stop.new }
-    ensures kept { P.kept stop.new ≡ P.kept stop.old }
+    ensures continues { Continues P.Stop stop.old stop.new }
 {
     let owners = owners(alloc, arities, symbols)?;
     let spans = spans(alloc, arities, symbols)?;

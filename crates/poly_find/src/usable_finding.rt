@@ -1,7 +1,8 @@
 //! The strategy usable.
-ghost use Rattle.std.specs.Prelude.{◌≡◌, ◌<◌, ◌≤◌, All, IfOk, length};
+ghost use Rattle.std.specs.Prelude.{◌≡◌, ◌<◌, All, IfOk, length};
 ghost use Rattle.std.specs.List.Sorted.{IsStrictlyIncreasing};
 ghost use Rattle.pair_theory.specs.DependencyPair.{dependency_pairs};
+ghost use Rattle.assign_search.specs.Continues.{Continues};
 ghost use Rattle.order_search.specs.dp_core.PlacedPairs.{placed_pairs};
 ghost use Rattle.order_search.specs.Outcome.{IsFinding, IsNotThere, IsSpent};
 ghost use Rattle.poly_find.specs.UsableRow.{FindsUsable, FailsUsable};
@@ -41,8 +42,7 @@ pub fn find_usable<P: Stop>(
         (FailsUsable trs.now problem.now (IsNotThere budget))
         (FailsUsable trs.now problem.now (IsSpent budget))
         (P.stops stop.old < P.stops stop.new)) }
-    ensures later { P.stops stop.old ≤ P.stops stop.new }
-    ensures kept { P.kept stop.new ≡ P.kept stop.old }
+    ensures continues { Continues P.Stop stop.old stop.new }
 {
     let pairs = Pairs::of(alloc, trs, all)?;
     find_usable_in(alloc, trs, &pairs, problem, budget, stop)
@@ -65,8 +65,7 @@ pub fn find_usable_in<P: Stop>(
         (FailsUsable trs.now problem.now (IsNotThere budget))
         (FailsUsable trs.now problem.now (IsSpent budget))
         (P.stops stop.old < P.stops stop.new)) }
-    ensures later { P.stops stop.old ≤ P.stops stop.new }
-    ensures kept { P.kept stop.new ≡ P.kept stop.old }
+    ensures continues { Continues P.Stop stop.old stop.new }
 {
     let arities = trs.arities();
     let rules = trs.rules();

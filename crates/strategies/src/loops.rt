@@ -1,6 +1,7 @@
 //! The strategy loop.
-ghost use Rattle.std.specs.Prelude.{◌≡◌, ◌<◌, ◌≤◌, IfOk};
+ghost use Rattle.std.specs.Prelude.{◌<◌, IfOk};
 ghost use Rattle.cert_step.specs.ProofProblem.{loop};
+ghost use Rattle.assign_search.specs.Continues.{Continues};
 ghost use Rattle.strategies.specs.Endings.{IsAnswer};
 
 use crate::found::closing;
@@ -21,8 +22,7 @@ pub(crate) fn search_loop<P: Stop>(
 ) -> Result<Searched, OutOfMemory>
     ensures answer { IfOk result
         (IsAnswer trs.now budget Strategy.Loop loop (P.stops stop.old < P.stops stop.new)) }
-    ensures later { P.stops stop.old ≤ P.stops stop.new }
-    ensures kept { P.kept stop.new ≡ P.kept stop.old }
+    ensures continues { Continues P.Stop stop.old stop.new }
 {
     systems_are_valid(trs);
     found_loops_are_loops();

@@ -1,7 +1,8 @@
 //! The strategies on critical peaks.
-ghost use Rattle.std.specs.Prelude.{◌≡◌, ◌<◌, ◌≤◌, IfOk, IfSome};
+ghost use Rattle.std.specs.Prelude.{◌<◌, IfOk, IfSome};
 ghost use Rattle.trs_defs.specs.Member.{In};
 ghost use Rattle.cert_step.specs.ProofProblem.{problem_of};
+ghost use Rattle.assign_search.specs.Continues.{Continues};
 ghost use Rattle.strategies.specs.Endings.{IsAnswer};
 ghost use Rattle.strategies.specs.Kinds.{strategies_for, IsOnPeaks};
 ghost use Rattle.strategies.specs.Tables.{AreKnownPeaks};
@@ -36,8 +37,7 @@ pub(crate) fn search_on_peaks<P: Stop>(
     requires on_peaks { IsOnPeaks strategy }
     ensures answer { IfOk result (IsAnswer trs.now budget strategy (problem_of problem.now)
         (P.stops stop.old < P.stops stop.new)) }
-    ensures later { P.stops stop.old ≤ P.stops stop.new }
-    ensures kept { P.kept stop.new ≡ P.kept stop.old }
+    ensures continues { Continues P.Stop stop.old stop.new }
 {
     match peaks {
         Some(peaks) => search_peaks(alloc, trs, peaks, problem, strategy, budget, stop),
@@ -63,8 +63,7 @@ fn search_peaks<P: Stop>(
     requires on_peaks { IsOnPeaks strategy }
     ensures answer { IfOk result (IsAnswer trs.now budget strategy (problem_of problem.now)
         (P.stops stop.old < P.stops stop.new)) }
-    ensures later { P.stops stop.old ≤ P.stops stop.new }
-    ensures kept { P.kept stop.new ≡ P.kept stop.old }
+    ensures continues { Continues P.Stop stop.old stop.new }
 {
     match strategy {
         Strategy::Parallel => search_among::<ParallelSteps, P>(alloc, trs, peaks, budget, stop),

@@ -1,9 +1,10 @@
 //! The strategies that remove pairs.
-ghost use Rattle.std.specs.Prelude.{◌≡◌, ◌<◌, ◌≤◌, IfOk, IsTrue};
+ghost use Rattle.std.specs.Prelude.{◌≡◌, ◌<◌, IfOk, IsTrue};
 ghost use Rattle.pair_theory.specs.DependencyPair.{dependency_pairs};
 ghost use Rattle.cert_step.specs.OnPairs.{for_pairs};
 ghost use Rattle.cert_step.specs.ProofProblem.{dp, problem_of, IsWellMadeProblem};
 ghost use Rattle.cert_step.specs.ProofStep.{step_of};
+ghost use Rattle.assign_search.specs.Continues.{Continues};
 ghost use Rattle.strategies.specs.Endings.{FindsStep, IsAnswer, IsSearchFor};
 
 use crate::Findings;
@@ -41,8 +42,7 @@ pub(crate) trait SearchOnPairs {
         ensures answer { IfOk result (IsSearchFor trs.now budget strategy (dp numbers.now)
             (λ found. FindsStep trs.now budget strategy (dp numbers.now) (step found))
             (P.stops stop.old < P.stops stop.new)) }
-        ensures later { P.stops stop.old ≤ P.stops stop.new }
-        ensures kept { P.kept stop.new ≡ P.kept stop.old };
+        ensures continues { Continues P.Stop stop.old stop.new };
 
     /// The step by what was found.
     fn into_step(found: Self::Found) -> Step
@@ -66,8 +66,7 @@ pub(crate) fn search_on_pairs<S: SearchOnPairs, P: Stop>(
     ensures answer { IfOk result (IsAnswer trs.now budget S.strategy (problem_of problem.now)
         (P.stops stop.old < P.stops stop.new)) }
     ensures prepared { prepared.new ≡ trs.now }
-    ensures later { P.stops stop.old ≤ P.stops stop.new }
-    ensures kept { P.kept stop.new ≡ P.kept stop.old }
+    ensures continues { Continues P.Stop stop.old stop.new }
 {
     let Problem::Dp(numbers) = problem else {
         unreachable!()

@@ -1,5 +1,6 @@
 //! The strategies that close critical peaks, or find a fork among them.
-ghost use Rattle.std.specs.Prelude.{◌≡◌, ◌<◌, ◌≤◌, Ok, IfOk};
+ghost use Rattle.std.specs.Prelude.{◌≡◌, ◌<◌, Ok, IfOk};
+ghost use Rattle.assign_search.specs.Continues.{Continues};
 ghost use Rattle.loop_find.specs.crit_pairs.PeakList.{ListsPeaks};
 ghost use Rattle.strategies.specs.Endings.{IsAnswer, IsSearchFor};
 ghost use Rattle.strategies.specs.Tables.{AreKnownPeaks};
@@ -46,8 +47,7 @@ pub(crate) trait SearchOnPeaks {
         ensures answer { IfOk result (IsSearchFor trs.now budget strategy problem
             (λ found. IsTrueFound trs.now budget strategy problem (answer found))
             (P.stops stop.old < P.stops stop.new)) }
-        ensures later { P.stops stop.old ≤ P.stops stop.new }
-        ensures kept { P.kept stop.new ≡ P.kept stop.old };
+        ensures continues { Continues P.Stop stop.old stop.new };
 
     /// The step by what was found, with the problems that it leaves.
     fn findings(alloc: Global, found: Self::Evidence) -> Result<Findings, OutOfMemory>
@@ -68,8 +68,7 @@ pub(crate) fn search_among<S: SearchOnPeaks, P: Stop>(
     requires { AreKnownPeaks trs.now peaks.now }
     ensures answer { IfOk result (IsAnswer trs.now budget S.strategy S.problem
         (P.stops stop.old < P.stops stop.new)) }
-    ensures later { P.stops stop.old ≤ P.stops stop.new }
-    ensures kept { P.kept stop.new ≡ P.kept stop.old }
+    ensures continues { Continues P.Stop stop.old stop.new }
 {
     let KnownPeaks::Listed(peaks) = peaks else {
         return Ok(Searched::Ended(Findings::NotThere));

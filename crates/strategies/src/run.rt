@@ -1,6 +1,7 @@
-ghost use Rattle.std.specs.Prelude.{◌≡◌, ◌<◌, ◌≤◌, IfOk};
+ghost use Rattle.std.specs.Prelude.{◌≡◌, ◌<◌, IfOk};
 ghost use Rattle.trs_defs.specs.Member.{In};
 ghost use Rattle.cert_step.specs.ProofProblem.{problem_of, IsWellMadeProblem};
+ghost use Rattle.assign_search.specs.Continues.{Continues};
 ghost use Rattle.strategies.specs.Endings.{IsAnswer, IfEnded, IfStopped};
 ghost use Rattle.strategies.specs.Kinds.{strategies_for};
 ghost use Rattle.strategies.specs.Truth.{IsTrueRun};
@@ -44,8 +45,7 @@ pub fn run_strategy<'a, P: Stop>(
     ensures strategy { IfOk result (IfEnded (λ o. o.strategy ≡ strategy)) }
     ensures is_true { IfOk result (IfEnded IsTrueRun) }
     ensures stopped { IfOk result (IfStopped (P.stops stop.old < P.stops stop.new)) }
-    ensures later { P.stops stop.old ≤ P.stops stop.new }
-    ensures kept { P.kept stop.new ≡ P.kept stop.old }
+    ensures continues { Continues P.Stop stop.old stop.new }
 {
     let tables = Tables::new(alloc, trs)?;
     let mut searcher = Searcher::new(&tables);
@@ -70,8 +70,7 @@ pub(crate) fn search<P: Stop>(
     ensures answer { IfOk result (IsAnswer trs.now budget strategy (problem_of problem.now)
         (P.stops stop.old < P.stops stop.new)) }
     ensures prepared { prepared.new ≡ trs.now }
-    ensures later { P.stops stop.old ≤ P.stops stop.new }
-    ensures kept { P.kept stop.new ≡ P.kept stop.old }
+    ensures continues { Continues P.Stop stop.old stop.new }
 {
     let pairs = tables.pairs();
     match strategy {

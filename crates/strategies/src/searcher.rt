@@ -1,6 +1,7 @@
-ghost use Rattle.std.specs.Prelude.{◌≡◌, ◌<◌, ◌≤◌, IfOk};
+ghost use Rattle.std.specs.Prelude.{◌≡◌, ◌<◌, IfOk};
 ghost use Rattle.trs_defs.specs.Member.{In};
 ghost use Rattle.cert_step.specs.ProofProblem.{problem_of, IsWellMadeProblem};
+ghost use Rattle.assign_search.specs.Continues.{Continues};
 ghost use Rattle.strategies.specs.Endings.{IfEnded, IfStopped};
 ghost use Rattle.strategies.specs.Kinds.{strategies_for};
 ghost use Rattle.strategies.specs.Truth.{IsTrueRun};
@@ -64,8 +65,7 @@ impl<'t, 'a> Searcher<'t, 'a> {
         ensures strategy { IfOk result (IfEnded (λ o. o.strategy ≡ strategy)) }
         ensures is_true { IfOk result (IfEnded IsTrueRun) }
         ensures stopped { IfOk result (IfStopped (P.stops stop.old < P.stops stop.new)) }
-        ensures later { P.stops stop.old ≤ P.stops stop.new }
-        ensures kept { P.kept stop.new ≡ P.kept stop.old }
+        ensures continues { Continues P.Stop stop.old stop.new }
     {
         let trs = self.tables.system();
         let budget = limits.budget;

@@ -1,5 +1,5 @@
-use Rattle.std.proofs.Common.{◌∙◌, arith}
 use Rattle.conf_find.specs.ForkRows.{PartsNot}
+use Rattle.assign_search.proofs.Continuing.{continues_on}
 use Rattle.join_find.proofs.Firsts.{read_in}
 use Rattle.conf_find.proofs.PeakList.{none_passed, one_more_passed, all_passed, behind_read}
 use Rattle.conf_find.proofs.first_fork.first_fork.Goals as goal
@@ -7,8 +7,7 @@ use Rattle.conf_find.proofs.first_fork.first_fork.Goals as goal
 pub loop-peak-init : goal.loop-peak-init
 loop-peak-init g c = record {
   passed = none_passed (PartsNot g.M.Mark.never_meet c.args.trs.now.rules) c.args.peaks.now;
-  later = c.stopped.ensures.later;
-  kept = c.stopped.ensures.kept;
+  continues = record { later = c.stopped.ensures.later; kept = c.stopped.ensures.kept };
 }
 
 pub fork_at-requires-clause-sides : goal.fork_at-requires-clause-sides
@@ -27,8 +26,7 @@ pub loop-peak-preserved : goal.loop-peak-preserved
 loop-peak-preserved g c = record {
   passed = one_more_passed (PartsNot g.M.Mark.never_meet c.args.trs.now.rules) c.args.peaks.now c.loop-peak.peak-index c.peak-item.result c.loop-peak-test.true c.peak-item.is
       (rw c.in-None.is at c.in_ok-found.ensures.fork) c.loop-peak.invariant.passed;
-  later = omega (arith, c.loop-peak.invariant.later, c.stopped-in-loop-peak.ensures.later);
-  kept = c.stopped-in-loop-peak.ensures.kept ∙ c.loop-peak.invariant.kept;
+  continues = continues_on c.loop-peak.invariant.continues (record { later = c.stopped-in-loop-peak.ensures.later; kept = c.stopped-in-loop-peak.ensures.kept });
 }
 
 pub returns-clause-answer : goal.returns-clause-answer

@@ -1,4 +1,4 @@
-use Rattle.std.proofs.Common.{◌≡◌, ◌≤◌}
+use Rattle.assign_search.specs.Continues.{Continues}
 use Rattle.conf_find.specs.ForkRows.{PartsNot}
 use Rattle.conf_find.proofs.PeakList.{ArePassed}
 use Rattle.conf_find.proofs.first_fork.first_fork.Given as goal
@@ -6,6 +6,5 @@ use Rattle.conf_find.proofs.first_fork.first_fork.Given as goal
 abbrev pub invariant-loop-peak : goal.invariant-loop-peak
 invariant-loop-peak g l = record {
   passed : ArePassed (PartsNot g.M.Mark.never_meet l.trs.rules) l.peaks l.peak-index;
-  later : g.P.Stop.stops l.fn.stop ≤ g.P.Stop.stops l.stop;
-  kept : g.P.Stop.kept l.stop ≡ g.P.Stop.kept l.fn.stop;
+  continues : Continues g.P.Stop l.fn.stop l.stop;
 }

@@ -1,5 +1,6 @@
-use Rattle.std.proofs.Common.{◌∙◌, List, [], sym, subst, arith}
+use Rattle.std.proofs.Common.{List, [], sym, subst}
 use Rattle.rewrite_core.specs.PathsOfJoin.{PathsOfJoin}
+use Rattle.assign_search.proofs.Continuing.{continues_on}
 use Rattle.join_find.specs.First.{Along, along_end}
 use Rattle.join_find.specs.NewmanRow.{IsFirstJoin}
 use Rattle.join_find.proofs.Firsts.{along_one_more, read_in}
@@ -8,7 +9,7 @@ use Rattle.join_find.proofs.newman.find_newman.Goals as goal
 pub loop-peak-init : goal.loop-peak-init
 loop-peak-init g c =
     let P : List PathsOfJoin → Type 0 = λ js. Along (IsFirstJoin c.args.trs.now.rules) [] js in
-    record { joined = subst P (sym c.new-joins.ensures.items) along_end; sides = c.new-sides.ensures.sides c.args.trs.now.rules; later = c.stopped.ensures.later; kept = c.stopped.ensures.kept }
+    record { joined = subst P (sym c.new-joins.ensures.items) along_end; sides = c.new-sides.ensures.sides c.args.trs.now.rules; continues = record { later = c.stopped.ensures.later; kept = c.stopped.ensures.kept } }
 
 pub first_join-requires-clause-peak : goal.first_join-requires-clause-peak
 first_join-requires-clause-peak g c =
@@ -24,6 +25,5 @@ loop-peak-preserved g c = record {
   joined = along_one_more (IsFirstJoin c.args.trs.now.rules) c.args.peaks.now c.loop-peak.joins.items c.push.new.self.items c.loop-peak.peak-index c.peak-item.result _
       c.loop-peak-test.true c.peak-item.is c.loop-peak.invariant.joined (rw c.in-Some.is at c.in_ok-join.ensures.join) c.in_ok-push-in-Some.ensures.items;
   sides = c.in_ok-join.ensures.sides;
-  later = omega (arith, c.loop-peak.invariant.later, c.stopped-in-loop-peak.ensures.later);
-  kept = c.stopped-in-loop-peak.ensures.kept ∙ c.loop-peak.invariant.kept;
+  continues = continues_on c.loop-peak.invariant.continues (record { later = c.stopped-in-loop-peak.ensures.later; kept = c.stopped-in-loop-peak.ensures.kept });
 }

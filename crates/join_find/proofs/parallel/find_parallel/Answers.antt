@@ -1,7 +1,8 @@
-use Rattle.std.proofs.Common.{◌≡◌, ◌≤◌, ◌∙◌, List, [], refl, sym, subst, arith}
+use Rattle.std.proofs.Common.{List, [], sym, subst}
 use Rattle.std.specs.Global.{Vec}
 use Rattle.trs_defs.specs.Path.{PlacedRule}
 use Rattle.closed_pairs.specs.ParallelClosed.{paths_of}
+use Rattle.assign_search.proofs.Continuing.{continues_on}
 use Rattle.join_find.proofs.ParallelPeaks.{one_more_closing}
 use Rattle.join_find.specs.First.{Along, along_end}
 use Rattle.join_find.specs.ParallelRow.{IsParallelClosing, not_closed}
@@ -11,7 +12,7 @@ use Rattle.join_find.proofs.parallel.find_parallel.Goals as goal
 pub loop-peak-init : goal.loop-peak-init
 loop-peak-init g c =
     let P : List (Vec PlacedRule) → Type 0 = λ xs. Along (IsParallelClosing c.args.trs.now.rules) [] (paths_of xs) in
-    record { joined = subst P (sym c.new-steps.ensures.items) along_end; later = c.stopped.ensures.later; kept = c.stopped.ensures.kept }
+    record { joined = subst P (sym c.new-steps.ensures.items) along_end; continues = record { later = c.stopped.ensures.later; kept = c.stopped.ensures.kept } }
 
 pub closing-requires : goal.closing-requires
 closing-requires g c = record {
@@ -27,8 +28,7 @@ pub loop-peak-preserved : goal.loop-peak-preserved
 loop-peak-preserved g c = record {
   joined = one_more_closing c.args.trs.now.rules c.args.peaks.now c.loop-peak.steps.items c.push.new.self.items c.loop-peak.peak-index c.peak-item.result c.in-Some.step
       c.loop-peak-test.true c.peak-item.is c.loop-peak.invariant.joined (rw c.in-Some.is at c.in_ok-step.ensures.step) c.in_ok-push-in-Some.ensures.items;
-  later = omega (arith, c.loop-peak.invariant.later, c.stopped-in-loop-peak.ensures.later);
-  kept = c.stopped-in-loop-peak.ensures.kept ∙ c.loop-peak.invariant.kept;
+  continues = continues_on c.loop-peak.invariant.continues (record { later = c.stopped-in-loop-peak.ensures.later; kept = c.stopped-in-loop-peak.ensures.kept });
 }
 
 pub returns-clause-answer : goal.returns-clause-answer

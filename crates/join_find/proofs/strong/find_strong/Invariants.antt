@@ -1,4 +1,5 @@
-use Rattle.std.proofs.Common.{◌≡◌, ◌≤◌, take}
+use Rattle.std.proofs.Common.{take}
+use Rattle.assign_search.specs.Continues.{Continues}
 use Rattle.join_find.specs.First.{Along}
 use Rattle.join_find.specs.StrongRow.{IsFirstFour}
 use Rattle.join_find.specs.ReachedSides.{AreReached}
@@ -8,6 +9,5 @@ abbrev pub invariant-loop-peak : goal.invariant-loop-peak
 invariant-loop-peak g l = record {
   joined : Along (IsFirstFour l.trs.rules) (take l.peak-index l.peaks) l.fours.items;
   sides : AreReached l.trs.rules l.sides;
-  later : g.P.Stop.stops l.fn.stop ≤ g.P.Stop.stops l.stop;
-  kept : g.P.Stop.kept l.stop ≡ g.P.Stop.kept l.fn.stop;
+  continues : Continues g.P.Stop l.fn.stop l.stop;
 }

@@ -1,14 +1,15 @@
-use Rattle.std.proofs.Common.{◌∙◌, List, [], refl, sym, subst, arith}
+use Rattle.std.proofs.Common.{List, [], sym, subst}
 use Rattle.label_find.specs.declared.constraint.PeakConstraint.{PeakConstraint}
 use Rattle.join_find.specs.First.{Along, along_end}
 use Rattle.label_find.specs.ConstraintPuzzle.{IsConstraintFor}
+use Rattle.assign_search.proofs.Continuing.{continues_itself, continues_on}
 use Rattle.join_find.proofs.Firsts.{along_one_more, along_all, read_in}
 use Rattle.label_find.proofs.constraints.constraints_of.Goals as goal
 
 pub loop-peak-init : goal.loop-peak-init
 loop-peak-init g c =
     let P : List PeakConstraint → Type 0 = λ xs. Along (IsConstraintFor c.args.trs.now.rules) [] xs in
-    record { made = subst P (sym c.new-constraints.ensures.items) along_end; listed = c.requires.listed; later = omega arith; kept = refl }
+    record { made = subst P (sym c.new-constraints.ensures.items) along_end; listed = c.requires.listed; continues = continues_itself g.P.Stop c.args.stop.now }
 
 pub constraint_at-requires-clause-sides : goal.constraint_at-requires-clause-sides
 constraint_at-requires-clause-sides g c =
@@ -19,8 +20,7 @@ loop-peak-preserved g c = record {
   made = along_one_more (IsConstraintFor c.args.trs.now.rules) c.args.peaks.now c.loop-peak.constraints.items c.push.new.self.items c.loop-peak.peak-index c.peak-item.result _
       c.loop-peak-test.true c.peak-item.is c.loop-peak.invariant.made c.in_ok-constraint.ensures.constraint c.in_ok-push.ensures.items;
   listed = c.in_ok-constraint.ensures.listed;
-  later = omega (arith, c.loop-peak.invariant.later, c.stopped.ensures.later);
-  kept = c.stopped.ensures.kept ∙ c.loop-peak.invariant.kept;
+  continues = continues_on c.loop-peak.invariant.continues (record { later = c.stopped.ensures.later; kept = c.stopped.ensures.kept });
 }
 
 pub returns-clause-constraints : goal.returns-clause-constraints

@@ -29,7 +29,7 @@ returns-in-Ok-Found-clause-answer g c =
     labelling_found c.args.trs.now c.rules.ensures.valid c.args.peaks.now c.args.constraints.items c.args.budget c.deref.result.now
     (g.P.Stop.stops c.first_solution.new.stop < g.P.Stop.stops c.labelled_by.new.stop) (g.P.Stop.stops c.args.stop.now < g.P.Stop.stops c.labelled_by.new.stop) c.labelled_by.result
     c.requires.linear (with_paths c.args.trs.now.rules c.requires.constraints) (first.0 ∙ ap (λ (rs : List ℕ). Some rs) (sym c.deref.ensures.value)) first.1
-    (λ rose. omega (arith, rose, c.in-Ok-Found.ensures.later)) c.labelled_by.ensures.answer
+    (λ rose. omega (arith, rose, c.in-Ok-Found.ensures.continues.later)) c.labelled_by.ensures.answer
 
 pub returns-in-Ok-NotThere-clause-answer : goal.returns-in-Ok-NotThere-clause-answer
 returns-in-Ok-NotThere-clause-answer g c =

@@ -1,4 +1,5 @@
-use Rattle.std.proofs.Common.{◌∙◌, arith, refl}
+use Rattle.std.proofs.Common.{◌∙◌, arith}
+use Rattle.assign_search.proofs.Continuing.{continues_itself, continues_on}
 use Rattle.loop_find.proofs.LinkLists.{closure_of_number}
 use Rattle.loop_find.proofs.Walked.{walk_begins, walks_on, found_here, spent_here, falls, not_there, just_spent}
 use Rattle.loop_find.proofs.loops.find_loop.Goals as goal
@@ -10,8 +11,7 @@ loop-next-init g c =
       walked = walk_begins c.args.trs.now.rules c.loop_of_rules.new.closures (c.in_ok-found.ensures.closures c.in_default.is) start (rw c.in_default.is at c.in_ok-found.ensures.found);
       sound = c.in_ok-found.ensures.sound;
       within = omega (arith, start);
-      later = omega arith;
-      kept = refl;
+      continues = continues_itself g.P.Stop c.args.stop.now;
     }
 
 pub returns-in-Found-clause-answer : goal.returns-in-Found-clause-answer
@@ -30,7 +30,7 @@ pub returns-in-Stopped-clause-answer : goal.returns-in-Stopped-clause-answer
 returns-in-Stopped-clause-answer g c =
     let here = closure_of_number c.loop-next.closures c.loop-next.next (omega (arith, c.loop-next-test.true, c.len.ensures, c.loop-next.closures.links.ok.0)) in
     let rose = (rw c.in-Stopped.is at c.in_ok-expand.ensures.turn) here.0 here.1 in
-    omega (arith, rose, c.loop-next.invariant.later)
+    omega (arith, rose, c.loop-next.invariant.continues.later)
 
 pub loop-next-smaller : goal.loop-next-smaller
 loop-next-smaller g c =
@@ -46,8 +46,7 @@ loop-next-preserved g c =
           ((rw c.in-Next.is at c.in_ok-expand.ensures.turn) here.0 here.1);
       sound = c.in_ok-expand.ensures.sound;
       within = c.in_ok-expand.ensures.within;
-      later = omega (arith, c.loop-next.invariant.later, c.expand.ensures.later);
-      kept = c.expand.ensures.kept ∙ c.loop-next.invariant.kept;
+      continues = continues_on c.loop-next.invariant.continues c.expand.ensures.continues;
     }
 
 pub returns-then-closures-budget-clause-answer : goal.returns-then-closures-budget-clause-answer

@@ -1,4 +1,5 @@
-use Rattle.std.proofs.Common.{◌≡◌, ◌≤◌, ◌+◌, ◌-◌, length}
+use Rattle.std.proofs.Common.{◌≤◌, ◌+◌, ◌-◌, length}
+use Rattle.assign_search.specs.Continues.{Continues}
 use Rattle.loop_find.specs.Links.{IsSound}
 use Rattle.loop_find.proofs.Walked.{HasWalked}
 use Rattle.loop_find.proofs.loops.find_loop.Given as goal
@@ -8,8 +9,7 @@ invariant-loop-next g l = record {
   walked : HasWalked l.trs.rules l.next l.closures;
   sound : IsSound l.trs.arities l.closures;
   within : l.closures.attempts ≤ l.budget;
-  later : g.P.Stop.stops l.fn.stop ≤ g.P.Stop.stops l.stop;
-  kept : g.P.Stop.kept l.stop ≡ g.P.Stop.kept l.fn.stop;
+  continues : Continues g.P.Stop l.fn.stop l.stop;
 }
 
 abbrev pub decreases-loop-next : goal.decreases-loop-next

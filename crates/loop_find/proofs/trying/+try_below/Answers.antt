@@ -1,8 +1,9 @@
-use Rattle.std.proofs.Common.{◌≡◌, ◌∙◌, arith, refl, ap}
+use Rattle.std.proofs.Common.{◌≡◌, arith, refl, ap}
 use Rattle.trs_defs.specs.Tree.{app}
 use Rattle.trs_core.specs.View.{tree, forest}
 use Rattle.rewrite_core.proofs.RedexWalk.{smaller_argument}
 use Rattle.term_pool.proofs.RedexWalk.{popped, narrow_app, narrow_next, positive_below}
+use Rattle.assign_search.proofs.Continuing.{continues_on}
 use Rattle.loop_find.proofs.Tried.{sets_out, goes_on, comes_out, arrives, still_there, root_then_arguments, next_argument, no_argument_left, nothing_tried}
 use Rattle.loop_find.proofs.Extensions.{part_of_argument}
 use Rattle.loop_find.proofs.trying.+try_below.Goals as goal
@@ -36,8 +37,7 @@ loop-i-init g t c =
       narrow = n.1;
       few = n.0;
       same = refl;
-      later = c.try_rules.ensures.later;
-      kept = c.try_rules.ensures.kept;
+      continues = c.try_rules.ensures.continues;
     }
 
 pub try_below-requires : goal.try_below-requires
@@ -62,7 +62,7 @@ returns-then-not-is_next-2-clause-turn g t c = λ cl e.
     let before = c.loop-i.invariant.going cl e in
     comes_out rules c.args.trial.now.budget _ _ _ _ c.args.closures.now c.loop-i.closures before
     (next_argument rules cl c.args.place.now.items c.push.new.self.items items c.loop-i.i c.arg-item.result c.loop-i-test.true c.arg-item.is pushed) c.try_below.new.closures _ _ c.in_ok-turn-in-App-2.turn
-    (λ n. let y = c.if-not-is_next-2.ensures.1 n in absurd cc) (λ r. omega (arith, r, c.loop-i.invariant.later))
+    (λ n. let y = c.if-not-is_next-2.ensures.1 n in absurd cc) (λ r. omega (arith, r, c.loop-i.invariant.continues.later))
     (c.in_ok-turn-in-App-2.ensures.turn cl (still_there rules c.args.trial.now.budget _ _ c.args.closures.now c.loop-i.closures c.args.trial.now.number cl before e))
 
 pub loop-i-preserved : goal.loop-i-preserved
@@ -84,8 +84,7 @@ loop-i-preserved g t c =
       few = c.loop-i.invariant.few;
       same = popped place c.push.new.self.items c.try_below.new.place.items c.pop.new.self.items _ c.try_below.new.place.len pushed (c.in_ok-turn-in-App-2.ensures.place (c.if-not-is_next-2.ensures.0 refl))
           (omega (arith, c.try_below.new.place.ok.0)) c.pop.ensures.rest;
-      later = omega (arith, c.loop-i.invariant.later, c.try_below.ensures.later);
-      kept = c.try_below.ensures.kept ∙ c.loop-i.invariant.kept;
+      continues = continues_on c.loop-i.invariant.continues c.try_below.ensures.continues;
     }
 
 pub returns-after-loop-i-clause-turn : goal.returns-after-loop-i-clause-turn

@@ -3,6 +3,7 @@ use Rattle.trs_defs.specs.Size.{size_of}
 use Rattle.trs_core.specs.View.{tree, forest}
 use Rattle.term_pool.specs.Redexes.{AreNarrow}
 use Rattle.crit_pairs.specs.PeakList.{symbol_places}
+use Rattle.assign_search.specs.Continues.{Continues}
 use Rattle.loop_find.specs.Closures.{Closure, attempts_of}
 use Rattle.loop_find.specs.Links.{closures_of}
 use Rattle.loop_find.specs.Trials.{IsTrial}
@@ -18,8 +19,7 @@ invariant-loop-i g l = record {
   narrow : AreNarrow (forest (drop l.i l.arg-items));
   few : length l.arg-items ≤ 255;
   same : l.place.items ≡ l.fn.place.items;
-  later : g.P.Stop.stops l.fn.stop ≤ g.P.Stop.stops l.stop;
-  kept : g.P.Stop.kept l.stop ≡ g.P.Stop.kept l.fn.stop;
+  continues : Continues g.P.Stop l.fn.stop l.stop;
 }
 
 abbrev pub decreases-try_below : goal.decreases-try_below

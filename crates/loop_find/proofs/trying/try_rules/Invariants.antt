@@ -1,4 +1,5 @@
-use Rattle.std.proofs.Common.{◌≡◌, ◌≤◌, Some, slice_get, drop}
+use Rattle.std.proofs.Common.{◌≡◌, Some, slice_get, drop}
+use Rattle.assign_search.specs.Continues.{Continues}
 use Rattle.loop_find.specs.Closures.{Closure, attempts_at}
 use Rattle.loop_find.specs.Links.{closures_of}
 use Rattle.loop_find.specs.Trials.{IsTrial}
@@ -11,6 +12,5 @@ invariant-loop-k g l = record {
       → Going l.trial.trs.now.rules l.trial.budget (attempts_at c l.place 0 l.trial.trs.now.rules)
       l.fn.closures l.closures (attempts_at c l.place l.k (drop l.k l.trial.trs.now.rules));
   trial : IsTrial l.trial l.closures;
-  later : g.P.Stop.stops l.fn.stop ≤ g.P.Stop.stops l.stop;
-  kept : g.P.Stop.kept l.stop ≡ g.P.Stop.kept l.fn.stop;
+  continues : Continues g.P.Stop l.fn.stop l.stop;
 }

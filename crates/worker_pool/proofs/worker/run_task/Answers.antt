@@ -9,20 +9,20 @@ use Rattle.worker_pool.proofs.worker.run_task.Goals as goal
 
 pub returns-then-stops-gt0-clause-ended : goal.returns-then-stops-gt0-clause-ended
 returns-then-stops-gt0-clause-ended g c =
-    subst (λ (t : ℕ). HasEnded t c.leave-seat.result.0.mine) (ticket_kept c.new-watch.result c.run-ran.new.stop c.run-ran.ensures.kept ∙ c.new-watch.ensures.ticket)
+    subst (λ (t : ℕ). HasEnded t c.leave-seat.result.0.mine) (ticket_kept c.new-watch.result c.run-ran.new.stop c.run-ran.ensures.continues.kept ∙ c.new-watch.ensures.ticket)
     (c.leave-seat.ensures.ended (subst (λ (n : ℕ). 0 < n) c.leave-seat.ensures.stops c.if-stops-gt0.true))
 
 pub abort-requires-clause-runs : goal.abort-requires-clause-runs
 abort-requires-clause-runs g c =
     let leave = c.leave-seat.ensures in
-    let same = still_same c.new-watch.result c.run-ran.new.stop c.args.seat c.leave-seat.result.0 c.leave-seat.result.1 c.run-ran.ensures.kept
+    let same = still_same c.new-watch.result c.run-ran.new.stop c.args.seat c.leave-seat.result.0 c.leave-seat.result.1 c.run-ran.ensures.continues.kept
     c.new-watch.ensures.first leave.after leave.same leave.stops c.if-stops-gt0.false in
     subst (λ (es : List (Signed Entry)). Runs c.args.task.now.ticket (tree_entries es)) (sym same.1) c.requires.task.runs
 
 pub post-requires-clause-task : goal.post-requires-clause-task
 post-requires-clause-task g c =
     let leave = c.leave-seat.ensures in
-    let same = still_same c.new-watch.result c.run-ran.new.stop c.args.seat c.leave-seat.result.0 c.leave-seat.result.1 c.run-ran.ensures.kept
+    let same = still_same c.new-watch.result c.run-ran.new.stop c.args.seat c.leave-seat.result.0 c.leave-seat.result.1 c.run-ran.ensures.continues.kept
     c.new-watch.ensures.first leave.after leave.same leave.stops c.if-stops-gt0.false in
     let task = c.args.task.now in
     let outcome = c.in-Ok-Ended.outcome in
