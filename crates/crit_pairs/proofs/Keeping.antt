@@ -8,14 +8,14 @@ use Rattle.trs_defs.specs.Tree.{Tree, var, app}
 use Rattle.trs_defs.specs.Size.{size_of}
 use Rattle.trs_defs.specs.System.{RewriteRule, System, IsSystem, has_root}
 use Rattle.trs_core.specs.SystemLimits.{HaveSmallVariables}
-use Rattle.term_pool.specs.Roots.{IsNextRooted}
+use Rattle.term_pool.specs.Roots.{with_root}
 use Rattle.rewrite_core.specs.PlacedPeak.{PlacedPeak}
 use Rattle.crit_pairs.specs.PeakList.{Spot, spots_at, spots, spots_from, ListsPeaks}
 use Rattle.crit_pairs.specs.Sides.{KeepsLimits, nodes_of_three}
 use Rattle.crit_pairs.specs.Walk.{Moves, Stops, Keeps, Reaches, Adds, StopsWith, HasFirst, IsPartOf}
 use Rattle.crit_pairs.specs.declared.listing.Peaks.{Peaks}
 use Rattle.crit_pairs.specs.declared.faults.PeakFault.{PeakFault}
-use Rattle.crit_pairs.proofs.SpotWalk.{OverlapsUnify, stays, goes_on, stops_here, moves_to_next, listed_all}
+use Rattle.crit_pairs.proofs.SpotWalk.{OverlapsUnify, stays, goes_on, stops_here, spots_by, moves_to_root, listed_all}
 
 -- nothing is done
 pub still_kept : (rules : List RewriteRule) (peaks : Peaks) (spots : List Spot) (before : List PlacedPeak) → Keeps peaks before → Reaches rules peaks.most before peaks.nodes spots peaks spots
@@ -37,16 +37,11 @@ module _ (rules : List RewriteRule) (most : ℕ) (before : List PlacedPeak) (tot
   pub kept_stops : (fault : PeakFault) → StopsWith rules mid first fault → Stops rules before total from fault
   kept_stops fault stop = stops_here rules before was.all total mid.nodes from left first rest is was.moves fault (stop was.all was.keeps)
 
--- rules with another root than the part are passed over
-pub kept_to_next : OverlapsUnify → (system : System) → IsSystem system → HaveSmallVariables system.rules → (j : ℕ) (p : List ℕ) (part : Tree) → IsPartOf system.rules j p part → (f : ℕ) → IsTrue (has_root f part)
-    → (most : ℕ) (before : List PlacedPeak) (total : ℕ) (from : List Spot) (now : Peaks) (i n : ℕ) → IsNextRooted system.rules f i n
-    → Reaches system.rules most before total from now (spots_at j p i (drop i system.rules)) → Reaches system.rules most before total from now (spots_at j p n (drop n system.rules))
-kept_to_next unified system valid small j p part at f root most before total from now i n next h = record {
-  all = h.all;
-  keeps = h.keeps;
-  same_most = h.same_most;
-  moves = moves_to_next unified system valid small j p part at f root h.all now.nodes before total from i n next h.moves;
-}
+-- only the rules with the part's root are left
+pub kept_to_root : OverlapsUnify → (system : System) → IsSystem system → HaveSmallVariables system.rules → (j : ℕ) (p : List ℕ) (part : Tree) → IsPartOf system.rules j p part → (f : ℕ) → IsTrue (has_root f part)
+    → (peaks : Peaks) (before : List PlacedPeak) → Keeps peaks before → Reaches system.rules peaks.most before peaks.nodes (spots_at j p 0 system.rules) peaks (spots_by j p (with_root f system.rules))
+kept_to_root unified system valid small j p part at f root peaks before h =
+    record { all = before; keeps = h; same_most = refl; moves = moves_to_root unified system valid small j p part at f root before peaks.nodes }
 
 pub nothing_kept : (rules : List RewriteRule) (spots : List Spot) (peaks : Peaks) → peaks.list.items ≡ [] → peaks.count ≡ 0 → peaks.nodes ≡ 0 → Reaches rules peaks.most [] 0 spots peaks spots
 nothing_kept rules spots peaks none no_count no_nodes = record {

@@ -1,7 +1,7 @@
-ghost use Rattle.std.specs.Prelude.{ℕ, ◌≡◌, ◌<◌, ◌+◌, Some, IfOk, IsTrue, length, slice_get};
-ghost use Rattle.trs_defs.specs.System.{RewriteRule, IsSystem, has_root};
+ghost use Rattle.std.specs.Prelude.{◌≡◌, ◌<◌, Some, All, IfOk, length, slice_get};
+ghost use Rattle.trs_defs.specs.System.{RewriteRule, IsSystem};
 ghost use Rattle.trs_core.specs.SystemLimits.{HasSmallVariables, HaveSmallVariables};
-ghost use Rattle.term_pool.specs.Roots.{IsNextRooted};
+ghost use Rattle.term_pool.specs.Roots.{with_root};
 ghost use Rattle.crit_pairs.specs.Apart.{renamed_apart, AreApart};
 
 use std::alloc::Global;
@@ -60,20 +60,13 @@ impl<'a> RulesApart<'a> {
         &self.apart[i]
     }
 
-    /// The number of the first rule with this root, or of rules where there is none.
-    pub fn first(&self, f: u32) -> u32
-        ensures { IsNextRooted self.now.rules f 0 result }
+    /// The numbers of the rules whose left sides have this root, in order.
+    pub fn with_root(&self, f: u32) -> &[u32]
+        ensures numbers { result.now ≡ with_root f self.now.rules }
+        ensures within { All (λ i. i < length self.now.rules) result.now }
+        ensures valid { IsSystem self.now }
     {
-        self.by_root.first(f)
-    }
-
-    /// The number of the next rule with the root of rule `i`, or of rules where there is none.
-    pub fn next(&self, i: u32) -> u32
-        requires { i < length self.now.rules }
-        ensures { (f : ℕ) (r : RewriteRule) → slice_get self.now.rules i ≡ Some r
-            → IsTrue (has_root f r.left) → IsNextRooted self.now.rules f (i + 1) result }
-    {
-        self.by_root.next(i)
+        self.by_root.with_root(f)
     }
 }
 

@@ -7,5 +7,5 @@ use term_pool::RulesByRoot;
 pub(crate) fn is_defined(by_root: &RulesByRoot, f: u32) -> bool
     ensures { result ≡ is_defined by_root.now.rules f }
 {
-    (by_root.first(f) as usize) < by_root.rules().len()
+    !by_root.with_root(f).is_empty()
 }

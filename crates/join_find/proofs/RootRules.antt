@@ -1,22 +1,20 @@
 -- Rules that lead from one term to another at the root.
-use Rattle.std.specs.Prelude.{◌≡◌, ◌≢◌, ◌<◌, ◌≤◌, ℕ, ◌+◌, Bool, true, false, List, [], ◌∷◌, length, Some, IsTrue, slice_get, refl}
-use Rattle.std.proofs.Common.{suc, nat_eq, ap, sym, subst, ◌∙◌, arith, get_or}
-use Rattle.std.proofs.Math.Decide.{ℕ_discrete}
-use native.Mathlib.Decide.{dec_lt}
+use Rattle.std.specs.Prelude.{◌≡◌, ◌<◌, ℕ, List, [], length, take, All, Some, IsTrue, slice_get}
+use Rattle.std.proofs.Common.{nat_eq, ap, sym, subst, ◌∙◌, arith}
 use Rattle.std.proofs.lemmas.Bool.Decides.{nat_tests}
-use Rattle.std.proofs.lemmas.Option.{same_Some, slice_get_within, slice_get-get_or}
+use Rattle.std.proofs.lemmas.Option.{same_Some}
 use Rattle.trs_defs.specs.Tree.{Tree, Trees, var, app}
 use Rattle.trs_defs.specs.Size.{within_limits}
 use Rattle.trs_defs.specs.Substitution.{IsInstance, apply}
 use Rattle.trs_defs.specs.System.{System, IsSystem, RewriteRule, has_root}
 use Rattle.trs_defs.specs.Path.{StepsAt}
 use Rattle.term_pool.specs.Pooled.{AreDistinct, Extends, StandsFor, tree_at}
-use Rattle.term_pool.specs.Roots.{IsNextRooted}
-use Rattle.term_pool.proofs.RootSkips.{no_instance, no_rule_at_variable, HasRootOf}
-use Rattle.term_pool.proofs.RootLinks.{is_rooted}
-use Rattle.term_pool.proofs.PoolTrees.{stands, stands_at}
+use Rattle.term_pool.specs.Roots.{with_root}
+use Rattle.term_pool.proofs.NumberLaws.{each_number, each_before}
+use Rattle.term_pool.proofs.RootRules.{root_of_instance, no_rule_at_variable}
+use Rattle.term_pool.proofs.PoolTrees.{stands}
 use Rattle.term_pool.proofs.Extending.{same_tree_at}
-use Rattle.join_find.specs.ParallelRow.{HasNoRootStep, IsRootStep}
+use Rattle.join_find.specs.ParallelRow.{HasNoRootStep}
 
 pub equal_ids : (a b : ℕ) → IsTrue (nat_eq a b) → a ≡ b
 equal_ids a b h = grind (arith, nat_tests)
@@ -50,35 +48,15 @@ module _ (system : System) (valid : IsSystem system) where
   no_step_of_variable t u n is k step =
       no_rule_at_variable step.rule.left n (valid.each k step.rule step.numbered).left_no_variable (subst (IsInstance step.rule.left) is (root_instance system.rules k t u step))
 
-  no_step_between : (t u : Tree) (f : ℕ) (ts : Trees) (i n : ℕ) → t ≡ app f ts → IsNextRooted system.rules f i n → (j : ℕ) → i ≤ j → j < n → StepsAt system.rules [] j t u → ⊥
-  no_step_between t u f ts i n is next j low high step =
-      no_instance step.rule.left f ts (valid.each j step.rule step.numbered).left_no_variable (next.passed j step.rule low high step.numbered)
-      (subst (IsInstance step.rule.left) is (root_instance system.rules j t u step))
+  root_of_step : (t u : Tree) (f : ℕ) (ts : Trees) (k : ℕ) → t ≡ app f ts → (step : StepsAt system.rules [] k t u) → IsTrue (has_root f step.rule.left)
+  root_of_step t u f ts k is step =
+      root_of_instance step.rule.left t f ts (valid.each k step.rule step.numbered).left_no_variable is (root_instance system.rules k t u step)
 
-  pub no_step_before : (t u : Tree) (f : ℕ) (ts : Trees) (n : ℕ) → t ≡ app f ts → IsNextRooted system.rules f 0 n → (j : ℕ) → j < n → StepsAt system.rules [] j t u → ⊥
-  no_step_before t u f ts n is next j high = no_step_between t u f ts 0 n is next j (omega arith) high
+  pub no_step_before : (t u : Tree) (f : ℕ) (ts : Trees) → t ≡ app f ts → (i k : ℕ) → slice_get (with_root f system.rules) i ≡ Some k
+      → All (λ j. StepsAt system.rules [] j t u → ⊥) (take i (with_root f system.rules)) → (j : ℕ) → j < k → StepsAt system.rules [] j t u → ⊥
+  no_step_before t u f ts is i k at none j low step =
+      each_before (λ (r : RewriteRule). has_root f r.left) (λ j. StepsAt system.rules [] j t u → ⊥) step.rule (root_of_step t u f ts j is step) j k low 0 system.rules i at none j step.numbered (omega arith) step
 
-  pub no_step_further : (t u : Tree) (f : ℕ) (ts : Trees) (k n : ℕ) (b : Bool) → t ≡ app f ts → IsNextRooted system.rules f (k + 1) n → (StepsAt system.rules [] k t u → IsTrue b) → b ≡ false
-      → ((j : ℕ) → j < k → StepsAt system.rules [] j t u → ⊥) → (j : ℕ) → j < n → StepsAt system.rules [] j t u → ⊥
-  no_step_further t u f ts k n b is next test failed before j high step = elim (dec_lt j k) [
-    | yes low ↦ before j low step
-    | no above ↦ elim (ℕ_discrete j k) [
-      | yes same ↦ (let h : IsTrue b = test (subst (λ (i : ℕ). StepsAt system.rules [] i t u) same step) in absurd cc)
-      | no other ↦ no_step_between t u f ts (k + 1) n is next j (omega (arith, above, other)) high step
-    ]
-  ]
-
-  pub no_step_at_all : (t u : Tree) (k : ℕ) → length system.rules ≤ k → ((j : ℕ) → j < k → StepsAt system.rules [] j t u → ⊥) → HasNoRootStep system.rules t u
-  no_step_at_all t u k all none j step =
-      let within : j < length system.rules = slice_get_within system.rules j step.rule step.numbered in
-      none j (omega (arith, within, all)) step
-
--- the rule after rule k with the term's root
-pub next_root : (rules : List RewriteRule) (t : Tree) (f : ℕ) (ts : Trees) (k n : ℕ) (rule : RewriteRule) → t ≡ app f ts → slice_get rules k ≡ Some rule → HasRootOf t rules k
-    → ((g : ℕ) (r : RewriteRule) → slice_get rules k ≡ Some r → IsTrue (has_root g r.left) → IsNextRooted rules g (k + 1) n) → IsNextRooted rules f (k + 1) n
-next_root rules t f ts k n rule is here rooted next = next f rule here (rooted f rule here (is_rooted t f ts is))
-
-pub read_some_rule : (rules : List RewriteRule) (k : ℕ) → k < length rules → (r : RewriteRule) × (slice_get rules k ≡ Some r)
-read_some_rule rules k below =
-    let d : RewriteRule = record { left = var 0; right = var 0 } in
-    (get_or rules k d, slice_get-get_or rules k d below)
+  pub no_step_at_all : (t u : Tree) (f : ℕ) (ts : Trees) → t ≡ app f ts → All (λ j. StepsAt system.rules [] j t u → ⊥) (with_root f system.rules) → HasNoRootStep system.rules t u
+  no_step_at_all t u f ts is none j step =
+      each_number (λ (r : RewriteRule). has_root f r.left) (λ j. StepsAt system.rules [] j t u → ⊥) step.rule (root_of_step t u f ts j is step) j 0 system.rules none j step.numbered (omega arith) step

@@ -8,7 +8,7 @@ ghost use Rattle.join_find.specs.ParallelRow.{HasNoRootStep, IsRootStep};
 
 use std::alloc::Global;
 use term_pool::{Pool, RulesByRoot, ids_are_distinct};
-use trs_core::{OutOfMemory, Position, Term, Trs};
+use trs_core::{OutOfMemory, Position, Term, Trs, systems_are_valid};
 
 /// The least rule that leads at the root from the term of one id to that of another. Only rules
 /// with the root of the first term are tried. The pool is as before.
@@ -29,16 +29,14 @@ pub(crate) fn root_rule(
         (HasNoRootStep trs.now.rules (tree from.now) (tree_at pool.old ids.1))
         (IsRootStep trs.now.rules (tree from.now) (tree_at pool.old ids.1))) }
 {
-    let rules = by_root.rules();
+    systems_are_valid(trs);
     let Term::App(f, _) = from else {
         return Ok(None);
     };
-    let mut k = by_root.first(*f);
-    while (k as usize) < rules.len() {
-        if leads(alloc, pool, trs, ids, k)? {
-            return Ok(Some(k));
+    for k in by_root.with_root(*f) {
+        if leads(alloc, pool, trs, ids, *k)? {
+            return Ok(Some(*k));
         }
-        k = by_root.next(k);
     }
     Ok(None)
 }

@@ -35,14 +35,12 @@ fn may_be_redex(by_root: &RulesByRoot, t: &Term, tries: &mut u32) -> bool
     let Term::App(f, _) = t else {
         return false;
     };
-    let mut k = by_root.first(*f);
-    while (k as usize) < rules.len() {
-        let rule = &rules[k as usize];
+    for k in by_root.with_root(*f) {
+        let rule = &rules[*k as usize];
         if *tries == 0 || may_match(&rule.left, t) {
             return true;
         }
         *tries -= 1;
-        k = by_root.next(k);
     }
     false
 }

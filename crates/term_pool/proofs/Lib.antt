@@ -5,8 +5,9 @@ pub mod NodeEquality
 pub mod Extending
 pub mod ArgumentIds
 pub mod InstanceIds
-pub mod RootLinks
-pub mod RootSkips
+pub mod NumberLaws
+pub mod RootBlocks
+pub mod RootRules
 pub mod NormalForms
 pub mod RedexWalk
 pub mod RedexLists

@@ -1,14 +1,17 @@
 -- A list of redexes that grows as a term is walked. The arguments are seen by `value`: terms as trees, or ids as their terms.
-use Rattle.std.proofs.Common.{◌≡◌, ℕ, ◌+◌, ◌<◌, ◌≤◌, inl, inr, List, [], ◌∷◌, ◌++◌, map, length, drop, get_or, take, ◌-◌, All, Some, slice_get, length-append, refl, sym, ap, subst, ◌∙◌, append_assoc, arith}
-use Rattle.std.proofs.lemmas.List.{drop_all, map-append, append-nil, length-map}
+use Rattle.std.proofs.Common.{◌≡◌, ℕ, ◌+◌, ◌<◌, ◌≤◌, ◌⊎◌, inl, inr, Bool, true, false, cond, List, [], ◌∷◌, ◌++◌, map, length, drop, get_or, take, ◌-◌, All, Some, IsTrue, slice_get, slice_index, length-append, refl, sym, ap, subst, ◌∙◌, append_assoc, zero, suc, arith}
+use Rattle.std.proofs.lemmas.List.{drop_all, drop_more, map-append, append-nil, length-map}
 use Rattle.std.proofs.lemmas.List.Elements.{All-push}
 use Rattle.std.proofs.Math.Seq.{take-append_seam}
-use Rattle.trs_defs.specs.Tree.{Tree, var, app, cons, trees}
-use Rattle.trs_defs.specs.System.{RewriteRule}
+use Rattle.trs_defs.specs.Tree.{Tree, Trees, var, app, cons, trees}
+use Rattle.trs_defs.specs.Substitution.{IsInstance}
+use Rattle.trs_defs.specs.System.{RewriteRule, has_root}
 use Rattle.trs_defs.specs.Path.{PlacedRule}
 use Rattle.trs_defs.proofs.ArgumentLists.{cell, count_trees}
 use Rattle.term_pool.specs.Tried.{IsTried}
-use Rattle.term_pool.proofs.RootSkips.{root_taken, root_passed}
+use Rattle.term_pool.specs.Numbers.{numbers_where}
+use Rattle.term_pool.specs.Roots.{with_root}
+use Rattle.term_pool.proofs.RootRules.{AreProper, IsSuch, Matches, such_by, root_of_match}
 use Rattle.term_pool.specs.Redexes.{IsNarrow, AreNarrow, AreRootRedexes, AreRedexes, AreRedexesOfAll, Grows, below}
 
 pub grown_by_one : (place : List ℕ) (i : ℕ) (items new rest : List PlacedRule) → new ≡ items ++ record { place = place; rule = i } ∷ []
@@ -22,23 +25,68 @@ grown_same place P old items new e g = subst (λ l. Grows place P old l) e g
 pub grown_all : (place : List ℕ) (P : List PlacedRule → Type 0) (old new : List PlacedRule) → Grows place P old (new ++ map (below place) []) → Grows place P old new
 grown_all place P old new g = grown_same place P old (new ++ []) new (append-nil new) g
 
-pub no_rule_left : (rules : List RewriteRule) (i : ℕ) (t : Tree) → length rules ≤ i → AreRootRedexes (drop i rules) i t []
-no_rule_left rules i t h = rw (drop_all i rules h) refl
-
 pub nothing_grown : (place : List ℕ) (P : List PlacedRule → Type 0) (old : List PlacedRule) → P [] → Grows place P old old
 nothing_grown place P old none = ([], none, sym (append-nil old))
 
+-- the list has those of these rules, by their numbers, of whose left sides t is an instance, at the root
+abbrev pub AreMatches : List RewriteRule → Tree → List ℕ → List PlacedRule → Type 0
+AreMatches rules t [] ss = ss ≡ []
+AreMatches rules t (k ∷ ks) ss =
+    (rest : List PlacedRule) × AreMatches rules t ks rest
+    × ((IsSuch (Matches t) rules k × (ss ≡ record { place = []; rule = k } ∷ rest)) ⊎ ((IsSuch (Matches t) rules k → ⊥) × (ss ≡ rest)))
+
 -- one more rule was tried
-pub rule_tried : (rules : List RewriteRule) (t : Tree) (k : ℕ) (rule : RewriteRule) (there : slice_get rules k ≡ Some rule) (place : List ℕ) (P : List PlacedRule → Type 0) (old items new : List PlacedRule)
-    → IsTried rule.left t (record { place = place; rule = k }) items new
-    → ((rest : List PlacedRule) → AreRootRedexes (drop k rules) k t rest → Grows place P old (items ++ map (below place) rest))
-    → (rest : List PlacedRule) → AreRootRedexes (drop (k + 1) rules) (k + 1) t rest → Grows place P old (new ++ map (below place) rest)
-rule_tried rules t k rule there place P old items new (inl h) before rest left =
-    grown_same place P old (items ++ map (below place) (record { place = []; rule = k } ∷ rest)) (new ++ map (below place) rest) (grown_by_one place k items new rest h.1)
-    (before (record { place = []; rule = k } ∷ rest) (root_taken rules t k rule there rest left h.0))
-rule_tried rules t k rule there place P old items new (inr h) before rest left =
-    grown_same place P old (items ++ map (below place) rest) (new ++ map (below place) rest) (ap (λ l. l ++ map (below place) rest) (sym h.1))
-    (before rest (root_passed rules t k rule there rest left h.0))
+pub rule_tried : (rules : List RewriteRule) (t : Tree) (ks : List ℕ) (i : ℕ) (rule : RewriteRule) → i < length ks → slice_get rules (slice_index ks i) ≡ Some rule
+    → (place : List ℕ) (P : List PlacedRule → Type 0) (old items new : List PlacedRule) → IsTried rule.left t (record { place = place; rule = slice_index ks i }) items new
+    → ((rest : List PlacedRule) → AreMatches rules t (drop i ks) rest → Grows place P old (items ++ map (below place) rest))
+    → (rest : List PlacedRule) → AreMatches rules t (drop (i + 1) ks) rest → Grows place P old (new ++ map (below place) rest)
+rule_tried rules t ks i rule within there place P old items new tried before rest left = go tried
+  where
+    k : ℕ
+    k = slice_index ks i
+
+    next : (ss : List PlacedRule) → AreMatches rules t (k ∷ drop (i + 1) ks) ss → Grows place P old (items ++ map (below place) ss)
+    next ss h = before ss (rw (drop_more ks i 0 within) h)
+
+    go : IsTried rule.left t (record { place = place; rule = k }) items new → Grows place P old (new ++ map (below place) rest)
+    go (inl h) =
+        grown_same place P old (items ++ map (below place) (record { place = []; rule = k } ∷ rest)) (new ++ map (below place) rest) (grown_by_one place k items new rest h.1)
+        (next (record { place = []; rule = k } ∷ rest) (rest, left, inl ((rule, there, h.0), refl)))
+    go (inr h) =
+        grown_same place P old (items ++ map (below place) rest) (new ++ map (below place) rest) (ap (λ l. l ++ map (below place) rest) (sym h.1))
+        (next rest (rest, left, inr (λ m. h.0 (such_by (Matches t) rules k rule there m), refl)))
+
+-- the rules of another root do not match
+root_matches : (all : List RewriteRule) (t : Tree) (f : ℕ) → ((k : ℕ) (r : RewriteRule) → slice_get all k ≡ Some r → IsInstance r.left t → IsTrue (has_root f r.left))
+    → (m : ℕ) (rules : List RewriteRule) → ((i k : ℕ) (r : RewriteRule) → k ≡ m + i → slice_get rules i ≡ Some r → slice_get all k ≡ Some r)
+    → (ss : List PlacedRule) → AreMatches all t (numbers_where (λ (r : RewriteRule). has_root f r.left) m rules) ss → AreRootRedexes rules m t ss
+root_matches all t f rooted m [] at ss h = h
+root_matches all t f rooted m (rule ∷ rules) at ss h = go (has_root f rule.left) refl h (λ more g. root_matches all t f rooted (m + 1) rules (λ i k r e read. at (suc i) k r (omega (arith, e)) read) more g)
+  where
+    there : slice_get all m ≡ Some rule
+    there = at zero m rule (omega arith) refl
+
+    rest : List ℕ
+    rest = numbers_where (λ (r : RewriteRule). has_root f r.left) (m + 1) rules
+
+    go : (b : Bool) → has_root f rule.left ≡ b → AreMatches all t (cond b (m ∷ rest) rest) ss
+        → ((more : List PlacedRule) → AreMatches all t rest more → AreRootRedexes rules (m + 1) t more) → AreRootRedexes (rule ∷ rules) m t ss
+    go true same (more, h, either) later = (
+      more,
+      later more h,
+      elim either [
+        | inl e ↦ inl (such_by (Matches t) all m rule there e.0, e.1)
+        | inr e ↦ inr (λ inst. e.0 (rule, there, inst), e.1)
+      ],
+    )
+    go false other h later = (ss, later ss h, inr (λ inst. (let same : has_root f rule.left ≡ true = rooted m rule there inst in absurd cc), refl))
+
+pub root_redexes : (rules : List RewriteRule) (t : Tree) (f : ℕ) (ts : Trees) → AreProper rules → t ≡ app f ts → (ss : List PlacedRule) → AreMatches rules t (with_root f rules) ss → AreRootRedexes rules 0 t ss
+root_redexes rules t f ts proper is ss h =
+    root_matches rules t f (root_of_match rules t f ts proper is) 0 rules (λ i k r e read. let same : k ≡ i = omega (arith, e) in rw same read) ss h
+
+pub none_left : (rules : List RewriteRule) (t : Tree) (ks : List ℕ) (i : ℕ) → length ks ≤ i → AreMatches rules t (drop i ks) []
+none_left rules t ks i h = rw (drop_all i ks h) refl
 
 -- a variable has no arguments
 pub root_alone : (rules : List RewriteRule) (place : List ℕ) (t : Tree) (n : ℕ) (old new : List PlacedRule) → t ≡ var n → Grows place (AreRootRedexes rules 0 t) old new → Grows place (AreRedexes rules t) old new

@@ -9,6 +9,7 @@ pub mod Steps
 pub mod Paths
 pub mod Redex
 pub mod Redexes
+pub mod Numbers
 pub mod Roots
 pub mod Passed
 pub mod Tried

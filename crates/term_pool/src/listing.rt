@@ -112,19 +112,9 @@ impl Pool {
         let Node::App(f, _) = self.node(id) else {
             return Ok(());
         };
-        let mut k = by_root.first(*f);
-        while (k as usize) < rules.len() {
-            self.try_rule(
-                alloc,
-                by_root,
-                &rules[k as usize],
-                k,
-                id,
-                known,
-                place,
-                found,
-            )?;
-            k = by_root.next(k);
+        for k in by_root.with_root(*f) {
+            let rule = &rules[*k as usize];
+            self.try_rule(alloc, by_root, rule, *k, id, known, place, found)?;
         }
         Ok(())
     }

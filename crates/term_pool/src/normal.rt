@@ -80,12 +80,10 @@ impl Pool {
         let Node::App(f, _) = self.node(id) else {
             return Ok(false);
         };
-        let mut k = by_root.first(*f);
-        while (k as usize) < rules.len() {
-            if self.is_redex_by(alloc, by_root, &rules[k as usize], k, id, known)? {
+        for k in by_root.with_root(*f) {
+            if self.is_redex_by(alloc, by_root, &rules[*k as usize], *k, id, known)? {
                 return Ok(true);
             }
-            k = by_root.next(k);
         }
         Ok(false)
     }

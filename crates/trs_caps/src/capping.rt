@@ -100,13 +100,11 @@ fn meets_some(
     requires root { HasRoot f (holed cap.now) }
     ensures { IfOk result (λ yes. MeetsSome (holed cap.now) by_root.now.rules yes) }
 {
-    let mut k = by_root.first(f);
-    while (k as usize) < rules.len() {
-        let rule = &rules[k as usize];
+    for k in by_root.with_root(f) {
+        let rule = &rules[*k as usize];
         if cap.meets(alloc, &rule.left)? {
             return Ok(true);
         }
-        k = by_root.next(k);
     }
     Ok(false)
 }

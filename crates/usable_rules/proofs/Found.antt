@@ -1,26 +1,32 @@
--- Found rules and their flags.
-use Rattle.std.proofs.Common.{◌≡◌, ◌<◌, ◌≤◌, ◌+◌, ◌++◌, ℕ, zero, suc, refl, sym, ap, subst, arith, ◌⊎◌, inl, inr, Bool, true, false, List, [], ◌∷◌, Some, length, slice_get, slice_set, drop, replicate, get_or, ◌∙◌, append_assoc}
-use Rattle.std.proofs.lemmas.List.{drop_all, append-nil, length_push}
+-- Found symbols and their flags.
+use Rattle.std.proofs.Common.{◌≡◌, ◌<◌, ◌≤◌, ◌+◌, ◌++◌, ℕ, zero, suc, refl, sym, ap, subst, arith, ◌⊎◌, inl, inr, Bool, true, false, cond, List, [], ◌∷◌, Some, IsTrue, All, length, slice_get, slice_set, slice_index, slice_index_or, take, drop, replicate, get_or, ◌∙◌, append_assoc}
+use Rattle.std.proofs.lemmas.List.{take_all, drop_all, append-nil, length_push}
+use Rattle.std.proofs.lemmas.List.Elements.{All-get_or, All-more, All-weaker}
 use Rattle.std.proofs.lemmas.Bool.{eqb-true, eq-eqb}
-use Rattle.std.proofs.lemmas.Option.{same_Some, slice_get_within, slice_get_read}
-use native.Mathlib.Decide.{ℕ_discrete, dec_lt}
+use Rattle.std.proofs.lemmas.Option.{same_Some, slice_get_within, slice_get_read, slice_get-get_or, get_or_from_slice_get}
+use native.Mathlib.Decide.{dec_lt}
 use Rattle.trs_defs.specs.Member.{In, in_first, in_rest}
 use Rattle.trs_defs.specs.Tree.{Tree, Trees, var, app, cons}
-use Rattle.trs_defs.specs.System.{RewriteRule, has_root}
-use Rattle.trs_defs.proofs.Members.{in_left, in_right, in_either, in_of_get, get_of_in, in_or}
+use Rattle.trs_defs.specs.System.{RewriteRule, Among, IsDefined, System, IsSystem, has_root}
+use Rattle.trs_defs.proofs.Members.{in_left, in_right, in_either, in_of_get, get_of_in, in_or, no_in}
+use Rattle.trs_defs.proofs.ListItems.{from_item}
 use Rattle.trs_defs.proofs.ArgumentLists.{cell}
 use Rattle.trs_core.specs.declared.terms.Term.{Term}
 use Rattle.trs_core.specs.View.{tree, forest}
 use Rattle.pair_theory.specs.Subterm.{Sub, itself, under, Subs, in_head, in_tail}
-use Rattle.dp_core.proofs.Containment.{none_in, sub_under}
-use Rattle.dp_core.proofs.Containment as below
-use Rattle.term_pool.specs.Roots.{IsNextRooted}
 use Rattle.pair_theory.specs.DependencyPair.{DependencyPair}
 use Rattle.order_theory.specs.UsableRules.{IsUsable, in_pair, in_rule}
-use Rattle.trs_defs.specs.System.{Among, IsDefined, System, IsSystem}
-use Rattle.trs_defs.proofs.ListItems.{from_item, item_there}
+use Rattle.term_pool.specs.Numbers.{numbers_where}
+use Rattle.term_pool.specs.Roots.{with_root}
+use Rattle.term_pool.proofs.NumberLaws.{all_numbers, each_number}
+use Rattle.term_pool.proofs.RootBlocks.{roots_declared}
+use Rattle.term_pool.proofs.RootRules.{have_root}
+use Rattle.dp_core.proofs.Containment.{none_in, sub_under}
+use Rattle.dp_core.proofs.Containment as below
 use Rattle.usable_rules.specs.AreUsable.{IsUsableRule, Ascends, no_numbers, number, AreUsableRules}
-use Rattle.usable_rules.specs.Worklist.{unset, AreMarked, IsFirst, IsCalled, IsCalledInAny, Extends, IsLed, called, following, IsLedByPairs, set_from}
+use Rattle.usable_rules.specs.Worklist.{unset, AreMarked, IsCalled, IsCalledInAny, Extends, IsLed, IsLedByPairs, IsUsableIfDefined, has_flag}
+
+-- ---- found symbols
 
 unset_set : (flags : List Bool) (k : ℕ) → slice_get flags k ≡ Some false → unset (slice_set flags k true) + 1 ≡ unset flags
 unset_set [] k e = absurd cc
@@ -91,17 +97,7 @@ get_left (x ∷ xs) ys (suc m) k h e = get_left xs ys m k (omega arith) e
 pub get_grown : (xs ys : List ℕ) (m k : ℕ) → Extends ys xs → m < length xs → slice_get ys m ≡ Some k → slice_get xs m ≡ Some k
 get_grown xs ys m k (a, p) h e = get_left xs a m k h (subst (λ r. slice_get r m ≡ Some k) p e)
 
-not_both : {b : Bool} → b ≡ true → b ≡ false → ⊥
-not_both a e = absurd cc
-
--- the next rule with a root is one
-not_less : (rules : List RewriteRule) (f i k n : ℕ) → IsNextRooted rules f i k → IsNextRooted rules f i n → k < n → ⊥
-not_less rules f i k n a b h =
-    let r = item_there rules k (let w = b.within in omega (arith, w, h)) in
-    not_both (a.rooted r.0 r.1) (b.passed k r.0 a.from h r.1)
-
-pub next_once : (rules : List RewriteRule) (f i k n : ℕ) → IsNextRooted rules f i k → IsNextRooted rules f i n → k ≡ n
-next_once rules f i k n a b = elim (ℕ_discrete k n) [ yes e ↦ e | no ne ↦ absurd (elim (dec_lt k n) [ yes l ↦ not_less rules f i k n a b l | no l ↦ not_less rules f i n k b a (omega (arith, l, ne)) ]) ]
+-- ---- the symbols of terms
 
 itself_or_under : {f g : ℕ} {us ts : Trees} → Sub (app g us) (app f ts) → (g ≡ f) ⊎ Subs (app g us) ts
 itself_or_under itself = inl refl
@@ -111,71 +107,88 @@ head_or_tail : {t u : Tree} {ts : Trees} → Subs t (cons u ts) → Sub t u ⊎ 
 head_or_tail (in_head p) = inl p
 head_or_tail (in_tail p) = inr p
 
-module _ (rules : List RewriteRule) where
-  pub start_all : (f n most : ℕ) (t : Tree) (ts : Trees) (found : List ℕ) → t ≡ app f ts → IsNextRooted rules f 0 n → most ≡ length rules → (n < most → In n found)
-      → (k : ℕ) → IsCalled rules t k → In k found ⊎ IsCalledInAny rules ts k
-  start_all f n most t ts found is next same new k (g, us, p, first) =
-      elim (itself_or_under (subst (λ s. Sub (app g us) s) is p)) [
-        | inl e ↦ (let first_f : IsFirst rules f k = subst (λ x. IsFirst rules x k) e first in
-            let is_n : k ≡ n = next_once rules f 0 k n first_f.first next in
-            inl (subst (λ x. In x found) (sym is_n) (new (let h = first_f.there in omega (arith, h, is_n, same)))))
-        | inr q ↦ inr (g, us, q, first)
-      ]
+pub start_all : (f n : ℕ) (t : Tree) (ts : Trees) (found : List ℕ) → t ≡ app f ts → (f < n → In f found) → (g : ℕ) → IsCalled t g → g < n → In g found ⊎ IsCalledInAny ts g
+start_all f n t ts found is new g (us, p) low = elim (itself_or_under (subst (λ s. Sub (app g us) s) is p)) [
+  | inl same ↦ inl (subst (λ x. In x found) (sym same) (new (subst (λ x. x < n) same low)))
+  | inr q ↦ inr (us, q)
+]
 
-  pub start_only : (f n most : ℕ) (t : Tree) (ts : Trees) (old found : List ℕ) → t ≡ app f ts → IsNextRooted rules f 0 n → most ≡ length rules
-      → ((j : ℕ) → In j found → In j old ⊎ ((j ≡ n) × (n < most))) → (k : ℕ) → In k found → In k old ⊎ IsCalled rules t k
-  start_only f n most t ts old found is next same only k i = elim (only k i) [
-    | inl h ↦ inl h
-    | inr h ↦ inr (f, ts, subst (λ s. Sub (app f ts) s) (sym is) itself, subst (λ x. IsFirst rules f x) (sym h.0) (record { there = (let l = h.1 in omega (arith, l, same)); first = next }))
-  ]
+pub start_only : (f : ℕ) (t : Tree) (ts : Trees) (old found : List ℕ) → t ≡ app f ts → ((g : ℕ) → In g found → In g old ⊎ (g ≡ f)) → (g : ℕ) → In g found → In g old ⊎ IsCalled t g
+start_only f t ts old found is only g i = elim (only g i) [
+  | inl h ↦ inl h
+  | inr same ↦ inr (ts, subst (λ x. Sub (app x ts) t) (sym same) (subst (λ s. Sub (app f ts) s) (sym is) itself))
+]
 
-  pub next_all : (items : List Term) (i k : ℕ) (part : Term) (found new : List ℕ) → i < length items → part ≡ get_or items i part
-      → (In k found → In k new) → (IsCalled rules (tree part) k → In k new)
-      → In k found ⊎ IsCalledInAny rules (forest (drop i items)) k → In k new ⊎ IsCalledInAny rules (forest (drop (i + 1) items)) k
-  next_all items i k part found new h e keeps calls (inl a) = inl (keeps a)
-  next_all items i k part found new h e keeps calls (inr (g, us, p, first)) =
-      elim (head_or_tail (subst (λ ts. Subs (app g us) (forest ts)) (cell items i part h e) p))
-      [ inl q ↦ inl (calls (g, us, q, first)) | inr q ↦ inr (g, us, q, first) ]
+pub next_all : (items : List Term) (i g n : ℕ) (part : Term) (found new : List ℕ) → i < length items → part ≡ get_or items i part
+    → (In g found → In g new) → (IsCalled (tree part) g → g < n → In g new) → g < n
+    → In g found ⊎ IsCalledInAny (forest (drop i items)) g → In g new ⊎ IsCalledInAny (forest (drop (i + 1) items)) g
+next_all items i g n part found new h e keeps calls low (inl a) = inl (keeps a)
+next_all items i g n part found new h e keeps calls low (inr (us, p)) =
+    elim (head_or_tail (subst (λ ts. Subs (app g us) (forest ts)) (cell items i part h e) p))
+    [ inl q ↦ inl (calls (us, q) low) | inr q ↦ inr (us, q) ]
 
-  pub called_in_any : (items : List Term) (i k : ℕ) (part : Term) → i < length items → part ≡ get_or items i part → IsCalled rules (tree part) k → IsCalledInAny rules (forest items) k
-  called_in_any items i k part h e (g, us, p, first) = (g, us, below.in_one (app g us) items i part h e p, first)
+pub called_in_any : (items : List Term) (i g : ℕ) (part : Term) → i < length items → part ≡ get_or items i part → IsCalled (tree part) g → IsCalledInAny (forest items) g
+called_in_any items i g part h e (us, p) = (us, below.in_one (app g us) items i part h e p)
 
-  pub called_under : (f k : ℕ) (t : Tree) (ts : Trees) → t ≡ app f ts → IsCalledInAny rules ts k → IsCalled rules t k
-  called_under f k t ts is (g, us, p, first) = (g, us, sub_under (app g us) t f ts is p, first)
+pub called_under : (f g : ℕ) (t : Tree) (ts : Trees) → t ≡ app f ts → IsCalledInAny ts g → IsCalled t g
+called_under f g t ts is (us, p) = (us, sub_under (app g us) t f ts is p)
 
-  pub none_left : (items : List Term) (i k : ℕ) (found : List ℕ) → length items ≤ i → In k found ⊎ IsCalledInAny rules (forest (drop i items)) k → In k found
-  none_left items i k found h (inl a) = a
-  none_left items i k found h (inr (g, us, p, first)) = absurd (none_in (app g us) items i h p)
+pub none_left : (items : List Term) (i g : ℕ) (found : List ℕ) → length items ≤ i → In g found ⊎ IsCalledInAny (forest (drop i items)) g → In g found
+none_left items i g found h (inl a) = a
+none_left items i g found h (inr (us, p)) = absurd (none_in (app g us) items i h p)
 
-  pub none_in_variable : (t : Tree) (v k : ℕ) → t ≡ var v → IsCalled rules t k → ⊥
-  none_in_variable t v k is (g, us, p, first) = let q : Sub (app g us) (var v) = subst (λ s. Sub (app g us) s) is p in elim q [ ]
+pub none_in_variable : (t : Tree) (v g : ℕ) → t ≡ var v → IsCalled t g → ⊥
+none_in_variable t v g is (us, p) = let q : Sub (app g us) (var v) = subst (λ s. Sub (app g us) s) is p in elim q [ ]
 
-pub next_only : {A B : ℕ → Type 0} (old found new : List ℕ) → ((k : ℕ) → In k new → In k found ⊎ A k) → ((k : ℕ) → A k → B k)
-    → ((k : ℕ) → In k found → In k old ⊎ B k) → (k : ℕ) → In k new → In k old ⊎ B k
-next_only old found new a ab b k i = elim (a k i) [ inl h ↦ b k h | inr h ↦ inr (ab k h) ]
+pub next_only : {A B : ℕ → Type 0} (old found new : List ℕ) → ((g : ℕ) → In g new → In g found ⊎ A g) → ((g : ℕ) → A g → B g)
+    → ((g : ℕ) → In g found → In g old ⊎ B g) → (g : ℕ) → In g new → In g old ⊎ B g
+next_only old found new a ab b g i = elim (a g i) [ inl h ↦ b g h | inr h ↦ inr (ab g h) ]
 
-module _ (rules : List RewriteRule) where
-  pub pairs_all : (taken : List DependencyPair) (i k : ℕ) (p : DependencyPair) (found new : List ℕ) → slice_get taken i ≡ Some p
-      → (In k found → In k new) → (IsCalledInAny rules p.to.args k → In k new)
-      → In k found ⊎ IsLedByPairs rules (drop i taken) k → In k new ⊎ IsLedByPairs rules (drop (i + 1) taken) k
-  pairs_all taken i k p found new e keeps calls (inl a) = inl (keeps a)
-  pairs_all taken i k p found new e keeps calls (inr (q, m, call)) =
-      elim (in_or (subst (λ ps. In q ps) (from_item taken i p e) m)) [
-        | inl s ↦ inl (calls (subst (λ (x : DependencyPair). IsCalledInAny rules x.to.args k) s call))
-        | inr s ↦ inr (q, (let same : suc i ≡ i + 1 = omega arith in subst (λ n. In q (drop n taken)) same s), call)
-      ]
+-- ---- the symbols of pairs
 
-  pub led_by_pair : (taken : List DependencyPair) (i k : ℕ) (p : DependencyPair) → slice_get taken i ≡ Some p → IsCalledInAny rules p.to.args k → IsLedByPairs rules taken k
-  led_by_pair taken i k p e call = (p, in_of_get taken i p e, call)
+pub pairs_all : (taken : List DependencyPair) (i g n : ℕ) (p : DependencyPair) (found new : List ℕ) → slice_get taken i ≡ Some p
+    → (In g found → In g new) → (IsCalledInAny p.to.args g → g < n → In g new) → g < n
+    → In g found ⊎ IsLedByPairs (drop i taken) g → In g new ⊎ IsLedByPairs (drop (i + 1) taken) g
+pairs_all taken i g n p found new e keeps calls low (inl a) = inl (keeps a)
+pairs_all taken i g n p found new e keeps calls low (inr (q, m, call)) =
+    elim (in_or (subst (λ ps. In q ps) (from_item taken i p e) m)) [
+      | inl s ↦ inl (calls (subst (λ (x : DependencyPair). IsCalledInAny x.to.args g) s call) low)
+      | inr s ↦ inr (q, (let same : suc i ≡ i + 1 = omega arith in subst (λ n. In q (drop n taken)) same s), call)
+    ]
 
-  pub no_pairs_left : (taken : List DependencyPair) (i k : ℕ) (found : List ℕ) → length taken ≤ i → In k found ⊎ IsLedByPairs rules (drop i taken) k → In k found
-  no_pairs_left taken i k found h (inl a) = a
-  no_pairs_left taken i k found h (inr (q, m, call)) = absurd (let none : In q [] = subst (λ ps. In q ps) (drop_all i taken h) m in elim none [ ])
+pub led_by_pair : (taken : List DependencyPair) (i g : ℕ) (p : DependencyPair) → slice_get taken i ≡ Some p → IsCalledInAny p.to.args g → IsLedByPairs taken g
+led_by_pair taken i g p e call = (p, in_of_get taken i p e, call)
 
-pub found_there : (flags : List Bool) (found : List ℕ) (n m x : ℕ) → AreMarked flags found → length flags ≡ n → m < length found → x ≡ get_or found m x → x < n
-found_there flags found n m x a same h e =
-    let i = in_of_get found m x (slice_get_read found _ m x refl h e) in
-    let w = slice_get_within flags x true (a.found_marked x i) in omega (arith, w, same)
+pub no_pairs_left : (taken : List DependencyPair) (i g : ℕ) (found : List ℕ) → length taken ≤ i → In g found ⊎ IsLedByPairs (drop i taken) g → In g found
+no_pairs_left taken i g found h (inl a) = a
+no_pairs_left taken i g found h (inr (q, m, call)) = absurd (no_in (subst (λ ps. In q ps) (drop_all i taken h) m))
+
+-- ---- the symbols of right sides
+
+-- those of the rule of this number are found
+abbrev pub IsVisited : List RewriteRule → List ℕ → ℕ → ℕ → Type 0
+IsVisited rules found n k = (r : RewriteRule) → slice_get rules k ≡ Some r → (g : ℕ) → IsCalled r.right g → g < n → In g found
+
+module _ (rules : List RewriteRule) (f n : ℕ) (ks : List ℕ) (are : ks ≡ with_root f rules) where
+  module _ (i : ℕ) (rule : RewriteRule) (within : i < length ks) (there : slice_get rules (slice_index ks i) ≡ Some rule) (found new : List ℕ) where
+    pub one_visited : ((g : ℕ) → In g found → In g new) → ((g : ℕ) → IsCalled rule.right g → g < n → In g new)
+        → All (IsVisited rules found n) (take i ks) → All (IsVisited rules new n) (take (i + 1) ks)
+    one_visited keeps calls all =
+        All-more (IsVisited rules new n) ks i 0 within
+        (All-weaker (IsVisited rules found n) (IsVisited rules new n) (λ k visited r at g call low. keeps g (visited r at g call low)) (take i ks) all)
+        (λ r at g call low. let same : r ≡ rule = same_Some r rule (sym at ∙ there) in calls g (subst (λ (q : RewriteRule). IsCalled q.right g) same call) low)
+
+    pub led_here : (g : ℕ) → IsCalled rule.right g → IsLed rules f g
+    led_here g call =
+        let P : ℕ → Type 0 = λ k. (r : RewriteRule) → slice_get rules k ≡ Some r → IsTrue (has_root f r.left) in
+        let rooted = All-get_or P ks i 0 within (subst (All P) (sym are) (have_root f rules)) in
+        (rule, in_of_get rules (slice_index ks i) rule there, rooted rule there, call)
+
+  pub all_visited : (i : ℕ) (found : List ℕ) → length ks ≤ i → All (IsVisited rules found n) (take i ks) → (g : ℕ) → IsLed rules f g → g < n → In g found
+  all_visited i found past all g (r, m, rooted, call) low =
+      let (k, at) = get_of_in m in
+      let whole : All (IsVisited rules found n) (with_root f rules) = subst (All (IsVisited rules found n)) (take_all i ks past ∙ are) all in
+      each_number (λ (q : RewriteRule). has_root f q.left) (IsVisited rules found n) r rooted k 0 rules whole k at (omega arith) r at g call low
 
 pub longer : (xs ys : List ℕ) → Extends ys xs → length xs ≤ length ys
 longer xs ys (a, p) = let h : length ys ≡ length (xs ++ a) = ap length p in omega (arith, h, go xs)
@@ -184,171 +197,126 @@ longer xs ys (a, p) = let h : length ys ≡ length (xs ++ a) = ap length p in om
     go [] = omega arith
     go (z ∷ zs) = omega (arith, go zs)
 
-pub all_done : (rules : List RewriteRule) (found new : List ℕ) (i x : ℕ) → i < length found → x ≡ get_or found i x → Extends new found
-    → ((j : ℕ) → IsLed rules x j → In j new) → ((m k j : ℕ) → m < i → slice_get found m ≡ Some k → IsLed rules k j → In j found)
-    → (m k j : ℕ) → m < i + 1 → slice_get new m ≡ Some k → IsLed rules k j → In j new
-all_done rules found new i x h e grown led done m k j l at is =
-    let old : slice_get found m ≡ Some k = get_grown found new m k grown (omega (arith, l, h)) at in
+pub all_done : (rules : List RewriteRule) (found new : List ℕ) (i x n : ℕ) → i < length found → x ≡ get_or found i x → Extends new found
+    → ((g : ℕ) → IsLed rules x g → g < n → In g new) → ((m f g : ℕ) → m < i → slice_get found m ≡ Some f → IsLed rules f g → g < n → In g found)
+    → (m f g : ℕ) → m < i + 1 → slice_get new m ≡ Some f → IsLed rules f g → g < n → In g new
+all_done rules found new i x n h e grown led done m f g l at is low =
+    let old : slice_get found m ≡ Some f = get_grown found new m f grown (omega (arith, l, h)) at in
     elim (dec_lt m i) [
-      | yes s ↦ in_grown found new j grown (done m k j s old is)
+      | yes s ↦ in_grown found new g grown (done m f g s old is low)
       | no s ↦ (let same : m ≡ i = omega (arith, s, l) in
-          let at_i : slice_get found i ≡ Some k = subst (λ n. slice_get found n ≡ Some k) same old in
-          let x_is : k ≡ x = same_Some k x (sym at_i ∙ slice_get_read found _ i x refl h e) in
-          led j (subst (λ n. IsLed rules n j) x_is is))
+          let at_i : slice_get found i ≡ Some f = subst (λ n. slice_get found n ≡ Some f) same old in
+          let x_is : f ≡ x = same_Some f x (sym at_i ∙ slice_get_read found _ i x refl h e) in
+          led g (subst (λ n. IsLed rules n g) x_is is) low)
     ]
 
--- whether a term has a root
-rooted_shape : (g : ℕ) (t : Tree) → has_root g t ≡ true → (ls : Trees) × (t ≡ app g ls)
-rooted_shape g (var x) e = absurd cc
-rooted_shape g (app f ts) e = (ts, ap (λ n. app n ts) (eq_of e))
-  where
-    eq_of : has_root g (app f ts) ≡ true → f ≡ g
-    eq_of h = eqb-true f g h
+pub item_in : (found : List ℕ) (i f : ℕ) → i < length found → f ≡ get_or found i f → In f found
+item_in found i f h e = in_of_get found i f (slice_get_read found _ i f refl h e)
 
-rule_is : (r : RewriteRule) (l : Tree) → r.left ≡ l → r ≡ record { left = l; right = r.right }
-rule_is r l e = subst (λ (x : Tree). r ≡ record { left = x; right = r.right }) e refl
+pub done_all : (rules : List RewriteRule) (found : List ℕ) (i f g n : ℕ) → length found ≤ i
+    → ((m f g : ℕ) → m < i → slice_get found m ≡ Some f → IsLed rules f g → g < n → In g found) → In f found → IsLed rules f g → g < n → In g found
+done_all rules found i f g n h done m led low = let at = get_of_in m in done at.0 f g (let w = slice_get_within found at.0 f at.1 in omega (arith, w, h)) at.1 led low
+
+-- ---- usable symbols
+
+-- a term with a root
+rooted_shape : (f : ℕ) (t : Tree) → has_root f t ≡ true → (ls : Trees) × (t ≡ app f ls)
+rooted_shape f (var x) e = absurd cc
+rooted_shape f (app g ts) e = let same : g ≡ f = eqb-true g f e in (ts, ap (λ n. app n ts) same)
 
 module _ (rules : List RewriteRule) (pairs : List DependencyPair) where
-  rooted_usable : (g j : ℕ) (r : RewriteRule) → slice_get rules j ≡ Some r → has_root g r.left ≡ true → (IsDefined (Among rules) g → IsUsable rules pairs g) → IsUsableRule rules pairs j
-  rooted_usable g j r e h u =
-      let s = rooted_shape g r.left h in
-      let at : slice_get rules j ≡ Some (record { left = app g s.0; right = r.right }) = e ∙ ap (λ x. Some x) (rule_is r (app g s.0) s.1) in
-      record { root = g; args = s.0; right = r.right; numbered = at; usable = u (s.0, r.right, in_of_get rules j (record { left = app g s.0; right = r.right }) at) }
+  pub pair_usable : (g : ℕ) → IsLedByPairs pairs g → IsUsableIfDefined rules pairs g
+  pair_usable g (p, m, (us, q)) d = in_pair p g us m q d
 
-  first_usable : (g j : ℕ) → IsFirst rules g j → (IsDefined (Among rules) g → IsUsable rules pairs g) → IsUsableRule rules pairs j
-  first_usable g j first u = let r = item_there rules j first.there in rooted_usable g j r.0 r.1 (first.first.rooted r.0 r.1) u
+  pub led_usable : (f g : ℕ) → IsUsableIfDefined rules pairs f → IsLed rules f g → IsUsableIfDefined rules pairs g
+  led_usable f g u (r, m, rooted, (us, q)) d =
+      let (ls, is) = rooted_shape f r.left rooted in
+      let among : Among rules (app f ls) r.right = subst (λ l. In (record { left = l; right = r.right }) rules) is m in
+      in_rule f g ls us r.right (u (ls, r.right, among)) among q d
 
-  pub pair_usable : (j : ℕ) → IsLedByPairs rules pairs j → IsUsableRule rules pairs j
-  pair_usable j (p, m, (g, us, q, first)) = first_usable g j first (λ d. in_pair p g us m q d)
+  module _ (found : List ℕ) (n : ℕ) (declared : (g : ℕ) → IsDefined (Among rules) g → g < n) (start : (g : ℕ) → IsLedByPairs pairs g → g < n → In g found)
+      (closed : (f g : ℕ) → In f found → IsLed rules f g → g < n → In g found) where
+    usable_found : (g : ℕ) → IsUsable rules pairs g → In g found
+    usable_found g (in_pair p _ us i q d) = start g (p, i, (us, q)) (declared g d)
+    usable_found g (in_rule f _ ls us t u i q d) = closed f g (usable_found f u) (record { left = app f ls; right = t }, i, eq-eqb f f refl, (us, q)) (declared g d)
 
-  pub led_usable : (k j : ℕ) → IsUsableRule rules pairs k → IsLed rules k j → IsUsableRule rules pairs j
-  led_usable k j u (called r e (g, us, q, first)) =
-      let same = same_Some r (record { left = app u.root u.args; right = u.right }) (sym e ∙ u.numbered) in
-      first_usable g j first (λ d. in_rule u.root g u.args us u.right u.usable (in_of_get rules k (record { left = app u.root u.args; right = u.right }) u.numbered)
-      (subst (λ (x : RewriteRule). Sub (app g us) x.right) same q) d)
-  led_usable k j u (following r f e h n l) =
-      let same = same_Some r (record { left = app u.root u.args; right = u.right }) (sym e ∙ u.numbered) in
-      let root : has_root f (app u.root u.args) ≡ true = subst (λ (x : RewriteRule). has_root f x.left ≡ true) same h in
-      let is : u.root ≡ f = eqb-true u.root f root in
-      let s = item_there rules j l in
-      rooted_usable f j s.0 s.1 (n.rooted s.0 s.1) (λ d. subst (λ x. IsUsable rules pairs x) is u.usable)
+pub defined_declared : (system : System) → IsSystem system → (g : ℕ) → IsDefined (Among system.rules) g → g < length system.arities
+defined_declared system valid g (ls, r, m) =
+    let (k, at) = get_of_in m in
+    omega (arith, (roots_declared system (length system.arities + 1) valid refl).each k g (record { left = app g ls; right = r }) at (eq-eqb g g refl))
 
--- the last rule with this root below k, or none
-Before : List RewriteRule → ℕ → ℕ → Type 0
-Before rules g k = IsFirst rules g k ⊎ ((i : ℕ) × (r : RewriteRule) × (i < k) × (slice_get rules i ≡ Some r) × (has_root g r.left ≡ true) × IsNextRooted rules g (i + 1) k)
+-- ---- the numbers of their rules
 
-module _ (rules : List RewriteRule) (g k : ℕ) (r : RewriteRule) (e : slice_get rules k ≡ Some r) (h : has_root g r.left ≡ true) where
-  next_from : (m : ℕ) → m ≤ k → ((i : ℕ) (q : RewriteRule) → m ≤ i → i < k → slice_get rules i ≡ Some q → has_root g q.left ≡ false) → IsNextRooted rules g m k
-  next_from m l none = record {
-    from = l;
-    within = (let w = slice_get_within rules k r e in omega (arith, w));
-    rooted = λ q d. subst (λ (x : RewriteRule). has_root g x.left ≡ true) (same_Some r q (sym e ∙ d)) h;
-    passed = none;
-  }
+in_all : {A : Type 0} (P : A → Type 0) (xs : List A) (x : A) → All P xs → In x xs → P x
+in_all P xs x all m = let (i, at) = get_of_in m in subst P (get_or_from_slice_get xs i x x at) (all i x (slice_get_within xs i x at))
 
-  before : (m : ℕ) → m ≤ k → ((i : ℕ) (q : RewriteRule) → m ≤ i → i < k → slice_get rules i ≡ Some q → has_root g q.left ≡ false) → Before rules g k
-  unfolding Before
-  before zero l none = inl (record { there = slice_get_within rules k r e; first = next_from 0 l none })
-  before (suc m) l none = let q = item_there rules m (let w = slice_get_within rules k r e in omega (arith, w, l)) in go q.0 q.1 (has_root g q.0.left) refl (before m (omega (arith, l)))
-    where
-      go : (q : RewriteRule) → slice_get rules m ≡ Some q → (b : Bool) → has_root g q.left ≡ b
-          → (((i : ℕ) (q : RewriteRule) → m ≤ i → i < k → slice_get rules i ≡ Some q → has_root g q.left ≡ false) → Before rules g k) → Before rules g k
-      go q d true is rec = inr (m, q, omega (arith, l), d, is, (let same : suc m ≡ m + 1 = omega arith in subst (λ x. IsNextRooted rules g x k) same (next_from (suc m) l none)))
-      go q d false is rec = rec (λ i p a b c. elim (ℕ_discrete m i) [
-        | yes s ↦ (let same : q ≡ p = same_Some q p (sym d ∙ subst (λ x. slice_get rules x ≡ Some p) (sym s) c) in subst (λ (x : RewriteRule). has_root g x.left ≡ false) same is)
-        | no ne ↦ none i p (omega (arith, a, ne)) b c
-      ])
+all_in_themselves : {A : Type 0} (xs : List A) → All (λ x. In x xs) xs
+all_in_themselves xs = λ i d h. in_of_get xs i (get_or xs i d) (slice_get-get_or xs i d h)
 
-module _ (rules : List RewriteRule) (found : List ℕ) (closed : (k j : ℕ) → In k found → IsLed rules k j → In j found) where
-  each_rooted : (g : ℕ) → ((n : ℕ) → IsFirst rules g n → In n found) → (bound k : ℕ) (r : RewriteRule) → k < bound → slice_get rules k ≡ Some r → has_root g r.left ≡ true → In k found
-  unfolding Before
-  each_rooted g base zero k r l e h = absurd (omega (arith, l))
-  each_rooted g base (suc bound) k r l e h = elim (before rules g k r e h k (omega arith) (λ i q a b c. absurd (omega (arith, a, b)))) [
-    | inl first ↦ base k first
-    | inr (i, q, below_k, d, is, n) ↦ closed i k (each_rooted g base bound i q (omega (arith, l, below_k)) d is) (following q g d is n (slice_get_within rules k r e))
-  ]
-
-  module _ (pairs : List DependencyPair) (start : (j : ℕ) → IsLedByPairs rules pairs j → In j found) where
-    has_itself : (g : ℕ) (ls : Trees) → has_root g (app g ls) ≡ true
-    has_itself g ls = eq-eqb g g refl
-
-    usable_found : (g : ℕ) → IsUsable rules pairs g → (k : ℕ) (r : RewriteRule) → slice_get rules k ≡ Some r → has_root g r.left ≡ true → In k found
-    usable_found g (in_pair p _ us i q d) k r e h = each_rooted g (λ n first. start n (p, i, (g, us, q, first))) (suc k) k r (omega arith) e h
-    usable_found g (in_rule f _ ls us t u i q d) k r e h =
-        let at = get_of_in i in
-        let f_found = usable_found f u at.0 (record { left = app f ls; right = t }) at.1 (has_itself f ls) in
-        each_rooted g (λ n first. closed at.0 n f_found (called (record { left = app f ls; right = t }) at.1 (g, us, q, first))) (suc k) k r (omega arith) e h
-
-    pub all_usable_found : (k : ℕ) → IsUsableRule rules pairs k → In k found
-    all_usable_found k u = usable_found u.root u.usable k (record { left = app u.root u.args; right = u.right }) u.numbered (has_itself u.root u.args)
-
-set_above : (k : ℕ) (flags : List Bool) (m : ℕ) → In m (set_from k flags) → k ≤ m
-set_above k [] m i = elim i [ ]
-set_above k (true ∷ flags) m i = elim (in_or i) [ inl s ↦ omega (arith, s) | inr j ↦ (let h = set_above (k + 1) flags m j in omega (arith, h)) ]
-set_above k (false ∷ flags) m i = let h = set_above (k + 1) flags m i in omega (arith, h)
-
-pub set_ascends : (k : ℕ) (flags : List Bool) → Ascends (set_from k flags)
-set_ascends k [] = no_numbers
-set_ascends k (true ∷ flags) = number k (set_from (k + 1) flags) (λ m i. (let h = set_above (k + 1) flags m i in omega (arith, h))) (set_ascends (k + 1) flags)
-set_ascends k (false ∷ flags) = set_ascends (k + 1) flags
-
-pub is_set : (k : ℕ) (flags : List Bool) (m : ℕ) → In m (set_from k flags) → (i : ℕ) × (m ≡ k + i) × (slice_get flags i ≡ Some true)
-is_set k [] m i = elim i [ ]
-is_set k (true ∷ flags) m i = elim (in_or i) [ inl s ↦ (0, omega (arith, s), refl) | inr j ↦ (let h = is_set (k + 1) flags m j in (suc h.0, (let e = h.1 in omega (arith, e)), h.2)) ]
-is_set k (false ∷ flags) m i = let h = is_set (k + 1) flags m i in (suc h.0, (let e = h.1 in omega (arith, e)), h.2)
-
-pub set_listed : (k : ℕ) (flags : List Bool) (i m : ℕ) → m ≡ k + i → slice_get flags i ≡ Some true → In m (set_from k flags)
-set_listed k [] i m s e = absurd cc
-set_listed k (true ∷ flags) zero m s e = let same : k ≡ m = omega (arith, s) in subst (λ x. In x (k ∷ set_from (k + 1) flags)) same in_first
-set_listed k (false ∷ flags) zero m s e = absurd cc
-set_listed k (true ∷ flags) (suc i) m s e = in_rest (set_listed (k + 1) flags i m (omega (arith, s)) e)
-set_listed k (false ∷ flags) (suc i) m s e = set_listed (k + 1) flags i m (omega (arith, s)) e
-
-pub whole : (rules : List RewriteRule) (pairs : List DependencyPair) (flags : List Bool) (started found numbers : List ℕ) → AreMarked flags found → numbers ≡ set_from 0 flags
-    → ((j : ℕ) → In j started → In j found) → ((j : ℕ) → IsLedByPairs rules pairs j → In j started) → ((j : ℕ) → In j started → In j [] ⊎ IsLedByPairs rules pairs j)
-    → ((k j : ℕ) → In k found → IsLed rules k j → In j found)
-    → (((k : ℕ) → In k started → IsUsableRule rules pairs k) → (k : ℕ) → In k found → IsUsableRule rules pairs k) → AreUsableRules rules pairs numbers
-whole rules pairs flags started found numbers m e kept start begun closed only = subst (λ ns. AreUsableRules rules pairs ns) (sym e) (record {
-  exact = λ k. (
-    (λ i. let s = is_set 0 flags k i in let same : s.0 ≡ k = (let d = s.1 in omega (arith, d)) in
-        only (λ j b. elim (begun j b) [ inl none ↦ elim none [ ] | inr led ↦ pair_usable rules pairs j led ]) k (m.marked k (subst (λ x. slice_get flags x ≡ Some true) same s.2))),
-    (λ u. set_listed 0 flags k k (omega arith) (m.found_marked k (all_usable_found rules found closed pairs (λ j led. kept j (start j led)) k u))),
-  );
-  ascending = set_ascends 0 flags;
-})
-
-pub item_in : (found : List ℕ) (i k : ℕ) → i < length found → k ≡ get_or found i k → In k found
-item_in found i k h e = in_of_get found i k (slice_get_read found _ i k refl h e)
-
-pub done_all : (rules : List RewriteRule) (found : List ℕ) (i k j : ℕ) → length found ≤ i
-    → ((m k j : ℕ) → m < i → slice_get found m ≡ Some k → IsLed rules k j → In j found) → In k found → IsLed rules k j → In j found
-done_all rules found i k j h done m led = let at = get_of_in m in done at.0 k j (let w = slice_get_within found at.0 k at.1 in omega (arith, w, h)) at.1 led
-
-module _ (rules : List RewriteRule) (k : ℕ) (r : RewriteRule) (at : slice_get rules k ≡ Some r) (f : ℕ) (rooted : has_root f r.left ≡ true) (n : ℕ) (nx : IsNextRooted rules f (k + 1) n) (most : ℕ) (same : most ≡ length rules) where
-  root_once : (g : ℕ) (t : Tree) → has_root f t ≡ true → has_root g t ≡ true → f ≡ g
-  root_once g (var x) a b = absurd cc
-  root_once g (app h ts) a b = sym (eqb-true h f a) ∙ eqb-true h g b
-
-  pub led_found : (found new : List ℕ) → ((j : ℕ) → IsCalled rules r.right j → In j found) → ((j : ℕ) → In j found → In j new) → (n < most → In n new) → (j : ℕ) → IsLed rules k j → In j new
-  led_found found new calls keeps last j (called q e c) = keeps j (calls j (subst (λ (x : RewriteRule). IsCalled rules x.right j) (same_Some q r (sym e ∙ at)) c))
-  led_found found new calls keeps last j (following q g e h m l) =
-      let rg : has_root g r.left ≡ true = subst (λ (x : RewriteRule). has_root g x.left ≡ true) (same_Some q r (sym e ∙ at)) h in
-      let fg : f ≡ g = root_once g r.left rooted rg in
-      let j_is : n ≡ j = next_once rules g (k + 1) n j (subst (λ x. IsNextRooted rules x (k + 1) n) fg nx) m in
-      subst (λ x. In x new) j_is (last (omega (arith, l, j_is, same)))
-
-  pub found_led : (old found new : List ℕ) → ((j : ℕ) → In j found → In j old ⊎ IsCalled rules r.right j) → ((j : ℕ) → In j new → In j found ⊎ ((j ≡ n) × (n < most))) → (j : ℕ) → In j new → In j old ⊎ IsLed rules k j
-  found_led old found new a b j i = elim (b j i) [
-    | inl h ↦ elim (a j h) [ inl o ↦ inl o | inr c ↦ inr (called r at c) ]
-    | inr h ↦ inr (following r f at rooted (subst (λ x. IsNextRooted rules f (k + 1) x) (sym h.0) nx) (omega (arith, h.0, h.1, same)))
-  ]
-
-pub left_root : (s : System) (ok : IsSystem s) (k : ℕ) (r : RewriteRule) → slice_get s.rules k ≡ Some r → (f : ℕ) × (has_root f r.left ≡ true)
-left_root s ok k r e = go r.left refl
+pub numbers_ascend : (test : RewriteRule → Bool) (m : ℕ) (rules : List RewriteRule) → Ascends (numbers_where test m rules)
+numbers_ascend test m [] = no_numbers
+numbers_ascend test m (rule ∷ rules) = go (test rule) (numbers_ascend test (m + 1) rules)
   where
-    go : (l : Tree) → r.left ≡ l → (f : ℕ) × (has_root f r.left ≡ true)
-    go (var x) is = absurd ((ok.each k r e).left_no_variable (x, is))
-    go (app f ts) is = (f, subst (λ t. has_root f t ≡ true) (sym is) (eq-eqb f f refl))
+    rest : List ℕ
+    rest = numbers_where test (m + 1) rules
+
+    above : (k : ℕ) → In k rest → m < k
+    above k i = in_all (λ k. m < k) rest k (all_numbers test (λ k. m < k) (m + 1) rules (λ i k r e at h. omega (arith, e))) i
+
+    go : (b : Bool) → Ascends rest → Ascends (cond b (m ∷ rest) rest)
+    go true a = number m rest above a
+    go false a = a
+
+flag_there : (flags : List Bool) (f : ℕ) → slice_index_or flags f false ≡ true → slice_get flags f ≡ Some true
+flag_there [] f e = absurd cc
+flag_there (b ∷ flags) zero e = ap (λ x. Some x) e
+flag_there (b ∷ flags) (suc f) e = flag_there flags f e
+
+flagged_root : (flags : List Bool) (t : Tree) → has_flag flags t ≡ true → (f : ℕ) × (ls : Trees) × (t ≡ app f ls) × (slice_get flags f ≡ Some true)
+flagged_root flags (var x) e = absurd cc
+flagged_root flags (app f ls) e = (f, ls, refl, flag_there flags f e)
+
+pub whole : (system : System) (pairs : List DependencyPair) (flags : List Bool) (started found numbers : List ℕ) → IsSystem system → length flags ≡ length system.arities → AreMarked flags found
+    → numbers ≡ numbers_where (λ (r : RewriteRule). has_flag flags r.left) 0 system.rules
+    → ((g : ℕ) → In g started → In g found) → ((g : ℕ) → IsLedByPairs pairs g → g < length flags → In g started) → ((g : ℕ) → In g started → In g [] ⊎ IsLedByPairs pairs g)
+    → ((f g : ℕ) → In f found → IsLed system.rules f g → g < length flags → In g found)
+    → (((g : ℕ) → In g started → IsUsableIfDefined system.rules pairs g) → (g : ℕ) → In g found → IsUsableIfDefined system.rules pairs g) → AreUsableRules system.rules pairs numbers
+whole system pairs flags started found numbers valid same marked are kept start begun closed only = subst (λ ns. AreUsableRules system.rules pairs ns) (sym are) (record {
+  exact = λ k. (listed_usable k, usable_listed k);
+  ascending = numbers_ascend test 0 system.rules;
+})
+  where
+    test : RewriteRule → Bool
+    test r = has_flag flags r.left
+
+    usable : (g : ℕ) → In g found → IsUsableIfDefined system.rules pairs g
+    usable = only (λ g i. elim (begun g i) [ inl none ↦ absurd (no_in none) | inr led ↦ pair_usable system.rules pairs g led ])
+
+    one_usable : (i k : ℕ) (r : RewriteRule) → k ≡ 0 + i → slice_get system.rules i ≡ Some r → IsTrue (test r) → IsUsableRule system.rules pairs k
+    one_usable i k r e at h =
+        let (f, ls, is, flag) = flagged_root flags r.left h in
+        let k_is : i ≡ k = omega (arith, e) in
+        let r_is : r ≡ record { left = app f ls; right = r.right } = subst (λ l. r ≡ record { left = l; right = r.right }) is refl in
+        let numbered : slice_get system.rules k ≡ Some (record { left = app f ls; right = r.right }) = subst (λ n. slice_get system.rules n ≡ Some r) k_is at ∙ ap (λ x. Some x) r_is in
+        record {
+          root = f;
+          args = ls;
+          right = r.right;
+          numbered = numbered;
+          usable = usable f (marked.marked f flag) (ls, r.right, in_of_get system.rules k (record { left = app f ls; right = r.right }) numbered);
+        }
+
+    listed_usable : (k : ℕ) → In k (numbers_where test 0 system.rules) → IsUsableRule system.rules pairs k
+    listed_usable k i = in_all (IsUsableRule system.rules pairs) (numbers_where test 0 system.rules) k (all_numbers test (IsUsableRule system.rules pairs) 0 system.rules one_usable) i
+
+    declared : (g : ℕ) → IsDefined (Among system.rules) g → g < length flags
+    declared g d = omega (arith, same, defined_declared system valid g d)
+
+    usable_listed : (k : ℕ) → IsUsableRule system.rules pairs k → In k (numbers_where test 0 system.rules)
+    usable_listed k u =
+        let there = usable_found system.rules pairs found (length flags) declared (λ g led low. kept g (start g led low)) closed u.root u.usable in
+        let flag : has_flag flags (app u.root u.args) ≡ true = get_or_from_slice_get flags u.root true false (marked.found_marked u.root there) in
+        each_number test (λ k. In k (numbers_where test 0 system.rules)) (record { left = app u.root u.args; right = u.right }) flag k 0 system.rules (all_in_themselves (numbers_where test 0 system.rules)) k u.numbered (omega arith)
 
 pub unmarked_start : (flags : List Bool) (n : ℕ) → flags ≡ replicate n false → AreMarked flags []
 unmarked_start flags n e = subst (λ fs. AreMarked fs []) (sym e) (record { once = all_unset n; marked = λ k s. absurd (none_set n k s); found_marked = λ k i. elim i [ ] })

@@ -1,11 +1,11 @@
--- Numbers of rules that are found, and a table of which they are.
-use Rattle.std.specs.Prelude.{◌≡◌, ◌<◌, ◌+◌, ◌++◌, ℕ, Bool, true, false, List, [], ◌∷◌, Some, IsTrue, length, slice_get}
+-- Symbols that are found, and a table of which they are.
+use Rattle.std.specs.Prelude.{◌≡◌, ◌+◌, ◌++◌, ℕ, Bool, true, false, List, [], ◌∷◌, Some, IsTrue, length, slice_get, slice_index_or}
 use Rattle.trs_defs.specs.Member.{In}
 use Rattle.trs_defs.specs.Tree.{Tree, Trees, app}
-use Rattle.trs_defs.specs.System.{RewriteRule, has_root}
+use Rattle.trs_defs.specs.System.{RewriteRule, Among, IsDefined, has_root}
 use Rattle.pair_theory.specs.Subterm.{Sub, Subs}
 use Rattle.pair_theory.specs.DependencyPair.{DependencyPair}
-use Rattle.term_pool.specs.Roots.{IsNextRooted}
+use Rattle.order_theory.specs.UsableRules.{IsUsable, root_in}
 
 -- how many flags are not set
 abbrev pub unset : List Bool → ℕ
@@ -13,41 +13,36 @@ unset [] = 0
 unset (true ∷ flags) = unset flags
 unset (false ∷ flags) = unset flags + 1
 
--- the flags of exactly the found numbers are set, and each is found once
+-- the flags of exactly the found symbols are set, and each is found once
 pub record AreMarked (flags : List Bool) (found : List ℕ) : Type 0 where
   pub once : length found + unset flags ≡ length flags
-  pub marked : (k : ℕ) → slice_get flags k ≡ Some true → In k found
-  pub found_marked : (k : ℕ) → In k found → slice_get flags k ≡ Some true
+  pub marked : (f : ℕ) → slice_get flags f ≡ Some true → In f found
+  pub found_marked : (f : ℕ) → In f found → slice_get flags f ≡ Some true
 
--- the first rule with this root
-pub record IsFirst (rules : List RewriteRule) (g k : ℕ) : Type 0 where
-  pub there : k < length rules
-  pub first : IsNextRooted rules g 0 k
-
--- the first rule with a root that stands in the term
-abbrev pub IsCalled : List RewriteRule → Tree → ℕ → Type 0
-IsCalled rules t k = (g : ℕ) × (us : Trees) × Sub (app g us) t × IsFirst rules g k
+-- the symbol stands in the term
+abbrev pub IsCalled : Tree → ℕ → Type 0
+IsCalled t g = (us : Trees) × Sub (app g us) t
 
 -- or in one of the terms
-abbrev pub IsCalledInAny : List RewriteRule → Trees → ℕ → Type 0
-IsCalledInAny rules ts k = (g : ℕ) × (us : Trees) × Subs (app g us) ts × IsFirst rules g k
+abbrev pub IsCalledInAny : Trees → ℕ → Type 0
+IsCalledInAny ts g = (us : Trees) × Subs (app g us) ts
 
 -- the list begins with the other one
 abbrev pub Extends : List ℕ → List ℕ → Type 0
 Extends longer shorter = (more : List ℕ) × (longer ≡ shorter ++ more)
 
--- what rule number k leads to: the first rules of the symbols of its right side, and the next rule with its root
-pub data IsLed (rules : List RewriteRule) (k j : ℕ) : Type 0 where
-  called : (r : RewriteRule) → slice_get rules k ≡ Some r → IsCalled rules r.right j → IsLed rules k j
-  following : (r : RewriteRule) (f : ℕ) → slice_get rules k ≡ Some r → IsTrue (has_root f r.left) → IsNextRooted rules f (k + 1) j
-      → j < length rules → IsLed rules k j
+-- g stands in the right side of a rule with the root f
+abbrev pub IsLed : List RewriteRule → ℕ → ℕ → Type 0
+IsLed rules f g = (r : RewriteRule) × In r rules × IsTrue (has_root f r.left) × IsCalled r.right g
 
--- what the pairs lead to: the first rules of the symbols of their right sides, below the roots
-abbrev pub IsLedByPairs : List RewriteRule → List DependencyPair → ℕ → Type 0
-IsLedByPairs rules pairs j = (p : DependencyPair) × In p pairs × IsCalledInAny rules p.to.args j
+-- g stands below the root of the right side of a pair
+abbrev pub IsLedByPairs : List DependencyPair → ℕ → Type 0
+IsLedByPairs pairs g = (p : DependencyPair) × In p pairs × IsCalledInAny p.to.args g
 
--- the places at which the flag is set, counted from k on
-abbrev pub set_from : ℕ → List Bool → List ℕ
-set_from k [] = []
-set_from k (true ∷ flags) = k ∷ set_from (k + 1) flags
-set_from k (false ∷ flags) = set_from (k + 1) flags
+-- the symbol is usable if a rule has it as its root
+abbrev pub IsUsableIfDefined : List RewriteRule → List DependencyPair → ℕ → Type 0
+IsUsableIfDefined rules pairs f = IsDefined (Among rules) f → IsUsable rules pairs f
+
+-- whether the flag of the term's root is set
+abbrev pub has_flag : List Bool → Tree → Bool
+has_flag flags t = root_in (λ f. slice_index_or flags f false) t

@@ -1,85 +1,78 @@
-ghost use Rattle.std.specs.Prelude.{ℕ, ◌≡◌, ◌<◌, ◌+◌, ◌⊎◌, OnOk, All, List, length};
+ghost use Rattle.std.specs.Prelude.{ℕ, ◌≡◌, ◌<◌, ◌⊎◌, OnOk, All, List, length};
 ghost use Rattle.trs_defs.specs.Member.{In};
-ghost use Rattle.trs_defs.specs.System.{IsSystem};
 ghost use Rattle.pair_theory.specs.DependencyPair.{DependencyPair};
 ghost use Rattle.dp_core.specs.Numbered.{ArePairsOf};
-ghost use Rattle.usable_rules.specs.AreUsable.{IsUsableRule};
 ghost use Rattle.usable_rules.specs.Worklist.{AreMarked, IsCalledInAny, IsLed, IsLedByPairs};
-ghost use Rattle.usable_rules.specs.Worklist.{Extends};
+ghost use Rattle.usable_rules.specs.Worklist.{IsUsableIfDefined, Extends};
 
-use crate::marking::{mark, mark_below};
+use crate::marking::mark_below;
 use dp_core::{Side, Sides};
 use term_pool::RulesByRoot;
 use trs_core::OutOfMemory;
 
-/// Adds the first rule of each symbol below the root of a right side of the problem's pairs.
+/// Adds the symbols below the roots of the right sides of the problem's pairs.
 pub(crate) fn mark_pairs(
-    by_root: &RulesByRoot,
     pairs: &[Sides],
     problem: &[u32],
     flags: &mut Vec<bool>,
     found: &mut Vec<u32>,
 ) -> Result<(), OutOfMemory>
     requires marked { AreMarked flags.old.items found.old.items }
-    requires rules { length flags.old.items ≡ length by_root.now.rules }
     requires numbers { All (λ n. n < length pairs.now) problem.now }
     ensures marked { OnOk result (AreMarked flags.new.items found.new.items) }
-    ensures rules { length flags.new.items ≡ length flags.old.items }
-    ensures kept { OnOk result ((k : ℕ) → In k found.old.items → In k found.new.items) }
+    ensures flags { length flags.new.items ≡ length flags.old.items }
+    ensures kept { OnOk result ((g : ℕ) → In g found.old.items → In g found.new.items) }
     ensures all { OnOk result ((taken : List DependencyPair) →
-        ArePairsOf pairs.now problem.now taken → (k : ℕ) →
-        IsLedByPairs by_root.now.rules taken k → In k found.new.items) }
+        ArePairsOf pairs.now problem.now taken → (g : ℕ) → IsLedByPairs taken g →
+        g < length flags.old.items → In g found.new.items) }
     ensures only { OnOk result ((taken : List DependencyPair) →
-        ArePairsOf pairs.now problem.now taken → (k : ℕ) → In k found.new.items →
-        In k found.old.items ⊎ IsLedByPairs by_root.now.rules taken k) }
+        ArePairsOf pairs.now problem.now taken → (g : ℕ) → In g found.new.items →
+        In g found.old.items ⊎ IsLedByPairs taken g) }
 {
     for n in problem {
         let sides = &pairs[*n as usize];
-        mark_arguments(by_root, &sides.to, flags, found)?;
+        mark_arguments(&sides.to, flags, found)?;
     }
     Ok(())
 }
 
-/// Adds the first rule of each symbol below the root.
+/// Adds the symbols below the root.
 fn mark_arguments(
-    by_root: &RulesByRoot,
     side: &Side,
     flags: &mut Vec<bool>,
     found: &mut Vec<u32>,
 ) -> Result<(), OutOfMemory>
-    requires marked { AreMarked flags.old.items found.old.items }
-    requires rules { length flags.old.items ≡ length by_root.now.rules }
+    requires { AreMarked flags.old.items found.old.items }
     ensures marked { OnOk result (AreMarked flags.new.items found.new.items) }
-    ensures rules { length flags.new.items ≡ length flags.old.items }
-    ensures kept { OnOk result ((k : ℕ) → In k found.old.items → In k found.new.items) }
-    ensures all { OnOk result ((k : ℕ) → IsCalledInAny by_root.now.rules side.now.args k →
-        In k found.new.items) }
-    ensures only { OnOk result ((k : ℕ) → In k found.new.items →
-        In k found.old.items ⊎ IsCalledInAny by_root.now.rules side.now.args k) }
+    ensures flags { length flags.new.items ≡ length flags.old.items }
+    ensures kept { OnOk result ((g : ℕ) → In g found.old.items → In g found.new.items) }
+    ensures all { OnOk result ((g : ℕ) → IsCalledInAny side.now.args g →
+        g < length flags.old.items → In g found.new.items) }
+    ensures only { OnOk result ((g : ℕ) → In g found.new.items →
+        In g found.old.items ⊎ IsCalledInAny side.now.args g) }
 {
     let args = side.args;
     for arg in &args.items {
-        mark_below(by_root, arg, flags, found)?;
+        mark_below(arg, flags, found)?;
     }
     Ok(())
 }
 
-/// Adds what the found rules lead to, until there is no more.
+/// Adds what the found symbols lead to, until there is no more.
 pub(crate) fn close(
     by_root: &RulesByRoot,
     flags: &mut Vec<bool>,
     found: &mut Vec<u32>,
 ) -> Result<(), OutOfMemory>
-    requires marked { AreMarked flags.old.items found.old.items }
-    requires rules { length flags.old.items ≡ length by_root.now.rules }
+    requires { AreMarked flags.old.items found.old.items }
     ensures marked { OnOk result (AreMarked flags.new.items found.new.items) }
-    ensures rules { length flags.new.items ≡ length flags.old.items }
-    ensures kept { OnOk result ((k : ℕ) → In k found.old.items → In k found.new.items) }
-    ensures all { OnOk result ((k j : ℕ) → In k found.new.items → IsLed by_root.now.rules k j →
-        In j found.new.items) }
+    ensures flags { length flags.new.items ≡ length flags.old.items }
+    ensures kept { OnOk result ((g : ℕ) → In g found.old.items → In g found.new.items) }
+    ensures all { OnOk result ((f g : ℕ) → In f found.new.items → IsLed by_root.now.rules f g →
+        g < length flags.old.items → In g found.new.items) }
     ensures only { OnOk result ((pairs : List DependencyPair) →
-        ((k : ℕ) → In k found.old.items → IsUsableRule by_root.now.rules pairs k) →
-        (k : ℕ) → In k found.new.items → IsUsableRule by_root.now.rules pairs k) }
+        ((g : ℕ) → In g found.old.items → IsUsableIfDefined by_root.now.rules pairs g) →
+        (g : ℕ) → In g found.new.items → IsUsableIfDefined by_root.now.rules pairs g) }
 {
     let mut i = 0;
     while i < found.len() {
@@ -89,26 +82,26 @@ pub(crate) fn close(
     Ok(())
 }
 
-/// Adds what a rule leads to.
+/// Adds what a symbol leads to: the symbols of the right sides of the rules with this root.
 fn visit(
     by_root: &RulesByRoot,
-    k: u32,
+    f: u32,
     flags: &mut Vec<bool>,
     found: &mut Vec<u32>,
 ) -> Result<(), OutOfMemory>
-    requires marked { AreMarked flags.old.items found.old.items }
-    requires rules { length flags.old.items ≡ length by_root.now.rules }
-    requires there { k < length by_root.now.rules }
+    requires { AreMarked flags.old.items found.old.items }
     ensures marked { OnOk result (AreMarked flags.new.items found.new.items) }
-    ensures rules { length flags.new.items ≡ length flags.old.items }
+    ensures flags { length flags.new.items ≡ length flags.old.items }
     ensures grown { OnOk result (Extends found.new.items found.old.items) }
-    ensures all { OnOk result ((j : ℕ) → IsLed by_root.now.rules k j → In j found.new.items) }
-    ensures only { OnOk result ((j : ℕ) → In j found.new.items →
-        In j found.old.items ⊎ IsLed by_root.now.rules k j) }
-    ensures valid { IsSystem by_root.now }
+    ensures all { OnOk result ((g : ℕ) → IsLed by_root.now.rules f g →
+        g < length flags.old.items → In g found.new.items) }
+    ensures only { OnOk result ((g : ℕ) → In g found.new.items →
+        In g found.old.items ⊎ IsLed by_root.now.rules f g) }
 {
-    let rule = &by_root.rules()[k as usize];
-    mark_below(by_root, &rule.right, flags, found)?;
-    mark(by_root.next(k), flags, found)?;
+    let rules = by_root.rules();
+    for k in by_root.with_root(f) {
+        let rule = &rules[*k as usize];
+        mark_below(&rule.right, flags, found)?;
+    }
     Ok(())
 }

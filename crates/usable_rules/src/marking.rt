@@ -1,51 +1,47 @@
-ghost use Rattle.std.specs.Prelude.{ℕ, ◌≡◌, ◌<◌, ◌+◌, ◌⊎◌, OnOk, length};
+ghost use Rattle.std.specs.Prelude.{ℕ, ◌≡◌, ◌<◌, ◌⊎◌, OnOk, length};
 ghost use Rattle.trs_defs.specs.Member.{In};
 ghost use Rattle.trs_core.specs.View.{tree, forest};
-ghost use Rattle.usable_rules.specs.Worklist.{AreMarked, IsFirst, IsCalled, IsCalledInAny, Extends};
+ghost use Rattle.usable_rules.specs.Worklist.{AreMarked, IsCalled, IsCalledInAny, Extends};
 
-use term_pool::RulesByRoot;
 use trs_core::{OutOfMemory, Term};
 
-/// Adds a rule's number, if it is one, unless it is found.
-pub(crate) fn mark(k: u32, flags: &mut Vec<bool>, found: &mut Vec<u32>) -> Result<(), OutOfMemory>
+/// Adds a symbol that has a flag, unless it is found.
+pub(crate) fn mark(f: u32, flags: &mut Vec<bool>, found: &mut Vec<u32>) -> Result<(), OutOfMemory>
     requires { AreMarked flags.old.items found.old.items }
     ensures marked { OnOk result (AreMarked flags.new.items found.new.items) }
-    ensures rules { length flags.new.items ≡ length flags.old.items }
+    ensures flags { length flags.new.items ≡ length flags.old.items }
     ensures grown { OnOk result (Extends found.new.items found.old.items) }
-    ensures all { OnOk result (k < length flags.old.items → In k found.new.items) }
-    ensures only { OnOk result ((j : ℕ) → In j found.new.items →
-        In j found.old.items ⊎ ((j ≡ k) × (k < length flags.old.items))) }
+    ensures all { OnOk result (f < length flags.old.items → In f found.new.items) }
+    ensures only { OnOk result ((g : ℕ) → In g found.new.items → In g found.old.items ⊎ (g ≡ f)) }
 {
-    if (k as usize) < flags.len() && !flags[k as usize] {
-        found.push(k)?;
-        flags[k as usize] = true;
+    if (f as usize) < flags.len() && !flags[f as usize] {
+        found.push(f)?;
+        flags[f as usize] = true;
     }
     Ok(())
 }
 
-/// Adds the first rule of each symbol of a term.
+/// Adds the symbols of a term.
 pub(crate) fn mark_below(
-    by_root: &RulesByRoot,
     t: &Term,
     flags: &mut Vec<bool>,
     found: &mut Vec<u32>,
 ) -> Result<(), OutOfMemory>
-    requires marked { AreMarked flags.old.items found.old.items }
-    requires rules { length flags.old.items ≡ length by_root.now.rules }
+    requires { AreMarked flags.old.items found.old.items }
     ensures marked { OnOk result (AreMarked flags.new.items found.new.items) }
-    ensures rules { length flags.new.items ≡ length flags.old.items }
+    ensures flags { length flags.new.items ≡ length flags.old.items }
     ensures grown { OnOk result (Extends found.new.items found.old.items) }
-    ensures all { OnOk result ((k : ℕ) → IsCalled by_root.now.rules (tree t.now) k →
-        In k found.new.items) }
-    ensures only { OnOk result ((k : ℕ) → In k found.new.items →
-        In k found.old.items ⊎ IsCalled by_root.now.rules (tree t.now) k) }
+    ensures all { OnOk result ((g : ℕ) → IsCalled (tree t.now) g → g < length flags.old.items →
+        In g found.new.items) }
+    ensures only { OnOk result ((g : ℕ) → In g found.new.items →
+        In g found.old.items ⊎ IsCalled (tree t.now) g) }
 {
     match t {
         Term::Var(_) => Ok(()),
         Term::App(f, args) => {
-            mark(by_root.first(*f), flags, found)?;
+            mark(*f, flags, found)?;
             for arg in &args.items {
-                mark_below(by_root, arg, flags, found)?;
+                mark_below(arg, flags, found)?;
             }
             Ok(())
         }

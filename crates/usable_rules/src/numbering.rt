@@ -1,28 +1,37 @@
-ghost use Rattle.std.specs.Prelude.{ℕ, ◌≡◌, ◌≤◌, ◌↔◌, true, Some, IfOk, OnOk, [], ◌∷◌, ◌++◌, length, slice_get};
-ghost use Rattle.trs_defs.specs.Member.{In};
-ghost use Rattle.usable_rules.specs.AreUsable.{Ascends};
-ghost use Rattle.usable_rules.specs.Worklist.{set_from};
+ghost use Rattle.std.specs.Prelude.{◌≡◌, ◌≤◌, IfOk, length};
+ghost use Rattle.trs_defs.specs.System.{RewriteRule};
+ghost use Rattle.trs_core.specs.View.{tree};
+ghost use Rattle.term_pool.specs.Numbers.{numbers_where};
+ghost use Rattle.usable_rules.specs.Worklist.{has_flag};
 
 use std::alloc::Global;
-use trs_core::OutOfMemory;
+use trs_core::{OutOfMemory, Rule, Term};
 
-/// The places at which the flag is set, ascending.
-pub(crate) fn set_places(alloc: Global, flags: &[bool]) -> Result<Vec<u32>, OutOfMemory>
-    requires { length flags.now ≤ 4095 }
-    ensures { IfOk result (λ places. places.items ≡ set_from 0 flags.now) }
+/// The numbers of the rules whose root has a set flag, ascending.
+pub(crate) fn numbers_with_flag(
+    alloc: Global,
+    rules: &[Rule],
+    flags: &[bool],
+) -> Result<Vec<u32>, OutOfMemory>
+    requires { length rules.now ≤ 4095 }
+    ensures { IfOk result (λ numbers. numbers.items
+        ≡ numbers_where (λ (r : RewriteRule). has_flag flags.now r.left) 0 rules.now) }
 {
-    let mut places = Vec::new(alloc);
-    for (k, flag) in flags.iter().enumerate() {
-        add_if(*flag, k as u32, &mut places)?;
+    let mut numbers = Vec::new(alloc);
+    for (k, rule) in rules.iter().enumerate() {
+        if has_flag(flags, &rule.left) {
+            numbers.push(k as u32)?;
+        }
     }
-    Ok(places)
+    Ok(numbers)
 }
 
-fn add_if(flag: bool, k: u32, places: &mut Vec<u32>) -> Result<(), OutOfMemory>
-    ensures { OnOk result (places.new.items ≡ places.old.items ++ set_from k (flag ∷ [])) }
+/// Whether the flag of the term's root is set.
+fn has_flag(flags: &[bool], t: &Term) -> bool
+    ensures { result ≡ has_flag flags.now (tree t.now) }
 {
-    if flag {
-        places.push(k)?;
+    match t {
+        Term::Var(_) => false,
+        Term::App(f, _) => flags.get(*f as usize).copied().unwrap_or(false),
     }
-    Ok(())
 }

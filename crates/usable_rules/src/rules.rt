@@ -5,7 +5,7 @@ ghost use Rattle.dp_core.specs.Numbered.{ArePairsOf};
 ghost use Rattle.usable_rules.specs.AreUsable.{AreUsableRules};
 
 use crate::closing::{close, mark_pairs};
-use crate::numbering::set_places;
+use crate::numbering::numbers_with_flag;
 use dp_core::{DpPair, Pairs};
 use std::alloc::Global;
 use term_pool::RulesByRoot;
@@ -42,10 +42,10 @@ pub fn usable_for(
         AreUsableRules trs.now.rules taken numbers.items) }
 {
     let by_root = RulesByRoot::new(alloc, trs)?;
-    let mut flags = vec![in alloc; false; trs.rules().len()]?;
+    let mut flags = vec![in alloc; false; trs.arities().len()]?;
     let mut found = Vec::new(alloc);
-    mark_pairs(&by_root, pairs.sides(), problem, &mut flags, &mut found)?;
+    mark_pairs(pairs.sides(), problem, &mut flags, &mut found)?;
     close(&by_root, &mut flags, &mut found)?;
-    let numbers = set_places(alloc, &flags)?;
+    let numbers = numbers_with_flag(alloc, trs.rules(), &flags)?;
     Ok(numbers)
 }

@@ -7,16 +7,15 @@ use Rattle.usable_rules.proofs.marking.+mark_below.Goals as goal
 
 pub loop-arg-init : goal.loop-arg-init
 loop-arg-init t c =
-    let rules = c.args.by_root.now.rules in
     let items = c.deref-arg-items.result.now in
     let f = c.in-App.f in
     let is : tree c.args.t.now ≡ app f (forest items) = rw (c.in-App.is, ← c.args-in-App.view_is, c.deref-arg-items.ensures.value) refl in
     record {
       marked = c.in_ok-mark-in-App.ensures.marked;
-      rules = c.mark.ensures.rules ∙ c.requires.rules;
+      flags = c.mark.ensures.flags;
       grown = c.in_ok-mark-in-App.ensures.grown;
-      all = start_all rules f c.first.result (length c.args.flags.now.items) (tree c.args.t.now) (forest items) c.mark.new.found.items is c.first.ensures c.requires.rules c.in_ok-mark-in-App.ensures.all;
-      only = start_only rules f c.first.result (length c.args.flags.now.items) (tree c.args.t.now) (forest items) c.args.found.now.items c.mark.new.found.items is c.first.ensures c.requires.rules c.in_ok-mark-in-App.ensures.only;
+      all = start_all f (length c.args.flags.now.items) (tree c.args.t.now) (forest items) c.mark.new.found.items is c.in_ok-mark-in-App.ensures.all;
+      only = start_only f (tree c.args.t.now) (forest items) c.args.found.now.items c.mark.new.found.items is c.in_ok-mark-in-App.ensures.only;
     }
 
 pub mark_below-requires : goal.mark_below-requires
@@ -24,34 +23,35 @@ mark_below-requires t c =
     let items = c.deref-arg-items.result.now in
     let is : tree c.args.t.now ≡ app c.in-App.f (forest items) = rw (c.in-App.is, ← c.args-in-App.view_is, c.deref-arg-items.ensures.value) refl in
     let smaller = smaller_argument items c.loop-arg.arg-index c.in-App.f (tree c.args.t.now) c.arg-item.result is c.loop-arg-test.true c.arg-item.is in
-    (omega (arith, smaller, c.decreases), (c.loop-arg.invariant.marked, c.loop-arg.invariant.rules))
+    (omega (arith, smaller, c.decreases), c.loop-arg.invariant.marked)
 
 pub loop-arg-preserved : goal.loop-arg-preserved
 loop-arg-preserved t c =
-    let rules = c.args.by_root.now.rules in
     let items = c.deref-arg-items.result.now in
     let i = c.loop-arg.arg-index in
     let part = c.arg-item.result in
     let old = c.args.found.now.items in
     let found = c.loop-arg.found.items in
     let new = c.mark_below.new.found.items in
+    let n = length c.args.flags.now.items in
     let is : tree c.args.t.now ≡ app c.in-App.f (forest items) = rw (c.in-App.is, ← c.args-in-App.view_is, c.deref-arg-items.ensures.value) refl in
     let e = c.in_ok-mark_below-in-App.ensures in
     record {
       marked = e.marked;
-      rules = e.rules ∙ c.loop-arg.invariant.rules;
+      flags = e.flags ∙ c.loop-arg.invariant.flags;
       grown = grown_twice old found new e.grown c.loop-arg.invariant.grown;
-      all = λ k call. next_all rules items i k part found new c.loop-arg-test.true c.arg-item.is (in_grown found new k e.grown) (e.all k) (c.loop-arg.invariant.all k call);
-      only = next_only old found new e.only (λ k call. called_under rules c.in-App.f k (tree c.args.t.now) (forest items) is
-          (called_in_any rules items i k part c.loop-arg-test.true c.arg-item.is call)) c.loop-arg.invariant.only;
+      all = λ g call low. next_all items i g n part found new c.loop-arg-test.true c.arg-item.is (in_grown found new g e.grown) (λ called low. e.all g called (rw c.loop-arg.invariant.flags low)) low
+          (c.loop-arg.invariant.all g call low);
+      only = next_only old found new e.only (λ g call. called_under c.in-App.f g (tree c.args.t.now) (forest items) is
+          (called_in_any items i g part c.loop-arg-test.true c.arg-item.is call)) c.loop-arg.invariant.only;
     }
 
 pub returns-after-loop-arg-clause-all : goal.returns-after-loop-arg-clause-all
-returns-after-loop-arg-clause-all t c k call =
-    none_left c.args.by_root.now.rules c.deref-arg-items.result.now c.loop-arg.arg-index k c.loop-arg.found.items c.loop-arg-test.false (c.loop-arg.invariant.all k call)
+returns-after-loop-arg-clause-all t c g call low =
+    none_left c.deref-arg-items.result.now c.loop-arg.arg-index g c.loop-arg.found.items c.loop-arg-test.false (c.loop-arg.invariant.all g call low)
 
 pub returns-in-Var-clause-all : goal.returns-in-Var-clause-all
-returns-in-Var-clause-all t c k call = absurd (none_in_variable c.args.by_root.now.rules (tree c.args.t.now) c.in-Var.field-0 k (rw (c.in-Var.is) refl) call)
+returns-in-Var-clause-all t c g call low = absurd (none_in_variable (tree c.args.t.now) c.in-Var.field-0 g (rw (c.in-Var.is) refl) call)
 
 pub returns-in-Var-clause-grown : goal.returns-in-Var-clause-grown
 returns-in-Var-clause-grown t c = no_more c.args.found.now.items

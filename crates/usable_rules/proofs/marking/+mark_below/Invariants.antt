@@ -1,4 +1,4 @@
-use Rattle.std.proofs.Common.{ℕ, ◌≡◌, ◌⊎◌, drop, length}
+use Rattle.std.proofs.Common.{ℕ, ◌≡◌, ◌<◌, ◌⊎◌, drop, length}
 use Rattle.trs_defs.specs.Member.{In}
 use Rattle.trs_defs.specs.Size.{size_of}
 use Rattle.trs_core.specs.View.{tree, forest}
@@ -11,8 +11,8 @@ decreases-mark_below l = size_of (tree l.t.now)
 abbrev pub invariant-loop-arg : goal.invariant-loop-arg
 invariant-loop-arg l = record {
   marked : AreMarked l.flags.items l.found.items;
-  rules : length l.flags.items ≡ length l.by_root.rules;
+  flags : length l.flags.items ≡ length l.fn.flags.items;
   grown : Extends l.found.items l.fn.found.items;
-  all : (k : ℕ) → IsCalled l.by_root.rules (tree l.t) k → In k l.found.items ⊎ IsCalledInAny l.by_root.rules (forest (drop l.arg-index l.arg-items)) k;
-  only : (k : ℕ) → In k l.found.items → In k l.fn.found.items ⊎ IsCalled l.by_root.rules (tree l.t) k;
+  all : (g : ℕ) → IsCalled (tree l.t) g → g < length l.fn.flags.items → In g l.found.items ⊎ IsCalledInAny (forest (drop l.arg-index l.arg-items)) g;
+  only : (g : ℕ) → In g l.found.items → In g l.fn.found.items ⊎ IsCalled (tree l.t) g;
 }
