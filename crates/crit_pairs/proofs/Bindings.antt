@@ -37,37 +37,36 @@ none_both : (c : Bool) (x : Tree) (o : Option Tree) → (if c then Some x else o
 none_both true x o e = absurd cc
 none_both false x o e = (refl, e)
 
-bound_either : (bs : List Binding) (b : Binding) (w : ℕ) (t : Tree) → bound_term (bs ++ b ∷ []) w ≡ Some t → (bound_term bs w ≡ Some t) ⊎ ((b.variable ≡ w) × (tree b.term ≡ t))
-bound_either [] b w t e = elim (first_or (b.variable == w) (tree b.term) t t None e) as (λ _. (bound_term [] w ≡ Some t) ⊎ ((b.variable ≡ w) × (tree b.term ≡ t))) [
+bound_either : (bs : List Binding) (b : Binding) (w : ℕ) (t : Tree) → bound_term (bs ++ b ∷ []) w ≡ Some t → (bound_term bs w ≡ Some t) ⊎ ((b.variable ≡ w) × (tree b.term.now ≡ t))
+bound_either [] b w t e = elim (first_or (b.variable == w) (tree b.term.now) t t None e) as (λ _. (bound_term [] w ≡ Some t) ⊎ ((b.variable ≡ w) × (tree b.term.now ≡ t))) [
   | inl h ↦ inr (eqb-true b.variable w h.0, h.1)
   | inr h ↦ inl h.1
 ]
-bound_either (a ∷ bs) b w t e = elim (first_or (a.variable == w) (tree a.term) t t (bound_term (bs ++ b ∷ []) w) e) as (λ _. (bound_term (a ∷ bs) w ≡ Some t) ⊎ ((b.variable ≡ w) × (tree b.term ≡ t))) [
-  | inl h ↦ inl (is_first (a.variable == w) (tree a.term) (bound_term bs w) h.0 ∙ ap (λ z. Some z) h.1)
-  | inr h ↦ elim (bound_either bs b w t h.1) as (λ _. (bound_term (a ∷ bs) w ≡ Some t) ⊎ ((b.variable ≡ w) × (tree b.term ≡ t))) [
-    | inl k ↦ inl (is_later (a.variable == w) (tree a.term) (bound_term bs w) h.0 ∙ k)
+bound_either (a ∷ bs) b w t e = elim (first_or (a.variable == w) (tree a.term.now) t t (bound_term (bs ++ b ∷ []) w) e) as (λ _. (bound_term (a ∷ bs) w ≡ Some t) ⊎ ((b.variable ≡ w) × (tree b.term.now ≡ t))) [
+  | inl h ↦ inl (is_first (a.variable == w) (tree a.term.now) (bound_term bs w) h.0 ∙ ap (λ z. Some z) h.1)
+  | inr h ↦ elim (bound_either bs b w t h.1) as (λ _. (bound_term (a ∷ bs) w ≡ Some t) ⊎ ((b.variable ≡ w) × (tree b.term.now ≡ t))) [
+    | inl k ↦ inl (is_later (a.variable == w) (tree a.term.now) (bound_term bs w) h.0 ∙ k)
     | inr k ↦ inr k
   ]
 ]
 
 bound_still : (bs : List Binding) (b : Binding) (w : ℕ) (t : Tree) → bound_term bs w ≡ Some t → bound_term (bs ++ b ∷ []) w ≡ Some t
 bound_still [] b w t e = absurd cc
-bound_still (a ∷ bs) b w t e = elim (first_or (a.variable == w) (tree a.term) t t (bound_term bs w) e) as (λ _. bound_term ((a ∷ bs) ++ b ∷ []) w ≡ Some t) [
-  | inl h ↦ is_first (a.variable == w) (tree a.term) (bound_term (bs ++ b ∷ []) w) h.0 ∙ ap (λ z. Some z) h.1
-  | inr h ↦ is_later (a.variable == w) (tree a.term) (bound_term (bs ++ b ∷ []) w) h.0 ∙ bound_still bs b w t h.1
+bound_still (a ∷ bs) b w t e = elim (first_or (a.variable == w) (tree a.term.now) t t (bound_term bs w) e) as (λ _. bound_term ((a ∷ bs) ++ b ∷ []) w ≡ Some t) [
+  | inl h ↦ is_first (a.variable == w) (tree a.term.now) (bound_term (bs ++ b ∷ []) w) h.0 ∙ ap (λ z. Some z) h.1
+  | inr h ↦ is_later (a.variable == w) (tree a.term.now) (bound_term (bs ++ b ∷ []) w) h.0 ∙ bound_still bs b w t h.1
 ]
 
-bound_last : (bs : List Binding) (b : Binding) → bound_term bs b.variable ≡ None → bound_term (bs ++ b ∷ []) b.variable ≡ Some (tree b.term)
-bound_last [] b e = is_first (b.variable == b.variable) (tree b.term) None (eq-eqb b.variable b.variable refl)
+bound_last : (bs : List Binding) (b : Binding) → bound_term bs b.variable ≡ None → bound_term (bs ++ b ∷ []) b.variable ≡ Some (tree b.term.now)
+bound_last [] b e = is_first (b.variable == b.variable) (tree b.term.now) None (eq-eqb b.variable b.variable refl)
 bound_last (a ∷ bs) b e =
-    let h = none_both (a.variable == b.variable) (tree a.term) (bound_term bs b.variable) e in
-    is_later (a.variable == b.variable) (tree a.term) (bound_term (bs ++ b ∷ []) b.variable) h.0 ∙ bound_last bs b h.1
+    let h = none_both (a.variable == b.variable) (tree a.term.now) (bound_term bs b.variable) e in
+    is_later (a.variable == b.variable) (tree a.term.now) (bound_term (bs ++ b ∷ []) b.variable) h.0 ∙ bound_last bs b h.1
 
-pub solves_more : (bs new : List Binding) (v : ℕ) (t : Term) → new ≡ bs ++ (record { variable = v; term = t }) ∷ [] → bound_term bs v ≡ None → (θ : ℕ → Tree)
-    → (Solves bs θ × (θ v ≡ apply θ (tree t))) ↔ Solves new θ
-solves_more bs new v t is none θ =
-    let b : Binding = record { variable = v; term = t } in
-    let P : List Binding → Type 0 = λ z. (Solves bs θ × (θ v ≡ apply θ (tree t))) ↔ Solves z θ in
+pub solves_more : (bs new : List Binding) (b : Binding) → new ≡ bs ++ b ∷ [] → bound_term bs b.variable ≡ None → (θ : ℕ → Tree)
+    → (Solves bs θ × (θ b.variable ≡ apply θ (tree b.term.now))) ↔ Solves new θ
+solves_more bs new b is none θ =
+    let P : List Binding → Type 0 = λ z. (Solves bs θ × (θ b.variable ≡ apply θ (tree b.term.now))) ↔ Solves z θ in
     subst P (sym is) (
       (λ h. record {
         solves = λ w u e. elim (bound_either bs b w u e) as (λ _. θ w ≡ apply θ u) [
@@ -75,7 +74,7 @@ solves_more bs new v t is none θ =
           | inr k ↦ ap θ (sym k.0) ∙ (h.1 ∙ ap (apply θ) k.1)
         ];
       }),
-      (λ h. (record { solves = λ w u e. h.solves w u (bound_still bs b w u e) }, h.solves v (tree t) (bound_last bs b none))),
+      (λ h. (record { solves = λ w u e. h.solves w u (bound_still bs b w u e) }, h.solves b.variable (tree b.term.now) (bound_last bs b none))),
     )
 
 -- the bindings as a unifier
@@ -95,24 +94,24 @@ mutual
   all_unchanged nil = refl
   all_unchanged (cons t ts) = cc (unchanged t, all_unchanged ts)
 
-bound_at : (bs : List Binding) (v : ℕ) (t : Tree) → bound_term bs v ≡ Some t → (k : ℕ) × (b : Binding) × (slice_get bs k ≡ Some b) × (tree b.term ≡ t)
+bound_at : (bs : List Binding) (v : ℕ) (t : Tree) → bound_term bs v ≡ Some t → (k : ℕ) × (b : Binding) × (slice_get bs k ≡ Some b) × (tree b.term.now ≡ t)
 bound_at [] v t e = absurd cc
-bound_at (a ∷ bs) v t e = elim (first_or (a.variable == v) (tree a.term) t t (bound_term bs v) e) [
+bound_at (a ∷ bs) v t e = elim (first_or (a.variable == v) (tree a.term.now) t t (bound_term bs v) e) [
   | inl h ↦ (zero, a, refl, h.1)
   | inr h ↦ let (k, b, at, is) = bound_at bs v t h.1 in (suc k, b, at, is)
 ]
 
-solves_itself : (bs : List Binding) → All (λ b. IsFree bs (tree b.term)) bs → Solves bs (solution bs)
+solves_itself : (bs : List Binding) → All (λ b. IsFree bs (tree b.term.now)) bs → Solves bs (solution bs)
 solves_itself bs free = record {
   solves = λ v t e.
       let (k, b, at, is) = bound_at bs v t e in
       let read : get_or bs k b ≡ b = get_or_from_slice_get bs k b b at in
-      let b_free : IsFree bs (tree b.term) = subst (λ z. IsFree bs (tree z.term)) read (free k b (slice_get_within bs k b at)) in
+      let b_free : IsFree bs (tree b.term.now) = subst (λ z. IsFree bs (tree z.term.now)) read (free k b (slice_get_within bs k b at)) in
       let t_free : IsFree bs t = subst (λ z. IsFree bs z) is b_free in
       ap (λ o. unwrap_or o (var v)) e ∙ sym (same_instance (solution bs) (λ w. var w) t (λ w has. ap (λ o. unwrap_or o (var w)) (t_free w has)) ∙ unchanged t);
 }
 
-pub solution_found : (a b : Tree) (old bs : List Binding) → old ≡ [] → ((θ : ℕ → Tree) → (Solves old θ × (apply θ a ≡ apply θ b)) ↔ Solves bs θ) → All (λ x. IsFree bs (tree x.term)) bs
+pub solution_found : (a b : Tree) (old bs : List Binding) → old ≡ [] → ((θ : ℕ → Tree) → (Solves old θ × (apply θ a ≡ apply θ b)) ↔ Solves bs θ) → All (λ x. IsFree bs (tree x.term.now)) bs
     → IsMostGeneralUnifier a b (solution bs)
 solution_found a b old bs none h free =
     let begins : (θ : ℕ → Tree) → Solves old θ = λ θ. subst (λ z. Solves z θ) (sym none) (solves_nothing θ) in

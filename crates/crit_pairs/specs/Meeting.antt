@@ -15,7 +15,7 @@ use Rattle.crit_pairs.specs.declared.meeting.Solution.TheVariants as found
 -- the term that the first binding of the variable has
 abbrev pub bound_term : List Binding → ℕ → Option Tree
 bound_term [] v = None
-bound_term (b ∷ bs) v = if b.variable == v then Some (tree b.term) else bound_term bs v
+bound_term (b ∷ bs) v = if b.variable == v then Some (tree b.term.now) else bound_term bs v
 
 -- a variable that is not bound stays
 abbrev pub solution : List Binding → ℕ → Tree

@@ -1,5 +1,5 @@
 ghost use Rattle.std.specs.Prelude.{◌≡◌, ◌↔◌, IfOk, IsTrue, All};
-ghost use Rattle.std.specs.Option.{option_copied, option_map};
+ghost use Rattle.std.specs.Option.{option_map};
 ghost use Rattle.trs_defs.specs.Tree.{var};
 ghost use Rattle.trs_core.specs.View.{tree};
 ghost use Rattle.crit_pairs.specs.Meeting.{bound_term, Meets, IsFree, IsSolution};
@@ -12,10 +12,10 @@ use trs_core::{OutOfMemory, Term};
 const MOST_BINDINGS: usize = 16;
 
 /// A variable, and the term that it must be equal to.
-#[derive(Drop)]
-pub(crate) struct Binding {
+#[derive(Clone, Copy)]
+pub(crate) struct Binding<'a> {
     pub variable: u32,
-    pub term: Term,
+    pub term: &'a Term,
 }
 
 /// What came of making two terms equal.
@@ -30,9 +30,9 @@ pub(crate) enum Meeting {
 
 /// What is found of two terms by binding variables one after another.
 #[derive(Drop)]
-pub(crate) enum Solution {
+pub(crate) enum Solution<'a> {
     /// The bindings are a most general unifier.
-    Unifier(Vec<Binding>),
+    Unifier(Vec<Binding<'a>>),
     /// They have none.
     None,
     /// It is not known.
@@ -41,11 +41,15 @@ pub(crate) enum Solution {
 
 /// A most general unifier, where each variable is met once: no variable that is bound occurs in a
 /// term that another one is bound to.
-pub(crate) fn solve(alloc: Global, a: &Term, b: &Term) -> Result<Solution, OutOfMemory>
+pub(crate) fn solve<'a>(
+    alloc: Global,
+    a: &'a Term,
+    b: &'a Term,
+) -> Result<Solution<'a>, OutOfMemory>
     ensures { IfOk result (IsSolution (tree a.now) (tree b.now)) }
 {
     let mut bindings = Vec::new(alloc);
-    let meeting = meet(alloc, a, b, &mut bindings)?;
+    let meeting = meet(a, b, &mut bindings)?;
     match meeting {
         Meeting::Apart => Ok(Solution::None),
         Meeting::Unclear => Ok(Solution::Unclear),
@@ -80,11 +84,10 @@ pub(crate) fn clash(a: &Term, b: &Term) -> bool
 }
 
 /// Binds what must be bound for the terms to be equal.
-fn meet(
-    alloc: Global,
-    a: &Term,
-    b: &Term,
-    bindings: &mut Vec<Binding>,
+fn meet<'a>(
+    a: &'a Term,
+    b: &'a Term,
+    bindings: &mut Vec<Binding<'a>>,
 ) -> Result<Meeting, OutOfMemory>
     ensures { IfOk result
         (Meets (tree a.now) (tree b.now) bindings.old.items bindings.new.items) }
@@ -95,7 +98,7 @@ fn meet(
                 return Ok(Meeting::Apart);
             }
             for (i, x) in fs.items.iter().enumerate() {
-                let meeting = meet(alloc, x, &gs.items[i], bindings)?;
+                let meeting = meet(x, &gs.items[i], bindings)?;
                 match meeting {
                     Meeting::Met => {}
                     Meeting::Apart => return Ok(Meeting::Apart),
@@ -104,20 +107,15 @@ fn meet(
             }
             Ok(Meeting::Met)
         }
-        (Term::Var(v), Term::App(_, _)) => bind(alloc, *v, b, bindings),
-        (Term::Var(v), Term::Var(_)) => bind(alloc, *v, b, bindings),
-        (Term::App(_, _), Term::Var(w)) => bind_to_left(alloc, a, *w, bindings),
+        (Term::Var(v), Term::App(_, _)) => bind(*v, b, bindings),
+        (Term::Var(v), Term::Var(_)) => bind(*v, b, bindings),
+        (Term::App(_, _), Term::Var(w)) => bind_to_left(a, *w, bindings),
     }
 }
 
 /// Binds the variable to the term, unless it is bound.
-fn bind(
-    alloc: Global,
-    v: u32,
-    t: &Term,
-    bindings: &mut Vec<Binding>,
-) -> Result<Meeting, OutOfMemory>
-    ensures { IfOk result (Meets (var v) (tree t.now) bindings.old.items bindings.new.items) }
+fn bind<'a>(v: u32, term: &'a Term, bindings: &mut Vec<Binding<'a>>) -> Result<Meeting, OutOfMemory>
+    ensures { IfOk result (Meets (var v) (tree term.now) bindings.old.items bindings.new.items) }
 {
     if bindings.len() >= MOST_BINDINGS {
         return Ok(Meeting::Unclear);
@@ -125,30 +123,28 @@ fn bind(
     if let Some(_earlier) = find(bindings, v) {
         return Ok(Meeting::Unclear);
     }
-    let term = t.copy(alloc)?;
     bindings.push(Binding { variable: v, term })?;
     Ok(Meeting::Met)
 }
 
 /// Binds the variable on the right to the term on the left, unless it is bound.
-fn bind_to_left(
-    alloc: Global,
-    t: &Term,
+fn bind_to_left<'a>(
+    term: &'a Term,
     v: u32,
-    bindings: &mut Vec<Binding>,
+    bindings: &mut Vec<Binding<'a>>,
 ) -> Result<Meeting, OutOfMemory>
-    ensures { IfOk result (Meets (tree t.now) (var v) bindings.old.items bindings.new.items) }
+    ensures { IfOk result (Meets (tree term.now) (var v) bindings.old.items bindings.new.items) }
 {
-    bind(alloc, v, t, bindings)
+    bind(v, term, bindings)
 }
 
 /// The term that a variable is bound to.
-pub(crate) fn find(bindings: &[Binding], v: u32) -> Option<&Term>
-    ensures { option_map tree (option_copied result) ≡ bound_term bindings.now v }
+pub(crate) fn find<'a>(bindings: &[Binding<'a>], v: u32) -> Option<&'a Term>
+    ensures { option_map (λ t. tree t.now) result ≡ bound_term bindings.now v }
 {
     for binding in bindings {
         if binding.variable == v {
-            return Some(&binding.term);
+            return Some(binding.term);
         }
     }
     None
@@ -156,10 +152,10 @@ pub(crate) fn find(bindings: &[Binding], v: u32) -> Option<&Term>
 
 /// Whether the terms of the bindings have no variable that is bound.
 fn are_free(bindings: &[Binding]) -> bool
-    ensures { IsTrue result → All (λ b. IsFree bindings.now (tree b.term)) bindings.now }
+    ensures { IsTrue result → All (λ b. IsFree bindings.now (tree b.term.now)) bindings.now }
 {
     for binding in bindings {
-        if !is_free(&binding.term, bindings) {
+        if !is_free(binding.term, bindings) {
             return false;
         }
     }
