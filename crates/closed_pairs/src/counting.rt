@@ -1,14 +1,18 @@
 ghost use Rattle.rewrite_core.specs.Check.{AnswersBy};
 ghost use Rattle.closed_pairs.specs.PeaksFor.{peaks_for as peaks_for_items};
 
-use crit_pairs::first_peaks;
+use crit_pairs::{UnbuiltTop, first_peaks};
 use rewrite_core::{CheckFault, Peak, StepRefused};
 use std::alloc::Global;
 use trs_core::Trs;
 
 /// The critical peaks, for a step with so many items: there must be as many. Otherwise they are only
 /// counted, and no more of them are made than there are items.
-pub(crate) fn peaks_for(alloc: Global, trs: &Trs, items: usize) -> Result<Vec<Peak>, CheckFault>
+pub(crate) fn peaks_for(
+    alloc: Global,
+    trs: &Trs,
+    items: usize,
+) -> Result<Vec<Peak<UnbuiltTop>>, CheckFault>
     ensures { AnswersBy (λ peaks. peaks.items) (peaks_for_items trs.now.rules items) result }
 {
     let found = first_peaks(alloc, trs, items)?;

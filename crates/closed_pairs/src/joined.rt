@@ -8,7 +8,7 @@ ghost use Rattle.closed_pairs.specs.Joined.{joins, are_joined, newman_conditions
 use crate::counting::peaks_for;
 use crate::covering::joined_list_concludes;
 use crate::ends::{ItemPath, meet};
-use rewrite_core::{CheckFault, Join, Peak, StepRefused};
+use rewrite_core::{CheckFault, Join, Peak, StepRefused, Top};
 use std::alloc::Global;
 use trs_core::Trs;
 
@@ -18,7 +18,7 @@ pub fn newman_check(alloc: Global, trs: &Trs, joins: &[Join]) -> Result<(), Chec
     ensures answers { Answers (newman_conditions trs.now joins.now) result }
 {
     let peaks = peaks_for(alloc, trs, joins.len())?;
-    join_check(alloc, trs, &peaks, joins)
+    peaks_are_joined(alloc, trs, &peaks, joins)
 }
 
 /// Sees that there is an item for each peak, and that its paths join the peak. Of a system that
@@ -38,10 +38,10 @@ pub fn join_check(
 }
 
 /// Sees that there is an item for each peak, and that its paths join the peak.
-fn peaks_are_joined(
+fn peaks_are_joined<T: Top>(
     alloc: Global,
     trs: &Trs,
-    peaks: &[Peak],
+    peaks: &[Peak<T>],
     joins: &[Join],
 ) -> Result<(), CheckFault>
     ensures { Answers (are_joined trs.now.rules peaks.now joins.now) result }
@@ -56,11 +56,11 @@ fn peaks_are_joined(
 }
 
 /// Sees that the two paths of item number `n` lead from the sides of a peak to one term.
-pub fn peak_is_joined(
+pub fn peak_is_joined<T: Top>(
     alloc: Global,
     trs: &Trs,
     n: u64,
-    peak: &Peak,
+    peak: &Peak<T>,
     join: &Join,
 ) -> Result<(), CheckFault>
     ensures answers { Answers (joins trs.now.rules n peak.now join.now) result }

@@ -12,7 +12,7 @@ use crate::counting::peaks_for;
 use crate::covering::parallel_list_concludes;
 use crate::ends::{ItemPath, end_of, run, same_ends};
 use crate::linear::left_linear_check;
-use rewrite_core::{CheckFault, PathStep, Peak, StepRefused};
+use rewrite_core::{CheckFault, PathStep, Peak, StepRefused, Top};
 use std::alloc::Global;
 use trs_core::Trs;
 
@@ -50,10 +50,10 @@ pub fn parallel_check(
 
 /// Sees that there is an item for each peak, which is one parallel step from its left side to its
 /// right one.
-fn peaks_are_closed(
+fn peaks_are_closed<T: Top>(
     alloc: Global,
     trs: &Trs,
-    peaks: &[Peak],
+    peaks: &[Peak<T>],
     steps: &[Vec<PathStep>],
 ) -> Result<(), CheckFault>
     ensures { Answers
@@ -69,11 +69,11 @@ fn peaks_are_closed(
 }
 
 /// Sees that item number `n` is one parallel step from the left side of a peak to its right one.
-fn peak_is_closed(
+fn peak_is_closed<T: Top>(
     alloc: Global,
     trs: &Trs,
     n: u64,
-    peak: &Peak,
+    peak: &Peak<T>,
     path: &[PathStep],
 ) -> Result<(), CheckFault>
     ensures { Answers (closes_in_parallel trs.now.rules n peak.now path.now) result }

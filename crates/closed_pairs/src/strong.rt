@@ -12,7 +12,7 @@ use crate::counting::peaks_for;
 use crate::covering::strong_list_concludes;
 use crate::ends::{ItemPath, meet};
 use crate::linear_check;
-use rewrite_core::{CheckFault, PathStep, Peak, StepRefused, copy_path};
+use rewrite_core::{CheckFault, PathStep, Peak, StepRefused, Top, copy_path};
 use std::alloc::Global;
 use std::marker::Model;
 use trs_core::{OutOfMemory, Trs};
@@ -82,10 +82,10 @@ pub fn strong_check(
 }
 
 /// Sees that there is an item for each peak, which joins it strongly.
-fn peaks_are_joined_strongly(
+fn peaks_are_joined_strongly<T: Top>(
     alloc: Global,
     trs: &Trs,
-    peaks: &[Peak],
+    peaks: &[Peak<T>],
     fours: &[Four],
 ) -> Result<(), CheckFault>
     ensures { Answers (are_strongly_closed trs.now.rules peaks.now fours.now) result }
@@ -100,11 +100,11 @@ fn peaks_are_joined_strongly(
 }
 
 /// Sees that item number `n` joins a peak strongly, from its left side and then from its right.
-fn peak_is_joined_strongly(
+fn peak_is_joined_strongly<T: Top>(
     alloc: Global,
     trs: &Trs,
     n: u64,
-    peak: &Peak,
+    peak: &Peak<T>,
     four: &Four,
 ) -> Result<(), CheckFault>
     ensures { Answers (joins_strongly trs.now.rules n peak.now four.now) result }

@@ -1,8 +1,7 @@
 -- What becomes of a pair is one thing: its normal forms make one new rule, or are one pair with no order.
-use Rattle.std.proofs.Common.{◌≡◌, ℕ, zero, suc, inl, inr, refl, sym, ap, subst, ◌∙◌, List, [], ◌∷◌, true, Some, IsTrue, slice_get, ◌==◌}
-use Rattle.std.proofs.lemmas.Bool.{or_left, or_right}
-use Rattle.trs_defs.specs.Tree.{Tree, Trees, var, app, nil, cons}
-use Rattle.trs_defs.specs.Variable.{has_var, some_has_var, is_listed, variables_of, with_variables, with_variables_of_all}
+use Rattle.std.proofs.Common.{◌≡◌, ℕ, zero, suc, inl, inr, sym, ap, subst, ◌∙◌, List, [], ◌∷◌, IsTrue}
+use Rattle.trs_defs.specs.Tree.{Tree, var, app, nil, cons}
+use Rattle.trs_defs.specs.Variable.{has_var, variables_of, with_variables}
 use Rattle.trs_defs.specs.Substitution.{apply}
 use Rattle.trs_defs.specs.Member.{In, in_first, in_rest}
 use Rattle.trs_defs.specs.System.{RewriteRule, System}
@@ -10,7 +9,7 @@ use Rattle.trs_defs.specs.Step.{Step, here}
 use Rattle.trs_defs.specs.Bounded.{IsBoundedBy}
 use Rattle.trs_defs.proofs.Members.{in_or, no_in}
 use Rattle.trs_defs.proofs.Substitutions.{apply_apply}
-use Rattle.trs_defs.proofs.VariableLaws.{has_var_self}
+use Rattle.trs_unify.proofs.ListedVariables.{listed_get, nothing_new}
 use Rattle.crit_pairs.specs.PeakList.{IsCount}
 use Rattle.crit_pairs.proofs.Bindings.{unchanged}
 use Rattle.crit_pairs.proofs.Variants.{Paired, Swaps, pair, paired_equal, numbered_alike, among_variables}
@@ -76,22 +75,6 @@ module _ (s t l r k q : Tree) (a : AreVariants s t l r) (b : AreVariants s t k q
     one_variant = let e : as_one l r ≡ as_one k q = paired_equal Related equal paired in (cc (e), cc (e))
 
 -- ---- a right side has no new variable
-
-listed_get : (vs : List ℕ) (i v : ℕ) → slice_get vs i ≡ Some v → IsTrue (is_listed v vs)
-listed_get [] i v e = absurd cc
-listed_get (x ∷ vs) zero v e = let same : x ≡ v = cc (e) in or_left (x == v) (is_listed v vs) (subst (λ z. IsTrue (z == v)) (sym same) (has_var_self v))
-listed_get (x ∷ vs) (suc i) v e = or_right (x == v) (is_listed v vs) (listed_get vs i v e)
-
-mutual
-  nothing_new : (vs : List ℕ) (t : Tree) → ((v : ℕ) → IsTrue (has_var v t) → IsTrue (is_listed v vs)) → with_variables vs t ≡ vs
-  nothing_new vs (var x) h = let e : is_listed x vs ≡ true = h x (has_var_self x) in rw e refl
-  nothing_new vs (app f ts) h = nothing_new_in_all vs ts h
-
-  nothing_new_in_all : (vs : List ℕ) (ts : Trees) → ((v : ℕ) → IsTrue (some_has_var v ts) → IsTrue (is_listed v vs)) → with_variables_of_all vs ts ≡ vs
-  nothing_new_in_all vs nil h = refl
-  nothing_new_in_all vs (cons t ts) h =
-      let first : with_variables vs t ≡ vs = nothing_new vs t (λ v k. h v (or_left (has_var v t) (some_has_var v ts) k)) in
-      ap (λ ws. with_variables_of_all ws ts) first ∙ nothing_new_in_all vs ts (λ v k. h v (or_right (has_var v t) (some_has_var v ts) k))
 
 pub right_has_none : (l r : Tree) → ((v : ℕ) → IsTrue (has_var v r) → IsTrue (has_var v l)) → with_variables (variables_of l) r ≡ variables_of l
 right_has_none l r h = nothing_new (variables_of l) r (λ v k. (let (i, at) = among_variables v l (h v k) in listed_get (variables_of l) i v at))

@@ -10,7 +10,7 @@ use crate::orienting::take_in;
 use crate::treating::{Outcome, treat};
 use crit_pairs::{Peak, PeakFault, critical_pairs, first_peaks};
 use path_lpo::Lpo;
-use rewrite_core::CheckFault;
+use rewrite_core::{CheckFault, Top};
 use std::alloc::Global;
 use trs_core::{OutOfMemory, Trs, systems_are_valid};
 
@@ -89,11 +89,11 @@ fn is_settled(found: &Outcome, count: u64) -> bool
 }
 
 /// The first peak that is not passed over.
-fn find(
+fn find<T: Top>(
     alloc: Global,
     order: &Lpo,
     trs: &Trs,
-    peaks: &[Peak],
+    peaks: &[Peak<T>],
     units: u64,
 ) -> Result<Outcome, OutOfMemory>
     requires { ArePairsOver trs.now.arities (map sides peaks.now) }

@@ -1,12 +1,12 @@
 -- Terms that differ in their variables alone, and whose variables are numbered in order of first occurrence, are equal.
 use Rattle.std.specs.Prelude.{◌≡◌, ◌≢◌, ℕ, Bool, true, false, ◌==◌, if◌then◌else◌, List, [], ◌∷◌, ◌++◌, Some, IsTrue, slice_get}
-use Rattle.std.proofs.Common.{zero, suc, inl, inr, sym, ◌∙◌, ap, subst, refl, arith}
+use Rattle.std.proofs.Common.{zero, suc, sym, ◌∙◌, ap, subst, refl, arith}
 use Rattle.std.proofs.Math.Decide.{ℕ_discrete}
-use Rattle.std.proofs.lemmas.Bool.{or_left, or_right, or_cases}
 use Rattle.trs_defs.specs.Tree.{Tree, Trees, var, app, nil, cons}
 use Rattle.trs_defs.specs.Variable.{has_var, some_has_var, is_listed, with_variables, with_variables_of_all, variables_of}
 use Rattle.trs_defs.specs.Substitution.{apply, apply_all}
-use Rattle.trs_defs.proofs.VariableLaws.{has_var_same, has_var_self, has_var_cons, has_var_first, has_var_rest}
+use Rattle.trs_defs.proofs.VariableLaws.{has_var_self, has_var_first, has_var_rest}
+use Rattle.trs_unify.proofs.ListedVariables.{listed_at, listed_variable}
 use Rattle.crit_pairs.specs.PeakList.{IsCount}
 
 -- the terms are equal, but for variables that are related
@@ -131,54 +131,5 @@ module _ (R : ℕ → ℕ → Type 0) where
         subst (λ z. R v z) same r
 
 -- a variable of the term is among its variables
-listed_at : (v : ℕ) (vs : List ℕ) → IsTrue (is_listed v vs) → (i : ℕ) × (slice_get vs i ≡ Some v)
-listed_at v [] h = absurd cc
-listed_at v (x ∷ vs) h = elim (or_cases (x == v) (is_listed v vs) h) [
-  | inl k ↦ let same : x ≡ v = grind arith in (zero, ap (λ z. Some z) same)
-  | inr k ↦ let (i, e) = listed_at v vs k in (suc i, e)
-]
-
-listed_last : (v : ℕ) (vs : List ℕ) → IsTrue (is_listed v (vs ++ v ∷ []))
-listed_last v [] = or_left (v == v) false (has_var_self v)
-listed_last v (x ∷ vs) = or_right (x == v) (is_listed v (vs ++ v ∷ [])) (listed_last v vs)
-
-listed_longer : (v n : ℕ) (vs : List ℕ) → IsTrue (is_listed v vs) → IsTrue (is_listed v (vs ++ n ∷ []))
-listed_longer v n [] h = absurd cc
-listed_longer v n (x ∷ vs) h = elim (or_cases (x == v) (is_listed v vs) h) as (λ _. IsTrue (is_listed v ((x ∷ vs) ++ n ∷ []))) [
-  | inl k ↦ or_left (x == v) (is_listed v (vs ++ n ∷ [])) k
-  | inr k ↦ or_right (x == v) (is_listed v (vs ++ n ∷ [])) (listed_longer v n vs k)
-]
-
-still_listed : (b : Bool) (v n : ℕ) (vs : List ℕ) → IsTrue (is_listed v vs) → IsTrue (is_listed v (if b then vs else vs ++ n ∷ []))
-still_listed true v n vs h = h
-still_listed false v n vs h = listed_longer v n vs h
-
-now_listed : (b : Bool) (v : ℕ) (vs : List ℕ) → is_listed v vs ≡ b → IsTrue (is_listed v (if b then vs else vs ++ v ∷ []))
-now_listed true v vs e = e
-now_listed false v vs e = listed_last v vs
-
-mutual
-  listed_still : (v : ℕ) (t : Tree) (vs : List ℕ) → IsTrue (is_listed v vs) → IsTrue (is_listed v (with_variables vs t))
-  listed_still v (var n) vs h = still_listed (is_listed n vs) v n vs h
-  listed_still v (app f ts) vs h = listed_still_in_all v ts vs h
-
-  listed_still_in_all : (v : ℕ) (ts : Trees) (vs : List ℕ) → IsTrue (is_listed v vs) → IsTrue (is_listed v (with_variables_of_all vs ts))
-  listed_still_in_all v nil vs h = h
-  listed_still_in_all v (cons t ts) vs h = listed_still_in_all v ts (with_variables vs t) (listed_still v t vs h)
-
-mutual
-  listed_variable : (v : ℕ) (t : Tree) (vs : List ℕ) → IsTrue (has_var v t) → IsTrue (is_listed v (with_variables vs t))
-  listed_variable v (var n) vs h =
-      let same : n ≡ v = has_var_same v n h in
-      subst (λ z. IsTrue (is_listed v (with_variables vs (var z)))) (sym same) (now_listed (is_listed v vs) v vs refl)
-  listed_variable v (app f ts) vs h = listed_variable_of_all v ts vs h
-
-  listed_variable_of_all : (v : ℕ) (ts : Trees) (vs : List ℕ) → IsTrue (some_has_var v ts) → IsTrue (is_listed v (with_variables_of_all vs ts))
-  listed_variable_of_all v nil vs h = absurd cc
-  listed_variable_of_all v (cons t ts) vs h = elim (has_var_cons v t ts h) as (λ _. IsTrue (is_listed v (with_variables_of_all (with_variables vs t) ts))) [
-    | inl k ↦ listed_still_in_all v ts (with_variables vs t) (listed_variable v t vs k)
-    | inr k ↦ listed_variable_of_all v ts (with_variables vs t) k
-  ]
-
 pub among_variables : (v : ℕ) (t : Tree) → IsTrue (has_var v t) → (i : ℕ) × (slice_get (variables_of t) i ≡ Some v)
 among_variables v t h = listed_at v (variables_of t) (listed_variable v t [] h)

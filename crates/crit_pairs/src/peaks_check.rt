@@ -4,15 +4,15 @@ ghost use Rattle.crit_pairs.specs.PeaksCheck.{ListsCriticalPeaks, peaks_refusal}
 ghost use Rattle.crit_pairs.specs.FirstPeaks.{AreFirst};
 
 use crate::listing::list_peaks;
-use crate::{Peak, PeakFault};
+use crate::{Peak, PeakFault, UnbuiltTop};
 use rewrite_core::{CheckFault, StepRefused};
 use std::alloc::Global;
 use trs_core::Trs;
 
-/// The first critical peaks of a system, and the number of all of them.
+/// The first critical peaks of a system, and the number of all of them. Their tops are not built.
 #[derive(Drop)]
 pub struct FirstPeaks {
-    pub peaks: Vec<Peak>,
+    pub peaks: Vec<Peak<UnbuiltTop>>,
     pub count: u64,
 }
 

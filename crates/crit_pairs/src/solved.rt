@@ -2,6 +2,7 @@ ghost use Rattle.std.specs.Prelude.{◌≡◌, ◌≢◌, IfOk, IfErr, OnOk, IfS
 ghost use Rattle.trs_defs.specs.Tree.{var};
 ghost use Rattle.trs_defs.specs.Size.{size_of, within_limits};
 ghost use Rattle.trs_defs.specs.Substitution.{apply};
+ghost use Rattle.trs_defs.specs.Variable.{with_variables};
 ghost use Rattle.trs_core.specs.View.{tree};
 ghost use Rattle.trs_unify.specs.Bindings.{stopped_size, stopped_depth};
 ghost use Rattle.trs_unify.specs.Renamed.{IsRenamed};
@@ -113,12 +114,73 @@ pub fn number_variables(alloc: Global, t: &Term, names: &mut Vec<u32>) -> Result
     }
 }
 
-/// The variable with its number, or with the next one. A list of 2^32 - 1 names is full.
+/// The variable with its number, or with the next one.
 fn number_variable(v: u32, names: &mut Vec<u32>) -> Result<Term, OutOfMemory>
     requires { IsDistinct names.old.items }
     ensures distinct { OnOk result (IsDistinct names.new.items) }
     ensures renamed { IfOk result (λ u.
         IsRenamed names.old.items names.new.items (var v) (tree u)) }
+{
+    Ok(Term::Var(number_of(v, names)?))
+}
+
+/// Gives numbers to the variables of an instance that have none yet, as they are met. The instance is
+/// not built.
+pub(crate) fn name_instance(
+    bindings: &[Binding],
+    t: &Term,
+    names: &mut Vec<u32>,
+) -> Result<(), OutOfMemory>
+    requires { IsDistinct names.old.items }
+    ensures distinct { OnOk result (IsDistinct names.new.items) }
+    ensures order { OnOk result (names.new.items
+        ≡ with_variables names.old.items (apply (solution bindings.now) (tree t.now))) }
+{
+    match t {
+        Term::Var(v) => match find(bindings, *v) {
+            None => {
+                number_of(*v, names)?;
+                Ok(())
+            }
+            Some(bound) => name_variables(bound, names),
+        },
+        Term::App(_, args) => {
+            for arg in &args.items {
+                name_instance(bindings, arg, names)?;
+            }
+            Ok(())
+        }
+    }
+}
+
+/// Gives numbers to the variables of a term that have none yet, as they are met.
+fn name_variables(t: &Term, names: &mut Vec<u32>) -> Result<(), OutOfMemory>
+    requires { IsDistinct names.old.items }
+    ensures distinct { OnOk result (IsDistinct names.new.items) }
+    ensures order { OnOk result
+        (names.new.items ≡ with_variables names.old.items (tree t.now)) }
+{
+    match t {
+        Term::Var(v) => {
+            number_of(*v, names)?;
+            Ok(())
+        }
+        Term::App(_, args) => {
+            for arg in &args.items {
+                name_variables(arg, names)?;
+            }
+            Ok(())
+        }
+    }
+}
+
+/// The number of a variable, or the next one. A list of 2^32 - 1 names is full.
+fn number_of(v: u32, names: &mut Vec<u32>) -> Result<u32, OutOfMemory>
+    requires { IsDistinct names.old.items }
+    ensures distinct { OnOk result (IsDistinct names.new.items) }
+    ensures renamed { IfOk result (λ number.
+        IsRenamed names.old.items names.new.items (var v) (var number)) }
+    ensures order { OnOk result (names.new.items ≡ with_variables names.old.items (var v)) }
 {
     let next = names.len();
     if next >= 4_294_967_295 {
@@ -126,9 +188,9 @@ fn number_variable(v: u32, names: &mut Vec<u32>) -> Result<Term, OutOfMemory>
     }
     for (i, name) in names.iter().enumerate() {
         if *name == v {
-            return Ok(Term::Var(i as u32));
+            return Ok(i as u32);
         }
     }
     names.push(v)?;
-    Ok(Term::Var(next as u32))
+    Ok(next as u32)
 }

@@ -10,4 +10,4 @@ returns-in_err-peaks c =
     rw (p.1, p.2) (record { answers = refused_for _ c.args.joins.now _ _ refl _ c.in_err-peaks.ensures })
 
 pub returns : goal.returns
-returns c = record { answers = then_answers _ _ (λ u. u) _ c.join_check.result (listed_for _ _ _ c.in_ok-peaks.ensures) (rw c.deref.ensures.value at c.join_check.ensures.answers) }
+returns c = record { answers = then_answers _ _ (λ u. u) _ c.peaks_are_joined.result (listed_for _ _ _ c.in_ok-peaks.ensures) (rw c.deref.ensures.value at c.peaks_are_joined.ensures) }

@@ -12,19 +12,19 @@ use Rattle.completion.proofs.LoopLaws.{read_pair, next_pairs, find_next, find_ru
 use Rattle.completion.proofs.closing.find.Goals as goal
 
 pub treat-requires-clause-left : goal.treat-requires-clause-left
-treat-requires-clause-left c =
+treat-requires-clause-left g c =
     let T : PlacedPeak → Type 0 = λ p. IsTermOver c.args.trs.now.arities p.left in
     subst T (sym c.peak.view_is)
     (read_pair c.args.trs.now.arities c.args.peaks.now c.loop-peak.peak-index c.peak-item.result c.requires c.loop-peak-test.true c.peak-item.is).0
 
 pub treat-requires-clause-right : goal.treat-requires-clause-right
-treat-requires-clause-right c =
+treat-requires-clause-right g c =
     let T : PlacedPeak → Type 0 = λ p. IsTermOver c.args.trs.now.arities p.right in
     subst T (sym c.peak.view_is)
     (read_pair c.args.trs.now.arities c.args.peaks.now c.loop-peak.peak-index c.peak-item.result c.requires c.loop-peak-test.true c.peak-item.is).1
 
 pub returns-in-Added : goal.returns-in-Added
-returns-in-Added c =
+returns-in-Added g c =
     let T : CodeOutcome → PlacedPeak → Type 0 = λ made p. IsOutcome (Treats c.args.trs.now.arities (GreaterBy c.args.order.now) c.args.trs.now.rules c.loop-peak.left (sides p)) made in
     let R : CodeOutcome → Type 0 = λ made. IsOutcome (Treats c.args.trs.now.arities (GreaterBy c.args.order.now) c.args.trs.now.rules c.loop-peak.left (pair_of (tree c.peak.inside.left) (tree c.peak.inside.right))) made in
     find_rule (GreaterBy c.args.order.now) c.args.trs.now (map sides c.args.peaks.now) c.args.units c.loop-peak.left (map sides (drop c.loop-peak.peak-index c.args.peaks.now)) (sides c.peak-item.result)
@@ -33,7 +33,7 @@ returns-in-Added c =
     (subst (T (outcome.Added c.in-Added.rule c.in-Added.more)) c.peak.view_is (subst R c.in-Added.is c.in_ok-more.ensures))
 
 pub returns-in-Ended : goal.returns-in-Ended
-returns-in-Ended c =
+returns-in-Ended g c =
     let T : CodeOutcome → PlacedPeak → Type 0 = λ made p. IsOutcome (Treats c.args.trs.now.arities (GreaterBy c.args.order.now) c.args.trs.now.rules c.loop-peak.left (sides p)) made in
     let R : CodeOutcome → Type 0 = λ made. IsOutcome (Treats c.args.trs.now.arities (GreaterBy c.args.order.now) c.args.trs.now.rules c.loop-peak.left (pair_of (tree c.peak.inside.left) (tree c.peak.inside.right))) made in
     find_end (GreaterBy c.args.order.now) c.args.trs.now (map sides c.args.peaks.now) c.args.units c.loop-peak.left (map sides (drop c.loop-peak.peak-index c.args.peaks.now)) (sides c.peak-item.result)
@@ -42,7 +42,7 @@ returns-in-Ended c =
     (subst (T (outcome.Ended c.in-Ended.why)) c.peak.view_is (subst R c.in-Ended.is c.in_ok-more.ensures))
 
 pub loop-peak-preserved : goal.loop-peak-preserved
-loop-peak-preserved c =
+loop-peak-preserved g c =
     let T : CodeOutcome → PlacedPeak → Type 0 = λ made p. IsOutcome (Treats c.args.trs.now.arities (GreaterBy c.args.order.now) c.args.trs.now.rules c.loop-peak.left (sides p)) made in
     let R : CodeOutcome → Type 0 = λ made. IsOutcome (Treats c.args.trs.now.arities (GreaterBy c.args.order.now) c.args.trs.now.rules c.loop-peak.left (pair_of (tree c.peak.inside.left) (tree c.peak.inside.right))) made in
     find_next (GreaterBy c.args.order.now) c.args.trs.now (map sides c.args.peaks.now) c.args.units c.loop-peak.left (map sides (drop c.loop-peak.peak-index c.args.peaks.now)) (sides c.peak-item.result)
@@ -51,6 +51,6 @@ loop-peak-preserved c =
     (subst (T (outcome.Passed c.in-Passed.more)) c.peak.view_is (subst R c.in-Passed.is c.in_ok-more.ensures))
 
 pub returns : goal.returns
-returns c =
+returns g c =
     find_none (GreaterBy c.args.order.now) c.args.trs.now (map sides c.args.peaks.now) c.args.units c.loop-peak.left (map sides (drop c.loop-peak.peak-index c.args.peaks.now))
     (ap (map sides) (drop_all c.loop-peak.peak-index c.args.peaks.now c.loop-peak-test.false)) c.loop-peak.invariant

@@ -5,4 +5,4 @@ use Rattle.completion.proofs.LoopLaws.{FindsOn}
 use Rattle.completion.proofs.closing.find.Given as goal
 
 abbrev pub invariant-loop-peak : goal.invariant-loop-peak
-invariant-loop-peak l = FindsOn (GreaterBy l.order) l.trs (map sides l.peaks) l.fn.units l.left (map sides (drop l.peak-index l.peaks))
+invariant-loop-peak g l = FindsOn (GreaterBy l.order) l.trs (map sides l.peaks) l.fn.units l.left (map sides (drop l.peak-index l.peaks))

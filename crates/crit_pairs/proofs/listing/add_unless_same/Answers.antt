@@ -1,5 +1,4 @@
-use Rattle.std.proofs.Common.{◌∙◌, ap, subst, sym}
-use Rattle.trs_defs.specs.Renaming.{shifted}
+use Rattle.std.proofs.Common.{◌∙◌, ap, subst}
 use Rattle.trs_defs.specs.System.{RewriteRule}
 use Rattle.trs_core.specs.View.{tree}
 use Rattle.crit_pairs.specs.Sides.{DoNotMeet}
@@ -8,7 +7,7 @@ use Rattle.crit_pairs.proofs.Keeping.{none_kept}
 use Rattle.crit_pairs.proofs.listing.add_unless_same.Goals as goal
 
 pub returns-then-clash-clause-moves : goal.returns-then-clash-clause-moves
-returns-then-clash-clause-moves c =
+returns-then-clash-clause-moves g c =
     let (inner, numbered) = rule_at c.args.rules.now.rules c.args.i c.requires.inner in
     let left = ap (λ (r : RewriteRule). r.left) (c.inner.view_is ∙ c.apart-inner.ensures inner numbered) in
     let none = subst (λ t. DoNotMeet (tree c.args.part.now) t) left (c.clash.ensures c.if-clash.true) in

@@ -4,4 +4,4 @@ use Rattle.crit_pairs.specs.Walk.{Reaches}
 use Rattle.crit_pairs.proofs.listing.list_peaks.Given as goal
 
 abbrev pub invariant-loop-j : goal.invariant-loop-j
-invariant-loop-j l = Reaches l.trs.rules l.most [] 0 (spots l.trs.rules) l.peaks (spots_from l.trs.rules l.j (drop l.j l.trs.rules))
+invariant-loop-j g l = Reaches l.trs.rules l.most [] 0 (spots l.trs.rules) l.peaks (spots_from l.trs.rules l.j (drop l.j l.trs.rules))

@@ -6,26 +6,26 @@ use Rattle.closed_pairs.proofs.PairsOfLists.{both_read}
 use Rattle.rule_label.proofs.labelled.peaks_are_decreasing.Goals as goal
 
 pub returns-in_err-ranks_are_counted : goal.returns-in_err-ranks_are_counted
-returns-in_err-ranks_are_counted c =
+returns-in_err-ranks_are_counted g c =
     let p = err_from_is_err_and c.from_residual.result c.from_residual.ensures.1 in
     rw (p.1, p.2) (refused_first _ _ _ c.in_err-ranks_are_counted.ensures)
 
 pub returns-then-joins-peaks : goal.returns-then-joins-peaks
-returns-then-joins-peaks c = goes_on tt _ c.in_ok-ranks_are_counted.ensures (stops _ (lacks c.if-joins-peaks.true))
+returns-then-joins-peaks g c = goes_on tt _ c.in_ok-ranks_are_counted.ensures (stops _ (lacks c.if-joins-peaks.true))
 
 pub returns-in_err-peak_is_decreasing : goal.returns-in_err-peak_is_decreasing
-returns-in_err-peak_is_decreasing c =
+returns-in_err-peak_is_decreasing g c =
     let at = both_read c.args.peaks.now c.args.joins.now c.loop-n.n c.index-peaks-n.result c.index-joins-n.result c.if-joins-peaks.false c.loop-n-test.true c.index-peaks-n.is c.index-joins-n.is in
     let p = err_from_is_err_and c.from_residual-in_err-peak_is_decreasing.result c.from_residual-in_err-peak_is_decreasing.ensures.1 in
     rw (p.1, p.2) (refused_later _ _ _ tt c.in_ok-ranks_are_counted.ensures (refused_later _ _ _ tt (holds c.if-joins-peaks.false)
     (item_refused _ _ c.loop-n.n _ _ at c.in_err-peak_is_decreasing.ensures c.loop-n.invariant)))
 
 pub loop-n-preserved : goal.loop-n-preserved
-loop-n-preserved c =
+loop-n-preserved g c =
     let at = both_read c.args.peaks.now c.args.joins.now c.loop-n.n c.index-peaks-n.result c.index-joins-n.result c.if-joins-peaks.false c.loop-n-test.true c.index-peaks-n.is c.index-joins-n.is in
     one_more_passed _ _ c.loop-n.n _ at c.in_ok-peak_is_decreasing.ensures c.loop-n.invariant
 
 pub returns : goal.returns
-returns c =
+returns g c =
     goes_on tt _ c.in_ok-ranks_are_counted.ensures (goes_on tt _ (holds c.if-joins-peaks.false)
     (all_passed _ _ c.loop-n.n (none_left c.args.peaks.now c.args.joins.now c.loop-n.n c.loop-n-test.false) c.loop-n.invariant))

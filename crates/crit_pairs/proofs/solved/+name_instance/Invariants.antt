@@ -1,0 +1,13 @@
+use Rattle.std.proofs.Common.{◌≡◌, drop}
+use Rattle.trs_defs.specs.Substitution.{apply, apply_all}
+use Rattle.trs_defs.specs.Variable.{with_variables, with_variables_of_all}
+use Rattle.trs_core.specs.View.{tree, forest}
+use Rattle.crit_pairs.specs.Meeting.{solution}
+use Rattle.crit_pairs.specs.Sides.{IsDistinct}
+use Rattle.crit_pairs.proofs.solved.+name_instance.Given as goal
+
+abbrev pub invariant-loop-arg : goal.invariant-loop-arg
+invariant-loop-arg l = record {
+  distinct : IsDistinct l.names.items;
+  order : with_variables_of_all l.names.items (apply_all (solution l.bindings) (forest (drop l.arg-index l.arg-items))) ≡ with_variables l.fn.names.items (apply (solution l.bindings) (tree l.t));
+}

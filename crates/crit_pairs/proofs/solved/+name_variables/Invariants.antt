@@ -1,0 +1,11 @@
+use Rattle.std.proofs.Common.{◌≡◌, drop}
+use Rattle.trs_defs.specs.Variable.{with_variables, with_variables_of_all}
+use Rattle.trs_core.specs.View.{tree, forest}
+use Rattle.crit_pairs.specs.Sides.{IsDistinct}
+use Rattle.crit_pairs.proofs.solved.+name_variables.Given as goal
+
+abbrev pub invariant-loop-arg : goal.invariant-loop-arg
+invariant-loop-arg l = record {
+  distinct : IsDistinct l.names.items;
+  order : with_variables_of_all l.names.items (forest (drop l.arg-index l.arg-items)) ≡ with_variables l.fn.names.items (tree l.t);
+}
