@@ -49,8 +49,8 @@ fn cover_rest<T: Coefficients>(
     b: &Term,
     from: Option<u32>,
 ) -> Result<(), NotCovered>
+    requires { AreCovered (T.coefficient table.now) (tree a.now) (tree b.now) from }
     ensures covered { IfOk result (λ _.
-        AreCovered (T.coefficient table.now) (tree a.now) (tree b.now) from →
         Covers (T.coefficient table.now) (tree a.now) (tree b.now)) }
     ensures not_covered { IfErr result (λ _.
         Covers (T.coefficient table.now) (tree a.now) (tree b.now) → ⊥) }
