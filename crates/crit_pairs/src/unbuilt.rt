@@ -1,11 +1,12 @@
 //! Tops of critical peaks that are not built.
-ghost use Rattle.std.specs.Prelude.{IfOk};
+ghost use Rattle.std.specs.Prelude.{◌≡◌, ℕ, IfOk, map};
 ghost use Rattle.trs_defs.specs.Substitution.{apply, bound};
 ghost use Rattle.trs_core.specs.View.{tree};
 ghost use Rattle.crit_pairs.specs.Meeting.{solution};
 ghost use Rattle.crit_pairs.specs.InOrder.{in_order};
 ghost use Rattle.crit_pairs.specs.Overlapping.{substitution};
 ghost use Rattle.crit_pairs.specs.Sides.{AreRenumbered};
+ghost use Rattle.crit_pairs.specs.UnbuiltTop.{seen_pair, bound_pair, seen_substitution};
 
 use crate::meeting::Binding;
 use crate::overlapping::OverlapUnifier;
@@ -17,10 +18,24 @@ use std::snapshot::Snapshot;
 use trs_core::{OutOfMemory, Term};
 use trs_unify::{Unifier, no_names};
 
+/// A binding as proofs see it.
+#[derive(Drop)]
+struct SeenBinding {
+    variable: u32,
+    term: Snapshot<Term>,
+}
+
+/// A most general unifier as proofs see it.
+#[derive(Drop)]
+enum SeenUnifier {
+    Bound(Vec<SeenBinding>),
+    Shared(Snapshot<Unifier>),
+}
+
 /// The top of a critical peak that is not built: it takes no memory, and only proofs know the term.
 #[derive(Drop)]
 pub struct UnbuiltTop {
-    unifier: Snapshot<OverlapUnifier>,
+    unifier: Snapshot<SeenUnifier>,
     outer_left: Snapshot<Term>,
 }
 
@@ -31,22 +46,54 @@ impl Top for UnbuiltTop {
 }
 
 impl UnbuiltTop {
-    ghost use Rattle.std.specs.Prelude.{◌≡◌};
+    ghost use Rattle.std.specs.Prelude.{◌≡◌, IfOk};
     ghost use Rattle.trs_defs.specs.Substitution.{apply};
     ghost use Rattle.trs_core.specs.View.{tree};
     ghost use Rattle.crit_pairs.specs.InOrder.{in_order};
     ghost use Rattle.crit_pairs.specs.Overlapping.{substitution};
     ghost use Rattle.crit_pairs.specs.UnbuiltTop.{unbuilt_tree};
 
-    fn of(unifier: &OverlapUnifier, outer_left: &Term) -> UnbuiltTop
-        ensures { unbuilt_tree result
-            ≡ in_order (apply (substitution unifier.now) (tree outer_left.now)) }
+    /// The instance of the outer left side.
+    fn of(
+        alloc: Global,
+        unifier: &OverlapUnifier,
+        outer_left: &Term,
+    ) -> Result<UnbuiltTop, OutOfMemory>
+        ensures { IfOk result (λ top. unbuilt_tree top
+            ≡ in_order (apply (substitution unifier.now) (tree outer_left.now))) }
     {
-        UnbuiltTop {
-            unifier: Snapshot::of(unifier),
+        let seen = seen_unifier(alloc, unifier)?;
+        Ok(UnbuiltTop {
+            unifier: Snapshot::of(&seen),
             outer_left: Snapshot::of(outer_left),
-        }
+        })
     }
+}
+
+fn seen_unifier(alloc: Global, unifier: &OverlapUnifier) -> Result<SeenUnifier, OutOfMemory>
+    ensures { IfOk result (λ seen. (v : ℕ) →
+        seen_substitution seen v ≡ substitution unifier.now v) }
+{
+    match unifier {
+        OverlapUnifier::Bound(bindings) => {
+            let seen = seen_bindings(alloc, bindings)?;
+            Ok(SeenUnifier::Bound(seen))
+        }
+        OverlapUnifier::Shared(found) => Ok(SeenUnifier::Shared(Snapshot::of(found))),
+    }
+}
+
+fn seen_bindings(alloc: Global, bindings: &[Binding]) -> Result<Vec<SeenBinding>, OutOfMemory>
+    ensures { IfOk result (λ seen. map seen_pair seen.items ≡ map bound_pair bindings.now) }
+{
+    let mut seen = Vec::with_capacity(alloc, bindings.len())?;
+    for binding in bindings {
+        seen.push(SeenBinding {
+            variable: binding.variable,
+            term: Snapshot::of(binding.term),
+        })?;
+    }
+    Ok(seen)
 }
 
 /// The variables of the top get their numbers, and the other two terms are built.
@@ -60,7 +107,7 @@ impl PeakTop for UnbuiltTop {
     ) -> Result<Sides<UnbuiltTop>, OutOfMemory> {
         let (first, second) = results(alloc, unifier, top, left, right)?;
         Ok(Sides {
-            top: UnbuiltTop::of(unifier, top),
+            top: UnbuiltTop::of(alloc, unifier, top)?,
             left: first,
             right: second,
         })

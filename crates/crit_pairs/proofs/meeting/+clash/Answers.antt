@@ -1,6 +1,6 @@
-use Rattle.std.proofs.Common.{◌≡◌, [], arith, ap, length}
-use Rattle.trs_defs.specs.Tree.{app, trees}
-use Rattle.trs_core.specs.View.{tree, forest}
+use Rattle.std.proofs.Common.{[], arith, ap, length}
+use Rattle.trs_defs.specs.Tree.{trees}
+use Rattle.trs_core.specs.View.{tree}
 use Rattle.rewrite_core.proofs.RedexWalk.{applied}
 use Rattle.crit_pairs.proofs.Bindings.{solves_nothing, clash, arguments_apart}
 use Rattle.crit_pairs.proofs.meeting.+clash.Goals.{then-f-g-via-then-f-g, then-f-g-via-else-f-g+then-len}
