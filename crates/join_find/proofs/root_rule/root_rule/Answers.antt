@@ -15,7 +15,7 @@ use Rattle.join_find.proofs.root_rule.root_rule.Goals as goal
 
 pub returns-in_default-clause-rule : goal.returns-in_default-clause-rule
 returns-in_default-clause-rule c =
-    no_step_of_variable c.args.trs.now c.systems_are_valid.ensures (tree c.args.from.now) (tree_at c.args.pool.now c.args.ids.1) c.in_default.field-0 (ap tree c.in_default.is)
+    no_step_of_variable c.args.trs.now c.systems_are_valid.ensures.valid (tree c.args.from.now) (tree_at c.args.pool.now c.args.ids.1) c.in_default.field-0 (ap tree c.in_default.is)
 
 pub leads-requires-clause-from : goal.leads-requires-clause-from
 leads-requires-clause-from c = rw c.loop-k.invariant.same (stands_within c.args.pool.now c.args.ids.0 (tree c.args.from.now) c.requires.from)
@@ -39,7 +39,7 @@ returns-then-branch-clause-rule c =
     let are = numbers (goal.at.returns-then-branch-clause-rule c).After-with_root-k-items in
     record {
       steps = (test (goal.at.returns-then-branch-clause-rule c).In_ok-leads).0 c.if-branch.true;
-      least = no_step_before c.args.trs.now c.systems_are_valid.ensures (tree c.args.from.now) (tree_at c.args.pool.now c.args.ids.1) c.in-App.f (trees c.in-App.field-1) (ap tree c.in-App.is) i (slice_index ks i)
+      least = no_step_before c.args.trs.now c.systems_are_valid.ensures.valid (tree c.args.from.now) (tree_at c.args.pool.now c.args.ids.1) c.in-App.f (trees c.in-App.field-1) (ap tree c.in-App.is) i (slice_index ks i)
           (subst (λ ns. slice_get ns i ≡ Some (slice_index ks i)) are (slice_get-get_or ks i 0 c.loop-k-test.true))
           (subst (λ ns. All (λ j. StepsAt c.args.trs.now.rules [] j (tree c.args.from.now) (tree_at c.args.pool.now c.args.ids.1) → ⊥) (take i ns)) are c.loop-k.invariant.none);
     }
@@ -55,5 +55,5 @@ pub returns-clause-rule : goal.returns-clause-rule
 returns-clause-rule c =
     let ks = c.with_root-k-items.result.now in
     let are = numbers (goal.at.returns-clause-rule c).After-with_root-k-items in
-    no_step_at_all c.args.trs.now c.systems_are_valid.ensures (tree c.args.from.now) (tree_at c.args.pool.now c.args.ids.1) c.in-App.f (trees c.in-App.field-1) (ap tree c.in-App.is)
+    no_step_at_all c.args.trs.now c.systems_are_valid.ensures.valid (tree c.args.from.now) (tree_at c.args.pool.now c.args.ids.1) c.in-App.f (trees c.in-App.field-1) (ap tree c.in-App.is)
     (subst (λ ns. All (λ j. StepsAt c.args.trs.now.rules [] j (tree c.args.from.now) (tree_at c.args.pool.now c.args.ids.1) → ⊥) ns) (take_all c.loop-k.k-index ks c.loop-k-test.false ∙ are) c.loop-k.invariant.none)
