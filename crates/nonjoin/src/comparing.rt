@@ -7,7 +7,7 @@ ghost use Rattle.nonjoin.specs.Apart.{AreApart};
 
 use std::alloc::Global;
 use term_pool::RulesByRoot;
-use trs_caps::cap;
+use trs_caps::KnownCaps;
 use trs_core::{OutOfMemory, Term, Trs};
 
 /// Whether the caps of two terms, their variables read as constants, do not unify. Then the terms
@@ -21,7 +21,8 @@ pub fn apart(alloc: Global, trs: &Trs, a: &Term, b: &Term) -> Result<bool, OutOf
         → IsJoinable (Step trs.now.rules) (tree a.now) (tree b.now) → ⊥) }
 {
     let by_root = RulesByRoot::new(alloc, trs)?;
-    let first = cap(alloc, &by_root, a, true)?;
-    let second = cap(alloc, &by_root, b, true)?;
+    let mut known = KnownCaps::new(alloc);
+    let first = known.cap(alloc, &by_root, a, true)?;
+    let second = known.cap(alloc, &by_root, b, true)?;
     Ok(first.is_disjoint(&second))
 }

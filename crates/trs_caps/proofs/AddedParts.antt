@@ -1,5 +1,5 @@
 -- Parts of a cap, added one after another.
-use Rattle.std.proofs.Common.{◌≡◌, ℕ, ◌+◌, ◌<◌, ◌≤◌, ◌↔◌, Bool, false, IsTrue, List, [], ◌∷◌, ◌++◌, Option, Some, None, length, drop, get_or, suc, refl, ap, sym, ◌∙◌, subst, arith, nat_cmp, Vec, Global, Result, Ok, Err, IfOk}
+use Rattle.std.proofs.Common.{◌≡◌, ℕ, ◌+◌, ◌<◌, ◌≤◌, ◌↔◌, Bool, false, IsTrue, List, [], ◌∷◌, ◌++◌, Option, Some, None, length, drop, get_or, zero, suc, refl, ap, sym, ◌∙◌, subst, arith, nat_cmp, Vec, Global, Result, Ok, Err, IfOk}
 use Rattle.std.proofs.lemmas.List.{drop_all}
 use Rattle.std.proofs.lemmas.Grind.{common_steps}
 use Rattle.std.specs.Borrow.{Bor}
@@ -45,7 +45,7 @@ added old new v c here others = record {
   ];
 }
 
-not_at : (v w : ℕ) → (w ≡ v → ⊥) → is_at (nat_cmp v) w ≡ false
+pub not_at : (v w : ℕ) → (w ≡ v → ⊥) → is_at (nat_cmp v) w ≡ false
 not_at v w other = grind (arith, common_steps)
 
 -- parts stand at other variables as before
@@ -124,6 +124,27 @@ pub unlike_heads : (old : ℕ → List HoledTree) (c : HoledTree) (l : Tree) (cs
 unlike_heads old c l cs ts f g is_c is_l differ = rw (is_c, is_l) (record {
   none = λ τ holds p. differ (fits_root f g (holed_all cs) (apply_all τ (forest ts)) p) (each_length τ cs ts (args_fit f g (holed_all cs) (apply_all τ (forest ts)) p));
 })
+
+-- what no instance fits, whatever terms the variables have
+pub never_meets : (c : HoledTree) (l : Tree) → Refutes c l (λ v. []) → MeetsLeft c l → ⊥
+never_meets c l refutes (τ, p) = refutes.none τ (λ v. tt) p
+
+part_fits : (τ : ℕ → Tree) (cs : List Cap) (ts : List Term) (i : ℕ) (c : Cap) (t : Term) → i < length cs → c ≡ get_or cs i c → t ≡ get_or ts i t
+    → EachFits (holed_all cs) (apply_all τ (forest ts)) → Fits (holed c) (apply τ (tree t))
+part_fits τ [] ts i c t h is_c is_t p = absurd (omega arith)
+part_fits τ (d ∷ cs) [] i c t h is_c is_t p = elim p [ ]
+part_fits τ (d ∷ cs) (u ∷ ts) zero c t h is_c is_t p =
+    let first = first_fits (holed d) (holed_all cs) (apply τ (tree u)) (apply_all τ (forest ts)) p in
+    subst (λ z. Fits (holed z) (apply τ (tree t))) (sym is_c) (subst (λ z. Fits (holed d) (apply τ (tree z))) (sym is_t) first.0)
+part_fits τ (d ∷ cs) (u ∷ ts) (suc i) c t h is_c is_t p =
+    part_fits τ cs ts i c t (omega arith) is_c is_t (first_fits (holed d) (holed_all cs) (apply τ (tree u)) (apply_all τ (forest ts)) p).1
+
+-- where an argument meets none, the whole does not
+pub part_never_meets : (c : HoledTree) (l : Tree) (cs : List Cap) (ts : List Term) (f g i : ℕ) (part : Cap) (t : Term) → c ≡ symbol f (holed_all cs) → l ≡ app g (forest ts) → i < length cs
+    → part ≡ get_or cs i part → t ≡ get_or ts i t → (MeetsLeft (holed part) (tree t) → ⊥) → MeetsLeft c l → ⊥
+part_never_meets c l cs ts f g i part t is_c is_l h is_part is_t never (τ, p) =
+    let whole : Fits (symbol f (holed_all cs)) (apply τ (app g (forest ts))) = subst (λ z. Fits (symbol f (holed_all cs)) (apply τ z)) is_l (subst (λ z. Fits z (apply τ l)) is_c p) in
+    never (τ, part_fits τ cs ts i part t h is_part is_t (args_fit f g (holed_all cs) (apply_all τ (forest ts)) whole))
 
 pub hole_walks : (old : ℕ → List HoledTree) (c : HoledTree) (l : Tree) → c ≡ hole → Adds c l old old
 hole_walks old c l is = rw is (record { sound = λ τ h. (h, fits_hole); complete = λ τ h p. h })

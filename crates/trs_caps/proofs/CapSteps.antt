@@ -8,6 +8,7 @@ use Rattle.trs_core.specs.View.{tree, forest}
 use Rattle.trs_caps.specs.Caps.{IsNext}
 use Rattle.trs_caps.specs.HoledTree.{HoledTree, HoledTrees, hole, own, symbol, none, more}
 use Rattle.trs_caps.specs.HoledCap.{MeetsSome, IsHoledCap, AreHoledCaps, fixed_variable, free_variable, symbol_kept, symbol_opened, no_holed, one_holed}
+use Rattle.trs_caps.specs.KnownCaps.{IsWhole}
 use Rattle.trs_caps.specs.Numbered.{IsNumbered, AreNumbered, number_hole, leave_own, number_symbol, number_none, number_more}
 use Rattle.trs_caps.specs.declared.holed.Cap.{Cap}
 use Rattle.trs_caps.specs.View.{holed, holed_all}
@@ -41,6 +42,11 @@ module _ (rules : List RewriteRule) (fixed : Bool) where
 
   all_caps : (args : List Term) (items : List Cap) (k : ℕ) → length args ≤ k → AreHoledCaps rules fixed (forest (take k args)) (holed_all items) → AreHoledCaps rules fixed (forest args) (holed_all items)
   all_caps args items k h caps = rw (take_all k args h) at caps
+
+  -- a symbol over the caps of its arguments
+  pub whole_cap : (t : Tree) (f : ℕ) (args : List Term) (items : List Cap) (k : ℕ) → t ≡ app f (forest args) → length args ≤ k → AreHoledCaps rules fixed (forest (take k args)) (holed_all items)
+      → IsWhole rules fixed t (symbol f (holed_all items))
+  whole_cap t f args items k is h caps = record { root = f; args = forest args; caps = holed_all items; term = is; cap = refl; each = all_caps args items k h caps }
 
   pub fixed_stays : (t : Tree) (v : ℕ) → t ≡ var v → fixed ≡ true → IsHoledCap rules fixed t (own v)
   fixed_stays t v is e = rw is (fixed_variable e)

@@ -7,3 +7,4 @@ pub mod AddedParts
 pub mod CapSteps
 pub mod CapLaws
 pub mod Rows
+pub mod KnownSteps

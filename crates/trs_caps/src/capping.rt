@@ -1,4 +1,4 @@
-ghost use Rattle.std.specs.Prelude.{◌≡◌, ◌≤◌, ℕ, false, true, IfOk, IsTrue};
+ghost use Rattle.std.specs.Prelude.{◌≡◌, ◌≤◌, ℕ, Bool, List, false, true, IfOk, OnOk, IsTrue};
 ghost use Rattle.trs_defs.specs.Tree.{Tree, var};
 ghost use Rattle.trs_defs.specs.Variable.{has_var};
 ghost use Rattle.trs_defs.specs.Size.{size_of};
@@ -10,12 +10,15 @@ ghost use Rattle.trs_core.specs.View.{tree};
 ghost use Rattle.trs_caps.specs.Caps.{IsCapOf};
 ghost use Rattle.trs_caps.specs.HoledCap.{IsHoledCap, MeetsSome, HasRoot};
 ghost use Rattle.trs_caps.specs.HoledTree.{Fits};
+ghost use Rattle.trs_caps.specs.KnownCaps.{AreKnown, IsKnown, IsIdOf, IsWhole};
 ghost use Rattle.trs_caps.specs.View.{holed};
 
+use crate::knowing::{argument, note, noted};
 use crate::naming::{number, own_variables};
-use crate::{Cap, Parts};
+use crate::{Cap, KnownCaps, Parts};
 use std::alloc::Global;
-use term_pool::RulesByRoot;
+use std::collections::BTreeMap;
+use term_pool::{Pool, RulesByRoot};
 use trs_core::{OutOfMemory, Rule, Term, Trs};
 
 /// The cap of a term: what stays of it whatever steps are made, in its instances, or, where its
@@ -50,19 +53,59 @@ pub fn cap(alloc: Global, by_root: &RulesByRoot, t: &Term, fixed: bool) -> Resul
     ensures instances { IfOk result (λ c. fixed ≡ false → (σ : ℕ → Tree) (v : Tree)
         → Reaches (Step by_root.now.rules) (apply σ (tree t.now)) v → Fits (holed c) v) }
 {
-    cap_of(alloc, by_root, by_root.rules(), t, fixed)
+    let mut known = KnownCaps::new(alloc);
+    known.cap(alloc, by_root, t, fixed)
+}
+
+impl KnownCaps {
+    /// The cap of a term, by what is known of earlier ones. What is found out is noted.
+    pub fn cap(
+        &mut self,
+        alloc: Global,
+        by_root: &RulesByRoot,
+        t: &Term,
+        fixed: bool,
+    ) -> Result<Cap, OutOfMemory>
+        requires { IsKnown by_root.now.rules fixed self.old }
+        ensures cap { IfOk result (λ c.
+            IsHoledCap by_root.now.rules fixed (tree t.now) (holed c)) }
+        ensures term { IfOk result (λ c. (v : Tree)
+            → Reaches (Step by_root.now.rules) (tree t.now) v → Fits (holed c) v) }
+        ensures instances { IfOk result (λ c. fixed ≡ false → (σ : ℕ → Tree) (v : Tree)
+            → Reaches (Step by_root.now.rules) (apply σ (tree t.now)) v → Fits (holed c) v) }
+        ensures known { OnOk result (IsKnown by_root.now.rules fixed self.new) }
+    {
+        let id = self.id(alloc, by_root, t)?;
+        let rules = by_root.rules();
+        cap_of(
+            alloc,
+            by_root,
+            rules,
+            &self.pool,
+            t,
+            id,
+            fixed,
+            &mut self.opens,
+        )
+    }
 }
 
 fn cap_of(
     alloc: Global,
     by_root: &RulesByRoot,
     rules: &[Rule],
+    pool: &Pool,
     t: &Term,
+    id: Option<u32>,
     fixed: bool,
+    opens: &mut BTreeMap<u32, bool>,
 ) -> Result<Cap, OutOfMemory>
     requires rules { rules.now ≡ by_root.now.rules }
     requires valid { IsSystem by_root.now }
-    ensures { IfOk result (λ c. IsHoledCap by_root.now.rules fixed (tree t.now) (holed c)) }
+    requires id { IsIdOf pool.now id (tree t.now) }
+    requires known { AreKnown by_root.now.rules fixed pool.now opens.old }
+    ensures cap { IfOk result (λ c. IsHoledCap by_root.now.rules fixed (tree t.now) (holed c)) }
+    ensures known { OnOk result (AreKnown by_root.now.rules fixed pool.now opens.new) }
 {
     match t {
         Term::Var(v) => {
@@ -74,17 +117,48 @@ fn cap_of(
         }
         Term::App(f, args) => {
             let mut items = Vec::with_capacity(alloc, args.items.len())?;
-            for arg in &args.items {
-                items.push(cap_of(alloc, by_root, rules, arg, fixed)?)?;
+            for (i, arg) in args.items.iter().enumerate() {
+                let part = argument(pool, id, i);
+                items.push(cap_of(alloc, by_root, rules, pool, arg, part, fixed, opens)?)?;
             }
             let whole = Cap::Symbol(*f, Parts { items });
-            if meets_some(alloc, by_root, rules, *f, &whole)? {
+            if is_opened(alloc, by_root, rules, *f, &whole, id, opens)? {
                 Ok(Cap::Open)
             } else {
                 Ok(whole)
             }
         }
     }
+}
+
+/// Whether a cap with this root meets a left side, by what is known of the id of its term.
+fn is_opened(
+    alloc: Global,
+    by_root: &RulesByRoot,
+    rules: &[Rule],
+    f: u32,
+    cap: &Cap,
+    id: Option<u32>,
+    opens: &mut BTreeMap<u32, bool>,
+) -> Result<bool, OutOfMemory>
+    requires rules { rules.now ≡ by_root.now.rules }
+    requires valid { IsSystem by_root.now }
+    requires root { HasRoot f (holed cap.now) }
+    ensures meets { (fixed : Bool) (pool : List Tree) (t : Tree)
+        → AreKnown by_root.now.rules fixed pool opens.old → IsIdOf pool id t
+        → IsWhole by_root.now.rules fixed t (holed cap.now)
+        → IfOk result (λ yes. MeetsSome (holed cap.now) by_root.now.rules yes) }
+    ensures known { (fixed : Bool) (pool : List Tree) (t : Tree)
+        → AreKnown by_root.now.rules fixed pool opens.old → IsIdOf pool id t
+        → IsWhole by_root.now.rules fixed t (holed cap.now)
+        → OnOk result (AreKnown by_root.now.rules fixed pool opens.new) }
+{
+    if let Some(yes) = noted(id, opens) {
+        return Ok(yes);
+    }
+    let yes = meets_some(alloc, by_root, rules, f, cap)?;
+    note(id, yes, opens)?;
+    Ok(yes)
 }
 
 /// Whether a cap with this root meets a left side.

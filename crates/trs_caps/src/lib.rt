@@ -7,8 +7,10 @@ mod agreeing;
 mod capping;
 mod clashing;
 mod holed;
+mod knowing;
 mod meeting;
 mod naming;
 
 pub use capping::{cap, tcap};
 pub use holed::{Cap, Parts};
+pub use knowing::KnownCaps;

@@ -19,11 +19,37 @@ impl Cap {
     pub fn meets(&self, alloc: Global, left: &Term) -> Result<bool, OutOfMemory>
         ensures { IfOk result (λ yes. IsTrue yes ↔ MeetsLeft (holed self.now) (tree left.now)) }
     {
+        if self.differs(left) {
+            return Ok(false);
+        }
         let mut parts = BTreeMap::new(alloc);
         if !walk(alloc, self, left, &mut parts)? {
             return Ok(false);
         }
         all_agree(alloc, parts)
+    }
+
+    /// Whether the two have different roots at a place. It takes no memory, so that it comes first:
+    /// most left sides differ.
+    fn differs(&self, left: &Term) -> bool
+        ensures { IsTrue result → MeetsLeft (holed self.now) (tree left.now) → ⊥ }
+    {
+        match (self, left) {
+            (Cap::Open, _) => false,
+            (_, Term::Var(_)) => false,
+            (Cap::Own(_), Term::App(_, _)) => true,
+            (Cap::Symbol(f, cs), Term::App(g, ts)) => {
+                if *f != *g || cs.items.len() != ts.items.len() {
+                    return true;
+                }
+                for (i, c) in cs.items.iter().enumerate() {
+                    if c.differs(&ts.items[i]) {
+                        return true;
+                    }
+                }
+                false
+            }
+        }
     }
 }
 

@@ -1,34 +1,63 @@
 use Rattle.std.proofs.Common.{◌≡◌, ap, arith, refl, true, false}
 use Rattle.trs_defs.specs.Tree.{app}
 use Rattle.trs_core.specs.View.{tree, forest}
+use Rattle.term_pool.proofs.ArgumentIds.{next_smaller}
 use Rattle.trs_caps.specs.HoledTree.{symbol}
 use Rattle.trs_caps.specs.HoledCap.{MeetsSome, no_holed}
 use Rattle.trs_caps.specs.View.{holed_all}
-use Rattle.trs_caps.proofs.CapSteps.{next_cap, fixed_stays, free_opens, kept_symbol, opened_symbol}
+use Rattle.trs_caps.proofs.CapSteps.{next_cap, whole_cap, fixed_stays, free_opens, kept_symbol, opened_symbol}
+use Rattle.trs_caps.proofs.KnownSteps.{argument_there, ids_within}
 use Rattle.trs_caps.proofs.capping.+cap_of.Goals as goal
 
-pub loop-arg-init : goal.loop-arg-init
-loop-arg-init t c = rw c.in_ok-items-in-App.ensures.items no_holed
+pub loop-i-init : goal.loop-i-init
+loop-i-init t c = (rw c.in_ok-items-in-App.ensures.items no_holed, c.requires.known)
 
-pub loop-arg-preserved : goal.loop-arg-preserved
-loop-arg-preserved t c =
-    next_cap c.args.by_root.now.rules c.args.fixed c.deref-arg-items.result.now c.loop-arg.items.items c.push.new.self.items c.loop-arg.arg-index c.arg-item.result c.in_ok-cap_of-in-App.field-0
-    c.loop-arg-test.true c.arg-item.is c.in_ok-push-in-App.ensures.items c.loop-arg.invariant c.in_ok-cap_of-in-App.ensures
+pub argument-part-requires : goal.argument-part-requires
+argument-part-requires t c = ids_within c.args.pool.now c.args.id (tree c.args.t.now) c.requires.id
 
-pub returns-then-fixed : goal.returns-then-fixed
-returns-then-fixed t c = fixed_stays c.args.by_root.now.rules c.args.fixed (tree c.args.t.now) c.in-Var.v (ap tree c.in-Var.is) c.if-fixed.true
+pub cap_of-requires : goal.cap_of-requires
+cap_of-requires t c =
+    let is : tree c.args.t.now ≡ app c.in-App.f (forest c.deref-arg-items.result.now) = rw (c.in-App.is, ← c.args-in-App.view_is, c.deref-arg-items.ensures.value) refl in
+    let smaller = next_smaller tree c.deref-arg-items.result.now c.loop-i.i c.arg-item.result c.loop-i-test.true c.arg-item.is (tree c.args.t.now) c.in-App.f is in
+    let there = argument_there (tree c.args.t.now) c.in-App.f c.deref-arg-items.result.now c.loop-i.i c.arg-item.result is c.loop-i-test.true c.arg-item.is in
+    let id = c.argument-part.ensures (tree c.args.t.now) (tree c.arg-item.result) c.requires.id there in
+    (omega (arith, smaller, c.decreases), (c.requires.rules, (c.requires.valid, (id, c.loop-i.invariant.1))))
 
-pub returns-else-fixed : goal.returns-else-fixed
-returns-else-fixed t c = free_opens c.args.by_root.now.rules c.args.fixed (tree c.args.t.now) c.in-Var.v (ap tree c.in-Var.is) c.if-fixed.false
+pub loop-i-preserved : goal.loop-i-preserved
+loop-i-preserved t c = (
+  next_cap c.args.by_root.now.rules c.args.fixed c.deref-arg-items.result.now c.loop-i.items.items c.push.new.self.items c.loop-i.i c.arg-item.result c.in_ok-cap_of-in-App.field-0
+      c.loop-i-test.true c.arg-item.is c.in_ok-push-in-App.ensures.items c.loop-i.invariant.0 c.in_ok-cap_of-in-App.ensures.cap,
+  c.in_ok-cap_of-in-App.ensures.known,
+)
+
+pub returns-then-fixed-clause-cap : goal.returns-then-fixed-clause-cap
+returns-then-fixed-clause-cap t c = fixed_stays c.args.by_root.now.rules c.args.fixed (tree c.args.t.now) c.in-Var.v (ap tree c.in-Var.is) c.if-fixed.true
+
+pub returns-else-fixed-clause-cap : goal.returns-else-fixed-clause-cap
+returns-else-fixed-clause-cap t c = free_opens c.args.by_root.now.rules c.args.fixed (tree c.args.t.now) c.in-Var.v (ap tree c.in-Var.is) c.if-fixed.false
 
 pub returns-then-branch : goal.returns-then-branch
 returns-then-branch t c =
-    let is : tree c.args.t.now ≡ app c.in-App.f (forest c.deref-arg-items.result.now) = rw (c.in-App.is, ← c.args-in-App.view_is, c.deref-arg-items.ensures.value) refl in
-    let meets : MeetsSome (symbol c.in-App.f (holed_all c.loop-arg.items.items)) c.args.by_root.now.rules true = rw c.if-branch.true at c.in_ok-meets_some-in-App.ensures in
-    opened_symbol c.args.by_root.now.rules c.args.fixed (tree c.args.t.now) c.in-App.f c.deref-arg-items.result.now c.loop-arg.items.items c.loop-arg.arg-index is (omega arith) c.loop-arg.invariant meets
+    let rules = c.args.by_root.now.rules in
+    let t0 = tree c.args.t.now in
+    let args = c.deref-arg-items.result.now in
+    let items = c.loop-i.items.items in
+    let is : t0 ≡ app c.in-App.f (forest args) = rw (c.in-App.is, ← c.args-in-App.view_is, c.deref-arg-items.ensures.value) refl in
+    let whole = whole_cap rules c.args.fixed t0 c.in-App.f args items c.loop-i.i is (omega arith) c.loop-i.invariant.0 in
+    let found = c.in_ok-is_opened-in-App.ensures.meets c.args.fixed c.args.pool.now t0 c.loop-i.invariant.1 c.requires.id whole in
+    let known = c.in_ok-is_opened-in-App.ensures.known c.args.fixed c.args.pool.now t0 c.loop-i.invariant.1 c.requires.id whole in
+    let meets : MeetsSome (symbol c.in-App.f (holed_all items)) rules true = rw c.if-branch.true at found in
+    record { cap = opened_symbol rules c.args.fixed t0 c.in-App.f args items c.loop-i.i is (omega arith) c.loop-i.invariant.0 meets; known = known }
 
 pub returns-else-branch : goal.returns-else-branch
 returns-else-branch t c =
-    let is : tree c.args.t.now ≡ app c.in-App.f (forest c.deref-arg-items.result.now) = rw (c.in-App.is, ← c.args-in-App.view_is, c.deref-arg-items.ensures.value) refl in
-    let free : MeetsSome (symbol c.in-App.f (holed_all c.loop-arg.items.items)) c.args.by_root.now.rules false = rw c.if-branch.false at c.in_ok-meets_some-in-App.ensures in
-    kept_symbol c.args.by_root.now.rules c.args.fixed (tree c.args.t.now) c.in-App.f c.deref-arg-items.result.now c.loop-arg.items.items c.loop-arg.arg-index is (omega arith) c.loop-arg.invariant free
+    let rules = c.args.by_root.now.rules in
+    let t0 = tree c.args.t.now in
+    let args = c.deref-arg-items.result.now in
+    let items = c.loop-i.items.items in
+    let is : t0 ≡ app c.in-App.f (forest args) = rw (c.in-App.is, ← c.args-in-App.view_is, c.deref-arg-items.ensures.value) refl in
+    let whole = whole_cap rules c.args.fixed t0 c.in-App.f args items c.loop-i.i is (omega arith) c.loop-i.invariant.0 in
+    let found = c.in_ok-is_opened-in-App.ensures.meets c.args.fixed c.args.pool.now t0 c.loop-i.invariant.1 c.requires.id whole in
+    let known = c.in_ok-is_opened-in-App.ensures.known c.args.fixed c.args.pool.now t0 c.loop-i.invariant.1 c.requires.id whole in
+    let free : MeetsSome (symbol c.in-App.f (holed_all items)) rules false = rw c.if-branch.false at found in
+    record { cap = kept_symbol rules c.args.fixed t0 c.in-App.f args items c.loop-i.i is (omega arith) c.loop-i.invariant.0 free; known = known }
