@@ -156,6 +156,17 @@ arguments_apart fs gs i x y f g t u is_t is_u h long is_x is_y none θ e =
         ap (λ z. apply θ (tree z)) is_x ∙ (first ∙ sym (ap (λ z. apply θ (tree z)) is_y))
     equal_at (a ∷ fs) (b ∷ gs) (suc i) h long is_x is_y e = equal_at fs gs i (omega (arith, h)) (omega (arith, long)) is_x is_y (cc (e))
 
+-- the next pair of arguments, and those behind it
+next_pair : (θ : ℕ → Tree) (fs gs : List Term) (i : ℕ) (x y : Term) → i < length fs → length fs ≡ length gs → x ≡ get_or fs i x → y ≡ get_or gs i y
+    → apply_all θ (forest (drop i fs)) ≡ apply_all θ (forest (drop i gs))
+    → (apply θ (tree x) ≡ apply θ (tree y)) × (apply_all θ (forest (drop (i + 1) fs)) ≡ apply_all θ (forest (drop (i + 1) gs)))
+next_pair θ fs gs i x y h long is_x is_y same =
+    let left : forest (drop i fs) ≡ cons (tree x) (forest (drop (i + 1) fs)) = ap forest (cell fs i x h is_x) in
+    let right : forest (drop i gs) ≡ cons (tree y) (forest (drop (i + 1) gs)) = ap forest (cell gs i y (omega (arith, h, long)) is_y) in
+    let e : cons (apply θ (tree x)) (apply_all θ (forest (drop (i + 1) fs))) ≡ cons (apply θ (tree y)) (apply_all θ (forest (drop (i + 1) gs))) =
+    sym (ap (apply_all θ) left) ∙ (same ∙ ap (apply_all θ) right) in
+    (cc (e), cc (e))
+
 -- What is left of two argument lists says, with the bindings, what the whole said with the old ones.
 abbrev pub SaysAsWhole : List Binding → List Term → List Term → List Binding → List Term → List Term → Type 0
 SaysAsWhole old fs gs now fs2 gs2 =
@@ -180,20 +191,37 @@ next_meets old mid new fs gs i x y h long is_x is_y before one θ =
           (before θ).1 (m.0, ap (apply_all θ) left ∙ (e ∙ sym (ap (apply_all θ) right)))),
     )
 
+-- What is left of two argument lists, and the bindings, follow from the whole and the old ones.
+abbrev pub FollowFromWhole : List Binding → List Term → List Term → List Binding → List Term → List Term → Type 0
+FollowFromWhole old fs gs now fs2 gs2 =
+    (θ : ℕ → Tree) → Solves old θ → apply_all θ (forest fs) ≡ apply_all θ (forest gs) → Solves now θ × (apply_all θ (forest fs2) ≡ apply_all θ (forest gs2))
+
+pub next_follows : (old mid new : List Binding) (fs gs : List Term) (i : ℕ) (x y : Term) → i < length fs → length fs ≡ length gs → x ≡ get_or fs i x → y ≡ get_or gs i y
+    → FollowFromWhole old fs gs mid (drop i fs) (drop i gs) → ((θ : ℕ → Tree) → Solves mid θ → apply θ (tree x) ≡ apply θ (tree y) → Solves new θ)
+    → FollowFromWhole old fs gs new (drop (i + 1) fs) (drop (i + 1) gs)
+next_follows old mid new fs gs i x y h long is_x is_y before one θ s e =
+    let m = before θ s e in
+    let p = next_pair θ fs gs i x y h long is_x is_y m.1 in
+    (one θ m.0 p.0, p.1)
+
+same_arguments : (θ : ℕ → Tree) (f g : ℕ) (fs gs : List Term) (t u : Tree) → t ≡ app f (forest fs) → u ≡ app g (forest gs) → apply θ t ≡ apply θ u
+    → apply_all θ (forest fs) ≡ apply_all θ (forest gs)
+same_arguments θ f g fs gs t u is_t is_u e =
+    let whole : app f (apply_all θ (forest fs)) ≡ app g (apply_all θ (forest gs)) = sym (ap (apply θ) is_t) ∙ (e ∙ ap (apply θ) is_u) in
+    cc (whole)
+
 -- one pair of arguments is apart
 pub never_meets : (old mid : List Binding) (fs gs : List Term) (i : ℕ) (x y : Term) (f g : ℕ) (t u : Tree) → t ≡ app f (forest fs) → u ≡ app g (forest gs) → i < length fs → length fs ≡ length gs
-    → x ≡ get_or fs i x → y ≡ get_or gs i y → SaysAsWhole old fs gs mid (drop i fs) (drop i gs) → ((θ : ℕ → Tree) → Solves mid θ → apply θ (tree x) ≡ apply θ (tree y) → ⊥)
+    → x ≡ get_or fs i x → y ≡ get_or gs i y → FollowFromWhole old fs gs mid (drop i fs) (drop i gs) → ((θ : ℕ → Tree) → Solves mid θ → apply θ (tree x) ≡ apply θ (tree y) → ⊥)
     → (θ : ℕ → Tree) → Solves old θ → apply θ t ≡ apply θ u → ⊥
 never_meets old mid fs gs i x y f g t u is_t is_u h long is_x is_y before none θ s e =
-    let left : forest (drop i fs) ≡ cons (tree x) (forest (drop (i + 1) fs)) = ap forest (cell fs i x h is_x) in
-    let right : forest (drop i gs) ≡ cons (tree y) (forest (drop (i + 1) gs)) = ap forest (cell gs i y (omega (arith, h, long)) is_y) in
-    let whole : app f (apply_all θ (forest fs)) ≡ app g (apply_all θ (forest gs)) = sym (ap (apply θ) is_t) ∙ (e ∙ ap (apply θ) is_u) in
-    let args : apply_all θ (forest fs) ≡ apply_all θ (forest gs) = cc (whole) in
-    let m = (before θ).0 (s, args) in
-    let k : cons (apply θ (tree x)) (apply_all θ (forest (drop (i + 1) fs))) ≡ cons (apply θ (tree y)) (apply_all θ (forest (drop (i + 1) gs))) =
-    sym (ap (apply_all θ) left) ∙ (m.1 ∙ ap (apply_all θ) right) in
-    let first : apply θ (tree x) ≡ apply θ (tree y) = cc (k) in
-    none θ m.0 first
+    let m = before θ s (same_arguments θ f g fs gs t u is_t is_u e) in
+    none θ m.0 (next_pair θ fs gs i x y h long is_x is_y m.1).0
+
+-- all pairs of arguments were met
+pub all_follow : (old now : List Binding) (fs gs : List Term) (i f g : ℕ) (t u : Tree) → t ≡ app f (forest fs) → u ≡ app g (forest gs) → FollowFromWhole old fs gs now (drop i fs) (drop i gs)
+    → (θ : ℕ → Tree) → Solves old θ → apply θ t ≡ apply θ u → Solves now θ
+all_follow old now fs gs i f g t u is_t is_u follow θ s e = (follow θ s (same_arguments θ f g fs gs t u is_t is_u e)).0
 
 -- no arguments are left
 pub all_meet : (old now : List Binding) (fs gs : List Term) (i f g : ℕ) (t u : Tree) → t ≡ app f (forest fs) → u ≡ app g (forest gs) → f ≡ g → length fs ≡ length gs → length fs ≤ i

@@ -25,11 +25,19 @@ solution bs v = unwrap_or (bound_term bs v) (var v)
 pub record Solves (bs : List Binding) (θ : ℕ → Tree) : Type 0 where
   pub solves : (v : ℕ) (t : Tree) → bound_term bs v ≡ Some t → θ v ≡ apply θ t
 
--- The old bindings, and that the terms are equal, say of substitutions what the new bindings say.
+-- the substitutions that solve the bindings make the terms equal
+abbrev pub SameUnder : List Binding → Tree → Tree → Type 0
+SameUnder bs t u = (θ : ℕ → Tree) → Solves bs θ → apply θ t ≡ apply θ u
+
+-- the substitutions that make the terms equal solve the bindings
+abbrev pub AreEqualUnder : List Binding → Tree → Tree → Type 0
+AreEqualUnder bs a b = (θ : ℕ → Tree) → apply θ a ≡ apply θ b → Solves bs θ
+
+-- The old bindings, and that the terms are equal, say of substitutions what the new bindings say; where it is unclear, no less.
 abbrev pub Meets : Tree → Tree → List Binding → List Binding → Meeting → Type 0
 Meets a b old new meeting.Met = (θ : ℕ → Tree) → (Solves old θ × (apply θ a ≡ apply θ b)) ↔ Solves new θ
 Meets a b old new meeting.Apart = (θ : ℕ → Tree) → Solves old θ → apply θ a ≡ apply θ b → ⊥
-Meets a b old new meeting.Unclear = Unit {0}
+Meets a b old new meeting.Unclear = (θ : ℕ → Tree) → Solves old θ → apply θ a ≡ apply θ b → Solves new θ
 
 -- the term has no variable that is bound
 abbrev pub IsFree : List Binding → Tree → Type 0

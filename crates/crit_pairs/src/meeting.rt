@@ -1,10 +1,12 @@
 ghost use Rattle.std.specs.Prelude.{◌≡◌, ◌↔◌, IfOk, IsTrue, All};
 ghost use Rattle.std.specs.Option.{option_map};
-ghost use Rattle.trs_defs.specs.Tree.{var};
+ghost use Rattle.trs_defs.specs.Tree.{Tree, var};
 ghost use Rattle.trs_core.specs.View.{tree};
-ghost use Rattle.crit_pairs.specs.Meeting.{bound_term, Meets, IsFree, IsSolution};
+ghost use Rattle.crit_pairs.specs.Meeting.{bound_term, IsFree, IsSolution};
+ghost use Rattle.crit_pairs.specs.Meeting.{SameUnder, AreEqualUnder, Meets};
 ghost use Rattle.crit_pairs.specs.Sides.{DoNotMeet};
 
+use crate::cycles::has_cycle;
 use std::alloc::Global;
 use trs_core::{OutOfMemory, Term};
 
@@ -24,7 +26,7 @@ pub(crate) enum Meeting {
     Met,
     /// No substitution makes them equal.
     Apart,
-    /// It is not known.
+    /// It is not known. They are equal under the bindings at most.
     Unclear,
 }
 
@@ -52,14 +54,25 @@ pub(crate) fn solve<'a>(
     let meeting = meet(a, b, &mut bindings)?;
     match meeting {
         Meeting::Apart => Ok(Solution::None),
-        Meeting::Unclear => Ok(Solution::Unclear),
+        Meeting::Unclear => refute(alloc, &bindings),
         Meeting::Met => {
             if are_free(&bindings) {
                 return Ok(Solution::Unifier(bindings));
             }
-            Ok(Solution::Unclear)
+            refute(alloc, &bindings)
         }
     }
+}
+
+/// Terms that are equal under the bindings at most have no unifier where these have a cycle.
+fn refute<'a>(alloc: Global, bindings: &[Binding]) -> Result<Solution<'a>, OutOfMemory>
+    ensures { IfOk result (λ solution. (a b : Tree) → AreEqualUnder bindings.now a b
+        → IsSolution a b solution) }
+{
+    if has_cycle(alloc, bindings)? {
+        return Ok(Solution::None);
+    }
+    Ok(Solution::Unclear)
 }
 
 /// Whether two symbols differ that stand at one place, or their numbers of arguments. Then nothing
@@ -97,19 +110,73 @@ fn meet<'a>(
             if *f != *g || fs.items.len() != gs.items.len() {
                 return Ok(Meeting::Apart);
             }
+            let mut is_clear = true;
             for (i, x) in fs.items.iter().enumerate() {
                 let meeting = meet(x, &gs.items[i], bindings)?;
                 match meeting {
-                    Meeting::Met => {}
                     Meeting::Apart => return Ok(Meeting::Apart),
-                    Meeting::Unclear => return Ok(Meeting::Unclear),
+                    Meeting::Met => {}
+                    Meeting::Unclear => is_clear = false,
                 }
             }
-            Ok(Meeting::Met)
+            if is_clear {
+                Ok(Meeting::Met)
+            } else {
+                Ok(Meeting::Unclear)
+            }
         }
-        (Term::Var(v), Term::App(_, _)) => bind(*v, b, bindings),
-        (Term::Var(v), Term::Var(_)) => bind(*v, b, bindings),
-        (Term::App(_, _), Term::Var(w)) => bind_to_left(a, *w, bindings),
+        (Term::Var(_), _) => meet_variable(a, b, bindings),
+        (Term::App(_, _), Term::Var(_)) => meet_variable(a, b, bindings),
+    }
+}
+
+/// The same for terms of which one is a variable.
+fn meet_variable<'a>(
+    a: &'a Term,
+    b: &'a Term,
+    bindings: &mut Vec<Binding<'a>>,
+) -> Result<Meeting, OutOfMemory>
+    ensures { IfOk result
+        (Meets (tree a.now) (tree b.now) bindings.old.items bindings.new.items) }
+{
+    let x = resolved(bindings, a);
+    let y = resolved(bindings, b);
+    match (x, y) {
+        (Term::Var(v), Term::Var(w)) => {
+            if *v == *w {
+                return Ok(Meeting::Met);
+            }
+            bind(*v, y, bindings)
+        }
+        (Term::Var(v), Term::App(_, _)) => bind(*v, y, bindings),
+        (Term::App(_, _), Term::Var(w)) => bind_to_left(x, *w, bindings),
+        (Term::App(_, _), Term::App(_, _)) => {
+            if are_apart(a, b, x, y) {
+                return Ok(Meeting::Apart);
+            }
+            Ok(Meeting::Unclear)
+        }
+    }
+}
+
+/// Whether symbols differ in `x` and `y`, which `a` and `b` are bound to. What two variables are bound
+/// to is not walked: it may be met again and again.
+fn are_apart(a: &Term, b: &Term, x: &Term, y: &Term) -> bool
+    ensures { IsTrue result → DoNotMeet (tree x.now) (tree y.now) }
+{
+    match (a, b) {
+        (Term::Var(_), Term::Var(_)) => have_other_roots(x, y),
+        _ => clash(x, y),
+    }
+}
+
+/// Whether two terms have two symbols at their roots.
+fn have_other_roots(a: &Term, b: &Term) -> bool
+    ensures { IsTrue result → DoNotMeet (tree a.now) (tree b.now) }
+{
+    match (a, b) {
+        (Term::App(f, _), Term::App(g, _)) => *f != *g,
+        _ => false,
     }
 }
 
@@ -136,6 +203,23 @@ fn bind_to_left<'a>(
     ensures { IfOk result (Meets (tree term.now) (var v) bindings.old.items bindings.new.items) }
 {
     bind(v, term, bindings)
+}
+
+/// What a term stands for: the end of the bindings that lead from a variable to others.
+pub(crate) fn resolved<'a>(bindings: &[Binding<'a>], t: &'a Term) -> &'a Term
+    ensures { SameUnder bindings.now (tree t.now) (tree result.now) }
+{
+    let mut current = t;
+    for _ in 0..bindings.len() {
+        let Term::Var(v) = current else {
+            return current;
+        };
+        match find(bindings, *v) {
+            None => return current,
+            Some(next) => current = next,
+        }
+    }
+    current
 }
 
 /// The term that a variable is bound to.

@@ -1,9 +1,9 @@
-use Rattle.std.proofs.Common.{◌≡◌, arith, ap, length}
+use Rattle.std.proofs.Common.{◌≡◌, ◌∙◌, sym, arith, ap, length}
 use Rattle.trs_defs.specs.Tree.{app, trees}
 use Rattle.trs_core.specs.View.{tree, forest}
 use Rattle.rewrite_core.proofs.RedexWalk.{applied}
-use Rattle.crit_pairs.proofs.Bindings.{clash, next_meets, never_meets, all_meet}
-use Rattle.crit_pairs.proofs.meeting.+meet.Goals.{then-f-g-via-then-f-g, then-f-g-via-else-f-g+then-len, After-deref-x-items}
+use Rattle.crit_pairs.proofs.Bindings.{clash, next_meets, next_follows, never_meets, all_meet, all_follow}
+use Rattle.crit_pairs.proofs.meeting.+meet.Goals.{then-f-g-via-then-f-g, then-f-g-via-else-f-g+then-len, After-deref-x-items, in-Met, in-Unclear}
 use Rattle.crit_pairs.proofs.meeting.+meet.Goals as goal
 
 pub returns-then-f-g : goal.returns-then-f-g
@@ -25,7 +25,8 @@ right t c = applied c.gs.inside.items.items c.in-App-App.g _ (tree c.args.b.now)
 pub loop-i-init : goal.loop-i-init
 loop-i-init t c = record {
   same_length = omega (arith, c.if-len.false, c.len.ensures, c.len-else-f-g.ensures, c.fs.inside.items.ok.0, c.gs.inside.items.ok.0, ap length c.deref-x-items.ensures.value);
-  says = λ θ. (λ h. h, λ h. h);
+  follow = λ θ s e. (s, e);
+  says = λ _ θ. (λ h. h, λ h. h);
 }
 
 pub returns-in-Apart : goal.returns-in-Apart
@@ -33,20 +34,40 @@ returns-in-Apart t c =
     let a = (goal.at.returns-in-Apart t c).After-deref-x-items in
     let h = c.loop-i.invariant in
     never_meets c.args.bindings.now.items c.loop-i.bindings.items c.deref-x-items.result.now c.gs.inside.items.items c.loop-i.i c.x-item.result c.index.result.now c.in-App-App.f c.in-App-App.g
-    (tree c.args.a.now) (tree c.args.b.now) (left t a) (right t a) c.loop-i-test.true h.same_length c.x-item.is c.index.ensures h.says (rw c.in-Apart.is at c.in_ok-meeting-in-App-App.ensures)
+    (tree c.args.a.now) (tree c.args.b.now) (left t a) (right t a) c.loop-i-test.true h.same_length c.x-item.is c.index.ensures h.follow (rw c.in-Apart.is at c.in_ok-meeting-in-App-App.ensures)
 
 pub loop-i-preserved : goal.loop-i-preserved
 loop-i-preserved t c =
     let h = c.loop-i.invariant in
-    record {
-      same_length = h.same_length;
-      says = next_meets c.args.bindings.now.items c.loop-i.bindings.items c.meet.new.bindings.items c.deref-x-items.result.now c.gs.inside.items.items c.loop-i.i c.x-item.result c.index.result.now
-          c.loop-i-test.true h.same_length c.x-item.is c.index.ensures h.says (rw c.in-Met.is at c.in_ok-meeting-in-App-App.ensures);
-    }
+    let old = c.args.bindings.now.items in
+    let mid = c.loop-i.bindings.items in
+    let new = c.meet.new.bindings.items in
+    let xs = c.deref-x-items.result.now in
+    let ys = c.gs.inside.items.items in
+    let follow = next_follows old mid new xs ys c.loop-i.i c.x-item.result c.index.result.now c.loop-i-test.true h.same_length c.x-item.is c.index.ensures h.follow in
+    elim c.match-meeting.branch [
+      | in-Met w ↦ record {
+        same_length = h.same_length;
+        follow = follow (λ θ s e. ((rw w.in-Met.is at c.in_ok-meeting-in-App-App.ensures) θ).0 (s, e));
+        says = λ clear. next_meets old mid new xs ys c.loop-i.i c.x-item.result c.index.result.now c.loop-i-test.true h.same_length c.x-item.is c.index.ensures
+            (h.says (sym w.is_clear-is ∙ clear)) (rw w.in-Met.is at c.in_ok-meeting-in-App-App.ensures);
+      }
+      | in-Unclear w ↦ record {
+        same_length = h.same_length;
+        follow = follow (rw w.in-Unclear.is at c.in_ok-meeting-in-App-App.ensures);
+        says = λ clear. absurd (cc (clear, w.is_clear-is));
+      }
+    ]
 
-pub returns-after-loop-i : goal.returns-after-loop-i
-returns-after-loop-i t c =
-    let a = (goal.at.returns-after-loop-i t c).After-deref-x-items in
+pub returns-then-is_clear : goal.returns-then-is_clear
+returns-then-is_clear t c =
+    let a = (goal.at.returns-then-is_clear t c).After-deref-x-items in
     let h = c.loop-i.invariant in
     all_meet c.args.bindings.now.items c.loop-i.bindings.items c.deref-x-items.result.now c.gs.inside.items.items c.loop-i.i c.in-App-App.f c.in-App-App.g (tree c.args.a.now) (tree c.args.b.now)
-    (left t a) (right t a) c.if-f-g.false h.same_length c.loop-i-test.false h.says
+    (left t a) (right t a) c.if-f-g.false h.same_length c.loop-i-test.false (h.says c.if-is_clear.true)
+
+pub returns-else-is_clear : goal.returns-else-is_clear
+returns-else-is_clear t c =
+    let a = (goal.at.returns-else-is_clear t c).After-deref-x-items in
+    all_follow c.args.bindings.now.items c.loop-i.bindings.items c.deref-x-items.result.now c.gs.inside.items.items c.loop-i.i c.in-App-App.f c.in-App-App.g (tree c.args.a.now) (tree c.args.b.now)
+    (left t a) (right t a) c.loop-i.invariant.follow
