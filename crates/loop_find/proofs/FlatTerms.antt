@@ -197,11 +197,3 @@ next_written σ ts i t h e = ap (λ us. tokens_of_all (apply_all σ (forest us))
 
 pub none_written : (σ : ℕ → Tree) (ts : List Term) (i : ℕ) → length ts ≤ i → tokens_of_all (apply_all σ (forest (drop i ts))) ≡ []
 none_written σ ts i h = ap (λ us. tokens_of_all (apply_all σ (forest us))) (drop_all i ts h)
-
-argument_instance : (σ : ℕ → Tree) (ts : List Term) (i : ℕ) (t : Term) → i < length ts → t ≡ get_or ts i t → size_of (apply σ (tree t)) ≤ size_of_all (apply_all σ (forest ts))
-argument_instance σ [] i t h e = absurd (omega arith)
-argument_instance σ (u ∷ ts) zero t h e = rw e (omega arith)
-argument_instance σ (u ∷ ts) (suc i) t h e = omega (arith, argument_instance σ ts i t (omega arith) e)
-
-pub smaller_instance : (σ : ℕ → Tree) (ts : List Term) (i f : ℕ) (t : Tree) (arg : Term) → t ≡ app f (forest ts) → i < length ts → arg ≡ get_or ts i arg → size_of (apply σ (tree arg)) < size_of (apply σ t)
-smaller_instance σ ts i f t arg is h e = let k = argument_instance σ ts i arg h e in rw is (omega arith)

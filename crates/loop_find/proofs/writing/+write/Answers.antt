@@ -6,7 +6,8 @@ use Rattle.trs_core.specs.View.{tree, forest}
 use Rattle.trs_core.proofs.Comparing.{count_forest}
 use Rattle.rewrite_core.proofs.RedexWalk.{applied}
 use Rattle.loop_find.specs.Bindings.{resolved}
-use Rattle.loop_find.proofs.FlatTerms.{symbol_first, symbol_too_many, next_written, none_written, smaller_instance}
+use Rattle.crit_pairs.proofs.CyclesOfBindings.{smaller_instance}
+use Rattle.loop_find.proofs.FlatTerms.{symbol_first, symbol_too_many, next_written, none_written}
 use Rattle.loop_find.proofs.Renumbering.{way_begins, way_goes_on, way_stops, way_ends}
 use Rattle.loop_find.proofs.writing.+write.Goals as goal
 
