@@ -9,10 +9,10 @@ ghost use Rattle.ari_text.specs.Rules.{both_sides, rule, rules_of};
 
 use crate::entry::{Saying, read_entry};
 use crate::fault::AriFault;
-use names_text::Symbols;
+use names_text::{Names, Symbols};
 use sexp_core::Sexp;
 use std::alloc::Global;
-use term_text::{Judged, Variables, both, check_term, pushed};
+use term_text::{Judged, both, check_term, pushed};
 use trs_core::{OutOfMemory, Rule, Term};
 
 fn made_rule(sides: Judged<(Term, Term), AriFault>) -> Judged<Rule, AriFault>
@@ -25,17 +25,17 @@ fn made_rule(sides: Judged<(Term, Term), AriFault>) -> Judged<Rule, AriFault>
 }
 
 // The rule that two items write, or the least of all faults of their terms.
-fn read_rule<'a, 't>(
+fn read_rule(
     alloc: Global,
     symbols: &Symbols,
-    left: &'a Sexp<'t>,
-    right: &'a Sexp<'t>,
+    left: &Sexp,
+    right: &Sexp,
 ) -> Result<Judged<Rule, AriFault>, OutOfMemory>
     ensures { IfOk result (λ r. r ≡ judged ari_fault lesser
         (rule symbols.now (view left.now) (view right.now))) }
 {
     let table = symbols.table();
-    let mut variables = Variables::new(alloc);
+    let mut variables = Names::new(alloc);
     let left = check_term(alloc, &table, true, &mut variables, left)?;
     let right = check_term(alloc, &table, false, &mut variables, right)?;
     Ok(made_rule(both(left, right)))

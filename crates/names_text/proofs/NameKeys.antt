@@ -1,13 +1,22 @@
--- Names that a set of byte vectors holds.
-use Rattle.std.proofs.Common.{◌≡◌, ℕ, suc, ◌+◌, Bool, true, false, cond, not, ◌||◌, ◌&&◌, List, [], ◌∷◌, ◌++◌, map, Option, Some, None, option_map, Vec, Global, refl, ap, sym, ◌∙◌, ◌<◌, ◌≤◌, length, arith, add-one}
+-- Names that are found by two trees.
+use Rattle.std.proofs.Common.{◌≡◌, ℕ, zero, suc, ◌+◌, Bool, true, false, cond, not, ◌||◌, ◌&&◌, List, [], ◌∷◌, ◌++◌, Option, Some, None, option_map, option_and_then, unwrap_or, slice_get, Vec, Global, refl, ap, ap₂, sym, subst, ◌∙◌, ◌<◌, length, arith, add-one}
 use Rattle.std.specs.Str.{bytes_eq}
-use Rattle.std.specs.List.{AllByRecursion, list_any, position, position_from}
-use Rattle.std.proofs.lemmas.Slice.Eq.{bytes_eq-Decides}
-use Rattle.std.proofs.lemmas.List.{map-append}
-use Rattle.std.proofs.lemmas.List.Folds.{list_any-append}
-use Rattle.std.proofs.lemmas.Cmp.{nat_list_eq_equiv}
+use Rattle.std.specs.List.{list_any, position, position_from}
+use Rattle.std.specs.Option.{option_or, option_map_or}
+use Rattle.std.specs.Ordering.{is_eq, nat_cmp, eq_by_cmp, MatchOrdering}
+use Rattle.std.specs.declared.cmp.Ordering.{Ordering}
+use Rattle.std.specs.declared.cmp.Ordering.TheVariants.{Less, Equal, Greater}
+use Rattle.std.specs.Cmp.Lexicographic.{slice_cmp}
+use Rattle.std.specs.BTreeMap.{BTreeMap, get, UpdatesBy, is_at as tested}
+use Rattle.std.specs.Map.{KeepsOthers, lookup}
+use Rattle.std.proofs.lemmas.Bool.{false_from_ne_true, false≢true}
+use Rattle.std.proofs.lemmas.Cmp.{nat_list_eq_equiv, nat_list_cmp_total, nat_cmp_total, eq_by_cmp_equiv, tied_itself, ranked}
 use Rattle.std.proofs.lemmas.Iterator.Adapters.{position_from-zero}
+use Rattle.std.proofs.lemmas.List.Folds.{list_any-append}
+use Rattle.std.proofs.lemmas.Map.Text.{is_eq-slice_cmp}
+use Rattle.std.proofs.lemmas.Slice.Eq.{bytes_eq-Decides}
 use Rattle.names_text.specs.Names.{number_among, are_distinct}
+use Rattle.names_text.specs.NameTable.{hash_of, is_at, number_by, own_number}
 
 module _ {K : Type 0} (test : K → Bool) where
   next_behind : (b : Bool) (i : ℕ) (o p : Option ℕ) → o ≡ option_map suc p → cond b (Some (i + 1)) o ≡ option_map suc (cond b (Some i) p)
@@ -21,17 +30,6 @@ module _ {K : Type 0} (test : K → Bool) where
   pub position_next : (x : K) (xs : List K) → position test (x ∷ xs) ≡ cond (test x) (Some 0) (option_map suc (position test xs))
   position_next x xs =
       position_from-zero test (x ∷ xs) ∙ ap (λ o. cond (test x) (Some 0) o) (position_later xs 0 ∙ ap (option_map suc) (sym (position_from-zero test xs)))
-
-module _ {K : Type 0} (text : K → List ℕ) where
-  -- the number of a name among the texts of keys is its place among the keys
-  pub number_at : (name : List ℕ) (ks : List K) → position (λ k. bytes_eq name (text k)) ks ≡ number_among (map text ks) name
-  number_at name [] = refl
-  number_at name (k ∷ ks) =
-      position_next (λ j. bytes_eq name (text j)) k ks ∙ ap (λ o. cond (bytes_eq name (text k)) (Some 0) (option_map suc o)) (number_at name ks)
-
-  pub any_text : (name : List ℕ) (ks : List K) → list_any (λ k. bytes_eq name (text k)) ks ≡ list_any (bytes_eq name) (map text ks)
-  any_text name [] = refl
-  any_text name (k ∷ ks) = ap (λ b. bytes_eq name (text k) || b) (any_text name ks)
 
 absent_behind : (b rest : Bool) (o : Option ℕ) → cond b (Some 0) (option_map suc o) ≡ None → (o ≡ None → rest ≡ false) → (b || rest) ≡ false
 absent_behind true rest o e h = absurd cc
@@ -55,34 +53,132 @@ distinct_last (n ∷ ns) name h e =
     rw (list_any-append (bytes_eq n) ns (name ∷ []), nat_list_eq_equiv.symm n name)
     (last_behind (list_any (bytes_eq n) ns) (are_distinct ns) (bytes_eq name n) (list_any (bytes_eq name) ns) _ h e (distinct_last ns name))
 
+-- ---- numbers
+
+within_behind : (b : Bool) (o : Option ℕ) (l i : ℕ) → ((j : ℕ) → o ≡ Some j → j < l) → cond b (Some 0) (option_map suc o) ≡ Some i → i < suc l
+within_behind true o l i h e = omega (arith, ap (λ p. unwrap_or p 0) e)
+within_behind false None l i h e = absurd cc
+within_behind false (Some j) l i h e = omega (arith, ap (λ p. unwrap_or p 0) e, h j refl)
+
+-- the number of a name is less than their count
+pub number_within : (ns : List (List ℕ)) (name : List ℕ) (i : ℕ) → number_among ns name ≡ Some i → i < length ns
+number_within [] name i e = absurd cc
+number_within (n ∷ ns) name i e = within_behind (bytes_eq name n) (number_among ns name) (length ns) i (number_within ns name) e
+
+behind_first : (a b : Bool) (o r : Option ℕ) (k : ℕ) → r ≡ option_or o (cond b (Some k) None)
+    → cond a (Some 0) (option_map suc r) ≡ option_or (cond a (Some 0) (option_map suc o)) (cond b (Some (suc k)) None)
+behind_first true b o r k e = refl
+behind_first false true None r k e = ap (option_map suc) e
+behind_first false false None r k e = ap (option_map suc) e
+behind_first false b (Some i) r k e = ap (option_map suc) e
+
+-- the number of a name among names with one more behind them
+number_behind : (ns : List (List ℕ)) (name q : List ℕ) → number_among (ns ++ name ∷ []) q ≡ option_or (number_among ns q) (cond (bytes_eq q name) (Some (length ns)) None)
+number_behind [] name q = refl
+number_behind (n ∷ ns) name q = behind_first (bytes_eq q n) (bytes_eq q name) (number_among ns q) _ (length ns) (number_behind ns name q)
+
+-- ---- what is found
+
+module _ (ns : List (List ℕ)) (q : List ℕ) (own first : Option ℕ) (found : number_by ns own first q ≡ number_among ns q) where
+  pub found_by_itself : (i : ℕ) → Some i ≡ own → Some i ≡ number_among ns q
+  found_by_itself i e = ap (λ o. number_by ns o first q) e ∙ found
+
+  pub found_by_none : None ≡ own → None ≡ first → None ≡ number_among ns q
+  found_by_none e f = ap₂ (λ o p. number_by ns o p q) e f ∙ found
+
+  pub found_by_hash : (i : ℕ) (n : List ℕ) (b : Bool) → None ≡ own → Some i ≡ first → slice_get ns i ≡ Some n → b ≡ bytes_eq n q → cond b (Some i) None ≡ number_among ns q
+  found_by_hash i n b e f at t =
+      ap (λ c. cond c (Some i) None) (t ∙ sym (ap (λ s. option_map_or (λ m. bytes_eq m q) s false) at)) ∙ ap₂ (λ o p. number_by ns o p q) e f ∙ found
+
+still_there : (ns : List (List ℕ)) (name : List ℕ) (i : ℕ) → i < length ns → slice_get (ns ++ name ∷ []) i ≡ slice_get ns i
+still_there [] name i lt = absurd (omega arith)
+still_there (n ∷ ns) name zero lt = refl
+still_there (n ∷ ns) name (suc i) lt = still_there ns name i (omega arith)
+
+last_there : (ns : List (List ℕ)) (name : List ℕ) → slice_get (ns ++ name ∷ []) (length ns) ≡ Some name
+last_there [] name = refl
+last_there (n ∷ ns) name = last_there ns name
+
+or_twice : (o p : Option ℕ) → option_or o p ≡ option_or (option_or o None) p
+or_twice None p = refl
+or_twice (Some i) p = refl
+
+or_nothing : (o : Option ℕ) → option_or o None ≡ o
+or_nothing None = refl
+or_nothing (Some i) = refl
+
+same_number : (a b : ℕ) (r : Ordering) → MatchOrdering r (a < b) (a ≡ b) (b < a) → is_eq r ≡ true → a ≡ b
+same_number a b Less h e = absurd cc
+same_number a b Equal h e = h
+same_number a b Greater h e = absurd cc
+
+module _ (ns : List (List ℕ)) (name q : List ℕ) where
+  number_stays : (m : Option ℕ) → bytes_eq q name ≡ false → m ≡ option_or m (cond (bytes_eq q name) (Some (length ns)) None)
+  number_stays m e = sym (ap (λ b. option_or m (cond b (Some (length ns)) None)) e ∙ or_nothing m)
+
+  found_stays : (own first : Option ℕ) → ((i : ℕ) → first ≡ Some i → i < length ns) → number_by (ns ++ name ∷ []) own first q ≡ number_by ns own first q
+  found_stays own None w = refl
+  found_stays own (Some i) w =
+      ap (λ s. option_or own (cond (option_map_or (λ n. bytes_eq n q) s false) (Some i) None)) (still_there ns name i (w i refl))
+
+  first_found : (own first : Option ℕ) (b : Bool) → number_by ns own first q ≡ number_among ns q → ((i : ℕ) → first ≡ Some i → i < length ns)
+      → (b ≡ true → first ≡ None) → (bytes_eq q name ≡ true → b ≡ true)
+      → number_by (ns ++ name ∷ []) own (cond b (Some (length ns)) first) q ≡ option_or (number_among ns q) (cond (bytes_eq q name) (Some (length ns)) None)
+  first_found own first true found w none same =
+      ap (λ b. option_or own (cond b (Some (length ns)) None))
+      (ap (λ s. option_map_or (λ n. bytes_eq n q) s false) (last_there ns name) ∙ nat_list_eq_equiv.symm name q)
+      ∙ or_twice own (cond (bytes_eq q name) (Some (length ns)) None)
+      ∙ ap (λ m. option_or m (cond (bytes_eq q name) (Some (length ns)) None)) (sym (ap (λ f. number_by ns own f q) (none refl)) ∙ found)
+  first_found own first false found w none same =
+      found_stays own first w ∙ found ∙ number_stays (number_among ns q) (false_from_ne_true (bytes_eq q name) (λ e. false≢true (same e)))
+
+  -- what is found after a name is put in as the first of its hash
+  pub first_added : (own first more : Option ℕ) → number_by ns own first q ≡ number_among ns q → ((i : ℕ) → first ≡ Some i → i < length ns)
+      → (hash_of name ≡ hash_of q → first ≡ None) → more ≡ cond (is_eq (nat_cmp (hash_of name) (hash_of q))) (Some (length ns)) first
+      → number_by (ns ++ name ∷ []) own more q ≡ number_among (ns ++ name ∷ []) q
+  first_added own first more found w none e =
+      ap (λ f. number_by (ns ++ name ∷ []) own f q) e
+      ∙ first_found own first (is_eq (nat_cmp (hash_of name) (hash_of q))) found w
+        (λ t. none (same_number (hash_of name) (hash_of q) _ (ranked (hash_of name) (hash_of q) _ refl) t))
+        (λ t. ap (λ n. is_eq (nat_cmp (hash_of name) (hash_of n))) ((bytes_eq-Decides q name).0 t) ∙ ap is_eq (tied_itself nat_cmp_total (hash_of name)))
+      ∙ sym (number_behind ns name q)
+
+  other_found : (own first : Option ℕ) (b : Bool) → bytes_eq name q ≡ b → number_among ns name ≡ None → number_by ns own first q ≡ number_among ns q
+      → ((i : ℕ) → first ≡ Some i → i < length ns)
+      → number_by (ns ++ name ∷ []) (cond b (Some (length ns)) own) first q ≡ option_or (number_among ns q) (cond (bytes_eq q name) (Some (length ns)) None)
+  other_found own first true e new found w =
+      sym (ap₂ (λ m b. option_or m (cond b (Some (length ns)) None)) (ap (number_among ns) (sym ((bytes_eq-Decides name q).0 e)) ∙ new) (nat_list_eq_equiv.symm q name ∙ e))
+  other_found own first false e new found w = found_stays own first w ∙ found ∙ number_stays (number_among ns q) (nat_list_eq_equiv.symm q name ∙ e)
+
+  -- what is found after a name is put in by itself
+  pub other_added : (own first more : Option ℕ) → number_among ns name ≡ None → number_by ns own first q ≡ number_among ns q
+      → ((i : ℕ) → first ≡ Some i → i < length ns) → more ≡ cond (bytes_eq name q) (Some (length ns)) own
+      → number_by (ns ++ name ∷ []) more first q ≡ number_among (ns ++ name ∷ []) q
+  other_added own first more new found w e =
+      ap (λ o. number_by (ns ++ name ∷ []) o first q) e ∙ other_found own first (bytes_eq name q) refl new found w ∙ sym (number_behind ns name q)
+
+-- ---- the tree of names
+
 abbrev pub Key : Type 0
 Key = Vec ℕ Global
 
-abbrev pub texts : List Key → List (List ℕ)
-texts ks = map (λ k. k.items) ks
+apart : (name q key : List ℕ) → bytes_eq name q ≡ false → is_eq (slice_cmp nat_cmp name key) ≡ true → is_eq (slice_cmp nat_cmp q key) ≡ false
+apart name q key n y =
+    is_eq-slice_cmp q key ∙ nat_list_eq_equiv.symm q key
+    ∙ sym (nat_list_eq_equiv.congr name key q (sym (is_eq-slice_cmp name key) ∙ y)) ∙ n
 
--- the names after a new one is inserted
-pub inserted : (name : Key) (ks more : List Key) → number_among (texts ks) name.items ≡ None
-    → more ≡ cond (list_any (λ k. bytes_eq name.items k.items) ks) ks (ks ++ name ∷ []) → texts more ≡ texts ks ++ name.items ∷ []
-inserted name ks more e m =
-    ap texts m ∙ rw (any_text (λ k. k.items) name.items ks ∙ absent (texts ks) name.items e) (map-append (λ (k : Key). k.items) ks (name ∷ []))
+other_keys : (name q : List ℕ) (old new : List (Key × ℕ))
+    → KeepsOthers (eq_by_cmp (λ x y. slice_cmp nat_cmp x.items y.items)) (tested (λ k. slice_cmp nat_cmp name k.items)) old new → bytes_eq name q ≡ false
+    → lookup (tested (λ k. slice_cmp nat_cmp q k.items)) new ≡ lookup (tested (λ k. slice_cmp nat_cmp q k.items)) old
+unfolding KeepsOthers
+other_keys name q old new h n = h _ (λ x y. (eq_by_cmp_equiv nat_list_cmp_total).congr q x.items y.items) (λ k. apart name q k.items n)
 
--- ---- lengths
+own_behind : (name q : List ℕ) (b : Bool) (m n : BTreeMap Key ℕ) (w : Option ℕ) → bytes_eq name q ≡ b
+    → UpdatesBy (λ x y. slice_cmp nat_cmp x.items y.items) (λ k. slice_cmp nat_cmp name k.items) m n w → own_number n q ≡ cond b w (own_number m q)
+own_behind name q true m n w e h = subst (λ l. own_number n l ≡ w) ((bytes_eq-Decides name q).0 e) h.1
+own_behind name q false m n w e h = other_keys name q m.entries n.entries h.3 e
 
-differs : (b : Bool) (name n : List ℕ) → bytes_eq name n ≡ b → length n < length name → b ≡ false
-differs false name n e lt = refl
-differs true name n e lt = absurd (let same : name ≡ n = (bytes_eq-Decides name n).0 e in omega (arith, ap length same))
-
--- a name that is longer than all names is none of them
-pub longer_is_absent : (ns : List (List ℕ)) (name : List ℕ) (longest : ℕ) → AllByRecursion (λ n. length n ≤ longest) ns → longest < length name → number_among ns name ≡ None
-longer_is_absent [] name longest h lt = refl
-longer_is_absent (n ∷ ns) name longest h lt =
-    let le : length n ≤ longest = h.0 in
-    rw (differs (bytes_eq name n) name n refl (omega arith), longer_is_absent ns name longest h.1 lt) refl
-
--- names stay as short below another bound that is no less
-pub as_short : (ns : List (List ℕ)) (longest more : ℕ) → longest ≤ more → AllByRecursion (λ n. length n ≤ longest) ns → AllByRecursion (λ n. length n ≤ more) ns
-as_short [] longest more le h = tt
-as_short (n ∷ ns) longest more le h =
-    let here : length n ≤ longest = h.0 in
-    (omega arith, as_short ns longest more le h.1)
+-- the numbers of names after one is put in
+pub own_after : (name q : List ℕ) (m n : BTreeMap Key ℕ) (w : Option ℕ) → UpdatesBy (λ x y. slice_cmp nat_cmp x.items y.items) (λ k. slice_cmp nat_cmp name k.items) m n w
+    → own_number n q ≡ cond (bytes_eq name q) w (own_number m q)
+own_after name q m n w h = own_behind name q (bytes_eq name q) m n w refl h

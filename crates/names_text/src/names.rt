@@ -1,17 +1,22 @@
 ghost use Rattle.std.specs.Prelude.{◌≡◌, ◌++◌, ◌∷◌, ◌<◌, ◌^◌, [], length, slice_get, Some, None, IfSome, OnOk, OnErr, true};
 ghost use Rattle.names_text.specs.Names.{number_among, are_distinct};
+ghost use Rattle.names_text.specs.NameTable.{hash_of};
 
-use indexmap::IndexSet;
 use std::alloc::{AllocError, Global};
+use std::collections::BTreeMap;
+use std::hash::{FoldHasher, Hasher};
 use std::marker::Model;
 
 /// Names, each once, numbered from 0 in the order in which they were added. Contracts see the list of the names.
-/// There is room for 2^32 - 1 names.
+/// There is room for 2^32 - 1 names. Trees find them, since whoever writes a text can make the hashes of its names
+/// collide: most names are found by their hashes, and those whose hash an earlier name has by themselves.
 #[derive(Drop)]
 pub struct Names {
-    set: IndexSet<Vec<u8>>,
-    /// No name is longer.
-    longest: usize,
+    names: Vec<Vec<u8>>,
+    /// For each hash the first name that has it.
+    first: BTreeMap<u64, u32>,
+    /// The other names.
+    others: BTreeMap<Vec<u8>, u32>,
 }
 
 impl Model for Names {
@@ -20,9 +25,9 @@ impl Model for Names {
 
     ghost Value = { List (List ℕ) };
 
-    ghost view = { λ s. map (λ k. k.items) s.set.keys };
+    ghost view = { λ s. map (λ n. n.items) s.names.items };
 
-    ghost invariant = { λ s. IsNameTable (map (λ k. k.items) s.set.keys) s.longest };
+    ghost invariant = { λ s. IsNameTable (map (λ n. n.items) s.names.items) s.first s.others };
 }
 
 impl Names {
@@ -30,8 +35,9 @@ impl Names {
         ensures { result ≡ [] }
     {
         Names {
-            set: IndexSet::new(alloc),
-            longest: 0,
+            names: Vec::new(alloc),
+            first: BTreeMap::new(alloc),
+            others: BTreeMap::new(alloc),
         }
     }
 
@@ -40,7 +46,7 @@ impl Names {
         ensures distinct { are_distinct self.now ≡ true }
         ensures small { result < 2 ^ 32 }
     {
-        self.set.len()
+        self.names.len()
     }
 
     /// The number of a name, if it is among them.
@@ -49,10 +55,15 @@ impl Names {
         ensures within { IfSome result (λ i. i < length self.now) }
         ensures small { IfSome result (λ i. i < 2 ^ 32) }
     {
-        if name.len() > self.longest {
-            return None;
+        if let Some(number) = self.others.get(name) {
+            return Some(*number as usize);
         }
-        self.set.get_index_of(name)
+        let number = *self.first.get(&hash(name))? as usize;
+        if self.get(number) == name {
+            Some(number)
+        } else {
+            None
+        }
     }
 
     /// The name with a number.
@@ -60,7 +71,7 @@ impl Names {
         requires { number < length self.now }
         ensures { slice_get self.now number ≡ Some result.now }
     {
-        &self.set.as_slice()[number]
+        &self.names[number]
     }
 
     /// One more name, which is not among them. Where there is no room for it memory ran out too.
@@ -69,12 +80,32 @@ impl Names {
         ensures ok { OnOk result (self.new ≡ self.old ++ name.items ∷ []) }
         ensures err { OnErr result (self.new ≡ self.old) }
     {
-        if self.set.len() >= u32::MAX as usize {
+        let next = self.names.len();
+        if next >= u32::MAX as usize {
             return Err(AllocError);
         }
-        let longest = self.longest.max(name.len());
-        self.set.insert(name)?;
-        self.longest = longest;
-        Ok(())
+        let hash = hash(&name);
+        if self.first.contains_key(&hash) {
+            let key = name.clone()?;
+            self.names.push(name)?;
+            if self.others.insert(key, next as u32).is_ok() {
+                return Ok(());
+            }
+        } else {
+            self.names.push(name)?;
+            if self.first.insert(hash, next as u32).is_ok() {
+                return Ok(());
+            }
+        }
+        self.names.pop();
+        Err(AllocError)
     }
+}
+
+fn hash(name: &[u8]) -> u64
+    ensures { result ≡ hash_of name.now }
+{
+    let mut hasher = FoldHasher::default();
+    hasher.write(name);
+    hasher.finish()
 }

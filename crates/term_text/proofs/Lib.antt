@@ -3,7 +3,6 @@ pub mod Depths
 pub mod NodesLeft
 pub mod NumberKeys
 pub mod PrintedArguments
-pub mod VariableKeys
 pub mod CheckedSteps
 pub mod CheckedParts
 pub mod Numbering

@@ -10,8 +10,7 @@ ghost use Rattle.term_text.specs.Viewed.{viewed, both_viewed};
 ghost use Rattle.term_text.specs.Terms.{with_variable, with_word, variables_after, all_variables_after, variable, lone, taking, head, term, terms};
 
 use crate::fault::{Refusal, TermFault};
-use crate::variables::Variables;
-use names_text::{Symbol, SymbolTable};
+use names_text::{Names, Symbol, SymbolTable};
 use sexp_core::Sexp;
 use std::alloc::{AllocError, Global};
 use text_reading::place;
@@ -21,10 +20,11 @@ use trs_core::{Args, OutOfMemory, Term};
 pub type Judged<T, F> = Result<T, F>;
 
 // A variable at a place, which may be a new one or not.
-fn check_variable<'a, F: Refusal>(
+fn check_variable<F: Refusal>(
+    alloc: Global,
     new: bool,
-    variables: &mut Variables<'a>,
-    name: &'a [u8],
+    variables: &mut Names,
+    name: &[u8],
     at: u32,
 ) -> Result<Judged<Term, F>, AllocError>
     ensures term { IfOk result (λ r. viewed tree r ≡ judged F.of F.both
@@ -36,18 +36,20 @@ fn check_variable<'a, F: Refusal>(
         return Ok(Ok(Term::Var(number as u32)));
     }
     if new {
-        Ok(Ok(Term::Var(variables.add(name)?)))
+        let next = variables.len();
+        variables.add(Vec::from_slice(alloc, name)?)?;
+        Ok(Ok(Term::Var(next as u32)))
     } else {
         Ok(Err(F::of(TermFault::NewVariable(at))))
     }
 }
 
 // A lone word at a place.
-fn check_word<'a, F: Refusal>(
+fn check_word<F: Refusal>(
     alloc: Global,
     new: bool,
-    variables: &mut Variables<'a>,
-    name: &'a [u8],
+    variables: &mut Names,
+    name: &[u8],
     at: u32,
     symbol: Option<Symbol>,
 ) -> Result<Judged<Term, F>, AllocError>
@@ -56,7 +58,7 @@ fn check_word<'a, F: Refusal>(
     ensures variables { OnOk result (variables.new ≡ with_word new variables.old name.now symbol) }
 {
     let Some(symbol) = symbol else {
-        return check_variable(new, variables, name, at);
+        return check_variable(alloc, new, variables, name, at);
     };
     if symbol.arity == 0 {
         Ok(Ok(Term::App(symbol.number, Args::new(Vec::new(alloc)))))
@@ -142,12 +144,12 @@ pub fn pushed<T: Drop, F: Refusal>(
 /// The term that an item writes over these symbols, behind these variables, or one answer for all faults; whether its
 /// variables may be new ones. Those are added.
 #[cycle(check)]
-pub fn check_term<'a, F: Refusal>(
+pub fn check_term<F: Refusal>(
     alloc: Global,
     symbols: &SymbolTable<'_>,
     new: bool,
-    variables: &mut Variables<'a>,
-    item: &'a Sexp,
+    variables: &mut Names,
+    item: &Sexp,
 ) -> Result<Judged<Term, F>, OutOfMemory>
     ensures term { IfOk result (λ r. viewed tree r
         ≡ judged F.of F.both (term new symbols.now variables.old (view item.now))) }
@@ -175,12 +177,12 @@ pub fn check_term<'a, F: Refusal>(
 }
 
 #[cycle(check)]
-fn check_terms<'a, F: Refusal>(
+fn check_terms<F: Refusal>(
     alloc: Global,
     symbols: &SymbolTable<'_>,
     new: bool,
-    variables: &mut Variables<'a>,
-    items: &'a [Sexp],
+    variables: &mut Names,
+    items: &[Sexp],
 ) -> Result<Judged<Vec<Term>, F>, OutOfMemory>
     ensures terms { IfOk result (λ r. viewed (λ v. forest v.items) r
         ≡ judged F.of F.both (terms new symbols.now variables.old (views items.now))) }

@@ -7,11 +7,9 @@ mod limits;
 mod own_terms;
 mod printing;
 mod renumbering;
-mod variables;
 
 pub use checked::{Judged, both, check_term, pushed};
 pub use fault::{Refusal, TermFault};
 pub use limits::nodes_left_behind;
 pub use own_terms::{put_own_term, read_own_term, read_term};
 pub use printing::put_term;
-pub use variables::Variables;

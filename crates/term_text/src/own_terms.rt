@@ -13,8 +13,7 @@ use crate::checked::check_term;
 use crate::limits::keeps_limits;
 use crate::printing::put_term;
 use crate::renumbering::in_order;
-use crate::variables::Variables;
-use names_text::NamedTrs;
+use names_text::{NamedTrs, Names};
 use sexp_core::Sexp;
 use std::alloc::Global;
 use text_reading::{Read, place};
@@ -31,7 +30,7 @@ pub fn read_own_term(
     if !keeps_limits(item) {
         return Ok(Err(place(item)));
     }
-    let mut variables = Variables::new(alloc);
+    let mut variables = Names::new(alloc);
     check_term(alloc, &system.table(), true, &mut variables, item)
 }
 
