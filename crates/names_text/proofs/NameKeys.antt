@@ -1,8 +1,9 @@
 -- Names that are found by two trees.
-use Rattle.std.proofs.Common.{◌≡◌, ℕ, zero, suc, ◌+◌, Bool, true, false, cond, not, ◌||◌, ◌&&◌, List, [], ◌∷◌, ◌++◌, Option, Some, None, option_map, option_and_then, unwrap_or, slice_get, Vec, Global, refl, ap, ap₂, sym, subst, ◌∙◌, ◌<◌, length, arith, add-one}
+use Rattle.std.proofs.Common.{◌≡◌, ℕ, zero, suc, ◌+◌, Bool, true, false, cond, not, ◌||◌, ◌&&◌, List, [], ◌∷◌, ◌++◌, Option, Some, None, option_map, option_and_then, unwrap_or, is_some, map, ◌^◌, Result, Ok, Err, slice_get, Vec, Global, refl, ap, ap₂, sym, subst, ◌∙◌, ◌<◌, length, length-append, arith, add-one}
 use Rattle.std.specs.Str.{bytes_eq}
 use Rattle.std.specs.List.{list_any, position, position_from}
 use Rattle.std.specs.Option.{option_or, option_map_or}
+use Rattle.std.specs.Result.{OnOk, is_ok}
 use Rattle.std.specs.Ordering.{is_eq, nat_cmp, eq_by_cmp, MatchOrdering}
 use Rattle.std.specs.declared.cmp.Ordering.{Ordering}
 use Rattle.std.specs.declared.cmp.Ordering.TheVariants.{Less, Equal, Greater}
@@ -16,7 +17,7 @@ use Rattle.std.proofs.lemmas.List.Folds.{list_any-append}
 use Rattle.std.proofs.lemmas.Map.Text.{is_eq-slice_cmp}
 use Rattle.std.proofs.lemmas.Slice.Eq.{bytes_eq-Decides}
 use Rattle.names_text.specs.Names.{number_among, are_distinct}
-use Rattle.names_text.specs.NameTable.{hash_of, is_at, number_by, own_number}
+use Rattle.names_text.specs.NameTable.{hash_of, is_at, number_by, own_number, IsNameTable}
 
 module _ {K : Type 0} (test : K → Bool) where
   next_behind : (b : Bool) (i : ℕ) (o p : Option ℕ) → o ≡ option_map suc p → cond b (Some (i + 1)) o ≡ option_map suc (cond b (Some i) p)
@@ -79,16 +80,9 @@ number_behind (n ∷ ns) name q = behind_first (bytes_eq q n) (bytes_eq q name) 
 
 -- ---- what is found
 
-module _ (ns : List (List ℕ)) (q : List ℕ) (own first : Option ℕ) (found : number_by ns own first q ≡ number_among ns q) where
-  pub found_by_itself : (i : ℕ) → Some i ≡ own → Some i ≡ number_among ns q
-  found_by_itself i e = ap (λ o. number_by ns o first q) e ∙ found
-
-  pub found_by_none : None ≡ own → None ≡ first → None ≡ number_among ns q
-  found_by_none e f = ap₂ (λ o p. number_by ns o p q) e f ∙ found
-
-  pub found_by_hash : (i : ℕ) (n : List ℕ) (b : Bool) → None ≡ own → Some i ≡ first → slice_get ns i ≡ Some n → b ≡ bytes_eq n q → cond b (Some i) None ≡ number_among ns q
-  found_by_hash i n b e f at t =
-      ap (λ c. cond c (Some i) None) (t ∙ sym (ap (λ s. option_map_or (λ m. bytes_eq m q) s false) at)) ∙ ap₂ (λ o p. number_by ns o p q) e f ∙ found
+-- a number that a name has itself is in range
+pub own_within : (ns : List (List ℕ)) (name : List ℕ) (own first : Option ℕ) (i : ℕ) → number_by ns own first name ≡ number_among ns name → Some i ≡ own → i < length ns
+own_within ns name own first i found e = number_within ns name i (sym (ap (λ o. number_by ns o first name) e ∙ found))
 
 still_there : (ns : List (List ℕ)) (name : List ℕ) (i : ℕ) → i < length ns → slice_get (ns ++ name ∷ []) i ≡ slice_get ns i
 still_there [] name i lt = absurd (omega arith)
@@ -162,6 +156,9 @@ module _ (ns : List (List ℕ)) (name q : List ℕ) where
 abbrev pub Key : Type 0
 Key = Vec ℕ Global
 
+abbrev pub texts : List Key → List (List ℕ)
+texts ks = map (λ k. k.items) ks
+
 apart : (name q key : List ℕ) → bytes_eq name q ≡ false → is_eq (slice_cmp nat_cmp name key) ≡ true → is_eq (slice_cmp nat_cmp q key) ≡ false
 apart name q key n y =
     is_eq-slice_cmp q key ∙ nat_list_eq_equiv.symm q key
@@ -182,3 +179,47 @@ own_behind name q false m n w e h = other_keys name q m.entries n.entries h.3 e
 pub own_after : (name q : List ℕ) (m n : BTreeMap Key ℕ) (w : Option ℕ) → UpdatesBy (λ x y. slice_cmp nat_cmp x.items y.items) (λ k. slice_cmp nat_cmp name k.items) m n w
     → own_number n q ≡ cond (bytes_eq name q) w (own_number m q)
 own_after name q m n w h = own_behind name q (bytes_eq name q) m n w refl h
+
+-- ---- one more name
+
+on_ok : {X E : Type 0} {P : Type 0} (r : Result X E) → OnOk r P → is_ok r ≡ true → P
+on_ok (Ok x) h e = h
+on_ok (Err x) h e = absurd cc
+
+pub put : {X E : Type 0} {P : Type 0} (r : Result X E) (b : Bool) → OnOk r P → b ≡ is_ok r → b ≡ true → P
+put r b h e t = on_ok r h (sym e ∙ t)
+
+pub not_there : (o : Option ℕ) (b : Bool) → b ≡ is_some o → b ≡ false → o ≡ None
+not_there None b e f = refl
+not_there (Some i) b e f = absurd cc
+
+within_more : (b : Bool) (old new : Option ℕ) (n l i : ℕ) → new ≡ cond b (Some n) old → n ≡ l → ((j : ℕ) → old ≡ Some j → j < l) → new ≡ Some i → i < l + 1
+within_more true old new n l i f nl h e = omega (arith, ap (λ p. unwrap_or p 0) (sym f ∙ e), nl)
+within_more false old new n l i f nl h e = omega (arith, h i (sym f ∙ e))
+
+module _ (ns : List (List ℕ)) (name : List ℕ) (first : BTreeMap ℕ ℕ) (others : BTreeMap Key ℕ) (table : IsNameTable ns first others)
+    (new : number_among ns name ≡ None) (room : length ns + 1 < 2 ^ 32) (n : ℕ) (count : n ≡ length ns) where
+  -- behind a name that is put in by itself
+  pub with_other : (more : BTreeMap Key ℕ) (key : List ℕ) → key ≡ name
+      → UpdatesBy (λ x y. slice_cmp nat_cmp x.items y.items) (λ k. slice_cmp nat_cmp key k.items) others more (Some n) → IsNameTable (ns ++ name ∷ []) first more
+  with_other more key same h = record {
+    distinct = distinct_last ns name table.distinct (absent ns name new);
+    small = omega (arith, length-append ns (name ∷ []), room);
+    within = λ hash i e. omega (arith, length-append ns (name ∷ []), table.within hash i e);
+    found = λ q.
+        other_added ns name q (own_number others q) (get nat_cmp first (hash_of q)) (own_number more q) new (table.found q) (table.within (hash_of q))
+        (own_after key q others more (Some n) h ∙ ap₂ (λ k m. cond (bytes_eq k q) (Some m) (own_number others q)) same count);
+  }
+
+  -- behind a name that is put in as the first of its hash
+  pub with_first : (more : BTreeMap ℕ ℕ) (hash : ℕ) → hash ≡ hash_of name → get nat_cmp first hash ≡ None
+      → UpdatesBy nat_cmp (nat_cmp hash) first more (Some n) → IsNameTable (ns ++ name ∷ []) more others
+  with_first more hash same none h = record {
+    distinct = distinct_last ns name table.distinct (absent ns name new);
+    small = omega (arith, length-append ns (name ∷ []), room);
+    within = λ k i e. omega (arith, length-append ns (name ∷ []), within_more (is_eq (nat_cmp hash k)) (get nat_cmp first k) (get nat_cmp more k) n (length ns) i (h.0 k) count (table.within k) e);
+    found = λ q.
+        first_added ns name q (own_number others q) (get nat_cmp first (hash_of q)) (get nat_cmp more (hash_of q)) (table.found q) (table.within (hash_of q))
+        (λ e. ap (get nat_cmp first) (sym e ∙ sym same) ∙ none)
+        (h.0 (hash_of q) ∙ ap₂ (λ k m. cond (is_eq (nat_cmp k (hash_of q))) (Some m) (get nat_cmp first (hash_of q))) same count);
+  }

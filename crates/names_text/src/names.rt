@@ -86,7 +86,7 @@ impl Names {
         }
         let hash = hash(&name);
         if self.first.contains_key(&hash) {
-            let key = name.clone()?;
+            let key = Vec::from_slice(*name.allocator(), &name)?;
             self.names.push(name)?;
             if self.others.insert(key, next as u32).is_ok() {
                 return Ok(());
