@@ -1,5 +1,5 @@
 -- Names that are found by two trees.
-use Rattle.std.proofs.Common.{◌≡◌, ℕ, zero, suc, ◌+◌, Bool, true, false, cond, not, ◌||◌, ◌&&◌, List, [], ◌∷◌, ◌++◌, Option, Some, None, option_map, option_and_then, unwrap_or, is_some, map, ◌^◌, Result, Ok, Err, slice_get, Vec, Global, refl, ap, ap₂, sym, subst, ◌∙◌, ◌<◌, length, length-append, arith, add-one}
+use Rattle.std.proofs.Common.{◌≡◌, ℕ, zero, suc, ◌+◌, Bool, true, false, cond, not, ◌||◌, ◌&&◌, List, [], ◌∷◌, ◌++◌, Option, Some, None, option_map, unwrap_or, is_some, map, ◌^◌, Result, Ok, Err, slice_get, Vec, Global, refl, ap, ap₂, sym, subst, ◌∙◌, ◌<◌, length, length-append, arith, add-one}
 use Rattle.std.specs.Str.{bytes_eq}
 use Rattle.std.specs.List.{list_any, position, position_from}
 use Rattle.std.specs.Option.{option_or, option_map_or}
@@ -17,7 +17,7 @@ use Rattle.std.proofs.lemmas.List.Folds.{list_any-append}
 use Rattle.std.proofs.lemmas.Map.Text.{is_eq-slice_cmp}
 use Rattle.std.proofs.lemmas.Slice.Eq.{bytes_eq-Decides}
 use Rattle.names_text.specs.Names.{number_among, are_distinct}
-use Rattle.names_text.specs.NameTable.{hash_of, is_at, number_by, own_number, IsNameTable}
+use Rattle.names_text.specs.NameTable.{hash_of, number_by, own_number, IsNameTable}
 
 module _ {K : Type 0} (test : K → Bool) where
   next_behind : (b : Bool) (i : ℕ) (o p : Option ℕ) → o ≡ option_map suc p → cond b (Some (i + 1)) o ≡ option_map suc (cond b (Some i) p)
@@ -133,8 +133,8 @@ module _ (ns : List (List ℕ)) (name q : List ℕ) where
   first_added own first more found w none e =
       ap (λ f. number_by (ns ++ name ∷ []) own f q) e
       ∙ first_found own first (is_eq (nat_cmp (hash_of name) (hash_of q))) found w
-        (λ t. none (same_number (hash_of name) (hash_of q) _ (ranked (hash_of name) (hash_of q) _ refl) t))
-        (λ t. ap (λ n. is_eq (nat_cmp (hash_of name) (hash_of n))) ((bytes_eq-Decides q name).0 t) ∙ ap is_eq (tied_itself nat_cmp_total (hash_of name)))
+      (λ t. none (same_number (hash_of name) (hash_of q) _ (ranked (hash_of name) (hash_of q) _ refl) t))
+      (λ t. ap (λ n. is_eq (nat_cmp (hash_of name) (hash_of n))) ((bytes_eq-Decides q name).0 t) ∙ ap is_eq (tied_itself nat_cmp_total (hash_of name)))
       ∙ sym (number_behind ns name q)
 
   other_found : (own first : Option ℕ) (b : Bool) → bytes_eq name q ≡ b → number_among ns name ≡ None → number_by ns own first q ≡ number_among ns q
