@@ -2,12 +2,11 @@
 use Rattle.std.proofs.Common.{◌≡◌, ℕ, ◌+◌, ◌-◌, ◌≤◌, ◌<◌, ◌^◌, ◌⊎◌, ◌↔◌, inl, inr, refl, sym, subst, ◌∙◌, arith, true, false, Bool, IsTrue, Option, Some, None}
 use Rattle.std.proofs.lemmas.Bool.{cases_lt}
 use Rattle.trs_defs.specs.Tree.{Tree, Trees}
-use Rattle.trs_defs.specs.Variable.{has_var, occurrences}
-use Rattle.trs_defs.proofs.OccurrenceLaws.{no_occurrence}
+use Rattle.trs_defs.specs.LeastVariable.{least_variable, IsBelow}
+use Rattle.trs_defs.specs.Variable.{occurrences}
+use Rattle.trs_defs.proofs.LeastVariables.{none_below_least}
 use Rattle.pair_theory.specs.Subterm.{Sub, itself, under, Subs, in_head, in_tail}
 use Rattle.order_theory.specs.KnuthBendix.{weigh, weigh_all, KnuthGreater}
-use Rattle.pair_order.specs.LeastVariable.{least_variable}
-use Rattle.pair_order.proofs.LeastVariables.{IsBelow, IsFrom, least_skips, least_from}
 use Rattle.kbo_order.specs.Seen.{SeenGreater, View}
 use Rattle.kbo_order.specs.TooBig.{HasBigWeight, EitherIsBig}
 use Rattle.kbo_order.proofs.Knuth.{seen_of, greater_of, absent}
@@ -31,19 +30,6 @@ not_big w t lt (u, p, le) = omega (arith, weigh_sub w p, le, lt)
 pub either_big : (w : ℕ → ℕ) (s t : Tree) → (2 ^ 63 ≤ weigh w s) ⊎ (2 ^ 63 ≤ weigh w t) → EitherIsBig w s t
 either_big w s t (inl le) = inl (big_of w s le)
 either_big w s t (inr le) = inr (big_of w t le)
-
-next_from : (from : ℕ) (t : Tree) (o : Option ℕ) (x : ℕ) → o ≡ least_variable from None t → o ≡ Some x → from ≤ x
-next_from from t o x e is = subst (IsFrom from) (sym e ∙ is) (least_from from t None tt)
-
-pub next_is_from : (from : ℕ) (t : Tree) (o : Option ℕ) (x : ℕ) → o ≡ least_variable from None t → o ≡ Some x → from ≤ x
-next_is_from = next_from
-
-no_variable : (y : ℕ) (t : Tree) → (IsTrue (has_var y t) → ⊥) → occurrences y t ≡ 0
-no_variable y t none = go (has_var y t) refl
-  where
-    go : (b : Bool) → has_var y t ≡ b → occurrences y t ≡ 0
-    go true e = absurd (none e)
-    go false e = no_occurrence y t e
 
 module _ (w rank : ℕ → ℕ) (s t : Tree) where
   -- variable 0 and the variables below a number all see that s is greater
@@ -94,7 +80,7 @@ module _ (w rank : ℕ → ℕ) (s t : Tree) where
     }
       where
         none : (y : ℕ) → from ≤ y → y < x → occurrences y t ≡ 0
-        none y le below = no_variable y t (least_skips from t None y le (subst (IsBelow y) (sym is ∙ e) below)).1
+        none y le below = none_below_least from t o e y le (subst (IsBelow y) (sym is) below)
 
     pub seen_all : o ≡ None → (EitherIsBig w s t → ⊥) × (IsTrue true ↔ KnuthGreater w rank s t)
     seen_all is = (
@@ -103,4 +89,4 @@ module _ (w rank : ℕ → ℕ) (s t : Tree) where
     )
       where
         none : (x y : ℕ) → from ≤ y → y < x + 1 → occurrences y t ≡ 0
-        none x y le below = no_variable y t (least_skips from t None y le (subst (IsBelow y) (sym is ∙ e) tt)).1
+        none x y le below = none_below_least from t o e y le (subst (IsBelow y) (sym is) tt)

@@ -9,8 +9,8 @@ ghost use Rattle.kbo_order.specs.Seen.{Sees, IsView, IsWeight, AreWeights, AreAp
 use crate::Weighting;
 use crate::balances::{Balances, Side};
 use crate::measure::{Seen, Weights, plus};
-use pair_order::{TooBig, least_variable};
-use trs_core::Term;
+use pair_order::TooBig;
+use trs_core::{Term, least_variable};
 
 /// How many variables the first walk takes: most terms have no more.
 const FIRST_WINDOW: usize = 8;

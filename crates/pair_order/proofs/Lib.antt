@@ -2,4 +2,3 @@ pub mod Erasure
 pub mod Placing
 pub mod Making
 pub mod Opening
-pub mod LeastVariables

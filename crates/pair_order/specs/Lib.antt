@@ -2,4 +2,3 @@ pub mod Compared
 pub mod Spoken
 pub mod Entries
 pub mod FirstFault
-pub mod LeastVariable

@@ -4,12 +4,10 @@
 mod pairs;
 mod removal;
 mod symbol_index;
-mod variables;
 
 pub use pairs::{PairingOrder, ReductionPair, TooBig};
 pub use removal::remove_pairs_with_entries;
 pub use symbol_index::SymbolIndex;
-pub use variables::{least_variable, next_variable};
 
 /// What the number of a symbol grows by where it is marked.
 pub const MARK: u32 = 4_096;

@@ -4,7 +4,7 @@ use Rattle.std.proofs.lemmas.Bool.{cases_lt, or_parts}
 use Rattle.std.proofs.lemmas.Bool.Decides.{nat_tests}
 use Rattle.trs_defs.specs.Tree.{Tree}
 use Rattle.order_theory.specs.LinearInterpretation.{coefficient}
-use Rattle.pair_order.proofs.LeastVariables.{IsBelow}
+use Rattle.trs_defs.specs.LeastVariable.{IsBelow}
 use Rattle.poly_lin.specs.Covering.{HasNoneBefore}
 use Rattle.poly_lin.specs.Faults.{has_big}
 

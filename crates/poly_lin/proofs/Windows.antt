@@ -4,7 +4,7 @@ use Rattle.std.proofs.lemmas.Bool.{cases_lt}
 use Rattle.std.proofs.lemmas.List.{get_or-replicate}
 use Rattle.trs_defs.specs.Tree.{Tree, Trees, app, nil, cons}
 use Rattle.order_theory.specs.LinearInterpretation.{coefficient, coefficients}
-use Rattle.pair_order.proofs.LeastVariables.{IsBelow, IsFrom}
+use Rattle.trs_defs.specs.LeastVariable.{IsBelow, IsFrom}
 use Rattle.poly_lin.specs.Covering.{CoversAt, Covers, AreCovered, AreAdded, HasNoneBefore}
 use Rattle.poly_lin.proofs.Saturation.{multiple_saturates}
 

@@ -2,7 +2,7 @@
 use Rattle.std.specs.Prelude.{◌≡◌, ◌<◌, ◌≤◌, ◌+◌, ◌*◌, ◌-◌, ◌^◌, ℕ, List, Option, Some, None, min, slice_index}
 use Rattle.trs_defs.specs.Tree.{Tree}
 use Rattle.order_theory.specs.LinearInterpretation.{coefficient}
-use Rattle.pair_order.proofs.LeastVariables.{IsBelow, IsFrom}
+use Rattle.trs_defs.specs.LeastVariable.{IsBelow, IsFrom}
 
 -- the coefficient of a variable in s is at least that in t
 abbrev pub CoversAt : (ℕ → ℕ → ℕ) → Tree → Tree → ℕ → Type 0

@@ -4,8 +4,7 @@ ghost use Rattle.trs_core.specs.View.{tree};
 ghost use Rattle.poly_lin.specs.Covering.{AreAdded, HasNoneBefore, IsBehind};
 
 use crate::Coefficients;
-use pair_order::least_variable;
-use trs_core::Term;
+use trs_core::{Term, least_variable};
 
 /// How many variables one walk takes of a term with many.
 pub(crate) const MANY: usize = 512;

@@ -1,5 +1,6 @@
 pub mod Faults
 pub mod Limits
+pub mod Marked
 pub mod Matching
 pub mod Occurrences
 pub mod RuleChecks

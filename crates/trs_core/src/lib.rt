@@ -9,7 +9,9 @@ mod checking;
 mod extra;
 mod faults;
 mod laws;
+mod least;
 mod limits;
+mod linear;
 mod matching;
 mod memory;
 mod positions;
@@ -23,6 +25,7 @@ pub use applying::ApplySize;
 pub use bindings::Subst;
 pub use faults::TrsFault;
 pub use laws::systems_are_valid;
+pub use least::least_variable;
 pub use limits::{
     GREATEST_DEPTH, GREATEST_NUMBER, MOST_NODES, MOST_RULES, MOST_SYMBOLS, MOST_VARIABLES,
 };

@@ -18,4 +18,5 @@ pub mod VariableLaws
 pub mod NormalForms
 pub mod WellFormedness
 pub mod OccurrenceLaws
+pub mod LeastVariables
 pub mod CapLaws

@@ -1,9 +1,9 @@
 -- How often variables occur.
-use Rattle.std.specs.Prelude.{◌≡◌, ◌≤◌, ◌↔◌, ℕ, Bool, true, false, IsTrue, refl}
+use Rattle.std.specs.Prelude.{◌≡◌, ℕ, Bool, true, false, IsTrue, refl}
 use Rattle.std.proofs.Common.{arith}
 use Rattle.std.proofs.lemmas.Bool.{or_parts}
 use Rattle.trs_defs.specs.Tree.{Tree, Trees, var, app, nil, cons}
-use Rattle.trs_defs.specs.Variable.{has_var, some_has_var, occurrences, occurrences_in_all, IsLinear}
+use Rattle.trs_defs.specs.Variable.{has_var, some_has_var, occurrences, occurrences_in_all}
 
 mutual
   -- a variable that a term lacks does not occur in it
@@ -17,10 +17,9 @@ mutual
       let none = or_parts (has_var v t) (some_has_var v ts) e in
       omega (arith, no_occurrence v t none.0, no_occurrence_in_all v ts none.1)
 
--- a term is linear where each variable that it has occurs at most once
-pub linear_by_variables : (t : Tree) → ((v : ℕ) → IsTrue (has_var v t) → occurrences v t ≤ 1) ↔ IsLinear t
-linear_by_variables t = (λ h v. go v (has_var v t) refl h, λ h v _. h v)
+pub no_variable : (v : ℕ) (t : Tree) → (IsTrue (has_var v t) → ⊥) → occurrences v t ≡ 0
+no_variable v t none = go (has_var v t) refl
   where
-    go : (v : ℕ) (b : Bool) → has_var v t ≡ b → ((v : ℕ) → IsTrue (has_var v t) → occurrences v t ≤ 1) → occurrences v t ≤ 1
-    go v true e h = h v e
-    go v false e h = omega (arith, no_occurrence v t e)
+    go : (b : Bool) → has_var v t ≡ b → occurrences v t ≡ 0
+    go true e = absurd (none e)
+    go false e = no_occurrence v t e

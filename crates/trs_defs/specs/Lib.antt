@@ -7,6 +7,7 @@ pub mod Member
 pub mod Tree
 pub mod Size
 pub mod Variable
+pub mod LeastVariable
 pub mod WellFormed
 pub mod Substitution
 pub mod Position

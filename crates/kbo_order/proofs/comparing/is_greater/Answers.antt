@@ -1,8 +1,9 @@
 use Rattle.std.proofs.Common.{◌<◌, ◌^◌, ◌+◌, ◌-◌, subst, sym, arith}
 use Rattle.std.proofs.lemmas.Result.{err_from_is_err_and}
+use Rattle.trs_defs.proofs.LeastVariables.{least_is_from}
 use Rattle.trs_core.specs.View.{tree}
 use Rattle.kbo_order.specs.declared.comparing.TheConstants.{FIRST_WINDOW, SECOND_WINDOW, LATER_WINDOW}
-use Rattle.kbo_order.proofs.Viewers.{SeenBelow, either_big, next_is_from, seen_first, seen_more, seen_all, unseen}
+use Rattle.kbo_order.proofs.Viewers.{SeenBelow, either_big, seen_first, seen_more, seen_all, unseen}
 use Rattle.kbo_order.proofs.comparing.is_greater.Goals as goal
 
 pub returns-in_err-first : goal.returns-in_err-first
@@ -42,7 +43,7 @@ returns-then-not-next g c =
 
 pub loop-x-smaller : goal.loop-x-smaller
 loop-x-smaller g c =
-    let from_le = next_is_from c.loop-x.from (tree c.args.t.now) c.least_variable-in-loop-x.result c.in-Some-least_variable.x c.least_variable-in-loop-x.ensures c.in-Some-least_variable.is in
+    let from_le = least_is_from c.loop-x.from (tree c.args.t.now) c.least_variable-in-loop-x.result c.least_variable-in-loop-x.ensures c.in-Some-least_variable.x c.in-Some-least_variable.is in
     let less : 2 ^ 64 - (c.from-in-Some-least_variable.result + LATER_WINDOW) < 2 ^ 64 - c.loop-x.from = omega arith in less
 
 pub loop-x-preserved : goal.loop-x-preserved

@@ -1,5 +1,5 @@
 -- The least variable of a term from a number on.
-use Rattle.std.specs.Prelude.{ℕ, Bool, true, Option, Some, None, nat_le, nat_lt, if◌then◌else◌}
+use Rattle.std.specs.Prelude.{ℕ, ◌≤◌, ◌<◌, Bool, true, Option, Some, None, nat_le, nat_lt, if◌then◌else◌}
 use Rattle.trs_defs.specs.Tree.{Tree, Trees, var, app, nil, cons}
 
 abbrev pub is_less : ℕ → Option ℕ → Bool
@@ -19,3 +19,12 @@ abbrev mutual
   pub least_of_all : ℕ → Option ℕ → Trees → Option ℕ
   least_of_all from best nil = best
   least_of_all from best (cons t ts) = least_of_all from (least_variable from best t) ts
+
+-- less than the least variable that was found
+abbrev pub IsBelow : ℕ → Option ℕ → Type 0
+IsBelow y None = Unit {0}
+IsBelow y (Some x) = y < x
+
+abbrev pub IsFrom : ℕ → Option ℕ → Type 0
+IsFrom from None = Unit {0}
+IsFrom from (Some x) = from ≤ x

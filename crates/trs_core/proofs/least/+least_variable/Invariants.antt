@@ -1,7 +1,7 @@
 use Rattle.std.proofs.Common.{◌≡◌, drop}
+use Rattle.trs_defs.specs.LeastVariable.{least_variable, least_of_all}
 use Rattle.trs_core.specs.View.{tree, forest}
-use Rattle.pair_order.specs.LeastVariable.{least_variable, least_of_all}
-use Rattle.pair_order.proofs.variables.+least_variable.Given as goal
+use Rattle.trs_core.proofs.least.+least_variable.Given as goal
 
 abbrev pub invariant-loop-arg : goal.invariant-loop-arg
 invariant-loop-arg l =

@@ -2,18 +2,10 @@
 use Rattle.std.proofs.Common.{◌≡◌, ℕ, ◌≤◌, ◌<◌, inl, inr, refl, sym, subst, ◌∙◌, arith, Option, Some, None, true, false, Bool, cond, IsTrue, nat_le, nat_lt}
 use Rattle.std.proofs.lemmas.Bool.Decides.{nat_tests}
 use Rattle.trs_defs.specs.Tree.{Tree, Trees, var, app, nil, cons}
-use Rattle.trs_defs.specs.Variable.{has_var, some_has_var}
+use Rattle.trs_defs.specs.LeastVariable.{is_less, better, least_variable, least_of_all, IsBelow, IsFrom}
+use Rattle.trs_defs.specs.Variable.{has_var, some_has_var, occurrences}
 use Rattle.trs_defs.proofs.VariableLaws.{has_var_same, has_var_cons}
-use Rattle.pair_order.specs.LeastVariable.{is_less, better, least_variable, least_of_all}
-
--- less than the least variable that was found
-abbrev pub IsBelow : ℕ → Option ℕ → Type 0
-IsBelow y None = Unit {0}
-IsBelow y (Some x) = y < x
-
-abbrev pub IsFrom : ℕ → Option ℕ → Type 0
-IsFrom from None = Unit {0}
-IsFrom from (Some x) = from ≤ x
+use Rattle.trs_defs.proofs.OccurrenceLaws.{no_variable}
 
 module _ (from : ℕ) where
   better_skips : (best : Option ℕ) (x y : ℕ) → from ≤ y → IsBelow y (better from best x) → IsBelow y best × (x ≡ y → ⊥)
@@ -60,18 +52,10 @@ module _ (from : ℕ) where
     all_from nil best h = h
     all_from (cons t ts) best h = all_from ts (least_variable from best t) (least_from t best h)
 
-abbrev pub next_of : ℕ → Tree → Tree → Option ℕ
-next_of from s t = least_variable from (least_variable from None s) t
+module _ (from : ℕ) (t : Tree) (o : Option ℕ) (found : o ≡ least_variable from None t) where
+  pub least_is_from : (x : ℕ) → o ≡ Some x → from ≤ x
+  least_is_from x is = subst (IsFrom from) (sym found ∙ is) (least_from from t None tt)
 
-pub next_from : (from : ℕ) (s t : Tree) (o : Option ℕ) (x : ℕ) → o ≡ next_of from s t → o ≡ Some x → from ≤ x
-next_from from s t o x e is = subst (IsFrom from) (sym e ∙ is) (least_from from t _ (least_from from s None tt))
-
--- neither term has the variable
-abbrev pub IsAbsent : ℕ → Tree → Tree → Type 0
-IsAbsent y s t = (IsTrue (has_var y s) → ⊥) × (IsTrue (has_var y t) → ⊥)
-
-pub absent_below : (from : ℕ) (s t : Tree) (y : ℕ) → from ≤ y → IsBelow y (next_of from s t) → IsAbsent y s t
-absent_below from s t y h below =
-    let second = least_skips from t (least_variable from None s) y h below in
-    let first = least_skips from s None y h second.0 in
-    (first.1, second.1)
+  -- no variable from the number on and below the least found occurs
+  pub none_below_least : (y : ℕ) → from ≤ y → IsBelow y o → occurrences y t ≡ 0
+  none_below_least y le below = no_variable y t (least_skips from t None y le (subst (IsBelow y) found below)).1

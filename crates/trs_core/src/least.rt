@@ -1,18 +1,11 @@
-ghost use Rattle.std.specs.Prelude.{◌≡◌, None};
+ghost use Rattle.std.specs.Prelude.{◌≡◌};
+ghost use Rattle.trs_defs.specs.LeastVariable.{is_less, better, least_variable};
 ghost use Rattle.trs_core.specs.View.{tree};
-ghost use Rattle.pair_order.specs.LeastVariable.{is_less, better, least_variable};
 
-use trs_core::Term;
+use crate::Term;
 
-/// The least variable of two terms from a number on. So all of them are met in their order, by one
-/// walk of the terms for each, and with no memory.
-pub fn next_variable(a: &Term, b: &Term, from: u64) -> Option<u32>
-    ensures { result ≡ least_variable from (least_variable from None (tree a.now)) (tree b.now) }
-{
-    least_variable(b, from, least_variable(a, from, None))
-}
-
-/// The least of the term's variables from a number on, and of the best so far.
+/// The least of the term's variables from a number on, and of the best so far. So all variables are
+/// met in their order, by one walk of the term for each, and with no memory.
 pub fn least_variable(t: &Term, from: u64, best: Option<u32>) -> Option<u32>
     ensures { result ≡ least_variable from best (tree t.now) }
 {

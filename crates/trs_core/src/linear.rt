@@ -1,0 +1,81 @@
+//! Whether no variable occurs twice. Each walk over a term looks for some variables, the window.
+ghost use Rattle.std.specs.Prelude.{◌≡◌, ◌↔◌, ◌<◌, ℕ, length, IsTrue};
+ghost use Rattle.trs_defs.specs.Tree.{var};
+ghost use Rattle.trs_defs.specs.Variable.{IsLinear};
+ghost use Rattle.trs_core.specs.View.{tree};
+ghost use Rattle.trs_core.specs.Marked.{times_met, Marks, OccurOnce};
+
+use crate::least::least_variable;
+use crate::Term;
+
+/// How many variables one walk looks for.
+const WINDOW: usize = 1_024;
+
+impl Term {
+    /// Whether no variable occurs twice. (Baader and Nipkow, definition 6.3.1.) It takes no memory,
+    /// and two walks over the term for a thousand variables.
+    pub fn is_linear(&self) -> bool
+        ensures { IsTrue result ↔ IsLinear (tree self.now) }
+    {
+        let mut from: u64 = 0;
+        while let Some(x) = least_variable(self, from, None) {
+            if !occur_once(x, self) {
+                return false;
+            }
+            from = u64::from(x) + WINDOW as u64;
+        }
+        true
+    }
+}
+
+/// Whether no variable from a number on, of those that one walk looks for, occurs twice.
+fn occur_once(from: u32, t: &Term) -> bool
+    ensures { IsTrue result ↔ OccurOnce WINDOW from (tree t.now) }
+{
+    let mut marks = no_marks();
+    mark_variables(from, t, &mut marks)
+}
+
+fn no_marks() -> [bool; WINDOW]
+    ensures length { length result ≡ WINDOW }
+    ensures none { (i : ℕ) → i < WINDOW → times_met result i ≡ 0 }
+{
+    [false; WINDOW]
+}
+
+/// Marks the variables of a term. The answer is whether each is met for the first time.
+fn mark_variables(from: u32, t: &Term, marks: &mut [bool; WINDOW]) -> bool
+    ensures length { length marks.new ≡ WINDOW }
+    ensures marks { Marks WINDOW from (tree t.now) marks.old marks.new result }
+{
+    match t {
+        Term::Var(x) => mark(from, *x, marks),
+        Term::App(_, args) => {
+            for arg in &args.items {
+                if !mark_variables(from, arg, marks) {
+                    return false;
+                }
+            }
+            true
+        }
+    }
+}
+
+/// Marks a variable, if the window has it. The answer is whether it is met for the first time.
+fn mark(from: u32, x: u32, marks: &mut [bool; WINDOW]) -> bool
+    ensures length { length marks.new ≡ WINDOW }
+    ensures marks { Marks WINDOW from (var x) marks.old marks.new result }
+{
+    if x < from {
+        return true;
+    }
+    let place = (x - from) as usize;
+    if place >= WINDOW {
+        return true;
+    }
+    if marks[place] {
+        return false;
+    }
+    marks[place] = true;
+    true
+}
