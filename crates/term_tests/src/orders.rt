@@ -7,16 +7,17 @@ use std::alloc::Global;
 use std::test::Fail;
 use trs_core::{Args, OutOfMemory, Term};
 
-/// The term of a text, symbol first, one letter a node. The variables `x` and `y` are 0 and 1, the
-/// symbols `0`, `s`, `+` and `d` are 0, 1, 2 and 3, and `#` is the marked `+`.
+/// The term of a text, symbol first, one letter a node. The variables `x`, `y` and `z` are 0, 1 and
+/// 700, the symbols `0`, `s`, `+`, `d` and `k` are 0, 1, 2, 3 and 4, and `#` is the marked `+`.
 fn read(alloc: Global, text: &[u8]) -> Result<Term, OutOfMemory> {
     let mut stack: Vec<Term> = Vec::new(alloc);
     for letter in text.iter().rev() {
         let (symbol, arity) = match *letter {
-            b'0' => (0, 0),
+            b'0' | b'x' | b'y' | b'z' => (0, 0),
             b's' => (1, 1),
             b'+' => (2, 2),
             b'#' => (4_098, 2),
+            b'k' => (4, 1),
             _ => (3, 1),
         };
         let mut items = Vec::new(alloc);
@@ -26,6 +27,7 @@ fn read(alloc: Global, text: &[u8]) -> Result<Term, OutOfMemory> {
         stack.push(match *letter {
             b'x' => Term::Var(0),
             b'y' => Term::Var(1),
+            b'z' => Term::Var(700),
             _ => Term::App(symbol, Args { items }),
         })?;
     }
@@ -81,6 +83,55 @@ fn a_linear_interpretation_compares(rt: HostRuntime) -> Result<(), Fail> {
     }
     let fault = linear(alloc, &[(8191, &[0])])?.err();
     assert!(rt; fault == Some(TableFault::Twice(8191)));
+    Ok(())
+}
+
+/// A term of the symbols 5 and 6 that has the variables from 0 to 749, and then this one.
+fn wide(alloc: Global, last: &[u8]) -> Result<Term, OutOfMemory> {
+    let mut parts = Vec::new(alloc);
+    for part in 0..3 {
+        let mut items = Vec::new(alloc);
+        for x in 0..250 {
+            items.push(Term::Var(250 * part + x))?;
+        }
+        parts.push(Term::App(5, Args { items }))?;
+    }
+    parts.push(read(alloc, last)?)?;
+    Ok(Term::App(6, Args { items: parts }))
+}
+
+#[test]
+fn a_linear_interpretation_compares_many_variables(rt: HostRuntime) -> Result<(), Fail> {
+    let alloc = rt.alloc();
+    let mut ones = Vec::new(alloc);
+    for _ in 0..251 {
+        ones.push(1)?;
+    }
+    let entries: [(u32, &[u64]); 6] = [
+        (1, &[1, 1]),
+        (2, &[0, 1, 1]),
+        (3, &[0, 1 << 62]),
+        (4, &[0, 0]),
+        (5, ones.as_slice()),
+        (6, &[0, 1, 1, 1, 1]),
+    ];
+    let table = linear(alloc, &entries)??;
+    // A coefficient that is too big is met where the argument counts, and where it counts for 0.
+    let rows: [(&[u8], &[u8], Compared); 8] = [
+        (b"z", b"z", (Ok(true), Ok(false))),
+        (b"sz", b"z", (Ok(true), Ok(true))),
+        (b"z", b"+zz", (Ok(false), Ok(false))),
+        (b"+zz", b"z", (Ok(true), Ok(false))),
+        (b"+dzdx", b"z", (Ok(true), Ok(false))),
+        (b"+dzdz", b"z", (Err(TooBig), Err(TooBig))),
+        (b"k+dzdx", b"kz", (Ok(true), Ok(false))),
+        (b"kz", b"k+dzdz", (Err(TooBig), Err(TooBig))),
+    ];
+    for (left, right, want) in rows {
+        let left = wide(alloc, left)?;
+        let right = wide(alloc, right)?;
+        assert!(rt; (table.weak(&left, &right), table.strict(&left, &right)) == want);
+    }
     Ok(())
 }
 
