@@ -25,7 +25,7 @@ const EXPLODING: &[u8] = b"(format TRS) (fun H 28) (fun P 2) (fun 1 0) (fun 2 0)
 const EXPLODING_ORDER: &[u8] = b"(order (sym H 1) (sym P 0) (sym 1 0) (sym 2 0))";
 
 // What is answered for both texts.
-fn answered(
+fn answer(
     alloc: Global,
     problem: &[u8],
     order: &[u8],
@@ -45,7 +45,7 @@ fn ends(
     budget: u64,
     wanted: &[u8],
 ) -> Result<bool, Fail> {
-    match answered(alloc, problem, order, budget)? {
+    match answer(alloc, problem, order, budget)? {
         CompletionAnswer::Ended(text) => Ok(text.as_slice() == wanted),
         _ => Ok(false),
     }
@@ -76,9 +76,9 @@ fn large_peaks_take_no_unit(rt: HostRuntime) -> Result<(), Fail> {
 
 #[test]
 fn texts_are_refused(rt: HostRuntime) -> Result<(), Fail> {
-    let found = answered(rt.alloc(), b"", b"(", 5)?;
+    let found = answer(rt.alloc(), b"", b"(", 5)?;
     assert!(rt; matches!(found, CompletionAnswer::ProblemRefused(AriFault::NoFormat)));
-    let found = answered(rt.alloc(), SQUARE, b"(", 5)?;
+    let found = answer(rt.alloc(), SQUARE, b"(", 5)?;
     assert!(rt; matches!(found, CompletionAnswer::OrderRefused(0)));
     Ok(())
 }

@@ -27,7 +27,7 @@ const PRINTED: [(&[u8], &[u8]); 3] = [
 const ON_PAIRS: &[u8] =
     b"YES\n(certificate 1 terminating)\n(step 0 (dp))\n(step 1 (graph (group 0 2) (single 1)))\n(step 2 (subterm (f 1)))\n(step 3 (poly (sym f 1 1) (mark f 0 9223372036854775807)))\n(step 4 (lpo (sym f 1 (1)) (mark f 0 1)))\n(step 5 (kbo (sym f 0 2) (mark f 1 1)))\n(step 6 (usable-poly (mark f 1 0)))\n";
 
-fn printed(alloc: Global, system: &NamedTrs, text: &[u8]) -> Result<Vec<u8>, Fail> {
+fn print(alloc: Global, system: &NamedTrs, text: &[u8]) -> Result<Vec<u8>, Fail> {
     if text.len() > 1_000 {
         return Err(Fail::new("a short text"));
     }
@@ -41,7 +41,7 @@ fn is_printed_as(
     text: &[u8],
     expected: &[u8],
 ) -> Result<bool, Fail> {
-    let text = printed(alloc, system, text)?;
+    let text = print(alloc, system, text)?;
     Ok(text.as_slice() == expected)
 }
 

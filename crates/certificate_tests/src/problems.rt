@@ -10,7 +10,7 @@ const BELOW: &[u8] =
 const UNDERSCORES: &[u8] = b"(format TRS)\n(fun _0 1)\n(fun __ 0)\n(rule (_0 x) __)\n";
 
 // The text that is printed of what a text says.
-fn printed(alloc: Global, text: &[u8]) -> Result<Vec<u8>, Fail> {
+fn print(alloc: Global, text: &[u8]) -> Result<Vec<u8>, Fail> {
     if text.len() > 1_000 {
         return Ok(Vec::new(alloc));
     }
@@ -23,8 +23,8 @@ fn declarations_stand_first_and_variables_get_numbers(rt: HostRuntime) -> Result
     let alloc = rt.alloc();
     let text =
         b"(format TRS)\n(fun |:| 2)\n(fun ++ 2)\n(fun c 0)\n(rule (|:| c _0) (++ _0 c))\n(rule (++ _0 c) _0)\n";
-    assert_eq!(rt; printed(alloc, BELOW)?.as_slice(), text.as_slice());
+    assert_eq!(rt; print(alloc, BELOW)?.as_slice(), text.as_slice());
     let clash = b"(format TRS)\n(fun _0 1)\n(fun __ 0)\n(rule (_0 ___0) __)\n";
-    assert_eq!(rt; printed(alloc, UNDERSCORES)?.as_slice(), clash.as_slice());
+    assert_eq!(rt; print(alloc, UNDERSCORES)?.as_slice(), clash.as_slice());
     Ok(())
 }

@@ -13,7 +13,7 @@ ghost use Rattle.conf_find.specs.ForkRows.{NothingParted, PartsLists};
 use crate::forks::{ForkFound, fork_from};
 use crate::mark::{Mark, marks_of};
 use crate::parting::first_parted;
-use crate::reaching::{entry, reached};
+use crate::reaching::{entry, reach};
 use assign_search::{Search, Stop};
 use join_find::critical_peaks_have_sides;
 use rewrite_core::{ForkTest, PathStep, Peak};
@@ -93,11 +93,11 @@ fn fork_within<M: Mark>(
         (λ f. PartsBy M.never_meet trs.now.rules peak.now (fork_of f))) }
     ensures kept { Extends pool.old pool.new }
 {
-    let lefts = reached(alloc, pool, trs, &peak.left)?;
+    let lefts = reach(alloc, pool, trs, &peak.left)?;
     if peak.left.same(&peak.right) {
         return fork_between::<M>(alloc, pool, by_root, peak, &lefts, &lefts);
     }
-    let rights = reached(alloc, pool, trs, &peak.right)?;
+    let rights = reach(alloc, pool, trs, &peak.right)?;
     fork_between::<M>(alloc, pool, by_root, peak, &lefts, &rights)
 }
 

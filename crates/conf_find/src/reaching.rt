@@ -18,7 +18,7 @@ const MOST_TERMS: u32 = 32;
 const MOST_NODES: u64 = 4_096;
 
 /// The terms that a side of a peak reaches, in up to 8 steps, up to 32 of up to 4,096 nodes.
-pub(crate) fn reached(
+pub(crate) fn reach(
     alloc: Global,
     pool: &mut Pool,
     trs: &Trs,

@@ -26,5 +26,5 @@ pub use ordered::pair_check;
 pub use pair_order::{MARK, PairingOrder, ReductionPair};
 pub use pairs::DpPair;
 pub use prepared::Pairs;
-pub use sides::{Side, Sides, pair_left, pair_right};
+pub use sides::{Side, Sides, marked_term, pair_left, pair_right};
 pub use subterm::subterm_check;

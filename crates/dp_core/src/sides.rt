@@ -82,15 +82,15 @@ fn marked_copy(alloc: Global, t: &Term) -> Result<Term, OutOfMemory>
 }
 
 /// A side as a term, with its root marked.
-pub(crate) fn marked_term(alloc: Global, side: &Side) -> Result<Term, OutOfMemory>
+pub fn marked_term(alloc: Global, side: &Side) -> Result<Term, OutOfMemory>
     requires { side.now.symbol < 4096 }
     ensures { IfOk result (λ t. tree t ≡ mark side.now) }
 {
-    let args = copied(alloc, side.args)?;
+    let args = copy_args(alloc, side.args)?;
     Ok(Term::App(side.symbol + MARK, args))
 }
 
-fn copied(alloc: Global, args: &Args) -> Result<Args, OutOfMemory>
+fn copy_args(alloc: Global, args: &Args) -> Result<Args, OutOfMemory>
     ensures { IfOk result (λ copy. copy ≡ args.now) }
 {
     let mut copies = Vec::with_capacity(alloc, args.items.len())?;

@@ -14,7 +14,7 @@ ghost use Rattle.join_find.specs.StrongRow.{IsFirstHalf, HasNoHalf};
 use crate::common::first_common;
 use crate::kept_lists::KeptLists;
 use crate::near::near;
-use crate::reaching::reached;
+use crate::reaching::reach;
 use closed_pairs::Join;
 use std::alloc::Global;
 use term_pool::{Pool, RulesByRoot, ids_are_distinct};
@@ -141,7 +141,7 @@ impl ReachedSides {
         if self.reached.has(id) {
             return Ok(());
         }
-        let list = reached(alloc, &mut self.pool, trs, id)?;
+        let list = reach(alloc, &mut self.pool, trs, id)?;
         self.near = KeptLists::new(alloc);
         self.reached.put(id, list)
     }

@@ -17,7 +17,7 @@ const MOST_TERMS: u32 = 256;
 const MOST_NODES: u64 = 4_096;
 
 /// The terms that the term of an id reaches, in up to 16 steps, up to 256 of up to 4,096 nodes.
-pub(crate) fn reached(
+pub(crate) fn reach(
     alloc: Global,
     pool: &mut Pool,
     trs: &Trs,

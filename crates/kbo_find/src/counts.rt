@@ -28,7 +28,7 @@ impl Counts {
             ≡ length occurrences.now.variables.items
             + sum_by weight occurrences.now.symbols.items) }
     {
-        let symbols = grouped(alloc, &occurrences.symbols)?;
+        let symbols = group(alloc, &occurrences.symbols)?;
         let variables = occurrences.variables.len() as u64;
         Ok(Counts { symbols, variables })
     }
@@ -47,7 +47,7 @@ impl Counts {
 }
 
 /// Numbers with how often each stands there; equal ones that are apart are counted apart.
-fn grouped(alloc: Global, symbols: &[u32]) -> Result<Vec<Count>, OutOfMemory>
+fn group(alloc: Global, symbols: &[u32]) -> Result<Vec<Count>, OutOfMemory>
     ensures { IfOk result (λ counts. (weight : ℕ → ℕ) →
         total_of weight counts.items ≡ sum_by weight symbols.now) }
 {

@@ -165,14 +165,14 @@ fn labelled_by<P: Stop>(
     match joins_by(alloc, trs, by_root, growth, peaks, ranks, sides, stop)? {
         None => Ok(Search::Stopped),
         Some(joins) => {
-            let ranks = widened(alloc, ranks)?;
+            let ranks = widen(alloc, ranks)?;
             Ok(Search::Found(Labelled { ranks, joins }))
         }
     }
 }
 
 /// The same numbers.
-fn widened(alloc: Global, ranks: &[u32]) -> Result<Vec<u64>, OutOfMemory>
+fn widen(alloc: Global, ranks: &[u32]) -> Result<Vec<u64>, OutOfMemory>
     ensures { IfOk result (λ wide. wide.items ≡ ranks.now) }
 {
     let mut wide = Vec::with_capacity(alloc, ranks.len())?;

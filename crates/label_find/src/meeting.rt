@@ -7,7 +7,7 @@ ghost use Rattle.label_find.specs.Lists.{AddsList, HasRules};
 ghost use Rattle.label_find.specs.Meetings.{AddsMeeting, AreMeetings};
 ghost use Rattle.label_find.specs.Grouping.{AreOpenOrSettled};
 
-use crate::grouping::{Groups, grouped};
+use crate::grouping::{Groups, group};
 use rewrite_core::PathStep;
 use std::alloc::Global;
 use trs_core::OutOfMemory;
@@ -30,8 +30,8 @@ pub(crate) fn meetings_of(
     ensures { IfOk result (λ meetings.
         AreMeetings lefts.now lefts.now rights.now meetings.items) }
 {
-    let mut from_left = grouped(alloc, lefts)?;
-    let mut from_right = grouped(alloc, rights)?;
+    let mut from_left = group(alloc, lefts)?;
+    let mut from_right = group(alloc, rights)?;
     let mut meetings = Vec::new(alloc);
     for left in lefts {
         add_meeting(

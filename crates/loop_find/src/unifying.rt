@@ -41,7 +41,7 @@ pub(crate) fn narrow_by_unifier(
     if !is_small(&unifier, left) {
         return Ok(None);
     }
-    let result = contracted(alloc, right, place, &apart.right)?;
+    let result = contract(alloc, right, place, &apart.right)?;
     if !is_small(&unifier, &result) {
         return Ok(None);
     }
@@ -65,7 +65,7 @@ fn is_small(unifier: &Unifier, t: &Term) -> bool
 }
 
 /// The term with another one at the place.
-fn contracted(alloc: Global, right: &Term, place: &[u8], by: &Term) -> Result<Term, OutOfMemory>
+fn contract(alloc: Global, right: &Term, place: &[u8], by: &Term) -> Result<Term, OutOfMemory>
     requires there { subterm_at place.now (tree right.now) ≢ None }
     requires positive { All (λ n. 0 < n) place.now }
     ensures { IfOk result (λ u.

@@ -51,13 +51,13 @@ fn filter_at(filters: &[Vec<Filter>], place: u32, number: u32) -> LentFilter<'_>
         (Keep []) }
 {
     match filters.get(place as usize) {
-        Some(filters) => numbered(filters, number),
+        Some(filters) => filter_of(filters, number),
         None => LentFilter::Keep(&[]),
     }
 }
 
 /// The filter of this number; behind them the one that keeps nothing.
-fn numbered(filters: &[Filter], number: u32) -> LentFilter<'_>
+fn filter_of(filters: &[Filter], number: u32) -> LentFilter<'_>
     ensures { lent_filter result
         ≡ unwrap_or (slice_get (map plain_filter filters.now) number) (Keep []) }
 {

@@ -9,13 +9,13 @@ pub fn arity_of(arities: &[u8], symbol: u32) -> u32
     ensures value { result ≡ arity_with_mark arities.now symbol }
     ensures byte { result < 256 }
 {
-    match arities.get(unmarked(symbol) as usize) {
+    match arities.get(unmark(symbol) as usize) {
         Some(arity) => u32::from(*arity),
         None => 0,
     }
 }
 
-fn unmarked(symbol: u32) -> u32
+fn unmark(symbol: u32) -> u32
     ensures { result ≡ unmarked symbol }
 {
     if symbol < MARK { symbol } else { symbol - MARK }

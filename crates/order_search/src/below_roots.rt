@@ -8,7 +8,7 @@ ghost use Rattle.order_search.specs.Ascending.{AreAscending};
 ghost use Rattle.order_search.specs.OrderRow.{AreSymbols};
 ghost use Rattle.order_search.specs.SymbolSets.{Adds};
 
-use crate::roots::{listed, roots};
+use crate::roots::{list_members, roots};
 use crate::symbols::{add_marked, add_symbols, symbol_set};
 use dp_core::{Side, Sides};
 use std::alloc::Global;
@@ -38,7 +38,7 @@ fn plain_symbols(alloc: Global, rules: &[Rule], pairs: &[Sides]) -> Result<Vec<u
 {
     let mut set = symbol_set(alloc, rules)?;
     add_below_roots(&mut set, pairs)?;
-    listed(alloc, &set)
+    list_members(alloc, &set)
 }
 
 /// Puts the symbols below the roots of pairs into a set.

@@ -1,13 +1,11 @@
 //! Pairs as rules on marked terms.
-ghost use Rattle.std.specs.Prelude.{◌≡◌, ◌<◌, All, IfOk, map};
-ghost use Rattle.trs_core.specs.View.{tree};
-ghost use Rattle.pair_theory.specs.Marked.{mark};
+ghost use Rattle.std.specs.Prelude.{◌≡◌, All, IfOk, map};
 ghost use Rattle.pair_theory.specs.ReductionPair.{marked_rule};
 ghost use Rattle.dp_core.specs.Markable.{IsMarkable};
 
-use dp_core::{MARK, Side, Sides};
+use dp_core::{Sides, marked_term};
 use std::alloc::Global;
-use trs_core::{Args, OutOfMemory, Rule, Term};
+use trs_core::{OutOfMemory, Rule};
 
 /// The pairs as rules whose sides have marked roots.
 pub fn marked_rules(alloc: Global, pairs: &[Sides]) -> Result<Vec<Rule>, OutOfMemory>
@@ -26,25 +24,7 @@ fn marked_rule(alloc: Global, pair: &Sides) -> Result<Rule, OutOfMemory>
     ensures { IfOk result (λ rule. rule ≡ marked_rule pair.now) }
 {
     Ok(Rule {
-        left: marked(alloc, &pair.from)?,
-        right: marked(alloc, &pair.to)?,
+        left: marked_term(alloc, &pair.from)?,
+        right: marked_term(alloc, &pair.to)?,
     })
-}
-
-fn marked(alloc: Global, side: &Side) -> Result<Term, OutOfMemory>
-    requires { side.now.symbol < 4096 }
-    ensures { IfOk result (λ t. tree t ≡ mark side.now) }
-{
-    let args = copied(alloc, side.args)?;
-    Ok(Term::App(side.symbol + MARK, args))
-}
-
-fn copied(alloc: Global, args: &Args) -> Result<Args, OutOfMemory>
-    ensures { IfOk result (λ copy. copy ≡ args.now) }
-{
-    let mut copies = Vec::with_capacity(alloc, args.items.len())?;
-    for arg in &args.items {
-        copies.push(arg.copy(alloc)?)?;
-    }
-    Ok(Args::new(copies))
 }

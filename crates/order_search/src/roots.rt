@@ -16,7 +16,7 @@ pub fn roots(alloc: Global, pairs: &[Sides]) -> Result<Vec<u32>, OutOfMemory>
     ensures { IfOk result (λ roots. AreAscending (roots_of pairs.now) roots.items) }
 {
     let set = root_set(alloc, pairs)?;
-    listed(alloc, &set)
+    list_members(alloc, &set)
 }
 
 fn root_set(alloc: Global, pairs: &[Sides]) -> Result<BTreeSet<u32>, OutOfMemory>
@@ -61,7 +61,7 @@ pub fn add(set: &mut BTreeSet<u32>, f: u32) -> Result<(), OutOfMemory>
 }
 
 /// The members of a set, ascending.
-pub fn listed(alloc: Global, set: &BTreeSet<u32>) -> Result<Vec<u32>, OutOfMemory>
+pub fn list_members(alloc: Global, set: &BTreeSet<u32>) -> Result<Vec<u32>, OutOfMemory>
     ensures members { IfOk result (λ members. members.items ≡ keys set.now) }
     ensures ordered { IsOrdered nat_cmp set.now }
 {

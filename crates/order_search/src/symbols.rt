@@ -8,7 +8,7 @@ ghost use Rattle.order_search.specs.Ascending.{AreAscending};
 ghost use Rattle.order_search.specs.OrderRow.{AreSymbols};
 ghost use Rattle.order_search.specs.SymbolSets.{Adds, HasOnly};
 
-use crate::roots::{add, listed, roots};
+use crate::roots::{add, list_members, roots};
 use dp_core::{MARK, Sides};
 use std::alloc::Global;
 use std::collections::BTreeSet;
@@ -46,7 +46,7 @@ fn rule_symbols(alloc: Global, rules: &[Rule]) -> Result<Vec<u32>, OutOfMemory>
     ensures { IfOk result (λ symbols. AreAscending (symbols_of_rules rules.now) symbols.items) }
 {
     let set = symbol_set(alloc, rules)?;
-    listed(alloc, &set)
+    list_members(alloc, &set)
 }
 
 pub(crate) fn symbol_set(alloc: Global, rules: &[Rule]) -> Result<BTreeSet<u32>, OutOfMemory>

@@ -97,7 +97,7 @@ fn read_kbo_entry(
                 read_number(GREATEST_NUMBER, weight),
                 read_number(GREATEST_NUMBER, rank),
             );
-            Ok(only_stated(*at, more, weighed(symbol, numbers)))
+            Ok(only_stated(*at, more, weigh(symbol, numbers)))
         }
         Err(at) => Ok(Err(at)),
     }
@@ -119,13 +119,13 @@ fn read_stated(system: &NamedTrs, item: &Sexp) -> Read<KboEntry>
                 read_number(GREATEST_NUMBER, weight),
                 read_number(GREATEST_NUMBER, rank),
             );
-            weighed(symbol, numbers)
+            weigh(symbol, numbers)
         }
         Err(at) => Err(at),
     }
 }
 
-fn weighed(symbol: Symbol, numbers: Read<(u64, u64)>) -> Read<KboEntry>
+fn weigh(symbol: Symbol, numbers: Read<(u64, u64)>) -> Read<KboEntry>
     ensures value { result ≡ seen (λ p. weighed symbol p.0 p.1) numbers }
     ensures symbol { IfOk result (λ e. e.symbol ≡ symbol.number) }
 {

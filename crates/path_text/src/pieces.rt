@@ -98,10 +98,10 @@ impl Pieces {
         if self.size() < FEWEST_SHARED {
             return Ok(self);
         }
-        self.shared(alloc)
+        self.share(alloc)
     }
 
-    fn shared(self, alloc: Global) -> Result<Pieces, OutOfMemory>
+    fn share(self, alloc: Global) -> Result<Pieces, OutOfMemory>
         ensures { IfOk result (λ p. p ≡ self) }
     {
         let Pieces {

@@ -6,7 +6,7 @@ use std::alloc::Global;
 use trs_core::{OutOfMemory, Rule};
 
 /// The rules of these numbers, in order.
-pub(crate) fn chosen(
+pub(crate) fn choose_rules(
     alloc: Global,
     rules: &[Rule],
     numbers: &[u32],
@@ -17,12 +17,12 @@ pub(crate) fn chosen(
     let mut chosen = Vec::with_capacity(alloc, numbers.len())?;
     for n in numbers {
         let rule = &rules[*n as usize];
-        chosen.push(copied(alloc, rule)?)?;
+        chosen.push(copy_rule(alloc, rule)?)?;
     }
     Ok(chosen)
 }
 
-fn copied(alloc: Global, rule: &Rule) -> Result<Rule, OutOfMemory>
+fn copy_rule(alloc: Global, rule: &Rule) -> Result<Rule, OutOfMemory>
     ensures { IfOk result (λ copy. copy ≡ rule.now) }
 {
     Ok(Rule {

@@ -7,7 +7,7 @@ ghost use Rattle.order_search.specs.dp_core.PlacedPairs.{placed_pairs};
 ghost use Rattle.order_search.specs.Outcome.{IsFinding, IsNotThere, IsSpent};
 ghost use Rattle.poly_find.specs.UsableRow.{FindsUsable, FailsUsable};
 
-use crate::chosen::chosen;
+use crate::chosen::choose_rules;
 use crate::searching::search_linear;
 use assign_search::{Search, Stop};
 use order_search::taken::taken;
@@ -73,7 +73,7 @@ pub fn find_usable_in<P: Stop>(
     dependency_pairs_suffice();
     let taken = taken(alloc, pairs.sides(), problem)?;
     let numbers = usable_for(alloc, trs, pairs, problem)?;
-    let usable = chosen(alloc, rules, &numbers)?;
+    let usable = choose_rules(alloc, rules, &numbers)?;
     let symbols = symbols_with_sides(alloc, &usable, &taken)?;
     let marked = marked_rules(alloc, &taken)?;
     search_linear(alloc, arities, &symbols, &usable, &marked, budget, stop)

@@ -45,7 +45,7 @@ fn root(t: &Term) -> u32 {
 }
 
 /// A text of letters, each so many times.
-fn repeated(alloc: Global, parts: &[(u8, u32)]) -> Result<Vec<u8>, OutOfMemory> {
+fn repeat(alloc: Global, parts: &[(u8, u32)]) -> Result<Vec<u8>, OutOfMemory> {
     let mut text = Vec::new(alloc);
     for (letter, count) in parts {
         for _ in 0..*count {
@@ -66,12 +66,12 @@ fn wide(alloc: Global, count: u32) -> Result<Trs, Fail> {
         (b'e', 1),
         (b'x', 255),
     ];
-    let many = repeated(alloc, &parts)?;
-    let from = repeated(
+    let many = repeat(alloc, &parts)?;
+    let from = repeat(
         alloc,
         &[(b'd', 1), (b'b', count), (b'c', 1), (b'x', 1), (b'y', 1)],
     )?;
-    let to = repeated(alloc, &[(b'a', 1), (b'b', count), (b'c', 1)])?;
+    let to = repeat(alloc, &[(b'a', 1), (b'b', count), (b'c', 1)])?;
     let sides: [(&[u8], &[u8]); 2] = [(b"ax", many.as_slice()), (from.as_slice(), to.as_slice())];
     system(alloc, &[1, 1, 0, 3, 255], &sides)
 }

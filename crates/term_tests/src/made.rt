@@ -48,7 +48,7 @@ pub fn ones(alloc: Global, count: u32) -> Result<Position, OutOfMemory> {
 }
 
 /// Steps by rule 0, each at the same place of so many ones.
-pub fn repeated(alloc: Global, count: u32, place: u32) -> Result<Vec<PathStep>, OutOfMemory> {
+pub fn repeat(alloc: Global, count: u32, place: u32) -> Result<Vec<PathStep>, OutOfMemory> {
     let mut path = Vec::new(alloc);
     for _ in 0..count {
         let place = ones(alloc, place)?;

@@ -12,18 +12,18 @@ use std::test::Fail;
 use trs_core::Trs;
 
 /// `a -> b` twice: both critical peaks are closed by no steps.
-fn closed(alloc: Global) -> Result<Trs, Fail> {
+fn closed_system(alloc: Global) -> Result<Trs, Fail> {
     constants(alloc, 2, &[(0, 1), (0, 1)])
 }
 
 /// `a -> b` and `a -> c`: the critical peaks lead to different normal forms.
-fn forked(alloc: Global) -> Result<Trs, Fail> {
+fn forked_system(alloc: Global) -> Result<Trs, Fail> {
     constants(alloc, 3, &[(0, 1), (0, 2)])
 }
 
 #[test]
 fn joins(rt: HostRuntime) -> Result<(), Fail> {
-    let trs = closed(rt.alloc())?;
+    let trs = closed_system(rt.alloc())?;
     let peaks = critical_pairs(rt.alloc(), &trs)?;
     let stopped = find_newman(rt.alloc(), &trs, &peaks, &mut at_once())?;
     assert!(rt; matches!(&stopped, Search::Stopped));
@@ -34,7 +34,7 @@ fn joins(rt: HostRuntime) -> Result<(), Fail> {
 
 #[test]
 fn parallel_steps(rt: HostRuntime) -> Result<(), Fail> {
-    let trs = closed(rt.alloc())?;
+    let trs = closed_system(rt.alloc())?;
     let peaks = critical_pairs(rt.alloc(), &trs)?;
     let stopped = find_parallel(rt.alloc(), &trs, &peaks, &mut at_once())?;
     assert!(rt; matches!(&stopped, Search::Stopped));
@@ -45,7 +45,7 @@ fn parallel_steps(rt: HostRuntime) -> Result<(), Fail> {
 
 #[test]
 fn strong_joins(rt: HostRuntime) -> Result<(), Fail> {
-    let trs = closed(rt.alloc())?;
+    let trs = closed_system(rt.alloc())?;
     let peaks = critical_pairs(rt.alloc(), &trs)?;
     let stopped = find_strong(rt.alloc(), &trs, &peaks, &mut at_once())?;
     assert!(rt; matches!(&stopped, Search::Stopped));
@@ -56,7 +56,7 @@ fn strong_joins(rt: HostRuntime) -> Result<(), Fail> {
 
 #[test]
 fn ranks(rt: HostRuntime) -> Result<(), Fail> {
-    let trs = closed(rt.alloc())?;
+    let trs = closed_system(rt.alloc())?;
     let peaks = critical_pairs(rt.alloc(), &trs)?;
     let stopped = find_label(rt.alloc(), &trs, &peaks, BUDGET, &mut at_once())?;
     assert!(rt; matches!(&stopped, Search::Stopped));
@@ -67,7 +67,7 @@ fn ranks(rt: HostRuntime) -> Result<(), Fail> {
 
 #[test]
 fn forks(rt: HostRuntime) -> Result<(), Fail> {
-    let trs = forked(rt.alloc())?;
+    let trs = forked_system(rt.alloc())?;
     let peaks = critical_pairs(rt.alloc(), &trs)?;
     let stopped = find_fork(rt.alloc(), &trs, &peaks, &mut at_once())?;
     assert!(rt; matches!(&stopped, Search::Stopped));
@@ -78,7 +78,7 @@ fn forks(rt: HostRuntime) -> Result<(), Fail> {
 
 #[test]
 fn splits(rt: HostRuntime) -> Result<(), Fail> {
-    let trs = forked(rt.alloc())?;
+    let trs = forked_system(rt.alloc())?;
     let peaks = critical_pairs(rt.alloc(), &trs)?;
     let stopped = find_split(rt.alloc(), &trs, &peaks, &mut at_once())?;
     assert!(rt; matches!(&stopped, Search::Stopped));

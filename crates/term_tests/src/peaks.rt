@@ -1,5 +1,5 @@
 //! Critical peaks that pass the limits.
-use crate::exploding::{chained, doubled};
+use crate::exploding::{chain, double};
 use crate::texts::read;
 use crit_pairs::{PeakFault, critical_pairs};
 use std::alloc::Global;
@@ -13,12 +13,12 @@ fn exploding(alloc: Global, n: u32, copies: u32) -> Result<Trs, Fail> {
     let mut rules = Vec::new(alloc);
     for _ in 0..copies {
         rules.push(Rule {
-            left: doubled(alloc, n)?,
+            left: double(alloc, n)?,
             right: read(alloc, &[], b"a")?,
         })?;
     }
     rules.push(Rule {
-        left: chained(alloc, n, 0)?,
+        left: chain(alloc, n, 0)?,
         right: read(alloc, &[], b"b")?,
     })?;
     Ok(Trs::new(arities, rules)?)

@@ -1,5 +1,5 @@
 //! Steps, paths and loops, at the limits of terms too.
-use crate::made::{ones, repeated, term, tower};
+use crate::made::{ones, repeat, term, tower};
 use crate::texts::{ARITIES, system};
 use rewrite_core::{
     CheckFault, PathFault, PathStep, StepFault, StepRefused, is_normal, loop_check, redexes,
@@ -16,10 +16,10 @@ fn growing(alloc: Global) -> Result<Trs, Fail> {
 
 /// What a loop is refused for, of so many steps from `f(y)`, with its instance under so many
 /// symbols.
-fn refused(alloc: Global, steps: u32, place: u32) -> Result<Option<CheckFault>, Fail> {
+fn refusal_of(alloc: Global, steps: u32, place: u32) -> Result<Option<CheckFault>, Fail> {
     let trs = growing(alloc)?;
     let start = tower(alloc, 0, 1, Term::Var(7))?;
-    let path = repeated(alloc, steps, 0)?;
+    let path = repeat(alloc, steps, 0)?;
     Ok(loop_check(alloc, &trs, &start, &path, &ones(alloc, place)?).err())
 }
 
@@ -33,7 +33,7 @@ fn a_growing_term_loops(rt: HostRuntime) -> Result<(), Fail> {
         (1, 3, Some(CheckFault::Refused(StepRefused::NoPlace))),
         (0, 0, Some(CheckFault::Refused(StepRefused::NoSteps))),
     ] {
-        let found = refused(alloc, steps, place)?;
+        let found = refusal_of(alloc, steps, place)?;
         assert!(rt; found == want, "at {place}");
     }
     Ok(())
@@ -110,7 +110,7 @@ fn upward(alloc: Global, steps: u32) -> Result<Vec<PathStep>, OutOfMemory> {
 
 /// So many steps from 16 times `d` over a constant. Step `k` makes a term of 2 ^ (k + 2) - 1 nodes
 /// under the 15 - k symbols `d` that are left.
-fn doubled(alloc: Global, steps: u32) -> Result<Result<Term, PathFault>, Fail> {
+fn double(alloc: Global, steps: u32) -> Result<Result<Term, PathFault>, Fail> {
     let trs = doubling(alloc)?;
     let start = tower(alloc, 0, 16, term(alloc, 2, [])?)?;
     Ok(run_path(alloc, &trs, &start, &upward(alloc, steps)?))
@@ -119,8 +119,8 @@ fn doubled(alloc: Global, steps: u32) -> Result<Result<Term, PathFault>, Fail> {
 #[test]
 fn a_term_is_no_larger_than_the_limit(rt: HostRuntime) -> Result<(), Fail> {
     let alloc = rt.alloc();
-    assert!(rt; doubled(alloc, 15)??.size() == 65_536);
-    let found = doubled(alloc, 16)?.err();
+    assert!(rt; double(alloc, 15)??.size() == 65_536);
+    let found = double(alloc, 16)?.err();
     assert!(rt; found == Some(PathFault::At(15, StepFault::TooLarge)));
     Ok(())
 }
@@ -138,7 +138,7 @@ fn large(alloc: Global, branches: u32) -> Result<Term, OutOfMemory> {
 /// The nodes after so many steps by `a -> a` under so many symbols.
 fn nodes(alloc: Global, start: &Term, steps: u32, place: u32) -> Result<u64, Fail> {
     let trs = system(alloc, &ARITIES, &[(b"a", b"a")])?;
-    Ok(run_path(alloc, &trs, start, &repeated(alloc, steps, place)?)?.size())
+    Ok(run_path(alloc, &trs, start, &repeat(alloc, steps, place)?)?.size())
 }
 
 #[test]
@@ -154,7 +154,7 @@ fn long_paths_are_followed(rt: HostRuntime) -> Result<(), Fail> {
 fn cut(alloc: Global, branches: u32, steps: u32) -> Result<Result<u64, PathFault>, Fail> {
     let trs = system(alloc, &ARITIES, &[(b"c01", b"0")])?;
     let start = large(alloc, branches)?;
-    let path = repeated(alloc, steps, 1)?;
+    let path = repeat(alloc, steps, 1)?;
     Ok(match run_path(alloc, &trs, &start, &path) {
         Ok(end) => Ok(end.size()),
         Err(fault) => Err(fault),

@@ -24,7 +24,7 @@ fn a_variable_is_listed_once(rt: HostRuntime) -> Result<(), Fail> {
 }
 
 /// A pair of variables 0 and 1, copied, with variable 2 in place of the second.
-fn replaced(alloc: Global) -> Result<Term, Fail> {
+fn replace(alloc: Global) -> Result<Term, Fail> {
     let second = position(alloc, &[2])?.copy(alloc)?;
     let pair = term(alloc, 0, [Term::Var(0), Term::Var(1)])?.copy(alloc)?;
     Ok(pair.replace(alloc, &second, &Term::Var(2))?)
@@ -35,7 +35,7 @@ fn a_copy_is_replaced(rt: HostRuntime) -> Result<(), Fail> {
     let alloc = rt.alloc();
     let mut bindings = Subst::new(alloc);
     bindings.insert(2, Term::Var(3))?;
-    let last = bindings.apply(alloc, &replaced(alloc)?)?;
+    let last = bindings.apply(alloc, &replace(alloc)?)?;
     let want = term(alloc, 0, [Term::Var(0), Term::Var(3)])?;
     assert!(rt; last.same(&want));
     Ok(())

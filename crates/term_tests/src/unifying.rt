@@ -1,5 +1,5 @@
 //! Large terms are unified at once.
-use crate::exploding::{chained, doubled};
+use crate::exploding::{chain, double};
 use crate::made::term;
 use crate::texts::{ARITIES, read};
 use std::alloc::Global;
@@ -11,8 +11,8 @@ use trs_unify::unify;
 #[test]
 fn an_exploding_instance_is_measured(rt: HostRuntime) -> Result<(), Fail> {
     let alloc = rt.alloc();
-    let a = doubled(alloc, 120)?;
-    let unifier = unify(alloc, &a, &chained(alloc, 120, 1000)?)?.ok_or("no unifier")?;
+    let a = double(alloc, 120)?;
+    let unifier = unify(alloc, &a, &chain(alloc, 120, 1000)?)?.ok_or("no unifier")?;
     assert!(rt; unifier.instance_size(&a) == Some((1_000_000, 122)));
     assert!(rt; unifier.instance(alloc, &a).is_err());
     assert!(rt; unifier.instance_size(&Term::Var(5000)).is_none());

@@ -9,7 +9,7 @@ use Rattle.lpo_find.proofs.assigned.filter_at.Goals as goal
 
 pub returns-in-Some : goal.returns-in-Some
 returns-in-Some c =
-    c.numbered.ensures
+    c.filter_of.ensures
     ∙ (ap (λ (l : List Filter). unwrap_or (slice_get (map plain_filter l) c.args.number) (Keep [])) c.deref.ensures.value
     ∙ sym (ap (λ o. unwrap_or (slice_get (unwrap_or o []) c.args.number) (Keep [])) (looked_up plain_filters c.args.filters.now c.args.place c.get.result _ c.get.ensures.lookup c.in-Some.is)))
 

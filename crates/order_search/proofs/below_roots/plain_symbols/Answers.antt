@@ -6,5 +6,5 @@ use Rattle.order_search.proofs.below_roots.plain_symbols.Goals as goal
 
 pub returns : goal.returns
 returns c =
-    members_if_ok c.add_below_roots.new.set (symbols_of_rules c.args.rules.now ++ symbols_below_roots c.args.pairs.now) c.listed.result c.listed.ensures.members c.listed.ensures.ordered
+    members_if_ok c.add_below_roots.new.set (symbols_of_rules c.args.rules.now ++ symbols_below_roots c.args.pairs.now) c.list_members.result c.list_members.ensures.members c.list_members.ensures.ordered
     (only_more c.in_ok-set.set c.add_below_roots.new.set (symbols_of_rules c.args.rules.now) (symbols_below_roots c.args.pairs.now) c.in_ok-set.ensures c.in_ok-add_below_roots.ensures)

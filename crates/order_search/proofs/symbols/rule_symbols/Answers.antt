@@ -3,4 +3,4 @@ use Rattle.order_search.proofs.RootSets.{members_if_ok}
 use Rattle.order_search.proofs.symbols.rule_symbols.Goals as goal
 
 pub returns : goal.returns
-returns c = members_if_ok c.in_ok-set.set (symbols_of_rules c.args.rules.now) c.listed.result c.listed.ensures.members c.listed.ensures.ordered c.in_ok-set.ensures
+returns c = members_if_ok c.in_ok-set.set (symbols_of_rules c.args.rules.now) c.list_members.result c.list_members.ensures.members c.list_members.ensures.ordered c.in_ok-set.ensures

@@ -23,5 +23,5 @@ returns-in-Ok-clause-entry c =
     let found = sym c.in-Ok.is ∙ c.in_ok-symbol.ensures.symbol ∙ ap (new_symbol known c.in-List.at) c.read_marked_symbol.ensures in
     let weight = first (weighed s) (λ n. n) c.read_number.result _ (as_it_is _ _ c.read_number.ensures.value) in
     let numbers = next _ (λ n. n) c.read_number.result c.read_number-in-Ok.result c.both-numbers.result _ _ weight (as_it_is _ _ c.read_number-in-Ok.ensures.value) c.both-numbers.ensures in
-    c.only_stated.ensures.value ∙ ap (only_stated c.in-List.at _) (c.weighed.ensures.value ∙ numbers)
+    c.only_stated.ensures.value ∙ ap (only_stated c.in-List.at _) (c.weigh.ensures.value ∙ numbers)
     ∙ sym (entry_seen named 2 kbo_form known _ _ _ _ c.in-List.at (Ok s) shape refl found)

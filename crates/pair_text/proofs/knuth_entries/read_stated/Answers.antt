@@ -21,4 +21,4 @@ returns-in-Ok c =
     let found = sym (ap (new_symbol [] c.in-List.at) (sym c.read_marked_symbol.ensures ∙ c.in-Ok.is)) in
     let weight = first (weighed s) (λ n. n) c.read_number.result _ (as_it_is _ _ c.read_number.ensures.value) in
     let numbers = next _ (λ n. n) c.read_number.result c.read_number-in-Ok.result c.both-numbers.result _ _ weight (as_it_is _ _ c.read_number-in-Ok.ensures.value) c.both-numbers.ensures in
-    c.weighed.ensures.value ∙ numbers ∙ sym (entry_seen named 2 stated_form [] _ _ _ _ c.in-List.at (Ok s) shape refl found)
+    c.weigh.ensures.value ∙ numbers ∙ sym (entry_seen named 2 stated_form [] _ _ _ _ c.in-List.at (Ok s) shape refl found)

@@ -6,7 +6,7 @@ use Rattle.path_text.specs.declared.pieces.Piece.TheVariants.{Shared}
 use Rattle.path_text.specs.Pieces.{steps_of_pieces}
 use Rattle.path_text.proofs.PieceSteps.{steps_of_shared, next_piece}
 use Rattle.path_text.proofs.SharedAgain.{shifted_none}
-use Rattle.path_text.proofs.pieces.Pieces.shared.Goals as goal
+use Rattle.path_text.proofs.pieces.Pieces.share.Goals as goal
 
 pub returns : goal.returns
 returns c =

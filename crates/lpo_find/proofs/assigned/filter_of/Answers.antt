@@ -3,7 +3,7 @@ use Rattle.std.specs.Prelude.{unwrap_or}
 use Rattle.order_theory.specs.ArgumentFilter.{Keep}
 use Rattle.path_lpo.specs.Plain.{plain_filter}
 use Rattle.lpo_find.proofs.Assigning.{looked_up}
-use Rattle.lpo_find.proofs.assigned.numbered.Goals as goal
+use Rattle.lpo_find.proofs.assigned.filter_of.Goals as goal
 
 pub returns-in-Some : goal.returns-in-Some
 returns-in-Some c =

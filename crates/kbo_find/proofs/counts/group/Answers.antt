@@ -1,6 +1,6 @@
 use Rattle.std.proofs.Common.{take, arith, length-take}
 use Rattle.kbo_find.proofs.OccurrenceSums.{length_of}
-use Rattle.kbo_find.proofs.counts.grouped.Goals as goal
+use Rattle.kbo_find.proofs.counts.group.Goals as goal
 
 pub count_one-requires : goal.count_one-requires
 count_one-requires c =
