@@ -1,12 +1,24 @@
 -- No variable occurs twice: walk by walk, each for some variables.
-use Rattle.std.proofs.Common.{◌≡◌, ℕ, ◌+◌, ◌-◌, ◌≤◌, ◌<◌, ◌↔◌, inl, inr, refl, sym, subst, ap, cond, arith, true, false, Bool, IsTrue, Option, Some, None, List, length, drop, get_or}
-use Rattle.std.specs.Prelude.{slice_index_or}
+use Rattle.std.proofs.Common.{◌≡◌, ℕ, ◌+◌, ◌-◌, ◌≤◌, ◌<◌, ◌↔◌, inl, inr, refl, sym, subst, cond, arith, true, false, Bool, IsTrue, Option, Some, None, List, get_or}
+use Rattle.std.specs.Prelude.{replicate}
 use Rattle.std.proofs.lemmas.Bool.{cases_lt}
-use Rattle.trs_defs.specs.Tree.{Tree, Trees, app, cons, trees}
+use Rattle.std.proofs.lemmas.List.{get_or-replicate}
+use Rattle.trs_defs.specs.Tree.{Tree, var}
 use Rattle.trs_defs.specs.LeastVariable.{least_variable, IsBelow}
-use Rattle.trs_defs.specs.Variable.{occurrences, occurrences_in_all, IsLinear}
+use Rattle.trs_defs.specs.Variable.{occurrences, IsLinear}
 use Rattle.trs_defs.proofs.LeastVariables.{none_below_least}
+use Rattle.trs_defs.proofs.VariableLaws.{has_var_self}
 use Rattle.trs_core.specs.Marked.{times_met, Marks, OccurOnce}
+
+pub none_met : (size i : ℕ) → i < size → times_met (replicate size false) i ≡ 0
+none_met size i small = rw (get_or-replicate size i false false small) refl
+
+pub met_again : (size from x : ℕ) (before after : List Bool) → from ≤ x → x - from < size → get_or before (x - from) false ≡ true
+    → Marks size from (var x) before after false
+met_again size from x before after le small marked =
+    let there : from + (x - from) ≡ x = omega arith in
+    let two : 1 < times_met before (x - from) + occurrences (from + (x - from)) (var x) = rw (marked, there, has_var_self x) (omega arith) in
+    (x - from, small, two)
 
 times_at_most : (b : Bool) → cond b 1 0 ≤ 1
 times_at_most true = omega arith
@@ -16,7 +28,7 @@ times_at_most false = omega arith
 module _ (size from : ℕ) (t : Tree) (before after : List Bool) (none : (i : ℕ) → i < size → times_met before i ≡ 0) where
   pub walk_decides : (b : Bool) → Marks size from t before after b → IsTrue b ↔ OccurOnce size from t
   walk_decides true marked = (
-    λ _ i small. omega (arith, marked i small, none i small, times_at_most (slice_index_or after i false)),
+    λ _ i small. omega (arith, marked i small, none i small, times_at_most (get_or after i false)),
     λ _. refl,
   )
   walk_decides false (i, small, again) = (
@@ -39,9 +51,9 @@ module _ (from : ℕ) (t : Tree) (below : OnceBelow from t) (o : Option ℕ) (fo
   once_more size x is once v small = elim (cases_lt v x) [
     | inl less ↦ once_between v (subst (IsBelow v) (sym is) less)
     | inr le ↦
-        let at : x + (v - x) ≡ v = omega arith in
+        let there : x + (v - x) ≡ v = omega arith in
         let within : v - x < size = omega arith in
-        subst (λ z. occurrences z t ≤ 1) at (once (v - x) within)
+        subst (λ z. occurrences z t ≤ 1) there (once (v - x) within)
   ]
 
   pub all_once : o ≡ None → IsLinear t

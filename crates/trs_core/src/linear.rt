@@ -5,8 +5,8 @@ ghost use Rattle.trs_defs.specs.Variable.{IsLinear};
 ghost use Rattle.trs_core.specs.View.{tree};
 ghost use Rattle.trs_core.specs.Marked.{times_met, Marks, OccurOnce};
 
-use crate::least::least_variable;
 use crate::Term;
+use crate::least::least_variable;
 
 /// How many variables one walk looks for.
 const WINDOW: usize = 1_024;

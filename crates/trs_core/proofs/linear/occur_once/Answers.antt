@@ -5,5 +5,5 @@ use Rattle.trs_core.proofs.linear.occur_once.Goals as goal
 
 pub returns : goal.returns
 returns c =
-    walk_decides WINDOW c.args.from (tree c.args.t.now) c.no_marks.result c.mark_variables.new.marks c.no_marks.ensures.none c.mark_variables.result
-    c.mark_variables.ensures.marks
+    walk_decides WINDOW c.args.from (tree c.args.t.now) c.no_marks-marks.result c.mark_variables.new.marks c.no_marks-marks.ensures.none
+    c.mark_variables.result c.mark_variables.ensures.marks

@@ -17,12 +17,12 @@ returns-then-not-occur_once c = (
 pub loop-x-smaller : goal.loop-x-smaller
 loop-x-smaller c =
     let from_le = least_is_from c.loop-x.from (tree c.args.self.now) c.least_variable.result c.least_variable.ensures c.in-Some.x c.in-Some.is in
-    let less : 2 ^ 64 - (c.from-in-Some.result + WINDOW) < 2 ^ 64 - c.loop-x.from = omega arith in less
+    let less : 2 ^ 64 - (c.from.result + WINDOW) < 2 ^ 64 - c.loop-x.from = omega arith in less
 
 pub loop-x-preserved : goal.loop-x-preserved
 loop-x-preserved c =
     let once = c.occur_once.ensures.0 (cc c.if-not-occur_once.false) in
-    subst (λ n. OnceBelow (n + WINDOW) (tree c.args.self.now)) (sym c.from-in-Some.ensures)
+    subst (λ n. OnceBelow (n + WINDOW) (tree c.args.self.now)) (sym c.from.ensures)
     (once_more c.loop-x.from (tree c.args.self.now) c.loop-x.invariant c.least_variable.result c.least_variable.ensures WINDOW c.in-Some.x c.in-Some.is once)
 
 pub returns : goal.returns
