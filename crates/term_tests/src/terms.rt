@@ -2,7 +2,7 @@
 use crate::made::{position, term};
 use std::alloc::Global;
 use std::test::Fail;
-use trs_core::{Subst, Term, match_term};
+use trs_core::{Args, OutOfMemory, Subst, Term, match_term};
 
 #[test]
 fn a_match_is_applied(rt: HostRuntime) -> Result<(), Fail> {
@@ -20,6 +20,24 @@ fn a_variable_is_listed_once(rt: HostRuntime) -> Result<(), Fail> {
     let pair = term(alloc, 0, [Term::Var(5), Term::Var(5)])?;
     assert!(rt; pair.vars(alloc)?.as_slice() == [5].as_slice());
     assert!(rt; !pair.is_linear());
+    Ok(())
+}
+
+/// Variables 0, 7, 14 and so on up to 20,993, and then this one.
+fn sevens(alloc: Global, last: u32) -> Result<Term, OutOfMemory> {
+    let mut items = Vec::new(alloc);
+    for i in 0..3_000 {
+        items.push(Term::Var(7 * i))?;
+    }
+    items.push(Term::Var(last))?;
+    Ok(Term::App(0, Args { items }))
+}
+
+#[test]
+fn one_of_many_variables_is_repeated(rt: HostRuntime) -> Result<(), Fail> {
+    for (last, want) in [(0, false), (1_022, false), (7_168, false), (20_993, false), (1, true)] {
+        assert!(rt; sevens(rt.alloc(), last)?.is_linear() == want);
+    }
     Ok(())
 }
 
