@@ -13,7 +13,7 @@ ghost use Rattle.trs_caps.specs.HoledTree.{Fits};
 ghost use Rattle.trs_caps.specs.KnownCaps.{AreKnown, IsKnown, IsIdOf, IsWhole};
 ghost use Rattle.trs_caps.specs.View.{holed};
 
-use crate::knowing::{argument, note, noted};
+use crate::knowing::{argument, note, recall};
 use crate::naming::{number, own_variables};
 use crate::{Cap, KnownCaps, Parts};
 use std::alloc::Global;
@@ -153,7 +153,7 @@ fn is_opened(
         → IsWhole by_root.now.rules fixed t (holed cap.now)
         → OnOk result (AreKnown by_root.now.rules fixed pool opens.new) }
 {
-    if let Some(yes) = noted(id, opens) {
+    if let Some(yes) = recall(id, opens) {
         return Ok(yes);
     }
     let yes = meets_some(alloc, by_root, rules, f, cap)?;

@@ -75,7 +75,7 @@ pub(crate) fn argument(pool: &Pool, id: Option<u32>, i: usize) -> Option<u32>
 }
 
 /// What is noted of an id.
-pub(crate) fn noted(id: Option<u32>, opens: &BTreeMap<u32, bool>) -> Option<bool>
+pub(crate) fn recall(id: Option<u32>, opens: &BTreeMap<u32, bool>) -> Option<bool>
     ensures { IfSome result (λ yes.
         (i : ℕ) × (id ≡ Some i) × (get nat_cmp opens.now i ≡ Some yes)) }
 {
