@@ -52,7 +52,7 @@ impl Reading {
 }
 
 // A count after so much more, which stays at its last value.
-fn raise(count: u64, by: u64) -> u64
+fn add(count: u64, by: u64) -> u64
     ensures next { result ≡ count_after by count }
     ensures later { count ≤ result }
 {
@@ -103,8 +103,8 @@ impl Tallies {
             bytes_under self.new q ≡ bytes_under self.old q }
     {
         if let Some(tally) = self.tallies.get_mut(name) {
-            tally.faults = raise(tally.faults, faults);
-            tally.bytes = raise(tally.bytes, bytes);
+            tally.faults = add(tally.faults, faults);
+            tally.bytes = add(tally.bytes, bytes);
         }
     }
 
