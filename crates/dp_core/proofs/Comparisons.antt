@@ -6,6 +6,7 @@ use Rattle.pair_theory.specs.DependencyPair.{DependencyPair}
 use Rattle.rewrite_core.specs.declared.checks.refusals.StepRefused.{StepRefused}
 use Rattle.rewrite_core.specs.declared.checks.refusals.StepRefused.TheVariants.{TooBig, PairNotWeak}
 use Rattle.rewrite_core.specs.declared.checks.refusals.CheckFault.{CheckFault}
+use Rattle.rewrite_core.specs.declared.checks.refusals.CheckFault.TheVariants.{Refused}
 use Rattle.rewrite_core.specs.Check.{Refuses, Asks, yes_it_does, no_it_does_not, absent, present, holds, lacks, stops, goes_on}
 use Rattle.rewrite_core.proofs.Answering.{refused_first}
 use Rattle.dp_core.specs.PairConditions.{Comparing, is_weakly_above, pair_is_weak}
@@ -38,3 +39,19 @@ module _ (comparing : Comparing) (rules n : ℕ) (p : DependencyPair) where
   pub pair_answered : (strict : Bool) → is_weakly_above comparing (mark p.from) (mark p.to) (rules + n) (PairNotWeak n) (Ok tt)
       → (IsTrue strict ↔ comparing.strict (mark p.from) (mark p.to)) → pair_is_weak comparing rules n p (Ok strict)
   pair_answered strict h k = goes_on tt _ h (asked (comparing.strict (mark p.from) (mark p.to)) strict k)
+
+  -- a refused pair
+  pub pair_too_big : comparing.is_too_big (mark p.from) (mark p.to) → pair_is_weak comparing rules n p (Err (TooBig (rules + n)))
+  pair_too_big h = pair_refused (Refused (TooBig (rules + n))) (too_big comparing (mark p.from) (mark p.to) (rules + n) (PairNotWeak n) h)
+
+  module _ (small : comparing.is_too_big (mark p.from) (mark p.to) → ⊥) where
+    pub pair_not_weak : (comparing.weak (mark p.from) (mark p.to) → ⊥) → pair_is_weak comparing rules n p (Err (PairNotWeak n))
+    pair_not_weak h = pair_refused (Refused (PairNotWeak n)) (not_above comparing (mark p.from) (mark p.to) (rules + n) (PairNotWeak n) small h)
+
+    pub pair_strict : comparing.weak (mark p.from) (mark p.to) × comparing.strict (mark p.from) (mark p.to) → pair_is_weak comparing rules n p (Ok true)
+    pair_strict h =
+        pair_answered true (weakly_above comparing (mark p.from) (mark p.to) (rules + n) (PairNotWeak n) small h.0) (λ yes. h.1, λ strict. refl)
+
+    pub pair_only_weak : comparing.weak (mark p.from) (mark p.to) × (comparing.strict (mark p.from) (mark p.to) → ⊥) → pair_is_weak comparing rules n p (Ok false)
+    pair_only_weak h =
+        pair_answered false (weakly_above comparing (mark p.from) (mark p.to) (rules + n) (PairNotWeak n) small h.0) (λ yes. absurd cc, λ strict. absurd (h.1 strict))

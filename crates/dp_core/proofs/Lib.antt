@@ -4,6 +4,7 @@ pub mod PlacedLaws
 pub mod PairWalk
 pub mod DefinedSymbols
 pub mod PairSides
+pub mod LeftNumbering
 pub mod Collecting
 pub mod Containment
 pub mod NumberedPairs

@@ -10,4 +10,5 @@ pub mod PairConditions
 pub mod LeastMissing
 pub mod LeastLacking
 pub mod Markable
+pub mod LeftNumbers
 pub mod Places

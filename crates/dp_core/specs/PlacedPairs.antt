@@ -47,3 +47,7 @@ pub record IsPlacedPair (rules : List RewriteRule) (s : PlacedRule) : Type 0 whe
   pub args : Trees
   pub there : subterm_at s.place rule.right ≡ Some (app symbol args)
   pub defined : IsTrue (is_defined rules symbol)
+
+-- the left side of the pair is that of rule number r
+abbrev pub IsOfRule : List RewriteRule → ℕ → DependencyPair → Type 0
+IsOfRule rules r p = (rule : RewriteRule) × (slice_get rules r ≡ Some rule) × (rule.left ≡ plain p.from)

@@ -1,17 +1,20 @@
-ghost use Rattle.std.specs.Prelude.{◌≡◌, ◌↔◌, ◌≤◌, ◌<◌, All, IsTrue, List, length, zip};
+ghost use Rattle.std.specs.Prelude.{◌≡◌, ◌≤◌, ◌<◌, All, List, length, zip};
 ghost use Rattle.trs_defs.specs.System.{RewriteRule};
 ghost use Rattle.trs_core.specs.View.{tree};
+ghost use Rattle.pair_theory.specs.Marked.{mark};
 ghost use Rattle.pair_theory.specs.DependencyPair.{DependencyPair};
 ghost use Rattle.rewrite_core.specs.Check.{Answers, AnswersBy, each, collect};
 ghost use Rattle.dp_core.specs.Numbered.{AreItemsOf, ArePairsOf};
 ghost use Rattle.dp_core.specs.Markable.{IsMarkable};
+ghost use Rattle.dp_core.specs.LeftNumbers.{NumberLefts};
 ghost use Rattle.dp_core.specs.PairConditions.{comparing_by, is_weakly_above, rule_is_weak};
 ghost use Rattle.dp_core.specs.PairConditions.{pair_is_weak};
 
 use crate::Sides;
+use crate::lefts::{Left, left_of};
 use crate::sides::marked_term;
 use crate::subterm::add;
-use pair_order::ReductionPair;
+use pair_order::{Decrease, ReductionPair};
 use rewrite_core::{CheckFault, StepRefused};
 use std::alloc::Global;
 use trs_core::{Rule, Term};
@@ -48,56 +51,64 @@ fn rule_check<O: ReductionPair>(order: &O, k: u32, rule: &Rule) -> Result<(), Ch
     )
 }
 
-/// Of each pair of the problem, whether it is strict. Each must be weak.
+/// Of each pair of the problem, whether it is strict. Each must be weak. What is worked out of a left
+/// side serves the pairs that follow with it.
 pub(crate) fn strict_pairs<O: ReductionPair>(
     alloc: Global,
     order: &O,
     rules: usize,
     pairs: &[Sides],
+    lefts: &[u32],
     problem: &[u32],
 ) -> Result<Vec<bool>, CheckFault>
     requires few { rules ≤ 4095 }
     requires numbers { All (λ n. n < length pairs.now) problem.now }
     requires markable { All IsMarkable pairs.now }
+    requires lefts { NumberLefts lefts.now pairs.now }
     ensures { (taken : List DependencyPair) → ArePairsOf pairs.now problem.now taken →
         AnswersBy (λ strict. strict.items) (collect (λ _ item. pair_is_weak (comparing_by
         (O.has order.now) (O.is_too_big order.now) (O.is_weak order.now) (O.is_strict order.now))
         rules item.0 item.1) 0 (zip problem.now taken)) result }
 {
     let mut strict = Vec::new(alloc);
+    let mut last = None;
     for n in problem {
         let sides = &pairs[*n as usize];
-        let flag = is_strict_pair(alloc, order, rules, *n, sides)?;
+        let left = left_of(alloc, order, last, lefts[*n as usize], &sides.from)?;
+        let flag = is_strict_pair(alloc, order, rules, *n, &left, sides)?;
+        last = Some(left);
         add(&mut strict, flag)?;
     }
     Ok(strict)
 }
 
-/// Whether pair number `n` is strict. It must be weak.
+/// Whether pair number `n` is strict, where its left side is at hand. It must be weak.
 fn is_strict_pair<O: ReductionPair>(
     alloc: Global,
     order: &O,
     rules: usize,
     n: u32,
+    left: &Left<O::Profile>,
     sides: &Sides,
 ) -> Result<bool, CheckFault>
     requires few { rules ≤ 4095 }
     requires markable { IsMarkable sides.now }
+    requires left { tree left.now.term ≡ mark sides.now.from }
+    requires profile { O.is_profile order.now (tree left.now.term) left.now.profile }
     ensures { AnswersBy (λ strict. strict) (pair_is_weak (comparing_by (O.has order.now)
         (O.is_too_big order.now) (O.is_weak order.now) (O.is_strict order.now))
         rules n sides.now) result }
 {
-    let left = marked_term(alloc, &sides.from)?;
     let right = marked_term(alloc, &sides.to)?;
-    let item = rules as u64 + n as u64;
-    weak_check(
-        order,
-        &left,
-        &right,
-        item,
-        StepRefused::PairNotWeak(n as u64),
-    )?;
-    Ok(is_strict(order, &left, &right))
+    match order.decrease(&left.term, &left.profile, &right) {
+        Err(_) => {
+            let item = rules as u64 + n as u64;
+            Err(CheckFault::Refused(StepRefused::TooBig(item)))
+        }
+        Ok(Decrease::Missing) => Err(CheckFault::Refused(StepRefused::PairNotWeak(n as u64))),
+        Ok(Decrease::Weak) => Ok(false),
+        Ok(Decrease::Strict) => Ok(true),
+    }
 }
 
 /// Sees that the first term is weakly above the second one.
@@ -116,16 +127,5 @@ fn weak_check<O: ReductionPair>(
         Err(_) => Err(CheckFault::Refused(StepRefused::TooBig(item))),
         Ok(true) => Ok(()),
         Ok(false) => Err(CheckFault::Refused(otherwise)),
-    }
-}
-
-/// Whether the first term is strictly above the second one, where the comparison is not too big.
-fn is_strict<O: ReductionPair>(order: &O, left: &Term, right: &Term) -> bool
-    requires { O.is_too_big order.now (tree left.now) (tree right.now) → ⊥ }
-    ensures { IsTrue result ↔ O.is_strict order.now (tree left.now) (tree right.now) }
-{
-    match order.strict(left, right) {
-        Ok(answer) => answer,
-        Err(_) => unreachable!(),
     }
 }

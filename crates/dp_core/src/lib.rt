@@ -7,6 +7,7 @@ mod contained;
 mod defined;
 mod entries;
 mod laws;
+mod lefts;
 mod listing;
 mod numbers;
 mod ordered;

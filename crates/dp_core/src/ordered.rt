@@ -91,7 +91,14 @@ impl<'a> Pairs<'a> {
         entries_check(lacking)?;
         entries_check(lacking_root(order, self.sides(), problem))?;
         rules_check(order, rules, weak_rules)?;
-        let strict = strict_pairs(alloc, order, rules.len(), self.sides(), problem)?;
+        let strict = strict_pairs(
+            alloc,
+            order,
+            rules.len(),
+            self.sides(),
+            self.lefts(),
+            problem,
+        )?;
         left_over(alloc, problem, &strict)
     }
 }

@@ -1,6 +1,7 @@
 ghost use Rattle.std.specs.Prelude.{◌≡◌, IfOk, length};
 ghost use Rattle.pair_theory.specs.DependencyPair.{dependency_pairs};
 ghost use Rattle.dp_core.specs.PlacedPairs.{placed_pairs};
+ghost use Rattle.dp_core.specs.LeftNumbers.{NumberLefts};
 
 use crate::laws::placed_pairs_are_the_pairs;
 use crate::sides::{Sides, sides_of};
@@ -15,6 +16,7 @@ use trs_core::{OutOfMemory, Trs, systems_are_valid};
 #[derive(Drop)]
 pub struct Pairs<'a> {
     sides: Vec<Sides<'a>>,
+    lefts: Vec<u32>,
 }
 
 impl<'a> Model for Pairs<'a> {
@@ -27,7 +29,11 @@ impl<'a> Model for Pairs<'a> {
 
     ghost coded = { coded_list pair_code };
 
+    ghost use Rattle.dp_core.specs.LeftNumbers.{NumberLefts};
+
     ghost view = { λ a. a.sides.items };
+
+    ghost invariant = { λ a. NumberLefts a.lefts.items a.sides.items };
 }
 
 impl<'a> Pairs<'a> {
@@ -47,13 +53,15 @@ impl<'a> Pairs<'a> {
         systems_are_valid(trs);
         placed_pairs_are_the_pairs();
         let mut sides = Vec::with_capacity(alloc, all.len())?;
+        let mut lefts = Vec::with_capacity(alloc, all.len())?;
         for p in all {
             let Some(both) = sides_of(trs, p) else {
                 unreachable!()
             };
             sides.push(both)?;
+            lefts.push(p.rule)?;
         }
-        Ok(Pairs { sides })
+        Ok(Pairs { sides, lefts })
     }
 
     /// How many pairs there are.
@@ -68,5 +76,12 @@ impl<'a> Pairs<'a> {
         ensures { result.now ≡ self.now }
     {
         &self.sides
+    }
+
+    /// The numbers of the left sides of the pairs. Pairs of one rule have one left side.
+    pub(crate) fn lefts(&self) -> &[u32]
+        ensures { NumberLefts result.now self.now }
+    {
+        &self.lefts
     }
 }

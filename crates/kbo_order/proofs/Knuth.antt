@@ -42,7 +42,7 @@ module _ (w rank : ℕ → ℕ) where
     pub not_same : (s t : Tree) → s ≡ t → SeenGreater w rank x s t → ⊥
     not_same s t e g = not_seen_self s (subst (SeenGreater w rank x s) (sym e) g)
 
-  heavier_or : (s t : Tree) (x : ℕ) → weigh w s ≡ weigh w t → SeenGreater w rank x s t → Decides w rank x s t
+  pub heavier_or : (s t : Tree) (x : ℕ) → weigh w s ≡ weigh w t → SeenGreater w rank x s t → Decides w rank x s t
   heavier_or s t x e (k, inl lt) = absurd (omega arith)
   heavier_or s t x e (k, inr (e', d)) = d
 

@@ -8,3 +8,4 @@ pub mod Walking
 pub mod Towers
 pub mod Viewers
 pub mod Admitting
+pub mod Profiling

@@ -1,5 +1,6 @@
 -- What some variables see of two terms, argument by argument.
-use Rattle.std.proofs.Common.{◌≡◌, ℕ, ℤ, pos, ◌≤ℤ◌, ◌+◌, ◌<◌, ◌≤◌, ◌↔◌, inl, inr, refl, sym, ap, subst, ◌∙◌, arith, Ok, true, false, Bool, IsTrue, nat_lt, List, length}
+use Rattle.std.proofs.Common.{◌≡◌, ℕ, ℤ, pos, ◌≤ℤ◌, ◌+◌, ◌<◌, ◌≤◌, ◌↔◌, inl, inr, refl, sym, ap, subst, ◌∙◌, arith, Ok, true, false, Bool, IsTrue, nat_lt, nat_eq, not, List, length}
+use Rattle.std.proofs.lemmas.Bool.{eqb-true, eq-eqb}
 use Rattle.std.proofs.lemmas.Int.{ints}
 use Rattle.trs_core.specs.declared.terms.Term.{Term}
 use Rattle.trs_core.specs.View.{forest}
@@ -198,3 +199,21 @@ apart_by_count f g xs ys s t is_s is_t n = rw (is_s, is_t) (λ e k. n (sym (coun
 
 pub as_many_terms : (xs ys : List Term) → length xs ≡ length ys → count (forest xs) ≡ count (forest ys)
 as_many_terms xs ys e = count_forest xs ∙ e ∙ sym (count_forest ys)
+
+pub apart_by_root : (f g : ℕ) (ss ts : Trees) (s t : Tree) → s ≡ app f ss → t ≡ app g ts → (f ≡ g → ⊥) → AreApart s t
+apart_by_root f g ss ts s t is_s is_t n = rw (is_s, is_t) (λ e k. n e)
+
+-- two applications of one symbol, to so many arguments
+pub apart_test : (f g : ℕ) (xs ys : List Term) (s t : Tree) (m n : ℕ) → s ≡ app f (forest xs) → t ≡ app g (forest ys) → f ≡ g → m ≡ length xs → n ≡ length ys
+    → IsTrue (not (nat_eq m n)) ↔ AreApart s t
+apart_test f g xs ys s t m n is_s is_t roots is_m is_n = go (nat_eq m n) refl
+  where
+    parts : AreApart s t → f ≡ g → count (forest xs) ≡ count (forest ys) → ⊥
+    parts apart = let P : Tree → Type 0 = λ u. AreApart u (app g (forest ys)) in subst P is_s (subst (AreApart s) is_t apart)
+
+    go : (b : Bool) → nat_eq m n ≡ b → IsTrue (not b) ↔ AreApart s t
+    go true e = let as_many : length xs ≡ length ys = sym is_m ∙ (eqb-true m n e ∙ is_n) in (λ yes. absurd cc, λ apart. absurd (parts apart roots (as_many_terms xs ys as_many)))
+    go false e = (
+      λ yes. apart_by_count f g xs ys s t is_s is_t (λ as_many. let same : IsTrue (nat_eq m n) = eq-eqb m n (is_m ∙ (as_many ∙ sym is_n)) in absurd (cc (same, e))),
+      λ apart. refl,
+    )

@@ -6,3 +6,4 @@ pub mod Balances
 pub mod Seen
 pub mod TooBig
 pub mod Laws
+pub mod Profiles

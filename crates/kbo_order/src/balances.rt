@@ -39,6 +39,16 @@ impl<const N: usize> Balances<N> {
         }
     }
 
+    /// The same balances.
+    pub(crate) fn copy(&self) -> Balances<N>
+        ensures { result ≡ self.now }
+    {
+        Balances {
+            differences: self.differences,
+            deficits: self.deficits,
+        }
+    }
+
     /// Counts an occurrence of a variable, if it is one of those from a number on.
     pub(crate) fn count(&mut self, from: u32, side: Side, x: u32)
         ensures { (i : ℕ) → i < N → IsCounted side (if x == from + i then 1 else 0)

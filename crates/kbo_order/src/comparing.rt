@@ -201,7 +201,7 @@ fn measure_both<W: Weighting, const N: usize>(
 }
 
 /// The weight of the term on a side; the occurrences of its variables are counted.
-fn measure<W: Weighting, const N: usize>(
+pub(crate) fn measure<W: Weighting, const N: usize>(
     order: &W,
     from: u32,
     side: Side,
@@ -228,8 +228,26 @@ fn measure<W: Weighting, const N: usize>(
     }
 }
 
+/// Whether two terms are no applications of one symbol to as many arguments.
+pub(crate) fn are_apart(s: &Term, t: &Term) -> bool
+    ensures { IsTrue result ↔ AreApart (tree s.now) (tree t.now) }
+{
+    match s {
+        Term::Var(_) => true,
+        Term::App(f, ss) => match t {
+            Term::Var(_) => true,
+            Term::App(g, ts) => {
+                if f != g {
+                    return true;
+                }
+                ss.items.len() != ts.items.len()
+            }
+        },
+    }
+}
+
 /// Whether the first of two such terms of one weight is greater.
-fn decides<W: Weighting>(order: &W, s: &Term, t: &Term) -> bool
+pub(crate) fn decides<W: Weighting>(order: &W, s: &Term, t: &Term) -> bool
     requires { AreApart (tree s.now) (tree t.now) }
     ensures { (x : ℕ) → IsTrue result ↔ Decides (W.weights order.now)
         (W.ranks order.now) x (tree s.now) (tree t.now) }

@@ -8,11 +8,13 @@ mod entries;
 mod faults;
 mod measure;
 mod orders;
+mod profiles;
 mod table;
 mod weighting;
 
 pub use comparing::{is_strict, is_weak};
 pub use entries::KboEntry;
 pub use faults::KboFault;
+pub use profiles::Profile;
 pub use table::Kbo;
 pub use weighting::Weighting;

@@ -6,9 +6,11 @@ ghost use Rattle.pair_order.specs.Entries.{has_entry};
 ghost use Rattle.kbo_order.specs.Table.{symbol_of, arity_in, weight_in, rank_in, has_arity};
 ghost use Rattle.kbo_order.specs.TooBig.{EitherIsBig};
 ghost use Rattle.kbo_order.specs.Laws.{AgreesWith, spoken};
+ghost use Rattle.kbo_order.specs.Profiles.{IsProfile};
 
-use crate::{Kbo, is_strict, is_weak};
-use pair_order::{ReductionPair, TooBig};
+use crate::profiles::{decrease_from, profile_of};
+use crate::{Kbo, Profile, is_strict, is_weak};
+use pair_order::{Decrease, ReductionPair, TooBig};
 use pair_theory::ReductionOrder;
 use trs_core::Term;
 
@@ -32,12 +34,24 @@ impl ReductionPair for Kbo {
 
     ghost speaks_over = { λ order arities. AgreesWith (arity_in order.entries.items) arities };
 
+    type Profile = Profile;
+
+    ghost is_profile = { λ order. IsProfile (weight_in order.entries.items) };
+
     fn weak(&self, a: &Term, b: &Term) -> Result<bool, TooBig> {
         is_weak(self, a, b)
     }
 
     fn strict(&self, a: &Term, b: &Term) -> Result<bool, TooBig> {
         is_strict(self, a, b)
+    }
+
+    fn profile(&self, a: &Term) -> Profile {
+        profile_of(self, a)
+    }
+
+    fn decrease(&self, a: &Term, profile: &Profile, b: &Term) -> Result<Decrease, TooBig> {
+        decrease_from(self, a, profile, b)
     }
 
     fn has_entry(&self, f: u32) -> bool {

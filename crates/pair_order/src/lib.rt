@@ -5,7 +5,7 @@ mod pairs;
 mod removal;
 mod symbol_index;
 
-pub use pairs::{PairingOrder, ReductionPair, TooBig};
+pub use pairs::{Decrease, PairingOrder, ReductionPair, TooBig};
 pub use removal::remove_pairs_with_entries;
 pub use symbol_index::SymbolIndex;
 

@@ -2,7 +2,7 @@ ghost use Rattle.std.specs.Prelude.{◌≡◌, ℕ, List, Bool};
 ghost use Rattle.trs_defs.specs.Tree.{Tree, app, nil, cons};
 ghost use Rattle.trs_core.specs.View.{tree};
 ghost use Rattle.pair_order.specs.Spoken.{SpeaksWithEntries};
-ghost use Rattle.pair_order.specs.Compared.{IsAnswer};
+ghost use Rattle.pair_order.specs.Compared.{IsAnswer, IsDecrease};
 
 use pair_theory::ReductionOrder;
 use trs_core::Term;
@@ -10,6 +10,17 @@ use trs_core::Term;
 /// A value that a comparison meets is too big to be computed.
 #[derive(Clone, Copy, Debug, PartialEq, Eq)]
 pub struct TooBig;
+
+/// How a term is above another one.
+#[derive(Clone, Copy, Debug, PartialEq, Eq)]
+pub enum Decrease {
+    /// Strictly, and so weakly.
+    Strict,
+    /// Weakly, and not strictly.
+    Weak,
+    /// Not even weakly.
+    Missing,
+}
 
 /// A reduction pair with entries for some symbols, as a value whose comparisons are computed.
 /// Over an arity table of which it speaks, its laws hold for the terms whose symbols have entries.
@@ -21,6 +32,11 @@ pub trait ReductionPair: ReductionOrder {
 
     ghost speaks_over: { Self → List ℕ → Type 0 };
 
+    /// What is worked out once of a term that is compared with several others.
+    type Profile: Drop;
+
+    ghost is_profile: { Self → Tree → Self.Profile → Type 0 };
+
     /// Whether the first term is weakly above the second.
     fn weak(&self, a: &Term, b: &Term) -> Result<bool, TooBig>
         ensures { IsAnswer (is_too_big self.now (tree a.now) (tree b.now))
@@ -29,6 +45,17 @@ pub trait ReductionPair: ReductionOrder {
     /// Whether the first term is strictly above the second.
     fn strict(&self, a: &Term, b: &Term) -> Result<bool, TooBig>
         ensures { IsAnswer (is_too_big self.now (tree a.now) (tree b.now))
+            (Self.is_strict self.now (tree a.now) (tree b.now)) result };
+
+    /// The profile of a term. It takes no memory.
+    fn profile(&self, a: &Term) -> Self::Profile
+        ensures { is_profile self.now (tree a.now) result };
+
+    /// How the first term, of which this is the profile, is above the second.
+    fn decrease(&self, a: &Term, profile: &Self::Profile, b: &Term) -> Result<Decrease, TooBig>
+        requires { is_profile self.now (tree a.now) profile.now }
+        ensures { IsDecrease (is_too_big self.now (tree a.now) (tree b.now))
+            (Self.is_weak self.now (tree a.now) (tree b.now))
             (Self.is_strict self.now (tree a.now) (tree b.now)) result };
 
     /// Whether the symbol has an entry.

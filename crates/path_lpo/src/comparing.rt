@@ -3,12 +3,14 @@ ghost use Rattle.trs_defs.specs.Size.{size_of};
 ghost use Rattle.trs_core.specs.View.{tree};
 ghost use Rattle.order_theory.specs.PathOrder.{GreaterThanAll, SomeAtLeast};
 ghost use Rattle.order_theory.specs.ArgumentFilter.{filtered, filtered_all, PathWeak, PathStrict};
+ghost use Rattle.pair_order.specs.Compared.{IsDecreaseOf};
 ghost use Rattle.path_lpo.specs.Kept.{kept_of, whole_of, size_of_parts};
 ghost use Rattle.path_lpo.specs.Comparison.{IsComparison};
 
 use crate::comparison::Comparison;
 use crate::kept::{Kept, Parts, argument};
 use crate::{LentFilter, Precedence};
+use pair_order::Decrease;
 use trs_core::Term;
 
 /// Whether the first filtered term is the second, or greater.
@@ -25,6 +27,19 @@ pub fn is_strict<P: Precedence>(order: &P, s: &Term, t: &Term) -> bool
         ↔ PathStrict (P.ranks order.now) (P.filters order.now) (tree s.now) (tree t.now) }
 {
     compare(order, s, t).is_greater()
+}
+
+/// How the first filtered term is above the second.
+pub(crate) fn decrease<P: Precedence>(order: &P, s: &Term, t: &Term) -> Decrease
+    ensures { IsDecreaseOf
+        (PathWeak (P.ranks order.now) (P.filters order.now) (tree s.now) (tree t.now))
+        (PathStrict (P.ranks order.now) (P.filters order.now) (tree s.now) (tree t.now)) result }
+{
+    match compare(order, s, t) {
+        Comparison::Same => Decrease::Weak,
+        Comparison::Greater => Decrease::Strict,
+        Comparison::Neither => Decrease::Missing,
+    }
 }
 
 /// The filtered term at its root.

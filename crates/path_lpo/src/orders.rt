@@ -5,8 +5,9 @@ ghost use Rattle.pair_theory.specs.ReductionPair.{AllTerms};
 ghost use Rattle.pair_order.specs.Entries.{has_entry};
 ghost use Rattle.path_lpo.specs.Table.{symbol_of, rank_in, filter_in, spoken};
 
+use crate::comparing::decrease;
 use crate::{Lpo, is_strict, is_weak};
-use pair_order::{ReductionPair, TooBig};
+use pair_order::{Decrease, ReductionPair, TooBig};
 use pair_theory::ReductionOrder;
 use trs_core::Term;
 
@@ -27,12 +28,22 @@ impl ReductionPair for Lpo {
 
     ghost speaks_over = { λ order arities. Unit {0} };
 
+    type Profile = ();
+
+    ghost is_profile = { λ order t profile. Unit {0} };
+
     fn weak(&self, a: &Term, b: &Term) -> Result<bool, TooBig> {
         Ok(is_weak(self, a, b))
     }
 
     fn strict(&self, a: &Term, b: &Term) -> Result<bool, TooBig> {
         Ok(is_strict(self, a, b))
+    }
+
+    fn profile(&self, _a: &Term) {}
+
+    fn decrease(&self, a: &Term, _profile: &(), b: &Term) -> Result<Decrease, TooBig> {
+        Ok(decrease(self, a, b))
     }
 
     fn has_entry(&self, f: u32) -> bool {

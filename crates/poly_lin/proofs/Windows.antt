@@ -136,6 +136,20 @@ module _ (c : ℕ → ℕ → ℕ) (s t : Tree) where
         → b ≡ false → Covers c s t → ⊥
     not_all b h is all = let there = h.1 (all_there all) in absurd (cc (there, is))
 
+    -- where the coefficients on the left are known
+    module _ (known : List ℕ) (known_is : (i : ℕ) → i < w → min (slice_index known i) (2 ^ 64 - 1) ≡ min (coefficient c (from + i) s) (2 ^ 64 - 1)) where
+      pub known_there : ((i : ℕ) → i < w → min (slice_index right i) (2 ^ 64 - 1) ≤ min (slice_index known i) (2 ^ 64 - 1))
+          → (i : ℕ) → i < w → min (slice_index right i) (2 ^ 64 - 1) ≤ min (coefficient c (from + i) s) (2 ^ 64 - 1)
+      known_there h i small = let le = h i small in omega (arith, le, known_is i small)
+
+      pub not_known : (b : Bool) → (IsTrue b ↔ ((i : ℕ) → i < w → min (slice_index right i) (2 ^ 64 - 1) ≤ min (slice_index known i) (2 ^ 64 - 1)))
+          → b ≡ false → Covers c s t → ⊥
+      not_known b h is all =
+          let there = h.1 (λ i small. let le = all_there all i small in omega (arith, le, known_is i small)) in absurd (cc (there, is))
+
+pub none_covered : (c : ℕ → ℕ → ℕ) (s t : Tree) → AreCovered c s t (Some 0)
+none_covered c s t x below = absurd (omega arith)
+
 pub after_window : (w from : ℕ) (next : Option ℕ) → 0 < w → IsFrom (from + w) next → IsFrom (from + 1) next
 after_window w from None some h = tt
 after_window w from (Some x) some h = omega arith

@@ -6,4 +6,5 @@ pub mod Rows
 pub mod Faults
 pub mod Covering
 pub mod TooBig
+pub mod Profiles
 pub mod Laws

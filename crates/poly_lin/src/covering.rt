@@ -3,6 +3,7 @@ ghost use Rattle.std.specs.Prelude.{◌≡◌, ◌↔◌, ◌<◌, ◌≤◌, �
 ghost use Rattle.trs_core.specs.View.{tree};
 ghost use Rattle.order_theory.specs.LinearInterpretation.{coefficient};
 ghost use Rattle.poly_lin.specs.Covering.{Covers, AreCovered, IsAfter};
+ghost use Rattle.poly_lin.specs.Profiles.{AreCoefficients};
 
 use crate::Coefficients;
 use crate::window::{MANY, add_coefficients};
@@ -14,6 +15,9 @@ const FEW: usize = 8;
 
 const SOME: usize = 16;
 
+/// Of how many variables a profile has the coefficients.
+pub(crate) const PROFILED: usize = 64;
+
 /// The coefficient of a variable in the first term is less than that in the second.
 #[derive(Clone, Copy)]
 struct NotCovered;
@@ -24,6 +28,39 @@ pub(crate) fn covers<T: Coefficients>(table: &T, a: &Term, b: &Term) -> bool
     ensures { IsTrue result ↔ Covers (T.coefficient table.now) (tree a.now) (tree b.now) }
 {
     cover_all(table, a, b).is_ok()
+}
+
+/// The same, where the coefficients in `a` of the first variables are known.
+pub(crate) fn covers_known<T: Coefficients>(
+    table: &T,
+    a: &Term,
+    known: &[u64; PROFILED],
+    b: &Term,
+) -> bool
+    requires { AreCoefficients (T.coefficient table.now) 64 0 (tree a.now) known.now }
+    ensures { IsTrue result ↔ Covers (T.coefficient table.now) (tree a.now) (tree b.now) }
+{
+    cover_known(table, a, known, b).is_ok()
+}
+
+fn cover_known<T: Coefficients>(
+    table: &T,
+    a: &Term,
+    known: &[u64; PROFILED],
+    b: &Term,
+) -> Result<(), NotCovered>
+    requires { AreCoefficients (T.coefficient table.now) 64 0 (tree a.now) known.now }
+    ensures covered { IfOk result (λ _.
+        Covers (T.coefficient table.now) (tree a.now) (tree b.now)) }
+    ensures not_covered { IfErr result (λ _.
+        Covers (T.coefficient table.now) (tree a.now) (tree b.now) → ⊥) }
+{
+    let mut right = [0; PROFILED];
+    let next = add_coefficients(table, 0, 1, b, &mut right, None);
+    if !are_at_least(known, &right) {
+        return Err(NotCovered);
+    }
+    cover_rest(table, a, b, next)
 }
 
 fn cover_all<T: Coefficients>(table: &T, a: &Term, b: &Term) -> Result<(), NotCovered>

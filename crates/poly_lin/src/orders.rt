@@ -7,9 +7,11 @@ ghost use Rattle.pair_order.specs.Entries.{has_entry};
 ghost use Rattle.poly_lin.specs.Table.{symbol_of, coefficient_in};
 ghost use Rattle.poly_lin.specs.TooBig.{EitherIsBig};
 ghost use Rattle.poly_lin.specs.Laws.{spoken, above_first, above_second};
+ghost use Rattle.poly_lin.specs.Profiles.{IsProfile};
 
-use crate::{LinTable, is_strictly_above, is_weakly_above};
-use pair_order::{PairingOrder, ReductionPair, TooBig};
+use crate::profiles::{decrease_from, profile_of};
+use crate::{LinTable, Profile, is_strictly_above, is_weakly_above};
+use pair_order::{Decrease, PairingOrder, ReductionPair, TooBig};
 use pair_theory::ReductionOrder;
 use trs_core::Term;
 
@@ -30,12 +32,24 @@ impl ReductionPair for LinTable {
 
     ghost speaks_over = { λ table arities. Unit {0} };
 
+    type Profile = Profile;
+
+    ghost is_profile = { λ table. IsProfile (coefficient_in table) };
+
     fn weak(&self, a: &Term, b: &Term) -> Result<bool, TooBig> {
         is_weakly_above(self, a, b)
     }
 
     fn strict(&self, a: &Term, b: &Term) -> Result<bool, TooBig> {
         is_strictly_above(self, a, b)
+    }
+
+    fn profile(&self, a: &Term) -> Profile {
+        profile_of(self, a)
+    }
+
+    fn decrease(&self, a: &Term, profile: &Profile, b: &Term) -> Result<Decrease, TooBig> {
+        decrease_from(self, a, profile, b)
     }
 
     fn has_entry(&self, f: u32) -> bool {

@@ -14,8 +14,8 @@ use Rattle.order_search.proofs.OfProblem.{small_roots, all_markable}
 use Rattle.poly_find.proofs.OfUsable.{distinct, all_low, few_symbols, few_falling, found_for}
 use Rattle.poly_find.proofs.usable_finding.find_usable_in.Goals as goal
 
-pub chosen-requires : goal.chosen-requires
-chosen-requires g c =
+pub choose_rules-requires : goal.choose_rules-requires
+choose_rules-requires g c =
     let system = c.args.trs.now in
     let valid = c.rules-rules.ensures.valid in
     let few = c.rules-rules.ensures.limits.symbols in

@@ -17,6 +17,9 @@ strict_pairs-requires-clause-markable g c =
     rw (c.sides-2.ensures, c.requires.pairs)
     (all_markable c.args.trs.now c.rules-rules.ensures.limits.symbols (c.dependency_pairs_suffice.ensures.pairs c.args.trs.now c.rules-rules.ensures.valid))
 
+pub strict_pairs-requires-clause-lefts : goal.strict_pairs-requires-clause-lefts
+strict_pairs-requires-clause-lefts g c = rw c.sides-2.ensures c.lefts.ensures
+
 pub returns-in_err-entries_check : goal.returns-in_err-entries_check
 returns-in_err-entries_check g c = record {
   answers = λ symbols chosen taken lacks are_rules are.
