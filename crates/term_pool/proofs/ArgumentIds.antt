@@ -1,6 +1,6 @@
 -- The arguments of a term as they get their ids, and terms as they are read.
 use Rattle.std.proofs.Common.{◌≡◌, All, ℕ, ◌+◌, ◌<◌, ◌≤◌, List, [], ◌∷◌, ◌++◌, map, take, drop, length, refl, ap, sym, ◌∙◌, zero, suc, arith, get_or}
-use Rattle.std.proofs.lemmas.List.{take_more, take_all, map-append}
+use Rattle.std.proofs.lemmas.List.{map_more, take_all, map-append}
 use Rattle.std.proofs.lemmas.List.Elements.{All-nil, All-push}
 use Rattle.trs_defs.specs.Tree.{Tree, app, trees}
 use Rattle.trs_defs.specs.Size.{size_of, size_of_all}
@@ -15,6 +15,13 @@ use Rattle.term_pool.proofs.Extending.{extends_itself, extends_on, same_tree_at}
 -- the nodes of the values of some arguments: their trees, or the instances of these
 abbrev pub nodes_of : (Term → Tree) → List Term → ℕ
 nodes_of value args = size_of_all (trees (map value args))
+
+-- values that are equal so far, with one more
+pub one_more_value : {X Y Z : Type 0} (f : X → Z) (g : Y → Z) (xs : List X) (ys : List Y) (k : ℕ) (x : X) (d : Y) → k < length ys → map f xs ≡ map g (take k ys) → f x ≡ g (get_or ys k d)
+    → map f (xs ++ x ∷ []) ≡ map g (take (k + 1) ys)
+one_more_value f g xs ys k x d within so_far new =
+    let both : map f xs ++ f x ∷ [] ≡ map g (take k ys) ++ g (get_or ys k d) ∷ [] = rw (so_far, new) refl in
+    map-append f xs (x ∷ []) ∙ (both ∙ sym (map_more g ys k d within))
 
 -- the values of the first k arguments have these ids
 pub record AreMade (value : Term → Tree) (start now : List Tree) (args : List Term) (ids : List ℕ) (k : ℕ) : Type 0 where
@@ -33,7 +40,7 @@ nodes_left value (x ∷ xs) (suc k) = omega (arith, nodes_left value xs k)
 
 -- the next argument of the term t
 module _ (value : Term → Tree) (args : List Term) (k : ℕ) (arg : Term) (within : k < length args) (is : arg ≡ get_or args k arg) where
-  next_nodes : nodes_of value (drop k args) ≡ size_of (value arg) + nodes_of value (drop (k + 1) args)
+  pub next_nodes : nodes_of value (drop k args) ≡ size_of (value arg) + nodes_of value (drop (k + 1) args)
   next_nodes = ap (nodes_of value) (cell args k arg within is)
 
   module _ (t : Tree) (f : ℕ) (whole : t ≡ app f (trees (map value args))) where
@@ -54,15 +61,11 @@ module _ (value : Term → Tree) (args : List Term) (k : ℕ) (arg : Term) (with
         let longer : length now ≤ length next = kept.longer in
         let old : map (tree_at next) ids ≡ map (tree_at now) ids = same_trees_at now next (length now) ids so_far.below (same_tree_at now next kept) in
         let new : tree_at next id ≡ value arg = stands_at next id (value arg) stand in
-        let more : take (k + 1) args ≡ take k args ++ arg ∷ [] = take_more args k arg within ∙ ap (λ x. take k args ++ x ∷ []) (sym is) in
-        let left : map (tree_at next) (ids ++ id ∷ []) ≡ map (tree_at next) ids ++ tree_at next id ∷ [] = map-append (tree_at next) ids (id ∷ []) in
-        let right : map value (take k args ++ arg ∷ []) ≡ map value (take k args) ++ value arg ∷ [] = map-append value (take k args) (arg ∷ []) in
-        let both : map (tree_at next) ids ++ tree_at next id ∷ [] ≡ map value (take k args) ++ value arg ∷ [] = rw (old, so_far.terms, new) refl in
         let was = so_far.few in
         record {
           kept = extends_on start now next so_far.kept kept;
           below = All-push (λ i. i < length next) ids id (each_below (length now) (length next) ids longer so_far.below) (stands_within next id (value arg) stand);
-          terms = left ∙ (both ∙ sym (ap (map value) more ∙ right));
+          terms = one_more_value (tree_at next) value ids args k id arg within (old ∙ so_far.terms) (new ∙ ap value is);
           few = omega (arith, was, few, next_nodes);
         }
 
@@ -83,11 +86,4 @@ module _ (value : Term → Tree) (start now : List Tree) (args : List Term) (ids
 -- one more argument of a node is read
 pub one_read : (ts : List Tree) (args : List ℕ) (k : ℕ) (built : List Term) (t : Term) → k < length args → StandsFor ts (get_or args k 0) (tree t)
     → map tree built ≡ map (tree_at ts) (take k args) → map tree (built ++ t ∷ []) ≡ map (tree_at ts) (take (k + 1) args)
-one_read ts args k built t h stand so_far =
-    let new : tree_at ts (get_or args k 0) ≡ tree t = stands_at ts (get_or args k 0) (tree t) stand in
-    let more : take (k + 1) args ≡ take k args ++ get_or args k 0 ∷ [] = take_more args k 0 h in
-    let left : map tree (built ++ t ∷ []) ≡ map tree built ++ tree t ∷ [] = map-append tree built (t ∷ []) in
-    let right : map (tree_at ts) (take k args ++ get_or args k 0 ∷ []) ≡ map (tree_at ts) (take k args) ++ tree_at ts (get_or args k 0) ∷ [] =
-    map-append (tree_at ts) (take k args) (get_or args k 0 ∷ []) in
-    let both : map tree built ++ tree t ∷ [] ≡ map (tree_at ts) (take k args) ++ tree_at ts (get_or args k 0) ∷ [] = rw (so_far, new) refl in
-    left ∙ (both ∙ sym (ap (map (tree_at ts)) more ∙ right))
+one_read ts args k built t h stand so_far = one_more_value tree (tree_at ts) built args k t 0 h so_far (sym (stands_at ts (get_or args k 0) (tree t) stand))

@@ -32,7 +32,7 @@ pub bound_at : (pool : List Tree) (m : Bindings) (v id : ℕ) → Some id ≡ bo
 bound_at pool m v id e ids = rw (← e) (stands pool id (ids.within v id (sym e)))
 
 -- the instance of a term is its symbol over those of its arguments
-instances : (s : ℕ → Tree) (args : List Term) → trees (map (λ a. apply s (tree a)) args) ≡ apply_all s (forest args)
+pub instances : (s : ℕ → Tree) (args : List Term) → trees (map (λ a. apply s (tree a)) args) ≡ apply_all s (forest args)
 instances s [] = refl
 instances s (a ∷ args) = let rest = instances s args in cc (rest)
 

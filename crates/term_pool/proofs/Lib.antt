@@ -27,3 +27,4 @@ pub mod FollowLaws
 pub mod ReachLaws
 pub mod ReachOnce
 pub mod Refutations
+pub mod OutlineLaws

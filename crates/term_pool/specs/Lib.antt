@@ -19,4 +19,5 @@ pub mod ListedIds
 pub mod Reached
 pub mod Known
 pub mod Reaching
+pub mod Outlines
 pub mod Hashed

@@ -1,7 +1,9 @@
-ghost use Rattle.std.specs.Prelude.{◌≡◌, ◌<◌, ◌≤◌, ◌+◌, length, IfOk, IfErr};
+ghost use Rattle.std.specs.Prelude.{◌≡◌, ◌<◌, ◌≤◌, ◌+◌, length, IfOk, IfErr, IfSome, IfNone};
+ghost use Rattle.trs_defs.specs.Tree.{Trees, app};
 ghost use Rattle.trs_defs.specs.Size.{size_of};
+ghost use Rattle.trs_defs.specs.Variable.{IsVariable};
 ghost use Rattle.trs_core.specs.View.{tree};
-ghost use Rattle.term_pool.specs.Pooled.{Extends, StandsFor};
+ghost use Rattle.term_pool.specs.Pooled.{Extends, StandsFor, tree_at};
 
 use crate::Pool;
 use crate::nodes::Node;
@@ -60,6 +62,19 @@ impl Pool {
                 }
                 Ok(Term::App(*f, Args { items: built }))
             }
+        }
+    }
+
+    /// The root of an id's term. `None` where the term is a variable.
+    pub fn root(&self, id: u32) -> Option<u32>
+        requires { id < length self.now }
+        ensures some { IfSome result (λ f.
+            (ts : Trees) × (tree_at self.now id ≡ app f ts)) }
+        ensures none { IfNone result (IsVariable (tree_at self.now id)) }
+    {
+        match self.node(id) {
+            Node::Var(_) => None,
+            Node::App(f, _) => Some(*f),
         }
     }
 }

@@ -16,6 +16,8 @@ mod matching;
 mod narrow;
 mod nodes;
 mod normal;
+mod outlines;
+mod outlining;
 mod paths;
 mod placing;
 mod pools;

@@ -3,8 +3,9 @@ ghost use Rattle.trs_defs.specs.Tree.{var};
 ghost use Rattle.trs_defs.specs.Substitution.{IsInstance};
 ghost use Rattle.trs_core.specs.View.{tree};
 ghost use Rattle.term_pool.specs.Pooled.{AreDistinct, tree_at};
-ghost use Rattle.term_pool.specs.Bindings.{HasIds, instance_of};
+ghost use Rattle.term_pool.specs.Bindings.{HasIds, NamesParts, bound_terms, instance_of};
 ghost use Rattle.term_pool.specs.Matching.{Matches};
+ghost use Rattle.term_pool.specs.Outlines.{HasNoMatchOver};
 
 use crate::Pool;
 use crate::bindings::Bindings;
@@ -36,6 +37,30 @@ impl Pool {
         }
     }
 
+    /// The same for a pattern in which variables that no rule has stand for the ids.
+    pub(crate) fn match_over(
+        &self,
+        alloc: Global,
+        pattern: &Term,
+        id: u32,
+    ) -> Result<Option<Bindings>, OutOfMemory>
+        requires { id < length self.now }
+        ensures ids { IfOk result (λ found. IfSome found (HasIds self.now)) }
+        ensures parts { IfOk result (λ found. IfSome found (λ m.
+            NamesParts self.now (bound_terms self.now m))) }
+        ensures found { IfOk result (λ found. IfSome found (λ m.
+            instance_of self.now m (tree pattern.now) ≡ tree_at self.now id)) }
+        ensures none { IfOk result (λ found. IfNone found
+            (HasNoMatchOver self.now (tree pattern.now) (tree_at self.now id))) }
+    {
+        let mut found = Bindings::with_parts(alloc, self.len());
+        if self.match_more(pattern, id, &mut found)? {
+            Ok(Some(found))
+        } else {
+            Ok(None)
+        }
+    }
+
     /// Whether the id's term is an instance of the pattern.
     pub fn is_instance_of(
         &self,
@@ -51,12 +76,7 @@ impl Pool {
     }
 
     /// Whether the id's term is an instance of the rule's left side.
-    pub(crate) fn is_instance(
-        &self,
-        alloc: Global,
-        rule: &Rule,
-        id: u32,
-    ) -> Result<bool, OutOfMemory>
+    pub fn is_instance(&self, alloc: Global, rule: &Rule, id: u32) -> Result<bool, OutOfMemory>
         requires { id < length self.now }
         ensures { IfOk result (λ yes.
             IsTrue yes ↔ IsInstance rule.now.left (tree_at self.now id)) }

@@ -88,13 +88,13 @@ pub fn one_longer(
 ) -> Result<Vec<PathStep>, OutOfMemory>
     ensures { IfOk result (λ longer. longer.items ≡ path.now ++ step.now ∷ []) }
 {
-    let mut longer = copied(alloc, path)?;
+    let mut longer = copy_path(alloc, path)?;
     longer.push(step.copy(alloc)?)?;
     Ok(longer)
 }
 
 /// The same path.
-pub(crate) fn copied(alloc: Global, path: &[PathStep]) -> Result<Vec<PathStep>, OutOfMemory>
+pub(crate) fn copy_path(alloc: Global, path: &[PathStep]) -> Result<Vec<PathStep>, OutOfMemory>
     ensures { IfOk result (λ copy. copy.items ≡ path.now) }
 {
     let mut copy = Vec::with_capacity(alloc, path.len())?;

@@ -101,7 +101,7 @@ impl Pool {
                 let f = *f;
                 let mut ids = SmallVec::new(alloc);
                 for (i, arg) in args.as_slice().iter().enumerate() {
-                    ids.push(chosen(i, place, by, *arg))?;
+                    ids.push(choose(i, place, by, *arg))?;
                 }
                 self.add(Node::App(f, ids))
             }
@@ -110,7 +110,7 @@ impl Pool {
 }
 
 /// The new argument at the place, and the old one at each other.
-fn chosen(i: usize, place: u8, new: u32, old: u32) -> u32
+fn choose(i: usize, place: u8, new: u32, old: u32) -> u32
     ensures here { place ≡ i + 1 → result ≡ new }
     ensures elsewhere { place ≢ i + 1 → result ≡ old }
 {

@@ -4,7 +4,7 @@ ghost use Rattle.std.specs.BTreeSet.{Updates};
 ghost use Rattle.term_pool.specs.Reached.{Begins, IsEntry};
 
 use crate::PathStep;
-use crate::paths::copied;
+use crate::paths::copy_path;
 use std::alloc::Global;
 use std::collections::BTreeSet;
 use trs_core::OutOfMemory;
@@ -36,7 +36,7 @@ impl Reached {
         ensures { IfOk result (IsEntry self.now i) }
     {
         let entry = &self.list[i];
-        Ok((entry.0, copied(alloc, &entry.1)?))
+        Ok((entry.0, copy_path(alloc, &entry.1)?))
     }
 
     /// Lists an id with its path.

@@ -5,7 +5,9 @@ ghost use Rattle.trs_defs.specs.Path.{Follows};
 ghost use Rattle.term_pool.specs.Pooled.{Extends, tree_at};
 ghost use Rattle.term_pool.specs.Answers.{GivesId};
 ghost use Rattle.term_pool.specs.Paths.{IsPathFault};
+ghost use Rattle.term_pool.specs.Outlines.{AreOutlines};
 
+use crate::outlines::Outlines;
 use crate::{PathFault, PathStep, Pool};
 use std::alloc::Global;
 use trs_core::{OutOfMemory, Trs};
@@ -14,17 +16,18 @@ use trs_core::{OutOfMemory, Trs};
 pub const MOST_ADDED: u32 = 1_048_576;
 
 /// A term of n nodes is carried over once more than `FEW_ADDED` and n times `ADDED_FOR_A_NODE` ids
-/// have been added, which is `MOST_ADDED` for the largest terms.
+/// have been added. For the largest terms that is `MOST_ADDED` without the next term's nodes.
 const FEW_ADDED: u64 = 65_536;
 
-const ADDED_FOR_A_NODE: u64 = 15;
+const ADDED_FOR_A_NODE: u64 = 14;
 
 impl Pool {
     /// The id of the end of a path. Each term after the start keeps the limits. A step costs what
     /// its rule and the way to its place have nodes, and less where it is that before and neither
-    /// changes the term. Where the steps have added many ids, and at the
-    /// latest at `MOST_ADDED`, the term at hand is read, the ids that were added are released, and it is
-    /// interned again, so that a long path takes no more memory than that.
+    /// changes the term; of a rule that a long path uses often, parts with no variable cost nothing.
+    /// Where the steps have added many ids, and at the latest at `MOST_ADDED`, the term at hand is
+    /// read, the ids that were added are released, and it is interned again, so that a long path
+    /// takes no more memory than that.
     pub fn run_path(
         &mut self,
         alloc: Global,
@@ -48,6 +51,58 @@ impl Pool {
         ensures unchanged { IfErr result (λ _. self.new ≡ self.old) }
     {
         let mark = self.mark();
+        match self.run(alloc, trs, id, path) {
+            Ok(end) => Ok(end),
+            Err(fault) => {
+                self.release(mark);
+                Err(fault)
+            }
+        }
+    }
+
+    /// The same end. Where the path is not followed, what was made stays.
+    fn run(
+        &mut self,
+        alloc: Global,
+        trs: &Trs,
+        id: u32,
+        path: &[PathStep],
+    ) -> Result<u32, PathFault>
+        requires { id < length self.old }
+        ensures end { IfOk result (λ end.
+            Follows trs.now.rules path.now (tree_at self.old id) (tree_at self.new end)) }
+        ensures there { IfOk result (λ end. end < length self.new) }
+        ensures fault { IfErr result (IsPathFault trs.now.rules path.now (tree_at self.old id)) }
+        ensures only { (u : Tree) → Follows trs.now.rules path.now (tree_at self.old id) u
+            → GivesId PathFault.OutOfMemory self.new result u }
+        ensures kept { Extends self.old self.new }
+        ensures few { OnOk result (length self.new ≤ length self.old + MOST_ADDED + 65536) }
+    {
+        let outlines = self.outlines_of(alloc, trs, path)?;
+        self.follow(alloc, trs, &outlines, id, path)
+    }
+
+    /// The same end, by the outlines of rules.
+    fn follow(
+        &mut self,
+        alloc: Global,
+        trs: &Trs,
+        outlines: &Outlines,
+        id: u32,
+        path: &[PathStep],
+    ) -> Result<u32, PathFault>
+        requires there { id < length self.old }
+        requires outlines { AreOutlines trs.now.rules self.old outlines.now }
+        ensures end { IfOk result (λ end.
+            Follows trs.now.rules path.now (tree_at self.old id) (tree_at self.new end)) }
+        ensures there { IfOk result (λ end. end < length self.new) }
+        ensures fault { IfErr result (IsPathFault trs.now.rules path.now (tree_at self.old id)) }
+        ensures only { (u : Tree) → Follows trs.now.rules path.now (tree_at self.old id) u
+            → GivesId PathFault.OutOfMemory self.new result u }
+        ensures kept { Extends self.old self.new }
+        ensures few { OnOk result (length self.new ≤ length self.old + MOST_ADDED) }
+    {
+        let mark = self.mark();
         let mut current = id;
         // The step before, where it left the term as it was: made again it does so again.
         let mut idle: Option<&PathStep> = None;
@@ -57,19 +112,13 @@ impl Pool {
                     continue;
                 }
             }
-            let Ok(same) = self.carry_over(alloc, mark, current) else {
-                self.release(mark);
-                return Err(PathFault::OutOfMemory);
-            };
-            match self.step_at(alloc, trs, same, &step.place, step.rule) {
+            let same = self.carry_over(alloc, mark, current)?;
+            match self.step_by(alloc, trs, outlines, same, &step.place, step.rule) {
                 Ok(next) => {
                     idle = if next == same { Some(step) } else { None };
                     current = next;
                 }
-                Err(fault) => {
-                    self.release(mark);
-                    return Err(PathFault::at_step(k as u64, fault));
-                }
+                Err(fault) => return Err(PathFault::at_step(k as u64, fault)),
             }
         }
         Ok(current)
@@ -83,7 +132,7 @@ impl Pool {
         requires small { mark < length self.old → size_of (tree_at self.old id) ≤ 65536 }
         ensures same { IfOk result (λ new. tree_at self.new new ≡ tree_at self.old id) }
         ensures there { IfOk result (λ new. new < length self.new) }
-        ensures room { OnOk result (length self.new ≤ mark + MOST_ADDED) }
+        ensures room { OnOk result (length self.new + 65536 ≤ mark + MOST_ADDED) }
         ensures kept { Extends (take mark self.old) self.new }
     {
         let many = FEW_ADDED + ADDED_FOR_A_NODE * u64::from(self.measure(id).size);

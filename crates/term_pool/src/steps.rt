@@ -6,10 +6,12 @@ ghost use Rattle.trs_defs.specs.Path.{StepsAt};
 ghost use Rattle.term_pool.specs.Pooled.{Extends, tree_at};
 ghost use Rattle.term_pool.specs.Answers.{GivesId};
 ghost use Rattle.term_pool.specs.Steps.{IsStepFault};
+ghost use Rattle.term_pool.specs.Outlines.{AreOutlines};
 
 use crate::Pool;
+use crate::outlines::Outlines;
 use std::alloc::Global;
-use trs_core::{ApplySize, OutOfMemory, Position, Trs};
+use trs_core::{ApplySize, OutOfMemory, Position, Trs, systems_are_valid};
 
 /// Why a step is not made. The first that holds is answered.
 #[derive(Clone, Copy, Debug, PartialEq, Eq)]
@@ -95,17 +97,50 @@ impl Pool {
         ensures unchanged { IfErr result (λ _. self.new ≡ self.old) }
         ensures valid { IsSystem trs.now }
     {
-        let Some(rule) = trs.rules().get(rule as usize) else {
+        let none = Outlines::new(alloc);
+        self.step_by(alloc, trs, &none, id, place, rule)
+    }
+
+    /// The same step. A rule with an outline costs what that has nodes.
+    pub(crate) fn step_by(
+        &mut self,
+        alloc: Global,
+        trs: &Trs,
+        outlines: &Outlines,
+        id: u32,
+        place: &Position,
+        k: u32,
+    ) -> Result<u32, StepFault>
+        requires there { id < length self.old }
+        requires outlines { AreOutlines trs.now.rules self.old outlines.now }
+        ensures step { IfOk result (λ new.
+            StepsAt trs.now.rules place.now k (tree_at self.old id) (tree_at self.new new)) }
+        ensures limits { IfOk result (λ new. IsTrue (within_limits (tree_at self.new new))) }
+        ensures there { IfOk result (λ new. new < length self.new) }
+        ensures fault { IfErr result (
+            IsStepFault trs.now.rules place.now k (tree_at self.old id)) }
+        ensures only { (u : Tree) → StepsAt trs.now.rules place.now k (tree_at self.old id) u
+            → IsTrue (within_limits u) → GivesId StepFault.OutOfMemory self.new result u }
+        ensures kept { Extends self.old self.new }
+        ensures few { IfOk result (λ new.
+            length self.new ≤ length self.old + size_of (tree_at self.new new)) }
+        ensures unchanged { IfErr result (λ _. self.new ≡ self.old) }
+        ensures valid { IsSystem trs.now }
+    {
+        systems_are_valid(trs);
+        let Some(rule) = trs.rules().get(k as usize) else {
             return Err(StepFault::NoRule);
         };
+        let outline = outlines.of_rule(rule, k);
         let Some(part) = self.at(id, place.places()) else {
             return Err(StepFault::NoPosition);
         };
-        let Some(found) = self.match_at(alloc, &rule.left, part)? else {
+        let Some(found) = self.match_over(alloc, &outline.left, part)? else {
             return Err(StepFault::NoMatch);
         };
         let mark = self.mark();
-        let Ok(put) = self.put_instance(alloc, id, place.places(), part, &found, &rule.right) else {
+        let right = &outline.right;
+        let Ok(put) = self.put_instance(alloc, id, place.places(), part, &found, right) else {
             self.release(mark);
             return Err(StepFault::OutOfMemory);
         };

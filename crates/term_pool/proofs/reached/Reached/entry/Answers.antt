@@ -7,5 +7,5 @@ returns c = record {
   entry = c.index-entry.result.now;
   there = slice_get_read c.args.self.now.list.items (length c.args.self.now.list.items) c.args.i c.index-entry.result.now refl c.requires c.index-entry.ensures;
   id = refl;
-  path = c.in_ok-copied.ensures ∙ c.deref.ensures.value;
+  path = c.in_ok-copy_path.ensures ∙ c.deref.ensures.value;
 }
