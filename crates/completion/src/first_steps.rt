@@ -47,14 +47,14 @@ pub(crate) fn first_move(
             let place = Position::of(alloc, &place)?;
             match pool.step_at(alloc, trs, id, &place, rule) {
                 Ok(next) => Ok(Move::To(next)),
-                Err(fault) => stopped(fault),
+                Err(fault) => stop_of(fault),
             }
         }
     }
 }
 
 /// A step that is there is refused for its size alone, unless memory runs out.
-fn stopped(fault: StepFault) -> Result<Move, OutOfMemory>
+fn stop_of(fault: StepFault) -> Result<Move, OutOfMemory>
     ensures { IfOk result (IsStopOf fault) }
 {
     match fault {

@@ -4,18 +4,18 @@ ghost use Rattle.trs_core.specs.View.{tree};
 ghost use Rattle.crit_pairs.specs.PeakList.{IsCount};
 ghost use Rattle.completion.specs.Orienting.{AreVariants};
 
-use crit_pairs::number_variables;
 use std::alloc::Global;
 use trs_core::{OutOfMemory, Rule, Term};
+use trs_unify::{no_names, number_variables};
 
 /// Two terms with new numbers for their variables, in order of first occurrence in the first term
 /// and then in the second.
-pub(crate) fn renumbered(alloc: Global, s: &Term, t: &Term) -> Result<Rule, OutOfMemory>
+pub(crate) fn renumber(alloc: Global, s: &Term, t: &Term) -> Result<Rule, OutOfMemory>
     ensures variants { IfOk result (λ r. AreVariants (tree s.now) (tree t.now) r.left r.right) }
     ensures left { IfOk result (λ r. IsCount 0 (variables_of r.left)) }
     ensures both { IfOk result (λ r. IsCount 0 (with_variables (variables_of r.left) r.right)) }
 {
-    let mut names = Vec::new(alloc);
+    let mut names = no_names(alloc);
     let left = number_variables(alloc, s, &mut names)?;
     let right = number_variables(alloc, t, &mut names)?;
     Ok(Rule { left, right })

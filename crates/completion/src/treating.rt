@@ -9,7 +9,7 @@ ghost use Rattle.completion.specs.Treating.{pair_of, whole, IsOutcome, IsCompare
 
 use crate::normalizing::{Form, normal_form};
 use crate::orienting::fits;
-use crate::renumbering::renumbered;
+use crate::renumbering::renumber;
 use crate::{Completion, Unfinished};
 use path_lpo::{Lpo, is_strict};
 use std::alloc::Global;
@@ -40,16 +40,16 @@ pub(crate) fn treat(
 {
     systems_are_valid(trs);
     match normal_form(alloc, trs, left, units)? {
-        Form::Stopped(why) => Ok(Outcome::Ended(ended(why))),
+        Form::Stopped(why) => Ok(Outcome::Ended(end_run(why))),
         Form::Normal(s, more) => match normal_form(alloc, trs, right, more)? {
-            Form::Stopped(why) => Ok(Outcome::Ended(ended(why))),
+            Form::Stopped(why) => Ok(Outcome::Ended(end_run(why))),
             Form::Normal(t, rest) => compare(alloc, order, trs, &[], &s, &t, rest),
         },
     }
 }
 
 /// How a run ends at a term with no normal form.
-fn ended(why: Unfinished) -> Completion
+fn end_run(why: Unfinished) -> Completion
     ensures { plain_ending result ≡ ending_of why }
 {
     match why {
@@ -81,7 +81,7 @@ pub(crate) fn compare(
     if is_strict(order, t, s) {
         return add(alloc, trs, more, t, s, units);
     }
-    let pair = renumbered(alloc, s, t)?;
+    let pair = renumber(alloc, s, t)?;
     Ok(Outcome::Ended(Completion::Unorientable(pair.left, pair.right)))
 }
 
@@ -100,7 +100,7 @@ fn add(
     if units == 0 {
         return Ok(Outcome::Ended(Completion::Spent));
     }
-    let rule = renumbered(alloc, s, t)?;
+    let rule = renumber(alloc, s, t)?;
     if !fits(trs, more, &rule) {
         return Ok(Outcome::Ended(Completion::Limit));
     }

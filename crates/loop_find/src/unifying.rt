@@ -46,8 +46,8 @@ pub(crate) fn narrow_by_unifier(
         return Ok(None);
     }
     let mut names = no_names(alloc);
-    let new_left = unifier.renumbered(alloc, left, &mut names)?;
-    let new_right = unifier.renumbered(alloc, &result, &mut names)?;
+    let new_left = unifier.renumber(alloc, left, &mut names)?;
+    let new_right = unifier.renumber(alloc, &result, &mut names)?;
     Ok(Some(Sides {
         left: new_left,
         right: new_right,

@@ -34,6 +34,6 @@ returns-in-Ok-clause-passed c =
 pub returns-clause-passed : goal.returns-clause-passed
 returns-clause-passed c =
     let H : List RewriteRule → Type 0 = λ rs. HaveNoPlace rs c.args.pool.now c.first_redex.new.passed in
-    when_ok c.stopped.result (HaveNoPlace c.args.trs.now.rules c.step_at.new.self c.first_redex.new.passed)
+    when_ok c.stop_of.result (HaveNoPlace c.args.trs.now.rules c.step_at.new.self c.first_redex.new.passed)
     (passed_still c.args.trs.now.rules c.args.pool.now c.step_at.new.self c.first_redex.new.passed c.in-Err.ensures.kept
     (subst H c.rules.ensures.rules c.in_ok-first_redex.ensures.passed))

@@ -13,7 +13,7 @@ use Rattle.completion.proofs.treating.treat.Goals as goal
 pub returns-in-Stopped : goal.returns-in-Stopped
 returns-in-Stopped c =
     let F : Form → Type 0 = λ f. Normalizes c.args.trs.now.rules c.args.units (tree c.args.left.now) (form_of f) in
-    left_ended (GreaterBy c.args.order.now) c.args.trs.now c.args.units (tree c.args.left.now) (tree c.args.right.now) c.in-Stopped.why c.ended.result c.ended.ensures
+    left_ended (GreaterBy c.args.order.now) c.args.trs.now c.args.units (tree c.args.left.now) (tree c.args.right.now) c.in-Stopped.why c.end_run.result c.end_run.ensures
     (subst F c.in-Stopped.is c.in_ok-why.ensures)
 
 pub returns-in-Stopped-2 : goal.returns-in-Stopped-2
@@ -21,7 +21,7 @@ returns-in-Stopped-2 c =
     let F : Form → Type 0 = λ f. Normalizes c.args.trs.now.rules c.args.units (tree c.args.left.now) (form_of f) in
     let R : Form → Type 0 = λ f. Normalizes c.args.trs.now.rules c.in-Normal.more (tree c.args.right.now) (form_of f) in
     right_ended (GreaterBy c.args.order.now) c.args.trs.now c.args.units (tree c.args.left.now) (tree c.args.right.now) (tree c.in-Normal.s) c.in-Normal.more
-    (subst F c.in-Normal.is c.in_ok-why.ensures) c.in-Stopped-2.why c.ended-in-Stopped-2.result c.ended-in-Stopped-2.ensures
+    (subst F c.in-Normal.is c.in_ok-why.ensures) c.in-Stopped-2.why c.end_run-in-Stopped-2.result c.end_run-in-Stopped-2.ensures
     (subst R c.in-Stopped-2.is c.in_ok-why-in-Normal.ensures)
 
 pub compare-requires : goal.compare-requires

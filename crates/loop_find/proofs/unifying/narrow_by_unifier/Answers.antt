@@ -28,5 +28,5 @@ returns c = λ rule is.
     narrowed (tree c.apart.inside.left) (tree c.apart.inside.right) c.args.apart.now rule c.apart.view_is is c.args.place.now (tree c.args.left.now) (tree c.args.right.now) (tree c.args.part.now)
     c.requires.there c.requires.left c.requires.right (bound c.in-Some.unifier) (rw c.in-Some.is at c.in_ok-found.ensures.most_general)
     (tree c.in_ok-result.result) c.in_ok-result.ensures (c.if-not-is_small.ensures.0 refl) (c.if-not-is_small-2.ensures.0 refl)
-    c.no_names-names.result.order.items c.renumbered.new.names.order.items c.renumbered-2.new.names.order.items c.no_names-names.ensures.none sides
-    c.renumbered-2.new.names.numbers c.in_ok-new_right.ensures.names c.in_ok-new_left.ensures.renamed c.in_ok-new_right.ensures.renamed
+    c.no_names-names.result.order.items c.renumber.new.names.order.items c.renumber-2.new.names.order.items c.no_names-names.ensures.none sides
+    c.renumber-2.new.names.numbers c.in_ok-new_right.ensures.names c.in_ok-new_left.ensures.renamed c.in_ok-new_right.ensures.renamed
