@@ -2,6 +2,9 @@
 use Rattle.std.specs.Prelude.{◌≡◌, List, map}
 use Rattle.trs_defs.specs.Renaming.{shifted}
 use Rattle.trs_defs.specs.System.{RewriteRule}
+use Rattle.crit_pairs.specs.Skeletons.{opened}
+use Rattle.crit_pairs.specs.SkeletonView.{skeleton_view}
+use Rattle.crit_pairs.specs.declared.skeleton.Skeleton.{Skeleton}
 
 -- the variables of rules are below 65,536
 abbrev pub renamed_apart : RewriteRule → RewriteRule
@@ -10,3 +13,7 @@ renamed_apart rule = record { left = shifted 65536 rule.left; right = shifted 65
 -- these are the rules, each renamed apart
 abbrev pub AreApart : List RewriteRule → List RewriteRule → Type 0
 AreApart rules apart = apart ≡ map renamed_apart rules
+
+-- these are the skeletons of the left sides of the rules
+abbrev pub HaveSkeletons : List RewriteRule → List Skeleton → Type 0
+HaveSkeletons rules skeletons = map skeleton_view skeletons ≡ map (λ (r : RewriteRule). opened r.left) rules

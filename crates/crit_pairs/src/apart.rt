@@ -2,26 +2,30 @@ ghost use Rattle.std.specs.Prelude.{◌≡◌, ◌<◌, Some, All, IfOk, length,
 ghost use Rattle.trs_defs.specs.System.{RewriteRule, IsSystem};
 ghost use Rattle.trs_core.specs.SystemLimits.{HasSmallVariables, HaveSmallVariables};
 ghost use Rattle.term_pool.specs.Roots.{with_root};
-ghost use Rattle.crit_pairs.specs.Apart.{renamed_apart, AreApart};
+ghost use Rattle.crit_pairs.specs.Apart.{renamed_apart, AreApart, HaveSkeletons};
+ghost use Rattle.crit_pairs.specs.Skeletons.{opened};
+ghost use Rattle.crit_pairs.specs.SkeletonView.{skeleton_view};
 
+use crate::skeleton::Skeleton;
 use std::alloc::Global;
 use std::marker::Model;
 use term_pool::RulesByRoot;
 use trs_core::{MOST_VARIABLES, OutOfMemory, Rule, Trs};
 use trs_unify::rename_apart;
 
-/// A system with its rules by the roots of their left sides, and with a copy of each rule whose
-/// variables are renamed apart from those of all rules. It is made once for all overlaps.
-/// Contracts see it as the system.
+/// A system with its rules by the roots of their left sides, with a copy of each rule whose variables
+/// are renamed apart from those of all rules, and with the skeletons of the left sides. It is made once
+/// for all overlaps. Contracts see it as the system.
 #[derive(Drop)]
 pub(crate) struct RulesApart<'a> {
     by_root: RulesByRoot<'a>,
     apart: Vec<Rule>,
+    skeletons: Vec<Skeleton>,
 }
 
 impl<'a> Model for RulesApart<'a> {
     ghost use Rattle.trs_defs.specs.System.{System, system_code};
-    ghost use Rattle.crit_pairs.specs.Apart.{AreApart};
+    ghost use Rattle.crit_pairs.specs.Apart.{AreApart, HaveSkeletons};
 
     ghost Value = { System };
 
@@ -29,7 +33,8 @@ impl<'a> Model for RulesApart<'a> {
 
     ghost view = { λ a. a.by_root };
 
-    ghost invariant = { λ a. AreApart a.by_root.rules a.apart.items };
+    ghost invariant = { λ a. AreApart a.by_root.rules a.apart.items
+        × HaveSkeletons a.by_root.rules a.skeletons.items };
 }
 
 impl<'a> RulesApart<'a> {
@@ -37,9 +42,11 @@ impl<'a> RulesApart<'a> {
         ensures { IfOk result (λ rules. rules ≡ trs.now) }
     {
         let apart = renamed_rules(alloc, trs.rules())?;
+        let skeletons = left_skeletons(alloc, trs.rules())?;
         Ok(RulesApart {
             by_root: RulesByRoot::new(alloc, trs)?,
             apart,
+            skeletons,
         })
     }
 
@@ -58,6 +65,15 @@ impl<'a> RulesApart<'a> {
             → result.now ≡ renamed_apart r }
     {
         &self.apart[i]
+    }
+
+    /// The skeleton of the left side of rule `i`.
+    pub fn skeleton(&self, i: usize) -> &Skeleton
+        requires { i < length self.now.rules }
+        ensures { (r : RewriteRule) → slice_get self.now.rules i ≡ Some r
+            → skeleton_view result.now ≡ opened r.left }
+    {
+        &self.skeletons[i]
     }
 
     /// The numbers of the rules whose left sides have this root, in order.
@@ -79,6 +95,17 @@ fn renamed_rules(alloc: Global, rules: &[Rule]) -> Result<Vec<Rule>, OutOfMemory
         apart.push(renamed_rule(alloc, rule)?)?;
     }
     Ok(apart)
+}
+
+/// The skeletons of left sides.
+fn left_skeletons(alloc: Global, rules: &[Rule]) -> Result<Vec<Skeleton>, OutOfMemory>
+    ensures { IfOk result (λ skeletons. HaveSkeletons rules.now skeletons.items) }
+{
+    let mut skeletons = Vec::with_capacity(alloc, rules.len())?;
+    for rule in rules {
+        skeletons.push(Skeleton::of(alloc, &rule.left)?)?;
+    }
+    Ok(skeletons)
 }
 
 fn renamed_rule(alloc: Global, rule: &Rule) -> Result<Rule, OutOfMemory>

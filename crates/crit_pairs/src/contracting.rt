@@ -8,7 +8,7 @@ use std::alloc::Global;
 use trs_core::{Args, OutOfMemory, Position, Rule, Term};
 
 /// The outer left side with the inner right side at the place.
-pub(crate) fn contracted(
+pub(crate) fn contract(
     alloc: Global,
     outer: &Rule,
     place: &[u8],

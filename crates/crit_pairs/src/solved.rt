@@ -68,7 +68,7 @@ fn depth(bindings: &[Binding], t: &Term) -> u64
 
 /// The instance of a term, with new numbers for its variables: those that are not yet among the
 /// names come behind them as they are met. Names are looked for one by one.
-pub(crate) fn renumbered(
+pub(crate) fn renumber(
     alloc: Global,
     bindings: &[Binding],
     t: &Term,
@@ -87,7 +87,7 @@ pub(crate) fn renumbered(
         Term::App(f, args) => {
             let mut built = Vec::with_capacity(alloc, args.items.len())?;
             for arg in &args.items {
-                built.push(renumbered(alloc, bindings, arg, names)?)?;
+                built.push(renumber(alloc, bindings, arg, names)?)?;
             }
             Ok(Term::App(*f, Args { items: built }))
         }
@@ -96,7 +96,7 @@ pub(crate) fn renumbered(
 
 /// The term, with new numbers for its variables, from 0 on: those that are not yet among the names
 /// come behind them as they are met. Names are looked for one by one.
-pub fn number_variables(alloc: Global, t: &Term, names: &mut Vec<u32>) -> Result<Term, OutOfMemory>
+fn number_variables(alloc: Global, t: &Term, names: &mut Vec<u32>) -> Result<Term, OutOfMemory>
     requires { IsDistinct names.old.items }
     ensures distinct { OnOk result (IsDistinct names.new.items) }
     ensures renamed { IfOk result (λ u.

@@ -150,8 +150,8 @@ fn bound_results(
 {
     let mut names = Vec::new(alloc);
     solved::name_instance(bindings, top, &mut names)?;
-    let first = solved::renumbered(alloc, bindings, left, &mut names)?;
-    let second = solved::renumbered(alloc, bindings, right, &mut names)?;
+    let first = solved::renumber(alloc, bindings, left, &mut names)?;
+    let second = solved::renumber(alloc, bindings, right, &mut names)?;
     Ok((first, second))
 }
 
@@ -170,7 +170,7 @@ fn shared_results(
 {
     let mut names = no_names(alloc);
     unifier.name_instance(alloc, top, &mut names)?;
-    let first = unifier.renumbered(alloc, left, &mut names)?;
-    let second = unifier.renumbered(alloc, right, &mut names)?;
+    let first = unifier.renumber(alloc, left, &mut names)?;
+    let second = unifier.renumber(alloc, right, &mut names)?;
     Ok((first, second))
 }

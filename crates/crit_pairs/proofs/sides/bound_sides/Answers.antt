@@ -1,14 +1,14 @@
 use Rattle.crit_pairs.proofs.Renumbering.{none_distinct}
 use Rattle.crit_pairs.proofs.sides.bound_sides.Goals as goal
 
-pub renumbered-requires : goal.renumbered-requires
-renumbered-requires c = rw c.new-names.ensures.items none_distinct
+pub renumber-requires : goal.renumber-requires
+renumber-requires c = rw c.new-names.ensures.items none_distinct
 
 pub returns : goal.returns
 returns c = record {
-  first = c.renumbered.new.names.items;
-  second = c.renumbered-2.new.names.items;
-  third = c.renumbered-3.new.names.items;
+  first = c.renumber.new.names.items;
+  second = c.renumber-2.new.names.items;
+  third = c.renumber-3.new.names.items;
   top_renamed = rw c.new-names.ensures.items at c.in_ok-first.ensures.renamed;
   left_renamed = c.in_ok-second.ensures.renamed;
   right_renamed = c.in_ok-third.ensures.renamed;

@@ -18,8 +18,8 @@ returns c =
     let named : c.name_instance.new.names.items ≡ variables_of top = rw c.new-names.ensures.items at c.in_ok-name_instance.ensures.order in
     record {
       first = c.name_instance.new.names.items;
-      second = c.renumbered.new.names.items;
-      third = c.renumbered-2.new.names.items;
+      second = c.renumber.new.names.items;
+      third = c.renumber-2.new.names.items;
       top_renamed = subst (λ names. IsRenamed [] names top (in_order top)) (sym named) (in_order_renamed top);
       left_renamed = c.in_ok-first.ensures.renamed;
       right_renamed = c.in_ok-second.ensures.renamed;

@@ -14,10 +14,10 @@ returns c =
     let named : c.name_instance.new.names.order.items ≡ variables_of top = rw c.no_names-names.ensures.none at c.in_ok-name_instance.ensures.order in
     record {
       first = c.name_instance.new.names.order.items;
-      second = c.renumbered.new.names.order.items;
-      third = c.renumbered-2.new.names.order.items;
+      second = c.renumber.new.names.order.items;
+      third = c.renumber-2.new.names.order.items;
       top_renamed = subst (λ names. IsRenamed [] names top (in_order top)) (sym named) (in_order_renamed top);
       left_renamed = c.in_ok-first.ensures.renamed;
       right_renamed = c.in_ok-second.ensures.renamed;
-      distinct = distinct_names c.renumbered-2.new.names.numbers c.renumbered-2.new.names.order.items c.in_ok-second.ensures.names;
+      distinct = distinct_names c.renumber-2.new.names.numbers c.renumber-2.new.names.order.items c.in_ok-second.ensures.names;
     }

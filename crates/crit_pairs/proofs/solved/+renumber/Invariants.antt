@@ -5,7 +5,7 @@ use Rattle.trs_core.specs.View.{tree, forest}
 use Rattle.trs_unify.proofs.NewNames.{AreRenaming}
 use Rattle.crit_pairs.specs.Meeting.{solution}
 use Rattle.crit_pairs.specs.Sides.{IsDistinct}
-use Rattle.crit_pairs.proofs.solved.+renumbered.Given as goal
+use Rattle.crit_pairs.proofs.solved.+renumber.Given as goal
 
 abbrev pub invariant-loop-arg : goal.invariant-loop-arg
 invariant-loop-arg l = record {
@@ -13,5 +13,5 @@ invariant-loop-arg l = record {
   renaming : AreRenaming l.fn.names.items l.f (apply (solution l.bindings) (tree l.t)) (map tree l.built.items) l.names.items (apply_all (solution l.bindings) (forest (drop l.arg-index l.arg-items)));
 }
 
-abbrev pub decreases-renumbered : goal.decreases-renumbered
-decreases-renumbered l = size_of (tree l.t.now)
+abbrev pub decreases-renumber : goal.decreases-renumber
+decreases-renumber l = size_of (tree l.t.now)

@@ -3,7 +3,7 @@ use Rattle.trs_defs.specs.Position.{subterm_at, replaced_at}
 use Rattle.trs_defs.specs.System.{RewriteRule}
 use Rattle.trs_core.specs.View.{tree}
 use Rattle.crit_pairs.proofs.SameAround.{put_around}
-use Rattle.crit_pairs.proofs.contracting.contracted.Goals as goal
+use Rattle.crit_pairs.proofs.contracting.contract.Goals as goal
 
 pub returns : goal.returns
 returns c =

@@ -5,10 +5,10 @@ use Rattle.trs_core.specs.View.{tree, forest}
 use Rattle.trs_unify.proofs.Rooms.{argument_smaller}
 use Rattle.trs_unify.proofs.NewNames.{renaming_begins, renaming_goes_on, renaming_ends, built_more, next_instance, no_instance_left}
 use Rattle.crit_pairs.specs.Meeting.{solution}
-use Rattle.crit_pairs.proofs.solved.+renumbered.Goals as goal
+use Rattle.crit_pairs.proofs.solved.+renumber.Goals as goal
 
-pub renumbered-requires : goal.renumbered-requires
-renumbered-requires t c =
+pub renumber-requires : goal.renumber-requires
+renumber-requires t c =
     let is : tree c.args.t.now ≡ app c.in-App.f (forest c.deref-arg-items.result.now) = rw (c.in-App.is, ← c.args-in-App.view_is, c.deref-arg-items.ensures.value) refl in
     let smaller = argument_smaller c.in-App.f (tree c.args.t.now) c.deref-arg-items.result.now c.loop-arg.arg-index c.arg-item.result is c.loop-arg-test.true c.arg-item.is in
     (omega (arith, smaller, c.decreases), c.loop-arg.invariant.distinct)
@@ -23,11 +23,11 @@ loop-arg-init t c =
 
 pub loop-arg-preserved : goal.loop-arg-preserved
 loop-arg-preserved t c = record {
-  distinct = c.in_ok-renumbered-in-App.ensures.distinct;
-  renaming = renaming_goes_on c.args.names.now.items c.loop-arg.names.items c.renumbered.new.names.items c.in-App.f _ _ _ _ _ _ _
+  distinct = c.in_ok-renumber-in-App.ensures.distinct;
+  renaming = renaming_goes_on c.args.names.now.items c.loop-arg.names.items c.renumber.new.names.items c.in-App.f _ _ _ _ _ _ _
       (next_instance (solution c.args.bindings.now) c.deref-arg-items.result.now c.loop-arg.arg-index c.arg-item.result c.loop-arg-test.true c.arg-item.is)
-      (built_more c.loop-arg.built.items c.push.new.self.items c.in_ok-renumbered-in-App.field-0 c.in_ok-push-in-App.ensures.items)
-      c.loop-arg.invariant.renaming c.in_ok-renumbered-in-App.ensures.renamed;
+      (built_more c.loop-arg.built.items c.push.new.self.items c.in_ok-renumber-in-App.field-0 c.in_ok-push-in-App.ensures.items)
+      c.loop-arg.invariant.renaming c.in_ok-renumber-in-App.ensures.renamed;
 }
 
 pub returns-after-loop-arg-clause-renamed : goal.returns-after-loop-arg-clause-renamed
