@@ -10,16 +10,18 @@ use Rattle.std.proofs.lemmas.Option.{same_Some}
 use native.Mathlib.Decide.{ℕ_discrete}
 use Rattle.trs_defs.specs.Member.{In, in_first}
 use Rattle.trs_defs.proofs.Members.{in_left, in_right}
-use Rattle.trs_defs.specs.System.{RewriteRule, System, IsSystem}
+use Rattle.trs_defs.specs.System.{System, IsSystem}
 use Rattle.trs_caps.specs.HoledCap.{MeetsLeft}
-use Rattle.pair_theory.specs.Marked.{Marked, plain, mark}
+use Rattle.pair_theory.specs.Marked.{mark}
 use Rattle.pair_theory.specs.DependencyPair.{DependencyPair, dependency_pairs}
 use Rattle.rewrite_core.specs.declared.checks.refusals.StepRefused.{StepRefused}
 use Rattle.rewrite_core.specs.declared.checks.refusals.StepRefused.TheVariants.{EdgeBack}
 use Rattle.rewrite_core.specs.Check.{Check, Forbids, absent, returned}
 use Rattle.dp_graph.specs.GraphConditions.{HasEdge}
 use Rattle.dp_graph.specs.ByRoot.{entry_items, items_at}
-use Rattle.dp_graph.specs.EarlierPairs.{leads_to_none_of, first_led_to, IsOfRule, IsKept, IsEarlier}
+use Rattle.dp_core.specs.PlacedPairs.{IsOfRule}
+use Rattle.dp_core.proofs.LeftNumbering.{same_left}
+use Rattle.dp_graph.specs.EarlierPairs.{leads_to_none_of, first_led_to, IsKept, IsEarlier}
 use Rattle.dp_graph.specs.GraphNodes.{IsNodeFor}
 use Rattle.dp_graph.specs.declared.graph.Node.{Node}
 use Rattle.dp_graph.specs.declared.earlier.Earlier.{Earlier}
@@ -27,18 +29,6 @@ use Rattle.dp_graph.proofs.Covering.{edges_by_arguments}
 use Rattle.dp_graph.specs.Waiting.{Sets}
 use Rattle.dp_graph.proofs.Sets.{at_others, none_in_empty}
 use Rattle.dp_graph.proofs.EachOfList.{first_refuses, with_last, last_or_before, each_passes, each_passed, it_is_absent}
-
-same_mark : (a b : Marked) → plain a ≡ plain b → mark a ≡ mark b
-same_mark a b e =
-    let root : a.symbol ≡ b.symbol = cc in
-    let args : a.args ≡ b.args = cc in
-    cc
-
--- pairs of one rule have one left side
-pub same_left : (rules : List RewriteRule) (r : ℕ) (p q : DependencyPair) → IsOfRule rules r p → IsOfRule rules r q → mark p.from ≡ mark q.from
-same_left rules r p q (a, at, is) (b, there, also) =
-    let same : a ≡ b = same_Some a b (sym at ∙ there) in
-    same_mark p.from q.from (sym is ∙ (ap (λ (x : RewriteRule). x.left) same ∙ also))
 
 module _ (system : System) (valid : IsSystem system) (few : length system.arities ≤ 4095) where
   abbrev all : List DependencyPair

@@ -18,6 +18,7 @@ pub mod FinishingLaws
 pub mod LeaderLaws
 pub mod ReversedLaws
 pub mod RowLaws
+pub mod LeftLaws
 pub mod WaitingLaws
 pub mod PutOutLaws
 pub mod OrderLaws

@@ -1,5 +1,5 @@
 -- The nodes of pairs, one after another, and edges between them.
-use Rattle.std.specs.Prelude.{◌≡◌, ◌<◌, ◌≤◌, ◌↔◌, ℕ, ◌+◌, Bool, false, List, [], ◌∷◌, ◌++◌, length, take, get_or, Option, Some, None, Result, Ok, Err, IfOk, IsTrue, slice_get, refl}
+use Rattle.std.specs.Prelude.{◌≡◌, ◌≤◌, ◌↔◌, ℕ, ◌+◌, Bool, false, List, [], ◌∷◌, ◌++◌, length, take, get_or, Option, Some, None, Result, Ok, Err, IfOk, IsTrue, slice_get, refl}
 use Rattle.std.proofs.Common.{zero, suc, inl, inr, sym, ap, subst, arith, ◌∙◌, length-append}
 use Rattle.std.proofs.lemmas.Option.{slice_get_within, slice_get_past, slice_get_read, get_or_from_slice_get, same_Some}
 use Rattle.std.proofs.lemmas.List.{take_all}
@@ -9,20 +9,18 @@ use Rattle.std.specs.Slice.{IsItemAt}
 use Rattle.trs_defs.specs.System.{RewriteRule, System, IsSystem}
 use Rattle.trs_core.specs.View.{tree, forest}
 use Rattle.trs_core.specs.declared.terms.Term.{Term}
-use Rattle.trs_defs.specs.Path.{PlacedRule}
 use Rattle.trs_defs.proofs.ListItems.{item_there}
-use Rattle.dp_core.specs.PlacedPairs.{IsPairAt}
+use Rattle.dp_core.specs.PlacedPairs.{IsOfRule}
 use Rattle.trs_caps.specs.declared.holed.Cap.{Cap}
 use Rattle.trs_caps.specs.HoledTree.{symbol}
 use Rattle.trs_caps.specs.HoledCap.{MeetsLeft, AreHoledCaps}
 use Rattle.trs_caps.specs.View.{holed, holed_all}
-use Rattle.pair_theory.specs.Marked.{Marked, plain}
+use Rattle.pair_theory.specs.Marked.{Marked}
 use Rattle.pair_theory.specs.DependencyPair.{DependencyPair, dependency_pairs}
 use Rattle.dp_graph.specs.declared.graph.Node.{Node}
 use Rattle.dp_graph.specs.Edge.{IsEdge}
 use Rattle.dp_graph.specs.GraphConditions.{HasEdge}
 use Rattle.dp_graph.specs.GraphNodes.{IsEndOf, IsNodeOf, IsNodeFor, AreNodesOf}
-use Rattle.dp_graph.specs.EarlierPairs.{IsOfRule}
 use Rattle.dp_graph.proofs.ListPlaces.{past_none, last_or_there}
 use Rattle.dp_graph.proofs.Covering.{edge_by_caps}
 
@@ -42,20 +40,6 @@ end_made rules side f items caps k root is ge each = (
   subst (λ ts. AreHoledCaps rules false ts (holed_all caps)) (ap forest (take_all k items ge) ∙ sym is) each,
   ap (λ g. symbol g (holed_all caps)) root,
 )
-
--- the rule of a pair, as it is read
-pub rule_is : (rules read : List RewriteRule) (place : List ℕ) (r : ℕ) (s : PlacedRule) (pair : DependencyPair) (rule : RewriteRule) → read ≡ rules → record { place = place; rule = r } ≡ s
-    → IsPairAt rules s pair → rule ≡ get_or read r rule → (slice_get rules r ≡ Some rule) × (rule.left ≡ plain pair.from)
-rule_is rules read place r s pair rule same at is got =
-    let there : slice_get rules r ≡ Some is.rule = ap (λ (z : PlacedRule). slice_get rules z.rule) at ∙ is.numbered in
-    let e : rule ≡ is.rule = item_is read rules r rule is.rule same got there in
-    (there ∙ ap (λ z. Some z) (sym e), ap (λ (z : RewriteRule). z.left) e ∙ is.left)
-
-pub rule_within : (rules read : List RewriteRule) (place : List ℕ) (r : ℕ) (s : PlacedRule) (pair : DependencyPair) → read ≡ rules → record { place = place; rule = r } ≡ s
-    → IsPairAt rules s pair → r < length read
-rule_within rules read place r s pair same at is =
-    let there : slice_get rules r ≡ Some is.rule = ap (λ (z : PlacedRule). slice_get rules z.rule) at ∙ is.numbered in
-    subst (λ z. r < length z) (sym same) (slice_get_within rules r is.rule there)
 
 -- the nodes of the first k pairs
 abbrev pub NodesSoFar : List RewriteRule → List Node → ℕ → Type 0

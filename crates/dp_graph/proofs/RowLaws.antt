@@ -15,7 +15,7 @@ use Rattle.trs_defs.proofs.ListItems.{item_there, last_item}
 use Rattle.pair_theory.specs.Marked.{mark}
 use Rattle.pair_theory.specs.DependencyPair.{DependencyPair, dependency_pairs}
 use Rattle.dp_graph.specs.ByRoot.{entry_items, items_at}
-use Rattle.dp_graph.specs.EarlierPairs.{IsOfRule}
+use Rattle.dp_core.specs.PlacedPairs.{IsOfRule}
 use Rattle.dp_graph.specs.GraphConditions.{lists_of}
 use Rattle.dp_graph.specs.GraphNodes.{IsNodeFor}
 use Rattle.dp_graph.specs.PlaceLists.{PutsBehind}
@@ -24,17 +24,18 @@ use Rattle.dp_graph.specs.declared.rows.RulePlace.{RulePlace}
 use Rattle.dp_graph.specs.declared.rows.Rules.{Rules}
 use Rattle.dp_graph.specs.Rows.{EdgeOf, AtPlaces, Follows, FollowsByRule, IsBetween, StayWithin, AreRows}
 use Rattle.dp_graph.specs.RulePlaces.{IsPlaceOf, IsInRule, AreRules, HaveRows, AreNoRules, AddsPair, AddsRule, RulesAt, LeadsByRules}
-use Rattle.dp_graph.proofs.EarlierLaws.{none_at, edge_root, edge_to_alike, same_left}
+use Rattle.dp_core.proofs.LeftNumbering.{same_left}
+use Rattle.dp_graph.proofs.EarlierLaws.{none_at, edge_root, edge_to_alike}
 use Rattle.dp_graph.proofs.NodeLists.{of_rule}
 use Rattle.dp_graph.proofs.ListPlaces.{last_or_there, still_there, lists_length, lists_more, length_more, in_single}
 use Rattle.dp_graph.proofs.ReversedLaws.{put_follows}
 
 -- ---- the rules
 
-same_number : (k q : ℕ) → is_at (nat_cmp k) q ≡ true → k ≡ q
+pub same_number : (k q : ℕ) → is_at (nat_cmp k) q ≡ true → k ≡ q
 same_number k q h = grind (arith, common_steps)
 
-no_place : (places : BTreeMap ℕ ℕ) → places.entries ≡ [] → (r : ℕ) → get nat_cmp places r ≡ None
+pub no_place : (places : BTreeMap ℕ ℕ) → places.entries ≡ [] → (r : ℕ) → get nat_cmp places r ≡ None
 no_place places none r = ap (λ es. lookup (is_at (nat_cmp r)) es) none
 
 pub no_rules : (system : System) (numbers : List ℕ) (n : ℕ) (rules : Rules) → n ≡ length numbers → AreNoRules n rules → AreRules system numbers 0 rules

@@ -5,12 +5,12 @@ use Rattle.std.specs.Ordering.{nat_cmp}
 use Rattle.std.specs.BTreeMap.{BTreeMap}
 use Rattle.std.specs.BTreeSet.{contains}
 use Rattle.trs_defs.specs.Member.{In}
-use Rattle.trs_defs.specs.System.{RewriteRule, System}
-use Rattle.pair_theory.specs.Marked.{plain}
+use Rattle.trs_defs.specs.System.{System}
 use Rattle.pair_theory.specs.DependencyPair.{DependencyPair, dependency_pairs}
 use Rattle.rewrite_core.specs.declared.checks.refusals.StepRefused.{StepRefused}
 use Rattle.rewrite_core.specs.declared.checks.refusals.StepRefused.TheVariants.{EdgeBack}
 use Rattle.rewrite_core.specs.Check.{Check}
+use Rattle.dp_core.specs.PlacedPairs.{IsOfRule}
 use Rattle.dp_graph.specs.ByRoot.{items_at}
 use Rattle.dp_graph.specs.GraphConditions.{leads_to_none}
 use Rattle.dp_graph.specs.declared.earlier.Earlier.{Earlier}
@@ -23,10 +23,6 @@ leads_to_none_of system m ns = leads_to_none system.rules (dependency_pairs syst
 abbrev pub first_led_to : ℕ → Option ℕ → Result (Unit {0}) StepRefused
 first_led_to m None = Ok tt
 first_led_to m (Some n) = Err (EdgeBack m n)
-
--- the left side of the pair is that of rule number r
-abbrev pub IsOfRule : List RewriteRule → ℕ → DependencyPair → Type 0
-IsOfRule rules r p = (rule : RewriteRule) × (slice_get rules r ≡ Some rule) × (rule.left ≡ plain p.from)
 
 -- pair number n is there, is of rule number r, and stands at its root
 pub record IsKept (system : System) (by_root : BTreeMap ℕ (Vec ℕ Global)) (r : ℕ) : Type 0 where

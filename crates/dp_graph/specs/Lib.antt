@@ -18,3 +18,4 @@ pub mod PutOut
 pub mod PlaceLists
 pub mod Waiting
 pub mod Components
+pub mod SameLefts

@@ -8,7 +8,7 @@ use Rattle.trs_defs.specs.System.{System}
 use Rattle.pair_theory.specs.Marked.{mark}
 use Rattle.pair_theory.specs.DependencyPair.{DependencyPair, dependency_pairs}
 use Rattle.dp_graph.specs.ByRoot.{items_at}
-use Rattle.dp_graph.specs.EarlierPairs.{IsOfRule}
+use Rattle.dp_core.specs.PlacedPairs.{IsOfRule}
 use Rattle.dp_graph.specs.GraphConditions.{lists_of}
 use Rattle.dp_graph.specs.PlaceLists.{AreEmpty}
 use Rattle.dp_graph.specs.Rows.{EdgeOf, Follows}

@@ -5,7 +5,7 @@ ghost use Rattle.dp_core.specs.PlacedPairs.{placed_pairs};
 ghost use Rattle.dp_graph.specs.GroupOrSingle.{items_of};
 ghost use Rattle.dp_graph.specs.GraphConditions.{graph_conditions, lists_of};
 
-use crate::naming::{name_all, none_left, unnamed};
+use crate::naming::{list_unnamed, name_all, none_left};
 use crate::onward::onward_check;
 use crate::singles::{groups, singles_check};
 use crate::{GraphItem, PairGraph};
@@ -33,7 +33,7 @@ pub fn group_check(
 
 impl<'a> PairGraph<'a> {
     /// The groups of a step by the graph. Edges are looked for only between pairs of the step whose
-    /// roots agree, and to one pair of a rule.
+    /// roots agree, and to one pair with a left side.
     pub fn group_check(
         &self,
         alloc: Global,
@@ -44,7 +44,7 @@ impl<'a> PairGraph<'a> {
             (graph_conditions self.now.rules (dependency_pairs self.now.rules) problem.now
             (items_of items.now)) result }
     {
-        let mut left = unnamed(alloc, problem)?;
+        let mut left = list_unnamed(alloc, problem)?;
         name_all(&mut left, items)?;
         none_left(&left)?;
         onward_check(alloc, self, items)?;

@@ -8,12 +8,12 @@ use std::alloc::Global;
 use std::collections::{BTreeMap, BTreeSet};
 use trs_core::OutOfMemory;
 
-/// The pairs of earlier items, by the roots of their left sides. Of the pairs of a rule it has the
-/// one that was named first, since an edge to a pair depends on its left side alone.
+/// The pairs of earlier items, by the roots of their left sides. Of those with one left side it has
+/// the one that was named first, since an edge to a pair depends on its left side alone.
 #[derive(Drop)]
 pub(crate) struct Earlier {
     by_root: BTreeMap<u32, Vec<u32>>,
-    rules: BTreeSet<u32>,
+    rules: BTreeSet<usize>,
 }
 
 impl Earlier {

@@ -7,9 +7,9 @@ ghost use Rattle.dp_graph.specs.Components.{AreComponents};
 
 use crate::finishing::finishing_order;
 use crate::leaders::leaders;
-use crate::ordering::ordered;
-use crate::places::{items, led};
-use crate::reversed::reversed;
+use crate::ordering::sort_components;
+use crate::places::{items, list_led};
+use crate::reversed::reverse;
 use crate::rows::rows;
 use crate::{GraphItem, PairGraph};
 use dp_core::DpPair;
@@ -35,10 +35,10 @@ pub fn components(
 }
 
 impl<'a> PairGraph<'a> {
-    /// The components of the graph on a problem, in order. Edges to pairs of one rule are looked at
-    /// as one. It takes steps for each pair of the problem and each rule of such pairs whose roots
-    /// agree, and beside these a number of steps that is linear in the number of pairs and of edges
-    /// to rules, up to a logarithm.
+    /// The components of the graph on a problem, in order. Edges to pairs with one left side are
+    /// looked at as one. It takes steps for each pair of the problem and each left side of such
+    /// pairs whose roots agree, and beside these a number of steps that is linear in the number of
+    /// pairs and of edges to left sides, up to a logarithm.
     pub fn components(&self, alloc: Global, problem: &[u32]) -> Result<Vec<GraphItem>, OutOfMemory>
         requires ascending { IsStrictlyIncreasing problem.now }
         ensures { IfOk result (λ items. AreComponents self.now.rules
@@ -46,10 +46,10 @@ impl<'a> PairGraph<'a> {
     {
         let rows = rows(alloc, self, problem)?;
         let order = finishing_order(alloc, &rows)?;
-        let back = reversed(alloc, &rows)?;
+        let back = reverse(alloc, &rows)?;
         let leaders = leaders(alloc, &back, &order)?;
-        let led = led(alloc, &leaders)?;
-        let sorted = ordered(alloc, problem.len(), &rows, &leaders, &led)?;
+        let led = list_led(alloc, &leaders)?;
+        let sorted = sort_components(alloc, problem.len(), &rows, &leaders, &led)?;
         items(alloc, problem, &leaders, &led, &sorted)
     }
 }

@@ -1,6 +1,7 @@
-ghost use Rattle.std.specs.Prelude.{◌≡◌, ◌≤◌, ◌↔◌, IsTrue, IfOk, Some, length, slice_get};
+ghost use Rattle.std.specs.Prelude.{◌≡◌, ◌≤◌, ◌↔◌, false, IsTrue, IfOk, OnOk, Some, length, slice_get};
 ghost use Rattle.std.specs.Option.{option_copied};
 ghost use Rattle.trs_defs.specs.System.{IsSystem};
+ghost use Rattle.trs_caps.specs.KnownCaps.{IsKnown};
 ghost use Rattle.trs_caps.specs.View.{holed};
 ghost use Rattle.pair_theory.specs.Marked.{plain};
 ghost use Rattle.pair_theory.specs.DependencyPair.{dependency_pairs};
@@ -8,18 +9,19 @@ ghost use Rattle.dp_core.specs.PlacedPairs.{placed_pairs};
 ghost use Rattle.dp_graph.specs.GraphConditions.{HasEdge};
 ghost use Rattle.dp_graph.specs.GraphNodes.{IsEndOf, IsNodeOf, IsNodeFor};
 
+use crate::lefts::first_with_left;
 use dp_core::{DpPair, Pairs, Side, Sides, dependency_pairs, placed_pairs_are_the_pairs};
 use std::alloc::Global;
 use std::marker::Model;
 use term_pool::RulesByRoot;
-use trs_caps::{Cap, Parts, cap};
+use trs_caps::{Cap, KnownCaps, Parts};
 use trs_core::{OutOfMemory, Rule, Term, Trs};
 
-/// A pair in the graph: the number of its rule, from 0, the left side and the roots without their
-/// marks, and the cap of the right side, its root without the mark.
+/// A pair in the graph: the number of the first rule with its left side, from 0, the left side and
+/// the roots without their marks, and the cap of the right side, its root without the mark.
 #[derive(Drop)]
 pub(crate) struct Node<'a> {
-    pub(crate) rule: u32,
+    pub(crate) rule: usize,
     pub(crate) left: &'a Term,
     pub(crate) from: u32,
     pub(crate) to: u32,
@@ -65,11 +67,14 @@ impl<'a> PairGraph<'a> {
         placed_pairs_are_the_pairs();
         let pairs = Pairs::of(alloc, trs, all)?;
         let by_root = RulesByRoot::new(alloc, trs)?;
+        let firsts = first_with_left(alloc, rules)?;
+        let mut known = KnownCaps::new(alloc);
         let mut nodes = Vec::with_capacity(alloc, all.len())?;
         for (k, p) in all.iter().enumerate() {
             let sides = &pairs.sides()[k];
-            let rule = &rules[p.rule as usize];
-            nodes.push(node_of(alloc, &by_root, p.rule, rule, sides)?)?;
+            let number = firsts[p.rule as usize];
+            let rule = &rules[number];
+            nodes.push(node_of(alloc, &by_root, number, rule, sides, &mut known)?)?;
         }
         Ok(PairGraph { trs, nodes })
     }
@@ -99,24 +104,27 @@ impl<'a> PairGraph<'a> {
     }
 }
 
-/// The node of a pair whose rule has this number.
+/// The node of a pair whose left side is that of the rule with this number.
 fn node_of<'a>(
     alloc: Global,
     by_root: &RulesByRoot,
-    number: u32,
+    number: usize,
     rule: &'a Rule,
     sides: &Sides,
+    known: &mut KnownCaps,
 ) -> Result<Node<'a>, OutOfMemory>
     requires numbered { slice_get by_root.now.rules number ≡ Some rule.now }
     requires left { rule.now.left ≡ plain sides.now.from }
-    ensures { IfOk result (IsNodeOf by_root.now.rules sides.now) }
+    requires known { IsKnown by_root.now.rules false known.old }
+    ensures node { IfOk result (IsNodeOf by_root.now.rules sides.now) }
+    ensures known { OnOk result (IsKnown by_root.now.rules false known.new) }
 {
     Ok(Node {
         rule: number,
         left: &rule.left,
         from: root_of(&sides.from),
         to: root_of(&sides.to),
-        end: end_of(alloc, by_root, &sides.to)?,
+        end: end_of(alloc, by_root, &sides.to, known)?,
     })
 }
 
@@ -127,13 +135,20 @@ fn root_of(side: &Side) -> u32
 }
 
 /// The cap of a right side, its root without the mark.
-fn end_of(alloc: Global, by_root: &RulesByRoot, side: &Side) -> Result<Cap, OutOfMemory>
-    ensures { IfOk result (λ c. IsEndOf by_root.now.rules side.now (holed c)) }
+fn end_of(
+    alloc: Global,
+    by_root: &RulesByRoot,
+    side: &Side,
+    known: &mut KnownCaps,
+) -> Result<Cap, OutOfMemory>
+    requires { IsKnown by_root.now.rules false known.old }
+    ensures end { IfOk result (λ c. IsEndOf by_root.now.rules side.now (holed c)) }
+    ensures known { OnOk result (IsKnown by_root.now.rules false known.new) }
 {
     let args = side.args;
     let mut items = Vec::with_capacity(alloc, args.items.len())?;
     for arg in &args.items {
-        items.push(cap(alloc, by_root, arg, false)?)?;
+        items.push(known.cap(alloc, by_root, arg, false)?)?;
     }
     Ok(Cap::Symbol(side.symbol, Parts { items }))
 }

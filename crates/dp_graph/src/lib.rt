@@ -14,6 +14,7 @@ mod graph;
 mod items;
 mod laws;
 mod leaders;
+mod lefts;
 mod lists;
 mod naming;
 mod onward;

@@ -11,7 +11,7 @@ use std::collections::BTreeSet;
 use trs_core::OutOfMemory;
 
 /// The pairs of a problem, none of which is named yet.
-pub(crate) fn unnamed(alloc: Global, problem: &[u32]) -> Result<BTreeSet<u32>, OutOfMemory>
+pub(crate) fn list_unnamed(alloc: Global, problem: &[u32]) -> Result<BTreeSet<u32>, OutOfMemory>
     ensures { IfOk result (λ left. AreUnnamed problem.now [] left) }
 {
     let mut left = BTreeSet::new(alloc);

@@ -12,7 +12,7 @@ use trs_core::OutOfMemory;
 /// The leaders in order. Next comes always, of those to whose components no edge leads from another
 /// one that is left, the least; but a rule that lies on no cycle comes as soon as it can, so that it
 /// holds up no pair. Each edge is looked at twice. The first places are those of so many pairs.
-pub(crate) fn ordered(
+pub(crate) fn sort_components(
     alloc: Global,
     pairs: usize,
     rows: &[Vec<usize>],

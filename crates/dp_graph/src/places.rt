@@ -10,7 +10,7 @@ use std::alloc::Global;
 use trs_core::OutOfMemory;
 
 /// For each place the places that it leads, in order.
-pub(crate) fn led(alloc: Global, leaders: &[usize]) -> Result<Vec<Vec<usize>>, OutOfMemory>
+pub(crate) fn list_led(alloc: Global, leaders: &[usize]) -> Result<Vec<Vec<usize>>, OutOfMemory>
     requires { All (λ l. l < length leaders.now) leaders.now }
     ensures { IfOk result (λ led. AreLed leaders.now (lists_of led.items)) }
 {

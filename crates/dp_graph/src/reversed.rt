@@ -9,7 +9,7 @@ use std::alloc::Global;
 use trs_core::OutOfMemory;
 
 /// The rows that lead back along these. It takes steps for each edge.
-pub(crate) fn reversed(alloc: Global, rows: &[Vec<usize>]) -> Result<Vec<Vec<usize>>, OutOfMemory>
+pub(crate) fn reverse(alloc: Global, rows: &[Vec<usize>]) -> Result<Vec<Vec<usize>>, OutOfMemory>
     requires { StayWithin (lists_of rows.now) }
     ensures { IfOk result (λ back. AreReversed (lists_of rows.now) (lists_of back.items)) }
 {

@@ -1,5 +1,6 @@
 //! The graph on a problem, as rows of places: those of its pairs come first, those of their rules
-//! behind them. An edge to a pair depends on the pair's left side alone, and so on its rule.
+//! behind them. An edge to a pair depends on the pair's left side alone, so that rules with one left
+//! side count as the first of them.
 ghost use Rattle.std.specs.Prelude.{ℕ, ◌≡◌, ◌<◌, ◌≤◌, List, IfOk, OnOk, IsTrue, Some, false, length, slice_get};
 ghost use Rattle.trs_defs.specs.Member.{In};
 ghost use Rattle.trs_defs.specs.System.{IsSystem};
@@ -31,14 +32,14 @@ pub(crate) struct Rules {
     /// The rows of all places. That of a rule has its pairs.
     rows: Vec<Vec<usize>>,
     /// The places of the rules, by their numbers.
-    places: BTreeMap<u32, usize>,
+    places: BTreeMap<usize, usize>,
     /// The rules by the roots of their left sides.
     by_root: BTreeMap<u32, Vec<RulePlace>>,
 }
 
 /// The rows of a problem. The row of a pair has the rules to whose pairs edges lead, and the row of
-/// a rule has its pairs. Edges are looked for only to one pair of a rule, and to rules with the root
-/// of the pair's right side.
+/// a rule has its pairs. Edges are looked for only to one pair with a left side, and to rules with
+/// the root of the pair's right side.
 pub(crate) fn rows(
     alloc: Global,
     graph: &PairGraph,

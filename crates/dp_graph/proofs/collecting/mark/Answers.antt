@@ -1,4 +1,4 @@
-use Rattle.std.proofs.Common.{◌≡◌, ◌<◌, Some, true, false, slice_get, length, subst, sym, arith, refl, ap, ◌∙◌}
+use Rattle.std.proofs.Common.{◌≡◌, ◌<◌, Some, true, slice_get, length, subst, sym, arith, refl, ap, ◌∙◌}
 use Rattle.std.proofs.lemmas.Option.{slice_get_read}
 use Rattle.dp_graph.proofs.FoundLaws.{finds_none, finds_one}
 use Rattle.dp_graph.proofs.collecting.mark.Goals as goal

@@ -1,4 +1,4 @@
-use Rattle.std.proofs.Common.{true, false, arith, refl, inl, inr, ap, Some, ◌∙◌}
+use Rattle.std.proofs.Common.{arith, refl, inl, inr, ap, Some, ◌∙◌}
 use Rattle.std.proofs.lemmas.Option.{slice_get_read}
 use Rattle.dp_graph.specs.GraphConditions.{lists_of}
 use Rattle.dp_graph.proofs.LeaderLaws.{found_some, found_within}

@@ -11,8 +11,8 @@ use Rattle.dp_graph.proofs.graph.PairGraph.components.Goals as goal
 pub finishing_order-requires : goal.finishing_order-requires
 finishing_order-requires c = rw c.deref.ensures.value (rows_within (EdgeOf c.args.self.now) c.args.problem.now (lists_of c.in_ok-rows.rows.items) c.in_ok-rows.ensures)
 
-pub reversed-requires : goal.reversed-requires
-reversed-requires c = rw c.deref-2.ensures.value (rows_within (EdgeOf c.args.self.now) c.args.problem.now (lists_of c.in_ok-rows.rows.items) c.in_ok-rows.ensures)
+pub reverse-requires : goal.reverse-requires
+reverse-requires c = rw c.deref-2.ensures.value (rows_within (EdgeOf c.args.self.now) c.args.problem.now (lists_of c.in_ok-rows.rows.items) c.in_ok-rows.ensures)
 
 pub leaders-requires : goal.leaders-requires
 leaders-requires c = λ i i_in.
@@ -23,27 +23,27 @@ leaders-requires c = λ i i_in.
     let m = lists_length c.in_ok-back.back.items in
     rw c.deref-3.ensures.value (omega (arith, h, n, m))
 
-pub led-requires : goal.led-requires
-led-requires c =
+pub list_led-requires : goal.list_led-requires
+list_led-requires c =
     let order = rw c.deref.ensures.value at c.in_ok-order.ensures in
     let back = rw c.deref-2.ensures.value at c.in_ok-back.ensures in
     let led = rw (c.deref-3.ensures.value, c.deref-4.ensures.value) at c.in_ok-leaders.ensures in
     let are = led (lists_of c.in_ok-rows.rows.items) back order in
     rw c.deref-5.ensures.value (all_of_each (λ l. l < length c.in_ok-leaders.leaders.items) c.in_ok-leaders.leaders.items (leaders_within (lists_of c.in_ok-rows.rows.items) c.in_ok-leaders.leaders.items are))
 
-pub ordered-requires-clause-leaders : goal.ordered-requires-clause-leaders
-ordered-requires-clause-leaders c =
+pub sort_components-requires-clause-leaders : goal.sort_components-requires-clause-leaders
+sort_components-requires-clause-leaders c =
     let order = rw c.deref.ensures.value at c.in_ok-order.ensures in
     let back = rw c.deref-2.ensures.value at c.in_ok-back.ensures in
     let led = rw (c.deref-3.ensures.value, c.deref-4.ensures.value) at c.in_ok-leaders.ensures in
     let are = led (lists_of c.in_ok-rows.rows.items) back order in
     rw (c.deref-6.ensures.value, c.deref-7.ensures.value) are
 
-pub ordered-requires-clause-within : goal.ordered-requires-clause-within
-ordered-requires-clause-within c = rw c.deref-6.ensures.value (rows_within (EdgeOf c.args.self.now) c.args.problem.now (lists_of c.in_ok-rows.rows.items) c.in_ok-rows.ensures)
+pub sort_components-requires-clause-within : goal.sort_components-requires-clause-within
+sort_components-requires-clause-within c = rw c.deref-6.ensures.value (rows_within (EdgeOf c.args.self.now) c.args.problem.now (lists_of c.in_ok-rows.rows.items) c.in_ok-rows.ensures)
 
-pub ordered-requires-clause-led : goal.ordered-requires-clause-led
-ordered-requires-clause-led c = rw (c.deref-7.ensures.value, c.deref-8.ensures.value) (rw c.deref-5.ensures.value at c.in_ok-led.ensures)
+pub sort_components-requires-clause-led : goal.sort_components-requires-clause-led
+sort_components-requires-clause-led c = rw (c.deref-7.ensures.value, c.deref-8.ensures.value) (rw c.deref-5.ensures.value at c.in_ok-led.ensures)
 
 pub items-requires-clause-places : goal.items-requires-clause-places
 items-requires-clause-places c =

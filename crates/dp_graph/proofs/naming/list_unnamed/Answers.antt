@@ -3,7 +3,7 @@ use Rattle.std.proofs.lemmas.List.{take_all}
 use Rattle.dp_graph.specs.Unnamed.{AreUnnamed}
 use Rattle.dp_graph.proofs.ItemLists.{one_taken}
 use Rattle.dp_graph.proofs.UnnamedPairs.{nothing_left, one_number_more}
-use Rattle.dp_graph.proofs.naming.unnamed.Goals as goal
+use Rattle.dp_graph.proofs.naming.list_unnamed.Goals as goal
 
 pub loop-n-init : goal.loop-n-init
 loop-n-init c = nothing_left c.new-left.result c.new-left.ensures.empty

@@ -5,7 +5,7 @@ use Rattle.dp_graph.specs.Waiting.{TakesOut}
 use Rattle.dp_graph.proofs.ListPlaces.{row_at, lists_length, length_more, all_of_each}
 use Rattle.dp_graph.proofs.ItemLaws.{led_place, place_led}
 use Rattle.dp_graph.proofs.OrderLaws.{starts, goes_on, ends, room, leads_itself_now, blockers_count, leaders_within}
-use Rattle.dp_graph.proofs.ordering.ordered.Goals as goal
+use Rattle.dp_graph.proofs.ordering.sort_components.Goals as goal
 
 pub loop-v-init : goal.loop-v-init
 loop-v-init c = starts c.args.pairs (lists_of c.args.rows.now) c.args.leaders.now c.requires.leaders c.new-order.result.items c.in_ok-waiting.waiting c.new-order.ensures.items c.in_ok-waiting.ensures

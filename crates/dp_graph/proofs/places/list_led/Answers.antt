@@ -2,7 +2,7 @@ use Rattle.std.proofs.Common.{get_or, length, arith, refl}
 use Rattle.dp_graph.specs.GraphConditions.{lists_of}
 use Rattle.dp_graph.proofs.ItemLaws.{none_led_before, one_more_led, all_led_lists}
 use Rattle.dp_graph.proofs.ListPlaces.{lists_length}
-use Rattle.dp_graph.proofs.places.led.Goals as goal
+use Rattle.dp_graph.proofs.places.list_led.Goals as goal
 
 pub loop-w-init : goal.loop-w-init
 loop-w-init c = record {

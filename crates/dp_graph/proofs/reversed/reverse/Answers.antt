@@ -2,7 +2,7 @@ use Rattle.std.proofs.Common.{length, arith, sym}
 use Rattle.dp_graph.specs.GraphConditions.{lists_of}
 use Rattle.dp_graph.proofs.ListPlaces.{lists_length, row_at}
 use Rattle.dp_graph.proofs.ReversedLaws.{no_back, next_back, all_back}
-use Rattle.dp_graph.proofs.reversed.reversed.Goals as goal
+use Rattle.dp_graph.proofs.reversed.reverse.Goals as goal
 
 pub loop-i-init : goal.loop-i-init
 loop-i-init c = no_back (lists_of c.args.rows.now) (lists_of c.in_ok-back.back.items) (length c.args.rows.now) (sym (lists_length c.args.rows.now)) c.in_ok-back.ensures
