@@ -35,7 +35,13 @@ fn sevens(alloc: Global, last: u32) -> Result<Term, OutOfMemory> {
 
 #[test]
 fn one_of_many_variables_is_repeated(rt: HostRuntime) -> Result<(), Fail> {
-    for (last, want) in [(0, false), (1_022, false), (7_168, false), (20_993, false), (1, true)] {
+    for (last, want) in [
+        (0, false),
+        (1_022, false),
+        (7_168, false),
+        (20_993, false),
+        (1, true),
+    ] {
         assert!(rt; sevens(rt.alloc(), last)?.is_linear() == want);
     }
     Ok(())
