@@ -131,7 +131,9 @@ fn cap_of(
     }
 }
 
-/// Whether a cap with this root meets a left side, by what is known of the id of its term.
+/// Whether a cap with this root meets a left side, by what is known of the id of its term. It is not
+/// inlined, so that the recursion over a deep term has little of it on the stack at each level.
+#[inline(never)]
 fn is_opened(
     alloc: Global,
     by_root: &RulesByRoot,

@@ -58,7 +58,9 @@ impl KnownCaps {
     }
 }
 
-/// The id of an argument, counted from 0. It is not looked up past the 255th.
+/// The id of an argument, counted from 0. It is not looked up past the 255th. It is not inlined, for
+/// the stack of deep terms.
+#[inline(never)]
 pub(crate) fn argument(pool: &Pool, id: Option<u32>, i: usize) -> Option<u32>
     requires { IfSome id (λ k. k < length pool.now) }
     ensures { (t u : Tree) → IsIdOf pool.now id t → argument_at t (i + 1) ≡ Some u
