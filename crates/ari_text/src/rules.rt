@@ -12,7 +12,7 @@ use crate::fault::AriFault;
 use names_text::{Names, Symbols};
 use sexp_core::Sexp;
 use std::alloc::Global;
-use term_text::{Judged, both, check_term, pushed};
+use term_text::{Judged, both, check_term, push_judged};
 use trs_core::{OutOfMemory, Rule, Term};
 
 fn made_rule(sides: Judged<(Term, Term), AriFault>) -> Judged<Rule, AriFault>
@@ -54,7 +54,7 @@ pub fn read_rules(
     for item in items {
         if let Saying::Rewrites(left, right) = read_entry(item).saying {
             let rule = read_rule(alloc, symbols, left, right)?;
-            rules = pushed(both(rules, rule))?;
+            rules = push_judged(both(rules, rule))?;
         }
     }
     Ok(rules)

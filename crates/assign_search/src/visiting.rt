@@ -17,7 +17,7 @@ pub(crate) enum Turn {
 }
 
 // Only the constraints that have their last slot at the prefix's end are tested.
-fn refuted<S: Space>(
+fn is_refuted<S: Space>(
     alloc: Global,
     space: &S,
     group: &[u32],
@@ -81,7 +81,7 @@ pub(crate) fn visit<S: Space>(
         (IsTurn (S.puzzle space.now) budget values.old.items count.new values.new.items) }
 {
     let depth = values.len();
-    if refuted(alloc, space, &groups[depth], values)? {
+    if is_refuted(alloc, space, &groups[depth], values)? {
         *count += 1;
         if *count >= budget {
             return Ok(Turn::Spent);

@@ -193,7 +193,7 @@ fn action_of(word: &str) -> Option<Action>
 
 // What an action asks for with a problem, or a size of samples, and a certificate, or an order text,
 // if there is one.
-fn requested<'a>(
+fn request_for<'a>(
     action: Action,
     problem: &'a str,
     certificate: Option<&'a str>,
@@ -246,7 +246,7 @@ fn request_from<'a>(matches: &ArgMatches<'a>) -> Option<Request<'a>>
     let action = action_of(matches.get_str("action")?)?;
     let problem = matches.get_str("problem")?;
     let certificate = matches.get_str("certificate");
-    requested(action, problem, certificate, workers as u32, budget)
+    request_for(action, problem, certificate, workers as u32, budget)
 }
 
 /// What the words ask for, the program's name left out. `Usage` comes exactly where they ask for

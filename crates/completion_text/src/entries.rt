@@ -11,7 +11,7 @@ use pair_text::{add_symbol, read_symbol};
 use path_lpo::{Filter, LpoEntry};
 use sexp_core::Sexp;
 use std::alloc::Global;
-use text_reading::{Read, both, ended, keyword, place, read_number};
+use text_reading::{Read, both, keyword, place, read_number, refuse_more};
 use trs_core::{GREATEST_NUMBER, OutOfMemory};
 
 /// Entries `(sym name rank)`, no symbol twice.
@@ -54,7 +54,7 @@ fn read_entry(
     match add_symbol(known, *at, read_plain_symbol(system, head, name))? {
         Ok(symbol) => {
             let rank = read_number(GREATEST_NUMBER, rank);
-            ranked_if_read(alloc, symbol, ended(rank, more))
+            ranked_if_read(alloc, symbol, refuse_more(rank, more))
         }
         Err(at) => Ok(Err(at)),
     }

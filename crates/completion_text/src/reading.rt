@@ -16,7 +16,7 @@ use pair_order::ReductionPair;
 use path_lpo::{Lpo, LpoEntry};
 use sexp_core::{Sexp, read_all};
 use std::alloc::Global;
-use text_reading::{Read, both, ended, keyword, place};
+use text_reading::{Read, both, keyword, place, refuse_more};
 use trs_core::OutOfMemory;
 
 /// How many lists may be open at once.
@@ -58,7 +58,7 @@ fn read_items(
     let Some((list, more)) = items.split_first() else {
         return Err(OrderRefused::At(size));
     };
-    match ended(read_list(alloc, system, list)?, more) {
+    match refuse_more(read_list(alloc, system, list)?, more) {
         Ok(entries) => order_of(alloc, system, place(list), entries),
         Err(at) => Err(OrderRefused::At(at)),
     }

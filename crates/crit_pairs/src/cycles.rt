@@ -6,7 +6,7 @@ ghost use Rattle.trs_core.specs.View.{tree};
 ghost use Rattle.crit_pairs.specs.Meeting.{Solves};
 ghost use Rattle.crit_pairs.specs.Cycles.{HaveNoSolution, StandsIn};
 
-use crate::meeting::{Binding, find, resolved};
+use crate::meeting::{Binding, find, resolve};
 use std::alloc::Global;
 use trs_core::{OutOfMemory, Term};
 
@@ -73,7 +73,7 @@ fn variable_below(v: u32, bindings: &[Binding], ended: &[u32]) -> Option<u32>
         → size_of (θ w) < size_of (θ v)) }
 {
     let bound = find(bindings, v)?;
-    let term = resolved(bindings, bound);
+    let term = resolve(bindings, bound);
     match term {
         Term::Var(_) => None,
         Term::App(_, _) => variable_in(term, bindings, ended),

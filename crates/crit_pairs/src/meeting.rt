@@ -139,8 +139,8 @@ fn meet_variable<'a>(
     ensures { IfOk result
         (Meets (tree a.now) (tree b.now) bindings.old.items bindings.new.items) }
 {
-    let x = resolved(bindings, a);
-    let y = resolved(bindings, b);
+    let x = resolve(bindings, a);
+    let y = resolve(bindings, b);
     match (x, y) {
         (Term::Var(v), Term::Var(w)) => {
             if *v == *w {
@@ -206,7 +206,7 @@ fn bind_to_left<'a>(
 }
 
 /// What a term stands for: the end of the bindings that lead from a variable to others.
-pub(crate) fn resolved<'a>(bindings: &[Binding<'a>], t: &'a Term) -> &'a Term
+pub(crate) fn resolve<'a>(bindings: &[Binding<'a>], t: &'a Term) -> &'a Term
     ensures { SameUnder bindings.now (tree t.now) (tree result.now) }
 {
     let mut current = t;

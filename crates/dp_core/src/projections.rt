@@ -55,7 +55,7 @@ impl<'a> Places<'a> {
 }
 
 /// The argument to which a side is projected.
-pub(crate) fn projected<'a>(projection: &Places, side: &Side<'a>) -> Option<&'a Term>
+pub(crate) fn project<'a>(projection: &Places, side: &Side<'a>) -> Option<&'a Term>
     ensures { option_map tree (option_copied result) ≡ projected projection.now side.now }
 {
     let place = projection.place_for(side.symbol)?;

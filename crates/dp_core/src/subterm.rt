@@ -13,7 +13,7 @@ ghost use Rattle.dp_core.specs.SubtermConditions.{roots_of, place_for, projects_
 ghost use Rattle.dp_core.specs.SubtermConditions.{subterm_conditions};
 
 use crate::contained::contains;
-use crate::projections::{Places, projected};
+use crate::projections::{Places, project};
 use crate::{DpPair, Pairs, Side, Sides};
 use rewrite_core::{CheckFault, StepRefused};
 use std::alloc::Global;
@@ -195,10 +195,10 @@ pub(crate) fn add(flags: &mut Vec<bool>, flag: bool) -> Result<(), OutOfMemory>
 fn is_removed(projection: &Places, n: u32, sides: &Sides) -> Result<bool, CheckFault>
     ensures { AnswersBy (λ removed. removed) (projects_within projection.now n sides.now) result }
 {
-    let Some(left) = projected(projection, &sides.from) else {
+    let Some(left) = project(projection, &sides.from) else {
         return Err(CheckFault::Refused(StepRefused::PairNotWeak(n as u64)));
     };
-    let Some(right) = projected(projection, &sides.to) else {
+    let Some(right) = project(projection, &sides.to) else {
         return Err(CheckFault::Refused(StepRefused::PairNotWeak(n as u64)));
     };
     if left.same(right) {

@@ -14,7 +14,7 @@ use crate::subterm_space::SubtermSpace;
 use assign_search::{Search, Stop};
 use order_search::placing::SymbolPlaces;
 use order_search::roots::roots;
-use order_search::taken::taken;
+use order_search::taking::take_pairs;
 use order_search::{DpPair, Pairs, Readable, Sides, find_first, placed_pairs_are_the_pairs};
 use pair_theory::dependency_pairs_suffice;
 use std::alloc::Global;
@@ -72,7 +72,7 @@ pub fn find_subterm_in<P: Stop>(
     systems_are_valid(trs);
     placed_pairs_are_the_pairs();
     dependency_pairs_suffice();
-    let taken = taken(alloc, pairs.sides(), problem)?;
+    let taken = take_pairs(alloc, pairs.sides(), problem)?;
     let roots = roots(alloc, &taken)?;
     search_places(alloc, arities, &roots, &taken, budget, stop)
 }

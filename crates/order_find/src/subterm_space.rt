@@ -75,10 +75,10 @@ impl<'a> SubtermSpace<'a> {
         ensures { result ≡ passes has_subterm
             (table_of (subterm_slots self.now.roots.now) values.now) pair.now }
     {
-        let Some(s) = self.projected(&pair.from, values) else {
+        let Some(s) = self.project(&pair.from, values) else {
             return false;
         };
-        let Some(t) = self.projected(&pair.to, values) else {
+        let Some(t) = self.project(&pair.to, values) else {
             return false;
         };
         contains(s, t)
@@ -88,10 +88,10 @@ impl<'a> SubtermSpace<'a> {
         ensures { result ≡ passes has_proper_subterm
             (table_of (subterm_slots self.now.roots.now) values.now) pair.now }
     {
-        let Some(s) = self.projected(&pair.from, values) else {
+        let Some(s) = self.project(&pair.from, values) else {
             return false;
         };
-        let Some(t) = self.projected(&pair.to, values) else {
+        let Some(t) = self.project(&pair.to, values) else {
             return false;
         };
         contains_properly(s, t)
@@ -110,7 +110,7 @@ impl<'a> SubtermSpace<'a> {
     }
 
     /// The argument at the place that the values give.
-    fn projected<'b>(&self, side: &Side<'b>, values: &[u32]) -> Option<&'b Term>
+    fn project<'b>(&self, side: &Side<'b>, values: &[u32]) -> Option<&'b Term>
         ensures { option_map tree (option_copied result) ≡ argument_at (plain side.now)
             (table_of (subterm_slots self.now.roots.now) values.now side.now.symbol 0 + 1) }
     {

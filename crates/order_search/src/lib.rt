@@ -14,7 +14,7 @@ mod problem;
 mod reading;
 pub mod roots;
 mod symbols;
-pub mod taken;
+pub mod taking;
 mod values;
 
 pub use arities::arity_of;

@@ -6,7 +6,7 @@ ghost use Rattle.order_search.specs.OrderProblem.{IsOrderProblem, IsSearchable};
 
 use crate::marking::marked_rules;
 use crate::symbols::order_symbols;
-use crate::taken::taken;
+use crate::taking::take_pairs;
 use dp_core::{Pairs, placed_pairs_are_the_pairs};
 use pair_theory::dependency_pairs_suffice;
 use std::alloc::Global;
@@ -41,7 +41,7 @@ impl<'a> OrderProblem<'a> {
         let rules = trs.rules();
         placed_pairs_are_the_pairs();
         dependency_pairs_suffice();
-        let taken = taken(alloc, pairs.sides(), problem)?;
+        let taken = take_pairs(alloc, pairs.sides(), problem)?;
         let symbols = order_symbols(alloc, rules, &taken)?;
         let marked = marked_rules(alloc, &taken)?;
         Ok(OrderProblem {

@@ -15,7 +15,7 @@ use crate::ascending::read_number_from;
 use dp_graph::GraphItem;
 use sexp_core::Sexp;
 use std::alloc::Global;
-use text_reading::{Read, ended, place, push, put, put_number, read_number};
+use text_reading::{Read, place, push, put, put_number, read_number, refuse_more};
 use trs_core::OutOfMemory;
 
 /// The greatest number of a pair, 2^32 - 1.
@@ -51,7 +51,7 @@ fn read_graph_item(alloc: Global, item: &Sexp) -> Result<Read<GraphItem>, OutOfM
     if word.as_slice() == b"group".as_slice() {
         read_group(alloc, pairs)
     } else if word.as_slice() == b"single".as_slice() {
-        Ok(single(ended(read_pair(pair), more)))
+        Ok(single(refuse_more(read_pair(pair), more)))
     } else {
         Ok(Err(*head_at))
     }

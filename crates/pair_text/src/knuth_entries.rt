@@ -17,7 +17,7 @@ use names_text::{NamedTrs, Symbol};
 use pair_order::SymbolIndex;
 use sexp_core::Sexp;
 use std::alloc::Global;
-use text_reading::{Read, and_place, both, ended, place, put, put_number, read_number};
+use text_reading::{Read, and_place, both, place, put, put_number, read_number, refuse_more};
 use trs_core::{GREATEST_NUMBER, OutOfMemory};
 
 /// A Knuth-Bendix order, by its entries `(sym name weight rank)` and `(mark name weight rank)`, no symbol twice. Constants
@@ -150,7 +150,7 @@ fn only_stated(at: u32, more: &[Sexp], entry: Read<KboEntry>) -> Read<KboEntry>
             if is_too_light(entry) {
                 Err(at)
             } else {
-                ended(Ok(entry), more)
+                refuse_more(Ok(entry), more)
             }
         }
         Err(at) => Err(at),

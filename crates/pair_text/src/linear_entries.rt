@@ -16,7 +16,7 @@ use pair_order::SymbolIndex;
 use poly_lin::LinTable;
 use sexp_core::Sexp;
 use std::alloc::Global;
-use text_reading::{Read, ended, place, push, put, put_number, read_number};
+use text_reading::{Read, place, push, put, put_number, read_number, refuse_more};
 use trs_core::{GREATEST_NUMBER, OutOfMemory};
 
 /// A table of linear polynomials, by its entries `(sym name number ..)` and `(mark name number ..)`, no symbol twice.
@@ -99,7 +99,7 @@ fn read_coefficients(
     }
     let (numbers, more) = items.split_at(count);
     let numbers = read_numbers(alloc, numbers)?;
-    match ended(numbers, more) {
+    match refuse_more(numbers, more) {
         Ok(numbers) => Ok(Ok((symbol.number, numbers))),
         Err(at) => Ok(Err(at)),
     }

@@ -19,7 +19,7 @@ use pair_order::SymbolIndex;
 use path_lpo::{Filter, Lpo, LpoEntry};
 use sexp_core::Sexp;
 use std::alloc::Global;
-use text_reading::{Read, both, ended, place, put, put_number, read_number};
+use text_reading::{Read, both, place, put, put_number, read_number, refuse_more};
 use trs_core::{GREATEST_NUMBER, OutOfMemory};
 
 /// A path order, by its entries `(sym name number filter)` and `(mark name number filter)`, no symbol twice.
@@ -80,7 +80,7 @@ fn read_path_entry(
         Ok(symbol) => {
             let rank = read_number(GREATEST_NUMBER, rank);
             let kept = read_filter(alloc, symbol.arity, kept)?;
-            Ok(path_entry_of(symbol, ended(both(rank, kept), more)))
+            Ok(path_entry_of(symbol, refuse_more(both(rank, kept), more)))
         }
         Err(at) => Ok(Err(at)),
     }

@@ -12,7 +12,7 @@ use names_text::{NamedTrs, Symbol};
 use pair_order::SymbolIndex;
 use sexp_core::Sexp;
 use std::alloc::Global;
-use text_reading::{Read, ended, place, put, put_number};
+use text_reading::{Read, place, put, put_number, refuse_more};
 use trs_core::OutOfMemory;
 
 /// Places of arguments for symbols, each `(name place)`, no symbol twice.
@@ -53,7 +53,7 @@ fn read_projection(
     match add_symbol(known, *at, read_symbol(system, name))? {
         Ok(symbol) => {
             let argument = read_argument_place(symbol.arity, argument);
-            Ok(projection_of(symbol, ended(argument, more)))
+            Ok(projection_of(symbol, refuse_more(argument, more)))
         }
         Err(at) => Ok(Err(at)),
     }

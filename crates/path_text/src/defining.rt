@@ -13,7 +13,7 @@ use crate::sharing::{DefinedPath, Definitions, Shared};
 use rewrite_core::PathStep;
 use sexp_core::Sexp;
 use std::alloc::Global;
-use text_reading::{Read, both, ended, keyword, place, put, put_number};
+use text_reading::{Read, both, keyword, place, put, put_number, refuse_more};
 use trs_core::OutOfMemory;
 
 /// A definition, `(define word path)`, that is read with those before it and added to them. What
@@ -31,7 +31,7 @@ pub fn read_define(alloc: Global, shared: &mut Shared, item: &Sexp) -> Result<Re
     let head = keyword(b"define", head);
     let word = read_new_word(alloc, &shared.definitions, word)?;
     let path = read_shared_path(alloc, shared, path)?;
-    let definition = definition_of(ended(both(both(head, word), path), more));
+    let definition = definition_of(refuse_more(both(both(head, word), path), more));
     let added = add_definition(shared, definition)?;
     Ok(added)
 }

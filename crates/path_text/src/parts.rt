@@ -14,7 +14,7 @@ use crate::sharing::{DefinedPath, Definitions};
 use rewrite_core::PathStep;
 use sexp_core::Sexp;
 use std::alloc::Global;
-use text_reading::{Read, both, ended, keyword, place, push};
+use text_reading::{Read, both, keyword, place, push, refuse_more};
 use trs_core::{OutOfMemory, Position};
 
 /// A part of a path in a text of version 2.
@@ -143,7 +143,7 @@ fn read_use_list<'d>(
     let head = keyword(b"use", head);
     let position = read_position(alloc, position)?;
     let path = read_defined_word(definitions, word);
-    Ok(without_head(ended(both(both(head, position), path), more)))
+    Ok(without_head(refuse_more(both(both(head, position), path), more)))
 }
 
 fn without_head<'d>(

@@ -16,7 +16,7 @@ use path_text::{PathNames, Shared, put_path, read_path};
 use rewrite_core::PathStep;
 use sexp_core::Sexp;
 use std::alloc::Global;
-use text_reading::{Read, both, ended, keyword, place, put};
+use text_reading::{Read, both, keyword, place, put, refuse_more};
 use trs_core::OutOfMemory;
 
 /// Strong joins of peaks, each `(pair path path path path)`.
@@ -79,7 +79,7 @@ fn read_four_paths(
     let right_v = read_path(alloc, sharing, right_v)?;
     let left_v = read_path(alloc, sharing, left_v)?;
     let first_half = both(both(head, left_u), right_u);
-    Ok(four_of(ended(both(both(first_half, right_v), left_v), more)))
+    Ok(four_of(refuse_more(both(both(first_half, right_v), left_v), more)))
 }
 
 fn four_of(

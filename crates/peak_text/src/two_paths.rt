@@ -12,7 +12,7 @@ use path_text::{PathNames, Shared, put_path, read_path};
 use rewrite_core::{Join, PathStep};
 use sexp_core::Sexp;
 use std::alloc::Global;
-use text_reading::{Read, both, ended, keyword, place, put};
+use text_reading::{Read, both, keyword, place, put, refuse_more};
 use trs_core::OutOfMemory;
 
 /// Joins of peaks, each `(join path path)`.
@@ -85,7 +85,7 @@ fn read_two(
     let head = keyword(word, head);
     let left = read_path(alloc, sharing, left)?;
     let right = read_path(alloc, sharing, right)?;
-    Ok(join_of(ended(both(both(head, left), right), more)))
+    Ok(join_of(refuse_more(both(both(head, left), right), more)))
 }
 
 fn join_of(parts: Read<(((), Vec<PathStep>), Vec<PathStep>)>) -> Read<Join>

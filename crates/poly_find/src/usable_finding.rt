@@ -10,7 +10,7 @@ ghost use Rattle.poly_find.specs.UsableRow.{FindsUsable, FailsUsable};
 use crate::chosen::choose_rules;
 use crate::searching::search_linear;
 use assign_search::{Search, Stop};
-use order_search::taken::taken;
+use order_search::taking::take_pairs;
 use order_search::{DpPair, Pairs, marked_rules, placed_pairs_are_the_pairs, symbols_with_sides};
 use pair_theory::dependency_pairs_suffice;
 use poly_lin::LinTable;
@@ -71,7 +71,7 @@ pub fn find_usable_in<P: Stop>(
     let rules = trs.rules();
     placed_pairs_are_the_pairs();
     dependency_pairs_suffice();
-    let taken = taken(alloc, pairs.sides(), problem)?;
+    let taken = take_pairs(alloc, pairs.sides(), problem)?;
     let numbers = usable_for(alloc, trs, pairs, problem)?;
     let usable = choose_rules(alloc, rules, &numbers)?;
     let symbols = symbols_with_sides(alloc, &usable, &taken)?;

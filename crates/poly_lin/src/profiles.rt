@@ -8,7 +8,7 @@ ghost use Rattle.poly_lin.specs.Profiles.{IsProfile};
 use crate::Coefficients;
 use crate::covering::{PROFILED, covers_known};
 use crate::too_big::has_big_coefficient;
-use crate::values::saturated;
+use crate::values::saturated_value;
 use crate::window::add_coefficients;
 use pair_order::{Decrease, TooBig};
 use trs_core::Term;
@@ -30,7 +30,7 @@ pub(crate) fn profile_of<T: Coefficients>(table: &T, t: &Term) -> Profile
     add_coefficients(table, 0, 1, t, &mut coefficients, None);
     Profile {
         is_big: has_big_coefficient(table, t),
-        constant: saturated(table, 0, t),
+        constant: saturated_value(table, 0, t),
         coefficients,
     }
 }
@@ -55,7 +55,7 @@ pub(crate) fn decrease_from<T: Coefficients>(
         return Err(TooBig);
     }
     let left = profile.constant;
-    let right = saturated(table, 0, b);
+    let right = saturated_value(table, 0, b);
     if left < right {
         return Ok(Decrease::Missing);
     }

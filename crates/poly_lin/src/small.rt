@@ -5,7 +5,7 @@ ghost use Rattle.poly_lin.specs.TooBig.{EitherIsBig};
 
 use crate::Coefficients;
 use crate::covering::covers;
-use crate::values::saturated;
+use crate::values::saturated_value;
 use trs_core::Term;
 
 /// Whether the first term's polynomial is at least the second's wherever variables stand for
@@ -15,8 +15,8 @@ pub fn is_weakly_above_if_small<T: Coefficients>(table: &T, a: &Term, b: &Term) 
     ensures { (EitherIsBig (T.coefficient table.now) (tree a.now) (tree b.now) → ⊥) →
         (IsTrue result ↔ LinearWeak (T.coefficient table.now) (tree a.now) (tree b.now)) }
 {
-    let right = saturated(table, 0, b);
-    let left = saturated(table, 0, a);
+    let right = saturated_value(table, 0, b);
+    let left = saturated_value(table, 0, a);
     if left < right {
         return false;
     }
@@ -28,8 +28,8 @@ pub fn is_strictly_above_if_small<T: Coefficients>(table: &T, a: &Term, b: &Term
     ensures { (EitherIsBig (T.coefficient table.now) (tree a.now) (tree b.now) → ⊥) →
         (IsTrue result ↔ LinearStrict (T.coefficient table.now) (tree a.now) (tree b.now)) }
 {
-    let right = saturated(table, 0, b);
-    let left = saturated(table, 0, a);
+    let right = saturated_value(table, 0, b);
+    let left = saturated_value(table, 0, a);
     if left <= right {
         return false;
     }

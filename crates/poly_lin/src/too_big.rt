@@ -6,7 +6,7 @@ ghost use Rattle.poly_lin.specs.TooBig.{IsBig, HasBigCoefficient};
 
 use crate::Coefficients;
 use crate::table::has_big;
-use crate::values::saturated;
+use crate::values::saturated_value;
 use crate::window::{MANY, add_coefficients};
 use trs_core::{GREATEST_NUMBER, Term};
 
@@ -52,10 +52,10 @@ fn is_big<T: Coefficients>(table: &T, t: &Term) -> bool
     ensures { IsTrue result ↔ IsBig (T.coefficient table.now) (tree t.now) }
 {
     // The value where variables stand for 1 is the sum of the constant and of all coefficients.
-    if saturated(table, 1, t) <= GREATEST_NUMBER {
+    if saturated_value(table, 1, t) <= GREATEST_NUMBER {
         return false;
     }
-    if saturated(table, 0, t) > GREATEST_NUMBER {
+    if saturated_value(table, 0, t) > GREATEST_NUMBER {
         return true;
     }
     has_big_variable(table, t)

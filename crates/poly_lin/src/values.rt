@@ -8,7 +8,7 @@ use trs_core::Term;
 
 /// The value of the term's polynomial where each variable stands for this number, or the last `u64`
 /// where it is greater.
-pub(crate) fn saturated<T: Coefficients>(table: &T, each: u64, t: &Term) -> u64
+pub(crate) fn saturated_value<T: Coefficients>(table: &T, each: u64, t: &Term) -> u64
     ensures { result ≡ min (value (T.coefficient table.now) (λ x. each) (tree t.now)) (2 ^ 64 - 1) }
 {
     match t {
@@ -21,7 +21,7 @@ pub(crate) fn saturated<T: Coefficients>(table: &T, each: u64, t: &Term) -> u64
                 if factor == 0 {
                     continue;
                 }
-                sum = plus_saturated(sum, factor, saturated(table, each, arg));
+                sum = plus_saturated(sum, factor, saturated_value(table, each, arg));
             }
             sum
         }

@@ -8,14 +8,14 @@ ghost use Rattle.step_text.specs.ConfluenceText.{confluence_item};
 
 use cert_step::Step;
 use sexp_core::Sexp;
-use text_reading::{Read, ended, put};
+use text_reading::{Read, put, refuse_more};
 use trs_core::OutOfMemory;
 
 /// The step `(confluence)`, by the members behind its word.
 pub fn read_confluence(members: &[Sexp]) -> Read<Step>
     ensures { seen step_of result ≡ ended_by (Ok confluence) (views members.now) }
 {
-    ended(Ok(Step::Confluence), members)
+    refuse_more(Ok(Step::Confluence), members)
 }
 
 /// Appends the text of the step.

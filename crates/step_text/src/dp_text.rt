@@ -8,14 +8,14 @@ ghost use Rattle.step_text.specs.DpText.{dp_item};
 
 use cert_step::Step;
 use sexp_core::Sexp;
-use text_reading::{Read, ended, put};
+use text_reading::{Read, put, refuse_more};
 use trs_core::OutOfMemory;
 
 /// The step `(dp)`, by the members behind its word.
 pub fn read_dp(members: &[Sexp]) -> Read<Step>
     ensures { seen step_of result ≡ ended_by (Ok dp) (views members.now) }
 {
-    ended(Ok(Step::Dp), members)
+    refuse_more(Ok(Step::Dp), members)
 }
 
 /// Appends the text of the step.

@@ -30,7 +30,7 @@ use names_text::NamedTrs;
 use path_text::{PathNames, Shared};
 use sexp_core::Sexp;
 use std::alloc::Global;
-use text_reading::{Read, both, ended, keyword, place, put, put_number, read_number};
+use text_reading::{Read, both, keyword, place, put, put_number, read_number, refuse_more};
 use trs_core::{GREATEST_NUMBER, OutOfMemory};
 
 /// A method, `(word ..)`, by its word.
@@ -110,7 +110,7 @@ pub fn read_step(
     let head = keyword(b"step", head);
     let node = read_number(GREATEST_NUMBER, node);
     let method = read_method(alloc, system, sharing, method)?;
-    Ok(node_step(ended(both(both(head, node), method), more)))
+    Ok(node_step(refuse_more(both(both(head, node), method), more)))
 }
 
 fn node_step(parts: Read<(((), u64), Step)>) -> Read<NodeStep>

@@ -15,7 +15,7 @@ const SPENT: u32 = 92;
 const STOPPED: u32 = 93;
 
 /// The root of the start, the path and the place, or one number that says what else the answer was.
-fn shown<P: Stop>(
+fn numbers_of<P: Stop>(
     alloc: Global,
     trs: &Trs,
     budget: u64,
@@ -82,7 +82,7 @@ fn wide(alloc: Global, count: u32) -> Result<Trs, Fail> {
 /// 2. `a(b(x)) -> b(a(x))`, which gives closures up to 256 nodes;
 /// 3. a loop by a path through 76,500 nodes, which passes the limits;
 /// 4. a loop by a path through 51,000 nodes, which does not.
-fn made(alloc: Global, number: u32) -> Result<Trs, Fail> {
+fn system_number(alloc: Global, number: u32) -> Result<Trs, Fail> {
     match number {
         0 => system(alloc, &[1], &[(b"ax", b"aax")]),
         1 => system(
@@ -109,8 +109,8 @@ const SHOWN: [(u32, u64, &[u32]); 6] = [
 #[test]
 fn loops_and_paths(rt: HostRuntime) -> Result<(), Fail> {
     for (number, budget, want) in SHOWN {
-        let trs = made(rt.alloc(), number)?;
-        let found = shown(rt.alloc(), &trs, budget, &mut never())?;
+        let trs = system_number(rt.alloc(), number)?;
+        let found = numbers_of(rt.alloc(), &trs, budget, &mut never())?;
         assert!(rt; found.as_slice() == want, "on system {number}");
     }
     Ok(())
@@ -119,9 +119,9 @@ fn loops_and_paths(rt: HostRuntime) -> Result<(), Fail> {
 /// Of the sides up to the limit 254 have 32,639 attempts.
 #[test]
 fn sides_up_to_the_limit(rt: HostRuntime) -> Result<(), Fail> {
-    let trs = made(rt.alloc(), 2)?;
+    let trs = system_number(rt.alloc(), 2)?;
     for (budget, want) in [(32_639, SPENT), (32_640, NOT_THERE)] {
-        let found = shown(rt.alloc(), &trs, budget, &mut never())?;
+        let found = numbers_of(rt.alloc(), &trs, budget, &mut never())?;
         assert!(rt; found.as_slice() == [want].as_slice());
     }
     Ok(())
@@ -130,10 +130,10 @@ fn sides_up_to_the_limit(rt: HostRuntime) -> Result<(), Fail> {
 /// A stop comes before the first attempt, the second and so on.
 #[test]
 fn stops_of_the_finder(rt: HostRuntime) -> Result<(), Fail> {
-    let trs = made(rt.alloc(), 1)?;
+    let trs = system_number(rt.alloc(), 1)?;
     for left in 0..5 {
         let mut stop = StopAt { left, stops: 0 };
-        let found = shown(rt.alloc(), &trs, 20_000, &mut stop)?;
+        let found = numbers_of(rt.alloc(), &trs, 20_000, &mut stop)?;
         assert!(rt; (found.as_slice() == [STOPPED].as_slice()) == (left < 3));
     }
     Ok(())

@@ -38,7 +38,7 @@ fn read(alloc: Global, text: &[u8]) -> Result<Term, OutOfMemory> {
 type Compared = (Result<bool, TooBig>, Result<bool, TooBig>);
 
 /// How the terms of two texts compare.
-fn compared<O: ReductionPair>(
+fn compare<O: ReductionPair>(
     alloc: Global,
     order: &O,
     left: &[u8],
@@ -79,7 +79,7 @@ fn a_linear_interpretation_compares(rt: HostRuntime) -> Result<(), Fail> {
         (b"ddx", b"x", (Err(TooBig), Err(TooBig))),
     ];
     for (left, right, want) in rows {
-        assert!(rt; compared(alloc, &table, left, right)? == want);
+        assert!(rt; compare(alloc, &table, left, right)? == want);
     }
     let fault = linear(alloc, &[(8191, &[0])])?.err();
     assert!(rt; fault == Some(TableFault::Twice(8191)));
@@ -153,9 +153,9 @@ fn path(alloc: Global, of: &[(u32, u64, &[u8])]) -> Result<Lpo, Fail> {
 fn a_path_order_compares(rt: HostRuntime) -> Result<(), Fail> {
     let alloc = rt.alloc();
     let order = path(alloc, &[(1, 0, &[1]), (2, 1, &[1, 2])])?;
-    let found = compared(alloc, &order, b"+sxy", b"s+xy")?;
+    let found = compare(alloc, &order, b"+sxy", b"s+xy")?;
     assert!(rt; found == (Ok(true), Ok(true)));
-    let found = compared(alloc, &order, b"s+xy", b"+sxy")?;
+    let found = compare(alloc, &order, b"s+xy", b"+sxy")?;
     assert!(rt; found == (Ok(false), Ok(false)));
     Ok(())
 }
@@ -178,9 +178,9 @@ fn knuth(alloc: Global, s: u64, plus: u64) -> Result<Result<Kbo, KboFault>, OutO
 fn a_knuth_bendix_order_compares(rt: HostRuntime) -> Result<(), Fail> {
     let alloc = rt.alloc();
     let order = knuth(alloc, 2, 1)??;
-    let found = compared(alloc, &order, b"s+xy", b"+sxy")?;
+    let found = compare(alloc, &order, b"s+xy", b"+sxy")?;
     assert!(rt; found == (Ok(true), Ok(true)));
-    let found = compared(alloc, &order, b"+sxy", b"s+xy")?;
+    let found = compare(alloc, &order, b"+sxy", b"s+xy")?;
     assert!(rt; found == (Ok(false), Ok(false)));
     let fault = knuth(alloc, 0, 1)?.err();
     assert!(rt; fault == Some(KboFault::UnaryNotTop(1)));

@@ -10,7 +10,7 @@ const SPENT: u32 = 92;
 const NOT_THERE: u32 = 91;
 
 // the solution, or one number that says what else the answer was
-fn shown<S: Space>(alloc: Global, space: &S, budget: u64) -> Result<Vec<u32>, OutOfMemory> {
+fn numbers_of<S: Space>(alloc: Global, space: &S, budget: u64) -> Result<Vec<u32>, OutOfMemory> {
     Ok(match first_solution(alloc, space, budget, &mut Never)? {
         Search::Found(values) => values,
         Search::NotThere => Vec::from_array(alloc, [NOT_THERE])?,
@@ -38,7 +38,7 @@ fn solutions_of_two_slots(rt: HostRuntime) -> Result<(), Fail> {
             second,
             sizes,
         };
-        let found = shown(rt.alloc(), &pair, budget)?;
+        let found = numbers_of(rt.alloc(), &pair, budget)?;
         assert!(rt; found.as_slice() == want);
     }
     Ok(())
@@ -60,7 +60,7 @@ fn no_slots_and_many(rt: HostRuntime) -> Result<(), Fail> {
             slots,
             truth: Some(truth),
         };
-        let found = shown(rt.alloc(), &deep, budget)?;
+        let found = numbers_of(rt.alloc(), &deep, budget)?;
         assert!(rt; found.as_slice() == want);
     }
     let deep = Deep {

@@ -125,7 +125,7 @@ fn application<F: Refusal>(parts: Judged<(u32, Vec<Term>), F>) -> Judged<Term, F
 }
 
 /// Values, and one more.
-pub fn pushed<T: Drop, F: Refusal>(
+pub fn push_judged<T: Drop, F: Refusal>(
     parts: Judged<(Vec<T>, T), F>,
 ) -> Result<Judged<Vec<T>, F>, AllocError>
     ensures { IfOk result (λ r. viewed (λ v. v.items) r
@@ -192,7 +192,7 @@ fn check_terms<F: Refusal>(
     let mut terms = Ok(Vec::with_capacity(alloc, items.len())?);
     for item in items {
         let term = check_term(alloc, symbols, new, variables, item)?;
-        terms = pushed(both(terms, term))?;
+        terms = push_judged(both(terms, term))?;
     }
     Ok(terms)
 }

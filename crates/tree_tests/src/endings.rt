@@ -2,7 +2,7 @@
 ghost use Rattle.std.specs.Prelude.{◌≡◌, ℕ, Some};
 ghost use Rattle.worker_pool.specs.tree_core.tree_definitions.Replies.{IsVerdict};
 
-use crate::events::shown;
+use crate::events::numbers_of;
 use crate::state::{Node, State};
 use std::alloc::Global;
 use trs_core::OutOfMemory;
@@ -20,11 +20,11 @@ fn are_steps(
 ) -> Result<bool, OutOfMemory> {
     let mut count = 0usize;
     for (i, n) in order.iter().enumerate() {
-        if let Some(decided) = state.decided(*n) {
+        if let Some(decided) = state.decision(*n) {
             let Some(step) = steps.get(count) else {
                 return Ok(false);
             };
-            let numbers = shown(alloc, &step.step)?;
+            let numbers = numbers_of(alloc, &step.step)?;
             if step.node != i as u64 || numbers.as_slice() != decided.shown.as_slice() {
                 return Ok(false);
             }

@@ -38,7 +38,7 @@ pub fn event_of(alloc: Global, findings: &Findings) -> Result<Event, OutOfMemory
                 problems.push(problem.copy(alloc)?)?;
             }
             Ok(Event::Found(FoundStep {
-                shown: shown(alloc, step)?,
+                shown: numbers_of(alloc, step)?,
                 left: problems,
             }))
         }
@@ -48,7 +48,7 @@ pub fn event_of(alloc: Global, findings: &Findings) -> Result<Event, OutOfMemory
 }
 
 /// The numbers that show a step.
-pub fn shown(alloc: Global, step: &Step) -> Result<Vec<u64>, OutOfMemory> {
+pub fn numbers_of(alloc: Global, step: &Step) -> Result<Vec<u64>, OutOfMemory> {
     let mut numbers = Vec::new(alloc);
     numbers.push(kind(step))?;
     match step {

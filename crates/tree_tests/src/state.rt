@@ -104,7 +104,7 @@ impl State {
             let Some(n) = order.get(i).copied() else {
                 return Ok(order);
             };
-            if let Some(decided) = self.decided(n) {
+            if let Some(decided) = self.decision(n) {
                 for k in 0..decided.count {
                     order.push(decided.first.saturating_add(k))?;
                 }
@@ -114,14 +114,14 @@ impl State {
     }
 
     /// The step that decided the node.
-    pub fn decided(&self, n: usize) -> Option<&Decided> {
+    pub fn decision(&self, n: usize) -> Option<&Decided> {
         self.nodes.get(n)?.decision.as_ref()
     }
 
     /// Whether each node of the goal is decided.
     fn is_won(&self, alloc: Global, goal: u32) -> Result<bool, OutOfMemory> {
         for n in &self.walk(alloc, goal)? {
-            if self.decided(*n).is_none() {
+            if self.decision(*n).is_none() {
                 return Ok(false);
             }
         }

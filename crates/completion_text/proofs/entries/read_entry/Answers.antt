@@ -26,6 +26,6 @@ returns-in-Ok-clause-entry c =
     let shape = list_seen c.args.item.now c.in-List.at c.in-List.members _ c.in-List.is members in
     let found = ap (new_symbol known c.in-List.at) (sym c.read_plain_symbol.ensures) ∙ sym c.in_ok-symbol.ensures.symbol ∙ c.in-Ok.is in
     let rank = first (ranked s) (λ n. n) c.read_number-rank.result _ (as_it_is _ _ c.read_number-rank.ensures.value) in
-    let parts = last (ranked s) c.read_number-rank.result c.ended.result _ _ rank c.ended.ensures in
-    IfOk-weaker c.ranked_if_read.result (λ r. seen plain r ≡ seen (λ n. ranked s n) c.ended.result) (λ r. seen plain r ≡ entry named known (view c.args.item.now))
+    let parts = last (ranked s) c.read_number-rank.result c.refuse_more.result _ _ rank c.refuse_more.ensures in
+    IfOk-weaker c.ranked_if_read.result (λ r. seen plain r ≡ seen (λ n. ranked s n) c.refuse_more.result) (λ r. seen plain r ≡ entry named known (view c.args.item.now))
     (λ r h. h ∙ parts ∙ sym (entry_new named known _ _ _ _ _ c.in-List.at s shape found)) c.ranked_if_read.ensures.value

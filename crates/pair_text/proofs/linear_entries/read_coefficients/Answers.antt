@@ -31,13 +31,13 @@ returns-then-items-count-clause-value c =
 pub returns-in-Ok-clause-value : goal.returns-in-Ok-clause-value
 returns-in-Ok-clause-value c =
     let s = c.args.symbol in
-    let seen_all = numbers_seen s c.args.at (c.from-count.result + 1) c.args.items.now c.split_at.result.0.now c.split_at.result.1.now c.in_ok-numbers.numbers c.ended.result (ap (λ n. n + 1) c.from-count.ensures)
-    (omega (arith, c.if-items-count.false)) c.split_at.ensures.front c.split_at.ensures.back c.in_ok-numbers.ensures c.ended.ensures in
-    value_read (λ (v : Vec ℕ Global). polynomial s v.items) c.ended.result _ c.in-Ok.numbers seen_all c.in-Ok.is
+    let seen_all = numbers_seen s c.args.at (c.from-count.result + 1) c.args.items.now c.split_at.result.0.now c.split_at.result.1.now c.in_ok-numbers.numbers c.refuse_more.result (ap (λ n. n + 1) c.from-count.ensures)
+    (omega (arith, c.if-items-count.false)) c.split_at.ensures.front c.split_at.ensures.back c.in_ok-numbers.ensures c.refuse_more.ensures in
+    value_read (λ (v : Vec ℕ Global). polynomial s v.items) c.refuse_more.result _ c.in-Ok.numbers seen_all c.in-Ok.is
 
 pub returns-in-Err-clause-value : goal.returns-in-Err-clause-value
 returns-in-Err-clause-value c =
     let s = c.args.symbol in
-    let seen_all = numbers_seen s c.args.at (c.from-count.result + 1) c.args.items.now c.split_at.result.0.now c.split_at.result.1.now c.in_ok-numbers.numbers c.ended.result (ap (λ n. n + 1) c.from-count.ensures)
-    (omega (arith, c.if-items-count.false)) c.split_at.ensures.front c.split_at.ensures.back c.in_ok-numbers.ensures c.ended.ensures in
-    place_read (λ (v : Vec ℕ Global). polynomial s v.items) c.ended.result _ c.in-Err.at seen_all c.in-Err.is
+    let seen_all = numbers_seen s c.args.at (c.from-count.result + 1) c.args.items.now c.split_at.result.0.now c.split_at.result.1.now c.in_ok-numbers.numbers c.refuse_more.result (ap (λ n. n + 1) c.from-count.ensures)
+    (omega (arith, c.if-items-count.false)) c.split_at.ensures.front c.split_at.ensures.back c.in_ok-numbers.ensures c.refuse_more.ensures in
+    place_read (λ (v : Vec ℕ Global). polynomial s v.items) c.refuse_more.result _ c.in-Err.at seen_all c.in-Err.is

@@ -25,5 +25,5 @@ returns-in_ok-kept-in-Ok-clause-entry c =
     let found = sym c.in-Ok.is ∙ c.in_ok-symbol.ensures.symbol ∙ ap (new_symbol known c.in-List.at) c.read_marked_symbol.ensures in
     let rank = first (path_entry_of s) (λ n. n) c.read_number-rank.result _ (as_it_is _ _ c.read_number-rank.ensures.value) in
     let parts = next _ plain_filter c.read_number-rank.result c.in_ok-kept-in-Ok.kept c.both.result _ _ rank c.in_ok-kept-in-Ok.ensures c.both.ensures in
-    c.path_entry_of.ensures.value ∙ last _ c.both.result c.ended.result _ _ parts c.ended.ensures
+    c.path_entry_of.ensures.value ∙ last _ c.both.result c.refuse_more.result _ _ parts c.refuse_more.ensures
     ∙ sym (entry_seen named 2 (λ t. form (rank_and_filter t) (path_entry_of t)) known _ _ _ _ c.in-List.at (Ok s) shape refl found)

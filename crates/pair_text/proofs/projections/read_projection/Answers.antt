@@ -38,5 +38,5 @@ returns-in-Ok-clause-entry c =
     let shape = list_seen c.args.item.now c.in-List.at c.in-List.members _ c.in-List.is members in
     let found = ap (new_symbol c.args.known.now c.in-List.at) (sym c.read_symbol.ensures.symbol) ∙ sym c.in_ok-symbol.ensures.symbol ∙ c.in-Ok.is in
     let argument = first (projected s) (λ n. n) c.read_argument_place-argument.result _ (as_it_is _ _ c.read_argument_place-argument.ensures) in
-    c.projection_of.ensures.value ∙ last (projected s) c.read_argument_place-argument.result c.ended.result _ _ argument c.ended.ensures
+    c.projection_of.ensures.value ∙ last (projected s) c.read_argument_place-argument.result c.refuse_more.result _ _ argument c.refuse_more.ensures
     ∙ sym (new_seen named c.args.known.now _ _ _ _ c.in-List.at s shape found)

@@ -21,7 +21,7 @@ add_definition-requires c =
     let head = first definition (λ x. x) c.keyword-head.result _ (as_it_is _ _ c.keyword-head.ensures) in
     let word = next _ (λ w. w.items) c.keyword-head.result c.in_ok-word.word c.both.result _ _ head c.in_ok-word.ensures c.both.ensures in
     let path = next _ (λ p. p) c.both.result c.in_ok-path.path c.both-2.result _ _ word (as_it_is _ _ c.in_ok-path.ensures.read) c.both-2.ensures in
-    let all = c.definition_of-definition.ensures ∙ last _ c.both-2.result c.ended.result _ _ path c.ended.ensures in
+    let all = c.definition_of-definition.ensures ∙ last _ c.both-2.result c.refuse_more.result _ _ path c.refuse_more.ensures in
     if_seen definition_seen _ c.definition_of-definition.result
     (read_is_new shared c.read_shared_path.new.shared _ (view c.word-item.result) _ _ c.in_ok-path.ensures.left _ all)
 
@@ -34,7 +34,7 @@ returns c =
     let head = first definition (λ x. x) c.keyword-head.result _ (as_it_is _ _ c.keyword-head.ensures) in
     let word = next _ (λ w. w.items) c.keyword-head.result c.in_ok-word.word c.both.result _ _ head c.in_ok-word.ensures c.both.ensures in
     let path = next _ (λ p. p) c.both.result c.in_ok-path.path c.both-2.result _ _ word (as_it_is _ _ c.in_ok-path.ensures.read) c.both-2.ensures in
-    let all = c.definition_of-definition.ensures ∙ last _ c.both-2.result c.ended.result _ _ path c.ended.ensures in
+    let all = c.definition_of-definition.ensures ∙ last _ c.both-2.result c.refuse_more.result _ _ path c.refuse_more.ensures in
     c.in_ok-added.ensures
     ∙ seen_twice (one_more_defined mid) definition_seen c.definition_of-definition.result
     ∙ read_is_added shared mid _ (view c.word-item.result) _ _ c.in_ok-path.ensures.left _ all

@@ -18,4 +18,4 @@ returns c =
     let head = first used (λ x. x) c.keyword-head.result _ (as_it_is _ _ c.keyword-head.ensures) in
     let place = next _ (λ x. x) c.keyword-head.result c.in_ok-position.position c.both.result _ _ head (as_it_is _ _ c.in_ok-position.ensures) c.both.ensures in
     let path = next _ (λ p. p.now) c.both.result c.read_defined_word-path.result c.both-2.result _ _ place c.read_defined_word-path.ensures c.both-2.ensures in
-    c.without_head.ensures ∙ last _ c.both-2.result c.ended.result _ _ path c.ended.ensures ∙ sym (ap (use_list c.args.definitions.now) shape)
+    c.without_head.ensures ∙ last _ c.both-2.result c.refuse_more.result _ _ path c.refuse_more.ensures ∙ sym (ap (use_list c.args.definitions.now) shape)

@@ -24,7 +24,7 @@ returns-clause-read c =
     let b = next _ (λ v. v.items) c.both.result c.in_ok-right_u.right_u c.both-first_half.result _ _ a c.in_ok-right_u.ensures.read c.both-first_half.ensures in
     let d = next _ (λ v. v.items) c.both-first_half.result c.in_ok-right_v.right_v c.both-2.result _ _ b c.in_ok-right_v.ensures.read c.both-2.ensures in
     let e = next _ (λ v. v.items) c.both-2.result c.in_ok-left_v.left_v c.both-3.result _ _ d c.in_ok-left_v.ensures.read c.both-3.ensures in
-    let all = c.four_of.ensures ∙ last _ c.both-3.result c.ended.result _ _ e c.ended.ensures in
+    let all = c.four_of.ensures ∙ last _ c.both-3.result c.refuse_more.result _ _ e c.refuse_more.ensures in
     all ∙ in_this_order c.args.sharing.now c.read_path.new.sharing c.read_path-2.new.sharing c.read_path-3.new.sharing c.args.head (view c.left_u-item.result) (view c.right_u-item.result) (view c.right_v-item.result) (view c.left_v-item.result) _ to2 to3 to4 c.args.at ∙ sym (ap (paths_behind_pair c.args.sharing.now c.args.at (Ok four_paths <*> c.args.head)) members)
 
 pub returns-clause-left : goal.returns-clause-left
@@ -34,6 +34,6 @@ returns-clause-left c =
     let b = next _ (λ v. v.items) c.both.result c.in_ok-right_u.right_u c.both-first_half.result _ _ a c.in_ok-right_u.ensures.read c.both-first_half.ensures in
     let d = next _ (λ v. v.items) c.both-first_half.result c.in_ok-right_v.right_v c.both-2.result _ _ b c.in_ok-right_v.ensures.read c.both-2.ensures in
     let e = next _ (λ v. v.items) c.both-2.result c.in_ok-left_v.left_v c.both-3.result _ _ d c.in_ok-left_v.ensures.read c.both-3.ensures in
-    let all = c.four_of.ensures ∙ last _ c.both-3.result c.ended.result _ _ e c.ended.ensures in
+    let all = c.four_of.ensures ∙ last _ c.both-3.result c.refuse_more.result _ _ e c.refuse_more.ensures in
     if_read (λ f. f) _ c.four_of.result _ (as_it_is _ _ all)
     (λ f is. four_left c.args.sharing.now c.read_path.new.sharing c.read_path-2.new.sharing c.read_path-3.new.sharing c.read_path-4.new.sharing _ _ _ _ _ _ f c.in_ok-left_u.ensures.left c.in_ok-right_u.ensures.left c.in_ok-right_v.ensures.left c.in_ok-left_v.ensures.left is)

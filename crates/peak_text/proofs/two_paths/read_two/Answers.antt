@@ -24,12 +24,12 @@ returns-clause-read c =
     let left = next _ (λ v. v.items) c.keyword-head.result c.in_ok-left.left c.both.result _ _ head c.in_ok-left.ensures.read c.both.ensures in
     let second = c.in_ok-right.ensures.read ∙ ap (λ s. path s (view c.right-item.result)) c.in_ok-left.ensures.left in
     let right = next _ (λ v. v.items) c.both.result c.in_ok-right.right c.both-2.result _ _ left second c.both-2.ensures in
-    c.join_of.ensures ∙ last _ c.both-2.result c.ended.result _ _ right c.ended.ensures ∙ sym (ap (two_behind c.args.word.now c.args.sharing.now) shape)
+    c.join_of.ensures ∙ last _ c.both-2.result c.refuse_more.result _ _ right c.refuse_more.ensures ∙ sym (ap (two_behind c.args.word.now c.args.sharing.now) shape)
 
 pub returns-clause-left : goal.returns-clause-left
 returns-clause-left c =
     let head = first two_paths (λ x. x) c.keyword-head.result _ (as_it_is _ _ c.keyword-head.ensures) in
     let left = next _ (λ v. v.items) c.keyword-head.result c.in_ok-left.left c.both.result _ _ head c.in_ok-left.ensures.read c.both.ensures in
     let right = next _ (λ v. v.items) c.both.result c.in_ok-right.right c.both-2.result _ _ left c.in_ok-right.ensures.read c.both-2.ensures in
-    let all = c.join_of.ensures ∙ last _ c.both-2.result c.ended.result _ _ right c.ended.ensures in
+    let all = c.join_of.ensures ∙ last _ c.both-2.result c.refuse_more.result _ _ right c.refuse_more.ensures in
     if_read (λ j. j) _ c.join_of.result _ (as_it_is _ _ all) (λ j e. two_left c.args.sharing.now c.read_path.new.sharing c.read_path-2.new.sharing _ _ _ _ j c.in_ok-left.ensures.left c.in_ok-right.ensures.left e)

@@ -22,13 +22,13 @@ returns-then-has_big_coefficient g c = inr (c.has_big_coefficient.ensures.0 c.if
 pub returns-then-left-right : goal.returns-then-left-right
 returns-then-left-right g c =
     let small = none g (goal.at.returns-then-left-right g c).Else-has_big_coefficient in
-    (small, lower (g.T.Coefficients.coefficient c.args.table.now) (tree c.args.a.now) (tree c.args.b.now) small c.args.profile.now.constant c.saturated-right.result c.requires.constant c.saturated-right.ensures c.if-left-right.true)
+    (small, lower (g.T.Coefficients.coefficient c.args.table.now) (tree c.args.a.now) (tree c.args.b.now) small c.args.profile.now.constant c.saturated_value-right.result c.requires.constant c.saturated_value-right.ensures c.if-left-right.true)
 
 pub returns-then-not-covers_known : goal.returns-then-not-covers_known
 returns-then-not-covers_known g c =
     let small = none g (goal.at.returns-then-not-covers_known g c).Else-has_big_coefficient in (
       small,
-      uncovered (g.T.Coefficients.coefficient c.args.table.now) (tree c.args.a.now) (tree c.args.b.now) small c.args.profile.now.constant c.saturated-right.result c.requires.constant c.saturated-right.ensures
+      uncovered (g.T.Coefficients.coefficient c.args.table.now) (tree c.args.a.now) (tree c.args.b.now) small c.args.profile.now.constant c.saturated_value-right.result c.requires.constant c.saturated_value-right.ensures
           c.covers_known.result c.covers_known.ensures c.if-left-right.false c.if-not-covers_known.true,
     )
 
@@ -36,7 +36,7 @@ pub returns-then-left-right-2 : goal.returns-then-left-right-2
 returns-then-left-right-2 g c =
     let small = none g (goal.at.returns-then-left-right-2 g c).Else-has_big_coefficient in (
       small,
-      only_weak (g.T.Coefficients.coefficient c.args.table.now) (tree c.args.a.now) (tree c.args.b.now) small c.args.profile.now.constant c.saturated-right.result c.requires.constant c.saturated-right.ensures
+      only_weak (g.T.Coefficients.coefficient c.args.table.now) (tree c.args.a.now) (tree c.args.b.now) small c.args.profile.now.constant c.saturated_value-right.result c.requires.constant c.saturated_value-right.ensures
           c.covers_known.result c.covers_known.ensures c.if-left-right-2.true c.if-not-covers_known.false,
     )
 
@@ -44,6 +44,6 @@ pub returns : goal.returns
 returns g c =
     let small = none g (goal.at.returns g c).Else-has_big_coefficient in (
       small,
-      even_strict (g.T.Coefficients.coefficient c.args.table.now) (tree c.args.a.now) (tree c.args.b.now) small c.args.profile.now.constant c.saturated-right.result c.requires.constant c.saturated-right.ensures
+      even_strict (g.T.Coefficients.coefficient c.args.table.now) (tree c.args.a.now) (tree c.args.b.now) small c.args.profile.now.constant c.saturated_value-right.result c.requires.constant c.saturated_value-right.ensures
           c.covers_known.result c.covers_known.ensures (omega (arith, c.if-left-right.false, c.if-left-right-2.false)) c.if-not-covers_known.false,
     )

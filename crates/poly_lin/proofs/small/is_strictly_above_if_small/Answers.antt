@@ -5,10 +5,10 @@ use Rattle.poly_lin.proofs.small.is_strictly_above_if_small.Goals as goal
 
 pub returns-then-left-right : goal.returns-then-left-right
 returns-then-left-right g c = λ none_big.
-    not_strict (g.T.Coefficients.coefficient c.args.table.now) (tree c.args.a.now) (tree c.args.b.now) none_big c.saturated-left.result c.saturated-right.result
-    c.saturated-left.ensures c.saturated-right.ensures _ refl c.if-left-right.true
+    not_strict (g.T.Coefficients.coefficient c.args.table.now) (tree c.args.a.now) (tree c.args.b.now) none_big c.saturated_value-left.result c.saturated_value-right.result
+    c.saturated_value-left.ensures c.saturated_value-right.ensures _ refl c.if-left-right.true
 
 pub returns : goal.returns
 returns g c = λ none_big.
-    strict_if (g.T.Coefficients.coefficient c.args.table.now) (tree c.args.a.now) (tree c.args.b.now) none_big c.saturated-left.result c.saturated-right.result
-    c.saturated-left.ensures c.saturated-right.ensures c.covers.result c.covers.ensures c.if-left-right.false
+    strict_if (g.T.Coefficients.coefficient c.args.table.now) (tree c.args.a.now) (tree c.args.b.now) none_big c.saturated_value-left.result c.saturated_value-right.result
+    c.saturated_value-left.ensures c.saturated_value-right.ensures c.covers.result c.covers.ensures c.if-left-right.false

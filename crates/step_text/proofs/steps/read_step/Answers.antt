@@ -24,14 +24,14 @@ returns-clause-read c =
     let head = first node_step (λ x. x) c.keyword-head.result _ (as_it_is _ _ c.keyword-head.ensures) in
     let node = next _ (λ x. x) c.keyword-head.result c.read_number-node.result c.both.result _ _ head (as_it_is _ _ c.read_number-node.ensures.value) c.both.ensures in
     let method = next _ step_of c.both.result c.in_ok-method.method c.both-2.result _ _ node c.in_ok-method.ensures.read c.both-2.ensures in
-    c.node_step.ensures ∙ last _ c.both-2.result c.ended.result _ _ method c.ended.ensures ∙ sym (ap (step c.args.system.now c.args.sharing.now) shape)
+    c.node_step.ensures ∙ last _ c.both-2.result c.refuse_more.result _ _ method c.refuse_more.ensures ∙ sym (ap (step c.args.system.now c.args.sharing.now) shape)
 
 pub returns-clause-left : goal.returns-clause-left
 returns-clause-left c =
     let head = first node_step (λ x. x) c.keyword-head.result _ (as_it_is _ _ c.keyword-head.ensures) in
     let node = next _ (λ x. x) c.keyword-head.result c.read_number-node.result c.both.result _ _ head (as_it_is _ _ c.read_number-node.ensures.value) c.both.ensures in
     let method = next _ step_of c.both.result c.in_ok-method.method c.both-2.result _ _ node c.in_ok-method.ensures.read c.both-2.ensures in
-    let all = c.node_step.ensures ∙ last _ c.both-2.result c.ended.result _ _ method c.ended.ensures in
+    let all = c.node_step.ensures ∙ last _ c.both-2.result c.refuse_more.result _ _ method c.refuse_more.ensures in
     if_read node_step_of _ c.node_step.result _ all
     (λ v e. step_left c.args.sharing.now c.read_method.new.sharing _ _ _ _ v
     (left_by_method c.args.sharing.now c.read_method.new.sharing c.in_ok-method.method _ c.in_ok-method.ensures.read c.in_ok-method.ensures.left) e)

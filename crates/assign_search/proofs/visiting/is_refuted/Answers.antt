@@ -1,6 +1,6 @@
 use Rattle.std.proofs.Common.{arith, sym, ◌∙◌}
 use Rattle.assign_search.proofs.Reaching.{covers_group, group_true, group_false}
-use Rattle.assign_search.proofs.visiting.refuted.Goals as goal
+use Rattle.assign_search.proofs.visiting.is_refuted.Goals as goal
 
 pub holds-requires-clause-covers : goal.holds-requires-clause-covers
 holds-requires-clause-covers g c =

@@ -4,7 +4,7 @@ use Rattle.trs_core.proofs.Lookups.{copied_item}
 use Rattle.order_search.specs.Slots.{table_of}
 use Rattle.order_find.specs.SubtermSpace.{subterm_slots}
 use Rattle.order_find.proofs.Arguments.{argument_value}
-use Rattle.order_find.proofs.subterm_space.SubtermSpace.projected.Goals as goal
+use Rattle.order_find.proofs.subterm_space.SubtermSpace.project.Goals as goal
 
 pub returns : goal.returns
 returns c =

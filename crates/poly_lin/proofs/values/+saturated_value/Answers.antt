@@ -6,8 +6,8 @@ use Rattle.trs_defs.proofs.EqualTerms.{app_root}
 use Rattle.trs_core.specs.View.{tree, forest}
 use Rattle.pair_order.proofs.Opening.{application}
 use Rattle.poly_lin.proofs.Saturation.{Partly, begun, passed, added, ended}
-use Rattle.poly_lin.proofs.values.+saturated.Goals.{After-arg-item}
-use Rattle.poly_lin.proofs.values.+saturated.Goals as goal
+use Rattle.poly_lin.proofs.values.+saturated_value.Goals.{After-arg-item}
+use Rattle.poly_lin.proofs.values.+saturated_value.Goals as goal
 
 left : (g : _) (t : _) (c : After-arg-item g t)
     → Partly (g.T.Coefficients.coefficient c.args.table.now) (λ x. c.args.each) c.in-App.f (forest c.deref-arg-items.result.now)
@@ -39,7 +39,7 @@ loop-i-preserved g t c = λ f is.
     subst (λ root. Partly (g.T.Coefficients.coefficient c.args.table.now) (λ x. c.args.each) root (forest items) (forest (drop (c.loop-i.i + 1) items)) (c.loop-i.i + 1 + 1) c.plus_saturated-sum.result) same
     (added (g.T.Coefficients.coefficient c.args.table.now) (λ x. c.args.each) c.in-App.f (forest items) (tree c.arg-item.result) (forest (drop (c.loop-i.i + 1) items)) (c.loop-i.i + 1) c.loop-i.sum
     c.at-factor.result (c.at-factor.ensures ∙ c.row-row.ensures (c.loop-i.i + 1)) (left g t (goal.at.loop-i-preserved g t c).After-arg-item)
-    c.saturated.result c.plus_saturated-sum.result c.saturated.ensures c.plus_saturated-sum.ensures)
+    c.saturated_value.result c.plus_saturated-sum.result c.saturated_value.ensures c.plus_saturated-sum.ensures)
 
 pub returns-after-loop-i : goal.returns-after-loop-i
 returns-after-loop-i g t c =

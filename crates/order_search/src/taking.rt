@@ -7,7 +7,7 @@ use std::alloc::Global;
 use trs_core::OutOfMemory;
 
 /// The pairs of these numbers, in order.
-pub fn taken<'a>(
+pub fn take_pairs<'a>(
     alloc: Global,
     pairs: &[Sides<'a>],
     problem: &[u32],
@@ -18,22 +18,22 @@ pub fn taken<'a>(
     let mut taken = Vec::with_capacity(alloc, problem.len())?;
     for n in problem {
         let sides = &pairs[*n as usize];
-        taken.push(lent(sides))?;
+        taken.push(lend(sides))?;
     }
     Ok(taken)
 }
 
 /// The same pair.
-fn lent<'a>(sides: &Sides<'a>) -> Sides<'a>
+fn lend<'a>(sides: &Sides<'a>) -> Sides<'a>
     ensures { result ≡ sides.now }
 {
     Sides {
-        from: lent_side(&sides.from),
-        to: lent_side(&sides.to),
+        from: lend_side(&sides.from),
+        to: lend_side(&sides.to),
     }
 }
 
-fn lent_side<'a>(side: &Side<'a>) -> Side<'a>
+fn lend_side<'a>(side: &Side<'a>) -> Side<'a>
     ensures { result ≡ side.now }
 {
     Side {

@@ -2,7 +2,7 @@ use Rattle.std.proofs.Common.{◌≡◌, ℕ, drop, ◌+◌}
 use Rattle.trs_defs.specs.Tree.{app}
 use Rattle.trs_core.specs.View.{tree, forest}
 use Rattle.poly_lin.proofs.Saturation.{Partly}
-use Rattle.poly_lin.proofs.values.+saturated.Given as goal
+use Rattle.poly_lin.proofs.values.+saturated_value.Given as goal
 
 abbrev pub invariant-loop-i : goal.invariant-loop-i
 invariant-loop-i g l =

@@ -2,7 +2,7 @@ use Rattle.std.proofs.Common.{ap, sym}
 use Rattle.trs_defs.specs.Tree.{trees}
 use Rattle.trs_core.proofs.Lookups.{copied_item}
 use Rattle.dp_core.proofs.Projecting.{projected_to}
-use Rattle.dp_core.proofs.projections.projected.Goals as goal
+use Rattle.dp_core.proofs.projections.project.Goals as goal
 
 pub returns : goal.returns
 returns c =
