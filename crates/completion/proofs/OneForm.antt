@@ -1,5 +1,5 @@
 -- A term has one first redex, and within so many units one normal form, or one reason that it was not reached.
-use Rattle.std.proofs.Common.{◌≡◌, ◌<◌, ◌≤◌, ℕ, ◌+◌, ◌⊎◌, inl, inr, refl, sym, ap, subst, arith, ◌∙◌, List, [], ◌∷◌, Bool, true, false, Result, IsTrue}
+use Rattle.std.proofs.Common.{◌≡◌, ◌<◌, ◌≤◌, ℕ, ◌+◌, ◌⊎◌, inl, inr, refl, sym, ap, subst, arith, ◌∙◌, [], Bool, true, false, Result, IsTrue}
 use Rattle.std.proofs.Math.Decide.{dec_le}
 use Rattle.trs_defs.specs.Tree.{Tree}
 use Rattle.trs_defs.specs.Size.{within_limits}
@@ -8,31 +8,12 @@ use Rattle.trs_defs.specs.Path.{PlacedRule, StepsAt}
 use Rattle.trs_defs.specs.Step.{Step}
 use Rattle.trs_defs.specs.NormalForm.{IsNormalForm}
 use Rattle.trs_defs.proofs.Places.{step_of_place, steps_at_once}
-use Rattle.term_pool.specs.Redexes.{IsEarlier, ComesBefore}
+use Rattle.term_pool.specs.Redexes.{ComesBefore}
 use Rattle.term_pool.specs.Steps.{IsTooLarge}
 use Rattle.term_pool.proofs.ListingLaws.{step_there}
+use Rattle.term_pool.proofs.ReachOnce.{before_both_ways}
 use Rattle.completion.specs.declared.unfinished.Unfinished.{Unfinished}
 use Rattle.completion.specs.Normalizing.{IsFirstRedex, Leads, at_once, by_first, Normalizes, to_normal_form, to_no_unit, to_too_large}
-
-not_itself : (p : List ℕ) → IsEarlier p p → ⊥
-not_itself [] h = h
-not_itself (m ∷ p) (inl less) = absurd (omega (arith, less))
-not_itself (m ∷ p) (inr (same, rest)) = not_itself p rest
-
-not_both_ways : (p q : List ℕ) → IsEarlier p q → IsEarlier q p → ⊥
-not_both_ways [] [] h k = h
-not_both_ways [] (n ∷ q) h k = k
-not_both_ways (m ∷ p) [] h k = h
-not_both_ways (m ∷ p) (n ∷ q) (inl less) (inl more) = absurd (omega (arith, less, more))
-not_both_ways (m ∷ p) (n ∷ q) (inl less) (inr (same, rest)) = absurd (omega (arith, less, same))
-not_both_ways (m ∷ p) (n ∷ q) (inr (same, rest)) (inl more) = absurd (omega (arith, more, same))
-not_both_ways (m ∷ p) (n ∷ q) (inr (same, rest)) (inr (again, back)) = not_both_ways p q rest back
-
-before_one_way : (s u : PlacedRule) → ComesBefore s u → ComesBefore u s → ⊥
-before_one_way s u (inl h) (inl k) = not_both_ways s.place u.place h k
-before_one_way s u (inl h) (inr (same, less)) = not_itself s.place (subst (λ (p : List ℕ). IsEarlier s.place p) same h)
-before_one_way s u (inr (same, less)) (inl k) = not_itself u.place (subst (λ (p : List ℕ). IsEarlier u.place p) same k)
-before_one_way s u (inr (same, less)) (inr (again, more)) = absurd (omega (arith, less, more))
 
 contrary : (b : Bool) → IsTrue b → b ≡ false → ⊥
 contrary true h e = absurd cc
@@ -45,7 +26,7 @@ module _ (system : System) (valid : IsSystem system) where
       meet : (s ≡ u) ⊎ ComesBefore s u → (u ≡ s) ⊎ ComesBefore u s → s ≡ u
       meet (inl e) k = e
       meet (inr h) (inl e) = sym e
-      meet (inr h) (inr k) = absurd (before_one_way s u h k)
+      meet (inr h) (inr k) = absurd (before_both_ways s u h k)
 
   first_step_once : (t u v : Tree) (s r : PlacedRule) → IsFirstRedex system.rules t s → StepsAt system.rules s.place s.rule t u
       → IsFirstRedex system.rules t r → StepsAt system.rules r.place r.rule t v → u ≡ v

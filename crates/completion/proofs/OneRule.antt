@@ -11,7 +11,7 @@ use Rattle.trs_defs.proofs.Members.{in_or, no_in}
 use Rattle.trs_defs.proofs.Substitutions.{apply_apply}
 use Rattle.trs_unify.proofs.ListedVariables.{listed_get, nothing_new}
 use Rattle.crit_pairs.specs.PeakList.{IsCount}
-use Rattle.crit_pairs.proofs.Bindings.{unchanged}
+use Rattle.trs_defs.proofs.NamedTerms.{unchanged}
 use Rattle.crit_pairs.proofs.Variants.{Paired, Swaps, pair, paired_equal, numbered_alike, among_variables}
 use Rattle.completion.specs.ReductionOrder.{GoesDown, IsReductionOrder}
 use Rattle.completion.specs.Orienting.{AreVariants, IsNewRule, IsOriented}

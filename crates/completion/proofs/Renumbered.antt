@@ -1,17 +1,17 @@
 -- Two terms renumbered one after another are variants of the two, and their variables are numbered in order.
-use Rattle.std.proofs.Common.{◌≡◌, ◌<◌, ◌≤◌, ℕ, ◌+◌, zero, suc, refl, sym, ap, subst, arith, ◌∙◌, inl, inr, List, [], ◌∷◌, ◌++◌, length, Some, IsTrue, slice_get, length-append}
+use Rattle.std.proofs.Common.{◌≡◌, ◌<◌, ◌≤◌, ℕ, ◌+◌, zero, suc, refl, sym, ap, subst, arith, ◌∙◌, List, [], ◌∷◌, ◌++◌, length, Some, IsTrue, slice_get, length-append}
 use Rattle.std.proofs.Math.Decide.{ℕ_discrete}
 use Rattle.std.proofs.lemmas.Option.{slice_get-get_or, same_Some}
 use Rattle.trs_defs.specs.Tree.{Tree, var}
 use Rattle.trs_defs.specs.Variable.{has_var, variables_of, with_variables}
 use Rattle.trs_defs.specs.Substitution.{apply}
 use Rattle.trs_defs.proofs.Substitutions.{apply_apply, same_instance}
-use Rattle.term_pool.proofs.PoolTrees.{item_of_more}
-use Rattle.trs_unify.specs.Renamed.{old_name, first_numbers, IsRenamed}
-use Rattle.trs_unify.proofs.NewNames.{length_first, renamed_still}
+use Rattle.trs_unify.specs.Renamed.{old_name, IsRenamed}
+use Rattle.trs_unify.proofs.NewNames.{renamed_still}
 use Rattle.crit_pairs.specs.PeakList.{IsCount}
 use Rattle.crit_pairs.specs.Sides.{IsDistinct}
-use Rattle.crit_pairs.proofs.Bindings.{unchanged}
+use Rattle.crit_pairs.proofs.Renumbering.{first_count}
+use Rattle.trs_defs.proofs.NamedTerms.{unchanged}
 use Rattle.completion.specs.Orienting.{AreVariants}
 
 -- the place of a name
@@ -40,13 +40,6 @@ index_of (x ∷ xs) distinct zero v e = at_first (ℕ_discrete x v) (index xs v)
 index_of (x ∷ xs) distinct (suc i) v e =
     let other : x ≡ v → ⊥ = λ same. (let clash : zero ≡ suc i = distinct zero (suc i) v (ap (λ z. Some z) same) e in absurd (omega (arith, clash))) in
     at_later (ℕ_discrete x v) (index xs v) other ∙ ap suc (index_of xs (later_distinct x xs distinct) i v e)
-
-first_count : (n : ℕ) → IsCount 0 (first_numbers n)
-first_count zero i v e = absurd cc
-first_count (suc n) i v e = elim (item_of_more (first_numbers n) n v i e) as (λ _. v ≡ 0 + i) [
-  | inl h ↦ first_count n i v h
-  | inr h ↦ omega (arith, h.0, h.1, length_first n)
-]
 
 module _ (first second : List ℕ) (s t l r : Tree) (left : IsRenamed [] first s l) (right : IsRenamed first second t r) (distinct : IsDistinct second) where
   longer : length first ≤ length second

@@ -7,7 +7,7 @@ use Rattle.trs_defs.specs.Member.{In, in_first, in_rest}
 use Rattle.trs_defs.specs.System.{RewriteRule, System, IsRule, IsSystem}
 use Rattle.trs_defs.specs.Step.{Step, here}
 use Rattle.pair_theory.proofs.Systems.{rule_among}
-use Rattle.crit_pairs.proofs.Bindings.{unchanged}
+use Rattle.trs_defs.proofs.NamedTerms.{unchanged}
 use Rattle.trs_defs.specs.Run.{Run}
 use Rattle.trs_defs.specs.Joinable.{IsJoinable}
 use Rattle.trs_defs.specs.Claims.{IsTerminating}

@@ -18,7 +18,7 @@ use Rattle.completion.specs.ReductionOrder.{GoesDown, IsReductionOrder}
 use Rattle.completion.specs.Normalizing.{Leads, at_once, by_first, Normalizes, to_normal_form}
 use Rattle.completion.specs.Orienting.{AreVariants, IsNewRule, IsOriented}
 use Rattle.completion.proofs.Conversions.{converted_apply, converted_run, conversions_convert, more_converted}
-use Rattle.crit_pairs.proofs.WellFormedTops.{well_formed_image}
+use Rattle.trs_defs.proofs.WellFormedInstances.{well_formed_image}
 
 -- both sides are well-formed, and the equations convert them
 pub record IsSoundPair (equations : System) (pair : RewriteRule) : Type 0 where

@@ -1,25 +1,21 @@
 -- A step that applies does so with the variables of its terms numbered anew.
-use Rattle.std.specs.Prelude.{◌≡◌, ℕ, List, [], ◌∷◌, Some, Ok, IsTrue, refl}
+use Rattle.std.specs.Prelude.{ℕ, List, [], ◌∷◌, Some, Ok, IsTrue}
 use Rattle.std.proofs.Common.{ap, sym, ◌∙◌, subst}
 use Rattle.trs_defs.specs.Tree.{Tree, var}
 use Rattle.trs_defs.specs.Variable.{variables_of}
-use Rattle.trs_defs.specs.Size.{within_limits}
 use Rattle.trs_defs.specs.Substitution.{apply, IsInstance}
-use Rattle.trs_defs.specs.Position.{subterm_at, replaced_at}
-use Rattle.trs_defs.specs.System.{RewriteRule, System}
+use Rattle.trs_defs.specs.Position.{replaced_at}
+use Rattle.trs_defs.specs.System.{RewriteRule}
 use Rattle.trs_defs.specs.Path.{PlacedRule, StepsAt, Follows}
 use Rattle.trs_defs.proofs.Substitutions.{apply_apply, same_instance}
-use Rattle.rewrite_core.specs.Check.{Then, stops, goes_on, holds, there, absent}
-use Rattle.rewrite_core.specs.PathCheck.{Runs, followed}
+use Rattle.rewrite_core.specs.Check.{goes_on, holds, there, absent}
+use Rattle.rewrite_core.specs.PathCheck.{followed}
 use Rattle.rewrite_core.specs.LoopConditions.{loop_conditions}
-use Rattle.cert_text.proofs.crit_pairs.InstancePlaces.{subterm_image, replaced_image}
-use Rattle.cert_text.specs.cert_step.ProofProblem.{ProofProblem}
+use Rattle.trs_defs.proofs.InstancePlaces.{subterm_image, replaced_image}
 use Rattle.cert_text.specs.cert_step.ProofStep as step
-use Rattle.cert_text.specs.cert_step.ProofStep.{ProofStep}
 use Rattle.cert_text.specs.cert_step.Applies.{Applies}
-use Rattle.cert_text.specs.step_text.Steps.{method_text}
 use Rattle.term_text.specs.Renumbered.{number_among, in_order}
-use Rattle.conclusion.specs.InOrder.{StartsInOrder, StepsApplyInOrder}
+use Rattle.conclusion.specs.InOrder.{StepsApplyInOrder}
 use Rattle.conclusion.proofs.Renaming.{renamed, with_numbers_renamed, renamed_within, numbered, numbered_again, in_order_already}
 
 module _ (rules : List RewriteRule) (r : ℕ → ℕ) where

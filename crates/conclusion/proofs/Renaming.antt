@@ -1,14 +1,16 @@
 -- Terms whose variables are numbered in the order of their first occurrences are instances, and each of these variables is
 -- found again.
-use Rattle.std.specs.Prelude.{◌≡◌, ℕ, ◌+◌, Bool, true, false, ◌&&◌, ◌==◌, max, nat_le, List, [], ◌∷◌, Some, None, IsTrue, slice_get, unwrap_or, refl}
-use Rattle.std.proofs.Common.{zero, suc, ap, ap₂, sym, ◌∙◌, subst, arith, if◌then◌else◌}
+use Rattle.std.specs.Prelude.{◌≡◌, ℕ, Bool, true, false, ◌&&◌, ◌==◌, nat_le, List, [], ◌∷◌, Some, IsTrue, slice_get, unwrap_or, refl}
+use Rattle.std.proofs.Common.{zero, suc, ap, ap₂, ◌∙◌, arith, if◌then◌else◌}
 use Rattle.std.proofs.lemmas.Bool.Decides.{nat_tests}
 use Rattle.std.proofs.lemmas.Option.{same_Some}
+use Rattle.std.proofs.lemmas.Bool.{eqb-true}
 use Rattle.trs_defs.specs.Tree.{Tree, Trees, var, app, nil, cons}
 use Rattle.trs_defs.specs.Variable.{has_var, variables_of}
-use Rattle.trs_defs.specs.Size.{size_of, size_of_all, depth_of, depth_of_all, within_limits}
+use Rattle.trs_defs.specs.Size.{within_limits}
 use Rattle.trs_defs.specs.Substitution.{apply, apply_all}
 use Rattle.trs_defs.proofs.Substitutions.{same_instance}
+use Rattle.trs_defs.proofs.NamedTerms.{size_named, depth_named, unchanged}
 use Rattle.cert_text.proofs.crit_pairs.Variants.{among_variables}
 use Rattle.cert_text.specs.crit_pairs.PeakList.{IsCount}
 use Rattle.term_text.specs.Renumbered.{number_among, with_numbers, all_with_numbers, in_order}
@@ -28,35 +30,14 @@ mutual
 
 -- ---- size and depth stay
 
-mutual
-  pub renamed_size : (r : ℕ → ℕ) (t : Tree) → size_of (renamed r t) ≡ size_of t
-  renamed_size r (var v) = refl
-  renamed_size r (app f ts) = ap (λ n. 1 + n) (renamed_sizes r ts)
-
-  renamed_sizes : (r : ℕ → ℕ) (ts : Trees) → size_of_all (apply_all (λ v. var (r v)) ts) ≡ size_of_all ts
-  renamed_sizes r nil = refl
-  renamed_sizes r (cons t ts) = ap₂ (λ m n. m + n) (renamed_size r t) (renamed_sizes r ts)
-
-mutual
-  pub renamed_depth : (r : ℕ → ℕ) (t : Tree) → depth_of (renamed r t) ≡ depth_of t
-  renamed_depth r (var v) = refl
-  renamed_depth r (app f ts) = ap (λ n. 1 + n) (renamed_depths r ts)
-
-  renamed_depths : (r : ℕ → ℕ) (ts : Trees) → depth_of_all (apply_all (λ v. var (r v)) ts) ≡ depth_of_all ts
-  renamed_depths r nil = refl
-  renamed_depths r (cons t ts) = ap₂ max (renamed_depth r t) (renamed_depths r ts)
-
 pub renamed_within : (r : ℕ → ℕ) (t : Tree) → within_limits (renamed r t) ≡ within_limits t
-renamed_within r t = ap₂ (λ m n. nat_le m 65536 && nat_le n 1024) (renamed_size r t) (renamed_depth r t)
+renamed_within r t = ap₂ (λ m n. nat_le m 65536 && nat_le n 1024) (size_named r t) (depth_named r t)
 
 -- ---- the number of a variable
 
-same_number : (m n : ℕ) → (m == n) ≡ true → m ≡ n
-same_number m n h = grind (arith, nat_tests)
-
 found_case : (ns : List ℕ) (n v i : ℕ) → slice_get (n ∷ ns) i ≡ Some v → ((j : ℕ) → slice_get ns j ≡ Some v → slice_get ns (number_among ns v) ≡ Some v)
     → (b : Bool) → (n == v) ≡ b → slice_get (n ∷ ns) (if b then 0 else suc (number_among ns v)) ≡ Some v
-found_case ns n v i e later true h = ap (λ k. Some k) (same_number n v h)
+found_case ns n v i e later true h = ap (λ k. Some k) (eqb-true n v h)
 found_case ns n v zero e later false h =
     let same : n ≡ v = same_Some n v e in
     absurd (grind (arith, nat_tests))
@@ -74,15 +55,6 @@ pub numbered_again : (t : Tree) (v : ℕ) → IsTrue (has_var v t) → numbered 
 numbered_again t v h =
     let at = among_variables v t h in
     ap (λ o. unwrap_or o 0) (number_found (variables_of t) v at.0 at.1)
-
-mutual
-  unchanged : (t : Tree) → apply (λ v. var v) t ≡ t
-  unchanged (var v) = refl
-  unchanged (app f ts) = ap (app f) (all_unchanged ts)
-
-  all_unchanged : (ts : Trees) → apply_all (λ v. var v) ts ≡ ts
-  all_unchanged nil = refl
-  all_unchanged (cons t ts) = cc (unchanged t, all_unchanged ts)
 
 -- a term whose variables are numbered so is as it is numbered
 pub in_order_already : (t : Tree) → IsCount 0 (variables_of t) → in_order t ≡ t

@@ -4,15 +4,17 @@ use Rattle.std.proofs.Common.{◌≡◌, ◌↔◌, ℕ, ◌+◌, ◌<◌, ◌�
 use Rattle.std.proofs.lemmas.Option.{same_Some, slice_get_within, get_or_from_slice_get}
 use Rattle.std.proofs.lemmas.List.{drop_all}
 use Rattle.std.proofs.lemmas.Bool.{eqb-true, eq-eqb}
-use Rattle.trs_defs.specs.Tree.{Tree, Trees, var, app, nil, cons, count}
+use Rattle.trs_defs.specs.Tree.{Tree, Trees, var, app, cons, count}
 use Rattle.trs_defs.specs.Variable.{some_has_var}
 use Rattle.trs_defs.specs.Substitution.{apply, apply_all}
 use Rattle.trs_defs.proofs.VariableLaws.{has_var_cons}
 use Rattle.trs_defs.specs.Unifier.{IsMostGeneralUnifier}
 use Rattle.trs_defs.proofs.Substitutions.{same_instance}
 use Rattle.trs_defs.proofs.ArgumentLists.{cell, count_apply_all}
+use Rattle.trs_defs.proofs.NamedTerms.{unchanged}
 use Rattle.trs_core.specs.declared.terms.Term.{Term}
 use Rattle.trs_core.specs.View.{tree, forest}
+use Rattle.trs_core.proofs.Comparing.{count_forest}
 use Rattle.crit_pairs.specs.Sides.{DoNotMeet}
 use Rattle.crit_pairs.specs.declared.meeting.Binding.{Binding}
 use Rattle.crit_pairs.specs.Meeting.{bound_term, solution, Solves, IsFree}
@@ -85,15 +87,6 @@ unless_bound (Some t) v θ h = h t refl
 general : (bs : List Binding) (θ : ℕ → Tree) → Solves bs θ → (v : ℕ) → θ v ≡ apply θ (solution bs v)
 general bs θ h v = unless_bound (bound_term bs v) v θ (λ t e. h.solves v t e)
 
-mutual
-  pub unchanged : (t : Tree) → apply (λ v. var v) t ≡ t
-  unchanged (var v) = refl
-  unchanged (app f ts) = ap (app f) (all_unchanged ts)
-
-  all_unchanged : (ts : Trees) → apply_all (λ v. var v) ts ≡ ts
-  all_unchanged nil = refl
-  all_unchanged (cons t ts) = cc (unchanged t, all_unchanged ts)
-
 bound_at : (bs : List Binding) (v : ℕ) (t : Tree) → bound_term bs v ≡ Some t → (k : ℕ) × (b : Binding) × (slice_get bs k ≡ Some b) × (tree b.term.now ≡ t)
 bound_at [] v t e = absurd cc
 bound_at (a ∷ bs) v t e = elim (first_or (a.variable == v) (tree a.term.now) t t (bound_term bs v) e) [
@@ -132,10 +125,6 @@ clash old f g fs gs t u is_t is_u ne θ s e =
     let same : f ≡ g = cc (whole) in
     ne same (same_length fs gs (ap count args))
   where
-    count_forest : (ts : List Term) → count (forest ts) ≡ length ts
-    count_forest [] = refl
-    count_forest (t ∷ ts) = omega (arith, count_forest ts)
-
     same_length : (fs gs : List Term) → count (apply_all θ (forest fs)) ≡ count (apply_all θ (forest gs)) → length fs ≡ length gs
     same_length fs gs k = omega (arith, k, count_apply_all θ (forest fs), count_apply_all θ (forest gs), count_forest fs, count_forest gs)
 

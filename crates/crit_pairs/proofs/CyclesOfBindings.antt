@@ -1,9 +1,9 @@
 -- Bindings that lead from a variable back to it.
-use Rattle.std.proofs.Common.{◌≡◌, ◌==◌, ◌<◌, ◌≤◌, ◌⊎◌, inl, inr, Bool, true, false, ◌||◌, ℕ, List, [], ◌∷◌, ◌++◌, length, get_or, Option, Some, None, zero, suc, refl, ap, sym, ◌∙◌, subst, arith}
+use Rattle.std.proofs.Common.{◌≡◌, ◌==◌, ◌<◌, ◌≤◌, inl, inr, Bool, true, false, ◌||◌, ℕ, List, [], ◌∷◌, ◌++◌, length, get_or, Option, Some, None, zero, suc, refl, ap, sym, ◌∙◌, subst, arith}
 use Rattle.std.specs.Prelude.{IfSome}
 use Rattle.std.specs.List.{list_any}
 use Rattle.std.proofs.lemmas.List.Folds.{list_any-append}
-use Rattle.std.proofs.lemmas.Bool.{eqb-true}
+use Rattle.std.proofs.lemmas.Bool.{eqb-true, or_cases}
 use Rattle.trs_defs.specs.Tree.{Tree, Trees, var, app}
 use Rattle.trs_defs.specs.Size.{size_of, size_of_all}
 use Rattle.trs_defs.specs.Substitution.{apply, apply_all}
@@ -58,10 +58,6 @@ some_bound bs (Some w) v b t f ts bound same is s = below_bound bs v w b t f ts 
 abbrev pub IsBelowAll : List Binding → ℕ → List ℕ → Type 0
 IsBelowAll bs v ps = (p : ℕ) → list_any (λ y. y == p) ps ≡ true → (θ : ℕ → Tree) → Solves bs θ → size_of (θ v) < size_of (θ p)
 
-either : (a b : Bool) → (a || b) ≡ true → (a ≡ true) ⊎ (b ≡ true)
-either true b e = inl refl
-either false b e = inr e
-
 first_of : (a : Bool) → (a || false) ≡ true → a ≡ true
 first_of true e = refl
 first_of false e = absurd cc
@@ -71,7 +67,7 @@ below_none bs v ps is p has θ h = absurd (cc (sym (ap (list_any (λ y. y == p))
 
 pub next_below : (bs : List Binding) (v w : ℕ) (ps new : List ℕ) → IsBelowAll bs v ps → new ≡ ps ++ v ∷ [] → ((θ : ℕ → Tree) → Solves bs θ → size_of (θ w) < size_of (θ v)) → IsBelowAll bs w new
 next_below bs v w ps new below is less p has θ h =
-    elim (either (list_any (λ y. y == p) ps) ((v == p) || false) (sym (list_any-append (λ y. y == p) ps (v ∷ [])) ∙ (sym (ap (list_any (λ y. y == p)) is) ∙ has))) as (λ _. size_of (θ w) < size_of (θ p)) [
+    elim (or_cases (list_any (λ y. y == p) ps) ((v == p) || false) (sym (list_any-append (λ y. y == p) ps (v ∷ [])) ∙ (sym (ap (list_any (λ y. y == p)) is) ∙ has))) as (λ _. size_of (θ w) < size_of (θ p)) [
       | inl a ↦ let x = below p a θ h in let y = less θ h in omega (arith, x, y)
       | inr b ↦ let e : v ≡ p = eqb-true v p (first_of (v == p) b) in subst (λ z. size_of (θ w) < size_of (θ z)) e (less θ h)
     ]

@@ -2,7 +2,7 @@
 use Rattle.std.specs.Prelude.{◌≡◌, ◌<◌, ℕ, ◌+◌, Bool, true, false, cond, ◌&&◌, ◌||◌, ◌==◌, max, List, [], Some, IsTrue, slice_get, refl}
 use Rattle.std.proofs.Common.{zero, suc, ap, sym, ◌∙◌, subst, arith, inl, inr}
 use Rattle.std.proofs.lemmas.Bool.Decides.{nat_tests}
-use Rattle.std.proofs.lemmas.Bool.{or_left, or_right, or_cases}
+use Rattle.std.proofs.lemmas.Bool.{or_left, or_right, or_cases, eqb-true}
 use Rattle.trs_defs.specs.Tree.{Tree, var}
 use Rattle.trs_defs.specs.Variable.{has_var}
 use Rattle.trs_defs.specs.Renaming.{shifted}
@@ -14,8 +14,8 @@ use Rattle.trs_defs.proofs.Substitutions.{apply_apply, same_instance}
 use Rattle.trs_caps.proofs.CapLaws.{variable_bound, below_bound}
 use Rattle.confluence_theory.specs.Peak.{Peak}
 use Rattle.confluence_theory.specs.CriticalPeak.{occurs_in_peak, IsCriticalPeak}
-use Rattle.crit_pairs.proofs.Bindings.{unchanged}
-use Rattle.crit_pairs.proofs.InstancePlaces.{subterm_image, replaced_image}
+use Rattle.trs_defs.proofs.NamedTerms.{unchanged}
+use Rattle.trs_defs.proofs.InstancePlaces.{subterm_image, replaced_image}
 
 -- the variable that had a name
 module _ (peak : Peak) (names : ℕ → ℕ)
@@ -31,9 +31,6 @@ module _ (peak : Peak) (names : ℕ → ℕ)
   both true b h = (refl, h)
   both false b h = absurd cc
 
-  same_number : (m n : ℕ) → (m == n) ≡ true → m ≡ n
-  same_number m n h = grind (arith, nat_tests)
-
   equal_itself : (n : ℕ) → (n == n) ≡ true
   equal_itself n = grind (arith, nat_tests)
 
@@ -41,12 +38,12 @@ module _ (peak : Peak) (names : ℕ → ℕ)
       → cond b k (named_below k (names v)) ≡ v
   finds_case k v true test occurs l later =
       let h = both (occurs_in_peak k peak) (names k == names v) test in
-      different k v h.0 occurs (same_number (names k) (names v) h.1)
+      different k v h.0 occurs (eqb-true (names k) (names v) h.1)
   finds_case k v false test occurs l later = later (other_case (v == k) refl)
     where
       other_case : (b : Bool) → (v == k) ≡ b → v < k
       other_case true e =
-          let same : v ≡ k = same_number v k e in
+          let same : v ≡ k = eqb-true v k e in
           let here : has_name k (names v) ≡ true = subst (λ w. has_name w (names v) ≡ true) same (rw (occurs, equal_itself (names v)) refl) in
           absurd cc
       other_case false e = grind (arith, nat_tests)

@@ -84,7 +84,7 @@ module _ (R : ℕ → ℕ → Type 0) where
 
   -- each variable is related to one, and one to it
   module _ (one : (v w x : ℕ) → R v w → R v x → w ≡ x) (other : (v x w : ℕ) → R v w → R x w → v ≡ x) where
-    same_test : (x v y w : ℕ) → R x y → R v w → (x == v) ≡ (y == w)
+    pub same_test : (x v y w : ℕ) → R x y → R v w → (x == v) ≡ (y == w)
     same_test x v y w r s = elim (ℕ_discrete x v) as (λ _. (x == v) ≡ (y == w)) [
       | yes same ↦
           let k : y ≡ w = one v y w (subst (λ z. R z y) same r) s in

@@ -10,7 +10,7 @@ use Rattle.trs_defs.proofs.ArgumentLists.{cell}
 use Rattle.trs_core.specs.declared.terms.Term.{Term}
 use Rattle.trs_core.specs.View.{tree, forest}
 use Rattle.term_pool.specs.Redexes.{IsNarrow}
-use Rattle.rewrite_core.proofs.Narrow.{narrow_of_well_formed}
+use Rattle.term_pool.proofs.NarrowLaws.{narrow_of_well_formed}
 use Rattle.pair_theory.specs.DependencyPair.{keep_if}
 use Rattle.dp_core.specs.PlacedPairs.{defined_places, defined_places_of_all, placed_below, placed_pairs_from}
 

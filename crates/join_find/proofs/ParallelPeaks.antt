@@ -1,17 +1,17 @@
 -- A peak that is closed by a parallel step, or by none.
-use Rattle.std.specs.Prelude.{◌≡◌, ◌≢◌, ◌<◌, ℕ, ◌+◌, length, take, List, [], ◌∷◌, ◌++◌, map, IsTrue, Result, Ok, Err, refl}
+use Rattle.std.specs.Prelude.{◌≡◌, ◌≢◌, ◌<◌, ℕ, ◌+◌, length, take, List, [], ◌∷◌, ◌++◌, map}
 use Rattle.std.proofs.Common.{ap, sym, subst, ◌∙◌, get_or}
 use Rattle.std.specs.Global.{Vec}
 use Rattle.std.proofs.lemmas.List.{map-append}
 use Rattle.trs_defs.specs.Tree.{Tree}
 use Rattle.trs_defs.specs.System.{RewriteRule}
 use Rattle.trs_defs.specs.Path.{PlacedRule, Follows}
-use Rattle.term_pool.specs.Pooled.{AreDistinct, Extends, StandsFor, tree_at}
+use Rattle.term_pool.specs.Pooled.{AreDistinct, StandsFor, tree_at}
 use Rattle.term_pool.specs.Redexes.{Grows, below}
-use Rattle.term_pool.specs.Answers.{GivesId}
 use Rattle.term_pool.specs.declared.paths.PathFault.{PathFault}
 use Rattle.term_pool.specs.declared.paths.PathFault.TheVariants as fault
 use Rattle.term_pool.proofs.PoolTrees.{stands_at}
+use Rattle.term_pool.proofs.RedexLists.{below_nothing}
 use Rattle.rewrite_core.specs.PlacedPeak.{PlacedPeak}
 use Rattle.closed_pairs.specs.ParallelClosed.{paths_of}
 use Rattle.join_find.specs.First.{Along}
@@ -19,14 +19,10 @@ use Rattle.join_find.specs.ParallelRow.{IsParallelStep, IsParallelClosing, HasNo
 use Rattle.join_find.proofs.Firsts.{along_one_more}
 use Rattle.join_find.proofs.ParallelSteps.{one_parallel_step}
 
-below_root : (ss : List PlacedRule) → map (below []) ss ≡ ss
-below_root [] = refl
-below_root (s ∷ ss) = ap (λ xs. s ∷ xs) (below_root ss)
-
 -- what was added to no steps, at the root
 pub all_steps : (rules : List RewriteRule) (s t : Tree) (old steps : List PlacedRule) (place : List ℕ) → place ≡ [] → old ≡ [] → Grows place (IsParallelStep rules s t) old steps → IsParallelStep rules s t steps
 all_steps rules s t old steps place root none g =
-    let e : steps ≡ g.0 = g.2 ∙ rw (none, root) (below_root g.0) in
+    let e : steps ≡ g.0 = g.2 ∙ rw (none, root) (below_nothing g.0) in
     subst (λ xs. IsParallelStep rules s t xs) (sym e) g.1
 
 module _ (rules : List RewriteRule) (peak : PlacedPeak) where

@@ -1,6 +1,6 @@
 -- Narrowing with one most general unifier, beside that with any other one.
 use Rattle.std.specs.Prelude.{◌||◌, if◌then◌else◌, MatchOption}
-use Rattle.std.proofs.Common.{◌≡◌, ℕ, ◌+◌, ◌<◌, ◌≤◌, inl, inr, Bool, true, false, List, [], ◌∷◌, ◌++◌, length, Option, Some, None, IsTrue, refl, ap, sym, ◌∙◌, subst, arith, slice_get, length-append}
+use Rattle.std.proofs.Common.{◌≡◌, ℕ, ◌+◌, ◌<◌, ◌≤◌, inl, inr, Bool, true, false, List, [], ◌∷◌, ◌++◌, length, Option, Some, None, IsTrue, ap, sym, ◌∙◌, subst, arith, slice_get, length-append}
 use Rattle.std.proofs.lemmas.Option.{same_Some, slice_get-get_or}
 use Rattle.std.specs.BTreeMap.{BTreeMap}
 use Rattle.std.proofs.lemmas.Bool.{or_left, or_right, or_cases}
@@ -14,6 +14,7 @@ use Rattle.trs_defs.specs.System.{RewriteRule}
 use Rattle.trs_defs.specs.Unifier.{IsMostGeneralUnifier}
 use Rattle.trs_defs.proofs.Substitutions.{apply_apply, same_instance}
 use Rattle.trs_defs.proofs.ArgumentLists.{depth_le_size}
+use Rattle.trs_defs.proofs.NamedTerms.{size_named}
 use Rattle.trs_defs.proofs.Contexts.{replaced_somehow}
 use Rattle.trs_defs.proofs.Limits.{size_replaced}
 use Rattle.trs_core.specs.SystemLimits.{HasSmallVariables}
@@ -48,15 +49,6 @@ mutual
   size_instances : (σ : ℕ → Tree) (ts : Trees) → size_of_all ts ≤ size_of_all (apply_all σ ts)
   size_instances σ nil = omega arith
   size_instances σ (cons t ts) = omega (arith, size_instance σ t, size_instances σ ts)
-
-mutual
-  size_named : (f : ℕ → ℕ) (t : Tree) → size_of (apply (λ v. var (f v)) t) ≡ size_of t
-  size_named f (var v) = refl
-  size_named f (app g ts) = omega (arith, size_named_all f ts)
-
-  size_named_all : (f : ℕ → ℕ) (ts : Trees) → size_of_all (apply_all (λ v. var (f v)) ts) ≡ size_of_all ts
-  size_named_all f nil = refl
-  size_named_all f (cons t ts) = omega (arith, size_named f t, size_named_all f ts)
 
 -- a term of few nodes is small
 pub small_of_few : (t : Tree) → size_of t ≤ 256 → IsSmallSide t

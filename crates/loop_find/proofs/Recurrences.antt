@@ -3,10 +3,11 @@ use Rattle.std.specs.Option.{option_and_then, option_map}
 use Rattle.std.proofs.Common.{◌≡◌, ℕ, ◌+◌, ◌<◌, ◌≤◌, inl, inr, Bool, true, false, List, [], ◌∷◌, ◌++◌, length, get_or, Option, None, Some, refl, ap, sym, ◌∙◌, subst, zero, suc, arith, slice_get, append-nil, append_assoc}
 use native.Mathlib.Decide.{dec_lt}
 use Rattle.std.proofs.lemmas.Option.{same_Some, slice_get_read}
-use Rattle.trs_defs.specs.Tree.{Tree, Trees, var, app, nil, cons, items, count}
+use Rattle.trs_defs.specs.Tree.{Tree, var, app, items, count}
 use Rattle.trs_defs.specs.Substitution.{apply, apply_all, IsInstance}
 use Rattle.trs_defs.specs.Position.{argument_at, subterm_at}
 use Rattle.trs_defs.proofs.ArgumentLists.{count_apply_all}
+use Rattle.trs_defs.proofs.NamedTerms.{unchanged}
 use Rattle.trs_core.specs.declared.terms.Term.{Term}
 use Rattle.trs_core.specs.View.{tree, forest}
 use Rattle.trs_core.proofs.Lookups.{items_forest, slice_get_map}
@@ -38,15 +39,6 @@ other_argument f g fs gs i x y t u is_t is_u a b differ σ τ e =
     let whole : app f (apply_all σ (forest fs)) ≡ app g (apply_all τ (forest gs)) = sym (ap (apply σ) is_t) ∙ (e ∙ ap (apply τ) is_u) in
     let args : apply_all σ (forest fs) ≡ apply_all τ (forest gs) = cc (whole) in
     differ σ τ (same_Some (apply σ (tree x)) (apply τ (tree y)) (sym (item_image σ fs i x a) ∙ (ap (λ z. slice_get (items z) i) args ∙ item_image τ gs i y b)))
-
-mutual
-  unchanged : (t : Tree) → apply (λ v. var v) t ≡ t
-  unchanged (var v) = refl
-  unchanged (app f ts) = ap (app f) (all_unchanged ts)
-
-  all_unchanged : (ts : Trees) → apply_all (λ v. var v) ts ≡ ts
-  all_unchanged nil = refl
-  all_unchanged (cons t ts) = cc (unchanged t, all_unchanged ts)
 
 pub no_instance : (pattern t : Tree) → Differ pattern t → IsInstance pattern t → ⊥
 no_instance pattern t differ (s, is) = differ s (λ v. var v) (is ∙ sym (unchanged t))

@@ -6,8 +6,9 @@ use Rattle.std.specs.List.{position_or_len}
 use Rattle.smallvec.specs.SmallVec.{SmallVec}
 use Rattle.std.specs.Map.{keys_of, lookup}
 use Rattle.indexmap.specs.IndexMap.{insert_entry}
-use Rattle.trs_defs.specs.Tree.{Tree, trees, items, items_trees}
+use Rattle.trs_defs.specs.Tree.{Tree, trees, items}
 use Rattle.trs_defs.specs.Size.{size_of, depth_of}
+use Rattle.trs_defs.proofs.ArgumentLists.{same_trees}
 use Rattle.term_pool.specs.declared.nodes.Node.{Node}
 use Rattle.term_pool.specs.declared.nodes.Node.TheVariants.{Var, App}
 use Rattle.term_pool.specs.declared.nodes.Measure.{Measure}
@@ -99,9 +100,6 @@ each_below m n xs l h = All-weaker (λ i. i < m) (λ i. i < n) (λ i k. omega (a
 pub stands_below_more : (m n : ℕ) (k : Node) → m ≤ n → StandsBelow m k → StandsBelow n k
 stands_below_more m n (Var v) l h = tt
 stands_below_more m n (App f args) l h = each_below m n args.items l h
-
-same_trees : (ts us : List Tree) → trees ts ≡ trees us → ts ≡ us
-same_trees ts us e = sym (items_trees ts) ∙ (ap items e ∙ items_trees us)
 
 -- `==` on nodes, as far as it is needed
 pub record IsNodeEquality (eq : Node → Node → Bool) : Type 0 where

@@ -1,9 +1,10 @@
 -- A term with an instance at a position, which is made in a pool that has grown.
-use Rattle.std.proofs.Common.{◌≡◌, ℕ, ◌+◌, ◌<◌, ◌≤◌, List, [], ◌∷◌, length, Some, false, IsTrue, slice_get, ap, sym, ◌∙◌, zero, suc, arith}
+use Rattle.std.proofs.Common.{◌≡◌, ℕ, ◌+◌, ◌<◌, ◌≤◌, List, [], ◌∷◌, length, Some, false, IsTrue, ap, sym, ◌∙◌, zero, suc, arith}
 use Rattle.std.proofs.lemmas.Option.{same_Some}
-use Rattle.trs_defs.specs.Tree.{Tree, Trees, var, app, nil, cons, items}
-use Rattle.trs_defs.specs.Size.{size_of, size_of_all, within_limits}
+use Rattle.trs_defs.specs.Tree.{Tree, var, app}
+use Rattle.trs_defs.specs.Size.{size_of, within_limits}
 use Rattle.trs_defs.specs.Position.{argument_at, subterm_at, replaced_at}
+use Rattle.trs_defs.proofs.ArgumentLists.{item_size}
 use Rattle.trs_defs.proofs.Contexts.{replaced_somehow}
 use Rattle.trs_defs.proofs.Positions.{replaced_inside}
 use Rattle.term_pool.specs.Pooled.{StandsFor, Extends, tree_at}
@@ -11,11 +12,6 @@ use Rattle.term_pool.specs.Placing.{HasPut, IsPlaced, IsTooLargePut}
 use Rattle.term_pool.proofs.PoolTrees.{stands_at}
 use Rattle.term_pool.proofs.PoolPlaces.{argument_set}
 use Rattle.term_pool.proofs.Extending.{same_tree_at}
-
-item_size : (ts : Trees) (i : ℕ) (a : Tree) → slice_get (items ts) i ≡ Some a → size_of a ≤ size_of_all ts
-item_size nil i a e = absurd cc
-item_size (cons t ts) zero a e = let same : size_of t ≡ size_of a = ap size_of (same_Some t a e) in omega (arith, same)
-item_size (cons t ts) (suc i) a e = omega (arith, item_size ts i a e)
 
 argument_below : (t : Tree) (place : ℕ) (a : Tree) → argument_at t place ≡ Some a → 1 + size_of a ≤ size_of t
 argument_below (var n) place a e = absurd cc

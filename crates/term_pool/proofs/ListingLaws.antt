@@ -4,7 +4,6 @@ use Rattle.std.proofs.Common.{suc, ap, sym, ◌∙◌, subst, inl, inr, get_or, 
 use Rattle.std.proofs.Math.Seq.{take-suc}
 use Rattle.std.proofs.lemmas.List.{take_all, take-append-drop, take-append-le}
 use Rattle.std.proofs.lemmas.Option.{get_or_from_slice_get, slice_get_read}
-use Rattle.std.proofs.lemmas.Bool.Decides.{nat_tests}
 use Rattle.trs_defs.specs.Member.{In, in_first, in_rest}
 use Rattle.trs_defs.specs.Tree.{Tree}
 use Rattle.trs_defs.specs.Size.{size_of, within_limits}
@@ -13,6 +12,7 @@ use Rattle.trs_defs.specs.System.{RewriteRule}
 use Rattle.trs_defs.specs.Path.{PlacedRule, StepsAt}
 use Rattle.trs_defs.proofs.Contexts.{replaced_somehow}
 use Rattle.trs_defs.proofs.Members.{in_right, in_of_get}
+use Rattle.trs_defs.proofs.Limits.{test_of, no_test_of}
 use Rattle.term_pool.specs.Redexes.{HasRedexes, IsRedexAt}
 use Rattle.term_pool.specs.Steps.{IsStepFault}
 use Rattle.term_pool.specs.declared.steps.StepFault.{StepFault}
@@ -91,10 +91,7 @@ on_both (Err e) f h k = h
 -- ---- one reduct
 
 pub large_not_kept : (size : ℕ) (u : Tree) → size < size_of u → is_kept size u ≡ false
-large_not_kept size u large = ap (λ c. c && within_limits u) (not_within (size_of u) size large)
-  where
-    not_within : (m n : ℕ) → n < m → nat_le m n ≡ false
-    not_within m n h = grind (arith, nat_tests)
+large_not_kept size u large = ap (λ c. c && within_limits u) (no_test_of (size_of u) size large)
 
 pub too_large_not_kept : (size : ℕ) (u : Tree) → within_limits u ≡ false → is_kept size u ≡ false
 too_large_not_kept size u large = elim (either_way (nat_le (size_of u) size)) [
@@ -103,10 +100,7 @@ too_large_not_kept size u large = elim (either_way (nat_le (size_of u) size)) [
 ]
 
 pub small_kept : (size : ℕ) (u : Tree) → size_of u ≤ size → IsTrue (within_limits u) → IsTrue (is_kept size u)
-small_kept size u small within = ap (λ c. c && within_limits u) (within_size (size_of u) size small) ∙ within
-  where
-    within_size : (m n : ℕ) → m ≤ n → nat_le m n ≡ true
-    within_size m n h = grind (arith, nat_tests)
+small_kept size u small within = ap (λ c. c && within_limits u) (test_of (size_of u) size small) ∙ within
 
 -- A step at a redex is refused only where its result is too large, or for want of memory.
 pub refused_step : (rules : List RewriteRule) (t : Tree) (s : PlacedRule) (f : StepFault) → IsRedexAt rules t s → IsStepFault rules s.place s.rule t f

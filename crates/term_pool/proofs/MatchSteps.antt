@@ -1,10 +1,9 @@
 -- The steps of matching at an id.
-use Rattle.std.proofs.Common.{◌≡◌, ◌≢◌, ℕ, ◌+◌, ◌<◌, ◌≤◌, Bool, true, false, nat_eq, List, [], ◌∷◌, map, length, drop, get_or, Option, Some, None, IfSome, IfNone, is_some, IsTrue, ◌↔◌, refl, ap, sym, ◌∙◌, zero, suc, arith, nat_cmp}
-use Rattle.std.specs.BTreeMap.{is_at}
+use Rattle.std.proofs.Common.{◌≡◌, ℕ, ◌+◌, ◌<◌, ◌≤◌, Bool, true, false, nat_eq, List, [], ◌∷◌, map, length, drop, get_or, Option, Some, None, IfSome, IfNone, is_some, IsTrue, ◌↔◌, refl, ap, sym, ◌∙◌, arith}
 use Rattle.std.proofs.Math.Decide.{ℕ_discrete}
-use Rattle.std.proofs.lemmas.Grind.{common_steps}
 use Rattle.std.proofs.lemmas.Option.{same_Some}
-use Rattle.std.proofs.lemmas.List.{drop_all, length-map}
+use Rattle.std.proofs.lemmas.List.{drop_all, get_or_default, length-map}
+use Rattle.std.proofs.lemmas.Bool.{eqb-true}
 use Rattle.trs_defs.specs.Tree.{Tree, var, app, trees, count}
 use Rattle.trs_defs.specs.Substitution.{apply, apply_all, IsInstance}
 use Rattle.trs_core.specs.declared.terms.Term.{Term}
@@ -16,12 +15,6 @@ use Rattle.term_pool.specs.Matching.{Agrees, Narrows, Refutes, Matches}
 use Rattle.trs_defs.proofs.ArgumentLists.{cell, count_apply_all, count_trees}
 use Rattle.trs_core.proofs.Comparing.{count_forest}
 use Rattle.term_pool.proofs.PoolTrees.{stands}
-
-pub at_same : (n : ℕ) → is_at (nat_cmp n) n ≡ true
-at_same n = grind (arith, common_steps)
-
-pub at_other : (n v : ℕ) → n ≢ v → is_at (nat_cmp n) v ≡ false
-at_other n v h = grind (arith, common_steps)
 
 no_entry : (i : ℕ) → ◌≡◌ {A = Option ℕ} None (Some i) → ⊥
 no_entry i e = cc
@@ -51,9 +44,6 @@ module _ (pool : List Tree) (old new : Bindings) (v id : ℕ) (update : IsBoundT
     ];
   }
 
-same_number : (a b : ℕ) → nat_eq a b ≡ true → a ≡ b
-same_number a b e = grind arith
-
 number_itself : (a : ℕ) → nat_eq a a ≡ true
 number_itself a = grind arith
 
@@ -66,7 +56,7 @@ pub bind_known : (pool : List Tree) (m : Bindings) (v earlier id : ℕ) → AreD
 bind_known pool m v earlier id distinct ids within has = go (nat_eq earlier id) refl
   where
     go : (b : Bool) → nat_eq earlier id ≡ b → Matches pool (var v) (tree_at pool id) m m b
-    go true e = let same : earlier ≡ id = same_number earlier id e in record {
+    go true e = let same : earlier ≡ id = eqb-true earlier id e in record {
       sound = λ s agrees. (agrees, agrees v earlier has ∙ ap (tree_at pool) same);
       complete = λ s agrees is. agrees;
     }
@@ -147,12 +137,7 @@ pub found_none : (pool : List Tree) (p t : Tree) (m : Bindings) → ((v : ℕ) �
 found_none pool p t m is refutes h = refutes.none h.0 (λ v id e. absurd (no_entry id (sym (is v) ∙ e))) h.1
 
 pub read_again : (xs : List ℕ) (i : ℕ) → i < length xs → get_or xs i 0 ≡ get_or xs i (get_or xs i 0)
-read_again xs i h = same_default xs i 0 (get_or xs i 0) h
-  where
-    same_default : (xs : List ℕ) (i d e : ℕ) → i < length xs → get_or xs i d ≡ get_or xs i e
-    same_default [] i d e h = absurd (omega arith)
-    same_default (x ∷ xs) zero d e h = refl
-    same_default (x ∷ xs) (suc i) d e h = same_default xs i d e (omega arith)
+read_again xs i h = get_or_default xs i 0 (get_or xs i 0) h
 
 -- whether a match was found
 pub instance_tested : (pool : List Tree) (left t : Tree) (o : Option (Bindings)) (b : Bool) → IfSome o (λ m. apply (bound_terms pool m) left ≡ t) → IfNone o (IsInstance left t → ⊥)

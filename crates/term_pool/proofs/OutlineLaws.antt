@@ -17,6 +17,7 @@ use Rattle.trs_defs.proofs.Substitutions.{same_instance}
 use Rattle.trs_core.specs.SystemLimits.{HasSmallVariables, HaveSmallVariables, nodes_of as nodes_of_rules}
 use Rattle.trs_core.specs.declared.terms.Term.{Term}
 use Rattle.trs_core.specs.View.{tree, forest}
+use Rattle.trs_core.proofs.NumberKeys.{at_other}
 use Rattle.term_pool.specs.Pooled.{StandsFor, Extends, tree_at}
 use Rattle.term_pool.specs.Bindings.{bound, part_id, NamesParts, HasIds, bound_terms, instance_of}
 use Rattle.term_pool.specs.Matching.{Agrees, Refutes}
@@ -27,7 +28,6 @@ use Rattle.term_pool.proofs.PoolTrees.{stands_at, stands_within}
 use Rattle.term_pool.proofs.Extending.{extends_itself, extends_on, same_tree_at}
 use Rattle.term_pool.proofs.ArgumentIds.{nodes_of, next_nodes, one_more_value}
 use Rattle.term_pool.proofs.InstanceIds.{instances}
-use Rattle.term_pool.proofs.MatchSteps.{agrees_bound, at_other}
 
 -- ---- pools that grow
 

@@ -13,14 +13,14 @@ use Rattle.term_pool.specs.Reach.{AreReducts, no_step, kept, left_out, AreCandid
 use Rattle.term_pool.proofs.FollowLaws.{one_step_more, second_holds, AllFollow}
 
 -- the entry comes from another one by one step that keeps the limits
-record ComesFrom (rules : List RewriteRule) (e c : Listed) : Type 0 where
-  step : PlacedRule
-  path : c.path ≡ e.path ++ step ∷ []
-  steps : StepsAt rules step.place step.rule e.term c.term
-  within : IsTrue (within_limits c.term)
+pub record ComesFrom (rules : List RewriteRule) (e c : Listed) : Type 0 where
+  pub step : PlacedRule
+  pub path : c.path ≡ e.path ++ step ∷ []
+  pub steps : StepsAt rules step.place step.rule e.term c.term
+  pub within : IsTrue (within_limits c.term)
 
 module _ (rules : List RewriteRule) (depth size : ℕ) where
-  reducts_come : (e : Listed) {ss : List PlacedRule} {cs : List Listed} → AreReducts rules size e ss cs → (c : Listed) → In c cs → ComesFrom rules e c
+  pub reducts_come : (e : Listed) {ss : List PlacedRule} {cs : List Listed} → AreReducts rules size e ss cs → (c : Listed) → In c cs → ComesFrom rules e c
   reducts_come e no_step c i = elim i [ ]
   reducts_come e (kept {s = s} {u = u} {cs = cs} step small rest) c i = go c i (λ d j. reducts_come e rest d j)
     where
@@ -29,7 +29,7 @@ module _ (rules : List RewriteRule) (depth size : ℕ) where
       go c (in_rest j) later = later c j
   reducts_come e (left_out step large rest) c i = reducts_come e rest c i
 
-  candidates_come : {es cs : List Listed} → AreCandidates rules depth size es cs → (c : Listed) → In c cs → (e : Listed) × In e es × ComesFrom rules e c
+  pub candidates_come : {es cs : List Listed} → AreCandidates rules depth size es cs → (c : Listed) → In c cs → (e : Listed) × In e es × ComesFrom rules e c
   candidates_come no_entry c i = elim i [ ]
   candidates_come (expanded {e = e} {cs = cs} {ds = ds} near redexes reducts rest) c i = elim (in_either cs ds i) [
     | inl here ↦ (e, in_first, reducts_come e reducts c here)

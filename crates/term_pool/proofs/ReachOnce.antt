@@ -16,7 +16,7 @@ use Rattle.term_pool.proofs.ListingLaws.{lists_full, lists_extends, start_of}
 
 -- ---- the order of redexes
 
-earlier_than_itself : (p : List ℕ) → IsEarlier p p → ⊥
+pub earlier_than_itself : (p : List ℕ) → IsEarlier p p → ⊥
 earlier_than_itself [] h = h
 earlier_than_itself (m ∷ p) (inl less) = absurd (omega (arith, less))
 earlier_than_itself (m ∷ p) (inr (same, rest)) = earlier_than_itself p rest
@@ -34,7 +34,7 @@ before_itself : (s : PlacedRule) → ComesBefore s s → ⊥
 before_itself s (inl earlier) = earlier_than_itself s.place earlier
 before_itself s (inr (same, less)) = absurd (omega (arith, less))
 
-before_both_ways : (s u : PlacedRule) → ComesBefore s u → ComesBefore u s → ⊥
+pub before_both_ways : (s u : PlacedRule) → ComesBefore s u → ComesBefore u s → ⊥
 before_both_ways s u (inl h) (inl k) = earlier_both_ways s.place u.place h k
 before_both_ways s u (inl h) (inr (same, less)) = earlier_than_itself s.place (subst (λ (p : List ℕ). IsEarlier s.place p) same h)
 before_both_ways s u (inr (same, less)) (inl k) = earlier_than_itself u.place (subst (λ (p : List ℕ). IsEarlier u.place p) same k)

@@ -22,7 +22,7 @@ use Rattle.term_pool.specs.ListedIds.{listed, listed_at, ids_of}
 use Rattle.term_pool.specs.Reaching.{ListsMore, Adds, IsNewReduct, IsPassedOver}
 use Rattle.term_pool.proofs.Extending.{same_tree_at}
 use Rattle.term_pool.proofs.ListingLaws.{start_of, either_way, one_more_reduct}
-use Rattle.term_pool.proofs.MatchSteps.{at_same, at_other}
+use Rattle.trs_core.proofs.NumberKeys.{at_same, at_other}
 use Rattle.term_pool.proofs.PoolTrees.{stands, stands_at}
 
 -- entries stand for the same terms in a pool that has grown

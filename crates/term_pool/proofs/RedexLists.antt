@@ -217,7 +217,7 @@ mutual
       subst Ascend (sym h.4) (ascend_joined (map (below (place ∷ [])) h.0) h.1 (ascend_below place h.0 (redexes_ascend rules t h.0 h.2)) (inner_ascend rules (place + 1) ts h.1 h.3)
       (λ s u k l. let found = from_below (place ∷ []) s h.0 k in inner_before_inner rules place ts s u found.0 found.2 (inner_only rules (place + 1) ts h.1 h.3 u l)))
 
-below_nothing : (ss : List PlacedRule) → map (below []) ss ≡ ss
+pub below_nothing : (ss : List PlacedRule) → map (below []) ss ≡ ss
 below_nothing [] = refl
 below_nothing (s ∷ ss) = ap (λ us. s ∷ us) (below_nothing ss)
 

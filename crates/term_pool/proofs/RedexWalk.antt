@@ -104,7 +104,7 @@ popped place pushed given new k n e same counted is =
     let count : length (place ++ k ∷ []) - 1 ≡ length place = omega (arith, length-append place (k ∷ [])) in
     is ∙ rw (counted, same, e, count, take-append_seam place (k ∷ [])) refl
 
-below_below : (p : List ℕ) (k : ℕ) (ss : List PlacedRule) → map (below (p ++ k ∷ [])) ss ≡ map (below p) (map (below (k ∷ [])) ss)
+pub below_below : (p : List ℕ) (k : ℕ) (ss : List PlacedRule) → map (below (p ++ k ∷ [])) ss ≡ map (below p) (map (below (k ∷ [])) ss)
 below_below p k [] = refl
 below_below p k (s ∷ ss) = rw (append_assoc p (k ∷ []) s.place, below_below p k ss) refl
 

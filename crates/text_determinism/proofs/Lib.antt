@@ -1,4 +1,3 @@
-pub mod Images
 pub mod Renamed
 pub mod Bounds
 pub mod Unifiers

@@ -1,28 +1,20 @@
 -- Terms whose variables have other numbers: sizes and depths stay, and paths lead on.
-use Rattle.std.specs.Prelude.{◌≡◌, ℕ, ◌+◌, ◌&&◌, max, nat_le, List, [], ◌∷◌, Some, IsTrue, refl}
+use Rattle.std.specs.Prelude.{◌≡◌, ℕ, ◌&&◌, nat_le, List, [], ◌∷◌, Some, IsTrue}
 use Rattle.std.proofs.Common.{ap, ap₂, sym, ◌∙◌}
-use Rattle.trs_defs.specs.Tree.{Tree, Trees, var, app, nil, cons}
+use Rattle.trs_defs.specs.Tree.{Tree, var}
 use Rattle.trs_defs.specs.Variable.{has_var}
-use Rattle.trs_defs.specs.Size.{size_of, size_of_all, depth_of, depth_of_all, within_limits}
-use Rattle.trs_defs.specs.Substitution.{apply, apply_all}
+use Rattle.trs_defs.specs.Size.{within_limits}
+use Rattle.trs_defs.specs.Substitution.{apply}
 use Rattle.trs_defs.specs.Position.{replaced_at}
 use Rattle.trs_defs.specs.System.{RewriteRule}
 use Rattle.trs_defs.specs.Path.{PlacedRule, StepsAt, Follows}
 use Rattle.trs_defs.proofs.Substitutions.{apply_apply, same_values, same_instance}
-use Rattle.text_determinism.proofs.Images.{subterm_image, replaced_image}
+use Rattle.trs_defs.proofs.NamedTerms.{size_named, depth_named, unchanged}
+use Rattle.trs_defs.proofs.InstancePlaces.{subterm_image, replaced_image}
 
 -- each variable by another
 abbrev pub named : (ℕ → ℕ) → Tree → Tree
 named f t = apply (λ v. var (f v)) t
-
-mutual
-  pub unchanged : (t : Tree) → apply (λ v. var v) t ≡ t
-  unchanged (var v) = refl
-  unchanged (app f ts) = ap (app f) (all_unchanged ts)
-
-  all_unchanged : (ts : Trees) → apply_all (λ v. var v) ts ≡ ts
-  all_unchanged nil = refl
-  all_unchanged (cons t ts) = cc (unchanged t, all_unchanged ts)
 
 -- a substitution that moves no variable of the term
 pub not_moved : (σ : ℕ → Tree) (t : Tree) → ((v : ℕ) → IsTrue (has_var v t) → σ v ≡ var v) → apply σ t ≡ t
@@ -33,28 +25,8 @@ pub undone_at : (σ τ : ℕ → Tree) (t u : Tree) → apply σ t ≡ u → app
 undone_at σ τ t u e h v occurs =
     same_values (λ w. apply τ (σ w)) (λ w. var w) t v (sym (apply_apply τ σ t) ∙ (ap (apply τ) e ∙ (h ∙ sym (unchanged t)))) occurs
 
--- ---- sizes and depths
-
-mutual
-  named_size : (f : ℕ → ℕ) (t : Tree) → size_of (named f t) ≡ size_of t
-  named_size f (var v) = refl
-  named_size f (app g ts) = ap (λ n. 1 + n) (named_sizes f ts)
-
-  named_sizes : (f : ℕ → ℕ) (ts : Trees) → size_of_all (apply_all (λ v. var (f v)) ts) ≡ size_of_all ts
-  named_sizes f nil = refl
-  named_sizes f (cons t ts) = ap₂ (λ m n. m + n) (named_size f t) (named_sizes f ts)
-
-mutual
-  named_depth : (f : ℕ → ℕ) (t : Tree) → depth_of (named f t) ≡ depth_of t
-  named_depth f (var v) = refl
-  named_depth f (app g ts) = ap (λ n. 1 + n) (named_depths f ts)
-
-  named_depths : (f : ℕ → ℕ) (ts : Trees) → depth_of_all (apply_all (λ v. var (f v)) ts) ≡ depth_of_all ts
-  named_depths f nil = refl
-  named_depths f (cons t ts) = ap₂ max (named_depth f t) (named_depths f ts)
-
 named_within : (f : ℕ → ℕ) (t : Tree) → within_limits (named f t) ≡ within_limits t
-named_within f t = ap₂ (λ m n. nat_le m 65536 && nat_le n 1024) (named_size f t) (named_depth f t)
+named_within f t = ap₂ (λ m n. nat_le m 65536 && nat_le n 1024) (size_named f t) (depth_named f t)
 
 -- ---- paths
 

@@ -17,7 +17,7 @@ use Rattle.trs_defs.proofs.Contexts.{replaced_somehow}
 use Rattle.confluence_theory.proofs.Apart.{part_variable}
 use Rattle.loop_find.proofs.crit_pairs.InstanceVariables.{into_instance, of_instance, replaced_variable}
 use Rattle.loop_find.specs.Closures.{Closure, IsNarrowing}
-use Rattle.text_determinism.proofs.Images.{subterm_image, replaced_image}
+use Rattle.trs_defs.proofs.InstancePlaces.{subterm_image, replaced_image}
 use Rattle.text_determinism.proofs.Renamed.{named}
 use Rattle.text_determinism.proofs.Bounds.{above, is_below, joined, joined_low, joined_high}
 use Rattle.text_determinism.proofs.Unifiers.{moved, moved_instance, moved_most_general}

@@ -1,35 +1,21 @@
 -- Terms that differ in the numbers of their variables alone are one, once these are numbered in order of first occurrence.
-use Rattle.std.specs.Prelude.{◌≡◌, ◌≢◌, ℕ, Bool, true, false, ◌==◌, if◌then◌else◌, List, [], ◌∷◌, refl}
-use Rattle.std.proofs.Common.{suc, ap, ap₂, sym, ◌∙◌, subst, arith}
-use native.Mathlib.Decide.{ℕ_discrete}
+use Rattle.std.specs.Prelude.{◌≡◌, ℕ, Bool, if◌then◌else◌, List, [], ◌∷◌, refl}
+use Rattle.std.proofs.Common.{suc, ap, ap₂, sym, ◌∙◌}
 use Rattle.trs_defs.specs.Tree.{Tree, Trees, var, app, cons}
 use Rattle.trs_defs.specs.Variable.{variables_of}
-use Rattle.loop_find.proofs.crit_pairs.Variants.{Paired, paired_variables, paired_symbols, AllPaired, none_paired, one_paired}
+use Rattle.trs_defs.proofs.NamedTerms.{unchanged}
+use Rattle.loop_find.proofs.crit_pairs.Variants.{Paired, paired_variables, paired_symbols, AllPaired, none_paired, one_paired, same_test}
 use Rattle.loop_find.proofs.crit_pairs.Variants.{Swaps, pair, AreRelated, related_variables}
 use Rattle.term_text.specs.Renumbered.{number_among, with_numbers, all_with_numbers, in_order}
-use Rattle.text_determinism.proofs.Renamed.{named, unchanged}
+use Rattle.text_determinism.proofs.Renamed.{named}
 
 module _ (R : ℕ → ℕ → Type 0) (one : (v w x : ℕ) → R v w → R v x → w ≡ x) (other : (v x w : ℕ) → R v w → R x w → v ≡ x) where
-  same_test : (x v y w : ℕ) → R x y → R v w → (x == v) ≡ (y == w)
-  same_test x v y w r s = elim (ℕ_discrete x v) as (λ _. (x == v) ≡ (y == w)) [
-    | yes same ↦
-        let k : y ≡ w = one v y w (subst (λ z. R z y) same r) s in
-        let a : (x == v) ≡ true = grind arith in
-        let b : (y == w) ≡ true = grind arith in
-        a ∙ sym b
-    | no ne ↦
-        let apart : y ≢ w = (λ k. ne (other x v w (subst (λ z. R x z) k r) s)) in
-        let a : (x == v) ≡ false = grind arith in
-        let b : (y == w) ≡ false = grind arith in
-        a ∙ sym b
-  ]
-
   same_number : (vs ws : List ℕ) (v w : ℕ) → AreRelated R vs ws → R v w → number_among vs v ≡ number_among ws w
   same_number [] [] v w h r = refl
   same_number [] (y ∷ ws) v w h r = absurd h
   same_number (x ∷ vs) [] v w h r = absurd h
   same_number (x ∷ vs) (y ∷ ws) v w h r =
-      ap₂ (λ (b : Bool) (n : ℕ). if b then 0 else suc n) (same_test x v y w h.0 r) (same_number vs ws v w h.1 r)
+      ap₂ (λ (b : Bool) (n : ℕ). if b then 0 else suc n) (same_test R one other x v y w h.0 r) (same_number vs ws v w h.1 r)
 
   mutual
     same_numbers : {t u : Tree} → Paired R t u → (vs ws : List ℕ) → AreRelated R vs ws → with_numbers vs t ≡ with_numbers ws u

@@ -13,8 +13,9 @@ use Rattle.trs_defs.proofs.Substitutions.{apply_apply, same_instance}
 use Rattle.term_pool.specs.Redexes.{IsEarlier}
 use Rattle.loop_find.specs.Closures.{Closure}
 use Rattle.loop_find.specs.LoopRow.{Recurs, RecursFirst, LoopsAt, LoopsNot}
-use Rattle.text_determinism.proofs.Images.{subterm_image}
-use Rattle.text_determinism.proofs.Renamed.{named, unchanged, undone_at, named_path}
+use Rattle.trs_defs.proofs.InstancePlaces.{subterm_image}
+use Rattle.trs_defs.proofs.NamedTerms.{unchanged}
+use Rattle.text_determinism.proofs.Renamed.{named, undone_at, named_path}
 
 pub record AreVariants (c d : Closure) : Type 0 where
   pub to : ℕ → ℕ

@@ -5,7 +5,9 @@ pub mod Runs
 pub mod Derivations
 pub mod BoundLaws
 pub mod Substitutions
+pub mod NamedTerms
 pub mod Positions
+pub mod InstancePlaces
 pub mod StepLaws
 pub mod Contexts
 pub mod Places
@@ -17,6 +19,7 @@ pub mod BindingLaws
 pub mod VariableLaws
 pub mod NormalForms
 pub mod WellFormedness
+pub mod WellFormedInstances
 pub mod OccurrenceLaws
 pub mod LeastVariables
 pub mod CapLaws

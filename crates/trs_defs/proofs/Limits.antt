@@ -101,10 +101,10 @@ too_large_inside p t part new u at e h =
     let k = replaced_measured p t part new u at e in
     not_within _ _ _ _ h (smaller_within (size_of new) (size_of u) 65536 (omega arith)) (smaller_within (depth_of new) (depth_of u) 1024 (omega arith))
 
-test_of : (m n : ℕ) → m ≤ n → nat_le m n ≡ true
+pub test_of : (m n : ℕ) → m ≤ n → nat_le m n ≡ true
 test_of m n h = grind (arith, nat_tests)
 
-no_test_of : (m n : ℕ) → n < m → nat_le m n ≡ false
+pub no_test_of : (m n : ℕ) → n < m → nat_le m n ≡ false
 no_test_of m n h = grind (arith, nat_tests)
 
 and_false : (a b : Bool) → b ≡ false → (a && b) ≡ false
