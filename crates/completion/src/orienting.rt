@@ -1,11 +1,11 @@
-ghost use Rattle.std.specs.Prelude.{◌≡◌, ◌≤◌, ◌↔◌, ◌+◌, ◌++◌, [], min, length, IsTrue, IfOk, OnOk};
+ghost use Rattle.std.specs.Prelude.{◌≡◌, ◌≤◌, ◌↔◌, ◌+◌, ◌++◌, [], length, IsTrue, IfOk, OnOk};
 ghost use Rattle.trs_defs.specs.Size.{depth_of};
-ghost use Rattle.trs_core.specs.SystemLimits.{IsWithinLimits, nodes_of};
+ghost use Rattle.trs_core.specs.SystemLimits.{IsWithinLimits};
 ghost use Rattle.completion.specs.Orienting.{Fits};
 ghost use Rattle.completion.specs.Treating.{whole, HasRoom};
 
 use std::alloc::Global;
-use trs_core::{MOST_NODES, MOST_RULES, OutOfMemory, Rule, Trs};
+use trs_core::{MOST_NODES, MOST_RULES, OutOfMemory, Rule, Trs, total_nodes};
 
 /// The deepest side of a new rule, so that the system can be printed.
 const DEEPEST: u64 = 256;
@@ -34,19 +34,6 @@ fn has_room(rules: &[Rule], more: &[Rule], rule: &Rule) -> bool
     let nodes = total_nodes(rules).saturating_add(total_nodes(more));
     let added = rule.left.size().saturating_add(rule.right.size());
     rules.len() + more.len() < MOST_RULES && nodes.saturating_add(added) <= MOST_NODES
-}
-
-/// The nodes of all sides. It stands still at the last `u64`.
-fn total_nodes(rules: &[Rule]) -> u64
-    ensures { result ≡ min (nodes_of rules.now) u64.MAX }
-{
-    let mut total: u64 = 0;
-    for rule in rules {
-        total = total
-            .saturating_add(rule.left.size())
-            .saturating_add(rule.right.size());
-    }
-    total
 }
 
 /// Makes the last rules part of the system, where there are any.

@@ -86,7 +86,8 @@ impl<'a> RulesApart<'a> {
     }
 }
 
-fn renamed_rules(alloc: Global, rules: &[Rule]) -> Result<Vec<Rule>, OutOfMemory>
+/// Each rule, its variables renamed apart from those of all rules.
+pub fn renamed_rules(alloc: Global, rules: &[Rule]) -> Result<Vec<Rule>, OutOfMemory>
     requires { HaveSmallVariables rules.now }
     ensures { IfOk result (λ apart. AreApart rules.now apart.items) }
 {

@@ -21,4 +21,4 @@ pub use laws::{found_fours_join, found_joins_join, found_steps_close};
 pub use newman::find_newman;
 pub use parallel::find_parallel;
 pub use sides::critical_peaks_have_sides;
-pub use strong::find_strong;
+pub use strong::{are_linear, find_strong};

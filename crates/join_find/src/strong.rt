@@ -58,7 +58,7 @@ pub fn find_strong<P: Stop>(
 }
 
 /// Whether both sides of each rule are linear.
-fn are_linear(trs: &Trs) -> bool
+pub fn are_linear(trs: &Trs) -> bool
     ensures linear { IsTrue result → AreLinear trs.now.rules }
     ensures not { result ≡ false → AreLinear trs.now.rules → ⊥ }
 {

@@ -1,6 +1,5 @@
 //! The strategy label.
-ghost use Rattle.std.specs.Prelude.{◌≡◌, ◌<◌, ◌↔◌, Ok, IsTrue, IfOk, false};
-ghost use Rattle.trs_defs.specs.Variable.{IsLinear};
+ghost use Rattle.std.specs.Prelude.{◌≡◌, ◌<◌, Ok, IfOk};
 ghost use Rattle.assign_search.specs.Continues.{Continues};
 ghost use Rattle.join_find.specs.crit_pairs.PeakList.{ListsPeaks};
 ghost use Rattle.join_find.specs.First.{Along};
@@ -19,12 +18,12 @@ use crate::joining::joins_by;
 use crate::listed_sides::ListedSides;
 use crate::space::LabelSpace;
 use assign_search::{Search, Stop, first_solution};
-use join_find::critical_peaks_have_sides;
+use join_find::{are_linear, critical_peaks_have_sides};
 use path_lists::{growth_of, path_lists_are_one};
 use rewrite_core::{Join, Peak};
 use std::alloc::Global;
 use term_pool::RulesByRoot;
-use trs_core::{OutOfMemory, Rule, Trs};
+use trs_core::{OutOfMemory, Trs};
 
 /// Ranks of the rules, and for each peak two paths that join it with fitting ranks.
 #[derive(Drop)]
@@ -81,25 +80,6 @@ pub fn find_label<P: Stop>(
             )
         }
     }
-}
-
-/// Whether both sides of each rule are linear.
-fn are_linear(trs: &Trs) -> bool
-    ensures linear { IsTrue result → AreLinear trs.now.rules }
-    ensures not { result ≡ false → AreLinear trs.now.rules → ⊥ }
-{
-    for rule in trs.rules() {
-        if !has_linear_sides(rule) {
-            return false;
-        }
-    }
-    true
-}
-
-fn has_linear_sides(rule: &Rule) -> bool
-    ensures { IsTrue result ↔ (IsLinear rule.now.left × IsLinear rule.now.right) }
-{
-    rule.left.is_linear() && rule.right.is_linear()
 }
 
 /// The search over these constraints of the peaks.

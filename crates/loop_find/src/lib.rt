@@ -3,7 +3,6 @@
 //! rewriting, 1987.)
 #![tactic(auto)]
 
-mod apart;
 mod binding;
 mod clashing;
 mod closures;

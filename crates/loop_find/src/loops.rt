@@ -6,12 +6,12 @@ ghost use Rattle.loop_find.specs.Closures.{rule_closures};
 ghost use Rattle.loop_find.specs.LoopRow.{LoopNone, FindsLoop, IsLoopAnswer};
 ghost use Rattle.loop_find.specs.Links.{closures_of, IsSound};
 
-use crate::apart::renamed_rules;
 use crate::closures::{Closures, no_closures};
 use crate::found::LoopFound;
 use crate::tokens::{SideTokens, term_tokens};
 use crate::trying::{Turn, expand};
 use assign_search::{Search, Stop};
+use crit_pairs::renamed_rules;
 use rewrite_core::PathStep;
 use std::alloc::Global;
 use trs_core::{OutOfMemory, Position, Trs, systems_are_valid};

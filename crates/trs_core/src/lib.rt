@@ -28,6 +28,7 @@ pub use laws::systems_are_valid;
 pub use least::least_variable;
 pub use limits::{
     GREATEST_DEPTH, GREATEST_NUMBER, MOST_NODES, MOST_RULES, MOST_SYMBOLS, MOST_VARIABLES,
+    total_nodes,
 };
 pub use matching::match_term;
 pub use memory::OutOfMemory;

@@ -33,7 +33,7 @@ pub(crate) fn are_within_limits(arities: &[u8], rules: &[Rule]) -> bool
 }
 
 /// The nodes of all sides. It stands still at the last `u64`.
-fn total_nodes(rules: &[Rule]) -> u64
+pub fn total_nodes(rules: &[Rule]) -> u64
     ensures { result ≡ min (nodes_of rules.now) u64.MAX }
 {
     let mut total: u64 = 0;
