@@ -1,11 +1,12 @@
 -- A closure that is extended, and those that are added.
-use Rattle.std.proofs.Common.{◌≡◌, ℕ, ◌+◌, ◌<◌, ◌≤◌, All, List, [], ◌∷◌, ◌++◌, length, map, get_or, Some, refl, ap, sym, ◌∙◌, subst, zero, suc, arith, slice_get, length-append}
+use Rattle.std.proofs.Common.{◌≡◌, ℕ, ◌+◌, ◌<◌, ◌≤◌, All, List, [], ◌∷◌, ◌++◌, length, map, get_or, Some, refl, ap, sym, ◌∙◌, subst, arith, slice_get, length-append}
 use Rattle.std.proofs.lemmas.Option.{same_Some, slice_get_within, get_or_from_slice_get}
+use Rattle.std.proofs.lemmas.List.{length-map}
 use Rattle.trs_defs.specs.Tree.{Tree, app}
 use Rattle.trs_defs.specs.System.{RewriteRule}
 use Rattle.trs_defs.specs.Position.{subterm_at}
 use Rattle.trs_defs.specs.Path.{PlacedRule}
-use Rattle.trs_defs.proofs.ListItems.{last_item}
+use Rattle.trs_defs.proofs.ListItems.{last_item, image_item, item_of_longer}
 use Rattle.trs_core.specs.declared.terms.Term.{Term}
 use Rattle.trs_core.specs.View.{tree, forest}
 use Rattle.term_pool.specs.Redexes.{IsNarrow}
@@ -23,26 +24,17 @@ use Rattle.loop_find.specs.declared.closures.Closures.{Closures}
 use Rattle.loop_find.specs.declared.tokens.SideTokens.{SideTokens}
 use Rattle.loop_find.specs.declared.trying.Trial.{Trial}
 use Rattle.loop_find.specs.declared.trying.Turn.{Turn}
-use Rattle.loop_find.proofs.LinkLists.{old_item_of, length_of}
+use Rattle.loop_find.proofs.LinkLists.{length_of}
 use Rattle.loop_find.proofs.WellFormedSides.{narrowing_well_formed}
 
 -- ---- rules renamed apart, by their numbers
 
-item_of_map : {X Y : Type 0} (f : X → Y) (xs : List X) (i : ℕ) (x : X) → slice_get xs i ≡ Some x → slice_get (map f xs) i ≡ Some (f x)
-item_of_map f [] i x e = absurd cc
-item_of_map f (y ∷ xs) zero x e = ap (λ z. Some (f z)) (same_Some y x e)
-item_of_map f (y ∷ xs) (suc i) x e = item_of_map f xs i x e
-
-length_of_map : {X Y : Type 0} (f : X → Y) (xs : List X) → length (map f xs) ≡ length xs
-length_of_map f [] = refl
-length_of_map f (x ∷ xs) = omega (arith, length_of_map f xs)
-
 pub as_many : (rules apart : List RewriteRule) → AreApart rules apart → length apart ≡ length rules
-as_many rules apart is = ap length is ∙ length_of_map renamed_apart rules
+as_many rules apart is = ap length is ∙ length-map rules renamed_apart
 
 pub apart_at : (rules apart : List RewriteRule) → AreApart rules apart → (i : ℕ) (x rule : RewriteRule) → x ≡ get_or apart i x → slice_get rules i ≡ Some rule → x ≡ renamed_apart rule
 apart_at rules apart is i x rule e at =
-    e ∙ get_or_from_slice_get apart i (renamed_apart rule) x (ap (λ z. slice_get z i) is ∙ item_of_map renamed_apart rules i rule at)
+    e ∙ get_or_from_slice_get apart i (renamed_apart rule) x (ap (λ z. slice_get z i) is ∙ image_item renamed_apart rules i rule at)
 
 pub placed : (p q : List ℕ) (k : ℕ) → p ≡ q → ◌≡◌ {A = PlacedRule} (record { place = p; rule = k }) (record { place = q; rule = k })
 placed p q k e = ap (λ z. record { place = z; rule = k }) e
@@ -122,7 +114,7 @@ module _ (t : Trial) (k : Closures) (trial : IsTrial t k) where
         apart = trial.apart;
         sound = sound;
         there = let before = trial.there in omega (arith, before, one_longer);
-        sides = λ c e. trial.sides c (old_item_of (closures_of k) (extension ∷ []) t.number c (let before = trial.there in omega (arith, before, length_of k)) (subst (λ cs. slice_get cs t.number ≡ Some c) added e));
+        sides = λ c e. trial.sides c (item_of_longer (closures_of k) (extension ∷ []) t.number c (let before = trial.there in omega (arith, before, length_of k)) (subst (λ cs. slice_get cs t.number ≡ Some c) added e));
         left_fit = trial.left_fit;
         right_fit = trial.right_fit;
         right_size = trial.right_size;

@@ -5,8 +5,7 @@ use Rattle.std.proofs.lemmas.Option.{same_Some, slice_get_within, slice_get_read
 use Rattle.std.proofs.lemmas.List.{reverse-append, length-take}
 use Rattle.trs_defs.specs.Tree.{Tree}
 use Rattle.trs_defs.specs.Path.{PlacedRule}
-use Rattle.trs_defs.proofs.ListItems.{last_item}
-use Rattle.term_pool.proofs.PoolTrees.{item_of_more}
+use Rattle.trs_defs.proofs.ListItems.{item_there, item_of_more, kept_item, last_item}
 use Rattle.loop_find.specs.Flat.{tokens_of, term_of}
 use Rattle.loop_find.specs.declared.tokens.Token.{Token}
 use Rattle.loop_find.proofs.FlatTerms.{said_alone, term_there, part_there, stands_within, stands_still, stands_last}
@@ -14,23 +13,6 @@ use Rattle.loop_find.specs.Closures.{Closure}
 use Rattle.loop_find.specs.Links.{path_of_found, path_to, term_from, StandsFrom, link_closure, closures_after, closures_of, IsFit, IsLink, IsSound}
 use Rattle.loop_find.specs.declared.closures.Link.{Link}
 use Rattle.loop_find.specs.declared.closures.Closures.{Closures}
-
--- ---- items of lists that are longer
-
-pub kept_item : {X : Type 0} (xs ys : List X) (i : ℕ) (x : X) → slice_get xs i ≡ Some x → slice_get (xs ++ ys) i ≡ Some x
-kept_item [] ys i x e = absurd cc
-kept_item (z ∷ xs) ys zero x e = e
-kept_item (z ∷ xs) ys (suc i) x e = kept_item xs ys i x e
-
-pub old_item_of : {X : Type 0} (xs ys : List X) (i : ℕ) (x : X) → i < length xs → slice_get (xs ++ ys) i ≡ Some x → slice_get xs i ≡ Some x
-old_item_of [] ys i x h e = absurd (omega arith)
-old_item_of (z ∷ xs) ys zero x h e = e
-old_item_of (z ∷ xs) ys (suc i) x h e = old_item_of xs ys i x (omega (arith, h)) e
-
-pub item_somewhere : {X : Type 0} (xs : List X) (i : ℕ) → i < length xs → (x : X) × (slice_get xs i ≡ Some x)
-item_somewhere [] i h = absurd (omega arith)
-item_somewhere (x ∷ xs) zero h = (x, refl)
-item_somewhere (x ∷ xs) (suc i) h = item_somewhere xs i (omega (arith, h))
 
 -- ---- closures of links
 
@@ -65,7 +47,7 @@ with_path pool l q = record { left = term_from pool l.left; right = term_from po
 same_path_to : (cs more : List Closure) (o : Option ℕ) → ((b : ℕ) → o ≡ Some b → b < length cs) → path_to (cs ++ more) o ≡ path_to cs o
 same_path_to cs more None h = refl
 same_path_to cs more (Some b) h =
-    let (c, is) = item_somewhere cs b (h b refl) in
+    let (c, is) = item_there cs b (h b refl) in
     ap path_of_found (kept_item cs more b c is ∙ sym is)
 
 at_link : (pool : List Token) (cs : List Closure) (ls : List Link) (i : ℕ) (l : Link) → slice_get ls i ≡ Some l → ((b : ℕ) → l.before ≡ Some b → b < length cs + i)
@@ -249,7 +231,7 @@ module _ (arities : List ℕ) (k : Closures) (sound : IsSound arities k) (i : �
 pub fit_sides : (arities : List ℕ) (k : Closures) → IsSound arities k → (n : ℕ) → n < length k.links.items → (t u : Tree)
     → ((c : Closure) → slice_get (closures_of k) n ≡ Some c → (t ≡ c.left) × (u ≡ c.right)) → IsFit arities t × IsFit arities u
 fit_sides arities k sound n there t u sides =
-    let (l, at) = item_somewhere k.links.items n there in
+    let (l, at) = item_there k.links.items n there in
     let s = sound.each n l at in
     let same = sides (closure_at k.tokens.items (closures_of k) l) (closure_is arities k sound n l at) in
     (subst (IsFit arities) (sym same.0) s.left_fit, subst (IsFit arities) (sym same.1) s.right_fit)
@@ -257,7 +239,7 @@ fit_sides arities k sound n there t u sides =
 -- ---- the closure of a number
 
 pub closure_of_number : (k : Closures) (n : ℕ) → n < length k.links.items → (c : Closure) × (slice_get (closures_of k) n ≡ Some c)
-closure_of_number k n h = item_somewhere (closures_of k) n (omega (arith, h, length_of k))
+closure_of_number k n h = item_there (closures_of k) n (omega (arith, h, length_of k))
 
 -- the tokens of both sides, one after the other
 pub tokens_added : (old mid new left right : List Token) (l r : Tree) → mid ≡ old ++ left → left ≡ tokens_of l → new ≡ mid ++ right → right ≡ tokens_of r → new ≡ old ++ (tokens_of l ++ tokens_of r)

@@ -7,7 +7,7 @@ use Rattle.std.proofs.lemmas.Bool.{or_left, or_right, or_cases}
 use Rattle.trs_defs.specs.Tree.{Tree, Trees, var, app, nil, cons}
 use Rattle.trs_defs.specs.Variable.{has_var, is_listed, with_variables, with_variables_of_all}
 use Rattle.trs_defs.specs.Size.{size_of, size_of_all}
-use Rattle.trs_defs.specs.Substitution.{apply, apply_all}
+use Rattle.trs_defs.specs.Substitution.{apply}
 use Rattle.trs_defs.specs.Position.{subterm_at, replaced_at}
 use Rattle.trs_defs.specs.Renaming.{shifted}
 use Rattle.trs_defs.specs.System.{RewriteRule}
@@ -17,6 +17,7 @@ use Rattle.trs_defs.proofs.ArgumentLists.{depth_le_size}
 use Rattle.trs_defs.proofs.NamedTerms.{size_named}
 use Rattle.trs_defs.proofs.Contexts.{replaced_somehow}
 use Rattle.trs_defs.proofs.Limits.{size_replaced}
+use Rattle.term_pool.proofs.KnownLaws.{size_instance}
 use Rattle.trs_core.specs.SystemLimits.{HasSmallVariables}
 use Rattle.trs_core.specs.View.{tree}
 use Rattle.trs_unify.specs.Renamed.{AreNames, old_name, first_numbers, IsRenamed}
@@ -36,19 +37,6 @@ use Rattle.loop_find.proofs.Renumbering.{one_tree, still_named, still_below}
 use Rattle.loop_find.proofs.Ways.{put_replaced}
 
 -- ---- sizes
-
-positive : (t : Tree) → 1 ≤ size_of t
-positive (var v) = omega arith
-positive (app f ts) = omega arith
-
-mutual
-  size_instance : (σ : ℕ → Tree) (t : Tree) → size_of t ≤ size_of (apply σ t)
-  size_instance σ (var v) = positive (σ v)
-  size_instance σ (app f ts) = omega (arith, size_instances σ ts)
-
-  size_instances : (σ : ℕ → Tree) (ts : Trees) → size_of_all ts ≤ size_of_all (apply_all σ ts)
-  size_instances σ nil = omega arith
-  size_instances σ (cons t ts) = omega (arith, size_instance σ t, size_instances σ ts)
 
 -- a term of few nodes is small
 pub small_of_few : (t : Tree) → size_of t ≤ 256 → IsSmallSide t

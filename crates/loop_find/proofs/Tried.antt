@@ -8,6 +8,7 @@ use Rattle.trs_defs.proofs.Members.{each_of_both, in_or}
 use Rattle.trs_core.specs.declared.terms.Term.{Term}
 use Rattle.trs_core.specs.View.{tree, forest}
 use Rattle.crit_pairs.specs.PeakList.{symbol_places, symbol_places_of_all}
+use Rattle.crit_pairs.proofs.SpotWalk.{below_below}
 use Rattle.loop_find.specs.Closures.{Closure, Attempt, Give, no_attempt, gives, left_out, IsNarrowed, IsSmall, attempts_at, attempts_of}
 use Rattle.loop_find.specs.LoopRow.{LoopsNot, LoopNone}
 use Rattle.loop_find.specs.Links.{closures_of}
@@ -16,7 +17,7 @@ use Rattle.loop_find.specs.Trials.{Extended, one_attempt}
 use Rattle.loop_find.specs.declared.closures.Closures.{Closures}
 use Rattle.loop_find.specs.declared.trying.Turn.{Turn}
 use Rattle.loop_find.specs.declared.trying.Turn.TheVariants as turn
-use Rattle.loop_find.proofs.LinkLists.{kept_item}
+use Rattle.trs_defs.proofs.ListItems.{kept_item}
 
 pub give_both : (rules : List RewriteRule) {xs ys : List Attempt} {cs ds : List Closure} → Give rules xs cs → Give rules ys ds → Give rules (xs ++ ys) (cs ++ ds)
 give_both rules no_attempt k = k
@@ -209,10 +210,6 @@ pub root_then_arguments : (rules : List RewriteRule) (c : Closure) (p : List ℕ
     → attempts_of rules c (map (λ q. p ++ q) (symbol_places part)) ≡ attempts_at c p 0 rules ++ attempts_below rules c p 1 ts
 root_then_arguments rules c p f ts part is =
     ap (λ t. attempts_of rules c (map (λ q. p ++ q) (symbol_places t))) is ∙ ap (λ q. attempts_at c q 0 rules ++ attempts_below rules c p 1 ts) (append-nil p)
-
-below_below : (p : List ℕ) (k : ℕ) (qs : List (List ℕ)) → map (λ u. p ++ u) (map (λ u. k ∷ u) qs) ≡ map (λ u. (p ++ k ∷ []) ++ u) qs
-below_below p k [] = refl
-below_below p k (q ∷ qs) = ap (λ z. z ∷ map (λ u. p ++ u) (map (λ u. k ∷ u) qs)) (sym (append_assoc p (k ∷ []) q)) ∙ ap (λ zs. ((p ++ k ∷ []) ++ q) ∷ zs) (below_below p k qs)
 
 pub next_argument : (rules : List RewriteRule) (c : Closure) (p q : List ℕ) (ts : List Term) (i : ℕ) (t : Term) → i < length ts → t ≡ get_or ts i t → q ≡ p ++ (i + 1) ∷ []
     → attempts_below rules c p (i + 1) (forest (drop i ts)) ≡ attempts_of rules c (map (λ u. q ++ u) (symbol_places (tree t))) ++ attempts_below rules c p (i + 1 + 1) (forest (drop (i + 1) ts))

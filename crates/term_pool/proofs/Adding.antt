@@ -9,13 +9,14 @@ use Rattle.indexmap.specs.IndexMap.{insert_entry}
 use Rattle.trs_defs.specs.Tree.{Tree, trees, items}
 use Rattle.trs_defs.specs.Size.{size_of, depth_of}
 use Rattle.trs_defs.proofs.ArgumentLists.{same_trees}
+use Rattle.trs_defs.proofs.ListItems.{item_of_more, old_item, last_item}
 use Rattle.term_pool.specs.declared.nodes.Node.{Node}
 use Rattle.term_pool.specs.declared.nodes.Node.TheVariants.{Var, App}
 use Rattle.term_pool.specs.declared.nodes.Measure.{Measure}
 use Rattle.term_pool.specs.Pooled.{StandsFor, Extends, AreDistinct, tree_at}
 use Rattle.term_pool.specs.Nodes.{StandsBelow, node_tree}
 use Rattle.term_pool.specs.Entries.{pool_trees, IsPool, IsMeasure}
-use Rattle.term_pool.proofs.PoolTrees.{pool_more, item_of_more, old_item, last_item, stands, stands_within}
+use Rattle.term_pool.proofs.PoolTrees.{pool_more, stands, stands_within}
 use Rattle.term_pool.proofs.PoolReads.{reads, same_length}
 
 clash : (b : Bool) → b ≡ false → b ≡ true → ⊥
@@ -155,7 +156,7 @@ module _ (eq : Node → Node → Bool) (laws : IsNodeEquality eq) where
       few_more = rw more_trees (omega (arith, length-append view (node_tree view n ∷ [])))
 
       new_stands : StandsFor (pool_trees (es ++ (n, m) ∷ [])) (length view) (node_tree view n)
-      new_stands = rw more_trees (last_item view (node_tree view n))
+      new_stands = rw more_trees (last_item view (node_tree view n) [])
 
       last_below : StandsBelow (length es) n
       last_below = rw (same_length es view pool is) below

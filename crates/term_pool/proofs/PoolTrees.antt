@@ -1,5 +1,5 @@
 -- The terms of entries by their numbers.
-use Rattle.std.proofs.Common.{◌≡◌, ℕ, ◌<◌, ◌≤◌, ◌⊎◌, inl, inr, All, List, [], ◌∷◌, ◌++◌, map, take, length, Some, refl, ap, sym, ◌∙◌, zero, suc, arith, slice_get, append_assoc, append-nil}
+use Rattle.std.proofs.Common.{◌≡◌, ℕ, ◌<◌, ◌≤◌, All, List, [], ◌∷◌, ◌++◌, map, take, length, Some, refl, ap, sym, ◌∙◌, zero, suc, arith, slice_get, append_assoc, append-nil}
 use Rattle.std.proofs.lemmas.List.{get_or-take}
 use Rattle.std.proofs.lemmas.List.Elements.{All-head, All-tail}
 use Rattle.std.proofs.lemmas.Option.{slice_get_within, same_Some, slice_get-get_or, get_or_from_slice_get}
@@ -38,25 +38,7 @@ over_more ts (x ∷ es) e =
 pub pool_more : (es : List (Node × Measure)) (e : Node × Measure) → pool_trees (es ++ e ∷ []) ≡ pool_trees es ++ node_tree (pool_trees es) e.0 ∷ []
 pool_more es e = over_more [] es e
 
--- items of lists that have grown, or were cut
-pub item_of_more : {X : Type 0} (xs : List X) (x y : X) (i : ℕ) → slice_get (xs ++ x ∷ []) i ≡ Some y → (slice_get xs i ≡ Some y) ⊎ ((i ≡ length xs) × (y ≡ x))
-item_of_more [] x y zero e = inr (refl, same_Some y x (sym e))
-item_of_more [] x y (suc i) e = absurd cc
-item_of_more (z ∷ xs) x y zero e = inl e
-item_of_more (z ∷ xs) x y (suc i) e = elim (item_of_more xs x y i e) as (λ _. (slice_get (z ∷ xs) (suc i) ≡ Some y) ⊎ ((suc i ≡ length (z ∷ xs)) × (y ≡ x))) [
-  | inl h ↦ inl h
-  | inr h ↦ inr (omega (arith, h.0), h.1)
-]
-
-pub old_item : {X : Type 0} (xs : List X) (x y : X) (i : ℕ) → slice_get xs i ≡ Some y → slice_get (xs ++ x ∷ []) i ≡ Some y
-old_item [] x y i e = absurd cc
-old_item (z ∷ xs) x y zero e = e
-old_item (z ∷ xs) x y (suc i) e = old_item xs x y i e
-
-pub last_item : {X : Type 0} (xs : List X) (x : X) → slice_get (xs ++ x ∷ []) (length xs) ≡ Some x
-last_item [] x = refl
-last_item (z ∷ xs) x = last_item xs x
-
+-- an item of a list that was cut
 pub taken_item : {X : Type 0} (n : ℕ) (xs : List X) (i : ℕ) (y : X) → slice_get (take n xs) i ≡ Some y → slice_get xs i ≡ Some y
 taken_item zero xs i y e = absurd cc
 taken_item (suc n) [] i y e = absurd cc

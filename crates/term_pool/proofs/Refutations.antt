@@ -1,9 +1,9 @@
 -- Terms that are no instances, since they differ from the pattern at a place that is no variable.
 use Rattle.std.proofs.lemmas.List.{length-map}
-use Rattle.std.proofs.lemmas.Option.{slice_get-map, slice_get-get_or}
-use Rattle.std.proofs.Common.{◌≡◌, ℕ, ◌<◌, List, [], ◌∷◌, length, map, option_map, Some, get_or, slice_get, refl, sym, ap, ◌∙◌, zero, suc, arith}
+use Rattle.std.proofs.Common.{◌≡◌, ℕ, ◌<◌, List, [], ◌∷◌, length, map, Some, get_or, slice_get, refl, sym, ◌∙◌, zero, suc, arith}
 use Rattle.trs_defs.specs.Tree.{Tree, Trees, var, app, cons, trees}
 use Rattle.trs_defs.specs.Substitution.{apply, apply_all, IsInstance}
+use Rattle.trs_defs.proofs.ListItems.{read_image}
 
 same_cells : (t u : Tree) (ts us : Trees) → cons t ts ≡ cons u us → (t ≡ u) × (ts ≡ us)
 same_cells t u ts us e = (cc, cc)
@@ -39,9 +39,6 @@ no_instance_at f g ps ts i p t at there none (σ, is) =
 
 pub no_instance_in_variable : (f n : ℕ) (ps : Trees) → IsInstance (app f ps) (var n) → ⊥
 no_instance_in_variable f n ps (σ, is) = absurd cc
-
-read_image : {A B : Type 0} (f : A → B) (xs : List A) (i : ℕ) (x : A) → i < length xs → x ≡ get_or xs i x → slice_get (map f xs) i ≡ Some (f x)
-read_image f xs i x within e = slice_get-map f xs i ∙ ap (λ o. option_map f o) (slice_get-get_or xs i x within ∙ ap (λ y. Some y) (sym e))
 
 -- where two arguments that are read are such
 pub no_instance_read : {A B : Type 0} (u : A → Tree) (v : B → Tree) (f g : ℕ) (ps : List A) (ts : List B) (i : ℕ) (p : A) (t : B) → length ps ≡ length ts → i < length ps → p ≡ get_or ps i p

@@ -48,6 +48,21 @@ old_item [] x y i e = absurd cc
 old_item (z ∷ xs) x y zero e = e
 old_item (z ∷ xs) x y (suc i) e = old_item xs x y i e
 
+-- items of a list that others stand behind
+pub kept_item : {T : Type 0} (xs ys : List T) (i : ℕ) (x : T) → slice_get xs i ≡ Some x → slice_get (xs ++ ys) i ≡ Some x
+kept_item [] ys i x e = absurd cc
+kept_item (z ∷ xs) ys zero x e = e
+kept_item (z ∷ xs) ys (suc i) x e = kept_item xs ys i x e
+
+pub item_of_longer : {T : Type 0} (xs ys : List T) (i : ℕ) (x : T) → i < length xs → slice_get (xs ++ ys) i ≡ Some x → slice_get xs i ≡ Some x
+item_of_longer [] ys i x h e = absurd (omega (arith, h))
+item_of_longer (z ∷ xs) ys zero x h e = e
+item_of_longer (z ∷ xs) ys (suc i) x h e = item_of_longer xs ys i x (omega (arith, h)) e
+
+-- an item of a list's image
+pub image_item : {S T : Type 0} (f : S → T) (xs : List S) (i : ℕ) (x : S) → slice_get xs i ≡ Some x → slice_get (map f xs) i ≡ Some (f x)
+image_item f xs i x e = slice_get-map f xs i ∙ ap (option_map f) e
+
 -- the item behind a list
 pub last_item : {T : Type 0} (xs : List T) (x : T) (ys : List T) → slice_get (xs ++ x ∷ ys) (length xs) ≡ Some x
 last_item [] x ys = refl

@@ -1,6 +1,6 @@
 use Rattle.std.proofs.Common.{◌+◌, arith, refl, sym, ◌∙◌}
 use Rattle.loop_find.specs.declared.closures.Closures.{Closures}
-use Rattle.loop_find.proofs.LinkLists.{item_somewhere}
+use Rattle.trs_defs.proofs.ListItems.{item_there}
 use Rattle.loop_find.proofs.Tried.{spent_at_once, attempt_left_out, attempt_given}
 use Rattle.loop_find.proofs.Extensions.{as_many, apart_at, nothing_given}
 use Rattle.loop_find.proofs.trying.try_rule.Goals as goal
@@ -13,7 +13,7 @@ pub extend-requires-clause-narrowed : goal.extend-requires-clause-narrowed
 extend-requires-clause-narrowed g c =
     let rules = c.args.trial.now.trs.now.rules in
     let many = as_many rules c.args.trial.now.apart.now c.requires.trial.apart in
-    let here = item_somewhere rules c.args.k (let k = c.requires.rule in omega (arith, many, k)) in
+    let here = item_there rules c.args.k (let k = c.requires.rule in omega (arith, many, k)) in
     (here.0, here.1, (rw c.in-Some.is at c.in_ok-narrow.ensures) here.0 (sym c.index-trial-k.is ∙ apart_at rules c.args.trial.now.apart.now c.requires.trial.apart c.args.k c.index-trial-k.result here.0 c.index-trial-k.is here.1))
 
 pub returns-in-None-clause-turn : goal.returns-in-None-clause-turn
