@@ -140,13 +140,13 @@ module _ (system : System) (valid : IsSystem system) (p : DependencyPair) (i : I
   of_rule : (s : PlacedRule) × IsPairAt system.rules s p
   of_rule = paired_first (IsPairAt system.rules) (placed_pairs system.rules) (dependency_pairs system.rules) (pairs_placed system valid) p i
 
-  from_symbols : (f : ℕ) → In f (symbols_of_all p.from.args) → In f (symbols_of_rules system.rules)
+  pub from_symbols : (f : ℕ) → In f (symbols_of_all p.from.args) → In f (symbols_of_rules system.rules)
   from_symbols f m =
       let h = of_rule.1 in
       let left : In f (symbols_of h.rule.left) = subst (λ t. In f (symbols_of t)) (sym h.left) (in_rest m) in
       rule_symbols system.rules h.rule (in_of_get system.rules of_rule.0.rule h.rule h.numbered) f (in_left (symbols_of h.rule.right) left)
 
-  to_symbols : (f : ℕ) → In f (symbols_of_all p.to.args) → In f (symbols_of_rules system.rules)
+  pub to_symbols : (f : ℕ) → In f (symbols_of_all p.to.args) → In f (symbols_of_rules system.rules)
   to_symbols f m =
       let h = of_rule.1 in
       let right : In f (symbols_of h.rule.right) = at_place_symbols of_rule.0.place h.rule.right (plain p.to) h.right f (in_rest m) in

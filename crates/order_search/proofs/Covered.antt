@@ -21,7 +21,7 @@ use Rattle.dp_core.specs.PlacedPairs.{placed_pairs, IsPairAt}
 use Rattle.dp_core.specs.Symbols.{symbols_of, symbols_of_all, symbols_of_rules}
 use Rattle.dp_core.specs.SubtermConditions.{roots_of}
 use Rattle.dp_core.proofs.PlacedLaws.{Paired, pairs_placed}
-use Rattle.dp_core.proofs.OrderConclusions.{rule_symbols}
+use Rattle.dp_core.proofs.OrderConclusions.{root_listed, rule_symbols, from_symbols, to_symbols}
 use Rattle.order_search.proofs.FewPairs.{length_below}
 use Rattle.order_search.proofs.RootSets.{in_at}
 use Rattle.order_search.specs.OrderSpace.{occurs_in, occurs_in_some, AreCovered}
@@ -49,56 +49,7 @@ mutual
     | inr later ↦ in_right (symbols_of t) (listed_below f ts later)
   ]
 
--- ---- symbols of parts
-
-item_symbols : (ts : Trees) (k : ℕ) (a : Tree) → slice_get (items ts) k ≡ Some a → (f : ℕ) → In f (symbols_of a) → In f (symbols_of_all ts)
-item_symbols nil k a e f i = absurd cc
-item_symbols (cons t ts) zero a e f i = let same : t ≡ a = cc in in_left (symbols_of_all ts) (subst (λ z. In f (symbols_of z)) (sym same) i)
-item_symbols (cons t ts) (suc k) a e f i = in_right (symbols_of t) (item_symbols ts k a e f i)
-
-argument_symbols : (t : Tree) (place : ℕ) (a : Tree) → argument_at t place ≡ Some a → (f : ℕ) → In f (symbols_of a) → In f (symbols_of t)
-argument_symbols (var x) place a e f i = absurd cc
-argument_symbols (app g ts) zero a e f i = absurd cc
-argument_symbols (app g ts) (suc k) a e f i = in_rest (item_symbols ts k a e f i)
-
-at_place_symbols : (p : List ℕ) (t s : Tree) → subterm_at p t ≡ Some s → (f : ℕ) → In f (symbols_of s) → In f (symbols_of t)
-at_place_symbols [] t s e f i = let same : t ≡ s = cc in subst (λ z. In f (symbols_of z)) (sym same) i
-at_place_symbols (place ∷ p) t s e f i = go (argument_at t place) refl e (λ a d. at_place_symbols p a s d f i)
-  where
-    go : (o : Option Tree) → argument_at t place ≡ o → option_and_then (subterm_at p) o ≡ Some s → ((a : Tree) → subterm_at p a ≡ Some s → In f (symbols_of a)) → In f (symbols_of t)
-    go None is d below = absurd cc
-    go (Some a) is d below = argument_symbols t place a is f (below a d)
-
-paired_first : {A B : Type 0} (R : A → B → Type 0) (xs : List A) (ys : List B) → Paired R xs ys → (y : B) → In y ys → (x : A) × R x y
-paired_first R [] [] h y i = absurd (no_in i)
-paired_first R [] (z ∷ ys) h y i = absurd h
-paired_first R (x ∷ xs) [] h y i = absurd h
-paired_first R (x ∷ xs) (z ∷ ys) h y i = elim (in_or i) [ inl same ↦ (x, subst (R x) (sym same) h.0) | inr later ↦ paired_first R xs ys h.1 y later ]
-
-module _ (system : System) (valid : IsSystem system) (p : DependencyPair) (i : In p (dependency_pairs system.rules)) where
-  of_rule : (s : PlacedRule) × IsPairAt system.rules s p
-  of_rule = paired_first (IsPairAt system.rules) (placed_pairs system.rules) (dependency_pairs system.rules) (pairs_placed system valid) p i
-
-  pub from_symbols : (f : ℕ) → In f (symbols_of_all p.from.args) → In f (symbols_of_rules system.rules)
-  from_symbols f m =
-      let h = of_rule.1 in
-      let left : In f (symbols_of h.rule.left) = subst (λ t. In f (symbols_of t)) (sym h.left) (in_rest m) in
-      rule_symbols system.rules h.rule (in_of_get system.rules of_rule.0.rule h.rule h.numbered) f (in_left (symbols_of h.rule.right) left)
-
-  pub to_symbols : (f : ℕ) → In f (symbols_of_all p.to.args) → In f (symbols_of_rules system.rules)
-  to_symbols f m =
-      let h = of_rule.1 in
-      let right : In f (symbols_of h.rule.right) = at_place_symbols of_rule.0.place h.rule.right (plain p.to) h.right f (in_rest m) in
-      rule_symbols system.rules h.rule (in_of_get system.rules of_rule.0.rule h.rule h.numbered) f (in_right (symbols_of h.rule.left) right)
-
 -- ---- of rules and pairs
-
-pub both_roots : (pairs : List DependencyPair) (p : DependencyPair) → In p pairs → In p.from.symbol (roots_of pairs) × In p.to.symbol (roots_of pairs)
-both_roots [] p i = absurd (no_in i)
-both_roots (q ∷ pairs) p i = elim (in_or i) [
-  | inl same ↦ (subst (λ (z : DependencyPair). In z.from.symbol (roots_of (q ∷ pairs))) (sym same) in_first, subst (λ (z : DependencyPair). In z.to.symbol (roots_of (q ∷ pairs))) (sym same) (in_rest in_first))
-  | inr later ↦ let h = both_roots pairs p later in (in_rest (in_rest h.0), in_rest (in_rest h.1))
-]
 
 self_test : (n : ℕ) → (n == n) ≡ true
 self_test n = grind (arith, nat_tests)
@@ -148,7 +99,7 @@ module _ (system : System) (valid : IsSystem system) (pairs : List DependencyPai
   pair_covered : (p : DependencyPair) → In p pairs → (f : ℕ) → occurs_in f (mark p.from) || occurs_in f (mark p.to) ≡ true → is_listed f symbols ≡ true
   pair_covered p i =
       let there = from_all p i in
-      let roots = both_roots pairs p i in
+      let roots = root_listed pairs p i in
       of_sides (marked_rule p) (side_covered p.from roots.0 (from_symbols system valid p there)) (side_covered p.to roots.1 (to_symbols system valid p there))
 
   pub pairs_covered : AreCovered symbols (map marked_rule pairs)

@@ -16,6 +16,7 @@ use Rattle.dp_core.specs.Markable.{IsMarkable}
 use Rattle.dp_core.specs.Numbered.{ArePairsOf}
 use Rattle.dp_core.specs.Symbols.{symbols_of_rules}
 use Rattle.dp_core.specs.SubtermConditions.{roots_of}
+use Rattle.dp_core.proofs.OrderConclusions.{root_listed}
 use Rattle.order_search.specs.Slots.{Table, puzzle_of}
 use Rattle.order_search.specs.Outcome.{IsFinding, IsNotThere, IsSpent}
 use Rattle.order_search.proofs.FewPairs.{few_taken, taken_in, roots_small}
@@ -24,7 +25,7 @@ use Rattle.order_search.specs.OrderRow.{AreSymbols, AreOfOrder, FindsOrder, Fail
 use Rattle.order_search.specs.OrderOver.{SearchOver, search_of, IsOrderOver}
 use Rattle.order_search.specs.Distinct.{AreDistinct}
 use Rattle.order_search.specs.OrderProblem.{IsOrderProblem, IsSearchable}
-use Rattle.order_search.proofs.Covered.{all_covered, few_symbols, plain_small, both_roots}
+use Rattle.order_search.proofs.Covered.{all_covered, few_symbols, plain_small}
 use Rattle.order_search.proofs.LowSymbols.{low_symbols}
 use Rattle.order_search.proofs.Repeats.{symbols_distinct}
 
@@ -44,7 +45,7 @@ module _ (system : System) (valid : IsSystem system) (few : length system.aritie
   small_roots listed same f i = small_root f (subst (λ (l : List DependencyPair). In f (roots_of l)) same i)
 
   one_markable : (p : DependencyPair) → In p taken → IsMarkable p
-  one_markable p i = let roots = both_roots taken p i in record { from = small_root p.from.symbol roots.0; to = small_root p.to.symbol roots.1 }
+  one_markable p i = let roots = root_listed taken p i in record { from = small_root p.from.symbol roots.0; to = small_root p.to.symbol roots.1 }
 
   pub all_markable : (listed : List DependencyPair) → listed ≡ taken → All IsMarkable listed
   all_markable listed same =

@@ -16,7 +16,7 @@ use Rattle.order_search.specs.dp_core.Numbered.{ArePairsOf, AreItemsOf}
 use Rattle.order_search.specs.dp_core.Symbols.{symbols_of, symbols_of_all, symbols_of_rules, symbols_below_roots}
 use Rattle.order_search.specs.dp_core.SubtermConditions.{roots_of}
 use Rattle.order_search.proofs.dp_core.NumberedPairs.{as_many, within_all}
-use Rattle.order_search.proofs.dp_core.OrderConclusions.{rule_symbols}
+use Rattle.order_search.proofs.dp_core.OrderConclusions.{rule_symbols, from_symbols, to_symbols}
 use Rattle.usable_rules.specs.AreUsable.{AreUsableRules, Ascends, no_numbers, number}
 use Rattle.usable_rules.proofs.Chosen.{usable_within}
 use Rattle.order_search.specs.Slots.{puzzle_of}
@@ -25,7 +25,7 @@ use Rattle.order_search.proofs.FewPairs.{few_taken, taken_in, roots_small}
 use Rattle.order_search.specs.OrderRow.{AreSymbols}
 use Rattle.order_search.specs.OrderOver.{IsOrderOver}
 use Rattle.order_search.specs.Distinct.{AreDistinct}
-use Rattle.order_search.proofs.Covered.{from_symbols, to_symbols, symbols_within}
+use Rattle.order_search.proofs.Covered.{symbols_within}
 use Rattle.order_search.proofs.Repeats.{symbols_distinct}
 use Rattle.poly_find.specs.PolyRow.{poly_search, poly_entry}
 use Rattle.order_search.proofs.LowSymbols.{low_symbols, few_by_numbers}

@@ -17,11 +17,11 @@ use Rattle.order_search.specs.dp_core.Numbered.{taken}
 use Rattle.order_search.specs.dp_core.Symbols.{symbols_of, symbols_of_all, symbols_of_rules, symbols_below_roots}
 use Rattle.order_search.specs.dp_core.SubtermConditions.{roots_of}
 use Rattle.order_search.proofs.dp_core.NumberedPairs.{as_many}
-use Rattle.order_search.proofs.dp_core.OrderConclusions.{rule_symbols}
+use Rattle.order_search.proofs.dp_core.OrderConclusions.{root_listed, rule_symbols}
 use Rattle.usable_rules.specs.UsableConditions.{usable_taken}
 use Rattle.order_search.specs.OrderSpace.{occurs_in, AreCovered}
 use Rattle.order_search.specs.OrderRow.{AreSymbols}
-use Rattle.order_search.proofs.Covered.{listed_symbol, listed_of, both_roots}
+use Rattle.order_search.proofs.Covered.{listed_symbol, listed_of}
 use Rattle.order_search.proofs.OrderLaw.{removal_applies}
 use Rattle.poly_find.specs.LinearTest.{linear_weak, linear_strict}
 use Rattle.poly_find.proofs.NoPairing.{no_pairing_by, roots_within}
@@ -70,7 +70,7 @@ module _ (rules : List RewriteRule) (pairs : List DependencyPair) (symbols : Lis
 
   pair_covered : (p : DependencyPair) → In p pairs → (f : ℕ) → occurs_in f (mark p.from) || occurs_in f (mark p.to) ≡ true → is_listed f symbols ≡ true
   pair_covered p i =
-      let roots = both_roots pairs p i in
+      let roots = root_listed pairs p i in
       of_sides (marked_rule p) (side_symbol p.from roots.0 (λ f j. pair_symbols pairs p i f (in_left (symbols_of_all p.to.args) j)))
       (side_symbol p.to roots.1 (λ f j. pair_symbols pairs p i f (in_right (symbols_of_all p.from.args) j)))
 

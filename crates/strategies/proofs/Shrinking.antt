@@ -15,7 +15,7 @@ use Rattle.cert_step.specs.dp_core.Numbered.{numbers_from}
 use Rattle.cert_step.specs.dp_core.PlacedPairs.{placed_pairs, IsPairAt}
 use Rattle.cert_step.specs.dp_core.SubtermConditions.{subterm_conditions, unflagged}
 use Rattle.cert_step.specs.dp_core.PairConditions.{Comparing, pair_conditions}
-use Rattle.cert_step.proofs.dp_core.AllNumbers.{few_pairs}
+use Rattle.cert_step.proofs.dp_core.AllNumbers.{as_many_numbers, few_pairs}
 use Rattle.cert_step.proofs.dp_core.PlacedLaws.{pairs_placed, paired_length}
 use Rattle.cert_step.proofs.dp_core.SubtermLaws.{collected_length}
 use Rattle.cert_step.specs.dp_graph.GroupOrSingle.{GroupOrSingle, group, single, all_members, groups_of, singles_of}
@@ -178,17 +178,13 @@ graph_left system numbers items _ (goes_on _ _ _ (goes_on _ _ (goes_on _ _ _ (go
 
 -- ---- each row
 
-as_many : {A : Type 0} (k : ℕ) (xs : List A) → length (numbers_from k xs) ≡ length xs
-as_many k [] = refl
-as_many k (x ∷ xs) = ap suc (as_many (k + 1) xs)
-
 -- the problems that are left by a found step give no more tasks than stand below its problem
 pub found_shrinks : (system : System) (budget : ℕ) (strategy : Strategy) (p : ProofProblem) (s : ProofStep) (left : List ProofProblem)
     → IsWellMadeProblem system p → Finds system budget strategy p s → Applies system p s left
     → tasks_of_all (pairs_in system) left ≤ tasks_below (pairs_in system) p
 found_shrinks system budget _ _ _ _ well dp_is_found (goes_on _ _ _ returned) =
     let all = numbers_from 0 (dependency_pairs system.rules) in
-    let e : length all ≡ pairs_in system = as_many 0 (dependency_pairs system.rules) in
+    let e : length all ≡ pairs_in system = as_many_numbers 0 (dependency_pairs system.rules) in
     let now : tasks_of_all (pairs_in system) (problem.dp all ∷ []) ≡ 6 + 12 * (length all - 1) + 0 = refl in
     omega (arith, e, now)
 found_shrinks system budget _ _ _ left well (graph_is_found {numbers = numbers} {items = items} f) applies =
