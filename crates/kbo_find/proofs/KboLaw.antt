@@ -15,13 +15,14 @@ use Rattle.kbo_order.specs.declared.entries.KboEntry.{KboEntry}
 use Rattle.kbo_order.specs.Table.{symbol_of, weight_in, rank_in}
 use Rattle.kbo_order.specs.TooBig.{EitherIsBig}
 use Rattle.rewrite_core.specs.Check.{Asks, yes_it_does, no_it_does_not}
+use Rattle.order_search.specs.dp_core.Symbols.{symbols_of_rules}
 use Rattle.order_search.specs.dp_core.PairConditions.{Comparing, comparing_by}
 use Rattle.order_search.specs.Slots.{Table, table_of, puzzle_of}
 use Rattle.order_search.proofs.Solutions.{solved}
 use Rattle.order_search.proofs.FewPairs.{taken_in}
 use Rattle.order_search.specs.OrderSpace.{arity_with_mark, slots_of, some_falls}
 use Rattle.order_search.specs.OrderOver.{search_of}
-use Rattle.order_search.proofs.Covered.{all_covered, rule_symbol, root_symbol, listed_of}
+use Rattle.order_search.proofs.Covered.{all_covered, plain_symbol, root_symbol, listed_of}
 use Rattle.order_search.proofs.SaidEntries.{entry_is_there}
 use Rattle.order_search.proofs.OrderLaw.{Tests, order_applies}
 use Rattle.kbo_find.specs.KnuthTest.{knuth_weak, knuth_strict}
@@ -85,7 +86,7 @@ found_apply system numbers budget entries valid h =
       _,
       order_applies (comparing entries) (knuth_weak (weight_in entries) (rank_in entries)) (knuth_strict (weight_in entries) (rank_in entries)) (tests entries)
           system numbers pairs h.of_problem.taken
-          (λ f i. there f (rule_symbol system valid pairs from_all symbols syms f i))
-          (λ f i. there (f + 4096) (root_symbol system valid pairs from_all symbols syms f i))
+          (λ f i. there f (plain_symbol (symbols_of_rules system.rules) pairs symbols syms f i))
+          (λ f i. there (f + 4096) (root_symbol (symbols_of_rules system.rules) pairs symbols syms f i))
           fall some,
     )

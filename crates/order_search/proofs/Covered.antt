@@ -1,26 +1,21 @@
 -- The symbols of the rules and of the marked pairs of a problem are those that an order needs values for.
-use Rattle.std.specs.Prelude.{◌≡◌, ◌≤◌, ◌<◌, ◌⊎◌, ℕ, ◌+◌, Bool, true, false, ◌||◌, ◌==◌, List, [], ◌∷◌, ◌++◌, length, map, All, get_or, Option, Some, None, slice_get}
-use Rattle.std.specs.Option.{option_and_then}
+use Rattle.std.specs.Prelude.{◌≡◌, ◌≤◌, ◌<◌, ◌⊎◌, ℕ, ◌+◌, Bool, true, false, ◌||◌, ◌==◌, List, [], ◌∷◌, ◌++◌, length, map, All, get_or}
 use Rattle.std.specs.List.Sorted.{IsStrictlyIncreasing}
-use Rattle.std.proofs.Common.{zero, suc, inl, inr, refl, sym, ap, subst, arith}
+use Rattle.std.proofs.Common.{inl, inr, refl, sym, ap, subst, arith}
 use Rattle.std.proofs.lemmas.Bool.Decides.{nat_tests}
 use Rattle.std.proofs.lemmas.List.{length-append, length-map}
 use Rattle.std.proofs.lemmas.Option.{slice_get_within}
 use Rattle.trs_defs.specs.Member.{In, in_first, in_rest}
 use Rattle.trs_defs.specs.Variable.{is_listed}
-use Rattle.trs_defs.proofs.Members.{in_or, no_in, in_left, in_right, in_either, in_of_get, get_of_in, in_map, of_map}
-use Rattle.trs_defs.specs.Tree.{Tree, Trees, var, app, nil, cons, items, count}
+use Rattle.trs_defs.proofs.Members.{in_or, no_in, in_left, in_right, in_either, get_of_in, in_map, of_map}
+use Rattle.trs_defs.specs.Tree.{Tree, Trees, var, app, nil, cons, count}
 use Rattle.trs_defs.specs.WellFormed.{IsWellFormed, AreWellFormed}
-use Rattle.trs_defs.specs.Position.{subterm_at, argument_at}
 use Rattle.trs_defs.specs.System.{RewriteRule, System, IsSystem}
-use Rattle.trs_defs.specs.Path.{PlacedRule}
-use Rattle.pair_theory.specs.Marked.{Marked, plain, mark}
+use Rattle.pair_theory.specs.Marked.{Marked, mark}
 use Rattle.pair_theory.specs.DependencyPair.{DependencyPair, dependency_pairs}
 use Rattle.pair_theory.specs.ReductionPair.{marked_rule}
-use Rattle.dp_core.specs.PlacedPairs.{placed_pairs, IsPairAt}
 use Rattle.dp_core.specs.Symbols.{symbols_of, symbols_of_all, symbols_of_rules}
 use Rattle.dp_core.specs.SubtermConditions.{roots_of}
-use Rattle.dp_core.proofs.PlacedLaws.{Paired, pairs_placed}
 use Rattle.dp_core.proofs.OrderConclusions.{root_listed, rule_symbols, from_symbols, to_symbols}
 use Rattle.order_search.proofs.FewPairs.{length_below}
 use Rattle.order_search.proofs.RootSets.{in_at}
@@ -69,19 +64,18 @@ listed_of f (x ∷ xs) i = elim (in_or i) [
   | inr later ↦ or_second (x == f) (is_listed f xs) (listed_of f xs later)
 ]
 
-module _ (system : System) (valid : IsSystem system) (pairs : List DependencyPair) (from_all : (p : DependencyPair) → In p pairs → In p (dependency_pairs system.rules))
-    (symbols : List ℕ) (are : AreSymbols (symbols_of_rules system.rules) pairs symbols) where
-  pub rule_symbol : (f : ℕ) → In f (symbols_of_rules system.rules) → In f symbols
-  rule_symbol f i = subst (λ (l : List ℕ). In f l) (sym are.together) (in_left (map (λ g. g + 4096) are.roots) ((are.are_plain.each f).1 i))
+module _ (unmarked : List ℕ) (pairs : List DependencyPair) (symbols : List ℕ) (are : AreSymbols unmarked pairs symbols) where
+  pub plain_symbol : (f : ℕ) → In f unmarked → In f symbols
+  plain_symbol f i = subst (λ (l : List ℕ). In f l) (sym are.together) (in_left (map (λ g. g + 4096) are.roots) ((are.are_plain.each f).1 i))
 
   pub root_symbol : (f : ℕ) → In f (roots_of pairs) → In (f + 4096) symbols
   root_symbol f i = subst (λ (l : List ℕ). In (f + 4096) l) (sym are.together) (in_right are.plain (in_map (λ (g : ℕ). g + 4096) ((are.are_roots.each f).1 i)))
 
-  side_covered : (m : Marked) → In m.symbol (roots_of pairs) → ((f : ℕ) → In f (symbols_of_all m.args) → In f (symbols_of_rules system.rules))
+  side_covered : (m : Marked) → In m.symbol (roots_of pairs) → ((f : ℕ) → In f (symbols_of_all m.args) → In f unmarked)
       → (f : ℕ) → In f (symbols_of (mark m)) → In f symbols
   side_covered m root below f i = elim (in_or i) [
     | inl same ↦ subst (λ (x : ℕ). In x symbols) (sym same) (root_symbol m.symbol root)
-    | inr later ↦ rule_symbol f (below f later)
+    | inr later ↦ plain_symbol f (below f later)
   ]
 
   of_sides : (r : RewriteRule) → ((f : ℕ) → In f (symbols_of r.left) → In f symbols) → ((f : ℕ) → In f (symbols_of r.right) → In f symbols)
@@ -91,24 +85,41 @@ module _ (system : System) (valid : IsSystem system) (pairs : List DependencyPai
     | inr there ↦ listed_of f symbols (right f (listed_symbol f r.right there))
   ]
 
-  pub rules_covered : AreCovered symbols system.rules
-  rules_covered r i =
-      of_sides r (λ f j. rule_symbol f (rule_symbols system.rules r i f (in_left (symbols_of r.right) j)))
-      (λ f j. rule_symbol f (rule_symbols system.rules r i f (in_right (symbols_of r.left) j)))
+  rule_covered : (r : RewriteRule) → ((f : ℕ) → In f (symbols_of r.left ++ symbols_of r.right) → In f unmarked)
+      → (f : ℕ) → occurs_in f r.left || occurs_in f r.right ≡ true → is_listed f symbols ≡ true
+  rule_covered r unmarked_in =
+      of_sides r (λ f j. plain_symbol f (unmarked_in f (in_left (symbols_of r.right) j)))
+      (λ f j. plain_symbol f (unmarked_in f (in_right (symbols_of r.left) j)))
 
-  pair_covered : (p : DependencyPair) → In p pairs → (f : ℕ) → occurs_in f (mark p.from) || occurs_in f (mark p.to) ≡ true → is_listed f symbols ≡ true
-  pair_covered p i =
-      let there = from_all p i in
+  pair_covered : (p : DependencyPair) → In p pairs → ((f : ℕ) → In f (symbols_of_all p.from.args ++ symbols_of_all p.to.args) → In f unmarked)
+      → (f : ℕ) → occurs_in f (mark p.from) || occurs_in f (mark p.to) ≡ true → is_listed f symbols ≡ true
+  pair_covered p i below =
       let roots = root_listed pairs p i in
-      of_sides (marked_rule p) (side_covered p.from roots.0 (from_symbols system valid p there)) (side_covered p.to roots.1 (to_symbols system valid p there))
+      of_sides (marked_rule p) (side_covered p.from roots.0 (λ f j. below f (in_left (symbols_of_all p.to.args) j)))
+      (side_covered p.to roots.1 (λ f j. below f (in_right (symbols_of_all p.from.args) j)))
 
-  pub pairs_covered : AreCovered symbols (map marked_rule pairs)
-  pairs_covered r i =
-      let (p, j, same) = of_map marked_rule pairs i in
-      subst (λ (x : RewriteRule). (f : ℕ) → occurs_in f x.left || occurs_in f x.right ≡ true → is_listed f symbols ≡ true) (sym same) (pair_covered p j)
+  -- the symbols of the rules, and those below the roots of the pairs, are among the unmarked ones
+  pub covers : (rules : List RewriteRule) → ((r : RewriteRule) → In r rules → (f : ℕ) → In f (symbols_of r.left ++ symbols_of r.right) → In f unmarked)
+      → ((p : DependencyPair) → In p pairs → (f : ℕ) → In f (symbols_of_all p.from.args ++ symbols_of_all p.to.args) → In f unmarked)
+      → AreCovered symbols (rules ++ map marked_rule pairs)
+  covers rules of_rules of_pairs r i = elim (in_either rules (map marked_rule pairs) i) [
+    | inl rule ↦ rule_covered r (of_rules r rule)
+    | inr pair ↦
+        (let (p, j, same) = of_map marked_rule pairs pair in
+        subst (λ (x : RewriteRule). (f : ℕ) → occurs_in f x.left || occurs_in f x.right ≡ true → is_listed f symbols ≡ true) (sym same) (pair_covered p j (of_pairs p j)))
+  ]
 
-  pub all_covered : AreCovered symbols (system.rules ++ map marked_rule pairs)
-  all_covered r i = elim (in_either system.rules (map marked_rule pairs) i) [ inl rule ↦ rules_covered r rule | inr pair ↦ pairs_covered r pair ]
+pub symbols_below : (system : System) → IsSystem system → (p : DependencyPair) → In p (dependency_pairs system.rules) → (f : ℕ)
+    → In f (symbols_of_all p.from.args ++ symbols_of_all p.to.args) → In f (symbols_of_rules system.rules)
+symbols_below system valid p i f m = elim (in_either (symbols_of_all p.from.args) (symbols_of_all p.to.args) m) [
+  | inl left ↦ from_symbols system valid p i f left
+  | inr right ↦ to_symbols system valid p i f right
+]
+
+pub all_covered : (system : System) → IsSystem system → (pairs : List DependencyPair) → ((p : DependencyPair) → In p pairs → In p (dependency_pairs system.rules)) → (symbols : List ℕ)
+    → AreSymbols (symbols_of_rules system.rules) pairs symbols → AreCovered symbols (system.rules ++ map marked_rule pairs)
+all_covered system valid pairs from_all symbols are =
+    covers (symbols_of_rules system.rules) pairs symbols are system.rules (rule_symbols system.rules) (λ p i. symbols_below system valid p (from_all p i))
 
 -- ---- few of them
 
@@ -121,7 +132,7 @@ module _ (arities : List ℕ) where
       | inr below ↦ symbol_within_all ts well.1 f below
     ]
 
-    symbol_within_all : (ts : Trees) → AreWellFormed arities ts → (f : ℕ) → In f (symbols_of_all ts) → f < length arities
+    pub symbol_within_all : (ts : Trees) → AreWellFormed arities ts → (f : ℕ) → In f (symbols_of_all ts) → f < length arities
     symbol_within_all nil well f i = absurd (no_in i)
     symbol_within_all (cons t ts) well f i = elim (in_either (symbols_of t) (symbols_of_all ts) i) [
       | inl here ↦ symbol_within t well.0 f here
@@ -139,19 +150,19 @@ module _ (arities : List ℕ) where
     | inr later ↦ symbols_within rules (λ s j. well s (in_rest j)) f later
   ]
 
+pub rule_well : (system : System) → IsSystem system → (r : RewriteRule) → In r system.rules → IsWellFormed system.arities r.left × IsWellFormed system.arities r.right
+rule_well system valid r i =
+    let (k, at) = get_of_in i in
+    let rule = valid.each k r at in
+    (rule.left_well_formed, rule.right_well_formed)
+
 pub few_listed : (listed : List ℕ) (most : ℕ) → IsStrictlyIncreasing listed → ((f : ℕ) → In f listed → f < most) → length listed ≤ most
 few_listed listed most up small = length_below listed most up (λ k d within. small (get_or listed k d) (in_at listed k d (get_or listed k d) within refl))
 
 module _ (system : System) (valid : IsSystem system) (few : length system.arities ≤ 4095) (pairs : List DependencyPair)
     (small : (f : ℕ) → In f (roots_of pairs) → f < 4096) (symbols : List ℕ) (are : AreSymbols (symbols_of_rules system.rules) pairs symbols) where
-  well : (r : RewriteRule) → In r system.rules → IsWellFormed system.arities r.left × IsWellFormed system.arities r.right
-  well r i =
-      let (k, at) = get_of_in i in
-      let rule = valid.each k r at in
-      (rule.left_well_formed, rule.right_well_formed)
-
   pub plain_small : (f : ℕ) → In f (symbols_of_rules system.rules) → f < 4096
-  plain_small f i = let h = symbols_within system.arities system.rules well f i in omega (arith, h, few)
+  plain_small f i = let h = symbols_within system.arities system.rules (rule_well system valid) f i in omega (arith, h, few)
 
   pub few_symbols : length symbols ≤ 8192
   few_symbols =

@@ -5,7 +5,6 @@ use Rattle.std.proofs.Common.{suc, inl, inr, refl, sym, ap, subst, arith, ◌∙
 use Rattle.std.proofs.lemmas.List.{length-map}
 use Rattle.trs_defs.specs.Member.{In, in_first, in_rest}
 use Rattle.trs_defs.proofs.Members.{in_or, no_in, in_either, in_of_get, get_of_in}
-use Rattle.trs_defs.specs.WellFormed.{IsWellFormed}
 use Rattle.trs_defs.specs.System.{RewriteRule, System, IsSystem}
 use Rattle.pair_theory.specs.DependencyPair.{DependencyPair, dependency_pairs}
 use Rattle.pair_theory.specs.PairProblem.{IsPair}
@@ -16,7 +15,7 @@ use Rattle.order_search.specs.dp_core.Numbered.{ArePairsOf, AreItemsOf}
 use Rattle.order_search.specs.dp_core.Symbols.{symbols_of, symbols_of_all, symbols_of_rules, symbols_below_roots}
 use Rattle.order_search.specs.dp_core.SubtermConditions.{roots_of}
 use Rattle.order_search.proofs.dp_core.NumberedPairs.{as_many, within_all}
-use Rattle.order_search.proofs.dp_core.OrderConclusions.{rule_symbols, from_symbols, to_symbols}
+use Rattle.order_search.proofs.dp_core.OrderConclusions.{rule_symbols}
 use Rattle.usable_rules.specs.AreUsable.{AreUsableRules, Ascends, no_numbers, number}
 use Rattle.usable_rules.proofs.Chosen.{usable_within}
 use Rattle.order_search.specs.Slots.{puzzle_of}
@@ -25,7 +24,7 @@ use Rattle.order_search.proofs.FewPairs.{few_taken, taken_in, roots_small}
 use Rattle.order_search.specs.OrderRow.{AreSymbols}
 use Rattle.order_search.specs.OrderOver.{IsOrderOver}
 use Rattle.order_search.specs.Distinct.{AreDistinct}
-use Rattle.order_search.proofs.Covered.{symbols_within}
+use Rattle.order_search.proofs.Covered.{symbols_below, symbols_within, rule_well}
 use Rattle.order_search.proofs.Repeats.{symbols_distinct}
 use Rattle.poly_find.specs.PolyRow.{poly_search, poly_entry}
 use Rattle.order_search.proofs.LowSymbols.{low_symbols, few_by_numbers}
@@ -56,10 +55,7 @@ module _ (system : System) (valid : IsSystem system) where
       → In f (symbols_below_roots pairs) → In f (symbols_of_rules system.rules)
   below_in_rules [] from_all f i = absurd (no_in i)
   below_in_rules (p ∷ pairs) from_all f i = elim (in_either (symbols_of_all p.from.args ++ symbols_of_all p.to.args) (symbols_below_roots pairs) i) [
-    | inl here ↦ elim (in_either (symbols_of_all p.from.args) (symbols_of_all p.to.args) here) [
-      | inl left ↦ from_symbols system valid p (from_all p in_first) f left
-      | inr right ↦ to_symbols system valid p (from_all p in_first) f right
-    ]
+    | inl here ↦ symbols_below system valid p (from_all p in_first) f here
     | inr later ↦ below_in_rules pairs (λ q j. from_all q (in_rest j)) f later
   ]
 
@@ -70,31 +66,22 @@ module _ (system : System) (valid : IsSystem system) where
     | inr later ↦ some_in_rules rules (λ q j. from_all q (in_rest j)) f later
   ]
 
-  well : (r : RewriteRule) → In r system.rules → IsWellFormed system.arities r.left × IsWellFormed system.arities r.right
-  well r i =
-      let (k, at) = get_of_in i in
-      let rule = valid.each k r at in
-      (rule.left_well_formed, rule.right_well_formed)
-
 module _ (system : System) (valid : IsSystem system) (few : length system.arities ≤ 4095)
     (good : (p : DependencyPair) → In p (dependency_pairs system.rules) → IsPair system.arities p)
     (numbers : List ℕ) (taken : List DependencyPair) (are : ArePairsOf (dependency_pairs system.rules) numbers taken)
     (rule_numbers : List ℕ) (usable : List RewriteRule) (are_usable : AreUsableRules system.rules taken rule_numbers) (chosen : AreItemsOf system.rules rule_numbers usable)
     (symbols : List ℕ) (syms : AreSymbols (symbols_of_rules usable ++ symbols_below_roots taken) taken symbols) where
-  pub from_pairs : (p : DependencyPair) → In p taken → In p (dependency_pairs system.rules)
-  from_pairs p i = taken_in (dependency_pairs system.rules) numbers taken are p i
-
   pub plain_low : (f : ℕ) → In f (symbols_of_rules usable ++ symbols_below_roots taken) → f < 4096
   plain_low f i =
       let there : In f (symbols_of_rules system.rules) = elim (in_either (symbols_of_rules usable) (symbols_below_roots taken) i) [
         | inl rule ↦ some_in_rules system valid usable (items_in system.rules rule_numbers usable chosen) f rule
-        | inr pair ↦ below_in_rules system valid taken from_pairs f pair
+        | inr pair ↦ below_in_rules system valid taken (taken_in (dependency_pairs system.rules) numbers taken are) f pair
       ] in
-      let h = symbols_within system.arities system.rules (well system valid) f there in
+      let h = symbols_within system.arities system.rules (rule_well system valid) f there in
       omega (arith, h, few)
 
   root_low : (f : ℕ) → In f (roots_of taken) → f < 4096
-  root_low f i = roots_small system.arities few taken (λ p j. good p (from_pairs p j)) f i
+  root_low f i = roots_small system.arities few taken (λ p j. good p (taken_in (dependency_pairs system.rules) numbers taken are p j)) f i
 
   pub distinct : AreDistinct symbols
   distinct = symbols_distinct (symbols_of_rules usable ++ symbols_below_roots taken) taken symbols plain_low syms

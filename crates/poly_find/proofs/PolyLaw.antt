@@ -15,6 +15,7 @@ use Rattle.poly_lin.specs.pair_order.Entries.{has_entry}
 use Rattle.poly_lin.specs.Table.{symbol_of, coefficient_in}
 use Rattle.poly_lin.specs.TooBig.{EitherIsBig}
 use Rattle.rewrite_core.specs.Check.{Asks, yes_it_does, no_it_does_not}
+use Rattle.order_search.specs.dp_core.Symbols.{symbols_of_rules}
 use Rattle.order_search.specs.dp_core.PairConditions.{Comparing, comparing_by}
 use Rattle.trs_defs.specs.Variable.{is_listed}
 use Rattle.order_search.specs.Slots.{table_of, puzzle_of}
@@ -23,7 +24,7 @@ use Rattle.order_search.proofs.Solutions.{solved}
 use Rattle.order_search.proofs.FewPairs.{taken_in}
 use Rattle.order_search.specs.OrderSpace.{AreCovered, arity_with_mark, slots_of, some_falls}
 use Rattle.order_search.proofs.Constraints.{many_constraints}
-use Rattle.order_search.proofs.Covered.{all_covered, rule_symbol, root_symbol, listed_of}
+use Rattle.order_search.proofs.Covered.{all_covered, plain_symbol, root_symbol, listed_of}
 use Rattle.order_search.proofs.SaidEntries.{entry_is_there}
 use Rattle.order_search.proofs.OrderLaw.{Tests, order_applies}
 use Rattle.poly_find.specs.LinearTest.{linear_weak, linear_strict}
@@ -92,8 +93,8 @@ found_apply system numbers budget entries valid few h =
       _,
       order_applies (comparing entries) (linear_weak (coefficient_in entries)) (linear_strict (coefficient_in entries)) (tests entries)
           system numbers pairs h.of_problem.taken
-          (λ f i. there f (rule_symbol system valid pairs from_all symbols syms f i))
-          (λ f i. there (f + 4096) (root_symbol system valid pairs from_all symbols syms f i))
+          (λ f i. there f (plain_symbol (symbols_of_rules system.rules) pairs symbols syms f i))
+          (λ f i. there (f + 4096) (root_symbol (symbols_of_rules system.rules) pairs symbols syms f i))
           (all_fall system.arities symbols system.rules marked none covered budget h.values entries h.first h.are)
           (some_strict_pair system.arities symbols system.rules marked none covered budget h.values entries h.first h.are),
     )

@@ -2,81 +2,38 @@
 use Rattle.std.specs.Prelude.{◌≡◌, ◌<◌, ◌≤◌, ℕ, ◌+◌, ◌-◌, Bool, true, false, nat_lt, if◌then◌else◌, List, [], ◌∷◌, ◌++◌, map, length, Option, Some, None, slice_get, unwrap_or}
 use Rattle.std.proofs.Common.{refl, subst, arith, inl, inr}
 use Rattle.std.proofs.lemmas.Bool.Decides.{nat_tests}
-use Rattle.std.proofs.lemmas.Option.{slice_get_within, slice_get-get_or}
+use Rattle.std.proofs.lemmas.Option.{slice_get-get_or}
 use Rattle.trs_defs.specs.Member.{In, in_first, in_rest}
-use Rattle.trs_defs.proofs.Members.{in_or, no_in, in_either, of_map, get_of_in}
-use Rattle.trs_defs.specs.Tree.{Tree, Trees, var, app, nil, cons, count}
-use Rattle.trs_defs.specs.WellFormed.{IsWellFormed, AreWellFormed}
+use Rattle.trs_defs.proofs.Members.{no_in, in_either, of_map}
 use Rattle.trs_defs.specs.System.{RewriteRule, System, IsSystem}
-use Rattle.pair_theory.specs.Marked.{Marked, plain}
 use Rattle.pair_theory.specs.DependencyPair.{DependencyPair, dependency_pairs}
 use Rattle.pair_theory.specs.PairProblem.{IsPair}
 use Rattle.pair_theory.proofs.PairList.{listed_are_pairs}
 use Rattle.order_theory.specs.KnuthBendix.{arity_with_marks}
 use Rattle.cert_step.specs.dp_core.Numbered.{ArePairsOf}
-use Rattle.cert_step.specs.dp_core.Symbols.{symbols_of, symbols_of_all, symbols_of_rules, symbols_below_roots}
-use Rattle.cert_step.specs.dp_core.SubtermConditions.{roots_of}
+use Rattle.cert_step.specs.dp_core.Symbols.{symbols_of_all, symbols_of_rules, symbols_below_roots}
 use Rattle.order_find.proofs.order_search.FewPairs.{taken_in}
 use Rattle.order_find.specs.order_search.OrderSpace.{arity_with_mark}
 use Rattle.order_find.specs.order_search.OrderRow.{AreSymbols, AreOfOrder}
+use Rattle.order_find.proofs.order_search.Covered.{symbol_within_all, symbols_within, rule_well}
 use Rattle.order_find.proofs.order_search.Repeats.{symbols_distinct}
 use Rattle.order_find.specs.poly_find.UsableRow.{AreOfUsable}
+use Rattle.order_find.proofs.poly_find.NoPairing.{roots_within}
 use Rattle.order_find.proofs.poly_find.OfUsable.{items_in}
 use Rattle.cert_step.specs.Entries.{AreDistinct}
 use Rattle.strategies.proofs.Distinctness.{listed_distinct}
 
--- ---- symbols of well-formed terms
+-- ---- symbols below the roots of pairs
 
 module _ (arities : List ℕ) where
-  mutual
-    symbol_within : (t : Tree) → IsWellFormed arities t → (f : ℕ) → In f (symbols_of t) → f < length arities
-    symbol_within (var x) well f i = absurd (no_in i)
-    symbol_within (app g ts) well f i = elim (in_or i) [
-      | inl same ↦ (let h = slice_get_within arities g (count ts) well.0 in omega (arith, h, same))
-      | inr below ↦ symbol_within_all ts well.1 f below
-    ]
-
-    symbol_within_all : (ts : Trees) → AreWellFormed arities ts → (f : ℕ) → In f (symbols_of_all ts) → f < length arities
-    symbol_within_all nil well f i = absurd (no_in i)
-    symbol_within_all (cons t ts) well f i = elim (in_either (symbols_of t) (symbols_of_all ts) i) [
-      | inl here ↦ symbol_within t well.0 f here
-      | inr later ↦ symbol_within_all ts well.1 f later
-    ]
-
-  symbols_within : (rules : List RewriteRule) → ((r : RewriteRule) → In r rules → IsWellFormed arities r.left × IsWellFormed arities r.right)
-      → (f : ℕ) → In f (symbols_of_rules rules) → f < length arities
-  symbols_within [] well f i = absurd (no_in i)
-  symbols_within (r ∷ rules) well f i = elim (in_either (symbols_of r.left ++ symbols_of r.right) (symbols_of_rules rules) i) [
-    | inl here ↦ elim (in_either (symbols_of r.left) (symbols_of r.right) here) [
-      | inl left ↦ symbol_within r.left (well r in_first).0 f left
-      | inr right ↦ symbol_within r.right (well r in_first).1 f right
-    ]
-    | inr later ↦ symbols_within rules (λ s j. well s (in_rest j)) f later
-  ]
-
-  root_within : (m : Marked) → IsWellFormed arities (plain m) → m.symbol < length arities
-  root_within m well = slice_get_within arities m.symbol (count m.args) well.0
-
-  roots_within : (pairs : List DependencyPair) → ((p : DependencyPair) → In p pairs → IsPair arities p) → (f : ℕ) → In f (roots_of pairs) → f < length arities
-  roots_within [] well f i = absurd (no_in i)
-  roots_within (p ∷ pairs) well f i =
-      let here = well p in_first in
-      elim (in_or i) [
-        | inl from ↦ (let h = root_within p.from here.from_well_formed in omega (arith, h, from))
-        | inr later ↦ elim (in_or later) [
-          | inl to ↦ (let h = root_within p.to here.to_well_formed in omega (arith, h, to))
-          | inr more ↦ roots_within pairs (λ q j. well q (in_rest j)) f more
-        ]
-      ]
-
   below_within : (pairs : List DependencyPair) → ((p : DependencyPair) → In p pairs → IsPair arities p) → (f : ℕ) → In f (symbols_below_roots pairs) → f < length arities
   below_within [] well f i = absurd (no_in i)
   below_within (p ∷ pairs) well f i =
       let here = well p in_first in
       elim (in_either (symbols_of_all p.from.args ++ symbols_of_all p.to.args) (symbols_below_roots pairs) i) [
         | inl args ↦ elim (in_either (symbols_of_all p.from.args) (symbols_of_all p.to.args) args) [
-          | inl from ↦ symbol_within_all p.from.args here.from_well_formed.1 f from
-          | inr to ↦ symbol_within_all p.to.args here.to_well_formed.1 f to
+          | inl from ↦ symbol_within_all arities p.from.args here.from_well_formed.1 f from
+          | inr to ↦ symbol_within_all arities p.to.args here.to_well_formed.1 f to
         ]
         | inr later ↦ below_within pairs (λ q j. well q (in_rest j)) f later
       ]
@@ -124,22 +81,16 @@ module _ (arities : List ℕ) (few : length arities ≤ 4095) (unmarked : List �
 -- ---- over all rules, and over the usable ones
 
 module _ (system : System) (valid : IsSystem system) where
-  rule_well : (r : RewriteRule) → In r system.rules → IsWellFormed system.arities r.left × IsWellFormed system.arities r.right
-  rule_well r i =
-      let (k, at) = get_of_in i in
-      let rule = valid.each k r at in
-      (rule.left_well_formed, rule.right_well_formed)
-
   pair_of : (numbers : List ℕ) (pairs : List DependencyPair) → ArePairsOf (dependency_pairs system.rules) numbers pairs → (p : DependencyPair) → In p pairs → IsPair system.arities p
   pair_of numbers pairs are p i = listed_are_pairs system valid p (taken_in (dependency_pairs system.rules) numbers pairs are p i)
 
   rule_symbols_within : (f : ℕ) → In f (symbols_of_rules system.rules) → f < length system.arities
-  rule_symbols_within = symbols_within system.arities system.rules rule_well
+  rule_symbols_within = symbols_within system.arities system.rules (rule_well system valid)
 
   usable_symbols_within : (numbers : List ℕ) (pairs : List DependencyPair) (rules : List RewriteRule) (symbols : List ℕ) → AreOfUsable system numbers pairs rules symbols
       → (f : ℕ) → In f (symbols_of_rules rules ++ symbols_below_roots pairs) → f < length system.arities
   usable_symbols_within numbers pairs rules symbols of f i = elim (in_either (symbols_of_rules rules) (symbols_below_roots pairs) i) [
-    | inl rule ↦ symbols_within system.arities rules (λ r j. rule_well r (items_in system.rules of.rule_numbers rules of.chosen r j)) f rule
+    | inl rule ↦ symbols_within system.arities rules (λ r j. rule_well system valid r (items_in system.rules of.rule_numbers rules of.chosen r j)) f rule
     | inr pair ↦ below_within system.arities pairs (pair_of numbers pairs of.taken) f pair
   ]
 
