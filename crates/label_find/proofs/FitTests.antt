@@ -12,8 +12,8 @@ use Rattle.confluence_theory.specs.RuleRanks.{rank_of}
 use Rattle.trs_defs.specs.Path.{PlacedRule}
 use Rattle.rule_label.specs.Labelled.{ranks_along}
 use Rattle.rule_label.specs.FittingRanks.{FitAfter}
+use Rattle.rule_label.proofs.RanksInTurn.{small_rank, low_rank, same_rank, no_rank, nothing_left}
 use Rattle.label_find.specs.LabelRow.{rules_along}
-use Rattle.label_find.proofs.RanksLeft.{small_rank, low_rank, same_rank, no_rank, nothing_left}
 use Rattle.label_find.specs.declared.meeting.Meeting.{Meeting}
 use Rattle.label_find.specs.Constraint.{fit_after, some_fit, some_meet}
 

@@ -1,4 +1,3 @@
-pub mod RanksLeft
 pub mod FitTests
 pub mod RuleLists
 pub mod MeetingLists

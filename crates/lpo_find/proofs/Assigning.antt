@@ -14,10 +14,10 @@ use Rattle.order_search.specs.OrderSpace.{arity_with_mark, slots_of}
 use Rattle.order_search.specs.Distinct.{AreDistinct}
 use Rattle.order_search.proofs.SaidEntries.{entry_said}
 use Rattle.order_search.proofs.PlacedEntries.{stands_at, no_entry_said}
+use Rattle.order_search.proofs.TwoParts.{value_of_part}
 use Rattle.lpo_find.specs.LpoSpace.{filter_number}
 use Rattle.lpo_find.specs.LpoRow.{lpo_entry, entries_of}
 use Rattle.lpo_find.specs.Filters.{filters_of}
-use Rattle.lpo_find.proofs.SlotNumbers.{value_of_part}
 use Rattle.lpo_find.proofs.FilterLists.{filter_of_number}
 
 -- what was looked up stands in the list

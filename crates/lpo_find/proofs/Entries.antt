@@ -1,37 +1,22 @@
 -- The entries that a table says for symbols.
-use Rattle.std.specs.Prelude.{◌≡◌, ℕ, Bool, true, false, ◌||◌, ◌==◌, if◌then◌else◌, is_some, List, [], ◌∷◌, map, Option, Some}
-use Rattle.std.proofs.Common.{refl, ap, ap₂, arith, ◌∙◌}
-use Rattle.std.proofs.lemmas.Bool.Decides.{nat_tests}
+use Rattle.std.specs.Prelude.{◌≡◌, ℕ, true, ◌||◌, List, [], ◌∷◌, map, Some}
+use Rattle.std.proofs.Common.{refl, ap, ap₂}
 use Rattle.trs_defs.specs.Member.{in_first, in_rest}
 use Rattle.trs_defs.specs.Variable.{is_listed}
 use Rattle.trs_defs.specs.System.{RewriteRule}
-use Rattle.path_lpo.specs.pair_order.Entries.{entry_of, has_entry}
+use Rattle.path_lpo.specs.pair_order.Entries.{entry_of}
 use Rattle.path_lpo.specs.Table.{PathEntry, symbol_of, rank_of, rank_in, filter_of, filter_in}
 use Rattle.order_search.specs.Slots.{Table}
 use Rattle.order_search.specs.OrderSpace.{occurs_in, AreCovered, some_falls}
+use Rattle.order_search.proofs.SaidEntries.{entry_said}
 use Rattle.lpo_find.specs.LpoSpace.{rank_by, filter_by, path_weak, path_strict, lpo_weak, lpo_strict}
 use Rattle.lpo_find.specs.LpoRow.{lpo_entry}
 use Rattle.lpo_find.specs.LpoDepends.{weak_same, strict_same}
 
-same_number : (g f : ℕ) → (g == f) ≡ true → g ≡ f
-same_number g f e = grind (arith, nat_tests)
-
 module _ (arity : ℕ → ℕ) (table : Table) where
-  pick : (b : Bool) (g f : ℕ) (o : Option PathEntry) (rest : Bool) → (g == f) ≡ b → (b || rest) ≡ true → (rest ≡ true → o ≡ Some (lpo_entry arity table f))
-      → (if b then Some (lpo_entry arity table g) else o) ≡ Some (lpo_entry arity table f)
-  pick true g f o rest is e later = ap (λ (x : ℕ). Some (lpo_entry arity table x)) (same_number g f is)
-  pick false g f o rest is e later = later e
-
-  pub entry_there : (symbols : List ℕ) (f : ℕ) → is_listed f symbols ≡ true → entry_of symbol_of (map (lpo_entry arity table) symbols) f ≡ Some (lpo_entry arity table f)
-  entry_there [] f e = absurd cc
-  entry_there (g ∷ symbols) f e = pick (g == f) g f _ (is_listed f symbols) refl e (entry_there symbols f)
-
   module _ (symbols : List ℕ) (entries : List PathEntry) (are : entries ≡ map (lpo_entry arity table) symbols) where
     found : (f : ℕ) → is_listed f symbols ≡ true → entry_of symbol_of entries f ≡ Some (lpo_entry arity table f)
-    found f e = ap (λ (l : List PathEntry). entry_of symbol_of l f) are ∙ entry_there symbols f e
-
-    pub entry_is_there : (f : ℕ) → is_listed f symbols ≡ true → has_entry symbol_of entries f ≡ true
-    entry_is_there f e = ap is_some (found f e)
+    found f e = entry_said symbol_of (lpo_entry arity table) (λ g. refl) symbols entries are f e
 
     module _ (r : RewriteRule) (covered : (f : ℕ) → occurs_in f r.left || occurs_in f r.right ≡ true → is_listed f symbols ≡ true) where
       ranks : (f : ℕ) → occurs_in f r.left || occurs_in f r.right ≡ true → rank_in entries f ≡ rank_by table f

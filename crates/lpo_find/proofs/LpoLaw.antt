@@ -25,11 +25,11 @@ use Rattle.order_search.proofs.FewPairs.{taken_in}
 use Rattle.order_search.specs.OrderSpace.{arity_with_mark, slots_of, some_falls}
 use Rattle.order_search.proofs.Constraints.{many_constraints}
 use Rattle.order_search.proofs.Covered.{all_covered, plain_symbol, root_symbol, listed_of}
+use Rattle.order_search.proofs.SaidEntries.{entry_is_there}
 use Rattle.lpo_find.specs.LpoSpace.{lpo_family, path_weak, path_strict}
-use Rattle.lpo_find.specs.LpoRow.{lpo_search}
+use Rattle.lpo_find.specs.LpoRow.{lpo_search, lpo_entry}
 use Rattle.lpo_find.specs.Laws.{FoundOrdersApply}
 use Rattle.lpo_find.proofs.PathTests.{weak_is, strict_is, is_strict}
-use Rattle.lpo_find.proofs.Entries.{entry_is_there}
 use Rattle.lpo_find.proofs.LpoPuzzle.{truth_of_rule, truth_of_last}
 
 module _ (entries : List PathEntry) where
@@ -114,7 +114,7 @@ found_apply system numbers budget entries valid h =
     ∙ s.meets (length system.rules + length marked) (omega (arith, many)) in (
       _,
       order_applies entries system numbers pairs h.of_problem.taken
-          (λ f i. entry_is_there arity table symbols entries h.are f (listed_of f symbols (plain_symbol (symbols_of_rules system.rules) pairs symbols syms f i)))
-          (λ f i. entry_is_there arity table symbols entries h.are (f + 4096) (listed_of (f + 4096) symbols (root_symbol (symbols_of_rules system.rules) pairs symbols syms f i)))
+          (λ f i. entry_is_there symbol_of (lpo_entry arity table) (λ g. refl) symbols entries h.are f (listed_of f symbols (plain_symbol (symbols_of_rules system.rules) pairs symbols syms f i)))
+          (λ f i. entry_is_there symbol_of (lpo_entry arity table) (λ g. refl) symbols entries h.are (f + 4096) (listed_of (f + 4096) symbols (root_symbol (symbols_of_rules system.rules) pairs symbols syms f i)))
           tests some,
     )

@@ -10,10 +10,10 @@ use Rattle.order_search.specs.Slots.{Slot, slot, table_of, puzzle_of}
 use Rattle.order_search.specs.OrderSpace.{AreCovered, occurs_in, order_search, slots_of, some_falls}
 use Rattle.order_search.proofs.Constraints.{truth_falls, truth_last, uses_symbols, uses_all, last_number}
 use Rattle.order_search.proofs.LastPlaces.{end_of_all, reach_of_symbols}
+use Rattle.order_search.proofs.TwoParts.{many_slots, slot_at}
 use Rattle.lpo_find.specs.LpoSpace.{lpo_family, lpo_values, filter_count, path_weak, path_strict}
 use Rattle.lpo_find.specs.LpoRow.{lpo_entry}
 use Rattle.lpo_find.proofs.Entries.{weak_by_entries, some_by_entries}
-use Rattle.lpo_find.proofs.SlotNumbers.{many_slots, slot_at}
 
 module _ (arity : ℕ → ℕ) (symbols : List ℕ) (rules pairs : List RewriteRule) where
   pub slot_count : 2 * length symbols ≡ (puzzle_of (order_search (lpo_family arity) symbols [] rules pairs)).slots

@@ -10,9 +10,9 @@ use Rattle.path_lpo.specs.Table.{PathEntry}
 use Rattle.order_search.specs.Slots.{table_of}
 use Rattle.order_search.specs.OrderSpace.{slots_of}
 use Rattle.order_search.specs.Distinct.{AreDistinct}
+use Rattle.order_search.proofs.TwoParts.{value_of_part}
 use Rattle.lpo_find.specs.LpoSpace.{filter_number}
 use Rattle.lpo_find.specs.LpoRow.{lpo_entry}
-use Rattle.lpo_find.proofs.SlotNumbers.{value_of_part}
 
 module _ (arity : ℕ → ℕ) (symbols values : List ℕ) where
   abbrev pub said : ℕ → PathEntry

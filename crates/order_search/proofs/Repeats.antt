@@ -76,21 +76,21 @@ symbols_distinct unmarked pairs symbols small are =
     let below = small f ((are.are_plain.each f).0 i) in
     omega (arith, e, below))))
 
-self_test : (n : ℕ) → (n == n) ≡ true
+pub self_test : (n : ℕ) → (n == n) ≡ true
 self_test n = grind (arith, nat_tests)
 
-other_test : (g f : ℕ) → (f ≡ g → ⊥) → (g == f) ≡ false
+pub other_test : (g f : ℕ) → (f ≡ g → ⊥) → (g == f) ≡ false
 other_test g f h = grind (arith, nat_tests)
 
-found_first : (b : Bool) (o : Option ℕ) → b ≡ true → (if b then Some 0 else o) ≡ Some 0
+pub found_first : (b : Bool) (o : Option ℕ) → b ≡ true → (if b then Some 0 else o) ≡ Some 0
 found_first true o e = refl
 found_first false o e = absurd cc
 
-found_later : (b : Bool) (o : Option ℕ) → b ≡ false → (if b then Some 0 else o) ≡ o
+pub found_later : (b : Bool) (o : Option ℕ) → b ≡ false → (if b then Some 0 else o) ≡ o
 found_later true o e = absurd cc
 found_later false o e = refl
 
-tail_distinct : (x : ℕ) (xs : List ℕ) → AreDistinct (x ∷ xs) → AreDistinct xs
+pub tail_distinct : (x : ℕ) (xs : List ℕ) → AreDistinct (x ∷ xs) → AreDistinct xs
 tail_distinct x xs are i j before within e = are (suc i) (suc j) (omega (arith, before)) (omega (arith, within)) e
 
 -- with two parts for each symbol

@@ -1,30 +1,16 @@
 -- Where the slots of each symbol begin, and what their values say.
-use Rattle.std.specs.Prelude.{◌≡◌, ◌<◌, ◌≤◌, ℕ, ◌+◌, ◌-◌, Bool, true, false, ◌==◌, if◌then◌else◌, List, [], ◌∷◌, ◌++◌, length, map, drop, get_or, Option, Some, option_map}
+use Rattle.std.specs.Prelude.{◌≡◌, ◌<◌, ◌≤◌, ℕ, ◌+◌, ◌-◌, false, ◌==◌, List, [], ◌∷◌, ◌++◌, length, map, drop, get_or, Some, option_map}
 use Rattle.std.proofs.Common.{zero, suc, refl, sym, ap, ap₂, subst, arith, ◌∙◌, append_assoc}
-use Rattle.std.proofs.lemmas.Bool.Decides.{nat_tests}
 use Rattle.std.proofs.lemmas.List.{append-nil, drop_all, map-append, length-append, length-map}
 use Rattle.std.proofs.lemmas.Option.{slice_get-get_or}
 use Rattle.order_search.proofs.dp_core.Collecting.{next_item}
 use Rattle.order_search.specs.Slots.{Table, table_of}
 use Rattle.order_search.specs.OrderSpace.{parts_from, slots_of}
 use Rattle.order_search.specs.Distinct.{AreDistinct}
+use Rattle.order_search.proofs.Repeats.{self_test, other_test, found_first, found_later, tail_distinct}
 use Rattle.order_search.proofs.SlotLayout.{start_of, value_from, value_at}
 use Rattle.poly_find.specs.PolySpace.{values_from}
 use Rattle.poly_find.specs.PolyPlaces.{parts_by, owner_of, owners_of, values_at, starts}
-
-same_test : (n : ℕ) → (n == n) ≡ true
-same_test n = grind (arith, nat_tests)
-
-other_test : (g f : ℕ) → (f ≡ g → ⊥) → (g == f) ≡ false
-other_test g f h = grind (arith, nat_tests)
-
-found_first : (b : Bool) (o : Option ℕ) → b ≡ true → (if b then Some 0 else o) ≡ Some 0
-found_first true o e = refl
-found_first false o e = absurd cc
-
-found_later : (b : Bool) (o : Option ℕ) → b ≡ false → (if b then Some 0 else o) ≡ o
-found_later true o e = absurd cc
-found_later false o e = refl
 
 -- ---- where they begin
 
@@ -46,12 +32,9 @@ module _ (parts : ℕ → ℕ) where
       let whole : start + n ≡ starts parts symbols (suc i) = omega (arith, next, many, begins) in
       subst (λ (k : ℕ). start + n ≡ starts parts symbols k) at whole
 
-  tail_distinct : (x : ℕ) (xs : List ℕ) → AreDistinct (x ∷ xs) → AreDistinct xs
-  tail_distinct x xs are i j before within e = are (suc i) (suc j) (omega (arith, before)) (omega (arith, within)) e
-
   starts_at : (symbols : List ℕ) (i : ℕ) → AreDistinct symbols → i < length symbols → start_of parts symbols (get_or symbols i 0) ≡ Some (starts parts symbols i)
   starts_at [] i are below = absurd (omega (arith, below))
-  starts_at (f ∷ symbols) zero are below = found_first (f == f) _ (same_test f)
+  starts_at (f ∷ symbols) zero are below = found_first (f == f) _ (self_test f)
   starts_at (f ∷ symbols) (suc i) are below =
       let within : i < length symbols = omega (arith, below) in
       let other : (f == get_or symbols i 0) ≡ false = other_test f (get_or symbols i 0) (λ e. are 0 (suc i) (omega arith) below (sym e)) in

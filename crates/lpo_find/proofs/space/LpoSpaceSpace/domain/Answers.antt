@@ -1,7 +1,7 @@
 use Rattle.std.proofs.Common.{ℕ, ap, sym, ◌∙◌, ◌<◌, ◌*◌, length, arith}
 use Rattle.order_search.specs.OrderSpace.{arity_with_mark}
+use Rattle.order_search.proofs.TwoParts.{many_slots}
 use Rattle.lpo_find.specs.LpoSpace.{filter_count}
-use Rattle.lpo_find.proofs.SlotNumbers.{many_slots}
 use Rattle.lpo_find.proofs.LpoPuzzle.{filter_domain, rank_domain}
 use Rattle.lpo_find.proofs.space.LpoSpaceSpace.domain.Goals as goal
 

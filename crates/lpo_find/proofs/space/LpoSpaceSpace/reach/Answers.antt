@@ -2,7 +2,7 @@ use Rattle.std.proofs.Common.{ℕ, List, ◌||◌, ap, sym, arith, ◌∙◌}
 use Rattle.order_search.specs.Ends.{end_among}
 use Rattle.order_search.specs.OrderSpace.{occurs_in, arity_with_mark}
 use Rattle.order_search.proofs.LastPlaces.{twice_fits}
-use Rattle.lpo_find.proofs.SlotNumbers.{many_slots}
+use Rattle.order_search.proofs.TwoParts.{many_slots}
 use Rattle.lpo_find.proofs.LpoPuzzle.{reach_of_rule, reach_of_last}
 use Rattle.lpo_find.proofs.space.LpoSpaceSpace.reach.Goals as goal
 

@@ -1,5 +1,5 @@
 use Rattle.std.proofs.Common.{sym}
-use Rattle.lpo_find.proofs.SlotNumbers.{many_slots}
+use Rattle.order_search.proofs.TwoParts.{many_slots}
 use Rattle.lpo_find.proofs.space.LpoSpaceSpace.slots.Goals as goal
 
 pub returns : goal.returns

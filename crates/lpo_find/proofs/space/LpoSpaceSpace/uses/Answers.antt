@@ -1,8 +1,8 @@
 use Rattle.std.proofs.Common.{sym, ◌∙◌, ◌<◌, ◌*◌, ◌/◌, ◌%◌, length, get_or, arith}
 use Rattle.order_search.specs.OrderSpace.{arity_with_mark}
 use Rattle.order_search.proofs.Constraints.{uses_symbols, uses_all, last_number}
+use Rattle.order_search.proofs.TwoParts.{many_slots, slot_at}
 use Rattle.lpo_find.specs.LpoSpace.{lpo_family}
-use Rattle.lpo_find.proofs.SlotNumbers.{many_slots, slot_at}
 use Rattle.lpo_find.proofs.space.LpoSpaceSpace.uses.Goals as goal
 
 pub bounds-self-slot : goal.bounds-self-slot
