@@ -8,9 +8,10 @@ use Rattle.trs_defs.specs.Member.{In, in_first}
 use Rattle.trs_defs.specs.Run.{Run, Stay, Go}
 use Rattle.trs_defs.proofs.Runs.{one, then}
 use Rattle.trs_defs.proofs.Members.{in_or, no_in, in_left, in_right, in_either, get_of_in, in_of_get}
+use Rattle.dp_core.proofs.Collecting.{next_read}
 use Rattle.dp_graph.specs.Rows.{Follows}
 use Rattle.dp_graph.specs.FoundPlaces.{unset, AreFound, Finds, FollowsFree, AreCollected}
-use Rattle.dp_graph.proofs.ItemLists.{one_taken, next_item}
+use Rattle.dp_graph.proofs.ItemLists.{one_taken}
 use Rattle.dp_graph.proofs.ListPlaces.{not_both, unset_there, length_set, set_here, set_cases, set_kept, get_left, in_single}
 
 pub unset_set : (flags : List Bool) (k : ℕ) → slice_get flags k ≡ Some false → unset (slice_set flags k true) + 1 ≡ unset flags
@@ -183,4 +184,4 @@ in_row (y ∷ row) zero x lt is = subst (λ z. In z (y ∷ row)) (sym is) in_fir
 in_row (y ∷ row) (suc i) x lt is = in_right (y ∷ []) (in_row row i x (omega (arith, lt)) is)
 
 pub past_row : (row : List ℕ) (i v : ℕ) → i < length row → (get_or row i 0 ≡ v → ⊥) → In v (drop i row) → In v (drop (i + 1) row)
-past_row row i v lt differ h = elim (in_or (subst (In v) (next_item row i (get_or row i 0) 0 lt refl) h)) [ inl e ↦ absurd (differ (sym e)) | inr k ↦ k ]
+past_row row i v lt differ h = elim (in_or (subst (In v) (next_read row i (get_or row i 0) 0 lt refl) h)) [ inl e ↦ absurd (differ (sym e)) | inr k ↦ k ]

@@ -8,10 +8,11 @@ use Rattle.rewrite_core.specs.declared.checks.refusals.StepRefused.{StepRefused}
 use Rattle.rewrite_core.specs.declared.checks.refusals.CheckFault.{CheckFault}
 use Rattle.rewrite_core.specs.declared.checks.refusals.CheckFault.TheVariants.{Refused, OutOfMemory}
 use Rattle.rewrite_core.specs.Check.{Refuses, returned, stops, goes_on, each_after}
+use Rattle.dp_core.proofs.Collecting.{next_read}
 use Rattle.dp_graph.specs.declared.items.GraphItem.{GraphItem}
 use Rattle.dp_graph.specs.GroupOrSingle.{GroupOrSingle, item_of, items_of, members_of, all_members}
 use Rattle.dp_graph.specs.GraphConditions.{lead_to_none, lead_onward}
-use Rattle.dp_graph.proofs.ItemLists.{next_item, one_taken}
+use Rattle.dp_graph.proofs.ItemLists.{one_taken}
 
 pub is_below : (a b : ℕ) → a < b → IsTrue (nat_lt a b)
 is_below a b h = grind arith
@@ -33,7 +34,7 @@ module _ (system : System) (items : List GraphItem) where
 
   module _ (i : ℕ) (item : GraphItem) (lt : i < length items) (is : item ≡ get_or items i item) where
     item_next : items_of (drop i items) ≡ item_of item ∷ items_of (drop (i + 1) items)
-    item_next = ap items_of (next_item items i item item lt is)
+    item_next = ap items_of (next_read items i item item lt is)
 
     mapped : (xs : List GraphItem) → items_of (xs ++ item ∷ []) ≡ items_of xs ++ item_of item ∷ []
     mapped [] = refl

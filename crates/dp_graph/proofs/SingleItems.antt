@@ -10,11 +10,12 @@ use Rattle.rewrite_core.specs.declared.checks.refusals.StepRefused.TheVariants.{
 use Rattle.rewrite_core.specs.declared.checks.refusals.CheckFault.{CheckFault}
 use Rattle.rewrite_core.specs.declared.checks.refusals.CheckFault.TheVariants.{Refused, OutOfMemory}
 use Rattle.rewrite_core.specs.Check.{Check, Refuses, Forbids, returned}
+use Rattle.dp_core.proofs.Collecting.{next_read}
 use Rattle.dp_graph.specs.declared.items.GraphItem.{GraphItem}
 use Rattle.dp_graph.specs.GroupOrSingle.{GroupOrSingle, group, single, item_of, items_of, groups_of, singles_of}
 use Rattle.dp_graph.specs.GraphConditions.{HasEdge, have_no_self_edge, lists_of}
 use Rattle.dp_graph.proofs.EachOfList.{all_of_both, first_refuses}
-use Rattle.dp_graph.proofs.ItemLists.{next_item, one_taken}
+use Rattle.dp_graph.proofs.ItemLists.{one_taken}
 
 singles_of_next : (item : GroupOrSingle) (items : List GroupOrSingle) → singles_of (item ∷ items) ≡ singles_of (item ∷ []) ++ singles_of items
 singles_of_next (group members) items = refl
@@ -72,7 +73,7 @@ module _ (system : System) (items : List GraphItem) where
 
   module _ (i : ℕ) (item : GraphItem) (lt : i < length items) (is : item ≡ get_or items i item) where
     singles_next : singles_of (items_of (drop i items)) ≡ singles_of (item_of item ∷ []) ++ singles_of (items_of (drop (i + 1) items))
-    singles_next = ap (λ z. singles_of (items_of z)) (next_item items i item item lt is) ∙ singles_of_next (item_of item) (items_of (drop (i + 1) items))
+    singles_next = ap (λ z. singles_of (items_of z)) (next_read items i item item lt is) ∙ singles_of_next (item_of item) (items_of (drop (i + 1) items))
 
     pub single_seen : have_no_self_edge system.rules (dependency_pairs system.rules) (singles_of (item_of item ∷ [])) (Ok tt) → SinglesSoFar i → SinglesSoFar (i + 1)
     single_seen here before answer h =

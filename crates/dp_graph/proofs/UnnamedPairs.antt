@@ -13,13 +13,14 @@ use Rattle.rewrite_core.specs.declared.checks.refusals.StepRefused.TheVariants.{
 use Rattle.rewrite_core.specs.declared.checks.refusals.CheckFault.{CheckFault}
 use Rattle.rewrite_core.specs.declared.checks.refusals.CheckFault.TheVariants.{Refused, OutOfMemory}
 use Rattle.rewrite_core.specs.Check.{Refuses, holds, lacks, never, least, returned, stops, goes_on}
+use Rattle.dp_core.proofs.Collecting.{next_read}
 use Rattle.dp_graph.specs.declared.items.GraphItem.{GraphItem}
 use Rattle.dp_graph.specs.GroupOrSingle.{item_of, items_of, members_of, all_members}
 use Rattle.dp_graph.specs.GraphConditions.{are_new, are_members, none_is_missing}
 use Rattle.dp_graph.specs.Unnamed.{AreUnnamed}
 use Rattle.dp_graph.specs.Waiting.{Sets}
 use Rattle.dp_graph.proofs.Sets.{at_number, at_others, true_is_not_false, none_in_empty}
-use Rattle.dp_graph.proofs.ItemLists.{next_item, one_taken}
+use Rattle.dp_graph.proofs.ItemLists.{one_taken}
 
 pub nothing_left : (set : BTreeSet ℕ) → set.keys ≡ [] → AreUnnamed [] [] set
 nothing_left set e n = (λ h. absurd (none_in_empty set n e h), λ h. absurd (no_in h.0))
@@ -74,7 +75,7 @@ none_named numbers named members answer h = subst (λ z. are_new numbers z membe
 
 module _ (numbers named members : List ℕ) (i n : ℕ) (lt : i < length members) (is : n ≡ get_or members i 0) where
   member_next : drop i members ≡ n ∷ drop (i + 1) members
-  member_next = next_item members i n 0 lt is
+  member_next = next_read members i n 0 lt is
 
   pub member_taken : named ++ take (i + 1) members ≡ (named ++ take i members) ++ n ∷ []
   member_taken = ap (λ z. named ++ z) (one_taken members i n 0 lt is) ∙ sym (append_assoc named (take i members) (n ∷ []))
@@ -118,7 +119,7 @@ ItemsNamed numbers items i =
 
 module _ (numbers : List ℕ) (items : List GraphItem) (i : ℕ) (item : GraphItem) (lt : i < length items) (is : item ≡ get_or items i item) where
   item_next : all_members (items_of (drop i items)) ≡ members_of (item_of item) ++ all_members (items_of (drop (i + 1) items))
-  item_next = ap (λ z. all_members (items_of z)) (next_item items i item item lt is)
+  item_next = ap (λ z. all_members (items_of z)) (next_read items i item item lt is)
 
   pub item_taken : all_members (items_of (take (i + 1) items)) ≡ all_members (items_of (take i items)) ++ members_of (item_of item)
   item_taken = ap (λ z. all_members (items_of z)) (one_taken items i item item lt is) ∙ members_more (take i items) item

@@ -1,20 +1,11 @@
 -- What a comparison by a Knuth-Bendix order answers as a test.
-use Rattle.std.specs.Prelude.{ℕ, Bool, true, false, ◌↔◌, ◌≡◌, IsTrue}
-use Rattle.std.proofs.Common.{refl, sym}
+use Rattle.std.specs.Prelude.{ℕ, Bool, false, ◌↔◌, ◌≡◌, IsTrue}
 use Rattle.trs_defs.specs.Tree.{Tree}
 use Rattle.order_theory.specs.KnuthBendix.{KnuthGreater, KnuthWeak}
 use Rattle.kbo_order.specs.TooBig.{EitherIsBig}
 use Rattle.kbo_find.specs.KnuthTest.{knuth_strict, knuth_weak}
 use Rattle.kbo_find.proofs.KnuthDecides.{weak_fits, weak_is, strict_fits, strict_is, is_weak, is_strict}
-
-pub same_both : (a b : Bool) → (a ≡ true → b ≡ true) → (b ≡ true → a ≡ true) → a ≡ b
-same_both true b to from = sym (to refl)
-same_both false true to from = from refl
-same_both false false to from = refl
-
-pub never_true : (b : Bool) → (b ≡ true → ⊥) → false ≡ b
-never_true true h = absurd (h refl)
-never_true false h = refl
+use Rattle.order_search.proofs.Tests.{same_both, never_true}
 
 module _ (w r : ℕ → ℕ) (s t : Tree) where
   pub weak_answer : (b : Bool) → (EitherIsBig w s t → ⊥) × (IsTrue b ↔ KnuthWeak w r s t) → b ≡ knuth_weak w r s t

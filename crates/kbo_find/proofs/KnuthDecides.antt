@@ -14,11 +14,8 @@ use Rattle.kbo_order.proofs.Towers.{tower_case}
 use Rattle.kbo_order.proofs.Viewers.{big_of, not_big}
 use Rattle.assign_search.proofs.Refuting.{or_left, or_right, true_or_false}
 use Rattle.order_search.proofs.Lawful.{both_true, and_true}
+use Rattle.order_search.proofs.Tests.{either}
 use Rattle.kbo_find.specs.KnuthTest.{keeps_each, keeps_all, is_tower, is_tower_below, is_variable, is_none, knuth_lex, head_greater, weight_greater, knuth_greater, knuth_greater_each, both_fit, knuth_strict, knuth_weak}
-
-either : (a b : Bool) → (a || b) ≡ true → (a ≡ true) ⊎ (b ≡ true)
-either true b e = inl refl
-either false b e = inr e
 
 le_is : (a b : ℕ) → nat_le a b ≡ true → a ≤ b
 le_is a b e = grind (arith, nat_tests)

@@ -1,21 +1,13 @@
 -- The tests decide the comparisons of path orders on filtered terms.
-use Rattle.std.specs.Prelude.{ℕ, Bool, true, false, ◌||◌, ◌≡◌, ◌⊎◌, ◌↔◌, IsTrue}
-use Rattle.std.proofs.Common.{refl, sym, subst, inl, inr}
+use Rattle.std.specs.Prelude.{ℕ, Bool, true, ◌≡◌, ◌↔◌, IsTrue}
+use Rattle.std.proofs.Common.{subst, inl, inr}
 use Rattle.trs_defs.specs.Tree.{Tree}
 use Rattle.order_theory.specs.PathTest.{same_tree}
 use Rattle.order_theory.specs.ArgumentFilter.{ArgumentFilter, filtered, PathWeak, PathStrict}
 use Rattle.order_theory.proofs.PathDecides.{same_is, same_self, path_decides}
 use Rattle.assign_search.proofs.Refuting.{or_left, or_right}
 use Rattle.lpo_find.specs.LpoSpace.{path_weak, path_strict}
-
-same_both : (a b : Bool) → (a ≡ true → b ≡ true) → (b ≡ true → a ≡ true) → a ≡ b
-same_both true b to from = sym (to refl)
-same_both false true to from = from refl
-same_both false false to from = refl
-
-either : (a b : Bool) → (a || b) ≡ true → (a ≡ true) ⊎ (b ≡ true)
-either true b e = inl refl
-either false b e = inr e
+use Rattle.order_search.proofs.Tests.{either, same_both}
 
 module _ (rank : ℕ → ℕ) (filter : ℕ → ArgumentFilter) (s t : Tree) where
   pub strict_is : path_strict rank filter s t ≡ true → PathStrict rank filter s t

@@ -10,10 +10,7 @@ use Rattle.order_search.specs.Slots.{Table}
 use Rattle.order_search.specs.OrderSpace.{occurs_in, occurs_in_some, DependsOnSymbols}
 use Rattle.lpo_find.specs.LpoSpace.{filter_number, filter_by, rank_by, path_strict, path_weak, lpo_family}
 use Rattle.order_search.proofs.Agreeing.{Agree, AgreeAll, root_agrees, args_agree, first_agrees, rest_agree, SameTests, if_same}
-
-either : (a b : Bool) → (a || b) ≡ true → (a ≡ true) ⊎ (b ≡ true)
-either true b e = inl refl
-either false b e = inr e
+use Rattle.order_search.proofs.Tests.{either}
 
 -- ---- the path order
 

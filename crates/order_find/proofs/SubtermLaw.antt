@@ -2,7 +2,6 @@
 use Rattle.std.specs.Prelude.{ℕ, ◌+◌, ◌<◌, Bool, true, false, ◌&&◌, ◌||◌, ◌==◌, if◌then◌else◌, List, [], ◌∷◌, length, map, zip, get_or, Option, Some, None, Ok, ◌≡◌}
 use Rattle.std.specs.Option.{option_and_then}
 use Rattle.std.proofs.Common.{suc, refl, sym, ap, subst, arith, ◌∙◌, inl, inr}
-use Rattle.std.proofs.lemmas.Bool.Decides.{nat_tests}
 use Rattle.std.proofs.lemmas.Option.{slice_get_within}
 use Rattle.trs_defs.specs.Member.{In, in_first, in_rest}
 use Rattle.trs_defs.proofs.Members.{in_or, no_in, get_of_in}
@@ -19,15 +18,13 @@ use Rattle.assign_search.proofs.Refuting.{true_or_false}
 use Rattle.order_search.specs.Slots.{table_from, table_of, puzzle_of}
 use Rattle.order_search.specs.Ascending.{AreAscending}
 use Rattle.order_search.proofs.Solutions.{solved}
+use Rattle.order_search.proofs.Tests.{self_test}
 use Rattle.order_find.specs.Subterms.{has_subterm, has_proper_subterm}
 use Rattle.order_find.specs.SubtermSpace.{both_pass, passes, some_passes, subterm_slots, subterm_search}
 use Rattle.order_find.specs.SubtermRow.{places_of}
 use Rattle.order_find.specs.Laws.{FoundPlacesApply}
 use Rattle.order_find.proofs.Subterms.{is_sub, is_proper, proper_is}
 use Rattle.order_find.proofs.SubtermPuzzle.{many_slots, many_constraints, truth_pair, truth_last}
-
-self_test : (n : ℕ) → (n == n) ≡ true
-self_test n = grind (arith, nat_tests)
 
 choose_place : (b : Bool) (x y : Option ℕ) (u v : ℕ) → (b ≡ true → x ≡ Some (u + 1)) → (b ≡ false → y ≡ Some (v + 1))
     → (if b then x else y) ≡ Some ((if b && true then u else v) + 1)

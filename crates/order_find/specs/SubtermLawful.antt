@@ -1,7 +1,6 @@
 -- Whether the places of a projection meet a constraint depends only on the slots that it is about.
 use Rattle.std.specs.Prelude.{ℕ, ◌+◌, Bool, true, ◌||◌, ◌==◌, List, [], ◌∷◌, ◌≡◌}
-use Rattle.std.proofs.Common.{refl, ap₂, arith}
-use Rattle.std.proofs.lemmas.Bool.Decides.{nat_tests}
+use Rattle.std.proofs.Common.{refl, ap₂}
 use Rattle.trs_defs.specs.Tree.{Tree}
 use Rattle.trs_defs.specs.Position.{argument_at}
 use Rattle.pair_theory.specs.Marked.{plain}
@@ -10,11 +9,9 @@ use Rattle.assign_search.specs.Puzzle.{IsLawful}
 use Rattle.assign_search.proofs.Refuting.{or_left, or_right}
 use Rattle.order_search.specs.Slots.{slot, Table, puzzle_of}
 use Rattle.order_search.proofs.Lawful.{lawful_of}
+use Rattle.order_search.proofs.Tests.{self_test}
 use Rattle.order_find.specs.Subterms.{has_subterm, has_proper_subterm}
 use Rattle.order_find.specs.SubtermSpace.{SubtermConstraint, weak, some_strict, both_pass, passes, some_passes, subterm_met, subterm_about, subterm_search}
-
-self_test : (n : ℕ) → (n == n) ≡ true
-self_test n = grind (arith, nat_tests)
 
 same_passes : (test : Tree → Tree → Bool) (p : DependencyPair) (t u : Table) → t p.from.symbol 0 ≡ u p.from.symbol 0 → t p.to.symbol 0 ≡ u p.to.symbol 0
     → passes test t p ≡ passes test u p

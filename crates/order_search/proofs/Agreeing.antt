@@ -1,13 +1,9 @@
 -- Facts of the symbols of a term, and tests of terms whose symbols have them.
-use Rattle.std.specs.Prelude.{ℕ, Bool, true, ◌==◌, if◌then◌else◌, List, [], ◌∷◌, ◌≡◌}
-use Rattle.std.proofs.Common.{false, arith}
-use Rattle.std.proofs.lemmas.Bool.Decides.{nat_tests}
+use Rattle.std.specs.Prelude.{ℕ, Bool, true, false, ◌==◌, if◌then◌else◌, List, [], ◌∷◌, ◌≡◌}
 use Rattle.trs_defs.specs.Tree.{Tree, Trees, app, cons}
 use Rattle.assign_search.proofs.Refuting.{or_left, or_right}
 use Rattle.order_search.specs.OrderSpace.{occurs_in, occurs_in_some}
-
-pub self_test : (n : ℕ) → (n == n) ≡ true
-self_test n = grind (arith, nat_tests)
+use Rattle.order_search.proofs.Tests.{self_test}
 
 pub if_same : {A : Type 0} (b : Bool) (x y u v : A) → x ≡ u → y ≡ v → (if b then x else y) ≡ (if b then u else v)
 if_same true x y u v e d = e

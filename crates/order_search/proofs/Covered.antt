@@ -1,8 +1,7 @@
 -- The symbols of the rules and of the marked pairs of a problem are those that an order needs values for.
-use Rattle.std.specs.Prelude.{◌≡◌, ◌≤◌, ◌<◌, ◌⊎◌, ℕ, ◌+◌, Bool, true, false, ◌||◌, ◌==◌, List, [], ◌∷◌, ◌++◌, length, map, All, get_or}
+use Rattle.std.specs.Prelude.{◌≡◌, ◌≤◌, ◌<◌, ℕ, ◌+◌, true, ◌||◌, ◌==◌, List, [], ◌∷◌, ◌++◌, length, map, All, get_or}
 use Rattle.std.specs.List.Sorted.{IsStrictlyIncreasing}
 use Rattle.std.proofs.Common.{inl, inr, refl, sym, ap, subst, arith}
-use Rattle.std.proofs.lemmas.Bool.Decides.{nat_tests}
 use Rattle.std.proofs.lemmas.List.{length-append, length-map}
 use Rattle.std.proofs.lemmas.Option.{slice_get_within}
 use Rattle.trs_defs.specs.Member.{In, in_first, in_rest}
@@ -14,26 +13,21 @@ use Rattle.trs_defs.specs.System.{RewriteRule, System, IsSystem}
 use Rattle.pair_theory.specs.Marked.{Marked, mark}
 use Rattle.pair_theory.specs.DependencyPair.{DependencyPair, dependency_pairs}
 use Rattle.pair_theory.specs.ReductionPair.{marked_rule}
+use Rattle.assign_search.proofs.Refuting.{or_left, or_right}
 use Rattle.dp_core.specs.Symbols.{symbols_of, symbols_of_all, symbols_of_rules}
 use Rattle.dp_core.specs.SubtermConditions.{roots_of}
 use Rattle.dp_core.proofs.OrderConclusions.{root_listed, rule_symbols, from_symbols, to_symbols}
+use Rattle.order_search.proofs.Tests.{self_test, same_number, either}
 use Rattle.order_search.proofs.FewPairs.{length_below}
 use Rattle.order_search.proofs.RootSets.{in_at}
 use Rattle.order_search.specs.OrderSpace.{occurs_in, occurs_in_some, AreCovered}
 use Rattle.order_search.specs.OrderRow.{AreSymbols}
 
-either : (a b : Bool) → (a || b) ≡ true → (a ≡ true) ⊎ (b ≡ true)
-either true b e = inl refl
-either false b e = inr e
-
-same_number : (g f : ℕ) → (g == f) ≡ true → f ≡ g
-same_number g f e = grind (arith, nat_tests)
-
 mutual
   pub listed_symbol : (f : ℕ) (t : Tree) → occurs_in f t ≡ true → In f (symbols_of t)
   listed_symbol f (var x) e = absurd cc
   listed_symbol f (app g ts) e = elim (either (g == f) (occurs_in_some f ts) e) [
-    | inl same ↦ subst (λ (x : ℕ). In f (x ∷ symbols_of_all ts)) (same_number g f same) in_first
+    | inl same ↦ subst (λ (x : ℕ). In f (x ∷ symbols_of_all ts)) (sym (same_number g f same)) in_first
     | inr below ↦ in_rest (listed_below f ts below)
   ]
 
@@ -46,22 +40,11 @@ mutual
 
 -- ---- of rules and pairs
 
-self_test : (n : ℕ) → (n == n) ≡ true
-self_test n = grind (arith, nat_tests)
-
-or_first : (a b : Bool) → a ≡ true → (a || b) ≡ true
-or_first true b e = refl
-or_first false b e = absurd cc
-
-or_second : (a b : Bool) → b ≡ true → (a || b) ≡ true
-or_second true b e = refl
-or_second false b e = e
-
 pub listed_of : (f : ℕ) (xs : List ℕ) → In f xs → is_listed f xs ≡ true
 listed_of f [] i = absurd (no_in i)
 listed_of f (x ∷ xs) i = elim (in_or i) [
-  | inl same ↦ or_first (x == f) (is_listed f xs) (subst (λ (y : ℕ). (y == f) ≡ true) same (self_test f))
-  | inr later ↦ or_second (x == f) (is_listed f xs) (listed_of f xs later)
+  | inl same ↦ or_left (x == f) (is_listed f xs) (subst (λ (y : ℕ). (y == f) ≡ true) same (self_test f))
+  | inr later ↦ or_right (x == f) (is_listed f xs) (listed_of f xs later)
 ]
 
 module _ (unmarked : List ℕ) (pairs : List DependencyPair) (symbols : List ℕ) (are : AreSymbols unmarked pairs symbols) where

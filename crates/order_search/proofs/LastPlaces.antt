@@ -11,7 +11,8 @@ use Rattle.dp_core.specs.pair_order.Entries.{place_among}
 use Rattle.order_search.specs.Distinct.{AreDistinct}
 use Rattle.order_search.specs.Ends.{end_among}
 use Rattle.order_search.specs.OrderSpace.{occurs_in, occurs_in_some}
-use Rattle.order_search.proofs.PlacedEntries.{same_number, stands_at}
+use Rattle.order_search.proofs.Tests.{same_number}
+use Rattle.order_search.proofs.PlacedEntries.{stands_at}
 
 -- ---- ends of numbers
 

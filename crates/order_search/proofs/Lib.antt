@@ -1,5 +1,6 @@
 -- what crates above name through this one
 pub use Rattle.dp_core.proofs as dp_core
+pub mod Tests
 pub mod Agreeing
 pub mod OrderLawful
 pub mod SlotLayout

@@ -1,16 +1,13 @@
 -- A search for an order is lawful where the comparisons of its family depend only on the symbols of the terms.
 use Rattle.std.specs.Prelude.{ℕ, true, ◌||◌, ◌==◌, not, nat_lt, List, [], ◌∷◌, ◌≡◌}
-use Rattle.std.proofs.Common.{refl, ap, ap₂, arith}
-use Rattle.std.proofs.lemmas.Bool.Decides.{nat_tests}
+use Rattle.std.proofs.Common.{refl, ap, ap₂}
 use Rattle.trs_defs.specs.System.{RewriteRule}
 use Rattle.assign_search.specs.Puzzle.{IsLawful}
 use Rattle.assign_search.proofs.Refuting.{or_left, or_right}
 use Rattle.order_search.specs.Slots.{slot, Table, puzzle_of}
 use Rattle.order_search.specs.OrderSpace.{OrderFamily, OrderConstraint, falls, some_strict, above, some_falls, meets, concerns, order_search, DependsOnSymbols}
 use Rattle.order_search.proofs.Lawful.{lawful_of}
-
-self_test : (n : ℕ) → (n == n) ≡ true
-self_test n = grind (arith, nat_tests)
+use Rattle.order_search.proofs.Tests.{self_test}
 
 module _ (family : OrderFamily) (depends : DependsOnSymbols family) where
   same_some : (rules : List RewriteRule) (t u : Table) → ((f part : ℕ) → t f part ≡ u f part) → some_falls (family.strict t) rules ≡ some_falls (family.strict u) rules

@@ -1,13 +1,10 @@
 -- The entries that a table says for symbols, by the places of the symbols.
 use Rattle.std.specs.Prelude.{◌≡◌, ◌<◌, ℕ, Bool, true, false, ◌||◌, ◌==◌, if◌then◌else◌, List, [], ◌∷◌, length, map, get_or, Option, Some, None, option_map}
 use Rattle.std.proofs.Common.{zero, suc, refl, sym, ap, ap₂, arith, ◌∙◌}
-use Rattle.std.proofs.lemmas.Bool.Decides.{nat_tests}
 use Rattle.trs_defs.specs.Variable.{is_listed}
 use Rattle.dp_core.specs.pair_order.Entries.{place_among, entry_of}
 use Rattle.dp_core.proofs.pair_order.Placing.{entry_absent}
-
-pub same_number : (g f : ℕ) → (g == f) ≡ true → g ≡ f
-same_number g f e = grind (arith, nat_tests)
+use Rattle.order_search.proofs.Tests.{same_number}
 
 -- the symbol stands at this place
 pub record StandsAt (symbols : List ℕ) (f i : ℕ) : Type 0 where

@@ -1,10 +1,10 @@
 -- The places of symbols, as they are noted one by one.
 use Rattle.std.specs.Prelude.{◌≡◌, ◌<◌, ◌≤◌, ◌⊎◌, ℕ, ◌+◌, All, Bool, true, false, ◌==◌, if◌then◌else◌, List, [], ◌∷◌, ◌++◌, length, take, get_or, Option, Some, None, option_map}
 use Rattle.std.proofs.Common.{zero, suc, inl, inr, refl, sym, ap, subst, arith, ◌∙◌, set, replicate}
-use Rattle.std.proofs.lemmas.Bool.Decides.{nat_tests}
 use Rattle.std.proofs.lemmas.List.{take_more, length-take-le, length-set, length-replicate, take_all, get_or-set_same, get_or-set_other}
 use Rattle.dp_core.specs.pair_order.Entries.{place_among}
 use Rattle.order_search.specs.Placed.{ArePlaced}
+use Rattle.order_search.proofs.Tests.{self_test, other_test}
 
 -- the first of two, or else the second
 abbrev first_of : Option ℕ → Option ℕ → Option ℕ
@@ -30,12 +30,6 @@ place_behind [] g f = refl
 place_behind (x ∷ xs) g f =
     behind_one (x == f) (place_among (xs ++ g ∷ []) f) (place_among xs f) _
     (ap (option_map suc) (place_behind xs g f) ∙ later (place_among xs f) (g == f) (length xs))
-
-self_test : (n : ℕ) → (n == n) ≡ true
-self_test n = grind (arith, nat_tests)
-
-other_test : (g f : ℕ) → (f ≡ g → ⊥) → (g == f) ≡ false
-other_test g f h = grind (arith, nat_tests)
 
 first_alone : (o : Option ℕ) (b : Bool) (k : ℕ) → b ≡ false → first_of o (place_if b k) ≡ o
 first_alone None true k e = absurd cc

@@ -2,7 +2,6 @@
 use Rattle.std.specs.Prelude.{◌≡◌, ◌<◌, ℕ, ◌+◌, ◌*◌, false, true, Bool, ◌==◌, if◌then◌else◌, List, [], ◌∷◌, ◌++◌, length, map, get_or, Option, Some, option_map}
 use Rattle.std.specs.List.Sorted.{IsStrictlyIncreasing}
 use Rattle.std.proofs.Common.{zero, suc, inl, inr, refl, sym, ap, subst, arith, ◌∙◌}
-use Rattle.std.proofs.lemmas.Bool.Decides.{nat_tests}
 use Rattle.std.proofs.lemmas.List.Kept.{AllPairs-from_increasing}
 use Rattle.trs_defs.specs.Member.{In, in_first, in_rest}
 use Rattle.trs_defs.proofs.Members.{in_or, no_in, in_either, of_map}
@@ -11,6 +10,7 @@ use Rattle.order_search.proofs.RootSets.{in_at}
 use Rattle.order_search.specs.OrderRow.{AreSymbols}
 use Rattle.order_search.specs.Distinct.{AreDistinct}
 use Rattle.order_search.proofs.SlotLayout.{start_of}
+use Rattle.order_search.proofs.Tests.{self_test, other_test}
 
 in_index : (xs : List ℕ) (x : ℕ) → In x xs → (k : ℕ) × (k < length xs) × (get_or xs k 0 ≡ x)
 in_index [] x i = absurd (no_in i)
@@ -75,12 +75,6 @@ symbols_distinct unmarked pairs symbols small are =
     let (g, k, e) = of_map (λ (z : ℕ). z + 4096) are.roots j in
     let below = small f ((are.are_plain.each f).0 i) in
     omega (arith, e, below))))
-
-pub self_test : (n : ℕ) → (n == n) ≡ true
-self_test n = grind (arith, nat_tests)
-
-pub other_test : (g f : ℕ) → (f ≡ g → ⊥) → (g == f) ≡ false
-other_test g f h = grind (arith, nat_tests)
 
 pub found_first : (b : Bool) (o : Option ℕ) → b ≡ true → (if b then Some 0 else o) ≡ Some 0
 found_first true o e = refl

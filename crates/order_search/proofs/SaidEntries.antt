@@ -1,12 +1,9 @@
 -- The entries that a table says for symbols.
 use Rattle.std.specs.Prelude.{◌≡◌, ℕ, Bool, true, false, ◌||◌, ◌==◌, if◌then◌else◌, is_some, List, [], ◌∷◌, map, Option, Some}
-use Rattle.std.proofs.Common.{refl, ap, arith, ◌∙◌}
-use Rattle.std.proofs.lemmas.Bool.Decides.{nat_tests}
+use Rattle.std.proofs.Common.{refl, ap, ◌∙◌}
 use Rattle.trs_defs.specs.Variable.{is_listed}
 use Rattle.dp_core.specs.pair_order.Entries.{entry_of, has_entry}
-
-same_number : (g f : ℕ) → (g == f) ≡ true → g ≡ f
-same_number g f e = grind (arith, nat_tests)
+use Rattle.order_search.proofs.Tests.{same_number}
 
 module _ {Entry : Type 0} (symbol_of : Entry → ℕ) (said : ℕ → Entry) (named : (f : ℕ) → symbol_of (said f) ≡ f) where
   pick : (b : Bool) (g f : ℕ) (o : Option Entry) (rest : Bool) → (g == f) ≡ b → (b || rest) ≡ true → (rest ≡ true → o ≡ Some (said f))

@@ -4,9 +4,7 @@ use Rattle.std.proofs.Common.{zero, suc, refl, ap, subst, arith, ◌∙◌}
 use Rattle.std.proofs.lemmas.Bool.Decides.{nat_tests}
 use Rattle.order_search.specs.Slots.{Slot, table_from}
 use Rattle.order_search.specs.OrderSpace.{parts_from, slots_of}
-
-self_test : (n : ℕ) → (n == n) ≡ true
-self_test n = grind (arith, nat_tests)
+use Rattle.order_search.proofs.Tests.{self_test}
 
 later_test : (n j : ℕ) → (n == n + suc j) ≡ false
 later_test n j = grind (arith, nat_tests)

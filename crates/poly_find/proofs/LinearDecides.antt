@@ -1,5 +1,5 @@
 -- The tests decide the comparisons of linear polynomials.
-use Rattle.std.specs.Prelude.{◌≡◌, ℕ, ◌≤◌, ◌<◌, ◌^◌, ◌⊎◌, Bool, true, false, ◌||◌, ◌&&◌, ◌==◌, if◌then◌else◌, nat_lt, nat_le}
+use Rattle.std.specs.Prelude.{◌≡◌, ℕ, ◌≤◌, ◌<◌, ◌^◌, ◌⊎◌, Bool, true, false, ◌&&◌, ◌==◌, if◌then◌else◌, nat_lt, nat_le}
 use Rattle.std.proofs.Common.{refl, subst, inl, inr, arith}
 use Rattle.std.proofs.lemmas.Bool.Decides.{nat_tests}
 use Rattle.trs_defs.specs.Tree.{Tree, Trees, var, app, nil, cons}
@@ -11,11 +11,8 @@ use Rattle.order_theory.proofs.Coefficients.{weak_by_coefficients, strict_by_coe
 use Rattle.poly_lin.specs.TooBig.{HasBigCoefficient, EitherIsBig}
 use Rattle.assign_search.proofs.Refuting.{true_or_false}
 use Rattle.order_search.proofs.Lawful.{both_true, and_true}
+use Rattle.order_search.proofs.Tests.{same_number, either}
 use Rattle.poly_find.specs.LinearTest.{has_small, have_small, is_small, are_small, covers_each, covers_all, linear_weak, linear_strict}
-
-either : (a b : Bool) → (a || b) ≡ true → (a ≡ true) ⊎ (b ≡ true)
-either true b e = inl refl
-either false b e = inr e
 
 le_is : (a b : ℕ) → nat_le a b ≡ true → a ≤ b
 le_is a b e = grind (arith, nat_tests)
@@ -29,9 +26,6 @@ lt_is a b e = grind (arith, nat_tests)
 is_lt : (a b : ℕ) → a < b → nat_lt a b ≡ true
 is_lt a b e = grind (arith, nat_tests)
 
-eq_is : (a b : ℕ) → (a == b) ≡ true → a ≡ b
-eq_is a b e = grind (arith, nat_tests)
-
 below : (n : ℕ) → (2 ^ 63 ≤ n → ⊥) → nat_lt n (2 ^ 63) ≡ true
 below n no_ = elim (true_or_false (nat_lt n (2 ^ 63))) [ inl less ↦ less | inr not_less ↦ absurd (no_ (grind (arith, nat_tests))) ]
 
@@ -41,7 +35,7 @@ module _ (c : ℕ → ℕ → ℕ) where
   module _ (t : Tree) where
     mutual
       small_there : (x : ℕ) (u : Tree) → has_small c t u ≡ true → has_var x u ≡ true → coefficient c x t < 2 ^ 63
-      small_there x (var y) e here = let same : y ≡ x = eq_is y x here in subst (λ z. coefficient c z t < 2 ^ 63) same (lt_is (coefficient c y t) (2 ^ 63) e)
+      small_there x (var y) e here = let same : y ≡ x = same_number y x here in subst (λ z. coefficient c z t < 2 ^ 63) same (lt_is (coefficient c y t) (2 ^ 63) e)
       small_there x (app f us) e here = small_in x us e here
 
       small_in : (x : ℕ) (us : Trees) → have_small c t us ≡ true → some_has_var x us ≡ true → coefficient c x t < 2 ^ 63
@@ -115,7 +109,7 @@ module _ (c : ℕ → ℕ → ℕ) where
     mutual
       covers_there : (x : ℕ) (u : Tree) → covers_each c s t u ≡ true → has_var x u ≡ true → coefficient c x t ≤ coefficient c x s
       covers_there x (var y) e here =
-          let same : y ≡ x = eq_is y x here in subst (λ z. coefficient c z t ≤ coefficient c z s) same (le_is (coefficient c y t) (coefficient c y s) e)
+          let same : y ≡ x = same_number y x here in subst (λ z. coefficient c z t ≤ coefficient c z s) same (le_is (coefficient c y t) (coefficient c y s) e)
       covers_there x (app f us) e here = covers_in x us e here
 
       covers_in : (x : ℕ) (us : Trees) → covers_all c s t us ≡ true → some_has_var x us ≡ true → coefficient c x t ≤ coefficient c x s

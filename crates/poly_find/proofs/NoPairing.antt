@@ -1,7 +1,6 @@
 -- The pairing 8191 is no symbol of a system.
-use Rattle.std.specs.Prelude.{◌≡◌, ◌≤◌, ◌<◌, ◌⊎◌, ℕ, ◌+◌, Bool, true, false, ◌||◌, ◌==◌, List, [], ◌∷◌, length, map}
-use Rattle.std.proofs.Common.{refl, subst, arith, inl, inr}
-use Rattle.std.proofs.lemmas.Bool.Decides.{nat_tests}
+use Rattle.std.specs.Prelude.{◌≡◌, ◌≤◌, ◌<◌, ℕ, ◌+◌, true, false, ◌==◌, List, [], ◌∷◌, length, map}
+use Rattle.std.proofs.Common.{subst, arith, inl, inr}
 use Rattle.std.proofs.lemmas.Option.{slice_get_within}
 use Rattle.trs_defs.specs.Member.{In, in_first, in_rest}
 use Rattle.trs_defs.specs.Tree.{count}
@@ -16,18 +15,12 @@ use Rattle.assign_search.proofs.Refuting.{true_or_false}
 use Rattle.order_search.proofs.FewPairs.{roots_small}
 use Rattle.order_search.specs.OrderRow.{AreSymbols}
 use Rattle.order_search.proofs.Covered.{plain_small}
-
-either : (a b : Bool) → (a || b) ≡ true → (a ≡ true) ⊎ (b ≡ true)
-either true b e = inl refl
-either false b e = inr e
-
-eq_is : (a b : ℕ) → (a == b) ≡ true → a ≡ b
-eq_is a b e = grind (arith, nat_tests)
+use Rattle.order_search.proofs.Tests.{same_number, either}
 
 pub in_listed : (f : ℕ) (xs : List ℕ) → is_listed f xs ≡ true → In f xs
 in_listed f [] e = absurd cc
 in_listed f (x ∷ xs) e = elim (either (x == f) (is_listed f xs) e) [
-  | inl here ↦ subst (λ (y : ℕ). In y (x ∷ xs)) (eq_is x f here) in_first
+  | inl here ↦ subst (λ (y : ℕ). In y (x ∷ xs)) (same_number x f here) in_first
   | inr later ↦ in_rest (in_listed f xs later)
 ]
 

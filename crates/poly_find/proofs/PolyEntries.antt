@@ -1,7 +1,6 @@
 -- What the entries that a table says tell of terms whose symbols have one.
 use Rattle.std.specs.Prelude.{◌≡◌, ℕ, Bool, true, false, ◌||◌, ◌==◌, if◌then◌else◌, slice_index, List, [], ◌∷◌, map}
-use Rattle.std.proofs.Common.{refl, ap, ap₂, subst, arith, ◌∙◌, inl, inr}
-use Rattle.std.proofs.lemmas.Bool.Decides.{nat_tests}
+use Rattle.std.proofs.Common.{refl, ap, ap₂, subst, ◌∙◌, inl, inr}
 use Rattle.trs_defs.specs.Member.{in_first, in_rest}
 use Rattle.trs_defs.specs.Variable.{is_listed}
 use Rattle.trs_defs.specs.System.{RewriteRule}
@@ -10,13 +9,11 @@ use Rattle.assign_search.proofs.Refuting.{true_or_false}
 use Rattle.order_search.specs.Slots.{Table}
 use Rattle.order_search.specs.OrderSpace.{occurs_in, AreCovered, some_falls, arity_with_mark}
 use Rattle.order_search.proofs.SaidEntries.{entry_said}
+use Rattle.order_search.proofs.Tests.{same_number}
 use Rattle.poly_find.specs.LinearTest.{linear_weak, linear_strict}
 use Rattle.poly_find.specs.PolySpace.{coefficient_by, poly_weak, poly_strict}
 use Rattle.poly_find.specs.PolyRow.{poly_entry}
 use Rattle.poly_find.specs.PolyDepends.{weak_same, strict_same}
-
-eq_is : (a b : ℕ) → (a == b) ≡ true → a ≡ b
-eq_is a b e = grind (arith, nat_tests)
 
 if_false : (b : Bool) (x y : List ℕ) → b ≡ false → (if b then x else y) ≡ y
 if_false true x y e = absurd cc
@@ -26,7 +23,7 @@ module _ (arities : List ℕ) (table : Table) (symbols : List ℕ) (no_pairing :
     (entries : List (ℕ × List ℕ)) (are : entries ≡ map (poly_entry arities table) symbols) where
   other_symbol : (f : ℕ) → is_listed f symbols ≡ true → (f == 8191) ≡ false
   other_symbol f there = elim (true_or_false (f == 8191)) [
-    | inl same ↦ (let here : is_listed 8191 symbols ≡ true = subst (λ g. is_listed g symbols ≡ true) (eq_is f 8191 same) there in absurd cc)
+    | inl same ↦ (let here : is_listed 8191 symbols ≡ true = subst (λ g. is_listed g symbols ≡ true) (same_number f 8191 same) there in absurd cc)
     | inr other ↦ other
   ]
 

@@ -1,20 +1,11 @@
 -- What a comparison by linear polynomials answers as a test.
-use Rattle.std.specs.Prelude.{ℕ, Bool, true, false, ◌↔◌, ◌≡◌, IsTrue}
-use Rattle.std.proofs.Common.{refl, sym}
+use Rattle.std.specs.Prelude.{ℕ, Bool, false, ◌↔◌, ◌≡◌, IsTrue}
 use Rattle.trs_defs.specs.Tree.{Tree}
 use Rattle.order_theory.specs.LinearInterpretation.{LinearWeak, LinearStrict}
 use Rattle.poly_lin.specs.TooBig.{EitherIsBig}
 use Rattle.poly_find.specs.LinearTest.{linear_strict, linear_weak}
 use Rattle.poly_find.proofs.LinearDecides.{weak_fits, weak_is, strict_fits, strict_is, is_weak, is_strict}
-
-same_both : (a b : Bool) → (a ≡ true → b ≡ true) → (b ≡ true → a ≡ true) → a ≡ b
-same_both true b to from = sym (to refl)
-same_both false true to from = from refl
-same_both false false to from = refl
-
-never_true : (b : Bool) → (b ≡ true → ⊥) → false ≡ b
-never_true true h = absurd (h refl)
-never_true false h = refl
+use Rattle.order_search.proofs.Tests.{same_both, never_true}
 
 module _ (c : ℕ → ℕ → ℕ) (s t : Tree) where
   pub weak_answer : (b : Bool) → (EitherIsBig c s t → ⊥) × (IsTrue b ↔ LinearWeak c s t) → b ≡ linear_weak c s t

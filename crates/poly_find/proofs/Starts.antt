@@ -2,12 +2,12 @@
 use Rattle.std.specs.Prelude.{◌≡◌, ◌<◌, ◌≤◌, ℕ, ◌+◌, ◌-◌, false, ◌==◌, List, [], ◌∷◌, ◌++◌, length, map, drop, get_or, Some, option_map}
 use Rattle.std.proofs.Common.{zero, suc, refl, sym, ap, ap₂, subst, arith, ◌∙◌, append_assoc}
 use Rattle.std.proofs.lemmas.List.{append-nil, drop_all, map-append, length-append, length-map}
-use Rattle.std.proofs.lemmas.Option.{slice_get-get_or}
-use Rattle.order_search.proofs.dp_core.Collecting.{next_item}
+use Rattle.order_search.proofs.dp_core.Collecting.{next_read}
 use Rattle.order_search.specs.Slots.{Table, table_of}
 use Rattle.order_search.specs.OrderSpace.{parts_from, slots_of}
 use Rattle.order_search.specs.Distinct.{AreDistinct}
-use Rattle.order_search.proofs.Repeats.{self_test, other_test, found_first, found_later, tail_distinct}
+use Rattle.order_search.proofs.Tests.{self_test, other_test}
+use Rattle.order_search.proofs.Repeats.{found_first, found_later, tail_distinct}
 use Rattle.order_search.proofs.SlotLayout.{start_of, value_from, value_at}
 use Rattle.poly_find.specs.PolySpace.{values_from}
 use Rattle.poly_find.specs.PolyPlaces.{parts_by, owner_of, owners_of, values_at, starts}
@@ -108,9 +108,6 @@ all_of_one f n i first made past before =
     let none : n - i ≡ 0 = omega (arith, past) in
     sym (before ∙ (ap (λ (k : ℕ). made ++ map owner_of (parts_from f i k)) none ∙ append-nil made))
 
-opened : (symbols : List ℕ) (i g : ℕ) → i < length symbols → g ≡ get_or symbols i 0 → drop i symbols ≡ g ∷ drop (i + 1) symbols
-opened symbols i g below is = next_item symbols i g (slice_get-get_or symbols i 0 below ∙ ap (λ (x : ℕ). Some x) (sym is))
-
 module _ (arities symbols : List ℕ) where
   abbrev pub AreOfAll : ℕ → List ℕ → Type 0
   AreOfAll i made = owners_of arities symbols ≡ made ++ owners_of arities (drop i symbols)
@@ -123,7 +120,7 @@ module _ (arities symbols : List ℕ) where
   one_symbol_more i g n old new below is many grown before =
       let own = map owner_of (parts_from g 0 (parts_by arities g)) in
       before
-      ∙ (ap (λ (l : List ℕ). old ++ owners_of arities l) (opened symbols i g below is)
+      ∙ (ap (λ (l : List ℕ). old ++ owners_of arities l) (next_read symbols i g 0 below is)
       ∙ (ap (λ (l : List ℕ). old ++ l) (map-append owner_of (parts_from g 0 (parts_by arities g)) (slots_of (parts_by arities) (drop (i + 1) symbols)))
       ∙ (sym (append_assoc old own (owners_of arities (drop (i + 1) symbols)))
       ∙ ap (λ (l : List ℕ). l ++ owners_of arities (drop (i + 1) symbols)) (ap (λ (k : ℕ). old ++ map owner_of (parts_from g 0 k)) (sym many) ∙ sym grown))))

@@ -3,17 +3,14 @@ use Rattle.std.specs.Prelude.{◌≡◌, ◌<◌, ℕ, Bool, true, false, ◌||�
 use Rattle.std.specs.List.{AllByRecursion}
 use Rattle.std.specs.List.Sorted.{IsStrictlyIncreasing}
 use Rattle.std.proofs.Common.{suc, refl, sym, subst, ap₂, arith}
-use Rattle.std.proofs.lemmas.Bool.Decides.{nat_tests}
 use Rattle.std.proofs.lemmas.Option.{slice_get_within, slice_get-get_or}
 use Rattle.trs_defs.specs.Member.{In, in_first, in_rest}
 use Rattle.trs_defs.specs.Variable.{is_listed}
 use Rattle.trs_defs.proofs.Members.{get_of_in}
 use Rattle.order_find.specs.order_search.Distinct as placed
 use Rattle.order_find.proofs.order_search.Repeats.{once_distinct, distinct_of}
+use Rattle.order_find.proofs.order_search.Tests.{other_test}
 use Rattle.cert_step.specs.Entries.{AreDistinct}
-
-pub other_test : (g f : ℕ) → (f ≡ g → ⊥) → (g == f) ≡ false
-other_test g f h = grind (arith, nat_tests)
 
 neither : (a b : Bool) → a ≡ false → b ≡ false → (a || b) ≡ false
 neither true b e d = absurd cc

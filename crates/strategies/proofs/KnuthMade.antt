@@ -1,5 +1,5 @@
 -- The entries of a Knuth-Bendix order that is found are those of a well-made step.
-use Rattle.std.specs.Prelude.{◌≡◌, ◌≢◌, ◌<◌, ◌≤◌, ◌⊎◌, ℕ, ◌+◌, Bool, true, false, not, ◌||◌, ◌==◌, nat_lt, if◌then◌else◌, List, [], ◌∷◌, map, length, take, get_or, Some, slice_get}
+use Rattle.std.specs.Prelude.{◌≡◌, ◌≢◌, ◌<◌, ◌≤◌, ℕ, ◌+◌, Bool, true, false, not, ◌||◌, ◌==◌, nat_lt, if◌then◌else◌, List, [], ◌∷◌, map, length, take, get_or, Some, slice_get}
 use Rattle.std.proofs.Common.{zero, suc, refl, sym, ap, subst, arith, ◌∙◌, inl, inr}
 use Rattle.std.proofs.lemmas.Bool.Decides.{nat_tests}
 use Rattle.std.proofs.lemmas.Option.{slice_get_within, slice_get-get_or}
@@ -17,22 +17,16 @@ use Rattle.order_find.specs.order_search.Slots.{Slot, Table, table_of, puzzle_of
 use Rattle.order_find.proofs.order_search.Solutions.{solved}
 use Rattle.order_find.specs.order_search.OrderSpace.{above, is_above, arity_with_mark}
 use Rattle.order_find.specs.order_search.OrderOver.{search_of}
+use Rattle.order_find.proofs.order_search.Tests.{other_test, same_number, either}
 use Rattle.order_find.proofs.order_search.Covered.{listed_of}
 use Rattle.order_find.proofs.order_search.OwnConstraints.{own_and_others, truth_own}
 use Rattle.order_find.specs.kbo_find.KboSpace.{weight_by, kbo_family, kbo_values, above_each, above_all, tops_of, kbo_tops}
 use Rattle.order_find.specs.kbo_find.KboRow.{entry_by, kbo_entry, kbo_search}
 use Rattle.order_find.specs.kbo_find.Laws.{FindsKbo}
 use Rattle.cert_step.specs.Entries.{AreDistinct, AreKboEntries}
-use Rattle.strategies.proofs.Distinctness.{other_test, names_said, each_said}
+use Rattle.strategies.proofs.Distinctness.{names_said, each_said}
 use Rattle.strategies.proofs.SymbolArities.{arity_there, all_distinct}
 use Rattle.strategies.proofs.TableValues.{small_value}
-
-either : (a b : Bool) → (a || b) ≡ true → (a ≡ true) ⊎ (b ≡ true)
-either true b e = inl refl
-either false b e = inr e
-
-same_number : (g f : ℕ) → (g == f) ≡ true → g ≡ f
-same_number g f e = grind (arith, nat_tests)
 
 -- ---- each symbol with one argument is above each other one, if it weighs nothing
 
