@@ -19,6 +19,7 @@ use Rattle.dp_graph.specs.Edge.{HoldsAtEdges}
 use Rattle.dp_graph.specs.GroupOrSingle.{GroupOrSingle, group, single, members_of, all_members, groups_of, singles_of}
 use Rattle.dp_graph.specs.GraphConditions.{HasEdge, are_members, leads_to_none, lead_to_none, lead_onward, have_no_self_edge}
 use Rattle.dp_graph.proofs.Covering.{edges_cover}
+use Rattle.dp_graph.proofs.Sets.{true_is_not_false}
 use Rattle.dp_graph.proofs.EachOfList.{each_passed, it_is_absent}
 use Rattle.dp_graph.specs.Laws.{GraphStepsConclude, GraphStepsAnswerOnce, GroupsAreOfProblem}
 use Rattle.rewrite_core.specs.declared.checks.refusals.StepRefused.TheVariants.{Member, EdgeBack, SelfEdge}
@@ -202,9 +203,6 @@ of_true (no h) e = absurd cc
 
 abbrev IsOnward : List GroupOrSingle → ℕ → ℕ → Type 0
 IsOnward items a b = (a < b) ⊎ ((a ≡ b) × (is_single items a ≡ false))
-
-true_is_not_false : (b : Bool) → b ≡ true → b ≡ false → ⊥
-true_is_not_false b e d = let h : true ≡ false = sym e ∙ d in absurd cc
 
 dec_onward : (items : List GroupOrSingle) (a b : ℕ) → Dec (IsOnward items a b)
 dec_onward items a b = below (dec_lt a b)

@@ -1,5 +1,5 @@
 -- The tests decide the Knuth-Bendix order.
-use Rattle.std.specs.Prelude.{◌≡◌, ℕ, ◌≤◌, ◌<◌, ◌^◌, ◌⊎◌, Bool, true, false, ◌||◌, ◌&&◌, ◌==◌, if◌then◌else◌, nat_lt, nat_le}
+use Rattle.std.specs.Prelude.{◌≡◌, ℕ, ◌≤◌, ◌<◌, ◌^◌, ◌⊎◌, Bool, true, false, ◌||◌, ◌&&◌, ◌==◌, if◌then◌else◌, nat_lt}
 use Rattle.std.proofs.Common.{refl, sym, ap, subst, inl, inr, arith, ◌∙◌}
 use Rattle.std.proofs.lemmas.Bool.Decides.{nat_tests}
 use Rattle.trs_defs.specs.Tree.{Tree, Trees, var, app, nil, cons, count}
@@ -14,23 +14,8 @@ use Rattle.kbo_order.proofs.Towers.{tower_case}
 use Rattle.kbo_order.proofs.Viewers.{big_of, not_big}
 use Rattle.assign_search.proofs.Refuting.{or_left, or_right, true_or_false}
 use Rattle.order_search.proofs.Lawful.{both_true, and_true}
-use Rattle.order_search.proofs.Tests.{either}
+use Rattle.order_search.proofs.Tests.{either, same_number, le_is, is_le, lt_is, is_lt}
 use Rattle.kbo_find.specs.KnuthTest.{keeps_each, keeps_all, is_tower, is_tower_below, is_variable, is_none, knuth_lex, head_greater, weight_greater, knuth_greater, knuth_greater_each, both_fit, knuth_strict, knuth_weak}
-
-le_is : (a b : ℕ) → nat_le a b ≡ true → a ≤ b
-le_is a b e = grind (arith, nat_tests)
-
-is_le : (a b : ℕ) → a ≤ b → nat_le a b ≡ true
-is_le a b e = grind (arith, nat_tests)
-
-pub lt_is : (a b : ℕ) → nat_lt a b ≡ true → a < b
-lt_is a b e = grind (arith, nat_tests)
-
-pub is_lt : (a b : ℕ) → a < b → nat_lt a b ≡ true
-is_lt a b e = grind (arith, nat_tests)
-
-pub eq_is : (a b : ℕ) → (a == b) ≡ true → a ≡ b
-eq_is a b e = grind (arith, nat_tests)
 
 pub is_eq : (a b : ℕ) → a ≡ b → (a == b) ≡ true
 is_eq a b e = grind (arith, nat_tests)
@@ -41,7 +26,7 @@ module _ (s t : Tree) where
   mutual
     has_enough : (v : ℕ) (u : Tree) → keeps_each s t u ≡ true → has_var v u ≡ true → occurrences v t ≤ occurrences v s
     has_enough v (var x) e here =
-        let same : x ≡ v = eq_is x v here in
+        let same : x ≡ v = same_number x v here in
         subst (λ (y : ℕ). occurrences y t ≤ occurrences y s) same (le_is (occurrences x t) (occurrences x s) e)
     has_enough v (app f us) e here = have_enough v us e here
 
@@ -74,7 +59,7 @@ one_only nil e = refl
 one_only (cons t ts) e = absurd cc
 
 variable_is : (x : ℕ) (t : Tree) → is_variable x t ≡ true → t ≡ var x
-variable_is x (var y) e = ap var (eq_is y x e)
+variable_is x (var y) e = ap var (same_number y x e)
 variable_is x (app g ts) e = absurd cc
 
 self_variable : (x : ℕ) → is_variable x (var x) ≡ true
@@ -97,7 +82,7 @@ module _ (f x : ℕ) where
   mutual
     pub tower_is : (t : Tree) → is_tower f x t ≡ true → Tower f x t
     tower_is (var y) e = absurd cc
-    tower_is (app g ts) e = let both = both_true (g == f) (is_tower_below f x ts) e in tower_below g ts (eq_is g f both.0) both.1
+    tower_is (app g ts) e = let both = both_true (g == f) (is_tower_below f x ts) e in tower_below g ts (same_number g f both.0) both.1
 
     tower_below : (g : ℕ) (ts : Trees) → g ≡ f → is_tower_below f x ts ≡ true → Tower f x (app g ts)
     tower_below g nil same e = absurd cc
@@ -134,7 +119,7 @@ module _ (w r : ℕ → ℕ) where
         keeps_is s t both.0,
         elim (either (nat_lt (weigh w t) (weigh w s)) (weigh w s == weigh w t && rest t) both.1) [
           | inl less ↦ inl (lt_is (weigh w t) (weigh w s) less)
-          | inr more ↦ let h = both_true (weigh w s == weigh w t) (rest t) more in inr (eq_is (weigh w s) (weigh w t) h.0, h.1)
+          | inr more ↦ let h = both_true (weigh w s == weigh w t) (rest t) more in inr (same_number (weigh w s) (weigh w t) h.0, h.1)
         ],
       )
 
@@ -169,7 +154,7 @@ module _ (w r : ℕ → ℕ) where
   head_is f ss (app g ts) keeps same args e = elim (either (nat_lt (r g) (r f)) (f == g && knuth_lex ss (knuth_greater_each w r ss) ts) e) [
     | inl less ↦ by_head keeps same (lt_is (r g) (r f) less)
     | inr more ↦ let h = both_true (f == g) (knuth_lex ss (knuth_greater_each w r ss) ts) more in
-        same_root f g ss ts keeps same (eq_is f g h.0) (args ts h.1)
+        same_root f g ss ts keeps same (same_number f g h.0) (args ts h.1)
   ]
 
   mutual
@@ -184,7 +169,7 @@ module _ (w r : ℕ → ℕ) where
     lex_is (cons s ss) nil e = absurd cc
     lex_is (cons s ss) (cons t ts) e =
         lex_next s t ss ts (knuth_lex ss (knuth_greater_each w r ss) ts) (knuth_greater w r s t && count ss == count ts) e (λ later. lex_is ss ts later)
-        (λ here. let h = both_true (knuth_greater w r s t) (count ss == count ts) here in (greater_is s t h.0, eq_is (count ss) (count ts) h.1))
+        (λ here. let h = both_true (knuth_greater w r s t) (count ss == count ts) here in (greater_is s t h.0, same_number (count ss) (count ts) h.1))
 
   heavier_true : (s t : Tree) → KeepsOccurrences s t → weigh w t < weigh w s → knuth_greater w r s t ≡ true
   heavier_true (var x) t keeps less = is_heavier (var x) t (λ _. false) keeps less

@@ -7,8 +7,9 @@ use Rattle.std.proofs.lemmas.Bool.Decides.{nat_tests}
 use Rattle.std.proofs.lemmas.List.{drop_all, get_or_default, get_or-drop}
 use Rattle.std.proofs.lemmas.List.Sums.{sum_by-cons}
 use Rattle.trs_defs.proofs.ArgumentLists.{cell}
+use Rattle.order_search.proofs.Tests.{same_number}
 use Rattle.kbo_find.specs.Occurring.{times_in, StandAsOften}
-use Rattle.kbo_find.proofs.KnuthDecides.{eq_is, is_eq}
+use Rattle.kbo_find.proofs.KnuthDecides.{is_eq}
 
 abbrev is_it : ℕ → ℕ → ℕ
 is_it v n = cond (n == v) 1 0
@@ -144,4 +145,4 @@ module _ (many few : List ℕ) where
             omega (arith, at_end.0 all y, one, one_more y y (drop (found + 1) few), is_itself y)
 
     pub ended : IsTrue (nat_eq found (length few)) ↔ StandAsOften many few
-    ended = (λ e. stand (eq_is found (length few) e), λ all. is_eq found (length few) (found_all all))
+    ended = (λ e. stand (same_number found (length few) e), λ all. is_eq found (length few) (found_all all))

@@ -6,9 +6,9 @@ use Rattle.order_theory.specs.KnuthBendix.{weigh, KeepsOccurrences, KnuthGreater
 use Rattle.kbo_order.specs.TooBig.{EitherIsBig}
 use Rattle.kbo_order.proofs.Knuth.{seen_of}
 use Rattle.kbo_order.proofs.Viewers.{not_big, either_big}
-use Rattle.order_search.proofs.Tests.{same_both, never_true}
+use Rattle.order_search.proofs.Tests.{same_both, never_true, lt_is, is_lt}
 use Rattle.kbo_find.specs.KnuthTest.{knuth_weak, knuth_strict}
-use Rattle.kbo_find.proofs.KnuthDecides.{weak_is, strict_is, is_weak, is_strict, lt_is, is_lt}
+use Rattle.kbo_find.proofs.KnuthDecides.{weak_is, strict_is, is_weak, is_strict}
 use Rattle.kbo_find.proofs.KboTests.{weak_too_big, strict_too_big}
 
 module _ (w r : ℕ → ℕ) (s t : Tree) where

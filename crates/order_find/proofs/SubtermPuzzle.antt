@@ -5,7 +5,9 @@ use Rattle.std.proofs.lemmas.List.{length-map}
 use Rattle.pair_theory.specs.DependencyPair.{DependencyPair}
 use Rattle.kbo_find.specs.pair_order.Entries.{place_among}
 use Rattle.order_search.specs.Slots.{Slot, slot, table_from, table_of, puzzle_of}
-use Rattle.order_search.proofs.Lawful.{and_true, test_below}
+use Rattle.order_search.proofs.Lawful.{and_true}
+use Rattle.order_search.proofs.Tests.{is_lt}
+use Rattle.order_search.proofs.Constraints.{and_second}
 use Rattle.order_search.proofs.SlotConstraints.{at_item, at_last, one_more}
 use Rattle.order_find.specs.Subterms.{has_subterm}
 use Rattle.order_find.specs.SubtermSpace.{weak, some_strict, passes, some_passes, subterm_met, subterm_about, subterm_slots, arity_in, subterm_search}
@@ -14,10 +16,6 @@ slot_at : (roots : List ℕ) (s d : ℕ) → s < length roots → get_or (subter
 slot_at [] s d h = absurd (omega (arith, h))
 slot_at (f ∷ roots) zero d h = refl
 slot_at (f ∷ roots) (suc s) d h = slot_at roots s d (omega (arith, h))
-
-and_second : (a b : Bool) → a ≡ true → (a && b) ≡ b
-and_second true b e = refl
-and_second false b e = absurd cc
 
 module _ (arities roots : List ℕ) (pairs : List DependencyPair) where
   pub many_slots : length roots ≡ (puzzle_of (subterm_search arities roots pairs)).slots
@@ -30,7 +28,7 @@ module _ (arities roots : List ℕ) (pairs : List DependencyPair) where
   many_constraints = sym (one_more weak pairs (some_strict pairs))
 
   slot_there : (s : ℕ) → s < length roots → nat_lt s (length (subterm_slots roots)) ≡ true
-  slot_there s h = test_below s (length (subterm_slots roots)) (let e = many_slots in omega (arith, h, e))
+  slot_there s h = is_lt s (length (subterm_slots roots)) (let e = many_slots in omega (arith, h, e))
 
   pub uses_all : (c s : ℕ) → c ≡ length pairs → s < length roots → (puzzle_of (subterm_search arities roots pairs)).uses c s ≡ true
   uses_all c s e h = and_true _ _ (slot_there s h) (at_last (λ d. subterm_about d (get_or (subterm_slots roots) s (slot 0 0))) weak pairs (some_strict pairs) c e)

@@ -4,7 +4,8 @@ use Rattle.std.proofs.Common.{zero, suc, refl, ap, arith, ◌∙◌}
 use Rattle.std.proofs.lemmas.List.{length-append}
 use Rattle.trs_defs.specs.System.{RewriteRule}
 use Rattle.order_search.specs.Slots.{slot, table_of, puzzle_of}
-use Rattle.order_search.proofs.Lawful.{and_true, test_below}
+use Rattle.order_search.proofs.Lawful.{and_true}
+use Rattle.order_search.proofs.Tests.{is_lt}
 use Rattle.order_search.proofs.SlotConstraints.{at_item, at_last, one_more}
 use Rattle.order_search.specs.OrderSpace.{OrderFamily, falls, some_strict, some_falls, meets, concerns, occurs_in, falling, order_search, slots_of}
 
@@ -32,7 +33,7 @@ module _ (family : OrderFamily) (symbols : List ℕ) (rules pairs : List Rewrite
       omega (arith, past, both, many, below)
 
   slot_there : (s : ℕ) → s < length (slots_of family.parts symbols) → nat_lt s (length (slots_of family.parts symbols)) ≡ true
-  slot_there s h = test_below s (length (slots_of family.parts symbols)) h
+  slot_there s h = is_lt s (length (slots_of family.parts symbols)) h
 
   pub uses_all : (c s : ℕ) → c ≡ length rules + length pairs → s < length (slots_of family.parts symbols)
       → (puzzle_of (order_search family symbols [] rules pairs)).uses c s ≡ true

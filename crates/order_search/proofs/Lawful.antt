@@ -1,9 +1,9 @@
 -- The puzzle of a search is lawful where each constraint depends only on the slots that it is about.
 use Rattle.std.specs.Prelude.{ℕ, ◌+◌, ◌<◌, Bool, true, false, ◌&&◌, ◌==◌, nat_lt, if◌then◌else◌, List, [], ◌∷◌, length, get_or, ◌≡◌}
 use Rattle.std.proofs.Common.{zero, suc, refl, sym, ap₂, subst, arith, ◌⊎◌, inl, inr}
-use Rattle.std.proofs.lemmas.Bool.Decides.{nat_tests}
 use Rattle.assign_search.specs.Puzzle.{IsLawful}
 use Rattle.order_search.specs.Slots.{Slot, slot, table_from, table_of, Search, at_constraint, puzzle_of, DependsOnSlots}
+use Rattle.order_search.proofs.Tests.{same_number, lt_is, is_lt}
 
 pub both_true : (a b : Bool) → a && b ≡ true → (a ≡ true) × (b ≡ true)
 both_true true b e = (refl, e)
@@ -17,20 +17,11 @@ true_or_false : (b : Bool) → (b ≡ true) ⊎ (b ≡ false)
 true_or_false true = inl refl
 true_or_false false = inr refl
 
-pub below_from_test : (s n : ℕ) → nat_lt s n ≡ true → s < n
-below_from_test s n e = grind (arith, nat_tests)
-
-pub test_below : (s n : ℕ) → s < n → nat_lt s n ≡ true
-test_below s n e = grind (arith, nat_tests)
-
-pub same_from_test : (a b : ℕ) → (a == b) ≡ true → a ≡ b
-same_from_test a b e = grind (arith, nat_tests)
-
 same_slot : (s : Slot) (f part : ℕ) → s.symbol == f && s.part == part ≡ true → s ≡ slot f part
 same_slot s f part e =
     let b = both_true (s.symbol == f) (s.part == part) e in
-    let same : s.symbol ≡ f = same_from_test s.symbol f b.0 in
-    let also : s.part ≡ part = same_from_test s.part part b.1 in
+    let same : s.symbol ≡ f = same_number s.symbol f b.0 in
+    let also : s.part ≡ part = same_number s.part part b.1 in
     ap₂ slot same also
 
 choose : {A : Type 0} (b : Bool) (x y u v : A) → (b ≡ true → x ≡ u) → y ≡ v → (if b then x else y) ≡ (if b then u else v)
@@ -71,6 +62,6 @@ module _ {C : Type 0} (sought : Search C) (depends : DependsOnSlots sought) wher
 
   pub lawful_of : IsLawful (puzzle_of sought)
   lawful_of = record {
-    within = λ c s below uses. below_from_test s (length sought.slots) (both_true (nat_lt s (length sought.slots)) _ uses).0;
-    depends = λ c p q below cp cq same. same_truth sought.constraints c p q (λ s within uses. same s (and_true (nat_lt s (length sought.slots)) _ (test_below s (length sought.slots) within) uses));
+    within = λ c s below uses. lt_is s (length sought.slots) (both_true (nat_lt s (length sought.slots)) _ uses).0;
+    depends = λ c p q below cp cq same. same_truth sought.constraints c p q (λ s within uses. same s (and_true (nat_lt s (length sought.slots)) _ (is_lt s (length sought.slots) within) uses));
   }

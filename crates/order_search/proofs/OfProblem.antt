@@ -38,7 +38,7 @@ module _ (system : System) (valid : IsSystem system) (few : length system.aritie
   pub from_all : (p : DependencyPair) → In p taken → In p (dependency_pairs system.rules)
   from_all p i = taken_in (dependency_pairs system.rules) numbers taken are_of p i
 
-  small_root : (f : ℕ) → In f (roots_of taken) → f < 4096
+  pub small_root : (f : ℕ) → In f (roots_of taken) → f < 4096
   small_root f i = roots_small system.arities few taken (λ p j. good p (from_all p j)) f i
 
   pub small_roots : (listed : List DependencyPair) → listed ≡ taken → (f : ℕ) → In f (roots_of listed) → f < 4096

@@ -4,7 +4,7 @@ use Rattle.std.proofs.Common.{zero, suc, sym, ap, arith, ◌∙◌}
 use Rattle.std.proofs.lemmas.List.{length-append}
 use Rattle.trs_defs.specs.System.{RewriteRule}
 use Rattle.order_search.specs.Slots.{slot, at_constraint, table_of, puzzle_of}
-use Rattle.order_search.proofs.Lawful.{test_below}
+use Rattle.order_search.proofs.Tests.{is_lt}
 use Rattle.order_search.specs.OrderSpace.{OrderFamily, OrderConstraint, falls, some_strict, meets, concerns, falling, order_search, slots_of}
 use Rattle.order_search.proofs.Constraints.{and_second}
 
@@ -36,13 +36,13 @@ module _ (family : OrderFamily) (symbols : List ℕ) (own : List OrderConstraint
   pub uses_own : (c s : ℕ) (d : OrderConstraint) → slice_get own c ≡ Some d → s < length (slots_of family.parts symbols)
       → (puzzle_of (order_search family symbols own rules pairs)).uses c s ≡ concerns d (get_or (slots_of family.parts symbols) s (slot 0 0))
   uses_own c s d e h =
-      and_second _ _ (test_below s (length (slots_of family.parts symbols)) h)
+      and_second _ _ (is_lt s (length (slots_of family.parts symbols)) h)
       ∙ at_own (λ d. concerns d (get_or (slots_of family.parts symbols) s (slot 0 0))) own each last c d e
 
   pub uses_behind : (c k s : ℕ) → c ≡ length own + k → s < length (slots_of family.parts symbols)
       → (puzzle_of (order_search family symbols own rules pairs)).uses c s ≡ (puzzle_of (order_search family symbols [] rules pairs)).uses k s
   uses_behind c k s e h =
-      let there = test_below s (length (slots_of family.parts symbols)) h in
+      let there = is_lt s (length (slots_of family.parts symbols)) h in
       and_second _ _ there
       ∙ (at_behind (λ d. concerns d (get_or (slots_of family.parts symbols) s (slot 0 0))) own each last c k e ∙ sym (and_second _ _ there))
 

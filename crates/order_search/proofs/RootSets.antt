@@ -1,5 +1,5 @@
 -- The set of the roots of pairs, and its members in order.
-use Rattle.std.specs.Prelude.{◌≡◌, ◌≢◌, ◌<◌, ◌≤◌, ◌↔◌, ◌⊎◌, ℕ, ◌+◌, true, false, cond, List, [], ◌∷◌, length, drop, get_or, IsTrue, Vec, Result, Ok, Err, IfOk}
+use Rattle.std.specs.Prelude.{◌≡◌, ◌<◌, ◌≤◌, ◌↔◌, ◌⊎◌, ℕ, ◌+◌, true, false, cond, List, [], ◌∷◌, length, drop, get_or, IsTrue, Vec, Result, Ok, Err, IfOk}
 use Rattle.std.specs.declared.alloc.Global.{Global}
 use Rattle.std.proofs.Common.{zero, suc, sym, ap, subst, arith, ◌∙◌, inl, inr, nat_cmp}
 use Rattle.std.specs.BTreeMap.{is_at}
@@ -7,7 +7,6 @@ use Rattle.std.specs.BTreeSet.{BTreeSet, contains, Updates, IsOrdered}
 use Rattle.std.specs.List.{Contains, list_any}
 use Rattle.std.specs.Cmp.{nat_cmp_total}
 use Rattle.std.proofs.Math.Decide.{ℕ_discrete}
-use Rattle.std.proofs.lemmas.Grind.{common_steps}
 use Rattle.std.proofs.lemmas.List.{drop_all}
 use Rattle.std.proofs.lemmas.Map.Keys.{IsStrictlyIncreasing-from_sorted}
 use Rattle.std.proofs.lemmas.Map.Lookups.{exact_unsigned}
@@ -15,15 +14,10 @@ use Rattle.std.proofs.lemmas.Map.Views.{btree_set_contains_iff}
 use Rattle.trs_defs.specs.Member.{In, in_first, in_rest}
 use Rattle.trs_defs.proofs.Members.{in_or, no_in}
 use Rattle.trs_defs.proofs.ArgumentLists.{cell}
+use Rattle.trs_core.proofs.NumberKeys.{at_same, at_other}
 use Rattle.pair_theory.specs.DependencyPair.{DependencyPair}
 use Rattle.dp_core.specs.SubtermConditions.{roots_of}
 use Rattle.order_search.specs.Ascending.{AreAscending}
-
-at_same : (n : ℕ) → is_at (nat_cmp n) n ≡ true
-at_same n = grind (arith, common_steps)
-
-at_other : (n v : ℕ) → n ≢ v → is_at (nat_cmp n) v ≡ false
-at_other n v h = grind (arith, common_steps)
 
 pub one_added : (old new : BTreeSet ℕ) (f : ℕ) → Updates nat_cmp old new f true → (g : ℕ) → IsTrue (contains nat_cmp new g) ↔ (IsTrue (contains nat_cmp old g) ⊎ (g ≡ f))
 one_added old new f updates g = elim (ℕ_discrete f g) as (λ _. IsTrue (contains nat_cmp new g) ↔ (IsTrue (contains nat_cmp old g) ⊎ (g ≡ f))) [

@@ -1,5 +1,5 @@
 -- Tests of numbers, and tests that tell the same.
-use Rattle.std.specs.Prelude.{◌≡◌, ◌⊎◌, ℕ, Bool, true, false, ◌||◌, ◌==◌}
+use Rattle.std.specs.Prelude.{◌≡◌, ◌≤◌, ◌<◌, ◌⊎◌, ℕ, Bool, true, false, ◌||◌, ◌==◌, nat_lt, nat_le}
 use Rattle.std.proofs.Common.{inl, inr, refl, sym, arith}
 use Rattle.std.proofs.lemmas.Bool.Decides.{nat_tests}
 
@@ -11,6 +11,18 @@ other_test g f h = grind (arith, nat_tests)
 
 pub same_number : (g f : ℕ) → (g == f) ≡ true → g ≡ f
 same_number g f e = grind (arith, nat_tests)
+
+pub le_is : (a b : ℕ) → nat_le a b ≡ true → a ≤ b
+le_is a b e = grind (arith, nat_tests)
+
+pub is_le : (a b : ℕ) → a ≤ b → nat_le a b ≡ true
+is_le a b e = grind (arith, nat_tests)
+
+pub lt_is : (a b : ℕ) → nat_lt a b ≡ true → a < b
+lt_is a b e = grind (arith, nat_tests)
+
+pub is_lt : (a b : ℕ) → a < b → nat_lt a b ≡ true
+is_lt a b e = grind (arith, nat_tests)
 
 pub either : (a b : Bool) → (a || b) ≡ true → (a ≡ true) ⊎ (b ≡ true)
 either true b e = inl refl

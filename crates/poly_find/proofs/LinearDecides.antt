@@ -11,20 +11,8 @@ use Rattle.order_theory.proofs.Coefficients.{weak_by_coefficients, strict_by_coe
 use Rattle.poly_lin.specs.TooBig.{HasBigCoefficient, EitherIsBig}
 use Rattle.assign_search.proofs.Refuting.{true_or_false}
 use Rattle.order_search.proofs.Lawful.{both_true, and_true}
-use Rattle.order_search.proofs.Tests.{same_number, either}
+use Rattle.order_search.proofs.Tests.{same_number, either, le_is, is_le, lt_is, is_lt}
 use Rattle.poly_find.specs.LinearTest.{has_small, have_small, is_small, are_small, covers_each, covers_all, linear_weak, linear_strict}
-
-le_is : (a b : ℕ) → nat_le a b ≡ true → a ≤ b
-le_is a b e = grind (arith, nat_tests)
-
-is_le : (a b : ℕ) → a ≤ b → nat_le a b ≡ true
-is_le a b e = grind (arith, nat_tests)
-
-lt_is : (a b : ℕ) → nat_lt a b ≡ true → a < b
-lt_is a b e = grind (arith, nat_tests)
-
-is_lt : (a b : ℕ) → a < b → nat_lt a b ≡ true
-is_lt a b e = grind (arith, nat_tests)
 
 below : (n : ℕ) → (2 ^ 63 ≤ n → ⊥) → nat_lt n (2 ^ 63) ≡ true
 below n no_ = elim (true_or_false (nat_lt n (2 ^ 63))) [ inl less ↦ less | inr not_less ↦ absurd (no_ (grind (arith, nat_tests))) ]

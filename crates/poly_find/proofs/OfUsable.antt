@@ -13,18 +13,18 @@ use Rattle.assign_search.specs.declared.search.Search.{Search}
 use Rattle.assign_search.specs.declared.search.Search.TheVariants.{Found, NotThere, Spent, Stopped}
 use Rattle.order_search.specs.dp_core.Numbered.{ArePairsOf, AreItemsOf}
 use Rattle.order_search.specs.dp_core.Symbols.{symbols_of, symbols_of_all, symbols_of_rules, symbols_below_roots}
-use Rattle.order_search.specs.dp_core.SubtermConditions.{roots_of}
 use Rattle.order_search.proofs.dp_core.NumberedPairs.{as_many, within_all}
 use Rattle.order_search.proofs.dp_core.OrderConclusions.{rule_symbols}
 use Rattle.usable_rules.specs.AreUsable.{AreUsableRules, Ascends, no_numbers, number}
 use Rattle.usable_rules.proofs.Chosen.{usable_within}
 use Rattle.order_search.specs.Slots.{puzzle_of}
 use Rattle.order_search.specs.Outcome.{IsFinding, IsNotThere, IsSpent}
-use Rattle.order_search.proofs.FewPairs.{few_taken, taken_in, roots_small}
+use Rattle.order_search.proofs.FewPairs.{few_taken, taken_in}
 use Rattle.order_search.specs.OrderRow.{AreSymbols}
 use Rattle.order_search.specs.OrderOver.{IsOrderOver}
 use Rattle.order_search.specs.Distinct.{AreDistinct}
 use Rattle.order_search.proofs.Covered.{symbols_below, symbols_within, rule_well}
+use Rattle.order_search.proofs.OfProblem.{small_root}
 use Rattle.order_search.proofs.Repeats.{symbols_distinct}
 use Rattle.poly_find.specs.PolyRow.{poly_search, poly_entry}
 use Rattle.order_search.proofs.LowSymbols.{low_symbols, few_by_numbers}
@@ -80,17 +80,16 @@ module _ (system : System) (valid : IsSystem system) (few : length system.aritie
       let h = symbols_within system.arities system.rules (rule_well system valid) f there in
       omega (arith, h, few)
 
-  root_low : (f : ℕ) → In f (roots_of taken) → f < 4096
-  root_low f i = roots_small system.arities few taken (λ p j. good p (taken_in (dependency_pairs system.rules) numbers taken are p j)) f i
-
   pub distinct : AreDistinct symbols
   distinct = symbols_distinct (symbols_of_rules usable ++ symbols_below_roots taken) taken symbols plain_low syms
 
   pub all_low : All (λ f. f < 8192) symbols
-  all_low = low_symbols (symbols_of_rules usable ++ symbols_below_roots taken) taken symbols plain_low root_low syms
+  all_low = low_symbols (symbols_of_rules usable ++ symbols_below_roots taken) taken symbols plain_low
+      (small_root system valid few good numbers (dependency_pairs system.rules) taken refl are) syms
 
   pub few_symbols : length symbols ≤ 8192
-  few_symbols = few_by_numbers (symbols_of_rules usable ++ symbols_below_roots taken) taken symbols plain_low root_low syms
+  few_symbols = few_by_numbers (symbols_of_rules usable ++ symbols_below_roots taken) taken symbols plain_low
+      (small_root system valid few good numbers (dependency_pairs system.rules) taken refl are) syms
 
   number_low : (n : ℕ) → In n rule_numbers → n < length system.rules
   number_low n i =

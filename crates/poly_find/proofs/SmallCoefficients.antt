@@ -1,7 +1,6 @@
 -- Small terms have no big coefficient where the coefficients of their symbols are at most 2.
 use Rattle.std.specs.Prelude.{◌≡◌, ◌<◌, ◌≤◌, ℕ, ◌*◌, ◌^◌, Bool, true, false, ◌||◌, ◌==◌, if◌then◌else◌, nat_lt}
 use Rattle.std.proofs.Common.{suc, inl, inr, sym, arith, ◌∙◌}
-use Rattle.std.proofs.lemmas.Bool.Decides.{nat_tests}
 use Rattle.trs_defs.specs.Tree.{Tree, Trees, var, app, nil, cons}
 use Rattle.trs_defs.specs.System.{RewriteRule}
 use Rattle.pair_theory.specs.Subterm.{Sub, itself, under, Subs, in_head, in_tail}
@@ -12,14 +11,12 @@ use Rattle.assign_search.proofs.Refuting.{or_left, or_right}
 use Rattle.order_search.proofs.Lawful.{both_true}
 use Rattle.order_search.specs.OrderSpace.{occurs_in}
 use Rattle.order_search.proofs.Agreeing.{Agree, AgreeAll, root_agrees, args_agree, first_agrees, rest_agree}
+use Rattle.order_search.proofs.Tests.{lt_is}
 use Rattle.poly_find.specs.SmallTerms.{greatest, greatest_of, has_small_sides, IsSafe}
 
 one_at_most : (b : Bool) → (if b then 1 else 0) ≤ 1
 one_at_most true = omega arith
 one_at_most false = omega arith
-
-lt_is : (a b : ℕ) → nat_lt a b ≡ true → a < b
-lt_is a b e = grind (arith, nat_tests)
 
 module _ (c : ℕ → ℕ → ℕ) where
   abbrev AtMostTwo : ℕ → Type 0

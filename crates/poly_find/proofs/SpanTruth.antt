@@ -1,7 +1,6 @@
 -- What the values of the spans say of a constraint, and that small rules have no big coefficients where it is asked.
 use Rattle.std.specs.Prelude.{◌≡◌, ◌<◌, ◌≤◌, ℕ, ◌+◌, Bool, true, false, ◌||◌, nat_lt, if◌then◌else◌, List, [], ◌∷◌, ◌++◌, length, map, get_or, Some, None, option_map, slice_get}
 use Rattle.std.proofs.Common.{zero, suc, inl, inr, refl, sym, ap, ap₂, subst, arith, ◌∙◌}
-use Rattle.std.proofs.lemmas.Bool.Decides.{nat_tests}
 use Rattle.std.proofs.lemmas.Option.{slice_get-map, get_or_from_slice_get}
 use Rattle.trs_defs.specs.Variable.{is_listed}
 use Rattle.trs_defs.specs.System.{RewriteRule}
@@ -11,6 +10,7 @@ use Rattle.order_search.specs.Slots.{Slot, slot, table_of, puzzle_of}
 use Rattle.order_search.specs.OrderSpace.{parts_from, slots_of, arity_with_mark, some_falls}
 use Rattle.order_search.specs.Distinct.{AreDistinct}
 use Rattle.order_search.proofs.Constraints.{truth_falls, truth_last, uses_all, uses_symbols, last_number}
+use Rattle.order_search.proofs.Tests.{lt_is}
 use Rattle.poly_find.specs.declared.spans.Span.{Span}
 use Rattle.poly_find.specs.LinearTest.{linear_weak, linear_strict}
 use Rattle.poly_find.specs.PolySpace.{poly_family, coefficient_by}
@@ -64,9 +64,6 @@ module _ (parts : ℕ → ℕ) where
 
 -- ---- constraints
 
-less : (a b : ℕ) → nat_lt a b ≡ true → a < b
-less a b e = grind (arith, nat_tests)
-
 behind_rules : (rules pairs : List RewriteRule) (k : ℕ) (r : RewriteRule) → slice_get pairs k ≡ Some r → slice_get (rules ++ pairs) (length rules + k) ≡ Some r
 behind_rules [] pairs k r at = let first : 0 + k ≡ k = omega arith in ap (λ (j : ℕ). slice_get pairs j) first ∙ at
 behind_rules (q ∷ rules) pairs k r at =
@@ -77,7 +74,7 @@ within_span : (values : List ℕ) (s : Span) (i : ℕ) → (i < s.parts → get_
 within_span values s i low = go (nat_lt i s.parts) refl
   where
     go : (b : Bool) → nat_lt i s.parts ≡ b → (if b then get_or values (s.start + i) 0 else 0) ≤ 2
-    go true e = low (less i s.parts e)
+    go true e = low (lt_is i s.parts e)
     go false e = omega arith
 
 module _ (arities symbols : List ℕ) (rules pairs : List RewriteRule) (spans : List Span) (distinct : AreDistinct symbols) (are : AreSpans arities symbols spans) (c : ℕ) (values : List ℕ) where

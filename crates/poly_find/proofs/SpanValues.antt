@@ -1,7 +1,7 @@
 -- The spans of the symbols, as they are put down, and what their values say.
-use Rattle.std.specs.Prelude.{◌≡◌, ◌<◌, ◌≤◌, ℕ, ◌+◌, ◌*◌, Bool, true, false, ◌||◌, ◌==◌, nat_lt, if◌then◌else◌, List, [], ◌∷◌, length, get_or, slice_index, All, Option, Some, None, option_map}
+use Rattle.std.specs.Prelude.{◌≡◌, ◌<◌, ◌≤◌, ℕ, ◌+◌, ◌*◌, Bool, true, false, ◌==◌, nat_lt, if◌then◌else◌, List, [], ◌∷◌, length, get_or, slice_index, All, Option, Some, None, option_map}
 use Rattle.std.proofs.Common.{zero, suc, inl, inr, refl, sym, ap, ap₂, subst, arith, ◌∙◌, set}
-use Rattle.std.proofs.lemmas.Bool.{cases_lt}
+use Rattle.std.proofs.lemmas.Bool.{cases_lt, or_parts}
 use Rattle.std.proofs.lemmas.Bool.Decides.{nat_tests}
 use Rattle.std.proofs.lemmas.List.{get_or-set_other, get_or-set_same, length-set}
 use Rattle.trs_defs.specs.Member.{In}
@@ -116,14 +116,6 @@ all_zero table f part zero i none = refl
 all_zero table f part (suc n) zero none = none part (omega arith)
 all_zero table f part (suc n) (suc i) none = all_zero table f (suc part) n i (λ j h. none j (omega (arith, h)))
 
-first_no : (a b : Bool) → (a || b) ≡ false → a ≡ false
-first_no true b e = absurd cc
-first_no false b e = refl
-
-second_no : (a b : Bool) → (a || b) ≡ false → b ≡ false
-second_no true b e = absurd cc
-second_no false b e = e
-
 behind : (b : Bool) (n : ℕ) (o : Option ℕ) → b ≡ false → o ≡ None → (if b then Some 0 else option_map (λ m. n + m) o) ≡ None
 behind true n o e d = absurd cc
 behind false n o e d = ap (option_map (λ m. n + m)) d
@@ -131,7 +123,7 @@ behind false n o e d = ap (option_map (λ m. n + m)) d
 no_start : (parts : ℕ → ℕ) (symbols : List ℕ) (f : ℕ) → is_listed f symbols ≡ false → start_of parts symbols f ≡ None
 no_start parts [] f e = refl
 no_start parts (g ∷ symbols) f e =
-    behind (g == f) (parts g) (start_of parts symbols f) (first_no (g == f) (is_listed f symbols) e) (no_start parts symbols f (second_no (g == f) (is_listed f symbols) e))
+    behind (g == f) (parts g) (start_of parts symbols f) (or_parts (g == f) (is_listed f symbols) e).0 (no_start parts symbols f (or_parts (g == f) (is_listed f symbols) e).1)
 
 module _ (arities symbols values : List ℕ) (spans : List Span) (distinct : AreDistinct symbols) (are : AreSpans arities symbols spans) where
   abbrev table : Table

@@ -1,29 +1,23 @@
 -- Numbers that stand once each, and what is said of each of them.
-use Rattle.std.specs.Prelude.{◌≡◌, ◌<◌, ℕ, Bool, true, false, ◌||◌, ◌==◌, List, [], ◌∷◌, map, length, get_or}
+use Rattle.std.specs.Prelude.{◌≡◌, ◌<◌, ℕ, false, ◌==◌, List, [], ◌∷◌, map, length, get_or}
 use Rattle.std.specs.List.{AllByRecursion}
 use Rattle.std.specs.List.Sorted.{IsStrictlyIncreasing}
 use Rattle.std.proofs.Common.{suc, refl, sym, subst, ap₂, arith}
+use Rattle.std.proofs.lemmas.Bool.{or_from}
 use Rattle.std.proofs.lemmas.Option.{slice_get_within, slice_get-get_or}
 use Rattle.trs_defs.specs.Member.{In, in_first, in_rest}
 use Rattle.trs_defs.specs.Variable.{is_listed}
 use Rattle.trs_defs.proofs.Members.{get_of_in}
 use Rattle.order_find.specs.order_search.Distinct as placed
-use Rattle.order_find.proofs.order_search.Repeats.{once_distinct, distinct_of}
+use Rattle.order_find.proofs.order_search.Repeats.{once_distinct, distinct_of, tail_distinct}
 use Rattle.order_find.proofs.order_search.Tests.{other_test}
 use Rattle.cert_step.specs.Entries.{AreDistinct}
-
-neither : (a b : Bool) → a ≡ false → b ≡ false → (a || b) ≡ false
-neither true b e d = absurd cc
-neither false b e d = d
 
 not_listed : (x : ℕ) (xs : List ℕ) → (In x xs → ⊥) → is_listed x xs ≡ false
 not_listed x [] none = refl
 not_listed x (y ∷ ys) none =
-    neither (y == x) (is_listed x ys) (other_test y x (λ e. none (subst (λ (z : ℕ). In z (y ∷ ys)) (sym e) in_first)))
+    or_from (y == x) (is_listed x ys) (other_test y x (λ e. none (subst (λ (z : ℕ). In z (y ∷ ys)) (sym e) in_first)))
     (not_listed x ys (λ i. none (in_rest i)))
-
-tail_distinct : (x : ℕ) (xs : List ℕ) → placed.AreDistinct (x ∷ xs) → placed.AreDistinct xs
-tail_distinct x xs are i j before within e = are (suc i) (suc j) (omega (arith, before)) (omega (arith, within)) e
 
 pub listed_distinct : (xs : List ℕ) → placed.AreDistinct xs → AreDistinct xs
 listed_distinct [] are = tt

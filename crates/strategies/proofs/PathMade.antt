@@ -8,6 +8,7 @@ use Rattle.order_theory.specs.ArgumentFilter.{To, Keep}
 use Rattle.cert_step.specs.path_lpo.Table.{PathEntry, symbol_of, AscendsFrom}
 use Rattle.order_find.specs.order_search.Slots.{Slot, Table, table_of}
 use Rattle.order_find.specs.order_search.OrderSpace.{arity_with_mark}
+use Rattle.order_find.proofs.order_search.Tests.{lt_is}
 use Rattle.order_find.specs.lpo_find.LpoSpace.{places_from, all_but, filter_count, filter_number, lpo_values}
 use Rattle.order_find.specs.lpo_find.LpoRow.{lpo_entry, lpo_search}
 use Rattle.order_find.specs.lpo_find.Laws.{FindsLpo}
@@ -56,12 +57,9 @@ later_filter n v false true below = (
 )
 later_filter n v false false below = (tt, tt)
 
-is_below : (v n : ℕ) → nat_lt v n ≡ true → v < n
-is_below v n e = grind (arith, nat_tests)
-
 filter_within : (n v : ℕ) → IsFilterWithin n (filter_number n v)
 filter_within n zero = (ascending 0 1 n (omega arith), within n 1 n (omega arith))
-filter_within n (suc v) = later_filter n v (nat_lt v n) (nat_lt v (2 * n) && nat_le 2 n) (is_below v n)
+filter_within n (suc v) = later_filter n v (nat_lt v n) (nat_lt v (2 * n) && nat_le 2 n) (lt_is v n)
 
 -- ---- ranks
 
