@@ -1,14 +1,15 @@
 -- The texts of a goal's members, and the lines of goals, as they are written one after another.
 use Rattle.std.specs.Prelude.{slice_get, Some, codes}
-use Rattle.std.proofs.Common.{◌≡◌, ℕ, ◌+◌, ◌<◌, ◌≤◌, zero, suc, List, [], ◌∷◌, ◌++◌, map, length, drop, get_or, refl, ap, ap₂, sym, ◌∙◌, arith, append_assoc, append-nil}
+use Rattle.std.proofs.Common.{◌≡◌, ℕ, ◌+◌, ◌<◌, ◌≤◌, suc, List, [], ◌∷◌, ◌++◌, map, length, drop, get_or, refl, ap, ap₂, sym, ◌∙◌, arith, append_assoc, append-nil}
 use Rattle.std.proofs.Math.Seq.{drop-cons}
-use Rattle.std.proofs.lemmas.Option.{same_Some}
+use Rattle.std.proofs.lemmas.List.{drop_all}
 use Rattle.sexp_core.specs.Items.{Item, items_of}
 use Rattle.sexp_core.specs.Printed.{text_of, spaced, lines}
 use Rattle.text_reading.specs.Printed.{word_item, list_item}
 use Rattle.names_text.specs.Named.{NamedSystem}
 use Rattle.tree_definitions.specs.declared.report.GoalReport.{GoalReport}
 use Rattle.tree_definitions.specs.Reports.{part_of}
+use Rattle.tree_definitions.proofs.Lookups.{drop_there}
 use Rattle.report_text.specs.GoalLines.{goal_item, goal_items}
 
 pub spaced_joined : (xs ys : List Item) → spaced (items_of (xs ++ ys)) ≡ spaced (items_of xs) ++ spaced (items_of ys)
@@ -54,11 +55,6 @@ goal_put word steps stuck failed old o1 o2 o3 o4 o5 new p1 p2 p3 p4 p5 p6 =
     ∙ ap (λ (l : List ℕ). old ++ (start ++ l)) (sym (members_ended word s t f))
     ∙ ap (λ (l : List ℕ). old ++ (start ++ (((word ++ l) ++ 41 ∷ []) ++ 10 ∷ []))) (sym (spaced_joined steps (stuck ∷ failed)))
 
-item_read : {A : Type 0} (xs : List A) (i : ℕ) (x : A) → slice_get xs i ≡ Some x → drop i xs ≡ x ∷ drop (suc i) xs
-item_read [] i x e = absurd cc
-item_read (y ∷ ys) zero x e = ap (λ z. z ∷ ys) (same_Some y x e)
-item_read (y ∷ ys) (suc i) x e = item_read ys i x e
-
 -- the line of the next goal, before those behind it
 pub line_before : (named : NamedSystem) (words : List (List ℕ)) (goals : List GoalReport) (i : ℕ) (word : List ℕ) (goal : GoalReport) (old new : List ℕ)
     → slice_get words i ≡ Some word → i < length goals → goal ≡ get_or goals i goal
@@ -74,23 +70,17 @@ line_before named words goals i word goal old new there below is made =
     ap (λ k. new ++ behind (drop k words) (drop k goals)) n
     ∙ ap (λ (l : List ℕ). l ++ rest) made ∙ append_assoc old (text ++ 10 ∷ []) rest
     ∙ ap (λ (l : List ℕ). old ++ l) (append_assoc text (10 ∷ []) rest)
-    ∙ sym (ap₂ (λ ws gs. old ++ behind ws gs) (item_read words i word there) next)
+    ∙ sym (ap₂ (λ ws gs. old ++ behind ws gs) (drop_there words i word there) next)
 
 no_goals : (named : NamedSystem) (words : List (List ℕ)) → goal_items named words [] ≡ []
 no_goals named [] = refl
 no_goals named (word ∷ words) = refl
-
-none_left : {A : Type 0} (xs : List A) (i : ℕ) → length xs ≤ i → drop i xs ≡ []
-none_left [] zero all = refl
-none_left [] (suc i) all = refl
-none_left (x ∷ xs) zero all = absurd (omega (arith, all))
-none_left (x ∷ xs) (suc i) all = none_left xs i (omega (arith, all))
 
 -- behind the last goal no line is left
 pub lines_done : (named : NamedSystem) (words : List (List ℕ)) (goals : List GoalReport) (i : ℕ) (out whole : List ℕ) → length goals ≤ i
     → out ++ lines (items_of (goal_items named words (map part_of (drop i goals)))) ≡ whole → out ≡ whole
 lines_done named words goals i out whole all is =
     let none : lines (items_of (goal_items named words (map part_of (drop i goals)))) ≡ [] =
-    (ap (λ gs. lines (items_of (goal_items named words (map part_of gs)))) (none_left goals i all)
+    (ap (λ gs. lines (items_of (goal_items named words (map part_of gs)))) (drop_all i goals all)
     ∙ ap (λ items. lines (items_of items)) (no_goals named words)) in
     sym (append-nil out) ∙ ap (λ (l : List ℕ). out ++ l) (sym none) ∙ is

@@ -1,5 +1,5 @@
 -- Elements of lists that are written or appended to.
-use Rattle.std.proofs.Common.{◌≡◌, ◌≢◌, ◌⊎◌, inl, inr, ℕ, zero, suc, ◌+◌, ◌<◌, ◌≤◌, List, [], ◌∷◌, ◌++◌, length, map, take, set, Option, Some, slice_get, refl, sym, ap, ◌∙◌, subst, arith}
+use Rattle.std.proofs.Common.{◌≡◌, ◌≢◌, ◌⊎◌, inl, inr, ℕ, zero, suc, ◌+◌, ◌<◌, ◌≤◌, List, [], ◌∷◌, ◌++◌, length, map, drop, take, set, Option, Some, slice_get, refl, sym, ap, ◌∙◌, subst, arith}
 use native.Mathlib.Decide.{ℕ_discrete}
 use mathlib.Core.Logic.{dite}
 
@@ -40,6 +40,17 @@ pub length_take_le : {A : Type 0} (n : ℕ) (xs : List A) → length (take n xs)
 length_take_le zero xs = omega arith
 length_take_le (suc n) [] = omega arith
 length_take_le (suc n) (x ∷ xs) = omega (arith, length_take_le n xs)
+
+-- the list from a place on, and up to a place
+pub drop_there : {A : Type 0} (xs : List A) (i : ℕ) (x : A) → slice_get xs i ≡ Some x → drop i xs ≡ x ∷ drop (suc i) xs
+drop_there [] i x there = absurd cc
+drop_there (y ∷ xs) zero x there = let same : y ≡ x = cc in ap (λ z. z ∷ xs) same
+drop_there (y ∷ xs) (suc i) x there = drop_there xs i x there
+
+pub take_there : {A : Type 0} (xs : List A) (i : ℕ) (x : A) → slice_get xs i ≡ Some x → take (suc i) xs ≡ take i xs ++ x ∷ []
+take_there [] i x there = absurd cc
+take_there (y ∷ xs) zero x there = let same : y ≡ x = cc in ap (λ z. z ∷ []) same
+take_there (y ∷ xs) (suc i) x there = ap (λ zs. y ∷ zs) (take_there xs i x there)
 
 pub get_below : {A : Type 0} (xs : List A) (k : ℕ) → k < length xs → (x : A) × (slice_get xs k ≡ Some x)
 get_below [] k lt = absurd (omega (arith, lt))

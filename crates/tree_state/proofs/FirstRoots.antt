@@ -1,6 +1,6 @@
 -- The roots of a tree, made one after another.
 use Rattle.std.proofs.Common.{◌≡◌, ℕ, suc, ◌+◌, ◌<◌, ◌≤◌, false, List, [], ◌∷◌, ◌++◌, length, map, take, get_or, refl, sym, ap, ◌∙◌, arith}
-use Rattle.std.proofs.lemmas.List.{length-map, map-append}
+use Rattle.std.proofs.lemmas.List.{length-map, map-append, take_all}
 use Rattle.std.proofs.Math.Seq.{take-suc}
 use Rattle.tree_definitions.specs.cert_step.ProofProblem.{ProofProblem}
 use Rattle.tree_definitions.specs.declared.goal.Goal.{Goal}
@@ -12,7 +12,6 @@ use Rattle.tree_definitions.proofs.Lookups.{length_take}
 use Rattle.tree_definitions.proofs.Roots.{few_goals}
 use Rattle.tree_state.specs.declared.goal_state.GoalState.{GoalState}
 use Rattle.tree_state.specs.Parts.{fresh_goals}
-use Rattle.tree_state.proofs.Turns.{take_all}
 
 -- the roots of the first goals
 abbrev pub first_roots : List Goal → ℕ → List ProofProblem
@@ -63,4 +62,4 @@ roots_next goals i d states old new low so_far before more =
 
 -- behind the last goal
 pub all_roots : (question : Question) (goals : List Goal) (i : ℕ) → goals ≡ goals_for question → length goals ≤ i → first_roots goals i ≡ roots question
-all_roots question goals i all behind = ap (map goal_root) (take_all goals i behind ∙ all)
+all_roots question goals i all behind = ap (map goal_root) (take_all i goals behind ∙ all)

@@ -1,7 +1,7 @@
 -- The steps of nodes in order, one by one.
 use Rattle.std.proofs.Common.{◌≡◌, ℕ, zero, suc, ◌<◌, ◌≤◌, ◌+◌, List, [], ◌∷◌, ◌++◌, length, map, take, Option, Some, None, slice_get, refl, sym, ap, ◌∙◌, arith}
 use Rattle.std.specs.Option.{option_map}
-use Rattle.std.proofs.lemmas.List.{length-map}
+use Rattle.std.proofs.lemmas.List.{append_assoc, append-nil, length-map, length-take-le}
 use Rattle.tree_definitions.specs.cert_step.ProofStep.{ProofStep, ProofNodeStep}
 use Rattle.tree_state.specs.declared.node.Node.{Node}
 use Rattle.tree_state.specs.declared.node.Decision.{Decision}
@@ -10,44 +10,26 @@ use Rattle.tree_definitions.specs.States.{TreeNode, Decided}
 use Rattle.tree_definitions.specs.Reports.{steps_from, with_step, decision_at, numbers}
 use Rattle.tree_state.specs.Seen.{node_of, decided_of}
 use Rattle.tree_state.specs.Ascending.{own_kids, IsAscending, AreAscending, step_list, step_at, step_of_decision}
-use Rattle.tree_definitions.proofs.Lookups.{map_there}
+use Rattle.tree_definitions.proofs.Lookups.{map_there, take_there}
 
 one_step : (i : ℕ) (d : Option Decided) (more : List ProofNodeStep) → with_step i d more ≡ step_list i (step_of_decision d) ++ more
 one_step i None more = refl
 one_step i (Some d) more = refl
 
-assoc : {A : Type 0} (xs ys zs : List A) → (xs ++ ys) ++ zs ≡ xs ++ (ys ++ zs)
-assoc [] ys zs = refl
-assoc (x ∷ xs) ys zs = ap (λ ws. x ∷ ws) (assoc xs ys zs)
-
-nil_right : {A : Type 0} (xs : List A) → xs ++ [] ≡ xs
-nil_right [] = refl
-nil_right (x ∷ xs) = ap (λ ys. x ∷ ys) (nil_right xs)
-
 steps_more : (nodes : List TreeNode) (i : ℕ) (order : List ℕ) (n k : ℕ) → k ≡ i + length order
     → steps_from nodes i (order ++ n ∷ []) ≡ steps_from nodes i order ++ step_list k (step_at nodes n)
-steps_more nodes i [] n k e = let same : i ≡ k = omega (arith, e) in one_step i (decision_at (slice_get nodes n)) [] ∙ nil_right (step_list i (step_at nodes n)) ∙ ap (λ j. step_list j (step_at nodes n)) same
+steps_more nodes i [] n k e = let same : i ≡ k = omega (arith, e) in one_step i (decision_at (slice_get nodes n)) [] ∙ append-nil (step_list i (step_at nodes n)) ∙ ap (λ j. step_list j (step_at nodes n)) same
 steps_more nodes i (m ∷ order) n k e =
     one_step i (decision_at (slice_get nodes m)) (steps_from nodes (i + 1) (order ++ n ∷ []))
     ∙ ap (λ ss. step_list i (step_at nodes m) ++ ss) (steps_more nodes (i + 1) order n k (omega (arith, e)))
-    ∙ sym (assoc (step_list i (step_at nodes m)) (steps_from nodes (i + 1) order) (step_list k (step_at nodes n)))
+    ∙ sym (append_assoc (step_list i (step_at nodes m)) (steps_from nodes (i + 1) order) (step_list k (step_at nodes n)))
     ∙ ap (λ ss. ss ++ step_list k (step_at nodes n)) (sym (one_step i (decision_at (slice_get nodes m)) (steps_from nodes (i + 1) order)))
-
-take_there : {A : Type 0} (xs : List A) (i : ℕ) (x : A) → slice_get xs i ≡ Some x → take (suc i) xs ≡ take i xs ++ x ∷ []
-take_there [] i x there = absurd cc
-take_there (y ∷ xs) zero x there = let same : y ≡ x = cc in ap (λ z. z ∷ []) same
-take_there (y ∷ xs) (suc i) x there = ap (λ zs. y ∷ zs) (take_there xs i x there)
-
-length_take : {A : Type 0} (xs : List A) (i : ℕ) → i ≤ length xs → length (take i xs) ≡ i
-length_take xs zero le = refl
-length_take [] (suc i) le = absurd (omega (arith, le))
-length_take (x ∷ xs) (suc i) le = ap suc (length_take xs i (omega (arith, le)))
 
 pub steps_next : (nodes : List TreeNode) (order : List ℕ) (i n : ℕ) (steps next : List ProofNodeStep) (step : Option ProofStep) → slice_get order i ≡ Some n → i < length order
     → steps ≡ steps_from nodes 0 (take i order) → step ≡ step_at nodes n → next ≡ steps ++ step_list i step → next ≡ steps_from nodes 0 (take (i + 1) order)
 steps_next nodes order i n steps next step there lt so_far is more =
     let e : suc i ≡ i + 1 = omega arith in
-    let k : i ≡ 0 + length (take i order) = omega (arith, length_take order i (omega (arith, lt))) in
+    let k : i ≡ 0 + length (take i order) = omega (arith, length-take-le i order (omega (arith, lt))) in
     more ∙ ap (λ s. steps ++ step_list i s) is ∙ ap (λ ss. ss ++ step_list i (step_at nodes n)) so_far ∙ sym (steps_more nodes 0 (take i order) n i k)
     ∙ ap (steps_from nodes 0) (sym (take_there order i n there)) ∙ ap (λ j. steps_from nodes 0 (take j order)) e
 

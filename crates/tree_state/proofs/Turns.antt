@@ -1,7 +1,7 @@
 -- The walk, turn by turn.
 use Rattle.std.proofs.Common.{◌≡◌, ◌⊎◌, inl, inr, ℕ, zero, suc, ◌<◌, ◌≤◌, ◌+◌, ◌-◌, List, [], ◌∷◌, ◌++◌, length, map, drop, take, Option, Some, None, slice_get, refl, sym, ap, ◌∙◌, subst, arith}
 use Rattle.std.specs.Option.{option_map}
-use Rattle.std.proofs.lemmas.List.{length-append}
+use Rattle.std.proofs.lemmas.List.{length-append, append_assoc, append-nil, drop_all, drop-append-le, take_all, take-append-le}
 use Rattle.std.proofs.lemmas.Option.{slice_get_within}
 use Rattle.tree_state.specs.declared.node.Node.{Node}
 use Rattle.tree_state.specs.declared.node.Decision.{Decision}
@@ -10,16 +10,8 @@ use Rattle.tree_definitions.specs.States.{TreeNode, Decided, IsChild}
 use Rattle.tree_definitions.specs.Reports.{Walks, ends, numbers, decision_at}
 use Rattle.tree_state.specs.Seen.{node_of, decided_of}
 use Rattle.tree_state.specs.Ascending.{own_kids, IsAscending}
-use Rattle.tree_definitions.proofs.Lookups.{append_cases, map_cases, map_there}
+use Rattle.tree_definitions.proofs.Lookups.{append_cases, drop_there, map_cases, map_there, take_there}
 use Rattle.tree_definitions.proofs.Weights.{kids, kids_of, sum_of, weight, walk_falls, walk_on}
-
-pub nil_right : {A : Type 0} (xs : List A) → xs ++ [] ≡ xs
-nil_right [] = refl
-nil_right (x ∷ xs) = ap (λ ys. x ∷ ys) (nil_right xs)
-
-assoc : {A : Type 0} (xs ys zs : List A) → (xs ++ ys) ++ zs ≡ xs ++ (ys ++ zs)
-assoc [] ys zs = refl
-assoc (x ∷ xs) ys zs = ap (λ ws. x ∷ ws) (assoc xs ys zs)
 
 numbers_more : (first count : ℕ) → numbers first (suc count) ≡ numbers first count ++ (first + count) ∷ []
 numbers_more first zero = let e : first ≡ first + 0 = omega arith in ap (λ n. n ∷ []) e
@@ -28,33 +20,12 @@ numbers_more first (suc count) =
     ap (λ ns. first ∷ ns) (numbers_more (first + 1) count) ∙ ap (λ n. first ∷ (numbers (first + 1) count ++ n ∷ [])) e
 
 pub no_numbers : (xs : List ℕ) (first : ℕ) → xs ≡ xs ++ numbers first 0
-no_numbers xs first = sym (nil_right xs)
+no_numbers xs first = sym (append-nil xs)
 
 pub numbers_next : (old now next : List ℕ) (first k : ℕ) → now ≡ old ++ numbers first k → next ≡ now ++ (first + k) ∷ [] → next ≡ old ++ numbers first (k + 1)
 numbers_next old now next first k is more =
     let e : k + 1 ≡ suc k = omega arith in
-    more ∙ ap (λ xs. xs ++ (first + k) ∷ []) is ∙ assoc old (numbers first k) ((first + k) ∷ []) ∙ ap (λ ns. old ++ ns) (sym (numbers_more first k)) ∙ ap (λ n. old ++ numbers first n) (sym e)
-
--- the list from a place on
-drop_there : {A : Type 0} (xs : List A) (i : ℕ) (x : A) → slice_get xs i ≡ Some x → drop i xs ≡ x ∷ drop (suc i) xs
-drop_there [] i x there = absurd cc
-drop_there (y ∷ xs) zero x there = let same : y ≡ x = cc in ap (λ z. z ∷ xs) same
-drop_there (y ∷ xs) (suc i) x there = drop_there xs i x there
-
-take_there : {A : Type 0} (xs : List A) (i : ℕ) (x : A) → slice_get xs i ≡ Some x → take (suc i) xs ≡ take i xs ++ x ∷ []
-take_there [] i x there = absurd cc
-take_there (y ∷ xs) zero x there = let same : y ≡ x = cc in ap (λ z. z ∷ []) same
-take_there (y ∷ xs) (suc i) x there = ap (λ zs. y ∷ zs) (take_there xs i x there)
-
-drop_more : {A : Type 0} (xs ys : List A) (i : ℕ) → i ≤ length xs → drop i (xs ++ ys) ≡ drop i xs ++ ys
-drop_more xs ys zero le = refl
-drop_more [] ys (suc i) le = absurd (omega (arith, le))
-drop_more (x ∷ xs) ys (suc i) le = drop_more xs ys i (omega (arith, le))
-
-take_more : {A : Type 0} (xs ys : List A) (i : ℕ) → i ≤ length xs → take i (xs ++ ys) ≡ take i xs
-take_more xs ys zero le = refl
-take_more [] ys (suc i) le = absurd (omega (arith, le))
-take_more (x ∷ xs) ys (suc i) le = ap (λ zs. x ∷ zs) (take_more xs ys i (omega (arith, le)))
+    more ∙ ap (λ xs. xs ++ (first + k) ∷ []) is ∙ append_assoc old (numbers first k) ((first + k) ∷ []) ∙ ap (λ ns. old ++ ns) (sym (numbers_more first k)) ∙ ap (λ n. old ++ numbers first n) (sym e)
 
 module _ (nodes : List Node) (h : List HistoryEntry) where
   abbrev seen : List TreeNode
@@ -100,7 +71,7 @@ module _ (nodes : List Node) (h : List HistoryEntry) where
     low = let lt = slice_get_within order i n at in omega (arith, lt)
 
     rest_is : drop (suc i) next ≡ drop (suc i) order ++ kids seen n
-    rest_is = ap (drop (suc i)) is ∙ drop_more order (own_kids node.decision) (suc i) low ∙ ap (λ ks. drop (suc i) order ++ ks) (sym (kids_seen n node there))
+    rest_is = ap (drop (suc i)) is ∙ drop-append-le (suc i) order (own_kids node.decision) low ∙ ap (λ ks. drop (suc i) order ++ ks) (sym (kids_seen n node there))
 
     pub turn_walks : (root : ℕ) → ((tail : List ℕ) → Walks seen (drop i order) tail → Walks seen (root ∷ []) (take i order ++ tail))
         → (tail : List ℕ) → Walks seen (drop (suc i) next) tail → Walks seen (root ∷ []) (take (suc i) next ++ tail)
@@ -110,7 +81,7 @@ module _ (nodes : List Node) (h : List HistoryEntry) where
         let from = subst (λ ws. Walks seen ws (n ∷ tail)) (sym (drop_there order i n at)) on in
         let all = before (n ∷ tail) from in
         let taken : take i order ++ n ∷ tail ≡ take (suc i) next ++ tail =
-        sym (assoc (take i order) (n ∷ []) tail) ∙ ap (λ xs. xs ++ tail) (sym (ap (take (suc i)) is ∙ take_more order (own_kids node.decision) (suc i) low ∙ take_there order i n at)) in
+        sym (append_assoc (take i order) (n ∷ []) tail) ∙ ap (λ xs. xs ++ tail) (sym (ap (take (suc i)) is ∙ take-append-le (suc i) order (own_kids node.decision) low ∙ take_there order i n at)) in
         subst (Walks seen (root ∷ [])) taken all
 
     pub turn_longer : suc i ≤ length next
@@ -135,20 +106,8 @@ numbers_at first zero k lt = absurd (omega (arith, lt))
 numbers_at first (suc count) zero lt = let e : first ≡ first + 0 = omega arith in ap (λ n. Some n) e
 numbers_at first (suc count) (suc k) lt = let e : first + 1 + k ≡ first + suc k = omega arith in numbers_at (first + 1) count k (omega (arith, lt)) ∙ ap (λ n. Some n) e
 
-pub drop_all : {A : Type 0} (xs : List A) (i : ℕ) → length xs ≤ i → drop i xs ≡ []
-drop_all [] zero le = refl
-drop_all [] (suc i) le = refl
-drop_all (x ∷ xs) zero le = absurd (omega (arith, le))
-drop_all (x ∷ xs) (suc i) le = drop_all xs i (omega (arith, le))
-
-pub take_all : {A : Type 0} (xs : List A) (i : ℕ) → length xs ≤ i → take i xs ≡ xs
-take_all [] zero le = refl
-take_all [] (suc i) le = refl
-take_all (x ∷ xs) zero le = absurd (omega (arith, le))
-take_all (x ∷ xs) (suc i) le = ap (λ ys. x ∷ ys) (take_all xs i (omega (arith, le)))
-
 pub walk_done : (nodes : List TreeNode) (root : ℕ) (order : List ℕ) (i : ℕ) → length order ≤ i
     → ((tail : List ℕ) → Walks nodes (drop i order) tail → Walks nodes (root ∷ []) (take i order ++ tail)) → Walks nodes (root ∷ []) order
 walk_done nodes root order i le h =
-    let w = h [] (subst (λ ws. Walks nodes ws []) (sym (drop_all order i le)) ends) in
-    subst (Walks nodes (root ∷ [])) (nil_right (take i order) ∙ take_all order i le) w
+    let w = h [] (subst (λ ws. Walks nodes ws []) (sym (drop_all i order le)) ends) in
+    subst (Walks nodes (root ∷ [])) (append-nil (take i order) ∙ take_all i order le) w
