@@ -20,16 +20,11 @@ use Rattle.tree_state.specs.tree_definitions.Verdicts.{IsClosed, IsLost}
 use Rattle.tree_state.specs.Parts.{Parts, IsOpening, fresh_goals}
 use Rattle.tree_core.specs.Invariant.{IsShaped, IsTold, IsTree, opens}
 use Rattle.tree_state.proofs.tree_definitions.Lookups.{map_cases}
-use Rattle.tree_state.proofs.tree_definitions.Roots.{root_count, root_below, root_within, roots_well_made}
+use Rattle.tree_state.proofs.tree_definitions.Roots.{root_count, root_below, root_there, root_within, roots_well_made}
 use Rattle.tree_state.specs.strategies.TaskBounds.{pairs_in}
 use Rattle.tree_state.proofs.FirstRoots.{length_fresh}
 use Rattle.tree_core.proofs.Won.{closed_decided}
 use Rattle.tree_core.proofs.Bounding.{bounded_opening}
-
-root_there : (h : ℕ) (ps : List ProofProblem) (k : ℕ) (p : ProofProblem) → slice_get ps k ≡ Some p → slice_get (roots_from h ps) k ≡ Some (new_node (h + k) p)
-root_there h [] k p there = absurd cc
-root_there h (q ∷ ps) zero p there = let same : q ≡ p = cc in let e : h ≡ h + 0 = omega arith in λ i. Some (new_node (e i) (same i))
-root_there h (q ∷ ps) (suc k) p there = root_there (h + 1) ps k p there ∙ (let e : h + 1 + k ≡ h + suc k = omega arith in ap (λ n. Some (new_node n p)) e)
 
 root_cases : (h : ℕ) (ps : List ProofProblem) (k : ℕ) (y : TreeNode) → slice_get (roots_from h ps) k ≡ Some y → (p : ProofProblem) × (slice_get ps k ≡ Some p) × (y ≡ new_node (h + k) p)
 root_cases h [] k y there = absurd cc

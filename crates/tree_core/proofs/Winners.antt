@@ -17,7 +17,7 @@ use Rattle.tree_state.specs.tree_definitions.States.{TreeNode, State, Decided, I
 use Rattle.tree_state.specs.tree_definitions.Verdicts.{IsClosed, closed, IsWon, IsFirstWinner}
 use Rattle.tree_state.specs.tree_definitions.Events.{Claims, RunsAt, IsOver, done, Follows, ended, nodes_with, without}
 use Rattle.tree_state.proofs.tree_definitions.Lookups.{one_value, get_set, length_set, set_cases, set_there, append_left, append_right, append_cases, map_there, map_cases, get_below}
-use Rattle.tree_state.proofs.tree_definitions.Roots.{root_below}
+use Rattle.tree_state.proofs.tree_definitions.Roots.{root_below, root_there}
 use Rattle.tree_core.specs.Invariant.{IsOf}
 use Rattle.tree_core.proofs.Won.{closed_decided}
 use Rattle.tree_core.proofs.Marking.{of_same, closed_same, same_later, same_before}
@@ -30,13 +30,6 @@ pub record IsGrown (goals : ℕ) (s : State) : Type 0 where
   pub not_won : s.winner ≡ None → (g : ℕ) → g < goals → IsWon s.nodes g → ⊥
 
 -- ---- the opening
-
-root_there : (h : ℕ) (ps : List ProofProblem) (k : ℕ) (p : ProofProblem) → slice_get ps k ≡ Some p
-    → slice_get (roots_from h ps) k ≡ Some (new_node (h + k) p)
-root_there h [] k p there = absurd cc
-root_there h (q ∷ ps) zero p there = let same : q ≡ p = cc in let e : h ≡ h + 0 = omega arith in λ i. Some (new_node (e i) (same i))
-root_there h (q ∷ ps) (suc k) p there =
-    root_there (h + 1) ps k p there ∙ (let e : h + 1 + k ≡ h + suc k = omega arith in ap (λ n. Some (new_node n p)) e)
 
 root_open : (h : ℕ) (ps : List ProofProblem) (k : ℕ) (y : TreeNode) (d : Decided) → slice_get (roots_from h ps) k ≡ Some y → y.decision ≡ Some d → ⊥
 root_open h [] k y d there dec = absurd cc

@@ -1,5 +1,5 @@
 -- The goals of a question, and the problems with which they begin.
-use Rattle.std.proofs.Common.{◌≡◌, ℕ, ◌<◌, ◌≤◌, length, Some, slice_get, refl, arith}
+use Rattle.std.proofs.Common.{◌≡◌, ℕ, zero, suc, ◌+◌, ◌<◌, ◌≤◌, List, [], ◌∷◌, length, Some, slice_get, refl, ap, ◌∙◌, arith}
 use Rattle.std.proofs.lemmas.List.{length-map}
 use Rattle.std.proofs.lemmas.Option.{slice_get_within}
 use Rattle.trs_defs.specs.System.{System}
@@ -12,6 +12,7 @@ use Rattle.tree_definitions.specs.declared.question.Question.{Question}
 use Rattle.tree_definitions.specs.declared.question.Question.TheVariants.{Termination, Confluence, Unique}
 use Rattle.tree_definitions.specs.Goals.{goal_root, goal_claim}
 use Rattle.tree_definitions.specs.Questions.{goals_for, goal_count, roots, claims}
+use Rattle.tree_definitions.specs.States.{new_node, roots_from}
 use Rattle.tree_definitions.proofs.Lookups.{get_below, map_there, map_cases, one_value}
 
 pub few_goals : (question : Question) → goal_count question ≤ 3
@@ -25,6 +26,12 @@ root_count question = length-map (goals_for question) goal_root
 pub root_below : (question : Question) (g : ℕ) → g < goal_count question → (p : ProofProblem) × (slice_get (roots question) g ≡ Some p)
 root_below question g low =
     let at = get_below (goals_for question) g low in (goal_root at.0, map_there goal_root (goals_for question) g at.0 at.1)
+
+-- the root of a problem among those from goal h on
+pub root_there : (h : ℕ) (ps : List ProofProblem) (k : ℕ) (p : ProofProblem) → slice_get ps k ≡ Some p → slice_get (roots_from h ps) k ≡ Some (new_node (h + k) p)
+root_there h [] k p there = absurd cc
+root_there h (q ∷ ps) zero p there = let same : q ≡ p = cc in let e : h ≡ h + 0 = omega arith in λ i. Some (new_node (e i) (same i))
+root_there h (q ∷ ps) (suc k) p there = root_there (h + 1) ps k p there ∙ (let e : h + 1 + k ≡ h + suc k = omega arith in ap (λ n. Some (new_node n p)) e)
 
 pub root_within : (question : Question) (g : ℕ) (p : ProofProblem) → slice_get (roots question) g ≡ Some p → g < goal_count question
 root_within question g p there =
