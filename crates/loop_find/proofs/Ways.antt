@@ -72,18 +72,19 @@ unchanged : (ts : Trees) (way : List ℕ) (by : Tree) → put_into ts zero way b
 unchanged nil way by = refl
 unchanged (cons t ts) way by = refl
 
+-- the way leads into no other argument
+no_way_into : (p i : ℕ) (way : List ℕ) → (p ≡ i + 1 → ⊥) → way_into p way i ≡ None
+no_way_into p i way other = go (p == i + 1) refl
+  where
+    go : (c : Bool) → (p == i + 1) ≡ c → (if c then Some way else None) ≡ None
+    go true k = absurd (other (eqb-true p (i + 1) k))
+    go false k = refl
+
 next_put : (t : Tree) (ts : Trees) (p i m n : ℕ) (way : List ℕ) (by : Tree) → m ≡ p - i → n ≡ p - (i + 1) → put_into (cons t ts) m way by ≡ cons (put_way (way_into p way i) t by) (put_into ts n way by)
 next_put t ts p i zero n way by a b =
     let c : n ≡ zero = omega (arith, a, b) in
-    let d : way_into p way i ≡ None = other p i way (omega (arith, a)) in
+    let d : way_into p way i ≡ None = no_way_into p i way (λ e. omega (arith, e, a)) in
     ap (cons t) (sym (unchanged ts way by)) ∙ (ap (λ z. cons t (put_into ts z way by)) (sym c) ∙ ap (λ z. cons (put_way z t by) (put_into ts n way by)) (sym d))
-  where
-    other : (p i : ℕ) (way : List ℕ) → p ≤ i → way_into p way i ≡ None
-    other p i way h = go (p == i + 1) refl
-      where
-        go : (c : Bool) → (p == i + 1) ≡ c → (if c then Some way else None) ≡ None
-        go true k = let e : p ≡ i + 1 = eqb-true p (i + 1) k in absurd (omega (arith, e, h))
-        go false k = refl
 next_put t ts p i (suc zero) n way by a b =
     let c : n ≡ zero = omega (arith, a, b) in
     let e : p ≡ i + 1 = omega (arith, a) in
@@ -91,15 +92,8 @@ next_put t ts p i (suc zero) n way by a b =
     ap (cons (put_in t way by)) (sym (unchanged ts way by)) ∙ (ap (λ z. cons (put_in t way by) (put_into ts z way by)) (sym c) ∙ ap (λ z. cons (put_way z t by) (put_into ts n way by)) (sym d))
 next_put t ts p i (suc (suc m)) n way by a b =
     let c : n ≡ suc m = omega (arith, a, b) in
-    let d : way_into p way i ≡ None = other p i way (λ e. omega (arith, e, a)) in
+    let d : way_into p way i ≡ None = no_way_into p i way (λ e. omega (arith, e, a)) in
     ap (λ z. cons t (put_into ts z way by)) (sym c) ∙ ap (λ z. cons (put_way z t by) (put_into ts n way by)) (sym d)
-  where
-    other : (p i : ℕ) (way : List ℕ) → (p ≡ i + 1 → ⊥) → way_into p way i ≡ None
-    other p i way h = go (p == i + 1) refl
-      where
-        go : (c : Bool) → (p == i + 1) ≡ c → (if c then Some way else None) ≡ None
-        go true k = absurd (h (eqb-true p (i + 1) k))
-        go false k = refl
 
 -- the tokens of the arguments that are left, each with its way
 pub next_put_tokens : (σ : ℕ → Tree) (ts : List Term) (i : ℕ) (t : Term) (p : ℕ) (way : List ℕ) (by : Tree) → i < length ts → t ≡ get_or ts i t
