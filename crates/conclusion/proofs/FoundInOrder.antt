@@ -1,7 +1,7 @@
 -- What strategies find starts from tops of critical peaks, whose variables are numbered in order.
 use Rattle.std.specs.Prelude.{ℕ, List, Ok}
 use Rattle.std.proofs.Common.{sym, subst, inl, inr}
-use Rattle.trs_defs.specs.Member.{In, in_first, in_rest}
+use Rattle.trs_defs.specs.Member.{In}
 use Rattle.trs_defs.proofs.Members.{in_or, no_in}
 use Rattle.trs_defs.specs.Tree.{Tree}
 use Rattle.trs_defs.specs.Variable.{variables_of}
@@ -9,14 +9,11 @@ use Rattle.trs_defs.specs.System.{RewriteRule, System}
 use Rattle.rewrite_core.specs.PlacedPeak.{PlacedPeak}
 use Rattle.cert_text.specs.crit_pairs.PeakList.{Spot, Lists, at_end, no_overlap, one_peak, IsCount}
 use Rattle.report_text.specs.conf_find.Fork.{Fork}
-use Rattle.report_text.specs.conf_find.ForkRows.{Behind, behind_none, behind_one, FindsParted}
+use Rattle.report_text.specs.conf_find.ForkRows.{FindsParted}
+use Rattle.report_text.proofs.tree_definitions.strategies.conf_find.ForkLaw.{behind_in}
 use Rattle.report_text.specs.strategies.Rows.{FindsOnPeaks}
 use Rattle.report_text.specs.strategies.Conditions as strategies
 use Rattle.conclusion.specs.FoundInOrder.{FoundStepsAreInOrder}
-
-behind_in : {A : Type 0} {passed : A → Type 0} {xs : List A} {a : A} → Behind passed xs a → In a xs
-behind_in behind_none = in_first
-behind_in (behind_one h rest) = in_rest (behind_in rest)
 
 abbrev TopInOrder : PlacedPeak → Type 0
 TopInOrder peak = IsCount 0 (variables_of peak.top)

@@ -19,21 +19,16 @@ use Rattle.join_find.specs.crit_pairs.PeakList.{Spot, Lists, at_end, no_overlap,
 use Rattle.cert_step.specs.nonjoin.Apart.{AreApart}
 use Rattle.cert_step.proofs.nonjoin.ApartLaws.{system_apart}
 use Rattle.cert_step.specs.ForkKind.{end_conditions}
-use Rattle.join_find.specs.First.{First, first_here, first_later}
-use Rattle.join_find.proofs.Firsts.{first_in_list}
+use Rattle.join_find.proofs.Firsts.{first_in_list, holds_now}
 use Rattle.conf_find.specs.Fork.{Fork, fork_from}
 use Rattle.conf_find.specs.ForkRows.{Behind, behind_none, behind_one, AreNormal, AreDifferentNormalForms, IsTestOf, both_normal, not_both, PartsBy, FindsFork, FindsSplit}
 use Rattle.conf_find.specs.Laws.{IsForkStep}
 use Rattle.join_find.proofs.crit_pairs.PeakSteps.{HasSteps, peak_steps}
 use Rattle.join_find.proofs.crit_pairs.WellFormedTops.{top_well_formed}
 
-behind_in : {A : Type 0} {passed : A → Type 0} {xs : List A} {a : A} → Behind passed xs a → In a xs
+pub behind_in : {A : Type 0} {passed : A → Type 0} {xs : List A} {a : A} → Behind passed xs a → In a xs
 behind_in behind_none = in_first
 behind_in (behind_one h rest) = in_rest (behind_in rest)
-
-holds_now : {A : Type 0} {fact : A → Type 0} {xs : List A} {a : A} → First fact xs a → fact a
-holds_now (first_here h) = h
-holds_now (first_later h rest) = holds_now rest
 
 -- a peak that keeps the limits, with its two steps from a well-formed top
 record IsPeak (system : System) (peak : PlacedPeak) : Type 0 where

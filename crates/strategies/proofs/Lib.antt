@@ -1,5 +1,6 @@
 -- what crates above name through this one
 pub use Rattle.cert_step.proofs as cert_step
+pub use Rattle.conf_find.proofs as conf_find
 pub use Rattle.cert_step.proofs.dp_graph
 pub use Rattle.cert_step.proofs.usable_rules
 pub mod ProblemKinds

@@ -1,7 +1,6 @@
 -- The fork that the strategies fork and split find on a list of peaks is one, and excludes that they fail on it.
 use Rattle.std.specs.Prelude.{◌≡◌, List, refl}
 use Rattle.std.proofs.Common.{ap, sym, ◌∙◌, subst}
-use Rattle.trs_defs.specs.Member.{In, in_first, in_rest}
 use Rattle.trs_defs.specs.Tree.{Tree}
 use Rattle.trs_defs.specs.System.{RewriteRule, System, IsSystem}
 use Rattle.term_pool.specs.Listed.{Listed}
@@ -12,6 +11,7 @@ use Rattle.conclusion.specs.report_text.strategies.join_find.First.{First, Some_
 use Rattle.conclusion.specs.report_text.strategies.conf_find.Fork.{Fork, fork_from}
 use Rattle.conclusion.specs.report_text.strategies.conf_find.ForkRows.{Behind, behind_none, behind_one, IsTestOf, both_normal, not_both, IsShortReach}
 use Rattle.conclusion.specs.report_text.strategies.conf_find.ForkRows.{NothingParted, PartsLists, PartsNot, PartsBy, FindsParted, FailsParted}
+use Rattle.conclusion.proofs.tree_definitions.strategies.conf_find.ForkLaw.{behind_in}
 use Rattle.text_determinism.proofs.Firsts.{first_once, first_is_some}
 
 behind_once : {A : Type 0} {passed : A → Type 0} {xs : List A} {a b : A} → Behind passed xs a → Behind passed xs b
@@ -20,10 +20,6 @@ behind_once behind_none behind_none a b = refl
 behind_once behind_none (behind_one p later) a b = absurd (a p)
 behind_once (behind_one p later) behind_none a b = absurd (b p)
 behind_once (behind_one p later) (behind_one q more) a b = behind_once later more a b
-
-behind_in : {A : Type 0} {passed : A → Type 0} {xs : List A} {a : A} → Behind passed xs a → In a xs
-behind_in behind_none = in_first
-behind_in (behind_one p later) = in_rest (behind_in later)
 
 test_once : (rules : List RewriteRule) (u v : Tree) {a b : ForkTest} → IsTestOf rules u v a → IsTestOf rules u v b → a ≡ b
 test_once rules u v (both_normal h) (both_normal k) = refl
