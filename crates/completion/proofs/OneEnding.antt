@@ -4,12 +4,9 @@ use Rattle.trs_defs.specs.Tree.{Tree}
 use Rattle.trs_defs.specs.Member.{In, in_first, in_rest}
 use Rattle.trs_defs.specs.System.{RewriteRule, System, IsSystem}
 use Rattle.rewrite_core.specs.PlacedPeak.{PlacedPeak}
-use Rattle.crit_pairs.specs.PeakList.{Spot, Lists, no_overlap, fault_later, too_large, too_many, ListsPeaks}
-use Rattle.crit_pairs.specs.PeaksCheck as check
-use Rattle.crit_pairs.specs.declared.faults.PeakFault.TheVariants as fault
-use Rattle.rewrite_core.specs.declared.checks.refusals.StepRefused.TheVariants.{PeaksTooLarge, PeaksTooMany}
+use Rattle.crit_pairs.specs.PeakList.{ListsPeaks}
 use Rattle.crit_pairs.specs.declared.faults.PeakFault.{PeakFault}
-use Rattle.crit_pairs.proofs.ListedOnce.{listed_once}
+use Rattle.crit_pairs.proofs.ListedOnce.{one_list, list_or_fault}
 use Rattle.completion.specs.ReductionOrder.{IsReductionOrder}
 use Rattle.completion.specs.declared.unfinished.Unfinished.{Unfinished}
 use Rattle.completion.specs.Normalizing.{Normalizes}
@@ -28,22 +25,6 @@ of_forms {s} {t} {m} {n} e = let p : ◌≡◌ {A = Tree × ℕ} (s, m) (t, n) =
 of_answers : {rs qs : List RewriteRule} {m n : ℕ} → ◌≡◌ {A = Result (List RewriteRule × ℕ) Ending} (Ok (rs, m)) (Ok (qs, n)) → (rs ≡ qs) × (m ≡ n)
 of_answers {rs} {qs} {m} {n} e =
     let p : ◌≡◌ {A = List RewriteRule × ℕ} (rs, m) (qs, n) = cc (e) in (ap (λ (q : List RewriteRule × ℕ). q.0) p, ap (λ (q : List RewriteRule × ℕ). q.1) p)
-
--- no list of peaks lacks memory
-no_memory : {rules : List RewriteRule} {total : ℕ} {spots : List Spot} (why : PeakFault) → why ≡ fault.OutOfMemory → Lists rules total spots (Err why) → ⊥
-no_memory why e (no_overlap none later) = no_memory why e later
-no_memory why e (fault_later is small few later) = no_memory why e later
-no_memory why e (too_large is large) = absurd cc
-no_memory why e (too_many is small many) = absurd cc
-
-module _ (system : System) (valid : IsSystem system) where
-  one_list : (ps qs : List PlacedPeak) → ListsPeaks system.rules (Ok ps) → ListsPeaks system.rules (Ok qs) → ps ≡ qs
-  one_list ps qs h k = let e = (listed_once system valid).once (Ok ps) (Ok qs) (check.listed ps h) (check.listed qs k) in cc (e)
-
-  list_or_fault : (ps : List PlacedPeak) (why : PeakFault) → ListsPeaks system.rules (Ok ps) → ListsPeaks system.rules (Err why) → ⊥
-  list_or_fault ps fault.TooLarge h k = let e = (listed_once system valid).once (Ok ps) (Err PeaksTooLarge) (check.listed ps h) (check.too_large k) in absurd cc
-  list_or_fault ps fault.TooMany h k = let e = (listed_once system valid).once (Ok ps) (Err PeaksTooMany) (check.listed ps h) (check.too_many k) in absurd cc
-  list_or_fault ps fault.OutOfMemory h k = no_memory fault.OutOfMemory refl k
 
 module _ (equations : System) (valid : IsSystem equations) (greater : Tree → Tree → Type 0) (order : IsReductionOrder equations.arities greater) where
   abbrev Sound : List RewriteRule → Type 0

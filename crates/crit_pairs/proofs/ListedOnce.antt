@@ -67,6 +67,12 @@ module _ (system : System) (valid : IsSystem system) where
   same_list : (a b : Result (List PlacedPeak) PeakFault) → ListsPeaks system.rules a → ListsPeaks system.rules b → a ≡ b
   same_list a b h k = lists_once system.rules (peak_once system valid) (spots system.rules) (λ s i p is. peak_overlaps system.rules s p i is) 0 a b h k
 
+  pub one_list : (ps qs : List PlacedPeak) → ListsPeaks system.rules (Ok ps) → ListsPeaks system.rules (Ok qs) → ps ≡ qs
+  one_list ps qs h k = let e : ◌≡◌ {A = Result (List PlacedPeak) PeakFault} (Ok ps) (Ok qs) = same_list (Ok ps) (Ok qs) h k in cc (e)
+
+  pub list_or_fault : (ps : List PlacedPeak) (fault : PeakFault) → ListsPeaks system.rules (Ok ps) → ListsPeaks system.rules (Err fault) → ⊥
+  list_or_fault ps fault h k = let e = same_list (Ok ps) (Err fault) h k in absurd cc
+
   same_answer : (a b : Result (List PlacedPeak) StepRefused) → ListsCriticalPeaks system.rules a → ListsCriticalPeaks system.rules b → a ≡ b
   same_answer _ _ (check.listed ps h) (check.listed qs k) = let e : ◌≡◌ {A = Result (List PlacedPeak) PeakFault} (Ok ps) (Ok qs) = same_list (Ok ps) (Ok qs) h k in cc (e)
   same_answer _ _ (check.listed ps h) (check.too_large k) = let e = same_list (Ok ps) (Err peak.TooLarge) h k in absurd cc
