@@ -1,10 +1,10 @@
 -- The steps of a parallel step, as they are added argument by argument.
-use Rattle.std.specs.Prelude.{◌≡◌, ◌≢◌, ◌<◌, ◌≤◌, ℕ, ◌+◌, All, List, [], ◌∷◌, ◌++◌, length, drop, map, Some, IsTrue, slice_get, refl}
+use Rattle.std.specs.Prelude.{◌≡◌, ◌≢◌, ◌<◌, ◌≤◌, ℕ, ◌+◌, List, [], ◌∷◌, ◌++◌, length, drop, map, Some, IsTrue, slice_get, refl}
 use Rattle.std.proofs.Common.{zero, suc, ap, sym, subst, ◌∙◌, append_assoc, append-nil, get_or, arith}
-use Rattle.std.proofs.lemmas.List.{map-append, length-map, drop_all}
+use Rattle.std.proofs.lemmas.List.{map-append, drop_all}
 use Rattle.std.proofs.lemmas.Option.{same_Some, slice_get_read}
-use Rattle.trs_defs.specs.Tree.{Tree, var, app, nil, cons, count, trees, items, items_trees}
-use Rattle.trs_defs.specs.Size.{depth_of, within_limits}
+use Rattle.trs_defs.specs.Tree.{Tree, var, app, cons, count, items, items_trees}
+use Rattle.trs_defs.specs.Size.{within_limits}
 use Rattle.trs_defs.specs.Position.{subterm_at}
 use Rattle.trs_defs.specs.System.{RewriteRule}
 use Rattle.trs_defs.specs.Path.{PlacedRule}
@@ -12,10 +12,9 @@ use Rattle.trs_defs.proofs.ArgumentLists.{cell}
 use Rattle.trs_defs.proofs.Limits.{size_there, depth_there, limits_size, limits_depth, limits_kept}
 use Rattle.trs_core.specs.declared.terms.Term.{Term}
 use Rattle.trs_core.specs.View.{tree, forest}
-use Rattle.term_pool.specs.Pooled.{AreDistinct, StandsFor, tree_at}
+use Rattle.term_pool.specs.Pooled.{AreDistinct, StandsFor}
 use Rattle.term_pool.specs.Redexes.{Grows, below}
-use Rattle.term_pool.proofs.PoolTrees.{stands, stands_at, stands_within}
-use Rattle.term_pool.proofs.RedexWalk.{nothing_grown, grown_same}
+use Rattle.term_pool.proofs.RedexWalk.{below_below, nothing_grown, grown_same}
 use Rattle.join_find.specs.ParallelRow.{HasNoRootStep, IsRootStep, IsParallelStep, no_step, at_root, in_arguments, AreParallelSteps, no_argument, one_argument}
 use Rattle.join_find.proofs.ParallelSteps.{parallel_cases, first_and_rest, same_count}
 
@@ -106,10 +105,6 @@ module _ (rules : List RewriteRule) (place : List ℕ) (s t : Tree) where
     arguments_refute h ss step = h ss (of_arguments ss step).1
 
 -- ---- one argument after another
-
-below_below : (p : List ℕ) (k : ℕ) (ss : List PlacedRule) → map (below (p ++ k ∷ [])) ss ≡ map (below p) (map (below (k ∷ [])) ss)
-below_below p k [] = refl
-below_below p k (s ∷ ss) = rw (append_assoc p (k ∷ []) s.place, below_below p k ss) refl
 
 module _ (rules : List RewriteRule) (xs ys : List Term) (i : ℕ) (x y : Term) (within : i < length xs) (within_other : i < length ys) (read : x ≡ get_or xs i x) (read_other : y ≡ get_or ys i y) where
   next_left : forest (drop i xs) ≡ cons (tree x) (forest (drop (i + 1) xs))
