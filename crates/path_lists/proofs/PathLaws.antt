@@ -1,41 +1,16 @@
 -- The listed paths from a term lead to their ends.
-use Rattle.std.specs.Prelude.{◌≡◌, ◌<◌, ℕ, nat_le, List, [], ◌∷◌, ◌++◌, length, take, IsTrue, refl}
+use Rattle.std.specs.Prelude.{◌≡◌, ◌<◌, ℕ, List, [], ◌∷◌, length, take, refl}
 use Rattle.std.proofs.Common.{zero, suc, ap, subst, sym, inl, inr, length-append, arith}
-use Rattle.trs_defs.specs.Member.{In, in_first, in_rest}
+use Rattle.trs_defs.specs.Member.{In}
 use Rattle.trs_defs.specs.Tree.{Tree}
-use Rattle.trs_defs.specs.Size.{size_of, within_limits}
 use Rattle.trs_defs.specs.System.{RewriteRule}
-use Rattle.trs_defs.specs.Path.{PlacedRule, StepsAt, Follows}
-use Rattle.trs_defs.proofs.Members.{in_either, in_or, in_take}
+use Rattle.trs_defs.specs.Path.{PlacedRule, Follows}
+use Rattle.trs_defs.proofs.Members.{in_or, in_take}
 use Rattle.term_pool.specs.Listed.{Listed}
-use Rattle.term_pool.specs.Reach.{AreReducts, no_step, kept, left_out, AreCandidates, no_entry, expanded, too_deep, after_step}
-use Rattle.term_pool.proofs.FollowLaws.{one_step_more, second_holds}
+use Rattle.term_pool.specs.Reach.{AreCandidates}
+use Rattle.term_pool.proofs.FollowLaws.{one_step_more}
+use Rattle.term_pool.proofs.ReachLaws.{candidates_come}
 use Rattle.path_lists.specs.PathList.{no_steps, IsPathList}
-
--- the entry comes from another one by one step that keeps the limits
-record ComesFrom (rules : List RewriteRule) (e c : Listed) : Type 0 where
-  step : PlacedRule
-  path : c.path ≡ e.path ++ step ∷ []
-  steps : StepsAt rules step.place step.rule e.term c.term
-  within : IsTrue (within_limits c.term)
-
-module _ (rules : List RewriteRule) (depth size : ℕ) where
-  reducts_come : (e : Listed) {ss : List PlacedRule} {cs : List Listed} → AreReducts rules size e ss cs → (c : Listed) → In c cs → ComesFrom rules e c
-  reducts_come e no_step c i = elim i [ ]
-  reducts_come e (kept {s = s} {u = u} {cs = cs} step small rest) c i = go c i (λ d j. reducts_come e rest d j)
-    where
-      go : (c : Listed) → In c (after_step e s u ∷ cs) → ((d : Listed) → In d cs → ComesFrom rules e d) → ComesFrom rules e c
-      go c in_first later = record { step = s; path = refl; steps = step; within = second_holds (nat_le (size_of u) size) (within_limits u) small }
-      go c (in_rest j) later = later c j
-  reducts_come e (left_out step large rest) c i = reducts_come e rest c i
-
-  candidates_come : {es cs : List Listed} → AreCandidates rules depth size es cs → (c : Listed) → In c cs → (e : Listed) × In e es × ComesFrom rules e c
-  candidates_come no_entry c i = elim i [ ]
-  candidates_come (expanded {e = e} {cs = cs} {ds = ds} near redexes reducts rest) c i = elim (in_either cs ds i) [
-    | inl here ↦ (e, in_first, reducts_come e reducts c here)
-    | inr later ↦ (let (d, there, comes) = candidates_come rest c later in (d, in_rest there, comes))
-  ]
-  candidates_come (too_deep far rest) c i = let (d, there, comes) = candidates_come rest c i in (d, in_rest there, comes)
 
 -- the list has the paths that are one step longer than its first n ones
 pub record IsLookedAt (rules : List RewriteRule) (t : Tree) (n : ℕ) (es : List Listed) : Type 0 where
