@@ -58,6 +58,11 @@ pub record NoCountFell (before now : ShelfMeaning) : Type 0 where
   pub faults : (q : List ℕ) → before.faults q ≤ now.faults q
   pub bytes : (q : List ℕ) → before.bytes q ≤ now.bytes q
 
+-- the shelf can be asked again: it tells the same texts, and no count fell
+pub record CanAskAgain (before now : ShelfMeaning) : Type 0 where
+  pub told : TellsTheSame before now
+  pub counts : NoCountFell before now
+
 -- nothing was counted under a name
 abbrev pub IsUntouched : ShelfMeaning → ShelfMeaning → List ℕ → Type 0
 IsUntouched before now name = (now.faults name ≡ before.faults name) × (now.bytes name ≡ before.bytes name)

@@ -1,5 +1,5 @@
 -- Problems that are fetched one after the other.
-use Rattle.std.proofs.Common.{◌≡◌, ◌≢◌, ◌≤◌, ◌<◌, ◌+◌, ◌⊎◌, inl, inr, ℕ, Bool, true, false, cond, ◌&&◌, List, [], ◌∷◌, ◌++◌, length, map, Vec, Result, Ok, Err, refl, sym, ap, subst, ◌∙◌, arith, Global, Contains, string_bytes, take, get_or}
+use Rattle.std.proofs.Common.{◌≡◌, ◌≢◌, ◌≤◌, ◌<◌, ◌+◌, ◌⊎◌, inl, inr, ℕ, true, false, cond, ◌&&◌, List, [], ◌∷◌, ◌++◌, length, Vec, Result, Ok, Err, refl, sym, subst, ◌∙◌, arith, Global, Contains, string_bytes, take, get_or}
 use Rattle.std.specs.List.{AllZip, All}
 use Rattle.std.specs.Str.{bytes_eq}
 use Rattle.std.proofs.lemmas.Slice.Eq.{bytes_eq-Decides}
@@ -8,16 +8,17 @@ use Rattle.std.proofs.lemmas.List.{take_more, length-map, get_or-map}
 use Rattle.std.proofs.lemmas.List.Elements.{All-from_recursion}
 use Rattle.std.specs.List.{AllByRecursion as ByRecursion}
 use denote.Ref.{Bor}
-use Rattle.io_edge.specs.Edge.{Rose, RoseBy, next_count}
+use Rattle.io_edge.specs.Edge.{RoseBy, next_count}
 use Rattle.io_edge.specs.Telling.{CanBe, CanPass}
-use Rattle.io_edge.specs.Shelf.{ShelfMeaning, MayBe, MayPass, TellsTheSame, CountsRise, CountsFault, FaultRose, ReadPast, IsUntouched}
+use Rattle.io_edge.specs.Shelf.{ShelfMeaning, MayBe, MayPass, CanAskAgain, CountsFault, IsUntouched}
 use Rattle.io_edge.specs.declared.fault.FetchFault.{FetchFault}
 use Rattle.io_edge.specs.declared.fault.FetchFault.TheVariants as fetch
+use Rattle.io_edge.proofs.AskingAgain.{once_again}
 use Rattle.io_edge.proofs.Counting.{same_or_not}
 use Rattle.program_edge.specs.Fetching.{most_problem_bytes}
 use Rattle.trsbatch.specs.declared.problem.Problem.{Problem}
 use Rattle.trsbatch.proofs.Zipping.{zip_push}
-use Rattle.trsbatch.specs.Output.{texts, CanAskAgain}
+use Rattle.trsbatch.specs.Output.{texts}
 use Rattle.trsbatch.specs.Problems.{IsAskedFor, Fetches, TouchesOnly, IsFetched, IsProblemOf, is_failed, failure, failed_under, AreFetched, FitsLimit, IsWithinLimit}
 
 -- ---- what is said of a shelf is true of it before, where it tells the same and no count fell since
@@ -49,15 +50,6 @@ module _ (before middle : ShelfMeaning) (again : CanAskAgain before middle) wher
     counted = λ q. omega (arith, again.counts.faults q, h.counted q);
   }
 
-  pub again_later : (now : ShelfMeaning) → CanAskAgain middle now → CanAskAgain before now
-  again_later now h = record {
-    told = λ q. h.told q ∙ again.told q;
-    counts = record {
-      faults = λ q. omega (arith, again.counts.faults q, h.counts.faults q);
-      bytes = λ q. omega (arith, again.counts.bytes q, h.counts.bytes q);
-    };
-  }
-
 -- ---- one name is asked for
 
 contains_text : (names : List (Bor (List ℕ))) (i : ℕ) (d : Bor (List ℕ)) → i < length names → Contains (texts names) (get_or names i d).now
@@ -66,13 +58,6 @@ contains_text names i d within = (
   subst (λ n. i < n) (sym (length-map names (λ (w : Bor (List ℕ)). w.now))) within,
   get_or-map (λ (w : Bor (List ℕ)). w.now) names i d (get_or names i d).now within,
 )
-
-pub asked_once : (before now : ShelfMeaning) (name : List ℕ) → TellsTheSame before now → CountsRise before.faults now.faults name
-    → CountsRise before.bytes now.bytes name → CanAskAgain before now
-asked_once before now name told faults read = record { told = told; counts = record { faults = faults.later; bytes = read.later } }
-
-pub asked_again : (before : ShelfMeaning) → CanAskAgain before before
-asked_again before = record { told = λ q. refl; counts = record { faults = λ q. omega arith; bytes = λ q. omega arith } }
 
 pub touches_none : (names : List (List ℕ)) (shelf : ShelfMeaning) → TouchesOnly names shelf shelf
 touches_none names shelf = λ q. inl (refl, refl)
@@ -143,7 +128,7 @@ pub one_fetched : (before middle now : ShelfMeaning) (names : List (Bor (List �
     → CanAskAgain before middle → AreFetched before middle names problems → string_bytes p.name ≡ name.now → IsAskedFor middle now name.now
     → Fetches middle now name.now p.text → AreFetched before now (names ++ name ∷ []) (problems ++ p ∷ [])
 one_fetched before middle now names problems name p again so_far is asked h =
-    let later = asked_once middle now name.now asked.told asked.faults asked.read in
+    let later = once_again middle now name.now asked.told asked.faults asked.read in
     record {
       each = zip_push (λ n r. IsProblemOf before now n.now r) names problems name p (each_later before middle now names problems later so_far.each)
           (is, fetched_before before middle again now name.now p.text (fetched_now middle now name.now p.text h));

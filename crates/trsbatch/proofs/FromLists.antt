@@ -2,7 +2,7 @@
 use Rattle.std.proofs.Common.{◌≡◌, ◌≢◌, ◌≤◌, ◌⊎◌, inl, inr, ℕ, List, Option, Some, None, Result, Ok, Err, IfOk, IsErrOf, length, refl, sym, subst, ◌∙◌, arith, Contains, Vec, Global}
 use Rattle.std.specs.List.{All}
 use denote.Ref.{Bor}
-use Rattle.io_edge.specs.Shelf.{ShelfMeaning, MayBe, MayPass, TellsTheSame, CountsRise, CountsFault, FaultRose, ReadPast, IsUntouched}
+use Rattle.io_edge.specs.Shelf.{ShelfMeaning, MayBe, MayPass, TellsTheSame, CanAskAgain, CountsRise, CountsFault, FaultRose, ReadPast, IsUntouched}
 use Rattle.io_edge.specs.Edge.{Rose, next_count}
 use Rattle.io_edge.specs.declared.fault.FetchFault.{FetchFault}
 use Rattle.io_edge.specs.declared.fault.FetchFault.TheVariants as fetch
@@ -16,14 +16,14 @@ use Rattle.trsbatch.specs.ListText.{SaysNames, IsListRefused}
 use Rattle.trsbatch.specs.Words.{BatchAsked}
 use Rattle.trsbatch.specs.Blocks.{blocks_text}
 use Rattle.trsbatch.specs.Lines.{list_refused_line}
-use Rattle.trsbatch.specs.Output.{texts, most_list_bytes, IsMissing, by_fault, by_length, IsTextOf, IsAnswer, usage, no_list, refused, answered, CanAskAgain, TouchesOnlyNeeded, IsNeeded, as_list, as_problem}
+use Rattle.trsbatch.specs.Output.{texts, most_list_bytes, IsMissing, by_fault, by_length, IsTextOf, IsAnswer, usage, no_list, refused, answered, TouchesOnlyNeeded, IsNeeded, as_list, as_problem}
 use Rattle.trsbatch.specs.Problems.{AreFetched, TouchesOnly, AreBlocksOf, plain_blocks, IsWithinLimit}
 use Rattle.trsbatch.specs.Answers.{IsListed, IsReadList, TouchesOnlyRead, TouchesOnlyListed}
 use Rattle.trsbatch.specs.declared.listed.Listed.{Listed}
 use Rattle.trsbatch.specs.declared.listed.Listed.TheVariants as listed
 use Rattle.trsbatch.specs.declared.problem.Problem.{Problem}
 use Rattle.trsbatch.specs.declared.block.Block.{Block}
-use Rattle.trsbatch.proofs.Fetching.{may_be_before, problems_before, asked_once, untouched_twice, all_within}
+use Rattle.trsbatch.proofs.Fetching.{may_be_before, problems_before, untouched_twice, all_within}
 use Rattle.trsbatch.proofs.BlocksOfNames.{blocks_of_names}
 
 -- ---- the list

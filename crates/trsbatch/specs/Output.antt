@@ -4,7 +4,7 @@ use Rattle.std.specs.List.{AllZip}
 use Rattle.std.specs.Str.{bytes_eq}
 use denote.Ref.{Bor}
 use Rattle.io_edge.specs.Edge.{Rose, RoseBy}
-use Rattle.io_edge.specs.Shelf.{ShelfMeaning, Told, ToldAbsent, MayBe, MayPass, TellsTheSame, NoCountFell, FaultRose, ReadPast, IsUntouched}
+use Rattle.io_edge.specs.Shelf.{ShelfMeaning, Told, ToldAbsent, MayBe, MayPass, CanAskAgain, FaultRose, ReadPast, IsUntouched}
 use Rattle.io_edge.specs.Sink.{SinkMeaning, AppendsTo, AppendsPrefix, NoSinkCountFell}
 use Rattle.command_line.specs.declared.Question.{Question}
 use Rattle.program_edge.specs.declared.status.Status.{Status}
@@ -108,11 +108,6 @@ IsOr wanted s = s ≡ wanted
 -- the status is the one that is asked for, unless a fault or want of memory came
 abbrev pub AnswersOnly : Option BatchAsked → ShelfMeaning → Status → Type 0
 AnswersOnly request shelf s = (wanted : Status) → IsWanted request shelf wanted → IsOr wanted s
-
--- the shelf can be asked again: it tells the same texts, and no count fell
-pub record CanAskAgain (before now : ShelfMeaning) : Type 0 where
-  pub told : TellsTheSame before now
-  pub counts : NoCountFell before now
 
 -- the program can be run again, on this shelf and this sink
 abbrev pub CanRunAgain : ShelfMeaning → ShelfMeaning → SinkMeaning → SinkMeaning → Type 0

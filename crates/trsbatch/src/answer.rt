@@ -1,7 +1,8 @@
 //! What is to be written, by what the words ask for and by the texts of the shelf.
 ghost use Rattle.std.specs.Prelude.{◌≡◌, ◌≤◌, Some, IfOk};
+ghost use Rattle.io_edge.specs.Shelf.{CanAskAgain};
 ghost use Rattle.trsbatch.specs.Words.{batch_of, batch_view};
-ghost use Rattle.trsbatch.specs.Output.{texts, IsAnswer, TouchesOnlyNeeded, CanAskAgain};
+ghost use Rattle.trsbatch.specs.Output.{texts, IsAnswer, TouchesOnlyNeeded};
 ghost use Rattle.trsbatch.specs.Answers.{status_of, text_of};
 
 use crate::beside::{blocks_alone, blocks_beside};

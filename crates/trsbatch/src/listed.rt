@@ -1,6 +1,7 @@
 //! The list, fetched and read, with its problems.
 ghost use Rattle.std.specs.Prelude.{◌≤◌, IfOk, length};
-ghost use Rattle.trsbatch.specs.Output.{most_list_bytes, CanAskAgain};
+ghost use Rattle.io_edge.specs.Shelf.{CanAskAgain};
+ghost use Rattle.trsbatch.specs.Output.{most_list_bytes};
 ghost use Rattle.trsbatch.specs.Problems.{TouchesOnly};
 ghost use Rattle.trsbatch.specs.Answers.{IsListed, IsReadList, TouchesOnlyRead, TouchesOnlyListed};
 

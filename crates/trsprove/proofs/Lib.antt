@@ -4,7 +4,6 @@ pub mod Questions
 pub mod Equations
 pub mod SampleLines
 pub mod Usage
-pub mod AskingAgain
 pub mod Absence
 pub mod Completeness
 pub mod Running

@@ -17,7 +17,7 @@ use Rattle.trsprove.specs.declared.answer.Answer.{Answer}
 use Rattle.trsprove.specs.Answers.{status_of, text_of}
 use Rattle.trsprove.specs.Answered.{IsAnswered}
 use Rattle.trsprove.proofs.Answering.{told_is, not_long, too_long_within}
-use Rattle.trsprove.proofs.AskingAgain.{once_again}
+use Rattle.io_edge.proofs.AskingAgain.{once_again}
 use Rattle.trsprove.proofs.Fetching.{fault_came, unfetched_line}
 
 -- ---- what is answered

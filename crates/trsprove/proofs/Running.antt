@@ -1,7 +1,7 @@
 -- What a run writes, by what the program knew before it wrote.
 use Rattle.std.proofs.Common.{◌≡◌, ℕ, List, Option, inl, inr, refl, sym, subst, arith}
 use Rattle.io_edge.specs.Edge.{Rose}
-use Rattle.io_edge.specs.Shelf.{ShelfMeaning, MayBe}
+use Rattle.io_edge.specs.Shelf.{ShelfMeaning, MayBe, CanAskAgain}
 use Rattle.io_edge.specs.Sink.{SinkMeaning, AppendsTo, AppendsPrefix, NoSinkCountFell}
 use Rattle.ari_text.specs.Problem.{SaysSystem}
 use Rattle.program_edge.specs.conclusion.ProofOf.{Proves}
@@ -18,7 +18,7 @@ use Rattle.command_line.specs.declared.Wanted.{Wanted}
 use Rattle.program_edge.specs.declared.status.Status.{Status}
 use Rattle.program_edge.specs.declared.status.Status.TheVariants as status
 use Rattle.program_edge.specs.LinePuts.{lines_of, ArePut, IsFrontPut}
-use Rattle.trsprove.specs.Output.{Output, usage, too_long, decided, answered, completed, sampled, AreFetched, IsAsked, AreEquations, IsAnswer, AnswersOnly, TouchesOnlyNeeded, CanAskAgain, GivesVerdict, Writes}
+use Rattle.trsprove.specs.Output.{Output, usage, too_long, decided, answered, completed, sampled, AreFetched, IsAsked, AreEquations, IsAnswer, AnswersOnly, TouchesOnlyNeeded, GivesVerdict, Writes}
 use Rattle.trsprove.specs.Verdicts.{IsWritten, with_claim, in_version_two, too_heavy, Verdict, refused, rejected, accepted}
 use Rattle.trsprove.specs.Truth.{IsTrueAnswer, by_certificate, by_proof, by_report, by_completion, by_sample}
 use Rattle.trsprove.specs.Completions.{IsCompletion, no_equations, no_order, ended}

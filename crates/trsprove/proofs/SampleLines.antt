@@ -11,7 +11,7 @@ use Rattle.trsprove.specs.Answered.{IsAnswered}
 use Rattle.trsprove.specs.Workers.{IsSampledBy}
 use Rattle.trsprove.specs.Output.{usage, too_long, decided, answered, completed, sampled, IsNeeded, as_problem, as_certificate, as_question, as_equations, as_order, IsWithin, IsAnswer, AnswersOnly}
 use Rattle.program_edge.specs.Fetching.{most_problem_bytes}
-use Rattle.trsprove.proofs.AskingAgain.{untouched_again}
+use Rattle.io_edge.proofs.AskingAgain.{untouched_again}
 
 module _ (request : Option Asked) (size workers budget : ℕ) (asks : request ≡ Some (samples size workers budget)) where
   -- the line is the answer

@@ -7,7 +7,7 @@ use Rattle.program_edge.specs.Fetching.{most_problem_bytes}
 use Rattle.trsprove.specs.declared.answer.Answer.TheVariants as answer
 use Rattle.trsprove.specs.Answered.{IsAnswered}
 use Rattle.trsprove.specs.Output.{usage, too_long, decided, answered, completed, sampled, IsNeeded, as_problem, as_certificate, as_question, as_equations, as_order, IsWithin, AnswersOnly}
-use Rattle.trsprove.proofs.AskingAgain.{untouched_again}
+use Rattle.io_edge.proofs.AskingAgain.{untouched_again}
 
 module _ (request : Option Asked) (shelf : ShelfMeaning) (none : request ≡ None) where
   not_asked : (asked : Asked) → request ≡ Some asked → ⊥

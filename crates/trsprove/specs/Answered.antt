@@ -1,10 +1,10 @@
 -- What is promised of an answer before it is written.
 use Rattle.std.specs.Prelude.{Option, Result, IfOk}
-use Rattle.io_edge.specs.Shelf.{ShelfMeaning}
+use Rattle.io_edge.specs.Shelf.{ShelfMeaning, CanAskAgain}
 use Rattle.command_line.specs.Request.{Asked}
 use Rattle.trsprove.specs.declared.answer.Answer.{Answer}
 use Rattle.trsprove.specs.Answers.{status_of, text_of}
-use Rattle.trsprove.specs.Output.{IsAnswer, AnswersOnly, TouchesOnlyNeeded, CanAskAgain}
+use Rattle.trsprove.specs.Output.{IsAnswer, AnswersOnly, TouchesOnlyNeeded}
 
 -- the answer, if memory sufficed for it, has its cause and is the defined one; no other text was touched than those that are
 -- needed, and the shelf can be asked again

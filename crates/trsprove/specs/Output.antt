@@ -1,7 +1,7 @@
 -- What the program answers: a status and a text, by what its words ask for and by the texts under their names.
 use Rattle.std.specs.Prelude.{◌≡◌, ◌⊎◌, ◌<◌, ◌≤◌, ℕ, List, map, Option, Some, None, length}
 use denote.Ref.{Bor}
-use Rattle.io_edge.specs.Shelf.{ShelfMeaning, Told, ToldAbsent, MayBe, MayPass, TellsTheSame, NoCountFell, FaultRose, ReadPast, IsUntouched}
+use Rattle.io_edge.specs.Shelf.{ShelfMeaning, Told, ToldAbsent, MayBe, MayPass, CanAskAgain, FaultRose, ReadPast, IsUntouched}
 use Rattle.io_edge.specs.Sink.{SinkMeaning, AppendsTo, AppendsPrefix, NoSinkCountFell}
 use Rattle.command_line.specs.Request.{Asked, certifies, proves, completes, samples}
 use Rattle.command_line.specs.declared.Question.{Question}
@@ -138,11 +138,6 @@ abbrev pub AnswersNoAbsence : Option Asked → ShelfMeaning → Status → Type 
 AnswersNoAbsence request shelf s = (name : List ℕ) (limit : ℕ)
     → IsNeeded request (IsWithin most_problem_bytes (Told shelf)) name limit → ToldAbsent shelf limit name
     → IsOr status.ReadFault s
-
--- the shelf can be asked again: it tells the same texts, and no count fell
-pub record CanAskAgain (before now : ShelfMeaning) : Type 0 where
-  pub told : TellsTheSame before now
-  pub counts : NoCountFell before now
 
 -- the program can be run again, on this shelf and this sink
 abbrev pub CanRunAgain : ShelfMeaning → ShelfMeaning → SinkMeaning → SinkMeaning → Type 0

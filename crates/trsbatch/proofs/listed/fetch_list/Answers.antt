@@ -1,6 +1,6 @@
 use Rattle.std.proofs.Common.{ℕ, Vec, Global}
 use Rattle.program_edge.specs.Fetching.{unfetched_status, unfetched_line}
-use Rattle.trsbatch.proofs.Fetching.{asked_once}
+use Rattle.io_edge.proofs.AskingAgain.{once_again}
 use Rattle.trsbatch.proofs.FromLists.{missing_list, read_ok, touched_list, touched_both}
 use Rattle.trsbatch.proofs.listed.fetch_list.Goals as goal
 
@@ -12,7 +12,7 @@ returns-in_err-name_fault-in-Err-clause-untouched g c =
 pub returns-in-Ok-clause-listed : goal.returns-in-Ok-clause-listed
 returns-in-Ok-clause-listed g c =
     read_ok c.args.list.now c.in-Ok.text.items c.deref.result.now (g.S.Shelf.means c.args.shelf.now) (g.S.Shelf.means c.fetch.new.self) _ c.read_and_fetch.result
-    (asked_once (g.S.Shelf.means c.args.shelf.now) (g.S.Shelf.means c.fetch.new.self) c.args.list.now c.in-Ok.ensures.told c.in-Ok.ensures.faults c.in-Ok.ensures.read)
+    (once_again (g.S.Shelf.means c.args.shelf.now) (g.S.Shelf.means c.fetch.new.self) c.args.list.now c.in-Ok.ensures.told c.in-Ok.ensures.faults c.in-Ok.ensures.read)
     c.in-Ok.ensures.whole c.in-Ok.ensures.bound c.deref.ensures.value c.read_and_fetch.ensures.read
 
 pub returns-in-Ok-clause-untouched : goal.returns-in-Ok-clause-untouched

@@ -1,5 +1,6 @@
 use Rattle.std.proofs.Common.{◌++◌, ◌∷◌, []}
-use Rattle.trsbatch.proofs.Fetching.{one_touched_at, one_more_fetched, asked_once, again_later}
+use Rattle.io_edge.proofs.AskingAgain.{once_again, twice_again}
+use Rattle.trsbatch.proofs.Fetching.{one_touched_at, one_more_fetched}
 use Rattle.trsbatch.proofs.problem.fetch_problems.Goals as goal
 
 pub returns-in_err-problem-clause-untouched : goal.returns-in_err-problem-clause-untouched
@@ -21,5 +22,5 @@ loop-name-preserved g c =
       rw c.in_ok-push.ensures.items (one_more_fetched before middle now c.args.names.now c.loop-name.problems.items c.loop-name.name-index _ c.in_ok-problem.problem
           c.loop-name-test.true c.loop-name.invariant.2 c.loop-name.invariant.0 c.in_ok-problem.ensures.name asked c.in_ok-problem.ensures.text),
       one_touched_at c.args.names.now c.loop-name.name-index before middle now _ c.loop-name-test.true c.loop-name.invariant.1 asked,
-      again_later before middle c.loop-name.invariant.2 now (asked_once middle now _ asked.told asked.faults asked.read),
+      twice_again before middle now c.loop-name.invariant.2 (once_again middle now _ asked.told asked.faults asked.read),
     )

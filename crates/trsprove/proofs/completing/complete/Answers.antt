@@ -7,7 +7,7 @@ use Rattle.program_edge.specs.Fetching.{most_problem_bytes}
 use Rattle.trsprove.specs.Answers.{status_of, text_of}
 use Rattle.trsprove.proofs.Fetching.{fault_came, not_counted, rose_by_later, may_be_before, may_pass_before, unfetched_line}
 use Rattle.trsprove.proofs.Equations.{fetched_completion, unfetched_only, completion_only, touched_first, second_fault, second_long, touched_both}
-use Rattle.trsprove.proofs.AskingAgain.{once_again, twice_again}
+use Rattle.io_edge.proofs.AskingAgain.{once_again, twice_again}
 use Rattle.trsprove.proofs.completing.complete.Goals as goal
 
 pub returns-in-Ok-fetch : goal.returns-in-Ok-fetch

@@ -1,7 +1,6 @@
 -- A shelf can be asked again after texts were fetched.
 use Rattle.std.proofs.Common.{ℕ, List, refl, ◌∙◌, arith}
-use Rattle.io_edge.specs.Shelf.{ShelfMeaning, TellsTheSame, CountsRise}
-use Rattle.trsprove.specs.Output.{CanAskAgain}
+use Rattle.io_edge.specs.Shelf.{ShelfMeaning, TellsTheSame, CountsRise, CanAskAgain}
 
 pub untouched_again : (shelf : ShelfMeaning) → CanAskAgain shelf shelf
 untouched_again shelf = record {
