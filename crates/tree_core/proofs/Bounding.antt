@@ -1,7 +1,8 @@
 -- The entries of a tree stay within their bound.
 use Rattle.std.specs.Prelude.{◌^◌, ◌*◌, not}
-use Rattle.std.proofs.Common.{◌≡◌, inl, inr, ℕ, zero, suc, ◌+◌, ◌-◌, ◌<◌, ◌≤◌, Bool, true, false, ◌||◌, cond, List, [], ◌∷◌, ◌++◌, length, length-append, map, set, Option, Some, None, slice_get, refl, sym, ap, ◌∙◌, subst, arith}
+use Rattle.std.proofs.Common.{◌≡◌, inl, inr, ℕ, zero, suc, ◌+◌, ◌-◌, ◌<◌, ◌≤◌, Bool, true, false, ◌||◌, cond, List, [], ◌∷◌, ◌++◌, length, length-append, map, set, Some, slice_get, refl, sym, ap, ◌∙◌, subst, arith}
 use Rattle.std.specs.Option.{is_some}
+use Rattle.std.proofs.lemmas.Bool.{or_cases, or_left, or_parts, or_right}
 use Rattle.trs_defs.specs.System.{System}
 use Rattle.trs_core.specs.Valid.{IsValid}
 use Rattle.tree_state.specs.cert_step.ProofProblem.{ProofProblem}
@@ -20,11 +21,10 @@ use Rattle.tree_state.specs.tree_definitions.Marks.{is_idle}
 use Rattle.tree_state.specs.tree_definitions.Questions.{roots}
 use Rattle.tree_state.specs.tree_definitions.History.{HistoryEntry, Event}
 use Rattle.tree_state.specs.tree_definitions.States.{TreeNode, State, marked, new_node, roots_from}
-use Rattle.tree_state.specs.tree_definitions.Events.{nodes_with, without}
+use Rattle.tree_state.specs.tree_definitions.Events.{nodes_with}
 use Rattle.tree_state.specs.declared.goal_state.GoalState.{GoalState}
-use Rattle.tree_state.specs.Parts.{Parts, IsOpening, is_lost_in, is_done_by, is_over_by, has_verdict_by, claimed_parts, ended_parts, failed_parts, aborted_parts, decided_parts, lost_if, all_failed}
+use Rattle.tree_state.specs.Parts.{Parts, IsOpening, is_lost_in, is_done_by, is_over_by, has_verdict_by, claimed_parts, ended_parts, failed_parts, aborted_parts, lost_if, all_failed}
 use Rattle.tree_core.specs.Bound.{count_idle, claims_of, claims_of_all, claims_left, IsBounded}
-use Rattle.tree_core.proofs.Flags.{or_cases, or_left, or_right}
 use Rattle.tree_core.proofs.Failing.{lost_grows}
 
 cond_le : (b : Bool) (n : ℕ) → cond b 0 n ≤ n
@@ -35,10 +35,6 @@ cond_le false n = omega arith
 cond_mono : (a b : Bool) (m n : ℕ) → (a ≡ true → b ≡ true) → m ≤ n → cond b 0 m ≤ cond a 0 n
 cond_mono true b m n h le = let e = h refl in rw e (omega arith)
 cond_mono false b m n h le = let c = cond_le b m in omega (arith, c, le)
-
-or_false : (a b : Bool) → (a || b) ≡ false → (a ≡ false) × (b ≡ false)
-or_false true b e = absurd cc
-or_false false b e = (refl, e)
 
 -- ---- marks and nodes
 
@@ -162,10 +158,10 @@ module _ (question : Question) (pairs : ℕ) (p : Parts) (bounded : IsBounded qu
 
     module _ (running : slice_get node.marks t.place ≡ Some Running) (wanted : is_over_by p node ≡ false) where
       live : (is_some node.decision || is_lost_in p.goals node.goal) ≡ false
-      live = (or_false (is_some node.decision || is_lost_in p.goals node.goal) (is_done_by p) wanted).0
+      live = (or_parts (is_some node.decision || is_lost_in p.goals node.goal) (is_done_by p) wanted).0
 
       was_left : claims_left pairs p ≡ claims_of_all pairs p.goals p.state.nodes
-      was_left = going_left (or_false (is_some node.decision || is_lost_in p.goals node.goal) (is_done_by p) wanted).1
+      was_left = going_left (or_parts (is_some node.decision || is_lost_in p.goals node.goal) (is_done_by p) wanted).1
 
       pub bounded_failure : (failure : Failure) → IsBounded question pairs (failed_parts p number t node failure)
       bounded_failure failure =

@@ -1,7 +1,7 @@
 -- A claim leaves a tree, and is the least that can be made.
-use Rattle.std.proofs.Common.{◌≡◌, ◌⊎◌, inl, inr, ℕ, suc, ◌<◌, ◌≤◌, Bool, true, false, ◌||◌, cond, eqb, List, [], ◌∷◌, ◌++◌, length, set, Option, Some, None, slice_get, refl, sym, ap, ◌∙◌, subst, arith}
+use Rattle.std.proofs.Common.{◌≡◌, ◌⊎◌, inl, inr, ℕ, suc, ◌<◌, ◌≤◌, Bool, true, false, ◌||◌, cond, eqb, List, [], ◌∷◌, ◌++◌, length, set, Some, None, slice_get, refl, sym, ap, ◌∙◌, subst, arith}
 use Rattle.std.specs.Option.{is_some, is_none}
-use Rattle.std.proofs.lemmas.Bool.{eqb-true}
+use Rattle.std.proofs.lemmas.Bool.{eqb-true, and_parts, or_parts}
 use Rattle.std.specs.List.{list_all}
 use Rattle.std.proofs.lemmas.Option.{slice_get_within}
 use native.Mathlib.Decide.{dec_le}
@@ -18,21 +18,21 @@ use Rattle.tree_state.specs.tree_definitions.declared.ticket.Ticket.{Ticket}
 use Rattle.tree_state.specs.tree_definitions.Questions.{goal_count}
 use Rattle.tree_state.specs.tree_definitions.Marks.{is_idle, has_failed}
 use Rattle.tree_state.specs.tree_definitions.History.{HistoryEntry, claimed, of_seat, Runs}
-use Rattle.tree_state.specs.tree_definitions.States.{TreeNode, Decided, HasTask, opening, marked}
+use Rattle.tree_state.specs.tree_definitions.States.{TreeNode, HasTask, opening, marked}
 use Rattle.tree_state.specs.tree_definitions.Verdicts.{IsWon, IsLost, HasFailed, IsDone}
 use Rattle.tree_state.specs.tree_definitions.Events.{IsFree, with_claim, Follows}
 use Rattle.tree_state.specs.tree_definitions.Legal.{Names, IsLegal}
 use Rattle.tree_state.specs.Parts.{Parts, has_verdict_by, free_place, is_lost_in, is_done_by, claimed_parts}
 use Rattle.tree_core.specs.Invariant.{IsRunningAt, IsShaped, IsTree, opens, told}
 use Rattle.tree_state.proofs.tree_definitions.Lookups.{get_set}
-use Rattle.tree_state.proofs.tree_definitions.Lookups.{one_value, set_cases, append_left, append_right, more_cases}
+use Rattle.tree_state.proofs.tree_definitions.Lookups.{none_of, not_some, one_value, set_cases, append_left, append_right, more_cases}
 use Rattle.tree_core.proofs.Marking.{carries_same, same_later, same_before, before, there_marked, length_later, legal_same, child_same, closed_same, mark_kept, mark_was, shape_marked, problems_marked}
 use Rattle.tree_core.proofs.Endings.{IsFailure, count_more, well_made_ended}
 use Rattle.tree_state.specs.strategies.TaskBounds.{pairs_in}
 use Rattle.tree_core.proofs.Counting.{counted_marked}
 use Rattle.tree_core.proofs.Bounding.{bounded_claim}
-use Rattle.tree_state.proofs.tree_definitions.Lookups.{get_below}
-use Rattle.tree_core.proofs.Flags.{and_both, no_verdict, is_lost, is_done, not_true, true_false, lost_is, some_not, all_at}
+use Rattle.tree_core.proofs.Failing.{failed_is}
+use Rattle.tree_core.proofs.Flags.{no_verdict, is_lost, is_done, not_true, true_false, lost_is, some_not, all_at}
 use Rattle.tree_state.proofs.Idle.{IsOpenAt, open_at, none_free, idle_is, not_idle}
 use Rattle.tree_core.proofs.Told.{told_claim, runs_of_claim}
 use Rattle.tree_core.proofs.Given.{given_claim, places_more}
@@ -42,31 +42,14 @@ use Rattle.tree_core.proofs.Trees.{replays_more, no_failed_running}
 idle_ok : HasFailed Idle → ⊥
 idle_ok h = let e = h.1 in absurd cc
 
-pub failed_is : (m : Mark) → has_failed m ≡ true → HasFailed m
-failed_is Idle e = absurd cc
-failed_is Running e = absurd cc
-failed_is (Failed failure) e = (failure, refl)
-
 is_running_mark : (m : Mark) → is_idle m ≡ false → has_failed m ≡ false → m ≡ Running
 is_running_mark Idle a b = absurd cc
 is_running_mark Running a b = refl
 is_running_mark (Failed failure) a b = absurd cc
 
-no_winner_of : (o : Option ℕ) → is_some o ≡ false → o ≡ None
-no_winner_of None e = refl
-no_winner_of (Some g) e = absurd cc
-
-or_none : (a b : Bool) → (a || b) ≡ false → (a ≡ false) × (b ≡ false)
-or_none true b e = absurd cc
-or_none false b e = (refl, e)
-
-none_of : (o : Option Decided) → is_none o ≡ true → o ≡ None
-none_of None e = refl
-none_of (Some d) e = absurd cc
-
 open_is : (g : ℕ) (node : TreeNode) → is_open_of g node ≡ true → (node.goal ≡ g) × (node.decision ≡ None)
 open_is g node e =
-    let b = and_both (is_none node.decision) (eqb node.goal g) e in
+    let b = and_parts (is_none node.decision) (eqb node.goal g) e in
     (eqb-true node.goal g b.1, none_of node.decision b.0)
 
 -- some node of the goal is open, or none is
@@ -88,7 +71,7 @@ module _ (question : Question) (system : System) (budget : ℕ) (p : Parts) (tre
   not_done d = true_false (is_done_by p) (is_done goals p tree.counted d) going
 
   no_winner_yet : p.state.winner ≡ None
-  no_winner_yet = no_winner_of p.state.winner (or_none (is_some p.state.winner) _ (or_none _ p.state.is_aborted going).0).0
+  no_winner_yet = not_some p.state.winner (or_parts (is_some p.state.winner) _ (or_parts _ p.state.is_aborted going).0).0
 
   not_won : (g : ℕ) → g < goals → IsWon p.state.nodes g → ⊥
   not_won = tree.counted.no_winner no_winner_yet
@@ -300,6 +283,6 @@ module _ (question : Question) (system : System) (budget : ℕ) (p : Parts) (tre
 
     pub again : (number : ℕ) × Runs number p.history
     again =
-        let verdict = (or_none (has_verdict_by p) p.state.is_aborted going).0 in
+        let verdict = (or_parts (has_verdict_by p) p.state.is_aborted going).0 in
         let g = no_verdict goals p tree.counted verdict in
         some_runs g.0 g.1 g.2

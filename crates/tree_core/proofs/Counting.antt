@@ -1,6 +1,7 @@
 -- The counts and flags of a board when a ticket has ended.
 use Rattle.std.proofs.Common.{◌≡◌, inl, inr, ℕ, ◌<◌, Bool, true, false, ◌||◌, not, List, set, Some, None, slice_get, refl, sym, ◌∙◌, subst, arith}
 use Rattle.std.specs.Option.{is_some}
+use Rattle.std.proofs.lemmas.Bool.{or_cases}
 use Rattle.tree_state.specs.declared.goal_state.GoalState.{GoalState}
 use Rattle.tree_state.specs.tree_definitions.declared.mark.Mark.{Mark}
 use Rattle.tree_state.specs.tree_definitions.declared.mark.Mark.TheVariants.{Idle}
@@ -13,7 +14,7 @@ use Rattle.tree_state.specs.Parts.{Parts, free_place, is_lost_in, is_done_by, is
 use Rattle.tree_core.specs.Invariant.{IsCounted, AreCounted}
 use Rattle.tree_core.proofs.Marking.{length_later, same_later, same_before, before, closed_same, lost_later, lost_before, opens_marked}
 use Rattle.tree_core.proofs.Endings.{count_ended}
-use Rattle.tree_core.proofs.Flags.{or_cases, true_false}
+use Rattle.tree_core.proofs.Flags.{true_false}
 
 -- of a decided node, or one of a lost goal, nothing can be claimed
 pub shut : (goals : List GoalState) (node : TreeNode) → (is_some node.decision || is_lost_in goals node.goal) ≡ true → free_place goals node ≡ None

@@ -1,6 +1,7 @@
 -- A failure is taken: the counts and flags of the board.
 use Rattle.std.proofs.Common.{◌≡◌, ◌⊎◌, inl, inr, ℕ, Bool, true, false, ◌||◌, cond, List, length, set, position, Option, Some, None, slice_get, refl, sym, ap, ◌∙◌, subst, arith}
 use Rattle.std.specs.Option.{is_some}
+use Rattle.std.proofs.lemmas.Bool.{or_from, or_left, or_parts, or_right}
 use native.Mathlib.Decide.{ℕ_discrete}
 use mathlib.Core.Logic.{dite}
 use Rattle.tree_state.specs.strategies.declared.failure.Failure.{Failure}
@@ -14,23 +15,12 @@ use Rattle.tree_state.specs.tree_definitions.Verdicts.{IsLost, IsStuck, HasFaile
 use Rattle.tree_state.specs.Parts.{Parts, free_place, is_lost_in, is_done_by, is_over_by, all_failed, lost_if, failed_parts}
 use Rattle.tree_core.specs.Invariant.{AreCounted, opens}
 use Rattle.tree_state.proofs.tree_definitions.Lookups.{get_set, get_set_other, length_set}
-use Rattle.tree_state.proofs.tree_definitions.Lookups.{one_value, set_cases, set_there}
+use Rattle.tree_state.proofs.tree_definitions.Lookups.{not_some, one_value, set_cases, set_there}
 use Rattle.tree_core.proofs.Marking.{length_later, same_later, same_before, before, there_marked, closed_same, opens_marked}
 use Rattle.tree_core.proofs.Endings.{count_ended}
 use Rattle.tree_core.proofs.Counting.{shut}
 use Rattle.tree_state.proofs.Idle.{position_set}
-use Rattle.tree_core.proofs.Flags.{or_left, or_right, all_at, all_true}
-
-some_not_none : {A : Type 0} (o : Option A) → is_some o ≡ false → o ≡ None
-some_not_none None e = refl
-some_not_none (Some x) e = absurd cc
-
-or_none : (a b : Bool) → (a || b) ≡ false → (a ≡ false) × (b ≡ false)
-or_none true b e = absurd cc
-or_none false b e = (refl, e)
-
-both_false : (a b : Bool) → a ≡ false → b ≡ false → (a || b) ≡ false
-both_false a b e f = rw (e, f) refl
+use Rattle.tree_core.proofs.Flags.{all_at, all_true}
 
 -- nothing can be claimed of a node without an idle mark
 pub none_at : (b : Bool) (o : Option ℕ) → o ≡ None → cond b None o ≡ None
@@ -86,10 +76,10 @@ lost_grows true goals g h e = go (slice_get goals g) refl
         rw (f, here_h) refl)
         (λ other. let there = get_set_other goals g h (record old { is_lost = true }) (λ q. other q) in rw (f, there) e)
 
-failed_of : (m : Mark) → has_failed m ≡ true → HasFailed m
-failed_of Idle e = absurd cc
-failed_of Running e = absurd cc
-failed_of (Failed failure) e = (failure, refl)
+pub failed_is : (m : Mark) → has_failed m ≡ true → HasFailed m
+failed_is Idle e = absurd cc
+failed_is Running e = absurd cc
+failed_is (Failed failure) e = (failure, refl)
 
 of_failed : (m : Mark) → HasFailed m → has_failed m ≡ true
 of_failed m h = rw (h.1) refl
@@ -97,13 +87,13 @@ of_failed m h = rw (h.1) refl
 module _ (goals : ℕ) (p : Parts) (c : AreCounted goals p) (number : ℕ) (t : Ticket) (there : slice_get p.state.tickets number ≡ Some t) (runs : t.is_running ≡ true)
     (node : TreeNode) (made : slice_get p.state.nodes t.node ≡ Some node) (was : slice_get node.marks t.place ≡ Some Running) (wanted : is_over_by p node ≡ false) (failure : Failure) where
   pub still_going : is_done_by p ≡ false
-  still_going = (or_none (is_some node.decision || is_lost_in p.goals node.goal) (is_done_by p) wanted).1
+  still_going = (or_parts (is_some node.decision || is_lost_in p.goals node.goal) (is_done_by p) wanted).1
 
   pub node_open : node.decision ≡ None
-  node_open = some_not_none node.decision (or_none (is_some node.decision) (is_lost_in p.goals node.goal) (or_none (is_some node.decision || is_lost_in p.goals node.goal) (is_done_by p) wanted).0).0
+  node_open = not_some node.decision (or_parts (is_some node.decision) (is_lost_in p.goals node.goal) (or_parts (is_some node.decision || is_lost_in p.goals node.goal) (is_done_by p) wanted).0).0
 
   pub goal_live : is_lost_in p.goals node.goal ≡ false
-  goal_live = (or_none (is_some node.decision) (is_lost_in p.goals node.goal) (or_none (is_some node.decision || is_lost_in p.goals node.goal) (is_done_by p) wanted).0).1
+  goal_live = (or_parts (is_some node.decision) (is_lost_in p.goals node.goal) (or_parts (is_some node.decision || is_lost_in p.goals node.goal) (is_done_by p) wanted).0).1
 
   abbrev new : TreeNode
   new = marked node t.place (Failed failure)
@@ -136,7 +126,7 @@ module _ (goals : ℕ) (p : Parts) (c : AreCounted goals p) (number : ℕ) (t : 
     node = new;
     there = there_marked p.state.nodes t.node t.place node (Failed failure) made;
     goal = refl;
-    stuck = record { is_open = node_open; failed = λ place mark at. failed_of mark (all_at has_failed new.marks all place mark at) };
+    stuck = record { is_open = node_open; failed = λ place mark at. failed_is mark (all_at has_failed new.marks all place mark at) };
   }
 
   pub counted_failed : AreCounted goals (failed_parts p number t node failure)
@@ -171,7 +161,7 @@ module _ (goals : ℕ) (p : Parts) (c : AreCounted goals p) (number : ℕ) (t : 
           | inl w ↦
               let there_n = subst (λ (j : ℕ). slice_get p.state.nodes j ≡ Some node) (sym w.0) made in
               let old = c.passed still_going k node lt there_n in
-              let pos : position is_idle node.marks ≡ None = subst (λ (z : Bool). cond z None (position is_idle node.marks) ≡ None) (both_false (is_some node.decision) (is_lost_in p.goals node.goal)
+              let pos : position is_idle node.marks ≡ None = subst (λ (z : Bool). cond z None (position is_idle node.marks) ≡ None) (or_from (is_some node.decision) (is_lost_in p.goals node.goal)
               (ap (λ (d : Option Decided). is_some d) node_open) goal_live) old in
               let pos_new : position is_idle new.marks ≡ None = position_set node.marks t.place Running (Failed failure) was refl refl ∙ pos in
               subst (λ (x : TreeNode). free_place (lost_if stuck p.goals node.goal) x ≡ None) (sym w.1)

@@ -1,7 +1,8 @@
 -- What the flags of a board say.
-use Rattle.std.proofs.Common.{◌≡◌, ◌⊎◌, inl, inr, ℕ, zero, suc, ◌<◌, Bool, true, false, ◌||◌, ◌&&◌, List, [], ◌∷◌, length, Option, Some, None, slice_get, refl, arith}
+use Rattle.std.proofs.Common.{◌≡◌, inl, inr, ℕ, zero, suc, ◌<◌, Bool, true, false, ◌||◌, ◌&&◌, List, [], ◌∷◌, Option, Some, None, slice_get, refl, arith}
 use Rattle.std.specs.Option.{is_some}
 use Rattle.std.specs.List.{list_all}
+use Rattle.std.proofs.lemmas.Bool.{and_parts, or_cases, or_left, or_right}
 use Rattle.std.proofs.lemmas.Option.{slice_get_within}
 use Rattle.tree_state.specs.declared.goal_state.GoalState.{GoalState}
 use Rattle.tree_state.specs.tree_definitions.States.{TreeNode}
@@ -11,17 +12,6 @@ use Rattle.tree_state.specs.Parts.{Parts, lost_at, is_lost_in, all_lost, has_ver
 use Rattle.tree_core.specs.Invariant.{AreCounted}
 use Rattle.tree_state.proofs.tree_definitions.Lookups.{get_below}
 
-pub or_cases : (a b : Bool) → (a || b) ≡ true → (a ≡ true) ⊎ (b ≡ true)
-or_cases true b e = inl refl
-or_cases false b e = inr e
-
-pub or_left : (a b : Bool) → a ≡ true → (a || b) ≡ true
-or_left a b e = rw e refl
-
-pub or_right : (a b : Bool) → b ≡ true → (a || b) ≡ true
-or_right true b e = refl
-or_right false b e = e
-
 pub not_true : (b : Bool) → (b ≡ true → ⊥) → b ≡ false
 not_true true h = absurd (h refl)
 not_true false h = refl
@@ -29,14 +19,10 @@ not_true false h = refl
 pub true_false : (b : Bool) → b ≡ true → b ≡ false → ⊥
 true_false b e f = cc
 
-pub and_both : (a b : Bool) → (a && b) ≡ true → (a ≡ true) × (b ≡ true)
-and_both true b e = (refl, e)
-and_both false b e = absurd cc
-
 pub all_at : {A : Type 0} (f : A → Bool) (xs : List A) → list_all f xs ≡ true → (k : ℕ) (x : A) → slice_get xs k ≡ Some x → f x ≡ true
 all_at f [] e k x there = absurd cc
-all_at f (y ∷ xs) e zero x there = let same : y ≡ x = cc in rw (← same) (and_both (f y) (list_all f xs) e).0
-all_at f (y ∷ xs) e (suc k) x there = all_at f xs (and_both (f y) (list_all f xs) e).1 k x there
+all_at f (y ∷ xs) e zero x there = let same : y ≡ x = cc in rw (← same) (and_parts (f y) (list_all f xs) e).0
+all_at f (y ∷ xs) e (suc k) x there = all_at f xs (and_parts (f y) (list_all f xs) e).1 k x there
 
 pub all_true : {A : Type 0} (f : A → Bool) (xs : List A) → ((k : ℕ) (x : A) → slice_get xs k ≡ Some x → f x ≡ true) → list_all f xs ≡ true
 all_true f [] h = refl

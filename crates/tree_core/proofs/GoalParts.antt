@@ -1,45 +1,41 @@
 -- What is reported of a goal that is lost.
-use Rattle.std.proofs.Common.{◌≡◌, inl, inr, ℕ, ◌<◌, ◌+◌, Bool, true, List, [], ◌∷◌, ◌++◌, map, length, position, Option, Some, None, slice_get, refl, sym, ap, ◌∙◌, subst, arith}
+use Rattle.std.proofs.Common.{◌≡◌, inl, inr, ℕ, ◌<◌, ◌+◌, true, List, [], ◌∷◌, ◌++◌, map, length, position, Option, Some, None, slice_get, refl, sym, ap, ◌∙◌, subst, arith}
 use Rattle.std.specs.Option.{is_none}
 use Rattle.std.specs.Prelude.{All}
 use Rattle.std.specs.List.{list_all}
+use Rattle.std.proofs.lemmas.Bool.{and_parts}
 use Rattle.std.proofs.lemmas.List.{length-append, length-map, map-append}
 use Rattle.std.proofs.lemmas.List.Elements.{All-from_recursion}
 use Rattle.std.proofs.lemmas.Option.{slice_get_within}
 use Rattle.trs_defs.specs.System.{System}
-use Rattle.tree_state.specs.cert_step.ProofProblem.{ProofProblem, problem_of}
+use Rattle.tree_state.specs.cert_step.ProofProblem.{problem_of}
 use Rattle.tree_state.specs.cert_step.ProofStep.{ProofNodeStep, node_step_of, IsWellMade}
 use Rattle.tree_state.specs.strategies.Kinds.{strategies_for}
 use Rattle.tree_state.specs.tree_definitions.declared.question.Question.{Question}
-use Rattle.tree_state.specs.tree_definitions.declared.mark.Mark.{Mark}
 use Rattle.tree_state.specs.tree_definitions.declared.report.GoalReport.{GoalReport}
 use Rattle.tree_state.specs.tree_definitions.Marks.{has_failed}
 use Rattle.tree_state.specs.tree_definitions.Questions.{goal_count}
-use Rattle.tree_state.specs.tree_definitions.States.{TreeNode, Decided}
-use Rattle.tree_state.specs.tree_definitions.Verdicts.{IsLost, IsStuck, HasFailed}
+use Rattle.tree_state.specs.tree_definitions.States.{TreeNode}
+use Rattle.tree_state.specs.tree_definitions.Verdicts.{IsLost, IsStuck}
 use Rattle.tree_state.specs.tree_definitions.Reports.{Walks, steps_from, Part, failed_of, part_of, IsTruePart, ArePartsOf, IsTrueReport}
 use Rattle.tree_state.specs.tree_definitions.Trees.{ProofTree}
 use Rattle.tree_state.specs.Parts.{Parts, all_failed}
 use Rattle.tree_state.specs.Stuck.{is_stuck, is_stuck_at, failures}
 use Rattle.tree_state.proofs.Idle.{IsFirstAt, first_position, no_position}
-use Rattle.tree_state.proofs.tree_definitions.Lookups.{one_value, more_cases}
+use Rattle.tree_state.proofs.tree_definitions.Lookups.{none_of, one_value, more_cases}
 use Rattle.tree_core.specs.Invariant.{IsTree}
 use Rattle.tree_core.specs.Reported.{IsReported}
-use Rattle.tree_core.proofs.Flags.{and_both, all_at, all_true}
-use Rattle.tree_core.proofs.Claiming.{failed_is}
+use Rattle.tree_core.proofs.Flags.{all_at, all_true}
+use Rattle.tree_core.proofs.Failing.{failed_is}
 use Rattle.tree_core.proofs.Accepted.{steps_well_made}
 use Rattle.tree_core.proofs.Lost.{stuck_walked, stuck_part}
 use Rattle.tree_core.proofs.Trees.{tree_of}
 
-no_decision : (o : Option Decided) → is_none o ≡ true → o ≡ None
-no_decision None e = refl
-no_decision (Some d) e = absurd cc
-
 read_stuck : (o : Option TreeNode) → is_stuck o ≡ true → (node : TreeNode) × (o ≡ Some node) × IsStuck node
 read_stuck None e = absurd cc
 read_stuck (Some node) e =
-    let b = and_both (is_none node.decision) (all_failed node.marks) e in
-    (node, refl, record { is_open = no_decision node.decision b.0; failed = λ place mark at. failed_is mark (all_at has_failed node.marks b.1 place mark at) })
+    let b = and_parts (is_none node.decision) (all_failed node.marks) e in
+    (node, refl, record { is_open = none_of node.decision b.0; failed = λ place mark at. failed_is mark (all_at has_failed node.marks b.1 place mark at) })
 
 stuck_seen : (o : Option TreeNode) (node : TreeNode) → o ≡ Some node → IsStuck node → is_stuck o ≡ true
 stuck_seen o node there stuck =

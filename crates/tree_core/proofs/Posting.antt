@@ -1,7 +1,7 @@
 -- A post leaves a tree.
-use Rattle.std.proofs.Common.{◌≡◌, ◌≢◌, inl, inr, ℕ, zero, suc, ◌<◌, ◌≤◌, ◌+◌, ◌-◌, ◌==◌, Bool, true, false, ◌||◌, cond, List, [], ◌∷◌, ◌++◌, length, map, set, Option, Some, None, slice_get, refl, sym, ap, ◌∙◌, subst, arith}
+use Rattle.std.proofs.Common.{◌≡◌, ◌≢◌, inl, inr, ℕ, zero, suc, ◌<◌, ◌≤◌, ◌+◌, ◌-◌, ◌==◌, Bool, true, false, cond, List, [], ◌∷◌, ◌++◌, length, map, set, Option, Some, None, slice_get, refl, sym, ap, ◌∙◌, subst, arith}
 use Rattle.std.specs.Option.{is_some}
-use Rattle.std.proofs.lemmas.Bool.{eqb-true, eqb-false}
+use Rattle.std.proofs.lemmas.Bool.{eqb-true, eqb-false, or_left, or_parts}
 use native.Mathlib.Decide.{ℕ_discrete}
 use mathlib.Core.Logic.{dite}
 use Rattle.trs_defs.specs.System.{System}
@@ -29,7 +29,7 @@ use Rattle.tree_state.specs.Parts.{Parts, HasTicket, free_place, is_lost_in, los
 use Rattle.tree_state.specs.tree_definitions.Replies.{IsTaskOf, event_of_found}
 use Rattle.tree_core.specs.Invariant.{IsTree, IsShaped, AreCounted, IsCounted, opens}
 use Rattle.tree_state.proofs.tree_definitions.Lookups.{get_set, get_set_other, length_set}
-use Rattle.tree_state.proofs.tree_definitions.Lookups.{one_value, set_cases}
+use Rattle.tree_state.proofs.tree_definitions.Lookups.{not_some, one_value, set_cases}
 use Rattle.tree_state.proofs.Changes.{set_twice}
 use Rattle.tree_core.proofs.Marking.{carries_same, there_marked, before, same_later, same_before, closed_same, length_later, problems_marked}
 use Rattle.tree_core.proofs.Endings.{IsFailure, shape_ended, legal_ended, well_made_ended, count_ended}
@@ -193,15 +193,7 @@ module _ (question : Question) (system : System) (budget : ℕ) (p : Parts) (tre
       }
 
       no_winner_yet : p.state.winner ≡ None
-      no_winner_yet = none_of p.state.winner (first_false (is_some p.state.winner) _ (first_false _ p.state.is_aborted going))
-        where
-          first_false : (a b : Bool) → (a || b) ≡ false → a ≡ false
-          first_false true b e = absurd cc
-          first_false false b e = refl
-
-          none_of : (o : Option ℕ) → is_some o ≡ false → o ≡ None
-          none_of None e = refl
-          none_of (Some x) e = absurd cc
+      no_winner_yet = not_some p.state.winner (or_parts (is_some p.state.winner) _ (or_parts _ p.state.is_aborted going).0).0
 
       shrinks : tasks_of_all (pairs_in system) left ≤ tasks_below (pairs_in system) h.node.problem
       shrinks = found_shrinks system budget strategy h.node.problem step left (tree.well_made n h.node h.made) is.finds is.applies
@@ -354,10 +346,7 @@ module _ (question : Question) (system : System) (budget : ℕ) (p : Parts) (tre
                 | inl w ↦ absurd (ne w.0)
                 | inr w ↦ subst (λ (x : TreeNode). free_place more x ≡ None) (sym w.1) (free_more p.goals more lost_flag b.0 (tree.counted.passed going k b.0 lt b.1))
               ]
-          go k y lt (deciding.here e is_shut) = shut more y (let d = ap (λ (x : TreeNode). is_some x.decision) is_shut in or_some (is_some y.decision) (is_lost_in more y.goal) d)
-            where
-              or_some : (a b : Bool) → a ≡ true → (a || b) ≡ true
-              or_some a b e = rw e refl
+          go k y lt (deciding.here e is_shut) = shut more y (let d = ap (λ (x : TreeNode). is_some x.decision) is_shut in or_left (is_some y.decision) (is_lost_in more y.goal) d)
           go k y lt (deciding.new j q e t is_new) =
               let len = length_later p.state.nodes n h.ticket.place h.node Idle h.made in
               absurd (omega (arith, lt, tree.counted.cursor, e, len))

@@ -1,5 +1,6 @@
 -- Each call leaves a tree.
 use Rattle.std.proofs.Common.{◌≡◌, inl, inr, ℕ, ◌<◌, Bool, true, false, ◌||◌, not, List, [], ◌∷◌, ◌++◌, set, Some, slice_get, refl, sym, ap, ◌∙◌, subst}
+use Rattle.std.proofs.lemmas.Bool.{or_right}
 use Rattle.std.proofs.lemmas.Option.{slice_get_within}
 use Rattle.trs_defs.specs.System.{System}
 use Rattle.tree_state.specs.cert_step.ProofProblem.{ProofProblem}
@@ -21,7 +22,7 @@ use Rattle.tree_core.specs.Invariant.{IsTree}
 use Rattle.tree_state.proofs.tree_definitions.Lookups.{one_value}
 use Rattle.tree_core.proofs.Told.{runs_there, told_ending, runs_of_seat}
 use Rattle.tree_core.proofs.Given.{given_ending, places_ended}
-use Rattle.tree_core.proofs.Flags.{over_is, is_over, verdict_is, has_verdict, or_right, true_false}
+use Rattle.tree_core.proofs.Flags.{over_is, is_over, verdict_is, has_verdict, true_false}
 use Rattle.tree_core.proofs.Endings.{was_running, shape_ended, legal_ended, well_made_ended}
 use Rattle.tree_state.specs.strategies.TaskBounds.{pairs_in}
 use Rattle.tree_core.proofs.Counting.{some_run, some_room, counted_late, counted_aborted}

@@ -7,13 +7,10 @@ use Rattle.tree_state.specs.declared.goal_state.GoalState.{GoalState}
 use Rattle.tree_state.specs.declared.node.Node.{Node}
 use Rattle.tree_definitions.specs.History.{HistoryEntry}
 use Rattle.tree_definitions.specs.States.{TreeNode}
+use Rattle.tree_definitions.proofs.Lookups.{not_some}
 use Rattle.tree_state.specs.Seen.{node_of}
 use Rattle.tree_state.specs.Parts.{free_place}
 use Rattle.tree_state.proofs.SeenNodes.{seen_at}
-
-is_none : {A : Type 0} (o : Option A) → is_some o ≡ false → o ≡ None
-is_none None e = refl
-is_none (Some x) e = absurd cc
 
 there_at : (h : List HistoryEntry) (nodes : List Node) (k : ℕ) (x : Node) → k < length nodes → x ≡ get_or nodes k x → slice_get (map (node_of h) nodes) k ≡ Some (node_of h x)
 there_at h nodes k x lt is =
@@ -36,7 +33,7 @@ none_there goals nodes k x place is free none h j node below there before = go (
         let at : j ≡ k = eqb-true j k e in
         let here : slice_get (map (node_of h) nodes) k ≡ Some node = rw (← at) there in
         let same = seen_at h nodes k x node is here in
-        subst (λ (y : TreeNode). free_place goals y ≡ None) same (sym (free h) ∙ is_none place none)
+        subst (λ (y : TreeNode). free_place goals y ≡ None) same (sym (free h) ∙ not_some place none)
     go false e = let ne = eqb-false j k e in before (omega (arith, below, ne)) there
 
 pub match_option : {A : Type 0} {P P' : Type 0} {Q Q' : A → Type 0} (o : Option A) → (P → P') → ((x : A) → Q x → Q' x) → MatchOption o P Q → MatchOption o P' Q'
