@@ -19,7 +19,7 @@ use Rattle.tree_state.specs.tree_definitions.Questions.{goal_count}
 use Rattle.tree_state.specs.tree_definitions.Marks.{is_idle, has_failed}
 use Rattle.tree_state.specs.tree_definitions.History.{HistoryEntry, claimed, of_seat, Runs}
 use Rattle.tree_state.specs.tree_definitions.States.{TreeNode, HasTask, opening, marked}
-use Rattle.tree_state.specs.tree_definitions.Verdicts.{IsWon, IsLost, HasFailed, IsDone}
+use Rattle.tree_state.specs.tree_definitions.Verdicts.{IsWon, IsLost, IsDone}
 use Rattle.tree_state.specs.tree_definitions.Events.{IsFree, with_claim, Follows}
 use Rattle.tree_state.specs.tree_definitions.Legal.{Names, IsLegal}
 use Rattle.tree_state.specs.Parts.{Parts, has_verdict_by, free_place, is_lost_in, is_done_by, claimed_parts}
@@ -29,7 +29,7 @@ use Rattle.tree_state.proofs.tree_definitions.Lookups.{none_of, not_some, one_va
 use Rattle.tree_core.proofs.Marking.{carries_same, same_later, same_before, before, there_marked, length_later, legal_same, child_same, closed_same, mark_kept, mark_was, shape_marked, problems_marked}
 use Rattle.tree_core.proofs.Endings.{IsFailure, count_more, well_made_ended}
 use Rattle.tree_state.specs.strategies.TaskBounds.{pairs_in}
-use Rattle.tree_core.proofs.Counting.{counted_marked}
+use Rattle.tree_core.proofs.Counting.{counted_marked, idle_ok}
 use Rattle.tree_core.proofs.Bounding.{bounded_claim}
 use Rattle.tree_core.proofs.Failing.{failed_is}
 use Rattle.tree_core.proofs.Flags.{no_verdict, is_lost, is_done, not_true, true_false, lost_is, some_not, all_at}
@@ -38,9 +38,6 @@ use Rattle.tree_core.proofs.Told.{told_claim, runs_of_claim}
 use Rattle.tree_core.proofs.Given.{given_claim, places_more}
 use Rattle.tree_core.proofs.Won.{none_open_won, is_open_of}
 use Rattle.tree_core.proofs.Trees.{replays_more, no_failed_running}
-
-idle_ok : HasFailed Idle → ⊥
-idle_ok h = let e = h.1 in absurd cc
 
 is_running_mark : (m : Mark) → is_idle m ≡ false → has_failed m ≡ false → m ≡ Running
 is_running_mark Idle a b = absurd cc

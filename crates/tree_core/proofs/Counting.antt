@@ -20,6 +20,9 @@ use Rattle.tree_core.proofs.Flags.{true_false}
 pub shut : (goals : List GoalState) (node : TreeNode) → (is_some node.decision || is_lost_in goals node.goal) ≡ true → free_place goals node ≡ None
 shut goals node e = rw e refl
 
+pub idle_ok : HasFailed Idle → ⊥
+idle_ok h = let e = h.1 in absurd cc
+
 pub counted_marked : (nodes : List TreeNode) (n place : ℕ) (node : TreeNode) (mark old : Mark) → slice_get nodes n ≡ Some node → slice_get node.marks place ≡ Some old
     → (HasFailed old → ⊥) → (HasFailed mark → ⊥) → (g : ℕ) (goal : GoalState) → IsCounted nodes g goal → IsCounted (set nodes n (marked node place mark)) g goal
 counted_marked nodes n place node mark old there was old_ok new_ok g goal h = record {
@@ -45,7 +48,6 @@ module _ (goals : ℕ) (p : Parts) (c : AreCounted goals p) (number : ℕ) (t : 
         → AreCounted goals after
     counted_ended passed =
         let nodes = p.state.nodes in
-        let idle_ok : HasFailed Idle → ⊥ = λ h. let e = h.1 in absurd cc in
         record {
           length_is = c.length_is;
           each = λ g goal here. counted_marked nodes t.node t.place node Idle old made was old_ok idle_ok g goal (c.each g goal here);

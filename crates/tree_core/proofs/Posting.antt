@@ -22,7 +22,7 @@ use Rattle.tree_state.specs.tree_definitions.declared.ticket.Ticket.{Ticket}
 use Rattle.tree_state.specs.tree_definitions.Questions.{goal_count}
 use Rattle.tree_state.specs.tree_definitions.History.{HistoryEntry, Event, claimed, found, failed}
 use Rattle.tree_state.specs.tree_definitions.States.{TreeNode, State, opening, marked, new_node}
-use Rattle.tree_state.specs.tree_definitions.Verdicts.{IsWon, HasFailed, IsFirstWinner}
+use Rattle.tree_state.specs.tree_definitions.Verdicts.{IsWon, IsFirstWinner}
 use Rattle.tree_state.specs.tree_definitions.Events.{Follows, IsOver, ended, nodes_with, without}
 use Rattle.tree_state.specs.tree_definitions.Legal.{IsLegal, Carries}
 use Rattle.tree_state.specs.Parts.{Parts, HasTicket, free_place, is_lost_in, lost_at, is_done_by, is_over_by, failed_parts, decided_parts, opened, winner_after, no_open_nodes}
@@ -33,7 +33,7 @@ use Rattle.tree_state.proofs.tree_definitions.Lookups.{not_some, one_value, set_
 use Rattle.tree_state.proofs.Changes.{set_twice}
 use Rattle.tree_core.proofs.Marking.{carries_same, there_marked, before, same_later, same_before, closed_same, length_later, problems_marked}
 use Rattle.tree_core.proofs.Endings.{IsFailure, shape_ended, legal_ended, well_made_ended, count_ended}
-use Rattle.tree_core.proofs.Counting.{counted_marked, shut}
+use Rattle.tree_core.proofs.Counting.{counted_marked, idle_ok, shut}
 use Rattle.tree_core.proofs.Failing.{still_going, node_open, counted_failed, free_more}
 use Rattle.tree_core.proofs.Deciding as deciding
 use Rattle.tree_core.proofs.Deciding.{At}
@@ -60,9 +60,6 @@ opened_is goals g count old e = rw e refl
 pub no_claim : (f : Found) (problem : ProofProblem) (strategy : Strategy) → event_of_found f ≡ claimed problem strategy → ⊥
 no_claim (run.found step left) problem strategy e = absurd cc
 no_claim (run.failed failure) problem strategy e = absurd cc
-
-idle_ok : HasFailed Idle → ⊥
-idle_ok h = let e = h.1 in absurd cc
 
 module _ (question : Question) (system : System) (budget : ℕ) (p : Parts) (tree : IsTree question system budget p) (number : ℕ) (h : HasTicket p number) where
   abbrev goals : ℕ
