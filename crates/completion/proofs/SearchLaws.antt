@@ -118,17 +118,17 @@ module _ (rules : List RewriteRule) (t : Tree) where
       go (zero ∷ p) e = absurd (nowhere rules t u 0 p e (no_place_zero t) r)
       go (suc m ∷ p) e = omega arith
 
+  argument_is : (n m : ℕ) (a : Tree) → argument_at t (n + 1) ≡ Some a → m ≡ n + 1 → argument_at t m ≡ Some a
+  argument_is n m a there e = ap (argument_at t) e ∙ there
+
   module _ (n : ℕ) (h : HasNoneUpTo rules t n) where
     pub past_next : (a : Tree) → argument_at t (n + 1) ≡ Some a → HasNoPlace rules a → HasNoneUpTo rules t (n + 1)
     past_next a there none u r = go u.place refl (h u r)
       where
-        at : (m : ℕ) → m ≡ n + 1 → argument_at t m ≡ Some a
-        at m e = ap (argument_at t) e ∙ there
-
         go : (q : List ℕ) → u.place ≡ q → BeginsBehind n q → BeginsBehind (n + 1) q
         go [] e b = b
         go (m ∷ p) e less = elim (dec_le m (n + 1)) as (λ _. n + 1 < m) [
-          | yes k ↦ absurd (none (record { place = p; rule = u.rule }) (inside rules t a m (at m (omega (arith, k, less))) u p e r))
+          | yes k ↦ absurd (none (record { place = p; rule = u.rule }) (inside rules t a m (argument_is n m a there (omega (arith, k, less))) u p e r))
           | no k ↦ omega (arith, k)
         ]
 
@@ -152,14 +152,11 @@ module _ (rules : List RewriteRule) (t : Tree) where
         below u q e (inr (inl earlier)) = inr (inl (subst (IsEarlier ((n + 1) ∷ p)) (sym e) (inr (refl, earlier))))
         below u q e (inr (inr (same, less))) = inr (inr (ap (λ x. (n + 1) ∷ x) same ∙ sym e, less))
 
-        at : (m : ℕ) → m ≡ n + 1 → argument_at t m ≡ Some a
-        at m e = ap (argument_at t) e ∙ there
-
         go : (u : PlacedRule) → IsRedexAt rules t u → (q : List ℕ) → u.place ≡ q → BeginsBehind n q → IsFirstOf (record { place = (n + 1) ∷ p; rule = k }) u
         go u r [] e b = absurd b
         go u r (m ∷ q) e less = elim (dec_le m (n + 1)) as (λ _. IsFirstOf (record { place = (n + 1) ∷ p; rule = k }) u) [
           | yes h ↦ (let same : m ≡ n + 1 = omega (arith, h, less) in
-              below u q (e ∙ ap (λ x. x ∷ q) same) (f.first (record { place = q; rule = u.rule }) (inside rules t a m (at m same) u q e r)))
+              below u q (e ∙ ap (λ x. x ∷ q) same) (f.first (record { place = q; rule = u.rule }) (inside rules t a m (argument_is n m a there same) u q e r)))
           | no h ↦ (let more : n + 1 < m = omega (arith, h) in inr (inl (subst (IsEarlier ((n + 1) ∷ p)) (sym e) (inl more))))
         ]
 
