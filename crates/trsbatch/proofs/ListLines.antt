@@ -1,6 +1,6 @@
 -- Lines of a list that are passed one after the other.
 use Rattle.std.proofs.Common.{◌≡◌, ◌≢◌, ◌==◌, ◌≤◌, ◌<◌, ◌+◌, ◌⊎◌, inl, inr, ℕ, List, [], ◌∷◌, ◌++◌, length, false, Option, Some, None, Err, refl, sym, ap, subst, ◌∙◌, append_assoc, length-append, map, arith}
-use Rattle.std.proofs.lemmas.List.{length-map}
+use Rattle.std.proofs.lemmas.List.{append-nil, length-map}
 use Rattle.std.proofs.lemmas.List.Elements.{All-head, All-tail}
 use denote.Ref.{Bor}
 use Rattle.trsbatch.specs.ListText.{lines_of, on_first, bare, named, names_on, IsGoodLine, AreGood, ArePassed, most_names, SaysNames, IsListRefused, IsRefusedBehind}
@@ -49,11 +49,7 @@ one_behind : (front : List (List ℕ)) (line : List ℕ) (rest : List (List ℕ)
 one_behind front line rest = sym (append_assoc front (line ∷ []) rest)
 
 pub names_behind : (front : List (List ℕ)) (line : List ℕ) → names_on (front ++ line ∷ []) ≡ names_on front ++ named (bare line)
-names_behind [] line = append_none (named (bare line))
-  where
-    append_none : (xs : List (List ℕ)) → xs ++ [] ≡ xs
-    append_none [] = refl
-    append_none (x ∷ xs) = ap (λ r. x ∷ r) (append_none xs)
+names_behind [] line = append-nil (named (bare line))
 names_behind (x ∷ front) line =
     ap (λ r. named (bare x) ++ r) (names_behind front line) ∙ sym (append_assoc (named (bare x)) (names_on front) (named (bare line)))
 
@@ -127,15 +123,11 @@ module _ (text : List ℕ) (names : List (List ℕ)) (rest : Bor (List ℕ)) (nu
 
 pub all_read : (text : List ℕ) (names : List (List ℕ)) (number : ℕ) → AreRead text names None number → SaysNames text names
 all_read text names number so_far =
-    let all : lines_of text ≡ so_far.front = so_far.lines ∙ append_none so_far.front in
+    let all : lines_of text ≡ so_far.front = so_far.lines ∙ append-nil so_far.front in
     record {
       passed = subst ArePassed (sym all) so_far.passed;
       said = so_far.said ∙ ap names_on (sym all);
     }
-  where
-    append_none : (xs : List (List ℕ)) → xs ++ [] ≡ xs
-    append_none [] = refl
-    append_none (x ∷ xs) = ap (λ r. x ∷ r) (append_none xs)
 
 -- the most names, counted as they lie in memory
 pub few_in_memory : (names : List (Bor (List ℕ))) → length (map (λ n. n.now) names) ≤ most_names → length names ≤ most_names

@@ -17,7 +17,7 @@ use Rattle.program_edge.specs.declared.status.Status.TheVariants as status
 use Rattle.program_edge.specs.Fetching.{most_problem_bytes, IsUnfetched}
 use Rattle.trsprove.specs.Completions.{IsCompletion, no_equations, no_order, ended, most_order_bytes}
 use Rattle.trsprove.specs.Output.{AreEquations, Output, usage, too_long, decided, answered, completed, sampled, IsNeeded, as_problem, as_certificate, as_question, as_equations, as_order, IsWithin, IsTooLong, WasFetched, IsAnswer, IsOr, AnswersOnly, TouchesOnlyNeeded}
-use Rattle.trsprove.proofs.Fetching.{may_be_before, IsFault, IsLong}
+use Rattle.trsprove.proofs.Fetching.{may_be_before, was_fetched, IsFault, IsLong}
 use Rattle.trsprove.proofs.Answering.{told_is, not_long, too_long_within}
 
 -- ---- what is answered
@@ -153,11 +153,8 @@ touched_first p c budget before now faults bytes name = go (same_or_not name p)
 -- a text of the problem was fetched, and then the order was asked for
 module _ (p c : List ℕ) (budget : ℕ) (text : List ℕ) (before middle now : ShelfMeaning) (may_be : MayBe before p text) (bound : length text ≤ most_problem_bytes)
     (same : (q : List ℕ) → middle.faults q ≡ before.faults q) where
-  was_fetched : now.faults p ≡ middle.faults p → WasFetched before now p
-  was_fetched kept = (kept ∙ same p, (text, may_be, bound))
-
   needed_order : now.faults p ≡ middle.faults p → IsNeeded (Some (completes p c budget)) (WasFetched before now) c most_order_bytes
-  needed_order kept = as_order p c budget refl (was_fetched kept)
+  needed_order kept = as_order p c budget refl (was_fetched p text before middle now may_be bound same kept)
 
   -- it is too long
   pub second_long : ((q : List ℕ) → now.faults q ≡ middle.faults q) → MayPass most_order_bytes before c → ReadPast most_order_bytes before now c

@@ -94,14 +94,16 @@ touched_first wanted p c before now faults bytes name = go (same_or_not name p)
     go (inl e) = inr (subst (IsNeededOnce wanted p c before now) (sym e) (most_problem_bytes, as_problem wanted p c refl))
     go (inr ne) = inl (faults.others name ne, bytes.others name ne)
 
+-- a text of the problem was fetched, and no fault came under its name since
+pub was_fetched : (p text : List ℕ) (before middle now : ShelfMeaning) → MayBe before p text → length text ≤ most_problem_bytes
+    → ((q : List ℕ) → middle.faults q ≡ before.faults q) → now.faults p ≡ middle.faults p → WasFetched before now p
+was_fetched p text before middle now may_be bound same kept = (kept ∙ same p, (text, may_be, bound))
+
 -- a text of the problem was fetched, and then the certificate was asked for
 module _ (wanted : Wanted) (p c text : List ℕ) (before middle now : ShelfMeaning) (may_be : MayBe before p text) (bound : length text ≤ most_problem_bytes)
     (same : (q : List ℕ) → middle.faults q ≡ before.faults q) where
-  was_fetched : now.faults p ≡ middle.faults p → WasFetched before now p
-  was_fetched kept = (kept ∙ same p, (text, may_be, bound))
-
   needed_certificate : now.faults p ≡ middle.faults p → IsNeeded (Some (certifies wanted p c)) (WasFetched before now) c most_certificate_bytes
-  needed_certificate kept = as_certificate wanted p c refl (was_fetched kept)
+  needed_certificate kept = as_certificate wanted p c refl (was_fetched p text before middle now may_be bound same kept)
 
   -- it is too long
   pub second_long : ((q : List ℕ) → now.faults q ≡ middle.faults q) → MayPass most_certificate_bytes before c → ReadPast most_certificate_bytes before now c
