@@ -1,6 +1,7 @@
 -- What the strategies fork and split find meets the conditions of a fork.
-use Rattle.std.specs.Prelude.{◌≡◌, ◌≢◌, ℕ, Bool, true, false, ◌&&◌, List, [], Ok, IsTrue, refl}
+use Rattle.std.specs.Prelude.{◌≡◌, ◌≢◌, ℕ, ◌&&◌, List, [], Ok, IsTrue, refl}
 use Rattle.std.proofs.Common.{ap, sym, ◌∙◌, subst, inl, inr}
+use Rattle.std.proofs.lemmas.Bool.{and_parts}
 use Rattle.trs_defs.specs.Member.{In, in_first, in_rest}
 use Rattle.trs_defs.proofs.Members.{in_or, no_in}
 use Rattle.trs_defs.specs.Tree.{Tree}
@@ -39,10 +40,6 @@ record IsPeak (system : System) (peak : PlacedPeak) : Type 0 where
   to_left : StepsAt system.rules peak.place peak.inner peak.top peak.left
   to_right : StepsAt system.rules [] peak.outer peak.top peak.right
 
-both : (a b : Bool) → IsTrue (a && b) → IsTrue a × IsTrue b
-both true b h = (refl, h)
-both false b h = absurd cc
-
 module _ (system : System) (valid : IsSystem system) where
   peak_at : (s : Spot) (peak : PlacedPeak) → IsPeakAt system.rules s peak → IsTrue (is_small peak) → IsPeak system peak
   peak_at s peak h small =
@@ -50,8 +47,8 @@ module _ (system : System) (valid : IsSystem system) where
       let outer = valid.each s.outer h.outer h.outer_numbered in
       let steps : HasSteps system.rules s.inner s.outer s.place (plain peak) =
       peak_steps system.rules h.inner h.outer s.inner s.outer s.place (plain peak) h.inner_numbered h.outer_numbered h.critical in
-      let limits = both (within_limits peak.top) (within_limits peak.left && within_limits peak.right) small in
-      let sides = both (within_limits peak.left) (within_limits peak.right) limits.1 in
+      let limits = and_parts (within_limits peak.top) (within_limits peak.left && within_limits peak.right) small in
+      let sides = and_parts (within_limits peak.left) (within_limits peak.right) limits.1 in
       let L : List ℕ → ℕ → Type 0 = λ p k. StepsAt system.rules p k peak.top peak.left in
       record {
         top = limits.0;

@@ -1,16 +1,16 @@
 -- The sides of critical peaks are small: no symbol has more than 255 arguments.
-use Rattle.std.specs.Prelude.{◌≡◌, ◌<◌, ◌≤◌, ℕ, ◌+◌, Bool, true, false, cond, ◌&&◌, leb, List, [], ◌∷◌, Some, Ok, IsTrue, slice_get, refl}
-use Rattle.std.proofs.Common.{zero, suc, ap, subst, sym, ◌∙◌, arith, inl, inr, ◌⊎◌}
+use Rattle.std.specs.Prelude.{◌≡◌, ◌<◌, ◌≤◌, ℕ, ◌+◌, Bool, true, false, ◌&&◌, leb, List, [], ◌∷◌, Some, Ok, IsTrue, slice_get, refl}
+use Rattle.std.proofs.Common.{zero, suc, ap, subst, sym, ◌∙◌, arith, inl, inr}
+use Rattle.std.proofs.lemmas.Bool.{and_parts}
 use Rattle.std.proofs.lemmas.Bool.Decides.{nat_tests}
 use Rattle.std.proofs.lemmas.Option.{same_Some, option_and_then_some}
-use Rattle.trs_defs.specs.Member.{In, in_first, in_rest}
 use Rattle.trs_defs.specs.Tree.{Tree, Trees, var, app, nil, cons, count, items}
 use Rattle.trs_defs.specs.Size.{within_limits}
 use Rattle.trs_defs.specs.Substitution.{apply, apply_all}
 use Rattle.trs_defs.specs.Renaming.{shifted}
 use Rattle.trs_defs.specs.Unifier.{IsMostGeneralUnifier}
 use Rattle.trs_defs.specs.System.{System, IsSystem, RewriteRule}
-use Rattle.trs_defs.specs.Step.{Inside, here}
+use Rattle.trs_defs.specs.Step.{here}
 use Rattle.trs_defs.specs.Position.{subterm_at, replaced_at}
 use Rattle.trs_defs.proofs.Contexts.{inside_at}
 use Rattle.trs_defs.proofs.Members.{in_or}
@@ -18,12 +18,11 @@ use Rattle.trs_defs.proofs.Substitutions.{apply_apply, same_instance}
 use Rattle.trs_defs.proofs.ArgumentLists.{count_apply_all}
 use Rattle.term_pool.specs.Redexes.{IsNarrow, AreNarrow}
 use Rattle.term_pool.proofs.NarrowLaws.{narrow_of_well_formed, narrow_inside}
-use Rattle.term_pool.proofs.ListingLaws.{either_way}
 use Rattle.rewrite_core.specs.PlacedPeak.{PlacedPeak}
 use Rattle.closed_pairs.specs.crit_pairs.PlainPeak.{plain}
 use Rattle.closed_pairs.specs.crit_pairs.PeakList.{Spot, Lists, at_end, no_overlap, one_peak, IsPeakAt, is_small, ListsPeaks}
 use Rattle.confluence_theory.specs.CriticalPeak.{IsCriticalPeak}
-use Rattle.join_find.specs.Sides.{IsSide, HasSides, HaveSides}
+use Rattle.join_find.specs.Sides.{HasSides, HaveSides}
 
 -- ---- instances
 
@@ -157,16 +156,12 @@ module _ (system : System) (is : IsSystem system) (small : (f n : ℕ) → slice
       let r = is.each k rule numbered in
       (narrow_of_well_formed system.arities small rule.left r.left_well_formed, narrow_of_well_formed system.arities small rule.right r.right_well_formed)
 
-  first_true : (a b : Bool) → IsTrue (a && b) → IsTrue a × IsTrue b
-  first_true true b h = (refl, h)
-  first_true false b h = absurd cc
-
   sides_of_peak : (s : Spot) (peak : PlacedPeak) → IsPeakAt system.rules s peak → IsTrue (is_small peak) → HasSides peak
   sides_of_peak s peak h limits =
       let inner = narrow_rule s.inner h.inner h.inner_numbered in
       let outer = narrow_rule s.outer h.outer h.outer_numbered in
       let sides = narrow_sides h.inner h.outer s.place peak inner.0 inner.1 outer.0 outer.1 h.critical in
-      let two = first_true (within_limits peak.left) (within_limits peak.right) (first_true (within_limits peak.top) (within_limits peak.left && within_limits peak.right) limits).1 in
+      let two = and_parts (within_limits peak.left) (within_limits peak.right) (and_parts (within_limits peak.top) (within_limits peak.left && within_limits peak.right) limits).1 in
       record { left = record { small = two.0; narrow = sides.0 }; right = record { small = two.1; narrow = sides.1 } }
 
   sides_of_listed : (total : ℕ) (spots : List Spot) (peaks : List PlacedPeak) → Lists system.rules total spots (Ok peaks) → HaveSides peaks
