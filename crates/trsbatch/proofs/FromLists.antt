@@ -1,9 +1,9 @@
 -- What the program answers, by what its list comes to.
-use Rattle.std.proofs.Common.{◌≡◌, ◌≢◌, ◌≤◌, ◌⊎◌, inl, inr, ℕ, List, Option, Some, None, Result, Ok, Err, IfOk, IsErrOf, length, refl, sym, subst, ◌∙◌, arith, Contains, Vec, Global}
+use Rattle.std.proofs.Common.{◌≡◌, ◌≢◌, ◌≤◌, ◌⊎◌, inl, inr, ℕ, List, Option, Some, Result, Ok, Err, IfOk, IsErrOf, length, refl, sym, subst, ◌∙◌, arith, Contains, Vec, Global}
 use Rattle.std.specs.List.{All}
 use denote.Ref.{Bor}
-use Rattle.io_edge.specs.Shelf.{ShelfMeaning, MayBe, MayPass, TellsTheSame, CanAskAgain, CountsRise, CountsFault, FaultRose, ReadPast, IsUntouched}
-use Rattle.io_edge.specs.Edge.{Rose, next_count}
+use Rattle.io_edge.specs.Shelf.{ShelfMeaning, MayBe, MayPass, CanAskAgain, CountsRise, CountsFault, FaultRose, ReadPast, IsUntouched}
+use Rattle.io_edge.specs.Edge.{next_count}
 use Rattle.io_edge.specs.declared.fault.FetchFault.{FetchFault}
 use Rattle.io_edge.specs.declared.fault.FetchFault.TheVariants as fetch
 use Rattle.io_edge.proofs.Counting.{same_or_not}
@@ -11,19 +11,18 @@ use Rattle.program_edge.specs.declared.status.Status.{Status}
 use Rattle.program_edge.specs.declared.status.Status.TheVariants as status
 use Rattle.program_edge.specs.Fetching.{IsUnfetched, unfetched_status, unfetched_line}
 use Rattle.program_edge.specs.declared.fetching.Unfetched.{Unfetched}
-use Rattle.program_edge.specs.Lines.{read_fault_line, too_long_line}
-use Rattle.trsbatch.specs.ListText.{SaysNames, IsListRefused}
+use Rattle.trsbatch.specs.ListText.{SaysNames}
 use Rattle.trsbatch.specs.Words.{BatchAsked}
 use Rattle.trsbatch.specs.Blocks.{blocks_text}
 use Rattle.trsbatch.specs.Lines.{list_refused_line}
-use Rattle.trsbatch.specs.Output.{texts, most_list_bytes, IsMissing, by_fault, by_length, IsTextOf, IsAnswer, usage, no_list, refused, answered, TouchesOnlyNeeded, IsNeeded, as_list, as_problem}
+use Rattle.trsbatch.specs.Output.{texts, most_list_bytes, IsMissing, by_fault, by_length, IsTextOf, IsAnswer, no_list, refused, answered, TouchesOnlyNeeded, IsNeeded, as_list, as_problem}
 use Rattle.trsbatch.specs.Problems.{AreFetched, TouchesOnly, AreBlocksOf, plain_blocks, IsWithinLimit}
 use Rattle.trsbatch.specs.Answers.{IsListed, IsReadList, TouchesOnlyRead, TouchesOnlyListed}
 use Rattle.trsbatch.specs.declared.listed.Listed.{Listed}
 use Rattle.trsbatch.specs.declared.listed.Listed.TheVariants as listed
 use Rattle.trsbatch.specs.declared.problem.Problem.{Problem}
 use Rattle.trsbatch.specs.declared.block.Block.{Block}
-use Rattle.trsbatch.proofs.Fetching.{may_be_before, problems_before, untouched_twice, all_within}
+use Rattle.trsbatch.proofs.Fetching.{problems_before, untouched_twice, all_within}
 use Rattle.trsbatch.proofs.BlocksOfNames.{blocks_of_names}
 
 -- ---- the list

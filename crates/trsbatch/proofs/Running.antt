@@ -1,16 +1,14 @@
 -- What a run writes, by what the program knew before it wrote.
-use Rattle.std.proofs.Common.{◌≡◌, ◌≢◌, ◌≤◌, ◌<◌, ◌+◌, ◌⊎◌, inl, inr, ℕ, List, [], ◌∷◌, ◌++◌, length, map, Option, Some, None, Result, Ok, Err, OnOk, OnErr, IfOk, refl, sym, ap, subst, ◌∙◌, arith, Contains}
-use denote.Ref.{Bor}
-use Rattle.io_edge.specs.Edge.{Rose, RoseBy, next_count}
+use Rattle.std.proofs.Common.{◌≡◌, ◌≢◌, ◌≤◌, ◌<◌, ℕ, List, length, Option, Some, None, refl, sym, subst, arith}
 use Rattle.io_edge.specs.Telling.{CanBe, CanPass}
-use Rattle.io_edge.specs.Shelf.{ShelfMeaning, Told, ToldAbsent, MayBe, MayPass, CanAskAgain, IsUntouched}
+use Rattle.io_edge.specs.Shelf.{ShelfMeaning, Told, ToldAbsent, MayBe, MayPass, CanAskAgain}
 use Rattle.io_edge.specs.Sink.{SinkMeaning, AppendsTo, NoSinkCountFell}
 use Rattle.program_edge.specs.declared.status.Status.{Status}
 use Rattle.program_edge.specs.declared.status.Status.TheVariants as status
 use Rattle.program_edge.specs.LinePuts.{lines_of, ArePut}
 use Rattle.trsbatch.specs.ListText.{SaysNames, IsListRefused}
 use Rattle.trsbatch.specs.Words.{BatchAsked}
-use Rattle.trsbatch.specs.Output.{most_list_bytes, IsMissing, by_fault, by_length, IsTextOf, IsAnswer, usage, no_list, refused, answered, Writes, IsWanted, for_usage, for_absence, for_length, for_refusal, for_names, IsOr, AnswersOnly, TouchesOnlyNeeded}
+use Rattle.trsbatch.specs.Output.{most_list_bytes, IsMissing, by_fault, by_length, IsTextOf, IsAnswer, usage, no_list, refused, answered, Writes, for_usage, for_absence, for_length, for_refusal, for_names, AnswersOnly, TouchesOnlyNeeded}
 use Rattle.trsbatch.specs.Answers.{IsWritten, whole, part}
 use Rattle.trsbatch.specs.Run.{IsRun}
 use Rattle.trsbatch.proofs.OneReading.{not_both}
