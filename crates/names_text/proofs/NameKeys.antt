@@ -1,7 +1,7 @@
 -- Names that are found by two trees.
-use Rattle.std.proofs.Common.{◌≡◌, ℕ, zero, suc, ◌+◌, Bool, true, false, cond, not, ◌||◌, ◌&&◌, List, [], ◌∷◌, ◌++◌, Option, Some, None, option_map, unwrap_or, is_some, map, ◌^◌, Result, Ok, Err, slice_get, Vec, Global, refl, ap, ap₂, sym, subst, ◌∙◌, ◌<◌, length, length-append, arith, add-one}
+use Rattle.std.proofs.Common.{◌≡◌, ℕ, zero, suc, ◌+◌, Bool, true, false, cond, not, ◌||◌, ◌&&◌, List, [], ◌∷◌, ◌++◌, Option, Some, None, option_map, unwrap_or, is_some, map, ◌^◌, Result, Ok, Err, slice_get, Vec, Global, refl, ap, ap₂, sym, subst, ◌∙◌, ◌<◌, length, length-append, arith}
 use Rattle.std.specs.Str.{bytes_eq}
-use Rattle.std.specs.List.{list_any, position, position_from}
+use Rattle.std.specs.List.{list_any}
 use Rattle.std.specs.Option.{option_or, option_map_or}
 use Rattle.std.specs.Result.{OnOk, is_ok}
 use Rattle.std.specs.Ordering.{is_eq, nat_cmp, eq_by_cmp, MatchOrdering}
@@ -12,25 +12,11 @@ use Rattle.std.specs.BTreeMap.{BTreeMap, get, UpdatesBy, is_at as tested}
 use Rattle.std.specs.Map.{KeepsOthers, lookup}
 use Rattle.std.proofs.lemmas.Bool.{false_from_ne_true, false≢true}
 use Rattle.std.proofs.lemmas.Cmp.{nat_list_eq_equiv, nat_list_cmp_total, nat_cmp_total, eq_by_cmp_equiv, tied_itself, ranked}
-use Rattle.std.proofs.lemmas.Iterator.Adapters.{position_from-zero}
 use Rattle.std.proofs.lemmas.List.Folds.{list_any-append}
 use Rattle.std.proofs.lemmas.Map.Text.{is_eq-slice_cmp}
 use Rattle.std.proofs.lemmas.Slice.Eq.{bytes_eq-Decides}
 use Rattle.names_text.specs.Names.{number_among, are_distinct}
 use Rattle.names_text.specs.NameTable.{hash_of, number_by, own_number, IsNameTable}
-
-module _ {K : Type 0} (test : K → Bool) where
-  next_behind : (b : Bool) (i : ℕ) (o p : Option ℕ) → o ≡ option_map suc p → cond b (Some (i + 1)) o ≡ option_map suc (cond b (Some i) p)
-  next_behind true i o p e = rw add-one refl
-  next_behind false i o p e = e
-
-  position_later : (xs : List K) (i : ℕ) → position_from test (i + 1) xs ≡ option_map suc (position_from test i xs)
-  position_later [] i = refl
-  position_later (x ∷ xs) i = next_behind (test x) i _ _ (position_later xs (i + 1))
-
-  pub position_next : (x : K) (xs : List K) → position test (x ∷ xs) ≡ cond (test x) (Some 0) (option_map suc (position test xs))
-  position_next x xs =
-      position_from-zero test (x ∷ xs) ∙ ap (λ o. cond (test x) (Some 0) o) (position_later xs 0 ∙ ap (option_map suc) (sym (position_from-zero test xs)))
 
 absent_behind : (b rest : Bool) (o : Option ℕ) → cond b (Some 0) (option_map suc o) ≡ None → (o ≡ None → rest ≡ false) → (b || rest) ≡ false
 absent_behind true rest o e h = absurd cc

@@ -6,12 +6,13 @@ use Rattle.std.proofs.lemmas.List.{append-nil}
 use Rattle.sexp_core.specs.Tokens.{class_of, is_letter}
 use Rattle.trs_defs.specs.System.{System}
 use Rattle.trs_core.specs.Valid.{IsValid}
+use Rattle.trs_core.proofs.FirstPlaces.{position_next}
 use Rattle.names_text.specs.declared.names_fault.NamesFault.{NamesFault}
 use Rattle.names_text.specs.declared.names_fault.NamesFault.TheVariants.{Count, BadName, TooDeep, BadNumbering, OutOfMemory}
 use Rattle.names_text.specs.Names.{number_among, are_distinct}
 use Rattle.names_text.specs.Named.{IsNamed, is_word, is_shallow, is_numbered}
 use Rattle.names_text.specs.NamesFault.{first_bad_name, rules_fault, names_fault, FailsBy}
-use Rattle.names_text.proofs.NameKeys.{absent, distinct_last, position_next}
+use Rattle.names_text.proofs.NameKeys.{absent, distinct_last}
 
 -- a word is a run of letters that is not empty
 pub word_test : (bs : List ℕ) → 0 < length bs → is_word bs ≡ list_all (λ x. is_letter (class_of x)) bs

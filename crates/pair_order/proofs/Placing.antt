@@ -1,14 +1,14 @@
 -- Symbols that a set holds in order, and the entries that stand at their places.
 use Rattle.std.specs.Prelude.{◌==◌}
-use Rattle.std.proofs.Common.{◌≡◌, ℕ, suc, ◌+◌, ◌||◌, Bool, true, false, cond, List, [], ◌∷◌, ◌++◌, map, Option, Some, None, option_map, option_and_then, slice_get, length, get_or, ◌<◌, nat_eq, refl, ap, ap₂, sym, ◌∙◌, add-one}
+use Rattle.std.proofs.Common.{◌≡◌, ℕ, suc, ◌||◌, Bool, true, false, cond, List, [], ◌∷◌, ◌++◌, map, Option, Some, None, option_map, option_and_then, slice_get, length, get_or, ◌<◌, nat_eq, refl, ap, ap₂, sym, ◌∙◌}
 use Rattle.std.specs.Borrow.{Bor}
 use Rattle.std.specs.Option.{option_copied}
 use Rattle.std.specs.Slice.{IsItemAt}
-use Rattle.std.specs.List.{list_any, position, position_from}
+use Rattle.std.specs.List.{list_any, position}
 use Rattle.std.proofs.lemmas.Option.{slice_get_read, slice_get_past, slice_get-map}
 use Rattle.std.proofs.lemmas.Cmp.{nat_eq_equiv}
-use Rattle.std.proofs.lemmas.Iterator.Adapters.{position_from-zero}
 use Rattle.trs_defs.specs.Variable.{is_listed}
+use Rattle.trs_core.proofs.FirstPlaces.{position_next}
 use Rattle.pair_order.specs.Entries.{place_among, with_symbol, entry_of}
 
 pub listed_any : (f : ℕ) (gs : List ℕ) → list_any (nat_eq f) gs ≡ is_listed f gs
@@ -17,19 +17,6 @@ listed_any f (g ∷ gs) = ap₂ (λ a b. a || b) (nat_eq_equiv.symm f g) (listed
 
 pub symbols_inserted : (f : ℕ) (gs more : List ℕ) → more ≡ cond (list_any (nat_eq f) gs) gs (gs ++ f ∷ []) → more ≡ with_symbol gs f
 symbols_inserted f gs more e = e ∙ ap (λ b. cond b gs (gs ++ f ∷ [])) (listed_any f gs)
-
-module _ (test : ℕ → Bool) where
-  next_behind : (b : Bool) (i : ℕ) (o p : Option ℕ) → o ≡ option_map suc p → cond b (Some (i + 1)) o ≡ option_map suc (cond b (Some i) p)
-  next_behind true i o p e = rw add-one refl
-  next_behind false i o p e = e
-
-  position_later : (xs : List ℕ) (i : ℕ) → position_from test (i + 1) xs ≡ option_map suc (position_from test i xs)
-  position_later [] i = refl
-  position_later (x ∷ xs) i = next_behind (test x) i _ _ (position_later xs (i + 1))
-
-  position_next : (x : ℕ) (xs : List ℕ) → position test (x ∷ xs) ≡ cond (test x) (Some 0) (option_map suc (position test xs))
-  position_next x xs =
-      position_from-zero test (x ∷ xs) ∙ ap (λ o. cond (test x) (Some 0) o) (position_later xs 0 ∙ ap (option_map suc) (sym (position_from-zero test xs)))
 
 pub place_at : (f : ℕ) (gs : List ℕ) → position (λ g. nat_eq f g) gs ≡ place_among gs f
 place_at f [] = refl

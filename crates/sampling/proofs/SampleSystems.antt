@@ -11,7 +11,7 @@ use Rattle.names_text.specs.Named.{is_shallow, is_numbered}
 use Rattle.names_text.specs.declared.names_fault.NamesFault.{NamesFault}
 use Rattle.names_text.specs.declared.names_fault.NamesFault.TheVariants.{Count, BadName, TooDeep, BadNumbering, OutOfMemory}
 use Rattle.names_text.specs.NamesFault.{rules_fault, names_fault, FailsBy}
-use Rattle.names_text.proofs.NameKeys.{position_next}
+use Rattle.trs_core.proofs.FirstPlaces.{position_next}
 use Rattle.sampling.specs.Family.{rules_to, names_to, arities_to, sample}
 use Rattle.sampling.specs.FamilyLaws.{length-rules}
 use Rattle.sampling.proofs.SampleNames.{good_names, length-names_to}

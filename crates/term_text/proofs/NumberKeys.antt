@@ -4,7 +4,7 @@ use Rattle.std.specs.List.{list_any, position}
 use Rattle.std.proofs.lemmas.Cmp.{nat_eq_equiv}
 use Rattle.trs_defs.specs.Tree.{var}
 use Rattle.trs_defs.specs.Variable.{is_listed, with_variables}
-use Rattle.names_text.proofs.NameKeys.{position_next}
+use Rattle.trs_core.proofs.FirstPlaces.{position_next}
 use Rattle.term_text.specs.Renumbered.{number_among}
 
 listed_any : (v : ℕ) (ks : List ℕ) → list_any (nat_eq v) ks ≡ is_listed v ks

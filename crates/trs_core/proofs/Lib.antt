@@ -2,6 +2,7 @@ pub mod Absent
 pub mod Arities
 pub mod Comparing
 pub mod EachVariable
+pub mod FirstPlaces
 pub mod Linearity
 pub mod Lookups
 pub mod MatchSteps
