@@ -1,10 +1,11 @@
 -- The search for a Knuth-Bendix order by the numbers of its slots and constraints.
 use Rattle.std.specs.Prelude.{◌≡◌, ◌<◌, ◌≤◌, ℕ, ◌+◌, ◌-◌, ◌*◌, ◌/◌, ◌%◌, Bool, true, false, ◌||◌, ◌==◌, if◌then◌else◌, List, [], ◌∷◌, ◌++◌, length, get_or, map, Option, Some, None, slice_get}
-use Rattle.std.proofs.Common.{zero, suc, sym, ap, ap₂, arith, ◌∙◌}
+use Rattle.std.proofs.Common.{suc, sym, ap, ap₂, arith, ◌∙◌}
 use Rattle.std.proofs.lemmas.Bool.Decides.{nat_tests}
 use Rattle.std.proofs.lemmas.List.{length-append, length-map}
 use Rattle.trs_defs.specs.System.{RewriteRule}
 use Rattle.trs_defs.proofs.Members.{in_of_get, in_right}
+use Rattle.trs_defs.proofs.ListItems.{image_item}
 use Rattle.kbo_order.specs.declared.entries.KboEntry.{KboEntry}
 use Rattle.kbo_order.specs.Table.{weight_in, rank_in}
 use Rattle.assign_search.specs.Rest.{reach}
@@ -21,11 +22,6 @@ use Rattle.kbo_find.specs.KboRow.{entry_by, kbo_search}
 use Rattle.kbo_find.specs.KboPlaces.{asked_of, uses_by, falls_by}
 use Rattle.kbo_find.specs.declared.tops.Top.{Top}
 use Rattle.kbo_find.proofs.KboEntries.{weak_by_entries, some_by_entries}
-
-get_mapped : {A B : Type 0} (f : A → B) (xs : List A) (c : ℕ) (x : A) → slice_get xs c ≡ Some x → slice_get (map f xs) c ≡ Some (f x)
-get_mapped f [] c x e = absurd cc
-get_mapped f (y ∷ xs) zero x e = let same : y ≡ x = cc in ap (λ z. Some (f z)) same
-get_mapped f (y ∷ xs) (suc c) x e = get_mapped f xs c x e
 
 test_turned : (a b : ℕ) → (a == b) ≡ (b == a)
 test_turned a b = grind (arith, nat_tests)
@@ -89,7 +85,7 @@ module _ (arities symbols : List ℕ) (rules pairs : List RewriteRule) where
         omega (arith, all, same, mapped)
 
     number_there : (c : ℕ) (top : Top) → slice_get tops c ≡ Some top → slice_get (kbo_tops (arity_with_mark arities) symbols) c ≡ Some (asked_of top)
-    number_there c top e = ap (λ (l : List OrderConstraint). slice_get l c) (sym are) ∙ get_mapped asked_of tops c top e
+    number_there c top e = ap (λ (l : List OrderConstraint). slice_get l c) (sym are) ∙ image_item asked_of tops c top e
 
     pub number_behind : (c : ℕ) → slice_get tops c ≡ None → c ≡ length (kbo_tops (arity_with_mark arities) symbols) + (c - length tops)
     number_behind c e =

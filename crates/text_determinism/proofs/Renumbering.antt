@@ -4,8 +4,9 @@ use Rattle.std.specs.Option.{option_map}
 use Rattle.conclusion.specs.tree_definitions.States.{TreeNode, State, Decided, IsChild}
 use Rattle.conclusion.specs.tree_definitions.Verdicts.{IsClosed, closed, IsStuck, IsLost, HasVerdict, IsDone, IsFirstWinner}
 use Rattle.conclusion.specs.tree_definitions.Events.{IsFree, IsOver, decided, lost, done}
-use Rattle.conclusion.proofs.tree_definitions.Lookups.{map_there, map_cases}
+use Rattle.conclusion.proofs.tree_definitions.Lookups.{map_cases}
 use Rattle.text_determinism.specs.AnswerLaws.{renumbered}
+use Rattle.trs_defs.proofs.ListItems.{image_item}
 
 abbrev pub renumbered_decided : Decided → Decided
 renumbered_decided d = record { step = renumbered d.step; first = d.first; count = d.count }
@@ -34,7 +35,7 @@ some_before (Some c) d e = (c, refl, cc)
 
 module _ (nodes : List TreeNode) where
   pub there_again : (n : ℕ) (node : TreeNode) → slice_get nodes n ≡ Some node → slice_get (renumbered_nodes nodes) n ≡ Some (renumbered_node node)
-  there_again n node there = map_there renumbered_node nodes n node there
+  there_again n node there = image_item renumbered_node nodes n node there
 
   pub there_before : (n : ℕ) (node : TreeNode) → slice_get (renumbered_nodes nodes) n ≡ Some node
       → (x : TreeNode) × (slice_get nodes n ≡ Some x) × (node ≡ renumbered_node x)

@@ -7,6 +7,7 @@ use Rattle.std.proofs.lemmas.Option.{slice_get_within}
 use native.Mathlib.Decide.{dec_le}
 use mathlib.Core.Logic.{dite}
 use Rattle.trs_defs.specs.System.{System}
+use Rattle.trs_defs.proofs.ListItems.{kept_item}
 use Rattle.tree_state.specs.cert_step.ProofProblem.{ProofProblem}
 use Rattle.tree_state.specs.strategies.declared.strategy.Strategy.{Strategy}
 use Rattle.tree_state.specs.strategies.Kinds.{strategies_for}
@@ -25,7 +26,7 @@ use Rattle.tree_state.specs.tree_definitions.Legal.{Names, IsLegal}
 use Rattle.tree_state.specs.Parts.{Parts, has_verdict_by, free_place, is_lost_in, is_done_by, claimed_parts}
 use Rattle.tree_core.specs.Invariant.{IsRunningAt, IsShaped, IsTree, opens, told}
 use Rattle.tree_state.proofs.tree_definitions.Lookups.{get_set}
-use Rattle.tree_state.proofs.tree_definitions.Lookups.{none_of, not_some, one_value, set_cases, append_left, append_right, more_cases}
+use Rattle.tree_state.proofs.tree_definitions.Lookups.{none_of, not_some, one_value, set_cases, append_right, more_cases}
 use Rattle.tree_core.proofs.Marking.{carries_same, same_later, same_before, before, there_marked, length_later, legal_same, child_same, closed_same, mark_kept, mark_was, shape_marked, problems_marked}
 use Rattle.tree_core.proofs.Endings.{IsFailure, count_more, well_made_ended}
 use Rattle.tree_state.specs.strategies.TaskBounds.{pairs_in}
@@ -147,7 +148,7 @@ module _ (question : Question) (system : System) (budget : ℕ) (p : Parts) (tre
           (λ k j h. elim (mark_was goals p.state tree.shaped n place node Running there Idle idle k j h) [
             | inl w ↦
                 let x = tree.shaped.held k j w.0 in
-                record { number = x.number; ticket = x.ticket; there = append_left p.state.tickets (ticket ∷ []) x.number x.ticket x.there; runs = x.runs; node_is = x.node_is; place_is = x.place_is }
+                record { number = x.number; ticket = x.ticket; there = kept_item p.state.tickets (ticket ∷ []) x.number x.ticket x.there; runs = x.runs; node_is = x.node_is; place_is = x.place_is }
             | inr w ↦ record {
               number = length p.state.tickets;
               ticket = ticket;

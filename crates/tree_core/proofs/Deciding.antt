@@ -6,6 +6,7 @@ use native.Mathlib.Decide.{ℕ_discrete}
 use mathlib.Core.Logic.{dite}
 use Rattle.trs_defs.specs.System.{System}
 use Rattle.trs_defs.specs.Member.{In}
+use Rattle.trs_defs.proofs.ListItems.{kept_item, image_item, item_there}
 use Rattle.tree_state.specs.cert_step.ProofProblem.{ProofProblem, IsWellMadeProblem}
 use Rattle.tree_state.specs.cert_step.ProofStep.{ProofStep, IsWellMade}
 use Rattle.tree_state.specs.cert_step.Applies.{Applies}
@@ -20,8 +21,7 @@ use Rattle.tree_state.specs.tree_definitions.Verdicts.{IsLost, IsStuck}
 use Rattle.tree_state.specs.tree_definitions.Legal.{Carries, IsLegallyDecided, IsChildOf, IsLegal}
 use Rattle.tree_core.specs.Invariant.{IsOf, IsRunningAt, IsShaped, opens}
 use Rattle.tree_state.proofs.tree_definitions.Lookups.{get_set, length_set}
-use Rattle.tree_state.proofs.tree_definitions.Lookups.{one_value, set_cases, set_there, append_left, append_right, append_cases, map_there, map_cases}
-use Rattle.tree_state.proofs.tree_definitions.Lookups.{get_below}
+use Rattle.tree_state.proofs.tree_definitions.Lookups.{one_value, set_cases, set_there, append_right, append_cases, map_cases}
 use Rattle.tree_core.proofs.Opening.{idle_marks, some_strategy}
 use Rattle.tree_core.proofs.Won.{is_open_of, open_of, other_of}
 
@@ -68,13 +68,13 @@ module _ (goals : ℕ) (system : System) (budget : ℕ) (s : State) (shaped : Is
   ]
 
   there_old : (k : ℕ) (x : TreeNode) → k ≢ n → slice_get s.nodes k ≡ Some x → slice_get later k ≡ Some x
-  there_old k x ne at = append_left (set s.nodes n shut_node) (map (new_node node.goal) left) k x (set_there s.nodes n k shut_node x ne at)
+  there_old k x ne at = kept_item (set s.nodes n shut_node) (map (new_node node.goal) left) k x (set_there s.nodes n k shut_node x ne at)
 
   pub there_shut : slice_get later n ≡ Some shut_node
-  there_shut = append_left (set s.nodes n shut_node) (map (new_node node.goal) left) n shut_node (get_set s.nodes n shut_node node there)
+  there_shut = kept_item (set s.nodes n shut_node) (map (new_node node.goal) left) n shut_node (get_set s.nodes n shut_node node there)
 
   there_new : (j : ℕ) (q : ProofProblem) → slice_get left j ≡ Some q → slice_get later (length s.nodes + j) ≡ Some (new_node node.goal q)
-  there_new j q at = append_right (set s.nodes n shut_node) (map (new_node node.goal) left) j (length s.nodes + j) (new_node node.goal q) (omega (arith, len)) (map_there (new_node node.goal) left j q at)
+  there_new j q at = append_right (set s.nodes n shut_node) (map (new_node node.goal) left) j (length s.nodes + j) (new_node node.goal q) (omega (arith, len)) (image_item (new_node node.goal) left j q at)
 
   -- each node stands there as before, but for its decision
   pub still : (k : ℕ) (x : TreeNode) → slice_get s.nodes k ≡ Some x → (y : TreeNode) × (slice_get later k ≡ Some y) × (y.goal ≡ x.goal) × (y.problem ≡ x.problem) × (y.marks ≡ x.marks)
@@ -125,7 +125,7 @@ module _ (goals : ℕ) (system : System) (budget : ℕ) (s : State) (shaped : Is
           let same : decision ≡ d = cc in
           let range = subst (λ (z : Decided). IsChild z c) (sym same) child in
           let lt = slice_get_within s.nodes n node there in
-          let q = get_below left (c - length s.nodes) (omega (arith, range.0, range.1)) in
+          let q = item_there left (c - length s.nodes) (omega (arith, range.0, range.1)) in
           let at = there_new (c - length s.nodes) q.0 q.1 in
           let c_is : length s.nodes + (c - length s.nodes) ≡ c = omega (arith, range.0) in
           (omega (arith, lt, range.0, e), record { node = new_node node.goal q.0; there = subst (λ (k : ℕ). slice_get later k ≡ Some (new_node node.goal q.0)) c_is at; goal_is = ap (λ (z : TreeNode). z.goal) (sym is) })

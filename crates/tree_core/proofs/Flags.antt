@@ -10,7 +10,7 @@ use Rattle.tree_state.specs.tree_definitions.Verdicts.{IsLost, AllLost, HasVerdi
 use Rattle.tree_state.specs.tree_definitions.Events.{IsOver, decided, lost, done}
 use Rattle.tree_state.specs.Parts.{Parts, lost_at, is_lost_in, all_lost, has_verdict_by, is_done_by, is_over_by}
 use Rattle.tree_core.specs.Invariant.{AreCounted}
-use Rattle.tree_state.proofs.tree_definitions.Lookups.{get_below}
+use Rattle.trs_defs.proofs.ListItems.{item_there}
 
 pub not_true : (b : Bool) → (b ≡ true → ⊥) → b ≡ false
 not_true true h = absurd (h refl)
@@ -54,13 +54,13 @@ module _ (goals : ℕ) (p : Parts) (c : AreCounted goals p) where
 
   pub is_lost : (g : ℕ) → g < goals → IsLost p.state.nodes g → is_lost_in p.goals g ≡ true
   is_lost g lt h =
-      let there = get_below p.goals g (omega (arith, lt, c.length_is)) in
+      let there = item_there p.goals g (omega (arith, lt, c.length_is)) in
       let flag = (c.each g there.0 there.1).not_lost h in
       rw there.1 flag
 
   pub all_lost_is : all_lost p.goals ≡ true → AllLost goals p.state.nodes
   all_lost_is e g lt =
-      let there = get_below p.goals g (omega (arith, lt, c.length_is)) in
+      let there = item_there p.goals g (omega (arith, lt, c.length_is)) in
       (c.each g there.0 there.1).lost (all_at (λ (x : GoalState). x.is_lost) p.goals e g there.0 there.1)
 
   pub are_all_lost : AllLost goals p.state.nodes → all_lost p.goals ≡ true

@@ -1,13 +1,14 @@
 -- What one more entry leaves of the tasks for which tickets were given.
 use Rattle.std.proofs.Common.{◌≡◌, ◌⊎◌, inl, inr, ℕ, false, List, [], ◌∷◌, ◌++◌, set, Some, slice_get, refl, sym, ap, ◌∙◌, subst}
 use Rattle.trs_defs.specs.Member.{In, in_first, in_rest}
+use Rattle.trs_defs.proofs.ListItems.{kept_item}
 use Rattle.tree_state.specs.cert_step.ProofProblem.{ProofProblem}
 use Rattle.tree_state.specs.strategies.declared.strategy.Strategy.{Strategy}
 use Rattle.tree_state.specs.strategies.Kinds.{strategies_for}
 use Rattle.tree_state.specs.tree_definitions.declared.ticket.Ticket.{Ticket}
 use Rattle.tree_state.specs.tree_definitions.History.{HistoryEntry, claimed, IsGiven}
 use Rattle.tree_state.specs.tree_definitions.States.{TreeNode, State, HasTask}
-use Rattle.tree_state.proofs.tree_definitions.Lookups.{one_value, get_set, set_there, append_left}
+use Rattle.tree_state.proofs.tree_definitions.Lookups.{one_value, get_set, set_there}
 use Rattle.tree_core.specs.Invariant.{AreTasks}
 use native.Mathlib.Decide.{ℕ_discrete}
 use mathlib.Core.Logic.{dite}
@@ -79,4 +80,4 @@ places_ended tickets number t there k u here = dite (ℕ_discrete k number)
 
 -- one more ticket
 pub places_more : (tickets : List Ticket) (t : Ticket) → KeepPlaces tickets (tickets ++ t ∷ [])
-places_more tickets t k u here = (u, append_left tickets (t ∷ []) k u here, refl, refl)
+places_more tickets t k u here = (u, kept_item tickets (t ∷ []) k u here, refl, refl)

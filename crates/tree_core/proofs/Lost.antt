@@ -5,6 +5,7 @@ use native.Mathlib.Decide.{dec_le}
 use mathlib.Core.Logic.{dite}
 use Rattle.trs_defs.specs.System.{System}
 use Rattle.trs_defs.specs.Member.{In, in_first, in_rest}
+use Rattle.trs_defs.proofs.ListItems.{image_item}
 use Rattle.tree_state.specs.cert_step.ProofProblem.{ProofProblem}
 use Rattle.tree_state.specs.cert_step.ProofStep.{ProofStep}
 use Rattle.tree_state.specs.cert_step.Applies.{Applies}
@@ -26,7 +27,7 @@ use Rattle.tree_state.specs.Parts.{Parts}
 use Rattle.tree_state.specs.Stuck.{is_spent, failures}
 use Rattle.tree_core.specs.Invariant.{IsTree}
 use Rattle.tree_state.specs.tree_definitions.Reports.{Walks, ends, stays, goes_on, steps_from, decision_at, numbers, children_of, failure_by, failed_of, AllFail, IsTruePart}
-use Rattle.tree_state.proofs.tree_definitions.Lookups.{one_value, map_there}
+use Rattle.tree_state.proofs.tree_definitions.Lookups.{one_value}
 use Rattle.tree_core.proofs.Walks.{walk_makes, walked, waits, problem_in}
 
 in_left : {A : Type 0} (x : A) (xs ys : List A) → In x xs → In x (xs ++ ys)
@@ -144,7 +145,7 @@ module _ (question : Question) (system : System) (budget : ℕ) (p : Parts) (tre
         nodes = map (walked system nodes view keeps root legal) order;
         makes = subst (λ (x : cert.Node). Makes system (x ∷ []) (steps_from nodes 0 order) (map (walked system nodes view keeps root legal) order)) first
             (walk_makes system nodes view keeps root legal (g ∷ []) order w []);
-        there = map_there (walked system nodes view keeps root legal) order k n at ∙ ap (λ (x : cert.Node). Some x) here;
+        there = image_item (walked system nodes view keeps root legal) order k n at ∙ ap (λ (x : cert.Node). Some x) here;
         failed = all_fail system budget node.problem (strategies_for node.problem) node.marks (tree.shaped.fits n node there)
             stuck.failed (λ j failure f. tree.legal.failed n j node failure there f);
       }

@@ -4,6 +4,7 @@ use Rattle.std.proofs.lemmas.List.{length-append}
 use Rattle.trs_defs.specs.System.{System}
 use Rattle.trs_defs.specs.Member.{In, in_first, in_rest}
 use Rattle.trs_defs.proofs.Members.{each_of_both}
+use Rattle.trs_defs.proofs.ListItems.{item_there}
 use Rattle.tree_state.specs.cert_step.ProofProblem.{ProofProblem}
 use Rattle.tree_state.specs.strategies.Kinds.{strategies_for}
 use Rattle.tree_state.specs.tree_definitions.declared.question.Question.{Question}
@@ -14,7 +15,7 @@ use Rattle.tree_state.specs.tree_definitions.Reports.{Walks, ends, numbers, deci
 use Rattle.tree_state.specs.Ascending.{AreAscending}
 use Rattle.tree_state.specs.Parts.{Parts}
 use Rattle.tree_state.specs.Stuck.{failures}
-use Rattle.tree_state.proofs.tree_definitions.Lookups.{get_below, more_cases}
+use Rattle.tree_state.proofs.tree_definitions.Lookups.{more_cases}
 use Rattle.tree_state.proofs.tree_definitions.Weights.{kids, kids_of, sum_of, weight, walk_falls, walk_on}
 use Rattle.tree_core.specs.Invariant.{IsTree}
 use Rattle.tree_core.proofs.Accepted.{ascending, goal_within}
@@ -41,7 +42,7 @@ module _ (nodes : List TreeNode) (grows : AreAscending nodes) where
       let falls = walk_falls nodes (λ m node d there dec c child. (grows m node d there dec c child).0) n rest in absurd (omega (arith, le, falls))
   walk_there (suc fuel) (n ∷ rest) le low =
       let falls = walk_falls nodes (λ m node d there dec c child. (grows m node d there dec c child).0) n rest in
-      let node = get_below nodes n (low n in_first) in
+      let node = item_there nodes n (low n in_first) in
       let all_low = each_of_both (λ (m : ℕ). m < length nodes) rest (kids nodes n) (λ m i. low m (in_rest i)) (kids_there n node.0 node.1) in
       let more = walk_there fuel (rest ++ kids nodes n) (omega (arith, le, falls)) all_low in
       (n ∷ more.0, walk_on nodes n node.0 rest more.0 node.1 more.1)

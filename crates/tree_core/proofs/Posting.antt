@@ -6,6 +6,7 @@ use native.Mathlib.Decide.{ℕ_discrete}
 use mathlib.Core.Logic.{dite}
 use Rattle.trs_defs.specs.System.{System}
 use Rattle.trs_defs.specs.Member.{In, in_first, in_rest}
+use Rattle.trs_defs.proofs.ListItems.{item_there}
 use Rattle.tree_state.specs.cert_step.ProofProblem.{ProofProblem, IsWellMadeProblem}
 use Rattle.tree_state.specs.cert_step.ProofStep.{ProofStep}
 use Rattle.tree_state.specs.strategies.declared.failure.Failure.{Failure}
@@ -38,7 +39,6 @@ use Rattle.tree_core.proofs.Failing.{still_going, node_open, counted_failed, fre
 use Rattle.tree_core.proofs.Deciding as deciding
 use Rattle.tree_core.proofs.Deciding.{At}
 use Rattle.tree_core.proofs.Won.{won_none_open, none_open_won, is_open_of}
-use Rattle.tree_state.proofs.tree_definitions.Lookups.{get_below}
 use Rattle.tree_core.proofs.Flags.{over_is, is_over, true_false}
 use Rattle.tree_core.proofs.Told.{told_ending}
 use Rattle.std.proofs.lemmas.List.{length-append}
@@ -196,7 +196,7 @@ module _ (question : Question) (system : System) (budget : ℕ) (p : Parts) (tre
       shrinks = found_shrinks system budget strategy h.node.problem step left (tree.well_made n h.node h.made) is.finds is.applies
 
       old_goal : (old : GoalState) × (slice_get p.goals g ≡ Some old)
-      old_goal = get_below p.goals g (omega (arith, g_low, tree.counted.length_is))
+      old_goal = item_there p.goals g (omega (arith, g_low, tree.counted.length_is))
 
       more_is : more ≡ set p.goals g (record old_goal.0 { open_nodes = old_goal.0.open_nodes - 1 + length left })
       more_is = opened_is p.goals g (length left) old_goal.0 old_goal.1

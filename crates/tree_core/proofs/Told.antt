@@ -9,7 +9,7 @@ use Rattle.tree_core.specs.Invariant.{IsTold, told}
 use Rattle.tree_state.proofs.tree_definitions.Mentions.{mentions-append, of_append, of_le, about_same, about_other, both_same, both_le, owned_more}
 use Rattle.tree_state.proofs.tree_definitions.Lookups.{set_cases, more_cases}
 use Rattle.tree_state.proofs.tree_definitions.Lookups.{length_set}
-use Rattle.tree_state.proofs.tree_definitions.Lookups.{get_below}
+use Rattle.trs_defs.proofs.ListItems.{item_there}
 
 module _ (es : List HistoryEntry) (tickets : List Ticket) (is : IsTold es tickets) (e : HistoryEntry) where
   -- a claim, under a new ticket
@@ -80,7 +80,7 @@ pub runs_there : (es : List HistoryEntry) (tickets : List Ticket) → IsTold es 
 runs_there es tickets is number one = dite (dec_le (length tickets) number)
     (λ le. absurd (omega (arith, one, is.none number le)))
     (λ small.
-    let there = get_below tickets number (omega (arith, small)) in
+    let there = item_there tickets number (omega (arith, small)) in
     (there.0, there.1, told_true there.0.is_running (sym (is.told_is number there.0 there.1) ∙ one)))
 
 -- a claim under a ticket that no entry was about

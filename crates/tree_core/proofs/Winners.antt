@@ -3,6 +3,7 @@ use Rattle.std.proofs.Common.{◌≡◌, inl, inr, ℕ, zero, suc, ◌<◌, ◌+
 use native.Mathlib.Decide.{ℕ_discrete}
 use mathlib.Core.Logic.{dite}
 use Rattle.trs_defs.specs.System.{System}
+use Rattle.trs_defs.proofs.ListItems.{kept_item, image_item, item_there}
 use Rattle.tree_state.specs.cert_step.ProofProblem.{ProofProblem}
 use Rattle.tree_state.specs.cert_step.ProofStep.{ProofStep}
 use Rattle.tree_state.specs.strategies.declared.failure.Failure.{Failure}
@@ -16,7 +17,7 @@ use Rattle.tree_state.specs.tree_definitions.History.{HistoryEntry, Event, claim
 use Rattle.tree_state.specs.tree_definitions.States.{TreeNode, State, Decided, IsChild, new_node, roots_from, opening, marked}
 use Rattle.tree_state.specs.tree_definitions.Verdicts.{IsClosed, closed, IsWon, IsFirstWinner}
 use Rattle.tree_state.specs.tree_definitions.Events.{Claims, RunsAt, IsOver, done, Follows, ended, nodes_with, without}
-use Rattle.tree_state.proofs.tree_definitions.Lookups.{one_value, get_set, length_set, set_cases, set_there, append_left, append_right, append_cases, map_there, map_cases, get_below}
+use Rattle.tree_state.proofs.tree_definitions.Lookups.{one_value, get_set, length_set, set_cases, set_there, append_right, append_cases, map_cases}
 use Rattle.tree_state.proofs.tree_definitions.Roots.{root_below, root_there}
 use Rattle.tree_core.specs.Invariant.{IsOf}
 use Rattle.tree_core.proofs.Won.{closed_decided}
@@ -89,10 +90,10 @@ module _ (goals : ℕ) (s : State) (grown : IsGrown goals s) (t : Ticket) (node 
   nodes = nodes_with s t node step left
 
   still : (k : ℕ) (x : TreeNode) → slice_get s.nodes k ≡ Some x → (k ≡ t.node → ⊥) → slice_get nodes k ≡ Some x
-  still k x there other = append_left old new k x (set_there s.nodes t.node k shut x (λ e. other e) there)
+  still k x there other = kept_item old new k x (set_there s.nodes t.node k shut x (λ e. other e) there)
 
   is_shut : slice_get nodes t.node ≡ Some shut
-  is_shut = append_left old new t.node shut (get_set s.nodes t.node shut node made)
+  is_shut = kept_item old new t.node shut (get_set s.nodes t.node shut node made)
 
   -- each node is of its goal as before
   of_later : (k g : ℕ) → IsOf s.nodes k g → IsOf nodes k g
@@ -146,11 +147,11 @@ module _ (goals : ℕ) (s : State) (grown : IsGrown goals s) (t : Ticket) (node 
 
   new_there : (j : ℕ) → j < length left → IsOf nodes (length s.nodes + j) node.goal
   new_there j lt =
-      let q = get_below left j lt in
+      let q = item_there left j lt in
       record {
         node = new_node node.goal q.0;
         there = append_right old new j (length s.nodes + j) (new_node node.goal q.0)
-            (omega (arith, length_set s.nodes t.node shut)) (map_there (new_node node.goal) left j q.0 q.1);
+            (omega (arith, length_set s.nodes t.node shut)) (image_item (new_node node.goal) left j q.0 q.1);
         goal_is = refl;
       }
 

@@ -1,5 +1,5 @@
 -- Elements of lists that are written or appended to.
-use Rattle.std.proofs.Common.{◌≡◌, ◌≢◌, ◌⊎◌, inl, inr, ℕ, zero, suc, ◌+◌, ◌<◌, ◌≤◌, true, false, List, [], ◌∷◌, ◌++◌, length, map, drop, take, set, Option, Some, None, is_some, is_none, slice_get, refl, sym, ap, ◌∙◌, subst, arith}
+use Rattle.std.proofs.Common.{◌≡◌, ◌≢◌, ◌⊎◌, inl, inr, ℕ, zero, suc, ◌+◌, ◌<◌, ◌≤◌, true, false, List, [], ◌∷◌, ◌++◌, length, map, take, set, Option, Some, None, is_some, is_none, slice_get, refl, sym, ap, ◌∙◌, subst, arith}
 use native.Mathlib.Decide.{ℕ_discrete}
 use mathlib.Core.Logic.{dite}
 
@@ -41,21 +41,11 @@ length_take_le zero xs = omega arith
 length_take_le (suc n) [] = omega arith
 length_take_le (suc n) (x ∷ xs) = omega (arith, length_take_le n xs)
 
--- the list from a place on, and up to a place
-pub drop_there : {A : Type 0} (xs : List A) (i : ℕ) (x : A) → slice_get xs i ≡ Some x → drop i xs ≡ x ∷ drop (suc i) xs
-drop_there [] i x there = absurd cc
-drop_there (y ∷ xs) zero x there = let same : y ≡ x = cc in ap (λ z. z ∷ xs) same
-drop_there (y ∷ xs) (suc i) x there = drop_there xs i x there
-
+-- the list up to a place
 pub take_there : {A : Type 0} (xs : List A) (i : ℕ) (x : A) → slice_get xs i ≡ Some x → take (suc i) xs ≡ take i xs ++ x ∷ []
 take_there [] i x there = absurd cc
 take_there (y ∷ xs) zero x there = let same : y ≡ x = cc in ap (λ z. z ∷ []) same
 take_there (y ∷ xs) (suc i) x there = ap (λ zs. y ∷ zs) (take_there xs i x there)
-
-pub get_below : {A : Type 0} (xs : List A) (k : ℕ) → k < length xs → (x : A) × (slice_get xs k ≡ Some x)
-get_below [] k lt = absurd (omega (arith, lt))
-get_below (x ∷ xs) zero lt = (x, refl)
-get_below (x ∷ xs) (suc k) lt = get_below xs k (omega (arith, lt))
 
 pub one_value : {A : Type 0} (o : Option A) (x y : A) → o ≡ Some x → o ≡ Some y → x ≡ y
 one_value o x y a b = cc
@@ -79,11 +69,6 @@ set_cases xs n k old x y was there = dite (ℕ_discrete k n)
 
 pub set_there : {A : Type 0} (xs : List A) (n k : ℕ) (x y : A) → k ≢ n → slice_get xs k ≡ Some y → slice_get (set xs n x) k ≡ Some y
 set_there xs n k x y other there = get_set_other xs n k x other ∙ there
-
-pub append_left : {A : Type 0} (xs ys : List A) (k : ℕ) (y : A) → slice_get xs k ≡ Some y → slice_get (xs ++ ys) k ≡ Some y
-append_left [] ys k y there = absurd cc
-append_left (x ∷ xs) ys zero y there = there
-append_left (x ∷ xs) ys (suc k) y there = append_left xs ys k y there
 
 pub append_right : {A : Type 0} (xs ys : List A) (j k : ℕ) (y : A) → k ≡ length xs + j → slice_get ys j ≡ Some y → slice_get (xs ++ ys) k ≡ Some y
 append_right [] ys j k y e there = let same : k ≡ j = omega (arith, e) in rw same there
@@ -110,11 +95,6 @@ more_cases xs x k y there = go (append_cases xs (x ∷ []) k y there)
     go (inl e) = inl e
     go (inr (zero, e, f)) = inr (omega (arith, e), cc)
     go (inr (suc j, e, f)) = absurd cc
-
-pub map_there : {A B : Type 0} (f : A → B) (xs : List A) (k : ℕ) (y : A) → slice_get xs k ≡ Some y → slice_get (map f xs) k ≡ Some (f y)
-map_there f [] k y there = absurd cc
-map_there f (x ∷ xs) zero y there = cc
-map_there f (x ∷ xs) (suc k) y there = map_there f xs k y there
 
 pub map_cases : {A B : Type 0} (f : A → B) (xs : List A) (k : ℕ) (y : B) → slice_get (map f xs) k ≡ Some y → (x : A) × (slice_get xs k ≡ Some x) × (y ≡ f x)
 map_cases f [] k y there = absurd cc

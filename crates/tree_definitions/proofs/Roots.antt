@@ -3,6 +3,7 @@ use Rattle.std.proofs.Common.{◌≡◌, ℕ, zero, suc, ◌+◌, ◌<◌, ◌�
 use Rattle.std.proofs.lemmas.List.{length-map}
 use Rattle.std.proofs.lemmas.Option.{slice_get_within}
 use Rattle.trs_defs.specs.System.{System}
+use Rattle.trs_defs.proofs.ListItems.{item_there, image_item}
 use Rattle.strategies.specs.cert_step.ProofProblem.{ProofProblem, root_of, IsWellMadeProblem}
 use Rattle.strategies.specs.cert_step.PlainProblem.{plain}
 use Rattle.strategies.specs.cert_step.declared.claim.Claim.{Claim}
@@ -13,7 +14,7 @@ use Rattle.tree_definitions.specs.declared.question.Question.TheVariants.{Termin
 use Rattle.tree_definitions.specs.Goals.{goal_root, goal_claim}
 use Rattle.tree_definitions.specs.Questions.{goals_for, goal_count, roots, claims}
 use Rattle.tree_definitions.specs.States.{new_node, roots_from}
-use Rattle.tree_definitions.proofs.Lookups.{get_below, map_there, map_cases, one_value}
+use Rattle.tree_definitions.proofs.Lookups.{map_cases, one_value}
 
 pub few_goals : (question : Question) → goal_count question ≤ 3
 few_goals Termination = omega arith
@@ -25,7 +26,7 @@ root_count question = length-map (goals_for question) goal_root
 
 pub root_below : (question : Question) (g : ℕ) → g < goal_count question → (p : ProofProblem) × (slice_get (roots question) g ≡ Some p)
 root_below question g low =
-    let at = get_below (goals_for question) g low in (goal_root at.0, map_there goal_root (goals_for question) g at.0 at.1)
+    let at = item_there (goals_for question) g low in (goal_root at.0, image_item goal_root (goals_for question) g at.0 at.1)
 
 -- the root of a problem among those from goal h on
 pub root_there : (h : ℕ) (ps : List ProofProblem) (k : ℕ) (p : ProofProblem) → slice_get ps k ≡ Some p → slice_get (roots_from h ps) k ≡ Some (new_node (h + k) p)

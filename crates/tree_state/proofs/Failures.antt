@@ -12,12 +12,12 @@ use Rattle.tree_definitions.specs.strategies.Kinds.{strategies_for}
 use Rattle.tree_definitions.specs.declared.mark.Mark.{Mark}
 use Rattle.tree_definitions.specs.History.{HistoryEntry}
 use Rattle.tree_definitions.specs.States.{TreeNode}
-use Rattle.tree_definitions.proofs.Lookups.{map_there}
 use Rattle.tree_state.specs.declared.node.Node.{Node}
 use Rattle.tree_state.specs.declared.node.Decision.{Decision}
 use Rattle.tree_state.specs.Seen.{node_of, decided_of}
 use Rattle.tree_state.specs.Stuck.{is_stuck, is_stuck_at, is_spent, failures}
 use Rattle.tree_state.proofs.SeenNodes.{seen_at}
+use Rattle.trs_defs.proofs.ListItems.{image_item}
 
 position_from_same : {A : Type 0} (p q : A → Bool) → ((x : A) → p x ≡ q x) → (i : ℕ) (xs : List A) → position_from p i xs ≡ position_from q i xs
 position_from_same p q e i [] = refl
@@ -45,7 +45,7 @@ failures_next (x ∷ strategies) (y ∷ marks) zero s m a b = let e : x ≡ s = 
 failures_next (x ∷ strategies) (y ∷ marks) (suc i) s m a b = ap (λ fs. (x, is_spent y) ∷ fs) (failures_next strategies marks i s m a b)
 
 pub stuck_there : (nodes : List Node) (n : ℕ) (x : Node) → slice_get nodes n ≡ Some x → is_stuck_at (map (node_of []) nodes) n ≡ is_stuck (Some (node_of [] x))
-stuck_there nodes n x there = ap is_stuck (map_there (node_of []) nodes n x there)
+stuck_there nodes n x there = ap is_stuck (image_item (node_of []) nodes n x there)
 
 pub no_stuck_there : (nodes : List Node) (n : ℕ) → slice_get nodes n ≡ None → is_stuck_at (map (node_of []) nodes) n ≡ false
 no_stuck_there nodes n none = ap is_stuck (slice_get-map (node_of []) nodes n ∙ ap (option_map (node_of [])) none)

@@ -10,7 +10,8 @@ use Rattle.tree_definitions.specs.States.{TreeNode, Decided}
 use Rattle.tree_definitions.specs.Reports.{steps_from, with_step, decision_at, numbers}
 use Rattle.tree_state.specs.Seen.{node_of, decided_of}
 use Rattle.tree_state.specs.Ascending.{own_kids, IsAscending, AreAscending, step_list, step_at, step_of_decision}
-use Rattle.tree_definitions.proofs.Lookups.{map_there, take_there}
+use Rattle.tree_definitions.proofs.Lookups.{take_there}
+use Rattle.trs_defs.proofs.ListItems.{image_item}
 
 one_step : (i : ℕ) (d : Option Decided) (more : List ProofNodeStep) → with_step i d more ≡ step_list i (step_of_decision d) ++ more
 one_step i None more = refl
@@ -45,5 +46,5 @@ own_ascending h nodes asc n node there k c at = go node.decision refl at
     go None e at = absurd cc
     go (Some d) e at =
         let dec : (node_of h node).decision ≡ Some (decided_of h d) = ap (option_map (decided_of h)) e in
-        let a = asc n (node_of h node) (decided_of h d) (map_there (node_of h) nodes n node there) dec c (numbers_range d.first d.count k c at) in
+        let a = asc n (node_of h node) (decided_of h d) (image_item (node_of h) nodes n node there) dec c (numbers_range d.first d.count k c at) in
         (a.0, omega (arith, a.1, length-map nodes (node_of h)))

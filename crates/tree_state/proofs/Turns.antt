@@ -10,8 +10,9 @@ use Rattle.tree_definitions.specs.States.{TreeNode, Decided, IsChild}
 use Rattle.tree_definitions.specs.Reports.{Walks, ends, numbers, decision_at}
 use Rattle.tree_state.specs.Seen.{node_of, decided_of}
 use Rattle.tree_state.specs.Ascending.{own_kids, IsAscending}
-use Rattle.tree_definitions.proofs.Lookups.{append_cases, drop_there, map_cases, map_there, take_there}
+use Rattle.tree_definitions.proofs.Lookups.{append_cases, map_cases, take_there}
 use Rattle.tree_definitions.proofs.Weights.{kids, kids_of, sum_of, weight, walk_falls, walk_on}
+use Rattle.trs_defs.proofs.ListItems.{from_item, image_item}
 
 numbers_more : (first count : ℕ) → numbers first (suc count) ≡ numbers first count ++ (first + count) ∷ []
 numbers_more first zero = let e : first ≡ first + 0 = omega arith in ap (λ n. n ∷ []) e
@@ -36,7 +37,7 @@ module _ (nodes : List Node) (h : List HistoryEntry) where
   kids_are (Some d) = refl
 
   pub kids_seen : (n : ℕ) (node : Node) → slice_get nodes n ≡ Some node → kids seen n ≡ own_kids node.decision
-  kids_seen n node there = ap (λ o. kids_of (decision_at o)) (map_there (node_of h) nodes n node there) ∙ kids_are node.decision
+  kids_seen n node there = ap (λ o. kids_of (decision_at o)) (image_item (node_of h) nodes n node there) ∙ kids_are node.decision
 
   number_there : (first count c : ℕ) → first ≤ c → c < first + count → (k : ℕ) × (slice_get (numbers first count) k ≡ Some c)
   number_there first zero c le lt = absurd (omega (arith, le, lt))
@@ -77,8 +78,8 @@ module _ (nodes : List Node) (h : List HistoryEntry) where
         → (tail : List ℕ) → Walks seen (drop (suc i) next) tail → Walks seen (root ∷ []) (take (suc i) next ++ tail)
     turn_walks root before tail w =
         let w_rest = subst (λ ws. Walks seen ws tail) rest_is w in
-        let on = walk_on seen n (node_of h node) (drop (suc i) order) tail (map_there (node_of h) nodes n node there) w_rest in
-        let from = subst (λ ws. Walks seen ws (n ∷ tail)) (sym (drop_there order i n at)) on in
+        let on = walk_on seen n (node_of h node) (drop (suc i) order) tail (image_item (node_of h) nodes n node there) w_rest in
+        let from = subst (λ ws. Walks seen ws (n ∷ tail)) (sym (from_item order i n at)) on in
         let all = before (n ∷ tail) from in
         let taken : take i order ++ n ∷ tail ≡ take (suc i) next ++ tail =
         sym (append_assoc (take i order) (n ∷ []) tail) ∙ ap (λ xs. xs ++ tail) (sym (ap (take (suc i)) is ∙ take-append-le (suc i) order (own_kids node.decision) low ∙ take_there order i n at)) in
@@ -91,7 +92,7 @@ module _ (nodes : List Node) (h : List HistoryEntry) where
     turn_falls asc =
         let f = walk_falls seen (above asc) n (drop (suc i) order) in
         let a = ap (sum_of (weight seen (length seen))) rest_is in
-        let b = ap (sum_of (weight seen (length seen))) (drop_there order i n at) in
+        let b = ap (sum_of (weight seen (length seen))) (from_item order i n at) in
         omega (arith, f, a, b)
 
     pub turn_within : IsAscending nodes → ((k c : ℕ) → slice_get order k ≡ Some c → c < length nodes) → (k c : ℕ) → slice_get next k ≡ Some c → c < length nodes
