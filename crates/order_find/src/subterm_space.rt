@@ -1,5 +1,5 @@
 //! The finite search for the places of a projection.
-ghost use Rattle.std.specs.Prelude.{◌≡◌, ◌<◌, ◌^◌, ◌+◌, ◌==◌, ◌||◌, length, slice_index};
+ghost use Rattle.std.specs.Prelude.{◌≡◌, ◌<◌, ◌^◌, ◌+◌, ◌==◌, ◌||◌, length};
 ghost use Rattle.std.specs.Option.{option_copied, option_map};
 ghost use Rattle.trs_defs.specs.Tree.{Tree};
 ghost use Rattle.trs_defs.specs.Position.{argument_at};
@@ -15,7 +15,7 @@ use crate::within::{contains, contains_properly};
 use assign_search::{OutOfMemory, Space};
 use order_search::placing::SymbolPlaces;
 use order_search::roots::{from_root, to_root};
-use order_search::{Side, Sides};
+use order_search::{Side, Sides, value_at};
 use std::alloc::Global;
 use trs_core::Term;
 
@@ -125,15 +125,6 @@ impl<'a> SubtermSpace<'a> {
             None => 0,
             Some(slot) => value_at(values, slot as usize),
         }
-    }
-}
-
-fn value_at(values: &[u32], slot: usize) -> u32
-    ensures { result ≡ slice_index values.now slot }
-{
-    match values.get(slot) {
-        Some(value) => *value,
-        None => 0,
     }
 }
 
