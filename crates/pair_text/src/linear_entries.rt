@@ -1,9 +1,8 @@
-ghost use Rattle.std.specs.Prelude.{◌≡◌, ◌≤◌, ◌-◌, ◌^◌, ◌++◌, ◌∷◌, Ok, suc, [], map, IfOk, OnOk, length};
+ghost use Rattle.std.specs.Prelude.{◌≡◌, ◌-◌, ◌^◌, ◌++◌, ◌∷◌, Ok, [], map, IfOk, OnOk};
 ghost use Rattle.sexp_core.specs.Items.{view, views, items_of};
 ghost use Rattle.sexp_core.specs.Printed.{text_of, spaced};
 ghost use Rattle.text_reading.specs.Reading.{many};
 ghost use Rattle.text_reading.specs.Numbers.{number};
-ghost use Rattle.text_reading.specs.Printed.{number_item};
 ghost use Rattle.text_reading.specs.Seen.{seen};
 ghost use Rattle.poly_lin.specs.Plain.{plain};
 ghost use Rattle.pair_text.specs.LinearEntries.{polynomial, coefficients, linear_entry, linear_entry_item, linear_entries};
@@ -16,7 +15,7 @@ use pair_order::SymbolIndex;
 use poly_lin::LinTable;
 use sexp_core::Sexp;
 use std::alloc::Global;
-use text_reading::{Read, place, push, put, put_number, read_number, refuse_more};
+use text_reading::{Read, place, push, put, put_numbers, read_number, refuse_more};
 use trs_core::{GREATEST_NUMBER, OutOfMemory};
 
 /// A table of linear polynomials, by its entries `(sym name number ..)` and `(mark name number ..)`, no symbol twice.
@@ -144,17 +143,5 @@ fn put_linear_entry(
     put_entry_begin(out, system, symbol)?;
     put_numbers(out, numbers)?;
     put(out, b")")?;
-    Ok(())
-}
-
-/// Appends numbers in decimal, with a blank before each.
-fn put_numbers(out: &mut Vec<u8>, numbers: &[u64]) -> Result<(), OutOfMemory>
-    ensures { OnOk result (out.new.items
-        ≡ out.old.items ++ spaced (items_of (map number_item numbers.now))) }
-{
-    for number in numbers {
-        put(out, b" ")?;
-        put_number(out, *number)?;
-    }
     Ok(())
 }

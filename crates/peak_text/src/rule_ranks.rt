@@ -1,15 +1,14 @@
-ghost use Rattle.std.specs.Prelude.{◌≡◌, ◌-◌, ◌^◌, ◌++◌, map, OnOk, IfOk};
-ghost use Rattle.sexp_core.specs.Items.{view, views, items_of};
-ghost use Rattle.sexp_core.specs.Printed.{text_of, spaced};
+ghost use Rattle.std.specs.Prelude.{◌≡◌, ◌-◌, ◌^◌, ◌++◌, OnOk, IfOk};
+ghost use Rattle.sexp_core.specs.Items.{view, views};
+ghost use Rattle.sexp_core.specs.Printed.{text_of};
 ghost use Rattle.text_reading.specs.Reading.{many};
 ghost use Rattle.text_reading.specs.Numbers.{number};
-ghost use Rattle.text_reading.specs.Printed.{number_item};
 ghost use Rattle.text_reading.specs.Seen.{seen};
 ghost use Rattle.peak_text.specs.RuleRanks.{ranks, ranks_item};
 
 use sexp_core::Sexp;
 use std::alloc::Global;
-use text_reading::{Read, both, keyword, place, push, put, put_number, read_number};
+use text_reading::{Read, both, keyword, place, push, put, put_numbers, read_number};
 use trs_core::{GREATEST_NUMBER, OutOfMemory};
 
 /// The rank of each rule, `(ranks number ..)`.
@@ -48,17 +47,5 @@ pub fn put_ranks(out: &mut Vec<u8>, ranks: &[u64]) -> Result<(), OutOfMemory>
     put(out, b"(ranks")?;
     put_numbers(out, ranks)?;
     put(out, b")")?;
-    Ok(())
-}
-
-/// Appends numbers in decimal, with a blank before each.
-fn put_numbers(out: &mut Vec<u8>, numbers: &[u64]) -> Result<(), OutOfMemory>
-    ensures { OnOk result (out.new.items
-        ≡ out.old.items ++ spaced (items_of (map number_item numbers.now))) }
-{
-    for number in numbers {
-        put(out, b" ")?;
-        put_number(out, *number)?;
-    }
     Ok(())
 }

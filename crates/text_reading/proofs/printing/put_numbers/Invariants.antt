@@ -2,7 +2,7 @@ use Rattle.std.proofs.Common.{◌≡◌, ◌++◌, map, drop}
 use Rattle.sexp_core.specs.Items.{items_of}
 use Rattle.sexp_core.specs.Printed.{spaced}
 use Rattle.text_reading.specs.Printed.{number_item}
-use Rattle.pair_text.proofs.linear_entries.put_numbers.Given as goal
+use Rattle.text_reading.proofs.printing.put_numbers.Given as goal
 
 abbrev pub invariant-loop-number : goal.invariant-loop-number
 invariant-loop-number l =
