@@ -42,7 +42,7 @@ open_nodes_hold system (s ∷ steps) nodes last valid made makes decided =
     let all_hold = subproblems_hold system (set nodes s.node (record { problem = p; is_open = false })) subproblems later in
     before_step system nodes s p subproblems (sound_step system p s.step subproblems valid made.0 makes.3 all_hold) makes.2 later
 
-root_says : (system : System) (claim : Claim) → Holds system (root_of claim) → Says system claim
+pub root_says : (system : System) (claim : Claim) → Holds system (root_of claim) → Says system claim
 root_says system Terminating h = h
 root_says system Nonterminating h = h
 root_says system Confluent h = h

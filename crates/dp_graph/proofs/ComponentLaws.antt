@@ -549,7 +549,7 @@ after_first : (numbers before xs ys : List ℕ) → are_new numbers before (xs +
 after_first numbers before [] ys h = subst (λ z. are_new numbers z ys (Ok tt)) (sym (append-nil before)) h
 after_first numbers before (x ∷ xs) ys (goes_on _ _ k rest) = subst (λ z. are_new numbers z ys (Ok tt)) (append_assoc before (x ∷ []) xs) (after_first numbers (before ++ x ∷ []) xs ys rest)
 
-member_there : (numbers before xs : List ℕ) → are_new numbers before xs (Ok tt) → (n : ℕ) → In n xs → In n numbers
+pub member_there : (numbers before xs : List ℕ) → are_new numbers before xs (Ok tt) → (n : ℕ) → In n xs → In n numbers
 member_there numbers before [] h n i = absurd (no_in i)
 member_there numbers before (x ∷ xs) (goes_on _ _ (holds k) rest) n i = elim (in_or i) [
   | inl e ↦ subst (λ z. In z numbers) (sym e) k.0

@@ -19,12 +19,12 @@ use Rattle.order_search.specs.dp_core.Symbols.{symbols_of_rules}
 use Rattle.order_search.specs.dp_core.PairConditions.{Comparing, comparing_by}
 use Rattle.order_search.specs.Slots.{Table, table_of, puzzle_of}
 use Rattle.order_search.proofs.Solutions.{solved}
-use Rattle.order_search.proofs.FewPairs.{taken_in}
 use Rattle.order_search.specs.OrderSpace.{arity_with_mark, slots_of, some_falls}
 use Rattle.order_search.specs.OrderOver.{search_of}
 use Rattle.order_search.proofs.Covered.{all_covered, plain_symbol, root_symbol, listed_of}
 use Rattle.order_search.proofs.SaidEntries.{entry_is_there}
 use Rattle.order_search.proofs.OrderLaw.{Tests, order_applies}
+use Rattle.order_search.proofs.dp_core.Conclusions.{each_in}
 use Rattle.kbo_find.specs.KnuthTest.{knuth_weak, knuth_strict}
 use Rattle.kbo_find.specs.KboSpace.{kbo_tops}
 use Rattle.kbo_find.specs.KboRow.{kbo_search, kbo_entry}
@@ -65,7 +65,7 @@ found_apply system numbers budget entries valid h =
     let marked = map marked_rule pairs in
     let arity = arity_with_mark system.arities in
     let s = solved (puzzle_of (search_of kbo_search system pairs symbols)) values h.first.0 in
-    let from_all : (p : DependencyPair) → In p pairs → In p (dependency_pairs system.rules) = λ p i. taken_in (dependency_pairs system.rules) numbers pairs h.of_problem.taken p i in
+    let from_all : (p : DependencyPair) → In p pairs → In p (dependency_pairs system.rules) = λ p i. each_in (dependency_pairs system.rules) numbers pairs h.of_problem.taken p i in
     let syms = h.of_problem.are_symbols in
     let covered = all_covered system valid pairs from_all symbols syms in
     let many = constraint_count system.arities symbols system.rules marked in

@@ -18,10 +18,10 @@ use Rattle.order_search.specs.dp_core.Symbols.{symbols_of_rules}
 use Rattle.order_search.specs.dp_core.SubtermConditions.{roots_of, unflagged}
 use Rattle.order_search.specs.dp_core.PairConditions.{Comparing, comparing_by, rule_is_weak, pair_is_weak, pair_conditions}
 use Rattle.order_search.proofs.dp_core.NumberedPairs.{as_many}
+use Rattle.order_search.proofs.dp_core.Conclusions.{each_in}
 use Rattle.assign_search.proofs.Refuting.{true_or_false}
 use Rattle.order_search.specs.Slots.{Table, table_of, puzzle_of}
 use Rattle.order_search.proofs.Solutions.{solved}
-use Rattle.order_search.proofs.FewPairs.{taken_in}
 use Rattle.order_search.specs.OrderSpace.{arity_with_mark, slots_of, some_falls}
 use Rattle.order_search.proofs.Constraints.{many_constraints}
 use Rattle.order_search.proofs.Covered.{all_covered, plain_symbol, root_symbol, listed_of}
@@ -99,7 +99,7 @@ found_apply system numbers budget entries valid h =
     let marked = map marked_rule pairs in
     let arity = arity_with_mark system.arities in
     let s = solved (puzzle_of (lpo_search system pairs symbols)) values h.first.0 in
-    let from_all : (p : DependencyPair) → In p pairs → In p (dependency_pairs system.rules) = λ p i. taken_in (dependency_pairs system.rules) numbers pairs h.of_problem.taken p i in
+    let from_all : (p : DependencyPair) → In p pairs → In p (dependency_pairs system.rules) = λ p i. each_in (dependency_pairs system.rules) numbers pairs h.of_problem.taken p i in
     let syms = h.of_problem.are_symbols in
     let covered = all_covered system valid pairs from_all symbols syms in
     let many = many_constraints (lpo_family arity) symbols system.rules marked in

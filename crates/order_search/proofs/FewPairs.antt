@@ -1,9 +1,9 @@
 -- The pairs of a problem and their roots are few.
-use Rattle.std.specs.Prelude.{◌≡◌, ◌<◌, ◌≤◌, ◌⊎◌, ℕ, ◌+◌, List, [], ◌∷◌, length, map, All, get_or, Some, slice_get}
+use Rattle.std.specs.Prelude.{◌≡◌, ◌<◌, ◌≤◌, ◌⊎◌, ℕ, ◌+◌, List, [], ◌∷◌, length, All, get_or, Some}
 use Rattle.std.specs.List.Sorted.{IsStrictlyIncreasing}
-use Rattle.std.proofs.Common.{zero, suc, refl, sym, ap, subst, arith, ◌∙◌, inl, inr}
+use Rattle.std.proofs.Common.{zero, suc, refl, ap, subst, arith, inl, inr}
 use Rattle.trs_defs.specs.Member.{In, in_first, in_rest}
-use Rattle.trs_defs.proofs.Members.{in_or, no_in, in_of_get}
+use Rattle.trs_defs.proofs.Members.{in_or, no_in}
 use Rattle.pair_theory.specs.Marked.{plain}
 use Rattle.pair_theory.specs.DependencyPair.{DependencyPair}
 use Rattle.pair_theory.specs.PairProblem.{IsPair}
@@ -11,6 +11,7 @@ use Rattle.dp_core.specs.Numbered.{ArePairsOf}
 use Rattle.dp_core.specs.SubtermConditions.{roots_of}
 use Rattle.dp_core.proofs.NumberedPairs.{as_many}
 use Rattle.dp_core.proofs.PairSides.{small_symbol}
+use Rattle.dp_core.proofs.Conclusions.{each_in}
 use Rattle.order_search.specs.Ascending.{AreAscending}
 use Rattle.order_search.proofs.RootSets.{in_at}
 
@@ -47,18 +48,6 @@ few_taken all numbers taken pairs most up within are same few =
 some_same : {A : Type 0} (x y : A) → Some x ≡ Some y → x ≡ y
 some_same x y e = cc
 
-pub taken_in : (all : List DependencyPair) (numbers : List ℕ) (taken : List DependencyPair) → ArePairsOf all numbers taken → (p : DependencyPair) → In p taken → In p all
-taken_in all [] [] are p i = absurd (no_in i)
-taken_in all [] (q ∷ taken) are p i = absurd cc
-taken_in all (n ∷ numbers) [] are p i = absurd (no_in i)
-taken_in all (n ∷ numbers) (q ∷ taken) are p i =
-    let first : slice_get all n ≡ Some q = cc in
-    let rest : map (slice_get all) numbers ≡ map (λ x. Some x) taken = cc in
-    elim (in_or i) [
-      | inl same ↦ in_of_get all n p (first ∙ ap (λ x. Some x) (sym same))
-      | inr later ↦ taken_in all numbers taken rest p later
-    ]
-
 pub roots_small : (arities : List ℕ) → length arities ≤ 4095 → (ps : List DependencyPair) → ((p : DependencyPair) → In p ps → IsPair arities p) → (f : ℕ) → In f (roots_of ps) → f < 4096
 roots_small arities few [] well f i = absurd (no_in i)
 roots_small arities few (p ∷ ps) well f i =
@@ -75,7 +64,7 @@ pub few_roots : (arities : List ℕ) → length arities ≤ 4095 → (all : List
     → ArePairsOf all numbers taken → (listed : List DependencyPair) (items roots : List ℕ) → listed ≡ taken → AreAscending (roots_of listed) items → roots ≡ items → length roots ≤ 4096
 few_roots arities few all well numbers taken are listed items roots same ascending is =
     let small : (f : ℕ) → In f (roots_of listed) → f < 4096 = λ f i.
-    roots_small arities few taken (λ p j. well p (taken_in all numbers taken are p j)) f (subst (λ (l : List DependencyPair). In f (roots_of l)) same i) in
+    roots_small arities few taken (λ p j. well p (each_in all numbers taken are p j)) f (subst (λ (l : List DependencyPair). In f (roots_of l)) same i) in
     let below = length_below items 4096 ascending.increasing (λ k d within. small (get_or items k d) ((ascending.each (get_or items k d)).0 (in_at items k d (get_or items k d) within refl))) in
     let e : length roots ≡ length items = ap length is in
     omega (arith, below, e)

@@ -17,9 +17,10 @@ use Rattle.dp_core.specs.Numbered.{ArePairsOf}
 use Rattle.dp_core.specs.Symbols.{symbols_of_rules}
 use Rattle.dp_core.specs.SubtermConditions.{roots_of}
 use Rattle.dp_core.proofs.OrderConclusions.{root_listed}
+use Rattle.dp_core.proofs.Conclusions.{each_in}
 use Rattle.order_search.specs.Slots.{Table, puzzle_of}
 use Rattle.order_search.specs.Outcome.{IsFinding, IsNotThere, IsSpent}
-use Rattle.order_search.proofs.FewPairs.{few_taken, taken_in, roots_small}
+use Rattle.order_search.proofs.FewPairs.{few_taken, roots_small}
 use Rattle.order_search.specs.OrderSpace.{AreCovered}
 use Rattle.order_search.specs.OrderRow.{AreSymbols, AreOfOrder, FindsOrder, FailsOrder}
 use Rattle.order_search.specs.OrderOver.{SearchOver, search_of, IsOrderOver}
@@ -36,7 +37,7 @@ module _ (system : System) (valid : IsSystem system) (few : length system.aritie
   are_of = subst (λ (l : List DependencyPair). ArePairsOf l numbers taken) of are
 
   pub from_all : (p : DependencyPair) → In p taken → In p (dependency_pairs system.rules)
-  from_all p i = taken_in (dependency_pairs system.rules) numbers taken are_of p i
+  from_all p i = each_in (dependency_pairs system.rules) numbers taken are_of p i
 
   pub small_root : (f : ℕ) → In f (roots_of taken) → f < 4096
   small_root f i = roots_small system.arities few taken (λ p j. good p (from_all p j)) f i

@@ -15,11 +15,12 @@ use Rattle.order_search.specs.dp_core.Numbered.{ArePairsOf, AreItemsOf}
 use Rattle.order_search.specs.dp_core.Symbols.{symbols_of, symbols_of_all, symbols_of_rules, symbols_below_roots}
 use Rattle.order_search.proofs.dp_core.NumberedPairs.{as_many, within_all}
 use Rattle.order_search.proofs.dp_core.OrderConclusions.{rule_symbols}
+use Rattle.order_search.proofs.dp_core.Conclusions.{each_in}
 use Rattle.usable_rules.specs.AreUsable.{AreUsableRules, Ascends, no_numbers, number}
 use Rattle.usable_rules.proofs.Chosen.{usable_within}
 use Rattle.order_search.specs.Slots.{puzzle_of}
 use Rattle.order_search.specs.Outcome.{IsFinding, IsNotThere, IsSpent}
-use Rattle.order_search.proofs.FewPairs.{few_taken, taken_in}
+use Rattle.order_search.proofs.FewPairs.{few_taken}
 use Rattle.order_search.specs.OrderRow.{AreSymbols}
 use Rattle.order_search.specs.OrderOver.{IsOrderOver}
 use Rattle.order_search.specs.Distinct.{AreDistinct}
@@ -75,7 +76,7 @@ module _ (system : System) (valid : IsSystem system) (few : length system.aritie
   plain_low f i =
       let there : In f (symbols_of_rules system.rules) = elim (in_either (symbols_of_rules usable) (symbols_below_roots taken) i) [
         | inl rule ↦ some_in_rules system valid usable (items_in system.rules rule_numbers usable chosen) f rule
-        | inr pair ↦ below_in_rules system valid taken (taken_in (dependency_pairs system.rules) numbers taken are) f pair
+        | inr pair ↦ below_in_rules system valid taken (each_in (dependency_pairs system.rules) numbers taken are) f pair
       ] in
       let h = symbols_within system.arities system.rules (rule_well system valid) f there in
       omega (arith, h, few)

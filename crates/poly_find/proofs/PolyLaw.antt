@@ -21,12 +21,12 @@ use Rattle.trs_defs.specs.Variable.{is_listed}
 use Rattle.order_search.specs.Slots.{table_of, puzzle_of}
 use Rattle.order_search.specs.Outcome.{IsFirst}
 use Rattle.order_search.proofs.Solutions.{solved}
-use Rattle.order_search.proofs.FewPairs.{taken_in}
 use Rattle.order_search.specs.OrderSpace.{AreCovered, arity_with_mark, slots_of, some_falls}
 use Rattle.order_search.proofs.Constraints.{many_constraints}
 use Rattle.order_search.proofs.Covered.{all_covered, plain_symbol, root_symbol, listed_of}
 use Rattle.order_search.proofs.SaidEntries.{entry_is_there}
 use Rattle.order_search.proofs.OrderLaw.{Tests, order_applies}
+use Rattle.order_search.proofs.dp_core.Conclusions.{each_in}
 use Rattle.poly_find.specs.LinearTest.{linear_weak, linear_strict}
 use Rattle.poly_find.specs.PolySpace.{poly_family}
 use Rattle.poly_find.specs.PolyRow.{poly_search, poly_entry}
@@ -85,7 +85,7 @@ found_apply system numbers budget entries valid few h =
     let symbols = h.symbols in
     let marked = map marked_rule pairs in
     let syms = h.of_problem.are_symbols in
-    let from_all : (p : DependencyPair) → In p pairs → In p (dependency_pairs system.rules) = λ p i. taken_in (dependency_pairs system.rules) numbers pairs h.of_problem.taken p i in
+    let from_all : (p : DependencyPair) → In p pairs → In p (dependency_pairs system.rules) = λ p i. each_in (dependency_pairs system.rules) numbers pairs h.of_problem.taken p i in
     let covered = all_covered system valid pairs from_all symbols syms in
     let none = no_pairing system valid few pairs (λ p i. listed_are_pairs system valid p (from_all p i)) symbols syms in
     let there : (f : ℕ) → In f symbols → has_entry symbol_of entries f ≡ true =

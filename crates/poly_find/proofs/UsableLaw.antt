@@ -14,8 +14,8 @@ use Rattle.order_search.specs.dp_core.Numbered.{taken}
 use Rattle.order_search.specs.dp_core.Symbols.{symbols_of_all, symbols_of_rules, symbols_below_roots}
 use Rattle.order_search.proofs.dp_core.NumberedPairs.{as_many}
 use Rattle.order_search.proofs.dp_core.OrderConclusions.{rule_symbols}
+use Rattle.order_search.proofs.dp_core.Conclusions.{each_in}
 use Rattle.usable_rules.specs.UsableConditions.{usable_taken}
-use Rattle.order_search.proofs.FewPairs.{taken_in}
 use Rattle.order_search.proofs.Covered.{plain_symbol, root_symbol, covers}
 use Rattle.order_search.proofs.OrderLaw.{removal_applies}
 use Rattle.poly_find.specs.LinearTest.{linear_weak, linear_strict}
@@ -39,7 +39,7 @@ found_apply system numbers budget entries valid few h =
     let marked = map marked_rule pairs in
     let o = h.of_problem in
     let good : (p : DependencyPair) → In p (dependency_pairs system.rules) → IsPair system.arities p = λ p i. listed_are_pairs system valid p i in
-    let from = taken_in (dependency_pairs system.rules) numbers pairs o.taken in
+    let from = each_in (dependency_pairs system.rules) numbers pairs o.taken in
     let low = plain_low system valid few good numbers pairs o.taken o.rule_numbers rules o.usable o.chosen symbols o.are_symbols in
     let none = no_pairing_by (symbols_of_rules rules ++ symbols_below_roots pairs) pairs symbols low
     (λ f i. let small = roots_within system.arities pairs (λ p j. good p (from p j)) f i in omega (arith, few, small)) o.are_symbols in

@@ -112,7 +112,7 @@ in_or_not n (x ∷ xs) = dite (ℕ_discrete n x)
     (λ e. inl (subst (λ z. In z (x ∷ xs)) (sym e) in_first))
     (λ ne. elim (in_or_not n xs) [ inl i ↦ inl (in_rest i) | inr none ↦ inr (λ i. elim (in_or i) [ inl e ↦ absurd (ne e) | inr j ↦ none j ]) ])
 
-never_missing : (numbers members : List ℕ) → none_is_missing numbers members (Ok tt) → (z : ℕ) → In z numbers → In z members
+pub never_missing : (numbers members : List ℕ) → none_is_missing numbers members (Ok tt) → (z : ℕ) → In z numbers → In z members
 never_missing numbers members (never h) z i = elim (in_or_not z members) [ inl j ↦ j | inr none ↦ absurd (h z (i, none)) ]
 
 same_head : (x y : ℕ) → (x ≡ y) ⊎ (y < x) → (y ≡ x) ⊎ (x < y) → x ≡ y
@@ -121,7 +121,7 @@ same_head x y (inr lt) (inl e) = sym e
 same_head x y (inr lt) (inr gt) = absurd (omega (arith, lt, gt))
 
 -- numbers that ascend and are the same are so in the same order
-same_ascending : (xs ys : List ℕ) → Ascends xs → Ascends ys → ((z : ℕ) → In z xs → In z ys) → ((z : ℕ) → In z ys → In z xs) → xs ≡ ys
+pub same_ascending : (xs ys : List ℕ) → Ascends xs → Ascends ys → ((z : ℕ) → In z xs → In z ys) → ((z : ℕ) → In z ys → In z xs) → xs ≡ ys
 same_ascending [] [] up_x up_y f g = refl
 same_ascending [] (y ∷ ys) up_x up_y f g = absurd (no_in (g y in_first))
 same_ascending (x ∷ xs) [] up_x up_y f g = absurd (no_in (f x in_first))

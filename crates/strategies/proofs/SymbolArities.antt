@@ -12,7 +12,6 @@ use Rattle.pair_theory.proofs.PairList.{listed_are_pairs}
 use Rattle.order_theory.specs.KnuthBendix.{arity_with_marks}
 use Rattle.cert_step.specs.dp_core.Numbered.{ArePairsOf}
 use Rattle.cert_step.specs.dp_core.Symbols.{symbols_of_all, symbols_of_rules, symbols_below_roots}
-use Rattle.order_find.proofs.order_search.FewPairs.{taken_in}
 use Rattle.order_find.specs.order_search.OrderSpace.{arity_with_mark}
 use Rattle.order_find.specs.order_search.OrderRow.{AreSymbols, AreOfOrder}
 use Rattle.order_find.proofs.order_search.Covered.{symbol_within_all, symbols_within, rule_well}
@@ -20,6 +19,7 @@ use Rattle.order_find.proofs.order_search.Repeats.{symbols_distinct}
 use Rattle.order_find.specs.poly_find.UsableRow.{AreOfUsable}
 use Rattle.order_find.proofs.poly_find.NoPairing.{roots_within}
 use Rattle.order_find.proofs.poly_find.OfUsable.{items_in}
+use Rattle.order_find.proofs.order_search.dp_core.Conclusions.{each_in}
 use Rattle.cert_step.specs.Entries.{AreDistinct}
 use Rattle.strategies.proofs.Distinctness.{listed_distinct}
 
@@ -82,7 +82,7 @@ module _ (arities : List ℕ) (few : length arities ≤ 4095) (unmarked : List �
 
 module _ (system : System) (valid : IsSystem system) where
   pair_of : (numbers : List ℕ) (pairs : List DependencyPair) → ArePairsOf (dependency_pairs system.rules) numbers pairs → (p : DependencyPair) → In p pairs → IsPair system.arities p
-  pair_of numbers pairs are p i = listed_are_pairs system valid p (taken_in (dependency_pairs system.rules) numbers pairs are p i)
+  pair_of numbers pairs are p i = listed_are_pairs system valid p (each_in (dependency_pairs system.rules) numbers pairs are p i)
 
   rule_symbols_within : (f : ℕ) → In f (symbols_of_rules system.rules) → f < length system.arities
   rule_symbols_within = symbols_within system.arities system.rules (rule_well system valid)

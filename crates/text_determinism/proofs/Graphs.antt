@@ -1,41 +1,21 @@
 -- The components of the graph on a problem stand in one list: they are parts of the problem that share no pair, in the order of their
 -- least pairs as far as edges allow.
-use Rattle.std.specs.Prelude.{◌≡◌, ◌<◌, ℕ, List, [], ◌∷◌, ◌++◌, Ok, refl}
+use Rattle.std.specs.Prelude.{◌≡◌, ◌<◌, ℕ, List, [], ◌∷◌, refl}
 use Rattle.std.proofs.Common.{ap, ap₂, sym, ◌∙◌, subst, inl, inr, arith}
-use native.Mathlib.Decide.{ℕ_discrete}
 use Rattle.trs_defs.specs.Member.{In, in_first, in_rest}
 use Rattle.trs_defs.proofs.Members.{in_or, no_in, in_left, in_right, in_either}
 use Rattle.trs_defs.specs.Run.{Stay, Go}
 use Rattle.trs_defs.proofs.Runs.{then}
 use Rattle.trs_defs.specs.System.{RewriteRule, System}
 use Rattle.pair_theory.specs.DependencyPair.{DependencyPair, dependency_pairs}
-use Rattle.rewrite_core.specs.Check.{holds, never, goes_on}
 use Rattle.conclusion.specs.report_text.strategies.dp_graph.GroupOrSingle.{GroupOrSingle, group, single, members_of, all_members}
-use Rattle.conclusion.specs.report_text.strategies.dp_graph.GraphConditions.{are_new, none_is_missing}
 use Rattle.conclusion.specs.report_text.strategies.dp_graph.Components.{AreConnected, LiesOnCycle, IsComponent, IsReady, HasLesser, StandInOrder, next, AreComponents}
 use Rattle.conclusion.specs.report_text.strategies.Rows.{FindsGraph, FailsGraph}
+use Rattle.conclusion.proofs.tree_definitions.strategies.dp_graph.ComponentLaws.{member_there}
+use Rattle.conclusion.proofs.tree_definitions.strategies.Shrinking.{never_missing}
 use Rattle.text_determinism.proofs.Items.{increasing_once}
 
 -- ---- members
-
-members_there : (numbers before members : List ℕ) → are_new numbers before members (Ok tt) → (n : ℕ) → In n members → In n numbers
-members_there numbers before [] h n i = absurd (no_in i)
-members_there numbers before (m ∷ members) (goes_on _ _ (holds k) rest) n i = elim (in_or i) [
-  | inl e ↦ subst (λ z. In z numbers) (sym e) k.0
-  | inr j ↦ members_there numbers (before ++ m ∷ []) members rest n j
-]
-
-dec_in : (n : ℕ) (xs : List ℕ) → Dec (In n xs)
-dec_in n [] = no (λ i. no_in i)
-dec_in n (x ∷ xs) = either (ℕ_discrete n x) (dec_in n xs)
-  where
-    either : Dec (n ≡ x) → Dec (In n xs) → Dec (In n (x ∷ xs))
-    either (yes e) d = yes (subst (λ z. In n (z ∷ xs)) e in_first)
-    either (no e) (yes i) = yes (in_rest i)
-    either (no e) (no i) = no (λ j. elim (in_or j) [ inl same ↦ e same | inr k ↦ i k ])
-
-none_missing : (numbers members : List ℕ) → none_is_missing numbers members (Ok tt) → (n : ℕ) → In n numbers → In n members
-none_missing numbers members (never absent) n i = elim (dec_in n members) [ yes there ↦ there | no missing ↦ absurd (absent n (i, missing)) ]
 
 item_with : (items : List GroupOrSingle) (n : ℕ) → In n (all_members items) → (item : GroupOrSingle) × In item items × In n (members_of item)
 item_with [] n i = absurd (no_in i)
@@ -90,8 +70,8 @@ module _ (rules : List RewriteRule) (all : List DependencyPair) (numbers : List 
       → (item : GroupOrSingle) → In item items → In item others
   also_listed items others h k item i =
       let (x, has) = has_member item (h.components item i) in
-      let named : In x numbers = members_there numbers [] (all_members items) h.named x (of_item i has) in
-      let (other, there, shares) = item_with others x (none_missing numbers (all_members others) k.whole x named) in
+      let named : In x numbers = member_there numbers [] (all_members items) h.named x (of_item i has) in
+      let (other, there, shares) = item_with others x (never_missing numbers (all_members others) k.whole x named) in
       let same : item ≡ other = shared item other (h.components item i) (k.components other there) x has shares in
       subst (λ (z : GroupOrSingle). In z others) (sym same) there
 

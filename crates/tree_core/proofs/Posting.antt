@@ -1,12 +1,12 @@
 -- A post leaves a tree.
-use Rattle.std.proofs.Common.{◌≡◌, ◌≢◌, inl, inr, ℕ, zero, suc, ◌<◌, ◌≤◌, ◌+◌, ◌-◌, ◌==◌, Bool, true, false, cond, List, [], ◌∷◌, ◌++◌, length, map, set, Option, Some, None, slice_get, refl, sym, ap, ◌∙◌, subst, arith}
+use Rattle.std.proofs.Common.{◌≡◌, ◌≢◌, inl, inr, ℕ, ◌<◌, ◌≤◌, ◌+◌, ◌-◌, ◌==◌, Bool, true, false, cond, List, [], ◌∷◌, ◌++◌, length, map, set, Option, Some, None, slice_get, refl, sym, ap, ◌∙◌, subst, arith}
 use Rattle.std.specs.Option.{is_some}
 use Rattle.std.proofs.lemmas.Bool.{eqb-true, eqb-false, or_left, or_parts}
 use native.Mathlib.Decide.{ℕ_discrete}
 use mathlib.Core.Logic.{dite}
 use Rattle.trs_defs.specs.System.{System}
-use Rattle.trs_defs.specs.Member.{In, in_first, in_rest}
 use Rattle.trs_defs.proofs.ListItems.{item_there}
+use Rattle.trs_defs.proofs.Members.{in_of_get}
 use Rattle.tree_state.specs.cert_step.ProofProblem.{ProofProblem, IsWellMadeProblem}
 use Rattle.tree_state.specs.cert_step.ProofStep.{ProofStep}
 use Rattle.tree_state.specs.strategies.declared.failure.Failure.{Failure}
@@ -47,11 +47,6 @@ use Rattle.tree_state.proofs.strategies.Shrinking.{found_shrinks}
 use Rattle.tree_core.proofs.Bounding.{bounded_failure, bounded_step}
 use Rattle.tree_core.proofs.Given.{KeepProblems, given_ending, places_ended}
 use Rattle.tree_core.proofs.Trees.{was, running_ok, runs_at, tree_of, replays_more, no_failed_running, not_running_idle, not_failed_idle}
-
-some_in : {A : Type 0} (xs : List A) (k : ℕ) (x : A) → slice_get xs k ≡ Some x → In x xs
-some_in [] k x there = absurd cc
-some_in (y ∷ xs) zero x there = let same : y ≡ x = cc in subst (λ z. In z (y ∷ xs)) same in_first
-some_in (y ∷ xs) (suc k) x there = in_rest (some_in xs k x there)
 
 opened_is : (goals : List GoalState) (g count : ℕ) (old : GoalState) → slice_get goals g ≡ Some old → opened goals g count ≡ set goals g (record old { open_nodes = old.open_nodes - 1 + count })
 opened_is goals g count old e = rw e refl
@@ -221,7 +216,7 @@ module _ (question : Question) (system : System) (budget : ℕ) (p : Parts) (tre
       shape2 w = deciding.decide_shape goals system budget s1 shape1 legal1 n node1 there1 is_open step left w
 
       legal2 : (w : Option ℕ) → IsLegal goals system budget (record s1 { nodes = L; winner = w })
-      legal2 w = deciding.decide_legal goals system budget s1 shape1 legal1 n node1 there1 is_open step left strategy (some_in (strategies_for h.node.problem) h.ticket.place strategy strategy_at)
+      legal2 w = deciding.decide_legal goals system budget s1 shape1 legal1 n node1 there1 is_open step left strategy (in_of_get (strategies_for h.node.problem) h.ticket.place strategy strategy_at)
           is.finds is.applies is.step_well_made w
 
       -- a goal is won in the new nodes exactly where none of them is open
@@ -361,7 +356,7 @@ module _ (question : Question) (system : System) (budget : ℕ) (p : Parts) (tre
         legal = subst (λ (ns : List TreeNode). IsLegal goals system budget (P ns).state) same_nodes (legal2 winner);
         well_made = subst (λ (ns : List TreeNode). (k : ℕ) (y : TreeNode) → slice_get ns k ≡ Some y → IsWellMadeProblem system y.problem) same_nodes
             (deciding.well_made_later goals system budget s1 shape1 legal1 n node1 there1 is_open step left
-            (well_made_ended system p.state.nodes n h.ticket.place h.node Idle h.made tree.well_made) (λ j q t. is.left_well_made q (some_in left j q t)));
+            (well_made_ended system p.state.nodes n h.ticket.place h.node Idle h.made tree.well_made) (λ j q t. is.left_well_made q (in_of_get left j q t)));
         rooted = λ k q at. subst (λ (ns : List TreeNode). Carries ns k k q) same_nodes
             (deciding.carries_still goals system budget s1 shape1 legal1 n node1 there1 is_open step left k k q
             (carries_same p.state.nodes s1.nodes (same_later p.state.nodes n h.ticket.place h.node Idle h.made) k k q (tree.rooted k q at)));

@@ -3,12 +3,13 @@ use Rattle.std.proofs.Common.{◌≡◌, ℕ, suc, ◌+◌, List, [], ◌∷◌,
 use Rattle.std.proofs.lemmas.Option.{slice_get_within}
 use Rattle.trs_defs.specs.System.{System, IsSystem}
 use Rattle.tree_state.specs.cert_step.ProofProblem as problem
-use Rattle.tree_state.specs.cert_step.ProofProblem.{ProofProblem, Holds, Says, root_of}
+use Rattle.tree_state.specs.cert_step.ProofProblem.{ProofProblem, Holds, Says}
 use Rattle.tree_state.specs.cert_step.PlainProblem.{plain}
 use Rattle.tree_state.specs.cert_step.Subproblems.{AllHold}
 use Rattle.tree_state.specs.cert_step.declared.claim.Claim.{Claim}
 use Rattle.tree_state.specs.cert_step.declared.claim.Claim.TheVariants as claim
 use Rattle.tree_state.proofs.cert_step.Soundness.{sound_step}
+use Rattle.tree_state.proofs.cert_step.NodeSoundness.{root_says}
 use Rattle.tree_state.specs.tree_definitions.declared.question.Question.{Question}
 use Rattle.tree_state.specs.tree_definitions.Questions.{claims}
 use Rattle.tree_state.specs.tree_definitions.States.{TreeNode, Decided}
@@ -34,14 +35,6 @@ plain_holds system problem.fork h = h
 plain_holds system problem.unr h = h
 plain_holds system problem.unr_newman h = h
 plain_holds system problem.split h = h
-
-root_says : (system : System) (c : Claim) → Holds system (root_of c) → Says system c
-root_says system claim.Terminating h = h
-root_says system claim.Nonterminating h = h
-root_says system claim.Confluent h = h
-root_says system claim.Nonconfluent h = h
-root_says system claim.Unique h = h
-root_says system claim.Nonunique h = h
 
 -- the problem of a closed node holds
 module _ (system : System) (valid : IsSystem system) (budget : ℕ) (nodes : List TreeNode)
