@@ -12,3 +12,4 @@ pub mod LeastLacking
 pub mod Markable
 pub mod LeftNumbers
 pub mod Places
+pub mod Flags

@@ -8,12 +8,12 @@ use Rattle.trs_defs.specs.Run.{Run, Stay, Go}
 use Rattle.trs_defs.proofs.Runs.{one, then}
 use Rattle.trs_defs.proofs.Members.{no_in, in_left, in_right, in_either, get_of_in, in_of_get}
 use Rattle.trs_defs.proofs.ListItems.{last_item}
+use Rattle.dp_core.specs.Flags.{unset}
+use Rattle.dp_core.proofs.Flags.{unset_set, set_kept}
 use Rattle.dp_graph.specs.Rows.{Follows, StayWithin}
-use Rattle.dp_graph.specs.FoundPlaces.{unset}
 use Rattle.dp_graph.specs.Leaders.{AreMutual}
 use Rattle.dp_graph.specs.Finishing.{IsMutualBehind, IsMutualBefore, IsFinishingOrder, IsWalk, Enters, untried, effort}
-use Rattle.dp_graph.proofs.FoundLaws.{unset_set}
-use Rattle.dp_graph.proofs.ListPlaces.{set_at, not_both, unset_there, length_set, set_here, set_elsewhere, set_cases, set_kept, last_or_there, still_there, get_left, length_more, in_single, in_repeat, length_repeat}
+use Rattle.dp_graph.proofs.ListPlaces.{set_at, not_both, unset_there, length_set, set_here, set_elsewhere, set_cases, last_or_there, still_there, get_left, length_more, in_single, in_repeat, length_repeat}
 
 pub walk_starts : (rows : List (List ℕ)) (entered : List Bool) (next way finished : List ℕ) (n : ℕ) → n ≡ length rows → entered ≡ replicate n false → next ≡ replicate n 0 → way ≡ [] → finished ≡ []
     → IsWalk rows entered next way finished

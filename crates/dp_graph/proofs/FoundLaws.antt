@@ -8,18 +8,13 @@ use Rattle.trs_defs.specs.Member.{In, in_first}
 use Rattle.trs_defs.specs.Run.{Run, Stay, Go}
 use Rattle.trs_defs.proofs.Runs.{one, then}
 use Rattle.trs_defs.proofs.Members.{in_or, no_in, in_left, in_right, in_either, get_of_in, in_of_get}
+use Rattle.dp_core.specs.Flags.{unset}
 use Rattle.dp_core.proofs.Collecting.{next_read}
+use Rattle.dp_core.proofs.Flags.{unset_set, set_kept}
 use Rattle.dp_graph.specs.Rows.{Follows}
-use Rattle.dp_graph.specs.FoundPlaces.{unset, AreFound, Finds, FollowsFree, AreCollected}
+use Rattle.dp_graph.specs.FoundPlaces.{AreFound, Finds, FollowsFree, AreCollected}
 use Rattle.dp_graph.proofs.ItemLists.{one_taken}
-use Rattle.dp_graph.proofs.ListPlaces.{not_both, unset_there, length_set, set_here, set_cases, set_kept, get_left, in_single}
-
-pub unset_set : (flags : List Bool) (k : ℕ) → slice_get flags k ≡ Some false → unset (slice_set flags k true) + 1 ≡ unset flags
-unset_set [] k e = absurd cc
-unset_set (true ∷ flags) zero e = absurd cc
-unset_set (false ∷ flags) zero e = refl
-unset_set (true ∷ flags) (suc k) e = unset_set flags k e
-unset_set (false ∷ flags) (suc k) e = let h = unset_set flags k e in omega (arith, h)
+use Rattle.dp_graph.proofs.ListPlaces.{not_both, unset_there, length_set, set_here, set_cases, get_left, in_single}
 
 none_found : (flags : List Bool) → AreFound flags flags []
 none_found flags = record {

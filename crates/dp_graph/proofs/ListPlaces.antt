@@ -63,14 +63,6 @@ set_cases xs k j x y e = elim (ℕ_discrete j k) [
   | no other ↦ inr (other, sym (set_elsewhere xs k j x other) ∙ e)
 ]
 
-pub set_kept : (xs : List Bool) (k j : ℕ) → slice_get xs j ≡ Some true → slice_get (slice_set xs k true) j ≡ Some true
-set_kept xs k j e = elim (ℕ_discrete j k) [
-  | yes same ↦
-      let lt : k < length xs = subst (λ z. z < length xs) same (slice_get_within xs j true e) in
-      subst (λ z. slice_get (slice_set xs k true) z ≡ Some true) (sym same) (set_here xs k true lt)
-  | no other ↦ set_elsewhere xs k j true other ∙ e
-]
-
 -- ---- items behind others
 
 pub last_or_there : {A : Type 0} (xs : List A) (y x : A) (n : ℕ) → slice_get (xs ++ y ∷ []) n ≡ Some x → (slice_get xs n ≡ Some x) ⊎ ((n ≡ length xs) × (y ≡ x))

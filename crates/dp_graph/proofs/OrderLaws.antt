@@ -8,9 +8,9 @@ use Rattle.trs_defs.proofs.Members.{get_of_in}
 use Rattle.trs_defs.proofs.ListItems.{item_there}
 use Rattle.std.specs.BTreeSet.{BTreeSet}
 use Rattle.std.proofs.lemmas.Option.{same_Some, slice_get_within}
+use Rattle.dp_core.specs.Flags.{unset}
 use Rattle.dp_graph.specs.Leaders.{AreLeaders}
 use Rattle.dp_graph.specs.PutOut.{IsBlocked, IsUndoneLeader, IsNextReady, Finishes, PutsOut}
-use Rattle.dp_graph.specs.FoundPlaces.{unset}
 use Rattle.dp_graph.specs.Waiting.{Has, HasAt, AreAtFirst, TakesOut, Releases, OfRows}
 use Rattle.dp_graph.specs.declared.waiting.Waiting.{Waiting}
 use Rattle.dp_graph.proofs.ListPlaces.{not_both, unset_there, at_repeat, in_repeat, length_repeat, length_more}

@@ -10,7 +10,7 @@ use Rattle.trs_defs.proofs.Members.{in_or, no_in}
 use Rattle.trs_defs.specs.Run.{Stay}
 use Rattle.trs_defs.proofs.Runs.{then}
 use Rattle.trs_defs.proofs.ListItems.{item_there}
-use Rattle.dp_graph.specs.FoundPlaces.{unset}
+use Rattle.dp_core.specs.Flags.{unset}
 use Rattle.dp_graph.specs.Leaders.{AreMutual, AreLeaders}
 use Rattle.dp_graph.specs.PutOut.{IsBlocked, IsUndoneLeader, IsNextReady, Finishes, ArePutOut, all_done, put_out, PutsOut}
 use Rattle.dp_graph.proofs.ListPlaces.{at_repeat, length_repeat}

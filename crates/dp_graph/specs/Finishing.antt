@@ -2,8 +2,8 @@
 use Rattle.std.specs.Prelude.{◌≡◌, ◌<◌, ◌⊎◌, ℕ, ◌+◌, ◌-◌, ◌*◌, ◌++◌, Bool, true, false, List, [], ◌∷◌, length, replicate, Some, slice_get, slice_set}
 use Rattle.trs_defs.specs.Member.{In}
 use Rattle.trs_defs.specs.Run.{Run}
+use Rattle.dp_core.specs.Flags.{unset}
 use Rattle.dp_graph.specs.Rows.{Follows}
-use Rattle.dp_graph.specs.FoundPlaces.{unset}
 use Rattle.dp_graph.specs.Leaders.{AreMutual}
 use Rattle.dp_graph.specs.declared.finishing.Walk.{Walk}
 

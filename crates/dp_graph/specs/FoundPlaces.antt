@@ -1,14 +1,9 @@
 -- Places that are found, and flags that tell which.
-use Rattle.std.specs.Prelude.{◌≡◌, ◌<◌, ◌↔◌, ◌⊎◌, ℕ, ◌+◌, ◌++◌, Bool, true, false, List, [], ◌∷◌, Some, length, slice_get}
+use Rattle.std.specs.Prelude.{◌≡◌, ◌<◌, ◌↔◌, ◌⊎◌, ℕ, ◌+◌, ◌++◌, Bool, true, false, List, Some, length, slice_get}
 use Rattle.trs_defs.specs.Member.{In}
 use Rattle.trs_defs.specs.Run.{Run}
+use Rattle.dp_core.specs.Flags.{unset}
 use Rattle.dp_graph.specs.Rows.{Follows}
-
--- how many flags are not set
-abbrev pub unset : List Bool → ℕ
-unset [] = 0
-unset (true ∷ flags) = unset flags
-unset (false ∷ flags) = unset flags + 1
 
 -- beside those that were set before, the flags of exactly the found places are set; each is found once
 pub record AreFound (before flags : List Bool) (found : List ℕ) : Type 0 where

@@ -23,17 +23,12 @@ use Rattle.term_pool.proofs.RootBlocks.{roots_declared}
 use Rattle.term_pool.proofs.RootRules.{have_root}
 use Rattle.dp_core.proofs.Containment.{none_in, sub_under}
 use Rattle.dp_core.proofs.Containment as below
+use Rattle.dp_core.specs.Flags.{unset}
+use Rattle.dp_core.proofs.Flags.{unset_set, set_kept}
 use Rattle.usable_rules.specs.AreUsable.{IsUsableRule, Ascends, no_numbers, number, AreUsableRules}
-use Rattle.usable_rules.specs.Worklist.{unset, AreMarked, IsCalled, IsCalledInAny, Extends, IsLed, IsLedByPairs, IsUsableIfDefined, has_flag}
+use Rattle.usable_rules.specs.Worklist.{AreMarked, IsCalled, IsCalledInAny, Extends, IsLed, IsLedByPairs, IsUsableIfDefined, has_flag}
 
 -- ---- found symbols
-
-unset_set : (flags : List Bool) (k : ℕ) → slice_get flags k ≡ Some false → unset (slice_set flags k true) + 1 ≡ unset flags
-unset_set [] k e = absurd cc
-unset_set (true ∷ flags) zero e = absurd cc
-unset_set (false ∷ flags) zero e = refl
-unset_set (true ∷ flags) (suc k) e = unset_set flags k e
-unset_set (false ∷ flags) (suc k) e = let h = unset_set flags k e in omega (arith, h)
 
 length_set : (flags : List Bool) (k : ℕ) → length (slice_set flags k true) ≡ length flags
 length_set [] k = refl
@@ -52,13 +47,6 @@ set_other (b ∷ flags) zero (suc j) e = inr e
 set_other (b ∷ flags) (suc k) zero e = inr e
 set_other (b ∷ flags) (suc k) (suc j) e = elim (set_other flags k j e) [ inl s ↦ inl (ap suc s) | inr s ↦ inr s ]
 
-set_keeps : (flags : List Bool) (k j : ℕ) → slice_get flags j ≡ Some true → slice_get (slice_set flags k true) j ≡ Some true
-set_keeps [] k j e = absurd cc
-set_keeps (b ∷ flags) zero zero e = refl
-set_keeps (b ∷ flags) zero (suc j) e = e
-set_keeps (b ∷ flags) (suc k) zero e = e
-set_keeps (b ∷ flags) (suc k) (suc j) e = set_keeps flags k j e
-
 in_single : {j k : ℕ} → In j (k ∷ []) → j ≡ k
 in_single in_first = refl
 in_single (in_rest i) = elim i [ ]
@@ -69,7 +57,7 @@ module _ (flags : List Bool) (found : List ℕ) (k : ℕ) (unmarked : slice_get 
     once = let a = unset_set flags k unmarked in let b = length_set flags k in let d = length_push found k in let e = m.once in omega (arith, a, b, d, e);
     marked = λ j e. elim (set_other flags k j e) [ inl s ↦ subst (λ x. In x (found ++ k ∷ [])) (sym s) (in_right found in_first) | inr s ↦ in_left (k ∷ []) (m.marked j s) ];
     found_marked = λ j i. elim (in_either found (k ∷ []) i) [
-      | inl h ↦ set_keeps flags k j (m.found_marked j h)
+      | inl h ↦ set_kept flags k j (m.found_marked j h)
       | inr h ↦ subst (λ x. slice_get (slice_set flags k true) x ≡ Some true) (sym (in_single h)) (set_same flags k unmarked)
     ];
   }

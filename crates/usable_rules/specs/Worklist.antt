@@ -1,17 +1,12 @@
 -- Symbols that are found, and a table of which they are.
-use Rattle.std.specs.Prelude.{◌≡◌, ◌+◌, ◌++◌, ℕ, Bool, true, false, List, [], ◌∷◌, Some, IsTrue, length, slice_get, slice_index_or}
+use Rattle.std.specs.Prelude.{◌≡◌, ◌+◌, ◌++◌, ℕ, Bool, true, false, List, Some, IsTrue, length, slice_get, slice_index_or}
 use Rattle.trs_defs.specs.Member.{In}
 use Rattle.trs_defs.specs.Tree.{Tree, Trees, app}
 use Rattle.trs_defs.specs.System.{RewriteRule, Among, IsDefined, has_root}
 use Rattle.pair_theory.specs.Subterm.{Sub, Subs}
 use Rattle.pair_theory.specs.DependencyPair.{DependencyPair}
 use Rattle.order_theory.specs.UsableRules.{IsUsable, root_in}
-
--- how many flags are not set
-abbrev pub unset : List Bool → ℕ
-unset [] = 0
-unset (true ∷ flags) = unset flags
-unset (false ∷ flags) = unset flags + 1
+use Rattle.dp_core.specs.Flags.{unset}
 
 -- the flags of exactly the found symbols are set, and each is found once
 pub record AreMarked (flags : List Bool) (found : List ℕ) : Type 0 where

@@ -1,6 +1,6 @@
 use Rattle.std.proofs.Common.{◌-◌}
+use Rattle.dp_core.specs.Flags.{unset}
 use Rattle.dp_graph.specs.GraphConditions.{lists_of}
-use Rattle.dp_graph.specs.FoundPlaces.{unset}
 use Rattle.dp_graph.proofs.FoundLaws.{IsCollecting}
 use Rattle.dp_graph.proofs.collecting.collect.Given as goal
 
