@@ -11,8 +11,9 @@ use Rattle.kbo_order.specs.pair_order.Entries.{entry_of, has_entry}
 use Rattle.kbo_order.specs.declared.entries.KboEntry.{KboEntry}
 use Rattle.kbo_order.specs.Table.{symbol_of, arity_of, arity_in, weight_in, rank_in, has_arity}
 use Rattle.kbo_order.specs.Laws.{AgreesWith, spoken}
+use Rattle.kbo_order.specs.WellMade.{IsKboEntry}
 use Rattle.kbo_order.proofs.Admitting.{admissible}
-use Rattle.cert_step.specs.Entries.{IsKboEntry, AreKboEntries}
+use Rattle.cert_step.specs.Entries.{AreKboEntries}
 use Rattle.cert_step.specs.Kind.{IsSound}
 use Rattle.cert_step.specs.KboKind.{kbo_comparing, kbo_kind}
 use Rattle.cert_step.proofs.OrderSound.{order_sound}

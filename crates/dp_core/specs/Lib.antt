@@ -13,3 +13,4 @@ pub mod Markable
 pub mod LeftNumbers
 pub mod Places
 pub mod Flags
+pub mod Projection

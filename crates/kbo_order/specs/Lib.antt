@@ -7,3 +7,4 @@ pub mod Seen
 pub mod TooBig
 pub mod Laws
 pub mod Profiles
+pub mod WellMade

@@ -14,6 +14,7 @@ use Rattle.kbo_order.specs.declared.entries.KboEntry.{KboEntry}
 use Rattle.kbo_order.specs.declared.faults.KboFault.{KboFault}
 use Rattle.kbo_order.specs.declared.faults.KboFault.TheVariants as fault
 use Rattle.kbo_order.specs.Faults.{IsEntryFault, IsRankedBelow, IsOnTop, IsTopFault, HasFaultAt, HasTopFaultAt, IsFaultless}
+use Rattle.kbo_order.specs.WellMade.{IsKboEntry}
 use Rattle.names_text.specs.Named.{NamedSystem, IsNamed}
 use Rattle.names_text.specs.declared.table.Symbol.{Symbol}
 use Rattle.text_reading.specs.Reading.{Read, ◌<*>◌, ended, form, place_of}
@@ -28,7 +29,6 @@ use Rattle.pair_text.proofs.LongListLaws.{made_anything}
 use Rattle.pair_text.specs.Entries.{new_symbol, by_symbol, entries, with_symbol_of, AreNewBehind}
 use Rattle.pair_text.proofs.EntryLaws.{IsNewSymbol, IsNewEntry, entry_made, SpellsForm, entry_again, entries_made, entries_again}
 use Rattle.pair_text.specs.KnuthEntries.{weighed, weight_and_rank, stated_form, stated_entry, is_too_light, only_stated, kbo_form, kbo_entry, kbo_entry_item, is_below, is_on_top, with_stated, stated, is_low, first_low, with_place, kbo_entries}
-use Rattle.pair_text.specs.EntryRanges.{IsKboEntry}
 
 -- ---- what an entry states
 

@@ -4,6 +4,7 @@ use Rattle.std.specs.List.{AllByRecursion}
 use Rattle.sexp_core.specs.Items.{Items, items_of}
 use Rattle.trs_defs.specs.Variable.{is_listed}
 use Rattle.poly_lin.specs.Table.{symbol_of}
+use Rattle.poly_lin.specs.WellMade.{IsLinearEntry}
 use Rattle.names_text.specs.Named.{NamedSystem, IsNamed}
 use Rattle.names_text.specs.declared.table.Symbol.{Symbol}
 use Rattle.text_reading.specs.Reading.{form}
@@ -16,7 +17,6 @@ use Rattle.pair_text.specs.Entries.{AreNewBehind}
 use Rattle.pair_text.proofs.LongListLaws.{AreExactly, made_exactly, spells_exactly}
 use Rattle.pair_text.proofs.EntryLaws.{IsNewSymbol, IsNewEntry, entry_made, spells_as_form, entry_again, entries_made, entries_again}
 use Rattle.pair_text.specs.LinearEntries.{polynomial, coefficients, linear_entry, linear_entry_item, linear_entries}
-use Rattle.pair_text.specs.EntryRanges.{IsLinearEntry}
 
 -- ---- what is read
 

@@ -6,6 +6,7 @@ use Rattle.sexp_core.specs.Printed.{bare, placeless}
 use Rattle.trs_defs.specs.Variable.{is_listed}
 use Rattle.order_theory.specs.ArgumentFilter.{ArgumentFilter, To, Keep}
 use Rattle.path_lpo.specs.Table.{PathEntry, symbol_of, AscendsFrom}
+use Rattle.path_lpo.specs.WellMade.{IsFilterWithin, IsPathEntry}
 use Rattle.names_text.specs.Named.{NamedSystem, IsNamed}
 use Rattle.names_text.specs.declared.table.Symbol.{Symbol}
 use Rattle.text_reading.specs.Reading.{Read, ◌<*>◌, form, part, done}
@@ -20,7 +21,7 @@ use Rattle.pair_text.proofs.AscendingLaws.{IsFrom, ascending_made, ascending_aga
 use Rattle.pair_text.proofs.SymbolLaws.{IsArgumentPlace, argument_made, argument_again}
 use Rattle.pair_text.proofs.EntryLaws.{IsNewSymbol, IsNewEntry, entry_made, spells_as_form, entry_again, entries_made, entries_again}
 use Rattle.pair_text.specs.PathEntries.{to_place, keep_places, filter, path_entry_of, rank_and_filter, path_entry, filter_item, path_entry_item, path_entries}
-use Rattle.pair_text.specs.EntryRanges.{IsFilterWithin, IsPathEntry, HasBytes, HasPlaces}
+use Rattle.pair_text.specs.EntryRanges.{HasBytes, HasPlaces}
 
 -- ---- filters
 

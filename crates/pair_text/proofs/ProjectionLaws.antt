@@ -4,6 +4,7 @@ use Rattle.std.specs.List.{AllByRecursion}
 use Rattle.sexp_core.specs.Items.{Item, a_word, a_list, Items, no_items, item, items_of}
 use Rattle.sexp_core.specs.Printed.{bare, placeless}
 use Rattle.trs_defs.specs.Variable.{is_listed}
+use Rattle.dp_graph.specs.dp_core.Projection.{IsProjection}
 use Rattle.names_text.specs.Named.{NamedSystem, IsNamed}
 use Rattle.names_text.specs.declared.table.Symbol.{Symbol}
 use Rattle.text_reading.specs.Reading.{Read, Form, form, part, done}
@@ -17,7 +18,7 @@ use Rattle.pair_text.proofs.LongListLaws.{lacks_same}
 use Rattle.pair_text.proofs.SymbolLaws.{symbol_made, symbol_again, IsArgumentPlace, argument_made, argument_again}
 use Rattle.pair_text.proofs.EntryLaws.{IsNewEntry, entries_made, entries_again}
 use Rattle.pair_text.specs.Projections.{projected, projected_symbol, place_parts, projection, projection_item, projections}
-use Rattle.pair_text.specs.Ranges.{IsProjection, HasPlace}
+use Rattle.pair_text.specs.Ranges.{HasPlace}
 
 -- ---- what is read
 

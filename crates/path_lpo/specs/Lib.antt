@@ -6,3 +6,4 @@ pub mod Table
 pub mod Faults
 pub mod Kept
 pub mod Comparison
+pub mod WellMade

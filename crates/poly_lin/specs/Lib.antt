@@ -8,3 +8,4 @@ pub mod Covering
 pub mod TooBig
 pub mod Profiles
 pub mod Laws
+pub mod WellMade

@@ -4,8 +4,9 @@ use Rattle.std.specs.List.{AllByRecursion}
 use Rattle.std.specs.Prelude.{map}
 use Rattle.sexp_core.specs.Items.{items_of}
 use Rattle.cert_step.specs.path_lpo.Table.{PathEntry, symbol_of}
+use Rattle.cert_step.specs.path_lpo.WellMade.{IsPathEntry}
 use Rattle.names_text.specs.Named.{NamedSystem, IsNamed}
-use Rattle.cert_step.specs.Entries.{IsPathEntry, ArePathEntries}
+use Rattle.cert_step.specs.Entries.{ArePathEntries}
 use Rattle.cert_step.specs.ProofStep.{lpo}
 use Rattle.text_reading.proofs.Made.{MakesForm}
 use Rattle.text_reading.proofs.Again.{SpellsParts}

@@ -4,6 +4,7 @@ use Rattle.std.specs.List.{AllByRecursion}
 use Rattle.std.specs.Prelude.{map}
 use Rattle.sexp_core.specs.Items.{items_of}
 use Rattle.cert_step.specs.poly_lin.Table.{symbol_of}
+use Rattle.cert_step.specs.poly_lin.WellMade.{IsLinearEntry}
 use Rattle.names_text.specs.Named.{NamedSystem, IsNamed}
 use Rattle.cert_step.specs.Entries.{AreLinearEntries}
 use Rattle.cert_step.specs.ProofStep.{poly}
@@ -11,7 +12,6 @@ use Rattle.text_reading.proofs.Made.{MakesForm}
 use Rattle.text_reading.proofs.Again.{SpellsParts}
 use Rattle.pair_text.specs.Entries.{AreNewBehind}
 use Rattle.pair_text.specs.LinearEntries.{linear_entries, linear_entry_item}
-use Rattle.pair_text.specs.EntryRanges.{IsLinearEntry}
 use Rattle.pair_text.proofs.LinearLaws.{linear_entries_made, linear_entries_again}
 use Rattle.step_text.specs.Ranges.{IsReadMethod}
 use Rattle.step_text.specs.PolyText.{poly_parts, poly_step, poly_form}

@@ -3,8 +3,9 @@ use Rattle.std.proofs.Common.{ℕ, List, [], refl, arith}
 use Rattle.std.specs.List.{AllByRecursion}
 use Rattle.std.specs.Prelude.{map}
 use Rattle.sexp_core.specs.Items.{items_of}
+use Rattle.cert_step.specs.dp_core.Projection.{IsProjection}
 use Rattle.names_text.specs.Named.{NamedSystem, IsNamed}
-use Rattle.cert_step.specs.Entries.{IsProjection, AreProjections}
+use Rattle.cert_step.specs.Entries.{AreProjections}
 use Rattle.cert_step.specs.ProofStep.{subterm}
 use Rattle.text_reading.proofs.Made.{MakesForm}
 use Rattle.text_reading.proofs.Again.{SpellsParts}

@@ -6,13 +6,14 @@ use Rattle.std.proofs.lemmas.Bool.Decides.{nat_tests}
 use Rattle.trs_defs.specs.System.{System, IsSystem}
 use Rattle.order_theory.specs.ArgumentFilter.{To, Keep}
 use Rattle.cert_step.specs.path_lpo.Table.{PathEntry, symbol_of, AscendsFrom}
+use Rattle.cert_step.specs.path_lpo.WellMade.{IsFilterWithin}
 use Rattle.order_find.specs.order_search.Slots.{Slot, Table, table_of}
 use Rattle.order_find.specs.order_search.OrderSpace.{arity_with_mark}
 use Rattle.order_find.proofs.order_search.Tests.{lt_is}
 use Rattle.order_find.specs.lpo_find.LpoSpace.{places_from, all_but, filter_count, filter_number, lpo_values}
 use Rattle.order_find.specs.lpo_find.LpoRow.{lpo_entry, lpo_search}
 use Rattle.order_find.specs.lpo_find.Laws.{FindsLpo}
-use Rattle.cert_step.specs.Entries.{AreDistinct, IsFilterWithin, ArePathEntries}
+use Rattle.cert_step.specs.Entries.{AreDistinct, ArePathEntries}
 use Rattle.strategies.proofs.Distinctness.{names_said, each_said}
 use Rattle.strategies.proofs.SymbolArities.{arity_there, all_distinct}
 use Rattle.strategies.proofs.TableValues.{small_value}

@@ -8,7 +8,8 @@ use Rattle.order_find.proofs.order_search.Solutions.{solved}
 use Rattle.order_find.specs.SubtermSpace.{arity_in, subterm_search}
 use Rattle.order_find.specs.SubtermRow.{places_of, FindsSubterm}
 use Rattle.order_find.proofs.SubtermPuzzle.{many_slots, slot_domain}
-use Rattle.cert_step.specs.Entries.{AreDistinct, IsProjection, AreProjections}
+use Rattle.cert_step.specs.dp_core.Projection.{IsProjection}
+use Rattle.cert_step.specs.Entries.{AreDistinct, AreProjections}
 use Rattle.strategies.proofs.Distinctness.{increasing_distinct}
 
 place_within : (o : Option ℕ) (v : ℕ) → v < unwrap_or o 0 → (n : ℕ) × (o ≡ Some n) × (1 ≤ v + 1) × (v + 1 ≤ n)
