@@ -8,3 +8,5 @@ pub mod Puts
 pub mod LinePuts
 pub mod Fetching
 pub mod Conclusions
+pub mod Words
+pub mod Running

@@ -16,7 +16,8 @@ use Rattle.program_edge.specs.Conclusions.{IsConclusion, no_system, concluded as
 use Rattle.trsbatch.specs.declared.problem.Problem.{Problem}
 use Rattle.trsbatch.specs.declared.block.Block.{Block}
 use Rattle.trsbatch.specs.Words.{BatchAsked}
-use Rattle.trsbatch.specs.Output.{texts, IsMissing, by_fault, by_length, IsAnswered, concluded, missing, memory, IsBlock, is_read_fault, read_faults, AreBlocks}
+use Rattle.program_edge.specs.Words.{texts}
+use Rattle.trsbatch.specs.Output.{IsMissing, by_fault, by_length, IsAnswered, concluded, missing, memory, IsBlock, is_read_fault, read_faults, AreBlocks}
 use Rattle.trsbatch.specs.Problems.{IsFetched, IsProblemOf, is_failed, failure, failed_under, AreFetched, IsAnswerTo, IsLost, IsBlockOf, AreBlocksOf, plain_block, plain_blocks}
 
 -- ---- the block of a problem is the block of its name

@@ -18,7 +18,7 @@ use Rattle.io_edge.proofs.Counting.{same_or_not}
 use Rattle.program_edge.specs.Fetching.{most_problem_bytes}
 use Rattle.trsbatch.specs.declared.problem.Problem.{Problem}
 use Rattle.trsbatch.proofs.Zipping.{zip_push}
-use Rattle.trsbatch.specs.Output.{texts}
+use Rattle.program_edge.specs.Words.{texts}
 use Rattle.trsbatch.specs.Problems.{IsAskedFor, Fetches, TouchesOnly, IsFetched, IsProblemOf, is_failed, failure, failed_under, AreFetched, FitsLimit, IsWithinLimit}
 
 -- ---- what is said of a shelf is true of it before, where it tells the same and no count fell since

@@ -15,7 +15,8 @@ use Rattle.trsbatch.specs.ListText.{SaysNames}
 use Rattle.trsbatch.specs.Words.{BatchAsked}
 use Rattle.trsbatch.specs.Blocks.{blocks_text}
 use Rattle.trsbatch.specs.Lines.{list_refused_line}
-use Rattle.trsbatch.specs.Output.{texts, most_list_bytes, IsMissing, by_fault, by_length, IsTextOf, IsAnswer, no_list, refused, answered, TouchesOnlyNeeded, IsNeeded, as_list, as_problem}
+use Rattle.program_edge.specs.Words.{texts}
+use Rattle.trsbatch.specs.Output.{most_list_bytes, IsMissing, by_fault, by_length, IsTextOf, IsAnswer, no_list, refused, answered, TouchesOnlyNeeded, IsNeeded, as_list, as_problem}
 use Rattle.trsbatch.specs.Problems.{AreFetched, TouchesOnly, AreBlocksOf, plain_blocks, IsWithinLimit}
 use Rattle.trsbatch.specs.Answers.{IsListed, IsReadList, TouchesOnlyRead, TouchesOnlyListed}
 use Rattle.trsbatch.specs.declared.listed.Listed.{Listed}

@@ -3,7 +3,7 @@ use Rattle.std.specs.Prelude.{◌≡◌, ◌⊎◌, ℕ, List, Contains}
 use denote.Ref.{Bor}
 use Rattle.io_edge.specs.Edge.{Rose}
 use Rattle.io_edge.specs.Shelf.{ShelfMeaning, MayBe, IsUntouched}
-use Rattle.io_edge.specs.Sink.{SinkMeaning, AppendsTo, AppendsPrefix, NoSinkCountFell}
+use Rattle.io_edge.specs.Sink.{SinkMeaning, AppendsTo, AppendsPrefix}
 use Rattle.program_edge.specs.declared.status.Status.{Status}
 use Rattle.program_edge.specs.declared.status.Status.TheVariants as status
 use Rattle.program_edge.specs.Fetching.{unfetched_status, unfetched_line}
@@ -14,7 +14,8 @@ use Rattle.trsbatch.specs.declared.listed.Listed.{Listed}
 use Rattle.trsbatch.specs.declared.listed.Listed.TheVariants as listed
 use Rattle.trsbatch.specs.ListText.{SaysNames, IsListRefused}
 use Rattle.trsbatch.specs.Lines.{usage_line, list_refused_line}
-use Rattle.trsbatch.specs.Output.{texts, most_list_bytes, IsTextOf, IsMissing, IsNeeded}
+use Rattle.program_edge.specs.Words.{texts}
+use Rattle.trsbatch.specs.Output.{most_list_bytes, IsTextOf, IsMissing, IsNeeded}
 use Rattle.trsbatch.specs.Problems.{AreFetched}
 
 -- what a list comes to: its problems, or the line that is refused, or why there is no list

@@ -1,11 +1,10 @@
 -- What the program answers: a status and a text, by what its words ask for and by the texts under their names.
-use Rattle.std.specs.Prelude.{◌≡◌, ◌<◌, ◌≤◌, ◌⊎◌, ◌+◌, ◌&&◌, ℕ, Bool, true, false, cond, List, [], ◌∷◌, map, length, Option, Some, None, Contains}
+use Rattle.std.specs.Prelude.{◌≡◌, ◌<◌, ◌≤◌, ◌⊎◌, ◌+◌, ◌&&◌, ℕ, Bool, true, false, cond, List, [], ◌∷◌, length, Option, Some, None, Contains}
 use Rattle.std.specs.List.{AllZip}
 use Rattle.std.specs.Str.{bytes_eq}
-use denote.Ref.{Bor}
-use Rattle.io_edge.specs.Edge.{Rose, RoseBy}
-use Rattle.io_edge.specs.Shelf.{ShelfMeaning, Told, ToldAbsent, MayBe, MayPass, CanAskAgain, FaultRose, ReadPast, IsUntouched}
-use Rattle.io_edge.specs.Sink.{SinkMeaning, AppendsTo, AppendsPrefix, NoSinkCountFell}
+use Rattle.io_edge.specs.Edge.{RoseBy}
+use Rattle.io_edge.specs.Shelf.{ShelfMeaning, Told, ToldAbsent, MayBe, MayPass, FaultRose, ReadPast, IsUntouched}
+use Rattle.io_edge.specs.Sink.{SinkMeaning, AppendsTo, AppendsPrefix}
 use Rattle.command_line.specs.declared.Question.{Question}
 use Rattle.program_edge.specs.declared.status.Status.{Status}
 use Rattle.program_edge.specs.declared.status.Status.TheVariants as status
@@ -13,14 +12,11 @@ use Rattle.program_edge.specs.Lines.{too_long_line, read_fault_line}
 use Rattle.program_edge.specs.LinePuts.{lines_of, ArePut, IsFrontPut}
 use Rattle.program_edge.specs.Fetching.{most_problem_bytes}
 use Rattle.program_edge.specs.Conclusions.{IsConclusion}
+use Rattle.program_edge.specs.Running.{IsOr}
 use Rattle.trsbatch.specs.ListText.{SaysNames, IsListRefused}
 use Rattle.trsbatch.specs.Words.{BatchAsked}
 use Rattle.trsbatch.specs.Lines.{usage_line, list_refused_line}
 use Rattle.trsbatch.specs.Blocks.{PlainBlock, blocks_text}
-
--- words as texts
-abbrev pub texts : List (Bor (List ℕ)) → List (List ℕ)
-texts words = map (λ w. w.now) words
 
 -- the most bytes of the text of a list
 abbrev pub most_list_bytes : ℕ
@@ -98,20 +94,9 @@ pub data IsWanted (request : Option BatchAsked) (shelf : ShelfMeaning) : Status 
   for_names : (asked : BatchAsked) (list : List ℕ) (names : List (List ℕ)) → request ≡ Some asked
       → IsTextOf asked.list (Told shelf) list → SaysNames list names → IsWanted request shelf status.Answered
 
--- this status, unless a fault or want of memory came
-abbrev pub IsOr : Status → Status → Type 0
-IsOr wanted status.ReadFault = Unit {0}
-IsOr wanted status.WriteFault = Unit {0}
-IsOr wanted status.OutOfMemory = Unit {0}
-IsOr wanted s = s ≡ wanted
-
 -- the status is the one that is asked for, unless a fault or want of memory came
 abbrev pub AnswersOnly : Option BatchAsked → ShelfMeaning → Status → Type 0
 AnswersOnly request shelf s = (wanted : Status) → IsWanted request shelf wanted → IsOr wanted s
-
--- the program can be run again, on this shelf and this sink
-abbrev pub CanRunAgain : ShelfMeaning → ShelfMeaning → SinkMeaning → SinkMeaning → Type 0
-CanRunAgain before now taken later = CanAskAgain before now × NoSinkCountFell taken later
 
 -- the text under a name is needed: it is the list, or a name that a text of the list says
 pub data IsNeeded (list : List ℕ) (before : ShelfMeaning) : List ℕ → Type 0 where

@@ -11,7 +11,8 @@ use Rattle.program_edge.specs.declared.status.Status.{Status}
 use Rattle.program_edge.specs.declared.status.Status.TheVariants as status
 use Rattle.program_edge.specs.Statuses.{code_of}
 use Rattle.trsbatch.specs.Words.{BatchAsked, batch_of}
-use Rattle.trsbatch.specs.Output.{Writes, AnswersOnly, TouchesOnlyNeeded, CanRunAgain}
+use Rattle.program_edge.specs.Running.{CanRunAgain}
+use Rattle.trsbatch.specs.Output.{Writes, AnswersOnly, TouchesOnlyNeeded}
 
 -- the clauses of `run_batch`
 pub record IsRun (request : Option BatchAsked) (before now : ShelfMeaning) (s : Status) (taken later : SinkMeaning) : Type 0 where

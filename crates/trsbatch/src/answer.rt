@@ -2,7 +2,8 @@
 ghost use Rattle.std.specs.Prelude.{◌≡◌, ◌≤◌, Some, IfOk};
 ghost use Rattle.io_edge.specs.Shelf.{CanAskAgain};
 ghost use Rattle.trsbatch.specs.Words.{batch_of, batch_view};
-ghost use Rattle.trsbatch.specs.Output.{texts, IsAnswer, TouchesOnlyNeeded};
+ghost use Rattle.program_edge.specs.Words.{texts};
+ghost use Rattle.trsbatch.specs.Output.{IsAnswer, TouchesOnlyNeeded};
 ghost use Rattle.trsbatch.specs.Answers.{status_of, text_of};
 
 use crate::beside::{blocks_alone, blocks_beside};

@@ -1,7 +1,7 @@
 //! The problems of a list, fetched one after the other.
 ghost use Rattle.std.specs.Prelude.{◌≡◌, ◌≤◌, IfOk, length, string_bytes};
 ghost use Rattle.io_edge.specs.Shelf.{CanAskAgain};
-ghost use Rattle.trsbatch.specs.Output.{texts};
+ghost use Rattle.program_edge.specs.Words.{texts};
 ghost use Rattle.trsbatch.specs.Problems.{IsAskedFor, Fetches, AreFetched, TouchesOnly};
 
 use io_edge::{FetchFault, Shelf};

@@ -1,7 +1,9 @@
 ghost use Rattle.std.specs.Prelude.{◌≡◌, Some};
 ghost use Rattle.io_edge.specs.Edge.{Rose};
 ghost use Rattle.trsbatch.specs.Words.{batch_of, batch_view};
-ghost use Rattle.trsbatch.specs.Output.{texts, Writes, AnswersOnly, TouchesOnlyNeeded, CanRunAgain};
+ghost use Rattle.program_edge.specs.Words.{texts};
+ghost use Rattle.program_edge.specs.Running.{CanRunAgain};
+ghost use Rattle.trsbatch.specs.Output.{Writes, AnswersOnly, TouchesOnlyNeeded};
 ghost use Rattle.trsbatch.specs.Run.{IsRun};
 
 use crate::answer::{answer_alone, batch_answered_beside};

@@ -17,7 +17,8 @@ use Rattle.io_edge.specs.declared.fault.FetchFault.{FetchFault}
 use Rattle.io_edge.specs.declared.fault.FetchFault.TheVariants as fetch
 use Rattle.program_edge.specs.declared.status.Status.{Status}
 use Rattle.program_edge.specs.declared.status.Status.TheVariants as status
-use Rattle.trsprove.specs.Output.{usage, too_long, decided, answered, completed, sampled, AreFetched, IsNeeded, as_problem, as_certificate, as_question, as_equations, as_order, IsWithin, IsTooLong, IsOr, AnswersOnly}
+use Rattle.program_edge.specs.Running.{IsOr}
+use Rattle.trsprove.specs.Output.{usage, too_long, decided, answered, completed, sampled, AreFetched, IsNeeded, as_problem, as_certificate, as_question, as_equations, as_order, IsWithin, IsTooLong, AnswersOnly}
 use Rattle.trsprove.specs.Verdicts.{IsWritten, with_claim, in_version_two, too_heavy, Verdict, refused, rejected, accepted, most_certificate_bytes}
 use Rattle.program_edge.specs.Fetching.{most_problem_bytes, IsUnfetched}
 

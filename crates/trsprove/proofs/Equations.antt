@@ -16,7 +16,8 @@ use Rattle.program_edge.specs.declared.status.Status.{Status}
 use Rattle.program_edge.specs.declared.status.Status.TheVariants as status
 use Rattle.program_edge.specs.Fetching.{most_problem_bytes, IsUnfetched}
 use Rattle.trsprove.specs.Completions.{IsCompletion, no_equations, no_order, ended, most_order_bytes}
-use Rattle.trsprove.specs.Output.{AreEquations, Output, usage, too_long, decided, answered, completed, sampled, IsNeeded, as_problem, as_certificate, as_question, as_equations, as_order, IsWithin, IsTooLong, WasFetched, IsAnswer, IsOr, AnswersOnly, TouchesOnlyNeeded}
+use Rattle.program_edge.specs.Running.{IsOr}
+use Rattle.trsprove.specs.Output.{AreEquations, Output, usage, too_long, decided, answered, completed, sampled, IsNeeded, as_problem, as_certificate, as_question, as_equations, as_order, IsWithin, IsTooLong, WasFetched, IsAnswer, AnswersOnly, TouchesOnlyNeeded}
 use Rattle.trsprove.proofs.Fetching.{may_be_before, was_fetched, IsFault, IsLong}
 use Rattle.trsprove.proofs.Answering.{told_is, not_long, too_long_within}
 

@@ -11,7 +11,8 @@ use Rattle.command_line.specs.declared.Question.{Question}
 use Rattle.program_edge.specs.declared.status.Status.{Status}
 use Rattle.program_edge.specs.declared.status.Status.TheVariants as status
 use Rattle.program_edge.specs.Conclusions.{IsConclusion, no_system, concluded}
-use Rattle.trsprove.specs.Output.{Output, usage, too_long, decided, answered, completed, sampled, IsAsked, IsNeeded, as_problem, as_certificate, as_question, as_equations, as_order, IsWithin, IsTooLong, WasFetched, IsAnswer, IsOr, AnswersOnly, TouchesOnlyNeeded}
+use Rattle.program_edge.specs.Running.{IsOr}
+use Rattle.trsprove.specs.Output.{Output, usage, too_long, decided, answered, completed, sampled, IsAsked, IsNeeded, as_problem, as_certificate, as_question, as_equations, as_order, IsWithin, IsTooLong, WasFetched, IsAnswer, AnswersOnly, TouchesOnlyNeeded}
 use Rattle.program_edge.specs.Fetching.{most_problem_bytes, IsUnfetched}
 use Rattle.trsprove.specs.declared.answer.Answer.{Answer}
 use Rattle.trsprove.specs.Answers.{status_of, text_of}

@@ -1,8 +1,7 @@
 -- What the program answers: a status and a text, by what its words ask for and by the texts under their names.
-use Rattle.std.specs.Prelude.{◌≡◌, ◌⊎◌, ◌<◌, ◌≤◌, ℕ, List, map, Option, Some, None, length}
-use denote.Ref.{Bor}
-use Rattle.io_edge.specs.Shelf.{ShelfMeaning, Told, ToldAbsent, MayBe, MayPass, CanAskAgain, FaultRose, ReadPast, IsUntouched}
-use Rattle.io_edge.specs.Sink.{SinkMeaning, AppendsTo, AppendsPrefix, NoSinkCountFell}
+use Rattle.std.specs.Prelude.{◌≡◌, ◌⊎◌, ◌<◌, ◌≤◌, ℕ, List, Option, Some, None, length}
+use Rattle.io_edge.specs.Shelf.{ShelfMeaning, Told, ToldAbsent, MayBe, MayPass, FaultRose, ReadPast, IsUntouched}
+use Rattle.io_edge.specs.Sink.{SinkMeaning, AppendsTo, AppendsPrefix}
 use Rattle.command_line.specs.Request.{Asked, certifies, proves, completes, samples}
 use Rattle.command_line.specs.declared.Question.{Question}
 use Rattle.command_line.specs.declared.Wanted.{Wanted}
@@ -12,14 +11,11 @@ use Rattle.program_edge.specs.Lines.{too_long_line, read_fault_line}
 use Rattle.program_edge.specs.LinePuts.{lines_of, ArePut, IsFrontPut}
 use Rattle.program_edge.specs.Fetching.{most_problem_bytes}
 use Rattle.program_edge.specs.Conclusions.{IsConclusion}
+use Rattle.program_edge.specs.Running.{IsOr}
 use Rattle.trsprove.specs.Lines.{usage_line}
 use Rattle.trsprove.specs.Workers.{IsSampledBy}
 use Rattle.trsprove.specs.Verdicts.{Verdict, most_certificate_bytes}
 use Rattle.trsprove.specs.Completions.{IsCompletion, most_order_bytes}
-
--- the words as texts
-abbrev pub texts : List (Bor (List ℕ)) → List (List ℕ)
-texts words = map (λ w. w.now) words
 
 -- it is asked to certify the text under a name for the problem under another, and to write what is wanted of it, and these
 -- are texts under them
@@ -121,13 +117,6 @@ Writes request before now s taken later = (text : List ℕ)
     × IsAnswer request before now s text × AppendsTo taken text later
     × (GivesVerdict s → ArePut taken (lines_of text) later)
 
--- this status, unless a fault or want of memory came
-abbrev pub IsOr : Status → Status → Type 0
-IsOr wanted status.ReadFault = Unit {0}
-IsOr wanted status.WriteFault = Unit {0}
-IsOr wanted status.OutOfMemory = Unit {0}
-IsOr wanted s = s ≡ wanted
-
 -- where the texts that the shelf tells have an answer, the status is that of the answer, faults and want of memory aside
 abbrev pub AnswersOnly : Option Asked → ShelfMeaning → Status → Type 0
 AnswersOnly request shelf s = (wanted : Status) (text : List ℕ) → Output request (Told shelf) wanted text → IsOr wanted s
@@ -138,10 +127,6 @@ abbrev pub AnswersNoAbsence : Option Asked → ShelfMeaning → Status → Type 
 AnswersNoAbsence request shelf s = (name : List ℕ) (limit : ℕ)
     → IsNeeded request (IsWithin most_problem_bytes (Told shelf)) name limit → ToldAbsent shelf limit name
     → IsOr status.ReadFault s
-
--- the program can be run again, on this shelf and this sink
-abbrev pub CanRunAgain : ShelfMeaning → ShelfMeaning → SinkMeaning → SinkMeaning → Type 0
-CanRunAgain before now taken later = CanAskAgain before now × NoSinkCountFell taken later
 
 -- nothing is counted under a name, unless its text is needed
 abbrev pub TouchesOnlyNeeded : Option Asked → ShelfMeaning → ShelfMeaning → Type 0

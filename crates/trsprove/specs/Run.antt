@@ -10,7 +10,8 @@ use Rattle.io_edge.specs.Sink.{SinkMeaning}
 use Rattle.command_line.specs.Request.{Asked, request_of}
 use Rattle.program_edge.specs.declared.status.Status.{Status}
 use Rattle.program_edge.specs.declared.status.Status.TheVariants as status
-use Rattle.trsprove.specs.Output.{Writes, AnswersOnly, TouchesOnlyNeeded, AnswersNoAbsence, CanRunAgain}
+use Rattle.program_edge.specs.Running.{CanRunAgain}
+use Rattle.trsprove.specs.Output.{Writes, AnswersOnly, TouchesOnlyNeeded, AnswersNoAbsence}
 use Rattle.trsprove.specs.Truth.{IsTrueAnswer}
 use Rattle.trsprove.specs.Completeness.{NoFaultRose, IsComplete}
 use Rattle.program_edge.specs.Statuses.{code_of}

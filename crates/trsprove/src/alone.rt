@@ -1,7 +1,7 @@
 //! What is answered where one worker looks for proofs.
 ghost use Rattle.std.specs.Prelude.{Some};
 ghost use Rattle.command_line.specs.Request.{request_of, request_view, IsInRange};
-ghost use Rattle.trsprove.specs.Output.{texts};
+ghost use Rattle.program_edge.specs.Words.{texts};
 ghost use Rattle.trsprove.specs.Answered.{IsAnswered};
 ghost use Rattle.trsprove.specs.Workers.{asked_of};
 

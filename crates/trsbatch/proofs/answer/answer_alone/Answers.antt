@@ -1,6 +1,7 @@
 use Rattle.std.proofs.Common.{Err, subst}
 use Rattle.trsbatch.specs.Words.{batch_of, AnswersBatch}
-use Rattle.trsbatch.specs.Output.{texts, usage}
+use Rattle.program_edge.specs.Words.{texts}
+use Rattle.trsbatch.specs.Output.{usage}
 use Rattle.trsbatch.proofs.answer.answer_alone.Goals as goal
 
 pub returns-in-Err-Usage-clause-answer : goal.returns-in-Err-Usage-clause-answer

@@ -4,7 +4,7 @@ use Rattle.std.specs.Vec.Iter.{into_iter_items}
 use Rattle.std.proofs.lemmas.Iterator.Adapters.{YieldsList-from_vec}
 use Rattle.std.proofs.lemmas.Iterator.{items_from_collect}
 use Rattle.trsbatch.specs.Words.{batch_of}
-use Rattle.trsbatch.specs.Output.{texts}
+use Rattle.program_edge.specs.Words.{texts}
 use Rattle.trsbatch.specs.Run.{IsRun}
 use Rattle.trsbatch.proofs.arguments.status_for_texts.Goals as goal
 

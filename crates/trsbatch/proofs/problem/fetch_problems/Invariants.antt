@@ -1,6 +1,6 @@
 use Rattle.std.proofs.Common.{take}
 use Rattle.io_edge.specs.Shelf.{CanAskAgain}
-use Rattle.trsbatch.specs.Output.{texts}
+use Rattle.program_edge.specs.Words.{texts}
 use Rattle.trsbatch.specs.Problems.{AreFetched, TouchesOnly}
 use Rattle.trsbatch.proofs.problem.fetch_problems.Given as goal
 

@@ -1,5 +1,5 @@
 use Rattle.trsbatch.specs.Words.{batch_of}
-use Rattle.trsbatch.specs.Output.{texts}
+use Rattle.program_edge.specs.Words.{texts}
 use Rattle.trsbatch.specs.Answers.{status_of, text_of}
 use Rattle.trsbatch.specs.Run.{IsRun}
 use Rattle.trsbatch.proofs.Running.{answered_run}

@@ -1,6 +1,6 @@
 use Rattle.std.proofs.Common.{◌≡◌, Some, None, rules, sym, subst, ap}
 use Rattle.command_line.specs.Request.{request_of, request_view}
-use Rattle.trsprove.specs.Output.{texts}
+use Rattle.program_edge.specs.Words.{texts}
 use Rattle.trsprove.specs.Answered.{IsAnswered}
 use Rattle.trsprove.specs.Workers.{asked_of}
 use Rattle.trsprove.proofs.Usage.{known_of_usage}

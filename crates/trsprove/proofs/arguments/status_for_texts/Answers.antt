@@ -4,7 +4,7 @@ use Rattle.std.specs.Vec.Iter.{into_iter_items}
 use Rattle.std.proofs.lemmas.Iterator.Adapters.{YieldsList-from_vec}
 use Rattle.std.proofs.lemmas.Iterator.{items_from_collect}
 use Rattle.command_line.specs.Request.{request_of}
-use Rattle.trsprove.specs.Output.{texts}
+use Rattle.program_edge.specs.Words.{texts}
 use Rattle.trsprove.specs.Run.{IsRun}
 use Rattle.trsprove.proofs.arguments.status_for_texts.Goals as goal
 

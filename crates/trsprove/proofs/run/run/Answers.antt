@@ -1,5 +1,5 @@
 use Rattle.command_line.specs.Request.{request_of}
-use Rattle.trsprove.specs.Output.{texts}
+use Rattle.program_edge.specs.Words.{texts}
 use Rattle.trsprove.proofs.run.run.Goals as goal
 
 pub returns : goal.returns

@@ -1,6 +1,6 @@
 use Rattle.std.proofs.Common.{◌≡◌, Some, None, rules, sym, subst}
 use Rattle.command_line.specs.Request.{request_of, request_view}
-use Rattle.trsprove.specs.Output.{texts}
+use Rattle.program_edge.specs.Words.{texts}
 use Rattle.trsprove.specs.Answered.{IsAnswered}
 use Rattle.trsprove.proofs.Usage.{known_of_usage}
 use Rattle.trsprove.proofs.several.answer_with.Goals as goal
