@@ -6,7 +6,8 @@ use Rattle.std.proofs.lemmas.Bool.Decides.{nat_tests}
 use Rattle.order_theory.specs.ArgumentFilter.{ArgumentFilter, To, Keep}
 use Rattle.path_lpo.specs.declared.entries.Filter.{Filter}
 use Rattle.path_lpo.specs.Plain.{plain_filter}
-use Rattle.lpo_find.specs.LpoSpace.{filter_count, filter_number, places_from, all_but}
+use Rattle.order_theory.specs.Keeping.{places_from}
+use Rattle.lpo_find.specs.LpoSpace.{filter_count, filter_number, all_but}
 use Rattle.lpo_find.specs.Filters.{plain_filters, filters_of}
 
 -- the filters up to number i are made

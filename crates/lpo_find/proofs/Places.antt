@@ -3,7 +3,8 @@ use Rattle.std.specs.Prelude.{◌≡◌, ◌<◌, ◌≤◌, ℕ, ◌+◌, ◌-�
 use Rattle.std.proofs.Common.{zero, suc, refl, sym, ap, arith, ◌∙◌, append_assoc}
 use Rattle.std.proofs.lemmas.List.{append-nil}
 use Rattle.std.proofs.lemmas.Bool.Decides.{nat_tests}
-use Rattle.lpo_find.specs.LpoSpace.{places_from, all_but}
+use Rattle.order_theory.specs.Keeping.{places_from}
+use Rattle.lpo_find.specs.LpoSpace.{all_but}
 
 other_test : (q p : ℕ) → p < q → (q == p) ≡ false
 other_test q p h = grind (arith, nat_tests)

@@ -4,7 +4,8 @@ use Rattle.std.proofs.Common.{Vec, Global}
 use Rattle.order_theory.specs.ArgumentFilter.{ArgumentFilter}
 use Rattle.path_lpo.specs.declared.entries.Filter.{Filter}
 use Rattle.path_lpo.specs.Plain.{plain_filter}
-use Rattle.lpo_find.specs.LpoSpace.{filter_count, filter_number, places_from}
+use Rattle.order_theory.specs.Keeping.{places_from}
+use Rattle.lpo_find.specs.LpoSpace.{filter_count, filter_number}
 
 abbrev pub plain_filters : Vec Filter Global → List ArgumentFilter
 plain_filters filters = map plain_filter filters.items

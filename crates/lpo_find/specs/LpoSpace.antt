@@ -4,13 +4,9 @@ use Rattle.std.proofs.Common.{zero, suc}
 use Rattle.trs_defs.specs.Tree.{Tree}
 use Rattle.order_theory.specs.PathTest.{same_tree, path_greater}
 use Rattle.order_theory.specs.ArgumentFilter.{ArgumentFilter, To, Keep, filtered}
+use Rattle.order_theory.specs.Keeping.{places_from}
 use Rattle.order_search.specs.Slots.{Slot, Table}
 use Rattle.order_search.specs.OrderSpace.{OrderFamily}
-
--- n places from this one on
-abbrev pub places_from : ℕ → ℕ → List ℕ
-places_from place zero = []
-places_from place (suc n) = place ∷ places_from (suc place) n
 
 abbrev pub all_but : ℕ → List ℕ → List ℕ
 all_but place [] = []

@@ -2,7 +2,8 @@
 ghost use Rattle.std.specs.Prelude.{◌≡◌, ◌<◌, ◌++◌, [], ◌∷◌, IfOk, OnOk, map};
 ghost use Rattle.path_lpo.specs.Plain.{plain_filter};
 ghost use Rattle.order_search.specs.OrderSpace.{arity_with_mark};
-ghost use Rattle.lpo_find.specs.LpoSpace.{filter_count, filter_number, places_from, all_but};
+ghost use Rattle.order_theory.specs.Keeping.{places_from};
+ghost use Rattle.lpo_find.specs.LpoSpace.{filter_count, filter_number, all_but};
 ghost use Rattle.lpo_find.specs.Filters.{plain_filters, filters_of};
 
 use order_search::arity_of;

@@ -5,12 +5,13 @@ use Rattle.std.proofs.Common.{zero, suc, refl, sym, subst, arith}
 use Rattle.std.proofs.lemmas.Bool.Decides.{nat_tests}
 use Rattle.trs_defs.specs.System.{System, IsSystem}
 use Rattle.order_theory.specs.ArgumentFilter.{To, Keep}
+use Rattle.order_theory.specs.Keeping.{places_from}
 use Rattle.cert_step.specs.path_lpo.Table.{PathEntry, symbol_of, AscendsFrom}
 use Rattle.cert_step.specs.path_lpo.WellMade.{IsFilterWithin}
 use Rattle.order_find.specs.order_search.Slots.{Slot, Table, table_of}
 use Rattle.order_find.specs.order_search.OrderSpace.{arity_with_mark}
 use Rattle.order_find.proofs.order_search.Tests.{lt_is}
-use Rattle.order_find.specs.lpo_find.LpoSpace.{places_from, all_but, filter_count, filter_number, lpo_values}
+use Rattle.order_find.specs.lpo_find.LpoSpace.{all_but, filter_count, filter_number, lpo_values}
 use Rattle.order_find.specs.lpo_find.LpoRow.{lpo_entry, lpo_search}
 use Rattle.order_find.specs.lpo_find.Laws.{FindsLpo}
 use Rattle.cert_step.specs.Entries.{AreDistinct, ArePathEntries}
