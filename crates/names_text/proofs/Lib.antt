@@ -1,4 +1,5 @@
 pub mod Loops
+pub mod NameLists
 pub mod NameKeys
 pub mod SymbolPairs
 pub mod SymbolTables

@@ -12,7 +12,7 @@ use Rattle.names_text.specs.declared.names_fault.NamesFault.TheVariants.{Count, 
 use Rattle.names_text.specs.Names.{number_among, are_distinct}
 use Rattle.names_text.specs.Named.{IsNamed, is_word, is_shallow, is_numbered}
 use Rattle.names_text.specs.NamesFault.{first_bad_name, rules_fault, names_fault, FailsBy}
-use Rattle.names_text.proofs.NameKeys.{absent, distinct_last}
+use Rattle.names_text.proofs.NameLists.{absent, distinct_last}
 
 -- a word is a run of letters that is not empty
 pub word_test : (bs : List ℕ) → 0 < length bs → is_word bs ≡ list_all (λ x. is_letter (class_of x)) bs

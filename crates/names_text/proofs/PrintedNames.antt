@@ -1,7 +1,6 @@
 -- The names of symbols and of variables in a printed problem.
-use Rattle.std.proofs.Common.{◌≡◌, ℕ, zero, suc, ◌^◌, ◌<◌, ◌≤◌, Bool, true, false, cond, not, List, [], ◌∷◌, ◌++◌, length, get_or, replicate, Option, Some, None, option_map, decimal, refl, ap, ◌∙◌, ⊎_elim, arith}
+use Rattle.std.proofs.Common.{◌≡◌, ℕ, zero, suc, ◌^◌, ◌<◌, ◌≤◌, true, false, not, List, [], ◌∷◌, ◌++◌, length, get_or, replicate, Some, None, decimal, refl, ap, ◌∙◌, ⊎_elim, arith}
 use Rattle.std.specs.List.{list_any, AllByRecursion}
-use Rattle.std.specs.Option.{option_or}
 use Rattle.std.specs.Str.{bytes_eq}
 use Rattle.std.proofs.lemmas.Bool.{and_parts, false_from_ne_true, both_ways, not-true, cases_lt}
 use Rattle.std.proofs.lemmas.Cmp.{nat_list_eq_equiv}
@@ -14,6 +13,7 @@ use Rattle.sexp_core.specs.Printed.{IsWord}
 use Rattle.names_text.specs.Names.{number_among, are_distinct}
 use Rattle.names_text.specs.Named.{is_word}
 use Rattle.names_text.specs.VariableNames.{leading_underscores, underscores, variable_name}
+use Rattle.names_text.proofs.NameLists.{number_behind}
 use Rattle.text_reading.proofs.Words.{decimal_word, letters}
 
 -- ---- words
@@ -87,19 +87,6 @@ pub length_variables : (k m : ℕ) → length (variables_to k m) ≡ m
 length_variables k zero = refl
 length_variables k (suc m) = omega (arith, length-append (variables_to k m) (variable_name k m ∷ []), length_variables k m)
 
-push_behind : (b c : Bool) (o : Option ℕ) (l : ℕ)
-    → cond b (Some 0) (option_map suc (option_or o (cond c (Some l) None))) ≡ option_or (cond b (Some 0) (option_map suc o)) (cond c (Some (suc l)) None)
-push_behind true c o l = refl
-push_behind false c (Some i) l = refl
-push_behind false true None l = refl
-push_behind false false None l = refl
-
-number_push : (xs : List (List ℕ)) (y n : List ℕ) → number_among (xs ++ y ∷ []) n ≡ option_or (number_among xs n) (cond (bytes_eq n y) (Some (length xs)) None)
-number_push [] y n = refl
-number_push (x ∷ xs) y n =
-    ap (λ (o : Option ℕ). cond (bytes_eq n x) (Some 0) (option_map suc o)) (number_push xs y n)
-    ∙ push_behind (bytes_eq n x) (bytes_eq n y) (number_among xs n) (length xs)
-
 other_name : (k v w : ℕ) → v < 2 ^ 64 → w < v → bytes_eq (variable_name k v) (variable_name k w) ≡ false
 other_name k v w lt below =
     false_from_ne_true _ (λ e.
@@ -110,12 +97,12 @@ other_name k v w lt below =
 pub later_variable : (k m v : ℕ) → m ≤ v → v < 2 ^ 64 → number_among (variables_to k m) (variable_name k v) ≡ None
 later_variable k zero v le lt = refl
 later_variable k (suc m) v le lt =
-    number_push (variables_to k m) (variable_name k m) (variable_name k v)
+    number_behind (variables_to k m) (variable_name k m) (variable_name k v)
     ∙ rw (later_variable k m v (omega arith) lt, other_name k v m lt (omega arith)) refl
 
 last_variable : (k m v : ℕ) → v ≡ m → v < 2 ^ 64 → number_among (variables_to k (suc m)) (variable_name k v) ≡ Some v
 last_variable k m v e lt =
-    number_push (variables_to k m) (variable_name k m) (variable_name k v)
+    number_behind (variables_to k m) (variable_name k m) (variable_name k v)
     ∙ rw (later_variable k m v (omega arith) lt, (bytes_eq-Decides (variable_name k v) (variable_name k m)).1 (ap (variable_name k) e), length_variables k m, e) refl
 
 -- a variable is found by its name
@@ -123,6 +110,6 @@ pub variable_number : (k m v : ℕ) → v < m → v < 2 ^ 64 → number_among (v
 variable_number k zero v below lt = absurd (omega arith)
 variable_number k (suc m) v below lt =
     ⊎_elim (λ (less : v < m).
-    number_push (variables_to k m) (variable_name k m) (variable_name k v) ∙ rw (variable_number k m v less lt) refl)
+    number_behind (variables_to k m) (variable_name k m) (variable_name k v) ∙ rw (variable_number k m v less lt) refl)
     (λ (le : m ≤ v). last_variable k m v (omega arith) lt)
     (cases_lt v m)

@@ -9,7 +9,8 @@ use Rattle.trs_defs.specs.WellFormed.{IsWellFormed, AreWellFormed}
 use Rattle.names_text.specs.declared.table.Symbol.{Symbol}
 use Rattle.names_text.specs.Names.{number_among}
 use Rattle.names_text.specs.Symbols.{Declared, arities_of, symbol_named}
-use Rattle.names_text.proofs.SymbolTables.{symbol_known, number_below}
+use Rattle.names_text.proofs.NameLists.{number_below}
+use Rattle.names_text.proofs.SymbolTables.{symbol_known}
 use Rattle.term_text.specs.declared.fault.TermFault.TheVariants.{LoneSymbol}
 use Rattle.term_text.specs.Checked.{Checked, a_fault}
 use Rattle.term_text.specs.Terms.{with_variable, with_word, variables_after, all_variables_after, variable, lone, taking, head, term, terms}
