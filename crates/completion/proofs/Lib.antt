@@ -4,7 +4,9 @@ pub mod PeakPairs
 pub mod RightEndings
 pub mod PathReductions
 pub mod FirstSteps
+pub mod IdSetLaws
 pub mod SearchLaws
+pub mod RootSearch
 pub mod Untouched
 pub mod Room
 pub mod Renumbered

@@ -1,5 +1,5 @@
 -- A term has one first redex, and within so many units one normal form, or one reason that it was not reached.
-use Rattle.std.proofs.Common.{◌≡◌, ◌<◌, ◌≤◌, ℕ, ◌+◌, ◌⊎◌, inl, inr, refl, sym, ap, subst, arith, ◌∙◌, [], Bool, true, false, Result, IsTrue}
+use Rattle.std.proofs.Common.{◌≡◌, ◌<◌, ◌≤◌, ℕ, ◌+◌, ◌⊎◌, inl, inr, refl, sym, ap, subst, arith, ◌∙◌, Bool, true, false, Result, IsTrue}
 use Rattle.std.proofs.Math.Decide.{dec_le}
 use Rattle.trs_defs.specs.Tree.{Tree}
 use Rattle.trs_defs.specs.Size.{within_limits}

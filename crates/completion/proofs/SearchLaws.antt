@@ -1,11 +1,8 @@
 -- The search for the first redex: at the root, and then argument by argument.
-use Rattle.std.proofs.Common.{◌≡◌, ◌<◌, ◌≤◌, ℕ, ◌+◌, zero, suc, ◌⊎◌, inl, inr, refl, sym, ap, subst, arith, ◌∙◌, Bool, true, false, List, [], ◌∷◌, ◌++◌, length, Option, Some, None, Result, Ok, Err, OnOk, slice_get, nat_cmp}
-use Rattle.std.proofs.Math.Decide.{dec_le, ℕ_discrete}
-use Rattle.std.proofs.lemmas.Option.{same_Some, slice_get_cases, slice_get_past, slice_get_within}
+use Rattle.std.proofs.Common.{◌≡◌, ◌<◌, ◌≤◌, ℕ, ◌+◌, zero, suc, ◌⊎◌, inl, inr, refl, sym, ap, subst, arith, ◌∙◌, Bool, List, [], ◌∷◌, ◌++◌, length, Option, Some, None, Result, Ok, Err, OnOk, slice_get}
+use Rattle.std.proofs.Math.Decide.{dec_le}
+use Rattle.std.proofs.lemmas.Option.{same_Some, slice_get_cases, slice_get_past}
 use Rattle.std.specs.Option.{option_and_then}
-use Rattle.std.specs.BTreeSet.{BTreeSet, IsEmpty, Updates}
-use Rattle.std.specs.BTreeMap.{is_at}
-use Rattle.std.specs.List.{list_any}
 use Rattle.trs_defs.specs.Tree.{Tree, Trees, var, app, nil, cons, items, count}
 use Rattle.trs_defs.specs.Size.{size_of}
 use Rattle.trs_defs.specs.Substitution.{IsInstance}
@@ -19,8 +16,8 @@ use Rattle.trs_defs.proofs.ArgumentLists.{item_size}
 use Rattle.term_pool.specs.Pooled.{Extends, tree_at}
 use Rattle.term_pool.specs.Redexes.{IsRedexAt, IsNarrow, AreNarrow, IsEarlier, ComesBefore}
 use Rattle.term_pool.proofs.Extending.{same_tree_at}
-use Rattle.term_pool.proofs.MatchSteps.{at_other}
 use Rattle.completion.specs.Normalizing.{IsFirstRedex}
+use Rattle.completion.specs.IdSets.{HasId, HasOneMore}
 use Rattle.completion.specs.Searching.{HasNoPlace, HaveNoPlace, IsFound, IsRootFound, BeginsBehind, HasNoneUpTo}
 
 -- ---- arguments
@@ -167,7 +164,7 @@ abbrev pub NoneBelow : List RewriteRule → Tree → ℕ → Type 0
 NoneBelow rules t k = (j : ℕ) (r : RewriteRule) → j < k → slice_get rules j ≡ Some r → IsInstance r.left t → ⊥
 
 module _ (rules : List RewriteRule) (t : Tree) where
-  at_root : (u : PlacedRule) → u.place ≡ [] → (r : IsRedexAt rules t u) → IsInstance r.rule.left t
+  pub at_root : (u : PlacedRule) → u.place ≡ [] → (r : IsRedexAt rules t u) → IsInstance r.rule.left t
   at_root u e r =
       let S : List ℕ → Type 0 = λ q. subterm_at q t ≡ Some r.part in
       let same : t ≡ r.part = same_Some t r.part (subst S e r.there) in
@@ -192,28 +189,16 @@ module _ (rules : List RewriteRule) (t : Tree) where
       ]
       go u r (m ∷ p) e = inr (inl (subst (IsEarlier []) (sym e) tt))
 
-  pub root_none : (k : ℕ) → length rules ≤ k → NoneBelow rules t k → IsRootFound rules t None
-  root_none k all none u r e = none u.rule r.rule (omega (arith, all, slice_get_within rules u.rule r.rule r.numbered)) r.numbered (at_root u e r)
-
-  pub none_below_next : (k : ℕ) (rule : RewriteRule) → slice_get rules k ≡ Some rule → (IsInstance rule.left t → ⊥) → NoneBelow rules t k → NoneBelow rules t (k + 1)
-  none_below_next k rule numbered not none j r less there i = elim (dec_le k j) as (λ _. ⊥) [
-    | yes h ↦ (let same : j ≡ k = omega (arith, h, less) in
-        let e : r ≡ rule = same_Some r rule (sym there ∙ (ap (slice_get rules) same ∙ numbered)) in
-        let I : RewriteRule → Type 0 = λ x. IsInstance x.left t in
-        not (subst I e i))
-    | no h ↦ none j r (omega (arith, h)) there i
-  ]
-
 -- ---- ids that were passed
 
-pub one_more_passed : (rules : List RewriteRule) (pool : List Tree) (old new : BTreeSet ℕ) (id : ℕ) → Updates nat_cmp old new id true → HaveNoPlace rules pool old
+pub one_more_passed : (rules : List RewriteRule) (pool : List Tree) (old new : List Bool) (id : ℕ) → HasOneMore id old new → HaveNoPlace rules pool old
     → id < length pool → HasNoPlace rules (tree_at pool id) → HaveNoPlace rules pool new
-one_more_passed rules pool old new id updates before there none v h = elim (ℕ_discrete id v) as (λ _. (v < length pool) × HasNoPlace rules (tree_at pool v)) [
-  | yes same ↦ (rw (sym same) there, rw (sym same) none)
-  | no other ↦ before v (rw (updates.0 v, at_other id v other) at h)
+one_more_passed rules pool old new id more before there none v h = elim ((more v).0 h) as (λ _. (v < length pool) × HasNoPlace rules (tree_at pool v)) [
+  | inl same ↦ (rw same there, rw same none)
+  | inr earlier ↦ before v earlier
 ]
 
-pub passed_still : (rules : List RewriteRule) (pool next : List Tree) (ids : BTreeSet ℕ) → Extends pool next → HaveNoPlace rules pool ids → HaveNoPlace rules next ids
+pub passed_still : (rules : List RewriteRule) (pool next : List Tree) (ids : List Bool) → Extends pool next → HaveNoPlace rules pool ids → HaveNoPlace rules next ids
 passed_still rules pool next ids more before v h =
     let b = before v h in
     let longer : length pool ≤ length next = more.longer in
@@ -224,10 +209,10 @@ pub placed_further : (xs p : List ℕ) (k : ℕ) → (xs ++ k ∷ []) ++ p ≡ x
 placed_further [] p k = refl
 placed_further (x ∷ xs) p k = ap (λ ys. x ∷ ys) (placed_further xs p k)
 
-pub none_passed : (rules : List RewriteRule) (pool : List Tree) (ids : BTreeSet ℕ) → IsEmpty ids → HaveNoPlace rules pool ids
-none_passed rules pool ids empty v h = absurd (never (sym (ap (list_any (is_at (nat_cmp v))) empty) ∙ h))
+pub none_passed : (rules : List RewriteRule) (pool : List Tree) (ids : List Bool) → ids ≡ [] → HaveNoPlace rules pool ids
+none_passed rules pool ids empty v h = absurd (never (subst (λ xs. HasId xs v) empty h))
   where
-    never : ◌≡◌ {A = Bool} false true → ⊥
+    never : HasId [] v → ⊥
     never e = absurd cc
 
 -- ---- what was found

@@ -2,6 +2,7 @@ pub mod Conversion
 pub mod GreaterBy
 pub mod ReductionOrder
 pub mod Normalizing
+pub mod IdSets
 pub mod Searching
 pub mod NoRedex
 pub mod Moving

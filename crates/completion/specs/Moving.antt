@@ -6,7 +6,6 @@ use Rattle.trs_defs.specs.System.{RewriteRule}
 use Rattle.trs_defs.specs.Path.{PlacedRule, StepsAt}
 use Rattle.trs_defs.specs.Step.{Step}
 use Rattle.trs_defs.specs.NormalForm.{IsNormalForm}
-use Rattle.trs_core.specs.View.{tree}
 use Rattle.term_pool.specs.Pooled.{tree_at}
 use Rattle.term_pool.specs.Steps.{IsTooLarge}
 use Rattle.term_pool.specs.declared.steps.StepFault.{StepFault}
@@ -19,9 +18,15 @@ use Rattle.completion.specs.declared.first_steps.Move.{Move}
 use Rattle.completion.specs.declared.first_steps.Move.TheVariants as move
 use Rattle.completion.specs.Normalizing.{IsFirstRedex}
 
-abbrev pub form_of : Form → Result (Tree × ℕ) Unfinished
-form_of (form.Normal t left) = Ok (tree t, left)
-form_of (form.Stopped why) = Err why
+-- what the code found, where a pool has the normal form
+abbrev pub form_of : List Tree → Form → Result (Tree × ℕ) Unfinished
+form_of pool (form.Normal id left) = Ok (tree_at pool id, left)
+form_of pool (form.Stopped why) = Err why
+
+-- the pool has the id of a normal form
+abbrev pub IsFormIn : List Tree → Form → Type 0
+IsFormIn pool (form.Normal id left) = id < length pool
+IsFormIn pool (form.Stopped why) = Unit {0}
 
 -- the first redex leads from t to u within limits, and a unit is there
 pub record IsFirstStep (rules : List RewriteRule) (units : ℕ) (t u : Tree) : Type 0 where

@@ -1,21 +1,20 @@
 -- What a search for the first redex finds.
-use Rattle.std.specs.Prelude.{◌≡◌, ◌<◌, ℕ, List, [], ◌∷◌, ◌++◌, length, Option, Some, None, IsTrue}
-use Rattle.std.specs.Ordering.{nat_cmp}
-use Rattle.std.specs.BTreeSet.{BTreeSet, contains}
+use Rattle.std.specs.Prelude.{◌≡◌, ◌<◌, ℕ, Bool, List, [], ◌∷◌, ◌++◌, length, Option, Some, None}
 use Rattle.trs_defs.specs.Tree.{Tree}
 use Rattle.trs_defs.specs.System.{RewriteRule}
 use Rattle.trs_defs.specs.Path.{PlacedRule}
 use Rattle.term_pool.specs.Pooled.{tree_at}
 use Rattle.term_pool.specs.Redexes.{IsRedexAt}
 use Rattle.completion.specs.Normalizing.{IsFirstRedex}
+use Rattle.completion.specs.IdSets.{HasId}
 
 -- the term has no redex
 abbrev pub HasNoPlace : List RewriteRule → Tree → Type 0
 HasNoPlace rules t = (u : PlacedRule) → IsRedexAt rules t u → ⊥
 
 -- these ids are there, and their terms have no redex
-abbrev pub HaveNoPlace : List RewriteRule → List Tree → BTreeSet ℕ → Type 0
-HaveNoPlace rules pool ids = (id : ℕ) → IsTrue (contains nat_cmp ids id) → (id < length pool) × HasNoPlace rules (tree_at pool id)
+abbrev pub HaveNoPlace : List RewriteRule → List Tree → List Bool → Type 0
+HaveNoPlace rules pool ids = (id : ℕ) → HasId ids id → (id < length pool) × HasNoPlace rules (tree_at pool id)
 
 -- the place has grown by that of the first redex, which is one of the rule of this number; or there is no redex, and it is the old one
 abbrev pub IsFound : List RewriteRule → Tree → List ℕ → List ℕ → Option ℕ → Type 0

@@ -1,17 +1,20 @@
-ghost use Rattle.std.specs.Prelude.{◌≡◌, ◌≤◌, ◌⊎◌, IfOk, IsTrue, false, map};
+ghost use Rattle.std.specs.Prelude.{◌≡◌, ◌≤◌, ◌⊎◌, IfOk, OnOk, IsTrue, false, map};
 ghost use Rattle.completion.specs.GreaterBy.{GreaterBy};
 ghost use Rattle.completion.specs.CompletionRun.{Closes, Finds, sides};
 ghost use Rattle.completion.specs.Answers.{plain_ending, HasArities};
 ghost use Rattle.completion.specs.Treating.{IsOutcome, is_passed};
+ghost use Rattle.completion.specs.Searching.{HaveNoPlace};
 ghost use Rattle.completion.specs.Taking.{ArePairsOver, Looks};
 
 use crate::Completion;
+use crate::met::Met;
 use crate::orienting::take_in;
 use crate::treating::{Outcome, treat};
 use crit_pairs::{Peak, PeakFault, critical_pairs, first_peaks};
 use path_lpo::Lpo;
 use rewrite_core::{CheckFault, Top};
 use std::alloc::Global;
+use term_pool::RulesByRoot;
 use trs_core::{OutOfMemory, Trs, systems_are_valid};
 
 /// How many critical peaks are made at first: mostly one of them gives a rule.
@@ -53,11 +56,13 @@ fn look(alloc: Global, order: &Lpo, trs: &Trs, units: u64) -> Result<Outcome, Ou
     systems_are_valid(trs);
     match first_peaks(alloc, trs, FEW) {
         Ok(few) => {
-            let found = find(alloc, order, trs, &few.peaks, units)?;
+            let by_root = RulesByRoot::new(alloc, trs)?;
+            let mut met = Met::new(alloc);
+            let found = find(alloc, order, &by_root, &mut met, &few.peaks, units)?;
             if is_settled(&found, few.count) {
                 return Ok(found);
             }
-            look_at_all(alloc, order, trs, units)
+            look_at_all(alloc, order, &by_root, &mut met, units)
         }
         Err(CheckFault::OutOfMemory) => Err(OutOfMemory),
         Err(CheckFault::Refused(_)) => Ok(Outcome::Ended(Completion::Limit)),
@@ -65,13 +70,21 @@ fn look(alloc: Global, order: &Lpo, trs: &Trs, units: u64) -> Result<Outcome, Ou
 }
 
 /// The same, where all peaks are made.
-fn look_at_all(alloc: Global, order: &Lpo, trs: &Trs, units: u64) -> Result<Outcome, OutOfMemory>
-    ensures { IfOk result (IsOutcome (Looks trs.now.arities (GreaterBy order.now)
-        trs.now.rules units)) }
+fn look_at_all(
+    alloc: Global,
+    order: &Lpo,
+    by_root: &RulesByRoot,
+    met: &mut Met,
+    units: u64,
+) -> Result<Outcome, OutOfMemory>
+    requires { HaveNoPlace by_root.now.rules met.old.pool met.old.passed }
+    ensures { IfOk result (IsOutcome (Looks by_root.now.arities (GreaterBy order.now)
+        by_root.now.rules units)) }
 {
+    let trs = by_root.trs();
     systems_are_valid(trs);
     match critical_pairs(alloc, trs) {
-        Ok(peaks) => find(alloc, order, trs, &peaks, units),
+        Ok(peaks) => find(alloc, order, by_root, met, &peaks, units),
         Err(PeakFault::TooLarge) => Ok(Outcome::Ended(Completion::Limit)),
         Err(PeakFault::TooMany) => Ok(Outcome::Ended(Completion::Limit)),
         Err(PeakFault::OutOfMemory) => Err(OutOfMemory),
@@ -92,17 +105,20 @@ fn is_settled(found: &Outcome, count: u64) -> bool
 fn find<T: Top>(
     alloc: Global,
     order: &Lpo,
-    trs: &Trs,
+    by_root: &RulesByRoot,
+    met: &mut Met,
     peaks: &[Peak<T>],
     units: u64,
 ) -> Result<Outcome, OutOfMemory>
-    requires { ArePairsOver trs.now.arities (map sides peaks.now) }
-    ensures { IfOk result (IsOutcome (Finds trs.now.arities (GreaterBy order.now)
-        trs.now.rules units (map sides peaks.now))) }
+    requires pairs { ArePairsOver by_root.now.arities (map sides peaks.now) }
+    requires passed { HaveNoPlace by_root.now.rules met.old.pool met.old.passed }
+    ensures outcome { IfOk result (IsOutcome (Finds by_root.now.arities (GreaterBy order.now)
+        by_root.now.rules units (map sides peaks.now))) }
+    ensures passed { OnOk result (HaveNoPlace by_root.now.rules met.new.pool met.new.passed) }
 {
     let mut left = units;
     for peak in peaks {
-        match treat(alloc, order, trs, &peak.left, &peak.right, left)? {
+        match treat(alloc, order, by_root, met, &peak.left, &peak.right, left)? {
             Outcome::Passed(more) => left = more,
             Outcome::Added(rule, more) => return Ok(Outcome::Added(rule, more)),
             Outcome::Ended(why) => return Ok(Outcome::Ended(why)),

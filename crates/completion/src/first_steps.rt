@@ -1,16 +1,16 @@
-ghost use Rattle.std.specs.Prelude.{◌<◌, length, IfOk, OnOk};
+ghost use Rattle.std.specs.Prelude.{◌≡◌, ◌<◌, length, IfOk, OnOk};
 ghost use Rattle.term_pool.specs.Pooled.{Extends, tree_at};
 ghost use Rattle.term_pool.specs.Redexes.{IsNarrow};
 ghost use Rattle.completion.specs.Moving.{IsMove, IsStopOf};
 ghost use Rattle.completion.specs.Searching.{HaveNoPlace};
 
 use crate::Unfinished;
+use crate::id_sets::IdSet;
 use crate::searching::first_redex;
 use rewrite_core::StepFault;
 use std::alloc::Global;
-use std::collections::BTreeSet;
-use term_pool::Pool;
-use trs_core::{OutOfMemory, Position, Trs, systems_are_valid};
+use term_pool::{Pool, RulesByRoot};
+use trs_core::{OutOfMemory, Position, Trs};
 
 /// What the first redex of a term leads to.
 #[derive(Clone, Copy)]
@@ -25,10 +25,12 @@ pub(crate) fn first_move(
     alloc: Global,
     pool: &mut Pool,
     trs: &Trs,
+    by_root: &RulesByRoot,
     id: u32,
-    passed: &mut BTreeSet<u32>,
+    passed: &mut IdSet,
     units: u64,
 ) -> Result<Move, OutOfMemory>
+    requires rules { by_root.now.rules ≡ trs.now.rules }
     requires there { id < length pool.old }
     requires narrow { IsNarrow (tree_at pool.old id) }
     requires passed { HaveNoPlace trs.now.rules pool.old passed.old }
@@ -36,9 +38,8 @@ pub(crate) fn first_move(
     ensures kept { OnOk result (Extends pool.old pool.new) }
     ensures passed { OnOk result (HaveNoPlace trs.now.rules pool.new passed.new) }
 {
-    systems_are_valid(trs);
     let mut place = Vec::new(alloc);
-    match first_redex(alloc, pool, trs.rules(), id, &mut place, passed)? {
+    match first_redex(alloc, pool, by_root, id, &mut place, passed)? {
         None => Ok(Move::Nowhere),
         Some(rule) => {
             if units == 0 {

@@ -1,7 +1,7 @@
 ghost use Rattle.std.specs.Prelude.{◌≡◌, IsTrue, false};
 ghost use Rattle.trs_defs.specs.Substitution.{IsInstance};
 ghost use Rattle.trs_core.specs.View.{tree};
-ghost use Rattle.completion.specs.NoRedex.{HasNoInstance, HasNoRedex};
+ghost use Rattle.completion.specs.NoRedex.{HasNoRedex, IsNoRedex};
 
 use trs_core::{Rule, Term};
 
@@ -10,32 +10,32 @@ use trs_core::{Rule, Term};
 pub(crate) fn has_no_redex(rules: &[Rule], t: &Term) -> bool
     ensures { IsTrue result → HasNoRedex rules.now (tree t.now) }
 {
-    for rule in rules {
-        if may_occur(&rule.left, t) {
-            return false;
-        }
-    }
-    true
-}
-
-/// Whether a subterm has the pattern's symbols, where the pattern has symbols.
-fn may_occur(pattern: &Term, t: &Term) -> bool
-    ensures { result ≡ false → HasNoInstance (tree pattern.now) (tree t.now) }
-{
-    if may_match(pattern, t) {
-        return true;
+    if may_be_redex(rules, t) {
+        return false;
     }
     match t {
-        Term::Var(_) => false,
+        Term::Var(_) => true,
         Term::App(_, args) => {
             for arg in &args.items {
-                if may_occur(pattern, arg) {
-                    return true;
+                if !has_no_redex(rules, arg) {
+                    return false;
                 }
             }
-            false
+            true
         }
     }
+}
+
+/// Whether the term has the symbols of a left side of these rules.
+fn may_be_redex(rules: &[Rule], t: &Term) -> bool
+    ensures { result ≡ false → IsNoRedex rules.now (tree t.now) }
+{
+    for rule in rules {
+        if may_match(&rule.left, t) {
+            return true;
+        }
+    }
+    false
 }
 
 /// Whether the term has the pattern's symbols, where the pattern has symbols.

@@ -1,46 +1,45 @@
-ghost use Rattle.std.specs.Prelude.{◌≡◌, ◌<◌, ◌≤◌, ◌+◌, All, length, IfOk, IfSome, OnOk};
+ghost use Rattle.std.specs.Prelude.{◌≡◌, ◌<◌, ◌+◌, All, length, IfOk, IfSome, OnOk};
 ghost use Rattle.std.specs.Option.{option_map};
 ghost use Rattle.trs_defs.specs.Position.{argument_at};
 ghost use Rattle.term_pool.specs.Pooled.{tree_at};
 ghost use Rattle.term_pool.specs.Redexes.{IsNarrow};
 ghost use Rattle.completion.specs.Searching.{HaveNoPlace, IsFound, IsRootFound};
 
+use crate::id_sets::IdSet;
 use std::alloc::Global;
-use std::collections::BTreeSet;
-use term_pool::Pool;
-use trs_core::{OutOfMemory, Rule};
+use term_pool::{Pool, RulesByRoot};
+use trs_core::OutOfMemory;
 
 /// The rule of the first redex of an id's term, whose place is added to the given one; or none, and
 /// then the id has been passed. Nothing below an id that has been passed is looked at again.
 pub(crate) fn first_redex(
     alloc: Global,
     pool: &Pool,
-    rules: &[Rule],
+    by_root: &RulesByRoot,
     id: u32,
     place: &mut Vec<u8>,
-    passed: &mut BTreeSet<u32>,
+    passed: &mut IdSet,
 ) -> Result<Option<u32>, OutOfMemory>
-    requires few { length rules.now ≤ 4095 }
     requires there { id < length pool.now }
     requires narrow { IsNarrow (tree_at pool.now id) }
     requires positive { All (λ n. 0 < n) place.old.items }
-    requires passed { HaveNoPlace rules.now pool.now passed.old }
-    ensures found { IfOk result (IsFound rules.now (tree_at pool.now id) place.old.items
+    requires passed { HaveNoPlace by_root.now.rules pool.now passed.old }
+    ensures found { IfOk result (IsFound by_root.now.rules (tree_at pool.now id) place.old.items
         place.new.items) }
     ensures positive { OnOk result (All (λ n. 0 < n) place.new.items) }
-    ensures passed { OnOk result (HaveNoPlace rules.now pool.now passed.new) }
+    ensures passed { OnOk result (HaveNoPlace by_root.now.rules pool.now passed.new) }
 {
-    if passed.contains(&id) {
+    if passed.contains(id) {
         return Ok(None);
     }
-    if let Some(rule) = root_redex(alloc, pool, rules, id)? {
+    if let Some(rule) = root_redex(alloc, pool, by_root, id)? {
         return Ok(Some(rule));
     }
     let mut count: u8 = 0;
     while let Some(part) = argument_behind(pool, id, count) {
         count += 1;
         place.push(count)?;
-        if let Some(rule) = first_redex(alloc, pool, rules, part, place, passed)? {
+        if let Some(rule) = first_redex(alloc, pool, by_root, part, place, passed)? {
             return Ok(Some(rule));
         }
         place.pop();
@@ -49,20 +48,24 @@ pub(crate) fn first_redex(
     Ok(None)
 }
 
-/// The first rule of whose left side the id's term is an instance.
+/// The first rule of whose left side the id's term is an instance. Only rules with its root are
+/// tried.
 fn root_redex(
     alloc: Global,
     pool: &Pool,
-    rules: &[Rule],
+    by_root: &RulesByRoot,
     id: u32,
 ) -> Result<Option<u32>, OutOfMemory>
-    requires few { length rules.now ≤ 4095 }
     requires there { id < length pool.now }
-    ensures { IfOk result (IsRootFound rules.now (tree_at pool.now id)) }
+    ensures { IfOk result (IsRootFound by_root.now.rules (tree_at pool.now id)) }
 {
-    for (k, rule) in rules.iter().enumerate() {
-        if pool.is_instance_of(alloc, &rule.left, id)? {
-            return Ok(Some(k as u32));
+    let rules = by_root.rules();
+    let Some(f) = pool.root(id) else {
+        return Ok(None);
+    };
+    for k in by_root.with_root(f) {
+        if pool.is_instance(alloc, &rules[*k as usize], id)? {
+            return Ok(Some(*k));
         }
     }
     Ok(None)

@@ -9,11 +9,13 @@ ghost use Rattle.completion.specs.Treating.{whole, IsOutcome};
 ghost use Rattle.completion.specs.Taking.{HasTaken, IsTermOver};
 
 use crate::Completion;
+use crate::met::Met;
 use crate::no_redex::has_no_redex;
 use crate::orienting::take_in;
 use crate::treating::{Outcome, compare, treat};
 use path_lpo::Lpo;
 use std::alloc::Global;
+use term_pool::RulesByRoot;
 use trs_core::{OutOfMemory, Rule, Term, Trs};
 
 /// The rules that all equations gave, and the units that are left; or how the run ended.
@@ -78,7 +80,17 @@ fn take_one(
         );
     }
     take_in(alloc, system, more)?;
-    treat(alloc, order, system, &equation.left, &equation.right, units)
+    let by_root = RulesByRoot::new(alloc, system)?;
+    let mut met = Met::new(alloc);
+    treat(
+        alloc,
+        order,
+        &by_root,
+        &mut met,
+        &equation.left,
+        &equation.right,
+        units,
+    )
 }
 
 /// Whether rules and some more leave both sides of an equation as they are: symbols alone are looked

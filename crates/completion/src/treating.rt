@@ -1,18 +1,22 @@
-ghost use Rattle.std.specs.Prelude.{◌≡◌, ◌<◌, IfOk, IsTrue};
+ghost use Rattle.std.specs.Prelude.{◌≡◌, ◌<◌, length, IfOk, OnOk};
 ghost use Rattle.trs_core.specs.SystemLimits.{IsWithinLimits};
 ghost use Rattle.trs_core.specs.View.{tree};
+ghost use Rattle.term_pool.specs.Pooled.{tree_at};
 ghost use Rattle.completion.specs.CompletionRun.{Treats, ending_of};
 ghost use Rattle.completion.specs.Answers.{plain_ending};
 ghost use Rattle.completion.specs.GreaterBy.{GreaterBy};
+ghost use Rattle.completion.specs.Searching.{HaveNoPlace};
 ghost use Rattle.completion.specs.Taking.{IsTermOver};
 ghost use Rattle.completion.specs.Treating.{pair_of, whole, IsOutcome, IsCompared, IsAdded};
 
+use crate::met::Met;
 use crate::normalizing::{Form, normal_form};
 use crate::orienting::fits;
 use crate::renumbering::renumber;
 use crate::{Completion, Unfinished};
 use path_lpo::{Lpo, is_strict};
 use std::alloc::Global;
+use term_pool::{Pool, RulesByRoot};
 use trs_core::{OutOfMemory, Rule, Term, Trs, systems_are_valid};
 
 /// What becomes of a pair: it is passed over, or gives a rule, and so many units are left; or the
@@ -28,24 +32,53 @@ pub(crate) enum Outcome {
 pub(crate) fn treat(
     alloc: Global,
     order: &Lpo,
-    trs: &Trs,
+    by_root: &RulesByRoot,
+    met: &mut Met,
     left: &Term,
     right: &Term,
     units: u64,
 ) -> Result<Outcome, OutOfMemory>
-    requires left { IsTermOver trs.now.arities (tree left.now) }
-    requires right { IsTermOver trs.now.arities (tree right.now) }
-    ensures { IfOk result (IsOutcome (Treats trs.now.arities (GreaterBy order.now)
-        trs.now.rules units (pair_of (tree left.now) (tree right.now)))) }
+    requires left { IsTermOver by_root.now.arities (tree left.now) }
+    requires right { IsTermOver by_root.now.arities (tree right.now) }
+    requires passed { HaveNoPlace by_root.now.rules met.old.pool met.old.passed }
+    ensures outcome { IfOk result (IsOutcome (Treats by_root.now.arities (GreaterBy order.now)
+        by_root.now.rules units (pair_of (tree left.now) (tree right.now)))) }
+    ensures passed { OnOk result (HaveNoPlace by_root.now.rules met.new.pool met.new.passed) }
 {
-    systems_are_valid(trs);
-    match normal_form(alloc, trs, left, units)? {
+    met.make_room(alloc);
+    match normal_form(alloc, by_root, met, left, units)? {
         Form::Stopped(why) => Ok(Outcome::Ended(end_run(why))),
-        Form::Normal(s, more) => match normal_form(alloc, trs, right, more)? {
+        Form::Normal(s, more) => match normal_form(alloc, by_root, met, right, more)? {
             Form::Stopped(why) => Ok(Outcome::Ended(end_run(why))),
-            Form::Normal(t, rest) => compare(alloc, order, trs, &[], &s, &t, rest),
+            Form::Normal(t, rest) => {
+                compare_forms(alloc, order, by_root.trs(), &met.pool, s, t, rest)
+            }
         },
     }
+}
+
+/// Two normal forms of a pool, by the rules of a system. They are read only where they differ.
+fn compare_forms(
+    alloc: Global,
+    order: &Lpo,
+    trs: &Trs,
+    pool: &Pool,
+    s: u32,
+    t: u32,
+    units: u64,
+) -> Result<Outcome, OutOfMemory>
+    requires left { s < length pool.now }
+    requires right { t < length pool.now }
+    ensures { IfOk result (IsCompared (GreaterBy order.now) trs.now units
+        (tree_at pool.now s) (tree_at pool.now t)) }
+{
+    if s == t {
+        return Ok(Outcome::Passed(units));
+    }
+    systems_are_valid(trs);
+    let left = pool.read(alloc, s)?;
+    let right = pool.read(alloc, t)?;
+    compare(alloc, order, trs, &[], &left, &right, units)
 }
 
 /// How a run ends at a term with no normal form.

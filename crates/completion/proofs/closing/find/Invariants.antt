@@ -1,8 +1,12 @@
 use Rattle.std.proofs.Common.{drop, map}
 use Rattle.completion.specs.GreaterBy.{GreaterBy}
 use Rattle.completion.specs.CompletionRun.{sides}
+use Rattle.completion.specs.Searching.{HaveNoPlace}
 use Rattle.completion.proofs.LoopLaws.{FindsOn}
 use Rattle.completion.proofs.closing.find.Given as goal
 
 abbrev pub invariant-loop-peak : goal.invariant-loop-peak
-invariant-loop-peak g l = FindsOn (GreaterBy l.order) l.trs (map sides l.peaks) l.fn.units l.left (map sides (drop l.peak-index l.peaks))
+invariant-loop-peak g l = record {
+  on : FindsOn (GreaterBy l.order) l.by_root (map sides l.peaks) l.fn.units l.left (map sides (drop l.peak-index l.peaks));
+  passed : HaveNoPlace l.by_root.rules l.met.pool l.met.passed;
+}

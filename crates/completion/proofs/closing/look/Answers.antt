@@ -1,4 +1,5 @@
 use Rattle.std.proofs.Common.{List, map, refl, subst, sym}
+use Rattle.trs_defs.specs.System.{System}
 use Rattle.rewrite_core.specs.Check.{Refuses}
 use Rattle.rewrite_core.specs.PlacedPeak.{PlacedPeak}
 use Rattle.rewrite_core.specs.declared.checks.refusals.CheckFault.{CheckFault}
@@ -10,17 +11,23 @@ use Rattle.completion.specs.Taking.{ArePairsOver}
 use Rattle.completion.proofs.Looking.{few_pairs, few_looked_at, refused_there}
 use Rattle.completion.proofs.closing.look.Goals as goal
 
-pub find-requires : goal.find-requires
-find-requires c =
+pub find-requires-clause-pairs : goal.find-requires-clause-pairs
+find-requires-clause-pairs c =
     let P : List PlacedPeak → Type 0 = λ ps. ArePairsOver c.args.trs.now.arities (map sides ps) in
-    subst P (sym c.deref.ensures.value) (few_pairs c.args.trs.now c.systems_are_valid.ensures.valid 64 c.in-Ok.few c.in-Ok.ensures.first)
+    let S : System → Type 0 = λ s. ArePairsOver s.arities (map sides c.deref.result.now) in
+    subst S (sym c.in_ok-by_root-in-Ok.ensures) (subst P (sym c.deref.ensures.value) (few_pairs c.args.trs.now c.systems_are_valid.ensures.valid 64 c.in-Ok.few c.in-Ok.ensures.first))
+
+pub find-requires-clause-passed : goal.find-requires-clause-passed
+find-requires-clause-passed c = c.new-met.ensures _
 
 pub returns-then-is_settled : goal.returns-then-is_settled
 returns-then-is_settled c =
     let F : List PlacedPeak → Type 0 = λ ps.
     IsOutcome (Finds c.args.trs.now.arities (GreaterBy c.args.order.now) c.args.trs.now.rules c.args.units (map sides ps)) c.in_ok-found-in-Ok.found in
+    let S : System → Type 0 = λ s.
+    IsOutcome (Finds s.arities (GreaterBy c.args.order.now) s.rules c.args.units (map sides c.deref.result.now)) c.in_ok-found-in-Ok.found in
     few_looked_at (GreaterBy c.args.order.now) c.args.trs.now c.args.units 64 c.in-Ok.few c.in-Ok.ensures.first c.in_ok-found-in-Ok.found
-    (c.if-is_settled.ensures refl) (subst F c.deref.ensures.value c.in_ok-found-in-Ok.ensures)
+    (c.if-is_settled.ensures refl) (subst F c.deref.ensures.value (subst S c.in_ok-by_root-in-Ok.ensures c.in_ok-found-in-Ok.ensures.outcome))
 
 pub returns-in-Err-Refused : goal.returns-in-Err-Refused
 returns-in-Err-Refused c =

@@ -1,42 +1,96 @@
-use Rattle.std.proofs.Common.{subst}
+use Rattle.std.proofs.Common.{◌<◌, ap, arith, length, subst, sym}
+use Rattle.trs_defs.specs.System.{System}
 use Rattle.trs_core.specs.View.{tree}
-use Rattle.term_pool.specs.Pooled.{tree_at}
+use Rattle.completion.specs.Searching.{HaveNoPlace}
+use Rattle.term_pool.specs.Pooled.{Extends, tree_at}
+use Rattle.term_pool.proofs.Extending.{extends_on, kept_cut}
 use Rattle.term_pool.proofs.NarrowLaws.{narrow_of_well_formed}
+use Rattle.term_pool.proofs.PoolTrees.{stands}
 use Rattle.completion.specs.declared.first_steps.Move.{Move}
 use Rattle.completion.specs.Moving.{IsMove}
 use Rattle.completion.proofs.FirstSteps.{way_begins, way_goes_on, way_ends, way_stops}
-use Rattle.completion.proofs.SearchLaws.{none_passed}
+use Rattle.completion.proofs.normalizing.normal_form.Goals.{In_ok-first_move}
 use Rattle.completion.proofs.normalizing.normal_form.Goals as goal
 
-pub loop-passed-init : goal.loop-passed-init
-loop-passed-init c = record {
-  way = way_begins c.args.trs.now c.args.units (tree c.args.t.now) c.intern.new.self c.in_ok-current.current c.in_ok-current.ensures.id c.requires;
-  passed = none_passed c.args.trs.now.rules c.intern.new.self c.new-passed.result c.new-passed.ensures.empty;
+pub loop-why-init : goal.loop-why-init
+loop-why-init c = record {
+  way = way_begins c.args.by_root.now c.args.units (tree c.args.t.now) c.intern.new.self.pool c.in_ok-current.current c.in_ok-current.ensures.id c.requires.over;
+  kept = c.in_ok-current.ensures.kept;
+  passed = c.in_ok-current.ensures.passed c.args.by_root.now.rules c.requires.passed;
 }
 
 pub first_move-requires-clause-narrow : goal.first_move-requires-clause-narrow
 first_move-requires-clause-narrow c =
-    narrow_of_well_formed c.args.trs.now.arities c.systems_are_valid.ensures.bytes (tree_at c.loop-passed.pool c.loop-passed.current)
-    c.loop-passed.invariant.way.well_formed
+    narrow_of_well_formed c.args.by_root.now.arities (rw c.trs-trs.ensures at c.systems_are_valid.ensures.bytes) (tree_at c.loop-why.met.pool c.loop-why.current)
+    c.loop-why.invariant.way.well_formed
 
-pub returns-in-Nowhere : goal.returns-in-Nowhere
-returns-in-Nowhere c =
-    let M : Move → Type 0 = IsMove c.args.trs.now.rules c.loop-passed.left (tree_at c.loop-passed.pool c.loop-passed.current) c.first_move.new.pool in
-    way_ends c.args.trs.now c.args.units c.loop-passed.left (tree c.args.t.now) (tree c.in_ok-read-in-Nowhere.field-0) c.loop-passed.pool c.first_move.new.pool c.loop-passed.current
-    c.loop-passed.invariant.way (subst M c.in-Nowhere.is c.in_ok-first_move.ensures.moves) c.in_ok-first_move.ensures.kept c.in_ok-read-in-Nowhere.ensures
+pub first_move-requires-clause-rules : goal.first_move-requires-clause-rules
+first_move-requires-clause-rules c = sym (ap (λ (s : System). s.rules) c.trs-trs.ensures)
 
-pub returns-in-Stopped : goal.returns-in-Stopped
-returns-in-Stopped c =
-    let M : Move → Type 0 = IsMove c.args.trs.now.rules c.loop-passed.left (tree_at c.loop-passed.pool c.loop-passed.current) c.first_move.new.pool in
-    way_stops c.args.trs.now c.args.units c.loop-passed.left (tree c.args.t.now) c.loop-passed.pool c.loop-passed.current c.in-Stopped.why c.loop-passed.invariant.way
-    (subst M c.in-Stopped.is c.in_ok-first_move.ensures.moves)
+pub first_move-requires-clause-passed : goal.first_move-requires-clause-passed
+first_move-requires-clause-passed c =
+    let S : System → Type 0 = λ s. HaveNoPlace s.rules c.loop-why.met.pool c.loop-why.met.passed in
+    subst S (sym c.trs-trs.ensures) c.loop-why.invariant.passed
 
-pub loop-passed-preserved : goal.loop-passed-preserved
-loop-passed-preserved c =
-    let M : Move → Type 0 = IsMove c.args.trs.now.rules c.loop-passed.left (tree_at c.loop-passed.pool c.loop-passed.current) c.first_move.new.pool in
+-- no id that was passed has a redex
+passed : (c : In_ok-first_move) → HaveNoPlace c.args.by_root.now.rules c.first_move.new.pool c.first_move.new.passed
+passed c =
+    let S : System → Type 0 = λ s. HaveNoPlace s.rules c.first_move.new.pool c.first_move.new.passed in
+    subst S c.trs-trs.ensures c.in_ok-first_move.ensures.passed
+
+-- the pool after the move has what it had at first
+kept : (c : In_ok-first_move) → Extends c.args.met.now.pool c.first_move.new.pool
+kept c = extends_on c.args.met.now.pool c.loop-why.met.pool c.first_move.new.pool c.loop-why.invariant.kept c.in_ok-first_move.ensures.kept
+
+there : (c : In_ok-first_move) → c.loop-why.current < length c.first_move.new.pool
+there c =
+    let longer = c.in_ok-first_move.ensures.kept.longer in
+    let before = c.loop-why.invariant.way.there in
+    omega (arith, longer, before)
+
+pub returns-in-Nowhere-clause-form : goal.returns-in-Nowhere-clause-form
+returns-in-Nowhere-clause-form c =
+    let M : Move → Type 0 = IsMove c.args.by_root.now.rules c.loop-why.left (tree_at c.loop-why.met.pool c.loop-why.current) c.first_move.new.pool in
+    let S : System → Type 0 = λ s. IsMove s.rules c.loop-why.left (tree_at c.loop-why.met.pool c.loop-why.current) c.first_move.new.pool c.in_ok-first_move.field-0 in
+    way_ends c.args.by_root.now c.args.units c.loop-why.left (tree c.args.t.now) (tree_at c.first_move.new.pool c.loop-why.current) c.loop-why.met.pool c.first_move.new.pool c.loop-why.current
+    c.loop-why.invariant.way (subst M c.in-Nowhere.is (subst S c.trs-trs.ensures c.in_ok-first_move.ensures.moves)) c.in_ok-first_move.ensures.kept
+    (stands c.first_move.new.pool c.loop-why.current (there (goal.at.returns-in-Nowhere-clause-form c).In_ok-first_move))
+
+pub returns-in-Nowhere-clause-there : goal.returns-in-Nowhere-clause-there
+returns-in-Nowhere-clause-there c = there (goal.at.returns-in-Nowhere-clause-there c).In_ok-first_move
+
+pub returns-in-Nowhere-clause-kept : goal.returns-in-Nowhere-clause-kept
+returns-in-Nowhere-clause-kept c = kept (goal.at.returns-in-Nowhere-clause-kept c).In_ok-first_move
+
+pub returns-in-Nowhere-clause-passed : goal.returns-in-Nowhere-clause-passed
+returns-in-Nowhere-clause-passed c = passed (goal.at.returns-in-Nowhere-clause-passed c).In_ok-first_move
+
+pub returns-in-Stopped-clause-passed : goal.returns-in-Stopped-clause-passed
+returns-in-Stopped-clause-passed c = passed (goal.at.returns-in-Stopped-clause-passed c).In_ok-first_move
+
+pub returns-in-Stopped-clause-form : goal.returns-in-Stopped-clause-form
+returns-in-Stopped-clause-form c =
+    let M : Move → Type 0 = IsMove c.args.by_root.now.rules c.loop-why.left (tree_at c.loop-why.met.pool c.loop-why.current) c.first_move.new.pool in
+    let S : System → Type 0 = λ s. IsMove s.rules c.loop-why.left (tree_at c.loop-why.met.pool c.loop-why.current) c.first_move.new.pool c.in_ok-first_move.field-0 in
+    way_stops c.args.by_root.now c.args.units c.loop-why.left (tree c.args.t.now) c.loop-why.met.pool c.loop-why.current c.in-Stopped.why c.loop-why.invariant.way
+    (subst M c.in-Stopped.is (subst S c.trs-trs.ensures c.in_ok-first_move.ensures.moves))
+
+pub returns-in-Stopped-clause-kept : goal.returns-in-Stopped-clause-kept
+returns-in-Stopped-clause-kept c = kept (goal.at.returns-in-Stopped-clause-kept c).In_ok-first_move
+
+pub carry_over-requires-clause-marked : goal.carry_over-requires-clause-marked
+carry_over-requires-clause-marked c =
+    let longer = (kept (goal.at.carry_over-requires-clause-marked c).In_ok-first_move).longer in
+    omega (arith, c.mark-mark.ensures, longer)
+
+pub loop-why-preserved : goal.loop-why-preserved
+loop-why-preserved c =
+    let M : Move → Type 0 = IsMove c.args.by_root.now.rules c.loop-why.left (tree_at c.loop-why.met.pool c.loop-why.current) c.first_move.new.pool in
+    let S : System → Type 0 = λ s. IsMove s.rules c.loop-why.left (tree_at c.loop-why.met.pool c.loop-why.current) c.first_move.new.pool c.in_ok-first_move.field-0 in
     record {
-      way = way_goes_on c.args.trs.now c.systems_are_valid.ensures.valid c.args.units c.loop-passed.left (tree c.args.t.now) c.loop-passed.pool c.first_move.new.pool c.carried_over.new.pool
-          c.loop-passed.current c.in-To.next c.in_ok-current-in-To.current c.loop-passed.invariant.way (subst M c.in-To.is c.in_ok-first_move.ensures.moves).0
+      way = way_goes_on c.args.by_root.now (rw c.trs-trs.ensures at c.systems_are_valid.ensures.valid) c.args.units c.loop-why.left (tree c.args.t.now) c.loop-why.met.pool c.first_move.new.pool c.carry_over.new.self.pool
+          c.loop-why.current c.in-To.next c.in_ok-current-in-To.current c.loop-why.invariant.way (subst M c.in-To.is (subst S c.trs-trs.ensures c.in_ok-first_move.ensures.moves)).0
           c.in_ok-current-in-To.ensures.same c.in_ok-current-in-To.ensures.there;
-      passed = c.in_ok-current-in-To.ensures.passed c.args.trs.now.rules c.in_ok-first_move.ensures.passed;
+      kept = kept_cut c.args.met.now.pool c.first_move.new.pool c.carry_over.new.self.pool c.mark-mark.result c.mark-mark.ensures (kept (goal.at.loop-why-preserved c).In_ok-first_move) c.in_ok-current-in-To.ensures.kept;
+      passed = c.in_ok-current-in-To.ensures.passed c.args.by_root.now.rules (passed (goal.at.loop-why-preserved c).In_ok-first_move);
     }

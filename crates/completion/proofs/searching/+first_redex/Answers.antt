@@ -8,13 +8,13 @@ use Rattle.completion.proofs.SearchLaws.{argument_smaller, argument_narrow, past
 use Rattle.completion.proofs.searching.+first_redex.Goals as goal
 
 pub returns-then-contains-clause-found : goal.returns-then-contains-clause-found
-returns-then-contains-clause-found t c = ((c.requires.passed c.args.id (sym c.if-contains.ensures)).1, refl)
+returns-then-contains-clause-found t c = ((c.requires.passed c.args.id (c.if-contains.ensures.0 refl)).1, refl)
 
 pub loop-part-init : goal.loop-part-init
 loop-part-init t c =
-    let R : Option ℕ → Type 0 = IsRootFound c.args.rules.now (tree_at c.args.pool.now c.args.id) in
+    let R : Option ℕ → Type 0 = IsRootFound c.args.by_root.now.rules (tree_at c.args.pool.now c.args.id) in
     record {
-      none = past_root c.args.rules.now (tree_at c.args.pool.now c.args.id) (subst R c.in_default.is c.in_ok-rule.ensures);
+      none = past_root c.args.by_root.now.rules (tree_at c.args.pool.now c.args.id) (subst R c.in_default.is c.in_ok-rule.ensures);
       passed = c.requires.passed;
       same = refl;
     }
@@ -28,7 +28,7 @@ first_redex-requires t c =
     let pushed = rw c.loop-part.invariant.same at c.in_ok-push.ensures.items in
     let positive = positive_below c.args.place.now.items c.push.new.self.items c.loop-part.count pushed c.requires.positive in (
       omega (arith, smaller, c.decreases),
-      (c.requires.few, (c.in-Some-argument_behind.ensures.there, (argument_narrow whole (c.loop-part.count + 1) part there c.requires.narrow, (positive, c.loop-part.invariant.passed)))),
+      (c.in-Some-argument_behind.ensures.there, (argument_narrow whole (c.loop-part.count + 1) part there c.requires.narrow, (positive, c.loop-part.invariant.passed))),
     )
 
 pub returns-in-Some-2-clause-found : goal.returns-in-Some-2-clause-found
@@ -37,10 +37,10 @@ returns-in-Some-2-clause-found t c =
     let part = tree_at c.args.pool.now c.in-Some-argument_behind.part in
     let there : argument_at whole (c.loop-part.count + 1) ≡ Some part = sym c.in-Some-argument_behind.ensures.is in
     let pushed : c.push.new.self.items ≡ c.args.place.now.items ++ (c.loop-part.count + 1) ∷ [] = rw c.loop-part.invariant.same at c.in_ok-push.ensures.items in
-    let F : Option ℕ → Type 0 = IsFound c.args.rules.now part c.push.new.self.items c.first_redex.new.place.items in
+    let F : Option ℕ → Type 0 = IsFound c.args.by_root.now.rules part c.push.new.self.items c.first_redex.new.place.items in
     let (p, first, grown) = subst F c.in-Some-2.is c.in_ok-rule-2.ensures.found in (
       (c.loop-part.count + 1) ∷ p,
-      first_inside c.args.rules.now whole c.loop-part.count c.loop-part.invariant.none part p c.in-Some-2.rule there first,
+      first_inside c.args.by_root.now.rules whole c.loop-part.count c.loop-part.invariant.none part p c.in-Some-2.rule there first,
       grown ∙ (ap (λ xs. xs ++ p) pushed ∙ placed_further c.args.place.now.items p (c.loop-part.count + 1)),
     )
 
@@ -53,10 +53,10 @@ loop-part-preserved t c =
     let part = tree_at c.args.pool.now c.in-Some-argument_behind.part in
     let there : argument_at whole (c.loop-part.count + 1) ≡ Some part = sym c.in-Some-argument_behind.ensures.is in
     let pushed : c.push.new.self.items ≡ c.args.place.now.items ++ (c.loop-part.count + 1) ∷ [] = rw c.loop-part.invariant.same at c.in_ok-push.ensures.items in
-    let F : Option ℕ → Type 0 = IsFound c.args.rules.now part c.push.new.self.items c.first_redex.new.place.items in
+    let F : Option ℕ → Type 0 = IsFound c.args.by_root.now.rules part c.push.new.self.items c.first_redex.new.place.items in
     let (none, unmoved) = subst F c.in_default-2.is c.in_ok-rule-2.ensures.found in
     record {
-      none = past_next c.args.rules.now whole c.loop-part.count c.loop-part.invariant.none part there none;
+      none = past_next c.args.by_root.now.rules whole c.loop-part.count c.loop-part.invariant.none part there none;
       passed = c.in_ok-rule-2.ensures.passed;
       same = popped c.args.place.now.items c.push.new.self.items c.first_redex.new.place.items c.pop.new.self.items _ c.first_redex.new.place.len pushed unmoved
           (omega (arith, c.first_redex.new.place.ok.0)) c.pop.ensures.rest;
@@ -66,7 +66,7 @@ pub returns-clause-found : goal.returns-clause-found
 returns-clause-found t c =
     let whole = tree_at c.args.pool.now c.args.id in
     let gone : argument_at whole (c.loop-part.count + 1) ≡ None = sym c.in_default-argument_behind.ensures.is in
-    (past_all c.args.rules.now whole c.loop-part.count c.loop-part.invariant.none gone, c.loop-part.invariant.same)
+    (past_all c.args.by_root.now.rules whole c.loop-part.count c.loop-part.invariant.none gone, c.loop-part.invariant.same)
 
 pub returns-clause-positive : goal.returns-clause-positive
 returns-clause-positive t c =
@@ -77,5 +77,5 @@ pub returns-clause-passed : goal.returns-clause-passed
 returns-clause-passed t c =
     let whole = tree_at c.args.pool.now c.args.id in
     let gone : argument_at whole (c.loop-part.count + 1) ≡ None = sym c.in_default-argument_behind.ensures.is in
-    one_more_passed c.args.rules.now c.args.pool.now c.loop-part.passed c.insert.new.self c.args.id c.in_ok-insert.ensures.updates c.loop-part.invariant.passed c.requires.there
-    (past_all c.args.rules.now whole c.loop-part.count c.loop-part.invariant.none gone)
+    one_more_passed c.args.by_root.now.rules c.args.pool.now c.loop-part.passed c.insert.new.self c.args.id c.in_ok-insert.ensures c.loop-part.invariant.passed c.requires.there
+    (past_all c.args.by_root.now.rules whole c.loop-part.count c.loop-part.invariant.none gone)

@@ -1,29 +1,37 @@
-use Rattle.std.proofs.Common.{◌≡◌, Some, arith, length, refl, slice_get, subst}
-use Rattle.std.proofs.lemmas.Option.{slice_get_read}
-use Rattle.trs_defs.specs.System.{RewriteRule}
-use Rattle.trs_defs.specs.Substitution.{IsInstance}
+use Rattle.std.proofs.Common.{◌≡◌, Some, slice_get, slice_index}
 use Rattle.term_pool.specs.Pooled.{tree_at}
-use Rattle.completion.proofs.SearchLaws.{root_first, root_none, none_below_next}
+use Rattle.term_pool.proofs.RootRules.{AreProper, proper_sides, Matches, rule_read, one_more_not, none_at_end}
+use Rattle.completion.proofs.RootSearch.{none_at_variable, first_with_root, none_with_root}
+use Rattle.completion.proofs.searching.root_redex.Goals.{After-rules-rules, After-index-rules-k}
 use Rattle.completion.proofs.searching.root_redex.Goals as goal
 
-pub loop-k-init : goal.loop-k-init
-loop-k-init c = λ j r less there i. absurd (omega (arith, less))
+proper : (c : After-rules-rules) → AreProper c.rules-rules.result.now
+proper c = proper_sides c.args.by_root.now c.rules-rules.result.now c.rules-rules.ensures.rules c.rules-rules.ensures.valid
+
+-- the rule of the next number
+here : (c : After-index-rules-k) → slice_get c.rules-rules.result.now (slice_index c.with_root-k-items.result.now c.loop-k.k-index) ≡ Some c.index-rules-k.result
+here c =
+    rule_read c.args.by_root.now.rules c.rules-rules.result.now c.with_root-k-items.result.now c.loop-k.k-index c.index-rules-k.result c.rules-rules.ensures.rules c.with_root-k-items.ensures.within
+    c.loop-k-test.true c.index-rules-k.is
+
+pub returns-in_default : goal.returns-in_default
+returns-in_default c =
+    let a = (goal.at.returns-in_default c).After-rules-rules in
+    none_at_variable c.args.by_root.now.rules c.rules-rules.result.now (tree_at c.args.pool.now c.args.id) c.rules-rules.ensures.rules (proper a) c.in_default.ensures.none
 
 pub returns-then-branch : goal.returns-then-branch
 returns-then-branch c =
-    let numbered : slice_get c.args.rules.now c.loop-k.k ≡ Some c.index-rules-k.result =
-    slice_get_read c.args.rules.now (length c.args.rules.now) c.loop-k.k c.index-rules-k.result refl c.loop-k-test.true c.index-rules-k.is in
-    let I : RewriteRule → Type 0 = λ r. IsInstance r.left (tree_at c.args.pool.now c.args.id) in
-    root_first c.args.rules.now (tree_at c.args.pool.now c.args.id) c.loop-k.k c.index-rules-k.result numbered
-    (subst I c.rule.view_is (c.in_ok-is_instance_of.ensures.0 c.if-branch.true)) c.loop-k.invariant
+    first_with_root c.args.by_root.now.rules c.rules-rules.result.now (tree_at c.args.pool.now c.args.id) c.in-Some.f c.rules-rules.ensures.rules (proper (goal.at.returns-then-branch c).After-rules-rules) c.in-Some.ensures.some
+    c.with_root-k-items.result.now c.with_root-k-items.ensures.numbers c.loop-k.k-index c.loop-k-test.true c.index-rules-k.result (here (goal.at.returns-then-branch c).After-index-rules-k)
+    (c.in_ok-is_instance.ensures.0 c.if-branch.true) c.loop-k.invariant
 
 pub loop-k-preserved : goal.loop-k-preserved
 loop-k-preserved c =
-    let numbered : slice_get c.args.rules.now c.loop-k.k ≡ Some c.index-rules-k.result =
-    slice_get_read c.args.rules.now (length c.args.rules.now) c.loop-k.k c.index-rules-k.result refl c.loop-k-test.true c.index-rules-k.is in
-    let N : RewriteRule → Type 0 = λ r. IsInstance r.left (tree_at c.args.pool.now c.args.id) → ⊥ in
-    none_below_next c.args.rules.now (tree_at c.args.pool.now c.args.id) c.loop-k.k c.index-rules-k.result numbered
-    (subst N c.rule.view_is (λ i. let e = c.in_ok-is_instance_of.ensures.1 i in absurd (cc (e, c.if-branch.false)))) c.loop-k.invariant
+    one_more_not (Matches (tree_at c.args.pool.now c.args.id)) c.rules-rules.result.now c.with_root-k-items.result.now c.loop-k.k-index c.index-rules-k.result c.loop-k-test.true
+    (here (goal.at.loop-k-preserved c).After-index-rules-k) (λ inst. let e = c.in_ok-is_instance.ensures.1 inst in absurd (cc (e, c.if-branch.false))) c.loop-k.invariant
 
 pub returns : goal.returns
-returns c = root_none c.args.rules.now (tree_at c.args.pool.now c.args.id) c.loop-k.k (omega (arith, c.loop-k-test.false)) c.loop-k.invariant
+returns c =
+    none_with_root c.args.by_root.now.rules c.rules-rules.result.now (tree_at c.args.pool.now c.args.id) c.in-Some.f c.rules-rules.ensures.rules (proper (goal.at.returns c).After-rules-rules) c.in-Some.ensures.some
+    (none_at_end (Matches (tree_at c.args.pool.now c.args.id)) c.in-Some.f c.args.by_root.now.rules c.rules-rules.result.now c.with_root-k-items.result.now c.loop-k.k-index c.rules-rules.ensures.rules
+    c.with_root-k-items.ensures.numbers c.loop-k-test.false c.loop-k.invariant)

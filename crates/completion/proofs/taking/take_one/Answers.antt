@@ -19,13 +19,16 @@ pub treat-requires-clause-left : goal.treat-requires-clause-left
 treat-requires-clause-left c =
     let S : System → Type 0 = λ s. IsTermOver s.arities (tree c.equation.inside.left) in
     let T : RewriteRule → Type 0 = λ p. IsTermOver c.args.system.now.arities p.left in
-    subst S (sym c.in_ok-take_in.ensures.whole) (subst T (sym c.equation.view_is) c.requires.left)
+    subst S (sym (c.in_ok-by_root.ensures ∙ c.in_ok-take_in.ensures.whole)) (subst T (sym c.equation.view_is) c.requires.left)
 
 pub treat-requires-clause-right : goal.treat-requires-clause-right
 treat-requires-clause-right c =
     let S : System → Type 0 = λ s. IsTermOver s.arities (tree c.equation.inside.right) in
     let T : RewriteRule → Type 0 = λ p. IsTermOver c.args.system.now.arities p.right in
-    subst S (sym c.in_ok-take_in.ensures.whole) (subst T (sym c.equation.view_is) c.requires.right)
+    subst S (sym (c.in_ok-by_root.ensures ∙ c.in_ok-take_in.ensures.whole)) (subst T (sym c.equation.view_is) c.requires.right)
+
+pub treat-requires-clause-passed : goal.treat-requires-clause-passed
+treat-requires-clause-passed c = c.new-met.ensures _
 
 pub returns-clause-outcome : goal.returns-clause-outcome
 returns-clause-outcome c =
@@ -33,7 +36,7 @@ returns-clause-outcome c =
     let S : System → Type 0 = λ s.
     IfOk c.treat.result (IsOutcome (Treats s.arities (GreaterBy c.args.order.now) s.rules c.args.units (pair_of (tree c.equation.inside.left) (tree c.equation.inside.right)))) in
     let T : RewriteRule → Type 0 = λ p. IfOk c.treat.result (IsOutcome (Treats all.arities (GreaterBy c.args.order.now) all.rules c.args.units p)) in
-    subst T c.equation.view_is (subst S c.in_ok-take_in.ensures.whole c.treat.ensures)
+    subst T c.equation.view_is (subst S (c.in_ok-by_root.ensures ∙ c.in_ok-take_in.ensures.whole) c.treat.ensures.outcome)
 
 pub returns-clause-same : goal.returns-clause-same
 returns-clause-same c =

@@ -1,37 +1,51 @@
-use Rattle.std.proofs.Common.{IfOk, subst, sym}
+use Rattle.std.proofs.Common.{◌≡◌, IfOk, Ok, arith, subst, sym}
+use Rattle.trs_defs.specs.Tree.{Tree}
 use Rattle.trs_defs.specs.System.{System}
-use Rattle.trs_core.specs.SystemLimits.{IsWithinLimits}
 use Rattle.trs_core.specs.View.{tree}
+use Rattle.term_pool.specs.Pooled.{tree_at}
+use Rattle.term_pool.proofs.Extending.{same_tree_at}
 use Rattle.completion.specs.declared.normalizing.Form.{Form}
 use Rattle.completion.specs.GreaterBy.{GreaterBy}
 use Rattle.completion.specs.Normalizing.{Normalizes}
-use Rattle.completion.specs.Moving.{form_of}
+use Rattle.completion.specs.Moving.{form_of, IsFormIn}
 use Rattle.completion.specs.Treating.{IsCompared}
-use Rattle.completion.proofs.TreatLaws.{left_ended, right_ended, treated_if_ok, none_more}
+use Rattle.completion.proofs.TreatLaws.{left_ended, right_ended, treated_if_ok}
 use Rattle.completion.proofs.treating.treat.Goals as goal
 
-pub returns-in-Stopped : goal.returns-in-Stopped
-returns-in-Stopped c =
-    let F : Form → Type 0 = λ f. Normalizes c.args.trs.now.rules c.args.units (tree c.args.left.now) (form_of f) in
-    left_ended (GreaterBy c.args.order.now) c.args.trs.now c.args.units (tree c.args.left.now) (tree c.args.right.now) c.in-Stopped.why c.end_run.result c.end_run.ensures
-    (subst F c.in-Stopped.is c.in_ok-why.ensures)
+pub normal_form-requires-clause-passed : goal.normal_form-requires-clause-passed
+normal_form-requires-clause-passed c = c.make_room.ensures _ c.requires.passed
 
-pub returns-in-Stopped-2 : goal.returns-in-Stopped-2
-returns-in-Stopped-2 c =
-    let F : Form → Type 0 = λ f. Normalizes c.args.trs.now.rules c.args.units (tree c.args.left.now) (form_of f) in
-    let R : Form → Type 0 = λ f. Normalizes c.args.trs.now.rules c.in-Normal.more (tree c.args.right.now) (form_of f) in
-    right_ended (GreaterBy c.args.order.now) c.args.trs.now c.args.units (tree c.args.left.now) (tree c.args.right.now) (tree c.in-Normal.s) c.in-Normal.more
-    (subst F c.in-Normal.is c.in_ok-why.ensures) c.in-Stopped-2.why c.end_run-in-Stopped-2.result c.end_run-in-Stopped-2.ensures
-    (subst R c.in-Stopped-2.is c.in_ok-why-in-Normal.ensures)
+pub returns-in-Stopped-clause-outcome : goal.returns-in-Stopped-clause-outcome
+returns-in-Stopped-clause-outcome c =
+    let F : Form → Type 0 = λ f. Normalizes c.args.by_root.now.rules c.args.units (tree c.args.left.now) (form_of c.normal_form.new.met.pool f) in
+    left_ended (GreaterBy c.args.order.now) c.args.by_root.now c.args.units (tree c.args.left.now) (tree c.args.right.now) c.in-Stopped.why c.end_run.result c.end_run.ensures
+    (subst F c.in-Stopped.is c.in_ok-why.ensures.form)
 
-pub compare-requires : goal.compare-requires
-compare-requires c = subst IsWithinLimits (sym (none_more c.args.trs.now)) c.systems_are_valid.ensures.limits
+pub returns-in-Stopped-2-clause-outcome : goal.returns-in-Stopped-2-clause-outcome
+returns-in-Stopped-2-clause-outcome c =
+    let F : Form → Type 0 = λ f. Normalizes c.args.by_root.now.rules c.args.units (tree c.args.left.now) (form_of c.normal_form.new.met.pool f) in
+    let R : Form → Type 0 = λ f. Normalizes c.args.by_root.now.rules c.in-Normal.more (tree c.args.right.now) (form_of c.normal_form-in-Normal.new.met.pool f) in
+    right_ended (GreaterBy c.args.order.now) c.args.by_root.now c.args.units (tree c.args.left.now) (tree c.args.right.now) (tree_at c.normal_form.new.met.pool c.in-Normal.s) c.in-Normal.more
+    (subst F c.in-Normal.is c.in_ok-why.ensures.form) c.in-Stopped-2.why c.end_run-in-Stopped-2.result c.end_run-in-Stopped-2.ensures
+    (subst R c.in-Stopped-2.is c.in_ok-why-in-Normal.ensures.form)
 
-pub returns : goal.returns
-returns c =
-    let F : Form → Type 0 = λ f. Normalizes c.args.trs.now.rules c.args.units (tree c.args.left.now) (form_of f) in
-    let R : Form → Type 0 = λ f. Normalizes c.args.trs.now.rules c.in-Normal.more (tree c.args.right.now) (form_of f) in
-    let C : System → Type 0 = λ system. IfOk c.compare.result (IsCompared (GreaterBy c.args.order.now) system c.in-Normal-2.rest (tree c.in-Normal.s) (tree c.in-Normal-2.t)) in
-    treated_if_ok (GreaterBy c.args.order.now) c.args.trs.now c.args.units (tree c.args.left.now) (tree c.args.right.now) (tree c.in-Normal.s) c.in-Normal.more
-    (subst F c.in-Normal.is c.in_ok-why.ensures) (tree c.in-Normal-2.t) c.in-Normal-2.rest (subst R c.in-Normal-2.is c.in_ok-why-in-Normal.ensures)
-    c.compare.result (subst C (none_more c.args.trs.now) c.compare.ensures)
+pub compare_forms-requires-clause-left : goal.compare_forms-requires-clause-left
+compare_forms-requires-clause-left c =
+    let there = subst (IsFormIn c.normal_form.new.met.pool) c.in-Normal.is c.in_ok-why.ensures.there in
+    let longer = c.in_ok-why-in-Normal.ensures.kept.longer in
+    omega (arith, there, longer)
+
+pub returns-in-Normal-2-clause-outcome : goal.returns-in-Normal-2-clause-outcome
+returns-in-Normal-2-clause-outcome c =
+    let first = c.normal_form.new.met.pool in
+    let pool = c.normal_form-in-Normal.new.met.pool in
+    let F : Form → Type 0 = λ f. Normalizes c.args.by_root.now.rules c.args.units (tree c.args.left.now) (form_of first f) in
+    let R : Form → Type 0 = λ f. Normalizes c.args.by_root.now.rules c.in-Normal.more (tree c.args.right.now) (form_of pool f) in
+    let P : Tree → Type 0 = λ x. Normalizes c.args.by_root.now.rules c.args.units (tree c.args.left.now) (Ok (x, c.in-Normal.more)) in
+    let C : System → Type 0 = λ system.
+    IfOk c.compare_forms.result (IsCompared (GreaterBy c.args.order.now) system c.in-Normal-2.rest (tree_at pool c.in-Normal.s) (tree_at pool c.in-Normal-2.t)) in
+    let there = subst (IsFormIn first) c.in-Normal.is c.in_ok-why.ensures.there in
+    let same : tree_at pool c.in-Normal.s ≡ tree_at first c.in-Normal.s = same_tree_at first pool c.in_ok-why-in-Normal.ensures.kept c.in-Normal.s there in
+    treated_if_ok (GreaterBy c.args.order.now) c.args.by_root.now c.args.units (tree c.args.left.now) (tree c.args.right.now) (tree_at pool c.in-Normal.s) c.in-Normal.more
+    (subst P (sym same) (subst F c.in-Normal.is c.in_ok-why.ensures.form)) (tree_at pool c.in-Normal-2.t) c.in-Normal-2.rest
+    (subst R c.in-Normal-2.is c.in_ok-why-in-Normal.ensures.form) c.compare_forms.result (subst C c.trs.ensures c.compare_forms.ensures)
