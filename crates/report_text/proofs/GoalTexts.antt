@@ -9,8 +9,8 @@ use Rattle.text_reading.specs.Printed.{word_item, list_item}
 use Rattle.names_text.specs.Named.{NamedSystem}
 use Rattle.tree_definitions.specs.declared.report.GoalReport.{GoalReport}
 use Rattle.tree_definitions.specs.Reports.{part_of}
+use Rattle.tree_definitions.proofs.cert_step.dp_core.Collecting.{next_item}
 use Rattle.report_text.specs.GoalLines.{goal_item, goal_items}
-use Rattle.trs_defs.proofs.ListItems.{from_item}
 
 pub spaced_joined : (xs ys : List Item) → spaced (items_of (xs ++ ys)) ≡ spaced (items_of xs) ++ spaced (items_of ys)
 spaced_joined [] ys = refl
@@ -70,7 +70,7 @@ line_before named words goals i word goal old new there below is made =
     ap (λ k. new ++ behind (drop k words) (drop k goals)) n
     ∙ ap (λ (l : List ℕ). l ++ rest) made ∙ append_assoc old (text ++ 10 ∷ []) rest
     ∙ ap (λ (l : List ℕ). old ++ l) (append_assoc text (10 ∷ []) rest)
-    ∙ sym (ap₂ (λ ws gs. old ++ behind ws gs) (from_item words i word there) next)
+    ∙ sym (ap₂ (λ ws gs. old ++ behind ws gs) (next_item words i word there ∙ ap (λ k. word ∷ drop k words) n) next)
 
 no_goals : (named : NamedSystem) (words : List (List ℕ)) → goal_items named words [] ≡ []
 no_goals named [] = refl
