@@ -10,6 +10,7 @@ ghost use Rattle.lpo_find.specs.LpoRow.{entries_of};
 use crate::space::LpoSpace;
 use order_search::value_at;
 use path_lpo::{Filter, LentFilter, Precedence};
+use std::alloc::Global;
 
 /// The order by which each symbol has the filter and the rank of its two slots.
 #[derive(Clone, Copy)]
@@ -41,6 +42,11 @@ impl<'s, 'a> Precedence for Assigned<'s, 'a> {
             ),
             None => LentFilter::Keep(&[]),
         }
+    }
+
+    fn allocator(&self) -> Option<Global> {
+        let filters = self.space.filters.first()?;
+        Some(*filters.allocator())
     }
 }
 

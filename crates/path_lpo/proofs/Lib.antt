@@ -3,3 +3,6 @@ pub use Rattle.pair_order.proofs as pair_order
 pub mod Walks
 pub mod Keeping
 pub mod Parting
+pub mod Listing
+pub mod Readings
+pub mod Remembering

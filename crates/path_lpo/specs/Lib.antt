@@ -7,3 +7,5 @@ pub mod Faults
 pub mod Kept
 pub mod Comparison
 pub mod WellMade
+pub mod Graph
+pub mod Memo

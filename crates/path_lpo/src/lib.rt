@@ -4,12 +4,19 @@
 
 mod comparing;
 mod comparison;
+mod effort;
 mod entries;
 mod faults;
+mod graph;
 mod kept;
+mod large;
 mod laws;
+mod memo;
+mod nodes;
 mod orders;
 mod precedence;
+mod shared;
+mod sharing;
 mod table;
 
 pub use comparing::{is_strict, is_weak};

@@ -5,6 +5,7 @@ ghost use Rattle.path_lpo.specs.Lent.{lent_filter};
 ghost use Rattle.path_lpo.specs.Table.{rank_in, filter_in};
 
 use crate::{Filter, Lpo};
+use std::alloc::Global;
 
 /// A filter whose places are lent.
 #[derive(Clone, Copy)]
@@ -13,7 +14,8 @@ pub enum LentFilter<'a> {
     Keep(&'a [u8]),
 }
 
-/// What gives each symbol its rank and its filter, and so a path order. No call takes memory.
+/// What gives each symbol its rank and its filter, and so a path order. No call of its own takes
+/// memory.
 pub trait Precedence {
     /// The rank of each symbol.
     ghost ranks: { Self → ℕ → ℕ };
@@ -26,6 +28,9 @@ pub trait Precedence {
 
     fn filter(&self, symbol: u32) -> LentFilter<'_>
         ensures { lent_filter result ≡ filters self.now symbol };
+
+    /// Where a comparison of large terms may take memory. Its answer is the same without.
+    fn allocator(&self) -> Option<Global>;
 }
 
 impl Filter {
@@ -56,5 +61,9 @@ impl Precedence for Lpo {
             Some(entry) => entry.filter.lend(),
             None => LentFilter::Keep(&[]),
         }
+    }
+
+    fn allocator(&self) -> Option<Global> {
+        Some(self.allocator())
     }
 }

@@ -70,6 +70,11 @@ impl Lpo {
         }
     }
 
+    /// The allocator of the entries.
+    pub(crate) fn allocator(&self) -> Global {
+        *self.entries.allocator()
+    }
+
     pub(crate) fn entry(&self, symbol: u32) -> Option<&LpoEntry>
         ensures { option_map plain (option_copied result) ≡ entry_of symbol_of self.now symbol }
     {

@@ -6,4 +6,4 @@ use Rattle.path_lpo.proofs.comparing.is_weak.Goals as goal
 pub returns : goal.returns
 returns g c =
     let filter = g.P.Precedence.filters c.args.order.now in
-    at_least_test (g.P.Precedence.ranks c.args.order.now) (filtered filter (tree c.args.s.now)) (filtered filter (tree c.args.t.now)) c.compare.result c.is_at_least.result c.compare.ensures c.is_at_least.ensures
+    at_least_test (g.P.Precedence.ranks c.args.order.now) (filtered filter (tree c.args.s.now)) (filtered filter (tree c.args.t.now)) c.compare_terms.result c.is_at_least.result c.compare_terms.ensures c.is_at_least.ensures
