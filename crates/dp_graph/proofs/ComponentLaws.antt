@@ -20,13 +20,14 @@ use Rattle.rewrite_core.specs.declared.checks.refusals.StepRefused.TheVariants.{
 use Rattle.dp_graph.specs.declared.items.GraphItem.{GraphItem}
 use Rattle.dp_graph.specs.GroupOrSingle.{GroupOrSingle, items_of, group, single, members_of, all_members, singles_of, groups_of}
 use Rattle.dp_graph.specs.GraphConditions.{HasEdge, are_new, leads_to_none, lead_to_none, graph_conditions}
-use Rattle.dp_graph.specs.Rows.{EdgeOf, Follows, FollowsByRule, AreRows}
-use Rattle.dp_graph.specs.Leaders.{AreMutual, AreLeaders}
+use Rattle.dp_graph.specs.Rows.{EdgeOf, Follows, LeadsOn, at_once, by_way, LeadsByOthers, AreRows}
+use Rattle.dp_graph.specs.Leaders.{AreLeaders}
 use Rattle.dp_graph.specs.Components.{IsEdgeWithin, LiesOnCycle, IsComponent, IsReady, HasLesser, StandInOrder, no_items, next, AreComponents}
 use Rattle.dp_graph.specs.PutOut.{led_by, IsBlocked, IsUndoneLeader, IsNextReady, IsItemOf, Finishes, ArePutOut, all_done, put_out, PutsOut, AreItemsOf, no_leaders, a_pair, a_rule}
 use Rattle.dp_graph.proofs.EachOfList.{each_passes}
 use Rattle.dp_graph.proofs.UnnamedPairs.{both_new}
 use Rattle.dp_graph.proofs.ListPlaces.{set_at, unset_there, at_repeat, in_repeat, length_repeat}
+use Rattle.dp_graph.proofs.RowLaws.{starts_behind}
 use Rattle.dp_graph.proofs.PutOutLaws.{leads_itself, one_leader, led_mutual, DoneTogether, still_together, together_at_first}
 
 -- ---- lists that ascend
@@ -137,44 +138,66 @@ module _ (rules : List RewriteRule) (all : List DependencyPair) (numbers : List 
     | no ge ↦ elim (dec_lt j i) [ yes lt ↦ absurd (let h = lesser_of numbers up j i m m lt d e in omega (arith, h)) | no le ↦ omega (arith, ge, le) ]
   ]
 
-  -- edges lead from pairs to rules, and from rules to pairs
-  to_rule : (i j : ℕ) → Follows rows i j → i < pairs → pairs ≤ j × j < length leaders
-  to_rule i j f lt = elim (are_rows.between i j f) [
+  -- steps lead from pairs to places behind them, and from there to lesser places
+  to_other : (i j : ℕ) → Follows rows i j → i < pairs → pairs ≤ j × j < length leaders
+  to_other i j f lt = elim (are_rows.between i j f) [
     | inl h ↦ (let c = led.count in let k = h.1.1 in (h.1.0, omega (arith, c, k)))
     | inr h ↦ absurd (let k = h.0 in omega (arith, k, lt))
   ]
 
-  to_pair : (i j : ℕ) → Follows rows i j → pairs ≤ i → j < pairs
-  to_pair i j f ge = elim (are_rows.between i j f) [ inl h ↦ absurd (let k = h.0 in omega (arith, k, ge)) | inr h ↦ h.1 ]
+  to_lesser : (i j : ℕ) → Follows rows i j → pairs ≤ i → j < i
+  to_lesser i j f ge = elim (are_rows.between i j f) [ inl h ↦ absurd (let k = h.0 in omega (arith, k, ge)) | inr h ↦ h.1 ]
 
-  from_pair : (i j : ℕ) → Follows rows i j → pairs ≤ j → i < pairs
-  from_pair i j f ge = elim (are_rows.between i j f) [ inl h ↦ h.0 | inr h ↦ absurd (let k = h.1 in omega (arith, k, ge)) ]
+  within : (i j : ℕ) → Follows rows i j → i < length leaders
+  within i j (row, at, k) = let w = slice_get_within rows i row at in let c = led.count in omega (arith, w, c)
 
-  step_up : (i j m n : ℕ) → FollowsByRule pairs rows i j → slice_get numbers i ≡ Some m → slice_get numbers j ≡ Some n → Edge m n
+  -- what leads on to a pair
+  run_of : {i k : ℕ} → LeadsOn pairs rows i k → Run (Follows rows) i k
+  run_of (at_once ge step lt) = one step
+  run_of (by_way ge step on) = Go step (run_of on)
+
+  ends_at_pair : {i k : ℕ} → LeadsOn pairs rows i k → k < pairs
+  ends_at_pair (at_once ge step lt) = lt
+  ends_at_pair (by_way ge step on) = ends_at_pair on
+
+  first_step : {i k : ℕ} → LeadsOn pairs rows i k → (j : ℕ) × Follows rows i j
+  first_step (at_once {k = k} ge step lt) = (k, step)
+  first_step (by_way {j = j} ge step on) = (j, step)
+
+  step_up : (i j m n : ℕ) → LeadsByOthers pairs rows i j → slice_get numbers i ≡ Some m → slice_get numbers j ≡ Some n → Edge m n
   step_up i j m n f e d =
       let (a, b, at, there_b, edge) = (are_rows.exact i j).0 f in
       let same_a : a ≡ m = same_Some a m (sym at ∙ e) in
       let same_b : b ≡ n = same_Some b n (sym there_b ∙ d) in
       (in_of_get numbers i m e, in_of_get numbers j n d, subst (λ z. HasEdge rules all m z) same_b (subst (λ z. HasEdge rules all z b) same_a edge))
 
-  step_down : (i j m n : ℕ) → Edge m n → slice_get numbers i ≡ Some m → slice_get numbers j ≡ Some n → FollowsByRule pairs rows i j
+  step_down : (i j m n : ℕ) → Edge m n → slice_get numbers i ≡ Some m → slice_get numbers j ≡ Some n → LeadsByOthers pairs rows i j
   step_down i j m n edge e d = (are_rows.exact i j).1 (m, n, e, d, edge.2)
 
-  -- two steps are one edge between pairs
-  run_up : {i j : ℕ} → Run (Follows rows) i j → (m n : ℕ) → slice_get numbers i ≡ Some m → slice_get numbers j ≡ Some n → Run Edge m n
-  run_up Stay m n e d = subst (Run Edge m) (same_Some m n (sym e ∙ d)) Stay
-  run_up (Go {s = i} {m = k} step Stay) m n e d = absurd (let h = (to_rule i k step (slice_get_within numbers i m e)).0 in let w = slice_get_within numbers k n d in omega (arith, h, w))
-  run_up (Go {s = i} {m = r} step (Go {m = k} second run)) m n e d =
-      let by : FollowsByRule pairs rows i k = (slice_get_within numbers i m e, (r, step, second)) in
-      let (a, b, at, there_b, edge) = (are_rows.exact i k).0 by in
-      Go (step_up i k m b by e there_b) (run_up run b n there_b d)
+  -- what leads by others from a pair to the next one is an edge
+  mutual
+    run_up : {i j : ℕ} → Run (Follows rows) i j → (m n : ℕ) → slice_get numbers i ≡ Some m → slice_get numbers j ≡ Some n → Run Edge m n
+    run_up Stay m n e d = subst (Run Edge m) (same_Some m n (sym e ∙ d)) Stay
+    run_up (Go {s = i} {m = r} step run) m n e d =
+        let lt = slice_get_within numbers i m e in run_on run i m n e d (to_other i r step lt).0 (λ k on. (lt, (r, step, on)))
+
+    run_on : {r j : ℕ} → Run (Follows rows) r j → (i m n : ℕ) → slice_get numbers i ≡ Some m → slice_get numbers j ≡ Some n → pairs ≤ r
+        → ((k : ℕ) → LeadsOn pairs rows r k → LeadsByOthers pairs rows i k) → Run Edge m n
+    run_on (Stay {s = r}) i m n e d ge to = absurd (let w = slice_get_within numbers r n d in omega (arith, w, ge))
+    run_on (Go {s = r} {m = k} step run) i m n e d ge to = elim (dec_lt k pairs) [
+      | yes lt ↦
+          let by : LeadsByOthers pairs rows i k = to k (at_once ge step lt) in
+          let (a, b, at, there_b, edge) = (are_rows.exact i k).0 by in
+          Go (step_up i k m b by e there_b) (run_up run b n there_b d)
+      | no far ↦ run_on run i m n e d (omega (arith, far)) (λ l on. to l (by_way ge step on))
+    ]
 
   run_down : {m n : ℕ} → Run Edge m n → (i j : ℕ) → slice_get numbers i ≡ Some m → slice_get numbers j ≡ Some n → Run (Follows rows) i j
   run_down (Stay {s = m}) i j e d = subst (Run (Follows rows) i) (place_once i j m e d) Stay
   run_down (Go {s = m} {m = k} step run) i j e d =
       let at = get_of_in step.1 in
-      let (lt, (r, first, second)) = step_down i at.0 m k step e at.1 in
-      Go first (Go second (run_down run at.0 j at.1 d))
+      let (lt, (r, first, on)) = step_down i at.0 m k step e at.1 in
+      Go first (then (run_of on) (run_down run at.0 j at.1 d))
 
   leader_of : (w : ℕ) → w < pairs → (l : ℕ) × (slice_get leaders w ≡ Some l)
   leader_of w lt = item_there leaders w (let c = led.count in let d = are_rows.count in omega (arith, lt, c, d))
@@ -195,15 +218,21 @@ module _ (rules : List RewriteRule) (all : List DependencyPair) (numbers : List 
       let here : n ≡ member = same_Some n member (sym e ∙ (ap (slice_get numbers) same ∙ is.0)) in
       subst (λ z. In z (member ∷ [])) (sym here) in_first
 
-  by_rule : {k v : ℕ} → v < pairs → Follows rows v k → Run (Follows rows) k v → (j : ℕ) × FollowsByRule pairs rows v j × Run (Follows rows) j v
-  by_rule lt step (Stay {s = v}) = absurd (let h = (to_rule v v step lt).0 in omega (arith, h, lt))
-  by_rule lt step (Go {s = k} {m = j} second run) = (j, (lt, (k, step, second)), run)
+  -- a run to a pair leads to a first one
+  first_pair : {i k : ℕ} → Run (Follows rows) i k → pairs ≤ i → k < pairs → (j : ℕ) × LeadsOn pairs rows i j × Run (Follows rows) j k
+  first_pair (Stay {s = i}) ge lt = absurd (omega (arith, ge, lt))
+  first_pair (Go {s = i} {m = j} step run) ge lt = elim (dec_lt j pairs) [
+    | yes small ↦ (j, at_once ge step small, run)
+    | no far ↦ (let (l, on, rest) = first_pair run (omega (arith, far)) lt in (l, by_way ge step on, rest))
+  ]
 
   lies_on_cycle : (v m : ℕ) → slice_get leaders v ≡ Some v → slice_get numbers v ≡ Some m → ((w : ℕ) × (slice_get leaders w ≡ Some v) × (w ≡ v → ⊥)) → LiesOnCycle rules all numbers m
   lies_on_cycle v m own e (w, d, differ) =
       let joined = led_mutual rows leaders led v w v own d in
       let (k, step, run) = cycle_of joined.0 differ joined.1 in
-      let (j, by, back) = by_rule (slice_get_within numbers v m e) step run in
+      let lt = slice_get_within numbers v m e in
+      let (j, on, back) = first_pair run (to_other v k step lt).0 lt in
+      let by : LeadsByOthers pairs rows v j = (lt, (k, step, on)) in
       let (a, b, at, there_b, edge) = (are_rows.exact v j).0 by in
       (b, step_up v j m b by e there_b, run_up back b m there_b e)
 
@@ -229,11 +258,11 @@ module _ (rules : List RewriteRule) (all : List DependencyPair) (numbers : List 
       )
   is_component v (single member) lt own is = λ (k, edge, run).
       let j = get_of_in edge.1 in
-      let (small, (r, first, second)) = step_down v j.0 member k edge is.0 j.1 in
+      let (small, (r, first, on)) = step_down v j.0 member k edge is.0 j.1 in
       let back = run_down run j.0 v j.1 is.0 in
-      let (behind, few) = to_rule v r first lt in
+      let (behind, few) = to_other v r first lt in
       let l = item_there leaders r few in
-      let same : l.0 ≡ v = one_leader rows leaders led r v l.0 v l.1 own (Go second back, one first) in
+      let same : l.0 ≡ v = one_leader rows leaders led r v l.0 v l.1 own (then (run_of on) back, one first) in
       let here : r ≡ v = is.1 r (l.1 ∙ ap (λ z. Some z) same) in
       omega (arith, here, behind, lt)
 
@@ -327,114 +356,148 @@ module _ (rules : List RewriteRule) (all : List DependencyPair) (numbers : List 
   -- what is ready among the items that are left is not blocked, and the other way round
   module _ (done : List Bool) (order : List ℕ) (items : List GroupOrSingle) (passed : IsPassed done) (out : ArePutOut pairs rows leaders done order) (of_order : AreItemsOf numbers leaders order items)
       (u : ℕ) (small : u < pairs) (own : slice_get leaders u ≡ Some u) (x : GroupOrSingle) (of : IsItemOf numbers leaders u x) where
-    leads_within : (IsBlocked rows leaders done u → ⊥) → IsReady rules all numbers items x
-    leads_within free m n i j edge =
-        let (a, e, undone) = (covers done order items passed out of_order m).0 i in
-        let (w, d, led_w) = in_item u x own of n j in
-        let (lt, (r, first, second)) = step_down a w m n edge e d in
-        let l = leader_of a lt in
-        let k = item_there leaders r (to_rule a r first lt).1 in
-        go a r w e undone first second led_w l.0 l.1 k.0 k.1 (ℕ_discrete k.0 u) (ℕ_discrete l.0 u) (undone_or_done done passed.size r (to_rule a r first lt).1)
-      where
-        go : (a r w : ℕ) → slice_get numbers a ≡ Some m → slice_get done a ≡ Some false → Follows rows a r → Follows rows r w → slice_get leaders w ≡ Some u → (l : ℕ) → slice_get leaders a ≡ Some l
-            → (k : ℕ) → slice_get leaders r ≡ Some k → Dec (k ≡ u) → Dec (l ≡ u) → (slice_get done r ≡ Some false) ⊎ (slice_get done r ≡ Some true) → In m (members_of x)
-        go a r w e undone first second led_w l at k to (yes here) (yes same) o = item_in u x of m a e (at ∙ ap (λ z. Some z) same)
-        go a r w e undone first second led_w l at k to (yes here) (no other) o = absurd (free (record {
-          from = a;
-          to = r;
-          leader = l;
-          undone = undone;
-          follows = first;
-          of_other = at;
-          of_this = to ∙ ap (λ z. Some z) here;
-          differ = other;
-        }))
-        go a r w e undone first second led_w l at k to (no other) d (inl left) = absurd (free (record {
-          from = r;
-          to = w;
-          leader = k;
-          undone = left;
-          follows = second;
-          of_other = to;
-          of_this = led_w;
-          differ = other;
-        }))
-        go a r w e undone first second led_w l at k to (no other) d (inr set) = absurd (false_true done a undone (passed.closed a r first set))
+    module _ (free : IsBlocked rows leaders done u → ⊥) where
+      -- what leads to the component is of it, or is done
+      one_back : (i j : ℕ) → Follows rows i j → slice_get leaders j ≡ Some u → (slice_get leaders i ≡ Some u) ⊎ (slice_get done i ≡ Some true)
+      one_back i j step led_j =
+          let k = item_there leaders i (within i j step) in
+          elim (ℕ_discrete k.0 u) [
+            | yes same ↦ inl (k.1 ∙ ap (λ z. Some z) same)
+            | no other ↦ elim (undone_or_done done passed.size i (within i j step)) [
+              | inr set ↦ inr set
+              | inl undone ↦ absurd (free (record {
+                from = i;
+                to = j;
+                leader = k.0;
+                undone = undone;
+                follows = step;
+                of_other = k.1;
+                of_this = led_j;
+                differ = other;
+              }))
+            ]
+          ]
+
+      all_back : {i k : ℕ} → LeadsOn pairs rows i k → slice_get leaders k ≡ Some u → (slice_get leaders i ≡ Some u) ⊎ (slice_get done i ≡ Some true)
+      all_back (at_once {i = i} {k = k} ge step lt) led_k = one_back i k step led_k
+      all_back (by_way {i = i} {j = j} ge step on) led_k = elim (all_back on led_k) [
+        | inl led_j ↦ one_back i j step led_j
+        | inr set ↦ inr (passed.closed i j step set)
+      ]
+
+      pub leads_within : IsReady rules all numbers items x
+      leads_within m n i j edge =
+          let (a, e, undone) = (covers done order items passed out of_order m).0 i in
+          let (w, d, led_w) = in_item u x own of n j in
+          let (lt, (r, first, on)) = step_down a w m n edge e d in
+          elim (all_back on led_w) [
+            | inl led_r ↦ elim (one_back a r first led_r) [
+              | inl led_a ↦ item_in u x of m a e led_a
+              | inr set ↦ absurd (false_true done a undone set)
+            ]
+            | inr set ↦ absurd (false_true done a undone (passed.closed a r first set))
+          ]
 
     module _ (free : IsReady rules all numbers items x) (wait : (k : ℕ) → pairs ≤ k → IsUndoneLeader leaders done k → IsBlocked rows leaders done k) where
       -- a pair that is left, and that leads to one of the item, is one of it
-      is_within : (a r w : ℕ) → a < pairs → Follows rows a r → Follows rows r w → slice_get done a ≡ Some false → slice_get leaders w ≡ Some u → slice_get leaders a ≡ Some u
-      is_within a r w lt first second undone led_w =
-          let m = number_of a lt in
-          let n = number_of w (to_pair r w second (to_rule a r first lt).0) in
+      is_within : (a w : ℕ) → LeadsByOthers pairs rows a w → slice_get done a ≡ Some false → slice_get leaders w ≡ Some u → slice_get leaders a ≡ Some u
+      is_within a w by undone led_w =
+          let m = number_of a by.0 in
+          let n = number_of w (ends_at_pair by.1.2) in
           let i = (covers done order items passed out of_order m.0).1 (a, m.1, undone) in
-          let (b, e, d) = in_item u x own of m.0 (free m.0 n.0 i (item_in u x of n.0 w n.1 led_w) (step_up a w m.0 n.0 (lt, (r, first, second)) m.1 n.1)) in
+          let (b, e, d) = in_item u x own of m.0 (free m.0 n.0 i (item_in u x of n.0 w n.1 led_w) (step_up a w m.0 n.0 by m.1 n.1)) in
           subst (λ z. slice_get leaders z ≡ Some u) (place_once b a m.0 e m.1) d
 
-      -- a pair leads to a rule of the component
-      by_pair : (a r : ℕ) → a < pairs → Follows rows a r → slice_get done a ≡ Some false → slice_get leaders r ≡ Some u → slice_get leaders a ≡ Some u
-      by_pair a r lt first undone led_r = go (led.each r u led_r).connected.0 (led.each r u led_r).connected.1
-        where
-          behind : pairs ≤ r
-          behind = (to_rule a r first lt).0
+      -- a run from a pair to a place behind the pairs has a last pair
+      abbrev LastPair : ℕ → ℕ → Type 0
+      LastPair l q = (a : ℕ) × Run (Follows rows) l a × Run (Follows rows) a q × ((w : ℕ) → LeadsOn pairs rows q w → LeadsByOthers pairs rows a w)
 
-          from_rule : {k j : ℕ} → pairs ≤ k → j < pairs → Run (Follows rows) k j → (w : ℕ) × Follows rows k w × Run (Follows rows) w j
-          from_rule ge less (Stay {s = k}) = absurd (omega (arith, ge, less))
-          from_rule ge less (Go {m = w} s run) = (w, s, run)
+      mutual
+        last_pair : {j q : ℕ} → Run (Follows rows) j q → (l : ℕ) → j < pairs → pairs ≤ q → Run (Follows rows) l j → LastPair l q
+        last_pair (Stay {s = q}) l lt ge run = absurd (omega (arith, lt, ge))
+        last_pair (Go {s = j} {m = r} step rest) l lt ge run = last_on rest l j (to_other j r step lt).0 ge run (one step) (λ w on. (lt, (r, step, on)))
 
-          go : Run (Follows rows) r u → Run (Follows rows) u r → slice_get leaders a ≡ Some u
-          go there_u back =
-              let (w, second, run) = from_rule behind small there_u in
-              let l = leader_of w (to_pair r w second behind) in
-              let same : l.0 ≡ u = one_leader rows leaders led w u l.0 u l.1 own (run, then back (one second)) in
-              is_within a r w lt first second undone (l.1 ∙ ap (λ z. Some z) same)
+        last_on : {r q : ℕ} → Run (Follows rows) r q → (l a : ℕ) → pairs ≤ r → pairs ≤ q → Run (Follows rows) l a → Run (Follows rows) a r
+            → ((w : ℕ) → LeadsOn pairs rows r w → LeadsByOthers pairs rows a w) → LastPair l q
+        last_on Stay l a far ge run so_far to = (a, run, so_far, to)
+        last_on (Go {s = r} {m = j} step rest) l a far ge run so_far to = elim (dec_lt j pairs) [
+          | yes small ↦ last_pair rest l small ge (then run (then so_far (one step)))
+          | no high ↦ last_on rest l a (omega (arith, high)) ge run (then so_far (one step)) (λ w on. to w (by_way far step on))
+        ]
 
-      -- a rule of another component leads to a pair
-      by_other : (r w l : ℕ) → pairs ≤ r → Follows rows r w → slice_get done r ≡ Some false → slice_get leaders r ≡ Some l → slice_get leaders w ≡ Some u → (l ≡ u → ⊥) → ⊥
-      by_other r w l ge second undone at led_w differ = go (dec_lt l pairs)
-        where
-          joined : AreMutual rows r l
-          joined = (led.each r l at).connected
+      -- a component with a pair, that leads on to one of the item, is that of the item
+      by_its_pair : (q w l : ℕ) → pairs ≤ q → LeadsOn pairs rows q w → slice_get done q ≡ Some false → slice_get leaders q ≡ Some l → slice_get leaders w ≡ Some u → l < pairs → l ≡ u
+      by_its_pair q w l ge on undone at led_w small =
+          let joined = (led.each q l at).connected in
+          let left : slice_get done l ≡ Some false = sym (passed.together q l at) ∙ undone in
+          let (a, there_a, to_q, by) = last_pair joined.1 l small ge Stay in
+          let k = leader_of a (by w on).0 in
+          let same : k.0 ≡ l = one_leader rows leaders led a l k.0 l k.1 (leads_itself rows leaders led q l at) (then to_q joined.0, there_a) in
+          let led_a : slice_get leaders a ≡ Some l = k.1 ∙ ap (λ z. Some z) same in
+          same_Some l u (sym led_a ∙ is_within a w (by w on) (passed.together a l led_a ∙ left) led_w)
 
-          left : slice_get done l ≡ Some false
-          left = sym (passed.together r l at) ∙ undone
+      -- in a component with no pair runs fall
+      falls : (q l : ℕ) → slice_get leaders q ≡ Some l → pairs ≤ l → {k : ℕ} → Run (Follows rows) k q → slice_get leaders k ≡ Some l → q ≤ k
+      falls q l at far Stay e = omega arith
+      falls q l at far (Go {s = k} {m = j} s run) e =
+          let far_k : pairs ≤ k = (let low = led_low k l e in omega (arith, low, far)) in
+          let to_k : Run (Follows rows) q k = (led_mutual rows leaders led q k l at e).0 in
+          let less : j < k = to_lesser k j s far_k in
+          let p = item_there leaders j (let w = within k j s in omega (arith, w, less)) in
+          let same : p.0 ≡ l = one_leader rows leaders led j k p.0 l p.1 e (then run to_k, one s) in
+          let h = falls q l at far run (p.1 ∙ ap (λ z. Some z) same) in
+          omega (arith, h, less)
 
-          go : Dec (l < pairs) → ⊥
-          go (yes lt) = elim (last_step joined.1) [
-            | inl same ↦ omega (arith, same, lt, ge)
-            | inr (a, run, first) ↦
-                let small_a = from_pair a r first ge in
-                let k = leader_of a small_a in
-                let same : k.0 ≡ l = one_leader rows leaders led a l k.0 l k.1 (leads_itself rows leaders led r l at) (Go first joined.0, run) in
-                let led_a : slice_get leaders a ≡ Some l = k.1 ∙ ap (λ z. Some z) same in
-                differ (same_Some l u (sym led_a ∙ is_within a r w small_a first second (passed.together a l led_a ∙ left) led_w))
+      -- what leads on to a pair of the item, and is left, is of its component
+      led_on : (steps q w : ℕ) → length leaders ≤ q + steps → LeadsOn pairs rows q w → slice_get done q ≡ Some false → slice_get leaders w ≡ Some u → slice_get leaders q ≡ Some u
+      led_on zero q w many on undone led_w = absurd (let s = first_step on in let h = within q s.0 s.1 in omega (arith, h, many))
+      led_on (suc steps) q w many on undone led_w =
+          let s = first_step on in
+          let k = item_there leaders q (within q s.0 s.1) in
+          elim (dec_lt k.0 pairs) [
+            | yes small ↦ k.1 ∙ ap (λ z. Some z) (by_its_pair q w k.0 (starts_behind on) on undone k.1 led_w small)
+            | no high ↦
+                let far : pairs ≤ k.0 = omega (arith, high) in
+                let own_k = leads_itself rows leaders led q k.0 k.1 in
+                let b = wait k.0 far (own_k, sym (passed.together q k.0 k.1) ∙ undone) in
+                let joined = led_mutual rows leaders led b.to q k.0 b.of_this k.1 in
+                let up = falls q k.0 k.1 far joined.0 b.of_this in
+                let down = falls b.to k.0 b.of_this far joined.1 k.1 in
+                let same : b.to ≡ q = omega (arith, up, down) in
+                let step : Follows rows b.from q = subst (Follows rows b.from) same b.follows in
+                let led_from : slice_get leaders b.from ≡ Some u = elim (dec_lt b.from pairs) [
+                  | yes lt ↦ is_within b.from w (lt, (q, step, on)) b.undone led_w
+                  | no ge ↦
+                      let back : pairs ≤ b.from = omega (arith, ge) in
+                      let less = to_lesser b.from q step back in
+                      led_on steps b.from w (omega (arith, less, many)) (by_way back step on) b.undone led_w
+                ] in
+                let to_from : Run (Follows rows) w b.from = (led_mutual rows leaders led w b.from u led_w led_from).0 in
+                let one_u : k.0 ≡ u = one_leader rows leaders led q b.from k.0 u k.1 led_from (then (run_of on) to_from, one step) in
+                k.1 ∙ ap (λ z. Some z) one_u
           ]
-          go (no high) =
-              let far : pairs ≤ l = omega (arith, high) in
-              let b = wait l far (leads_itself rows leaders led r l at, left) in
-              let to_far : pairs ≤ b.to = (let low = led_low b.to l b.of_this in omega (arith, low, far)) in
-              let same : b.to ≡ r = alone (led_mutual rows leaders led b.to r l b.of_this at).0 b.of_this to_far in
-              let first : Follows rows b.from r = subst (Follows rows b.from) same b.follows in
-              let lt = from_pair b.from r first ge in
-              let led_from = is_within b.from r w lt first second b.undone led_w in
-              let joined_u = led_mutual rows leaders led w b.from u led_w led_from in
-              let one_u : l ≡ u = one_leader rows leaders led r b.from l u at led_from (Go second joined_u.0, one first) in
-              differ one_u
-            where
-              alone : {k : ℕ} → Run (Follows rows) k r → slice_get leaders k ≡ Some l → pairs ≤ k → k ≡ r
-              alone Stay e far = refl
-              alone (Go {s = k} {m = j} s run) e far_k =
-                  let small_j = to_pair k j s far_k in
-                  let p = leader_of j small_j in
-                  let to_k : Run (Follows rows) r k = (led_mutual rows leaders led r k l at e).0 in
-                  let same : p.0 ≡ l = one_leader rows leaders led j k p.0 l p.1 e (then run to_k, one s) in
-                  let low = led_low j l (p.1 ∙ ap (λ z. Some z) same) in
-                  absurd (omega (arith, low, small_j, high))
+
+      -- from a place of the component steps lead on to a pair of it
+      to_own_pair : (r : ℕ) → pairs ≤ r → slice_get leaders r ≡ Some u → (w : ℕ) × LeadsOn pairs rows r w × (slice_get leaders w ≡ Some u)
+      to_own_pair r ge led_r =
+          let joined = (led.each r u led_r).connected in
+          let (w, on, rest) = first_pair joined.0 ge small in
+          let l = leader_of w (ends_at_pair on) in
+          let same : l.0 ≡ u = one_leader rows leaders led w u l.0 u l.1 own (rest, then joined.1 (run_of on)) in
+          (w, on, l.1 ∙ ap (λ z. Some z) same)
 
       not_blocked : IsBlocked rows leaders done u → ⊥
       not_blocked b = elim (dec_lt b.from pairs) [
-        | yes lt ↦ b.differ (same_Some b.leader u (sym b.of_other ∙ by_pair b.from b.to lt b.follows b.undone b.of_this))
-        | no ge ↦ by_other b.from b.to b.leader (omega (arith, ge)) b.follows b.undone b.of_other b.of_this b.differ
+        | yes lt ↦
+            let (w, on, led_w) = to_own_pair b.to (to_other b.from b.to b.follows lt).0 b.of_this in
+            b.differ (same_Some b.leader u (sym b.of_other ∙ is_within b.from w (lt, (b.to, b.follows, on)) b.undone led_w))
+        | no ge ↦
+            let far : pairs ≤ b.from = omega (arith, ge) in
+            let (w, on, led_w) = elim (dec_lt b.to pairs) as (λ c. (w : ℕ) × LeadsOn pairs rows b.from w × (slice_get leaders w ≡ Some u)) [
+              | yes lt ↦ (b.to, at_once far b.follows lt, b.of_this)
+              | no high ↦ (let (w, on, led_w) = to_own_pair b.to (omega (arith, high)) b.of_this in (w, by_way far b.follows on, led_w))
+            ] in
+            b.differ (same_Some b.leader u (sym b.of_other ∙ led_on (length leaders) b.from w (omega arith) on b.undone led_w))
       ]
 
   stand_in_order : (done : List Bool) (order : List ℕ) (items : List GroupOrSingle) → IsPassed done → ArePutOut pairs rows leaders done order → AreItemsOf numbers leaders order items

@@ -19,6 +19,8 @@ pub mod LeaderLaws
 pub mod ReversedLaws
 pub mod RowLaws
 pub mod LeftLaws
+pub mod CapKeys
+pub mod EndLaws
 pub mod WaitingLaws
 pub mod PutOutLaws
 pub mod OrderLaws

@@ -1,10 +1,10 @@
--- The rules of pairs, one pair after another; and the rows of edges to rules.
-use Rattle.std.specs.Prelude.{◌≡◌, ◌<◌, ◌≤◌, ◌↔◌, ◌⊎◌, ℕ, ◌+◌, Bool, true, false, cond, IsTrue, List, [], ◌∷◌, ◌++◌, length, Some, None, Vec, slice_get, refl}
+-- The rules of pairs, one pair after another; the rows of edges to rules; and the right sides that lead there.
+use Rattle.std.specs.Prelude.{◌≡◌, ◌<◌, ◌≤◌, ◌↔◌, ◌⊎◌, ℕ, ◌+◌, Bool, true, false, cond, IsTrue, List, [], ◌∷◌, ◌++◌, length, Some, None, Vec, Result, Ok, Err, IfOk, slice_get, refl}
 use Rattle.std.specs.declared.alloc.Global.{Global}
 use Rattle.std.specs.Ordering.{nat_cmp}
 use Rattle.std.specs.BTreeMap.{BTreeMap, get, is_at}
 use Rattle.std.specs.Map.{lookup}
-use Rattle.std.proofs.Common.{inl, inr, sym, ap, subst, arith, ◌∙◌}
+use Rattle.std.proofs.Common.{zero, suc, inl, inr, sym, ap, subst, arith, ◌∙◌}
 use Rattle.std.proofs.lemmas.Grind.{common_steps}
 use Rattle.std.proofs.lemmas.Option.{same_Some, slice_get_within}
 use native.Mathlib.Decide.{dec_lt, ℕ_discrete}
@@ -12,20 +12,26 @@ use Rattle.trs_defs.specs.Member.{In, in_first}
 use Rattle.trs_defs.proofs.Members.{no_in, in_left, in_right, in_either, in_or, get_of_in, in_of_get}
 use Rattle.trs_defs.specs.System.{System, IsSystem}
 use Rattle.trs_defs.proofs.ListItems.{item_there, last_item}
-use Rattle.pair_theory.specs.Marked.{mark}
+use Rattle.pair_theory.specs.Marked.{plain, mark}
 use Rattle.pair_theory.specs.DependencyPair.{DependencyPair, dependency_pairs}
 use Rattle.dp_graph.specs.ByRoot.{entry_items, items_at}
 use Rattle.dp_core.specs.PlacedPairs.{IsOfRule}
 use Rattle.dp_graph.specs.GraphConditions.{lists_of}
-use Rattle.dp_graph.specs.GraphNodes.{IsNodeFor}
+use Rattle.dp_graph.specs.Edge.{IsEdge}
+use Rattle.dp_graph.specs.GraphNodes.{IsEndOf, IsNodeFor}
 use Rattle.dp_graph.specs.PlaceLists.{PutsBehind}
 use Rattle.dp_graph.specs.declared.graph.Node.{Node}
 use Rattle.dp_graph.specs.declared.rows.RulePlace.{RulePlace}
 use Rattle.dp_graph.specs.declared.rows.Rules.{Rules}
-use Rattle.dp_graph.specs.Rows.{EdgeOf, AtPlaces, Follows, FollowsByRule, IsBetween, StayWithin, AreRows}
+use Rattle.dp_graph.specs.declared.rows.Rights.{Rights}
+use Rattle.dp_graph.specs.RightPlaces.{AreAlike, IsRowOf, AddsRight, PlacesRight, LeadsRight}
+use Rattle.trs_caps.specs.HoledTree.{HoledTree}
+use Rattle.trs_caps.specs.HoledCap.{MeetsLeft}
+use Rattle.dp_graph.specs.Rows.{EdgeOf, AtPlaces, Follows, LeadsOn, at_once, by_way, LeadsByOthers, IsBetween, StayWithin, AreRows}
 use Rattle.dp_graph.specs.RulePlaces.{IsPlaceOf, IsInRule, AreRules, HaveRows, AreNoRules, AddsPair, AddsRule, RulesAt, LeadsByRules}
 use Rattle.dp_core.proofs.LeftNumbering.{same_left}
 use Rattle.dp_graph.proofs.EarlierLaws.{none_at, edge_root, edge_to_alike}
+use Rattle.dp_graph.proofs.Covering.{edge_by_caps}
 use Rattle.dp_graph.proofs.NodeLists.{of_rule}
 use Rattle.dp_graph.proofs.ListPlaces.{last_or_there, still_there, lists_length, lists_more, length_more, in_single}
 use Rattle.dp_graph.proofs.ReversedLaws.{put_follows}
@@ -338,113 +344,366 @@ module _ (system : System) (rules : List RulePlace) (m i : ℕ) where
   leads_to_one old mid new n rule false at says lt puts same leads =
       subst (LeadsByRules system (AmongFirst rules (n + 1)) m i old) (sym (same refl)) (leads_past old mid n rule at leads (λ edge. let h : false ≡ true = says.1 edge in cc))
 
+-- ---- the places of right sides
+
+-- from pairs whose right sides have one cap the same edges lead
+alike_to : (system : System) (m n : ℕ) (p q : DependencyPair) (c : HoledTree) → IsSystem system → length system.arities ≤ 4095 → slice_get (dependency_pairs system.rules) m ≡ Some p
+    → slice_get (dependency_pairs system.rules) n ≡ Some q → IsEndOf system.rules p.to c → IsEndOf system.rules q.to c → (k : ℕ) → EdgeOf system m k → EdgeOf system n k
+alike_to system m n p q c valid few at there (cs, are, is) (ds, also, same) k e =
+    let from : e.from ≡ p = same_Some e.from p (sym e.from_numbered ∙ at) in
+    let edge : IsEdge system.rules p e.to = subst (λ z. IsEdge system.rules z e.to) from e.edge in
+    let meets = (edge_by_caps system valid few p e.to cs are).1 edge in
+    record {
+      from = q;
+      to = e.to;
+      from_numbered = there;
+      to_numbered = e.to_numbered;
+      edge = (edge_by_caps system valid few q e.to ds also).0 (subst (λ z. MeetsLeft z (plain e.to.from)) (sym is ∙ same) meets);
+    }
+
+pub alike_first : (system : System) (m : ℕ) (node : Node) → IsSystem system → length system.arities ≤ 4095 → IsNodeFor system m (Some node) → AreAlike system m node.first
+alike_first system m node valid few (p, at, is) =
+    let (q, there, (c, first, own)) = is.first in
+    λ k. (alike_to system m node.first p q c valid few at there own first k, alike_to system node.first m q p c valid few there at first own k)
+
+more_elsewhere : {A : Type 0} (xs : List A) (y : A) (k : ℕ) → (k ≡ length xs → ⊥) → slice_get (xs ++ y ∷ []) k ≡ slice_get xs k
+more_elsewhere [] y zero other = absurd (other refl)
+more_elsewhere [] y (suc k) other = refl
+more_elsewhere (x ∷ xs) y zero other = refl
+more_elsewhere (x ∷ xs) y (suc k) other = more_elsewhere xs y k (λ e. other (ap suc e))
+
+pub right_added : (system : System) (by_root : BTreeMap ℕ (Vec RulePlace Global)) (m place : ℕ) (old new : Rights) (row : Vec ℕ Global) (mid : List (Vec ℕ Global)) → place ≡ length old.rows.items → row.items ≡ []
+    → mid ≡ old.rows.items ++ row ∷ [] → LeadsByRules system (RulesAt system by_root m) m place (lists_of mid) (lists_of new.rows.items)
+    → ((r : ℕ) → get nat_cmp new.places r ≡ cond (is_at (nat_cmp m) r) (Some place) (get nat_cmp old.places r)) → AddsRight system by_root m place old new
+right_added system by_root m place old new row mid last empty grown leads places = record {
+  last = last;
+  count = (let a = lists_length new.rows.items in let b = lists_length mid in let c = leads.count in let d = ap length grown in let e = length_more old.rows.items row in omega (arith, a, b, c, d, e));
+  row = λ j. (
+    λ f. elim ((leads.exact j).0 f) [ inl (r, at, i) ↦ absurd (no_in (subst (In j) (none_here r at) i)) | inr h ↦ h ],
+    λ h. (leads.exact j).1 (inr h),
+  );
+  others = λ k other. leads.others k other ∙ (ap (λ z. slice_get z k) lists ∙ more_elsewhere (lists_of old.rows.items) [] k (λ e. other (e ∙ size)));
+  places = places;
+}
+  where
+    lists : lists_of mid ≡ lists_of old.rows.items ++ [] ∷ []
+    lists = ap lists_of grown ∙ (lists_more old.rows.items row ∙ ap (λ z. lists_of old.rows.items ++ z ∷ []) empty)
+
+    size : length (lists_of old.rows.items) ≡ place
+    size = lists_length old.rows.items ∙ sym last
+
+    none_here : (r : List ℕ) → slice_get (lists_of mid) place ≡ Some r → r ≡ []
+    none_here r at = elim (last_or_there (lists_of old.rows.items) [] r place (subst (λ z. slice_get z place ≡ Some r) lists at)) [
+      | inl e ↦ absurd (let w = slice_get_within (lists_of old.rows.items) place r e in omega (arith, w, size))
+      | inr e ↦ sym e.1
+    ]
+
+pub right_longer : (system : System) (by_root : BTreeMap ℕ (Vec RulePlace Global)) (m place : ℕ) (old new : Rights) → PlacesRight system by_root m place old new → length old.rows.items ≤ length new.rows.items
+right_longer system by_root m place old new (inl (at, same)) = let h = ap (λ (z : Rights). length z.rows.items) same in omega (arith, h)
+right_longer system by_root m place old new (inr adds) = let h = adds.count in omega (arith, h)
+
+pub right_either : {E : Type 0} (system : System) (by_root : BTreeMap ℕ (Vec RulePlace Global)) (m : ℕ) (old new : Rights) (result : Result ℕ E) → IfOk result (λ place. AddsRight system by_root m place old new)
+    → IfOk result (λ place. PlacesRight system by_root m place old new)
+right_either system by_root m old new (Ok place) adds = inr adds
+right_either system by_root m old new (Err e) adds = adds
+
 -- ---- the rows of all pairs
 
+follows_same : (rows new : List (List ℕ)) (k j : ℕ) → slice_get new k ≡ slice_get rows k → Follows new k j → Follows rows k j
+follows_same rows new k j same (row, at, i) = (row, sym same ∙ at, i)
+
+-- place k behind the others is that of the right side of a pair like number m
+pub record IsRightAt (system : System) (by_root : BTreeMap ℕ (Vec RulePlace Global)) (before rows : List (List ℕ)) (m k : ℕ) : Type 0 where
+  pub behind : length before ≤ k
+  pub small : k < length rows
+  pub row : IsRowOf system by_root m rows k
+
 -- the rows of the first n pairs are made
-pub record LedSoFar (system : System) (numbers : List ℕ) (by_root : BTreeMap ℕ (Vec RulePlace Global)) (before rows : List (List ℕ)) (n : ℕ) : Type 0 where
-  pub count : length rows ≡ length before
+pub record LedSoFar (system : System) (numbers : List ℕ) (by_root : BTreeMap ℕ (Vec RulePlace Global)) (before : List (List ℕ)) (rights : Rights) (n : ℕ) : Type 0 where
+  pub longer : length before ≤ length (lists_of rights.rows.items)
   pub valid : (k : ℕ) → k < n → IsSystem system × length system.arities ≤ 4095
-  pub later : (k : ℕ) → n ≤ k → slice_get rows k ≡ slice_get before k
-  pub exact : (k j m : ℕ) → k < n → slice_get numbers k ≡ Some m → Follows rows k j ↔ (Follows before k j ⊎ ((rule : RulePlace) × RulesAt system by_root m rule × (rule.place ≡ j) × EdgeOf system m rule.pair))
+  pub kept : (k : ℕ) → n ≤ k → k < length before → slice_get (lists_of rights.rows.items) k ≡ slice_get before k
+  pub placed : (m k : ℕ) → get nat_cmp rights.places m ≡ Some k → IsRightAt system by_root before (lists_of rights.rows.items) m k
+  pub reached : (k : ℕ) → length before ≤ k → k < length (lists_of rights.rows.items) → (m : ℕ) × IsRowOf system by_root m (lists_of rights.rows.items) k
+  pub led : (k j m : ℕ) → k < n → slice_get numbers k ≡ Some m → Follows (lists_of rights.rows.items) k j
+      → (first : ℕ) × AreAlike system m first × IsRightAt system by_root before (lists_of rights.rows.items) first j
+  pub all : (k m : ℕ) (p : DependencyPair) → k < n → slice_get numbers k ≡ Some m → slice_get (dependency_pairs system.rules) m ≡ Some p
+      → (j : ℕ) × Follows (lists_of rights.rows.items) k j
 
-pub none_led_yet : (system : System) (numbers : List ℕ) (by_root : BTreeMap ℕ (Vec RulePlace Global)) (rows : List (List ℕ)) → LedSoFar system numbers by_root rows rows 0
-none_led_yet system numbers by_root rows = record { count = refl; valid = λ k lt. absurd (omega (arith, lt)); later = λ k ge. refl; exact = λ k j m lt e. absurd (omega (arith, lt)) }
-
-pub one_more_row : (system : System) (numbers : List ℕ) (by_root : BTreeMap ℕ (Vec RulePlace Global)) (before rows new : List (List ℕ)) (n m : ℕ) → slice_get numbers n ≡ Some m → IsSystem system
-    → length system.arities ≤ 4095 → LeadsByRules system (RulesAt system by_root m) m n rows new → LedSoFar system numbers by_root before rows n → LedSoFar system numbers by_root before new (n + 1)
-one_more_row system numbers by_root before rows new n m at valid few leads so_far = record {
-  count = leads.count ∙ so_far.count;
-  valid = λ k lt. (valid, few);
-  later = λ k ge. leads.others k (λ e. omega (arith, e, ge)) ∙ so_far.later k (omega (arith, ge));
-  exact = λ k j a lt e. elim (dec_lt k n) [
-    | yes s ↦ (
-        let same : slice_get new k ≡ slice_get rows k = leads.others k (λ d. omega (arith, d, s)) in
-        (λ (row, t, i). (so_far.exact k j a s e).0 (row, sym same ∙ t, i), λ h. let (row, t, i) = (so_far.exact k j a s e).1 h in (row, same ∙ t, i)))
-    | no s ↦ (
-        let here : k ≡ n = omega (arith, s, lt) in
-        let number : m ≡ a = same_Some m a (sym at ∙ (ap (slice_get numbers) (sym here) ∙ e)) in
-        let old : slice_get rows n ≡ slice_get before n = so_far.later n (omega arith) in
-        subst (λ z. Follows new z j ↔ (Follows before z j ⊎ ((rule : RulePlace) × RulesAt system by_root a rule × (rule.place ≡ j) × EdgeOf system a rule.pair))) (sym here)
-        (subst (λ z. Follows new n j ↔ (Follows before n j ⊎ ((rule : RulePlace) × RulesAt system by_root z rule × (rule.place ≡ j) × EdgeOf system z rule.pair))) number (
-          λ f. elim ((leads.exact j).0 f) [ inl (row, t, i) ↦ inl (row, sym old ∙ t, i) | inr h ↦ inr h ],
-          λ h. (leads.exact j).1 (elim h [ inl (row, t, i) ↦ inl (row, old ∙ t, i) | inr g ↦ inr g ]),
-        )))
-  ];
+pub none_led_yet : (system : System) (numbers : List ℕ) (by_root : BTreeMap ℕ (Vec RulePlace Global)) (rights : Rights) → rights.places.entries ≡ [] → LedSoFar system numbers by_root (lists_of rights.rows.items) rights 0
+none_led_yet system numbers by_root rights none = record {
+  longer = omega arith;
+  valid = λ k lt. absurd (omega (arith, lt));
+  kept = λ k ge lt. refl;
+  placed = λ m k e. absurd (let d : None ≡ Some k = sym (no_place rights.places none m) ∙ e in cc);
+  reached = λ k ge lt. absurd (omega (arith, ge, lt));
+  led = λ k j m lt e f. absurd (omega (arith, lt));
+  all = λ k m p lt e d. absurd (omega (arith, lt));
 }
 
-module _ (system : System) (numbers : List ℕ) (rules : Rules) (are : AreRules system numbers (length numbers) rules) (rows : List (List ℕ))
-    (led : LedSoFar system numbers rules.by_root (lists_of rules.rows.items) rows (length numbers)) where
+module _ (system : System) (numbers : List ℕ) (by_root : BTreeMap ℕ (Vec RulePlace Global)) (before : List (List ℕ)) (whole : length numbers ≤ length before)
+    (low : (k j : ℕ) → Follows before k j → length numbers ≤ k) where
+  right_kept : (rows new : List (List ℕ)) (m k : ℕ) → slice_get new k ≡ slice_get rows k → length rows ≤ length new → IsRightAt system by_root before rows m k → IsRightAt system by_root before new m k
+  right_kept rows new m k same longer is = record {
+    behind = is.behind;
+    small = (let s = is.small in omega (arith, s, longer));
+    row = row_kept rows new m k same is.row;
+  }
+    where
+      row_kept : (rows new : List (List ℕ)) (m k : ℕ) → slice_get new k ≡ slice_get rows k → IsRowOf system by_root m rows k → IsRowOf system by_root m new k
+      row_kept rows new m k same is = λ j. (λ f. (is j).0 (follows_same rows new k j same f), λ h. follows_same new rows k j (sym same) ((is j).1 h))
+
+  module _ (n : ℕ) (old : Rights) (so_far : LedSoFar system numbers by_root before old n) (small : n < length numbers) where
+    -- a right side that has a place now
+    right_placed : (m place : ℕ) (new : Rights) → PlacesRight system by_root m place old new → LedSoFar system numbers by_root before new n × IsRightAt system by_root before (lists_of new.rows.items) m place
+    right_placed m place new (inl (at, same)) =
+        let is = so_far.placed m place at in (
+          subst (λ (z : Rights). LedSoFar system numbers by_root before z n) (sym same) so_far,
+          subst (λ (z : Rights). IsRightAt system by_root before (lists_of z.rows.items) m place) (sym same) is,
+        )
+    right_placed m place new (inr adds) = (
+      record {
+        longer = (let l = so_far.longer in omega (arith, l, grown));
+        valid = so_far.valid;
+        kept = λ k ge lt. adds.others k (not_last k (let l = so_far.longer in omega (arith, lt, l))) ∙ so_far.kept k ge lt;
+        placed = λ r k e. by_number r k e (is_at (nat_cmp m) r) refl;
+        reached = λ k ge lt. elim (dec_lt k (length (lists_of old.rows.items))) [
+          | no high ↦ (let same : k ≡ place = omega (arith, high, lt, grown, last) in (m, subst (IsRowOf system by_root m (lists_of new.rows.items)) (sym same) adds.row))
+          | yes there ↦
+              let other = not_last k there in
+              let (r, row) = so_far.reached k ge there in (
+                r,
+                λ j. (
+                  λ f. (row j).0 (follows_same (lists_of old.rows.items) (lists_of new.rows.items) k j (adds.others k other) f),
+                  λ h. follows_same (lists_of new.rows.items) (lists_of old.rows.items) k j (sym (adds.others k other)) ((row j).1 h),
+                ),
+              )
+        ];
+        led = λ k j r lt e f.
+            let other : k ≡ place → ⊥ = not_last k (let l = so_far.longer in omega (arith, lt, small, whole, l)) in
+            let (first, alike, is) = so_far.led k j r lt e (follows_same (lists_of old.rows.items) (lists_of new.rows.items) k j (adds.others k other) f) in
+            (first, alike, still first j is);
+        all = λ k r p lt e d.
+            let other : k ≡ place → ⊥ = not_last k (let l = so_far.longer in omega (arith, lt, small, whole, l)) in
+            let (j, f) = so_far.all k r p lt e d in
+            (j, follows_same (lists_of new.rows.items) (lists_of old.rows.items) k j (sym (adds.others k other)) f);
+      },
+      here,
+    )
+      where
+        grown : length (lists_of new.rows.items) ≡ length (lists_of old.rows.items) + 1
+        grown = (let a = lists_length new.rows.items in let b = lists_length old.rows.items in let c = adds.count in omega (arith, a, b, c))
+
+        last : place ≡ length (lists_of old.rows.items)
+        last = adds.last ∙ sym (lists_length old.rows.items)
+
+        not_last : (k : ℕ) → k < length (lists_of old.rows.items) → k ≡ place → ⊥
+        not_last k lt e = omega (arith, lt, e, last)
+
+        still : (r k : ℕ) → IsRightAt system by_root before (lists_of old.rows.items) r k → IsRightAt system by_root before (lists_of new.rows.items) r k
+        still r k is = right_kept (lists_of old.rows.items) (lists_of new.rows.items) r k (adds.others k (not_last k is.small)) (omega (arith, grown)) is
+
+        here : IsRightAt system by_root before (lists_of new.rows.items) m place
+        here = record { behind = (let l = so_far.longer in omega (arith, l, last)); small = omega (arith, grown, last); row = adds.row }
+
+        by_number : (r k : ℕ) → get nat_cmp new.places r ≡ Some k → (b : Bool) → is_at (nat_cmp m) r ≡ b → IsRightAt system by_root before (lists_of new.rows.items) r k
+        by_number r k e true same =
+            let place_is : place ≡ k = same_Some place k (sym (adds.places r ∙ ap (λ b. cond b (Some place) (get nat_cmp old.places r)) same) ∙ e) in
+            subst (λ z. IsRightAt system by_root before (lists_of new.rows.items) z k) (same_number m r same) (subst (IsRightAt system by_root before (lists_of new.rows.items) m) place_is here)
+        by_number r k e false other =
+            still r k (so_far.placed r k (sym (adds.places r ∙ ap (λ b. cond b (Some place) (get nat_cmp old.places r)) other) ∙ e))
+
+    -- the row of the next pair has nothing yet
+    none_before : (j : ℕ) → Follows (lists_of old.rows.items) n j → ⊥
+    none_before j f =
+        let h = low n j (follows_same before (lists_of old.rows.items) n j (so_far.kept n (omega arith) (omega (arith, small, whole))) f) in
+        omega (arith, h, small)
+
+    -- its right side is put there
+    right_put : (m first place : ℕ) (new : Rights) → slice_get numbers n ≡ Some m → IsSystem system → length system.arities ≤ 4095 → AreAlike system m first
+        → IsRightAt system by_root before (lists_of old.rows.items) first place → PutsBehind (lists_of old.rows.items) (lists_of new.rows.items) n place → new.places ≡ old.places
+        → LedSoFar system numbers by_root before new (n + 1)
+    right_put m first place new at valid few alike is puts same_places = record {
+      longer = (let l = so_far.longer in let c = puts.count in omega (arith, l, c));
+      valid = λ k lt. (valid, few);
+      kept = λ k ge lt. puts.others k (λ e. omega (arith, e, ge)) ∙ so_far.kept k (omega (arith, ge)) lt;
+      placed = λ r k e. still r k (so_far.placed r k (subst (λ z. get nat_cmp z r ≡ Some k) same_places e));
+      reached = λ k ge lt.
+          let (r, row) = so_far.reached k ge (let c = puts.count in omega (arith, lt, c)) in
+          let same = puts.others k (λ e. omega (arith, e, ge, small, whole)) in (
+            r,
+            λ j. (
+              λ f. (row j).0 (follows_same (lists_of old.rows.items) (lists_of new.rows.items) k j same f),
+              λ h. follows_same (lists_of new.rows.items) (lists_of old.rows.items) k j (sym same) ((row j).1 h),
+            ),
+          );
+      led = λ k j r lt e f. elim ((put_follows (lists_of old.rows.items) (lists_of new.rows.items) n place within puts k j).0 f) [
+        | inl g ↦ elim (dec_lt k n) [
+          | yes s ↦ (let (x, like, right) = so_far.led k j r s e g in (x, like, still x j right))
+          | no s ↦ absurd (none_before j (subst (λ z. Follows (lists_of old.rows.items) z j) (let same : k ≡ n = omega (arith, s, lt) in same) g))
+        ]
+        | inr g ↦
+            let number : m ≡ r = same_Some m r (sym at ∙ (ap (slice_get numbers) (sym g.0) ∙ e)) in
+            (first, subst (λ z. AreAlike system z first) number alike, subst (IsRightAt system by_root before (lists_of new.rows.items) first) (sym g.1) (still first place is))
+      ];
+      all = λ k r p lt e d. elim (dec_lt k n) [
+        | yes s ↦ (let (j, f) = so_far.all k r p s e d in (j, (put_follows (lists_of old.rows.items) (lists_of new.rows.items) n place within puts k j).1 (inl f)))
+        | no s ↦ (let same : k ≡ n = omega (arith, s, lt) in (place, (put_follows (lists_of old.rows.items) (lists_of new.rows.items) n place within puts k place).1 (inr (same, refl))))
+      ];
+    }
+      where
+        within : n < length (lists_of old.rows.items)
+        within = let l = so_far.longer in omega (arith, l, small, whole)
+
+        still : (r k : ℕ) → IsRightAt system by_root before (lists_of old.rows.items) r k → IsRightAt system by_root before (lists_of new.rows.items) r k
+        still r k right =
+            right_kept (lists_of old.rows.items) (lists_of new.rows.items) r k (puts.others k (λ e. let b = right.behind in omega (arith, e, b, small, whole))) (let c = puts.count in omega (arith, c)) right
+
+  pub one_more_row : (n m : ℕ) (old new : Rights) → slice_get numbers n ≡ Some m → IsSystem system → length system.arities ≤ 4095 → LeadsRight system by_root m n old new
+      → LedSoFar system numbers by_root before old n → LedSoFar system numbers by_root before new (n + 1)
+  one_more_row n m old new at valid few (inl (none, same)) so_far = subst (λ (z : Rights). LedSoFar system numbers by_root before z (n + 1)) (sym same) (record {
+    longer = so_far.longer;
+    valid = λ k lt. (valid, few);
+    kept = λ k ge lt. so_far.kept k (omega (arith, ge)) lt;
+    placed = so_far.placed;
+    reached = so_far.reached;
+    led = λ k j r lt e f. elim (dec_lt k n) [
+      | yes s ↦ so_far.led k j r s e f
+      | no s ↦ absurd (none_before n old so_far (slice_get_within numbers n m at) j (subst (λ z. Follows (lists_of old.rows.items) z j) (let here : k ≡ n = omega (arith, s, lt) in here) f))
+    ];
+    all = λ k r p lt e d. elim (dec_lt k n) [
+      | yes s ↦ so_far.all k r p s e d
+      | no s ↦ absurd (
+          let here : k ≡ n = omega (arith, s, lt) in
+          let number : m ≡ r = same_Some m r (sym at ∙ (ap (slice_get numbers) (sym here) ∙ e)) in
+          let h : None ≡ Some p = sym none ∙ (ap (slice_get (dependency_pairs system.rules)) number ∙ d) in cc)
+    ];
+  })
+  one_more_row n m old new at valid few (inr leads) so_far =
+      let lt = slice_get_within numbers n m at in
+      let (mid, is) = right_placed n old so_far lt leads.first leads.place leads.mid leads.places in
+      right_put n leads.mid mid lt m leads.first leads.place new at valid few leads.alike is leads.puts leads.same
+
+-- what leads on to a pair starts behind the pairs
+pub starts_behind : {pairs : ℕ} {rows : List (List ℕ)} {i k : ℕ} → LeadsOn pairs rows i k → pairs ≤ i
+starts_behind (at_once ge step lt) = ge
+starts_behind (by_way ge step on) = ge
+
+-- the rows of rules have pairs alone
+pub from_rule : (system : System) (numbers : List ℕ) (rules : Rules) → AreRules system numbers (length numbers) rules → (k j : ℕ) → Follows (lists_of rules.rows.items) k j → length numbers ≤ k × j < length numbers
+from_rule system numbers rules are k j f =
+    let h = are.reached k j f in
+    let is = are.found h.root h.rule h.listed in
+    let (p, (m, e, d), same) = are.alike h.root j h.rule is.pair h.listed is.numbered (subst (λ z. Follows (lists_of rules.rows.items) z j) (sym h.at) f) in
+    let low : length numbers ≤ k = (let b = is.behind in let a = h.at in omega (arith, a, b)) in
+    (low, slice_get_within numbers j m e)
+
+module _ (system : System) (numbers : List ℕ) (rules : Rules) (are : AreRules system numbers (length numbers) rules) (rights : Rights)
+    (so_far : LedSoFar system numbers rules.by_root (lists_of rules.rows.items) rights (length numbers)) where
   abbrev pairs : ℕ
   pairs = length numbers
 
   abbrev before : List (List ℕ)
   before = lists_of rules.rows.items
 
-  from_rule : (k j : ℕ) → Follows before k j → pairs ≤ k × j < pairs
-  from_rule k j f =
-      let h = are.reached k j f in
-      let is = are.found h.root h.rule h.listed in
-      let (p, (m, e, d), same) = are.alike h.root j h.rule is.pair h.listed is.numbered (subst (λ z. Follows before z j) (sym h.at) f) in
-      let low : pairs ≤ k = (let b = is.behind in let a = h.at in omega (arith, a, b)) in
-      (low, slice_get_within numbers j m e)
+  abbrev rows : List (List ℕ)
+  rows = lists_of rights.rows.items
 
-  of_before : (k j : ℕ) → pairs ≤ k → Follows rows k j → Follows before k j
-  of_before k j low (row, e, i) = (row, sym (led.later k low) ∙ e, i)
+  whole : pairs ≤ length before
+  whole = let l = are.low in let s = lists_length rules.rows.items in omega (arith, l, s)
 
-  to_before : (k j : ℕ) → pairs ≤ k → Follows before k j → Follows rows k j
-  to_before k j low (row, e, i) = (row, led.later k low ∙ e, i)
+  of_before : (k j : ℕ) → pairs ≤ k → k < length before → Follows rows k j → Follows before k j
+  of_before k j ge lt f = follows_same before rows k j (so_far.kept k ge lt) f
 
-  -- the row of a pair has rules
-  to_rule : (i j m : ℕ) → slice_get numbers i ≡ Some m → Follows rows i j → (rule : RulePlace) × RulesAt system rules.by_root m rule × (rule.place ≡ j) × EdgeOf system m rule.pair
-  to_rule i j m e f =
-      let lt = slice_get_within numbers i m e in
-      elim ((led.exact i j m lt e).0 f) [ inl h ↦ absurd (let low = (from_rule i j h).0 in omega (arith, low, lt)) | inr h ↦ h ]
+  to_before : (k j : ℕ) → pairs ≤ k → k < length before → Follows before k j → Follows rows k j
+  to_before k j ge lt f = follows_same rows before k j (sym (so_far.kept k ge lt)) f
+
+  -- the place of a rule
+  rule_place : (m : ℕ) (rule : RulePlace) → RulesAt system rules.by_root m rule → pairs ≤ rule.place × rule.place < length before
+  rule_place m rule (p, at, listed) =
+      let is = are.found p.to.symbol rule listed in
+      (is.behind, (let s = is.small in let l = lists_length rules.rows.items in omega (arith, s, l)))
 
   between_places : (i j : ℕ) → Follows rows i j → Dec (i < pairs) → IsBetween pairs (length rows) i j
   between_places i j f (yes lt) =
       let m = item_there numbers i lt in
-      let (rule, (p, at_p, listed), at, edge) = to_rule i j m.0 m.1 f in
-      let is = are.found p.to.symbol rule listed in
-      let low : pairs ≤ j = (let b = is.behind in omega (arith, at, b)) in
-      let small : j < length rows = (let s = is.small in let c = led.count in let l = lists_length rules.rows.items in omega (arith, at, s, c, l)) in
-      inl (lt, (low, small))
+      let (first, alike, is) = so_far.led i j m.0 lt m.1 f in
+      inl (lt, ((let b = is.behind in let w = whole in omega (arith, b, w)), is.small))
   between_places i j f (no ge) =
       let low : pairs ≤ i = omega (arith, ge) in
-      inr (low, (from_rule i j (of_before i j low f)).1)
+      inr (
+        low,
+        elim (dec_lt i (length before)) [
+          | yes s ↦ (let h = (from_rule system numbers rules are i j (of_before i j low s f)).1 in omega (arith, h, low))
+          | no s ↦
+              let w = (let (row, at, k) = f in slice_get_within rows i row at) in
+              let (m, row) = so_far.reached i (omega (arith, s)) w in
+              let (rule, at, is, edge) = (row j).0 f in
+              let b = (rule_place m rule at).1 in
+              omega (arith, b, is, s)
+        ],
+      )
 
-  up : (i k : ℕ) → FollowsByRule pairs rows i k → AtPlaces (EdgeOf system) numbers i k
-  up i k (lt, (j, first, second)) =
+  up : (i k : ℕ) → LeadsByOthers pairs rows i k → AtPlaces (EdgeOf system) numbers i k
+  up i k (lt, (j, first_step, on)) =
       let m = item_there numbers i lt in
-      let (rule, (p, at_p, listed), at, edge) = to_rule i j m.0 m.1 first in
-      let is = are.found p.to.symbol rule listed in
-      let low : pairs ≤ j = (let b = is.behind in omega (arith, at, b)) in
-      let (q, (n, e, d), same) = are.alike p.to.symbol k rule is.pair listed is.numbered (subst (λ z. Follows before z k) (sym at) (of_before j k low second)) in
-      let (valid, few) = led.valid i lt in
-      (m.0, n, m.1, e, edge_to_alike system valid few m.0 rule.pair n is.pair q is.numbered d (sym same) edge)
+      let (valid, few) = so_far.valid i lt in
+      let (first, alike, is) = so_far.led i j m.0 lt m.1 first_step in
+      by_right m.0 m.1 valid few first alike is on
+    where
+      by_rule : (m : ℕ) → slice_get numbers i ≡ Some m → IsSystem system → length system.arities ≤ 4095 → (rule : RulePlace) (p : DependencyPair) → In rule (items_at rules.by_root p.to.symbol) → EdgeOf system m rule.pair
+          → {l : ℕ} → rule.place ≡ l → LeadsOn pairs rows l k → AtPlaces (EdgeOf system) numbers i k
+      by_rule m at valid few rule p listed edge is (at_once {i = l} ge step lt) =
+          let found = are.found p.to.symbol rule listed in
+          let small : rule.place < length before = (let s = found.small in let c = lists_length rules.rows.items in omega (arith, s, c)) in
+          let old : Follows before rule.place k = subst (λ z. Follows before z k) (sym is) (of_before l k ge (omega (arith, is, small)) step) in
+          let (q, (n, e, d), same) = are.alike p.to.symbol k rule found.pair listed found.numbered old in
+          (m, n, at, e, edge_to_alike system valid few m rule.pair n found.pair q found.numbered d (sym same) edge)
+      by_rule m at valid few rule p listed edge is (by_way {i = l} {j = j} ge step on) =
+          let found = are.found p.to.symbol rule listed in
+          let small : rule.place < length before = (let s = found.small in let c = lists_length rules.rows.items in omega (arith, s, c)) in
+          let h = (from_rule system numbers rules are l j (of_before l j ge (omega (arith, is, small)) step)).1 in
+          absurd (let far = starts_behind on in omega (arith, h, far))
 
-  down : (i k : ℕ) → AtPlaces (EdgeOf system) numbers i k → FollowsByRule pairs rows i k
+      by_right : (m : ℕ) → slice_get numbers i ≡ Some m → IsSystem system → length system.arities ≤ 4095 → (first : ℕ) → AreAlike system m first → {j : ℕ} → IsRightAt system rules.by_root before rows first j → LeadsOn pairs rows j k
+          → AtPlaces (EdgeOf system) numbers i k
+      by_right m at valid few first alike is (at_once ge step lt) =
+          let (rule, there, place, edge) = (is.row k).0 step in
+          absurd (let b = (rule_place first rule there).0 in omega (arith, b, place, lt))
+      by_right m at valid few first alike is (by_way {j = l} ge step on) =
+          let (rule, there, place, edge) = (is.row l).0 step in
+          by_rule m at valid few rule there.0 there.2 ((alike rule.pair).1 edge) place on
+
+  down : (i k : ℕ) → AtPlaces (EdgeOf system) numbers i k → LeadsByOthers pairs rows i k
   down i k (m, n, e, d, edge) =
       let lt = slice_get_within numbers i m e in
-      let (valid, few) = led.valid i lt in
+      let (valid, few) = so_far.valid i lt in
       let (j, h) = are.all k edge.to (slice_get_within numbers k n d) (n, d, edge.to_numbered) in
       let is = are.found h.root h.rule h.listed in
       let (q, (a, at_a, numbered), same) = are.alike h.root k h.rule is.pair h.listed is.numbered (subst (λ z. Follows before z k) (sym h.at) h.follows) in
       let here : q ≡ edge.to = same_Some q edge.to (sym numbered ∙ (ap (slice_get (dependency_pairs system.rules)) (same_Some a n (sym at_a ∙ d)) ∙ edge.to_numbered)) in
       let alike : mark edge.to.from ≡ mark is.pair.from = ap (λ (x : DependencyPair). mark x.from) (sym here) ∙ same in
       let to_first : EdgeOf system m h.rule.pair = edge_to_alike system valid few m n h.rule.pair edge.to is.pair edge.to_numbered is.numbered alike edge in
-      let root : edge.from.to.symbol ≡ is.pair.from.symbol = edge_root system valid few m h.rule.pair edge.from is.pair edge.from_numbered is.numbered to_first in
-      let listed : In h.rule (items_at rules.by_root edge.from.to.symbol) = subst (λ z. In h.rule (items_at rules.by_root z)) (sym (root ∙ is.root)) h.listed in
-      let low : pairs ≤ j = (from_rule j k h.follows).0 in
-      (lt, (j, (led.exact i j m lt e).1 (inr (h.rule, (edge.from, edge.from_numbered, listed), h.at, to_first)), to_before j k low h.follows))
+      let (r, step) = so_far.all i m edge.from lt e edge.from_numbered in
+      let (first, like, right) = so_far.led i r m lt e step in
+      let by_first : EdgeOf system first h.rule.pair = (like h.rule.pair).0 to_first in
+      let root : by_first.from.to.symbol ≡ is.pair.from.symbol = edge_root system valid few first h.rule.pair by_first.from is.pair by_first.from_numbered is.numbered by_first in
+      let listed : In h.rule (items_at rules.by_root by_first.from.to.symbol) = subst (λ z. In h.rule (items_at rules.by_root z)) (sym (root ∙ is.root)) h.listed in
+      let (low, small_k) = from_rule system numbers rules are j k h.follows in
+      let small : j < length before = (let s = is.small in let c = lists_length rules.rows.items in let a = h.at in omega (arith, s, c, a)) in
+      let second : Follows rows r j = (right.row j).1 (h.rule, (by_first.from, by_first.from_numbered, listed), h.at, by_first) in
+      let far : pairs ≤ r = (let b = right.behind in let w = whole in omega (arith, b, w)) in
+      (lt, (r, step, by_way far second (at_once low (to_before j k low small h.follows) small_k)))
 
   pub are_rows : AreRows (EdgeOf system) numbers rows
   are_rows = record {
-    count = (let l = are.low in let c = led.count in let s = lists_length rules.rows.items in omega (arith, l, c, s));
+    count = (let w = whole in let l = so_far.longer in omega (arith, w, l));
     between = λ i j f. between_places i j f (dec_lt i pairs);
     exact = λ i k. (up i k, down i k);
   }
 
 pub rows_within : (edge : ℕ → ℕ → Type 0) (numbers : List ℕ) (rows : List (List ℕ)) → AreRows edge numbers rows → StayWithin rows
-rows_within edge numbers rows are i j f =
-    let c = are.count in
-    elim (are.between i j f) [ inl h ↦ h.1.1 | inr h ↦ (let lt = h.1 in omega (arith, lt, c)) ]
+rows_within edge numbers rows are i j f = elim (are.between i j f) [
+  | inl h ↦ h.1.1
+  | inr h ↦ (let less = h.1 in let (row, at, k) = f in let w = slice_get_within rows i row at in omega (arith, less, w))
+]

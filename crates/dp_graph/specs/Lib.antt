@@ -19,3 +19,5 @@ pub mod PlaceLists
 pub mod Waiting
 pub mod Components
 pub mod SameLefts
+pub mod RightCaps
+pub mod RightPlaces

@@ -37,7 +37,7 @@ impl Earlier {
         ensures { IfOk result (λ to. (members : List ℕ) → IsEarlier graph.now members self.now →
             leads_to_none_of graph.now from members (first_led_to from to)) }
     {
-        let Some(node) = graph.node(from) else {
+        let Some(node) = graph.node(from as usize) else {
             return Ok(None);
         };
         match self.by_root.get(&node.to) {
@@ -56,7 +56,7 @@ impl Earlier {
         ensures { OnOk result ((members : List ℕ) → IsEarlier graph.now members self.old →
             IsEarlier graph.now (members ++ n ∷ []) self.new) }
     {
-        let Some(node) = graph.node(n) else {
+        let Some(node) = graph.node(n as usize) else {
             return Ok(());
         };
         if self.rules.insert(node.rule)? {
@@ -76,7 +76,7 @@ fn first_of(
     ensures { IfOk result (λ to. leads_to_none_of graph.now from pairs.now (first_led_to from to)) }
 {
     for n in pairs {
-        if graph.leads(alloc, from, *n)? {
+        if graph.leads(alloc, from as usize, *n as usize)? {
             return Ok(Some(*n));
         }
     }

@@ -8,6 +8,7 @@ mod checking;
 mod collecting;
 mod earlier;
 mod edges;
+mod ends;
 mod finding;
 mod finishing;
 mod graph;

@@ -10,8 +10,9 @@ use std::alloc::Global;
 use trs_core::OutOfMemory;
 
 /// The leaders in order. Next comes always, of those to whose components no edge leads from another
-/// one that is left, the least; but a rule that lies on no cycle comes as soon as it can, so that it
-/// holds up no pair. Each edge is looked at twice. The first places are those of so many pairs.
+/// one that is left, the least; but a rule or a right side that lies on no cycle comes as soon as it
+/// can, so that it holds up no pair. Each edge is looked at twice. The first places are those of so
+/// many pairs.
 pub(crate) fn sort_components(
     alloc: Global,
     pairs: usize,

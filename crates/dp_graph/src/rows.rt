@@ -1,6 +1,7 @@
-//! The graph on a problem, as rows of places: those of its pairs come first, those of their rules
-//! behind them. An edge to a pair depends on the pair's left side alone, so that rules with one left
-//! side count as the first of them.
+//! The graph on a problem, as rows of places: those of its pairs come first, then those of their
+//! rules, then those of their right sides. An edge depends on the cap of a right side and on a left side
+//! alone. So rules with one left side count as the first of them, and right sides with one cap as that
+//! of the first pair, and edges are kept once for all of them.
 ghost use Rattle.std.specs.Prelude.{ℕ, ◌≡◌, ◌<◌, ◌≤◌, List, IfOk, OnOk, IsTrue, Some, false, length, slice_get};
 ghost use Rattle.trs_defs.specs.Member.{In};
 ghost use Rattle.trs_defs.specs.System.{IsSystem};
@@ -8,6 +9,7 @@ ghost use Rattle.dp_graph.specs.GraphConditions.{lists_of};
 ghost use Rattle.dp_graph.specs.PlaceLists.{PutsBehind};
 ghost use Rattle.dp_graph.specs.Rows.{AreRows, EdgeOf};
 ghost use Rattle.dp_graph.specs.RulePlaces.{AreNoRules, AreRules, HaveRows, AddsPair, AddsRule, LeadsByRules, RulesAt};
+ghost use Rattle.dp_graph.specs.RightPlaces.{AddsRight, PlacesRight, LeadsRight};
 
 use crate::PairGraph;
 use crate::by_root::push_at;
@@ -37,9 +39,18 @@ pub(crate) struct Rules {
     by_root: BTreeMap<u32, Vec<RulePlace>>,
 }
 
-/// The rows of a problem. The row of a pair has the rules to whose pairs edges lead, and the row of
-/// a rule has its pairs. Edges are looked for only to one pair with a left side, and to rules with
-/// the root of the pair's right side.
+/// The right sides of pairs in a problem.
+#[derive(Drop)]
+pub(crate) struct Rights {
+    /// The rows of all places. That of a right side has the rules to whose pairs edges lead.
+    rows: Vec<Vec<usize>>,
+    /// The places of right sides, by the numbers of the first pairs with their caps.
+    places: BTreeMap<usize, usize>,
+}
+
+/// The rows of a problem. The row of a pair has its right side, the row of a right side has the rules
+/// to whose pairs edges lead, and the row of a rule has its pairs. Edges are looked for only from one
+/// right side with a cap to one pair with a left side, and to rules with the root of the right side.
 pub(crate) fn rows(
     alloc: Global,
     graph: &PairGraph,
@@ -49,15 +60,15 @@ pub(crate) fn rows(
         (λ rows. AreRows (EdgeOf graph.now) problem.now (lists_of rows.items)) }
 {
     let rules = rules_of(alloc, graph, problem)?;
-    let Rules {
-        mut rows,
-        by_root,
-        ..
-    } = rules;
+    let Rules { rows, by_root, .. } = rules;
+    let mut rights = Rights {
+        rows,
+        places: BTreeMap::new(alloc),
+    };
     for (i, m) in problem.iter().enumerate() {
-        lead(alloc, graph, &by_root, *m, i, &mut rows)?;
+        rights.lead(alloc, graph, &by_root, *m as usize, i)?;
     }
-    Ok(rows)
+    Ok(rights.rows)
 }
 
 /// The rules of the pairs of a problem.
@@ -88,7 +99,7 @@ impl Rules {
         requires { HaveRows self.old }
         ensures { OnOk result (AddsPair graph.now n j self.old self.new) }
     {
-        let Some(node) = graph.node(n) else {
+        let Some(node) = graph.node(n as usize) else {
             return Ok(());
         };
         match self.places.get(&node.rule) {
@@ -118,12 +129,72 @@ impl Rules {
     }
 }
 
-/// Makes the row of pair number `m`, which has place `i`.
+impl Rights {
+    /// Puts the place of the right side of pair number `m` into the row of the pair, which has place
+    /// `i`.
+    fn lead(
+        &mut self,
+        alloc: Global,
+        graph: &PairGraph,
+        by_root: &BTreeMap<u32, Vec<RulePlace>>,
+        m: usize,
+        i: usize,
+    ) -> Result<(), OutOfMemory>
+        requires { i < length self.old.rows.items }
+        ensures valid { OnOk result (IsSystem graph.now) }
+        ensures symbols { OnOk result (length graph.now.arities ≤ 4095) }
+        ensures leads { OnOk result (LeadsRight graph.now by_root.now m i self.old self.new) }
+    {
+        let Some(node) = graph.node(m) else {
+            return Ok(());
+        };
+        let place = self.place(alloc, graph, by_root, node.first)?;
+        put_behind(&mut self.rows, i, place)?;
+        Ok(())
+    }
+
+    /// The place of the right side of pair number `m`, which is a new one if there is none yet.
+    fn place(
+        &mut self,
+        alloc: Global,
+        graph: &PairGraph,
+        by_root: &BTreeMap<u32, Vec<RulePlace>>,
+        m: usize,
+    ) -> Result<usize, OutOfMemory>
+        ensures { IfOk result
+            (λ place. PlacesRight graph.now by_root.now m place self.old self.new) }
+    {
+        match self.places.get(&m) {
+            Some(place) => Ok(*place),
+            None => self.add(alloc, graph, by_root, m),
+        }
+    }
+
+    /// Adds a place for the right side of pair number `m`.
+    fn add(
+        &mut self,
+        alloc: Global,
+        graph: &PairGraph,
+        by_root: &BTreeMap<u32, Vec<RulePlace>>,
+        m: usize,
+    ) -> Result<usize, OutOfMemory>
+        ensures { IfOk result
+            (λ place. AddsRight graph.now by_root.now m place self.old self.new) }
+    {
+        let place = self.rows.len();
+        self.rows.push(Vec::new(alloc))?;
+        lead(alloc, graph, by_root, m, place, &mut self.rows)?;
+        self.places.insert(m, place)?;
+        Ok(place)
+    }
+}
+
+/// Makes the row of the right side of pair number `m`, which has place `i`.
 fn lead(
     alloc: Global,
     graph: &PairGraph,
     by_root: &BTreeMap<u32, Vec<RulePlace>>,
-    m: u32,
+    m: usize,
     i: usize,
     rows: &mut Vec<Vec<usize>>,
 ) -> Result<(), OutOfMemory>
@@ -150,7 +221,7 @@ fn lead_to(
     alloc: Global,
     graph: &PairGraph,
     rules: &[RulePlace],
-    m: u32,
+    m: usize,
     i: usize,
     rows: &mut Vec<Vec<usize>>,
 ) -> Result<(), OutOfMemory>
@@ -159,7 +230,7 @@ fn lead_to(
         (lists_of rows.old.items) (lists_of rows.new.items)) }
 {
     for rule in rules {
-        let yes = graph.leads(alloc, m, rule.pair)?;
+        let yes = graph.leads(alloc, m, rule.pair as usize)?;
         put_if(yes, rows, i, rule.place)?;
     }
     Ok(())

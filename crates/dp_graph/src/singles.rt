@@ -32,7 +32,7 @@ fn single_check(alloc: Global, graph: &PairGraph, item: &GraphItem) -> Result<()
     match item {
         GraphItem::Group(_) => Ok(()),
         GraphItem::Single(n) => {
-            if graph.leads(alloc, *n, *n)? {
+            if graph.leads(alloc, *n as usize, *n as usize)? {
                 return Err(CheckFault::Refused(StepRefused::SelfEdge(*n as u64)));
             }
             Ok(())

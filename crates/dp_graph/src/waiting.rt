@@ -36,7 +36,7 @@ impl Waiting {
         Ok(Waiting { blockers, ready })
     }
 
-    /// Takes out a leader that is ready: that of a rule alone, if there is one, else the least. The
+    /// Takes out a leader that is ready: one that is no pair, if there is one, else the least. The
     /// first places are those of so many pairs.
     pub(crate) fn take_ready(&mut self, pairs: usize) -> Option<usize>
         ensures { TakesOut pairs self.old self.new result }

@@ -6,5 +6,5 @@ use Rattle.dp_graph.proofs.rows.rows.Given as goal
 abbrev pub invariant-loop-i : goal.invariant-loop-i
 invariant-loop-i l = record {
   low : l.i ≤ length l.problem;
-  led : LedSoFar l.graph l.problem l.by_root (lists_of l.initial.rows.items) (lists_of l.rows.items) l.i;
+  led : LedSoFar l.graph l.problem l.by_root (lists_of l.initial.rights.rows.items) l.rights l.i;
 }

@@ -4,7 +4,7 @@ use Rattle.trs_caps.specs.HoledCap.{no_holed}
 use Rattle.trs_caps.proofs.CapSteps.{next_cap}
 use Rattle.pair_theory.specs.Marked.{Marked}
 use Rattle.dp_graph.proofs.NodeLists.{end_made}
-use Rattle.dp_graph.proofs.graph.end_of.Goals as goal
+use Rattle.dp_graph.proofs.ends.end_of.Goals as goal
 
 pub loop-arg-init : goal.loop-arg-init
 loop-arg-init c = (rw c.in_ok-items.ensures.items no_holed, c.requires)
