@@ -49,7 +49,7 @@ pub(crate) fn first_fork<M: Mark, P: Stop>(
         if stop.stopped() {
             return Ok(Search::Stopped);
         }
-        match fork_at::<M>(alloc, &mut pool, trs, &by_root, peak)? {
+        match fork_at::<M>(alloc, &mut pool, &by_root, peak)? {
             Some(found) => return Ok(Search::Found(found)),
             None => {}
         }
@@ -61,19 +61,17 @@ pub(crate) fn first_fork<M: Mark, P: Stop>(
 fn fork_at<M: Mark>(
     alloc: Global,
     pool: &mut Pool,
-    trs: &Trs,
     by_root: &RulesByRoot,
     peak: &Peak,
 ) -> Result<Option<ForkFound>, OutOfMemory>
-    requires table { by_root.now ≡ trs.now }
     requires sides { HasSides peak.now }
     ensures fork { IfOk result (λ found. MatchOption found
-        (PartsNot M.never_meet trs.now.rules peak.now)
-        (λ f. PartsBy M.never_meet trs.now.rules peak.now (fork_of f))) }
+        (PartsNot M.never_meet by_root.now.rules peak.now)
+        (λ f. PartsBy M.never_meet by_root.now.rules peak.now (fork_of f))) }
     ensures released { OnOk result (pool.new ≡ pool.old) }
 {
     let mark = pool.mark();
-    let found = fork_within::<M>(alloc, pool, trs, by_root, peak)?;
+    let found = fork_within::<M>(alloc, pool, by_root, peak)?;
     pool.release(mark);
     Ok(found)
 }
@@ -82,22 +80,20 @@ fn fork_at<M: Mark>(
 fn fork_within<M: Mark>(
     alloc: Global,
     pool: &mut Pool,
-    trs: &Trs,
     by_root: &RulesByRoot,
     peak: &Peak,
 ) -> Result<Option<ForkFound>, OutOfMemory>
-    requires table { by_root.now ≡ trs.now }
     requires sides { HasSides peak.now }
     ensures fork { IfOk result (λ found. MatchOption found
-        (PartsNot M.never_meet trs.now.rules peak.now)
-        (λ f. PartsBy M.never_meet trs.now.rules peak.now (fork_of f))) }
+        (PartsNot M.never_meet by_root.now.rules peak.now)
+        (λ f. PartsBy M.never_meet by_root.now.rules peak.now (fork_of f))) }
     ensures kept { Extends pool.old pool.new }
 {
-    let lefts = reach(alloc, pool, trs, &peak.left)?;
+    let lefts = reach(alloc, pool, by_root, &peak.left)?;
     if peak.left.same(&peak.right) {
         return fork_between::<M>(alloc, pool, by_root, peak, &lefts, &lefts);
     }
-    let rights = reach(alloc, pool, trs, &peak.right)?;
+    let rights = reach(alloc, pool, by_root, &peak.right)?;
     fork_between::<M>(alloc, pool, by_root, peak, &lefts, &rights)
 }
 

@@ -8,8 +8,8 @@ ghost use Rattle.conf_find.specs.ForkRows.{IsShortReach};
 
 use rewrite_core::PathStep;
 use std::alloc::Global;
-use term_pool::Pool;
-use trs_core::{OutOfMemory, Term, Trs};
+use term_pool::{Pool, RulesByRoot};
+use trs_core::{OutOfMemory, Term};
 
 const MOST_STEPS: u32 = 8;
 
@@ -21,17 +21,17 @@ const MOST_NODES: u64 = 4_096;
 pub(crate) fn reach(
     alloc: Global,
     pool: &mut Pool,
-    trs: &Trs,
+    by_root: &RulesByRoot,
     side: &Term,
 ) -> Result<Vec<(u32, Vec<PathStep>)>, OutOfMemory>
     requires side { IsSide (tree side.now) }
     ensures list { IfOk result (λ found.
-        IsShortReach trs.now.rules (tree side.now) (listed_at pool.new found.items)) }
+        IsShortReach by_root.now.rules (tree side.now) (listed_at pool.new found.items)) }
     ensures there { IfOk result (λ found. All (λ e. e.0 < length pool.new) found.items) }
     ensures kept { Extends pool.old pool.new }
 {
     let id = pool.intern(alloc, side)?;
-    pool.reach(alloc, trs, id, MOST_STEPS, MOST_TERMS, MOST_NODES)
+    pool.reach_by_root(alloc, by_root, id, MOST_STEPS, MOST_TERMS, MOST_NODES)
 }
 
 /// An entry of a list, by its number.

@@ -15,21 +15,19 @@ use trs_core::{OutOfMemory, Trs};
 pub(crate) fn near(
     alloc: Global,
     pool: &mut Pool,
-    trs: &Trs,
     by_root: &RulesByRoot,
     id: u32,
 ) -> Result<Vec<(u32, Vec<PathStep>)>, OutOfMemory>
-    requires rules { by_root.now ≡ trs.now }
     requires narrow { IsNarrowAt pool.old id }
     ensures near { IfOk result (λ found.
-        IsSiftedNear trs.now.rules (tree_at pool.old id) pool.old found.items) }
+        IsSiftedNear by_root.now.rules (tree_at pool.old id) pool.old found.items) }
     ensures same { pool.new ≡ pool.old }
 {
     let mut near = Vec::new(alloc);
     near.push((id, Vec::new(alloc)))?;
     let steps = pool.redexes_at(alloc, by_root, id)?;
     for step in &steps {
-        add_reduct(alloc, pool, trs, id, step, &mut near)?;
+        add_reduct(alloc, pool, by_root.trs(), id, step, &mut near)?;
     }
     Ok(near)
 }

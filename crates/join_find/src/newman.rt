@@ -12,6 +12,7 @@ use crate::sides::critical_peaks_have_sides;
 use assign_search::{Search, Stop};
 use closed_pairs::{Join, Peak};
 use std::alloc::Global;
+use term_pool::RulesByRoot;
 use trs_core::{OutOfMemory, Trs};
 
 /// Joins of all peaks: for each the first term that its left side reaches among those that its
@@ -35,13 +36,14 @@ pub fn find_newman<P: Stop>(
         return Ok(Search::Stopped);
     }
     critical_peaks_have_sides(trs);
+    let by_root = RulesByRoot::new(alloc, trs)?;
     let mut sides = ReachedSides::new(alloc);
     let mut joins = Vec::new(alloc);
     for peak in peaks {
         if stop.stopped() {
             return Ok(Search::Stopped);
         }
-        match first_join(alloc, &mut sides, trs, peak)? {
+        match first_join(alloc, &mut sides, &by_root, peak)? {
             Some(join) => joins.push(join)?,
             None => return Ok(Search::NotThere),
         }
@@ -53,17 +55,17 @@ pub fn find_newman<P: Stop>(
 fn first_join(
     alloc: Global,
     sides: &mut ReachedSides,
-    trs: &Trs,
+    by_root: &RulesByRoot,
     peak: &Peak,
 ) -> Result<Option<Join>, OutOfMemory>
     requires peak { HasSides peak.now }
-    requires sides { AreReached trs.now.rules sides.old }
+    requires sides { AreReached by_root.now.rules sides.old }
     ensures join { IfOk result (λ found. MatchOption found
-        (HasNoJoin trs.now.rules peak.now) (IsFirstJoin trs.now.rules peak.now)) }
-    ensures sides { OnOk result (AreReached trs.now.rules sides.new) }
+        (HasNoJoin by_root.now.rules peak.now) (IsFirstJoin by_root.now.rules peak.now)) }
+    ensures sides { OnOk result (AreReached by_root.now.rules sides.new) }
 {
     sides.make_room(alloc);
     let left = sides.intern(alloc, &peak.left)?;
     let right = sides.intern(alloc, &peak.right)?;
-    sides.first_join(alloc, trs, left, right)
+    sides.first_join(alloc, by_root, left, right)
 }

@@ -18,7 +18,7 @@ use crate::reaching::reach;
 use closed_pairs::Join;
 use std::alloc::Global;
 use term_pool::{Pool, RulesByRoot, ids_are_distinct};
-use trs_core::{OutOfMemory, Term, Trs};
+use trs_core::{OutOfMemory, Term};
 
 /// The most ids that are kept from one peak to the next.
 const MOST_KEPT_IDS: u32 = 262_144;
@@ -84,20 +84,20 @@ impl ReachedSides {
     pub(crate) fn first_join(
         &mut self,
         alloc: Global,
-        trs: &Trs,
+        by_root: &RulesByRoot,
         left: u32,
         right: u32,
     ) -> Result<Option<Join>, OutOfMemory>
         requires left { IsNarrowAt self.old.pool left }
         requires right { IsNarrowAt self.old.pool right }
-        requires sides { AreReached trs.now.rules self.old }
+        requires sides { AreReached by_root.now.rules self.old }
         ensures join { (peak : PlacedPeak) → StandsFor self.old.pool left peak.left
             → StandsFor self.old.pool right peak.right → IfOk result (λ found. MatchOption found
-            (HasNoJoin trs.now.rules peak) (IsFirstJoin trs.now.rules peak)) }
-        ensures sides { OnOk result (AreReached trs.now.rules self.new) }
+            (HasNoJoin by_root.now.rules peak) (IsFirstJoin by_root.now.rules peak)) }
+        ensures sides { OnOk result (AreReached by_root.now.rules self.new) }
     {
-        self.list_reached(alloc, trs, left)?;
-        self.list_reached(alloc, trs, right)?;
+        self.list_reached(alloc, by_root, left)?;
+        self.list_reached(alloc, by_root, right)?;
         ids_are_distinct(&self.pool);
         first_common(alloc, self.reached.at(left), self.reached.at(right))
     }
@@ -107,41 +107,44 @@ impl ReachedSides {
     pub(crate) fn first_half(
         &mut self,
         alloc: Global,
-        trs: &Trs,
         by_root: &RulesByRoot,
         from: u32,
         to: u32,
     ) -> Result<Option<Join>, OutOfMemory>
-        requires rules { by_root.now ≡ trs.now }
         requires from { IsNarrowAt self.old.pool from }
         requires to { IsNarrowAt self.old.pool to }
-        requires sides { AreReached trs.now.rules self.old }
+        requires sides { AreReached by_root.now.rules self.old }
         ensures half { (s t : Tree) → StandsFor self.old.pool from s
             → StandsFor self.old.pool to t → IfOk result (λ found. MatchOption found
-            (HasNoHalf trs.now.rules s t) (IsFirstHalf trs.now.rules s t)) }
-        ensures sides { OnOk result (AreReached trs.now.rules self.new) }
+            (HasNoHalf by_root.now.rules s t) (IsFirstHalf by_root.now.rules s t)) }
+        ensures sides { OnOk result (AreReached by_root.now.rules self.new) }
         ensures kept { OnOk result (Extends self.old.pool self.new.pool) }
     {
-        self.list_reached(alloc, trs, from)?;
-        self.list_near(alloc, trs, by_root, to)?;
+        self.list_reached(alloc, by_root, from)?;
+        self.list_near(alloc, by_root, to)?;
         ids_are_distinct(&self.pool);
         first_common(alloc, self.reached.at(from), self.near.at(to))
     }
 
     /// Lists what an id's term reaches, if it is not listed yet.
-    fn list_reached(&mut self, alloc: Global, trs: &Trs, id: u32) -> Result<(), OutOfMemory>
+    fn list_reached(
+        &mut self,
+        alloc: Global,
+        by_root: &RulesByRoot,
+        id: u32,
+    ) -> Result<(), OutOfMemory>
         requires narrow { IsNarrowAt self.old.pool id }
-        requires sides { AreReached trs.now.rules self.old }
+        requires sides { AreReached by_root.now.rules self.old }
         ensures listed { OnOk result (IsTrue (is_some (list_of self.new.reached id))) }
         ensures still { OnOk result ((i : ℕ) → IsTrue (is_some (list_of self.old.reached i))
             → IsTrue (is_some (list_of self.new.reached i))) }
-        ensures sides { OnOk result (AreReached trs.now.rules self.new) }
+        ensures sides { OnOk result (AreReached by_root.now.rules self.new) }
         ensures kept { OnOk result (Extends self.old.pool self.new.pool) }
     {
         if self.reached.has(id) {
             return Ok(());
         }
-        let list = reach(alloc, &mut self.pool, trs, id)?;
+        let list = reach(alloc, &mut self.pool, by_root, id)?;
         self.near = KeptLists::new(alloc);
         self.reached.put(id, list)
     }
@@ -150,22 +153,20 @@ impl ReachedSides {
     fn list_near(
         &mut self,
         alloc: Global,
-        trs: &Trs,
         by_root: &RulesByRoot,
         id: u32,
     ) -> Result<(), OutOfMemory>
-        requires rules { by_root.now ≡ trs.now }
         requires narrow { IsNarrowAt self.old.pool id }
-        requires sides { AreReached trs.now.rules self.old }
+        requires sides { AreReached by_root.now.rules self.old }
         ensures listed { OnOk result (IsTrue (is_some (list_of self.new.near id))) }
-        ensures sides { OnOk result (AreReached trs.now.rules self.new) }
+        ensures sides { OnOk result (AreReached by_root.now.rules self.new) }
         ensures reached { OnOk result (self.new.reached ≡ self.old.reached) }
         ensures same { OnOk result (self.new.pool ≡ self.old.pool) }
     {
         if self.near.has(id) {
             return Ok(());
         }
-        let list = near(alloc, &mut self.pool, trs, by_root, id)?;
+        let list = near(alloc, &mut self.pool, by_root, id)?;
         self.near.put(id, list)
     }
 }

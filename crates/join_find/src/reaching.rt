@@ -7,8 +7,8 @@ ghost use Rattle.join_find.specs.ReachedSides.{IsNarrowAt};
 
 use rewrite_core::PathStep;
 use std::alloc::Global;
-use term_pool::Pool;
-use trs_core::{OutOfMemory, Trs};
+use term_pool::{Pool, RulesByRoot};
+use trs_core::OutOfMemory;
 
 const MOST_STEPS: u32 = 16;
 
@@ -20,14 +20,14 @@ const MOST_NODES: u64 = 4_096;
 pub(crate) fn reach(
     alloc: Global,
     pool: &mut Pool,
-    trs: &Trs,
+    by_root: &RulesByRoot,
     id: u32,
 ) -> Result<Vec<(u32, Vec<PathStep>)>, OutOfMemory>
     requires narrow { IsNarrowAt pool.old id }
     ensures list { IfOk result (λ found.
-        IsReach trs.now.rules (tree_at pool.old id) (listed_at pool.new found.items)) }
+        IsReach by_root.now.rules (tree_at pool.old id) (listed_at pool.new found.items)) }
     ensures there { IfOk result (λ found. All (λ e. e.0 < length pool.new) found.items) }
     ensures kept { Extends pool.old pool.new }
 {
-    pool.reach(alloc, trs, id, MOST_STEPS, MOST_TERMS, MOST_NODES)
+    pool.reach_by_root(alloc, by_root, id, MOST_STEPS, MOST_TERMS, MOST_NODES)
 }

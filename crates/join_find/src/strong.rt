@@ -49,7 +49,7 @@ pub fn find_strong<P: Stop>(
         if stop.stopped() {
             return Ok(Search::Stopped);
         }
-        match first_four(alloc, &mut sides, trs, &by_root, peak)? {
+        match first_four(alloc, &mut sides, &by_root, peak)? {
             Some(four) => fours.push(four)?,
             None => return Ok(Search::NotThere),
         }
@@ -80,24 +80,22 @@ fn has_linear_sides(rule: &Rule) -> bool
 fn first_four(
     alloc: Global,
     sides: &mut ReachedSides,
-    trs: &Trs,
     by_root: &RulesByRoot,
     peak: &Peak,
 ) -> Result<Option<Four>, OutOfMemory>
-    requires rules { by_root.now ≡ trs.now }
     requires peak { HasSides peak.now }
-    requires sides { AreReached trs.now.rules sides.old }
+    requires sides { AreReached by_root.now.rules sides.old }
     ensures four { IfOk result (λ found. MatchOption found
-        (HasNoFour trs.now.rules peak.now) (IsFirstFour trs.now.rules peak.now)) }
-    ensures sides { OnOk result (AreReached trs.now.rules sides.new) }
+        (HasNoFour by_root.now.rules peak.now) (IsFirstFour by_root.now.rules peak.now)) }
+    ensures sides { OnOk result (AreReached by_root.now.rules sides.new) }
 {
     sides.make_room(alloc);
     let left = sides.intern(alloc, &peak.left)?;
     let right = sides.intern(alloc, &peak.right)?;
-    let Some(u) = sides.first_half(alloc, trs, by_root, left, right)? else {
+    let Some(u) = sides.first_half(alloc, by_root, left, right)? else {
         return Ok(None);
     };
-    let Some(v) = sides.first_half(alloc, trs, by_root, right, left)? else {
+    let Some(v) = sides.first_half(alloc, by_root, right, left)? else {
         return Ok(None);
     };
     Ok(Some(Four {

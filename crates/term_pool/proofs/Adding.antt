@@ -6,7 +6,7 @@ use Rattle.std.specs.List.{position_or_len}
 use Rattle.smallvec.specs.SmallVec.{SmallVec}
 use Rattle.std.specs.Map.{keys_of, lookup}
 use Rattle.indexmap.specs.IndexMap.{insert_entry}
-use Rattle.trs_defs.specs.Tree.{Tree, trees, items}
+use Rattle.trs_defs.specs.Tree.{Tree, trees}
 use Rattle.trs_defs.specs.Size.{size_of, depth_of}
 use Rattle.trs_defs.proofs.ArgumentLists.{same_trees}
 use Rattle.trs_defs.proofs.ListItems.{item_of_more, old_item, last_item}

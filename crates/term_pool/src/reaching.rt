@@ -58,8 +58,33 @@ impl Pool {
         ensures few { length self.new ≤ length self.old + count * size }
         ensures unchanged { IfErr result (λ _. self.new ≡ self.old) }
     {
+        let by_root = RulesByRoot::new(alloc, trs)?;
+        self.reach_by_root(alloc, &by_root, id, depth, count, size)
+    }
+
+    /// The same list, where the table of rules is made once for many terms.
+    pub fn reach_by_root(
+        &mut self,
+        alloc: Global,
+        by_root: &RulesByRoot,
+        id: u32,
+        depth: u32,
+        count: u32,
+        size: u64,
+    ) -> Result<Vec<(u32, Vec<PathStep>)>, OutOfMemory>
+        requires there { id < length self.old }
+        requires narrow { IsNarrow (tree_at self.old id) }
+        ensures list { IfOk result (λ found. IsReachList by_root.now.rules (tree_at self.old id)
+            depth count size (listed_at self.new found.items)) }
+        ensures there { IfOk result (λ found. All (λ e. e.0 < length self.new) found.items) }
+        ensures follow { IfOk result (λ found. (e : Listed) → In e (listed_at self.new found.items)
+            → Follows by_root.now.rules e.path (tree_at self.old id) e.term) }
+        ensures kept { Extends self.old self.new }
+        ensures few { length self.new ≤ length self.old + count * size }
+        ensures unchanged { IfErr result (λ _. self.new ≡ self.old) }
+    {
         let mark = self.mark();
-        match self.search(alloc, trs, id, depth, count, size) {
+        match self.search(alloc, by_root, id, depth, count, size) {
             Ok(found) => Ok(found),
             Err(e) => {
                 self.release(mark);
@@ -72,7 +97,7 @@ impl Pool {
     fn search(
         &mut self,
         alloc: Global,
-        trs: &Trs,
+        by_root: &RulesByRoot,
         id: u32,
         depth: u32,
         count: u32,
@@ -80,16 +105,15 @@ impl Pool {
     ) -> Result<Vec<(u32, Vec<PathStep>)>, OutOfMemory>
         requires there { id < length self.old }
         requires narrow { IsNarrow (tree_at self.old id) }
-        ensures list { IfOk result (λ found. IsReachList trs.now.rules (tree_at self.old id)
+        ensures list { IfOk result (λ found. IsReachList by_root.now.rules (tree_at self.old id)
             depth count size (listed_at self.new found.items)) }
         ensures there { IfOk result (λ found. All (λ e. e.0 < length self.new) found.items) }
         ensures follow { IfOk result (λ found. (e : Listed) → In e (listed_at self.new found.items)
-            → Follows trs.now.rules e.path (tree_at self.old id) e.term) }
+            → Follows by_root.now.rules e.path (tree_at self.old id) e.term) }
         ensures kept { Extends self.old self.new }
         ensures few { IfOk result (λ _. length self.new ≤ length self.old + count * size) }
     {
-        paths_keep_narrow(trs);
-        let by_root = RulesByRoot::new(alloc, trs)?;
+        paths_keep_narrow(by_root.trs());
         let bounds = Bounds {
             depth,
             limit: count.max(1) as usize,
@@ -100,7 +124,7 @@ impl Pool {
         let mut next = 0;
         while next < reached.list.len() && reached.list.len() < bounds.limit {
             let entry = reached.entry(alloc, next)?;
-            self.look_at(alloc, &by_root, bounds, &entry, &mut known, &mut reached)?;
+            self.look_at(alloc, by_root, bounds, &entry, &mut known, &mut reached)?;
             next += 1;
         }
         Ok(reached.list)

@@ -54,13 +54,11 @@ module _ (rules : List RewriteRule) (fixed : Bool) where
   pub free_opens : (t : Tree) (v : ℕ) → t ≡ var v → fixed ≡ false → IsHoledCap rules fixed t hole
   free_opens t v is e = rw is (free_variable e)
 
-  pub kept_symbol : (t : Tree) (f : ℕ) (args : List Term) (items : List Cap) (k : ℕ) → t ≡ app f (forest args) → length args ≤ k → AreHoledCaps rules fixed (forest (take k args)) (holed_all items)
-      → MeetsSome (symbol f (holed_all items)) rules false → IsHoledCap rules fixed t (symbol f (holed_all items))
-  kept_symbol t f args items k is h caps free = rw is (symbol_kept (all_caps args items k h caps) free)
+  pub kept_symbol : (t : Tree) (c : HoledTree) → IsWhole rules fixed t c → MeetsSome c rules false → IsHoledCap rules fixed t c
+  kept_symbol t c whole free = rw (whole.term, whole.cap) (symbol_kept whole.each (rw whole.cap at free))
 
-  pub opened_symbol : (t : Tree) (f : ℕ) (args : List Term) (items : List Cap) (k : ℕ) → t ≡ app f (forest args) → length args ≤ k → AreHoledCaps rules fixed (forest (take k args)) (holed_all items)
-      → MeetsSome (symbol f (holed_all items)) rules true → IsHoledCap rules fixed t hole
-  opened_symbol t f args items k is h caps (l, r, rule, meets) = rw is (symbol_opened (all_caps args items k h caps) rule meets)
+  pub opened_symbol : (t : Tree) (c : HoledTree) → IsWhole rules fixed t c → MeetsSome c rules true → IsHoledCap rules fixed t hole
+  opened_symbol t c whole (l, r, rule, meets) = rw whole.term (symbol_opened whole.each rule (rw whole.cap at meets))
 
 module _ (is_own : ℕ → Bool) where
   number_last : {n m k : ℕ} {cs : HoledTrees} {ts : Trees} {c : HoledTree} {t : Tree} → AreNumbered is_own n cs ts m → IsNumbered is_own m c t k → AreNumbered is_own n (with_last_cap cs c) (with_last ts t) k

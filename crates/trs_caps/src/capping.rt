@@ -9,9 +9,9 @@ ghost use Rattle.trs_defs.specs.Step.{Step};
 ghost use Rattle.trs_core.specs.View.{tree};
 ghost use Rattle.trs_caps.specs.Caps.{IsCapOf};
 ghost use Rattle.trs_caps.specs.HoledCap.{IsHoledCap, MeetsSome, HasRoot};
-ghost use Rattle.trs_caps.specs.HoledTree.{Fits};
+ghost use Rattle.trs_caps.specs.HoledTree.{Fits, symbol};
 ghost use Rattle.trs_caps.specs.KnownCaps.{AreKnown, IsKnown, IsIdOf, IsWhole};
-ghost use Rattle.trs_caps.specs.View.{holed};
+ghost use Rattle.trs_caps.specs.View.{holed, holed_all};
 
 use crate::knowing::{argument, note, recall};
 use crate::naming::{number, own_variables};
@@ -121,19 +121,44 @@ fn cap_of(
                 let part = argument(pool, id, i);
                 items.push(cap_of(alloc, by_root, rules, pool, arg, part, fixed, opens)?)?;
             }
-            let whole = Cap::Symbol(*f, Parts { items });
-            if is_opened(alloc, by_root, rules, *f, &whole, id, opens)? {
-                Ok(Cap::Open)
-            } else {
-                Ok(whole)
-            }
+            close(alloc, by_root, rules, *f, items, id, opens)
         }
     }
 }
 
-/// Whether a cap with this root meets a left side, by what is known of the id of its term. It is not
-/// inlined, so that the recursion over a deep term has little of it on the stack at each level.
+/// What stays of a symbol over the caps of its arguments: all of it, or a hole where it meets a left
+/// side. It is not inlined, so that the recursion over a deep term has little on the stack at each
+/// level.
 #[inline(never)]
+fn close(
+    alloc: Global,
+    by_root: &RulesByRoot,
+    rules: &[Rule],
+    f: u32,
+    items: Vec<Cap>,
+    id: Option<u32>,
+    opens: &mut BTreeMap<u32, bool>,
+) -> Result<Cap, OutOfMemory>
+    requires rules { rules.now ≡ by_root.now.rules }
+    requires valid { IsSystem by_root.now }
+    ensures cap { (fixed : Bool) (pool : List Tree) (t : Tree)
+        → AreKnown by_root.now.rules fixed pool opens.old → IsIdOf pool id t
+        → IsWhole by_root.now.rules fixed t (symbol f (holed_all items.items))
+        → IfOk result (λ c. IsHoledCap by_root.now.rules fixed t (holed c)) }
+    ensures known { (fixed : Bool) (pool : List Tree) (t : Tree)
+        → AreKnown by_root.now.rules fixed pool opens.old → IsIdOf pool id t
+        → IsWhole by_root.now.rules fixed t (symbol f (holed_all items.items))
+        → OnOk result (AreKnown by_root.now.rules fixed pool opens.new) }
+{
+    let whole = Cap::Symbol(f, Parts { items });
+    if is_opened(alloc, by_root, rules, f, &whole, id, opens)? {
+        Ok(Cap::Open)
+    } else {
+        Ok(whole)
+    }
+}
+
+/// Whether a cap with this root meets a left side, by what is known of the id of its term.
 fn is_opened(
     alloc: Global,
     by_root: &RulesByRoot,

@@ -5,6 +5,6 @@ use Rattle.join_find.proofs.near.near.Given as goal
 
 abbrev pub invariant-loop-step : goal.invariant-loop-step
 invariant-loop-step l = record {
-  near : HasNear l.trs.rules l.pool (tree_at l.pool l.id) l.id (take l.step-index l.step-items) l.near.items;
+  near : HasNear l.by_root.rules l.pool (tree_at l.pool l.id) l.id (take l.step-index l.step-items) l.near.items;
   same : l.pool ≡ l.initial.pool;
 }

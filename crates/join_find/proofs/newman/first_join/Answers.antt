@@ -38,5 +38,5 @@ returns-clause-join c =
 
 pub first_join-requires-clause-sides : goal.first_join-requires-clause-sides
 first_join-requires-clause-sides c =
-    let rules = c.args.trs.now.rules in
+    let rules = c.args.by_root.now.rules in
     c.in_ok-right.ensures.sides rules (c.in_ok-left.ensures.sides rules (c.make_room.ensures.sides rules c.requires.sides))

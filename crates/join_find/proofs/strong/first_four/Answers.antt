@@ -21,7 +21,7 @@ right_stands c =
 
 pub first_half-requires-clause-sides : goal.first_half-requires-clause-sides
 first_half-requires-clause-sides c =
-    let rules = c.args.trs.now.rules in
+    let rules = c.args.by_root.now.rules in
     c.in_ok-right.ensures.sides rules (c.in_ok-left.ensures.sides rules (c.make_room.ensures.sides rules c.requires.sides))
 
 pub first_half-requires-2-clause-from : goal.first_half-requires-2-clause-from
@@ -39,7 +39,7 @@ first_half-requires-2-clause-to c =
 pub returns-clause-four : goal.returns-clause-four
 returns-clause-four c =
     let a = (goal.at.returns-clause-four c).In_ok-right in
-    let rules = c.args.trs.now.rules in
+    let rules = c.args.by_root.now.rules in
     let left = c.args.peak.now.left in
     let right = c.args.peak.now.right in
     let L : PathsOfJoin → Type 0 = λ paths. IsFirstHalf rules left right paths in

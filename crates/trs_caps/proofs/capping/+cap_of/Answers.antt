@@ -36,28 +36,5 @@ returns-then-fixed-clause-cap t c = fixed_stays c.args.by_root.now.rules c.args.
 pub returns-else-fixed-clause-cap : goal.returns-else-fixed-clause-cap
 returns-else-fixed-clause-cap t c = free_opens c.args.by_root.now.rules c.args.fixed (tree c.args.t.now) c.in-Var.v (ap tree c.in-Var.is) c.if-fixed.false
 
-pub returns-then-branch : goal.returns-then-branch
-returns-then-branch t c =
-    let rules = c.args.by_root.now.rules in
-    let t0 = tree c.args.t.now in
-    let args = c.deref-arg-items.result.now in
-    let items = c.loop-i.items.items in
-    let is : t0 ≡ app c.in-App.f (forest args) = rw (c.in-App.is, ← c.args-in-App.view_is, c.deref-arg-items.ensures.value) refl in
-    let whole = whole_cap rules c.args.fixed t0 c.in-App.f args items c.loop-i.i is (omega arith) c.loop-i.invariant.0 in
-    let found = c.in_ok-is_opened-in-App.ensures.meets c.args.fixed c.args.pool.now t0 c.loop-i.invariant.1 c.requires.id whole in
-    let known = c.in_ok-is_opened-in-App.ensures.known c.args.fixed c.args.pool.now t0 c.loop-i.invariant.1 c.requires.id whole in
-    let meets : MeetsSome (symbol c.in-App.f (holed_all items)) rules true = rw c.if-branch.true at found in
-    record { cap = opened_symbol rules c.args.fixed t0 c.in-App.f args items c.loop-i.i is (omega arith) c.loop-i.invariant.0 meets; known = known }
-
-pub returns-else-branch : goal.returns-else-branch
-returns-else-branch t c =
-    let rules = c.args.by_root.now.rules in
-    let t0 = tree c.args.t.now in
-    let args = c.deref-arg-items.result.now in
-    let items = c.loop-i.items.items in
-    let is : t0 ≡ app c.in-App.f (forest args) = rw (c.in-App.is, ← c.args-in-App.view_is, c.deref-arg-items.ensures.value) refl in
-    let whole = whole_cap rules c.args.fixed t0 c.in-App.f args items c.loop-i.i is (omega arith) c.loop-i.invariant.0 in
-    let found = c.in_ok-is_opened-in-App.ensures.meets c.args.fixed c.args.pool.now t0 c.loop-i.invariant.1 c.requires.id whole in
-    let known = c.in_ok-is_opened-in-App.ensures.known c.args.fixed c.args.pool.now t0 c.loop-i.invariant.1 c.requires.id whole in
-    let free : MeetsSome (symbol c.in-App.f (holed_all items)) rules false = rw c.if-branch.false at found in
-    record { cap = kept_symbol rules c.args.fixed t0 c.in-App.f args items c.loop-i.i is (omega arith) c.loop-i.invariant.0 free; known = known }
+pub returns-clause-cap : goal.returns-clause-cap
+returns-clause-cap t c = ?

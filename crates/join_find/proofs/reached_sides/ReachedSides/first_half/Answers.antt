@@ -22,7 +22,7 @@ at-requires c =
 
 pub returns-clause-half : goal.returns-clause-half
 returns-clause-half c = λ s t from to.
-    first_half_of c.args.trs.now.rules c.args.self.now.pool c.list_near.new.self c.in_ok-list_near.ensures.sides (extends (goal.at.returns-clause-half c).In_ok-list_near) c.ids_are_distinct.ensures
+    first_half_of c.args.by_root.now.rules c.args.self.now.pool c.list_near.new.self c.in_ok-list_near.ensures.sides (extends (goal.at.returns-clause-half c).In_ok-list_near) c.ids_are_distinct.ensures
     c.first_common.result c.args.from c.args.to c.at.result.now c.at-2.result.now c.at.ensures c.first_common.ensures s t c.at-2.ensures from to
 
 pub returns-clause-sides : goal.returns-clause-sides

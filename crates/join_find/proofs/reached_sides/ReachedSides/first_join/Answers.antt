@@ -7,7 +7,7 @@ list_reached-requires-2-clause-narrow c = narrow_still c.args.self.now.pool c.li
 
 pub returns-clause-join : goal.returns-clause-join
 returns-clause-join c = λ peak left right.
-    first_join_of c.args.trs.now.rules c.args.self.now.pool c.list_reached-2.new.self c.in_ok-list_reached-2.ensures.sides
+    first_join_of c.args.by_root.now.rules c.args.self.now.pool c.list_reached-2.new.self c.in_ok-list_reached-2.ensures.sides
     (extends_on c.args.self.now.pool c.list_reached.new.self.pool c.list_reached-2.new.self.pool c.in_ok-list_reached.ensures.kept c.in_ok-list_reached-2.ensures.kept) c.ids_are_distinct.ensures
     c.first_common.result c.args.left c.args.right c.at.result.now c.at-2.result.now c.at.ensures c.first_common.ensures peak c.at-2.ensures left right
 

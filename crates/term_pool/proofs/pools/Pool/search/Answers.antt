@@ -28,9 +28,9 @@ loop-next-init c =
       lists = ([], no_entry, subst P (sym is) no_more);
       reached = begun_reached c.args.id first c.in_ok-reached.ensures pool c.requires.there;
       kept = extends_itself pool;
-      known = c.new-known.ensures c.args.trs.now.rules pool;
+      known = c.new-known.ensures c.args.by_root.now.rules pool;
       room = omega (arith, ids, room_at_start c.args.count c.args.size);
-      follow = start_follows c.args.trs.now.rules t (listed_at pool first.list.items) is;
+      follow = start_follows c.args.by_root.now.rules t (listed_at pool first.list.items) is;
       next = omega arith;
       short = omega (arith, one, counted, c.max.ensures);
     }
@@ -43,7 +43,8 @@ pub look_at-requires-clause-narrow : goal.look_at-requires-clause-narrow
 look_at-requires-clause-narrow c =
     let e : Listed = listed c.loop-next.self c.in_ok-entry.entry in
     let there = entry_at c.loop-next.reached c.loop-next.next c.in_ok-entry.entry c.in_ok-entry.ensures c.loop-next.self in
-    c.paths_keep_narrow.ensures e.path (tree_at c.args.self.now c.args.id) e.term
+    let narrow = rw c.trs.ensures at c.paths_keep_narrow.ensures in
+    narrow e.path (tree_at c.args.self.now c.args.id) e.term
     (c.loop-next.invariant.follow e (in_of_get (listed_at c.loop-next.self c.loop-next.reached.list.items) c.loop-next.next e there)) c.requires.narrow
 
 pub returns-in_err-look_at-clause-kept : goal.returns-in_err-look_at-clause-kept
@@ -57,8 +58,8 @@ loop-next-preserved c =
     let e : Listed = listed c.loop-next.self c.in_ok-entry.entry in
     let found = listed_at c.loop-next.self c.loop-next.reached.list.items in
     let new = listed_at c.look_at.new.self c.look_at.new.reached.list.items in
-    let adds : Adds limit c.args.size (AreCandidates c.args.trs.now.rules c.args.depth c.args.size (e ∷ [])) c.loop-next.self c.look_at.new.self c.loop-next.reached c.look_at.new.reached =
-    rw c.in_ok-by_root.ensures at c.in_ok-look_at.ensures.adds in
+    let adds : Adds limit c.args.size (AreCandidates c.args.by_root.now.rules c.args.depth c.args.size (e ∷ [])) c.loop-next.self c.look_at.new.self c.loop-next.reached c.look_at.new.reached =
+    c.in_ok-look_at.ensures.adds in
     let there = entry_at c.loop-next.reached c.loop-next.next c.in_ok-entry.entry c.in_ok-entry.ensures c.loop-next.self in
     let below : c.loop-next.next < length found = slice_get_within found c.loop-next.next e there in
     let old = length_listed c.loop-next.self c.loop-next.reached.list.items in
@@ -66,15 +67,12 @@ loop-next-preserved c =
     let longer = no_shorter limit adds.lists.2 in
     let short = lists_short limit adds.lists.2 (omega (arith, old, i.short)) in
     record {
-      lists = looked_at_one c.args.trs.now.rules c.args.depth c.args.size limit (start_of t) found new c.loop-next.next e there below i.lists adds.lists;
+      lists = looked_at_one c.args.by_root.now.rules c.args.depth c.args.size limit (start_of t) found new c.loop-next.next e there below i.lists adds.lists;
       reached = adds.reached;
       kept = extends_on c.args.self.now c.loop-next.self c.look_at.new.self i.kept c.in_ok-look_at.ensures.kept;
-      known = rw c.in_ok-by_root.ensures at c.in_ok-look_at.ensures.known;
+      known = c.in_ok-look_at.ensures.known;
       room = let more = adds.room in let was = i.room in omega (arith, more, was);
-      follow = looked_follow c.args.trs.now.rules c.args.depth c.args.size limit t found new c.loop-next.next e there adds.lists i.follow;
+      follow = looked_follow c.args.by_root.now.rules c.args.depth c.args.size limit t found new c.loop-next.next e there adds.lists i.follow;
       next = omega (arith, below, longer, now);
       short = omega (arith, short, now);
     }
-
-pub look_at-requires-clause-known : goal.look_at-requires-clause-known
-look_at-requires-clause-known c = rw c.in_ok-by_root.ensures c.loop-next.invariant.known

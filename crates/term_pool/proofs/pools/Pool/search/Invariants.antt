@@ -14,12 +14,12 @@ decreases-loop-next l = l.bounds.limit - l.next
 
 abbrev pub invariant-loop-next : goal.invariant-loop-next
 invariant-loop-next l = record {
-  lists : ListsMore l.bounds.limit (AreCandidates l.trs.rules l.depth l.size (take l.next (listed_at l.self l.reached.list.items))) (start_of (tree_at l.fn.self l.id)) (listed_at l.self l.reached.list.items);
+  lists : ListsMore l.bounds.limit (AreCandidates l.by_root.rules l.depth l.size (take l.next (listed_at l.self l.reached.list.items))) (start_of (tree_at l.fn.self l.id)) (listed_at l.self l.reached.list.items);
   reached : IsReached l.self l.reached;
   kept : Extends l.fn.self l.self;
-  known : IsKnown l.trs.rules l.self l.known;
+  known : IsKnown l.by_root.rules l.self l.known;
   room : most_ids l.bounds.limit l.size l.self l.reached ≤ length l.fn.self + l.count * l.size;
-  follow : AllFollow l.trs.rules (tree_at l.fn.self l.id) (listed_at l.self l.reached.list.items);
+  follow : AllFollow l.by_root.rules (tree_at l.fn.self l.id) (listed_at l.self l.reached.list.items);
   next : l.next ≤ length l.reached.list.items;
   short : length l.reached.list.items ≤ l.bounds.limit;
 }
