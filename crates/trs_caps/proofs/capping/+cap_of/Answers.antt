@@ -1,11 +1,9 @@
-use Rattle.std.proofs.Common.{◌≡◌, ap, arith, refl, true, false}
+use Rattle.std.proofs.Common.{◌≡◌, ap, arith, refl}
 use Rattle.trs_defs.specs.Tree.{app}
 use Rattle.trs_core.specs.View.{tree, forest}
 use Rattle.term_pool.proofs.ArgumentIds.{next_smaller}
-use Rattle.trs_caps.specs.HoledTree.{symbol}
-use Rattle.trs_caps.specs.HoledCap.{MeetsSome, no_holed}
-use Rattle.trs_caps.specs.View.{holed_all}
-use Rattle.trs_caps.proofs.CapSteps.{next_cap, whole_cap, fixed_stays, free_opens, kept_symbol, opened_symbol}
+use Rattle.trs_caps.specs.HoledCap.{no_holed}
+use Rattle.trs_caps.proofs.CapSteps.{next_cap, whole_cap, fixed_stays, free_opens}
 use Rattle.trs_caps.proofs.KnownSteps.{argument_there, ids_within}
 use Rattle.trs_caps.proofs.capping.+cap_of.Goals as goal
 
@@ -36,5 +34,16 @@ returns-then-fixed-clause-cap t c = fixed_stays c.args.by_root.now.rules c.args.
 pub returns-else-fixed-clause-cap : goal.returns-else-fixed-clause-cap
 returns-else-fixed-clause-cap t c = free_opens c.args.by_root.now.rules c.args.fixed (tree c.args.t.now) c.in-Var.v (ap tree c.in-Var.is) c.if-fixed.false
 
-pub returns-clause-cap : goal.returns-clause-cap
-returns-clause-cap t c = ?
+pub returns-after-loop-i-clause-cap : goal.returns-after-loop-i-clause-cap
+returns-after-loop-i-clause-cap t c =
+    let args = c.deref-arg-items.result.now in
+    let is : tree c.args.t.now ≡ app c.in-App.f (forest args) = rw (c.in-App.is, ← c.args-in-App.view_is, c.deref-arg-items.ensures.value) refl in
+    let whole = whole_cap c.args.by_root.now.rules c.args.fixed (tree c.args.t.now) c.in-App.f args c.loop-i.items.items c.loop-i.i is (omega arith) c.loop-i.invariant.0 in
+    c.close.ensures.cap c.args.fixed c.args.pool.now (tree c.args.t.now) c.loop-i.invariant.1 c.requires.id whole
+
+pub returns-after-loop-i-clause-known : goal.returns-after-loop-i-clause-known
+returns-after-loop-i-clause-known t c =
+    let args = c.deref-arg-items.result.now in
+    let is : tree c.args.t.now ≡ app c.in-App.f (forest args) = rw (c.in-App.is, ← c.args-in-App.view_is, c.deref-arg-items.ensures.value) refl in
+    let whole = whole_cap c.args.by_root.now.rules c.args.fixed (tree c.args.t.now) c.in-App.f args c.loop-i.items.items c.loop-i.i is (omega arith) c.loop-i.invariant.0 in
+    c.close.ensures.known c.args.fixed c.args.pool.now (tree c.args.t.now) c.loop-i.invariant.1 c.requires.id whole
