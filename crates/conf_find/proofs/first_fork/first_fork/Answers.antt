@@ -19,13 +19,13 @@ pub returns-in-Some-clause-answer : goal.returns-in-Some-clause-answer
 returns-in-Some-clause-answer g c = (
   c.peak-item.result,
   behind_read (PartsNot g.M.Mark.never_meet c.args.trs.now.rules) c.args.peaks.now c.loop-peak.peak-index c.peak-item.result c.loop-peak-test.true c.peak-item.is c.loop-peak.invariant.passed,
-  rw c.in-Some.is at c.in_ok-found.ensures.fork,
+  rw (c.in-Some.is, c.in_ok-by_root.ensures) at c.in_ok-found.ensures.fork,
 )
 
 pub loop-peak-preserved : goal.loop-peak-preserved
 loop-peak-preserved g c = record {
   passed = one_more_passed (PartsNot g.M.Mark.never_meet c.args.trs.now.rules) c.args.peaks.now c.loop-peak.peak-index c.peak-item.result c.loop-peak-test.true c.peak-item.is
-      (rw c.in-None.is at c.in_ok-found.ensures.fork) c.loop-peak.invariant.passed;
+      (rw (c.in-None.is, c.in_ok-by_root.ensures) at c.in_ok-found.ensures.fork) c.loop-peak.invariant.passed;
   continues = continues_on c.loop-peak.invariant.continues (record { later = c.stopped-in-loop-peak.ensures.later; kept = c.stopped-in-loop-peak.ensures.kept });
 }
 

@@ -25,7 +25,7 @@ add_reduct-requires-clause-there c = rw c.loop-step.invariant.same c.requires.na
 pub add_reduct-requires-clause-redex : goal.add_reduct-requires-clause-redex
 add_reduct-requires-clause-redex c =
     let a = (goal.at.add_reduct-requires-clause-redex c).After-deref-step-items in
-    rw c.loop-step.invariant.same (redex_read c.args.by_root.now.rules (tree_at c.args.pool.now c.args.id) c.deref-step-items.result.now c.loop-step.step-index c.step-item.result
+    rw (c.loop-step.invariant.same, c.trs.ensures) (redex_read c.args.by_root.now.rules (tree_at c.args.pool.now c.args.id) c.deref-step-items.result.now c.loop-step.step-index c.step-item.result
     (redexes a) c.loop-step-test.true c.step-item.is)
 
 pub loop-step-preserved : goal.loop-step-preserved
@@ -35,7 +35,7 @@ loop-step-preserved c =
     record {
       near = subst P (sym c.in_ok-add_reduct.ensures.same)
           (near_goes_on c.args.by_root.now.rules c.loop-step.pool (tree_at c.loop-step.pool id) id c.deref-step-items.result.now c.loop-step.near.items c.add_reduct.new.near.items
-          c.loop-step.step-index c.step-item.result c.loop-step-test.true c.step-item.is c.loop-step.invariant.near c.in_ok-add_reduct.ensures.adds);
+          c.loop-step.step-index c.step-item.result c.loop-step-test.true c.step-item.is c.loop-step.invariant.near (rw c.trs.ensures at c.in_ok-add_reduct.ensures.adds));
       same = c.in_ok-add_reduct.ensures.same ∙ c.loop-step.invariant.same;
     }
 

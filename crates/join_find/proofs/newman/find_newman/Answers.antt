@@ -18,12 +18,15 @@ first_join-requires-clause-peak g c =
 
 pub returns-in-None-clause-answer : goal.returns-in-None-clause-answer
 returns-in-None-clause-answer g c =
-    (c.peak-item.result, read_in c.args.peaks.now c.loop-peak.peak-index c.peak-item.result c.loop-peak-test.true c.peak-item.is, rw c.in-None.is at c.in_ok-join.ensures.join)
+    (c.peak-item.result, read_in c.args.peaks.now c.loop-peak.peak-index c.peak-item.result c.loop-peak-test.true c.peak-item.is, rw (c.in-None.is, c.in_ok-by_root.ensures) at c.in_ok-join.ensures.join)
 
 pub loop-peak-preserved : goal.loop-peak-preserved
 loop-peak-preserved g c = record {
   joined = along_one_more (IsFirstJoin c.args.trs.now.rules) c.args.peaks.now c.loop-peak.joins.items c.push.new.self.items c.loop-peak.peak-index c.peak-item.result _
-      c.loop-peak-test.true c.peak-item.is c.loop-peak.invariant.joined (rw c.in-Some.is at c.in_ok-join.ensures.join) c.in_ok-push-in-Some.ensures.items;
-  sides = c.in_ok-join.ensures.sides;
+      c.loop-peak-test.true c.peak-item.is c.loop-peak.invariant.joined (rw (c.in-Some.is, c.in_ok-by_root.ensures) at c.in_ok-join.ensures.join) c.in_ok-push-in-Some.ensures.items;
+  sides = rw c.in_ok-by_root.ensures at c.in_ok-join.ensures.sides;
   continues = continues_on c.loop-peak.invariant.continues (record { later = c.stopped-in-loop-peak.ensures.later; kept = c.stopped-in-loop-peak.ensures.kept });
 }
+
+pub first_join-requires-clause-sides : goal.first_join-requires-clause-sides
+first_join-requires-clause-sides g c = rw c.in_ok-by_root.ensures c.loop-peak.invariant.sides

@@ -18,13 +18,13 @@ first_four-requires-clause-peak g c =
 
 pub returns-in-None-clause-answer : goal.returns-in-None-clause-answer
 returns-in-None-clause-answer g c =
-    not_joined (c.peak-item.result, read_in c.args.peaks.now c.loop-peak.peak-index c.peak-item.result c.loop-peak-test.true c.peak-item.is, rw c.in-None.is at c.in_ok-four.ensures.four)
+    not_joined (c.peak-item.result, read_in c.args.peaks.now c.loop-peak.peak-index c.peak-item.result c.loop-peak-test.true c.peak-item.is, rw (c.in-None.is, c.in_ok-by_root.ensures) at c.in_ok-four.ensures.four)
 
 pub loop-peak-preserved : goal.loop-peak-preserved
 loop-peak-preserved g c = record {
   joined = along_one_more (IsFirstFour c.args.trs.now.rules) c.args.peaks.now c.loop-peak.fours.items c.push.new.self.items c.loop-peak.peak-index c.peak-item.result _
-      c.loop-peak-test.true c.peak-item.is c.loop-peak.invariant.joined (rw c.in-Some.is at c.in_ok-four.ensures.four) c.in_ok-push-in-Some.ensures.items;
-  sides = c.in_ok-four.ensures.sides;
+      c.loop-peak-test.true c.peak-item.is c.loop-peak.invariant.joined (rw (c.in-Some.is, c.in_ok-by_root.ensures) at c.in_ok-four.ensures.four) c.in_ok-push-in-Some.ensures.items;
+  sides = rw c.in_ok-by_root.ensures at c.in_ok-four.ensures.sides;
   continues = continues_on c.loop-peak.invariant.continues (record { later = c.stopped-in-loop-peak.ensures.later; kept = c.stopped-in-loop-peak.ensures.kept });
 }
 
@@ -33,3 +33,6 @@ returns-clause-answer g c = record {
   linear = c.are_linear.ensures.linear (cc (c.if-not-are_linear.false));
   joined = along_all (IsFirstFour c.args.trs.now.rules) c.args.peaks.now c.loop-peak.fours.items c.loop-peak.peak-index c.loop-peak-test.false c.loop-peak.invariant.joined;
 }
+
+pub first_four-requires-clause-sides : goal.first_four-requires-clause-sides
+first_four-requires-clause-sides g c = rw c.in_ok-by_root.ensures c.loop-peak.invariant.sides
