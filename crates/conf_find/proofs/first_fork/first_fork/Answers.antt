@@ -10,10 +10,11 @@ loop-peak-init g c = record {
   continues = record { later = c.stopped.ensures.later; kept = c.stopped.ensures.kept };
 }
 
-pub fork_at-requires-clause-sides : goal.fork_at-requires-clause-sides
-fork_at-requires-clause-sides g c =
-    c.critical_peaks_have_sides.ensures c.args.peaks.now c.requires.critical c.peak-item.result
-    (read_in c.args.peaks.now c.loop-peak.peak-index c.peak-item.result c.loop-peak-test.true c.peak-item.is)
+pub fork_at-requires : goal.fork_at-requires
+fork_at-requires g c = record {
+  sides = c.critical_peaks_have_sides.ensures c.args.peaks.now c.requires.critical c.peak-item.result
+      (read_in c.args.peaks.now c.loop-peak.peak-index c.peak-item.result c.loop-peak-test.true c.peak-item.is);
+}
 
 pub returns-in-Some-clause-answer : goal.returns-in-Some-clause-answer
 returns-in-Some-clause-answer g c = (
