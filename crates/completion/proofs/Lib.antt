@@ -7,7 +7,7 @@ pub mod FirstSteps
 pub mod IdSetLaws
 pub mod SearchLaws
 pub mod RootSearch
-pub mod Untouched
+pub mod GrowingLaws
 pub mod Room
 pub mod Renumbered
 pub mod TreatLaws

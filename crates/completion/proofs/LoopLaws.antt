@@ -1,5 +1,5 @@
 -- What the loops of completion keep: what is left answers as the whole.
-use Rattle.std.proofs.Common.{◌≡◌, ◌<◌, ◌≤◌, ℕ, ◌+◌, refl, sym, ap, subst, ◌∙◌, arith, map, drop, List, [], ◌∷◌, ◌++◌, append_assoc, Some, Result, Ok, Err, IfOk, length, get_or, slice_get}
+use Rattle.std.proofs.Common.{◌≡◌, ◌<◌, ◌≤◌, ℕ, ◌+◌, refl, sym, ap, subst, arith, map, drop, List, [], ◌∷◌, ◌++◌, Some, Result, Ok, Err, IfOk, length, get_or, slice_get}
 use Rattle.std.proofs.lemmas.Option.{slice_get_read}
 use Rattle.std.proofs.lemmas.List.Elements.{All-nil}
 use Rattle.trs_defs.specs.Tree.{Tree}
@@ -23,7 +23,7 @@ use Rattle.completion.specs.Answers.{plain_ending, HasArities}
 use Rattle.completion.specs.Treating.{whole, IsOutcome}
 use Rattle.completion.specs.Taking.{IsTermOver, ArePairsOver, Looks, at_peaks, past_limit}
 use Rattle.rewrite_core.specs.PlacedPeak.{PlacedPeak}
-use Rattle.completion.proofs.TreatLaws.{found_fewer, added_fits, none_more}
+use Rattle.completion.proofs.TreatLaws.{found_fewer, found_fits, added_fits}
 
 -- the pair of the peak that is read is one of the pairs
 pub read_pair : (arities : List ℕ) (peaks : List PlacedPeak) (i : ℕ) (p : PlacedPeak) → ArePairsOver arities (map sides peaks) → i < length peaks → p ≡ get_or peaks i p
@@ -80,12 +80,11 @@ module _ (greater : Tree → Tree → Type 0) (equations : System) (budget : ℕ
   abbrev Taking : List RewriteRule → ℕ → Result (List RewriteRule × ℕ) Ending → List RewriteRule → Type 0
   Taking rules left answer es = Takes equations.arities greater rules left es answer
 
-  pub take_begins : IsWithinLimits equations → (system : System) (more rest : List RewriteRule) → system ≡ with_rules equations [] → more ≡ [] → rest ≡ equations.rules
-      → IsTaking greater equations budget (whole system more) budget rest
-  take_begins limits system more rest e none same =
+  pub take_begins : IsWithinLimits equations → (system : System) (rest : List RewriteRule) → system ≡ with_rules equations [] → rest ≡ equations.rules
+      → IsTaking greater equations budget system budget rest
+  take_begins limits system rest e same =
       let P : System → Type 0 = λ s. IsTaking greater equations budget s budget rest in
-      let empty : whole system more ≡ with_rules equations [] = ap (whole system) none ∙ (none_more system ∙ e) in
-      subst P (sym empty) (record {
+      subst P (sym e) (record {
         arities = refl;
         limits = record { symbols = limits.symbols; rules = omega arith; nodes = omega arith; shallow = All-nil IsShallow };
         on = λ answer h. subst (Taking [] budget answer) same h;
@@ -122,10 +121,6 @@ module _ (greater : Tree → Tree → Type 0) (equations : System) (budget : ℕ
       → (system.arities ≡ equations.arities) × Takes equations.arities greater [] budget equations.rules (Ok (system.rules, left))
   take_all system left rest is h =
       (h.arities, h.on (Ok (system.rules, left)) (subst (Taking system.rules left (Ok (system.rules, left))) (sym is) all_taken))
-
--- one rule more behind the others
-pub whole_more : (system : System) (more : List RewriteRule) (r : RewriteRule) → whole (whole system more) (r ∷ []) ≡ whole system (more ++ r ∷ [])
-whole_more system more r = ap (with_rules system) (append_assoc system.rules more (r ∷ []))
 
 -- ---- the peaks
 
@@ -165,13 +160,11 @@ module _ (greater : Tree → Tree → Type 0) (start : System) (units : ℕ) whe
     pub close_done : (n : ℕ) → Looked (Passed n) → Closes start.arities greater start.rules units (Done system.rules)
     close_done n l = h.on (Done system.rules) (passed_all (Passed n) n refl l)
 
-    pub close_more : (next : System) (none last : List RewriteRule) (r : RewriteRule) (n : ℕ) → next ≡ whole system last → last ≡ none ++ r ∷ [] → none ≡ [] → IsOutcome Looked (outcome.Added r n)
+    pub close_more : (next : System) (r : RewriteRule) (n : ℕ) → next ≡ whole system (r ∷ []) → IsOutcome Looked (outcome.Added r n)
         → IsClosing greater start units next n
-    close_more next none last r n e one empty l =
+    close_more next r n e l =
         let P : System → Type 0 = λ s. IsClosing greater start units s n in
-        let same : last ≡ r ∷ [] = one ∙ ap (λ xs. xs ++ r ∷ []) empty in
-        subst P (sym (e ∙ ap (whole system) same))
-        (record { arities = h.arities; on = λ ending k. h.on ending (added_one (Added r n) r n refl l ending k) })
+        subst P (sym e) (record { arities = h.arities; on = λ ending k. h.on ending (added_one (Added r n) r n refl l ending k) })
 
     pub close_end : (c : Completion) → IsOutcome Looked (outcome.Ended c) → Closes start.arities greater start.rules units (plain_ending c)
     close_end c l = h.on (plain_ending c) (ended_there (Ended (plain_ending c)) (plain_ending c) refl l)
@@ -183,6 +176,16 @@ module _ (greater : Tree → Tree → Type 0) (start : System) (units : ℕ) whe
   pub close_smaller : (system : System) (left : ℕ) (r : RewriteRule) (n : ℕ)
       → IsOutcome (Looks system.arities greater system.rules left) (outcome.Added r n) → n < left
   close_smaller system left r n l = looked_fewer system left (Added r n) r n refl l
+
+looked_limits : (greater : Tree → Tree → Type 0) (system : System) (left : ℕ) (made : Outcome) (r : RewriteRule) (n : ℕ) → made ≡ Added r n
+    → Looks system.arities greater system.rules left made → IsWithinLimits (whole system (r ∷ []))
+looked_limits greater system left made r n e (at_peaks peaks listed f) = (found_fits (subst (Finds system.arities greater system.rules left (map sides peaks)) e f)).limits
+looked_limits greater system left made r n e (past_limit fault large) = absurd cc
+
+-- a new rule from a peak keeps the limits
+pub close_limits : (greater : Tree → Tree → Type 0) (system : System) (left : ℕ) (r : RewriteRule) (n : ℕ)
+    → IsOutcome (Looks system.arities greater system.rules left) (outcome.Added r n) → IsWithinLimits (whole system (r ∷ []))
+close_limits greater system left r n l = looked_limits greater system left (Added r n) r n refl l
 
 -- the whole run
 pub run_of : (equations : System) (greater : Tree → Tree → Type 0) (budget : ℕ) (system : System) (units : ℕ) (ending : Ending)

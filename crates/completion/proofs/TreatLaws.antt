@@ -1,5 +1,5 @@
 -- What becomes of a pair, from what became of its two normal forms; and the units that are left.
-use Rattle.std.proofs.Common.{◌≡◌, ◌≢◌, ◌<◌, ◌≤◌, ℕ, zero, suc, ap, sym, subst, ◌∙◌, arith, append-nil, List, [], ◌++◌, Result, Ok, Err, IfOk}
+use Rattle.std.proofs.Common.{◌≡◌, ◌≢◌, ◌<◌, ◌≤◌, ℕ, zero, suc, sym, subst, arith, List, Result, Ok, Err, IfOk}
 use Rattle.trs_defs.specs.Tree.{Tree}
 use Rattle.trs_defs.specs.System.{RewriteRule, System}
 use Rattle.trs_core.specs.declared.memory.OutOfMemory.{OutOfMemory}
@@ -9,12 +9,10 @@ use Rattle.completion.specs.declared.treating.Outcome.{Outcome as CodeOutcome}
 use Rattle.completion.specs.declared.treating.Outcome.TheVariants as outcome
 use Rattle.completion.specs.Normalizing.{Normalizes, to_normal_form}
 use Rattle.completion.specs.Orienting.{IsOriented, Fits}
-use Rattle.completion.specs.Endings.{Ending, Done, Unorientable, Spent, Limit, with_rules}
+use Rattle.completion.specs.Endings.{Ending, Done, Unorientable, Spent, Limit}
 use Rattle.completion.specs.CompletionRun.{ending_of, Outcome, Passed, Added, Ended, Treats, left_stops, right_stops, equal_forms, no_order, no_unit, new_rule, no_room, Finds, passed_over, found_rule}
 use Rattle.completion.specs.Answers.{plain_ending}
-use Rattle.completion.specs.Treating.{pair_of, whole, IsOutcome, IsCompared, IsComparedEnding}
-use Rattle.completion.specs.NoRedex.{HasNoRedex}
-use Rattle.completion.proofs.Untouched.{untouched_form}
+use Rattle.completion.specs.Treating.{pair_of, IsOutcome, IsCompared, IsComparedEnding}
 
 module _ (greater : Tree → Tree → Type 0) (system : System) (units : ℕ) (left right : Tree) where
   abbrev Treated : Outcome → Type 0
@@ -54,31 +52,6 @@ module _ (greater : Tree → Tree → Type 0) (system : System) (units : ℕ) (l
     treated_if_ok t n h (Ok made) c = treated t n h made c
     treated_if_ok t n h (Err e) c = tt
 
--- the same of terms that are their own normal forms
-pub untouched_if_ok : (greater : Tree → Tree → Type 0) (system : System) (units : ℕ) (left right : Tree) → HasNoRedex system.rules left → HasNoRedex system.rules right
-    → (answer : Result CodeOutcome OutOfMemory) → IfOk answer (IsCompared greater system units left right)
-    → IfOk answer (IsOutcome (Treats system.arities greater system.rules units (pair_of left right)))
-untouched_if_ok greater system units left right a b answer c =
-    treated_if_ok greater system units left right left units (untouched_form system.rules units left a) right units (untouched_form system.rules units right b) answer c
-
--- the same, as it is read
-pub equation_untouched : (greater : Tree → Tree → Type 0) (system : System) (units : ℕ) (rules more others items : List RewriteRule) (equation : RewriteRule) (l r : Tree)
-    → rules ≡ system.rules → more ≡ items → others ≡ items → pair_of l r ≡ equation → HasNoRedex (rules ++ more) equation.left → HasNoRedex (rules ++ more) equation.right
-    → (answer : Result CodeOutcome OutOfMemory) → IfOk answer (IsCompared greater (whole system others) units l r)
-    → IfOk answer (IsOutcome (Treats system.arities greater (system.rules ++ items) units equation))
-equation_untouched greater system units rules more others items equation l r e e' e'' view a b answer c =
-    let A : RewriteRule → Type 0 = λ p. IfOk answer (IsOutcome (Treats system.arities greater (system.rules ++ items) units p)) in
-    let C : List RewriteRule → Type 0 = λ xs. IfOk answer (IsCompared greater (whole system xs) units l r) in
-    let S : List RewriteRule → Type 0 = λ xs. HasNoRedex xs equation.left × HasNoRedex xs equation.right in
-    let T : RewriteRule → Type 0 = λ p. HasNoRedex (system.rules ++ items) p.left × HasNoRedex (system.rules ++ items) p.right in
-    let same : rules ++ more ≡ system.rules ++ items = ap (λ xs. xs ++ more) e ∙ ap (λ xs. system.rules ++ xs) e' in
-    let both : T (pair_of l r) = subst T (sym view) (subst S same (a, b)) in
-    subst A view (untouched_if_ok greater (whole system items) units l r both.0 both.1 answer (subst C e'' c))
-
--- with no rules behind its own a system is the same
-pub none_more : (system : System) → whole system [] ≡ system
-none_more system = ap (with_rules system) (append-nil system.rules)
-
 -- a new rule keeps the limits
 pub added_fits : {arities : List ℕ} {greater : Tree → Tree → Type 0} {rules : List RewriteRule} {units n : ℕ} {pair r : RewriteRule}
     → Treats arities greater rules units pair (Added r n) → Fits arities rules r
@@ -110,3 +83,8 @@ found_fewer (passed_over t rest) =
     let second = found_fewer rest in
     omega (arith, first, second)
 found_fewer (found_rule t) = added_fewer t
+
+pub found_fits : {arities : List ℕ} {greater : Tree → Tree → Type 0} {rules : List RewriteRule} {units n : ℕ} {ps : List RewriteRule} {r : RewriteRule}
+    → Finds arities greater rules units ps (Added r n) → Fits arities rules r
+found_fits (passed_over t rest) = found_fits rest
+found_fits (found_rule t) = added_fits t

@@ -4,7 +4,7 @@ pub mod ReductionOrder
 pub mod Normalizing
 pub mod IdSets
 pub mod Searching
-pub mod NoRedex
+pub mod Growing
 pub mod Moving
 pub mod Orienting
 pub mod Endings

@@ -19,10 +19,9 @@ pair_of s t = record { left = s; right = t }
 abbrev pub whole : System → List RewriteRule → System
 whole system more = with_rules system (system.rules ++ more)
 
--- with a new rule behind rules and some more these are few, and have few nodes
-abbrev pub HasRoom : List RewriteRule → List RewriteRule → RewriteRule → Type 0
-HasRoom rules more r =
-    (length rules + length more + 1 ≤ 4095) × (nodes_of rules + nodes_of more + (size_of r.left + size_of r.right) ≤ 65536)
+-- with a new rule behind them rules are few, and have few nodes
+abbrev pub HasRoom : List RewriteRule → RewriteRule → Type 0
+HasRoom rules r = (length rules + 1 ≤ 4095) × (nodes_of rules + (size_of r.left + size_of r.right) ≤ 65536)
 
 -- what became of the pair is something of which this holds
 abbrev pub IsOutcome : (Outcome → Type 0) → CodeOutcome → Type 0

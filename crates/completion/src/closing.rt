@@ -7,14 +7,13 @@ ghost use Rattle.completion.specs.Searching.{HaveNoPlace};
 ghost use Rattle.completion.specs.Taking.{ArePairsOver, Looks};
 
 use crate::Completion;
+use crate::growing::GrowingTrs;
 use crate::met::Met;
-use crate::orienting::take_in;
 use crate::treating::{Outcome, treat};
 use crit_pairs::{Peak, PeakFault, critical_pairs, first_peaks};
 use path_lpo::Lpo;
 use rewrite_core::{CheckFault, Top};
 use std::alloc::Global;
-use term_pool::RulesByRoot;
 use trs_core::{OutOfMemory, Trs, systems_are_valid};
 
 /// How many critical peaks are made at first: mostly one of them gives a rule.
@@ -24,7 +23,7 @@ const FEW: usize = 64;
 pub(crate) fn close(
     alloc: Global,
     order: &Lpo,
-    rules: Trs,
+    rules: GrowingTrs,
     units: u64,
 ) -> Result<Completion, OutOfMemory>
     ensures closes { IfOk result (λ c. Closes rules.arities (GreaterBy order.now)
@@ -34,12 +33,11 @@ pub(crate) fn close(
     let mut system = rules;
     let mut left = units;
     loop {
-        match look(alloc, order, &system, left)? {
-            Outcome::Passed(_) => return Ok(Completion::Done(system)),
+        let trs = system.to_trs(alloc)?;
+        match look(alloc, order, &system, &trs, left)? {
+            Outcome::Passed(_) => return Ok(Completion::Done(trs)),
             Outcome::Added(rule, units) => {
-                let mut last = Vec::new(alloc);
-                last.push(rule)?;
-                take_in(alloc, &mut system, &mut last)?;
+                system = system.with_rule(alloc, rule)?;
                 left = units;
             }
             Outcome::Ended(why) => return Ok(why),
@@ -49,20 +47,26 @@ pub(crate) fn close(
 
 /// The first of the critical peaks that is not passed over. All of them are counted, but only where
 /// a few are passed over are all of them made.
-fn look(alloc: Global, order: &Lpo, trs: &Trs, units: u64) -> Result<Outcome, OutOfMemory>
-    ensures { IfOk result (IsOutcome (Looks trs.now.arities (GreaterBy order.now)
-        trs.now.rules units)) }
+fn look(
+    alloc: Global,
+    order: &Lpo,
+    system: &GrowingTrs,
+    trs: &Trs,
+    units: u64,
+) -> Result<Outcome, OutOfMemory>
+    requires { trs.now ≡ system.now }
+    ensures { IfOk result (IsOutcome (Looks system.now.arities (GreaterBy order.now)
+        system.now.rules units)) }
 {
     systems_are_valid(trs);
     match first_peaks(alloc, trs, FEW) {
         Ok(few) => {
-            let by_root = RulesByRoot::new(alloc, trs)?;
             let mut met = Met::new(alloc);
-            let found = find(alloc, order, &by_root, &mut met, &few.peaks, units)?;
+            let found = find(alloc, order, system, &mut met, &few.peaks, units)?;
             if is_settled(&found, few.count) {
                 return Ok(found);
             }
-            look_at_all(alloc, order, &by_root, &mut met, units)
+            look_at_all(alloc, order, system, trs, &mut met, units)
         }
         Err(CheckFault::OutOfMemory) => Err(OutOfMemory),
         Err(CheckFault::Refused(_)) => Ok(Outcome::Ended(Completion::Limit)),
@@ -73,18 +77,19 @@ fn look(alloc: Global, order: &Lpo, trs: &Trs, units: u64) -> Result<Outcome, Ou
 fn look_at_all(
     alloc: Global,
     order: &Lpo,
-    by_root: &RulesByRoot,
+    system: &GrowingTrs,
+    trs: &Trs,
     met: &mut Met,
     units: u64,
 ) -> Result<Outcome, OutOfMemory>
-    requires { HaveNoPlace by_root.now.rules met.old.pool met.old.passed }
-    ensures { IfOk result (IsOutcome (Looks by_root.now.arities (GreaterBy order.now)
-        by_root.now.rules units)) }
+    requires same { trs.now ≡ system.now }
+    requires passed { HaveNoPlace system.now.rules met.old.pool met.old.passed }
+    ensures { IfOk result (IsOutcome (Looks system.now.arities (GreaterBy order.now)
+        system.now.rules units)) }
 {
-    let trs = by_root.trs();
     systems_are_valid(trs);
     match critical_pairs(alloc, trs) {
-        Ok(peaks) => find(alloc, order, by_root, met, &peaks, units),
+        Ok(peaks) => find(alloc, order, system, met, &peaks, units),
         Err(PeakFault::TooLarge) => Ok(Outcome::Ended(Completion::Limit)),
         Err(PeakFault::TooMany) => Ok(Outcome::Ended(Completion::Limit)),
         Err(PeakFault::OutOfMemory) => Err(OutOfMemory),
@@ -105,20 +110,20 @@ fn is_settled(found: &Outcome, count: u64) -> bool
 fn find<T: Top>(
     alloc: Global,
     order: &Lpo,
-    by_root: &RulesByRoot,
+    system: &GrowingTrs,
     met: &mut Met,
     peaks: &[Peak<T>],
     units: u64,
 ) -> Result<Outcome, OutOfMemory>
-    requires pairs { ArePairsOver by_root.now.arities (map sides peaks.now) }
-    requires passed { HaveNoPlace by_root.now.rules met.old.pool met.old.passed }
-    ensures outcome { IfOk result (IsOutcome (Finds by_root.now.arities (GreaterBy order.now)
-        by_root.now.rules units (map sides peaks.now))) }
-    ensures passed { OnOk result (HaveNoPlace by_root.now.rules met.new.pool met.new.passed) }
+    requires pairs { ArePairsOver system.now.arities (map sides peaks.now) }
+    requires passed { HaveNoPlace system.now.rules met.old.pool met.old.passed }
+    ensures outcome { IfOk result (IsOutcome (Finds system.now.arities (GreaterBy order.now)
+        system.now.rules units (map sides peaks.now))) }
+    ensures passed { OnOk result (HaveNoPlace system.now.rules met.new.pool met.new.passed) }
 {
     let mut left = units;
     for peak in peaks {
-        match treat(alloc, order, by_root, met, &peak.left, &peak.right, left)? {
+        match treat(alloc, order, system, met, &peak.left, &peak.right, left)? {
             Outcome::Passed(more) => left = more,
             Outcome::Added(rule, more) => return Ok(Outcome::Added(rule, more)),
             Outcome::Ended(why) => return Ok(Outcome::Ended(why)),

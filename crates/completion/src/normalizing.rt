@@ -9,10 +9,10 @@ ghost use Rattle.completion.specs.Searching.{HaveNoPlace};
 
 use crate::Unfinished;
 use crate::first_steps::{Move, first_move};
+use crate::growing::GrowingTrs;
 use crate::met::Met;
 use std::alloc::Global;
-use term_pool::RulesByRoot;
-use trs_core::{OutOfMemory, Term, systems_are_valid};
+use trs_core::{OutOfMemory, Term};
 
 /// The id of a normal form with the units that are left, or why there is none.
 #[derive(Clone, Copy)]
@@ -26,34 +26,25 @@ pub(crate) enum Form {
 /// The terms that were met before keep their ids.
 pub(crate) fn normal_form(
     alloc: Global,
-    by_root: &RulesByRoot,
+    system: &GrowingTrs,
     met: &mut Met,
     t: &Term,
     units: u64,
 ) -> Result<Form, OutOfMemory>
-    requires over { IsTermOver by_root.now.arities (tree t.now) }
-    requires passed { HaveNoPlace by_root.now.rules met.old.pool met.old.passed }
+    requires over { IsTermOver system.now.arities (tree t.now) }
+    requires passed { HaveNoPlace system.now.rules met.old.pool met.old.passed }
     ensures form { IfOk result (λ form.
-        Normalizes by_root.now.rules units (tree t.now) (form_of met.new.pool form)) }
+        Normalizes system.now.rules units (tree t.now) (form_of met.new.pool form)) }
     ensures there { IfOk result (IsFormIn met.new.pool) }
     ensures kept { OnOk result (Extends met.old.pool met.new.pool) }
-    ensures passed { OnOk result (HaveNoPlace by_root.now.rules met.new.pool met.new.passed) }
+    ensures passed { OnOk result (HaveNoPlace system.now.rules met.new.pool met.new.passed) }
 {
-    let trs = by_root.trs();
-    systems_are_valid(trs);
+    let _rules = system.rules();
     let mark = met.pool.mark();
     let mut current = met.intern(alloc, t)?;
     let mut left = units;
     loop {
-        match first_move(
-            alloc,
-            &mut met.pool,
-            trs,
-            by_root,
-            current,
-            &mut met.passed,
-            left,
-        )? {
+        match first_move(alloc, &mut met.pool, system, current, &mut met.passed, left)? {
             Move::Nowhere => return Ok(Form::Normal(current, left)),
             Move::Stopped(why) => return Ok(Form::Stopped(why)),
             Move::To(next) => {

@@ -5,9 +5,10 @@ ghost use Rattle.term_pool.specs.Pooled.{tree_at};
 ghost use Rattle.term_pool.specs.Redexes.{IsNarrow};
 ghost use Rattle.completion.specs.Searching.{HaveNoPlace, IsFound, IsRootFound};
 
+use crate::growing::GrowingTrs;
 use crate::id_sets::IdSet;
 use std::alloc::Global;
-use term_pool::{Pool, RulesByRoot};
+use term_pool::Pool;
 use trs_core::OutOfMemory;
 
 /// The rule of the first redex of an id's term, whose place is added to the given one; or none, and
@@ -15,7 +16,7 @@ use trs_core::OutOfMemory;
 pub(crate) fn first_redex(
     alloc: Global,
     pool: &Pool,
-    by_root: &RulesByRoot,
+    system: &GrowingTrs,
     id: u32,
     place: &mut Vec<u8>,
     passed: &mut IdSet,
@@ -23,23 +24,23 @@ pub(crate) fn first_redex(
     requires there { id < length pool.now }
     requires narrow { IsNarrow (tree_at pool.now id) }
     requires positive { All (λ n. 0 < n) place.old.items }
-    requires passed { HaveNoPlace by_root.now.rules pool.now passed.old }
-    ensures found { IfOk result (IsFound by_root.now.rules (tree_at pool.now id) place.old.items
+    requires passed { HaveNoPlace system.now.rules pool.now passed.old }
+    ensures found { IfOk result (IsFound system.now.rules (tree_at pool.now id) place.old.items
         place.new.items) }
     ensures positive { OnOk result (All (λ n. 0 < n) place.new.items) }
-    ensures passed { OnOk result (HaveNoPlace by_root.now.rules pool.now passed.new) }
+    ensures passed { OnOk result (HaveNoPlace system.now.rules pool.now passed.new) }
 {
     if passed.contains(id) {
         return Ok(None);
     }
-    if let Some(rule) = root_redex(alloc, pool, by_root, id)? {
+    if let Some(rule) = root_redex(alloc, pool, system, id)? {
         return Ok(Some(rule));
     }
     let mut count: u8 = 0;
     while let Some(part) = argument_behind(pool, id, count) {
         count += 1;
         place.push(count)?;
-        if let Some(rule) = first_redex(alloc, pool, by_root, part, place, passed)? {
+        if let Some(rule) = first_redex(alloc, pool, system, part, place, passed)? {
             return Ok(Some(rule));
         }
         place.pop();
@@ -53,17 +54,17 @@ pub(crate) fn first_redex(
 fn root_redex(
     alloc: Global,
     pool: &Pool,
-    by_root: &RulesByRoot,
+    system: &GrowingTrs,
     id: u32,
 ) -> Result<Option<u32>, OutOfMemory>
     requires there { id < length pool.now }
-    ensures { IfOk result (IsRootFound by_root.now.rules (tree_at pool.now id)) }
+    ensures { IfOk result (IsRootFound system.now.rules (tree_at pool.now id)) }
 {
-    let rules = by_root.rules();
+    let rules = system.rules();
     let Some(f) = pool.root(id) else {
         return Ok(None);
     };
-    for k in by_root.with_root(f) {
+    for k in system.with_root(f) {
         if pool.is_instance(alloc, &rules[*k as usize], id)? {
             return Ok(Some(*k));
         }

@@ -1,5 +1,4 @@
 ghost use Rattle.std.specs.Prelude.{◌≡◌, ◌<◌, length, IfOk, OnOk};
-ghost use Rattle.trs_core.specs.SystemLimits.{IsWithinLimits};
 ghost use Rattle.trs_core.specs.View.{tree};
 ghost use Rattle.term_pool.specs.Pooled.{tree_at};
 ghost use Rattle.completion.specs.CompletionRun.{Treats, ending_of};
@@ -7,8 +6,9 @@ ghost use Rattle.completion.specs.Answers.{plain_ending};
 ghost use Rattle.completion.specs.GreaterBy.{GreaterBy};
 ghost use Rattle.completion.specs.Searching.{HaveNoPlace};
 ghost use Rattle.completion.specs.Taking.{IsTermOver};
-ghost use Rattle.completion.specs.Treating.{pair_of, whole, IsOutcome, IsCompared, IsAdded};
+ghost use Rattle.completion.specs.Treating.{pair_of, IsOutcome, IsCompared, IsAdded};
 
+use crate::growing::GrowingTrs;
 use crate::met::Met;
 use crate::normalizing::{Form, normal_form};
 use crate::orienting::fits;
@@ -16,8 +16,8 @@ use crate::renumbering::renumber;
 use crate::{Completion, Unfinished};
 use path_lpo::{Lpo, is_strict};
 use std::alloc::Global;
-use term_pool::{Pool, RulesByRoot};
-use trs_core::{OutOfMemory, Rule, Term, Trs, systems_are_valid};
+use term_pool::Pool;
+use trs_core::{OutOfMemory, Rule, Term};
 
 /// What becomes of a pair: it is passed over, or gives a rule, and so many units are left; or the
 /// run ends.
@@ -32,27 +32,25 @@ pub(crate) enum Outcome {
 pub(crate) fn treat(
     alloc: Global,
     order: &Lpo,
-    by_root: &RulesByRoot,
+    system: &GrowingTrs,
     met: &mut Met,
     left: &Term,
     right: &Term,
     units: u64,
 ) -> Result<Outcome, OutOfMemory>
-    requires left { IsTermOver by_root.now.arities (tree left.now) }
-    requires right { IsTermOver by_root.now.arities (tree right.now) }
-    requires passed { HaveNoPlace by_root.now.rules met.old.pool met.old.passed }
-    ensures outcome { IfOk result (IsOutcome (Treats by_root.now.arities (GreaterBy order.now)
-        by_root.now.rules units (pair_of (tree left.now) (tree right.now)))) }
-    ensures passed { OnOk result (HaveNoPlace by_root.now.rules met.new.pool met.new.passed) }
+    requires left { IsTermOver system.now.arities (tree left.now) }
+    requires right { IsTermOver system.now.arities (tree right.now) }
+    requires passed { HaveNoPlace system.now.rules met.old.pool met.old.passed }
+    ensures outcome { IfOk result (IsOutcome (Treats system.now.arities (GreaterBy order.now)
+        system.now.rules units (pair_of (tree left.now) (tree right.now)))) }
+    ensures passed { OnOk result (HaveNoPlace system.now.rules met.new.pool met.new.passed) }
 {
     met.make_room(alloc);
-    match normal_form(alloc, by_root, met, left, units)? {
+    match normal_form(alloc, system, met, left, units)? {
         Form::Stopped(why) => Ok(Outcome::Ended(end_run(why))),
-        Form::Normal(s, more) => match normal_form(alloc, by_root, met, right, more)? {
+        Form::Normal(s, more) => match normal_form(alloc, system, met, right, more)? {
             Form::Stopped(why) => Ok(Outcome::Ended(end_run(why))),
-            Form::Normal(t, rest) => {
-                compare_forms(alloc, order, by_root.trs(), &met.pool, s, t, rest)
-            }
+            Form::Normal(t, rest) => { compare_forms(alloc, order, system, &met.pool, s, t, rest) }
         },
     }
 }
@@ -61,7 +59,7 @@ pub(crate) fn treat(
 fn compare_forms(
     alloc: Global,
     order: &Lpo,
-    trs: &Trs,
+    system: &GrowingTrs,
     pool: &Pool,
     s: u32,
     t: u32,
@@ -69,16 +67,15 @@ fn compare_forms(
 ) -> Result<Outcome, OutOfMemory>
     requires left { s < length pool.now }
     requires right { t < length pool.now }
-    ensures { IfOk result (IsCompared (GreaterBy order.now) trs.now units
+    ensures { IfOk result (IsCompared (GreaterBy order.now) system.now units
         (tree_at pool.now s) (tree_at pool.now t)) }
 {
     if s == t {
         return Ok(Outcome::Passed(units));
     }
-    systems_are_valid(trs);
     let left = pool.read(alloc, s)?;
     let right = pool.read(alloc, t)?;
-    compare(alloc, order, trs, &[], &left, &right, units)
+    compare(alloc, order, system, &left, &right, units)
 }
 
 /// How a run ends at a term with no normal form.
@@ -91,28 +88,26 @@ fn end_run(why: Unfinished) -> Completion
     }
 }
 
-/// Two normal forms, by the rules of a system and some more.
-pub(crate) fn compare(
+/// Two normal forms, by the rules of a system.
+fn compare(
     alloc: Global,
     order: &Lpo,
-    trs: &Trs,
-    more: &[Rule],
+    system: &GrowingTrs,
     s: &Term,
     t: &Term,
     units: u64,
 ) -> Result<Outcome, OutOfMemory>
-    requires { IsWithinLimits (whole trs.now more.now) }
-    ensures { IfOk result (IsCompared (GreaterBy order.now) (whole trs.now more.now) units
+    ensures { IfOk result (IsCompared (GreaterBy order.now) system.now units
         (tree s.now) (tree t.now)) }
 {
     if s.same(t) {
         return Ok(Outcome::Passed(units));
     }
     if is_strict(order, s, t) {
-        return add(alloc, trs, more, s, t, units);
+        return add(alloc, system, s, t, units);
     }
     if is_strict(order, t, s) {
-        return add(alloc, trs, more, t, s, units);
+        return add(alloc, system, t, s, units);
     }
     let pair = renumber(alloc, s, t)?;
     Ok(Outcome::Ended(Completion::Unorientable(pair.left, pair.right)))
@@ -121,20 +116,18 @@ pub(crate) fn compare(
 /// A new last rule from the greater normal form to the other.
 fn add(
     alloc: Global,
-    trs: &Trs,
-    more: &[Rule],
+    system: &GrowingTrs,
     s: &Term,
     t: &Term,
     units: u64,
 ) -> Result<Outcome, OutOfMemory>
-    requires { IsWithinLimits (whole trs.now more.now) }
-    ensures { IfOk result (IsAdded (whole trs.now more.now) units (tree s.now) (tree t.now)) }
+    ensures { IfOk result (IsAdded system.now units (tree s.now) (tree t.now)) }
 {
     if units == 0 {
         return Ok(Outcome::Ended(Completion::Spent));
     }
     let rule = renumber(alloc, s, t)?;
-    if !fits(trs, more, &rule) {
+    if !fits(system, &rule) {
         return Ok(Outcome::Ended(Completion::Limit));
     }
     Ok(Outcome::Added(rule, units - 1))

@@ -13,40 +13,40 @@ use Rattle.completion.proofs.closing.find.Goals as goal
 
 pub treat-requires-clause-left : goal.treat-requires-clause-left
 treat-requires-clause-left g c =
-    let T : PlacedPeak → Type 0 = λ p. IsTermOver c.args.by_root.now.arities p.left in
+    let T : PlacedPeak → Type 0 = λ p. IsTermOver c.args.system.now.arities p.left in
     subst T (sym c.peak.view_is)
-    (read_pair c.args.by_root.now.arities c.args.peaks.now c.loop-peak.peak-index c.peak-item.result c.requires.pairs c.loop-peak-test.true c.peak-item.is).0
+    (read_pair c.args.system.now.arities c.args.peaks.now c.loop-peak.peak-index c.peak-item.result c.requires.pairs c.loop-peak-test.true c.peak-item.is).0
 
 pub treat-requires-clause-right : goal.treat-requires-clause-right
 treat-requires-clause-right g c =
-    let T : PlacedPeak → Type 0 = λ p. IsTermOver c.args.by_root.now.arities p.right in
+    let T : PlacedPeak → Type 0 = λ p. IsTermOver c.args.system.now.arities p.right in
     subst T (sym c.peak.view_is)
-    (read_pair c.args.by_root.now.arities c.args.peaks.now c.loop-peak.peak-index c.peak-item.result c.requires.pairs c.loop-peak-test.true c.peak-item.is).1
+    (read_pair c.args.system.now.arities c.args.peaks.now c.loop-peak.peak-index c.peak-item.result c.requires.pairs c.loop-peak-test.true c.peak-item.is).1
 
 pub returns-in-Added-clause-outcome : goal.returns-in-Added-clause-outcome
 returns-in-Added-clause-outcome g c =
-    let T : CodeOutcome → PlacedPeak → Type 0 = λ made p. IsOutcome (Treats c.args.by_root.now.arities (GreaterBy c.args.order.now) c.args.by_root.now.rules c.loop-peak.left (sides p)) made in
-    let R : CodeOutcome → Type 0 = λ made. IsOutcome (Treats c.args.by_root.now.arities (GreaterBy c.args.order.now) c.args.by_root.now.rules c.loop-peak.left (pair_of (tree c.peak.inside.left) (tree c.peak.inside.right))) made in
-    find_rule (GreaterBy c.args.order.now) c.args.by_root.now (map sides c.args.peaks.now) c.args.units c.loop-peak.left (map sides (drop c.loop-peak.peak-index c.args.peaks.now)) (sides c.peak-item.result)
+    let T : CodeOutcome → PlacedPeak → Type 0 = λ made p. IsOutcome (Treats c.args.system.now.arities (GreaterBy c.args.order.now) c.args.system.now.rules c.loop-peak.left (sides p)) made in
+    let R : CodeOutcome → Type 0 = λ made. IsOutcome (Treats c.args.system.now.arities (GreaterBy c.args.order.now) c.args.system.now.rules c.loop-peak.left (pair_of (tree c.peak.inside.left) (tree c.peak.inside.right))) made in
+    find_rule (GreaterBy c.args.order.now) c.args.system.now (map sides c.args.peaks.now) c.args.units c.loop-peak.left (map sides (drop c.loop-peak.peak-index c.args.peaks.now)) (sides c.peak-item.result)
     (map sides (drop (c.loop-peak.peak-index + 1) c.args.peaks.now)) (next_pairs c.args.peaks.now c.loop-peak.peak-index c.peak-item.result c.loop-peak-test.true c.peak-item.is)
     c.loop-peak.invariant.on c.in-Added.rule c.in-Added.more
     (subst (T (outcome.Added c.in-Added.rule c.in-Added.more)) c.peak.view_is (subst R c.in-Added.is c.in_ok-more.ensures.outcome))
 
 pub returns-in-Ended-clause-outcome : goal.returns-in-Ended-clause-outcome
 returns-in-Ended-clause-outcome g c =
-    let T : CodeOutcome → PlacedPeak → Type 0 = λ made p. IsOutcome (Treats c.args.by_root.now.arities (GreaterBy c.args.order.now) c.args.by_root.now.rules c.loop-peak.left (sides p)) made in
-    let R : CodeOutcome → Type 0 = λ made. IsOutcome (Treats c.args.by_root.now.arities (GreaterBy c.args.order.now) c.args.by_root.now.rules c.loop-peak.left (pair_of (tree c.peak.inside.left) (tree c.peak.inside.right))) made in
-    find_end (GreaterBy c.args.order.now) c.args.by_root.now (map sides c.args.peaks.now) c.args.units c.loop-peak.left (map sides (drop c.loop-peak.peak-index c.args.peaks.now)) (sides c.peak-item.result)
+    let T : CodeOutcome → PlacedPeak → Type 0 = λ made p. IsOutcome (Treats c.args.system.now.arities (GreaterBy c.args.order.now) c.args.system.now.rules c.loop-peak.left (sides p)) made in
+    let R : CodeOutcome → Type 0 = λ made. IsOutcome (Treats c.args.system.now.arities (GreaterBy c.args.order.now) c.args.system.now.rules c.loop-peak.left (pair_of (tree c.peak.inside.left) (tree c.peak.inside.right))) made in
+    find_end (GreaterBy c.args.order.now) c.args.system.now (map sides c.args.peaks.now) c.args.units c.loop-peak.left (map sides (drop c.loop-peak.peak-index c.args.peaks.now)) (sides c.peak-item.result)
     (map sides (drop (c.loop-peak.peak-index + 1) c.args.peaks.now)) (next_pairs c.args.peaks.now c.loop-peak.peak-index c.peak-item.result c.loop-peak-test.true c.peak-item.is)
     c.loop-peak.invariant.on c.in-Ended.why
     (subst (T (outcome.Ended c.in-Ended.why)) c.peak.view_is (subst R c.in-Ended.is c.in_ok-more.ensures.outcome))
 
 pub loop-peak-preserved : goal.loop-peak-preserved
 loop-peak-preserved g c =
-    let T : CodeOutcome → PlacedPeak → Type 0 = λ made p. IsOutcome (Treats c.args.by_root.now.arities (GreaterBy c.args.order.now) c.args.by_root.now.rules c.loop-peak.left (sides p)) made in
-    let R : CodeOutcome → Type 0 = λ made. IsOutcome (Treats c.args.by_root.now.arities (GreaterBy c.args.order.now) c.args.by_root.now.rules c.loop-peak.left (pair_of (tree c.peak.inside.left) (tree c.peak.inside.right))) made in
+    let T : CodeOutcome → PlacedPeak → Type 0 = λ made p. IsOutcome (Treats c.args.system.now.arities (GreaterBy c.args.order.now) c.args.system.now.rules c.loop-peak.left (sides p)) made in
+    let R : CodeOutcome → Type 0 = λ made. IsOutcome (Treats c.args.system.now.arities (GreaterBy c.args.order.now) c.args.system.now.rules c.loop-peak.left (pair_of (tree c.peak.inside.left) (tree c.peak.inside.right))) made in
     record {
-      on = find_next (GreaterBy c.args.order.now) c.args.by_root.now (map sides c.args.peaks.now) c.args.units c.loop-peak.left (map sides (drop c.loop-peak.peak-index c.args.peaks.now)) (sides c.peak-item.result)
+      on = find_next (GreaterBy c.args.order.now) c.args.system.now (map sides c.args.peaks.now) c.args.units c.loop-peak.left (map sides (drop c.loop-peak.peak-index c.args.peaks.now)) (sides c.peak-item.result)
           (map sides (drop (c.loop-peak.peak-index + 1) c.args.peaks.now)) (next_pairs c.args.peaks.now c.loop-peak.peak-index c.peak-item.result c.loop-peak-test.true c.peak-item.is)
           c.loop-peak.invariant.on c.in-Passed.more
           (subst (T (outcome.Passed c.in-Passed.more)) c.peak.view_is (subst R c.in-Passed.is c.in_ok-more.ensures.outcome));
@@ -55,5 +55,5 @@ loop-peak-preserved g c =
 
 pub returns-clause-outcome : goal.returns-clause-outcome
 returns-clause-outcome g c =
-    find_none (GreaterBy c.args.order.now) c.args.by_root.now (map sides c.args.peaks.now) c.args.units c.loop-peak.left (map sides (drop c.loop-peak.peak-index c.args.peaks.now))
+    find_none (GreaterBy c.args.order.now) c.args.system.now (map sides c.args.peaks.now) c.args.units c.loop-peak.left (map sides (drop c.loop-peak.peak-index c.args.peaks.now))
     (ap (map sides) (drop_all c.loop-peak.peak-index c.args.peaks.now c.loop-peak-test.false)) c.loop-peak.invariant.on

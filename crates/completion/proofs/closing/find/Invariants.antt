@@ -7,6 +7,6 @@ use Rattle.completion.proofs.closing.find.Given as goal
 
 abbrev pub invariant-loop-peak : goal.invariant-loop-peak
 invariant-loop-peak g l = record {
-  on : FindsOn (GreaterBy l.order) l.by_root (map sides l.peaks) l.fn.units l.left (map sides (drop l.peak-index l.peaks));
-  passed : HaveNoPlace l.by_root.rules l.met.pool l.met.passed;
+  on : FindsOn (GreaterBy l.order) l.system (map sides l.peaks) l.fn.units l.left (map sides (drop l.peak-index l.peaks));
+  passed : HaveNoPlace l.system.rules l.met.pool l.met.passed;
 }

@@ -5,32 +5,36 @@ use Rattle.rewrite_core.specs.PlacedPeak.{PlacedPeak}
 use Rattle.rewrite_core.specs.declared.checks.refusals.CheckFault.{CheckFault}
 use Rattle.crit_pairs.specs.PeaksCheck.{ListsCriticalPeaks}
 use Rattle.completion.specs.GreaterBy.{GreaterBy}
-use Rattle.completion.specs.CompletionRun.{Finds, sides}
+use Rattle.completion.specs.CompletionRun.{Finds, Ended, sides}
+use Rattle.completion.specs.Endings.{Limit}
 use Rattle.completion.specs.Treating.{IsOutcome}
-use Rattle.completion.specs.Taking.{ArePairsOver}
+use Rattle.completion.specs.Taking.{ArePairsOver, Looks}
 use Rattle.completion.proofs.Looking.{few_pairs, few_looked_at, refused_there}
 use Rattle.completion.proofs.closing.look.Goals as goal
 
 pub find-requires-clause-pairs : goal.find-requires-clause-pairs
 find-requires-clause-pairs c =
-    let P : List PlacedPeak → Type 0 = λ ps. ArePairsOver c.args.trs.now.arities (map sides ps) in
-    let S : System → Type 0 = λ s. ArePairsOver s.arities (map sides c.deref.result.now) in
-    subst S (sym c.in_ok-by_root-in-Ok.ensures) (subst P (sym c.deref.ensures.value) (few_pairs c.args.trs.now c.systems_are_valid.ensures.valid 64 c.in-Ok.few c.in-Ok.ensures.first))
+    let P : List PlacedPeak → Type 0 = λ ps. ArePairsOver c.args.system.now.arities (map sides ps) in
+    let S : System → Type 0 = λ s. ArePairsOver s.arities (map sides c.in-Ok.few.peaks.items) in
+    subst P (sym c.deref.ensures.value) (subst S c.requires (few_pairs c.args.trs.now c.systems_are_valid.ensures.valid 64 c.in-Ok.few c.in-Ok.ensures.first))
 
 pub find-requires-clause-passed : goal.find-requires-clause-passed
 find-requires-clause-passed c = c.new-met.ensures _
 
 pub returns-then-is_settled : goal.returns-then-is_settled
 returns-then-is_settled c =
-    let F : List PlacedPeak → Type 0 = λ ps.
-    IsOutcome (Finds c.args.trs.now.arities (GreaterBy c.args.order.now) c.args.trs.now.rules c.args.units (map sides ps)) c.in_ok-found-in-Ok.found in
-    let S : System → Type 0 = λ s.
-    IsOutcome (Finds s.arities (GreaterBy c.args.order.now) s.rules c.args.units (map sides c.deref.result.now)) c.in_ok-found-in-Ok.found in
-    few_looked_at (GreaterBy c.args.order.now) c.args.trs.now c.args.units 64 c.in-Ok.few c.in-Ok.ensures.first c.in_ok-found-in-Ok.found
-    (c.if-is_settled.ensures refl) (subst F c.deref.ensures.value (subst S c.in_ok-by_root-in-Ok.ensures c.in_ok-found-in-Ok.ensures.outcome))
+    let found = c.in_ok-found-in-Ok.found in
+    let F : List PlacedPeak → Type 0 = λ ps. IsOutcome (Finds c.args.trs.now.arities (GreaterBy c.args.order.now) c.args.trs.now.rules c.args.units (map sides ps)) found in
+    let S : System → Type 0 = λ s. IsOutcome (Finds s.arities (GreaterBy c.args.order.now) s.rules c.args.units (map sides c.deref.result.now)) found in
+    let L : System → Type 0 = λ s. IsOutcome (Looks s.arities (GreaterBy c.args.order.now) s.rules c.args.units) found in
+    subst L c.requires
+    (few_looked_at (GreaterBy c.args.order.now) c.args.trs.now c.args.units 64 c.in-Ok.few c.in-Ok.ensures.first found (c.if-is_settled.ensures refl)
+    (subst F c.deref.ensures.value (subst S (sym c.requires) c.in_ok-found-in-Ok.ensures.outcome)))
 
 pub returns-in-Err-Refused : goal.returns-in-Err-Refused
 returns-in-Err-Refused c =
     let R : CheckFault → Type 0 = Refuses (ListsCriticalPeaks c.args.trs.now.rules) in
-    refused_there c.args.trs.now.arities (GreaterBy c.args.order.now) c.args.trs.now.rules c.args.units c.in-Err-Refused.field-0-0
-    (subst R c.in-Err-Refused.field-0-is c.in-Err-Refused.ensures.refused)
+    let L : System → Type 0 = λ s. Looks s.arities (GreaterBy c.args.order.now) s.rules c.args.units (Ended Limit) in
+    subst L c.requires
+    (refused_there c.args.trs.now.arities (GreaterBy c.args.order.now) c.args.trs.now.rules c.args.units c.in-Err-Refused.field-0-0
+    (subst R c.in-Err-Refused.field-0-is c.in-Err-Refused.ensures.refused))

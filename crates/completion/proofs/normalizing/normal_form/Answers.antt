@@ -1,7 +1,5 @@
-use Rattle.std.proofs.Common.{◌<◌, ap, arith, length, subst, sym}
-use Rattle.trs_defs.specs.System.{System}
+use Rattle.std.proofs.Common.{◌<◌, arith, length, subst}
 use Rattle.trs_core.specs.View.{tree}
-use Rattle.completion.specs.Searching.{HaveNoPlace}
 use Rattle.term_pool.specs.Pooled.{Extends, tree_at}
 use Rattle.term_pool.proofs.Extending.{extends_on, kept_cut}
 use Rattle.term_pool.proofs.NarrowLaws.{narrow_of_well_formed}
@@ -14,29 +12,14 @@ use Rattle.completion.proofs.normalizing.normal_form.Goals as goal
 
 pub loop-why-init : goal.loop-why-init
 loop-why-init c = record {
-  way = way_begins c.args.by_root.now c.args.units (tree c.args.t.now) c.intern.new.self.pool c.in_ok-current.current c.in_ok-current.ensures.id c.requires.over;
+  way = way_begins c.args.system.now c.args.units (tree c.args.t.now) c.intern.new.self.pool c.in_ok-current.current c.in_ok-current.ensures.id c.requires.over;
   kept = c.in_ok-current.ensures.kept;
-  passed = c.in_ok-current.ensures.passed c.args.by_root.now.rules c.requires.passed;
+  passed = c.in_ok-current.ensures.passed c.args.system.now.rules c.requires.passed;
 }
 
 pub first_move-requires-clause-narrow : goal.first_move-requires-clause-narrow
 first_move-requires-clause-narrow c =
-    narrow_of_well_formed c.args.by_root.now.arities (rw c.trs-trs.ensures at c.systems_are_valid.ensures.bytes) (tree_at c.loop-why.met.pool c.loop-why.current)
-    c.loop-why.invariant.way.well_formed
-
-pub first_move-requires-clause-rules : goal.first_move-requires-clause-rules
-first_move-requires-clause-rules c = sym (ap (λ (s : System). s.rules) c.trs-trs.ensures)
-
-pub first_move-requires-clause-passed : goal.first_move-requires-clause-passed
-first_move-requires-clause-passed c =
-    let S : System → Type 0 = λ s. HaveNoPlace s.rules c.loop-why.met.pool c.loop-why.met.passed in
-    subst S (sym c.trs-trs.ensures) c.loop-why.invariant.passed
-
--- no id that was passed has a redex
-passed : (c : In_ok-first_move) → HaveNoPlace c.args.by_root.now.rules c.first_move.new.pool c.first_move.new.passed
-passed c =
-    let S : System → Type 0 = λ s. HaveNoPlace s.rules c.first_move.new.pool c.first_move.new.passed in
-    subst S c.trs-trs.ensures c.in_ok-first_move.ensures.passed
+    narrow_of_well_formed c.args.system.now.arities c.rules-rules.ensures.bytes (tree_at c.loop-why.met.pool c.loop-why.current) c.loop-why.invariant.way.well_formed
 
 -- the pool after the move has what it had at first
 kept : (c : In_ok-first_move) → Extends c.args.met.now.pool c.first_move.new.pool
@@ -50,10 +33,9 @@ there c =
 
 pub returns-in-Nowhere-clause-form : goal.returns-in-Nowhere-clause-form
 returns-in-Nowhere-clause-form c =
-    let M : Move → Type 0 = IsMove c.args.by_root.now.rules c.loop-why.left (tree_at c.loop-why.met.pool c.loop-why.current) c.first_move.new.pool in
-    let S : System → Type 0 = λ s. IsMove s.rules c.loop-why.left (tree_at c.loop-why.met.pool c.loop-why.current) c.first_move.new.pool c.in_ok-first_move.field-0 in
-    way_ends c.args.by_root.now c.args.units c.loop-why.left (tree c.args.t.now) (tree_at c.first_move.new.pool c.loop-why.current) c.loop-why.met.pool c.first_move.new.pool c.loop-why.current
-    c.loop-why.invariant.way (subst M c.in-Nowhere.is (subst S c.trs-trs.ensures c.in_ok-first_move.ensures.moves)) c.in_ok-first_move.ensures.kept
+    let M : Move → Type 0 = IsMove c.args.system.now.rules c.loop-why.left (tree_at c.loop-why.met.pool c.loop-why.current) c.first_move.new.pool in
+    way_ends c.args.system.now c.args.units c.loop-why.left (tree c.args.t.now) (tree_at c.first_move.new.pool c.loop-why.current) c.loop-why.met.pool c.first_move.new.pool c.loop-why.current
+    c.loop-why.invariant.way (subst M c.in-Nowhere.is c.in_ok-first_move.ensures.moves) c.in_ok-first_move.ensures.kept
     (stands c.first_move.new.pool c.loop-why.current (there (goal.at.returns-in-Nowhere-clause-form c).In_ok-first_move))
 
 pub returns-in-Nowhere-clause-there : goal.returns-in-Nowhere-clause-there
@@ -62,18 +44,11 @@ returns-in-Nowhere-clause-there c = there (goal.at.returns-in-Nowhere-clause-the
 pub returns-in-Nowhere-clause-kept : goal.returns-in-Nowhere-clause-kept
 returns-in-Nowhere-clause-kept c = kept (goal.at.returns-in-Nowhere-clause-kept c).In_ok-first_move
 
-pub returns-in-Nowhere-clause-passed : goal.returns-in-Nowhere-clause-passed
-returns-in-Nowhere-clause-passed c = passed (goal.at.returns-in-Nowhere-clause-passed c).In_ok-first_move
-
-pub returns-in-Stopped-clause-passed : goal.returns-in-Stopped-clause-passed
-returns-in-Stopped-clause-passed c = passed (goal.at.returns-in-Stopped-clause-passed c).In_ok-first_move
-
 pub returns-in-Stopped-clause-form : goal.returns-in-Stopped-clause-form
 returns-in-Stopped-clause-form c =
-    let M : Move → Type 0 = IsMove c.args.by_root.now.rules c.loop-why.left (tree_at c.loop-why.met.pool c.loop-why.current) c.first_move.new.pool in
-    let S : System → Type 0 = λ s. IsMove s.rules c.loop-why.left (tree_at c.loop-why.met.pool c.loop-why.current) c.first_move.new.pool c.in_ok-first_move.field-0 in
-    way_stops c.args.by_root.now c.args.units c.loop-why.left (tree c.args.t.now) c.loop-why.met.pool c.loop-why.current c.in-Stopped.why c.loop-why.invariant.way
-    (subst M c.in-Stopped.is (subst S c.trs-trs.ensures c.in_ok-first_move.ensures.moves))
+    let M : Move → Type 0 = IsMove c.args.system.now.rules c.loop-why.left (tree_at c.loop-why.met.pool c.loop-why.current) c.first_move.new.pool in
+    way_stops c.args.system.now c.args.units c.loop-why.left (tree c.args.t.now) c.loop-why.met.pool c.loop-why.current c.in-Stopped.why c.loop-why.invariant.way
+    (subst M c.in-Stopped.is c.in_ok-first_move.ensures.moves)
 
 pub returns-in-Stopped-clause-kept : goal.returns-in-Stopped-clause-kept
 returns-in-Stopped-clause-kept c = kept (goal.at.returns-in-Stopped-clause-kept c).In_ok-first_move
@@ -85,12 +60,11 @@ carry_over-requires-clause-marked c =
 
 pub loop-why-preserved : goal.loop-why-preserved
 loop-why-preserved c =
-    let M : Move → Type 0 = IsMove c.args.by_root.now.rules c.loop-why.left (tree_at c.loop-why.met.pool c.loop-why.current) c.first_move.new.pool in
-    let S : System → Type 0 = λ s. IsMove s.rules c.loop-why.left (tree_at c.loop-why.met.pool c.loop-why.current) c.first_move.new.pool c.in_ok-first_move.field-0 in
+    let M : Move → Type 0 = IsMove c.args.system.now.rules c.loop-why.left (tree_at c.loop-why.met.pool c.loop-why.current) c.first_move.new.pool in
     record {
-      way = way_goes_on c.args.by_root.now (rw c.trs-trs.ensures at c.systems_are_valid.ensures.valid) c.args.units c.loop-why.left (tree c.args.t.now) c.loop-why.met.pool c.first_move.new.pool c.carry_over.new.self.pool
-          c.loop-why.current c.in-To.next c.in_ok-current-in-To.current c.loop-why.invariant.way (subst M c.in-To.is (subst S c.trs-trs.ensures c.in_ok-first_move.ensures.moves)).0
+      way = way_goes_on c.args.system.now c.rules-rules.ensures.valid c.args.units c.loop-why.left (tree c.args.t.now) c.loop-why.met.pool c.first_move.new.pool c.carry_over.new.self.pool
+          c.loop-why.current c.in-To.next c.in_ok-current-in-To.current c.loop-why.invariant.way (subst M c.in-To.is c.in_ok-first_move.ensures.moves).0
           c.in_ok-current-in-To.ensures.same c.in_ok-current-in-To.ensures.there;
       kept = kept_cut c.args.met.now.pool c.first_move.new.pool c.carry_over.new.self.pool c.mark-mark.result c.mark-mark.ensures (kept (goal.at.loop-why-preserved c).In_ok-first_move) c.in_ok-current-in-To.ensures.kept;
-      passed = c.in_ok-current-in-To.ensures.passed c.args.by_root.now.rules (passed (goal.at.loop-why-preserved c).In_ok-first_move);
+      passed = c.in_ok-current-in-To.ensures.passed c.args.system.now.rules c.in_ok-first_move.ensures.passed;
     }

@@ -6,9 +6,9 @@ use Rattle.completion.proofs.normalizing.normal_form.Given as goal
 
 abbrev pub invariant-loop-why : goal.invariant-loop-why
 invariant-loop-why l = record {
-  way : IsOnTheWay l.by_root l.units l.left (tree l.t) l.met.pool l.current;
+  way : IsOnTheWay l.system l.units l.left (tree l.t) l.met.pool l.current;
   kept : Extends l.fn.met.pool l.met.pool;
-  passed : HaveNoPlace l.by_root.rules l.met.pool l.met.passed;
+  passed : HaveNoPlace l.system.rules l.met.pool l.met.passed;
 }
 
 abbrev pub decreases-loop-why : goal.decreases-loop-why

@@ -12,9 +12,9 @@ returns-then-contains-clause-found t c = ((c.requires.passed c.args.id (c.if-con
 
 pub loop-part-init : goal.loop-part-init
 loop-part-init t c =
-    let R : Option ℕ → Type 0 = IsRootFound c.args.by_root.now.rules (tree_at c.args.pool.now c.args.id) in
+    let R : Option ℕ → Type 0 = IsRootFound c.args.system.now.rules (tree_at c.args.pool.now c.args.id) in
     record {
-      none = past_root c.args.by_root.now.rules (tree_at c.args.pool.now c.args.id) (subst R c.in_default.is c.in_ok-rule.ensures);
+      none = past_root c.args.system.now.rules (tree_at c.args.pool.now c.args.id) (subst R c.in_default.is c.in_ok-rule.ensures);
       passed = c.requires.passed;
       same = refl;
     }
@@ -37,10 +37,10 @@ returns-in-Some-2-clause-found t c =
     let part = tree_at c.args.pool.now c.in-Some-argument_behind.part in
     let there : argument_at whole (c.loop-part.count + 1) ≡ Some part = sym c.in-Some-argument_behind.ensures.is in
     let pushed : c.push.new.self.items ≡ c.args.place.now.items ++ (c.loop-part.count + 1) ∷ [] = rw c.loop-part.invariant.same at c.in_ok-push.ensures.items in
-    let F : Option ℕ → Type 0 = IsFound c.args.by_root.now.rules part c.push.new.self.items c.first_redex.new.place.items in
+    let F : Option ℕ → Type 0 = IsFound c.args.system.now.rules part c.push.new.self.items c.first_redex.new.place.items in
     let (p, first, grown) = subst F c.in-Some-2.is c.in_ok-rule-2.ensures.found in (
       (c.loop-part.count + 1) ∷ p,
-      first_inside c.args.by_root.now.rules whole c.loop-part.count c.loop-part.invariant.none part p c.in-Some-2.rule there first,
+      first_inside c.args.system.now.rules whole c.loop-part.count c.loop-part.invariant.none part p c.in-Some-2.rule there first,
       grown ∙ (ap (λ xs. xs ++ p) pushed ∙ placed_further c.args.place.now.items p (c.loop-part.count + 1)),
     )
 
@@ -53,10 +53,10 @@ loop-part-preserved t c =
     let part = tree_at c.args.pool.now c.in-Some-argument_behind.part in
     let there : argument_at whole (c.loop-part.count + 1) ≡ Some part = sym c.in-Some-argument_behind.ensures.is in
     let pushed : c.push.new.self.items ≡ c.args.place.now.items ++ (c.loop-part.count + 1) ∷ [] = rw c.loop-part.invariant.same at c.in_ok-push.ensures.items in
-    let F : Option ℕ → Type 0 = IsFound c.args.by_root.now.rules part c.push.new.self.items c.first_redex.new.place.items in
+    let F : Option ℕ → Type 0 = IsFound c.args.system.now.rules part c.push.new.self.items c.first_redex.new.place.items in
     let (none, unmoved) = subst F c.in_default-2.is c.in_ok-rule-2.ensures.found in
     record {
-      none = past_next c.args.by_root.now.rules whole c.loop-part.count c.loop-part.invariant.none part there none;
+      none = past_next c.args.system.now.rules whole c.loop-part.count c.loop-part.invariant.none part there none;
       passed = c.in_ok-rule-2.ensures.passed;
       same = popped c.args.place.now.items c.push.new.self.items c.first_redex.new.place.items c.pop.new.self.items _ c.first_redex.new.place.len pushed unmoved
           (omega (arith, c.first_redex.new.place.ok.0)) c.pop.ensures.rest;
@@ -66,7 +66,7 @@ pub returns-clause-found : goal.returns-clause-found
 returns-clause-found t c =
     let whole = tree_at c.args.pool.now c.args.id in
     let gone : argument_at whole (c.loop-part.count + 1) ≡ None = sym c.in_default-argument_behind.ensures.is in
-    (past_all c.args.by_root.now.rules whole c.loop-part.count c.loop-part.invariant.none gone, c.loop-part.invariant.same)
+    (past_all c.args.system.now.rules whole c.loop-part.count c.loop-part.invariant.none gone, c.loop-part.invariant.same)
 
 pub returns-clause-positive : goal.returns-clause-positive
 returns-clause-positive t c =
@@ -77,5 +77,5 @@ pub returns-clause-passed : goal.returns-clause-passed
 returns-clause-passed t c =
     let whole = tree_at c.args.pool.now c.args.id in
     let gone : argument_at whole (c.loop-part.count + 1) ≡ None = sym c.in_default-argument_behind.ensures.is in
-    one_more_passed c.args.by_root.now.rules c.args.pool.now c.loop-part.passed c.insert.new.self c.args.id c.in_ok-insert.ensures c.loop-part.invariant.passed c.requires.there
-    (past_all c.args.by_root.now.rules whole c.loop-part.count c.loop-part.invariant.none gone)
+    one_more_passed c.args.system.now.rules c.args.pool.now c.loop-part.passed c.insert.new.self c.args.id c.in_ok-insert.ensures c.loop-part.invariant.passed c.requires.there
+    (past_all c.args.system.now.rules whole c.loop-part.count c.loop-part.invariant.none gone)

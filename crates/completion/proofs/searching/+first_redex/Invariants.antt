@@ -9,8 +9,8 @@ decreases-first_redex l = size_of (tree_at l.pool.now l.id)
 
 abbrev pub invariant-loop-part : goal.invariant-loop-part
 invariant-loop-part l = record {
-  none : HasNoneUpTo l.by_root.rules (tree_at l.pool l.id) l.count;
-  passed : HaveNoPlace l.by_root.rules l.pool l.passed;
+  none : HasNoneUpTo l.system.rules (tree_at l.pool l.id) l.count;
+  passed : HaveNoPlace l.system.rules l.pool l.passed;
   same : l.place.items ≡ l.fn.place.items;
 }
 

@@ -6,22 +6,22 @@ use Rattle.completion.proofs.searching.root_redex.Goals.{After-rules-rules, Afte
 use Rattle.completion.proofs.searching.root_redex.Goals as goal
 
 proper : (c : After-rules-rules) → AreProper c.rules-rules.result.now
-proper c = proper_sides c.args.by_root.now c.rules-rules.result.now c.rules-rules.ensures.rules c.rules-rules.ensures.valid
+proper c = proper_sides c.args.system.now c.rules-rules.result.now c.rules-rules.ensures.rules c.rules-rules.ensures.valid
 
 -- the rule of the next number
 here : (c : After-index-rules-k) → slice_get c.rules-rules.result.now (slice_index c.with_root-k-items.result.now c.loop-k.k-index) ≡ Some c.index-rules-k.result
 here c =
-    rule_read c.args.by_root.now.rules c.rules-rules.result.now c.with_root-k-items.result.now c.loop-k.k-index c.index-rules-k.result c.rules-rules.ensures.rules c.with_root-k-items.ensures.within
+    rule_read c.args.system.now.rules c.rules-rules.result.now c.with_root-k-items.result.now c.loop-k.k-index c.index-rules-k.result c.rules-rules.ensures.rules c.with_root-k-items.ensures.within
     c.loop-k-test.true c.index-rules-k.is
 
 pub returns-in_default : goal.returns-in_default
 returns-in_default c =
     let a = (goal.at.returns-in_default c).After-rules-rules in
-    none_at_variable c.args.by_root.now.rules c.rules-rules.result.now (tree_at c.args.pool.now c.args.id) c.rules-rules.ensures.rules (proper a) c.in_default.ensures.none
+    none_at_variable c.args.system.now.rules c.rules-rules.result.now (tree_at c.args.pool.now c.args.id) c.rules-rules.ensures.rules (proper a) c.in_default.ensures.none
 
 pub returns-then-branch : goal.returns-then-branch
 returns-then-branch c =
-    first_with_root c.args.by_root.now.rules c.rules-rules.result.now (tree_at c.args.pool.now c.args.id) c.in-Some.f c.rules-rules.ensures.rules (proper (goal.at.returns-then-branch c).After-rules-rules) c.in-Some.ensures.some
+    first_with_root c.args.system.now.rules c.rules-rules.result.now (tree_at c.args.pool.now c.args.id) c.in-Some.f c.rules-rules.ensures.rules (proper (goal.at.returns-then-branch c).After-rules-rules) c.in-Some.ensures.some
     c.with_root-k-items.result.now c.with_root-k-items.ensures.numbers c.loop-k.k-index c.loop-k-test.true c.index-rules-k.result (here (goal.at.returns-then-branch c).After-index-rules-k)
     (c.in_ok-is_instance.ensures.0 c.if-branch.true) c.loop-k.invariant
 
@@ -32,6 +32,6 @@ loop-k-preserved c =
 
 pub returns : goal.returns
 returns c =
-    none_with_root c.args.by_root.now.rules c.rules-rules.result.now (tree_at c.args.pool.now c.args.id) c.in-Some.f c.rules-rules.ensures.rules (proper (goal.at.returns c).After-rules-rules) c.in-Some.ensures.some
-    (none_at_end (Matches (tree_at c.args.pool.now c.args.id)) c.in-Some.f c.args.by_root.now.rules c.rules-rules.result.now c.with_root-k-items.result.now c.loop-k.k-index c.rules-rules.ensures.rules
+    none_with_root c.args.system.now.rules c.rules-rules.result.now (tree_at c.args.pool.now c.args.id) c.in-Some.f c.rules-rules.ensures.rules (proper (goal.at.returns c).After-rules-rules) c.in-Some.ensures.some
+    (none_at_end (Matches (tree_at c.args.pool.now c.args.id)) c.in-Some.f c.args.system.now.rules c.rules-rules.result.now c.with_root-k-items.result.now c.loop-k.k-index c.rules-rules.ensures.rules
     c.with_root-k-items.ensures.numbers c.loop-k-test.false c.loop-k.invariant)
