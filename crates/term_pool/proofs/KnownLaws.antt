@@ -25,7 +25,7 @@ use Rattle.term_pool.proofs.Extending.{same_tree_at}
 
 -- ---- a term with fewer nodes than a pattern is no instance of it
 
-some_node : (t : Tree) → 1 ≤ size_of t
+pub some_node : (t : Tree) → 1 ≤ size_of t
 some_node (var n) = omega arith
 some_node (app f ts) = omega arith
 

@@ -23,7 +23,7 @@ pub argument_past : (pool : List Tree) (f : ℕ) (ids : List ℕ) (place : ℕ) 
 argument_past pool f ids zero h = absurd (h refl)
 argument_past pool f ids (suc i) h = rw (sub-one, items_trees (map (tree_at pool) ids)) (sym (slice_get-map (tree_at pool) ids i))
 
-copied_item : (xs : List ℕ) (i : ℕ) (r : Option (Bor ℕ)) → IsItemAt xs i r → option_copied r ≡ slice_get xs i
+pub copied_item : (xs : List ℕ) (i : ℕ) (r : Option (Bor ℕ)) → IsItemAt xs i r → option_copied r ≡ slice_get xs i
 copied_item xs i None h = sym (slice_get_past xs i h.3)
 copied_item xs i (Some x) h = sym (slice_get_read xs (length xs) i x.now refl h.3.0 h.1)
 

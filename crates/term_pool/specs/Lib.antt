@@ -18,6 +18,7 @@ pub mod Reach
 pub mod ListedIds
 pub mod Reached
 pub mod Known
+pub mod LeftSides
 pub mod Reaching
 pub mod Outlines
 pub mod Hashed

@@ -11,6 +11,7 @@ mod instances;
 mod interning;
 mod knowing;
 mod known;
+mod left_sides;
 mod listing;
 mod matching;
 mod narrow;

@@ -2,11 +2,13 @@ ghost use Rattle.std.specs.Prelude.{◌≡◌, ◌<◌, ◌↔◌, false, length
 ghost use Rattle.trs_defs.specs.Tree.{Tree};
 ghost use Rattle.trs_defs.specs.Step.{Step};
 ghost use Rattle.trs_defs.specs.NormalForm.{IsNormalForm};
-ghost use Rattle.term_pool.specs.Pooled.{tree_at};
+ghost use Rattle.term_pool.specs.Pooled.{Extends, tree_at};
 ghost use Rattle.term_pool.specs.Redex.{IsRedex, HasRedex};
 ghost use Rattle.term_pool.specs.Known.{IsKnown};
+ghost use Rattle.term_pool.specs.LeftSides.{AreLeftSides};
 
 use crate::known::Known;
+use crate::left_sides::LeftSides;
 use crate::nodes::Node;
 use crate::{Pool, RulesByRoot};
 use std::alloc::Global;
@@ -27,8 +29,29 @@ impl Pool {
         ensures reducible { IfOk result (λ yes.
             yes ≡ false → (u : Tree) × Step by_root.now.rules (tree_at self.now id) u) }
     {
+        let sides = LeftSides::new(alloc);
         let mut known = Known::new(alloc);
-        Ok(!self.has_redex(alloc, by_root, id, &mut known)?)
+        Ok(!self.has_redex(alloc, by_root, &sides, id, &mut known)?)
+    }
+
+    /// The same with the left sides in the pool, which pays where many rules are tried at many
+    /// nodes: what has no variable in them costs one comparison of ids.
+    pub fn is_normal_by_ids(
+        &mut self,
+        alloc: Global,
+        by_root: &RulesByRoot,
+        id: u32,
+    ) -> Result<bool, OutOfMemory>
+        requires { id < length self.old }
+        ensures normal { IfOk result (λ yes.
+            IsTrue yes → IsNormalForm (Step by_root.now.rules) (tree_at self.old id)) }
+        ensures reducible { IfOk result (λ yes.
+            yes ≡ false → (u : Tree) × Step by_root.now.rules (tree_at self.old id) u) }
+        ensures kept { Extends self.old self.new }
+    {
+        let sides = self.add_left_sides(alloc, by_root)?;
+        let mut known = Known::new(alloc);
+        Ok(!self.has_redex(alloc, by_root, &sides, id, &mut known)?)
     }
 
     /// Whether some subterm is a redex.
@@ -36,10 +59,12 @@ impl Pool {
         &self,
         alloc: Global,
         by_root: &RulesByRoot,
+        sides: &LeftSides,
         id: u32,
         known: &mut Known,
     ) -> Result<bool, OutOfMemory>
         requires there { id < length self.now }
+        requires sides { AreLeftSides by_root.now.rules self.now sides.now }
         requires known { IsKnown by_root.now.rules self.now known.old }
         ensures redex { IfOk result (λ yes.
             IsTrue yes ↔ HasRedex by_root.now.rules (tree_at self.now id)) }
@@ -48,12 +73,12 @@ impl Pool {
         if self.is_passed(by_root, id, known) {
             return Ok(false);
         }
-        if self.is_redex(alloc, by_root, id, known)? {
+        if self.is_redex(alloc, by_root, sides, id, known)? {
             return Ok(true);
         }
         if let Node::App(_, args) = self.node(id) {
             for arg in args.as_slice() {
-                if self.has_redex(alloc, by_root, *arg, known)? {
+                if self.has_redex(alloc, by_root, sides, *arg, known)? {
                     return Ok(true);
                 }
             }
@@ -62,15 +87,18 @@ impl Pool {
         Ok(false)
     }
 
-    /// Whether the id's term is an instance of the left side of a rule.
+    /// Whether the id's term is an instance of the left side of a rule. Of equal left sides next to
+    /// each other one is tried.
     fn is_redex(
         &self,
         alloc: Global,
         by_root: &RulesByRoot,
+        sides: &LeftSides,
         id: u32,
         known: &mut Known,
     ) -> Result<bool, OutOfMemory>
         requires there { id < length self.now }
+        requires sides { AreLeftSides by_root.now.rules self.now sides.now }
         requires known { IsKnown by_root.now.rules self.now known.old }
         ensures redex { IfOk result (λ yes.
             IsTrue yes ↔ IsRedex by_root.now.rules (tree_at self.now id)) }
@@ -80,10 +108,13 @@ impl Pool {
         let Node::App(f, _) = self.node(id) else {
             return Ok(false);
         };
+        let mut last = None;
         for k in by_root.with_root(*f) {
-            if self.is_redex_by(alloc, by_root, &rules[*k as usize], *k, id, known)? {
+            let rule = &rules[*k as usize];
+            if self.is_redex_over(alloc, by_root, sides, last, rule, *k, id, known)? {
                 return Ok(true);
             }
+            last = sides.id(*k);
         }
         Ok(false)
     }

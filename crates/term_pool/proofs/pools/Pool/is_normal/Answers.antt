@@ -10,3 +10,6 @@ returns-clause-reducible c = reducible_found c.args.by_root.now.rules (tree_at c
 
 pub has_redex-requires-clause-known : goal.has_redex-requires-clause-known
 has_redex-requires-clause-known c = c.new-known.ensures c.args.by_root.now.rules c.args.self.now
+
+pub has_redex-requires-clause-sides : goal.has_redex-requires-clause-sides
+has_redex-requires-clause-sides c = c.new-sides.ensures c.args.by_root.now.rules c.args.self.now

@@ -5,6 +5,7 @@ use Rattle.term_pool.specs.Pooled.{tree_at}
 use Rattle.term_pool.specs.Redex.{IsRedex}
 use Rattle.term_pool.proofs.PoolPlaces.{id_tree, id_variable}
 use Rattle.term_pool.proofs.RootRules.{AreProper, proper_sides, Matches, no_redex_at_variable, rule_read, one_more_not, none_at_end, no_redex}
+use Rattle.term_pool.proofs.LeftSideLaws.{side_failed}
 use Rattle.term_pool.proofs.pools.Pool.is_redex.Goals.{In-App, After-index-rules-k}
 use Rattle.term_pool.proofs.pools.Pool.is_redex.Goals as goal
 
@@ -33,15 +34,22 @@ returns-then-branch-clause-redex c =
     let k = slice_index c.with_root-k-items.result.now c.loop-k.k-index in
     let rule = c.index-rules-k.result in
     let found : IsRedex rules (tree_at c.args.self.now c.args.id) =
-    (rule, in_of_get rules k rule (here (goal.at.returns-then-branch-clause-redex c).After-index-rules-k), c.in_ok-is_redex_by.ensures.redex.0 c.if-branch.true) in
+    (rule, in_of_get rules k rule (here (goal.at.returns-then-branch-clause-redex c).After-index-rules-k), c.in_ok-is_redex_over.ensures.redex.0 c.if-branch.true) in
     rw (← c.rules-rules.ensures.rules) (λ _. found, λ _. refl)
 
 pub loop-k-preserved : goal.loop-k-preserved
-loop-k-preserved c = record {
-  none = one_more_not (Matches (tree_at c.args.self.now c.args.id)) c.rules-rules.result.now c.with_root-k-items.result.now c.loop-k.k-index c.index-rules-k.result c.loop-k-test.true
-      (here (goal.at.loop-k-preserved c).After-index-rules-k) (λ inst. let e = c.in_ok-is_redex_by.ensures.redex.1 inst in absurd (cc (e, c.if-branch.false))) c.loop-k.invariant.none;
-  known = c.in_ok-is_redex_by.ensures.known;
-}
+loop-k-preserved c =
+    let rules = c.rules-rules.result.now in
+    let t = tree_at c.args.self.now c.args.id in
+    let k = slice_index c.with_root-k-items.result.now c.loop-k.k-index in
+    let rule = c.index-rules-k.result in
+    let there : slice_get rules k ≡ Some rule = here (goal.at.loop-k-preserved c).After-index-rules-k in
+    let fails : Matches t rule → ⊥ = λ inst. let e = c.in_ok-is_redex_over.ensures.redex.1 inst in absurd (cc (e, c.if-branch.false)) in
+    record {
+      none = one_more_not (Matches t) rules c.with_root-k-items.result.now c.loop-k.k-index rule c.loop-k-test.true there fails c.loop-k.invariant.none;
+      last = side_failed c.args.by_root.now.rules c.args.self.now c.args.sides.now k rule t c.id-last.result c.requires.sides c.id-last.ensures (rw (← c.rules-rules.ensures.rules) there) fails;
+      known = c.in_ok-is_redex_over.ensures.known;
+    }
 
 pub returns-clause-redex : goal.returns-clause-redex
 returns-clause-redex c =
