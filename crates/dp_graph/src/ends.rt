@@ -32,7 +32,7 @@ impl Ends {
         requires { pairs.now ≡ dependency_pairs by_root.now.rules }
         ensures { IfOk result (AreEnds by_root.now.rules) }
     {
-        let mut known = KnownCaps::new(alloc);
+        let mut known = KnownCaps::of_rules(alloc, by_root)?;
         let mut seen = BTreeMap::new(alloc);
         let mut ends = Ends::new(alloc);
         for pair in pairs {

@@ -21,7 +21,7 @@ pub fn apart(alloc: Global, trs: &Trs, a: &Term, b: &Term) -> Result<bool, OutOf
         → IsJoinable (Step trs.now.rules) (tree a.now) (tree b.now) → ⊥) }
 {
     let by_root = RulesByRoot::new(alloc, trs)?;
-    let mut known = KnownCaps::new(alloc);
+    let mut known = KnownCaps::of_rules(alloc, &by_root)?;
     let first = known.cap(alloc, &by_root, a, true)?;
     let second = known.cap(alloc, &by_root, b, true)?;
     Ok(first.is_disjoint(&second))

@@ -1,16 +1,18 @@
 -- Caps and numbers of arguments, one after another.
-use Rattle.std.proofs.Common.{◌≡◌, ℕ, ◌+◌, ◌<◌, ◌≤◌, Bool, true, false, List, [], ◌∷◌, ◌++◌, length, take, get_or, refl, ap, sym, ◌∙◌, suc, arith}
+use Rattle.std.proofs.Common.{◌≡◌, ℕ, ◌||◌, ◌+◌, ◌<◌, ◌≤◌, Bool, true, false, List, [], ◌∷◌, ◌++◌, length, take, get_or, refl, ap, sym, ◌∙◌, suc, arith}
 use Rattle.std.proofs.lemmas.List.{take_all, take_more}
 use Rattle.trs_defs.specs.Tree.{Tree, Trees, var, app, nil, cons}
 use Rattle.trs_defs.specs.System.{RewriteRule}
 use Rattle.trs_core.specs.declared.terms.Term.{Term}
 use Rattle.trs_core.specs.View.{tree, forest}
 use Rattle.trs_caps.specs.Caps.{IsNext}
-use Rattle.trs_caps.specs.HoledTree.{HoledTree, HoledTrees, hole, own, symbol, none, more}
+use Rattle.trs_caps.specs.HoledTree.{HoledTree, HoledTrees, hole, own, symbol, none, more, holed_size, holed_sizes}
 use Rattle.trs_caps.specs.HoledCap.{MeetsSome, IsHoledCap, AreHoledCaps, fixed_variable, free_variable, symbol_kept, symbol_opened, no_holed, one_holed}
+use Rattle.trs_caps.specs.Shapes.{has_hole, some_has_hole, IsShape, AddsShape}
 use Rattle.trs_caps.specs.KnownCaps.{IsWhole}
 use Rattle.trs_caps.specs.Numbered.{IsNumbered, AreNumbered, number_hole, leave_own, number_symbol, number_none, number_more}
 use Rattle.trs_caps.specs.declared.holed.Cap.{Cap}
+use Rattle.trs_caps.specs.declared.shapes.Shape.{Shape}
 use Rattle.trs_caps.specs.View.{holed, holed_all}
 
 abbrev with_last : Trees → Tree → Trees
@@ -28,6 +30,39 @@ forest_more (u ∷ us) t = ap (cons (tree u)) (forest_more us t)
 holed_more : (cs : List Cap) (c : Cap) → holed_all (cs ++ c ∷ []) ≡ with_last_cap (holed_all cs) (holed c)
 holed_more [] c = refl
 holed_more (d ∷ ds) c = ap (more (holed d)) (holed_more ds c)
+
+-- ---- shapes
+
+sizes_last : (cs : HoledTrees) (c : HoledTree) → holed_sizes (with_last_cap cs c) ≡ holed_sizes cs + holed_size c
+sizes_last none c = omega arith
+sizes_last (more d ds) c = omega (arith, sizes_last ds c)
+
+either_none : (a : Bool) → (a || false) ≡ a
+either_none true = refl
+either_none false = refl
+
+either_more : (a b c : Bool) → (a || (b || c)) ≡ ((a || b) || c)
+either_more true b c = refl
+either_more false b c = refl
+
+holes_last : (cs : HoledTrees) (c : HoledTree) → some_has_hole (with_last_cap cs c) ≡ (some_has_hole cs || has_hole c)
+holes_last none c = either_none (has_hole c)
+holes_last (more d ds) c = ap (λ b. has_hole d || b) (holes_last ds c) ∙ either_more (has_hole d) (some_has_hole ds) (has_hole c)
+
+pub first_shape : (items : List Cap) (s : Shape) → items ≡ [] → s.nodes ≡ 1 → s.is_open ≡ false → IsShape (symbol 0 (holed_all items)) s
+first_shape items s empty nodes holes = rw empty (record { nodes = omega (arith, nodes); holes = holes })
+
+pub next_shape : (items items2 : List Cap) (c : Cap) (s s2 : Shape) → items2 ≡ items ++ c ∷ [] → IsShape (symbol 0 (holed_all items)) s → AddsShape (holed c) s s2 → IsShape (symbol 0 (holed_all items2)) s2
+next_shape items items2 c s s2 pushed so_far added =
+    let sizes : holed_sizes (holed_all items2) ≡ holed_sizes (holed_all items) + holed_size (holed c) = rw (pushed, holed_more items c) (sizes_last (holed_all items) (holed c)) in
+    let holes : some_has_hole (holed_all items2) ≡ (some_has_hole (holed_all items) || has_hole (holed c)) = rw (pushed, holed_more items c) (holes_last (holed_all items) (holed c)) in
+    record {
+      nodes = omega (arith, sizes, so_far.nodes, added.nodes);
+      holes = added.holes ∙ (ap (λ b. b || has_hole (holed c)) so_far.holes ∙ sym holes);
+    }
+
+pub whole_shape : (f : ℕ) (cs : HoledTrees) (s : Shape) → IsShape (symbol 0 cs) s → IsShape (symbol f cs) s
+whole_shape f cs s h = record { nodes = h.nodes; holes = h.holes }
 
 module _ (rules : List RewriteRule) (fixed : Bool) where
   cap_last : {ts : Trees} {cs : HoledTrees} {t : Tree} {c : HoledTree} → AreHoledCaps rules fixed ts cs → IsHoledCap rules fixed t c → AreHoledCaps rules fixed (with_last ts t) (with_last_cap cs c)
@@ -48,11 +83,13 @@ module _ (rules : List RewriteRule) (fixed : Bool) where
       → IsWhole rules fixed t (symbol f (holed_all items))
   whole_cap t f args items k is h caps = record { root = f; args = forest args; caps = holed_all items; term = is; cap = refl; each = all_caps args items k h caps }
 
-  pub fixed_stays : (t : Tree) (v : ℕ) → t ≡ var v → fixed ≡ true → IsHoledCap rules fixed t (own v)
-  fixed_stays t v is e = rw is (fixed_variable e)
-
-  pub free_opens : (t : Tree) (v : ℕ) → t ≡ var v → fixed ≡ false → IsHoledCap rules fixed t hole
-  free_opens t v is e = rw is (free_variable e)
+  -- a variable stays where variables are fixed
+  pub variable_is : (t : Tree) (v : ℕ) (c : HoledTree) → t ≡ var v → (fixed ≡ true → c ≡ own v) → (fixed ≡ false → c ≡ hole) → IsHoledCap rules fixed t c
+  variable_is t v c is stays opens = go fixed refl
+    where
+      go : (b : Bool) → fixed ≡ b → IsHoledCap rules fixed t c
+      go true e = rw (is, stays e) (fixed_variable e)
+      go false e = rw (is, opens e) (free_variable e)
 
   pub kept_symbol : (t : Tree) (c : HoledTree) → IsWhole rules fixed t c → MeetsSome c rules false → IsHoledCap rules fixed t c
   kept_symbol t c whole free = rw (whole.term, whole.cap) (symbol_kept whole.each (rw whole.cap at free))

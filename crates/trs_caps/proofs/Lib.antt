@@ -8,3 +8,4 @@ pub mod CapSteps
 pub mod CapLaws
 pub mod Rows
 pub mod KnownSteps
+pub mod ShapeLaws

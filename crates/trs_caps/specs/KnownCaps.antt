@@ -7,6 +7,7 @@ use Rattle.trs_defs.specs.System.{RewriteRule}
 use Rattle.term_pool.specs.Pooled.{StandsFor}
 use Rattle.trs_caps.specs.HoledTree.{HoledTree, HoledTrees, symbol}
 use Rattle.trs_caps.specs.HoledCap.{AreHoledCaps, MeetsSome}
+use Rattle.trs_caps.specs.Shapes.{AreGroundSizes}
 use Rattle.trs_caps.specs.declared.knowing.KnownCaps.{KnownCaps}
 
 -- whether the term's symbol over the caps of its arguments meets some left side
@@ -19,8 +20,9 @@ abbrev pub AreKnown : List RewriteRule → Bool → List Tree → BTreeMap ℕ B
 AreKnown rules fixed pool opens = (i : ℕ) (b : Bool) → get nat_cmp opens i ≡ Some b → (t : Tree) × StandsFor pool i t × Opens rules fixed t b
 
 -- what is known is true of the caps by these rules, where variables are fixed or not
-abbrev pub IsKnown : List RewriteRule → Bool → KnownCaps → Type 0
-IsKnown rules fixed known = AreKnown rules fixed known.pool known.opens
+pub record IsKnown (rules : List RewriteRule) (fixed : Bool) (known : KnownCaps) : Type 0 where
+  pub opens : AreKnown rules fixed known.pool known.opens
+  pub sizes : AreGroundSizes rules known.ground_sizes.items
 
 -- the id, if there is one, is that of the term
 abbrev pub IsIdOf : List Tree → Option ℕ → Tree → Type 0

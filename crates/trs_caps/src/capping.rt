@@ -1,20 +1,21 @@
-ghost use Rattle.std.specs.Prelude.{◌≡◌, ◌≤◌, ℕ, Bool, List, false, true, IfOk, OnOk, IsTrue};
+ghost use Rattle.std.specs.Prelude.{◌≡◌, ◌≤◌, ◌↔◌, ℕ, Bool, List, Some, false, true, slice_get, IfOk, OnOk, IsTrue};
 ghost use Rattle.trs_defs.specs.Tree.{Tree, var};
 ghost use Rattle.trs_defs.specs.Variable.{has_var};
 ghost use Rattle.trs_defs.specs.Size.{size_of};
-ghost use Rattle.trs_defs.specs.System.{IsSystem};
 ghost use Rattle.trs_defs.specs.Substitution.{apply, IsInstance};
 ghost use Rattle.trs_defs.specs.Derivation.{Reaches};
 ghost use Rattle.trs_defs.specs.Step.{Step};
 ghost use Rattle.trs_core.specs.View.{tree};
 ghost use Rattle.trs_caps.specs.Caps.{IsCapOf};
-ghost use Rattle.trs_caps.specs.HoledCap.{IsHoledCap, MeetsSome, HasRoot};
-ghost use Rattle.trs_caps.specs.HoledTree.{Fits, symbol};
+ghost use Rattle.trs_caps.specs.HoledCap.{IsHoledCap, MeetsLeft, MeetsSome, HasRoot};
+ghost use Rattle.trs_caps.specs.HoledTree.{Fits, hole, own, symbol};
 ghost use Rattle.trs_caps.specs.KnownCaps.{AreKnown, IsKnown, IsIdOf, IsWhole};
+ghost use Rattle.trs_caps.specs.Shapes.{IsShape, AddsShape, AreGroundSizes};
 ghost use Rattle.trs_caps.specs.View.{holed, holed_all};
 
 use crate::knowing::{argument, note, recall};
 use crate::naming::{number, own_variables};
+use crate::shapes::{Shape, ground_size_at};
 use crate::{Cap, KnownCaps, Parts};
 use std::alloc::Global;
 use std::collections::BTreeMap;
@@ -76,53 +77,70 @@ impl KnownCaps {
         ensures known { OnOk result (IsKnown by_root.now.rules fixed self.new) }
     {
         let id = self.id(alloc, by_root, t)?;
-        let rules = by_root.rules();
+        let sizes = self.ground_sizes.as_slice();
+        let mut shape = Shape::none();
         cap_of(
             alloc,
             by_root,
-            rules,
+            sizes,
             &self.pool,
             t,
             id,
             fixed,
             &mut self.opens,
+            &mut shape,
         )
     }
 }
 
+/// The cap of a term, whose shape is added.
 fn cap_of(
     alloc: Global,
     by_root: &RulesByRoot,
-    rules: &[Rule],
+    sizes: &[u32],
     pool: &Pool,
     t: &Term,
     id: Option<u32>,
     fixed: bool,
     opens: &mut BTreeMap<u32, bool>,
+    shape: &mut Shape,
 ) -> Result<Cap, OutOfMemory>
-    requires rules { rules.now ≡ by_root.now.rules }
-    requires valid { IsSystem by_root.now }
+    requires sizes { AreGroundSizes by_root.now.rules sizes.now }
     requires id { IsIdOf pool.now id (tree t.now) }
     requires known { AreKnown by_root.now.rules fixed pool.now opens.old }
     ensures cap { IfOk result (λ c. IsHoledCap by_root.now.rules fixed (tree t.now) (holed c)) }
     ensures known { OnOk result (AreKnown by_root.now.rules fixed pool.now opens.new) }
+    ensures shape { IfOk result (λ c. AddsShape (holed c) shape.old shape.new) }
 {
     match t {
-        Term::Var(v) => {
-            if fixed {
-                Ok(Cap::Own(*v))
-            } else {
-                Ok(Cap::Open)
-            }
-        }
+        Term::Var(v) => Ok(variable_cap(*v, fixed, shape)),
         Term::App(f, args) => {
+            let mut whole = Shape::symbol();
             let mut items = Vec::with_capacity(alloc, args.items.len())?;
             for (i, arg) in args.items.iter().enumerate() {
                 let part = argument(pool, id, i);
-                items.push(cap_of(alloc, by_root, rules, pool, arg, part, fixed, opens)?)?;
+                let item = cap_of(
+                    alloc, by_root, sizes, pool, arg, part, fixed, opens, &mut whole,
+                )?;
+                items.push(item)?;
             }
-            close(alloc, by_root, rules, *f, items, id, opens)
+            close(alloc, by_root, sizes, *f, items, whole, id, opens, shape)
         }
+    }
+}
+
+/// The cap of a variable, whose shape is added.
+fn variable_cap(v: u32, fixed: bool, shape: &mut Shape) -> Cap
+    ensures fixed { fixed ≡ true → holed result ≡ own v }
+    ensures free { fixed ≡ false → holed result ≡ hole }
+    ensures shape { AddsShape (holed result) shape.old shape.new }
+{
+    if fixed {
+        shape.add(Shape::symbol());
+        Cap::Own(v)
+    } else {
+        shape.add(Shape::hole());
+        Cap::Open
     }
 }
 
@@ -133,14 +151,16 @@ fn cap_of(
 fn close(
     alloc: Global,
     by_root: &RulesByRoot,
-    rules: &[Rule],
+    sizes: &[u32],
     f: u32,
     items: Vec<Cap>,
+    whole_shape: Shape,
     id: Option<u32>,
     opens: &mut BTreeMap<u32, bool>,
+    shape: &mut Shape,
 ) -> Result<Cap, OutOfMemory>
-    requires rules { rules.now ≡ by_root.now.rules }
-    requires valid { IsSystem by_root.now }
+    requires sizes { AreGroundSizes by_root.now.rules sizes.now }
+    requires shape { IsShape (symbol f (holed_all items.items)) whole_shape }
     ensures cap { (fixed : Bool) (pool : List Tree) (t : Tree)
         → AreKnown by_root.now.rules fixed pool opens.old → IsIdOf pool id t
         → IsWhole by_root.now.rules fixed t (symbol f (holed_all items.items))
@@ -149,11 +169,14 @@ fn close(
         → AreKnown by_root.now.rules fixed pool opens.old → IsIdOf pool id t
         → IsWhole by_root.now.rules fixed t (symbol f (holed_all items.items))
         → OnOk result (AreKnown by_root.now.rules fixed pool opens.new) }
+    ensures shape { IfOk result (λ c. AddsShape (holed c) shape.old shape.new) }
 {
     let whole = Cap::Symbol(f, Parts { items });
-    if is_opened(alloc, by_root, rules, f, &whole, id, opens)? {
+    if is_opened(alloc, by_root, sizes, f, &whole, whole_shape, id, opens)? {
+        shape.add(Shape::hole());
         Ok(Cap::Open)
     } else {
+        shape.add(whole_shape);
         Ok(whole)
     }
 }
@@ -162,14 +185,15 @@ fn close(
 fn is_opened(
     alloc: Global,
     by_root: &RulesByRoot,
-    rules: &[Rule],
+    sizes: &[u32],
     f: u32,
     cap: &Cap,
+    shape: Shape,
     id: Option<u32>,
     opens: &mut BTreeMap<u32, bool>,
 ) -> Result<bool, OutOfMemory>
-    requires rules { rules.now ≡ by_root.now.rules }
-    requires valid { IsSystem by_root.now }
+    requires sizes { AreGroundSizes by_root.now.rules sizes.now }
+    requires shape { IsShape (holed cap.now) shape }
     requires root { HasRoot f (holed cap.now) }
     ensures meets { (fixed : Bool) (pool : List Tree) (t : Tree)
         → AreKnown by_root.now.rules fixed pool opens.old → IsIdOf pool id t
@@ -183,7 +207,7 @@ fn is_opened(
     if let Some(yes) = recall(id, opens) {
         return Ok(yes);
     }
-    let yes = meets_some(alloc, by_root, rules, f, cap)?;
+    let yes = meets_some(alloc, by_root, sizes, f, cap, shape)?;
     note(id, yes, opens)?;
     Ok(yes)
 }
@@ -192,20 +216,44 @@ fn is_opened(
 fn meets_some(
     alloc: Global,
     by_root: &RulesByRoot,
-    rules: &[Rule],
+    sizes: &[u32],
     f: u32,
     cap: &Cap,
+    shape: Shape,
 ) -> Result<bool, OutOfMemory>
-    requires rules { rules.now ≡ by_root.now.rules }
-    requires valid { IsSystem by_root.now }
+    requires sizes { AreGroundSizes by_root.now.rules sizes.now }
+    requires shape { IsShape (holed cap.now) shape }
     requires root { HasRoot f (holed cap.now) }
     ensures { IfOk result (λ yes. MeetsSome (holed cap.now) by_root.now.rules yes) }
 {
+    let rules = by_root.rules();
     for k in by_root.with_root(f) {
         let rule = &rules[*k as usize];
-        if cap.meets(alloc, &rule.left)? {
+        if meets_rule(alloc, by_root, sizes, cap, shape, rule, *k)? {
             return Ok(true);
         }
     }
     Ok(false)
+}
+
+/// Whether a cap meets the left side of rule `k`. Its shape excludes most left sides with no
+/// variable.
+fn meets_rule(
+    alloc: Global,
+    by_root: &RulesByRoot,
+    sizes: &[u32],
+    cap: &Cap,
+    shape: Shape,
+    rule: &Rule,
+    k: u32,
+) -> Result<bool, OutOfMemory>
+    requires sizes { AreGroundSizes by_root.now.rules sizes.now }
+    requires shape { IsShape (holed cap.now) shape }
+    requires rule { slice_get by_root.now.rules k ≡ Some rule.now }
+    ensures { IfOk result (λ yes. IsTrue yes ↔ MeetsLeft (holed cap.now) rule.now.left) }
+{
+    if shape.excludes(ground_size_at(sizes, k)) {
+        return Ok(false);
+    }
+    cap.meets(alloc, &rule.left)
 }

@@ -4,10 +4,11 @@ ghost use Rattle.std.specs.Ordering.{nat_cmp};
 ghost use Rattle.std.specs.BTreeMap.{get};
 ghost use Rattle.trs_defs.specs.Tree.{Tree};
 ghost use Rattle.trs_defs.specs.Position.{argument_at};
-ghost use Rattle.trs_defs.specs.System.{RewriteRule};
+ghost use Rattle.trs_defs.specs.System.{RewriteRule, IsSystem};
 ghost use Rattle.trs_core.specs.View.{tree};
 ghost use Rattle.trs_caps.specs.KnownCaps.{IsKnown, IsIdOf, Notes};
 
+use crate::shapes::ground_sizes;
 use std::alloc::Global;
 use std::collections::BTreeMap;
 use std::slice::from_ref;
@@ -26,6 +27,8 @@ pub struct KnownCaps {
     pub(crate) pool: Pool,
     /// Whether the symbol of an id's term over the caps of its arguments meets a left side.
     pub(crate) opens: BTreeMap<u32, bool>,
+    /// For each rule the size of its left side, or 0 where that has a variable or is not known.
+    pub(crate) ground_sizes: Vec<u32>,
 }
 
 impl KnownCaps {
@@ -36,7 +39,18 @@ impl KnownCaps {
         KnownCaps {
             pool: Pool::new(alloc),
             opens: BTreeMap::new(alloc),
+            ground_sizes: Vec::new(alloc),
         }
+    }
+
+    /// Nothing is known of terms, but for each rule the size of its left side is, if that has no
+    /// variable. This pays for many terms, or for large ones.
+    pub fn of_rules(alloc: Global, by_root: &RulesByRoot) -> Result<KnownCaps, OutOfMemory>
+        ensures { IfOk result (λ known. (fixed : Bool) → IsKnown by_root.now.rules fixed known) }
+    {
+        let mut known = KnownCaps::new(alloc);
+        known.ground_sizes = ground_sizes(alloc, by_root)?;
+        Ok(known)
     }
 
     /// The id of a term, where there are many rules.
@@ -46,6 +60,7 @@ impl KnownCaps {
         by_root: &RulesByRoot,
         t: &Term,
     ) -> Result<Option<u32>, OutOfMemory>
+        ensures system { IsSystem by_root.now }
         ensures id { IfOk result (λ id. IsIdOf self.new.pool id (tree t.now)) }
         ensures known { (rules : List RewriteRule) (fixed : Bool) → IsKnown rules fixed self.old
             → OnOk result (IsKnown rules fixed self.new) }

@@ -10,6 +10,7 @@ mod holed;
 mod knowing;
 mod meeting;
 mod naming;
+mod shapes;
 
 pub use capping::{cap, tcap};
 pub use holed::{Cap, Parts};

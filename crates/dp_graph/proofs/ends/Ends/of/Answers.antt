@@ -8,7 +8,7 @@ pub loop-pair-init : goal.loop-pair-init
 loop-pair-init c = record {
   low = omega arith;
   ends = no_ends c.args.by_root.now.rules c.new-ends.result c.new-seen.result c.new-ends.ensures.firsts c.new-ends.ensures.caps c.new-seen.ensures.empty;
-  known = c.new-known.ensures c.args.by_root.now.rules false;
+  known = c.in_ok-known.ensures false;
 }
 
 pub loop-pair-preserved : goal.loop-pair-preserved
