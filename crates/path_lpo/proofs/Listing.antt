@@ -1,5 +1,5 @@
 -- Kept arguments, listed from the last one on.
-use Rattle.std.proofs.Common.{◌≡◌, ℕ, ◌-◌, ◌+◌, ◌<◌, List, [], ◌∷◌, length, drop, Some, None, slice_get, get_or, drop-cons, refl, ap, sym, ◌∙◌, add-one}
+use Rattle.std.proofs.Common.{◌≡◌, ℕ, ◌-◌, ◌+◌, ◌<◌, List, length, drop, Some, None, slice_get, get_or, refl, ap, sym, ◌∙◌}
 use Rattle.std.proofs.Math.Seq.{drop-length}
 use Rattle.trs_defs.specs.Tree.{Tree, Trees, nil, cons, trees}
 use Rattle.order_theory.specs.ArgumentFilter.{ArgumentFilter, select, filtered, filtered_all}

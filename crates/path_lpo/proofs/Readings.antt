@@ -1,16 +1,16 @@
 -- What the nodes of a graph stand for, by their numbers.
-use Rattle.std.proofs.Common.{◌≡◌, ℕ, ◌<◌, ◌≤◌, ◌⊎◌, inl, inr, List, [], ◌∷◌, ◌++◌, take, length, Option, Some, None, Result, Ok, Err, IfOk, refl, ap, ap₂, subst, sym, ◌∙◌, zero, suc, arith, slice_get, get_or, append_assoc, append-nil}
+use Rattle.std.proofs.Common.{◌≡◌, ℕ, ◌<◌, ◌≤◌, inl, inr, List, [], ◌∷◌, ◌++◌, take, length, Option, Some, None, Result, Ok, Err, IfOk, refl, ap, ap₂, subst, sym, ◌∙◌, zero, suc, arith, slice_get, append_assoc, append-nil}
 use Rattle.std.specs.Borrow.{Bor}
 use Rattle.std.specs.Option.{option_copied}
 use Rattle.std.specs.Slice.{IsItemAt}
 use Rattle.std.proofs.lemmas.List.{get_or-take, get_or_past}
 use Rattle.std.proofs.lemmas.Option.{slice_get_within, same_Some, slice_get-get_or, get_or_from_slice_get}
-use Rattle.trs_defs.specs.Tree.{Tree, Trees, var, app, nil, cons}
+use Rattle.trs_defs.specs.Tree.{Tree, Trees, app, nil, cons}
 use Rattle.trs_defs.proofs.ListItems.{item_of_more, old_item, last_item}
 use Rattle.pair_order.proofs.Placing.{copied_item}
 use Rattle.path_lpo.specs.declared.nodes.Node.{Node}
 use Rattle.path_lpo.specs.declared.nodes.Node.TheVariants.{Var, App, Nil, Cons}
-use Rattle.path_lpo.specs.Graph.{Reading, term, list, tree_of, trees_of, reading_at, reading_over, readings_over, readings, StandsFor, tree_at, list_at, bound_of, IsOver, AreOverEarlier, Keeps, root_of, split_of, root_tree, IsRootBelow, IsFirstAt, IsSplitAt}
+use Rattle.path_lpo.specs.Graph.{Reading, term, list, tree_of, trees_of, reading_at, reading_over, readings_over, readings, StandsFor, tree_at, bound_of, IsOver, AreOverEarlier, Keeps, root_of, split_of, root_tree, IsRootBelow, IsSplitAt}
 
 length_over : (rs : List Reading) (ns : List Node) → length (readings_over rs ns) ≡ length ns
 length_over rs [] = refl

@@ -1,5 +1,5 @@
 -- Comparisons that are remembered stay true.
-use Rattle.std.proofs.Common.{◌≡◌, refl, ℕ, List, Option, Some, map, ap, ap₂, subst, sym, ◌∙◌, slice_get, get_or, replicate, set}
+use Rattle.std.proofs.Common.{◌≡◌, refl, ℕ, List, Option, Some, ap, ap₂, subst, sym, ◌∙◌, slice_get, get_or, replicate, set}
 use Rattle.std.specs.Borrow.{Bor}
 use Rattle.std.specs.Option.{option_copied}
 use Rattle.std.specs.Slice.{IsItemAt}

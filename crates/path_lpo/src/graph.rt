@@ -1,6 +1,7 @@
-ghost use Rattle.std.specs.Prelude.{◌≡◌, ◌↔◌, length, slice_get, IfOk, IfSome, IsTrue};
+ghost use Rattle.std.specs.Prelude.{ℕ, ◌≡◌, ◌↔◌, length, slice_get, IfOk, IfSome, IsTrue};
 ghost use Rattle.path_lpo.specs.Graph.{AreOverEarlier, IsOver, IsRootBelow, IsSplitAt, Keeps, StandsFor, reading_over, readings, root_tree, tree_at, list_at};
 ghost use Rattle.trs_defs.specs.Tree.{count};
+ghost use Rattle.order_theory.specs.PathOrder.{SomeAtLeast};
 
 use crate::nodes::{Node, Root};
 use std::alloc::Global;
@@ -86,6 +87,33 @@ impl Graph {
             }
         }
         self.split_first(right).is_none()
+    }
+
+    /// Whether a number is among those of a list.
+    pub(crate) fn is_among(&self, n: u32, list: u32) -> bool
+        ensures { IsTrue result → (rank : ℕ → ℕ) → SomeAtLeast rank
+            (list_at self.now.nodes.items list) (tree_at self.now.nodes.items n) }
+    {
+        let mut rest = list;
+        while let Some((first, others)) = self.split_first(rest) {
+            if first == n {
+                return true;
+            }
+            rest = others;
+        }
+        false
+    }
+
+    /// Whether both are variables or symbols without arguments.
+    pub(crate) fn are_leaves(&self, s: u32, t: u32) -> bool {
+        self.is_leaf(s) && self.is_leaf(t)
+    }
+
+    fn is_leaf(&self, n: u32) -> bool {
+        match self.root(n) {
+            Root::Variable(_) => true,
+            Root::Symbol(_, args) => self.split_first(args).is_none(),
+        }
     }
 
     /// The slot where the number of a node is, or is to be put.

@@ -86,8 +86,11 @@ impl Memo {
         };
     }
 
+    /// The place of a pair: near those of near first numbers with the same second one, which are
+    /// mostly sought one after another.
     fn place(&self, s: u32, t: u32) -> usize {
-        mix(s, t) as usize & self.known.len().saturating_sub(1)
+        let place = mix(t, 0).wrapping_add(u64::from(s));
+        place as usize & self.known.len().saturating_sub(1)
     }
 }
 

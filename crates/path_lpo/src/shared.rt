@@ -54,6 +54,9 @@ fn compare_numbers<P: Precedence>(
     if s == t {
         return Comparison::Same;
     }
+    if graph.are_leaves(s, t) {
+        return compare_roots(order, graph, memo, s, t);
+    }
     if let Some(comparison) = memo.find(s, t) {
         return comparison;
     }
@@ -88,6 +91,9 @@ fn compare_roots<P: Precedence>(
             }
             Root::Symbol(g, ts) => {
                 if order.rank(g) < order.rank(f) {
+                    if graph.is_among(t, ss) {
+                        return Comparison::Greater;
+                    }
                     let exceeds = exceeds_all_numbers(order, graph, memo, s, ts);
                     return Comparison::greater_if(exceeds);
                 }

@@ -1,7 +1,7 @@
-use Rattle.std.proofs.Common.{◌<◌, ◌≤◌, ap, sym, arith, IsTrue}
-use Rattle.order_theory.specs.PathOrder.{GreaterThanAll, SomeAtLeast}
+use Rattle.std.proofs.Common.{◌<◌, ◌≤◌, ap, sym, subst, arith, IsTrue}
+use Rattle.order_theory.specs.PathOrder.{PathGreater, GreaterThanAll, SomeAtLeast, by_arg}
 use Rattle.path_lpo.specs.Graph.{tree_at, list_at}
-use Rattle.path_lpo.proofs.Walks.{variable_first, variable_second, two_variables, greater_rank, other_root, other_count, left_all, all_same, uneven, pair_same, pair_greater, pair_neither, greater_test, at_least_test, all_end, all_next, all_stop, some_end, some_next, some_stop}
+use Rattle.path_lpo.proofs.Walks.{variable_second, greater_rank, other_root, other_count, left_all, all_same, pair_same, pair_greater, pair_neither, greater_test, at_least_test, all_end, all_next, all_stop, some_end, some_next, some_stop}
 use Rattle.path_lpo.proofs.shared.+compare_numbers.Goals as goal
 
 pub compare_numbers-returns-then-s-t-clause-comparison : goal.compare_numbers-returns-then-s-t-clause-comparison
@@ -18,6 +18,12 @@ pub compare_roots-returns-in-Variable-root-2-clause-comparison : goal.compare_ro
 compare_roots-returns-in-Variable-root-2-clause-comparison g t c =
     let ns = c.args.graph.now.nodes.items in
     variable_second (g.P.Precedence.ranks c.args.order.now) c.in-Symbol.f (list_at ns c.in-Symbol.ss) (tree_at ns c.args.s) (tree_at ns c.args.t) (sym c.in-Symbol.ensures.whole) c.some_number_reaches.result c.greater_if.result c.greater_if.ensures c.in-Variable-root-2.field-0 (sym c.in-Variable-root-2.ensures.whole) c.some_number_reaches.ensures.reaches
+
+pub compare_roots-returns-then-is_among-clause-comparison : goal.compare_roots-returns-then-is_among-clause-comparison
+compare_roots-returns-then-is_among-clause-comparison g t c =
+    let r = g.P.Precedence.ranks c.args.order.now in
+    let ns = c.args.graph.now.nodes.items in
+    subst (λ u. PathGreater r u (tree_at ns c.args.t)) (sym c.in-Symbol.ensures.whole) (by_arg (c.is_among.ensures c.if-is_among.true r))
 
 pub compare_roots-returns-then-rank-clause-comparison : goal.compare_roots-returns-then-rank-clause-comparison
 compare_roots-returns-then-rank-clause-comparison g t c =

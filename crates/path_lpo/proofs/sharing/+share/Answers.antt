@@ -4,7 +4,7 @@ use Rattle.trs_defs.specs.Size.{size_of}
 use Rattle.trs_core.specs.View.{tree}
 use Rattle.order_theory.specs.ArgumentFilter.{filtered, filtered_all}
 use Rattle.path_lpo.specs.Kept.{kept_of}
-use Rattle.path_lpo.specs.Graph.{Reading, StandsFor, term, list, reading_over, readings}
+use Rattle.path_lpo.specs.Graph.{StandsFor, term, list, reading_over, readings}
 use Rattle.path_lpo.specs.declared.nodes.Node.TheVariants.{App}
 use Rattle.path_lpo.proofs.Keeping.{size_of_found}
 use Rattle.path_lpo.proofs.Listing.{listed_from, same_listed, one_listed}

@@ -2,7 +2,6 @@ use Rattle.std.proofs.Common.{◌≡◌, ℕ, Bool, true, false, ◌&&◌, nat_e
 use Rattle.path_lpo.specs.declared.nodes.Node.{Node}
 use Rattle.path_lpo.specs.declared.nodes.Node.TheVariants.{Var, App, Nil, Cons}
 use Rattle.path_lpo.specs.contracts.nodes.NodePartialEq.TheImpl.{eq-value}
-use Rattle.path_lpo.proofs.graph.Graph.found.Goals as goal
 
 same_number : (a b : ℕ) → nat_eq a b ≡ true → a ≡ b
 same_number a b e = grind arith
