@@ -11,7 +11,7 @@ use Rattle.trs_caps.specs.View.{holed}
 use Rattle.trs_caps.specs.declared.holed.Cap.{Cap}
 use Rattle.pair_theory.specs.DependencyPair.{DependencyPair, dependency_pairs}
 use Rattle.dp_graph.specs.GraphNodes.{SharesEnd, IsCapAt, IsEndAt, IsEndOf}
-use Rattle.dp_graph.specs.RightCaps.{Key, key_cmp, IsSeen, Pushes, AddsCap, AddsEnd, AreEnds}
+use Rattle.dp_graph.specs.RightCaps.{Key, key_cmp, IsSeen, Pushes, AddsCap, AddsEnd, AddsPair, AreEnds}
 use Rattle.dp_graph.specs.declared.ends.Ends.{Ends}
 use Rattle.dp_graph.proofs.ListPlaces.{last_or_there, still_there}
 
@@ -77,6 +77,14 @@ module _ (rules : List RewriteRule) (old new : Ends) (before after : BTreeMap Ke
 
   pub one_more_end : AddsEnd rules p.to old new before after → EndsSoFar rules new after (k + 1)
   one_more_end (cap, is, adds) = one_more_cap cap is adds
+
+  -- a pair with the right side of pair number n
+  pub one_more_pair : (n : ℕ) (q : DependencyPair) → slice_get (dependency_pairs rules) n ≡ Some q → q.to ≡ p.to → AddsPair rules p.to n old new before after → EndsSoFar rules new after (k + 1)
+  one_more_pair n q there same (inl adds) =
+      let (c, is, kept) = so_far.each n adds.first q adds.at there in
+      pushed adds.first None adds.pushes (c, subst (λ side. IsEndOf rules side c) same is, cap_stays rules old.caps.items new.caps.items None adds.first c adds.pushes.caps kept)
+      (λ d j seen. cap_stays rules old.caps.items new.caps.items None j d adds.pushes.caps (so_far.noted d j (subst (λ z. IsSeen z d j) adds.same seen)))
+  one_more_pair n q there same (inr adds) = one_more_end adds
 
 pub all_ends : (rules : List RewriteRule) (ends : Ends) (seen : BTreeMap Key ℕ) (k : ℕ) → EndsSoFar rules ends seen k → k ≡ length (dependency_pairs rules) → AreEnds rules ends
 all_ends rules ends seen k so_far whole = record { count = so_far.count ∙ whole; each = so_far.each }

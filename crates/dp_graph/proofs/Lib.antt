@@ -19,6 +19,7 @@ pub mod LeaderLaws
 pub mod ReversedLaws
 pub mod RowLaws
 pub mod LeftLaws
+pub mod RightLaws
 pub mod CapKeys
 pub mod EndLaws
 pub mod WaitingLaws

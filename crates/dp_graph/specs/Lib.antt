@@ -19,5 +19,6 @@ pub mod PlaceLists
 pub mod Waiting
 pub mod Components
 pub mod SameLefts
+pub mod SameRights
 pub mod RightCaps
 pub mod RightPlaces

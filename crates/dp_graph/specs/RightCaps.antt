@@ -60,6 +60,17 @@ AddsCap cap old new before after = AddsSeen cap old new before after ⊎ AddsNew
 abbrev pub AddsEnd : List RewriteRule → Marked → Ends → Ends → BTreeMap Key ℕ → BTreeMap Key ℕ → Type 0
 AddsEnd rules side old new before after = (cap : Cap) × IsEndOf rules side (holed cap) × AddsCap cap old new before after
 
+-- one pair more has the cap of pair number n
+pub record AddsAs (n : ℕ) (old new : Ends) (before after : BTreeMap Key ℕ) : Type 0 where
+  pub first : ℕ
+  pub at : slice_get old.firsts.items n ≡ Some first
+  pub pushes : Pushes first None old new
+  pub same : after ≡ before
+
+-- one pair more has the cap of pair number n, or of the side
+abbrev pub AddsPair : List RewriteRule → Marked → ℕ → Ends → Ends → BTreeMap Key ℕ → BTreeMap Key ℕ → Type 0
+AddsPair rules side n old new before after = AddsAs n old new before after ⊎ AddsEnd rules side old new before after
+
 -- each pair has the number of one with its cap, where that is kept
 pub record AreEnds (rules : List RewriteRule) (ends : Ends) : Type 0 where
   pub count : length ends.firsts.items ≡ length (dependency_pairs rules)

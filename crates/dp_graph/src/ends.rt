@@ -4,7 +4,8 @@ ghost use Rattle.trs_caps.specs.KnownCaps.{IsKnown};
 ghost use Rattle.trs_caps.specs.View.{holed};
 ghost use Rattle.pair_theory.specs.DependencyPair.{dependency_pairs};
 ghost use Rattle.dp_graph.specs.GraphNodes.{IsEndOf};
-ghost use Rattle.dp_graph.specs.RightCaps.{AreEnds, AddsEnd, AddsCap, Pushes, key_of};
+ghost use Rattle.dp_graph.specs.RightCaps.{AreEnds, AddsPair, AddsEnd, AddsCap, Pushes, key_of};
+ghost use Rattle.dp_graph.specs.SameRights.{AreRights};
 
 use dp_core::{Side, Sides};
 use std::alloc::Global;
@@ -23,20 +24,23 @@ pub(crate) struct Ends {
 }
 
 impl Ends {
-    /// The caps of the right sides of all pairs.
+    /// The caps of the right sides of all pairs, by the numbers of pairs with the same right sides.
     pub(crate) fn of(
         alloc: Global,
         by_root: &RulesByRoot,
         pairs: &[Sides],
+        rights: &[usize],
     ) -> Result<Ends, OutOfMemory>
-        requires { pairs.now ≡ dependency_pairs by_root.now.rules }
+        requires pairs { pairs.now ≡ dependency_pairs by_root.now.rules }
+        requires rights { AreRights (dependency_pairs by_root.now.rules) rights.now }
         ensures { IfOk result (AreEnds by_root.now.rules) }
     {
         let mut known = KnownCaps::of_rules(alloc, by_root)?;
         let mut seen = BTreeMap::new(alloc);
         let mut ends = Ends::new(alloc);
-        for pair in pairs {
-            ends.add(alloc, by_root, pair, &mut known, &mut seen)?;
+        for (k, pair) in pairs.iter().enumerate() {
+            let right = rights[k];
+            ends.add_pair(alloc, by_root, pair, right, &mut known, &mut seen)?;
         }
         Ok(ends)
     }
@@ -49,6 +53,30 @@ impl Ends {
             firsts: Vec::new(alloc),
             caps: Vec::new(alloc),
         }
+    }
+
+    /// Adds the cap of the right side of one pair more. If pair number `right` was added, it is that
+    /// of this one, and no cap is made.
+    fn add_pair(
+        &mut self,
+        alloc: Global,
+        by_root: &RulesByRoot,
+        pair: &Sides,
+        right: usize,
+        known: &mut KnownCaps,
+        seen: &mut BTreeMap<Vec<u32>, usize>,
+    ) -> Result<(), OutOfMemory>
+        requires { IsKnown by_root.now.rules false known.old }
+        ensures end { OnOk result
+            (AddsPair by_root.now.rules pair.now.to right self.old self.new seen.old seen.new) }
+        ensures known { OnOk result (IsKnown by_root.now.rules false known.new) }
+    {
+        if let Some(first) = self.firsts.get(right) {
+            let first = *first;
+            self.push(first, None)?;
+            return Ok(());
+        }
+        self.add(alloc, by_root, pair, known, seen)
     }
 
     /// Adds the cap of the right side of one pair more.

@@ -9,6 +9,7 @@ ghost use Rattle.dp_graph.specs.GraphNodes.{SharesEnd, IsEndFor, IsNodeOf, IsNod
 
 use crate::ends::Ends;
 use crate::lefts::first_with_left;
+use crate::rights::first_with_right;
 use dp_core::{DpPair, Pairs, Side, Sides, dependency_pairs, placed_pairs_are_the_pairs};
 use std::alloc::Global;
 use std::marker::Model;
@@ -70,7 +71,8 @@ impl<'a> PairGraph<'a> {
         let pairs = Pairs::of(alloc, trs, all)?;
         let by_root = RulesByRoot::new(alloc, trs)?;
         let lefts = first_with_left(alloc, rules)?;
-        let ends = Ends::of(alloc, &by_root, pairs.sides())?;
+        let rights = first_with_right(alloc, rules, all)?;
+        let ends = Ends::of(alloc, &by_root, pairs.sides(), &rights)?;
         let Ends { firsts, caps } = ends;
         let mut nodes = Vec::with_capacity(alloc, all.len())?;
         for (k, p) in all.iter().enumerate() {

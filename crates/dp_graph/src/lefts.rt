@@ -22,7 +22,11 @@ pub(crate) fn first_with_left(alloc: Global, rules: &[Rule]) -> Result<Vec<usize
 }
 
 /// The number that is noted of an id, or else this one, which is noted then.
-fn noted_or(seen: &mut BTreeMap<u32, usize>, id: u32, k: usize) -> Result<usize, OutOfMemory>
+pub(crate) fn noted_or(
+    seen: &mut BTreeMap<u32, usize>,
+    id: u32,
+    k: usize,
+) -> Result<usize, OutOfMemory>
     ensures number { IfOk result (IsNotedOr seen.old id k) }
     ensures notes { OnOk result (NotesAt id k seen.old seen.new) }
 {

@@ -22,6 +22,7 @@ mod onward;
 mod ordering;
 mod places;
 mod reversed;
+mod rights;
 mod rows;
 mod singles;
 mod waiting;

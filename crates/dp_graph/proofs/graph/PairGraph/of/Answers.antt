@@ -8,9 +8,11 @@ use Rattle.dp_core.proofs.PairSides.{pair_there}
 use Rattle.dp_graph.specs.GraphNodes.{IsNodeOf, IsEndAt, SharesEnd}
 use Rattle.dp_graph.specs.RightCaps.{AreEnds}
 use Rattle.dp_graph.specs.SameLefts.{HaveSameLefts}
+use Rattle.dp_graph.specs.SameRights.{AreRights}
 use Rattle.dp_graph.proofs.NodeLists.{item_is, no_nodes, one_more_node}
 use Rattle.dp_graph.proofs.LeftLaws.{first_within, first_below, first_rule}
 use Rattle.dp_graph.proofs.EndLaws.{shares_end}
+use Rattle.dp_graph.proofs.RightLaws.{are_rights}
 use Rattle.dp_graph.proofs.graph.PairGraph.of.Goals.{In_ok-ends, After-p}
 use Rattle.dp_graph.proofs.graph.PairGraph.of.Goals as goal
 
@@ -24,7 +26,12 @@ its_pair : (c : After-p) → (pair : DependencyPair) × (slice_get (dependency_p
 its_pair c = pair_there c.placed_pairs_are_the_pairs.ensures.all c.placed_pairs_are_the_pairs.ensures.order c.args.trs.now c.rules-rules.ensures.valid c.args.all.now c.requires c.loop-k.k c.index-all-k.result c.loop-k-test.true c.index-all-k.is
 
 pub of-requires-2 : goal.of-requires-2
-of-requires-2 c = c.sides.ensures ∙ (c.in_ok-pairs.ensures ∙ ap (λ (z : System). dependency_pairs z.rules) (sym c.in_ok-by_root.ensures))
+of-requires-2 c = record {
+  pairs = c.sides.ensures ∙ (c.in_ok-pairs.ensures ∙ ap (λ (z : System). dependency_pairs z.rules) (sym c.in_ok-by_root.ensures));
+  rights = subst (λ (z : System). AreRights (dependency_pairs z.rules) c.deref.result.now) (sym c.in_ok-by_root.ensures)
+      (are_rights c.placed_pairs_are_the_pairs.ensures.all c.placed_pairs_are_the_pairs.ensures.order c.args.trs.now c.rules-rules.ensures.valid c.args.all.now c.requires c.deref.result.now
+      (rw c.deref.ensures.value (rw c.rules-rules.ensures.rules at c.in_ok-rights.ensures)));
+}
 
 pub index-number-requires : goal.index-number-requires
 index-number-requires c =
