@@ -1,52 +1,36 @@
 -- Components that wait for others, one edge after another.
-use Rattle.std.specs.Prelude.{◌≡◌, ◌<◌, ◌≤◌, ◌↔◌, ◌⊎◌, ℕ, ◌+◌, Bool, true, false, IsTrue, IsSome, IfSome, List, [], ◌∷◌, ◌++◌, length, take, get_or, Option, Some, None, slice_get, slice_set, refl}
+use Rattle.std.specs.Prelude.{◌≡◌, ◌<◌, ◌≤◌, ◌↔◌, ◌⊎◌, ℕ, ◌+◌, ◌==◌, Bool, true, false, IsTrue, IsSome, IfSome, List, [], ◌∷◌, ◌++◌, length, take, get_or, Option, Some, None, slice_get, slice_set, refl}
 use Rattle.std.specs.Ordering.{nat_cmp, is_gt, is_lt}
-use Rattle.std.specs.List.{list_any}
-use Rattle.std.specs.BTreeMap.{is_at}
 use Rattle.std.specs.BTreeSet.{BTreeSet, contains, Updates}
-use Rattle.std.proofs.Common.{zero, suc, inl, inr, sym, ap, subst, arith, ◌∙◌}
+use Rattle.std.proofs.Common.{inl, inr, sym, ap, subst, arith, ◌∙◌}
 use Rattle.std.proofs.lemmas.Grind.{common_steps}
+use Rattle.std.proofs.lemmas.Bool.{eqb-true, eq-eqb}
 use Rattle.std.proofs.lemmas.List.{take_all}
 use Rattle.std.proofs.lemmas.Option.{same_Some, slice_get_within, slice_get_read}
 use native.Mathlib.Decide.{dec_lt, ℕ_discrete}
-use Rattle.trs_defs.specs.Member.{In}
-use Rattle.trs_defs.proofs.Members.{no_in}
+use Rattle.trs_defs.specs.Member.{In, in_first}
+use Rattle.trs_defs.proofs.Members.{no_in, in_left, in_right, in_either}
+use Rattle.trs_defs.proofs.ListItems.{item_there}
+use Rattle.dp_graph.specs.GraphConditions.{lists_of}
+use Rattle.dp_graph.specs.PlaceLists.{AreEmpty, PutsBehind}
 use Rattle.dp_graph.specs.PutOut.{ComesBefore}
-use Rattle.dp_graph.specs.Waiting.{Has, HasAt, Sets, AreNone, Adds, OneEdge, RowEdges, LeadsTo, AllEdges, IsFreeLeader, IsReadySet, AddsIf, TakesOut, Releases, IsOne, OfRow, OfRows}
+use Rattle.dp_graph.specs.Rows.{Follows}
+use Rattle.dp_graph.specs.Waiting.{Has, Sets, Adds, OneEdge, RowEdges, LeadsTo, AllEdges, IsFreeLeader, IsReadySet, AddsIf, WaitsFor, WaitsForNone, WaitAlike, TakesOut, Trims, IsOut, LooksAt, Releases, Other, IsOne, OfRow, OfRows}
 use Rattle.dp_graph.specs.declared.waiting.Waiting.{Waiting}
 use Rattle.dp_graph.proofs.FoundLaws.{taken_more, more_taken}
-use Rattle.dp_graph.proofs.ListPlaces.{length_set, set_here, set_elsewhere, set_cases, last_or_there, length_more}
-use Rattle.dp_graph.proofs.Sets.{at_itself, at_number, at_others, true_is_not_false, none_in_empty, no_keys}
+use Rattle.dp_graph.proofs.ListPlaces.{length_set, set_here, set_elsewhere, set_cases, set_at, in_single, lists_length, lists_set, row_at}
+use Rattle.dp_graph.proofs.ReversedLaws.{put_follows}
+use Rattle.dp_graph.proofs.Sets.{at_number, at_others, true_is_not_false, none_in_empty, no_keys}
 
--- ---- sets by places
+-- ---- sets and lists
 
-pub dec_has : (sets : List (BTreeSet ℕ)) (l k : ℕ) → Dec (HasAt sets l k)
-dec_has [] l k = no (λ h. let e = h.1 in cc)
-dec_has (s ∷ sets) zero k = go (contains nat_cmp s k) refl
-  where
-    go : (b : Bool) → contains nat_cmp s k ≡ b → Dec (HasAt (s ∷ sets) zero k)
-    go true e = yes (s, refl, e)
-    go false e = no (λ h. true_is_not_false (contains nat_cmp s k) (subst (λ z. Has z k) (sym (same_Some s h.0 h.1)) h.2) e)
-dec_has (s ∷ sets) (suc l) k = dec_has sets l k
+pub no_items : (xs : List ℕ) → length xs ≡ 0 → xs ≡ []
+no_items [] e = refl
+no_items (x ∷ xs) e = absurd (omega (arith, e))
 
-pub has_none : (set : BTreeSet ℕ) (k : ℕ) → set.keys ≡ [] → Has set k → ⊥
-has_none set k none h = none_in_empty set k none h
-
-pub has_first : (set : BTreeSet ℕ) (k : ℕ) (keys : List ℕ) → set.keys ≡ k ∷ keys → Has set k
-has_first set k keys e = ap (λ ks. list_any (is_at (nat_cmp k)) ks) e ∙ rw (at_itself k) refl
-
-pub no_members : (set : BTreeSet ℕ) → ((k : ℕ) → Has set k → ⊥) → set.keys ≡ []
-no_members set none = go set.keys refl
-  where
-    go : (keys : List ℕ) → set.keys ≡ keys → set.keys ≡ []
-    go [] e = e
-    go (k ∷ keys) e = absurd (none k (has_first set k keys e))
-
-pub last_taken : (set now : BTreeSet ℕ) (v : ℕ) (was empty : Bool) → was ≡ contains nat_cmp set v → was ≡ true → IsTrue empty ↔ (length now.keys ≡ 0) → IsTrue empty ↔ (Has set v × ((k : ℕ) → Has now k → ⊥))
-last_taken set now v was empty test is_in says = (
-  λ e. (sym test ∙ is_in, λ k h. has_none now k (no_keys now.keys (λ lt. let z = says.0 e in omega (arith, z, lt))) h),
-  λ h. says.1 (ap length (no_members now h.1)),
-)
+pub none_listed : (xs : List ℕ) → ((k : ℕ) → In k xs → ⊥) → length xs ≡ 0
+none_listed [] h = refl
+none_listed (x ∷ xs) h = absurd (h x in_first)
 
 module _ (set now : BTreeSet ℕ) (v : ℕ) (sets : Sets set now v false) where
   pub was_in : (k : ℕ) → Has now k → Has set k
@@ -82,53 +66,22 @@ not_added b v old is_false l = (λ h. inl h, λ h. elim h [ inl i ↦ i | inr e 
 
 -- ---- what is waited for at first
 
-pub none_at_first : AreNone 0 []
-none_at_first = record { count = refl; none = λ l k h. let e = h.1 in absurd cc }
-
-pub one_none_more : (sets new : List (BTreeSet ℕ)) (set : BTreeSet ℕ) (n : ℕ) → new ≡ sets ++ set ∷ [] → set.keys ≡ [] → AreNone n sets → AreNone (n + 1) new
-one_none_more sets new set n grown none before =
-    subst (AreNone (n + 1)) (sym grown) (record {
-      count = (let c = before.count in let l = length_more sets set in omega (arith, c, l));
-      none = λ l k h. elim (last_or_there sets set h.0 l h.1) [
-        | inl e ↦ before.none l k (h.0, e, h.2)
-        | inr e ↦ none_in_empty set k none (subst (λ z. Has z k) (sym e.1) h.2)
-      ];
-    })
-
-pub edge_added : (sets : List (BTreeSet ℕ)) (from to : ℕ) (set now : BTreeSet ℕ) → to < length sets → set ≡ get_or sets to set → (from ≡ to → ⊥) → Sets set now from true
-    → Adds (OneEdge from to) sets (slice_set sets to now)
-edge_added sets from to set now lt is differ adds = record {
-  count = length_set sets to now;
+pub edge_added : (lists new : List (List ℕ)) (from to : ℕ) → to < length lists → (from ≡ to → ⊥) → PutsBehind lists new to from → Adds (OneEdge from to) lists new
+edge_added lists new from to lt differ puts = record {
+  count = puts.count;
   exact = λ l k. (
-    λ h. elim (set_cases sets to l now h.0 h.1) [
-      | inl e ↦ elim (in_or_new set now from adds k (subst (λ z. Has z k) (sym e.1) h.2)) [
-        | inl i ↦ inl (set, subst (λ z. slice_get sets z ≡ Some set) (sym e.0) at, i)
-        | inr same ↦ inr (e.0, same, differ)
-      ]
-      | inr e ↦ inl (h.0, e.1, h.2)
-    ],
-    λ h. go l k h (ℕ_discrete l to),
+    λ f. elim ((put_follows lists new to from lt puts l k).0 f) [ inl g ↦ inl g | inr g ↦ inr (g.0, g.1, differ) ],
+    λ h. (put_follows lists new to from lt puts l k).1 (elim h [ inl g ↦ inl g | inr g ↦ inr (g.0, g.1) ]),
   );
 }
-  where
-    at : slice_get sets to ≡ Some set
-    at = slice_get_read sets _ to set refl lt is
 
-    go : (l k : ℕ) → HasAt sets l k ⊎ OneEdge from to l k → Dec (l ≡ to) → HasAt (slice_set sets to now) l k
-    go l k (inl (s, e, i)) (yes same) =
-        let s_is : s ≡ set = same_Some s set (sym (subst (λ z. slice_get sets z ≡ Some s) same e) ∙ at) in
-        (now, subst (λ z. slice_get (slice_set sets to now) z ≡ Some now) (sym same) (set_here sets to now lt), new_in set now from adds k (inl (subst (λ z. Has z k) s_is i)))
-    go l k (inl (s, e, i)) (no other) = (s, set_elsewhere sets to l now other ∙ e, i)
-    go l k (inr (same, k_is, d)) dec =
-        (now, subst (λ z. slice_get (slice_set sets to now) z ≡ Some now) (sym same) (set_here sets to now lt), new_in set now from adds k (inr k_is))
+pub no_edge_added : (lists : List (List ℕ)) (from to : ℕ) → from ≡ to → Adds (OneEdge from to) lists lists
+no_edge_added lists from to same = record { count = refl; exact = λ l k. (λ h. inl h, λ h. elim h [ inl i ↦ i | inr e ↦ absurd (e.2 same) ]) }
 
-pub no_edge_added : (sets : List (BTreeSet ℕ)) (from to : ℕ) → from ≡ to → Adds (OneEdge from to) sets sets
-no_edge_added sets from to same = record { count = refl; exact = λ l k. (λ h. inl h, λ h. elim h [ inl i ↦ i | inr e ↦ absurd (e.2 same) ]) }
+pub no_row_added : (row : List ℕ) (from : ℕ) (leaders : List ℕ) (lists : List (List ℕ)) → Adds (RowEdges (take 0 row) from leaders) lists lists
+no_row_added row from leaders lists = record { count = refl; exact = λ l k. (λ h. inl h, λ h. elim h [ inl i ↦ i | inr e ↦ absurd (no_in e.1) ]) }
 
-pub no_row_added : (row : List ℕ) (from : ℕ) (leaders : List ℕ) (sets : List (BTreeSet ℕ)) → Adds (RowEdges (take 0 row) from leaders) sets sets
-no_row_added row from leaders sets = record { count = refl; exact = λ l k. (λ h. inl h, λ h. elim h [ inl i ↦ i | inr e ↦ absurd (no_in e.1) ]) }
-
-pub row_more : (row leaders : List ℕ) (from i x to : ℕ) (old mid new : List (BTreeSet ℕ)) → i < length row → x ≡ get_or row i 0 → slice_get leaders x ≡ Some to
+pub row_more : (row leaders : List ℕ) (from i x to : ℕ) (old mid new : List (List ℕ)) → i < length row → x ≡ get_or row i 0 → slice_get leaders x ≡ Some to
     → Adds (RowEdges (take i row) from leaders) old mid → Adds (OneEdge from to) mid new → Adds (RowEdges (take (i + 1) row) from leaders) old new
 row_more row leaders from i x to old mid new lt is led before adds = record {
   count = adds.count ∙ before.count;
@@ -152,20 +105,20 @@ row_more row leaders from i x to old mid new lt is led before adds = record {
   );
 }
 
-pub all_row : (row leaders : List ℕ) (from i : ℕ) (old new : List (BTreeSet ℕ)) → length row ≤ i → Adds (RowEdges (take i row) from leaders) old new → Adds (RowEdges row from leaders) old new
+pub all_row : (row leaders : List ℕ) (from i : ℕ) (old new : List (List ℕ)) → length row ≤ i → Adds (RowEdges (take i row) from leaders) old new → Adds (RowEdges row from leaders) old new
 all_row row leaders from i old new ge adds = subst (λ z. Adds (RowEdges z from leaders) old new) (take_all i row ge) adds
 
-pub record EdgesSoFar (rows : List (List ℕ)) (leaders : List ℕ) (sets : List (BTreeSet ℕ)) (i : ℕ) : Type 0 where
-  pub count : length sets ≡ length leaders
-  pub exact : (l k : ℕ) → HasAt sets l k ↔ ((e : LeadsTo rows leaders l k) × (e.from < i))
+pub record EdgesSoFar (rows : List (List ℕ)) (leaders : List ℕ) (lists : List (List ℕ)) (i : ℕ) : Type 0 where
+  pub count : length lists ≡ length leaders
+  pub exact : (l k : ℕ) → Follows lists l k ↔ ((e : LeadsTo rows leaders l k) × (e.from < i))
 
-pub no_edges : (rows : List (List ℕ)) (leaders : List ℕ) (sets : List (BTreeSet ℕ)) (n : ℕ) → n ≡ length leaders → AreNone n sets → EdgesSoFar rows leaders sets 0
-no_edges rows leaders sets n size none = record {
+pub no_edges : (rows : List (List ℕ)) (leaders : List ℕ) (lists : List (List ℕ)) (n : ℕ) → n ≡ length leaders → AreEmpty n lists → EdgesSoFar rows leaders lists 0
+no_edges rows leaders lists n size none = record {
   count = none.count ∙ size;
-  exact = λ l k. (λ h. absurd (none.none l k h), λ h. absurd (let lt = h.1 in omega (arith, lt)));
+  exact = λ l k. (λ (list, at, i). absurd (no_in (subst (In k) (none.none l list at) i)), λ h. absurd (let lt = h.1 in omega (arith, lt)));
 }
 
-pub edges_more : (rows : List (List ℕ)) (leaders : List ℕ) (old new : List (BTreeSet ℕ)) (i from : ℕ) (row : List ℕ) → slice_get rows i ≡ Some row → slice_get leaders i ≡ Some from
+pub edges_more : (rows : List (List ℕ)) (leaders : List ℕ) (old new : List (List ℕ)) (i from : ℕ) (row : List ℕ) → slice_get rows i ≡ Some row → slice_get leaders i ≡ Some from
     → Adds (RowEdges row from leaders) old new → EdgesSoFar rows leaders old i → EdgesSoFar rows leaders new (i + 1)
 edges_more rows leaders old new i from row at led adds before = record {
   count = adds.count ∙ before.count;
@@ -195,8 +148,8 @@ edges_more rows leaders old new i from row at led adds before = record {
   );
 }
 
-pub all_edges : (rows : List (List ℕ)) (leaders : List ℕ) (sets : List (BTreeSet ℕ)) (i : ℕ) → length rows ≤ i → EdgesSoFar rows leaders sets i → AllEdges rows leaders sets
-all_edges rows leaders sets i ge so_far = record {
+pub all_edges : (rows : List (List ℕ)) (leaders : List ℕ) (lists : List (List ℕ)) (i : ℕ) → length rows ≤ i → EdgesSoFar rows leaders lists i → AllEdges rows leaders lists
+all_edges rows leaders lists i ge so_far = record {
   count = so_far.count;
   exact = λ l k. (
     λ h. ((so_far.exact l k).0 h).0,
@@ -226,9 +179,9 @@ ready_more free old new i b says adds before l = (
   ]),
 )
 
-pub all_ready : (leaders : List ℕ) (sets : List (BTreeSet ℕ)) (set : BTreeSet ℕ) (i : ℕ) → length leaders ≤ i → ReadySoFar (IsFreeLeader leaders sets) set i → IsReadySet (IsFreeLeader leaders sets) set
+pub all_ready : (leaders : List ℕ) (lists : List (List ℕ)) (set : BTreeSet ℕ) (i : ℕ) → length leaders ≤ i → ReadySoFar (IsFreeLeader leaders lists) set i → IsReadySet (IsFreeLeader leaders lists) set
 unfolding ReadySoFar
-all_ready leaders sets set i ge so_far l = (
+all_ready leaders lists set i ge so_far l = (
   λ h. ((so_far l).0 h).0,
   λ f. (so_far l).1 (f, (let w = slice_get_within leaders l l f.0 in omega (arith, w, ge))),
 )
@@ -241,10 +194,10 @@ not_above v q h = grind (arith, common_steps)
 not_below : (v q : ℕ) → is_lt (nat_cmp v q) ≡ false → q ≤ v
 not_below v q h = grind (arith, common_steps)
 
-pub nothing_taken : (pairs : ℕ) (old new : Waiting) → old.ready.keys ≡ [] → new.blockers ≡ old.blockers → TakesOut pairs old new None
+pub nothing_taken : (pairs : ℕ) (old new : Waiting) → old.ready.keys ≡ [] → WaitAlike old new → TakesOut pairs old new None
 nothing_taken pairs old new none same = (λ l h. none_in_empty old.ready l none h, same)
 
-pub one_taken_out : (pairs : ℕ) (old new : Waiting) (v : ℕ) → Has old.ready v → ((l : ℕ) → Has old.ready l → ComesBefore pairs l v → ⊥) → Sets old.ready new.ready v false → new.blockers ≡ old.blockers
+pub one_taken_out : (pairs : ℕ) (old new : Waiting) (v : ℕ) → Has old.ready v → ((l : ℕ) → Has old.ready l → ComesBefore pairs l v → ⊥) → Sets old.ready new.ready v false → WaitAlike old new
     → TakesOut pairs old new (Some v)
 one_taken_out pairs old new v there first sets same = (
   there,
@@ -260,7 +213,7 @@ no_key : (old : Waiting) → false ≡ true ↔ (0 < length old.ready.keys) → 
 no_key old variant = no_keys old.ready.keys (λ lt. let h : false ≡ true = variant.1 lt in absurd cc)
 
 -- the least, where all are pairs
-pub takes_first : (pairs : ℕ) (old new : Waiting) (result : Option ℕ) → ((l : ℕ) → Has old.ready l → l < pairs) → new.blockers ≡ old.blockers → IsSome result ↔ (0 < length old.ready.keys)
+pub takes_first : (pairs : ℕ) (old new : Waiting) (result : Option ℕ) → ((l : ℕ) → Has old.ready l → l < pairs) → WaitAlike old new → IsSome result ↔ (0 < length old.ready.keys)
     → IfSome result (λ v. Has old.ready v) → IfSome result (λ v. (q : ℕ) → Has old.ready q → is_gt (nat_cmp v q) ≡ false) → IfSome result (λ v. Sets old.ready new.ready v false) → TakesOut pairs old new result
 takes_first pairs old new None few same variant has least sets = nothing_taken pairs old new (no_key old variant) same
 takes_first pairs old new (Some v) few same variant has least sets = one_taken_out pairs old new v has
@@ -268,7 +221,7 @@ takes_first pairs old new (Some v) few same variant has least sets = one_taken_o
     sets same
 
 -- the greatest, where some is no pair
-pub takes_last : (pairs : ℕ) (old new : Waiting) (result : Option ℕ) → ((l : ℕ) × Has old.ready l × pairs ≤ l) → new.blockers ≡ old.blockers → IsSome result ↔ (0 < length old.ready.keys)
+pub takes_last : (pairs : ℕ) (old new : Waiting) (result : Option ℕ) → ((l : ℕ) × Has old.ready l × pairs ≤ l) → WaitAlike old new → IsSome result ↔ (0 < length old.ready.keys)
     → IfSome result (λ v. Has old.ready v) → IfSome result (λ v. (q : ℕ) → Has old.ready q → is_lt (nat_cmp v q) ≡ false) → IfSome result (λ v. Sets old.ready new.ready v false) → TakesOut pairs old new result
 takes_last pairs old new None some same variant has greatest sets = nothing_taken pairs old new (no_key old variant) same
 takes_last pairs old new (Some v) (l, h, ge) same variant has greatest sets = one_taken_out pairs old new v has
@@ -278,130 +231,204 @@ pub first_update : (old new : BTreeSet ℕ) (result : Option ℕ) → IfSome res
 first_update old new None h = h
 first_update old new (Some v) h = h.0
 
-pub free_leader : (leaders : List ℕ) (sets : List (BTreeSet ℕ)) (v : ℕ) (set : BTreeSet ℕ) (empty : Bool) → slice_get leaders v ≡ Some v → v < length sets → set ≡ get_or sets v set
-    → IsTrue empty ↔ (length set.keys ≡ 0) → IsTrue empty ↔ IsFreeLeader leaders sets v
-free_leader leaders sets v set empty own small is says = (
-  λ e. (
-    own,
-    λ k h. has_none set k (no_keys set.keys (λ some. let z = says.0 e in omega (arith, z, some))) (subst (λ z. Has z k) (same_Some h.0 set (sym h.1 ∙ at)) h.2),
-  ),
-  λ h. says.1 (ap length (no_members set (λ k i. h.1 k (set, at, i)))),
+pub free_leader : (leaders : List ℕ) (lists : List (List ℕ)) (v : ℕ) (list : List ℕ) (n : ℕ) (empty : Bool) → slice_get leaders v ≡ Some v → slice_get lists v ≡ Some list → n ≡ length list → empty ≡ (n == 0)
+    → IsTrue empty ↔ IsFreeLeader leaders lists v
+free_leader leaders lists v list n empty own at size says = (
+  λ e. (own, λ k (row, is, i). no_in (subst (In k) (same_Some row list (sym is ∙ at) ∙ no_items list (sym size ∙ eqb-true n 0 (sym says ∙ e))) i)),
+  λ h. says ∙ eq-eqb n 0 (size ∙ none_listed list (λ k i. h.1 k (list, at, i))),
 )
+
+pub no_free_leader : (leaders : List ℕ) (lists : List (List ℕ)) (v l : ℕ) → slice_get leaders v ≡ Some l → (l ≡ v → ⊥) → IsTrue false ↔ IsFreeLeader leaders lists v
+no_free_leader leaders lists v l at other = (λ e. absurd cc, λ h. absurd (other (same_Some l v (sym at ∙ h.0))))
+
+-- ---- lists without those that are put out
+
+-- what is left of a list while those that are put out are taken off its end
+pub record TrimsSoFar (out : List Bool) (old now : List ℕ) : Type 0 where
+  pub less : (k : ℕ) → In k now → In k old
+  pub kept : (k : ℕ) → In k old → (IsOut out k → ⊥) → In k now
+
+pub all_left : (out : List Bool) (list : List ℕ) → TrimsSoFar out list list
+all_left out list = record { less = λ k i. i; kept = λ k i h. i }
+
+module _ (out : List Bool) (old now shorter : List ℕ) (x : ℕ) (ends : now ≡ shorter ++ x ∷ []) (so_far : TrimsSoFar out old now) where
+  pub one_taken_off : IsOut out x → TrimsSoFar out old shorter
+  one_taken_off is_out = record {
+    less = λ k i. so_far.less k (subst (In k) (sym ends) (in_left (x ∷ []) i));
+    kept = λ k i in_use. elim (in_either shorter (x ∷ []) (subst (In k) ends (so_far.kept k i in_use))) [
+      | inl h ↦ h
+      | inr h ↦ absurd (in_use (subst (IsOut out) (sym (in_single h)) is_out))
+    ];
+  }
+
+  -- the last one that is not put out goes back
+  pub last_put_back : (new : List ℕ) → new ≡ shorter ++ x ∷ [] → (IsOut out x → ⊥) → Trims out old new false
+  last_put_back new back in_use = record {
+    less = λ k i. so_far.less k (subst (In k) (back ∙ sym ends) i);
+    kept = λ k i h. subst (In k) (ends ∙ sym back) (so_far.kept k i h);
+    none_left = (λ e. absurd cc, λ h. absurd (in_use (h x (subst (In x) (sym back) (in_right shorter in_first)))));
+  }
+
+pub all_taken_off : (out : List Bool) (old now final : List ℕ) → now ≡ final ++ [] → length final ≡ 0 → TrimsSoFar out old now → Trims out old final true
+all_taken_off out old now final ends empty so_far = record {
+  less = λ k i. absurd (no_in (subst (In k) none i));
+  kept = λ k i h. absurd (no_in (subst (In k) (ends ∙ ap (λ z. z ++ []) none) (so_far.kept k i h)));
+  none_left = (λ e k i. absurd (no_in (subst (In k) none i)), λ h. refl);
+}
   where
-    at : slice_get sets v ≡ Some set
-    at = slice_get_read sets _ v set refl small is
+    none : final ≡ []
+    none = no_items final empty
 
-pub no_free_leader : (leaders : List ℕ) (sets : List (BTreeSet ℕ)) (v l : ℕ) → slice_get leaders v ≡ Some l → (l ≡ v → ⊥) → IsTrue false ↔ IsFreeLeader leaders sets v
-no_free_leader leaders sets v l at other = (λ e. absurd cc, λ h. absurd (other (same_Some l v (sym at ∙ h.0))))
+-- ---- leaders that are looked at
 
-pub releases_none : (a : Waiting) (v : ℕ) (S : ℕ → Type 0) → ((l : ℕ) → S l → ⊥) → Releases a a v S
-releases_none a v S h = record {
+pub looks_at_none : (a : Waiting) (S : ℕ → Type 0) → ((l : ℕ) → S l → ⊥) → LooksAt a a S
+looks_at_none a S none = record {
   count = refl;
-  shrinks = λ l k i. i;
-  keeps = λ l k d i. i;
-  releases = λ l s. absurd (h l s);
-  kept = λ l i. i;
-  ready = λ l i. inl i;
-  all = λ l i none. absurd (none v i);
+  out = refl;
+  waits = λ l k. (λ h. h, λ h. h);
+  ready = λ l. (λ h. inl h, λ h. elim h [ inl g ↦ g | inr g ↦ absurd (none l g.0) ]);
 }
 
-pub releases_same : (a b : Waiting) (v : ℕ) (S T : ℕ → Type 0) → ((l : ℕ) → T l → S l) → Releases a b v S → Releases a b v T
-releases_same a b v S T to is = record {
+pub looks_at_same : (a b : Waiting) (S T : ℕ → Type 0) → ((l : ℕ) → S l ↔ T l) → LooksAt a b S → LooksAt a b T
+looks_at_same a b S T same is = record {
   count = is.count;
-  shrinks = is.shrinks;
-  keeps = is.keeps;
-  releases = λ l t. is.releases l (to l t);
-  kept = is.kept;
-  ready = is.ready;
-  all = is.all;
+  out = is.out;
+  waits = is.waits;
+  ready = λ l. (
+    λ h. elim ((is.ready l).0 h) [ inl g ↦ inl g | inr g ↦ inr ((same l).0 g.0, g.1) ],
+    λ h. (is.ready l).1 (elim h [ inl g ↦ inl g | inr g ↦ inr ((same l).1 g.0, g.1) ]),
+  );
 }
 
-pub releases_more : (a b c : Waiting) (v : ℕ) (S T : ℕ → Type 0) → Releases a b v S → Releases b c v T → Releases a c v (λ l. S l ⊎ T l)
-releases_more a b c v S T first second = record {
+pub looks_at_more : (a b c : Waiting) (S T : ℕ → Type 0) → LooksAt a b S → LooksAt b c T → LooksAt a c (λ l. S l ⊎ T l)
+looks_at_more a b c S T first second = record {
   count = second.count ∙ first.count;
-  shrinks = λ l k h. first.shrinks l k (second.shrinks l k h);
-  keeps = λ l k d h. second.keeps l k d (first.keeps l k d h);
-  releases = λ l st h. elim st [ inl s ↦ first.releases l s (second.shrinks l v h) | inr t ↦ second.releases l t h ];
-  kept = λ l h. second.kept l (first.kept l h);
-  ready = λ l h. elim (second.ready l h) [
-    | inl g ↦ elim (first.ready l g) [ inl f ↦ inl f | inr f ↦ inr (f.0, λ k i. f.1 k (second.shrinks l k i)) ]
-    | inr g ↦ inr (first.shrinks l v g.0, g.1)
-  ];
-  all = λ l h none. elim (dec_has b.blockers.items l v) [
-    | yes i ↦ second.all l i none
-    | no free ↦ second.kept l (first.all l h (λ k i. elim (ℕ_discrete k v) [
-      | yes same ↦ free (subst (HasAt b.blockers.items l) same i)
-      | no other ↦ none k (second.keeps l k other i)
-    ]))
-  ];
+  out = second.out ∙ first.out;
+  waits = λ l k. (λ h. (first.waits l k).0 ((second.waits l k).0 h), λ h. (second.waits l k).1 ((first.waits l k).1 h));
+  ready = λ l. (
+    λ h. elim ((second.ready l).0 h) [
+      | inl g ↦ elim ((first.ready l).0 g) [ inl f ↦ inl f | inr f ↦ inr (inl f.0, λ k w. f.1 k ((second.waits l k).0 w)) ]
+      | inr g ↦ inr (inr g.0, g.1)
+    ],
+    λ h. (second.ready l).1 (elim h [
+      | inl f ↦ inl ((first.ready l).1 (inl f))
+      | inr (st, free) ↦ elim st [ inl f ↦ inl ((first.ready l).1 (inr (f, λ k w. free k ((second.waits l k).1 w)))) | inr g ↦ inr (g, free) ]
+    ]),
+  );
 }
 
-pub unblocked : (old new : Waiting) (l v : ℕ) (set now : BTreeSet ℕ) (last : Bool) → l < length old.blockers.items → set ≡ get_or old.blockers.items l set
-    → new.blockers.items ≡ slice_set old.blockers.items l now → Sets set now v false → IsTrue last ↔ (Has set v × ((k : ℕ) → Has now k → ⊥)) → AddsIf last l old.ready new.ready → Releases old new v (IsOne l)
-unblocked old new l v set now last lt is grown sets says adds = record {
-  count = ap length grown ∙ length_set sets_old l now;
-  shrinks = λ m k h. elim (cases m k h) [ inl e ↦ (set, subst (λ z. slice_get sets_old z ≡ Some set) (sym e.0) at, was_in set now v sets k e.1) | inr e ↦ e.1 ];
-  keeps = λ m k d h. keeps m k d h (ℕ_discrete m l);
-  releases = λ m same h. elim (cases m v h) [ inl e ↦ gone set now v sets e.1 | inr e ↦ e.0 same ];
-  kept = λ m h. (adds m).1 (inl h);
-  ready = λ m h. elim ((adds m).0 h) [
-    | inl g ↦ inl g
-    | inr (t, same) ↦ inr (
-      (set, subst (λ z. slice_get sets_old z ≡ Some set) (sym same) at, (says.0 t).0),
-      λ k i. elim (cases m k i) [ inl e ↦ (says.0 t).1 k e.1 | inr e ↦ e.0 same ],
-    )
-  ];
-  all = λ m h none. elim (ℕ_discrete m l) [
-    | yes same ↦
-        let s_is : h.0 ≡ set = same_Some h.0 set (sym (subst (λ z. slice_get sets_old z ≡ Some h.0) same h.1) ∙ at) in
-        (adds m).1 (inr (says.1 (subst (λ z. Has z v) s_is h.2, λ k i. none k (now, here m same, i)), same))
-    | no other ↦ absurd (none v (h.0, elsewhere m other ∙ h.1, h.2))
-  ];
+pub looked_at_itself : (a : Waiting) (l v : ℕ) → l ≡ v → LooksAt a a (Other v (IsOne l))
+looked_at_itself a l v same = looks_at_none a (Other v (IsOne l)) (λ m h. h.1 (h.0 ∙ same))
+
+module _ (old new : Waiting) (l v : ℕ) (list now : List ℕ) (free : Bool) (lt : l < length old.blockers.items) (at : slice_get (lists_of old.blockers.items) l ≡ Some list)
+    (same_out : new.out ≡ old.out) (grown : lists_of new.blockers.items ≡ slice_set (lists_of old.blockers.items) l now) (trims : Trims old.out.items list now free) (differ : l ≡ v → ⊥)
+    (adds : AddsIf free l old.ready new.ready) where
+  small : l < length (lists_of old.blockers.items)
+  small = let n = lists_length old.blockers.items in omega (arith, lt, n)
+
+  here : (m : ℕ) → m ≡ l → slice_get (lists_of new.blockers.items) m ≡ Some now
+  here m same = subst (λ z. slice_get z m ≡ Some now) (sym grown) (subst (λ z. slice_get (slice_set (lists_of old.blockers.items) l now) z ≡ Some now) (sym same) (set_here (lists_of old.blockers.items) l now small))
+
+  elsewhere : (m : ℕ) → (m ≡ l → ⊥) → slice_get (lists_of new.blockers.items) m ≡ slice_get (lists_of old.blockers.items) m
+  elsewhere m other = ap (λ z. slice_get z m) grown ∙ set_elsewhere (lists_of old.blockers.items) l m now other
+
+  out_now : (k : ℕ) → IsOut old.out.items k → IsOut new.out.items k
+  out_now k h = subst (λ z. IsOut z.items k) (sym same_out) h
+
+  out_before : (k : ℕ) → IsOut new.out.items k → IsOut old.out.items k
+  out_before k h = subst (λ z. IsOut z.items k) same_out h
+
+  waits_before : (m k : ℕ) → WaitsFor new m k → Dec (m ≡ l) → WaitsFor old m k
+  waits_before m k ((row, is, i), in_use) (yes same) =
+      let i_now : In k now = subst (In k) (same_Some row now (sym is ∙ here m same)) i in
+      ((list, subst (λ z. slice_get (lists_of old.blockers.items) z ≡ Some list) (sym same) at, trims.less k i_now), λ h. in_use (out_now k h))
+  waits_before m k ((row, is, i), in_use) (no other) = ((row, sym (elsewhere m other) ∙ is, i), λ h. in_use (out_now k h))
+
+  waits_now : (m k : ℕ) → WaitsFor old m k → Dec (m ≡ l) → WaitsFor new m k
+  waits_now m k ((row, is, i), in_use) (yes same) =
+      let i_old : In k list = subst (In k) (same_Some row list (sym (subst (λ z. slice_get (lists_of old.blockers.items) z ≡ Some row) same is) ∙ at)) i in
+      ((now, here m same, trims.kept k i_old in_use), λ h. in_use (out_before k h))
+  waits_now m k ((row, is, i), in_use) (no other) = ((row, elsewhere m other ∙ is, i), λ h. in_use (out_before k h))
+
+  -- the truth value says whether the leader waits for none
+  free_now : IsTrue free → (m : ℕ) → m ≡ l → WaitsForNone new m
+  free_now e m same k ((row, is, i), in_use) =
+      in_use (out_now k (trims.none_left.0 e k (subst (In k) (same_Some row now (sym is ∙ here m same)) i)))
+
+  is_free : (m : ℕ) → m ≡ l → WaitsForNone new m → IsTrue free
+  is_free m same none = trims.none_left.1 (λ k i. elim (set_at old.out.items k) [
+    | yes h ↦ h
+    | no in_use ↦ absurd (none k ((now, here m same, i), λ h. in_use (out_before k h)))
+  ])
+
+  pub looked_at : LooksAt old new (Other v (IsOne l))
+  looked_at = record {
+    count = sym (lists_length new.blockers.items) ∙ (ap length grown ∙ (length_set (lists_of old.blockers.items) l now ∙ lists_length old.blockers.items));
+    out = same_out;
+    waits = λ m k. (λ h. waits_before m k h (ℕ_discrete m l), λ h. waits_now m k h (ℕ_discrete m l));
+    ready = λ m. (
+      λ h. elim ((adds m).0 h) [ inl g ↦ inl g | inr (e, same) ↦ inr ((same, λ d. differ (sym same ∙ d)), free_now e m same) ],
+      λ h. (adds m).1 (elim h [ inl g ↦ inl g | inr ((same, d), none) ↦ inr (is_free m same none, same) ]),
+    );
+  }
+
+pub row_looked_at : (leaders row : List ℕ) (a b c : Waiting) (v i x to : ℕ) → i < length row → x ≡ get_or row i 0 → slice_get leaders x ≡ Some to → LooksAt a b (Other v (OfRow leaders (take i row)))
+    → LooksAt b c (Other v (IsOne to)) → LooksAt a c (Other v (OfRow leaders (take (i + 1) row)))
+row_looked_at leaders row a b c v i x to lt is led first second =
+    looks_at_same a c (λ l. Other v (OfRow leaders (take i row)) l ⊎ Other v (IsOne to) l) (Other v (OfRow leaders (take (i + 1) row))) (λ l. (
+      λ h. elim h [
+        | inl ((j, j_in, at), d) ↦ ((j, more_taken row i x j lt is (inl j_in), at), d)
+        | inr (same, d) ↦ ((x, more_taken row i x x lt is (inr refl), led ∙ ap (λ z. Some z) (sym same)), d)
+      ],
+      λ ((j, j_in, at), d). elim (taken_more row i x j lt is j_in) [
+        | inl g ↦ inl ((j, g, at), d)
+        | inr same ↦ inr (same_Some l to (sym at ∙ (ap (slice_get leaders) same ∙ led)), d)
+      ],
+    )) (looks_at_more a b c (Other v (OfRow leaders (take i row))) (Other v (IsOne to)) first second)
+
+pub rows_looked_at : (rows : List (List ℕ)) (leaders places : List ℕ) (a b c : Waiting) (v i w : ℕ) (row : List ℕ) → i < length places → w ≡ get_or places i 0 → slice_get rows w ≡ Some row
+    → LooksAt a b (Other v (OfRows rows leaders (take i places))) → LooksAt b c (Other v (OfRow leaders row)) → LooksAt a c (Other v (OfRows rows leaders (take (i + 1) places)))
+rows_looked_at rows leaders places a b c v i w row lt is row_is first second =
+    looks_at_same a c (λ l. Other v (OfRows rows leaders (take i places)) l ⊎ Other v (OfRow leaders row) l) (Other v (OfRows rows leaders (take (i + 1) places))) (λ l. (
+      λ h. elim h [
+        | inl ((u, j, u_in, follows, at), d) ↦ ((u, j, more_taken places i w u lt is (inl u_in), follows, at), d)
+        | inr ((j, j_in, at), d) ↦ ((w, j, more_taken places i w w lt is (inr refl), (row, row_is, j_in), at), d)
+      ],
+      λ ((u, j, u_in, follows, at), d). elim (taken_more places i w u lt is u_in) [
+        | inl g ↦ inl ((u, j, g, follows, at), d)
+        | inr same ↦
+            let (r, e, j_in) = follows in
+            inr ((j, subst (In j) (same_Some r row (sym e ∙ (ap (slice_get rows) same ∙ row_is))) j_in, at), d)
+      ],
+    )) (looks_at_more a b c (Other v (OfRows rows leaders (take i places))) (Other v (OfRow leaders row)) first second)
+
+-- a leader is put out, and then others are looked at
+pub released : (old mid new : Waiting) (v : ℕ) (S : ℕ → Type 0) → v < length old.out.items → mid.blockers ≡ old.blockers → mid.out.items ≡ slice_set old.out.items v true → mid.ready ≡ old.ready
+    → LooksAt mid new S → Releases old new v S
+released old mid new v S lt same_lists put_out same_ready looks = record {
+  count = looks.count ∙ ap (λ z. length z.items) same_lists;
+  outs = ap (λ z. length z.items) looks.out ∙ (ap length put_out ∙ length_set old.out.items v true);
+  waits = λ l k. (λ h. before l k ((looks.waits l k).0 h), λ h. (looks.waits l k).1 (now l k h));
+  ready = λ l. (
+    λ h. elim ((looks.ready l).0 h) [ inl g ↦ inl (subst (λ z. Has z l) same_ready g) | inr g ↦ inr g ],
+    λ h. (looks.ready l).1 (elim h [ inl g ↦ inl (subst (λ z. Has z l) (sym same_ready) g) | inr g ↦ inr g ]),
+  );
 }
   where
-    sets_old : List (BTreeSet ℕ)
-    sets_old = old.blockers.items
+    out_now : (k : ℕ) → IsOut old.out.items k ⊎ (k ≡ v) → IsOut mid.out.items k
+    out_now k h = subst (λ z. IsOut z k) (sym put_out) (elim (ℕ_discrete k v) [
+      | yes same ↦ subst (IsOut (slice_set old.out.items v true)) (sym same) (set_here old.out.items v true lt)
+      | no other ↦ elim h [ inl g ↦ set_elsewhere old.out.items v k true other ∙ g | inr same ↦ absurd (other same) ]
+    ])
 
-    at : slice_get old.blockers.items l ≡ Some set
-    at = slice_get_read old.blockers.items _ l set refl lt is
+    out_before : (k : ℕ) → (k ≡ v → ⊥) → IsOut mid.out.items k → IsOut old.out.items k
+    out_before k other h = sym (set_elsewhere old.out.items v k true other) ∙ subst (λ z. IsOut z k) put_out h
 
-    here : (m : ℕ) → m ≡ l → slice_get new.blockers.items m ≡ Some now
-    here m same = subst (λ z. slice_get z m ≡ Some now) (sym grown) (subst (λ z. slice_get (slice_set old.blockers.items l now) z ≡ Some now) (sym same) (set_here old.blockers.items l now lt))
+    before : (l k : ℕ) → WaitsFor mid l k → WaitsFor old l k × (k ≡ v → ⊥)
+    before l k (follows, in_use) = ((subst (λ z. Follows (lists_of z.items) l k) same_lists follows, λ h. in_use (out_now k (inl h))), λ same. in_use (out_now k (inr same)))
 
-    elsewhere : (m : ℕ) → (m ≡ l → ⊥) → slice_get new.blockers.items m ≡ slice_get old.blockers.items m
-    elsewhere m other = ap (λ z. slice_get z m) grown ∙ set_elsewhere old.blockers.items l m now other
-
-    cases : (m k : ℕ) → HasAt new.blockers.items m k → ((m ≡ l) × Has now k) ⊎ ((m ≡ l → ⊥) × HasAt old.blockers.items m k)
-    cases m k (s, e, i) = elim (set_cases old.blockers.items l m now s (subst (λ z. slice_get z m ≡ Some s) grown e)) [
-      | inl h ↦ inl (h.0, subst (λ z. Has z k) (sym h.1) i)
-      | inr h ↦ inr (h.0, (s, h.1, i))
-    ]
-
-    keeps : (m k : ℕ) → (k ≡ v → ⊥) → HasAt old.blockers.items m k → Dec (m ≡ l) → HasAt new.blockers.items m k
-    keeps m k d (s, e, i) (yes same) =
-        let s_is : s ≡ set = same_Some s set (sym (subst (λ z. slice_get old.blockers.items z ≡ Some s) same e) ∙ at) in
-        (now, here m same, still_in set now v sets k d (subst (λ z. Has z k) s_is i))
-    keeps m k d (s, e, i) (no other) = (s, elsewhere m other ∙ e, i)
-
-pub row_released : (leaders row : List ℕ) (a b c : Waiting) (v i x to : ℕ) → i < length row → x ≡ get_or row i 0 → slice_get leaders x ≡ Some to → Releases a b v (OfRow leaders (take i row))
-    → Releases b c v (IsOne to) → Releases a c v (OfRow leaders (take (i + 1) row))
-row_released leaders row a b c v i x to lt is led first second =
-    releases_same a c v (λ l. OfRow leaders (take i row) l ⊎ IsOne to l) (OfRow leaders (take (i + 1) row))
-    (λ l (j, j_in, at). elim (taken_more row i x j lt is j_in) [
-      | inl g ↦ inl (j, g, at)
-      | inr same ↦ inr (same_Some l to (sym at ∙ (ap (slice_get leaders) same ∙ led)))
-    ]) (releases_more a b c v (OfRow leaders (take i row)) (IsOne to) first second)
-
-pub rows_released : (rows : List (List ℕ)) (leaders places : List ℕ) (a b c : Waiting) (v i w : ℕ) (row : List ℕ) → i < length places → w ≡ get_or places i 0 → slice_get rows w ≡ Some row
-    → Releases a b v (OfRows rows leaders (take i places)) → Releases b c v (OfRow leaders row) → Releases a c v (OfRows rows leaders (take (i + 1) places))
-rows_released rows leaders places a b c v i w row lt is row_is first second =
-    releases_same a c v (λ l. OfRows rows leaders (take i places) l ⊎ OfRow leaders row l) (OfRows rows leaders (take (i + 1) places))
-    (λ l (u, j, u_in, follows, at). elim (taken_more places i w u lt is u_in) [
-      | inl g ↦ inl (u, j, g, follows, at)
-      | inr same ↦
-          let (r, e, j_in) = follows in
-          inr (j, subst (In j) (same_Some r row (sym e ∙ (ap (slice_get rows) same ∙ row_is))) j_in, at)
-    ]) (releases_more a b c v (OfRows rows leaders (take i places)) (OfRow leaders row) first second)
+    now : (l k : ℕ) → WaitsFor old l k × (k ≡ v → ⊥) → WaitsFor mid l k
+    now l k ((follows, in_use), other) = (subst (λ z. Follows (lists_of z.items) l k) (sym same_lists) follows, λ h. in_use (out_before k other h))
 
 -- ---- whether some place is no pair
 

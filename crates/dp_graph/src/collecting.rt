@@ -11,7 +11,7 @@ use trs_core::OutOfMemory;
 /// flags are set, so that the row of each place is walked once in all.
 pub(crate) fn collect(
     alloc: Global,
-    rows: &[Vec<usize>],
+    rows: &[Vec<u32>],
     start: usize,
     flags: &mut Vec<bool>,
 ) -> Result<Vec<usize>, OutOfMemory>
@@ -32,7 +32,7 @@ pub(crate) fn collect(
 
 /// Adds the places of the row of a place.
 fn walk(
-    rows: &[Vec<usize>],
+    rows: &[Vec<u32>],
     k: usize,
     flags: &mut Vec<bool>,
     found: &mut Vec<usize>,
@@ -46,12 +46,12 @@ fn walk(
 }
 
 /// Adds the places of a row.
-fn visit(row: &[usize], flags: &mut Vec<bool>, found: &mut Vec<usize>) -> Result<(), OutOfMemory>
+fn visit(row: &[u32], flags: &mut Vec<bool>, found: &mut Vec<usize>) -> Result<(), OutOfMemory>
     ensures { OnOk result (Finds (λ j. In j row.now)
         flags.old.items flags.new.items found.old.items found.new.items) }
 {
     for j in row {
-        mark(*j, flags, found)?;
+        mark(*j as usize, flags, found)?;
     }
     Ok(())
 }

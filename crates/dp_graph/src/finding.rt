@@ -5,11 +5,9 @@ ghost use Rattle.dp_core.specs.PlacedPairs.{placed_pairs};
 ghost use Rattle.dp_graph.specs.GroupOrSingle.{items_of};
 ghost use Rattle.dp_graph.specs.Components.{AreComponents};
 
-use crate::finishing::finishing_order;
-use crate::leaders::leaders;
+use crate::leaders::leaders_of;
 use crate::ordering::sort_components;
 use crate::places::{items, list_led};
-use crate::reversed::reverse;
 use crate::rows::rows;
 use crate::{GraphItem, PairGraph};
 use dp_core::DpPair;
@@ -45,9 +43,7 @@ impl<'a> PairGraph<'a> {
             (dependency_pairs self.now.rules) problem.now (items_of items.items)) }
     {
         let rows = rows(alloc, self, problem)?;
-        let order = finishing_order(alloc, &rows)?;
-        let back = reverse(alloc, &rows)?;
-        let leaders = leaders(alloc, &back, &order)?;
+        let leaders = leaders_of(alloc, &rows)?;
         let led = list_led(alloc, &leaders)?;
         let sorted = sort_components(alloc, problem.len(), &rows, &leaders, &led)?;
         items(alloc, problem, &leaders, &led, &sorted)

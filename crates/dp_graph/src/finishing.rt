@@ -22,7 +22,7 @@ struct Walk {
 
 /// All places in an order in which a walk in depth finishes them. It takes steps for each edge.
 /// (Sharir, A strong-connectivity algorithm and its applications in data flow analysis, 1981.)
-pub(crate) fn finishing_order(alloc: Global, rows: &[Vec<usize>]) -> Result<Vec<usize>, OutOfMemory>
+pub(crate) fn finishing_order(alloc: Global, rows: &[Vec<u32>]) -> Result<Vec<usize>, OutOfMemory>
     requires { StayWithin (lists_of rows.now) }
     ensures { IfOk result (λ order. IsFinishingOrder (lists_of rows.now) order.items) }
 {
@@ -49,7 +49,7 @@ impl Walk {
     }
 
     /// Enters a place, and walks until all that was entered is finished.
-    fn run(&mut self, rows: &[Vec<usize>], start: usize) -> Result<(), OutOfMemory>
+    fn run(&mut self, rows: &[Vec<u32>], start: usize) -> Result<(), OutOfMemory>
         requires within { StayWithin (lists_of rows.now) }
         requires start { start < length rows.now }
         requires walk { IsWalkOf (lists_of rows.now) self.old }
@@ -68,7 +68,7 @@ impl Walk {
     }
 
     /// Tries the next place of the row of the last place of the way, or finishes that place.
-    fn step(&mut self, rows: &[Vec<usize>], place: usize) -> Result<(), OutOfMemory>
+    fn step(&mut self, rows: &[Vec<u32>], place: usize) -> Result<(), OutOfMemory>
         requires within { StayWithin (lists_of rows.now) }
         requires walk { IsWalk (lists_of rows.now) self.old.entered.items self.old.next.items
             (self.old.way.items ++ place ∷ []) self.old.finished.items }
@@ -81,7 +81,7 @@ impl Walk {
         let row = &rows[place];
         let next = self.next[place];
         if next < row.len() {
-            self.follow(place, next + 1, row[next])?;
+            self.follow(place, next + 1, row[next] as usize)?;
             return Ok(());
         }
         self.finished.push(place)?;

@@ -1,21 +1,30 @@
 ghost use Rattle.std.specs.Prelude.{ℕ, ◌≡◌, ◌<◌, ◌≤◌, List, IfOk, OnOk, length};
 ghost use Rattle.trs_defs.specs.Member.{In};
 ghost use Rattle.dp_graph.specs.GraphConditions.{lists_of};
+ghost use Rattle.dp_graph.specs.Rows.{StayWithin};
 ghost use Rattle.dp_graph.specs.Reversed.{AreReversed};
 ghost use Rattle.dp_graph.specs.Finishing.{IsFinishingOrder};
 ghost use Rattle.dp_graph.specs.Leaders.{AreLeaders, Leads, LeadsFrom};
 
 use crate::collecting::collect;
+use crate::finishing::finishing_order;
+use crate::reversed::reverse;
 use std::alloc::Global;
 use trs_core::OutOfMemory;
 
+/// For each place the least place of its component. The rows that lead back are not kept.
+pub(crate) fn leaders_of(alloc: Global, rows: &[Vec<u32>]) -> Result<Vec<usize>, OutOfMemory>
+    requires { StayWithin (lists_of rows.now) }
+    ensures { IfOk result (λ leaders. AreLeaders (lists_of rows.now) leaders.items) }
+{
+    let order = finishing_order(alloc, rows)?;
+    let back = reverse(alloc, rows)?;
+    leaders(alloc, &back, &order)
+}
+
 /// For each place the least place of its component. From the last place of an order of finishing
 /// on, what leads to a place and is in no component yet is the component of that place.
-pub(crate) fn leaders(
-    alloc: Global,
-    back: &[Vec<usize>],
-    order: &[usize],
-) -> Result<Vec<usize>, OutOfMemory>
+fn leaders(alloc: Global, back: &[Vec<u32>], order: &[usize]) -> Result<Vec<usize>, OutOfMemory>
     requires { (i : ℕ) → In i order.now → i < length back.now }
     ensures { IfOk result (λ leaders. (rows : List (List ℕ)) →
         AreReversed rows (lists_of back.now) → IsFinishingOrder rows order.now →
@@ -34,7 +43,7 @@ pub(crate) fn leaders(
 /// Finds the leader of the component of a place, unless it was found.
 fn lead_from(
     alloc: Global,
-    back: &[Vec<usize>],
+    back: &[Vec<u32>],
     v: usize,
     flags: &mut Vec<bool>,
     leaders: &mut Vec<usize>,

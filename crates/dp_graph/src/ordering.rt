@@ -16,9 +16,9 @@ use trs_core::OutOfMemory;
 pub(crate) fn sort_components(
     alloc: Global,
     pairs: usize,
-    rows: &[Vec<usize>],
+    rows: &[Vec<u32>],
     leaders: &[usize],
-    led: &[Vec<usize>],
+    led: &[Vec<u32>],
 ) -> Result<Vec<usize>, OutOfMemory>
     requires leaders { AreLeaders (lists_of rows.now) leaders.now }
     requires within { StayWithin (lists_of rows.now) }

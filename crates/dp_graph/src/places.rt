@@ -10,7 +10,7 @@ use std::alloc::Global;
 use trs_core::OutOfMemory;
 
 /// For each place the places that it leads, in order.
-pub(crate) fn list_led(alloc: Global, leaders: &[usize]) -> Result<Vec<Vec<usize>>, OutOfMemory>
+pub(crate) fn list_led(alloc: Global, leaders: &[usize]) -> Result<Vec<Vec<u32>>, OutOfMemory>
     requires { All (λ l. l < length leaders.now) leaders.now }
     ensures { IfOk result (λ led. AreLed leaders.now (lists_of led.items)) }
 {
@@ -26,7 +26,7 @@ pub(crate) fn items(
     alloc: Global,
     problem: &[u32],
     leaders: &[usize],
-    led: &[Vec<usize>],
+    led: &[Vec<u32>],
     order: &[usize],
 ) -> Result<Vec<GraphItem>, OutOfMemory>
     requires places { length problem.now ≤ length leaders.now }
@@ -47,7 +47,7 @@ pub(crate) fn items(
 fn add_item(
     alloc: Global,
     problem: &[u32],
-    led: &[usize],
+    led: &[u32],
     v: usize,
     items: &mut Vec<GraphItem>,
 ) -> Result<(), OutOfMemory>
@@ -62,7 +62,7 @@ fn add_item(
 }
 
 /// The component of a leader: a single pair where it leads no other place.
-fn item(alloc: Global, problem: &[u32], led: &[usize], v: usize) -> Result<GraphItem, OutOfMemory>
+fn item(alloc: Global, problem: &[u32], led: &[u32], v: usize) -> Result<GraphItem, OutOfMemory>
     requires { v < length problem.now }
     ensures { IfOk result (λ item. (leaders : List ℕ) → length problem.now ≤ length leaders →
         slice_get leaders v ≡ Some v → led.now ≡ led_by v (places_below (length leaders)) leaders →
@@ -76,12 +76,12 @@ fn item(alloc: Global, problem: &[u32], led: &[usize], v: usize) -> Result<Graph
 }
 
 /// The numbers at those of these places that are pairs.
-fn numbers_at(alloc: Global, problem: &[u32], places: &[usize]) -> Result<Vec<u32>, OutOfMemory>
+fn numbers_at(alloc: Global, problem: &[u32], places: &[u32]) -> Result<Vec<u32>, OutOfMemory>
     ensures { IfOk result (λ numbers. numbers.items ≡ numbers_of problem.now places.now) }
 {
     let mut numbers = Vec::new(alloc);
     for w in places {
-        add_number(problem, *w, &mut numbers)?;
+        add_number(problem, *w as usize, &mut numbers)?;
     }
     Ok(numbers)
 }

@@ -9,7 +9,7 @@ use std::alloc::Global;
 use trs_core::OutOfMemory;
 
 /// The rows that lead back along these. It takes steps for each edge.
-pub(crate) fn reverse(alloc: Global, rows: &[Vec<usize>]) -> Result<Vec<Vec<usize>>, OutOfMemory>
+pub(crate) fn reverse(alloc: Global, rows: &[Vec<u32>]) -> Result<Vec<Vec<u32>>, OutOfMemory>
     requires { StayWithin (lists_of rows.now) }
     ensures { IfOk result (λ back. AreReversed (lists_of rows.now) (lists_of back.items)) }
 {
@@ -21,12 +21,12 @@ pub(crate) fn reverse(alloc: Global, rows: &[Vec<usize>]) -> Result<Vec<Vec<usiz
 }
 
 /// Puts a place behind the others in the rows of the places to which its row leads.
-fn add_back(row: &[usize], i: usize, back: &mut Vec<Vec<usize>>) -> Result<(), OutOfMemory>
+fn add_back(row: &[u32], i: usize, back: &mut Vec<Vec<u32>>) -> Result<(), OutOfMemory>
     requires { (j : ℕ) → In j row.now → j < length back.old.items }
     ensures { OnOk result (AddsBack row.now i (lists_of back.old.items) (lists_of back.new.items)) }
 {
     for j in row {
-        put_behind(back, *j, i)?;
+        put_behind(back, *j as usize, i)?;
     }
     Ok(())
 }

@@ -14,7 +14,7 @@ ghost use Rattle.dp_graph.specs.RightPlaces.{AddsRight, PlacesRight, LeadsRight}
 use crate::PairGraph;
 use crate::by_root::push_at;
 use crate::graph::Node;
-use crate::lists::{empty_lists, put_behind};
+use crate::lists::{empty_lists, kept, put_behind};
 use std::alloc::Global;
 use std::collections::BTreeMap;
 use trs_core::OutOfMemory;
@@ -32,7 +32,7 @@ pub(crate) struct RulePlace {
 #[derive(Drop)]
 pub(crate) struct Rules {
     /// The rows of all places. That of a rule has its pairs.
-    rows: Vec<Vec<usize>>,
+    rows: Vec<Vec<u32>>,
     /// The places of the rules, by their numbers.
     places: BTreeMap<usize, usize>,
     /// The rules by the roots of their left sides.
@@ -43,7 +43,7 @@ pub(crate) struct Rules {
 #[derive(Drop)]
 pub(crate) struct Rights {
     /// The rows of all places. That of a right side has the rules to whose pairs edges lead.
-    rows: Vec<Vec<usize>>,
+    rows: Vec<Vec<u32>>,
     /// The places of right sides, by the numbers of the first pairs with their caps.
     places: BTreeMap<usize, usize>,
 }
@@ -55,7 +55,7 @@ pub(crate) fn rows(
     alloc: Global,
     graph: &PairGraph,
     problem: &[u32],
-) -> Result<Vec<Vec<usize>>, OutOfMemory>
+) -> Result<Vec<Vec<u32>>, OutOfMemory>
     ensures { IfOk result
         (λ rows. AreRows (EdgeOf graph.now) problem.now (lists_of rows.items)) }
 {
@@ -119,8 +119,9 @@ impl Rules {
         ensures { OnOk result (AddsRule node.now n j self.old self.new) }
     {
         let place = self.rows.len();
+        let first = kept(j)?;
         let mut row = Vec::new(alloc);
-        row.push(j)?;
+        row.push(first)?;
         self.rows.push(row)?;
         self.places.insert(node.rule, place)?;
         let rule = RulePlace { place, pair: n };
@@ -196,7 +197,7 @@ fn lead(
     by_root: &BTreeMap<u32, Vec<RulePlace>>,
     m: usize,
     i: usize,
-    rows: &mut Vec<Vec<usize>>,
+    rows: &mut Vec<Vec<u32>>,
 ) -> Result<(), OutOfMemory>
     requires { i < length rows.old.items }
     ensures valid { OnOk result (IsSystem graph.now) }
@@ -223,7 +224,7 @@ fn lead_to(
     rules: &[RulePlace],
     m: usize,
     i: usize,
-    rows: &mut Vec<Vec<usize>>,
+    rows: &mut Vec<Vec<u32>>,
 ) -> Result<(), OutOfMemory>
     requires { i < length rows.old.items }
     ensures { OnOk result (LeadsByRules graph.now (λ rule. In rule rules.now) m i
@@ -236,7 +237,7 @@ fn lead_to(
     Ok(())
 }
 
-fn put_if(yes: bool, rows: &mut Vec<Vec<usize>>, i: usize, place: usize) -> Result<(), OutOfMemory>
+fn put_if(yes: bool, rows: &mut Vec<Vec<u32>>, i: usize, place: usize) -> Result<(), OutOfMemory>
     requires { i < length rows.old.items }
     ensures put { OnOk result (IsTrue yes →
         PutsBehind (lists_of rows.old.items) (lists_of rows.new.items) i place) }

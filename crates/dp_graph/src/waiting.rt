@@ -2,9 +2,10 @@
 ghost use Rattle.std.specs.Prelude.{ℕ, ◌≡◌, ◌<◌, ◌≤◌, ◌↔◌, All, IfOk, OnOk, IsTrue, false, length};
 ghost use Rattle.dp_graph.specs.GraphConditions.{lists_of};
 ghost use Rattle.dp_graph.specs.Rows.{StayWithin};
-ghost use Rattle.dp_graph.specs.Waiting.{Has, Sets, AreNone, Adds, OneEdge, RowEdges, AllEdges, IsReadySet, IsFreeLeader, AddsIf};
-ghost use Rattle.dp_graph.specs.Waiting.{TakesOut, Releases, IsOne, OfRow, OfRows, AreAtFirst};
+ghost use Rattle.dp_graph.specs.Waiting.{Has, Adds, OneEdge, RowEdges, AllEdges, IsReadySet, IsFreeLeader, AddsIf, AreAtFirst};
+ghost use Rattle.dp_graph.specs.Waiting.{TakesOut, Releases, LooksAt, Other, IsOne, OfRow, OfRows, Trims, IsOut};
 
+use crate::lists::{empty_lists, put_behind};
 use std::alloc::Global;
 use std::collections::BTreeSet;
 use trs_core::OutOfMemory;
@@ -12,9 +13,11 @@ use trs_core::OutOfMemory;
 /// Which components others wait for, by their leaders.
 #[derive(Drop)]
 pub(crate) struct Waiting {
-    /// For each leader those of the other components that an edge leads from to its own, and that
-    /// are not put out.
-    blockers: Vec<BTreeSet<usize>>,
+    /// For each leader those of the other components that an edge leads from to its own, once for
+    /// each such edge. At the end of the list none stays that is put out.
+    blockers: Vec<Vec<u32>>,
+    /// Which leaders are put out.
+    out: Vec<bool>,
     /// The leaders of the components that wait for none, and are not put out.
     ready: BTreeSet<usize>,
 }
@@ -23,7 +26,7 @@ impl Waiting {
     /// No component is put out.
     pub(crate) fn new(
         alloc: Global,
-        rows: &[Vec<usize>],
+        rows: &[Vec<u32>],
         leaders: &[usize],
     ) -> Result<Waiting, OutOfMemory>
         requires count { length leaders.now ≡ length rows.now }
@@ -32,8 +35,13 @@ impl Waiting {
         ensures { IfOk result (AreAtFirst (lists_of rows.now) leaders.now) }
     {
         let blockers = blockers(alloc, rows, leaders)?;
+        let out = vec![in alloc; false; leaders.len()]?;
         let ready = ready(alloc, leaders, &blockers)?;
-        Ok(Waiting { blockers, ready })
+        Ok(Waiting {
+            blockers,
+            out,
+            ready,
+        })
     }
 
     /// Takes out a leader that is ready: one that is no pair, if there is one, else the least. The
@@ -47,46 +55,74 @@ impl Waiting {
         self.ready.pop_first()
     }
 
-    /// No component waits for that of leader `v` any more, to which these places belong.
+    /// The component of leader `v` is put out, to which these places belong, so that no other one
+    /// waits for it any more. It takes steps for each edge from these places, and for each that it
+    /// takes off the lists.
     pub(crate) fn release(
         &mut self,
-        rows: &[Vec<usize>],
+        rows: &[Vec<u32>],
         leaders: &[usize],
         v: usize,
-        places: &[usize],
+        places: &[u32],
     ) -> Result<(), OutOfMemory>
         requires count { length leaders.now ≡ length rows.now }
         requires rows { StayWithin (lists_of rows.now) }
         requires leaders { All (λ l. l < length self.old.blockers.items) leaders.now }
         requires places { All (λ w. w < length rows.now) places.now }
+        requires leader { v < length self.old.out.items }
         ensures { OnOk result (Releases self.old self.new v
-            (OfRows (lists_of rows.now) leaders.now places.now)) }
+            (Other v (OfRows (lists_of rows.now) leaders.now places.now))) }
+    {
+        self.out[v] = true;
+        self.look_at_rows(rows, leaders, v, places)?;
+        Ok(())
+    }
+
+    /// Sees which leaders wait for none, of those of other components to which edges lead from
+    /// these places.
+    fn look_at_rows(
+        &mut self,
+        rows: &[Vec<u32>],
+        leaders: &[usize],
+        v: usize,
+        places: &[u32],
+    ) -> Result<(), OutOfMemory>
+        requires count { length leaders.now ≡ length rows.now }
+        requires rows { StayWithin (lists_of rows.now) }
+        requires leaders { All (λ l. l < length self.old.blockers.items) leaders.now }
+        requires places { All (λ w. w < length rows.now) places.now }
+        ensures { OnOk result (LooksAt self.old self.new
+            (Other v (OfRows (lists_of rows.now) leaders.now places.now))) }
     {
         for w in places {
-            self.release_row(&rows[*w], leaders, v)?;
+            self.look_at_row(&rows[*w as usize], leaders, v)?;
         }
         Ok(())
     }
 
     /// The same for the edges of one row.
-    fn release_row(&mut self, row: &[usize], leaders: &[usize], v: usize) -> Result<(), OutOfMemory>
+    fn look_at_row(&mut self, row: &[u32], leaders: &[usize], v: usize) -> Result<(), OutOfMemory>
         requires row { All (λ j. j < length leaders.now) row.now }
         requires leaders { All (λ l. l < length self.old.blockers.items) leaders.now }
-        ensures { OnOk result (Releases self.old self.new v (OfRow leaders.now row.now)) }
+        ensures { OnOk result
+            (LooksAt self.old self.new (Other v (OfRow leaders.now row.now))) }
     {
         for j in row {
-            self.unblock(leaders[*j], v)?;
+            self.look_at(leaders[*j as usize], v)?;
         }
         Ok(())
     }
 
-    /// The component of leader `l` does not wait for that of leader `v` any more.
-    fn unblock(&mut self, l: usize, v: usize) -> Result<(), OutOfMemory>
+    /// Sees whether leader `l` waits for none, if it is another one than `v`.
+    fn look_at(&mut self, l: usize, v: usize) -> Result<(), OutOfMemory>
         requires { l < length self.old.blockers.items }
-        ensures { OnOk result (Releases self.old self.new v (IsOne l)) }
+        ensures { OnOk result (LooksAt self.old self.new (Other v (IsOne l))) }
     {
-        let last = take_out(&mut self.blockers[l], v);
-        add_if(last, l, &mut self.ready)?;
+        if l == v {
+            return Ok(());
+        }
+        let free = trim(&mut self.blockers[l], &self.out)?;
+        add_if(free, l, &mut self.ready)?;
         Ok(())
     }
 }
@@ -102,71 +138,71 @@ fn has_from(set: &BTreeSet<usize>, n: usize) -> bool
     }
 }
 
-/// Takes a leader out. Whether it was the last.
-fn take_out(set: &mut BTreeSet<usize>, v: usize) -> bool
-    ensures set { Sets set.old set.new v false }
-    ensures last { IsTrue result ↔ (Has set.old v × ((k : ℕ) → Has set.new k → ⊥)) }
+/// Takes those that are put out off the end of a list of leaders. Whether none is left.
+fn trim(list: &mut Vec<u32>, out: &[bool]) -> Result<bool, OutOfMemory>
+    ensures { IfOk result (Trims out.now list.old.items list.new.items) }
 {
-    set.remove(&v) && set.is_empty()
+    while let Some(k) = list.pop() {
+        if !is_out(out, k as usize) {
+            list.push(k)?;
+            return Ok(false);
+        }
+    }
+    Ok(true)
 }
 
-/// For each leader those of the other components from which an edge leads to its own.
+/// Whether a leader is put out.
+fn is_out(out: &[bool], k: usize) -> bool
+    ensures { IsTrue result ↔ IsOut out.now k }
+{
+    k < out.len() && out[k]
+}
+
+/// For each leader those of the other components from which edges lead to its own.
 fn blockers(
     alloc: Global,
-    rows: &[Vec<usize>],
+    rows: &[Vec<u32>],
     leaders: &[usize],
-) -> Result<Vec<BTreeSet<usize>>, OutOfMemory>
+) -> Result<Vec<Vec<u32>>, OutOfMemory>
     requires count { length leaders.now ≡ length rows.now }
     requires rows { StayWithin (lists_of rows.now) }
     requires leaders { All (λ l. l < length leaders.now) leaders.now }
-    ensures { IfOk result (λ blockers. AllEdges (lists_of rows.now) leaders.now blockers.items) }
+    ensures { IfOk result (λ blockers.
+        AllEdges (lists_of rows.now) leaders.now (lists_of blockers.items)) }
 {
-    let mut blockers = no_blockers(alloc, leaders.len())?;
+    let mut blockers = empty_lists(alloc, leaders.len())?;
     for (i, row) in rows.iter().enumerate() {
         add_row(row, leaders[i], leaders, &mut blockers)?;
     }
     Ok(blockers)
 }
 
-/// So many empty sets.
-fn no_blockers(alloc: Global, n: usize) -> Result<Vec<BTreeSet<usize>>, OutOfMemory>
-    ensures { IfOk result (λ blockers. AreNone n blockers.items) }
-{
-    let mut blockers = Vec::with_capacity(alloc, n)?;
-    let mut k = 0;
-    while k < n {
-        blockers.push(BTreeSet::new(alloc))?;
-        k += 1;
-    }
-    Ok(blockers)
-}
-
 /// Adds the leader of a row to what the leaders of its places wait for.
 fn add_row(
-    row: &[usize],
+    row: &[u32],
     from: usize,
     leaders: &[usize],
-    blockers: &mut Vec<BTreeSet<usize>>,
+    blockers: &mut Vec<Vec<u32>>,
 ) -> Result<(), OutOfMemory>
     requires row { All (λ j. j < length leaders.now) row.now }
     requires leaders { All (λ l. l < length blockers.old.items) leaders.now }
-    ensures { OnOk result
-        (Adds (RowEdges row.now from leaders.now) blockers.old.items blockers.new.items) }
+    ensures { OnOk result (Adds (RowEdges row.now from leaders.now)
+        (lists_of blockers.old.items) (lists_of blockers.new.items)) }
 {
     for j in row {
-        add_edge(from, leaders[*j], blockers)?;
+        add_edge(from, leaders[*j as usize], blockers)?;
     }
     Ok(())
 }
 
 /// Adds a leader to what another one waits for.
-fn add_edge(from: usize, to: usize, blockers: &mut Vec<BTreeSet<usize>>) -> Result<(), OutOfMemory>
+fn add_edge(from: usize, to: usize, blockers: &mut Vec<Vec<u32>>) -> Result<(), OutOfMemory>
     requires { to < length blockers.old.items }
-    ensures { OnOk result (Adds (OneEdge from to) blockers.old.items blockers.new.items) }
+    ensures { OnOk result (Adds (OneEdge from to)
+        (lists_of blockers.old.items) (lists_of blockers.new.items)) }
 {
     if from != to {
-        let set = &mut blockers[to];
-        set.insert(from)?;
+        put_behind(blockers, to, from)?;
     }
     Ok(())
 }
@@ -175,10 +211,10 @@ fn add_edge(from: usize, to: usize, blockers: &mut Vec<BTreeSet<usize>>) -> Resu
 fn ready(
     alloc: Global,
     leaders: &[usize],
-    blockers: &[BTreeSet<usize>],
+    blockers: &[Vec<u32>],
 ) -> Result<BTreeSet<usize>, OutOfMemory>
     requires { length blockers.now ≡ length leaders.now }
-    ensures { IfOk result (IsReadySet (IsFreeLeader leaders.now blockers.now)) }
+    ensures { IfOk result (IsReadySet (IsFreeLeader leaders.now (lists_of blockers.now))) }
 {
     let mut ready = BTreeSet::new(alloc);
     for v in 0..leaders.len() {
@@ -188,10 +224,10 @@ fn ready(
 }
 
 /// Whether a place is a leader that waits for none.
-fn is_free(leaders: &[usize], blockers: &[BTreeSet<usize>], v: usize) -> bool
+fn is_free(leaders: &[usize], blockers: &[Vec<u32>], v: usize) -> bool
     requires leaders { v < length leaders.now }
     requires blockers { length blockers.now ≡ length leaders.now }
-    ensures { IsTrue result ↔ IsFreeLeader leaders.now blockers.now v }
+    ensures { IsTrue result ↔ IsFreeLeader leaders.now (lists_of blockers.now) v }
 {
     if leaders[v] != v {
         return false;

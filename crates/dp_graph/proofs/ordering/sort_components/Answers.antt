@@ -4,7 +4,7 @@ use Rattle.dp_graph.specs.GraphConditions.{lists_of}
 use Rattle.dp_graph.specs.Waiting.{TakesOut}
 use Rattle.dp_graph.proofs.ListPlaces.{row_at, lists_length, length_more, all_of_each}
 use Rattle.dp_graph.proofs.ItemLaws.{led_place, place_led}
-use Rattle.dp_graph.proofs.OrderLaws.{starts, goes_on, ends, room, leads_itself_now, blockers_count, leaders_within}
+use Rattle.dp_graph.proofs.OrderLaws.{starts, goes_on, ends, room, leads_itself_now, blockers_count, out_count, leaders_within}
 use Rattle.dp_graph.proofs.ordering.sort_components.Goals as goal
 
 pub loop-v-init : goal.loop-v-init
@@ -36,6 +36,15 @@ release-requires-clause-leaders c =
     let b = blockers_count c.args.pairs (lists_of c.args.rows.now) c.args.leaders.now c.requires.leaders c.loop-v.order.items c.loop-v.waiting c.take_ready.new.self c.loop-v.invariant c.in-Some.v
     c.in-Some.ensures in
     omega (arith, h, b))
+
+pub release-requires-clause-leader : goal.release-requires-clause-leader
+release-requires-clause-leader c =
+    let own = leads_itself_now c.args.pairs (lists_of c.args.rows.now) c.args.leaders.now c.requires.leaders c.loop-v.order.items c.loop-v.waiting c.take_ready.new.self c.loop-v.invariant c.in-Some.v
+    c.in-Some.ensures in
+    let lt = slice_get_within c.args.leaders.now c.in-Some.v c.in-Some.v own in
+    let outs = out_count c.args.pairs (lists_of c.args.rows.now) c.args.leaders.now c.requires.leaders c.loop-v.order.items c.loop-v.waiting c.take_ready.new.self c.loop-v.invariant c.in-Some.v
+    c.in-Some.ensures in
+    omega (arith, lt, outs)
 
 pub release-requires-clause-places : goal.release-requires-clause-places
 release-requires-clause-places c =
@@ -70,5 +79,8 @@ loop-v-preserved c =
     let size = lists_length c.args.led.now in
     let at = row_at c.args.led.now c.in-Some.v c.index-led-v.result (omega (arith, lt, count, size)) c.index-led-v.is in
     goes_on c.args.pairs (lists_of c.args.rows.now) c.args.leaders.now c.requires.leaders c.loop-v.order.items c.loop-v.waiting c.take_ready.new.self c.loop-v.invariant c.in-Some.v c.in-Some.ensures
-    c.release.new.self c.index-led-v.result.items (λ w e. place_led c.args.leaders.now (lists_of c.args.led.now) c.requires.led c.in-Some.v c.index-led-v.result.items at w e)
+    c.release.new.self c.index-led-v.result.items (λ w. (
+      λ e. place_led c.args.leaders.now (lists_of c.args.led.now) c.requires.led c.in-Some.v c.index-led-v.result.items at w e,
+      λ i. led_place c.args.leaders.now (lists_of c.args.led.now) c.requires.led c.in-Some.v c.index-led-v.result.items at w i,
+    ))
     (rw c.deref.ensures.value at c.in_ok-release.ensures) c.push.new.self.items c.in_ok-push.ensures.items
