@@ -6,11 +6,10 @@ use Rattle.std.proofs.Common.{inl, inr, sym, ap, subst, arith, ◌∙◌}
 use Rattle.std.proofs.lemmas.Grind.{common_steps}
 use Rattle.std.proofs.lemmas.Bool.{eqb-true, eq-eqb}
 use Rattle.std.proofs.lemmas.List.{take_all}
-use Rattle.std.proofs.lemmas.Option.{same_Some, slice_get_within, slice_get_read}
+use Rattle.std.proofs.lemmas.Option.{same_Some, slice_get_within}
 use native.Mathlib.Decide.{dec_lt, ℕ_discrete}
 use Rattle.trs_defs.specs.Member.{In, in_first}
 use Rattle.trs_defs.proofs.Members.{no_in, in_left, in_right, in_either}
-use Rattle.trs_defs.proofs.ListItems.{item_there}
 use Rattle.dp_graph.specs.GraphConditions.{lists_of}
 use Rattle.dp_graph.specs.PlaceLists.{AreEmpty, PutsBehind}
 use Rattle.dp_graph.specs.PutOut.{ComesBefore}
@@ -18,7 +17,7 @@ use Rattle.dp_graph.specs.Rows.{Follows}
 use Rattle.dp_graph.specs.Waiting.{Has, Sets, Adds, OneEdge, RowEdges, LeadsTo, AllEdges, IsFreeLeader, IsReadySet, AddsIf, WaitsFor, WaitsForNone, WaitAlike, TakesOut, Trims, IsOut, LooksAt, Releases, Other, IsOne, OfRow, OfRows}
 use Rattle.dp_graph.specs.declared.waiting.Waiting.{Waiting}
 use Rattle.dp_graph.proofs.FoundLaws.{taken_more, more_taken}
-use Rattle.dp_graph.proofs.ListPlaces.{length_set, set_here, set_elsewhere, set_cases, set_at, in_single, lists_length, lists_set, row_at}
+use Rattle.dp_graph.proofs.ListPlaces.{length_set, set_here, set_elsewhere, set_at, in_single, lists_length}
 use Rattle.dp_graph.proofs.ReversedLaws.{put_follows}
 use Rattle.dp_graph.proofs.Sets.{at_number, at_others, true_is_not_false, none_in_empty, no_keys}
 

@@ -1,6 +1,5 @@
 use Rattle.std.proofs.Common.{refl}
 use Rattle.std.specs.Vec.{with_item}
-use Rattle.dp_graph.specs.GraphConditions.{lists_of}
 use Rattle.dp_graph.proofs.ListPlaces.{lists_set, row_at}
 use Rattle.dp_graph.proofs.WaitingLaws.{looked_at, looked_at_itself}
 use Rattle.dp_graph.proofs.waiting.Waiting.look_at.Goals as goal
