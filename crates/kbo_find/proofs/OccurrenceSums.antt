@@ -8,7 +8,7 @@ use Rattle.trs_defs.specs.Variable.{occurrences, occurrences_in_all}
 use Rattle.order_theory.specs.KnuthBendix.{weigh, weigh_all, KeepsOccurrences}
 use Rattle.trs_core.specs.Occurrences.{occurring_in, occurring_in_all}
 use Rattle.order_search.specs.dp_core.Symbols.{symbols_of, symbols_of_all}
-use Rattle.kbo_find.specs.Occurring.{AreOccurrences, times_in, StandAsOften}
+use Rattle.kbo_find.specs.Occurring.{AreOccurrences, ListsVariables, times_in, StandAsOften}
 use Rattle.kbo_find.specs.Counted.{total, AreCountsOf}
 use Rattle.kbo_find.specs.declared.counts.Counts.{Counts}
 use Rattle.kbo_find.specs.declared.occurrences.Occurrences.{Occurrences}
@@ -58,13 +58,13 @@ module _ (t : Tree) (all : Occurrences) (are : AreOccurrences t all) where
       let symbols = sum_by-IsPermutation weight (symbols_of t) all.symbols.items are.symbols in
       omega (arith, weigh_is weight t, h weight, variables, symbols)
 
-  pub occurring : (v : ℕ) → times_in v all.variables.items ≡ occurrences v t
+  pub occurring : ListsVariables t all.variables.items
   occurring v = sum_by-IsPermutation (is_it v) (occurring_in t) all.variables.items are.variables ∙ sym (occurrences_are v t)
 
 -- a variable occurs in one term as often as in the other where it stands in its list as often
-pub kept_by : (s t : Tree) (left right : Occurrences) → AreOccurrences s left → AreOccurrences t right → (keeps : Bool)
-    → (IsTrue keeps ↔ StandAsOften left.variables.items right.variables.items) → IsTrue keeps ↔ KeepsOccurrences s t
+pub kept_by : (s t : Tree) (left right : List ℕ) → ListsVariables s left → ListsVariables t right → (keeps : Bool) → (IsTrue keeps ↔ StandAsOften left right)
+    → IsTrue keeps ↔ KeepsOccurrences s t
 kept_by s t left right of_left of_right keeps h = (
-  λ e v. omega (arith, h.0 e v, occurring s left of_left v, occurring t right of_right v),
-  λ k. h.1 (λ v. omega (arith, k v, occurring s left of_left v, occurring t right of_right v)),
+  λ e v. omega (arith, h.0 e v, of_left v, of_right v),
+  λ k. h.1 (λ v. omega (arith, k v, of_left v, of_right v)),
 )

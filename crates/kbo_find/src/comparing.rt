@@ -7,7 +7,7 @@ ghost use Rattle.kbo_find.specs.Balanced.{rule_of};
 
 use crate::balance::Balance;
 use kbo_order::{Weighting, is_strict, is_weak};
-use trs_core::Rule;
+use order_search::LentRule;
 
 /// Whether the rule or pair of this number falls weakly; behind them, whether some pair falls
 /// strictly. The pairs stand behind so many rules.
@@ -50,22 +50,22 @@ fn falls_strictly<W: Weighting>(order: &W, balance: &Balance) -> bool
 }
 
 /// Whether the left side is the right one, or greater, by a walk over both.
-fn is_weakly_above<W: Weighting>(order: &W, rule: &Rule) -> bool
+fn is_weakly_above<W: Weighting>(order: &W, rule: &LentRule) -> bool
     ensures { result ≡ knuth_weak (W.weights order.now) (W.ranks order.now)
         rule.now.left rule.now.right }
 {
-    match is_weak(order, &rule.left, &rule.right) {
+    match is_weak(order, rule.left, rule.right) {
         Ok(answer) => answer,
         Err(_) => false,
     }
 }
 
 /// Whether the left side is greater, by a walk over both.
-fn is_above<W: Weighting>(order: &W, rule: &Rule) -> bool
+fn is_above<W: Weighting>(order: &W, rule: &LentRule) -> bool
     ensures { result ≡ knuth_strict (W.weights order.now) (W.ranks order.now)
         rule.now.left rule.now.right }
 {
-    match is_strict(order, &rule.left, &rule.right) {
+    match is_strict(order, rule.left, rule.right) {
         Ok(answer) => answer,
         Err(_) => false,
     }

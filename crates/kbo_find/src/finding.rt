@@ -18,9 +18,9 @@ use crate::weighing::balances;
 use assign_search::{Search, Stop};
 use kbo_order::Kbo;
 use order_search::placing::SymbolPlaces;
-use order_search::{DpPair, OrderProblem, Pairs, find_first};
+use order_search::{DpPair, LentRule, OrderProblem, Pairs, find_first, lend_marked};
 use std::alloc::Global;
-use trs_core::{OutOfMemory, Rule, Trs};
+use trs_core::{OutOfMemory, Trs};
 
 /// A Knuth-Bendix order that removes a pair of the problem. It is the first solution of a finite
 /// search: two slots for each symbol of the rules, ascending, and behind them for each marked root
@@ -73,12 +73,13 @@ pub fn find_kbo_in<P: Stop>(
     ensures continues { Continues P.Stop stop.old stop.new }
 {
     let over = OrderProblem::of(alloc, trs, pairs, problem)?;
+    let marked = lend_marked(alloc, &over.marked)?;
     search_orders(
         alloc,
         over.arities,
         &over.symbols,
-        over.rules,
-        &over.marked,
+        &over.rules,
+        &marked,
         budget,
         stop,
     )
@@ -89,8 +90,8 @@ fn search_orders<P: Stop>(
     alloc: Global,
     arities: &[u8],
     symbols: &[u32],
-    rules: &[Rule],
-    pairs: &[Rule],
+    rules: &[LentRule],
+    pairs: &[LentRule],
     budget: u64,
     stop: &mut P,
 ) -> Result<Search<Kbo>, OutOfMemory>

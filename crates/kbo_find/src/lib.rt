@@ -7,6 +7,7 @@ mod comparing;
 mod counts;
 mod finding;
 mod laws;
+mod left_sides;
 mod occurrences;
 mod space;
 mod table;

@@ -17,9 +17,8 @@ use crate::tops::{Top, top_at};
 use assign_search::{OutOfMemory, Space};
 use order_search::ends::{end_of, end_of_rule, later};
 use order_search::placing::SymbolPlaces;
-use order_search::{arity_of, falling_at, occurs_in_rule};
+use order_search::{LentRule, arity_of, falling_at, occurs_in_rule};
 use std::alloc::Global;
-use trs_core::Rule;
 
 /// How many ranks there are.
 const RANKS: u32 = 8;
@@ -32,8 +31,8 @@ pub(crate) struct KboSpace<'a> {
     pub(crate) symbols: &'a [u32],
     pub(crate) places: &'a SymbolPlaces<'a>,
     pub(crate) tops: &'a [Top],
-    pub(crate) rules: &'a [Rule],
-    pub(crate) pairs: &'a [Rule],
+    pub(crate) rules: &'a [LentRule<'a>],
+    pub(crate) pairs: &'a [LentRule<'a>],
     pub(crate) balances: &'a [Balance<'a>],
     pub(crate) ghost placed: { places.now ≡ symbols.now },
     pub(crate) ghost distinct: { AreDistinct symbols.now },
@@ -125,7 +124,7 @@ fn weight_count(arity: u32) -> u32
 }
 
 /// Whether the symbol stands in the rule or pair of this number, or the number is behind them.
-fn stands_in(symbol: u32, rules: &[Rule], pairs: &[Rule], number: usize) -> bool
+fn stands_in(symbol: u32, rules: &[LentRule], pairs: &[LentRule], number: usize) -> bool
     ensures { result ≡ uses_by symbol (slice_get (rules.now ++ pairs.now) number) }
 {
     match falling_at(rules, pairs, number) {

@@ -16,10 +16,10 @@ use crate::filters::symbol_filters;
 use crate::space::LpoSpace;
 use assign_search::{Search, Stop};
 use order_search::placing::SymbolPlaces;
-use order_search::{DpPair, OrderProblem, Pairs, find_first};
+use order_search::{DpPair, LentRule, OrderProblem, Pairs, find_first, lend_marked};
 use path_lpo::Lpo;
 use std::alloc::Global;
-use trs_core::{OutOfMemory, Rule, Trs};
+use trs_core::{OutOfMemory, Trs};
 
 /// A path order with argument filters that removes a pair of the problem. It is the first solution
 /// of a finite search: two slots for each symbol of the rules, ascending, and behind them for each
@@ -71,12 +71,13 @@ pub fn find_lpo_in<P: Stop>(
     ensures continues { Continues P.Stop stop.old stop.new }
 {
     let over = OrderProblem::of(alloc, trs, pairs, problem)?;
+    let marked = lend_marked(alloc, &over.marked)?;
     search_orders(
         alloc,
         over.arities,
         &over.symbols,
-        over.rules,
-        &over.marked,
+        &over.rules,
+        &marked,
         budget,
         stop,
     )
@@ -87,8 +88,8 @@ fn search_orders<P: Stop>(
     alloc: Global,
     arities: &[u8],
     symbols: &[u32],
-    rules: &[Rule],
-    pairs: &[Rule],
+    rules: &[LentRule],
+    pairs: &[LentRule],
     budget: u64,
     stop: &mut P,
 ) -> Result<Search<Lpo>, OutOfMemory>

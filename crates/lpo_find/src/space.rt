@@ -13,10 +13,9 @@ use crate::filters::filter_count;
 use assign_search::{OutOfMemory, Space};
 use order_search::ends::end_of_rule;
 use order_search::placing::SymbolPlaces;
-use order_search::{arity_of, falling_at, occurs_in_rule};
+use order_search::{LentRule, arity_of, falling_at, occurs_in_rule};
 use path_lpo::Filter;
 use std::alloc::Global;
-use trs_core::Rule;
 
 /// How many ranks there are.
 const RANKS: u32 = 8;
@@ -29,8 +28,8 @@ pub(crate) struct LpoSpace<'a> {
     pub(crate) symbols: &'a [u32],
     pub(crate) places: &'a SymbolPlaces<'a>,
     pub(crate) filters: &'a [Vec<Filter>],
-    pub(crate) rules: &'a [Rule],
-    pub(crate) pairs: &'a [Rule],
+    pub(crate) rules: &'a [LentRule<'a>],
+    pub(crate) pairs: &'a [LentRule<'a>],
     pub(crate) ghost placed: { places.now ≡ symbols.now },
     pub(crate) ghost filters_are: { map plain_filters filters.now
         ≡ map (λ f. filters_of (arity_with_mark arities.now f)) symbols.now },

@@ -24,3 +24,4 @@ pub mod RootSets
 pub mod FewPairs
 pub mod PlacingSymbols
 pub mod LastPlaces
+pub mod MarkedSides

@@ -105,10 +105,11 @@ module _ (system : System) (valid : IsSystem system) (few : length system.aritie
       }
 
 -- the same lists
-pub searchable_as : (symbols items : List ℕ) (rules pairs marked : List RewriteRule) → symbols ≡ items → pairs ≡ marked → IsSearchable items rules marked
-    → IsSearchable symbols rules pairs
-searchable_as symbols items rules pairs marked symbols_are pairs_are h =
-    subst (λ (l : List ℕ). IsSearchable l rules pairs) (sym symbols_are) (subst (λ (l : List RewriteRule). IsSearchable items rules l) (sym pairs_are) h)
+pub searchable_as : (symbols items : List ℕ) (falling rules pairs marked : List RewriteRule) → symbols ≡ items → falling ≡ rules → pairs ≡ marked
+    → IsSearchable items rules marked → IsSearchable symbols falling pairs
+searchable_as symbols items falling rules pairs marked symbols_are falling_are pairs_are h =
+    subst (λ (l : List ℕ). IsSearchable l falling pairs) (sym symbols_are)
+    (subst (λ (l : List RewriteRule). IsSearchable items l pairs) (sym falling_are) (subst (λ (l : List RewriteRule). IsSearchable items rules l) (sym pairs_are) h))
 
 module _ {Entry Answer : Type 0} (over : SearchOver) (entry : List ℕ → Table → ℕ → Entry) (entries : Answer → List Entry) (budget : ℕ) (rose : Type 0) where
   -- over these symbols, rules and marked pairs
@@ -132,11 +133,12 @@ module _ {Entry Answer : Type 0} (over : SearchOver) (entry : List ℕ → Table
     found_here (Ok Stopped) h = h
 
   -- what is found over what is looked for in the problem
-  pub found_of_problem : {E : Type 0} (system : System) (numbers arities symbols items : List ℕ) (rules pairs marked : List RewriteRule) (result : Result (Search Answer) E)
-      → symbols ≡ items → pairs ≡ marked → IsOrderProblem system numbers arities items rules marked → Answered arities symbols rules pairs result → FoundFor system numbers result
-  found_of_problem system numbers arities symbols items rules pairs marked result symbols_are pairs_are is h =
+  pub found_of_problem : {E : Type 0} (system : System) (numbers arities symbols items : List ℕ) (falling rules pairs marked : List RewriteRule) (result : Result (Search Answer) E)
+      → symbols ≡ items → falling ≡ rules → pairs ≡ marked → IsOrderProblem system numbers arities items rules marked
+      → Answered arities symbols falling pairs result → FoundFor system numbers result
+  found_of_problem system numbers arities symbols items falling rules pairs marked result symbols_are falling_are pairs_are is h =
       found_here system numbers is.pairs items is.of_problem result
       (subst (λ (l : List RewriteRule). Answered system.arities items system.rules l result) (pairs_are ∙ is.marked_are)
-      (subst (λ (l : List RewriteRule). Answered system.arities items l pairs result) is.rules_are
-      (subst (λ (l : List ℕ). Answered system.arities l rules pairs result) symbols_are
-      (subst (λ (l : List ℕ). Answered l symbols rules pairs result) is.arities_are h))))
+      (subst (λ (l : List RewriteRule). Answered system.arities items l pairs result) (falling_are ∙ is.rules_are)
+      (subst (λ (l : List ℕ). Answered system.arities l falling pairs result) symbols_are
+      (subst (λ (l : List ℕ). Answered l symbols falling pairs result) is.arities_are h))))

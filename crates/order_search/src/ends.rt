@@ -5,19 +5,20 @@ ghost use Rattle.order_search.specs.Distinct.{AreDistinct};
 ghost use Rattle.order_search.specs.Ends.{end_among};
 ghost use Rattle.order_search.specs.OrderSpace.{occurs_in};
 
+use crate::LentRule;
 use crate::placing::SymbolPlaces;
-use trs_core::{Rule, Term};
+use trs_core::Term;
 
 /// One more than the last place of a symbol of the rule, or 0 where none has a place.
-pub fn end_of_rule(places: &SymbolPlaces, rule: &Rule) -> u32
+pub fn end_of_rule(places: &SymbolPlaces, rule: &LentRule) -> u32
     requires distinct { AreDistinct places.now }
     requires few { length places.now < 2 ^ 32 }
     ensures { result ≡ end_among
         (λ f. occurs_in f rule.now.left || occurs_in f rule.now.right) places.now }
 {
     later(
-        end_of_term(places, &rule.left),
-        end_of_term(places, &rule.right),
+        end_of_term(places, rule.left),
+        end_of_term(places, rule.right),
     )
 }
 

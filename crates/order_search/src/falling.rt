@@ -2,10 +2,14 @@
 ghost use Rattle.std.specs.Prelude.{◌≡◌, ◌++◌, slice_get};
 ghost use Rattle.std.specs.Option.{option_copied};
 
-use trs_core::Rule;
+use crate::LentRule;
 
 /// Of the rules, and the pairs behind them, the one of this number.
-pub fn falling_at<'a>(rules: &'a [Rule], pairs: &'a [Rule], number: usize) -> Option<&'a Rule>
+pub fn falling_at<'a>(
+    rules: &'a [LentRule<'a>],
+    pairs: &'a [LentRule<'a>],
+    number: usize,
+) -> Option<&'a LentRule<'a>>
     ensures { option_copied result ≡ slice_get (rules.now ++ pairs.now) number }
 {
     match rules.get(number) {

@@ -3,7 +3,8 @@ ghost use Rattle.std.specs.Prelude.{◌≡◌, ◌||◌};
 ghost use Rattle.trs_core.specs.View.{tree};
 ghost use Rattle.order_search.specs.OrderSpace.{occurs_in};
 
-use trs_core::{Rule, Term};
+use crate::LentRule;
+use trs_core::Term;
 
 /// Whether the symbol stands in a term.
 pub fn occurs(f: u32, t: &Term) -> bool
@@ -26,8 +27,8 @@ pub fn occurs(f: u32, t: &Term) -> bool
 }
 
 /// Whether the symbol stands in a side of a rule.
-pub fn occurs_in_rule(f: u32, rule: &Rule) -> bool
+pub fn occurs_in_rule(f: u32, rule: &LentRule) -> bool
     ensures { result ≡ (occurs_in f rule.now.left || occurs_in f rule.now.right) }
 {
-    occurs(f, &rule.left) || occurs(f, &rule.right)
+    occurs(f, rule.left) || occurs(f, rule.right)
 }

@@ -4,21 +4,22 @@ ghost use Rattle.std.specs.List.Sorted.{IsStrictlyIncreasing};
 ghost use Rattle.pair_theory.specs.DependencyPair.{dependency_pairs};
 ghost use Rattle.order_search.specs.OrderProblem.{IsOrderProblem, IsSearchable};
 
-use crate::marking::marked_rules;
+use crate::lent::{LentRule, lend_rules};
+use crate::marking::{MarkedRule, marked_rules};
 use crate::symbols::order_symbols;
 use crate::taking::take_pairs;
 use dp_core::{Pairs, placed_pairs_are_the_pairs};
 use pair_theory::dependency_pairs_suffice;
 use std::alloc::Global;
-use trs_core::{OutOfMemory, Rule, Trs};
+use trs_core::{OutOfMemory, Trs};
 
 /// The symbols that an order needs values for, and the rules and the marked pairs that are to fall.
 #[derive(Drop)]
 pub struct OrderProblem<'a> {
     pub arities: &'a [u8],
     pub symbols: Vec<u32>,
-    pub rules: &'a [Rule],
-    pub marked: Vec<Rule>,
+    pub rules: Vec<LentRule<'a>>,
+    pub marked: Vec<MarkedRule>,
 }
 
 impl<'a> OrderProblem<'a> {
@@ -33,9 +34,9 @@ impl<'a> OrderProblem<'a> {
         requires ascending { IsStrictlyIncreasing problem.now }
         requires numbers { All (λ n. n < length (dependency_pairs trs.now.rules)) problem.now }
         ensures of_problem { IfOk result (λ p. IsOrderProblem trs.now problem.now
-            p.arities.now p.symbols.items p.rules.now p.marked.items) }
+            p.arities.now p.symbols.items p.rules.items p.marked.items) }
         ensures searchable { IfOk result (λ p.
-            IsSearchable p.symbols.items p.rules.now p.marked.items) }
+            IsSearchable p.symbols.items p.rules.items p.marked.items) }
     {
         let arities = trs.arities();
         let rules = trs.rules();
@@ -47,7 +48,7 @@ impl<'a> OrderProblem<'a> {
         Ok(OrderProblem {
             arities,
             symbols,
-            rules,
+            rules: lend_rules(alloc, rules)?,
             marked,
         })
     }

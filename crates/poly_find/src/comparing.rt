@@ -5,35 +5,35 @@ ghost use Rattle.order_search.specs.OrderSpace.{some_falls};
 ghost use Rattle.poly_find.specs.LinearTest.{linear_weak, linear_strict};
 ghost use Rattle.poly_find.specs.SmallTerms.{IsSafe};
 
+use order_search::LentRule;
 use poly_lin::{
     Coefficients, is_strictly_above, is_strictly_above_if_small, is_weakly_above,
     is_weakly_above_if_small,
 };
-use trs_core::Rule;
 
 /// Whether the left side is the right one, or greater.
-pub(crate) fn is_weak<T: Coefficients>(table: &T, small: bool, rule: &Rule) -> bool
+pub(crate) fn is_weak<T: Coefficients>(table: &T, small: bool, rule: &LentRule) -> bool
     requires { IsSafe (T.coefficient table.now) small rule.now }
     ensures { result ≡ linear_weak (T.coefficient table.now) rule.now.left rule.now.right }
 {
     if small {
-        return is_weakly_above_if_small(table, &rule.left, &rule.right);
+        return is_weakly_above_if_small(table, rule.left, rule.right);
     }
-    match is_weakly_above(table, &rule.left, &rule.right) {
+    match is_weakly_above(table, rule.left, rule.right) {
         Ok(answer) => answer,
         Err(_) => false,
     }
 }
 
 /// Whether the left side is greater.
-fn is_strict<T: Coefficients>(table: &T, small: bool, rule: &Rule) -> bool
+fn is_strict<T: Coefficients>(table: &T, small: bool, rule: &LentRule) -> bool
     requires { IsSafe (T.coefficient table.now) small rule.now }
     ensures { result ≡ linear_strict (T.coefficient table.now) rule.now.left rule.now.right }
 {
     if small {
-        return is_strictly_above_if_small(table, &rule.left, &rule.right);
+        return is_strictly_above_if_small(table, rule.left, rule.right);
     }
-    match is_strictly_above(table, &rule.left, &rule.right) {
+    match is_strictly_above(table, rule.left, rule.right) {
         Ok(answer) => answer,
         Err(_) => false,
     }
@@ -45,7 +45,7 @@ pub(crate) fn some_is_strict<T: Coefficients>(
     table: &T,
     small: &[bool],
     others: usize,
-    rules: &[Rule],
+    rules: &[LentRule],
 ) -> bool
     requires few { others + length rules.now < 2 ^ 32 }
     requires safe { (k : ℕ) (r : RewriteRule) → slice_get rules.now k ≡ Some r →

@@ -12,7 +12,7 @@ ghost use Rattle.poly_find.specs.Laws.{FindsPoly};
 
 use crate::searching::search_linear;
 use assign_search::{Search, Stop};
-use order_search::{DpPair, OrderProblem, Pairs};
+use order_search::{DpPair, OrderProblem, Pairs, lend_marked};
 use poly_lin::LinTable;
 use std::alloc::Global;
 use trs_core::{OutOfMemory, Trs};
@@ -66,12 +66,13 @@ pub fn find_poly_in<P: Stop>(
     ensures continues { Continues P.Stop stop.old stop.new }
 {
     let over = OrderProblem::of(alloc, trs, pairs, problem)?;
+    let marked = lend_marked(alloc, &over.marked)?;
     search_linear(
         alloc,
         over.arities,
         &over.symbols,
-        over.rules,
-        &over.marked,
+        &over.rules,
+        &marked,
         budget,
         stop,
     )

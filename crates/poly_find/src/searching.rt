@@ -12,11 +12,11 @@ use crate::sizes::small_ones;
 use crate::space::PolySpace;
 use crate::spans::spans;
 use assign_search::{Search, Stop};
-use order_search::find_first;
 use order_search::placing::SymbolPlaces;
+use order_search::{LentRule, find_first};
 use poly_lin::LinTable;
 use std::alloc::Global;
-use trs_core::{OutOfMemory, Rule};
+use trs_core::OutOfMemory;
 
 /// The interpretation of these symbols by which the rules and the marked pairs fall weakly, and
 /// some pair strictly: the first with values 0 to 2, a slot for the constant and one for the
@@ -26,8 +26,8 @@ pub(crate) fn search_linear<P: Stop>(
     alloc: Global,
     arities: &[u8],
     symbols: &[u32],
-    rules: &[Rule],
-    pairs: &[Rule],
+    rules: &[LentRule],
+    pairs: &[LentRule],
     budget: u64,
     stop: &mut P,
 ) -> Result<Search<LinTable>, OutOfMemory>

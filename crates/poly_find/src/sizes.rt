@@ -3,14 +3,15 @@ ghost use Rattle.std.specs.Prelude.{◌≡◌, ◌++◌, ◌-◌, ◌^◌, min, 
 ghost use Rattle.trs_core.specs.View.{tree};
 ghost use Rattle.poly_find.specs.SmallTerms.{greatest, has_small_sides};
 
+use order_search::LentRule;
 use std::alloc::Global;
-use trs_core::{GREATEST_NUMBER, OutOfMemory, Rule, Term};
+use trs_core::{GREATEST_NUMBER, OutOfMemory, Term};
 
 /// Of each rule, and of each pair behind them, whether both sides are small.
 pub(crate) fn small_ones(
     alloc: Global,
-    rules: &[Rule],
-    pairs: &[Rule],
+    rules: &[LentRule],
+    pairs: &[LentRule],
 ) -> Result<Vec<bool>, OutOfMemory>
     ensures { IfOk result (λ small. small.items ≡ map has_small_sides (rules.now ++ pairs.now)) }
 {
@@ -20,7 +21,7 @@ pub(crate) fn small_ones(
     Ok(small)
 }
 
-fn add_flags(small: &mut Vec<bool>, rules: &[Rule]) -> Result<(), OutOfMemory>
+fn add_flags(small: &mut Vec<bool>, rules: &[LentRule]) -> Result<(), OutOfMemory>
     ensures { OnOk result (small.new.items ≡ small.old.items ++ map has_small_sides rules.now) }
 {
     for rule in rules {
@@ -29,10 +30,10 @@ fn add_flags(small: &mut Vec<bool>, rules: &[Rule]) -> Result<(), OutOfMemory>
     Ok(())
 }
 
-fn has_small_sides(rule: &Rule) -> bool
+fn has_small_sides(rule: &LentRule) -> bool
     ensures { result ≡ has_small_sides rule.now }
 {
-    is_small(&rule.left) && is_small(&rule.right)
+    is_small(rule.left) && is_small(rule.right)
 }
 
 fn is_small(t: &Term) -> bool

@@ -13,9 +13,8 @@ use crate::spans::{SlotValues, Span, span_at};
 use assign_search::{OutOfMemory, Space};
 use order_search::ends::end_of_rule;
 use order_search::placing::SymbolPlaces;
-use order_search::{falling_at, occurs_in_rule};
+use order_search::{LentRule, falling_at, occurs_in_rule};
 use std::alloc::Global;
-use trs_core::Rule;
 
 /// How many values a coefficient has.
 const VALUES: u32 = 3;
@@ -29,8 +28,8 @@ pub(crate) struct PolySpace<'a> {
     pub(crate) places: &'a SymbolPlaces<'a>,
     pub(crate) owners: &'a [u32],
     pub(crate) spans: &'a [Span],
-    pub(crate) rules: &'a [Rule],
-    pub(crate) pairs: &'a [Rule],
+    pub(crate) rules: &'a [LentRule<'a>],
+    pub(crate) pairs: &'a [LentRule<'a>],
     pub(crate) small: &'a [bool],
     pub(crate) ghost placed: { places.now ≡ symbols.now },
     pub(crate) ghost distinct: { AreDistinct symbols.now },

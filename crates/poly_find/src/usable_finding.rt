@@ -11,7 +11,10 @@ use crate::chosen::choose_rules;
 use crate::searching::search_linear;
 use assign_search::{Search, Stop};
 use order_search::taking::take_pairs;
-use order_search::{DpPair, Pairs, marked_rules, placed_pairs_are_the_pairs, symbols_with_sides};
+use order_search::{
+    DpPair, Pairs, lend_marked, lend_rules, marked_rules, placed_pairs_are_the_pairs,
+    symbols_with_sides,
+};
 use pair_theory::dependency_pairs_suffice;
 use poly_lin::LinTable;
 use std::alloc::Global;
@@ -76,5 +79,15 @@ pub fn find_usable_in<P: Stop>(
     let usable = choose_rules(alloc, rules, &numbers)?;
     let symbols = symbols_with_sides(alloc, &usable, &taken)?;
     let marked = marked_rules(alloc, &taken)?;
-    search_linear(alloc, arities, &symbols, &usable, &marked, budget, stop)
+    let lent_rules = lend_rules(alloc, &usable)?;
+    let lent_pairs = lend_marked(alloc, &marked)?;
+    search_linear(
+        alloc,
+        arities,
+        &symbols,
+        &lent_rules,
+        &lent_pairs,
+        budget,
+        stop,
+    )
 }

@@ -10,11 +10,11 @@ returns-in-Ok g c =
     let weights = g.W.Weighting.weights c.args.order.now in
     let ranks = g.W.Weighting.ranks c.args.order.now in
     subst (λ (r : RewriteRule). c.in-Ok.answer ≡ knuth_strict weights ranks r.left r.right) c.rule.view_is
-    (strict_answer weights ranks (tree c.rule.inside.left) (tree c.rule.inside.right) c.in-Ok.answer c.in-Ok.ensures)
+    (strict_answer weights ranks (tree c.rule.inside.left.now) (tree c.rule.inside.right.now) c.in-Ok.answer c.in-Ok.ensures)
 
 pub returns-in-Err : goal.returns-in-Err
 returns-in-Err g c =
     let weights = g.W.Weighting.weights c.args.order.now in
     let ranks = g.W.Weighting.ranks c.args.order.now in
     subst (λ (r : RewriteRule). false ≡ knuth_strict weights ranks r.left r.right) c.rule.view_is
-    (strict_too_big weights ranks (tree c.rule.inside.left) (tree c.rule.inside.right) c.in-Err.ensures)
+    (strict_too_big weights ranks (tree c.rule.inside.left.now) (tree c.rule.inside.right.now) c.in-Err.ensures)

@@ -10,11 +10,11 @@ returns-in-Ok g c =
     let weights = g.W.Weighting.weights c.args.order.now in
     let ranks = g.W.Weighting.ranks c.args.order.now in
     subst (λ (r : RewriteRule). c.in-Ok.answer ≡ knuth_weak weights ranks r.left r.right) c.rule.view_is
-    (weak_answer weights ranks (tree c.rule.inside.left) (tree c.rule.inside.right) c.in-Ok.answer c.in-Ok.ensures)
+    (weak_answer weights ranks (tree c.rule.inside.left.now) (tree c.rule.inside.right.now) c.in-Ok.answer c.in-Ok.ensures)
 
 pub returns-in-Err : goal.returns-in-Err
 returns-in-Err g c =
     let weights = g.W.Weighting.weights c.args.order.now in
     let ranks = g.W.Weighting.ranks c.args.order.now in
     subst (λ (r : RewriteRule). false ≡ knuth_weak weights ranks r.left r.right) c.rule.view_is
-    (weak_too_big weights ranks (tree c.rule.inside.left) (tree c.rule.inside.right) c.in-Err.ensures)
+    (weak_too_big weights ranks (tree c.rule.inside.left.now) (tree c.rule.inside.right.now) c.in-Err.ensures)

@@ -10,4 +10,4 @@ returns g c =
     let ranks = g.P.Precedence.ranks c.args.order.now in
     let filters = g.P.Precedence.filters c.args.order.now in
     subst (λ (r : RewriteRule). c.is_weak.result ≡ path_weak ranks filters r.left r.right) c.rule.view_is
-    (weak_answer ranks filters (tree c.rule.inside.left) (tree c.rule.inside.right) c.is_weak.result c.is_weak.ensures)
+    (weak_answer ranks filters (tree c.rule.inside.left.now) (tree c.rule.inside.right.now) c.is_weak.result c.is_weak.ensures)

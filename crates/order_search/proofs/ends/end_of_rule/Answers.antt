@@ -9,5 +9,5 @@ use Rattle.order_search.proofs.ends.end_of_rule.Goals as goal
 pub returns : goal.returns
 returns c =
     subst (λ (r : RewriteRule). c.later.result ≡ end_among (λ f. occurs_in f r.left || occurs_in f r.right) c.args.places.now) c.rule.view_is
-    (either_end (λ f. occurs_in f (tree c.rule.inside.left)) (λ f. occurs_in f (tree c.rule.inside.right)) c.args.places.now c.end_of_term.result c.end_of_term-2.result c.later.result
+    (either_end (λ f. occurs_in f (tree c.rule.inside.left.now)) (λ f. occurs_in f (tree c.rule.inside.right.now)) c.args.places.now c.end_of_term.result c.end_of_term-2.result c.later.result
     c.end_of_term.ensures c.end_of_term-2.ensures c.later.ensures)

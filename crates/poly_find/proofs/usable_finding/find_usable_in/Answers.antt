@@ -64,7 +64,7 @@ search_linear-requires-clause-distinct g c =
     let syms : AreSymbols (symbols_of_rules usable ++ symbols_below_roots taken) taken symbols =
     subst (λ rs. AreSymbols (symbols_of_rules rs ++ symbols_below_roots taken) taken symbols) c.deref-2.ensures.value
     (subst (λ ps. AreSymbols (symbols_of_rules c.deref-2.result.now ++ symbols_below_roots ps) ps symbols) c.deref-3.ensures.value c.in_ok-symbols.ensures) in
-    subst AreDistinct (sym c.deref-5.ensures.value) (distinct system valid few good c.args.problem.now taken are numbers usable are_usable chosen symbols syms)
+    subst AreDistinct (sym c.deref-7.ensures.value) (distinct system valid few good c.args.problem.now taken are numbers usable are_usable chosen symbols syms)
 
 pub search_linear-requires-clause-small_symbols : goal.search_linear-requires-clause-small_symbols
 search_linear-requires-clause-small_symbols g c =
@@ -84,7 +84,7 @@ search_linear-requires-clause-small_symbols g c =
     let syms : AreSymbols (symbols_of_rules usable ++ symbols_below_roots taken) taken symbols =
     subst (λ rs. AreSymbols (symbols_of_rules rs ++ symbols_below_roots taken) taken symbols) c.deref-2.ensures.value
     (subst (λ ps. AreSymbols (symbols_of_rules c.deref-2.result.now ++ symbols_below_roots ps) ps symbols) c.deref-3.ensures.value c.in_ok-symbols.ensures) in
-    subst (λ (l : List ℕ). All (λ f. f < 8192) l) (sym c.deref-5.ensures.value) (all_low system valid few good c.args.problem.now taken are numbers usable are_usable chosen symbols syms)
+    subst (λ (l : List ℕ). All (λ f. f < 8192) l) (sym c.deref-7.ensures.value) (all_low system valid few good c.args.problem.now taken are numbers usable are_usable chosen symbols syms)
 
 pub search_linear-requires-clause-few_symbols : goal.search_linear-requires-clause-few_symbols
 search_linear-requires-clause-few_symbols g c =
@@ -104,7 +104,7 @@ search_linear-requires-clause-few_symbols g c =
     let syms : AreSymbols (symbols_of_rules usable ++ symbols_below_roots taken) taken symbols =
     subst (λ rs. AreSymbols (symbols_of_rules rs ++ symbols_below_roots taken) taken symbols) c.deref-2.ensures.value
     (subst (λ ps. AreSymbols (symbols_of_rules c.deref-2.result.now ++ symbols_below_roots ps) ps symbols) c.deref-3.ensures.value c.in_ok-symbols.ensures) in
-    subst (λ (l : List ℕ). length l ≤ 8192) (sym c.deref-5.ensures.value) (few_symbols system valid few good c.args.problem.now taken are numbers usable are_usable chosen symbols syms)
+    subst (λ (l : List ℕ). length l ≤ 8192) (sym c.deref-7.ensures.value) (few_symbols system valid few good c.args.problem.now taken are numbers usable are_usable chosen symbols syms)
 
 pub search_linear-requires-clause-few_falling : goal.search_linear-requires-clause-few_falling
 search_linear-requires-clause-few_falling g c =
@@ -124,16 +124,16 @@ search_linear-requires-clause-few_falling g c =
     let syms : AreSymbols (symbols_of_rules usable ++ symbols_below_roots taken) taken symbols =
     subst (λ rs. AreSymbols (symbols_of_rules rs ++ symbols_below_roots taken) taken symbols) c.deref-2.ensures.value
     (subst (λ ps. AreSymbols (symbols_of_rules c.deref-2.result.now ++ symbols_below_roots ps) ps symbols) c.deref-3.ensures.value c.in_ok-symbols.ensures) in
-    let marked : c.deref-7.result.now ≡ map marked_rule taken =
-    c.deref-7.ensures.value ∙ (c.in_ok-marked.ensures ∙ ap (λ (l : List DependencyPair). map marked_rule l) c.deref-4.ensures.value) in
+    let marked : c.deref-9.result.now ≡ map marked_rule taken =
+    c.deref-9.ensures.value ∙ (c.in_ok-lent_pairs.ensures ∙ (c.deref-6.ensures.value ∙ (c.in_ok-marked.ensures ∙ ap (λ (l : List DependencyPair). map marked_rule l) c.deref-4.ensures.value))) in
     let count : length (placed_pairs system.rules) ≡ length (dependency_pairs system.rules) = c.placed_pairs_are_the_pairs.ensures.all system valid in
     let placed = few_pairs system.rules in
     let nodes = c.rules-rules.ensures.limits.nodes in
     let all : length (dependency_pairs system.rules) ≤ 65536 = omega (arith, count, placed, nodes) in
     let within = subst (λ (l : List DependencyPair). All (λ n. n < length l) c.args.problem.now) c.requires.pairs c.requires.numbers in
     let h = few_falling system valid few good c.args.problem.now taken are numbers usable are_usable chosen symbols syms c.rules-rules.ensures.limits.rules all c.requires.ascending within in
-    let a : length c.deref-6.result.now ≡ length usable = ap length c.deref-6.ensures.value in
-    let b : length c.deref-7.result.now ≡ length (map marked_rule taken) = ap length marked in
+    let a : length c.deref-8.result.now ≡ length usable = ap length (c.deref-8.ensures.value ∙ (c.in_ok-lent_rules.ensures ∙ c.deref-5.ensures.value)) in
+    let b : length c.deref-9.result.now ≡ length (map marked_rule taken) = ap length marked in
     omega (arith, h, a, b)
 
 pub returns-clause-answer : goal.returns-clause-answer
@@ -154,7 +154,7 @@ returns-clause-answer g c =
     let syms : AreSymbols (symbols_of_rules usable ++ symbols_below_roots taken) taken symbols =
     subst (λ rs. AreSymbols (symbols_of_rules rs ++ symbols_below_roots taken) taken symbols) c.deref-2.ensures.value
     (subst (λ ps. AreSymbols (symbols_of_rules c.deref-2.result.now ++ symbols_below_roots ps) ps symbols) c.deref-3.ensures.value c.in_ok-symbols.ensures) in
-    let marked : c.deref-7.result.now ≡ map marked_rule taken =
-    c.deref-7.ensures.value ∙ (c.in_ok-marked.ensures ∙ ap (λ (l : List DependencyPair). map marked_rule l) c.deref-4.ensures.value) in
-    found_for system valid few good c.args.problem.now taken are numbers usable are_usable chosen symbols syms c.args.budget _ c.arities-arities.result.now c.deref-5.result.now c.deref-6.result.now c.deref-7.result.now c.search_linear.result
-    c.arities-arities.ensures c.deref-5.ensures.value c.deref-6.ensures.value marked c.search_linear.ensures.answer
+    let marked : c.deref-9.result.now ≡ map marked_rule taken =
+    c.deref-9.ensures.value ∙ (c.in_ok-lent_pairs.ensures ∙ (c.deref-6.ensures.value ∙ (c.in_ok-marked.ensures ∙ ap (λ (l : List DependencyPair). map marked_rule l) c.deref-4.ensures.value))) in
+    found_for system valid few good c.args.problem.now taken are numbers usable are_usable chosen symbols syms c.args.budget _ c.arities-arities.result.now c.deref-7.result.now c.deref-8.result.now c.deref-9.result.now c.search_linear.result
+    c.arities-arities.ensures c.deref-7.ensures.value (c.deref-8.ensures.value ∙ (c.in_ok-lent_rules.ensures ∙ c.deref-5.ensures.value)) marked c.search_linear.ensures.answer
