@@ -1,8 +1,8 @@
 //! Left sides of rules, of which each serves the rules that follow one another with it.
 ghost use Rattle.std.specs.Prelude.{◌≡◌, IfOk};
+ghost use Rattle.std.specs.List.Sorted.{IsNonDecreasing};
 ghost use Rattle.trs_core.specs.View.{tree};
 ghost use Rattle.kbo_find.specs.Counted.{AreCountsOf};
-ghost use Rattle.std.specs.List.Sorted.{IsNonDecreasing};
 ghost use Rattle.kbo_find.specs.Occurring.{ListsVariables};
 
 use crate::counts::Counts;

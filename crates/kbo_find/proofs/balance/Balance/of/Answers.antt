@@ -12,7 +12,7 @@ use Rattle.kbo_find.proofs.balance.Balance.of.Goals as goal
 pub invariant_of-result-clause-left_counted : goal.invariant_of-result-clause-left_counted
 invariant_of-result-clause-left_counted c =
     let side = c.args.left_side.now in
-    subst (λ (n : Counts). AreCountsOf c.args.rule.now.left n) (sym c.in_ok-clone.ensures)
+    subst (λ (n : Counts). AreCountsOf c.args.rule.now.left n) (sym c.in_ok-clone.ensures.cases)
     (subst (λ (t : Tree). AreCountsOf t side.counts.value) c.requires side.counted)
 
 pub invariant_of-result-clause-right_counted : goal.invariant_of-result-clause-right_counted

@@ -7,7 +7,7 @@ use Rattle.kbo_find.proofs.left_sides.LeftSide.of.Goals as goal
 
 pub invariant_of-result-clause-counted : goal.invariant_of-result-clause-counted
 invariant_of-result-clause-counted c =
-    subst (λ (n : Counts). AreCountsOf (tree c.args.term.now) n) (sym c.in_ok-counts-2.ensures)
+    subst (λ (n : Counts). AreCountsOf (tree c.args.term.now) n) (sym c.in_ok-counts-2.ensures.ok)
     (counted (tree c.args.term.now) c.in_ok-occurrences.occurrences c.in_ok-occurrences.ensures c.in_ok-counts.counts c.in_ok-counts.ensures)
 
 pub invariant_of-result-clause-listed : goal.invariant_of-result-clause-listed
