@@ -44,13 +44,14 @@ pub fn find_parallel<P: Stop>(
     if !are_left_linear(trs) {
         return Ok(Search::NotThere);
     }
+    let by_root = RulesByRoot::new(alloc, trs)?;
     let mut pool = Pool::new(alloc);
     let mut steps = Vec::new(alloc);
     for peak in peaks {
         if stop.stopped() {
             return Ok(Search::Stopped);
         }
-        match closing(alloc, &mut pool, trs, peak)? {
+        match closing(alloc, &mut pool, trs, &by_root, peak)? {
             Some(step) => steps.push(step)?,
             None => return Ok(Search::NotThere),
         }
@@ -82,8 +83,10 @@ fn closing(
     alloc: Global,
     pool: &mut Pool,
     trs: &Trs,
+    by_root: &RulesByRoot,
     peak: &Peak,
 ) -> Result<Option<Vec<PathStep>>, OutOfMemory>
+    requires rules { by_root.now ≡ trs.now }
     requires sides { HasSides peak.now }
     ensures step { IfOk result (λ found. MatchOption found
         (HasNoClosing trs.now.rules peak.now)
@@ -91,7 +94,7 @@ fn closing(
     ensures released { OnOk result (pool.new ≡ pool.old) }
 {
     let mark = pool.mark();
-    let step = closing_within(alloc, pool, trs, peak)?;
+    let step = closing_within(alloc, pool, trs, by_root, peak)?;
     pool.release(mark);
     Ok(step)
 }
@@ -101,8 +104,10 @@ fn closing_within(
     alloc: Global,
     pool: &mut Pool,
     trs: &Trs,
+    by_root: &RulesByRoot,
     peak: &Peak,
 ) -> Result<Option<Vec<PathStep>>, OutOfMemory>
+    requires rules { by_root.now ≡ trs.now }
     requires sides { HasSides peak.now }
     ensures step { IfOk result (λ found. MatchOption found
         (HasNoClosing trs.now.rules peak.now)
@@ -111,7 +116,6 @@ fn closing_within(
 {
     let left = pool.intern(alloc, &peak.left)?;
     let right = pool.intern(alloc, &peak.right)?;
-    let by_root = RulesByRoot::new(alloc, trs)?;
     let mut place = Vec::new(alloc);
     let mut steps = Vec::new(alloc);
     let ids = (left, right);
@@ -119,7 +123,7 @@ fn closing_within(
         alloc,
         pool,
         trs,
-        &by_root,
+        by_root,
         &peak.left,
         &peak.right,
         ids,

@@ -16,6 +16,7 @@ loop-peak-init g c =
 
 pub closing-requires : goal.closing-requires
 closing-requires g c = record {
+  rules = c.in_ok-by_root.ensures;
   sides = c.critical_peaks_have_sides.ensures c.args.peaks.now c.requires.critical c.peak-item.result
       (read_in c.args.peaks.now c.loop-peak.peak-index c.peak-item.result c.loop-peak-test.true c.peak-item.is);
 }
