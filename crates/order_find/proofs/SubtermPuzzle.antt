@@ -3,11 +3,14 @@ use Rattle.std.specs.Prelude.{ℕ, ◌+◌, ◌<◌, Bool, true, false, ◌&&◌
 use Rattle.std.proofs.Common.{zero, suc, refl, sym, ap, arith, ◌∙◌}
 use Rattle.std.proofs.lemmas.List.{length-map}
 use Rattle.pair_theory.specs.DependencyPair.{DependencyPair}
+use Rattle.assign_search.specs.Rest.{reach}
 use Rattle.kbo_find.specs.pair_order.Entries.{place_among}
+use Rattle.order_search.specs.Ends.{end_among}
 use Rattle.order_search.specs.Slots.{Slot, slot, table_from, table_of, puzzle_of}
 use Rattle.order_search.proofs.Lawful.{and_true}
 use Rattle.order_search.proofs.Tests.{is_lt}
-use Rattle.order_search.proofs.Constraints.{and_second}
+use Rattle.order_search.proofs.LastPlaces.{end_of_all, reach_of_owners}
+use Rattle.order_search.proofs.Constraints.{and_second, past_end}
 use Rattle.order_search.proofs.SlotConstraints.{at_item, at_last, one_more}
 use Rattle.order_find.specs.Subterms.{has_subterm}
 use Rattle.order_find.specs.SubtermSpace.{weak, some_strict, passes, some_passes, subterm_met, subterm_about, subterm_slots, arity_in, subterm_search}
@@ -27,6 +30,9 @@ module _ (arities roots : List ℕ) (pairs : List DependencyPair) where
   pub many_constraints : length pairs + 1 ≡ (puzzle_of (subterm_search arities roots pairs)).constraints
   many_constraints = sym (one_more weak pairs (some_strict pairs))
 
+  pub past_pairs : (c : ℕ) → slice_get pairs c ≡ None → c < (puzzle_of (subterm_search arities roots pairs)).constraints → c ≡ length pairs
+  past_pairs c none below = let past = past_end pairs c none in let many = many_constraints in omega (arith, past, many, below)
+
   slot_there : (s : ℕ) → s < length roots → nat_lt s (length (subterm_slots roots)) ≡ true
   slot_there s h = is_lt s (length (subterm_slots roots)) (let e = many_slots in omega (arith, h, e))
 
@@ -34,11 +40,22 @@ module _ (arities roots : List ℕ) (pairs : List DependencyPair) where
   uses_all c s e h = and_true _ _ (slot_there s h) (at_last (λ d. subterm_about d (get_or (subterm_slots roots) s (slot 0 0))) weak pairs (some_strict pairs) c e)
 
   pub uses_roots : (c s d : ℕ) (p : DependencyPair) → slice_get pairs c ≡ Some p → s < length roots
-      → (puzzle_of (subterm_search arities roots pairs)).uses c s ≡ (get_or roots s d == p.from.symbol) || (get_or roots s d == p.to.symbol)
+      → (puzzle_of (subterm_search arities roots pairs)).uses c s ≡ (p.from.symbol == get_or roots s d) || (p.to.symbol == get_or roots s d)
   uses_roots c s d p e h =
       and_second _ _ (slot_there s h)
       ∙ (at_item (λ k. subterm_about k (get_or (subterm_slots roots) s (slot 0 0))) weak pairs (some_strict pairs ∷ []) c p e
       ∙ ap (subterm_about (weak p)) (slot_at roots s d h))
+
+  pub reach_pair : (c e : ℕ) (p : DependencyPair) → slice_get pairs c ≡ Some p → e ≡ end_among (λ f. p.from.symbol == f || p.to.symbol == f) roots
+      → e ≡ reach (puzzle_of (subterm_search arities roots pairs)) c
+  reach_pair c e p at is =
+      is ∙ sym (reach_of_owners (puzzle_of (subterm_search arities roots pairs)) c (λ f. p.from.symbol == f || p.to.symbol == f) roots (sym many_slots)
+      (λ s below. uses_roots c s 0 p at below))
+
+  pub reach_last : (c : ℕ) → c ≡ length pairs → length roots ≡ reach (puzzle_of (subterm_search arities roots pairs)) c
+  reach_last c last =
+      sym (end_of_all roots)
+      ∙ sym (reach_of_owners (puzzle_of (subterm_search arities roots pairs)) c (λ f. true) roots (sym many_slots) (λ s below. uses_all c s last below))
 
   pub truth_last : (c : ℕ) (values : List ℕ) → c ≡ length pairs → (puzzle_of (subterm_search arities roots pairs)).truth c values ≡ some_passes (table_of (subterm_slots roots) values) pairs
   truth_last c values e = at_last (λ d. subterm_met d (table_of (subterm_slots roots) values)) weak pairs (some_strict pairs) c e

@@ -25,7 +25,7 @@ same_some (p ∷ pairs) t u same =
 same_met : (d : SubtermConstraint) (t u : Table) → ((f part : ℕ) → subterm_about d (slot f part) ≡ true → t f part ≡ u f part) → subterm_met d t ≡ subterm_met d u
 same_met (weak p) t u same =
     same_passes has_subterm p t u (same p.from.symbol 0 (or_left (p.from.symbol == p.from.symbol) _ (self_test p.from.symbol)))
-    (same p.to.symbol 0 (or_right (p.to.symbol == p.from.symbol) _ (self_test p.to.symbol)))
+    (same p.to.symbol 0 (or_right (p.from.symbol == p.to.symbol) _ (self_test p.to.symbol)))
 same_met (some_strict pairs) t u same = same_some pairs t u (λ f part. same f part refl)
 
 pub subterm_lawful : (arities roots : List ℕ) (pairs : List DependencyPair) → IsLawful (puzzle_of (subterm_search arities roots pairs))

@@ -35,7 +35,7 @@ subterm_met (some_strict pairs) table = some_passes table pairs
 
 -- over the slots of its two roots; some strict pair over all slots
 abbrev pub subterm_about : SubtermConstraint → Slot → Bool
-subterm_about (weak p) s = (s.symbol == p.from.symbol) || (s.symbol == p.to.symbol)
+subterm_about (weak p) s = (p.from.symbol == s.symbol) || (p.to.symbol == s.symbol)
 subterm_about (some_strict pairs) s = true
 
 abbrev pub arity_in : List ℕ → ℕ → ℕ

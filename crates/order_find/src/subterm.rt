@@ -6,6 +6,7 @@ ghost use Rattle.pair_theory.specs.DependencyPair.{dependency_pairs};
 ghost use Rattle.assign_search.specs.Continues.{Continues};
 ghost use Rattle.order_search.specs.dp_core.PlacedPairs.{placed_pairs};
 ghost use Rattle.order_search.specs.Outcome.{IsFinding, IsNotThere, IsSpent};
+ghost use Rattle.order_search.specs.Distinct.{AreDistinct};
 ghost use Rattle.order_search.specs.Slots.{puzzle_of};
 ghost use Rattle.order_find.specs.SubtermSpace.{subterm_search};
 ghost use Rattle.order_find.specs.SubtermRow.{FindsSubterm, FailsSubterm, ArePlaces, places_of};
@@ -87,6 +88,7 @@ fn search_places<P: Stop>(
     stop: &mut P,
 ) -> Result<Search<Vec<(u32, u8)>>, OutOfMemory>
     requires bytes { AreBytes arities.now }
+    requires distinct { AreDistinct roots.now }
     requires few_roots { length roots.now < 2 ^ 32 }
     requires few_pairs { length pairs.now + 1 < 2 ^ 32 }
     ensures answer { IfOk result (IsFinding

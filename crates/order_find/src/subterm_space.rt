@@ -6,6 +6,8 @@ ghost use Rattle.trs_defs.specs.Position.{argument_at};
 ghost use Rattle.trs_core.specs.SystemLimits.{AreBytes};
 ghost use Rattle.trs_core.specs.View.{tree};
 ghost use Rattle.pair_theory.specs.Marked.{plain};
+ghost use Rattle.order_search.specs.Distinct.{AreDistinct};
+ghost use Rattle.order_search.specs.Ends.{end_among};
 ghost use Rattle.order_search.specs.Slots.{puzzle_of, table_of};
 ghost use Rattle.order_find.specs.Subterms.{has_subterm, has_proper_subterm};
 ghost use Rattle.order_find.specs.SubtermSpace.{subterm_search, passes, some_passes, subterm_slots};
@@ -13,6 +15,7 @@ ghost use Rattle.order_find.specs.SubtermLawful.{subterm_lawful};
 
 use crate::within::{contains, contains_properly};
 use assign_search::{OutOfMemory, Space};
+use order_search::ends::{end_of, later};
 use order_search::placing::SymbolPlaces;
 use order_search::roots::{from_root, to_root};
 use order_search::{Side, Sides, value_at};
@@ -27,6 +30,7 @@ pub(crate) struct SubtermSpace<'a> {
     pub(crate) slots: &'a SymbolPlaces<'a>,
     pub(crate) pairs: &'a [Sides<'a>],
     pub(crate) ghost indexed: { slots.now ≡ roots.now },
+    pub(crate) ghost distinct: { AreDistinct roots.now },
     pub(crate) ghost bytes: { AreBytes arities.now },
     pub(crate) ghost few_roots: { length roots.now < 2 ^ 32 },
     pub(crate) ghost few_pairs: { length pairs.now + 1 < 2 ^ 32 },
@@ -58,6 +62,13 @@ impl<'a> Space for SubtermSpace<'a> {
         }
         let pair = &self.pairs[c as usize];
         has_root(pair, self.roots[slot as usize])
+    }
+
+    fn reach(&self, c: u32) -> u32 {
+        match self.pairs.get(c as usize) {
+            Some(pair) => end_of_pair(self.slots, pair),
+            None => self.slots(),
+        }
     }
 
     fn holds(&self, _alloc: Global, c: u32, values: &[u32]) -> Result<bool, OutOfMemory> {
@@ -128,9 +139,22 @@ impl<'a> SubtermSpace<'a> {
     }
 }
 
+/// One more than the last place of a root of the pair, or 0 where neither has a place.
+fn end_of_pair(places: &SymbolPlaces, pair: &Sides) -> u32
+    requires distinct { AreDistinct places.now }
+    requires few { length places.now < 2 ^ 32 }
+    ensures { result
+        ≡ end_among (λ f. pair.now.from.symbol == f || pair.now.to.symbol == f) places.now }
+{
+    later(
+        end_of(places, from_root(pair)),
+        end_of(places, to_root(pair)),
+    )
+}
+
 /// Whether a side of the pair has the root.
 fn has_root(pair: &Sides, f: u32) -> bool
-    ensures { result ≡ (f == pair.now.from.symbol || f == pair.now.to.symbol) }
+    ensures { result ≡ (pair.now.from.symbol == f || pair.now.to.symbol == f) }
 {
-    f == from_root(pair) || f == to_root(pair)
+    from_root(pair) == f || to_root(pair) == f
 }

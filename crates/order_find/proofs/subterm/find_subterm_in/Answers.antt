@@ -1,14 +1,20 @@
-use Rattle.std.proofs.Common.{◌≡◌, ◌≤◌, length, subst, ◌∙◌, arith}
+use Rattle.std.proofs.Common.{◌≡◌, ◌≤◌, length, sym, subst, ◌∙◌, arith}
 use Rattle.pair_theory.specs.DependencyPair.{dependency_pairs}
 use Rattle.order_search.specs.dp_core.PlacedPairs.{placed_pairs}
 use Rattle.order_search.specs.dp_core.Numbered.{ArePairsOf}
 use Rattle.order_search.proofs.dp_core.AllNumbers.{few_pairs}
+use Rattle.order_search.specs.Distinct.{AreDistinct}
 use Rattle.order_search.proofs.FewPairs.{few_taken, few_roots}
+use Rattle.order_search.proofs.Repeats.{distinct_of, once_distinct}
 use Rattle.order_find.proofs.Findings.{of_problem, found_of_problem}
 use Rattle.order_find.proofs.subterm.find_subterm_in.Goals as goal
 
 pub search_places-requires-clause-bytes : goal.search_places-requires-clause-bytes
 search_places-requires-clause-bytes g c = rw c.arities-arities.ensures c.systems_are_valid.ensures.bytes
+
+pub search_places-requires-clause-distinct : goal.search_places-requires-clause-distinct
+search_places-requires-clause-distinct g c =
+    subst AreDistinct (sym c.deref-2.ensures.value) (once_distinct c.in_ok-roots.roots.items (distinct_of c.in_ok-roots.roots.items c.in_ok-roots.ensures.increasing))
 
 pub search_places-requires-clause-few_roots : goal.search_places-requires-clause-few_roots
 search_places-requires-clause-few_roots g c =
