@@ -2,7 +2,7 @@
 use crate::mark::Mark;
 use std::alloc::Global;
 use term_pool::{Pool, RulesByRoot};
-use trs_caps::{Cap, cap};
+use trs_caps::{Cap, KnownCaps};
 use trs_core::OutOfMemory;
 
 impl Mark for Cap {
@@ -16,9 +16,15 @@ impl Mark for Cap {
     ghost parted = { AreDisjointCaps };
 
     /// The cap of the term, with its variables fixed.
-    fn of(alloc: Global, pool: &Pool, by_root: &RulesByRoot, id: u32) -> Result<Cap, OutOfMemory> {
+    fn of(
+        alloc: Global,
+        pool: &Pool,
+        by_root: &RulesByRoot,
+        id: u32,
+        known: &mut KnownCaps,
+    ) -> Result<Cap, OutOfMemory> {
         let term = pool.read(alloc, id)?;
-        let made = cap(alloc, by_root, &term, true)?;
+        let made = known.cap(alloc, by_root, &term, true)?;
         Ok(made)
     }
 

@@ -2,6 +2,7 @@
 use crate::mark::Mark;
 use std::alloc::Global;
 use term_pool::{Pool, RulesByRoot};
+use trs_caps::KnownCaps;
 use trs_core::OutOfMemory;
 
 /// The id of a term, and whether it is a normal form.
@@ -26,6 +27,7 @@ impl Mark for Ending {
         pool: &Pool,
         by_root: &RulesByRoot,
         id: u32,
+        _known: &mut KnownCaps,
     ) -> Result<Ending, OutOfMemory> {
         let is_normal = pool.is_normal(alloc, by_root, id)?;
         Ok(Ending { id, is_normal })

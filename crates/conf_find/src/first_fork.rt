@@ -19,6 +19,7 @@ use join_find::critical_peaks_have_sides;
 use rewrite_core::{ForkTest, PathStep, Peak};
 use std::alloc::Global;
 use term_pool::{Pool, RulesByRoot, ids_are_distinct};
+use trs_caps::KnownCaps;
 use trs_core::{OutOfMemory, Trs};
 
 /// The fork at the first peak that has one: to the first term that the left side reaches and that
@@ -114,8 +115,9 @@ fn fork_between<M: Mark>(
         (λ f. PartsLists M.never_meet by_root.now.rules peak.now (listed_at pool.now lefts.now)
         (listed_at pool.now rights.now) (fork_of f))) }
 {
-    let left_marks: Vec<M> = marks_of(alloc, pool, by_root, lefts)?;
-    let right_marks: Vec<M> = marks_of(alloc, pool, by_root, rights)?;
+    let mut known = KnownCaps::new(alloc);
+    let left_marks: Vec<M> = marks_of(alloc, pool, by_root, lefts, &mut known)?;
+    let right_marks: Vec<M> = marks_of(alloc, pool, by_root, rights, &mut known)?;
     ids_are_distinct(pool);
     M::tell();
     match first_parted(&left_marks, &right_marks) {

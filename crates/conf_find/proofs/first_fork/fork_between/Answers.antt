@@ -9,7 +9,7 @@ returns-in-None g c =
     none_parted (g.M.Mark.marks c.args.by_root.now.rules c.args.pool.now) g.M.Mark.parted (g.M.Mark.never_meet c.args.by_root.now.rules)
     (λ t u a b m n. c.tell.ensures c.args.by_root.now.rules c.args.pool.now t u a b c.ids_are_distinct.ensures m n)
     (listed_at c.args.pool.now c.args.lefts.now) (listed_at c.args.pool.now c.args.rights.now)
-    c.in_ok-left_marks.left_marks.items c.in_ok-right_marks.right_marks.items c.deref.result.now c.deref-2.result.now c.in_ok-left_marks.ensures c.in_ok-right_marks.ensures
+    c.in_ok-left_marks.left_marks.items c.in_ok-right_marks.right_marks.items c.deref.result.now c.deref-2.result.now c.in_ok-left_marks.ensures.marks c.in_ok-right_marks.ensures.marks
     c.deref.ensures.value c.deref-2.ensures.value c.in-None.ensures
 
 pub entry-left-requires : goal.entry-left-requires
@@ -17,7 +17,7 @@ entry-left-requires g c =
     let t = parted_terms (g.M.Mark.marks c.args.by_root.now.rules c.args.pool.now) g.M.Mark.parted (g.M.Mark.never_meet c.args.by_root.now.rules)
     (λ t u a b m n. c.tell.ensures c.args.by_root.now.rules c.args.pool.now t u a b c.ids_are_distinct.ensures m n)
     (listed_at c.args.pool.now c.args.lefts.now) (listed_at c.args.pool.now c.args.rights.now)
-    c.in_ok-left_marks.left_marks.items c.in_ok-right_marks.right_marks.items c.deref.result.now c.deref-2.result.now c.in_ok-left_marks.ensures c.in_ok-right_marks.ensures
+    c.in_ok-left_marks.left_marks.items c.in_ok-right_marks.right_marks.items c.deref.result.now c.deref-2.result.now c.in_ok-left_marks.ensures.marks c.in_ok-right_marks.ensures.marks
     c.deref.ensures.value c.deref-2.ensures.value (c.in-Some.i, c.in-Some.j) c.in-Some.ensures in
     number_within c.args.pool.now c.args.lefts.now c.in-Some.i t.u t.left_at
 
@@ -26,7 +26,7 @@ entry-right-requires g c =
     let t = parted_terms (g.M.Mark.marks c.args.by_root.now.rules c.args.pool.now) g.M.Mark.parted (g.M.Mark.never_meet c.args.by_root.now.rules)
     (λ t u a b m n. c.tell.ensures c.args.by_root.now.rules c.args.pool.now t u a b c.ids_are_distinct.ensures m n)
     (listed_at c.args.pool.now c.args.lefts.now) (listed_at c.args.pool.now c.args.rights.now)
-    c.in_ok-left_marks.left_marks.items c.in_ok-right_marks.right_marks.items c.deref.result.now c.deref-2.result.now c.in_ok-left_marks.ensures c.in_ok-right_marks.ensures
+    c.in_ok-left_marks.left_marks.items c.in_ok-right_marks.right_marks.items c.deref.result.now c.deref-2.result.now c.in_ok-left_marks.ensures.marks c.in_ok-right_marks.ensures.marks
     c.deref.ensures.value c.deref-2.ensures.value (c.in-Some.i, c.in-Some.j) c.in-Some.ensures in
     number_within c.args.pool.now c.args.rights.now c.in-Some.j t.v t.right_at
 
@@ -41,7 +41,7 @@ returns g c =
     let t = parted_terms (g.M.Mark.marks c.args.by_root.now.rules c.args.pool.now) g.M.Mark.parted (g.M.Mark.never_meet c.args.by_root.now.rules)
     (λ t u a b m n. c.tell.ensures c.args.by_root.now.rules c.args.pool.now t u a b c.ids_are_distinct.ensures m n)
     (listed_at c.args.pool.now c.args.lefts.now) (listed_at c.args.pool.now c.args.rights.now)
-    c.in_ok-left_marks.left_marks.items c.in_ok-right_marks.right_marks.items c.deref.result.now c.deref-2.result.now c.in_ok-left_marks.ensures c.in_ok-right_marks.ensures
+    c.in_ok-left_marks.left_marks.items c.in_ok-right_marks.right_marks.items c.deref.result.now c.deref-2.result.now c.in_ok-left_marks.ensures.marks c.in_ok-right_marks.ensures.marks
     c.deref.ensures.value c.deref-2.ensures.value (c.in-Some.i, c.in-Some.j) c.in-Some.ensures in
     parted_by g.M.Mark.never_meet c.args.by_root.now.rules c.args.peak.now c.args.pool.now c.args.lefts.now c.args.rights.now (c.in-Some.i, c.in-Some.j) t
     c.entry-left.result.now c.entry-right.result.now c.entry-left.ensures c.entry-right.ensures c.in_ok-test-in-Some.test c.in_ok-test-in-Some.ensures (fork_of c.in_ok-found-in-Some.found)

@@ -5,24 +5,24 @@ use Rattle.conf_find.specs.Marks.{AreMarks}
 use Rattle.conf_find.proofs.ForkPeaks.{one_mark, all_marks, read_below}
 use Rattle.conf_find.proofs.mark.marks_of.Goals as goal
 
-pub of-requires : goal.of-requires
-of-requires g c =
-    read_below c.args.pool.now c.args.entries.now c.loop-entry.entry-index c.entry-item.result c.loop-entry-test.true c.entry-item.is c.requires
+pub of-requires-clause-there : goal.of-requires-clause-there
+of-requires-clause-there g c =
+    read_below c.args.pool.now c.args.entries.now c.loop-entry.entry-index c.entry-item.result c.loop-entry-test.true c.entry-item.is c.requires.there
 
 pub loop-entry-init : goal.loop-entry-init
 loop-entry-init g c =
     let marks = g.M.Mark.marks c.args.by_root.now.rules c.args.pool.now in
-    subst (λ ms. AreMarks marks [] ms) (sym c.in_ok-marks.ensures.items) along_end
+    (subst (λ ms. AreMarks marks [] ms) (sym c.in_ok-marks.ensures.items) along_end, c.requires.known)
 
 pub loop-entry-preserved : goal.loop-entry-preserved
 loop-entry-preserved g c =
     let marks = g.M.Mark.marks c.args.by_root.now.rules c.args.pool.now in
-    one_mark (λ (e : Listed) m. marks e.term m) c.args.pool.now c.args.entries.now c.loop-entry.marks.items c.push.new.self.items
-    c.loop-entry.entry-index c.entry-item.result c.in_ok-mark.mark c.loop-entry-test.true c.entry-item.is c.loop-entry.invariant c.in_ok-mark.ensures
-    c.in_ok-push.ensures.items
+    (one_mark (λ (e : Listed) m. marks e.term m) c.args.pool.now c.args.entries.now c.loop-entry.marks.items c.push.new.self.items
+    c.loop-entry.entry-index c.entry-item.result c.in_ok-mark.mark c.loop-entry-test.true c.entry-item.is c.loop-entry.invariant.0 c.in_ok-mark.ensures.mark
+    c.in_ok-push.ensures.items, c.in_ok-mark.ensures.known)
 
-pub returns : goal.returns
-returns g c =
+pub returns-clause-marks : goal.returns-clause-marks
+returns-clause-marks g c =
     let marks = g.M.Mark.marks c.args.by_root.now.rules c.args.pool.now in
     all_marks (λ (e : Listed) m. marks e.term m) c.args.pool.now c.args.entries.now c.loop-entry.marks.items c.loop-entry.entry-index
-    c.loop-entry-test.false c.loop-entry.invariant
+    c.loop-entry-test.false c.loop-entry.invariant.0

@@ -14,12 +14,10 @@ loop-peak-init g c =
     let P : List (Vec PlacedRule) → Type 0 = λ xs. Along (IsParallelClosing c.args.trs.now.rules) [] (paths_of xs) in
     record { joined = subst P (sym c.new-steps.ensures.items) along_end; continues = record { later = c.stopped.ensures.later; kept = c.stopped.ensures.kept } }
 
-pub closing-requires : goal.closing-requires
-closing-requires g c = record {
-  rules = c.in_ok-by_root.ensures;
-  sides = c.critical_peaks_have_sides.ensures c.args.peaks.now c.requires.critical c.peak-item.result
-      (read_in c.args.peaks.now c.loop-peak.peak-index c.peak-item.result c.loop-peak-test.true c.peak-item.is);
-}
+pub closing-requires-clause-sides : goal.closing-requires-clause-sides
+closing-requires-clause-sides g c =
+    c.critical_peaks_have_sides.ensures c.args.peaks.now c.requires.critical c.peak-item.result
+    (read_in c.args.peaks.now c.loop-peak.peak-index c.peak-item.result c.loop-peak-test.true c.peak-item.is)
 
 pub returns-in-None-clause-answer : goal.returns-in-None-clause-answer
 returns-in-None-clause-answer g c =
