@@ -5,6 +5,7 @@ pub mod ConstraintLaws
 pub mod Closings
 pub mod Numbers
 pub mod ConstraintReads
+pub mod ListEnds
 pub mod Searching
 pub mod LabelLaw
 pub mod PathsOfSides

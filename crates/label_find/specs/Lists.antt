@@ -1,5 +1,5 @@
 -- Lists of rules along paths, each list once.
-use Rattle.std.specs.Prelude.{◌≡◌, ◌⊎◌, ℕ, List, [], ◌∷◌, ◌++◌}
+use Rattle.std.specs.Prelude.{◌≡◌, ◌⊎◌, ℕ, ◌+◌, max, List, [], ◌∷◌, ◌++◌}
 use Rattle.std.specs.Global.{Vec}
 use Rattle.trs_defs.specs.Member.{In}
 use Rattle.trs_defs.specs.Variable.{is_listed}
@@ -30,6 +30,11 @@ pub record AreListsTo (entries : List Entry) (end : ℕ) (lists : List (Vec ℕ)
 abbrev pub rules_in : List Entry → List ℕ
 rules_in [] = []
 rules_in (e ∷ es) = rules_along e.1.items ++ rules_in es
+
+-- one more than the greatest number, or 0 where there is none
+abbrev pub end_of : List ℕ → ℕ
+end_of [] = 0
+end_of (k ∷ ks) = max (k + 1) (end_of ks)
 
 -- the new list has the numbers of the old one and these
 pub record IsWith (old more new : List ℕ) : Type 0 where

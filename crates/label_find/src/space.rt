@@ -4,7 +4,7 @@ ghost use Rattle.label_find.specs.ConstraintPuzzle.{KeepsRules, label_puzzle};
 ghost use Rattle.label_find.specs.LabelLawful.{label_lawful};
 
 use crate::constraint::PeakConstraint;
-use crate::used::is_listed;
+use crate::used::{end_of, is_listed};
 use assign_search::{OutOfMemory, Space};
 use std::alloc::Global;
 
@@ -39,6 +39,10 @@ impl Space for LabelSpace {
 
     fn uses(&self, c: u32, slot: u32) -> bool {
         is_listed(&self.peaks[c as usize].used, slot)
+    }
+
+    fn reach(&self, c: u32) -> u32 {
+        end_of(&self.peaks[c as usize].used, self.rules)
     }
 
     fn holds(&self, _alloc: Global, c: u32, values: &[u32]) -> Result<bool, OutOfMemory> {

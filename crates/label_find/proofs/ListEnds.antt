@@ -1,0 +1,59 @@
+-- The end of a list of rules is what a search reaches to.
+use Rattle.std.specs.Prelude.{◌≡◌, ◌<◌, ◌⊎◌, ℕ, ◌+◌, max, Bool, true, ◌==◌, ◌||◌, List, [], ◌∷◌, length, All, get_or, IsTrue, refl}
+use Rattle.std.proofs.Common.{zero, suc, inl, inr, sym, arith, ◌∙◌, drop}
+use Rattle.std.proofs.lemmas.Bool.{or_cases, or_left, or_right}
+use Rattle.std.proofs.lemmas.Bool.Decides.{nat_tests}
+use Rattle.std.proofs.lemmas.List.{drop_more}
+use native.Mathlib.Decide.{dec_lt}
+use Rattle.trs_defs.specs.Variable.{is_listed}
+use Rattle.assign_search.specs.Puzzle.{Puzzle}
+use Rattle.assign_search.specs.Rest.{reach}
+use Rattle.assign_search.proofs.Reaching.{reach_le, reach_in}
+use Rattle.label_find.specs.Lists.{end_of}
+
+same_number : (k s : ℕ) → (k == s) ≡ true → k ≡ s
+same_number k s t = grind (arith, nat_tests)
+
+itself : (k : ℕ) → (k == k) ≡ true
+itself k = grind (arith, nat_tests)
+
+listed_below : (ks : List ℕ) (s : ℕ) → is_listed s ks ≡ true → s < end_of ks
+listed_below [] s t = absurd cc
+listed_below (k ∷ ks) s t = elim (or_cases (k == s) (is_listed s ks) t) [
+  | inl e ↦ (let same = same_number k s e in omega (arith, same))
+  | inr more ↦ (let h = listed_below ks s more in omega (arith, h))
+]
+
+last_listed : (ks : List ℕ) → (end_of ks ≡ 0) ⊎ ((k : ℕ) × (is_listed k ks ≡ true) × (end_of ks ≡ k + 1))
+last_listed [] = inl refl
+last_listed (k ∷ ks) = elim (last_listed ks) [
+  | inl none ↦ inr (k, or_left (k == k) (is_listed k ks) (itself k), omega (arith, none))
+  | inr (j, listed, is) ↦ elim (dec_lt k j) [
+    | yes less ↦ inr (j, or_right (k == j) (is_listed j ks) listed, omega (arith, less, is))
+    | no greater ↦ inr (k, or_left (k == k) (is_listed k ks) (itself k), omega (arith, greater, is))
+  ]
+]
+
+-- where a constraint uses just the slots of these rules
+pub reach_of_listed : (z : Puzzle) (c : ℕ) (ks : List ℕ) → ((s : ℕ) → z.uses c s ≡ is_listed s ks) → ((k : ℕ) → IsTrue (is_listed k ks) → k < z.slots) → end_of ks ≡ reach z c
+unfolding reach
+reach_of_listed z c ks uses below =
+    let within = reach_le (z.uses c) z.slots (end_of ks) (λ s l t. listed_below ks s (sym (uses s) ∙ t)) in
+    elim (last_listed ks) [
+      | inl none ↦ omega (arith, within, none)
+      | inr (k, listed, is) ↦ (let past = reach_in (z.uses c) z.slots k (below k listed) (uses k ∙ listed) in omega (arith, within, past, is))
+    ]
+
+listed_at : (ks : List ℕ) (i d : ℕ) → i < length ks → is_listed (get_or ks i d) ks ≡ true
+listed_at [] i d below = absurd (omega (arith, below))
+listed_at (k ∷ ks) zero d below = or_left (k == k) (is_listed k ks) (itself k)
+listed_at (k ∷ ks) (suc i) d below = or_right (k == get_or ks i d) (is_listed (get_or ks i d) ks) (listed_at ks i d (omega (arith, below)))
+
+pub all_below : (ks : List ℕ) (n : ℕ) → ((k : ℕ) → IsTrue (is_listed k ks) → k < n) → All (λ k. k < n) ks
+all_below ks n below = λ i d within. below (get_or ks i d) (listed_at ks i d within)
+
+-- what is left of the rules
+pub end_more : (ks : List ℕ) (i k end new : ℕ) → i < length ks → k ≡ get_or ks i 0 → new ≡ max end (k + 1) → max end (end_of (drop i ks)) ≡ end_of ks → max new (end_of (drop (i + 1) ks)) ≡ end_of ks
+end_more ks i k end new within is grown before =
+    let opened : end_of (drop i ks) ≡ max (k + 1) (end_of (drop (i + 1) ks)) = rw (drop_more ks i 0 within, ← is) refl in
+    omega (arith, opened, grown, before)
