@@ -10,7 +10,7 @@ use Rattle.order_search.specs.Slots.{Slot, slot, table_from, table_of, puzzle_of
 use Rattle.order_search.proofs.Lawful.{and_true}
 use Rattle.order_search.proofs.Tests.{is_lt}
 use Rattle.order_search.proofs.LastPlaces.{end_of_all, reach_of_owners}
-use Rattle.order_search.proofs.Constraints.{and_second, past_end}
+use Rattle.order_search.proofs.Constraints.{and_second}
 use Rattle.order_search.proofs.SlotConstraints.{at_item, at_last, one_more}
 use Rattle.order_find.specs.Subterms.{has_subterm}
 use Rattle.order_find.specs.SubtermSpace.{weak, some_strict, passes, some_passes, subterm_met, subterm_about, subterm_slots, arity_in, subterm_search}
@@ -29,9 +29,6 @@ module _ (arities roots : List ℕ) (pairs : List DependencyPair) where
 
   pub many_constraints : length pairs + 1 ≡ (puzzle_of (subterm_search arities roots pairs)).constraints
   many_constraints = sym (one_more weak pairs (some_strict pairs))
-
-  pub past_pairs : (c : ℕ) → slice_get pairs c ≡ None → c < (puzzle_of (subterm_search arities roots pairs)).constraints → c ≡ length pairs
-  past_pairs c none below = let past = past_end pairs c none in let many = many_constraints in omega (arith, past, many, below)
 
   slot_there : (s : ℕ) → s < length roots → nat_lt s (length (subterm_slots roots)) ≡ true
   slot_there s h = is_lt s (length (subterm_slots roots)) (let e = many_slots in omega (arith, h, e))

@@ -65,10 +65,11 @@ impl<'a> Space for SubtermSpace<'a> {
     }
 
     fn reach(&self, c: u32) -> u32 {
-        match self.pairs.get(c as usize) {
-            Some(pair) => end_of_pair(self.slots, pair),
-            None => self.slots(),
+        if c as usize == self.pairs.len() {
+            return self.slots();
         }
+        let pair = &self.pairs[c as usize];
+        end_of_pair(self.slots, pair)
     }
 
     fn holds(&self, _alloc: Global, c: u32, values: &[u32]) -> Result<bool, OutOfMemory> {
