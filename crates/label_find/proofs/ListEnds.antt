@@ -1,6 +1,6 @@
 -- The end of a list of rules is what a search reaches to.
 use Rattle.std.specs.Prelude.{◌≡◌, ◌<◌, ◌⊎◌, ℕ, ◌+◌, max, Bool, true, ◌==◌, ◌||◌, List, [], ◌∷◌, length, All, get_or, IsTrue, refl}
-use Rattle.std.proofs.Common.{zero, suc, inl, inr, sym, arith, ◌∙◌, drop}
+use Rattle.std.proofs.Common.{zero, suc, inl, inr, sym, ap, arith, ◌∙◌, drop}
 use Rattle.std.proofs.lemmas.Bool.{or_cases, or_left, or_right}
 use Rattle.std.proofs.lemmas.Bool.Decides.{nat_tests}
 use Rattle.std.proofs.lemmas.List.{drop_more}
@@ -55,5 +55,5 @@ all_below ks n below = λ i d within. below (get_or ks i d) (listed_at ks i d wi
 -- what is left of the rules
 pub end_more : (ks : List ℕ) (i k end new : ℕ) → i < length ks → k ≡ get_or ks i 0 → new ≡ max end (k + 1) → max end (end_of (drop i ks)) ≡ end_of ks → max new (end_of (drop (i + 1) ks)) ≡ end_of ks
 end_more ks i k end new within is grown before =
-    let opened : end_of (drop i ks) ≡ max (k + 1) (end_of (drop (i + 1) ks)) = rw (drop_more ks i 0 within, ← is) refl in
+    let opened : end_of (drop i ks) ≡ max (k + 1) (end_of (drop (i + 1) ks)) = ap end_of (drop_more ks i 0 within) ∙ ap (λ (n : ℕ). max (n + 1) (end_of (drop (i + 1) ks))) (sym is) in
     omega (arith, opened, grown, before)

@@ -1,4 +1,4 @@
-use Rattle.std.proofs.Common.{◌≡◌, ◌<◌, ◌∙◌, max, ap, sym, arith}
+use Rattle.std.proofs.Common.{◌≡◌, ◌∙◌, ap, arith, drop, get_or, refl}
 use Rattle.std.proofs.lemmas.List.{drop_all}
 use Rattle.label_find.specs.Lists.{end_of}
 use Rattle.label_find.proofs.ListEnds.{end_more}
@@ -6,9 +6,10 @@ use Rattle.label_find.proofs.used.end_of.Goals as goal
 
 pub loop-rule-preserved : goal.loop-rule-preserved
 loop-rule-preserved c =
-    end_more c.args.rules.now c.loop-rule.rule-index c.rule-item.result c.loop-rule.end c.max.result c.loop-rule-test.true c.rule-item.is c.max.ensures c.loop-rule.invariant
+    let i = c.loop-rule.rule-index in
+    end_more c.args.rules.now i (get_or c.args.rules.now i 0) c.loop-rule.end c.max.result c.loop-rule-test.true refl c.max.ensures c.loop-rule.invariant
 
 pub returns : goal.returns
 returns c =
-    let none : end_of _ ≡ 0 = ap end_of (drop_all c.loop-rule.rule-index c.args.rules.now c.loop-rule-test.false) in
+    let none : end_of (drop c.loop-rule.rule-index c.args.rules.now) ≡ 0 = ap end_of (drop_all c.loop-rule.rule-index c.args.rules.now c.loop-rule-test.false) in
     omega (arith, c.loop-rule.invariant, none)
