@@ -1,11 +1,10 @@
 -- What the strategy newman finds meets the conditions on joined peaks.
-use Rattle.std.specs.Prelude.{◌≡◌, ℕ, ◌+◌, List, [], ◌∷◌, Ok, length, zip, refl}
+use Rattle.std.specs.Prelude.{◌≡◌, ℕ, ◌+◌, List, Ok, length, zip, refl}
 use Rattle.std.proofs.Common.{suc, ap}
 use Rattle.trs_defs.specs.System.{System, RewriteRule}
 use Rattle.trs_defs.specs.Path.{Follows}
-use Rattle.trs_defs.specs.Tree.{Tree}
 use Rattle.term_pool.proofs.ReachLaws.{paths_lead}
-use Rattle.rewrite_core.specs.Check.{Then, goes_on, holds, returned, each, Check}
+use Rattle.rewrite_core.specs.Check.{goes_on, holds, returned, each, Check}
 use Rattle.rewrite_core.specs.PathCheck.{followed}
 use Rattle.rewrite_core.specs.PlacedPeak.{PlacedPeak}
 use Rattle.rewrite_core.specs.PathsOfJoin.{PathsOfJoin}

@@ -1,5 +1,5 @@
 -- A peak that is closed by a parallel step, or by none.
-use Rattle.std.specs.Prelude.{◌≡◌, ◌≢◌, ◌<◌, ℕ, ◌+◌, length, take, List, [], ◌∷◌, ◌++◌, map}
+use Rattle.std.specs.Prelude.{◌≡◌, ◌≢◌, ◌<◌, ℕ, ◌+◌, length, take, List, [], ◌∷◌, ◌++◌}
 use Rattle.std.proofs.Common.{ap, sym, subst, ◌∙◌, get_or}
 use Rattle.std.specs.Global.{Vec}
 use Rattle.std.proofs.lemmas.List.{map-append}

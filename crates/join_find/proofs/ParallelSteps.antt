@@ -1,13 +1,13 @@
 -- The parallel step from one term to another is the only one, and where its steps stand.
 use Rattle.std.specs.Prelude.{◌≡◌, ◌≢◌, ◌<◌, ◌≤◌, ◌⊎◌, ℕ, ◌+◌, List, [], ◌∷◌, ◌++◌, map, refl}
-use Rattle.std.proofs.Common.{suc, ap, sym, subst, ◌∙◌, arith, inl, inr}
+use Rattle.std.proofs.Common.{ap, sym, subst, ◌∙◌, arith, inl, inr}
 use Rattle.std.proofs.Math.Decide.{ℕ_discrete}
 use native.Mathlib.Decide.{dec_lt}
 use Rattle.trs_defs.specs.Member.{In, in_first, in_rest}
 use Rattle.trs_defs.specs.Tree.{Tree, Trees, app, nil, cons, count}
 use Rattle.trs_defs.specs.System.{RewriteRule}
 use Rattle.trs_defs.specs.Path.{PlacedRule}
-use Rattle.trs_defs.proofs.Members.{in_either, in_or, no_in, of_map}
+use Rattle.trs_defs.proofs.Members.{in_either, no_in, of_map}
 use Rattle.term_pool.specs.Redexes.{below}
 use Rattle.confluence_theory.specs.ParallelPositions.{IsParallelToAll, ArePairwiseParallel}
 use Rattle.closed_pairs.specs.LeftOf.{IsLeftOf}

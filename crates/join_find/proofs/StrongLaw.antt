@@ -1,7 +1,7 @@
 -- What the strategy strong finds meets the conditions on strongly joined peaks.
-use Rattle.std.specs.Prelude.{◌≡◌, ◌≤◌, ℕ, List, [], ◌∷◌, Ok, length, refl}
+use Rattle.std.specs.Prelude.{◌≡◌, ◌≤◌, ℕ, List, ◌∷◌, Ok, length, refl}
 use Rattle.std.proofs.Common.{arith, inl, inr, ap, sym, subst}
-use Rattle.trs_defs.specs.Member.{In, in_first, in_rest}
+use Rattle.trs_defs.specs.Member.{In}
 use Rattle.trs_defs.specs.Tree.{Tree}
 use Rattle.trs_defs.specs.System.{System, RewriteRule}
 use Rattle.trs_defs.specs.Path.{PlacedRule, Follows}

@@ -1,4 +1,4 @@
-use Rattle.std.proofs.Common.{◌≡◌, ◌≤◌, ◌∙◌, ℕ, [], ◌∷◌, ◌++◌, length, refl, ap, subst, arith}
+use Rattle.std.proofs.Common.{◌≡◌, ◌≤◌, subst}
 use Rattle.trs_defs.specs.Path.{PlacedRule, StepsAt}
 use Rattle.trs_defs.specs.Size.{size_of}
 use Rattle.trs_defs.proofs.Limits.{limits_size}

@@ -1,7 +1,6 @@
 use Rattle.std.proofs.Common.{◌≡◌, ◌≢◌, ◌∙◌, List, ap, sym, subst}
 use Rattle.trs_core.specs.View.{tree}
 use Rattle.trs_defs.specs.Tree.{Tree}
-use Rattle.trs_defs.specs.Path.{PlacedRule, Follows}
 use Rattle.term_pool.specs.Pooled.{StandsFor}
 use Rattle.term_pool.specs.declared.paths.PathFault.TheVariants as fault
 use Rattle.rewrite_core.specs.PlacedPeak.{PlacedPeak}

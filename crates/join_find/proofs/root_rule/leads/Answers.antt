@@ -1,4 +1,3 @@
-use Rattle.std.proofs.Common.{◌≡◌}
 use Rattle.term_pool.proofs.Extending.{undone}
 use Rattle.join_find.proofs.RootRules.{leads_when_equal, equal_when_leads}
 use Rattle.join_find.proofs.root_rule.leads.Goals as goal

@@ -1,4 +1,4 @@
-use Rattle.join_find.proofs.LinearRules.{linear_further, all_linear, not_all_linear}
+use Rattle.join_find.proofs.LinearRules.{linear_further, not_all_linear}
 use Rattle.join_find.proofs.strong.are_linear.Goals as goal
 
 pub returns-then-not-has_linear_sides-clause-not : goal.returns-then-not-has_linear_sides-clause-not
