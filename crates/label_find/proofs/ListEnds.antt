@@ -1,36 +1,31 @@
 -- The end of a list of rules is what a search reaches to.
-use Rattle.std.specs.Prelude.{◌≡◌, ◌<◌, ◌⊎◌, ℕ, ◌+◌, max, Bool, true, ◌==◌, ◌||◌, List, [], ◌∷◌, length, All, get_or, IsTrue, refl}
+use Rattle.std.specs.Prelude.{◌≡◌, ◌<◌, ◌⊎◌, ℕ, ◌+◌, ◌^◌, max, true, ◌==◌, List, [], ◌∷◌, length, All, get_or, IsTrue, refl}
 use Rattle.std.proofs.Common.{zero, suc, inl, inr, sym, ap, arith, ◌∙◌, drop}
 use Rattle.std.proofs.lemmas.Bool.{or_cases, or_left, or_right}
-use Rattle.std.proofs.lemmas.Bool.Decides.{nat_tests}
 use Rattle.std.proofs.lemmas.List.{drop_more}
 use native.Mathlib.Decide.{dec_lt}
 use Rattle.trs_defs.specs.Variable.{is_listed}
 use Rattle.assign_search.specs.Puzzle.{Puzzle}
 use Rattle.assign_search.specs.Rest.{reach}
 use Rattle.assign_search.proofs.Reaching.{reach_le, reach_in}
+use Rattle.label_find.specs.LabelLawful.{equal_itself}
 use Rattle.label_find.specs.Lists.{end_of}
-
-same_number : (k s : ℕ) → (k == s) ≡ true → k ≡ s
-same_number k s t = grind (arith, nat_tests)
-
-itself : (k : ℕ) → (k == k) ≡ true
-itself k = grind (arith, nat_tests)
+use Rattle.label_find.proofs.Numbers.{equal_test}
 
 listed_below : (ks : List ℕ) (s : ℕ) → is_listed s ks ≡ true → s < end_of ks
 listed_below [] s t = absurd cc
 listed_below (k ∷ ks) s t = elim (or_cases (k == s) (is_listed s ks) t) [
-  | inl e ↦ (let same = same_number k s e in omega (arith, same))
+  | inl e ↦ (let same = equal_test k s e in omega (arith, same))
   | inr more ↦ (let h = listed_below ks s more in omega (arith, h))
 ]
 
 last_listed : (ks : List ℕ) → (end_of ks ≡ 0) ⊎ ((k : ℕ) × (is_listed k ks ≡ true) × (end_of ks ≡ k + 1))
 last_listed [] = inl refl
 last_listed (k ∷ ks) = elim (last_listed ks) [
-  | inl none ↦ inr (k, or_left (k == k) (is_listed k ks) (itself k), omega (arith, none))
+  | inl none ↦ inr (k, or_left (k == k) (is_listed k ks) (equal_itself k), omega (arith, none))
   | inr (j, listed, is) ↦ elim (dec_lt k j) [
     | yes less ↦ inr (j, or_right (k == j) (is_listed j ks) listed, omega (arith, less, is))
-    | no greater ↦ inr (k, or_left (k == k) (is_listed k ks) (itself k), omega (arith, greater, is))
+    | no greater ↦ inr (k, or_left (k == k) (is_listed k ks) (equal_itself k), omega (arith, greater, is))
   ]
 ]
 
@@ -44,13 +39,13 @@ reach_of_listed z c ks uses below =
       | inr (k, listed, is) ↦ (let past = reach_in (z.uses c) z.slots k (below k listed) (uses k ∙ listed) in omega (arith, within, past, is))
     ]
 
-listed_at : (ks : List ℕ) (i d : ℕ) → i < length ks → is_listed (get_or ks i d) ks ≡ true
-listed_at [] i d below = absurd (omega (arith, below))
-listed_at (k ∷ ks) zero d below = or_left (k == k) (is_listed k ks) (itself k)
-listed_at (k ∷ ks) (suc i) d below = or_right (k == get_or ks i d) (is_listed (get_or ks i d) ks) (listed_at ks i d (omega (arith, below)))
+item_listed : (ks : List ℕ) (i d : ℕ) → i < length ks → is_listed (get_or ks i d) ks ≡ true
+item_listed [] i d within = absurd (omega (arith, within))
+item_listed (k ∷ ks) zero d within = or_left (k == k) (is_listed k ks) (equal_itself k)
+item_listed (k ∷ ks) (suc i) d within = or_right (k == get_or ks i d) (is_listed (get_or ks i d) ks) (item_listed ks i d (omega (arith, within)))
 
-pub all_below : (ks : List ℕ) (n : ℕ) → ((k : ℕ) → IsTrue (is_listed k ks) → k < n) → All (λ k. k < n) ks
-all_below ks n below = λ i d within. below (get_or ks i d) (listed_at ks i d within)
+pub ends_fit : (ks : List ℕ) (n : ℕ) → n < 2 ^ 32 → ((k : ℕ) → IsTrue (is_listed k ks) → k < n) → All (λ k. k + 1 < 2 ^ 32) ks
+ends_fit ks n few below = λ i d within. (let less = below (get_or ks i d) (item_listed ks i d within) in omega (arith, few, less))
 
 -- what is left of the rules
 pub end_more : (ks : List ℕ) (i k end new : ℕ) → i < length ks → k ≡ get_or ks i 0 → new ≡ max end (k + 1) → max end (end_of (drop i ks)) ≡ end_of ks → max new (end_of (drop (i + 1) ks)) ≡ end_of ks

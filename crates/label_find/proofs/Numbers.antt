@@ -78,7 +78,7 @@ rules_of_below rules t es is k i =
     let below = followed_numbers rules e.path t e.term (paths_lead rules t es is e there) s step in
     omega (arith, below, same)
 
-equal_test : (m n : ℕ) → (m == n) ≡ true → m ≡ n
+pub equal_test : (m n : ℕ) → (m == n) ≡ true → m ≡ n
 equal_test m n h = grind (arith, nat_tests)
 
 in_of_listed : (k : ℕ) (xs : List ℕ) → IsTrue (is_listed k xs) → In k xs

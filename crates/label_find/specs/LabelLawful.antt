@@ -14,7 +14,7 @@ use Rattle.label_find.specs.declared.constraint.PeakConstraint.{PeakConstraint}
 use Rattle.label_find.specs.Constraint.{fit_after, some_fit, some_meet}
 use Rattle.label_find.specs.ConstraintPuzzle.{is_met, at_constraint, label_puzzle, KeepsRules}
 
-equal_itself : (n : ℕ) → (n == n) ≡ true
+pub equal_itself : (n : ℕ) → (n == n) ≡ true
 equal_itself n = grind (arith, nat_tests)
 
 module _ (p q : List ℕ) (used : List ℕ) (agree : (k : ℕ) → IsTrue (is_listed k used) → rank_of p k ≡ rank_of q k) where

@@ -17,6 +17,7 @@ pub(crate) struct LabelSpace {
     pub(crate) rules: u32,
     pub(crate) peaks: Vec<PeakConstraint>,
     pub(crate) ghost keep: { All (KeepsRules rules) peaks.items },
+    pub(crate) ghost few_rules: { rules < 2 ^ 32 },
     pub(crate) ghost few: { length peaks.items < 2 ^ 32 },
 }
 
@@ -42,7 +43,7 @@ impl Space for LabelSpace {
     }
 
     fn reach(&self, c: u32) -> u32 {
-        end_of(&self.peaks[c as usize].used, self.rules)
+        end_of(&self.peaks[c as usize].used)
     }
 
     fn holds(&self, _alloc: Global, c: u32, values: &[u32]) -> Result<bool, OutOfMemory> {

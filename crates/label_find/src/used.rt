@@ -1,5 +1,5 @@
 //! The rules that the constraint of a peak uses.
-ghost use Rattle.std.specs.Prelude.{◌≡◌, ◌<◌, [], ◌∷◌, ◌++◌, All, IfOk, OnOk};
+ghost use Rattle.std.specs.Prelude.{◌≡◌, ◌<◌, ◌+◌, ◌^◌, [], ◌∷◌, ◌++◌, All, IfOk, OnOk};
 ghost use Rattle.trs_defs.specs.Variable.{is_listed as is_among};
 ghost use Rattle.label_find.specs.LabelRow.{rules_along};
 ghost use Rattle.label_find.specs.Lists.{rules_in, end_of, IsWith};
@@ -67,9 +67,9 @@ pub(crate) fn is_listed(rules: &[u32], rule: u32) -> bool
     false
 }
 
-/// One more than the greatest of the rules, or 0 where there is none. All are below `n`.
-pub(crate) fn end_of(rules: &[u32], n: u32) -> u32
-    requires { All (λ k. k < n) rules.now }
+/// One more than the greatest of the rules, or 0 where there is none.
+pub(crate) fn end_of(rules: &[u32]) -> u32
+    requires { All (λ k. k + 1 < 2 ^ 32) rules.now }
     ensures { result ≡ end_of rules.now }
 {
     let mut end: u32 = 0;

@@ -9,9 +9,12 @@ use Rattle.label_find.proofs.label.search_ranks.Goals as goal
 pub invariant_of-space : goal.invariant_of-space
 invariant_of-space g c =
     let few = few_constraints c.args.trs.now.rules c.args.peaks.now c.args.constraints.items c.requires.critical c.requires.constraints in
+    let same = ap length c.rules.ensures.rules in
+    let within = c.rules.ensures.limits.rules in
     record {
       keep = subst (λ (rs : List RewriteRule). All (KeepsRules (length rs)) c.args.constraints.items) (sym c.rules.ensures.rules)
           (all_keep c.args.trs.now.rules c.args.peaks.now c.args.constraints.items c.requires.critical c.requires.constraints);
+      few_rules = omega (arith, same, within);
       few = omega (arith, few);
     }
 
