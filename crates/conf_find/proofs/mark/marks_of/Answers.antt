@@ -12,17 +12,20 @@ of-requires-clause-there g c =
 pub loop-entry-init : goal.loop-entry-init
 loop-entry-init g c =
     let marks = g.M.Mark.marks c.args.by_root.now.rules c.args.pool.now in
-    (subst (λ ms. AreMarks marks [] ms) (sym c.in_ok-marks.ensures.items) along_end, c.requires.known)
+    record { marks = subst (λ ms. AreMarks marks [] ms) (sym c.in_ok-marks.ensures.items) along_end; known = c.requires.known }
 
 pub loop-entry-preserved : goal.loop-entry-preserved
 loop-entry-preserved g c =
     let marks = g.M.Mark.marks c.args.by_root.now.rules c.args.pool.now in
-    (one_mark (λ (e : Listed) m. marks e.term m) c.args.pool.now c.args.entries.now c.loop-entry.marks.items c.push.new.self.items
-    c.loop-entry.entry-index c.entry-item.result c.in_ok-mark.mark c.loop-entry-test.true c.entry-item.is c.loop-entry.invariant.0 c.in_ok-mark.ensures.mark
-    c.in_ok-push.ensures.items, c.in_ok-mark.ensures.known)
+    record {
+      marks = one_mark (λ (e : Listed) m. marks e.term m) c.args.pool.now c.args.entries.now c.loop-entry.marks.items c.push.new.self.items
+          c.loop-entry.entry-index c.entry-item.result c.in_ok-mark.mark c.loop-entry-test.true c.entry-item.is c.loop-entry.invariant.marks c.in_ok-mark.ensures.mark
+          c.in_ok-push.ensures.items;
+      known = c.in_ok-mark.ensures.known;
+    }
 
 pub returns-clause-marks : goal.returns-clause-marks
 returns-clause-marks g c =
     let marks = g.M.Mark.marks c.args.by_root.now.rules c.args.pool.now in
     all_marks (λ (e : Listed) m. marks e.term m) c.args.pool.now c.args.entries.now c.loop-entry.marks.items c.loop-entry.entry-index
-    c.loop-entry-test.false c.loop-entry.invariant.0
+    c.loop-entry-test.false c.loop-entry.invariant.marks
