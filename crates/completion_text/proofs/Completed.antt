@@ -1,5 +1,5 @@
 -- Completed systems over the symbols of the equations, and their texts.
-use Rattle.std.proofs.Common.{◌≡◌, ◌++◌, ℕ, List, codes, refl, sym, ap, ap₂, subst, ◌∙◌}
+use Rattle.std.proofs.Common.{◌≡◌, ◌++◌, ℕ, List, codes, ap, ap₂, ◌∙◌}
 use Rattle.sexp_core.specs.Printed.{lines}
 use Rattle.trs_defs.specs.System.{System}
 use Rattle.names_text.specs.Named.{NamedSystem}
