@@ -1,8 +1,12 @@
+use Rattle.std.specs.Prelude.{true}
 use Rattle.term_pool.specs.ListedIds.{listed_at}
 use Rattle.conf_find.specs.Fork.{fork_of}
 use Rattle.conf_find.proofs.ForkPeaks.{number_within, entry_below, parted_by}
 use Rattle.conf_find.proofs.BetweenLists.{parted_terms, none_parted}
 use Rattle.conf_find.proofs.first_fork.fork_between.Goals as goal
+
+pub marks_of-requires-clause-known : goal.marks_of-requires-clause-known
+marks_of-requires-clause-known g c = c.new-known.ensures c.args.by_root.now.rules true
 
 pub returns-in-None : goal.returns-in-None
 returns-in-None g c =
