@@ -4,8 +4,9 @@ pub mod PeakPairs
 pub mod RightEndings
 pub mod PathReductions
 pub mod FirstSteps
-pub mod IdSetLaws
+pub mod MarkLaws
 pub mod SearchLaws
+pub mod MetLaws
 pub mod RootSearch
 pub mod GrowingLaws
 pub mod Room

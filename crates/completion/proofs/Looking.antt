@@ -1,5 +1,5 @@
 -- A few of the critical peaks, or all of them: the first that is not passed over.
-use Rattle.std.proofs.Common.{◌≡◌, ◌≢◌, ◌≤◌, ℕ, ◌⊎◌, inl, inr, refl, sym, ap, subst, arith, ◌∙◌, List, ◌++◌, map, take, drop, Result, Ok, Err, IfOk, false}
+use Rattle.std.proofs.Common.{◌≡◌, ◌≤◌, ℕ, ◌⊎◌, inl, inr, refl, sym, ap, subst, arith, ◌∙◌, List, ◌++◌, map, take, drop, Ok, Err, false}
 use Rattle.std.proofs.lemmas.List.{take_all, take-append-drop, map-append}
 use Rattle.trs_defs.specs.Tree.{Tree}
 use Rattle.trs_defs.specs.System.{RewriteRule, System, IsSystem}
@@ -10,9 +10,7 @@ use Rattle.crit_pairs.specs.PeakList.{ListsPeaks}
 use Rattle.crit_pairs.specs.PeaksCheck.{ListsCriticalPeaks, listed, too_large, too_many}
 use Rattle.crit_pairs.specs.FirstPeaks.{AreFirst}
 use Rattle.crit_pairs.specs.declared.peaks_check.FirstPeaks.{FirstPeaks}
-use Rattle.crit_pairs.specs.declared.faults.PeakFault.{PeakFault}
 use Rattle.crit_pairs.specs.declared.faults.PeakFault.TheVariants as fault
-use Rattle.trs_core.specs.declared.memory.OutOfMemory.{OutOfMemory}
 use Rattle.completion.specs.declared.treating.Outcome.{Outcome as CodeOutcome}
 use Rattle.completion.specs.declared.treating.Outcome.TheVariants as outcome
 use Rattle.completion.specs.Endings.{Limit}
@@ -29,14 +27,6 @@ pub refused_there : (arities : List ℕ) (greater : Tree → Tree → Type 0) (r
     → Looks arities greater rules units (Ended Limit)
 refused_there arities greater rules units why (too_large h) = past_limit fault.TooLarge h
 refused_there arities greater rules units why (too_many h) = past_limit fault.TooMany h
-
-pub large_there : (arities : List ℕ) (greater : Tree → Tree → Type 0) (rules : List RewriteRule) (units : ℕ) (why : PeakFault) → why ≡ fault.TooLarge
-    → (why ≢ fault.OutOfMemory → ListsPeaks rules (Err why)) → Looks arities greater rules units (Ended Limit)
-large_there arities greater rules units why e h = past_limit why (h (λ k. absurd cc))
-
-pub many_there : (arities : List ℕ) (greater : Tree → Tree → Type 0) (rules : List RewriteRule) (units : ℕ) (why : PeakFault) → why ≡ fault.TooMany
-    → (why ≢ fault.OutOfMemory → ListsPeaks rules (Err why)) → Looks arities greater rules units (Ended Limit)
-many_there arities greater rules units why e h = past_limit why (h (λ k. absurd cc))
 
 pub all_pairs : (system : System) → IsSystem system → (peaks : List PlacedPeak) → ListsPeaks system.rules (Ok peaks) → ArePairsOver system.arities (map sides peaks)
 all_pairs system valid peaks h =
@@ -85,15 +75,3 @@ module _ (greater : Tree → Tree → Type 0) (system : System) (units most : �
   few_looked_at (outcome.Passed n) (inr no_pass) f = absurd cc
   few_looked_at (outcome.Added r n) which f = early (Added r n) (λ m k. absurd cc) f
   few_looked_at (outcome.Ended c) which f = early (Ended _) (λ m k. absurd cc) f
-
-all_looked_at : (greater : Tree → Tree → Type 0) (system : System) (units : ℕ) (peaks : List PlacedPeak) → ListsPeaks system.rules (Ok peaks) → (made : CodeOutcome)
-    → IsOutcome (Finds system.arities greater system.rules units (map sides peaks)) made → IsOutcome (Looks system.arities greater system.rules units) made
-all_looked_at greater system units peaks h (outcome.Passed n) f = at_peaks peaks h f
-all_looked_at greater system units peaks h (outcome.Added r n) f = at_peaks peaks h f
-all_looked_at greater system units peaks h (outcome.Ended c) f = at_peaks peaks h f
-
-pub all_if_ok : (greater : Tree → Tree → Type 0) (system : System) (units : ℕ) (peaks : List PlacedPeak) → ListsPeaks system.rules (Ok peaks)
-    → (answer : Result CodeOutcome OutOfMemory) → IfOk answer (IsOutcome (Finds system.arities greater system.rules units (map sides peaks)))
-    → IfOk answer (IsOutcome (Looks system.arities greater system.rules units))
-all_if_ok greater system units peaks h (Ok made) f = all_looked_at greater system units peaks h made f
-all_if_ok greater system units peaks h (Err e) f = tt

@@ -1,17 +1,22 @@
 -- The rules with the root of a term, in order: the first that matches at the root, or none of all rules.
-use Rattle.std.proofs.Common.{◌≡◌, ◌<◌, ℕ, ap, sym, subst, ◌∙◌, arith, List, length, take, Some, None, slice_get, slice_index}
+use Rattle.std.proofs.Common.{◌≡◌, ◌<◌, ℕ, All, ap, sym, subst, ◌∙◌, arith, List, length, take, Some, None, slice_get, slice_index}
 use Rattle.std.proofs.lemmas.Option.{slice_get-get_or}
 use Rattle.trs_defs.specs.Tree.{Tree, Trees, app}
 use Rattle.trs_defs.specs.Variable.{IsVariable}
 use Rattle.trs_defs.specs.Substitution.{IsInstance}
 use Rattle.trs_defs.specs.System.{RewriteRule, has_root}
 use Rattle.trs_defs.proofs.Members.{in_of_get}
+use Rattle.trs_defs.proofs.ListItems.{item_there}
 use Rattle.term_pool.specs.Redex.{IsRedex}
 use Rattle.term_pool.specs.Roots.{with_root}
 use Rattle.term_pool.proofs.NumberLaws.{each_before}
 use Rattle.term_pool.proofs.RootRules.{AreProper, IsSuch, NoneSuch, Matches, root_of_match, no_redex, no_redex_at_variable}
 use Rattle.completion.specs.Searching.{IsRootFound}
 use Rattle.completion.proofs.SearchLaws.{NoneBelow, at_root, root_first}
+
+-- the rule of the next number
+pub next_rule : (rules : List RewriteRule) (ks : List ℕ) (i : ℕ) → All (λ k. k < length rules) ks → i < length ks → (rule : RewriteRule) × (slice_get rules (slice_index ks i) ≡ Some rule)
+next_rule rules ks i below within = item_there rules (slice_index ks i) (below i 0 within)
 
 -- no rule matches at the root
 no_root : (rules : List RewriteRule) (t : Tree) → (IsRedex rules t → ⊥) → IsRootFound rules t None

@@ -1,7 +1,7 @@
 -- The search for the first redex: at the root, and then argument by argument.
-use Rattle.std.proofs.Common.{◌≡◌, ◌<◌, ◌≤◌, ℕ, ◌+◌, zero, suc, ◌⊎◌, inl, inr, refl, sym, ap, subst, arith, ◌∙◌, Bool, List, [], ◌∷◌, ◌++◌, length, Option, Some, None, Result, Ok, Err, OnOk, slice_get}
-use Rattle.std.proofs.Math.Decide.{dec_le}
-use Rattle.std.proofs.lemmas.Option.{same_Some, slice_get_cases, slice_get_past}
+use Rattle.std.proofs.Common.{◌≡◌, ◌<◌, ◌≤◌, ℕ, ◌+◌, zero, suc, ◌⊎◌, ◌↔◌, inl, inr, refl, sym, ap, subst, arith, ◌∙◌, Bool, List, [], ◌∷◌, ◌++◌, length, Option, Some, None, Result, Ok, Err, IfOk, IsTrue, OnOk, slice_get}
+use Rattle.std.proofs.Math.Decide.{dec_le, ℕ_discrete}
+use Rattle.std.proofs.lemmas.Option.{same_Some, slice_get_cases, slice_get_past, slice_get_within}
 use Rattle.std.specs.Option.{option_and_then}
 use Rattle.trs_defs.specs.Tree.{Tree, Trees, var, app, nil, cons, items, count}
 use Rattle.trs_defs.specs.Size.{size_of}
@@ -17,8 +17,8 @@ use Rattle.term_pool.specs.Pooled.{Extends, tree_at}
 use Rattle.term_pool.specs.Redexes.{IsRedexAt, IsNarrow, AreNarrow, IsEarlier, ComesBefore}
 use Rattle.term_pool.proofs.Extending.{same_tree_at}
 use Rattle.completion.specs.Normalizing.{IsFirstRedex}
-use Rattle.completion.specs.IdSets.{HasId, HasOneMore}
-use Rattle.completion.specs.Searching.{HasNoPlace, HaveNoPlace, IsFound, IsRootFound, BeginsBehind, HasNoneUpTo}
+use Rattle.completion.specs.PassedIds.{mark_of, IsMarked}
+use Rattle.completion.specs.Searching.{HasNoPlace, HasNoneOf, ArePassed, IsFound, IsRootFound, BeginsBehind, HasNoneUpTo}
 
 -- ---- arguments
 
@@ -191,29 +191,54 @@ module _ (rules : List RewriteRule) (t : Tree) where
 
 -- ---- ids that were passed
 
-pub one_more_passed : (rules : List RewriteRule) (pool : List Tree) (old new : List Bool) (id : ℕ) → HasOneMore id old new → HaveNoPlace rules pool old
-    → id < length pool → HasNoPlace rules (tree_at pool id) → HaveNoPlace rules pool new
-one_more_passed rules pool old new id more before there none v h = elim ((more v).0 h) as (λ _. (v < length pool) × HasNoPlace rules (tree_at pool v)) [
-  | inl same ↦ (rw same there, rw same none)
-  | inr earlier ↦ before v earlier
-]
+-- all redexes are of the first rules
+below_all : (rules : List RewriteRule) (t : Tree) (u : PlacedRule) → IsRedexAt rules t u → u.rule < length rules
+below_all rules t u r = slice_get_within rules u.rule r.rule r.numbered
 
-pub passed_still : (rules : List RewriteRule) (pool next : List Tree) (ids : List Bool) → Extends pool next → HaveNoPlace rules pool ids → HaveNoPlace rules next ids
-passed_still rules pool next ids more before v h =
-    let b = before v h in
+-- an id that was passed by all rules
+pub passed_by_all : (rules : List RewriteRule) (pool : List Tree) (marks : List ℕ) (id all : ℕ) → ArePassed rules pool marks → all ≡ length rules → mark_of marks id ≡ all
+    → HasNoPlace rules (tree_at pool id)
+passed_by_all rules pool marks id all h count is u r =
+    let below : u.rule < length rules = below_all rules (tree_at pool id) u r in
+    (h id (omega (arith, below, count, is))).2 u (omega (arith, below, count, is)) r
+
+-- an id is passed by as many rules as its mark says
+pub passed_by_some : (rules : List RewriteRule) (pool : List Tree) (marks : List ℕ) (id : ℕ) → ArePassed rules pool marks → HasNoneOf (mark_of marks id) rules (tree_at pool id)
+passed_by_some rules pool marks id h u less r = (h id (omega (arith, less))).2 u less r
+
+-- a rule that is known to have no redex has none at the root
+pub none_at_root : (rules : List RewriteRule) (n k : ℕ) (t : Tree) → HasNoneOf n rules t → k < n → (r : RewriteRule) → slice_get rules k ≡ Some r → IsInstance r.left t → ⊥
+none_at_root rules n k t none less r there instance =
+    none (record { place = []; rule = k }) less (record { rule = r; numbered = there; part = t; there = refl; instance = instance })
+
+-- the rule of a number, as it was read
+pub instance_if_ok : {E : Type 0} (answer : Result Bool E) (rules : List RewriteRule) (k : ℕ) (rule : RewriteRule) (t : Tree) → slice_get rules k ≡ Some rule
+    → IfOk answer (λ yes. IsTrue yes ↔ IsInstance rule.left t) → IfOk answer (λ yes. (r : RewriteRule) → slice_get rules k ≡ Some r → (IsTrue yes ↔ IsInstance r.left t))
+instance_if_ok (Ok b) rules k rule t there h = λ r at. subst (λ (q : RewriteRule). IsTrue b ↔ IsInstance q.left t) (same_Some rule r (sym there ∙ at)) h
+instance_if_ok (Err e) rules k rule t there h = tt
+
+pub one_more_passed : (rules : List RewriteRule) (pool : List Tree) (old new : List ℕ) (id all : ℕ) → IsMarked id all old new → ArePassed rules pool old
+    → id < length pool → all ≡ length rules → HasNoPlace rules (tree_at pool id) → ArePassed rules pool new
+one_more_passed rules pool old new id all marked before there count none v some =
+    let M : ℕ → Type 0 = λ w. (w < length pool) × (mark_of new w ≤ length rules) × HasNoneOf (mark_of new w) rules (tree_at pool w) in
+    elim (ℕ_discrete v id) as (λ _. M v) [
+      | yes same ↦ subst M (sym same) (there, omega (arith, marked.0, count), λ u less r. none u r)
+      | no other ↦ (let same : mark_of new v ≡ mark_of old v = marked.1 v other in
+          let b = before v (omega (arith, some, same)) in
+          let N : ℕ → Type 0 = λ n. HasNoneOf n rules (tree_at pool v) in
+          (b.0, omega (arith, b.1, same), subst N (sym same) b.2))
+    ]
+
+pub passed_still : (rules : List RewriteRule) (pool next : List Tree) (marks : List ℕ) → Extends pool next → ArePassed rules pool marks → ArePassed rules next marks
+passed_still rules pool next marks more before v some =
+    let b = before v some in
     let longer : length pool ≤ length next = more.longer in
     let below : v < length pool = b.0 in
-    (omega (arith, longer, below), subst (HasNoPlace rules) (sym (same_tree_at pool next more v below)) b.1)
+    (omega (arith, longer, below), b.1, subst (HasNoneOf (mark_of marks v) rules) (sym (same_tree_at pool next more v below)) b.2)
 
 pub placed_further : (xs p : List ℕ) (k : ℕ) → (xs ++ k ∷ []) ++ p ≡ xs ++ k ∷ p
 placed_further [] p k = refl
 placed_further (x ∷ xs) p k = ap (λ ys. x ∷ ys) (placed_further xs p k)
-
-pub none_passed : (rules : List RewriteRule) (pool : List Tree) (ids : List Bool) → ids ≡ [] → HaveNoPlace rules pool ids
-none_passed rules pool ids empty v h = absurd (never (subst (λ xs. HasId xs v) empty h))
-  where
-    never : HasId [] v → ⊥
-    never e = absurd cc
 
 -- ---- what was found
 

@@ -2,8 +2,9 @@ pub mod Conversion
 pub mod GreaterBy
 pub mod ReductionOrder
 pub mod Normalizing
-pub mod IdSets
+pub mod PassedIds
 pub mod Searching
+pub mod MetTerms
 pub mod Growing
 pub mod Moving
 pub mod Orienting

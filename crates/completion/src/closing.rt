@@ -1,16 +1,16 @@
-ghost use Rattle.std.specs.Prelude.{◌≡◌, ◌≤◌, ◌⊎◌, IfOk, OnOk, IsTrue, false, map};
+ghost use Rattle.std.specs.Prelude.{◌≡◌, ◌≤◌, ◌⊎◌, IfOk, IfSome, OnOk, IsTrue, false, map};
 ghost use Rattle.completion.specs.GreaterBy.{GreaterBy};
 ghost use Rattle.completion.specs.CompletionRun.{Closes, Finds, sides};
 ghost use Rattle.completion.specs.Answers.{plain_ending, HasArities};
 ghost use Rattle.completion.specs.Treating.{IsOutcome, is_passed};
-ghost use Rattle.completion.specs.Searching.{HaveNoPlace};
+ghost use Rattle.completion.specs.MetTerms.{IsMet};
 ghost use Rattle.completion.specs.Taking.{ArePairsOver, Looks};
 
 use crate::Completion;
 use crate::growing::GrowingTrs;
 use crate::met::Met;
 use crate::treating::{Outcome, treat};
-use crit_pairs::{Peak, PeakFault, critical_pairs, first_peaks};
+use crit_pairs::{Peak, first_peaks};
 use path_lpo::Lpo;
 use rewrite_core::{CheckFault, Top};
 use std::alloc::Global;
@@ -24,19 +24,25 @@ pub(crate) fn close(
     alloc: Global,
     order: &Lpo,
     rules: GrowingTrs,
+    terms: Met,
     units: u64,
 ) -> Result<Completion, OutOfMemory>
+    requires { IsMet rules.rules terms }
     ensures closes { IfOk result (λ c. Closes rules.arities (GreaterBy order.now)
         rules.rules units (plain_ending c)) }
     ensures arities { IfOk result (HasArities rules.arities) }
 {
     let mut system = rules;
+    let mut met = terms;
     let mut left = units;
     loop {
-        let trs = system.to_trs(alloc)?;
-        match look(alloc, order, &system, &trs, left)? {
-            Outcome::Passed(_) => return Ok(Completion::Done(trs)),
+        match look(alloc, order, &system, &mut met, left)? {
+            Outcome::Passed(_) => {
+                let trs = system.to_trs(alloc)?;
+                return Ok(Completion::Done(trs));
+            }
             Outcome::Added(rule, units) => {
+                met.add_rule(alloc, &rule)?;
                 system = system.with_rule(alloc, rule)?;
                 left = units;
             }
@@ -51,57 +57,78 @@ fn look(
     alloc: Global,
     order: &Lpo,
     system: &GrowingTrs,
-    trs: &Trs,
+    met: &mut Met,
     units: u64,
 ) -> Result<Outcome, OutOfMemory>
-    requires { trs.now ≡ system.now }
-    ensures { IfOk result (IsOutcome (Looks system.now.arities (GreaterBy order.now)
+    requires { IsMet system.now.rules met.old }
+    ensures looks { IfOk result (IsOutcome (Looks system.now.arities (GreaterBy order.now)
         system.now.rules units)) }
+    ensures met { OnOk result (IsMet system.now.rules met.new) }
 {
-    systems_are_valid(trs);
-    match first_peaks(alloc, trs, FEW) {
-        Ok(few) => {
-            let mut met = Met::new(alloc);
-            let found = find(alloc, order, system, &mut met, &few.peaks, units)?;
-            if is_settled(&found, few.count) {
-                return Ok(found);
-            }
-            look_at_all(alloc, order, system, trs, &mut met, units)
-        }
-        Err(CheckFault::OutOfMemory) => Err(OutOfMemory),
-        Err(CheckFault::Refused(_)) => Ok(Outcome::Ended(Completion::Limit)),
+    if let Some(found) = look_at_first(alloc, order, system, met, FEW, units)? {
+        return Ok(found);
+    }
+    // There are never so many.
+    match look_at_first(alloc, order, system, met, usize::MAX, units)? {
+        Some(found) => Ok(found),
+        None => Err(OutOfMemory),
     }
 }
 
-/// The same, where all peaks are made.
-fn look_at_all(
+/// The same, where so many peaks at most are made. `None` where they do not decide.
+fn look_at_first(
+    alloc: Global,
+    order: &Lpo,
+    system: &GrowingTrs,
+    met: &mut Met,
+    most: usize,
+    units: u64,
+) -> Result<Option<Outcome>, OutOfMemory>
+    requires { IsMet system.now.rules met.old }
+    ensures looks { IfOk result (λ found. IfSome found (IsOutcome (
+        Looks system.now.arities (GreaterBy order.now) system.now.rules units))) }
+    ensures met { OnOk result (IsMet system.now.rules met.new) }
+{
+    let trs = system.to_trs(alloc)?;
+    look_at_listed(alloc, order, system, &trs, met, most, units)
+}
+
+/// The same, with the system made.
+fn look_at_listed(
     alloc: Global,
     order: &Lpo,
     system: &GrowingTrs,
     trs: &Trs,
     met: &mut Met,
+    most: usize,
     units: u64,
-) -> Result<Outcome, OutOfMemory>
+) -> Result<Option<Outcome>, OutOfMemory>
     requires same { trs.now ≡ system.now }
-    requires passed { HaveNoPlace system.now.rules met.old.pool met.old.passed }
-    ensures { IfOk result (IsOutcome (Looks system.now.arities (GreaterBy order.now)
-        system.now.rules units)) }
+    requires met { IsMet system.now.rules met.old }
+    ensures looks { IfOk result (λ found. IfSome found (IsOutcome (
+        Looks system.now.arities (GreaterBy order.now) system.now.rules units))) }
+    ensures met { OnOk result (IsMet system.now.rules met.new) }
 {
     systems_are_valid(trs);
-    match critical_pairs(alloc, trs) {
-        Ok(peaks) => find(alloc, order, system, met, &peaks, units),
-        Err(PeakFault::TooLarge) => Ok(Outcome::Ended(Completion::Limit)),
-        Err(PeakFault::TooMany) => Ok(Outcome::Ended(Completion::Limit)),
-        Err(PeakFault::OutOfMemory) => Err(OutOfMemory),
+    match first_peaks(alloc, trs, most) {
+        Ok(few) => {
+            let found = find(alloc, order, system, met, &few.peaks, units)?;
+            if is_settled(&found, few.count, most) {
+                return Ok(Some(found));
+            }
+            Ok(None)
+        }
+        Err(CheckFault::OutOfMemory) => Err(OutOfMemory),
+        Err(CheckFault::Refused(_)) => Ok(Some(Outcome::Ended(Completion::Limit))),
     }
 }
 
 /// Whether the first of so many peaks decide: they are all, or one of them is not passed over.
-fn is_settled(found: &Outcome, count: u64) -> bool
-    ensures { IsTrue result → (count ≤ 64) ⊎ (is_passed found.now ≡ false) }
+fn is_settled(found: &Outcome, count: u64, most: usize) -> bool
+    ensures { IsTrue result → (count ≤ most) ⊎ (is_passed found.now ≡ false) }
 {
     match found {
-        Outcome::Passed(_) => count <= FEW as u64,
+        Outcome::Passed(_) => count <= most as u64,
         _ => true,
     }
 }
@@ -116,10 +143,10 @@ fn find<T: Top>(
     units: u64,
 ) -> Result<Outcome, OutOfMemory>
     requires pairs { ArePairsOver system.now.arities (map sides peaks.now) }
-    requires passed { HaveNoPlace system.now.rules met.old.pool met.old.passed }
+    requires met { IsMet system.now.rules met.old }
     ensures outcome { IfOk result (IsOutcome (Finds system.now.arities (GreaterBy order.now)
         system.now.rules units (map sides peaks.now))) }
-    ensures passed { OnOk result (HaveNoPlace system.now.rules met.new.pool met.new.passed) }
+    ensures met { OnOk result (IsMet system.now.rules met.new) }
 {
     let mut left = units;
     for peak in peaks {

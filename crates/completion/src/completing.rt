@@ -33,6 +33,6 @@ pub fn complete(
     systems_are_valid(equations);
     match take(alloc, equations, order, budget)? {
         Taken::Ended(why) => Ok(why),
-        Taken::Rules(system, units) => close(alloc, order, system, units),
+        Taken::Rules(system, met, units) => close(alloc, order, system, met, units),
     }
 }

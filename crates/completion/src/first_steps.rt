@@ -1,16 +1,15 @@
-ghost use Rattle.std.specs.Prelude.{◌<◌, length, IfOk, OnOk};
+ghost use Rattle.std.specs.Prelude.{◌≡◌, ◌<◌, length, IfOk, OnOk};
 ghost use Rattle.term_pool.specs.Pooled.{Extends, tree_at};
 ghost use Rattle.term_pool.specs.Redexes.{IsNarrow};
 ghost use Rattle.completion.specs.Moving.{IsMove, IsStopOf};
-ghost use Rattle.completion.specs.Searching.{HaveNoPlace};
+ghost use Rattle.completion.specs.MetTerms.{IsMet};
 
 use crate::Unfinished;
 use crate::growing::GrowingTrs;
-use crate::id_sets::IdSet;
+use crate::met::Met;
 use crate::searching::first_redex;
 use rewrite_core::StepFault;
 use std::alloc::Global;
-use term_pool::Pool;
 use trs_core::{OutOfMemory, Position};
 
 /// What the first redex of a term leads to.
@@ -24,28 +23,38 @@ pub(crate) enum Move {
 /// The step at the first redex of an id's term, for which so many units are there.
 pub(crate) fn first_move(
     alloc: Global,
-    pool: &mut Pool,
     system: &GrowingTrs,
+    met: &mut Met,
     id: u32,
-    passed: &mut IdSet,
     units: u64,
 ) -> Result<Move, OutOfMemory>
-    requires there { id < length pool.old }
-    requires narrow { IsNarrow (tree_at pool.old id) }
-    requires passed { HaveNoPlace system.now.rules pool.old passed.old }
-    ensures moves { IfOk result (IsMove system.now.rules units (tree_at pool.old id) pool.new) }
-    ensures kept { OnOk result (Extends pool.old pool.new) }
-    ensures passed { OnOk result (HaveNoPlace system.now.rules pool.new passed.new) }
+    requires there { id < length met.old.pool }
+    requires narrow { IsNarrow (tree_at met.old.pool id) }
+    requires met { IsMet system.now.rules met.old }
+    ensures moves { IfOk result (
+        IsMove system.now.rules units (tree_at met.old.pool id) met.new.pool) }
+    ensures kept { OnOk result (Extends met.old.pool met.new.pool) }
+    ensures base { OnOk result (met.new.base ≡ met.old.base) }
+    ensures met { OnOk result (IsMet system.now.rules met.new) }
 {
     let mut place = Vec::new(alloc);
-    match first_redex(alloc, pool, system, id, &mut place, passed)? {
+    let sides = met.sides.as_slice();
+    match first_redex(
+        alloc,
+        &met.pool,
+        system,
+        sides,
+        id,
+        &mut place,
+        &mut met.passed,
+    )? {
         None => Ok(Move::Nowhere),
         Some(rule) => {
             if units == 0 {
                 return Ok(Move::Stopped(Unfinished::NoUnit));
             }
             let place = Position::of(alloc, &place)?;
-            match system.step_at(alloc, pool, id, &place, rule) {
+            match system.step_at(alloc, &mut met.pool, id, &place, rule) {
                 Ok(next) => Ok(Move::To(next)),
                 Err(fault) => stop_of(fault),
             }

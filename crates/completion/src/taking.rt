@@ -10,10 +10,11 @@ use path_lpo::Lpo;
 use std::alloc::Global;
 use trs_core::{OutOfMemory, Trs};
 
-/// The rules that all equations gave, and the units that are left; or how the run ended.
+/// The rules that all equations gave, the terms that were met, and the units that are left; or how
+/// the run ended.
 #[derive(Drop)]
 pub(crate) enum Taken {
-    Rules(GrowingTrs, u64),
+    Rules(GrowingTrs, Met, u64),
     Ended(Completion),
 }
 
@@ -41,12 +42,12 @@ pub(crate) fn take(
         )? {
             Outcome::Passed(units) => left = units,
             Outcome::Added(rule, units) => {
+                met.add_rule(alloc, &rule)?;
                 system = system.with_rule(alloc, rule)?;
-                met = Met::new(alloc);
                 left = units;
             }
             Outcome::Ended(why) => return Ok(Taken::Ended(why)),
         }
     }
-    Ok(Taken::Rules(system, left))
+    Ok(Taken::Rules(system, met, left))
 }

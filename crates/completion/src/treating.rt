@@ -1,11 +1,11 @@
 ghost use Rattle.std.specs.Prelude.{◌≡◌, ◌<◌, length, IfOk, OnOk};
 ghost use Rattle.trs_core.specs.View.{tree};
-ghost use Rattle.term_pool.specs.Pooled.{tree_at};
+ghost use Rattle.term_pool.specs.Pooled.{Extends, tree_at};
 ghost use Rattle.completion.specs.CompletionRun.{Treats, ending_of};
 ghost use Rattle.completion.specs.Answers.{plain_ending};
 ghost use Rattle.completion.specs.GreaterBy.{GreaterBy};
-ghost use Rattle.completion.specs.Searching.{HaveNoPlace};
-ghost use Rattle.completion.specs.Taking.{IsTermOver};
+ghost use Rattle.completion.specs.MetTerms.{IsMet};
+ghost use Rattle.completion.specs.Taking.{IsTermOver, IsIdOver};
 ghost use Rattle.completion.specs.Treating.{pair_of, IsOutcome, IsCompared, IsAdded};
 
 use crate::growing::GrowingTrs;
@@ -40,12 +40,37 @@ pub(crate) fn treat(
 ) -> Result<Outcome, OutOfMemory>
     requires left { IsTermOver system.now.arities (tree left.now) }
     requires right { IsTermOver system.now.arities (tree right.now) }
-    requires passed { HaveNoPlace system.now.rules met.old.pool met.old.passed }
+    requires met { IsMet system.now.rules met.old }
     ensures outcome { IfOk result (IsOutcome (Treats system.now.arities (GreaterBy order.now)
         system.now.rules units (pair_of (tree left.now) (tree right.now)))) }
-    ensures passed { OnOk result (HaveNoPlace system.now.rules met.new.pool met.new.passed) }
+    ensures met { OnOk result (IsMet system.now.rules met.new) }
 {
-    met.make_room(alloc);
+    met.make_room();
+    let s = met.intern(alloc, left)?;
+    let t = met.intern(alloc, right)?;
+    treat_ids(alloc, order, system, met, s, t, units)
+}
+
+/// The same of a pair of ids.
+fn treat_ids(
+    alloc: Global,
+    order: &Lpo,
+    system: &GrowingTrs,
+    met: &mut Met,
+    left: u32,
+    right: u32,
+    units: u64,
+) -> Result<Outcome, OutOfMemory>
+    requires left { IsIdOver system.now.arities met.old.pool left }
+    requires right { IsIdOver system.now.arities met.old.pool right }
+    requires met { IsMet system.now.rules met.old }
+    ensures outcome { IfOk result (IsOutcome (Treats system.now.arities (GreaterBy order.now)
+        system.now.rules units
+        (pair_of (tree_at met.old.pool left) (tree_at met.old.pool right)))) }
+    ensures kept { OnOk result (Extends met.old.pool met.new.pool) }
+    ensures base { OnOk result (met.new.base ≡ met.old.base) }
+    ensures met { OnOk result (IsMet system.now.rules met.new) }
+{
     match normal_form(alloc, system, met, left, units)? {
         Form::Stopped(why) => Ok(Outcome::Ended(end_run(why))),
         Form::Normal(s, more) => match normal_form(alloc, system, met, right, more)? {

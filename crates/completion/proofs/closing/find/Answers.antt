@@ -50,7 +50,7 @@ loop-peak-preserved g c =
           (map sides (drop (c.loop-peak.peak-index + 1) c.args.peaks.now)) (next_pairs c.args.peaks.now c.loop-peak.peak-index c.peak-item.result c.loop-peak-test.true c.peak-item.is)
           c.loop-peak.invariant.on c.in-Passed.more
           (subst (T (outcome.Passed c.in-Passed.more)) c.peak.view_is (subst R c.in-Passed.is c.in_ok-more.ensures.outcome));
-      passed = c.in_ok-more.ensures.passed;
+      met = c.in_ok-more.ensures.met;
     }
 
 pub returns-clause-outcome : goal.returns-clause-outcome

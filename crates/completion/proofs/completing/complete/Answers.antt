@@ -28,15 +28,20 @@ returns-in-Ended-clause-arities c =
 pub returns-in-Rules-clause-run : goal.returns-in-Rules-clause-run
 returns-in-Rules-clause-run c =
     let H : Taken → Type 0 = HasTaken c.args.equations.now (GreaterBy c.args.order.now) c.args.budget in
-    (runs_if_ok c.args.equations.now (GreaterBy c.args.order.now) c.args.budget c.in-Rules.system c.in-Rules.units c.close.result
-    (subst H c.in-Rules.is c.in_ok-why.ensures) c.close.ensures.closes)
+    let h = subst H c.in-Rules.is c.in_ok-why.ensures in
+    runs_if_ok c.args.equations.now (GreaterBy c.args.order.now) c.args.budget c.in-Rules.system c.in-Rules.units c.close.result (h.0, h.1) c.close.ensures.closes
 
 pub returns-in-Rules-clause-right : goal.returns-in-Rules-clause-right
 returns-in-Rules-clause-right c =
     let H : Taken → Type 0 = HasTaken c.args.equations.now (GreaterBy c.args.order.now) c.args.budget in
+    let h = subst H c.in-Rules.is c.in_ok-why.ensures in
     right_if_ok c.args.equations.now (GreaterBy c.args.order.now) c.args.budget c.systems_are_valid.ensures.valid (reduction_order c.args.equations.now.arities c.args.order.now c.requires.full) c.close.result
-    (runs_if_ok c.args.equations.now (GreaterBy c.args.order.now) c.args.budget c.in-Rules.system c.in-Rules.units c.close.result
-    (subst H c.in-Rules.is c.in_ok-why.ensures) c.close.ensures.closes)
+    (runs_if_ok c.args.equations.now (GreaterBy c.args.order.now) c.args.budget c.in-Rules.system c.in-Rules.units c.close.result (h.0, h.1) c.close.ensures.closes)
+
+pub close-requires : goal.close-requires
+close-requires c =
+    let H : Taken → Type 0 = HasTaken c.args.equations.now (GreaterBy c.args.order.now) c.args.budget in
+    (subst H c.in-Rules.is c.in_ok-why.ensures).2
 
 pub returns-in-Rules-clause-arities : goal.returns-in-Rules-clause-arities
 returns-in-Rules-clause-arities c =

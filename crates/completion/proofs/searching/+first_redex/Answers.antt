@@ -1,14 +1,22 @@
-use Rattle.std.proofs.Common.{◌≡◌, ◌<◌, ◌+◌, ◌++◌, ◌∷◌, [], ℕ, All, List, None, Option, Some, ap, arith, refl, subst, sym, ◌∙◌}
+use Rattle.std.proofs.Common.{◌≡◌, ◌<◌, ◌+◌, ◌++◌, ◌∷◌, [], ℕ, All, List, length, None, Option, Some, ap, arith, refl, subst, sym, ◌∙◌}
 use Rattle.trs_defs.specs.Position.{argument_at}
 use Rattle.trs_defs.specs.Size.{size_of}
 use Rattle.term_pool.specs.Pooled.{tree_at}
 use Rattle.term_pool.proofs.RedexWalk.{popped, positive_below}
-use Rattle.completion.specs.Searching.{IsFound, IsRootFound}
-use Rattle.completion.proofs.SearchLaws.{argument_smaller, argument_narrow, past_root, past_next, past_all, first_inside, one_more_passed, placed_further}
+use Rattle.completion.specs.Searching.{HasNoneOf, IsFound, IsRootFound}
+use Rattle.completion.proofs.SearchLaws.{argument_smaller, argument_narrow, past_root, past_next, past_all, first_inside, passed_by_all, passed_by_some, one_more_passed, placed_further}
 use Rattle.completion.proofs.searching.+first_redex.Goals as goal
 
-pub returns-then-contains-clause-found : goal.returns-then-contains-clause-found
-returns-then-contains-clause-found t c = ((c.requires.passed c.args.id (c.if-contains.ensures.0 refl)).1, refl)
+pub returns-then-known-all-clause-found : goal.returns-then-known-all-clause-found
+returns-then-known-all-clause-found t c = (
+  passed_by_all c.args.system.now.rules c.args.pool.now c.args.passed.now c.args.id (length c.rules.result.now) c.requires.passed (ap length c.rules.ensures.rules) (sym c.count-known.ensures ∙ c.if-known-all.true),
+  refl,
+)
+
+pub root_redex-requires-clause-none : goal.root_redex-requires-clause-none
+root_redex-requires-clause-none t c =
+    let N : ℕ → Type 0 = λ n. HasNoneOf n c.args.system.now.rules (tree_at c.args.pool.now c.args.id) in
+    subst N (sym c.count-known.ensures) (passed_by_some c.args.system.now.rules c.args.pool.now c.args.passed.now c.args.id c.requires.passed)
 
 pub loop-part-init : goal.loop-part-init
 loop-part-init t c =
@@ -28,7 +36,7 @@ first_redex-requires t c =
     let pushed = rw c.loop-part.invariant.same at c.in_ok-push.ensures.items in
     let positive = positive_below c.args.place.now.items c.push.new.self.items c.loop-part.count pushed c.requires.positive in (
       omega (arith, smaller, c.decreases),
-      (c.in-Some-argument_behind.ensures.there, (argument_narrow whole (c.loop-part.count + 1) part there c.requires.narrow, (positive, c.loop-part.invariant.passed))),
+      (c.in-Some-argument_behind.ensures.there, (argument_narrow whole (c.loop-part.count + 1) part there c.requires.narrow, (positive, (c.requires.sides, c.loop-part.invariant.passed)))),
     )
 
 pub returns-in-Some-2-clause-found : goal.returns-in-Some-2-clause-found
@@ -77,5 +85,5 @@ pub returns-clause-passed : goal.returns-clause-passed
 returns-clause-passed t c =
     let whole = tree_at c.args.pool.now c.args.id in
     let gone : argument_at whole (c.loop-part.count + 1) ≡ None = sym c.in_default-argument_behind.ensures.is in
-    one_more_passed c.args.system.now.rules c.args.pool.now c.loop-part.passed c.insert.new.self c.args.id c.in_ok-insert.ensures c.loop-part.invariant.passed c.requires.there
-    (past_all c.args.system.now.rules whole c.loop-part.count c.loop-part.invariant.none gone)
+    one_more_passed c.args.system.now.rules c.args.pool.now c.loop-part.passed c.pass.new.self c.args.id (length c.rules.result.now) c.in_ok-pass.ensures c.loop-part.invariant.passed c.requires.there
+    (ap length c.rules.ensures.rules) (past_all c.args.system.now.rules whole c.loop-part.count c.loop-part.invariant.none gone)

@@ -1,8 +1,9 @@
-use Rattle.completion.proofs.SearchLaws.{passed_still}
+use Rattle.std.proofs.Common.{refl}
+use Rattle.completion.proofs.MetLaws.{more_met}
 use Rattle.completion.proofs.met.Met.intern.Goals as goal
 
-pub returns-in_err-id-clause-passed : goal.returns-in_err-id-clause-passed
-returns-in_err-id-clause-passed c = λ rules h. passed_still rules c.args.self.now.pool c.intern.new.self c.args.self.now.passed c.in_err-id.ensures.kept h
+pub returns-in_err-id-clause-met : goal.returns-in_err-id-clause-met
+returns-in_err-id-clause-met c = λ rules h. more_met rules c.args.self.now _ h c.in_err-id.ensures.kept refl refl refl
 
-pub returns-clause-passed : goal.returns-clause-passed
-returns-clause-passed c = λ rules h. passed_still rules c.args.self.now.pool c.intern.new.self c.args.self.now.passed c.in_ok-id.ensures.kept h
+pub returns-clause-met : goal.returns-clause-met
+returns-clause-met c = λ rules h. more_met rules c.args.self.now _ h c.in_ok-id.ensures.kept refl refl refl
