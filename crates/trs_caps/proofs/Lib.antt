@@ -9,3 +9,4 @@ pub mod CapLaws
 pub mod Rows
 pub mod KnownSteps
 pub mod ShapeLaws
+pub mod OrderedParts

@@ -10,7 +10,7 @@ use Rattle.trs_caps.specs.HoledTree.{HoledTree}
 use Rattle.trs_caps.specs.HoledCap.{MeetsLeft, MeetsSome, HasRoot}
 use Rattle.trs_caps.proofs.Fitting.{fits_root}
 
-root_of_met : (f : ℕ) (c : HoledTree) (l : Tree) → HasRoot f c → (IsVariable l → ⊥) → MeetsLeft c l → IsTrue (has_root f l)
+pub root_of_met : (f : ℕ) (c : HoledTree) (l : Tree) → HasRoot f c → (IsVariable l → ⊥) → MeetsLeft c l → IsTrue (has_root f l)
 root_of_met f c (var x) root proper m = absurd (proper (x, refl))
 root_of_met f c (app g ts) root proper m =
     let met = subst (λ z. MeetsLeft z (app g ts)) root.1 m in

@@ -1,5 +1,5 @@
 -- The parts of a cap that stand where a left side has its variables.
-use Rattle.std.specs.Prelude.{ℕ, Bool, true, false, List, [], ◌∷◌}
+use Rattle.std.specs.Prelude.{◌≡◌, ◌≤◌, ◌<◌, ℕ, Bool, true, false, List, [], ◌∷◌}
 use Rattle.trs_defs.specs.Tree.{Tree}
 use Rattle.trs_defs.specs.Substitution.{apply}
 use Rattle.trs_caps.specs.HoledTree.{HoledTree, Fits}
@@ -33,3 +33,9 @@ pub record Refutes (c : HoledTree) (l : Tree) (old : ℕ → List HoledTree) : T
 abbrev pub Walks : HoledTree → Tree → (ℕ → List HoledTree) → (ℕ → List HoledTree) → Bool → Type 0
 Walks c l old new true = Adds c l old new
 Walks c l old new false = Refutes c l old
+
+-- with some terms at the variables from a on, below b, the instance of the left side fits the cap, whatever others have
+pub record FitsBetween (c : HoledTree) (l : Tree) (a b : ℕ) : Type 0 where
+  pub rises : a ≤ b
+  pub terms : ℕ → Tree
+  pub fits : (τ : ℕ → Tree) → ((v : ℕ) → a ≤ v → v < b → τ v ≡ terms v) → Fits c (apply τ l)

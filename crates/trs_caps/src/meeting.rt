@@ -1,8 +1,8 @@
-ghost use Rattle.std.specs.Prelude.{◌≡◌, ◌↔◌, ℕ, IfOk, OnOk, IsTrue};
+ghost use Rattle.std.specs.Prelude.{◌≡◌, ◌≤◌, ◌+◌, ◌↔◌, ℕ, IfOk, OnOk, IsTrue};
 ghost use Rattle.trs_defs.specs.Tree.{var};
 ghost use Rattle.trs_core.specs.View.{tree};
 ghost use Rattle.trs_caps.specs.HoledCap.{MeetsLeft};
-ghost use Rattle.trs_caps.specs.Parts.{HaveInstances, Adds, Walks};
+ghost use Rattle.trs_caps.specs.Parts.{HaveInstances, Adds, Walks, FitsBetween};
 ghost use Rattle.trs_caps.specs.PartLists.{caps_of, parts_at};
 ghost use Rattle.trs_caps.specs.View.{holed};
 
@@ -21,6 +21,9 @@ impl Cap {
     {
         if self.differs(left) {
             return Ok(false);
+        }
+        if self.fits_in_order(left, &mut 0) {
+            return Ok(true);
         }
         let mut parts = BTreeMap::new(alloc);
         if !walk(alloc, self, left, &mut parts)? {
@@ -51,6 +54,43 @@ impl Cap {
             }
         }
     }
+
+    /// Whether the two have one root at each place that both have, and the variables below which the
+    /// cap has parts come in order, each once. Then the two unify. It takes no memory, and most left
+    /// sides that do not differ are seen to unify so.
+    fn fits_in_order(&self, left: &Term, next: &mut u32) -> bool
+        ensures { IsTrue result
+            → FitsBetween (holed self.now) (tree left.now) next.old next.new }
+    {
+        match (self, left) {
+            (Cap::Open, _) => true,
+            (Cap::Own(_), Term::Var(v)) => pass(*v, next),
+            (Cap::Symbol(_, _), Term::Var(v)) => pass(*v, next),
+            (Cap::Own(_), Term::App(_, _)) => false,
+            (Cap::Symbol(f, cs), Term::App(g, ts)) => {
+                if *f != *g || cs.items.len() != ts.items.len() {
+                    return false;
+                }
+                for (i, c) in cs.items.iter().enumerate() {
+                    if !c.fits_in_order(&ts.items[i], next) {
+                        return false;
+                    }
+                }
+                true
+            }
+        }
+    }
+}
+
+/// Whether a variable comes from the next one on, which is behind it then.
+fn pass(v: u32, next: &mut u32) -> bool
+    ensures { IsTrue result → next.old ≤ v × (next.new ≡ v + 1) }
+{
+    if v < *next || v == u32::MAX {
+        return false;
+    }
+    *next = v + 1;
+    true
 }
 
 /// Goes through a cap and a left side, and adds the parts of the cap at the left side's variables.
