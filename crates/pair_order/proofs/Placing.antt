@@ -1,12 +1,14 @@
 -- Symbols that a set holds in order, and the entries that stand at their places.
 use Rattle.std.specs.Prelude.{◌==◌}
-use Rattle.std.proofs.Common.{◌≡◌, ℕ, suc, ◌||◌, Bool, true, false, cond, List, [], ◌∷◌, ◌++◌, map, Option, Some, None, option_map, option_and_then, slice_get, length, get_or, ◌<◌, nat_eq, refl, ap, ap₂, sym, ◌∙◌}
+use Rattle.std.proofs.Common.{◌≡◌, ℕ, zero, suc, ◌||◌, Bool, true, false, cond, List, [], ◌∷◌, ◌++◌, map, Option, Some, None, option_map, option_and_then, slice_get, length, get_or, ◌<◌, nat_eq, refl, ap, ap₂, sym, subst, ◌∙◌}
 use Rattle.std.specs.Borrow.{Bor}
 use Rattle.std.specs.Option.{option_copied}
 use Rattle.std.specs.Slice.{IsItemAt}
-use Rattle.std.specs.List.{list_any, position}
-use Rattle.std.proofs.lemmas.Option.{slice_get_read, slice_get_past, slice_get-map}
+use Rattle.std.specs.List.{list_any, position, AllByRecursion, IsDistinct}
+use Rattle.std.proofs.lemmas.Bool.{eq-eqb}
+use Rattle.std.proofs.lemmas.Option.{same_Some, slice_get_read, slice_get_past, slice_get-map}
 use Rattle.std.proofs.lemmas.Cmp.{nat_eq_equiv}
+use Rattle.std.proofs.lemmas.Map.Keys.{IsDistinct-head, IsDistinct-tail}
 use Rattle.trs_defs.specs.Variable.{is_listed}
 use Rattle.trs_core.proofs.FirstPlaces.{position_next}
 use Rattle.pair_order.specs.Entries.{place_among, with_symbol, entry_of}
@@ -22,6 +24,27 @@ pub place_at : (f : ℕ) (gs : List ℕ) → position (λ g. nat_eq f g) gs ≡ 
 place_at f [] = refl
 place_at f (g ∷ gs) =
     position_next (λ h. nat_eq f h) g gs ∙ ap₂ (λ b o. cond b (Some 0) (option_map suc o)) (nat_eq_equiv.symm f g) (place_at f gs)
+
+-- a symbol that stands nowhere twice is found where it stands
+found_here : (b : Bool) (o : Option ℕ) → b ≡ true → cond b (Some 0) o ≡ Some 0
+found_here true o e = refl
+found_here false o e = absurd cc
+
+found_later : (b : Bool) (o p : Option ℕ) → b ≡ false → o ≡ p → cond b (Some 0) o ≡ p
+found_later true o p e is = absurd cc
+found_later false o p e is = is
+
+differs_at : (g f : ℕ) (gs : List ℕ) (i : ℕ) → AllByRecursion (λ h. nat_eq g h ≡ false) gs → slice_get gs i ≡ Some f → nat_eq g f ≡ false
+differs_at g f [] i all e = absurd cc
+differs_at g f (h ∷ gs) zero all e = subst (λ z. nat_eq g z ≡ false) (same_Some h f e) all.0
+differs_at g f (h ∷ gs) (suc i) all e = differs_at g f gs i all.1 e
+
+pub place_found : (f : ℕ) (gs : List ℕ) (i : ℕ) → IsDistinct nat_eq gs → slice_get gs i ≡ Some f → place_among gs f ≡ Some i
+place_found f [] i distinct e = absurd cc
+place_found f (g ∷ gs) zero distinct e = found_here (nat_eq g f) (option_map suc (place_among gs f)) (eq-eqb g f (same_Some g f e))
+place_found f (g ∷ gs) (suc i) distinct e =
+    found_later (nat_eq g f) (option_map suc (place_among gs f)) (Some (suc i)) (differs_at g f gs i (IsDistinct-head nat_eq g gs distinct) e)
+    (ap (option_map suc) (place_found f gs i (IsDistinct-tail nat_eq g gs distinct) e))
 
 module _ {E : Type 0} (symbol_of : E → ℕ) where
   behind_first : (b : Bool) (e : E) (es : List E) (o : Option ℕ) (found : Option E) → option_and_then (slice_get es) o ≡ found
