@@ -6,7 +6,7 @@ use Rattle.pair_theory.proofs.Subterms.{not_in_nil, head_or_tail}
 use Rattle.order_theory.specs.LinearInterpretation.{constant, constants, coefficient, coefficients}
 use Rattle.poly_lin.specs.TooBig.{IsBig, HasBigCoefficient}
 
-multiple_at_least : (k n : ℕ) → (k ≡ 0 → ⊥) → n ≤ k * n
+pub multiple_at_least : (k n : ℕ) → (k ≡ 0 → ⊥) → n ≤ k * n
 multiple_at_least zero n some = absurd (some refl)
 multiple_at_least (suc k) n some = grind arith
 

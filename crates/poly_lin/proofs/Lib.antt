@@ -6,3 +6,4 @@ pub mod SmallDeciding
 pub mod Profiling
 pub mod BigVariables
 pub mod BehindZero
+pub mod EachCounts

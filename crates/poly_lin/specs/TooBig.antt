@@ -1,5 +1,5 @@
 -- Terms whose polynomials are too big to be compared.
-use Rattle.std.specs.Prelude.{◌≤◌, ◌^◌, ◌⊎◌, ℕ}
+use Rattle.std.specs.Prelude.{◌≤◌, ◌^◌, ◌⊎◌, ℕ, zero, suc, max}
 use Rattle.trs_defs.specs.Tree.{Tree}
 use Rattle.pair_theory.specs.Subterm.{Sub}
 use Rattle.order_theory.specs.LinearInterpretation.{constant, coefficient}
@@ -14,3 +14,8 @@ HasBigCoefficient c t = (u : Tree) × Sub u t × IsBig c u
 
 abbrev pub EitherIsBig : (ℕ → ℕ → ℕ) → Tree → Tree → Type 0
 EitherIsBig c s t = HasBigCoefficient c s ⊎ HasBigCoefficient c t
+
+-- a row of coefficients, of which those of arguments are at least 1
+abbrev pub counting : (ℕ → ℕ) → ℕ → ℕ
+counting row zero = row 0
+counting row (suc i) = max (row (suc i)) 1

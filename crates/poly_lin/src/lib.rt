@@ -4,6 +4,7 @@
 
 mod coefficients;
 mod comparing;
+mod counting;
 mod covering;
 mod faults;
 mod orders;

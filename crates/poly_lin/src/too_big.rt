@@ -5,6 +5,7 @@ ghost use Rattle.order_theory.specs.LinearInterpretation.{coefficient};
 ghost use Rattle.poly_lin.specs.TooBig.{IsBig, HasBigCoefficient};
 
 use crate::Coefficients;
+use crate::counting::Counting;
 use crate::table::has_big;
 use crate::values::saturated_value;
 use crate::window::{MANY, add_coefficients};
@@ -15,6 +16,9 @@ use trs_core::{GREATEST_NUMBER, Term};
 pub(crate) fn has_big_coefficient<T: Coefficients>(table: &T, t: &Term) -> bool
     ensures { IsTrue result ↔ HasBigCoefficient (T.coefficient table.now) (tree t.now) }
 {
+    if saturated_value(&Counting { table }, 1, t) <= GREATEST_NUMBER {
+        return false;
+    }
     if is_big(table, t) {
         return true;
     }
