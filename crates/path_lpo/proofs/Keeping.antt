@@ -1,6 +1,6 @@
 -- Kept arguments: the first, and filtered ones.
 use Rattle.std.proofs.Common.{◌≡◌, ℕ, ◌-◌, ◌+◌, ◌<◌, ◌≤◌, zero, suc, List, [], ◌∷◌, length, drop, Some, None, slice_get, get_or, add-one, drop-cons, refl, ap, sym, ◌∙◌, arith}
-use Rattle.trs_defs.specs.Tree.{Tree, Trees, nil, cons, trees, count}
+use Rattle.trs_defs.specs.Tree.{Tree, Trees, nil, cons, trees}
 use Rattle.trs_defs.specs.Size.{size_of, size_of_all}
 use Rattle.pair_theory.specs.ItemOr.{item_or}
 use Rattle.order_theory.specs.ArgumentFilter.{ArgumentFilter, keep_one, select, filtered, filtered_all}
@@ -60,13 +60,3 @@ module _ (places : List ℕ) (ts : List Tree) (k : ℕ) (h : k < length places) 
     where
       opened : drop k places ≡ get_or places k 0 ∷ drop (k + 1) places
       opened = rw (add-one, drop-cons places k 0) refl
-
-pub filtered_count : (filter : ℕ → ArgumentFilter) (ts : Trees) → count (filtered_all filter ts) ≡ count ts
-filtered_count filter nil = refl
-filtered_count filter (cons t ts) = ap (λ n. 1 + n) (filtered_count filter ts)
-
-pub as_many_filtered : (filter : ℕ → ArgumentFilter) (ss ts : Trees) → count ss ≡ count ts → count (filtered_all filter ss) ≡ count (filtered_all filter ts)
-as_many_filtered filter ss ts e = filtered_count filter ss ∙ e ∙ sym (filtered_count filter ts)
-
-pub as_many_before : (filter : ℕ → ArgumentFilter) (ss ts : Trees) → count (filtered_all filter ss) ≡ count (filtered_all filter ts) → count ss ≡ count ts
-as_many_before filter ss ts e = sym (filtered_count filter ss) ∙ e ∙ filtered_count filter ts

@@ -6,3 +6,6 @@ pub mod Parting
 pub mod Listing
 pub mod Readings
 pub mod Remembering
+pub mod Spans
+pub mod Equality
+pub mod Filtering

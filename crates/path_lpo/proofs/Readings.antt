@@ -10,7 +10,8 @@ use Rattle.trs_defs.proofs.ListItems.{item_of_more, old_item, last_item}
 use Rattle.pair_order.proofs.Placing.{copied_item}
 use Rattle.path_lpo.specs.declared.nodes.Node.{Node}
 use Rattle.path_lpo.specs.declared.nodes.Node.TheVariants.{Var, App, Nil, Cons}
-use Rattle.path_lpo.specs.Graph.{Reading, term, list, tree_of, trees_of, reading_at, reading_over, readings_over, readings, StandsFor, tree_at, bound_of, IsOver, AreOverEarlier, Keeps, root_of, split_of, root_tree, IsRootBelow, IsSplitAt}
+use Rattle.path_lpo.specs.Graph.{Reading, term, list, tree_of, trees_of, reading_at, reading_over, readings_over, readings, StandsFor, tree_at, list_at, bound_of, IsOver, AreOverEarlier, Keeps, root_of, split_of, IsSplitAt}
+use Rattle.path_lpo.specs.Root.{root_tree, IsRootWithin}
 
 length_over : (rs : List Reading) (ns : List Node) → length (readings_over rs ns) ≡ length ns
 length_over rs [] = refl
@@ -50,7 +51,7 @@ same_reading rs us k Nil h same = refl
 same_reading rs us k (Cons first rest) h same = ap₂ (λ q r. list (cons (tree_of q) (trees_of r))) (same first (omega (arith, h))) (same rest (omega (arith, h)))
 
 -- a number stands for its node over all readings
-node_stands : (ns : List Node) (i : ℕ) (n : Node) → AreOverEarlier ns → slice_get ns i ≡ Some n → StandsFor ns i (reading_over (readings ns) n)
+pub node_stands : (ns : List Node) (i : ℕ) (n : Node) → AreOverEarlier ns → slice_get ns i ≡ Some n → StandsFor ns i (reading_over (readings ns) n)
 node_stands ns i n below h =
     let same : reading_over (readings ns) n ≡ reading_over (take i (readings ns)) n =
     same_reading (take i (readings ns)) (readings ns) i n (below i n h) (λ k l. sym (get_or-take i (readings ns) k (list nil) l)) in
@@ -64,6 +65,12 @@ stands_at ns i r h = get_or_from_slice_get (readings ns) i r (list nil) h
 
 pub tree_stands : (ns : List Node) (i : ℕ) (t : Tree) → StandsFor ns i (term t) → tree_at ns i ≡ t
 tree_stands ns i t h = ap tree_of (stands_at ns i (term t) h)
+
+-- the node of a number is a term
+pub term_stands : (ns : List Node) (i : ℕ) (n : Node) (t : Tree) → AreOverEarlier ns → slice_get ns i ≡ Some n → reading_over (readings ns) n ≡ term t → StandsFor ns i (term (tree_at ns i))
+term_stands ns i n t below there is =
+    let stands : StandsFor ns i (term t) = node_stands ns i n below there ∙ ap (λ r. Some r) is in
+    stands ∙ ap (λ u. Some (term u)) (sym (tree_stands ns i t stands))
 
 -- graphs that grow
 pub keeps_all : (ns : List Node) → Keeps ns ns
@@ -102,13 +109,13 @@ app_stands ns f args ts h = ap (λ r. term (app f (trees_of r))) (stands_at ns a
 pub past_reading : (ns : List Node) (i : ℕ) → length ns ≤ i → reading_at (readings ns) i ≡ list nil
 past_reading ns i h = get_or_past (readings ns) i (list nil) (omega (arith, h, length_readings ns))
 
-root_reading : (ns : List Node) (n : Node) → tree_of (reading_over (readings ns) n) ≡ root_tree ns (root_of n)
+root_reading : (ns : List Node) (n : Node) → root_tree (list_at ns) (root_of n) ≡ tree_of (reading_over (readings ns) n)
 root_reading ns (Var x) = refl
 root_reading ns (App f args) = refl
 root_reading ns Nil = refl
 root_reading ns (Cons first rest) = refl
 
-root_below : (i : ℕ) (n : Node) → IsOver i n → IsRootBelow i (root_of n)
+root_below : (i : ℕ) (n : Node) → IsOver i n → IsRootWithin (λ args. args) i (root_of n)
 root_below i (Var x) h = tt
 root_below i (App f args) h = omega (arith, h)
 root_below i Nil h = tt
@@ -121,10 +128,10 @@ split_at ns i Nil h is = ap trees_of is
 split_at ns i (Cons first rest) h is = record { list_is = ap trees_of is; first_earlier = omega (arith, h); rest_earlier = omega (arith, h) }
 
 module _ (ns : List Node) (i : ℕ) (n : Node) (below : AreOverEarlier ns) (there : slice_get ns i ≡ Some n) where
-  pub root_whole : tree_at ns i ≡ root_tree ns (root_of n)
-  root_whole = ap tree_of (stands_at ns i (reading_over (readings ns) n) (node_stands ns i n below there)) ∙ root_reading ns n
+  pub root_whole : root_tree (list_at ns) (root_of n) ≡ tree_at ns i
+  root_whole = root_reading ns n ∙ sym (ap tree_of (stands_at ns i (reading_over (readings ns) n) (node_stands ns i n below there)))
 
-  pub root_earlier : IsRootBelow i (root_of n)
+  pub root_earlier : IsRootWithin (λ args. args) i (root_of n)
   root_earlier = root_below i n (below i n there)
 
   pub node_split : IsSplitAt ns i (split_of n)

@@ -1,5 +1,5 @@
 -- What decides whether one term is greater than another in the path order.
-use Rattle.std.proofs.Common.{◌≡◌, ℕ, ◌+◌, ◌≤◌, ◌<◌, ◌↔◌, ◌⊎◌, inl, inr, refl, sym, ap, subst, ◌∙◌, arith, Bool, true, false, IsTrue, ◌==◌}
+use Rattle.std.proofs.Common.{◌≡◌, ℕ, ◌+◌, ◌≤◌, ◌<◌, ◌↔◌, ◌⊎◌, inl, inr, refl, sym, ap, subst, ◌∙◌, arith, Bool, true, false, IsTrue, ◌==◌, Option, Some, None, IfSome}
 use Rattle.std.proofs.lemmas.Bool.{eqb-true, eq-eqb}
 use Rattle.trs_defs.specs.Tree.{Tree, Trees, var, app, nil, cons, count}
 use Rattle.trs_defs.proofs.EqualTerms.{app_root, app_args, cons_first, cons_rest}
@@ -9,6 +9,7 @@ use Rattle.order_theory.proofs.PathLaws.{Mem, mem_head, mem_tail, greater_trans}
 use Rattle.order_theory.proofs.PathDecides.{irreflexive, arg_case}
 use Rattle.path_lpo.specs.declared.comparison.Comparison.{Comparison}
 use Rattle.path_lpo.specs.declared.comparison.Comparison.TheVariants.{Same, Greater, Neither}
+use Rattle.path_lpo.specs.Walked.{Walked, IsAgain}
 use Rattle.path_lpo.specs.Comparison.{IsComparison, same_if, greater_if, is_greater, is_at_least}
 
 to_app : {P : Type 0} {rank : ℕ → ℕ} {f g : ℕ} {ss ts : Trees} → PathGreater rank (app f ss) (app g ts)
@@ -246,3 +247,19 @@ module _ (rank : ℕ → ℕ) where
       λ p. left.0 (subst (λ z. SomeAtLeast rank z t) (sym e) (further p)),
       λ w. some_cases (subst (λ z. SomeAtLeast rank z t) e (left.1 w)) (λ k. absurd (n (inl k))) (λ g. absurd (n (inr g))) (λ p. p),
     )
+
+  module _ (t : Tree) (whole : Type 0) (us : Trees) (left : SomeAtLeast rank us t ↔ whole) where
+    pub some_found : (a : Tree) (more : Trees) → us ≡ cons a more → (c : Comparison) (b : Bool) → IsComparison rank a t c → b ≡ is_at_least c → b ≡ true → IsTrue true ↔ whole
+    some_found a more e c b is test reaches = some_stop t whole us left a more e ((at_least_test a t c b is test).0 reaches)
+
+    pub some_passed : (a : Tree) (more : Trees) → us ≡ cons a more → (c : Comparison) (b : Bool) → IsComparison rank a t c → b ≡ is_at_least c → b ≡ false → SomeAtLeast rank more t ↔ whole
+    some_passed a more e c b is test fails = some_next t whole us left a more e (λ w. let reaches : b ≡ true = (at_least_test a t c b is test).1 w in absurd (cc (reaches, fails)))
+
+  -- a term that is greater than the last one is greater than the same again
+  pub again_greater : {N L : Type 0} (w : Walked N L) (s b : N) (last : Option N) → IfSome last (λ a. PathGreater rank (w.tree s) (w.tree a)) → IsAgain w last b → PathGreater rank (w.tree s) (w.tree b)
+  again_greater w s b None h again = absurd again
+  again_greater w s b (Some a) h again = subst (PathGreater rank (w.tree s)) again h
+
+  -- a term that another one exceeds neither is that one nor exceeds it
+  pub exceeded : (s t : Tree) → PathGreater rank t s → IsComparison rank s t Neither
+  exceeded s t g = (λ same. not_self (subst (λ u. PathGreater rank u s) (sym same) g), λ h. not_self (greater_trans rank g t h))

@@ -3,8 +3,9 @@ use Rattle.std.specs.Prelude.{◌≡◌, ◌<◌, ◌≤◌, ℕ, ◌+◌, max, 
 use Rattle.trs_defs.specs.Tree.{Tree, Trees, var, app, nil, cons}
 use Rattle.path_lpo.specs.declared.nodes.Node.{Node}
 use Rattle.path_lpo.specs.declared.nodes.Node.TheVariants.{Var, App, Nil, Cons}
-use Rattle.path_lpo.specs.declared.nodes.Root.{Root}
-use Rattle.path_lpo.specs.declared.nodes.Root.TheVariants.{Variable, Symbol}
+use Rattle.path_lpo.specs.declared.root.Root.{Root}
+use Rattle.path_lpo.specs.declared.root.Root.TheVariants.{Variable, Symbol}
+use Rattle.path_lpo.specs.Walked.{Walked}
 
 -- what a number stands for
 pub data Reading : Type 0 where
@@ -66,7 +67,7 @@ AreOverEarlier nodes = (i : ℕ) (node : Node) → slice_get nodes i ≡ Some no
 abbrev pub Keeps : List Node → List Node → Type 0
 Keeps old new = (n : ℕ) (r : Reading) → StandsFor old n r → StandsFor new n r
 
-abbrev pub root_of : Node → Root
+abbrev pub root_of : Node → Root ℕ
 root_of (Var x) = Variable x
 root_of (App f args) = Symbol f args
 root_of Nil = Variable 0
@@ -78,14 +79,9 @@ split_of (App f args) = None
 split_of Nil = None
 split_of (Cons first rest) = Some (first, rest)
 
--- the term with the root
-abbrev pub root_tree : List Node → Root → Tree
-root_tree nodes (Variable x) = var x
-root_tree nodes (Symbol f args) = app f (list_at nodes args)
-
-abbrev pub IsRootBelow : ℕ → Root → Type 0
-IsRootBelow n (Variable x) = Unit {0}
-IsRootBelow n (Symbol f args) = args < n
+-- the node of the number is a symbol over its arguments
+abbrev pub IsApplication : List Node → ℕ → Type 0
+IsApplication nodes n = (f : ℕ) × (args : ℕ) × (slice_get nodes n ≡ Some (App f args))
 
 -- the first term of the list, and the others, both earlier
 pub record IsFirstAt (nodes : List Node) (n first rest : ℕ) : Type 0 where
@@ -96,3 +92,7 @@ pub record IsFirstAt (nodes : List Node) (n first rest : ℕ) : Type 0 where
 abbrev pub IsSplitAt : List Node → ℕ → Option (ℕ × ℕ) → Type 0
 IsSplitAt nodes n None = list_at nodes n ≡ nil
 IsSplitAt nodes n (Some p) = IsFirstAt nodes n p.0 p.1
+
+-- terms and lists of the graph, by their numbers
+abbrev pub shared_terms : List Node → Walked ℕ ℕ
+shared_terms nodes = record { tree = tree_at nodes; trees = list_at nodes; size = λ n. n; bound = λ n. n; most = λ n. n }

@@ -1,14 +1,16 @@
 -- The kept arguments of a term, and a filtered term at its root.
 use Rattle.std.specs.Prelude.{◌≡◌, ◌≤◌, ◌<◌, ℕ, ◌+◌, Option, Some, None, length}
 use Rattle.std.specs.Borrow.{Bor}
-use Rattle.trs_defs.specs.Tree.{Tree, Trees, var, app, nil, cons}
+use Rattle.trs_defs.specs.Tree.{Tree, Trees, nil, cons}
 use Rattle.trs_defs.specs.Size.{size_of, size_of_all}
 use Rattle.trs_core.specs.declared.terms.Term.{Term}
 use Rattle.trs_core.specs.View.{tree, forest}
-use Rattle.order_theory.specs.ArgumentFilter.{ArgumentFilter, select, filtered_all}
+use Rattle.order_theory.specs.ArgumentFilter.{ArgumentFilter, select, filtered, filtered_all}
 use Rattle.path_lpo.specs.declared.kept.Kept.{Kept}
-use Rattle.path_lpo.specs.declared.kept.Parts.{Parts}
-use Rattle.path_lpo.specs.declared.kept.Parts.TheVariants.{Var, App}
+use Rattle.path_lpo.specs.declared.root.Root.{Root}
+use Rattle.path_lpo.specs.declared.root.Root.TheVariants.{Variable, Symbol}
+use Rattle.path_lpo.specs.Root.{root_tree}
+use Rattle.path_lpo.specs.Walked.{Walked}
 
 abbrev pub kept_of : Kept → Trees
 kept_of k = select k.places.now (forest k.args.now)
@@ -24,12 +26,25 @@ abbrev pub IsSplit : Kept → Option (Bor Term × Kept) → Type 0
 IsSplit k None = kept_of k ≡ nil
 IsSplit k (Some p) = IsFirstOf k p.0.now p.1
 
+-- the kept arguments, filtered
+abbrev pub filtered_of : (ℕ → ArgumentFilter) → Kept → Trees
+filtered_of filter k = filtered_all filter (kept_of k)
+
 -- the filtered term
-abbrev pub whole_of : (ℕ → ArgumentFilter) → Parts → Tree
-whole_of filter (Var x) = var x
-whole_of filter (App f k) = app f (filtered_all filter (kept_of k))
+abbrev pub whole_of : (ℕ → ArgumentFilter) → Root Kept → Tree
+whole_of filter r = root_tree (filtered_of filter) r
 
 -- the number of its nodes before its arguments are filtered
-abbrev pub size_of_parts : Parts → ℕ
-size_of_parts (Var x) = 1
-size_of_parts (App f k) = 1 + size_of_all (forest k.args.now)
+abbrev pub size_of_root : Root Kept → ℕ
+size_of_root (Variable x) = 1
+size_of_root (Symbol f k) = 1 + size_of_all (forest k.args.now)
+
+-- terms and lists of kept arguments, as they are
+abbrev pub unshared_terms : (ℕ → ArgumentFilter) → Walked (Bor Term) Kept
+unshared_terms filter = record {
+  tree = λ t. filtered filter (tree t.now);
+  trees = filtered_of filter;
+  size = λ t. size_of (tree t.now);
+  bound = λ k. size_of_all (forest k.args.now);
+  most = λ k. length k.places.now;
+}

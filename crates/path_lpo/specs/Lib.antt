@@ -4,8 +4,11 @@ pub mod Plain
 pub mod Lent
 pub mod Table
 pub mod Faults
-pub mod Kept
 pub mod Comparison
+pub mod Root
+pub mod Walked
+pub mod Kept
 pub mod WellMade
 pub mod Graph
+pub mod Parts
 pub mod Memo

@@ -1,18 +1,16 @@
-ghost use Rattle.std.specs.Prelude.{◌≡◌, ◌≤◌, ◌↔◌, IsTrue, IfOk, IfSome};
-ghost use Rattle.trs_defs.specs.Size.{size_of};
+ghost use Rattle.std.specs.Prelude.{◌↔◌, IsTrue, IfOk, IfSome};
 ghost use Rattle.trs_core.specs.View.{tree};
-ghost use Rattle.order_theory.specs.PathOrder.{GreaterThanAll, SomeAtLeast};
-ghost use Rattle.order_theory.specs.ArgumentFilter.{filtered, filtered_all, PathWeak, PathStrict};
+ghost use Rattle.order_theory.specs.ArgumentFilter.{filtered, PathWeak, PathStrict};
 ghost use Rattle.pair_order.specs.Compared.{IsDecreaseOf};
-ghost use Rattle.path_lpo.specs.Kept.{kept_of, whole_of, size_of_parts};
 ghost use Rattle.path_lpo.specs.Comparison.{IsComparison};
 
+use crate::Precedence;
 use crate::comparison::Comparison;
 use crate::effort::{Effort, Limited, Unlimited};
-use crate::kept::{Kept, Parts, argument};
 use crate::large::is_large;
 use crate::shared::compare_shared;
-use crate::{LentFilter, Precedence};
+use crate::unshared::{Room, Unshared};
+use crate::walking::compare;
 use pair_order::Decrease;
 use std::alloc::Global;
 use trs_core::Term;
@@ -66,7 +64,7 @@ fn compare_terms<P: Precedence>(order: &P, s: &Term, t: &Term) -> Comparison
             }
         }
     }
-    match compare(order, s, t, &mut Unlimited) {
+    match compare_unshared(order, s, t, &mut Unlimited) {
         Ok(comparison) => comparison,
         Err(never) => match never {},
     }
@@ -95,135 +93,21 @@ fn compare_within<P: Precedence>(order: &P, s: &Term, t: &Term, pairs: u64) -> O
         (filtered (P.filters order.now) (tree s.now)) (filtered (P.filters order.now) (tree t.now))
         comparison) }
 {
-    compare(order, s, t, &mut Limited { pairs }).ok()
+    compare_unshared(order, s, t, &mut Limited { pairs }).ok()
 }
 
-/// The filtered term at its root.
-pub(crate) fn parts<'a, P: Precedence>(order: &'a P, t: &'a Term) -> Parts<'a>
-    ensures whole { whole_of (P.filters order.now) result
-        ≡ filtered (P.filters order.now) (tree t.now) }
-    ensures size { size_of_parts result ≤ size_of (tree t.now) }
-{
-    let mut current = t;
-    loop {
-        match current {
-            Term::Var(x) => return Parts::Var(*x),
-            Term::App(f, args) => match order.filter(*f) {
-                LentFilter::Keep(places) => {
-                    let args = &args.items;
-                    return Parts::App(*f, Kept { places, args });
-                }
-                LentFilter::To(place) => match argument(&args.items, place) {
-                    None => {
-                        let args = &args.items;
-                        return Parts::App(*f, Kept { places: &[], args });
-                    }
-                    Some(next) => current = next,
-                },
-            },
-        }
-    }
-}
-
-/// How the first filtered term compares with the second, by as many pairs of positions as the effort
-/// allows. Two positions are compared at most once, so there are at most as many as the product of
-/// the numbers of nodes. (Löchner, Things to know when implementing LPO, 2006.)
-#[cycle(compare)]
-fn compare<P: Precedence, E: Effort>(
-    order: &P,
-    s: &Term,
-    t: &Term,
+/// The same of the terms as they are, as far as the effort allows.
+fn compare_unshared<'a, P: Precedence, E: Effort>(
+    order: &'a P,
+    s: &'a Term,
+    t: &'a Term,
     effort: &mut E,
 ) -> Result<Comparison, E::End>
     ensures { IfOk result (λ comparison. IsComparison (P.ranks order.now)
         (filtered (P.filters order.now) (tree s.now)) (filtered (P.filters order.now) (tree t.now))
         comparison) }
 {
-    effort.spend()?;
-    match parts(order, s) {
-        Parts::Var(x) => match parts(order, t) {
-            Parts::Var(y) => Ok(Comparison::same_if(x == y)),
-            Parts::App(_, _) => Ok(Comparison::Neither),
-        },
-        Parts::App(f, ss) => match parts(order, t) {
-            Parts::Var(_) => Ok(Comparison::greater_if(some_reaches(order, ss, t, effort)?)),
-            Parts::App(g, ts) => {
-                if order.rank(g) < order.rank(f) {
-                    return Ok(Comparison::greater_if(exceeds_all(order, s, ts, effort)?));
-                }
-                if f != g {
-                    return Ok(Comparison::greater_if(some_reaches(order, ss, t, effort)?));
-                }
-                if !ss.are_as_many(ts) {
-                    return Ok(Comparison::greater_if(some_reaches(order, ss, t, effort)?));
-                }
-                let mut lefts = ss;
-                let mut rights = ts;
-                while let Some((a, left)) = lefts.split_first() {
-                    match rights.split_first() {
-                        None => return Ok(Comparison::Neither),
-                        Some((b, right)) => match compare(order, a, b, effort)? {
-                            Comparison::Same => {
-                                lefts = left;
-                                rights = right;
-                            }
-                            Comparison::Greater => {
-                                let exceeds = exceeds_all(order, s, right, effort)?;
-                                return Ok(Comparison::greater_if(exceeds));
-                            }
-                            Comparison::Neither => {
-                                let reaches = some_reaches(order, left, t, effort)?;
-                                return Ok(Comparison::greater_if(reaches));
-                            }
-                        },
-                    }
-                }
-                Ok(Comparison::Same)
-            }
-        },
-    }
-}
-
-/// Whether the first filtered term is greater than each of some kept arguments.
-#[cycle(compare)]
-fn exceeds_all<P: Precedence, E: Effort>(
-    order: &P,
-    s: &Term,
-    args: Kept,
-    effort: &mut E,
-) -> Result<bool, E::End>
-    ensures { IfOk result (λ exceeds. IsTrue exceeds ↔ GreaterThanAll (P.ranks order.now)
-        (filtered (P.filters order.now) (tree s.now))
-        (filtered_all (P.filters order.now) (kept_of args.entry))) }
-{
-    let mut rest = args;
-    while let Some((b, others)) = rest.split_first() {
-        if !compare(order, s, b, effort)?.is_greater() {
-            return Ok(false);
-        }
-        rest = others;
-    }
-    Ok(true)
-}
-
-/// Whether one of some kept arguments is the filtered term, or greater.
-#[cycle(compare)]
-fn some_reaches<P: Precedence, E: Effort>(
-    order: &P,
-    args: Kept,
-    t: &Term,
-    effort: &mut E,
-) -> Result<bool, E::End>
-    ensures { IfOk result (λ reaches. IsTrue reaches ↔ SomeAtLeast (P.ranks order.now)
-        (filtered_all (P.filters order.now) (kept_of args.entry))
-        (filtered (P.filters order.now) (tree t.now))) }
-{
-    let mut rest = args;
-    while let Some((a, others)) = rest.split_first() {
-        if compare(order, a, t, effort)?.is_at_least() {
-            return Ok(true);
-        }
-        rest = others;
-    }
-    Ok(false)
+    let terms = Unshared { order };
+    let mut room = Room::new();
+    compare(&terms, &mut room, effort, s, t)
 }

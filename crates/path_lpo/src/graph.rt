@@ -1,9 +1,10 @@
-ghost use Rattle.std.specs.Prelude.{ℕ, ◌≡◌, ◌↔◌, length, slice_get, IfOk, IfSome, IsTrue};
-ghost use Rattle.path_lpo.specs.Graph.{AreOverEarlier, IsOver, IsRootBelow, IsSplitAt, Keeps, StandsFor, reading_over, readings, root_tree, tree_at, list_at};
-ghost use Rattle.trs_defs.specs.Tree.{count};
-ghost use Rattle.order_theory.specs.PathOrder.{SomeAtLeast};
+ghost use Rattle.std.specs.Prelude.{◌≡◌, length, slice_get, IfOk, IfSome, IsTrue};
+ghost use Rattle.path_lpo.specs.Graph.{AreOverEarlier, IsApplication, IsOver, IsSplitAt, Keeps};
+ghost use Rattle.path_lpo.specs.Graph.{StandsFor, reading_over, readings, term, tree_at, list_at};
+ghost use Rattle.path_lpo.specs.Root.{root_tree, IsRootWithin};
 
-use crate::nodes::{Node, Root};
+use crate::nodes::Node;
+use crate::root::Root;
 use std::alloc::Global;
 use trs_core::OutOfMemory;
 
@@ -50,9 +51,10 @@ impl Graph {
     }
 
     /// The root of a term.
-    pub(crate) fn root(&self, n: u32) -> Root
-        ensures whole { tree_at self.now.nodes.items n ≡ root_tree self.now.nodes.items result }
-        ensures earlier { IsRootBelow n result }
+    pub(crate) fn root(&self, n: u32) -> Root<u32>
+        ensures whole { root_tree (list_at self.now.nodes.items) result
+            ≡ tree_at self.now.nodes.items n }
+        ensures earlier { IsRootWithin (λ args. args) n result }
     {
         match self.nodes.get(n as usize) {
             None => Root::Variable(0),
@@ -70,38 +72,26 @@ impl Graph {
         }
     }
 
-    /// Whether two lists have as many terms.
-    pub(crate) fn are_as_many(&self, us: u32, vs: u32) -> bool
-        ensures { IsTrue result
-            ↔ (count (list_at self.now.nodes.items us) ≡ count (list_at self.now.nodes.items vs)) }
+    /// Whether the number is that of a symbol over its arguments.
+    pub(crate) fn is_application(&self, n: u32) -> bool
+        ensures { IsTrue result → IsApplication self.now.nodes.items n }
     {
-        let mut left = us;
-        let mut right = vs;
-        while let Some((_, more)) = self.split_first(left) {
-            match self.split_first(right) {
-                None => return false,
-                Some((_, rest)) => {
-                    left = more;
-                    right = rest;
-                }
-            }
+        match self.nodes.get(n as usize) {
+            Some(Node::App(_, _)) => true,
+            _ => false,
         }
-        self.split_first(right).is_none()
     }
 
-    /// Whether a number is among those of a list.
-    pub(crate) fn is_among(&self, n: u32, list: u32) -> bool
-        ensures { IsTrue result → (rank : ℕ → ℕ) → SomeAtLeast rank
-            (list_at self.now.nodes.items list) (tree_at self.now.nodes.items n) }
+    /// Whether the number is that of a term, and not of a list.
+    pub(crate) fn is_term(&self, n: u32) -> bool
+        ensures { IsTrue result
+            → StandsFor self.now.nodes.items n (term (tree_at self.now.nodes.items n)) }
     {
-        let mut rest = list;
-        while let Some((first, others)) = self.split_first(rest) {
-            if first == n {
-                return true;
-            }
-            rest = others;
+        match self.nodes.get(n as usize) {
+            Some(Node::Var(_)) => true,
+            Some(Node::App(_, _)) => true,
+            _ => false,
         }
-        false
     }
 
     /// Whether both are variables or symbols without arguments.

@@ -1,7 +1,6 @@
-ghost use Rattle.std.specs.Prelude.{◌≡◌, ◌-◌, ◌≤◌, ◌↔◌, IsTrue, drop, length, map, slice_get, option_map, option_copied};
-ghost use Rattle.trs_defs.specs.Tree.{count};
+ghost use Rattle.std.specs.Prelude.{◌≡◌, ◌-◌, ◌≤◌, drop, length, map, slice_get, option_map, option_copied};
 ghost use Rattle.trs_core.specs.View.{tree};
-ghost use Rattle.path_lpo.specs.Kept.{kept_of, IsSplit};
+ghost use Rattle.path_lpo.specs.Kept.{IsSplit};
 
 use trs_core::Term;
 
@@ -10,13 +9,6 @@ use trs_core::Term;
 pub(crate) struct Kept<'a> {
     pub places: &'a [u8],
     pub args: &'a [Term],
-}
-
-/// A filtered term at its root: a variable, or a symbol with the arguments that are kept.
-#[derive(Clone, Copy)]
-pub(crate) enum Parts<'a> {
-    Var(u32),
-    App(u32, Kept<'a>),
 }
 
 impl<'a> Kept<'a> {
@@ -34,24 +26,6 @@ impl<'a> Kept<'a> {
             }
         }
         None
-    }
-
-    /// Whether two lists have as many arguments.
-    pub(crate) fn are_as_many(self, others: Kept) -> bool
-        ensures { IsTrue result ↔ (count (kept_of self.entry) ≡ count (kept_of others.entry)) }
-    {
-        let mut left = self;
-        let mut right = others;
-        while let Some((_, more)) = left.split_first() {
-            match right.split_first() {
-                None => return false,
-                Some((_, rest)) => {
-                    left = more;
-                    right = rest;
-                }
-            }
-        }
-        right.split_first().is_none()
     }
 }
 

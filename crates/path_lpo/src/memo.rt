@@ -2,7 +2,7 @@ ghost use Rattle.std.specs.Prelude.{IfOk, IfSome};
 ghost use Rattle.path_lpo.specs.Memo.{AreAlwaysTrue, IsKnown, Remembers, StaysTrue};
 
 use crate::comparison::Comparison;
-use crate::nodes::mix;
+use crate::nodes::hash_of_pair;
 use std::alloc::Global;
 use trs_core::OutOfMemory;
 
@@ -89,7 +89,7 @@ impl Memo {
     /// The place of a pair: near those of near first numbers with the same second one, which are
     /// mostly sought one after another.
     fn place(&self, s: u32, t: u32) -> usize {
-        let place = mix(t, 0).wrapping_add(u64::from(s));
+        let place = hash_of_pair(t, 0).wrapping_add(u64::from(s));
         place as usize & self.known.len().saturating_sub(1)
     }
 }

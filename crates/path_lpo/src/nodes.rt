@@ -1,6 +1,8 @@
 ghost use Rattle.std.specs.Prelude.{◌≡◌};
 ghost use Rattle.path_lpo.specs.Graph.{root_of, split_of};
 
+use crate::root::Root;
+
 /// A filtered term, or a list of such terms, over earlier ones, which it names by their numbers.
 #[derive(Clone, Copy, PartialEq)]
 pub(crate) enum Node {
@@ -12,16 +14,9 @@ pub(crate) enum Node {
     Cons(u32, u32),
 }
 
-/// A filtered term at its root: a variable, or a symbol with the number of its list of arguments.
-#[derive(Clone, Copy)]
-pub(crate) enum Root {
-    Variable(u32),
-    Symbol(u32, u32),
-}
-
 impl Node {
     /// The root of a term.
-    pub(crate) fn root(self) -> Root
+    pub(crate) fn root(self) -> Root<u32>
         ensures { result ≡ root_of self }
     {
         match self {
@@ -47,16 +42,16 @@ impl Node {
     /// A number that is seldom the same for two nodes.
     pub(crate) fn hash(self) -> u64 {
         match self {
-            Node::Var(x) => mix(x, u32::MAX),
-            Node::App(f, args) => mix(f, args),
+            Node::Var(x) => hash_of_pair(x, u32::MAX),
+            Node::App(f, args) => hash_of_pair(f, args),
             Node::Nil => 0,
-            Node::Cons(first, rest) => mix(first, rest).rotate_left(16),
+            Node::Cons(first, rest) => hash_of_pair(first, rest).rotate_left(16),
         }
     }
 }
 
-/// One number for two. Each bit of it depends on all bits of the two.
-pub(crate) fn mix(a: u32, b: u32) -> u64 {
+/// A number for two, seldom the same for two others. Each bit of it depends on all bits of the two.
+pub(crate) fn hash_of_pair(a: u32, b: u32) -> u64 {
     let both = (u64::from(a) << 32) | u64::from(b);
     let once = both.wrapping_mul(0x9E37_79B9_7F4A_7C15);
     let turned = once ^ (once >> 32);

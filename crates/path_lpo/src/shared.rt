@@ -1,17 +1,22 @@
-ghost use Rattle.std.specs.Prelude.{◌≡◌, ◌↔◌, IsTrue, IfOk};
+ghost use Rattle.std.specs.Prelude.{ℕ, IfOk, IsTrue};
 ghost use Rattle.trs_core.specs.View.{tree};
-ghost use Rattle.order_theory.specs.PathOrder.{GreaterThanAll, SomeAtLeast};
+ghost use Rattle.order_theory.specs.PathOrder.{PathGreater};
 ghost use Rattle.order_theory.specs.ArgumentFilter.{filtered};
 ghost use Rattle.path_lpo.specs.Comparison.{IsComparison};
-ghost use Rattle.path_lpo.specs.Graph.{list_at, tree_at};
+ghost use Rattle.path_lpo.specs.Graph.{shared_terms, tree_at};
 ghost use Rattle.path_lpo.specs.Memo.{AreTrueOf};
+ghost use Rattle.path_lpo.specs.Parts.{AreSpansOf};
 
 use crate::Precedence;
 use crate::comparison::Comparison;
+use crate::effort::Unlimited;
 use crate::graph::Graph;
 use crate::memo::Memo;
-use crate::nodes::Root;
+use crate::parts::{Span, spans_of};
+use crate::root::Root;
 use crate::sharing::share;
+use crate::terms::Terms;
+use crate::walking::compare;
 use std::alloc::Global;
 use trs_core::{OutOfMemory, Term};
 
@@ -33,149 +38,94 @@ pub(crate) fn compare_shared<P: Precedence>(
     let mut graph = Graph::new(alloc, nodes)?;
     let left = share(order, &mut graph, s)?;
     let right = share(order, &mut graph, t)?;
+    let spans = spans_of(alloc, &graph.nodes)?;
+    let terms = Shared {
+        order,
+        graph,
+        spans,
+    };
     let mut memo = Memo::new(alloc)?;
-    Ok(compare_numbers(order, &graph, &mut memo, left, right))
-}
-
-/// How the term of the first number compares with that of the second.
-#[cycle(compare_numbers)]
-fn compare_numbers<P: Precedence>(
-    order: &P,
-    graph: &Graph,
-    memo: &mut Memo,
-    s: u32,
-    t: u32,
-) -> Comparison
-    requires { AreTrueOf (P.ranks order.now) graph.now.nodes.items memo.old.known.items }
-    ensures comparison { IsComparison (P.ranks order.now) (tree_at graph.now.nodes.items s)
-        (tree_at graph.now.nodes.items t) result }
-    ensures memo { AreTrueOf (P.ranks order.now) graph.now.nodes.items memo.new.known.items }
-{
-    if s == t {
-        return Comparison::Same;
-    }
-    if graph.are_leaves(s, t) {
-        return compare_roots(order, graph, memo, s, t);
-    }
-    if let Some(comparison) = memo.find(s, t) {
-        return comparison;
-    }
-    let comparison = compare_roots(order, graph, memo, s, t);
-    memo.keep(s, t, comparison);
-    comparison
-}
-
-/// The same, by their roots and arguments.
-#[cycle(compare_numbers)]
-#[inline(never)]
-fn compare_roots<P: Precedence>(
-    order: &P,
-    graph: &Graph,
-    memo: &mut Memo,
-    s: u32,
-    t: u32,
-) -> Comparison
-    requires { AreTrueOf (P.ranks order.now) graph.now.nodes.items memo.old.known.items }
-    ensures comparison { IsComparison (P.ranks order.now) (tree_at graph.now.nodes.items s)
-        (tree_at graph.now.nodes.items t) result }
-    ensures memo { AreTrueOf (P.ranks order.now) graph.now.nodes.items memo.new.known.items }
-{
-    match graph.root(s) {
-        Root::Variable(x) => match graph.root(t) {
-            Root::Variable(y) => Comparison::same_if(x == y),
-            Root::Symbol(_, _) => Comparison::Neither,
-        },
-        Root::Symbol(f, ss) => match graph.root(t) {
-            Root::Variable(_) => {
-                Comparison::greater_if(some_number_reaches(order, graph, memo, ss, t))
-            }
-            Root::Symbol(g, ts) => {
-                if order.rank(g) < order.rank(f) {
-                    if graph.is_among(t, ss) {
-                        return Comparison::Greater;
-                    }
-                    let exceeds = exceeds_all_numbers(order, graph, memo, s, ts);
-                    return Comparison::greater_if(exceeds);
-                }
-                if f != g {
-                    let reaches = some_number_reaches(order, graph, memo, ss, t);
-                    return Comparison::greater_if(reaches);
-                }
-                if !graph.are_as_many(ss, ts) {
-                    let reaches = some_number_reaches(order, graph, memo, ss, t);
-                    return Comparison::greater_if(reaches);
-                }
-                let mut lefts = ss;
-                let mut rights = ts;
-                while let Some((a, left)) = graph.split_first(lefts) {
-                    match graph.split_first(rights) {
-                        None => return Comparison::Neither,
-                        Some((b, right)) => match compare_numbers(order, graph, memo, a, b) {
-                            Comparison::Same => {
-                                lefts = left;
-                                rights = right;
-                            }
-                            Comparison::Greater => {
-                                let exceeds = exceeds_all_numbers(order, graph, memo, s, right);
-                                return Comparison::greater_if(exceeds);
-                            }
-                            Comparison::Neither => {
-                                let reaches = some_number_reaches(order, graph, memo, left, t);
-                                return Comparison::greater_if(reaches);
-                            }
-                        },
-                    }
-                }
-                Comparison::Same
-            }
-        },
+    match compare(&terms, &mut memo, &mut Unlimited, left, right) {
+        Ok(comparison) => Ok(comparison),
+        Err(never) => match never {},
     }
 }
 
-/// Whether the term is greater than each of the list.
-#[cycle(compare_numbers)]
-fn exceeds_all_numbers<P: Precedence>(
-    order: &P,
-    graph: &Graph,
-    memo: &mut Memo,
-    s: u32,
-    list: u32,
-) -> bool
-    requires { AreTrueOf (P.ranks order.now) graph.now.nodes.items memo.old.known.items }
-    ensures exceeds { IsTrue result ↔ GreaterThanAll (P.ranks order.now)
-        (tree_at graph.now.nodes.items s) (list_at graph.now.nodes.items list) }
-    ensures memo { AreTrueOf (P.ranks order.now) graph.now.nodes.items memo.new.known.items }
-{
-    let mut rest = list;
-    while let Some((b, others)) = graph.split_first(rest) {
-        if !compare_numbers(order, graph, memo, s, b).is_greater() {
+/// Filtered terms that share their subterms, and of each term some numbers of its parts.
+#[derive(Drop)]
+struct Shared<'a, P> {
+    order: &'a P,
+    graph: Graph,
+    spans: Vec<Span>,
+}
+
+impl<'a, P: Precedence> Terms for Shared<'a, P> {
+    type Node = u32;
+
+    type List = u32;
+
+    type Memory = Memo;
+
+    ghost ranks = { λ terms. P.ranks terms.order.now };
+
+    ghost walked = { λ terms. shared_terms terms.graph.nodes.items };
+
+    ghost is_true = { λ terms memo. AreSpansOf terms.graph.nodes.items terms.spans.items
+        × AreTrueOf (P.ranks terms.order.now) terms.graph.nodes.items memo.known.items };
+
+    fn rank(&self, symbol: u32) -> u64 {
+        self.order.rank(symbol)
+    }
+
+    fn root(&self, node: u32) -> Root<u32> {
+        self.graph.root(node)
+    }
+
+    #[tactic(auto, using(crate::proofs::Filtering::split_shared))]
+    fn split_first(&self, list: u32) -> Option<(u32, u32)> {
+        self.graph.split_first(list)
+    }
+
+    fn are_same(&self, _memo: &mut Memo, s: u32, t: u32) -> bool {
+        s == t
+    }
+
+    fn known(&self, memo: &Memo, s: u32, t: u32) -> Option<Comparison> {
+        if s == t {
+            return Some(Comparison::Same);
+        }
+        if self.is_part(t, s) {
+            return Some(Comparison::Greater);
+        }
+        if self.is_part(s, t) {
+            return Some(Comparison::Neither);
+        }
+        if self.graph.are_leaves(s, t) {
+            return None;
+        }
+        memo.find(s, t)
+    }
+
+    fn keep(&self, memo: &mut Memo, s: u32, t: u32, comparison: Comparison) {
+        if !self.graph.are_leaves(s, t) {
+            memo.keep(s, t, comparison);
+        }
+    }
+}
+
+impl<'a, P: Precedence> Shared<'a, P> {
+    /// Whether the first term is seen to be a part of the second, and so below it.
+    fn is_part(&self, t: u32, s: u32) -> bool
+        requires { AreSpansOf self.now.graph.nodes.items self.now.spans.items }
+        ensures { IsTrue result → (rank : ℕ → ℕ) → PathGreater rank
+            (tree_at self.now.graph.nodes.items s) (tree_at self.now.graph.nodes.items t) }
+    {
+        let Some(span) = self.spans.get(s as usize) else {
+            return false;
+        };
+        if t < span.from || span.to <= t || !self.graph.is_application(s) {
             return false;
         }
-        rest = others;
+        self.graph.is_term(t)
     }
-    true
-}
-
-/// Whether one term of the list is the term, or greater.
-#[cycle(compare_numbers)]
-fn some_number_reaches<P: Precedence>(
-    order: &P,
-    graph: &Graph,
-    memo: &mut Memo,
-    list: u32,
-    t: u32,
-) -> bool
-    requires { AreTrueOf (P.ranks order.now) graph.now.nodes.items memo.old.known.items }
-    ensures reaches { IsTrue result ↔ SomeAtLeast (P.ranks order.now)
-        (list_at graph.now.nodes.items list) (tree_at graph.now.nodes.items t) }
-    ensures memo { AreTrueOf (P.ranks order.now) graph.now.nodes.items memo.new.known.items }
-{
-    let mut rest = list;
-    while let Some((a, others)) = graph.split_first(rest) {
-        if compare_numbers(order, graph, memo, a, t).is_at_least() {
-            return true;
-        }
-        rest = others;
-    }
-    false
 }

@@ -4,10 +4,11 @@ ghost use Rattle.order_theory.specs.ArgumentFilter.{filtered};
 ghost use Rattle.path_lpo.specs.Graph.{Keeps, StandsFor, term};
 
 use crate::Precedence;
-use crate::comparing::parts;
 use crate::graph::Graph;
-use crate::kept::{Parts, argument};
+use crate::kept::argument;
 use crate::nodes::Node;
+use crate::root::Root;
+use crate::unshared::root;
 use trs_core::{OutOfMemory, Term};
 
 /// The number of the filtered term, whose subterms get numbers too.
@@ -20,9 +21,9 @@ pub(crate) fn share<P: Precedence>(
         (term (filtered (P.filters order.now) (tree t.now)))) }
     ensures kept { Keeps graph.old.nodes.items graph.new.nodes.items }
 {
-    match parts(order, t) {
-        Parts::Var(x) => graph.number(Node::Var(x)),
-        Parts::App(f, kept) => {
+    match root(order, t) {
+        Root::Variable(x) => graph.number(Node::Var(x)),
+        Root::Symbol(f, kept) => {
             let mut list = graph.number(Node::Nil)?;
             let mut k = kept.places.len();
             // From the last argument on, since a list is over the list of the terms behind its first.

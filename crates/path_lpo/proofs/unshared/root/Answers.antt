@@ -5,7 +5,7 @@ use Rattle.trs_core.specs.View.{tree}
 use Rattle.pair_order.proofs.Opening.{application}
 use Rattle.path_lpo.specs.Lent.{lent_filter}
 use Rattle.path_lpo.proofs.Parting.{whole_kept, whole_missing, whole_there, smaller}
-use Rattle.path_lpo.proofs.comparing.parts.Goals as goal
+use Rattle.path_lpo.proofs.unshared.root.Goals as goal
 
 pub returns-in-Keep-clause-whole : goal.returns-in-Keep-clause-whole
 returns-in-Keep-clause-whole g c =

@@ -2,7 +2,7 @@ use Rattle.std.proofs.Common.{◌≡◌, ◌≤◌}
 use Rattle.trs_defs.specs.Size.{size_of}
 use Rattle.trs_core.specs.View.{tree}
 use Rattle.order_theory.specs.ArgumentFilter.{filtered}
-use Rattle.path_lpo.proofs.comparing.parts.Given as goal
+use Rattle.path_lpo.proofs.unshared.root.Given as goal
 
 abbrev pub invariant-loop-current : goal.invariant-loop-current
 invariant-loop-current g l = record {
