@@ -6,6 +6,7 @@ use crate::grouping::groups;
 use crate::memory::OutOfMemory;
 use crate::space::Space;
 use crate::stop::Stop;
+use crate::testing::{Anew, Tester};
 use crate::visiting::{Turn, visit};
 use std::alloc::Global;
 
@@ -37,6 +38,22 @@ pub fn first_solution<S: Space, P: Stop>(
         (IsAnswer (λ v. v.items) (S.puzzle space.now) budget (P.stops stop.old < P.stops stop.new)) }
     ensures continues { Continues P.Stop stop.old stop.new }
 {
+    first_solution_by(alloc, space, &mut Anew, budget, stop)
+}
+
+/// `first_solution` where this tester tests the constraints.
+pub fn first_solution_by<S: Space, T: Tester<S>, P: Stop>(
+    alloc: Global,
+    space: &S,
+    tester: &mut T,
+    budget: u64,
+    stop: &mut P,
+) -> Result<Search<Vec<u32>>, OutOfMemory>
+    requires serves { T.serves tester.old space.now }
+    ensures answer { IfOk result
+        (IsAnswer (λ v. v.items) (S.puzzle space.now) budget (P.stops stop.old < P.stops stop.new)) }
+    ensures continues { Continues P.Stop stop.old stop.new }
+{
     if stop.stopped() {
         return Ok(Search::Stopped);
     }
@@ -51,6 +68,7 @@ pub fn first_solution<S: Space, P: Stop>(
         match visit(
             alloc,
             space,
+            tester,
             slots,
             &groups,
             budget,

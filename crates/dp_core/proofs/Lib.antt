@@ -6,7 +6,7 @@ pub mod DefinedSymbols
 pub mod PairSides
 pub mod LeftNumbering
 pub mod Collecting
-pub mod Containment
+pub mod Subterms
 pub mod NumberedPairs
 pub mod SubtermLaws
 pub mod Projecting

@@ -14,7 +14,7 @@ use Rattle.pair_theory.specs.DependencyPair.{DependencyPair}
 use Rattle.rewrite_core.specs.declared.checks.refusals.StepRefused.TheVariants.{PairNotWeak}
 use Rattle.rewrite_core.specs.Check.{stops, goes_on, lacks, holds, yes_it_does, no_it_does_not}
 use Rattle.dp_core.specs.SubtermConditions.{place_for, projected, ProjectedAre, projects_within}
-use Rattle.dp_core.proofs.Containment.{not_proper, proper_of}
+use Rattle.dp_core.proofs.Subterms.{not_proper, sub_of_proper}
 
 pub projected_to : (projection : List (ℕ × ℕ)) (m : Marked) (f : ℕ) (args : Trees) → marked f args ≡ m → (place : ℕ) (ts : List Term) (got : Option (Bor Term))
     → place_for projection f ≡ Some place → forest ts ≡ args → (place ≡ 0 → ⊥) → option_copied got ≡ slice_get ts (place - 1)
@@ -46,10 +46,10 @@ module _ (projection : List (ℕ × ℕ)) (n : ℕ) (from to : Marked) (p : Depe
         (goes_on tt _ (holds (record { left = l; right = r; left_there = left; right_there = right; relation = subst (λ z. Sub z l) same itself }))
         (no_it_does_not (λ h. not_proper l r same (related_sides ProperSubterm h))))
 
-    pub proper_sides : (l ≡ r → ⊥) → Sub r l → projects_within projection n p (Ok true)
-    proper_sides other sub = subst (λ q. projects_within projection n q (Ok true)) is
-        (goes_on tt _ (holds (record { left = l; right = r; left_there = left; right_there = right; relation = sub }))
-        (yes_it_does (record { left = l; right = r; left_there = left; right_there = right; relation = proper_of l r other sub })))
+    pub proper_sides : ProperSubterm l r → projects_within projection n p (Ok true)
+    proper_sides within = subst (λ q. projects_within projection n q (Ok true)) is
+        (goes_on tt _ (holds (record { left = l; right = r; left_there = left; right_there = right; relation = sub_of_proper l r within }))
+        (yes_it_does (record { left = l; right = r; left_there = left; right_there = right; relation = within })))
 
     pub not_within : (Sub r l → ⊥) → projects_within projection n p (Err (PairNotWeak n))
     not_within none = subst (λ q. projects_within projection n q (Err (PairNotWeak n))) is

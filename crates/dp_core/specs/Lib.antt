@@ -12,5 +12,6 @@ pub mod LeastLacking
 pub mod Markable
 pub mod LeftNumbers
 pub mod Places
+pub mod Containment
 pub mod Flags
 pub mod Projection

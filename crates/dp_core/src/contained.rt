@@ -1,16 +1,38 @@
+//! How a term stands in another one.
 ghost use Rattle.std.specs.Prelude.{◌≡◌, ◌↔◌, ℕ, min, IsTrue, Some, None};
 ghost use Rattle.trs_defs.specs.Size.{size_of};
 ghost use Rattle.trs_core.specs.View.{tree};
 ghost use Rattle.pair_theory.specs.Subterm.{Sub};
+ghost use Rattle.dp_core.specs.Containment.{IsContainment};
 
 use trs_core::Term;
 
-/// Whether the second term is the first one or stands in it. It costs as much as both terms have
-/// nodes, since only subterms of the right size are compared.
-pub(crate) fn contains(s: &Term, t: &Term) -> bool
-    ensures { IsTrue result ↔ Sub (tree t.now) (tree s.now) }
+/// How a term stands in another one.
+#[derive(Clone, Copy, Debug, PartialEq, Eq)]
+pub enum Containment {
+    /// It is the other one.
+    Equal,
+    /// It is a proper subterm.
+    Proper,
+    /// It is no subterm.
+    Missing,
+}
+
+/// How the second term stands in the first one. It costs as much as both terms have nodes, since only
+/// subterms of the right size are compared.
+pub fn containment_in(s: &Term, t: &Term) -> Containment
+    ensures { IsContainment (tree s.now) (tree t.now) result }
 {
-    size_unless_found(s, t, t.size()).is_none()
+    if s.same(t) {
+        return Containment::Equal;
+    }
+    match s {
+        Term::Var(_) => Containment::Missing,
+        Term::App(_, _) => match size_unless_found(s, t, t.size()) {
+            None => Containment::Proper,
+            Some(_) => Containment::Missing,
+        },
+    }
 }
 
 /// Nothing where the second term is the first one or stands in it, and else the number of nodes of

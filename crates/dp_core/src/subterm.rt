@@ -12,7 +12,7 @@ ghost use Rattle.dp_core.specs.LeastMissing.{IsMissing, IsLeastMissing};
 ghost use Rattle.dp_core.specs.SubtermConditions.{roots_of, place_for, projects_within, unflagged};
 ghost use Rattle.dp_core.specs.SubtermConditions.{subterm_conditions};
 
-use crate::contained::contains;
+use crate::contained::{Containment, containment_in};
 use crate::projections::{Places, project};
 use crate::{DpPair, Pairs, Side, Sides};
 use rewrite_core::{CheckFault, StepRefused};
@@ -201,13 +201,11 @@ fn is_removed(projection: &Places, n: u32, sides: &Sides) -> Result<bool, CheckF
     let Some(right) = project(projection, &sides.to) else {
         return Err(CheckFault::Refused(StepRefused::PairNotWeak(n as u64)));
     };
-    if left.same(right) {
-        return Ok(false);
+    match containment_in(left, right) {
+        Containment::Equal => Ok(false),
+        Containment::Proper => Ok(true),
+        Containment::Missing => Err(CheckFault::Refused(StepRefused::PairNotWeak(n as u64))),
     }
-    if contains(left, right) {
-        return Ok(true);
-    }
-    Err(CheckFault::Refused(StepRefused::PairNotWeak(n as u64)))
 }
 
 /// The numbers at which the flag is false.

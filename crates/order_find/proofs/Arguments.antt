@@ -15,8 +15,7 @@ at_value f args v ts same =
     let positive : v + 1 ≡ 0 → ⊥ = λ e. omega (arith, e) in
     ap (λ (i : ℕ). option_map tree (slice_get ts i)) (sym before) ∙ sym (argument_at_past f ts args (v + 1) same positive)
 
-pub argument_value : (table : ℕ → ℕ) (m : Marked) (f : ℕ) (args : Trees) → marked f args ≡ m → (v : ℕ) → v ≡ table f → (ts : List Term) (got : Option (Bor Term)) → forest ts ≡ args
-    → option_copied got ≡ slice_get ts v → option_map tree (option_copied got) ≡ argument_at (plain m) (table m.symbol + 1)
-argument_value table m f args is v e ts got same found =
-    subst (λ (x : Marked). option_map tree (option_copied got) ≡ argument_at (plain x) (table x.symbol + 1)) is
-    (ap (λ o. option_map tree o) found ∙ (at_value f args v ts same ∙ ap (λ (i : ℕ). argument_at (app f args) (i + 1)) e))
+pub argument_value : (m : Marked) (f : ℕ) (args : Trees) → marked f args ≡ m → (v : ℕ) (ts : List Term) (got : Option (Bor Term)) → forest ts ≡ args
+    → option_copied got ≡ slice_get ts v → option_map tree (option_copied got) ≡ argument_at (plain m) (v + 1)
+argument_value m f args is v ts got same found =
+    subst (λ (x : Marked). option_map tree (option_copied got) ≡ argument_at (plain x) (v + 1)) is (ap (λ o. option_map tree o) found ∙ at_value f args v ts same)

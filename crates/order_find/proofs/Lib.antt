@@ -7,3 +7,4 @@ pub mod Subterms
 pub mod Places
 pub mod Findings
 pub mod Arguments
+pub mod Remembering

@@ -1,5 +1,5 @@
 -- The test of subterms decides them.
-use Rattle.std.specs.Prelude.{Bool, true, false, ◌||◌, ◌≡◌, ◌↔◌, IsTrue}
+use Rattle.std.specs.Prelude.{Bool, true, false, ◌||◌, ◌≡◌}
 use Rattle.std.proofs.Common.{refl, sym, subst, inl, inr}
 use Rattle.trs_defs.specs.Tree.{Tree, Trees, var, app, nil, cons}
 use Rattle.pair_theory.specs.Subterm.{Sub, itself, under, Subs, in_head, in_tail, ProperSubterm, proper}
@@ -7,7 +7,7 @@ use Rattle.order_theory.specs.PathTest.{same_tree}
 use Rattle.order_theory.proofs.PathDecides.{same_is, same_self}
 use Rattle.assign_search.proofs.Refuting.{or_left, or_right}
 use Rattle.order_find.specs.Subterms.{has_subterm, has_below, has_proper_subterm}
-use Rattle.order_search.proofs.Tests.{either, same_both}
+use Rattle.order_search.proofs.Tests.{either}
 
 sub_here : (s t : Tree) → same_tree s t ≡ true → Sub t s
 sub_here s t e = subst (λ u. Sub t u) (sym (same_is s t e)) itself
@@ -50,7 +50,3 @@ mutual
 
 pub proper_is : {s t : Tree} → ProperSubterm s t → has_proper_subterm s t ≡ true
 proper_is (proper p) = subs_are p
-
-pub same_answer : (s t : Tree) (r : Bool) → (IsTrue r ↔ (s ≡ t)) → r ≡ same_tree s t
-same_answer s t r tells =
-    same_both r (same_tree s t) (λ e. subst (λ u. same_tree s u ≡ true) (tells.0 e) (same_self s)) (λ e. tells.1 (same_is s t e))

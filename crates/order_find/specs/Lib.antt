@@ -5,6 +5,7 @@ pub use Rattle.order_search.specs as order_search
 pub use Rattle.poly_find.specs as poly_find
 pub mod Subterms
 pub mod SubtermSpace
+pub mod Remembered
 pub mod SubtermRow
 pub mod Laws
 pub mod SubtermLawful

@@ -5,9 +5,10 @@
 #![tactic(auto)]
 
 mod laws;
+mod memo;
 mod subterm;
 mod subterm_space;
-mod within;
+mod testing;
 
 pub use kbo_find::{find_kbo, find_kbo_in, found_knuth_bendix_orders_apply};
 pub use laws::found_places_apply;

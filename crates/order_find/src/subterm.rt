@@ -11,12 +11,13 @@ ghost use Rattle.order_search.specs.Slots.{puzzle_of};
 ghost use Rattle.order_find.specs.SubtermSpace.{subterm_search};
 ghost use Rattle.order_find.specs.SubtermRow.{FindsSubterm, FailsSubterm, ArePlaces, places_of};
 
+use crate::memo::Memo;
 use crate::subterm_space::SubtermSpace;
 use assign_search::{Search, Stop};
 use order_search::placing::SymbolPlaces;
 use order_search::roots::roots;
 use order_search::taking::take_pairs;
-use order_search::{DpPair, Pairs, Readable, Sides, find_first, placed_pairs_are_the_pairs};
+use order_search::{DpPair, Pairs, Readable, Sides, find_first_by, placed_pairs_are_the_pairs};
 use pair_theory::dependency_pairs_suffice;
 use std::alloc::Global;
 use trs_core::{OutOfMemory, Trs, systems_are_valid};
@@ -105,7 +106,7 @@ fn search_places<P: Stop>(
         slots: &slots,
         pairs,
     };
-    find_first(alloc, &space, budget, stop)
+    find_first_by(alloc, &space, &mut Memo::new(alloc), budget, stop)
 }
 
 impl<'a> Readable for SubtermSpace<'a> {

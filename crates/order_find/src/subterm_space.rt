@@ -1,26 +1,19 @@
 //! The finite search for the places of a projection.
 ghost use Rattle.std.specs.Prelude.{◌≡◌, ◌<◌, ◌^◌, ◌+◌, ◌==◌, ◌||◌, length};
-ghost use Rattle.std.specs.Option.{option_copied, option_map};
-ghost use Rattle.trs_defs.specs.Tree.{Tree};
-ghost use Rattle.trs_defs.specs.Position.{argument_at};
 ghost use Rattle.trs_core.specs.SystemLimits.{AreBytes};
-ghost use Rattle.trs_core.specs.View.{tree};
-ghost use Rattle.pair_theory.specs.Marked.{plain};
 ghost use Rattle.order_search.specs.Distinct.{AreDistinct};
 ghost use Rattle.order_search.specs.Ends.{end_among};
 ghost use Rattle.order_search.specs.Slots.{puzzle_of, table_of};
-ghost use Rattle.order_find.specs.Subterms.{has_subterm, has_proper_subterm};
-ghost use Rattle.order_find.specs.SubtermSpace.{subterm_search, passes, some_passes, subterm_slots};
+ghost use Rattle.order_find.specs.SubtermSpace.{subterm_search, subterm_slots};
 ghost use Rattle.order_find.specs.SubtermLawful.{subterm_lawful};
 
-use crate::within::{contains, contains_properly};
+use crate::memo::Memo;
 use assign_search::{OutOfMemory, Space};
 use order_search::ends::{end_of, later};
 use order_search::placing::SymbolPlaces;
 use order_search::roots::{from_root, to_root};
-use order_search::{Side, Sides, value_at};
+use order_search::{Sides, value_at};
 use std::alloc::Global;
-use trs_core::Term;
 
 /// The roots of pairs, of which each has a slot, with the slots by symbols, and the pairs.
 #[derive(Drop)]
@@ -72,65 +65,14 @@ impl<'a> Space for SubtermSpace<'a> {
         end_of_pair(self.slots, pair)
     }
 
-    fn holds(&self, _alloc: Global, c: u32, values: &[u32]) -> Result<bool, OutOfMemory> {
-        if c as usize == self.pairs.len() {
-            return Ok(self.some_is_strict(self.pairs, values));
-        }
-        let pair = &self.pairs[c as usize];
-        Ok(self.is_weak(pair, values))
+    fn holds(&self, alloc: Global, c: u32, values: &[u32]) -> Result<bool, OutOfMemory> {
+        Ok(Memo::new(alloc).is_met(self, c, values))
     }
 }
 
 impl<'a> SubtermSpace<'a> {
-    /// Whether the right side of a pair projects to a subterm of what its left side projects to.
-    fn is_weak(&self, pair: &Sides, values: &[u32]) -> bool
-        ensures { result ≡ passes has_subterm
-            (table_of (subterm_slots self.now.roots.now) values.now) pair.now }
-    {
-        let Some(s) = self.project(&pair.from, values) else {
-            return false;
-        };
-        let Some(t) = self.project(&pair.to, values) else {
-            return false;
-        };
-        contains(s, t)
-    }
-
-    fn is_strict(&self, pair: &Sides, values: &[u32]) -> bool
-        ensures { result ≡ passes has_proper_subterm
-            (table_of (subterm_slots self.now.roots.now) values.now) pair.now }
-    {
-        let Some(s) = self.project(&pair.from, values) else {
-            return false;
-        };
-        let Some(t) = self.project(&pair.to, values) else {
-            return false;
-        };
-        contains_properly(s, t)
-    }
-
-    fn some_is_strict(&self, pairs: &[Sides], values: &[u32]) -> bool
-        ensures { result ≡ some_passes
-            (table_of (subterm_slots self.now.roots.now) values.now) pairs.now }
-    {
-        for pair in pairs {
-            if self.is_strict(pair, values) {
-                return true;
-            }
-        }
-        false
-    }
-
-    /// The argument at the place that the values give.
-    fn project<'b>(&self, side: &Side<'b>, values: &[u32]) -> Option<&'b Term>
-        ensures { option_map tree (option_copied result) ≡ argument_at (plain side.now)
-            (table_of (subterm_slots self.now.roots.now) values.now side.now.symbol 0 + 1) }
-    {
-        let args = side.args;
-        args.items.get(self.value_for(side.symbol, values) as usize)
-    }
-
-    fn value_for(&self, f: u32, values: &[u32]) -> u32
+    /// The value of the slot of a root, or 0 where it has none.
+    pub(crate) fn value_for(&self, f: u32, values: &[u32]) -> u32
         ensures { result ≡ table_of (subterm_slots self.now.roots.now) values.now f 0 }
     {
         match self.slots.place(f) {

@@ -20,12 +20,14 @@ mod values;
 
 pub use arities::arity_of;
 pub use below_roots::symbols_with_sides;
-pub use dp_core::{DpPair, Pairs, Side, Sides, placed_pairs_are_the_pairs};
+pub use dp_core::{
+    Containment, DpPair, Pairs, Side, Sides, containment_in, placed_pairs_are_the_pairs,
+};
 pub use falling::falling_at;
 pub use lent::{LentRule, lend_rules};
 pub use marking::{MarkedRule, lend_marked, marked_rules};
 pub use occurring::{occurs, occurs_in_rule};
 pub use problem::OrderProblem;
-pub use reading::{Readable, find_first};
+pub use reading::{Readable, find_first, find_first_by};
 pub use symbols::order_symbols;
 pub use values::value_at;

@@ -4,7 +4,7 @@ ghost use Rattle.assign_search.specs.Puzzle.{solution_of};
 ghost use Rattle.assign_search.specs.Continues.{Continues};
 ghost use Rattle.order_search.specs.Outcome.{IsFinding, IsFirst, IsNotThere, IsSpent};
 
-use assign_search::{Search, Space, Stop, first_solution};
+use assign_search::{Anew, Search, Space, Stop, Tester, first_solution_by};
 use std::alloc::Global;
 use trs_core::OutOfMemory;
 
@@ -36,7 +36,24 @@ pub fn find_first<S: Readable, P: Stop>(
         (P.stops stop.old < P.stops stop.new)) }
     ensures continues { Continues P.Stop stop.old stop.new }
 {
-    match first_solution(alloc, space, budget, stop) {
+    find_first_by(alloc, space, &mut Anew, budget, stop)
+}
+
+/// `find_first` where this tester tests the constraints.
+pub fn find_first_by<S: Readable, T: Tester<S>, P: Stop>(
+    alloc: Global,
+    space: &S,
+    tester: &mut T,
+    budget: u64,
+    stop: &mut P,
+) -> Result<Search<S::Found>, OutOfMemory>
+    requires serves { T.serves tester.old space.now }
+    ensures answer { IfOk result (IsFinding (S.finds space.now budget)
+        (IsNotThere budget (S.puzzle space.now)) (IsSpent budget (S.puzzle space.now))
+        (P.stops stop.old < P.stops stop.new)) }
+    ensures continues { Continues P.Stop stop.old stop.new }
+{
+    match first_solution_by(alloc, space, tester, budget, stop) {
         Err(_) => Err(OutOfMemory),
         Ok(Search::Found(values)) => {
             let found = space.read(alloc, &values)?;

@@ -21,8 +21,8 @@ use Rattle.term_pool.specs.Roots.{with_root}
 use Rattle.term_pool.proofs.NumberLaws.{all_numbers, each_number}
 use Rattle.term_pool.proofs.RootBlocks.{roots_declared}
 use Rattle.term_pool.proofs.RootRules.{have_root}
-use Rattle.dp_core.proofs.Containment.{none_in, sub_under}
-use Rattle.dp_core.proofs.Containment as below
+use Rattle.dp_core.proofs.Subterms.{none_in, sub_under}
+use Rattle.dp_core.proofs.Subterms as below
 use Rattle.dp_core.specs.Flags.{unset}
 use Rattle.dp_core.proofs.Flags.{unset_set, set_kept}
 use Rattle.usable_rules.specs.AreUsable.{IsUsableRule, Ascends, no_numbers, number, AreUsableRules}

@@ -2,7 +2,7 @@ use Rattle.std.proofs.Common.{◌≡◌, ◌+◌, drop, refl, sym}
 use Rattle.trs_defs.specs.Size.{size_of, size_of_all}
 use Rattle.trs_defs.specs.Tree.{app}
 use Rattle.trs_core.specs.View.{tree, forest}
-use Rattle.dp_core.proofs.Containment.{in_one, sub_under, sub_same, sub_cases, none_in, not_in_first, size_left, sum_kept}
+use Rattle.dp_core.proofs.Subterms.{in_one, sub_under, sub_same, sub_cases, none_in, not_in_first, size_left, sum_kept}
 use Rattle.dp_core.proofs.contained.+size_unless_found.Goals as goal
 
 pub returns-in_default-clause-found : goal.returns-in_default-clause-found

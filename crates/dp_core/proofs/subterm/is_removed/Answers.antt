@@ -9,14 +9,14 @@ returns-in_default c = no_left c.args.projection.now c.args.n c.sides.inside.fro
 pub returns-in_default-project : goal.returns-in_default-project
 returns-in_default-project c = no_right c.args.projection.now c.args.n c.sides.inside.from c.sides.inside.to c.args.sides.now c.sides.view_is (sym c.in_default-project.ensures)
 
-pub returns-then-same : goal.returns-then-same
-returns-then-same c = equal_sides c.args.projection.now c.args.n c.sides.inside.from c.sides.inside.to c.args.sides.now c.sides.view_is (tree c.in-Some.left.now) (tree c.in-Some-project.right.now)
-    (sym c.in-Some.ensures) (sym c.in-Some-project.ensures) (c.same.ensures.0 c.if-same.true)
+pub returns-in-Equal : goal.returns-in-Equal
+returns-in-Equal c = equal_sides c.args.projection.now c.args.n c.sides.inside.from c.sides.inside.to c.args.sides.now c.sides.view_is (tree c.in-Some.left.now) (tree c.in-Some-project.right.now)
+    (sym c.in-Some.ensures) (sym c.in-Some-project.ensures) c.in-Equal.ensures
 
-pub returns-then-contains : goal.returns-then-contains
-returns-then-contains c = proper_sides c.args.projection.now c.args.n c.sides.inside.from c.sides.inside.to c.args.sides.now c.sides.view_is (tree c.in-Some.left.now) (tree c.in-Some-project.right.now)
-    (sym c.in-Some.ensures) (sym c.in-Some-project.ensures) (λ e. let yes_same = c.same.ensures.1 e in let not_same = c.if-same.false in absurd cc) (c.contains.ensures.0 c.if-contains.true)
+pub returns-in-Proper : goal.returns-in-Proper
+returns-in-Proper c = proper_sides c.args.projection.now c.args.n c.sides.inside.from c.sides.inside.to c.args.sides.now c.sides.view_is (tree c.in-Some.left.now) (tree c.in-Some-project.right.now)
+    (sym c.in-Some.ensures) (sym c.in-Some-project.ensures) c.in-Proper.ensures
 
-pub returns : goal.returns
-returns c = not_within c.args.projection.now c.args.n c.sides.inside.from c.sides.inside.to c.args.sides.now c.sides.view_is (tree c.in-Some.left.now) (tree c.in-Some-project.right.now)
-    (sym c.in-Some.ensures) (sym c.in-Some-project.ensures) (λ e. let yes_in = c.contains.ensures.1 e in let not_in = c.if-contains.false in absurd cc)
+pub returns-in-Missing : goal.returns-in-Missing
+returns-in-Missing c = not_within c.args.projection.now c.args.n c.sides.inside.from c.sides.inside.to c.args.sides.now c.sides.view_is (tree c.in-Some.left.now) (tree c.in-Some-project.right.now)
+    (sym c.in-Some.ensures) (sym c.in-Some-project.ensures) c.in-Missing.ensures

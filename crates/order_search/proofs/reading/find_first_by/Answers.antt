@@ -3,7 +3,7 @@ use Rattle.std.specs.declared.alloc.Global.{Global}
 use Rattle.assign_search.specs.Puzzle.{solution_of}
 use Rattle.order_search.specs.Outcome.{IsFirst}
 use Rattle.order_search.proofs.Answered.{first_of}
-use Rattle.order_search.proofs.reading.find_first.Goals as goal
+use Rattle.order_search.proofs.reading.find_first_by.Goals as goal
 
 pub read-requires : goal.read-requires
 read-requires g c =
