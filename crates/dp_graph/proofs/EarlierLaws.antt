@@ -1,5 +1,5 @@
 -- The pairs of earlier items: what is answered of those that are kept is answered of all.
-use Rattle.std.specs.Prelude.{◌≡◌, ◌≤◌, ℕ, Bool, true, false, not, List, [], ◌∷◌, ◌++◌, length, Option, Some, None, Vec, Result, Ok, Err, IfOk, IsTrue, slice_get, refl}
+use Rattle.std.specs.Prelude.{◌≡◌, ◌≤◌, ℕ, Bool, true, false, not, List, [], ◌∷◌, ◌++◌, length, Option, Some, None, Vec, Result, Ok, Err, IsTrue, slice_get, refl}
 use Rattle.std.specs.declared.alloc.Global.{Global}
 use Rattle.std.specs.Ordering.{nat_cmp}
 use Rattle.std.specs.BTreeMap.{BTreeMap, get, is_at}
@@ -170,9 +170,8 @@ pub none_at_root : (system : System) (earlier : Earlier) (members : List ℕ) (m
 none_at_root system earlier members m node (p, at, is) none kept =
     kept.alike m p (Ok tt) at (subst (λ ns. leads_to_none_of system m ns (Ok tt)) (ap entry_items none ∙ ap (items_at earlier.by_root) is.to) returned)
 
-pub first_at_root : {E : Type 0} (system : System) (earlier : Earlier) (m : ℕ) (node : Node) (pairs : Vec ℕ Global) (result : Result (Option ℕ) E) → IsNodeFor system m (Some node)
-    → Some pairs ≡ get nat_cmp earlier.by_root node.to → IfOk result (λ to. leads_to_none_of system m pairs.items (first_led_to m to))
-    → IfOk result (λ to. (members : List ℕ) → IsEarlier system members earlier → leads_to_none_of system m members (first_led_to m to))
-first_at_root system earlier m node pairs (Ok to) (p, at, is) there h = λ members kept.
+pub first_at_root : (system : System) (earlier : Earlier) (m : ℕ) (node : Node) (pairs : Vec ℕ Global) (to : Option ℕ) → IsNodeFor system m (Some node)
+    → Some pairs ≡ get nat_cmp earlier.by_root node.to → leads_to_none_of system m pairs.items (first_led_to m to)
+    → (members : List ℕ) → IsEarlier system members earlier → leads_to_none_of system m members (first_led_to m to)
+first_at_root system earlier m node pairs to (p, at, is) there h members kept =
     kept.alike m p (first_led_to m to) at (subst (λ ns. leads_to_none_of system m ns (first_led_to m to)) (ap entry_items there ∙ ap (items_at earlier.by_root) is.to) h)
-first_at_root system earlier m node pairs (Err e) is there h = h

@@ -19,9 +19,9 @@ pub mod LeaderLaws
 pub mod ReversedLaws
 pub mod RowLaws
 pub mod LeftLaws
-pub mod RightLaws
-pub mod CapKeys
-pub mod EndLaws
+pub mod FlagLaws
+pub mod CapRowLaws
+pub mod PairNodeLaws
 pub mod WaitingLaws
 pub mod PutOutLaws
 pub mod OrderLaws

@@ -1,28 +1,24 @@
 -- The nodes of pairs, one after another, and edges between them.
-use Rattle.std.specs.Prelude.{◌≡◌, ◌<◌, ◌≤◌, ◌↔◌, ℕ, ◌+◌, Bool, false, List, [], ◌∷◌, ◌++◌, length, take, get_or, Option, Some, None, Result, Ok, Err, IfOk, IsTrue, slice_get, refl}
-use Rattle.std.proofs.Common.{zero, suc, inl, inr, sym, ap, subst, arith, ◌∙◌, length-append}
-use Rattle.std.proofs.lemmas.Option.{slice_get_within, slice_get_past, slice_get_read, get_or_from_slice_get, same_Some}
-use Rattle.std.proofs.lemmas.List.{take_all}
+use Rattle.std.specs.Prelude.{◌≡◌, ◌<◌, ◌≤◌, ◌↔◌, ℕ, Bool, false, List, [], ◌∷◌, length, get_or, Option, Some, None, IsTrue, Vec, slice_get, refl}
+use Rattle.std.specs.declared.alloc.Global.{Global}
+use Rattle.std.proofs.Common.{zero, suc, sym, ap, subst, arith, ◌∙◌}
+use Rattle.std.proofs.lemmas.Slice.Zip.{AllZip-long}
+use Rattle.std.proofs.lemmas.Option.{slice_get_within, slice_get_past, slice_get_read, same_Some}
 use Rattle.std.specs.Borrow.{Bor}
 use Rattle.std.specs.Option.{option_copied}
 use Rattle.std.specs.Slice.{IsItemAt}
-use Rattle.trs_defs.specs.System.{RewriteRule, System, IsSystem}
-use Rattle.trs_core.specs.View.{tree, forest}
-use Rattle.trs_core.specs.declared.terms.Term.{Term}
+use Rattle.trs_defs.specs.System.{RewriteRule, System}
 use Rattle.trs_defs.proofs.ListItems.{item_there}
 use Rattle.dp_core.specs.PlacedPairs.{IsOfRule}
-use Rattle.trs_caps.specs.declared.holed.Cap.{Cap}
-use Rattle.trs_caps.specs.HoledTree.{symbol}
-use Rattle.trs_caps.specs.HoledCap.{MeetsLeft, AreHoledCaps}
-use Rattle.trs_caps.specs.View.{holed, holed_all}
-use Rattle.pair_theory.specs.Marked.{Marked}
 use Rattle.pair_theory.specs.DependencyPair.{DependencyPair, dependency_pairs}
 use Rattle.dp_graph.specs.declared.graph.Node.{Node}
 use Rattle.dp_graph.specs.Edge.{IsEdge}
 use Rattle.dp_graph.specs.GraphConditions.{HasEdge}
-use Rattle.dp_graph.specs.GraphNodes.{IsEndOf, IsEndAt, IsNodeOf, IsNodeFor, IsEndFor, AreNodesOf}
-use Rattle.dp_graph.proofs.ListPlaces.{past_none, last_or_there}
-use Rattle.dp_graph.proofs.Covering.{edge_by_caps}
+use Rattle.dp_graph.specs.FlagRows.{IsSet}
+use Rattle.dp_graph.specs.GraphNodes.{IsNodeOf, IsNodeFor, IsSideNode, AreNodesOf}
+use Rattle.dp_graph.proofs.ListPlaces.{past_none}
+use Rattle.dp_graph.proofs.FlagLaws.{one_row}
+use Rattle.dp_graph.proofs.PairNodeLaws.{zip_at, flag_of_edge}
 
 -- an item, as it is read
 pub read_item : {A : Type 0} (xs : List A) (i : ℕ) (found : Option (Bor A)) → IsItemAt xs i found → option_copied found ≡ slice_get xs i
@@ -35,108 +31,74 @@ item_found xs i found x h e = sym (read_item xs i found h) ∙ ap option_copied 
 pub item_missing : {A : Type 0} (xs : List A) (i : ℕ) (found : Option (Bor A)) → IsItemAt xs i found → found ≡ None → slice_get xs i ≡ None
 item_missing xs i found h e = sym (read_item xs i found h) ∙ ap option_copied e
 
-pub item_is : {A : Type 0} (xs ys : List A) (k : ℕ) (x y : A) → xs ≡ ys → x ≡ get_or xs k x → slice_get ys k ≡ Some y → x ≡ y
-item_is xs ys k x y same is at = is ∙ (ap (λ z. get_or z k x) same ∙ get_or_from_slice_get ys k y x at)
-
--- a side's symbol over the caps of all its arguments
-pub end_made : (rules : List RewriteRule) (side : Marked) (f : ℕ) (items : List Term) (caps : List Cap) (k : ℕ) → f ≡ side.symbol → side.args ≡ forest items → length items ≤ k
-    → AreHoledCaps rules false (forest (take k items)) (holed_all caps) → IsEndOf rules side (symbol f (holed_all caps))
-end_made rules side f items caps k root is ge each = (
-  holed_all caps,
-  subst (λ ts. AreHoledCaps rules false ts (holed_all caps)) (ap forest (take_all k items ge) ∙ sym is) each,
-  ap (λ g. symbol g (holed_all caps)) root,
-)
-
--- the nodes of the first k pairs, whose caps are kept
-pub record NodesSoFar (rules : List RewriteRule) (caps : List (Option Cap)) (nodes : List Node) (k : ℕ) : Type 0 where
-  pub count : length nodes ≡ k
-  pub each : (n : ℕ) (p : DependencyPair) (node : Node) → slice_get (dependency_pairs rules) n ≡ Some p → slice_get nodes n ≡ Some node → IsNodeOf rules p node
-  pub capped : (n : ℕ) (p : DependencyPair) (node : Node) → slice_get (dependency_pairs rules) n ≡ Some p → slice_get nodes n ≡ Some node → IsEndAt rules caps node.first p.to
-
-pub no_nodes : (rules : List RewriteRule) (caps : List (Option Cap)) (nodes : List Node) → nodes ≡ [] → NodesSoFar rules caps nodes 0
-no_nodes rules caps nodes empty = record { count = ap length empty; each = λ n p node at there. absurd (none_there n node there); capped = λ n p node at there. absurd (none_there n node there) }
-  where
-    none_there : (n : ℕ) (node : Node) → slice_get nodes n ≡ Some node → ⊥
-    none_there n node there = let d : None ≡ Some node = subst (λ z. slice_get z n ≡ Some node) empty there in cc
-
-pub one_more_node : (rules : List RewriteRule) (caps : List (Option Cap)) (nodes new : List Node) (k : ℕ) (p : DependencyPair) (node : Node) → slice_get (dependency_pairs rules) k ≡ Some p → IsNodeOf rules p node
-    → IsEndAt rules caps node.first p.to → new ≡ nodes ++ node ∷ [] → NodesSoFar rules caps nodes k → NodesSoFar rules caps new (k + 1)
-one_more_node rules caps nodes new k p node at is end grown so_far = record {
-  count = ap length grown ∙ (length-append nodes (node ∷ []) ∙ ap (λ z. z + 1) so_far.count);
-  each = λ n q x there e. elim (last_or_there nodes node x n (subst (λ z. slice_get z n ≡ Some x) grown e)) [
-    | inl h ↦ so_far.each n q x there h
-    | inr h ↦ subst (λ z. IsNodeOf rules q z) h.1 (subst (λ z. IsNodeOf rules z node) (same n q there h.0) is)
-  ];
-  capped = λ n q x there e. elim (last_or_there nodes node x n (subst (λ z. slice_get z n ≡ Some x) grown e)) [
-    | inl h ↦ so_far.capped n q x there h
-    | inr h ↦ subst (λ (z : Node). IsEndAt rules caps z.first q.to) h.1 (subst (λ (z : DependencyPair). IsEndAt rules caps node.first z.to) (same n q there h.0) end)
-  ];
-}
-  where
-    same : (n : ℕ) (q : DependencyPair) → slice_get (dependency_pairs rules) n ≡ Some q → n ≡ length nodes → p ≡ q
-    same n q there last = same_Some p q (sym at ∙ subst (λ z. slice_get (dependency_pairs rules) z ≡ Some q) (last ∙ so_far.count) there)
-
 none_past : {A : Type 0} (xs : List A) (n : ℕ) → slice_get xs n ≡ None → length xs ≤ n
 none_past [] n e = omega arith
 none_past (x ∷ xs) zero e = absurd cc
 none_past (x ∷ xs) (suc n) e = let h = none_past xs n e in omega (arith, h)
 
-pub node_read : (system : System) (nodes : List Node) (caps : List (Option Cap)) (n : ℕ) (found : Option Node) → AreNodesOf system nodes caps → found ≡ slice_get nodes n → IsNodeFor system n found
-node_read system nodes caps n None are e = past_none (dependency_pairs system.rules) n (let h = none_past nodes n (sym e) in let c = are.count in omega (arith, h, c))
-node_read system nodes caps n (Some node) are e =
+nodes_long : (system : System) (nodes : List Node) (rows : List (Vec Bool Global)) → AreNodesOf system nodes rows → length nodes ≡ length (dependency_pairs system.rules)
+nodes_long system nodes rows are = AllZip-long (IsSideNode system.rules are.lefts rows) (dependency_pairs system.rules) nodes are.each
+
+pub node_read : (system : System) (nodes : List Node) (rows : List (Vec Bool Global)) (n : ℕ) (found : Option Node) → AreNodesOf system nodes rows → found ≡ slice_get nodes n → IsNodeFor system n found
+node_read system nodes rows n None are e = past_none (dependency_pairs system.rules) n (let h = none_past nodes n (sym e) in let c = nodes_long system nodes rows are in omega (arith, h, c))
+node_read system nodes rows n (Some node) are e =
     let lt = slice_get_within nodes n node (sym e) in
-    let p = item_there (dependency_pairs system.rules) n (let c = are.count in omega (arith, lt, c)) in
-    (p.0, p.1, are.each n p.0 node p.1 (sym e))
-
-module _ (system : System) (nodes : List Node) (caps : List (Option Cap)) (n : ℕ) (node : Node) (are : AreNodesOf system nodes caps) (at : slice_get nodes n ≡ Some node) where
-  its_pair : (p : DependencyPair) × (slice_get (dependency_pairs system.rules) n ≡ Some p)
-  its_pair = item_there (dependency_pairs system.rules) n (let lt = slice_get_within nodes n node at in let c = are.count in omega (arith, lt, c))
-
-  pub end_within : node.first < length caps
-  end_within = let (c, is, kept) = are.capped n its_pair.0 node its_pair.1 at in slice_get_within caps node.first (Some kept.cap) kept.at
-
-  -- the cap of the right side, as it is read
-  pub end_read : (found : Option Cap) → found ≡ get_or caps node.first found → IsEndFor system n found
-  end_read found is =
-      let (c, end, kept) = are.capped n its_pair.0 node its_pair.1 at in
-      let same : Some kept.cap ≡ found = same_Some (Some kept.cap) found (sym kept.at ∙ slice_get_read caps (length caps) node.first found refl end_within is) in
-      subst (IsEndFor system n) same (its_pair.0, its_pair.1, subst (IsEndOf system.rules its_pair.0.to) (sym kept.is) end)
-
-pub no_end : (system : System) (nodes : List Node) (caps : List (Option Cap)) (n : ℕ) → AreNodesOf system nodes caps → slice_get nodes n ≡ None → IsEndFor system n None
-no_end system nodes caps n are e = past_none (dependency_pairs system.rules) n (let h = none_past nodes n e in let c = are.count in omega (arith, h, c))
+    let p = item_there (dependency_pairs system.rules) n (let c = nodes_long system nodes rows are in omega (arith, lt, c)) in
+    let is = zip_at (IsSideNode system.rules are.lefts rows) (dependency_pairs system.rules) nodes n p.0 node are.each p.1 (sym e) in
+    let (rule, there, left) = are.same.each is.number node.rule is.rule is.noted is.numbered in
+    (p.0, p.1, record { rule = rule; numbered = there; rule_left = left ∙ is.left; from = is.from; to = is.to; first = are.first n node p.0 (sym e) p.1 })
 
 pub of_rule : (rules : List RewriteRule) (p : DependencyPair) (node : Node) → IsNodeOf rules p node → IsOfRule rules node.rule p
 of_rule rules p node is = (is.rule, is.numbered, is.rule_left)
 
-module _ (system : System) (valid : IsSystem system) (few : length system.arities ≤ 4095) where
-  meets_edge : (p q : DependencyPair) (cap : Cap) (to : Node) → IsEndOf system.rules p.to (holed cap) → IsNodeOf system.rules q to → MeetsLeft (holed cap) (tree to.left.now) ↔ IsEdge system.rules p q
-  meets_edge p q cap to (caps, are, e) also =
-      let by = edge_by_caps system valid few p q caps are in (
-        λ h. by.0 (subst (λ t. MeetsLeft (symbol p.to.symbol caps) t) also.left (subst (λ c. MeetsLeft c (tree to.left.now)) e h)),
-        λ h. subst (λ c. MeetsLeft c (tree to.left.now)) (sym e) (subst (λ t. MeetsLeft (symbol p.to.symbol caps) t) (sym also.left) (by.1 h)),
-      )
+-- ---- edges by the rows of nodes
 
+module _ (system : System) (nodes : List Node) (rows : List (Vec Bool Global)) (are : AreNodesOf system nodes rows) where
   abbrev all : List DependencyPair
   all = dependency_pairs system.rules
 
-  from_end : (m n : ℕ) (cap : Cap) (to : Node) (b : Bool) → IsEndFor system m (Some cap) → IsNodeFor system n (Some to) → IsTrue b ↔ MeetsLeft (holed cap) (tree to.left.now)
-      → IsTrue b ↔ HasEdge system.rules all m n
-  from_end m n cap to b (p, at, is) (q, there, also) meets =
-      let edge = meets_edge p q cap to is also in (
-        λ e. record { from = p; to = q; from_numbered = at; to_numbered = there; edge = edge.0 (meets.0 e) },
+  its_pair : (n : ℕ) (node : Node) → slice_get nodes n ≡ Some node → (p : DependencyPair) × (slice_get all n ≡ Some p) × IsSideNode system.rules are.lefts rows p node
+  its_pair n node at =
+      let p = item_there all n (let lt = slice_get_within nodes n node at in let c = nodes_long system nodes rows are in omega (arith, lt, c)) in
+      (p.0, p.1, zip_at (IsSideNode system.rules are.lefts rows) all nodes n p.0 node are.each p.1 at)
+
+  pub row_within : (m : ℕ) (from : Node) → slice_get nodes m ≡ Some from → from.row < length rows
+  row_within m from at =
+      let (p, numbered, is) = its_pair m from at in
+      let (c, end, (flags, (row, there, same), kept)) = is.row in
+      slice_get_within rows from.row row there
+
+  pub no_edge_from : (m n : ℕ) → slice_get nodes m ≡ None → IsTrue false ↔ HasEdge system.rules all m n
+  no_edge_from m n none = (
+    λ e. absurd cc,
+    λ h.
+        let gone : slice_get all m ≡ None = past_none all m (let a = none_past nodes m none in let c = nodes_long system nodes rows are in omega (arith, a, c)) in
+        let d : None ≡ Some h.from = sym gone ∙ h.from_numbered in
+        absurd cc,
+  )
+
+  pub no_edge_to : (m n : ℕ) → slice_get nodes n ≡ None → IsTrue false ↔ HasEdge system.rules all m n
+  no_edge_to m n none = (
+    λ e. absurd cc,
+    λ h.
+        let gone : slice_get all n ≡ None = past_none all n (let a = none_past nodes n none in let c = nodes_long system nodes rows are in omega (arith, a, c)) in
+        let d : None ≡ Some h.to = sym gone ∙ h.to_numbered in
+        absurd cc,
+  )
+
+  -- the flag of the rule of the one in the row of the other says whether an edge leads
+  pub edge_decided : (m n : ℕ) (from to : Node) (row : Vec Bool Global) (b : Bool) → slice_get nodes m ≡ Some from → slice_get nodes n ≡ Some to → row ≡ get_or rows from.row row
+      → IsTrue b ↔ IsSet row.items to.rule → IsTrue b ↔ HasEdge system.rules all m n
+  edge_decided m n from to row b at there read says =
+      let (p, at_p, mine) = its_pair m from at in
+      let (q, at_q, its) = its_pair n to there in
+      let (c, end, (flags, has, is)) = mine.row in
+      let got : slice_get rows from.row ≡ Some row = slice_get_read rows (length rows) from.row row refl (row_within m from at) read in
+      let same : row.items ≡ flags = one_row rows from.row row.items flags (row, got, refl) has in
+      let flag = flag_of_edge system are.valid are.symbols are.lefts are.same p q c flags its.number to.rule its.rule end is its.numbered its.left its.noted in (
+        λ e. record { from = p; to = q; from_numbered = at_p; to_numbered = at_q; edge = flag.0 (subst (λ z. IsSet z to.rule) same (says.0 e)) },
         λ h.
-            let e : h.from ≡ p = same_Some h.from p (sym h.from_numbered ∙ at) in
-            let d : h.to ≡ q = same_Some h.to q (sym h.to_numbered ∙ there) in
-            meets.1 (edge.1 (subst (λ z. IsEdge system.rules p z) d (subst (λ z. IsEdge system.rules z h.to) e h.edge))),
+            let e : h.from ≡ p = same_Some h.from p (sym h.from_numbered ∙ at_p) in
+            let d : h.to ≡ q = same_Some h.to q (sym h.to_numbered ∙ at_q) in
+            says.1 (subst (λ z. IsSet z to.rule) (sym same) (flag.1 (subst (λ z. IsEdge system.rules p z) d (subst (λ z. IsEdge system.rules z h.to) e h.edge)))),
       )
-
-  pub edge_decided : {E : Type 0} (m n : ℕ) (cap : Cap) (to : Node) (result : Result Bool E) → IsEndFor system m (Some cap) → IsNodeFor system n (Some to)
-      → IfOk result (λ b. IsTrue b ↔ MeetsLeft (holed cap) (tree to.left.now)) → IfOk result (λ b. IsTrue b ↔ HasEdge system.rules all m n)
-  edge_decided m n cap to (Ok b) is also meets = from_end m n cap to b is also meets
-  edge_decided m n cap to (Err e) is also meets = meets
-
-pub no_edge_from : (rules : List RewriteRule) (all : List DependencyPair) (m n : ℕ) → slice_get all m ≡ None → IsTrue false ↔ HasEdge rules all m n
-no_edge_from rules all m n none = (λ e. absurd cc, λ h. let d : None ≡ Some h.from = sym none ∙ h.from_numbered in absurd cc)
-
-pub no_edge_to : (rules : List RewriteRule) (all : List DependencyPair) (m n : ℕ) → slice_get all n ≡ None → IsTrue false ↔ HasEdge rules all m n
-no_edge_to rules all m n none = (λ e. absurd cc, λ h. let d : None ≡ Some h.to = sym none ∙ h.to_numbered in absurd cc)

@@ -12,26 +12,23 @@ use Rattle.trs_defs.specs.Member.{In, in_first}
 use Rattle.trs_defs.proofs.Members.{no_in, in_left, in_right, in_either, in_or, get_of_in, in_of_get}
 use Rattle.trs_defs.specs.System.{System, IsSystem}
 use Rattle.trs_defs.proofs.ListItems.{item_there, last_item}
-use Rattle.pair_theory.specs.Marked.{plain, mark}
+use Rattle.pair_theory.specs.Marked.{mark}
 use Rattle.pair_theory.specs.DependencyPair.{DependencyPair, dependency_pairs}
 use Rattle.dp_graph.specs.ByRoot.{entry_items, items_at}
 use Rattle.dp_core.specs.PlacedPairs.{IsOfRule}
 use Rattle.dp_graph.specs.GraphConditions.{lists_of}
 use Rattle.dp_graph.specs.Edge.{IsEdge}
-use Rattle.dp_graph.specs.GraphNodes.{IsEndOf, IsNodeFor}
+use Rattle.dp_graph.specs.GraphNodes.{IsNodeFor}
 use Rattle.dp_graph.specs.PlaceLists.{PutsBehind}
 use Rattle.dp_graph.specs.declared.graph.Node.{Node}
 use Rattle.dp_graph.specs.declared.rows.RulePlace.{RulePlace}
 use Rattle.dp_graph.specs.declared.rows.Rules.{Rules}
 use Rattle.dp_graph.specs.declared.rows.Rights.{Rights}
 use Rattle.dp_graph.specs.RightPlaces.{AreAlike, IsRowOf, AddsRight, PlacesRight, LeadsRight}
-use Rattle.trs_caps.specs.HoledTree.{HoledTree}
-use Rattle.trs_caps.specs.HoledCap.{MeetsLeft}
 use Rattle.dp_graph.specs.Rows.{EdgeOf, AtPlaces, Follows, LeadsOn, at_once, by_way, LeadsByOthers, IsBetween, StayWithin, AreRows}
 use Rattle.dp_graph.specs.RulePlaces.{IsPlaceOf, IsInRule, AreRules, HaveRows, AreNoRules, AddsPair, AddsRule, RulesAt, LeadsByRules}
 use Rattle.dp_core.proofs.LeftNumbering.{same_left}
 use Rattle.dp_graph.proofs.EarlierLaws.{none_at, edge_root, edge_to_alike}
-use Rattle.dp_graph.proofs.Covering.{edge_by_caps}
 use Rattle.dp_graph.proofs.NodeLists.{of_rule}
 use Rattle.dp_graph.proofs.ListPlaces.{last_or_there, still_there, lists_length, lists_more, length_more, in_single}
 use Rattle.dp_graph.proofs.ReversedLaws.{put_follows}
@@ -346,25 +343,23 @@ module _ (system : System) (rules : List RulePlace) (m i : ℕ) where
 
 -- ---- the places of right sides
 
--- from pairs whose right sides have one cap the same edges lead
-alike_to : (system : System) (m n : ℕ) (p q : DependencyPair) (c : HoledTree) → IsSystem system → length system.arities ≤ 4095 → slice_get (dependency_pairs system.rules) m ≡ Some p
-    → slice_get (dependency_pairs system.rules) n ≡ Some q → IsEndOf system.rules p.to c → IsEndOf system.rules q.to c → (k : ℕ) → EdgeOf system m k → EdgeOf system n k
-alike_to system m n p q c valid few at there (cs, are, is) (ds, also, same) k e =
+-- the same edges lead from the first pair with the row
+edges_from : (system : System) (m n : ℕ) (p q : DependencyPair) → slice_get (dependency_pairs system.rules) m ≡ Some p → slice_get (dependency_pairs system.rules) n ≡ Some q
+    → ((k : ℕ) (r : DependencyPair) → slice_get (dependency_pairs system.rules) k ≡ Some r → IsEdge system.rules p r → IsEdge system.rules q r) → (k : ℕ) → EdgeOf system m k → EdgeOf system n k
+edges_from system m n p q at there leads k e =
     let from : e.from ≡ p = same_Some e.from p (sym e.from_numbered ∙ at) in
-    let edge : IsEdge system.rules p e.to = subst (λ z. IsEdge system.rules z e.to) from e.edge in
-    let meets = (edge_by_caps system valid few p e.to cs are).1 edge in
     record {
       from = q;
       to = e.to;
       from_numbered = there;
       to_numbered = e.to_numbered;
-      edge = (edge_by_caps system valid few q e.to ds also).0 (subst (λ z. MeetsLeft z (plain e.to.from)) (sym is ∙ same) meets);
+      edge = leads k e.to e.to_numbered (subst (λ z. IsEdge system.rules z e.to) from e.edge);
     }
 
-pub alike_first : (system : System) (m : ℕ) (node : Node) → IsSystem system → length system.arities ≤ 4095 → IsNodeFor system m (Some node) → AreAlike system m node.first
-alike_first system m node valid few (p, at, is) =
-    let (q, there, (c, first, own)) = is.first in
-    λ k. (alike_to system m node.first p q c valid few at there own first k, alike_to system node.first m q p c valid few there at first own k)
+pub alike_first : (system : System) (m : ℕ) (node : Node) → IsNodeFor system m (Some node) → AreAlike system m node.first
+alike_first system m node (p, at, is) =
+    let (q, there, edges) = is.first in
+    λ k. (edges_from system m node.first p q at there (λ i r e. (edges i r e).0) k, edges_from system node.first m q p there at (λ i r e. (edges i r e).1) k)
 
 more_elsewhere : {A : Type 0} (xs : List A) (y : A) (k : ℕ) → (k ≡ length xs → ⊥) → slice_get (xs ++ y ∷ []) k ≡ slice_get xs k
 more_elsewhere [] y zero other = absurd (other refl)

@@ -9,9 +9,10 @@ use Rattle.trs_defs.specs.System.{RewriteRule}
 abbrev pub HasLeft : List RewriteRule → ℕ → Tree → Type 0
 HasLeft rules j left = (rule : RewriteRule) × (slice_get rules j ≡ Some rule) × (rule.left ≡ left)
 
--- for each rule the number of one with the same left side
+-- for each rule the number of the one that is noted for its left side
 pub record HaveSameLefts (rules : List RewriteRule) (firsts : List ℕ) : Type 0 where
   pub count : length firsts ≡ length rules
+  pub noted : (k j : ℕ) → slice_get firsts k ≡ Some j → slice_get firsts j ≡ Some j
   pub each : (k j : ℕ) (rule : RewriteRule) → slice_get firsts k ≡ Some j → slice_get rules k ≡ Some rule → HasLeft rules j rule.left
 
 -- the number that is noted of the id, or this one
@@ -20,4 +21,4 @@ IsNotedOr seen id k first = (first ≡ k) ⊎ (get nat_cmp seen id ≡ Some firs
 
 -- what is noted was noted before, or is this number of the id
 abbrev pub NotesAt : ℕ → ℕ → BTreeMap ℕ ℕ → BTreeMap ℕ ℕ → Type 0
-NotesAt id k old new = (i j : ℕ) → get nat_cmp new i ≡ Some j → (get nat_cmp old i ≡ Some j) ⊎ ((i ≡ id) × (j ≡ k))
+NotesAt id first old new = (i j : ℕ) → get nat_cmp new i ≡ Some j → (get nat_cmp old i ≡ Some j) ⊎ ((i ≡ id) × (j ≡ first))

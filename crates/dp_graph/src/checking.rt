@@ -48,7 +48,7 @@ impl<'a> PairGraph<'a> {
         name_all(&mut left, items)?;
         none_left(&left)?;
         onward_check(alloc, self, items)?;
-        singles_check(alloc, self, items)?;
+        singles_check(self, items)?;
         Ok(groups(alloc, items)?)
     }
 }

@@ -1,4 +1,4 @@
-ghost use Rattle.std.specs.Prelude.{ℕ, ◌++◌, List, [], ◌∷◌, IfOk, OnOk};
+ghost use Rattle.std.specs.Prelude.{ℕ, ◌++◌, List, [], ◌∷◌, OnOk};
 ghost use Rattle.trs_defs.specs.System.{System};
 ghost use Rattle.dp_graph.specs.EarlierPairs.{IsEarlier, first_led_to, leads_to_none_of};
 
@@ -28,21 +28,16 @@ impl Earlier {
     }
 
     /// The first earlier pair to which an edge leads from pair number `from`.
-    pub(crate) fn led_to(
-        &self,
-        alloc: Global,
-        graph: &PairGraph,
-        from: u32,
-    ) -> Result<Option<u32>, OutOfMemory>
-        ensures { IfOk result (λ to. (members : List ℕ) → IsEarlier graph.now members self.now →
-            leads_to_none_of graph.now from members (first_led_to from to)) }
+    pub(crate) fn led_to(&self, graph: &PairGraph, from: u32) -> Option<u32>
+        ensures { (members : List ℕ) → IsEarlier graph.now members self.now →
+            leads_to_none_of graph.now from members (first_led_to from result) }
     {
         let Some(node) = graph.node(from as usize) else {
-            return Ok(None);
+            return None;
         };
         match self.by_root.get(&node.to) {
-            Some(pairs) => first_of(alloc, graph, from, pairs),
-            None => Ok(None),
+            Some(pairs) => first_of(graph, from, pairs),
+            None => None,
         }
     }
 
@@ -67,18 +62,13 @@ impl Earlier {
 }
 
 /// The first of the pairs to which an edge leads from pair number `from`.
-fn first_of(
-    alloc: Global,
-    graph: &PairGraph,
-    from: u32,
-    pairs: &[u32],
-) -> Result<Option<u32>, OutOfMemory>
-    ensures { IfOk result (λ to. leads_to_none_of graph.now from pairs.now (first_led_to from to)) }
+fn first_of(graph: &PairGraph, from: u32, pairs: &[u32]) -> Option<u32>
+    ensures { leads_to_none_of graph.now from pairs.now (first_led_to from result) }
 {
     for n in pairs {
-        if graph.leads(alloc, from as usize, *n as usize)? {
-            return Ok(Some(*n));
+        if graph.leads(from as usize, *n as usize) {
+            return Some(*n);
         }
     }
-    Ok(None)
+    None
 }

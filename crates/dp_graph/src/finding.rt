@@ -33,10 +33,10 @@ pub fn components(
 }
 
 impl<'a> PairGraph<'a> {
-    /// The components of the graph on a problem, in order. Edges from pairs whose right sides have
-    /// one cap to pairs with one left side are looked at, and kept, as one. It takes steps for each
-    /// such cap and each left side whose roots agree, and beside these a number of steps that is
-    /// linear in the number of pairs and of edges from caps to left sides, up to a logarithm.
+    /// The components of the graph on a problem, in order. Edges from pairs that have one row in the
+    /// graph to pairs with one left side are looked at, and kept, as one. It takes steps for each such
+    /// row and each left side whose roots agree, and beside these a number of steps that is linear in
+    /// the number of pairs and of edges from rows to left sides, up to a logarithm.
     pub fn components(&self, alloc: Global, problem: &[u32]) -> Result<Vec<GraphItem>, OutOfMemory>
         requires ascending { IsStrictlyIncreasing problem.now }
         ensures { IfOk result (λ items. AreComponents self.now.rules

@@ -1,5 +1,5 @@
 //! Rules with the same left side.
-ghost use Rattle.std.specs.Prelude.{IfOk, OnOk};
+ghost use Rattle.std.specs.Prelude.{IfOk};
 ghost use Rattle.dp_graph.specs.SameLefts.{HaveSameLefts, IsNotedOr, NotesAt};
 
 use std::alloc::Global;
@@ -28,7 +28,7 @@ pub(crate) fn noted_or(
     k: usize,
 ) -> Result<usize, OutOfMemory>
     ensures number { IfOk result (IsNotedOr seen.old id k) }
-    ensures notes { OnOk result (NotesAt id k seen.old seen.new) }
+    ensures notes { IfOk result (λ first. NotesAt id first seen.old seen.new) }
 {
     if let Some(first) = seen.get(&id) {
         return Ok(*first);

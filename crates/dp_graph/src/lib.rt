@@ -4,13 +4,14 @@
 #![tactic(auto)]
 
 mod by_root;
+mod cap_rows;
 mod checking;
 mod collecting;
 mod earlier;
 mod edges;
-mod ends;
 mod finding;
 mod finishing;
+mod flag_rows;
 mod graph;
 mod items;
 mod laws;
@@ -18,11 +19,11 @@ mod leaders;
 mod lefts;
 mod lists;
 mod naming;
+mod nodes;
 mod onward;
 mod ordering;
 mod places;
 mod reversed;
-mod rights;
 mod rows;
 mod singles;
 mod waiting;

@@ -22,7 +22,7 @@ pub(crate) fn onward_check(
 {
     let mut earlier = Earlier::new(alloc);
     for (i, item) in items.iter().enumerate() {
-        item_check(alloc, graph, &earlier, item.members())?;
+        item_check(graph, &earlier, item.members())?;
         let more = i + 1 < items.len();
         add_if_more(alloc, graph, &mut earlier, item.members(), more)?;
     }
@@ -30,18 +30,13 @@ pub(crate) fn onward_check(
 }
 
 /// Sees that no edge leads from one of these pairs to an earlier one.
-fn item_check(
-    alloc: Global,
-    graph: &PairGraph,
-    earlier: &Earlier,
-    members: &[u32],
-) -> Result<(), CheckFault>
+fn item_check(graph: &PairGraph, earlier: &Earlier, members: &[u32]) -> Result<(), CheckFault>
     ensures { (before : List ℕ) → IsEarlier graph.now before earlier.now → Answers
         (lead_to_none graph.now.rules (dependency_pairs graph.now.rules) members.now before)
         result }
 {
     for m in members {
-        if let Some(n) = earlier.led_to(alloc, graph, *m)? {
+        if let Some(n) = earlier.led_to(graph, *m) {
             return Err(CheckFault::Refused(StepRefused::EdgeBack(*m as u64, n as u64)));
         }
     }

@@ -1,7 +1,7 @@
 //! The graph on a problem, as rows of places: those of its pairs come first, then those of their
 //! rules, then those of their right sides. An edge depends on the cap of a right side and on a left side
-//! alone. So rules with one left side count as the first of them, and right sides with one cap as that
-//! of the first pair, and edges are kept once for all of them.
+//! alone. So rules with one left side count as the first of them, and right sides whose caps meet the
+//! same left sides as that of the first pair, and edges are kept once for all of them.
 ghost use Rattle.std.specs.Prelude.{ℕ, ◌≡◌, ◌<◌, ◌≤◌, List, IfOk, OnOk, IsTrue, Some, false, length, slice_get};
 ghost use Rattle.trs_defs.specs.Member.{In};
 ghost use Rattle.trs_defs.specs.System.{IsSystem};
@@ -44,13 +44,14 @@ pub(crate) struct Rules {
 pub(crate) struct Rights {
     /// The rows of all places. That of a right side has the rules to whose pairs edges lead.
     rows: Vec<Vec<u32>>,
-    /// The places of right sides, by the numbers of the first pairs with their caps.
+    /// The places of right sides, by the numbers of the first pairs with their rows in the graph.
     places: BTreeMap<usize, usize>,
 }
 
 /// The rows of a problem. The row of a pair has its right side, the row of a right side has the rules
 /// to whose pairs edges lead, and the row of a rule has its pairs. Edges are looked for only from one
-/// right side with a cap to one pair with a left side, and to rules with the root of the right side.
+/// right side of those with one row in the graph to one pair with a left side, and to rules with the
+/// root of the right side.
 pub(crate) fn rows(
     alloc: Global,
     graph: &PairGraph,
@@ -184,7 +185,7 @@ impl Rights {
     {
         let place = self.rows.len();
         self.rows.push(Vec::new(alloc))?;
-        lead(alloc, graph, by_root, m, place, &mut self.rows)?;
+        lead(graph, by_root, m, place, &mut self.rows)?;
         self.places.insert(m, place)?;
         Ok(place)
     }
@@ -192,7 +193,6 @@ impl Rights {
 
 /// Makes the row of the right side of pair number `m`, which has place `i`.
 fn lead(
-    alloc: Global,
     graph: &PairGraph,
     by_root: &BTreeMap<u32, Vec<RulePlace>>,
     m: usize,
@@ -210,7 +210,7 @@ fn lead(
     };
     match by_root.get(&node.to) {
         Some(rules) => {
-            lead_to(alloc, graph, rules, m, i, rows)?;
+            lead_to(graph, rules, m, i, rows)?;
             Ok(())
         }
         None => Ok(()),
@@ -219,7 +219,6 @@ fn lead(
 
 /// Puts the places of those of the rules into a row to whose pairs edges lead.
 fn lead_to(
-    alloc: Global,
     graph: &PairGraph,
     rules: &[RulePlace],
     m: usize,
@@ -231,7 +230,7 @@ fn lead_to(
         (lists_of rows.old.items) (lists_of rows.new.items)) }
 {
     for rule in rules {
-        let yes = graph.leads(alloc, m, rule.pair as usize)?;
+        let yes = graph.leads(m, rule.pair as usize);
         put_if(yes, rows, i, rule.place)?;
     }
     Ok(())

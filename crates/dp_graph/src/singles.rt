@@ -10,29 +10,25 @@ use std::alloc::Global;
 use trs_core::OutOfMemory;
 
 /// Sees that no edge leads from a single pair to itself.
-pub(crate) fn singles_check(
-    alloc: Global,
-    graph: &PairGraph,
-    items: &[GraphItem],
-) -> Result<(), CheckFault>
+pub(crate) fn singles_check(graph: &PairGraph, items: &[GraphItem]) -> Result<(), CheckFault>
     ensures { Answers (have_no_self_edge graph.now.rules (dependency_pairs graph.now.rules)
         (singles_of (items_of items.now))) result }
 {
     for item in items {
-        single_check(alloc, graph, item)?;
+        single_check(graph, item)?;
     }
     Ok(())
 }
 
 /// Sees that no edge leads from an item's pair to itself, if it is a single one.
-fn single_check(alloc: Global, graph: &PairGraph, item: &GraphItem) -> Result<(), CheckFault>
+fn single_check(graph: &PairGraph, item: &GraphItem) -> Result<(), CheckFault>
     ensures { Answers (have_no_self_edge graph.now.rules (dependency_pairs graph.now.rules)
         (singles_of (item_of item.now ∷ []))) result }
 {
     match item {
         GraphItem::Group(_) => Ok(()),
         GraphItem::Single(n) => {
-            if graph.leads(alloc, *n as usize, *n as usize)? {
+            if graph.leads(*n as usize, *n as usize) {
                 return Err(CheckFault::Refused(StepRefused::SelfEdge(*n as u64)));
             }
             Ok(())

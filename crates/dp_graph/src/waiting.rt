@@ -3,8 +3,9 @@ ghost use Rattle.std.specs.Prelude.{ℕ, ◌≡◌, ◌<◌, ◌≤◌, ◌↔�
 ghost use Rattle.dp_graph.specs.GraphConditions.{lists_of};
 ghost use Rattle.dp_graph.specs.Rows.{StayWithin};
 ghost use Rattle.dp_graph.specs.Waiting.{Has, Adds, OneEdge, RowEdges, AllEdges, IsReadySet, IsFreeLeader, AddsIf, AreAtFirst};
-ghost use Rattle.dp_graph.specs.Waiting.{TakesOut, Releases, LooksAt, Other, IsOne, OfRow, OfRows, Trims, IsOut};
+ghost use Rattle.dp_graph.specs.Waiting.{TakesOut, Releases, LooksAt, Other, IsOne, OfRow, OfRows, Trims};
 
+use crate::flag_rows::is_set;
 use crate::lists::{empty_lists, put_behind};
 use std::alloc::Global;
 use std::collections::BTreeSet;
@@ -143,19 +144,12 @@ fn trim(list: &mut Vec<u32>, out: &[bool]) -> Result<bool, OutOfMemory>
     ensures { IfOk result (Trims out.now list.old.items list.new.items) }
 {
     while let Some(k) = list.pop() {
-        if !is_out(out, k as usize) {
+        if !is_set(out, k as usize) {
             list.push(k)?;
             return Ok(false);
         }
     }
     Ok(true)
-}
-
-/// Whether a leader is put out.
-fn is_out(out: &[bool], k: usize) -> bool
-    ensures { IsTrue result ↔ IsOut out.now k }
-{
-    k < out.len() && out[k]
 }
 
 /// For each leader those of the other components from which edges lead to its own.

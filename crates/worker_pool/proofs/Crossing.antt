@@ -15,7 +15,6 @@ use Rattle.tree_core.below.cert_step.proofs.problem.Problem.TheSendSync as probl
 use Rattle.tree_core.below.tree_state.proofs.node.Node.TheSendSync as node
 use Rattle.tree_core.below.tree_definitions.proofs.question.Question.TheSendSync as question
 use Rattle.tree_core.below.strategies.proofs.outcome.Limits.TheSendSync as limits
-use Rattle.tree_core.below.trs_caps.proofs.holed.Parts.TheLaws.TheKnot as caps
 use Rattle.tree_core.below.strategies.specs.contracts.tables.Tables as Tables
 use Rattle.tree_core.below.cert_step.specs.contracts.step.Step as Step
 use Rattle.tree_core.below.tree_state.specs.contracts.entry.Event as Event
@@ -45,7 +44,7 @@ system_sync = search (crosses, terms.crosses, sendable) depth 60 fits 20000
 
 -- what strategies look up in the system is lent to all workers
 tables_sync : (a : NamedLft) → IsSync (Tables.the_row a)
-tables_sync a = search (system_sync, position.the_sync, crosses, terms.crosses, caps.crosses, sendable) depth 60 fits 20000
+tables_sync a = search (system_sync, position.the_sync, crosses, terms.crosses, sendable) depth 60 fits 20000
 
 tree_send : (a : NamedLft) → IsSend (Tree.the_row a)
 tree_send a = search (board_send, system_sync, crosses, sendable) depth 60 fits 20000

@@ -14,19 +14,19 @@ use Rattle.dp_graph.proofs.earlier.first_of.Goals as goal
 abbrev to_one : System → ℕ → ℕ → ℕ → Check (Unit {0})
 to_one system m _ n = Forbids (HasEdge system.rules (dependency_pairs system.rules) m n) (EdgeBack m n)
 
-pub returns-then-branch : goal.returns-then-branch
-returns-then-branch c =
+pub returns-then-leads : goal.returns-then-leads
+returns-then-leads c =
     let i = c.loop-n.n-index in
     let n = get_or c.args.pairs.now i 0 in
     item_refused (to_one c.args.graph.now c.args.from) c.args.pairs.now i n (Refused (EdgeBack c.args.from n)) (slice_get-get_or c.args.pairs.now i 0 c.loop-n-test.true)
-    (present (c.in_ok-leads.ensures.0 c.if-branch.true)) c.loop-n.invariant
+    (present (c.leads.ensures.0 c.if-leads.true)) c.loop-n.invariant
 
 pub loop-n-preserved : goal.loop-n-preserved
 loop-n-preserved c =
     let i = c.loop-n.n-index in
     let n = get_or c.args.pairs.now i 0 in
     one_more_passed (to_one c.args.graph.now c.args.from) c.args.pairs.now i n (slice_get-get_or c.args.pairs.now i 0 c.loop-n-test.true)
-    (absent (λ e. true_is_not_false c.in_ok-leads.field-0 (c.in_ok-leads.ensures.1 e) c.if-branch.false)) c.loop-n.invariant
+    (absent (λ e. true_is_not_false c.leads.result (c.leads.ensures.1 e) c.if-leads.false)) c.loop-n.invariant
 
 pub returns : goal.returns
 returns c = all_passed (to_one c.args.graph.now c.args.from) c.args.pairs.now c.loop-n.n-index (drop_all c.loop-n.n-index c.args.pairs.now c.loop-n-test.false) c.loop-n.invariant

@@ -6,7 +6,7 @@ pub returns-in-Some-clause-number : goal.returns-in-Some-clause-number
 returns-in-Some-clause-number c = inr (sym c.in-Some.ensures.value)
 
 pub returns-in-Some-clause-notes : goal.returns-in-Some-clause-notes
-returns-in-Some-clause-notes c = none_new c.args.seen.now c.args.id c.args.k
+returns-in-Some-clause-notes c = none_new c.args.seen.now c.args.id c.in-Some.first.now
 
 pub returns-clause-number : goal.returns-clause-number
 returns-clause-number c = inl refl

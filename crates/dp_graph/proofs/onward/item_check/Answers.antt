@@ -12,14 +12,14 @@ returns-in-Some c = λ before is.
     let i = c.loop-m.m-index in
     let m = get_or c.args.members.now i 0 in
     item_refused (λ _ k. leads_to_none_of c.args.graph.now k before) c.args.members.now i m (Refused (EdgeBack m c.in-Some.n)) (slice_get-get_or c.args.members.now i 0 c.loop-m-test.true)
-    (subst (λ o. leads_to_none_of c.args.graph.now m before (first_led_to m o)) c.in-Some.is (c.in_ok-n.ensures before is)) (c.loop-m.invariant before is)
+    (subst (λ o. leads_to_none_of c.args.graph.now m before (first_led_to m o)) c.in-Some.is (c.led_to.ensures before is)) (c.loop-m.invariant before is)
 
 pub loop-m-preserved : goal.loop-m-preserved
 loop-m-preserved c = λ before is.
     let i = c.loop-m.m-index in
     let m = get_or c.args.members.now i 0 in
     one_more_passed (λ _ k. leads_to_none_of c.args.graph.now k before) c.args.members.now i m (slice_get-get_or c.args.members.now i 0 c.loop-m-test.true)
-    (subst (λ o. leads_to_none_of c.args.graph.now m before (first_led_to m o)) c.in_default.is (c.in_ok-n.ensures before is)) (c.loop-m.invariant before is)
+    (subst (λ o. leads_to_none_of c.args.graph.now m before (first_led_to m o)) c.in_default.is (c.led_to.ensures before is)) (c.loop-m.invariant before is)
 
 pub returns : goal.returns
 returns c = λ before is. all_passed (λ _ k. leads_to_none_of c.args.graph.now k before) c.args.members.now c.loop-m.m-index (drop_all c.loop-m.m-index c.args.members.now c.loop-m-test.false) (c.loop-m.invariant before is)

@@ -22,7 +22,7 @@ loop-rule-preserved c =
     let a = lists_length c.args.rows.now.items in
     let none : RulePlace = record { place = 0; pair = 0 } in
     leads_to_one c.args.graph.now c.args.rules.now c.args.m c.args.i (lists_of c.args.rows.now.items) (lists_of c.loop-rule.rows.items) (lists_of c.put_if.new.rows.items) c.loop-rule.rule-index
-    (get_or c.args.rules.now c.loop-rule.rule-index none) c.in_ok-yes.yes (slice_get-get_or c.args.rules.now c.loop-rule.rule-index none c.loop-rule-test.true) c.in_ok-yes.ensures (omega (arith, n, a, c.requires))
+    (get_or c.args.rules.now c.loop-rule.rule-index none) c.leads-yes.result (slice_get-get_or c.args.rules.now c.loop-rule.rule-index none c.loop-rule-test.true) c.leads-yes.ensures (omega (arith, n, a, c.requires))
     c.in_ok-put_if.ensures.put (λ e. ap lists_of (c.in_ok-put_if.ensures.none e)) c.loop-rule.invariant
 
 pub returns : goal.returns

@@ -13,7 +13,7 @@ put_behind-requires c =
 pub returns-clause-leads : goal.returns-clause-leads
 returns-clause-leads c = inr (record {
   first = c.in-Some.node.now.first;
-  alike = alike_first c.args.graph.now c.args.m c.in-Some.node.now c.node.ensures.valid c.node.ensures.symbols c.in-Some.ensures.node;
+  alike = alike_first c.args.graph.now c.args.m c.in-Some.node.now c.in-Some.ensures.node;
   place = c.in_ok-place.place;
   mid = c.place.new.self;
   places = c.in_ok-place.ensures;

@@ -1,0 +1,417 @@
+-- Caps with numbers, one after another, and the rows of the left sides that they meet.
+use Rattle.std.specs.Prelude.{◌≡◌, ◌<◌, ◌≤◌, ◌↔◌, ◌⊎◌, ℕ, ◌+◌, ◌++◌, ◌==◌, Bool, true, false, not, cond, List, [], ◌∷◌, length, take, get_or, All, Option, Some, None, IfSome, IsTrue, Result, Ok, Err, IfOk, OnOk, Vec, slice_get, slice_set, slice_index, refl}
+use Rattle.std.specs.declared.alloc.Global.{Global}
+use Rattle.std.specs.BTreeMap.{get, is_at}
+use Rattle.std.specs.Map.{lookup}
+use Rattle.std.proofs.Common.{inl, inr, sym, ap, ap₂, subst, arith, ◌∙◌, append_assoc, length-append}
+use Rattle.std.proofs.lemmas.List.{append-nil, take_all, take_more}
+use Rattle.std.proofs.lemmas.List.Elements.{All-more}
+use Rattle.std.proofs.lemmas.Bool.Decides.{Decides-eqb}
+use Rattle.std.proofs.lemmas.Map.Text.{is_eq-slice_cmp}
+use Rattle.std.proofs.lemmas.Option.{same_Some, slice_get_within}
+use Rattle.std.proofs.lemmas.Slice.Eq.{bytes_eq-Decides}
+use Rattle.trs_defs.specs.Tree.{Tree, Trees, var, app}
+use Rattle.trs_defs.specs.System.{RewriteRule, System, IsSystem, has_root}
+use Rattle.trs_defs.proofs.ListItems.{last_item, item_there}
+use Rattle.trs_defs.proofs.Members.{in_of_get, get_of_in}
+use Rattle.trs_core.specs.declared.terms.Term.{Term}
+use Rattle.trs_core.specs.View.{tree, forest}
+use Rattle.term_pool.specs.Roots.{with_root}
+use Rattle.term_pool.proofs.NumberLaws.{each_number}
+use Rattle.trs_caps.specs.HoledTree.{HoledTree, HoledTrees, hole, symbol, more}
+use Rattle.trs_caps.specs.HoledCap.{IsHoledCap, AreHoledCaps, MeetsLeft, MeetsSome, HasRoot, free_variable, no_holed}
+use Rattle.trs_caps.specs.KnownCaps.{IsWhole}
+use Rattle.trs_caps.specs.View.{holed, holed_all}
+use Rattle.trs_caps.specs.declared.holed.Cap.{Cap}
+use Rattle.trs_caps.proofs.CapSteps.{next_cap, kept_symbol, opened_symbol}
+use Rattle.trs_caps.proofs.MetRules.{root_of_met}
+use Rattle.pair_theory.specs.Marked.{Marked, marked, plain}
+use Rattle.pair_theory.specs.DependencyPair.{subterms, subterms_of_all}
+use Rattle.dp_graph.specs.GraphNodes.{IsEndOf}
+use Rattle.dp_graph.specs.SameLefts.{HaveSameLefts}
+use Rattle.dp_graph.specs.FlagRows.{IsSet, HasFlags, KeepFlags, IsRow, LooksAtLeft}
+use Rattle.dp_graph.specs.CapRows.{Key, key_cmp, HaveNumbers, no_numbers, one_number, HasKey, AreCaps, KeepNumbers, AreMore, IsNumbered, AddsCap, AreEnds, no_ends, at_variable, not_defined, one_end, IsEnd, AddsEnds, IsCapped, Begins, with_end}
+use Rattle.dp_graph.specs.declared.cap_rows.CapRows.{CapRows}
+use Rattle.dp_graph.specs.declared.cap_rows.End.{End}
+use Rattle.dp_graph.specs.declared.cap_rows.NumberedCap.{NumberedCap}
+use Rattle.dp_graph.proofs.ListPlaces.{last_or_there, still_there, length_set}
+
+-- ---- the row of a cap
+
+-- the rules of these numbers were looked at
+pub record RowSoFar (rules : List RewriteRule) (lefts : List ℕ) (c : HoledTree) (ks : List ℕ) (row : List Bool) : Type 0 where
+  pub met : (k : ℕ) → IsSet row k → (rule : RewriteRule) × (slice_get rules k ≡ Some rule) × MeetsLeft c rule.left
+  pub looked : All (λ k. (rule : RewriteRule) → slice_get rules k ≡ Some rule → slice_get lefts k ≡ Some k → MeetsLeft c rule.left → IsSet row k) ks
+  pub some : 0 < length row → (k : ℕ) × IsSet row k
+
+pub no_flags : (rules : List RewriteRule) (lefts : List ℕ) (c : HoledTree) (ks : List ℕ) (row : List Bool) → row ≡ [] → RowSoFar rules lefts c (take 0 ks) row
+no_flags rules lefts c ks row empty = record {
+  met = λ k set. absurd (let d : None ≡ Some true = subst (λ z. slice_get z k ≡ Some true) empty set in cc);
+  looked = λ i d lt. absurd (omega (arith, lt));
+  some = λ lt. absurd (let e = ap length empty in omega (arith, lt, e));
+}
+
+module _ (rules : List RewriteRule) (lefts : List ℕ) (c : HoledTree) where
+  pub one_more_flag : (ks : List ℕ) (i : ℕ) (rule : RewriteRule) (old new : List Bool) → i < length ks → slice_get rules (slice_index ks i) ≡ Some rule
+      → LooksAtLeft lefts c rule.left (slice_index ks i) old new → RowSoFar rules lefts c (take i ks) old → RowSoFar rules lefts c (take (i + 1) ks) new
+  one_more_flag ks i rule old new lt there looks so_far = record {
+    met = λ k set. elim (looks.only k set) [
+      | inl e ↦ so_far.met k e
+      | inr e ↦ (rule, subst (λ z. slice_get rules z ≡ Some rule) (sym e.0) there, e.1)
+    ];
+    looked = All-more (λ k. (q : RewriteRule) → slice_get rules k ≡ Some q → slice_get lefts k ≡ Some k → MeetsLeft c q.left → IsSet new k) ks i 0 lt
+        (λ n d within q at noted meets. looks.kept _ (so_far.looked n d within q at noted meets))
+        (λ q at noted meets. looks.met noted (subst (λ (z : RewriteRule). MeetsLeft c z.left) (same_Some q rule (sym at ∙ there)) meets));
+    some = λ long. elim looks.some [
+      | inl e ↦ (let (k, set) = so_far.some (subst (λ z. 0 < length z) e long) in (k, looks.kept k set))
+      | inr e ↦ (slice_index ks i, e)
+    ];
+  }
+
+  pub all_flags : (system : System) (f : ℕ) (ks : List ℕ) (i : ℕ) (row : List Bool) → system.rules ≡ rules → IsSystem system → HaveSameLefts rules lefts → HasRoot f c → ks ≡ with_root f rules → length ks ≤ i
+      → RowSoFar rules lefts c (take i ks) row → IsRow rules lefts c row
+  all_flags system f ks i row is valid same root all past so_far = record {
+    met = so_far.met;
+    all = λ k j rule there at meets.
+        let (q, found, left) = same.each k j rule at there in
+        let also : MeetsLeft c q.left = subst (MeetsLeft c) (sym left) meets in
+        let proper = (valid.each j q (subst (λ z. slice_get z j ≡ Some q) (sym is) found)).left_no_variable in
+        let rooted : IsTrue (has_root f q.left) = root_of_met f c q.left root proper also in
+        let looked = subst (All (λ n. (r : RewriteRule) → slice_get rules n ≡ Some r → slice_get lefts n ≡ Some n → MeetsLeft c r.left → IsSet row n)) (take_all i ks past ∙ all) so_far.looked in
+        each_number (λ (r : RewriteRule). has_root f r.left) (λ n. (r : RewriteRule) → slice_get rules n ≡ Some r → slice_get lefts n ≡ Some n → MeetsLeft c r.left → IsSet row n) q rooted j 0 rules looked j found (omega arith) q found (same.noted k j at) also;
+    some = so_far.some;
+  }
+
+  -- whether the cap meets a left side
+  pub met_some : (flags : List Bool) → HaveSameLefts rules lefts → IsRow rules lefts c flags → (b : Bool) → IsTrue b ↔ (flags ≡ []) → MeetsSome c rules (not b)
+  met_some [] same is true e = λ l r there meets.
+      let (k, at) = get_of_in there in
+      let count = same.count in
+      let j = item_there lefts k (let w = slice_get_within rules k (record { left = l; right = r }) at in omega (arith, w, count)) in
+      let set : IsSet [] j.0 = is.all k j.0 (record { left = l; right = r }) at j.1 meets in
+      absurd cc
+  met_some [] same is false e = absurd (let d = e.1 refl in cc)
+  met_some (b ∷ flags) same is true e = absurd (let d = e.0 refl in cc)
+  met_some (b ∷ flags) same is false e =
+      let (k, set) = is.some (omega arith) in
+      let (rule, at, meets) = is.met k set in
+      (rule.left, rule.right, in_of_get rules k rule at, meets)
+
+pub nothing_looked : (lefts : List ℕ) (c : HoledTree) (l : Tree) (k : ℕ) (row : List Bool) → (slice_get lefts k ≡ Some k → MeetsLeft c l → ⊥) → LooksAtLeft lefts c l k row row
+nothing_looked lefts c l k row unmet = record { kept = λ j h. h; met = λ noted meets. absurd (unmet noted meets); only = λ j h. inl h; some = inl refl }
+
+pub one_looked : (lefts : List ℕ) (c : HoledTree) (l : Tree) (k : ℕ) (old new : List Bool) → MeetsLeft c l → ((j : ℕ) → IsSet new j ↔ (IsSet old j ⊎ (j ≡ k))) → LooksAtLeft lefts c l k old new
+one_looked lefts c l k old new meets sets = record {
+  kept = λ j h. (sets j).1 (inl h);
+  met = λ noted also. (sets k).1 (inr refl);
+  only = λ j h. elim ((sets j).0 h) [ inl e ↦ inl e | inr e ↦ inr (e, meets) ];
+  some = inr ((sets k).1 (inr refl));
+}
+
+-- ---- numbers and keys
+
+still_numbered : {old new : List HoledTree} {cs : HoledTrees} {ns : List ℕ} → KeepNumbers old new → HaveNumbers old cs ns → HaveNumbers new cs ns
+still_numbered keeps no_numbers = no_numbers
+still_numbered keeps (one_number {c = c} {n = n} at rest) = one_number (keeps n c at) (still_numbered keeps rest)
+
+pub still_key : (old new : List HoledTree) (c : HoledTree) (key : List ℕ) → KeepNumbers old new → HasKey old c key → HasKey new c key
+still_key old new c key keeps has = record { root = has.root; parts = has.parts; numbers = has.numbers; cap = has.cap; key_is = has.key_is; numbered = still_numbered keeps has.numbered }
+
+same_parts : {all : List HoledTree} {cs ds : HoledTrees} {ns : List ℕ} → HaveNumbers all cs ns → HaveNumbers all ds ns → cs ≡ ds
+same_parts no_numbers no_numbers = refl
+same_parts (one_number {c = c} at rest) (one_number {c = d} there others) = ap₂ more (same_Some c d (sym at ∙ there)) (same_parts rest others)
+
+-- only equal caps have one key
+pub same_key : (all : List HoledTree) (c d : HoledTree) (key : List ℕ) → HasKey all c key → HasKey all d key → c ≡ d
+same_key all c d key has also =
+    let whole : has.root ∷ has.numbers ≡ also.root ∷ also.numbers = sym has.key_is ∙ also.key_is in
+    let root : has.root ≡ also.root = cc in
+    let numbers : has.numbers ≡ also.numbers = cc in
+    has.cap ∙ (ap₂ symbol root (same_parts (subst (HaveNumbers all has.parts) numbers has.numbered) also.numbered) ∙ sym also.cap)
+
+last_numbered : (all : List HoledTree) (items : List Cap) (cap : Cap) (ns : List ℕ) (n : ℕ) → HaveNumbers all (holed_all items) ns → slice_get all n ≡ Some (holed cap)
+    → HaveNumbers all (holed_all (items ++ cap ∷ [])) (ns ++ n ∷ [])
+last_numbered all [] cap ns n no_numbers at = one_number at no_numbers
+last_numbered all (i ∷ items) cap ns n (one_number {ns = ms} there rest) at = one_number there (last_numbered all items cap ms n rest at)
+
+-- ---- ends
+
+-- the symbol of a side over the caps of its arguments
+whole_end : (rules : List RewriteRule) (side : Marked) (c : HoledTree) → IsWhole rules false (plain side) c → IsEndOf rules side c
+whole_end rules side c whole =
+    let is : app side.symbol side.args ≡ app whole.root whole.args = whole.term in
+    let root : side.symbol ≡ whole.root = cc in
+    let args : side.args ≡ whole.args = cc in
+    (whole.caps, subst (λ z. AreHoledCaps rules false z whole.caps) (sym args) whole.each, whole.cap ∙ ap (λ f. symbol f whole.caps) (sym root))
+
+still_end : {rules : List RewriteRule} {old new : List HoledTree} {side : Marked} {end : End} → KeepNumbers old new → IsEnd rules old side end → IsEnd rules new side end
+still_end {end = end} keeps is = record { root = is.root; cap = is.cap; numbered = keeps end.cap is.cap is.numbered; is = is.is }
+
+pub still_ended : {rules : List RewriteRule} {old new : List HoledTree} {ts : List Tree} {ends : List End} → KeepNumbers old new → AreEnds rules old ts ends → AreEnds rules new ts ends
+still_ended keeps no_ends = no_ends
+still_ended keeps (at_variable rest) = at_variable (still_ended keeps rest)
+still_ended keeps (not_defined unknown rest) = not_defined unknown (still_ended keeps rest)
+still_ended keeps (one_end known is rest) = one_end known (still_end keeps is) (still_ended keeps rest)
+
+both_ended : {rules : List RewriteRule} {all : List HoledTree} {ts us : List Tree} {ends others : List End} → AreEnds rules all ts ends → AreEnds rules all us others → AreEnds rules all (ts ++ us) (ends ++ others)
+both_ended no_ends also = also
+both_ended (at_variable rest) also = at_variable (both_ended rest also)
+both_ended (not_defined unknown rest) also = not_defined unknown (both_ended rest also)
+both_ended (one_end known is rest) also = one_end known is (both_ended rest also)
+
+subterms_more : (ts : List Term) (t : Term) → subterms_of_all (forest (ts ++ t ∷ [])) ≡ subterms_of_all (forest ts) ++ subterms (tree t)
+subterms_more [] t = append-nil (subterms (tree t))
+subterms_more (u ∷ ts) t = ap (λ z. subterms (tree u) ++ z) (subterms_more ts t) ∙ sym (append_assoc (subterms (tree u)) (subterms_of_all (forest ts)) (subterms (tree t)))
+
+set_between : {A : Type 0} (xs ys : List A) (x y : A) → slice_set (xs ++ x ∷ ys) (length xs) y ≡ xs ++ y ∷ ys
+set_between [] ys x y = refl
+set_between (z ∷ xs) ys x y = ap (λ l. z ∷ l) (set_between xs ys x y)
+
+-- the place that is kept stays within
+pub begun_within : (rules : List RewriteRule) (f n : ℕ) (old new : List End) (place : Option ℕ) → Begins rules f old new place → length new ≤ n → IfSome place (λ k. k < n)
+begun_within rules f n old new None begins long = tt
+begun_within rules f n old new (Some k) (known, last, pushed) long =
+    let c = ap length pushed in
+    let d = length-append old (record { symbol = f; cap = 0 } ∷ []) in
+    omega (arith, c, d, last, long)
+
+pub begun_longer : (rules : List RewriteRule) (f : ℕ) (old new : List End) (place : Option ℕ) → Begins rules f old new place → length old ≤ length new
+begun_longer rules f old new None (unknown, same) = let c = ap length same in omega (arith, c)
+begun_longer rules f old new (Some k) (known, last, pushed) =
+    let c = ap length pushed in
+    let d = length-append old (record { symbol = f; cap = 0 } ∷ []) in
+    omega (arith, c, d)
+
+pub with_end_long : (place : Option ℕ) (f n : ℕ) (ends : List End) → length (with_end place f n ends) ≡ length ends
+with_end_long None f n ends = refl
+with_end_long (Some k) f n ends = length_set ends k (record { symbol = f; cap = n })
+
+-- ---- caps that are added
+
+pub hole_alone : (rules : List RewriteRule) (lefts : List ℕ) (table : CapRows) (n : ℕ) → table.caps.items ≡ n ∷ [] → table.seen.entries ≡ []
+    → AreCaps rules lefts table (hole ∷ [])
+hole_alone rules lefts table n one seen = record {
+  count = ap length one;
+  hole_first = refl;
+  rows = λ m r f cs at there. absurd (not_hole m f cs at);
+  seen = λ key m at. absurd (let d : None ≡ Some m = sym (ap (λ es. lookup (is_at (key_cmp key)) es) seen) ∙ at in cc);
+}
+  where
+    not_hole : (m f : ℕ) (cs : HoledTrees) → slice_get (hole ∷ []) m ≡ Some (symbol f cs) → ⊥
+    not_hole m f cs at = elim (last_or_there [] hole (symbol f cs) m at) [ inl e ↦ cc | inr e ↦ (let d = e.1 in cc) ]
+
+module _ (rules : List RewriteRule) (lefts : List ℕ) where
+  pub cap_added : (old new : CapRows) (all : List HoledTree) (c : HoledTree) (key : Key) (flags : List Bool) (n : ℕ) → AreCaps rules lefts old all → HasKey all c key.items → IsRow rules lefts c flags
+      → AddsCap key flags n old new → AreMore rules lefts new all (λ grown. slice_get grown n ≡ Some c)
+  cap_added old new all c key flags n are has is adds = (all ++ c ∷ [], keeps, made, here)
+    where
+      keeps : KeepNumbers all (all ++ c ∷ [])
+      keeps m d at = still_there all (c ∷ []) m d at
+
+      place : n ≡ length all
+      place = adds.last ∙ are.count
+
+      here : slice_get (all ++ c ∷ []) n ≡ Some c
+      here = subst (λ z. slice_get (all ++ c ∷ []) z ≡ Some c) (sym place) (last_item all c [])
+
+      row_of : (m r f : ℕ) (cs : HoledTrees) → slice_get (all ++ c ∷ []) m ≡ Some (symbol f cs) → slice_get new.caps.items m ≡ Some r
+          → (flags : List Bool) × HasFlags new.rows.rows.items r flags × IsRow rules lefts (symbol f cs) flags
+      row_of m r f cs at there =
+          elim (last_or_there all c (symbol f cs) m at) [
+            | inl e ↦ elim (last_or_there old.caps.items adds.row r m (subst (λ z. slice_get z m ≡ Some r) adds.caps there)) [
+              | inl d ↦ (let (others, have, also) = are.rows m r f cs e d in (others, adds.kept r others have, also))
+              | inr d ↦ absurd (let w = slice_get_within all m (symbol f cs) e in let h = d.0 in omega (arith, w, h, are.count))
+            ]
+            | inr e ↦ elim (last_or_there old.caps.items adds.row r m (subst (λ z. slice_get z m ≡ Some r) adds.caps there)) [
+              | inl d ↦ absurd (let w = slice_get_within old.caps.items m r d in let h = e.0 in omega (arith, w, h, are.count))
+              | inr d ↦ (flags, subst (λ z. HasFlags new.rows.rows.items z flags) d.1 adds.here, subst (λ z. IsRow rules lefts z flags) e.1 is)
+            ]
+          ]
+
+      seen_of : (k : Key) (m : ℕ) (b : Bool) → is_at (key_cmp key) k ≡ b → get key_cmp new.seen k ≡ Some m → (d : HoledTree) × (slice_get (all ++ c ∷ []) m ≡ Some d) × HasKey (all ++ c ∷ []) d k.items
+      seen_of k m true e at =
+          let same : key.items ≡ k.items = (bytes_eq-Decides key.items k.items).0 (sym (is_eq-slice_cmp key.items k.items) ∙ e) in
+          let found : get key_cmp new.seen k ≡ Some n = adds.seen.0 k ∙ ap (λ b. cond b (Some n) (get key_cmp old.seen k)) e in
+          let number : n ≡ m = same_Some n m (sym found ∙ at) in
+          (c, subst (λ z. slice_get (all ++ c ∷ []) z ≡ Some c) number here, subst (HasKey (all ++ c ∷ []) c) same (still_key all (all ++ c ∷ []) c key.items keeps has))
+      seen_of k m false e at =
+          let there : get key_cmp new.seen k ≡ get key_cmp old.seen k = adds.seen.0 k ∙ ap (λ b. cond b (Some n) (get key_cmp old.seen k)) e in
+          let (d, numbered, also) = are.seen k m (sym there ∙ at) in
+          (d, keeps m d numbered, still_key all (all ++ c ∷ []) d k.items keeps also)
+
+      made : AreCaps rules lefts new (all ++ c ∷ [])
+      made = record {
+        count = ap length adds.caps ∙ (length-append old.caps.items (adds.row ∷ []) ∙ (ap (λ z. z + 1) are.count ∙ sym (length-append all (c ∷ []))));
+        hole_first = keeps 0 hole are.hole_first;
+        rows = row_of;
+        seen = λ k m at. seen_of k m (is_at (key_cmp key) k) refl at;
+      }
+
+  -- a cap whose key was seen
+  pub cap_seen : (table : CapRows) (all : List HoledTree) (c : HoledTree) (key : Key) (n : ℕ) → AreCaps rules lefts table all → HasKey all c key.items → Some n ≡ get key_cmp table.seen key
+      → AreMore rules lefts table all (λ grown. slice_get grown n ≡ Some c)
+  cap_seen table all c key n are has at =
+      let (d, numbered, also) = are.seen key n (sym at) in
+      (all, λ m e h. h, are, subst (λ z. slice_get all n ≡ Some z) (same_key all d c key.items also has) numbered)
+
+  -- ---- the cap of a term
+
+  -- the cap that stays of a symbol over the caps of its arguments
+  pub closed_cap : (table : CapRows) (all : List HoledTree) (t : Tree) (f : ℕ) (cs : HoledTrees) (n : ℕ) (b : Bool) → HaveSameLefts rules lefts → AreCaps rules lefts table all → IsWhole rules false t (symbol f cs)
+      → slice_get all n ≡ Some (symbol f cs)
+      → ((r : ℕ) (flags : List Bool) → slice_get table.caps.items n ≡ Some r → HasFlags table.rows.rows.items r flags → IsTrue b ↔ (flags ≡ [])) → MeetsSome (symbol f cs) rules (not b)
+  closed_cap table all t f cs n b same are whole at says =
+      let r = item_there table.caps.items n (let w = slice_get_within all n (symbol f cs) at in omega (arith, w, are.count)) in
+      let (flags, has, row) = are.rows n r.0 f cs at r.1 in
+      met_some rules lefts (symbol f cs) flags same row b (says r.0 flags r.1 has)
+
+  pub kept_cap : (all : List HoledTree) (t : Tree) (found : NumberedCap) (f : ℕ) (cs : HoledTrees) → IsWhole rules false t (symbol f cs) → MeetsSome (symbol f cs) rules false → slice_get all found.number ≡ Some (symbol f cs)
+      → holed found.cap ≡ symbol f cs → found.whole ≡ found.number → IsNumbered rules t found all
+  kept_cap all t found f cs whole free at is same = record {
+    cap = subst (IsHoledCap rules false t) (sym is) (kept_symbol rules false t (symbol f cs) whole free);
+    number = subst (λ z. slice_get all found.number ≡ Some z) (sym is) at;
+    whole = λ g ts e. (symbol f cs, subst (λ z. slice_get all z ≡ Some (symbol f cs)) (sym same) at, whole);
+  }
+
+  pub opened_cap : (all : List HoledTree) (t : Tree) (found : NumberedCap) (f : ℕ) (cs : HoledTrees) → IsWhole rules false t (symbol f cs) → MeetsSome (symbol f cs) rules true → slice_get all 0 ≡ Some hole
+      → slice_get all found.whole ≡ Some (symbol f cs) → holed found.cap ≡ hole → found.number ≡ 0 → IsNumbered rules t found all
+  opened_cap all t found f cs whole meets first at is none = record {
+    cap = subst (IsHoledCap rules false t) (sym is) (opened_symbol rules false t (symbol f cs) whole meets);
+    number = subst (λ z. slice_get all found.number ≡ Some z) (sym is) (subst (λ z. slice_get all z ≡ Some hole) (sym none) first);
+    whole = λ g ts e. (symbol f cs, at, whole);
+  }
+
+  -- the caps of the first arguments, and the ends in them
+  pub record CapsSoFar (table : CapRows) (old : List HoledTree) (f : ℕ) (ts : Trees) (cs : HoledTrees) (key : List ℕ) (begun ends : List End) : Type 0 where
+    pub all : List HoledTree
+    pub keeps : KeepNumbers old all
+    pub are : AreCaps rules lefts table all
+    pub each : AreHoledCaps rules false ts cs
+    pub numbers : List ℕ
+    pub key_is : key ≡ f ∷ numbers
+    pub numbered : HaveNumbers all cs numbers
+    pub added : List End
+    pub grown : ends ≡ begun ++ added
+    pub ended : AreEnds rules all (subterms_of_all ts) added
+
+  pub no_parts : (table : CapRows) (all : List HoledTree) (f : ℕ) (args : List Term) (items : List Cap) (start key : List ℕ) (begun : List End) → AreCaps rules lefts table all → items ≡ [] → start ≡ [] → key ≡ start ++ f ∷ []
+      → CapsSoFar table all f (forest (take 0 args)) (holed_all items) key begun begun
+  no_parts table all f args items start key begun are empty none pushed = record {
+    all = all;
+    keeps = λ n c h. h;
+    are = are;
+    each = subst (λ z. AreHoledCaps rules false (forest (take 0 args)) (holed_all z)) (sym empty) no_holed;
+    numbers = [];
+    key_is = pushed ∙ ap (λ z. z ++ f ∷ []) none;
+    numbered = subst (λ z. HaveNumbers all (holed_all z) []) (sym empty) no_numbers;
+    added = [];
+    grown = sym (append-nil begun);
+    ended = no_ends;
+  }
+
+  pub one_more_part : (old new : CapRows) (first : List HoledTree) (f : ℕ) (args : List Term) (items items2 : List Cap) (key key2 : List ℕ) (begun ends ends2 : List End) (k : ℕ) (arg : Term) (found : NumberedCap)
+      → k < length args → arg ≡ get_or args k arg → items2 ≡ items ++ found.cap ∷ [] → key2 ≡ key ++ found.number ∷ [] → (so_far : CapsSoFar old first f (forest (take k args)) (holed_all items) key begun ends)
+      → AreMore rules lefts new so_far.all (IsCapped rules (tree arg) found ends ends2) → CapsSoFar new first f (forest (take (k + 1) args)) (holed_all items2) key2 begun ends2
+  one_more_part old new first f args items items2 key key2 begun ends ends2 k arg found lt is pushed written so_far (all, keeps, are, capped) =
+      let (more_ends, ends_grown, ended) = capped.ends in
+      let numbered = capped.numbered in
+      let taken : take (k + 1) args ≡ take k args ++ arg ∷ [] = take_more args k arg lt ∙ ap (λ z. take k args ++ z ∷ []) (sym is) in
+      let below : subterms_of_all (forest (take (k + 1) args)) ≡ subterms_of_all (forest (take k args)) ++ subterms (tree arg) = ap (λ z. subterms_of_all (forest z)) taken ∙ subterms_more (take k args) arg in
+      record {
+        all = all;
+        keeps = λ n c h. keeps n c (so_far.keeps n c h);
+        are = are;
+        each = next_cap rules false args items items2 k arg found.cap lt is pushed so_far.each numbered.cap;
+        numbers = so_far.numbers ++ found.number ∷ [];
+        key_is = written ∙ ap (λ z. z ++ found.number ∷ []) so_far.key_is;
+        numbered = subst (λ z. HaveNumbers all (holed_all z) (so_far.numbers ++ found.number ∷ [])) (sym pushed)
+            (last_numbered all items found.cap so_far.numbers found.number (still_numbered keeps so_far.numbered) numbered.number);
+        added = so_far.added ++ more_ends;
+        grown = ends_grown ∙ (ap (λ z. z ++ more_ends) so_far.grown ∙ append_assoc begun so_far.added more_ends);
+        ended = subst (λ z. AreEnds rules all z (so_far.added ++ more_ends)) (sym below) (both_ended (still_ended keeps so_far.ended) ended);
+      }
+
+  pub parts_key : (table : CapRows) (first : List HoledTree) (f : ℕ) (ts : Trees) (cs : HoledTrees) (key : List ℕ) (begun ends : List End) → (so_far : CapsSoFar table first f ts cs key begun ends) → HasKey so_far.all (symbol f cs) key
+  parts_key table first f ts cs key begun ends so_far = record { root = f; parts = cs; numbers = so_far.numbers; cap = refl; key_is = so_far.key_is; numbered = so_far.numbered }
+
+  -- the symbol over all arguments
+  pub whole_capped : (old new : CapRows) (first : List HoledTree) (t : Tree) (f : ℕ) (args : List Term) (k : ℕ) (cs : HoledTrees) (key : List ℕ) (start begun ends : List End) (place : Option ℕ) (found : NumberedCap)
+      → t ≡ app f (forest args) → length args ≤ k → Begins rules f start begun place → (so_far : CapsSoFar old first f (forest (take k args)) cs key begun ends) → AreMore rules lefts new so_far.all (IsNumbered rules t found)
+      → AreMore rules lefts new first (IsCapped rules t found start (with_end place f found.whole ends))
+  whole_capped old new first t f args k cs key start begun ends place found is past begins so_far (all, keeps, are, numbered) =
+      (all, (λ n c h. keeps n c (so_far.keeps n c h)), are, record { numbered = numbered; ends = subst (λ z. AddsEnds rules z start (with_end place f found.whole ends) all) (sym is) (ended place begins) })
+    where
+      end : End
+      end = record { symbol = f; cap = found.whole }
+
+      is_end : IsEnd rules all (marked f (forest args)) end
+      is_end =
+          let (c, at, whole) = numbered.whole f (forest args) is in
+          record { root = refl; cap = c; numbered = at; is = whole_end rules (marked f (forest args)) c (subst (λ z. IsWhole rules false z c) is whole) }
+
+      rest : AreEnds rules all (subterms_of_all (forest args)) so_far.added
+      rest = subst (λ z. AreEnds rules all (subterms_of_all (forest z)) so_far.added) (take_all k args past) (still_ended keeps so_far.ended)
+
+      ended : (p : Option ℕ) → Begins rules f start begun p → AddsEnds rules (app f (forest args)) start (with_end p f found.whole ends) all
+      ended None (unknown, same) = (so_far.added, so_far.grown ∙ ap (λ z. z ++ so_far.added) same, not_defined unknown rest)
+      ended (Some k) (known, last, pushed) =
+          let kept : End = record { symbol = f; cap = 0 } in
+          let whole : ends ≡ start ++ kept ∷ so_far.added = so_far.grown ∙ (ap (λ z. z ++ so_far.added) pushed ∙ append_assoc start (kept ∷ []) so_far.added) in
+          (end ∷ so_far.added, ap₂ (λ z n. slice_set z n end) whole last ∙ set_between start so_far.added kept end, one_end known is_end rest)
+
+  -- a variable has a hole
+  pub variable_numbered : (table : CapRows) (all : List HoledTree) (t : Tree) (v : ℕ) (found : NumberedCap) (ends : List End) → AreCaps rules lefts table all → t ≡ var v → holed found.cap ≡ hole → found.number ≡ 0
+      → AreMore rules lefts table all (IsCapped rules t found ends ends)
+  variable_numbered table all t v found ends are is free none = (all, (λ n c h. h), are, record { numbered = numbered; ends = ([], sym (append-nil ends), subst (λ z. AreEnds rules all (subterms z) []) (sym is) (at_variable no_ends)) })
+    where
+      numbered : IsNumbered rules t found all
+      numbered = record {
+        cap = subst (λ z. IsHoledCap rules false z (holed found.cap)) (sym is) (subst (IsHoledCap rules false (var v)) (sym free) (free_variable refl));
+        number = subst (λ z. slice_get all found.number ≡ Some z) (sym free) (subst (λ z. slice_get all z ≡ Some hole) (sym none) are.hole_first);
+        whole = λ f ts e. absurd (let d : var v ≡ app f ts = sym is ∙ e in cc);
+      }
+
+  pub kept_after : (new : CapRows) (first : List HoledTree) (t : Tree) (f : ℕ) (cs : HoledTrees) (n : ℕ) (b : Bool) (found : NumberedCap) → HaveSameLefts rules lefts
+      → IsWhole rules false t (symbol f cs) → AreMore rules lefts new first (λ grown. slice_get grown n ≡ Some (symbol f cs))
+      → ((r : ℕ) (flags : List Bool) → slice_get new.caps.items n ≡ Some r → HasFlags new.rows.rows.items r flags → IsTrue b ↔ (flags ≡ [])) → b ≡ true
+      → holed found.cap ≡ symbol f cs → found.number ≡ n → found.whole ≡ n → AreMore rules lefts new first (IsNumbered rules t found)
+  kept_after new first t f cs n b found same whole (all, keeps, are, at) says on cap number of_whole =
+      let free : MeetsSome (symbol f cs) rules false = subst (λ z. MeetsSome (symbol f cs) rules (not z)) on (closed_cap new all t f cs n b same are whole at says) in
+      (all, keeps, are, kept_cap all t found f cs whole free (subst (λ z. slice_get all z ≡ Some (symbol f cs)) (sym number) at) cap (of_whole ∙ sym number))
+
+  pub opened_after : (new : CapRows) (first : List HoledTree) (t : Tree) (f : ℕ) (cs : HoledTrees) (n : ℕ) (b : Bool) (found : NumberedCap) → HaveSameLefts rules lefts
+      → IsWhole rules false t (symbol f cs) → AreMore rules lefts new first (λ grown. slice_get grown n ≡ Some (symbol f cs))
+      → ((r : ℕ) (flags : List Bool) → slice_get new.caps.items n ≡ Some r → HasFlags new.rows.rows.items r flags → IsTrue b ↔ (flags ≡ [])) → b ≡ false
+      → holed found.cap ≡ hole → found.number ≡ 0 → found.whole ≡ n → AreMore rules lefts new first (IsNumbered rules t found)
+  opened_after new first t f cs n b found same whole (all, keeps, are, at) says off cap number of_whole =
+      let meets : MeetsSome (symbol f cs) rules true = subst (λ z. MeetsSome (symbol f cs) rules (not z)) off (closed_cap new all t f cs n b same are whole at says) in
+      (all, keeps, are, opened_cap all t found f cs whole meets are.hole_first (subst (λ z. slice_get all z ≡ Some (symbol f cs)) (sym of_whole) at) cap number)
+
+  pub cap_made : {E : Type 0} (old new : CapRows) (all : List HoledTree) (c : HoledTree) (key : Key) (flags : List Bool) (result : Result ℕ E) → AreCaps rules lefts old all → HasKey all c key.items → IsRow rules lefts c flags
+      → IfOk result (λ n. AddsCap key flags n old new) → IfOk result (λ n. AreMore rules lefts new all (λ grown. slice_get grown n ≡ Some c))
+  cap_made old new all c key flags (Ok n) are has is adds = cap_added old new all c key flags n are has is adds
+  cap_made old new all c key flags (Err e) are has is adds = adds
+
+pub cap_keeps : {E : Type 0} (key : Key) (flags : List Bool) (old new : CapRows) (result : Result ℕ E) → IfOk result (λ n. AddsCap key flags n old new) → OnOk result (KeepFlags old.rows.rows.items new.rows.rows.items)
+cap_keeps key flags old new (Ok n) adds = adds.kept
+cap_keeps key flags old new (Err e) adds = adds
+
+pub row_says : (caps : List ℕ) (n row r : ℕ) (rows : List (Vec Bool Global)) (flags : List Bool) (b : Bool) → slice_get caps n ≡ Some row → slice_get caps n ≡ Some r → HasFlags rows r flags
+    → ((others : List Bool) → HasFlags rows row others → IsTrue b ↔ (others ≡ [])) → IsTrue b ↔ (flags ≡ [])
+row_says caps n row r rows flags b at there has says = says flags (subst (λ z. HasFlags rows z flags) (same_Some r row (sym there ∙ at)) has)
+
+pub no_number : (caps : List ℕ) (n r : ℕ) → slice_get caps n ≡ None → slice_get caps n ≡ Some r → ⊥
+no_number caps n r none at = let d : None ≡ Some r = sym none ∙ at in cc
+
+-- whether a rule is noted for its left side
+pub noted_if : (lefts : List ℕ) (k first : ℕ) (b : Bool) → slice_get lefts k ≡ Some first → b ≡ (first == k) → IsTrue b ↔ (slice_get lefts k ≡ Some k)
+noted_if lefts k first b at is = (
+  λ e. at ∙ ap (λ z. Some z) ((Decides-eqb first k).0 (sym is ∙ e)),
+  λ h. is ∙ (Decides-eqb first k).1 (same_Some first k (sym at ∙ h)),
+)
+
+pub noted_not : (lefts : List ℕ) (k : ℕ) → slice_get lefts k ≡ None → IsTrue false ↔ (slice_get lefts k ≡ Some k)
+noted_not lefts k none = (λ e. absurd cc, λ h. let d : None ≡ Some k = sym none ∙ h in absurd cc)
+
+pub read_number : (caps : List ℕ) (n row r : ℕ) → slice_get caps n ≡ Some row → slice_get caps n ≡ Some r → row ≡ r
+read_number caps n row r at there = same_Some row r (sym at ∙ there)

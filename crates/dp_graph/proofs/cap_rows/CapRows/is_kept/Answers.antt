@@ -1,0 +1,12 @@
+use Rattle.dp_graph.proofs.NodeLists.{item_found, item_missing}
+use Rattle.dp_graph.proofs.CapRowLaws.{row_says, no_number}
+use Rattle.dp_graph.proofs.cap_rows.CapRows.is_kept.Goals as goal
+
+pub returns-in-Some : goal.returns-in-Some
+returns-in-Some c = λ r flags at has.
+    row_says c.args.self.now.caps.items c.args.n c.in-Some.row.now r c.args.self.now.rows.rows.items flags c.is_empty.result
+    (item_found c.args.self.now.caps.items c.args.n c.get.result c.in-Some.row (rw c.deref.ensures.value at c.get.ensures.lookup) c.in-Some.is) at has c.is_empty.ensures
+
+pub returns-in-None : goal.returns-in-None
+returns-in-None c = λ r flags at has.
+    absurd (no_number c.args.self.now.caps.items c.args.n r (item_missing c.args.self.now.caps.items c.args.n c.get.result (rw c.deref.ensures.value at c.get.ensures.lookup) c.in-None.is) at)

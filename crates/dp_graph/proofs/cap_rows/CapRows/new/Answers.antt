@@ -1,0 +1,7 @@
+use Rattle.std.proofs.Common.{ap, ◌∷◌, ◌++◌, [], ◌∙◌}
+use Rattle.dp_graph.proofs.CapRowLaws.{hole_alone}
+use Rattle.dp_graph.proofs.cap_rows.CapRows.new.Goals as goal
+
+pub returns : goal.returns
+returns c = λ rules lefts.
+    hole_alone rules lefts _ 0 (c.in_ok-push.ensures.items ∙ ap (λ z. z ++ 0 ∷ []) c.new-caps.ensures.items) c.new-2.ensures.empty

@@ -1,0 +1,277 @@
+//! Which left sides the caps of terms meet.
+ghost use Rattle.std.specs.Prelude.{ℕ, ◌≡◌, ◌≤◌, ◌<◌, ◌↔◌, ◌∷◌, Bool, false, List, [], Some, IfOk, IfSome, OnOk, IsTrue, length, slice_get};
+ghost use Rattle.trs_defs.specs.Tree.{Tree};
+ghost use Rattle.trs_defs.specs.System.{RewriteRule};
+ghost use Rattle.trs_core.specs.View.{tree};
+ghost use Rattle.trs_caps.specs.HoledCap.{HasRoot};
+ghost use Rattle.trs_caps.specs.HoledTree.{HoledTree, hole, symbol};
+ghost use Rattle.trs_caps.specs.KnownCaps.{IsWhole};
+ghost use Rattle.trs_caps.specs.View.{holed, holed_all};
+ghost use Rattle.dp_graph.specs.FlagRows.{HasFlags, KeepFlags, IsRow, LooksAtLeft};
+ghost use Rattle.dp_graph.specs.SameLefts.{HaveSameLefts};
+ghost use Rattle.dp_graph.specs.CapRows.{AreCaps, AreMore, IsNumbered, IsCapped, HasKey, AddsCap, Begins, with_end};
+
+use crate::flag_rows::{FlagRows, set};
+use crate::lists::kept;
+use std::alloc::Global;
+use std::collections::BTreeMap;
+use term_pool::RulesByRoot;
+use trs_caps::{Cap, Parts};
+use trs_core::{OutOfMemory, Rule, Term};
+
+/// Caps by their numbers. Equal ones have one number, and are put beside the left sides once. Number
+/// 0 is that of a hole.
+#[derive(Drop)]
+pub(crate) struct CapRows {
+    /// For each cap the number of the row of the left sides that it meets. That of a hole stands for
+    /// nothing.
+    caps: Vec<u32>,
+    pub(crate) rows: FlagRows,
+    /// The numbers of caps, by their symbols and the numbers of their parts.
+    seen: BTreeMap<Vec<u32>, u32>,
+}
+
+/// The cap of a term, with its number.
+#[derive(Drop)]
+pub(crate) struct NumberedCap {
+    cap: Cap,
+    number: u32,
+    /// The number of the term's symbol over the caps of its arguments, also where that is no cap of
+    /// the term since it meets a left side.
+    whole: u32,
+}
+
+/// The right side of a pair: its root without the mark, and the number of this root over the caps of
+/// the arguments.
+#[derive(Drop)]
+pub(crate) struct End {
+    pub(crate) symbol: u32,
+    pub(crate) cap: u32,
+}
+
+impl CapRows {
+    /// The hole alone.
+    pub(crate) fn new(alloc: Global) -> Result<CapRows, OutOfMemory>
+        ensures { IfOk result (λ caps. (rules : List RewriteRule) (lefts : List ℕ) →
+            AreCaps rules lefts caps (hole ∷ [])) }
+    {
+        let mut caps = Vec::new(alloc);
+        caps.push(0)?;
+        Ok(CapRows {
+            caps,
+            rows: FlagRows::new(alloc),
+            seen: BTreeMap::new(alloc),
+        })
+    }
+
+    /// The cap of a term, whose variables are not fixed. The subterms with a defined root are put
+    /// behind the ends, in preorder: so the caps in a right side are made once for all its pairs.
+    pub(crate) fn cap_of(
+        &mut self,
+        alloc: Global,
+        by_root: &RulesByRoot,
+        lefts: &[usize],
+        t: &Term,
+        ends: &mut Vec<End>,
+    ) -> Result<NumberedCap, OutOfMemory>
+        requires { HaveSameLefts by_root.now.rules lefts.now }
+        ensures cap { (all : List HoledTree) → AreCaps by_root.now.rules lefts.now self.old all
+            → IfOk result (λ found. AreMore by_root.now.rules lefts.now self.new all (IsCapped
+            by_root.now.rules (tree t.now) found ends.old.items ends.new.items)) }
+        ensures kept { OnOk result (KeepFlags self.old.rows.rows.items self.new.rows.rows.items) }
+        ensures longer { OnOk result (length ends.old.items ≤ length ends.new.items) }
+    {
+        match t {
+            Term::Var(_) => Ok(NumberedCap {
+                cap: Cap::Open,
+                number: 0,
+                whole: 0,
+            }),
+            Term::App(f, args) => {
+                let place = begin(by_root, *f, ends)?;
+                let mut parts = Vec::with_capacity(alloc, args.items.len())?;
+                let mut key = Vec::new(alloc);
+                key.push(*f)?;
+                for arg in &args.items {
+                    let part = self.cap_of(alloc, by_root, lefts, arg, ends)?;
+                    let NumberedCap { cap, number, .. } = part;
+                    parts.push(cap)?;
+                    key.push(number)?;
+                }
+                let found = self.close(alloc, by_root, lefts, *f, parts, key)?;
+                finish(place, *f, found.whole, ends);
+                Ok(found)
+            }
+        }
+    }
+
+    /// What stays of a symbol over the caps of its arguments: all of it, or a hole where it meets a
+    /// left side. It is not inlined, so that the recursion over a deep term has little on the stack
+    /// at each level.
+    #[inline(never)]
+    fn close(
+        &mut self,
+        alloc: Global,
+        by_root: &RulesByRoot,
+        lefts: &[usize],
+        f: u32,
+        parts: Vec<Cap>,
+        key: Vec<u32>,
+    ) -> Result<NumberedCap, OutOfMemory>
+        requires { HaveSameLefts by_root.now.rules lefts.now }
+        ensures cap { (all : List HoledTree) (t : Tree)
+            → AreCaps by_root.now.rules lefts.now self.old all
+            → IsWhole by_root.now.rules false t (symbol f (holed_all parts.items))
+            → HasKey all (symbol f (holed_all parts.items)) key.items
+            → IfOk result (λ found. AreMore by_root.now.rules lefts.now self.new all
+            (IsNumbered by_root.now.rules t found)) }
+        ensures kept { OnOk result (KeepFlags self.old.rows.rows.items self.new.rows.rows.items) }
+    {
+        let whole = Cap::Symbol(f, Parts { items: parts });
+        let number = self.number_of(alloc, by_root, lefts, f, &whole, key)?;
+        if self.is_kept(number) {
+            return Ok(NumberedCap {
+                cap: whole,
+                number,
+                whole: number,
+            });
+        }
+        Ok(NumberedCap {
+            cap: Cap::Open,
+            number: 0,
+            whole: number,
+        })
+    }
+
+    /// The number of a cap with this root and this key.
+    fn number_of(
+        &mut self,
+        alloc: Global,
+        by_root: &RulesByRoot,
+        lefts: &[usize],
+        f: u32,
+        cap: &Cap,
+        key: Vec<u32>,
+    ) -> Result<u32, OutOfMemory>
+        requires lefts { HaveSameLefts by_root.now.rules lefts.now }
+        requires root { HasRoot f (holed cap.now) }
+        ensures number { (all : List HoledTree) → AreCaps by_root.now.rules lefts.now self.old all
+            → HasKey all (holed cap.now) key.items
+            → IfOk result (λ n. AreMore by_root.now.rules lefts.now self.new all
+            (λ grown. slice_get grown n ≡ Some (holed cap.now))) }
+        ensures kept { OnOk result (KeepFlags self.old.rows.rows.items self.new.rows.rows.items) }
+    {
+        if let Some(number) = self.seen.get(&key) {
+            return Ok(*number);
+        }
+        let row = row_of(alloc, by_root, lefts, f, cap)?;
+        self.add(alloc, key, row)
+    }
+
+    /// Adds a cap with this key and this row.
+    fn add(&mut self, alloc: Global, key: Vec<u32>, row: Vec<bool>) -> Result<u32, OutOfMemory>
+        ensures { IfOk result (λ n. AddsCap key row.items n self.old self.new) }
+    {
+        let number = kept(self.caps.len())?;
+        let row = self.rows.number_of(alloc, row)?;
+        self.caps.push(row)?;
+        self.seen.insert(key, number)?;
+        Ok(number)
+    }
+
+    /// Whether a cap meets no left side.
+    fn is_kept(&self, n: u32) -> bool
+        ensures { (r : ℕ) (flags : List Bool) → slice_get self.now.caps.items n ≡ Some r
+            → HasFlags self.now.rows.rows.items r flags → IsTrue result ↔ (flags ≡ []) }
+    {
+        match self.caps.get(n as usize) {
+            Some(row) => self.rows.is_empty(*row),
+            None => false,
+        }
+    }
+
+    /// The number of the row of a cap.
+    pub(crate) fn row_number(&self, n: u32) -> u32
+        ensures { (r : ℕ) → slice_get self.now.caps.items n ≡ Some r → result ≡ r }
+    {
+        match self.caps.get(n as usize) {
+            Some(row) => *row,
+            None => 0,
+        }
+    }
+}
+
+/// Keeps a place for the end of a symbol, if that is defined.
+fn begin(by_root: &RulesByRoot, f: u32, ends: &mut Vec<End>) -> Result<Option<usize>, OutOfMemory>
+    ensures { IfOk result (Begins by_root.now.rules f ends.old.items ends.new.items) }
+{
+    if by_root.with_root(f).is_empty() {
+        return Ok(None);
+    }
+    let place = ends.len();
+    ends.push(End { symbol: f, cap: 0 })?;
+    Ok(Some(place))
+}
+
+/// Puts the number of a cap at the place that was kept for it.
+fn finish(place: Option<usize>, f: u32, cap: u32, ends: &mut Vec<End>)
+    requires { IfSome place (λ k. k < length ends.old.items) }
+    ensures { ends.new.items ≡ with_end place f cap ends.old.items }
+{
+    if let Some(k) = place {
+        ends[k] = End { symbol: f, cap };
+    }
+}
+
+/// The row of the left sides that a cap with this root meets. Each left side is looked at once.
+fn row_of(
+    alloc: Global,
+    by_root: &RulesByRoot,
+    lefts: &[usize],
+    f: u32,
+    cap: &Cap,
+) -> Result<Vec<bool>, OutOfMemory>
+    requires lefts { HaveSameLefts by_root.now.rules lefts.now }
+    requires root { HasRoot f (holed cap.now) }
+    ensures { IfOk result
+        (λ row. IsRow by_root.now.rules lefts.now (holed cap.now) row.items) }
+{
+    let rules = by_root.rules();
+    let mut row = Vec::new(alloc);
+    for k in by_root.with_root(f) {
+        let rule = &rules[*k as usize];
+        look_at(alloc, lefts, cap, rule, *k as usize, &mut row)?;
+    }
+    Ok(row)
+}
+
+/// Sets the flag of rule number `k`, if it is noted for its left side and the cap meets that.
+fn look_at(
+    alloc: Global,
+    lefts: &[usize],
+    cap: &Cap,
+    rule: &Rule,
+    k: usize,
+    row: &mut Vec<bool>,
+) -> Result<(), OutOfMemory>
+    ensures { OnOk result (LooksAtLeft lefts.now (holed cap.now) rule.now.left k
+        row.old.items row.new.items) }
+{
+    if !is_noted(lefts, k) {
+        return Ok(());
+    }
+    if cap.meets(alloc, &rule.left)? {
+        set(row, k)?;
+    }
+    Ok(())
+}
+
+/// Whether a rule is noted for its left side.
+fn is_noted(lefts: &[usize], k: usize) -> bool
+    ensures { IsTrue result ↔ (slice_get lefts.now k ≡ Some k) }
+{
+    match lefts.get(k) {
+        Some(first) => *first == k,
+        None => false,
+    }
+}
