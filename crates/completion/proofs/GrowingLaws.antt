@@ -5,14 +5,14 @@ use Rattle.std.specs.declared.alloc.Global.{Global}
 use Rattle.std.specs.Option.{option_map}
 use Rattle.std.proofs.lemmas.Bool.Decides.{eqb_tells}
 use Rattle.std.proofs.lemmas.List.{map-append}
-use Rattle.std.proofs.lemmas.List.Elements.{All-nil}
+use Rattle.std.proofs.lemmas.List.Elements.{All-nil, All-push, All-head}
 use Rattle.std.proofs.lemmas.Option.{slice_get-map, slice_get_past, slice_get_read, same_Some}
 use Rattle.trs_defs.specs.Tree.{Tree, Trees, var, app}
 use Rattle.trs_defs.specs.Size.{size_of}
 use Rattle.trs_defs.specs.System.{RewriteRule, System, IsRule, IsSystem, has_root}
 use Rattle.trs_defs.specs.Path.{StepsAt}
 use Rattle.trs_defs.proofs.ListItems.{item_of_more}
-use Rattle.trs_core.specs.SystemLimits.{AreBytes, IsShallow, IsWithinLimits, nodes_of}
+use Rattle.trs_core.specs.SystemLimits.{AreBytes, HasSmallVariables, HaveSmallVariables, IsShallow, IsWithinLimits, nodes_of}
 use Rattle.trs_core.specs.Valid.{system}
 use Rattle.term_pool.specs.Numbers.{numbers_where}
 use Rattle.term_pool.specs.Roots.{with_root}
@@ -36,6 +36,7 @@ none_grown trs arities rules singles by_root e no_rules no_singles no_numbers li
       valid = record { each = λ k r there. absurd cc };
       limits = record { symbols = limits.symbols; rules = omega arith; nodes = omega arith; shallow = All-nil IsShallow };
       bytes = bytes;
+      variables = All-nil (λ (r : RewriteRule). HasSmallVariables r.left × HasSmallVariables r.right);
       each_single = refl;
       numbers = λ f. refl;
       counted = refl;
@@ -66,11 +67,14 @@ module _ (arities : List ℕ) (rules : List RewriteRule) (singles : List System)
       put f ∙ (ap (λ ks. ks ++ cond (has_root f r.left) (number ∷ []) []) (h.numbers f)
       ∙ sym (numbers_more (λ (q : RewriteRule). has_root f q.left) 0 rules r number (omega (arith, e))))
 
+  abbrev Small : RewriteRule → Type 0
+  Small q = HasSmallVariables q.left × HasSmallVariables q.right
+
   -- one rule more
   pub one_grown : (more : List RewriteRule) (one : System) (others : List System) (new : List (Vec ℕ Global)) (number sum : ℕ) → more ≡ rules ++ r ∷ [] → one ≡ single arities r
-      → others ≡ singles ++ one ∷ [] → IsSystem one → IsWithinLimits (system arities (rules ++ r ∷ [])) → number ≡ length rules → HasNumber by_root new r.left number
+      → others ≡ singles ++ one ∷ [] → IsSystem one → HaveSmallVariables one.rules → IsWithinLimits (system arities (rules ++ r ∷ [])) → number ≡ length rules → HasNumber by_root new r.left number
       → (most : ℕ) → 65536 ≤ most → sum ≡ min (nodes + (size_of r.left + size_of r.right)) most → IsGrowing arities more others new sum
-  one_grown more one others new number sum grown is put valid limits last numbered most high total =
+  one_grown more one others new number sum grown is put valid small limits last numbered most high total =
       let R : List RewriteRule → Type 0 = λ rs. IsGrowing arities rs others new sum in
       let counted : nodes ≡ nodes_of rules = h.counted in
       let few : nodes_of (rules ++ r ∷ []) ≤ 65536 = limits.nodes in
@@ -78,6 +82,7 @@ module _ (arities : List ℕ) (rules : List RewriteRule) (singles : List System)
         valid = record { each = each_rule (subst IsSystem is valid) };
         limits = limits;
         bytes = h.bytes;
+        variables = All-push Small rules r h.variables (All-head Small r [] (subst (λ (s : System). HaveSmallVariables s.rules) is small));
         each_single = put ∙ (ap (λ ss. ss ++ one ∷ []) h.each_single ∙ (ap (λ s. map (single arities) rules ++ s ∷ []) is ∙ sym (map-append (single arities) rules (r ∷ []))));
         numbers = numbers_grown new number last numbered;
         counted = omega (arith, total, counted, few, high, nodes_append rules (r ∷ []));

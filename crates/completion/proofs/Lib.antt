@@ -14,6 +14,7 @@ pub mod Renumbered
 pub mod TreatLaws
 pub mod LoopLaws
 pub mod Looking
+pub mod PairLaws
 pub mod OneForm
 pub mod OneRule
 pub mod OneEnding

@@ -34,6 +34,11 @@ cut_shorter zero pool = omega arith
 cut_shorter (suc n) [] = omega arith
 cut_shorter (suc n) (t ∷ pool) = omega (arith, cut_shorter n pool)
 
+pub cut_no_longer : (n : ℕ) (pool : List Tree) → length (take n pool) ≤ n
+cut_no_longer zero pool = omega arith
+cut_no_longer (suc n) [] = omega arith
+cut_no_longer (suc n) (t ∷ pool) = omega (arith, cut_no_longer n pool)
+
 -- what is below a mark
 pub cut_extends : (n : ℕ) (pool : List Tree) → Extends (take n pool) pool
 cut_extends n pool = record { longer = cut_shorter n pool; kept = λ i t h. taken_item n pool i t h }
@@ -112,8 +117,11 @@ none_met met no_terms no_marks no_sides zero_base = record {
     empty_at k r e = absurd cc
 
 -- what is below the base is all, once it was raised
+pub whole_of : (new : Met) (pool : List Tree) → new.pool ≡ pool → new.base ≡ length pool → take new.base new.pool ≡ pool
+whole_of new pool same base = ap (λ n. take n new.pool) base ∙ (ap (λ ts. take (length pool) ts) same ∙ take_all (length pool) pool (omega arith))
+
 pub whole_pool : (old new : Met) → new.pool ≡ old.pool → new.base ≡ length old.pool → take new.base new.pool ≡ old.pool
-whole_pool old new pool base = ap (λ n. take n new.pool) base ∙ (ap (λ ts. take (length old.pool) ts) pool ∙ take_all (length old.pool) old.pool (omega arith))
+whole_pool old new pool base = whole_of new old.pool pool base
 
 module _ (rules : List RewriteRule) (old new : Met) (h : IsMet rules old) where
   -- more terms
@@ -234,3 +242,6 @@ pub cut_kept : (old new : Met) → new.base ≡ old.base → new.pool ≡ take o
 cut_kept old new base pool =
     let P : List Tree → Type 0 = Extends (take old.base old.pool) in
     record { base = base; kept = subst P (sym pool) (extends_itself (take old.base old.pool)) }
+
+pub base_itself : (met : Met) → KeepsBase met met
+base_itself met = base_kept met met refl (extends_itself met.pool)

@@ -3,7 +3,7 @@ use Rattle.std.specs.Prelude.{◌≡◌, ℕ, List, [], ◌∷◌, ◌++◌, Opt
 use Rattle.std.specs.declared.alloc.Global.{Global}
 use Rattle.trs_defs.specs.Tree.{Tree}
 use Rattle.trs_defs.specs.System.{RewriteRule, System, IsSystem, has_root}
-use Rattle.trs_core.specs.SystemLimits.{AreBytes, IsWithinLimits, nodes_of}
+use Rattle.trs_core.specs.SystemLimits.{AreBytes, HaveSmallVariables, IsWithinLimits, nodes_of}
 use Rattle.trs_core.specs.Valid.{system}
 use Rattle.term_pool.specs.Roots.{with_root}
 
@@ -29,6 +29,7 @@ pub record IsGrowing (arities : List ℕ) (rules : List RewriteRule) (singles : 
   pub valid : IsSystem (system arities rules)
   pub limits : IsWithinLimits (system arities rules)
   pub bytes : AreBytes arities
+  pub variables : HaveSmallVariables rules
   pub each_single : singles ≡ map (single arities) rules
   pub numbers : (f : ℕ) → numbers_at by_root f ≡ with_root f rules
   pub counted : nodes ≡ nodes_of rules

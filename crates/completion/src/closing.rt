@@ -1,16 +1,17 @@
-ghost use Rattle.std.specs.Prelude.{◌≡◌, ◌≤◌, ◌⊎◌, IfOk, IfSome, OnOk, IsTrue, false, map};
+ghost use Rattle.std.specs.Prelude.{◌≡◌, ◌≤◌, ◌⊎◌, IfOk, IfSome, OnOk, IsTrue, false, map, take};
 ghost use Rattle.completion.specs.GreaterBy.{GreaterBy};
 ghost use Rattle.completion.specs.CompletionRun.{Closes, Finds, sides};
 ghost use Rattle.completion.specs.Answers.{plain_ending, HasArities};
 ghost use Rattle.completion.specs.Treating.{IsOutcome, is_passed};
-ghost use Rattle.completion.specs.MetTerms.{IsMet};
+ghost use Rattle.crit_pairs.specs.Table.{HasFirstPeaks, AreAllPairs};
+ghost use Rattle.completion.specs.MetTerms.{IsMet, KeepsBase};
 ghost use Rattle.completion.specs.Taking.{ArePairsOver, Looks};
 
 use crate::Completion;
 use crate::growing::GrowingTrs;
 use crate::met::Met;
-use crate::treating::{Outcome, treat};
-use crit_pairs::{Peak, first_peaks};
+use crate::treating::{Outcome, treat, treat_ids};
+use crit_pairs::{Peak, PeakPair, PeakTable, first_peaks};
 use path_lpo::Lpo;
 use rewrite_core::{CheckFault, Top};
 use std::alloc::Global;
@@ -34,9 +35,13 @@ pub(crate) fn close(
 {
     let mut system = rules;
     let mut met = terms;
+    let mut table = PeakTable::new(alloc);
+    let mut is_first = true;
     let mut left = units;
     loop {
-        match look(alloc, order, &system, &mut met, left)? {
+        let looked = look(alloc, order, &system, &mut met, table, is_first, left)?;
+        let Finding { found, known } = looked;
+        match found {
             Outcome::Passed(_) => {
                 let trs = system.to_trs(alloc)?;
                 return Ok(Completion::Done(trs));
@@ -44,6 +49,8 @@ pub(crate) fn close(
             Outcome::Added(rule, units) => {
                 met.add_rule(alloc, &rule)?;
                 system = system.with_rule(alloc, rule)?;
+                table = known;
+                is_first = false;
                 left = units;
             }
             Outcome::Ended(why) => return Ok(why),
@@ -51,9 +58,98 @@ pub(crate) fn close(
     }
 }
 
-/// The first of the critical peaks that is not passed over. All of them are counted, but only where
-/// a few are passed over are all of them made.
+/// What became of the peaks, and a table of those of the first rules.
+#[derive(Drop)]
+struct Finding {
+    found: Outcome,
+    known: PeakTable,
+}
+
+/// The first of the critical peaks that is not passed over. At the first look all of them are
+/// counted, but only where a few are passed over are all of them made.
 fn look(
+    alloc: Global,
+    order: &Lpo,
+    system: &GrowingTrs,
+    met: &mut Met,
+    table: PeakTable,
+    is_first: bool,
+    units: u64,
+) -> Result<Finding, OutOfMemory>
+    requires met { IsMet system.now.rules met.old }
+    requires table { HasFirstPeaks system.now.rules (take met.old.base met.old.pool) table }
+    ensures looks { IfOk result (λ look. IsOutcome (Looks system.now.arities
+        (GreaterBy order.now) system.now.rules units) look.found) }
+    ensures table { IfOk result (λ look.
+        HasFirstPeaks system.now.rules (take met.new.base met.new.pool) look.known) }
+    ensures met { OnOk result (IsMet system.now.rules met.new) }
+{
+    if is_first {
+        look_at_few(alloc, order, system, met, table, units)
+    } else {
+        look_on(alloc, order, system, met, table, units)
+    }
+}
+
+/// The first look: a few peaks are made, and all of them only where these are passed over.
+fn look_at_few(
+    alloc: Global,
+    order: &Lpo,
+    system: &GrowingTrs,
+    met: &mut Met,
+    table: PeakTable,
+    units: u64,
+) -> Result<Finding, OutOfMemory>
+    requires met { IsMet system.now.rules met.old }
+    requires table { HasFirstPeaks system.now.rules (take met.old.base met.old.pool) table }
+    ensures looks { IfOk result (λ look. IsOutcome (Looks system.now.arities
+        (GreaterBy order.now) system.now.rules units) look.found) }
+    ensures table { IfOk result (λ look.
+        HasFirstPeaks system.now.rules (take met.new.base met.new.pool) look.known) }
+    ensures met { OnOk result (IsMet system.now.rules met.new) }
+{
+    if let Some(found) = look_at_first(alloc, order, system, met, FEW, units)? {
+        return Ok(Finding {
+            found,
+            known: table,
+        });
+    }
+    look_on(alloc, order, system, met, table, units)
+}
+
+/// A later look: of the peaks only those are made in which new rules take part.
+fn look_on(
+    alloc: Global,
+    order: &Lpo,
+    system: &GrowingTrs,
+    met: &mut Met,
+    table: PeakTable,
+    units: u64,
+) -> Result<Finding, OutOfMemory>
+    requires met { IsMet system.now.rules met.old }
+    requires table { HasFirstPeaks system.now.rules (take met.old.base met.old.pool) table }
+    ensures looks { IfOk result (λ look. IsOutcome (Looks system.now.arities
+        (GreaterBy order.now) system.now.rules units) look.found) }
+    ensures table { IfOk result (λ look.
+        HasFirstPeaks system.now.rules (take met.new.base met.new.pool) look.known) }
+    ensures met { OnOk result (IsMet system.now.rules met.new) }
+{
+    match met.grow_table(alloc, system, table)? {
+        Some(known) => {
+            let pairs = known.pairs(alloc)?;
+            let found = find_pair(alloc, order, system, met, &pairs, units)?;
+            Ok(Finding { found, known })
+        }
+        None => {
+            let found = look_at_all(alloc, order, system, met, units)?;
+            let known = PeakTable::new(alloc);
+            Ok(Finding { found, known })
+        }
+    }
+}
+
+/// The same, where the peaks pass a limit.
+fn look_at_all(
     alloc: Global,
     order: &Lpo,
     system: &GrowingTrs,
@@ -65,9 +161,6 @@ fn look(
         system.now.rules units)) }
     ensures met { OnOk result (IsMet system.now.rules met.new) }
 {
-    if let Some(found) = look_at_first(alloc, order, system, met, FEW, units)? {
-        return Ok(found);
-    }
     // There are never so many.
     match look_at_first(alloc, order, system, met, usize::MAX, units)? {
         Some(found) => Ok(found),
@@ -75,7 +168,8 @@ fn look(
     }
 }
 
-/// The same, where so many peaks at most are made. `None` where they do not decide.
+/// The first of the critical peaks that is not passed over, where so many at most are made. `None`
+/// where they do not decide.
 fn look_at_first(
     alloc: Global,
     order: &Lpo,
@@ -87,6 +181,7 @@ fn look_at_first(
     requires { IsMet system.now.rules met.old }
     ensures looks { IfOk result (λ found. IfSome found (IsOutcome (
         Looks system.now.arities (GreaterBy order.now) system.now.rules units))) }
+    ensures kept { OnOk result (KeepsBase met.old met.new) }
     ensures met { OnOk result (IsMet system.now.rules met.new) }
 {
     let trs = system.to_trs(alloc)?;
@@ -107,6 +202,7 @@ fn look_at_listed(
     requires met { IsMet system.now.rules met.old }
     ensures looks { IfOk result (λ found. IfSome found (IsOutcome (
         Looks system.now.arities (GreaterBy order.now) system.now.rules units))) }
+    ensures kept { OnOk result (KeepsBase met.old met.new) }
     ensures met { OnOk result (IsMet system.now.rules met.new) }
 {
     systems_are_valid(trs);
@@ -146,11 +242,41 @@ fn find<T: Top>(
     requires met { IsMet system.now.rules met.old }
     ensures outcome { IfOk result (IsOutcome (Finds system.now.arities (GreaterBy order.now)
         system.now.rules units (map sides peaks.now))) }
+    ensures kept { OnOk result (KeepsBase met.old met.new) }
     ensures met { OnOk result (IsMet system.now.rules met.new) }
 {
     let mut left = units;
     for peak in peaks {
         match treat(alloc, order, system, met, &peak.left, &peak.right, left)? {
+            Outcome::Passed(more) => left = more,
+            Outcome::Added(rule, more) => return Ok(Outcome::Added(rule, more)),
+            Outcome::Ended(why) => return Ok(Outcome::Ended(why)),
+        }
+    }
+    Ok(Outcome::Passed(left))
+}
+
+/// The first pair of ids that is not passed over.
+fn find_pair(
+    alloc: Global,
+    order: &Lpo,
+    system: &GrowingTrs,
+    met: &mut Met,
+    pairs: &[PeakPair],
+    units: u64,
+) -> Result<Outcome, OutOfMemory>
+    requires pairs { AreAllPairs system.now.rules (take met.old.base met.old.pool) pairs.now }
+    requires met { IsMet system.now.rules met.old }
+    ensures looks { IfOk result (IsOutcome (Looks system.now.arities (GreaterBy order.now)
+        system.now.rules units)) }
+    ensures kept { OnOk result (KeepsBase met.old met.new) }
+    ensures met { OnOk result (IsMet system.now.rules met.new) }
+{
+    let _rules = system.rules();
+    let mut left = units;
+    for pair in pairs {
+        met.make_room();
+        match treat_ids(alloc, order, system, met, pair.left, pair.right, left)? {
             Outcome::Passed(more) => left = more,
             Outcome::Added(rule, more) => return Ok(Outcome::Added(rule, more)),
             Outcome::Ended(why) => return Ok(Outcome::Ended(why)),

@@ -2,7 +2,7 @@ ghost use Rattle.std.specs.Prelude.{◌≡◌, ◌<◌, ◌↔◌, ◌+◌, ℕ,
 ghost use Rattle.trs_defs.specs.Size.{size_of, within_limits};
 ghost use Rattle.trs_defs.specs.System.{IsSystem};
 ghost use Rattle.trs_defs.specs.Path.{StepsAt};
-ghost use Rattle.trs_core.specs.SystemLimits.{AreBytes, IsWithinLimits};
+ghost use Rattle.trs_core.specs.SystemLimits.{AreBytes, HaveSmallVariables, IsWithinLimits};
 ghost use Rattle.trs_core.specs.View.{tree};
 ghost use Rattle.term_pool.specs.Pooled.{Extends, tree_at};
 ghost use Rattle.term_pool.specs.Roots.{with_root};
@@ -66,6 +66,7 @@ impl GrowingTrs {
         ensures valid { IsSystem self.now }
         ensures limits { IsWithinLimits self.now }
         ensures bytes { AreBytes self.now.arities }
+        ensures variables { HaveSmallVariables self.now.rules }
     {
         &self.rules
     }

@@ -3,9 +3,12 @@ ghost use Rattle.trs_defs.specs.System.{RewriteRule};
 ghost use Rattle.trs_core.specs.View.{tree};
 ghost use Rattle.term_pool.specs.Pooled.{Extends, StandsFor, tree_at};
 ghost use Rattle.term_pool.specs.LeftSides.{IsGround};
+ghost use Rattle.crit_pairs.specs.Table.{HasPeaks, HasFirstPeaks};
 ghost use Rattle.completion.specs.MetTerms.{IsMet, KeepsBase};
 
+use crate::growing::GrowingTrs;
 use crate::passed_ids::PassedIds;
+use crit_pairs::PeakTable;
 use std::alloc::Global;
 use term_pool::Pool;
 use trs_core::{OutOfMemory, Rule, Term, least_variable};
@@ -124,10 +127,33 @@ impl Met {
         self.intern(alloc, &term)
     }
 
+    /// A table with the peaks of all rules of the system, whose terms are below the base. `None`
+    /// where the peaks pass a limit.
+    pub(crate) fn grow_table(
+        &mut self,
+        alloc: Global,
+        system: &GrowingTrs,
+        table: PeakTable,
+    ) -> Result<Option<PeakTable>, OutOfMemory>
+        requires met { IsMet system.now.rules self.old }
+        requires table { HasFirstPeaks system.now.rules
+            (take self.old.base self.old.pool) table }
+        ensures peaks { IfOk result (λ grown. IfSome grown (
+            HasPeaks system.now.rules (take self.new.base self.new.pool))) }
+        ensures met { OnOk result (IsMet system.now.rules self.new) }
+    {
+        self.forget_over(MOST_KEPT);
+        let grown = table.grow(alloc, system.rules(), &mut self.pool)?;
+        self.raise_base();
+        Ok(grown)
+    }
+
     /// One more rule, behind the others.
     pub(crate) fn add_rule(&mut self, alloc: Global, rule: &Rule) -> Result<(), OutOfMemory>
         requires { self.old.base ≤ length self.old.pool }
-        ensures { OnOk result ((rules : List RewriteRule) → IsMet rules self.old
+        ensures kept { OnOk result (Extends (take self.old.base self.old.pool)
+            (take self.new.base self.new.pool)) }
+        ensures met { OnOk result ((rules : List RewriteRule) → IsMet rules self.old
             → IsMet (rules ++ rule.now ∷ []) self.new) }
     {
         let side = self.ground_side(alloc, &rule.left)?;
@@ -141,6 +167,8 @@ impl Met {
         ensures id { IfOk result (λ found. IfSome found (λ id.
             StandsFor (take self.new.base self.new.pool) id (tree t.now))) }
         ensures ground { IfOk result (λ found. IfSome found (λ _. IsGround (tree t.now))) }
+        ensures kept { OnOk result (Extends (take self.old.base self.old.pool)
+            (take self.new.base self.new.pool)) }
         ensures met { OnOk result ((rules : List RewriteRule) →
             IsMet rules self.old → IsMet rules self.new) }
     {

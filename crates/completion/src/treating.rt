@@ -4,7 +4,7 @@ ghost use Rattle.term_pool.specs.Pooled.{Extends, tree_at};
 ghost use Rattle.completion.specs.CompletionRun.{Treats, ending_of};
 ghost use Rattle.completion.specs.Answers.{plain_ending};
 ghost use Rattle.completion.specs.GreaterBy.{GreaterBy};
-ghost use Rattle.completion.specs.MetTerms.{IsMet};
+ghost use Rattle.completion.specs.MetTerms.{IsMet, KeepsBase};
 ghost use Rattle.completion.specs.Taking.{IsTermOver, IsIdOver};
 ghost use Rattle.completion.specs.Treating.{pair_of, IsOutcome, IsCompared, IsAdded};
 
@@ -43,6 +43,7 @@ pub(crate) fn treat(
     requires met { IsMet system.now.rules met.old }
     ensures outcome { IfOk result (IsOutcome (Treats system.now.arities (GreaterBy order.now)
         system.now.rules units (pair_of (tree left.now) (tree right.now)))) }
+    ensures kept { OnOk result (KeepsBase met.old met.new) }
     ensures met { OnOk result (IsMet system.now.rules met.new) }
 {
     met.make_room();
@@ -52,7 +53,7 @@ pub(crate) fn treat(
 }
 
 /// The same of a pair of ids.
-fn treat_ids(
+pub(crate) fn treat_ids(
     alloc: Global,
     order: &Lpo,
     system: &GrowingTrs,

@@ -109,7 +109,7 @@ fn left_skeletons(alloc: Global, rules: &[Rule]) -> Result<Vec<Skeleton>, OutOfM
     Ok(skeletons)
 }
 
-fn renamed_rule(alloc: Global, rule: &Rule) -> Result<Rule, OutOfMemory>
+pub(crate) fn renamed_rule(alloc: Global, rule: &Rule) -> Result<Rule, OutOfMemory>
     requires left { HasSmallVariables rule.now.left }
     requires right { HasSmallVariables rule.now.right }
     ensures { IfOk result (λ r. r ≡ renamed_apart rule.now) }

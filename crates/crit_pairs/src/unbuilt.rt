@@ -116,7 +116,7 @@ impl PeakTop for UnbuiltTop {
 
 /// The instances of the left and the right, with new numbers for their variables: those of the top
 /// come first.
-fn results(
+pub(crate) fn results(
     alloc: Global,
     unifier: &OverlapUnifier,
     top: &Term,

@@ -9,7 +9,14 @@ use Rattle.completion.specs.CompletionRun.{Treats, sides}
 use Rattle.completion.specs.GreaterBy.{GreaterBy}
 use Rattle.completion.specs.Treating.{pair_of, IsOutcome}
 use Rattle.completion.proofs.LoopLaws.{read_pair, next_pairs, find_next, find_rule, find_end, find_none}
+use Rattle.completion.proofs.PairLaws.{keeps_on}
 use Rattle.completion.proofs.closing.find.Goals as goal
+
+pub returns-in-Added-clause-kept : goal.returns-in-Added-clause-kept
+returns-in-Added-clause-kept g c = keeps_on c.args.met.now c.loop-peak.met c.treat.new.met c.loop-peak.invariant.kept c.in_ok-more.ensures.kept
+
+pub returns-in-Ended-clause-kept : goal.returns-in-Ended-clause-kept
+returns-in-Ended-clause-kept g c = keeps_on c.args.met.now c.loop-peak.met c.treat.new.met c.loop-peak.invariant.kept c.in_ok-more.ensures.kept
 
 pub treat-requires-clause-left : goal.treat-requires-clause-left
 treat-requires-clause-left g c =
@@ -50,6 +57,7 @@ loop-peak-preserved g c =
           (map sides (drop (c.loop-peak.peak-index + 1) c.args.peaks.now)) (next_pairs c.args.peaks.now c.loop-peak.peak-index c.peak-item.result c.loop-peak-test.true c.peak-item.is)
           c.loop-peak.invariant.on c.in-Passed.more
           (subst (T (outcome.Passed c.in-Passed.more)) c.peak.view_is (subst R c.in-Passed.is c.in_ok-more.ensures.outcome));
+      kept = keeps_on c.args.met.now c.loop-peak.met c.treat.new.met c.loop-peak.invariant.kept c.in_ok-more.ensures.kept;
       met = c.in_ok-more.ensures.met;
     }
 

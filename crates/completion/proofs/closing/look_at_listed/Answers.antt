@@ -10,6 +10,7 @@ use Rattle.completion.specs.Endings.{Limit}
 use Rattle.completion.specs.Treating.{IsOutcome}
 use Rattle.completion.specs.Taking.{ArePairsOver, Looks}
 use Rattle.completion.proofs.Looking.{few_pairs, few_looked_at, refused_there}
+use Rattle.completion.proofs.MetLaws.{base_itself}
 use Rattle.completion.proofs.closing.look_at_listed.Goals as goal
 
 pub find-requires-clause-pairs : goal.find-requires-clause-pairs
@@ -35,3 +36,6 @@ returns-in-Err-Refused-clause-looks c =
     subst L c.requires.same
     (refused_there c.args.trs.now.arities (GreaterBy c.args.order.now) c.args.trs.now.rules c.args.units c.in-Err-Refused.field-0-0
     (subst R c.in-Err-Refused.field-0-is c.in-Err-Refused.ensures.refused))
+
+pub returns-in-Err-Refused-clause-kept : goal.returns-in-Err-Refused-clause-kept
+returns-in-Err-Refused-clause-kept c = base_itself c.args.met.now

@@ -85,6 +85,6 @@ loop-equation-preserved c =
             (w.system-is ∙ w.in_ok-system-in-Added.ensures) w.left-is
             (take_more greater c.args.equations.now c.args.budget system c.loop-equation.left rest c.equation-item.result later is pair c.equation.view_is c.loop-equation.invariant.on
             w.in-Added.rule w.in-Added.units (subst T w.in-Added.is c.in_ok-units.ensures.outcome));
-        met = subst S (sym (w.system-is ∙ w.in_ok-system-in-Added.ensures)) (subst (M (system.rules ++ w.in-Added.rule ∷ [])) (sym w.met-is) (w.in_ok-add_rule-in-Added.ensures system.rules c.in_ok-units.ensures.met));
+        met = subst S (sym (w.system-is ∙ w.in_ok-system-in-Added.ensures)) (subst (M (system.rules ++ w.in-Added.rule ∷ [])) (sym w.met-is) (w.in_ok-add_rule-in-Added.ensures.met system.rules c.in_ok-units.ensures.met));
       }
     ]

@@ -6,7 +6,8 @@ use Rattle.term_pool.proofs.PoolTrees.{stands_at}
 use Rattle.completion.specs.CompletionRun.{Treats}
 use Rattle.completion.specs.GreaterBy.{GreaterBy}
 use Rattle.completion.specs.Treating.{pair_of, IsOutcome}
-use Rattle.completion.proofs.MetLaws.{id_over, id_still_over}
+use Rattle.completion.proofs.MetLaws.{id_over, id_still_over, base_kept}
+use Rattle.completion.proofs.PairLaws.{keeps_on, keeps_then}
 use Rattle.completion.proofs.treating.treat.Goals as goal
 
 pub make_room-requires : goal.make_room-requires
@@ -32,3 +33,11 @@ returns-clause-outcome c =
     let L : Tree → Type 0 = λ s. IfOk c.treat_ids.result (IsOutcome (Treats c.args.system.now.arities (GreaterBy c.args.order.now) c.args.system.now.rules c.args.units (pair_of s (tree_at pool c.in_ok-t.t)))) in
     let R : Tree → Type 0 = λ t. IfOk c.treat_ids.result (IsOutcome (Treats c.args.system.now.arities (GreaterBy c.args.order.now) c.args.system.now.rules c.args.units (pair_of (tree c.args.left.now) t))) in
     subst R right (subst L left c.treat_ids.ensures.outcome)
+
+pub returns-clause-kept : goal.returns-clause-kept
+returns-clause-kept c =
+    let first = base_kept c.make_room.new.self c.intern.new.self c.in_ok-s.ensures.base c.in_ok-s.ensures.kept in
+    let second = base_kept c.intern.new.self c.intern-2.new.self c.in_ok-t.ensures.base c.in_ok-t.ensures.kept in
+    keeps_then c.args.met.now c.intern-2.new.self c.treat_ids.new.met c.treat_ids.result
+    (keeps_on c.args.met.now c.intern.new.self c.intern-2.new.self (keeps_on c.args.met.now c.make_room.new.self c.intern.new.self c.make_room.ensures.kept first) second)
+    c.treat_ids.ensures.kept c.treat_ids.ensures.base

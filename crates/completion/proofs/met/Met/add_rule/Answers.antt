@@ -5,8 +5,8 @@ use Rattle.term_pool.specs.LeftSides.{IsGround}
 use Rattle.completion.proofs.MetLaws.{one_rule_more}
 use Rattle.completion.proofs.met.Met.add_rule.Goals as goal
 
-pub returns : goal.returns
-returns c =
+pub returns-clause-met : goal.returns-clause-met
+returns-clause-met c =
     let met = c.ground_side.new.self in
     let S : RewriteRule → Type 0 = λ r. IfSome c.in_ok-side.side (λ id. StandsFor (take met.base met.pool) id r.left) in
     let G : RewriteRule → Type 0 = λ r. IfSome c.in_ok-side.side (λ _. IsGround r.left) in

@@ -1,0 +1,29 @@
+use Rattle.std.proofs.Common.{inl, refl, arith}
+use Rattle.trs_core.specs.View.{tree}
+use Rattle.term_pool.proofs.Extending.{extends_itself}
+use Rattle.trs_caps.specs.Clash.{AreDisjoint}
+use Rattle.crit_pairs.specs.Skeletons.{opened}
+use Rattle.crit_pairs.proofs.SpotWalk.{rule_at}
+use Rattle.crit_pairs.proofs.SkeletonLaws.{never_meet, skeletons_count, skeleton_read}
+use Rattle.crit_pairs.proofs.SpotPeaks.{none_apart, none_itself, no_places}
+use Rattle.crit_pairs.proofs.growing.grow_by.Goals as goal
+
+pub returns-then-clashes-clause-adds : goal.returns-then-clashes-clause-adds
+returns-then-clashes-clause-adds c =
+    let all = c.args.rules.now in
+    let skeletons = c.args.prepared.now.skeletons.items in
+    let (inner, numbered) = rule_at all c.args.i c.requires.inner in
+    let count = skeletons_count skeletons all c.requires.prepared.skeletons in
+    let is = skeleton_read skeletons all c.args.i c.index.result.now inner c.requires.prepared.skeletons (omega (arith, count, c.requires.inner)) c.index.ensures numbered in
+    let apart : AreDisjoint (opened (tree c.args.part.now)) (opened inner.left) = rw (c.requires.skeleton, is) at (c.clashes.ensures c.if-clashes.true) in
+    inl (
+      none_apart c.overlaps_unify.ensures.unified all c.requires.small c.args.j c.args.place.now (tree c.args.part.now) c.requires.outer c.args.i inner numbered (never_meet (tree c.args.part.now) inner.left 65536 apart),
+      refl,
+      refl,
+    )
+
+pub returns-then-clashes-clause-kept : goal.returns-then-clashes-clause-kept
+returns-then-clashes-clause-kept c = extends_itself c.args.pool.now
+
+pub returns-then-i-j-clause-adds : goal.returns-then-i-j-clause-adds
+returns-then-i-j-clause-adds c = inl (none_itself c.args.rules.now c.args.j c.args.i c.args.place.now (no_places c.args.place.now c.is_empty.result c.is_empty.ensures c.if-is_empty.true) c.if-i-j.true, refl, refl)

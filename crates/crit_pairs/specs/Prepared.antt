@@ -1,0 +1,17 @@
+-- Rules with what their overlaps are looked for by.
+use Rattle.std.specs.Prelude.{◌≡◌, List, ◌++◌}
+use Rattle.trs_defs.specs.System.{RewriteRule}
+use Rattle.crit_pairs.specs.Apart.{AreApart, HaveSkeletons}
+use Rattle.crit_pairs.specs.declared.prepared.PreparedRules.{PreparedRules}
+
+-- each rule has a copy that is renamed apart, and its left side a skeleton
+pub record ArePrepared (rules : List RewriteRule) (prepared : PreparedRules) : Type 0 where
+  pub apart : AreApart rules prepared.apart.items
+  pub skeletons : HaveSkeletons rules prepared.skeletons.items
+
+-- the first of the rules are prepared
+pub record PreparesFirst (rules : List RewriteRule) (prepared : PreparedRules) : Type 0 where
+  pub first : List RewriteRule
+  pub more : List RewriteRule
+  pub are : rules ≡ first ++ more
+  pub prepared_first : ArePrepared first prepared

@@ -1,0 +1,275 @@
+//! The critical peaks of new rules with each other and with the rules before them.
+ghost use Rattle.std.specs.Prelude.{◌≡◌, ◌≤◌, ◌<◌, ◌+◌, ◌++◌, ◌∷◌, [], ℕ, List, All, drop, length, IfOk, OnOk};
+ghost use Rattle.trs_defs.specs.Tree.{Tree};
+ghost use Rattle.trs_defs.specs.System.{RewriteRule};
+ghost use Rattle.trs_core.specs.SystemLimits.{HaveSmallVariables};
+ghost use Rattle.trs_core.specs.View.{tree};
+ghost use Rattle.term_pool.specs.Redexes.{IsNarrow};
+ghost use Rattle.term_pool.specs.Pooled.{Extends, StandsFor};
+ghost use Rattle.crit_pairs.specs.Skeletons.{opened};
+ghost use Rattle.crit_pairs.specs.SkeletonView.{skeleton_view};
+ghost use Rattle.crit_pairs.specs.Walk.{IsPartOf, one_spot, spot_unless};
+ghost use Rattle.crit_pairs.specs.Prepared.{ArePrepared};
+ghost use Rattle.crit_pairs.specs.PeakList.{Spot};
+ghost use Rattle.crit_pairs.specs.Table.{Site, site, sites_from};
+ghost use Rattle.crit_pairs.specs.Growing.{IsGrown, IsAtSite, AddsPeaks};
+ghost use Rattle.crit_pairs.specs.Growing.{GrowsAt, GrowsBy, sites_in};
+
+use crate::PeakFault;
+use crate::contracting::contract;
+use crate::overlapping::overlap;
+use crate::prepared::PreparedRules;
+use crate::sides::count_nodes;
+use crate::skeleton::Skeleton;
+use crate::table::PeakPair;
+use crate::unbuilt::results;
+use confluence_theory::overlaps_unify;
+use std::alloc::Global;
+use term_pool::Pool;
+use trs_core::{OutOfMemory, Rule, Term};
+
+/// Lists of peaks, one for each position of a symbol, and how far they have grown.
+#[derive(Drop)]
+pub(crate) struct Growth {
+    pub lists: Vec<Vec<PeakPair>>,
+    /// How many positions have all their peaks.
+    pub done: usize,
+    /// The nodes of all peaks.
+    pub nodes: u64,
+}
+
+/// Adds the peaks of the outer rules from `start` to `end` with the inner rules from `from` on.
+pub(crate) fn grow_rules(
+    alloc: Global,
+    rules: &[Rule],
+    prepared: &PreparedRules,
+    start: usize,
+    end: usize,
+    from: usize,
+    pool: &mut Pool,
+    growth: &mut Growth,
+) -> Result<(), PeakFault>
+    requires prepared { ArePrepared rules.now prepared.now }
+    requires small { HaveSmallVariables rules.now }
+    requires narrow { All (λ r. IsNarrow r.left) rules.now }
+    requires end { end ≤ length rules.now }
+    requires inside { growth.old.done ≤ length growth.old.lists.items }
+    ensures grows { OnOk result ((known more : List RewriteRule) → rules.now ≡ known ++ more →
+        end ≡ length known → GrowsBy rules.now from (sites_from start (drop start known))
+        pool.old growth.old pool.new growth.new) }
+    ensures kept { Extends pool.old pool.new }
+    ensures inside { OnOk result (growth.new.done ≤ length growth.new.lists.items) }
+{
+    for j in start..end {
+        let outer = &rules[j];
+        let skeleton = &prepared.skeletons[j];
+        let mut place = Vec::new(alloc);
+        grow_below(
+            alloc,
+            rules,
+            prepared,
+            j,
+            from,
+            &outer.left,
+            skeleton,
+            &mut place,
+            pool,
+            growth,
+        )?;
+    }
+    Ok(())
+}
+
+/// Adds the peaks of outer rule j with the inner rules from `from` on, at a position and below it,
+/// where `part` stands.
+fn grow_below(
+    alloc: Global,
+    rules: &[Rule],
+    prepared: &PreparedRules,
+    j: usize,
+    from: usize,
+    part: &Term,
+    skeleton: &Skeleton,
+    place: &mut Vec<u8>,
+    pool: &mut Pool,
+    growth: &mut Growth,
+) -> Result<(), PeakFault>
+    requires prepared { ArePrepared rules.now prepared.now }
+    requires small { HaveSmallVariables rules.now }
+    requires outer { IsPartOf rules.now j place.old.items (tree part.now) }
+    requires skeleton { skeleton_view skeleton.now ≡ opened (tree part.now) }
+    requires narrow { IsNarrow (tree part.now) }
+    requires positive { All (λ n. 0 < n) place.old.items }
+    requires inside { growth.old.done ≤ length growth.old.lists.items }
+    ensures grows { OnOk result (GrowsBy rules.now from (sites_in j place.old.items (tree part.now))
+        pool.old growth.old pool.new growth.new) }
+    ensures place { OnOk result (place.new.items ≡ place.old.items) }
+    ensures kept { Extends pool.old pool.new }
+    ensures inside { OnOk result (growth.new.done ≤ length growth.new.lists.items) }
+{
+    match part {
+        Term::Var(_) => Ok(()),
+        Term::App(_f, args) => {
+            grow_at(
+                alloc, rules, prepared, j, from, part, skeleton, place, pool, growth,
+            )?;
+            let parts = skeleton.parts();
+            for (i, arg) in args.items.iter().enumerate() {
+                place.push(i as u8 + 1)?;
+                grow_below(
+                    alloc, rules, prepared, j, from, arg, &parts[i], place, pool, growth,
+                )?;
+                place.pop();
+            }
+            Ok(())
+        }
+    }
+}
+
+/// Adds the peaks of outer rule j with the inner rules from `from` on at a position, where `part`
+/// stands.
+fn grow_at(
+    alloc: Global,
+    rules: &[Rule],
+    prepared: &PreparedRules,
+    j: usize,
+    from: usize,
+    part: &Term,
+    skeleton: &Skeleton,
+    place: &[u8],
+    pool: &mut Pool,
+    growth: &mut Growth,
+) -> Result<(), PeakFault>
+    requires prepared { ArePrepared rules.now prepared.now }
+    requires small { HaveSmallVariables rules.now }
+    requires outer { IsPartOf rules.now j place.now (tree part.now) }
+    requires skeleton { skeleton_view skeleton.now ≡ opened (tree part.now) }
+    requires positive { All (λ n. 0 < n) place.now }
+    requires inside { growth.old.done ≤ length growth.old.lists.items }
+    ensures grows { OnOk result (
+        GrowsAt rules.now from j place.now pool.old growth.old pool.new growth.new) }
+    ensures kept { Extends pool.old pool.new }
+    ensures inside { OnOk result (growth.new.done ≤ length growth.new.lists.items) }
+{
+    begin_list(alloc, growth)?;
+    for i in from..rules.len() {
+        grow_by(
+            alloc, rules, prepared, j, i, part, skeleton, place, pool, growth,
+        )?;
+    }
+    growth.done += 1;
+    Ok(())
+}
+
+/// Makes a list for the next position, if there is none yet.
+fn begin_list(alloc: Global, growth: &mut Growth) -> Result<(), OutOfMemory>
+    requires { growth.old.done ≤ length growth.old.lists.items }
+    ensures begins { OnOk result ((rules : List RewriteRule) (from : ℕ) (pool : List Tree)
+        (s : Site) (left after : List Site) → IsGrown rules from pool growth.old (s ∷ left) after →
+        IsAtSite rules from from pool growth.new s left after) }
+    ensures inside { OnOk result (growth.new.done < length growth.new.lists.items) }
+{
+    if growth.done < growth.lists.len() {
+        return Ok(());
+    }
+    growth.lists.push(Vec::new(alloc))?;
+    Ok(())
+}
+
+/// Adds the peak of rule i in rule j at a position, if they overlap there, but for a rule in itself
+/// at the root. Skeletons that clash are seen here, since what adds a peak has large locals.
+fn grow_by(
+    alloc: Global,
+    rules: &[Rule],
+    prepared: &PreparedRules,
+    j: usize,
+    i: usize,
+    part: &Term,
+    skeleton: &Skeleton,
+    place: &[u8],
+    pool: &mut Pool,
+    growth: &mut Growth,
+) -> Result<(), PeakFault>
+    requires prepared { ArePrepared rules.now prepared.now }
+    requires small { HaveSmallVariables rules.now }
+    requires inner { i < length rules.now }
+    requires outer { IsPartOf rules.now j place.now (tree part.now) }
+    requires skeleton { skeleton_view skeleton.now ≡ opened (tree part.now) }
+    requires positive { All (λ n. 0 < n) place.now }
+    requires inside { growth.old.done < length growth.old.lists.items }
+    ensures adds { OnOk result (AddsPeaks rules.now (spot_unless j place.now i)
+        pool.old growth.old pool.new growth.new) }
+    ensures kept { Extends pool.old pool.new }
+    ensures done { OnOk result (growth.new.done ≡ growth.old.done) }
+    ensures inside { OnOk result (growth.new.done < length growth.new.lists.items) }
+{
+    if place.is_empty() && i == j {
+        return Ok(());
+    }
+    if skeleton.clashes(&prepared.skeletons[i]) {
+        overlaps_unify();
+        return Ok(());
+    }
+    grow_by_overlap(alloc, rules, prepared, j, i, part, place, pool, growth)
+}
+
+/// Adds the peak of rule i in rule j at a position, if they overlap there.
+fn grow_by_overlap(
+    alloc: Global,
+    rules: &[Rule],
+    prepared: &PreparedRules,
+    j: usize,
+    i: usize,
+    part: &Term,
+    place: &[u8],
+    pool: &mut Pool,
+    growth: &mut Growth,
+) -> Result<(), PeakFault>
+    requires prepared { ArePrepared rules.now prepared.now }
+    requires small { HaveSmallVariables rules.now }
+    requires inner { i < length rules.now }
+    requires outer { IsPartOf rules.now j place.now (tree part.now) }
+    requires positive { All (λ n. 0 < n) place.now }
+    requires inside { growth.old.done < length growth.old.lists.items }
+    ensures adds { OnOk result (AddsPeaks rules.now (one_spot j place.now i)
+        pool.old growth.old pool.new growth.new) }
+    ensures kept { Extends pool.old pool.new }
+    ensures done { OnOk result (growth.new.done ≡ growth.old.done) }
+    ensures inside { OnOk result (growth.new.done < length growth.new.lists.items) }
+{
+    let outer = &rules[j];
+    let inner = &prepared.apart[i];
+    let found = overlap(alloc, outer, part, inner)?;
+    match found {
+        None => {
+            overlaps_unify();
+            Ok(())
+        }
+        Some(unifier) => {
+            let reduct = contract(alloc, outer, place, inner)?;
+            let nodes = count_nodes(&unifier, &outer.left, &reduct, &outer.right, growth.nodes)?;
+            let sides = results(alloc, &unifier, &outer.left, &reduct, &outer.right)?;
+            let pair = intern_pair(alloc, pool, &sides.0, &sides.1)?;
+            let list = &mut growth.lists[growth.done];
+            list.push(pair)?;
+            growth.nodes = nodes;
+            Ok(())
+        }
+    }
+}
+
+/// The ids of two terms.
+fn intern_pair(
+    alloc: Global,
+    pool: &mut Pool,
+    left: &Term,
+    right: &Term,
+) -> Result<PeakPair, OutOfMemory>
+    ensures left { IfOk result (λ pair. StandsFor pool.new pair.left (tree left.now)) }
+    ensures right { IfOk result (λ pair. StandsFor pool.new pair.right (tree right.now)) }
+    ensures kept { Extends pool.old pool.new }
+{
+    let s = pool.intern(alloc, left)?;
+    let t = pool.intern(alloc, right)?;
+    Ok(PeakPair { left: s, right: t })
+}
