@@ -1,24 +1,40 @@
--- The first two terms of two lists that never meet, by their marks.
-use Rattle.std.specs.Prelude.{◌≡◌, ◌↔◌, ℕ, List}
-use Rattle.std.proofs.Common.{subst}
+-- The first two terms of two lists that never meet, by their ids.
+use Rattle.std.specs.Prelude.{◌≡◌, ◌↔◌, ℕ, List, [], ◌∷◌, refl}
+use Rattle.std.proofs.Common.{sym, subst}
 use Rattle.trs_defs.specs.Tree.{Tree}
+use Rattle.trs_defs.specs.System.{RewriteRule}
 use Rattle.term_pool.specs.Listed.{Listed}
-use Rattle.join_find.specs.First.{Some_in, None_in}
-use Rattle.conf_find.specs.Marks.{AreMarks}
+use Rattle.term_pool.specs.ListedIds.{listed, listed_at}
+use Rattle.join_find.specs.CommonIds.{Reached}
+use Rattle.join_find.specs.First.{Some_in, None_in, Along, along_end, along_item}
+use Rattle.conf_find.specs.Marks.{AreParted}
 use Rattle.conf_find.specs.Parted.{IsFirstPair, HasNoPair}
 use Rattle.conf_find.proofs.Pairs.{IsFirstOfTerms, first_terms, no_pair}
 
-module _ {A : Type 0} (marks : Tree → A → Type 0) (parted : A → A → Type 0) (never_meet : Tree → Tree → Type 0)
-    (tells : (t u : Tree) (a b : A) → marks t a → marks u b → parted a b ↔ never_meet t u)
-    (es fs : List Listed) (cs ds ls rs : List A) (left : AreMarks marks es cs) (right : AreMarks marks fs ds) (is_left : ls ≡ cs) (is_right : rs ≡ ds) where
-  pub parted_terms : (pair : ℕ × ℕ) → IsFirstPair parted ls rs pair → IsFirstOfTerms (λ (u v : Listed). never_meet u.term v.term) es fs pair
-  parted_terms pair h =
-      first_terms (λ (e : Listed) (m : A). marks e.term m) parted (λ (u v : Listed). never_meet u.term v.term)
-      (λ e f a b m n. tells e.term f.term a b m n) es fs cs ds left right pair
-      (subst (λ xs. IsFirstPair parted cs xs pair) is_right (subst (λ xs. IsFirstPair parted xs rs pair) is_left h))
+abbrev IsEntryOf : List Tree → Listed → Reached → Type 0
+IsEntryOf pool e x = e ≡ listed pool x
 
-  pub none_parted : HasNoPair parted ls rs → None_in (λ (e : Listed). Some_in (λ (f : Listed). never_meet e.term f.term) fs) es
-  none_parted h =
-      no_pair (λ (e : Listed) (m : A). marks e.term m) parted (λ (u v : Listed). never_meet u.term v.term)
-      (λ e f a b m n. tells e.term f.term a b m n) es fs cs ds left right
-      (subst (λ xs. HasNoPair parted cs xs) is_right (subst (λ xs. HasNoPair parted xs rs) is_left h))
+along_entries : (pool : List Tree) (xs : List Reached) → Along (IsEntryOf pool) (listed_at pool xs) xs
+along_entries pool [] = along_end
+along_entries pool (x ∷ xs) = along_item refl (along_entries pool xs)
+
+module _ (never_meet : List RewriteRule → Tree → Tree → Type 0) (rules : List RewriteRule) (pool : List Tree) where
+  abbrev pub NeverMeet : Listed → Listed → Type 0
+  NeverMeet u v = never_meet rules u.term v.term
+
+  same : (e f : Listed) (x y : Reached) → IsEntryOf pool e x → IsEntryOf pool f y → AreParted never_meet rules pool x y ↔ NeverMeet e f
+  same e f x y m n =
+      let E : Listed → Type 0 = λ u. never_meet rules u.term f.term in
+      let X : Listed → Type 0 = λ v. never_meet rules (listed pool x).term v.term in
+      (λ h. subst E (sym m) (subst X (sym n) h), λ h. subst X n (subst E m h))
+
+  module _ (lefts rights : List Reached) where
+    pub parted_terms : (pair : ℕ × ℕ) → IsFirstPair (AreParted never_meet rules pool) lefts rights pair → IsFirstOfTerms NeverMeet (listed_at pool lefts) (listed_at pool rights) pair
+    parted_terms pair h =
+        first_terms (IsEntryOf pool) (AreParted never_meet rules pool) NeverMeet same (listed_at pool lefts) (listed_at pool rights) lefts rights
+        (along_entries pool lefts) (along_entries pool rights) pair h
+
+    pub none_parted : HasNoPair (AreParted never_meet rules pool) lefts rights → None_in (λ (e : Listed). Some_in (NeverMeet e) (listed_at pool rights)) (listed_at pool lefts)
+    none_parted h =
+        no_pair (IsEntryOf pool) (AreParted never_meet rules pool) NeverMeet same (listed_at pool lefts) (listed_at pool rights) lefts rights
+        (along_entries pool lefts) (along_entries pool rights) h

@@ -7,29 +7,20 @@ use Rattle.std.proofs.lemmas.List.{take_all}
 use Rattle.trs_defs.specs.Tree.{Tree}
 use Rattle.trs_defs.specs.System.{RewriteRule}
 use Rattle.trs_defs.specs.Path.{PlacedRule}
-use Rattle.term_pool.specs.Pooled.{Extends, tree_at}
+use Rattle.term_pool.specs.Pooled.{tree_at}
 use Rattle.term_pool.specs.Listed.{Listed}
 use Rattle.term_pool.specs.ListedIds.{listed, listed_at}
-use Rattle.term_pool.proofs.ReachedIds.{same_listed, length_listed}
+use Rattle.term_pool.proofs.ReachedIds.{length_listed}
 use Rattle.rewrite_core.specs.PlacedPeak.{PlacedPeak}
 use Rattle.rewrite_core.specs.declared.checks.forks.ForkTest.{ForkTest}
-use Rattle.join_find.specs.First.{Along}
 use Rattle.join_find.specs.CommonIds.{Reached}
-use Rattle.join_find.proofs.Firsts.{along_one_more, along_all}
 use Rattle.conf_find.specs.Fork.{Fork, fork_from, fork_of}
 use Rattle.conf_find.specs.declared.forks.ForkFound.{ForkFound}
 use Rattle.conf_find.specs.ForkRows.{IsShortReach, IsTestOf, NothingParted, PartsLists, PartsNot, PartsBy}
+use Rattle.conf_find.specs.SameSides.{HaveSameSides}
 use Rattle.conf_find.proofs.Pairs.{IsFirstOfTerms}
 
--- what a pool had reached, as it has grown
-reach_kept : (rules : List RewriteRule) (a b : List Tree) (t u : Tree) (es : List Reached) → Extends a b → All (λ e. e.0 < length a) es
-    → t ≡ u → IsShortReach rules t (listed_at a es) → IsShortReach rules u (listed_at b es)
-reach_kept rules a b t u es extends below same h =
-    let P : List Listed → Type 0 = λ xs. IsShortReach rules u xs in
-    let Q : Tree → Type 0 = λ v. IsShortReach rules v (listed_at a es) in
-    subst P (sym (same_listed a b extends es below)) (subst Q same h)
-
-listed_there : (pool : List Tree) (es : List Reached) (i : ℕ) (x : Reached) → slice_get es i ≡ Some x → slice_get (listed_at pool es) i ≡ Some (listed pool x)
+pub listed_there : (pool : List Tree) (es : List Reached) (i : ℕ) (x : Reached) → slice_get es i ≡ Some x → slice_get (listed_at pool es) i ≡ Some (listed pool x)
 listed_there pool [] i x e = absurd cc
 listed_there pool (y ∷ es) zero x e = ap (λ z. Some (listed pool z)) (same_Some y x e)
 listed_there pool (y ∷ es) (suc i) x e = listed_there pool es i x e
@@ -47,21 +38,6 @@ entry_is pool es i x u at is = same_Some u (listed pool x) (sym at ∙ listed_th
 
 pub entry_below : (pool : List Tree) (es : List Reached) (i : ℕ) (x : Reached) → slice_get es i ≡ Some x → All (λ e. e.0 < length pool) es → x.0 < length pool
 entry_below pool es i x is all = subst (λ (e : Reached). e.0 < length pool) (get_or_from_slice_get es i x x is) (all i x (slice_get_within es i x is))
-
-pub read_below : (pool : List Tree) (es : List Reached) (i : ℕ) (x : Reached) → i < length es → x ≡ get_or es i x → All (λ e. e.0 < length pool) es → x.0 < length pool
-read_below pool es i x below is all = subst (λ (e : Reached). e.0 < length pool) (sym is) (all i x below)
-
--- ---- marks, one for each entry
-
-pub one_mark : {A : Type 0} (related : Listed → A → Type 0) (pool : List Tree) (es : List Reached) (old new : List A) (i : ℕ) (x : Reached) (a : A) → i < length es → x ≡ get_or es i x
-    → Along related (take i (listed_at pool es)) old → related (listed pool x) a → new ≡ old ++ a ∷ [] → Along related (take (i + 1) (listed_at pool es)) new
-one_mark related pool es old new i x a below is along h made =
-    let read : get_or (listed_at pool es) i (listed pool x) ≡ listed pool x = get_or_from_slice_get (listed_at pool es) i (listed pool x) (listed pool x) (entry_there pool es i x below is) in
-    along_one_more related (listed_at pool es) old new i (listed pool x) a (omega (arith, below, length_listed pool es)) (sym read) along h made
-
-pub all_marks : {A : Type 0} (related : Listed → A → Type 0) (pool : List Tree) (es : List Reached) (marks : List A) (i : ℕ) → length es ≤ i
-    → Along related (take i (listed_at pool es)) marks → Along related (listed_at pool es) marks
-all_marks related pool es marks i all along = along_all related (listed_at pool es) marks i (omega (arith, all, length_listed pool es)) along
 
 -- ---- the fork
 
@@ -99,22 +75,16 @@ module _ (parted : List RewriteRule → Tree → Tree → Type 0) (rules : List 
       }
 
   -- what was found in the lists is that of the peak
-  of_peak : {E : Type 0} (lefts rights : List Listed) (found : Result (Option ForkFound) E) → IsShortReach rules peak.left lefts → IsShortReach rules peak.right rights
+  pub of_peak : {E : Type 0} (lefts rights : List Listed) (found : Result (Option ForkFound) E) → IsShortReach rules peak.left lefts → IsShortReach rules peak.right rights
       → IfOk found (λ o. MatchOption o (NothingParted parted rules lefts rights) (λ f. PartsLists parted rules peak lefts rights (fork_of f)))
       → IfOk found (λ o. MatchOption o (PartsNot parted rules peak) (λ f. PartsBy parted rules peak (fork_of f)))
   of_peak lefts rights (Ok None) from_left from_right h = record { lefts = lefts; rights = rights; from_left = from_left; from_right = from_right; none = h }
   of_peak lefts rights (Ok (Some f)) from_left from_right h = record { lefts = lefts; rights = rights; from_left = from_left; from_right = from_right; parts = h }
   of_peak lefts rights (Err e) from_left from_right h = tt
 
-  pub parted_within : {E : Type 0} (a b : List Tree) (left right : Tree) (lefts rights ls rs : List Reached) (found : Result (Option ForkFound) E) → Extends a b
-      → All (λ e. e.0 < length a) lefts → ls ≡ lefts → rs ≡ rights → left ≡ peak.left → right ≡ peak.right
-      → IsShortReach rules left (listed_at a lefts) → IsShortReach rules right (listed_at b rights)
-      → IfOk found (λ o. MatchOption o (NothingParted parted rules (listed_at b ls) (listed_at b rs)) (λ f. PartsLists parted rules peak (listed_at b ls) (listed_at b rs) (fork_of f)))
-      → IfOk found (λ o. MatchOption o (PartsNot parted rules peak) (λ f. PartsBy parted rules peak (fork_of f)))
-  parted_within a b left right lefts rights ls rs found extends below is_left is_right same_left same_right from_left from_right h =
-      let R : Tree → Type 0 = λ t. IsShortReach rules t (listed_at b rights) in
-      let L : List Reached → Type 0 = λ es. IsShortReach rules peak.left (listed_at b es) in
-      let S : List Reached → Type 0 = λ es. IsShortReach rules peak.right (listed_at b es) in
-      of_peak (listed_at b ls) (listed_at b rs) found
-      (subst L (sym is_left) (reach_kept rules a b left peak.left lefts extends below same_left from_left))
-      (subst S (sym is_right) (subst R same_right from_right)) h
+  -- a peak with the same sides
+  pub parts_not_either : (other : PlacedPeak) → HaveSameSides other peak → PartsNot parted rules other → PartsNot parted rules peak
+  parts_not_either other same h =
+      let L : Tree → Type 0 = λ t. IsShortReach rules t h.lefts in
+      let R : Tree → Type 0 = λ t. IsShortReach rules t h.rights in
+      record { lefts = h.lefts; rights = h.rights; from_left = subst L same.left h.from_left; from_right = subst R same.right h.from_right; none = h.none }

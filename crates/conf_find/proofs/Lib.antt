@@ -1,7 +1,10 @@
 pub mod Pairs
 pub mod ForkPeaks
 pub mod PeakList
-pub mod CapMarks
-pub mod EndingMarks
+pub mod SharedCapLaws
+pub mod CapMeets
+pub mod NumberedCaps
+pub mod MarkLaws
+pub mod KeptReach
 pub mod ForkLaw
 pub mod BetweenLists

@@ -4,5 +4,8 @@ pub use Rattle.label_find.specs as label_find
 pub mod Fork
 pub mod ForkRows
 pub mod Parted
+pub mod SharedCaps
 pub mod Marks
 pub mod Laws
+pub mod ReachedSides
+pub mod SameSides

@@ -1,41 +1,82 @@
 //! Terms that are different normal forms.
-use crate::mark::Mark;
+ghost use Rattle.std.specs.Prelude.{◌≡◌, ◌≢◌, ◌↔◌, Some, IsTrue};
+ghost use Rattle.std.specs.Ordering.{nat_cmp};
+ghost use Rattle.std.specs.BTreeMap.{get};
+ghost use Rattle.conf_find.specs.Marks.{HasEnding};
+
+use crate::marks::Marks;
 use std::alloc::Global;
-use term_pool::{Pool, RulesByRoot};
-use trs_caps::KnownCaps;
+use std::collections::BTreeMap;
+use term_pool::{Pool, RulesByRoot, ids_are_distinct};
 use trs_core::OutOfMemory;
 
-/// The id of a term, and whether it is a normal form.
-#[derive(Clone, Copy)]
-pub(crate) struct Ending {
-    id: u32,
-    is_normal: bool,
+/// The bytes of an id that is kept, by estimate.
+const BYTES_OF_ID: u64 = 16;
+
+/// Whether terms are normal forms, by their ids.
+#[derive(Drop)]
+pub(crate) struct Endings {
+    normal: BTreeMap<u32, bool>,
 }
 
-impl Mark for Ending {
+impl Endings {
+    /// What is noted of an id.
+    fn is_normal(&self, id: u32) -> bool
+        requires { HasEnding self.now id }
+        ensures { get nat_cmp self.now.normal id ≡ Some result }
+    {
+        match self.normal.get(&id) {
+            Some(is_normal) => *is_normal,
+            None => unreachable!(),
+        }
+    }
+}
+
+impl Marks for Endings {
     ghost use Rattle.conf_find.specs.ForkRows.{AreDifferentNormalForms};
-    ghost use Rattle.conf_find.specs.Marks.{AreDifferentEndings, IsEnding};
+    ghost use Rattle.conf_find.specs.Marks.{HasEnding, AreEndings};
 
     ghost never_meet = { AreDifferentNormalForms };
 
-    ghost marks = { IsEnding };
+    ghost has_mark = { HasEnding };
 
-    ghost parted = { AreDifferentEndings };
+    ghost of_pool = { AreEndings };
 
-    fn of(
+    fn new(alloc: Global) -> Endings {
+        Endings {
+            normal: BTreeMap::new(alloc),
+        }
+    }
+
+    fn mark(
+        &mut self,
         alloc: Global,
         pool: &Pool,
         by_root: &RulesByRoot,
         id: u32,
-        _known: &mut KnownCaps,
-    ) -> Result<Ending, OutOfMemory> {
+    ) -> Result<(), OutOfMemory> {
+        if self.normal.contains_key(&id) {
+            return Ok(());
+        }
         let is_normal = pool.is_normal(alloc, by_root, id)?;
-        Ok(Ending { id, is_normal })
+        self.normal.insert(id, is_normal)?;
+        Ok(())
     }
 
-    fn is_parted(&self, other: &Ending) -> bool {
-        self.is_normal && other.is_normal && self.id != other.id
+    fn are_parted(&self, pool: &Pool, _by_root: &RulesByRoot, left: u32, right: u32) -> bool {
+        ids_are_distinct(pool);
+        are_different(self.is_normal(left), self.is_normal(right), left, right)
     }
 
-    fn tell() {}
+    fn bytes(&self) -> u64 {
+        (self.normal.len() as u64).saturating_mul(BYTES_OF_ID)
+    }
+
+    fn last() {}
+}
+
+fn are_different(first: bool, second: bool, left: u32, right: u32) -> bool
+    ensures { IsTrue result ↔ (IsTrue first × IsTrue second × (left ≢ right)) }
+{
+    first && second && left != right
 }

@@ -1,7 +1,7 @@
 //! The first fork among critical peaks to two terms that never meet.
-ghost use Rattle.std.specs.Prelude.{◌≡◌, ◌<◌, All, length, Ok, IfOk, OnOk, MatchOption};
+ghost use Rattle.std.specs.Prelude.{◌<◌, All, length, Ok, IsTrue, IfOk, OnOk, MatchOption};
 ghost use Rattle.term_pool.specs.ListedIds.{listed_at};
-ghost use Rattle.term_pool.specs.Pooled.{Extends, tree_at};
+ghost use Rattle.term_pool.specs.Pooled.{tree_at};
 ghost use Rattle.assign_search.specs.Continues.{Continues};
 ghost use Rattle.join_find.specs.crit_pairs.PeakList.{ListsPeaks};
 ghost use Rattle.join_find.specs.Sides.{HasSides};
@@ -9,26 +9,30 @@ ghost use Rattle.join_find.specs.Answers.{IsFinding};
 ghost use Rattle.conf_find.specs.Fork.{fork_of};
 ghost use Rattle.conf_find.specs.ForkRows.{FindsParted, FailsParted, PartsNot, PartsBy, IsTestOf};
 ghost use Rattle.conf_find.specs.ForkRows.{NothingParted, PartsLists};
+ghost use Rattle.conf_find.specs.Marks.{AreMarkedIds};
+ghost use Rattle.conf_find.specs.ReachedSides.{AreReached, AreMarksOf};
+ghost use Rattle.conf_find.specs.SameSides.{HaveSameSides};
 
 use crate::forks::{ForkFound, fork_from};
-use crate::mark::{Mark, marks_of};
+use crate::marks::Marks;
 use crate::parting::first_parted;
-use crate::reaching::{entry, reach};
+use crate::reached_sides::{ReachedSides, make_room};
+use crate::reaching::entry;
 use assign_search::{Search, Stop};
 use join_find::critical_peaks_have_sides;
 use rewrite_core::{ForkTest, PathStep, Peak};
 use std::alloc::Global;
 use term_pool::{Pool, RulesByRoot, ids_are_distinct};
-use trs_caps::KnownCaps;
 use trs_core::{OutOfMemory, Trs};
 
 /// The fork at the first peak that has one: to the first term that the left side reaches and that
 /// never meets some term that the right side reaches, as their marks tell, and for it to the first
 /// such term.
 ///
-/// `stop` is asked before the first peak and before each one. All terms of a peak stand in one
-/// pool, which is released after the peak.
-pub(crate) fn first_fork<M: Mark, P: Stop>(
+/// `stop` is asked before the first peak and before each one. What a side reaches is found once for
+/// all its peaks, as long as not too much is kept, and a peak with the sides of the one before it is
+/// passed over.
+pub(crate) fn first_fork<M: Marks, P: Stop>(
     alloc: Global,
     trs: &Trs,
     peaks: &[Peak],
@@ -45,82 +49,81 @@ pub(crate) fn first_fork<M: Mark, P: Stop>(
     }
     critical_peaks_have_sides(trs);
     let by_root = RulesByRoot::new(alloc, trs)?;
-    let mut pool = Pool::new(alloc);
+    let mut sides = ReachedSides::new(alloc);
+    let mut marks = M::new(alloc);
+    let mut before: Option<&Peak> = None;
     for peak in peaks {
         if stop.stopped() {
             return Ok(Search::Stopped);
         }
-        match fork_at::<M>(alloc, &mut pool, &by_root, peak)? {
+        if let Some(other) = before {
+            if have_same_sides(other, peak) {
+                continue;
+            }
+        }
+        match fork_at(alloc, &mut sides, &mut marks, &by_root, peak)? {
             Some(found) => return Ok(Search::Found(found)),
-            None => {}
+            None => before = Some(peak),
         }
     }
     Ok(Search::NotThere)
 }
 
-/// The fork of one peak, if there is one. The pool is as before.
-fn fork_at<M: Mark>(
-    alloc: Global,
-    pool: &mut Pool,
-    by_root: &RulesByRoot,
-    peak: &Peak,
-) -> Result<Option<ForkFound>, OutOfMemory>
-    requires sides { HasSides peak.now }
-    ensures fork { IfOk result (λ found. MatchOption found
-        (PartsNot M.never_meet by_root.now.rules peak.now)
-        (λ f. PartsBy M.never_meet by_root.now.rules peak.now (fork_of f))) }
-    ensures released { OnOk result (pool.new ≡ pool.old) }
+/// Whether two peaks have the same sides.
+fn have_same_sides(a: &Peak, b: &Peak) -> bool
+    ensures { IsTrue result → HaveSameSides a.now b.now }
 {
-    let mark = pool.mark();
-    let found = fork_within::<M>(alloc, pool, by_root, peak)?;
-    pool.release(mark);
-    Ok(found)
+    a.left.same(&b.left) && a.right.same(&b.right)
 }
 
-/// The same. What both sides reach stays in the pool, and is listed once where they are equal.
-fn fork_within<M: Mark>(
+/// The fork of one peak, if there is one.
+fn fork_at<M: Marks>(
     alloc: Global,
-    pool: &mut Pool,
+    sides: &mut ReachedSides,
+    marks: &mut M,
     by_root: &RulesByRoot,
     peak: &Peak,
 ) -> Result<Option<ForkFound>, OutOfMemory>
-    requires sides { HasSides peak.now }
+    requires peak { HasSides peak.now }
+    requires sides { AreReached by_root.now.rules sides.old }
+    requires marks { AreMarksOf M.has_mark M.of_pool by_root.now.rules sides.old marks.old }
     ensures fork { IfOk result (λ found. MatchOption found
         (PartsNot M.never_meet by_root.now.rules peak.now)
         (λ f. PartsBy M.never_meet by_root.now.rules peak.now (fork_of f))) }
-    ensures kept { Extends pool.old pool.new }
+    ensures sides { OnOk result (AreReached by_root.now.rules sides.new) }
+    ensures marks { OnOk result (
+        AreMarksOf M.has_mark M.of_pool by_root.now.rules sides.new marks.new) }
 {
-    let lefts = reach(alloc, pool, by_root, &peak.left)?;
-    if peak.left.same(&peak.right) {
-        return fork_between::<M>(alloc, pool, by_root, peak, &lefts, &lefts);
-    }
-    let rights = reach(alloc, pool, by_root, &peak.right)?;
-    fork_between::<M>(alloc, pool, by_root, peak, &lefts, &rights)
+    make_room(alloc, sides, marks);
+    let left = sides.list(alloc, by_root, &peak.left, marks)?;
+    let right = sides.list(alloc, by_root, &peak.right, marks)?;
+    let lefts = sides.at(left);
+    let rights = sides.at(right);
+    fork_between(alloc, sides.pool(), by_root, peak, marks, lefts, rights)
 }
 
 /// The fork to the first two terms of these lists that never meet.
-fn fork_between<M: Mark>(
+fn fork_between<M: Marks>(
     alloc: Global,
     pool: &Pool,
     by_root: &RulesByRoot,
     peak: &Peak,
+    marks: &M,
     lefts: &[(u32, Vec<PathStep>)],
     rights: &[(u32, Vec<PathStep>)],
 ) -> Result<Option<ForkFound>, OutOfMemory>
     requires lefts { All (λ e. e.0 < length pool.now) lefts.now }
     requires rights { All (λ e. e.0 < length pool.now) rights.now }
+    requires marked_lefts { AreMarkedIds M.has_mark marks.now lefts.now }
+    requires marked_rights { AreMarkedIds M.has_mark marks.now rights.now }
+    requires marks { M.of_pool by_root.now.rules pool.now marks.now }
     ensures { IfOk result (λ found. MatchOption found
         (NothingParted M.never_meet by_root.now.rules (listed_at pool.now lefts.now)
         (listed_at pool.now rights.now))
         (λ f. PartsLists M.never_meet by_root.now.rules peak.now (listed_at pool.now lefts.now)
         (listed_at pool.now rights.now) (fork_of f))) }
 {
-    let mut known = KnownCaps::new(alloc);
-    let left_marks: Vec<M> = marks_of(alloc, pool, by_root, lefts, &mut known)?;
-    let right_marks: Vec<M> = marks_of(alloc, pool, by_root, rights, &mut known)?;
-    ids_are_distinct(pool);
-    M::tell();
-    match first_parted(&left_marks, &right_marks) {
+    match first_parted(marks, pool, by_root, lefts, rights) {
         None => Ok(None),
         Some((i, j)) => {
             let left = entry(lefts, i);

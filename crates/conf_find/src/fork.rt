@@ -6,12 +6,12 @@ ghost use Rattle.join_find.specs.Answers.{IsFinding};
 ghost use Rattle.conf_find.specs.Fork.{fork_of};
 ghost use Rattle.conf_find.specs.ForkRows.{FindsFork, FailsFork};
 
+use crate::caps::CapMarks;
 use crate::first_fork::first_fork;
 use crate::forks::ForkFound;
 use assign_search::{Search, Stop};
 use rewrite_core::Peak;
 use std::alloc::Global;
-use trs_caps::Cap;
 use trs_core::{OutOfMemory, Trs};
 
 /// A fork to two terms that are apart by their caps. At the first peak that has one: the first term
@@ -19,8 +19,8 @@ use trs_core::{OutOfMemory, Trs};
 /// it the first such term, within 8 steps, 32 terms and 4,096 nodes. The test is `Normal` where both
 /// are normal forms. It never answers `Spent`.
 ///
-/// `stop` is asked before the first peak and before each one. All terms of a peak stand in one
-/// pool, which is released after the peak.
+/// `stop` is asked before the first peak and before each one. What a side reaches is found once for
+/// all its peaks, as long as not too much is kept.
 pub fn find_fork<P: Stop>(
     alloc: Global,
     trs: &Trs,
@@ -33,5 +33,5 @@ pub fn find_fork<P: Stop>(
         (FailsFork trs.now.rules peaks.now) (P.stops stop.old < P.stops stop.new)) }
     ensures continues { Continues P.Stop stop.old stop.new }
 {
-    first_fork::<Cap, P>(alloc, trs, peaks, stop)
+    first_fork::<CapMarks, P>(alloc, trs, peaks, stop)
 }

@@ -4,15 +4,19 @@
 //! (Zankl, Felgenhauer and Middeldorp, CSI, a confluence tool, 2011.)
 #![tactic(auto)]
 
+mod cap_meeting;
+mod cap_node;
 mod caps;
 mod endings;
 mod first_fork;
 mod fork;
 mod forks;
 mod laws;
-mod mark;
+mod marks;
 mod parting;
+mod reached_sides;
 mod reaching;
+mod shared_caps;
 mod split;
 
 pub use fork::find_fork;

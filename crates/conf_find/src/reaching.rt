@@ -1,15 +1,14 @@
 //! What the sides of a peak reach in few steps.
 ghost use Rattle.std.specs.Prelude.{◌≡◌, ◌<◌, All, Some, length, slice_get, IfOk};
-ghost use Rattle.trs_core.specs.View.{tree};
-ghost use Rattle.term_pool.specs.Pooled.{Extends};
+ghost use Rattle.term_pool.specs.Pooled.{Extends, tree_at};
 ghost use Rattle.term_pool.specs.ListedIds.{listed_at};
-ghost use Rattle.join_find.specs.Sides.{IsSide};
+ghost use Rattle.join_find.specs.ReachedSides.{IsNarrowAt};
 ghost use Rattle.conf_find.specs.ForkRows.{IsShortReach};
 
 use rewrite_core::PathStep;
 use std::alloc::Global;
-use term_pool::{Pool, RulesByRoot};
-use trs_core::{OutOfMemory, Term};
+use term_pool::{Pool, RulesByRoot, paths_keep_narrow};
+use trs_core::OutOfMemory;
 
 const MOST_STEPS: u32 = 8;
 
@@ -17,20 +16,21 @@ const MOST_TERMS: u32 = 32;
 
 const MOST_NODES: u64 = 4_096;
 
-/// The terms that a side of a peak reaches, in up to 8 steps, up to 32 of up to 4,096 nodes.
+/// The terms that the term of an id reaches, in up to 8 steps, up to 32 of up to 4,096 nodes.
 pub(crate) fn reach(
     alloc: Global,
     pool: &mut Pool,
     by_root: &RulesByRoot,
-    side: &Term,
+    id: u32,
 ) -> Result<Vec<(u32, Vec<PathStep>)>, OutOfMemory>
-    requires side { IsSide (tree side.now) }
+    requires narrow { IsNarrowAt pool.old id }
     ensures list { IfOk result (λ found.
-        IsShortReach by_root.now.rules (tree side.now) (listed_at pool.new found.items)) }
+        IsShortReach by_root.now.rules (tree_at pool.old id) (listed_at pool.new found.items)) }
     ensures there { IfOk result (λ found. All (λ e. e.0 < length pool.new) found.items) }
+    ensures narrow { IfOk result (λ found. All (λ e. IsNarrowAt pool.new e.0) found.items) }
     ensures kept { Extends pool.old pool.new }
 {
-    let id = pool.intern(alloc, side)?;
+    paths_keep_narrow(by_root.trs());
     pool.reach_by_root(alloc, by_root, id, MOST_STEPS, MOST_TERMS, MOST_NODES)
 }
 

@@ -6,7 +6,7 @@ ghost use Rattle.join_find.specs.Answers.{IsFinding};
 ghost use Rattle.conf_find.specs.Fork.{fork_of};
 ghost use Rattle.conf_find.specs.ForkRows.{FindsSplit, FailsSplit};
 
-use crate::endings::Ending;
+use crate::endings::Endings;
 use crate::first_fork::first_fork;
 use crate::forks::ForkFound;
 use assign_search::{Search, Stop};
@@ -18,8 +18,8 @@ use trs_core::{OutOfMemory, Trs};
 /// the left side reaches and for which the right side reaches a different one, and for it the first
 /// such, within 8 steps, 32 terms and 4,096 nodes. It never answers `Spent`.
 ///
-/// `stop` is asked before the first peak and before each one. All terms of a peak stand in one
-/// pool, which is released after the peak.
+/// `stop` is asked before the first peak and before each one. What a side reaches is found once for
+/// all its peaks, as long as not too much is kept.
 pub fn find_split<P: Stop>(
     alloc: Global,
     trs: &Trs,
@@ -32,5 +32,5 @@ pub fn find_split<P: Stop>(
         (FailsSplit trs.now.rules peaks.now) (P.stops stop.old < P.stops stop.new)) }
     ensures continues { Continues P.Stop stop.old stop.new }
 {
-    first_fork::<Ending, P>(alloc, trs, peaks, stop)
+    first_fork::<Endings, P>(alloc, trs, peaks, stop)
 }

@@ -15,7 +15,7 @@ use Rattle.term_pool.proofs.RedexLists.{below_nothing}
 use Rattle.rewrite_core.specs.PlacedPeak.{PlacedPeak}
 use Rattle.closed_pairs.specs.ParallelClosed.{paths_of}
 use Rattle.join_find.specs.First.{Along}
-use Rattle.join_find.specs.ParallelRow.{IsParallelStep, IsParallelClosing, HasNoClosing}
+use Rattle.join_find.specs.ParallelRow.{IsParallelStep, IsParallelClosing, HasNoClosing, no_step}
 use Rattle.join_find.proofs.Firsts.{along_one_more}
 use Rattle.join_find.proofs.ParallelSteps.{one_parallel_step}
 
@@ -26,6 +26,12 @@ all_steps rules s t old steps place root none g =
     subst (λ xs. IsParallelStep rules s t xs) (sym e) g.1
 
 module _ (rules : List RewriteRule) (peak : PlacedPeak) where
+  -- equal sides are closed with no step
+  pub equal_sides_close : (steps : List PlacedRule) → peak.left ≡ peak.right → steps ≡ [] → IsParallelClosing rules peak steps
+  equal_sides_close steps same none =
+      let here : IsParallelStep rules peak.left peak.right [] = subst (λ t. IsParallelStep rules peak.left t []) same no_step in
+      subst (IsParallelClosing rules peak) (sym none) (record { parallel = here; follows = same })
+
   pub no_parallel_step : ((ss : List PlacedRule) → IsParallelStep rules peak.left peak.right ss → ⊥) → HasNoClosing rules peak
   no_parallel_step none = record { none = λ ss h. none ss h.parallel }
 

@@ -78,7 +78,7 @@ fn has_linear_left(rule: &Rule) -> bool
     rule.left.is_linear()
 }
 
-/// The parallel step of one peak, if there is one. The pool is as before.
+/// The parallel step of one peak, if there is one. Equal sides need no pool. The pool is as before.
 fn closing(
     alloc: Global,
     pool: &mut Pool,
@@ -93,6 +93,9 @@ fn closing(
         (λ steps. IsParallelClosing trs.now.rules peak.now steps.items)) }
     ensures released { OnOk result (pool.new ≡ pool.old) }
 {
+    if peak.left.same(&peak.right) {
+        return Ok(Some(Vec::new(alloc)));
+    }
     let mark = pool.mark();
     let step = closing_within(alloc, pool, trs, by_root, peak)?;
     pool.release(mark);

@@ -1,6 +1,8 @@
 -- A step by a rule with a linear right side makes a term larger by at most that side.
-use Rattle.std.specs.Prelude.{◌≡◌, ◌≢◌, ◌<◌, ◌≤◌, ℕ, ◌+◌, ◌*◌, Bool, true, false, ◌==◌, if◌then◌else◌, List, [], ◌∷◌, Some, length, IsTrue, slice_get, refl}
-use Rattle.std.proofs.Common.{zero, suc, ap, sym, ◌∙◌, subst, get_or, arith, add-mul, suc-mul, mul-le-mul_right}
+use Rattle.std.specs.Prelude.{◌≡◌, ◌≢◌, ◌<◌, ◌≤◌, ℕ, ◌+◌, ◌*◌, Bool, true, false, ◌==◌, if◌then◌else◌, nat_le, List, [], ◌∷◌, Some, length, IsTrue, slice_get, refl}
+use Rattle.std.proofs.Common.{zero, suc, ap, sym, ◌∙◌, subst, get_or, drop, arith, inl, inr, add-mul, suc-mul, mul-le-mul_right}
+use Rattle.std.proofs.lemmas.List.{drop_all}
+use Rattle.trs_defs.proofs.ArgumentLists.{cell}
 use Rattle.std.proofs.Math.Decide.{ℕ_discrete}
 use Rattle.std.proofs.lemmas.Bool.Decides.{nat_tests}
 use Rattle.std.proofs.lemmas.Option.{slice_get_read, slice_get_within, same_Some}
@@ -16,7 +18,7 @@ use Rattle.trs_defs.proofs.Members.{in_of_get, get_of_in}
 use Rattle.trs_core.specs.SystemLimits.{nodes_of}
 use Rattle.trs_defs.proofs.OccurrenceLaws.{no_occurrence}
 use Rattle.term_pool.specs.Listed.{Listed}
-use Rattle.path_lists.specs.Growth.{GrowsBy, AreRightLinear}
+use Rattle.path_lists.specs.Growth.{GrowsBy, IsGrowthOf, AreRightLinear}
 use Rattle.path_lists.specs.Adding.{KeepsSmall}
 
 -- ---- sums over the variables below a number
@@ -209,7 +211,50 @@ all_small rules items i most same all before rule there =
     let below = slice_get_within items k rule at in
     before k rule (omega (arith, below, all)) at
 
+-- a step makes a term larger by no more than a growth that is known, or its linear right side
+pub step_grows : (system : System) (known k growth : ℕ) (rule : RewriteRule) → IsSystem system → nodes_of system.rules ≤ 65536 → GrowsBy system.rules known → slice_get system.rules k ≡ Some rule
+    → IsGrowthOf rule known growth → (p : List ℕ) (t u : Tree) → StepsAt system.rules p k t u → size_of u ≤ size_of t + growth
+step_grows system known k growth rule valid few grows there kind p t u step = elim kind [
+  | inl same ↦ (let more = grows.step p k t u step in omega (arith, more, same))
+  | inr linear ↦
+      let is : step.rule ≡ rule = same_Some step.rule rule (sym step.numbered ∙ there) in
+      let size : size_of step.rule.right ≡ size_of rule.right = ap (λ (r : RewriteRule). size_of r.right) is in
+      let once : IsLinear step.rule.right = subst (λ (r : RewriteRule). IsLinear r.right) (sym is) linear.0 in
+      let within = within_nodes system.rules k rule there in
+      let most = linear.1 (omega (arith, within, few)) in
+      let replaced = size_replaced p t (apply step.substitution step.rule.left) (apply step.substitution step.rule.right) u step.from step.to in
+      let right = right_instance step.substitution step.rule.left step.rule.right once (valid.each k step.rule step.numbered).variables in
+      omega (arith, replaced, right, size, most)
+]
+
+pub at_most : (a b : ℕ) → IsTrue (nat_le a b) → a ≤ b
+at_most a b h = grind arith
+
+pub growth_itself : (rules : List RewriteRule) (known k : ℕ) → GrowsBy rules known → (p : List ℕ) (t u : Tree) → StepsAt rules p k t u → size_of u ≤ size_of t + known
+growth_itself rules known k grows p t u step = grows.step p k t u step
+
 -- ---- paths
+
+-- what is left of a path, from a term that is not too large
+pub record IsLeft (rules : List RewriteRule) (path : List PlacedRule) (most : ℕ) (u : Tree) : Type 0 where
+  pub from : Tree
+  pub small : size_of from ≤ most
+  pub follows : Follows rules path from u
+
+pub one_less_step : (rules : List RewriteRule) (path : List PlacedRule) (i : ℕ) (step : PlacedRule) (more most new : ℕ) (u : Tree) → i < length path → step ≡ get_or path i step
+    → ((p : List ℕ) (t v : Tree) → StepsAt rules p step.rule t v → size_of v ≤ size_of t + more) → most + more ≤ new → IsLeft rules (drop i path) most u → IsLeft rules (drop (i + 1) path) new u
+one_less_step rules path i step more most new u below is grows fits left =
+    let (v, steps, within, rest) : Follows rules (step ∷ drop (i + 1) path) left.from u = subst (λ ss. Follows rules ss left.from u) (cell path i step below is) left.follows in
+    let small = left.small in
+    let larger = grows step.place left.from v steps in
+    record { from = v; small = omega (arith, small, larger, fits); follows = rest }
+
+pub no_step_left : (rules : List RewriteRule) (path : List PlacedRule) (i most : ℕ) (u : Tree) → length path ≤ i → IsLeft rules (drop i path) most u → size_of u ≤ most
+no_step_left rules path i most u all left =
+    let same : left.from ≡ u = subst (λ ss. Follows rules ss left.from u) (drop_all i path all) left.follows in
+    let small = left.small in
+    let size = ap size_of same in
+    omega (arith, small, size)
 
 path_grows : (rules : List RewriteRule) (growth : ℕ) → GrowsBy rules growth → (path : List PlacedRule) (t u : Tree) → Follows rules path t u → size_of u ≤ size_of t + length path * growth
 path_grows rules growth grows [] t u same = let size = ap size_of same in omega (arith, size)

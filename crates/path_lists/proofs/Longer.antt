@@ -1,5 +1,5 @@
 -- Lists of paths that end at 256, and what is added to them.
-use Rattle.std.specs.Prelude.{◌≡◌, ◌<◌, ◌≤◌, ℕ, ◌+◌, List, [], ◌∷◌, ◌++◌, All, Some, length, take, slice_get, refl}
+use Rattle.std.specs.Prelude.{◌≡◌, ◌<◌, ◌≤◌, ℕ, ◌+◌, List, [], ◌∷◌, ◌++◌, All, Some, length, take, slice_get, IsTrue, refl}
 use Rattle.std.specs.Global.{Vec}
 use Rattle.std.proofs.Common.{zero, suc, ap, sym, ◌∙◌, subst, get_or, drop, append_assoc, append-nil, length-append, arith}
 use Rattle.std.proofs.Math.Seq.{take-suc}
@@ -9,7 +9,8 @@ use Rattle.std.proofs.lemmas.Option.{get_or_from_slice_get, same_Some, slice_get
 use Rattle.trs_defs.specs.Member.{In}
 use Rattle.trs_defs.specs.Tree.{Tree}
 use Rattle.trs_defs.specs.System.{RewriteRule}
-use Rattle.trs_defs.specs.Path.{PlacedRule}
+use Rattle.trs_defs.specs.Size.{size_of, within_limits}
+use Rattle.trs_defs.specs.Path.{PlacedRule, StepsAt}
 use Rattle.trs_defs.proofs.Members.{in_right}
 use Rattle.trs_defs.proofs.ListItems.{take_one_more}
 use Rattle.term_pool.specs.Pooled.{Extends, StandsFor, tree_at}
@@ -17,7 +18,7 @@ use Rattle.term_pool.specs.Redexes.{HasRedexes, IsRedexAt}
 use Rattle.term_pool.specs.Listed.{Listed}
 use Rattle.term_pool.specs.ListedIds.{listed, listed_at}
 use Rattle.term_pool.specs.Reach.{AreReducts, no_step, kept, left_out, AreCandidates, no_entry, expanded, after_step}
-use Rattle.term_pool.proofs.ListingLaws.{reducts_there, reducts_append, candidates_append}
+use Rattle.term_pool.proofs.ListingLaws.{reducts_there, reducts_append, candidates_append, small_kept}
 use Rattle.term_pool.proofs.ReachedIds.{same_listed, length_listed}
 use Rattle.term_pool.proofs.PoolTrees.{stands_at}
 use Rattle.path_lists.specs.PathList.{no_steps}
@@ -39,6 +40,12 @@ take_take zero a es le = refl
 take_take (suc n) zero es le = absurd (omega (arith, le))
 take_take (suc n) (suc a) [] le = refl
 take_take (suc n) (suc a) (x ∷ es) le = ap (λ xs. x ∷ xs) (take_take n a es (omega (arith, le)))
+
+-- an end that is small
+pub kept_end : (rules : List RewriteRule) (s : PlacedRule) (t : Tree) (old new : List Tree) (id : ℕ) → StepsAt rules s.place s.rule t (tree_at new id) → IsTrue (within_limits (tree_at new id))
+    → id < length new → length new ≤ length old + size_of (tree_at new id) → size_of (tree_at new id) ≤ 4096 → IsKeptEnd rules s t old new id
+kept_end rules s t old new id steps within there few small =
+    record { steps = steps; small = small_kept 4096 (tree_at new id) small within; there = there; few = omega (arith, few, small) }
 
 -- ---- what is added one after another
 

@@ -4,7 +4,7 @@ use Rattle.std.specs.Global.{Vec}
 use Rattle.trs_defs.specs.Tree.{Tree}
 use Rattle.trs_defs.specs.Size.{size_of}
 use Rattle.trs_defs.specs.System.{RewriteRule}
-use Rattle.trs_defs.specs.Path.{PlacedRule, StepsAt}
+use Rattle.trs_defs.specs.Path.{PlacedRule, StepsAt, Follows}
 use Rattle.term_pool.specs.Pooled.{tree_at}
 use Rattle.term_pool.specs.Listed.{Listed}
 use Rattle.term_pool.specs.ListedIds.{listed_at}
@@ -37,6 +37,12 @@ pub record AddsPaths (kind : List Listed → Type 0) (old new : List Tree) (befo
 -- from the end of a path of fewer than 4 steps, steps lead to terms of at most 4,096 nodes
 pub record KeepsSmall (rules : List RewriteRule) (e : Listed) : Type 0 where
   pub small : length e.path < 4 → (s : PlacedRule) (u : Tree) → StepsAt rules s.place s.rule e.term u → size_of u ≤ 4096
+
+-- the path leads here from a term of at most so many nodes
+pub record LeadsFrom (rules : List RewriteRule) (nodes : ℕ) (e : Listed) : Type 0 where
+  pub start : Tree
+  pub small : size_of start ≤ nodes
+  pub follows : Follows rules e.path start e.term
 
 -- the id is the result of the step, which is small enough; at most 4,096 ids were added
 pub record IsKeptEnd (rules : List RewriteRule) (s : PlacedRule) (t : Tree) (old new : List Tree) (id : ℕ) : Type 0 where

@@ -6,6 +6,7 @@
 mod growth;
 mod laws;
 mod paths;
+mod room;
 
 pub use growth::growth_of;
 pub use laws::{listed_paths_lead, path_lists_are_one};

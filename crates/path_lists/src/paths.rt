@@ -10,9 +10,10 @@ ghost use Rattle.term_pool.specs.Reach.{AreReducts, AreCandidates};
 ghost use Rattle.path_lists.specs.PathList.{IsPathList};
 ghost use Rattle.path_lists.specs.Growth.{GrowsBy};
 ghost use Rattle.path_lists.specs.Adding.{AddsPaths, IsEntryAt, KeepsSmall};
-ghost use Rattle.path_lists.specs.Adding.{IsKeptEnd, IsLeftOut};
+ghost use Rattle.path_lists.specs.Adding.{LeadsFrom, IsKeptEnd, IsLeftOut};
 
 use crate::growth::stays_small;
+use crate::room::Room;
 use rewrite_core::copy_path;
 use std::alloc::Global;
 use term_pool::{PathStep, Pool, RulesByRoot, paths_keep_narrow};
@@ -30,8 +31,8 @@ pub const MOST_OF_PATHS: u32 = 1_114_112;
 /// The paths from a term, of up to 4 steps, with the ids of their ends: by their length, then by
 /// the order of the path without its last step, then by that of the redexes. Ends of more than
 /// 4,096 nodes or past a limit are left out; of the others the list has the first 256. `growth`
-/// is by how many nodes a step makes a term larger at most: where the ends must be small by that
-/// alone, their nodes are not counted.
+/// is by how many nodes a step makes a term larger at most: where the ends must be small by that,
+/// or by the right sides of the rules along a path, their nodes are not counted.
 pub fn paths_from(
     alloc: Global,
     pool: &mut Pool,
@@ -54,13 +55,17 @@ pub fn paths_from(
 {
     paths_keep_narrow(trs);
     let is_sure = stays_small(start, growth);
+    let room = Room {
+        start: start.size(),
+        growth,
+    };
     let id = pool.intern(alloc, start)?;
     let mut paths = Vec::new(alloc);
     paths.push((id, Vec::new(alloc)))?;
     let mut next = 0;
     while next < paths.len() && paths.len() < MOST_PATHS {
         let entry = entry_at(alloc, &paths, next)?;
-        add_longer(alloc, pool, trs, by_root, is_sure, &entry, &mut paths)?;
+        add_longer(alloc, pool, trs, by_root, is_sure, room, &entry, &mut paths)?;
         next += 1;
     }
     Ok(paths)
@@ -86,6 +91,7 @@ fn add_longer(
     trs: &Trs,
     by_root: &RulesByRoot,
     is_sure: bool,
+    room: Room,
     entry: &(u32, Vec<PathStep>),
     paths: &mut Vec<(u32, Vec<PathStep>)>,
 ) -> Result<(), OutOfMemory>
@@ -93,6 +99,8 @@ fn add_longer(
     requires there { entry.now.0 < length pool.old }
     requires narrow { IsNarrow (tree_at pool.old entry.now.0) }
     requires sure { IsTrue is_sure → KeepsSmall trs.now.rules (listed pool.old entry.now) }
+    requires grows { GrowsBy trs.now.rules room.growth }
+    requires from { LeadsFrom trs.now.rules room.start (listed pool.old entry.now) }
     requires below { All (λ e. e.0 < length pool.old) paths.old.items }
     requires few { length paths.old.items ≤ 256 }
     ensures adds { OnOk result (AddsPaths (AreCandidates trs.now.rules 4 4096
@@ -107,7 +115,7 @@ fn add_longer(
         if paths.len() >= MOST_PATHS {
             return Ok(());
         }
-        add_path(alloc, pool, trs, is_sure, entry, step, paths)?;
+        add_path(alloc, pool, trs, is_sure, room, entry, step, paths)?;
     }
     Ok(())
 }
@@ -118,6 +126,7 @@ fn add_path(
     pool: &mut Pool,
     trs: &Trs,
     is_sure: bool,
+    room: Room,
     entry: &(u32, Vec<PathStep>),
     step: &PathStep,
     paths: &mut Vec<(u32, Vec<PathStep>)>,
@@ -126,6 +135,8 @@ fn add_path(
     requires short { length entry.now.1.items < 4 }
     requires redex { IsRedexAt trs.now.rules (tree_at pool.old entry.now.0) step.now }
     requires sure { IsTrue is_sure → KeepsSmall trs.now.rules (listed pool.old entry.now) }
+    requires grows { GrowsBy trs.now.rules room.growth }
+    requires from { LeadsFrom trs.now.rules room.start (listed pool.old entry.now) }
     requires below { All (λ e. e.0 < length pool.old) paths.old.items }
     requires space { length paths.old.items < 256 }
     ensures adds { OnOk result (AddsPaths (AreReducts trs.now.rules 4096
@@ -133,7 +144,7 @@ fn add_path(
         paths.old.items paths.new.items) }
     ensures kept { Extends pool.old pool.new }
 {
-    match small_end(alloc, pool, trs, is_sure, entry, step)? {
+    match small_end(alloc, pool, trs, is_sure, room, entry, step)? {
         None => Ok(()),
         Some(end) => {
             paths.push((end, longer(alloc, &entry.1, step)?))?;
@@ -161,6 +172,7 @@ fn small_end(
     pool: &mut Pool,
     trs: &Trs,
     is_sure: bool,
+    room: Room,
     entry: &(u32, Vec<PathStep>),
     step: &PathStep,
 ) -> Result<Option<u32>, OutOfMemory>
@@ -168,6 +180,8 @@ fn small_end(
     requires short { length entry.now.1.items < 4 }
     requires redex { IsRedexAt trs.now.rules (tree_at pool.old entry.now.0) step.now }
     requires sure { IsTrue is_sure → KeepsSmall trs.now.rules (listed pool.old entry.now) }
+    requires grows { GrowsBy trs.now.rules room.growth }
+    requires from { LeadsFrom trs.now.rules room.start (listed pool.old entry.now) }
     ensures end { IfOk result (λ found. IfSome found (IsKeptEnd trs.now.rules step.now
         (tree_at pool.old entry.now.0) pool.old pool.new)) }
     ensures none { IfOk result (λ found. IfNone found (IsLeftOut trs.now.rules step.now
@@ -184,6 +198,9 @@ fn small_end(
         }
     };
     if is_sure {
+        return Ok(Some(end));
+    }
+    if room.suffices(trs, &entry.1, step.rule) {
         return Ok(Some(end));
     }
     if is_small(alloc, pool, end)? {

@@ -49,6 +49,11 @@ add_path-requires-clause-sure c =
     let same = same_tree_at c.args.pool.now c.loop-step.pool c.loop-step.invariant.kept c.args.entry.now.0 c.requires.there in
     rw same c.requires.sure
 
+pub add_path-requires-clause-from : goal.add_path-requires-clause-from
+add_path-requires-clause-from c =
+    let same = same_tree_at c.args.pool.now c.loop-step.pool c.loop-step.invariant.kept c.args.entry.now.0 c.requires.there in
+    rw same c.requires.from
+
 pub loop-step-preserved : goal.loop-step-preserved
 loop-step-preserved c =
     let same = same_tree_at c.args.pool.now c.loop-step.pool c.loop-step.invariant.kept c.args.entry.now.0 c.requires.there in

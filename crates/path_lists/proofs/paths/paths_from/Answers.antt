@@ -56,6 +56,15 @@ add_longer-requires-clause-sure c = λ sure.
     short_paths_keep_small c.args.trs.now.rules c.args.growth (tree c.args.start.now) (listed c.loop-next.pool c.in_ok-entry.entry) c.requires.grows
     (follows (goal.at.add_longer-requires-clause-sure c).In_ok-entry) (c.stays_small-is_sure.ensures sure)
 
+pub add_longer-requires-clause-from : goal.add_longer-requires-clause-from
+add_longer-requires-clause-from c =
+    let size = limits_size (tree c.args.start.now) c.requires.small in
+    record {
+      start = tree c.args.start.now;
+      small = omega (arith, size, c.size.ensures);
+      follows = follows (goal.at.add_longer-requires-clause-from c).In_ok-entry;
+    }
+
 pub loop-next-preserved : goal.loop-next-preserved
 loop-next-preserved c =
     let i = c.loop-next.invariant in

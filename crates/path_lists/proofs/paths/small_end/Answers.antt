@@ -1,5 +1,8 @@
-use Rattle.std.proofs.Common.{◌≡◌}
+use Rattle.std.proofs.Common.{◌≡◌, List, sym, subst}
+use Rattle.trs_defs.specs.Path.{PlacedRule, StepsAt, Follows}
+use Rattle.term_pool.specs.Pooled.{tree_at}
 use Rattle.term_pool.proofs.Extending.{extends_itself, undone}
+use Rattle.path_lists.proofs.Longer.{kept_end}
 use Rattle.path_lists.proofs.paths.small_end.Goals.{After-release}
 use Rattle.path_lists.proofs.paths.small_end.Goals as goal
 
@@ -11,3 +14,14 @@ returns-clause-unchanged c = unchanged (goal.at.returns-clause-unchanged c).Afte
 
 pub returns-clause-kept : goal.returns-clause-kept
 returns-clause-kept c = rw (unchanged (goal.at.returns-clause-kept c).After-release) (extends_itself c.args.pool.now)
+
+pub returns-then-suffices-clause-end : goal.returns-then-suffices-clause-end
+returns-then-suffices-clause-end c =
+    let rules = c.args.trs.now.rules in
+    let t = tree_at c.args.pool.now c.args.entry.now.0 in
+    let u = tree_at c.step_at.new.self c.in-Ok.end in
+    let from = c.requires.from in
+    let follows : Follows rules c.deref.result.now from.start t = subst (λ (path : List PlacedRule). Follows rules path from.start t) (sym c.deref.ensures.value) from.follows in
+    let step : StepsAt rules c.args.step.now.place c.args.step.now.rule t u = subst (λ (s : PlacedRule). StepsAt rules s.place s.rule t u) c.step.view_is c.in-Ok.ensures.step in
+    kept_end rules c.args.step.now t c.args.pool.now c.step_at.new.self c.in-Ok.end step c.in-Ok.ensures.limits
+    c.in-Ok.ensures.there c.in-Ok.ensures.few (c.suffices.ensures c.if-suffices.true from.start t u c.step.inside.place from.small follows c.in-Ok.ensures.step)
