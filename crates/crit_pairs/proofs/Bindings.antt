@@ -17,7 +17,7 @@ use Rattle.trs_core.specs.View.{tree, forest}
 use Rattle.trs_core.proofs.Comparing.{count_forest}
 use Rattle.crit_pairs.specs.Sides.{DoNotMeet}
 use Rattle.crit_pairs.specs.declared.meeting.Binding.{Binding}
-use Rattle.crit_pairs.specs.Meeting.{bound_term, solution, Solves, IsFree}
+use Rattle.crit_pairs.specs.Meeting.{bound_term, solution, Solves, IsFree, AreEqualUnder}
 
 pub solves_nothing : (θ : ℕ → Tree) → Solves [] θ
 solves_nothing θ = record { solves = λ v t e. absurd cc }
@@ -115,6 +115,10 @@ solution_found a b old bs none h free =
 
 pub no_solution : (a b : Tree) (old : List Binding) → old ≡ [] → ((θ : ℕ → Tree) → Solves old θ → apply θ a ≡ apply θ b → ⊥) → DoNotMeet a b
 no_solution a b old none h σ e = h σ (subst (λ z. Solves z σ) (sym none) (solves_nothing σ)) e
+
+-- terms that are equal under the bindings at most
+pub equal_at_most : (a b : Tree) (old bs : List Binding) → old ≡ [] → ((θ : ℕ → Tree) → Solves old θ → apply θ a ≡ apply θ b → Solves bs θ) → AreEqualUnder bs a b
+equal_at_most a b old bs none h θ e = h θ (subst (λ z. Solves z θ) (sym none) (solves_nothing θ)) e
 
 -- terms with other roots, or other numbers of arguments, are apart
 pub clash : (old : List Binding) (f g : ℕ) (fs gs : List Term) (t u : Tree) → t ≡ app f (forest fs) → u ≡ app g (forest gs) → (f ≡ g → length fs ≡ length gs → ⊥)

@@ -1,9 +1,6 @@
 -- Bindings that lead from a variable back to it.
-use Rattle.std.proofs.Common.{◌≡◌, ◌==◌, ◌<◌, ◌≤◌, inl, inr, Bool, true, false, ◌||◌, ℕ, List, [], ◌∷◌, ◌++◌, length, get_or, Option, Some, None, zero, suc, refl, ap, sym, ◌∙◌, subst, arith}
+use Rattle.std.proofs.Common.{◌≡◌, ◌<◌, ◌≤◌, ℕ, List, [], ◌∷◌, length, get_or, Option, Some, None, zero, suc, ap, ◌∙◌, arith}
 use Rattle.std.specs.Prelude.{IfSome}
-use Rattle.std.specs.List.{list_any}
-use Rattle.std.proofs.lemmas.List.Folds.{list_any-append}
-use Rattle.std.proofs.lemmas.Bool.{eqb-true, or_cases}
 use Rattle.trs_defs.specs.Tree.{Tree, Trees, var, app}
 use Rattle.trs_defs.specs.Size.{size_of, size_of_all}
 use Rattle.trs_defs.specs.Substitution.{apply, apply_all}
@@ -54,24 +51,17 @@ pub some_bound : (bs : List Binding) (o : Option ℕ) (v : ℕ) (b t : Tree) (f 
 some_bound bs None v b t f ts bound same is s = s
 some_bound bs (Some w) v b t f ts bound same is s = below_bound bs v w b t f ts bound same is s
 
--- the variable has a smaller instance than each of these
-abbrev pub IsBelowAll : List Binding → ℕ → List ℕ → Type 0
-IsBelowAll bs v ps = (p : ℕ) → list_any (λ y. y == p) ps ≡ true → (θ : ℕ → Tree) → Solves bs θ → size_of (θ v) < size_of (θ p)
+-- the first variable's instance is no larger than the second's
+abbrev pub IsAtMost : List Binding → ℕ → ℕ → Type 0
+IsAtMost bs v p = (θ : ℕ → Tree) → Solves bs θ → size_of (θ v) ≤ size_of (θ p)
 
-first_of : (a : Bool) → (a || false) ≡ true → a ≡ true
-first_of true e = refl
-first_of false e = absurd cc
+pub at_most_itself : (bs : List Binding) (v p : ℕ) → v ≡ p → IsAtMost bs v p
+at_most_itself bs v p e θ h = omega (arith, ap (λ z. size_of (θ z)) e)
 
-pub below_none : (bs : List Binding) (v : ℕ) (ps : List ℕ) → ps ≡ [] → IsBelowAll bs v ps
-below_none bs v ps is p has θ h = absurd (cc (sym (ap (list_any (λ y. y == p)) is) ∙ has))
-
-pub next_below : (bs : List Binding) (v w : ℕ) (ps new : List ℕ) → IsBelowAll bs v ps → new ≡ ps ++ v ∷ [] → ((θ : ℕ → Tree) → Solves bs θ → size_of (θ w) < size_of (θ v)) → IsBelowAll bs w new
-next_below bs v w ps new below is less p has θ h =
-    elim (or_cases (list_any (λ y. y == p) ps) ((v == p) || false) (sym (list_any-append (λ y. y == p) ps (v ∷ [])) ∙ (sym (ap (list_any (λ y. y == p)) is) ∙ has))) as (λ _. size_of (θ w) < size_of (θ p)) [
-      | inl a ↦ let x = below p a θ h in let y = less θ h in omega (arith, x, y)
-      | inr b ↦ let e : v ≡ p = eqb-true v p (first_of (v == p) b) in subst (λ z. size_of (θ w) < size_of (θ z)) e (less θ h)
-    ]
+pub next_at_most : (bs : List Binding) (v w p : ℕ) → IsAtMost bs v p → ((θ : ℕ → Tree) → Solves bs θ → size_of (θ w) < size_of (θ v)) → IsAtMost bs w p
+next_at_most bs v w p most less θ h = let a = most θ h in let b = less θ h in omega (arith, a, b)
 
 -- the variable would have a smaller instance than itself
-pub never_below : (bs : List Binding) (v : ℕ) (ps : List ℕ) → IsBelowAll bs v ps → list_any (λ y. y == v) ps ≡ true → HaveNoSolution bs
-never_below bs v ps below has θ h = let k = below v has θ h in absurd (omega (arith, k))
+pub never_below : (bs : List Binding) (v w p : ℕ) → IsAtMost bs v p → ((θ : ℕ → Tree) → Solves bs θ → size_of (θ w) < size_of (θ v)) → w ≡ p → HaveNoSolution bs
+never_below bs v w p most less e θ h =
+    let a = most θ h in let b = less θ h in let same : size_of (θ w) ≡ size_of (θ p) = ap (λ z. size_of (θ z)) e in absurd (omega (arith, a, b, same))

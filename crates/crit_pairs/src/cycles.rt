@@ -1,36 +1,68 @@
 //! Variables that are bound to terms in which they stand themselves.
-ghost use Rattle.std.specs.Prelude.{◌<◌, ℕ, IfOk, IfSome, IsTrue};
+ghost use Rattle.std.specs.Prelude.{◌<◌, ℕ, IfSome, IsTrue};
 ghost use Rattle.trs_defs.specs.Tree.{Tree};
 ghost use Rattle.trs_defs.specs.Size.{size_of};
 ghost use Rattle.trs_core.specs.View.{tree};
 ghost use Rattle.crit_pairs.specs.Meeting.{Solves};
 ghost use Rattle.crit_pairs.specs.Cycles.{HaveNoSolution, StandsIn};
 
-use crate::meeting::{Binding, find, resolve};
-use std::alloc::Global;
-use trs_core::{OutOfMemory, Term};
+use crate::meeting::{Binding, MOST_BINDINGS, find, resolve};
+use trs_core::Term;
 
-/// Whether a variable stands below a symbol in what it is bound to, through other bindings too. Its
-/// instance would have more nodes than it has.
-pub(crate) fn has_cycle(alloc: Global, bindings: &[Binding]) -> Result<bool, OutOfMemory>
-    ensures { IfOk result (λ yes. IsTrue yes → HaveNoSolution bindings.now) }
-{
-    let mut ended = Vec::new(alloc);
-    for _ in 0..bindings.len() {
-        let Some(start) = last_but(bindings, &ended) else {
-            return Ok(false);
-        };
-        if leads_back(alloc, start, bindings, &mut ended)? {
-            return Ok(true);
-        }
-    }
-    Ok(false)
+/// The bindings that are on no cycle, by their places.
+#[derive(Drop)]
+struct Ended {
+    is_ended: [bool; MOST_BINDINGS],
 }
 
-/// The last variable that is bound, but for some. The last bindings close the cycles.
-fn last_but(bindings: &[Binding], ended: &[u32]) -> Option<u32> {
-    for binding in bindings.iter().rev() {
-        if !ended.contains(&binding.variable) {
+impl Ended {
+    /// So many bindings, the first ones, are on no cycle.
+    fn first(count: usize) -> Ended {
+        let mut ended = Ended {
+            is_ended: [false; MOST_BINDINGS],
+        };
+        for place in 0..count {
+            ended.add(place);
+        }
+        ended
+    }
+
+    fn has(&self, place: usize) -> bool {
+        match self.is_ended.get(place) {
+            Some(is_ended) => *is_ended,
+            None => true,
+        }
+    }
+
+    fn add(&mut self, place: usize) {
+        if let Some(is_ended) = self.is_ended.get_mut(place) {
+            *is_ended = true;
+        }
+    }
+}
+
+/// Whether a variable stands below a symbol in what it is bound to, through other bindings too. Its
+/// instance would have more nodes than it has. None is looked for from the bindings before the first
+/// one. It takes no memory.
+pub(crate) fn has_cycle(bindings: &[Binding], first: usize) -> bool
+    ensures { IsTrue result → HaveNoSolution bindings.now }
+{
+    let mut ended = Ended::first(first);
+    for _ in 0..bindings.len() {
+        let Some(start) = first_but(bindings, &ended) else {
+            return false;
+        };
+        if leads_back(start, bindings, &mut ended) {
+            return true;
+        }
+    }
+    false
+}
+
+/// The first variable that is bound, but for some.
+fn first_but(bindings: &[Binding], ended: &Ended) -> Option<u32> {
+    for (place, binding) in bindings.iter().enumerate() {
+        if !ended.has(place) {
             return Some(binding.variable);
         }
     }
@@ -38,37 +70,48 @@ fn last_but(bindings: &[Binding], ended: &[u32]) -> Option<u32> {
 }
 
 /// Whether variables lead from one to the next, each below the symbol that the one before is bound to,
-/// and back. Where the answer is no, one more variable has ended: nothing leads on from it.
-#[tactic(auto, using(crate::proofs::CyclesOfBindings::below_none, crate::proofs::CyclesOfBindings::next_below, crate::proofs::CyclesOfBindings::never_below))]
-fn leads_back(
-    alloc: Global,
-    start: u32,
-    bindings: &[Binding],
-    ended: &mut Vec<u32>,
-) -> Result<bool, OutOfMemory>
-    ensures { IfOk result (λ yes. IsTrue yes → HaveNoSolution bindings.now) }
+/// and back. Where the answer is no, one more variable has ended: nothing leads on from it. The one
+/// that is looked out for is taken anew after 1, 2, 4, 8, .. steps. (Brent, An improved Monte Carlo
+/// factorization algorithm, 1980.)
+#[tactic(auto, using(crate::proofs::CyclesOfBindings::at_most_itself, crate::proofs::CyclesOfBindings::next_at_most, crate::proofs::CyclesOfBindings::never_below))]
+fn leads_back(start: u32, bindings: &[Binding], ended: &mut Ended) -> bool
+    ensures { IsTrue result → HaveNoSolution bindings.now }
 {
-    let mut passed = Vec::new(alloc);
+    let mut passed = start;
     let mut current = start;
-    for _ in 0..bindings.len() {
-        passed.push(current)?;
+    for step in 0..3 * MOST_BINDINGS {
         match variable_below(current, bindings, ended) {
             None => {
-                ended.push(current)?;
-                return Ok(false);
+                end(current, bindings, ended);
+                return false;
             }
             Some(next) => current = next,
         }
-        if passed.contains(&current) {
-            return Ok(true);
+        if current == passed {
+            return true;
+        }
+        if step.is_power_of_two() {
+            passed = current;
         }
     }
-    Ok(false)
+    false
+}
+
+/// Nothing leads on from the variable.
+fn end(v: u32, bindings: &[Binding], ended: &mut Ended) {
+    if let Some(place) = place_of(bindings, v) {
+        ended.add(place);
+    }
+}
+
+/// The place of a variable's binding.
+fn place_of(bindings: &[Binding], v: u32) -> Option<usize> {
+    bindings.iter().position(|binding| binding.variable == v)
 }
 
 /// A variable that is bound, and stands below the symbol that another one is bound to.
 #[tactic(auto, using(crate::proofs::CyclesOfBindings::some_bound))]
-fn variable_below(v: u32, bindings: &[Binding], ended: &[u32]) -> Option<u32>
+fn variable_below(v: u32, bindings: &[Binding], ended: &Ended) -> Option<u32>
     ensures { IfSome result (λ w. (θ : ℕ → Tree) → Solves bindings.now θ
         → size_of (θ w) < size_of (θ v)) }
 {
@@ -81,12 +124,13 @@ fn variable_below(v: u32, bindings: &[Binding], ended: &[u32]) -> Option<u32>
 }
 
 /// A variable that is bound, and occurs in a term.
-fn variable_in(t: &Term, bindings: &[Binding], ended: &[u32]) -> Option<u32>
+fn variable_in(t: &Term, bindings: &[Binding], ended: &Ended) -> Option<u32>
     ensures { IfSome result (λ w. StandsIn bindings.now w (tree t.now)) }
 {
     match t {
         Term::Var(v) => {
-            if find(bindings, *v).is_none() || ended.contains(v) {
+            let place = place_of(bindings, *v)?;
+            if ended.has(place) {
                 return None;
             }
             Some(*v)

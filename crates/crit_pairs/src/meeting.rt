@@ -1,4 +1,4 @@
-ghost use Rattle.std.specs.Prelude.{◌≡◌, ◌↔◌, IfOk, IsTrue, All};
+ghost use Rattle.std.specs.Prelude.{◌≡◌, ◌↔◌, IfOk, IfNone, IsTrue, All};
 ghost use Rattle.std.specs.Option.{option_map};
 ghost use Rattle.trs_defs.specs.Tree.{Tree, var};
 ghost use Rattle.trs_core.specs.View.{tree};
@@ -11,7 +11,13 @@ use std::alloc::Global;
 use trs_core::{OutOfMemory, Term};
 
 /// How many variables are bound before it is left to `unify`: bindings are looked for one by one.
-const MOST_BINDINGS: usize = 16;
+pub(crate) const MOST_BINDINGS: usize = 16;
+
+/// How often what a variable is bound to is met with another term before it is left to `unify`.
+const MOST_RETURNS: u32 = 16;
+
+/// How many levels are walked down, through bindings too. Terms have no more.
+const MOST_LEVELS: u32 = 1_040;
 
 /// A variable, and the term that it must be equal to.
 #[derive(Clone, Copy)]
@@ -50,29 +56,28 @@ pub(crate) fn solve<'a>(
 ) -> Result<Solution<'a>, OutOfMemory>
     ensures { IfOk result (IsSolution (tree a.now) (tree b.now)) }
 {
-    let mut bindings = Vec::new(alloc);
-    let meeting = meet(a, b, &mut bindings)?;
+    let mut bindings = Vec::with_capacity(alloc, MOST_BINDINGS)?;
+    let mut returns = MOST_RETURNS;
+    let meeting = meet(a, b, MOST_LEVELS, &mut bindings, &mut returns)?;
     match meeting {
         Meeting::Apart => Ok(Solution::None),
-        Meeting::Unclear => refute(alloc, &bindings),
-        Meeting::Met => {
-            if are_free(&bindings) {
-                return Ok(Solution::Unifier(bindings));
-            }
-            refute(alloc, &bindings)
-        }
+        Meeting::Unclear => Ok(refute(&bindings, 0)),
+        Meeting::Met => match first_not_free(&bindings) {
+            None => Ok(Solution::Unifier(bindings)),
+            Some(first) => Ok(refute(&bindings, first)),
+        },
     }
 }
 
-/// Terms that are equal under the bindings at most have no unifier where these have a cycle.
-fn refute<'a>(alloc: Global, bindings: &[Binding]) -> Result<Solution<'a>, OutOfMemory>
-    ensures { IfOk result (λ solution. (a b : Tree) → AreEqualUnder bindings.now a b
-        → IsSolution a b solution) }
+/// Terms that are equal under the bindings at most have no unifier where these have a cycle. None is
+/// looked for from the bindings before the first one.
+fn refute<'a>(bindings: &[Binding], first: usize) -> Solution<'a>
+    ensures { (a b : Tree) → AreEqualUnder bindings.now a b → IsSolution a b result }
 {
-    if has_cycle(alloc, bindings)? {
-        return Ok(Solution::None);
+    if has_cycle(bindings, first) {
+        return Solution::None;
     }
-    Ok(Solution::Unclear)
+    Solution::Unclear
 }
 
 /// Whether two symbols differ that stand at one place, or their numbers of arguments. Then nothing
@@ -96,15 +101,21 @@ pub(crate) fn clash(a: &Term, b: &Term) -> bool
     }
 }
 
-/// Binds what must be bound for the terms to be equal.
+/// Binds what must be bound for the terms to be equal, as far as so many levels go.
+#[cycle(meet)]
 fn meet<'a>(
     a: &'a Term,
     b: &'a Term,
+    levels: u32,
     bindings: &mut Vec<Binding<'a>>,
+    returns: &mut u32,
 ) -> Result<Meeting, OutOfMemory>
     ensures { IfOk result
         (Meets (tree a.now) (tree b.now) bindings.old.items bindings.new.items) }
 {
+    if levels == 0 {
+        return Ok(Meeting::Unclear);
+    }
     match (a, b) {
         (Term::App(f, fs), Term::App(g, gs)) => {
             if *f != *g || fs.items.len() != gs.items.len() {
@@ -112,7 +123,7 @@ fn meet<'a>(
             }
             let mut is_clear = true;
             for (i, x) in fs.items.iter().enumerate() {
-                let meeting = meet(x, &gs.items[i], bindings)?;
+                let meeting = meet(x, &gs.items[i], levels - 1, bindings, returns)?;
                 match meeting {
                     Meeting::Apart => return Ok(Meeting::Apart),
                     Meeting::Met => {}
@@ -125,16 +136,19 @@ fn meet<'a>(
                 Ok(Meeting::Unclear)
             }
         }
-        (Term::Var(_), _) => meet_variable(a, b, bindings),
-        (Term::App(_, _), Term::Var(_)) => meet_variable(a, b, bindings),
+        (Term::Var(_), _) => meet_variable(a, b, levels, bindings, returns),
+        (Term::App(_, _), Term::Var(_)) => meet_variable(a, b, levels, bindings, returns),
     }
 }
 
 /// The same for terms of which one is a variable.
+#[cycle(meet)]
 fn meet_variable<'a>(
     a: &'a Term,
     b: &'a Term,
+    levels: u32,
     bindings: &mut Vec<Binding<'a>>,
+    returns: &mut u32,
 ) -> Result<Meeting, OutOfMemory>
     ensures { IfOk result
         (Meets (tree a.now) (tree b.now) bindings.old.items bindings.new.items) }
@@ -146,16 +160,52 @@ fn meet_variable<'a>(
             if *v == *w {
                 return Ok(Meeting::Met);
             }
-            bind(*v, y, bindings)
+            // A variable that was not bound before is bound to the other one: chains stay short.
+            if is_variable(a, *v) {
+                bind(*v, y, bindings)
+            } else {
+                bind_to_left(x, *w, bindings)
+            }
         }
         (Term::Var(v), Term::App(_, _)) => bind(*v, y, bindings),
         (Term::App(_, _), Term::Var(w)) => bind_to_left(x, *w, bindings),
-        (Term::App(_, _), Term::App(_, _)) => {
-            if are_apart(a, b, x, y) {
-                return Ok(Meeting::Apart);
-            }
-            Ok(Meeting::Unclear)
+        (Term::App(_, _), Term::App(_, _)) => meet_bound(a, b, x, y, levels, bindings, returns),
+    }
+}
+
+/// Binds what must be bound for `x` and `y` to be equal, which `a` and `b` are bound to.
+#[cycle(meet)]
+fn meet_bound<'a>(
+    a: &'a Term,
+    b: &'a Term,
+    x: &'a Term,
+    y: &'a Term,
+    levels: u32,
+    bindings: &mut Vec<Binding<'a>>,
+    returns: &mut u32,
+) -> Result<Meeting, OutOfMemory>
+    ensures { IfOk result
+        (Meets (tree x.now) (tree y.now) bindings.old.items bindings.new.items) }
+{
+    if levels == 0 || *returns == 0 || are_variables(a, b) {
+        if are_apart(a, b, x, y) {
+            return Ok(Meeting::Apart);
         }
+        return Ok(Meeting::Unclear);
+    }
+    *returns -= 1;
+    meet(x, y, levels - 1, bindings, returns)
+}
+
+fn are_variables(a: &Term, b: &Term) -> bool {
+    matches!((a, b), (Term::Var(_), Term::Var(_)))
+}
+
+/// Whether a term is this variable.
+fn is_variable(t: &Term, v: u32) -> bool {
+    match t {
+        Term::Var(w) => *w == v,
+        Term::App(_, _) => false,
     }
 }
 
@@ -164,10 +214,10 @@ fn meet_variable<'a>(
 fn are_apart(a: &Term, b: &Term, x: &Term, y: &Term) -> bool
     ensures { IsTrue result → DoNotMeet (tree x.now) (tree y.now) }
 {
-    match (a, b) {
-        (Term::Var(_), Term::Var(_)) => have_other_roots(x, y),
-        _ => clash(x, y),
+    if are_variables(a, b) {
+        return have_other_roots(x, y);
     }
+    clash(x, y)
 }
 
 /// Whether two terms have two symbols at their roots.
@@ -234,16 +284,16 @@ pub(crate) fn find<'a>(bindings: &[Binding<'a>], v: u32) -> Option<&'a Term>
     None
 }
 
-/// Whether the terms of the bindings have no variable that is bound.
-fn are_free(bindings: &[Binding]) -> bool
-    ensures { IsTrue result → All (λ b. IsFree bindings.now (tree b.term.now)) bindings.now }
+/// The place of the first binding whose term has a variable that is bound.
+fn first_not_free(bindings: &[Binding]) -> Option<usize>
+    ensures { IfNone result (All (λ b. IsFree bindings.now (tree b.term.now)) bindings.now) }
 {
-    for binding in bindings {
+    for (place, binding) in bindings.iter().enumerate() {
         if !is_free(binding.term, bindings) {
-            return false;
+            return Some(place);
         }
     }
-    true
+    None
 }
 
 /// Whether the term has no variable that is bound.

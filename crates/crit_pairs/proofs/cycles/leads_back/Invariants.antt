@@ -1,5 +1,5 @@
-use Rattle.crit_pairs.proofs.CyclesOfBindings.{IsBelowAll}
+use Rattle.crit_pairs.proofs.CyclesOfBindings.{IsAtMost}
 use Rattle.crit_pairs.proofs.cycles.leads_back.Given as goal
 
-abbrev pub invariant-loop : goal.invariant-loop
-invariant-loop l = IsBelowAll l.bindings l.current l.passed.items
+abbrev pub invariant-loop-step : goal.invariant-loop-step
+invariant-loop-step l = IsAtMost l.bindings l.current l.passed
