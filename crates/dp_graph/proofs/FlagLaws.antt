@@ -1,26 +1,13 @@
--- Rows of flags: compared, added and set.
-use Rattle.std.specs.Prelude.{◌≡◌, ◌<◌, ◌≤◌, ◌↔◌, ◌⊎◌, ℕ, ◌+◌, ◌++◌, Bool, true, false, List, [], ◌∷◌, length, take, get_or, Some, None, IsTrue, Vec, slice_get, slice_set, ◌==◌, refl}
+-- Rows of flags: added and set.
+use Rattle.std.specs.Prelude.{◌≡◌, ◌<◌, ◌↔◌, ◌⊎◌, ℕ, ◌+◌, ◌++◌, Bool, true, false, List, [], ◌∷◌, length, Some, None, IsTrue, Vec, slice_get, slice_set, ◌==◌, refl}
 use Rattle.std.specs.declared.alloc.Global.{Global}
-use Rattle.std.proofs.Common.{inl, inr, sym, ap, ap₂, subst, arith, ◌∙◌}
+use Rattle.std.proofs.Common.{inl, inr, sym, ap, subst, arith, ◌∙◌}
 use Rattle.std.proofs.lemmas.Bool.Decides.{Decides-eqb}
-use Rattle.std.proofs.lemmas.List.{take_all, take_more}
 use Rattle.std.proofs.lemmas.Option.{same_Some}
 use native.Mathlib.Decide.{ℕ_discrete}
 use Rattle.trs_defs.proofs.ListItems.{last_item}
 use Rattle.dp_graph.specs.FlagRows.{IsSet, HasFlags, KeepFlags}
 use Rattle.dp_graph.proofs.ListPlaces.{last_or_there, still_there, set_here, set_elsewhere, set_cases}
-
--- ---- compared
-
-pub next_equal : (xs ys : List Bool) (i : ℕ) (x y : Bool) → i < length xs → i < length ys → x ≡ get_or xs i x → y ≡ get_or ys i y → x ≡ y → take i xs ≡ take i ys
-    → take (i + 1) xs ≡ take (i + 1) ys
-next_equal xs ys i x y lt also is_x is_y same so_far =
-    let first : take (i + 1) xs ≡ take i xs ++ x ∷ [] = take_more xs i x lt ∙ ap (λ z. take i xs ++ z ∷ []) (sym is_x) in
-    let second : take (i + 1) ys ≡ take i ys ++ y ∷ [] = take_more ys i y also ∙ ap (λ z. take i ys ++ z ∷ []) (sym is_y) in
-    first ∙ (ap₂ (λ l z. l ++ z ∷ []) so_far same ∙ sym second)
-
-pub all_equal : (xs ys : List Bool) (i : ℕ) → length xs ≡ length ys → length xs ≤ i → take i xs ≡ take i ys → xs ≡ ys
-all_equal xs ys i count past same = sym (take_all i xs past) ∙ (same ∙ take_all i ys (omega (arith, count, past)))
 
 -- ---- set
 
