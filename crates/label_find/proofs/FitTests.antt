@@ -14,7 +14,6 @@ use Rattle.rule_label.specs.Labelled.{ranks_along}
 use Rattle.rule_label.specs.FittingRanks.{FitAfter}
 use Rattle.rule_label.proofs.RanksInTurn.{small_rank, low_rank, same_rank, no_rank, nothing_left}
 use Rattle.label_find.specs.LabelRow.{rules_along}
-use Rattle.label_find.specs.declared.meeting.Meeting.{Meeting}
 use Rattle.label_find.specs.Constraint.{fit_after, some_fit, some_meet}
 
 module _ (a b c : ℕ) (later : List ℕ) where
@@ -100,24 +99,25 @@ module _ (ranks : List ℕ) where
   some_fit_from a b (x ∷ lists) l in_first h = or_left (fit_after false a b (map (rank_of ranks) l.items)) (some_fit ranks a b lists) ((fits false a b (map (rank_of ranks) l.items)).1 h)
   some_fit_from a b (x ∷ lists) l (in_rest i) h = or_right (fit_after false a b (map (rank_of ranks) x.items)) (some_fit ranks a b lists) (some_fit_from a b lists l i h)
 
-  abbrev pub Meets : ℕ → ℕ → Meeting → Type 0
-  Meets a b m = IsTrue (some_fit ranks a b m.lefts.items) × IsTrue (some_fit ranks b a m.rights.items)
+  module _ (lefts rights : ℕ → List (Vec ℕ)) where
+    abbrev pub Meets : ℕ → ℕ → ℕ × ℕ → Type 0
+    Meets a b m = IsTrue (some_fit ranks a b (lefts m.0)) × IsTrue (some_fit ranks b a (rights m.1))
 
-  pub some_meet_has : (a b : ℕ) (ms : List Meeting) → IsTrue (some_meet ranks a b ms) → (m : Meeting) × In m ms × Meets a b m
-  some_meet_has a b [] h = absurd cc
-  some_meet_has a b (m ∷ ms) h = go (some_fit ranks a b m.lefts.items && some_fit ranks b a m.rights.items) refl (λ k. some_meet_has a b ms k)
-    where
-      go : (t : Bool) → (some_fit ranks a b m.lefts.items && some_fit ranks b a m.rights.items) ≡ t → (IsTrue (some_meet ranks a b ms) → (n : Meeting) × In n ms × Meets a b n)
-          → (n : Meeting) × In n (m ∷ ms) × Meets a b n
-      go true e rest = (m, in_first, and_parts (some_fit ranks a b m.lefts.items) (some_fit ranks b a m.rights.items) e)
-      go false e rest = let later : IsTrue (some_meet ranks a b ms) = rw e at h in let (n, i, k) = rest later in (n, in_rest i, k)
+    pub some_meet_has : (a b : ℕ) (ms : List (ℕ × ℕ)) → IsTrue (some_meet ranks a b lefts rights ms) → (m : ℕ × ℕ) × In m ms × Meets a b m
+    some_meet_has a b [] h = absurd cc
+    some_meet_has a b (m ∷ ms) h = go (some_fit ranks a b (lefts m.0) && some_fit ranks b a (rights m.1)) refl (λ k. some_meet_has a b ms k)
+      where
+        go : (t : Bool) → (some_fit ranks a b (lefts m.0) && some_fit ranks b a (rights m.1)) ≡ t → (IsTrue (some_meet ranks a b lefts rights ms) → (n : ℕ × ℕ) × In n ms × Meets a b n)
+            → (n : ℕ × ℕ) × In n (m ∷ ms) × Meets a b n
+        go true e rest = (m, in_first, and_parts (some_fit ranks a b (lefts m.0)) (some_fit ranks b a (rights m.1)) e)
+        go false e rest = let later : IsTrue (some_meet ranks a b lefts rights ms) = rw e at h in let (n, i, k) = rest later in (n, in_rest i, k)
 
-  pub some_meet_from : (a b : ℕ) (ms : List Meeting) (m : Meeting) → In m ms → Meets a b m → IsTrue (some_meet ranks a b ms)
-  some_meet_from a b [] m i h = elim i [ ]
-  some_meet_from a b (x ∷ ms) m in_first h =
-      or_left (some_fit ranks a b m.lefts.items && some_fit ranks b a m.rights.items) (some_meet ranks a b ms)
-      (and_from (some_fit ranks a b m.lefts.items) (some_fit ranks b a m.rights.items) h.0 h.1)
-  some_meet_from a b (x ∷ ms) m (in_rest i) h = or_right (some_fit ranks a b x.lefts.items && some_fit ranks b a x.rights.items) (some_meet ranks a b ms) (some_meet_from a b ms m i h)
+    pub some_meet_from : (a b : ℕ) (ms : List (ℕ × ℕ)) (m : ℕ × ℕ) → In m ms → Meets a b m → IsTrue (some_meet ranks a b lefts rights ms)
+    some_meet_from a b [] m i h = elim i [ ]
+    some_meet_from a b (x ∷ ms) m in_first h =
+        or_left (some_fit ranks a b (lefts m.0) && some_fit ranks b a (rights m.1)) (some_meet ranks a b lefts rights ms)
+        (and_from (some_fit ranks a b (lefts m.0)) (some_fit ranks b a (rights m.1)) h.0 h.1)
+    some_meet_from a b (x ∷ ms) m (in_rest i) h = or_right (some_fit ranks a b (lefts x.0) && some_fit ranks b a (rights x.1)) (some_meet ranks a b lefts rights ms) (some_meet_from a b ms m i h)
 
 -- ---- as they are read
 

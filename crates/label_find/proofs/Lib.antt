@@ -1,5 +1,6 @@
 pub mod FitTests
 pub mod RuleLists
+pub mod Groupings
 pub mod MeetingLists
 pub mod ConstraintLaws
 pub mod Closings
@@ -9,4 +10,5 @@ pub mod ListEnds
 pub mod Searching
 pub mod LabelLaw
 pub mod PathsOfSides
-pub mod Groupings
+pub mod NumberedSides
+pub mod SideReads

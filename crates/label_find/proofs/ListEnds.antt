@@ -1,5 +1,5 @@
 -- The end of a list of rules is what a search reaches to.
-use Rattle.std.specs.Prelude.{◌≡◌, ◌<◌, ◌⊎◌, ℕ, ◌+◌, ◌^◌, max, true, ◌==◌, List, [], ◌∷◌, length, All, get_or, IsTrue, refl}
+use Rattle.std.specs.Prelude.{◌≡◌, ◌<◌, ◌⊎◌, ℕ, ◌+◌, ◌^◌, max, true, ◌==◌, List, [], ◌∷◌, ◌++◌, length, All, get_or, IsTrue, refl}
 use Rattle.std.proofs.Common.{zero, suc, inl, inr, sym, ap, arith, ◌∙◌, drop}
 use Rattle.std.proofs.lemmas.Bool.{or_cases, or_left, or_right}
 use Rattle.std.proofs.lemmas.List.{drop_more}
@@ -44,8 +44,18 @@ item_listed [] i d within = absurd (omega (arith, within))
 item_listed (k ∷ ks) zero d within = or_left (k == k) (is_listed k ks) (equal_itself k)
 item_listed (k ∷ ks) (suc i) d within = or_right (k == get_or ks i d) (is_listed (get_or ks i d) ks) (item_listed ks i d (omega (arith, within)))
 
-pub ends_fit : (ks : List ℕ) (n : ℕ) → n < 2 ^ 32 → ((k : ℕ) → IsTrue (is_listed k ks) → k < n) → All (λ k. k + 1 < 2 ^ 32) ks
-ends_fit ks n few below = λ i d within. (let less = below (get_or ks i d) (item_listed ks i d within) in omega (arith, few, less))
+pub ends_fit : (ks : List ℕ) → ((k : ℕ) → IsTrue (is_listed k ks) → k + 1 < 2 ^ 32) → All (λ k. k + 1 < 2 ^ 32) ks
+ends_fit ks few = λ i d within. few (get_or ks i d) (item_listed ks i d within)
+
+-- the end of two lists
+end_of_both : (xs ys : List ℕ) → end_of (xs ++ ys) ≡ max (end_of xs) (end_of ys)
+end_of_both [] ys = omega arith
+end_of_both (x ∷ xs) ys = let rest = end_of_both xs ys in omega (arith, rest)
+
+-- the end of a peak's rules and of those of its sides
+pub end_of_peak : (inner outer : ℕ) (lefts rights : List ℕ) (left right a b end : ℕ) → left ≡ end_of lefts → right ≡ end_of rights → a ≡ max left right → b ≡ max a (inner + 1) → end ≡ max b (outer + 1)
+    → end ≡ end_of (inner ∷ outer ∷ (lefts ++ rights))
+end_of_peak inner outer lefts rights left right a b end left_is right_is a_is b_is end_is = let both = end_of_both lefts rights in omega (arith, both, left_is, right_is, a_is, b_is, end_is)
 
 -- what is left of the rules
 pub end_more : (ks : List ℕ) (i k end new : ℕ) → i < length ks → k ≡ get_or ks i 0 → new ≡ max end (k + 1) → max end (end_of (drop i ks)) ≡ end_of ks → max new (end_of (drop (i + 1) ks)) ≡ end_of ks

@@ -7,14 +7,13 @@ use Rattle.term_pool.specs.Pooled.{Extends, StandsFor, tree_at}
 use Rattle.term_pool.specs.Listed.{Listed}
 use Rattle.term_pool.specs.ListedIds.{listed_at}
 use Rattle.term_pool.proofs.ReachedIds.{same_listed}
-use Rattle.term_pool.proofs.Extending.{same_tree_at}
+use Rattle.term_pool.proofs.Extending.{extends_itself, same_tree_at}
 use Rattle.term_pool.proofs.PoolTrees.{stands_at, stands_within}
-use Rattle.join_find.specs.KeptLists.{list_of, IsPut}
-use Rattle.join_find.specs.declared.kept_lists.KeptLists.{KeptLists}
+use Rattle.join_find.specs.KeptLists.{list_of, IsPut, AreOf}
 use Rattle.join_find.proofs.KeptOfSides.{none_kept, one_more_kept, of_weaker_kind}
 use Rattle.path_lists.specs.PathList.{IsPathList}
 use Rattle.path_lists.specs.Adding.{Entry}
-use Rattle.label_find.specs.ListedSides.{IsPathsOf, AreListed}
+use Rattle.label_find.specs.ListedSides.{IsPathsOf, AreListed, HasSameLists}
 use Rattle.label_find.specs.declared.listed_sides.ListedSides.{ListedSides}
 
 paths_still : (rules : List RewriteRule) (a b : List Tree) (id : ℕ) (found : List Entry) → Extends a b → IsPathsOf rules a id found → IsPathsOf rules b id found
@@ -27,25 +26,29 @@ paths_still rules a b id found extends h =
       below = All-weaker (λ e. e.0 < length a) (λ e. e.0 < length b) (λ x k. omega (arith, k, extends.longer)) found h.below;
     }
 
-abbrev sides_of : List Tree → KeptLists → ListedSides
-sides_of pool lists = record { pool = pool; lists = lists }
-
 -- no sides
-pub none_listed : (rules : List RewriteRule) (pool : List Tree) (lists : KeptLists) → ((id : ℕ) → list_of lists id ≡ None) → AreListed rules (sides_of pool lists)
-none_listed rules pool lists none = record { lists = none_kept (IsPathsOf rules pool) lists none }
+pub none_listed : (rules : List RewriteRule) (sides : ListedSides) → ((id : ℕ) → list_of sides.lists id ≡ None) → AreListed rules sides
+none_listed rules sides none = record { lists = none_kept (IsPathsOf rules sides.pool) sides.lists none }
 
-module _ (rules : List RewriteRule) (old : ListedSides) (sides : AreListed rules old) (pool : List Tree) (extends : Extends old.pool pool) where
+module _ (rules : List RewriteRule) (old new : ListedSides) (sides : AreListed rules old) (extends : Extends old.pool new.pool) where
+  still_of_kind : AreOf (IsPathsOf rules new.pool) old.lists
+  still_of_kind = of_weaker_kind (IsPathsOf rules old.pool) (IsPathsOf rules new.pool) old.lists (λ id found. paths_still rules old.pool new.pool id found extends) sides.lists
+
   -- the pool has grown
-  pub listed_still : AreListed rules (sides_of pool old.lists)
-  listed_still = record { lists = of_weaker_kind (IsPathsOf rules old.pool) (IsPathsOf rules pool) old.lists (λ id found. paths_still rules old.pool pool id found extends) sides.lists }
+  pub listed_still : new.lists ≡ old.lists → AreListed rules new
+  listed_still same = record { lists = subst (AreOf (IsPathsOf rules new.pool)) (sym same) still_of_kind }
 
   -- the paths from one more side are listed
-  pub one_more_listed : (lists : KeptLists) (id : ℕ) (found : List Entry) (t : Tree) → IsPut id found old.lists lists → StandsFor pool id t → IsPathList rules t (listed_at pool found)
-      → All (λ e. e.0 < length pool) found → AreListed rules (sides_of pool lists)
-  one_more_listed lists id found t put is list below =
-      let Q : Tree → Type 0 = λ u. IsPathList rules u (listed_at pool found) in
-      let paths : IsPathsOf rules pool id found = record { there = stands_within pool id t is; list = subst Q (sym (stands_at pool id t is)) list; below = below } in
-      record { lists = one_more_kept (IsPathsOf rules pool) old.lists lists id found listed_still.lists put paths }
+  pub one_more_listed : (id : ℕ) (found : List Entry) (t : Tree) → IsPut id found old.lists new.lists → StandsFor new.pool id t → IsPathList rules t (listed_at new.pool found)
+      → All (λ e. e.0 < length new.pool) found → AreListed rules new
+  one_more_listed id found t put is list below =
+      let Q : Tree → Type 0 = λ u. IsPathList rules u (listed_at new.pool found) in
+      let paths : IsPathsOf rules new.pool id found = record { there = stands_within new.pool id t is; list = subst Q (sym (stands_at new.pool id t is)) list; below = below } in
+      record { lists = one_more_kept (IsPathsOf rules new.pool) old.lists new.lists id found still_of_kind put paths }
+
+-- the pool and the lists are the same
+pub listed_same : (rules : List RewriteRule) (old new : ListedSides) → HasSameLists old new → AreListed rules old → AreListed rules new
+listed_same rules old new same sides = listed_still rules old new sides (subst (λ (pool : List Tree). Extends old.pool pool) (sym same.pool) (extends_itself old.pool)) same.lists
 
 -- the paths from the side of an id that has a list
 module _ (rules : List RewriteRule) (sides : ListedSides) (listed : AreListed rules sides) (id : ℕ) (t : Tree) (found : List Entry) (at : list_of sides.lists id ≡ Some found) where

@@ -1,15 +1,20 @@
 -- Lists of rules along paths, made path by path.
-use Rattle.std.specs.Prelude.{◌≡◌, ◌≢◌, ◌<◌, ◌≤◌, ◌⊎◌, ℕ, ◌+◌, Bool, true, false, ◌||◌, ◌==◌, List, [], ◌∷◌, ◌++◌, length, take, refl}
+use Rattle.std.specs.Prelude.{◌≡◌, ◌≢◌, ◌<◌, ◌≤◌, ◌⊎◌, ℕ, ◌+◌, Bool, true, false, ◌||◌, ◌==◌, List, [], ◌∷◌, ◌++◌, length, take, IsTrue, refl}
 use Rattle.std.specs.Global.{Vec}
-use Rattle.std.proofs.Common.{suc, ap, sym, ◌∙◌, subst, get_or, inl, inr, append-nil, append_assoc, arith}
+use Rattle.std.specs.List.{insert, HoldsAt}
+use Rattle.std.specs.Cmp.Lexicographic.{slice_cmp}
+use Rattle.std.specs.FinMap.{slice_cmp-IsAntisymmetric, nat_cmp-IsAntisymmetric}
+use Rattle.std.proofs.Common.{suc, ap, sym, ◌∙◌, subst, get_or, drop, inl, inr, nat_cmp, Equal, append-nil, append_assoc, take-append-drop, arith}
 use Rattle.std.proofs.Math.Seq.{take-suc}
 use Rattle.std.proofs.Math.Decide.{ℕ_discrete}
+use Rattle.std.proofs.lemmas.Option.{slice_get-get_or}
 use Rattle.std.proofs.lemmas.List.{take_all, map-append}
 use Rattle.std.proofs.lemmas.Bool.Decides.{nat_tests}
-use Rattle.trs_defs.specs.Member.{In, in_first}
+use Rattle.std.proofs.lemmas.Bool.{or_right, or_left}
+use Rattle.trs_defs.specs.Member.{In, in_first, in_rest}
 use Rattle.trs_defs.specs.Variable.{is_listed}
 use Rattle.trs_defs.specs.Path.{PlacedRule}
-use Rattle.trs_defs.proofs.Members.{in_left, in_right, in_either, in_or, no_in}
+use Rattle.trs_defs.proofs.Members.{in_of_get, in_left, in_right, in_either, in_or, in_take, in_drop, no_in}
 use Rattle.path_lists.specs.Adding.{Entry}
 use Rattle.label_find.specs.LabelRow.{rules_along}
 use Rattle.label_find.specs.Lists.{HasRules, AddsList, rules_in, IsWith}
@@ -21,13 +26,6 @@ take_more {A} xs i a below is =
     let n : i + 1 ≡ suc i = omega arith in
     let G : A → Type 0 = λ x. take (i + 1) xs ≡ take i xs ++ x ∷ [] in
     subst G (sym is) (ap (λ k. take k xs) n ∙ take-suc xs i a below)
-
-module _ {A : Type 0} (xs : List A) (i : ℕ) (a : A) (below : i < length xs) (is : a ≡ get_or xs i a) where
-  pub one_of_more : (x : A) → In x (take (i + 1) xs) → In x (take i xs) ⊎ (x ≡ a)
-  one_of_more x h = elim (in_either (take i xs) (a ∷ []) (subst (λ (ys : List A). In x ys) (take_more xs i a below is) h)) [
-    | inl old ↦ inl old
-    | inr new ↦ elim (in_or new) [ inl same ↦ inr same | inr none ↦ absurd (no_in none) ]
-  ]
 
 pub one_of_pushed : {A : Type 0} (old new : List A) (a x : A) → new ≡ old ++ a ∷ [] → In x new → In x old ⊎ (x ≡ a)
 one_of_pushed {A} old new a x is h = elim (in_either old (a ∷ []) (subst (λ (ys : List A). In x ys) is h)) [
@@ -46,22 +44,36 @@ new_in_pushed {A} old new a is = subst (λ (ys : List A). In a ys) (sym is) (in_
 pub other_end : (entry : Entry) (end : ℕ) (lists : List (Vec ℕ)) → entry.0 ≢ end → AddsList entry end lists lists
 other_end entry end lists other = record { from = λ l i. inl i; stays = λ l i. i; there = λ e. absurd (other e) }
 
-pub list_there : (entry : Entry) (end : ℕ) (lists : List (Vec ℕ)) → HasRules (rules_along entry.1.items) lists → AddsList entry end lists lists
+list_there : (entry : Entry) (end : ℕ) (lists : List (Vec ℕ)) → HasRules (rules_along entry.1.items) lists → AddsList entry end lists lists
 list_there entry end lists h = record { from = λ l i. inl i; stays = λ l i. i; there = λ _. h }
 
-pub list_there_read : (entry : Entry) (end : ℕ) (lists items : List (Vec ℕ)) (rules : List ℕ) → items ≡ lists → rules ≡ rules_along entry.1.items → HasRules rules items → AddsList entry end lists lists
-list_there_read entry end lists items rules same along h =
-    list_there entry end lists (subst (λ (ls : List (Vec ℕ)). HasRules (rules_along entry.1.items) ls) same (subst (λ (rs : List ℕ). HasRules rs items) along h))
+-- a search has found the list
+pub list_found : (entry : Entry) (end : ℕ) (lists : List (Vec ℕ)) (rules : Vec ℕ) (place : ℕ) → rules.items ≡ rules_along entry.1.items → place < length lists
+    → HoldsAt (λ (l : Vec ℕ). slice_cmp nat_cmp l.items rules.items ≡ Equal) lists place → AddsList entry end lists lists
+list_found entry end lists rules place along within found =
+    let same = slice_cmp-IsAntisymmetric nat_cmp-IsAntisymmetric (get_or lists place rules).items rules.items (found rules) in
+    list_there entry end lists (get_or lists place rules, in_of_get lists place (get_or lists place rules) (slice_get-get_or lists place rules within), same ∙ along)
 
-pub list_pushed : (entry : Entry) (end : ℕ) (old new : List (Vec ℕ)) (rules : Vec ℕ) → entry.0 ≡ end → rules.items ≡ rules_along entry.1.items → new ≡ old ++ rules ∷ [] → AddsList entry end old new
-list_pushed entry end old new rules same along is = record {
-  from = λ l i. elim (one_of_pushed old new rules l is i) [
-    | inl was ↦ inl was
-    | inr fresh ↦ inr (same, ap (λ (v : Vec ℕ). v.items) fresh ∙ along)
+-- the list is put at a place among the others
+pub list_placed : (entry : Entry) (end : ℕ) (old new : List (Vec ℕ)) (rules : Vec ℕ) (place : ℕ) → entry.0 ≡ end → rules.items ≡ rules_along entry.1.items → new ≡ insert old place rules
+    → AddsList entry end old new
+list_placed entry end old new rules place same along is = record {
+  from = λ l i. elim (in_either (take place old) (rules ∷ drop place old) (subst (λ (ls : List (Vec ℕ)). In l ls) is i)) [
+    | inl before ↦ inl (in_take place old before)
+    | inr later ↦ elim (in_or later) [
+      | inl fresh ↦ inr (same, ap (λ (v : Vec ℕ). v.items) fresh ∙ along)
+      | inr after ↦ inl (in_drop place old after)
+    ]
   ];
-  stays = λ l i. old_in_pushed old new rules l is i;
-  there = λ _. (rules, new_in_pushed old new rules is, along);
+  stays = λ l i. subst (λ (ls : List (Vec ℕ)). In l ls) (sym is) (still l i);
+  there = λ _. (rules, subst (λ (ls : List (Vec ℕ)). In rules ls) (sym is) (in_right (take place old) in_first), along);
 }
+  where
+    still : (l : Vec ℕ) → In l old → In l (take place old ++ rules ∷ drop place old)
+    still l i = elim (in_either (take place old) (drop place old) (subst (λ (ls : List (Vec ℕ)). In l ls) (sym (take-append-drop place old)) i)) [
+      | inl before ↦ in_left (rules ∷ drop place old) before
+      | inr after ↦ in_right (take place old) (in_rest after)
+    ]
 
 -- ---- the rules that are used
 
@@ -73,10 +85,22 @@ listed_append k (x ∷ xs) ys = ap (λ b. x == k || b) (listed_append k xs ys) �
     or_assoc true b c = refl
     or_assoc false b c = refl
 
+-- the rules of a peak, and those of its two sides
+module _ (inner outer : ℕ) (lefts rights : List ℕ) (k : ℕ) where
+  of_sides : IsTrue (is_listed k lefts || is_listed k rights) → IsTrue (is_listed k (inner ∷ outer ∷ (lefts ++ rights)))
+  of_sides h =
+      or_right (inner == k) (outer == k || is_listed k (lefts ++ rights)) (or_right (outer == k) (is_listed k (lefts ++ rights)) (listed_append k lefts rights ∙ h))
+
+  pub of_left : IsTrue (is_listed k lefts) → IsTrue (is_listed k (inner ∷ outer ∷ (lefts ++ rights)))
+  of_left l = of_sides (or_left (is_listed k lefts) (is_listed k rights) l)
+
+  pub of_right : IsTrue (is_listed k rights) → IsTrue (is_listed k (inner ∷ outer ∷ (lefts ++ rights)))
+  of_right r = of_sides (or_right (is_listed k lefts) (is_listed k rights) r)
+
 pub with_none : (used : List ℕ) → IsWith used [] used
 with_none used = record { each = λ k. ap (is_listed k) (sym (append-nil used)) }
 
-pub with_then : (a xs b ys c : List ℕ) → IsWith a xs b → IsWith b ys c → IsWith a (xs ++ ys) c
+with_then : (a xs b ys c : List ℕ) → IsWith a xs b → IsWith b ys c → IsWith a (xs ++ ys) c
 with_then a xs b ys c h m = record {
   each = λ k. m.each k
       ∙ (listed_append k b ys ∙ (ap (λ t. t || is_listed k ys) (h.each k) ∙ (sym (listed_append k (a ++ xs) ys) ∙ ap (is_listed k) (append_assoc a xs ys))));

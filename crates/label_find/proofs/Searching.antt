@@ -1,12 +1,11 @@
 -- What the search over the constraints answers is so of the search over the paths.
-use Rattle.std.specs.Prelude.{◌≡◌, ◌<◌, ◌≤◌, ℕ, true, false, not, eqb, ◌==◌, List, [], ◌∷◌, All, Ok, Err, Result, Some, None, IsTrue, IfOk, length, slice_get, get_or, refl}
+use Rattle.std.specs.Prelude.{◌≡◌, ◌<◌, ◌≤◌, ℕ, true, false, not, eqb, List, [], ◌∷◌, All, Ok, Err, Result, Some, None, IsTrue, IfOk, length, slice_get, get_or, refl}
 use Rattle.std.specs.Global.{Vec}
 use Rattle.std.proofs.Common.{zero, suc, ap, sym, ◌∙◌, subst, arith}
 use Rattle.std.proofs.lemmas.Bool.Decides.{nat_tests}
-use Rattle.std.proofs.lemmas.Option.{same_Some, slice_get_within}
-use Rattle.std.proofs.lemmas.Bool.{or_right, or_left, and_parts, not-true, not-false}
+use Rattle.std.proofs.lemmas.Option.{same_Some, slice_get_within, slice_get-get_or}
+use Rattle.std.proofs.lemmas.Bool.{and_parts, not-true, not-false}
 use Rattle.trs_defs.specs.Member.{In}
-use Rattle.trs_defs.specs.Variable.{is_listed}
 use Rattle.trs_defs.specs.System.{System, IsSystem, RewriteRule}
 use Rattle.trs_defs.proofs.Members.{get_of_in, in_of_get}
 use Rattle.assign_search.specs.Puzzle.{Puzzle, any_below, solution_of, is_solution, count_of}
@@ -24,11 +23,12 @@ use Rattle.join_find.specs.StrongRow.{AreLinear}
 use Rattle.join_find.specs.Answers.{IsFinding}
 use Rattle.join_find.proofs.NewmanLaw.{along_length}
 use Rattle.path_lists.proofs.PathsOnce.{path_lists_once}
+use Rattle.label_find.specs.declared.side_rules.SideRules.{SideRules}
 use Rattle.label_find.specs.declared.constraint.PeakConstraint.{PeakConstraint}
 use Rattle.label_find.specs.declared.label.Labelled.{Labelled}
 use Rattle.label_find.specs.LabelRow.{PeakPaths, ArePathsOf, CanClose, IsLabelSearch, HasSearch, IsFirstClosing, FindsLabel}
 use Rattle.label_find.specs.LabelAnswers.{IsLabelling, IsLabelledBy}
-use Rattle.label_find.specs.ConstraintPuzzle.{is_met, label_puzzle, KeepsRules, SaysOf, IsConstraintFor}
+use Rattle.label_find.specs.ConstraintPuzzle.{is_met, uses_rule, label_puzzle, KeepsRules, SaysIn, IsConstraintFor}
 use Rattle.label_find.specs.Closing.{CanAllBeClosed, IsJoinBy}
 use Rattle.label_find.proofs.ConstraintReads.{at_this}
 use Rattle.label_find.proofs.Numbers.{peak_numbers, used_below, few_peaks}
@@ -36,15 +36,15 @@ use Rattle.label_find.proofs.Numbers.{peak_numbers, used_below, few_peaks}
 -- ---- lists side by side
 
 -- the paths of the peaks, and what the constraints say of them
-pub record WithPaths (rules : List RewriteRule) (peaks : List PlacedPeak) (ds : List PeakConstraint) : Type 0 where
+pub record WithPaths (rules : List RewriteRule) (sides : List SideRules) (peaks : List PlacedPeak) (ds : List PeakConstraint) : Type 0 where
   pub paths : List PeakPaths
   pub are_paths : Along (ArePathsOf rules) peaks paths
-  pub says : Along SaysOf paths ds
+  pub says : Along (SaysIn sides) paths ds
 
-pub with_paths : (rules : List RewriteRule) {peaks : List PlacedPeak} {ds : List PeakConstraint} → Along (IsConstraintFor rules) peaks ds → WithPaths rules peaks ds
-with_paths rules along_end = record { paths = []; are_paths = along_end; says = along_end }
-with_paths rules (along_item h rest) =
-    let later = with_paths rules rest in
+pub with_paths : (rules : List RewriteRule) (sides : List SideRules) {peaks : List PlacedPeak} {ds : List PeakConstraint} → Along (IsConstraintFor rules sides) peaks ds → WithPaths rules sides peaks ds
+with_paths rules sides along_end = record { paths = []; are_paths = along_end; says = along_end }
+with_paths rules sides (along_item h rest) =
+    let later = with_paths rules sides rest in
     record { paths = h.paths ∷ later.paths; are_paths = along_item h.are_paths later.are_paths; says = along_item h.says later.says }
 
 along_from : {A B : Type 0} {related : A → B → Type 0} {xs : List A} {ys : List B} → Along related xs ys → (i : ℕ) (a : A) → slice_get xs i ≡ Some a → (b : B) × (slice_get ys i ≡ Some b) × related a b
@@ -59,54 +59,46 @@ along_to (along_item h rest) (suc i) b at = along_to rest i b at
 
 -- ---- the constraints
 
-pub is_label_search : (rules : List RewriteRule) {paths : List PeakPaths} {ds : List PeakConstraint} → Along SaysOf paths ds → IsLabelSearch rules paths (label_puzzle (length rules) ds)
-is_label_search rules {paths = paths} {ds = ds} says = record {
+pub is_label_search : (rules : List RewriteRule) (sides : List SideRules) {paths : List PeakPaths} {ds : List PeakConstraint} → Along (SaysIn sides) paths ds
+    → IsLabelSearch rules paths (label_puzzle (length rules) sides ds)
+is_label_search rules sides {paths = paths} {ds = ds} says = record {
   slots = refl;
   ranks = λ k. refl;
   constraints = along_length says;
-  uses = λ c k p at. (let (d, there, h) = along_from says c p at in at_this (λ (x : PeakConstraint). is_listed k x.used.items) ds c d there ∙ h.used k);
-  truth = λ c ranks p at. (let (d, there, h) = along_from says c p at in let same = at_this (is_met ranks) ds c d there in let met = h.met ranks in
+  uses = λ c k p at. (let (d, there, h) = along_from says c p at in at_this (uses_rule sides k) ds c d there ∙ h.says.used k);
+  truth = λ c ranks p at. (let (d, there, h) = along_from says c p at in let same = at_this (is_met sides ranks) ds c d there in let met = h.says.met ranks in
       (λ t. met.0 (sym same ∙ t), λ k. same ∙ met.1 k));
 }
 
-equal_itself : (n : ℕ) → (n == n) ≡ true
-equal_itself n = grind (arith, nat_tests)
+module _ (rules : List RewriteRule) (sides : List SideRules) (peaks : List PlacedPeak) (critical : ListsPeaks rules (Ok peaks)) where
+  keeps_rules : (peak : PlacedPeak) → In peak peaks → (d : PeakConstraint) → IsConstraintFor rules sides peak d → KeepsRules (length rules) sides d
+  keeps_rules peak there d h =
+      let numbers = peak_numbers rules peaks critical peak there in
+      record {
+        there = h.says.there;
+        below = λ k t. used_below rules peak h.paths numbers h.are_paths k (sym (h.says.says.used k) ∙ t);
+        lists = h.says.says.lists;
+      }
 
-keeps_rules : (rules : List RewriteRule) (peaks : List PlacedPeak) → ListsPeaks rules (Ok peaks) → (peak : PlacedPeak) → In peak peaks → (d : PeakConstraint) → IsConstraintFor rules peak d → KeepsRules (length rules) d
-keeps_rules rules peaks critical peak there d h =
-    let says = h.says in
-    let p = h.paths in
-    let numbers = peak_numbers rules peaks critical peak there in
-    record {
-      below = λ k t. used_below rules peak p numbers h.are_paths k (sym (says.used k) ∙ t);
-      inner = says.used d.inner ∙ or_left (p.peak.inner == d.inner) _ (subst (λ (n : ℕ). (n == d.inner) ≡ true) says.inner_is (equal_itself d.inner));
-      outer = says.used d.outer ∙ or_right (p.peak.inner == d.outer) _ (or_left (p.peak.outer == d.outer) _ (subst (λ (n : ℕ). (n == d.outer) ≡ true) says.outer_is (equal_itself d.outer)));
-      lists = says.lists;
-    }
+  module _ (ds : List PeakConstraint) (along : Along (IsConstraintFor rules sides) peaks ds) where
+    pub all_keep : All (KeepsRules (length rules) sides) ds
+    all_keep k d below =
+        let there : slice_get ds k ≡ Some (get_or ds k d) = slice_get-get_or ds k d below in
+        let (peak, at, h) = along_to along k (get_or ds k d) there in
+        keeps_rules peak (in_of_get peaks k peak at) (get_or ds k d) h
 
-pub all_keep : (rules : List RewriteRule) (peaks : List PlacedPeak) (ds : List PeakConstraint) → ListsPeaks rules (Ok peaks) → Along (IsConstraintFor rules) peaks ds → All (KeepsRules (length rules)) ds
-all_keep rules peaks ds critical along k d below =
-    let there : slice_get ds k ≡ Some (get_or ds k d) = read ds k d below in
-    let (peak, at, h) = along_to along k (get_or ds k d) there in
-    keeps_rules rules peaks critical peak (in_of_get peaks k peak at) (get_or ds k d) h
-  where
-    read : (xs : List PeakConstraint) (i : ℕ) (x : PeakConstraint) → i < length xs → slice_get xs i ≡ Some (get_or xs i x)
-    read [] i x l = absurd (omega (arith, l))
-    read (y ∷ xs) zero x l = refl
-    read (y ∷ xs) (suc i) x l = read xs i x (omega (arith, l))
-
-pub few_constraints : (rules : List RewriteRule) (peaks : List PlacedPeak) (ds : List PeakConstraint) → ListsPeaks rules (Ok peaks) → Along (IsConstraintFor rules) peaks ds → length ds ≤ 4194304
-few_constraints rules peaks ds critical along = let few = few_peaks rules peaks critical in let same = along_length along in omega (arith, few, same)
+    pub few_constraints : length ds ≤ 4194304
+    few_constraints = let few = few_peaks rules peaks critical in let same = along_length along in omega (arith, few, same)
 
 -- ---- the answers
 
-abbrev pub has_search : (rules : List RewriteRule) (peaks : List PlacedPeak) (ds : List PeakConstraint) → AreLinear rules → WithPaths rules peaks ds → HasSearch rules peaks
-has_search rules peaks ds linear h = record {
+abbrev pub has_search : (rules : List RewriteRule) (sides : List SideRules) (peaks : List PlacedPeak) (ds : List PeakConstraint) → AreLinear rules → WithPaths rules sides peaks ds → HasSearch rules peaks
+has_search rules sides peaks ds linear h = record {
   linear = linear;
   paths = h.paths;
   are_paths = h.are_paths;
-  search = label_puzzle (length rules) ds;
-  is_search = is_label_search rules h.says;
+  search = label_puzzle (length rules) sides ds;
+  is_search = is_label_search rules sides h.says;
 }
 
 eqb_true : (m n : ℕ) → eqb m n ≡ true → m ≡ n
@@ -133,17 +125,17 @@ same_paths system valid peak p q h k =
     ∙ (ap (λ (x : List Listed). record { peak = q.peak; lefts = x; rights = p.rights }) lefts ∙ ap (λ (x : List Listed). record { peak = q.peak; lefts = q.lefts; rights = x }) rights)
 
 -- ranks that solve the search close each peak
-pub can_all_be_closed : (system : System) → IsSystem system → (peaks : List PlacedPeak) (ds : List PeakConstraint) (ranks : List ℕ) → WithPaths system.rules peaks ds
-    → solution_of (label_puzzle (length system.rules) ds) ≡ Some ranks → CanAllBeClosed system.rules ranks peaks
-can_all_be_closed system valid peaks ds ranks h e peak there = record { by_paths = λ q are. go q are (get_of_in there) }
+pub can_all_be_closed : (system : System) → IsSystem system → (sides : List SideRules) (peaks : List PlacedPeak) (ds : List PeakConstraint) (ranks : List ℕ) → WithPaths system.rules sides peaks ds
+    → solution_of (label_puzzle (length system.rules) sides ds) ≡ Some ranks → CanAllBeClosed system.rules ranks peaks
+can_all_be_closed system valid sides peaks ds ranks h e peak there = record { by_paths = λ q are. go q are (get_of_in there) }
   where
     go : (q : PeakPaths) → ArePathsOf system.rules peak q → (i : ℕ) × (slice_get peaks i ≡ Some peak) → CanClose ranks q
     go q are (i, at) =
         let (p, at_p, p_are) = along_from h.are_paths i peak at in
-        let search = is_label_search system.rules h.says in
+        let search = is_label_search system.rules sides h.says in
         let below = slice_get_within h.paths i p at_p in
         let counted = search.constraints in
-        let met = true_at (label_puzzle (length system.rules) ds) ranks e i (omega (arith, below, counted)) in
+        let met = true_at (label_puzzle (length system.rules) sides ds) ranks e i (omega (arith, below, counted)) in
         subst (λ (x : PeakPaths). CanClose ranks x) (same_paths system valid peak p q p_are are) ((search.truth i ranks p at_p).0 met)
 
 pub closings_along : (system : System) → IsSystem system → (ranks : List ℕ) {peaks : List PlacedPeak} {paths : List PeakPaths} {joins : List PathsOfJoin} → Along (ArePathsOf system.rules) peaks paths
@@ -153,34 +145,34 @@ closings_along system valid ranks (along_item {a = peak} {b = p} h rest) (along_
     along_item (subst (λ (x : PeakPaths). IsFirstClosing ranks x join) (same_paths system valid peak k.paths p k.are_paths h) k.closing) (closings_along system valid ranks rest later)
 
 -- what the search answers, by its cases
-module _ (n m : ℕ) (ds : List PeakConstraint) (budget : ℕ) (rose : Type 0) (answer : Search (Vec ℕ)) (same : n ≡ m) (h : IsAnswer (λ (v : Vec ℕ). v.items) (label_puzzle n ds) budget rose answer) where
-  pub first_of : (a : Vec ℕ) → answer ≡ Found a → (solution_of (label_puzzle m ds) ≡ Some a.items) × (count_of (label_puzzle m ds) < budget)
+module _ (n m : ℕ) (sides : List SideRules) (ds : List PeakConstraint) (budget : ℕ) (rose : Type 0) (answer : Search (Vec ℕ)) (same : n ≡ m) (h : IsAnswer (λ (v : Vec ℕ). v.items) (label_puzzle n sides ds) budget rose answer) where
+  pub first_of : (a : Vec ℕ) → answer ≡ Found a → (solution_of (label_puzzle m sides ds) ≡ Some a.items) × (count_of (label_puzzle m sides ds) < budget)
   first_of a is =
-      let P : ℕ → Search (Vec ℕ) → Type 0 = λ k x. IsAnswer (λ (v : Vec ℕ). v.items) (label_puzzle k ds) budget rose x in
+      let P : ℕ → Search (Vec ℕ) → Type 0 = λ k x. IsAnswer (λ (v : Vec ℕ). v.items) (label_puzzle k sides ds) budget rose x in
       subst (λ (k : ℕ). P k (Found a)) same (subst (P n) is h)
 
-  pub none_of : answer ≡ NotThere → (solution_of (label_puzzle m ds) ≡ None) × (count_of (label_puzzle m ds) < budget)
+  pub none_of : answer ≡ NotThere → (solution_of (label_puzzle m sides ds) ≡ None) × (count_of (label_puzzle m sides ds) < budget)
   none_of is =
-      let P : ℕ → Search (Vec ℕ) → Type 0 = λ k x. IsAnswer (λ (v : Vec ℕ). v.items) (label_puzzle k ds) budget rose x in
+      let P : ℕ → Search (Vec ℕ) → Type 0 = λ k x. IsAnswer (λ (v : Vec ℕ). v.items) (label_puzzle k sides ds) budget rose x in
       subst (λ (k : ℕ). P k NotThere) same (subst (P n) is h)
 
-  pub spent_of : answer ≡ Spent → budget ≤ count_of (label_puzzle m ds)
+  pub spent_of : answer ≡ Spent → budget ≤ count_of (label_puzzle m sides ds)
   spent_of is =
-      let P : ℕ → Search (Vec ℕ) → Type 0 = λ k x. IsAnswer (λ (v : Vec ℕ). v.items) (label_puzzle k ds) budget rose x in
+      let P : ℕ → Search (Vec ℕ) → Type 0 = λ k x. IsAnswer (λ (v : Vec ℕ). v.items) (label_puzzle k sides ds) budget rose x in
       subst (λ (k : ℕ). P k Spent) same (subst (P n) is h)
 
-pub labelling_found : {E : Type 0} (system : System) → IsSystem system → (peaks : List PlacedPeak) (ds : List PeakConstraint) (budget : ℕ) (ranks : List ℕ) (rose more : Type 0) (answer : Result (Search Labelled) E)
-    → AreLinear system.rules → WithPaths system.rules peaks ds → solution_of (label_puzzle (length system.rules) ds) ≡ Some ranks → count_of (label_puzzle (length system.rules) ds) < budget → (rose → more)
+pub labelling_found : {E : Type 0} (system : System) → IsSystem system → (sides : List SideRules) (peaks : List PlacedPeak) (ds : List PeakConstraint) (budget : ℕ) (ranks : List ℕ) (rose more : Type 0) (answer : Result (Search Labelled) E)
+    → AreLinear system.rules → WithPaths system.rules sides peaks ds → solution_of (label_puzzle (length system.rules) sides ds) ≡ Some ranks → count_of (label_puzzle (length system.rules) sides ds) < budget → (rose → more)
     → IfOk answer (IsFinding (IsLabelledBy system.rules peaks ranks) ⊥ rose) → IfOk answer (IsLabelling system.rules peaks budget more)
-labelling_found system valid peaks ds budget ranks rose more (Ok (Found a)) linear h first few later found =
+labelling_found system valid sides peaks ds budget ranks rose more (Ok (Found a)) linear h first few later found =
     let P : List ℕ → Type 0 = λ rs. FindsLabel system.rules peaks budget rs a.joins.items in
     subst P (sym found.ranks_are) (record {
-      over = has_search system.rules peaks ds linear h;
+      over = has_search system.rules sides peaks ds linear h;
       first = first;
       few = few;
       closings = closings_along system valid ranks h.are_paths found.joined;
     })
-labelling_found system valid peaks ds budget ranks rose more (Ok NotThere) linear h first few later none = absurd none
-labelling_found system valid peaks ds budget ranks rose more (Ok Spent) linear h first few later none = absurd none
-labelling_found system valid peaks ds budget ranks rose more (Ok Stopped) linear h first few later stopped = later stopped
-labelling_found system valid peaks ds budget ranks rose more (Err e) linear h first few later none = tt
+labelling_found system valid sides peaks ds budget ranks rose more (Ok NotThere) linear h first few later none = absurd none
+labelling_found system valid sides peaks ds budget ranks rose more (Ok Spent) linear h first few later none = absurd none
+labelling_found system valid sides peaks ds budget ranks rose more (Ok Stopped) linear h first few later stopped = later stopped
+labelling_found system valid sides peaks ds budget ranks rose more (Err e) linear h first few later none = tt

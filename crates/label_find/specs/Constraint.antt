@@ -2,7 +2,6 @@
 use Rattle.std.specs.Prelude.{◌≡◌, ℕ, Bool, true, false, cond, not, ◌&&◌, ◌||◌, ◌==◌, nat_lt, List, [], ◌∷◌, map, Option, Some, None}
 use Rattle.std.specs.Global.{Vec}
 use Rattle.confluence_theory.specs.RuleRanks.{rank_of}
-use Rattle.label_find.specs.declared.meeting.Meeting.{Meeting}
 
 -- the ranks that are left fit, by whether the run of ranks below a has ended
 abbrev pub fit_after : Bool → ℕ → ℕ → List ℕ → Bool
@@ -19,7 +18,7 @@ abbrev pub some_fit : List ℕ → ℕ → ℕ → List (Vec ℕ) → Bool
 some_fit ranks a b [] = false
 some_fit ranks a b (l ∷ lists) = fit_after false a b (map (rank_of ranks) l.items) || some_fit ranks a b lists
 
--- at some meeting a left list and a right one fit
-abbrev pub some_meet : List ℕ → ℕ → ℕ → List Meeting → Bool
-some_meet ranks a b [] = false
-some_meet ranks a b (m ∷ meetings) = (some_fit ranks a b m.lefts.items && some_fit ranks b a m.rights.items) || some_meet ranks a b meetings
+-- at some meeting a left list and a right one fit, where these are the lists of the groups of a number
+abbrev pub some_meet : List ℕ → ℕ → ℕ → (ℕ → List (Vec ℕ)) → (ℕ → List (Vec ℕ)) → List (ℕ × ℕ) → Bool
+some_meet ranks a b lefts rights [] = false
+some_meet ranks a b lefts rights (m ∷ meetings) = (some_fit ranks a b (lefts m.0) && some_fit ranks b a (rights m.1)) || some_meet ranks a b lefts rights meetings

@@ -2,10 +2,11 @@ pub mod LabelRow
 pub mod LabelAnswers
 pub mod Laws
 pub mod Lists
+pub mod Grouping
 pub mod Meetings
+pub mod SideRules
 pub mod Constraint
 pub mod ConstraintPuzzle
 pub mod LabelLawful
 pub mod Closing
 pub mod ListedSides
-pub mod Grouping

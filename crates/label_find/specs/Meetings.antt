@@ -1,26 +1,24 @@
--- Ends that paths from both sides of a peak have.
-use Rattle.std.specs.Prelude.{◌≡◌, ◌⊎◌, ℕ, List}
+-- Groups of the two sides of a peak that have one end.
+use Rattle.std.specs.Prelude.{◌≡◌, ◌<◌, ◌⊎◌, ℕ, List, Some, IsTrue, is_some}
 use Rattle.trs_defs.specs.Member.{In}
 use Rattle.join_find.specs.First.{Some_in}
-use Rattle.path_lists.specs.Adding.{Entry}
-use Rattle.label_find.specs.declared.meeting.Meeting.{Meeting}
-use Rattle.label_find.specs.Lists.{AreListsTo}
+use Rattle.label_find.specs.declared.grouping.Groups.{Groups}
+use Rattle.label_find.specs.Grouping.{group_of, end_at, IsGroupOf}
 
-abbrev pub HasMeeting : ℕ → List Meeting → Type 0
-HasMeeting end meetings = Some_in (λ (m : Meeting). m.end ≡ end) meetings
+-- the groups of these numbers are those of this end
+abbrev pub MeetAt : Groups → Groups → ℕ → ℕ × ℕ → Type 0
+MeetAt lefts rights end m = IsGroupOf lefts end m.0 × IsGroupOf rights end m.1
 
--- it has the rules along the paths to its end
-pub record IsMeeting (lefts rights : List Entry) (m : Meeting) : Type 0 where
-  pub from_left : AreListsTo lefts m.end m.lefts.items
-  pub from_right : AreListsTo rights m.end m.rights.items
+abbrev pub HasMeeting : Groups → Groups → ℕ → List (ℕ × ℕ) → Type 0
+HasMeeting lefts rights end meetings = Some_in (MeetAt lefts rights end) meetings
 
--- the meeting at an end is listed besides, if a right path has that end
-pub record AddsMeeting (lefts rights : List Entry) (end : ℕ) (old new : List Meeting) : Type 0 where
-  pub from : (m : Meeting) → In m new → In m old ⊎ IsMeeting lefts rights m
-  pub stays : (m : Meeting) → In m old → In m new
-  pub there : Some_in (λ (f : Entry). f.0 ≡ end) rights → HasMeeting end new
+-- the meeting of the left group of this number is listed besides, if a right group has its end
+pub record AddsMeeting (lefts rights : Groups) (number : ℕ) (old new : List (ℕ × ℕ)) : Type 0 where
+  pub from : (m : ℕ × ℕ) → In m new → In m old ⊎ ((end : ℕ) × MeetAt lefts rights end m)
+  pub stays : (m : ℕ × ℕ) → In m old → In m new
+  pub there : (end : ℕ) → end_at lefts number ≡ Some end → IsTrue (is_some (group_of rights end)) → HasMeeting lefts rights end new
 
--- a meeting for each end that one of the first left paths and a right path have
-pub record AreMeetings (first lefts rights : List Entry) (meetings : List Meeting) : Type 0 where
-  pub each : (m : Meeting) → In m meetings → IsMeeting lefts rights m
-  pub all : (e f : Entry) → In e first → In f rights → e.0 ≡ f.0 → HasMeeting e.0 meetings
+-- a meeting for each of the first left groups whose end the right has
+pub record AreMeetings (lefts rights : Groups) (first : ℕ) (meetings : List (ℕ × ℕ)) : Type 0 where
+  pub each : (m : ℕ × ℕ) → In m meetings → (end : ℕ) × MeetAt lefts rights end m
+  pub all : (number end : ℕ) → number < first → end_at lefts number ≡ Some end → IsTrue (is_some (group_of rights end)) → HasMeeting lefts rights end meetings

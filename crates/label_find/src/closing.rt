@@ -7,7 +7,7 @@ ghost use Rattle.join_find.specs.First.{First, None_in};
 ghost use Rattle.label_find.specs.Closing.{ClosesFrom, CanCloseIds, IsFirstClosingIds};
 
 use crate::fitting::{rank_of, ranks_fit};
-use crate::meeting::rules_along;
+use crate::lists::rules_along;
 use rewrite_core::{Join, PathStep, copy_path};
 use std::alloc::Global;
 use term_pool::{Pool, ids_are_distinct};

@@ -5,18 +5,19 @@ ghost use Rattle.join_find.specs.First.{Along};
 ghost use Rattle.join_find.specs.Sides.{HasSides, HaveSides};
 ghost use Rattle.path_lists.specs.Growth.{GrowsBy};
 ghost use Rattle.label_find.specs.ConstraintPuzzle.{IsConstraintFor};
-ghost use Rattle.label_find.specs.ListedSides.{AreListed};
+ghost use Rattle.label_find.specs.ListedSides.{AreListed, AreNumbered, IsFrontOf};
 
 use crate::constraint::PeakConstraint;
 use crate::listed_sides::ListedSides;
+use crate::side_rules::SideRules;
 use assign_search::Stop;
 use rewrite_core::Peak;
 use std::alloc::Global;
 use term_pool::{RulesByRoot, ids_are_distinct};
 use trs_core::{OutOfMemory, Trs};
 
-/// The constraint of each peak, or `None` where it was stopped. What paths of sides are still
-/// listed then are lent to the search for joins.
+/// The constraint of each peak, over the table of their sides, or `None` where it was stopped. What
+/// paths of sides are still listed then are lent to the search for joins.
 pub(crate) fn constraints_of<P: Stop>(
     alloc: Global,
     trs: &Trs,
@@ -24,15 +25,18 @@ pub(crate) fn constraints_of<P: Stop>(
     growth: u64,
     peaks: &[Peak],
     sides: &mut ListedSides,
+    table: &mut Vec<SideRules>,
     stop: &mut P,
 ) -> Result<Option<Vec<PeakConstraint>>, OutOfMemory>
-    requires table { by_root.now ≡ trs.now }
+    requires by_root { by_root.now ≡ trs.now }
     requires grows { GrowsBy trs.now.rules growth }
     requires sides { HaveSides peaks.now }
     requires listed { AreListed trs.now.rules sides.old }
+    requires numbers { AreNumbered sides.old table.old.items }
     ensures constraints { IfOk result (λ found. MatchOption found
         (P.stops stop.old < P.stops stop.new)
-        (λ constraints. Along (IsConstraintFor trs.now.rules) peaks.now constraints.items)) }
+        (λ constraints. Along (IsConstraintFor trs.now.rules table.new.items)
+        peaks.now constraints.items)) }
     ensures listed { OnOk result (AreListed trs.now.rules sides.new) }
     ensures continues { Continues P.Stop stop.old stop.new }
 {
@@ -41,37 +45,38 @@ pub(crate) fn constraints_of<P: Stop>(
         if stop.stopped() {
             return Ok(None);
         }
-        let constraint = constraint_at(alloc, sides, trs, by_root, growth, peak)?;
+        let constraint = constraint_at(alloc, trs, by_root, growth, peak, sides, table)?;
         constraints.push(constraint)?;
     }
     Ok(Some(constraints))
 }
 
-/// The constraint of one peak.
+/// The constraint of one peak. Its sides are put into the table, if they are not there yet.
 fn constraint_at(
     alloc: Global,
-    sides: &mut ListedSides,
     trs: &Trs,
     by_root: &RulesByRoot,
     growth: u64,
     peak: &Peak,
+    sides: &mut ListedSides,
+    table: &mut Vec<SideRules>,
 ) -> Result<PeakConstraint, OutOfMemory>
-    requires table { by_root.now ≡ trs.now }
+    requires by_root { by_root.now ≡ trs.now }
     requires grows { GrowsBy trs.now.rules growth }
     requires sides { HasSides peak.now }
     requires listed { AreListed trs.now.rules sides.old }
-    ensures constraint { IfOk result (IsConstraintFor trs.now.rules peak.now) }
+    requires numbers { AreNumbered sides.old table.old.items }
+    ensures constraint { IfOk result
+        (IsConstraintFor trs.now.rules table.new.items peak.now) }
+    ensures grown { OnOk result (IsFrontOf table.old.items table.new.items) }
     ensures listed { OnOk result (AreListed trs.now.rules sides.new) }
+    ensures numbers { OnOk result (AreNumbered sides.new table.new.items) }
 {
     sides.make_room(alloc);
-    let left = sides.list(alloc, trs, by_root, growth, &peak.left)?;
-    let right = sides.list(alloc, trs, by_root, growth, &peak.right)?;
+    let left_id = sides.list(alloc, trs, by_root, growth, &peak.left)?;
+    let right_id = sides.list(alloc, trs, by_root, growth, &peak.right)?;
     ids_are_distinct(sides.pool());
-    PeakConstraint::new(
-        alloc,
-        peak.inner,
-        peak.outer,
-        sides.at(left),
-        sides.at(right),
-    )
+    let left = sides.number(alloc, left_id, table)?;
+    let right = sides.number(alloc, right_id, table)?;
+    PeakConstraint::new(alloc, peak.inner, peak.outer, left, right, table)
 }

@@ -16,6 +16,7 @@ use crate::constraint::PeakConstraint;
 use crate::constraints::constraints_of;
 use crate::joining::joins_by;
 use crate::listed_sides::ListedSides;
+use crate::side_rules::SideRules;
 use crate::space::LabelSpace;
 use assign_search::{Search, Stop, first_solution};
 use join_find::{are_linear, critical_peaks_have_sides};
@@ -40,8 +41,8 @@ pub struct Labelled {
 /// such. All rules must be linear. The budget is that of `first_solution`.
 ///
 /// `stop` is asked first, before each peak and before each prefix of ranks, and before each peak
-/// again once ranks are found. A constraint is tested with no memory: for each end in which
-/// paths from both sides meet, the lists of rules along them are kept, each once.
+/// again once ranks are found. A constraint is tested with no memory: for each end of paths from a
+/// side the lists of rules along them are kept, each once, and shared by the peaks with this side.
 pub fn find_label<P: Stop>(
     alloc: Global,
     trs: &Trs,
@@ -64,7 +65,11 @@ pub fn find_label<P: Stop>(
     let growth = growth_of(trs);
     let by_root = RulesByRoot::new(alloc, trs)?;
     let mut sides = ListedSides::new(alloc);
-    match constraints_of(alloc, trs, &by_root, growth, peaks, &mut sides, stop)? {
+    let mut table = Vec::new(alloc);
+    let found = constraints_of(
+        alloc, trs, &by_root, growth, peaks, &mut sides, &mut table, stop,
+    )?;
+    match found {
         None => Ok(Search::Stopped),
         Some(constraints) => {
             search_ranks(
@@ -73,6 +78,7 @@ pub fn find_label<P: Stop>(
                 &by_root,
                 growth,
                 peaks,
+                table,
                 constraints,
                 budget,
                 &mut sides,
@@ -82,25 +88,27 @@ pub fn find_label<P: Stop>(
     }
 }
 
-/// The search over these constraints of the peaks.
+/// The search over these constraints of the peaks and the table of their sides.
 fn search_ranks<P: Stop>(
     alloc: Global,
     trs: &Trs,
     by_root: &RulesByRoot,
     growth: u64,
     peaks: &[Peak],
+    table: Vec<SideRules>,
     constraints: Vec<PeakConstraint>,
     budget: u64,
     sides: &mut ListedSides,
     stop: &mut P,
 ) -> Result<Search<Labelled>, OutOfMemory>
     requires critical { ListsPeaks trs.now.rules (Ok peaks.now) }
-    requires table { by_root.now ≡ trs.now }
+    requires by_root { by_root.now ≡ trs.now }
     requires grows { GrowsBy trs.now.rules growth }
     requires sides { HaveSides peaks.now }
     requires listed { AreListed trs.now.rules sides.old }
     requires linear { AreLinear trs.now.rules }
-    requires constraints { Along (IsConstraintFor trs.now.rules) peaks.now constraints.items }
+    requires constraints { Along (IsConstraintFor trs.now.rules table.items)
+        peaks.now constraints.items }
     ensures answer { IfOk result (IsLabelling
         trs.now.rules peaks.now budget (P.stops stop.old < P.stops stop.new)) }
     ensures continues { Continues P.Stop stop.old stop.new }
@@ -109,6 +117,7 @@ fn search_ranks<P: Stop>(
     let rules = trs.rules().len() as u32;
     let space = LabelSpace {
         rules,
+        sides: table,
         peaks: constraints,
     };
     match first_solution(alloc, &space, budget, stop) {

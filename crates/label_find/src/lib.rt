@@ -11,7 +11,9 @@ mod joining;
 mod label;
 mod laws;
 mod listed_sides;
+mod lists;
 mod meeting;
+mod side_rules;
 mod space;
 mod used;
 

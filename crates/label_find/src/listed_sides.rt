@@ -6,8 +6,12 @@ ghost use Rattle.term_pool.specs.Pooled.{Extends, StandsFor};
 ghost use Rattle.join_find.specs.Sides.{IsSide};
 ghost use Rattle.join_find.specs.KeptLists.{list_of};
 ghost use Rattle.path_lists.specs.Growth.{GrowsBy};
-ghost use Rattle.label_find.specs.ListedSides.{AreListed};
+ghost use Rattle.label_find.specs.declared.side_rules.SideRules.{SideRules};
+ghost use Rattle.label_find.specs.ListedSides.{AreListed, IsNumbered, AreNumbered};
+ghost use Rattle.label_find.specs.ListedSides.{HasSameLists, IsFrontOf};
 
+use crate::side_rules::SideRules;
+use indexmap::IndexMap;
 use join_find::KeptLists;
 use path_lists::paths_from;
 use rewrite_core::PathStep;
@@ -21,34 +25,42 @@ const MOST_KEPT_IDS: u32 = 262_144;
 /// The most bytes of lists, by estimate, that are kept from one peak to the next.
 const MOST_KEPT_BYTES: u64 = 67_108_864;
 
-/// Sides of peaks in one pool. The paths from a side are listed once.
+/// Sides of peaks in one pool. The paths from a side are listed once. A side whose rules stand in
+/// a table has its number there.
 #[derive(Drop)]
 pub(crate) struct ListedSides {
     pool: Pool,
     lists: KeptLists,
+    numbers: IndexMap<u32, usize>,
 }
 
 impl ListedSides {
     /// No sides. It takes no memory.
     pub(crate) fn new(alloc: Global) -> ListedSides
         ensures sides { (rules : List RewriteRule) → AreListed rules result }
+        ensures numbers { (table : List SideRules) → AreNumbered result table }
     {
         ListedSides {
             pool: Pool::new(alloc),
             lists: KeptLists::new(alloc),
+            numbers: IndexMap::new(alloc),
         }
     }
 
-    /// Makes room for two sides. Where many ids or long lists are kept, all are given up.
+    /// Makes room for two sides. Where many ids or long lists are kept, all are given up, and the
+    /// numbers with them.
     pub(crate) fn make_room(&mut self, alloc: Global)
         ensures sides { (rules : List RewriteRule) → AreListed rules self.old
             → AreListed rules self.new }
+        ensures numbers { (table : List SideRules) → AreNumbered self.old table
+            → AreNumbered self.new table }
     {
         if self.pool.len() <= MOST_KEPT_IDS && self.lists.bytes() <= MOST_KEPT_BYTES {
             return;
         }
         self.pool = Pool::new(alloc);
         self.lists = KeptLists::new(alloc);
+        self.numbers = IndexMap::new(alloc);
     }
 
     /// The id of a side. Its paths are listed, if they are not listed yet.
@@ -70,6 +82,8 @@ impl ListedSides {
             → IsTrue (is_some (list_of self.new.lists i))) }
         ensures sides { OnOk result (AreListed trs.now.rules self.new) }
         ensures kept { OnOk result (Extends self.old.pool self.new.pool) }
+        ensures numbers { OnOk result ((table : List SideRules) → AreNumbered self.old table
+            → AreNumbered self.new table) }
     {
         let id = self.pool.intern(alloc, side)?;
         if self.lists.has(id) {
@@ -86,6 +100,31 @@ impl ListedSides {
         ensures { list_of self.now.lists id ≡ Some result.now }
     {
         self.lists.at(id)
+    }
+
+    /// The number of a side in the table, by its id. The rules along its paths are put there, if
+    /// they are not there yet.
+    pub(crate) fn number(
+        &mut self,
+        alloc: Global,
+        id: u32,
+        table: &mut Vec<SideRules>,
+    ) -> Result<usize, OutOfMemory>
+        requires listed { IsTrue (is_some (list_of self.old.lists id)) }
+        requires numbers { AreNumbered self.old table.old.items }
+        ensures number { IfOk result (IsNumbered self.new table.new.items id) }
+        ensures numbers { OnOk result (AreNumbered self.new table.new.items) }
+        ensures grown { OnOk result (IsFrontOf table.old.items table.new.items) }
+        ensures same { OnOk result (HasSameLists self.old self.new) }
+    {
+        if let Some(number) = self.numbers.get(&id) {
+            return Ok(*number);
+        }
+        let side = SideRules::new(alloc, self.lists.at(id))?;
+        let number = table.len();
+        table.push(side)?;
+        self.numbers.insert(id, number)?;
+        Ok(number)
     }
 
     /// The pool of all sides and of what they reach.

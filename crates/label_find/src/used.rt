@@ -1,5 +1,5 @@
-//! The rules that the constraint of a peak uses.
-ghost use Rattle.std.specs.Prelude.{◌≡◌, ◌<◌, ◌+◌, ◌^◌, [], ◌∷◌, ◌++◌, All, IfOk, OnOk};
+//! The rules that paths use.
+ghost use Rattle.std.specs.Prelude.{◌≡◌, ◌<◌, ◌+◌, ◌^◌, [], ◌∷◌, All, IfOk, OnOk};
 ghost use Rattle.trs_defs.specs.Variable.{is_listed as is_among};
 ghost use Rattle.label_find.specs.LabelRow.{rules_along};
 ghost use Rattle.label_find.specs.Lists.{rules_in, end_of, IsWith};
@@ -8,32 +8,18 @@ use rewrite_core::PathStep;
 use std::alloc::Global;
 use trs_core::OutOfMemory;
 
-/// The numbers of a peak's two rules and of all rules of its paths, each once.
+/// The numbers of all rules along paths, each once.
 pub(crate) fn used_rules(
     alloc: Global,
-    inner: u32,
-    outer: u32,
-    lefts: &[(u32, Vec<PathStep>)],
-    rights: &[(u32, Vec<PathStep>)],
+    entries: &[(u32, Vec<PathStep>)],
 ) -> Result<Vec<u32>, OutOfMemory>
-    ensures { IfOk result (λ used.
-        IsWith [] (inner ∷ outer ∷ (rules_in lefts.now ++ rules_in rights.now)) used.items) }
+    ensures { IfOk result (λ used. IsWith [] (rules_in entries.now) used.items) }
 {
     let mut used = Vec::new(alloc);
-    use_rule(inner, &mut used)?;
-    use_rule(outer, &mut used)?;
-    use_paths(lefts, &mut used)?;
-    use_paths(rights, &mut used)?;
-    Ok(used)
-}
-
-fn use_paths(entries: &[(u32, Vec<PathStep>)], used: &mut Vec<u32>) -> Result<(), OutOfMemory>
-    ensures { OnOk result (IsWith used.old.items (rules_in entries.now) used.new.items) }
-{
     for entry in entries {
-        use_path(&entry.1, used)?;
+        use_path(&entry.1, &mut used)?;
     }
-    Ok(())
+    Ok(used)
 }
 
 fn use_path(path: &[PathStep], used: &mut Vec<u32>) -> Result<(), OutOfMemory>

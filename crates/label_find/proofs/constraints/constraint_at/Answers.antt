@@ -1,24 +1,73 @@
-use Rattle.std.proofs.Common.{refl, ap}
+use Rattle.std.proofs.Common.{List, IsTrue, is_some, IfOk, ap, sym, ◌∙◌, subst}
 use Rattle.trs_core.specs.View.{tree}
 use Rattle.rewrite_core.specs.PlacedPeak.{PlacedPeak}
-use Rattle.term_pool.proofs.Extending.{extends_itself}
-use Rattle.label_find.specs.ConstraintPuzzle.{IsConstraintOf, IsConstraintFor}
-use Rattle.label_find.proofs.ConstraintLaws.{constraint_for, ok_map}
-use Rattle.label_find.proofs.PathsOfSides.{list_from, ends_below}
+use Rattle.join_find.specs.KeptLists.{list_of}
+use Rattle.join_find.specs.declared.kept_lists.KeptLists.{KeptLists}
+use Rattle.label_find.specs.declared.side_rules.SideRules.{SideRules}
+use Rattle.label_find.specs.ConstraintPuzzle.{IsSmallSide, IsConstraintOf, IsConstraintFor}
+use Rattle.label_find.specs.ListedSides.{AreListed, IsNumbered}
+use Rattle.join_find.proofs.KeptOfSides.{always_ok}
+use Rattle.label_find.proofs.ConstraintLaws.{constraint_of_numbered, ok_map}
+use Rattle.label_find.proofs.PathsOfSides.{listed_same}
+use Rattle.label_find.proofs.NumberedSides.{still_numbered, small_side, front_on}
+use Rattle.label_find.proofs.constraints.constraint_at.Goals.{In_ok-right}
 use Rattle.label_find.proofs.constraints.constraint_at.Goals as goal
 
 pub list-requires-clause-sides : goal.list-requires-clause-sides
 list-requires-clause-sides c = c.make_room.ensures.sides c.args.trs.now.rules c.requires.listed
 
+pub number-requires-clause-listed : goal.number-requires-clause-listed
+number-requires-clause-listed c = c.in_ok-right_id.ensures.still c.in_ok-left_id.left_id c.in_ok-left_id.ensures.listed
+
+pub number-requires-clause-numbers : goal.number-requires-clause-numbers
+number-requires-clause-numbers c =
+    let table = c.args.table.now.items in
+    c.in_ok-right_id.ensures.numbers table (c.in_ok-left_id.ensures.numbers table (c.make_room.ensures.numbers table c.requires.numbers))
+
+pub number-requires-2-clause-listed : goal.number-requires-2-clause-listed
+number-requires-2-clause-listed c =
+    subst (λ (lists : KeptLists). IsTrue (is_some (list_of lists c.in_ok-right_id.right_id))) (sym c.in_ok-left.ensures.same.lists) c.in_ok-right_id.ensures.listed
+
+all_listed : (c : In_ok-right) → AreListed c.args.trs.now.rules c.number-2.new.self
+all_listed c =
+    listed_same c.args.trs.now.rules c.number.new.self c.number-2.new.self c.in_ok-right.ensures.same
+    (listed_same c.args.trs.now.rules c.list-2.new.self c.number.new.self c.in_ok-left.ensures.same c.in_ok-right_id.ensures.sides)
+
+of_left : (c : In_ok-right) → IsNumbered c.number-2.new.self c.number-2.new.table.items c.in_ok-left_id.left_id c.in_ok-left.left
+of_left c =
+    still_numbered c.number.new.self c.number-2.new.self c.number.new.table.items c.number-2.new.table.items c.in_ok-left_id.left_id c.in_ok-left.left
+    c.in_ok-right.ensures.same c.in_ok-right.ensures.grown c.in_ok-left.ensures.number
+
+pub new-requires-clause-left : goal.new-requires-clause-left
+new-requires-clause-left c =
+    let at = (goal.at.new-requires-clause-left c).In_ok-right in
+    subst (λ (sides : List SideRules). IsSmallSide sides c.in_ok-left.left) (sym c.deref.ensures.value)
+    (small_side c.args.trs.now.rules c.number-2.new.self c.number-2.new.table.items c.in_ok-left_id.left_id c.in_ok-left.left (all_listed at) (of_left at))
+
+pub new-requires-clause-right : goal.new-requires-clause-right
+new-requires-clause-right c =
+    let at = (goal.at.new-requires-clause-right c).In_ok-right in
+    subst (λ (sides : List SideRules). IsSmallSide sides c.in_ok-right.right) (sym c.deref.ensures.value)
+    (small_side c.args.trs.now.rules c.number-2.new.self c.number-2.new.table.items c.in_ok-right_id.right_id c.in_ok-right.right (all_listed at) c.in_ok-right.ensures.number)
+
 pub returns-clause-constraint : goal.returns-clause-constraint
 returns-clause-constraint c =
-    let from_left = list_from c.args.trs.now.rules c.list-2.new.self c.in_ok-right.ensures.sides c.in_ok-left.left (tree c.peak.inside.left) c.at.result.now c.at.ensures
-    (c.in_ok-right.ensures.kept.kept c.in_ok-left.left (tree c.peak.inside.left) c.in_ok-left.ensures.id) in
-    let from_right = list_from c.args.trs.now.rules c.list-2.new.self c.in_ok-right.ensures.sides c.in_ok-right.right (tree c.peak.inside.right) c.at-2.result.now c.at-2.ensures c.in_ok-right.ensures.id in
-    ok_map c.new.result (IsConstraintOf c.peak.inside.inner c.peak.inside.outer c.at.result.now c.at-2.result.now) (IsConstraintFor c.args.trs.now.rules c.args.peak.now)
-    (λ d h. constraint_for c.args.trs.now.rules c.list-2.new.self.pool c.list-2.new.self.pool c.at.result.now c.at-2.result.now c.at.result.now c.at-2.result.now
-    c.args.peak.now (tree c.peak.inside.left) (tree c.peak.inside.right) c.peak.inside.inner c.peak.inside.outer d (extends_itself c.list-2.new.self.pool) (rw c.pool.ensures.is at c.ids_are_distinct.ensures)
-    (ends_below c.args.trs.now.rules c.list-2.new.self c.in_ok-right.ensures.sides c.in_ok-left.left (tree c.peak.inside.left) c.at.result.now c.at.ensures)
-    (ends_below c.args.trs.now.rules c.list-2.new.self c.in_ok-right.ensures.sides c.in_ok-right.right (tree c.peak.inside.right) c.at-2.result.now c.at-2.ensures)
+    let at = (goal.at.returns-clause-constraint c).In_ok-right in
+    let P : List SideRules → Type 0 = λ sides. IfOk c.new.result (IsConstraintOf c.peak.inside.inner c.peak.inside.outer c.in_ok-left.left c.in_ok-right.right sides) in
+    ok_map c.new.result (IsConstraintOf c.peak.inside.inner c.peak.inside.outer c.in_ok-left.left c.in_ok-right.right c.number-2.new.table.items)
+    (IsConstraintFor c.args.trs.now.rules c.number-2.new.table.items c.args.peak.now)
+    (λ d h. constraint_of_numbered c.args.trs.now.rules c.list-2.new.self c.number-2.new.self c.number-2.new.table.items c.args.peak.now (tree c.peak.inside.left) (tree c.peak.inside.right)
+    c.in_ok-left_id.left_id c.in_ok-right_id.right_id c.peak.inside.inner c.peak.inside.outer c.in_ok-left.left c.in_ok-right.right d
+    (c.in_ok-right.ensures.same.lists ∙ c.in_ok-left.ensures.same.lists) c.in_ok-right_id.ensures.sides (rw c.pool.ensures.is at c.ids_are_distinct.ensures)
+    (c.in_ok-right_id.ensures.kept.kept c.in_ok-left_id.left_id (tree c.peak.inside.left) c.in_ok-left_id.ensures.id) c.in_ok-right_id.ensures.id
     (ap (λ (p : PlacedPeak). p.left) c.peak.view_is) (ap (λ (p : PlacedPeak). p.right) c.peak.view_is) (ap (λ (p : PlacedPeak). p.inner) c.peak.view_is)
-    (ap (λ (p : PlacedPeak). p.outer) c.peak.view_is) from_left from_right refl refl h) c.new.ensures
+    (ap (λ (p : PlacedPeak). p.outer) c.peak.view_is) (of_left at) c.in_ok-right.ensures.number h) (subst P c.deref.ensures.value c.new.ensures)
+
+pub returns-clause-grown : goal.returns-clause-grown
+returns-clause-grown c = always_ok c.new.result (front_on c.args.table.now.items c.number.new.table.items c.number-2.new.table.items c.in_ok-left.ensures.grown c.in_ok-right.ensures.grown)
+
+pub returns-clause-listed : goal.returns-clause-listed
+returns-clause-listed c = always_ok c.new.result (all_listed (goal.at.returns-clause-listed c).In_ok-right)
+
+pub returns-clause-numbers : goal.returns-clause-numbers
+returns-clause-numbers c = always_ok c.new.result c.in_ok-right.ensures.numbers

@@ -1,14 +1,15 @@
-use Rattle.std.proofs.Common.{ℕ, List, [], ◌∷◌, subst}
-use Rattle.label_find.specs.Lists.{rules_in, IsWith}
-use Rattle.label_find.proofs.RuleLists.{with_then}
+use Rattle.std.proofs.Common.{[], sym, subst}
+use Rattle.label_find.specs.Lists.{IsWith}
+use Rattle.label_find.proofs.RuleLists.{with_none, with_entry, with_all_entries}
 use Rattle.label_find.proofs.used.used_rules.Goals as goal
 
+pub loop-entry-init : goal.loop-entry-init
+loop-entry-init c = subst (IsWith [] []) (sym c.new-used.ensures.items) (with_none [])
+
+pub loop-entry-preserved : goal.loop-entry-preserved
+loop-entry-preserved c =
+    with_entry [] c.args.entries.now c.loop-entry.entry-index c.entry-item.result c.loop-entry.used.items c.use_path.new.used.items c.loop-entry-test.true c.entry-item.is
+    c.loop-entry.invariant (rw c.deref.ensures.value at c.in_ok-use_path.ensures)
+
 pub returns : goal.returns
-returns c =
-    let first : IsWith [] (c.args.inner ∷ []) c.use_rule.new.used.items =
-    subst (λ (xs : List ℕ). IsWith xs (c.args.inner ∷ []) c.use_rule.new.used.items) c.new-used.ensures.items c.in_ok-use_rule.ensures in
-    let both : IsWith [] (c.args.inner ∷ c.args.outer ∷ []) c.use_rule-2.new.used.items =
-    with_then [] (c.args.inner ∷ []) c.use_rule.new.used.items (c.args.outer ∷ []) c.use_rule-2.new.used.items first c.in_ok-use_rule-2.ensures in
-    let lefts : IsWith [] (c.args.inner ∷ c.args.outer ∷ rules_in c.args.lefts.now) c.use_paths.new.used.items =
-    with_then [] (c.args.inner ∷ c.args.outer ∷ []) c.use_rule-2.new.used.items (rules_in c.args.lefts.now) c.use_paths.new.used.items both c.in_ok-use_paths.ensures in
-    with_then [] (c.args.inner ∷ c.args.outer ∷ rules_in c.args.lefts.now) c.use_paths.new.used.items (rules_in c.args.rights.now) c.use_paths-2.new.used.items lefts c.in_ok-use_paths-2.ensures
+returns c = with_all_entries [] c.args.entries.now c.loop-entry.entry-index c.loop-entry.used.items c.loop-entry-test.false c.loop-entry.invariant

@@ -1,23 +1,30 @@
-use Rattle.std.proofs.Common.{◌∙◌, ap, sym, subst}
-use Rattle.trs_defs.specs.Variable.{is_listed}
-use Rattle.label_find.specs.declared.constraint.PeakConstraint.{PeakConstraint}
-use Rattle.label_find.specs.ConstraintPuzzle.{KeepsRules, label_puzzle}
+use Rattle.std.proofs.Common.{◌≡◌, ◌<◌, ◌+◌, ◌^◌, ◌∙◌, ℕ, List, IsTrue, sym, subst, arith}
+use Rattle.label_find.specs.declared.side_rules.SideRules.{SideRules}
+use Rattle.label_find.specs.ConstraintPuzzle.{KeepsRules, HasSidesIn, label_puzzle, uses_rule, used_in}
 use Rattle.label_find.specs.Lists.{end_of}
 use Rattle.label_find.proofs.ConstraintReads.{at_read}
-use Rattle.label_find.proofs.ListEnds.{ends_fit, reach_of_listed}
+use Rattle.label_find.proofs.ListEnds.{reach_of_listed}
 use Rattle.label_find.proofs.space.LabelSpaceSpace.reach.Goals.{After-index}
 use Rattle.label_find.proofs.space.LabelSpaceSpace.reach.Goals as goal
 
-keeps : (c : After-index) → KeepsRules c.args.self.now.rules c.index.result.now
-keeps c = subst (KeepsRules c.args.self.now.rules) (sym c.index.ensures) (c.args.self.now.keep c.args.c c.index.result.now c.requires)
+keeps : (c : After-index) → KeepsRules c.args.self.now.rules c.args.self.now.sides.items c.index.result.now
+keeps c = subst (KeepsRules c.args.self.now.rules c.args.self.now.sides.items) (sym c.index.ensures) (c.args.self.now.keep c.args.c c.index.result.now c.requires)
 
-pub end_of-requires : goal.end_of-requires
-end_of-requires c = rw c.deref.ensures.value (ends_fit c.index.result.now.used.items c.args.self.now.rules c.args.self.now.few_rules (keeps (goal.at.end_of-requires c).After-index).below)
+pub end-requires-clause-sides : goal.end-requires-clause-sides
+end-requires-clause-sides c =
+    subst (λ (sides : List SideRules). HasSidesIn sides c.index.result.now) (sym c.deref.ensures.value) (keeps (goal.at.end-requires-clause-sides c).After-index).there
+
+pub end-requires-clause-few : goal.end-requires-clause-few
+end-requires-clause-few c =
+    let P : List SideRules → Type 0 = λ sides. (k : ℕ) → IsTrue (uses_rule sides k c.index.result.now) → k + 1 < 2 ^ 32 in
+    let below = (keeps (goal.at.end-requires-clause-few c).After-index).below in
+    let few = c.args.self.now.few_rules in
+    subst P (sym c.deref.ensures.value) (λ k used. (let less = below k used in omega (arith, less, few)))
 
 pub returns : goal.returns
 returns c =
     let d = c.index.result.now in
-    c.end_of.ensures ∙ (ap end_of c.deref.ensures.value
-    ∙ reach_of_listed (label_puzzle c.args.self.now.rules c.args.self.now.peaks.items) c.args.c d.used.items
-    (λ s. at_read (λ (e : PeakConstraint). is_listed s e.used.items) c.args.self.now.peaks.items c.args.c d c.requires c.index.ensures)
-    (keeps (goal.at.returns c).After-index).below)
+    subst (λ (sides : List SideRules). c.end.result ≡ end_of (used_in sides d)) c.deref.ensures.value c.end.ensures
+    ∙ reach_of_listed (label_puzzle c.args.self.now.rules c.args.self.now.sides.items c.args.self.now.peaks.items) c.args.c (used_in c.args.self.now.sides.items d)
+    (λ s. at_read (uses_rule c.args.self.now.sides.items s) c.args.self.now.peaks.items c.args.c d c.requires c.index.ensures)
+    (keeps (goal.at.returns c).After-index).below

@@ -1,0 +1,9 @@
+use Rattle.std.proofs.Common.{ℕ, List, ap, nat_eq}
+use Rattle.std.specs.Map.{lookup}
+use Rattle.label_find.proofs.NumberedSides.{none_numbered}
+use Rattle.label_find.proofs.listed_sides.ListedSides.new.Goals as goal
+
+pub returns-clause-numbers : goal.returns-clause-numbers
+returns-clause-numbers c =
+    λ table. none_numbered (record { pool = c.new.result; lists = c.new-2.result; numbers = c.new-3.result }) table
+    (λ id. ap (λ (es : List (ℕ × ℕ)). lookup (nat_eq id) es) c.new-3.ensures.empty)

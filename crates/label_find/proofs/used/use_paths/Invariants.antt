@@ -1,6 +1,0 @@
-use Rattle.std.proofs.Common.{take}
-use Rattle.label_find.specs.Lists.{rules_in, IsWith}
-use Rattle.label_find.proofs.used.use_paths.Given as goal
-
-abbrev pub invariant-loop-entry : goal.invariant-loop-entry
-invariant-loop-entry l = IsWith l.fn.used.items (rules_in (take l.entry-index l.entries)) l.used.items
