@@ -1,7 +1,7 @@
 -- The least symbol without an entry, as it is found.
 use Rattle.std.specs.Prelude.{◌≡◌, ◌<◌, ◌≤◌, ◌⊎◌, ℕ, ◌+◌, Bool, true, false, List, [], ◌∷◌, ◌++◌, drop, nat_lt, if◌then◌else◌, Option, Some, None, slice_get}
 use Rattle.std.proofs.Common.{inl, inr, refl, sym, ap, subst, arith, ◌∙◌}
-use Rattle.std.proofs.lemmas.Bool.{ltb-true, ltb-false}
+use Rattle.std.proofs.lemmas.Bool.{ltb-true, ltb-false, cond-true}
 use Rattle.trs_defs.specs.Member.{In, in_first, in_rest}
 use Rattle.trs_defs.proofs.Members.{in_or, no_in}
 use Rattle.trs_defs.specs.Tree.{Tree, Trees, cons}
@@ -80,6 +80,12 @@ module _ (has : ℕ → Bool) where
   pub least_that_lacks : (symbols : List ℕ) (n : ℕ) → Some n ≡ least_lacking has None symbols
       → (In n symbols × (has n ≡ false)) × ((f : ℕ) → f < n → In f symbols × (has f ≡ false) → ⊥)
   least_that_lacks symbols n e = subst (IsLeast (λ f. In f symbols × (has f ≡ false))) (sym e) (lacking_is_least symbols)
+
+  -- where each symbol has an entry the best so far stays
+  pub all_have : (symbols : List ℕ) (least : Option ℕ) → ((f : ℕ) → In f symbols → has f ≡ true) → least ≡ least_lacking has least symbols
+  all_have [] least h = refl
+  all_have (f ∷ symbols) least h =
+      all_have symbols least (λ g i. h g (in_rest i)) ∙ ap (λ o. least_lacking has o symbols) (sym (cond-true (has f) least (Some (lower_of least f)) (h f in_first)))
 
   -- one argument more of those that are left
   pub argument_asked : (t : Tree) (ts : Trees) (least next whole : Option ℕ) → next ≡ least_lacking has least (symbols_of t)

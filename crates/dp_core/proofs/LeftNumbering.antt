@@ -1,15 +1,18 @@
 -- Pairs of one rule have one left side.
-use Rattle.std.proofs.Common.{◌≡◌, ℕ, ◌<◌, List, map, length, get_or, arith, ap, refl, sym, ◌∙◌, Option, Some, None, option_map, slice_get}
-use Rattle.std.proofs.lemmas.List.{length-map}
-use Rattle.std.proofs.lemmas.Option.{slice_get-map, slice_get-get_or, same_Some}
+use Rattle.std.proofs.Common.{◌≡◌, ℕ, ◌+◌, inl, inr, List, [], ◌∷◌, ◌++◌, map, length, arith, ap, refl, sym, subst, ◌∙◌, Option, Some, None, option_map, slice_get, Vec, Global, length-append}
+use Rattle.std.proofs.lemmas.List.{length-map, map-append}
+use Rattle.std.proofs.lemmas.Option.{slice_get-map, same_Some}
 use Rattle.trs_defs.specs.Tree.{Tree}
 use Rattle.trs_defs.specs.System.{RewriteRule, System, IsSystem}
 use Rattle.trs_defs.specs.Path.{PlacedRule}
+use Rattle.trs_defs.proofs.ListItems.{item_of_more}
+use Rattle.trs_core.specs.View.{tree}
+use Rattle.trs_core.specs.declared.terms.Term.{Term}
 use Rattle.pair_theory.specs.Marked.{Marked, plain, mark}
 use Rattle.pair_theory.specs.DependencyPair.{DependencyPair, dependency_pairs}
 use Rattle.dp_core.specs.PlacedPairs.{placed_pairs, IsPairAt, IsOfRule}
 use Rattle.dp_core.specs.Laws.{AllPairsArePlaced, PairsArePlacedInOrder}
-use Rattle.dp_core.specs.LeftNumbers.{NumberLefts}
+use Rattle.dp_core.specs.LeftNumbers.{NumberLefts, AreMarkedLefts, AreLeftsOf}
 
 same_mark : (a b : Marked) → plain a ≡ plain b → mark a ≡ mark b
 same_mark a b e =
@@ -42,8 +45,38 @@ module _ (whole : AllPairsArePlaced) (order : PairsArePlacedInOrder) (system : S
     shared = λ i j n p q a b there_p there_q. same_left system.rules n p q (numbered_by_rule i n p a there_p) (numbered_by_rule j n q b there_q);
   }
 
-pub number_there : (numbers : List ℕ) (pairs : List DependencyPair) → NumberLefts numbers pairs → (i : ℕ) → i < length pairs → slice_get numbers i ≡ Some (get_or numbers i 0)
-number_there numbers pairs numbered i within = slice_get-get_or numbers i 0 (omega (arith, numbered.as_many, within))
+  -- the left sides of rules that are kept are those of the rules' pairs
+  pub are_lefts : (kept : Vec Term Global) → AreMarkedLefts (map tree kept.items) system.rules → (numbers : Vec ℕ Global) → numbers.items ≡ map rule_of all
+      → AreLeftsOf (record { numbers = numbers; kept = kept }) (dependency_pairs system.rules)
+  are_lefts kept marked numbers same = record {
+    numbered = subst (λ ns. NumberLefts ns (dependency_pairs system.rules)) (sym same) number_lefts;
+    kept = λ i n p at there. let (rule, is_rule, left) = numbered_by_rule i n p (ap (λ ns. slice_get ns i) (sym same) ∙ at) there in marked n rule p.from is_rule left;
+  }
+
+-- one rule more, whose left side is kept
+module _ (rules : List RewriteRule) where
+  abbrev pub AreFirstLefts : List Term → ℕ → Type 0
+  AreFirstLefts terms k = (length terms ≡ k) × AreMarkedLefts (map tree terms) rules
+
+  pub none_kept : AreMarkedLefts [] rules
+  none_kept n rule left at is t there = absurd cc
+
+  pub one_more_kept : (terms new : List Term) (k : ℕ) (rule : RewriteRule) (t : Term) → AreFirstLefts terms k → slice_get rules k ≡ Some rule
+      → ((m : Marked) → rule.left ≡ plain m → tree t ≡ mark m) → new ≡ terms ++ t ∷ [] → AreFirstLefts new (k + 1)
+  one_more_kept terms new k rule t before at marks grown = (as_many, are)
+    where
+      as_many : length new ≡ k + 1
+      as_many = ap length grown ∙ (length-append terms (t ∷ []) ∙ omega (arith, before.0))
+
+      are : AreMarkedLefts (map tree new) rules
+      are n r left there is u e =
+          let both : slice_get (map tree terms ++ tree t ∷ []) n ≡ Some u = ap (λ ts. slice_get ts n) (sym (ap (map tree) grown ∙ map-append tree terms (t ∷ []))) ∙ e in
+          elim (item_of_more (map tree terms) (tree t) u n both) [
+            | inl old ↦ before.1 n r left there is u old
+            | inr last ↦ let number : n ≡ k = omega (arith, last.0, length-map terms tree, before.0) in
+                let same : r ≡ rule = same_Some r rule (sym there ∙ (ap (slice_get rules) number ∙ at)) in
+                last.1 ∙ marks left (ap (λ (x : RewriteRule). x.left) (sym same) ∙ is)
+          ]
 
 module _ (is_profile : Tree → Type 0) (lefts : List ℕ) (pairs : List DependencyPair) (number : ℕ) (term : Tree) where
   -- the term is the left side of all pairs of this number, and its profile is known

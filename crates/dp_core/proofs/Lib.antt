@@ -16,6 +16,7 @@ pub mod Conclusions
 pub mod AllNumbers
 pub mod Places
 pub mod LeastLacking
+pub mod SymbolBounds
 pub mod Comparisons
 pub mod OrderLaws
 pub mod Removed

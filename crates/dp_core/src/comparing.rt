@@ -6,12 +6,12 @@ ghost use Rattle.pair_theory.specs.DependencyPair.{DependencyPair};
 ghost use Rattle.rewrite_core.specs.Check.{Answers, AnswersBy, each, collect};
 ghost use Rattle.dp_core.specs.Numbered.{AreItemsOf, ArePairsOf};
 ghost use Rattle.dp_core.specs.Markable.{IsMarkable};
-ghost use Rattle.dp_core.specs.LeftNumbers.{NumberLefts};
+ghost use Rattle.dp_core.specs.LeftNumbers.{AreLeftsOf, term_of};
 ghost use Rattle.dp_core.specs.PairConditions.{comparing_by, is_weakly_above, rule_is_weak};
 ghost use Rattle.dp_core.specs.PairConditions.{pair_is_weak};
 
 use crate::Sides;
-use crate::lefts::{Left, left_of};
+use crate::lefts::{Left, Lefts, left_of};
 use crate::sides::marked_term;
 use crate::subterm::add;
 use pair_order::{Decrease, ReductionPair};
@@ -58,13 +58,13 @@ pub(crate) fn strict_pairs<O: ReductionPair>(
     order: &O,
     rules: usize,
     pairs: &[Sides],
-    lefts: &[u32],
+    lefts: &Lefts,
     problem: &[u32],
 ) -> Result<Vec<bool>, CheckFault>
     requires few { rules ≤ 4095 }
     requires numbers { All (λ n. n < length pairs.now) problem.now }
     requires markable { All IsMarkable pairs.now }
-    requires lefts { NumberLefts lefts.now pairs.now }
+    requires lefts { AreLeftsOf lefts.now pairs.now }
     ensures { (taken : List DependencyPair) → ArePairsOf pairs.now problem.now taken →
         AnswersBy (λ strict. strict.items) (collect (λ _ item. pair_is_weak (comparing_by
         (O.has order.now) (O.is_too_big order.now) (O.is_weak order.now) (O.is_strict order.now))
@@ -74,7 +74,8 @@ pub(crate) fn strict_pairs<O: ReductionPair>(
     let mut last = None;
     for n in problem {
         let sides = &pairs[*n as usize];
-        let left = left_of(alloc, order, last, lefts[*n as usize], &sides.from)?;
+        let number = lefts.numbers[*n as usize];
+        let left = left_of(alloc, order, last, &lefts.kept, number, &sides.from)?;
         let flag = is_strict_pair(alloc, order, rules, *n, &left, sides)?;
         last = Some(left);
         add(&mut strict, flag)?;
@@ -93,14 +94,15 @@ fn is_strict_pair<O: ReductionPair>(
 ) -> Result<bool, CheckFault>
     requires few { rules ≤ 4095 }
     requires markable { IsMarkable sides.now }
-    requires left { tree left.now.term ≡ mark sides.now.from }
-    requires profile { O.is_profile order.now (tree left.now.term) left.now.profile }
+    requires left { tree (term_of left.now.term) ≡ mark sides.now.from }
+    requires profile { O.is_profile order.now
+        (tree (term_of left.now.term)) left.now.profile }
     ensures { AnswersBy (λ strict. strict) (pair_is_weak (comparing_by (O.has order.now)
         (O.is_too_big order.now) (O.is_weak order.now) (O.is_strict order.now))
         rules n sides.now) result }
 {
     let right = marked_term(alloc, &sides.to)?;
-    match order.decrease(&left.term, &left.profile, &right) {
+    match order.decrease(left.term.get(), &left.profile, &right) {
         Err(_) => {
             let item = rules as u64 + n as u64;
             Err(CheckFault::Refused(StepRefused::TooBig(item)))

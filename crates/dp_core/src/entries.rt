@@ -1,11 +1,11 @@
-ghost use Rattle.std.specs.Prelude.{ℕ, ◌≡◌, ◌<◌, ◌+◌, ◌++◌, Bool, false, All, List, None, length};
+ghost use Rattle.std.specs.Prelude.{ℕ, ◌≡◌, ◌≤◌, ◌<◌, ◌+◌, ◌++◌, Bool, false, All, List, None, IsTrue, length};
 ghost use Rattle.trs_defs.specs.Member.{In};
 ghost use Rattle.trs_defs.specs.System.{RewriteRule};
 ghost use Rattle.trs_core.specs.View.{tree};
 ghost use Rattle.pair_theory.specs.DependencyPair.{DependencyPair};
 ghost use Rattle.rewrite_core.specs.Check.{Answers, ForbidsAny};
 ghost use Rattle.rewrite_core.specs.declared.checks.refusals.StepRefused.TheVariants.{NoEntry};
-ghost use Rattle.dp_core.specs.Numbered.{AreItemsOf, ArePairsOf};
+ghost use Rattle.dp_core.specs.Numbered.{AreItemsOf, ArePairsOf, numbers_from};
 ghost use Rattle.dp_core.specs.SubtermConditions.{roots_of};
 ghost use Rattle.dp_core.specs.Symbols.{symbols_of, symbols_of_rules};
 ghost use Rattle.dp_core.specs.LeastLacking.{least_lacking, lacking_with, lower_of};
@@ -14,7 +14,7 @@ ghost use Rattle.dp_core.specs.Markable.{IsMarkable};
 use crate::{MARK, Side, Sides};
 use pair_order::ReductionPair;
 use rewrite_core::{CheckFault, StepRefused};
-use trs_core::{Rule, Term};
+use trs_core::{Rule, Term, Trs, systems_are_valid};
 
 /// The least symbol of a term with no entry, or the least so far. It takes no memory.
 pub fn least_lacking<O: ReductionPair>(order: &O, least: Option<u32>, t: &Term) -> Option<u32>
@@ -64,6 +64,36 @@ pub fn lacking_in_rules<O: ReductionPair>(order: &O, rules: &[Rule], numbers: &[
         least = lacking_in_rule(order, least, rule);
     }
     least
+}
+
+/// The least symbol of all rules with no entry. Where each symbol of the system has one, no rule is
+/// walked.
+pub(crate) fn lacking_in_system<O: ReductionPair>(
+    order: &O,
+    trs: &Trs,
+    numbers: &[u32],
+) -> Option<u32>
+    requires { numbers.now ≡ numbers_from 0 trs.now.rules }
+    ensures { result ≡ least_lacking (O.has order.now) None (symbols_of_rules trs.now.rules) }
+{
+    systems_are_valid(trs);
+    if have_entries(order, trs.arities()) {
+        return None;
+    }
+    lacking_in_rules(order, trs.rules(), numbers)
+}
+
+/// Whether each symbol of an arity table has an entry.
+fn have_entries<O: ReductionPair>(order: &O, arities: &[u8]) -> bool
+    requires { length arities.now ≤ 4096 }
+    ensures { IsTrue result → (f : ℕ) → f < length arities.now → IsTrue (O.has order.now f) }
+{
+    for f in 0..arities.len() {
+        if !order.has_entry(f as u32) {
+            return false;
+        }
+    }
+    true
 }
 
 fn lacking_in_rule<O: ReductionPair>(order: &O, least: Option<u32>, rule: &Rule) -> Option<u32>

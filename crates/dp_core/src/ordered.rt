@@ -8,7 +8,7 @@ ghost use Rattle.dp_core.specs.LeastLacking.{least_lacking};
 ghost use Rattle.dp_core.specs.PairConditions.{comparing_by, removal_conditions, pair_conditions};
 
 use crate::comparing::{rules_check, strict_pairs};
-use crate::entries::{entries_check, lacking_in_rules, lacking_root};
+use crate::entries::{entries_check, lacking_in_system, lacking_root};
 use crate::numbers::rule_numbers;
 use crate::subterm::left_over;
 use crate::{DpPair, Pairs};
@@ -59,7 +59,7 @@ impl<'a> Pairs<'a> {
     {
         let rules = trs.rules();
         let numbers = rule_numbers(alloc, rules)?;
-        let lacking = lacking_in_rules(order, rules, &numbers);
+        let lacking = lacking_in_system(order, trs, &numbers);
         self.removal_check(alloc, trs, problem, order, &numbers, lacking)
     }
 

@@ -71,7 +71,7 @@ pub fn pair_right(alloc: Global, trs: &Trs, p: &DpPair) -> Result<Term, OutOfMem
 }
 
 /// A copy of a term that is no variable, with its root marked.
-fn marked_copy(alloc: Global, t: &Term) -> Result<Term, OutOfMemory>
+pub(crate) fn marked_copy(alloc: Global, t: &Term) -> Result<Term, OutOfMemory>
     requires { (m : Marked) → tree t.now ≡ plain m → m.symbol < 4096 }
     ensures { IfOk result (λ copy. (m : Marked) → tree t.now ≡ plain m → tree copy ≡ mark m) }
 {

@@ -8,8 +8,8 @@ use Rattle.dp_core.proofs.NumberedPairs.{pairs_of_numbers, within_all}
 use Rattle.dp_core.proofs.OrderLaws.{of_taken}
 use Rattle.dp_core.proofs.prepared.Pairs.pair_check.Goals as goal
 
-pub lacking_in_rules-lacking-requires : goal.lacking_in_rules-lacking-requires
-lacking_in_rules-lacking-requires g c = rw c.deref.ensures.value (numbers_within c.rules-rules.result.now c.in_ok-numbers.numbers.items c.in_ok-numbers.ensures)
+pub lacking_in_system-lacking-requires : goal.lacking_in_system-lacking-requires
+lacking_in_system-lacking-requires g c = rw (c.deref.ensures.value, ← c.rules-rules.ensures.rules) c.in_ok-numbers.ensures
 
 pub removal_check-requires-clause-rules : goal.removal_check-requires-clause-rules
 removal_check-requires-clause-rules g c =
@@ -23,8 +23,7 @@ returns g c =
     let problem = c.args.problem.now in
     let numbers_are : numbers ≡ numbers_from 0 rules = rw c.rules-rules.ensures.rules at c.in_ok-numbers.ensures in
     let all_rules : AreItemsOf rules numbers rules = all_of_numbers rules numbers numbers_are in
-    let lacking : c.lacking_in_rules-lacking.result ≡ least_lacking comparing.has_entry None (symbols_of_rules rules) =
-    (rw (c.rules-rules.ensures.rules, c.deref.ensures.value) at c.lacking_in_rules-lacking.ensures) rules all_rules in
+    let lacking : c.lacking_in_system-lacking.result ≡ least_lacking comparing.has_entry None (symbols_of_rules rules) = c.lacking_in_system-lacking.ensures in
     let pairs = pairs_of_numbers c.args.self.now problem (within_all (length c.args.self.now) problem c.requires.numbers) in
     let removed = (rw c.deref-2.ensures.value at c.removal_check.ensures.answers) (symbols_of_rules rules) rules pairs.0 lacking all_rules pairs.1 in
     record {
