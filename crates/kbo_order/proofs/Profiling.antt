@@ -1,5 +1,5 @@
 -- What the profile of a term on the left tells of a comparison.
-use Rattle.std.proofs.Common.{◌≡◌, ℕ, ℤ, pos, ◌+◌, ◌+ℤ◌, ◌≤ℤ◌, ◌≤◌, ◌<◌, ◌↔◌, inl, inr, sym, ap, subst, ◌∙◌, arith, Bool, false, true, IsTrue, Ok, Option, None, List, Result, IfOk, Err}
+use Rattle.std.proofs.Common.{◌≡◌, ℕ, ℤ, pos, ◌+◌, ◌+ℤ◌, ◌≤ℤ◌, ◌≤◌, ◌<◌, ◌↔◌, inl, inr, sym, ap, subst, arith, Bool, false, true, IsTrue, Ok, Option, None, List, Result, IfOk, Err}
 use Rattle.std.proofs.lemmas.Bool.{cases_lt}
 use Rattle.std.proofs.lemmas.Int.{ints}
 use Rattle.trs_defs.specs.Tree.{Tree}

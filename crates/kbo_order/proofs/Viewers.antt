@@ -1,5 +1,5 @@
 -- The variables of the second term see the two terms, walk by walk.
-use Rattle.std.proofs.Common.{◌≡◌, ℕ, ◌+◌, ◌-◌, ◌≤◌, ◌<◌, ◌^◌, ◌⊎◌, ◌↔◌, inl, inr, refl, sym, subst, ◌∙◌, arith, true, false, Bool, IsTrue, Option, Some, None}
+use Rattle.std.proofs.Common.{◌≡◌, ℕ, ◌+◌, ◌-◌, ◌≤◌, ◌<◌, ◌^◌, ◌⊎◌, ◌↔◌, inl, inr, refl, sym, subst, arith, true, false, Bool, IsTrue, Option, Some, None}
 use Rattle.std.proofs.lemmas.Bool.{cases_lt}
 use Rattle.trs_defs.specs.Tree.{Tree, Trees}
 use Rattle.trs_defs.specs.LeastVariable.{least_variable, IsBelow}

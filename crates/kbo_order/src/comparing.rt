@@ -1,10 +1,10 @@
 ghost use Rattle.std.specs.Prelude.{◌≡◌, ◌↔◌, ◌<◌, ◌^◌, ℕ, IfOk, IsTrue};
 ghost use Rattle.trs_core.specs.View.{tree};
-ghost use Rattle.order_theory.specs.KnuthBendix.{KnuthGreater, KnuthWeak, Tower};
+ghost use Rattle.order_theory.specs.KnuthBendix.{KnuthGreater, KnuthWeak, Tower, weigh};
 ghost use Rattle.pair_order.specs.Compared.{IsAnswer};
 ghost use Rattle.kbo_order.specs.TooBig.{EitherIsBig};
 ghost use Rattle.kbo_order.specs.Balances.{AreEven, TermIsCounted, TermsAreCounted};
-ghost use Rattle.kbo_order.specs.Seen.{Sees, IsView, IsWeight, AreWeights, AreApart, Decides};
+ghost use Rattle.kbo_order.specs.Seen.{Sees, IsView, IsWeight, IsSum, AreWeights, AreApart, Decides};
 
 use crate::Weighting;
 use crate::balances::{Balances, Side};
@@ -212,18 +212,33 @@ pub(crate) fn measure<W: Weighting, const N: usize>(
     ensures counted { IfOk result (λ _. TermIsCounted N from side (tree t.now)
         balances.old balances.new) }
 {
+    add_weight(order, from, side, 0, t, balances)
+}
+
+/// The sum of a weight and the term's; the occurrences of its variables are counted.
+fn add_weight<W: Weighting, const N: usize>(
+    order: &W,
+    from: u32,
+    side: Side,
+    weight: u64,
+    t: &Term,
+    balances: &mut Balances<N>,
+) -> Result<u64, TooBig>
+    ensures weight { IsSum weight (weigh (W.weights order.now) (tree t.now)) result }
+    ensures counted { IfOk result (λ _. TermIsCounted N from side (tree t.now)
+        balances.old balances.new) }
+{
     match t {
         Term::Var(x) => {
             balances.count(from, side, *x);
-            Ok(1)
+            plus(weight, 1)
         }
         Term::App(f, args) => {
-            let mut sum = 0;
+            let mut sum = plus(weight, order.weight(*f))?;
             for arg in &args.items {
-                let next = measure(order, from, side, arg, balances)?;
-                sum = plus(sum, next)?;
+                sum = add_weight(order, from, side, sum, arg, balances)?;
             }
-            plus(sum, order.weight(*f))
+            Ok(sum)
         }
     }
 }
