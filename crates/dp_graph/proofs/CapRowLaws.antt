@@ -34,25 +34,26 @@ use Rattle.dp_graph.specs.CapRows.{Key, key_cmp, HaveNumbers, no_numbers, one_nu
 use Rattle.dp_graph.specs.declared.cap_rows.CapRows.{CapRows}
 use Rattle.dp_graph.specs.declared.cap_rows.End.{End}
 use Rattle.dp_graph.specs.declared.cap_rows.NumberedCap.{NumberedCap}
+use Rattle.dp_graph.proofs.FlagLaws.{none_set}
 use Rattle.dp_graph.proofs.ListPlaces.{last_or_there, still_there, length_set}
 
 -- ---- the row of a cap
 
 -- the rules of these numbers were looked at
-pub record RowSoFar (rules : List RewriteRule) (lefts : List ℕ) (c : HoledTree) (ks : List ℕ) (row : List Bool) : Type 0 where
+pub record RowSoFar (rules : List RewriteRule) (lefts : List ℕ) (c : HoledTree) (ks : List ℕ) (row : List ℕ) : Type 0 where
   pub met : (k : ℕ) → IsSet row k → (rule : RewriteRule) × (slice_get rules k ≡ Some rule) × MeetsLeft c rule.left
   pub looked : All (λ k. (rule : RewriteRule) → slice_get rules k ≡ Some rule → slice_get lefts k ≡ Some k → MeetsLeft c rule.left → IsSet row k) ks
   pub some : 0 < length row → (k : ℕ) × IsSet row k
 
-pub no_flags : (rules : List RewriteRule) (lefts : List ℕ) (c : HoledTree) (ks : List ℕ) (row : List Bool) → row ≡ [] → RowSoFar rules lefts c (take 0 ks) row
+pub no_flags : (rules : List RewriteRule) (lefts : List ℕ) (c : HoledTree) (ks : List ℕ) (row : List ℕ) → row ≡ [] → RowSoFar rules lefts c (take 0 ks) row
 no_flags rules lefts c ks row empty = record {
-  met = λ k set. absurd (let d : None ≡ Some true = subst (λ z. slice_get z k ≡ Some true) empty set in cc);
+  met = λ k set. absurd (none_set k (subst (λ z. IsSet z k) empty set));
   looked = λ i d lt. absurd (omega (arith, lt));
   some = λ lt. absurd (let e = ap length empty in omega (arith, lt, e));
 }
 
 module _ (rules : List RewriteRule) (lefts : List ℕ) (c : HoledTree) where
-  pub one_more_flag : (ks : List ℕ) (i : ℕ) (rule : RewriteRule) (old new : List Bool) → i < length ks → slice_get rules (slice_index ks i) ≡ Some rule
+  pub one_more_flag : (ks : List ℕ) (i : ℕ) (rule : RewriteRule) (old new : List ℕ) → i < length ks → slice_get rules (slice_index ks i) ≡ Some rule
       → LooksAtLeft lefts c rule.left (slice_index ks i) old new → RowSoFar rules lefts c (take i ks) old → RowSoFar rules lefts c (take (i + 1) ks) new
   one_more_flag ks i rule old new lt there looks so_far = record {
     met = λ k set. elim (looks.only k set) [
@@ -68,7 +69,7 @@ module _ (rules : List RewriteRule) (lefts : List ℕ) (c : HoledTree) where
     ];
   }
 
-  pub all_flags : (system : System) (f : ℕ) (ks : List ℕ) (i : ℕ) (row : List Bool) → system.rules ≡ rules → IsSystem system → HaveSameLefts rules lefts → HasRoot f c → ks ≡ with_root f rules → length ks ≤ i
+  pub all_flags : (system : System) (f : ℕ) (ks : List ℕ) (i : ℕ) (row : List ℕ) → system.rules ≡ rules → IsSystem system → HaveSameLefts rules lefts → HasRoot f c → ks ≡ with_root f rules → length ks ≤ i
       → RowSoFar rules lefts c (take i ks) row → IsRow rules lefts c row
   all_flags system f ks i row is valid same root all past so_far = record {
     met = so_far.met;
@@ -83,13 +84,12 @@ module _ (rules : List RewriteRule) (lefts : List ℕ) (c : HoledTree) where
   }
 
   -- whether the cap meets a left side
-  pub met_some : (flags : List Bool) → HaveSameLefts rules lefts → IsRow rules lefts c flags → (b : Bool) → IsTrue b ↔ (flags ≡ []) → MeetsSome c rules (not b)
+  pub met_some : (flags : List ℕ) → HaveSameLefts rules lefts → IsRow rules lefts c flags → (b : Bool) → IsTrue b ↔ (flags ≡ []) → MeetsSome c rules (not b)
   met_some [] same is true e = λ l r there meets.
       let (k, at) = get_of_in there in
       let count = same.count in
       let j = item_there lefts k (let w = slice_get_within rules k (record { left = l; right = r }) at in omega (arith, w, count)) in
-      let set : IsSet [] j.0 = is.all k j.0 (record { left = l; right = r }) at j.1 meets in
-      absurd cc
+      absurd (none_set j.0 (is.all k j.0 (record { left = l; right = r }) at j.1 meets))
   met_some [] same is false e = absurd (let d = e.1 refl in cc)
   met_some (b ∷ flags) same is true e = absurd (let d = e.0 refl in cc)
   met_some (b ∷ flags) same is false e =
@@ -97,10 +97,10 @@ module _ (rules : List RewriteRule) (lefts : List ℕ) (c : HoledTree) where
       let (rule, at, meets) = is.met k set in
       (rule.left, rule.right, in_of_get rules k rule at, meets)
 
-pub nothing_looked : (lefts : List ℕ) (c : HoledTree) (l : Tree) (k : ℕ) (row : List Bool) → (slice_get lefts k ≡ Some k → MeetsLeft c l → ⊥) → LooksAtLeft lefts c l k row row
+pub nothing_looked : (lefts : List ℕ) (c : HoledTree) (l : Tree) (k : ℕ) (row : List ℕ) → (slice_get lefts k ≡ Some k → MeetsLeft c l → ⊥) → LooksAtLeft lefts c l k row row
 nothing_looked lefts c l k row unmet = record { kept = λ j h. h; met = λ noted meets. absurd (unmet noted meets); only = λ j h. inl h; some = inl refl }
 
-pub one_looked : (lefts : List ℕ) (c : HoledTree) (l : Tree) (k : ℕ) (old new : List Bool) → MeetsLeft c l → ((j : ℕ) → IsSet new j ↔ (IsSet old j ⊎ (j ≡ k))) → LooksAtLeft lefts c l k old new
+pub one_looked : (lefts : List ℕ) (c : HoledTree) (l : Tree) (k : ℕ) (old new : List ℕ) → MeetsLeft c l → ((j : ℕ) → IsSet new j ↔ (IsSet old j ⊎ (j ≡ k))) → LooksAtLeft lefts c l k old new
 one_looked lefts c l k old new meets sets = record {
   kept = λ j h. (sets j).1 (inl h);
   met = λ noted also. (sets k).1 (inr refl);
@@ -201,7 +201,7 @@ hole_alone rules lefts table n one seen = record {
     not_hole m f cs at = elim (last_or_there [] hole (symbol f cs) m at) [ inl e ↦ cc | inr e ↦ (let d = e.1 in cc) ]
 
 module _ (rules : List RewriteRule) (lefts : List ℕ) where
-  pub cap_added : (old new : CapRows) (all : List HoledTree) (c : HoledTree) (key : Key) (flags : List Bool) (n : ℕ) → AreCaps rules lefts old all → HasKey all c key.items → IsRow rules lefts c flags
+  pub cap_added : (old new : CapRows) (all : List HoledTree) (c : HoledTree) (key : Key) (flags : List ℕ) (n : ℕ) → AreCaps rules lefts old all → HasKey all c key.items → IsRow rules lefts c flags
       → AddsCap key flags n old new → AreMore rules lefts new all (λ grown. slice_get grown n ≡ Some c)
   cap_added old new all c key flags n are has is adds = (all ++ c ∷ [], keeps, made, here)
     where
@@ -215,7 +215,7 @@ module _ (rules : List RewriteRule) (lefts : List ℕ) where
       here = subst (λ z. slice_get (all ++ c ∷ []) z ≡ Some c) (sym place) (last_item all c [])
 
       row_of : (m r f : ℕ) (cs : HoledTrees) → slice_get (all ++ c ∷ []) m ≡ Some (symbol f cs) → slice_get new.caps.items m ≡ Some r
-          → (flags : List Bool) × HasFlags new.rows.rows.items r flags × IsRow rules lefts (symbol f cs) flags
+          → (flags : List ℕ) × HasFlags new.rows.rows.items r flags × IsRow rules lefts (symbol f cs) flags
       row_of m r f cs at there =
           elim (last_or_there all c (symbol f cs) m at) [
             | inl e ↦ elim (last_or_there old.caps.items adds.row r m (subst (λ z. slice_get z m ≡ Some r) adds.caps there)) [
@@ -259,7 +259,7 @@ module _ (rules : List RewriteRule) (lefts : List ℕ) where
   -- the cap that stays of a symbol over the caps of its arguments
   pub closed_cap : (table : CapRows) (all : List HoledTree) (t : Tree) (f : ℕ) (cs : HoledTrees) (n : ℕ) (b : Bool) → HaveSameLefts rules lefts → AreCaps rules lefts table all → IsWhole rules false t (symbol f cs)
       → slice_get all n ≡ Some (symbol f cs)
-      → ((r : ℕ) (flags : List Bool) → slice_get table.caps.items n ≡ Some r → HasFlags table.rows.rows.items r flags → IsTrue b ↔ (flags ≡ [])) → MeetsSome (symbol f cs) rules (not b)
+      → ((r : ℕ) (flags : List ℕ) → slice_get table.caps.items n ≡ Some r → HasFlags table.rows.rows.items r flags → IsTrue b ↔ (flags ≡ [])) → MeetsSome (symbol f cs) rules (not b)
   closed_cap table all t f cs n b same are whole at says =
       let r = item_there table.caps.items n (let w = slice_get_within all n (symbol f cs) at in omega (arith, w, are.count)) in
       let (flags, has, row) = are.rows n r.0 f cs at r.1 in
@@ -373,7 +373,7 @@ module _ (rules : List RewriteRule) (lefts : List ℕ) where
 
   pub kept_after : (new : CapRows) (first : List HoledTree) (t : Tree) (f : ℕ) (cs : HoledTrees) (n : ℕ) (b : Bool) (found : NumberedCap) → HaveSameLefts rules lefts
       → IsWhole rules false t (symbol f cs) → AreMore rules lefts new first (λ grown. slice_get grown n ≡ Some (symbol f cs))
-      → ((r : ℕ) (flags : List Bool) → slice_get new.caps.items n ≡ Some r → HasFlags new.rows.rows.items r flags → IsTrue b ↔ (flags ≡ [])) → b ≡ true
+      → ((r : ℕ) (flags : List ℕ) → slice_get new.caps.items n ≡ Some r → HasFlags new.rows.rows.items r flags → IsTrue b ↔ (flags ≡ [])) → b ≡ true
       → holed found.cap ≡ symbol f cs → found.number ≡ n → found.whole ≡ n → AreMore rules lefts new first (IsNumbered rules t found)
   kept_after new first t f cs n b found same whole (all, keeps, are, at) says on cap number of_whole =
       let free : MeetsSome (symbol f cs) rules false = subst (λ z. MeetsSome (symbol f cs) rules (not z)) on (closed_cap new all t f cs n b same are whole at says) in
@@ -381,23 +381,23 @@ module _ (rules : List RewriteRule) (lefts : List ℕ) where
 
   pub opened_after : (new : CapRows) (first : List HoledTree) (t : Tree) (f : ℕ) (cs : HoledTrees) (n : ℕ) (b : Bool) (found : NumberedCap) → HaveSameLefts rules lefts
       → IsWhole rules false t (symbol f cs) → AreMore rules lefts new first (λ grown. slice_get grown n ≡ Some (symbol f cs))
-      → ((r : ℕ) (flags : List Bool) → slice_get new.caps.items n ≡ Some r → HasFlags new.rows.rows.items r flags → IsTrue b ↔ (flags ≡ [])) → b ≡ false
+      → ((r : ℕ) (flags : List ℕ) → slice_get new.caps.items n ≡ Some r → HasFlags new.rows.rows.items r flags → IsTrue b ↔ (flags ≡ [])) → b ≡ false
       → holed found.cap ≡ hole → found.number ≡ 0 → found.whole ≡ n → AreMore rules lefts new first (IsNumbered rules t found)
   opened_after new first t f cs n b found same whole (all, keeps, are, at) says off cap number of_whole =
       let meets : MeetsSome (symbol f cs) rules true = subst (λ z. MeetsSome (symbol f cs) rules (not z)) off (closed_cap new all t f cs n b same are whole at says) in
       (all, keeps, are, opened_cap all t found f cs whole meets are.hole_first (subst (λ z. slice_get all z ≡ Some (symbol f cs)) (sym of_whole) at) cap number)
 
-  pub cap_made : {E : Type 0} (old new : CapRows) (all : List HoledTree) (c : HoledTree) (key : Key) (flags : List Bool) (result : Result ℕ E) → AreCaps rules lefts old all → HasKey all c key.items → IsRow rules lefts c flags
+  pub cap_made : {E : Type 0} (old new : CapRows) (all : List HoledTree) (c : HoledTree) (key : Key) (flags : List ℕ) (result : Result ℕ E) → AreCaps rules lefts old all → HasKey all c key.items → IsRow rules lefts c flags
       → IfOk result (λ n. AddsCap key flags n old new) → IfOk result (λ n. AreMore rules lefts new all (λ grown. slice_get grown n ≡ Some c))
   cap_made old new all c key flags (Ok n) are has is adds = cap_added old new all c key flags n are has is adds
   cap_made old new all c key flags (Err e) are has is adds = adds
 
-pub cap_keeps : {E : Type 0} (key : Key) (flags : List Bool) (old new : CapRows) (result : Result ℕ E) → IfOk result (λ n. AddsCap key flags n old new) → OnOk result (KeepFlags old.rows.rows.items new.rows.rows.items)
+pub cap_keeps : {E : Type 0} (key : Key) (flags : List ℕ) (old new : CapRows) (result : Result ℕ E) → IfOk result (λ n. AddsCap key flags n old new) → OnOk result (KeepFlags old.rows.rows.items new.rows.rows.items)
 cap_keeps key flags old new (Ok n) adds = adds.kept
 cap_keeps key flags old new (Err e) adds = adds
 
-pub row_says : (caps : List ℕ) (n row r : ℕ) (rows : List (Vec Bool Global)) (flags : List Bool) (b : Bool) → slice_get caps n ≡ Some row → slice_get caps n ≡ Some r → HasFlags rows r flags
-    → ((others : List Bool) → HasFlags rows row others → IsTrue b ↔ (others ≡ [])) → IsTrue b ↔ (flags ≡ [])
+pub row_says : (caps : List ℕ) (n row r : ℕ) (rows : List (Vec ℕ Global)) (flags : List ℕ) (b : Bool) → slice_get caps n ≡ Some row → slice_get caps n ≡ Some r → HasFlags rows r flags
+    → ((others : List ℕ) → HasFlags rows row others → IsTrue b ↔ (others ≡ [])) → IsTrue b ↔ (flags ≡ [])
 row_says caps n row r rows flags b at there has says = says flags (subst (λ z. HasFlags rows z flags) (same_Some r row (sym there ∙ at)) has)
 
 pub no_number : (caps : List ℕ) (n r : ℕ) → slice_get caps n ≡ None → slice_get caps n ≡ Some r → ⊥

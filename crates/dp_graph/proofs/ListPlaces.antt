@@ -13,6 +13,11 @@ past_none [] n h = refl
 past_none (x ∷ xs) zero h = absurd (omega (arith, h))
 past_none (x ∷ xs) (suc n) h = past_none xs n (omega (arith, h))
 
+pub none_past : {A : Type 0} (xs : List A) (n : ℕ) → slice_get xs n ≡ None → length xs ≤ n
+none_past [] n e = omega arith
+none_past (x ∷ xs) zero e = absurd cc
+none_past (x ∷ xs) (suc n) e = let h = none_past xs n e in omega (arith, h)
+
 pub flag_at : (flags : List Bool) (i : ℕ) (d b : Bool) → i < length flags → get_or flags i d ≡ b → slice_get flags i ≡ Some b
 flag_at [] i d b lt e = absurd (omega (arith, lt))
 flag_at (f ∷ flags) zero d b lt e = ap (λ z. Some z) e

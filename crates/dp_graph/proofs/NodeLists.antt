@@ -1,7 +1,7 @@
 -- The nodes of pairs, one after another, and edges between them.
-use Rattle.std.specs.Prelude.{◌≡◌, ◌<◌, ◌≤◌, ◌↔◌, ℕ, Bool, false, List, [], ◌∷◌, length, get_or, Option, Some, None, IsTrue, Vec, slice_get, refl}
+use Rattle.std.specs.Prelude.{◌≡◌, ◌<◌, ◌↔◌, ℕ, Bool, false, List, length, get_or, Option, Some, None, IsTrue, Vec, slice_get, refl}
 use Rattle.std.specs.declared.alloc.Global.{Global}
-use Rattle.std.proofs.Common.{zero, suc, sym, ap, subst, arith, ◌∙◌}
+use Rattle.std.proofs.Common.{sym, ap, subst, arith, ◌∙◌}
 use Rattle.std.proofs.lemmas.Slice.Zip.{AllZip-long}
 use Rattle.std.proofs.lemmas.Option.{slice_get_within, slice_get_past, slice_get_read, same_Some}
 use Rattle.std.specs.Borrow.{Bor}
@@ -16,7 +16,7 @@ use Rattle.dp_graph.specs.Edge.{IsEdge}
 use Rattle.dp_graph.specs.GraphConditions.{HasEdge}
 use Rattle.dp_graph.specs.FlagRows.{IsSet}
 use Rattle.dp_graph.specs.GraphNodes.{IsNodeOf, IsNodeFor, IsSideNode, AreNodesOf}
-use Rattle.dp_graph.proofs.ListPlaces.{past_none}
+use Rattle.dp_graph.proofs.ListPlaces.{past_none, none_past}
 use Rattle.dp_graph.proofs.FlagLaws.{one_row}
 use Rattle.dp_graph.proofs.PairNodeLaws.{zip_at, flag_of_edge}
 
@@ -31,15 +31,10 @@ item_found xs i found x h e = sym (read_item xs i found h) ∙ ap option_copied 
 pub item_missing : {A : Type 0} (xs : List A) (i : ℕ) (found : Option (Bor A)) → IsItemAt xs i found → found ≡ None → slice_get xs i ≡ None
 item_missing xs i found h e = sym (read_item xs i found h) ∙ ap option_copied e
 
-none_past : {A : Type 0} (xs : List A) (n : ℕ) → slice_get xs n ≡ None → length xs ≤ n
-none_past [] n e = omega arith
-none_past (x ∷ xs) zero e = absurd cc
-none_past (x ∷ xs) (suc n) e = let h = none_past xs n e in omega (arith, h)
-
-nodes_long : (system : System) (nodes : List Node) (rows : List (Vec Bool Global)) → AreNodesOf system nodes rows → length nodes ≡ length (dependency_pairs system.rules)
+nodes_long : (system : System) (nodes : List Node) (rows : List (Vec ℕ Global)) → AreNodesOf system nodes rows → length nodes ≡ length (dependency_pairs system.rules)
 nodes_long system nodes rows are = AllZip-long (IsSideNode system.rules are.lefts rows) (dependency_pairs system.rules) nodes are.each
 
-pub node_read : (system : System) (nodes : List Node) (rows : List (Vec Bool Global)) (n : ℕ) (found : Option Node) → AreNodesOf system nodes rows → found ≡ slice_get nodes n → IsNodeFor system n found
+pub node_read : (system : System) (nodes : List Node) (rows : List (Vec ℕ Global)) (n : ℕ) (found : Option Node) → AreNodesOf system nodes rows → found ≡ slice_get nodes n → IsNodeFor system n found
 node_read system nodes rows n None are e = past_none (dependency_pairs system.rules) n (let h = none_past nodes n (sym e) in let c = nodes_long system nodes rows are in omega (arith, h, c))
 node_read system nodes rows n (Some node) are e =
     let lt = slice_get_within nodes n node (sym e) in
@@ -53,7 +48,7 @@ of_rule rules p node is = (is.rule, is.numbered, is.rule_left)
 
 -- ---- edges by the rows of nodes
 
-module _ (system : System) (nodes : List Node) (rows : List (Vec Bool Global)) (are : AreNodesOf system nodes rows) where
+module _ (system : System) (nodes : List Node) (rows : List (Vec ℕ Global)) (are : AreNodesOf system nodes rows) where
   abbrev all : List DependencyPair
   all = dependency_pairs system.rules
 
@@ -87,7 +82,7 @@ module _ (system : System) (nodes : List Node) (rows : List (Vec Bool Global)) (
   )
 
   -- the flag of the rule of the one in the row of the other says whether an edge leads
-  pub edge_decided : (m n : ℕ) (from to : Node) (row : Vec Bool Global) (b : Bool) → slice_get nodes m ≡ Some from → slice_get nodes n ≡ Some to → row ≡ get_or rows from.row row
+  pub edge_decided : (m n : ℕ) (from to : Node) (row : Vec ℕ Global) (b : Bool) → slice_get nodes m ≡ Some from → slice_get nodes n ≡ Some to → row ≡ get_or rows from.row row
       → IsTrue b ↔ IsSet row.items to.rule → IsTrue b ↔ HasEdge system.rules all m n
   edge_decided m n from to row b at there read says =
       let (p, at_p, mine) = its_pair m from at in

@@ -1,5 +1,5 @@
 -- The nodes of pairs, one after another, and edges by their rows.
-use Rattle.std.specs.Prelude.{◌≡◌, ◌<◌, ◌≤◌, ◌↔◌, ℕ, ◌+◌, ◌++◌, Bool, List, [], ◌∷◌, length, take, drop, get_or, Some, None, Vec, slice_get, refl}
+use Rattle.std.specs.Prelude.{◌≡◌, ◌<◌, ◌≤◌, ◌↔◌, ℕ, ◌+◌, ◌++◌, List, [], ◌∷◌, length, take, drop, get_or, Some, None, Vec, slice_get, refl}
 use Rattle.std.specs.declared.alloc.Global.{Global}
 use Rattle.std.specs.List.{AllZip}
 use Rattle.std.specs.Ordering.{nat_cmp}
@@ -116,10 +116,10 @@ one_more_node rule from ends k end old mid new lt at so_far adds =
       seen = λ h. seen_more rule from end mid new adds (so_far.seen h);
     }
 
-row_stays : (rules : List RewriteRule) (lefts : List ℕ) (old new : List (Vec Bool Global)) (n : ℕ) (p : DependencyPair) → KeepFlags old new → IsRowAt rules lefts old n p → IsRowAt rules lefts new n p
+row_stays : (rules : List RewriteRule) (lefts : List ℕ) (old new : List (Vec ℕ Global)) (n : ℕ) (p : DependencyPair) → KeepFlags old new → IsRowAt rules lefts old n p → IsRowAt rules lefts new n p
 row_stays rules lefts old new n p keeps (c, end, (flags, has, row)) = (c, end, (flags, keeps n flags has, row))
 
-side_stays : (rules : List RewriteRule) (lefts : List ℕ) (old new : List (Vec Bool Global)) → KeepFlags old new → (p : DependencyPair) (node : Node) → IsSideNode rules lefts old p node → IsSideNode rules lefts new p node
+side_stays : (rules : List RewriteRule) (lefts : List ℕ) (old new : List (Vec ℕ Global)) → KeepFlags old new → (p : DependencyPair) (node : Node) → IsSideNode rules lefts old p node → IsSideNode rules lefts new p node
 side_stays rules lefts old new keeps p node is = record {
   number = is.number;
   rule = is.rule;
@@ -234,7 +234,7 @@ all_rules rules lefts k nodes past so_far =
 
 module _ (system : System) (valid : IsSystem system) (few : length system.arities ≤ 4095) (lefts : List ℕ) (same : HaveSameLefts system.rules lefts) where
   -- the flag of the rule that is noted for the left side of a pair says whether an edge leads to it
-  pub flag_of_edge : (p r : DependencyPair) (c : HoledTree) (flags : List Bool) (k j : ℕ) (rule : RewriteRule) → IsEndOf system.rules p.to c → IsRow system.rules lefts c flags → slice_get system.rules k ≡ Some rule
+  pub flag_of_edge : (p r : DependencyPair) (c : HoledTree) (flags : List ℕ) (k j : ℕ) (rule : RewriteRule) → IsEndOf system.rules p.to c → IsRow system.rules lefts c flags → slice_get system.rules k ≡ Some rule
       → rule.left ≡ plain r.from → slice_get lefts k ≡ Some j → IsSet flags j ↔ IsEdge system.rules p r
   flag_of_edge p r c flags k j rule (caps, each, is) row numbered left noted =
       let by = edge_by_caps system valid few p r caps each in (
@@ -248,7 +248,7 @@ module _ (system : System) (valid : IsSystem system) (few : length system.aritie
       )
 
   -- from pairs with one row the same edges lead
-  same_edges : (rows : List (Vec Bool Global)) (n : ℕ) (p q r : DependencyPair) (node : Node) → IsRowAt system.rules lefts rows n p → IsRowAt system.rules lefts rows n q → IsSideNode system.rules lefts rows r node
+  same_edges : (rows : List (Vec ℕ Global)) (n : ℕ) (p q r : DependencyPair) (node : Node) → IsRowAt system.rules lefts rows n p → IsRowAt system.rules lefts rows n q → IsSideNode system.rules lefts rows r node
       → IsEdge system.rules p r ↔ IsEdge system.rules q r
   same_edges rows n p q r node (c, end, (flags, has, row)) (d, other, (others, have, also)) is =
       let equal : flags ≡ others = one_row rows n flags others has have in
@@ -261,7 +261,7 @@ module _ (system : System) (valid : IsSystem system) (few : length system.aritie
     abbrev pairs : List DependencyPair
     pairs = dependency_pairs system.rules
 
-    abbrev rows : List (Vec Bool Global)
+    abbrev rows : List (Vec ℕ Global)
     rows = nodes.caps.rows.rows.items
 
     long : length nodes.nodes.items ≡ length pairs

@@ -1,6 +1,6 @@
 -- Which left sides the caps of terms meet. Equal caps are put beside the left sides once: a cap is found by its symbol and the
 -- numbers of its parts.
-use Rattle.std.specs.Prelude.{◌≡◌, ◌++◌, ℕ, Bool, true, false, List, [], ◌∷◌, length, Option, Some, None, Vec, slice_get, slice_set}
+use Rattle.std.specs.Prelude.{◌≡◌, ◌++◌, ℕ, true, false, List, [], ◌∷◌, length, Option, Some, None, Vec, slice_get, slice_set}
 use Rattle.std.specs.declared.alloc.Global.{Global}
 use Rattle.std.specs.declared.cmp.Ordering.{Ordering}
 use Rattle.std.specs.Ordering.{nat_cmp}
@@ -48,7 +48,7 @@ pub record AreCaps (rules : List RewriteRule) (lefts : List ℕ) (table : CapRow
   pub count : length table.caps.items ≡ length all
   pub hole_first : slice_get all 0 ≡ Some hole
   pub rows : (n r f : ℕ) (cs : HoledTrees) → slice_get all n ≡ Some (symbol f cs) → slice_get table.caps.items n ≡ Some r
-      → (flags : List Bool) × HasFlags table.rows.rows.items r flags × IsRow rules lefts (symbol f cs) flags
+      → (flags : List ℕ) × HasFlags table.rows.rows.items r flags × IsRow rules lefts (symbol f cs) flags
   pub seen : (key : Key) (n : ℕ) → get key_cmp table.seen key ≡ Some n → (c : HoledTree) × (slice_get all n ≡ Some c) × HasKey all c key.items
 
 -- the caps keep their numbers
@@ -60,7 +60,7 @@ abbrev pub AreMore : List RewriteRule → List ℕ → CapRows → List HoledTre
 AreMore rules lefts table old P = (all : List HoledTree) × KeepNumbers old all × AreCaps rules lefts table all × P all
 
 -- a cap with this key and these flags is added as number n
-pub record AddsCap (key : Key) (flags : List Bool) (n : ℕ) (old new : CapRows) : Type 0 where
+pub record AddsCap (key : Key) (flags : List ℕ) (n : ℕ) (old new : CapRows) : Type 0 where
   pub last : n ≡ length old.caps.items
   pub row : ℕ
   pub caps : new.caps.items ≡ old.caps.items ++ row ∷ []

@@ -1,5 +1,5 @@
 -- The pairs of a graph, with the rows of the left sides to which edges lead from them.
-use Rattle.std.specs.Prelude.{◌≡◌, ◌≤◌, ◌↔◌, ℕ, Bool, false, List, length, Option, Some, None, Vec, slice_get}
+use Rattle.std.specs.Prelude.{◌≡◌, ◌≤◌, ◌↔◌, ℕ, false, List, length, Option, Some, None, Vec, slice_get}
 use Rattle.std.specs.List.{AllZip}
 use Rattle.std.specs.declared.alloc.Global.{Global}
 use Rattle.trs_defs.specs.System.{RewriteRule, System, IsSystem}
@@ -17,9 +17,9 @@ abbrev pub IsEndOf : List RewriteRule → Marked → HoledTree → Type 0
 IsEndOf rules side c = (caps : HoledTrees) × AreHoledCaps rules false side.args caps × (c ≡ symbol side.symbol caps)
 
 -- row number n is that of the cap of the pair's right side
-abbrev pub IsRowAt : List RewriteRule → List ℕ → List (Vec Bool Global) → ℕ → DependencyPair → Type 0
+abbrev pub IsRowAt : List RewriteRule → List ℕ → List (Vec ℕ Global) → ℕ → DependencyPair → Type 0
 IsRowAt rules lefts rows n p =
-    (c : HoledTree) × IsEndOf rules p.to c × ((flags : List Bool) × HasFlags rows n flags × IsRow rules lefts c flags)
+    (c : HoledTree) × IsEndOf rules p.to c × ((flags : List ℕ) × HasFlags rows n flags × IsRow rules lefts c flags)
 
 -- the same edges lead from pair number n as from this one
 abbrev pub LeadsAs : List RewriteRule → ℕ → DependencyPair → Type 0
@@ -43,7 +43,7 @@ IsNodeFor system n (Some node) =
     (p : DependencyPair) × (slice_get (dependency_pairs system.rules) n ≡ Some p) × IsNodeOf system.rules p node
 
 -- the node has the roots of this pair, the row of its right side, and the rule that is noted for its left side
-pub record IsSideNode (rules : List RewriteRule) (lefts : List ℕ) (rows : List (Vec Bool Global)) (p : DependencyPair) (node : Node) : Type 0 where
+pub record IsSideNode (rules : List RewriteRule) (lefts : List ℕ) (rows : List (Vec ℕ Global)) (p : DependencyPair) (node : Node) : Type 0 where
   pub number : ℕ
   pub rule : RewriteRule
   pub numbered : slice_get rules number ≡ Some rule
@@ -54,7 +54,7 @@ pub record IsSideNode (rules : List RewriteRule) (lefts : List ℕ) (rows : List
   pub row : IsRowAt rules lefts rows node.row p
 
 -- the nodes are those of the pairs of the system, in order; from that of another pair with its row the same edges lead
-pub record AreNodesOf (system : System) (nodes : List Node) (rows : List (Vec Bool Global)) : Type 0 where
+pub record AreNodesOf (system : System) (nodes : List Node) (rows : List (Vec ℕ Global)) : Type 0 where
   pub valid : IsSystem system
   pub symbols : length system.arities ≤ 4095
   pub lefts : List ℕ

@@ -1,11 +1,10 @@
 -- Components that wait for others, by their leaders.
-use Rattle.std.specs.Prelude.{◌≡◌, ◌↔◌, ◌⊎◌, ℕ, Bool, false, cond, List, length, replicate, Option, Some, None, IsTrue, slice_get}
+use Rattle.std.specs.Prelude.{◌≡◌, ◌↔◌, ◌⊎◌, ℕ, Bool, true, false, cond, List, length, replicate, Option, Some, None, IsTrue, slice_get}
 use Rattle.std.specs.Ordering.{nat_cmp}
 use Rattle.std.specs.BTreeMap.{is_at}
 use Rattle.std.specs.BTreeSet.{BTreeSet, contains}
 use Rattle.trs_defs.specs.Member.{In}
 use Rattle.dp_graph.specs.GraphConditions.{lists_of}
-use Rattle.dp_graph.specs.FlagRows.{IsSet}
 use Rattle.dp_graph.specs.PutOut.{ComesBefore}
 use Rattle.dp_graph.specs.Rows.{Follows}
 use Rattle.dp_graph.specs.declared.waiting.Waiting.{Waiting}
@@ -64,7 +63,7 @@ pub record AreAtFirst (rows : List (List ℕ)) (leaders : List ℕ) (waiting : W
 
 -- leader k is put out
 abbrev pub IsOut : List Bool → ℕ → Type 0
-IsOut out k = IsSet out k
+IsOut out k = slice_get out k ≡ Some true
 
 -- leader l waits for leader k, which is not put out
 abbrev pub WaitsFor : Waiting → ℕ → ℕ → Type 0

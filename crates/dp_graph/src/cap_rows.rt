@@ -1,5 +1,5 @@
 //! Which left sides the caps of terms meet.
-ghost use Rattle.std.specs.Prelude.{ℕ, ◌≡◌, ◌≤◌, ◌<◌, ◌↔◌, ◌∷◌, Bool, false, List, [], Some, IfOk, IfSome, OnOk, IsTrue, length, slice_get};
+ghost use Rattle.std.specs.Prelude.{ℕ, ◌≡◌, ◌≤◌, ◌<◌, ◌↔◌, ◌∷◌, false, List, [], Some, IfOk, IfSome, OnOk, IsTrue, length, slice_get};
 ghost use Rattle.trs_defs.specs.Tree.{Tree};
 ghost use Rattle.trs_defs.specs.System.{RewriteRule};
 ghost use Rattle.trs_core.specs.View.{tree};
@@ -169,7 +169,7 @@ impl CapRows {
     }
 
     /// Adds a cap with this key and this row.
-    fn add(&mut self, alloc: Global, key: Vec<u32>, row: Vec<bool>) -> Result<u32, OutOfMemory>
+    fn add(&mut self, alloc: Global, key: Vec<u32>, row: Vec<u64>) -> Result<u32, OutOfMemory>
         ensures { IfOk result (λ n. AddsCap key row.items n self.old self.new) }
     {
         let number = kept(self.caps.len())?;
@@ -181,7 +181,7 @@ impl CapRows {
 
     /// Whether a cap meets no left side.
     fn is_kept(&self, n: u32) -> bool
-        ensures { (r : ℕ) (flags : List Bool) → slice_get self.now.caps.items n ≡ Some r
+        ensures { (r : ℕ) (flags : List ℕ) → slice_get self.now.caps.items n ≡ Some r
             → HasFlags self.now.rows.rows.items r flags → IsTrue result ↔ (flags ≡ []) }
     {
         match self.caps.get(n as usize) {
@@ -230,7 +230,7 @@ fn row_of(
     lefts: &[usize],
     f: u32,
     cap: &Cap,
-) -> Result<Vec<bool>, OutOfMemory>
+) -> Result<Vec<u64>, OutOfMemory>
     requires lefts { HaveSameLefts by_root.now.rules lefts.now }
     requires root { HasRoot f (holed cap.now) }
     ensures { IfOk result
@@ -252,7 +252,7 @@ fn look_at(
     cap: &Cap,
     rule: &Rule,
     k: usize,
-    row: &mut Vec<bool>,
+    row: &mut Vec<u64>,
 ) -> Result<(), OutOfMemory>
     ensures { OnOk result (LooksAtLeft lefts.now (holed cap.now) rule.now.left k
         row.old.items row.new.items) }

@@ -1,5 +1,5 @@
-//! Rows of flags.
-ghost use Rattle.std.specs.Prelude.{ℕ, ◌≡◌, ◌↔◌, ◌⊎◌, Bool, List, [], IfOk, IfSome, OnOk, IsTrue};
+//! Rows of flags, a bit each. So those of 4,095 rules take 64 words.
+ghost use Rattle.std.specs.Prelude.{ℕ, ◌≡◌, ◌↔◌, ◌⊎◌, List, [], IfOk, IfSome, OnOk, IsTrue};
 ghost use Rattle.dp_graph.specs.FlagRows.{IsSet, HasFlags, KeepFlags};
 
 use crate::by_root::push_at;
@@ -11,7 +11,7 @@ use trs_core::OutOfMemory;
 /// Rows by their numbers, which go from 0. Equal ones have one number.
 #[derive(Drop)]
 pub(crate) struct FlagRows {
-    pub(crate) rows: Vec<Vec<bool>>,
+    pub(crate) rows: Vec<Vec<u64>>,
     /// The numbers of rows by their hashes.
     by_hash: BTreeMap<u32, Vec<u32>>,
 }
@@ -26,7 +26,7 @@ impl FlagRows {
     }
 
     /// The number of a row, which is added if there is none like it.
-    pub(crate) fn number_of(&mut self, alloc: Global, row: Vec<bool>) -> Result<u32, OutOfMemory>
+    pub(crate) fn number_of(&mut self, alloc: Global, row: Vec<u64>) -> Result<u32, OutOfMemory>
         ensures there { IfOk result (λ n. HasFlags self.new.rows.items n row.items) }
         ensures kept { OnOk result (KeepFlags self.old.rows.items self.new.rows.items) }
     {
@@ -41,7 +41,7 @@ impl FlagRows {
     }
 
     /// The number of a row like this one, by its hash.
-    fn find(&self, hash: u32, row: &[bool]) -> Option<u32>
+    fn find(&self, hash: u32, row: &[u64]) -> Option<u32>
         ensures { IfSome result (λ n. HasFlags self.now.rows.items n row.now) }
     {
         let Some(numbers) = self.by_hash.get(&hash) else {
@@ -56,7 +56,7 @@ impl FlagRows {
     }
 
     /// Whether a row has these flags.
-    fn has_flags(&self, n: u32, flags: &[bool]) -> bool
+    fn has_flags(&self, n: u32, flags: &[u64]) -> bool
         ensures { IsTrue result → HasFlags self.now.rows.items n flags.now }
     {
         match self.rows.get(n as usize) {
@@ -67,7 +67,7 @@ impl FlagRows {
 
     /// Whether a row has no flags.
     pub(crate) fn is_empty(&self, n: u32) -> bool
-        ensures { (flags : List Bool) → HasFlags self.now.rows.items n flags →
+        ensures { (flags : List ℕ) → HasFlags self.now.rows.items n flags →
             IsTrue result ↔ (flags ≡ []) }
     {
         match self.rows.get(n as usize) {
@@ -78,16 +78,16 @@ impl FlagRows {
 }
 
 /// A number that is mostly another one for another row.
-fn hash_of(row: &[bool]) -> u32 {
-    let mut hash: u32 = 0;
-    for flag in row {
-        let number = if *flag { 2 } else { 1 };
-        hash = hash.wrapping_add(number).wrapping_mul(0x9E37_79B1);
+fn hash_of(row: &[u64]) -> u32 {
+    let mut hash: u64 = 1;
+    for word in row {
+        hash = (hash ^ *word).wrapping_mul(0x9E37_79B9_7F4A_7C15);
+        hash ^= hash >> 29;
     }
-    hash
+    (hash >> 32) as u32
 }
 
-fn are_equal(xs: &[bool], ys: &[bool]) -> bool
+fn are_equal(xs: &[u64], ys: &[u64]) -> bool
     ensures { IsTrue result → xs.now ≡ ys.now }
 {
     if xs.len() != ys.len() {
@@ -102,20 +102,23 @@ fn are_equal(xs: &[bool], ys: &[bool]) -> bool
 }
 
 /// Sets flag number `k`.
-pub(crate) fn set(row: &mut Vec<bool>, k: usize) -> Result<(), OutOfMemory>
+pub(crate) fn set(row: &mut Vec<u64>, k: usize) -> Result<(), OutOfMemory>
     ensures { OnOk result
         ((j : ℕ) → IsSet row.new.items j ↔ (IsSet row.old.items j ⊎ (j ≡ k))) }
 {
-    while row.len() <= k {
-        row.push(false)?;
+    while row.len() <= k / 64 {
+        row.push(0)?;
     }
-    row[k] = true;
+    row[k / 64] |= 1 << (k % 64);
     Ok(())
 }
 
 /// Whether flag number `k` is set.
-pub(crate) fn is_set(row: &[bool], k: usize) -> bool
+pub(crate) fn is_set(row: &[u64], k: usize) -> bool
     ensures { IsTrue result ↔ IsSet row.now k }
 {
-    k < row.len() && row[k]
+    match row.get(k / 64) {
+        Some(word) => (*word >> (k % 64)) & 1 == 1,
+        None => false,
+    }
 }

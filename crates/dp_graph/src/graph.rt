@@ -35,7 +35,7 @@ pub struct PairGraph<'a> {
     nodes: Vec<Node>,
     /// For the cap of a right side the rules whose left sides it meets, one for each left side. Equal
     /// rows are kept once.
-    rows: Vec<Vec<bool>>,
+    rows: Vec<Vec<u64>>,
 }
 
 impl<'a> Model for PairGraph<'a> {

@@ -3,9 +3,8 @@ ghost use Rattle.std.specs.Prelude.{ℕ, ◌≡◌, ◌<◌, ◌≤◌, ◌↔�
 ghost use Rattle.dp_graph.specs.GraphConditions.{lists_of};
 ghost use Rattle.dp_graph.specs.Rows.{StayWithin};
 ghost use Rattle.dp_graph.specs.Waiting.{Has, Adds, OneEdge, RowEdges, AllEdges, IsReadySet, IsFreeLeader, AddsIf, AreAtFirst};
-ghost use Rattle.dp_graph.specs.Waiting.{TakesOut, Releases, LooksAt, Other, IsOne, OfRow, OfRows, Trims};
+ghost use Rattle.dp_graph.specs.Waiting.{TakesOut, Releases, LooksAt, Other, IsOne, OfRow, OfRows, IsOut, Trims};
 
-use crate::flag_rows::is_set;
 use crate::lists::{empty_lists, put_behind};
 use std::alloc::Global;
 use std::collections::BTreeSet;
@@ -144,12 +143,19 @@ fn trim(list: &mut Vec<u32>, out: &[bool]) -> Result<bool, OutOfMemory>
     ensures { IfOk result (Trims out.now list.old.items list.new.items) }
 {
     while let Some(k) = list.pop() {
-        if !is_set(out, k as usize) {
+        if !is_out(out, k as usize) {
             list.push(k)?;
             return Ok(false);
         }
     }
     Ok(true)
+}
+
+/// Whether leader `k` is put out.
+fn is_out(out: &[bool], k: usize) -> bool
+    ensures { IsTrue result ↔ IsOut out.now k }
+{
+    k < out.len() && out[k]
 }
 
 /// For each leader those of the other components from which edges lead to its own.

@@ -13,12 +13,12 @@ loop-k-smaller c =
     omega (arith, l, m)
 
 pub loop-k-preserved : goal.loop-k-preserved
-loop-k-preserved c = one_taken_off c.args.out.now c.args.list.now.items c.loop-k.list.items c.pop.new.self.items c.in-Some.k c.in-Some.ensures.items c.loop-k.invariant (c.is_set.ensures.0 c.if-not-is_set.false)
+loop-k-preserved c = one_taken_off c.args.out.now c.args.list.now.items c.loop-k.list.items c.pop.new.self.items c.in-Some.k c.in-Some.ensures.items c.loop-k.invariant (c.is_out.ensures.0 c.if-not-is_out.false)
 
-pub returns-then-not-is_set : goal.returns-then-not-is_set
-returns-then-not-is_set c =
+pub returns-then-not-is_out : goal.returns-then-not-is_out
+returns-then-not-is_out c =
     last_put_back c.args.out.now c.args.list.now.items c.loop-k.list.items c.pop.new.self.items c.in-Some.k c.in-Some.ensures.items c.loop-k.invariant c.push.new.self.items c.in_ok-push.ensures.items
-    (λ h. let e = c.is_set.ensures.1 h in let d = c.if-not-is_set.true in absurd cc)
+    (λ h. let e = c.is_out.ensures.1 h in let d = c.if-not-is_out.true in absurd cc)
 
 pub returns : goal.returns
 returns c =
