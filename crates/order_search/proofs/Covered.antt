@@ -3,12 +3,10 @@ use Rattle.std.specs.Prelude.{◌≡◌, ◌≤◌, ◌<◌, ℕ, ◌+◌, true,
 use Rattle.std.specs.List.Sorted.{IsStrictlyIncreasing}
 use Rattle.std.proofs.Common.{inl, inr, refl, sym, ap, subst, arith}
 use Rattle.std.proofs.lemmas.List.{length-append, length-map}
-use Rattle.std.proofs.lemmas.Option.{slice_get_within}
 use Rattle.trs_defs.specs.Member.{In, in_first, in_rest}
 use Rattle.trs_defs.specs.Variable.{is_listed}
-use Rattle.trs_defs.proofs.Members.{in_or, no_in, in_left, in_right, in_either, get_of_in, in_map, of_map}
-use Rattle.trs_defs.specs.Tree.{Tree, Trees, var, app, nil, cons, count}
-use Rattle.trs_defs.specs.WellFormed.{IsWellFormed, AreWellFormed}
+use Rattle.trs_defs.proofs.Members.{in_or, no_in, in_left, in_right, in_either, in_map, of_map}
+use Rattle.trs_defs.specs.Tree.{Tree, Trees, var, app, nil, cons}
 use Rattle.trs_defs.specs.System.{RewriteRule, System, IsSystem}
 use Rattle.pair_theory.specs.Marked.{Marked, mark}
 use Rattle.pair_theory.specs.DependencyPair.{DependencyPair, dependency_pairs}
@@ -16,6 +14,7 @@ use Rattle.pair_theory.specs.ReductionPair.{marked_rule}
 use Rattle.assign_search.proofs.Refuting.{or_left, or_right}
 use Rattle.dp_core.specs.Symbols.{symbols_of, symbols_of_all, symbols_of_rules}
 use Rattle.dp_core.specs.SubtermConditions.{roots_of}
+pub use Rattle.dp_core.proofs.SymbolBounds.{symbol_within_all, symbols_within, rule_well}
 use Rattle.dp_core.proofs.OrderConclusions.{root_listed, rule_symbols, from_symbols, to_symbols}
 use Rattle.order_search.proofs.Tests.{self_test, same_number, either}
 use Rattle.order_search.proofs.FewPairs.{length_below}
@@ -105,39 +104,6 @@ all_covered system valid pairs from_all symbols are =
     covers (symbols_of_rules system.rules) pairs symbols are system.rules (rule_symbols system.rules) (λ p i. symbols_below system valid p (from_all p i))
 
 -- ---- few of them
-
-module _ (arities : List ℕ) where
-  mutual
-    symbol_within : (t : Tree) → IsWellFormed arities t → (f : ℕ) → In f (symbols_of t) → f < length arities
-    symbol_within (var x) well f i = absurd (no_in i)
-    symbol_within (app g ts) well f i = elim (in_or i) [
-      | inl same ↦ (let h = slice_get_within arities g (count ts) well.0 in omega (arith, h, same))
-      | inr below ↦ symbol_within_all ts well.1 f below
-    ]
-
-    pub symbol_within_all : (ts : Trees) → AreWellFormed arities ts → (f : ℕ) → In f (symbols_of_all ts) → f < length arities
-    symbol_within_all nil well f i = absurd (no_in i)
-    symbol_within_all (cons t ts) well f i = elim (in_either (symbols_of t) (symbols_of_all ts) i) [
-      | inl here ↦ symbol_within t well.0 f here
-      | inr later ↦ symbol_within_all ts well.1 f later
-    ]
-
-  pub symbols_within : (rules : List RewriteRule) → ((r : RewriteRule) → In r rules → IsWellFormed arities r.left × IsWellFormed arities r.right)
-      → (f : ℕ) → In f (symbols_of_rules rules) → f < length arities
-  symbols_within [] well f i = absurd (no_in i)
-  symbols_within (r ∷ rules) well f i = elim (in_either (symbols_of r.left ++ symbols_of r.right) (symbols_of_rules rules) i) [
-    | inl here ↦ elim (in_either (symbols_of r.left) (symbols_of r.right) here) [
-      | inl left ↦ symbol_within r.left (well r in_first).0 f left
-      | inr right ↦ symbol_within r.right (well r in_first).1 f right
-    ]
-    | inr later ↦ symbols_within rules (λ s j. well s (in_rest j)) f later
-  ]
-
-pub rule_well : (system : System) → IsSystem system → (r : RewriteRule) → In r system.rules → IsWellFormed system.arities r.left × IsWellFormed system.arities r.right
-rule_well system valid r i =
-    let (k, at) = get_of_in i in
-    let rule = valid.each k r at in
-    (rule.left_well_formed, rule.right_well_formed)
 
 pub few_listed : (listed : List ℕ) (most : ℕ) → IsStrictlyIncreasing listed → ((f : ℕ) → In f listed → f < most) → length listed ≤ most
 few_listed listed most up small = length_below listed most up (λ k d within. small (get_or listed k d) (in_at listed k d (get_or listed k d) within refl))

@@ -8,11 +8,11 @@ ghost use Rattle.order_search.specs.Ascending.{AreAscending};
 ghost use Rattle.order_search.specs.OrderRow.{AreSymbols};
 ghost use Rattle.order_search.specs.SymbolSets.{Adds};
 
-use crate::roots::{list_members, roots};
+use crate::roots::roots;
+use crate::symbol_sets::list_members;
 use crate::symbols::{add_marked, add_symbols, symbol_set};
 use dp_core::{Side, Sides};
 use std::alloc::Global;
-use std::collections::BTreeSet;
 use trs_core::{OutOfMemory, Rule};
 
 /// The symbols of the rules and those below the roots of the pairs, ascending, and behind them the
@@ -42,8 +42,8 @@ fn plain_symbols(alloc: Global, rules: &[Rule], pairs: &[Sides]) -> Result<Vec<u
 }
 
 /// Puts the symbols below the roots of pairs into a set.
-fn add_below_roots(set: &mut BTreeSet<u32>, pairs: &[Sides]) -> Result<(), OutOfMemory>
-    ensures { OnOk result (Adds set.old set.new (symbols_below_roots pairs.now)) }
+fn add_below_roots(set: &mut Vec<bool>, pairs: &[Sides]) -> Result<(), OutOfMemory>
+    ensures { OnOk result (Adds set.old.items set.new.items (symbols_below_roots pairs.now)) }
 {
     for pair in pairs {
         add_pair(set, pair)?;
@@ -51,16 +51,16 @@ fn add_below_roots(set: &mut BTreeSet<u32>, pairs: &[Sides]) -> Result<(), OutOf
     Ok(())
 }
 
-fn add_pair(set: &mut BTreeSet<u32>, pair: &Sides) -> Result<(), OutOfMemory>
-    ensures { OnOk result (Adds set.old set.new
+fn add_pair(set: &mut Vec<bool>, pair: &Sides) -> Result<(), OutOfMemory>
+    ensures { OnOk result (Adds set.old.items set.new.items
         (symbols_of_all pair.now.from.args ++ symbols_of_all pair.now.to.args)) }
 {
     add_arguments(set, &pair.from)?;
     add_arguments(set, &pair.to)
 }
 
-fn add_arguments(set: &mut BTreeSet<u32>, side: &Side) -> Result<(), OutOfMemory>
-    ensures { OnOk result (Adds set.old set.new (symbols_of_all side.now.args)) }
+fn add_arguments(set: &mut Vec<bool>, side: &Side) -> Result<(), OutOfMemory>
+    ensures { OnOk result (Adds set.old.items set.new.items (symbols_of_all side.now.args)) }
 {
     let args = side.args;
     for arg in &args.items {

@@ -14,6 +14,7 @@ pub mod placing;
 mod problem;
 mod reading;
 pub mod roots;
+mod symbol_sets;
 mod symbols;
 pub mod taking;
 mod values;

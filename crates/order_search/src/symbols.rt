@@ -8,10 +8,10 @@ ghost use Rattle.order_search.specs.Ascending.{AreAscending};
 ghost use Rattle.order_search.specs.OrderRow.{AreSymbols};
 ghost use Rattle.order_search.specs.SymbolSets.{Adds, HasOnly};
 
-use crate::roots::{add, list_members, roots};
+use crate::roots::roots;
+use crate::symbol_sets::{add, list_members};
 use dp_core::{MARK, Sides};
 use std::alloc::Global;
-use std::collections::BTreeSet;
 use trs_core::{OutOfMemory, Rule, Term};
 
 /// The symbols of the rules, ascending, and behind them the marked roots of the pairs, ascending.
@@ -49,27 +49,27 @@ fn rule_symbols(alloc: Global, rules: &[Rule]) -> Result<Vec<u32>, OutOfMemory>
     list_members(alloc, &set)
 }
 
-pub(crate) fn symbol_set(alloc: Global, rules: &[Rule]) -> Result<BTreeSet<u32>, OutOfMemory>
-    ensures { IfOk result (λ set. HasOnly set (symbols_of_rules rules.now)) }
+pub(crate) fn symbol_set(alloc: Global, rules: &[Rule]) -> Result<Vec<bool>, OutOfMemory>
+    ensures { IfOk result (λ set. HasOnly set.items (symbols_of_rules rules.now)) }
 {
-    let mut set = BTreeSet::new(alloc);
+    let mut set = Vec::new(alloc);
     for rule in rules {
         add_sides(&mut set, rule)?;
     }
     Ok(set)
 }
 
-fn add_sides(set: &mut BTreeSet<u32>, rule: &Rule) -> Result<(), OutOfMemory>
-    ensures { OnOk result
-        (Adds set.old set.new (symbols_of rule.now.left ++ symbols_of rule.now.right)) }
+fn add_sides(set: &mut Vec<bool>, rule: &Rule) -> Result<(), OutOfMemory>
+    ensures { OnOk result (Adds set.old.items set.new.items
+        (symbols_of rule.now.left ++ symbols_of rule.now.right)) }
 {
     add_symbols(set, &rule.left)?;
     add_symbols(set, &rule.right)
 }
 
 /// Puts the symbols of a term into a set.
-pub(crate) fn add_symbols(set: &mut BTreeSet<u32>, t: &Term) -> Result<(), OutOfMemory>
-    ensures { OnOk result (Adds set.old set.new (symbols_of (tree t.now))) }
+pub(crate) fn add_symbols(set: &mut Vec<bool>, t: &Term) -> Result<(), OutOfMemory>
+    ensures { OnOk result (Adds set.old.items set.new.items (symbols_of (tree t.now))) }
 {
     match t {
         Term::Var(_) => Ok(()),

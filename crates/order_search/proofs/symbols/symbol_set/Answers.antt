@@ -11,11 +11,11 @@ loop-rule-preserved c =
     let i = c.loop-rule.rule-index in
     let rule = c.rule-item.result in
     let opened : drop i rules ≡ rule ∷ drop (i + 1) rules = cell rules i rule c.loop-rule-test.true c.rule-item.is in
-    fewer_missing c.loop-rule.set c.add_sides.new.set (symbols_of_rules rules) (symbols_of rule.left ++ symbols_of rule.right) (symbols_of_rules (drop (i + 1) rules))
-    (subst (λ l. MissesOnly c.loop-rule.set (symbols_of_rules rules) (symbols_of_rules l)) opened c.loop-rule.invariant)
+    fewer_missing c.loop-rule.set.items c.add_sides.new.set.items (symbols_of_rules rules) (symbols_of rule.left ++ symbols_of rule.right) (symbols_of_rules (drop (i + 1) rules))
+    (subst (λ l. MissesOnly c.loop-rule.set.items (symbols_of_rules rules) (symbols_of_rules l)) opened c.loop-rule.invariant)
     c.in_ok-add_sides.ensures
 
 pub returns : goal.returns
 returns c =
-    none_missing c.loop-rule.set (symbols_of_rules c.args.rules.now) (symbols_of_rules (drop c.loop-rule.rule-index c.args.rules.now))
+    none_missing c.loop-rule.set.items (symbols_of_rules c.args.rules.now) (symbols_of_rules (drop c.loop-rule.rule-index c.args.rules.now))
     (ap (λ l. symbols_of_rules l) (drop_all c.loop-rule.rule-index c.args.rules.now c.loop-rule-test.false)) c.loop-rule.invariant

@@ -4,4 +4,4 @@ use Rattle.order_search.proofs.Growing.{MissesOnly}
 use Rattle.order_search.proofs.symbols.symbol_set.Given as goal
 
 abbrev pub invariant-loop-rule : goal.invariant-loop-rule
-invariant-loop-rule l = MissesOnly l.set (symbols_of_rules l.rules) (symbols_of_rules (drop l.rule-index l.rules))
+invariant-loop-rule l = MissesOnly l.set.items (symbols_of_rules l.rules) (symbols_of_rules (drop l.rule-index l.rules))
