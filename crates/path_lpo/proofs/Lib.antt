@@ -9,3 +9,4 @@ pub mod Remembering
 pub mod Spans
 pub mod Equality
 pub mod Filtering
+pub mod SharedPairs

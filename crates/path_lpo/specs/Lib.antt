@@ -12,3 +12,4 @@ pub mod WellMade
 pub mod Graph
 pub mod Parts
 pub mod Memo
+pub mod SharedPair

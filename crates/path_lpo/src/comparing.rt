@@ -3,12 +3,13 @@ ghost use Rattle.trs_core.specs.View.{tree};
 ghost use Rattle.order_theory.specs.ArgumentFilter.{filtered, PathWeak, PathStrict};
 ghost use Rattle.pair_order.specs.Compared.{IsDecreaseOf};
 ghost use Rattle.path_lpo.specs.Comparison.{IsComparison};
+ghost use Rattle.path_lpo.specs.SharedPair.{ArePair, IsParted, left_tree, right_tree};
 
 use crate::Precedence;
 use crate::comparison::Comparison;
 use crate::effort::{Effort, Limited, Unlimited};
 use crate::large::is_large;
-use crate::shared::compare_shared;
+use crate::pair::SharedPair;
 use crate::unshared::{Room, Unshared};
 use crate::walking::compare;
 use pair_order::Decrease;
@@ -27,6 +28,30 @@ pub fn is_weak<P: Precedence>(order: &P, s: &Term, t: &Term) -> bool
         ↔ PathWeak (P.ranks order.now) (P.filters order.now) (tree s.now) (tree t.now) }
 {
     compare_terms(order, s, t).is_at_least()
+}
+
+/// The same, with what large terms share where that was found out, if it takes little memory.
+pub fn is_weak_sharing<P: Precedence>(order: &P, s: &Term, t: &Term) -> (bool, Option<SharedPair>)
+    ensures weak { IsTrue result.0
+        ↔ PathWeak (P.ranks order.now) (P.filters order.now) (tree s.now) (tree t.now) }
+    ensures shared { IfSome result.1 (ArePair (filtered (P.filters order.now) (tree s.now))
+        (filtered (P.filters order.now) (tree t.now))) }
+{
+    let (comparison, shared) = compare_sharing(order, s, t);
+    (comparison.is_at_least(), shared)
+}
+
+/// The same of two terms that share this, which costs less.
+pub fn is_weak_shared<P: Precedence>(order: &P, s: &Term, t: &Term, shared: &SharedPair) -> bool
+    requires { ArePair (filtered (P.filters order.now) (tree s.now))
+        (filtered (P.filters order.now) (tree t.now)) shared.now }
+    ensures { IsTrue result
+        ↔ PathWeak (P.ranks order.now) (P.filters order.now) (tree s.now) (tree t.now) }
+{
+    match compare_pair(order, shared) {
+        Some(comparison) => comparison.is_at_least(),
+        None => is_weak(order, s, t),
+    }
 }
 
 /// Whether the first filtered term is greater than the second.
@@ -57,34 +82,60 @@ fn compare_terms<P: Precedence>(order: &P, s: &Term, t: &Term) -> Comparison
     ensures { IsComparison (P.ranks order.now) (filtered (P.filters order.now) (tree s.now))
         (filtered (P.filters order.now) (tree t.now)) result }
 {
+    let (comparison, _) = compare_sharing(order, s, t);
+    comparison
+}
+
+/// The same, with what the terms share where that was found out, if it takes little memory.
+fn compare_sharing<P: Precedence>(order: &P, s: &Term, t: &Term) -> (Comparison, Option<SharedPair>)
+    ensures comparison { IsComparison (P.ranks order.now)
+        (filtered (P.filters order.now) (tree s.now)) (filtered (P.filters order.now) (tree t.now))
+        result.0 }
+    ensures shared { IfSome result.1 (ArePair (filtered (P.filters order.now) (tree s.now))
+        (filtered (P.filters order.now) (tree t.now))) }
+{
     if is_large(s) && is_large(t) {
         if let Some(alloc) = order.allocator() {
-            if let Some(comparison) = compare_large(alloc, order, s, t) {
-                return comparison;
+            if let Some(compared) = compare_large(alloc, order, s, t) {
+                return compared;
             }
         }
     }
     match compare_unshared(order, s, t, &mut Unlimited) {
-        Ok(comparison) => comparison,
+        Ok(comparison) => (comparison, None),
         Err(never) => match never {},
     }
 }
 
 /// The same, where few pairs tell, or memory serves.
-fn compare_large<P: Precedence>(alloc: Global, order: &P, s: &Term, t: &Term) -> Option<Comparison>
-    ensures { IfSome result (λ comparison. IsComparison (P.ranks order.now)
+fn compare_large<P: Precedence>(
+    alloc: Global,
+    order: &P,
+    s: &Term,
+    t: &Term,
+) -> Option<(Comparison, Option<SharedPair>)>
+    ensures comparison { IfSome result (λ compared. IsComparison (P.ranks order.now)
         (filtered (P.filters order.now) (tree s.now)) (filtered (P.filters order.now) (tree t.now))
-        comparison) }
+        compared.0) }
+    ensures shared { IfSome result (λ compared. IfSome compared.1
+        (ArePair (filtered (P.filters order.now) (tree s.now))
+        (filtered (P.filters order.now) (tree t.now)))) }
 {
     if let Some(comparison) = compare_within(order, s, t, FEW_PAIRS) {
-        return Some(comparison);
+        return Some((comparison, None));
     }
     let nodes = s.size().saturating_add(t.size());
     let pairs = nodes.saturating_mul(PAIRS_OF_NODE);
     if let Some(comparison) = compare_within(order, s, t, pairs) {
-        return Some(comparison);
+        return Some((comparison, None));
     }
-    compare_shared(alloc, order, s, t, nodes).ok()
+    let shared = SharedPair::of(alloc, order, s, t, nodes).ok()?;
+    let comparison = shared.compare(alloc, order).ok()?;
+    if shared.is_small() {
+        Some((comparison, Some(shared)))
+    } else {
+        Some((comparison, None))
+    }
 }
 
 /// The same, where so many pairs tell.
@@ -110,4 +161,14 @@ fn compare_unshared<'a, P: Precedence, E: Effort>(
     let terms = Unshared { order };
     let mut room = Room::new();
     compare(&terms, &mut room, effort, s, t)
+}
+
+/// How the first term of a pair compares with the second, where memory serves.
+fn compare_pair<P: Precedence>(order: &P, shared: &SharedPair) -> Option<Comparison>
+    requires { IsParted shared.now }
+    ensures { IfSome result
+        (IsComparison (P.ranks order.now) (left_tree shared.now) (right_tree shared.now)) }
+{
+    let alloc = order.allocator()?;
+    shared.compare(alloc, order).ok()
 }

@@ -50,6 +50,13 @@ impl Graph {
         }
     }
 
+    /// Gives the slots back, where no more nodes come.
+    pub(crate) fn give_slots_back(&mut self, alloc: Global)
+        ensures { self.new.nodes ≡ self.old.nodes }
+    {
+        self.slots = Vec::new(alloc);
+    }
+
     /// The root of a term.
     pub(crate) fn root(&self, n: u32) -> Root<u32>
         ensures whole { root_tree (list_at self.now.nodes.items) result

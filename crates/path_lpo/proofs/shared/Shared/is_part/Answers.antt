@@ -8,8 +8,8 @@ use Rattle.path_lpo.proofs.shared.Shared.is_part.Goals as goal
 
 pub returns : goal.returns
 returns g c = λ is_term rank.
-    let ns = c.args.self.now.graph.nodes.items in
-    let spans = c.args.self.now.spans.items in
+    let ns = c.args.self.now.pair.now.graph.nodes.items in
+    let spans = c.args.self.now.pair.now.spans.items in
     let item : IsItemAt spans c.args.s c.get.result = subst (λ xs. IsItemAt xs c.args.s c.get.result) c.deref.ensures.value c.get.ensures.lookup in
     let span = read_item spans c.args.s c.get.result c.in-Some.span item c.in-Some.is in
     let (f, args, there) = c.is_application.ensures c.if-not-is_application.false in
