@@ -6,3 +6,4 @@ pub mod TableSteps
 pub mod LpoLaw
 pub mod FilterLists
 pub mod Assigning
+pub mod KeptSides

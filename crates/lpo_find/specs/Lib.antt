@@ -4,3 +4,4 @@ pub mod LpoDepends
 pub mod LpoLawful
 pub mod Laws
 pub mod Filters
+pub mod KeptSides

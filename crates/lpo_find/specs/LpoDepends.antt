@@ -64,7 +64,7 @@ module _ (r q : ℕ → ℕ) where
 
 module _ (F G : ℕ → ArgumentFilter) where
   mutual
-    same_filtered : (t : Tree) → Agree (λ f. F f ≡ G f) t → filtered F t ≡ filtered G t
+    pub same_filtered : (t : Tree) → Agree (λ f. F f ≡ G f) t → filtered F t ≡ filtered G t
     same_filtered (var x) same = refl
     same_filtered (app f ts) same =
         ap₂ (by_filter f) (root_agrees (λ f. F f ≡ G f) f ts same) (same_filtered_all ts (args_agree (λ f. F f ≡ G f) f ts same))

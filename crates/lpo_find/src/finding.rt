@@ -13,10 +13,11 @@ ghost use Rattle.lpo_find.specs.LpoRow.{path_entry, path_search, lpo_search};
 ghost use Rattle.lpo_find.specs.Laws.{FindsLpo};
 
 use crate::filters::symbol_filters;
+use crate::kept::KeptSides;
 use crate::space::LpoSpace;
 use assign_search::{Search, Stop};
 use order_search::placing::SymbolPlaces;
-use order_search::{DpPair, LentRule, OrderProblem, Pairs, find_first, lend_marked};
+use order_search::{DpPair, LentRule, OrderProblem, Pairs, find_first_by, lend_marked};
 use path_lpo::Lpo;
 use std::alloc::Global;
 use trs_core::{OutOfMemory, Trs};
@@ -112,5 +113,6 @@ fn search_orders<P: Stop>(
         rules,
         pairs,
     };
-    find_first(alloc, &space, budget, stop)
+    let mut kept = KeptSides::new(alloc)?;
+    find_first_by(alloc, &space, &mut kept, budget, stop)
 }

@@ -6,9 +6,11 @@ mod assigned;
 mod comparing;
 mod filters;
 mod finding;
+mod kept;
 mod laws;
 mod space;
 mod table;
+mod testing;
 
 pub use finding::{find_lpo, find_lpo_in};
 pub use laws::found_path_orders_apply;

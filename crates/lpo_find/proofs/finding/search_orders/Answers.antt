@@ -11,3 +11,6 @@ invariant_of-space g c = record {
   few_symbols = omega (arith, c.requires.few_symbols);
   few_falling = omega (arith, c.requires.few_falling);
 }
+
+pub find_first_by-requires : goal.find_first_by-requires
+find_first_by-requires g c = record { serves = c.in_ok-kept.ensures c.args.arities.now c.args.symbols.now _ }
