@@ -1,14 +1,11 @@
 -- The terms that were met: some are forgotten, and others come while rules are added.
-use Rattle.std.proofs.Common.{◌≡◌, ◌<◌, ◌≤◌, ℕ, zero, suc, inl, inr, refl, sym, ap, subst, arith, ◌∙◌, Bool, true, false, List, [], ◌∷◌, ◌++◌, length, length-append, take, Option, Some, None, IfSome, slice_get}
+use Rattle.std.proofs.Common.{◌≡◌, ◌<◌, ◌≤◌, ℕ, zero, suc, inl, inr, refl, sym, ap, subst, arith, ◌∙◌, List, [], ◌∷◌, ◌++◌, length, length-append, take, Option, Some, None, IfSome, slice_get}
 use Rattle.std.proofs.Math.Decide.{dec_lt}
 use Rattle.std.proofs.lemmas.List.{take_all, get_or-take}
 use Rattle.std.proofs.lemmas.Option.{same_Some, slice_get_within}
 use Rattle.trs_defs.specs.Tree.{Tree, var}
 use Rattle.trs_defs.specs.Substitution.{IsInstance}
 use Rattle.trs_defs.specs.System.{RewriteRule}
-use Rattle.trs_defs.specs.LeastVariable.{least_variable}
-use Rattle.trs_defs.specs.Variable.{has_var}
-use Rattle.trs_defs.proofs.LeastVariables.{least_skips}
 use Rattle.trs_defs.proofs.ListItems.{item_of_more, item_of_longer, last_item}
 use Rattle.term_pool.specs.Pooled.{AreDistinct, Extends, StandsFor, tree_at}
 use Rattle.term_pool.specs.LeftSides.{IsGround}
@@ -84,14 +81,6 @@ ground_instance rules pool ids k side id distinct h at within r there =
           let one : r.left ≡ tree_at pool id = sym (ground_stays s r.left e.1) ∙ is in
           distinct.same side id (tree_at pool id) (subst (StandsFor pool side) one e.0) (stands pool id within)),
     )
-
--- a term with no least variable has none
-pub no_variable : (t : Tree) → least_variable 0 None t ≡ None → IsGround t
-no_variable t none v = go (has_var v t) refl
-  where
-    go : (b : Bool) → has_var v t ≡ b → has_var v t ≡ false
-    go false e = e
-    go true e = absurd ((least_skips 0 t None v (omega arith) (rw none tt)).1 e)
 
 -- ---- the terms
 

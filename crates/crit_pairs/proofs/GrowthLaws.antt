@@ -1,5 +1,5 @@
 -- Lists of pairs that grow: at a site inner rule by inner rule, and then site by site.
-use Rattle.std.proofs.Common.{◌≡◌, ◌≤◌, ◌<◌, inl, inr, ℕ, ◌+◌, zero, suc, List, [], ◌∷◌, ◌++◌, map, take, drop, length, get_or, Some, Result, Ok, Err, OnOk, slice_get, slice_set, refl, ap, sym, ◌∙◌, subst, arith, append_assoc, append-nil, length-append}
+use Rattle.std.proofs.Common.{◌≡◌, ◌≤◌, ◌<◌, inl, inr, ℕ, ◌+◌, zero, suc, List, [], ◌∷◌, ◌++◌, map, take, drop, length, get_or, Option, Some, Result, Ok, Err, OnOk, slice_get, slice_set, refl, ap, sym, ◌∙◌, subst, arith, append_assoc, append-nil, length-append}
 use Rattle.std.specs.Global.{Vec}
 use Rattle.std.proofs.lemmas.List.{take_all, drop_all, take_more, map-append, length-map}
 use Rattle.std.proofs.lemmas.Option.{same_Some, slice_get_read}
@@ -17,11 +17,13 @@ use Rattle.crit_pairs.specs.Table.{Site, site, sites_of, sites_from, sites, Peak
 use Rattle.crit_pairs.specs.Growing.{Await, IsGrown, IsAtSite, AddsOne, AddsNone, AddsPeaks, sites_in}
 use Rattle.crit_pairs.specs.declared.table.PeakPair.{PeakPair}
 use Rattle.trs_caps.specs.HoledTree.{HoledTree}
-use Rattle.crit_pairs.specs.Apart.{renamed_apart, AreApart, HaveSkeletons}
+use Rattle.crit_pairs.specs.Apart.{renamed_apart, HaveSkeletons}
 use Rattle.crit_pairs.specs.Skeletons.{opened}
 use Rattle.crit_pairs.specs.SkeletonView.{skeleton_view}
 use Rattle.crit_pairs.specs.declared.skeleton.Skeleton.{Skeleton}
 use Rattle.crit_pairs.specs.Prepared.{ArePrepared, PreparesFirst}
+use Rattle.crit_pairs.specs.GroundSides.{AreGroundRights}
+use Rattle.crit_pairs.specs.declared.ground_sides.GroundSide.{GroundSide}
 use Rattle.crit_pairs.specs.declared.table.PeakTable.{PeakTable}
 use Rattle.crit_pairs.specs.declared.prepared.PreparedRules.{PreparedRules}
 use Rattle.crit_pairs.specs.declared.growing.Growth.{Growth}
@@ -327,9 +329,10 @@ table_begins rules first more known pool table growth are count h same_lists no_
     }
 
 -- all sites are done
-pub whole_table : (rules : List RewriteRule) (pool : List Tree) (growth : Growth) (table : PeakTable) → ArePrepared rules table.prepared → table.lists.items ≡ growth.lists.items
+pub whole_table : (rules : List RewriteRule) (pool : List Tree) (growth : Growth) (table : PeakTable) → ArePrepared rules table.prepared → AreGroundRights rules pool table.rights.items
+    → table.lists.items ≡ growth.lists.items
     → table.nodes ≡ growth.nodes → IsGrown rules 0 pool growth [] [] → HasPeaks rules pool table
-whole_table rules pool growth table prepared same_lists same_nodes h =
+whole_table rules pool growth table prepared rights same_lists same_nodes h =
     let none = nothing_awaited rules pool (take 0 rules) [] h.behind h.later refl h.awaited in
     let all : h.done ≡ sites rules = sym (append-nil h.done) ∙ h.whole in
     let lists : table.lists.items ≡ h.before = same_lists ∙ (h.lists ∙ (ap (λ ls. h.before ++ ls) none.0 ∙ append-nil h.before)) in
@@ -337,16 +340,26 @@ whole_table rules pool growth table prepared same_lists same_nodes h =
     let L : List (Vec PeakPair) → Type 0 = λ ls. HoldPairs rules pool rules (sites rules) ls h.made in
     record {
       prepared = prepared;
+      rights = rights;
       peaks = h.made;
       held = subst L (sym lists) (subst S all h.held);
       nodes = omega (arith, same_nodes, h.nodes, ap nodes_of_peaks none.1);
       few = omega (arith, same_nodes, h.few);
     }
 
-pub no_table : (pool : List Tree) (table : PeakTable) → ArePrepared [] table.prepared → table.lists.items ≡ [] → table.nodes ≡ 0 → HasPeaks [] pool table
-no_table pool table prepared empty none =
+pub no_table : (pool : List Tree) (table : PeakTable) → ArePrepared [] table.prepared → table.rights.items ≡ [] → table.lists.items ≡ [] → table.nodes ≡ 0 → HasPeaks [] pool table
+no_table pool table prepared no_rights empty none =
     let L : List (Vec PeakPair) → Type 0 = λ ls. HoldPairs [] pool [] [] ls [] in
-    record { prepared = prepared; peaks = []; held = subst L (sym empty) no_site; nodes = none; few = omega (arith, none) }
+    let R : List (Option GroundSide) → Type 0 = AreGroundRights [] pool in
+    let rights : AreGroundRights [] pool [] = record { count = refl; each = λ k side r at there. absurd cc } in
+    record { prepared = prepared; rights = subst R (sym no_rights) rights; peaks = []; held = subst L (sym empty) no_site; nodes = none; few = omega (arith, none) }
+
+pub first_rights : (rules : List RewriteRule) (pool : List Tree) (table : PeakTable) → HasFirstPeaks rules pool table → AreGroundRights (take (length table.rights.items) rules) pool table.rights.items
+first_rights rules pool table h =
+    let taken : take (length table.rights.items) rules ≡ h.first =
+    ap (λ n. take n rules) h.has.rights.count ∙ (ap (take (length h.first)) h.are ∙ take_first h.first h.more) in
+    let R : List RewriteRule → Type 0 = λ rs. AreGroundRights rs pool table.rights.items in
+    subst R (sym taken) h.has.rights
 
 pub first_prepared : (rules : List RewriteRule) (pool : List Tree) (table : PeakTable) → HasFirstPeaks rules pool table → PreparesFirst rules table.prepared
 first_prepared rules pool table h = record { first = h.first; more = h.more; are = h.are; prepared_first = h.has.prepared }
@@ -361,11 +374,11 @@ first_taken rules first more prepared known are h count =
     ap (λ n. take n rules) (count ∙ known_rules first prepared h) ∙ (ap (take (length first)) are ∙ take_first first more)
 
 -- one rule more is prepared
-pub one_apart_more : (rules : List RewriteRule) (k : ℕ) (rule : RewriteRule) (old new : List RewriteRule) (r : RewriteRule) → k < length rules → rule ≡ get_or rules k rule → r ≡ renamed_apart rule
-    → new ≡ old ++ r ∷ [] → AreApart (take k rules) old → AreApart (take (k + 1) rules) new
-one_apart_more rules k rule old new r less read is put h =
-    let taken : take (k + 1) rules ≡ take k rules ++ rule ∷ [] = take_more rules k rule less ∙ ap (λ x. take k rules ++ x ∷ []) (sym read) in
-    put ∙ (ap (λ rs. rs ++ r ∷ []) h ∙ (ap (λ x. map renamed_apart (take k rules) ++ x ∷ []) is ∙ (sym (map-append renamed_apart (take k rules) (rule ∷ [])) ∙ ap (map renamed_apart) (sym taken))))
+pub one_image_more : {T : Type 0} (f : RewriteRule → T) (rules : List RewriteRule) (k : ℕ) (rule : RewriteRule) (old new : List T) (x : T) → k < length rules → rule ≡ get_or rules k rule → x ≡ f rule
+    → new ≡ old ++ x ∷ [] → old ≡ map f (take k rules) → new ≡ map f (take (k + 1) rules)
+one_image_more f rules k rule old new x less read is put h =
+    let taken : take (k + 1) rules ≡ take k rules ++ rule ∷ [] = take_more rules k rule less ∙ ap (λ r. take k rules ++ r ∷ []) (sym read) in
+    put ∙ (ap (λ xs. xs ++ x ∷ []) h ∙ (ap (λ y. map f (take k rules) ++ y ∷ []) is ∙ (sym (map-append f (take k rules) (rule ∷ [])) ∙ ap (map f) (sym taken))))
 
 pub one_skeleton_more : (rules : List RewriteRule) (k : ℕ) (rule : RewriteRule) (old new : List Skeleton) (c : Skeleton) → k < length rules → rule ≡ get_or rules k rule
     → skeleton_view c ≡ opened rule.left → new ≡ old ++ c ∷ [] → HaveSkeletons (take k rules) old → HaveSkeletons (take (k + 1) rules) new
@@ -379,14 +392,16 @@ pub ok_then : {A E : Type 0} {P Q : Type 0} (answer : Result A E) → (P → Q) 
 ok_then (Ok x) f h = f h
 ok_then (Err e) f h = tt
 
+-- what a rule has in a list of such
+pub image_read : {T : Type 0} (f : RewriteRule → T) (rules : List RewriteRule) (xs : List T) (i : ℕ) (r : RewriteRule) (x : T) → xs ≡ map f rules → i < length xs → x ≡ get_or xs i x
+    → slice_get rules i ≡ Some r → x ≡ f r
+image_read f rules xs i r x h below is there = same_Some x (f r) (sym (slice_get_read xs (length xs) i x refl below is) ∙ (ap (λ ys. slice_get ys i) h ∙ image_item f rules i r there))
+
 -- the copy of a rule
 pub apart_there : (rules : List RewriteRule) (prepared : PreparedRules) (i : ℕ) → ArePrepared rules prepared → i < length rules
     → (i < length prepared.apart.items) × ((r copy : RewriteRule) → slice_get rules i ≡ Some r → copy ≡ get_or prepared.apart.items i copy → copy ≡ renamed_apart r)
 apart_there rules prepared i h less =
     let below : i < length prepared.apart.items = omega (arith, less, known_rules rules prepared h) in (
       below,
-      λ r copy there is.
-          let read : slice_get prepared.apart.items i ≡ Some copy = slice_get_read prepared.apart.items (length prepared.apart.items) i copy refl below is in
-          let image : slice_get prepared.apart.items i ≡ Some (renamed_apart r) = ap (λ rs. slice_get rs i) h.apart ∙ image_item renamed_apart rules i r there in
-          same_Some copy (renamed_apart r) (sym read ∙ image),
+      λ r copy there is. image_read renamed_apart rules prepared.apart.items i r copy h.apart below is there,
     )

@@ -1,6 +1,8 @@
 -- What fits a skeleton, and skeletons that no term fits both.
 use Rattle.std.proofs.Common.{◌≡◌, ◌≢◌, ◌<◌, ◌≤◌, ℕ, ◌+◌, List, [], ◌∷◌, ◌++◌, map, length, take, drop, get_or, Option, Some, None, slice_get, zero, suc, refl, ap, sym, ◌∙◌, subst, arith}
+use Rattle.std.specs.Prelude.{not, ◌==◌, IsTrue}
 use Rattle.std.specs.Option.{option_and_then, option_map}
+use Rattle.std.proofs.lemmas.Bool.Decides.{nat_tests}
 use Rattle.std.proofs.lemmas.Option.{same_Some, option_and_then_some, slice_get-map, slice_get_read}
 use Rattle.std.proofs.lemmas.List.{take_all, take_more, map-append}
 use Rattle.trs_defs.specs.Tree.{Tree, Trees, var, app, nil, cons}
@@ -16,7 +18,7 @@ use Rattle.trs_caps.specs.Clash.{AreDisjoint}
 use Rattle.trs_caps.proofs.Fitting.{fits_root}
 use Rattle.crit_pairs.specs.Apart.{HaveSkeletons}
 use Rattle.crit_pairs.specs.Sides.{DoNotMeet}
-use Rattle.crit_pairs.specs.Skeletons.{opened, all_opened, mark_of, mark_after, mixed}
+use Rattle.crit_pairs.specs.Skeletons.{opened, all_opened, root_symbol, mark_of, mark_after, mixed}
 use Rattle.crit_pairs.specs.SkeletonView.{skeleton_view, skeleton_views}
 use Rattle.crit_pairs.specs.declared.skeleton.Skeleton.{Skeleton}
 
@@ -78,6 +80,14 @@ roots_disjoint c d f g cs ds is_c is_d ne = rw (is_c, is_d) (roots f g cs ds ne)
     roots : (f g : ℕ) (cs ds : HoledTrees) → f ≢ g → AreDisjoint (symbol f cs) (symbol g ds)
     roots f g cs ds ne (var v) p q = elim p [ ]
     roots f g cs ds ne (app h ts) p q = ne (fits_root f h cs ts p ∙ sym (fits_root g h ds ts q))
+
+pub other_root_disjoint : (c d : HoledTree) (f g : ℕ) (cs : HoledTrees) → c ≡ symbol f cs → root_symbol d ≡ Some g → f ≢ g → AreDisjoint c d
+other_root_disjoint c hole f g cs is e ne = absurd cc
+other_root_disjoint c (own v) f g cs is e ne = absurd cc
+other_root_disjoint c (symbol h ds) f g cs is e ne = roots_disjoint c (symbol h ds) f h cs ds is refl (λ same. ne (same ∙ same_Some h g e))
+
+pub unlike : (m n : ℕ) → IsTrue (not (m == n)) → m ≢ n
+unlike m n h same = grind (arith, nat_tests)
 
 -- no term fits both where none fits a pair of arguments
 parts_disjoint : (cs ds : List Skeleton) (i : ℕ) (c d : Skeleton) → i < length cs → length cs ≡ length ds → c ≡ get_or cs i c → d ≡ get_or ds i d → AreDisjoint (skeleton_view c) (skeleton_view d)

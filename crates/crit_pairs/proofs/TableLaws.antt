@@ -15,6 +15,7 @@ use Rattle.crit_pairs.specs.PeakList.{Spot, symbol_places, is_root, unless, spot
 use Rattle.crit_pairs.specs.Walk.{spot_unless}
 use Rattle.crit_pairs.specs.Table.{Site, sites_of, sites_from, sites, PeaksAt, no_spot, no_peak, a_peak, nodes_of_peaks, ArePairs, no_pair, one_pair, HoldPairs, no_site, one_site, pairs_of, HasPeaks, AreAllPairs}
 use Rattle.crit_pairs.specs.declared.table.PeakPair.{PeakPair}
+use Rattle.crit_pairs.proofs.GroundRights.{rights_still}
 use Rattle.crit_pairs.specs.declared.table.PeakTable.{PeakTable}
 
 -- ---- peaks
@@ -194,7 +195,7 @@ all_pairs rules pool table h =
 
 -- and still has them in a pool that has grown
 pub has_still : (rules : List RewriteRule) (pool next : List Tree) (table : PeakTable) → Extends pool next → HasPeaks rules pool table → HasPeaks rules next table
-has_still rules pool next table more h = record { prepared = h.prepared; peaks = h.peaks; held = hold_still more h.held; nodes = h.nodes; few = h.few }
+has_still rules pool next table more h = record { prepared = h.prepared; rights = rights_still rules pool next table.rights.items more h.rights; peaks = h.peaks; held = hold_still more h.held; nodes = h.nodes; few = h.few }
 
 -- one list more
 pub pairs_more : (lists : List (Vec PeakPair)) (i : ℕ) (list : Vec PeakPair) → i < length lists → list ≡ get_or lists i list → pairs_of (take (i + 1) lists) ≡ pairs_of (take i lists) ++ list.items

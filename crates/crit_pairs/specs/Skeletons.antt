@@ -15,6 +15,12 @@ abbrev mutual
   all_opened nil = none
   all_opened (cons t ts) = more (opened t) (all_opened ts)
 
+-- the symbol at the root
+abbrev pub root_symbol : HoledTree → Option ℕ
+root_symbol hole = None
+root_symbol (own v) = None
+root_symbol (symbol f cs) = Some f
+
 -- one number for two
 abbrev pub mixed : ℕ → ℕ → ℕ
 mixed m n = (((rotate_left w64 m 23 + n) % 2 ^ 64) * 5871781006564002453) % 2 ^ 64

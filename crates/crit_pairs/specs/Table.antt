@@ -7,6 +7,7 @@ use Rattle.term_pool.specs.Pooled.{StandsFor}
 use Rattle.rewrite_core.specs.PlacedPeak.{PlacedPeak}
 use Rattle.crit_pairs.specs.PeakList.{Spot, symbol_places, spots_at, OverlapsAt, IsPeakAt, is_small, nodes_of_peak, ListsPeaks}
 use Rattle.crit_pairs.specs.Prepared.{ArePrepared}
+use Rattle.crit_pairs.specs.GroundSides.{AreGroundRights}
 use Rattle.crit_pairs.specs.declared.table.PeakPair.{PeakPair}
 use Rattle.crit_pairs.specs.declared.table.PeakTable.{PeakTable}
 
@@ -64,6 +65,7 @@ pairs_of lists = flat_map (λ (list : Vec PeakPair). list.items) lists
 -- the table has the critical peaks of these rules
 pub record HasPeaks (rules : List RewriteRule) (pool : List Tree) (table : PeakTable) : Type 0 where
   pub prepared : ArePrepared rules table.prepared
+  pub rights : AreGroundRights rules pool table.rights.items
   pub peaks : List PlacedPeak
   pub held : HoldPairs rules pool rules (sites rules) table.lists.items peaks
   pub nodes : table.nodes ≡ nodes_of_peaks peaks

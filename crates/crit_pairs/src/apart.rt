@@ -6,6 +6,7 @@ ghost use Rattle.crit_pairs.specs.Apart.{renamed_apart, AreApart, HaveSkeletons}
 ghost use Rattle.crit_pairs.specs.Skeletons.{opened};
 ghost use Rattle.crit_pairs.specs.SkeletonView.{skeleton_view};
 
+use crate::occurrences::Occurrences;
 use crate::skeleton::Skeleton;
 use std::alloc::Global;
 use std::marker::Model;
@@ -14,13 +15,14 @@ use trs_core::{MOST_VARIABLES, OutOfMemory, Rule, Trs};
 use trs_unify::rename_apart;
 
 /// A system with its rules by the roots of their left sides, with a copy of each rule whose variables
-/// are renamed apart from those of all rules, and with the skeletons of the left sides. It is made once
-/// for all overlaps. Contracts see it as the system.
+/// are renamed apart from those of all rules, with the skeletons of the left sides, and with how often
+/// variables occur. It is made once for all overlaps. Contracts see it as the system.
 #[derive(Drop)]
 pub(crate) struct RulesApart<'a> {
     by_root: RulesByRoot<'a>,
     apart: Vec<Rule>,
     skeletons: Vec<Skeleton>,
+    occurrences: Occurrences,
 }
 
 impl<'a> Model for RulesApart<'a> {
@@ -43,10 +45,13 @@ impl<'a> RulesApart<'a> {
     {
         let apart = renamed_rules(alloc, trs.rules())?;
         let skeletons = left_skeletons(alloc, trs.rules())?;
+        let mut occurrences = Occurrences::new(alloc);
+        occurrences.count(trs.rules())?;
         Ok(RulesApart {
             by_root: RulesByRoot::new(alloc, trs)?,
             apart,
             skeletons,
+            occurrences,
         })
     }
 
@@ -74,6 +79,11 @@ impl<'a> RulesApart<'a> {
             → skeleton_view result.now ≡ opened r.left }
     {
         &self.skeletons[i]
+    }
+
+    /// Whether few variables occur in rules `i` and `j`.
+    pub fn have_few_variables(&self, i: usize, j: usize) -> bool {
+        self.occurrences.are_few(i, j)
     }
 
     /// The numbers of the rules whose left sides have this root, in order.

@@ -5,24 +5,24 @@ ghost use Rattle.trs_defs.specs.System.{RewriteRule};
 ghost use Rattle.trs_core.specs.SystemLimits.{HaveSmallVariables};
 ghost use Rattle.trs_core.specs.View.{tree};
 ghost use Rattle.term_pool.specs.Redexes.{IsNarrow};
-ghost use Rattle.term_pool.specs.Pooled.{Extends, StandsFor};
+ghost use Rattle.term_pool.specs.Pooled.{Extends};
 ghost use Rattle.crit_pairs.specs.Skeletons.{opened};
 ghost use Rattle.crit_pairs.specs.SkeletonView.{skeleton_view};
 ghost use Rattle.crit_pairs.specs.Walk.{IsPartOf, one_spot, spot_unless};
 ghost use Rattle.crit_pairs.specs.Prepared.{ArePrepared};
+ghost use Rattle.crit_pairs.specs.GroundSides.{AreGroundRights};
 ghost use Rattle.crit_pairs.specs.PeakList.{Spot};
 ghost use Rattle.crit_pairs.specs.Table.{Site, site, sites_from};
 ghost use Rattle.crit_pairs.specs.Growing.{IsGrown, IsAtSite, AddsPeaks};
 ghost use Rattle.crit_pairs.specs.Growing.{GrowsAt, GrowsBy, sites_in};
 
 use crate::PeakFault;
-use crate::contracting::contract;
+use crate::ground_sides::GroundSide;
+use crate::making::make_pair;
 use crate::overlapping::overlap;
 use crate::prepared::PreparedRules;
-use crate::sides::count_nodes;
 use crate::skeleton::Skeleton;
 use crate::table::PeakPair;
-use crate::unbuilt::results;
 use confluence_theory::overlaps_unify;
 use std::alloc::Global;
 use term_pool::Pool;
@@ -43,6 +43,7 @@ pub(crate) fn grow_rules(
     alloc: Global,
     rules: &[Rule],
     prepared: &PreparedRules,
+    rights: &[Option<GroundSide>],
     start: usize,
     end: usize,
     from: usize,
@@ -50,6 +51,7 @@ pub(crate) fn grow_rules(
     growth: &mut Growth,
 ) -> Result<(), PeakFault>
     requires prepared { ArePrepared rules.now prepared.now }
+    requires rights { AreGroundRights rules.now pool.old rights.now }
     requires small { HaveSmallVariables rules.now }
     requires narrow { All (λ r. IsNarrow r.left) rules.now }
     requires end { end ≤ length rules.now }
@@ -68,6 +70,7 @@ pub(crate) fn grow_rules(
             alloc,
             rules,
             prepared,
+            rights,
             j,
             from,
             &outer.left,
@@ -86,6 +89,7 @@ fn grow_below(
     alloc: Global,
     rules: &[Rule],
     prepared: &PreparedRules,
+    rights: &[Option<GroundSide>],
     j: usize,
     from: usize,
     part: &Term,
@@ -95,6 +99,7 @@ fn grow_below(
     growth: &mut Growth,
 ) -> Result<(), PeakFault>
     requires prepared { ArePrepared rules.now prepared.now }
+    requires rights { AreGroundRights rules.now pool.old rights.now }
     requires small { HaveSmallVariables rules.now }
     requires outer { IsPartOf rules.now j place.old.items (tree part.now) }
     requires skeleton { skeleton_view skeleton.now ≡ opened (tree part.now) }
@@ -111,13 +116,13 @@ fn grow_below(
         Term::Var(_) => Ok(()),
         Term::App(_f, args) => {
             grow_at(
-                alloc, rules, prepared, j, from, part, skeleton, place, pool, growth,
+                alloc, rules, prepared, rights, j, from, part, skeleton, place, pool, growth,
             )?;
             let parts = skeleton.parts();
             for (i, arg) in args.items.iter().enumerate() {
                 place.push(i as u8 + 1)?;
                 grow_below(
-                    alloc, rules, prepared, j, from, arg, &parts[i], place, pool, growth,
+                    alloc, rules, prepared, rights, j, from, arg, &parts[i], place, pool, growth,
                 )?;
                 place.pop();
             }
@@ -132,6 +137,7 @@ fn grow_at(
     alloc: Global,
     rules: &[Rule],
     prepared: &PreparedRules,
+    rights: &[Option<GroundSide>],
     j: usize,
     from: usize,
     part: &Term,
@@ -141,6 +147,7 @@ fn grow_at(
     growth: &mut Growth,
 ) -> Result<(), PeakFault>
     requires prepared { ArePrepared rules.now prepared.now }
+    requires rights { AreGroundRights rules.now pool.old rights.now }
     requires small { HaveSmallVariables rules.now }
     requires outer { IsPartOf rules.now j place.now (tree part.now) }
     requires skeleton { skeleton_view skeleton.now ≡ opened (tree part.now) }
@@ -154,7 +161,7 @@ fn grow_at(
     begin_list(alloc, growth)?;
     for i in from..rules.len() {
         grow_by(
-            alloc, rules, prepared, j, i, part, skeleton, place, pool, growth,
+            alloc, rules, prepared, rights, j, i, part, skeleton, place, pool, growth,
         )?;
     }
     growth.done += 1;
@@ -182,6 +189,7 @@ fn grow_by(
     alloc: Global,
     rules: &[Rule],
     prepared: &PreparedRules,
+    rights: &[Option<GroundSide>],
     j: usize,
     i: usize,
     part: &Term,
@@ -191,6 +199,7 @@ fn grow_by(
     growth: &mut Growth,
 ) -> Result<(), PeakFault>
     requires prepared { ArePrepared rules.now prepared.now }
+    requires rights { AreGroundRights rules.now pool.old rights.now }
     requires small { HaveSmallVariables rules.now }
     requires inner { i < length rules.now }
     requires outer { IsPartOf rules.now j place.now (tree part.now) }
@@ -206,11 +215,13 @@ fn grow_by(
     if place.is_empty() && i == j {
         return Ok(());
     }
-    if skeleton.clashes(&prepared.skeletons[i]) {
+    if prepared.clashes(i, skeleton) {
         overlaps_unify();
         return Ok(());
     }
-    grow_by_overlap(alloc, rules, prepared, j, i, part, place, pool, growth)
+    grow_by_overlap(
+        alloc, rules, prepared, rights, j, i, part, place, pool, growth,
+    )
 }
 
 /// Adds the peak of rule i in rule j at a position, if they overlap there.
@@ -218,6 +229,7 @@ fn grow_by_overlap(
     alloc: Global,
     rules: &[Rule],
     prepared: &PreparedRules,
+    rights: &[Option<GroundSide>],
     j: usize,
     i: usize,
     part: &Term,
@@ -226,6 +238,7 @@ fn grow_by_overlap(
     growth: &mut Growth,
 ) -> Result<(), PeakFault>
     requires prepared { ArePrepared rules.now prepared.now }
+    requires rights { AreGroundRights rules.now pool.old rights.now }
     requires small { HaveSmallVariables rules.now }
     requires inner { i < length rules.now }
     requires outer { IsPartOf rules.now j place.now (tree part.now) }
@@ -237,39 +250,31 @@ fn grow_by_overlap(
     ensures done { OnOk result (growth.new.done ≡ growth.old.done) }
     ensures inside { OnOk result (growth.new.done < length growth.new.lists.items) }
 {
-    let outer = &rules[j];
     let inner = &prepared.apart[i];
-    let found = overlap(alloc, outer, part, inner)?;
+    let few_variables = prepared.occurrences.are_few(i, j);
+    let found = overlap(alloc, part, inner, few_variables)?;
     match found {
         None => {
             overlaps_unify();
             Ok(())
         }
         Some(unifier) => {
-            let reduct = contract(alloc, outer, place, inner)?;
-            let nodes = count_nodes(&unifier, &outer.left, &reduct, &outer.right, growth.nodes)?;
-            let sides = results(alloc, &unifier, &outer.left, &reduct, &outer.right)?;
-            let pair = intern_pair(alloc, pool, &sides.0, &sides.1)?;
+            let made = make_pair(
+                alloc,
+                rules,
+                prepared,
+                rights,
+                j,
+                i,
+                place,
+                &unifier,
+                pool,
+                growth.nodes,
+            )?;
             let list = &mut growth.lists[growth.done];
-            list.push(pair)?;
-            growth.nodes = nodes;
+            list.push(made.pair)?;
+            growth.nodes = made.nodes;
             Ok(())
         }
     }
-}
-
-/// The ids of two terms.
-fn intern_pair(
-    alloc: Global,
-    pool: &mut Pool,
-    left: &Term,
-    right: &Term,
-) -> Result<PeakPair, OutOfMemory>
-    ensures left { IfOk result (λ pair. StandsFor pool.new pair.left (tree left.now)) }
-    ensures right { IfOk result (λ pair. StandsFor pool.new pair.right (tree right.now)) }
-    ensures kept { Extends pool.old pool.new }
-{
-    let s = pool.intern(alloc, left)?;
-    let t = pool.intern(alloc, right)?;
-    Ok(PeakPair { left: s, right: t })
 }

@@ -1,18 +1,26 @@
-ghost use Rattle.std.specs.Prelude.{[], IfOk};
+ghost use Rattle.std.specs.Prelude.{◌≡◌, ◌<◌, List, [], IfOk, IsTrue, Some, length, slice_get};
+ghost use Rattle.trs_defs.specs.System.{RewriteRule};
+ghost use Rattle.trs_caps.specs.Clash.{AreDisjoint};
 ghost use Rattle.trs_core.specs.SystemLimits.{HaveSmallVariables};
+ghost use Rattle.crit_pairs.specs.Skeletons.{opened};
+ghost use Rattle.crit_pairs.specs.SkeletonView.{skeleton_view};
 ghost use Rattle.crit_pairs.specs.Prepared.{ArePrepared, PreparesFirst};
 
 use crate::apart::renamed_rule;
+use crate::occurrences::Occurrences;
 use crate::skeleton::Skeleton;
 use std::alloc::Global;
 use trs_core::{OutOfMemory, Rule};
 
 /// What overlaps of rules are looked for by: a copy of each rule whose variables are renamed apart
-/// from those of all rules, and the skeletons of the left sides.
+/// from those of all rules, the skeletons of the left sides, and how often variables occur.
 #[derive(Drop)]
 pub(crate) struct PreparedRules {
     pub apart: Vec<Rule>,
     pub skeletons: Vec<Skeleton>,
+    /// The roots of the skeletons. They lie close together, and mostly tell them apart.
+    pub roots: Vec<Option<u32>>,
+    pub occurrences: Occurrences,
 }
 
 impl PreparedRules {
@@ -23,6 +31,8 @@ impl PreparedRules {
         PreparedRules {
             apart: Vec::new(alloc),
             skeletons: Vec::new(alloc),
+            roots: Vec::new(alloc),
+            occurrences: Occurrences::new(alloc),
         }
     }
 
@@ -35,11 +45,38 @@ impl PreparedRules {
         let known = self.apart.len();
         let mut apart = self.apart;
         let mut skeletons = self.skeletons;
+        let mut roots = self.roots;
+        let mut occurrences = self.occurrences;
+        occurrences.count(rules)?;
         for k in known..rules.len() {
             let rule = &rules[k];
             apart.push(renamed_rule(alloc, rule)?)?;
-            skeletons.push(Skeleton::of(alloc, &rule.left)?)?;
+            let skeleton = Skeleton::of(alloc, &rule.left)?;
+            let root = skeleton.root();
+            skeletons.push(skeleton)?;
+            roots.push(root)?;
         }
-        Ok(PreparedRules { apart, skeletons })
+        Ok(PreparedRules {
+            apart,
+            skeletons,
+            roots,
+            occurrences,
+        })
+    }
+
+    /// Whether it is seen that no term fits both a skeleton and that of the left side of rule `i`.
+    pub fn clashes(&self, i: usize, skeleton: &Skeleton) -> bool
+        requires root { i < length self.now.roots.items }
+        requires inside { i < length self.now.skeletons.items }
+        ensures { IsTrue result → (rules : List RewriteRule) (r : RewriteRule) →
+            ArePrepared rules self.now → slice_get rules i ≡ Some r →
+            AreDisjoint (skeleton_view skeleton.now) (opened r.left) }
+    {
+        let root = self.roots[i];
+        if skeleton.has_other_root(root) {
+            return true;
+        }
+        let other = &self.skeletons[i];
+        skeleton.clashes(other)
     }
 }

@@ -1,10 +1,12 @@
 //! Left sides as they are put beside each other: of most pairs it is seen here that they do not
 //! overlap, without memory.
 ghost use Rattle.std.specs.Prelude.{◌≡◌, ℕ, IfOk, IsTrue};
+ghost use Rattle.trs_caps.specs.HoledTree.{HoledTree};
 ghost use Rattle.trs_defs.specs.Tree.{Trees, app};
 ghost use Rattle.trs_core.specs.View.{tree};
 ghost use Rattle.trs_caps.specs.Clash.{AreDisjoint};
-ghost use Rattle.crit_pairs.specs.Skeletons.{opened, all_opened, mark_of, mark_after, mixed};
+ghost use Rattle.crit_pairs.specs.Skeletons.{opened, all_opened, root_symbol};
+ghost use Rattle.crit_pairs.specs.Skeletons.{mark_of, mark_after, mixed};
 ghost use Rattle.crit_pairs.specs.SkeletonView.{skeleton_view, skeleton_views};
 
 use std::alloc::Global;
@@ -79,6 +81,27 @@ impl Skeleton {
         match self {
             Skeleton::Hole => &[],
             Skeleton::Symbol(_, parts) => &parts.items,
+        }
+    }
+
+    /// The symbol at the root. A hole has none.
+    pub(crate) fn root(&self) -> Option<u32>
+        ensures { result ≡ root_symbol (skeleton_view self.now) }
+    {
+        match self {
+            Skeleton::Hole => None,
+            Skeleton::Symbol(f, _) => Some(*f),
+        }
+    }
+
+    /// Whether another symbol stands at the root than at that of another skeleton.
+    pub(crate) fn has_other_root(&self, root: Option<u32>) -> bool
+        ensures { IsTrue result → (other : HoledTree) → root_symbol other ≡ root →
+            AreDisjoint (skeleton_view self.now) other }
+    {
+        match (self, root) {
+            (Skeleton::Symbol(f, _), Some(g)) => *f != g,
+            _ => false,
         }
     }
 

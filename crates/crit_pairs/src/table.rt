@@ -5,11 +5,13 @@ ghost use Rattle.trs_core.specs.SystemLimits.{HaveSmallVariables};
 ghost use Rattle.term_pool.specs.Pooled.{Extends};
 ghost use Rattle.term_pool.specs.Redexes.{IsNarrow};
 ghost use Rattle.crit_pairs.specs.Prepared.{ArePrepared};
+ghost use Rattle.crit_pairs.specs.GroundSides.{AreGroundRights};
 ghost use Rattle.crit_pairs.specs.Table.{sites, sites_from};
 ghost use Rattle.crit_pairs.specs.Table.{HasPeaks, HasFirstPeaks, AreAllPairs};
 ghost use Rattle.crit_pairs.specs.Growing.{IsGrown};
 
 use crate::PeakFault;
+use crate::ground_sides::{GroundSide, add_ground_rights};
 use crate::growing::{Growth, grow_rules};
 use crate::prepared::PreparedRules;
 use std::alloc::Global;
@@ -29,6 +31,8 @@ pub struct PeakPair {
 #[derive(Drop)]
 pub struct PeakTable {
     pub(crate) prepared: PreparedRules,
+    /// The right sides with no variable, by the numbers of their rules.
+    pub(crate) rights: Vec<Option<GroundSide>>,
     /// A list for each position of a symbol in a left side: by rule, and then in preorder.
     pub(crate) lists: Vec<Vec<PeakPair>>,
     /// The nodes of all peaks.
@@ -42,6 +46,7 @@ impl PeakTable {
     {
         PeakTable {
             prepared: PreparedRules::new(alloc),
+            rights: Vec::new(alloc),
             lists: Vec::new(alloc),
             nodes: 0,
         }
@@ -63,14 +68,16 @@ impl PeakTable {
     {
         let known = self.prepared.apart.len();
         let prepared = self.prepared.prepare(alloc, rules)?;
+        let rights = add_ground_rights(alloc, rules, self.rights, pool)?;
         let mut growth = Growth {
             lists: self.lists,
             done: 0,
             nodes: self.nodes,
         };
-        match grow_all(alloc, rules, &prepared, known, pool, &mut growth) {
+        match grow_all(alloc, rules, &prepared, &rights, known, pool, &mut growth) {
             Ok(()) => Ok(Some(PeakTable {
                 prepared,
+                rights,
                 lists: growth.lists,
                 nodes: growth.nodes,
             })),
@@ -98,11 +105,13 @@ fn grow_all(
     alloc: Global,
     rules: &[Rule],
     prepared: &PreparedRules,
+    rights: &[Option<GroundSide>],
     known: usize,
     pool: &mut Pool,
     growth: &mut Growth,
 ) -> Result<(), PeakFault>
     requires prepared { ArePrepared rules.now prepared.now }
+    requires rights { AreGroundRights rules.now pool.old rights.now }
     requires small { HaveSmallVariables rules.now }
     requires narrow { All (λ r. IsNarrow r.left) rules.now }
     requires known { known ≤ length rules.now }
@@ -112,8 +121,20 @@ fn grow_all(
         (sites_from known more) → IsGrown rules.now 0 pool.new growth.new [] []) }
     ensures kept { Extends pool.old pool.new }
 {
-    grow_rules(alloc, rules, prepared, 0, known, known, pool, growth)?;
-    grow_rules(alloc, rules, prepared, known, rules.len(), 0, pool, growth)
+    grow_rules(
+        alloc, rules, prepared, rights, 0, known, known, pool, growth,
+    )?;
+    grow_rules(
+        alloc,
+        rules,
+        prepared,
+        rights,
+        known,
+        rules.len(),
+        0,
+        pool,
+        growth,
+    )
 }
 
 /// Adds pairs to a list.

@@ -4,6 +4,7 @@ use Rattle.trs_core.specs.View.{tree, forest}
 use Rattle.rewrite_core.proofs.RedexWalk.{smaller_argument}
 use Rattle.term_pool.proofs.RedexWalk.{popped, narrow_app, narrow_next, positive_below}
 use Rattle.term_pool.proofs.Extending.{extends_on}
+use Rattle.crit_pairs.proofs.GroundRights.{rights_still}
 use Rattle.crit_pairs.proofs.SpotWalk.{part_below}
 use Rattle.crit_pairs.specs.Skeletons.{opened, all_opened}
 use Rattle.crit_pairs.specs.SkeletonView.{skeleton_views}
@@ -48,7 +49,7 @@ grow_below-requires t c =
     let smaller = smaller_argument items c.loop-i.i c.in-App._f (tree c.args.part.now) c.arg-item.result is c.loop-i-test.true c.arg-item.is in
     let part = part_below c.args.rules.now c.args.j c.args.place.now.items c.push.new.self.items (tree c.args.part.now) c.in-App._f items c.loop-i.i c.arg-item.result is c.loop-i-test.true c.arg-item.is pushed c.requires.outer in
     let skeleton = skeleton_at c.parts-parts.result.now items c.loop-i.i c.index-parts-i.result c.arg-item.result (parts_here t (goal.at.grow_below-requires t c).After-deref-arg-items) c.loop-i-test.true c.index-parts-i.is c.arg-item.is in
-    (omega (arith, smaller, c.decreases), (c.requires.prepared, (c.requires.small, (part, (skeleton, (narrow.0, (positive, c.loop-i.invariant.inside)))))))
+    (omega (arith, smaller, c.decreases), (c.requires.prepared, (rights_still c.args.rules.now c.args.pool.now c.loop-i.pool c.args.rights.now c.loop-i.invariant.kept c.requires.rights, (c.requires.small, (part, (skeleton, (narrow.0, (positive, c.loop-i.invariant.inside))))))))
 
 pub bounds-parts-i : goal.bounds-parts-i
 bounds-parts-i t c = omega (arith, c.loop-i-test.true, skeleton_count c.parts-parts.result.now c.deref-arg-items.result.now (parts_here t (goal.at.bounds-parts-i t c).After-deref-arg-items))

@@ -1,6 +1,7 @@
 use Rattle.std.proofs.Common.{refl}
 use Rattle.term_pool.proofs.Extending.{extends_itself, extends_on}
 use Rattle.crit_pairs.specs.Table.{site}
+use Rattle.crit_pairs.proofs.GroundRights.{rights_still}
 use Rattle.crit_pairs.proofs.GrowthLaws.{at_next, at_end}
 use Rattle.crit_pairs.proofs.growing.grow_at.Goals as goal
 
@@ -10,6 +11,9 @@ loop-i-init c = record {
   kept = extends_itself c.args.pool.now;
   inside = c.in_ok-begin_list.ensures.inside;
 }
+
+pub grow_by-requires-clause-rights : goal.grow_by-requires-clause-rights
+grow_by-requires-clause-rights c = rights_still c.args.rules.now c.args.pool.now c.loop-i.pool c.args.rights.now c.loop-i.invariant.kept c.requires.rights
 
 pub loop-i-preserved : goal.loop-i-preserved
 loop-i-preserved c = record {

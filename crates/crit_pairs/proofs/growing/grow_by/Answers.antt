@@ -1,21 +1,18 @@
-use Rattle.std.proofs.Common.{inl, refl, arith}
+use Rattle.std.proofs.Common.{inl, refl}
 use Rattle.trs_core.specs.View.{tree}
 use Rattle.term_pool.proofs.Extending.{extends_itself}
 use Rattle.trs_caps.specs.Clash.{AreDisjoint}
 use Rattle.crit_pairs.specs.Skeletons.{opened}
 use Rattle.crit_pairs.proofs.SpotWalk.{rule_at}
-use Rattle.crit_pairs.proofs.SkeletonLaws.{never_meet, skeletons_count, skeleton_read}
+use Rattle.crit_pairs.proofs.SkeletonLaws.{never_meet}
 use Rattle.crit_pairs.proofs.SpotPeaks.{none_apart, none_itself, no_places}
 use Rattle.crit_pairs.proofs.growing.grow_by.Goals as goal
 
 pub returns-then-clashes-clause-adds : goal.returns-then-clashes-clause-adds
 returns-then-clashes-clause-adds c =
     let all = c.args.rules.now in
-    let skeletons = c.args.prepared.now.skeletons.items in
     let (inner, numbered) = rule_at all c.args.i c.requires.inner in
-    let count = skeletons_count skeletons all c.requires.prepared.skeletons in
-    let is = skeleton_read skeletons all c.args.i c.index.result.now inner c.requires.prepared.skeletons (omega (arith, count, c.requires.inner)) c.index.ensures numbered in
-    let apart : AreDisjoint (opened (tree c.args.part.now)) (opened inner.left) = rw (c.requires.skeleton, is) at (c.clashes.ensures c.if-clashes.true) in
+    let apart : AreDisjoint (opened (tree c.args.part.now)) (opened inner.left) = rw c.requires.skeleton at (c.clashes.ensures c.if-clashes.true all inner c.requires.prepared numbered) in
     inl (
       none_apart c.overlaps_unify.ensures.unified all c.requires.small c.args.j c.args.place.now (tree c.args.part.now) c.requires.outer c.args.i inner numbered (never_meet (tree c.args.part.now) inner.left 65536 apart),
       refl,

@@ -8,6 +8,7 @@ use Rattle.term_pool.specs.Redexes.{IsNarrow}
 use Rattle.term_pool.proofs.Extending.{extends_itself, extends_on}
 use Rattle.crit_pairs.specs.Skeletons.{opened}
 use Rattle.crit_pairs.specs.Table.{Site, sites_from}
+use Rattle.crit_pairs.proofs.GroundRights.{rights_still}
 use Rattle.crit_pairs.proofs.SpotWalk.{whole_part, no_place}
 use Rattle.crit_pairs.proofs.SkeletonLaws.{skeletons_count, skeleton_read}
 use Rattle.crit_pairs.proofs.GrowthLaws.{next_rule, no_rule_left, grown_at}
@@ -43,6 +44,7 @@ grow_below-requires c =
     let R : RewriteRule → Type 0 = λ r. IsNarrow r.left in
     record {
       prepared = c.requires.prepared;
+      rights = rights_still rules c.args.pool.now c.loop-j.pool c.args.rights.now c.loop-j.invariant.kept c.requires.rights;
       small = c.requires.small;
       outer = whole_part rules c.loop-j.j c.new-place.result.items c.index-rules-j.result (tree c.outer.inside.left) c.new-place.ensures.items (outer_left a) (numbered a);
       skeleton = skeleton_read c.args.prepared.now.skeletons.items rules c.loop-j.j c.index-skeleton.result.now c.index-rules-j.result c.requires.prepared.skeletons (omega (arith, inside a, count)) c.index-skeleton.ensures (numbered a)

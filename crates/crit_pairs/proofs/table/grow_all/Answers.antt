@@ -1,8 +1,12 @@
 use Rattle.std.proofs.Common.{◌++◌, [], ap, sym, refl, append-nil}
 use Rattle.term_pool.proofs.Extending.{extends_on}
 use Rattle.crit_pairs.specs.Table.{sites, sites_from}
+use Rattle.crit_pairs.proofs.GroundRights.{rights_still}
 use Rattle.crit_pairs.proofs.GrowthLaws.{grown_at, others_begin, others_left, ok_then}
 use Rattle.crit_pairs.proofs.table.grow_all.Goals as goal
+
+pub grow_rules-requires-2-clause-rights : goal.grow_rules-requires-2-clause-rights
+grow_rules-requires-2-clause-rights c = rights_still c.args.rules.now c.args.pool.now c.grow_rules.new.pool c.args.rights.now c.in_ok-grow_rules.ensures.kept c.requires.rights
 
 pub returns-clause-grows : goal.returns-clause-grows
 returns-clause-grows c = ok_then c.grow_rules-2.result (λ grows first more are count h.

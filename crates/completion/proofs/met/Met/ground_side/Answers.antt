@@ -3,7 +3,8 @@ use Rattle.trs_defs.specs.Tree.{Tree}
 use Rattle.trs_core.specs.View.{tree}
 use Rattle.term_pool.specs.Pooled.{Extends, StandsFor}
 use Rattle.term_pool.proofs.Extending.{extends_itself, extends_on}
-use Rattle.completion.proofs.MetLaws.{whole_pool, no_variable}
+use Rattle.crit_pairs.proofs.GroundRights.{no_variable}
+use Rattle.completion.proofs.MetLaws.{whole_pool}
 use Rattle.completion.proofs.met.Met.ground_side.Goals as goal
 
 pub returns-clause-id : goal.returns-clause-id

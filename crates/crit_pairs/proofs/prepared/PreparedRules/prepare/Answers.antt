@@ -1,10 +1,10 @@
 use Rattle.std.proofs.Common.{List, ap, subst, sym, arith, ◌∙◌}
 use Rattle.std.proofs.lemmas.List.{take_all}
 use Rattle.trs_defs.specs.System.{RewriteRule}
-use Rattle.crit_pairs.specs.Apart.{AreApart, HaveSkeletons}
-use Rattle.crit_pairs.specs.Skeletons.{opened}
+use Rattle.crit_pairs.specs.Apart.{renamed_apart, AreApart, HaveSkeletons, HaveRoots}
+use Rattle.crit_pairs.specs.Skeletons.{opened, root_symbol}
 use Rattle.crit_pairs.proofs.SpotWalk.{left_small, right_small}
-use Rattle.crit_pairs.proofs.GrowthLaws.{first_taken, one_apart_more, one_skeleton_more}
+use Rattle.crit_pairs.proofs.GrowthLaws.{first_taken, one_image_more, one_skeleton_more}
 use Rattle.crit_pairs.proofs.prepared.PreparedRules.prepare.Goals as goal
 
 pub renamed_rule-requires-clause-left : goal.renamed_rule-requires-clause-left
@@ -19,17 +19,26 @@ loop-k-init c =
     let taken = first_taken c.args.rules.now h.first h.more c.args.self c.len-known.result h.are h.prepared_first (omega (arith, c.len-known.ensures, c.args.self.apart.ok.0)) in
     let A : List RewriteRule → Type 0 = λ rs. AreApart rs c.args.self.apart.items in
     let S : List RewriteRule → Type 0 = λ rs. HaveSkeletons rs c.args.self.skeletons.items in
-    record { apart = subst A (sym taken) h.prepared_first.apart; skeletons = subst S (sym taken) h.prepared_first.skeletons }
+    let R : List RewriteRule → Type 0 = λ rs. HaveRoots rs c.args.self.roots.items in
+    record {
+      apart = subst A (sym taken) h.prepared_first.apart;
+      skeletons = subst S (sym taken) h.prepared_first.skeletons;
+      roots = subst R (sym taken) h.prepared_first.roots;
+    }
 
 pub loop-k-preserved : goal.loop-k-preserved
-loop-k-preserved c = record {
-  apart = one_apart_more c.args.rules.now c.loop-k.k c.index-rules-k.result c.loop-k.apart.items _ _ c.loop-k-test.true c.index-rules-k.is c.in_ok-renamed_rule.ensures c.in_ok-push.ensures.items c.loop-k.invariant.apart;
-  skeletons = one_skeleton_more c.args.rules.now c.loop-k.k c.index-rules-k.result c.loop-k.skeletons.items _ _ c.loop-k-test.true c.index-rules-k.is (c.in_ok-of.ensures ∙ ap (λ (r : RewriteRule). opened r.left) c.rule.view_is) c.in_ok-push-2.ensures.items c.loop-k.invariant.skeletons;
-}
+loop-k-preserved c =
+    let made = c.in_ok-skeleton.ensures ∙ ap (λ (r : RewriteRule). opened r.left) c.rule.view_is in
+    record {
+      apart = one_image_more renamed_apart c.args.rules.now c.loop-k.k c.index-rules-k.result c.loop-k.apart.items _ _ c.loop-k-test.true c.index-rules-k.is c.in_ok-renamed_rule.ensures c.in_ok-push.ensures.items c.loop-k.invariant.apart;
+      skeletons = one_skeleton_more c.args.rules.now c.loop-k.k c.index-rules-k.result c.loop-k.skeletons.items _ _ c.loop-k-test.true c.index-rules-k.is made c.in_ok-push-2.ensures.items c.loop-k.invariant.skeletons;
+      roots = one_image_more (λ (r : RewriteRule). root_symbol (opened r.left)) c.args.rules.now c.loop-k.k c.index-rules-k.result c.loop-k.roots.items _ _ c.loop-k-test.true c.index-rules-k.is (c.root-root.ensures ∙ ap root_symbol made) c.in_ok-push-3.ensures.items c.loop-k.invariant.roots;
+    }
 
 pub returns : goal.returns
 returns c =
     let A : List RewriteRule → Type 0 = λ rs. AreApart rs c.loop-k.apart.items in
     let S : List RewriteRule → Type 0 = λ rs. HaveSkeletons rs c.loop-k.skeletons.items in
     let all = take_all c.loop-k.k c.args.rules.now c.loop-k-test.false in
-    record { apart = subst A all c.loop-k.invariant.apart; skeletons = subst S all c.loop-k.invariant.skeletons }
+    let R : List RewriteRule → Type 0 = λ rs. HaveRoots rs c.loop-k.roots.items in
+    record { apart = subst A all c.loop-k.invariant.apart; skeletons = subst S all c.loop-k.invariant.skeletons; roots = subst R all c.loop-k.invariant.roots }

@@ -1,15 +1,10 @@
-use Rattle.std.specs.Prelude.{not, ◌==◌}
-use Rattle.std.proofs.Common.{◌≢◌, ℕ, IsTrue, ap, sym, ◌∙◌, arith}
-use Rattle.std.proofs.lemmas.Bool.Decides.{nat_tests}
+use Rattle.std.proofs.Common.{ap, sym, ◌∙◌}
 use Rattle.crit_pairs.specs.SkeletonView.{skeleton_view, skeleton_views}
-use Rattle.crit_pairs.proofs.SkeletonLaws.{by_parts, roots_disjoint, marks_disjoint}
+use Rattle.crit_pairs.proofs.SkeletonLaws.{by_parts, roots_disjoint, marks_disjoint, unlike}
 use Rattle.crit_pairs.proofs.skeleton.Skeleton.differs.Goals as goal
 
 pub returns-then-f-g : goal.returns-then-f-g
 returns-then-f-g c = λ _. roots_disjoint _ _ c.in-Symbol-Symbol.f c.in-Symbol-Symbol.g _ _ (ap skeleton_view c.in-Symbol-Symbol.is-0) (ap skeleton_view c.in-Symbol-Symbol.is-1) c.if-f-g.true
-
-unlike : (m n : ℕ) → IsTrue (not (m == n)) → m ≢ n
-unlike m n h same = grind (arith, nat_tests)
 
 pub returns-in-Some-Some : goal.returns-in-Some-Some
 returns-in-Some-Some c =

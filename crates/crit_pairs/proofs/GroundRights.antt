@@ -1,0 +1,60 @@
+-- Right sides with no variable: rules and ids come to them, and peaks at the root have them as results.
+use Rattle.std.proofs.Common.{◌≡◌, ◌<◌, inl, inr, ℕ, ◌+◌, List, [], ◌∷◌, ◌++◌, take, length, length-append, get_or, Bool, true, false, Option, Some, None, IfSome, refl, ap, sym, ◌∙◌, subst, arith}
+use Rattle.std.proofs.lemmas.List.{take_more}
+use Rattle.std.proofs.lemmas.Option.{slice_get_within}
+use Rattle.trs_defs.specs.Tree.{Tree}
+use Rattle.trs_defs.specs.LeastVariable.{least_variable}
+use Rattle.trs_defs.specs.System.{RewriteRule}
+use Rattle.trs_defs.specs.Variable.{has_var}
+use Rattle.trs_defs.proofs.LeastVariables.{least_skips}
+use Rattle.trs_defs.proofs.ListItems.{item_of_more}
+use Rattle.term_pool.specs.Pooled.{Extends}
+use Rattle.term_pool.specs.LeftSides.{IsGround}
+use Rattle.crit_pairs.specs.GroundSides.{IsGroundSide, AreGroundRights}
+use Rattle.crit_pairs.specs.declared.ground_sides.GroundSide.{GroundSide}
+
+-- a term with no least variable has none
+pub no_variable : (t : Tree) → least_variable 0 None t ≡ None → IsGround t
+no_variable t none v = go (has_var v t) refl
+  where
+    go : (b : Bool) → has_var v t ≡ b → has_var v t ≡ false
+    go false e = e
+    go true e = absurd ((least_skips 0 t None v (omega arith) (rw none tt)).1 e)
+
+-- the ids still stand for the right sides in a pool that has grown
+pub rights_still : (rules : List RewriteRule) (pool next : List Tree) (sides : List (Option GroundSide)) → Extends pool next → AreGroundRights rules pool sides → AreGroundRights rules next sides
+rights_still rules pool next sides more h = record {
+  count = h.count;
+  each = λ k side r at there.
+      let g = h.each k side r at there in
+      record { stands = more.kept side.id r.right g.stands; ground = g.ground; small = g.small; size = g.size };
+}
+
+-- one rule more
+rights_behind : (rules : List RewriteRule) (r : RewriteRule) (pool : List Tree) (sides : List (Option GroundSide)) (side : Option GroundSide) → IfSome side (IsGroundSide pool r.right)
+    → AreGroundRights rules pool sides → AreGroundRights (rules ++ r ∷ []) pool (sides ++ side ∷ [])
+rights_behind rules r pool sides side some h = record {
+  count = omega (arith, h.count, length-append rules (r ∷ []), length-append sides (side ∷ []));
+  each = λ k s x at there. elim (item_of_more sides side (Some s) k at) as (λ _. IsGroundSide pool x.right s) [
+    | inl old ↦ elim (item_of_more rules r x k there) as (λ _. IsGroundSide pool x.right s) [
+      | inl known ↦ h.each k s x old known
+      | inr (last, is) ↦ absurd (omega (arith, slice_get_within sides k (Some s) old, last, h.count))
+    ]
+    | inr (final, one) ↦ elim (item_of_more rules r x k there) as (λ _. IsGroundSide pool x.right s) [
+      | inl known ↦ absurd (omega (arith, slice_get_within rules k x known, final, h.count))
+      | inr (last, is) ↦ (
+          let S : Option GroundSide → Type 0 = λ o. IfSome o (IsGroundSide pool r.right) in
+          let R : RewriteRule → Type 0 = λ z. IsGroundSide pool z.right s in
+          subst R (sym is) (subst S (sym one) some))
+    ]
+  ];
+}
+
+pub one_right_more : (rules : List RewriteRule) (k : ℕ) (rule : RewriteRule) (pool next : List Tree) (old new : List (Option GroundSide)) (side : Option GroundSide) → k < length rules
+    → rule ≡ get_or rules k rule → Extends pool next → IfSome side (IsGroundSide next rule.right) → new ≡ old ++ side ∷ [] → AreGroundRights (take k rules) pool old
+    → AreGroundRights (take (k + 1) rules) next new
+one_right_more rules k rule pool next old new side less read more some put h =
+    let taken : take (k + 1) rules ≡ take k rules ++ rule ∷ [] = take_more rules k rule less ∙ ap (λ x. take k rules ++ x ∷ []) (sym read) in
+    let N : List (Option GroundSide) → Type 0 = AreGroundRights (take (k + 1) rules) next in
+    let T : List RewriteRule → Type 0 = λ rs. AreGroundRights rs next (old ++ side ∷ []) in
+    subst N (sym put) (subst T (sym taken) (rights_behind (take k rules) rule next old side some (rights_still (take k rules) pool next old more h)))

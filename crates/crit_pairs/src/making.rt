@@ -1,0 +1,128 @@
+//! The two results of one critical peak as a pair of ids.
+ghost use Rattle.std.specs.Prelude.{◌<◌, All, IfOk};
+ghost use Rattle.trs_defs.specs.Substitution.{apply};
+ghost use Rattle.trs_core.specs.SystemLimits.{HaveSmallVariables};
+ghost use Rattle.trs_core.specs.View.{tree};
+ghost use Rattle.term_pool.specs.Pooled.{Extends, StandsFor};
+ghost use Rattle.crit_pairs.specs.Overlapping.{substitution};
+ghost use Rattle.crit_pairs.specs.Prepared.{ArePrepared};
+ghost use Rattle.crit_pairs.specs.GroundSides.{AreGroundRights};
+ghost use Rattle.crit_pairs.specs.MadePairs.{spot, UnifiesAt, IsMade, CountsTop};
+
+use crate::PeakFault;
+use crate::contracting::contract;
+use crate::ground_sides::{GroundResults, GroundSide, ground_results};
+use crate::overlapping::OverlapUnifier;
+use crate::prepared::PreparedRules;
+use crate::sides::{count_nodes, small_size, within_most};
+use crate::table::PeakPair;
+use crate::unbuilt::results;
+use std::alloc::Global;
+use term_pool::Pool;
+use trs_core::{OutOfMemory, Rule, Term};
+
+/// The pair of a peak, and the nodes of all peaks with its own.
+#[derive(Clone, Copy)]
+pub(crate) struct MadePair {
+    pub pair: PeakPair,
+    pub nodes: u64,
+}
+
+/// The pair of the peak of rule i in rule j at a place, by a most general unifier. Results with no
+/// variable are there already.
+pub(crate) fn make_pair(
+    alloc: Global,
+    rules: &[Rule],
+    prepared: &PreparedRules,
+    rights: &[Option<GroundSide>],
+    j: usize,
+    i: usize,
+    place: &[u8],
+    unifier: &OverlapUnifier,
+    pool: &mut Pool,
+    nodes: u64,
+) -> Result<MadePair, PeakFault>
+    requires prepared { ArePrepared rules.now prepared.now }
+    requires rights { AreGroundRights rules.now pool.old rights.now }
+    requires small { HaveSmallVariables rules.now }
+    requires positive { All (λ n. 0 < n) place.now }
+    requires unifier { UnifiesAt rules.now (spot j place.now i) (substitution unifier.now) }
+    ensures made { IfOk result (IsMade rules.now (spot j place.now i) pool.new nodes) }
+    ensures kept { Extends pool.old pool.new }
+{
+    match ground_results(rights, place, i, j) {
+        None => build_pair(alloc, rules, prepared, j, i, place, unifier, pool, nodes),
+        Some(found) => {
+            let outer = &rules[j];
+            let total = count_top(unifier, &outer.left, found, nodes)?;
+            let pair = PeakPair {
+                left: found.left.id,
+                right: found.right.id,
+            };
+            Ok(MadePair { pair, nodes: total })
+        }
+    }
+}
+
+/// The number of nodes of all peaks, where the next one is the instance of a top and these results.
+fn count_top(
+    unifier: &OverlapUnifier,
+    top: &Term,
+    found: GroundResults,
+    nodes: u64,
+) -> Result<u64, PeakFault>
+    ensures { IfOk result (CountsTop (apply (substitution unifier.now) (tree top.now))
+        found.left.size found.right.size nodes) }
+{
+    let Some(size) = small_size(unifier, top) else {
+        return Err(PeakFault::TooLarge);
+    };
+    let more = size
+        .saturating_add(found.left.size)
+        .saturating_add(found.right.size);
+    within_most(nodes.saturating_add(more))
+}
+
+/// The same pair, where the results are built.
+fn build_pair(
+    alloc: Global,
+    rules: &[Rule],
+    prepared: &PreparedRules,
+    j: usize,
+    i: usize,
+    place: &[u8],
+    unifier: &OverlapUnifier,
+    pool: &mut Pool,
+    nodes: u64,
+) -> Result<MadePair, PeakFault>
+    requires prepared { ArePrepared rules.now prepared.now }
+    requires small { HaveSmallVariables rules.now }
+    requires positive { All (λ n. 0 < n) place.now }
+    requires unifier { UnifiesAt rules.now (spot j place.now i) (substitution unifier.now) }
+    ensures made { IfOk result (IsMade rules.now (spot j place.now i) pool.new nodes) }
+    ensures kept { Extends pool.old pool.new }
+{
+    let outer = &rules[j];
+    let inner = &prepared.apart[i];
+    let reduct = contract(alloc, outer, place, inner)?;
+    let total = count_nodes(unifier, &outer.left, &reduct, &outer.right, nodes)?;
+    let sides = results(alloc, unifier, &outer.left, &reduct, &outer.right)?;
+    let pair = intern_pair(alloc, pool, &sides.0, &sides.1)?;
+    Ok(MadePair { pair, nodes: total })
+}
+
+/// The ids of two terms.
+fn intern_pair(
+    alloc: Global,
+    pool: &mut Pool,
+    left: &Term,
+    right: &Term,
+) -> Result<PeakPair, OutOfMemory>
+    ensures left { IfOk result (λ pair. StandsFor pool.new pair.left (tree left.now)) }
+    ensures right { IfOk result (λ pair. StandsFor pool.new pair.right (tree right.now)) }
+    ensures kept { Extends pool.old pool.new }
+{
+    let s = pool.intern(alloc, left)?;
+    let t = pool.intern(alloc, right)?;
+    Ok(PeakPair { left: s, right: t })
+}

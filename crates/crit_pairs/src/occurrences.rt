@@ -1,0 +1,57 @@
+//! How often variables occur in rules. Only time depends on it.
+use std::alloc::Global;
+use trs_core::{OutOfMemory, Rule, Term};
+
+/// The most occurrences of variables in two rules whose bindings and names are looked for one by one.
+const MOST_OCCURRENCES: u64 = 64;
+
+/// How often variables occur in the sides of each rule. Right sides count too: the size of what a
+/// variable is bound to is found anew at each occurrence.
+#[derive(Drop)]
+pub(crate) struct Occurrences {
+    counts: Vec<u64>,
+}
+
+impl Occurrences {
+    /// Those in no rules. It takes no memory.
+    pub fn new(alloc: Global) -> Occurrences {
+        Occurrences {
+            counts: Vec::new(alloc),
+        }
+    }
+
+    /// Counts those in the rules behind the first ones, which are counted already.
+    pub fn count(&mut self, rules: &[Rule]) -> Result<(), OutOfMemory> {
+        let known = self.counts.len();
+        for k in known..rules.len() {
+            self.counts.push(occurrences_in(&rules[k]))?;
+        }
+        Ok(())
+    }
+
+    /// Whether variables occur but a few times in two rules together.
+    pub fn are_few(&self, i: usize, j: usize) -> bool {
+        match (self.counts.get(i), self.counts.get(j)) {
+            (Some(inner), Some(outer)) => inner.saturating_add(*outer) <= MOST_OCCURRENCES,
+            _ => false,
+        }
+    }
+}
+
+fn occurrences_in(rule: &Rule) -> u64 {
+    let left = variables_in(&rule.left);
+    left.saturating_add(variables_in(&rule.right))
+}
+
+fn variables_in(t: &Term) -> u64 {
+    match t {
+        Term::Var(_) => 1,
+        Term::App(_, args) => {
+            let mut count: u64 = 0;
+            for arg in &args.items {
+                count = count.saturating_add(variables_in(arg));
+            }
+            count
+        }
+    }
+}
