@@ -75,3 +75,10 @@ module _ (greater : Tree → Tree → Type 0) (system : System) (units most : �
   few_looked_at (outcome.Passed n) (inr no_pass) f = absurd cc
   few_looked_at (outcome.Added r n) which f = early (Added r n) (λ m k. absurd cc) f
   few_looked_at (outcome.Ended c) which f = early (Ended _) (λ m k. absurd cc) f
+
+-- all peaks are looked at
+pub all_looked_at : (greater : Tree → Tree → Type 0) (system : System) (units : ℕ) (peaks : List PlacedPeak) → ListsPeaks system.rules (Ok peaks) → (made : CodeOutcome)
+    → IsOutcome (Finds system.arities greater system.rules units (map sides peaks)) made → IsOutcome (Looks system.arities greater system.rules units) made
+all_looked_at greater system units peaks h (outcome.Passed n) f = at_peaks peaks h f
+all_looked_at greater system units peaks h (outcome.Added r n) f = at_peaks peaks h f
+all_looked_at greater system units peaks h (outcome.Ended c) f = at_peaks peaks h f

@@ -11,14 +11,17 @@ use crate::Completion;
 use crate::growing::GrowingTrs;
 use crate::met::Met;
 use crate::treating::{Outcome, treat, treat_ids};
-use crit_pairs::{Peak, PeakPair, PeakTable, first_peaks};
+use crit_pairs::{Peak, PeakFault, PeakPair, PeakTable, critical_pairs, first_peaks};
 use path_lpo::Lpo;
 use rewrite_core::{CheckFault, Top};
 use std::alloc::Global;
-use trs_core::{OutOfMemory, Trs, systems_are_valid};
+use trs_core::{OutOfMemory, Rule, Trs, least_variable, systems_are_valid};
 
 /// How many critical peaks are made at first: mostly one of them gives a rule.
 const FEW: usize = 64;
+
+/// From so many nodes on a right side with no variable takes longer to count than to find by its id.
+const MANY_NODES: u64 = 128;
 
 /// The critical peaks of the rules, and after each new rule those of all rules anew.
 pub(crate) fn close(
@@ -36,7 +39,7 @@ pub(crate) fn close(
     let mut system = rules;
     let mut met = terms;
     let mut table = PeakTable::new(alloc);
-    let mut is_first = true;
+    let mut is_first = !has_large_result(system.rules());
     let mut left = units;
     loop {
         let looked = look(alloc, order, &system, &mut met, table, is_first, left)?;
@@ -56,6 +59,18 @@ pub(crate) fn close(
             Outcome::Ended(why) => return Ok(why),
         }
     }
+}
+
+/// Whether a right side is large and has no variable: to count its nodes at each peak takes longer
+/// than to make all peaks at once, where it has its id already.
+fn has_large_result(rules: &[Rule]) -> bool {
+    for rule in rules {
+        let right = &rule.right;
+        if right.size() >= MANY_NODES && least_variable(right, 0, None).is_none() {
+            return true;
+        }
+    }
+    false
 }
 
 /// What became of the peaks, and a table of those of the first rules.
@@ -148,7 +163,7 @@ fn look_on(
     }
 }
 
-/// The same, where the peaks pass a limit.
+/// The same, where the table passes a limit: the peaks mostly do too, and are counted first.
 fn look_at_all(
     alloc: Global,
     order: &Lpo,
@@ -161,10 +176,37 @@ fn look_at_all(
         system.now.rules units)) }
     ensures met { OnOk result (IsMet system.now.rules met.new) }
 {
-    // There are never so many.
-    match look_at_first(alloc, order, system, met, usize::MAX, units)? {
-        Some(found) => Ok(found),
-        None => Err(OutOfMemory),
+    if let Some(found) = look_at_first(alloc, order, system, met, FEW, units)? {
+        return Ok(found);
+    }
+    let trs = system.to_trs(alloc)?;
+    look_at_each(alloc, order, system, &trs, met, units)
+}
+
+/// The same, where all peaks are made, with the system made.
+fn look_at_each(
+    alloc: Global,
+    order: &Lpo,
+    system: &GrowingTrs,
+    trs: &Trs,
+    met: &mut Met,
+    units: u64,
+) -> Result<Outcome, OutOfMemory>
+    requires same { trs.now ≡ system.now }
+    requires met { IsMet system.now.rules met.old }
+    ensures looks { IfOk result (IsOutcome (Looks system.now.arities (GreaterBy order.now)
+        system.now.rules units)) }
+    ensures met { OnOk result (IsMet system.now.rules met.new) }
+{
+    systems_are_valid(trs);
+    match critical_pairs(alloc, trs) {
+        Ok(peaks) => {
+            let found = find(alloc, order, system, met, &peaks, units)?;
+            Ok(found)
+        }
+        Err(PeakFault::OutOfMemory) => Err(OutOfMemory),
+        Err(PeakFault::TooLarge) => Ok(Outcome::Ended(Completion::Limit)),
+        Err(PeakFault::TooMany) => Ok(Outcome::Ended(Completion::Limit)),
     }
 }
 
