@@ -1,43 +1,54 @@
 -- Rules with the same left side, one after another.
-use Rattle.std.proofs.Common.{◌≡◌, ℕ, ◌+◌, ◌⊎◌, inl, inr, Bool, true, false, List, [], ◌∷◌, ◌++◌, Some, None, length, slice_get, nat_cmp, refl, ap, sym, ◌∙◌, subst, length-append}
-use Rattle.std.specs.BTreeMap.{BTreeMap, get, is_at, Updates}
+use Rattle.std.proofs.Common.{◌≡◌, ◌<◌, ℕ, ◌+◌, inl, inr, List, [], ◌∷◌, ◌++◌, Option, Some, None, length, slice_get, slice_set, refl, ap, sym, ◌∙◌, subst, length-append}
 use Rattle.std.proofs.lemmas.Option.{same_Some}
+use native.Mathlib.Decide.{ℕ_discrete}
 use Rattle.trs_defs.specs.Tree.{Tree}
 use Rattle.trs_defs.specs.System.{RewriteRule}
 use Rattle.trs_defs.proofs.ListItems.{last_item}
 use Rattle.term_pool.specs.Pooled.{Extends, StandsFor}
-use Rattle.dp_graph.specs.SameLefts.{HasLeft, HaveSameLefts, IsNotedOr, NotesAt}
-use Rattle.dp_graph.proofs.ListPlaces.{last_or_there, still_there}
-use Rattle.dp_graph.proofs.RowLaws.{same_number, no_place}
+use Rattle.dp_graph.specs.SameLefts.{HasLeft, HaveSameLefts, IsNoted, IsNotedOr, NotesAt, NotesStay}
+use Rattle.dp_graph.proofs.ListPlaces.{last_or_there, still_there, set_here, set_elsewhere}
 
-pub noted_now : (old new : BTreeMap ℕ ℕ) (id k : ℕ) → Updates nat_cmp old new id (Some k) → NotesAt id k old new
-noted_now old new id k updates i j at = by (is_at (nat_cmp id) i) refl
-  where
-    by : (b : Bool) → is_at (nat_cmp id) i ≡ b → (get nat_cmp old i ≡ Some j) ⊎ ((i ≡ id) × (j ≡ k))
-    by true e = let same : id ≡ i = same_number id i e in inr (sym same, same_Some j k (sym at ∙ subst (λ z. get nat_cmp new z ≡ Some k) same updates.1))
-    by false e = inl (sym (updates.2 i e) ∙ at)
+-- one place more, where nothing is noted
+pub one_place_more : (first old new : List (Option ℕ)) → new ≡ old ++ None ∷ [] → NotesStay first old → NotesStay first new
+one_place_more first old new grown stay i j = (
+  λ at. elim (last_or_there old None (Some j) i (subst (λ z. slice_get z i ≡ Some (Some j)) grown at)) [
+    | inl there ↦ (stay i j).0 there
+    | inr last ↦ absurd (let d : None ≡ Some j = last.1 in cc)
+  ],
+  λ at. subst (λ z. slice_get z i ≡ Some (Some j)) (sym grown) (still_there old (None ∷ []) i (Some j) ((stay i j).1 at)),
+)
 
-pub none_new : (seen : BTreeMap ℕ ℕ) (id first : ℕ) → NotesAt id first seen seen
-none_new seen id first i j at = inl at
+-- a number is noted of an id
+pub noted_now : (old room new : List (Option ℕ)) (id k : ℕ) → id < length room → NotesStay old room → new ≡ slice_set room id (Some k) → NotesAt id k old new
+noted_now old room new id k lt stay set i j at = elim (ℕ_discrete i id) [
+  | yes e ↦
+      let here : Some (Some j) ≡ Some (Some k) = sym (subst (λ z. slice_get z id ≡ Some (Some j)) set (subst (λ z. slice_get new z ≡ Some (Some j)) e at)) ∙ set_here room id (Some k) lt in
+      inr (e, same_Some j k (same_Some (Some j) (Some k) here))
+  | no other ↦ inl ((stay i j).0 (sym (set_elsewhere room id i (Some k) other) ∙ subst (λ z. slice_get z i ≡ Some (Some j)) set at))
+]
+
+pub none_new : (old new : List (Option ℕ)) (id first : ℕ) → NotesStay old new → NotesAt id first old new
+none_new old new id first stay i j at = inl ((stay i j).0 at)
 
 -- the first k rules were looked at
-pub record SameSoFar (rules : List RewriteRule) (pool : List Tree) (seen : BTreeMap ℕ ℕ) (firsts : List ℕ) (k : ℕ) : Type 0 where
+pub record SameSoFar (rules : List RewriteRule) (pool : List Tree) (seen : List (Option ℕ)) (firsts : List ℕ) (k : ℕ) : Type 0 where
   pub count : length firsts ≡ k
   pub each : (n j : ℕ) (rule : RewriteRule) → slice_get firsts n ≡ Some j → slice_get rules n ≡ Some rule → HasLeft rules j rule.left
-  pub noted : (i j : ℕ) → get nat_cmp seen i ≡ Some j → (left : Tree) × HasLeft rules j left × StandsFor pool i left
-  pub of_seen : (i j : ℕ) → get nat_cmp seen i ≡ Some j → slice_get firsts j ≡ Some j
+  pub noted : (i j : ℕ) → IsNoted seen i j → (left : Tree) × HasLeft rules j left × StandsFor pool i left
+  pub of_seen : (i j : ℕ) → IsNoted seen i j → slice_get firsts j ≡ Some j
   pub of_first : (n j : ℕ) → slice_get firsts n ≡ Some j → slice_get firsts j ≡ Some j
 
-pub no_lefts : (rules : List RewriteRule) (pool : List Tree) (seen : BTreeMap ℕ ℕ) (firsts : List ℕ) → seen.entries ≡ [] → firsts ≡ [] → SameSoFar rules pool seen firsts 0
+pub no_lefts : (rules : List RewriteRule) (pool : List Tree) (seen : List (Option ℕ)) (firsts : List ℕ) → seen ≡ [] → firsts ≡ [] → SameSoFar rules pool seen firsts 0
 no_lefts rules pool seen firsts none empty = record {
   count = ap length empty;
   each = λ n j rule at is. absurd (let d : None ≡ Some j = subst (λ z. slice_get z n ≡ Some j) empty at in cc);
-  noted = λ i j at. absurd (let d : None ≡ Some j = sym (no_place seen none i) ∙ at in cc);
-  of_seen = λ i j at. absurd (let d : None ≡ Some j = sym (no_place seen none i) ∙ at in cc);
+  noted = λ i j at. absurd (let d : None ≡ Some (Some j) = subst (λ z. slice_get z i ≡ Some (Some j)) none at in cc);
+  of_seen = λ i j at. absurd (let d : None ≡ Some (Some j) = subst (λ z. slice_get z i ≡ Some (Some j)) none at in cc);
   of_first = λ n j at. absurd (let d : None ≡ Some j = subst (λ z. slice_get z n ≡ Some j) empty at in cc);
 }
 
-pub one_more_left : (rules : List RewriteRule) (pool pool2 : List Tree) (seen seen2 : BTreeMap ℕ ℕ) (firsts firsts2 : List ℕ) (k id first : ℕ) (rule : RewriteRule) → SameSoFar rules pool seen firsts k
+pub one_more_left : (rules : List RewriteRule) (pool pool2 : List Tree) (seen seen2 : List (Option ℕ)) (firsts firsts2 : List ℕ) (k id first : ℕ) (rule : RewriteRule) → SameSoFar rules pool seen firsts k
     → slice_get rules k ≡ Some rule → Extends pool pool2 → StandsFor pool2 id rule.left → IsNotedOr seen id k first → NotesAt id first seen seen2 → firsts2 ≡ firsts ++ first ∷ []
     → SameSoFar rules pool2 seen2 firsts2 (k + 1)
 one_more_left rules pool pool2 seen seen2 firsts firsts2 k id first rule h there extends stands noted notes pushed =
@@ -75,5 +86,5 @@ one_more_left rules pool pool2 seen seen2 firsts firsts2 k id first rule h there
       ];
     }
 
-pub all_lefts : (rules : List RewriteRule) (pool : List Tree) (seen : BTreeMap ℕ ℕ) (firsts : List ℕ) (k : ℕ) → SameSoFar rules pool seen firsts k → k ≡ length rules → HaveSameLefts rules firsts
+pub all_lefts : (rules : List RewriteRule) (pool : List Tree) (seen : List (Option ℕ)) (firsts : List ℕ) (k : ℕ) → SameSoFar rules pool seen firsts k → k ≡ length rules → HaveSameLefts rules firsts
 all_lefts rules pool seen firsts k h end = record { count = h.count ∙ end; noted = h.of_first; each = h.each }

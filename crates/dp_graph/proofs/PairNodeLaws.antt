@@ -1,10 +1,7 @@
 -- The nodes of pairs, one after another, and edges by their rows.
-use Rattle.std.specs.Prelude.{◌≡◌, ◌<◌, ◌≤◌, ◌↔◌, ℕ, ◌+◌, ◌++◌, List, [], ◌∷◌, length, take, drop, get_or, Some, None, Vec, slice_get, refl}
+use Rattle.std.specs.Prelude.{◌≡◌, ◌<◌, ◌≤◌, ◌↔◌, ℕ, ◌+◌, ◌++◌, List, [], ◌∷◌, length, take, drop, get_or, Option, Some, None, Vec, slice_get, refl}
 use Rattle.std.specs.declared.alloc.Global.{Global}
 use Rattle.std.specs.List.{AllZip}
-use Rattle.std.specs.Ordering.{nat_cmp}
-use Rattle.std.specs.BTreeMap.{is_at}
-use Rattle.std.specs.Map.{lookup}
 use Rattle.std.proofs.Common.{zero, suc, inl, inr, sym, ap, subst, arith, ◌∙◌, append_assoc}
 use Rattle.std.proofs.lemmas.List.{append-nil, drop_all, take_more}
 use Rattle.std.proofs.lemmas.Slice.Zip.{AllZip-long, all_zipped_more}
@@ -77,7 +74,7 @@ ends_of_pairs rules all l (one_end {f = f} {us = us} {ts = ts} {end = end} {ends
 pub no_node : (rule from : ℕ) (ends : List End) (old : Nodes) → AddsNodes rule from (take 0 ends) old old
 no_node rule from ends old = record { added = []; grown = sym (append-nil old.nodes.items); each = tt; caps = refl; seen = λ h. h }
 
-seen_more : (rule from : ℕ) (end : End) (old new : Nodes) → AddsNode rule from end old new → AreShared old.nodes.items old.seen → AreShared new.nodes.items new.seen
+seen_more : (rule from : ℕ) (end : End) (old new : Nodes) → AddsNode rule from end old new → AreShared old.nodes.items old.seen.items → AreShared new.nodes.items new.seen.items
 seen_more rule from end old new adds so_far = record {
   shared = λ n node at. elim (last_or_there old.nodes.items adds.node node n (subst (λ z. slice_get z n ≡ Some node) adds.nodes at)) [
     | inl e ↦ (let (other, there, same) = so_far.shared n node e in (other, stays node.first other there, same))
@@ -164,7 +161,7 @@ caps_made rules lefts pairs old mid new t found ends nodes seen caps are keeps (
         each = subst (λ (z : Vec Node Global). AllZip (IsSideNode rules lefts mid.caps.rows.rows.items) pairs z.items) (sym nodes)
             (zip_weaker (IsSideNode rules lefts old.caps.rows.rows.items) (IsSideNode rules lefts mid.caps.rows.rows.items) pairs old.nodes.items
             (side_stays rules lefts old.caps.rows.rows.items mid.caps.rows.rows.items stay) are.each);
-        shared = subst (λ z. AreShared mid.nodes.items z) (sym seen) (subst (λ (z : Vec Node Global). AreShared z.items old.seen) (sym nodes) are.shared);
+        shared = subst (λ (z : Vec (Option ℕ) Global). AreShared mid.nodes.items z.items) (sym seen) (subst (λ (z : Vec Node Global). AreShared z.items old.seen.items) (sym nodes) are.shared);
       },
       (all, here, subst (AreEnds rules all (subterms t)) (sym grown) ended),
     )
@@ -201,7 +198,7 @@ pub record RulesSoFar (rules : List RewriteRule) (lefts : List ℕ) (k : ℕ) (n
   pub left : dependency_pairs rules ≡ pairs ++ pairs_of_each rules (drop k rules)
   pub are : AreNodes rules lefts pairs nodes
 
-pub no_rules : (rules : List RewriteRule) (lefts : List ℕ) (nodes : Nodes) → AreCaps rules lefts nodes.caps (hole ∷ []) → nodes.nodes.items ≡ [] → nodes.seen.entries ≡ [] → RulesSoFar rules lefts 0 nodes
+pub no_rules : (rules : List RewriteRule) (lefts : List ℕ) (nodes : Nodes) → AreCaps rules lefts nodes.caps (hole ∷ []) → nodes.nodes.items ≡ [] → nodes.seen.items ≡ [] → RulesSoFar rules lefts 0 nodes
 no_rules rules lefts nodes caps empty none = record {
   pairs = [];
   left = refl;
@@ -211,7 +208,7 @@ no_rules rules lefts nodes caps empty none = record {
     each = subst (AllZip (IsSideNode rules lefts nodes.caps.rows.rows.items) []) (sym empty) tt;
     shared = record {
       shared = λ n node at. absurd (let d : None ≡ Some node = subst (λ z. slice_get z n ≡ Some node) empty at in cc);
-      noted = λ r j at. absurd (let d : None ≡ Some j = sym (ap (λ es. lookup (is_at (nat_cmp r)) es) none) ∙ at in cc);
+      noted = λ r j at. absurd (let d : None ≡ Some (Some j) = subst (λ z. slice_get z r ≡ Some (Some j)) none at in cc);
     };
   };
 }

@@ -1,14 +1,12 @@
 -- The nodes of pairs, one after another.
-use Rattle.std.specs.Prelude.{◌≡◌, ◌++◌, ℕ, List, [], ◌∷◌, length, Some, slice_get}
+use Rattle.std.specs.Prelude.{◌≡◌, ◌++◌, ℕ, List, [], ◌∷◌, length, Option, Some, slice_get}
 use Rattle.std.specs.List.{AllZip}
-use Rattle.std.specs.Ordering.{nat_cmp}
-use Rattle.std.specs.BTreeMap.{BTreeMap, get}
 use Rattle.trs_defs.specs.System.{RewriteRule}
 use Rattle.trs_caps.specs.HoledTree.{HoledTree}
 use Rattle.pair_theory.specs.DependencyPair.{DependencyPair, pairs_of}
 use Rattle.dp_graph.specs.CapRows.{AreCaps}
 use Rattle.dp_graph.specs.GraphNodes.{IsSideNode}
-use Rattle.dp_graph.specs.SameLefts.{IsNotedOr, NotesAt}
+use Rattle.dp_graph.specs.SameLefts.{IsNoted, IsNotedOr, NotesAt}
 use Rattle.dp_graph.specs.declared.cap_rows.End.{End}
 use Rattle.dp_graph.specs.declared.graph.Node.{Node}
 use Rattle.dp_graph.specs.declared.nodes.Nodes.{Nodes}
@@ -30,13 +28,13 @@ pub record AddsNode (rule from : ℕ) (end : End) (old new : Nodes) : Type 0 whe
   pub nodes : new.nodes.items ≡ old.nodes.items ++ node ∷ []
   pub is : IsNodeAt old.caps.caps.items rule from end node
   pub caps : new.caps ≡ old.caps
-  pub first : IsNotedOr old.seen node.row (length old.nodes.items) node.first
-  pub notes : NotesAt node.row node.first old.seen new.seen
+  pub first : IsNotedOr old.seen.items node.row (length old.nodes.items) node.first
+  pub notes : NotesAt node.row node.first old.seen.items new.seen.items
 
 -- each node has the number of one with its row, and so have the rows that were seen
-pub record AreShared (nodes : List Node) (seen : BTreeMap ℕ ℕ) : Type 0 where
+pub record AreShared (nodes : List Node) (seen : List (Option ℕ)) : Type 0 where
   pub shared : ShareRows nodes
-  pub noted : (r j : ℕ) → get nat_cmp seen r ≡ Some j → (node : Node) × (slice_get nodes j ≡ Some node) × (node.row ≡ r)
+  pub noted : (r j : ℕ) → IsNoted seen r j → (node : Node) × (slice_get nodes j ≡ Some node) × (node.row ≡ r)
 
 -- the nodes of pairs with this rule and this root on their left sides, whose right sides have these ends, are added
 pub record AddsNodes (rule from : ℕ) (ends : List End) (old new : Nodes) : Type 0 where
@@ -44,14 +42,14 @@ pub record AddsNodes (rule from : ℕ) (ends : List End) (old new : Nodes) : Typ
   pub grown : new.nodes.items ≡ old.nodes.items ++ added
   pub each : AllZip (IsNodeAt old.caps.caps.items rule from) ends added
   pub caps : new.caps ≡ old.caps
-  pub seen : AreShared old.nodes.items old.seen → AreShared new.nodes.items new.seen
+  pub seen : AreShared old.nodes.items old.seen.items → AreShared new.nodes.items new.seen.items
 
 -- The nodes are those of these pairs, by the rules that are noted for left sides. Each has the number of one with its row.
 pub record AreNodes (rules : List RewriteRule) (lefts : List ℕ) (pairs : List DependencyPair) (nodes : Nodes) : Type 0 where
   pub caps : List HoledTree
   pub are : AreCaps rules lefts nodes.caps caps
   pub each : AllZip (IsSideNode rules lefts nodes.caps.rows.rows.items) pairs nodes.nodes.items
-  pub shared : AreShared nodes.nodes.items nodes.seen
+  pub shared : AreShared nodes.nodes.items nodes.seen.items
 
 -- the nodes of the pairs of a rule are added, if rule number j is noted for its left side
 abbrev pub AddsRule : List RewriteRule → List ℕ → RewriteRule → ℕ → Nodes → Nodes → Type 0

@@ -1,7 +1,5 @@
 -- Rules with the same left side.
-use Rattle.std.specs.Prelude.{◌≡◌, ◌⊎◌, ℕ, List, Some, length, slice_get}
-use Rattle.std.specs.Ordering.{nat_cmp}
-use Rattle.std.specs.BTreeMap.{BTreeMap, get}
+use Rattle.std.specs.Prelude.{◌≡◌, ◌⊎◌, ◌↔◌, ℕ, List, Option, Some, length, slice_get}
 use Rattle.trs_defs.specs.Tree.{Tree}
 use Rattle.trs_defs.specs.System.{RewriteRule}
 
@@ -15,10 +13,18 @@ pub record HaveSameLefts (rules : List RewriteRule) (firsts : List ℕ) : Type 0
   pub noted : (k j : ℕ) → slice_get firsts k ≡ Some j → slice_get firsts j ≡ Some j
   pub each : (k j : ℕ) (rule : RewriteRule) → slice_get firsts k ≡ Some j → slice_get rules k ≡ Some rule → HasLeft rules j rule.left
 
+-- the number is noted of the id
+abbrev pub IsNoted : List (Option ℕ) → ℕ → ℕ → Type 0
+IsNoted seen id first = slice_get seen id ≡ Some (Some first)
+
 -- the number that is noted of the id, or this one
-abbrev pub IsNotedOr : BTreeMap ℕ ℕ → ℕ → ℕ → ℕ → Type 0
-IsNotedOr seen id k first = (first ≡ k) ⊎ (get nat_cmp seen id ≡ Some first)
+abbrev pub IsNotedOr : List (Option ℕ) → ℕ → ℕ → ℕ → Type 0
+IsNotedOr seen id k first = (first ≡ k) ⊎ IsNoted seen id first
 
 -- what is noted was noted before, or is this number of the id
-abbrev pub NotesAt : ℕ → ℕ → BTreeMap ℕ ℕ → BTreeMap ℕ ℕ → Type 0
-NotesAt id first old new = (i j : ℕ) → get nat_cmp new i ≡ Some j → (get nat_cmp old i ≡ Some j) ⊎ ((i ≡ id) × (j ≡ first))
+abbrev pub NotesAt : ℕ → ℕ → List (Option ℕ) → List (Option ℕ) → Type 0
+NotesAt id first old new = (i j : ℕ) → IsNoted new i j → IsNoted old i j ⊎ ((i ≡ id) × (j ≡ first))
+
+-- the same numbers are noted
+abbrev pub NotesStay : List (Option ℕ) → List (Option ℕ) → Type 0
+NotesStay old new = (i j : ℕ) → IsNoted new i j ↔ IsNoted old i j

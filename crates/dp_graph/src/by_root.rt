@@ -17,19 +17,7 @@ pub(crate) fn push_at<T: Drop>(
     ensures others { OnOk result ((f : ℕ) → (f ≡ root → ⊥) →
         items_at by_root.new f ≡ items_at by_root.old f) }
 {
-    let mut items = take_at(alloc, by_root, root);
+    let items = by_root.entry(root)?.or_insert(Vec::new(alloc));
     items.push(item)?;
-    by_root.insert(root, items)?;
     Ok(())
-}
-
-/// Takes out the items at a root.
-fn take_at<T: Drop>(alloc: Global, by_root: &mut BTreeMap<u32, Vec<T>>, root: u32) -> Vec<T>
-    ensures taken { result.items ≡ items_at by_root.old root }
-    ensures others { (f : ℕ) → (f ≡ root → ⊥) → items_at by_root.new f ≡ items_at by_root.old f }
-{
-    match by_root.remove(&root) {
-        Some(items) => items,
-        None => Vec::new(alloc),
-    }
 }

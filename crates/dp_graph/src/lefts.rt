@@ -1,9 +1,8 @@
 //! Rules with the same left side.
-ghost use Rattle.std.specs.Prelude.{IfOk};
-ghost use Rattle.dp_graph.specs.SameLefts.{HaveSameLefts, IsNotedOr, NotesAt};
+ghost use Rattle.std.specs.Prelude.{◌<◌, IfOk, OnOk, length};
+ghost use Rattle.dp_graph.specs.SameLefts.{HaveSameLefts, IsNotedOr, NotesAt, NotesStay};
 
 use std::alloc::Global;
-use std::collections::BTreeMap;
 use term_pool::Pool;
 use trs_core::{OutOfMemory, Rule};
 
@@ -12,7 +11,7 @@ pub(crate) fn first_with_left(alloc: Global, rules: &[Rule]) -> Result<Vec<usize
     ensures { IfOk result (λ firsts. HaveSameLefts rules.now firsts.items) }
 {
     let mut pool = Pool::new(alloc);
-    let mut seen = BTreeMap::new(alloc);
+    let mut seen = Vec::new(alloc);
     let mut firsts = Vec::with_capacity(alloc, rules.len())?;
     for (k, rule) in rules.iter().enumerate() {
         let id = pool.intern(alloc, &rule.left)?;
@@ -21,18 +20,32 @@ pub(crate) fn first_with_left(alloc: Global, rules: &[Rule]) -> Result<Vec<usize
     Ok(firsts)
 }
 
-/// The number that is noted of an id, or else this one, which is noted then.
+/// The number that is noted of an id, or else this one, which is noted then. There is room for a
+/// number of each id up to the largest one.
 pub(crate) fn noted_or(
-    seen: &mut BTreeMap<u32, usize>,
+    seen: &mut Vec<Option<usize>>,
     id: u32,
     k: usize,
 ) -> Result<usize, OutOfMemory>
-    ensures number { IfOk result (IsNotedOr seen.old id k) }
-    ensures notes { IfOk result (λ first. NotesAt id first seen.old seen.new) }
+    ensures number { IfOk result (IsNotedOr seen.old.items id k) }
+    ensures notes { IfOk result (λ first. NotesAt id first seen.old.items seen.new.items) }
 {
-    if let Some(first) = seen.get(&id) {
-        return Ok(*first);
+    let place = id as usize;
+    make_room(seen, place)?;
+    if let Some(first) = seen[place] {
+        return Ok(first);
     }
-    seen.insert(id, k)?;
+    seen[place] = Some(k);
     Ok(k)
+}
+
+/// Makes room for a number at a place.
+fn make_room(seen: &mut Vec<Option<usize>>, place: usize) -> Result<(), OutOfMemory>
+    ensures room { OnOk result (place < length seen.new.items) }
+    ensures notes { OnOk result (NotesStay seen.old.items seen.new.items) }
+{
+    while seen.len() <= place {
+        seen.push(None)?;
+    }
+    Ok(())
 }

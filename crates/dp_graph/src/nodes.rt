@@ -8,7 +8,6 @@ use crate::cap_rows::{CapRows, End};
 use crate::graph::Node;
 use crate::lefts::noted_or;
 use std::alloc::Global;
-use std::collections::BTreeMap;
 use term_pool::RulesByRoot;
 use trs_core::{OutOfMemory, Rule, Term};
 
@@ -18,7 +17,7 @@ pub(crate) struct Nodes {
     pub(crate) nodes: Vec<Node>,
     pub(crate) caps: CapRows,
     /// By the numbers of rows the first pair with each.
-    seen: BTreeMap<u32, usize>,
+    seen: Vec<Option<usize>>,
 }
 
 impl Nodes {
@@ -36,7 +35,7 @@ impl Nodes {
         let mut nodes = Nodes {
             nodes: Vec::with_capacity(alloc, room)?,
             caps: CapRows::new(alloc)?,
-            seen: BTreeMap::new(alloc),
+            seen: Vec::new(alloc),
         };
         for (k, rule) in by_root.rules().iter().enumerate() {
             nodes.add_rule(alloc, by_root, lefts, rule, lefts[k])?;

@@ -7,13 +7,13 @@ use Rattle.dp_graph.proofs.lefts.first_with_left.Goals as goal
 pub loop-k-init : goal.loop-k-init
 loop-k-init c = record {
   low = omega arith;
-  same = no_lefts c.args.rules.now c.new-pool.result c.new-seen.result c.in_ok-firsts.firsts.items c.new-seen.ensures.empty c.in_ok-firsts.ensures.items;
+  same = no_lefts c.args.rules.now c.new-pool.result c.new-seen.result.items c.in_ok-firsts.firsts.items c.new-seen.ensures.items c.in_ok-firsts.ensures.items;
 }
 
 pub loop-k-preserved : goal.loop-k-preserved
 loop-k-preserved c = record {
   low = omega (arith, c.loop-k-test.true);
-  same = one_more_left c.args.rules.now c.loop-k.pool c.intern.new.self c.loop-k.seen c.noted_or.new.seen c.loop-k.firsts.items c.push.new.self.items c.loop-k.k c.in_ok-id.id c.in_ok-noted_or.field-0 c.index-rules-k.result
+  same = one_more_left c.args.rules.now c.loop-k.pool c.intern.new.self c.loop-k.seen.items c.noted_or.new.seen.items c.loop-k.firsts.items c.push.new.self.items c.loop-k.k c.in_ok-id.id c.in_ok-noted_or.field-0 c.index-rules-k.result
       c.loop-k.invariant.same (slice_get_read c.args.rules.now (length c.args.rules.now) c.loop-k.k c.index-rules-k.result refl c.loop-k-test.true c.index-rules-k.is) c.in_ok-id.ensures.kept
       (rw (ap (λ (r : RewriteRule). r.left) c.rule.view_is) at c.in_ok-id.ensures.id) c.in_ok-noted_or.ensures.number c.in_ok-noted_or.ensures.notes c.in_ok-push.ensures.items;
 }
@@ -21,4 +21,4 @@ loop-k-preserved c = record {
 pub returns : goal.returns
 returns c =
     let low = c.loop-k.invariant.low in
-    all_lefts c.args.rules.now c.loop-k.pool c.loop-k.seen c.loop-k.firsts.items c.loop-k.k c.loop-k.invariant.same (omega (arith, low, c.loop-k-test.false))
+    all_lefts c.args.rules.now c.loop-k.pool c.loop-k.seen.items c.loop-k.firsts.items c.loop-k.k c.loop-k.invariant.same (omega (arith, low, c.loop-k-test.false))

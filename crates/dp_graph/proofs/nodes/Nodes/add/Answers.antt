@@ -8,6 +8,6 @@ returns c = record {
   nodes = c.in_ok-push.ensures.items;
   is = record { rule_is = refl; from_is = refl; to_is = refl; row_is = c.row_number-row.ensures };
   caps = refl;
-  first = subst (λ n. IsNotedOr c.args.self.now.seen c.row_number-row.result n c.in_ok-first.first) (c.len.ensures ∙ c.args.self.now.nodes.ok.0) c.in_ok-first.ensures.number;
+  first = subst (λ n. IsNotedOr c.args.self.now.seen.items c.row_number-row.result n c.in_ok-first.first) (c.len.ensures ∙ c.args.self.now.nodes.ok.0) c.in_ok-first.ensures.number;
   notes = c.in_ok-first.ensures.notes;
 }
