@@ -4,8 +4,7 @@ use Rattle.std.specs.declared.alloc.Global.{Global}
 use Rattle.std.specs.List.Sorted.{IsStrictlyIncreasing}
 use Rattle.std.proofs.Common.{zero, suc, inl, inr, sym, ap, subst, arith, ◌∙◌, add-one, append_assoc}
 use Rattle.std.proofs.lemmas.List.{append-nil}
-use Rattle.std.proofs.lemmas.List.Kept.{AllPairs-from_increasing}
-use Rattle.std.proofs.lemmas.Option.{get_or_from_slice_get, same_Some, slice_get_within}
+use Rattle.std.proofs.lemmas.Option.{same_Some, slice_get_within}
 use Rattle.std.proofs.lemmas.Bool.{eqb-true, eq-eqb}
 use native.Mathlib.Decide.{dec_lt, ℕ_discrete}
 use Rattle.trs_defs.specs.Member.{In, in_first, in_rest}
@@ -26,7 +25,7 @@ use Rattle.dp_graph.specs.Components.{IsEdgeWithin, LiesOnCycle, IsComponent, Is
 use Rattle.dp_graph.specs.PutOut.{led_by, IsBlocked, IsUndoneLeader, IsNextReady, IsItemOf, Finishes, ArePutOut, all_done, put_out, PutsOut, AreItemsOf, no_leaders, a_pair, a_rule}
 use Rattle.dp_graph.proofs.EachOfList.{each_passes}
 use Rattle.dp_graph.proofs.UnnamedPairs.{both_new}
-use Rattle.dp_graph.proofs.ListPlaces.{set_at, unset_there, at_repeat, in_repeat, length_repeat}
+use Rattle.dp_graph.proofs.ListPlaces.{set_at, unset_there, at_repeat, in_repeat, length_repeat, lesser_of, same_place}
 use Rattle.dp_graph.proofs.RowLaws.{starts_behind}
 use Rattle.dp_graph.proofs.PutOutLaws.{leads_itself, one_leader, led_mutual, DoneTogether, still_together, together_at_first}
 
@@ -35,13 +34,6 @@ use Rattle.dp_graph.proofs.PutOutLaws.{leads_itself, one_leader, led_mutual, Don
 pub data Ascends : List ℕ → Type 0 where
   no_numbers : Ascends []
   number : {n : ℕ} {ns : List ℕ} → ((m : ℕ) → In m ns → n < m) → Ascends ns → Ascends (n ∷ ns)
-
-lesser_of : (numbers : List ℕ) → IsStrictlyIncreasing numbers → (i j m n : ℕ) → i < j → slice_get numbers i ≡ Some m → slice_get numbers j ≡ Some n → m < n
-lesser_of numbers up i j m n lt e d =
-    let h = AllPairs-from_increasing numbers up i j 0 lt (slice_get_within numbers j n d) in
-    let a = get_or_from_slice_get numbers i m 0 e in
-    let b = get_or_from_slice_get numbers j n 0 d in
-    omega (arith, h, a, b)
 
 pub ascends_by : (numbers : List ℕ) → ((i j m n : ℕ) → i < j → slice_get numbers i ≡ Some m → slice_get numbers j ≡ Some n → m < n) → Ascends numbers
 ascends_by [] h = no_numbers
@@ -132,12 +124,6 @@ module _ (rules : List RewriteRule) (all : List DependencyPair) (numbers : List 
   abbrev pairs : ℕ
   pairs = length numbers
 
-  place_once : (i j m : ℕ) → slice_get numbers i ≡ Some m → slice_get numbers j ≡ Some m → i ≡ j
-  place_once i j m e d = elim (dec_lt i j) [
-    | yes lt ↦ absurd (let h = lesser_of numbers up i j m m lt e d in omega (arith, h))
-    | no ge ↦ elim (dec_lt j i) [ yes lt ↦ absurd (let h = lesser_of numbers up j i m m lt d e in omega (arith, h)) | no le ↦ omega (arith, ge, le) ]
-  ]
-
   -- steps lead from pairs to places behind them, and from there to lesser places
   to_other : (i j : ℕ) → Follows rows i j → i < pairs → pairs ≤ j × j < length leaders
   to_other i j f lt = elim (are_rows.between i j f) [
@@ -193,7 +179,7 @@ module _ (rules : List RewriteRule) (all : List DependencyPair) (numbers : List 
     ]
 
   run_down : {m n : ℕ} → Run Edge m n → (i j : ℕ) → slice_get numbers i ≡ Some m → slice_get numbers j ≡ Some n → Run (Follows rows) i j
-  run_down (Stay {s = m}) i j e d = subst (Run (Follows rows) i) (place_once i j m e d) Stay
+  run_down (Stay {s = m}) i j e d = subst (Run (Follows rows) i) (same_place numbers up i j m e d) Stay
   run_down (Go {s = m} {m = k} step run) i j e d =
       let at = get_of_in step.1 in
       let (lt, (r, first, on)) = step_down i at.0 m k step e at.1 in
@@ -406,7 +392,7 @@ module _ (rules : List RewriteRule) (all : List DependencyPair) (numbers : List 
           let n = number_of w (ends_at_pair by.1.2) in
           let i = (covers done order items passed out of_order m.0).1 (a, m.1, undone) in
           let (b, e, d) = in_item u x own of m.0 (free m.0 n.0 i (item_in u x of n.0 w n.1 led_w) (step_up a w m.0 n.0 by m.1 n.1)) in
-          subst (λ z. slice_get leaders z ≡ Some u) (place_once b a m.0 e m.1) d
+          subst (λ z. slice_get leaders z ≡ Some u) (same_place numbers up b a m.0 e m.1) d
 
       -- a run from a pair to a place behind the pairs has a last pair
       abbrev LastPair : ℕ → ℕ → Type 0
@@ -566,7 +552,7 @@ module _ (rules : List RewriteRule) (all : List DependencyPair) (numbers : List 
         | inl k ↦ apart n (in_right (members_of item) i) k
         | inr k ↦ (let (w, e, d) = in_item v item ready.0.0 is n k in
             let (a, at, undone) = (covers new vs items after rest more n).0 i in
-            let same : a ≡ w = place_once a w n at e in
+            let same : a ≡ w = same_place numbers up a w n at e in
             false_true new a undone (subst (λ z. slice_get new z ≡ Some true) (sym same) (finishes.led w d)))
       ]))
 

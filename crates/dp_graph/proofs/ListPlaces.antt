@@ -1,9 +1,12 @@
 -- Items of lists by their places: read, set, and put behind others.
 use Rattle.std.specs.Prelude.{◌≡◌, ◌<◌, ◌≤◌, ◌⊎◌, ℕ, ◌+◌, Bool, true, false, List, [], ◌∷◌, ◌++◌, length, replicate, get_or, All, Some, None, Vec, slice_get, slice_set, refl}
 use Rattle.std.specs.declared.alloc.Global.{Global}
+use Rattle.std.specs.List.{Contains}
+use Rattle.std.specs.List.Sorted.{IsStrictlyIncreasing}
 use Rattle.std.proofs.Common.{zero, suc, inl, inr, sym, ap, subst, arith, ◌∙◌, length-append}
-use Rattle.std.proofs.lemmas.Option.{slice_get-get_or, get_or_from_slice_get, same_Some, slice_get_within}
-use native.Mathlib.Decide.{ℕ_discrete}
+use Rattle.std.proofs.lemmas.List.Kept.{AllPairs-from_increasing}
+use Rattle.std.proofs.lemmas.Option.{slice_get-get_or, slice_get_read, get_or_from_slice_get, same_Some, slice_get_within}
+use native.Mathlib.Decide.{dec_lt, ℕ_discrete}
 use Rattle.trs_defs.specs.Member.{In}
 use Rattle.trs_defs.proofs.Members.{in_or, no_in, get_of_in, in_of_get}
 use Rattle.dp_graph.specs.GraphConditions.{lists_of}
@@ -107,6 +110,34 @@ pub at_repeat : {A : Type 0} (n k : ℕ) (x : A) → k < n → slice_get (replic
 at_repeat zero k x h = absurd (omega (arith, h))
 at_repeat (suc n) zero x h = refl
 at_repeat (suc n) (suc k) x h = at_repeat n k x (omega (arith, h))
+
+-- ---- numbers that ascend
+
+pub lesser_of : (numbers : List ℕ) → IsStrictlyIncreasing numbers → (i j m n : ℕ) → i < j → slice_get numbers i ≡ Some m → slice_get numbers j ≡ Some n → m < n
+lesser_of numbers up i j m n lt e d =
+    let h = AllPairs-from_increasing numbers up i j 0 lt (slice_get_within numbers j n d) in
+    let a = get_or_from_slice_get numbers i m 0 e in
+    let b = get_or_from_slice_get numbers j n 0 d in
+    omega (arith, h, a, b)
+
+-- a number stands at one place
+pub same_place : (numbers : List ℕ) → IsStrictlyIncreasing numbers → (i j n : ℕ) → slice_get numbers i ≡ Some n → slice_get numbers j ≡ Some n → i ≡ j
+same_place numbers up i j n e d = elim (dec_lt i j) [
+  | yes below ↦ absurd (let h = lesser_of numbers up i j n n below e d in omega (arith, h))
+  | no not_below ↦ elim (dec_lt j i) [ yes above ↦ absurd (let h = lesser_of numbers up j i n n above d e in omega (arith, h)) | no not_above ↦ omega (arith, not_below, not_above) ]
+]
+
+pub never_falls : (numbers : List ℕ) → IsStrictlyIncreasing numbers → (i j : ℕ) → i ≤ j → j < length numbers → get_or numbers i 0 ≤ get_or numbers j 0
+never_falls numbers up i j le lt = elim (dec_lt i j) [
+  | yes below ↦ (let h = AllPairs-from_increasing numbers up i j 0 below lt in omega (arith, h))
+  | no not_below ↦ (let same : i ≡ j = omega (arith, le, not_below) in subst (λ z. get_or numbers i 0 ≤ get_or numbers z 0) same (omega arith))
+]
+
+pub contained_in : (xs : List ℕ) (x : ℕ) → In x xs → Contains xs x
+contained_in xs x i = let (k, at) = get_of_in i in (k, slice_get_within xs k x at, get_or_from_slice_get xs k x x at)
+
+pub in_contained : (xs : List ℕ) (x : ℕ) → Contains xs x → In x xs
+in_contained xs x (k, lt, e) = in_of_get xs k x (slice_get_read xs (length xs) k x refl lt (sym e))
 
 -- ---- lists of lists
 

@@ -1,13 +1,20 @@
--- Pairs of a problem are named one after another, and the set of those that are not is kept.
-use Rattle.std.specs.Prelude.{◌≡◌, ◌<◌, ◌≤◌, ℕ, ◌+◌, true, false, List, [], ◌∷◌, ◌++◌, take, drop, length, get_or, IsTrue, Result, Ok, Err}
-use Rattle.std.specs.Ordering.{nat_cmp, is_gt}
-use Rattle.std.specs.BTreeSet.{BTreeSet, contains}
+-- Pairs of a problem are named one after another, and it is kept which are not.
+use Rattle.std.specs.Prelude.{◌≡◌, ◌<◌, ◌≤◌, ◌↔◌, ◌==◌, ℕ, ◌+◌, Bool, true, false, not, List, [], ◌∷◌, ◌++◌, take, drop, length, replicate, get_or, Some, None, IfOk, IfNone, IfSome, IsTrue, Result, Ok, Err, Vec, slice_get, slice_set, refl}
+use Rattle.std.specs.declared.alloc.Global.{Global}
+use Rattle.std.specs.declared.cmp.Ordering.TheVariants.{Equal}
+use Rattle.std.specs.List.{Contains, HoldsAt}
+use Rattle.std.specs.List.Sorted.{IsStrictlyIncreasing, IsSearchInRange, IsBinarySearchResult}
+use Rattle.std.specs.Ordering.{nat_cmp}
+use Rattle.std.specs.Result.{result_ok}
 use Rattle.std.proofs.Common.{inl, inr, sym, ap, subst, arith, ◌∙◌, append_assoc}
 use Rattle.std.proofs.lemmas.List.{append-nil, take_all, drop_all}
-use Rattle.std.proofs.lemmas.Map.Keys.{le_from_not_gt}
-use native.Mathlib.Decide.{ℕ_discrete}
+use Rattle.std.proofs.lemmas.Bool.Decides.{Decides-eqb}
+use Rattle.std.proofs.lemmas.List.Sorted.{searched}
+use Rattle.std.proofs.lemmas.Map.Lookups.{exact_unsigned}
+use Rattle.std.proofs.lemmas.Option.{same_Some, slice_get_read, slice_get_within, get_or_from_slice_get}
+use native.Mathlib.Decide.{dec_lt}
 use Rattle.trs_defs.specs.Member.{In, in_first}
-use Rattle.trs_defs.proofs.Members.{in_or, no_in, in_left, in_right, in_either}
+use Rattle.trs_defs.proofs.Members.{in_or, no_in, in_left, in_right, in_either, get_of_in, in_of_get}
 use Rattle.rewrite_core.specs.declared.checks.refusals.StepRefused.{StepRefused}
 use Rattle.rewrite_core.specs.declared.checks.refusals.StepRefused.TheVariants.{Member, Missing}
 use Rattle.rewrite_core.specs.declared.checks.refusals.CheckFault.{CheckFault}
@@ -15,55 +22,124 @@ use Rattle.rewrite_core.specs.declared.checks.refusals.CheckFault.TheVariants.{R
 use Rattle.rewrite_core.specs.Check.{Refuses, holds, lacks, never, least, returned, stops, goes_on}
 use Rattle.dp_core.proofs.Collecting.{next_read}
 use Rattle.dp_graph.specs.declared.items.GraphItem.{GraphItem}
+use Rattle.dp_graph.specs.declared.unnamed.Unnamed.{Unnamed}
 use Rattle.dp_graph.specs.GroupOrSingle.{item_of, items_of, members_of, all_members}
 use Rattle.dp_graph.specs.GraphConditions.{are_new, are_members, none_is_missing}
-use Rattle.dp_graph.specs.Unnamed.{AreUnnamed}
-use Rattle.dp_graph.specs.Waiting.{Sets}
-use Rattle.dp_graph.proofs.Sets.{at_number, at_others, true_is_not_false, none_in_empty}
+use Rattle.dp_graph.specs.Unnamed.{IsUnnamedAt, AreUnnamed}
 use Rattle.dp_graph.proofs.ItemLists.{one_taken}
+use Rattle.dp_graph.proofs.ListPlaces.{set_here, set_elsewhere, not_both, at_repeat, lesser_of, same_place, never_falls, contained_in, in_contained}
 
-pub nothing_left : (set : BTreeSet ℕ) → set.keys ≡ [] → AreUnnamed [] [] set
-nothing_left set e n = (λ h. absurd (none_in_empty set n e h), λ h. absurd (no_in h.0))
+-- ---- the pairs that are not named
 
-module _ (old new : BTreeSet ℕ) (n : ℕ) where
-  -- one number of the problem more
-  pub one_number_more : (numbers more : List ℕ) → more ≡ numbers ++ n ∷ [] → Sets old new n true → AreUnnamed numbers [] old → AreUnnamed more [] new
-  one_number_more numbers more grown sets are m = elim (ℕ_discrete m n) [
-    | yes e ↦ (
-      λ h. (subst (In m) (sym grown) (in_right numbers (subst (λ z. In m (z ∷ [])) e in_first)), λ i. no_in i),
-      λ h. subst (λ z. IsTrue (contains nat_cmp new z)) (sym e) (at_number old new n true sets),
-    )
-    | no other ↦ (
-      λ h. let k = (are m).0 (sym (at_others old new n true sets m other) ∙ h) in (subst (In m) (sym grown) (in_left (n ∷ []) k.0), λ i. no_in i),
-      λ h. at_others old new n true sets m other ∙ (are m).1 (
-        elim (in_either numbers (n ∷ []) (subst (In m) grown h.0)) [
-          | inl i ↦ i
-          | inr i ↦ elim (in_or i) [ inl e ↦ absurd (other e) | inr j ↦ absurd (no_in j) ]
-        ],
-        λ i. no_in i,
-      ),
-    )
-  ]
+pub none_is_named : (numbers : List ℕ) (pairs : Unnamed) → IsStrictlyIncreasing pairs.numbers.items → ((n : ℕ) → Contains numbers n → Contains pairs.numbers.items n)
+    → ((n : ℕ) → Contains pairs.numbers.items n → Contains numbers n) → pairs.named.items ≡ replicate (length pairs.numbers.items) false → AreUnnamed numbers [] pairs
+none_is_named numbers pairs up keeps adds_none unset = record {
+  ascending = up;
+  exact = λ n. (
+    λ (k, (at, flag)). (in_contained numbers n (adds_none n (contained_in pairs.numbers.items n (in_of_get pairs.numbers.items k n at))), λ i. no_in i),
+    λ wanted.
+        let (k, at) = get_of_in (in_contained pairs.numbers.items n (keeps n (contained_in numbers n wanted.0))) in (
+          k,
+          (at, subst (λ z. slice_get z k ≡ Some false) (sym unset) (at_repeat (length pairs.numbers.items) k false (slice_get_within pairs.numbers.items k n at))),
+        ),
+  );
+}
 
-  -- one number less, that is named
-  pub one_named : (numbers named more : List ℕ) → more ≡ named ++ n ∷ [] → Sets old new n false → AreUnnamed numbers named old → AreUnnamed numbers more new
-  one_named numbers named more grown sets are m = elim (ℕ_discrete m n) [
-    | yes e ↦ (
-      λ h. absurd (true_is_not_false (contains nat_cmp new m) h (subst (λ z. contains nat_cmp new z ≡ false) (sym e) (at_number old new n false sets))),
-      λ h. absurd (h.1 (subst (In m) (sym grown) (in_right named (subst (λ z. In m (z ∷ [])) e in_first)))),
-    )
-    | no other ↦ (
-      λ h.
-          let k = (are m).0 (sym (at_others old new n false sets m other) ∙ h) in (
-            k.0,
-            λ i. elim (in_either named (n ∷ []) (subst (In m) grown i)) [
-              | inl j ↦ k.1 j
-              | inr j ↦ elim (in_or j) [ inl e ↦ other e | inr l ↦ no_in l ]
+module _ (numbers named : List ℕ) (pairs : Unnamed) (are : AreUnnamed numbers named pairs) where
+  pub not_there : (n : ℕ) → (In n pairs.numbers.items → ⊥) → In n numbers × (In n named → ⊥) → ⊥
+  not_there n none wanted = let (k, (at, flag)) = (are.exact n).1 wanted in none (in_of_get pairs.numbers.items k n at)
+
+  pub named_before : (n k : ℕ) → slice_get pairs.numbers.items k ≡ Some n → (slice_get pairs.named.items k ≡ Some false → ⊥) → In n numbers × (In n named → ⊥) → ⊥
+  named_before n k at set wanted =
+      let (j, (there, flag)) = (are.exact n).1 wanted in
+      set (subst (λ z. slice_get pairs.named.items z ≡ Some false) (same_place pairs.numbers.items are.ascending j k n there at) flag)
+
+  -- one pair less, that is named
+  pub one_named : (new : Unnamed) (n k : ℕ) → IsUnnamedAt pairs n k → new.numbers ≡ pairs.numbers → new.named.items ≡ slice_set pairs.named.items k true → AreUnnamed numbers (named ++ n ∷ []) new
+  one_named new n k (at, free) same set = record {
+    ascending = subst (λ (z : Vec ℕ Global). IsStrictlyIncreasing z.items) (sym same) are.ascending;
+    exact = λ m. (
+      λ (j, (there, flag)).
+          let here : slice_get pairs.numbers.items j ≡ Some m = subst (λ (z : Vec ℕ Global). slice_get z.items j ≡ Some m) same there in
+          let other : j ≡ k → ⊥ = (λ e. set_now (subst (λ z. slice_get new.named.items z ≡ Some false) e flag)) in
+          let was = (are.exact m).0 (j, (here, sym (set_elsewhere pairs.named.items k j true other) ∙ subst (λ z. slice_get z j ≡ Some false) set flag)) in (
+            was.0,
+            λ i. elim (in_either named (n ∷ []) i) [
+              | inl old ↦ was.1 old
+              | inr last ↦ elim (in_or last) [
+                | inl e ↦ other (same_place pairs.numbers.items are.ascending j k n (subst (λ z. slice_get pairs.numbers.items j ≡ Some z) e here) at)
+                | inr none ↦ no_in none
+              ]
             ],
           ),
-      λ h. at_others old new n false sets m other ∙ (are m).1 (h.0, λ i. h.1 (subst (In m) (sym grown) (in_left (n ∷ []) i))),
-    )
-  ]
+      λ wanted.
+          let (j, (there, flag)) = (are.exact m).1 (wanted.0, λ i. wanted.1 (in_left (n ∷ []) i)) in
+          let same_number : j ≡ k → n ≡ m = (λ e. same_Some n m (sym at ∙ subst (λ z. slice_get pairs.numbers.items z ≡ Some m) e there)) in
+          let other : j ≡ k → ⊥ = (λ e. wanted.1 (in_right named (subst (λ z. In z (n ∷ [])) (same_number e) in_first))) in (
+            j,
+            (
+              subst (λ (z : Vec ℕ Global). slice_get z.items j ≡ Some m) (sym same) there,
+              subst (λ z. slice_get z j ≡ Some false) (sym set) (set_elsewhere pairs.named.items k j true other ∙ flag),
+            ),
+          ),
+    );
+  }
+    where
+      set_now : slice_get new.named.items k ≡ Some false → ⊥
+      set_now e =
+          not_both (slice_set pairs.named.items k true) k (set_here pairs.named.items k true (slice_get_within pairs.named.items k false free))
+          (subst (λ z. slice_get z k ≡ Some false) set e)
+
+  -- the first pair that is not named is the least
+  pub first_is_least : (n k : ℕ) → IsUnnamedAt pairs n k → ((j : ℕ) → j < k → slice_get pairs.named.items j ≡ Some false → ⊥) → none_is_missing numbers named (Err (Missing n))
+  first_is_least n k (at, free) before =
+      least n ((are.exact n).0 (k, (at, free))) (λ m lt wanted.
+      let (j, (there, flag)) = (are.exact m).1 wanted in
+      elim (dec_lt j k) [
+        | yes below ↦ before j below flag
+        | no not_below ↦ elim (dec_lt k j) [
+          | yes above ↦ (let h = lesser_of pairs.numbers.items are.ascending k j n m above at there in omega (arith, lt, h))
+          | no not_above ↦
+              let same : k ≡ j = omega (arith, not_below, not_above) in
+              let e : n ≡ m = same_Some n m (sym at ∙ subst (λ z. slice_get pairs.numbers.items z ≡ Some m) (sym same) there) in
+              omega (arith, lt, e)
+        ]
+      ])
+
+  pub none_is_left : (i : ℕ) → length pairs.numbers.items ≤ i → ((j : ℕ) → j < i → slice_get pairs.named.items j ≡ Some false → ⊥) → none_is_missing numbers named (Ok tt)
+  none_is_left i ge before = never (λ n wanted.
+      let (j, (at, flag)) = (are.exact n).1 wanted in
+      let within = slice_get_within pairs.numbers.items j n at in
+      before j (omega (arith, within, ge)) flag)
+
+-- ---- what is read at places
+
+pub number_read : (xs : List ℕ) (i m n : ℕ) (b : Bool) → slice_get xs i ≡ Some m → b ≡ (m == n) → IsTrue b → slice_get xs i ≡ Some n
+number_read xs i m n b at is yes_ = at ∙ ap (λ z. Some z) ((Decides-eqb m n).0 (sym is ∙ yes_))
+
+pub unset_read : (flags : List Bool) (i : ℕ) (b : Bool) → slice_get flags i ≡ Some b → IsTrue (not b) ↔ (slice_get flags i ≡ Some false)
+unset_read flags i true at = (λ e. absurd cc, λ h. absurd (not_both flags i at h))
+unset_read flags i false at = (λ _. at, λ _. refl)
+
+pub unset_missing : (flags : List Bool) (i : ℕ) → slice_get flags i ≡ None → IsTrue false ↔ (slice_get flags i ≡ Some false)
+unset_missing flags i none = (λ e. absurd cc, λ h. let d : None ≡ Some false = sym none ∙ h in absurd cc)
+
+-- ---- the place of a pair
+
+pub place_found : (xs : List ℕ) (n : ℕ) (r : Result ℕ ℕ) → IsSearchInRange r (length xs) → IfOk r (HoldsAt (λ y. nat_cmp y n ≡ Equal) xs) → IfSome (result_ok r) (λ k. slice_get xs k ≡ Some n)
+place_found xs n (Ok k) range is = slice_get_read xs (length xs) k n refl range (sym (exact_unsigned (get_or xs k n) n (is n)))
+place_found xs n (Err k) range is = tt
+
+pub none_found : (xs : List ℕ) (n : ℕ) (r : Result ℕ ℕ) → IsBinarySearchResult (λ y. nat_cmp y n) xs r → IfNone (result_ok r) (IsStrictlyIncreasing xs → In n xs → ⊥)
+none_found xs n (Ok k) is = tt
+none_found xs n (Err i) is = λ up listed.
+    let (k, at) = get_of_in listed in
+    let lt = slice_get_within xs k n at in
+    let same = get_or_from_slice_get xs k n 0 at in
+    let (within, below, above) = searched xs n (Err i) is (never_falls xs up) in
+    elim (dec_lt k i) [ yes before ↦ (let h = below k before in omega (arith, h, same)) | no behind ↦ (let h = above k (omega (arith, behind)) lt in omega (arith, h, same)) ]
+
+-- ---- members
 
 -- the members before number i passed: the whole is answered as the rest is
 abbrev pub NamedSoFar : List ℕ → List ℕ → List ℕ → ℕ → Type 0
@@ -141,16 +217,6 @@ pub items_named : (numbers : List ℕ) (items : List GraphItem) (i : ℕ) → le
 items_named numbers items i ge before =
     before (Ok tt) (subst (λ z. are_new numbers (all_members (items_of (take i items))) (all_members (items_of z)) (Ok tt)) (sym (drop_all i items ge)) returned)
 
-pub all_items_left : (numbers : List ℕ) (items : List GraphItem) (i : ℕ) (set : BTreeSet ℕ) → length items ≤ i → AreUnnamed numbers (all_members (items_of (take i items))) set
-    → AreUnnamed numbers (all_members (items_of items)) set
-all_items_left numbers items i set ge are = subst (λ z. AreUnnamed numbers (all_members (items_of z)) set) (take_all i items ge) are
-
--- ---- what is left
-
-pub least_left : (numbers members : List ℕ) (set : BTreeSet ℕ) (n : ℕ) → IsTrue (contains nat_cmp set n) → ((q : ℕ) → IsTrue (contains nat_cmp set q) → is_gt (nat_cmp n q) ≡ false)
-    → AreUnnamed numbers members set → none_is_missing numbers members (Err (Missing n))
-least_left numbers members set n there low are =
-    least n ((are n).0 there) (λ m lt h. let k = le_from_not_gt n m (low m ((are m).1 h)) in omega (arith, lt, k))
-
-pub none_is_left : (numbers members : List ℕ) (set : BTreeSet ℕ) → set.keys ≡ [] → AreUnnamed numbers members set → none_is_missing numbers members (Ok tt)
-none_is_left numbers members set empty are = never (λ n h. none_in_empty set n empty ((are n).1 h))
+pub all_items_left : (numbers : List ℕ) (items : List GraphItem) (i : ℕ) (pairs : Unnamed) → length items ≤ i → AreUnnamed numbers (all_members (items_of (take i items))) pairs
+    → AreUnnamed numbers (all_members (items_of items)) pairs
+all_items_left numbers items i pairs ge are = subst (λ z. AreUnnamed numbers (all_members (items_of z)) pairs) (take_all i items ge) are

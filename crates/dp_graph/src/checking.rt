@@ -5,9 +5,10 @@ ghost use Rattle.dp_core.specs.PlacedPairs.{placed_pairs};
 ghost use Rattle.dp_graph.specs.GroupOrSingle.{items_of};
 ghost use Rattle.dp_graph.specs.GraphConditions.{graph_conditions, lists_of};
 
-use crate::naming::{list_unnamed, name_all, none_left};
+use crate::naming::{name_all, none_left};
 use crate::onward::onward_check;
 use crate::singles::{groups, singles_check};
+use crate::unnamed::Unnamed;
 use crate::{GraphItem, PairGraph};
 use dp_core::DpPair;
 use rewrite_core::CheckFault;
@@ -44,7 +45,7 @@ impl<'a> PairGraph<'a> {
             (graph_conditions self.now.rules (dependency_pairs self.now.rules) problem.now
             (items_of items.now)) result }
     {
-        let mut left = list_unnamed(alloc, problem)?;
+        let mut left = Unnamed::new(alloc, problem)?;
         name_all(&mut left, items)?;
         none_left(&left)?;
         onward_check(alloc, self, items)?;

@@ -26,6 +26,7 @@ mod places;
 mod reversed;
 mod rows;
 mod singles;
+mod unnamed;
 mod waiting;
 
 pub use checking::group_check;
