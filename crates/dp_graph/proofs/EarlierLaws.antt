@@ -1,10 +1,9 @@
 -- The pairs of earlier items: what is answered of those that are kept is answered of all.
-use Rattle.std.specs.Prelude.{◌≡◌, ◌≤◌, ℕ, Bool, true, false, not, List, [], ◌∷◌, ◌++◌, length, Option, Some, None, Vec, Result, Ok, Err, IsTrue, slice_get, refl}
+use Rattle.std.specs.Prelude.{◌≡◌, ◌≤◌, ◌↔◌, ◌⊎◌, ℕ, List, [], ◌∷◌, ◌++◌, length, Option, Some, None, Vec, Result, Ok, Err, slice_get}
 use Rattle.std.specs.declared.alloc.Global.{Global}
 use Rattle.std.specs.Ordering.{nat_cmp}
 use Rattle.std.specs.BTreeMap.{BTreeMap, get, is_at}
 use Rattle.std.specs.Map.{lookup}
-use Rattle.std.specs.BTreeSet.{contains}
 use Rattle.std.proofs.Common.{inl, inr, sym, ap, subst, ◌∙◌}
 use Rattle.std.proofs.lemmas.Option.{same_Some}
 use native.Mathlib.Decide.{ℕ_discrete}
@@ -26,8 +25,8 @@ use Rattle.dp_graph.specs.GraphNodes.{IsNodeFor}
 use Rattle.dp_graph.specs.declared.graph.Node.{Node}
 use Rattle.dp_graph.specs.declared.earlier.Earlier.{Earlier}
 use Rattle.dp_graph.proofs.Covering.{edges_by_arguments}
-use Rattle.dp_graph.specs.Waiting.{Sets}
-use Rattle.dp_graph.proofs.Sets.{at_others, none_in_empty}
+use Rattle.dp_graph.specs.FlagRows.{IsSet}
+use Rattle.dp_graph.proofs.FlagLaws.{none_set}
 use Rattle.dp_graph.proofs.EachOfList.{first_refuses, with_last, last_or_before, each_passes, each_passed, it_is_absent}
 
 module _ (system : System) (valid : IsSystem system) (few : length system.arities ≤ 4095) where
@@ -82,38 +81,24 @@ module _ (system : System) (valid : IsSystem system) (few : length system.aritie
     seen = is.seen;
   }
 
-  module _ (members : List ℕ) (n r : ℕ) (q : DependencyPair) (old new : Earlier) (there : slice_get all n ≡ Some q) (of : IsOfRule system.rules r q) (is : IsEarlier system members old)
-      (b : Bool) (fresh : b ≡ not (contains nat_cmp old.rules r)) (sets : Sets old.rules new.rules r true) where
-    was_seen : b ≡ false → IsTrue (contains nat_cmp old.rules r)
-    was_seen e = of_not (contains nat_cmp old.rules r) (sym fresh ∙ e)
-      where
-        of_not : (t : Bool) → not t ≡ false → IsTrue t
-        of_not true d = refl
-        of_not false d = absurd cc
-
+  module _ (members : List ℕ) (n r : ℕ) (q : DependencyPair) (old : Earlier) (there : slice_get all n ≡ Some q) (of : IsOfRule system.rules r q) (is : IsEarlier system members old) where
     -- a pair of a rule that was seen
-    pub seen_added : b ≡ false → new.by_root ≡ old.by_root → IsEarlier system (members ++ n ∷ []) new
-    seen_added e same =
-        let kept : IsKept system old.by_root r = is.seen r (was_seen e) in
+    pub seen_added : IsSet old.rules.items r → IsEarlier system (members ++ n ∷ []) old
+    seen_added set =
+        let kept : IsKept system old.by_root r = is.seen r set in
         record {
-          alike = λ m p answer at h.
-              let before : leads_to_none_of system m (items_at old.by_root p.to.symbol) answer = subst (λ t. leads_to_none_of system m (items_at t p.to.symbol) answer) same h in
-              skipped m n members (items_at old.by_root p.to.symbol) answer before (is.alike m p answer at before)
-              (λ passed edge.
+          alike = λ m p answer at h. skipped m n members (items_at old.by_root p.to.symbol) answer h (is.alike m p answer at h) (λ passed edge.
               let root : p.to.symbol ≡ kept.pair.from.symbol = edge_root m kept.number p kept.pair at kept.numbered (edge_to_kept m n r q old.by_root there of kept edge) in
               it_is_absent (Edge m kept.number) (EdgeBack m kept.number)
               (each_passed (to_one m) 0 (items_at old.by_root p.to.symbol) passed kept.number (subst (λ f. In kept.number (items_at old.by_root f)) (sym root) kept.kept))
               (edge_to_kept m n r q old.by_root there of kept edge));
-          seen = λ s h. subst (λ t. IsKept system t s) (sym same) (elim (ℕ_discrete s r) [
-            | yes e ↦ subst (IsKept system old.by_root) (sym e) kept
-            | no other ↦ is.seen s (sym (at_others old.rules new.rules r true sets s other) ∙ h)
-          ]);
+          seen = is.seen;
         }
 
     -- the first pair of a rule
-    pub first_added : items_at new.by_root q.from.symbol ≡ items_at old.by_root q.from.symbol ++ n ∷ []
-        → ((f : ℕ) → (f ≡ q.from.symbol → ⊥) → items_at new.by_root f ≡ items_at old.by_root f) → IsEarlier system (members ++ n ∷ []) new
-    first_added here others = record {
+    pub first_added : (new : Earlier) → ((j : ℕ) → IsSet new.rules.items j ↔ (IsSet old.rules.items j ⊎ (j ≡ r)))
+        → items_at new.by_root q.from.symbol ≡ items_at old.by_root q.from.symbol ++ n ∷ [] → ((f : ℕ) → (f ≡ q.from.symbol → ⊥) → items_at new.by_root f ≡ items_at old.by_root f) → IsEarlier system (members ++ n ∷ []) new
+    first_added new sets here others = record {
       alike = λ m p answer at h. elim (ℕ_discrete p.to.symbol q.from.symbol) [
         | yes e ↦
             let whole : leads_to_none_of system m (items_at old.by_root p.to.symbol ++ n ∷ []) answer =
@@ -127,15 +112,15 @@ module _ (system : System) (valid : IsSystem system) (few : length system.aritie
             let before : leads_to_none_of system m (items_at old.by_root p.to.symbol) answer = subst (λ ns. leads_to_none_of system m ns answer) (others p.to.symbol other) h in
             skipped m n members (items_at old.by_root p.to.symbol) answer before (is.alike m p answer at before) (λ _ edge. other (edge_root m n p q at there edge))
       ];
-      seen = λ s h. elim (ℕ_discrete s r) [
-        | yes e ↦ record {
+      seen = λ s h. elim ((sets s).0 h) [
+        | inl before ↦ still_kept s (is.seen s before)
+        | inr e ↦ record {
           number = n;
           pair = q;
           numbered = there;
           of_rule = subst (λ z. IsOfRule system.rules z q) (sym e) of;
           kept = subst (In n) (sym here) (in_right (items_at old.by_root q.from.symbol) in_first);
         }
-        | no other ↦ still_kept s (is.seen s (sym (at_others old.rules new.rules r true sets s other) ∙ h))
       ];
     }
       where
@@ -157,10 +142,10 @@ module _ (system : System) (valid : IsSystem system) (few : length system.aritie
 pub none_at : {T : Type 0} (by_root : BTreeMap ℕ (Vec T Global)) → by_root.entries ≡ [] → (f : ℕ) → items_at by_root f ≡ []
 none_at by_root e f = ap (λ es. entry_items (lookup (is_at (nat_cmp f)) es)) e
 
-pub none_earlier : (system : System) (earlier : Earlier) → earlier.by_root.entries ≡ [] → earlier.rules.keys ≡ [] → IsEarlier system [] earlier
+pub none_earlier : (system : System) (earlier : Earlier) → earlier.by_root.entries ≡ [] → earlier.rules.items ≡ [] → IsEarlier system [] earlier
 none_earlier system earlier none empty = record {
   alike = λ m p answer at h. subst (λ ns. leads_to_none_of system m ns answer) (none_at earlier.by_root none p.to.symbol) h;
-  seen = λ r h. absurd (none_in_empty earlier.rules r empty h);
+  seen = λ r h. absurd (none_set r (subst (λ z. IsSet z r) empty h));
 }
 
 -- ---- the pairs at the root of a right side

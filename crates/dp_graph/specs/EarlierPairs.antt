@@ -1,9 +1,7 @@
 -- The pairs of earlier items, by the roots of their left sides.
-use Rattle.std.specs.Prelude.{◌≡◌, ℕ, List, Option, Some, None, Vec, Result, Ok, Err, IsTrue, slice_get}
+use Rattle.std.specs.Prelude.{◌≡◌, ℕ, List, Option, Some, None, Vec, Result, Ok, Err, slice_get}
 use Rattle.std.specs.declared.alloc.Global.{Global}
-use Rattle.std.specs.Ordering.{nat_cmp}
 use Rattle.std.specs.BTreeMap.{BTreeMap}
-use Rattle.std.specs.BTreeSet.{contains}
 use Rattle.trs_defs.specs.Member.{In}
 use Rattle.trs_defs.specs.System.{System}
 use Rattle.pair_theory.specs.DependencyPair.{DependencyPair, dependency_pairs}
@@ -12,6 +10,7 @@ use Rattle.rewrite_core.specs.declared.checks.refusals.StepRefused.TheVariants.{
 use Rattle.rewrite_core.specs.Check.{Check}
 use Rattle.dp_core.specs.PlacedPairs.{IsOfRule}
 use Rattle.dp_graph.specs.ByRoot.{items_at}
+use Rattle.dp_graph.specs.FlagRows.{IsSet}
 use Rattle.dp_graph.specs.GraphConditions.{leads_to_none}
 use Rattle.dp_graph.specs.declared.earlier.Earlier.{Earlier}
 
@@ -37,4 +36,4 @@ pub record IsKept (system : System) (by_root : BTreeMap ℕ (Vec ℕ Global)) (r
 pub record IsEarlier (system : System) (members : List ℕ) (earlier : Earlier) : Type 0 where
   pub alike : (m : ℕ) (p : DependencyPair) (answer : Result (Unit {0}) StepRefused) → slice_get (dependency_pairs system.rules) m ≡ Some p
       → leads_to_none_of system m (items_at earlier.by_root p.to.symbol) answer → leads_to_none_of system m members answer
-  pub seen : (r : ℕ) → IsTrue (contains nat_cmp earlier.rules r) → IsKept system earlier.by_root r
+  pub seen : (r : ℕ) → IsSet earlier.rules.items r → IsKept system earlier.by_root r

@@ -4,8 +4,9 @@ ghost use Rattle.dp_graph.specs.EarlierPairs.{IsEarlier, first_led_to, leads_to_
 
 use crate::PairGraph;
 use crate::by_root::push_at;
+use crate::flag_rows::{is_set, set};
 use std::alloc::Global;
-use std::collections::{BTreeMap, BTreeSet};
+use std::collections::BTreeMap;
 use trs_core::OutOfMemory;
 
 /// The pairs of earlier items, by the roots of their left sides. Of those with one left side it has
@@ -13,7 +14,8 @@ use trs_core::OutOfMemory;
 #[derive(Drop)]
 pub(crate) struct Earlier {
     by_root: BTreeMap<u32, Vec<u32>>,
-    rules: BTreeSet<usize>,
+    /// The flags of their rules.
+    rules: Vec<u64>,
 }
 
 impl Earlier {
@@ -23,7 +25,7 @@ impl Earlier {
     {
         Earlier {
             by_root: BTreeMap::new(alloc),
-            rules: BTreeSet::new(alloc),
+            rules: Vec::new(alloc),
         }
     }
 
@@ -54,9 +56,11 @@ impl Earlier {
         let Some(node) = graph.node(n as usize) else {
             return Ok(());
         };
-        if self.rules.insert(node.rule)? {
-            push_at(alloc, &mut self.by_root, node.from, n)?;
+        if is_set(&self.rules, node.rule) {
+            return Ok(());
         }
+        set(&mut self.rules, node.rule)?;
+        push_at(alloc, &mut self.by_root, node.from, n)?;
         Ok(())
     }
 }
