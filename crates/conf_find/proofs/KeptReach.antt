@@ -20,6 +20,7 @@ use Rattle.join_find.specs.CommonIds.{Reached}
 use Rattle.join_find.specs.KeptLists.{list_of, IsPut, AreOf}
 use Rattle.join_find.specs.ReachedSides.{IsNarrowAt}
 use Rattle.join_find.specs.declared.kept_lists.KeptLists.{KeptLists}
+use Rattle.join_find.specs.declared.side_ids.SideIds.{SideIds}
 use Rattle.join_find.proofs.KeptOfSides.{none_kept, one_more_kept, of_weaker_kind}
 use Rattle.conf_find.specs.ForkRows.{IsShortReach}
 use Rattle.conf_find.specs.Marks.{AreMarkedIds, Lasts}
@@ -54,21 +55,21 @@ reach_still rules a b id found extends h =
       below = All-weaker (λ e. e.0 < length a) (λ e. e.0 < length b) (λ x k. omega (arith, k, extends.longer)) found h.below;
     }
 
-abbrev sides_of : List Tree → KeptLists → ReachedSides
-sides_of pool reached = record { pool = pool; reached = reached }
+abbrev sides_of : List Tree → SideIds → KeptLists → ReachedSides
+sides_of pool ids reached = record { pool = pool; ids = ids; reached = reached }
 
 -- no sides
 pub none_reached : (rules : List RewriteRule) (sides : ReachedSides) → ((id : ℕ) → list_of sides.reached id ≡ None) → AreReached rules sides
 none_reached rules sides none = record { reached = none_kept (IsShortReachOf rules sides.pool) sides.reached none }
 
-module _ (rules : List RewriteRule) (old : ReachedSides) (sides : AreReached rules old) (pool : List Tree) (extends : Extends old.pool pool) where
+module _ (rules : List RewriteRule) (old : ReachedSides) (sides : AreReached rules old) (pool : List Tree) (ids : SideIds) (extends : Extends old.pool pool) where
   -- the pool has grown
-  pub reached_still : AreReached rules (sides_of pool old.reached)
+  pub reached_still : AreReached rules (sides_of pool ids old.reached)
   reached_still = record { reached = of_weaker_kind (IsShortReachOf rules old.pool) (IsShortReachOf rules pool) old.reached (λ id found. reach_still rules old.pool pool id found extends) sides.reached }
 
   -- what one more side reaches is listed
   pub one_more_reached : (reached : KeptLists) (before : List Tree) (id : ℕ) (found : List Reached) (t : Tree) → IsPut id found old.reached reached → Extends before pool → StandsFor before id t
-      → IsShortReach rules (tree_at before id) (listed_at pool found) → All (λ e. e.0 < length pool) found → AreReached rules (sides_of pool reached)
+      → IsShortReach rules (tree_at before id) (listed_at pool found) → All (λ e. e.0 < length pool) found → AreReached rules (sides_of pool ids reached)
   one_more_reached reached before id found t put grown is reach below =
       let Q : Tree → Type 0 = λ u. IsShortReach rules u (listed_at pool found) in
       let one : IsShortReachOf rules pool id found = record {
@@ -83,14 +84,14 @@ module _ {A : Type 0} (has_mark : A → ℕ → Type 0) (of_pool : List RewriteR
   pub none_marked : (sides : ReachedSides) (marks : A) → ((id : ℕ) → list_of sides.reached id ≡ None) → of_pool rules sides.pool marks → AreMarksOf has_mark of_pool rules sides marks
   none_marked sides marks none are = record { are = are; each = none_kept (λ id found. AreMarkedIds has_mark marks found) sides.reached none }
 
-  module _ (old : ReachedSides) (marks : A) (marked : AreMarksOf has_mark of_pool rules old marks) (pool : List Tree) where
+  module _ (old : ReachedSides) (marks : A) (marked : AreMarksOf has_mark of_pool rules old marks) (pool : List Tree) (ids : SideIds) where
     -- the pool has grown
-    pub marks_still : Lasts of_pool → Extends old.pool pool → AreMarksOf has_mark of_pool rules (sides_of pool old.reached) marks
+    pub marks_still : Lasts of_pool → Extends old.pool pool → AreMarksOf has_mark of_pool rules (sides_of pool ids old.reached) marks
     marks_still lasts extends = record { are = lasts rules old.pool pool marks extends marked.are; each = marked.each }
 
     -- one more list is marked
     pub one_more_marked : (new : A) (reached : KeptLists) (id : ℕ) (found : List Reached) → ((i : ℕ) → has_mark marks i → has_mark new i) → of_pool rules pool new
-        → IsPut id found old.reached reached → AreMarkedIds has_mark new found → AreMarksOf has_mark of_pool rules (sides_of pool reached) new
+        → IsPut id found old.reached reached → AreMarkedIds has_mark new found → AreMarksOf has_mark of_pool rules (sides_of pool ids reached) new
     one_more_marked new reached id found still are put these =
         let before : AreOf (λ i es. AreMarkedIds has_mark new es) old.reached =
         of_weaker_kind (λ i es. AreMarkedIds has_mark marks es) (λ i es. AreMarkedIds has_mark new es) old.reached

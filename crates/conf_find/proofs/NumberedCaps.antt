@@ -1,10 +1,8 @@
 -- The caps of ids, by their numbers, one after another.
 use Rattle.std.specs.Prelude.{◌≡◌, ◌<◌, ◌≤◌, ◌+◌, ℕ, true, All, List, [], ◌∷◌, ◌++◌, map, take, length, Option, None, Some, get_or, slice_get, refl, Result, Ok, Err, IfOk, OnOk}
-use Rattle.std.proofs.Common.{zero, suc, ap, sym, ◌∙◌, subst, arith, inl, inr, nat_cmp, add-one, append-nil}
+use Rattle.std.proofs.Common.{zero, suc, ap, sym, ◌∙◌, subst, arith, inl, inr, nat_cmp, add-one}
 use Rattle.std.specs.BTreeMap.{BTreeMap, get, Updates}
 use Rattle.std.specs.Option.{option_map, option_and_then}
-use Rattle.std.proofs.lemmas.Option.{slice_get_within}
-use Rattle.trs_defs.proofs.ListItems.{take_one_more}
 use Rattle.std.proofs.lemmas.List.{take_all, take_more, map-append}
 use Rattle.std.proofs.lemmas.List.Elements.{All-push, All-weaker}
 use Rattle.trs_defs.specs.Tree.{Tree, Trees, var, app, nil, cons, trees, items, count, trees_items}
@@ -14,6 +12,7 @@ use Rattle.trs_defs.specs.Position.{argument_at, subterm_at}
 use Rattle.trs_defs.specs.System.{RewriteRule}
 use Rattle.term_pool.specs.Pooled.{tree_at}
 use Rattle.term_pool.specs.Redexes.{IsNarrow, AreNarrow}
+use Rattle.join_find.proofs.ArgumentReads.{none_from, take_item}
 use Rattle.trs_caps.specs.HoledTree.{HoledTree, own}
 use Rattle.trs_caps.specs.HoledCap.{IsHoledCap, AreHoledCaps, fixed_variable, no_holed, one_holed}
 use Rattle.conf_find.specs.Marks.{HasCap, AreCaps}
@@ -140,11 +139,6 @@ at_end : (o : Option Tree) → option_and_then (subterm_at []) o ≡ o
 at_end None = refl
 at_end (Some t) = refl
 
-past : (xs : List Tree) (i : ℕ) → None ≡ slice_get xs i → length xs ≤ i
-past [] i none = omega arith
-past (x ∷ xs) zero none = absurd cc
-past (x ∷ xs) (suc i) none = let rest = past xs i none in omega (arith, rest)
-
 count_items : (ts : Trees) → length (items ts) ≡ count ts
 count_items nil = refl
 count_items (cons t ts) = omega (arith, count_items ts)
@@ -159,14 +153,12 @@ module _ (pool : List Tree) (id i : ℕ) (places : List ℕ) (found : Option ℕ
   pub no_more_items : (ids : List ℕ) → found ≡ None → map (tree_at pool) ids ≡ take i (items ts) → map (tree_at pool) ids ≡ items ts
   no_more_items ids none so_far =
       let gone : None ≡ slice_get (items ts) i = subst (λ o. option_map (tree_at pool) o ≡ slice_get (items ts) i) none item_at in
-      so_far ∙ take_all i (items ts) (past (items ts) i gone)
+      so_far ∙ take_all i (items ts) (none_from (items ts) i gone)
 
   pub one_more_item : (ids more : List ℕ) (k : ℕ) → found ≡ Some k → map (tree_at pool) ids ≡ take i (items ts) → more ≡ ids ++ k ∷ [] → map (tree_at pool) more ≡ take (i + 1) (items ts)
   one_more_item ids more k some so_far made =
       let there : slice_get (items ts) i ≡ Some (tree_at pool k) = sym (subst (λ o. option_map (tree_at pool) o ≡ slice_get (items ts) i) some item_at) in
-      let below = slice_get_within (items ts) i (tree_at pool k) there in
-      let longer : take (i + 1) (items ts) ≡ take i (items ts) ++ tree_at pool k ∷ [] =
-      ap (take (i + 1)) (sym (append-nil (items ts))) ∙ take_one_more (items ts) [] i (tree_at pool k) below there in
+      let longer = take_item (items ts) i (tree_at pool k) there in
       rw made (map-append (tree_at pool) ids (k ∷ []) ∙ (ap (λ xs. xs ++ tree_at pool k ∷ []) so_far ∙ sym longer))
 
 pub all_items : (pool : List Tree) (t : Tree) (f : ℕ) (ts : Trees) (ids : List ℕ) (i : ℕ) → 255 ≤ i → IsNarrow t → t ≡ app f ts → map (tree_at pool) ids ≡ take i (items ts) → map (tree_at pool) ids ≡ items ts

@@ -95,8 +95,8 @@ fn fork_at<M: Marks>(
         AreMarksOf M.has_mark M.of_pool by_root.now.rules sides.new marks.new) }
 {
     make_room(alloc, sides, marks);
-    let left = sides.list(alloc, by_root, &peak.left, marks)?;
-    let right = sides.list(alloc, by_root, &peak.right, marks)?;
+    let left = sides.list(alloc, by_root, peak.inner, &peak.left, marks)?;
+    let right = sides.list(alloc, by_root, peak.outer, &peak.right, marks)?;
     let lefts = sides.at(left);
     let rights = sides.at(right);
     fork_between(alloc, sides.pool(), by_root, peak, marks, lefts, rights)

@@ -9,7 +9,7 @@ ghost use Rattle.conf_find.specs.ReachedSides.{AreReached, AreMarksOf};
 
 use crate::marks::{Marks, mark_all};
 use crate::reaching::reach;
-use join_find::KeptLists;
+use join_find::{KeptLists, SideIds};
 use rewrite_core::PathStep;
 use std::alloc::Global;
 use term_pool::{Pool, RulesByRoot};
@@ -25,6 +25,7 @@ const MOST_KEPT_BYTES: u64 = 67_108_864;
 #[derive(Drop)]
 pub(crate) struct ReachedSides {
     pool: Pool,
+    ids: SideIds,
     reached: KeptLists,
 }
 
@@ -35,15 +36,18 @@ impl ReachedSides {
     {
         ReachedSides {
             pool: Pool::new(alloc),
+            ids: SideIds::new(alloc),
             reached: KeptLists::new(alloc),
         }
     }
 
-    /// The id of a side. What it reaches is listed and marked, if it is not listed yet.
+    /// The id of a side that a rule gives. What it reaches is listed and marked, if it is not listed
+    /// yet.
     pub(crate) fn list<M: Marks>(
         &mut self,
         alloc: Global,
         by_root: &RulesByRoot,
+        rule: u32,
         side: &Term,
         marks: &mut M,
     ) -> Result<u32, OutOfMemory>
@@ -60,7 +64,7 @@ impl ReachedSides {
         ensures kept { OnOk result (Extends self.old.pool self.new.pool) }
     {
         M::last();
-        let id = self.pool.intern(alloc, side)?;
+        let id = self.ids.intern(alloc, &mut self.pool, rule, side)?;
         if self.reached.has(id) {
             return Ok(id);
         }

@@ -22,6 +22,7 @@ use Rattle.join_find.specs.Sides.{IsSide}
 use Rattle.join_find.specs.KeptLists.{list_of, IsPut, AreOf}
 use Rattle.join_find.specs.ReachedSides.{IsNarrowAt, IsReachOf, IsNearOf, AreReached}
 use Rattle.join_find.specs.declared.kept_lists.KeptLists.{KeptLists}
+use Rattle.join_find.specs.declared.side_ids.SideIds.{SideIds}
 use Rattle.join_find.specs.declared.reached_sides.ReachedSides.{ReachedSides}
 use Rattle.join_find.proofs.Joining.{joined_within, halved_within}
 
@@ -87,18 +88,18 @@ reach_still rules a b id found extends h =
 
 -- ---- sides of which more is kept
 
-abbrev sides_of : List Tree → KeptLists → KeptLists → ReachedSides
-sides_of pool reached near = record { pool = pool; reached = reached; near = near }
+abbrev sides_of : List Tree → SideIds → KeptLists → KeptLists → ReachedSides
+sides_of pool ids reached near = record { pool = pool; ids = ids; reached = reached; near = near }
 
 -- no sides
-pub none_reached : (rules : List RewriteRule) (pool : List Tree) (reached near : KeptLists) → ((id : ℕ) → list_of reached id ≡ None) → ((id : ℕ) → list_of near id ≡ None)
-    → AreReached rules (sides_of pool reached near)
-none_reached rules pool reached near none_there none_near =
+pub none_reached : (rules : List RewriteRule) (pool : List Tree) (ids : SideIds) (reached near : KeptLists) → ((id : ℕ) → list_of reached id ≡ None) → ((id : ℕ) → list_of near id ≡ None)
+    → AreReached rules (sides_of pool ids reached near)
+none_reached rules pool ids reached near none_there none_near =
     record { reached = none_kept (IsReachOf rules pool) reached none_there; near = none_kept (IsNearOf rules pool) near none_near }
 
-module _ (rules : List RewriteRule) (old : ReachedSides) (sides : AreReached rules old) (pool : List Tree) where
+module _ (rules : List RewriteRule) (old : ReachedSides) (sides : AreReached rules old) (pool : List Tree) (ids : SideIds) where
   -- the pool is as it was
-  pub same_still : pool ≡ old.pool → AreReached rules (sides_of pool old.reached old.near)
+  pub same_still : pool ≡ old.pool → AreReached rules (sides_of pool ids old.reached old.near)
   same_still same =
       let R : List Tree → Type 0 = λ p. AreOf (IsReachOf rules p) old.reached in
       let N : List Tree → Type 0 = λ p. AreOf (IsNearOf rules p) old.near in
@@ -106,7 +107,7 @@ module _ (rules : List RewriteRule) (old : ReachedSides) (sides : AreReached rul
 
   -- what is near one more side is listed
   pub one_more_near : (near : KeptLists) (id : ℕ) (found : List Reached) → pool ≡ old.pool → IsPut id found old.near near → IsSiftedNear rules (tree_at old.pool id) old.pool found
-      → AreReached rules (sides_of pool old.reached near)
+      → AreReached rules (sides_of pool ids old.reached near)
   one_more_near near id found same put is =
       let R : List Tree → Type 0 = λ p. AreOf (IsReachOf rules p) old.reached in
       let N : List Tree → Type 0 = λ p. AreOf (IsNearOf rules p) near in
@@ -121,12 +122,12 @@ module _ (rules : List RewriteRule) (old : ReachedSides) (sides : AreReached rul
         of_weaker_kind (IsReachOf rules old.pool) (IsReachOf rules pool) old.reached (λ id found. reach_still rules old.pool pool id found extends) sides.reached
 
     -- the pool has grown, and nothing near is kept
-    pub grown_still : (near : KeptLists) → ((id : ℕ) → list_of near id ≡ None) → AreReached rules (sides_of pool old.reached near)
+    pub grown_still : (near : KeptLists) → ((id : ℕ) → list_of near id ≡ None) → AreReached rules (sides_of pool ids old.reached near)
     grown_still near none = record { reached = reaches_still; near = none_kept (IsNearOf rules pool) near none }
 
     -- what one more side reaches is listed
     pub one_more_reached : (reached near : KeptLists) (id : ℕ) (found : List Reached) → ((i : ℕ) → list_of near i ≡ None) → IsPut id found old.reached reached
-        → id < length old.pool → IsReach rules (tree_at old.pool id) (listed_at pool found) → All (λ e. e.0 < length pool) found → AreReached rules (sides_of pool reached near)
+        → id < length old.pool → IsReach rules (tree_at old.pool id) (listed_at pool found) → All (λ e. e.0 < length pool) found → AreReached rules (sides_of pool ids reached near)
     one_more_reached reached near id found none put there reach below =
         let Q : Tree → Type 0 = λ t. IsReach rules t (listed_at pool found) in
         let is : IsReachOf rules pool id found = record {

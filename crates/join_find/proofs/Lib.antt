@@ -1,6 +1,7 @@
 -- what crates above name through this one
 pub use Rattle.closed_pairs.proofs.crit_pairs
 pub mod Firsts
+pub mod ArgumentReads
 pub mod SharedIds
 pub mod Joining
 pub mod KeptOfSides

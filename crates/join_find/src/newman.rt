@@ -65,7 +65,7 @@ fn first_join(
     ensures sides { OnOk result (AreReached by_root.now.rules sides.new) }
 {
     sides.make_room(alloc);
-    let left = sides.intern(alloc, &peak.left)?;
-    let right = sides.intern(alloc, &peak.right)?;
+    let left = sides.intern(alloc, peak.inner, &peak.left)?;
+    let right = sides.intern(alloc, peak.outer, &peak.right)?;
     sides.first_join(alloc, by_root, left, right)
 }

@@ -15,6 +15,7 @@ use crate::common::first_common;
 use crate::kept_lists::KeptLists;
 use crate::near::near;
 use crate::reaching::reach;
+use crate::side_ids::SideIds;
 use closed_pairs::Join;
 use std::alloc::Global;
 use term_pool::{Pool, RulesByRoot, ids_are_distinct};
@@ -31,6 +32,7 @@ const MOST_KEPT_BYTES: u64 = 268_435_456;
 #[derive(Drop)]
 pub(crate) struct ReachedSides {
     pool: Pool,
+    ids: SideIds,
     reached: KeptLists,
     near: KeptLists,
 }
@@ -42,6 +44,7 @@ impl ReachedSides {
     {
         ReachedSides {
             pool: Pool::new(alloc),
+            ids: SideIds::new(alloc),
             reached: KeptLists::new(alloc),
             near: KeptLists::new(alloc),
         }
@@ -57,12 +60,18 @@ impl ReachedSides {
             return;
         }
         self.pool = Pool::new(alloc);
+        self.ids = SideIds::new(alloc);
         self.reached = KeptLists::new(alloc);
         self.near = KeptLists::new(alloc);
     }
 
-    /// The id of a side.
-    pub(crate) fn intern(&mut self, alloc: Global, side: &Term) -> Result<u32, OutOfMemory>
+    /// The id of a side that a rule gives.
+    pub(crate) fn intern(
+        &mut self,
+        alloc: Global,
+        rule: u32,
+        side: &Term,
+    ) -> Result<u32, OutOfMemory>
         requires side { IsSide (tree side.now) }
         ensures id { IfOk result (λ id. StandsFor self.new.pool id (tree side.now)) }
         ensures sides { OnOk result ((rules : List RewriteRule) → AreReached rules self.old
@@ -70,7 +79,7 @@ impl ReachedSides {
         ensures kept { OnOk result (Extends self.old.pool self.new.pool) }
     {
         let mark = self.pool.mark();
-        let id = self.pool.intern(alloc, side)?;
+        let id = self.ids.intern(alloc, &mut self.pool, rule, side)?;
         if id < mark {
             self.pool.release(mark);
             return Ok(id);

@@ -90,8 +90,8 @@ fn first_four(
     ensures sides { OnOk result (AreReached by_root.now.rules sides.new) }
 {
     sides.make_room(alloc);
-    let left = sides.intern(alloc, &peak.left)?;
-    let right = sides.intern(alloc, &peak.right)?;
+    let left = sides.intern(alloc, peak.inner, &peak.left)?;
+    let right = sides.intern(alloc, peak.outer, &peak.right)?;
     let Some(u) = sides.first_half(alloc, by_root, left, right)? else {
         return Ok(None);
     };

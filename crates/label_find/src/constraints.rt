@@ -73,8 +73,8 @@ fn constraint_at(
     ensures numbers { OnOk result (AreNumbered sides.new table.new.items) }
 {
     sides.make_room(alloc);
-    let left_id = sides.list(alloc, trs, by_root, growth, &peak.left)?;
-    let right_id = sides.list(alloc, trs, by_root, growth, &peak.right)?;
+    let left_id = sides.list(alloc, trs, by_root, growth, peak.inner, &peak.left)?;
+    let right_id = sides.list(alloc, trs, by_root, growth, peak.outer, &peak.right)?;
     ids_are_distinct(sides.pool());
     let left = sides.number(alloc, left_id, table)?;
     let right = sides.number(alloc, right_id, table)?;

@@ -67,8 +67,8 @@ fn join_at(
     ensures listed { OnOk result (AreListed trs.now.rules sides.new) }
 {
     sides.make_room(alloc);
-    let left = sides.list(alloc, trs, by_root, growth, &peak.left)?;
-    let right = sides.list(alloc, trs, by_root, growth, &peak.right)?;
+    let left = sides.list(alloc, trs, by_root, growth, peak.inner, &peak.left)?;
+    let right = sides.list(alloc, trs, by_root, growth, peak.outer, &peak.right)?;
     let numbers = (peak.inner, peak.outer);
     first_closing(
         alloc,

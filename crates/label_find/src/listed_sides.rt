@@ -12,7 +12,7 @@ ghost use Rattle.label_find.specs.ListedSides.{HasSameLists, IsFrontOf};
 
 use crate::side_rules::SideRules;
 use indexmap::IndexMap;
-use join_find::KeptLists;
+use join_find::{KeptLists, SideIds};
 use path_lists::paths_from;
 use rewrite_core::PathStep;
 use std::alloc::Global;
@@ -30,6 +30,7 @@ const MOST_KEPT_BYTES: u64 = 67_108_864;
 #[derive(Drop)]
 pub(crate) struct ListedSides {
     pool: Pool,
+    ids: SideIds,
     lists: KeptLists,
     numbers: IndexMap<u32, usize>,
 }
@@ -42,6 +43,7 @@ impl ListedSides {
     {
         ListedSides {
             pool: Pool::new(alloc),
+            ids: SideIds::new(alloc),
             lists: KeptLists::new(alloc),
             numbers: IndexMap::new(alloc),
         }
@@ -59,17 +61,19 @@ impl ListedSides {
             return;
         }
         self.pool = Pool::new(alloc);
+        self.ids = SideIds::new(alloc);
         self.lists = KeptLists::new(alloc);
         self.numbers = IndexMap::new(alloc);
     }
 
-    /// The id of a side. Its paths are listed, if they are not listed yet.
+    /// The id of a side that a rule gives. Its paths are listed, if they are not listed yet.
     pub(crate) fn list(
         &mut self,
         alloc: Global,
         trs: &Trs,
         by_root: &RulesByRoot,
         growth: u64,
+        rule: u32,
         side: &Term,
     ) -> Result<u32, OutOfMemory>
         requires table { by_root.now ≡ trs.now }
@@ -85,7 +89,7 @@ impl ListedSides {
         ensures numbers { OnOk result ((table : List SideRules) → AreNumbered self.old table
             → AreNumbered self.new table) }
     {
-        let id = self.pool.intern(alloc, side)?;
+        let id = self.ids.intern(alloc, &mut self.pool, rule, side)?;
         if self.lists.has(id) {
             return Ok(id);
         }

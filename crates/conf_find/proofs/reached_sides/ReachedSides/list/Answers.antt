@@ -9,14 +9,14 @@ use Rattle.conf_find.proofs.KeptReach.{reached_still, one_more_reached, marks_st
 use Rattle.conf_find.proofs.reached_sides.ReachedSides.list.Goals as goal
 
 pub returns-then-has-clause-sides : goal.returns-then-has-clause-sides
-returns-then-has-clause-sides g c = reached_still c.args.by_root.now.rules c.args.self.now c.requires.sides c.intern.new.self c.in_ok-id.ensures.kept
+returns-then-has-clause-sides g c = reached_still c.args.by_root.now.rules c.args.self.now c.requires.sides c.intern.new.pool c.intern.new.self c.in_ok-id.ensures.kept
 
 pub returns-then-has-clause-marks : goal.returns-then-has-clause-marks
 returns-then-has-clause-marks g c =
-    marks_still g.M.Marks.has_mark g.M.Marks.of_pool c.args.by_root.now.rules c.args.self.now c.args.marks.now c.requires.marks c.intern.new.self c.last.ensures c.in_ok-id.ensures.kept
+    marks_still g.M.Marks.has_mark g.M.Marks.of_pool c.args.by_root.now.rules c.args.self.now c.args.marks.now c.requires.marks c.intern.new.pool c.intern.new.self c.last.ensures c.in_ok-id.ensures.kept
 
 pub reach-requires : goal.reach-requires
-reach-requires g c = record { narrow = narrow_at c.intern.new.self c.in_ok-id.id (tree c.args.side.now) c.in_ok-id.ensures.id c.requires.side }
+reach-requires g c = record { narrow = narrow_at c.intern.new.pool c.in_ok-id.id (tree c.args.side.now) c.in_ok-id.ensures.id c.requires.side }
 
 pub mark_all-requires-clause-narrow : goal.mark_all-requires-clause-narrow
 mark_all-requires-clause-narrow g c =
@@ -26,22 +26,22 @@ mark_all-requires-clause-narrow g c =
 pub mark_all-requires-clause-marks : goal.mark_all-requires-clause-marks
 mark_all-requires-clause-marks g c =
     c.last.ensures c.args.by_root.now.rules c.args.self.now.pool c.reach.new.pool c.args.marks.now
-    (extends_on c.args.self.now.pool c.intern.new.self c.reach.new.pool c.in_ok-id.ensures.kept c.in_ok-list.ensures.kept) c.requires.marks.are
+    (extends_on c.args.self.now.pool c.intern.new.pool c.reach.new.pool c.in_ok-id.ensures.kept c.in_ok-list.ensures.kept) c.requires.marks.are
 
 pub returns-clause-id : goal.returns-clause-id
 returns-clause-id g c = c.in_ok-list.ensures.kept.kept c.in_ok-id.id (tree c.args.side.now) c.in_ok-id.ensures.id
 
 pub returns-clause-sides : goal.returns-clause-sides
 returns-clause-sides g c =
-    one_more_reached c.args.by_root.now.rules c.args.self.now c.requires.sides c.reach.new.pool
-    (extends_on c.args.self.now.pool c.intern.new.self c.reach.new.pool c.in_ok-id.ensures.kept c.in_ok-list.ensures.kept) c.put.new.self c.intern.new.self c.in_ok-id.id c.in_ok-list.list.items
+    one_more_reached c.args.by_root.now.rules c.args.self.now c.requires.sides c.reach.new.pool c.intern.new.self
+    (extends_on c.args.self.now.pool c.intern.new.pool c.reach.new.pool c.in_ok-id.ensures.kept c.in_ok-list.ensures.kept) c.put.new.self c.intern.new.pool c.in_ok-id.id c.in_ok-list.list.items
     (tree c.args.side.now) c.in_ok-put.ensures c.in_ok-list.ensures.kept c.in_ok-id.ensures.id c.in_ok-list.ensures.list c.in_ok-list.ensures.there
 
 pub returns-clause-marks : goal.returns-clause-marks
 returns-clause-marks g c =
     let M : List Reached → Type 0 = λ es. AreMarkedIds g.M.Marks.has_mark c.mark_all.new.marks es in
-    one_more_marked g.M.Marks.has_mark g.M.Marks.of_pool c.args.by_root.now.rules c.args.self.now c.args.marks.now c.requires.marks c.reach.new.pool c.mark_all.new.marks c.put.new.self
+    one_more_marked g.M.Marks.has_mark g.M.Marks.of_pool c.args.by_root.now.rules c.args.self.now c.args.marks.now c.requires.marks c.reach.new.pool c.intern.new.self c.mark_all.new.marks c.put.new.self
     c.in_ok-id.id c.in_ok-list.list.items c.in_ok-mark_all.ensures.still c.in_ok-mark_all.ensures.marks c.in_ok-put.ensures (subst M c.deref.ensures.value c.in_ok-mark_all.ensures.marked)
 
 pub returns-clause-kept : goal.returns-clause-kept
-returns-clause-kept g c = extends_on c.args.self.now.pool c.intern.new.self c.reach.new.pool c.in_ok-id.ensures.kept c.in_ok-list.ensures.kept
+returns-clause-kept g c = extends_on c.args.self.now.pool c.intern.new.pool c.reach.new.pool c.in_ok-id.ensures.kept c.in_ok-list.ensures.kept

@@ -4,5 +4,5 @@ use Rattle.join_find.proofs.reached_sides.ReachedSides.list_near.Goals as goal
 pub returns-clause-sides : goal.returns-clause-sides
 returns-clause-sides c =
     then_ok c.put.result
-    (λ put. one_more_near c.args.by_root.now.rules c.args.self.now c.requires.sides c.near.new.pool c.put.new.self c.args.id c.in_ok-list.list.items c.in_ok-list.ensures.same put c.in_ok-list.ensures.near)
+    (λ put. one_more_near c.args.by_root.now.rules c.args.self.now c.requires.sides c.near.new.pool c.args.self.now.ids c.put.new.self c.args.id c.in_ok-list.list.items c.in_ok-list.ensures.same put c.in_ok-list.ensures.near)
     c.put.ensures

@@ -4,6 +4,6 @@ use Rattle.join_find.proofs.reached_sides.ReachedSides.list_reached.Goals as goa
 pub returns-clause-sides : goal.returns-clause-sides
 returns-clause-sides c =
     then_ok c.put.result
-    (λ put. one_more_reached c.args.by_root.now.rules c.args.self.now c.requires.sides c.reach.new.pool c.in_ok-list.ensures.kept c.put.new.self c.new.result c.args.id c.in_ok-list.list.items
+    (λ put. one_more_reached c.args.by_root.now.rules c.args.self.now c.requires.sides c.reach.new.pool c.args.self.now.ids c.in_ok-list.ensures.kept c.put.new.self c.new.result c.args.id c.in_ok-list.list.items
     c.new.ensures put c.requires.narrow.there c.in_ok-list.ensures.list c.in_ok-list.ensures.there)
     c.put.ensures

@@ -5,5 +5,5 @@ use Rattle.label_find.proofs.listed_sides.ListedSides.new.Goals as goal
 
 pub returns-clause-numbers : goal.returns-clause-numbers
 returns-clause-numbers c =
-    λ table. none_numbered (record { pool = c.new.result; lists = c.new-2.result; numbers = c.new-3.result }) table
-    (λ id. ap (λ (es : List (ℕ × ℕ)). lookup (nat_eq id) es) c.new-3.ensures.empty)
+    λ table. none_numbered (record { pool = c.new.result; ids = c.new-2.result; lists = c.new-3.result; numbers = c.new-4.result }) table
+    (λ id. ap (λ (es : List (ℕ × ℕ)). lookup (nat_eq id) es) c.new-4.ensures.empty)

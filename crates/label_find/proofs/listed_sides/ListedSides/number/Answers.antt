@@ -13,12 +13,12 @@ returns-in-Some-clause-same c = record { pool = refl; lists = refl }
 
 pub returns-clause-number : goal.returns-clause-number
 returns-clause-number c =
-    side_numbered c.args.self.now (record { pool = c.args.self.now.pool; lists = c.args.self.now.lists; numbers = c.insert.new.self }) c.args.table.now.items c.push.new.self.items
+    side_numbered c.args.self.now (record { pool = c.args.self.now.pool; ids = c.args.self.now.ids; lists = c.args.self.now.lists; numbers = c.insert.new.self }) c.args.table.now.items c.push.new.self.items
     c.args.id c.in_ok-side.side c.at.result.now refl c.at.ensures c.in_ok-side.ensures c.in_ok-push.ensures.items c.len-number.result (c.len-number.ensures ∙ c.args.table.now.ok.0)
 
 pub returns-clause-numbers : goal.returns-clause-numbers
 returns-clause-numbers c =
-    sides_numbered c.args.self.now (record { pool = c.args.self.now.pool; lists = c.args.self.now.lists; numbers = c.insert.new.self }) c.args.table.now.items c.push.new.self.items
+    sides_numbered c.args.self.now (record { pool = c.args.self.now.pool; ids = c.args.self.now.ids; lists = c.args.self.now.lists; numbers = c.insert.new.self }) c.args.table.now.items c.push.new.self.items
     c.args.id c.in_ok-side.side c.at.result.now refl c.at.ensures c.in_ok-side.ensures c.in_ok-push.ensures.items c.len-number.result (c.len-number.ensures ∙ c.args.table.now.ok.0)
     c.in_ok-insert.ensures.updates.0 c.requires.numbers
 

@@ -1,0 +1,123 @@
+//! The ids of the sides of peaks, by the rules that give them.
+ghost use Rattle.std.specs.Prelude.{◌≡◌, ◌<◌, ◌+◌, length, IsTrue, IfOk, IfSome};
+ghost use Rattle.std.specs.Option.{option_map};
+ghost use Rattle.trs_defs.specs.Position.{argument_at};
+ghost use Rattle.trs_core.specs.View.{tree};
+ghost use Rattle.term_pool.specs.Pooled.{Extends, StandsFor, tree_at};
+
+use indexmap::IndexMap;
+use std::alloc::Global;
+use term_pool::Pool;
+use trs_core::{OutOfMemory, Term};
+
+/// The most arguments of a symbol whose terms are compared: one more place is looked at.
+const MOST_ARGUMENTS: usize = 254;
+
+/// For each rule the id of the last side that it gave. A right side with no variable is a side of all
+/// peaks of its rule at the root, and to compare it costs less than to intern it again. An id of an
+/// older pool does no harm.
+#[derive(Drop)]
+pub struct SideIds {
+    by_rule: IndexMap<u32, u32>,
+}
+
+impl SideIds {
+    /// No ids. It takes no memory.
+    pub fn new(alloc: Global) -> SideIds {
+        SideIds {
+            by_rule: IndexMap::new(alloc),
+        }
+    }
+
+    /// The id of a side that a rule gives. Nothing is added for a side that it gave last.
+    pub fn intern(
+        &mut self,
+        alloc: Global,
+        pool: &mut Pool,
+        rule: u32,
+        side: &Term,
+    ) -> Result<u32, OutOfMemory>
+        ensures id { IfOk result (λ id. StandsFor pool.new id (tree side.now)) }
+        ensures kept { Extends pool.old pool.new }
+    {
+        if let Some(id) = self.last(alloc, pool, rule, side)? {
+            return Ok(id);
+        }
+        let id = pool.intern(alloc, side)?;
+        self.by_rule.insert(rule, id)?;
+        Ok(id)
+    }
+
+    /// The id of the last side that a rule gave, if this side is the same.
+    fn last(
+        &self,
+        alloc: Global,
+        pool: &Pool,
+        rule: u32,
+        side: &Term,
+    ) -> Result<Option<u32>, OutOfMemory>
+        ensures { IfOk result (λ found. IfSome found (λ id.
+            StandsFor pool.now id (tree side.now))) }
+    {
+        let Some(id) = self.by_rule.get(&rule) else {
+            return Ok(None);
+        };
+        if *id >= pool.len() {
+            return Ok(None);
+        }
+        if is_term_of(alloc, pool, *id, side)? {
+            return Ok(Some(*id));
+        }
+        Ok(None)
+    }
+}
+
+/// Whether the term of an id is this one. It is not told of terms with symbols of 255 arguments.
+fn is_term_of(alloc: Global, pool: &Pool, id: u32, t: &Term) -> Result<bool, OutOfMemory>
+    requires { id < length pool.now }
+    ensures { IfOk result (λ yes. IsTrue yes → tree_at pool.now id ≡ tree t.now) }
+{
+    match (t, pool.root(id)) {
+        (Term::Var(_), None) => is_variable_of(alloc, pool, id, t),
+        (Term::App(f, args), Some(g)) => {
+            if *f != g || args.items.len() > MOST_ARGUMENTS {
+                return Ok(false);
+            }
+            for (i, arg) in args.items.iter().enumerate() {
+                let Some(part) = argument_behind(pool, id, i as u8) else {
+                    return Ok(false);
+                };
+                if !is_term_of(alloc, pool, part, arg)? {
+                    return Ok(false);
+                }
+            }
+            match argument_behind(pool, id, args.items.len() as u8) {
+                None => Ok(true),
+                Some(_) => Ok(false),
+            }
+        }
+        _ => Ok(false),
+    }
+}
+
+/// Whether the term of an id, which is a variable, is this one. It is not inlined, for the stack of
+/// deep terms.
+#[inline(never)]
+fn is_variable_of(alloc: Global, pool: &Pool, id: u32, t: &Term) -> Result<bool, OutOfMemory>
+    requires { id < length pool.now }
+    ensures { IfOk result (λ yes. IsTrue yes → tree_at pool.now id ≡ tree t.now) }
+{
+    let variable = pool.read(alloc, id)?;
+    Ok(variable.same(t))
+}
+
+/// The argument of an id's term behind so many others.
+fn argument_behind(pool: &Pool, id: u32, count: u8) -> Option<u32>
+    requires there { id < length pool.now }
+    requires few { count < 255 }
+    ensures is { option_map (tree_at pool.now) result
+        ≡ argument_at (tree_at pool.now id) (count + 1) }
+    ensures there { IfSome result (λ part. part < length pool.now) }
+{
+    pool.at(id, &[count + 1])
+}
