@@ -1,9 +1,10 @@
 //! The finder of loops, at its limits.
-use crate::lettered::{show, system};
+use crate::lettered::show;
 use crate::stops::never;
+use crate::texts::system;
 use assign_search::{Search, Stop};
 use finder_cases::StopAt;
-use loop_find::find_loop;
+use loop_find::{LoopFound, find_loop};
 use std::alloc::Global;
 use std::test::Fail;
 use trs_core::{OutOfMemory, Term, Trs};
@@ -22,19 +23,28 @@ fn numbers_of<P: Stop>(
     stop: &mut P,
 ) -> Result<Vec<u32>, OutOfMemory> {
     let mut shown = Vec::new(alloc);
-    match find_loop(alloc, trs, budget, stop)? {
-        Search::Found(found) => {
-            shown.push(root(&found.start))?;
-            show(&found.path, &mut shown)?;
-            for place in found.place.places() {
-                shown.push(u32::from(*place))?;
-            }
-        }
-        Search::NotThere => shown.push(NOT_THERE)?,
-        Search::Spent => shown.push(SPENT)?,
-        Search::Stopped => shown.push(STOPPED)?,
-    }
+    show_answer(&find_loop(alloc, trs, budget, stop)?, &mut shown)?;
     Ok(shown)
+}
+
+fn show_answer(answer: &Search<LoopFound>, shown: &mut Vec<u32>) -> Result<(), OutOfMemory> {
+    let number = match answer {
+        Search::Found(found) => return show_loop(found, shown),
+        Search::NotThere => NOT_THERE,
+        Search::Spent => SPENT,
+        Search::Stopped => STOPPED,
+    };
+    shown.push(number)?;
+    Ok(())
+}
+
+fn show_loop(found: &LoopFound, shown: &mut Vec<u32>) -> Result<(), OutOfMemory> {
+    shown.push(root(&found.start))?;
+    show(&found.path, shown)?;
+    for place in found.place.places() {
+        shown.push(u32::from(*place))?;
+    }
+    Ok(())
 }
 
 fn root(t: &Term) -> u32 {
@@ -60,19 +70,19 @@ fn repeat(alloc: Global, parts: &[(u8, u32)]) -> Result<Vec<u8>, OutOfMemory> {
 fn wide(alloc: Global, count: u32) -> Result<Trs, Fail> {
     let parts = [
         (b'd', 1),
-        (b'x', 1),
+        (b'0', 1),
         (b'e', 1),
-        (b'x', 255),
+        (b'0', 255),
         (b'e', 1),
-        (b'x', 255),
+        (b'0', 255),
     ];
     let many = repeat(alloc, &parts)?;
     let from = repeat(
         alloc,
-        &[(b'd', 1), (b'b', count), (b'c', 1), (b'x', 1), (b'y', 1)],
+        &[(b'd', 1), (b'b', count), (b'c', 1), (b'0', 1), (b'1', 1)],
     )?;
     let to = repeat(alloc, &[(b'a', 1), (b'b', count), (b'c', 1)])?;
-    let sides: [(&[u8], &[u8]); 2] = [(b"ax", many.as_slice()), (from.as_slice(), to.as_slice())];
+    let sides: [(&[u8], &[u8]); 2] = [(b"a0", many.as_slice()), (from.as_slice(), to.as_slice())];
     system(alloc, &[1, 1, 0, 3, 255], &sides)
 }
 
@@ -84,13 +94,13 @@ fn wide(alloc: Global, count: u32) -> Result<Trs, Fail> {
 /// 4. a loop by a path through 51,000 nodes, which does not.
 fn system_number(alloc: Global, number: u32) -> Result<Trs, Fail> {
     match number {
-        0 => system(alloc, &[1], &[(b"ax", b"aax")]),
+        0 => system(alloc, &[1], &[(b"a0", b"aa0")]),
         1 => system(
             alloc,
             &[3, 0, 0, 2],
-            &[(b"abcx", b"axxx"), (b"dxy", b"x"), (b"dxy", b"y")],
+            &[(b"abc0", b"a000"), (b"d01", b"0"), (b"d01", b"1")],
         ),
-        2 => system(alloc, &[1, 1], &[(b"abx", b"bax")]),
+        2 => system(alloc, &[1, 1], &[(b"ab0", b"ba0")]),
         3 => wide(alloc, 149),
         _ => wide(alloc, 99),
     }

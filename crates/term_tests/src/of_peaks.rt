@@ -21,14 +21,20 @@ fn forked_system(alloc: Global) -> Result<Trs, Fail> {
     constants(alloc, 3, &[(0, 1), (0, 2)])
 }
 
+fn is_stopped<T: Drop>(search: Search<T>) -> bool {
+    matches!(&search, Search::Stopped)
+}
+
+fn is_found<T: Drop>(search: Search<T>) -> bool {
+    matches!(&search, Search::Found(_))
+}
+
 #[test]
 fn joins(rt: HostRuntime) -> Result<(), Fail> {
     let trs = closed_system(rt.alloc())?;
     let peaks = critical_pairs(rt.alloc(), &trs)?;
-    let stopped = find_newman(rt.alloc(), &trs, &peaks, &mut at_once())?;
-    assert!(rt; matches!(&stopped, Search::Stopped));
-    let found = find_newman(rt.alloc(), &trs, &peaks, &mut never())?;
-    assert!(rt; matches!(&found, Search::Found(_)));
+    assert!(rt; is_stopped(find_newman(rt.alloc(), &trs, &peaks, &mut at_once())?));
+    assert!(rt; is_found(find_newman(rt.alloc(), &trs, &peaks, &mut never())?));
     Ok(())
 }
 
@@ -36,10 +42,8 @@ fn joins(rt: HostRuntime) -> Result<(), Fail> {
 fn parallel_steps(rt: HostRuntime) -> Result<(), Fail> {
     let trs = closed_system(rt.alloc())?;
     let peaks = critical_pairs(rt.alloc(), &trs)?;
-    let stopped = find_parallel(rt.alloc(), &trs, &peaks, &mut at_once())?;
-    assert!(rt; matches!(&stopped, Search::Stopped));
-    let found = find_parallel(rt.alloc(), &trs, &peaks, &mut never())?;
-    assert!(rt; matches!(&found, Search::Found(_)));
+    assert!(rt; is_stopped(find_parallel(rt.alloc(), &trs, &peaks, &mut at_once())?));
+    assert!(rt; is_found(find_parallel(rt.alloc(), &trs, &peaks, &mut never())?));
     Ok(())
 }
 
@@ -47,10 +51,8 @@ fn parallel_steps(rt: HostRuntime) -> Result<(), Fail> {
 fn strong_joins(rt: HostRuntime) -> Result<(), Fail> {
     let trs = closed_system(rt.alloc())?;
     let peaks = critical_pairs(rt.alloc(), &trs)?;
-    let stopped = find_strong(rt.alloc(), &trs, &peaks, &mut at_once())?;
-    assert!(rt; matches!(&stopped, Search::Stopped));
-    let found = find_strong(rt.alloc(), &trs, &peaks, &mut never())?;
-    assert!(rt; matches!(&found, Search::Found(_)));
+    assert!(rt; is_stopped(find_strong(rt.alloc(), &trs, &peaks, &mut at_once())?));
+    assert!(rt; is_found(find_strong(rt.alloc(), &trs, &peaks, &mut never())?));
     Ok(())
 }
 
@@ -58,10 +60,8 @@ fn strong_joins(rt: HostRuntime) -> Result<(), Fail> {
 fn ranks(rt: HostRuntime) -> Result<(), Fail> {
     let trs = closed_system(rt.alloc())?;
     let peaks = critical_pairs(rt.alloc(), &trs)?;
-    let stopped = find_label(rt.alloc(), &trs, &peaks, BUDGET, &mut at_once())?;
-    assert!(rt; matches!(&stopped, Search::Stopped));
-    let found = find_label(rt.alloc(), &trs, &peaks, BUDGET, &mut never())?;
-    assert!(rt; matches!(&found, Search::Found(_)));
+    assert!(rt; is_stopped(find_label(rt.alloc(), &trs, &peaks, BUDGET, &mut at_once())?));
+    assert!(rt; is_found(find_label(rt.alloc(), &trs, &peaks, BUDGET, &mut never())?));
     Ok(())
 }
 
@@ -69,10 +69,8 @@ fn ranks(rt: HostRuntime) -> Result<(), Fail> {
 fn forks(rt: HostRuntime) -> Result<(), Fail> {
     let trs = forked_system(rt.alloc())?;
     let peaks = critical_pairs(rt.alloc(), &trs)?;
-    let stopped = find_fork(rt.alloc(), &trs, &peaks, &mut at_once())?;
-    assert!(rt; matches!(&stopped, Search::Stopped));
-    let found = find_fork(rt.alloc(), &trs, &peaks, &mut never())?;
-    assert!(rt; matches!(&found, Search::Found(_)));
+    assert!(rt; is_stopped(find_fork(rt.alloc(), &trs, &peaks, &mut at_once())?));
+    assert!(rt; is_found(find_fork(rt.alloc(), &trs, &peaks, &mut never())?));
     Ok(())
 }
 
@@ -80,9 +78,7 @@ fn forks(rt: HostRuntime) -> Result<(), Fail> {
 fn splits(rt: HostRuntime) -> Result<(), Fail> {
     let trs = forked_system(rt.alloc())?;
     let peaks = critical_pairs(rt.alloc(), &trs)?;
-    let stopped = find_split(rt.alloc(), &trs, &peaks, &mut at_once())?;
-    assert!(rt; matches!(&stopped, Search::Stopped));
-    let found = find_split(rt.alloc(), &trs, &peaks, &mut never())?;
-    assert!(rt; matches!(&found, Search::Found(_)));
+    assert!(rt; is_stopped(find_split(rt.alloc(), &trs, &peaks, &mut at_once())?));
+    assert!(rt; is_found(find_split(rt.alloc(), &trs, &peaks, &mut never())?));
     Ok(())
 }

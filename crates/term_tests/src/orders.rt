@@ -37,16 +37,17 @@ fn read(alloc: Global, text: &[u8]) -> Result<Term, OutOfMemory> {
 /// Whether a term is weakly above another one, and strictly.
 type Compared = (Result<bool, TooBig>, Result<bool, TooBig>);
 
-/// How the terms of two texts compare.
-fn compare<O: ReductionPair>(
+/// Whether the terms of two texts compare as told.
+fn compares<O: ReductionPair>(
     alloc: Global,
     order: &O,
     left: &[u8],
     right: &[u8],
-) -> Result<Compared, OutOfMemory> {
+    want: Compared,
+) -> Result<bool, OutOfMemory> {
     let left = read(alloc, left)?;
     let right = read(alloc, right)?;
-    Ok((order.weak(&left, &right), order.strict(&left, &right)))
+    Ok((order.weak(&left, &right), order.strict(&left, &right)) == want)
 }
 
 /// An interpretation, by symbols and their numbers.
@@ -79,7 +80,7 @@ fn a_linear_interpretation_compares(rt: HostRuntime) -> Result<(), Fail> {
         (b"ddx", b"x", (Err(TooBig), Err(TooBig))),
     ];
     for (left, right, want) in rows {
-        assert!(rt; compare(alloc, &table, left, right)? == want);
+        assert!(rt; compares(alloc, &table, left, right, want)?);
     }
     let fault = linear(alloc, &[(8191, &[0])])?.err();
     assert!(rt; fault == Some(TableFault::Twice(8191)));
@@ -153,10 +154,8 @@ fn path(alloc: Global, of: &[(u32, u64, &[u8])]) -> Result<Lpo, Fail> {
 fn a_path_order_compares(rt: HostRuntime) -> Result<(), Fail> {
     let alloc = rt.alloc();
     let order = path(alloc, &[(1, 0, &[1]), (2, 1, &[1, 2])])?;
-    let found = compare(alloc, &order, b"+sxy", b"s+xy")?;
-    assert!(rt; found == (Ok(true), Ok(true)));
-    let found = compare(alloc, &order, b"s+xy", b"+sxy")?;
-    assert!(rt; found == (Ok(false), Ok(false)));
+    assert!(rt; compares(alloc, &order, b"+sxy", b"s+xy", (Ok(true), Ok(true)))?);
+    assert!(rt; compares(alloc, &order, b"s+xy", b"+sxy", (Ok(false), Ok(false)))?);
     Ok(())
 }
 
@@ -178,10 +177,8 @@ fn knuth(alloc: Global, s: u64, plus: u64) -> Result<Result<Kbo, KboFault>, OutO
 fn a_knuth_bendix_order_compares(rt: HostRuntime) -> Result<(), Fail> {
     let alloc = rt.alloc();
     let order = knuth(alloc, 2, 1)??;
-    let found = compare(alloc, &order, b"s+xy", b"+sxy")?;
-    assert!(rt; found == (Ok(true), Ok(true)));
-    let found = compare(alloc, &order, b"+sxy", b"s+xy")?;
-    assert!(rt; found == (Ok(false), Ok(false)));
+    assert!(rt; compares(alloc, &order, b"s+xy", b"+sxy", (Ok(true), Ok(true)))?);
+    assert!(rt; compares(alloc, &order, b"+sxy", b"s+xy", (Ok(false), Ok(false)))?);
     let fault = knuth(alloc, 0, 1)?.err();
     assert!(rt; fault == Some(KboFault::UnaryNotTop(1)));
     Ok(())
