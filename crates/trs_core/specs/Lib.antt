@@ -7,5 +7,6 @@ pub mod RuleChecks
 pub mod SystemLimits
 pub mod Valid
 pub mod View
+pub mod VariableSet
 pub mod ViewFalls
 pub mod Seen

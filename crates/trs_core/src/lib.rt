@@ -19,6 +19,7 @@ mod replacing;
 mod rules;
 mod systems;
 mod terms;
+mod variable_set;
 mod variables;
 
 pub use applying::ApplySize;

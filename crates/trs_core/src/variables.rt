@@ -4,16 +4,16 @@ ghost use Rattle.trs_defs.specs.Variable.{variables_of, with_variables};
 ghost use Rattle.trs_core.specs.Seen.{HasItems};
 ghost use Rattle.trs_core.specs.View.{tree};
 
+use crate::variable_set::VariableSet;
 use crate::{OutOfMemory, Term};
 use std::alloc::Global;
-use std::collections::BTreeSet;
 
 impl Term {
     /// The variables in order of first occurrence from the left, each once.
     pub fn vars(&self, alloc: Global) -> Result<Vec<u32>, OutOfMemory>
         ensures { IfOk result (λ vars. vars.items ≡ variables_of (tree self.now)) }
     {
-        let mut seen = BTreeSet::new(alloc);
+        let mut seen = VariableSet::new(alloc);
         let mut vars = Vec::new(alloc);
         add_vars(self, &mut seen, &mut vars)?;
         Ok(vars)
@@ -21,7 +21,7 @@ impl Term {
 }
 
 /// Adds the variables of a term that are not seen yet.
-fn add_vars(t: &Term, seen: &mut BTreeSet<u32>, vars: &mut Vec<u32>) -> Result<(), OutOfMemory>
+fn add_vars(t: &Term, seen: &mut VariableSet, vars: &mut Vec<u32>) -> Result<(), OutOfMemory>
     requires { HasItems seen.old vars.old.items }
     ensures vars { OnOk result (vars.new.items ≡ with_variables vars.old.items (tree t.now)) }
     ensures seen { OnOk result (HasItems seen.new vars.new.items) }
@@ -38,7 +38,7 @@ fn add_vars(t: &Term, seen: &mut BTreeSet<u32>, vars: &mut Vec<u32>) -> Result<(
 }
 
 /// Adds a variable that is not seen yet.
-fn add_var(v: u32, seen: &mut BTreeSet<u32>, vars: &mut Vec<u32>) -> Result<(), OutOfMemory>
+fn add_var(v: u32, seen: &mut VariableSet, vars: &mut Vec<u32>) -> Result<(), OutOfMemory>
     requires { HasItems seen.old vars.old.items }
     ensures vars { OnOk result (vars.new.items ≡ with_variables vars.old.items (var v)) }
     ensures seen { OnOk result (HasItems seen.new vars.new.items) }
