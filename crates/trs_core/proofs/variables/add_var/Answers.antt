@@ -1,4 +1,4 @@
-use Rattle.trs_core.proofs.SeenItems.{one_more_seen, seen_again}
+use Rattle.trs_core.proofs.SeenItems.{one_more_seen}
 use Rattle.trs_core.proofs.variables.add_var.Goals as goal
 
 pub returns-in_ok-push-clause-seen : goal.returns-in_ok-push-clause-seen
