@@ -22,7 +22,7 @@ use std::alloc::Global;
 use trs_core::{OutOfMemory, Term};
 
 /// The most nodes of a small graph.
-const MOST_SMALL_NODES: usize = 1 << 14;
+const MOST_SMALL_NODES: usize = 1 << 16;
 
 impl SharedPair {
     /// Two terms of so many nodes, filtered. Equal subterms get one number, which takes memory.
