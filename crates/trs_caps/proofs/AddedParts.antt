@@ -74,7 +74,7 @@ pub record SameFits (old : ℕ → List HoledTree) (cs : List Cap) (ts : List Te
 pub all_to_fit : (old : ℕ → List HoledTree) (cs : List Cap) (ts : List Term) → SameFits old cs ts old cs ts
 all_to_fit old cs ts = record { onward = λ τ h. h; back = λ τ h. h }
 
-first_fits : (c : HoledTree) (cs : HoledTrees) (t : Tree) (ts : Trees) → EachFits (more c cs) (cons t ts) → Fits c t × EachFits cs ts
+pub first_fits : (c : HoledTree) (cs : HoledTrees) (t : Tree) (ts : Trees) → EachFits (more c cs) (cons t ts) → Fits c t × EachFits cs ts
 first_fits c cs t ts (fits_more p ps) = (p, ps)
 
 with_cells : (old new : ℕ → List HoledTree) (cs : List Cap) (ts : List Term) (i : ℕ) (c : Cap) (t : Term) → length cs ≡ length ts → i < length cs → c ≡ get_or cs i c → t ≡ get_or ts i t
@@ -93,7 +93,7 @@ pub next_walk : (old mid new : ℕ → List HoledTree) (cs : List Cap) (ts : Lis
 next_walk old mid new cs ts i c t l h is_c is_t same adds =
     one_less old mid new cs (drop (i + 1) cs) ts (drop (i + 1) ts) c t (with_cells old mid cs ts i c t l h is_c is_t same) adds
 
-args_fit : (f g : ℕ) (cs : HoledTrees) (ts : Trees) → Fits (symbol f cs) (app g ts) → EachFits cs ts
+pub args_fit : (f g : ℕ) (cs : HoledTrees) (ts : Trees) → Fits (symbol f cs) (app g ts) → EachFits cs ts
 args_fit f g cs ts (fits_symbol p) = p
 
 pub no_next_walk : (old mid : ℕ → List HoledTree) (cs : List Cap) (ts : List Term) (i f g : ℕ) (c : Cap) (t : Term) → length cs ≡ length ts → i < length cs → c ≡ get_or cs i c → t ≡ get_or ts i t

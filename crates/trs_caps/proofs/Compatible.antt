@@ -61,7 +61,7 @@ mutual
 
 -- two caps in one: a hole only where both have one
 abbrev mutual
-  merged : HoledTree → HoledTree → HoledTree
+  pub merged : HoledTree → HoledTree → HoledTree
   merged hole d = d
   merged (own v) d = own v
   merged (symbol f cs) hole = symbol f cs
@@ -74,7 +74,7 @@ abbrev mutual
   all_merged (more c cs) (more d ds) = more (merged c d) (all_merged cs ds)
 
 mutual
-  merged_first : (c d : HoledTree) (t : Tree) → clash c d ≡ false → Fits (merged c d) t → Fits c t
+  pub merged_first : (c d : HoledTree) (t : Tree) → clash c d ≡ false → Fits (merged c d) t → Fits c t
   merged_first hole d t e p = fits_hole
   merged_first (own v) d t e p = p
   merged_first (symbol f cs) hole t e p = p
@@ -92,7 +92,7 @@ mutual
       fits_more (merged_first c d t h.0 p) (all_merged_first cs ds ts h.1 ps)
 
 mutual
-  merged_second : (c d : HoledTree) (t : Tree) → clash c d ≡ false → Fits (merged c d) t → Fits d t
+  pub merged_second : (c d : HoledTree) (t : Tree) → clash c d ≡ false → Fits (merged c d) t → Fits d t
   merged_second hole d t e p = p
   merged_second (own v) hole t e p = fits_hole
   merged_second (own v) (own w) t e p = let same : v ≡ w = same_number v w e in subst (λ z. Fits (own z) t) same p
@@ -113,6 +113,22 @@ mutual
       let h = or_parts (clash c d) (some_clash cs ds) e in
       fits_more (merged_second c d t h.0 p) (all_merged_second cs ds ts h.1 ps)
 
+-- what fits both fits the two in one
+mutual
+  pub merged_both : (c d : HoledTree) (t : Tree) → Fits c t → Fits d t → Fits (merged c d) t
+  merged_both hole d t p q = q
+  merged_both (own v) d t p q = p
+  merged_both (symbol f cs) hole t p q = p
+  merged_both (symbol f cs) (own w) t p q = p
+  merged_both (symbol f cs) (symbol g ds) (var x) p q = elim p [ ]
+  merged_both (symbol f cs) (symbol g ds) (app k ts) (fits_symbol p) (fits_symbol q) = fits_symbol (all_merged_both cs ds ts p q)
+
+  all_merged_both : (cs ds : HoledTrees) (ts : Trees) → EachFits cs ts → EachFits ds ts → EachFits (all_merged cs ds) ts
+  all_merged_both none ds ts p q = p
+  all_merged_both (more c cs) none ts p q = p
+  all_merged_both (more c cs) (more d ds) nil p q = elim p [ ]
+  all_merged_both (more c cs) (more d ds) (cons t ts) (fits_more p ps) (fits_more q qs) = fits_more (merged_both c d t p q) (all_merged_both cs ds ts ps qs)
+
 false_of : (b : Bool) → (IsTrue b → ⊥) → b ≡ false
 false_of true h = absurd (h refl)
 false_of false h = refl
@@ -123,3 +139,14 @@ disjoint_clash c d false e h = absurd (h (filled (merged c d)) (merged_first c d
 
 pub disjoint_where_clash : (c d : HoledTree) (b : Bool) → b ≡ clash c d → IsTrue b ↔ AreDisjoint c d
 disjoint_where_clash c d b e = (λ h t p q. clash_disjoint c d t (sym e ∙ h) p q, λ h. disjoint_clash c d b (sym e) h)
+
+-- a cap does not clash with itself
+pub clash_itself : (c : HoledTree) → clash c c ≡ false
+clash_itself c = false_of (clash c c) (λ h. clash_disjoint c c (filled c) h (filled_fits c) (filled_fits c))
+
+pub clash_where_disjoint : (c d : HoledTree) (b : Bool) → IsTrue b ↔ AreDisjoint c d → b ≡ clash c d
+clash_where_disjoint c d b h = go (clash c d) refl
+  where
+    go : (x : Bool) → clash c d ≡ x → b ≡ clash c d
+    go true e = h.1 (λ t. clash_disjoint c d t e) ∙ sym e
+    go false e = false_of b (λ t. let wrong : IsTrue false = disjoint_clash c d false e (h.0 t) in absurd cc) ∙ sym e

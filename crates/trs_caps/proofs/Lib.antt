@@ -10,3 +10,4 @@ pub mod Rows
 pub mod KnownSteps
 pub mod ShapeLaws
 pub mod OrderedParts
+pub mod CapExists
