@@ -1,22 +1,37 @@
-use Rattle.std.proofs.Common.{true}
+use Rattle.std.specs.Prelude.{◌≡◌, ◌↔◌, IsTrue, IfOk}
+use Rattle.std.proofs.Common.{subst}
 use Rattle.trs_defs.specs.Tree.{Tree}
-use Rattle.trs_defs.specs.Derivation.{Reaches}
+use Rattle.trs_defs.specs.Joinable.{IsJoinable}
 use Rattle.trs_defs.specs.Step.{Step}
 use Rattle.trs_core.specs.View.{tree}
-use Rattle.trs_caps.specs.HoledTree.{Fits}
-use Rattle.trs_caps.specs.HoledCap.{IsHoledCap}
-use Rattle.trs_caps.specs.View.{holed}
-use Rattle.nonjoin.proofs.ApartLaws.{apart_where_disjoint}
+use Rattle.term_pool.specs.Pooled.{tree_at}
+use Rattle.term_pool.proofs.PoolTrees.{stands_at, stands_within}
+use Rattle.nonjoin.specs.Apart.{AreApart}
+use Rattle.nonjoin.proofs.comparing.apart.Goals.{In_ok-second}
 use Rattle.nonjoin.proofs.comparing.apart.Goals as goal
+
+-- the ids stand for the terms
+first_is : (c : In_ok-second) → tree_at c.intern-2.new.self c.in_ok-first.first ≡ tree c.args.a.now
+first_is c = stands_at c.intern-2.new.self c.in_ok-first.first (tree c.args.a.now) (c.intern-2.ensures.kept.kept c.in_ok-first.first (tree c.args.a.now) c.in_ok-first.ensures.id)
+
+second_is : (c : In_ok-second) → tree_at c.intern-2.new.self c.in_ok-second.second ≡ tree c.args.b.now
+second_is c = stands_at c.intern-2.new.self c.in_ok-second.second (tree c.args.b.now) c.in_ok-second.ensures.id
+
+pub apart_in_pool-requires-clause-first : goal.apart_in_pool-requires-clause-first
+apart_in_pool-requires-clause-first c =
+    stands_within c.intern-2.new.self c.in_ok-first.first (tree c.args.a.now) (c.intern-2.ensures.kept.kept c.in_ok-first.first (tree c.args.a.now) c.in_ok-first.ensures.id)
+
+pub apart_in_pool-requires-clause-second : goal.apart_in_pool-requires-clause-second
+apart_in_pool-requires-clause-second c = stands_within c.intern-2.new.self c.in_ok-second.second (tree c.args.b.now) c.in_ok-second.ensures.id
 
 pub returns-clause-caps : goal.returns-clause-caps
 returns-clause-caps c =
-    let first : IsHoledCap c.args.trs.now.rules true (tree c.args.a.now) (holed c.in_ok-first.first) = rw c.in_ok-by_root.ensures at c.in_ok-first.ensures.cap in
-    let second : IsHoledCap c.args.trs.now.rules true (tree c.args.b.now) (holed c.in_ok-second.second) = rw c.in_ok-by_root.ensures at c.in_ok-second.ensures.cap in
-    apart_where_disjoint c.args.trs.now.rules (tree c.args.a.now) (tree c.args.b.now) (holed c.in_ok-first.first) (holed c.in_ok-second.second) first second c.is_disjoint.result c.is_disjoint.ensures
+    let a = (goal.at.returns-clause-caps c).In_ok-second in
+    let P : Tree → Tree → Type 0 = λ t u. IfOk c.apart_in_pool.result (λ yes. IsTrue yes ↔ AreApart c.args.trs.now.rules t u) in
+    subst (λ t. P t (tree c.args.b.now)) (first_is a) (subst (P (tree_at c.intern-2.new.self c.in_ok-first.first)) (second_is a) c.apart_in_pool.ensures.caps)
 
 pub returns-clause-not_joinable : goal.returns-clause-not_joinable
 returns-clause-not_joinable c =
-    let first : (v : Tree) → Reaches (Step c.args.trs.now.rules) (tree c.args.a.now) v → Fits (holed c.in_ok-first.first) v = rw c.in_ok-by_root.ensures at c.in_ok-first.ensures.term in
-    let second : (v : Tree) → Reaches (Step c.args.trs.now.rules) (tree c.args.b.now) v → Fits (holed c.in_ok-second.second) v = rw c.in_ok-by_root.ensures at c.in_ok-second.ensures.term in
-    λ yes_apart (v, from_a, from_b). c.is_disjoint.ensures.0 yes_apart v (first v from_a) (second v from_b)
+    let a = (goal.at.returns-clause-not_joinable c).In_ok-second in
+    let P : Tree → Tree → Type 0 = λ t u. IfOk c.apart_in_pool.result (λ yes. IsTrue yes → IsJoinable (Step c.args.trs.now.rules) t u → ⊥) in
+    subst (λ t. P t (tree c.args.b.now)) (first_is a) (subst (P (tree_at c.intern-2.new.self c.in_ok-first.first)) (second_is a) c.apart_in_pool.ensures.not_joinable)
