@@ -1,8 +1,7 @@
 -- The kind `fork` is sound.
-use Rattle.std.specs.Prelude.{◌≡◌, ℕ, Bool, true, false, List, [], ◌∷◌, Result, Ok, Err, OnOk, IsTrue, length}
+use Rattle.std.specs.Prelude.{◌≡◌, Bool, true, false, List, Result, Ok, Err, OnOk, IsTrue, length}
 use Rattle.std.proofs.Common.{sym, subst, ◌∙◌}
 use Rattle.trs_defs.specs.Tree.{Tree}
-use Rattle.trs_defs.specs.Size.{within_limits}
 use Rattle.trs_defs.specs.Derivation.{Reaches}
 use Rattle.trs_defs.specs.NormalForm.{IsNormalForm}
 use Rattle.trs_defs.specs.Step.{Step}
@@ -19,7 +18,7 @@ use Rattle.rewrite_core.specs.declared.checks.forks.ForkTest.TheVariants.{Normal
 use Rattle.rewrite_core.specs.declared.checks.refusals.CheckFault.{CheckFault}
 use Rattle.rewrite_core.specs.Reducible.{IsReducible}
 use Rattle.rewrite_core.specs.Check.{HasOneAnswer, Answers, goes_on, absent, holds}
-use Rattle.rewrite_core.specs.PathCheck.{Runs, followed}
+use Rattle.rewrite_core.specs.PathCheck.{followed}
 use Rattle.rewrite_core.proofs.CheckLaws.{once}
 use Rattle.cert_step.specs.ProofProblem as problem
 use Rattle.cert_step.specs.ProofProblem.{ProofProblem, Holds}
@@ -39,14 +38,6 @@ equal_irreducible {rules} equal normal = subst (λ x. IsReducible rules x → �
 
 pub differ : {b : Bool} → b ≡ true → b ≡ false → ⊥
 differ e f = let wrong : true ≡ false = sym e ∙ f in cc
-
--- The end of a path keeps the limits where its start does.
-end_within_limits : (rules : List RewriteRule) (path : List PlacedRule) (t u : Tree) → Follows rules path t u → IsTrue (within_limits t) → IsTrue (within_limits u)
-end_within_limits rules [] t u e small = subst (λ x. IsTrue (within_limits x)) e small
-end_within_limits rules (s ∷ path) t u (v, step, kept, follows) small = end_within_limits rules path v u follows kept
-
-pub end_is_small : {rules : List RewriteRule} {path : List PlacedRule} {t u : Tree} {item number : ℕ} → Runs rules t path item number (Ok u) → IsTrue (within_limits t) → IsTrue (within_limits u)
-end_is_small {rules} {path} {t} (followed u follows) small = end_within_limits rules path t u follows small
 
 reaches : (rules : List RewriteRule) (path : List PlacedRule) (t u : Tree) → Follows rules path t u → Reaches (Step rules) t u
 reaches rules path t u follows = (length path, derivation_of_follows rules path t u follows)

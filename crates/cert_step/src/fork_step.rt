@@ -1,9 +1,9 @@
-ghost use Rattle.std.specs.Prelude.{◌≡◌, [], OnOk, IsTrue};
+ghost use Rattle.std.specs.Prelude.{◌≡◌, ◌<◌, [], length, IfOk, OnOk};
 ghost use Rattle.trs_core.specs.View.{tree};
-ghost use Rattle.trs_defs.specs.Size.{within_limits};
 ghost use Rattle.trs_defs.specs.WellFormed.{IsWellFormed};
 ghost use Rattle.trs_defs.specs.Claims.{IsForked};
 ghost use Rattle.trs_defs.specs.UniqueNormalForms.{IsSplit};
+ghost use Rattle.nonjoin.specs.term_pool.Pooled.{Extends, StandsFor, tree_at};
 ghost use Rattle.rewrite_core.specs.Check.{AnswersBy, Answers};
 ghost use Rattle.rewrite_core.specs.PathCheck.{Runs};
 ghost use Rattle.rule_label.specs.closed_pairs.Ends.{made_of};
@@ -14,7 +14,7 @@ ghost use Rattle.cert_step.specs.ForkKind.{end_conditions, fork_conditions};
 use crate::Problem;
 use crate::apply::keeps_system;
 use crate::problem::no_problem;
-use nonjoin::apart;
+use nonjoin::{Pool, apart_in_pool};
 use rewrite_core::{CheckFault, ForkTest, PathStep, StepRefused, end_of_path, is_normal};
 use std::alloc::Global;
 use trs_core::{Term, Trs};
@@ -29,7 +29,6 @@ pub(crate) fn apply_fork(
     right: &[PathStep],
     test: ForkTest,
 ) -> Result<Vec<Problem>, CheckFault>
-    requires { IsTrue (within_limits (tree start.now)) }
     ensures { AnswersBy problems_of (leaves []
         (fork_conditions trs.now.rules (tree start.now) left.now right.now test)) result }
 {
@@ -49,7 +48,6 @@ fn fork_check(
     right: &[PathStep],
     test: ForkTest,
 ) -> Result<(), CheckFault>
-    requires { test ≡ ForkTest.Apart → IsTrue (within_limits (tree start.now)) }
     ensures answers { Answers (fork_conditions trs.now.rules (tree start.now)
         left.now right.now test) result }
     ensures forked { OnOk result
@@ -58,14 +56,30 @@ fn fork_check(
         (test ≡ ForkTest.Normal → IsWellFormed trs.now.arities (tree start.now) → IsSplit trs.now) }
 {
     keeps_system(trs);
+    match test {
+        ForkTest::Normal => fork_to_normal_forms(alloc, trs, start, left, right),
+        ForkTest::Apart => fork_by_caps(alloc, trs, start, left, right),
+    }
+}
+
+/// Sees that both paths lead from the start, to different normal forms.
+fn fork_to_normal_forms(
+    alloc: Global,
+    trs: &Trs,
+    start: &Term,
+    left: &[PathStep],
+    right: &[PathStep],
+) -> Result<(), CheckFault>
+    ensures { Answers (fork_conditions trs.now.rules (tree start.now)
+        left.now right.now ForkTest.Normal) result }
+{
     let left_made = made_by_path(alloc, trs, start, left, 0)?;
     let right_made = made_by_path(alloc, trs, start, right, 1)?;
-    test_ends(
+    different_normal_forms(
         alloc,
         trs,
         end_of(start, &left_made),
         end_of(start, &right_made),
-        test,
     )
 }
 
@@ -98,25 +112,6 @@ fn end_of<'a>(start: &'a Term, made: &'a Option<Term>) -> &'a Term
     }
 }
 
-/// Sees that two terms pass the test.
-fn test_ends(
-    alloc: Global,
-    trs: &Trs,
-    left: &Term,
-    right: &Term,
-    test: ForkTest,
-) -> Result<(), CheckFault>
-    requires left { test ≡ ForkTest.Apart → IsTrue (within_limits (tree left.now)) }
-    requires right { test ≡ ForkTest.Apart → IsTrue (within_limits (tree right.now)) }
-    ensures { Answers
-        (end_conditions trs.now.rules test (tree left.now) (tree right.now)) result }
-{
-    match test {
-        ForkTest::Normal => different_normal_forms(alloc, trs, left, right),
-        ForkTest::Apart => caps_apart(alloc, trs, left, right),
-    }
-}
-
 /// Sees that both terms are normal forms, and that they differ. Where they are equal, the right one
 /// is a normal form as the left one is, and is not looked at again.
 fn different_normal_forms(
@@ -140,15 +135,48 @@ fn different_normal_forms(
     Ok(())
 }
 
-/// Sees that the caps of both terms do not unify.
-fn caps_apart(alloc: Global, trs: &Trs, left: &Term, right: &Term) -> Result<(), CheckFault>
-    requires left { IsTrue (within_limits (tree left.now)) }
-    requires right { IsTrue (within_limits (tree right.now)) }
-    ensures { Answers
-        (end_conditions trs.now.rules ForkTest.Apart (tree left.now) (tree right.now)) result }
+/// Sees that both paths lead from the start, to ends whose caps do not unify. Both are followed in
+/// one pool, so that what they leave as it was is there once.
+fn fork_by_caps(
+    alloc: Global,
+    trs: &Trs,
+    start: &Term,
+    left: &[PathStep],
+    right: &[PathStep],
+) -> Result<(), CheckFault>
+    ensures { Answers (fork_conditions trs.now.rules (tree start.now)
+        left.now right.now ForkTest.Apart) result }
 {
-    if !apart(alloc, trs, left, right)? {
+    let mut pool = Pool::new(alloc);
+    let id = pool.intern(alloc, start)?;
+    let left_end = end_in_pool(alloc, &mut pool, trs, start, id, left, 0)?;
+    let right_end = end_in_pool(alloc, &mut pool, trs, start, id, right, 1)?;
+    if !apart_in_pool(alloc, &pool, trs, left_end, right_end)? {
         return Err(CheckFault::Refused(StepRefused::NotApart));
     }
     Ok(())
+}
+
+/// The id of the end of a path of this number. Where it is not followed, it is followed again by
+/// itself, which says why.
+fn end_in_pool(
+    alloc: Global,
+    pool: &mut Pool,
+    trs: &Trs,
+    start: &Term,
+    id: u32,
+    path: &[PathStep],
+    number: u64,
+) -> Result<u32, CheckFault>
+    requires { StandsFor pool.old id (tree start.now) }
+    ensures end { AnswersBy (tree_at pool.new)
+        (Runs trs.now.rules (tree start.now) path.now 0 number) result }
+    ensures there { IfOk result (λ end. end < length pool.new) }
+    ensures kept { Extends pool.old pool.new }
+{
+    if let Ok(end) = pool.run_path(alloc, trs, id, path) {
+        return Ok(end);
+    }
+    let end = end_of_path(alloc, trs, start, path, 0, number)?;
+    Ok(pool.intern(alloc, &end)?)
 }
