@@ -1,6 +1,7 @@
 pub mod Loops
 pub mod NameLists
 pub mod NameKeys
+pub mod NameSlots
 pub mod SymbolPairs
 pub mod SymbolTables
 pub mod NamedSteps

@@ -1,10 +1,11 @@
 -- Names with one more behind them, and their numbers.
-use Rattle.std.proofs.Common.{◌≡◌, ℕ, suc, Bool, true, false, cond, not, ◌||◌, ◌&&◌, List, [], ◌∷◌, ◌++◌, Option, Some, None, option_map, unwrap_or, refl, ap, ◌<◌, length, arith}
+use Rattle.std.proofs.Common.{◌≡◌, ◌∙◌, ℕ, zero, suc, Bool, true, false, cond, not, ◌||◌, ◌&&◌, List, [], ◌∷◌, ◌++◌, Option, Some, None, option_map, unwrap_or, refl, ap, ◌<◌, length, get_or, take, arith}
 use Rattle.std.specs.Str.{bytes_eq}
 use Rattle.std.specs.List.{list_any}
 use Rattle.std.specs.Option.{option_or}
+use Rattle.std.proofs.lemmas.Bool.{and_parts, false_from_ne_true, both_ways, not-true}
 use Rattle.std.proofs.lemmas.Cmp.{nat_list_eq_equiv}
-use Rattle.std.proofs.lemmas.List.Folds.{list_any-append}
+use Rattle.std.proofs.lemmas.List.Folds.{list_any-append, list_any_at}
 use Rattle.names_text.specs.Names.{number_among, are_distinct}
 
 absent_behind : (b rest : Bool) (o : Option ℕ) → cond b (Some 0) (option_map suc o) ≡ None → (o ≡ None → rest ≡ false) → (b || rest) ≡ false
@@ -28,6 +29,20 @@ distinct_last [] name h e = refl
 distinct_last (n ∷ ns) name h e =
     rw (list_any-append (bytes_eq n) ns (name ∷ []), nat_list_eq_equiv.symm n name)
     (last_behind (list_any (bytes_eq n) ns) (are_distinct ns) (bytes_eq name n) (list_any (bytes_eq name) ns) _ h e (distinct_last ns name))
+
+-- a name is none of others where it is not among them
+pub any_other : (names : List (List ℕ)) (n : List ℕ) (f : ℕ) → list_any (bytes_eq n) names ≡ false → f < length names → bytes_eq n (get_or names f []) ≡ false
+any_other names n f e lt = false_from_ne_true _ (λ h. both_ways _ e (list_any_at (bytes_eq n) names f [] lt h))
+
+-- a name is not among those before it
+pub next_new : (ns : List (List ℕ)) (i : ℕ) → are_distinct ns ≡ true → i < length ns → number_among (take i ns) (get_or ns i []) ≡ None
+next_new [] i d lt = absurd (omega arith)
+next_new (n ∷ ns) zero d lt = refl
+next_new (n ∷ ns) (suc i) d lt =
+    let parts = and_parts (not (list_any (bytes_eq n) ns)) (are_distinct ns) d in
+    let differ : bytes_eq (get_or ns i []) n ≡ false =
+    nat_list_eq_equiv.symm (get_or ns i []) n ∙ any_other ns n i (not-true _ parts.0) (omega arith) in
+    rw (differ, next_new ns i parts.1 (omega arith)) refl
 
 -- ---- numbers
 

@@ -2,18 +2,17 @@
 use Rattle.std.proofs.Common.{◌≡◌, ℕ, zero, suc, ◌^◌, ◌<◌, ◌≤◌, true, false, not, List, [], ◌∷◌, ◌++◌, length, get_or, replicate, Some, None, decimal, refl, ap, ◌∙◌, ⊎_elim, arith}
 use Rattle.std.specs.List.{list_any, AllByRecursion}
 use Rattle.std.specs.Str.{bytes_eq}
-use Rattle.std.proofs.lemmas.Bool.{and_parts, false_from_ne_true, both_ways, not-true, cases_lt}
+use Rattle.std.proofs.lemmas.Bool.{and_parts, false_from_ne_true, not-true, cases_lt}
 use Rattle.std.proofs.lemmas.Cmp.{nat_list_eq_equiv}
 use Rattle.std.proofs.lemmas.Fmt.{decimal_nonempty, decimal_injective}
 use Rattle.std.proofs.lemmas.List.{append_cancel_left, length-append}
-use Rattle.std.proofs.lemmas.List.Folds.{list_any_at}
 use Rattle.std.proofs.lemmas.Slice.Eq.{bytes_eq-Decides}
 use Rattle.sexp_core.specs.Tokens.{class_of, is_letter}
 use Rattle.sexp_core.specs.Printed.{IsWord}
 use Rattle.names_text.specs.Names.{number_among, are_distinct}
 use Rattle.names_text.specs.Named.{is_word}
 use Rattle.names_text.specs.VariableNames.{leading_underscores, underscores, variable_name}
-use Rattle.names_text.proofs.NameLists.{number_behind}
+use Rattle.names_text.proofs.NameLists.{any_other, number_behind}
 use Rattle.text_reading.proofs.Words.{decimal_word, letters}
 
 -- ---- words
@@ -62,9 +61,6 @@ no_symbol (n ∷ ns) k v le =
     let differ : bytes_eq (variable_name k v) n ≡ false =
     false_from_ne_true _ (λ e. absurd (omega (arith, ap leading_underscores (equal_names (variable_name k v) n e), leading k (decimal v)))) in
     rw (differ, no_symbol ns k v (omega arith)) refl
-
-any_other : (names : List (List ℕ)) (n : List ℕ) (f : ℕ) → list_any (bytes_eq n) names ≡ false → f < length names → bytes_eq n (get_or names f []) ≡ false
-any_other names n f e lt = false_from_ne_true _ (λ h. both_ways _ e (list_any_at (bytes_eq n) names f [] lt h))
 
 -- a symbol is found by its name
 pub symbol_number : (names : List (List ℕ)) (f : ℕ) → are_distinct names ≡ true → f < length names → number_among names (get_or names f []) ≡ Some f

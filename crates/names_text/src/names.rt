@@ -1,22 +1,16 @@
 ghost use Rattle.std.specs.Prelude.{◌≡◌, ◌++◌, ◌∷◌, ◌<◌, ◌^◌, [], length, slice_get, Some, None, IfSome, OnOk, OnErr, true};
 ghost use Rattle.names_text.specs.Names.{number_among, are_distinct};
-ghost use Rattle.names_text.specs.NameTable.{hash_of};
 
+use crate::index::Index;
 use std::alloc::{AllocError, Global};
-use std::collections::BTreeMap;
-use std::hash::{FoldHasher, Hasher};
 use std::marker::Model;
 
 /// Names, each once, numbered from 0 in the order in which they were added. Contracts see the list of the names.
-/// There is room for 2^32 - 1 names. Trees find them, since whoever writes a text can make the hashes of its names
-/// collide: most names are found by their hashes, and those whose hash an earlier name has by themselves.
+/// There is room for 2^32 - 1 names.
 #[derive(Drop)]
 pub struct Names {
     names: Vec<Vec<u8>>,
-    /// For each hash the first name that has it.
-    first: BTreeMap<u64, u32>,
-    /// The other names.
-    others: BTreeMap<Vec<u8>, u32>,
+    index: Index,
 }
 
 impl Model for Names {
@@ -27,7 +21,7 @@ impl Model for Names {
 
     ghost view = { λ s. map (λ n. n.items) s.names.items };
 
-    ghost invariant = { λ s. IsNameTable (map (λ n. n.items) s.names.items) s.first s.others };
+    ghost invariant = { λ s. IsNameTable (map (λ n. n.items) s.names.items) s.index };
 }
 
 impl Names {
@@ -36,8 +30,7 @@ impl Names {
     {
         Names {
             names: Vec::new(alloc),
-            first: BTreeMap::new(alloc),
-            others: BTreeMap::new(alloc),
+            index: Index::new(alloc),
         }
     }
 
@@ -55,15 +48,8 @@ impl Names {
         ensures within { IfSome result (λ i. i < length self.now) }
         ensures small { IfSome result (λ i. i < 2 ^ 32) }
     {
-        if let Some(number) = self.others.get(name) {
-            return Some(*number as usize);
-        }
-        let number = *self.first.get(&hash(name))? as usize;
-        if self.get(number) == name {
-            Some(number)
-        } else {
-            None
-        }
+        let number = self.index.find(&self.names, name)?;
+        Some(number as usize)
     }
 
     /// The name with a number.
@@ -84,28 +70,15 @@ impl Names {
         if next >= u32::MAX as usize {
             return Err(AllocError);
         }
-        let hash = hash(&name);
-        if self.first.contains_key(&hash) {
-            let key = Vec::from_slice(*name.allocator(), &name)?;
-            self.names.push(name)?;
-            if self.others.insert(key, next as u32).is_ok() {
-                return Ok(());
-            }
-        } else {
-            self.names.push(name)?;
-            if self.first.insert(hash, next as u32).is_ok() {
-                return Ok(());
+        let alloc = *name.allocator();
+        self.index.grow(alloc, &self.names)?;
+        self.names.push(name)?;
+        match self.index.add(alloc, &self.names[next], next as u32) {
+            Ok(()) => Ok(()),
+            Err(fault) => {
+                self.names.pop();
+                Err(fault)
             }
         }
-        self.names.pop();
-        Err(AllocError)
     }
-}
-
-fn hash(name: &[u8]) -> u64
-    ensures { result ≡ hash_of name.now }
-{
-    let mut hasher = FoldHasher::default();
-    hasher.write(name);
-    hasher.finish()
 }
