@@ -39,7 +39,7 @@ AreWithin names trees = (hash i : ℕ) → get nat_cmp trees.first hash ≡ Some
 pub record HaveMore (names : List (List ℕ)) (name : List ℕ) (old new : NameTrees) : Type 0 where
   pub within : AreWithin (names ++ name ∷ []) new
   pub found : (q : List ℕ) → number_by_trees (names ++ name ∷ []) new q
-    ≡ option_or (number_by_trees names old q) (if bytes_eq q name then Some (length names) else None)
+      ≡ option_or (number_by_trees names old q) (if bytes_eq q name then Some (length names) else None)
 
 -- ---- slots in front of trees
 

@@ -7,11 +7,14 @@ use crate::trees::NameTrees;
 use std::alloc::{AllocError, Global};
 use std::hash::{FoldHasher, Hasher};
 
-/// So many names have no slots, but trees alone.
+/// Fewer names have no slots, but trees alone.
 const FEW: usize = 8;
 
-/// The least number of slots, a power of two.
-const LEAST_SLOTS: usize = 64;
+/// The least number of slots, where there are any. As it is a power of two, so are all.
+const LEAST_SLOTS: usize = 128;
+
+/// With so many slots or more an index does not grow.
+const MOST_SLOTS: usize = 1 << 21;
 
 /// The number of no name.
 const FREE: u32 = u32::MAX;
@@ -65,19 +68,17 @@ impl Index {
         Ok(())
     }
 
-    /// With how many slots so many names should get another index, if they should: where half of the slots have names,
-    /// and no more names stand in the trees than in slots, so that names whose hashes collide do not make it grow.
+    /// With how many slots so many names should get another index, if they should: where an eighth of the slots have
+    /// names, and no more names stand in the trees than in slots, so that names whose hashes collide do not make it grow.
     fn grows_to(&self, names: usize) -> Option<usize> {
-        if names < FEW {
-            return None;
-        }
         let slots = self.slots.len();
+        if slots == 0 {
+            return if names < FEW { None } else { Some(LEAST_SLOTS) };
+        }
         let apart = self.trees.len();
         let placed = names.saturating_sub(apart);
-        if slots == 0 {
-            Some(LEAST_SLOTS)
-        } else if placed >= slots / 2 && placed >= apart {
-            Some(slots.saturating_mul(4))
+        if slots < MOST_SLOTS && placed >= slots / 8 && placed >= apart {
+            Some(slots * 4)
         } else {
             None
         }
