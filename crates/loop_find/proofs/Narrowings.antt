@@ -21,7 +21,7 @@ use Rattle.term_pool.proofs.KnownLaws.{size_instance}
 use Rattle.trs_core.specs.SystemLimits.{HasSmallVariables}
 use Rattle.trs_core.specs.View.{tree}
 use Rattle.trs_unify.specs.Renamed.{AreNames, old_name, first_numbers, IsRenamed}
-use Rattle.trs_unify.proofs.NewNames.{length_first, renamed_still}
+use Rattle.trs_unify.proofs.NewNames.{length_first, one_number, renamed_still}
 use Rattle.confluence_theory.proofs.Apart.{glue, glue_low, apply_high, part_variable}
 use Rattle.crit_pairs.specs.Apart.{renamed_apart}
 use Rattle.crit_pairs.proofs.InstanceVariables.{replaced_instance}
@@ -193,7 +193,7 @@ module _ (rule : RewriteRule) (place : List ℕ) (left right part : Tree) (there
     one_to_one : IsOneToOne second
     one_to_one i j h k e =
         let a : slice_get second i ≡ Some (old_name second j) = slice_get-get_or second i 0 h ∙ ap (λ z. Some z) e in
-        same_Some i j (sym (names.one (old_name second j) i a) ∙ names.one (old_name second j) j (slice_get-get_or second j 0 k))
+        one_number numbers second names (old_name second j) i j a (slice_get-get_or second j 0 k)
 
     narrows_to : NarrowsToTrees rule place left right (tree s.left) (tree s.right)
     narrows_to =

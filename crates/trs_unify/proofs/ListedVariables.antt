@@ -1,15 +1,12 @@
 -- Lists of variables, and the variables of terms that are added to them.
-use Rattle.std.proofs.Common.{◌≡◌, ℕ, ◌+◌, ◌<◌, zero, suc, Bool, true, false, inl, inr, List, [], ◌∷◌, ◌++◌, length, Some, None, IsTrue, refl, sym, ◌∙◌, ap, subst, slice_get, get_or, drop, nat_cmp, arith, add-one}
+use Rattle.std.proofs.Common.{◌≡◌, ℕ, ◌+◌, ◌<◌, zero, suc, Bool, true, false, inl, inr, List, [], ◌∷◌, ◌++◌, length, Some, IsTrue, refl, sym, ◌∙◌, ap, subst, slice_get, get_or, drop, arith, add-one}
 use Rattle.std.specs.Prelude.{◌==◌, if◌then◌else◌}
-use Rattle.std.specs.BTreeMap.{BTreeMap, get}
 use Rattle.std.proofs.Math.Seq.{drop-cons}
 use Rattle.std.proofs.lemmas.Bool.{or_left, or_right, or_cases}
-use Rattle.std.proofs.lemmas.Option.{none-some}
 use Rattle.trs_defs.specs.Tree.{Tree, Trees, var, app, nil, cons}
 use Rattle.trs_defs.specs.Variable.{has_var, some_has_var, is_listed, with_variables, with_variables_of_all, variables_of}
 use Rattle.trs_defs.specs.Substitution.{apply, apply_all}
 use Rattle.trs_defs.proofs.VariableLaws.{has_var_same, has_var_self, has_var_cons}
-use Rattle.trs_unify.specs.Renamed.{AreNames}
 
 -- what is listed stands somewhere
 pub listed_at : (v : ℕ) (vs : List ℕ) → IsTrue (is_listed v vs) → (i : ℕ) × (slice_get vs i ≡ Some v)
@@ -89,14 +86,6 @@ one_new vs v none = go (is_listed v vs) refl
     go : (b : Bool) → is_listed v vs ≡ b → with_variables vs (var v) ≡ vs ++ v ∷ []
     go true e = let (i, at) = listed_at v vs e in absurd (none i at)
     go false e = rw e refl
-
--- names, after a variable is looked for
-module _ (numbers : BTreeMap ℕ ℕ) (order : List ℕ) (names : AreNames numbers order) (v : ℕ) where
-  pub name_known : (i : ℕ) → Some i ≡ get nat_cmp numbers v → order ≡ with_variables order (var v)
-  name_known i e = sym (one_known order i v (names.named v i (sym e)))
-
-  pub name_new : get nat_cmp numbers v ≡ None → order ++ v ∷ [] ≡ with_variables order (var v)
-  name_new none = sym (one_new order v (λ i e. none-some i (sym none ∙ names.one v i e)))
 
 -- ---- instances
 
