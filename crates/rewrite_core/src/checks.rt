@@ -12,8 +12,7 @@ mod refusals;
 
 pub use forks::ForkTest;
 pub use joins::{Join, copy_path};
-pub(crate) use path_check::end_in_pool;
-pub use path_check::end_of_path;
+pub use path_check::{end_in_pool, end_of_path};
 pub use peaks::{Peak, Top};
 pub use reasons::RefusalFields;
 pub use refusals::{CheckFault, StepRefused};

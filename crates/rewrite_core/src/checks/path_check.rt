@@ -1,6 +1,6 @@
 ghost use Rattle.std.specs.Prelude.{◌≡◌, ◌<◌, length, IfOk};
 ghost use Rattle.trs_core.specs.View.{tree};
-ghost use Rattle.term_pool.specs.Pooled.{tree_at};
+ghost use Rattle.term_pool.specs.Pooled.{Extends, tree_at};
 ghost use Rattle.rewrite_core.specs.Check.{AnswersBy};
 ghost use Rattle.rewrite_core.specs.PathCheck.{Runs, number_of_fault, path_refusal};
 
@@ -39,8 +39,9 @@ pub fn end_of_path(
     }
 }
 
-/// The id of the end of a path of a step, in a pool.
-pub(crate) fn end_in_pool(
+/// The id of the end of a path of a step, in a pool: path number `number` of item number `item`,
+/// both counted from 0.
+pub fn end_in_pool(
     alloc: Global,
     pool: &mut Pool,
     trs: &Trs,
@@ -53,6 +54,7 @@ pub(crate) fn end_in_pool(
     ensures end { AnswersBy (tree_at pool.new)
         (Runs trs.now.rules (tree_at pool.old start) path.now item number) result }
     ensures there { IfOk result (λ end. end < length pool.new) }
+    ensures kept { Extends pool.old pool.new }
 {
     match pool.run_path(alloc, trs, start, path) {
         Ok(end) => Ok(end),
