@@ -12,6 +12,7 @@ use Rattle.term_pool.specs.LeftSides.{IsGround}
 use Rattle.term_pool.proofs.PoolTrees.{taken_item, stands, stands_at, stands_within}
 use Rattle.term_pool.proofs.Extending.{extends_itself}
 use Rattle.term_pool.proofs.LeftSideLaws.{ground_stays}
+use Rattle.crit_pairs.proofs.PooledLaws.{kept_below}
 use Rattle.completion.specs.declared.met.Met.{Met}
 use Rattle.completion.specs.PassedIds.{mark_of}
 use Rattle.completion.specs.Searching.{HasNoneOf, ArePassed, AreGroundSides}
@@ -45,19 +46,6 @@ cut_twice zero n pool h = refl
 cut_twice (suc m) zero pool h = absurd (omega (arith, h))
 cut_twice (suc m) (suc n) [] h = refl
 cut_twice (suc m) (suc n) (t ∷ pool) h = ap (λ ts. t ∷ ts) (cut_twice m n pool (omega (arith, h)))
-
--- ids below a mark in a longer pool
-kept_below : (n : ℕ) (pool next : List Tree) → Extends pool next → n ≤ length pool → take n next ≡ take n pool
-kept_below n pool next more h = go n pool next (λ i t e. more.kept i t e) h
-  where
-    go : (n : ℕ) (a b : List Tree) → ((i : ℕ) (t : Tree) → slice_get a i ≡ Some t → slice_get b i ≡ Some t) → n ≤ length a → take n b ≡ take n a
-    go zero a b each h = refl
-    go (suc n) [] b each h = absurd (omega (arith, h))
-    go (suc n) (x ∷ a) [] each h = let e : slice_get {X = Tree} [] 0 ≡ Some x = each 0 x refl in absurd cc
-    go (suc n) (x ∷ a) (y ∷ b) each h =
-        let first : y ≡ x = same_Some y x (each 0 x refl) in
-        let rest : take n b ≡ take n a = go n a b (λ i t e. each (suc i) t e) (omega (arith, h)) in
-        rw (first, rest) refl
 
 -- ---- left sides with no variable
 

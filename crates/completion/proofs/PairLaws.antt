@@ -1,22 +1,19 @@
 -- The pairs of a table of peaks, as completion goes through them.
-use Rattle.std.proofs.Common.{◌≡◌, ◌<◌, ◌≤◌, ℕ, ◌+◌, zero, suc, List, [], ◌∷◌, ◌++◌, map, drop, take, length, Option, Some, IfSome, Result, Ok, Err, OnOk, All, slice_get, get_or, refl, sym, ap, subst, arith, ◌∙◌, append_assoc, append-nil}
-use Rattle.std.proofs.lemmas.Option.{slice_get-get_or, slice_get_within}
+use Rattle.std.proofs.Common.{◌≡◌, ◌<◌, ◌≤◌, ℕ, ◌+◌, zero, suc, List, [], ◌∷◌, ◌++◌, map, drop, take, length, Option, Some, IfSome, Result, Ok, Err, OnOk, slice_get, sym, ap, subst, arith, ◌∙◌, append_assoc, append-nil}
+use Rattle.std.proofs.lemmas.Option.{slice_get_within}
 use Rattle.trs_defs.specs.Tree.{Tree}
 use Rattle.trs_defs.specs.System.{RewriteRule, System, IsSystem}
 use Rattle.trs_defs.proofs.Members.{in_of_get}
 use Rattle.trs_defs.proofs.ListItems.{next_item}
-use Rattle.trs_core.specs.SystemLimits.{AreBytes}
 use Rattle.term_pool.specs.Pooled.{Extends, StandsFor, tree_at}
 use Rattle.term_pool.proofs.PoolTrees.{stands_at}
-use Rattle.term_pool.specs.Redexes.{IsNarrow}
 use Rattle.term_pool.proofs.Extending.{extends_on}
-use Rattle.term_pool.proofs.NarrowLaws.{narrow_of_well_formed}
 use Rattle.rewrite_core.specs.PlacedPeak.{PlacedPeak}
 use Rattle.crit_pairs.specs.PeakList.{ListsPeaks}
-use Rattle.crit_pairs.specs.Table.{IsPair, ArePairs, no_pair, one_pair, HasPeaks, HasFirstPeaks}
+use Rattle.crit_pairs.specs.Table.{ArePairs, HasPeaks, HasFirstPeaks}
 use Rattle.crit_pairs.specs.declared.table.PeakPair.{PeakPair}
 use Rattle.crit_pairs.specs.declared.table.PeakTable.{PeakTable}
-use Rattle.crit_pairs.proofs.TableLaws.{has_still}
+use Rattle.crit_pairs.proofs.TableLaws.{has_still, peak_of_pair}
 use Rattle.completion.specs.declared.met.Met.{Met}
 use Rattle.completion.specs.CompletionRun.{sides}
 use Rattle.completion.specs.MetTerms.{KeepsBase}
@@ -26,10 +23,6 @@ use Rattle.completion.proofs.PeakPairs.{peaks_good}
 use Rattle.completion.proofs.MetLaws.{id_over, cut_no_longer, base_kept}
 
 -- ---- tables
-
--- no peaks are there so far
-pub no_peaks_yet : (rules : List RewriteRule) (pool : List Tree) (table : PeakTable) → ((pool : List Tree) → HasPeaks [] pool table) → HasFirstPeaks rules pool table
-no_peaks_yet rules pool table h = record { first = []; more = rules; are = refl; has = h pool }
 
 pub all_peaks_there : (rules : List RewriteRule) (pool : List Tree) (table : PeakTable) → HasPeaks rules pool table → HasFirstPeaks rules pool table
 all_peaks_there rules pool table h = record { first = rules; more = []; are = sym (append-nil rules); has = h }
@@ -47,23 +40,7 @@ table_goes_on rules others r old new {table = table} h more is = record {
   has = has_still h.first (take old.base old.pool) (take new.base new.pool) table more h.has;
 }
 
--- the left sides of a system's rules are narrow
-pub narrow_sides : (system : System) (rules : List RewriteRule) → rules ≡ system.rules → IsSystem system → AreBytes system.arities → All (λ (r : RewriteRule). IsNarrow r.left) rules
-narrow_sides system rules same valid bytes i d less =
-    let there : slice_get system.rules i ≡ Some (get_or rules i d) = ap (λ rs. slice_get rs i) (sym same) ∙ slice_get-get_or rules i d less in
-    narrow_of_well_formed system.arities bytes (get_or rules i d).left (valid.each i (get_or rules i d) there).left_well_formed
-
 -- ---- pairs
-
-pub pairs_count : {pool : List Tree} {xs : List PeakPair} {ps : List PlacedPeak} → ArePairs pool xs ps → length xs ≡ length ps
-pairs_count no_pair = refl
-pairs_count (one_pair is h) = ap suc (pairs_count h)
-
-pub pair_there : {pool : List Tree} {xs : List PeakPair} {ps : List PlacedPeak} → ArePairs pool xs ps → (k : ℕ) (x : PeakPair) → slice_get xs k ≡ Some x
-    → (p : PlacedPeak) × (slice_get ps k ≡ Some p) × IsPair pool x p
-pair_there no_pair k x e = absurd cc
-pair_there {pool = pool} (one_pair {p = p} is h) zero x e = (p, refl, subst (λ z. IsPair pool z p) (cc (e)) is)
-pair_there (one_pair is h) (suc k) x e = pair_there h k x e
 
 pub pairs_left : (peaks : List PlacedPeak) (k : ℕ) (p : PlacedPeak) → slice_get peaks k ≡ Some p → map sides (drop k peaks) ≡ sides p ∷ map sides (drop (k + 1) peaks)
 pairs_left peaks k p there = ap (map sides) (next_item peaks k p there)
@@ -115,7 +92,7 @@ pub record IsAtHand (system : System) (pool : List Tree) (peaks : List PlacedPea
 pub at_hand : (system : System) → IsSystem system → (first pool : List Tree) (pairs : List PeakPair) (peaks : List PlacedPeak) (k : ℕ) (pair : PeakPair) → ListsPeaks system.rules (Ok peaks)
     → ArePairs first pairs peaks → Extends first pool → slice_get pairs k ≡ Some pair → IsAtHand system pool peaks k pair
 at_hand system valid first pool pairs peaks k pair listed are more at =
-    let (p, there, is) = pair_there are k pair at in
+    let (p, there, is) = peak_of_pair are k pair at in
     let good = peaks_good system valid peaks listed p (in_of_get peaks k p there) in
     let left : StandsFor pool pair.left p.left = more.kept pair.left p.left is.0 in
     let right : StandsFor pool pair.right p.right = more.kept pair.right p.right is.1 in

@@ -11,17 +11,16 @@ use crate::Completion;
 use crate::growing::GrowingTrs;
 use crate::met::Met;
 use crate::treating::{Outcome, treat, treat_ids};
-use crit_pairs::{Peak, PeakFault, PeakPair, PeakTable, critical_pairs, first_peaks};
+use crit_pairs::{
+    Peak, PeakFault, PeakPair, PeakTable, critical_pairs, first_peaks, is_large_result,
+};
 use path_lpo::Lpo;
 use rewrite_core::{CheckFault, Top};
 use std::alloc::Global;
-use trs_core::{OutOfMemory, Rule, Trs, least_variable, systems_are_valid};
+use trs_core::{OutOfMemory, Rule, Trs, systems_are_valid};
 
 /// How many critical peaks are made at first: mostly one of them gives a rule.
 const FEW: usize = 64;
-
-/// From so many nodes on a right side with no variable takes longer to count than to find by its id.
-const MANY_NODES: u64 = 128;
 
 /// The critical peaks of the rules, and after each new rule those of all rules anew.
 pub(crate) fn close(
@@ -65,8 +64,7 @@ pub(crate) fn close(
 /// than to make all peaks at once, where it has its id already.
 fn has_large_result(rules: &[Rule]) -> bool {
     for rule in rules {
-        let right = &rule.right;
-        if right.size() >= MANY_NODES && least_variable(right, 0, None).is_none() {
+        if is_large_result(&rule.right) {
             return true;
         }
     }

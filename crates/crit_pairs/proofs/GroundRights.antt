@@ -2,10 +2,13 @@
 use Rattle.std.proofs.Common.{◌≡◌, ◌<◌, inl, inr, ℕ, ◌+◌, List, [], ◌∷◌, ◌++◌, take, length, length-append, get_or, Bool, true, false, Option, Some, None, IfSome, refl, ap, sym, ◌∙◌, subst, arith}
 use Rattle.std.proofs.lemmas.List.{take_more}
 use Rattle.std.proofs.lemmas.Option.{slice_get_within}
-use Rattle.trs_defs.specs.Tree.{Tree}
-use Rattle.trs_defs.specs.LeastVariable.{least_variable}
+use Rattle.std.proofs.lemmas.Bool.{or_parts}
+use Rattle.std.proofs.lemmas.Bool.Decides.{nat_tests}
+use Rattle.std.specs.Prelude.{◌==◌}
+use Rattle.trs_defs.specs.Tree.{Tree, Trees, var, app, nil, cons}
+use Rattle.trs_defs.specs.LeastVariable.{least_variable, least_of_all}
 use Rattle.trs_defs.specs.System.{RewriteRule}
-use Rattle.trs_defs.specs.Variable.{has_var}
+use Rattle.trs_defs.specs.Variable.{has_var, some_has_var}
 use Rattle.trs_defs.proofs.LeastVariables.{least_skips}
 use Rattle.trs_defs.proofs.ListItems.{item_of_more}
 use Rattle.term_pool.specs.Pooled.{Extends}
@@ -20,6 +23,26 @@ no_variable t none v = go (has_var v t) refl
     go : (b : Bool) → has_var v t ≡ b → has_var v t ≡ false
     go false e = e
     go true e = absurd ((least_skips 0 t None v (omega arith) (rw none tt)).1 e)
+
+itself : (v : ℕ) → (v == v) ≡ false → ⊥
+itself v e = absurd (grind (arith, nat_tests, e))
+
+mutual
+  -- a term with no variable has no least one
+  ground_least : (t : Tree) (from : ℕ) (best : Option ℕ) → IsGround t → least_variable from best t ≡ best
+  ground_least (var v) from best ground = absurd (itself v (ground v))
+  ground_least (app f ts) from best ground = ground_least_of_all ts from best ground
+
+  ground_least_of_all : (ts : Trees) (from : ℕ) (best : Option ℕ) → ((v : ℕ) → some_has_var v ts ≡ false) → least_of_all from best ts ≡ best
+  ground_least_of_all nil from best ground = refl
+  ground_least_of_all (cons t ts) from best ground =
+      ap (λ b. least_of_all from b ts) (ground_least t from best (λ v. (or_parts (has_var v t) (some_has_var v ts) (ground v)).0))
+      ∙ ground_least_of_all ts from best (λ v. (or_parts (has_var v t) (some_has_var v ts) (ground v)).1)
+
+pub none_least : (t : Tree) (o : Option ℕ) (x : ℕ) → o ≡ least_variable 0 None t → o ≡ Some x → IsGround t → ⊥
+none_least t o x e is ground =
+    let none : Some x ≡ None = sym is ∙ (e ∙ ground_least t 0 None ground) in
+    absurd cc
 
 -- the ids still stand for the right sides in a pool that has grown
 pub rights_still : (rules : List RewriteRule) (pool next : List Tree) (sides : List (Option GroundSide)) → Extends pool next → AreGroundRights rules pool sides → AreGroundRights rules next sides

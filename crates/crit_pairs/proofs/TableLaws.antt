@@ -1,5 +1,5 @@
 -- Tables of pairs: their lists, and the list of all peaks.
-use Rattle.std.proofs.Common.{◌≡◌, ◌≤◌, ◌<◌, ◌⊎◌, inl, inr, ℕ, ◌+◌, Bool, true, false, List, [], ◌∷◌, ◌++◌, take, length, get_or, Ok, refl, ap, sym, ◌∙◌, subst, arith, append_assoc, append-nil}
+use Rattle.std.proofs.Common.{◌≡◌, ◌≤◌, ◌<◌, ◌⊎◌, inl, inr, ℕ, ◌+◌, zero, suc, Bool, true, false, List, [], ◌∷◌, ◌++◌, take, length, get_or, Some, Ok, slice_get, refl, ap, sym, ◌∙◌, subst, arith, append_assoc, append-nil}
 use Rattle.std.specs.Prelude.{◌&&◌, ◌==◌}
 use Rattle.std.specs.Global.{Vec}
 use Rattle.std.proofs.lemmas.List.{take_more}
@@ -13,7 +13,7 @@ use Rattle.term_pool.specs.Pooled.{Extends}
 use Rattle.rewrite_core.specs.PlacedPeak.{PlacedPeak}
 use Rattle.crit_pairs.specs.PeakList.{Spot, symbol_places, is_root, unless, spots_at, spots_of, spots_from, OverlapsAt, IsPeakAt, nodes_of_peak, Lists, at_end, no_overlap, one_peak}
 use Rattle.crit_pairs.specs.Walk.{spot_unless}
-use Rattle.crit_pairs.specs.Table.{Site, sites_of, sites_from, sites, PeaksAt, no_spot, no_peak, a_peak, nodes_of_peaks, ArePairs, no_pair, one_pair, HoldPairs, no_site, one_site, pairs_of, HasPeaks, AreAllPairs}
+use Rattle.crit_pairs.specs.Table.{Site, sites_of, sites_from, sites, PeaksAt, no_spot, no_peak, a_peak, nodes_of_peaks, IsPair, ArePairs, no_pair, one_pair, HoldPairs, no_site, one_site, pairs_of, HasPeaks, HasFirstPeaks, AreAllPairs}
 use Rattle.crit_pairs.specs.declared.table.PeakPair.{PeakPair}
 use Rattle.crit_pairs.proofs.GroundRights.{rights_still}
 use Rattle.crit_pairs.specs.declared.table.PeakTable.{PeakTable}
@@ -129,6 +129,18 @@ pub pairs_both : {pool : List Tree} {xs ys : List PeakPair} {ps qs : List Placed
 pairs_both no_pair k = k
 pairs_both (one_pair is h) k = one_pair is (pairs_both h k)
 
+-- as many pairs as peaks
+pub pairs_count : {pool : List Tree} {xs : List PeakPair} {ps : List PlacedPeak} → ArePairs pool xs ps → length xs ≡ length ps
+pairs_count no_pair = refl
+pairs_count (one_pair is h) = ap suc (pairs_count h)
+
+-- the peak of a pair
+pub peak_of_pair : {pool : List Tree} {xs : List PeakPair} {ps : List PlacedPeak} → ArePairs pool xs ps → (k : ℕ) (x : PeakPair) → slice_get xs k ≡ Some x
+    → (p : PlacedPeak) × (slice_get ps k ≡ Some p) × IsPair pool x p
+peak_of_pair no_pair k x e = absurd cc
+peak_of_pair {pool = pool} (one_pair {p = p} is h) zero x e = (p, refl, subst (λ z. IsPair pool z p) (cc (e)) is)
+peak_of_pair (one_pair is h) (suc k) x e = peak_of_pair h k x e
+
 pub hold_still : {rules : List RewriteRule} {pool next : List Tree} {inner : List RewriteRule} {left : List Site} {lists : List (Vec PeakPair)} {ps : List PlacedPeak}
     → Extends pool next → HoldPairs rules pool inner left lists ps → HoldPairs rules next inner left lists ps
 hold_still more no_site = no_site
@@ -202,3 +214,7 @@ pub pairs_more : (lists : List (Vec PeakPair)) (i : ℕ) (list : Vec PeakPair) �
 pairs_more lists i list less is =
     ap pairs_of (take_more lists i list less) ∙ (flat_map-append (λ (l : Vec PeakPair). l.items) (take i lists) (get_or lists i list ∷ [])
     ∙ ap (λ xs. pairs_of (take i lists) ++ xs) (append-nil (get_or lists i list).items ∙ ap (λ (l : Vec PeakPair). l.items) (sym is)))
+
+-- no peaks are there so far
+pub no_peaks_yet : (rules : List RewriteRule) (pool : List Tree) (table : PeakTable) → ((pool : List Tree) → HasPeaks [] pool table) → HasFirstPeaks rules pool table
+no_peaks_yet rules pool table h = record { first = []; more = rules; are = refl; has = h pool }

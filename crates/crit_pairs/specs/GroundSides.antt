@@ -1,11 +1,15 @@
 -- Right sides with no variable, by their ids in a pool.
-use Rattle.std.specs.Prelude.{◌≡◌, ℕ, List, [], Option, Some, IsTrue, length, slice_get}
+use Rattle.std.specs.Prelude.{◌≡◌, ◌≤◌, ℕ, List, [], Option, Some, IsTrue, length, slice_get}
 use Rattle.trs_defs.specs.Tree.{Tree}
 use Rattle.trs_defs.specs.Size.{size_of, within_limits}
 use Rattle.trs_defs.specs.System.{RewriteRule}
 use Rattle.term_pool.specs.Pooled.{StandsFor}
 use Rattle.term_pool.specs.LeftSides.{IsGround}
 use Rattle.crit_pairs.specs.declared.ground_sides.GroundSide.{GroundSide}
+
+-- the term has no variable, and at least 128 nodes
+abbrev pub IsLargeResult : Tree → Type 0
+IsLargeResult t = IsGround t × (128 ≤ size_of t)
 
 -- the term has no variable and keeps the limits, and this is its id and its number of nodes
 pub record IsGroundSide (pool : List Tree) (t : Tree) (side : GroundSide) : Type 0 where

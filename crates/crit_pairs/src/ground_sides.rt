@@ -1,12 +1,31 @@
 //! Right sides with no variable: each is the same in all peaks, so that it gets its id but once.
-ghost use Rattle.std.specs.Prelude.{◌≡◌, IfOk, IfSome, OnOk, Some, length, slice_get, take};
+ghost use Rattle.std.specs.Prelude.{◌≡◌, ◌↔◌, IfOk, IfSome, IsTrue, OnOk, Some, length, slice_get, take};
 ghost use Rattle.trs_core.specs.View.{tree};
 ghost use Rattle.term_pool.specs.Pooled.{Extends};
 ghost use Rattle.crit_pairs.specs.GroundSides.{IsGroundSide, AreGroundRights, HaveGroundResults};
+ghost use Rattle.crit_pairs.specs.GroundSides.{IsLargeResult};
 
 use std::alloc::Global;
 use term_pool::Pool;
 use trs_core::{OutOfMemory, Rule, Term, least_variable};
+
+/// From so many nodes on a term with no variable takes longer to count than to find by its id.
+const MANY_NODES: u64 = 128;
+
+/// Whether the term has no variable and many nodes. Where such a right side is a result of many
+/// critical peaks, a pool in which it has one id gains time.
+pub fn is_large_result(t: &Term) -> bool
+    ensures { IsTrue result ↔ IsLargeResult (tree t.now) }
+{
+    if t.size() < MANY_NODES {
+        return false;
+    }
+    let least = least_variable(t, 0, None);
+    match least {
+        Some(_) => false,
+        None => true,
+    }
+}
 
 /// A right side with no variable: its id in a pool, and its number of nodes.
 #[derive(Clone, Copy)]

@@ -21,6 +21,7 @@ use crate::ground_sides::GroundSide;
 use crate::making::make_pair;
 use crate::overlapping::overlap;
 use crate::prepared::PreparedRules;
+use crate::room::Room;
 use crate::skeleton::Skeleton;
 use crate::table::PeakPair;
 use confluence_theory::overlaps_unify;
@@ -36,6 +37,7 @@ pub(crate) struct Growth {
     pub done: usize,
     /// The nodes of all peaks.
     pub nodes: u64,
+    pub room: Room,
 }
 
 /// Adds the peaks of the outer rules from `start` to `end` with the inner rules from `from` on.
@@ -271,9 +273,11 @@ fn grow_by_overlap(
                 pool,
                 growth.nodes,
             )?;
+            let room = growth.room.after(&made, growth.nodes)?;
             let list = &mut growth.lists[growth.done];
             list.push(made.pair)?;
             growth.nodes = made.nodes;
+            growth.room = room;
             Ok(())
         }
     }

@@ -26,6 +26,8 @@ use trs_core::{OutOfMemory, Rule, Term};
 pub(crate) struct MadePair {
     pub pair: PeakPair,
     pub nodes: u64,
+    /// Whether the results were built, and were not there already.
+    pub is_built: bool,
 }
 
 /// The pair of the peak of rule i in rule j at a place, by a most general unifier. Results with no
@@ -59,7 +61,11 @@ pub(crate) fn make_pair(
                 left: found.left.id,
                 right: found.right.id,
             };
-            Ok(MadePair { pair, nodes: total })
+            Ok(MadePair {
+                pair,
+                nodes: total,
+                is_built: false,
+            })
         }
     }
 }
@@ -108,7 +114,11 @@ fn build_pair(
     let total = count_nodes(unifier, &outer.left, &reduct, &outer.right, nodes)?;
     let sides = results(alloc, unifier, &outer.left, &reduct, &outer.right)?;
     let pair = intern_pair(alloc, pool, &sides.0, &sides.1)?;
-    Ok(MadePair { pair, nodes: total })
+    Ok(MadePair {
+        pair,
+        nodes: total,
+        is_built: true,
+    })
 }
 
 /// The ids of two terms.

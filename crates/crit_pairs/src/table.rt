@@ -14,6 +14,7 @@ use crate::PeakFault;
 use crate::ground_sides::{GroundSide, add_ground_rights};
 use crate::growing::{Growth, grow_rules};
 use crate::prepared::PreparedRules;
+use crate::room::Room;
 use std::alloc::Global;
 use term_pool::Pool;
 use trs_core::{OutOfMemory, Rule};
@@ -66,6 +67,23 @@ impl PeakTable {
         ensures peaks { IfOk result (λ grown. IfSome grown (HasPeaks rules.now pool.new)) }
         ensures kept { Extends pool.old pool.new }
     {
+        self.grow_within(alloc, rules, Room::without_end(), pool)
+    }
+
+    /// The same, but `None` too where the peaks that come to it pass the room.
+    pub(crate) fn grow_within(
+        self,
+        alloc: Global,
+        rules: &[Rule],
+        room: Room,
+        pool: &mut Pool,
+    ) -> Result<Option<PeakTable>, OutOfMemory>
+        requires small { HaveSmallVariables rules.now }
+        requires narrow { All (λ r. IsNarrow r.left) rules.now }
+        requires first { HasFirstPeaks rules.now pool.old self }
+        ensures peaks { IfOk result (λ grown. IfSome grown (HasPeaks rules.now pool.new)) }
+        ensures kept { Extends pool.old pool.new }
+    {
         let known = self.prepared.apart.len();
         let prepared = self.prepared.prepare(alloc, rules)?;
         let rights = add_ground_rights(alloc, rules, self.rights, pool)?;
@@ -73,6 +91,7 @@ impl PeakTable {
             lists: self.lists,
             done: 0,
             nodes: self.nodes,
+            room,
         };
         match grow_all(alloc, rules, &prepared, &rights, known, pool, &mut growth) {
             Ok(()) => Ok(Some(PeakTable {

@@ -8,7 +8,8 @@ use Rattle.completion.specs.MetTerms.{IsMet}
 use Rattle.completion.specs.Treating.{IsOutcome}
 use Rattle.completion.specs.Taking.{Looks}
 use Rattle.completion.proofs.LoopLaws.{close_begins, close_done, close_more, close_end, close_smaller, close_limits, looked_arities}
-use Rattle.completion.proofs.PairLaws.{table_goes_on, no_peaks_yet}
+use Rattle.crit_pairs.proofs.TableLaws.{no_peaks_yet}
+use Rattle.completion.proofs.PairLaws.{table_goes_on}
 use Rattle.completion.proofs.closing.close.Goals as goal
 
 pub loop-met-init : goal.loop-met-init

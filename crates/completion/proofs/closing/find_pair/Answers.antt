@@ -16,7 +16,8 @@ use Rattle.completion.specs.Taking.{at_peaks}
 use Rattle.completion.specs.Treating.{pair_of, IsOutcome}
 use Rattle.completion.proofs.LoopLaws.{find_next, find_rule, find_end, find_none}
 use Rattle.completion.proofs.MetLaws.{base_itself, base_kept}
-use Rattle.completion.proofs.PairLaws.{IsAtHand, at_hand, of_hand, pairs_left, pairs_count, keeps_on}
+use Rattle.crit_pairs.proofs.TableLaws.{pairs_count}
+use Rattle.completion.proofs.PairLaws.{IsAtHand, at_hand, of_hand, pairs_left, keeps_on}
 use Rattle.completion.proofs.closing.find_pair.Goals.{After-make_room, In_ok-more}
 use Rattle.completion.proofs.closing.find_pair.Goals as goal
 

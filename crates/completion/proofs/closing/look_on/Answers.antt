@@ -2,8 +2,8 @@ use Rattle.std.proofs.Common.{IfSome, List, Option, subst, sym, take}
 use Rattle.crit_pairs.specs.Table.{HasPeaks, AreAllPairs}
 use Rattle.crit_pairs.specs.declared.table.PeakPair.{PeakPair}
 use Rattle.crit_pairs.specs.declared.table.PeakTable.{PeakTable}
-use Rattle.crit_pairs.proofs.TableLaws.{has_still}
-use Rattle.completion.proofs.PairLaws.{bases_on, all_peaks_there, no_peaks_yet}
+use Rattle.crit_pairs.proofs.TableLaws.{has_still, no_peaks_yet}
+use Rattle.completion.proofs.PairLaws.{bases_on, all_peaks_there}
 use Rattle.completion.proofs.closing.look_on.Goals.{In-Some}
 use Rattle.completion.proofs.closing.look_on.Goals as goal
 

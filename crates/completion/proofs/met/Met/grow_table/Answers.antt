@@ -1,6 +1,7 @@
 use Rattle.std.proofs.Common.{take, refl}
 use Rattle.completion.proofs.MetLaws.{more_met, whole_of}
-use Rattle.completion.proofs.PairLaws.{first_still, narrow_sides, has_if_some}
+use Rattle.crit_pairs.proofs.SpotWalk.{narrow_sides}
+use Rattle.completion.proofs.PairLaws.{first_still, has_if_some}
 use Rattle.completion.proofs.met.Met.grow_table.Goals as goal
 
 pub forget_over-requires : goal.forget_over-requires

@@ -5,8 +5,8 @@ use Rattle.crit_pairs.specs.declared.ground_sides.GroundSide.{GroundSide}
 use Rattle.crit_pairs.proofs.GroundRights.{rights_still}
 use Rattle.crit_pairs.proofs.TableLaws.{has_still}
 use Rattle.crit_pairs.proofs.GrowthLaws.{first_prepared, first_rights, known_rules, table_begins, whole_table}
-use Rattle.crit_pairs.proofs.table.PeakTable.grow.Goals.{After-len-known}
-use Rattle.crit_pairs.proofs.table.PeakTable.grow.Goals as goal
+use Rattle.crit_pairs.proofs.table.PeakTable.grow_within.Goals.{After-len-known}
+use Rattle.crit_pairs.proofs.table.PeakTable.grow_within.Goals as goal
 
 -- as many rules are known as the table has
 known_first : (c : After-len-known) → c.len-known.result ≡ length c.requires.first.first
