@@ -2,6 +2,7 @@
 pub use Rattle.crit_pairs.proofs as crit_pairs
 pub mod PairsOfLists
 pub mod CountedPeaks
+pub mod PooledJoins
 pub mod SingleStep
 pub mod Leftward
 pub mod ParallelItems

@@ -8,6 +8,8 @@ ghost use Rattle.closed_pairs.specs.Joined.{joins, are_joined, newman_conditions
 use crate::counting::peaks_for;
 use crate::covering::joined_list_concludes;
 use crate::ends::{ItemPath, meet};
+use crate::pooled::pooled_peaks_are_joined;
+use crit_pairs::PooledPeaks;
 use rewrite_core::{CheckFault, Join, Peak, StepRefused, Top};
 use std::alloc::Global;
 use trs_core::Trs;
@@ -16,6 +18,17 @@ use trs_core::Trs;
 /// `PeaksTooMany`, and what `join_check` does.
 pub fn newman_check(alloc: Global, trs: &Trs, joins: &[Join]) -> Result<(), CheckFault>
     ensures answers { Answers (newman_conditions trs.now joins.now) result }
+{
+    let found = PooledPeaks::of(alloc, trs, joins.len())?;
+    match found {
+        Some(pooled) => pooled_peaks_are_joined(alloc, trs, pooled, joins),
+        None => listed_peaks_are_joined(alloc, trs, joins),
+    }
+}
+
+/// The same, where the peaks are listed.
+fn listed_peaks_are_joined(alloc: Global, trs: &Trs, joins: &[Join]) -> Result<(), CheckFault>
+    ensures { Answers (newman_conditions trs.now joins.now) result }
 {
     let peaks = peaks_for(alloc, trs, joins.len())?;
     peaks_are_joined(alloc, trs, &peaks, joins)

@@ -10,6 +10,7 @@ mod joined;
 mod laws;
 mod linear;
 mod parallel;
+mod pooled;
 mod strong;
 
 pub use crit_pairs::{first_peaks, listed_peaks_cover, peaks_are_listed_once};
