@@ -10,8 +10,9 @@ use Rattle.std.proofs.lemmas.Option.{same_Some, get_or_from_slice_get}
 use native.Mathlib.Decide.{ℕ_discrete}
 use Rattle.trs_defs.proofs.ArgumentLists.{cell}
 use Rattle.trs_defs.proofs.ListItems.{item_of_more}
-use Rattle.trs_caps.specs.HoledTree.{HoledTree, HoledTrees, hole, own, symbol, none, more}
+use Rattle.trs_caps.specs.HoledTree.{HoledTree, hole, own, symbol}
 use Rattle.trs_caps.specs.Clash.{clash, some_clash}
+use Rattle.trs_caps.proofs.Compatible.{clash_itself}
 use Rattle.conf_find.specs.SharedCaps.{cap_at, parts_at, node_cap, IsOver, caps_over, AreOrdered, KeepsCaps}
 use Rattle.conf_find.specs.declared.cap_node.CapNode.{CapNode}
 use Rattle.conf_find.specs.declared.cap_node.CapNode.TheVariants.{Open, Own, Symbol}
@@ -111,23 +112,6 @@ keeps_on a b c h k = record {
 }
 
 -- ---- clashes
-
-no_difference : (f : ℕ) → not (f == f) ≡ false
-no_difference f = grind (arith, nat_tests)
-
-neither : (a b : Bool) → a ≡ false → b ≡ false → (a || b) ≡ false
-neither true b h k = absurd cc
-neither false b h k = k
-
-mutual
-  pub clash_itself : (c : HoledTree) → clash c c ≡ false
-  clash_itself hole = refl
-  clash_itself (own v) = no_difference v
-  clash_itself (symbol f cs) = neither (not (f == f)) (some_clash cs cs) (no_difference f) (none_clash cs)
-
-  none_clash : (cs : HoledTrees) → some_clash cs cs ≡ false
-  none_clash none = refl
-  none_clash (more c cs) = neither (clash c c) (some_clash cs cs) (clash_itself c) (none_clash cs)
 
 clash_hole : (c : HoledTree) → clash c hole ≡ false
 clash_hole hole = refl
