@@ -1,7 +1,7 @@
 -- Caps that are put beside left sides, place by place.
-use Rattle.std.specs.Prelude.{◌≡◌, ◌<◌, ◌+◌, ◌↔◌, ℕ, Bool, true, false, List, [], ◌∷◌, drop, length, Some, get_or, IsTrue, refl, Result, Ok, Err, IfOk, OnOk}
+use Rattle.std.specs.Prelude.{◌≡◌, ◌<◌, ◌+◌, ◌↔◌, ◌⊎◌, ℕ, Bool, true, false, List, [], ◌∷◌, drop, length, Some, get_or, IsTrue, refl, Result, Ok, Err, IfOk, OnOk}
 use Rattle.std.proofs.Common.{suc, ap, sym, subst, arith, inl, inr, nat_cmp}
-use Rattle.std.specs.BTreeMap.{BTreeMap, get, Updates}
+use Rattle.std.specs.BTreeMap.{BTreeMap, is_at, get, Updates}
 use Rattle.trs_defs.specs.Tree.{Tree, Trees, var, app, cons}
 use Rattle.trs_defs.specs.Substitution.{apply, apply_all}
 use Rattle.trs_defs.specs.System.{RewriteRule}
@@ -14,10 +14,11 @@ use Rattle.trs_caps.specs.KnownCaps.{IsWhole}
 use Rattle.trs_caps.specs.Clash.{clash}
 use Rattle.trs_caps.proofs.CapSteps.{kept_symbol, opened_symbol}
 use Rattle.trs_caps.proofs.Compatible.{clash_disjoint}
+use Rattle.trs_caps.proofs.AddedParts.{not_at}
 use Rattle.trs_caps.proofs.Fitting.{fits_root}
 use Rattle.conf_find.specs.SharedCaps.{cap_at, parts_at, KeepsCaps, AreFirsts, FitFirsts, StillFits}
 use Rattle.conf_find.proofs.SharedCapLaws.{keeps_on}
-use Rattle.conf_find.proofs.MarkLaws.{new_or_before, nothing_there}
+use Rattle.conf_find.proofs.MarkLaws.{new_or_kept, nothing_there}
 
 fit_first : (c : HoledTree) (cs : HoledTrees) (t : Tree) (ts : Trees) → EachFits (more c cs) (cons t ts) → Fits c t × EachFits cs ts
 fit_first c cs t ts (fits_more p ps) = (p, ps)
@@ -93,11 +94,14 @@ module _ (caps : List HoledTree) where
   }
   not_first firsts v k first false there is = record { each = λ τ agrees p. (refl, agrees) }
 
+  first_or_before : (old new : BTreeMap ℕ ℕ) (v k : ℕ) → Updates nat_cmp old new v (Some k) → (w n : ℕ) → get nat_cmp new w ≡ Some n → (get nat_cmp old w ≡ Some n) ⊎ ((v ≡ w) × (k ≡ n))
+  first_or_before old new v k updates w n at = new_or_kept (get nat_cmp old) (get nat_cmp new) v k updates.1 (λ i other. updates.2 i (not_at v i other)) w n at
+
   pub first_noted : (old new : BTreeMap ℕ ℕ) (v k : ℕ) → Updates nat_cmp old new v (Some k) → StillFits caps (cap_at caps k) (var v) old new false
   first_noted old new v k updates = record {
     each = λ τ agrees p. (
       refl,
-      λ w n at. elim (new_or_before old new v k updates w n at) as (λ _. Fits (cap_at caps n) (τ w)) [
+      λ w n at. elim (first_or_before old new v k updates w n at) as (λ _. Fits (cap_at caps n) (τ w)) [
         | inl before ↦ agrees w n before
         | inr now ↦ subst (λ z. Fits (cap_at caps n) (τ z)) now.0 (subst (λ z. Fits (cap_at caps z) (τ v)) now.1 p)
       ],
@@ -105,7 +109,7 @@ module _ (caps : List HoledTree) where
   }
 
   pub one_more_first : (old new : BTreeMap ℕ ℕ) (v k : ℕ) → Updates nat_cmp old new v (Some k) → k < length caps → AreFirsts caps old → AreFirsts caps new
-  one_more_first old new v k updates below firsts w n at = elim (new_or_before old new v k updates w n at) as (λ _. n < length caps) [
+  one_more_first old new v k updates below firsts w n at = elim (first_or_before old new v k updates w n at) as (λ _. n < length caps) [
     | inl before ↦ firsts w n before
     | inr now ↦ subst (λ z. z < length caps) now.1 below
   ]
@@ -113,10 +117,10 @@ module _ (caps : List HoledTree) where
   -- ---- left sides
 
   no_firsts : (firsts : BTreeMap ℕ ℕ) (τ : ℕ → Tree) → firsts.entries ≡ [] → FitFirsts caps firsts τ
-  no_firsts firsts τ none v k at = absurd (nothing_there firsts v k none at)
+  no_firsts firsts τ none v k at = absurd (nothing_there firsts.entries (is_at (nat_cmp v)) k none at)
 
   pub none_first : (firsts : BTreeMap ℕ ℕ) → firsts.entries ≡ [] → AreFirsts caps firsts
-  none_first firsts none v k at = absurd (nothing_there firsts v k none at)
+  none_first firsts none v k at = absurd (nothing_there firsts.entries (is_at (nat_cmp v)) k none at)
 
   pub never_meets : (c : HoledTree) (l : Tree) (old new : BTreeMap ℕ ℕ) → old.entries ≡ [] → StillFits caps c l old new true → IsTrue false ↔ MeetsLeft c l
   never_meets c l old new none fits = (λ e. absurd cc, λ (τ, p). (let h = fits.each τ (no_firsts old τ none) p in absurd (cc (h.0))))

@@ -1,7 +1,8 @@
 -- Marks of the terms of a pool, as they are made and as they tell which terms never meet.
-use Rattle.std.specs.Prelude.{◌≡◌, ◌≢◌, ◌<◌, ◌↔◌, ◌⊎◌, ℕ, Bool, true, false, List, [], None, Some, is_some, length, IsTrue, refl}
-use Rattle.std.proofs.Common.{ap, sym, ◌∙◌, subst, arith, inl, inr, nat_cmp}
-use Rattle.std.specs.BTreeMap.{BTreeMap, get, Updates}
+use Rattle.std.specs.Prelude.{◌≡◌, ◌≢◌, ◌<◌, ◌↔◌, ◌⊎◌, ℕ, nat_eq, Bool, true, false, List, [], Option, None, Some, is_some, length, IsTrue, refl}
+use Rattle.std.proofs.Common.{ap, sym, ◌∙◌, subst, arith, inl, inr}
+use Rattle.std.specs.Map.{lookup}
+use Rattle.std.specs.HashMap.{HashMap, get, Updates}
 use Rattle.std.proofs.lemmas.Option.{same_Some}
 use native.Mathlib.Decide.{ℕ_discrete}
 use Rattle.trs_defs.specs.Tree.{Tree}
@@ -14,7 +15,6 @@ use Rattle.term_pool.proofs.Extending.{same_tree_at}
 use Rattle.trs_caps.specs.HoledCap.{IsHoledCap}
 use Rattle.trs_caps.specs.Clash.{clash}
 use Rattle.trs_caps.proofs.Compatible.{disjoint_where_clash}
-use Rattle.trs_caps.proofs.AddedParts.{not_at}
 use Rattle.cert_step.specs.nonjoin.Apart.{AreApart}
 use Rattle.cert_step.proofs.nonjoin.ApartLaws.{apart_where_disjoint}
 use Rattle.conf_find.specs.ForkRows.{AreDifferentNormalForms}
@@ -23,25 +23,36 @@ use Rattle.conf_find.specs.SharedCaps.{cap_at}
 use Rattle.conf_find.specs.declared.caps.CapMarks.{CapMarks}
 use Rattle.conf_find.specs.declared.endings.Endings.{Endings}
 
--- ---- what is kept by ids, with one more
+-- ---- what is kept by numbers, with one more
 
-pub nothing_there : {V : Type 0} (m : BTreeMap ℕ V) (i : ℕ) (v : V) → m.entries ≡ [] → get nat_cmp m i ≡ Some v → ⊥
-nothing_there m i v none h = let e : None ≡ Some v = rw none at h in absurd cc
+pub nothing_there : {V : Type 0} (entries : List (ℕ × V)) (test : ℕ → Bool) (v : V) → entries ≡ [] → lookup test entries ≡ Some v → ⊥
+nothing_there entries test v none h = let e : None ≡ Some v = rw none at h in absurd cc
 
-module _ {V : Type 0} (old new : BTreeMap ℕ V) (id : ℕ) (value : V) (updates : Updates nat_cmp old new id (Some value)) where
-  pub new_or_before : (i : ℕ) (v : V) → get nat_cmp new i ≡ Some v → (get nat_cmp old i ≡ Some v) ⊎ ((id ≡ i) × (value ≡ v))
-  new_or_before i v at = elim (ℕ_discrete i id) [
-    | yes same ↦ inr (sym same, same_Some value v (sym updates.1 ∙ subst (λ z. get nat_cmp new z ≡ Some v) same at))
-    | no other ↦ inl (sym (updates.2 i (not_at id i other)) ∙ at)
-  ]
+-- what is kept is the new value, or was kept before
+pub new_or_kept : {V : Type 0} (old new : ℕ → Option V) (id : ℕ) (value : V) → new id ≡ Some value → ((i : ℕ) → (i ≡ id → ⊥) → new i ≡ old i)
+    → (i : ℕ) (v : V) → new i ≡ Some v → (old i ≡ Some v) ⊎ ((id ≡ i) × (value ≡ v))
+new_or_kept old new id value here others i v at = elim (ℕ_discrete i id) [
+  | yes same ↦ inr (sym same, same_Some value v (sym here ∙ subst (λ z. new z ≡ Some v) same at))
+  | no other ↦ inl (sym (others i other) ∙ at)
+]
 
-  pub is_there : IsTrue (is_some (get nat_cmp new id))
+unlike : (i j : ℕ) → (j ≡ i → ⊥) → nat_eq i j ≡ false
+unlike i j other = grind arith
+
+module _ {V S : Type 0} (old new : HashMap ℕ V S) (id : ℕ) (value : V) (updates : Updates nat_eq old new id (Some value)) where
+  others_stay : (i : ℕ) → (i ≡ id → ⊥) → get nat_eq new i ≡ get nat_eq old i
+  others_stay i other = updates.2 i (unlike id i other)
+
+  pub new_or_before : (i : ℕ) (v : V) → get nat_eq new i ≡ Some v → (get nat_eq old i ≡ Some v) ⊎ ((id ≡ i) × (value ≡ v))
+  new_or_before i v at = new_or_kept (get nat_eq old) (get nat_eq new) id value updates.1 others_stay i v at
+
+  pub is_there : IsTrue (is_some (get nat_eq new id))
   is_there = ap is_some updates.1
 
-  pub is_still_there : (i : ℕ) → IsTrue (is_some (get nat_cmp old i)) → IsTrue (is_some (get nat_cmp new i))
+  pub is_still_there : (i : ℕ) → IsTrue (is_some (get nat_eq old i)) → IsTrue (is_some (get nat_eq new i))
   is_still_there i h = elim (ℕ_discrete i id) [
-    | yes same ↦ subst (λ z. IsTrue (is_some (get nat_cmp new z))) (sym same) is_there
-    | no other ↦ ap is_some (updates.2 i (not_at id i other)) ∙ h
+    | yes same ↦ subst (λ z. IsTrue (is_some (get nat_eq new z))) (sym same) is_there
+    | no other ↦ ap is_some (others_stay i other) ∙ h
   ]
 
 -- ---- normal forms
@@ -59,7 +70,7 @@ decides false h k differ = (h, λ n. absurd (differ n (k refl)))
 -- whether one more term is a normal form is noted
 pub one_more_ending : (rules : List RewriteRule) (pool : List Tree) (old new : Endings) (id : ℕ) (is_normal : Bool) → AreEndings rules pool old → id < length pool
     → (IsTrue is_normal → IsNormalForm (Step rules) (tree_at pool id)) → (is_normal ≡ false → (u : Tree) × Step rules (tree_at pool id) u)
-    → Updates nat_cmp old.normal new.normal id (Some is_normal) → AreEndings rules pool new
+    → Updates nat_eq old.normal new.normal id (Some is_normal) → AreEndings rules pool new
 one_more_ending rules pool old new id is_normal h below normal reducible updates = record {
   there = λ i b at. elim (new_or_before old.normal new.normal id is_normal updates i b at) [
     | inl before ↦ h.there i b before
@@ -74,7 +85,7 @@ one_more_ending rules pool old new id is_normal h below normal reducible updates
 
 -- normal forms are different exactly where their ids are
 pub endings_tell : (rules : List RewriteRule) (pool : List Tree) (marks : Endings) (left right : ℕ) (a b answer : Bool) → AreDistinct pool → AreEndings rules pool marks
-    → get nat_cmp marks.normal left ≡ Some a → get nat_cmp marks.normal right ≡ Some b → IsTrue answer ↔ (IsTrue a × IsTrue b × (left ≢ right))
+    → get nat_eq marks.normal left ≡ Some a → get nat_eq marks.normal right ≡ Some b → IsTrue answer ↔ (IsTrue a × IsTrue b × (left ≢ right))
     → IsTrue answer ↔ AreDifferentNormalForms rules (tree_at pool left) (tree_at pool right)
 endings_tell rules pool marks left right a b answer distinct h at_left at_right decided =
     let m = h.normal left a at_left in
@@ -96,7 +107,7 @@ caps_last rules old new marks extends h = record {
 
 -- terms are apart exactly where their caps clash
 pub caps_tell : (rules : List RewriteRule) (pool : List Tree) (marks : CapMarks) (left right a b : ℕ) (answer : Bool) → AreCaps rules pool marks
-    → get nat_cmp marks.numbers left ≡ Some a → get nat_cmp marks.numbers right ≡ Some b → answer ≡ clash (cap_at marks.shared a) (cap_at marks.shared b)
+    → get nat_eq marks.numbers left ≡ Some a → get nat_eq marks.numbers right ≡ Some b → answer ≡ clash (cap_at marks.shared a) (cap_at marks.shared b)
     → IsTrue answer ↔ AreApart rules (tree_at pool left) (tree_at pool right)
 caps_tell rules pool marks left right a b answer h at_left at_right decided =
     let c = cap_at marks.shared a in
@@ -106,13 +117,13 @@ caps_tell rules pool marks left right a b answer h at_left at_right decided =
 -- no caps
 pub none_numbered : (rules : List RewriteRule) (pool : List Tree) (marks : CapMarks) → marks.numbers.entries ≡ [] → AreCaps rules pool marks
 none_numbered rules pool marks none = record {
-  there = λ i k at. absurd (nothing_there marks.numbers i k none at);
-  number = λ i k at. absurd (nothing_there marks.numbers i k none at);
-  cap = λ i k at. absurd (nothing_there marks.numbers i k none at);
+  there = λ i k at. absurd (nothing_there marks.numbers.entries (nat_eq i) k none at);
+  number = λ i k at. absurd (nothing_there marks.numbers.entries (nat_eq i) k none at);
+  cap = λ i k at. absurd (nothing_there marks.numbers.entries (nat_eq i) k none at);
 }
 
 pub none_ended : (rules : List RewriteRule) (pool : List Tree) (marks : Endings) → marks.normal.entries ≡ [] → AreEndings rules pool marks
 none_ended rules pool marks none = record {
-  there = λ i b at. absurd (nothing_there marks.normal i b none at);
-  normal = λ i b at. absurd (nothing_there marks.normal i b none at);
+  there = λ i b at. absurd (nothing_there marks.normal.entries (nat_eq i) b none at);
+  normal = λ i b at. absurd (nothing_there marks.normal.entries (nat_eq i) b none at);
 }

@@ -1,7 +1,7 @@
 -- The caps of ids, by their numbers, one after another.
 use Rattle.std.specs.Prelude.{◌≡◌, ◌<◌, ◌≤◌, ◌+◌, ℕ, true, All, List, [], ◌∷◌, ◌++◌, map, take, length, Option, None, Some, get_or, slice_get, refl, Result, Ok, Err, IfOk, OnOk}
-use Rattle.std.proofs.Common.{zero, suc, ap, sym, ◌∙◌, subst, arith, inl, inr, nat_cmp, add-one}
-use Rattle.std.specs.BTreeMap.{BTreeMap, get, Updates}
+use Rattle.std.proofs.Common.{zero, suc, ap, sym, ◌∙◌, subst, arith, inl, inr, nat_eq, add-one}
+use Rattle.std.specs.HashMap.{get, Updates}
 use Rattle.std.specs.Option.{option_map, option_and_then}
 use Rattle.std.proofs.lemmas.List.{take_all, take_more, map-append}
 use Rattle.std.proofs.lemmas.List.Elements.{All-push, All-weaker}
@@ -78,10 +78,10 @@ module _ (rules : List RewriteRule) (pool : List Tree) where
 
   -- ---- numbers that are noted
 
-  abbrev marks_of : List HoledTree → BTreeMap ℕ ℕ → CapMarks
-  marks_of shared numbers = record { shared = shared; numbers = numbers }
+  abbrev marks_over : List HoledTree → CapMarks → CapMarks
+  marks_over shared old = record { shared = shared; numbers = old.numbers }
 
-  pub caps_grown : (old : CapMarks) (shared : List HoledTree) → AreCaps rules pool old → KeepsCaps old.shared shared → AreCaps rules pool (marks_of shared old.numbers)
+  pub caps_grown : (old : CapMarks) (shared : List HoledTree) → AreCaps rules pool old → KeepsCaps old.shared shared → AreCaps rules pool (marks_over shared old)
   caps_grown old shared h kept = record {
     there = h.there;
     number = λ i k at. (let n = h.number i k at in omega (arith, n, kept.longer));
@@ -90,7 +90,7 @@ module _ (rules : List RewriteRule) (pool : List Tree) where
 
   module _ (old new : CapMarks) (id number : ℕ) (same : new.shared ≡ old.shared) where
     one_more_numbered : AreCaps rules pool old → id < length pool → number < length old.shared → IsHoledCap rules true (tree_at pool id) (cap_at old.shared number)
-        → Updates nat_cmp old.numbers new.numbers id (Some number) → AreCaps rules pool new
+        → Updates nat_eq old.numbers new.numbers id (Some number) → AreCaps rules pool new
     one_more_numbered h below there cap updates = record {
       there = λ i k at. elim (new_or_before old.numbers new.numbers id number updates i k at) as (λ _. i < length pool) [
         | inl before ↦ h.there i k before
@@ -106,16 +106,16 @@ module _ (rules : List RewriteRule) (pool : List Tree) where
       ]);
     }
 
-    pub caps_noted : {E : Type 0} (result : Result ℕ E) → OnOk result (Updates nat_cmp old.numbers new.numbers id (Some number)) → AreCaps rules pool old → id < length pool → number < length old.shared
+    pub caps_noted : {E : Type 0} (result : Result ℕ E) → OnOk result (Updates nat_eq old.numbers new.numbers id (Some number)) → AreCaps rules pool old → id < length pool → number < length old.shared
         → IsHoledCap rules true (tree_at pool id) (cap_at old.shared number) → OnOk result (AreCaps rules pool new)
     caps_noted (Ok k) updates h below there cap = one_more_numbered h below there cap updates
     caps_noted (Err e) updates h below there cap = tt
 
-    pub number_noted : {E : Type 0} (result : Result ℕ E) → IfOk result (λ k. k ≡ number) → OnOk result (Updates nat_cmp old.numbers new.numbers id (Some number)) → IfOk result (λ k. get nat_cmp new.numbers id ≡ Some k)
+    pub number_noted : {E : Type 0} (result : Result ℕ E) → IfOk result (λ k. k ≡ number) → OnOk result (Updates nat_eq old.numbers new.numbers id (Some number)) → IfOk result (λ k. get nat_eq new.numbers id ≡ Some k)
     number_noted (Ok k) is updates = updates.1 ∙ ap (λ z. Some z) (sym is)
     number_noted (Err e) is updates = tt
 
-    pub still_noted : {E : Type 0} (first : CapMarks) (result : Result ℕ E) → OnOk result (Updates nat_cmp old.numbers new.numbers id (Some number)) → ((i : ℕ) → HasCap first i → HasCap old i)
+    pub still_noted : {E : Type 0} (first : CapMarks) (result : Result ℕ E) → OnOk result (Updates nat_eq old.numbers new.numbers id (Some number)) → ((i : ℕ) → HasCap first i → HasCap old i)
         → OnOk result ((i : ℕ) → HasCap first i → HasCap new i)
     still_noted first (Ok k) updates still = λ i h. is_still_there old.numbers new.numbers id number updates i (still i h)
     still_noted first (Err e) updates still = tt

@@ -1,7 +1,6 @@
 -- What is found out of the terms of a pool, to tell which of them never meet.
-use Rattle.std.specs.Prelude.{◌≡◌, ◌<◌, ◌↔◌, ℕ, Bool, true, List, All, Some, is_some, length, IsTrue}
-use Rattle.std.specs.Ordering.{nat_cmp}
-use Rattle.std.specs.BTreeMap.{get}
+use Rattle.std.specs.Prelude.{◌≡◌, ◌<◌, ◌↔◌, ℕ, nat_eq, Bool, true, List, All, Some, is_some, length, IsTrue}
+use Rattle.std.specs.HashMap.{get}
 use Rattle.trs_defs.specs.Tree.{Tree}
 use Rattle.trs_defs.specs.Step.{Step}
 use Rattle.trs_defs.specs.NormalForm.{IsNormalForm}
@@ -27,19 +26,19 @@ AreParted never_meet rules pool a b = never_meet rules (tree_at pool a.0) (tree_
 
 -- the id has a cap
 abbrev pub HasCap : CapMarks → ℕ → Type 0
-HasCap marks i = IsTrue (is_some (get nat_cmp marks.numbers i))
+HasCap marks i = IsTrue (is_some (get nat_eq marks.numbers i))
 
 -- the caps of the numbers are those of the ids' terms, with their variables fixed
 pub record AreCaps (rules : List RewriteRule) (pool : List Tree) (marks : CapMarks) : Type 0 where
-  pub there : (i k : ℕ) → get nat_cmp marks.numbers i ≡ Some k → i < length pool
-  pub number : (i k : ℕ) → get nat_cmp marks.numbers i ≡ Some k → k < length marks.shared
-  pub cap : (i k : ℕ) → get nat_cmp marks.numbers i ≡ Some k → IsHoledCap rules true (tree_at pool i) (cap_at marks.shared k)
+  pub there : (i k : ℕ) → get nat_eq marks.numbers i ≡ Some k → i < length pool
+  pub number : (i k : ℕ) → get nat_eq marks.numbers i ≡ Some k → k < length marks.shared
+  pub cap : (i k : ℕ) → get nat_eq marks.numbers i ≡ Some k → IsHoledCap rules true (tree_at pool i) (cap_at marks.shared k)
 
 -- it is noted of the id whether its term is a normal form
 abbrev pub HasEnding : Endings → ℕ → Type 0
-HasEnding marks i = IsTrue (is_some (get nat_cmp marks.normal i))
+HasEnding marks i = IsTrue (is_some (get nat_eq marks.normal i))
 
 -- what is noted of an id is true of its term
 pub record AreEndings (rules : List RewriteRule) (pool : List Tree) (marks : Endings) : Type 0 where
-  pub there : (i : ℕ) (b : Bool) → get nat_cmp marks.normal i ≡ Some b → i < length pool
-  pub normal : (i : ℕ) (b : Bool) → get nat_cmp marks.normal i ≡ Some b → IsTrue b ↔ IsNormalForm (Step rules) (tree_at pool i)
+  pub there : (i : ℕ) (b : Bool) → get nat_eq marks.normal i ≡ Some b → i < length pool
+  pub normal : (i : ℕ) (b : Bool) → get nat_eq marks.normal i ≡ Some b → IsTrue b ↔ IsNormalForm (Step rules) (tree_at pool i)

@@ -1,7 +1,6 @@
 //! Terms apart by their caps.
-ghost use Rattle.std.specs.Prelude.{◌≡◌, ◌<◌, ℕ, All, Some, length, map, IfOk, OnOk};
-ghost use Rattle.std.specs.Ordering.{nat_cmp};
-ghost use Rattle.std.specs.BTreeMap.{get, Updates};
+ghost use Rattle.std.specs.Prelude.{◌≡◌, ◌<◌, ℕ, nat_eq, All, Some, length, map, IfOk, OnOk};
+ghost use Rattle.std.specs.HashMap.{get, Updates};
 ghost use Rattle.trs_defs.specs.Tree.{Trees, app, items, var};
 ghost use Rattle.trs_defs.specs.Variable.{IsVariable};
 ghost use Rattle.term_pool.specs.Pooled.{tree_at};
@@ -13,7 +12,7 @@ use crate::cap_node::CapNode;
 use crate::marks::Marks;
 use crate::shared_caps::SharedCaps;
 use std::alloc::Global;
-use std::collections::BTreeMap;
+use std::collections::HashMap;
 use std::slice::from_ref;
 use term_pool::{Pool, RulesByRoot};
 use trs_core::{OutOfMemory, Term};
@@ -26,14 +25,14 @@ const BYTES_OF_CAP: u64 = 64;
 #[derive(Drop)]
 pub(crate) struct CapMarks {
     shared: SharedCaps,
-    numbers: BTreeMap<u32, u32>,
+    numbers: HashMap<u32, u32>,
 }
 
 impl CapMarks {
     /// The number of an id's cap.
     fn number(&self, id: u32) -> u32
         requires { HasCap self.now id }
-        ensures { get nat_cmp self.now.numbers id ≡ Some result }
+        ensures { get nat_eq self.now.numbers id ≡ Some result }
     {
         match self.numbers.get(&id) {
             Some(number) => *number,
@@ -51,7 +50,7 @@ impl CapMarks {
     ) -> Result<u32, OutOfMemory>
         requires narrow { IsNarrowAt pool.now id }
         requires caps { AreCaps by_root.now.rules pool.now self.old }
-        ensures number { IfOk result (λ k. get nat_cmp self.new.numbers id ≡ Some k) }
+        ensures number { IfOk result (λ k. get nat_eq self.new.numbers id ≡ Some k) }
         ensures still { OnOk result ((i : ℕ) → HasCap self.old i → HasCap self.new i) }
         ensures caps { OnOk result (AreCaps by_root.now.rules pool.now self.new) }
         ensures kept { OnOk result (KeepsCaps self.old.shared self.new.shared) }
@@ -83,7 +82,7 @@ impl CapMarks {
     fn note(&mut self, id: u32, number: u32) -> Result<u32, OutOfMemory>
         ensures number { IfOk result (λ k. k ≡ number) }
         ensures noted { OnOk result (
-            Updates nat_cmp self.old.numbers self.new.numbers id (Some number)) }
+            Updates nat_eq self.old.numbers self.new.numbers id (Some number)) }
         ensures shared { self.new.shared ≡ self.old.shared }
     {
         self.numbers.insert(id, number)?;
@@ -104,7 +103,7 @@ impl Marks for CapMarks {
     fn new(alloc: Global) -> CapMarks {
         CapMarks {
             shared: SharedCaps::new(alloc),
-            numbers: BTreeMap::new(alloc),
+            numbers: HashMap::new(alloc),
         }
     }
 

@@ -1,29 +1,28 @@
 //! Terms that are different normal forms.
-ghost use Rattle.std.specs.Prelude.{◌≡◌, ◌≢◌, ◌↔◌, Some, IsTrue};
-ghost use Rattle.std.specs.Ordering.{nat_cmp};
-ghost use Rattle.std.specs.BTreeMap.{get};
+ghost use Rattle.std.specs.Prelude.{◌≡◌, ◌≢◌, ◌↔◌, nat_eq, Some, IsTrue};
+ghost use Rattle.std.specs.HashMap.{get};
 ghost use Rattle.conf_find.specs.Marks.{HasEnding};
 
 use crate::marks::Marks;
 use std::alloc::Global;
-use std::collections::BTreeMap;
+use std::collections::HashMap;
 use term_pool::{Pool, RulesByRoot, ids_are_distinct};
 use trs_core::OutOfMemory;
 
 /// The bytes of an id that is kept, by estimate.
-const BYTES_OF_ID: u64 = 16;
+const BYTES_OF_ID: u64 = 32;
 
 /// Whether terms are normal forms, by their ids.
 #[derive(Drop)]
 pub(crate) struct Endings {
-    normal: BTreeMap<u32, bool>,
+    normal: HashMap<u32, bool>,
 }
 
 impl Endings {
     /// What is noted of an id.
     fn is_normal(&self, id: u32) -> bool
         requires { HasEnding self.now id }
-        ensures { get nat_cmp self.now.normal id ≡ Some result }
+        ensures { get nat_eq self.now.normal id ≡ Some result }
     {
         match self.normal.get(&id) {
             Some(is_normal) => *is_normal,
@@ -44,7 +43,7 @@ impl Marks for Endings {
 
     fn new(alloc: Global) -> Endings {
         Endings {
-            normal: BTreeMap::new(alloc),
+            normal: HashMap::new(alloc),
         }
     }
 
