@@ -1,9 +1,8 @@
-ghost use Rattle.std.specs.Prelude.{◌≡◌, ◌<◌, [], length, IfOk, OnOk};
+ghost use Rattle.std.specs.Prelude.{◌≡◌, [], OnOk};
 ghost use Rattle.trs_core.specs.View.{tree};
 ghost use Rattle.trs_defs.specs.WellFormed.{IsWellFormed};
 ghost use Rattle.trs_defs.specs.Claims.{IsForked};
 ghost use Rattle.trs_defs.specs.UniqueNormalForms.{IsSplit};
-ghost use Rattle.nonjoin.specs.term_pool.Pooled.{Extends, StandsFor, tree_at};
 ghost use Rattle.rewrite_core.specs.Check.{AnswersBy, Answers};
 ghost use Rattle.rewrite_core.specs.PathCheck.{Runs};
 ghost use Rattle.rule_label.specs.closed_pairs.Ends.{made_of};
@@ -15,7 +14,9 @@ use crate::Problem;
 use crate::apply::keeps_system;
 use crate::problem::no_problem;
 use nonjoin::{Pool, apart_in_pool};
-use rewrite_core::{CheckFault, ForkTest, PathStep, StepRefused, end_of_path, is_normal};
+use rewrite_core::{
+    CheckFault, ForkTest, PathStep, StepRefused, end_in_pool, end_of_path, is_normal,
+};
 use std::alloc::Global;
 use trs_core::{Term, Trs};
 
@@ -149,34 +150,10 @@ fn fork_by_caps(
 {
     let mut pool = Pool::new(alloc);
     let id = pool.intern(alloc, start)?;
-    let left_end = end_in_pool(alloc, &mut pool, trs, start, id, left, 0)?;
-    let right_end = end_in_pool(alloc, &mut pool, trs, start, id, right, 1)?;
+    let left_end = end_in_pool(alloc, &mut pool, trs, id, left, 0, 0)?;
+    let right_end = end_in_pool(alloc, &mut pool, trs, id, right, 0, 1)?;
     if !apart_in_pool(alloc, &pool, trs, left_end, right_end)? {
         return Err(CheckFault::Refused(StepRefused::NotApart));
     }
     Ok(())
-}
-
-/// The id of the end of a path of this number. Where it is not followed, it is followed again by
-/// itself, which says why.
-fn end_in_pool(
-    alloc: Global,
-    pool: &mut Pool,
-    trs: &Trs,
-    start: &Term,
-    id: u32,
-    path: &[PathStep],
-    number: u64,
-) -> Result<u32, CheckFault>
-    requires { StandsFor pool.old id (tree start.now) }
-    ensures end { AnswersBy (tree_at pool.new)
-        (Runs trs.now.rules (tree start.now) path.now 0 number) result }
-    ensures there { IfOk result (λ end. end < length pool.new) }
-    ensures kept { Extends pool.old pool.new }
-{
-    if let Ok(end) = pool.run_path(alloc, trs, id, path) {
-        return Ok(end);
-    }
-    let end = end_of_path(alloc, trs, start, path, 0, number)?;
-    Ok(pool.intern(alloc, &end)?)
 }
