@@ -21,8 +21,11 @@ use Rattle.term_pool.specs.Reach.{AreReducts, no_step, kept, left_out, AreCandid
 use Rattle.term_pool.proofs.ListingLaws.{reducts_there, reducts_append, candidates_append, small_kept}
 use Rattle.term_pool.proofs.ReachedIds.{same_listed, length_listed}
 use Rattle.term_pool.proofs.PoolTrees.{stands_at}
+use Rattle.term_pool.proofs.Extending.{same_tree_at}
 use Rattle.path_lists.specs.PathList.{no_steps}
 use Rattle.path_lists.specs.Adding.{Entry, IsEntryAt, AddsPaths, IsKeptEnd, IsLeftOut}
+use Rattle.path_lists.specs.NormalEnds.{AreNormalEnds}
+use Rattle.path_lists.specs.declared.normal_ends.NormalEnds.{NormalEnds}
 use Rattle.path_lists.proofs.PathLaws.{IsLookedAt}
 
 pub take_again : {A : Type 0} (n : ℕ) (xs ys : List A) → take n (take n xs ++ ys) ≡ take n (xs ++ ys)
@@ -155,6 +158,18 @@ module _ (rules : List RewriteRule) (e : Listed) (steps : List PlacedRule) where
           few = h.few;
           room = h.room;
         }
+
+-- ---- ends that no step leaves
+
+pub none_longer : (rules : List RewriteRule) (e : Listed) (pool : List Tree) (paths : List Entry) → length e.path < 4 → HasRedexes rules e.term [] → All (λ x. x.0 < length pool) paths → length paths ≤ 256
+    → AddsPaths (AreCandidates rules 4 4096 (e ∷ [])) pool pool paths paths
+none_longer rules e pool paths near none below few = nothing_added (AreCandidates rules 4 4096 (e ∷ [])) pool paths below few (expanded near none no_step no_entry)
+
+pub still_normal : (rules : List RewriteRule) (old new : List Tree) (ends : NormalEnds) → Extends old new → AreNormalEnds rules old ends → AreNormalEnds rules new ends
+still_normal rules old new ends extends h = record {
+  there = λ id i. (let was = h.there id i in omega (arith, was, extends.longer));
+  none = λ id i. subst (λ t. HasRedexes rules t []) (sym (same_tree_at old new extends id (h.there id i))) (h.none id i);
+}
 
 -- ---- what is looked at
 

@@ -5,6 +5,7 @@
 
 mod growth;
 mod laws;
+mod normal_ends;
 mod paths;
 mod room;
 

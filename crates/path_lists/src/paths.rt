@@ -9,10 +9,12 @@ ghost use Rattle.term_pool.specs.Redexes.{IsNarrow, IsRedexAt};
 ghost use Rattle.term_pool.specs.Reach.{AreReducts, AreCandidates};
 ghost use Rattle.path_lists.specs.PathList.{IsPathList};
 ghost use Rattle.path_lists.specs.Growth.{GrowsBy};
+ghost use Rattle.path_lists.specs.NormalEnds.{AreNormalEnds};
 ghost use Rattle.path_lists.specs.Adding.{AddsPaths, IsEntryAt, KeepsSmall};
 ghost use Rattle.path_lists.specs.Adding.{LeadsFrom, IsKeptEnd, IsLeftOut};
 
 use crate::growth::stays_small;
+use crate::normal_ends::NormalEnds;
 use crate::room::Room;
 use rewrite_core::copy_path;
 use std::alloc::Global;
@@ -62,10 +64,21 @@ pub fn paths_from(
     let id = pool.intern(alloc, start)?;
     let mut paths = Vec::new(alloc);
     paths.push((id, Vec::new(alloc)))?;
+    let mut normal = NormalEnds::new(alloc);
     let mut next = 0;
     while next < paths.len() && paths.len() < MOST_PATHS {
         let entry = entry_at(alloc, &paths, next)?;
-        add_longer(alloc, pool, trs, by_root, is_sure, room, &entry, &mut paths)?;
+        add_longer(
+            alloc,
+            pool,
+            trs,
+            by_root,
+            is_sure,
+            room,
+            &entry,
+            &mut normal,
+            &mut paths,
+        )?;
         next += 1;
     }
     Ok(paths)
@@ -84,7 +97,8 @@ fn entry_at(
     Ok((entry.0, copy_path(alloc, &entry.1)?))
 }
 
-/// Adds the paths that are one step longer than this one, as long as fewer than 256 are listed.
+/// Adds the paths that are one step longer than this one, as long as fewer than 256 are listed. Its
+/// end is noted where no step leads from it.
 fn add_longer(
     alloc: Global,
     pool: &mut Pool,
@@ -93,6 +107,7 @@ fn add_longer(
     is_sure: bool,
     room: Room,
     entry: &(u32, Vec<PathStep>),
+    normal: &mut NormalEnds,
     paths: &mut Vec<(u32, Vec<PathStep>)>,
 ) -> Result<(), OutOfMemory>
     requires table { by_root.now ≡ trs.now }
@@ -101,16 +116,25 @@ fn add_longer(
     requires sure { IsTrue is_sure → KeepsSmall trs.now.rules (listed pool.old entry.now) }
     requires grows { GrowsBy trs.now.rules room.growth }
     requires from { LeadsFrom trs.now.rules room.start (listed pool.old entry.now) }
+    requires normal { AreNormalEnds trs.now.rules pool.old normal.old }
     requires below { All (λ e. e.0 < length pool.old) paths.old.items }
     requires few { length paths.old.items ≤ 256 }
     ensures adds { OnOk result (AddsPaths (AreCandidates trs.now.rules 4 4096
         (listed pool.old entry.now ∷ [])) pool.old pool.new paths.old.items paths.new.items) }
+    ensures normal { OnOk result (AreNormalEnds trs.now.rules pool.new normal.new) }
     ensures kept { Extends pool.old pool.new }
 {
     if entry.1.len() >= MOST_STEPS {
         return Ok(());
     }
+    if normal.has(entry.0) {
+        return Ok(());
+    }
     let steps = pool.redexes_at(alloc, by_root, entry.0)?;
+    if steps.is_empty() {
+        normal.note(entry.0)?;
+        return Ok(());
+    }
     for step in &steps {
         if paths.len() >= MOST_PATHS {
             return Ok(());

@@ -20,7 +20,7 @@ one c = c.in_ok-push.ensures.items ∙ ap (λ l. l ++ (c.in_ok-id.id, c.new.resu
 
 pub loop-next-init : goal.loop-next-init
 loop-next-init c =
-    let is = one c in
+    let is = one (goal.at.loop-next-init c).In_ok-push in
     let count = ap length is in
     let size = limits_size (tree c.args.start.now) c.requires.small in
     record {
@@ -30,6 +30,7 @@ loop-next-init c =
       room = omega (arith, count, size, c.in_ok-id.ensures.few);
       next = omega arith;
       short = omega (arith, count);
+      normal = c.new-normal.ensures c.args.trs.now.rules c.intern.new.self;
     }
 
 entry : (c : In_ok-entry) → IsEntryAt c.loop-next.paths.items c.loop-next.next c.in_ok-entry.entry
@@ -84,4 +85,5 @@ loop-next-preserved c =
       room = (let was = i.room in omega (arith, room, was));
       next = omega (arith, below, longer, count);
       short = adds.few;
+      normal = c.in_ok-add_longer.ensures.normal;
     }
