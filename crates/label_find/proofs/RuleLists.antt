@@ -4,7 +4,7 @@ use Rattle.std.specs.Global.{Vec}
 use Rattle.std.specs.List.{insert, HoldsAt}
 use Rattle.std.specs.Cmp.Lexicographic.{slice_cmp}
 use Rattle.std.specs.FinMap.{slice_cmp-IsAntisymmetric, nat_cmp-IsAntisymmetric}
-use Rattle.std.proofs.Common.{suc, ap, sym, ◌∙◌, subst, get_or, drop, inl, inr, nat_cmp, Equal, append-nil, append_assoc, take-append-drop, arith}
+use Rattle.std.proofs.Common.{zero, suc, ap, sym, ◌∙◌, subst, get_or, drop, inl, inr, nat_cmp, Equal, append-nil, append_assoc, take-append-drop, arith}
 use Rattle.std.proofs.Math.Seq.{take-suc}
 use Rattle.std.proofs.Math.Decide.{ℕ_discrete}
 use Rattle.std.proofs.lemmas.Option.{slice_get-get_or}
@@ -106,9 +106,6 @@ with_then a xs b ys c h m = record {
       ∙ (listed_append k b ys ∙ (ap (λ t. t || is_listed k ys) (h.each k) ∙ (sym (listed_append k (a ++ xs) ys) ∙ ap (is_listed k) (append_assoc a xs ys))));
 }
 
-pub rule_pushed : (used new : List ℕ) (rule : ℕ) → new ≡ used ++ rule ∷ [] → IsWith used (rule ∷ []) new
-rule_pushed used new rule is = record { each = λ k. ap (is_listed k) is }
-
 pub rule_there : (used : List ℕ) (rule : ℕ) → is_listed rule used ≡ true → IsWith used (rule ∷ []) used
 rule_there used rule there = record { each = λ k. go k (is_listed k used) refl ∙ sym (listed_append k used (rule ∷ [])) }
   where
@@ -118,6 +115,33 @@ rule_there used rule there = record { each = λ k. go k (is_listed k used) refl 
       | yes same ↦ (let known : is_listed k used ≡ true = subst (λ (n : ℕ). is_listed n used ≡ true) same there in absurd (cc (e, known)))
       | no other ↦ (let differ : (rule == k) ≡ false = grind (arith, nat_tests) in rw (e, differ) refl)
     ]
+
+listed_at : (used : List ℕ) (place rule : ℕ) → place < length used → get_or used place rule ≡ rule → is_listed rule used ≡ true
+listed_at [] place rule within is = absurd (omega (arith, within))
+listed_at (k ∷ used) zero rule within is = or_left (k == rule) (is_listed rule used) (let same : (k == rule) ≡ true = grind (arith, nat_tests) in same)
+listed_at (k ∷ used) (suc place) rule within is = or_right (k == rule) (is_listed rule used) (listed_at used place rule (omega (arith, within)) is)
+
+-- a search has found the rule
+pub rule_found : (used : List ℕ) (rule place : ℕ) → place < length used → HoldsAt (λ (k : ℕ). nat_cmp k rule ≡ Equal) used place → IsWith used (rule ∷ []) used
+rule_found used rule place within found = rule_there used rule (listed_at used place rule within (nat_cmp-IsAntisymmetric (get_or used place rule) rule (found rule)))
+
+moved : (a r d : Bool) → (a || (r || d)) ≡ ((a || d) || (r || false))
+moved true r d = refl
+moved false true true = refl
+moved false true false = refl
+moved false false true = refl
+moved false false false = refl
+
+-- the rule is put at a place among the others
+pub rule_placed : (used new : List ℕ) (rule place : ℕ) → new ≡ insert used place rule → IsWith used (rule ∷ []) new
+rule_placed used new rule place is = record {
+  each = λ k.
+      (let before = take place used in
+      let after = drop place used in
+      let both : is_listed k used ≡ is_listed k before || is_listed k after = ap (is_listed k) (sym (take-append-drop place used)) ∙ listed_append k before after in
+      ap (is_listed k) is ∙ (listed_append k before (rule ∷ after) ∙ (moved (is_listed k before) (rule == k) (is_listed k after)
+      ∙ (ap (λ t. t || (rule == k || false)) (sym both) ∙ sym (listed_append k used (rule ∷ []))))));
+}
 
 pub with_step : (old : List ℕ) (path : List PlacedRule) (i : ℕ) (s : PlacedRule) (used new : List ℕ) → i < length path → s ≡ get_or path i s
     → IsWith old (rules_along (take i path)) used → IsWith used (s.rule ∷ []) new → IsWith old (rules_along (take (i + 1) path)) new

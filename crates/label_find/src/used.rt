@@ -8,7 +8,7 @@ use rewrite_core::PathStep;
 use std::alloc::Global;
 use trs_core::OutOfMemory;
 
-/// The numbers of all rules along paths, each once.
+/// The numbers of all rules along paths, each once and in order.
 pub(crate) fn used_rules(
     alloc: Global,
     entries: &[(u32, Vec<PathStep>)],
@@ -31,14 +31,18 @@ fn use_path(path: &[PathStep], used: &mut Vec<u32>) -> Result<(), OutOfMemory>
     Ok(())
 }
 
+/// Puts the rule among these, if it is not there yet. They stay in order, so that one is found by
+/// halving.
 fn use_rule(rule: u32, used: &mut Vec<u32>) -> Result<(), OutOfMemory>
     ensures { OnOk result (IsWith used.old.items (rule ∷ []) used.new.items) }
 {
-    if is_listed(used, rule) {
-        return Ok(());
+    match used.binary_search(&rule) {
+        Ok(_) => Ok(()),
+        Err(place) => {
+            used.insert(place, rule)?;
+            Ok(())
+        }
     }
-    used.push(rule)?;
-    Ok(())
 }
 
 /// Whether the rule is among these.
