@@ -17,7 +17,7 @@ use Rattle.label_find.specs.LabelRow.{rules_along}
 use Rattle.label_find.specs.Constraint.{fit_after, some_fit, some_meet}
 
 module _ (a b c : ℕ) (later : List ℕ) where
-  pub small_test : (ended : Bool) → c < a → fit_after ended a b (c ∷ later) ≡ fit_after ended a b later
+  small_test : (ended : Bool) → c < a → fit_after ended a b (c ∷ later) ≡ fit_after ended a b later
   small_test ended lt =
       let small : nat_lt c a ≡ true = grind (arith, nat_tests) in
       ap (λ t. cond t (fit_after ended a b later) (cond (nat_lt c b || (not ended && (c == b))) (fit_after true a b later) false)) small
@@ -28,12 +28,12 @@ module _ (a b c : ℕ) (later : List ℕ) where
   past_small : (ended : Bool) → a ≤ c → fit_after ended a b (c ∷ later) ≡ cond (nat_lt c b || (not ended && (c == b))) (fit_after true a b later) false
   past_small ended le = ap (λ t. cond t (fit_after ended a b later) (cond (nat_lt c b || (not ended && (c == b))) (fit_after true a b later) false)) (not_small le)
 
-  pub low_test : (ended : Bool) → a ≤ c → c < b → fit_after ended a b (c ∷ later) ≡ fit_after true a b later
+  low_test : (ended : Bool) → a ≤ c → c < b → fit_after ended a b (c ∷ later) ≡ fit_after true a b later
   low_test ended le lt =
       let low : nat_lt c b ≡ true = grind (arith, nat_tests) in
       past_small ended le ∙ ap (λ t. cond (t || (not ended && (c == b))) (fit_after true a b later) false) low
 
-  pub same_test : a ≤ c → c ≡ b → fit_after false a b (c ∷ later) ≡ fit_after true a b later
+  same_test : a ≤ c → c ≡ b → fit_after false a b (c ∷ later) ≡ fit_after true a b later
   same_test le same =
       let not_low : nat_lt c b ≡ false = grind (arith, nat_tests) in
       let equal : (c == b) ≡ true = grind (arith, nat_tests) in
@@ -47,7 +47,7 @@ module _ (a b c : ℕ) (later : List ℕ) where
     | no other ↦ (let differ : (c == b) ≡ false = grind (arith, nat_tests) in differ)
   ]
 
-  pub none_test : (ended : Bool) → a ≤ c → b ≤ c → (c ≡ b → ended ≡ true) → fit_after ended a b (c ∷ later) ≡ false
+  none_test : (ended : Bool) → a ≤ c → b ≤ c → (c ≡ b → ended ≡ true) → fit_after ended a b (c ∷ later) ≡ false
   none_test ended le above only =
       let not_low : nat_lt c b ≡ false = grind (arith, nat_tests) in
       past_small ended le
@@ -75,6 +75,22 @@ fits ended a b (c ∷ ranks) = elim (dec_lt c a) [
       | yes same ↦ by_test (same_test a b c ranks le same) h (same_rank a b c ranks le same)
       | no other ↦ by_none (none_test a b c ranks false le above (λ e. absurd (other e))) (no_rank a b c ranks false le above (λ e. absurd (other e)))
     ]
+
+-- a test of one more rank, as it is read
+
+same_test_of : (x y : Bool) → (IsTrue x → IsTrue y) → (IsTrue y → IsTrue x) → x ≡ y
+same_test_of true y h k = sym (h refl)
+same_test_of false true h k = k refl
+same_test_of false false h k = refl
+
+pub ends_there : (ended : Bool) (a b c : ℕ) (later : List ℕ) → (FitAfter ended a b (c ∷ later) → ⊥) → fit_after ended a b (c ∷ later) ≡ false
+ends_there ended a b c later none = same_test_of (fit_after ended a b (c ∷ later)) false (λ t. absurd (none ((fits ended a b (c ∷ later)).0 t))) (λ f. absurd cc)
+
+pub goes_on_so : (ended next : Bool) (a b c : ℕ) (later : List ℕ) → (FitAfter next a b later) ↔ (FitAfter ended a b (c ∷ later)) → fit_after ended a b (c ∷ later) ≡ fit_after next a b later
+goes_on_so ended next a b c later both =
+    let h = fits ended a b (c ∷ later) in
+    let k = fits next a b later in
+    same_test_of (fit_after ended a b (c ∷ later)) (fit_after next a b later) (λ t. k.1 (both.1 (h.0 t))) (λ t. h.1 (both.0 (k.0 t)))
 
 -- ---- along paths
 

@@ -1,5 +1,5 @@
 -- Whether the ranks of rules fit, as tests.
-use Rattle.std.specs.Prelude.{◌≡◌, ℕ, Bool, true, false, cond, not, ◌&&◌, ◌||◌, ◌==◌, nat_lt, List, [], ◌∷◌, map, Option, Some, None}
+use Rattle.std.specs.Prelude.{◌≡◌, ℕ, Bool, true, false, cond, not, ◌&&◌, ◌||◌, ◌==◌, nat_lt, List, [], ◌∷◌, map}
 use Rattle.std.specs.Global.{Vec}
 use Rattle.confluence_theory.specs.RuleRanks.{rank_of}
 
@@ -7,11 +7,6 @@ use Rattle.confluence_theory.specs.RuleRanks.{rank_of}
 abbrev pub fit_after : Bool → ℕ → ℕ → List ℕ → Bool
 fit_after ended a b [] = true
 fit_after ended a b (c ∷ ranks) = cond (nat_lt c a) (fit_after ended a b ranks) (cond (nat_lt c b || (not ended && (c == b))) (fit_after true a b ranks) false)
-
--- whether the run has ended after one more rank; none where no ranks fit that begin with it
-abbrev pub IsNextTest : Bool → ℕ → ℕ → ℕ → Option Bool → Type 0
-IsNextTest ended a b rank None = (later : List ℕ) → fit_after ended a b (rank ∷ later) ≡ false
-IsNextTest ended a b rank (Some next) = (later : List ℕ) → fit_after ended a b (rank ∷ later) ≡ fit_after next a b later
 
 -- the ranks of some of these lists of rules fit
 abbrev pub some_fit : List ℕ → ℕ → ℕ → List (Vec ℕ) → Bool

@@ -30,7 +30,7 @@ pub(crate) fn rank_of(ranks: &[u64], rule: u32) -> u64
 
 /// Whether the run of ranks below `a` has ended after one more rank. `None` where that does not
 /// fit.
-fn after_rank(ended: bool, a: u64, b: u64, rank: u64) -> Option<bool>
+pub fn after_rank(ended: bool, a: u64, b: u64, rank: u64) -> Option<bool>
     ensures { IsNext ended a b rank result }
 {
     if rank < a {

@@ -8,6 +8,7 @@ mod labelled;
 mod laws;
 
 pub use closed_pairs::{Four, newman_check, parallel_closed_check, strongly_closed_check};
+pub use fitting::after_rank;
 pub use labelled::{label_check, labelled_check};
 pub use laws::{decreasing_peaks_conclude, labels_answer_once};
 pub use rewrite_core::{Join, Peak};
