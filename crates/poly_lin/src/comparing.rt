@@ -34,7 +34,9 @@ pub fn is_strictly_above<T: Coefficients>(table: &T, a: &Term, b: &Term) -> Resu
     Ok(is_strictly_above_if_small(table, a, b))
 }
 
-fn either_is_big<T: Coefficients>(table: &T, a: &Term, b: &Term) -> bool
+/// Whether the polynomial of some subterm of these terms has a coefficient above 2^63 - 1. It takes
+/// no memory, but walks all that has the coefficient 0.
+pub fn either_is_big<T: Coefficients>(table: &T, a: &Term, b: &Term) -> bool
     ensures { IsTrue result ↔
         EitherIsBig (T.coefficient table.now) (tree a.now) (tree b.now) }
 {

@@ -17,7 +17,7 @@ mod values;
 mod window;
 
 pub use coefficients::Coefficients;
-pub use comparing::{is_strictly_above, is_weakly_above};
+pub use comparing::{either_is_big, is_strictly_above, is_weakly_above};
 pub use faults::TableFault;
 pub use profiles::Profile;
 pub use rows::Row;
