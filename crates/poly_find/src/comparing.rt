@@ -1,4 +1,5 @@
-//! Comparisons by a linear interpretation, as tests that are false where a polynomial is too big.
+//! Comparisons by a linear interpretation, as tests that are false where a polynomial is too big. What
+//! the polynomials say comes first, since that passes over what has the coefficient 0.
 ghost use Rattle.std.specs.Prelude.{◌≡◌, ◌<◌, ◌+◌, ◌^◌, ℕ, Some, false, length, get_or, slice_get};
 ghost use Rattle.trs_defs.specs.System.{RewriteRule};
 ghost use Rattle.order_search.specs.OrderSpace.{some_falls};
@@ -6,23 +7,17 @@ ghost use Rattle.poly_find.specs.LinearTest.{linear_weak, linear_strict};
 ghost use Rattle.poly_find.specs.SmallTerms.{IsSafe};
 
 use order_search::LentRule;
-use poly_lin::{
-    Coefficients, is_strictly_above, is_strictly_above_if_small, is_weakly_above,
-    is_weakly_above_if_small,
-};
+use poly_lin::{Coefficients, either_is_big, is_strictly_above_if_small, is_weakly_above_if_small};
 
 /// Whether the left side is the right one, or greater.
 pub(crate) fn is_weak<T: Coefficients>(table: &T, small: bool, rule: &LentRule) -> bool
     requires { IsSafe (T.coefficient table.now) small rule.now }
     ensures { result ≡ linear_weak (T.coefficient table.now) rule.now.left rule.now.right }
 {
-    if small {
-        return is_weakly_above_if_small(table, rule.left, rule.right);
+    if !is_weakly_above_if_small(table, rule.left, rule.right) {
+        return false;
     }
-    match is_weakly_above(table, rule.left, rule.right) {
-        Ok(answer) => answer,
-        Err(_) => false,
-    }
+    small || !either_is_big(table, rule.left, rule.right)
 }
 
 /// Whether the left side is greater.
@@ -30,13 +25,10 @@ fn is_strict<T: Coefficients>(table: &T, small: bool, rule: &LentRule) -> bool
     requires { IsSafe (T.coefficient table.now) small rule.now }
     ensures { result ≡ linear_strict (T.coefficient table.now) rule.now.left rule.now.right }
 {
-    if small {
-        return is_strictly_above_if_small(table, rule.left, rule.right);
+    if !is_strictly_above_if_small(table, rule.left, rule.right) {
+        return false;
     }
-    match is_strictly_above(table, rule.left, rule.right) {
-        Ok(answer) => answer,
-        Err(_) => false,
-    }
+    small || !either_is_big(table, rule.left, rule.right)
 }
 
 /// Whether some left side is greater than its right side. The flags of the rules stand behind so
