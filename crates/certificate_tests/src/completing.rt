@@ -83,23 +83,28 @@ fn texts_are_refused(rt: HostRuntime) -> Result<(), Fail> {
     Ok(())
 }
 
+// Why an order text about the symbols of the square is refused, if it is.
+fn refusal(alloc: Global, order: &[u8]) -> Result<Option<OrderRefused>, Fail> {
+    if order.len() > 2_000 {
+        return Err(OutOfMemory.into());
+    }
+    let system = read_problem(alloc, SQUARE)?;
+    Ok(read_order(alloc, &system, order).err())
+}
+
+const ORDERS: [(&[u8], Option<OrderRefused>); 3] = [
+    (b"(order (sym f 9223372036854775807) (sym g 0))", None),
+    (
+        b"(order (sym f 9223372036854775808) (sym g 0))",
+        Some(OrderRefused::At(14)),
+    ),
+    (b"(order (sym f 1))", Some(OrderRefused::At(0))),
+];
+
 #[test]
 fn orders_are_read_or_refused(rt: HostRuntime) -> Result<(), Fail> {
-    let alloc = rt.alloc();
-    let system = read_problem(alloc, SQUARE)?;
-    let greatest = read_order(
-        alloc,
-        &system,
-        b"(order (sym f 9223372036854775807) (sym g 0))",
-    );
-    assert!(rt; greatest.is_ok());
-    let greater = read_order(
-        alloc,
-        &system,
-        b"(order (sym f 9223372036854775808) (sym g 0))",
-    );
-    assert!(rt; matches!(greater, Err(OrderRefused::At(14))));
-    let missing = read_order(alloc, &system, b"(order (sym f 1))");
-    assert!(rt; matches!(missing, Err(OrderRefused::At(0))));
+    for (order, wanted) in &ORDERS {
+        assert!(rt; refusal(rt.alloc(), order)? == *wanted);
+    }
     Ok(())
 }

@@ -12,28 +12,39 @@ fn successor(alloc: Global, argument: Term) -> Result<Term, AllocError> {
     Ok(Term::App(1, Args::new(vec![in alloc; argument]?)))
 }
 
-fn rules(alloc: Global) -> Result<Vec<Rule>, AllocError> {
+fn of_zero(alloc: Global) -> Result<Rule, AllocError> {
     let zero = Term::App(0, Args::new(Vec::new(alloc)));
-    Ok(vec![in alloc;
-        Rule {
-            left: plus(alloc, zero)?,
-            right: Term::Var(0),
-        },
-        Rule {
-            left: plus(alloc, successor(alloc, Term::Var(1))?)?,
-            right: successor(alloc, plus(alloc, Term::Var(1))?)?,
-        },
-    ]?)
+    Ok(Rule {
+        left: plus(alloc, zero)?,
+        right: Term::Var(0),
+    })
+}
+
+fn of_successor(alloc: Global) -> Result<Rule, AllocError> {
+    let left = plus(alloc, successor(alloc, Term::Var(1))?)?;
+    let right = successor(alloc, plus(alloc, Term::Var(1))?)?;
+    Ok(Rule { left, right })
+}
+
+fn rules(alloc: Global) -> Result<Vec<Rule>, AllocError> {
+    let mut rules = Vec::new(alloc);
+    rules.push(of_zero(alloc)?)?;
+    rules.push(of_successor(alloc)?)?;
+    Ok(rules)
+}
+
+fn copied(alloc: Global, names: [&[u8]; 3]) -> Result<Vec<Vec<u8>>, AllocError> {
+    let mut own = Vec::new(alloc);
+    for name in names {
+        own.push(Vec::from_slice(alloc, name)?)?;
+    }
+    Ok(own)
 }
 
 /// Addition over symbols 0, 1 and 2, with these names.
 fn addition(alloc: Global, names: [&[u8]; 3]) -> Result<Result<NamedTrs, NamesFault>, Fail> {
     let trs = Trs::new(Vec::from_slice(alloc, &[0, 1, 2])?, rules(alloc)?)?;
-    let mut own = Vec::new(alloc);
-    for name in names {
-        own.push(Vec::from_slice(alloc, name)?)?;
-    }
-    Ok(NamedTrs::new(alloc, own, trs))
+    Ok(NamedTrs::new(alloc, copied(alloc, names)?, trs))
 }
 
 #[test]

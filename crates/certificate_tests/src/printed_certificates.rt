@@ -60,7 +60,7 @@ fn printed_step(alloc: Global, system: &NamedTrs, text: &[u8]) -> Result<Vec<u8>
 #[test]
 fn variables_get_numbers(rt: HostRuntime) -> Result<(), Fail> {
     let system = read_problem(rt.alloc(), PROBLEM)?;
-    for (text, expected) in PRINTED {
+    for (text, expected) in &PRINTED {
         assert!(rt; is_printed_as(rt.alloc(), &system, text, expected)?);
     }
     Ok(())

@@ -2,48 +2,50 @@
 use command_line::{Refused, parse};
 use std::test::*;
 
+const LINES: [(&str, bool); 34] = [
+    ("certify p c", true),
+    ("upgrade p c", true),
+    ("certify --workers=16 p c --budget 1000000", true),
+    ("certify p -- -c", true),
+    ("certify - ", true),
+    ("termination p", true),
+    ("confluence p --budget 5", true),
+    ("unique p --workers 2", true),
+    ("termination p c", false),
+    ("unique p --budget 01", false),
+    ("sample 40", true),
+    ("sample 512 --workers 2", true),
+    ("sample 0", false),
+    ("sample 513", false),
+    ("sample 007", false),
+    ("sample x", false),
+    ("sample 4 y", false),
+    ("sample", false),
+    ("prove p", false),
+    ("certify p", false),
+    ("upgrade p", false),
+    ("certify p c d", false),
+    ("certify p c --workers 0", false),
+    ("certify p c --workers 17", false),
+    ("certify p c --workers 01", false),
+    ("certify p c --workers=", false),
+    ("certify p c --budget 1000001", false),
+    ("certify p c --budget 2 --budget 3", false),
+    ("certify p c --workers --budget 2", false),
+    ("certify p c --workers -- 2", false),
+    ("certify p c -5", false),
+    ("certify p c --work 1", false),
+    ("certify p c --=2", false),
+    ("certify p c --help", false),
+];
+
 // Words are split at each blank, so that two blanks stand round an empty word.
 #[test]
 fn words_are_taken_or_refused(rt: HostRuntime) -> Result<(), Fail> {
-    for (line, taken) in [
-        ("certify p c", true),
-        ("upgrade p c", true),
-        ("certify --workers=16 p c --budget 1000000", true),
-        ("certify p -- -c", true),
-        ("certify - ", true),
-        ("termination p", true),
-        ("confluence p --budget 5", true),
-        ("unique p --workers 2", true),
-        ("termination p c", false),
-        ("unique p --budget 01", false),
-        ("sample 40", true),
-        ("sample 512 --workers 2", true),
-        ("sample 0", false),
-        ("sample 513", false),
-        ("sample 007", false),
-        ("sample x", false),
-        ("sample 4 y", false),
-        ("sample", false),
-        ("prove p", false),
-        ("certify p", false),
-        ("upgrade p", false),
-        ("certify p c d", false),
-        ("certify p c --workers 0", false),
-        ("certify p c --workers 17", false),
-        ("certify p c --workers 01", false),
-        ("certify p c --workers=", false),
-        ("certify p c --budget 1000001", false),
-        ("certify p c --budget 2 --budget 3", false),
-        ("certify p c --workers --budget 2", false),
-        ("certify p c --workers -- 2", false),
-        ("certify p c -5", false),
-        ("certify p c --work 1", false),
-        ("certify p c --=2", false),
-        ("certify p c --help", false),
-    ] {
+    for (line, taken) in &LINES {
         let words: Vec<&str> = line.split(' ').collect(rt.alloc())?;
         let answer = parse(rt.alloc(), &words);
-        assert_eq!(rt; answer.is_ok(), taken, "{line}");
+        assert_eq!(rt; answer.is_ok(), *taken, "{line}");
         assert_ne!(rt; answer.err(), Some(Refused::OutOfMemory), "{line}");
     }
     Ok(())
