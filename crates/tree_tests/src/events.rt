@@ -29,19 +29,22 @@ pub struct Entry {
     pub event: Event,
 }
 
+/// Copies of problems.
+fn copies(alloc: Global, problems: &[Problem]) -> Result<Vec<Problem>, OutOfMemory> {
+    let mut copied = Vec::new(alloc);
+    for problem in problems {
+        copied.push(problem.copy(alloc)?)?;
+    }
+    Ok(copied)
+}
+
 /// What a post of these findings says of its ticket.
 pub fn event_of(alloc: Global, findings: &Findings) -> Result<Event, OutOfMemory> {
     match findings {
-        Findings::Found(step, left) => {
-            let mut problems = Vec::new(alloc);
-            for problem in left {
-                problems.push(problem.copy(alloc)?)?;
-            }
-            Ok(Event::Found(FoundStep {
-                shown: numbers_of(alloc, step)?,
-                left: problems,
-            }))
-        }
+        Findings::Found(step, left) => Ok(Event::Found(FoundStep {
+            shown: numbers_of(alloc, step)?,
+            left: copies(alloc, left)?,
+        })),
         Findings::NotThere => Ok(Event::Failed(Failure::NotThere)),
         Findings::Spent => Ok(Event::Failed(Failure::Spent)),
     }
@@ -50,19 +53,23 @@ pub fn event_of(alloc: Global, findings: &Findings) -> Result<Event, OutOfMemory
 /// The numbers that show a step.
 pub fn numbers_of(alloc: Global, step: &Step) -> Result<Vec<u64>, OutOfMemory> {
     let mut numbers = Vec::new(alloc);
+    show(step, &mut numbers)?;
+    Ok(numbers)
+}
+
+fn show(step: &Step, numbers: &mut Vec<u64>) -> Result<(), OutOfMemory> {
     numbers.push(kind(step))?;
     match step {
-        Step::Graph(items) => show_items(items, &mut numbers)?,
-        Step::Subterm(places) => show_places(places, &mut numbers)?,
-        Step::Loop { path, .. } => show_path(path, &mut numbers)?,
-        Step::Newman(joins) => show_joins(joins, &mut numbers)?,
+        Step::Graph(items) => show_items(items, numbers),
+        Step::Subterm(places) => show_places(places, numbers),
+        Step::Loop { path, .. } => show_path(path, numbers),
+        Step::Newman(joins) => show_joins(joins, numbers),
         Step::Fork { left, right, .. } => {
-            show_path(left, &mut numbers)?;
-            show_path(right, &mut numbers)?;
+            show_path(left, numbers)?;
+            show_path(right, numbers)
         }
-        _ => (),
+        _ => Ok(()),
     }
-    Ok(numbers)
 }
 
 fn kind(step: &Step) -> u64 {

@@ -2,6 +2,7 @@
 use crate::chance::Chance;
 use crate::comparing::Pair;
 use crate::endings::ends_as;
+use crate::state::State;
 use crate::systems::{Case, system};
 use std::alloc::Global;
 use std::test::Fail;
@@ -57,6 +58,24 @@ fn call(
     }
 }
 
+/// Makes the calls of a list, and says whether all are right.
+fn make_calls(
+    alloc: Global,
+    pair: &mut Pair,
+    chance: &mut Chance,
+    habits: &Habits,
+) -> Result<bool, Fail> {
+    for _ in 0..CALLS {
+        if !call(alloc, pair, chance, habits)? || !pair.agrees() {
+            return Ok(false);
+        }
+        if pair.state.is_done() && !pair.state.is_running() {
+            break;
+        }
+    }
+    Ok(true)
+}
+
 /// Whether all calls of a list are right. The verdict is put down.
 fn is_right(
     alloc: Global,
@@ -71,23 +90,20 @@ fn is_right(
         newest_first: chance.below(3) == 0,
     };
     let mut pair = Pair::new(alloc, case.question, trs, case.budget)?;
-    for _ in 0..CALLS {
-        if !call(alloc, &mut pair, &mut chance, &habits)? || !pair.agrees() {
-            return Ok(false);
-        }
-        if pair.state.is_done() && !pair.state.is_running() {
-            break;
-        }
+    if !make_calls(alloc, &mut pair, &mut chance, &habits)? {
+        return Ok(false);
     }
-    match pair.state.verdict() {
-        Some(Verdict::Won(goal)) => see(seen, goal as usize),
-        Some(Verdict::Maybe) => see(seen, 3),
-        None => (),
-    }
+    see(seen, &pair.state);
     Ok(ends_as(alloc, &pair.state, pair.trial.tree())?)
 }
 
-fn see(seen: &mut [bool; 4], place: usize) {
+/// Puts down the verdict of a state: the goal that is won, or 3.
+fn see(seen: &mut [bool; 4], state: &State) {
+    let place = match state.verdict() {
+        Some(Verdict::Won(goal)) => goal as usize,
+        Some(Verdict::Maybe) => 3,
+        None => return,
+    };
     if let Some(slot) = seen.get_mut(place) {
         *slot = true;
     }
@@ -119,24 +135,26 @@ const FORK: [&[u8]; 2] = [b"a>b", b"a>c"];
 
 const HUET: [&[u8]; 3] = [b"pxx>a", b"pxgx>b", b"c>gc"];
 
+/// Questions on termination, with their budgets.
+const ON_TERMINATION: [(&[u8], &[&[u8]], u64, [bool; 4]); 5] = [
+    (b"0s+", &ADDITION, 100, [true, false, false, false]),
+    (b"0sp", &ACKERMANN, 100, [true, false, false, false]),
+    (b"0sp", &ACKERMANN, 5, [true, false, false, false]),
+    (b"f", &LOOP, 100, [false, true, false, false]),
+    (b"t01p", &TOYAMA, 5, [false, false, false, true]),
+];
+
 #[test]
 fn lists_on_termination(rt: HostRuntime) -> Result<(), Fail> {
-    let cases: [(&[u8], &[&[u8]], u64, [bool; 4]); 5] = [
-        (b"0s+", &ADDITION, 100, [true, false, false, false]),
-        (b"0sp", &ACKERMANN, 100, [true, false, false, false]),
-        (b"0sp", &ACKERMANN, 5, [true, false, false, false]),
-        (b"f", &LOOP, 100, [false, true, false, false]),
-        (b"t01p", &TOYAMA, 5, [false, false, false, true]),
-    ];
-    for (letters, rules, budget, wanted) in cases {
+    for (letters, rules, budget, wanted) in &ON_TERMINATION {
         let case = Case {
             question: Question::Termination,
             letters,
             rules,
-            budget,
+            budget: *budget,
         };
         let seen = verdicts(rt.alloc(), &case)?;
-        assert!(rt; seen == Some(wanted), "of {letters:?} by {budget}");
+        assert!(rt; seen == Some(*wanted), "of {letters:?} by {budget}");
     }
     Ok(())
 }
@@ -151,7 +169,7 @@ const CASES: [(&[u8], &[&[u8]], [bool; 4]); 4] = [
 
 #[test]
 fn lists_on_confluence(rt: HostRuntime) -> Result<(), Fail> {
-    for (letters, rules, wanted) in CASES {
+    for (letters, rules, wanted) in &CASES {
         let case = Case {
             question: Question::Confluence,
             letters,
@@ -159,14 +177,14 @@ fn lists_on_confluence(rt: HostRuntime) -> Result<(), Fail> {
             budget: 100,
         };
         let seen = verdicts(rt.alloc(), &case)?;
-        assert!(rt; seen == Some(wanted), "of {letters:?}");
+        assert!(rt; seen == Some(*wanted), "of {letters:?}");
     }
     Ok(())
 }
 
 #[test]
 fn lists_on_normal_forms(rt: HostRuntime) -> Result<(), Fail> {
-    for (letters, rules, wanted) in CASES {
+    for (letters, rules, wanted) in &CASES {
         let case = Case {
             question: Question::Unique,
             letters,
@@ -174,7 +192,7 @@ fn lists_on_normal_forms(rt: HostRuntime) -> Result<(), Fail> {
             budget: 100,
         };
         let seen = verdicts(rt.alloc(), &case)?;
-        assert!(rt; seen == Some(wanted), "of {letters:?}");
+        assert!(rt; seen == Some(*wanted), "of {letters:?}");
     }
     Ok(())
 }

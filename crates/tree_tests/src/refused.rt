@@ -45,20 +45,24 @@ impl<'a> Twins<'a> {
             && first.is_aborted() == second.is_aborted()
     }
 
+    /// Claims by the first tree, again if it refuses; nothing if both trees differ then.
+    fn first_claim(&mut self, alloc: Global, seat: u32) -> Result<Option<Claimed>, Fail> {
+        if let Ok(given) = self.first.claim(alloc, seat)? {
+            return Ok(Some(given));
+        }
+        self.refused_claims = self.refused_claims.saturating_add(1);
+        if !self.agree() {
+            return Ok(None);
+        }
+        Ok(Some(self.first.claim(alloc, seat)??))
+    }
+
     /// Claims by both, and says whether they gave the same. A refused claim is made again.
     fn claim(&mut self, alloc: Global, seat: u32) -> Result<bool, Fail> {
-        let given = match self.first.claim(alloc, seat)? {
-            Ok(given) => given,
-            Err(_) => {
-                self.refused_claims = self.refused_claims.saturating_add(1);
-                if !self.agree() {
-                    return Ok(false);
-                }
-                self.first.claim(alloc, seat)??
-            }
-        };
-        let other = self.second.claim(alloc, seat)??;
-        Ok(gave_the_same(&given, &other))
+        match self.first_claim(alloc, seat)? {
+            Some(given) => Ok(gave_the_same(&given, &self.second.claim(alloc, seat)??)),
+            None => Ok(false),
+        }
     }
 
     /// Posts by both what is held for a ticket, and says whether they answered the same. A refused

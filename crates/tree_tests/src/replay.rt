@@ -3,7 +3,7 @@ use crate::events::{Entry, Event, FoundStep};
 use crate::state::{Decided, State, new_node, opening};
 use std::alloc::Global;
 use trs_core::OutOfMemory;
-use worker_pool::{Mark, Question, Ticket};
+use worker_pool::{Mark, Problem, Question, Ticket};
 
 /// The state after these entries.
 pub fn state_after(
@@ -81,10 +81,10 @@ fn decide(
     found: &FoundStep,
 ) -> Result<(), OutOfMemory> {
     end(state, number, Mark::Idle);
-    let first = state.nodes.len();
     let Some(ticket) = state.tickets.get(number as usize).copied() else {
         return Ok(());
     };
+    let first = state.nodes.len();
     let Some(node) = state.nodes.get_mut(ticket.node) else {
         return Ok(());
     };
@@ -94,11 +94,21 @@ fn decide(
         first,
         count: found.left.len(),
     });
-    for problem in &found.left {
-        state
-            .nodes
-            .push(new_node(alloc, goal, problem.copy(alloc)?)?)?;
-    }
+    add_nodes(alloc, state, goal, &found.left)?;
     state.winner = state.first_won(alloc)?;
+    Ok(())
+}
+
+/// Open nodes of a goal with these problems are the next ones.
+fn add_nodes(
+    alloc: Global,
+    state: &mut State,
+    goal: u32,
+    problems: &[Problem],
+) -> Result<(), OutOfMemory> {
+    for problem in problems {
+        let node = new_node(alloc, goal, problem.copy(alloc)?)?;
+        state.nodes.push(node)?;
+    }
     Ok(())
 }

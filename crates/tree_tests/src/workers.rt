@@ -11,14 +11,8 @@ use worker_pool::{Claim, Limits, OpenGate, Question, Tree, Verdict, prove_with};
 /// `certificate`; or a report, where there is no claim.
 fn says(alloc: Global, tree: &Tree, claim: Option<Claim>) -> Result<bool, OutOfMemory> {
     match tree.verdict() {
-        Some(Verdict::Won(_)) => {
-            let proof = tree.certificate(alloc)?;
-            Ok(claim == Some(proof.claim))
-        }
-        Some(Verdict::Maybe) => {
-            let report = tree.report(alloc)?;
-            Ok(claim.is_none() && report.goals.len() > 1)
-        }
+        Some(Verdict::Won(_)) => Ok(claim == Some(tree.certificate(alloc)?.claim)),
+        Some(Verdict::Maybe) => Ok(claim.is_none() && tree.report(alloc)?.goals.len() > 1),
         None => Ok(false),
     }
 }
@@ -43,125 +37,130 @@ fn all_say<R: Threads + Wait + Sync>(
     Ok(true)
 }
 
+/// A case, and the claim that is proved, or none.
+type Row<'a> = (Case<'a>, Option<Claim>);
+
+const ON_TERMINATION: [Row; 4] = [
+    // addition
+    (
+        Case {
+            question: Question::Termination,
+            letters: b"0s+",
+            rules: &[b"+0y>y", b"+sxy>s+xy"],
+            budget: 100,
+        },
+        Some(Claim::Terminating),
+    ),
+    // the function of Ackermann and Peter
+    (
+        Case {
+            question: Question::Termination,
+            letters: b"0sp",
+            rules: &[b"p0y>sy", b"psx0>pxs0", b"psxsy>pxpsxy"],
+            budget: 100,
+        },
+        Some(Claim::Terminating),
+    ),
+    // a loop
+    (
+        Case {
+            question: Question::Termination,
+            letters: b"abc",
+            rules: &[b"a>b", b"a>c", b"b>a", b"c>a"],
+            budget: 100,
+        },
+        Some(Claim::Nonterminating),
+    ),
+    // Toyama's example, of which no strategy finds anything
+    (
+        Case {
+            question: Question::Termination,
+            letters: b"01tp",
+            rules: &[b"t01x>txxx", b"pxy>x", b"pxy>y"],
+            budget: 100,
+        },
+        None,
+    ),
+];
+
 #[test]
-fn addition_terminates(rt: HostRuntime) -> Result<(), Fail> {
-    let case = Case {
-        question: Question::Termination,
-        letters: b"0s+",
-        rules: &[b"+0y>y", b"+sxy>s+xy"],
-        budget: 100,
-    };
-    assert!(rt; all_say(&rt, rt.alloc(), &case, Some(Claim::Terminating))?);
+fn termination(rt: HostRuntime) -> Result<(), Fail> {
+    for (number, (case, claim)) in ON_TERMINATION.iter().enumerate() {
+        assert!(rt; all_say(&rt, rt.alloc(), case, *claim)?, "case {number}");
+    }
     Ok(())
 }
 
+const ON_CONFLUENCE: [Row; 5] = [
+    // joined peaks of a terminating system
+    (
+        Case {
+            question: Question::Confluence,
+            letters: b"fg",
+            rules: &[b"ffx>gx", b"fgx>gfx"],
+            budget: 100,
+        },
+        Some(Claim::Confluent),
+    ),
+    // strongly joined peaks
+    (
+        Case {
+            question: Question::Confluence,
+            letters: b"abc",
+            rules: &[b"a>b", b"a>c", b"b>a", b"c>a"],
+            budget: 100,
+        },
+        Some(Claim::Confluent),
+    ),
+    // decreasing peaks; the ranks of the rules come after 256 refuted prefixes
+    (
+        Case {
+            question: Question::Confluence,
+            letters: b"abchide",
+            rules: &[b"a>b", b"a>c", b"b>h", b"h>d", b"c>i", b"i>d", b"e>e"],
+            budget: 1_000,
+        },
+        Some(Claim::Confluent),
+    ),
+    // two normal forms of a constant
+    (
+        Case {
+            question: Question::Confluence,
+            letters: b"abc",
+            rules: &[b"a>b", b"a>c"],
+            budget: 100,
+        },
+        Some(Claim::Nonconfluent),
+    ),
+    // Huet's example, which has no critical peak and is not confluent
+    (
+        Case {
+            question: Question::Confluence,
+            letters: b"pagbc",
+            rules: &[b"pxx>a", b"pxgx>b", b"c>gc"],
+            budget: 100,
+        },
+        None,
+    ),
+];
+
 #[test]
-fn ackermann_terminates(rt: HostRuntime) -> Result<(), Fail> {
-    let case = Case {
-        question: Question::Termination,
-        letters: b"0sp",
-        rules: &[b"p0y>sy", b"psx0>pxs0", b"psxsy>pxpsxy"],
-        budget: 100,
-    };
-    assert!(rt; all_say(&rt, rt.alloc(), &case, Some(Claim::Terminating))?);
+fn confluence(rt: HostRuntime) -> Result<(), Fail> {
+    for (number, (case, claim)) in ON_CONFLUENCE.iter().enumerate() {
+        assert!(rt; all_say(&rt, rt.alloc(), case, *claim)?, "case {number}");
+    }
     Ok(())
 }
 
-#[test]
-fn a_loop_is_found(rt: HostRuntime) -> Result<(), Fail> {
-    let case = Case {
-        question: Question::Termination,
-        letters: b"abc",
-        rules: &[b"a>b", b"a>c", b"b>a", b"c>a"],
-        budget: 100,
-    };
-    assert!(rt; all_say(&rt, rt.alloc(), &case, Some(Claim::Nonterminating))?);
-    Ok(())
-}
-
-/// Toyama's example. No strategy finds anything.
-#[test]
-fn termination_is_left_open(rt: HostRuntime) -> Result<(), Fail> {
-    let case = Case {
-        question: Question::Termination,
-        letters: b"01tp",
-        rules: &[b"t01x>txxx", b"pxy>x", b"pxy>y"],
-        budget: 100,
-    };
-    assert!(rt; all_say(&rt, rt.alloc(), &case, None)?);
-    Ok(())
-}
-
-#[test]
-fn joined_peaks_of_a_terminating_system(rt: HostRuntime) -> Result<(), Fail> {
-    let case = Case {
-        question: Question::Confluence,
-        letters: b"fg",
-        rules: &[b"ffx>gx", b"fgx>gfx"],
-        budget: 100,
-    };
-    assert!(rt; all_say(&rt, rt.alloc(), &case, Some(Claim::Confluent))?);
-    Ok(())
-}
-
-#[test]
-fn strongly_joined_peaks(rt: HostRuntime) -> Result<(), Fail> {
-    let case = Case {
-        question: Question::Confluence,
-        letters: b"abc",
-        rules: &[b"a>b", b"a>c", b"b>a", b"c>a"],
-        budget: 100,
-    };
-    assert!(rt; all_say(&rt, rt.alloc(), &case, Some(Claim::Confluent))?);
-    Ok(())
-}
-
-/// The ranks of the rules come after 256 refuted prefixes.
-#[test]
-fn decreasing_peaks(rt: HostRuntime) -> Result<(), Fail> {
-    let case = Case {
-        question: Question::Confluence,
-        letters: b"abchide",
-        rules: &[b"a>b", b"a>c", b"b>h", b"h>d", b"c>i", b"i>d", b"e>e"],
-        budget: 1_000,
-    };
-    assert!(rt; all_say(&rt, rt.alloc(), &case, Some(Claim::Confluent))?);
-    Ok(())
-}
-
-#[test]
-fn two_normal_forms_of_a_constant(rt: HostRuntime) -> Result<(), Fail> {
-    let case = Case {
-        question: Question::Confluence,
-        letters: b"abc",
-        rules: &[b"a>b", b"a>c"],
-        budget: 100,
-    };
-    assert!(rt; all_say(&rt, rt.alloc(), &case, Some(Claim::Nonconfluent))?);
-    Ok(())
-}
-
-/// Huet's example, which has no critical peak and is not confluent.
-#[test]
-fn confluence_is_left_open(rt: HostRuntime) -> Result<(), Fail> {
-    let case = Case {
-        question: Question::Confluence,
-        letters: b"pagbc",
-        rules: &[b"pxx>a", b"pxgx>b", b"c>gc"],
-        budget: 100,
-    };
-    assert!(rt; all_say(&rt, rt.alloc(), &case, None)?);
-    Ok(())
-}
+const ON_NORMAL_FORMS: Case = Case {
+    question: Question::Unique,
+    letters: b"fg",
+    rules: &[b"ffx>gx", b"fgx>gfx"],
+    budget: 100,
+};
 
 #[test]
 fn a_confluent_system_has_unique_normal_forms(rt: HostRuntime) -> Result<(), Fail> {
-    let case = Case {
-        question: Question::Unique,
-        letters: b"fg",
-        rules: &[b"ffx>gx", b"fgx>gfx"],
-        budget: 100,
-    };
-    assert!(rt; all_say(&rt, rt.alloc(), &case, Some(Claim::Unique))?);
+    assert!(rt; all_say(&rt, rt.alloc(), &ON_NORMAL_FORMS, Some(Claim::Unique))?);
     Ok(())
 }
