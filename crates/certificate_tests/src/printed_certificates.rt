@@ -35,13 +35,9 @@ fn print(alloc: Global, system: &NamedTrs, text: &[u8]) -> Result<Vec<u8>, Fail>
     Ok(print_certificate(alloc, system, &certificate)?)
 }
 
-fn is_printed_as(
-    alloc: Global,
-    system: &NamedTrs,
-    text: &[u8],
-    expected: &[u8],
-) -> Result<bool, Fail> {
-    let text = print(alloc, system, text)?;
+fn is_printed_as(alloc: Global, text: &[u8], expected: &[u8]) -> Result<bool, Fail> {
+    let system = read_problem(alloc, PROBLEM)?;
+    let text = print(alloc, &system, text)?;
     Ok(text.as_slice() == expected)
 }
 
@@ -59,17 +55,15 @@ fn printed_step(alloc: Global, system: &NamedTrs, text: &[u8]) -> Result<Vec<u8>
 
 #[test]
 fn variables_get_numbers(rt: HostRuntime) -> Result<(), Fail> {
-    let system = read_problem(rt.alloc(), PROBLEM)?;
     for (text, expected) in &PRINTED {
-        assert!(rt; is_printed_as(rt.alloc(), &system, text, expected)?);
+        assert!(rt; is_printed_as(rt.alloc(), text, expected)?);
     }
     Ok(())
 }
 
 #[test]
 fn steps_on_pairs_are_printed_as_they_are_read(rt: HostRuntime) -> Result<(), Fail> {
-    let system = read_problem(rt.alloc(), PROBLEM)?;
-    assert!(rt; is_printed_as(rt.alloc(), &system, ON_PAIRS, ON_PAIRS)?);
+    assert!(rt; is_printed_as(rt.alloc(), ON_PAIRS, ON_PAIRS)?);
     Ok(())
 }
 

@@ -18,13 +18,19 @@ fn print(alloc: Global, text: &[u8]) -> Result<Vec<u8>, Fail> {
     Ok(print_problem(alloc, &system)?)
 }
 
+fn is_printed_as(alloc: Global, text: &[u8], expected: &[u8]) -> Result<bool, Fail> {
+    Ok(print(alloc, text)?.as_slice() == expected)
+}
+
+// What is printed of each.
+const BELOW_PRINTED: &[u8] =
+    b"(format TRS)\n(fun |:| 2)\n(fun ++ 2)\n(fun c 0)\n(rule (|:| c _0) (++ _0 c))\n(rule (++ _0 c) _0)\n";
+
+const UNDERSCORES_PRINTED: &[u8] = b"(format TRS)\n(fun _0 1)\n(fun __ 0)\n(rule (_0 ___0) __)\n";
+
 #[test]
 fn declarations_stand_first_and_variables_get_numbers(rt: HostRuntime) -> Result<(), Fail> {
-    let alloc = rt.alloc();
-    let text =
-        b"(format TRS)\n(fun |:| 2)\n(fun ++ 2)\n(fun c 0)\n(rule (|:| c _0) (++ _0 c))\n(rule (++ _0 c) _0)\n";
-    assert_eq!(rt; print(alloc, BELOW)?.as_slice(), text.as_slice());
-    let clash = b"(format TRS)\n(fun _0 1)\n(fun __ 0)\n(rule (_0 ___0) __)\n";
-    assert_eq!(rt; print(alloc, UNDERSCORES)?.as_slice(), clash.as_slice());
+    assert!(rt; is_printed_as(rt.alloc(), BELOW, BELOW_PRINTED)?);
+    assert!(rt; is_printed_as(rt.alloc(), UNDERSCORES, UNDERSCORES_PRINTED)?);
     Ok(())
 }
