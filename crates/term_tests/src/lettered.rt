@@ -5,13 +5,18 @@ use std::alloc::Global;
 use std::test::Fail;
 use trs_core::{OutOfMemory, Rule, Trs};
 
+/// A rule from one constant to another.
+fn rule(alloc: Global, from: u32, to: u32) -> Result<Rule, OutOfMemory> {
+    let left = term(alloc, from, [])?;
+    let right = term(alloc, to, [])?;
+    Ok(Rule { left, right })
+}
+
 /// So many constants, and a rule from one of them to another for each pair of them.
 pub fn constants(alloc: Global, count: usize, pairs: &[(u32, u32)]) -> Result<Trs, Fail> {
     let mut rules = Vec::new(alloc);
     for (from, to) in pairs {
-        let left = term(alloc, *from, [])?;
-        let right = term(alloc, *to, [])?;
-        rules.push(Rule { left, right })?;
+        rules.push(rule(alloc, *from, *to)?)?;
     }
     Ok(Trs::new(vec![in alloc; 0; count]?, rules)?)
 }

@@ -65,18 +65,20 @@ fn repeat(alloc: Global, parts: &[(u8, u32)]) -> Result<Vec<u8>, OutOfMemory> {
     Ok(text)
 }
 
+/// The term d(x, e(x, .., x), e(x, .., x)).
+const MANY: [(u8, u32); 6] = [
+    (b'd', 1),
+    (b'0', 1),
+    (b'e', 1),
+    (b'0', 255),
+    (b'e', 1),
+    (b'0', 255),
+];
+
 /// Rules 0 a(x) -> d(x, e(x, .., x), e(x, .., x)) and 1 d(t, x, y) -> a(t), where t has `count` + 1
 /// nodes. The closure of both returns to a(t), through a term of 510 times as many nodes.
 fn wide(alloc: Global, count: u32) -> Result<Trs, Fail> {
-    let parts = [
-        (b'd', 1),
-        (b'0', 1),
-        (b'e', 1),
-        (b'0', 255),
-        (b'e', 1),
-        (b'0', 255),
-    ];
-    let many = repeat(alloc, &parts)?;
+    let many = repeat(alloc, &MANY)?;
     let from = repeat(
         alloc,
         &[(b'd', 1), (b'b', count), (b'c', 1), (b'0', 1), (b'1', 1)],
@@ -118,10 +120,10 @@ const SHOWN: [(u32, u64, &[u32]); 6] = [
 
 #[test]
 fn loops_and_paths(rt: HostRuntime) -> Result<(), Fail> {
-    for (number, budget, want) in SHOWN {
-        let trs = system_number(rt.alloc(), number)?;
-        let found = numbers_of(rt.alloc(), &trs, budget, &mut never())?;
-        assert!(rt; found.as_slice() == want, "on system {number}");
+    for (number, budget, want) in &SHOWN {
+        let trs = system_number(rt.alloc(), *number)?;
+        let found = numbers_of(rt.alloc(), &trs, *budget, &mut never())?;
+        assert!(rt; found.as_slice() == *want, "on system {number}");
     }
     Ok(())
 }

@@ -1,10 +1,10 @@
 //! The finders of what confluence needs: what is found at critical peaks, and that a stop is seen
 //! before the first.
 use crate::lettered::constants;
-use crate::stops::{BUDGET, at_once, never};
-use assign_search::Search;
+use crate::stops::{BUDGET, Ending, at_once, ending_of, never};
 use conf_find::{find_fork, find_split};
 use crit_pairs::critical_pairs;
+use finder_cases::StopAt;
 use join_find::{find_newman, find_parallel, find_strong};
 use label_find::find_label;
 use std::alloc::Global;
@@ -21,64 +21,56 @@ fn forked_system(alloc: Global) -> Result<Trs, Fail> {
     constants(alloc, 3, &[(0, 1), (0, 2)])
 }
 
-fn is_stopped<T: Drop>(search: Search<T>) -> bool {
-    matches!(&search, Search::Stopped)
+/// A finder of joins, of ranks or of what is not joined.
+#[derive(Debug)]
+enum Finder {
+    Joins,
+    ParallelSteps,
+    StrongJoins,
+    Ranks,
+    Forks,
+    Splits,
 }
 
-fn is_found<T: Drop>(search: Search<T>) -> bool {
-    matches!(&search, Search::Found(_))
+/// What a finder says of a system's critical peaks.
+fn of_system(alloc: Global, finder: &Finder, trs: &Trs, stop: &mut StopAt) -> Result<Ending, Fail> {
+    let peaks = critical_pairs(alloc, trs)?;
+    let ending = match finder {
+        Finder::Joins => ending_of(find_newman(alloc, trs, &peaks, stop)),
+        Finder::ParallelSteps => ending_of(find_parallel(alloc, trs, &peaks, stop)),
+        Finder::StrongJoins => ending_of(find_strong(alloc, trs, &peaks, stop)),
+        Finder::Ranks => ending_of(find_label(alloc, trs, &peaks, BUDGET, stop)),
+        Finder::Forks => ending_of(find_fork(alloc, trs, &peaks, stop)),
+        Finder::Splits => ending_of(find_split(alloc, trs, &peaks, stop)),
+    };
+    Ok(ending?)
 }
 
 #[test]
-fn joins(rt: HostRuntime) -> Result<(), Fail> {
+fn finders_at_closed_peaks(rt: HostRuntime) -> Result<(), Fail> {
     let trs = closed_system(rt.alloc())?;
-    let peaks = critical_pairs(rt.alloc(), &trs)?;
-    assert!(rt; is_stopped(find_newman(rt.alloc(), &trs, &peaks, &mut at_once())?));
-    assert!(rt; is_found(find_newman(rt.alloc(), &trs, &peaks, &mut never())?));
+    for finder in &[
+        Finder::Joins,
+        Finder::ParallelSteps,
+        Finder::StrongJoins,
+        Finder::Ranks,
+    ] {
+        let stopped = of_system(rt.alloc(), finder, &trs, &mut at_once())?;
+        assert!(rt; matches!(stopped, Ending::Stopped), "by {finder:?}");
+        let found = of_system(rt.alloc(), finder, &trs, &mut never())?;
+        assert!(rt; matches!(found, Ending::Found), "by {finder:?}");
+    }
     Ok(())
 }
 
 #[test]
-fn parallel_steps(rt: HostRuntime) -> Result<(), Fail> {
-    let trs = closed_system(rt.alloc())?;
-    let peaks = critical_pairs(rt.alloc(), &trs)?;
-    assert!(rt; is_stopped(find_parallel(rt.alloc(), &trs, &peaks, &mut at_once())?));
-    assert!(rt; is_found(find_parallel(rt.alloc(), &trs, &peaks, &mut never())?));
-    Ok(())
-}
-
-#[test]
-fn strong_joins(rt: HostRuntime) -> Result<(), Fail> {
-    let trs = closed_system(rt.alloc())?;
-    let peaks = critical_pairs(rt.alloc(), &trs)?;
-    assert!(rt; is_stopped(find_strong(rt.alloc(), &trs, &peaks, &mut at_once())?));
-    assert!(rt; is_found(find_strong(rt.alloc(), &trs, &peaks, &mut never())?));
-    Ok(())
-}
-
-#[test]
-fn ranks(rt: HostRuntime) -> Result<(), Fail> {
-    let trs = closed_system(rt.alloc())?;
-    let peaks = critical_pairs(rt.alloc(), &trs)?;
-    assert!(rt; is_stopped(find_label(rt.alloc(), &trs, &peaks, BUDGET, &mut at_once())?));
-    assert!(rt; is_found(find_label(rt.alloc(), &trs, &peaks, BUDGET, &mut never())?));
-    Ok(())
-}
-
-#[test]
-fn forks(rt: HostRuntime) -> Result<(), Fail> {
+fn finders_at_different_normal_forms(rt: HostRuntime) -> Result<(), Fail> {
     let trs = forked_system(rt.alloc())?;
-    let peaks = critical_pairs(rt.alloc(), &trs)?;
-    assert!(rt; is_stopped(find_fork(rt.alloc(), &trs, &peaks, &mut at_once())?));
-    assert!(rt; is_found(find_fork(rt.alloc(), &trs, &peaks, &mut never())?));
-    Ok(())
-}
-
-#[test]
-fn splits(rt: HostRuntime) -> Result<(), Fail> {
-    let trs = forked_system(rt.alloc())?;
-    let peaks = critical_pairs(rt.alloc(), &trs)?;
-    assert!(rt; is_stopped(find_split(rt.alloc(), &trs, &peaks, &mut at_once())?));
-    assert!(rt; is_found(find_split(rt.alloc(), &trs, &peaks, &mut never())?));
+    for finder in &[Finder::Forks, Finder::Splits] {
+        let stopped = of_system(rt.alloc(), finder, &trs, &mut at_once())?;
+        assert!(rt; matches!(stopped, Ending::Stopped), "by {finder:?}");
+        let found = of_system(rt.alloc(), finder, &trs, &mut never())?;
+        assert!(rt; matches!(found, Ending::Found), "by {finder:?}");
+    }
     Ok(())
 }

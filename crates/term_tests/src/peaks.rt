@@ -4,23 +4,31 @@ use crate::texts::read;
 use crit_pairs::{PeakFault, critical_pairs};
 use std::alloc::Global;
 use std::test::Fail;
-use trs_core::{Rule, Trs};
+use trs_core::{OutOfMemory, Rule, Trs};
 
-/// Rules that take the first term to c, in so many copies, and one that takes the second to d. The
-/// tops of their peaks have nodes in number of about 2^(n + 3).
+/// The rule that takes the first term to c.
+fn first_rule(alloc: Global, n: u32) -> Result<Rule, OutOfMemory> {
+    let left = double(alloc, n)?;
+    let right = read(alloc, &[], b"a")?;
+    Ok(Rule { left, right })
+}
+
+/// The rule that takes the second term to d.
+fn second_rule(alloc: Global, n: u32) -> Result<Rule, OutOfMemory> {
+    let left = chain(alloc, n, 0)?;
+    let right = read(alloc, &[], b"b")?;
+    Ok(Rule { left, right })
+}
+
+/// The first rule in so many copies, and the second. The tops of their peaks have nodes in number of
+/// about 2^(n + 3).
 fn exploding(alloc: Global, n: u32, copies: u32) -> Result<Trs, Fail> {
-    let arities = Vec::from_array(alloc, [0, 0, 2, (2 * (n % 128)) as u8])?;
     let mut rules = Vec::new(alloc);
     for _ in 0..copies {
-        rules.push(Rule {
-            left: double(alloc, n)?,
-            right: read(alloc, &[], b"a")?,
-        })?;
+        rules.push(first_rule(alloc, n)?)?;
     }
-    rules.push(Rule {
-        left: chain(alloc, n, 0)?,
-        right: read(alloc, &[], b"b")?,
-    })?;
+    rules.push(second_rule(alloc, n)?)?;
+    let arities = Vec::from_array(alloc, [0, 0, 2, (2 * (n % 128)) as u8])?;
     Ok(Trs::new(arities, rules)?)
 }
 

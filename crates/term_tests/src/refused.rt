@@ -102,14 +102,20 @@ impl Twins {
         Ok(true)
     }
 
-    /// Puts down what a call gave, and says whether it is one term in both pools.
-    fn note(&mut self, alloc: Global, id: u32, twin: u32) -> Result<bool, Fail> {
-        self.given.push((id, twin))?;
+    /// Puts down the terms of ids that are new.
+    fn put_down(&mut self, alloc: Global) -> Result<(), Fail> {
         for new in 0..self.first.len() {
             if new as usize >= self.terms.len() {
                 self.terms.push(term_at(alloc, &self.first, new)?)?;
             }
         }
+        Ok(())
+    }
+
+    /// Puts down what a call gave, and says whether it is one term in both pools.
+    fn note(&mut self, alloc: Global, id: u32, twin: u32) -> Result<bool, Fail> {
+        self.given.push((id, twin))?;
+        self.put_down(alloc)?;
         let term = term_at(alloc, &self.first, id)?;
         Ok(term.same(&term_at(alloc, &self.second, twin)?))
     }
@@ -156,8 +162,28 @@ impl Twins {
     /// Whether a call gave the term of this text.
     fn gave(&self, alloc: Global, call: usize, text: &[u8]) -> Result<bool, Fail> {
         let (id, _) = self.given.get(call).copied().ok_or("no such call")?;
-        let wanted = read(alloc, &ARITIES, text)?;
-        Ok(term_at(alloc, &self.first, id)?.same(&wanted))
+        let given = term_at(alloc, &self.first, id)?;
+        Ok(given.same(&read(alloc, &ARITIES, text)?))
+    }
+
+    /// Makes the calls, and says whether both answer the same.
+    fn agree_on(&mut self, alloc: Global, trs: &Trs, calls: &[Call]) -> Result<bool, Fail> {
+        for call in calls {
+            if !self.call(alloc, trs, *call)? {
+                return Ok(false);
+            }
+        }
+        Ok(true)
+    }
+
+    /// Whether the terms are kept, and the calls gave those of these texts.
+    fn came_to(&self, alloc: Global, given: &[(usize, &[u8])]) -> Result<bool, Fail> {
+        for (call, text) in given {
+            if !self.gave(alloc, *call, text)? {
+                return Ok(false);
+            }
+        }
+        self.is_kept(alloc)
     }
 }
 
@@ -185,23 +211,23 @@ const CALLS: [Call; 19] = [
     Call::Step(3, &[2, 1], 0),
 ];
 
-/// By `f(x, y) -> f(y, x)`, `g(c) -> c` and `g(x) -> f(x, x)`.
+/// What some calls give.
+const GIVEN: [(usize, &[u8]); 3] = [
+    (3, b"cc00a"),
+    (6, b"cc10c2c3cc44b5"),
+    (10, b"bcbbbbbb0bbbbbb0"),
+];
+
+/// The rules `f(x, y) -> f(y, x)`, `g(c) -> c` and `g(x) -> f(x, x)`.
+const RULES: [(&[u8], &[u8]); 3] = [(b"c01", b"c10"), (b"ba", b"a"), (b"b0", b"c00")];
+
 #[test]
 fn a_refused_call_leaves_the_terms(rt: HostRuntime) -> Result<(), Fail> {
-    let alloc = rt.alloc();
-    let trs = system(
-        alloc,
-        &ARITIES,
-        &[(b"c01", b"c10"), (b"ba", b"a"), (b"b0", b"c00")],
-    )?;
-    let mut twins = Twins::new(alloc);
-    for call in CALLS {
-        assert!(rt; twins.call(alloc, &trs, call)?);
-    }
-    assert!(rt; twins.is_kept(alloc)? && twins.given.len() == 17);
-    assert!(rt; twins.gave(alloc, 3, b"cc00a")?);
-    assert!(rt; twins.gave(alloc, 6, b"cc10c2c3cc44b5")?);
-    assert!(rt; twins.gave(alloc, 10, b"bcbbbbbb0bbbbbb0")?);
+    let trs = system(rt.alloc(), &ARITIES, &RULES)?;
+    let mut twins = Twins::new(rt.alloc());
+    assert!(rt; twins.agree_on(rt.alloc(), &trs, &CALLS)?);
+    assert!(rt; twins.given.len() == 17);
+    assert!(rt; twins.came_to(rt.alloc(), &GIVEN)?);
     println!(rt;
         "refused: terms {}, steps {}",
         twins.refused_terms, twins.refused_steps

@@ -1,4 +1,7 @@
 //! Steps, paths and loops, at the limits of terms too.
+ghost use Rattle.term_pool.specs.Redexes.{IsNarrow};
+ghost use Rattle.trs_core.specs.View.{tree};
+
 use crate::made::{ones, repeat, term, tower};
 use crate::texts::{ARITIES, system};
 use rewrite_core::{
@@ -14,39 +17,58 @@ fn growing(alloc: Global) -> Result<Trs, Fail> {
     system(alloc, &[1], &[(b"a0", b"aa0")])
 }
 
-/// What a loop is refused for, of so many steps from `f(y)`, with its instance under so many
+/// What a loop is refused for, of so many steps from a term, with its instance under so many
 /// symbols.
-fn refusal_of(alloc: Global, steps: u32, place: u32) -> Result<Option<CheckFault>, Fail> {
-    let trs = growing(alloc)?;
-    let start = tower(alloc, 0, 1, Term::Var(7))?;
+fn refusal_of(
+    alloc: Global,
+    trs: &Trs,
+    start: &Term,
+    steps: u32,
+    place: u32,
+) -> Result<Option<CheckFault>, OutOfMemory> {
     let path = repeat(alloc, steps, 0)?;
-    Ok(loop_check(alloc, &trs, &start, &path, &ones(alloc, place)?).err())
+    Ok(loop_check(alloc, trs, start, &path, &ones(alloc, place)?).err())
 }
+
+const REFUSED: [(u32, u32, Option<CheckFault>); 5] = [
+    (1, 0, None),
+    (1, 1, None),
+    (1, 2, Some(CheckFault::Refused(StepRefused::NotInstance))),
+    (1, 3, Some(CheckFault::Refused(StepRefused::NoPlace))),
+    (0, 0, Some(CheckFault::Refused(StepRefused::NoSteps))),
+];
 
 #[test]
 fn a_growing_term_loops(rt: HostRuntime) -> Result<(), Fail> {
-    let alloc = rt.alloc();
-    for (steps, place, want) in [
-        (1, 0, None),
-        (1, 1, None),
-        (1, 2, Some(CheckFault::Refused(StepRefused::NotInstance))),
-        (1, 3, Some(CheckFault::Refused(StepRefused::NoPlace))),
-        (0, 0, Some(CheckFault::Refused(StepRefused::NoSteps))),
-    ] {
-        let found = refusal_of(alloc, steps, place)?;
-        assert!(rt; found == want, "at {place}");
+    let trs = growing(rt.alloc())?;
+    let start = tower(rt.alloc(), 0, 1, Term::Var(7))?;
+    for (steps, place, want) in &REFUSED {
+        let found = refusal_of(rt.alloc(), &trs, &start, *steps, *place)?;
+        assert!(rt; found == *want, "at {place}");
     }
     Ok(())
 }
 
+/// Whether a term is in normal form by that rule.
+fn has_no_redex(alloc: Global, t: &Term) -> Result<bool, Fail> {
+    let trs = growing(alloc)?;
+    Ok(is_normal(alloc, &trs, t)?)
+}
+
+/// How many redexes a term has by that rule.
+fn count_redexes(alloc: Global, t: &Term) -> Result<usize, Fail>
+    requires { IsNarrow (tree t.now) }
+{
+    let trs = growing(alloc)?;
+    Ok(redexes(alloc, &trs, t)?.len())
+}
+
 #[test]
 fn a_growing_term_has_a_redex(rt: HostRuntime) -> Result<(), Fail> {
-    let alloc = rt.alloc();
-    let trs = growing(alloc)?;
-    let start = term(alloc, 0, [Term::Var(7)])?;
-    assert!(rt; !is_normal(alloc, &trs, &start)?);
-    assert!(rt; is_normal(alloc, &trs, &Term::Var(7))?);
-    assert!(rt; redexes(alloc, &trs, &start)?.len() == 1);
+    let start = term(rt.alloc(), 0, [Term::Var(7)])?;
+    assert!(rt; !has_no_redex(rt.alloc(), &start)?);
+    assert!(rt; has_no_redex(rt.alloc(), &Term::Var(7))?);
+    assert!(rt; count_redexes(rt.alloc(), &start)? == 1);
     Ok(())
 }
 
@@ -74,21 +96,23 @@ fn step_fault(
     Ok(step_at(alloc, trs, t, &ones(alloc, place)?, rule).err())
 }
 
+const OF_THE_DEEPEST: [(u32, u32, StepFault); 5] = [
+    (0, 0, StepFault::TooLarge),
+    (1_022, 0, StepFault::TooLarge),
+    (1_023, 0, StepFault::NoMatch),
+    (1_024, 0, StepFault::NoPosition),
+    (1_024, 1, StepFault::NoRule),
+];
+
 #[test]
 fn a_term_is_no_deeper_than_the_limit(rt: HostRuntime) -> Result<(), Fail> {
     let alloc = rt.alloc();
     let trs = growing(alloc)?;
     let deepest = deepest(alloc, &trs)?;
     assert!(rt; deepest.depth() == 1_024);
-    for (place, rule, want) in [
-        (0, 0, StepFault::TooLarge),
-        (1_022, 0, StepFault::TooLarge),
-        (1_023, 0, StepFault::NoMatch),
-        (1_024, 0, StepFault::NoPosition),
-        (1_024, 1, StepFault::NoRule),
-    ] {
-        let found = step_fault(alloc, &trs, &deepest, place, rule)?;
-        assert!(rt; found == Some(want), "at {place}");
+    for (place, rule, want) in &OF_THE_DEEPEST {
+        let found = step_fault(alloc, &trs, &deepest, *place, *rule)?;
+        assert!(rt; found == Some(*want), "at {place}");
     }
     Ok(())
 }
@@ -108,11 +132,16 @@ fn upward(alloc: Global, steps: u32) -> Result<Vec<PathStep>, OutOfMemory> {
     Ok(path)
 }
 
+/// 16 times `d` over a constant.
+fn sixteen(alloc: Global) -> Result<Term, OutOfMemory> {
+    tower(alloc, 0, 16, term(alloc, 2, [])?)
+}
+
 /// So many steps from 16 times `d` over a constant. Step `k` makes a term of 2 ^ (k + 2) - 1 nodes
 /// under the 15 - k symbols `d` that are left.
 fn double(alloc: Global, steps: u32) -> Result<Result<Term, PathFault>, Fail> {
     let trs = doubling(alloc)?;
-    let start = tower(alloc, 0, 16, term(alloc, 2, [])?)?;
+    let start = sixteen(alloc)?;
     Ok(run_path(alloc, &trs, &start, &upward(alloc, steps)?))
 }
 
@@ -125,12 +154,16 @@ fn a_term_is_no_larger_than_the_limit(rt: HostRuntime) -> Result<(), Fail> {
     Ok(())
 }
 
+/// A branch of 499 nodes.
+fn branch(alloc: Global) -> Result<Term, OutOfMemory> {
+    tower(alloc, 1, 498, term(alloc, 0, [])?)
+}
+
 /// A branch of the binary symbol 2, with a branch of 499 nodes at each of its nodes.
 fn large(alloc: Global, branches: u32) -> Result<Term, OutOfMemory> {
     let mut made = term(alloc, 0, [])?;
     for _ in 0..branches {
-        let branch = tower(alloc, 1, 498, term(alloc, 0, [])?)?;
-        made = term(alloc, 2, [made, branch])?;
+        made = term(alloc, 2, [made, branch(alloc)?])?;
     }
     Ok(made)
 }
@@ -143,10 +176,15 @@ fn nodes(alloc: Global, start: &Term, steps: u32, place: u32) -> Result<u64, Fai
 
 #[test]
 fn long_paths_are_followed(rt: HostRuntime) -> Result<(), Fail> {
-    let alloc = rt.alloc();
-    let start = term(alloc, 0, [])?;
-    assert!(rt; nodes(alloc, &start, 100_000, 0)? == 1);
-    assert!(rt; nodes(alloc, &large(alloc, 60)?, 20_000, 60)? == 30_001);
+    let start = term(rt.alloc(), 0, [])?;
+    assert!(rt; nodes(rt.alloc(), &start, 100_000, 0)? == 1);
+    Ok(())
+}
+
+#[test]
+fn long_paths_in_a_large_term_are_followed(rt: HostRuntime) -> Result<(), Fail> {
+    let start = large(rt.alloc(), 60)?;
+    assert!(rt; nodes(rt.alloc(), &start, 20_000, 60)? == 30_001);
     Ok(())
 }
 
@@ -161,18 +199,20 @@ fn cut(alloc: Global, branches: u32, steps: u32) -> Result<Result<u64, PathFault
     })
 }
 
+/// How many branches, how many steps, and what is found.
+const CUT: [(u32, u32, Result<u64, PathFault>); 5] = [
+    (132, 0, Ok(66_001)),
+    (132, 1, Ok(65_501)),
+    (132, 131, Ok(501)),
+    (132, 132, Err(PathFault::At(131, StepFault::NoMatch))),
+    (133, 1, Err(PathFault::At(0, StepFault::TooLarge))),
+];
+
 #[test]
 fn the_start_of_a_path_may_pass_the_limits(rt: HostRuntime) -> Result<(), Fail> {
-    let alloc = rt.alloc();
-    for (branches, steps, want) in [
-        (132, 0, Ok(66_001)),
-        (132, 1, Ok(65_501)),
-        (132, 131, Ok(501)),
-        (132, 132, Err(PathFault::At(131, StepFault::NoMatch))),
-        (133, 1, Err(PathFault::At(0, StepFault::TooLarge))),
-    ] {
-        let found = cut(alloc, branches, steps)?;
-        assert!(rt; found == want, "after {steps} steps");
+    for (branches, steps, want) in &CUT {
+        let found = cut(rt.alloc(), *branches, *steps)?;
+        assert!(rt; found == *want, "after {steps} steps");
     }
     Ok(())
 }

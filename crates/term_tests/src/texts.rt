@@ -12,6 +12,20 @@ fn is_variable(letter: u8) -> bool {
     letter.is_ascii_digit()
 }
 
+/// A symbol over so many terms of the stack.
+pub fn over_top(
+    alloc: Global,
+    symbol: u32,
+    arity: u8,
+    stack: &mut Vec<Term>,
+) -> Result<Term, OutOfMemory> {
+    let mut items = Vec::new(alloc);
+    for _ in 0..arity {
+        items.push(stack.pop().unwrap_or(Term::Var(9)))?;
+    }
+    Ok(Term::App(symbol, Args { items }))
+}
+
 /// The node of a letter, over what has been read.
 fn node(
     alloc: Global,
@@ -23,11 +37,8 @@ fn node(
         return Ok(Term::Var(u32::from(letter.saturating_sub(b'0'))));
     }
     let symbol = letter.saturating_sub(b'a');
-    let mut items = Vec::new(alloc);
-    for _ in 0..arities.get(usize::from(symbol)).copied().unwrap_or(0) {
-        items.push(stack.pop().unwrap_or(Term::Var(9)))?;
-    }
-    Ok(Term::App(u32::from(symbol), Args { items }))
+    let arity = arities.get(usize::from(symbol)).copied().unwrap_or(0);
+    over_top(alloc, u32::from(symbol), arity, stack)
 }
 
 /// The term of a text.
@@ -40,13 +51,17 @@ pub fn read(alloc: Global, arities: &[u8], text: &[u8]) -> Result<Term, OutOfMem
     Ok(stack.pop().unwrap_or(Term::Var(9)))
 }
 
+fn rule(alloc: Global, arities: &[u8], left: &[u8], right: &[u8]) -> Result<Rule, OutOfMemory> {
+    let left = read(alloc, arities, left)?;
+    let right = read(alloc, arities, right)?;
+    Ok(Rule { left, right })
+}
+
 /// The system of the rules with these sides.
 pub fn system(alloc: Global, arities: &[u8], sides: &[(&[u8], &[u8])]) -> Result<Trs, Fail> {
     let mut rules = Vec::new(alloc);
     for (left, right) in sides {
-        let left = read(alloc, arities, left)?;
-        let right = read(alloc, arities, right)?;
-        rules.push(Rule { left, right })?;
+        rules.push(rule(alloc, arities, left, right)?)?;
     }
     Ok(Trs::new(Vec::from_slice(alloc, arities)?, rules)?)
 }

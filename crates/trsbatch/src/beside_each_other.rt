@@ -51,15 +51,22 @@ impl Gate for SecondBeforeFirst {
     }
 }
 
+/// A text under its name.
+fn named(alloc: Global, name: &str, text: &[u8]) -> Result<(String, Vec<u8>), AllocError> {
+    let name = String::from_str(alloc, name)?;
+    Ok((name, Vec::from_slice(alloc, text)?))
+}
+
+const TEXTS: [(&str, &[u8]); 3] = [
+    ("list", b"a.ari\nb.ari\n"),
+    ("a.ari", LOOP),
+    ("b.ari", LOOP),
+];
+
 fn shelf_of_two(alloc: Global) -> Result<MemoryShelf, AllocError> {
     let mut texts = Vec::new(alloc);
-    for (name, text) in [
-        ("list", b"a.ari\nb.ari\n".as_slice()),
-        ("a.ari", LOOP),
-        ("b.ari", LOOP),
-    ] {
-        let name = String::from_str(alloc, name)?;
-        texts.push((name, Vec::from_slice(alloc, text)?))?;
+    for (name, text) in &TEXTS {
+        texts.push(named(alloc, name, text)?)?;
     }
     Ok(MemoryShelf::new(alloc, texts, Vec::new(alloc)))
 }
@@ -75,8 +82,8 @@ fn the_second_ends_first(rt: HostRuntime) -> Result<(), Fail> {
     let mut shelf = shelf_of_two(alloc)?;
     let mut out = MemorySink::new(alloc, 1024, Vec::new(alloc))?;
     let status = run_batch(&rt, alloc, &words, &mut shelf, &mut out, &gate);
-    assert_eq!(rt; status, Status::Answered);
-    assert_eq!(rt; out.taken(), TWO);
+    assert!(rt; status == Status::Answered);
+    assert!(rt; out.taken() == TWO);
     assert!(rt; !gate.ran_out.load(Ordering::SeqCst));
     Ok(())
 }
