@@ -12,8 +12,8 @@ fn certifies_a_loop(rt: HostRuntime) {
     match certify(rt.alloc(), PROBLEM, certificate) {
         Err(_) => assert!(rt; false),
         Ok(answer) => {
-            assert_eq!(rt; answer.claim, Claim::Nonterminating);
-            assert_eq!(rt; answer.system.find(b"f"), Some(0));
+            assert!(rt; answer.claim == Claim::Nonterminating);
+            assert!(rt; answer.system.find(b"f") == Some(0));
         }
     }
 }

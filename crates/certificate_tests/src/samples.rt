@@ -5,17 +5,26 @@ use std::alloc::{AllocError, Global};
 use std::test::*;
 use trs_core::Term;
 
-// The symbols with their arities, and then the rules, with v0 and v1 for the variables.
-const SAMPLES: [&[u8]; 3] = [
-    b"0 0, s 1, f0 2, \
+// Sizes, and the symbols with their arities and then the rules, with v0 and v1 for the variables.
+const SAMPLES: [(u32, &[u8]); 3] = [
+    (
+        1,
+        b"0 0, s 1, f0 2, \
       (f0 0 v0) -> v0, (f0 (s v0) v1) -> (s (f0 v0 v1)), ",
-    b"0 0, s 1, f0 2, f1 2, \
+    ),
+    (
+        2,
+        b"0 0, s 1, f0 2, f1 2, \
       (f0 0 v0) -> v0, (f0 (s v0) v1) -> (s (f0 v0 v1)), \
       (f1 0 v0) -> v0, (f1 (s v0) v1) -> (f1 v0 (f0 v1 v1)), ",
-    b"0 0, s 1, f0 2, f1 2, f2 2, \
+    ),
+    (
+        3,
+        b"0 0, s 1, f0 2, f1 2, f2 2, \
       (f0 0 v0) -> v0, (f0 (s v0) v1) -> (s (f0 v0 v1)), \
       (f1 0 v0) -> v0, (f1 (s v0) v1) -> (f1 v0 (f0 v1 v1)), \
       (f2 0 v0) -> v0, (f2 (s v0) v1) -> (f2 v0 (f1 v1 v1)), ",
+    ),
 ];
 
 fn put_number(out: &mut Vec<u8>, number: u32) -> Result<(), AllocError> {
@@ -68,22 +77,33 @@ fn put_system(out: &mut Vec<u8>, system: &NamedTrs) -> Result<(), AllocError> {
     Ok(())
 }
 
+/// Whether the sample of this size has this text.
+fn is_sample(alloc: Global, size: u32, expected: &[u8]) -> Result<bool, Fail> {
+    if size == 0 || size > 512 {
+        return Ok(false);
+    }
+    let system = sample_system(alloc, size)?;
+    let mut text = Vec::new(alloc);
+    put_system(&mut text, &system)?;
+    Ok(text.as_slice() == expected)
+}
+
 #[test]
 fn first_samples(rt: HostRuntime) -> Result<(), Fail> {
-    for (i, expected) in SAMPLES.iter().enumerate() {
-        let system = sample_system(rt.alloc(), i as u32 + 1)?;
-        let mut text = Vec::new(rt.alloc());
-        put_system(&mut text, &system)?;
-        assert_eq!(rt; text.as_slice(), *expected);
+    for (size, expected) in &SAMPLES {
+        assert!(rt; is_sample(rt.alloc(), *size, expected)?, "of size {size}");
     }
     Ok(())
 }
 
+fn is_greatest(system: &NamedTrs) -> bool {
+    system.symbols() == 514
+        && system.trs().rules().len() == 1_024
+        && system.find(b"f511") == Some(513)
+}
+
 #[test]
 fn greatest_sample(rt: HostRuntime) -> Result<(), Fail> {
-    let system = sample_system(rt.alloc(), 512)?;
-    assert_eq!(rt; system.symbols(), 514);
-    assert_eq!(rt; system.trs().rules().len(), 1_024);
-    assert_eq!(rt; system.find(b"f511"), Some(513));
+    assert!(rt; is_greatest(&sample_system(rt.alloc(), 512)?));
     Ok(())
 }

@@ -1,5 +1,6 @@
 //! The words of the command line.
 use command_line::{Refused, parse};
+use std::alloc::Global;
 use std::test::*;
 
 const LINES: [(&str, bool); 34] = [
@@ -39,14 +40,19 @@ const LINES: [(&str, bool); 34] = [
     ("certify p c --help", false),
 ];
 
-// Words are split at each blank, so that two blanks stand round an empty word.
+// Why the words of a line are refused, if they are. They are split at each blank, so that two blanks
+// stand round an empty word.
+fn refusal(alloc: Global, line: &str) -> Result<Option<Refused>, Fail> {
+    let words: Vec<&str> = line.split(' ').collect(alloc)?;
+    Ok(parse(alloc, &words).err())
+}
+
 #[test]
 fn words_are_taken_or_refused(rt: HostRuntime) -> Result<(), Fail> {
     for (line, taken) in &LINES {
-        let words: Vec<&str> = line.split(' ').collect(rt.alloc())?;
-        let answer = parse(rt.alloc(), &words);
-        assert_eq!(rt; answer.is_ok(), *taken, "{line}");
-        assert_ne!(rt; answer.err(), Some(Refused::OutOfMemory), "{line}");
+        let refusal = refusal(rt.alloc(), line)?;
+        assert!(rt; refusal.is_none() == *taken, "{line}");
+        assert!(rt; refusal != Some(Refused::OutOfMemory), "{line}");
     }
     Ok(())
 }
