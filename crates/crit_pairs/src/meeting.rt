@@ -1,4 +1,4 @@
-ghost use Rattle.std.specs.Prelude.{◌≡◌, ◌↔◌, IfOk, IfNone, IsTrue, All};
+ghost use Rattle.std.specs.Prelude.{◌≡◌, ◌↔◌, ◌++◌, ◌∷◌, [], IfOk, IfNone, IsTrue, All, OnOk};
 ghost use Rattle.std.specs.Option.{option_map};
 ghost use Rattle.trs_defs.specs.Tree.{Tree, var};
 ghost use Rattle.trs_core.specs.View.{tree};
@@ -56,7 +56,7 @@ pub(crate) fn solve<'a>(
 ) -> Result<Solution<'a>, OutOfMemory>
     ensures { IfOk result (IsSolution (tree a.now) (tree b.now)) }
 {
-    let mut bindings = Vec::with_capacity(alloc, MOST_BINDINGS)?;
+    let mut bindings = Vec::new(alloc);
     let mut returns = MOST_RETURNS;
     let meeting = meet(a, b, MOST_LEVELS, &mut bindings, &mut returns)?;
     match meeting {
@@ -240,8 +240,20 @@ fn bind<'a>(v: u32, term: &'a Term, bindings: &mut Vec<Binding<'a>>) -> Result<M
     if let Some(_earlier) = find(bindings, v) {
         return Ok(Meeting::Unclear);
     }
-    bindings.push(Binding { variable: v, term })?;
+    add_binding(bindings, Binding { variable: v, term })?;
     Ok(Meeting::Met)
+}
+
+/// One more binding. Room for all is made with the first one: most overlaps bind nothing.
+#[inline(always)]
+fn add_binding<'a>(bindings: &mut Vec<Binding<'a>>, binding: Binding<'a>) -> Result<(), OutOfMemory>
+    ensures { OnOk result (bindings.new.items ≡ bindings.old.items ++ binding.entry ∷ []) }
+{
+    if bindings.len() == bindings.capacity() {
+        bindings.reserve(MOST_BINDINGS)?;
+    }
+    bindings.push_reserved(binding);
+    Ok(())
 }
 
 /// Binds the variable on the right to the term on the left, unless it is bound.

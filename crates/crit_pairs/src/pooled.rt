@@ -5,13 +5,12 @@ ghost use Rattle.rewrite_core.specs.PlacedPeak.{PlacedPeak};
 ghost use Rattle.crit_pairs.specs.PooledPeaks.{HasId, tree_of, KeepsIds, count_of};
 ghost use Rattle.crit_pairs.specs.PooledPeaks.{HoldsPeaks, ArePooled, AreSides};
 
-use crate::ground_sides::is_large_result;
 use crate::room::Room;
 use crate::table::{PeakPair, PeakTable};
 use rewrite_core::{CheckFault, PathStep, end_in_pool};
 use std::alloc::Global;
 use term_pool::{Pool, ids_are_distinct};
-use trs_core::{OutOfMemory, Rule, Trs, systems_are_valid};
+use trs_core::{OutOfMemory, Rule, Term, Trs, least_variable, systems_are_valid};
 
 /// To look for an overlap at a position as often as this for each peak takes little time.
 const TRIES_FOR_A_PEAK: u64 = 256;
@@ -117,15 +116,20 @@ impl PooledPeaks {
     }
 }
 
-/// Whether a pool may gain time: some right side is a large result, and there are few rules and few
-/// positions beside the peaks, since each rule is tried at each position.
+/// Whether a pool may gain time: some right side has no variable, so that it gets its id but once, and
+/// there are few rules and few positions beside the peaks, since each rule is tried at each position.
 fn may_gain_time(rules: &[Rule], most: usize) -> bool {
     let mut nodes: u64 = 0;
-    let mut is_large = false;
+    let mut has_ground = false;
     for rule in rules {
         nodes = nodes.saturating_add(rule.left.size());
-        is_large = is_large || is_large_result(&rule.right);
+        has_ground = has_ground || is_ground(&rule.right);
     }
     let tries = nodes.saturating_mul(rules.len() as u64);
-    is_large && tries <= TRIES_FOR_A_PEAK.saturating_mul(most as u64)
+    has_ground && tries <= TRIES_FOR_A_PEAK.saturating_mul(most as u64)
+}
+
+fn is_ground(t: &Term) -> bool {
+    let least = least_variable(t, 0, None);
+    least.is_none()
 }
