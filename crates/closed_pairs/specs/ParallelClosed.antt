@@ -51,9 +51,14 @@ parallel_conditions_on rules peaks items = do
   are_left_linear rules
   are_parallel_closed rules peaks items
 
+-- each critical peak is closed by a parallel step
+abbrev pub critical_peaks_are_closed : List RewriteRule → List (List PlacedRule) → Check (Unit {0})
+critical_peaks_are_closed rules items = do
+  peaks ← ListsCriticalPeaks rules
+  are_parallel_closed rules peaks items
+
 -- the rules are left-linear, and each critical peak is closed by a parallel step
 abbrev pub parallel_conditions : System → List (List PlacedRule) → Check (Unit {0})
 parallel_conditions system items = do
   are_left_linear system.rules
-  peaks ← ListsCriticalPeaks system.rules
-  are_parallel_closed system.rules peaks items
+  critical_peaks_are_closed system.rules items

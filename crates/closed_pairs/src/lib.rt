@@ -11,6 +11,7 @@ mod laws;
 mod linear;
 mod parallel;
 mod pooled;
+mod pooled_closings;
 mod strong;
 
 pub use crit_pairs::{first_peaks, listed_peaks_cover, peaks_are_listed_once};

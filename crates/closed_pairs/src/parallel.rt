@@ -5,6 +5,7 @@ ghost use Rattle.rewrite_core.specs.Check.{Answers};
 ghost use Rattle.crit_pairs.specs.PlainPeak.{plain};
 ghost use Rattle.closed_pairs.specs.ParallelClosed.{paths_of, IsParallel};
 ghost use Rattle.closed_pairs.specs.ParallelClosed.{closes_in_parallel, are_parallel_closed};
+ghost use Rattle.closed_pairs.specs.ParallelClosed.{critical_peaks_are_closed};
 ghost use Rattle.closed_pairs.specs.ParallelClosed.{parallel_conditions_on, parallel_conditions};
 ghost use Rattle.closed_pairs.specs.LeftOf.{IsLeftOf};
 
@@ -12,6 +13,8 @@ use crate::counting::peaks_for;
 use crate::covering::parallel_list_concludes;
 use crate::ends::{ItemPath, end_of, run, same_ends};
 use crate::linear::left_linear_check;
+use crate::pooled_closings::pooled_peaks_are_closed;
+use crit_pairs::PooledPeaks;
 use rewrite_core::{CheckFault, PathStep, Peak, StepRefused, Top};
 use std::alloc::Global;
 use trs_core::Trs;
@@ -26,6 +29,23 @@ pub fn parallel_closed_check(
     ensures answers { Answers (parallel_conditions trs.now (paths_of steps.now)) result }
 {
     left_linear_check(trs)?;
+    let found = PooledPeaks::of(alloc, trs, steps.len())?;
+    match found {
+        Some(pooled) => pooled_peaks_are_closed(alloc, trs, pooled, steps),
+        None => listed_peaks_are_closed(alloc, trs, steps),
+    }
+}
+
+/// Sees that one parallel step leads from the left side of each critical peak to its right one. The
+/// peaks are listed.
+fn listed_peaks_are_closed(
+    alloc: Global,
+    trs: &Trs,
+    steps: &[Vec<PathStep>],
+) -> Result<(), CheckFault>
+    ensures { Answers
+        (critical_peaks_are_closed trs.now.rules (paths_of steps.now)) result }
+{
     let peaks = peaks_for(alloc, trs, steps.len())?;
     peaks_are_closed(alloc, trs, &peaks, steps)
 }
@@ -92,7 +112,7 @@ fn peak_is_closed<T: Top>(
 
 /// Whether the path is one parallel step, written from the left: each position stands before the
 /// next one, and is parallel to it. It costs as much as the positions have places.
-fn is_parallel(path: &[PathStep]) -> bool
+pub(crate) fn is_parallel(path: &[PathStep]) -> bool
     ensures { IsTrue result ↔ IsParallel path.now }
 {
     let [first, rest @ ..] = path else {

@@ -56,7 +56,12 @@ fn pooled_peak_is_joined(
 }
 
 /// Sees that the ids of two ends of an item stand for one term.
-fn same_ids(peaks: &PooledPeaks, first: u32, second: u32, item: u64) -> Result<(), CheckFault>
+pub(crate) fn same_ids(
+    peaks: &PooledPeaks,
+    first: u32,
+    second: u32,
+    item: u64,
+) -> Result<(), CheckFault>
     requires first { HasId peaks.now first }
     requires second { HasId peaks.now second }
     ensures { Answers (Needs (tree_of peaks.now first ≡ tree_of peaks.now second)
