@@ -7,3 +7,4 @@ pub mod Profiling
 pub mod BigVariables
 pub mod BehindZero
 pub mod EachCounts
+pub mod Numbering

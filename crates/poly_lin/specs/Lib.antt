@@ -6,6 +6,7 @@ pub mod Rows
 pub mod Faults
 pub mod Covering
 pub mod TooBig
+pub mod Subterms
 pub mod Profiles
 pub mod Laws
 pub mod WellMade

@@ -2,7 +2,8 @@
 ghost use Rattle.std.specs.Prelude.{◌≡◌, ◌↔◌, ◌≤◌, ◌^◌, ℕ, false, IsTrue};
 ghost use Rattle.trs_core.specs.View.{tree};
 ghost use Rattle.order_theory.specs.LinearInterpretation.{coefficient};
-ghost use Rattle.poly_lin.specs.TooBig.{IsBig, HasBigCoefficient};
+ghost use Rattle.poly_lin.specs.Subterms.{value_at_one};
+ghost use Rattle.poly_lin.specs.TooBig.{IsBig, HasBigCoefficient, counting};
 
 use crate::Coefficients;
 use crate::counting::Counting;
@@ -16,7 +17,16 @@ use trs_core::{GREATEST_NUMBER, Term};
 pub(crate) fn has_big_coefficient<T: Coefficients>(table: &T, t: &Term) -> bool
     ensures { IsTrue result ↔ HasBigCoefficient (T.coefficient table.now) (tree t.now) }
 {
-    if saturated_value(&Counting { table }, 1, t) <= GREATEST_NUMBER {
+    has_big_if(table, saturated_value(&Counting { table }, 1, t), t)
+}
+
+/// The same, where the value is known by the table by which each argument counts.
+pub(crate) fn has_big_if<T: Coefficients>(table: &T, counted: u64, t: &Term) -> bool
+    requires { counted ≡ value_at_one
+        (λ f. counting (T.coefficient table.now f)) (tree t.now) }
+    ensures { IsTrue result ↔ HasBigCoefficient (T.coefficient table.now) (tree t.now) }
+{
+    if counted <= GREATEST_NUMBER {
         return false;
     }
     if is_big(table, t) {

@@ -28,7 +28,7 @@ pub(crate) fn saturated_value<T: Coefficients>(table: &T, each: u64, t: &Term) -
     }
 }
 
-fn plus_saturated(sum: u64, factor: u64, value: u64) -> u64
+pub(crate) fn plus_saturated(sum: u64, factor: u64, value: u64) -> u64
     ensures { result ≡ min (sum + min (factor * value) (2 ^ 64 - 1)) (2 ^ 64 - 1) }
 {
     sum.saturating_add(factor.saturating_mul(value))
