@@ -12,3 +12,4 @@ pub mod PolySteps
 pub mod PolyLaw
 pub mod OfUsable
 pub mod UsableLaw
+pub mod RuleListing

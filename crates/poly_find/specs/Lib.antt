@@ -4,6 +4,7 @@ pub mod PolyRow
 pub mod PolyPlaces
 pub mod Spans
 pub mod SmallTerms
+pub mod RuleSubterms
 pub mod PolyDepends
 pub mod PolyLawful
 pub mod Laws

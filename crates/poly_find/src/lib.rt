@@ -13,6 +13,7 @@ mod searching;
 mod sizes;
 mod space;
 mod spans;
+mod subterms;
 mod table;
 mod usable_finding;
 mod usable_laws;

@@ -11,6 +11,7 @@ use crate::owners::owners;
 use crate::sizes::small_ones;
 use crate::space::PolySpace;
 use crate::spans::spans;
+use crate::subterms::subterms_of_rules;
 use assign_search::{Search, Stop};
 use order_search::placing::SymbolPlaces;
 use order_search::{LentRule, find_first};
@@ -21,13 +22,13 @@ use trs_core::OutOfMemory;
 /// The interpretation of these symbols by which the rules and the marked pairs fall weakly, and
 /// some pair strictly: the first with values 0 to 2, a slot for the constant and one for the
 /// coefficient of each argument of a symbol. The budget is that of `first_solution`; a test of
-/// values takes no memory.
-pub(crate) fn search_linear<P: Stop>(
+/// values takes memory only for a rule whose subterms are listed.
+pub(crate) fn search_linear<'a, P: Stop>(
     alloc: Global,
-    arities: &[u8],
-    symbols: &[u32],
-    rules: &[LentRule],
-    pairs: &[LentRule],
+    arities: &'a [u8],
+    symbols: &'a [u32],
+    rules: &'a [LentRule<'a>],
+    pairs: &'a [LentRule<'a>],
     budget: u64,
     stop: &mut P,
 ) -> Result<Search<LinTable>, OutOfMemory>
@@ -47,6 +48,7 @@ pub(crate) fn search_linear<P: Stop>(
     let owners = owners(alloc, arities, symbols)?;
     let spans = spans(alloc, arities, symbols)?;
     let small = small_ones(alloc, rules, pairs)?;
+    let subterms = subterms_of_rules(alloc, &small, rules)?;
     let places = SymbolPlaces::of(alloc, symbols)?;
     let space = PolySpace {
         arities,
@@ -57,6 +59,7 @@ pub(crate) fn search_linear<P: Stop>(
         rules,
         pairs,
         small: &small,
+        subterms: &subterms,
     };
     find_first(alloc, &space, budget, stop)
 }

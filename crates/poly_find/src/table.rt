@@ -12,7 +12,7 @@ use poly_lin::LinTable;
 use std::alloc::Global;
 use trs_core::OutOfMemory;
 
-impl<'a> Readable for PolySpace<'a> {
+impl<'a, 'b> Readable for PolySpace<'a, 'b> {
     ghost use Rattle.order_search.specs.OrderOver.{IsOrderOver};
     ghost use Rattle.poly_find.specs.PolyRow.{poly_entry, poly_search};
 
