@@ -1,6 +1,5 @@
 -- A constraint that is made of paths by the ids of their ends says the same of the paths with their ends.
 use Rattle.std.specs.Prelude.{◌≡◌, ◌<◌, ◌≤◌, ℕ, Bool, ◌||◌, ◌==◌, List, [], ◌∷◌, ◌++◌, All, Option, Some, Ok, Err, Result, IsTrue, IfOk, length, map, slice_get, refl}
-use Rattle.std.specs.Global.{Vec}
 use Rattle.std.proofs.Common.{arith, ap, ap₂, sym, ◌∙◌, subst, length-append}
 use Rattle.std.proofs.lemmas.List.Elements.{All-head, All-tail}
 use Rattle.std.proofs.lemmas.Bool.{or_right, or_left}
@@ -29,6 +28,8 @@ use Rattle.join_find.specs.First.{Along, along_end, along_item}
 use Rattle.label_find.specs.declared.grouping.Groups.{Groups}
 use Rattle.label_find.specs.declared.side_rules.SideRules.{SideRules}
 use Rattle.label_find.specs.declared.constraint.PeakConstraint.{PeakConstraint}
+use Rattle.label_find.specs.declared.rule_list.RuleList.{RuleList}
+use Rattle.label_find.specs.RuleList.{rules_listed}
 use Rattle.label_find.specs.LabelRow.{PeakPaths, ArePathsOf, rules_along, rules_of, rules_used, CanClose}
 use Rattle.label_find.specs.Lists.{rules_in, IsAlong, AreListsTo}
 use Rattle.label_find.specs.Grouping.{lists_or_none, AreGroups, count_of, lists_at, IsGroupOf}
@@ -55,12 +56,12 @@ listed_in_rules (x ∷ es) e k (in_rest i) h =
     listed_append k (rules_along x.1.items) (rules_in es) ∙ or_right (is_listed k (rules_along x.1.items)) (is_listed k (rules_in es)) (listed_in_rules es e k i h)
 
 -- the rules of a list to an end are among those of its path
-along : (es : List Entry) (end : ℕ) (l : Vec ℕ) (k : ℕ) → IsAlong es end l.items → IsTrue (is_listed k l.items) → IsTrue (is_listed k (rules_in es))
+along : (es : List Entry) (end : ℕ) (l : RuleList) (k : ℕ) → IsAlong es end (rules_listed l) → IsTrue (is_listed k (rules_listed l)) → IsTrue (is_listed k (rules_in es))
 along es end l k (e, there, facts) listed_k = listed_in_rules es e k there (subst (λ (xs : List ℕ). IsTrue (is_listed k xs)) facts.1 listed_k)
 
 -- the lists of the group that an end has
 group_lists : (es : List Entry) (groups : Groups) (end number : ℕ) → AreGroups es groups → IsGroupOf groups end number → AreListsTo es end (lists_at groups number)
-group_lists es groups end number each is = subst (λ (lists : List (Vec ℕ)). AreListsTo es end lists) (ap lists_or_none is) (each end)
+group_lists es groups end number each is = subst (λ (lists : List RuleList). AreListsTo es end lists) (ap lists_or_none is) (each end)
 
 -- a constraint of these two rules, over sides that have the rules along the paths from the left and from the right
 module _ (lefts rights : List Entry) (left right : SideRules) (d : PeakConstraint) (of_left : IsSideOf lefts left) (of_right : IsSideOf rights right)
@@ -112,10 +113,10 @@ module _ (lefts rights : List Entry) (left right : SideRules) (d : PeakConstrain
     abbrev Met : Type 0
     Met = IsTrue (some_meet ranks (rank_of ranks inner) (rank_of ranks outer) (lists_at left.groups) (lists_at right.groups) d.meetings.items)
 
-    fits_along : (a b : ℕ) (l : Vec ℕ) (path : List PlacedRule) → l.items ≡ rules_along path → RanksFit a b (map (rank_of ranks) l.items) → RanksFit a b (ranks_along ranks path)
+    fits_along : (a b : ℕ) (l : RuleList) (path : List PlacedRule) → (rules_listed l) ≡ rules_along path → RanksFit a b (map (rank_of ranks) (rules_listed l)) → RanksFit a b (ranks_along ranks path)
     fits_along a b l path is fits = subst (RanksFit a b) (ap (map (rank_of ranks)) is ∙ same_ranks_along ranks path) fits
 
-    fits_list : (a b : ℕ) (l : Vec ℕ) (path : List PlacedRule) → l.items ≡ rules_along path → RanksFit a b (ranks_along ranks path) → RanksFit a b (map (rank_of ranks) l.items)
+    fits_list : (a b : ℕ) (l : RuleList) (path : List PlacedRule) → (rules_listed l) ≡ rules_along path → RanksFit a b (ranks_along ranks path) → RanksFit a b (map (rank_of ranks) (rules_listed l))
     fits_list a b l path is fits = subst (RanksFit a b) (sym (ap (map (rank_of ranks)) is ∙ same_ranks_along ranks path)) fits
 
     meet_ids : Met → MeetIds

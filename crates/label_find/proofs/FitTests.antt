@@ -1,6 +1,5 @@
 -- Tests of ranks that fit decide whether they fit.
 use Rattle.std.specs.Prelude.{◌≡◌, ◌<◌, ◌≤◌, ◌↔◌, ℕ, Bool, true, false, cond, not, ◌&&◌, ◌||◌, ◌==◌, nat_lt, List, [], ◌∷◌, ◌+◌, map, length, IsTrue, refl}
-use Rattle.std.specs.Global.{Vec}
 use Rattle.std.proofs.Common.{ap, sym, ◌∙◌, drop, get_or, arith}
 use Rattle.std.proofs.lemmas.List.{drop_more}
 use Rattle.std.proofs.Math.Decide.{dec_lt, ℕ_discrete}
@@ -14,6 +13,8 @@ use Rattle.rule_label.specs.Labelled.{ranks_along}
 use Rattle.rule_label.specs.FittingRanks.{FitAfter}
 use Rattle.rule_label.proofs.RanksInTurn.{small_rank, low_rank, same_rank, no_rank, nothing_left}
 use Rattle.label_find.specs.LabelRow.{rules_along}
+use Rattle.label_find.specs.declared.rule_list.RuleList.{RuleList}
+use Rattle.label_find.specs.RuleList.{rules_listed}
 use Rattle.label_find.specs.Constraint.{fit_after, some_fit, some_meet}
 
 module _ (a b c : ℕ) (later : List ℕ) where
@@ -101,21 +102,21 @@ same_ranks_along ranks (s ∷ path) = ap (λ (xs : List ℕ). rank_of ranks s.ru
 -- ---- some of several lists
 
 module _ (ranks : List ℕ) where
-  pub some_fit_has : (a b : ℕ) (lists : List (Vec ℕ)) → IsTrue (some_fit ranks a b lists) → (l : Vec ℕ) × In l lists × RanksFit a b (map (rank_of ranks) l.items)
+  pub some_fit_has : (a b : ℕ) (lists : List RuleList) → IsTrue (some_fit ranks a b lists) → (l : RuleList) × In l lists × RanksFit a b (map (rank_of ranks) (rules_listed l))
   some_fit_has a b [] h = absurd cc
-  some_fit_has a b (l ∷ lists) h = go (fit_after false a b (map (rank_of ranks) l.items)) refl (λ k. some_fit_has a b lists k)
+  some_fit_has a b (l ∷ lists) h = go (fit_after false a b (map (rank_of ranks) (rules_listed l))) refl (λ k. some_fit_has a b lists k)
     where
-      go : (t : Bool) → fit_after false a b (map (rank_of ranks) l.items) ≡ t → (IsTrue (some_fit ranks a b lists) → (m : Vec ℕ) × In m lists × RanksFit a b (map (rank_of ranks) m.items))
-          → (m : Vec ℕ) × In m (l ∷ lists) × RanksFit a b (map (rank_of ranks) m.items)
-      go true e rest = (l, in_first, (fits false a b (map (rank_of ranks) l.items)).0 e)
+      go : (t : Bool) → fit_after false a b (map (rank_of ranks) (rules_listed l)) ≡ t → (IsTrue (some_fit ranks a b lists) → (m : RuleList) × In m lists × RanksFit a b (map (rank_of ranks) (rules_listed m)))
+          → (m : RuleList) × In m (l ∷ lists) × RanksFit a b (map (rank_of ranks) (rules_listed m))
+      go true e rest = (l, in_first, (fits false a b (map (rank_of ranks) (rules_listed l))).0 e)
       go false e rest = let later : IsTrue (some_fit ranks a b lists) = rw e at h in let (m, i, k) = rest later in (m, in_rest i, k)
 
-  pub some_fit_from : (a b : ℕ) (lists : List (Vec ℕ)) (l : Vec ℕ) → In l lists → RanksFit a b (map (rank_of ranks) l.items) → IsTrue (some_fit ranks a b lists)
+  pub some_fit_from : (a b : ℕ) (lists : List RuleList) (l : RuleList) → In l lists → RanksFit a b (map (rank_of ranks) (rules_listed l)) → IsTrue (some_fit ranks a b lists)
   some_fit_from a b [] l i h = elim i [ ]
-  some_fit_from a b (x ∷ lists) l in_first h = or_left (fit_after false a b (map (rank_of ranks) l.items)) (some_fit ranks a b lists) ((fits false a b (map (rank_of ranks) l.items)).1 h)
-  some_fit_from a b (x ∷ lists) l (in_rest i) h = or_right (fit_after false a b (map (rank_of ranks) x.items)) (some_fit ranks a b lists) (some_fit_from a b lists l i h)
+  some_fit_from a b (x ∷ lists) l in_first h = or_left (fit_after false a b (map (rank_of ranks) (rules_listed l))) (some_fit ranks a b lists) ((fits false a b (map (rank_of ranks) (rules_listed l))).1 h)
+  some_fit_from a b (x ∷ lists) l (in_rest i) h = or_right (fit_after false a b (map (rank_of ranks) (rules_listed x))) (some_fit ranks a b lists) (some_fit_from a b lists l i h)
 
-  module _ (lefts rights : ℕ → List (Vec ℕ)) where
+  module _ (lefts rights : ℕ → List RuleList) where
     abbrev pub Meets : ℕ → ℕ → ℕ × ℕ → Type 0
     Meets a b m = IsTrue (some_fit ranks a b (lefts m.0)) × IsTrue (some_fit ranks b a (rights m.1))
 

@@ -12,3 +12,4 @@ pub mod LabelLaw
 pub mod PathsOfSides
 pub mod NumberedSides
 pub mod SideReads
+pub mod ShortPaths

@@ -1,6 +1,5 @@
 -- The search for ranks, as it is kept: the constraints of the peaks without their paths, over a table of the sides of all peaks.
 use Rattle.std.specs.Prelude.{◌≡◌, ◌<◌, ◌≤◌, ◌↔◌, ℕ, Bool, false, List, [], ◌∷◌, ◌++◌, Option, Some, IsTrue, length, slice_get}
-use Rattle.std.specs.Global.{Vec}
 use Rattle.std.proofs.Common.{zero, suc}
 use Rattle.trs_defs.specs.Member.{In}
 use Rattle.trs_defs.specs.Variable.{is_listed}
@@ -10,6 +9,8 @@ use Rattle.assign_search.specs.Puzzle.{Puzzle}
 use Rattle.rewrite_core.specs.PlacedPeak.{PlacedPeak}
 use Rattle.label_find.specs.declared.side_rules.SideRules.{SideRules}
 use Rattle.label_find.specs.declared.constraint.PeakConstraint.{PeakConstraint}
+use Rattle.label_find.specs.declared.rule_list.RuleList.{RuleList}
+use Rattle.label_find.specs.RuleList.{rules_listed}
 use Rattle.label_find.specs.LabelRow.{PeakPaths, ArePathsOf, CanClose, rules_used}
 use Rattle.label_find.specs.SideRules.{lists_of_side, rules_of_side}
 use Rattle.label_find.specs.Grouping.{count_of}
@@ -65,8 +66,8 @@ pub record IsConstraintOf (inner outer left right : ℕ) (sides : List SideRules
 
 -- it uses the rules of the lists that meet
 pub record UsesLists (left right : Option SideRules) (d : PeakConstraint) : Type 0 where
-  pub lefts : (m : ℕ × ℕ) (l : Vec ℕ) (k : ℕ) → In m d.meetings.items → In l (lists_of_side left m.0) → IsTrue (is_listed k l.items) → IsTrue (is_listed k (used_by left right d))
-  pub rights : (m : ℕ × ℕ) (l : Vec ℕ) (k : ℕ) → In m d.meetings.items → In l (lists_of_side right m.1) → IsTrue (is_listed k l.items) → IsTrue (is_listed k (used_by left right d))
+  pub lefts : (m : ℕ × ℕ) (l : RuleList) (k : ℕ) → In m d.meetings.items → In l (lists_of_side left m.0) → IsTrue (is_listed k (rules_listed l)) → IsTrue (is_listed k (used_by left right d))
+  pub rights : (m : ℕ × ℕ) (l : RuleList) (k : ℕ) → In m d.meetings.items → In l (lists_of_side right m.1) → IsTrue (is_listed k (rules_listed l)) → IsTrue (is_listed k (used_by left right d))
 
 -- its sides are in the table
 pub record HasSidesIn (sides : List SideRules) (d : PeakConstraint) : Type 0 where

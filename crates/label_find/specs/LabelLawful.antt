@@ -1,6 +1,5 @@
 -- The search for ranks is lawful: a constraint depends on the ranks of the rules that it uses alone.
 use Rattle.std.specs.Prelude.{◌≡◌, ◌<◌, ℕ, true, false, ◌||◌, ◌==◌, ◌&&◌, List, [], ◌∷◌, All, IsTrue, map, get_or, slice_get}
-use Rattle.std.specs.Global.{Vec}
 use Rattle.std.proofs.Common.{zero, suc, refl, ap, ap₂, sym, ◌∙◌, arith}
 use Rattle.std.proofs.lemmas.Bool.Decides.{nat_tests}
 use Rattle.std.proofs.lemmas.Option.{unwrap_or-slice_get}
@@ -11,6 +10,8 @@ use Rattle.confluence_theory.specs.RuleRanks.{rank_of}
 use Rattle.assign_search.specs.Puzzle.{IsLawful}
 use Rattle.label_find.specs.declared.side_rules.SideRules.{SideRules}
 use Rattle.label_find.specs.declared.constraint.PeakConstraint.{PeakConstraint}
+use Rattle.label_find.specs.declared.rule_list.RuleList.{RuleList}
+use Rattle.label_find.specs.RuleList.{rules_listed}
 use Rattle.label_find.specs.SideRules.{lists_of_side}
 use Rattle.label_find.specs.Constraint.{fit_after, some_fit, some_meet}
 use Rattle.label_find.specs.ConstraintPuzzle.{is_met, used_in, uses_rule, at_constraint, label_puzzle, KeepsRules}
@@ -24,14 +25,14 @@ module _ (p q : List ℕ) (used : List ℕ) (agree : (k : ℕ) → IsTrue (is_li
   same_ranks (r ∷ rules) h =
       ap₂ (λ (x : ℕ) (xs : List ℕ). x ∷ xs) (agree r (h r (or_left (r == r) (is_listed r rules) (equal_itself r)))) (same_ranks rules (λ k l. h k (or_right (r == k) (is_listed k rules) l)))
 
-  same_some_fit : (a b : ℕ) (lists : List (Vec ℕ)) → ((l : Vec ℕ) (k : ℕ) → In l lists → IsTrue (is_listed k l.items) → IsTrue (is_listed k used)) → some_fit p a b lists ≡ some_fit q a b lists
+  same_some_fit : (a b : ℕ) (lists : List RuleList) → ((l : RuleList) (k : ℕ) → In l lists → IsTrue (is_listed k (rules_listed l)) → IsTrue (is_listed k used)) → some_fit p a b lists ≡ some_fit q a b lists
   same_some_fit a b [] h = refl
   same_some_fit a b (l ∷ lists) h =
-      ap₂ (λ x y. x || y) (ap (fit_after false a b) (same_ranks l.items (λ k. h l k in_first))) (same_some_fit a b lists (λ m k i. h m k (in_rest i)))
+      ap₂ (λ x y. x || y) (ap (fit_after false a b) (same_ranks (rules_listed l) (λ k. h l k in_first))) (same_some_fit a b lists (λ m k i. h m k (in_rest i)))
 
-  module _ (lefts rights : ℕ → List (Vec ℕ)) where
-    same_some_meet : (a b : ℕ) (ms : List (ℕ × ℕ)) → ((m : ℕ × ℕ) (l : Vec ℕ) (k : ℕ) → In m ms → In l (lefts m.0) → IsTrue (is_listed k l.items) → IsTrue (is_listed k used))
-        → ((m : ℕ × ℕ) (l : Vec ℕ) (k : ℕ) → In m ms → In l (rights m.1) → IsTrue (is_listed k l.items) → IsTrue (is_listed k used)) → some_meet p a b lefts rights ms ≡ some_meet q a b lefts rights ms
+  module _ (lefts rights : ℕ → List RuleList) where
+    same_some_meet : (a b : ℕ) (ms : List (ℕ × ℕ)) → ((m : ℕ × ℕ) (l : RuleList) (k : ℕ) → In m ms → In l (lefts m.0) → IsTrue (is_listed k (rules_listed l)) → IsTrue (is_listed k used))
+        → ((m : ℕ × ℕ) (l : RuleList) (k : ℕ) → In m ms → In l (rights m.1) → IsTrue (is_listed k (rules_listed l)) → IsTrue (is_listed k used)) → some_meet p a b lefts rights ms ≡ some_meet q a b lefts rights ms
     same_some_meet a b [] of_left of_right = refl
     same_some_meet a b (m ∷ ms) of_left of_right =
         ap₂ (λ x y. x || y) (ap₂ (λ x y. x && y) (same_some_fit a b (lefts m.0) (λ l k. of_left m l k in_first)) (same_some_fit b a (rights m.1) (λ l k. of_right m l k in_first)))

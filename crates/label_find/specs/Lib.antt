@@ -2,6 +2,7 @@ pub mod LabelRow
 pub mod LabelAnswers
 pub mod Laws
 pub mod Lists
+pub mod RuleList
 pub mod Grouping
 pub mod Meetings
 pub mod SideRules

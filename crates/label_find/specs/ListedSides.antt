@@ -10,6 +10,7 @@ use Rattle.path_lists.specs.Adding.{Entry}
 use Rattle.path_lists.specs.PathList.{IsPathList}
 use Rattle.label_find.specs.declared.listed_sides.ListedSides.{ListedSides}
 use Rattle.label_find.specs.declared.side_rules.SideRules.{SideRules}
+use Rattle.label_find.specs.RuleList.{AreShort}
 use Rattle.label_find.specs.SideRules.{IsSideOf}
 
 -- the list is that of the paths from the id's term
@@ -21,6 +22,10 @@ pub record IsPathsOf (rules : List RewriteRule) (pool : List Tree) (id : ℕ) (f
 -- the lists are those of the pool as it is
 pub record AreListed (rules : List RewriteRule) (sides : ListedSides) : Type 0 where
   pub lists : AreOf (IsPathsOf rules sides.pool) sides.lists
+
+-- no path of the lists has more than 4 steps
+pub record HaveShortPaths (sides : ListedSides) : Type 0 where
+  pub each : AreOf (λ id found. AreShort found) sides.lists
 
 -- the number of an id in the table of sides
 abbrev pub number_of : ListedSides → ℕ → Option ℕ

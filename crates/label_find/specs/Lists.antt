@@ -1,20 +1,21 @@
 -- Lists of rules along paths, each list once.
 use Rattle.std.specs.Prelude.{◌≡◌, ◌⊎◌, ℕ, ◌+◌, max, List, [], ◌∷◌, ◌++◌}
-use Rattle.std.specs.Global.{Vec}
 use Rattle.trs_defs.specs.Member.{In}
 use Rattle.trs_defs.specs.Variable.{is_listed}
 use Rattle.join_find.specs.First.{Some_in}
 use Rattle.path_lists.specs.Adding.{Entry}
 use Rattle.label_find.specs.LabelRow.{rules_along}
+use Rattle.label_find.specs.declared.rule_list.RuleList.{RuleList}
+use Rattle.label_find.specs.RuleList.{rules_listed}
 
 -- some list is of these rules
-abbrev pub HasRules : List ℕ → List (Vec ℕ) → Type 0
-HasRules rules lists = Some_in (λ (l : Vec ℕ). l.items ≡ rules) lists
+abbrev pub HasRules : List ℕ → List RuleList → Type 0
+HasRules rules lists = Some_in (λ (l : RuleList). (rules_listed l) ≡ rules) lists
 
 -- the rules along the path are listed besides, if it has this end
-pub record AddsList (entry : Entry) (end : ℕ) (old new : List (Vec ℕ)) : Type 0 where
-  pub from : (l : Vec ℕ) → In l new → In l old ⊎ ((entry.0 ≡ end) × (l.items ≡ rules_along entry.1.items))
-  pub stays : (l : Vec ℕ) → In l old → In l new
+pub record AddsList (entry : Entry) (end : ℕ) (old new : List RuleList) : Type 0 where
+  pub from : (l : RuleList) → In l new → In l old ⊎ ((entry.0 ≡ end) × ((rules_listed l) ≡ rules_along entry.1.items))
+  pub stays : (l : RuleList) → In l old → In l new
   pub there : entry.0 ≡ end → HasRules (rules_along entry.1.items) new
 
 -- a path with this end has these rules
@@ -22,8 +23,8 @@ abbrev pub IsAlong : List Entry → ℕ → List ℕ → Type 0
 IsAlong entries end rules = Some_in (λ (e : Entry). (e.0 ≡ end) × (rules ≡ rules_along e.1.items)) entries
 
 -- the lists are those of the rules along the paths to this end
-pub record AreListsTo (entries : List Entry) (end : ℕ) (lists : List (Vec ℕ)) : Type 0 where
-  pub sound : (l : Vec ℕ) → In l lists → IsAlong entries end l.items
+pub record AreListsTo (entries : List Entry) (end : ℕ) (lists : List RuleList) : Type 0 where
+  pub sound : (l : RuleList) → In l lists → IsAlong entries end (rules_listed l)
   pub complete : (e : Entry) → In e entries → e.0 ≡ end → HasRules (rules_along e.1.items) lists
 
 -- the rules along all of these paths

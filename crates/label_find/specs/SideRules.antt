@@ -1,8 +1,8 @@
 -- The rules along the paths from a side of peaks.
 use Rattle.std.specs.Prelude.{◌≤◌, ℕ, List, [], Option, None, Some, length}
-use Rattle.std.specs.Global.{Vec}
 use Rattle.path_lists.specs.Adding.{Entry}
 use Rattle.label_find.specs.declared.side_rules.SideRules.{SideRules}
+use Rattle.label_find.specs.declared.rule_list.RuleList.{RuleList}
 use Rattle.label_find.specs.Lists.{rules_in, IsWith}
 use Rattle.label_find.specs.Grouping.{AreGroups, count_of, lists_at}
 
@@ -13,7 +13,7 @@ pub record IsSideOf (entries : List Entry) (side : SideRules) : Type 0 where
   pub used : IsWith [] (rules_in entries) side.used.items
 
 -- the lists of the group of a number, and the rules, of a side that may be there
-abbrev pub lists_of_side : Option SideRules → ℕ → List (Vec ℕ)
+abbrev pub lists_of_side : Option SideRules → ℕ → List RuleList
 lists_of_side None = λ number. []
 lists_of_side (Some side) = lists_at side.groups
 

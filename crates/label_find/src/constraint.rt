@@ -10,6 +10,7 @@ ghost use Rattle.label_find.specs.Lists.{end_of};
 use crate::fitting::{rank_of, ranks_fit};
 use crate::grouping::Groups;
 use crate::meeting::meetings_of;
+use crate::rule_list::RuleList;
 use crate::side_rules::{SideRules, side_at};
 use crate::used::{end_of, is_listed};
 use std::alloc::Global;
@@ -134,11 +135,11 @@ fn group_fits(groups: &Groups, number: u8, ranks: &[u32], a: u32, b: u32) -> boo
 }
 
 /// Whether the ranks of some list of rules fit.
-fn some_fit(lists: &[Vec<u32>], ranks: &[u32], a: u32, b: u32) -> bool
+fn some_fit(lists: &[RuleList], ranks: &[u32], a: u32, b: u32) -> bool
     ensures { result ≡ some_fit ranks.now a b lists.now }
 {
     for rules in lists {
-        if ranks_fit(ranks, a, b, rules) {
+        if ranks_fit(ranks, a, b, rules.as_slice()) {
             return true;
         }
     }

@@ -13,6 +13,7 @@ mod laws;
 mod listed_sides;
 mod lists;
 mod meeting;
+mod rule_list;
 mod side_rules;
 mod space;
 mod used;

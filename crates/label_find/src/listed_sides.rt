@@ -7,7 +7,7 @@ ghost use Rattle.join_find.specs.Sides.{IsSide};
 ghost use Rattle.join_find.specs.KeptLists.{list_of};
 ghost use Rattle.path_lists.specs.Growth.{GrowsBy};
 ghost use Rattle.label_find.specs.declared.side_rules.SideRules.{SideRules};
-ghost use Rattle.label_find.specs.ListedSides.{AreListed, IsNumbered, AreNumbered};
+ghost use Rattle.label_find.specs.ListedSides.{AreListed, HaveShortPaths, IsNumbered, AreNumbered};
 ghost use Rattle.label_find.specs.ListedSides.{HasSameLists, IsFrontOf};
 
 use crate::side_rules::SideRules;
@@ -115,6 +115,7 @@ impl ListedSides {
         table: &mut Vec<SideRules>,
     ) -> Result<usize, OutOfMemory>
         requires listed { IsTrue (is_some (list_of self.old.lists id)) }
+        requires short { HaveShortPaths self.old }
         requires numbers { AreNumbered self.old table.old.items }
         ensures number { IfOk result (IsNumbered self.new table.new.items id) }
         ensures numbers { OnOk result (AreNumbered self.new table.new.items) }

@@ -1,5 +1,6 @@
 //! The rules along the paths from a side of peaks.
 ghost use Rattle.std.specs.Prelude.{◌≡◌, ◌<◌, Some, IfOk, length, slice_get};
+ghost use Rattle.label_find.specs.RuleList.{AreShort};
 ghost use Rattle.label_find.specs.SideRules.{IsSideOf};
 
 use crate::grouping::{Groups, group};
@@ -22,6 +23,7 @@ impl SideRules {
         alloc: Global,
         entries: &[(u32, Vec<PathStep>)],
     ) -> Result<SideRules, OutOfMemory>
+        requires { AreShort entries.now }
         ensures { IfOk result (IsSideOf entries.now) }
     {
         let groups = group(alloc, entries)?;

@@ -9,6 +9,7 @@ use Rattle.label_find.specs.ListedSides.{AreListed, IsNumbered}
 use Rattle.join_find.proofs.KeptOfSides.{always_ok}
 use Rattle.label_find.proofs.ConstraintLaws.{constraint_of_numbered, ok_map}
 use Rattle.label_find.proofs.PathsOfSides.{listed_same}
+use Rattle.label_find.proofs.ShortPaths.{short_paths}
 use Rattle.label_find.proofs.NumberedSides.{still_numbered, small_side, front_on}
 use Rattle.label_find.proofs.constraints.constraint_at.Goals.{In_ok-right}
 use Rattle.label_find.proofs.constraints.constraint_at.Goals as goal
@@ -23,6 +24,13 @@ pub number-requires-clause-numbers : goal.number-requires-clause-numbers
 number-requires-clause-numbers c =
     let table = c.args.table.now.items in
     c.in_ok-right_id.ensures.numbers table (c.in_ok-left_id.ensures.numbers table (c.make_room.ensures.numbers table c.requires.numbers))
+
+pub number-requires-clause-short : goal.number-requires-clause-short
+number-requires-clause-short c = short_paths c.args.trs.now.rules c.list-2.new.self c.in_ok-right_id.ensures.sides
+
+pub number-requires-2-clause-short : goal.number-requires-2-clause-short
+number-requires-2-clause-short c =
+    short_paths c.args.trs.now.rules c.number.new.self (listed_same c.args.trs.now.rules c.list-2.new.self c.number.new.self c.in_ok-left.ensures.same c.in_ok-right_id.ensures.sides)
 
 pub number-requires-2-clause-listed : goal.number-requires-2-clause-listed
 number-requires-2-clause-listed c =

@@ -11,6 +11,9 @@ returns-in-Some-clause-grown c = record { more = []; is = sym (append-nil c.args
 pub returns-in-Some-clause-same : goal.returns-in-Some-clause-same
 returns-in-Some-clause-same c = record { pool = refl; lists = refl }
 
+pub new-requires : goal.new-requires
+new-requires c = c.requires.short.each c.args.id c.at.result.now c.at.ensures
+
 pub returns-clause-number : goal.returns-clause-number
 returns-clause-number c =
     side_numbered c.args.self.now (record { pool = c.args.self.now.pool; ids = c.args.self.now.ids; lists = c.args.self.now.lists; numbers = c.insert.new.self }) c.args.table.now.items c.push.new.self.items
