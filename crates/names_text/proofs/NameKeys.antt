@@ -12,7 +12,7 @@ use Rattle.std.proofs.lemmas.Bool.{false_from_ne_true, false≢true}
 use Rattle.std.proofs.lemmas.Cmp.{nat_list_eq_equiv, nat_list_cmp_total, nat_cmp_total, eq_by_cmp_equiv, tied_itself, ranked}
 use Rattle.std.proofs.lemmas.Map.Text.{is_eq-slice_cmp}
 use Rattle.std.proofs.lemmas.Slice.Eq.{bytes_eq-Decides}
-use Rattle.names_text.specs.NameTable.{hash_of, number_by, own_number, number_by_trees, AreWithin, HaveMore}
+use Rattle.names_text.specs.NameTable.{second_hash_of, number_by, own_number, number_by_trees, AreWithin, HaveMore}
 use Rattle.names_text.specs.declared.trees.NameTrees.{NameTrees}
 
 -- ---- what is found
@@ -65,13 +65,13 @@ module _ (ns : List (List ℕ)) (name q : List ℕ) where
 
   -- what is found after a name is put in as the first of its hash
   first_added : (own first more : Option ℕ) → ((i : ℕ) → first ≡ Some i → i < length ns)
-      → (hash_of name ≡ hash_of q → first ≡ None) → more ≡ cond (is_eq (nat_cmp (hash_of name) (hash_of q))) (Some (length ns)) first
+      → (second_hash_of name ≡ second_hash_of q → first ≡ None) → more ≡ cond (is_eq (nat_cmp (second_hash_of name) (second_hash_of q))) (Some (length ns)) first
       → number_by (ns ++ name ∷ []) own more q ≡ option_or (number_by ns own first q) (number_if name q (length ns))
   first_added own first more w none e =
       ap (λ f. number_by (ns ++ name ∷ []) own f q) e
-      ∙ first_found own first (is_eq (nat_cmp (hash_of name) (hash_of q))) w
-      (λ t. none (same_number (hash_of name) (hash_of q) _ (ranked (hash_of name) (hash_of q) _ refl) t))
-      (λ t. ap (λ n. is_eq (nat_cmp (hash_of name) (hash_of n))) ((bytes_eq-Decides q name).0 t) ∙ ap is_eq (tied_itself nat_cmp_total (hash_of name)))
+      ∙ first_found own first (is_eq (nat_cmp (second_hash_of name) (second_hash_of q))) w
+      (λ t. none (same_number (second_hash_of name) (second_hash_of q) _ (ranked (second_hash_of name) (second_hash_of q) _ refl) t))
+      (λ t. ap (λ n. is_eq (nat_cmp (second_hash_of name) (second_hash_of n))) ((bytes_eq-Decides q name).0 t) ∙ ap is_eq (tied_itself nat_cmp_total (second_hash_of name)))
 
   other_found : (own first : Option ℕ) (b : Bool) → bytes_eq name q ≡ b → (name ≡ q → number_by ns own first q ≡ None)
       → ((i : ℕ) → first ≡ Some i → i < length ns)
@@ -133,21 +133,21 @@ module _ (ns : List (List ℕ)) (name : List ℕ) (old new : NameTrees) (within 
   with_other key is none same h = record {
     within = λ hash i e. omega (arith, length-append ns (name ∷ []), within hash i (ap (λ f. get nat_cmp f hash) (sym same) ∙ e));
     found = λ q.
-        ap (λ f. number_by (ns ++ name ∷ []) (own_number new.others q) (get nat_cmp f (hash_of q)) q) same
-        ∙ other_added ns name q (own_number old.others q) (get nat_cmp old.first (hash_of q)) (own_number new.others q)
-        (λ e. ap (number_by_trees ns old) (sym e) ∙ none) (within (hash_of q))
+        ap (λ f. number_by (ns ++ name ∷ []) (own_number new.others q) (get nat_cmp f (second_hash_of q)) q) same
+        ∙ other_added ns name q (own_number old.others q) (get nat_cmp old.first (second_hash_of q)) (own_number new.others q)
+        (λ e. ap (number_by_trees ns old) (sym e) ∙ none) (within (second_hash_of q))
         (own_after key q old.others new.others (Some n) h ∙ ap₂ (λ k m. cond (bytes_eq k q) (Some m) (own_number old.others q)) is (sym count));
   }
 
   -- behind a name that is put in as the first of its hash
-  pub with_first : (hash : ℕ) → hash ≡ hash_of name → get nat_cmp old.first hash ≡ None → new.others ≡ old.others
+  pub with_first : (hash : ℕ) → hash ≡ second_hash_of name → get nat_cmp old.first hash ≡ None → new.others ≡ old.others
       → UpdatesBy nat_cmp (nat_cmp hash) old.first new.first (Some n) → HaveMore ns name old new
   with_first hash is none same h = record {
     within = λ k i e.
         omega (arith, length-append ns (name ∷ []), within_more (is_eq (nat_cmp hash k)) (get nat_cmp old.first k) (get nat_cmp new.first k) n (length ns) i (h.0 k) (sym count) (within k) e);
     found = λ q.
-        ap (λ o. number_by (ns ++ name ∷ []) (own_number o q) (get nat_cmp new.first (hash_of q)) q) same
-        ∙ first_added ns name q (own_number old.others q) (get nat_cmp old.first (hash_of q)) (get nat_cmp new.first (hash_of q)) (within (hash_of q))
+        ap (λ o. number_by (ns ++ name ∷ []) (own_number o q) (get nat_cmp new.first (second_hash_of q)) q) same
+        ∙ first_added ns name q (own_number old.others q) (get nat_cmp old.first (second_hash_of q)) (get nat_cmp new.first (second_hash_of q)) (within (second_hash_of q))
         (λ e. ap (get nat_cmp old.first) (sym e ∙ sym is) ∙ none)
-        (h.0 (hash_of q) ∙ ap₂ (λ k m. cond (is_eq (nat_cmp k (hash_of q))) (Some m) (get nat_cmp old.first (hash_of q))) is (sym count));
+        (h.0 (second_hash_of q) ∙ ap₂ (λ k m. cond (is_eq (nat_cmp k (second_hash_of q))) (Some m) (get nat_cmp old.first (second_hash_of q))) is (sym count));
   }

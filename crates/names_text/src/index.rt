@@ -1,7 +1,7 @@
 //! An index of names: slots by their hashes, and trees for the names whose slots others have.
-ghost use Rattle.std.specs.Prelude.{◌≡◌, ◌↔◌, ◌<◌, ◌^◌, [], List, ℕ, length, map, slice_get, Some, None, IfOk, OnOk, OnErr, IsTrue, true};
+ghost use Rattle.std.specs.Prelude.{◌≡◌, ◌↔◌, ◌<◌, ◌^◌, [], List, ℕ, length, map, slice_get, Option, Some, None, IfOk, OnOk, OnErr, IsTrue, true};
 ghost use Rattle.names_text.specs.Names.{number_among, are_distinct};
-ghost use Rattle.names_text.specs.NameTable.{Adds, IsIndex, free, hash_of, slot_of};
+ghost use Rattle.names_text.specs.NameTable.{Adds, IsIndex, free, front, hash_of, number_behind_slot, number_by_look, number_by_slot, second_hash_of, slot_for, slot_of};
 
 use crate::trees::NameTrees;
 use std::alloc::{AllocError, Global};
@@ -16,16 +16,29 @@ const LEAST_SLOTS: usize = 128;
 /// With so many slots or more an index does not grow.
 const MOST_SLOTS: usize = 1 << 21;
 
+/// How many bytes of a name are hashed at most.
+const HASHED: usize = 256;
+
 /// The number of no name.
 const FREE: u32 = u32::MAX;
 
-/// Numbers of names. A slot has the number of the first name whose hash leads to it, so that most names are found, or
-/// are found missing, at one look. The other names stand in trees, since whoever writes a text can make their hashes
-/// collide.
+/// Numbers of names. A name has two slots, by two hashes, and the first of them that was free when it was added has its
+/// number. So most names are found, or are found missing, at one look or two, and names with one hash too. The others
+/// stand in trees, since whoever writes a text can make both hashes collide.
 #[derive(Drop)]
 pub(crate) struct Index {
     slots: Vec<u32>,
     trees: NameTrees,
+}
+
+/// What one of its slots says of a name.
+enum Look {
+    /// No name has the slot, so this one is not there.
+    Free,
+    /// The name has the slot, and this number.
+    Own(u32),
+    /// Another name has the slot, or there are no slots.
+    Taken,
 }
 
 impl Index {
@@ -68,16 +81,13 @@ impl Index {
         Ok(())
     }
 
-    /// With how many slots so many names should get another index, if they should: where an eighth of the slots have
-    /// names, and no more names stand in the trees than in slots, so that names whose hashes collide do not make it grow.
+    /// With how many slots so many names should get another index, if they should: where they are an eighth of the slots.
     fn grows_to(&self, names: usize) -> Option<usize> {
         let slots = self.slots.len();
         if slots == 0 {
             return if names < FEW { None } else { Some(LEAST_SLOTS) };
         }
-        let apart = self.trees.len();
-        let placed = names.saturating_sub(apart);
-        if slots < MOST_SLOTS && placed >= slots / 8 && placed >= apart {
+        if slots < MOST_SLOTS && names >= slots / 8 {
             Some(slots * 4)
         } else {
             None
@@ -89,17 +99,40 @@ impl Index {
         requires { IsIndex (map (λ n. n.items) names.now) self.now }
         ensures { result ≡ number_among (map (λ n. n.items) names.now) name.now }
     {
-        let hash = hash(name);
-        match self.slots.get(self.slot(hash)) {
-            None => self.trees.find(names, name, hash),
-            Some(number) => {
-                let other = names.get(*number as usize)?;
-                if other.as_slice() == name {
-                    Some(*number)
-                } else {
-                    self.trees.find(names, name, hash)
-                }
-            }
+        if self.slots.is_empty() {
+            return self.trees.find(names, name, second_hash(name));
+        }
+        match self.look(names, name, hash(name)) {
+            Look::Free => None,
+            Look::Own(number) => Some(number),
+            Look::Taken => self.find_behind(names, name, second_hash(name)),
+        }
+    }
+
+    /// The number of a name by its second slot, and by the trees behind it.
+    fn find_behind(&self, names: &[Vec<u8>], name: &[u8], hash: u64) -> Option<u32>
+        requires { hash ≡ second_hash_of name.now }
+        ensures { result ≡ number_behind_slot (map (λ n. n.items) names.now) self.now name.now }
+    {
+        match self.look(names, name, hash) {
+            Look::Free => None,
+            Look::Own(number) => Some(number),
+            Look::Taken => self.trees.find(names, name, hash),
+        }
+    }
+
+    /// What the slot for a hash says of a name.
+    fn look(&self, names: &[Vec<u8>], name: &[u8], hash: u64) -> Look
+        ensures { (others : Option ℕ) → number_by_slot (map (λ n. n.items) names.now)
+            (slot_for self.now hash) others name.now ≡ number_by_look result others }
+    {
+        let Some(number) = self.slots.get(self.slot(hash)) else {
+            return Look::Taken;
+        };
+        match names.get(*number as usize) {
+            None => Look::Free,
+            Some(other) if other.as_slice() == name => Look::Own(*number),
+            Some(_) => Look::Taken,
         }
     }
 
@@ -110,10 +143,15 @@ impl Index {
         ensures err { OnErr result ((names : List (List ℕ)) → IsIndex names self.old
             → IsIndex names self.new) }
     {
-        let hash = hash(name);
-        let slot = self.slot(hash);
-        if self.is_free(slot) {
-            self.slots[slot] = number;
+        let first = self.slot(hash(name));
+        if self.is_free(first) {
+            self.slots[first] = number;
+            return Ok(());
+        }
+        let hash = second_hash(name);
+        let second = self.slot(hash);
+        if self.is_free(second) {
+            self.slots[second] = number;
             return Ok(());
         }
         self.trees.add(alloc, name, hash, number)?;
@@ -142,6 +180,26 @@ fn hash(name: &[u8]) -> u64
     ensures { result ≡ hash_of name.now }
 {
     let mut hasher = FoldHasher::default();
-    hasher.write(name);
+    hasher.write(front(name));
     hasher.finish()
+}
+
+/// Another hash, since names that have one hash seldom have this one in common too.
+fn second_hash(name: &[u8]) -> u64
+    ensures { result ≡ second_hash_of name.now }
+{
+    let mut hasher = FoldHasher::default();
+    hasher.write(&[1]);
+    hasher.write(front(name));
+    hasher.finish()
+}
+
+/// What is hashed of a name: long ones are told apart by trees where they have one front.
+fn front(name: &[u8]) -> &[u8]
+    ensures { result.now ≡ front name.now }
+{
+    if name.len() <= HASHED {
+        return name;
+    }
+    &name[..HASHED]
 }

@@ -1,6 +1,6 @@
 //! Trees by which names are found, however their hashes were chosen.
 ghost use Rattle.std.specs.Prelude.{◌≡◌, [], List, ℕ, length, map, None, OnOk, OnErr};
-ghost use Rattle.names_text.specs.NameTable.{AreWithin, HaveMore, hash_of, number_by_trees};
+ghost use Rattle.names_text.specs.NameTable.{AreWithin, HaveMore, second_hash_of, number_by_trees};
 
 use std::alloc::{AllocError, Global};
 use std::collections::BTreeMap;
@@ -27,14 +27,9 @@ impl NameTrees {
         }
     }
 
-    /// How many names they have.
-    pub(crate) fn len(&self) -> usize {
-        self.first.len() + self.others.len()
-    }
-
     /// The number that they have for a name with this hash.
     pub(crate) fn find(&self, names: &[Vec<u8>], name: &[u8], hash: u64) -> Option<u32>
-        requires { hash ≡ hash_of name.now }
+        requires { hash ≡ second_hash_of name.now }
         ensures { result ≡ number_by_trees (map (λ n. n.items) names.now) self.now name.now }
     {
         if let Some(number) = self.others.get(name) {
@@ -55,7 +50,7 @@ impl NameTrees {
         hash: u64,
         number: u32,
     ) -> Result<(), AllocError>
-        requires { hash ≡ hash_of name.now }
+        requires { hash ≡ second_hash_of name.now }
         ensures ok { OnOk result ((names : List (List ℕ)) → AreWithin names self.old
             → number_by_trees names self.old name.now ≡ None → length names ≡ number
             → HaveMore names name.now self.old self.new) }
