@@ -4,9 +4,9 @@ use Rattle.std.proofs.lemmas.Bool.{cases_lt, or_parts}
 use Rattle.std.proofs.lemmas.Bool.Decides.{nat_tests}
 use Rattle.trs_defs.specs.Tree.{Tree}
 use Rattle.order_theory.specs.LinearInterpretation.{coefficient}
-use Rattle.trs_defs.specs.LeastVariable.{IsBelow}
 use Rattle.poly_lin.specs.Covering.{HasNoneBefore}
 use Rattle.poly_lin.specs.Faults.{has_big}
+use Rattle.poly_lin.specs.TooBig.{AreSmall}
 
 big_at : (xs : List ℕ) → has_big xs ≡ true → (i : ℕ) × (i < length xs) × (2 ^ 63 ≤ slice_index xs i)
 big_at [] e = absurd cc
@@ -24,15 +24,11 @@ none_big (x ∷ xs) e zero =
 none_big (x ∷ xs) e (suc i) = none_big xs (or_parts (nat_lt 9223372036854775807 x) (has_big xs) e).1 i
 
 module _ (c : ℕ → ℕ → ℕ) (t : Tree) where
-  -- the coefficients of the variables before the next one, or of all where there is none, are not big
-  abbrev pub AreSmall : Option ℕ → Type 0
-  AreSmall next = (x : ℕ) → IsBelow x next → coefficient c x t < 2 ^ 63
-
-  pub none_small : AreSmall (Some 0)
+  pub none_small : AreSmall c t (Some 0)
   none_small x below = absurd (omega arith)
 
-  pub all_small : (next : Option ℕ) → next ≡ None → AreSmall next → (x : ℕ) × (2 ^ 63 ≤ coefficient c x t) → ⊥
-  all_small next none small (x, big) = let less : coefficient c x t < 2 ^ 63 = subst (λ o. AreSmall o) none small x tt in omega arith
+  pub all_small : (next : Option ℕ) → next ≡ None → AreSmall c t next → (x : ℕ) × (2 ^ 63 ≤ coefficient c x t) → ⊥
+  all_small next none small (x, big) = let less : coefficient c x t < 2 ^ 63 = subst (λ o. AreSmall c t o) none small x tt in omega arith
 
   module _ (from w : ℕ) (sums : List ℕ) (is : (i : ℕ) → i < w → min (slice_index sums i) (2 ^ 64 - 1) ≡ min (coefficient c (from + i) t) (2 ^ 64 - 1)) where
     pub some_big : length sums ≡ w → has_big sums ≡ true → (x : ℕ) × (2 ^ 63 ≤ coefficient c x t)
@@ -41,7 +37,7 @@ module _ (c : ℕ → ℕ → ℕ) (t : Tree) where
         let same = is i (omega arith) in
         (from + i, omega (arith, same, big))
 
-    pub more_small : (next : Option ℕ) → AreSmall (Some from) → has_big sums ≡ false → HasNoneBefore c (from + w) t None next → AreSmall next
+    pub more_small : (next : Option ℕ) → AreSmall c t (Some from) → has_big sums ≡ false → HasNoneBefore c (from + w) t None next → AreSmall c t next
     more_small next before e none x below = elim (cases_lt x from) [
       | inl less ↦ before x less
       | inr more ↦ elim (cases_lt x (from + w)) [

@@ -6,13 +6,10 @@ ghost use Rattle.poly_lin.specs.Covering.{Covers, AreCovered, IsAfter};
 ghost use Rattle.poly_lin.specs.Profiles.{AreCoefficients};
 
 use crate::Coefficients;
-use crate::window::{MANY, add_coefficients};
+use crate::window::{FEW, MANY, add_coefficients};
 use trs_core::Term;
 
-/// How many variables the first walk takes, and the second: most terms have no more, and for them a
-/// window of many would cost more than the walk.
-const FEW: usize = 8;
-
+/// How many variables the second walk takes.
 const SOME: usize = 16;
 
 /// Of how many variables a profile has the coefficients.

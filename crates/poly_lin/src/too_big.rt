@@ -3,13 +3,13 @@ ghost use Rattle.std.specs.Prelude.{◌≡◌, ◌↔◌, ◌≤◌, ◌^◌, �
 ghost use Rattle.trs_core.specs.View.{tree};
 ghost use Rattle.order_theory.specs.LinearInterpretation.{coefficient};
 ghost use Rattle.poly_lin.specs.Subterms.{value_at_one};
-ghost use Rattle.poly_lin.specs.TooBig.{IsBig, HasBigCoefficient, counting};
+ghost use Rattle.poly_lin.specs.TooBig.{AreSmall, IsBig, HasBigCoefficient, counting};
 
 use crate::Coefficients;
 use crate::counting::Counting;
 use crate::table::has_big;
 use crate::values::saturated_value;
-use crate::window::{MANY, add_coefficients};
+use crate::window::{FEW, MANY, add_coefficients};
 use trs_core::{GREATEST_NUMBER, Term};
 
 /// Whether the polynomial of some subterm has a constant or a coefficient above 2^63 - 1. It takes
@@ -75,17 +75,28 @@ fn is_big<T: Coefficients>(table: &T, t: &Term) -> bool
     has_big_variable(table, t)
 }
 
-/// Whether the coefficient of some variable is above 2^63 - 1. It is not inlined, so that a recursion
-/// does not have the window on the stack at each level.
-#[inline(never)]
+/// Whether the coefficient of some variable is above 2^63 - 1.
 fn has_big_variable<T: Coefficients>(table: &T, t: &Term) -> bool
     ensures { IsTrue result ↔
         ((x : ℕ) × (2 ^ 63 ≤ coefficient (T.coefficient table.now) x (tree t.now))) }
 {
-    let mut next = Some(0);
-    while let Some(from) = next {
+    let mut sums = [0; FEW];
+    let next = add_coefficients(table, 0, 1, t, &mut sums, None);
+    has_big(&sums) || has_big_from(table, t, next)
+}
+
+/// The same, where no variable before this one has such a coefficient. It is not inlined, so that a
+/// recursion does not have the window on the stack at each level.
+#[inline(never)]
+fn has_big_from<T: Coefficients>(table: &T, t: &Term, from: Option<u32>) -> bool
+    requires { AreSmall (T.coefficient table.now) (tree t.now) from }
+    ensures { IsTrue result ↔
+        ((x : ℕ) × (2 ^ 63 ≤ coefficient (T.coefficient table.now) x (tree t.now))) }
+{
+    let mut next = from;
+    while let Some(first) = next {
         let mut sums = [0; MANY];
-        next = add_coefficients(table, from, 1, t, &mut sums, None);
+        next = add_coefficients(table, first, 1, t, &mut sums, None);
         if has_big(&sums) {
             return true;
         }

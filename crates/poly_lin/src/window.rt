@@ -6,6 +6,10 @@ ghost use Rattle.poly_lin.specs.Covering.{AreAdded, HasNoneBefore, IsBehind};
 use crate::Coefficients;
 use trs_core::{Term, least_variable};
 
+/// How many variables the first walk takes: most terms have no more, and for them a window of many
+/// would cost more than the walk.
+pub(crate) const FEW: usize = 8;
+
 /// How many variables one walk takes of a term with many.
 pub(crate) const MANY: usize = 512;
 
