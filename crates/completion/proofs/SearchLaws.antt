@@ -41,12 +41,13 @@ all_items : (ts : Trees) → length (items ts) ≡ count ts
 all_items nil = refl
 all_items (cons t ts) = omega (arith, all_items ts)
 
-pub last_argument : (t : Tree) (n : ℕ) → n ≡ 255 → IsNarrow t → argument_at t (n + 1) ≡ None
-last_argument (var v) n e w = refl
-last_argument (app f ts) n e w =
+-- a narrow term has no argument behind 255 others
+pub few_arguments : (t : Tree) (n : ℕ) (part : Tree) → argument_at t (n + 1) ≡ Some part → IsNarrow t → n < 255
+few_arguments (var v) n part there w = absurd cc
+few_arguments (app f ts) n part there w =
     let next : n + 1 ≡ suc n = omega arith in
-    let few : length (items ts) ≤ n = omega (arith, all_items ts, w.0, e) in
-    ap (argument_at (app f ts)) next ∙ slice_get_past (items ts) n few
+    let within = slice_get_within (items ts) n part (sym (ap (argument_at (app f ts)) next) ∙ there) in
+    omega (arith, within, all_items ts, w.0)
 
 -- behind an argument that is not there is none
 no_later : (t : Tree) (n m : ℕ) → argument_at t (n + 1) ≡ None → n < m → argument_at t m ≡ None

@@ -12,10 +12,10 @@ use crate::growing::GrowingTrs;
 use crate::met::Met;
 use crate::treating::{Outcome, treat, treat_ids};
 use crit_pairs::{
-    Peak, PeakFault, PeakPair, PeakTable, critical_pairs, first_peaks, is_large_result,
+    Peak, PeakFault, PeakPair, PeakTable, first_peaks, is_large_result, shared_peaks,
 };
 use path_lpo::Lpo;
-use rewrite_core::{CheckFault, Top};
+use rewrite_core::{CheckFault, PeakSide, Top};
 use std::alloc::Global;
 use trs_core::{OutOfMemory, Rule, Trs, systems_are_valid};
 
@@ -197,7 +197,7 @@ fn look_at_each(
     ensures met { OnOk result (IsMet system.now.rules met.new) }
 {
     systems_are_valid(trs);
-    match critical_pairs(alloc, trs) {
+    match shared_peaks(alloc, trs) {
         Ok(peaks) => {
             let found = find(alloc, order, system, met, &peaks, units)?;
             Ok(found)
@@ -287,7 +287,15 @@ fn find<T: Top>(
 {
     let mut left = units;
     for peak in peaks {
-        match treat(alloc, order, system, met, &peak.left, &peak.right, left)? {
+        match treat(
+            alloc,
+            order,
+            system,
+            met,
+            peak.left.term(),
+            peak.right.term(),
+            left,
+        )? {
             Outcome::Passed(more) => left = more,
             Outcome::Added(rule, more) => return Ok(Outcome::Added(rule, more)),
             Outcome::Ended(why) => return Ok(Outcome::Ended(why)),

@@ -1,6 +1,4 @@
 ghost use Rattle.std.specs.Prelude.{◌≡◌, ◌<◌, ◌+◌, ◌↔◌, All, Some, length, slice_get, IfOk, IfSome, IsTrue, OnOk};
-ghost use Rattle.std.specs.Option.{option_map};
-ghost use Rattle.trs_defs.specs.Position.{argument_at};
 ghost use Rattle.trs_defs.specs.Substitution.{IsInstance};
 ghost use Rattle.trs_defs.specs.System.{RewriteRule};
 ghost use Rattle.term_pool.specs.Pooled.{tree_at};
@@ -45,7 +43,7 @@ pub(crate) fn first_redex(
         return Ok(Some(rule));
     }
     let mut count: u8 = 0;
-    while let Some(part) = argument_behind(pool, id, count) {
+    while let Some(part) = pool.argument(id, usize::from(count)) {
         count += 1;
         place.push(count)?;
         if let Some(rule) = first_redex(alloc, pool, system, sides, part, place, passed)? {
@@ -123,19 +121,4 @@ fn side_of(sides: &[Option<u32>], k: u32) -> Option<u32>
         Some(side) => *side,
         None => None,
     }
-}
-
-/// The argument of an id's term behind so many others.
-fn argument_behind(pool: &Pool, id: u32, count: u8) -> Option<u32>
-    requires there { id < length pool.now }
-    requires narrow { IsNarrow (tree_at pool.now id) }
-    ensures is { option_map (tree_at pool.now) result
-        ≡ argument_at (tree_at pool.now id) (count + 1) }
-    ensures there { IfSome result (λ part. part < length pool.now) }
-    ensures few { IfSome result (λ _. count < 255) }
-{
-    if count == 255 {
-        return None;
-    }
-    pool.at(id, &[count + 1])
 }

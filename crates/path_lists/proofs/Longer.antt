@@ -1,32 +1,33 @@
 -- Lists of paths that end at 256, and what is added to them.
-use Rattle.std.specs.Prelude.{◌≡◌, ◌<◌, ◌≤◌, ℕ, ◌+◌, List, [], ◌∷◌, ◌++◌, All, Some, length, take, slice_get, IsTrue, refl}
+use Rattle.std.specs.Prelude.{◌≡◌, ◌≢◌, ◌<◌, ◌≤◌, ℕ, ◌+◌, List, [], ◌∷◌, ◌++◌, All, Some, length, take, slice_get, IsTrue, refl}
 use Rattle.std.specs.Global.{Vec}
 use Rattle.std.proofs.Common.{zero, suc, ap, sym, ◌∙◌, subst, get_or, drop, append_assoc, append-nil, length-append, arith}
 use Rattle.std.proofs.Math.Seq.{take-suc}
 use Rattle.std.proofs.lemmas.List.{take_all, take-append-drop, map-append, length-take}
 use Rattle.std.proofs.lemmas.List.Elements.{All-weaker, All-push, All-nil}
-use Rattle.std.proofs.lemmas.Option.{get_or_from_slice_get, same_Some, slice_get_within}
+use Rattle.std.proofs.lemmas.Option.{get_or_from_slice_get, same_Some, slice_get_read, slice_get_within}
 use Rattle.trs_defs.specs.Member.{In}
 use Rattle.trs_defs.specs.Tree.{Tree}
 use Rattle.trs_defs.specs.System.{RewriteRule}
 use Rattle.trs_defs.specs.Size.{size_of, within_limits}
-use Rattle.trs_defs.specs.Path.{PlacedRule, StepsAt}
-use Rattle.trs_defs.proofs.Members.{in_right}
+use Rattle.trs_defs.specs.Path.{PlacedRule, StepsAt, Follows}
+use Rattle.trs_defs.proofs.Members.{in_of_get, in_right}
 use Rattle.trs_defs.proofs.ListItems.{take_one_more}
 use Rattle.term_pool.specs.Pooled.{Extends, StandsFor, tree_at}
 use Rattle.term_pool.specs.Redexes.{HasRedexes, IsRedexAt}
 use Rattle.term_pool.specs.Listed.{Listed}
 use Rattle.term_pool.specs.ListedIds.{listed, listed_at}
-use Rattle.term_pool.specs.Reach.{AreReducts, no_step, kept, left_out, AreCandidates, no_entry, expanded, after_step}
+use Rattle.term_pool.specs.Reach.{AreReducts, no_step, kept, left_out, AreCandidates, no_entry, expanded, too_deep, after_step}
 use Rattle.term_pool.proofs.ListingLaws.{reducts_there, reducts_append, candidates_append, small_kept}
 use Rattle.term_pool.proofs.ReachedIds.{same_listed, length_listed}
 use Rattle.term_pool.proofs.PoolTrees.{stands_at}
 use Rattle.term_pool.proofs.Extending.{same_tree_at}
 use Rattle.path_lists.specs.PathList.{no_steps}
-use Rattle.path_lists.specs.Adding.{Entry, IsEntryAt, AddsPaths, IsKeptEnd, IsLeftOut}
-use Rattle.path_lists.specs.NormalEnds.{AreNormalEnds}
-use Rattle.path_lists.specs.declared.normal_ends.NormalEnds.{NormalEnds}
-use Rattle.path_lists.proofs.PathLaws.{IsLookedAt}
+use Rattle.path_lists.specs.Adding.{Entry, IsEntryAt, AddsPaths, AreNext, at_most_steps, all_redexes, IsKeptEnd, IsLeftOut}
+use Rattle.path_lists.specs.KnownEnds.{AreKnownEnds}
+use Rattle.path_lists.specs.declared.known_ends.KnownEnds.{KnownEnds}
+use Rattle.term_pool.proofs.KnownLaws.{known_on}
+use Rattle.path_lists.proofs.PathLaws.{IsLookedAt, looked_paths_lead}
 
 pub take_again : {A : Type 0} (n : ℕ) (xs ys : List A) → take n (take n xs ++ ys) ≡ take n (xs ++ ys)
 take_again zero xs ys = refl
@@ -165,10 +166,29 @@ pub none_longer : (rules : List RewriteRule) (e : Listed) (pool : List Tree) (pa
     → AddsPaths (AreCandidates rules 4 4096 (e ∷ [])) pool pool paths paths
 none_longer rules e pool paths near none below few = nothing_added (AreCandidates rules 4 4096 (e ∷ [])) pool paths below few (expanded near none no_step no_entry)
 
-pub still_normal : (rules : List RewriteRule) (old new : List Tree) (ends : NormalEnds) → Extends old new → AreNormalEnds rules old ends → AreNormalEnds rules new ends
-still_normal rules old new ends extends h = record {
+-- no path is longer than one of 4 steps
+pub none_from_four : (rules : List RewriteRule) (e : Listed) (pool : List Tree) (paths : List Entry) → 4 ≤ length e.path → All (λ x. x.0 < length pool) paths → length paths ≤ 256
+    → AddsPaths (AreCandidates rules 4 4096 (e ∷ [])) pool pool paths paths
+none_from_four rules e pool paths far below few = nothing_added (AreCandidates rules 4 4096 (e ∷ [])) pool paths below few (too_deep far no_entry)
+
+pub none_next : (rules : List RewriteRule) (e : Listed) (steps : List PlacedRule) (pool : List Tree) (paths : List Entry) → AreNext rules e steps → steps ≡ [] → All (λ x. x.0 < length pool) paths
+    → length paths ≤ 256 → AddsPaths (AreCandidates rules 4 4096 (e ∷ [])) pool pool paths paths
+none_next rules e steps pool paths (at_most_steps far none) empty below few = none_from_four rules e pool paths far below few
+none_next rules e steps pool paths (all_redexes near redexes) empty below few = none_longer rules e pool paths near (subst (HasRedexes rules e.term) empty redexes) below few
+
+pub next_short : (rules : List RewriteRule) (e : Listed) (steps : List PlacedRule) → AreNext rules e steps → steps ≢ [] → length e.path < 4
+next_short rules e steps (at_most_steps far none) some = absurd (some none)
+next_short rules e steps (all_redexes near redexes) some = near
+
+pub next_redexes : (rules : List RewriteRule) (e : Listed) (steps : List PlacedRule) → AreNext rules e steps → steps ≢ [] → HasRedexes rules e.term steps
+next_redexes rules e steps (at_most_steps far none) some = absurd (some none)
+next_redexes rules e steps (all_redexes near redexes) some = redexes
+
+pub still_known : (rules : List RewriteRule) (old new : List Tree) (ends : KnownEnds) → Extends old new → AreKnownEnds rules old ends → AreKnownEnds rules new ends
+still_known rules old new ends extends h = record {
   there = λ id i. (let was = h.there id i in omega (arith, was, extends.longer));
   none = λ id i. subst (λ t. HasRedexes rules t []) (sym (same_tree_at old new extends id (h.there id i))) (h.none id i);
+  known = known_on rules old new ends.known extends h.known;
 }
 
 -- ---- what is looked at
@@ -203,6 +223,27 @@ entry_listed pool paths i e h = rw (h.id, h.path) (go paths i h.entry h.there)
     go [] i x there = absurd cc
     go (y ∷ es) zero x there = let same : y ≡ x = same_Some y x there in rw same refl
     go (y ∷ es) (suc i) x there = go es i x there
+
+-- an entry of the list, as it is there
+pub entry_itself : (paths : List Entry) (i : ℕ) (e : Entry) → slice_get paths i ≡ Some e → IsEntryAt paths i e
+entry_itself paths i e there = record { entry = e; there = there; id = refl; path = refl }
+
+pub entry_read : (paths : List Entry) (i : ℕ) (e : Entry) → i < length paths → e ≡ get_or paths i e → IsEntryAt paths i e
+entry_read paths i e below is = entry_itself paths i e (slice_get_read paths (length paths) i e refl below is)
+
+pub same_entry : (pool : List Tree) (paths : List Entry) (i : ℕ) (d e : Entry) → IsEntryAt paths i d → IsEntryAt paths i e → listed pool d ≡ listed pool e
+same_entry pool paths i d e h k = same_Some (listed pool d) (listed pool e) (sym (entry_listed pool paths i d h) ∙ entry_listed pool paths i e k)
+
+pub entry_there : (paths : List Entry) (i : ℕ) → i < length paths → (e : Entry) × IsEntryAt paths i e
+entry_there [] i below = absurd (omega (arith, below))
+entry_there (e ∷ paths) zero below = (e, entry_itself (e ∷ paths) 0 e refl)
+entry_there (x ∷ paths) (suc i) below = let (e, at) = entry_there paths i (omega (arith, below)) in (e, record { entry = at.entry; there = at.there; id = at.id; path = at.path })
+
+-- the path to it leads there
+pub follows_there : (rules : List RewriteRule) (t : Tree) (pool : List Tree) (paths : List Entry) (i : ℕ) (e : Entry) → IsLookedAt rules t i (listed_at pool paths) → IsEntryAt paths i e
+    → Follows rules e.1.items t (tree_at pool e.0)
+follows_there rules t pool paths i e looked at =
+    looked_paths_lead rules t i (listed_at pool paths) looked (listed pool e) (in_of_get (listed_at pool paths) i (listed pool e) (entry_listed pool paths i e at))
 
 pub entry_within : (pool : List Tree) (paths : List Entry) (i : ℕ) (e : Entry) → IsEntryAt paths i e → All (λ x. x.0 < length pool) paths → e.0 < length pool
 entry_within pool paths i e h below =

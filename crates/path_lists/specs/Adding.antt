@@ -1,5 +1,5 @@
 -- What adds paths to a list that ends at 256.
-use Rattle.std.specs.Prelude.{◌≡◌, ◌<◌, ◌≤◌, ℕ, ◌+◌, ◌-◌, ◌*◌, false, List, ◌++◌, All, Some, length, slice_get, take, IsTrue}
+use Rattle.std.specs.Prelude.{◌≡◌, ◌<◌, ◌≤◌, ℕ, ◌+◌, ◌-◌, ◌*◌, false, List, [], ◌++◌, All, Some, length, slice_get, take, IsTrue}
 use Rattle.std.specs.Global.{Vec}
 use Rattle.trs_defs.specs.Tree.{Tree}
 use Rattle.trs_defs.specs.Size.{size_of}
@@ -7,8 +7,10 @@ use Rattle.trs_defs.specs.System.{RewriteRule}
 use Rattle.trs_defs.specs.Path.{PlacedRule, StepsAt, Follows}
 use Rattle.term_pool.specs.Pooled.{tree_at}
 use Rattle.term_pool.specs.Listed.{Listed}
-use Rattle.term_pool.specs.ListedIds.{listed_at}
+use Rattle.term_pool.specs.ListedIds.{listed, listed_at}
+use Rattle.term_pool.specs.Redexes.{IsNarrow, HasRedexes}
 use Rattle.term_pool.specs.Reach.{is_kept}
+use Rattle.path_lists.specs.declared.room.Room.{Room}
 
 -- an id with a path to its term
 abbrev pub Entry : Type 0
@@ -43,6 +45,17 @@ pub record LeadsFrom (rules : List RewriteRule) (nodes : ℕ) (e : Listed) : Typ
   pub start : Tree
   pub small : size_of start ≤ nodes
   pub follows : Follows rules e.path start e.term
+
+-- an entry from which paths go on: its term is narrow, and how small the next terms are is known so far
+pub record GoesOn (rules : List RewriteRule) (room : Room) (pool : List Tree) (e : Entry) : Type 0 where
+  pub narrow : IsNarrow (tree_at pool e.0)
+  pub sure : IsTrue room.is_sure → KeepsSmall rules (listed pool e)
+  pub from : LeadsFrom rules room.start (listed pool e)
+
+-- the steps that lead on from the end of a path: none where it has 4 steps
+pub data AreNext (rules : List RewriteRule) (e : Listed) (steps : List PlacedRule) : Type 0 where
+  at_most_steps : 4 ≤ length e.path → steps ≡ [] → AreNext rules e steps
+  all_redexes : length e.path < 4 → HasRedexes rules e.term steps → AreNext rules e steps
 
 -- the id is the result of the step, which is small enough; at most 4,096 ids were added
 pub record IsKeptEnd (rules : List RewriteRule) (s : PlacedRule) (t : Tree) (old new : List Tree) (id : ℕ) : Type 0 where

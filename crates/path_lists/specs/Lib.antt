@@ -2,4 +2,4 @@ pub mod PathList
 pub mod Growth
 pub mod Adding
 pub mod Laws
-pub mod NormalEnds
+pub mod KnownEnds

@@ -4,8 +4,8 @@
 #![tactic(auto)]
 
 mod growth;
+mod known_ends;
 mod laws;
-mod normal_ends;
 mod paths;
 mod room;
 

@@ -5,16 +5,16 @@ ghost use Rattle.trs_core.specs.View.{tree};
 ghost use Rattle.trs_defs.specs.Size.{size_of, within_limits};
 ghost use Rattle.term_pool.specs.Pooled.{Extends, tree_at};
 ghost use Rattle.term_pool.specs.ListedIds.{listed, listed_at};
-ghost use Rattle.term_pool.specs.Redexes.{IsNarrow, IsRedexAt};
+ghost use Rattle.term_pool.specs.Redexes.{IsNarrow, HasRedexes, IsRedexAt};
 ghost use Rattle.term_pool.specs.Reach.{AreReducts, AreCandidates};
 ghost use Rattle.path_lists.specs.PathList.{IsPathList};
 ghost use Rattle.path_lists.specs.Growth.{GrowsBy};
-ghost use Rattle.path_lists.specs.NormalEnds.{AreNormalEnds};
-ghost use Rattle.path_lists.specs.Adding.{AddsPaths, IsEntryAt, KeepsSmall};
+ghost use Rattle.path_lists.specs.KnownEnds.{AreKnownEnds};
+ghost use Rattle.path_lists.specs.Adding.{Entry, AddsPaths, IsEntryAt, KeepsSmall, GoesOn, AreNext};
 ghost use Rattle.path_lists.specs.Adding.{LeadsFrom, IsKeptEnd, IsLeftOut};
 
 use crate::growth::stays_small;
-use crate::normal_ends::NormalEnds;
+use crate::known_ends::KnownEnds;
 use crate::room::Room;
 use rewrite_core::copy_path;
 use std::alloc::Global;
@@ -60,25 +60,15 @@ pub fn paths_from(
     let room = Room {
         start: start.size(),
         growth,
+        is_sure,
     };
     let id = pool.intern(alloc, start)?;
     let mut paths = Vec::new(alloc);
     paths.push((id, Vec::new(alloc)))?;
-    let mut normal = NormalEnds::new(alloc);
+    let mut ends = KnownEnds::new(alloc);
     let mut next = 0;
     while next < paths.len() && paths.len() < MOST_PATHS {
-        let entry = entry_at(alloc, &paths, next)?;
-        add_longer(
-            alloc,
-            pool,
-            trs,
-            by_root,
-            is_sure,
-            room,
-            &entry,
-            &mut normal,
-            &mut paths,
-        )?;
+        add_longer(alloc, pool, trs, by_root, room, next, &mut ends, &mut paths)?;
         next += 1;
     }
     Ok(paths)
@@ -97,49 +87,87 @@ fn entry_at(
     Ok((entry.0, copy_path(alloc, &entry.1)?))
 }
 
-/// Adds the paths that are one step longer than this one, as long as fewer than 256 are listed. Its
-/// end is noted where no step leads from it.
+/// Adds the paths that are one step longer than the one at this place, as long as fewer than 256
+/// are listed. The path is copied only where steps lead on from it.
 fn add_longer(
     alloc: Global,
     pool: &mut Pool,
     trs: &Trs,
     by_root: &RulesByRoot,
-    is_sure: bool,
     room: Room,
-    entry: &(u32, Vec<PathStep>),
-    normal: &mut NormalEnds,
+    place: usize,
+    ends: &mut KnownEnds,
     paths: &mut Vec<(u32, Vec<PathStep>)>,
 ) -> Result<(), OutOfMemory>
     requires table { by_root.now ≡ trs.now }
-    requires there { entry.now.0 < length pool.old }
-    requires narrow { IsNarrow (tree_at pool.old entry.now.0) }
-    requires sure { IsTrue is_sure → KeepsSmall trs.now.rules (listed pool.old entry.now) }
+    requires place { place < length paths.old.items }
+    requires on { (e : Entry) → IsEntryAt paths.old.items place e
+        → GoesOn trs.now.rules room pool.old e }
     requires grows { GrowsBy trs.now.rules room.growth }
-    requires from { LeadsFrom trs.now.rules room.start (listed pool.old entry.now) }
-    requires normal { AreNormalEnds trs.now.rules pool.old normal.old }
+    requires ends { AreKnownEnds trs.now.rules pool.old ends.old }
+    requires below { All (λ e. e.0 < length pool.old) paths.old.items }
+    requires few { length paths.old.items ≤ 256 }
+    ensures adds { OnOk result ((e : Entry) → IsEntryAt paths.old.items place e
+        → AddsPaths (AreCandidates trs.now.rules 4 4096 (listed pool.old e ∷ []))
+        pool.old pool.new paths.old.items paths.new.items) }
+    ensures ends { OnOk result (AreKnownEnds trs.now.rules pool.new ends.new) }
+    ensures kept { Extends pool.old pool.new }
+{
+    let steps = steps_from(alloc, pool, by_root, ends, &paths[place])?;
+    if steps.is_empty() {
+        return Ok(());
+    }
+    let entry = entry_at(alloc, paths, place)?;
+    add_steps(alloc, pool, trs, room, &entry, &steps, paths)
+}
+
+/// The steps that lead on from the end of a path: none where it has four steps.
+fn steps_from(
+    alloc: Global,
+    pool: &Pool,
+    by_root: &RulesByRoot,
+    ends: &mut KnownEnds,
+    entry: &(u32, Vec<PathStep>),
+) -> Result<Vec<PathStep>, OutOfMemory>
+    requires there { entry.now.0 < length pool.now }
+    requires narrow { IsNarrow (tree_at pool.now entry.now.0) }
+    requires ends { AreKnownEnds by_root.now.rules pool.now ends.old }
+    ensures steps { IfOk result (λ steps.
+        AreNext by_root.now.rules (listed pool.now entry.now) steps.items) }
+    ensures ends { OnOk result (AreKnownEnds by_root.now.rules pool.now ends.new) }
+{
+    if entry.1.len() >= MOST_STEPS {
+        return Ok(Vec::new(alloc));
+    }
+    ends.redexes(alloc, pool, by_root, entry.0)
+}
+
+/// Adds the path with one more step, for each of these, as long as fewer than 256 are listed.
+fn add_steps(
+    alloc: Global,
+    pool: &mut Pool,
+    trs: &Trs,
+    room: Room,
+    entry: &(u32, Vec<PathStep>),
+    steps: &[PathStep],
+    paths: &mut Vec<(u32, Vec<PathStep>)>,
+) -> Result<(), OutOfMemory>
+    requires there { entry.now.0 < length pool.old }
+    requires short { length entry.now.1.items < 4 }
+    requires redexes { HasRedexes trs.now.rules (tree_at pool.old entry.now.0) steps.now }
+    requires on { GoesOn trs.now.rules room pool.old entry.now }
+    requires grows { GrowsBy trs.now.rules room.growth }
     requires below { All (λ e. e.0 < length pool.old) paths.old.items }
     requires few { length paths.old.items ≤ 256 }
     ensures adds { OnOk result (AddsPaths (AreCandidates trs.now.rules 4 4096
         (listed pool.old entry.now ∷ [])) pool.old pool.new paths.old.items paths.new.items) }
-    ensures normal { OnOk result (AreNormalEnds trs.now.rules pool.new normal.new) }
     ensures kept { Extends pool.old pool.new }
 {
-    if entry.1.len() >= MOST_STEPS {
-        return Ok(());
-    }
-    if normal.has(entry.0) {
-        return Ok(());
-    }
-    let steps = pool.redexes_at(alloc, by_root, entry.0)?;
-    if steps.is_empty() {
-        normal.note(entry.0)?;
-        return Ok(());
-    }
-    for step in &steps {
+    for step in steps {
         if paths.len() >= MOST_PATHS {
             return Ok(());
         }
-        add_path(alloc, pool, trs, is_sure, room, entry, step, paths)?;
+        add_path(alloc, pool, trs, room, entry, step, paths)?;
     }
     Ok(())
 }
@@ -149,7 +177,6 @@ fn add_path(
     alloc: Global,
     pool: &mut Pool,
     trs: &Trs,
-    is_sure: bool,
     room: Room,
     entry: &(u32, Vec<PathStep>),
     step: &PathStep,
@@ -158,7 +185,7 @@ fn add_path(
     requires there { entry.now.0 < length pool.old }
     requires short { length entry.now.1.items < 4 }
     requires redex { IsRedexAt trs.now.rules (tree_at pool.old entry.now.0) step.now }
-    requires sure { IsTrue is_sure → KeepsSmall trs.now.rules (listed pool.old entry.now) }
+    requires sure { IsTrue room.is_sure → KeepsSmall trs.now.rules (listed pool.old entry.now) }
     requires grows { GrowsBy trs.now.rules room.growth }
     requires from { LeadsFrom trs.now.rules room.start (listed pool.old entry.now) }
     requires below { All (λ e. e.0 < length pool.old) paths.old.items }
@@ -168,7 +195,7 @@ fn add_path(
         paths.old.items paths.new.items) }
     ensures kept { Extends pool.old pool.new }
 {
-    match small_end(alloc, pool, trs, is_sure, room, entry, step)? {
+    match small_end(alloc, pool, trs, room, entry, step)? {
         None => Ok(()),
         Some(end) => {
             paths.push((end, longer(alloc, &entry.1, step)?))?;
@@ -195,7 +222,6 @@ fn small_end(
     alloc: Global,
     pool: &mut Pool,
     trs: &Trs,
-    is_sure: bool,
     room: Room,
     entry: &(u32, Vec<PathStep>),
     step: &PathStep,
@@ -203,7 +229,7 @@ fn small_end(
     requires there { entry.now.0 < length pool.old }
     requires short { length entry.now.1.items < 4 }
     requires redex { IsRedexAt trs.now.rules (tree_at pool.old entry.now.0) step.now }
-    requires sure { IsTrue is_sure → KeepsSmall trs.now.rules (listed pool.old entry.now) }
+    requires sure { IsTrue room.is_sure → KeepsSmall trs.now.rules (listed pool.old entry.now) }
     requires grows { GrowsBy trs.now.rules room.growth }
     requires from { LeadsFrom trs.now.rules room.start (listed pool.old entry.now) }
     ensures end { IfOk result (λ found. IfSome found (IsKeptEnd trs.now.rules step.now
@@ -221,7 +247,7 @@ fn small_end(
             return Ok(None);
         }
     };
-    if is_sure {
+    if room.is_sure {
         return Ok(Some(end));
     }
     if room.suffices(trs, &entry.1, step.rule) {

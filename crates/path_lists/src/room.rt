@@ -10,12 +10,13 @@ use trs_core::{Rule, Trs};
 
 const MOST_NODES: u64 = 4_096;
 
-/// The most nodes of the term from which paths start, and by how many nodes a step by any rule
-/// makes a term larger at most.
+/// The most nodes of the term from which paths start, by how many nodes a step by any rule makes a
+/// term larger at most, and whether all ends are small by these alone.
 #[derive(Clone, Copy)]
 pub(crate) struct Room {
     pub(crate) start: u64,
     pub(crate) growth: u64,
+    pub(crate) is_sure: bool,
 }
 
 impl Room {

@@ -8,9 +8,10 @@ use std::alloc::Global;
 use std::collections::{BTreeMap, BTreeSet};
 use trs_core::{OutOfMemory, Rule};
 
-/// What was found out about rules and about ids of a pool, so that it is not found out again.
+/// What was found out about rules and about ids of a pool, so that it is not found out again. It
+/// stays right as the pool grows.
 #[derive(Drop)]
-pub(crate) struct Known {
+pub struct Known {
     /// The nodes of left sides, by the numbers of their rules.
     pub(crate) left_sizes: BTreeMap<u32, u32>,
     /// Ids whose terms have no redex.
@@ -21,7 +22,7 @@ pub(crate) struct Known {
 
 impl Known {
     /// Nothing is known. It takes no memory.
-    pub(crate) fn new(alloc: Global) -> Known
+    pub fn new(alloc: Global) -> Known
         ensures { (rules : List RewriteRule) (pool : List Tree) → IsKnown rules pool result }
     {
         Known {

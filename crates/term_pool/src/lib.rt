@@ -29,6 +29,7 @@ mod running;
 mod steps;
 
 pub use distinct::ids_are_distinct;
+pub use known::Known;
 pub use narrow::paths_keep_narrow;
 pub use paths::{PathFault, PathStep, one_longer};
 pub use pools::Pool;

@@ -29,8 +29,8 @@ impl Pool {
         self.list_redexes(alloc, by_root, id, &mut known)
     }
 
-    /// The same list. What is found out is added to what is known.
-    pub(crate) fn list_redexes(
+    /// The same list. What is found out is added to what is known, for later calls.
+    pub fn list_redexes(
         &self,
         alloc: Global,
         by_root: &RulesByRoot,

@@ -11,22 +11,30 @@ use std::alloc::Global;
 use trs_core::OutOfMemory;
 
 impl Pool {
+    /// The id of the argument behind so many others.
+    pub fn argument(&self, id: u32, count: usize) -> Option<u32>
+        requires { id < length self.now }
+        ensures is { option_map (tree_at self.now) result
+            ≡ argument_at (tree_at self.now id) (count + 1) }
+        ensures there { IfSome result (λ part. part < length self.now) }
+    {
+        match self.node(id) {
+            Node::Var(_) => None,
+            Node::App(_, args) => args.as_slice().get(count).copied(),
+        }
+    }
+
     /// The id of the argument at a place.
-    fn argument(&self, id: u32, place: u8) -> Option<u32>
+    fn argument_at(&self, id: u32, place: u8) -> Option<u32>
         requires { id < length self.now }
         ensures is { option_map (tree_at self.now) result
             ≡ argument_at (tree_at self.now id) place }
         ensures there { IfSome result (λ part. part < length self.now) }
     {
-        match self.node(id) {
-            Node::Var(_) => None,
-            Node::App(_, args) => {
-                if place == 0 {
-                    return None;
-                }
-                args.as_slice().get(usize::from(place - 1)).copied()
-            }
+        if place == 0 {
+            return None;
         }
+        self.argument(id, usize::from(place - 1))
     }
 
     /// The id of the subterm at a position.
@@ -38,7 +46,7 @@ impl Pool {
     {
         let mut current = id;
         for place in places {
-            match self.argument(current, *place) {
+            match self.argument_at(current, *place) {
                 None => return None,
                 Some(next) => current = next,
             }
@@ -68,7 +76,7 @@ impl Pool {
         match places {
             [] => Ok(by),
             [place, rest @ ..] => {
-                let Some(part) = self.argument(id, *place) else {
+                let Some(part) = self.argument_at(id, *place) else {
                     unreachable!();
                 };
                 let changed = self.put(alloc, part, rest, by)?;

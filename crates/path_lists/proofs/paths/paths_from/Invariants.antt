@@ -3,7 +3,7 @@ use Rattle.trs_core.specs.View.{tree}
 use Rattle.term_pool.specs.Pooled.{Extends}
 use Rattle.term_pool.specs.ListedIds.{listed_at}
 use Rattle.path_lists.specs.Adding.{most_ids}
-use Rattle.path_lists.specs.NormalEnds.{AreNormalEnds}
+use Rattle.path_lists.specs.KnownEnds.{AreKnownEnds}
 use Rattle.path_lists.proofs.PathLaws.{IsLookedAt}
 use Rattle.path_lists.proofs.paths.paths_from.Given as goal
 
@@ -18,5 +18,5 @@ invariant-loop-next l = record {
   room : most_ids l.pool l.paths.items ≤ length l.fn.pool + 1114112;
   next : l.next ≤ length l.paths.items;
   short : length l.paths.items ≤ 256;
-  normal : AreNormalEnds l.trs.rules l.pool l.normal;
+  ends : AreKnownEnds l.trs.rules l.pool l.ends;
 }
