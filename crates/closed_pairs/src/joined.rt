@@ -10,7 +10,7 @@ use crate::covering::joined_list_concludes;
 use crate::ends::{ItemPath, meet};
 use crate::pooled::pooled_peaks_are_joined;
 use crit_pairs::PooledPeaks;
-use rewrite_core::{CheckFault, Join, Peak, StepRefused, Top};
+use rewrite_core::{CheckFault, Join, Peak, PeakSide, StepRefused, Top};
 use std::alloc::Global;
 use trs_core::Trs;
 
@@ -79,12 +79,12 @@ pub fn peak_is_joined<T: Top>(
     ensures answers { Answers (joins trs.now.rules n peak.now join.now) result }
 {
     let left = ItemPath {
-        start: &peak.left,
+        start: peak.left.term(),
         steps: &join.left,
         number: 0,
     };
     let right = ItemPath {
-        start: &peak.right,
+        start: peak.right.term(),
         steps: &join.right,
         number: 1,
     };

@@ -15,7 +15,7 @@ use crate::ends::{ItemPath, end_of, run, same_ends};
 use crate::linear::left_linear_check;
 use crate::pooled_closings::pooled_peaks_are_closed;
 use crit_pairs::PooledPeaks;
-use rewrite_core::{CheckFault, PathStep, Peak, StepRefused, Top};
+use rewrite_core::{CheckFault, PathStep, Peak, PeakSide, StepRefused, Top};
 use std::alloc::Global;
 use trs_core::Trs;
 
@@ -101,13 +101,14 @@ fn peak_is_closed<T: Top>(
     if !is_parallel(path) {
         return Err(CheckFault::Refused(StepRefused::NotParallel(n)));
     }
+    let left = peak.left.term();
     let path = ItemPath {
-        start: &peak.left,
+        start: left,
         steps: path,
         number: 0,
     };
     let made = run(alloc, trs, n, &path)?;
-    same_ends(end_of(&peak.left, &made), &peak.right, n)
+    same_ends(end_of(left, &made), peak.right.term(), n)
 }
 
 /// Whether the path is one parallel step, written from the left: each position stands before the

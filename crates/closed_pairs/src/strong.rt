@@ -12,7 +12,7 @@ use crate::counting::peaks_for;
 use crate::covering::strong_list_concludes;
 use crate::ends::{ItemPath, meet};
 use crate::linear_check;
-use rewrite_core::{CheckFault, PathStep, Peak, StepRefused, Top, copy_path};
+use rewrite_core::{CheckFault, PathStep, Peak, PeakSide, StepRefused, Top, copy_path};
 use std::alloc::Global;
 use std::marker::Model;
 use trs_core::{OutOfMemory, Trs};
@@ -110,23 +110,23 @@ fn peak_is_joined_strongly<T: Top>(
     ensures { Answers (joins_strongly trs.now.rules n peak.now four.now) result }
 {
     let left_u = ItemPath {
-        start: &peak.left,
+        start: peak.left.term(),
         steps: &four.left_u,
         number: 0,
     };
     let right_u = ItemPath {
-        start: &peak.right,
+        start: peak.right.term(),
         steps: &four.right_u,
         number: 1,
     };
     half(alloc, trs, n, &left_u, &right_u)?;
     let right_v = ItemPath {
-        start: &peak.right,
+        start: peak.right.term(),
         steps: &four.right_v,
         number: 2,
     };
     let left_v = ItemPath {
-        start: &peak.left,
+        start: peak.left.term(),
         steps: &four.left_v,
         number: 3,
     };

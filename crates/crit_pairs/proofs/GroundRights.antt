@@ -1,5 +1,5 @@
 -- Right sides with no variable: rules and ids come to them, and peaks at the root have them as results.
-use Rattle.std.proofs.Common.{◌≡◌, ◌<◌, inl, inr, ℕ, ◌+◌, List, [], ◌∷◌, ◌++◌, take, length, length-append, get_or, Bool, true, false, Option, Some, None, IfSome, refl, ap, sym, ◌∙◌, subst, arith}
+use Rattle.std.proofs.Common.{◌≡◌, ◌<◌, inl, inr, ℕ, ◌+◌, List, [], ◌∷◌, ◌++◌, take, length, length-append, get_or, slice_get, Bool, true, false, Option, Some, None, IfSome, refl, ap, sym, ◌∙◌, subst, arith}
 use Rattle.std.proofs.lemmas.List.{take_more}
 use Rattle.std.proofs.lemmas.Option.{slice_get_within}
 use Rattle.std.proofs.lemmas.Bool.{or_parts}
@@ -53,24 +53,33 @@ rights_still rules pool next sides more h = record {
       record { stands = more.kept side.id r.right g.stands; ground = g.ground; small = g.small; size = g.size };
 }
 
+-- each item is of the rule with its number
+abbrev pub AreOfRules : {X : Type 0} → (RewriteRule → X → Type 0) → List RewriteRule → List (Option X) → Type 0
+AreOfRules {X} of_rule rules items = (k : ℕ) (item : X) (r : RewriteRule) → slice_get items k ≡ Some (Some item) → slice_get rules k ≡ Some r → of_rule r item
+
 -- one rule more
+pub item_behind : {X : Type 0} (of_rule : RewriteRule → X → Type 0) (rules : List RewriteRule) (r : RewriteRule) (items : List (Option X)) (item : Option X) → length items ≡ length rules
+    → IfSome item (of_rule r) → AreOfRules of_rule rules items → AreOfRules of_rule (rules ++ r ∷ []) (items ++ item ∷ [])
+item_behind {X} of_rule rules r items item count some h k s x at there =
+    elim (item_of_more items item (Some s) k at) as (λ _. of_rule x s) [
+      | inl old ↦ elim (item_of_more rules r x k there) as (λ _. of_rule x s) [
+        | inl known ↦ h k s x old known
+        | inr (last, is) ↦ absurd (omega (arith, slice_get_within items k (Some s) old, last, count))
+      ]
+      | inr (final, one) ↦ elim (item_of_more rules r x k there) as (λ _. of_rule x s) [
+        | inl known ↦ absurd (omega (arith, slice_get_within rules k x known, final, count))
+        | inr (last, is) ↦ (
+            let S : Option X → Type 0 = λ o. IfSome o (of_rule r) in
+            let R : RewriteRule → Type 0 = λ z. of_rule z s in
+            subst R (sym is) (subst S (sym one) some))
+      ]
+    ]
+
 rights_behind : (rules : List RewriteRule) (r : RewriteRule) (pool : List Tree) (sides : List (Option GroundSide)) (side : Option GroundSide) → IfSome side (IsGroundSide pool r.right)
     → AreGroundRights rules pool sides → AreGroundRights (rules ++ r ∷ []) pool (sides ++ side ∷ [])
 rights_behind rules r pool sides side some h = record {
   count = omega (arith, h.count, length-append rules (r ∷ []), length-append sides (side ∷ []));
-  each = λ k s x at there. elim (item_of_more sides side (Some s) k at) as (λ _. IsGroundSide pool x.right s) [
-    | inl old ↦ elim (item_of_more rules r x k there) as (λ _. IsGroundSide pool x.right s) [
-      | inl known ↦ h.each k s x old known
-      | inr (last, is) ↦ absurd (omega (arith, slice_get_within sides k (Some s) old, last, h.count))
-    ]
-    | inr (final, one) ↦ elim (item_of_more rules r x k there) as (λ _. IsGroundSide pool x.right s) [
-      | inl known ↦ absurd (omega (arith, slice_get_within rules k x known, final, h.count))
-      | inr (last, is) ↦ (
-          let S : Option GroundSide → Type 0 = λ o. IfSome o (IsGroundSide pool r.right) in
-          let R : RewriteRule → Type 0 = λ z. IsGroundSide pool z.right s in
-          subst R (sym is) (subst S (sym one) some))
-    ]
-  ];
+  each = item_behind (λ (z : RewriteRule). IsGroundSide pool z.right) rules r sides side h.count some h.each;
 }
 
 pub one_right_more : (rules : List RewriteRule) (k : ℕ) (rule : RewriteRule) (pool next : List Tree) (old new : List (Option GroundSide)) (side : Option GroundSide) → k < length rules

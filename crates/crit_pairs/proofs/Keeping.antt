@@ -19,13 +19,13 @@ use Rattle.crit_pairs.specs.declared.faults.PeakFault.TheVariants as peak
 use Rattle.crit_pairs.proofs.SpotWalk.{OverlapsUnify, stays, goes_on, stops_here, spots_by, moves_to_root, listed_all}
 
 -- nothing is done
-pub still_kept : {T : Type 0} (rules : List RewriteRule) (peaks : Peaks T) (spots : List Spot) (before : List PlacedPeak) → Keeps peaks before → Reaches rules peaks.most before peaks.nodes spots peaks spots
+pub still_kept : {T S : Type 0} (rules : List RewriteRule) (peaks : Peaks T S) (spots : List Spot) (before : List PlacedPeak) → Keeps peaks before → Reaches rules peaks.most before peaks.nodes spots peaks spots
 still_kept rules peaks spots before h = record { all = before; keeps = h; same_most = refl; moves = stays rules before peaks.nodes spots }
 
 -- some more spots are done
-module _ {T : Type 0} (rules : List RewriteRule) (most : ℕ) (before : List PlacedPeak) (total : ℕ) (from left first rest : List Spot) (mid : Peaks T) (is : left ≡ first ++ rest)
+module _ {T S : Type 0} (rules : List RewriteRule) (most : ℕ) (before : List PlacedPeak) (total : ℕ) (from left first rest : List Spot) (mid : Peaks T S) (is : left ≡ first ++ rest)
     (was : Reaches rules most before total from mid left) where
-  pub kept_on : (new : Peaks T) → Adds rules mid first new → Reaches rules most before total from new rest
+  pub kept_on : (new : Peaks T S) → Adds rules mid first new → Reaches rules most before total from new rest
   kept_on new adds =
       let h = adds was.all was.keeps in
       record {
@@ -39,12 +39,12 @@ module _ {T : Type 0} (rules : List RewriteRule) (most : ℕ) (before : List Pla
   kept_stops fault stop = stops_here rules before was.all total mid.nodes from left first rest is was.moves fault (stop was.all was.keeps)
 
 -- only the rules with the part's root are left
-pub kept_to_root : {T : Type 0} → OverlapsUnify → (system : System) → IsSystem system → HaveSmallVariables system.rules → (j : ℕ) (p : List ℕ) (part : Tree) → IsPartOf system.rules j p part → (f : ℕ) → IsTrue (has_root f part)
-    → (peaks : Peaks T) (before : List PlacedPeak) → Keeps peaks before → Reaches system.rules peaks.most before peaks.nodes (spots_at j p 0 system.rules) peaks (spots_by j p (with_root f system.rules))
+pub kept_to_root : {T S : Type 0} → OverlapsUnify → (system : System) → IsSystem system → HaveSmallVariables system.rules → (j : ℕ) (p : List ℕ) (part : Tree) → IsPartOf system.rules j p part → (f : ℕ) → IsTrue (has_root f part)
+    → (peaks : Peaks T S) (before : List PlacedPeak) → Keeps peaks before → Reaches system.rules peaks.most before peaks.nodes (spots_at j p 0 system.rules) peaks (spots_by j p (with_root f system.rules))
 kept_to_root unified system valid small j p part at f root peaks before h =
     record { all = before; keeps = h; same_most = refl; moves = moves_to_root unified system valid small j p part at f root before peaks.nodes }
 
-pub nothing_kept : {T : Type 0} (rules : List RewriteRule) (spots : List Spot) (peaks : Peaks T) → peaks.list.items ≡ [] → peaks.count ≡ 0 → peaks.nodes ≡ 0 → Reaches rules peaks.most [] 0 spots peaks spots
+pub nothing_kept : {T S : Type 0} (rules : List RewriteRule) (spots : List Spot) (peaks : Peaks T S) → peaks.list.items ≡ [] → peaks.count ≡ 0 → peaks.nodes ≡ 0 → Reaches rules peaks.most [] 0 spots peaks spots
 nothing_kept rules spots peaks none no_count no_nodes = record {
   all = [];
   keeps = record { kept = none ∙ sym (take_all peaks.most [] (omega arith)); counted = no_count; few = omega (arith, no_count); within = omega (arith, no_nodes) };
@@ -81,7 +81,7 @@ one_node : (t : Tree) → 1 ≤ size_of t
 one_node (var v) = omega arith
 one_node (app f ts) = omega arith
 
-module _ {T : Type 0} (rules : List RewriteRule) (peaks new : Peaks T) (before : List PlacedPeak) (h : Keeps peaks before) (spots : List Spot) (p : PlacedPeak)
+module _ {T S : Type 0} (rules : List RewriteRule) (peaks new : Peaks T S) (before : List PlacedPeak) (h : Keeps peaks before) (spots : List Spot) (p : PlacedPeak)
     (same : new.most ≡ peaks.most) (count : new.count ≡ min (peaks.count + 1) 18446744073709551615) (limits : KeepsLimits peaks.nodes new.nodes p.top p.left p.right)
     (moves : Moves rules before peaks.nodes spots (before ++ p ∷ []) new.nodes []) where
   more_count : new.count ≡ peaks.count + 1
@@ -112,23 +112,23 @@ module _ {T : Type 0} (rules : List RewriteRule) (peaks new : Peaks T) (before :
   one_listed is free = one_kept (is ∙ room peaks.most before p peaks.list.items h.kept free)
 
 -- no peak is here
-pub none_kept : {T : Type 0} (rules : List RewriteRule) (peaks : Peaks T) (spots : List Spot) (before : List PlacedPeak) → Keeps peaks before
+pub none_kept : {T S : Type 0} (rules : List RewriteRule) (peaks : Peaks T S) (spots : List Spot) (before : List PlacedPeak) → Keeps peaks before
     → Moves rules before peaks.nodes spots before peaks.nodes [] → Reaches rules peaks.most before peaks.nodes spots peaks []
 none_kept rules peaks spots before h moves = record { all = before; keeps = h; same_most = refl; moves = moves }
 
 -- want of memory says nothing
-pub memory_ends : {T : Type 0} (rules : List RewriteRule) (peaks : Peaks T) (spots : List Spot) → StopsAt rules peaks spots peak.OutOfMemory
+pub memory_ends : {T S : Type 0} (rules : List RewriteRule) (peaks : Peaks T S) (spots : List Spot) → StopsAt rules peaks spots peak.OutOfMemory
 memory_ends rules peaks spots = λ other. absurd (other refl)
 
 -- no outer rule is left
-pub kept_all : {T : Type 0} (rules : List RewriteRule) (most : ℕ) (found : Peaks T) (j : ℕ) → length rules ≤ j → Reaches rules most [] 0 (spots rules) found (spots_from rules j (drop j rules)) → HasFirst rules most found
+pub kept_all : {T S : Type 0} (rules : List RewriteRule) (most : ℕ) (found : Peaks T S) (j : ℕ) → length rules ≤ j → Reaches rules most [] 0 (spots rules) found (spots_from rules j (drop j rules)) → HasFirst rules most found
 kept_all rules most found j h r = record { all = r.all; lists = listed_all rules r.all found.nodes j h r.moves; keeps = r.keeps; same_most = r.same_most }
 
 -- all are kept where they are no more than asked for
-pub all_kept : {T : Type 0} (rules : List RewriteRule) (most : ℕ) (found : Peaks T) → HasFirst rules most found → found.count ≤ most → ListsPeaks rules (Ok found.list.items)
+pub all_kept : {T S : Type 0} (rules : List RewriteRule) (most : ℕ) (found : Peaks T S) → HasFirst rules most found → found.count ≤ most → ListsPeaks rules (Ok found.list.items)
 all_kept rules most found h within =
     let same : found.list.items ≡ h.all = h.keeps.kept ∙ take_all found.most h.all (omega (arith, h.same_most, h.keeps.counted, within)) in
     subst (λ list. ListsPeaks rules (Ok list)) (sym same) h.lists
 
-pub few_found : {T : Type 0} (rules : List RewriteRule) (most : ℕ) (found : Peaks T) → HasFirst rules most found → found.count ≤ 4194304
+pub few_found : {T S : Type 0} (rules : List RewriteRule) (most : ℕ) (found : Peaks T S) → HasFirst rules most found → found.count ≤ 4194304
 few_found rules most found h = omega (arith, h.keeps.few, h.keeps.within)

@@ -1,13 +1,15 @@
-ghost use Rattle.std.specs.Prelude.{◌≡◌, ◌<◌, Some, All, IfOk, length, slice_get};
+ghost use Rattle.std.specs.Prelude.{◌≡◌, ◌<◌, Some, All, IfOk, IfSome, length, slice_get};
 ghost use Rattle.trs_defs.specs.System.{RewriteRule, IsSystem};
 ghost use Rattle.trs_core.specs.SystemLimits.{HasSmallVariables, HaveSmallVariables};
 ghost use Rattle.term_pool.specs.Roots.{with_root};
 ghost use Rattle.crit_pairs.specs.Apart.{renamed_apart, AreApart, HaveSkeletons};
 ghost use Rattle.crit_pairs.specs.Skeletons.{opened};
 ghost use Rattle.crit_pairs.specs.SkeletonView.{skeleton_view};
+ghost use Rattle.crit_pairs.specs.WholeSides.{IsRightOf};
 
 use crate::occurrences::Occurrences;
 use crate::skeleton::Skeleton;
+use crate::whole_sides::{WholeSide, whole_sides};
 use std::alloc::Global;
 use std::marker::Model;
 use term_pool::RulesByRoot;
@@ -15,19 +17,22 @@ use trs_core::{MOST_VARIABLES, OutOfMemory, Rule, Trs};
 use trs_unify::rename_apart;
 
 /// A system with its rules by the roots of their left sides, with a copy of each rule whose variables
-/// are renamed apart from those of all rules, with the skeletons of the left sides, and with how often
-/// variables occur. It is made once for all overlaps. Contracts see it as the system.
+/// are renamed apart from those of all rules, with the skeletons of the left sides, with the right sides
+/// that peaks share, and with how often variables occur. It is made once for all overlaps. Contracts see
+/// it as the system.
 #[derive(Drop)]
 pub(crate) struct RulesApart<'a> {
     by_root: RulesByRoot<'a>,
     apart: Vec<Rule>,
     skeletons: Vec<Skeleton>,
+    whole_sides: Vec<Option<WholeSide>>,
     occurrences: Occurrences,
 }
 
 impl<'a> Model for RulesApart<'a> {
     ghost use Rattle.trs_defs.specs.System.{System, system_code};
     ghost use Rattle.crit_pairs.specs.Apart.{AreApart, HaveSkeletons};
+    ghost use Rattle.crit_pairs.specs.WholeSides.{AreWholeSides};
 
     ghost Value = { System };
 
@@ -36,7 +41,8 @@ impl<'a> Model for RulesApart<'a> {
     ghost view = { λ a. a.by_root };
 
     ghost invariant = { λ a. AreApart a.by_root.rules a.apart.items
-        × HaveSkeletons a.by_root.rules a.skeletons.items };
+        × (HaveSkeletons a.by_root.rules a.skeletons.items
+        × AreWholeSides a.by_root.rules a.whole_sides.items) };
 }
 
 impl<'a> RulesApart<'a> {
@@ -51,6 +57,7 @@ impl<'a> RulesApart<'a> {
             by_root: RulesByRoot::new(alloc, trs)?,
             apart,
             skeletons,
+            whole_sides: whole_sides(alloc, trs.rules())?,
             occurrences,
         })
     }
@@ -79,6 +86,16 @@ impl<'a> RulesApart<'a> {
             → skeleton_view result.now ≡ opened r.left }
     {
         &self.skeletons[i]
+    }
+
+    /// The right side of rule `i`, if peaks share it.
+    pub fn whole_side(&self, i: usize) -> Option<&WholeSide>
+        ensures { IfSome result (λ side. IsRightOf self.now.rules i side.now) }
+    {
+        match self.whole_sides.get(i) {
+            Some(side) => side.as_ref(),
+            None => None,
+        }
     }
 
     /// Whether few variables occur in rules `i` and `j`.

@@ -1,20 +1,19 @@
 //! The two results of one critical peak as a pair of ids.
 ghost use Rattle.std.specs.Prelude.{◌<◌, All, IfOk};
-ghost use Rattle.trs_defs.specs.Substitution.{apply};
 ghost use Rattle.trs_core.specs.SystemLimits.{HaveSmallVariables};
 ghost use Rattle.trs_core.specs.View.{tree};
 ghost use Rattle.term_pool.specs.Pooled.{Extends, StandsFor};
 ghost use Rattle.crit_pairs.specs.Overlapping.{substitution};
 ghost use Rattle.crit_pairs.specs.Prepared.{ArePrepared};
 ghost use Rattle.crit_pairs.specs.GroundSides.{AreGroundRights};
-ghost use Rattle.crit_pairs.specs.MadePairs.{spot, UnifiesAt, IsMade, CountsTop};
+ghost use Rattle.crit_pairs.specs.MadePairs.{spot, UnifiesAt, IsMade};
 
 use crate::PeakFault;
 use crate::contracting::contract;
-use crate::ground_sides::{GroundResults, GroundSide, ground_results};
+use crate::ground_sides::{GroundSide, ground_results};
 use crate::overlapping::OverlapUnifier;
 use crate::prepared::PreparedRules;
-use crate::sides::{count_nodes, small_size, within_most};
+use crate::sides::{count_nodes, count_top};
 use crate::table::PeakPair;
 use crate::unbuilt::results;
 use std::alloc::Global;
@@ -56,7 +55,8 @@ pub(crate) fn make_pair(
         None => build_pair(alloc, rules, prepared, j, i, place, unifier, pool, nodes),
         Some(found) => {
             let outer = &rules[j];
-            let total = count_top(unifier, &outer.left, found, nodes)?;
+            let (left, right) = (found.left.size, found.right.size);
+            let total = count_top(unifier, &outer.left, left, right, nodes)?;
             let pair = PeakPair {
                 left: found.left.id,
                 right: found.right.id,
@@ -68,25 +68,6 @@ pub(crate) fn make_pair(
             })
         }
     }
-}
-
-/// The number of nodes of all peaks, where the next one is the instance of a top and these results.
-fn count_top(
-    unifier: &OverlapUnifier,
-    top: &Term,
-    found: GroundResults,
-    nodes: u64,
-) -> Result<u64, PeakFault>
-    ensures { IfOk result (CountsTop (apply (substitution unifier.now) (tree top.now))
-        found.left.size found.right.size nodes) }
-{
-    let Some(size) = small_size(unifier, top) else {
-        return Err(PeakFault::TooLarge);
-    };
-    let more = size
-        .saturating_add(found.left.size)
-        .saturating_add(found.right.size);
-    within_most(nodes.saturating_add(more))
 }
 
 /// The same pair, where the results are built.

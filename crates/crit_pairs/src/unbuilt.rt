@@ -12,7 +12,8 @@ use crate::meeting::Binding;
 use crate::overlapping::OverlapUnifier;
 use crate::sides::{PeakTop, Sides};
 use crate::solved;
-use rewrite_core::Top;
+use crate::whole_sides::WholeSide;
+use rewrite_core::{SharedSide, Top};
 use std::alloc::Global;
 use std::snapshot::Snapshot;
 use trs_core::{OutOfMemory, Term};
@@ -41,6 +42,8 @@ pub struct UnbuiltTop {
 
 impl Top for UnbuiltTop {
     ghost use Rattle.crit_pairs.specs.UnbuiltTop.{unbuilt_tree};
+
+    type Side = SharedSide;
 
     ghost top_tree = { unbuilt_tree };
 }
@@ -108,9 +111,13 @@ impl PeakTop for UnbuiltTop {
         let (first, second) = results(alloc, unifier, top, left, right)?;
         Ok(Sides {
             top: UnbuiltTop::of(alloc, unifier, top)?,
-            left: first,
-            right: second,
+            left: SharedSide::Own(first),
+            right: SharedSide::Own(second),
         })
+    }
+
+    fn whole(_alloc: Global, side: &WholeSide) -> Result<SharedSide, OutOfMemory> {
+        side.share()
     }
 }
 

@@ -1,10 +1,13 @@
+use crate::checks::{PeakSide, SharedSide};
 use std::marker::Model;
 use trs_core::{Position, Term};
 
 /// The top of a peak: a term, or what stands for one that is not built, since no check looks at it.
-/// Contracts see its tree.
+/// Contracts see its tree. It tells how the sides of the peak are held.
 pub trait Top {
     ghost use Rattle.trs_defs.specs.Tree.{Tree};
+
+    type Side: PeakSide;
 
     ghost top_tree: { Self → Tree };
 }
@@ -12,7 +15,45 @@ pub trait Top {
 impl Top for Term {
     ghost use Rattle.trs_core.specs.View.{tree};
 
+    type Side = Term;
+
     ghost top_tree = { tree };
+}
+
+/// A top that is built.
+pub trait BuiltTop: Top {
+    ghost use Rattle.std.specs.Prelude.{◌≡◌};
+    ghost use Rattle.trs_core.specs.View.{tree};
+
+    /// The term of the top.
+    fn top_term(&self) -> &Term
+        ensures { tree result.now ≡ Self.top_tree self.now };
+}
+
+impl BuiltTop for Term {
+    fn top_term(&self) -> &Term {
+        self
+    }
+}
+
+/// A top that is built, of a peak whose sides other peaks may share.
+#[derive(Drop)]
+pub struct TermTop {
+    pub term: Term,
+}
+
+impl Top for TermTop {
+    ghost use Rattle.rewrite_core.specs.SharedSide.{built_tree};
+
+    type Side = SharedSide;
+
+    ghost top_tree = { built_tree };
+}
+
+impl BuiltTop for TermTop {
+    fn top_term(&self) -> &Term {
+        &self.term
+    }
 }
 
 /// A peak of two rules, whose numbers count from 0: the inner rule leads from the top to the left,
@@ -20,8 +61,8 @@ impl Top for Term {
 #[derive(Drop)]
 pub struct Peak<T: Top = Term> {
     pub top: T,
-    pub left: Term,
-    pub right: Term,
+    pub left: T::Side,
+    pub right: T::Side,
     pub outer: u32,
     pub inner: u32,
     pub place: Position,
@@ -29,7 +70,6 @@ pub struct Peak<T: Top = Term> {
 
 impl<T: Top> Model for Peak<T> {
     ghost use Rattle.rewrite_core.specs.PlacedPeak.{PlacedPeak, peak_code};
-    ghost use Rattle.trs_core.specs.View.{tree};
 
     ghost Value = { PlacedPeak };
 
@@ -40,7 +80,7 @@ impl<T: Top> Model for Peak<T> {
       place = a.place;
       inner = a.inner;
       top = T.top_tree a.top;
-      left = tree a.left;
-      right = tree a.right;
+      left = T.Side.side_tree a.left;
+      right = T.Side.side_tree a.right;
     } };
 }

@@ -22,7 +22,7 @@ returns-in_ok-total-in-Some-clause-made c =
     let found = c.in-Some.found in
     let C : Tree → Type 0 = λ t. CountsTop (apply (substitution c.args.unifier.now) t) found.left.size found.right.size c.args.nodes c.in_ok-total-in-Some.total in
     pair_there c.args.rules.now c.args.j c.args.i c.args.place.now (substitution c.args.unifier.now) u c.requires.small c.args.rights.now c.args.pool.now found.left found.right c.requires.rights
-    (rw c.in-Some.is at c.ground_results.ensures) c.args.nodes _ refl refl (subst C left_is c.in_ok-total-in-Some.ensures)
+    (rw c.in-Some.is at c.ground_results.ensures) c.args.nodes _ refl refl (subst C left_is c.in_ok-total-in-Some.ensures.counted)
 
 pub returns-in_ok-total-in-Some-clause-kept : goal.returns-in_ok-total-in-Some-clause-kept
 returns-in_ok-total-in-Some-clause-kept c = extends_itself c.args.pool.now

@@ -8,5 +8,5 @@ returns c = λ rule numbered.
     let rules = c.self.inside.by_root.rules in
     let inside : c.args.i < length rules = rw c.self.view_is c.requires in
     let there : slice_get rules c.args.i ≡ Some rule = rw c.self.view_is numbered in
-    let count = skeletons_count skeletons rules c.self.invariant.1 in
-    skeleton_read skeletons rules c.args.i c.index.result.now rule c.self.invariant.1 (omega (arith, inside, count)) c.index.ensures there
+    let count = skeletons_count skeletons rules c.self.invariant.1.0 in
+    skeleton_read skeletons rules c.args.i c.index.result.now rule c.self.invariant.1.0 (omega (arith, inside, count)) c.index.ensures there

@@ -1,0 +1,7 @@
+use Rattle.crit_pairs.proofs.WholeLaws.{both_whole}
+use Rattle.crit_pairs.proofs.results.results_at.Goals as goal
+
+pub returns-in-Some : goal.returns-in-Some
+returns-in-Some c =
+    both_whole c.args.rules.now.rules c.args.outer.now c.args.inner.now c.requires.inner.0 c.args.place.now c.args.j c.args.i c.in-Some.left c.in-Some.right
+    c.requires.outer c.requires.inner.1 c.requires.inner.2 c.in-Some.ensures

@@ -1,0 +1,126 @@
+//! The results of one critical peak: instances that are built, or whole right sides that are shared.
+ghost use Rattle.std.specs.Prelude.{◌≡◌, ◌≢◌, ◌<◌, All, IfOk, IfErr, IfSome, None, Some, slice_get};
+ghost use Rattle.trs_defs.specs.Position.{subterm_at};
+ghost use Rattle.trs_defs.specs.Substitution.{apply};
+ghost use Rattle.trs_defs.specs.System.{RewriteRule};
+ghost use Rattle.crit_pairs.specs.Apart.{renamed_apart};
+ghost use Rattle.crit_pairs.specs.Overlapping.{substitution};
+ghost use Rattle.crit_pairs.specs.Sides.{AreRenumbered, KeepsLimits, PassesLimit};
+ghost use Rattle.crit_pairs.specs.WholeSides.{HaveWholeResults, AreResults, AreWhole, reduct_of};
+
+use crate::PeakFault;
+use crate::apart::RulesApart;
+use crate::contracting::contract;
+use crate::overlapping::OverlapUnifier;
+use crate::sides::{PeakTop, Sides, count_nodes, count_top};
+use crate::whole_sides::WholeSide;
+use std::alloc::Global;
+use trs_core::{Args, OutOfMemory, Rule, Term};
+
+/// The results of two rules, of which those of their peak are instances.
+#[derive(Drop)]
+pub(crate) enum Results<'a> {
+    /// The reduct of the outer left side, and the outer right side.
+    Contracted(Term),
+    /// Both right sides, which have no variable.
+    Whole(&'a WholeSide, &'a WholeSide),
+}
+
+/// The results of rule `i` in rule `j` at a place.
+pub(crate) fn results_at<'a>(
+    alloc: Global,
+    rules: &'a RulesApart,
+    j: usize,
+    outer: &Rule,
+    i: usize,
+    inner: &Rule,
+    place: &[u8],
+) -> Result<Results<'a>, OutOfMemory>
+    requires outer { slice_get rules.now.rules j ≡ Some outer.now }
+    requires inner { (r : RewriteRule) × (slice_get rules.now.rules i ≡ Some r)
+        × (inner.now ≡ renamed_apart r) }
+    requires there { subterm_at place.now outer.now.left ≢ None }
+    requires positive { All (λ n. 0 < n) place.now }
+    ensures { IfOk result (AreResults outer.now inner.now place.now) }
+{
+    match whole_results(rules, j, i, place) {
+        Some((left, right)) => Ok(Results::Whole(left, right)),
+        None => Ok(Results::Contracted(contract(alloc, outer, place, inner)?)),
+    }
+}
+
+/// The right sides of two rules, if this is the root and peaks share both.
+fn whole_results<'a>(
+    rules: &'a RulesApart,
+    j: usize,
+    i: usize,
+    place: &[u8],
+) -> Option<(&'a WholeSide, &'a WholeSide)>
+    ensures { IfSome result (λ found.
+        HaveWholeResults rules.now.rules place.now i j found.0.now found.1.now) }
+{
+    if !place.is_empty() {
+        return None;
+    }
+    let left = rules.whole_side(i)?;
+    let right = rules.whole_side(j)?;
+    Some((left, right))
+}
+
+/// The number of nodes of all peaks, where the peaks before have so many and the next one has these
+/// results. They are not built.
+pub(crate) fn count_peak(
+    unifier: &OverlapUnifier,
+    outer: &Rule,
+    results: &Results,
+    nodes: u64,
+) -> Result<u64, PeakFault>
+    requires whole { AreWhole outer.now.right results.now }
+    ensures limits { IfOk result (λ total. KeepsLimits nodes total
+        (apply (substitution unifier.now) outer.now.left)
+        (apply (substitution unifier.now) (reduct_of results.now))
+        (apply (substitution unifier.now) outer.now.right)) }
+    ensures fault { IfErr result (λ fault. PassesLimit fault nodes
+        (apply (substitution unifier.now) outer.now.left)
+        (apply (substitution unifier.now) (reduct_of results.now))
+        (apply (substitution unifier.now) outer.now.right)) }
+{
+    match results {
+        Results::Contracted(reduct) => {
+            count_nodes(unifier, &outer.left, reduct, &outer.right, nodes)
+        }
+        Results::Whole(left, right) => {
+            count_top(unifier, &outer.left, left.size, right.size, nodes)
+        }
+    }
+}
+
+/// The three terms of the peak. A constant stands in for whole results, since it has no variable to
+/// be numbered either.
+pub(crate) fn peak_sides<T: PeakTop>(
+    alloc: Global,
+    unifier: &OverlapUnifier,
+    outer: &Rule,
+    results: &Results,
+) -> Result<Sides<T>, OutOfMemory>
+    requires whole { AreWhole outer.now.right results.now }
+    ensures { IfOk result (λ s. AreRenumbered
+        (apply (substitution unifier.now) outer.now.left)
+        (apply (substitution unifier.now) (reduct_of results.now))
+        (apply (substitution unifier.now) outer.now.right)
+        (T.top_tree s.top) (T.Side.side_tree s.left) (T.Side.side_tree s.right)) }
+{
+    match results {
+        Results::Contracted(reduct) => T::sides(alloc, unifier, &outer.left, reduct, &outer.right),
+        Results::Whole(left, right) => {
+            let items = Vec::new(alloc);
+            let constant = Term::App(0, Args { items });
+            let beside = T::sides(alloc, unifier, &outer.left, &constant, &constant)?;
+            Ok(Sides {
+                top: beside.top,
+                left: T::whole(alloc, left)?,
+                right: T::whole(alloc, right)?,
+            })
+        }
+    }
+}
