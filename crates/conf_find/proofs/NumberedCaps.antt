@@ -2,13 +2,13 @@
 use Rattle.std.specs.Prelude.{◌≡◌, ◌<◌, ◌≤◌, ◌+◌, ℕ, true, All, List, [], ◌∷◌, ◌++◌, map, take, length, Option, None, Some, get_or, slice_get, refl, Result, Ok, Err, IfOk, OnOk}
 use Rattle.std.proofs.Common.{zero, suc, ap, sym, ◌∙◌, subst, arith, inl, inr, nat_eq, add-one}
 use Rattle.std.specs.HashMap.{get, Updates}
-use Rattle.std.specs.Option.{option_map, option_and_then}
+use Rattle.std.specs.Option.{option_map}
 use Rattle.std.proofs.lemmas.List.{take_all, take_more, map-append}
 use Rattle.std.proofs.lemmas.List.Elements.{All-push, All-weaker}
 use Rattle.trs_defs.specs.Tree.{Tree, Trees, var, app, nil, cons, trees, items, count, trees_items}
 use Rattle.trs_defs.specs.Variable.{IsVariable}
 use Rattle.trs_defs.specs.Size.{size_of, size_of_all}
-use Rattle.trs_defs.specs.Position.{argument_at, subterm_at}
+use Rattle.trs_defs.specs.Position.{argument_at}
 use Rattle.trs_defs.specs.System.{RewriteRule}
 use Rattle.term_pool.specs.Pooled.{tree_at}
 use Rattle.term_pool.specs.Redexes.{IsNarrow, AreNarrow}
@@ -135,20 +135,16 @@ own_over pool id n node (v, is, node_is) = rw node_is tt
 
 -- ---- arguments by their places
 
-at_end : (o : Option Tree) → option_and_then (subterm_at []) o ≡ o
-at_end None = refl
-at_end (Some t) = refl
-
 count_items : (ts : Trees) → length (items ts) ≡ count ts
 count_items nil = refl
 count_items (cons t ts) = omega (arith, count_items ts)
 
-module _ (pool : List Tree) (id i : ℕ) (places : List ℕ) (found : Option ℕ) (is : places ≡ (i + 1) ∷ []) (at : option_map (tree_at pool) found ≡ subterm_at places (tree_at pool id))
+module _ (pool : List Tree) (id i : ℕ) (found : Option ℕ) (at : option_map (tree_at pool) found ≡ argument_at (tree_at pool id) (i + 1))
     (f : ℕ) (ts : Trees) (term : tree_at pool id ≡ app f ts) where
   item_at : option_map (tree_at pool) found ≡ slice_get (items ts) i
   item_at =
       let argument : argument_at (app f ts) (i + 1) ≡ slice_get (items ts) i = rw add-one refl in
-      at ∙ (ap (λ p. subterm_at p (tree_at pool id)) is ∙ (ap (subterm_at ((i + 1) ∷ [])) term ∙ (at_end (argument_at (app f ts) (i + 1)) ∙ argument)))
+      at ∙ (ap (λ t. argument_at t (i + 1)) term ∙ argument)
 
   pub no_more_items : (ids : List ℕ) → found ≡ None → map (tree_at pool) ids ≡ take i (items ts) → map (tree_at pool) ids ≡ items ts
   no_more_items ids none so_far =

@@ -13,7 +13,6 @@ use crate::marks::Marks;
 use crate::shared_caps::SharedCaps;
 use std::alloc::Global;
 use std::collections::HashMap;
-use std::slice::from_ref;
 use term_pool::{Pool, RulesByRoot};
 use trs_core::{OutOfMemory, Term};
 
@@ -156,9 +155,8 @@ fn arguments(alloc: Global, pool: &Pool, id: u32) -> Result<Vec<u32>, OutOfMemor
     ensures there { IfOk result (λ ids. All (λ i. i < length pool.now) ids.items) }
 {
     let mut ids = Vec::new(alloc);
-    for i in 0..255u8 {
-        let place = i + 1;
-        let Some(arg) = pool.at(id, from_ref(&place)) else {
+    for i in 0..255 {
+        let Some(arg) = pool.argument(id, i) else {
             return Ok(ids);
         };
         ids.push(arg)?;

@@ -20,7 +20,7 @@ use crate::reached_sides::{ReachedSides, make_room};
 use crate::reaching::entry;
 use assign_search::{Search, Stop};
 use join_find::critical_peaks_have_sides;
-use rewrite_core::{ForkTest, PathStep, Peak};
+use rewrite_core::{BuiltTop, ForkTest, PathStep, Peak, PeakSide, Top};
 use std::alloc::Global;
 use term_pool::{Pool, RulesByRoot, ids_are_distinct};
 use trs_core::{OutOfMemory, Trs};
@@ -32,10 +32,10 @@ use trs_core::{OutOfMemory, Trs};
 /// `stop` is asked before the first peak and before each one. What a side reaches is found once for
 /// all its peaks, as long as not too much is kept, and a peak with the sides of the one before it is
 /// passed over.
-pub(crate) fn first_fork<M: Marks, P: Stop>(
+pub(crate) fn first_fork<M: Marks, P: Stop, T: BuiltTop>(
     alloc: Global,
     trs: &Trs,
-    peaks: &[Peak],
+    peaks: &[Peak<T>],
     stop: &mut P,
 ) -> Result<Search<ForkFound>, OutOfMemory>
     requires critical { ListsPeaks trs.now.rules (Ok peaks.now) }
@@ -51,7 +51,7 @@ pub(crate) fn first_fork<M: Marks, P: Stop>(
     let by_root = RulesByRoot::new(alloc, trs)?;
     let mut sides = ReachedSides::new(alloc);
     let mut marks = M::new(alloc);
-    let mut before: Option<&Peak> = None;
+    let mut before: Option<&Peak<T>> = None;
     for peak in peaks {
         if stop.stopped() {
             return Ok(Search::Stopped);
@@ -70,19 +70,19 @@ pub(crate) fn first_fork<M: Marks, P: Stop>(
 }
 
 /// Whether two peaks have the same sides.
-fn have_same_sides(a: &Peak, b: &Peak) -> bool
+fn have_same_sides<T: Top>(a: &Peak<T>, b: &Peak<T>) -> bool
     ensures { IsTrue result → HaveSameSides a.now b.now }
 {
-    a.left.same(&b.left) && a.right.same(&b.right)
+    a.left.term().same(b.left.term()) && a.right.term().same(b.right.term())
 }
 
 /// The fork of one peak, if there is one.
-fn fork_at<M: Marks>(
+fn fork_at<M: Marks, T: BuiltTop>(
     alloc: Global,
     sides: &mut ReachedSides,
     marks: &mut M,
     by_root: &RulesByRoot,
-    peak: &Peak,
+    peak: &Peak<T>,
 ) -> Result<Option<ForkFound>, OutOfMemory>
     requires peak { HasSides peak.now }
     requires sides { AreReached by_root.now.rules sides.old }
@@ -95,19 +95,19 @@ fn fork_at<M: Marks>(
         AreMarksOf M.has_mark M.of_pool by_root.now.rules sides.new marks.new) }
 {
     make_room(alloc, sides, marks);
-    let left = sides.list(alloc, by_root, peak.inner, &peak.left, marks)?;
-    let right = sides.list(alloc, by_root, peak.outer, &peak.right, marks)?;
+    let left = sides.list(alloc, by_root, peak.inner, peak.left.term(), marks)?;
+    let right = sides.list(alloc, by_root, peak.outer, peak.right.term(), marks)?;
     let lefts = sides.at(left);
     let rights = sides.at(right);
     fork_between(alloc, sides.pool(), by_root, peak, marks, lefts, rights)
 }
 
 /// The fork to the first two terms of these lists that never meet.
-fn fork_between<M: Marks>(
+fn fork_between<M: Marks, T: BuiltTop>(
     alloc: Global,
     pool: &Pool,
     by_root: &RulesByRoot,
-    peak: &Peak,
+    peak: &Peak<T>,
     marks: &M,
     lefts: &[(u32, Vec<PathStep>)],
     rights: &[(u32, Vec<PathStep>)],

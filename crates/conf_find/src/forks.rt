@@ -2,7 +2,7 @@
 ghost use Rattle.std.specs.Prelude.{◌≡◌, ◌∷◌, IfOk};
 ghost use Rattle.conf_find.specs.Fork.{fork_of, fork_from};
 
-use rewrite_core::{ForkTest, PathStep, Peak};
+use rewrite_core::{BuiltTop, ForkTest, PathStep, Peak};
 use std::alloc::Global;
 use trs_core::{OutOfMemory, Position, Term};
 
@@ -16,9 +16,9 @@ pub struct ForkFound {
 }
 
 /// The fork from the top of a peak, by its two steps and then these paths from its two sides.
-pub(crate) fn fork_from(
+pub(crate) fn fork_from<T: BuiltTop>(
     alloc: Global,
-    peak: &Peak,
+    peak: &Peak<T>,
     left: &[PathStep],
     right: &[PathStep],
     test: ForkTest,
@@ -28,7 +28,7 @@ pub(crate) fn fork_from(
     let inner = peak.place.copy(alloc)?;
     let outer = Position::new(alloc);
     Ok(ForkFound {
-        start: peak.top.copy(alloc)?,
+        start: peak.top.top_term().copy(alloc)?,
         left: behind(alloc, inner, peak.inner, left)?,
         right: behind(alloc, outer, peak.outer, right)?,
         test,

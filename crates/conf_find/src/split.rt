@@ -10,7 +10,7 @@ use crate::endings::Endings;
 use crate::first_fork::first_fork;
 use crate::forks::ForkFound;
 use assign_search::{Search, Stop};
-use rewrite_core::Peak;
+use rewrite_core::{BuiltTop, Peak};
 use std::alloc::Global;
 use trs_core::{OutOfMemory, Trs};
 
@@ -20,10 +20,10 @@ use trs_core::{OutOfMemory, Trs};
 ///
 /// `stop` is asked before the first peak and before each one. What a side reaches is found once for
 /// all its peaks, as long as not too much is kept.
-pub fn find_split<P: Stop>(
+pub fn find_split<P: Stop, T: BuiltTop>(
     alloc: Global,
     trs: &Trs,
-    peaks: &[Peak],
+    peaks: &[Peak<T>],
     stop: &mut P,
 ) -> Result<Search<ForkFound>, OutOfMemory>
     requires critical { ListsPeaks trs.now.rules (Ok peaks.now) }
@@ -32,5 +32,5 @@ pub fn find_split<P: Stop>(
         (FailsSplit trs.now.rules peaks.now) (P.stops stop.old < P.stops stop.new)) }
     ensures continues { Continues P.Stop stop.old stop.new }
 {
-    first_fork::<Endings, P>(alloc, trs, peaks, stop)
+    first_fork::<Endings, P, T>(alloc, trs, peaks, stop)
 }

@@ -11,6 +11,7 @@ use crate::reached_sides::ReachedSides;
 use crate::sides::critical_peaks_have_sides;
 use assign_search::{Search, Stop};
 use closed_pairs::{Join, Peak};
+use rewrite_core::{PeakSide, Top};
 use std::alloc::Global;
 use term_pool::RulesByRoot;
 use trs_core::{OutOfMemory, Trs};
@@ -20,10 +21,10 @@ use trs_core::{OutOfMemory, Trs};
 ///
 /// `stop` is asked before the first peak and before each one. What a side reaches is found once for
 /// all its peaks, as long as not too much is kept.
-pub fn find_newman<P: Stop>(
+pub fn find_newman<P: Stop, T: Top>(
     alloc: Global,
     trs: &Trs,
-    peaks: &[Peak],
+    peaks: &[Peak<T>],
     stop: &mut P,
 ) -> Result<Search<Vec<Join>>, OutOfMemory>
     requires critical { ListsPeaks trs.now.rules (Ok peaks.now) }
@@ -52,11 +53,11 @@ pub fn find_newman<P: Stop>(
 }
 
 /// The join of one peak, if there is one.
-fn first_join(
+fn first_join<T: Top>(
     alloc: Global,
     sides: &mut ReachedSides,
     by_root: &RulesByRoot,
-    peak: &Peak,
+    peak: &Peak<T>,
 ) -> Result<Option<Join>, OutOfMemory>
     requires peak { HasSides peak.now }
     requires sides { AreReached by_root.now.rules sides.old }
@@ -65,7 +66,7 @@ fn first_join(
     ensures sides { OnOk result (AreReached by_root.now.rules sides.new) }
 {
     sides.make_room(alloc);
-    let left = sides.intern(alloc, peak.inner, &peak.left)?;
-    let right = sides.intern(alloc, peak.outer, &peak.right)?;
+    let left = sides.intern(alloc, peak.inner, peak.left.term())?;
+    let right = sides.intern(alloc, peak.outer, peak.right.term())?;
     sides.first_join(alloc, by_root, left, right)
 }

@@ -14,7 +14,7 @@ use crate::parallel_step::add_steps;
 use crate::sides::critical_peaks_have_sides;
 use assign_search::{Search, Stop};
 use closed_pairs::Peak;
-use rewrite_core::PathStep;
+use rewrite_core::{PathStep, PeakSide, Top};
 use std::alloc::Global;
 use term_pool::{PathFault, Pool, RulesByRoot, ids_are_distinct};
 use trs_core::{OutOfMemory, Rule, Trs};
@@ -25,10 +25,10 @@ use trs_core::{OutOfMemory, Rule, Trs};
 ///
 /// `stop` is asked before the first peak and before each one. All terms of a peak stand in one
 /// pool, which is released after the peak.
-pub fn find_parallel<P: Stop>(
+pub fn find_parallel<P: Stop, T: Top>(
     alloc: Global,
     trs: &Trs,
-    peaks: &[Peak],
+    peaks: &[Peak<T>],
     stop: &mut P,
 ) -> Result<Search<Vec<Vec<PathStep>>>, OutOfMemory>
     requires critical { ListsPeaks trs.now.rules (Ok peaks.now) }
@@ -79,12 +79,12 @@ fn has_linear_left(rule: &Rule) -> bool
 }
 
 /// The parallel step of one peak, if there is one. Equal sides need no pool. The pool is as before.
-fn closing(
+fn closing<T: Top>(
     alloc: Global,
     pool: &mut Pool,
     trs: &Trs,
     by_root: &RulesByRoot,
-    peak: &Peak,
+    peak: &Peak<T>,
 ) -> Result<Option<Vec<PathStep>>, OutOfMemory>
     requires rules { by_root.now ≡ trs.now }
     requires sides { HasSides peak.now }
@@ -93,7 +93,7 @@ fn closing(
         (λ steps. IsParallelClosing trs.now.rules peak.now steps.items)) }
     ensures released { OnOk result (pool.new ≡ pool.old) }
 {
-    if peak.left.same(&peak.right) {
+    if peak.left.term().same(peak.right.term()) {
         return Ok(Some(Vec::new(alloc)));
     }
     let mark = pool.mark();
@@ -103,12 +103,12 @@ fn closing(
 }
 
 /// The same. Both sides stay in the pool.
-fn closing_within(
+fn closing_within<T: Top>(
     alloc: Global,
     pool: &mut Pool,
     trs: &Trs,
     by_root: &RulesByRoot,
-    peak: &Peak,
+    peak: &Peak<T>,
 ) -> Result<Option<Vec<PathStep>>, OutOfMemory>
     requires rules { by_root.now ≡ trs.now }
     requires sides { HasSides peak.now }
@@ -117,21 +117,15 @@ fn closing_within(
         (λ steps. IsParallelClosing trs.now.rules peak.now steps.items)) }
     ensures kept { Extends pool.old pool.new }
 {
-    let left = pool.intern(alloc, &peak.left)?;
-    let right = pool.intern(alloc, &peak.right)?;
+    let from = peak.left.term();
+    let to = peak.right.term();
+    let left = pool.intern(alloc, from)?;
+    let right = pool.intern(alloc, to)?;
     let mut place = Vec::new(alloc);
     let mut steps = Vec::new(alloc);
     let ids = (left, right);
     if !add_steps(
-        alloc,
-        pool,
-        trs,
-        by_root,
-        &peak.left,
-        &peak.right,
-        ids,
-        &mut place,
-        &mut steps,
+        alloc, pool, trs, by_root, from, to, ids, &mut place, &mut steps,
     )? {
         return Ok(None);
     }

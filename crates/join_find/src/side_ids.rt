@@ -1,7 +1,5 @@
 //! The ids of the sides of peaks, by the rules that give them.
-ghost use Rattle.std.specs.Prelude.{◌≡◌, ◌<◌, ◌+◌, length, IsTrue, IfOk, IfSome};
-ghost use Rattle.std.specs.Option.{option_map};
-ghost use Rattle.trs_defs.specs.Position.{argument_at};
+ghost use Rattle.std.specs.Prelude.{◌≡◌, ◌<◌, length, IsTrue, IfOk, IfSome};
 ghost use Rattle.trs_core.specs.View.{tree};
 ghost use Rattle.term_pool.specs.Pooled.{Extends, StandsFor, tree_at};
 
@@ -9,9 +7,6 @@ use indexmap::IndexMap;
 use std::alloc::Global;
 use term_pool::Pool;
 use trs_core::{OutOfMemory, Term};
-
-/// The most arguments of a symbol whose terms are compared: one more place is looked at.
-const MOST_ARGUMENTS: usize = 254;
 
 /// For each rule the id of the last side that it gave. A right side with no variable is a side of all
 /// peaks of its rule at the root, and to compare it costs less than to intern it again. An id of an
@@ -72,7 +67,7 @@ impl SideIds {
     }
 }
 
-/// Whether the term of an id is this one. It is not told of terms with symbols of 255 arguments.
+/// Whether the term of an id is this one.
 fn is_term_of(alloc: Global, pool: &Pool, id: u32, t: &Term) -> Result<bool, OutOfMemory>
     requires { id < length pool.now }
     ensures { IfOk result (λ yes. IsTrue yes → tree_at pool.now id ≡ tree t.now) }
@@ -80,18 +75,18 @@ fn is_term_of(alloc: Global, pool: &Pool, id: u32, t: &Term) -> Result<bool, Out
     match (t, pool.root(id)) {
         (Term::Var(_), None) => is_variable_of(alloc, pool, id, t),
         (Term::App(f, args), Some(g)) => {
-            if *f != g || args.items.len() > MOST_ARGUMENTS {
+            if *f != g {
                 return Ok(false);
             }
             for (i, arg) in args.items.iter().enumerate() {
-                let Some(part) = argument_behind(pool, id, i as u8) else {
+                let Some(part) = pool.argument(id, i) else {
                     return Ok(false);
                 };
                 if !is_term_of(alloc, pool, part, arg)? {
                     return Ok(false);
                 }
             }
-            match argument_behind(pool, id, args.items.len() as u8) {
+            match pool.argument(id, args.items.len()) {
                 None => Ok(true),
                 Some(_) => Ok(false),
             }
@@ -109,15 +104,4 @@ fn is_variable_of(alloc: Global, pool: &Pool, id: u32, t: &Term) -> Result<bool,
 {
     let variable = pool.read(alloc, id)?;
     Ok(variable.same(t))
-}
-
-/// The argument of an id's term behind so many others.
-fn argument_behind(pool: &Pool, id: u32, count: u8) -> Option<u32>
-    requires there { id < length pool.now }
-    requires few { count < 255 }
-    ensures is { option_map (tree_at pool.now) result
-        ≡ argument_at (tree_at pool.now id) (count + 1) }
-    ensures there { IfSome result (λ part. part < length pool.now) }
-{
-    pool.at(id, &[count + 1])
 }

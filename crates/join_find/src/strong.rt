@@ -13,6 +13,7 @@ use crate::reached_sides::ReachedSides;
 use crate::sides::critical_peaks_have_sides;
 use assign_search::{Search, Stop};
 use closed_pairs::{Four, Peak};
+use rewrite_core::{PeakSide, Top};
 use std::alloc::Global;
 use term_pool::RulesByRoot;
 use trs_core::{OutOfMemory, Rule, Trs};
@@ -23,10 +24,10 @@ use trs_core::{OutOfMemory, Rule, Trs};
 ///
 /// `stop` is asked before the first peak and before each one. What a side reaches is found once for
 /// all its peaks, as long as not too much is kept.
-pub fn find_strong<P: Stop>(
+pub fn find_strong<P: Stop, T: Top>(
     alloc: Global,
     trs: &Trs,
-    peaks: &[Peak],
+    peaks: &[Peak<T>],
     stop: &mut P,
 ) -> Result<Search<Vec<Four>>, OutOfMemory>
     requires critical { ListsPeaks trs.now.rules (Ok peaks.now) }
@@ -77,11 +78,11 @@ fn has_linear_sides(rule: &Rule) -> bool
 }
 
 /// The strong join of one peak, if there is one.
-fn first_four(
+fn first_four<T: Top>(
     alloc: Global,
     sides: &mut ReachedSides,
     by_root: &RulesByRoot,
-    peak: &Peak,
+    peak: &Peak<T>,
 ) -> Result<Option<Four>, OutOfMemory>
     requires peak { HasSides peak.now }
     requires sides { AreReached by_root.now.rules sides.old }
@@ -90,8 +91,8 @@ fn first_four(
     ensures sides { OnOk result (AreReached by_root.now.rules sides.new) }
 {
     sides.make_room(alloc);
-    let left = sides.intern(alloc, peak.inner, &peak.left)?;
-    let right = sides.intern(alloc, peak.outer, &peak.right)?;
+    let left = sides.intern(alloc, peak.inner, peak.left.term())?;
+    let right = sides.intern(alloc, peak.outer, peak.right.term())?;
     let Some(u) = sides.first_half(alloc, by_root, left, right)? else {
         return Ok(None);
     };

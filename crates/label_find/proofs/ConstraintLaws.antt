@@ -25,14 +25,13 @@ use Rattle.path_lists.specs.Adding.{Entry}
 use Rattle.join_find.specs.KeptLists.{list_of}
 use Rattle.join_find.specs.declared.kept_lists.KeptLists.{KeptLists}
 use Rattle.join_find.specs.First.{Along, along_end, along_item}
-use Rattle.label_find.specs.declared.grouping.Groups.{Groups}
 use Rattle.label_find.specs.declared.side_rules.SideRules.{SideRules}
 use Rattle.label_find.specs.declared.constraint.PeakConstraint.{PeakConstraint}
 use Rattle.label_find.specs.declared.rule_list.RuleList.{RuleList}
 use Rattle.label_find.specs.RuleList.{rules_listed}
 use Rattle.label_find.specs.LabelRow.{PeakPaths, ArePathsOf, rules_along, rules_of, rules_used, CanClose}
 use Rattle.label_find.specs.Lists.{rules_in, IsAlong, AreListsTo}
-use Rattle.label_find.specs.Grouping.{lists_or_none, AreGroups, count_of, lists_at, IsGroupOf}
+use Rattle.label_find.specs.Grouping.{HasEnd, count_of, lists_at}
 use Rattle.label_find.specs.Meetings.{MeetAt, AreMeetings}
 use Rattle.label_find.specs.SideRules.{IsSideOf}
 use Rattle.label_find.specs.Constraint.{some_meet}
@@ -42,7 +41,7 @@ use Rattle.label_find.specs.ListedSides.{AreListed, IsNumbered, IsFrontOf}
 use Rattle.label_find.proofs.PathsOfSides.{list_from, ends_below}
 use Rattle.label_find.proofs.FitTests.{same_ranks_along, some_fit_has, some_fit_from, some_meet_has, some_meet_from}
 use Rattle.label_find.proofs.RuleLists.{listed_append, of_left as among_left, of_right as among_right}
-use Rattle.label_find.proofs.Groupings.{number_of_end, end_within, end_there}
+use Rattle.label_find.proofs.Groupings.{place_there, end_within, group_lists}
 
 pub same_rules_of : (pool : List Tree) (es : List Entry) → rules_of (listed_at pool es) ≡ rules_in es
 same_rules_of pool [] = refl
@@ -58,10 +57,6 @@ listed_in_rules (x ∷ es) e k (in_rest i) h =
 -- the rules of a list to an end are among those of its path
 along : (es : List Entry) (end : ℕ) (l : RuleList) (k : ℕ) → IsAlong es end (rules_listed l) → IsTrue (is_listed k (rules_listed l)) → IsTrue (is_listed k (rules_in es))
 along es end l k (e, there, facts) listed_k = listed_in_rules es e k there (subst (λ (xs : List ℕ). IsTrue (is_listed k xs)) facts.1 listed_k)
-
--- the lists of the group that an end has
-group_lists : (es : List Entry) (groups : Groups) (end number : ℕ) → AreGroups es groups → IsGroupOf groups end number → AreListsTo es end (lists_at groups number)
-group_lists es groups end number each is = subst (λ (lists : List RuleList). AreListsTo es end lists) (ap lists_or_none is) (each end)
 
 -- a constraint of these two rules, over sides that have the rules along the paths from the left and from the right
 module _ (lefts rights : List Entry) (left right : SideRules) (d : PeakConstraint) (of_left : IsSideOf lefts left) (of_right : IsSideOf rights right)
@@ -85,9 +80,10 @@ module _ (lefts rights : List Entry) (left right : SideRules) (d : PeakConstrain
   -- the meeting at the end of a path from the left that a path from the right has too
   meeting_of : (e f : Entry) → In e lefts → In f rights → e.0 ≡ f.0 → (m : ℕ × ℕ) × In m d.meetings.items × AreListsTo lefts e.0 (lists_at left.groups m.0) × AreListsTo rights e.0 (lists_at right.groups m.1)
   meeting_of e f i j same =
-      let there = end_there left.groups e.0 (rules_along e.1.items) ((of_left.groups e.0).complete e i refl) in
-      let there_too = end_there right.groups e.0 (rules_along f.1.items) ((of_right.groups e.0).complete f j (sym same)) in
-      let (number, at) = number_of_end left.groups e.0 there in
+      let (x, x_there, x_is) = of_left.groups.complete e i in
+      let (y, y_there, y_is) = of_right.groups.complete f j in
+      let there_too : HasEnd right.groups e.0 = (y, y_there, y_is.0 ∙ sym same) in
+      let (number, at) = place_there left.groups e.0 (x, x_there, x_is.0) in
       let (m, k, meet) = meetings.all number e.0 (end_within left.groups number e.0 at) at there_too in
       (m, k, group_lists lefts left.groups e.0 m.0 of_left.groups meet.0, group_lists rights right.groups e.0 m.1 of_right.groups meet.1)
 

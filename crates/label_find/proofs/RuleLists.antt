@@ -1,26 +1,20 @@
 -- Lists of rules along paths, made path by path.
-use Rattle.std.specs.Prelude.{◌≡◌, ◌≢◌, ◌<◌, ◌≤◌, ◌⊎◌, ℕ, ◌+◌, Bool, true, false, ◌||◌, ◌==◌, List, [], ◌∷◌, ◌++◌, length, take, IsTrue, refl}
+use Rattle.std.specs.Prelude.{◌≡◌, ◌<◌, ◌≤◌, ◌⊎◌, ℕ, ◌+◌, Bool, true, false, ◌||◌, ◌==◌, List, [], ◌∷◌, ◌++◌, length, take, IsTrue, refl}
 use Rattle.std.specs.List.{insert, HoldsAt}
-use Rattle.std.specs.Ordering.{ordering_then}
-use Rattle.std.specs.Cmp.Lexicographic.{slice_cmp}
-use Rattle.std.specs.declared.cmp.Ordering.{Ordering}
-use Rattle.std.specs.FinMap.{slice_cmp-IsAntisymmetric, nat_cmp-IsAntisymmetric}
-use Rattle.std.proofs.Common.{zero, suc, ap, sym, ◌∙◌, subst, get_or, drop, inl, inr, nat_cmp, Less, Equal, Greater, ap₂, append-nil, append_assoc, take-append-drop, arith}
+use Rattle.std.specs.FinMap.{nat_cmp-IsAntisymmetric}
+use Rattle.std.proofs.Common.{zero, suc, ap, sym, ◌∙◌, subst, get_or, drop, inl, inr, nat_cmp, Equal, append-nil, append_assoc, take-append-drop, arith}
 use Rattle.std.proofs.Math.Seq.{take-suc}
 use Rattle.std.proofs.Math.Decide.{ℕ_discrete}
-use Rattle.std.proofs.lemmas.Option.{slice_get-get_or}
 use Rattle.std.proofs.lemmas.List.{take_all, map-append}
 use Rattle.std.proofs.lemmas.Bool.Decides.{nat_tests}
 use Rattle.std.proofs.lemmas.Bool.{or_right, or_left}
-use Rattle.trs_defs.specs.Member.{In, in_first, in_rest}
+use Rattle.trs_defs.specs.Member.{In, in_first}
 use Rattle.trs_defs.specs.Variable.{is_listed}
 use Rattle.trs_defs.specs.Path.{PlacedRule}
-use Rattle.trs_defs.proofs.Members.{in_of_get, in_left, in_right, in_either, in_or, in_take, in_drop, no_in}
+use Rattle.trs_defs.proofs.Members.{in_left, in_right, in_either, in_or, no_in}
 use Rattle.path_lists.specs.Adding.{Entry}
-use Rattle.label_find.specs.declared.rule_list.RuleList.{RuleList}
-use Rattle.label_find.specs.RuleList.{rules_listed}
 use Rattle.label_find.specs.LabelRow.{rules_along}
-use Rattle.label_find.specs.Lists.{HasRules, AddsList, rules_in, IsWith}
+use Rattle.label_find.specs.Lists.{rules_in, IsWith}
 
 -- ---- one item more
 
@@ -41,52 +35,6 @@ old_in_pushed {A} old new a x is h = subst (λ (ys : List A). In x ys) (sym is) 
 
 pub new_in_pushed : {A : Type 0} (old new : List A) (a : A) → new ≡ old ++ a ∷ [] → In a new
 new_in_pushed {A} old new a is = subst (λ (ys : List A). In a ys) (sym is) (in_right old in_first)
-
--- ---- the lists to one end
-
-pub other_end : (entry : Entry) (end : ℕ) (lists : List RuleList) → entry.0 ≢ end → AddsList entry end lists lists
-other_end entry end lists other = record { from = λ l i. inl i; stays = λ l i. i; there = λ e. absurd (other e) }
-
-list_there : (entry : Entry) (end : ℕ) (lists : List RuleList) → HasRules (rules_along entry.1.items) lists → AddsList entry end lists lists
-list_there entry end lists h = record { from = λ l i. inl i; stays = λ l i. i; there = λ _. h }
-
--- lists that compare as equal are equal
-same_rules : (l m : RuleList) → ordering_then (nat_cmp l.count m.count) (slice_cmp nat_cmp l.rules m.rules) ≡ Equal → rules_listed l ≡ rules_listed m
-same_rules l m equal =
-    let (counts, rules) = both_equal (nat_cmp l.count m.count) (slice_cmp nat_cmp l.rules m.rules) equal in
-    ap₂ take (nat_cmp-IsAntisymmetric l.count m.count counts) (slice_cmp-IsAntisymmetric nat_cmp-IsAntisymmetric l.rules m.rules rules)
-  where
-    both_equal : (a b : Ordering) → ordering_then a b ≡ Equal → (a ≡ Equal) × (b ≡ Equal)
-    both_equal Less b h = absurd cc
-    both_equal Equal b h = (refl, h)
-    both_equal Greater b h = absurd cc
-
--- a search has found the list
-pub list_found : (entry : Entry) (end : ℕ) (lists : List RuleList) (rules : RuleList) (place : ℕ) → rules_listed rules ≡ rules_along entry.1.items → place < length lists
-    → HoldsAt (λ (l : RuleList). ordering_then (nat_cmp l.count rules.count) (slice_cmp nat_cmp l.rules rules.rules) ≡ Equal) lists place → AddsList entry end lists lists
-list_found entry end lists rules place along within found =
-    list_there entry end lists (get_or lists place rules, in_of_get lists place (get_or lists place rules) (slice_get-get_or lists place rules within), same_rules (get_or lists place rules) rules (found rules) ∙ along)
-
--- the list is put at a place among the others
-pub list_placed : (entry : Entry) (end : ℕ) (old new : List RuleList) (rules : RuleList) (place : ℕ) → entry.0 ≡ end → rules_listed rules ≡ rules_along entry.1.items → new ≡ insert old place rules
-    → AddsList entry end old new
-list_placed entry end old new rules place same along is = record {
-  from = λ l i. elim (in_either (take place old) (rules ∷ drop place old) (subst (λ (ls : List RuleList). In l ls) is i)) [
-    | inl before ↦ inl (in_take place old before)
-    | inr later ↦ elim (in_or later) [
-      | inl fresh ↦ inr (same, ap rules_listed fresh ∙ along)
-      | inr after ↦ inl (in_drop place old after)
-    ]
-  ];
-  stays = λ l i. subst (λ (ls : List RuleList). In l ls) (sym is) (still l i);
-  there = λ _. (rules, subst (λ (ls : List RuleList). In rules ls) (sym is) (in_right (take place old) in_first), along);
-}
-  where
-    still : (l : RuleList) → In l old → In l (take place old ++ rules ∷ drop place old)
-    still l i = elim (in_either (take place old) (drop place old) (subst (λ (ls : List RuleList). In l ls) (sym (take-append-drop place old)) i)) [
-      | inl before ↦ in_left (rules ∷ drop place old) before
-      | inr after ↦ in_right (take place old) (in_rest after)
-    ]
 
 -- ---- the rules that are used
 

@@ -176,3 +176,12 @@ labelling_found system valid sides peaks ds budget ranks rose more (Ok NotThere)
 labelling_found system valid sides peaks ds budget ranks rose more (Ok Spent) linear h first few later none = absurd none
 labelling_found system valid sides peaks ds budget ranks rose more (Ok Stopped) linear h first few later stopped = later stopped
 labelling_found system valid sides peaks ds budget ranks rose more (Err e) linear h first few later none = tt
+
+-- where the count of stops rose from some time on, it rose from an earlier time on
+pub rose_before : {E : Type 0} (rules : List RewriteRule) (peaks : List PlacedPeak) (budget : ℕ) (rose earlier : Type 0) (answer : Result (Search Labelled) E) → (rose → earlier)
+    → IfOk answer (IsLabelling rules peaks budget rose) → IfOk answer (IsLabelling rules peaks budget earlier)
+rose_before rules peaks budget rose earlier (Ok (Found a)) before h = h
+rose_before rules peaks budget rose earlier (Ok NotThere) before h = h
+rose_before rules peaks budget rose earlier (Ok Spent) before h = h
+rose_before rules peaks budget rose earlier (Ok Stopped) before h = before h
+rose_before rules peaks budget rose earlier (Err e) before h = h

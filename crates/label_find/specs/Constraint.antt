@@ -14,7 +14,7 @@ abbrev pub some_fit : List ℕ → ℕ → ℕ → List RuleList → Bool
 some_fit ranks a b [] = false
 some_fit ranks a b (l ∷ lists) = fit_after false a b (map (rank_of ranks) (rules_listed l)) || some_fit ranks a b lists
 
--- at some meeting a left list and a right one fit, where these are the lists of the groups of a number
+-- at some meeting a left list and a right one fit, where these are the lists of the groups at a place
 abbrev pub some_meet : List ℕ → ℕ → ℕ → (ℕ → List RuleList) → (ℕ → List RuleList) → List (ℕ × ℕ) → Bool
 some_meet ranks a b lefts rights [] = false
 some_meet ranks a b lefts rights (m ∷ meetings) = (some_fit ranks a b (lefts m.0) && some_fit ranks b a (rights m.1)) || some_meet ranks a b lefts rights meetings

@@ -1,5 +1,5 @@
 -- Lists of rules along paths, each list once.
-use Rattle.std.specs.Prelude.{◌≡◌, ◌⊎◌, ℕ, ◌+◌, max, List, [], ◌∷◌, ◌++◌}
+use Rattle.std.specs.Prelude.{◌≡◌, ℕ, ◌+◌, max, List, [], ◌∷◌, ◌++◌}
 use Rattle.trs_defs.specs.Member.{In}
 use Rattle.trs_defs.specs.Variable.{is_listed}
 use Rattle.join_find.specs.First.{Some_in}
@@ -11,12 +11,6 @@ use Rattle.label_find.specs.RuleList.{rules_listed}
 -- some list is of these rules
 abbrev pub HasRules : List ℕ → List RuleList → Type 0
 HasRules rules lists = Some_in (λ (l : RuleList). (rules_listed l) ≡ rules) lists
-
--- the rules along the path are listed besides, if it has this end
-pub record AddsList (entry : Entry) (end : ℕ) (old new : List RuleList) : Type 0 where
-  pub from : (l : RuleList) → In l new → In l old ⊎ ((entry.0 ≡ end) × ((rules_listed l) ≡ rules_along entry.1.items))
-  pub stays : (l : RuleList) → In l old → In l new
-  pub there : entry.0 ≡ end → HasRules (rules_along entry.1.items) new
 
 -- a path with this end has these rules
 abbrev pub IsAlong : List Entry → ℕ → List ℕ → Type 0

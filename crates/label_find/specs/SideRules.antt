@@ -12,7 +12,7 @@ pub record IsSideOf (entries : List Entry) (side : SideRules) : Type 0 where
   pub few : count_of side.groups ≤ length entries
   pub used : IsWith [] (rules_in entries) side.used.items
 
--- the lists of the group of a number, and the rules, of a side that may be there
+-- the lists of the group at a place, and the rules, of a side that may be there
 abbrev pub lists_of_side : Option SideRules → ℕ → List RuleList
 lists_of_side None = λ number. []
 lists_of_side (Some side) = lists_at side.groups

@@ -4,13 +4,13 @@ ghost use Rattle.trs_defs.specs.Variable.{is_listed as is_among};
 ghost use Rattle.label_find.specs.Constraint.{some_fit, some_meet};
 ghost use Rattle.label_find.specs.ConstraintPuzzle.{is_met, uses_rule, used_by, used_in, HasSidesIn};
 ghost use Rattle.label_find.specs.ConstraintPuzzle.{IsSmallSide, IsConstraintOf};
-ghost use Rattle.label_find.specs.Grouping.{lists_at};
+ghost use Rattle.label_find.specs.Grouping.{lists_at, first_group, front_to};
 ghost use Rattle.label_find.specs.Lists.{end_of};
 
 use crate::fitting::{rank_of, ranks_fit};
-use crate::grouping::Groups;
+use crate::groups::Groups;
 use crate::meeting::meetings_of;
-use crate::rule_list::RuleList;
+use crate::rule_list::RulesTo;
 use crate::side_rules::{SideRules, side_at};
 use crate::used::{end_of, is_listed};
 use std::alloc::Global;
@@ -124,22 +124,35 @@ fn some_meet(
     false
 }
 
-/// Whether the ranks of some list of rules fit, of the group of this number.
-fn group_fits(groups: &Groups, number: u8, ranks: &[u32], a: u32, b: u32) -> bool
-    ensures { result ≡ some_fit ranks.now a b (lists_at groups.now number) }
+/// Whether the ranks of some list of rules fit, of the group that begins at this place.
+fn group_fits(groups: &Groups, place: u8, ranks: &[u32], a: u32, b: u32) -> bool
+    ensures { result ≡ some_fit ranks.now a b (lists_at groups.now place) }
 {
-    match groups.at(number as usize) {
-        Some(lists) => some_fit(lists, ranks, a, b),
+    match groups.from(place as usize) {
+        Some(lists) => first_fits(lists, ranks, a, b),
         None => false,
     }
 }
 
-/// Whether the ranks of some list of rules fit.
-fn some_fit(lists: &[RuleList], ranks: &[u32], a: u32, b: u32) -> bool
-    ensures { result ≡ some_fit ranks.now a b lists.now }
+/// Whether the ranks of some list of rules fit, of the first group.
+fn first_fits(lists: &[RulesTo], ranks: &[u32], a: u32, b: u32) -> bool
+    ensures { result ≡ some_fit ranks.now a b (first_group lists.now) }
 {
-    for rules in lists {
-        if ranks_fit(ranks, a, b, rules.as_slice()) {
+    match lists {
+        [] => false,
+        [first, ..] => some_fit(lists, first.end, ranks, a, b),
+    }
+}
+
+/// Whether the ranks of some list of rules fit, of those at the front that have this end.
+fn some_fit(lists: &[RulesTo], end: u32, ranks: &[u32], a: u32, b: u32) -> bool
+    ensures { result ≡ some_fit ranks.now a b (front_to end lists.now) }
+{
+    for list in lists {
+        if list.end != end {
+            return false;
+        }
+        if ranks_fit(ranks, a, b, list.rules.as_slice()) {
             return true;
         }
     }

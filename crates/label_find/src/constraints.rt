@@ -11,19 +11,19 @@ use crate::constraint::PeakConstraint;
 use crate::listed_sides::ListedSides;
 use crate::side_rules::SideRules;
 use assign_search::Stop;
-use rewrite_core::Peak;
+use rewrite_core::{Peak, PeakSide, Top};
 use std::alloc::Global;
 use term_pool::{RulesByRoot, ids_are_distinct};
 use trs_core::{OutOfMemory, Trs};
 
 /// The constraint of each peak, over the table of their sides, or `None` where it was stopped. What
 /// paths of sides are still listed then are lent to the search for joins.
-pub(crate) fn constraints_of<P: Stop>(
+pub(crate) fn constraints_of<P: Stop, T: Top>(
     alloc: Global,
     trs: &Trs,
     by_root: &RulesByRoot,
     growth: u64,
-    peaks: &[Peak],
+    peaks: &[Peak<T>],
     sides: &mut ListedSides,
     table: &mut Vec<SideRules>,
     stop: &mut P,
@@ -52,12 +52,12 @@ pub(crate) fn constraints_of<P: Stop>(
 }
 
 /// The constraint of one peak. Its sides are put into the table, if they are not there yet.
-fn constraint_at(
+fn constraint_at<T: Top>(
     alloc: Global,
     trs: &Trs,
     by_root: &RulesByRoot,
     growth: u64,
-    peak: &Peak,
+    peak: &Peak<T>,
     sides: &mut ListedSides,
     table: &mut Vec<SideRules>,
 ) -> Result<PeakConstraint, OutOfMemory>
@@ -73,8 +73,8 @@ fn constraint_at(
     ensures numbers { OnOk result (AreNumbered sides.new table.new.items) }
 {
     sides.make_room(alloc);
-    let left_id = sides.list(alloc, trs, by_root, growth, peak.inner, &peak.left)?;
-    let right_id = sides.list(alloc, trs, by_root, growth, peak.outer, &peak.right)?;
+    let left_id = sides.list(alloc, trs, by_root, growth, peak.inner, peak.left.term())?;
+    let right_id = sides.list(alloc, trs, by_root, growth, peak.outer, peak.right.term())?;
     ids_are_distinct(sides.pool());
     let left = sides.number(alloc, left_id, table)?;
     let right = sides.number(alloc, right_id, table)?;

@@ -10,19 +10,19 @@ ghost use Rattle.label_find.specs.ListedSides.{AreListed};
 use crate::closing::first_closing;
 use crate::listed_sides::ListedSides;
 use assign_search::Stop;
-use rewrite_core::{Join, Peak};
+use rewrite_core::{Join, Peak, PeakSide, Top};
 use std::alloc::Global;
 use term_pool::RulesByRoot;
 use trs_core::{OutOfMemory, Trs};
 
 /// For each peak the first two of its paths that close it by these ranks, or `None` where it was
 /// stopped. Paths that were given up are listed anew, since those of all peaks may take much memory.
-pub(crate) fn joins_by<P: Stop>(
+pub(crate) fn joins_by<P: Stop, T: Top>(
     alloc: Global,
     trs: &Trs,
     by_root: &RulesByRoot,
     growth: u64,
-    peaks: &[Peak],
+    peaks: &[Peak<T>],
     ranks: &[u32],
     sides: &mut ListedSides,
     stop: &mut P,
@@ -49,13 +49,13 @@ pub(crate) fn joins_by<P: Stop>(
 }
 
 /// The paths that close one peak.
-fn join_at(
+fn join_at<T: Top>(
     alloc: Global,
     sides: &mut ListedSides,
     trs: &Trs,
     by_root: &RulesByRoot,
     growth: u64,
-    peak: &Peak,
+    peak: &Peak<T>,
     ranks: &[u32],
 ) -> Result<Join, OutOfMemory>
     requires table { by_root.now ≡ trs.now }
@@ -67,8 +67,8 @@ fn join_at(
     ensures listed { OnOk result (AreListed trs.now.rules sides.new) }
 {
     sides.make_room(alloc);
-    let left = sides.list(alloc, trs, by_root, growth, peak.inner, &peak.left)?;
-    let right = sides.list(alloc, trs, by_root, growth, peak.outer, &peak.right)?;
+    let left = sides.list(alloc, trs, by_root, growth, peak.inner, peak.left.term())?;
+    let right = sides.list(alloc, trs, by_root, growth, peak.outer, peak.right.term())?;
     let numbers = (peak.inner, peak.outer);
     first_closing(
         alloc,

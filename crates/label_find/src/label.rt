@@ -21,7 +21,7 @@ use crate::space::LabelSpace;
 use assign_search::{Search, Stop, first_solution};
 use join_find::{are_linear, critical_peaks_have_sides};
 use path_lists::{growth_of, path_lists_are_one};
-use rewrite_core::{Join, Peak};
+use rewrite_core::{Join, Peak, Top};
 use std::alloc::Global;
 use term_pool::RulesByRoot;
 use trs_core::{OutOfMemory, Trs};
@@ -43,10 +43,10 @@ pub struct Labelled {
 /// `stop` is asked first, before each peak and before each prefix of ranks, and before each peak
 /// again once ranks are found. A constraint is tested with no memory: for each end of paths from a
 /// side the lists of rules along them are kept, each once, and shared by the peaks with this side.
-pub fn find_label<P: Stop>(
+pub fn find_label<P: Stop, T: Top>(
     alloc: Global,
     trs: &Trs,
-    peaks: &[Peak],
+    peaks: &[Peak<T>],
     budget: u64,
     stop: &mut P,
 ) -> Result<Search<Labelled>, OutOfMemory>
@@ -89,12 +89,12 @@ pub fn find_label<P: Stop>(
 }
 
 /// The search over these constraints of the peaks and the table of their sides.
-fn search_ranks<P: Stop>(
+fn search_ranks<P: Stop, T: Top>(
     alloc: Global,
     trs: &Trs,
     by_root: &RulesByRoot,
     growth: u64,
-    peaks: &[Peak],
+    peaks: &[Peak<T>],
     table: Vec<SideRules>,
     constraints: Vec<PeakConstraint>,
     budget: u64,
@@ -132,12 +132,12 @@ fn search_ranks<P: Stop>(
 }
 
 /// The ranks that were found, with the first two paths of each peak that close it by them.
-fn labelled_by<P: Stop>(
+fn labelled_by<P: Stop, T: Top>(
     alloc: Global,
     trs: &Trs,
     by_root: &RulesByRoot,
     growth: u64,
-    peaks: &[Peak],
+    peaks: &[Peak<T>],
     ranks: &[u32],
     sides: &mut ListedSides,
     stop: &mut P,

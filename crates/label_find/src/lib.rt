@@ -7,6 +7,7 @@ mod constraint;
 mod constraints;
 mod fitting;
 mod grouping;
+mod groups;
 mod joining;
 mod label;
 mod laws;

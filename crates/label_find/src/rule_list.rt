@@ -1,4 +1,4 @@
-//! The rules along one path.
+//! The rules along one path, and its end.
 ghost use Rattle.std.specs.Prelude.{◌≡◌, ◌≤◌, get_or, length};
 ghost use Rattle.label_find.specs.LabelRow.{rules_along};
 ghost use Rattle.label_find.specs.RuleList.{rules_listed};
@@ -39,6 +39,13 @@ impl RuleList {
         let count = MOST_STEPS.min(self.count as usize);
         &self.rules[..count]
     }
+}
+
+/// The rules along a path, with its end.
+#[derive(Clone, Copy, PartialEq, Eq, PartialOrd, Ord)]
+pub(crate) struct RulesTo {
+    pub(crate) end: u32,
+    pub(crate) rules: RuleList,
 }
 
 /// The rule of the step at a place, 0 past the last step.

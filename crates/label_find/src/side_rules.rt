@@ -3,7 +3,8 @@ ghost use Rattle.std.specs.Prelude.{◌≡◌, ◌<◌, Some, IfOk, length, slic
 ghost use Rattle.label_find.specs.RuleList.{AreShort};
 ghost use Rattle.label_find.specs.SideRules.{IsSideOf};
 
-use crate::grouping::{Groups, group};
+use crate::grouping::group;
+use crate::groups::Groups;
 use crate::used::used_rules;
 use rewrite_core::PathStep;
 use std::alloc::Global;

@@ -4,7 +4,7 @@ use crate::{Findings, Strategy};
 use assign_search::{Search, Stop};
 use cert_step::{Join, Problem, Step};
 use conf_find::{find_newman, found_joins_join};
-use rewrite_core::Peak;
+use rewrite_core::{Peak, TermTop};
 use std::alloc::Global;
 use trs_core::{OutOfMemory, Trs, systems_are_valid};
 
@@ -31,7 +31,7 @@ impl SearchOnPeaks for Joins {
     fn find<P: Stop>(
         alloc: Global,
         trs: &Trs,
-        peaks: &[Peak],
+        peaks: &[Peak<TermTop>],
         _budget: u64,
         stop: &mut P,
     ) -> Result<Search<Vec<Join>>, OutOfMemory> {

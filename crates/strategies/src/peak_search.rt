@@ -10,7 +10,7 @@ use crate::Findings;
 use crate::peaks::KnownPeaks;
 use crate::searched::Searched;
 use assign_search::{Search, Stop};
-use rewrite_core::Peak;
+use rewrite_core::{Peak, TermTop};
 use std::alloc::Global;
 use trs_core::{OutOfMemory, Trs};
 
@@ -39,7 +39,7 @@ pub(crate) trait SearchOnPeaks {
     fn find<P: Stop>(
         alloc: Global,
         trs: &Trs,
-        peaks: &[Peak],
+        peaks: &[Peak<TermTop>],
         budget: u64,
         stop: &mut P,
     ) -> Result<Search<Self::Evidence>, OutOfMemory>

@@ -1,8 +1,8 @@
 ghost use Rattle.std.specs.Prelude.{IfOk};
 ghost use Rattle.strategies.specs.Tables.{AreKnownPeaks};
 
-use loop_find::{PeakFault, critical_pairs};
-use rewrite_core::Peak;
+use loop_find::{PeakFault, shared_peaks};
+use rewrite_core::{Peak, TermTop};
 use std::alloc::Global;
 use trs_core::{OutOfMemory, Trs};
 
@@ -10,7 +10,7 @@ use trs_core::{OutOfMemory, Trs};
 #[derive(Drop)]
 pub(crate) enum KnownPeaks {
     /// All of them.
-    Listed(Vec<Peak>),
+    Listed(Vec<Peak<TermTop>>),
     /// They pass a limit.
     PastLimit,
 }
@@ -19,7 +19,7 @@ pub(crate) enum KnownPeaks {
 pub(crate) fn known_peaks(alloc: Global, trs: &Trs) -> Result<KnownPeaks, OutOfMemory>
     ensures { IfOk result (AreKnownPeaks trs.now) }
 {
-    match critical_pairs(alloc, trs) {
+    match shared_peaks(alloc, trs) {
         Ok(peaks) => Ok(KnownPeaks::Listed(peaks)),
         Err(PeakFault::TooLarge) => Ok(KnownPeaks::PastLimit),
         Err(PeakFault::TooMany) => Ok(KnownPeaks::PastLimit),

@@ -12,13 +12,13 @@ loop-i-init c = record {
 
 pub returns-in_default-clause-terms : goal.returns-in_default-clause-terms
 returns-in_default-clause-terms c = λ f ts is.
-    no_more_items c.args.pool.now c.args.id c.loop-i.i c.from_ref.result.now c.at.result c.from_ref.ensures.value c.at.ensures.is f ts is c.loop-i.ids.items c.in_default.is (c.loop-i.invariant.terms f ts is)
+    no_more_items c.args.pool.now c.args.id c.loop-i.i c.argument.result c.argument.ensures.is f ts is c.loop-i.ids.items c.in_default.is (c.loop-i.invariant.terms f ts is)
 
 pub loop-i-preserved : goal.loop-i-preserved
 loop-i-preserved c = record {
-  terms = λ f ts is. one_more_item c.args.pool.now c.args.id c.loop-i.i c.from_ref.result.now c.at.result c.from_ref.ensures.value c.at.ensures.is f ts is c.loop-i.ids.items c.push.new.self.items c.in-Some.arg
+  terms = λ f ts is. one_more_item c.args.pool.now c.args.id c.loop-i.i c.argument.result c.argument.ensures.is f ts is c.loop-i.ids.items c.push.new.self.items c.in-Some.arg
       c.in-Some.is (c.loop-i.invariant.terms f ts is) c.in_ok-push.ensures.items;
-  there = rw c.in_ok-push.ensures.items (All-push (λ j. j < length c.args.pool.now) c.loop-i.ids.items c.in-Some.arg c.loop-i.invariant.there (rw c.in-Some.is at c.at.ensures.there));
+  there = rw c.in_ok-push.ensures.items (All-push (λ j. j < length c.args.pool.now) c.loop-i.ids.items c.in-Some.arg c.loop-i.invariant.there (rw c.in-Some.is at c.argument.ensures.there));
 }
 
 pub returns-clause-terms : goal.returns-clause-terms

@@ -1,4 +1,4 @@
-use Rattle.std.proofs.Common.{List, [], sym, subst}
+use Rattle.std.proofs.Common.{List, [], sym, subst, arith}
 use Rattle.rewrite_core.specs.PathsOfJoin.{PathsOfJoin}
 use Rattle.assign_search.proofs.Continuing.{continues_on}
 use Rattle.join_find.specs.First.{Along, along_end}
@@ -30,3 +30,6 @@ loop-peak-preserved g c = record {
 
 pub first_join-requires-clause-sides : goal.first_join-requires-clause-sides
 first_join-requires-clause-sides g c = rw c.in_ok-by_root.ensures c.loop-peak.invariant.sides
+
+pub returns-then-stopped-2-clause-answer : goal.returns-then-stopped-2-clause-answer
+returns-then-stopped-2-clause-answer g c = omega (arith, c.loop-peak.invariant.continues.later, c.stopped-in-loop-peak.ensures.rose c.if-stopped-2.true)

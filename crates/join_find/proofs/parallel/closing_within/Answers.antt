@@ -10,50 +10,50 @@ use Rattle.join_find.proofs.parallel.closing_within.Goals.{After-run_path}
 use Rattle.join_find.proofs.parallel.closing_within.Goals as goal
 
 -- the steps that were found are the parallel step of the peak
-parallel : (c : After-run_path) → IsParallelStep c.args.trs.now.rules c.args.peak.now.left c.args.peak.now.right c.add_steps.new.steps.items
-parallel c =
-    let l = tree c.peak.inside.left in
-    let r = tree c.peak.inside.right in
+parallel : (g : _) (c : After-run_path g) → IsParallelStep c.args.trs.now.rules c.args.peak.now.left c.args.peak.now.right c.add_steps.new.steps.items
+parallel g c =
+    let l = tree c.term-from.result.now in
+    let r = tree c.term-to.result.now in
     let is = all_steps c.args.trs.now.rules l r c.new-steps.result.items c.add_steps.new.steps.items c.new-place.result.items c.new-place.ensures.items c.new-steps.ensures.items
     (c.in_ok-add_steps.ensures.found c.if-not-branch.false) in
     let L : Tree → Type 0 = λ u. IsParallelStep c.args.trs.now.rules u r c.add_steps.new.steps.items in
     let R : Tree → Type 0 = λ u. IsParallelStep c.args.trs.now.rules c.args.peak.now.left u c.add_steps.new.steps.items in
-    subst R (ap (λ (p : PlacedPeak). p.right) c.peak.view_is) (subst L (ap (λ (p : PlacedPeak). p.left) c.peak.view_is) is)
+    subst R (c.term-to.ensures ∙ ap (λ (p : PlacedPeak). p.right) c.peak.view_is) (subst L (c.term-from.ensures ∙ ap (λ (p : PlacedPeak). p.left) c.peak.view_is) is)
 
-left_stands : (c : After-run_path) → StandsFor c.add_steps.new.pool c.in_ok-left.left c.args.peak.now.left
-left_stands c =
+left_stands : (g : _) (c : After-run_path g) → StandsFor c.add_steps.new.pool c.in_ok-left.left c.args.peak.now.left
+left_stands g c =
     let P : List Tree → Type 0 = λ p. StandsFor p c.in_ok-left.left c.args.peak.now.left in
     let T : Tree → Type 0 = λ u. StandsFor c.intern-2.new.self c.in_ok-left.left u in
-    subst P (sym c.in_ok-add_steps.ensures.same) (subst T (ap (λ (p : PlacedPeak). p.left) c.peak.view_is)
-    (c.in_ok-right.ensures.kept.kept c.in_ok-left.left (tree c.peak.inside.left) c.in_ok-left.ensures.id))
+    subst P (sym c.in_ok-add_steps.ensures.same) (subst T (c.term-from.ensures ∙ ap (λ (p : PlacedPeak). p.left) c.peak.view_is)
+    (c.in_ok-right.ensures.kept.kept c.in_ok-left.left (tree c.term-from.result.now) c.in_ok-left.ensures.id))
 
-right_stands : (c : After-run_path) → StandsFor c.add_steps.new.pool c.in_ok-right.right c.args.peak.now.right
-right_stands c =
+right_stands : (g : _) (c : After-run_path g) → StandsFor c.add_steps.new.pool c.in_ok-right.right c.args.peak.now.right
+right_stands g c =
     let P : List Tree → Type 0 = λ p. StandsFor p c.in_ok-right.right c.args.peak.now.right in
     let T : Tree → Type 0 = λ u. StandsFor c.intern-2.new.self c.in_ok-right.right u in
-    subst P (sym c.in_ok-add_steps.ensures.same) (subst T (ap (λ (p : PlacedPeak). p.right) c.peak.view_is) c.in_ok-right.ensures.id)
+    subst P (sym c.in_ok-add_steps.ensures.same) (subst T (c.term-to.ensures ∙ ap (λ (p : PlacedPeak). p.right) c.peak.view_is) c.in_ok-right.ensures.id)
 
 pub returns-in-Err-At-clause-step : goal.returns-in-Err-At-clause-step
-returns-in-Err-At-clause-step c =
-    let a = (goal.at.returns-in-Err-At-clause-step c).After-run_path in
+returns-in-Err-At-clause-step g c =
+    let a = (goal.at.returns-in-Err-At-clause-step g c).After-run_path in
     let other : c.in-Err-At.field-0 ≢ fault.OutOfMemory = λ e. (let wrong : fault.At c.in-Err-At.field-0-0 c.in-Err-At.field-0-1 ≡ fault.OutOfMemory = sym c.in-Err-At.field-0-is ∙ e in absurd cc) in
-    not_followed c.args.trs.now.rules c.args.peak.now c.add_steps.new.steps.items (parallel a)
+    not_followed c.args.trs.now.rules c.args.peak.now c.add_steps.new.steps.items (parallel g a)
     (fault_stops c.args.trs.now.rules c.add_steps.new.steps.items c.add_steps.new.pool c.run_path.new.self c.in_ok-left.left 0 c.in-Err-At.field-0 c.args.peak.now.left c.args.peak.now.right
-    (left_stands a) (rw c.deref.ensures.value at c.in-Err-At.ensures.only) other)
+    (left_stands g a) (rw c.deref.ensures.value at c.in-Err-At.ensures.only) other)
 
 pub returns-then-end-right-clause-step : goal.returns-then-end-right-clause-step
-returns-then-end-right-clause-step c =
-    let a = (goal.at.returns-then-end-right-clause-step c).After-run_path in
+returns-then-end-right-clause-step g c =
+    let a = (goal.at.returns-then-end-right-clause-step g c).After-run_path in
     record {
-      parallel = parallel a;
+      parallel = parallel g a;
       follows = end_is_there c.args.trs.now.rules c.add_steps.new.steps.items c.add_steps.new.pool c.run_path.new.self c.in_ok-left.left c.in-Ok.end c.in_ok-right.right
-          c.args.peak.now.left c.args.peak.now.right (left_stands a) (c.in-Ok.ensures.kept.kept c.in_ok-right.right c.args.peak.now.right (right_stands a)) c.if-end-right.true
+          c.args.peak.now.left c.args.peak.now.right (left_stands g a) (c.in-Ok.ensures.kept.kept c.in_ok-right.right c.args.peak.now.right (right_stands g a)) c.if-end-right.true
           (rw c.deref.ensures.value at c.in-Ok.ensures.end);
     }
 
 pub returns-clause-step : goal.returns-clause-step
-returns-clause-step c =
-    let a = (goal.at.returns-clause-step c).After-run_path in
-    not_followed c.args.trs.now.rules c.args.peak.now c.add_steps.new.steps.items (parallel a)
+returns-clause-step g c =
+    let a = (goal.at.returns-clause-step g c).After-run_path in
+    not_followed c.args.trs.now.rules c.args.peak.now c.add_steps.new.steps.items (parallel g a)
     (leads_to_end c.args.trs.now.rules c.add_steps.new.steps.items c.add_steps.new.pool c.run_path.new.self c.in_ok-left.left c.in-Ok.end c.in_ok-right.right c.args.peak.now.left c.args.peak.now.right
-    c.ids_are_distinct.ensures (left_stands a) (c.in-Ok.ensures.kept.kept c.in_ok-right.right c.args.peak.now.right (right_stands a)) (rw c.deref.ensures.value at c.in-Ok.ensures.only) c.if-end-right.false)
+    c.ids_are_distinct.ensures (left_stands g a) (c.in-Ok.ensures.kept.kept c.in_ok-right.right c.args.peak.now.right (right_stands g a)) (rw c.deref.ensures.value at c.in-Ok.ensures.only) c.if-end-right.false)

@@ -1,4 +1,4 @@
-use Rattle.std.proofs.Common.{ap, sym, subst}
+use Rattle.std.proofs.Common.{ap, sym, subst, ◌∙◌}
 use Rattle.trs_core.specs.View.{tree}
 use Rattle.trs_defs.specs.Tree.{Tree}
 use Rattle.term_pool.specs.Pooled.{StandsFor}
@@ -9,43 +9,43 @@ use Rattle.join_find.proofs.KeptOfSides.{narrow_at, narrow_still}
 use Rattle.join_find.proofs.strong.first_four.Goals.{In_ok-right}
 use Rattle.join_find.proofs.strong.first_four.Goals as goal
 
-left_stands : (c : In_ok-right) → StandsFor c.intern-2.new.self.pool c.in_ok-left.left c.args.peak.now.left
-left_stands c =
+left_stands : (g : _) (c : In_ok-right g) → StandsFor c.intern-2.new.self.pool c.in_ok-left.left c.args.peak.now.left
+left_stands g c =
     let S : Tree → Type 0 = λ t. StandsFor c.intern-2.new.self.pool c.in_ok-left.left t in
-    subst S (ap (λ (p : PlacedPeak). p.left) c.peak.view_is) (c.in_ok-right.ensures.kept.kept c.in_ok-left.left (tree c.peak.inside.left) c.in_ok-left.ensures.id)
+    subst S (c.term.ensures ∙ ap (λ (p : PlacedPeak). p.left) c.peak.view_is) (c.in_ok-right.ensures.kept.kept c.in_ok-left.left (tree c.term.result.now) c.in_ok-left.ensures.id)
 
-right_stands : (c : In_ok-right) → StandsFor c.intern-2.new.self.pool c.in_ok-right.right c.args.peak.now.right
-right_stands c =
+right_stands : (g : _) (c : In_ok-right g) → StandsFor c.intern-2.new.self.pool c.in_ok-right.right c.args.peak.now.right
+right_stands g c =
     let S : Tree → Type 0 = λ t. StandsFor c.intern-2.new.self.pool c.in_ok-right.right t in
-    subst S (ap (λ (p : PlacedPeak). p.right) c.peak.view_is) c.in_ok-right.ensures.id
+    subst S (c.term-2.ensures ∙ ap (λ (p : PlacedPeak). p.right) c.peak.view_is) c.in_ok-right.ensures.id
 
 pub first_half-requires-clause-sides : goal.first_half-requires-clause-sides
-first_half-requires-clause-sides c =
+first_half-requires-clause-sides g c =
     let rules = c.args.by_root.now.rules in
     c.in_ok-right.ensures.sides rules (c.in_ok-left.ensures.sides rules (c.make_room.ensures.sides rules c.requires.sides))
 
 pub first_half-requires-2-clause-from : goal.first_half-requires-2-clause-from
-first_half-requires-2-clause-from c =
-    let a = (goal.at.first_half-requires-2-clause-from c).In_ok-right in
+first_half-requires-2-clause-from g c =
+    let a = (goal.at.first_half-requires-2-clause-from g c).In_ok-right in
     narrow_still c.intern-2.new.self.pool c.first_half.new.self.pool c.in_ok-right.right c.in_ok-u.ensures.kept
-    (narrow_at c.intern-2.new.self.pool c.in_ok-right.right c.args.peak.now.right (right_stands a) c.requires.peak.right)
+    (narrow_at c.intern-2.new.self.pool c.in_ok-right.right c.args.peak.now.right (right_stands g a) c.requires.peak.right)
 
 pub first_half-requires-2-clause-to : goal.first_half-requires-2-clause-to
-first_half-requires-2-clause-to c =
-    let a = (goal.at.first_half-requires-2-clause-to c).In_ok-right in
+first_half-requires-2-clause-to g c =
+    let a = (goal.at.first_half-requires-2-clause-to g c).In_ok-right in
     narrow_still c.intern-2.new.self.pool c.first_half.new.self.pool c.in_ok-left.left c.in_ok-u.ensures.kept
-    (narrow_at c.intern-2.new.self.pool c.in_ok-left.left c.args.peak.now.left (left_stands a) c.requires.peak.left)
+    (narrow_at c.intern-2.new.self.pool c.in_ok-left.left c.args.peak.now.left (left_stands g a) c.requires.peak.left)
 
 pub returns-clause-four : goal.returns-clause-four
-returns-clause-four c =
-    let a = (goal.at.returns-clause-four c).In_ok-right in
+returns-clause-four g c =
+    let a = (goal.at.returns-clause-four g c).In_ok-right in
     let rules = c.args.by_root.now.rules in
     let left = c.args.peak.now.left in
     let right = c.args.peak.now.right in
     let L : PathsOfJoin → Type 0 = λ paths. IsFirstHalf rules left right paths in
     let R : PathsOfJoin → Type 0 = λ paths. IsFirstHalf rules right left paths in
     let kept = c.in_ok-u.ensures.kept.kept in
-    let from_left : L c.in-Some.u = rw c.in-Some.is at (c.in_ok-u.ensures.half left right (left_stands a) (right_stands a)) in
+    let from_left : L c.in-Some.u = rw c.in-Some.is at (c.in_ok-u.ensures.half left right (left_stands g a) (right_stands g a)) in
     let from_right : R c.in-Some-2.v =
-    rw c.in-Some-2.is at (c.in_ok-v.ensures.half right left (kept c.in_ok-right.right right (right_stands a)) (kept c.in_ok-left.left left (left_stands a))) in
+    rw c.in-Some-2.is at (c.in_ok-v.ensures.half right left (kept c.in_ok-right.right right (right_stands g a)) (kept c.in_ok-left.left left (left_stands g a))) in
     record { from_left = subst L (sym c.u.view_is) from_left; from_right = subst R (sym c.v.view_is) from_right }

@@ -15,67 +15,67 @@ use Rattle.label_find.proofs.constraints.constraint_at.Goals.{In_ok-right}
 use Rattle.label_find.proofs.constraints.constraint_at.Goals as goal
 
 pub list-requires-clause-sides : goal.list-requires-clause-sides
-list-requires-clause-sides c = c.make_room.ensures.sides c.args.trs.now.rules c.requires.listed
+list-requires-clause-sides g c = c.make_room.ensures.sides c.args.trs.now.rules c.requires.listed
 
 pub number-requires-clause-listed : goal.number-requires-clause-listed
-number-requires-clause-listed c = c.in_ok-right_id.ensures.still c.in_ok-left_id.left_id c.in_ok-left_id.ensures.listed
+number-requires-clause-listed g c = c.in_ok-right_id.ensures.still c.in_ok-left_id.left_id c.in_ok-left_id.ensures.listed
 
 pub number-requires-clause-numbers : goal.number-requires-clause-numbers
-number-requires-clause-numbers c =
+number-requires-clause-numbers g c =
     let table = c.args.table.now.items in
     c.in_ok-right_id.ensures.numbers table (c.in_ok-left_id.ensures.numbers table (c.make_room.ensures.numbers table c.requires.numbers))
 
 pub number-requires-clause-short : goal.number-requires-clause-short
-number-requires-clause-short c = short_paths c.args.trs.now.rules c.list-2.new.self c.in_ok-right_id.ensures.sides
+number-requires-clause-short g c = short_paths c.args.trs.now.rules c.list-2.new.self c.in_ok-right_id.ensures.sides
 
 pub number-requires-2-clause-short : goal.number-requires-2-clause-short
-number-requires-2-clause-short c =
+number-requires-2-clause-short g c =
     short_paths c.args.trs.now.rules c.number.new.self (listed_same c.args.trs.now.rules c.list-2.new.self c.number.new.self c.in_ok-left.ensures.same c.in_ok-right_id.ensures.sides)
 
 pub number-requires-2-clause-listed : goal.number-requires-2-clause-listed
-number-requires-2-clause-listed c =
+number-requires-2-clause-listed g c =
     subst (λ (lists : KeptLists). IsTrue (is_some (list_of lists c.in_ok-right_id.right_id))) (sym c.in_ok-left.ensures.same.lists) c.in_ok-right_id.ensures.listed
 
-all_listed : (c : In_ok-right) → AreListed c.args.trs.now.rules c.number-2.new.self
-all_listed c =
+all_listed : (g : _) (c : In_ok-right g) → AreListed c.args.trs.now.rules c.number-2.new.self
+all_listed g c =
     listed_same c.args.trs.now.rules c.number.new.self c.number-2.new.self c.in_ok-right.ensures.same
     (listed_same c.args.trs.now.rules c.list-2.new.self c.number.new.self c.in_ok-left.ensures.same c.in_ok-right_id.ensures.sides)
 
-of_left : (c : In_ok-right) → IsNumbered c.number-2.new.self c.number-2.new.table.items c.in_ok-left_id.left_id c.in_ok-left.left
-of_left c =
+of_left : (g : _) (c : In_ok-right g) → IsNumbered c.number-2.new.self c.number-2.new.table.items c.in_ok-left_id.left_id c.in_ok-left.left
+of_left g c =
     still_numbered c.number.new.self c.number-2.new.self c.number.new.table.items c.number-2.new.table.items c.in_ok-left_id.left_id c.in_ok-left.left
     c.in_ok-right.ensures.same c.in_ok-right.ensures.grown c.in_ok-left.ensures.number
 
 pub new-requires-clause-left : goal.new-requires-clause-left
-new-requires-clause-left c =
-    let at = (goal.at.new-requires-clause-left c).In_ok-right in
+new-requires-clause-left g c =
+    let at = (goal.at.new-requires-clause-left g c).In_ok-right in
     subst (λ (sides : List SideRules). IsSmallSide sides c.in_ok-left.left) (sym c.deref.ensures.value)
-    (small_side c.args.trs.now.rules c.number-2.new.self c.number-2.new.table.items c.in_ok-left_id.left_id c.in_ok-left.left (all_listed at) (of_left at))
+    (small_side c.args.trs.now.rules c.number-2.new.self c.number-2.new.table.items c.in_ok-left_id.left_id c.in_ok-left.left (all_listed g at) (of_left g at))
 
 pub new-requires-clause-right : goal.new-requires-clause-right
-new-requires-clause-right c =
-    let at = (goal.at.new-requires-clause-right c).In_ok-right in
+new-requires-clause-right g c =
+    let at = (goal.at.new-requires-clause-right g c).In_ok-right in
     subst (λ (sides : List SideRules). IsSmallSide sides c.in_ok-right.right) (sym c.deref.ensures.value)
-    (small_side c.args.trs.now.rules c.number-2.new.self c.number-2.new.table.items c.in_ok-right_id.right_id c.in_ok-right.right (all_listed at) c.in_ok-right.ensures.number)
+    (small_side c.args.trs.now.rules c.number-2.new.self c.number-2.new.table.items c.in_ok-right_id.right_id c.in_ok-right.right (all_listed g at) c.in_ok-right.ensures.number)
 
 pub returns-clause-constraint : goal.returns-clause-constraint
-returns-clause-constraint c =
-    let at = (goal.at.returns-clause-constraint c).In_ok-right in
+returns-clause-constraint g c =
+    let at = (goal.at.returns-clause-constraint g c).In_ok-right in
     let P : List SideRules → Type 0 = λ sides. IfOk c.new.result (IsConstraintOf c.peak.inside.inner c.peak.inside.outer c.in_ok-left.left c.in_ok-right.right sides) in
     ok_map c.new.result (IsConstraintOf c.peak.inside.inner c.peak.inside.outer c.in_ok-left.left c.in_ok-right.right c.number-2.new.table.items)
     (IsConstraintFor c.args.trs.now.rules c.number-2.new.table.items c.args.peak.now)
-    (λ d h. constraint_of_numbered c.args.trs.now.rules c.list-2.new.self c.number-2.new.self c.number-2.new.table.items c.args.peak.now (tree c.peak.inside.left) (tree c.peak.inside.right)
+    (λ d h. constraint_of_numbered c.args.trs.now.rules c.list-2.new.self c.number-2.new.self c.number-2.new.table.items c.args.peak.now (tree c.term.result.now) (tree c.term-2.result.now)
     c.in_ok-left_id.left_id c.in_ok-right_id.right_id c.peak.inside.inner c.peak.inside.outer c.in_ok-left.left c.in_ok-right.right d
     (c.in_ok-right.ensures.same.lists ∙ c.in_ok-left.ensures.same.lists) c.in_ok-right_id.ensures.sides (rw c.pool.ensures.is at c.ids_are_distinct.ensures)
-    (c.in_ok-right_id.ensures.kept.kept c.in_ok-left_id.left_id (tree c.peak.inside.left) c.in_ok-left_id.ensures.id) c.in_ok-right_id.ensures.id
-    (ap (λ (p : PlacedPeak). p.left) c.peak.view_is) (ap (λ (p : PlacedPeak). p.right) c.peak.view_is) (ap (λ (p : PlacedPeak). p.inner) c.peak.view_is)
-    (ap (λ (p : PlacedPeak). p.outer) c.peak.view_is) (of_left at) c.in_ok-right.ensures.number h) (subst P c.deref.ensures.value c.new.ensures)
+    (c.in_ok-right_id.ensures.kept.kept c.in_ok-left_id.left_id (tree c.term.result.now) c.in_ok-left_id.ensures.id) c.in_ok-right_id.ensures.id
+    (c.term.ensures ∙ ap (λ (p : PlacedPeak). p.left) c.peak.view_is) (c.term-2.ensures ∙ ap (λ (p : PlacedPeak). p.right) c.peak.view_is) (ap (λ (p : PlacedPeak). p.inner) c.peak.view_is)
+    (ap (λ (p : PlacedPeak). p.outer) c.peak.view_is) (of_left g at) c.in_ok-right.ensures.number h) (subst P c.deref.ensures.value c.new.ensures)
 
 pub returns-clause-grown : goal.returns-clause-grown
-returns-clause-grown c = always_ok c.new.result (front_on c.args.table.now.items c.number.new.table.items c.number-2.new.table.items c.in_ok-left.ensures.grown c.in_ok-right.ensures.grown)
+returns-clause-grown g c = always_ok c.new.result (front_on c.args.table.now.items c.number.new.table.items c.number-2.new.table.items c.in_ok-left.ensures.grown c.in_ok-right.ensures.grown)
 
 pub returns-clause-listed : goal.returns-clause-listed
-returns-clause-listed c = always_ok c.new.result (all_listed (goal.at.returns-clause-listed c).In_ok-right)
+returns-clause-listed g c = always_ok c.new.result (all_listed g (goal.at.returns-clause-listed g c).In_ok-right)
 
 pub returns-clause-numbers : goal.returns-clause-numbers
-returns-clause-numbers c = always_ok c.new.result c.in_ok-right.ensures.numbers
+returns-clause-numbers g c = always_ok c.new.result c.in_ok-right.ensures.numbers

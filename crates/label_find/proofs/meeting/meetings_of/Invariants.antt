@@ -1,5 +1,5 @@
 use Rattle.label_find.specs.Meetings.{AreMeetings}
 use Rattle.label_find.proofs.meeting.meetings_of.Given as goal
 
-abbrev pub invariant-loop-number : goal.invariant-loop-number
-invariant-loop-number l = AreMeetings l.lefts l.rights l.number l.meetings.items
+abbrev pub invariant-loop-place : goal.invariant-loop-place
+invariant-loop-place l = AreMeetings l.lefts l.rights l.place l.meetings.items
