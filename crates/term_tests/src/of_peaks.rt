@@ -1,15 +1,20 @@
 //! The finders of what confluence needs: what is found at critical peaks, and that a stop is seen
 //! before the first.
+ghost use Rattle.std.specs.Prelude.{Ok};
+ghost use Rattle.crit_pairs.specs.PeakList.{ListsPeaks};
+
 use crate::lettered::constants;
+use crate::made::term;
 use crate::stops::{BUDGET, Ending, at_once, ending_of, never};
 use conf_find::{find_fork, find_split};
-use crit_pairs::critical_pairs;
+use crit_pairs::{critical_pairs, shared_peaks};
 use finder_cases::StopAt;
 use join_find::{find_newman, find_parallel, find_strong};
 use label_find::find_label;
+use rewrite_core::{BuiltTop, Peak, SharedSide};
 use std::alloc::Global;
 use std::test::Fail;
-use trs_core::Trs;
+use trs_core::{OutOfMemory, Rule, Term, Trs};
 
 /// `a -> b` twice: both critical peaks are closed by no steps.
 fn closed_system(alloc: Global) -> Result<Trs, Fail> {
@@ -19,6 +24,29 @@ fn closed_system(alloc: Global) -> Result<Trs, Fail> {
 /// `a -> b` and `a -> c`: the critical peaks lead to different normal forms.
 fn forked_system(alloc: Global) -> Result<Trs, Fail> {
     constants(alloc, 3, &[(0, 1), (0, 2)])
+}
+
+/// A term of 255 nodes: a tree over one constant.
+fn large(alloc: Global, constant: u32) -> Result<Term, OutOfMemory> {
+    let mut tree = term(alloc, constant, [])?;
+    for _ in 0..7 {
+        let other = tree.copy(alloc)?;
+        tree = term(alloc, 3, [tree, other])?;
+    }
+    Ok(tree)
+}
+
+/// The constant `a` goes to the large trees over two constants.
+fn large_system(alloc: Global, first: u32, second: u32) -> Result<Trs, Fail> {
+    let mut rules = Vec::new(alloc);
+    for constant in [first, second] {
+        rules.push(Rule {
+            left: term(alloc, 0, [])?,
+            right: large(alloc, constant)?,
+        })?;
+    }
+    let arities = Vec::from_array(alloc, [0, 0, 0, 2])?;
+    Ok(Trs::new(arities, rules)?)
 }
 
 /// A finder of joins, of ranks or of what is not joined.
@@ -35,13 +63,31 @@ enum Finder {
 /// What a finder says of a system's critical peaks.
 fn of_system(alloc: Global, finder: &Finder, trs: &Trs, stop: &mut StopAt) -> Result<Ending, Fail> {
     let peaks = critical_pairs(alloc, trs)?;
+    of_peaks(alloc, finder, trs, &peaks, stop)
+}
+
+/// The same, where peaks may share their sides.
+fn of_shared(alloc: Global, finder: &Finder, trs: &Trs) -> Result<Ending, Fail> {
+    let peaks = shared_peaks(alloc, trs)?;
+    of_peaks(alloc, finder, trs, &peaks, &mut never())
+}
+
+fn of_peaks<T: BuiltTop>(
+    alloc: Global,
+    finder: &Finder,
+    trs: &Trs,
+    peaks: &[Peak<T>],
+    stop: &mut StopAt,
+) -> Result<Ending, Fail>
+    requires { ListsPeaks trs.now.rules (Ok peaks.now) }
+{
     let ending = match finder {
-        Finder::Joins => ending_of(find_newman(alloc, trs, &peaks, stop)),
-        Finder::ParallelSteps => ending_of(find_parallel(alloc, trs, &peaks, stop)),
-        Finder::StrongJoins => ending_of(find_strong(alloc, trs, &peaks, stop)),
-        Finder::Ranks => ending_of(find_label(alloc, trs, &peaks, BUDGET, stop)),
-        Finder::Forks => ending_of(find_fork(alloc, trs, &peaks, stop)),
-        Finder::Splits => ending_of(find_split(alloc, trs, &peaks, stop)),
+        Finder::Joins => ending_of(find_newman(alloc, trs, peaks, stop)),
+        Finder::ParallelSteps => ending_of(find_parallel(alloc, trs, peaks, stop)),
+        Finder::StrongJoins => ending_of(find_strong(alloc, trs, peaks, stop)),
+        Finder::Ranks => ending_of(find_label(alloc, trs, peaks, BUDGET, stop)),
+        Finder::Forks => ending_of(find_fork(alloc, trs, peaks, stop)),
+        Finder::Splits => ending_of(find_split(alloc, trs, peaks, stop)),
     };
     Ok(ending?)
 }
@@ -59,6 +105,8 @@ fn finders_at_closed_peaks(rt: HostRuntime) -> Result<(), Fail> {
         assert!(rt; matches!(stopped, Ending::Stopped), "by {finder:?}");
         let found = of_system(rt.alloc(), finder, &trs, &mut never())?;
         assert!(rt; matches!(found, Ending::Found), "by {finder:?}");
+        let same = of_shared(rt.alloc(), finder, &trs)?;
+        assert!(rt; matches!(same, Ending::Found), "by {finder:?}");
     }
     Ok(())
 }
@@ -71,6 +119,30 @@ fn finders_at_different_normal_forms(rt: HostRuntime) -> Result<(), Fail> {
         assert!(rt; matches!(stopped, Ending::Stopped), "by {finder:?}");
         let found = of_system(rt.alloc(), finder, &trs, &mut never())?;
         assert!(rt; matches!(found, Ending::Found), "by {finder:?}");
+        let same = of_shared(rt.alloc(), finder, &trs)?;
+        assert!(rt; matches!(same, Ending::Found), "by {finder:?}");
     }
+    Ok(())
+}
+
+#[test]
+fn peaks_share_large_right_sides(rt: HostRuntime) -> Result<(), Fail> {
+    let peaks = shared_peaks(rt.alloc(), &large_system(rt.alloc(), 1, 2)?)?;
+    assert!(rt; peaks.len() == 2);
+    for peak in &peaks {
+        assert!(rt; matches!(&peak.left, SharedSide::Shared(_)));
+        assert!(rt; matches!(&peak.right, SharedSide::Shared(_)));
+    }
+    Ok(())
+}
+
+#[test]
+fn finders_at_shared_sides(rt: HostRuntime) -> Result<(), Fail> {
+    let closed = large_system(rt.alloc(), 1, 1)?;
+    let joined = of_shared(rt.alloc(), &Finder::Joins, &closed)?;
+    assert!(rt; matches!(joined, Ending::Found));
+    let forked = large_system(rt.alloc(), 1, 2)?;
+    let split = of_shared(rt.alloc(), &Finder::Splits, &forked)?;
+    assert!(rt; matches!(split, Ending::Found));
     Ok(())
 }

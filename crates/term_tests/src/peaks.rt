@@ -1,7 +1,8 @@
-//! Critical peaks that pass the limits.
+//! Critical peaks that pass the limits, and such as have ids in a pool.
 use crate::exploding::{chain, double};
+use crate::lettered::constants;
 use crate::texts::read;
-use crit_pairs::{PeakFault, critical_pairs};
+use crit_pairs::{PeakFault, PooledPeaks, critical_pairs};
 use std::alloc::Global;
 use std::test::Fail;
 use trs_core::{OutOfMemory, Rule, Trs};
@@ -55,5 +56,21 @@ fn a_top_is_too_large(rt: HostRuntime) -> Result<(), Fail> {
 fn tops_are_too_many(rt: HostRuntime) -> Result<(), Fail> {
     let found = critical_pairs(rt.alloc(), &exploding(rt.alloc(), 13, 33)?);
     assert!(rt; matches!(found, Err(PeakFault::TooMany)));
+    Ok(())
+}
+
+/// `a -> b` twice has two critical peaks.
+#[test]
+fn peaks_have_ids_where_there_are_no_more_than_asked_for(rt: HostRuntime) -> Result<(), Fail> {
+    let trs = constants(rt.alloc(), 2, &[(0, 1), (0, 1)])?;
+    let none = PooledPeaks::of(rt.alloc(), &trs, 1)?;
+    assert!(rt; none.is_none());
+    let found = PooledPeaks::of(rt.alloc(), &trs, 2)?;
+    assert!(rt; found.is_some());
+    if let Some(mut peaks) = found {
+        assert!(rt; peaks.len() == 2);
+        peaks.make_room();
+        assert!(rt; peaks.len() == 2);
+    }
     Ok(())
 }
