@@ -45,7 +45,7 @@ impl Node {
             Node::Var(x) => hash_of_pair(x, u32::MAX),
             Node::App(f, args) => hash_of_pair(f, args),
             Node::Nil => 0,
-            Node::Cons(first, rest) => hash_of_pair(first, rest).rotate_left(16),
+            Node::Cons(first, rest) => hash_of_pair(first, rest).rotate_right(16),
         }
     }
 }
