@@ -8,7 +8,7 @@ ghost use Rattle.completion.specs.MetTerms.{IsMet, KeepsBase};
 ghost use Rattle.completion.specs.Taking.{ArePairsOver, Looks};
 
 use crate::Completion;
-use crate::growing::GrowingTrs;
+use crate::growing::{GrowingTrs, growing_systems_are_valid};
 use crate::met::Met;
 use crate::treating::{Outcome, treat, treat_ids};
 use crit_pairs::{
@@ -320,7 +320,7 @@ fn find_pair(
     ensures kept { OnOk result (KeepsBase met.old met.new) }
     ensures met { OnOk result (IsMet system.now.rules met.new) }
 {
-    let _rules = system.rules();
+    growing_systems_are_valid(system);
     let mut left = units;
     for pair in pairs {
         met.make_room();

@@ -150,6 +150,17 @@ impl GrowingTrs {
     }
 }
 
+/// A law, with nothing to run but the reading of the system: by its type it is one, keeps the limits,
+/// and has arities that are bytes.
+pub(crate) fn growing_systems_are_valid(system: &GrowingTrs)
+    ensures valid { IsSystem system.now }
+    ensures limits { IsWithinLimits system.now }
+    ensures bytes { AreBytes system.now.arities }
+    ensures variables { HaveSmallVariables system.now.rules }
+{
+    let _rules = system.rules();
+}
+
 /// The system of one rule.
 fn single_rule(alloc: Global, arities: &[u8], rule: &Rule) -> Result<Trs, OutOfMemory>
     ensures { IfOk result (λ trs. trs ≡ single arities.now rule.now) }

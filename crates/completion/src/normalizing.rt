@@ -7,7 +7,7 @@ ghost use Rattle.completion.specs.MetTerms.{IsMet};
 
 use crate::Unfinished;
 use crate::first_steps::{Move, first_move};
-use crate::growing::GrowingTrs;
+use crate::growing::{GrowingTrs, growing_systems_are_valid};
 use crate::met::Met;
 use std::alloc::Global;
 use trs_core::OutOfMemory;
@@ -38,7 +38,7 @@ pub(crate) fn normal_form(
     ensures base { OnOk result (met.new.base ≡ met.old.base) }
     ensures met { OnOk result (IsMet system.now.rules met.new) }
 {
-    let _rules = system.rules();
+    growing_systems_are_valid(system);
     let mark = met.pool.mark();
     let mut current = id;
     let mut left = units;

@@ -6,7 +6,7 @@ ghost use Rattle.term_pool.specs.Redexes.{IsNarrow};
 ghost use Rattle.completion.specs.Searching.{ArePassed, AreGroundSides, HasNoneOf};
 ghost use Rattle.completion.specs.Searching.{IsFound, IsRootFound};
 
-use crate::growing::GrowingTrs;
+use crate::growing::{GrowingTrs, growing_systems_are_valid};
 use crate::passed_ids::PassedIds;
 use std::alloc::Global;
 use term_pool::{Pool, ids_are_distinct};
@@ -70,7 +70,7 @@ fn root_redex(
     requires none { HasNoneOf known system.now.rules (tree_at pool.now id) }
     ensures { IfOk result (IsRootFound system.now.rules (tree_at pool.now id)) }
 {
-    let _rules = system.rules();
+    growing_systems_are_valid(system);
     let Some(f) = pool.root(id) else {
         return Ok(None);
     };

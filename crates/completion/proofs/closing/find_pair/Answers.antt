@@ -35,7 +35,7 @@ hand : (c : After-make_room) (peaks : List PlacedPeak) → ListsPeaks c.args.sys
     → IsAtHand c.args.system.now c.make_room.new.self.pool peaks c.loop-pair.pair-index (pair_at c.args.pairs.now c.loop-pair.pair-index)
 hand c peaks lists stand =
     let kept = keeps_on c.args.met.now c.loop-pair.met c.make_room.new.self c.loop-pair.invariant.kept c.make_room.ensures.kept in
-    at_hand c.args.system.now c.rules-rules.ensures.valid (take c.args.met.now.base c.args.met.now.pool) c.make_room.new.self.pool c.args.pairs.now peaks c.loop-pair.pair-index
+    at_hand c.args.system.now c.growing_systems_are_valid.ensures.valid (take c.args.met.now.base c.args.met.now.pool) c.make_room.new.self.pool c.args.pairs.now peaks c.loop-pair.pair-index
     (pair_at c.args.pairs.now c.loop-pair.pair-index) lists stand kept.kept
     (slice_get-get_or c.args.pairs.now c.loop-pair.pair-index (record { left = 0; right = 0 }) c.loop-pair-test.true)
 

@@ -19,7 +19,7 @@ loop-why-init c = record {
 
 pub first_move-requires-clause-narrow : goal.first_move-requires-clause-narrow
 first_move-requires-clause-narrow c =
-    narrow_of_well_formed c.args.system.now.arities c.rules-rules.ensures.bytes (tree_at c.loop-why.met.pool c.loop-why.current) c.loop-why.invariant.way.well_formed
+    narrow_of_well_formed c.args.system.now.arities c.growing_systems_are_valid.ensures.bytes (tree_at c.loop-why.met.pool c.loop-why.current) c.loop-why.invariant.way.well_formed
 
 -- the pool after the move has what it had at first
 kept : (c : In_ok-first_move) → Extends c.args.met.now.pool c.first_move.new.met.pool
@@ -71,7 +71,7 @@ pub loop-why-preserved : goal.loop-why-preserved
 loop-why-preserved c =
     let M : Move → Type 0 = IsMove c.args.system.now.rules c.loop-why.left (tree_at c.loop-why.met.pool c.loop-why.current) c.first_move.new.met.pool in
     record {
-      way = way_goes_on c.args.system.now c.rules-rules.ensures.valid c.args.units c.loop-why.left (tree_at c.args.met.now.pool c.args.id) c.loop-why.met.pool c.first_move.new.met.pool c.carry_over.new.self.pool
+      way = way_goes_on c.args.system.now c.growing_systems_are_valid.ensures.valid c.args.units c.loop-why.left (tree_at c.args.met.now.pool c.args.id) c.loop-why.met.pool c.first_move.new.met.pool c.carry_over.new.self.pool
           c.loop-why.current c.in-To.next c.in_ok-current-in-To.current c.loop-why.invariant.way (subst M c.in-To.is c.in_ok-first_move.ensures.moves).0
           c.in_ok-current-in-To.ensures.same c.in_ok-current-in-To.ensures.there;
       kept = kept_cut c.args.met.now.pool c.first_move.new.met.pool c.carry_over.new.self.pool c.mark-mark.result c.mark-mark.ensures (kept (goal.at.loop-why-preserved c).In_ok-first_move) c.in_ok-current-in-To.ensures.kept;
