@@ -1,5 +1,5 @@
 -- Names with one more behind them, and their numbers.
-use Rattle.std.proofs.Common.{◌≡◌, ◌∙◌, ℕ, zero, suc, Bool, true, false, cond, not, ◌||◌, ◌&&◌, List, [], ◌∷◌, ◌++◌, Option, Some, None, option_map, unwrap_or, refl, ap, ◌<◌, length, get_or, take, arith}
+use Rattle.std.proofs.Common.{◌≡◌, ◌∙◌, ◌+◌, ℕ, zero, suc, Bool, true, false, cond, not, ◌||◌, ◌&&◌, List, [], ◌∷◌, ◌++◌, Option, Some, None, option_map, unwrap_or, refl, ap, ◌<◌, length, get_or, take, drop, sym, arith}
 use Rattle.std.specs.Str.{bytes_eq}
 use Rattle.std.specs.List.{list_any}
 use Rattle.std.specs.Option.{option_or}
@@ -7,6 +7,7 @@ use Rattle.std.proofs.lemmas.Bool.{and_parts, false_from_ne_true, both_ways, not
 use Rattle.std.proofs.lemmas.Cmp.{nat_list_eq_equiv}
 use Rattle.std.proofs.lemmas.List.Folds.{list_any-append, list_any_at}
 use Rattle.names_text.specs.Names.{number_among, are_distinct}
+use Rattle.names_text.proofs.Loops.{one_more}
 
 absent_behind : (b rest : Bool) (o : Option ℕ) → cond b (Some 0) (option_map suc o) ≡ None → (o ≡ None → rest ≡ false) → (b || rest) ≡ false
 absent_behind true rest o e h = absurd cc
@@ -67,3 +68,31 @@ behind_first false b (Some i) r k e = ap (option_map suc) e
 pub number_behind : (ns : List (List ℕ)) (name q : List ℕ) → number_among (ns ++ name ∷ []) q ≡ option_or (number_among ns q) (cond (bytes_eq q name) (Some (length ns)) None)
 number_behind [] name q = refl
 number_behind (n ∷ ns) name q = behind_first (bytes_eq q n) (bytes_eq q name) (number_among ns q) _ (length ns) (number_behind ns name q)
+
+-- ---- names that are looked at one after another
+
+-- the number of a name is that by the names from number i on
+abbrev pub IsNumberFrom : List (List ℕ) → List ℕ → ℕ → Type 0
+IsNumberFrom ns q i = option_map (λ (k : ℕ). k + i) (number_among (drop i ns) q) ≡ number_among ns q
+
+found_here : (i : ℕ) (b : Bool) (o : Option ℕ) → b ≡ true → option_map (λ (k : ℕ). k + i) (cond b (Some 0) o) ≡ Some i
+found_here i true o e = ap Some (omega arith)
+found_here i false o e = absurd cc
+
+passed_over : (i : ℕ) (b : Bool) (o : Option ℕ) → b ≡ false
+    → option_map (λ (k : ℕ). k + (i + 1)) o ≡ option_map (λ (k : ℕ). k + i) (cond b (Some 0) (option_map suc o))
+passed_over i true o e = absurd cc
+passed_over i false None e = refl
+passed_over i false (Some k) e = ap Some (omega arith)
+
+module _ (ns : List (List ℕ)) (q n : List ℕ) (i : ℕ) (lt : i < length ns) (is : n ≡ get_or ns i n) (from : IsNumberFrom ns q i) where
+  looked_at : option_map (λ (k : ℕ). k + i) (number_among (n ∷ drop (i + 1) ns) q) ≡ number_among ns q
+  looked_at = one_more (λ l. option_map (λ (k : ℕ). k + i) (number_among l q)) ns i n lt is ∙ from
+
+  -- the name is the one that is looked at
+  pub name_found : bytes_eq q n ≡ true → Some i ≡ number_among ns q
+  name_found e = sym (found_here i (bytes_eq q n) _ e) ∙ looked_at
+
+  -- the name is another one
+  pub name_passed_over : bytes_eq q n ≡ false → IsNumberFrom ns q (i + 1)
+  name_passed_over e = passed_over i (bytes_eq q n) (number_among (drop (i + 1) ns) q) e ∙ looked_at

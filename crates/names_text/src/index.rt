@@ -1,5 +1,5 @@
 //! An index of names: slots by their hashes, and trees for the names whose slots others have.
-ghost use Rattle.std.specs.Prelude.{◌≡◌, ◌↔◌, ◌<◌, ◌^◌, [], List, ℕ, length, map, slice_get, Option, Some, None, IfOk, OnOk, OnErr, IsTrue, true};
+ghost use Rattle.std.specs.Prelude.{◌≡◌, ◌↔◌, ◌<◌, ◌≤◌, ◌^◌, [], List, ℕ, length, map, slice_get, Option, Some, None, IfOk, OnOk, OnErr, IsTrue, true};
 ghost use Rattle.names_text.specs.Names.{number_among, are_distinct};
 ghost use Rattle.names_text.specs.NameTable.{Adds, IsIndex, free, front, hash_of, number_behind_slot, number_by_look, number_by_slot, second_hash_of, slot_for, slot_of};
 
@@ -7,7 +7,7 @@ use crate::trees::NameTrees;
 use std::alloc::{AllocError, Global};
 use std::hash::{FoldHasher, Hasher};
 
-/// Fewer names have no slots, but trees alone.
+/// So many names have no slots, and each of them is looked at.
 const FEW: usize = 8;
 
 /// The least number of slots, where there are any. As it is a power of two, so are all.
@@ -99,8 +99,8 @@ impl Index {
         requires { IsIndex (map (λ n. n.items) names.now) self.now }
         ensures { result ≡ number_among (map (λ n. n.items) names.now) name.now }
     {
-        if self.slots.is_empty() {
-            return self.trees.find(names, name, second_hash(name));
+        if names.len() <= FEW {
+            return find_among_few(names, name);
         }
         match self.look(names, name, hash(name)) {
             Look::Free => None,
@@ -174,6 +174,19 @@ impl Index {
             None => false,
         }
     }
+}
+
+/// The number of a name, for which each of a few is looked at.
+fn find_among_few(names: &[Vec<u8>], name: &[u8]) -> Option<u32>
+    requires { length names.now ≤ 8 }
+    ensures { result ≡ number_among (map (λ n. n.items) names.now) name.now }
+{
+    for (number, other) in names.iter().enumerate() {
+        if name == other.as_slice() {
+            return Some(number as u32);
+        }
+    }
+    None
 }
 
 fn hash(name: &[u8]) -> u64
