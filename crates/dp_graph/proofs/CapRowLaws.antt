@@ -1,15 +1,11 @@
 -- Caps with numbers, one after another, and the rows of the left sides that they meet.
-use Rattle.std.specs.Prelude.{◌≡◌, ◌<◌, ◌≤◌, ◌↔◌, ◌⊎◌, ℕ, ◌+◌, ◌++◌, ◌==◌, Bool, true, false, not, cond, List, [], ◌∷◌, length, take, get_or, All, Option, Some, None, IfSome, IsTrue, Result, Ok, Err, IfOk, OnOk, Vec, slice_get, slice_set, slice_index, refl}
+use Rattle.std.specs.Prelude.{◌≡◌, ◌<◌, ◌≤◌, ◌↔◌, ◌⊎◌, ℕ, ◌+◌, ◌++◌, ◌==◌, Bool, true, false, not, List, [], ◌∷◌, length, take, get_or, All, Option, Some, None, IfSome, IsTrue, Result, Ok, Err, IfOk, OnOk, Vec, slice_get, slice_set, slice_index, refl}
 use Rattle.std.specs.declared.alloc.Global.{Global}
-use Rattle.std.specs.BTreeMap.{get, is_at}
-use Rattle.std.specs.Map.{lookup}
 use Rattle.std.proofs.Common.{inl, inr, sym, ap, ap₂, subst, arith, ◌∙◌, append_assoc, length-append}
 use Rattle.std.proofs.lemmas.List.{append-nil, take_all, take_more}
 use Rattle.std.proofs.lemmas.List.Elements.{All-more}
 use Rattle.std.proofs.lemmas.Bool.Decides.{Decides-eqb}
-use Rattle.std.proofs.lemmas.Map.Text.{is_eq-slice_cmp}
 use Rattle.std.proofs.lemmas.Option.{same_Some, slice_get_within}
-use Rattle.std.proofs.lemmas.Slice.Eq.{bytes_eq-Decides}
 use Rattle.trs_defs.specs.Tree.{Tree, Trees, var, app}
 use Rattle.trs_defs.specs.System.{RewriteRule, System, IsSystem, has_root}
 use Rattle.trs_defs.proofs.ListItems.{last_item, item_there}
@@ -29,8 +25,9 @@ use Rattle.pair_theory.specs.Marked.{Marked, marked, plain}
 use Rattle.pair_theory.specs.DependencyPair.{subterms, subterms_of_all}
 use Rattle.dp_graph.specs.GraphNodes.{IsEndOf}
 use Rattle.dp_graph.specs.SameLefts.{HaveSameLefts}
-use Rattle.dp_graph.specs.FlagRows.{IsSet, HasFlags, KeepFlags, IsRow, LooksAtLeft}
-use Rattle.dp_graph.specs.CapRows.{Key, key_cmp, HaveNumbers, no_numbers, one_number, HasKey, AreCaps, KeepNumbers, AreMore, IsNumbered, AddsCap, AreEnds, no_ends, at_variable, not_defined, one_end, IsEnd, AddsEnds, IsCapped, Begins, with_end}
+use Rattle.dp_graph.specs.WordRows.{HasWords, KeepWords}
+use Rattle.dp_graph.specs.FlagRows.{IsSet, IsRow, LooksAtLeft}
+use Rattle.dp_graph.specs.CapRows.{Key, HaveNumbers, no_numbers, one_number, HasKey, AreCaps, KeepNumbers, AreMore, IsNumbered, AddsCap, AreEnds, no_ends, at_variable, not_defined, one_end, IsEnd, AddsEnds, IsCapped, Begins, with_end}
 use Rattle.dp_graph.specs.declared.cap_rows.CapRows.{CapRows}
 use Rattle.dp_graph.specs.declared.cap_rows.End.{End}
 use Rattle.dp_graph.specs.declared.cap_rows.NumberedCap.{NumberedCap}
@@ -188,13 +185,17 @@ with_end_long (Some k) f n ends = length_set ends k (record { symbol = f; cap = 
 
 -- ---- caps that are added
 
-pub hole_alone : (rules : List RewriteRule) (lefts : List ℕ) (table : CapRows) (n : ℕ) → table.caps.items ≡ n ∷ [] → table.seen.entries ≡ []
+pub hole_alone : (rules : List RewriteRule) (lefts : List ℕ) (table : CapRows) (n : ℕ) (key : Key) → table.caps.items ≡ n ∷ [] → table.keys.rows.items ≡ key ∷ [] → key.items ≡ []
     → AreCaps rules lefts table (hole ∷ [])
-hole_alone rules lefts table n one seen = record {
+hole_alone rules lefts table n key one keys empty = record {
   count = ap length one;
   hole_first = refl;
   rows = λ m r f cs at there. absurd (not_hole m f cs at);
-  seen = λ key m at. absurd (let d : None ≡ Some m = sym (ap (λ es. lookup (is_at (key_cmp key)) es) seen) ∙ at in cc);
+  numbered = ap length keys;
+  keys = λ m words (row, at, is). inl (elim (last_or_there [] key row m (subst (λ z. slice_get z m ≡ Some row) keys at)) [
+    | inl e ↦ cc
+    | inr e ↦ sym is ∙ (ap (λ (z : Key). z.items) (sym e.1) ∙ empty)
+  ]);
 }
   where
     not_hole : (m f : ℕ) (cs : HoledTrees) → slice_get (hole ∷ []) m ≡ Some (symbol f cs) → ⊥
@@ -209,13 +210,13 @@ module _ (rules : List RewriteRule) (lefts : List ℕ) where
       keeps m d at = still_there all (c ∷ []) m d at
 
       place : n ≡ length all
-      place = adds.last ∙ are.count
+      place = adds.key.last ∙ are.numbered
 
       here : slice_get (all ++ c ∷ []) n ≡ Some c
       here = subst (λ z. slice_get (all ++ c ∷ []) z ≡ Some c) (sym place) (last_item all c [])
 
       row_of : (m r f : ℕ) (cs : HoledTrees) → slice_get (all ++ c ∷ []) m ≡ Some (symbol f cs) → slice_get new.caps.items m ≡ Some r
-          → (flags : List ℕ) × HasFlags new.rows.rows.items r flags × IsRow rules lefts (symbol f cs) flags
+          → (flags : List ℕ) × HasWords new.rows.rows.items r flags × IsRow rules lefts (symbol f cs) flags
       row_of m r f cs at there =
           elim (last_or_there all c (symbol f cs) m at) [
             | inl e ↦ elim (last_or_there old.caps.items adds.row r m (subst (λ z. slice_get z m ≡ Some r) adds.caps there)) [
@@ -224,42 +225,47 @@ module _ (rules : List RewriteRule) (lefts : List ℕ) where
             ]
             | inr e ↦ elim (last_or_there old.caps.items adds.row r m (subst (λ z. slice_get z m ≡ Some r) adds.caps there)) [
               | inl d ↦ absurd (let w = slice_get_within old.caps.items m r d in let h = e.0 in omega (arith, w, h, are.count))
-              | inr d ↦ (flags, subst (λ z. HasFlags new.rows.rows.items z flags) d.1 adds.here, subst (λ z. IsRow rules lefts z flags) e.1 is)
+              | inr d ↦ (flags, subst (λ z. HasWords new.rows.rows.items z flags) d.1 adds.here, subst (λ z. IsRow rules lefts z flags) e.1 is)
             ]
           ]
 
-      seen_of : (k : Key) (m : ℕ) (b : Bool) → is_at (key_cmp key) k ≡ b → get key_cmp new.seen k ≡ Some m → (d : HoledTree) × (slice_get (all ++ c ∷ []) m ≡ Some d) × HasKey (all ++ c ∷ []) d k.items
-      seen_of k m true e at =
-          let same : key.items ≡ k.items = (bytes_eq-Decides key.items k.items).0 (sym (is_eq-slice_cmp key.items k.items) ∙ e) in
-          let found : get key_cmp new.seen k ≡ Some n = adds.seen.0 k ∙ ap (λ b. cond b (Some n) (get key_cmp old.seen k)) e in
-          let number : n ≡ m = same_Some n m (sym found ∙ at) in
-          (c, subst (λ z. slice_get (all ++ c ∷ []) z ≡ Some c) number here, subst (HasKey (all ++ c ∷ []) c) same (still_key all (all ++ c ∷ []) c key.items keeps has))
-      seen_of k m false e at =
-          let there : get key_cmp new.seen k ≡ get key_cmp old.seen k = adds.seen.0 k ∙ ap (λ b. cond b (Some n) (get key_cmp old.seen k)) e in
-          let (d, numbered, also) = are.seen k m (sym there ∙ at) in
-          (d, keeps m d numbered, still_key all (all ++ c ∷ []) d k.items keeps also)
+      key_of : (m : ℕ) (words : List ℕ) → HasWords new.keys.rows.items m words → (words ≡ []) ⊎ ((d : HoledTree) × (slice_get (all ++ c ∷ []) m ≡ Some d) × HasKey (all ++ c ∷ []) d words)
+      key_of m words (row, at, is) =
+          elim (last_or_there old.keys.rows.items key row m (subst (λ z. slice_get z m ≡ Some row) adds.key.rows at)) [
+            | inl e ↦ elim (are.keys m words (row, e, is)) [
+              | inl empty ↦ inl empty
+              | inr known ↦ (let (d, numbered, also) = known in inr (d, keeps m d numbered, still_key all (all ++ c ∷ []) d words keeps also))
+            ]
+            | inr e ↦ inr (
+              c,
+              subst (λ z. slice_get (all ++ c ∷ []) z ≡ Some c) (adds.key.last ∙ sym e.0) here,
+              subst (HasKey (all ++ c ∷ []) c) (ap (λ (z : Key). z.items) e.1 ∙ is) (still_key all (all ++ c ∷ []) c key.items keeps has),
+            )
+          ]
 
       made : AreCaps rules lefts new (all ++ c ∷ [])
       made = record {
         count = ap length adds.caps ∙ (length-append old.caps.items (adds.row ∷ []) ∙ (ap (λ z. z + 1) are.count ∙ sym (length-append all (c ∷ []))));
         hole_first = keeps 0 hole are.hole_first;
         rows = row_of;
-        seen = λ k m at. seen_of k m (is_at (key_cmp key) k) refl at;
+        numbered = ap length adds.key.rows ∙ (length-append old.keys.rows.items (key ∷ []) ∙ (ap (λ z. z + 1) are.numbered ∙ sym (length-append all (c ∷ []))));
+        keys = key_of;
       }
 
-  -- a cap whose key was seen
-  pub cap_seen : (table : CapRows) (all : List HoledTree) (c : HoledTree) (key : Key) (n : ℕ) → AreCaps rules lefts table all → HasKey all c key.items → Some n ≡ get key_cmp table.seen key
+  -- a cap whose key is known
+  pub cap_known : (table : CapRows) (all : List HoledTree) (c : HoledTree) (key : List ℕ) (n : ℕ) → AreCaps rules lefts table all → HasKey all c key → HasWords table.keys.rows.items n key
       → AreMore rules lefts table all (λ grown. slice_get grown n ≡ Some c)
-  cap_seen table all c key n are has at =
-      let (d, numbered, also) = are.seen key n (sym at) in
-      (all, λ m e h. h, are, subst (λ z. slice_get all n ≡ Some z) (same_key all d c key.items also has) numbered)
+  cap_known table all c key n are has words = elim (are.keys n key words) [
+    | inl empty ↦ absurd (let d : [] ≡ has.root ∷ has.numbers = sym empty ∙ has.key_is in cc)
+    | inr known ↦ (let (d, numbered, also) = known in (all, λ m e h. h, are, subst (λ z. slice_get all n ≡ Some z) (same_key all d c key also has) numbered))
+  ]
 
   -- ---- the cap of a term
 
   -- the cap that stays of a symbol over the caps of its arguments
   pub closed_cap : (table : CapRows) (all : List HoledTree) (t : Tree) (f : ℕ) (cs : HoledTrees) (n : ℕ) (b : Bool) → HaveSameLefts rules lefts → AreCaps rules lefts table all → IsWhole rules false t (symbol f cs)
       → slice_get all n ≡ Some (symbol f cs)
-      → ((r : ℕ) (flags : List ℕ) → slice_get table.caps.items n ≡ Some r → HasFlags table.rows.rows.items r flags → IsTrue b ↔ (flags ≡ [])) → MeetsSome (symbol f cs) rules (not b)
+      → ((r : ℕ) (flags : List ℕ) → slice_get table.caps.items n ≡ Some r → HasWords table.rows.rows.items r flags → IsTrue b ↔ (flags ≡ [])) → MeetsSome (symbol f cs) rules (not b)
   closed_cap table all t f cs n b same are whole at says =
       let r = item_there table.caps.items n (let w = slice_get_within all n (symbol f cs) at in omega (arith, w, are.count)) in
       let (flags, has, row) = are.rows n r.0 f cs at r.1 in
@@ -373,7 +379,7 @@ module _ (rules : List RewriteRule) (lefts : List ℕ) where
 
   pub kept_after : (new : CapRows) (first : List HoledTree) (t : Tree) (f : ℕ) (cs : HoledTrees) (n : ℕ) (b : Bool) (found : NumberedCap) → HaveSameLefts rules lefts
       → IsWhole rules false t (symbol f cs) → AreMore rules lefts new first (λ grown. slice_get grown n ≡ Some (symbol f cs))
-      → ((r : ℕ) (flags : List ℕ) → slice_get new.caps.items n ≡ Some r → HasFlags new.rows.rows.items r flags → IsTrue b ↔ (flags ≡ [])) → b ≡ true
+      → ((r : ℕ) (flags : List ℕ) → slice_get new.caps.items n ≡ Some r → HasWords new.rows.rows.items r flags → IsTrue b ↔ (flags ≡ [])) → b ≡ true
       → holed found.cap ≡ symbol f cs → found.number ≡ n → found.whole ≡ n → AreMore rules lefts new first (IsNumbered rules t found)
   kept_after new first t f cs n b found same whole (all, keeps, are, at) says on cap number of_whole =
       let free : MeetsSome (symbol f cs) rules false = subst (λ z. MeetsSome (symbol f cs) rules (not z)) on (closed_cap new all t f cs n b same are whole at says) in
@@ -381,7 +387,7 @@ module _ (rules : List RewriteRule) (lefts : List ℕ) where
 
   pub opened_after : (new : CapRows) (first : List HoledTree) (t : Tree) (f : ℕ) (cs : HoledTrees) (n : ℕ) (b : Bool) (found : NumberedCap) → HaveSameLefts rules lefts
       → IsWhole rules false t (symbol f cs) → AreMore rules lefts new first (λ grown. slice_get grown n ≡ Some (symbol f cs))
-      → ((r : ℕ) (flags : List ℕ) → slice_get new.caps.items n ≡ Some r → HasFlags new.rows.rows.items r flags → IsTrue b ↔ (flags ≡ [])) → b ≡ false
+      → ((r : ℕ) (flags : List ℕ) → slice_get new.caps.items n ≡ Some r → HasWords new.rows.rows.items r flags → IsTrue b ↔ (flags ≡ [])) → b ≡ false
       → holed found.cap ≡ hole → found.number ≡ 0 → found.whole ≡ n → AreMore rules lefts new first (IsNumbered rules t found)
   opened_after new first t f cs n b found same whole (all, keeps, are, at) says off cap number of_whole =
       let meets : MeetsSome (symbol f cs) rules true = subst (λ z. MeetsSome (symbol f cs) rules (not z)) off (closed_cap new all t f cs n b same are whole at says) in
@@ -392,13 +398,13 @@ module _ (rules : List RewriteRule) (lefts : List ℕ) where
   cap_made old new all c key flags (Ok n) are has is adds = cap_added old new all c key flags n are has is adds
   cap_made old new all c key flags (Err e) are has is adds = adds
 
-pub cap_keeps : {E : Type 0} (key : Key) (flags : List ℕ) (old new : CapRows) (result : Result ℕ E) → IfOk result (λ n. AddsCap key flags n old new) → OnOk result (KeepFlags old.rows.rows.items new.rows.rows.items)
+pub cap_keeps : {E : Type 0} (key : Key) (flags : List ℕ) (old new : CapRows) (result : Result ℕ E) → IfOk result (λ n. AddsCap key flags n old new) → OnOk result (KeepWords old.rows.rows.items new.rows.rows.items)
 cap_keeps key flags old new (Ok n) adds = adds.kept
 cap_keeps key flags old new (Err e) adds = adds
 
-pub row_says : (caps : List ℕ) (n row r : ℕ) (rows : List (Vec ℕ Global)) (flags : List ℕ) (b : Bool) → slice_get caps n ≡ Some row → slice_get caps n ≡ Some r → HasFlags rows r flags
-    → ((others : List ℕ) → HasFlags rows row others → IsTrue b ↔ (others ≡ [])) → IsTrue b ↔ (flags ≡ [])
-row_says caps n row r rows flags b at there has says = says flags (subst (λ z. HasFlags rows z flags) (same_Some r row (sym there ∙ at)) has)
+pub row_says : (caps : List ℕ) (n row r : ℕ) (rows : List (Vec ℕ Global)) (flags : List ℕ) (b : Bool) → slice_get caps n ≡ Some row → slice_get caps n ≡ Some r → HasWords rows r flags
+    → ((others : List ℕ) → HasWords rows row others → IsTrue b ↔ (others ≡ [])) → IsTrue b ↔ (flags ≡ [])
+row_says caps n row r rows flags b at there has says = says flags (subst (λ z. HasWords rows z flags) (same_Some r row (sym there ∙ at)) has)
 
 pub no_number : (caps : List ℕ) (n r : ℕ) → slice_get caps n ≡ None → slice_get caps n ≡ Some r → ⊥
 no_number caps n r none at = let d : None ≡ Some r = sym none ∙ at in cc

@@ -1,30 +1,16 @@
--- Rows of flags: added and set.
-use Rattle.std.specs.Prelude.{◌≡◌, ◌<◌, ◌↔◌, ◌⊎◌, ℕ, ◌*◌, ◌/◌, ◌%◌, ◌^◌, ◌++◌, Bool, false, List, [], ◌∷◌, length, get_or, Some, None, IsTrue, Vec, slice_get, slice_set, bit_and, bit_or, ◌==◌, refl}
-use Rattle.std.specs.declared.alloc.Global.{Global}
+-- Rows of flags: set and looked at.
+use Rattle.std.specs.Prelude.{◌≡◌, ◌<◌, ◌↔◌, ◌⊎◌, ℕ, ◌*◌, ◌/◌, ◌%◌, ◌^◌, false, List, [], length, get_or, Some, None, IsTrue, slice_get, slice_set, bit_and, bit_or, ◌==◌, refl}
 use Rattle.std.specs.Int.{bit_at}
-use Rattle.std.proofs.Common.{zero, suc, w64, inl, inr, sym, ap, subst, arith, ◌∙◌, get_or-set_same, get_or-set_other}
+use Rattle.std.proofs.Common.{w64, inl, inr, sym, ap, subst, arith, ◌∙◌, get_or-set_same, get_or-set_other}
 use Rattle.std.proofs.lemmas.Bool.{cases_eq}
 use Rattle.std.proofs.lemmas.Bool.Decides.{Decides-eqb}
 use Rattle.std.proofs.lemmas.List.{get_or_past}
 use Rattle.std.proofs.lemmas.Nat.Bits.{bit_at-zero, bit_at_set_same, bit_at_set_other, shr_and_one}
-use Rattle.std.proofs.lemmas.Option.{same_Some, slice_get_read, get_or_from_slice_get}
-use Rattle.trs_defs.proofs.ListItems.{last_item}
-use Rattle.dp_graph.specs.FlagRows.{IsSet, HasFlags, KeepFlags}
-use Rattle.dp_graph.proofs.ListPlaces.{still_there, none_past}
+use Rattle.std.proofs.lemmas.Option.{slice_get_read, get_or_from_slice_get}
+use Rattle.dp_graph.specs.FlagRows.{IsSet}
+use Rattle.dp_graph.proofs.ListPlaces.{none_past}
 
 -- ---- set
-
-zero_read : (words : List ℕ) (n : ℕ) → get_or (words ++ 0 ∷ []) n 0 ≡ get_or words n 0
-zero_read [] zero = refl
-zero_read [] (suc n) = refl
-zero_read (w ∷ words) zero = refl
-zero_read (w ∷ words) (suc n) = zero_read words n
-
--- a word behind the others has no bit set
-pub zero_behind : (old new : List ℕ) → new ≡ old ++ 0 ∷ [] → (j : ℕ) → IsSet new j ↔ IsSet old j
-zero_behind old new pushed j =
-    let same : get_or new (j / 64) 0 ≡ get_or old (j / 64) 0 = ap (λ z. get_or z (j / 64) 0) pushed ∙ zero_read old (j / 64) in
-    (λ h. subst (λ w. bit_at w (j % 64) ≡ 1) same h, λ h. subst (λ w. bit_at w (j % 64) ≡ 1) (sym same) h)
 
 -- a word has one bit more
 pub set_one : (old new : List ℕ) (k word : ℕ) → k / 64 < length old → word ≡ get_or old (k / 64) word → new ≡ slice_set old (k / 64) (bit_or word (1 * 2 ^ (k % 64) % 2 ^ 64)) → (j : ℕ) → IsSet new j ↔ (IsSet old j ⊎ (j ≡ k))
@@ -71,30 +57,3 @@ no_word row k none = (
       let past : bit_at (get_or row (k / 64) 0) (k % 64) ≡ bit_at 0 (k % 64) = ap (λ w. bit_at w (k % 64)) (get_or_past row (k / 64) 0 (none_past row (k / 64) none)) in
       absurd (none_set k (sym past ∙ h)),
 )
-
--- ---- added
-
-pub flags_stay : (rows new : List (Vec ℕ Global)) (row : Vec ℕ Global) → new ≡ rows ++ row ∷ [] → KeepFlags rows new
-flags_stay rows new row pushed n flags (r, at, is) = (r, subst (λ z. slice_get z n ≡ Some r) (sym pushed) (still_there rows (row ∷ []) n r at), is)
-
-pub flags_there : (rows new : List (Vec ℕ Global)) (row : Vec ℕ Global) (n : ℕ) → new ≡ rows ++ row ∷ [] → n ≡ length rows → HasFlags new n row.items
-flags_there rows new row n pushed last =
-    (row, subst (λ z. slice_get z n ≡ Some row) (sym pushed) (subst (λ z. slice_get (rows ++ row ∷ []) z ≡ Some row) (sym last) (last_item rows row [])), refl)
-
--- a row has one list of flags
-pub one_row : (rows : List (Vec ℕ Global)) (n : ℕ) (flags others : List ℕ) → HasFlags rows n flags → HasFlags rows n others → flags ≡ others
-one_row rows n flags others (r, at, is) (q, there, also) = sym is ∙ (ap (λ (z : Vec ℕ Global). z.items) (same_Some r q (sym at ∙ there)) ∙ also)
-
-pub no_row : (rows : List (Vec ℕ Global)) (n : ℕ) (flags : List ℕ) → slice_get rows n ≡ None → HasFlags rows n flags → ⊥
-no_row rows n flags none (row, at, is) = let d : None ≡ Some row = sym none ∙ at in cc
-
--- whether a row has no flags
-pub emptiness : (rows : List (Vec ℕ Global)) (n : ℕ) (row : Vec ℕ Global) (flags : List ℕ) (b : Bool) → slice_get rows n ≡ Some row → HasFlags rows n flags → b ≡ (length row.items == 0) → IsTrue b ↔ (flags ≡ [])
-emptiness rows n row flags b at has says =
-    let same : row.items ≡ flags = one_row rows n row.items flags (row, at, refl) has in
-    let whole : b ≡ (length flags == 0) = says ∙ ap (λ z. length z == 0) same in
-    of_list flags whole
-  where
-    of_list : (xs : List ℕ) → b ≡ (length xs == 0) → IsTrue b ↔ (xs ≡ [])
-    of_list [] e = (λ h. refl, λ h. e)
-    of_list (x ∷ xs) e = (λ h. absurd (let none : length (x ∷ xs) ≡ 0 = (Decides-eqb (length (x ∷ xs)) 0).0 (sym e ∙ h) in omega (arith, none)), λ h. absurd cc)

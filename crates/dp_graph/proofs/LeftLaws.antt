@@ -86,5 +86,25 @@ one_more_left rules pool pool2 seen seen2 firsts firsts2 k id first rule h there
       ];
     }
 
+-- a rule that is noted for its own left side
+pub one_more_own : (rules : List RewriteRule) (pool : List Tree) (seen : List (Option ℕ)) (firsts firsts2 : List ℕ) (k : ℕ) (rule : RewriteRule) → SameSoFar rules pool seen firsts k
+    → slice_get rules k ≡ Some rule → firsts2 ≡ firsts ++ k ∷ [] → SameSoFar rules pool seen firsts2 (k + 1)
+one_more_own rules pool seen firsts firsts2 k rule h there pushed =
+    let stays : (n j : ℕ) → slice_get firsts n ≡ Some j → slice_get firsts2 n ≡ Some j = λ n j at. subst (λ z. slice_get z n ≡ Some j) (sym pushed) (still_there firsts (k ∷ []) n j at) in
+    let own : slice_get firsts2 k ≡ Some k = subst (λ z. slice_get z k ≡ Some k) (sym pushed) (subst (λ z. slice_get (firsts ++ k ∷ []) z ≡ Some k) h.count (last_item firsts k [])) in
+    record {
+      count = ap length pushed ∙ (length-append firsts (k ∷ []) ∙ ap (λ z. z + 1) h.count);
+      each = λ n j r at is. elim (last_or_there firsts k j n (subst (λ z. slice_get z n ≡ Some j) pushed at)) [
+        | inl e ↦ h.each n j r e is
+        | inr e ↦ (r, subst (λ z. slice_get rules z ≡ Some r) (e.0 ∙ (h.count ∙ e.1)) is, refl)
+      ];
+      noted = h.noted;
+      of_seen = λ i j at. stays j j (h.of_seen i j at);
+      of_first = λ n j at. elim (last_or_there firsts k j n (subst (λ z. slice_get z n ≡ Some j) pushed at)) [
+        | inl e ↦ stays j j (h.of_first n j e)
+        | inr e ↦ subst (λ z. slice_get firsts2 z ≡ Some z) e.1 own
+      ];
+    }
+
 pub all_lefts : (rules : List RewriteRule) (pool : List Tree) (seen : List (Option ℕ)) (firsts : List ℕ) (k : ℕ) → SameSoFar rules pool seen firsts k → k ≡ length rules → HaveSameLefts rules firsts
 all_lefts rules pool seen firsts k h end = record { count = h.count ∙ end; noted = h.of_first; each = h.each }

@@ -20,10 +20,12 @@ pub mod ReversedLaws
 pub mod RowLaws
 pub mod LeftLaws
 pub mod FlagLaws
+pub mod WordRowLaws
 pub mod CapRowLaws
 pub mod PairNodeLaws
 pub mod WaitingLaws
 pub mod PutOutLaws
 pub mod OrderLaws
 pub mod ComponentLaws
+pub mod OnePair
 pub mod ItemLaws

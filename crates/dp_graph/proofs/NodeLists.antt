@@ -17,7 +17,7 @@ use Rattle.dp_graph.specs.GraphConditions.{HasEdge}
 use Rattle.dp_graph.specs.FlagRows.{IsSet}
 use Rattle.dp_graph.specs.GraphNodes.{IsNodeOf, IsNodeFor, IsSideNode, AreNodesOf}
 use Rattle.dp_graph.proofs.ListPlaces.{past_none, none_past}
-use Rattle.dp_graph.proofs.FlagLaws.{one_row}
+use Rattle.dp_graph.proofs.WordRowLaws.{one_row}
 use Rattle.dp_graph.proofs.PairNodeLaws.{zip_at, flag_of_edge}
 
 -- an item, as it is read

@@ -16,7 +16,8 @@ use Rattle.pair_theory.specs.Marked.{Marked, marked, plain}
 use Rattle.pair_theory.specs.DependencyPair.{DependencyPair, subterms, keep_if, pairs_to, pairs_of, pairs_of_each, dependency_pairs}
 use Rattle.dp_graph.specs.CapRows.{AreCaps, AreMore, IsCapped, AreEnds, no_ends, at_variable, not_defined, one_end, IsEnd}
 use Rattle.dp_graph.specs.Edge.{IsEdge}
-use Rattle.dp_graph.specs.FlagRows.{IsSet, HasFlags, KeepFlags, IsRow}
+use Rattle.dp_graph.specs.WordRows.{HasWords, KeepWords}
+use Rattle.dp_graph.specs.FlagRows.{IsSet, IsRow}
 use Rattle.dp_graph.specs.GraphNodes.{IsEndOf, IsRowAt, LeadsAs, IsSideNode, AreNodesOf}
 use Rattle.dp_graph.specs.PairNodes.{IsNodeAt, AddsNode, AddsNodes, AreShared, AreNodes}
 use Rattle.dp_graph.specs.SameLefts.{HaveSameLefts}
@@ -26,7 +27,7 @@ use Rattle.dp_graph.specs.declared.cap_rows.NumberedCap.{NumberedCap}
 use Rattle.dp_graph.specs.declared.graph.Node.{Node}
 use Rattle.dp_graph.specs.declared.nodes.Nodes.{Nodes}
 use Rattle.dp_graph.proofs.Covering.{edge_by_caps}
-use Rattle.dp_graph.proofs.FlagLaws.{one_row}
+use Rattle.dp_graph.proofs.WordRowLaws.{one_row}
 use Rattle.dp_graph.proofs.ListPlaces.{last_or_there, still_there}
 
 -- ---- lists place by place
@@ -113,10 +114,10 @@ one_more_node rule from ends k end old mid new lt at so_far adds =
       seen = λ h. seen_more rule from end mid new adds (so_far.seen h);
     }
 
-row_stays : (rules : List RewriteRule) (lefts : List ℕ) (old new : List (Vec ℕ Global)) (n : ℕ) (p : DependencyPair) → KeepFlags old new → IsRowAt rules lefts old n p → IsRowAt rules lefts new n p
+row_stays : (rules : List RewriteRule) (lefts : List ℕ) (old new : List (Vec ℕ Global)) (n : ℕ) (p : DependencyPair) → KeepWords old new → IsRowAt rules lefts old n p → IsRowAt rules lefts new n p
 row_stays rules lefts old new n p keeps (c, end, (flags, has, row)) = (c, end, (flags, keeps n flags has, row))
 
-side_stays : (rules : List RewriteRule) (lefts : List ℕ) (old new : List (Vec ℕ Global)) → KeepFlags old new → (p : DependencyPair) (node : Node) → IsSideNode rules lefts old p node → IsSideNode rules lefts new p node
+side_stays : (rules : List RewriteRule) (lefts : List ℕ) (old new : List (Vec ℕ Global)) → KeepWords old new → (p : DependencyPair) (node : Node) → IsSideNode rules lefts old p node → IsSideNode rules lefts new p node
 side_stays rules lefts old new keeps p node is = record {
   number = is.number;
   rule = is.rule;
@@ -144,17 +145,17 @@ module _ (rules : List RewriteRule) (lefts : List ℕ) (caps : CapRows) (all : L
         noted = subst (λ z. slice_get lefts k ≡ Some z) (sym at.rule_is) noted;
         from = at.from_is ∙ ap (λ (m : Marked). m.symbol) (sym from);
         to = at.to_is ∙ is.root;
-        row = (symbol p.to.symbol parts, (parts, each, refl), (flags, subst (λ z. HasFlags caps.rows.rows.items z flags) (sym (at.row_is r.0 r.1)) has, row));
+        row = (symbol p.to.symbol parts, (parts, each, refl), (flags, subst (λ z. HasWords caps.rows.rows.items z flags) (sym (at.row_is r.0 r.1)) has, row));
       }
 
 -- after the caps of the right side of a rule are made
 pub caps_made : (rules : List RewriteRule) (lefts : List ℕ) (pairs : List DependencyPair) (old mid : Nodes) (new : CapRows) (t : Tree) (found : NumberedCap) (ends : List End) → mid.nodes ≡ old.nodes → mid.seen ≡ old.seen → mid.caps ≡ new
-    → (are : AreNodes rules lefts pairs old) → KeepFlags old.caps.rows.rows.items new.rows.rows.items → AreMore rules lefts new are.caps (IsCapped rules t found [] ends)
+    → (are : AreNodes rules lefts pairs old) → KeepWords old.caps.rows.rows.items new.rows.rows.items → AreMore rules lefts new are.caps (IsCapped rules t found [] ends)
     → AreNodes rules lefts pairs mid × ((all : List HoledTree) × AreCaps rules lefts mid.caps all × AreEnds rules all (subterms t) ends)
 caps_made rules lefts pairs old mid new t found ends nodes seen caps are keeps (all, kept, now, capped) =
     let (added, grown, ended) = capped.ends in
     let here : AreCaps rules lefts mid.caps all = subst (λ z. AreCaps rules lefts z all) (sym caps) now in
-    let stay : KeepFlags old.caps.rows.rows.items mid.caps.rows.rows.items = subst (λ (z : CapRows). KeepFlags old.caps.rows.rows.items z.rows.rows.items) (sym caps) keeps in (
+    let stay : KeepWords old.caps.rows.rows.items mid.caps.rows.rows.items = subst (λ (z : CapRows). KeepWords old.caps.rows.rows.items z.rows.rows.items) (sym caps) keeps in (
       record {
         caps = all;
         are = here;

@@ -1,11 +1,7 @@
 -- Which left sides the caps of terms meet. Equal caps are put beside the left sides once: a cap is found by its symbol and the
 -- numbers of its parts.
-use Rattle.std.specs.Prelude.{◌≡◌, ◌++◌, ℕ, true, false, List, [], ◌∷◌, length, Option, Some, None, Vec, slice_get, slice_set}
+use Rattle.std.specs.Prelude.{◌≡◌, ◌⊎◌, ◌++◌, ℕ, true, false, List, [], ◌∷◌, length, Option, Some, None, Vec, slice_get, slice_set}
 use Rattle.std.specs.declared.alloc.Global.{Global}
-use Rattle.std.specs.declared.cmp.Ordering.{Ordering}
-use Rattle.std.specs.Ordering.{nat_cmp}
-use Rattle.std.specs.Cmp.Lexicographic.{slice_cmp}
-use Rattle.std.specs.BTreeMap.{get, Updates}
 use Rattle.trs_defs.specs.Tree.{Tree, Trees, var, app}
 use Rattle.trs_defs.specs.System.{RewriteRule, is_defined}
 use Rattle.trs_caps.specs.HoledTree.{HoledTree, HoledTrees, hole, symbol, none, more}
@@ -14,7 +10,8 @@ use Rattle.trs_caps.specs.KnownCaps.{IsWhole}
 use Rattle.trs_caps.specs.View.{holed}
 use Rattle.pair_theory.specs.Marked.{Marked, marked}
 use Rattle.pair_theory.specs.DependencyPair.{subterms}
-use Rattle.dp_graph.specs.FlagRows.{HasFlags, KeepFlags, IsRow}
+use Rattle.dp_graph.specs.WordRows.{HasWords, KeepWords, AddsRow}
+use Rattle.dp_graph.specs.FlagRows.{IsRow}
 use Rattle.dp_graph.specs.GraphNodes.{IsEndOf}
 use Rattle.dp_graph.specs.declared.cap_rows.CapRows.{CapRows}
 use Rattle.dp_graph.specs.declared.cap_rows.NumberedCap.{NumberedCap}
@@ -24,9 +21,6 @@ use Rattle.dp_graph.specs.declared.cap_rows.End.{End}
 
 abbrev pub Key : Type 0
 Key = Vec ℕ Global
-
-abbrev pub key_cmp : Key → Key → Ordering
-key_cmp k l = slice_cmp nat_cmp k.items l.items
 
 -- the numbers are those of the caps
 pub data HaveNumbers (all : List HoledTree) : HoledTrees → List ℕ → Type 0 where
@@ -43,13 +37,14 @@ pub record HasKey (all : List HoledTree) (c : HoledTree) (key : List ℕ) : Type
   pub key_is : key ≡ root ∷ numbers
   pub numbered : HaveNumbers all parts numbers
 
--- These are the caps that have numbers. What is noted at keys is true of them, and each but the hole has its row.
+-- These are the caps that have numbers. Each but the hole has its row and its key.
 pub record AreCaps (rules : List RewriteRule) (lefts : List ℕ) (table : CapRows) (all : List HoledTree) : Type 0 where
   pub count : length table.caps.items ≡ length all
   pub hole_first : slice_get all 0 ≡ Some hole
   pub rows : (n r f : ℕ) (cs : HoledTrees) → slice_get all n ≡ Some (symbol f cs) → slice_get table.caps.items n ≡ Some r
-      → (flags : List ℕ) × HasFlags table.rows.rows.items r flags × IsRow rules lefts (symbol f cs) flags
-  pub seen : (key : Key) (n : ℕ) → get key_cmp table.seen key ≡ Some n → (c : HoledTree) × (slice_get all n ≡ Some c) × HasKey all c key.items
+      → (flags : List ℕ) × HasWords table.rows.rows.items r flags × IsRow rules lefts (symbol f cs) flags
+  pub numbered : length table.keys.rows.items ≡ length all
+  pub keys : (n : ℕ) (key : List ℕ) → HasWords table.keys.rows.items n key → (key ≡ []) ⊎ ((c : HoledTree) × (slice_get all n ≡ Some c) × HasKey all c key)
 
 -- the caps keep their numbers
 abbrev pub KeepNumbers : List HoledTree → List HoledTree → Type 0
@@ -60,13 +55,12 @@ abbrev pub AreMore : List RewriteRule → List ℕ → CapRows → List HoledTre
 AreMore rules lefts table old P = (all : List HoledTree) × KeepNumbers old all × AreCaps rules lefts table all × P all
 
 -- a cap with this key and these flags is added as number n
-pub record AddsCap (key : Key) (flags : List ℕ) (n : ℕ) (old new : CapRows) : Type 0 where
-  pub last : n ≡ length old.caps.items
+pub record AddsCap (cap_key : Key) (flags : List ℕ) (n : ℕ) (old new : CapRows) : Type 0 where
+  pub key : AddsRow cap_key n old.keys.rows.items new.keys.rows.items
   pub row : ℕ
   pub caps : new.caps.items ≡ old.caps.items ++ row ∷ []
-  pub here : HasFlags new.rows.rows.items row flags
-  pub kept : KeepFlags old.rows.rows.items new.rows.rows.items
-  pub seen : Updates key_cmp old.seen new.seen key (Some n)
+  pub here : HasWords new.rows.rows.items row flags
+  pub kept : KeepWords old.rows.rows.items new.rows.rows.items
 
 -- ---- the caps of terms, and of the right sides of pairs in them
 

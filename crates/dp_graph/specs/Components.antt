@@ -1,5 +1,5 @@
 -- The components of the estimated graph on a problem, in order. (Arts and Giesl, 2000.)
-use Rattle.std.specs.Prelude.{◌↔◌, ◌<◌, ℕ, List, [], ◌∷◌, Ok}
+use Rattle.std.specs.Prelude.{◌≡◌, ◌↔◌, ◌<◌, ℕ, List, [], ◌∷◌, Ok}
 use Rattle.std.specs.List.Sorted.{IsStrictlyIncreasing}
 use Rattle.trs_defs.specs.Member.{In}
 use Rattle.trs_defs.specs.Run.{Run}
@@ -49,3 +49,8 @@ module _ (rules : List RewriteRule) (all : List DependencyPair) (numbers : List 
     pub whole : none_is_missing numbers (all_members items) (Ok tt)
     pub components : (item : GroupOrSingle) → In item items → IsComponent item
     pub in_order : StandInOrder items
+
+-- the item of a pair beside which a problem has no other: a group, if an edge leads from it to itself
+abbrev pub IsOfOnePair : List RewriteRule → List DependencyPair → ℕ → GroupOrSingle → Type 0
+IsOfOnePair rules all n (group members) = (members ≡ n ∷ []) × HasEdge rules all n n
+IsOfOnePair rules all n (single member) = (member ≡ n) × (HasEdge rules all n n → ⊥)

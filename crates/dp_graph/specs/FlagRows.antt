@@ -1,6 +1,5 @@
 -- Rows of flags, as the code keeps them, and the rows of the left sides that caps meet.
-use Rattle.std.specs.Prelude.{◌≡◌, ◌<◌, ◌⊎◌, ℕ, ◌/◌, ◌%◌, List, length, Some, Vec, slice_get, slice_index_or}
-use Rattle.std.specs.declared.alloc.Global.{Global}
+use Rattle.std.specs.Prelude.{◌≡◌, ◌<◌, ◌⊎◌, ℕ, ◌/◌, ◌%◌, List, length, Some, slice_get, slice_index_or}
 use Rattle.std.specs.Int.{bit_at}
 use Rattle.trs_defs.specs.Tree.{Tree}
 use Rattle.trs_defs.specs.System.{RewriteRule}
@@ -10,14 +9,6 @@ use Rattle.trs_caps.specs.HoledCap.{MeetsLeft}
 -- flag number k, a bit of a word of 64, is set
 abbrev pub IsSet : List ℕ → ℕ → Type 0
 IsSet row k = bit_at (slice_index_or row (k / 64) 0) (k % 64) ≡ 1
-
--- row number n has these flags
-abbrev pub HasFlags : List (Vec ℕ Global) → ℕ → List ℕ → Type 0
-HasFlags rows n flags = (row : Vec ℕ Global) × (slice_get rows n ≡ Some row) × (row.items ≡ flags)
-
--- rows keep their numbers
-abbrev pub KeepFlags : List (Vec ℕ Global) → List (Vec ℕ Global) → Type 0
-KeepFlags old new = (n : ℕ) (flags : List ℕ) → HasFlags old n flags → HasFlags new n flags
 
 -- The flags of the rules whose left sides the cap meets are set. Rules with one left side have the flag of the noted one.
 pub record IsRow (rules : List RewriteRule) (lefts : List ℕ) (c : HoledTree) (row : List ℕ) : Type 0 where

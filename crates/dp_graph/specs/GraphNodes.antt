@@ -9,7 +9,8 @@ use Rattle.pair_theory.specs.Marked.{Marked, plain}
 use Rattle.pair_theory.specs.DependencyPair.{DependencyPair, dependency_pairs}
 use Rattle.dp_graph.specs.Edge.{IsEdge}
 use Rattle.dp_graph.specs.SameLefts.{HaveSameLefts}
-use Rattle.dp_graph.specs.FlagRows.{HasFlags, IsRow}
+use Rattle.dp_graph.specs.WordRows.{HasWords}
+use Rattle.dp_graph.specs.FlagRows.{IsRow}
 use Rattle.dp_graph.specs.declared.graph.Node.{Node}
 
 -- the side's symbol over the caps of its arguments
@@ -19,7 +20,7 @@ IsEndOf rules side c = (caps : HoledTrees) × AreHoledCaps rules false side.args
 -- row number n is that of the cap of the pair's right side
 abbrev pub IsRowAt : List RewriteRule → List ℕ → List (Vec ℕ Global) → ℕ → DependencyPair → Type 0
 IsRowAt rules lefts rows n p =
-    (c : HoledTree) × IsEndOf rules p.to c × ((flags : List ℕ) × HasFlags rows n flags × IsRow rules lefts c flags)
+    (c : HoledTree) × IsEndOf rules p.to c × ((flags : List ℕ) × HasWords rows n flags × IsRow rules lefts c flags)
 
 -- the same edges lead from pair number n as from this one
 abbrev pub LeadsAs : List RewriteRule → ℕ → DependencyPair → Type 0

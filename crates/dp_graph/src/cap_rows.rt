@@ -7,14 +7,14 @@ ghost use Rattle.trs_caps.specs.HoledCap.{HasRoot};
 ghost use Rattle.trs_caps.specs.HoledTree.{HoledTree, hole, symbol};
 ghost use Rattle.trs_caps.specs.KnownCaps.{IsWhole};
 ghost use Rattle.trs_caps.specs.View.{holed, holed_all};
-ghost use Rattle.dp_graph.specs.FlagRows.{HasFlags, KeepFlags, IsRow, LooksAtLeft};
+ghost use Rattle.dp_graph.specs.WordRows.{HasWords, KeepWords};
+ghost use Rattle.dp_graph.specs.FlagRows.{IsRow, LooksAtLeft};
 ghost use Rattle.dp_graph.specs.SameLefts.{HaveSameLefts};
 ghost use Rattle.dp_graph.specs.CapRows.{AreCaps, AreMore, IsNumbered, IsCapped, HasKey, AddsCap, Begins, with_end};
 
-use crate::flag_rows::{FlagRows, set};
-use crate::lists::kept;
+use crate::flag_rows::set;
+use crate::word_rows::WordRows;
 use std::alloc::Global;
-use std::collections::BTreeMap;
 use term_pool::RulesByRoot;
 use trs_caps::{Cap, Parts};
 use trs_core::{OutOfMemory, Rule, Term};
@@ -26,9 +26,9 @@ pub(crate) struct CapRows {
     /// For each cap the number of the row of the left sides that it meets. That of a hole stands for
     /// nothing.
     caps: Vec<u32>,
-    pub(crate) rows: FlagRows,
-    /// The numbers of caps, by their symbols and the numbers of their parts.
-    seen: BTreeMap<Vec<u32>, u32>,
+    pub(crate) rows: WordRows,
+    /// For each cap its symbol and the numbers of its parts. That of a hole has no words.
+    keys: WordRows,
 }
 
 /// The cap of a term, with its number.
@@ -57,10 +57,12 @@ impl CapRows {
     {
         let mut caps = Vec::new(alloc);
         caps.push(0)?;
+        let mut keys = WordRows::new(alloc);
+        keys.add(alloc, Vec::new(alloc))?;
         Ok(CapRows {
             caps,
-            rows: FlagRows::new(alloc),
-            seen: BTreeMap::new(alloc),
+            rows: WordRows::new(alloc),
+            keys,
         })
     }
 
@@ -78,7 +80,7 @@ impl CapRows {
         ensures cap { (all : List HoledTree) → AreCaps by_root.now.rules lefts.now self.old all
             → IfOk result (λ found. AreMore by_root.now.rules lefts.now self.new all (IsCapped
             by_root.now.rules (tree t.now) found ends.old.items ends.new.items)) }
-        ensures kept { OnOk result (KeepFlags self.old.rows.rows.items self.new.rows.rows.items) }
+        ensures kept { OnOk result (KeepWords self.old.rows.rows.items self.new.rows.rows.items) }
         ensures longer { OnOk result (length ends.old.items ≤ length ends.new.items) }
     {
         match t {
@@ -90,13 +92,13 @@ impl CapRows {
             Term::App(f, args) => {
                 let place = begin(by_root, *f, ends)?;
                 let mut parts = Vec::with_capacity(alloc, args.items.len())?;
-                let mut key = Vec::new(alloc);
-                key.push(*f)?;
+                let mut key = Vec::with_capacity(alloc, args.items.len().saturating_add(1))?;
+                key.push(u64::from(*f))?;
                 for arg in &args.items {
                     let part = self.cap_of(alloc, by_root, lefts, arg, ends)?;
                     let NumberedCap { cap, number, .. } = part;
                     parts.push(cap)?;
-                    key.push(number)?;
+                    key.push(u64::from(number))?;
                 }
                 let found = self.close(alloc, by_root, lefts, *f, parts, key)?;
                 finish(place, *f, found.whole, ends);
@@ -116,7 +118,7 @@ impl CapRows {
         lefts: &[usize],
         f: u32,
         parts: Vec<Cap>,
-        key: Vec<u32>,
+        key: Vec<u64>,
     ) -> Result<NumberedCap, OutOfMemory>
         requires { HaveSameLefts by_root.now.rules lefts.now }
         ensures cap { (all : List HoledTree) (t : Tree)
@@ -125,7 +127,7 @@ impl CapRows {
             → HasKey all (symbol f (holed_all parts.items)) key.items
             → IfOk result (λ found. AreMore by_root.now.rules lefts.now self.new all
             (IsNumbered by_root.now.rules t found)) }
-        ensures kept { OnOk result (KeepFlags self.old.rows.rows.items self.new.rows.rows.items) }
+        ensures kept { OnOk result (KeepWords self.old.rows.rows.items self.new.rows.rows.items) }
     {
         let whole = Cap::Symbol(f, Parts { items: parts });
         let number = self.number_of(alloc, by_root, lefts, f, &whole, key)?;
@@ -151,7 +153,7 @@ impl CapRows {
         lefts: &[usize],
         f: u32,
         cap: &Cap,
-        key: Vec<u32>,
+        key: Vec<u64>,
     ) -> Result<u32, OutOfMemory>
         requires lefts { HaveSameLefts by_root.now.rules lefts.now }
         requires root { HasRoot f (holed cap.now) }
@@ -159,30 +161,29 @@ impl CapRows {
             → HasKey all (holed cap.now) key.items
             → IfOk result (λ n. AreMore by_root.now.rules lefts.now self.new all
             (λ grown. slice_get grown n ≡ Some (holed cap.now))) }
-        ensures kept { OnOk result (KeepFlags self.old.rows.rows.items self.new.rows.rows.items) }
+        ensures kept { OnOk result (KeepWords self.old.rows.rows.items self.new.rows.rows.items) }
     {
-        if let Some(number) = self.seen.get(&key) {
-            return Ok(*number);
+        if let Some(number) = self.keys.find(&key) {
+            return Ok(number);
         }
         let row = row_of(alloc, by_root, lefts, f, cap)?;
         self.add(alloc, key, row)
     }
 
     /// Adds a cap with this key and this row.
-    fn add(&mut self, alloc: Global, key: Vec<u32>, row: Vec<u64>) -> Result<u32, OutOfMemory>
+    fn add(&mut self, alloc: Global, key: Vec<u64>, row: Vec<u64>) -> Result<u32, OutOfMemory>
         ensures { IfOk result (λ n. AddsCap key row.items n self.old self.new) }
     {
-        let number = kept(self.caps.len())?;
+        let number = self.keys.add(alloc, key)?;
         let row = self.rows.number_of(alloc, row)?;
         self.caps.push(row)?;
-        self.seen.insert(key, number)?;
         Ok(number)
     }
 
     /// Whether a cap meets no left side.
     fn is_kept(&self, n: u32) -> bool
         ensures { (r : ℕ) (flags : List ℕ) → slice_get self.now.caps.items n ≡ Some r
-            → HasFlags self.now.rows.rows.items r flags → IsTrue result ↔ (flags ≡ []) }
+            → HasWords self.now.rows.rows.items r flags → IsTrue result ↔ (flags ≡ []) }
     {
         match self.caps.get(n as usize) {
             Some(row) => self.rows.is_empty(*row),

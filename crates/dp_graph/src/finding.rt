@@ -1,9 +1,9 @@
-ghost use Rattle.std.specs.Prelude.{◌≡◌, IfOk};
+ghost use Rattle.std.specs.Prelude.{◌≡◌, ◌∷◌, [], IfOk};
 ghost use Rattle.std.specs.List.Sorted.{IsStrictlyIncreasing};
 ghost use Rattle.pair_theory.specs.DependencyPair.{dependency_pairs};
 ghost use Rattle.dp_core.specs.PlacedPairs.{placed_pairs};
-ghost use Rattle.dp_graph.specs.GroupOrSingle.{items_of};
-ghost use Rattle.dp_graph.specs.Components.{AreComponents};
+ghost use Rattle.dp_graph.specs.GroupOrSingle.{item_of, items_of};
+ghost use Rattle.dp_graph.specs.Components.{AreComponents, IsOfOnePair};
 
 use crate::leaders::leaders_of;
 use crate::ordering::sort_components;
@@ -42,10 +42,36 @@ impl<'a> PairGraph<'a> {
         ensures { IfOk result (λ items. AreComponents self.now.rules
             (dependency_pairs self.now.rules) problem.now (items_of items.items)) }
     {
+        if problem.len() == 1 {
+            return self.one_component(alloc, problem[0]);
+        }
         let rows = rows(alloc, self, problem)?;
         let leaders = leaders_of(alloc, &rows)?;
         let led = list_led(alloc, &leaders)?;
         let sorted = sort_components(alloc, problem.len(), &rows, &leaders, &led)?;
         items(alloc, problem, &leaders, &led, &sorted)
+    }
+    /// The component of the problem that has one pair.
+    fn one_component(&self, alloc: Global, n: u32) -> Result<Vec<GraphItem>, OutOfMemory>
+        ensures { IfOk result (λ items. AreComponents self.now.rules
+            (dependency_pairs self.now.rules) (n ∷ []) (items_of items.items)) }
+    {
+        let item = self.item_of_one(alloc, n)?;
+        let mut items = Vec::new(alloc);
+        items.push(item)?;
+        Ok(items)
+    }
+
+    /// The item of the one pair of a problem.
+    fn item_of_one(&self, alloc: Global, n: u32) -> Result<GraphItem, OutOfMemory>
+        ensures { IfOk result (λ item. IsOfOnePair self.now.rules
+            (dependency_pairs self.now.rules) n (item_of item)) }
+    {
+        if !self.leads(n as usize, n as usize) {
+            return Ok(GraphItem::Single(n));
+        }
+        let mut members = Vec::new(alloc);
+        members.push(n)?;
+        Ok(GraphItem::Group(members))
     }
 }

@@ -7,9 +7,10 @@ ghost use Rattle.dp_graph.specs.GraphConditions.{HasEdge};
 ghost use Rattle.dp_graph.specs.GraphNodes.{IsNodeFor};
 
 use crate::cap_rows::CapRows;
-use crate::flag_rows::{FlagRows, is_set};
+use crate::flag_rows::is_set;
 use crate::lefts::first_with_left;
 use crate::nodes::Nodes;
+use crate::word_rows::WordRows;
 use dp_core::DpPair;
 use std::alloc::Global;
 use std::marker::Model;
@@ -72,11 +73,11 @@ impl<'a> PairGraph<'a> {
         ensures { IfOk result (λ graph. graph ≡ trs.now) }
     {
         let by_root = RulesByRoot::new(alloc, trs)?;
-        let lefts = first_with_left(alloc, trs.rules())?;
+        let lefts = first_with_left(alloc, &by_root, trs.rules())?;
         let made = Nodes::of(alloc, &by_root, &lefts, room)?;
         let Nodes { nodes, caps, .. } = made;
         let CapRows { rows: kept, .. } = caps;
-        let FlagRows { rows, .. } = kept;
+        let WordRows { rows, .. } = kept;
         Ok(PairGraph { trs, nodes, rows })
     }
 

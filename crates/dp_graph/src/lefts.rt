@@ -3,21 +3,38 @@ ghost use Rattle.std.specs.Prelude.{◌<◌, IfOk, OnOk, length};
 ghost use Rattle.dp_graph.specs.SameLefts.{HaveSameLefts, IsNotedOr, NotesAt, NotesStay};
 
 use std::alloc::Global;
-use term_pool::Pool;
-use trs_core::{OutOfMemory, Rule};
+use term_pool::{Pool, RulesByRoot};
+use trs_core::{OutOfMemory, Rule, Term};
 
-/// For each rule the number, from 0, of the first one with the same left side.
-pub(crate) fn first_with_left(alloc: Global, rules: &[Rule]) -> Result<Vec<usize>, OutOfMemory>
+/// For each rule the number, from 0, of the first one with the same left side. Left sides are
+/// compared only where others have their root.
+pub(crate) fn first_with_left(
+    alloc: Global,
+    by_root: &RulesByRoot,
+    rules: &[Rule],
+) -> Result<Vec<usize>, OutOfMemory>
     ensures { IfOk result (λ firsts. HaveSameLefts rules.now firsts.items) }
 {
     let mut pool = Pool::new(alloc);
     let mut seen = Vec::new(alloc);
     let mut firsts = Vec::with_capacity(alloc, rules.len())?;
     for (k, rule) in rules.iter().enumerate() {
+        if has_own_root(by_root, rule) {
+            firsts.push(k)?;
+            continue;
+        }
         let id = pool.intern(alloc, &rule.left)?;
         firsts.push(noted_or(&mut seen, id, k)?)?;
     }
     Ok(firsts)
+}
+
+/// Whether no other rule has the root of its left side.
+fn has_own_root(by_root: &RulesByRoot, rule: &Rule) -> bool {
+    match &rule.left {
+        Term::Var(_) => false,
+        Term::App(f, _) => by_root.with_root(*f).len() == 1,
+    }
 }
 
 /// The number that is noted of an id, or else this one, which is noted then. There is room for a

@@ -28,6 +28,7 @@ mod rows;
 mod singles;
 mod unnamed;
 mod waiting;
+mod word_rows;
 
 pub use checking::group_check;
 pub use dp_core::{Pairs, dependency_pairs, pair_numbers};

@@ -1,7 +1,7 @@
 use Rattle.std.proofs.Common.{length, ap, arith, refl}
 use Rattle.std.proofs.lemmas.Option.{slice_get_read}
 use Rattle.trs_defs.specs.System.{RewriteRule}
-use Rattle.dp_graph.proofs.LeftLaws.{no_lefts, one_more_left, all_lefts}
+use Rattle.dp_graph.proofs.LeftLaws.{no_lefts, one_more_left, one_more_own, all_lefts}
 use Rattle.dp_graph.proofs.lefts.first_with_left.Goals as goal
 
 pub loop-k-init : goal.loop-k-init
@@ -13,9 +13,16 @@ loop-k-init c = record {
 pub loop-k-preserved : goal.loop-k-preserved
 loop-k-preserved c = record {
   low = omega (arith, c.loop-k-test.true);
-  same = one_more_left c.args.rules.now c.loop-k.pool c.intern.new.self c.loop-k.seen.items c.noted_or.new.seen.items c.loop-k.firsts.items c.push.new.self.items c.loop-k.k c.in_ok-id.id c.in_ok-noted_or.field-0 c.index-rules-k.result
+  same = one_more_left c.args.rules.now c.loop-k.pool c.intern.new.self c.loop-k.seen.items c.noted_or.new.seen.items c.loop-k.firsts.items c.push-in-loop-k.new.self.items c.loop-k.k c.in_ok-id.id c.in_ok-noted_or.field-0 c.index-rules-k.result
       c.loop-k.invariant.same (slice_get_read c.args.rules.now (length c.args.rules.now) c.loop-k.k c.index-rules-k.result refl c.loop-k-test.true c.index-rules-k.is) c.in_ok-id.ensures.kept
-      (rw (ap (λ (r : RewriteRule). r.left) c.rule.view_is) at c.in_ok-id.ensures.id) c.in_ok-noted_or.ensures.number c.in_ok-noted_or.ensures.notes c.in_ok-push.ensures.items;
+      (rw (ap (λ (r : RewriteRule). r.left) c.rule.view_is) at c.in_ok-id.ensures.id) c.in_ok-noted_or.ensures.number c.in_ok-noted_or.ensures.notes c.in_ok-push-2.ensures.items;
+}
+
+pub loop-k-preserved-then-has_own_root : goal.loop-k-preserved-then-has_own_root
+loop-k-preserved-then-has_own_root c = record {
+  low = omega (arith, c.loop-k-test.true);
+  same = one_more_own c.args.rules.now c.loop-k.pool c.loop-k.seen.items c.loop-k.firsts.items c.push.new.self.items c.loop-k.k c.index-rules-k.result c.loop-k.invariant.same
+      (slice_get_read c.args.rules.now (length c.args.rules.now) c.loop-k.k c.index-rules-k.result refl c.loop-k-test.true c.index-rules-k.is) c.in_ok-push.ensures.items;
 }
 
 pub returns : goal.returns

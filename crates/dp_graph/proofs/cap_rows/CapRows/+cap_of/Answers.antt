@@ -11,8 +11,8 @@ use Rattle.dp_graph.proofs.cap_rows.CapRows.+cap_of.Goals as goal
 pub loop-arg-init : goal.loop-arg-init
 loop-arg-init t c = record {
   caps = λ all are.
-      no_parts c.args.by_root.now.rules c.args.lefts.now c.args.self.now all c.in-App.f c.deref-arg-items.result.now c.in_ok-parts-in-App.parts.items c.new-key.result.items c.push.new.self.items c.begin.new.ends.items are
-      c.in_ok-parts-in-App.ensures.items c.new-key.ensures.items c.in_ok-push-in-App.ensures.items;
+      no_parts c.args.by_root.now.rules c.args.lefts.now c.args.self.now all c.in-App.f c.deref-arg-items.result.now c.in_ok-parts-in-App.parts.items c.in_ok-key-in-App.key.items c.push.new.self.items c.begin.new.ends.items are
+      c.in_ok-parts-in-App.ensures.items c.in_ok-key-in-App.ensures.items (rw c.from.ensures at c.in_ok-push-in-App.ensures.items);
   kept = λ n flags h. h;
   longer = omega arith;
 }
@@ -28,7 +28,7 @@ loop-arg-preserved t c = record {
   caps = λ all are.
       let so_far = c.loop-arg.invariant.caps all are in
       one_more_part c.args.by_root.now.rules c.args.lefts.now c.loop-arg.self c.cap_of.new.self all c.in-App.f c.deref-arg-items.result.now c.loop-arg.parts.items c.push-in-loop-arg.new.self.items c.loop-arg.key.items c.push-in-loop-arg-2.new.self.items
-      c.begin.new.ends.items c.loop-arg.ends.items c.cap_of.new.ends.items c.loop-arg.arg-index c.arg-item.result c.in_ok-part-in-App.part c.loop-arg-test.true c.arg-item.is c.in_ok-push-in-App-2.ensures.items c.in_ok-push-in-App-3.ensures.items so_far
+      c.begin.new.ends.items c.loop-arg.ends.items c.cap_of.new.ends.items c.loop-arg.arg-index c.arg-item.result c.in_ok-part-in-App.part c.loop-arg-test.true c.arg-item.is c.in_ok-push-in-App-2.ensures.items (rw c.from-in-loop-arg.ensures at c.in_ok-push-in-App-3.ensures.items) so_far
       (c.in_ok-part-in-App.ensures.cap so_far.all so_far.are);
   kept = λ n flags h. c.in_ok-part-in-App.ensures.kept n flags (c.loop-arg.invariant.kept n flags h);
   longer = (let a = c.loop-arg.invariant.longer in let b = c.in_ok-part-in-App.ensures.longer in omega (arith, a, b));

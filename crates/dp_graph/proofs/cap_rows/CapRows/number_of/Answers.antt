@@ -1,10 +1,10 @@
 use Rattle.trs_caps.specs.View.{holed}
-use Rattle.dp_graph.proofs.CapRowLaws.{cap_seen, cap_made, cap_keeps}
+use Rattle.dp_graph.proofs.CapRowLaws.{cap_known, cap_made, cap_keeps}
 use Rattle.dp_graph.proofs.cap_rows.CapRows.number_of.Goals as goal
 
 pub returns-in-Some-clause-number : goal.returns-in-Some-clause-number
 returns-in-Some-clause-number c = λ all are has.
-    cap_seen c.args.by_root.now.rules c.args.lefts.now c.args.self.now all (holed c.args.cap.now) c.args.key c.in-Some.number.now are has c.in-Some.ensures.value
+    cap_known c.args.by_root.now.rules c.args.lefts.now c.args.self.now all (holed c.args.cap.now) c.args.key.items c.in-Some.number are has (rw c.deref.ensures.value at c.in-Some.ensures)
 
 pub returns-in-Some-clause-kept : goal.returns-in-Some-clause-kept
 returns-in-Some-clause-kept c = λ n flags h. h

@@ -1,8 +1,10 @@
-use Rattle.std.proofs.Common.{◌≡◌, ◌<◌, length, Some, slice_get, replicate, false, arith}
+use Rattle.std.proofs.Common.{◌≡◌, ◌<◌, get_or, length, Some, slice_get, replicate, false, arith}
+use Rattle.pair_theory.specs.DependencyPair.{dependency_pairs}
 use Rattle.dp_graph.specs.GraphConditions.{lists_of}
 use Rattle.dp_graph.specs.Rows.{EdgeOf}
 use Rattle.dp_graph.proofs.ComponentLaws.{all_components}
 use Rattle.dp_graph.proofs.ListPlaces.{all_of_each}
+use Rattle.dp_graph.proofs.OnePair.{list_of_one, of_problem}
 use Rattle.dp_graph.proofs.OrderLaws.{leaders_within}
 use Rattle.dp_graph.proofs.PutOutLaws.{put_out_lead}
 use Rattle.dp_graph.proofs.RowLaws.{rows_within}
@@ -49,3 +51,8 @@ returns c =
     let out = rw (c.deref-3.ensures.value, c.deref-4.ensures.value) at c.in_ok-sorted.ensures in
     all_components c.args.self.now c.args.problem.now c.requires.ascending (lists_of c.in_ok-rows.rows.items) c.in_ok-rows.ensures c.in_ok-leaders.leaders.items are c.in_ok-sorted.sorted.items out
     c.items.result (rw (c.deref-6.ensures.value, c.deref-8.ensures.value) at c.items.ensures)
+
+pub returns-then-problem-eq1 : goal.returns-then-problem-eq1
+returns-then-problem-eq1 c =
+    let rules = c.args.self.now.rules in
+    of_problem rules (dependency_pairs rules) c.args.problem.now (get_or c.args.problem.now 0 0) (list_of_one c.args.problem.now 0 c.if-problem-eq1.true) c.one_component.result c.one_component.ensures

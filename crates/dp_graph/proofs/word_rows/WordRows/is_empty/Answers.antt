@@ -1,7 +1,7 @@
 use Rattle.std.proofs.Common.{◌==◌, ap, ◌∙◌}
 use Rattle.dp_graph.proofs.NodeLists.{item_found, item_missing}
-use Rattle.dp_graph.proofs.FlagLaws.{emptiness, no_row}
-use Rattle.dp_graph.proofs.flag_rows.FlagRows.is_empty.Goals as goal
+use Rattle.dp_graph.proofs.WordRowLaws.{emptiness, no_row}
+use Rattle.dp_graph.proofs.word_rows.WordRows.is_empty.Goals as goal
 
 pub returns-in-Some : goal.returns-in-Some
 returns-in-Some c = λ flags has.

@@ -1,5 +1,5 @@
 use Rattle.dp_graph.proofs.NodeLists.{item_found}
-use Rattle.dp_graph.proofs.flag_rows.FlagRows.has_flags.Goals as goal
+use Rattle.dp_graph.proofs.word_rows.WordRows.has_words.Goals as goal
 
 pub returns-in-Some : goal.returns-in-Some
 returns-in-Some c = λ e. (
