@@ -1,5 +1,6 @@
 //! The critical peaks of new rules with each other and with the rules before them.
-ghost use Rattle.std.specs.Prelude.{◌≡◌, ◌≤◌, ◌<◌, ◌+◌, ◌++◌, ◌∷◌, [], ℕ, List, All, drop, length, IfOk, OnOk};
+ghost use Rattle.std.specs.Prelude.{◌≡◌, ◌≤◌, ◌<◌, ◌+◌, ◌-◌, ◌++◌, ◌∷◌, [], ℕ, List, All, drop};
+ghost use Rattle.std.specs.Prelude.{length, slice_get, IfOk, OnOk};
 ghost use Rattle.trs_defs.specs.Tree.{Tree};
 ghost use Rattle.trs_defs.specs.System.{RewriteRule};
 ghost use Rattle.trs_core.specs.SystemLimits.{HaveSmallVariables};
@@ -13,15 +14,19 @@ ghost use Rattle.crit_pairs.specs.Prepared.{ArePrepared};
 ghost use Rattle.crit_pairs.specs.GroundSides.{AreGroundRights};
 ghost use Rattle.crit_pairs.specs.PeakList.{Spot};
 ghost use Rattle.crit_pairs.specs.Table.{Site, site, sites_from};
-ghost use Rattle.crit_pairs.specs.Growing.{IsGrown, IsAtSite, AddsPeaks};
+ghost use Rattle.crit_pairs.specs.MadePairs.{IsMade};
+ghost use Rattle.crit_pairs.specs.KnownPeaks.{HasPair, Knows, KnowsEach};
+ghost use Rattle.crit_pairs.specs.Growing.{IsGrown, IsAtSite, AddsOne, AddsPeaks};
 ghost use Rattle.crit_pairs.specs.Growing.{GrowsAt, GrowsBy, sites_in};
 
 use crate::PeakFault;
 use crate::ground_sides::GroundSide;
-use crate::making::make_pair;
+use crate::known_peak::{KnownPeak, KnownPeaks};
+use crate::making::{MadePair, make_pair};
 use crate::overlapping::overlap;
 use crate::prepared::PreparedRules;
 use crate::room::Room;
+use crate::sides::within_most;
 use crate::skeleton::Skeleton;
 use crate::table::PeakPair;
 use confluence_theory::overlaps_unify;
@@ -161,9 +166,10 @@ fn grow_at(
     ensures inside { OnOk result (growth.new.done ≤ length growth.new.lists.items) }
 {
     begin_list(alloc, growth)?;
+    let mut known = KnownPeaks::new(alloc);
     for i in from..rules.len() {
         grow_by(
-            alloc, rules, prepared, rights, j, i, part, skeleton, place, pool, growth,
+            alloc, rules, prepared, rights, j, i, part, skeleton, place, &mut known, pool, growth,
         )?;
     }
     growth.done += 1;
@@ -197,6 +203,7 @@ fn grow_by(
     part: &Term,
     skeleton: &Skeleton,
     place: &[u8],
+    known: &mut KnownPeaks,
     pool: &mut Pool,
     growth: &mut Growth,
 ) -> Result<(), PeakFault>
@@ -207,9 +214,12 @@ fn grow_by(
     requires outer { IsPartOf rules.now j place.now (tree part.now) }
     requires skeleton { skeleton_view skeleton.now ≡ opened (tree part.now) }
     requires positive { All (λ n. 0 < n) place.now }
+    requires known { KnowsEach rules.now j place.now pool.old known.old.by_first.items }
     requires inside { growth.old.done < length growth.old.lists.items }
     ensures adds { OnOk result (AddsPeaks rules.now (spot_unless j place.now i)
         pool.old growth.old pool.new growth.new) }
+    ensures known { OnOk result (
+        KnowsEach rules.now j place.now pool.new known.new.by_first.items) }
     ensures kept { Extends pool.old pool.new }
     ensures done { OnOk result (growth.new.done ≡ growth.old.done) }
     ensures inside { OnOk result (growth.new.done < length growth.new.lists.items) }
@@ -221,9 +231,89 @@ fn grow_by(
         overlaps_unify();
         return Ok(());
     }
-    grow_by_overlap(
-        alloc, rules, prepared, rights, j, i, part, place, pool, growth,
-    )
+    let here = known.of(&prepared.equal, i);
+    let found = grow_by_known(
+        alloc, rules, prepared, rights, j, i, part, place, here, pool, growth,
+    )?;
+    known.note(&prepared.equal, i, found)?;
+    Ok(())
+}
+
+/// Adds the peak of rule i in rule j at a position, if they overlap there. What is known of an equal
+/// rule is not looked for again.
+fn grow_by_known(
+    alloc: Global,
+    rules: &[Rule],
+    prepared: &PreparedRules,
+    rights: &[Option<GroundSide>],
+    j: usize,
+    i: usize,
+    part: &Term,
+    place: &[u8],
+    known: KnownPeak,
+    pool: &mut Pool,
+    growth: &mut Growth,
+) -> Result<KnownPeak, PeakFault>
+    requires prepared { ArePrepared rules.now prepared.now }
+    requires rights { AreGroundRights rules.now pool.old rights.now }
+    requires small { HaveSmallVariables rules.now }
+    requires inner { i < length rules.now }
+    requires outer { IsPartOf rules.now j place.now (tree part.now) }
+    requires positive { All (λ n. 0 < n) place.now }
+    requires known { Knows rules.now j place.now (slice_get rules.now i) pool.old known }
+    requires inside { growth.old.done < length growth.old.lists.items }
+    ensures adds { OnOk result (AddsPeaks rules.now (one_spot j place.now i)
+        pool.old growth.old pool.new growth.new) }
+    ensures known { IfOk result (Knows rules.now j place.now (slice_get rules.now i) pool.new) }
+    ensures kept { Extends pool.old pool.new }
+    ensures done { OnOk result (growth.new.done ≡ growth.old.done) }
+    ensures inside { OnOk result (growth.new.done < length growth.new.lists.items) }
+{
+    match known {
+        KnownPeak::Absent => Ok(known),
+        KnownPeak::Made(pair, nodes) => {
+            add_again(growth, pair, nodes)?;
+            Ok(known)
+        }
+        KnownPeak::Unknown => grow_by_overlap(
+            alloc, rules, prepared, rights, j, i, part, place, pool, growth,
+        ),
+    }
+}
+
+/// Adds the pair of a peak with so many nodes once more, for an equal rule.
+fn add_again(growth: &mut Growth, pair: PeakPair, nodes: u64) -> Result<(), PeakFault>
+    requires { growth.old.done < length growth.old.lists.items }
+    ensures adds { OnOk result ((rules : List RewriteRule) (s : Spot) (pool : List Tree) →
+        HasPair rules s pool pair nodes →
+        AddsPeaks rules (s ∷ []) pool growth.old pool growth.new) }
+    ensures done { OnOk result (growth.new.done ≡ growth.old.done) }
+    ensures inside { OnOk result (growth.new.done < length growth.new.lists.items) }
+{
+    let total = within_most(growth.nodes.saturating_add(nodes))?;
+    let made = MadePair {
+        pair,
+        nodes: total,
+        is_built: false,
+    };
+    add_made(growth, &made)
+}
+
+/// Adds a pair to the list of the position at hand.
+fn add_made(growth: &mut Growth, made: &MadePair) -> Result<(), PeakFault>
+    requires { growth.old.done < length growth.old.lists.items }
+    ensures adds { OnOk result ((rules : List RewriteRule) (s : Spot) (pool next : List Tree) →
+        IsMade rules s next growth.old.nodes made.now →
+        AddsOne rules (s ∷ []) pool growth.old next growth.new) }
+    ensures done { OnOk result (growth.new.done ≡ growth.old.done) }
+    ensures inside { OnOk result (growth.new.done < length growth.new.lists.items) }
+{
+    let room = growth.room.after(made, growth.nodes)?;
+    let list = &mut growth.lists[growth.done];
+    list.push(made.pair)?;
+    growth.nodes = made.nodes;
+    growth.room = room;
+    Ok(())
 }
 
 /// Adds the peak of rule i in rule j at a position, if they overlap there.
@@ -238,7 +328,7 @@ fn grow_by_overlap(
     place: &[u8],
     pool: &mut Pool,
     growth: &mut Growth,
-) -> Result<(), PeakFault>
+) -> Result<KnownPeak, PeakFault>
     requires prepared { ArePrepared rules.now prepared.now }
     requires rights { AreGroundRights rules.now pool.old rights.now }
     requires small { HaveSmallVariables rules.now }
@@ -248,6 +338,7 @@ fn grow_by_overlap(
     requires inside { growth.old.done < length growth.old.lists.items }
     ensures adds { OnOk result (AddsPeaks rules.now (one_spot j place.now i)
         pool.old growth.old pool.new growth.new) }
+    ensures known { IfOk result (Knows rules.now j place.now (slice_get rules.now i) pool.new) }
     ensures kept { Extends pool.old pool.new }
     ensures done { OnOk result (growth.new.done ≡ growth.old.done) }
     ensures inside { OnOk result (growth.new.done < length growth.new.lists.items) }
@@ -258,27 +349,16 @@ fn grow_by_overlap(
     match found {
         None => {
             overlaps_unify();
-            Ok(())
+            Ok(KnownPeak::Absent)
         }
         Some(unifier) => {
+            let before = growth.nodes;
             let made = make_pair(
-                alloc,
-                rules,
-                prepared,
-                rights,
-                j,
-                i,
-                place,
-                &unifier,
-                pool,
-                growth.nodes,
+                alloc, rules, prepared, rights, j, i, place, &unifier, pool, before,
             )?;
-            let room = growth.room.after(&made, growth.nodes)?;
-            let list = &mut growth.lists[growth.done];
-            list.push(made.pair)?;
-            growth.nodes = made.nodes;
-            growth.room = room;
-            Ok(())
+            add_made(growth, &made)?;
+            let nodes = made.nodes.saturating_sub(before);
+            Ok(KnownPeak::Made(made.pair, nodes))
         }
     }
 }

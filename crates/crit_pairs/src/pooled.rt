@@ -5,6 +5,7 @@ ghost use Rattle.rewrite_core.specs.PlacedPeak.{PlacedPeak};
 ghost use Rattle.crit_pairs.specs.PooledPeaks.{HasId, tree_of, KeepsIds, count_of};
 ghost use Rattle.crit_pairs.specs.PooledPeaks.{HoldsPeaks, ArePooled, AreSides};
 
+use crate::equal_rules::are_some_equal;
 use crate::room::Room;
 use crate::table::{PeakPair, PeakTable};
 use rewrite_core::{CheckFault, PathStep, end_in_pool};
@@ -39,7 +40,7 @@ impl PooledPeaks {
     {
         systems_are_valid(trs);
         let rules = trs.rules();
-        if !may_gain_time(rules, most) {
+        if !may_gain_time(alloc, rules, most)? {
             return Ok(None);
         }
         let mut pool = Pool::new(alloc);
@@ -116,9 +117,10 @@ impl PooledPeaks {
     }
 }
 
-/// Whether a pool may gain time: some right side has no variable, so that it gets its id but once, and
-/// there are few rules and few positions beside the peaks, since each rule is tried at each position.
-fn may_gain_time(rules: &[Rule], most: usize) -> bool {
+/// Whether a pool may gain time: some right side has no variable, so that it gets its id but once, or
+/// rules are equal, so that their peaks are made but once; and there are few rules and few positions
+/// beside the peaks, since each rule is tried at each position.
+fn may_gain_time(alloc: Global, rules: &[Rule], most: usize) -> Result<bool, OutOfMemory> {
     let mut nodes: u64 = 0;
     let mut has_ground = false;
     for rule in rules {
@@ -126,7 +128,10 @@ fn may_gain_time(rules: &[Rule], most: usize) -> bool {
         has_ground = has_ground || is_ground(&rule.right);
     }
     let tries = nodes.saturating_mul(rules.len() as u64);
-    has_ground && tries <= TRIES_FOR_A_PEAK.saturating_mul(most as u64)
+    if TRIES_FOR_A_PEAK.saturating_mul(most as u64) < tries {
+        return Ok(false);
+    }
+    Ok(has_ground || are_some_equal(alloc, rules)?)
 }
 
 fn is_ground(t: &Term) -> bool {

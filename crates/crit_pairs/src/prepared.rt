@@ -1,4 +1,4 @@
-ghost use Rattle.std.specs.Prelude.{◌≡◌, ◌<◌, List, [], IfOk, IsTrue, Some, length, slice_get};
+ghost use Rattle.std.specs.Prelude.{◌≡◌, ◌<◌, ◌-◌, List, [], IfOk, IsTrue, Some, length, slice_get};
 ghost use Rattle.trs_defs.specs.System.{RewriteRule};
 ghost use Rattle.trs_caps.specs.Clash.{AreDisjoint};
 ghost use Rattle.trs_core.specs.SystemLimits.{HaveSmallVariables};
@@ -7,6 +7,7 @@ ghost use Rattle.crit_pairs.specs.SkeletonView.{skeleton_view};
 ghost use Rattle.crit_pairs.specs.Prepared.{ArePrepared, PreparesFirst};
 
 use crate::apart::renamed_rule;
+use crate::equal_rules::EqualRules;
 use crate::occurrences::Occurrences;
 use crate::skeleton::Skeleton;
 use std::alloc::Global;
@@ -20,6 +21,7 @@ pub(crate) struct PreparedRules {
     pub skeletons: Vec<Skeleton>,
     /// The roots of the skeletons. They lie close together, and mostly tell them apart.
     pub roots: Vec<Option<u32>>,
+    pub equal: EqualRules,
     pub occurrences: Occurrences,
 }
 
@@ -32,6 +34,7 @@ impl PreparedRules {
             apart: Vec::new(alloc),
             skeletons: Vec::new(alloc),
             roots: Vec::new(alloc),
+            equal: EqualRules::new(alloc),
             occurrences: Occurrences::new(alloc),
         }
     }
@@ -46,7 +49,9 @@ impl PreparedRules {
         let mut apart = self.apart;
         let mut skeletons = self.skeletons;
         let mut roots = self.roots;
+        let mut equal = self.equal;
         let mut occurrences = self.occurrences;
+        equal.add(rules)?;
         occurrences.count(rules)?;
         for k in known..rules.len() {
             let rule = &rules[k];
@@ -60,6 +65,7 @@ impl PreparedRules {
             apart,
             skeletons,
             roots,
+            equal,
             occurrences,
         })
     }

@@ -183,7 +183,7 @@ fn mark_of_items(items: &[Skeleton]) -> Option<u64>
 }
 
 /// One number for two. Each of the two counts, and so does their order.
-fn mix(m: u64, n: u64) -> u64
+pub(crate) fn mix(m: u64, n: u64) -> u64
     ensures { result ≡ mixed m n }
 {
     m.rotate_left(23)

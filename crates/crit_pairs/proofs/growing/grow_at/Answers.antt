@@ -8,6 +8,7 @@ use Rattle.crit_pairs.proofs.growing.grow_at.Goals as goal
 pub loop-i-init : goal.loop-i-init
 loop-i-init c = record {
   stands = λ left after h. c.in_ok-begin_list.ensures.begins c.args.rules.now c.args.from c.args.pool.now (site c.args.j c.args.place.now) left after h;
+  known = c.new-known.ensures c.args.rules.now c.args.j c.args.place.now c.args.pool.now;
   kept = extends_itself c.args.pool.now;
   inside = c.in_ok-begin_list.ensures.inside;
 }
@@ -20,6 +21,7 @@ loop-i-preserved c = record {
   stands = λ left after h.
       at_next c.args.rules.now c.args.j c.loop-i.i c.args.from c.args.place.now c.loop-i.pool c.grow_by.new.pool c.loop-i.growth c.grow_by.new.growth left after c.loop-i-test.true
       (c.loop-i.invariant.stands left after h) c.in_ok-grow_by.ensures.done c.in_ok-grow_by.ensures.kept c.in_ok-grow_by.ensures.adds;
+  known = c.in_ok-grow_by.ensures.known;
   kept = extends_on c.args.pool.now c.loop-i.pool c.grow_by.new.pool c.loop-i.invariant.kept c.in_ok-grow_by.ensures.kept;
   inside = c.in_ok-grow_by.ensures.inside;
 }

@@ -6,6 +6,7 @@ use Rattle.crit_pairs.specs.Skeletons.{opened}
 use Rattle.crit_pairs.proofs.SpotWalk.{rule_at}
 use Rattle.crit_pairs.proofs.SkeletonLaws.{never_meet}
 use Rattle.crit_pairs.proofs.SpotPeaks.{none_apart, none_itself, no_places}
+use Rattle.crit_pairs.proofs.EqualRules.{each_still}
 use Rattle.crit_pairs.proofs.growing.grow_by.Goals as goal
 
 pub returns-then-clashes-clause-adds : goal.returns-then-clashes-clause-adds
@@ -24,3 +25,12 @@ returns-then-clashes-clause-kept c = extends_itself c.args.pool.now
 
 pub returns-then-i-j-clause-adds : goal.returns-then-i-j-clause-adds
 returns-then-i-j-clause-adds c = inl (none_itself c.args.rules.now c.args.j c.args.i c.args.place.now (no_places c.args.place.now c.is_empty.result c.is_empty.ensures c.if-is_empty.true) c.if-i-j.true, refl, refl)
+
+pub grow_by_known-requires-clause-known : goal.grow_by_known-requires-clause-known
+grow_by_known-requires-clause-known c = c.of-here.ensures c.args.rules.now c.args.j c.args.place.now c.args.pool.now c.requires.prepared.equal c.requires.known
+
+pub returns-clause-known : goal.returns-clause-known
+returns-clause-known c =
+    let rules = c.args.rules.now in
+    let still = each_still rules c.args.j c.args.place.now c.args.pool.now c.grow_by_known.new.pool c.args.known.now.by_first.items c.in_ok-found.ensures.kept c.requires.known in
+    c.in_ok-note.ensures rules c.args.j c.args.place.now c.grow_by_known.new.pool c.requires.prepared.equal still c.in_ok-found.ensures.known

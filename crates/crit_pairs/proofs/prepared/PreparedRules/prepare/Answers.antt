@@ -1,11 +1,22 @@
-use Rattle.std.proofs.Common.{List, ap, subst, sym, arith, ◌∙◌}
+use Rattle.std.proofs.Common.{List, ap, length, length-append, subst, sym, arith, ◌∙◌}
 use Rattle.std.proofs.lemmas.List.{take_all}
 use Rattle.trs_defs.specs.System.{RewriteRule}
 use Rattle.crit_pairs.specs.Apart.{renamed_apart, AreApart, HaveSkeletons, HaveRoots}
 use Rattle.crit_pairs.specs.Skeletons.{opened, root_symbol}
+use Rattle.crit_pairs.proofs.EqualRules.{equal_of_more}
 use Rattle.crit_pairs.proofs.SpotWalk.{left_small, right_small}
 use Rattle.crit_pairs.proofs.GrowthLaws.{first_taken, one_image_more, one_skeleton_more}
 use Rattle.crit_pairs.proofs.prepared.PreparedRules.prepare.Goals as goal
+
+pub add-requires-clause-equal : goal.add-requires-clause-equal
+add-requires-clause-equal c =
+    let h = c.requires.first in
+    equal_of_more c.args.rules.now h.first h.more c.args.self.equal.firsts.items h.are h.prepared_first.numbered h.prepared_first.equal
+
+pub add-requires-clause-within : goal.add-requires-clause-within
+add-requires-clause-within c =
+    let h = c.requires.first in
+    omega (arith, h.prepared_first.numbered, ap length h.are, length-append h.first h.more)
 
 pub renamed_rule-requires-clause-left : goal.renamed_rule-requires-clause-left
 renamed_rule-requires-clause-left c = left_small c.args.rules.now c.loop-k.k c.index-rules-k.result c.requires.small c.loop-k-test.true c.index-rules-k.is
@@ -41,4 +52,10 @@ returns c =
     let S : List RewriteRule → Type 0 = λ rs. HaveSkeletons rs c.loop-k.skeletons.items in
     let all = take_all c.loop-k.k c.args.rules.now c.loop-k-test.false in
     let R : List RewriteRule → Type 0 = λ rs. HaveRoots rs c.loop-k.roots.items in
-    record { apart = subst A all c.loop-k.invariant.apart; skeletons = subst S all c.loop-k.invariant.skeletons; roots = subst R all c.loop-k.invariant.roots }
+    record {
+      apart = subst A all c.loop-k.invariant.apart;
+      skeletons = subst S all c.loop-k.invariant.skeletons;
+      roots = subst R all c.loop-k.invariant.roots;
+      numbered = c.in_ok-add.ensures.numbered;
+      equal = c.in_ok-add.ensures.equal;
+    }
