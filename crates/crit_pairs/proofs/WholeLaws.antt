@@ -1,7 +1,7 @@
 -- Whole right sides as results: rules and sides come to them, they are counted by their numbers of nodes, and the top alone gets new numbers.
 use Rattle.std.proofs.Common.{◌≡◌, ◌<◌, ℕ, ◌+◌, List, [], ◌∷◌, ◌++◌, take, length, length-append, get_or, slice_get, Option, Some, None, IfSome, Result, Ok, Err, IfOk, IfErr, IsTrue, refl, ap, sym, ◌∙◌, subst, arith}
 use Rattle.std.proofs.lemmas.List.{take_more}
-use Rattle.std.proofs.lemmas.Option.{slice_get_read}
+use Rattle.std.proofs.lemmas.Option.{slice_get_read, same_Some}
 use Rattle.std.specs.Arc.{arc_value}
 use Rattle.std.specs.Borrow.{Bor}
 use Rattle.std.specs.Option.{option_copied}
@@ -119,3 +119,14 @@ module _ (unifier : ℕ → Tree) (top reduct outer_right : Tree) (left right : 
       let C : Tree → Type 0 = λ z. AreRenumbered top (apply unifier reduct) (apply unifier outer_right) t z outer_right in
       let D : Tree → Type 0 = λ z. AreRenumbered top (apply unifier reduct) (apply unifier outer_right) t (tree (arc_value left.term)) z in
       subst D (sym r.is) (subst C (sym l.is) (subst B right_stays (subst A left_stays (beside_ground top x y t a b reduct outer_right h l.ground r.ground))))
+
+-- what holds of one reduct holds of each
+module _ (place : List ℕ) (left by t : Tree) where
+  pub of_the_reduct : (P : Tree → ℕ → Type 0) (answer : Result ℕ PeakFault) → replaced_at place left by ≡ Some t → IfOk answer (P t) → IfOk answer (λ total. (u : Tree) → replaced_at place left by ≡ Some u → P u total)
+  of_the_reduct P (Ok total) is h = λ u there. (let Q : Tree → Type 0 = λ v. P v total in subst Q (same_Some t u (sym is ∙ there)) h)
+  of_the_reduct P (Err fault) is h = tt
+
+  pub fault_of_the_reduct : (P : Tree → PeakFault → Type 0) (answer : Result ℕ PeakFault) → replaced_at place left by ≡ Some t → IfErr answer (P t)
+      → IfErr answer (λ fault. (u : Tree) → replaced_at place left by ≡ Some u → P u fault)
+  fault_of_the_reduct P (Ok total) is h = tt
+  fault_of_the_reduct P (Err fault) is h = λ u there. (let Q : Tree → Type 0 = λ v. P v fault in subst Q (same_Some t u (sym is ∙ there)) h)

@@ -1,8 +1,10 @@
 //! The results of one critical peak: instances that are built, or whole right sides that are shared.
 ghost use Rattle.std.specs.Prelude.{◌≡◌, ◌≢◌, ◌<◌, All, IfOk, IfErr, IfSome, None, Some, slice_get};
-ghost use Rattle.trs_defs.specs.Position.{subterm_at};
+ghost use Rattle.trs_defs.specs.Tree.{Tree};
+ghost use Rattle.trs_defs.specs.Position.{subterm_at, replaced_at};
 ghost use Rattle.trs_defs.specs.Substitution.{apply};
 ghost use Rattle.trs_defs.specs.System.{RewriteRule};
+ghost use Rattle.trs_core.specs.View.{tree};
 ghost use Rattle.crit_pairs.specs.Apart.{renamed_apart};
 ghost use Rattle.crit_pairs.specs.Overlapping.{substitution};
 ghost use Rattle.crit_pairs.specs.Sides.{AreRenumbered, KeepsLimits, PassesLimit};
@@ -11,6 +13,7 @@ ghost use Rattle.crit_pairs.specs.WholeSides.{HaveWholeResults, AreResults, AreW
 use crate::PeakFault;
 use crate::apart::RulesApart;
 use crate::contracting::contract;
+use crate::counting::count_unmade;
 use crate::overlapping::OverlapUnifier;
 use crate::sides::{PeakTop, Sides, count_nodes, count_top};
 use crate::whole_sides::WholeSide;
@@ -92,6 +95,40 @@ pub(crate) fn count_peak(
         Results::Whole(left, right) => {
             count_top(unifier, &outer.left, left.size, right.size, nodes)
         }
+    }
+}
+
+/// The number of nodes of all peaks, where the peaks before have so many and the next one is that of
+/// rule `i` in rule `j` at this place, and is not made.
+pub(crate) fn count_overlap(
+    alloc: Global,
+    rules: &RulesApart,
+    unifier: &OverlapUnifier,
+    j: usize,
+    outer: &Rule,
+    i: usize,
+    inner: &Rule,
+    place: &[u8],
+    part: &Term,
+    nodes: u64,
+) -> Result<u64, PeakFault>
+    requires outer { slice_get rules.now.rules j ≡ Some outer.now }
+    requires inner { (r : RewriteRule) × (slice_get rules.now.rules i ≡ Some r)
+        × (inner.now ≡ renamed_apart r) }
+    requires there { subterm_at place.now outer.now.left ≡ Some (tree part.now) }
+    requires positive { All (λ n. 0 < n) place.now }
+    ensures limits { IfOk result (λ total. (u : Tree)
+        → replaced_at place.now outer.now.left inner.now.right ≡ Some u → KeepsLimits nodes total
+        (apply (substitution unifier.now) outer.now.left) (apply (substitution unifier.now) u)
+        (apply (substitution unifier.now) outer.now.right)) }
+    ensures fault { IfErr result (λ fault. (u : Tree)
+        → replaced_at place.now outer.now.left inner.now.right ≡ Some u → PassesLimit fault nodes
+        (apply (substitution unifier.now) outer.now.left) (apply (substitution unifier.now) u)
+        (apply (substitution unifier.now) outer.now.right)) }
+{
+    match whole_results(rules, j, i, place) {
+        Some((left, right)) => count_top(unifier, &outer.left, left.size, right.size, nodes),
+        None => count_unmade(alloc, unifier, outer, place, part, inner, nodes),
     }
 }
 
