@@ -1,26 +1,28 @@
 //! The ids of the sides of peaks, by the rules that give them.
-ghost use Rattle.std.specs.Prelude.{◌≡◌, ◌<◌, length, IsTrue, IfOk, IfSome};
+ghost use Rattle.std.specs.Prelude.{◌≡◌, ◌<◌, ◌^◌, length, IsTrue, IfOk, IfSome};
 ghost use Rattle.trs_core.specs.View.{tree};
 ghost use Rattle.term_pool.specs.Pooled.{Extends, StandsFor, tree_at};
 
-use indexmap::IndexMap;
 use std::alloc::Global;
 use term_pool::Pool;
 use trs_core::{OutOfMemory, Term};
+
+/// No id of a term, since it is past those of every pool.
+const NO_ID: u32 = u32::MAX;
 
 /// For each rule the id of the last side that it gave. A right side with no variable is a side of all
 /// peaks of its rule at the root, and to compare it costs less than to intern it again. An id of an
 /// older pool does no harm.
 #[derive(Drop)]
 pub struct SideIds {
-    by_rule: IndexMap<u32, u32>,
+    by_rule: Vec<u32>,
 }
 
 impl SideIds {
     /// No ids. It takes no memory.
     pub fn new(alloc: Global) -> SideIds {
         SideIds {
-            by_rule: IndexMap::new(alloc),
+            by_rule: Vec::new(alloc),
         }
     }
 
@@ -39,8 +41,21 @@ impl SideIds {
             return Ok(id);
         }
         let id = pool.intern(alloc, side)?;
-        self.by_rule.insert(rule, id)?;
+        self.note(rule as usize, id)?;
         Ok(id)
+    }
+
+    /// Notes the id of the last side that a rule gave.
+    fn note(&mut self, rule: usize, id: u32) -> Result<(), OutOfMemory>
+        requires { rule < 2 ^ 32 }
+    {
+        if self.by_rule.len() <= rule {
+            self.by_rule.resize(rule + 1, NO_ID)?;
+        }
+        if let Some(last) = self.by_rule.get_mut(rule) {
+            *last = id;
+        }
+        Ok(())
     }
 
     /// The id of the last side that a rule gave, if this side is the same.
@@ -54,7 +69,7 @@ impl SideIds {
         ensures { IfOk result (λ found. IfSome found (λ id.
             StandsFor pool.now id (tree side.now))) }
     {
-        let Some(id) = self.by_rule.get(&rule) else {
+        let Some(id) = self.by_rule.get(rule as usize) else {
             return Ok(None);
         };
         if *id >= pool.len() {
