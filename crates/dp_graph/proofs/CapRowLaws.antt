@@ -24,9 +24,9 @@ use Rattle.trs_caps.proofs.MetRules.{root_of_met}
 use Rattle.pair_theory.specs.Marked.{Marked, marked, plain}
 use Rattle.pair_theory.specs.DependencyPair.{subterms, subterms_of_all}
 use Rattle.dp_graph.specs.GraphNodes.{IsEndOf}
-use Rattle.dp_graph.specs.SameLefts.{HaveSameLefts}
+use Rattle.dp_graph.specs.SameLefts.{IsNoted, HaveSameLefts}
 use Rattle.dp_graph.specs.WordRows.{HasWords, KeepWords}
-use Rattle.dp_graph.specs.FlagRows.{IsSet, IsRow, LooksAtLeft}
+use Rattle.dp_graph.specs.FlagRows.{IsSet, IsMet, HasFlags, IsRow, MeetsOther, IsOther, LooksAtLeft}
 use Rattle.dp_graph.specs.CapRows.{Key, HaveNumbers, no_numbers, one_number, HasKey, AreCaps, KeepNumbers, AreMore, IsNumbered, AddsCap, AreEnds, no_ends, at_variable, not_defined, one_end, IsEnd, AddsEnds, IsCapped, Begins, with_end}
 use Rattle.dp_graph.specs.declared.cap_rows.CapRows.{CapRows}
 use Rattle.dp_graph.specs.declared.cap_rows.End.{End}
@@ -37,19 +37,23 @@ use Rattle.dp_graph.proofs.ListPlaces.{last_or_there, still_there, length_set}
 -- ---- the row of a cap
 
 -- the rules of these numbers were looked at
-pub record RowSoFar (rules : List RewriteRule) (lefts : List ℕ) (c : HoledTree) (ks : List ℕ) (row : List ℕ) : Type 0 where
+pub record RowSoFar (rules : List RewriteRule) (lefts : List (Option ℕ)) (c : HoledTree) (ks : List ℕ) (row : List ℕ) : Type 0 where
   pub met : (k : ℕ) → IsSet row k → (rule : RewriteRule) × (slice_get rules k ≡ Some rule) × MeetsLeft c rule.left
-  pub looked : All (λ k. (rule : RewriteRule) → slice_get rules k ≡ Some rule → slice_get lefts k ≡ Some k → MeetsLeft c rule.left → IsSet row k) ks
+  pub looked : All (λ k. (rule : RewriteRule) → slice_get rules k ≡ Some rule → IsNoted lefts k k → MeetsLeft c rule.left → IsSet row k) ks
   pub some : 0 < length row → (k : ℕ) × IsSet row k
 
-pub no_flags : (rules : List RewriteRule) (lefts : List ℕ) (c : HoledTree) (ks : List ℕ) (row : List ℕ) → row ≡ [] → RowSoFar rules lefts c (take 0 ks) row
+-- the cap meets none of the left sides of rules without pairs among these
+abbrev pub NoneMet : List RewriteRule → List (Option ℕ) → HoledTree → List ℕ → Type 0
+NoneMet rules lefts c ks = All (λ k. MeetsOther rules lefts c k → ⊥) ks
+
+pub no_flags : (rules : List RewriteRule) (lefts : List (Option ℕ)) (c : HoledTree) (ks : List ℕ) (row : List ℕ) → row ≡ [] → RowSoFar rules lefts c (take 0 ks) row
 no_flags rules lefts c ks row empty = record {
   met = λ k set. absurd (none_set k (subst (λ z. IsSet z k) empty set));
   looked = λ i d lt. absurd (omega (arith, lt));
   some = λ lt. absurd (let e = ap length empty in omega (arith, lt, e));
 }
 
-module _ (rules : List RewriteRule) (lefts : List ℕ) (c : HoledTree) where
+module _ (rules : List RewriteRule) (lefts : List (Option ℕ)) (c : HoledTree) where
   pub one_more_flag : (ks : List ℕ) (i : ℕ) (rule : RewriteRule) (old new : List ℕ) → i < length ks → slice_get rules (slice_index ks i) ≡ Some rule
       → LooksAtLeft lefts c rule.left (slice_index ks i) old new → RowSoFar rules lefts c (take i ks) old → RowSoFar rules lefts c (take (i + 1) ks) new
   one_more_flag ks i rule old new lt there looks so_far = record {
@@ -57,7 +61,7 @@ module _ (rules : List RewriteRule) (lefts : List ℕ) (c : HoledTree) where
       | inl e ↦ so_far.met k e
       | inr e ↦ (rule, subst (λ z. slice_get rules z ≡ Some rule) (sym e.0) there, e.1)
     ];
-    looked = All-more (λ k. (q : RewriteRule) → slice_get rules k ≡ Some q → slice_get lefts k ≡ Some k → MeetsLeft c q.left → IsSet new k) ks i 0 lt
+    looked = All-more (λ k. (q : RewriteRule) → slice_get rules k ≡ Some q → IsNoted lefts k k → MeetsLeft c q.left → IsSet new k) ks i 0 lt
         (λ n d within q at noted meets. looks.kept _ (so_far.looked n d within q at noted meets))
         (λ q at noted meets. looks.met noted (subst (λ (z : RewriteRule). MeetsLeft c z.left) (same_Some q rule (sym at ∙ there)) meets));
     some = λ long. elim looks.some [
@@ -67,7 +71,7 @@ module _ (rules : List RewriteRule) (lefts : List ℕ) (c : HoledTree) where
   }
 
   pub all_flags : (system : System) (f : ℕ) (ks : List ℕ) (i : ℕ) (row : List ℕ) → system.rules ≡ rules → IsSystem system → HaveSameLefts rules lefts → HasRoot f c → ks ≡ with_root f rules → length ks ≤ i
-      → RowSoFar rules lefts c (take i ks) row → IsRow rules lefts c row
+      → RowSoFar rules lefts c (take i ks) row → HasFlags rules lefts c row
   all_flags system f ks i row is valid same root all past so_far = record {
     met = so_far.met;
     all = λ k j rule there at meets.
@@ -75,29 +79,70 @@ module _ (rules : List RewriteRule) (lefts : List ℕ) (c : HoledTree) where
         let also : MeetsLeft c q.left = subst (MeetsLeft c) (sym left) meets in
         let proper = (valid.each j q (subst (λ z. slice_get z j ≡ Some q) (sym is) found)).left_no_variable in
         let rooted : IsTrue (has_root f q.left) = root_of_met f c q.left root proper also in
-        let looked = subst (All (λ n. (r : RewriteRule) → slice_get rules n ≡ Some r → slice_get lefts n ≡ Some n → MeetsLeft c r.left → IsSet row n)) (take_all i ks past ∙ all) so_far.looked in
-        each_number (λ (r : RewriteRule). has_root f r.left) (λ n. (r : RewriteRule) → slice_get rules n ≡ Some r → slice_get lefts n ≡ Some n → MeetsLeft c r.left → IsSet row n) q rooted j 0 rules looked j found (omega arith) q found (same.noted k j at) also;
+        let looked = subst (All (λ n. (r : RewriteRule) → slice_get rules n ≡ Some r → IsNoted lefts n n → MeetsLeft c r.left → IsSet row n)) (take_all i ks past ∙ all) so_far.looked in
+        each_number (λ (r : RewriteRule). has_root f r.left) (λ n. (r : RewriteRule) → slice_get rules n ≡ Some r → IsNoted lefts n n → MeetsLeft c r.left → IsSet row n) q rooted j 0 rules looked j found (omega arith) q found (same.noted k j at) also;
     some = so_far.some;
   }
 
+  -- the rules of these numbers are no other rules whose left sides the cap meets
+  pub one_more_other : (ks : List ℕ) (i : ℕ) (rule : RewriteRule) (b : Bool) → i < length ks → slice_get rules (slice_index ks i) ≡ Some rule
+      → (slice_get lefts (slice_index ks i) ≡ Some None → MeetsLeft c rule.left → IsTrue b) → b ≡ false → NoneMet rules lefts c (take i ks) → NoneMet rules lefts c (take (i + 1) ks)
+  one_more_other ks i rule b lt there says unmet so_far =
+      All-more (λ k. MeetsOther rules lefts c k → ⊥) ks i 0 lt (λ n d within. so_far n d within)
+      (λ (other, (q, at, meets)). let e = says other (subst (λ (z : RewriteRule). MeetsLeft c z.left) (same_Some q rule (sym at ∙ there)) meets) in absurd cc)
+
+  pub no_other : (system : System) (f : ℕ) (ks : List ℕ) (i : ℕ) → system.rules ≡ rules → IsSystem system → HasRoot f c → ks ≡ with_root f rules → length ks ≤ i → NoneMet rules lefts c (take i ks) → IsOther rules lefts c None
+  no_other system f ks i is valid root all past so_far k (other, (rule, found, meets)) =
+      let proper = (valid.each k rule (subst (λ z. slice_get z k ≡ Some rule) (sym is) found)).left_no_variable in
+      let rooted : IsTrue (has_root f rule.left) = root_of_met f c rule.left root proper meets in
+      let looked = subst (NoneMet rules lefts c) (take_all i ks past ∙ all) so_far in
+      each_number (λ (r : RewriteRule). has_root f r.left) (λ n. MeetsOther rules lefts c n → ⊥) rule rooted k 0 rules looked k found (omega arith) (other, (rule, found, meets))
+
+  -- a row with a flag
+  pub row_with_flag : (row : List ℕ) → HasFlags rules lefts c row → (row ≡ [] → ⊥) → IsRow rules lefts c row
+  row_with_flag row has not_empty = record { flags = has; none = λ empty. absurd (not_empty empty) }
+
+  -- the flag of another rule is set in an empty row
+  pub row_of_other : (old new : List ℕ) (k : ℕ) → HasFlags rules lefts c old → IsMet rules c k → ((j : ℕ) → IsSet new j ↔ (IsSet old j ⊎ (j ≡ k))) → IsRow rules lefts c new
+  row_of_other old new k has met sets = record {
+    flags = record {
+      met = λ j set. elim ((sets j).0 set) [ inl e ↦ has.met j e | inr e ↦ subst (IsMet rules c) (sym e) met ];
+      all = λ n j rule at noted meets. (sets j).1 (inl (has.all n j rule at noted meets));
+      some = λ long. (k, (sets k).1 (inr refl));
+    };
+    none = λ empty. absurd (none_set k (subst (λ z. IsSet z k) empty ((sets k).1 (inr refl))));
+  }
+
+  -- the cap meets no left side
+  pub row_of_none : (row : List ℕ) → HaveSameLefts rules lefts → HasFlags rules lefts c row → IsOther rules lefts c None → row ≡ [] → IsRow rules lefts c row
+  row_of_none row same has unmet empty = record {
+    flags = has;
+    none = λ e k (rule, at, meets).
+        let count = same.count in
+        let there = item_there lefts k (let w = slice_get_within rules k rule at in omega (arith, w, count)) in
+        unmet_by rule k at meets there.0 there.1;
+  }
+    where
+      unmet_by : (rule : RewriteRule) (k : ℕ) → slice_get rules k ≡ Some rule → MeetsLeft c rule.left → (left : Option ℕ) → slice_get lefts k ≡ Some left → ⊥
+      unmet_by rule k at meets None other = unmet k (other, (rule, at, meets))
+      unmet_by rule k at meets (Some j) noted = none_set j (subst (λ z. IsSet z j) empty (has.all k j rule at noted meets))
+
   -- whether the cap meets a left side
-  pub met_some : (flags : List ℕ) → HaveSameLefts rules lefts → IsRow rules lefts c flags → (b : Bool) → IsTrue b ↔ (flags ≡ []) → MeetsSome c rules (not b)
-  met_some [] same is true e = λ l r there meets.
+  pub met_some : (flags : List ℕ) → IsRow rules lefts c flags → (b : Bool) → IsTrue b ↔ (flags ≡ []) → MeetsSome c rules (not b)
+  met_some [] is true e = λ l r there meets.
       let (k, at) = get_of_in there in
-      let count = same.count in
-      let j = item_there lefts k (let w = slice_get_within rules k (record { left = l; right = r }) at in omega (arith, w, count)) in
-      absurd (none_set j.0 (is.all k j.0 (record { left = l; right = r }) at j.1 meets))
-  met_some [] same is false e = absurd (let d = e.1 refl in cc)
-  met_some (b ∷ flags) same is true e = absurd (let d = e.0 refl in cc)
-  met_some (b ∷ flags) same is false e =
-      let (k, set) = is.some (omega arith) in
-      let (rule, at, meets) = is.met k set in
+      is.none refl k (record { left = l; right = r }, at, meets)
+  met_some [] is false e = absurd (let d = e.1 refl in cc)
+  met_some (b ∷ flags) is true e = absurd (let d = e.0 refl in cc)
+  met_some (b ∷ flags) is false e =
+      let (k, set) = is.flags.some (omega arith) in
+      let (rule, at, meets) = is.flags.met k set in
       (rule.left, rule.right, in_of_get rules k rule at, meets)
 
-pub nothing_looked : (lefts : List ℕ) (c : HoledTree) (l : Tree) (k : ℕ) (row : List ℕ) → (slice_get lefts k ≡ Some k → MeetsLeft c l → ⊥) → LooksAtLeft lefts c l k row row
+pub nothing_looked : (lefts : List (Option ℕ)) (c : HoledTree) (l : Tree) (k : ℕ) (row : List ℕ) → (IsNoted lefts k k → MeetsLeft c l → ⊥) → LooksAtLeft lefts c l k row row
 nothing_looked lefts c l k row unmet = record { kept = λ j h. h; met = λ noted meets. absurd (unmet noted meets); only = λ j h. inl h; some = inl refl }
 
-pub one_looked : (lefts : List ℕ) (c : HoledTree) (l : Tree) (k : ℕ) (old new : List ℕ) → MeetsLeft c l → ((j : ℕ) → IsSet new j ↔ (IsSet old j ⊎ (j ≡ k))) → LooksAtLeft lefts c l k old new
+pub one_looked : (lefts : List (Option ℕ)) (c : HoledTree) (l : Tree) (k : ℕ) (old new : List ℕ) → MeetsLeft c l → ((j : ℕ) → IsSet new j ↔ (IsSet old j ⊎ (j ≡ k))) → LooksAtLeft lefts c l k old new
 one_looked lefts c l k old new meets sets = record {
   kept = λ j h. (sets j).1 (inl h);
   met = λ noted also. (sets k).1 (inr refl);
@@ -185,7 +230,7 @@ with_end_long (Some k) f n ends = length_set ends k (record { symbol = f; cap = 
 
 -- ---- caps that are added
 
-pub hole_alone : (rules : List RewriteRule) (lefts : List ℕ) (table : CapRows) (n : ℕ) (key : Key) → table.caps.items ≡ n ∷ [] → table.keys.rows.items ≡ key ∷ [] → key.items ≡ []
+pub hole_alone : (rules : List RewriteRule) (lefts : List (Option ℕ)) (table : CapRows) (n : ℕ) (key : Key) → table.caps.items ≡ n ∷ [] → table.keys.rows.items ≡ key ∷ [] → key.items ≡ []
     → AreCaps rules lefts table (hole ∷ [])
 hole_alone rules lefts table n key one keys empty = record {
   count = ap length one;
@@ -201,7 +246,7 @@ hole_alone rules lefts table n key one keys empty = record {
     not_hole : (m f : ℕ) (cs : HoledTrees) → slice_get (hole ∷ []) m ≡ Some (symbol f cs) → ⊥
     not_hole m f cs at = elim (last_or_there [] hole (symbol f cs) m at) [ inl e ↦ cc | inr e ↦ (let d = e.1 in cc) ]
 
-module _ (rules : List RewriteRule) (lefts : List ℕ) where
+module _ (rules : List RewriteRule) (lefts : List (Option ℕ)) where
   pub cap_added : (old new : CapRows) (all : List HoledTree) (c : HoledTree) (key : Key) (flags : List ℕ) (n : ℕ) → AreCaps rules lefts old all → HasKey all c key.items → IsRow rules lefts c flags
       → AddsCap key flags n old new → AreMore rules lefts new all (λ grown. slice_get grown n ≡ Some c)
   cap_added old new all c key flags n are has is adds = (all ++ c ∷ [], keeps, made, here)
@@ -269,7 +314,7 @@ module _ (rules : List RewriteRule) (lefts : List ℕ) where
   closed_cap table all t f cs n b same are whole at says =
       let r = item_there table.caps.items n (let w = slice_get_within all n (symbol f cs) at in omega (arith, w, are.count)) in
       let (flags, has, row) = are.rows n r.0 f cs at r.1 in
-      met_some rules lefts (symbol f cs) flags same row b (says r.0 flags r.1 has)
+      met_some rules lefts (symbol f cs) flags row b (says r.0 flags r.1 has)
 
   pub kept_cap : (all : List HoledTree) (t : Tree) (found : NumberedCap) (f : ℕ) (cs : HoledTrees) → IsWhole rules false t (symbol f cs) → MeetsSome (symbol f cs) rules false → slice_get all found.number ≡ Some (symbol f cs)
       → holed found.cap ≡ symbol f cs → found.whole ≡ found.number → IsNumbered rules t found all
@@ -410,14 +455,14 @@ pub no_number : (caps : List ℕ) (n r : ℕ) → slice_get caps n ≡ None → 
 no_number caps n r none at = let d : None ≡ Some r = sym none ∙ at in cc
 
 -- whether a rule is noted for its left side
-pub noted_if : (lefts : List ℕ) (k first : ℕ) (b : Bool) → slice_get lefts k ≡ Some first → b ≡ (first == k) → IsTrue b ↔ (slice_get lefts k ≡ Some k)
+pub noted_if : (lefts : List (Option ℕ)) (k first : ℕ) (b : Bool) → IsNoted lefts k first → b ≡ (first == k) → IsTrue b ↔ IsNoted lefts k k
 noted_if lefts k first b at is = (
-  λ e. at ∙ ap (λ z. Some z) ((Decides-eqb first k).0 (sym is ∙ e)),
-  λ h. is ∙ (Decides-eqb first k).1 (same_Some first k (sym at ∙ h)),
+  λ e. at ∙ ap (λ z. Some (Some z)) ((Decides-eqb first k).0 (sym is ∙ e)),
+  λ h. is ∙ (Decides-eqb first k).1 (same_Some first k (same_Some (Some first) (Some k) (sym at ∙ h))),
 )
 
-pub noted_not : (lefts : List ℕ) (k : ℕ) → slice_get lefts k ≡ None → IsTrue false ↔ (slice_get lefts k ≡ Some k)
-noted_not lefts k none = (λ e. absurd cc, λ h. let d : None ≡ Some k = sym none ∙ h in absurd cc)
+pub noted_not : (lefts : List (Option ℕ)) (k : ℕ) → (IsNoted lefts k k → ⊥) → IsTrue false ↔ IsNoted lefts k k
+noted_not lefts k not_noted = (λ e. absurd cc, λ h. absurd (not_noted h))
 
 pub read_number : (caps : List ℕ) (n row r : ℕ) → slice_get caps n ≡ Some row → slice_get caps n ≡ Some r → row ≡ r
 read_number caps n row r at there = same_Some row r (sym at ∙ there)

@@ -1,10 +1,12 @@
 -- Rules with the same left side, one after another.
-use Rattle.std.proofs.Common.{◌≡◌, ◌<◌, ℕ, ◌+◌, inl, inr, List, [], ◌∷◌, ◌++◌, Option, Some, None, length, slice_get, slice_set, refl, ap, sym, ◌∙◌, subst, length-append}
+use Rattle.std.proofs.Common.{◌≡◌, ◌<◌, ℕ, ◌+◌, Bool, true, false, inl, inr, List, [], ◌∷◌, ◌++◌, Option, Some, None, length, slice_get, slice_set, refl, ap, sym, ◌∙◌, subst, length-append}
 use Rattle.std.proofs.lemmas.Option.{same_Some}
 use native.Mathlib.Decide.{ℕ_discrete}
-use Rattle.trs_defs.specs.Tree.{Tree}
-use Rattle.trs_defs.specs.System.{RewriteRule}
+use Rattle.trs_defs.specs.Tree.{Tree, Trees, var, app}
+use Rattle.trs_defs.specs.System.{RewriteRule, is_defined}
 use Rattle.trs_defs.proofs.ListItems.{last_item}
+use Rattle.pair_theory.specs.Marked.{Marked, marked}
+use Rattle.pair_theory.specs.DependencyPair.{keep_if, pairs_to, pairs_of, subterms}
 use Rattle.term_pool.specs.Pooled.{Extends, StandsFor}
 use Rattle.dp_graph.specs.SameLefts.{HasLeft, HaveSameLefts, IsNoted, IsNotedOr, NotesAt, NotesStay}
 use Rattle.dp_graph.proofs.ListPlaces.{last_or_there, still_there, set_here, set_elsewhere}
@@ -31,25 +33,50 @@ noted_now old room new id k lt stay set i j at = elim (ℕ_discrete i id) [
 pub none_new : (old new : List (Option ℕ)) (id first : ℕ) → NotesStay old new → NotesAt id first old new
 none_new old new id first stay i j at = inl ((stay i j).0 at)
 
--- the first k rules were looked at
-pub record SameSoFar (rules : List RewriteRule) (pool : List Tree) (seen : List (Option ℕ)) (firsts : List ℕ) (k : ℕ) : Type 0 where
-  pub count : length firsts ≡ k
-  pub each : (n j : ℕ) (rule : RewriteRule) → slice_get firsts n ≡ Some j → slice_get rules n ≡ Some rule → HasLeft rules j rule.left
-  pub noted : (i j : ℕ) → IsNoted seen i j → (left : Tree) × HasLeft rules j left × StandsFor pool i left
-  pub of_seen : (i j : ℕ) → IsNoted seen i j → slice_get firsts j ≡ Some j
-  pub of_first : (n j : ℕ) → slice_get firsts n ≡ Some j → slice_get firsts j ≡ Some j
+-- ---- rules without pairs
 
-pub no_lefts : (rules : List RewriteRule) (pool : List Tree) (seen : List (Option ℕ)) (firsts : List ℕ) → seen ≡ [] → firsts ≡ [] → SameSoFar rules pool seen firsts 0
+module _ (rules : List RewriteRule) (l : Marked) where
+  pub no_pairs_both : (ts us : List Tree) → pairs_to rules l ts ≡ [] → pairs_to rules l us ≡ [] → pairs_to rules l (ts ++ us) ≡ []
+  no_pairs_both [] us h also = also
+  no_pairs_both (var x ∷ ts) us h also = no_pairs_both ts us h also
+  no_pairs_both (app g vs ∷ ts) us h also = go (is_defined rules g) h (λ e. no_pairs_both ts us e also)
+    where
+      go : (b : Bool) → keep_if b (record { from = l; to = marked g vs }) (pairs_to rules l ts) ≡ [] → (pairs_to rules l ts ≡ [] → pairs_to rules l (ts ++ us) ≡ [])
+          → keep_if b (record { from = l; to = marked g vs }) (pairs_to rules l (ts ++ us)) ≡ []
+      go true e rest = absurd cc
+      go false e rest = rest e
+
+  -- below a symbol that is not defined
+  pub no_pair_at : (f : ℕ) (ts : List Tree) (vs : Trees) → is_defined rules f ≡ false → pairs_to rules l ts ≡ [] → pairs_to rules l (app f vs ∷ ts) ≡ []
+  no_pair_at f ts vs unknown h = subst (λ b. keep_if b (record { from = l; to = marked f vs }) (pairs_to rules l ts) ≡ []) (sym unknown) h
+
+pub no_pairs_of : (rules : List RewriteRule) (left right : Tree) → ((l : Marked) → pairs_to rules l (subterms right) ≡ []) → pairs_of rules left right ≡ []
+no_pairs_of rules (var x) right none = refl
+no_pairs_of rules (app f ls) right none = none (marked f ls)
+
+-- ---- rules one after another
+
+-- the first k rules were looked at
+pub record SameSoFar (rules : List RewriteRule) (pool : List Tree) (seen : List (Option ℕ)) (firsts : List (Option ℕ)) (k : ℕ) : Type 0 where
+  pub count : length firsts ≡ k
+  pub each : (n j : ℕ) (rule : RewriteRule) → IsNoted firsts n j → slice_get rules n ≡ Some rule → HasLeft rules j rule.left
+  pub noted : (i j : ℕ) → IsNoted seen i j → (left : Tree) × HasLeft rules j left × StandsFor pool i left
+  pub of_seen : (i j : ℕ) → IsNoted seen i j → IsNoted firsts j j
+  pub of_first : (n j : ℕ) → IsNoted firsts n j → IsNoted firsts j j
+  pub others : (n : ℕ) (rule : RewriteRule) → slice_get firsts n ≡ Some None → slice_get rules n ≡ Some rule → pairs_of rules rule.left rule.right ≡ []
+
+pub no_lefts : (rules : List RewriteRule) (pool : List Tree) (seen : List (Option ℕ)) (firsts : List (Option ℕ)) → seen ≡ [] → firsts ≡ [] → SameSoFar rules pool seen firsts 0
 no_lefts rules pool seen firsts none empty = record {
   count = ap length empty;
-  each = λ n j rule at is. absurd (let d : None ≡ Some j = subst (λ z. slice_get z n ≡ Some j) empty at in cc);
+  each = λ n j rule at is. absurd (let d : None ≡ Some (Some j) = subst (λ z. slice_get z n ≡ Some (Some j)) empty at in cc);
   noted = λ i j at. absurd (let d : None ≡ Some (Some j) = subst (λ z. slice_get z i ≡ Some (Some j)) none at in cc);
   of_seen = λ i j at. absurd (let d : None ≡ Some (Some j) = subst (λ z. slice_get z i ≡ Some (Some j)) none at in cc);
-  of_first = λ n j at. absurd (let d : None ≡ Some j = subst (λ z. slice_get z n ≡ Some j) empty at in cc);
+  of_first = λ n j at. absurd (let d : None ≡ Some (Some j) = subst (λ z. slice_get z n ≡ Some (Some j)) empty at in cc);
+  others = λ n rule at is. absurd (let d : None ≡ Some None = subst (λ z. slice_get z n ≡ Some None) empty at in cc);
 }
 
-pub one_more_left : (rules : List RewriteRule) (pool pool2 : List Tree) (seen seen2 : List (Option ℕ)) (firsts firsts2 : List ℕ) (k id first : ℕ) (rule : RewriteRule) → SameSoFar rules pool seen firsts k
-    → slice_get rules k ≡ Some rule → Extends pool pool2 → StandsFor pool2 id rule.left → IsNotedOr seen id k first → NotesAt id first seen seen2 → firsts2 ≡ firsts ++ first ∷ []
+pub one_more_left : (rules : List RewriteRule) (pool pool2 : List Tree) (seen seen2 : List (Option ℕ)) (firsts firsts2 : List (Option ℕ)) (k id first : ℕ) (rule : RewriteRule) → SameSoFar rules pool seen firsts k
+    → slice_get rules k ≡ Some rule → Extends pool pool2 → StandsFor pool2 id rule.left → IsNotedOr seen id k first → NotesAt id first seen seen2 → firsts2 ≡ firsts ++ Some first ∷ []
     → SameSoFar rules pool2 seen2 firsts2 (k + 1)
 one_more_left rules pool pool2 seen seen2 firsts firsts2 k id first rule h there extends stands noted notes pushed =
     let here : HasLeft rules k rule.left = (rule, there, refl) in
@@ -59,18 +86,18 @@ one_more_left rules pool pool2 seen seen2 firsts firsts2 k id first rule h there
           let (left, has, at) = h.noted id first e in
           subst (HasLeft rules first) (same_Some left rule.left (sym (extends.kept id left at) ∙ stands)) has
     ] in
-    let stays : (n j : ℕ) → slice_get firsts n ≡ Some j → slice_get firsts2 n ≡ Some j = λ n j at. subst (λ z. slice_get z n ≡ Some j) (sym pushed) (still_there firsts (first ∷ []) n j at) in
-    let first_stays : slice_get firsts2 first ≡ Some first = elim noted [
-      | inl e ↦ subst (λ z. slice_get z first ≡ Some first) (sym pushed) (subst (λ z. slice_get (firsts ++ first ∷ []) z ≡ Some first) (h.count ∙ sym e) (last_item firsts first []))
+    let stays : (n j : ℕ) → IsNoted firsts n j → IsNoted firsts2 n j = λ n j at. subst (λ z. IsNoted z n j) (sym pushed) (still_there firsts (Some first ∷ []) n (Some j) at) in
+    let first_stays : IsNoted firsts2 first first = elim noted [
+      | inl e ↦ subst (λ z. IsNoted z first first) (sym pushed) (subst (λ z. IsNoted (firsts ++ Some first ∷ []) z first) (h.count ∙ sym e) (last_item firsts (Some first) []))
       | inr e ↦ stays first first (h.of_seen id first e)
     ] in
     record {
-      count = ap length pushed ∙ (length-append firsts (first ∷ []) ∙ ap (λ z. z + 1) h.count);
-      each = λ n j r at is. elim (last_or_there firsts first j n (subst (λ z. slice_get z n ≡ Some j) pushed at)) [
+      count = ap length pushed ∙ (length-append firsts (Some first ∷ []) ∙ ap (λ z. z + 1) h.count);
+      each = λ n j r at is. elim (last_or_there firsts (Some first) (Some j) n (subst (λ z. IsNoted z n j) pushed at)) [
         | inl e ↦ h.each n j r e is
         | inr e ↦
             let same : rule ≡ r = same_Some rule r (sym there ∙ subst (λ z. slice_get rules z ≡ Some r) (e.0 ∙ h.count) is) in
-            subst (λ z. HasLeft rules z r.left) e.1 (subst (λ (z : RewriteRule). HasLeft rules first z.left) same found)
+            subst (λ z. HasLeft rules z r.left) (same_Some first j e.1) (subst (λ (z : RewriteRule). HasLeft rules first z.left) same found)
       ];
       noted = λ i j at. elim (notes i j at) [
         | inl e ↦ let (left, has, old) = h.noted i j e in (left, has, extends.kept i left old)
@@ -78,33 +105,64 @@ one_more_left rules pool pool2 seen seen2 firsts firsts2 k id first rule h there
       ];
       of_seen = λ i j at. elim (notes i j at) [
         | inl e ↦ stays j j (h.of_seen i j e)
-        | inr e ↦ subst (λ z. slice_get firsts2 z ≡ Some z) (sym e.1) first_stays
+        | inr e ↦ subst (λ z. IsNoted firsts2 z z) (sym e.1) first_stays
       ];
-      of_first = λ n j at. elim (last_or_there firsts first j n (subst (λ z. slice_get z n ≡ Some j) pushed at)) [
+      of_first = λ n j at. elim (last_or_there firsts (Some first) (Some j) n (subst (λ z. IsNoted z n j) pushed at)) [
         | inl e ↦ stays j j (h.of_first n j e)
-        | inr e ↦ subst (λ z. slice_get firsts2 z ≡ Some z) e.1 first_stays
+        | inr e ↦ subst (λ z. IsNoted firsts2 z z) (same_Some first j e.1) first_stays
+      ];
+      others = λ n r at is. elim (last_or_there firsts (Some first) None n (subst (λ z. slice_get z n ≡ Some None) pushed at)) [
+        | inl e ↦ h.others n r e is
+        | inr e ↦ absurd (let d = e.1 in cc)
       ];
     }
 
 -- a rule that is noted for its own left side
-pub one_more_own : (rules : List RewriteRule) (pool : List Tree) (seen : List (Option ℕ)) (firsts firsts2 : List ℕ) (k : ℕ) (rule : RewriteRule) → SameSoFar rules pool seen firsts k
-    → slice_get rules k ≡ Some rule → firsts2 ≡ firsts ++ k ∷ [] → SameSoFar rules pool seen firsts2 (k + 1)
+pub one_more_own : (rules : List RewriteRule) (pool : List Tree) (seen : List (Option ℕ)) (firsts firsts2 : List (Option ℕ)) (k : ℕ) (rule : RewriteRule) → SameSoFar rules pool seen firsts k
+    → slice_get rules k ≡ Some rule → firsts2 ≡ firsts ++ Some k ∷ [] → SameSoFar rules pool seen firsts2 (k + 1)
 one_more_own rules pool seen firsts firsts2 k rule h there pushed =
-    let stays : (n j : ℕ) → slice_get firsts n ≡ Some j → slice_get firsts2 n ≡ Some j = λ n j at. subst (λ z. slice_get z n ≡ Some j) (sym pushed) (still_there firsts (k ∷ []) n j at) in
-    let own : slice_get firsts2 k ≡ Some k = subst (λ z. slice_get z k ≡ Some k) (sym pushed) (subst (λ z. slice_get (firsts ++ k ∷ []) z ≡ Some k) h.count (last_item firsts k [])) in
+    let stays : (n j : ℕ) → IsNoted firsts n j → IsNoted firsts2 n j = λ n j at. subst (λ z. IsNoted z n j) (sym pushed) (still_there firsts (Some k ∷ []) n (Some j) at) in
+    let own : IsNoted firsts2 k k = subst (λ z. IsNoted z k k) (sym pushed) (subst (λ z. IsNoted (firsts ++ Some k ∷ []) z k) h.count (last_item firsts (Some k) [])) in
     record {
-      count = ap length pushed ∙ (length-append firsts (k ∷ []) ∙ ap (λ z. z + 1) h.count);
-      each = λ n j r at is. elim (last_or_there firsts k j n (subst (λ z. slice_get z n ≡ Some j) pushed at)) [
+      count = ap length pushed ∙ (length-append firsts (Some k ∷ []) ∙ ap (λ z. z + 1) h.count);
+      each = λ n j r at is. elim (last_or_there firsts (Some k) (Some j) n (subst (λ z. IsNoted z n j) pushed at)) [
         | inl e ↦ h.each n j r e is
-        | inr e ↦ (r, subst (λ z. slice_get rules z ≡ Some r) (e.0 ∙ (h.count ∙ e.1)) is, refl)
+        | inr e ↦ (r, subst (λ z. slice_get rules z ≡ Some r) (e.0 ∙ (h.count ∙ same_Some k j e.1)) is, refl)
       ];
       noted = h.noted;
       of_seen = λ i j at. stays j j (h.of_seen i j at);
-      of_first = λ n j at. elim (last_or_there firsts k j n (subst (λ z. slice_get z n ≡ Some j) pushed at)) [
+      of_first = λ n j at. elim (last_or_there firsts (Some k) (Some j) n (subst (λ z. IsNoted z n j) pushed at)) [
         | inl e ↦ stays j j (h.of_first n j e)
-        | inr e ↦ subst (λ z. slice_get firsts2 z ≡ Some z) e.1 own
+        | inr e ↦ subst (λ z. IsNoted firsts2 z z) (same_Some k j e.1) own
+      ];
+      others = λ n r at is. elim (last_or_there firsts (Some k) None n (subst (λ z. slice_get z n ≡ Some None) pushed at)) [
+        | inl e ↦ h.others n r e is
+        | inr e ↦ absurd (let d = e.1 in cc)
       ];
     }
 
-pub all_lefts : (rules : List RewriteRule) (pool : List Tree) (seen : List (Option ℕ)) (firsts : List ℕ) (k : ℕ) → SameSoFar rules pool seen firsts k → k ≡ length rules → HaveSameLefts rules firsts
-all_lefts rules pool seen firsts k h end = record { count = h.count ∙ end; noted = h.of_first; each = h.each }
+-- a rule without pairs, for which none is noted
+pub one_more_other : (rules : List RewriteRule) (pool : List Tree) (seen : List (Option ℕ)) (firsts firsts2 : List (Option ℕ)) (k : ℕ) (rule : RewriteRule) → SameSoFar rules pool seen firsts k
+    → slice_get rules k ≡ Some rule → pairs_of rules rule.left rule.right ≡ [] → firsts2 ≡ firsts ++ None ∷ [] → SameSoFar rules pool seen firsts2 (k + 1)
+one_more_other rules pool seen firsts firsts2 k rule h there free pushed =
+    let stays : (n j : ℕ) → IsNoted firsts n j → IsNoted firsts2 n j = λ n j at. subst (λ z. IsNoted z n j) (sym pushed) (still_there firsts (None ∷ []) n (Some j) at) in
+    let before : (n j : ℕ) → IsNoted firsts2 n j → IsNoted firsts n j = λ n j at. elim (last_or_there firsts None (Some j) n (subst (λ z. IsNoted z n j) pushed at)) [
+      | inl e ↦ e
+      | inr e ↦ absurd (let d = e.1 in cc)
+    ] in
+    record {
+      count = ap length pushed ∙ (length-append firsts (None ∷ []) ∙ ap (λ z. z + 1) h.count);
+      each = λ n j r at is. h.each n j r (before n j at) is;
+      noted = h.noted;
+      of_seen = λ i j at. stays j j (h.of_seen i j at);
+      of_first = λ n j at. stays j j (h.of_first n j (before n j at));
+      others = λ n r at is. elim (last_or_there firsts None None n (subst (λ z. slice_get z n ≡ Some None) pushed at)) [
+        | inl e ↦ h.others n r e is
+        | inr e ↦
+            let same : rule ≡ r = same_Some rule r (sym there ∙ subst (λ z. slice_get rules z ≡ Some r) (e.0 ∙ h.count) is) in
+            subst (λ (z : RewriteRule). pairs_of rules z.left z.right ≡ []) same free
+      ];
+    }
+
+pub all_lefts : (rules : List RewriteRule) (pool : List Tree) (seen : List (Option ℕ)) (firsts : List (Option ℕ)) (k : ℕ) → SameSoFar rules pool seen firsts k → k ≡ length rules → HaveSameLefts rules firsts
+all_lefts rules pool seen firsts k h end = record { count = h.count ∙ end; noted = h.of_first; each = h.each; others = h.others }

@@ -20,7 +20,7 @@ use Rattle.dp_graph.specs.WordRows.{HasWords, KeepWords}
 use Rattle.dp_graph.specs.FlagRows.{IsSet, IsRow}
 use Rattle.dp_graph.specs.GraphNodes.{IsEndOf, IsRowAt, LeadsAs, IsSideNode, AreNodesOf}
 use Rattle.dp_graph.specs.PairNodes.{IsNodeAt, AddsNode, AddsNodes, AreShared, AreNodes}
-use Rattle.dp_graph.specs.SameLefts.{HaveSameLefts}
+use Rattle.dp_graph.specs.SameLefts.{IsNoted, HaveSameLefts}
 use Rattle.dp_graph.specs.declared.cap_rows.CapRows.{CapRows}
 use Rattle.dp_graph.specs.declared.cap_rows.End.{End}
 use Rattle.dp_graph.specs.declared.cap_rows.NumberedCap.{NumberedCap}
@@ -114,10 +114,10 @@ one_more_node rule from ends k end old mid new lt at so_far adds =
       seen = λ h. seen_more rule from end mid new adds (so_far.seen h);
     }
 
-row_stays : (rules : List RewriteRule) (lefts : List ℕ) (old new : List (Vec ℕ Global)) (n : ℕ) (p : DependencyPair) → KeepWords old new → IsRowAt rules lefts old n p → IsRowAt rules lefts new n p
+row_stays : (rules : List RewriteRule) (lefts : List (Option ℕ)) (old new : List (Vec ℕ Global)) (n : ℕ) (p : DependencyPair) → KeepWords old new → IsRowAt rules lefts old n p → IsRowAt rules lefts new n p
 row_stays rules lefts old new n p keeps (c, end, (flags, has, row)) = (c, end, (flags, keeps n flags has, row))
 
-side_stays : (rules : List RewriteRule) (lefts : List ℕ) (old new : List (Vec ℕ Global)) → KeepWords old new → (p : DependencyPair) (node : Node) → IsSideNode rules lefts old p node → IsSideNode rules lefts new p node
+side_stays : (rules : List RewriteRule) (lefts : List (Option ℕ)) (old new : List (Vec ℕ Global)) → KeepWords old new → (p : DependencyPair) (node : Node) → IsSideNode rules lefts old p node → IsSideNode rules lefts new p node
 side_stays rules lefts old new keeps p node is = record {
   number = is.number;
   rule = is.rule;
@@ -129,9 +129,9 @@ side_stays rules lefts old new keeps p node is = record {
   row = row_stays rules lefts old new node.row p keeps is.row;
 }
 
-module _ (rules : List RewriteRule) (lefts : List ℕ) (caps : CapRows) (all : List HoledTree) (are : AreCaps rules lefts caps all) where
+module _ (rules : List RewriteRule) (lefts : List (Option ℕ)) (caps : CapRows) (all : List HoledTree) (are : AreCaps rules lefts caps all) where
   -- the node of a pair by its end
-  side_made : (k j f : ℕ) (rule : RewriteRule) (ls : Trees) → slice_get rules k ≡ Some rule → slice_get lefts k ≡ Some j → rule.left ≡ app f ls → (p : DependencyPair) (end : End) (node : Node)
+  side_made : (k j f : ℕ) (rule : RewriteRule) (ls : Trees) → slice_get rules k ≡ Some rule → IsNoted lefts k j → rule.left ≡ app f ls → (p : DependencyPair) (end : End) (node : Node)
       → (p.from ≡ marked f ls) × IsEnd rules all p.to end → IsNodeAt caps.caps.items j f end node → IsSideNode rules lefts caps.rows.rows.items p node
   side_made k j f rule ls numbered noted left p end node (from, is) at =
       let (parts, each, cap) = is.is in
@@ -142,14 +142,14 @@ module _ (rules : List RewriteRule) (lefts : List ℕ) (caps : CapRows) (all : L
         rule = rule;
         numbered = numbered;
         left = left ∙ ap plain (sym from);
-        noted = subst (λ z. slice_get lefts k ≡ Some z) (sym at.rule_is) noted;
+        noted = subst (λ z. IsNoted lefts k z) (sym at.rule_is) noted;
         from = at.from_is ∙ ap (λ (m : Marked). m.symbol) (sym from);
         to = at.to_is ∙ is.root;
         row = (symbol p.to.symbol parts, (parts, each, refl), (flags, subst (λ z. HasWords caps.rows.rows.items z flags) (sym (at.row_is r.0 r.1)) has, row));
       }
 
 -- after the caps of the right side of a rule are made
-pub caps_made : (rules : List RewriteRule) (lefts : List ℕ) (pairs : List DependencyPair) (old mid : Nodes) (new : CapRows) (t : Tree) (found : NumberedCap) (ends : List End) → mid.nodes ≡ old.nodes → mid.seen ≡ old.seen → mid.caps ≡ new
+pub caps_made : (rules : List RewriteRule) (lefts : List (Option ℕ)) (pairs : List DependencyPair) (old mid : Nodes) (new : CapRows) (t : Tree) (found : NumberedCap) (ends : List End) → mid.nodes ≡ old.nodes → mid.seen ≡ old.seen → mid.caps ≡ new
     → (are : AreNodes rules lefts pairs old) → KeepWords old.caps.rows.rows.items new.rows.rows.items → AreMore rules lefts new are.caps (IsCapped rules t found [] ends)
     → AreNodes rules lefts pairs mid × ((all : List HoledTree) × AreCaps rules lefts mid.caps all × AreEnds rules all (subterms t) ends)
 caps_made rules lefts pairs old mid new t found ends nodes seen caps are keeps (all, kept, now, capped) =
@@ -167,12 +167,16 @@ caps_made rules lefts pairs old mid new t found ends nodes seen caps are keeps (
       (all, here, subst (AreEnds rules all (subterms t)) (sym grown) ended),
     )
 
-pub no_pairs_added : (rules : List RewriteRule) (lefts : List ℕ) (pairs : List DependencyPair) (mid : Nodes) (left right : Tree) (v : ℕ) → left ≡ var v → AreNodes rules lefts pairs mid
+pub no_pairs_added : (rules : List RewriteRule) (lefts : List (Option ℕ)) (pairs : List DependencyPair) (mid : Nodes) (left right : Tree) (v : ℕ) → left ≡ var v → AreNodes rules lefts pairs mid
     → AreNodes rules lefts (pairs ++ pairs_of rules left right) mid
 no_pairs_added rules lefts pairs mid left right v is are = subst (λ z. AreNodes rules lefts z mid) (sym (ap (λ l. pairs ++ pairs_of rules l right) is ∙ append-nil pairs)) are
 
-pub rule_added : (rules : List RewriteRule) (lefts : List ℕ) (pairs : List DependencyPair) (k j f : ℕ) (rule : RewriteRule) (ls : Trees) (ends : List End) (mid new : Nodes) → slice_get rules k ≡ Some rule
-    → slice_get lefts k ≡ Some j → rule.left ≡ app f ls → AreNodes rules lefts pairs mid → (all : List HoledTree) × AreCaps rules lefts mid.caps all × AreEnds rules all (subterms rule.right) ends
+pub free_rule_added : (rules : List RewriteRule) (lefts : List (Option ℕ)) (pairs : List DependencyPair) (old : Nodes) (left right : Tree) → pairs_of rules left right ≡ [] → AreNodes rules lefts pairs old
+    → AreNodes rules lefts (pairs ++ pairs_of rules left right) old
+free_rule_added rules lefts pairs old left right none are = subst (λ z. AreNodes rules lefts z old) (sym (ap (λ z. pairs ++ z) none ∙ append-nil pairs)) are
+
+pub rule_added : (rules : List RewriteRule) (lefts : List (Option ℕ)) (pairs : List DependencyPair) (k j f : ℕ) (rule : RewriteRule) (ls : Trees) (ends : List End) (mid new : Nodes) → slice_get rules k ≡ Some rule
+    → IsNoted lefts k j → rule.left ≡ app f ls → AreNodes rules lefts pairs mid → (all : List HoledTree) × AreCaps rules lefts mid.caps all × AreEnds rules all (subterms rule.right) ends
     → AddsNodes j f ends mid new → AreNodes rules lefts (pairs ++ pairs_of rules rule.left rule.right) new
 rule_added rules lefts pairs k j f rule ls ends mid new numbered noted is are (all, now, ended) nodes =
     let here : AreCaps rules lefts new.caps all = subst (λ z. AreCaps rules lefts z all) (sym nodes.caps) now in
@@ -194,12 +198,12 @@ rule_added rules lefts pairs k j f rule ls ends mid new numbered noted is are (a
 -- ---- all rules
 
 -- the pairs of the first k rules
-pub record RulesSoFar (rules : List RewriteRule) (lefts : List ℕ) (k : ℕ) (nodes : Nodes) : Type 0 where
+pub record RulesSoFar (rules : List RewriteRule) (lefts : List (Option ℕ)) (k : ℕ) (nodes : Nodes) : Type 0 where
   pub pairs : List DependencyPair
   pub left : dependency_pairs rules ≡ pairs ++ pairs_of_each rules (drop k rules)
   pub are : AreNodes rules lefts pairs nodes
 
-pub no_rules : (rules : List RewriteRule) (lefts : List ℕ) (nodes : Nodes) → AreCaps rules lefts nodes.caps (hole ∷ []) → nodes.nodes.items ≡ [] → nodes.seen.items ≡ [] → RulesSoFar rules lefts 0 nodes
+pub no_rules : (rules : List RewriteRule) (lefts : List (Option ℕ)) (nodes : Nodes) → AreCaps rules lefts nodes.caps (hole ∷ []) → nodes.nodes.items ≡ [] → nodes.seen.items ≡ [] → RulesSoFar rules lefts 0 nodes
 no_rules rules lefts nodes caps empty none = record {
   pairs = [];
   left = refl;
@@ -214,7 +218,7 @@ no_rules rules lefts nodes caps empty none = record {
   };
 }
 
-pub one_more_rule : (rules : List RewriteRule) (lefts : List ℕ) (k j : ℕ) (rule : RewriteRule) (old new : Nodes) → k < length rules → rule ≡ get_or rules k rule → slice_get rules k ≡ Some rule → slice_get lefts k ≡ Some j
+pub one_more_rule : (rules : List RewriteRule) (lefts : List (Option ℕ)) (k : ℕ) (j : Option ℕ) (rule : RewriteRule) (old new : Nodes) → k < length rules → rule ≡ get_or rules k rule → slice_get rules k ≡ Some rule → slice_get lefts k ≡ Some j
     → ((n : ℕ) (pairs : List DependencyPair) → slice_get rules n ≡ Some rule → slice_get lefts n ≡ Some j → AreNodes rules lefts pairs old → AreNodes rules lefts (pairs ++ pairs_of rules rule.left rule.right) new)
     → RulesSoFar rules lefts k old → RulesSoFar rules lefts (k + 1) new
 one_more_rule rules lefts k j rule old new lt read numbered noted adds so_far = record {
@@ -223,26 +227,26 @@ one_more_rule rules lefts k j rule old new lt read numbered noted adds so_far = 
   are = adds k so_far.pairs numbered noted so_far.are;
 }
 
-pub all_rules : (rules : List RewriteRule) (lefts : List ℕ) (k : ℕ) (nodes : Nodes) → length rules ≤ k → RulesSoFar rules lefts k nodes → AreNodes rules lefts (dependency_pairs rules) nodes
+pub all_rules : (rules : List RewriteRule) (lefts : List (Option ℕ)) (k : ℕ) (nodes : Nodes) → length rules ≤ k → RulesSoFar rules lefts k nodes → AreNodes rules lefts (dependency_pairs rules) nodes
 all_rules rules lefts k nodes past so_far =
     let none : pairs_of_each rules (drop k rules) ≡ [] = ap (pairs_of_each rules) (drop_all k rules past) in
     subst (λ z. AreNodes rules lefts z nodes) (sym (so_far.left ∙ (ap (λ z. so_far.pairs ++ z) none ∙ append-nil so_far.pairs))) so_far.are
 
 -- ---- edges by rows
 
-module _ (system : System) (valid : IsSystem system) (few : length system.arities ≤ 4095) (lefts : List ℕ) (same : HaveSameLefts system.rules lefts) where
+module _ (system : System) (valid : IsSystem system) (few : length system.arities ≤ 4095) (lefts : List (Option ℕ)) (same : HaveSameLefts system.rules lefts) where
   -- the flag of the rule that is noted for the left side of a pair says whether an edge leads to it
   pub flag_of_edge : (p r : DependencyPair) (c : HoledTree) (flags : List ℕ) (k j : ℕ) (rule : RewriteRule) → IsEndOf system.rules p.to c → IsRow system.rules lefts c flags → slice_get system.rules k ≡ Some rule
-      → rule.left ≡ plain r.from → slice_get lefts k ≡ Some j → IsSet flags j ↔ IsEdge system.rules p r
+      → rule.left ≡ plain r.from → IsNoted lefts k j → IsSet flags j ↔ IsEdge system.rules p r
   flag_of_edge p r c flags k j rule (caps, each, is) row numbered left noted =
       let by = edge_by_caps system valid few p r caps each in (
         λ set.
-            let (q, at, meets) = row.met j set in
+            let (q, at, meets) = row.flags.met j set in
             let (other, there, also) = same.each k j rule noted numbered in
             let equal : q ≡ other = same_Some q other (sym at ∙ there) in
             let left_is : q.left ≡ plain r.from = ap (λ (z : RewriteRule). z.left) equal ∙ (also ∙ left) in
             by.0 (subst (λ z. MeetsLeft z (plain r.from)) is (subst (MeetsLeft c) left_is meets)),
-        λ edge. row.all k j rule numbered noted (subst (MeetsLeft c) (sym left) (subst (λ z. MeetsLeft z (plain r.from)) (sym is) (by.1 edge))),
+        λ edge. row.flags.all k j rule numbered noted (subst (MeetsLeft c) (sym left) (subst (λ z. MeetsLeft z (plain r.from)) (sym is) (by.1 edge))),
       )
 
   -- from pairs with one row the same edges lead

@@ -31,13 +31,14 @@ one_row rows n words others (r, at, is) (q, there, also) = sym is ∙ (ap (λ (z
 pub no_row : (rows : List (Vec ℕ Global)) (n : ℕ) (words : List ℕ) → slice_get rows n ≡ None → HasWords rows n words → ⊥
 no_row rows n words none (row, at, is) = let d : None ≡ Some row = sym none ∙ at in cc
 
+-- whether a list is empty
+pub empty_if : (b : Bool) (xs : List ℕ) → b ≡ (length xs == 0) → IsTrue b ↔ (xs ≡ [])
+empty_if b [] e = (λ h. refl, λ h. e)
+empty_if b (x ∷ xs) e = (λ h. absurd (let none : length (x ∷ xs) ≡ 0 = (Decides-eqb (length (x ∷ xs)) 0).0 (sym e ∙ h) in omega (arith, none)), λ h. absurd cc)
+
 -- whether a row has no words
 pub emptiness : (rows : List (Vec ℕ Global)) (n : ℕ) (row : Vec ℕ Global) (words : List ℕ) (b : Bool) → slice_get rows n ≡ Some row → HasWords rows n words → b ≡ (length row.items == 0) → IsTrue b ↔ (words ≡ [])
 emptiness rows n row words b at has says =
     let same : row.items ≡ words = one_row rows n row.items words (row, at, refl) has in
     let whole : b ≡ (length words == 0) = says ∙ ap (λ z. length z == 0) same in
-    of_list words whole
-  where
-    of_list : (xs : List ℕ) → b ≡ (length xs == 0) → IsTrue b ↔ (xs ≡ [])
-    of_list [] e = (λ h. refl, λ h. e)
-    of_list (x ∷ xs) e = (λ h. absurd (let none : length (x ∷ xs) ≡ 0 = (Decides-eqb (length (x ∷ xs)) 0).0 (sym e ∙ h) in omega (arith, none)), λ h. absurd cc)
+    empty_if b words whole

@@ -38,7 +38,7 @@ pub record HasKey (all : List HoledTree) (c : HoledTree) (key : List ℕ) : Type
   pub numbered : HaveNumbers all parts numbers
 
 -- These are the caps that have numbers. Each but the hole has its row and its key.
-pub record AreCaps (rules : List RewriteRule) (lefts : List ℕ) (table : CapRows) (all : List HoledTree) : Type 0 where
+pub record AreCaps (rules : List RewriteRule) (lefts : List (Option ℕ)) (table : CapRows) (all : List HoledTree) : Type 0 where
   pub count : length table.caps.items ≡ length all
   pub hole_first : slice_get all 0 ≡ Some hole
   pub rows : (n r f : ℕ) (cs : HoledTrees) → slice_get all n ≡ Some (symbol f cs) → slice_get table.caps.items n ≡ Some r
@@ -51,7 +51,7 @@ abbrev pub KeepNumbers : List HoledTree → List HoledTree → Type 0
 KeepNumbers old new = (n : ℕ) (c : HoledTree) → slice_get old n ≡ Some c → slice_get new n ≡ Some c
 
 -- these caps and maybe more have numbers now, of which this is true
-abbrev pub AreMore : List RewriteRule → List ℕ → CapRows → List HoledTree → (List HoledTree → Type 0) → Type 0
+abbrev pub AreMore : List RewriteRule → List (Option ℕ) → CapRows → List HoledTree → (List HoledTree → Type 0) → Type 0
 AreMore rules lefts table old P = (all : List HoledTree) × KeepNumbers old all × AreCaps rules lefts table all × P all
 
 -- a cap with this key and these flags is added as number n

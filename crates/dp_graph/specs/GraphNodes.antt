@@ -8,7 +8,7 @@ use Rattle.trs_caps.specs.HoledCap.{AreHoledCaps}
 use Rattle.pair_theory.specs.Marked.{Marked, plain}
 use Rattle.pair_theory.specs.DependencyPair.{DependencyPair, dependency_pairs}
 use Rattle.dp_graph.specs.Edge.{IsEdge}
-use Rattle.dp_graph.specs.SameLefts.{HaveSameLefts}
+use Rattle.dp_graph.specs.SameLefts.{HaveSameLefts, IsNoted}
 use Rattle.dp_graph.specs.WordRows.{HasWords}
 use Rattle.dp_graph.specs.FlagRows.{IsRow}
 use Rattle.dp_graph.specs.declared.graph.Node.{Node}
@@ -18,7 +18,7 @@ abbrev pub IsEndOf : List RewriteRule → Marked → HoledTree → Type 0
 IsEndOf rules side c = (caps : HoledTrees) × AreHoledCaps rules false side.args caps × (c ≡ symbol side.symbol caps)
 
 -- row number n is that of the cap of the pair's right side
-abbrev pub IsRowAt : List RewriteRule → List ℕ → List (Vec ℕ Global) → ℕ → DependencyPair → Type 0
+abbrev pub IsRowAt : List RewriteRule → List (Option ℕ) → List (Vec ℕ Global) → ℕ → DependencyPair → Type 0
 IsRowAt rules lefts rows n p =
     (c : HoledTree) × IsEndOf rules p.to c × ((flags : List ℕ) × HasWords rows n flags × IsRow rules lefts c flags)
 
@@ -44,12 +44,12 @@ IsNodeFor system n (Some node) =
     (p : DependencyPair) × (slice_get (dependency_pairs system.rules) n ≡ Some p) × IsNodeOf system.rules p node
 
 -- the node has the roots of this pair, the row of its right side, and the rule that is noted for its left side
-pub record IsSideNode (rules : List RewriteRule) (lefts : List ℕ) (rows : List (Vec ℕ Global)) (p : DependencyPair) (node : Node) : Type 0 where
+pub record IsSideNode (rules : List RewriteRule) (lefts : List (Option ℕ)) (rows : List (Vec ℕ Global)) (p : DependencyPair) (node : Node) : Type 0 where
   pub number : ℕ
   pub rule : RewriteRule
   pub numbered : slice_get rules number ≡ Some rule
   pub left : rule.left ≡ plain p.from
-  pub noted : slice_get lefts number ≡ Some node.rule
+  pub noted : IsNoted lefts number node.rule
   pub from : node.from ≡ p.from.symbol
   pub to : node.to ≡ p.to.symbol
   pub row : IsRowAt rules lefts rows node.row p
@@ -58,7 +58,7 @@ pub record IsSideNode (rules : List RewriteRule) (lefts : List ℕ) (rows : List
 pub record AreNodesOf (system : System) (nodes : List Node) (rows : List (Vec ℕ Global)) : Type 0 where
   pub valid : IsSystem system
   pub symbols : length system.arities ≤ 4095
-  pub lefts : List ℕ
+  pub lefts : List (Option ℕ)
   pub same : HaveSameLefts system.rules lefts
   pub each : AllZip (IsSideNode system.rules lefts rows) (dependency_pairs system.rules) nodes
   pub first : (n : ℕ) (node : Node) (p : DependencyPair) → slice_get nodes n ≡ Some node → slice_get (dependency_pairs system.rules) n ≡ Some p

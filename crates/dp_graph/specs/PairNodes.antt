@@ -45,14 +45,14 @@ pub record AddsNodes (rule from : ℕ) (ends : List End) (old new : Nodes) : Typ
   pub seen : AreShared old.nodes.items old.seen.items → AreShared new.nodes.items new.seen.items
 
 -- The nodes are those of these pairs, by the rules that are noted for left sides. Each has the number of one with its row.
-pub record AreNodes (rules : List RewriteRule) (lefts : List ℕ) (pairs : List DependencyPair) (nodes : Nodes) : Type 0 where
+pub record AreNodes (rules : List RewriteRule) (lefts : List (Option ℕ)) (pairs : List DependencyPair) (nodes : Nodes) : Type 0 where
   pub caps : List HoledTree
   pub are : AreCaps rules lefts nodes.caps caps
   pub each : AllZip (IsSideNode rules lefts nodes.caps.rows.rows.items) pairs nodes.nodes.items
   pub shared : AreShared nodes.nodes.items nodes.seen.items
 
--- the nodes of the pairs of a rule are added, if rule number j is noted for its left side
-abbrev pub AddsRule : List RewriteRule → List ℕ → RewriteRule → ℕ → Nodes → Nodes → Type 0
+-- the nodes of the pairs of a rule are added, if rule number j, or none, is noted for its left side
+abbrev pub AddsRule : List RewriteRule → List (Option ℕ) → RewriteRule → Option ℕ → Nodes → Nodes → Type 0
 AddsRule rules lefts rule j old new =
     (k : ℕ) (pairs : List DependencyPair) → slice_get rules k ≡ Some rule → slice_get lefts k ≡ Some j → AreNodes rules lefts pairs old
     → AreNodes rules lefts (pairs ++ pairs_of rules rule.left rule.right) new

@@ -1,15 +1,15 @@
 //! Which left sides the caps of terms meet.
-ghost use Rattle.std.specs.Prelude.{ℕ, ◌≡◌, ◌≤◌, ◌<◌, ◌↔◌, ◌∷◌, false, List, [], Some, IfOk, IfSome, OnOk, IsTrue, length, slice_get};
+ghost use Rattle.std.specs.Prelude.{ℕ, ◌≡◌, ◌≤◌, ◌<◌, ◌↔◌, ◌∷◌, false, List, [], Option, Some, None, IfOk, IfSome, OnOk, IsTrue, length, slice_get};
 ghost use Rattle.trs_defs.specs.Tree.{Tree};
 ghost use Rattle.trs_defs.specs.System.{RewriteRule};
 ghost use Rattle.trs_core.specs.View.{tree};
-ghost use Rattle.trs_caps.specs.HoledCap.{HasRoot};
+ghost use Rattle.trs_caps.specs.HoledCap.{HasRoot, MeetsLeft};
 ghost use Rattle.trs_caps.specs.HoledTree.{HoledTree, hole, symbol};
 ghost use Rattle.trs_caps.specs.KnownCaps.{IsWhole};
 ghost use Rattle.trs_caps.specs.View.{holed, holed_all};
 ghost use Rattle.dp_graph.specs.WordRows.{HasWords, KeepWords};
-ghost use Rattle.dp_graph.specs.FlagRows.{IsRow, LooksAtLeft};
-ghost use Rattle.dp_graph.specs.SameLefts.{HaveSameLefts};
+ghost use Rattle.dp_graph.specs.FlagRows.{HasFlags, IsMet, IsOther, IsRow, LooksAtLeft};
+ghost use Rattle.dp_graph.specs.SameLefts.{HaveSameLefts, IsNoted};
 ghost use Rattle.dp_graph.specs.CapRows.{AreCaps, AreMore, IsNumbered, IsCapped, HasKey, AddsCap, Begins, with_end};
 
 use crate::flag_rows::set;
@@ -52,7 +52,7 @@ pub(crate) struct End {
 impl CapRows {
     /// The hole alone.
     pub(crate) fn new(alloc: Global) -> Result<CapRows, OutOfMemory>
-        ensures { IfOk result (λ caps. (rules : List RewriteRule) (lefts : List ℕ) →
+        ensures { IfOk result (λ caps. (rules : List RewriteRule) (lefts : List (Option ℕ)) →
             AreCaps rules lefts caps (hole ∷ [])) }
     {
         let mut caps = Vec::new(alloc);
@@ -72,7 +72,7 @@ impl CapRows {
         &mut self,
         alloc: Global,
         by_root: &RulesByRoot,
-        lefts: &[usize],
+        lefts: &[Option<usize>],
         t: &Term,
         ends: &mut Vec<End>,
     ) -> Result<NumberedCap, OutOfMemory>
@@ -115,7 +115,7 @@ impl CapRows {
         &mut self,
         alloc: Global,
         by_root: &RulesByRoot,
-        lefts: &[usize],
+        lefts: &[Option<usize>],
         f: u32,
         parts: Vec<Cap>,
         key: Vec<u64>,
@@ -150,7 +150,7 @@ impl CapRows {
         &mut self,
         alloc: Global,
         by_root: &RulesByRoot,
-        lefts: &[usize],
+        lefts: &[Option<usize>],
         f: u32,
         cap: &Cap,
         key: Vec<u64>,
@@ -224,11 +224,12 @@ fn finish(place: Option<usize>, f: u32, cap: u32, ends: &mut Vec<End>)
     }
 }
 
-/// The row of the left sides that a cap with this root meets. Each left side is looked at once.
+/// The row of the left sides that a cap with this root meets: of those of rules with pairs all, and
+/// if there is none, of the others the first.
 fn row_of(
     alloc: Global,
     by_root: &RulesByRoot,
-    lefts: &[usize],
+    lefts: &[Option<usize>],
     f: u32,
     cap: &Cap,
 ) -> Result<Vec<u64>, OutOfMemory>
@@ -236,6 +237,68 @@ fn row_of(
     requires root { HasRoot f (holed cap.now) }
     ensures { IfOk result
         (λ row. IsRow by_root.now.rules lefts.now (holed cap.now) row.items) }
+{
+    let mut row = flags_of(alloc, by_root, lefts, f, cap)?;
+    if row.is_empty() {
+        if let Some(k) = first_other(alloc, by_root, lefts, f, cap)? {
+            set(&mut row, k)?;
+        }
+    }
+    Ok(row)
+}
+
+/// The first rule without pairs whose left side a cap with this root meets.
+fn first_other(
+    alloc: Global,
+    by_root: &RulesByRoot,
+    lefts: &[Option<usize>],
+    f: u32,
+    cap: &Cap,
+) -> Result<Option<usize>, OutOfMemory>
+    requires { HasRoot f (holed cap.now) }
+    ensures { IfOk result (IsOther by_root.now.rules lefts.now (holed cap.now)) }
+{
+    let rules = by_root.rules();
+    for k in by_root.with_root(f) {
+        let rule = &rules[*k as usize];
+        if meets_other(alloc, lefts, cap, rule, *k as usize)? {
+            return Ok(Some(*k as usize));
+        }
+    }
+    Ok(None)
+}
+
+/// Whether rule number `k` has no pairs, and the cap meets its left side.
+fn meets_other(
+    alloc: Global,
+    lefts: &[Option<usize>],
+    cap: &Cap,
+    rule: &Rule,
+    k: usize,
+) -> Result<bool, OutOfMemory>
+    ensures met { IfOk result (λ b. IsTrue b → MeetsLeft (holed cap.now) rule.now.left) }
+    ensures all { IfOk result (λ b. slice_get lefts.now k ≡ Some None
+        → MeetsLeft (holed cap.now) rule.now.left → IsTrue b) }
+{
+    match lefts.get(k) {
+        Some(None) => cap.meets(alloc, &rule.left),
+        _ => Ok(false),
+    }
+}
+
+/// The flags of the rules with pairs whose left sides a cap with this root meets. Each left side is
+/// looked at once.
+fn flags_of(
+    alloc: Global,
+    by_root: &RulesByRoot,
+    lefts: &[Option<usize>],
+    f: u32,
+    cap: &Cap,
+) -> Result<Vec<u64>, OutOfMemory>
+    requires lefts { HaveSameLefts by_root.now.rules lefts.now }
+    requires root { HasRoot f (holed cap.now) }
+    ensures { IfOk result
+        (λ row. HasFlags by_root.now.rules lefts.now (holed cap.now) row.items) }
 {
     let rules = by_root.rules();
     let mut row = Vec::new(alloc);
@@ -249,7 +312,7 @@ fn row_of(
 /// Sets the flag of rule number `k`, if it is noted for its left side and the cap meets that.
 fn look_at(
     alloc: Global,
-    lefts: &[usize],
+    lefts: &[Option<usize>],
     cap: &Cap,
     rule: &Rule,
     k: usize,
@@ -268,11 +331,11 @@ fn look_at(
 }
 
 /// Whether a rule is noted for its left side.
-fn is_noted(lefts: &[usize], k: usize) -> bool
-    ensures { IsTrue result ↔ (slice_get lefts.now k ≡ Some k) }
+fn is_noted(lefts: &[Option<usize>], k: usize) -> bool
+    ensures { IsTrue result ↔ IsNoted lefts.now k k }
 {
     match lefts.get(k) {
-        Some(first) => *first == k,
-        None => false,
+        Some(Some(first)) => *first == k,
+        _ => false,
     }
 }

@@ -1,32 +1,61 @@
 //! Rules with the same left side.
-ghost use Rattle.std.specs.Prelude.{◌<◌, IfOk, OnOk, length};
+ghost use Rattle.std.specs.Prelude.{◌≡◌, ◌<◌, [], false, IfOk, OnOk, length};
+ghost use Rattle.trs_core.specs.View.{tree};
+ghost use Rattle.pair_theory.specs.Marked.{Marked};
+ghost use Rattle.pair_theory.specs.DependencyPair.{pairs_to, subterms};
 ghost use Rattle.dp_graph.specs.SameLefts.{HaveSameLefts, IsNotedOr, NotesAt, NotesStay};
 
 use std::alloc::Global;
 use term_pool::{Pool, RulesByRoot};
 use trs_core::{OutOfMemory, Rule, Term};
 
-/// For each rule the number, from 0, of the first one with the same left side. Left sides are
-/// compared only where others have their root.
+/// For each rule with pairs the number, from 0, of the first such one with the same left side, and
+/// none for the others. Left sides are compared only where others have their root.
 pub(crate) fn first_with_left(
     alloc: Global,
     by_root: &RulesByRoot,
     rules: &[Rule],
-) -> Result<Vec<usize>, OutOfMemory>
+) -> Result<Vec<Option<usize>>, OutOfMemory>
+    requires { rules.now ≡ by_root.now.rules }
     ensures { IfOk result (λ firsts. HaveSameLefts rules.now firsts.items) }
 {
     let mut pool = Pool::new(alloc);
     let mut seen = Vec::new(alloc);
     let mut firsts = Vec::with_capacity(alloc, rules.len())?;
     for (k, rule) in rules.iter().enumerate() {
+        if !has_defined(by_root, &rule.right) {
+            firsts.push(None)?;
+            continue;
+        }
         if has_own_root(by_root, rule) {
-            firsts.push(k)?;
+            firsts.push(Some(k))?;
             continue;
         }
         let id = pool.intern(alloc, &rule.left)?;
-        firsts.push(noted_or(&mut seen, id, k)?)?;
+        firsts.push(Some(noted_or(&mut seen, id, k)?))?;
     }
     Ok(firsts)
+}
+
+/// Whether a subterm has a defined root.
+fn has_defined(by_root: &RulesByRoot, t: &Term) -> bool
+    ensures { (l : Marked) → result ≡ false
+        → pairs_to by_root.now.rules l (subterms (tree t.now)) ≡ [] }
+{
+    match t {
+        Term::Var(_) => false,
+        Term::App(f, args) => {
+            if !by_root.with_root(*f).is_empty() {
+                return true;
+            }
+            for arg in &args.items {
+                if has_defined(by_root, arg) {
+                    return true;
+                }
+            }
+            false
+        }
+    }
 }
 
 /// Whether no other rule has the root of its left side.

@@ -25,7 +25,7 @@ impl Nodes {
     pub(crate) fn of(
         alloc: Global,
         by_root: &RulesByRoot,
-        lefts: &[usize],
+        lefts: &[Option<usize>],
         room: usize,
     ) -> Result<Nodes, OutOfMemory>
         requires { HaveSameLefts by_root.now.rules lefts.now }
@@ -43,18 +43,22 @@ impl Nodes {
         Ok(nodes)
     }
 
-    /// Adds the nodes of the pairs of a rule, for whose left side rule number `first` is noted.
+    /// Adds the nodes of the pairs of a rule, for whose left side rule number `first` is noted. It is
+    /// called for all rules, also those without pairs, for which none is.
     fn add_rule(
         &mut self,
         alloc: Global,
         by_root: &RulesByRoot,
-        lefts: &[usize],
+        lefts: &[Option<usize>],
         rule: &Rule,
-        first: usize,
+        first: Option<usize>,
     ) -> Result<(), OutOfMemory>
         requires { HaveSameLefts by_root.now.rules lefts.now }
         ensures { OnOk result (AddsRule by_root.now.rules lefts.now rule.now first self.old self.new) }
     {
+        let Some(first) = first else {
+            return Ok(());
+        };
         let mut ends = Vec::new(alloc);
         self.caps
             .cap_of(alloc, by_root, lefts, &rule.right, &mut ends)?;

@@ -1,21 +1,20 @@
-use Rattle.std.proofs.Common.{◌≡◌, Some, slice_get, slice_index, refl}
-use Rattle.term_pool.proofs.RootRules.{rule_read}
+use Rattle.std.proofs.Common.{ap, ◌==◌, ◌∙◌}
 use Rattle.trs_caps.specs.View.{holed}
-use Rattle.dp_graph.proofs.CapRowLaws.{no_flags, one_more_flag, all_flags}
+use Rattle.dp_graph.proofs.WordRowLaws.{empty_if}
+use Rattle.dp_graph.proofs.CapRowLaws.{row_with_flag, row_of_other, row_of_none}
+use Rattle.dp_graph.proofs.cap_rows.row_of.Goals.{then-is_empty+in_ok-k+in-Some+in_ok-set, then-is_empty+in_ok-k+in_default, else-is_empty}
 use Rattle.dp_graph.proofs.cap_rows.row_of.Goals as goal
-
-pub loop-k-init : goal.loop-k-init
-loop-k-init c = no_flags c.args.by_root.now.rules c.args.lefts.now (holed c.args.cap.now) c.with_root-k-items.result.now c.new-row.result.items c.new-row.ensures.items
-
-pub loop-k-preserved : goal.loop-k-preserved
-loop-k-preserved c =
-    let there : slice_get c.rules-rules.result.now (slice_index c.with_root-k-items.result.now c.loop-k.k-index) ≡ Some c.index-rules-k.result =
-    rule_read c.args.by_root.now.rules c.rules-rules.result.now c.with_root-k-items.result.now c.loop-k.k-index c.index-rules-k.result c.rules-rules.ensures.rules c.with_root-k-items.ensures.within
-    c.loop-k-test.true c.index-rules-k.is in
-    one_more_flag c.args.by_root.now.rules c.args.lefts.now (holed c.args.cap.now) c.with_root-k-items.result.now c.loop-k.k-index c.index-rules-k.result c.loop-k.row.items c.look_at.new.row.items c.loop-k-test.true
-    (rw c.rules-rules.ensures.rules at there) c.in_ok-look_at.ensures c.loop-k.invariant
 
 pub returns : goal.returns
 returns c =
-    all_flags c.args.by_root.now.rules c.args.lefts.now (holed c.args.cap.now) c.args.by_root.now c.args.f c.with_root-k-items.result.now c.loop-k.k-index c.loop-k.row.items refl c.rules-rules.ensures.valid c.requires.lefts c.requires.root
-    c.with_root-k-items.ensures.numbers c.loop-k-test.false c.loop-k.invariant
+    let rules = c.args.by_root.now.rules in
+    let lefts = c.args.lefts.now in
+    let cap = holed c.args.cap.now in
+    let row = c.in_ok-row.row.items in
+    let has = c.in_ok-row.ensures in
+    let empty = empty_if c.is_empty.result row (c.is_empty.ensures ∙ ap (λ n. n == 0) c.in_ok-row.row.ok.0) in
+    elim c.if-is_empty.branch [
+      | then-is_empty+in_ok-k+in-Some+in_ok-set w ↦ rw w.row-is (row_of_other rules lefts cap row w.set.new.row.items w.in-Some.k has (rw w.in-Some.is at w.in_ok-k.ensures) w.in_ok-set.ensures)
+      | then-is_empty+in_ok-k+in_default w ↦ rw w.row-is (row_of_none rules lefts cap row c.requires.lefts has (rw w.in_default.is at w.in_ok-k.ensures) (empty.0 w.if-is_empty.true))
+      | else-is_empty w ↦ rw w.row-is (row_with_flag rules lefts cap row has (λ e. let yes = empty.1 e in let no = w.if-is_empty.false in absurd cc))
+    ]

@@ -1,4 +1,4 @@
-use Rattle.std.proofs.Common.{◌<◌, length, get_or, refl, ap, arith}
+use Rattle.std.proofs.Common.{◌<◌, length, get_or, None, refl, ap, arith}
 use Rattle.std.proofs.lemmas.Option.{slice_get_read, slice_get-get_or}
 use Rattle.dp_graph.proofs.PairNodeLaws.{no_rules, one_more_rule, all_rules}
 use Rattle.dp_graph.proofs.nodes.Nodes.of.Goals as goal
@@ -19,8 +19,8 @@ loop-k-preserved c =
     let low : k < length rules = omega (arith, c.loop-k-test.true, same) in
     let read = rw c.rules-rule-items.ensures.rules at c.rule-item.is in
     let number : k < length lefts = (let n = c.requires.count in omega (arith, low, n)) in
-    one_more_rule rules lefts k (get_or lefts k 0) rule c.loop-k.nodes c.add_rule.new.self low read (slice_get_read rules (length rules) k rule refl low read)
-    (slice_get-get_or lefts k 0 number) c.in_ok-add_rule.ensures c.loop-k.invariant
+    one_more_rule rules lefts k (get_or lefts k None) rule c.loop-k.nodes c.add_rule.new.self low read (slice_get_read rules (length rules) k rule refl low read)
+    (slice_get-get_or lefts k None number) c.in_ok-add_rule.ensures c.loop-k.invariant
 
 pub returns : goal.returns
 returns c =

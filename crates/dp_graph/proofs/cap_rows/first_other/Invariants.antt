@@ -1,0 +1,7 @@
+use Rattle.std.proofs.Common.{take}
+use Rattle.trs_caps.specs.View.{holed}
+use Rattle.dp_graph.proofs.CapRowLaws.{NoneMet}
+use Rattle.dp_graph.proofs.cap_rows.first_other.Given as goal
+
+abbrev pub invariant-loop-k : goal.invariant-loop-k
+invariant-loop-k l = NoneMet l.by_root.rules l.lefts (holed l.cap) (take l.k-index l.k-items)
