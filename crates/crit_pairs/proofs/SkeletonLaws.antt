@@ -1,13 +1,15 @@
 -- What fits a skeleton, and skeletons that no term fits both.
-use Rattle.std.proofs.Common.{◌≡◌, ◌≢◌, ◌<◌, ◌≤◌, ℕ, ◌+◌, List, [], ◌∷◌, ◌++◌, map, length, take, drop, get_or, Option, Some, None, slice_get, zero, suc, refl, ap, sym, ◌∙◌, subst, arith}
-use Rattle.std.specs.Prelude.{not, ◌==◌, IsTrue}
+use Rattle.std.proofs.Common.{◌≡◌, ◌≢◌, ◌<◌, ◌≤◌, ℕ, ◌+◌, List, [], ◌∷◌, ◌++◌, map, length, take, drop, get_or, Option, Some, None, slice_get, zero, suc, refl, ap, ap₂, sym, ◌∙◌, subst, arith}
+use Rattle.std.specs.Prelude.{not, ◌==◌, IsTrue, false}
 use Rattle.std.specs.Option.{option_and_then, option_map}
+use Rattle.std.proofs.lemmas.Bool.{or_from}
 use Rattle.std.proofs.lemmas.Bool.Decides.{nat_tests}
 use Rattle.std.proofs.lemmas.Option.{same_Some, option_and_then_some, slice_get-map, slice_get_read}
 use Rattle.std.proofs.lemmas.List.{take_all, take_more, map-append}
 use Rattle.trs_defs.specs.Tree.{Tree, Trees, var, app, nil, cons}
 use Rattle.trs_defs.specs.Substitution.{apply, apply_all}
 use Rattle.trs_defs.specs.Renaming.{shifted}
+use Rattle.trs_defs.specs.Variable.{has_var, some_has_var}
 use Rattle.trs_defs.specs.System.{RewriteRule}
 use Rattle.trs_defs.proofs.Substitutions.{apply_apply}
 use Rattle.trs_defs.proofs.ArgumentLists.{cell}
@@ -16,8 +18,10 @@ use Rattle.trs_core.specs.View.{tree, forest}
 use Rattle.trs_caps.specs.HoledTree.{HoledTree, HoledTrees, hole, own, symbol, none, more, holed_trees, Fits, EachFits, fits_hole, fits_symbol, fits_none, fits_more}
 use Rattle.trs_caps.specs.Clash.{AreDisjoint}
 use Rattle.trs_caps.proofs.Fitting.{fits_root}
-use Rattle.crit_pairs.specs.Apart.{HaveSkeletons}
+use Rattle.crit_pairs.specs.Apart.{renamed_apart, HaveSkeletons}
 use Rattle.crit_pairs.specs.Sides.{DoNotMeet}
+use Rattle.term_pool.specs.LeftSides.{IsGround}
+use Rattle.term_pool.proofs.LeftSideLaws.{ground_stays}
 use Rattle.crit_pairs.specs.Skeletons.{opened, all_opened, root_symbol, mark_of, mark_after, mixed}
 use Rattle.crit_pairs.specs.SkeletonView.{skeleton_view, skeleton_views}
 use Rattle.crit_pairs.specs.declared.skeleton.Skeleton.{Skeleton}
@@ -73,6 +77,24 @@ marks_disjoint c d f g cs ds m n is_c is_d e k ne = rw (is_c, is_d) (below f g c
     below f g cs ds e k (app h ts) (fits_symbol p) (fits_symbol q) =
         let same : cs ≡ ds = one_list cs ds ts 0 0 m n e k p q in
         ne (same_Some m n (sym e ∙ (ap (mark_after 0) same ∙ k)))
+
+-- a term whose skeleton has a mark has no variable
+mutual
+  pub ground_by_mark : (t : Tree) (m : ℕ) → mark_of (opened t) ≡ Some m → IsGround t
+  ground_by_mark (var v) m e = absurd cc
+  ground_by_mark (app f ts) m e = option_and_then_some (λ x. Some (mixed f x)) (mark_after 0 (all_opened ts)) m e (λ x is_x _. all_ground_by_mark ts 0 x is_x)
+
+  all_ground_by_mark : (ts : Trees) (k m : ℕ) → mark_after k (all_opened ts) ≡ Some m → (v : ℕ) → some_has_var v ts ≡ false
+  all_ground_by_mark nil k m e v = refl
+  all_ground_by_mark (cons t ts) k m e v =
+      option_and_then_some (λ x. mark_after (mixed k x) (all_opened ts)) (mark_of (opened t)) m e (λ x is_x rest.
+      or_from (has_var v t) (some_has_var v ts) (ground_by_mark t x is_x v) (all_ground_by_mark ts (mixed k x) m rest v))
+
+-- a rule with no variable is its own copy
+pub ground_copy : (r : RewriteRule) → IsGround r.left → IsGround r.right → r ≡ renamed_apart r
+ground_copy r left right =
+    let shift : ℕ → Tree = λ v. var (65536 + v) in
+    ap₂ (λ (l u : Tree). let rule : RewriteRule = record { left = l; right = u } in rule) (sym (ground_stays shift r.left left)) (sym (ground_stays shift r.right right))
 
 pub roots_disjoint : (c d : HoledTree) (f g : ℕ) (cs ds : HoledTrees) → c ≡ symbol f cs → d ≡ symbol g ds → f ≢ g → AreDisjoint c d
 roots_disjoint c d f g cs ds is_c is_d ne = rw (is_c, is_d) (roots f g cs ds ne)

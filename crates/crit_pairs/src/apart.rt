@@ -7,6 +7,7 @@ ghost use Rattle.crit_pairs.specs.Skeletons.{opened};
 ghost use Rattle.crit_pairs.specs.SkeletonView.{skeleton_view};
 ghost use Rattle.crit_pairs.specs.WholeSides.{IsRightOf};
 
+use crate::apart_rule::{ApartRule, apart_rules};
 use crate::occurrences::Occurrences;
 use crate::skeleton::Skeleton;
 use crate::whole_sides::{WholeSide, whole_sides};
@@ -23,7 +24,7 @@ use trs_unify::rename_apart;
 #[derive(Drop)]
 pub(crate) struct RulesApart<'a> {
     by_root: RulesByRoot<'a>,
-    apart: Vec<Rule>,
+    apart: Vec<ApartRule<'a>>,
     skeletons: Vec<Skeleton>,
     whole_sides: Vec<Option<WholeSide>>,
     occurrences: Occurrences,
@@ -49,10 +50,10 @@ impl<'a> RulesApart<'a> {
     pub fn new(alloc: Global, trs: &'a Trs) -> Result<RulesApart<'a>, OutOfMemory>
         ensures { IfOk result (λ rules. rules ≡ trs.now) }
     {
-        let apart = renamed_rules(alloc, trs.rules())?;
         let skeletons = left_skeletons(alloc, trs.rules())?;
+        let apart = apart_rules(alloc, trs.rules(), &skeletons)?;
         let mut occurrences = Occurrences::new(alloc);
-        occurrences.count(trs.rules())?;
+        occurrences.count_apart(&apart)?;
         Ok(RulesApart {
             by_root: RulesByRoot::new(alloc, trs)?,
             apart,
@@ -76,7 +77,7 @@ impl<'a> RulesApart<'a> {
         ensures { (r : RewriteRule) → slice_get self.now.rules i ≡ Some r
             → result.now ≡ renamed_apart r }
     {
-        &self.apart[i]
+        self.apart[i].rule()
     }
 
     /// The skeleton of the left side of rule `i`.

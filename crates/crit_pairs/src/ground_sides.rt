@@ -1,6 +1,7 @@
 //! Right sides with no variable: each is the same in all peaks, so that it gets its id but once.
 ghost use Rattle.std.specs.Prelude.{◌≡◌, ◌↔◌, IfOk, IfSome, IsTrue, OnOk, Some, length, slice_get, take};
 ghost use Rattle.trs_core.specs.View.{tree};
+ghost use Rattle.term_pool.specs.LeftSides.{IsGround};
 ghost use Rattle.term_pool.specs.Pooled.{Extends};
 ghost use Rattle.crit_pairs.specs.GroundSides.{IsGroundSide, AreGroundRights, HaveGroundResults};
 ghost use Rattle.crit_pairs.specs.GroundSides.{IsLargeResult};
@@ -20,6 +21,13 @@ pub fn is_large_result(t: &Term) -> bool
     if t.size() < MANY_NODES {
         return false;
     }
+    is_ground(t)
+}
+
+/// Whether the term has no variable.
+pub(crate) fn is_ground(t: &Term) -> bool
+    ensures { IsTrue result ↔ IsGround (tree t.now) }
+{
     let least = least_variable(t, 0, None);
     match least {
         Some(_) => false,

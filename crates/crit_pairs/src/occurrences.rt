@@ -1,4 +1,5 @@
 //! How often variables occur in rules. Only time depends on it.
+use crate::apart_rule::ApartRule;
 use std::alloc::Global;
 use trs_core::{OutOfMemory, Rule, Term};
 
@@ -25,6 +26,19 @@ impl Occurrences {
         let known = self.counts.len();
         for k in known..rules.len() {
             self.counts.push(occurrences_in(&rules[k]))?;
+        }
+        Ok(())
+    }
+
+    /// Counts those in rules that are renamed apart, which are as many. A rule with none is not walked.
+    pub fn count_apart(&mut self, rules: &[ApartRule]) -> Result<(), OutOfMemory> {
+        for apart in rules {
+            let count = if apart.is_ground() {
+                0
+            } else {
+                occurrences_in(apart.rule())
+            };
+            self.counts.push(count)?;
         }
         Ok(())
     }

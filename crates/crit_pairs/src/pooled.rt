@@ -6,12 +6,13 @@ ghost use Rattle.crit_pairs.specs.PooledPeaks.{HasId, tree_of, KeepsIds, count_o
 ghost use Rattle.crit_pairs.specs.PooledPeaks.{HoldsPeaks, ArePooled, AreSides};
 
 use crate::equal_rules::are_some_equal;
+use crate::ground_sides::is_ground;
 use crate::room::Room;
 use crate::table::{PeakPair, PeakTable};
 use rewrite_core::{CheckFault, PathStep, end_in_pool};
 use std::alloc::Global;
 use term_pool::{Pool, ids_are_distinct};
-use trs_core::{OutOfMemory, Rule, Term, Trs, least_variable, systems_are_valid};
+use trs_core::{OutOfMemory, Rule, Term, Trs, systems_are_valid};
 
 /// To look for an overlap at a position as often as this for each peak takes little time.
 const TRIES_FOR_A_PEAK: u64 = 256;
@@ -121,20 +122,30 @@ impl PooledPeaks {
 /// rules are equal, so that their peaks are made but once; and there are few rules and few positions
 /// beside the peaks, since each rule is tried at each position.
 fn may_gain_time(alloc: Global, rules: &[Rule], most: usize) -> Result<bool, OutOfMemory> {
+    let tries = TRIES_FOR_A_PEAK.saturating_mul(most as u64);
+    let most_nodes = tries / (rules.len() as u64).max(1);
     let mut nodes: u64 = 0;
     let mut has_ground = false;
     for rule in rules {
-        nodes = nodes.saturating_add(rule.left.size());
+        nodes = count_nodes(&rule.left, most_nodes, nodes);
+        if most_nodes < nodes {
+            return Ok(false);
+        }
         has_ground = has_ground || is_ground(&rule.right);
-    }
-    let tries = nodes.saturating_mul(rules.len() as u64);
-    if TRIES_FOR_A_PEAK.saturating_mul(most as u64) < tries {
-        return Ok(false);
     }
     Ok(has_ground || are_some_equal(alloc, rules)?)
 }
 
-fn is_ground(t: &Term) -> bool {
-    let least = least_variable(t, 0, None);
-    least.is_none()
+/// The nodes of a term with those before. Where there are more than `most`, not all are counted.
+fn count_nodes(t: &Term, most: u64, before: u64) -> u64 {
+    let mut nodes = before.saturating_add(1);
+    if let Term::App(_, args) = t {
+        for arg in &args.items {
+            if most < nodes {
+                return nodes;
+            }
+            nodes = count_nodes(arg, most, nodes);
+        }
+    }
+    nodes
 }

@@ -2,8 +2,9 @@
 //! overlap, without memory.
 ghost use Rattle.std.specs.Prelude.{◌≡◌, ℕ, IfOk, IsTrue};
 ghost use Rattle.trs_caps.specs.HoledTree.{HoledTree};
-ghost use Rattle.trs_defs.specs.Tree.{Trees, app};
+ghost use Rattle.trs_defs.specs.Tree.{Tree, Trees, app};
 ghost use Rattle.trs_core.specs.View.{tree};
+ghost use Rattle.term_pool.specs.LeftSides.{IsGround};
 ghost use Rattle.trs_caps.specs.Clash.{AreDisjoint};
 ghost use Rattle.crit_pairs.specs.Skeletons.{opened, all_opened, root_symbol};
 ghost use Rattle.crit_pairs.specs.Skeletons.{mark_of, mark_after, mixed};
@@ -91,6 +92,16 @@ impl Skeleton {
         match self {
             Skeleton::Hole => None,
             Skeleton::Symbol(f, _) => Some(*f),
+        }
+    }
+
+    /// Whether it is seen that a term with this skeleton has no variable.
+    pub(crate) fn is_ground(&self) -> bool
+        ensures { IsTrue result → (t : Tree) → skeleton_view self.now ≡ opened t → IsGround t }
+    {
+        match self.mark() {
+            Some(_) => true,
+            None => false,
         }
     }
 

@@ -1,16 +1,8 @@
-use Rattle.std.proofs.Common.{◌∙◌, sym, refl, arith}
-use Rattle.trs_core.specs.View.{tree}
-use Rattle.crit_pairs.proofs.GroundRights.{no_variable, none_least}
+use Rattle.std.proofs.Common.{arith}
 use Rattle.crit_pairs.proofs.ground_sides.is_large_result.Goals as goal
 
 pub returns-then-size-lt-MANY_NODES : goal.returns-then-size-lt-MANY_NODES
 returns-then-size-lt-MANY_NODES c = (λ e. absurd cc, λ h. absurd (omega (arith, h.1, c.size.ensures, c.if-size-lt-MANY_NODES.true)))
 
-pub returns-in-Some : goal.returns-in-Some
-returns-in-Some c = (λ e. absurd cc, λ h. absurd (none_least (tree c.args.t.now) c.least_variable-least.result _ c.least_variable-least.ensures c.in-Some.is h.0))
-
-pub returns-in-None : goal.returns-in-None
-returns-in-None c = (
-  λ e. (no_variable (tree c.args.t.now) (sym c.least_variable-least.ensures ∙ c.in-None.is), omega (arith, c.size.ensures, c.if-size-lt-MANY_NODES.false)),
-  λ h. refl,
-)
+pub returns : goal.returns
+returns c = (λ e. (c.is_ground.ensures.0 e, omega (arith, c.size.ensures, c.if-size-lt-MANY_NODES.false)), λ h. c.is_ground.ensures.1 h.0)

@@ -1,0 +1,20 @@
+use Rattle.std.proofs.Common.{length, refl, arith}
+use Rattle.std.proofs.lemmas.Option.{slice_get_read}
+use Rattle.crit_pairs.proofs.SpotWalk.{left_small, right_small}
+use Rattle.crit_pairs.proofs.SkeletonLaws.{skeletons_count, skeleton_read}
+use Rattle.crit_pairs.proofs.apart_rule.apart_rules.Goals as goal
+
+pub bounds-skeletons-k : goal.bounds-skeletons-k
+bounds-skeletons-k c = omega (arith, c.loop-k-test.true, skeletons_count c.args.skeletons.now c.args.rules.now c.requires.skeletons)
+
+pub apart_rule-requires-clause-left : goal.apart_rule-requires-clause-left
+apart_rule-requires-clause-left c = left_small c.args.rules.now c.loop-k.k c.index-rules-k.result c.requires.small c.loop-k-test.true c.index-rules-k.is
+
+pub apart_rule-requires-clause-right : goal.apart_rule-requires-clause-right
+apart_rule-requires-clause-right c = right_small c.args.rules.now c.loop-k.k c.index-rules-k.result c.requires.small c.loop-k-test.true c.index-rules-k.is
+
+pub apart_rule-requires-clause-skeleton : goal.apart_rule-requires-clause-skeleton
+apart_rule-requires-clause-skeleton c =
+    let count = skeletons_count c.args.skeletons.now c.args.rules.now c.requires.skeletons in
+    skeleton_read c.args.skeletons.now c.args.rules.now c.loop-k.k c.index-skeletons-k.result c.index-rules-k.result c.requires.skeletons (omega (arith, c.loop-k-test.true, count)) c.index-skeletons-k.is
+    (slice_get_read c.args.rules.now (length c.args.rules.now) c.loop-k.k c.index-rules-k.result refl c.loop-k-test.true c.index-rules-k.is)
