@@ -17,10 +17,9 @@ use term_pool::RulesByRoot;
 use trs_core::{MOST_VARIABLES, OutOfMemory, Rule, Trs};
 use trs_unify::rename_apart;
 
-/// A system with its rules by the roots of their left sides, with a copy of each rule whose variables
-/// are renamed apart from those of all rules, with the skeletons of the left sides, with the right sides
-/// that peaks share, and with how often variables occur. It is made once for all overlaps. Contracts see
-/// it as the system.
+/// A system with its rules by the roots of their left sides, with each rule renamed apart from all
+/// rules, with the skeletons of the left sides, with the right sides that peaks share, and with how
+/// often variables occur. It is made once for all overlaps. Contracts see it as the system.
 #[derive(Drop)]
 pub(crate) struct RulesApart<'a> {
     by_root: RulesByRoot<'a>,

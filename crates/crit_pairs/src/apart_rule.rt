@@ -1,4 +1,4 @@
-//! Rules as they are put on parts of other rules: with no variable of theirs.
+//! Rules whose variables are renamed apart. Only those that have variables are copied.
 ghost use Rattle.std.specs.Prelude.{◌≡◌, IfOk};
 ghost use Rattle.trs_core.specs.SystemLimits.{HasSmallVariables, HaveSmallVariables};
 ghost use Rattle.crit_pairs.specs.Apart.{renamed_apart, AreApart, HaveSkeletons};
