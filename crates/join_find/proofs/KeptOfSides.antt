@@ -14,6 +14,7 @@ use Rattle.term_pool.proofs.Extending.{same_tree_at}
 use Rattle.term_pool.proofs.PoolTrees.{stands_at, stands_within}
 use Rattle.rewrite_core.specs.PlacedPeak.{PlacedPeak}
 use Rattle.rewrite_core.specs.PathsOfJoin.{PathsOfJoin}
+use Rattle.join_find.specs.RightIds.{AreRightIds}
 use Rattle.join_find.specs.CommonIds.{Reached, HasNoCommonId, IsFirstCommonId}
 use Rattle.join_find.specs.NewmanRow.{IsReach, IsFirstJoin, HasNoJoin}
 use Rattle.join_find.specs.StrongRow.{IsFirstHalf, HasNoHalf}
@@ -28,19 +29,19 @@ use Rattle.join_find.proofs.Joining.{joined_within, halved_within}
 
 -- ---- lists by ids
 
-same_id : (i j : ℕ) → nat_eq i j ≡ true → i ≡ j
+pub same_id : (i j : ℕ) → nat_eq i j ≡ true → i ≡ j
 same_id i j e = grind arith
 
 id_itself : (i : ℕ) → nat_eq i i ≡ true
 id_itself i = grind arith
 
-no_list : {X : Type 0} (o : Option X) (x : X) → o ≡ None → o ≡ Some x → ⊥
-no_list None x none some = cc
-no_list (Some y) x none some = cc
+pub nothing_there : {X : Type 0} (o : Option X) (x : X) → o ≡ None → o ≡ Some x → ⊥
+nothing_there None x none some = cc
+nothing_there (Some y) x none some = cc
 
 -- no lists are of any kind
 pub none_kept : (kind : ℕ → List Reached → Type 0) (lists : KeptLists) → ((id : ℕ) → list_of lists id ≡ None) → AreOf kind lists
-none_kept kind lists none id found is = absurd (no_list (list_of lists id) found (none id) is)
+none_kept kind lists none id found is = absurd (nothing_there (list_of lists id) found (none id) is)
 
 pub one_more_kept : (kind : ℕ → List Reached → Type 0) (old new : KeptLists) (id : ℕ) (list : List Reached) → AreOf kind old → IsPut id list old new → kind id list → AreOf kind new
 one_more_kept kind old new id list each put here i found is = go (nat_eq id i) refl (sym (put i) ∙ is)
@@ -93,17 +94,17 @@ sides_of pool ids reached near = record { pool = pool; ids = ids; reached = reac
 
 -- no sides
 pub none_reached : (rules : List RewriteRule) (pool : List Tree) (ids : SideIds) (reached near : KeptLists) → ((id : ℕ) → list_of reached id ≡ None) → ((id : ℕ) → list_of near id ≡ None)
-    → AreReached rules (sides_of pool ids reached near)
-none_reached rules pool ids reached near none_there none_near =
-    record { reached = none_kept (IsReachOf rules pool) reached none_there; near = none_kept (IsNearOf rules pool) near none_near }
+    → AreRightIds rules pool ids → AreReached rules (sides_of pool ids reached near)
+none_reached rules pool ids reached near none_there none_near rights =
+    record { reached = none_kept (IsReachOf rules pool) reached none_there; near = none_kept (IsNearOf rules pool) near none_near; rights = rights }
 
-module _ (rules : List RewriteRule) (old : ReachedSides) (sides : AreReached rules old) (pool : List Tree) (ids : SideIds) where
+module _ (rules : List RewriteRule) (old : ReachedSides) (sides : AreReached rules old) (pool : List Tree) (ids : SideIds) (rights : AreRightIds rules pool ids) where
   -- the pool is as it was
   pub same_still : pool ≡ old.pool → AreReached rules (sides_of pool ids old.reached old.near)
   same_still same =
       let R : List Tree → Type 0 = λ p. AreOf (IsReachOf rules p) old.reached in
       let N : List Tree → Type 0 = λ p. AreOf (IsNearOf rules p) old.near in
-      record { reached = subst R (sym same) sides.reached; near = subst N (sym same) sides.near }
+      record { reached = subst R (sym same) sides.reached; near = subst N (sym same) sides.near; rights = rights }
 
   -- what is near one more side is listed
   pub one_more_near : (near : KeptLists) (id : ℕ) (found : List Reached) → pool ≡ old.pool → IsPut id found old.near near → IsSiftedNear rules (tree_at old.pool id) old.pool found
@@ -114,6 +115,7 @@ module _ (rules : List RewriteRule) (old : ReachedSides) (sides : AreReached rul
       record {
         reached = subst R (sym same) sides.reached;
         near = subst N (sym same) (one_more_kept (IsNearOf rules old.pool) old.near near id found sides.near put (record { near = is }));
+        rights = rights;
       }
 
   module _ (extends : Extends old.pool pool) where
@@ -123,7 +125,7 @@ module _ (rules : List RewriteRule) (old : ReachedSides) (sides : AreReached rul
 
     -- the pool has grown, and nothing near is kept
     pub grown_still : (near : KeptLists) → ((id : ℕ) → list_of near id ≡ None) → AreReached rules (sides_of pool ids old.reached near)
-    grown_still near none = record { reached = reaches_still; near = none_kept (IsNearOf rules pool) near none }
+    grown_still near none = record { reached = reaches_still; near = none_kept (IsNearOf rules pool) near none; rights = rights }
 
     -- what one more side reaches is listed
     pub one_more_reached : (reached near : KeptLists) (id : ℕ) (found : List Reached) → ((i : ℕ) → list_of near i ≡ None) → IsPut id found old.reached reached
@@ -138,6 +140,7 @@ module _ (rules : List RewriteRule) (old : ReachedSides) (sides : AreReached rul
         record {
           reached = one_more_kept (IsReachOf rules pool) old.reached reached id found reaches_still put is;
           near = none_kept (IsNearOf rules pool) near none;
+          rights = rights;
         }
 
 -- ---- answers

@@ -4,6 +4,8 @@ pub mod Firsts
 pub mod ArgumentReads
 pub mod SharedIds
 pub mod Joining
+pub mod RightSides
+pub mod RightIdLaws
 pub mod KeptOfSides
 pub mod NarrowPeaks
 pub mod NewmanLaw

@@ -7,6 +7,8 @@ pub mod NewmanRow
 pub mod StrongRow
 pub mod Answers
 pub mod Sides
+pub mod RightSides
+pub mod RightIds
 pub mod Laws
 pub mod Near
 pub mod ParallelRow

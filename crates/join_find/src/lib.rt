@@ -21,6 +21,6 @@ pub use kept_lists::KeptLists;
 pub use laws::{found_fours_join, found_joins_join, found_steps_close};
 pub use newman::find_newman;
 pub use parallel::find_parallel;
-pub use side_ids::SideIds;
-pub use sides::critical_peaks_have_sides;
+pub use side_ids::{Hand, SideIds, side_on};
+pub use sides::{critical_peaks_have_sides, right_sides_are_sides};
 pub use strong::{are_linear, find_strong};

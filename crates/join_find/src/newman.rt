@@ -1,5 +1,6 @@
 //! The strategy newman.
 ghost use Rattle.std.specs.Prelude.{◌<◌, Ok, IfOk, OnOk, MatchOption};
+ghost use Rattle.join_find.specs.RightSides.{HasRightSides};
 ghost use Rattle.closed_pairs.specs.crit_pairs.PeakList.{ListsPeaks};
 ghost use Rattle.assign_search.specs.Continues.{Continues};
 ghost use Rattle.join_find.specs.Sides.{HasSides};
@@ -8,10 +9,11 @@ ghost use Rattle.join_find.specs.ReachedSides.{AreReached};
 ghost use Rattle.join_find.specs.Answers.{IsFinding};
 
 use crate::reached_sides::ReachedSides;
-use crate::sides::critical_peaks_have_sides;
+use crate::side_ids::Hand;
+use crate::sides::{critical_peaks_have_sides, right_sides_are_sides};
 use assign_search::{Search, Stop};
 use closed_pairs::{Join, Peak};
-use rewrite_core::{PeakSide, Top};
+use rewrite_core::Top;
 use std::alloc::Global;
 use term_pool::RulesByRoot;
 use trs_core::{OutOfMemory, Trs};
@@ -37,6 +39,7 @@ pub fn find_newman<P: Stop, T: Top>(
         return Ok(Search::Stopped);
     }
     critical_peaks_have_sides(trs);
+    right_sides_are_sides();
     let by_root = RulesByRoot::new(alloc, trs)?;
     let mut sides = ReachedSides::new(alloc);
     let mut joins = Vec::new(alloc);
@@ -60,13 +63,14 @@ fn first_join<T: Top>(
     peak: &Peak<T>,
 ) -> Result<Option<Join>, OutOfMemory>
     requires peak { HasSides peak.now }
+    requires rights { HasRightSides by_root.now.rules peak.now }
     requires sides { AreReached by_root.now.rules sides.old }
     ensures join { IfOk result (λ found. MatchOption found
         (HasNoJoin by_root.now.rules peak.now) (IsFirstJoin by_root.now.rules peak.now)) }
     ensures sides { OnOk result (AreReached by_root.now.rules sides.new) }
 {
     sides.make_room(alloc);
-    let left = sides.intern(alloc, peak.inner, peak.left.term())?;
-    let right = sides.intern(alloc, peak.outer, peak.right.term())?;
+    let left = sides.intern(alloc, by_root, peak, Hand::Left)?;
+    let right = sides.intern(alloc, by_root, peak, Hand::Right)?;
     sides.first_join(alloc, by_root, left, right)
 }

@@ -2,10 +2,10 @@
 ghost use Rattle.std.specs.Prelude.{◌≡◌, ◌<◌, ℕ, List, is_some, IsTrue, IfOk, OnOk, MatchOption};
 ghost use Rattle.trs_defs.specs.Tree.{Tree};
 ghost use Rattle.trs_defs.specs.System.{RewriteRule};
-ghost use Rattle.trs_core.specs.View.{tree};
 ghost use Rattle.term_pool.specs.Pooled.{Extends, StandsFor};
 ghost use Rattle.rewrite_core.specs.PlacedPeak.{PlacedPeak};
-ghost use Rattle.join_find.specs.Sides.{IsSide};
+ghost use Rattle.join_find.specs.RightSides.{HasRightSides};
+ghost use Rattle.join_find.specs.RightIds.{side_on};
 ghost use Rattle.join_find.specs.KeptLists.{list_of};
 ghost use Rattle.join_find.specs.ReachedSides.{IsNarrowAt, AreReached};
 ghost use Rattle.join_find.specs.NewmanRow.{IsFirstJoin, HasNoJoin};
@@ -15,11 +15,12 @@ use crate::common::first_common;
 use crate::kept_lists::KeptLists;
 use crate::near::near;
 use crate::reaching::reach;
-use crate::side_ids::SideIds;
-use closed_pairs::Join;
+use crate::side_ids::{Hand, SideIds};
+use closed_pairs::{Join, Peak};
+use rewrite_core::Top;
 use std::alloc::Global;
 use term_pool::{Pool, RulesByRoot, ids_are_distinct};
-use trs_core::{OutOfMemory, Term};
+use trs_core::OutOfMemory;
 
 /// The most ids that are kept from one peak to the next.
 const MOST_KEPT_IDS: u32 = 262_144;
@@ -65,21 +66,25 @@ impl ReachedSides {
         self.near = KeptLists::new(alloc);
     }
 
-    /// The id of a side that a rule gives.
-    pub(crate) fn intern(
+    /// The id of a side of a peak.
+    pub(crate) fn intern<T: Top>(
         &mut self,
         alloc: Global,
-        rule: u32,
-        side: &Term,
+        by_root: &RulesByRoot,
+        peak: &Peak<T>,
+        hand: Hand,
     ) -> Result<u32, OutOfMemory>
-        requires side { IsSide (tree side.now) }
-        ensures id { IfOk result (λ id. StandsFor self.new.pool id (tree side.now)) }
-        ensures sides { OnOk result ((rules : List RewriteRule) → AreReached rules self.old
-            → AreReached rules self.new) }
+        requires peak { HasRightSides by_root.now.rules peak.now }
+        requires sides { AreReached by_root.now.rules self.old }
+        ensures id { IfOk result (λ id. StandsFor self.new.pool id (side_on hand peak.now)) }
+        ensures sides { OnOk result (AreReached by_root.now.rules self.new) }
         ensures kept { OnOk result (Extends self.old.pool self.new.pool) }
     {
         let mark = self.pool.mark();
-        let id = self.ids.intern(alloc, &mut self.pool, rule, side)?;
+        let rules = by_root.rules();
+        let id = self
+            .ids
+            .intern_side(alloc, &mut self.pool, rules, peak, hand)?;
         if id < mark {
             self.pool.release(mark);
             return Ok(id);

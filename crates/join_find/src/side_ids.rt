@@ -1,28 +1,133 @@
 //! The ids of the sides of peaks, by the rules that give them.
-ghost use Rattle.std.specs.Prelude.{◌≡◌, ◌<◌, ◌^◌, length, IsTrue, IfOk, IfSome};
+ghost use Rattle.std.specs.Prelude.{◌≡◌, ◌<◌, ◌^◌, List, length, nat_eq, IsTrue, IfOk, IfSome};
+ghost use Rattle.indexmap.specs.IndexMap.{get};
+ghost use Rattle.trs_defs.specs.System.{RewriteRule};
+ghost use Rattle.trs_defs.specs.Tree.{Tree};
 ghost use Rattle.trs_core.specs.View.{tree};
+ghost use Rattle.term_pool.specs.LeftSides.{IsGround};
 ghost use Rattle.term_pool.specs.Pooled.{Extends, StandsFor, tree_at};
+ghost use Rattle.join_find.specs.RightSides.{HasRightSides};
+ghost use Rattle.join_find.specs.RightIds.{side_on, AreRightIds, IsRightSide};
 
+use indexmap::IndexMap;
+use rewrite_core::{Peak, PeakSide, Top};
 use std::alloc::Global;
 use term_pool::Pool;
-use trs_core::{OutOfMemory, Term};
+use trs_core::{OutOfMemory, Rule, Term, least_variable};
 
 /// No id of a term, since it is past those of every pool.
 const NO_ID: u32 = u32::MAX;
 
-/// For each rule the id of the last side that it gave. A right side with no variable is a side of all
-/// peaks of its rule at the root, and to compare it costs less than to intern it again. An id of an
-/// older pool does no harm.
+/// The left or the right side of a peak.
+#[derive(Clone, Copy)]
+pub enum Hand {
+    Left,
+    Right,
+}
+
+/// The side of a peak as a term.
+pub fn side_on<T: Top>(peak: &Peak<T>, hand: Hand) -> &Term
+    ensures { tree result.now ≡ side_on hand peak.now }
+{
+    match hand {
+        Hand::Left => peak.left.term(),
+        Hand::Right => peak.right.term(),
+    }
+}
+
+/// For each rule the id of the last side that it gave: to compare a side costs less than to intern it
+/// again, and an id of an older pool does no harm. And the id of its right side, if that has no
+/// variable: as a side of many peaks it is not even compared.
 #[derive(Drop)]
 pub struct SideIds {
     by_rule: Vec<u32>,
+    rights: IndexMap<u32, Option<u32>>,
 }
 
 impl SideIds {
     /// No ids. It takes no memory.
-    pub fn new(alloc: Global) -> SideIds {
+    pub fn new(alloc: Global) -> SideIds
+        ensures { (rules : List RewriteRule) (pool : List Tree) → AreRightIds rules pool result }
+    {
         SideIds {
             by_rule: Vec::new(alloc),
+            rights: IndexMap::new(alloc),
+        }
+    }
+
+    /// The id of a side of a peak. Nothing is added for a side that its rule gave last.
+    pub fn intern_side<T: Top>(
+        &mut self,
+        alloc: Global,
+        pool: &mut Pool,
+        rules: &[Rule],
+        peak: &Peak<T>,
+        hand: Hand,
+    ) -> Result<u32, OutOfMemory>
+        requires rights { AreRightIds rules.now pool.old self.old }
+        requires peak { HasRightSides rules.now peak.now }
+        ensures id { IfOk result (λ id. StandsFor pool.new id (side_on hand peak.now)) }
+        ensures kept { Extends pool.old pool.new }
+        ensures rights { IfOk result (λ id. (terms : List Tree)
+            → AreRightIds rules.now terms self.old → StandsFor terms id (side_on hand peak.now)
+            → AreRightIds rules.now terms self.new) }
+    {
+        match hand {
+            Hand::Left => {
+                let is_right = peak.place.places().is_empty();
+                self.intern_right(alloc, pool, rules, peak.inner, is_right, peak.left.term())
+            }
+            Hand::Right => {
+                self.intern_right(alloc, pool, rules, peak.outer, true, peak.right.term())
+            }
+        }
+    }
+
+    /// The id of a side that a rule gives, and that may be its right side.
+    fn intern_right(
+        &mut self,
+        alloc: Global,
+        pool: &mut Pool,
+        rules: &[Rule],
+        rule: u32,
+        is_right: bool,
+        side: &Term,
+    ) -> Result<u32, OutOfMemory>
+        requires rights { AreRightIds rules.now pool.old self.old }
+        requires side { IsTrue is_right → IsRightSide rules.now rule (tree side.now) }
+        ensures id { IfOk result (λ id. StandsFor pool.new id (tree side.now)) }
+        ensures kept { Extends pool.old pool.new }
+        ensures rights { IfOk result (λ id. (terms : List Tree)
+            → AreRightIds rules.now terms self.old → StandsFor terms id (tree side.now)
+            → AreRightIds rules.now terms self.new) }
+    {
+        if !is_right {
+            let id = self.intern(alloc, pool, rule, side)?;
+            return Ok(id);
+        }
+        match self.right(rule) {
+            Some(Some(id)) => Ok(id),
+            Some(None) => {
+                let id = self.intern(alloc, pool, rule, side)?;
+                Ok(id)
+            }
+            None => {
+                let id = self.intern(alloc, pool, rule, side)?;
+                let numbered = &rules[rule as usize];
+                let right = id_of_ground(&numbered.right, id);
+                self.rights.insert(rule, right)?;
+                Ok(id)
+            }
+        }
+    }
+
+    /// What is kept of the right side of a rule.
+    fn right(&self, rule: u32) -> Option<Option<u32>>
+        ensures { result ≡ get nat_eq self.now.rights rule }
+    {
+        match self.rights.get(&rule) {
+            Some(right) => Some(*right),
+            None => None,
         }
     }
 
@@ -36,6 +141,7 @@ impl SideIds {
     ) -> Result<u32, OutOfMemory>
         ensures id { IfOk result (λ id. StandsFor pool.new id (tree side.now)) }
         ensures kept { Extends pool.old pool.new }
+        ensures rights { self.new.rights ≡ self.old.rights }
     {
         if let Some(id) = self.last(alloc, pool, rule, side)? {
             return Ok(id);
@@ -48,6 +154,7 @@ impl SideIds {
     /// Notes the id of the last side that a rule gave.
     fn note(&mut self, rule: usize, id: u32) -> Result<(), OutOfMemory>
         requires { rule < 2 ^ 32 }
+        ensures { self.new.rights ≡ self.old.rights }
     {
         if self.by_rule.len() <= rule {
             self.by_rule.resize(rule + 1, NO_ID)?;
@@ -79,6 +186,17 @@ impl SideIds {
             return Ok(Some(*id));
         }
         Ok(None)
+    }
+}
+
+/// The id, if the term has no variable.
+fn id_of_ground(t: &Term, id: u32) -> Option<u32>
+    ensures { IfSome result (λ kept. (kept ≡ id) × IsGround (tree t.now)) }
+{
+    let least = least_variable(t, 0, None);
+    match least {
+        Some(_) => None,
+        None => Some(id),
     }
 }
 

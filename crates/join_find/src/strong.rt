@@ -1,6 +1,7 @@
 //! The strategy strong.
 ghost use Rattle.std.specs.Prelude.{◌≡◌, ◌<◌, ◌↔◌, Ok, IsTrue, false, IfOk, OnOk, MatchOption};
 ghost use Rattle.trs_defs.specs.Variable.{IsLinear};
+ghost use Rattle.join_find.specs.RightSides.{HasRightSides};
 ghost use Rattle.closed_pairs.specs.crit_pairs.PeakList.{ListsPeaks};
 ghost use Rattle.assign_search.specs.Continues.{Continues};
 ghost use Rattle.join_find.specs.Sides.{HasSides};
@@ -10,10 +11,11 @@ ghost use Rattle.join_find.specs.StrongRow.{FindsStrong, FailsStrong};
 ghost use Rattle.join_find.specs.Answers.{IsFinding};
 
 use crate::reached_sides::ReachedSides;
-use crate::sides::critical_peaks_have_sides;
+use crate::side_ids::Hand;
+use crate::sides::{critical_peaks_have_sides, right_sides_are_sides};
 use assign_search::{Search, Stop};
 use closed_pairs::{Four, Peak};
-use rewrite_core::{PeakSide, Top};
+use rewrite_core::Top;
 use std::alloc::Global;
 use term_pool::RulesByRoot;
 use trs_core::{OutOfMemory, Rule, Trs};
@@ -40,6 +42,7 @@ pub fn find_strong<P: Stop, T: Top>(
         return Ok(Search::Stopped);
     }
     critical_peaks_have_sides(trs);
+    right_sides_are_sides();
     if !are_linear(trs) {
         return Ok(Search::NotThere);
     }
@@ -85,14 +88,15 @@ fn first_four<T: Top>(
     peak: &Peak<T>,
 ) -> Result<Option<Four>, OutOfMemory>
     requires peak { HasSides peak.now }
+    requires rights { HasRightSides by_root.now.rules peak.now }
     requires sides { AreReached by_root.now.rules sides.old }
     ensures four { IfOk result (λ found. MatchOption found
         (HasNoFour by_root.now.rules peak.now) (IsFirstFour by_root.now.rules peak.now)) }
     ensures sides { OnOk result (AreReached by_root.now.rules sides.new) }
 {
     sides.make_room(alloc);
-    let left = sides.intern(alloc, peak.inner, peak.left.term())?;
-    let right = sides.intern(alloc, peak.outer, peak.right.term())?;
+    let left = sides.intern(alloc, by_root, peak, Hand::Left)?;
+    let right = sides.intern(alloc, by_root, peak, Hand::Right)?;
     let Some(u) = sides.first_half(alloc, by_root, left, right)? else {
         return Ok(None);
     };

@@ -33,3 +33,8 @@ first_join-requires-clause-sides g c = rw c.in_ok-by_root.ensures c.loop-peak.in
 
 pub returns-then-stopped-2-clause-answer : goal.returns-then-stopped-2-clause-answer
 returns-then-stopped-2-clause-answer g c = omega (arith, c.loop-peak.invariant.continues.later, c.stopped-in-loop-peak.ensures.rose c.if-stopped-2.true)
+
+pub first_join-requires-clause-rights : goal.first_join-requires-clause-rights
+first_join-requires-clause-rights g c =
+    rw c.in_ok-by_root.ensures (c.right_sides_are_sides.ensures c.args.trs.now.rules c.args.peaks.now c.requires.critical c.peak-item.result
+    (read_in c.args.peaks.now c.loop-peak.peak-index c.peak-item.result c.loop-peak-test.true c.peak-item.is))

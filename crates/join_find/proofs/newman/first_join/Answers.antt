@@ -1,27 +1,16 @@
-use Rattle.std.proofs.Common.{◌≡◌, ap, subst, ◌∙◌}
-use Rattle.trs_core.specs.View.{tree}
-use Rattle.trs_defs.specs.Tree.{Tree}
 use Rattle.term_pool.specs.Pooled.{StandsFor}
-use Rattle.rewrite_core.specs.PlacedPeak.{PlacedPeak}
 use Rattle.join_find.proofs.KeptOfSides.{narrow_at}
 use Rattle.join_find.proofs.newman.first_join.Goals.{In_ok-right}
 use Rattle.join_find.proofs.newman.first_join.Goals as goal
 
-is_left : (g : _) (c : In_ok-right g) → tree c.term.result.now ≡ c.args.peak.now.left
-is_left g c = c.term.ensures ∙ ap (λ (p : PlacedPeak). p.left) c.peak.view_is
-
-is_right : (g : _) (c : In_ok-right g) → tree c.term-2.result.now ≡ c.args.peak.now.right
-is_right g c = c.term-2.ensures ∙ ap (λ (p : PlacedPeak). p.right) c.peak.view_is
-
 left_stands : (g : _) (c : In_ok-right g) → StandsFor c.intern-2.new.self.pool c.in_ok-left.left c.args.peak.now.left
-left_stands g c =
-    let S : Tree → Type 0 = λ t. StandsFor c.intern-2.new.self.pool c.in_ok-left.left t in
-    subst S (is_left g c) (c.in_ok-right.ensures.kept.kept c.in_ok-left.left (tree c.term.result.now) c.in_ok-left.ensures.id)
+left_stands g c = c.in_ok-right.ensures.kept.kept c.in_ok-left.left c.args.peak.now.left c.in_ok-left.ensures.id
 
 right_stands : (g : _) (c : In_ok-right g) → StandsFor c.intern-2.new.self.pool c.in_ok-right.right c.args.peak.now.right
-right_stands g c =
-    let S : Tree → Type 0 = λ t. StandsFor c.intern-2.new.self.pool c.in_ok-right.right t in
-    subst S (is_right g c) c.in_ok-right.ensures.id
+right_stands g c = c.in_ok-right.ensures.id
+
+pub intern-requires-clause-sides : goal.intern-requires-clause-sides
+intern-requires-clause-sides g c = c.make_room.ensures.sides c.args.by_root.now.rules c.requires.sides
 
 pub first_join-requires-clause-left : goal.first_join-requires-clause-left
 first_join-requires-clause-left g c =
@@ -38,5 +27,4 @@ returns-clause-join g c =
 
 pub first_join-requires-clause-sides : goal.first_join-requires-clause-sides
 first_join-requires-clause-sides g c =
-    let rules = c.args.by_root.now.rules in
-    c.in_ok-right.ensures.sides rules (c.in_ok-left.ensures.sides rules (c.make_room.ensures.sides rules c.requires.sides))
+    c.in_ok-right.ensures.sides

@@ -36,3 +36,8 @@ returns-clause-answer g c = record {
 
 pub first_four-requires-clause-sides : goal.first_four-requires-clause-sides
 first_four-requires-clause-sides g c = rw c.in_ok-by_root.ensures c.loop-peak.invariant.sides
+
+pub first_four-requires-clause-rights : goal.first_four-requires-clause-rights
+first_four-requires-clause-rights g c =
+    rw c.in_ok-by_root.ensures (c.right_sides_are_sides.ensures c.args.trs.now.rules c.args.peaks.now c.requires.critical c.peak-item.result
+    (read_in c.args.peaks.now c.loop-peak.peak-index c.peak-item.result c.loop-peak-test.true c.peak-item.is))

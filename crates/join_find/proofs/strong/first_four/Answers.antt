@@ -1,8 +1,5 @@
-use Rattle.std.proofs.Common.{ap, sym, subst, ◌∙◌}
-use Rattle.trs_core.specs.View.{tree}
-use Rattle.trs_defs.specs.Tree.{Tree}
+use Rattle.std.proofs.Common.{sym, subst}
 use Rattle.term_pool.specs.Pooled.{StandsFor}
-use Rattle.rewrite_core.specs.PlacedPeak.{PlacedPeak}
 use Rattle.rewrite_core.specs.PathsOfJoin.{PathsOfJoin}
 use Rattle.join_find.specs.StrongRow.{IsFirstHalf}
 use Rattle.join_find.proofs.KeptOfSides.{narrow_at, narrow_still}
@@ -10,19 +7,17 @@ use Rattle.join_find.proofs.strong.first_four.Goals.{In_ok-right}
 use Rattle.join_find.proofs.strong.first_four.Goals as goal
 
 left_stands : (g : _) (c : In_ok-right g) → StandsFor c.intern-2.new.self.pool c.in_ok-left.left c.args.peak.now.left
-left_stands g c =
-    let S : Tree → Type 0 = λ t. StandsFor c.intern-2.new.self.pool c.in_ok-left.left t in
-    subst S (c.term.ensures ∙ ap (λ (p : PlacedPeak). p.left) c.peak.view_is) (c.in_ok-right.ensures.kept.kept c.in_ok-left.left (tree c.term.result.now) c.in_ok-left.ensures.id)
+left_stands g c = c.in_ok-right.ensures.kept.kept c.in_ok-left.left c.args.peak.now.left c.in_ok-left.ensures.id
 
 right_stands : (g : _) (c : In_ok-right g) → StandsFor c.intern-2.new.self.pool c.in_ok-right.right c.args.peak.now.right
-right_stands g c =
-    let S : Tree → Type 0 = λ t. StandsFor c.intern-2.new.self.pool c.in_ok-right.right t in
-    subst S (c.term-2.ensures ∙ ap (λ (p : PlacedPeak). p.right) c.peak.view_is) c.in_ok-right.ensures.id
+right_stands g c = c.in_ok-right.ensures.id
+
+pub intern-requires-clause-sides : goal.intern-requires-clause-sides
+intern-requires-clause-sides g c = c.make_room.ensures.sides c.args.by_root.now.rules c.requires.sides
 
 pub first_half-requires-clause-sides : goal.first_half-requires-clause-sides
 first_half-requires-clause-sides g c =
-    let rules = c.args.by_root.now.rules in
-    c.in_ok-right.ensures.sides rules (c.in_ok-left.ensures.sides rules (c.make_room.ensures.sides rules c.requires.sides))
+    c.in_ok-right.ensures.sides
 
 pub first_half-requires-2-clause-from : goal.first_half-requires-2-clause-from
 first_half-requires-2-clause-from g c =

@@ -1,9 +1,11 @@
 use Rattle.join_find.proofs.KeptOfSides.{one_more_reached, then_ok}
+use Rattle.join_find.proofs.RightIdLaws.{rights_grown}
 use Rattle.join_find.proofs.reached_sides.ReachedSides.list_reached.Goals as goal
 
 pub returns-clause-sides : goal.returns-clause-sides
 returns-clause-sides c =
     then_ok c.put.result
-    (λ put. one_more_reached c.args.by_root.now.rules c.args.self.now c.requires.sides c.reach.new.pool c.args.self.now.ids c.in_ok-list.ensures.kept c.put.new.self c.new.result c.args.id c.in_ok-list.list.items
+    (λ put. one_more_reached c.args.by_root.now.rules c.args.self.now c.requires.sides c.reach.new.pool c.args.self.now.ids (rights_grown c.args.by_root.now.rules c.args.self.now.pool c.reach.new.pool c.args.self.now.ids c.in_ok-list.ensures.kept c.requires.sides.rights)
+    c.in_ok-list.ensures.kept c.put.new.self c.new.result c.args.id c.in_ok-list.list.items
     c.new.ensures put c.requires.narrow.there c.in_ok-list.ensures.list c.in_ok-list.ensures.there)
     c.put.ensures
