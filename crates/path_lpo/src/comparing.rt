@@ -19,9 +19,6 @@ use trs_core::Term;
 /// So many pairs are compared before the nodes of large terms are counted.
 const FEW_PAIRS: u64 = 1024;
 
-/// So many for each node are compared before equal subterms are looked for.
-const PAIRS_OF_NODE: u64 = 2;
-
 /// Whether the first filtered term is the second, or greater.
 pub fn is_weak<P: Precedence>(order: &P, s: &Term, t: &Term) -> bool
     ensures { IsTrue result
@@ -124,9 +121,9 @@ fn compare_large<P: Precedence>(
     if let Some(comparison) = compare_within(order, s, t, FEW_PAIRS) {
         return Some((comparison, None));
     }
+    // Equal subterms are looked for where more pairs are compared than there are nodes.
     let nodes = s.size().saturating_add(t.size());
-    let pairs = nodes.saturating_mul(PAIRS_OF_NODE);
-    if let Some(comparison) = compare_within(order, s, t, pairs) {
+    if let Some(comparison) = compare_within(order, s, t, nodes) {
         return Some((comparison, None));
     }
     let shared = SharedPair::of(alloc, order, s, t, nodes).ok()?;
