@@ -24,7 +24,9 @@ use Rattle.trs_caps.proofs.MetRules.{root_of_met}
 use Rattle.pair_theory.specs.Marked.{Marked, marked, plain}
 use Rattle.pair_theory.specs.DependencyPair.{subterms, subterms_of_all}
 use Rattle.dp_graph.specs.GraphNodes.{IsEndOf}
+use Rattle.dp_graph.specs.ByRoot.{items_at}
 use Rattle.dp_graph.specs.SameLefts.{IsNoted, HaveSameLefts}
+use Rattle.dp_graph.specs.NotedRules.{Lists, HaveAllNoted}
 use Rattle.dp_graph.specs.WordRows.{HasWords, KeepWords}
 use Rattle.dp_graph.specs.FlagRows.{IsSet, IsMet, HasFlags, IsRow, MeetsOther, IsOther, LooksAtLeft}
 use Rattle.dp_graph.specs.CapRows.{Key, HaveNumbers, no_numbers, one_number, HasKey, AreCaps, KeepNumbers, AreMore, IsNumbered, AddsCap, AreEnds, no_ends, at_variable, not_defined, one_end, IsEnd, AddsEnds, IsCapped, Begins, with_end}
@@ -32,14 +34,14 @@ use Rattle.dp_graph.specs.declared.cap_rows.CapRows.{CapRows}
 use Rattle.dp_graph.specs.declared.cap_rows.End.{End}
 use Rattle.dp_graph.specs.declared.cap_rows.NumberedCap.{NumberedCap}
 use Rattle.dp_graph.proofs.FlagLaws.{none_set}
-use Rattle.dp_graph.proofs.ListPlaces.{last_or_there, still_there, length_set}
+use Rattle.dp_graph.proofs.ListPlaces.{each_of_all, last_or_there, still_there, length_set}
 
 -- ---- the row of a cap
 
 -- the rules of these numbers were looked at
 pub record RowSoFar (rules : List RewriteRule) (lefts : List (Option ℕ)) (c : HoledTree) (ks : List ℕ) (row : List ℕ) : Type 0 where
-  pub met : (k : ℕ) → IsSet row k → (rule : RewriteRule) × (slice_get rules k ≡ Some rule) × MeetsLeft c rule.left
-  pub looked : All (λ k. (rule : RewriteRule) → slice_get rules k ≡ Some rule → IsNoted lefts k k → MeetsLeft c rule.left → IsSet row k) ks
+  pub met : (k : ℕ) → IsSet row k → IsMet rules c k
+  pub looked : All (λ k. IsNoted lefts k k → IsMet rules c k → IsSet row k) ks
   pub some : 0 < length row → (k : ℕ) × IsSet row k
 
 -- the cap meets none of the left sides of rules without pairs among these
@@ -54,33 +56,28 @@ no_flags rules lefts c ks row empty = record {
 }
 
 module _ (rules : List RewriteRule) (lefts : List (Option ℕ)) (c : HoledTree) where
-  pub one_more_flag : (ks : List ℕ) (i : ℕ) (rule : RewriteRule) (old new : List ℕ) → i < length ks → slice_get rules (slice_index ks i) ≡ Some rule
-      → LooksAtLeft lefts c rule.left (slice_index ks i) old new → RowSoFar rules lefts c (take i ks) old → RowSoFar rules lefts c (take (i + 1) ks) new
-  one_more_flag ks i rule old new lt there looks so_far = record {
-    met = λ k set. elim (looks.only k set) [
-      | inl e ↦ so_far.met k e
-      | inr e ↦ (rule, subst (λ z. slice_get rules z ≡ Some rule) (sym e.0) there, e.1)
-    ];
-    looked = All-more (λ k. (q : RewriteRule) → slice_get rules k ≡ Some q → IsNoted lefts k k → MeetsLeft c q.left → IsSet new k) ks i 0 lt
-        (λ n d within q at noted meets. looks.kept _ (so_far.looked n d within q at noted meets))
-        (λ q at noted meets. looks.met noted (subst (λ (z : RewriteRule). MeetsLeft c z.left) (same_Some q rule (sym at ∙ there)) meets));
+  pub one_more_flag : (ks : List ℕ) (i : ℕ) (old new : List ℕ) → i < length ks → LooksAtLeft rules lefts c (slice_index ks i) old new → RowSoFar rules lefts c (take i ks) old → RowSoFar rules lefts c (take (i + 1) ks) new
+  one_more_flag ks i old new lt looks so_far = record {
+    met = λ k set. elim (looks.only k set) [ inl e ↦ so_far.met k e | inr e ↦ subst (IsMet rules c) (sym e.0) e.1 ];
+    looked = All-more (λ k. IsNoted lefts k k → IsMet rules c k → IsSet new k) ks i 0 lt (λ n d within noted met. looks.kept _ (so_far.looked n d within noted met)) (λ noted met. looks.met noted met);
     some = λ long. elim looks.some [
       | inl e ↦ (let (k, set) = so_far.some (subst (λ z. 0 < length z) e long) in (k, looks.kept k set))
       | inr e ↦ (slice_index ks i, e)
     ];
   }
 
-  pub all_flags : (system : System) (f : ℕ) (ks : List ℕ) (i : ℕ) (row : List ℕ) → system.rules ≡ rules → IsSystem system → HaveSameLefts rules lefts → HasRoot f c → ks ≡ with_root f rules → length ks ≤ i
+  pub all_flags : (system : System) (noted : Lists) (f : ℕ) (ks : List ℕ) (i : ℕ) (row : List ℕ) → system.rules ≡ rules → IsSystem system → HaveSameLefts rules lefts → HaveAllNoted rules lefts noted → HasRoot f c → ks ≡ items_at noted f → length ks ≤ i
       → RowSoFar rules lefts c (take i ks) row → HasFlags rules lefts c row
-  all_flags system f ks i row is valid same root all past so_far = record {
+  all_flags system noted f ks i row is valid same stand root all past so_far = record {
     met = so_far.met;
     all = λ k j rule there at meets.
         let (q, found, left) = same.each k j rule at there in
         let also : MeetsLeft c q.left = subst (MeetsLeft c) (sym left) meets in
         let proper = (valid.each j q (subst (λ z. slice_get z j ≡ Some q) (sym is) found)).left_no_variable in
         let rooted : IsTrue (has_root f q.left) = root_of_met f c q.left root proper also in
-        let looked = subst (All (λ n. (r : RewriteRule) → slice_get rules n ≡ Some r → IsNoted lefts n n → MeetsLeft c r.left → IsSet row n)) (take_all i ks past ∙ all) so_far.looked in
-        each_number (λ (r : RewriteRule). has_root f r.left) (λ n. (r : RewriteRule) → slice_get rules n ≡ Some r → IsNoted lefts n n → MeetsLeft c r.left → IsSet row n) q rooted j 0 rules looked j found (omega arith) q found (same.noted k j at) also;
+        let looked = subst (All (λ n. IsNoted lefts n n → IsMet rules c n → IsSet row n)) (take_all i ks past ∙ all) so_far.looked in
+        let own = same.noted k j at in
+        each_of_all (λ n. IsNoted lefts n n → IsMet rules c n → IsSet row n) (items_at noted f) looked j (stand j q found f own rooted) own (q, found, also);
     some = so_far.some;
   }
 
@@ -139,11 +136,18 @@ module _ (rules : List RewriteRule) (lefts : List (Option ℕ)) (c : HoledTree) 
       let (rule, at, meets) = is.flags.met k set in
       (rule.left, rule.right, in_of_get rules k rule at, meets)
 
-pub nothing_looked : (lefts : List (Option ℕ)) (c : HoledTree) (l : Tree) (k : ℕ) (row : List ℕ) → (IsNoted lefts k k → MeetsLeft c l → ⊥) → LooksAtLeft lefts c l k row row
-nothing_looked lefts c l k row unmet = record { kept = λ j h. h; met = λ noted meets. absurd (unmet noted meets); only = λ j h. inl h; some = inl refl }
+pub nothing_looked : (rules : List RewriteRule) (lefts : List (Option ℕ)) (c : HoledTree) (k : ℕ) (row : List ℕ) → (IsNoted lefts k k → IsMet rules c k → ⊥) → LooksAtLeft rules lefts c k row row
+nothing_looked rules lefts c k row unmet = record { kept = λ j h. h; met = λ noted met. absurd (unmet noted met); only = λ j h. inl h; some = inl refl }
 
-pub one_looked : (lefts : List (Option ℕ)) (c : HoledTree) (l : Tree) (k : ℕ) (old new : List ℕ) → MeetsLeft c l → ((j : ℕ) → IsSet new j ↔ (IsSet old j ⊎ (j ≡ k))) → LooksAtLeft lefts c l k old new
-one_looked lefts c l k old new meets sets = record {
+-- the cap does not meet the left side of a rule that is there
+pub not_met : (rules : List RewriteRule) (c : HoledTree) (k : ℕ) (rule : RewriteRule) → slice_get rules k ≡ Some rule → (MeetsLeft c rule.left → ⊥) → IsMet rules c k → ⊥
+not_met rules c k rule there unmet (q, at, meets) = unmet (subst (λ (z : RewriteRule). MeetsLeft c z.left) (same_Some q rule (sym at ∙ there)) meets)
+
+pub no_rule_met : (rules : List RewriteRule) (c : HoledTree) (k : ℕ) → slice_get rules k ≡ None → IsMet rules c k → ⊥
+no_rule_met rules c k none (q, at, meets) = let d : None ≡ Some q = sym none ∙ at in absurd cc
+
+pub one_looked : (rules : List RewriteRule) (lefts : List (Option ℕ)) (c : HoledTree) (k : ℕ) (old new : List ℕ) → IsMet rules c k → ((j : ℕ) → IsSet new j ↔ (IsSet old j ⊎ (j ≡ k))) → LooksAtLeft rules lefts c k old new
+one_looked rules lefts c k old new meets sets = record {
   kept = λ j h. (sets j).1 (inl h);
   met = λ noted also. (sets k).1 (inr refl);
   only = λ j h. elim ((sets j).0 h) [ inl e ↦ inl e | inr e ↦ inr (e, meets) ];
@@ -230,9 +234,9 @@ with_end_long (Some k) f n ends = length_set ends k (record { symbol = f; cap = 
 
 -- ---- caps that are added
 
-pub hole_alone : (rules : List RewriteRule) (lefts : List (Option ℕ)) (table : CapRows) (n : ℕ) (key : Key) → table.caps.items ≡ n ∷ [] → table.keys.rows.items ≡ key ∷ [] → key.items ≡ []
+pub hole_alone : (rules : List RewriteRule) (lefts : List (Option ℕ)) (table : CapRows) (n : ℕ) (key : Key) → HaveAllNoted rules lefts table.noted → table.caps.items ≡ n ∷ [] → table.keys.rows.items ≡ key ∷ [] → key.items ≡ []
     → AreCaps rules lefts table (hole ∷ [])
-hole_alone rules lefts table n key one keys empty = record {
+hole_alone rules lefts table n key noted one keys empty = record {
   count = ap length one;
   hole_first = refl;
   rows = λ m r f cs at there. absurd (not_hole m f cs at);
@@ -241,6 +245,7 @@ hole_alone rules lefts table n key one keys empty = record {
     | inl e ↦ cc
     | inr e ↦ sym is ∙ (ap (λ (z : Key). z.items) (sym e.1) ∙ empty)
   ]);
+  noted = noted;
 }
   where
     not_hole : (m f : ℕ) (cs : HoledTrees) → slice_get (hole ∷ []) m ≡ Some (symbol f cs) → ⊥
@@ -295,6 +300,7 @@ module _ (rules : List RewriteRule) (lefts : List (Option ℕ)) where
         rows = row_of;
         numbered = ap length adds.key.rows ∙ (length-append old.keys.rows.items (key ∷ []) ∙ (ap (λ z. z + 1) are.numbered ∙ sym (length-append all (c ∷ []))));
         keys = key_of;
+        noted = subst (HaveAllNoted rules lefts) (sym adds.noted) are.noted;
       }
 
   -- a cap whose key is known

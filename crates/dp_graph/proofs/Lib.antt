@@ -19,6 +19,7 @@ pub mod LeaderLaws
 pub mod ReversedLaws
 pub mod RowLaws
 pub mod LeftLaws
+pub mod NotedLaws
 pub mod FlagLaws
 pub mod WordRowLaws
 pub mod CapRowLaws

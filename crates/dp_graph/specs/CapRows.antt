@@ -12,6 +12,7 @@ use Rattle.pair_theory.specs.Marked.{Marked, marked}
 use Rattle.pair_theory.specs.DependencyPair.{subterms}
 use Rattle.dp_graph.specs.WordRows.{HasWords, KeepWords, AddsRow}
 use Rattle.dp_graph.specs.FlagRows.{IsRow}
+use Rattle.dp_graph.specs.NotedRules.{HaveAllNoted}
 use Rattle.dp_graph.specs.GraphNodes.{IsEndOf}
 use Rattle.dp_graph.specs.declared.cap_rows.CapRows.{CapRows}
 use Rattle.dp_graph.specs.declared.cap_rows.NumberedCap.{NumberedCap}
@@ -45,6 +46,7 @@ pub record AreCaps (rules : List RewriteRule) (lefts : List (Option ℕ)) (table
       → (flags : List ℕ) × HasWords table.rows.rows.items r flags × IsRow rules lefts (symbol f cs) flags
   pub numbered : length table.keys.rows.items ≡ length all
   pub keys : (n : ℕ) (key : List ℕ) → HasWords table.keys.rows.items n key → (key ≡ []) ⊎ ((c : HoledTree) × (slice_get all n ≡ Some c) × HasKey all c key)
+  pub noted : HaveAllNoted rules lefts table.noted
 
 -- the caps keep their numbers
 abbrev pub KeepNumbers : List HoledTree → List HoledTree → Type 0
@@ -61,6 +63,7 @@ pub record AddsCap (cap_key : Key) (flags : List ℕ) (n : ℕ) (old new : CapRo
   pub caps : new.caps.items ≡ old.caps.items ++ row ∷ []
   pub here : HasWords new.rows.rows.items row flags
   pub kept : KeepWords old.rows.rows.items new.rows.rows.items
+  pub noted : new.noted ≡ old.noted
 
 -- ---- the caps of terms, and of the right sides of pairs in them
 

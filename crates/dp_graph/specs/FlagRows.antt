@@ -1,7 +1,6 @@
 -- Rows of flags, as the code keeps them, and the rows of the left sides that caps meet.
 use Rattle.std.specs.Prelude.{◌≡◌, ◌<◌, ◌⊎◌, ℕ, ◌/◌, ◌%◌, List, [], length, Option, Some, None, slice_get, slice_index_or}
 use Rattle.std.specs.Int.{bit_at}
-use Rattle.trs_defs.specs.Tree.{Tree}
 use Rattle.trs_defs.specs.System.{RewriteRule}
 use Rattle.trs_caps.specs.HoledTree.{HoledTree}
 use Rattle.trs_caps.specs.HoledCap.{MeetsLeft}
@@ -35,9 +34,9 @@ abbrev pub IsOther : List RewriteRule → List (Option ℕ) → HoledTree → Op
 IsOther rules lefts c None = (k : ℕ) → MeetsOther rules lefts c k → ⊥
 IsOther rules lefts c (Some k) = IsMet rules c k
 
--- the flag of rule number k with this left side is set, if the cap meets that and the rule is noted for it
-pub record LooksAtLeft (lefts : List (Option ℕ)) (c : HoledTree) (l : Tree) (k : ℕ) (old new : List ℕ) : Type 0 where
+-- the flag of rule number k is set, if it is noted for its left side and the cap meets that
+pub record LooksAtLeft (rules : List RewriteRule) (lefts : List (Option ℕ)) (c : HoledTree) (k : ℕ) (old new : List ℕ) : Type 0 where
   pub kept : (j : ℕ) → IsSet old j → IsSet new j
-  pub met : IsNoted lefts k k → MeetsLeft c l → IsSet new k
-  pub only : (j : ℕ) → IsSet new j → IsSet old j ⊎ ((j ≡ k) × MeetsLeft c l)
+  pub met : IsNoted lefts k k → IsMet rules c k → IsSet new k
+  pub only : (j : ℕ) → IsSet new j → IsSet old j ⊎ ((j ≡ k) × IsMet rules c k)
   pub some : (new ≡ old) ⊎ IsSet new k

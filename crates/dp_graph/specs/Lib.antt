@@ -19,6 +19,7 @@ pub mod PlaceLists
 pub mod Waiting
 pub mod Components
 pub mod SameLefts
+pub mod NotedRules
 pub mod WordRows
 pub mod FlagRows
 pub mod CapRows

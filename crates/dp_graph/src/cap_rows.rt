@@ -9,12 +9,15 @@ ghost use Rattle.trs_caps.specs.KnownCaps.{IsWhole};
 ghost use Rattle.trs_caps.specs.View.{holed, holed_all};
 ghost use Rattle.dp_graph.specs.WordRows.{HasWords, KeepWords};
 ghost use Rattle.dp_graph.specs.FlagRows.{HasFlags, IsMet, IsOther, IsRow, LooksAtLeft};
-ghost use Rattle.dp_graph.specs.SameLefts.{HaveSameLefts, IsNoted};
+ghost use Rattle.dp_graph.specs.SameLefts.{HaveSameLefts};
+ghost use Rattle.dp_graph.specs.NotedRules.{HaveAllNoted};
 ghost use Rattle.dp_graph.specs.CapRows.{AreCaps, AreMore, IsNumbered, IsCapped, HasKey, AddsCap, Begins, with_end};
 
 use crate::flag_rows::set;
+use crate::noted::{is_noted, numbers_at};
 use crate::word_rows::WordRows;
 use std::alloc::Global;
+use std::collections::BTreeMap;
 use term_pool::RulesByRoot;
 use trs_caps::{Cap, Parts};
 use trs_core::{OutOfMemory, Rule, Term};
@@ -29,6 +32,8 @@ pub(crate) struct CapRows {
     pub(crate) rows: WordRows,
     /// For each cap its symbol and the numbers of its parts. That of a hole has no words.
     keys: WordRows,
+    /// The rules that are noted for left sides, by the roots of these.
+    noted: BTreeMap<u32, Vec<u32>>,
 }
 
 /// The cap of a term, with its number.
@@ -50,10 +55,10 @@ pub(crate) struct End {
 }
 
 impl CapRows {
-    /// The hole alone.
-    pub(crate) fn new(alloc: Global) -> Result<CapRows, OutOfMemory>
+    /// The hole alone, and the rules that are noted for left sides.
+    pub(crate) fn new(alloc: Global, noted: BTreeMap<u32, Vec<u32>>) -> Result<CapRows, OutOfMemory>
         ensures { IfOk result (λ caps. (rules : List RewriteRule) (lefts : List (Option ℕ)) →
-            AreCaps rules lefts caps (hole ∷ [])) }
+            HaveAllNoted rules lefts noted → AreCaps rules lefts caps (hole ∷ [])) }
     {
         let mut caps = Vec::new(alloc);
         caps.push(0)?;
@@ -63,6 +68,7 @@ impl CapRows {
             caps,
             rows: WordRows::new(alloc),
             keys,
+            noted,
         })
     }
 
@@ -166,7 +172,7 @@ impl CapRows {
         if let Some(number) = self.keys.find(&key) {
             return Ok(number);
         }
-        let row = row_of(alloc, by_root, lefts, f, cap)?;
+        let row = row_of(alloc, by_root, lefts, &self.noted, f, cap)?;
         self.add(alloc, key, row)
     }
 
@@ -230,15 +236,16 @@ fn row_of(
     alloc: Global,
     by_root: &RulesByRoot,
     lefts: &[Option<usize>],
+    noted: &BTreeMap<u32, Vec<u32>>,
     f: u32,
     cap: &Cap,
 ) -> Result<Vec<u64>, OutOfMemory>
     requires lefts { HaveSameLefts by_root.now.rules lefts.now }
     requires root { HasRoot f (holed cap.now) }
-    ensures { IfOk result
+    ensures { HaveAllNoted by_root.now.rules lefts.now noted.now → IfOk result
         (λ row. IsRow by_root.now.rules lefts.now (holed cap.now) row.items) }
 {
-    let mut row = flags_of(alloc, by_root, lefts, f, cap)?;
+    let mut row = flags_of(alloc, by_root, lefts, noted, f, cap)?;
     if row.is_empty() {
         if let Some(k) = first_other(alloc, by_root, lefts, f, cap)? {
             set(&mut row, k)?;
@@ -292,19 +299,19 @@ fn flags_of(
     alloc: Global,
     by_root: &RulesByRoot,
     lefts: &[Option<usize>],
+    noted: &BTreeMap<u32, Vec<u32>>,
     f: u32,
     cap: &Cap,
 ) -> Result<Vec<u64>, OutOfMemory>
     requires lefts { HaveSameLefts by_root.now.rules lefts.now }
     requires root { HasRoot f (holed cap.now) }
-    ensures { IfOk result
+    ensures { HaveAllNoted by_root.now.rules lefts.now noted.now → IfOk result
         (λ row. HasFlags by_root.now.rules lefts.now (holed cap.now) row.items) }
 {
     let rules = by_root.rules();
     let mut row = Vec::new(alloc);
-    for k in by_root.with_root(f) {
-        let rule = &rules[*k as usize];
-        look_at(alloc, lefts, cap, rule, *k as usize, &mut row)?;
+    for k in numbers_at(noted, f) {
+        look_at(alloc, lefts, cap, rules, *k as usize, &mut row)?;
     }
     Ok(row)
 }
@@ -314,13 +321,16 @@ fn look_at(
     alloc: Global,
     lefts: &[Option<usize>],
     cap: &Cap,
-    rule: &Rule,
+    rules: &[Rule],
     k: usize,
     row: &mut Vec<u64>,
 ) -> Result<(), OutOfMemory>
-    ensures { OnOk result (LooksAtLeft lefts.now (holed cap.now) rule.now.left k
+    ensures { OnOk result (LooksAtLeft rules.now lefts.now (holed cap.now) k
         row.old.items row.new.items) }
 {
+    let Some(rule) = rules.get(k) else {
+        return Ok(());
+    };
     if !is_noted(lefts, k) {
         return Ok(());
     }
@@ -328,14 +338,4 @@ fn look_at(
         set(row, k)?;
     }
     Ok(())
-}
-
-/// Whether a rule is noted for its left side.
-fn is_noted(lefts: &[Option<usize>], k: usize) -> bool
-    ensures { IsTrue result ↔ IsNoted lefts.now k k }
-{
-    match lefts.get(k) {
-        Some(Some(first)) => *first == k,
-        _ => false,
-    }
 }

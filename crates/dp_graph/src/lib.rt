@@ -20,6 +20,7 @@ mod lefts;
 mod lists;
 mod naming;
 mod nodes;
+mod noted;
 mod onward;
 mod ordering;
 mod places;

@@ -7,6 +7,7 @@ ghost use Rattle.dp_graph.specs.PairNodes.{AreNodes, AddsNode, AddsNodes, AddsRu
 use crate::cap_rows::{CapRows, End};
 use crate::graph::Node;
 use crate::lefts::noted_or;
+use crate::noted::noted_by_root;
 use std::alloc::Global;
 use term_pool::RulesByRoot;
 use trs_core::{OutOfMemory, Rule, Term};
@@ -32,9 +33,10 @@ impl Nodes {
         ensures { IfOk result (AreNodes by_root.now.rules lefts.now
             (dependency_pairs by_root.now.rules)) }
     {
+        let noted = noted_by_root(alloc, by_root.rules(), lefts)?;
         let mut nodes = Nodes {
             nodes: Vec::with_capacity(alloc, room)?,
-            caps: CapRows::new(alloc)?,
+            caps: CapRows::new(alloc, noted)?,
             seen: Vec::new(alloc),
         };
         for (k, rule) in by_root.rules().iter().enumerate() {

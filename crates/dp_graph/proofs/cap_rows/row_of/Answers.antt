@@ -6,12 +6,12 @@ use Rattle.dp_graph.proofs.cap_rows.row_of.Goals.{then-is_empty+in_ok-k+in-Some+
 use Rattle.dp_graph.proofs.cap_rows.row_of.Goals as goal
 
 pub returns : goal.returns
-returns c =
+returns c = λ noted.
     let rules = c.args.by_root.now.rules in
     let lefts = c.args.lefts.now in
     let cap = holed c.args.cap.now in
     let row = c.in_ok-row.row.items in
-    let has = c.in_ok-row.ensures in
+    let has = c.in_ok-row.ensures noted in
     let empty = empty_if c.is_empty.result row (c.is_empty.ensures ∙ ap (λ n. n == 0) c.in_ok-row.row.ok.0) in
     elim c.if-is_empty.branch [
       | then-is_empty+in_ok-k+in-Some+in_ok-set w ↦ rw w.row-is (row_of_other rules lefts cap row w.set.new.row.items w.in-Some.k has (rw w.in-Some.is at w.in_ok-k.ensures) w.in_ok-set.ensures)

@@ -1,3 +1,4 @@
+use Rattle.std.proofs.Common.{refl}
 use Rattle.dp_graph.proofs.cap_rows.CapRows.add.Goals as goal
 
 pub returns : goal.returns
@@ -7,4 +8,5 @@ returns c = record {
   caps = c.in_ok-push.ensures.items;
   here = c.in_ok-row.ensures.there;
   kept = c.in_ok-row.ensures.kept;
+  noted = refl;
 }

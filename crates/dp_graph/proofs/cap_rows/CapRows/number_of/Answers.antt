@@ -11,7 +11,7 @@ returns-in-Some-clause-kept c = λ n flags h. h
 
 pub returns-clause-number : goal.returns-clause-number
 returns-clause-number c = λ all are has.
-    cap_made c.args.by_root.now.rules c.args.lefts.now c.args.self.now c.add.new.self all (holed c.args.cap.now) c.args.key c.in_ok-row.row.items c.add.result are has c.in_ok-row.ensures c.add.ensures
+    cap_made c.args.by_root.now.rules c.args.lefts.now c.args.self.now c.add.new.self all (holed c.args.cap.now) c.args.key c.in_ok-row.row.items c.add.result are has (c.in_ok-row.ensures are.noted) c.add.ensures
 
 pub returns-clause-kept : goal.returns-clause-kept
 returns-clause-kept c = cap_keeps c.args.key c.in_ok-row.row.items c.args.self.now c.add.new.self c.add.result c.add.ensures
