@@ -16,7 +16,7 @@ use Rattle.trs_core.specs.declared.terms.Term.{Term}
 use Rattle.trs_core.specs.View.{tree, forest}
 use Rattle.trs_core.proofs.Comparing.{count_forest}
 use Rattle.crit_pairs.specs.Sides.{DoNotMeet}
-use Rattle.crit_pairs.specs.declared.meeting.Binding.{Binding}
+use Rattle.crit_pairs.specs.declared.binding_table.Binding.{Binding}
 use Rattle.crit_pairs.specs.Meeting.{bound_term, solution, Solves, IsFree, AreEqualUnder}
 
 pub solves_nothing : (θ : ℕ → Tree) → Solves [] θ
@@ -87,17 +87,27 @@ unless_bound (Some t) v θ h = h t refl
 general : (bs : List Binding) (θ : ℕ → Tree) → Solves bs θ → (v : ℕ) → θ v ≡ apply θ (solution bs v)
 general bs θ h v = unless_bound (bound_term bs v) v θ (λ t e. h.solves v t e)
 
-bound_at : (bs : List Binding) (v : ℕ) (t : Tree) → bound_term bs v ≡ Some t → (k : ℕ) × (b : Binding) × (slice_get bs k ≡ Some b) × (tree b.term.now ≡ t)
+pub bound_at : (bs : List Binding) (v : ℕ) (t : Tree) → bound_term bs v ≡ Some t → (k : ℕ) × (b : Binding) × (slice_get bs k ≡ Some b) × (b.variable ≡ v) × (tree b.term.now ≡ t)
 bound_at [] v t e = absurd cc
 bound_at (a ∷ bs) v t e = elim (first_or (a.variable == v) (tree a.term.now) t t (bound_term bs v) e) [
-  | inl h ↦ (zero, a, refl, h.1)
-  | inr h ↦ let (k, b, at, is) = bound_at bs v t h.1 in (suc k, b, at, is)
+  | inl h ↦ (zero, a, refl, eqb-true a.variable v h.0, h.1)
+  | inr h ↦ let (k, b, at, same, is) = bound_at bs v t h.1 in (suc k, b, at, same, is)
 ]
+
+-- the variable of a binding is bound
+pub bound_here : (bs : List Binding) (v k : ℕ) (b : Binding) → slice_get bs k ≡ Some b → b.variable ≡ v → bound_term bs v ≡ None → ⊥
+bound_here [] v k b at is e = absurd cc
+bound_here (a ∷ bs) v zero b at is e =
+    let first : a ≡ b = same_Some a b at in
+    let yes_here : (a.variable == v) ≡ true = eq-eqb a.variable v (ap (λ z. z.variable) first ∙ is) in
+    let not_here : (a.variable == v) ≡ false = (none_both (a.variable == v) (tree a.term.now) (bound_term bs v) e).0 in
+    absurd (cc (yes_here, not_here))
+bound_here (a ∷ bs) v (suc k) b at is e = bound_here bs v k b at is (none_both (a.variable == v) (tree a.term.now) (bound_term bs v) e).1
 
 solves_itself : (bs : List Binding) → All (λ b. IsFree bs (tree b.term.now)) bs → Solves bs (solution bs)
 solves_itself bs free = record {
   solves = λ v t e.
-      let (k, b, at, is) = bound_at bs v t e in
+      let (k, b, at, _, is) = bound_at bs v t e in
       let read : get_or bs k b ≡ b = get_or_from_slice_get bs k b b at in
       let b_free : IsFree bs (tree b.term.now) = subst (λ z. IsFree bs (tree z.term.now)) read (free k b (slice_get_within bs k b at)) in
       let t_free : IsFree bs t = subst (λ z. IsFree bs z) is b_free in

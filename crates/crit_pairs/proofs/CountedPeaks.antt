@@ -9,7 +9,12 @@ use Rattle.trs_defs.specs.Position.{subterm_at, replaced_at}
 use Rattle.trs_defs.proofs.ArgumentLists.{depth_le_size}
 use Rattle.trs_defs.proofs.InstancePlaces.{subterm_image, replaced_image}
 use Rattle.trs_defs.proofs.Limits.{size_replaced, size_there, depth_replaced_within, limits_depth, limits_kept}
+use Rattle.trs_unify.specs.Bindings.{stopped_size}
 use Rattle.crit_pairs.specs.Sides.{AreCounted}
+
+-- a term with few nodes is not deep
+pub few_are_small : (t : Tree) → stopped_size t ≤ 1024 → IsTrue (within_limits t)
+few_are_small t few = limits_kept t (omega (arith, few)) (let le = depth_le_size t in omega (arith, le, few))
 
 module _ (σ : ℕ → Tree) (p : List ℕ) (t part : Tree) (there : subterm_at p t ≡ Some part) where
   pub redex_smaller : (whole redex : ℕ) → whole ≡ size_of (apply σ t) → redex ≡ size_of (apply σ part) → redex ≤ whole

@@ -6,7 +6,7 @@ use Rattle.trs_defs.specs.Size.{size_of, size_of_all}
 use Rattle.trs_defs.specs.Substitution.{apply, apply_all}
 use Rattle.trs_core.specs.declared.terms.Term.{Term}
 use Rattle.trs_core.specs.View.{tree, forest}
-use Rattle.crit_pairs.specs.declared.meeting.Binding.{Binding}
+use Rattle.crit_pairs.specs.declared.binding_table.Binding.{Binding}
 use Rattle.crit_pairs.specs.Meeting.{bound_term, Solves, SameUnder}
 use Rattle.crit_pairs.specs.Cycles.{HaveNoSolution, StandsIn}
 

@@ -5,7 +5,7 @@ use Rattle.trs_defs.specs.Tree.{var}
 use Rattle.trs_core.specs.View.{tree}
 use Rattle.crit_pairs.specs.Meeting.{bound_term, solution}
 use Rattle.crit_pairs.specs.UnbuiltTop.{bound_pair, seen_pair, paired_term}
-use Rattle.crit_pairs.specs.declared.meeting.Binding.{Binding}
+use Rattle.crit_pairs.specs.declared.binding_table.Binding.{Binding}
 use Rattle.crit_pairs.specs.declared.unbuilt.SeenBinding.{SeenBinding}
 
 bound_by_pairs : (bs : List Binding) (v : ℕ) → paired_term (map bound_pair bs) v ≡ bound_term bs v

@@ -4,7 +4,7 @@ use Rattle.trs_defs.specs.Tree.{Tree, Trees, app}
 use Rattle.trs_defs.specs.Size.{size_of}
 use Rattle.trs_defs.specs.Substitution.{apply}
 use Rattle.crit_pairs.specs.Meeting.{Solves}
-use Rattle.crit_pairs.specs.declared.meeting.Binding.{Binding}
+use Rattle.crit_pairs.specs.declared.binding_table.Binding.{Binding}
 
 -- no substitution solves the bindings
 abbrev pub HaveNoSolution : List Binding → Type 0

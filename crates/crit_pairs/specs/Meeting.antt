@@ -6,7 +6,7 @@ use Rattle.trs_defs.specs.Substitution.{apply}
 use Rattle.trs_defs.specs.Unifier.{IsMostGeneralUnifier}
 use Rattle.trs_core.specs.View.{tree}
 use Rattle.crit_pairs.specs.Sides.{DoNotMeet}
-use Rattle.crit_pairs.specs.declared.meeting.Binding.{Binding}
+use Rattle.crit_pairs.specs.declared.binding_table.Binding.{Binding}
 use Rattle.crit_pairs.specs.declared.meeting.Meeting.{Meeting}
 use Rattle.crit_pairs.specs.declared.meeting.Meeting.TheVariants as meeting
 use Rattle.crit_pairs.specs.declared.meeting.Solution.{Solution}
@@ -45,6 +45,6 @@ IsFree bs t = (v : ℕ) → IsTrue (has_var v t) → bound_term bs v ≡ None
 
 -- what was found of two terms
 abbrev pub IsSolution : Tree → Tree → Solution → Type 0
-IsSolution a b (found.Unifier bindings) = IsMostGeneralUnifier a b (solution bindings.items)
+IsSolution a b (found.Unifier bindings) = IsMostGeneralUnifier a b (solution bindings.list.items)
 IsSolution a b found.None = DoNotMeet a b
 IsSolution a b found.Unclear = Unit {0}

@@ -4,7 +4,7 @@ use Rattle.trs_defs.specs.Tree.{Tree, var}
 use Rattle.trs_defs.specs.Substitution.{apply, bound}
 use Rattle.trs_core.specs.View.{tree}
 use Rattle.crit_pairs.specs.InOrder.{in_order}
-use Rattle.crit_pairs.specs.declared.meeting.Binding.{Binding}
+use Rattle.crit_pairs.specs.declared.binding_table.Binding.{Binding}
 use Rattle.crit_pairs.specs.declared.unbuilt.SeenBinding.{SeenBinding}
 use Rattle.crit_pairs.specs.declared.unbuilt.SeenUnifier.{SeenUnifier}
 use Rattle.crit_pairs.specs.declared.unbuilt.SeenUnifier.TheVariants as seen

@@ -98,9 +98,9 @@ impl<'a> RulesApart<'a> {
         }
     }
 
-    /// Whether few variables occur in rules `i` and `j`.
-    pub fn have_few_variables(&self, i: usize, j: usize) -> bool {
-        self.occurrences.are_few(i, j)
+    /// How often variables occur in rules `i` and `j` together.
+    pub fn occurrences(&self, i: usize, j: usize) -> u64 {
+        self.occurrences.in_both(i, j)
     }
 
     /// The numbers of the rules whose left sides have this root, in order.

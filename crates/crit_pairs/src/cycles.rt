@@ -6,20 +6,23 @@ ghost use Rattle.trs_core.specs.View.{tree};
 ghost use Rattle.crit_pairs.specs.Meeting.{Solves};
 ghost use Rattle.crit_pairs.specs.Cycles.{HaveNoSolution, StandsIn};
 
-use crate::meeting::{Binding, MOST_BINDINGS, find, resolve};
+use crate::binding_table::Bindings;
 use trs_core::Term;
+
+/// Cycles are looked for among so many bindings, the first ones.
+const MOST_ON_CYCLES: usize = 16;
 
 /// The bindings that are on no cycle, by their places.
 #[derive(Drop)]
 struct Ended {
-    is_ended: [bool; MOST_BINDINGS],
+    is_ended: [bool; MOST_ON_CYCLES],
 }
 
 impl Ended {
     /// So many bindings, the first ones, are on no cycle.
     fn first(count: usize) -> Ended {
         let mut ended = Ended {
-            is_ended: [false; MOST_BINDINGS],
+            is_ended: [false; MOST_ON_CYCLES],
         };
         for place in 0..count {
             ended.add(place);
@@ -44,11 +47,11 @@ impl Ended {
 /// Whether a variable stands below a symbol in what it is bound to, through other bindings too. Its
 /// instance would have more nodes than it has. None is looked for from the bindings before the first
 /// one. It takes no memory.
-pub(crate) fn has_cycle(bindings: &[Binding], first: usize) -> bool
-    ensures { IsTrue result → HaveNoSolution bindings.now }
+pub(crate) fn has_cycle(bindings: &Bindings, first: usize) -> bool
+    ensures { IsTrue result → HaveNoSolution bindings.now.list.items }
 {
     let mut ended = Ended::first(first);
-    for _ in 0..bindings.len() {
+    for _ in 0..bindings.list.len() {
         let Some(start) = first_but(bindings, &ended) else {
             return false;
         };
@@ -60,8 +63,8 @@ pub(crate) fn has_cycle(bindings: &[Binding], first: usize) -> bool
 }
 
 /// The first variable that is bound, but for some.
-fn first_but(bindings: &[Binding], ended: &Ended) -> Option<u32> {
-    for (place, binding) in bindings.iter().enumerate() {
+fn first_but(bindings: &Bindings, ended: &Ended) -> Option<u32> {
+    for (place, binding) in bindings.list.iter().enumerate() {
         if !ended.has(place) {
             return Some(binding.variable);
         }
@@ -74,12 +77,12 @@ fn first_but(bindings: &[Binding], ended: &Ended) -> Option<u32> {
 /// that is looked out for is taken anew after 1, 2, 4, 8, .. steps. (Brent, An improved Monte Carlo
 /// factorization algorithm, 1980.)
 #[tactic(auto, using(crate::proofs::CyclesOfBindings::at_most_itself, crate::proofs::CyclesOfBindings::next_at_most, crate::proofs::CyclesOfBindings::never_below))]
-fn leads_back(start: u32, bindings: &[Binding], ended: &mut Ended) -> bool
-    ensures { IsTrue result → HaveNoSolution bindings.now }
+fn leads_back(start: u32, bindings: &Bindings, ended: &mut Ended) -> bool
+    ensures { IsTrue result → HaveNoSolution bindings.now.list.items }
 {
     let mut passed = start;
     let mut current = start;
-    for step in 0..3 * MOST_BINDINGS {
+    for step in 0..3 * MOST_ON_CYCLES {
         match variable_below(current, bindings, ended) {
             None => {
                 end(current, bindings, ended);
@@ -98,25 +101,20 @@ fn leads_back(start: u32, bindings: &[Binding], ended: &mut Ended) -> bool
 }
 
 /// Nothing leads on from the variable.
-fn end(v: u32, bindings: &[Binding], ended: &mut Ended) {
-    if let Some(place) = place_of(bindings, v) {
+fn end(v: u32, bindings: &Bindings, ended: &mut Ended) {
+    if let Some(place) = bindings.place(v) {
         ended.add(place);
     }
 }
 
-/// The place of a variable's binding.
-fn place_of(bindings: &[Binding], v: u32) -> Option<usize> {
-    bindings.iter().position(|binding| binding.variable == v)
-}
-
 /// A variable that is bound, and stands below the symbol that another one is bound to.
 #[tactic(auto, using(crate::proofs::CyclesOfBindings::some_bound))]
-fn variable_below(v: u32, bindings: &[Binding], ended: &Ended) -> Option<u32>
-    ensures { IfSome result (λ w. (θ : ℕ → Tree) → Solves bindings.now θ
+fn variable_below(v: u32, bindings: &Bindings, ended: &Ended) -> Option<u32>
+    ensures { IfSome result (λ w. (θ : ℕ → Tree) → Solves bindings.now.list.items θ
         → size_of (θ w) < size_of (θ v)) }
 {
-    let bound = find(bindings, v)?;
-    let term = resolve(bindings, bound);
+    let bound = bindings.find(v)?;
+    let term = bindings.resolve(bound);
     match term {
         Term::Var(_) => None,
         Term::App(_, _) => variable_in(term, bindings, ended),
@@ -124,12 +122,12 @@ fn variable_below(v: u32, bindings: &[Binding], ended: &Ended) -> Option<u32>
 }
 
 /// A variable that is bound, and occurs in a term.
-fn variable_in(t: &Term, bindings: &[Binding], ended: &Ended) -> Option<u32>
-    ensures { IfSome result (λ w. StandsIn bindings.now w (tree t.now)) }
+fn variable_in(t: &Term, bindings: &Bindings, ended: &Ended) -> Option<u32>
+    ensures { IfSome result (λ w. StandsIn bindings.now.list.items w (tree t.now)) }
 {
     match t {
         Term::Var(v) => {
-            let place = place_of(bindings, *v)?;
+            let place = bindings.place(*v)?;
             if ended.has(place) {
                 return None;
             }

@@ -43,6 +43,8 @@ pub(crate) struct Growth {
     /// The nodes of all peaks.
     pub nodes: u64,
     pub room: Room,
+    /// Where bindings stand while an overlap is looked for.
+    pub places: Vec<usize>,
 }
 
 /// Adds the peaks of the outer rules from `start` to `end` with the inner rules from `from` on.
@@ -344,8 +346,8 @@ fn grow_by_overlap(
     ensures inside { OnOk result (growth.new.done < length growth.new.lists.items) }
 {
     let inner = &prepared.apart[i];
-    let few_variables = prepared.occurrences.are_few(i, j);
-    let found = overlap(alloc, part, inner, few_variables)?;
+    let occurrences = prepared.occurrences.in_both(i, j);
+    let found = overlap(alloc, part, inner, occurrences, &mut growth.places)?;
     match found {
         None => {
             overlaps_unify();
@@ -357,6 +359,7 @@ fn grow_by_overlap(
                 alloc, rules, prepared, rights, j, i, place, &unifier, pool, before,
             )?;
             add_made(growth, &made)?;
+            unifier.hand_back(&mut growth.places);
             let nodes = made.nodes.saturating_sub(before);
             Ok(KnownPeak::Made(made.pair, nodes))
         }

@@ -1,30 +1,20 @@
-ghost use Rattle.std.specs.Prelude.{◌≡◌, ◌↔◌, ◌++◌, ◌∷◌, [], IfOk, IfNone, IsTrue, All, OnOk};
-ghost use Rattle.std.specs.Option.{option_map};
+ghost use Rattle.std.specs.Prelude.{◌↔◌, IfOk, IfNone, IsTrue, All};
 ghost use Rattle.trs_defs.specs.Tree.{Tree, var};
 ghost use Rattle.trs_core.specs.View.{tree};
-ghost use Rattle.crit_pairs.specs.Meeting.{bound_term, IsFree, IsSolution};
-ghost use Rattle.crit_pairs.specs.Meeting.{SameUnder, AreEqualUnder, Meets};
+ghost use Rattle.crit_pairs.specs.Meeting.{IsFree, IsSolution, AreEqualUnder, Meets};
 ghost use Rattle.crit_pairs.specs.Sides.{DoNotMeet};
 
+use crate::binding_table::{Binding, Bindings};
 use crate::cycles::has_cycle;
 use std::alloc::Global;
+use std::mem::replace;
 use trs_core::{OutOfMemory, Term};
-
-/// How many variables are bound before it is left to `unify`: bindings are looked for one by one.
-pub(crate) const MOST_BINDINGS: usize = 16;
 
 /// How often what a variable is bound to is met with another term before it is left to `unify`.
 const MOST_RETURNS: u32 = 16;
 
 /// How many levels are walked down, through bindings too. Terms have no more.
 const MOST_LEVELS: u32 = 1_040;
-
-/// A variable, and the term that it must be equal to.
-#[derive(Clone, Copy)]
-pub(crate) struct Binding<'a> {
-    pub variable: u32,
-    pub term: &'a Term,
-}
 
 /// What came of making two terms equal.
 pub(crate) enum Meeting {
@@ -40,7 +30,7 @@ pub(crate) enum Meeting {
 #[derive(Drop)]
 pub(crate) enum Solution<'a> {
     /// The bindings are a most general unifier.
-    Unifier(Vec<Binding<'a>>),
+    Unifier(Bindings<'a>),
     /// They have none.
     None,
     /// It is not known.
@@ -48,33 +38,40 @@ pub(crate) enum Solution<'a> {
 }
 
 /// A most general unifier, where each variable is met once: no variable that is bound occurs in a
-/// term that another one is bound to.
+/// term that another one is bound to. The bindings use the places; where they are no unifier, they
+/// hand them back.
 pub(crate) fn solve<'a>(
     alloc: Global,
     a: &'a Term,
     b: &'a Term,
+    places: &mut Vec<usize>,
 ) -> Result<Solution<'a>, OutOfMemory>
     ensures { IfOk result (IsSolution (tree a.now) (tree b.now)) }
 {
-    let mut bindings = Vec::new(alloc);
+    let mut bindings = Bindings::none(alloc, replace(places, Vec::new(alloc)));
     let mut returns = MOST_RETURNS;
     let meeting = meet(a, b, MOST_LEVELS, &mut bindings, &mut returns)?;
     match meeting {
-        Meeting::Apart => Ok(Solution::None),
-        Meeting::Unclear => Ok(refute(&bindings, 0)),
+        Meeting::Apart => {
+            *places = bindings.into_places();
+            Ok(Solution::None)
+        }
+        Meeting::Unclear => Ok(refute(bindings, 0, places)),
         Meeting::Met => match first_not_free(&bindings) {
             None => Ok(Solution::Unifier(bindings)),
-            Some(first) => Ok(refute(&bindings, first)),
+            Some(first) => Ok(refute(bindings, first, places)),
         },
     }
 }
 
 /// Terms that are equal under the bindings at most have no unifier where these have a cycle. None is
 /// looked for from the bindings before the first one.
-fn refute<'a>(bindings: &[Binding], first: usize) -> Solution<'a>
-    ensures { (a b : Tree) → AreEqualUnder bindings.now a b → IsSolution a b result }
+fn refute<'a>(bindings: Bindings, first: usize, places: &mut Vec<usize>) -> Solution<'a>
+    ensures { (a b : Tree) → AreEqualUnder bindings.entry.list.items a b → IsSolution a b result }
 {
-    if has_cycle(bindings, first) {
+    let is_refuted = has_cycle(&bindings, first);
+    *places = bindings.into_places();
+    if is_refuted {
         return Solution::None;
     }
     Solution::Unclear
@@ -107,11 +104,11 @@ fn meet<'a>(
     a: &'a Term,
     b: &'a Term,
     levels: u32,
-    bindings: &mut Vec<Binding<'a>>,
+    bindings: &mut Bindings<'a>,
     returns: &mut u32,
 ) -> Result<Meeting, OutOfMemory>
     ensures { IfOk result
-        (Meets (tree a.now) (tree b.now) bindings.old.items bindings.new.items) }
+        (Meets (tree a.now) (tree b.now) bindings.old.list.items bindings.new.list.items) }
 {
     if levels == 0 {
         return Ok(Meeting::Unclear);
@@ -147,14 +144,14 @@ fn meet_variable<'a>(
     a: &'a Term,
     b: &'a Term,
     levels: u32,
-    bindings: &mut Vec<Binding<'a>>,
+    bindings: &mut Bindings<'a>,
     returns: &mut u32,
 ) -> Result<Meeting, OutOfMemory>
     ensures { IfOk result
-        (Meets (tree a.now) (tree b.now) bindings.old.items bindings.new.items) }
+        (Meets (tree a.now) (tree b.now) bindings.old.list.items bindings.new.list.items) }
 {
-    let x = resolve(bindings, a);
-    let y = resolve(bindings, b);
+    let x = bindings.resolve(a);
+    let y = bindings.resolve(b);
     match (x, y) {
         (Term::Var(v), Term::Var(w)) => {
             if *v == *w {
@@ -181,11 +178,11 @@ fn meet_bound<'a>(
     x: &'a Term,
     y: &'a Term,
     levels: u32,
-    bindings: &mut Vec<Binding<'a>>,
+    bindings: &mut Bindings<'a>,
     returns: &mut u32,
 ) -> Result<Meeting, OutOfMemory>
     ensures { IfOk result
-        (Meets (tree x.now) (tree y.now) bindings.old.items bindings.new.items) }
+        (Meets (tree x.now) (tree y.now) bindings.old.list.items bindings.new.list.items) }
 {
     if levels == 0 || *returns == 0 || are_variables(a, b) {
         if are_apart(a, b, x, y) {
@@ -231,76 +228,32 @@ fn have_other_roots(a: &Term, b: &Term) -> bool
 }
 
 /// Binds the variable to the term, unless it is bound.
-fn bind<'a>(v: u32, term: &'a Term, bindings: &mut Vec<Binding<'a>>) -> Result<Meeting, OutOfMemory>
-    ensures { IfOk result (Meets (var v) (tree term.now) bindings.old.items bindings.new.items) }
+fn bind<'a>(v: u32, term: &'a Term, bindings: &mut Bindings<'a>) -> Result<Meeting, OutOfMemory>
+    ensures { IfOk result (Meets (var v) (tree term.now) bindings.old.list.items bindings.new.list.items) }
 {
-    if bindings.len() >= MOST_BINDINGS {
+    if let Some(_earlier) = bindings.find(v) {
         return Ok(Meeting::Unclear);
     }
-    if let Some(_earlier) = find(bindings, v) {
-        return Ok(Meeting::Unclear);
-    }
-    add_binding(bindings, Binding { variable: v, term })?;
+    bindings.add(Binding { variable: v, term })?;
     Ok(Meeting::Met)
-}
-
-/// One more binding. Room for all is made with the first one: most overlaps bind nothing.
-#[inline(always)]
-fn add_binding<'a>(bindings: &mut Vec<Binding<'a>>, binding: Binding<'a>) -> Result<(), OutOfMemory>
-    ensures { OnOk result (bindings.new.items ≡ bindings.old.items ++ binding.entry ∷ []) }
-{
-    if bindings.len() == bindings.capacity() {
-        bindings.reserve(MOST_BINDINGS)?;
-    }
-    bindings.push_reserved(binding);
-    Ok(())
 }
 
 /// Binds the variable on the right to the term on the left, unless it is bound.
 fn bind_to_left<'a>(
     term: &'a Term,
     v: u32,
-    bindings: &mut Vec<Binding<'a>>,
+    bindings: &mut Bindings<'a>,
 ) -> Result<Meeting, OutOfMemory>
-    ensures { IfOk result (Meets (tree term.now) (var v) bindings.old.items bindings.new.items) }
+    ensures { IfOk result (Meets (tree term.now) (var v) bindings.old.list.items bindings.new.list.items) }
 {
     bind(v, term, bindings)
 }
 
-/// What a term stands for: the end of the bindings that lead from a variable to others.
-pub(crate) fn resolve<'a>(bindings: &[Binding<'a>], t: &'a Term) -> &'a Term
-    ensures { SameUnder bindings.now (tree t.now) (tree result.now) }
-{
-    let mut current = t;
-    for _ in 0..bindings.len() {
-        let Term::Var(v) = current else {
-            return current;
-        };
-        match find(bindings, *v) {
-            None => return current,
-            Some(next) => current = next,
-        }
-    }
-    current
-}
-
-/// The term that a variable is bound to.
-pub(crate) fn find<'a>(bindings: &[Binding<'a>], v: u32) -> Option<&'a Term>
-    ensures { option_map (λ t. tree t.now) result ≡ bound_term bindings.now v }
-{
-    for binding in bindings {
-        if binding.variable == v {
-            return Some(binding.term);
-        }
-    }
-    None
-}
-
 /// The place of the first binding whose term has a variable that is bound.
-fn first_not_free(bindings: &[Binding]) -> Option<usize>
-    ensures { IfNone result (All (λ b. IsFree bindings.now (tree b.term.now)) bindings.now) }
+fn first_not_free(bindings: &Bindings) -> Option<usize>
+    ensures { IfNone result (All (λ b. IsFree bindings.now.list.items (tree b.term.now)) bindings.now.list.items) }
 {
-    for (place, binding) in bindings.iter().enumerate() {
+    for (place, binding) in bindings.list.iter().enumerate() {
         if !is_free(binding.term, bindings) {
             return Some(place);
         }
@@ -309,11 +262,11 @@ fn first_not_free(bindings: &[Binding]) -> Option<usize>
 }
 
 /// Whether the term has no variable that is bound.
-fn is_free(t: &Term, bindings: &[Binding]) -> bool
-    ensures { IsTrue result → IsFree bindings.now (tree t.now) }
+fn is_free(t: &Term, bindings: &Bindings) -> bool
+    ensures { IsTrue result → IsFree bindings.now.list.items (tree t.now) }
 {
     match t {
-        Term::Var(v) => find(bindings, *v).is_none(),
+        Term::Var(v) => bindings.find(*v).is_none(),
         Term::App(_, args) => {
             for arg in &args.items {
                 if !is_free(arg, bindings) {

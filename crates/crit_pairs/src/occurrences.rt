@@ -3,11 +3,7 @@ use crate::apart_rule::ApartRule;
 use std::alloc::Global;
 use trs_core::{OutOfMemory, Rule, Term};
 
-/// The most occurrences of variables in two rules whose bindings and names are looked for one by one.
-const MOST_OCCURRENCES: u64 = 64;
-
-/// How often variables occur in the sides of each rule. Right sides count too: the size of what a
-/// variable is bound to is found anew at each occurrence.
+/// How often variables occur in the sides of each rule.
 #[derive(Drop)]
 pub(crate) struct Occurrences {
     counts: Vec<u64>,
@@ -43,11 +39,11 @@ impl Occurrences {
         Ok(())
     }
 
-    /// Whether variables occur but a few times in two rules together.
-    pub fn are_few(&self, i: usize, j: usize) -> bool {
+    /// How often variables occur in two rules together.
+    pub fn in_both(&self, i: usize, j: usize) -> u64 {
         match (self.counts.get(i), self.counts.get(j)) {
-            (Some(inner), Some(outer)) => inner.saturating_add(*outer) <= MOST_OCCURRENCES,
-            _ => false,
+            (Some(inner), Some(outer)) => inner.saturating_add(*outer),
+            _ => u64::MAX,
         }
     }
 }

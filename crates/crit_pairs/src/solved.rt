@@ -9,20 +9,25 @@ ghost use Rattle.trs_unify.specs.Renamed.{IsRenamed};
 ghost use Rattle.crit_pairs.specs.Meeting.{solution};
 ghost use Rattle.crit_pairs.specs.Sides.{IsDistinct};
 
-use crate::meeting::{Binding, find};
+use crate::binding_table::Bindings;
+use crate::names::Names;
 use std::alloc::Global;
 use trs_core::{Args, GREATEST_DEPTH, MOST_NODES, OutOfMemory, Term};
 
 /// The number of nodes of an instance. `None` exactly where the instance passes the limits on
-/// computed terms.
-pub(crate) fn small_size(bindings: &[Binding], t: &Term) -> Option<u64>
+/// computed terms. An instance with few nodes is not deep.
+#[tactic(auto, using(crate::proofs::CountedPeaks::few_are_small))]
+pub(crate) fn small_size(bindings: &Bindings, t: &Term) -> Option<u64>
     ensures large { IfNone result
-        (within_limits (apply (solution bindings.now) (tree t.now)) ≡ false) }
+        (within_limits (apply (solution bindings.now.list.items) (tree t.now)) ≡ false) }
     ensures small { IfSome result (λ _.
-        IsTrue (within_limits (apply (solution bindings.now) (tree t.now)))) }
-    ensures size { IfSome result (λ n. n ≡ size_of (apply (solution bindings.now) (tree t.now))) }
+        IsTrue (within_limits (apply (solution bindings.now.list.items) (tree t.now)))) }
+    ensures size { IfSome result (λ n. n ≡ size_of (apply (solution bindings.now.list.items) (tree t.now))) }
 {
     let size = size(bindings, t);
+    if size <= GREATEST_DEPTH {
+        return Some(size);
+    }
     if size <= MOST_NODES && depth(bindings, t) <= GREATEST_DEPTH {
         Some(size)
     } else {
@@ -30,11 +35,11 @@ pub(crate) fn small_size(bindings: &[Binding], t: &Term) -> Option<u64>
     }
 }
 
-fn size(bindings: &[Binding], t: &Term) -> u64
-    ensures { result ≡ stopped_size (apply (solution bindings.now) (tree t.now)) }
+fn size(bindings: &Bindings, t: &Term) -> u64
+    ensures { result ≡ stopped_size (apply (solution bindings.now.list.items) (tree t.now)) }
 {
     match t {
-        Term::Var(v) => match find(bindings, *v) {
+        Term::Var(v) => match bindings.find(*v) {
             None => 1,
             Some(bound) => bound.size(),
         },
@@ -48,11 +53,11 @@ fn size(bindings: &[Binding], t: &Term) -> u64
     }
 }
 
-fn depth(bindings: &[Binding], t: &Term) -> u64
-    ensures { result ≡ stopped_depth (apply (solution bindings.now) (tree t.now)) }
+fn depth(bindings: &Bindings, t: &Term) -> u64
+    ensures { result ≡ stopped_depth (apply (solution bindings.now.list.items) (tree t.now)) }
 {
     match t {
-        Term::Var(v) => match find(bindings, *v) {
+        Term::Var(v) => match bindings.find(*v) {
             None => 1,
             Some(bound) => bound.depth(),
         },
@@ -67,20 +72,20 @@ fn depth(bindings: &[Binding], t: &Term) -> u64
 }
 
 /// The instance of a term, with new numbers for its variables: those that are not yet among the
-/// names come behind them as they are met. Names are looked for one by one.
+/// names come behind them as they are met.
 pub(crate) fn renumber(
     alloc: Global,
-    bindings: &[Binding],
+    bindings: &Bindings,
     t: &Term,
-    names: &mut Vec<u32>,
+    names: &mut Names,
 ) -> Result<Term, OutOfMemory>
-    requires { IsDistinct names.old.items }
-    ensures distinct { OnOk result (IsDistinct names.new.items) }
-    ensures renamed { IfOk result (λ u. IsRenamed names.old.items names.new.items
-        (apply (solution bindings.now) (tree t.now)) (tree u)) }
+    requires { IsDistinct names.old.order.items }
+    ensures distinct { OnOk result (IsDistinct names.new.order.items) }
+    ensures renamed { IfOk result (λ u. IsRenamed names.old.order.items names.new.order.items
+        (apply (solution bindings.now.list.items) (tree t.now)) (tree u)) }
 {
     match t {
-        Term::Var(v) => match find(bindings, *v) {
+        Term::Var(v) => match bindings.find(*v) {
             None => number_variable(*v, names),
             Some(bound) => number_variables(alloc, bound, names),
         },
@@ -95,12 +100,12 @@ pub(crate) fn renumber(
 }
 
 /// The term, with new numbers for its variables, from 0 on: those that are not yet among the names
-/// come behind them as they are met. Names are looked for one by one.
-fn number_variables(alloc: Global, t: &Term, names: &mut Vec<u32>) -> Result<Term, OutOfMemory>
-    requires { IsDistinct names.old.items }
-    ensures distinct { OnOk result (IsDistinct names.new.items) }
+/// come behind them as they are met.
+fn number_variables(alloc: Global, t: &Term, names: &mut Names) -> Result<Term, OutOfMemory>
+    requires { IsDistinct names.old.order.items }
+    ensures distinct { OnOk result (IsDistinct names.new.order.items) }
     ensures renamed { IfOk result (λ u.
-        IsRenamed names.old.items names.new.items (tree t.now) (tree u)) }
+        IsRenamed names.old.order.items names.new.order.items (tree t.now) (tree u)) }
 {
     match t {
         Term::Var(v) => number_variable(*v, names),
@@ -115,11 +120,11 @@ fn number_variables(alloc: Global, t: &Term, names: &mut Vec<u32>) -> Result<Ter
 }
 
 /// The variable with its number, or with the next one.
-fn number_variable(v: u32, names: &mut Vec<u32>) -> Result<Term, OutOfMemory>
-    requires { IsDistinct names.old.items }
-    ensures distinct { OnOk result (IsDistinct names.new.items) }
+fn number_variable(v: u32, names: &mut Names) -> Result<Term, OutOfMemory>
+    requires { IsDistinct names.old.order.items }
+    ensures distinct { OnOk result (IsDistinct names.new.order.items) }
     ensures renamed { IfOk result (λ u.
-        IsRenamed names.old.items names.new.items (var v) (tree u)) }
+        IsRenamed names.old.order.items names.new.order.items (var v) (tree u)) }
 {
     Ok(Term::Var(number_of(v, names)?))
 }
@@ -127,17 +132,17 @@ fn number_variable(v: u32, names: &mut Vec<u32>) -> Result<Term, OutOfMemory>
 /// Gives numbers to the variables of an instance that have none yet, as they are met. The instance is
 /// not built.
 pub(crate) fn name_instance(
-    bindings: &[Binding],
+    bindings: &Bindings,
     t: &Term,
-    names: &mut Vec<u32>,
+    names: &mut Names,
 ) -> Result<(), OutOfMemory>
-    requires { IsDistinct names.old.items }
-    ensures distinct { OnOk result (IsDistinct names.new.items) }
-    ensures order { OnOk result (names.new.items
-        ≡ with_variables names.old.items (apply (solution bindings.now) (tree t.now))) }
+    requires { IsDistinct names.old.order.items }
+    ensures distinct { OnOk result (IsDistinct names.new.order.items) }
+    ensures order { OnOk result (names.new.order.items
+        ≡ with_variables names.old.order.items (apply (solution bindings.now.list.items) (tree t.now))) }
 {
     match t {
-        Term::Var(v) => match find(bindings, *v) {
+        Term::Var(v) => match bindings.find(*v) {
             None => {
                 number_of(*v, names)?;
                 Ok(())
@@ -154,11 +159,11 @@ pub(crate) fn name_instance(
 }
 
 /// Gives numbers to the variables of a term that have none yet, as they are met.
-fn name_variables(t: &Term, names: &mut Vec<u32>) -> Result<(), OutOfMemory>
-    requires { IsDistinct names.old.items }
-    ensures distinct { OnOk result (IsDistinct names.new.items) }
+fn name_variables(t: &Term, names: &mut Names) -> Result<(), OutOfMemory>
+    requires { IsDistinct names.old.order.items }
+    ensures distinct { OnOk result (IsDistinct names.new.order.items) }
     ensures order { OnOk result
-        (names.new.items ≡ with_variables names.old.items (tree t.now)) }
+        (names.new.order.items ≡ with_variables names.old.order.items (tree t.now)) }
 {
     match t {
         Term::Var(v) => {
@@ -175,22 +180,23 @@ fn name_variables(t: &Term, names: &mut Vec<u32>) -> Result<(), OutOfMemory>
 }
 
 /// The number of a variable, or the next one. A list of 2^32 - 1 names is full.
-fn number_of(v: u32, names: &mut Vec<u32>) -> Result<u32, OutOfMemory>
-    requires { IsDistinct names.old.items }
-    ensures distinct { OnOk result (IsDistinct names.new.items) }
+fn number_of(v: u32, names: &mut Names) -> Result<u32, OutOfMemory>
+    requires { IsDistinct names.old.order.items }
+    ensures distinct { OnOk result (IsDistinct names.new.order.items) }
     ensures renamed { IfOk result (λ number.
-        IsRenamed names.old.items names.new.items (var v) (var number)) }
-    ensures order { OnOk result (names.new.items ≡ with_variables names.old.items (var v)) }
+        IsRenamed names.old.order.items names.new.order.items (var v) (var number)) }
+    ensures order { OnOk result
+        (names.new.order.items ≡ with_variables names.old.order.items (var v)) }
 {
-    let next = names.len();
+    let next = names.order.len();
     if next >= 4_294_967_295 {
         return Err(OutOfMemory);
     }
-    for (i, name) in names.iter().enumerate() {
-        if *name == v {
-            return Ok(i as u32);
+    match names.place(v) {
+        Some(place) => Ok(place as u32),
+        None => {
+            names.add(v)?;
+            Ok(next as u32)
         }
     }
-    names.push(v)?;
-    Ok(next as u32)
 }

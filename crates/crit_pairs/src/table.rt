@@ -92,6 +92,7 @@ impl PeakTable {
             done: 0,
             nodes: self.nodes,
             room,
+            places: Vec::new(alloc),
         };
         match grow_all(alloc, rules, &prepared, &rights, known, pool, &mut growth) {
             Ok(()) => Ok(Some(PeakTable {

@@ -8,7 +8,8 @@ ghost use Rattle.crit_pairs.specs.Overlapping.{substitution};
 ghost use Rattle.crit_pairs.specs.Sides.{AreRenumbered};
 ghost use Rattle.crit_pairs.specs.UnbuiltTop.{seen_pair, bound_pair, seen_substitution};
 
-use crate::meeting::Binding;
+use crate::binding_table::{Binding, Bindings};
+use crate::names::Names;
 use crate::overlapping::OverlapUnifier;
 use crate::sides::{PeakTop, Sides};
 use crate::solved;
@@ -79,7 +80,7 @@ fn seen_unifier(alloc: Global, unifier: &OverlapUnifier) -> Result<SeenUnifier, 
 {
     match unifier {
         OverlapUnifier::Bound(bindings) => {
-            let seen = seen_bindings(alloc, bindings)?;
+            let seen = seen_bindings(alloc, &bindings.list)?;
             Ok(SeenUnifier::Bound(seen))
         }
         OverlapUnifier::Shared(found) => Ok(SeenUnifier::Shared(Snapshot::of(found))),
@@ -144,18 +145,18 @@ pub(crate) fn results(
 
 fn bound_results(
     alloc: Global,
-    bindings: &[Binding],
+    bindings: &Bindings,
     top: &Term,
     left: &Term,
     right: &Term,
 ) -> Result<(Term, Term), OutOfMemory>
     ensures { IfOk result (λ s. AreRenumbered
-        (apply (solution bindings.now) (tree top.now))
-        (apply (solution bindings.now) (tree left.now))
-        (apply (solution bindings.now) (tree right.now))
-        (in_order (apply (solution bindings.now) (tree top.now))) (tree s.0) (tree s.1)) }
+        (apply (solution bindings.now.list.items) (tree top.now))
+        (apply (solution bindings.now.list.items) (tree left.now))
+        (apply (solution bindings.now.list.items) (tree right.now))
+        (in_order (apply (solution bindings.now.list.items) (tree top.now))) (tree s.0) (tree s.1)) }
 {
-    let mut names = Vec::new(alloc);
+    let mut names = Names::none(alloc);
     solved::name_instance(bindings, top, &mut names)?;
     let first = solved::renumber(alloc, bindings, left, &mut names)?;
     let second = solved::renumber(alloc, bindings, right, &mut names)?;

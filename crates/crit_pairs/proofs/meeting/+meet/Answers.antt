@@ -9,7 +9,7 @@ use Rattle.crit_pairs.proofs.meeting.+meet.Goals as goal
 pub meet-returns-then-f-g : goal.meet-returns-then-f-g
 meet-returns-then-f-g t c =
     let a = c.in-App-App in
-    clash c.args.bindings.now.items a.f a.g c.fs.inside.items.items c.gs.inside.items.items (tree c.args.a.now) (tree c.args.b.now)
+    clash c.args.bindings.now.list.items a.f a.g c.fs.inside.items.items c.gs.inside.items.items (tree c.args.a.now) (tree c.args.b.now)
     (applied c.fs.inside.items.items a.f _ (tree c.args.a.now) (ap trees c.fs.view_is) (ap tree a.is-0)) (applied c.gs.inside.items.items a.g _ (tree c.args.b.now) (ap trees c.gs.view_is) (ap tree a.is-1))
     (elim c.then-f-g.branch [
       | meet-then-f-g-via-then-f-g w ↦ λ same l. w.if-f-g.true same
@@ -33,15 +33,15 @@ pub meet-returns-in-Apart : goal.meet-returns-in-Apart
 meet-returns-in-Apart t c =
     let a = (goal.at.meet-returns-in-Apart t c).After-deref-x-items in
     let h = c.loop-i.invariant in
-    never_meets c.args.bindings.now.items c.loop-i.bindings.items c.deref-x-items.result.now c.gs.inside.items.items c.loop-i.i c.x-item.result c.index.result.now c.in-App-App.f c.in-App-App.g
+    never_meets c.args.bindings.now.list.items c.loop-i.bindings.list.items c.deref-x-items.result.now c.gs.inside.items.items c.loop-i.i c.x-item.result c.index.result.now c.in-App-App.f c.in-App-App.g
     (tree c.args.a.now) (tree c.args.b.now) (left t a) (right t a) c.loop-i-test.true h.same_length c.x-item.is c.index.ensures h.follow (rw c.in-Apart.is at c.in_ok-meeting-in-App-App.ensures)
 
 pub meet-loop-i-preserved : goal.meet-loop-i-preserved
 meet-loop-i-preserved t c =
     let h = c.loop-i.invariant in
-    let old = c.args.bindings.now.items in
-    let mid = c.loop-i.bindings.items in
-    let new = c.meet.new.bindings.items in
+    let old = c.args.bindings.now.list.items in
+    let mid = c.loop-i.bindings.list.items in
+    let new = c.meet.new.bindings.list.items in
     let xs = c.deref-x-items.result.now in
     let ys = c.gs.inside.items.items in
     let follow = next_follows old mid new xs ys c.loop-i.i c.x-item.result c.index.result.now c.loop-i-test.true h.same_length c.x-item.is c.index.ensures h.follow in
@@ -63,11 +63,11 @@ pub meet-returns-then-is_clear : goal.meet-returns-then-is_clear
 meet-returns-then-is_clear t c =
     let a = (goal.at.meet-returns-then-is_clear t c).After-deref-x-items in
     let h = c.loop-i.invariant in
-    all_meet c.args.bindings.now.items c.loop-i.bindings.items c.deref-x-items.result.now c.gs.inside.items.items c.loop-i.i c.in-App-App.f c.in-App-App.g (tree c.args.a.now) (tree c.args.b.now)
+    all_meet c.args.bindings.now.list.items c.loop-i.bindings.list.items c.deref-x-items.result.now c.gs.inside.items.items c.loop-i.i c.in-App-App.f c.in-App-App.g (tree c.args.a.now) (tree c.args.b.now)
     (left t a) (right t a) c.if-f-g.false h.same_length c.loop-i-test.false (h.says c.if-is_clear.true)
 
 pub meet-returns-else-is_clear : goal.meet-returns-else-is_clear
 meet-returns-else-is_clear t c =
     let a = (goal.at.meet-returns-else-is_clear t c).After-deref-x-items in
-    all_follow c.args.bindings.now.items c.loop-i.bindings.items c.deref-x-items.result.now c.gs.inside.items.items c.loop-i.i c.in-App-App.f c.in-App-App.g (tree c.args.a.now) (tree c.args.b.now)
+    all_follow c.args.bindings.now.list.items c.loop-i.bindings.list.items c.deref-x-items.result.now c.gs.inside.items.items c.loop-i.i c.in-App-App.f c.in-App-App.g (tree c.args.a.now) (tree c.args.b.now)
     (left t a) (right t a) c.loop-i.invariant.follow

@@ -14,6 +14,6 @@ decreases-meet_bound l = 3 * l.levels
 abbrev pub invariant-meet-loop-i : goal.invariant-meet-loop-i
 invariant-meet-loop-i l = record {
   same_length : length l.x-items ≡ length l.gs-inside.items.items;
-  follow : FollowFromWhole l.fn.bindings.items l.x-items l.gs-inside.items.items l.bindings.items (drop l.i l.x-items) (drop l.i l.gs-inside.items.items);
-  says : l.is_clear ≡ true → SaysAsWhole l.fn.bindings.items l.x-items l.gs-inside.items.items l.bindings.items (drop l.i l.x-items) (drop l.i l.gs-inside.items.items);
+  follow : FollowFromWhole l.fn.bindings.list.items l.x-items l.gs-inside.items.items l.bindings.list.items (drop l.i l.x-items) (drop l.i l.gs-inside.items.items);
+  says : l.is_clear ≡ true → SaysAsWhole l.fn.bindings.list.items l.x-items l.gs-inside.items.items l.bindings.list.items (drop l.i l.x-items) (drop l.i l.gs-inside.items.items);
 }

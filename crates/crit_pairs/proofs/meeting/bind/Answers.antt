@@ -4,4 +4,4 @@ use Rattle.crit_pairs.proofs.meeting.bind.Goals as goal
 
 pub returns : goal.returns
 returns c = λ θ.
-    solves_more c.args.bindings.now.items c.add_binding.new.bindings.items _ c.in_ok-add_binding.ensures (rw c.deref.ensures.value at (sym c.in_default.ensures)) θ
+    solves_more c.args.bindings.now.list.items c.add.new.self.list.items _ c.in_ok-add.ensures (sym c.in_default.ensures) θ

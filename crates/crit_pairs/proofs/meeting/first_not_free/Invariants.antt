@@ -4,4 +4,4 @@ use Rattle.crit_pairs.specs.Meeting.{IsFree}
 use Rattle.crit_pairs.proofs.meeting.first_not_free.Given as goal
 
 abbrev pub invariant-loop-place : goal.invariant-loop-place
-invariant-loop-place l = All (λ b. IsFree l.bindings (tree b.term.now)) (take l.place l.bindings)
+invariant-loop-place l = All (λ b. IsFree l.bindings.list.items (tree b.term.now)) (take l.place l.bindings.list.items)

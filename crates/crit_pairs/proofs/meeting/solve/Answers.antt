@@ -4,21 +4,21 @@ use Rattle.crit_pairs.proofs.meeting.solve.Goals as goal
 
 pub returns-in-None : goal.returns-in-None
 returns-in-None c =
-    solution_found (tree c.args.a.now) (tree c.args.b.now) c.new-bindings.result.items c.meet.new.bindings.items c.new-bindings.ensures.items
-    (rw c.in-Met.is at c.in_ok-meeting.ensures) (rw c.deref-in-Met.ensures.value at c.in-None.ensures)
+    solution_found (tree c.args.a.now) (tree c.args.b.now) c.none-bindings.result.list.items c.meet.new.bindings.list.items c.none-bindings.ensures
+    (rw c.in-Met.is at c.in_ok-meeting.ensures) c.in-None.ensures
 
 pub returns-in-Apart : goal.returns-in-Apart
 returns-in-Apart c =
-    no_solution (tree c.args.a.now) (tree c.args.b.now) c.new-bindings.result.items c.new-bindings.ensures.items (rw c.in-Apart.is at c.in_ok-meeting.ensures)
+    no_solution (tree c.args.a.now) (tree c.args.b.now) c.none-bindings.result.list.items c.none-bindings.ensures (rw c.in-Apart.is at c.in_ok-meeting.ensures)
 
 pub returns-in-Unclear : goal.returns-in-Unclear
 returns-in-Unclear c =
     c.refute.ensures (tree c.args.a.now) (tree c.args.b.now)
-    (rw c.deref.ensures.value (equal_at_most (tree c.args.a.now) (tree c.args.b.now) c.new-bindings.result.items c.meet.new.bindings.items c.new-bindings.ensures.items
-    (rw c.in-Unclear.is at c.in_ok-meeting.ensures)))
+    (equal_at_most (tree c.args.a.now) (tree c.args.b.now) c.none-bindings.result.list.items c.meet.new.bindings.list.items c.none-bindings.ensures
+    (rw c.in-Unclear.is at c.in_ok-meeting.ensures))
 
 pub returns : goal.returns
 returns c =
     c.refute-in-Some.ensures (tree c.args.a.now) (tree c.args.b.now)
-    (rw c.deref-in-Some.ensures.value (equal_at_most (tree c.args.a.now) (tree c.args.b.now) c.new-bindings.result.items c.meet.new.bindings.items c.new-bindings.ensures.items
-    (λ θ s e. ((rw c.in-Met.is at c.in_ok-meeting.ensures) θ).0 (s, e))))
+    (equal_at_most (tree c.args.a.now) (tree c.args.b.now) c.none-bindings.result.list.items c.meet.new.bindings.list.items c.none-bindings.ensures
+    (λ θ s e. ((rw c.in-Met.is at c.in_ok-meeting.ensures) θ).0 (s, e)))

@@ -7,4 +7,4 @@ use Rattle.crit_pairs.proofs.solved.+depth.Given as goal
 
 abbrev pub invariant-loop-arg : goal.invariant-loop-arg
 invariant-loop-arg l =
-    min (1 + max l.deepest (depth_of_all (apply_all (solution l.bindings) (forest (drop l.arg-index l.arg-items))))) (2 ^ 64 - 1) ≡ min (depth_of (apply (solution l.bindings) (tree l.t))) (2 ^ 64 - 1)
+    min (1 + max l.deepest (depth_of_all (apply_all (solution l.bindings.list.items) (forest (drop l.arg-index l.arg-items))))) (2 ^ 64 - 1) ≡ min (depth_of (apply (solution l.bindings.list.items) (tree l.t))) (2 ^ 64 - 1)

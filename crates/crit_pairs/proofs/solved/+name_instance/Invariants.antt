@@ -8,6 +8,6 @@ use Rattle.crit_pairs.proofs.solved.+name_instance.Given as goal
 
 abbrev pub invariant-loop-arg : goal.invariant-loop-arg
 invariant-loop-arg l = record {
-  distinct : IsDistinct l.names.items;
-  order : with_variables_of_all l.names.items (apply_all (solution l.bindings) (forest (drop l.arg-index l.arg-items))) ≡ with_variables l.fn.names.items (apply (solution l.bindings) (tree l.t));
+  distinct : IsDistinct l.names.order.items;
+  order : with_variables_of_all l.names.order.items (apply_all (solution l.bindings.list.items) (forest (drop l.arg-index l.arg-items))) ≡ with_variables l.fn.names.order.items (apply (solution l.bindings.list.items) (tree l.t));
 }

@@ -6,6 +6,6 @@ use Rattle.crit_pairs.proofs.solved.+name_variables.Given as goal
 
 abbrev pub invariant-loop-arg : goal.invariant-loop-arg
 invariant-loop-arg l = record {
-  distinct : IsDistinct l.names.items;
-  order : with_variables_of_all l.names.items (forest (drop l.arg-index l.arg-items)) ≡ with_variables l.fn.names.items (tree l.t);
+  distinct : IsDistinct l.names.order.items;
+  order : with_variables_of_all l.names.order.items (forest (drop l.arg-index l.arg-items)) ≡ with_variables l.fn.names.order.items (tree l.t);
 }

@@ -7,8 +7,8 @@ use Rattle.crit_pairs.proofs.solved.+number_variables.Given as goal
 
 abbrev pub invariant-loop-arg : goal.invariant-loop-arg
 invariant-loop-arg l = record {
-  distinct : IsDistinct l.names.items;
-  renaming : AreRenaming l.fn.names.items l.f (tree l.t) (map tree l.built.items) l.names.items (forest (drop l.arg-index l.arg-items));
+  distinct : IsDistinct l.names.order.items;
+  renaming : AreRenaming l.fn.names.order.items l.f (tree l.t) (map tree l.built.items) l.names.order.items (forest (drop l.arg-index l.arg-items));
 }
 
 abbrev pub decreases-number_variables : goal.decreases-number_variables

@@ -18,19 +18,19 @@ loop-arg-init t c =
     let is : tree c.args.t.now ≡ app c.in-App.f (forest c.deref-arg-items.result.now) = rw (c.in-App.is, ← c.args-in-App.view_is, c.deref-arg-items.ensures.value) refl in
     record {
       distinct = c.requires;
-      renaming = renaming_begins c.args.names.now.items c.in-App.f _ _ (apply_all (solution c.args.bindings.now) (forest c.deref-arg-items.result.now)) (ap (map tree) c.in_ok-built-in-App.ensures.items) (ap (apply (solution c.args.bindings.now)) is);
+      renaming = renaming_begins c.args.names.now.order.items c.in-App.f _ _ (apply_all (solution c.args.bindings.now.list.items) (forest c.deref-arg-items.result.now)) (ap (map tree) c.in_ok-built-in-App.ensures.items) (ap (apply (solution c.args.bindings.now.list.items)) is);
     }
 
 pub loop-arg-preserved : goal.loop-arg-preserved
 loop-arg-preserved t c = record {
   distinct = c.in_ok-renumber-in-App.ensures.distinct;
-  renaming = renaming_goes_on c.args.names.now.items c.loop-arg.names.items c.renumber.new.names.items c.in-App.f _ _ _ _ _ _ _
-      (next_instance (solution c.args.bindings.now) c.deref-arg-items.result.now c.loop-arg.arg-index c.arg-item.result c.loop-arg-test.true c.arg-item.is)
+  renaming = renaming_goes_on c.args.names.now.order.items c.loop-arg.names.order.items c.renumber.new.names.order.items c.in-App.f _ _ _ _ _ _ _
+      (next_instance (solution c.args.bindings.now.list.items) c.deref-arg-items.result.now c.loop-arg.arg-index c.arg-item.result c.loop-arg-test.true c.arg-item.is)
       (built_more c.loop-arg.built.items c.push.new.self.items c.in_ok-renumber-in-App.field-0 c.in_ok-push-in-App.ensures.items)
       c.loop-arg.invariant.renaming c.in_ok-renumber-in-App.ensures.renamed;
 }
 
 pub returns-after-loop-arg-clause-renamed : goal.returns-after-loop-arg-clause-renamed
 returns-after-loop-arg-clause-renamed t c =
-    renaming_ends c.args.names.now.items c.loop-arg.names.items c.in-App.f _ _ _
-    (no_instance_left (solution c.args.bindings.now) c.deref-arg-items.result.now c.loop-arg.arg-index c.loop-arg-test.false) c.loop-arg.invariant.renaming
+    renaming_ends c.args.names.now.order.items c.loop-arg.names.order.items c.in-App.f _ _ _
+    (no_instance_left (solution c.args.bindings.now.list.items) c.deref-arg-items.result.now c.loop-arg.arg-index c.loop-arg-test.false) c.loop-arg.invariant.renaming

@@ -9,8 +9,8 @@ use Rattle.crit_pairs.proofs.solved.+renumber.Given as goal
 
 abbrev pub invariant-loop-arg : goal.invariant-loop-arg
 invariant-loop-arg l = record {
-  distinct : IsDistinct l.names.items;
-  renaming : AreRenaming l.fn.names.items l.f (apply (solution l.bindings) (tree l.t)) (map tree l.built.items) l.names.items (apply_all (solution l.bindings) (forest (drop l.arg-index l.arg-items)));
+  distinct : IsDistinct l.names.order.items;
+  renaming : AreRenaming l.fn.names.order.items l.f (apply (solution l.bindings.list.items) (tree l.t)) (map tree l.built.items) l.names.order.items (apply_all (solution l.bindings.list.items) (forest (drop l.arg-index l.arg-items)));
 }
 
 abbrev pub decreases-renumber : goal.decreases-renumber

@@ -8,4 +8,4 @@ use Rattle.crit_pairs.proofs.solved.+size.Given as goal
 abbrev pub invariant-loop-arg : goal.invariant-loop-arg
 invariant-loop-arg l =
     (l.total < 2 ^ 64)
-    × (min (l.total + size_of_all (apply_all (solution l.bindings) (forest (drop l.arg-index l.arg-items)))) (2 ^ 64 - 1) ≡ min (size_of (apply (solution l.bindings) (tree l.t))) (2 ^ 64 - 1))
+    × (min (l.total + size_of_all (apply_all (solution l.bindings.list.items) (forest (drop l.arg-index l.arg-items)))) (2 ^ 64 - 1) ≡ min (size_of (apply (solution l.bindings.list.items) (tree l.t))) (2 ^ 64 - 1))

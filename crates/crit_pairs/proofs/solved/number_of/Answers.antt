@@ -1,34 +1,25 @@
 use Rattle.std.proofs.Common.{◌≡◌, length, sym, arith}
+use Rattle.std.proofs.lemmas.Option.{slice_get_within}
 use Rattle.trs_unify.proofs.ListedVariables.{one_known, one_new}
 use Rattle.trs_unify.proofs.NewNames.{known_at, new_at}
-use Rattle.crit_pairs.proofs.Renumbering.{distinct_more, name_here, name_passed, name_absent}
+use Rattle.crit_pairs.proofs.Renumbering.{distinct_more}
 use Rattle.crit_pairs.proofs.solved.number_of.Goals as goal
 
-pub loop-i-init : goal.loop-i-init
-loop-i-init c = λ k h e. absurd (omega (arith, h))
+pub returns-in-Some-clause-renamed : goal.returns-in-Some-clause-renamed
+returns-in-Some-clause-renamed c = known_at c.args.names.now.order.items c.args.v c.in-Some.place c.in-Some.ensures.some
 
-pub returns-then-name-v-clause-renamed : goal.returns-then-name-v-clause-renamed
-returns-then-name-v-clause-renamed c =
-    known_at c.args.names.now.items c.args.v c.loop-i.i (rw c.deref-name-items.ensures.value at (name_here c.deref-name-items.result.now c.loop-i.i c.args.v c.loop-i-test.true c.if-name-v.true))
+pub returns-in-Some-clause-order : goal.returns-in-Some-clause-order
+returns-in-Some-clause-order c = sym (one_known c.args.names.now.order.items c.in-Some.place c.args.v c.in-Some.ensures.some)
 
-pub returns-then-name-v-clause-order : goal.returns-then-name-v-clause-order
-returns-then-name-v-clause-order c =
-    sym (one_known c.args.names.now.items c.loop-i.i c.args.v (rw c.deref-name-items.ensures.value at (name_here c.deref-name-items.result.now c.loop-i.i c.args.v c.loop-i-test.true c.if-name-v.true)))
+pub returns-in_ok-add-in-None-clause-distinct : goal.returns-in_ok-add-in-None-clause-distinct
+returns-in_ok-add-in-None-clause-distinct c =
+    rw c.in_ok-add-in-None.ensures (distinct_more c.args.names.now.order.items c.args.v c.requires c.in-None.ensures.none)
 
-pub loop-i-preserved : goal.loop-i-preserved
-loop-i-preserved c = name_passed c.deref-name-items.result.now c.loop-i.i c.args.v c.if-name-v.false c.loop-i.invariant
+pub returns-in_ok-add-in-None-clause-renamed : goal.returns-in_ok-add-in-None-clause-renamed
+returns-in_ok-add-in-None-clause-renamed c =
+    let long : c.len-next.result ≡ length c.args.names.now.order.items = omega (arith, c.len-next.ensures, c.args.names.now.order.ok.0) in
+    rw (c.in_ok-add-in-None.ensures, long) (new_at c.args.names.now.order.items c.args.v)
 
-pub returns-clause-distinct : goal.returns-clause-distinct
-returns-clause-distinct c =
-    rw c.in_ok-push.ensures.items (distinct_more c.args.names.now.items c.args.v c.requires
-    (rw c.deref-name-items.ensures.value at (name_absent c.deref-name-items.result.now c.loop-i.i c.args.v c.loop-i-test.false c.loop-i.invariant)))
-
-pub returns-clause-renamed : goal.returns-clause-renamed
-returns-clause-renamed c =
-    let long : c.len-next.result ≡ length c.args.names.now.items = omega (arith, c.len-next.ensures, c.args.names.now.ok) in
-    rw (c.in_ok-push.ensures.items, long) (new_at c.args.names.now.items c.args.v)
-
-pub returns-clause-order : goal.returns-clause-order
-returns-clause-order c =
-    rw c.in_ok-push.ensures.items (sym (one_new c.args.names.now.items c.args.v
-    (rw c.deref-name-items.ensures.value at (name_absent c.deref-name-items.result.now c.loop-i.i c.args.v c.loop-i-test.false c.loop-i.invariant))))
+pub returns-in_ok-add-in-None-clause-order : goal.returns-in_ok-add-in-None-clause-order
+returns-in_ok-add-in-None-clause-order c =
+    rw c.in_ok-add-in-None.ensures (sym (one_new c.args.names.now.order.items c.args.v c.in-None.ensures.none))

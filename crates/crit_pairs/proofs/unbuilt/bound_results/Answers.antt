@@ -10,16 +10,16 @@ use Rattle.crit_pairs.proofs.Renumbering.{none_distinct}
 use Rattle.crit_pairs.proofs.unbuilt.bound_results.Goals as goal
 
 pub name_instance-requires : goal.name_instance-requires
-name_instance-requires c = rw c.new-names.ensures.items none_distinct
+name_instance-requires c = rw c.none-names.ensures none_distinct
 
 pub returns : goal.returns
 returns c =
-    let top = apply (solution c.args.bindings.now) (tree c.args.top.now) in
-    let named : c.name_instance.new.names.items ≡ variables_of top = rw c.new-names.ensures.items at c.in_ok-name_instance.ensures.order in
+    let top = apply (solution c.args.bindings.now.list.items) (tree c.args.top.now) in
+    let named : c.name_instance.new.names.order.items ≡ variables_of top = rw c.none-names.ensures at c.in_ok-name_instance.ensures.order in
     record {
-      first = c.name_instance.new.names.items;
-      second = c.renumber.new.names.items;
-      third = c.renumber-2.new.names.items;
+      first = c.name_instance.new.names.order.items;
+      second = c.renumber.new.names.order.items;
+      third = c.renumber-2.new.names.order.items;
       top_renamed = subst (λ names. IsRenamed [] names top (in_order top)) (sym named) (in_order_renamed top);
       left_renamed = c.in_ok-first.ensures.renamed;
       right_renamed = c.in_ok-second.ensures.renamed;

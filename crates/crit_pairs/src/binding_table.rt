@@ -1,0 +1,124 @@
+//! Variables that are bound to terms one after another.
+ghost use Rattle.crit_pairs.specs.Slots.{ArePlaced, bound_variable};
+
+use crate::slots::{note_place, slot};
+use std::alloc::Global;
+use trs_core::{OutOfMemory, Term};
+
+/// For how many bindings room is made at once.
+const ROOM: usize = 16;
+
+/// A variable, and the term that it must be equal to.
+#[derive(Clone, Copy)]
+pub(crate) struct Binding<'a> {
+    pub variable: u32,
+    pub term: &'a Term,
+}
+
+/// Bindings in order, which are found by the slots of their variables.
+#[derive(Drop)]
+pub(crate) struct Bindings<'a> {
+    pub list: Vec<Binding<'a>>,
+    /// At the slot of each variable that is bound stands the place of its binding. At the other slots
+    /// stands whatever bindings before these left there, so that nothing has to be cleared.
+    places: Vec<usize>,
+    ghost placed: { ArePlaced bound_variable places.items list.items },
+}
+
+impl<'a> Bindings<'a> {
+    ghost use Rattle.std.specs.Prelude.{◌≡◌, ◌<◌, ◌++◌, [], ◌∷◌, None, OnOk, vec_len, vec_capacity};
+    ghost use Rattle.std.specs.Option.{option_map};
+    ghost use Rattle.trs_core.specs.View.{tree};
+    ghost use Rattle.crit_pairs.specs.Meeting.{bound_term, SameUnder};
+
+    /// No variable is bound. Places that other bindings had are used anew.
+    pub fn none(alloc: Global, places: Vec<usize>) -> Bindings<'a>
+        ensures { result.list.items ≡ [] }
+    {
+        Bindings {
+            list: Vec::new(alloc),
+            places,
+        }
+    }
+
+    /// Hands back the places, for other bindings.
+    pub fn into_places(self) -> Vec<usize> {
+        self.places
+    }
+
+    /// The place of a variable's binding.
+    pub fn place(&self, v: u32) -> Option<usize> {
+        let place = *self.places.get(slot(v))?;
+        let binding = self.list.get(place)?;
+        if binding.variable == v {
+            Some(place)
+        } else {
+            None
+        }
+    }
+
+    /// The term that a variable is bound to.
+    #[inline(always)]
+    pub fn find(&self, v: u32) -> Option<&'a Term>
+        ensures { option_map (λ t. tree t.now) result ≡ bound_term self.now.list.items v }
+    {
+        let place = *self.places.get(slot(v))?;
+        let binding = self.list.get(place)?;
+        if binding.variable == v {
+            Some(binding.term)
+        } else {
+            None
+        }
+    }
+
+    /// What a term stands for: the end of the bindings that lead from a variable to others.
+    pub fn resolve(&self, t: &'a Term) -> &'a Term
+        ensures { SameUnder self.now.list.items (tree t.now) (tree result.now) }
+    {
+        let mut current = t;
+        for _ in 0..self.list.len() {
+            let Term::Var(v) = current else {
+                return current;
+            };
+            match self.find(*v) {
+                None => return current,
+                Some(next) => current = next,
+            }
+        }
+        current
+    }
+
+    /// One more binding, of a variable that is not bound.
+    #[inline(always)]
+    pub fn add(&mut self, binding: Binding<'a>) -> Result<(), OutOfMemory>
+        requires { bound_term self.old.list.items binding.variable ≡ None }
+        ensures { OnOk result (self.new.list.items ≡ self.old.list.items ++ binding.entry ∷ []) }
+    {
+        self.make_room()?;
+        let place = self.list.len();
+        note_place(&mut self.places, binding.variable, place)?;
+        self.list.push_reserved(binding);
+        Ok(())
+    }
+
+    /// Makes room for one more binding, and for some others: most overlaps bind nothing.
+    #[inline(always)]
+    fn make_room(&mut self) -> Result<(), OutOfMemory>
+        ensures items { self.new.list.items ≡ self.old.list.items }
+        ensures room { OnOk result (vec_len self.new.list < vec_capacity self.new.list) }
+    {
+        if self.list.len() == self.list.capacity() {
+            self.list.reserve(ROOM)?;
+        }
+        Ok(())
+    }
+
+    /// The number of nodes of the largest term that a variable is bound to.
+    pub fn largest(&self) -> u64 {
+        let mut largest: u64 = 0;
+        for binding in &self.list {
+            largest = largest.max(binding.term.size());
+        }
+        largest
+    }
+}
