@@ -52,11 +52,7 @@ impl Names {
     {
         let place = *self.places.get(slot(v))?;
         let name = self.order.get(place)?;
-        if *name == v {
-            Some(place)
-        } else {
-            None
-        }
+        if *name == v { Some(place) } else { None }
     }
 
     /// The number of a variable among the first ones.

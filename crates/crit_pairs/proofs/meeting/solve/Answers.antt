@@ -17,8 +17,8 @@ returns-in-Unclear c =
     (equal_at_most (tree c.args.a.now) (tree c.args.b.now) c.none-bindings.result.list.items c.meet.new.bindings.list.items c.none-bindings.ensures
     (rw c.in-Unclear.is at c.in_ok-meeting.ensures))
 
-pub returns : goal.returns
-returns c =
+pub returns-in-Some : goal.returns-in-Some
+returns-in-Some c =
     c.refute-in-Some.ensures (tree c.args.a.now) (tree c.args.b.now)
     (equal_at_most (tree c.args.a.now) (tree c.args.b.now) c.none-bindings.result.list.items c.meet.new.bindings.list.items c.none-bindings.ensures
     (λ θ s e. ((rw c.in-Met.is at c.in_ok-meeting.ensures) θ).0 (s, e)))

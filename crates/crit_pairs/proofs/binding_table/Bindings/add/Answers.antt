@@ -21,5 +21,5 @@ invariant_of-self-2 c =
     record {
       placed = one_placed c.note_place.new.places.items old.list.items c.push_reserved.new.self.items c.args.binding
           (still_placed old.places.items c.note_place.new.places.items old.list.items c.args.binding.variable old.placed c.note_place.ensures.others none)
-          (subst P long c.in_ok-note_place.ensures) c.push_reserved.ensures.items;
+          (subst P long c.in_ok-note_place.ensures.noted) c.push_reserved.ensures.items;
     }

@@ -17,5 +17,5 @@ invariant_of-self-2 c =
     record {
       noted = one_noted_if _ places names c.push.new.self.items c.args.v
           (still_noted c.args.self.now.places.items places names c.args.v c.args.self.now.noted c.note_later.ensures.others c.requires)
-          (subst P long c.in_ok-note_later.ensures) c.push.ensures.items;
+          (subst P long c.in_ok-note_later.ensures.noted) c.push.ensures.items;
     }
