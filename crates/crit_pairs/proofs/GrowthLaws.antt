@@ -169,11 +169,11 @@ module _ (rules : List RewriteRule) (j i from : ℕ) (p : List ℕ) (pool next :
         few = one.few;
       }
 
-  at_next_none : AddsNone rules (spot_unless j p i) pool growth next grown → IsAtSite rules (i + 1) from next grown (site j p) left after
-  at_next_none none =
-      let S : List Tree → Growth → Type 0 = λ ts g. IsAtSite rules (i + 1) from ts g (site j p) left after in
+  at_next_none : grown.done ≡ growth.done → AddsNone rules (spot_unless j p i) pool growth next grown → IsAtSite rules (i + 1) from next grown (site j p) left after
+  at_next_none same none =
+      let S : List Tree → Type 0 = λ ts. IsAtSite rules (i + 1) from ts grown (site j p) left after in
       let P : List PlacedPeak → Type 0 = PeaksAt rules (spots_at j p 0 (take (i + 1) rules)) in
-      subst (λ ts. S ts grown) (sym none.1) (subst (S pool) (sym none.2) (record {
+      subst S (sym none.1) (record {
         done = h.done;
         before = h.before;
         list = h.list;
@@ -182,18 +182,18 @@ module _ (rules : List RewriteRule) (j i from : ℕ) (p : List ℕ) (pool next :
         here = h.here;
         later = h.later;
         whole = h.whole;
-        lists = h.lists;
+        lists = none.2 ∙ h.lists;
         held = h.held;
         peaks = subst P (append-nil h.here) (more_peaks [] none.0);
         pairs = h.pairs;
         awaited = h.awaited;
-        count = h.count;
-        nodes = h.nodes;
-        few = h.few;
-      }))
+        count = same ∙ h.count;
+        nodes = none.3 ∙ h.nodes;
+        few = omega (arith, none.3, h.few);
+      })
 
   pub at_next : grown.done ≡ growth.done → Extends pool next → AddsPeaks rules (spot_unless j p i) pool growth next grown → IsAtSite rules (i + 1) from next grown (site j p) left after
-  at_next same more (inl none) = at_next_none none
+  at_next same more (inl none) = at_next_none same none
   at_next same more (inr one) = at_next_one (sym same) more one
 
 -- the site is done

@@ -1,5 +1,6 @@
 -- What is kept of the peaks, as spots are done.
 use Rattle.std.specs.Prelude.{min}
+use Rattle.std.specs.Global.{Vec}
 use Rattle.std.proofs.Common.{◌≡◌, ℕ, ◌+◌, ◌<◌, ◌≤◌, List, [], ◌∷◌, ◌++◌, length, take, drop, refl, sym, subst, ◌∙◌, ap, arith, IsTrue, Ok, length-append}
 use Rattle.std.proofs.Math.Decide.{dec_lt, dec_le}
 use Rattle.std.proofs.Math.Nat.{min-eq_left, min-eq_right}
@@ -112,9 +113,15 @@ module _ {T S : Type 0} (rules : List RewriteRule) (peaks new : Peaks T S) (befo
   one_listed is free = one_kept (is ∙ room peaks.most before p peaks.list.items h.kept free)
 
 -- no peak is here
-pub none_kept : {T S : Type 0} (rules : List RewriteRule) (peaks : Peaks T S) (spots : List Spot) (before : List PlacedPeak) → Keeps peaks before
-    → Moves rules before peaks.nodes spots before peaks.nodes [] → Reaches rules peaks.most before peaks.nodes spots peaks []
-none_kept rules peaks spots before h moves = record { all = before; keeps = h; same_most = refl; moves = moves }
+pub none_kept : {T S : Type 0} (rules : List RewriteRule) (peaks : Peaks T S) (places : Vec ℕ) (spots : List Spot) (before : List PlacedPeak) → Keeps peaks before
+    → Moves rules before peaks.nodes spots before peaks.nodes []
+    → Reaches {T = T} {S = S} rules peaks.most before peaks.nodes spots (record { list = peaks.list; most = peaks.most; count = peaks.count; nodes = peaks.nodes; places = places }) []
+none_kept rules peaks places spots before h moves = record {
+  all = before;
+  keeps = record { kept = h.kept; counted = h.counted; few = h.few; within = h.within };
+  same_most = refl;
+  moves = moves;
+}
 
 -- want of memory says nothing
 pub memory_ends : {T S : Type 0} (rules : List RewriteRule) (peaks : Peaks T S) (spots : List Spot) → StopsAt rules peaks spots peak.OutOfMemory

@@ -66,9 +66,9 @@ pub record AddsOne (rules : List RewriteRule) (spots : List Spot) (pool : List T
   pub nodes : grown.nodes ≡ growth.nodes + nodes_of_peak peak
   pub few : grown.nodes ≤ 4194304
 
--- no peak is at the spots, and nothing changes
+-- no peak is at the spots, and the pool and the lists stay as they are
 abbrev pub AddsNone : List RewriteRule → List Spot → List Tree → Growth → List Tree → Growth → Type 0
-AddsNone rules spots pool growth next grown = PeaksAt rules spots [] × (next ≡ pool) × (grown ≡ growth)
+AddsNone rules spots pool growth next grown = PeaksAt rules spots [] × (next ≡ pool) × (grown.lists.items ≡ growth.lists.items) × (grown.nodes ≡ growth.nodes)
 
 abbrev pub AddsPeaks : List RewriteRule → List Spot → List Tree → Growth → List Tree → Growth → Type 0
 AddsPeaks rules spots pool growth next grown = AddsNone rules spots pool growth next grown ⊎ AddsOne rules spots pool growth next grown

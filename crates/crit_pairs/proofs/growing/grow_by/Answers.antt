@@ -18,13 +18,14 @@ returns-then-clashes-clause-adds c =
       none_apart c.overlaps_unify.ensures.unified all c.requires.small c.args.j c.args.place.now (tree c.args.part.now) c.requires.outer c.args.i inner numbered (never_meet (tree c.args.part.now) inner.left 65536 apart),
       refl,
       refl,
+      refl,
     )
 
 pub returns-then-clashes-clause-kept : goal.returns-then-clashes-clause-kept
 returns-then-clashes-clause-kept c = extends_itself c.args.pool.now
 
 pub returns-then-i-j-clause-adds : goal.returns-then-i-j-clause-adds
-returns-then-i-j-clause-adds c = inl (none_itself c.args.rules.now c.args.j c.args.i c.args.place.now (no_places c.args.place.now c.is_empty.result c.is_empty.ensures c.if-is_empty.true) c.if-i-j.true, refl, refl)
+returns-then-i-j-clause-adds c = inl (none_itself c.args.rules.now c.args.j c.args.i c.args.place.now (no_places c.args.place.now c.is_empty.result c.is_empty.ensures c.if-is_empty.true) c.if-i-j.true, refl, refl, refl)
 
 pub grow_by_known-requires-clause-known : goal.grow_by_known-requires-clause-known
 grow_by_known-requires-clause-known c = c.of-here.ensures c.args.rules.now c.args.j c.args.place.now c.args.pool.now c.requires.prepared.equal c.requires.known

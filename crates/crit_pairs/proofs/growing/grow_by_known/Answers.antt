@@ -5,7 +5,7 @@ use Rattle.crit_pairs.specs.Table.{no_peak, no_spot}
 use Rattle.crit_pairs.proofs.growing.grow_by_known.Goals as goal
 
 pub returns-in-Absent-clause-adds : goal.returns-in-Absent-clause-adds
-returns-in-Absent-clause-adds c = inl (no_peak ((rw c.in-Absent.is at c.requires.known) c.args.i refl) no_spot, refl, refl)
+returns-in-Absent-clause-adds c = inl (no_peak ((rw c.in-Absent.is at c.requires.known) c.args.i refl) no_spot, refl, refl, refl)
 
 pub returns-in-Absent-clause-kept : goal.returns-in-Absent-clause-kept
 returns-in-Absent-clause-kept c = extends_itself c.args.pool.now

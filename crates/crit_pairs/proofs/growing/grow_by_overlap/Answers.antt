@@ -28,7 +28,7 @@ none c unified apart =
 pub returns-in-None-clause-adds : goal.returns-in-None-clause-adds
 returns-in-None-clause-adds c =
     let a = (goal.at.returns-in-None-clause-adds c).After-index-inner in
-    inl (no_peak (none a c.overlaps_unify.ensures.unified (rw c.in-None.is at c.in_ok-found.ensures.none) c.args.i refl) no_spot, refl, refl)
+    inl (no_peak (none a c.overlaps_unify.ensures.unified (rw c.in-None.is at c.in_ok-found.ensures.none) c.args.i refl) no_spot, refl, refl, refl)
 
 pub returns-in-None-clause-known : goal.returns-in-None-clause-known
 returns-in-None-clause-known c =
@@ -53,7 +53,20 @@ make_pair-requires-clause-unifier c =
 
 pub returns-in_ok-add_made-in-Some-clause-adds : goal.returns-in_ok-add_made-in-Some-clause-adds
 returns-in_ok-add_made-in-Some-clause-adds c =
-    inr (c.in_ok-add_made-in-Some.ensures.adds c.args.rules.now (spot c.args.j c.args.place.now c.args.i) c.args.pool.now c.make_pair.new.pool c.in_ok-made-in-Some.ensures.made)
+    let one = c.in_ok-add_made-in-Some.ensures.adds c.args.rules.now (spot c.args.j c.args.place.now c.args.i) c.args.pool.now c.make_pair.new.pool c.in_ok-made-in-Some.ensures.made in
+    inr (record {
+      peak = one.peak;
+      pair = one.pair;
+      old = one.old;
+      new = one.new;
+      at = one.at;
+      stands = one.stands;
+      there = one.there;
+      put = one.put;
+      lists = one.lists;
+      nodes = one.nodes;
+      few = one.few;
+    })
 
 pub returns-in_ok-add_made-in-Some-clause-known : goal.returns-in_ok-add_made-in-Some-clause-known
 returns-in_ok-add_made-in-Some-clause-known c = λ k same.
