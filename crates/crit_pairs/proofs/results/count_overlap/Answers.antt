@@ -1,4 +1,4 @@
-use Rattle.std.proofs.Common.{◌≡◌, IfOk, IfErr, ℕ, Some, ap, subst}
+use Rattle.std.proofs.Common.{◌≡◌, IfOk, IfErr, ℕ, ap, subst}
 use Rattle.std.specs.Arc.{arc_value}
 use Rattle.trs_core.specs.View.{tree}
 use Rattle.trs_defs.specs.Substitution.{apply}

@@ -1,5 +1,4 @@
 use Rattle.std.proofs.Common.{◌≡◌, length, sym, arith}
-use Rattle.std.proofs.lemmas.Option.{slice_get_within}
 use Rattle.trs_unify.proofs.ListedVariables.{one_known, one_new}
 use Rattle.trs_unify.proofs.NewNames.{known_at, new_at}
 use Rattle.crit_pairs.proofs.Renumbering.{distinct_more}

@@ -1,4 +1,4 @@
-use Rattle.std.proofs.Common.{◌≡◌, ◌∙◌, Some, length, slice_get, ap, sym, refl, arith}
+use Rattle.std.proofs.Common.{◌≡◌, ◌∙◌, length, slice_get, ap, sym, refl, arith}
 use Rattle.std.proofs.lemmas.Option.{same_Some, slice_get_within}
 use Rattle.crit_pairs.specs.Slots.{slot_of}
 use Rattle.crit_pairs.proofs.SlotLaws.{item_read, not_placed, placed_at}
