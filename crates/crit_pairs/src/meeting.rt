@@ -229,7 +229,8 @@ fn have_other_roots(a: &Term, b: &Term) -> bool
 
 /// Binds the variable to the term, unless it is bound.
 fn bind<'a>(v: u32, term: &'a Term, bindings: &mut Bindings<'a>) -> Result<Meeting, OutOfMemory>
-    ensures { IfOk result (Meets (var v) (tree term.now) bindings.old.list.items bindings.new.list.items) }
+    ensures { IfOk result (Meets (var v) (tree term.now)
+        bindings.old.list.items bindings.new.list.items) }
 {
     if let Some(_earlier) = bindings.find(v) {
         return Ok(Meeting::Unclear);
@@ -244,14 +245,16 @@ fn bind_to_left<'a>(
     v: u32,
     bindings: &mut Bindings<'a>,
 ) -> Result<Meeting, OutOfMemory>
-    ensures { IfOk result (Meets (tree term.now) (var v) bindings.old.list.items bindings.new.list.items) }
+    ensures { IfOk result (Meets (tree term.now) (var v)
+        bindings.old.list.items bindings.new.list.items) }
 {
     bind(v, term, bindings)
 }
 
 /// The place of the first binding whose term has a variable that is bound.
 fn first_not_free(bindings: &Bindings) -> Option<usize>
-    ensures { IfNone result (All (λ b. IsFree bindings.now.list.items (tree b.term.now)) bindings.now.list.items) }
+    ensures { IfNone result (All (λ b. IsFree bindings.now.list.items (tree b.term.now))
+        bindings.now.list.items) }
 {
     for (place, binding) in bindings.list.iter().enumerate() {
         if !is_free(binding.term, bindings) {

@@ -22,7 +22,8 @@ pub(crate) fn small_size(bindings: &Bindings, t: &Term) -> Option<u64>
         (within_limits (apply (solution bindings.now.list.items) (tree t.now)) ≡ false) }
     ensures small { IfSome result (λ _.
         IsTrue (within_limits (apply (solution bindings.now.list.items) (tree t.now)))) }
-    ensures size { IfSome result (λ n. n ≡ size_of (apply (solution bindings.now.list.items) (tree t.now))) }
+    ensures size { IfSome result (λ n.
+        n ≡ size_of (apply (solution bindings.now.list.items) (tree t.now))) }
 {
     let size = size(bindings, t);
     if size <= GREATEST_DEPTH {
@@ -139,7 +140,8 @@ pub(crate) fn name_instance(
     requires { IsDistinct names.old.order.items }
     ensures distinct { OnOk result (IsDistinct names.new.order.items) }
     ensures order { OnOk result (names.new.order.items
-        ≡ with_variables names.old.order.items (apply (solution bindings.now.list.items) (tree t.now))) }
+        ≡ with_variables names.old.order.items
+        (apply (solution bindings.now.list.items) (tree t.now))) }
 {
     match t {
         Term::Var(v) => match bindings.find(*v) {

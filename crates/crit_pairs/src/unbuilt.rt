@@ -154,7 +154,8 @@ fn bound_results(
         (apply (solution bindings.now.list.items) (tree top.now))
         (apply (solution bindings.now.list.items) (tree left.now))
         (apply (solution bindings.now.list.items) (tree right.now))
-        (in_order (apply (solution bindings.now.list.items) (tree top.now))) (tree s.0) (tree s.1)) }
+        (in_order (apply (solution bindings.now.list.items) (tree top.now)))
+        (tree s.0) (tree s.1)) }
 {
     let mut names = Names::none(alloc);
     solved::name_instance(bindings, top, &mut names)?;
