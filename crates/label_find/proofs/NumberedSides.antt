@@ -1,5 +1,5 @@
 -- Numbers of the sides of peaks in a table of their rules.
-use Rattle.std.specs.Prelude.{◌≡◌, ◌≤◌, ℕ, Bool, true, false, cond, nat_eq, List, [], ◌∷◌, ◌++◌, Option, Some, None, is_some, length, slice_get, refl}
+use Rattle.std.specs.Prelude.{◌≡◌, ◌≤◌, ℕ, Bool, true, false, cond, nat_eq, List, [], ◌∷◌, ◌++◌, Some, None, is_some, length, slice_get, refl}
 use Rattle.std.proofs.Common.{ap, sym, ◌∙◌, subst, append_assoc, arith}
 use Rattle.std.proofs.lemmas.List.{length-take}
 use Rattle.std.proofs.lemmas.Option.{same_Some}
@@ -9,6 +9,7 @@ use Rattle.trs_defs.proofs.ListItems.{kept_item, last_item}
 use Rattle.term_pool.proofs.ReachedIds.{length_listed}
 use Rattle.indexmap.specs.IndexMap.{get}
 use Rattle.join_find.specs.KeptLists.{list_of, IsPut}
+use Rattle.join_find.proofs.KeptOfSides.{same_id, nothing_there}
 use Rattle.term_pool.specs.Pooled.{tree_at}
 use Rattle.path_lists.specs.PathList.{no_steps}
 use Rattle.path_lists.specs.Adding.{Entry}
@@ -17,13 +18,6 @@ use Rattle.label_find.specs.declared.side_rules.SideRules.{SideRules}
 use Rattle.label_find.specs.SideRules.{IsSideOf}
 use Rattle.label_find.specs.ConstraintPuzzle.{IsSmallSide}
 use Rattle.label_find.specs.ListedSides.{IsPathsOf, AreListed, number_of, IsNumbered, AreNumbered, HasSameLists, IsFrontOf}
-
-nothing_there : {X : Type 0} (o : Option X) (x : X) → o ≡ None → o ≡ Some x → ⊥
-nothing_there None x none some = cc
-nothing_there (Some y) x none some = cc
-
-same_id : (i j : ℕ) → nat_eq i j ≡ true → i ≡ j
-same_id i j e = grind arith
 
 -- no side has a number
 pub none_numbered : (sides : ListedSides) (table : List SideRules) → ((id : ℕ) → number_of sides id ≡ None) → AreNumbered sides table

@@ -1,7 +1,9 @@
 //! The constraints of all peaks.
 ghost use Rattle.std.specs.Prelude.{◌≡◌, ◌<◌, IfOk, OnOk, MatchOption};
 ghost use Rattle.assign_search.specs.Continues.{Continues};
+ghost use Rattle.join_find.specs.RightSides.{HasRightSides};
 ghost use Rattle.join_find.specs.First.{Along};
+ghost use Rattle.join_find.specs.RightSides.{HaveRightSides};
 ghost use Rattle.join_find.specs.Sides.{HasSides, HaveSides};
 ghost use Rattle.path_lists.specs.Growth.{GrowsBy};
 ghost use Rattle.label_find.specs.ConstraintPuzzle.{IsConstraintFor};
@@ -11,7 +13,8 @@ use crate::constraint::PeakConstraint;
 use crate::listed_sides::ListedSides;
 use crate::side_rules::SideRules;
 use assign_search::Stop;
-use rewrite_core::{Peak, PeakSide, Top};
+use join_find::Hand;
+use rewrite_core::{Peak, Top};
 use std::alloc::Global;
 use term_pool::{RulesByRoot, ids_are_distinct};
 use trs_core::{OutOfMemory, Trs};
@@ -31,6 +34,7 @@ pub(crate) fn constraints_of<P: Stop, T: Top>(
     requires by_root { by_root.now ≡ trs.now }
     requires grows { GrowsBy trs.now.rules growth }
     requires sides { HaveSides peaks.now }
+    requires rights { HaveRightSides trs.now.rules peaks.now }
     requires listed { AreListed trs.now.rules sides.old }
     requires numbers { AreNumbered sides.old table.old.items }
     ensures constraints { IfOk result (λ found. MatchOption found
@@ -64,6 +68,7 @@ fn constraint_at<T: Top>(
     requires by_root { by_root.now ≡ trs.now }
     requires grows { GrowsBy trs.now.rules growth }
     requires sides { HasSides peak.now }
+    requires rights { HasRightSides trs.now.rules peak.now }
     requires listed { AreListed trs.now.rules sides.old }
     requires numbers { AreNumbered sides.old table.old.items }
     ensures constraint { IfOk result
@@ -73,8 +78,8 @@ fn constraint_at<T: Top>(
     ensures numbers { OnOk result (AreNumbered sides.new table.new.items) }
 {
     sides.make_room(alloc);
-    let left_id = sides.list(alloc, trs, by_root, growth, peak.inner, peak.left.term())?;
-    let right_id = sides.list(alloc, trs, by_root, growth, peak.outer, peak.right.term())?;
+    let left_id = sides.list(alloc, trs, by_root, growth, peak, Hand::Left)?;
+    let right_id = sides.list(alloc, trs, by_root, growth, peak, Hand::Right)?;
     ids_are_distinct(sides.pool());
     let left = sides.number(alloc, left_id, table)?;
     let right = sides.number(alloc, right_id, table)?;

@@ -1,7 +1,9 @@
 //! The paths that close all peaks by given ranks.
 ghost use Rattle.std.specs.Prelude.{◌≡◌, ◌<◌, IfOk, OnOk, MatchOption};
 ghost use Rattle.assign_search.specs.Continues.{Continues};
+ghost use Rattle.join_find.specs.RightSides.{HasRightSides};
 ghost use Rattle.join_find.specs.First.{Along};
+ghost use Rattle.join_find.specs.RightSides.{HaveRightSides};
 ghost use Rattle.join_find.specs.Sides.{HasSides, HaveSides};
 ghost use Rattle.path_lists.specs.Growth.{GrowsBy};
 ghost use Rattle.label_find.specs.Closing.{CanBeClosed, CanAllBeClosed, IsJoinBy};
@@ -10,7 +12,8 @@ ghost use Rattle.label_find.specs.ListedSides.{AreListed};
 use crate::closing::first_closing;
 use crate::listed_sides::ListedSides;
 use assign_search::Stop;
-use rewrite_core::{Join, Peak, PeakSide, Top};
+use join_find::Hand;
+use rewrite_core::{Join, Peak, Top};
 use std::alloc::Global;
 use term_pool::RulesByRoot;
 use trs_core::{OutOfMemory, Trs};
@@ -30,6 +33,7 @@ pub(crate) fn joins_by<P: Stop, T: Top>(
     requires table { by_root.now ≡ trs.now }
     requires grows { GrowsBy trs.now.rules growth }
     requires sides { HaveSides peaks.now }
+    requires rights { HaveRightSides trs.now.rules peaks.now }
     requires listed { AreListed trs.now.rules sides.old }
     requires can { CanAllBeClosed trs.now.rules ranks.now peaks.now }
     ensures joins { IfOk result (λ found. MatchOption found
@@ -61,14 +65,15 @@ fn join_at<T: Top>(
     requires table { by_root.now ≡ trs.now }
     requires grows { GrowsBy trs.now.rules growth }
     requires sides { HasSides peak.now }
+    requires rights { HasRightSides trs.now.rules peak.now }
     requires listed { AreListed trs.now.rules sides.old }
     requires can { CanBeClosed trs.now.rules ranks.now peak.now }
     ensures join { IfOk result (IsJoinBy trs.now.rules ranks.now peak.now) }
     ensures listed { OnOk result (AreListed trs.now.rules sides.new) }
 {
     sides.make_room(alloc);
-    let left = sides.list(alloc, trs, by_root, growth, peak.inner, peak.left.term())?;
-    let right = sides.list(alloc, trs, by_root, growth, peak.outer, peak.right.term())?;
+    let left = sides.list(alloc, trs, by_root, growth, peak, Hand::Left)?;
+    let right = sides.list(alloc, trs, by_root, growth, peak, Hand::Right)?;
     let numbers = (peak.inner, peak.outer);
     first_closing(
         alloc,

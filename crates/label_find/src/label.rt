@@ -3,6 +3,7 @@ ghost use Rattle.std.specs.Prelude.{◌≡◌, ◌<◌, Ok, IfOk};
 ghost use Rattle.assign_search.specs.Continues.{Continues};
 ghost use Rattle.join_find.specs.crit_pairs.PeakList.{ListsPeaks};
 ghost use Rattle.join_find.specs.First.{Along};
+ghost use Rattle.join_find.specs.RightSides.{HaveRightSides};
 ghost use Rattle.join_find.specs.Sides.{HaveSides};
 ghost use Rattle.join_find.specs.StrongRow.{AreLinear};
 ghost use Rattle.join_find.specs.Answers.{IsFinding};
@@ -19,7 +20,7 @@ use crate::listed_sides::ListedSides;
 use crate::side_rules::SideRules;
 use crate::space::LabelSpace;
 use assign_search::{Search, Stop, first_solution};
-use join_find::{are_linear, critical_peaks_have_sides};
+use join_find::{are_linear, critical_peaks_have_sides, right_sides_are_sides};
 use path_lists::{growth_of, path_lists_are_one};
 use rewrite_core::{Join, Peak, Top};
 use std::alloc::Global;
@@ -59,6 +60,7 @@ pub fn find_label<P: Stop, T: Top>(
         return Ok(Search::Stopped);
     }
     critical_peaks_have_sides(trs);
+    right_sides_are_sides();
     if !are_linear(trs) {
         return Ok(Search::NotThere);
     }
@@ -105,6 +107,7 @@ fn search_ranks<P: Stop, T: Top>(
     requires by_root { by_root.now ≡ trs.now }
     requires grows { GrowsBy trs.now.rules growth }
     requires sides { HaveSides peaks.now }
+    requires rights { HaveRightSides trs.now.rules peaks.now }
     requires listed { AreListed trs.now.rules sides.old }
     requires linear { AreLinear trs.now.rules }
     requires constraints { Along (IsConstraintFor trs.now.rules table.items)
@@ -145,6 +148,7 @@ fn labelled_by<P: Stop, T: Top>(
     requires table { by_root.now ≡ trs.now }
     requires grows { GrowsBy trs.now.rules growth }
     requires sides { HaveSides peaks.now }
+    requires rights { HaveRightSides trs.now.rules peaks.now }
     requires listed { AreListed trs.now.rules sides.old }
     requires can { CanAllBeClosed trs.now.rules ranks.now peaks.now }
     ensures answer { IfOk result (IsFinding (IsLabelledBy trs.now.rules peaks.now ranks.now) ⊥

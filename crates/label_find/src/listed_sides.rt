@@ -1,9 +1,10 @@
 //! The sides of peaks, with the paths from them.
 ghost use Rattle.std.specs.Prelude.{◌≡◌, ◌<◌, ℕ, List, Some, is_some, IsTrue, IfOk, OnOk};
 ghost use Rattle.trs_defs.specs.System.{RewriteRule};
-ghost use Rattle.trs_core.specs.View.{tree};
 ghost use Rattle.term_pool.specs.Pooled.{Extends, StandsFor};
-ghost use Rattle.join_find.specs.Sides.{IsSide};
+ghost use Rattle.join_find.specs.RightSides.{HasRightSides};
+ghost use Rattle.join_find.specs.RightIds.{side_on};
+ghost use Rattle.join_find.specs.Sides.{HasSides};
 ghost use Rattle.join_find.specs.KeptLists.{list_of};
 ghost use Rattle.path_lists.specs.Growth.{GrowsBy};
 ghost use Rattle.label_find.specs.declared.side_rules.SideRules.{SideRules};
@@ -12,12 +13,12 @@ ghost use Rattle.label_find.specs.ListedSides.{HasSameLists, IsFrontOf};
 
 use crate::side_rules::SideRules;
 use indexmap::IndexMap;
-use join_find::{KeptLists, SideIds};
+use join_find::{Hand, KeptLists, SideIds, side_on};
 use path_lists::paths_from;
-use rewrite_core::PathStep;
+use rewrite_core::{PathStep, Peak, Top};
 use std::alloc::Global;
 use term_pool::{Pool, RulesByRoot};
-use trs_core::{OutOfMemory, Term, Trs};
+use trs_core::{OutOfMemory, Trs};
 
 /// The most ids that are kept from one peak to the next.
 const MOST_KEPT_IDS: u32 = 262_144;
@@ -66,21 +67,22 @@ impl ListedSides {
         self.numbers = IndexMap::new(alloc);
     }
 
-    /// The id of a side that a rule gives. Its paths are listed, if they are not listed yet.
-    pub(crate) fn list(
+    /// The id of a side of a peak. Its paths are listed, if they are not listed yet.
+    pub(crate) fn list<T: Top>(
         &mut self,
         alloc: Global,
         trs: &Trs,
         by_root: &RulesByRoot,
         growth: u64,
-        rule: u32,
-        side: &Term,
+        peak: &Peak<T>,
+        hand: Hand,
     ) -> Result<u32, OutOfMemory>
         requires table { by_root.now ≡ trs.now }
         requires grows { GrowsBy trs.now.rules growth }
-        requires side { IsSide (tree side.now) }
+        requires peak { HasSides peak.now }
+        requires rights { HasRightSides trs.now.rules peak.now }
         requires sides { AreListed trs.now.rules self.old }
-        ensures id { IfOk result (λ id. StandsFor self.new.pool id (tree side.now)) }
+        ensures id { IfOk result (λ id. StandsFor self.new.pool id (side_on hand peak.now)) }
         ensures listed { IfOk result (λ id. IsTrue (is_some (list_of self.new.lists id))) }
         ensures still { OnOk result ((i : ℕ) → IsTrue (is_some (list_of self.old.lists i))
             → IsTrue (is_some (list_of self.new.lists i))) }
@@ -89,10 +91,13 @@ impl ListedSides {
         ensures numbers { OnOk result ((table : List SideRules) → AreNumbered self.old table
             → AreNumbered self.new table) }
     {
-        let id = self.ids.intern(alloc, &mut self.pool, rule, side)?;
+        let id = self
+            .ids
+            .intern_side(alloc, &mut self.pool, trs.rules(), peak, hand)?;
         if self.lists.has(id) {
             return Ok(id);
         }
+        let side = side_on(peak, hand);
         let list = paths_from(alloc, &mut self.pool, trs, by_root, side, growth)?;
         self.lists.put(id, list)?;
         Ok(id)

@@ -1,5 +1,4 @@
 use Rattle.std.proofs.Common.{List, IsTrue, is_some, IfOk, ap, sym, ◌∙◌, subst}
-use Rattle.trs_core.specs.View.{tree}
 use Rattle.rewrite_core.specs.PlacedPeak.{PlacedPeak}
 use Rattle.join_find.specs.KeptLists.{list_of}
 use Rattle.join_find.specs.declared.kept_lists.KeptLists.{KeptLists}
@@ -26,10 +25,10 @@ number-requires-clause-numbers g c =
     c.in_ok-right_id.ensures.numbers table (c.in_ok-left_id.ensures.numbers table (c.make_room.ensures.numbers table c.requires.numbers))
 
 pub number-requires-clause-short : goal.number-requires-clause-short
-number-requires-clause-short g c = short_paths c.args.trs.now.rules c.list-2.new.self c.in_ok-right_id.ensures.sides
+number-requires-clause-short c = short_paths c.args.trs.now.rules c.list-2.new.self c.in_ok-right_id.ensures.sides
 
 pub number-requires-2-clause-short : goal.number-requires-2-clause-short
-number-requires-2-clause-short g c =
+number-requires-2-clause-short c =
     short_paths c.args.trs.now.rules c.number.new.self (listed_same c.args.trs.now.rules c.list-2.new.self c.number.new.self c.in_ok-left.ensures.same c.in_ok-right_id.ensures.sides)
 
 pub number-requires-2-clause-listed : goal.number-requires-2-clause-listed
@@ -64,11 +63,11 @@ returns-clause-constraint g c =
     let P : List SideRules → Type 0 = λ sides. IfOk c.new.result (IsConstraintOf c.peak.inside.inner c.peak.inside.outer c.in_ok-left.left c.in_ok-right.right sides) in
     ok_map c.new.result (IsConstraintOf c.peak.inside.inner c.peak.inside.outer c.in_ok-left.left c.in_ok-right.right c.number-2.new.table.items)
     (IsConstraintFor c.args.trs.now.rules c.number-2.new.table.items c.args.peak.now)
-    (λ d h. constraint_of_numbered c.args.trs.now.rules c.list-2.new.self c.number-2.new.self c.number-2.new.table.items c.args.peak.now (tree c.term.result.now) (tree c.term-2.result.now)
+    (λ d h. constraint_of_numbered c.args.trs.now.rules c.list-2.new.self c.number-2.new.self c.number-2.new.table.items c.args.peak.now c.args.peak.now.left c.args.peak.now.right
     c.in_ok-left_id.left_id c.in_ok-right_id.right_id c.peak.inside.inner c.peak.inside.outer c.in_ok-left.left c.in_ok-right.right d
     (c.in_ok-right.ensures.same.lists ∙ c.in_ok-left.ensures.same.lists) c.in_ok-right_id.ensures.sides (rw c.pool.ensures.is at c.ids_are_distinct.ensures)
-    (c.in_ok-right_id.ensures.kept.kept c.in_ok-left_id.left_id (tree c.term.result.now) c.in_ok-left_id.ensures.id) c.in_ok-right_id.ensures.id
-    (c.term.ensures ∙ ap (λ (p : PlacedPeak). p.left) c.peak.view_is) (c.term-2.ensures ∙ ap (λ (p : PlacedPeak). p.right) c.peak.view_is) (ap (λ (p : PlacedPeak). p.inner) c.peak.view_is)
+    (c.in_ok-right_id.ensures.kept.kept c.in_ok-left_id.left_id c.args.peak.now.left c.in_ok-left_id.ensures.id) c.in_ok-right_id.ensures.id
+    refl refl (ap (λ (p : PlacedPeak). p.inner) c.peak.view_is)
     (ap (λ (p : PlacedPeak). p.outer) c.peak.view_is) (of_left g at) c.in_ok-right.ensures.number h) (subst P c.deref.ensures.value c.new.ensures)
 
 pub returns-clause-grown : goal.returns-clause-grown

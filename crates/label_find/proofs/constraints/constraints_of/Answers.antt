@@ -35,3 +35,7 @@ loop-peak-preserved g c =
 pub returns-clause-constraints : goal.returns-clause-constraints
 returns-clause-constraints g c =
     along_all (IsConstraintFor c.args.trs.now.rules c.loop-peak.table.items) c.args.peaks.now c.loop-peak.constraints.items c.loop-peak.peak-index c.loop-peak-test.false c.loop-peak.invariant.made
+
+pub constraint_at-requires-clause-rights : goal.constraint_at-requires-clause-rights
+constraint_at-requires-clause-rights g c =
+    c.requires.rights c.peak-item.result (read_in c.args.peaks.now c.loop-peak.peak-index c.peak-item.result c.loop-peak-test.true c.peak-item.is)

@@ -1,6 +1,5 @@
-use Rattle.std.proofs.Common.{◌<◌, List, All, length, refl, ap, sym, subst, ◌∙◌}
+use Rattle.std.proofs.Common.{◌<◌, List, All, length, refl, ap, sym, subst}
 use Rattle.trs_defs.specs.Tree.{Tree}
-use Rattle.trs_core.specs.View.{tree}
 use Rattle.rewrite_core.specs.PlacedPeak.{PlacedPeak}
 use Rattle.rewrite_core.specs.PathsOfJoin.{PathsOfJoin}
 use Rattle.term_pool.proofs.Extending.{extends_itself}
@@ -18,19 +17,19 @@ pub list-requires-clause-sides : goal.list-requires-clause-sides
 list-requires-clause-sides g c = c.make_room.ensures.sides c.args.trs.now.rules c.requires.listed
 
 lefts_below : (g : _) (c : After-at-2 g) → All (λ (e : Entry). e.0 < length c.list-2.new.self.pool) c.at.result.now
-lefts_below g c = ends_below c.args.trs.now.rules c.list-2.new.self c.in_ok-right.ensures.sides c.in_ok-left.left (tree c.term.result.now) c.at.result.now c.at.ensures
+lefts_below g c = ends_below c.args.trs.now.rules c.list-2.new.self c.in_ok-right.ensures.sides c.in_ok-left.left c.args.peak.now.left c.at.result.now c.at.ensures
 
 rights_below : (g : _) (c : After-at-2 g) → All (λ (e : Entry). e.0 < length c.list-2.new.self.pool) c.at-2.result.now
-rights_below g c = ends_below c.args.trs.now.rules c.list-2.new.self c.in_ok-right.ensures.sides c.in_ok-right.right (tree c.term-2.result.now) c.at-2.result.now c.at-2.ensures
+rights_below g c = ends_below c.args.trs.now.rules c.list-2.new.self c.in_ok-right.ensures.sides c.in_ok-right.right c.args.peak.now.right c.at-2.result.now c.at-2.ensures
 
-from_left : (g : _) (c : After-at-2 g) → IsPathList c.args.trs.now.rules (tree c.term.result.now) (listed_at c.list-2.new.self.pool c.at.result.now)
+from_left : (g : _) (c : After-at-2 g) → IsPathList c.args.trs.now.rules c.args.peak.now.left (listed_at c.list-2.new.self.pool c.at.result.now)
 from_left g c =
-    list_from c.args.trs.now.rules c.list-2.new.self c.in_ok-right.ensures.sides c.in_ok-left.left (tree c.term.result.now) c.at.result.now c.at.ensures
-    (c.in_ok-right.ensures.kept.kept c.in_ok-left.left (tree c.term.result.now) c.in_ok-left.ensures.id)
+    list_from c.args.trs.now.rules c.list-2.new.self c.in_ok-right.ensures.sides c.in_ok-left.left c.args.peak.now.left c.at.result.now c.at.ensures
+    (c.in_ok-right.ensures.kept.kept c.in_ok-left.left c.args.peak.now.left c.in_ok-left.ensures.id)
 
-from_right : (g : _) (c : After-at-2 g) → IsPathList c.args.trs.now.rules (tree c.term-2.result.now) (listed_at c.list-2.new.self.pool c.at-2.result.now)
+from_right : (g : _) (c : After-at-2 g) → IsPathList c.args.trs.now.rules c.args.peak.now.right (listed_at c.list-2.new.self.pool c.at-2.result.now)
 from_right g c =
-    list_from c.args.trs.now.rules c.list-2.new.self c.in_ok-right.ensures.sides c.in_ok-right.right (tree c.term-2.result.now) c.at-2.result.now c.at-2.ensures c.in_ok-right.ensures.id
+    list_from c.args.trs.now.rules c.list-2.new.self c.in_ok-right.ensures.sides c.in_ok-right.right c.args.peak.now.right c.at-2.result.now c.at-2.ensures c.in_ok-right.ensures.id
 
 pub first_closing-requires-clause-lefts : goal.first_closing-requires-clause-lefts
 first_closing-requires-clause-lefts g c =
@@ -48,8 +47,8 @@ first_closing-requires-clause-can g c =
     let at = (goal.at.first_closing-requires-clause-can g c).After-at-2 in
     subst P (sym c.pool.ensures.is)
     (can_close_read c.args.trs.now.rules c.args.ranks.now c.list-2.new.self.pool c.list-2.new.self.pool c.at.result.now c.at-2.result.now c.args.peak.now
-    (tree c.term.result.now) (tree c.term-2.result.now) c.peak.inside.inner c.peak.inside.outer (extends_itself c.list-2.new.self.pool) (lefts_below g at) (c.term.ensures ∙ ap (λ (p : PlacedPeak). p.left) c.peak.view_is)
-    (c.term-2.ensures ∙ ap (λ (p : PlacedPeak). p.right) c.peak.view_is) (ap (λ (p : PlacedPeak). p.inner) c.peak.view_is) (ap (λ (p : PlacedPeak). p.outer) c.peak.view_is) (from_left g at)
+    c.args.peak.now.left c.args.peak.now.right c.peak.inside.inner c.peak.inside.outer (extends_itself c.list-2.new.self.pool) (lefts_below g at) refl
+    refl (ap (λ (p : PlacedPeak). p.inner) c.peak.view_is) (ap (λ (p : PlacedPeak). p.outer) c.peak.view_is) (from_left g at)
     (from_right g at) c.at.result.now c.at-2.result.now refl refl c.requires.can)
 
 pub returns-clause-join : goal.returns-clause-join
@@ -59,6 +58,6 @@ returns-clause-join g c =
     (IsJoinBy c.args.trs.now.rules c.args.ranks.now c.args.peak.now)
     (λ (join : PathsOfJoin) h. (let P : List Tree → Type 0 = λ pool. IsFirstClosingIds c.args.ranks.now c.peak.inside.inner c.peak.inside.outer pool c.at.result.now c.at-2.result.now join in
     join_by c.args.trs.now.rules c.args.ranks.now c.list-2.new.self.pool c.list-2.new.self.pool c.at.result.now c.at-2.result.now c.args.peak.now
-    (tree c.term.result.now) (tree c.term-2.result.now) c.peak.inside.inner c.peak.inside.outer (extends_itself c.list-2.new.self.pool) (lefts_below g at) (c.term.ensures ∙ ap (λ (p : PlacedPeak). p.left) c.peak.view_is)
-    (c.term-2.ensures ∙ ap (λ (p : PlacedPeak). p.right) c.peak.view_is) (ap (λ (p : PlacedPeak). p.inner) c.peak.view_is) (ap (λ (p : PlacedPeak). p.outer) c.peak.view_is) (from_left g at)
+    c.args.peak.now.left c.args.peak.now.right c.peak.inside.inner c.peak.inside.outer (extends_itself c.list-2.new.self.pool) (lefts_below g at) refl
+    refl (ap (λ (p : PlacedPeak). p.inner) c.peak.view_is) (ap (λ (p : PlacedPeak). p.outer) c.peak.view_is) (from_left g at)
     (from_right g at) c.at.result.now c.at-2.result.now refl refl join (subst P c.pool.ensures.is h))) c.first_closing.ensures

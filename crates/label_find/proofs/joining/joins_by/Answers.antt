@@ -28,3 +28,7 @@ loop-peak-preserved g c = record {
 
 pub returns-clause-joins : goal.returns-clause-joins
 returns-clause-joins g c = along_all (IsJoinBy c.args.trs.now.rules c.args.ranks.now) c.args.peaks.now c.loop-peak.joins.items c.loop-peak.peak-index c.loop-peak-test.false c.loop-peak.invariant.made
+
+pub join_at-requires-clause-rights : goal.join_at-requires-clause-rights
+join_at-requires-clause-rights g c =
+    c.requires.rights c.peak-item.result (read_in c.args.peaks.now c.loop-peak.peak-index c.peak-item.result c.loop-peak-test.true c.peak-item.is)

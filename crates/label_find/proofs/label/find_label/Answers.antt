@@ -13,3 +13,6 @@ returns-clause-answer g c =
     rose_before c.args.trs.now.rules c.args.peaks.now c.args.budget (g.P.Stop.stops c.constraints_of.new.stop < g.P.Stop.stops c.search_ranks.new.stop)
     (g.P.Stop.stops c.args.stop.now < g.P.Stop.stops c.search_ranks.new.stop) c.search_ranks.result
     (λ rose. omega (arith, rose, c.stopped.ensures.later, c.in_ok-found.ensures.continues.later)) c.search_ranks.ensures.answer
+
+pub constraints_of-requires-clause-rights : goal.constraints_of-requires-clause-rights
+constraints_of-requires-clause-rights g c = c.right_sides_are_sides.ensures c.args.trs.now.rules c.args.peaks.now c.requires.critical

@@ -9,7 +9,7 @@ pub returns-in-Some-clause-grown : goal.returns-in-Some-clause-grown
 returns-in-Some-clause-grown c = record { more = []; is = sym (append-nil c.args.table.now.items) }
 
 pub returns-in-Some-clause-same : goal.returns-in-Some-clause-same
-returns-in-Some-clause-same c = record { pool = refl; lists = refl }
+returns-in-Some-clause-same c = record { pool = refl; ids = refl; lists = refl }
 
 pub new-requires : goal.new-requires
 new-requires c = c.requires.short.each c.args.id c.at.result.now c.at.ensures
@@ -29,4 +29,4 @@ pub returns-clause-grown : goal.returns-clause-grown
 returns-clause-grown c = record { more = c.in_ok-side.side ∷ []; is = c.in_ok-push.ensures.items }
 
 pub returns-clause-same : goal.returns-clause-same
-returns-clause-same c = record { pool = refl; lists = refl }
+returns-clause-same c = record { pool = refl; ids = refl; lists = refl }
