@@ -19,6 +19,7 @@ use Rattle.term_pool.proofs.PoolTrees.{stands_at, stands_within}
 use Rattle.join_find.specs.CommonIds.{Reached}
 use Rattle.join_find.specs.KeptLists.{list_of, IsPut, AreOf}
 use Rattle.join_find.specs.ReachedSides.{IsNarrowAt}
+use Rattle.join_find.specs.RightIds.{AreRightIds}
 use Rattle.join_find.specs.declared.kept_lists.KeptLists.{KeptLists}
 use Rattle.join_find.specs.declared.side_ids.SideIds.{SideIds}
 use Rattle.join_find.proofs.KeptOfSides.{none_kept, one_more_kept, of_weaker_kind}
@@ -59,13 +60,13 @@ abbrev sides_of : List Tree → SideIds → KeptLists → ReachedSides
 sides_of pool ids reached = record { pool = pool; ids = ids; reached = reached }
 
 -- no sides
-pub none_reached : (rules : List RewriteRule) (sides : ReachedSides) → ((id : ℕ) → list_of sides.reached id ≡ None) → AreReached rules sides
-none_reached rules sides none = record { reached = none_kept (IsShortReachOf rules sides.pool) sides.reached none }
+pub none_reached : (rules : List RewriteRule) (sides : ReachedSides) → ((id : ℕ) → list_of sides.reached id ≡ None) → AreRightIds rules sides.pool sides.ids → AreReached rules sides
+none_reached rules sides none rights = record { reached = none_kept (IsShortReachOf rules sides.pool) sides.reached none; rights = rights }
 
-module _ (rules : List RewriteRule) (old : ReachedSides) (sides : AreReached rules old) (pool : List Tree) (ids : SideIds) (extends : Extends old.pool pool) where
+module _ (rules : List RewriteRule) (old : ReachedSides) (sides : AreReached rules old) (pool : List Tree) (ids : SideIds) (rights : AreRightIds rules pool ids) (extends : Extends old.pool pool) where
   -- the pool has grown
   pub reached_still : AreReached rules (sides_of pool ids old.reached)
-  reached_still = record { reached = of_weaker_kind (IsShortReachOf rules old.pool) (IsShortReachOf rules pool) old.reached (λ id found. reach_still rules old.pool pool id found extends) sides.reached }
+  reached_still = record { reached = of_weaker_kind (IsShortReachOf rules old.pool) (IsShortReachOf rules pool) old.reached (λ id found. reach_still rules old.pool pool id found extends) sides.reached; rights = rights }
 
   -- what one more side reaches is listed
   pub one_more_reached : (reached : KeptLists) (before : List Tree) (id : ℕ) (found : List Reached) (t : Tree) → IsPut id found old.reached reached → Extends before pool → StandsFor before id t
@@ -77,7 +78,7 @@ module _ (rules : List RewriteRule) (old : ReachedSides) (sides : AreReached rul
         reach = subst Q (sym (same_tree_at before pool grown id (stands_within before id t is))) reach;
         below = below;
       } in
-      record { reached = one_more_kept (IsShortReachOf rules pool) old.reached reached id found reached_still.reached put one }
+      record { reached = one_more_kept (IsShortReachOf rules pool) old.reached reached id found reached_still.reached put one; rights = rights }
 
 module _ {A : Type 0} (has_mark : A → ℕ → Type 0) (of_pool : List RewriteRule → List Tree → A → Type 0) (rules : List RewriteRule) where
   -- no sides and no marks

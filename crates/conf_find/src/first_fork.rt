@@ -3,6 +3,7 @@ ghost use Rattle.std.specs.Prelude.{◌<◌, All, length, Ok, IsTrue, IfOk, OnOk
 ghost use Rattle.term_pool.specs.ListedIds.{listed_at};
 ghost use Rattle.term_pool.specs.Pooled.{tree_at};
 ghost use Rattle.assign_search.specs.Continues.{Continues};
+ghost use Rattle.join_find.specs.RightSides.{HasRightSides};
 ghost use Rattle.join_find.specs.crit_pairs.PeakList.{ListsPeaks};
 ghost use Rattle.join_find.specs.Sides.{HasSides};
 ghost use Rattle.join_find.specs.Answers.{IsFinding};
@@ -19,7 +20,7 @@ use crate::parting::first_parted;
 use crate::reached_sides::{ReachedSides, make_room};
 use crate::reaching::entry;
 use assign_search::{Search, Stop};
-use join_find::critical_peaks_have_sides;
+use join_find::{Hand, critical_peaks_have_sides, right_sides_are_sides};
 use rewrite_core::{BuiltTop, ForkTest, PathStep, Peak, PeakSide, Top};
 use std::alloc::Global;
 use term_pool::{Pool, RulesByRoot, ids_are_distinct};
@@ -48,6 +49,7 @@ pub(crate) fn first_fork<M: Marks, P: Stop, T: BuiltTop>(
         return Ok(Search::Stopped);
     }
     critical_peaks_have_sides(trs);
+    right_sides_are_sides();
     let by_root = RulesByRoot::new(alloc, trs)?;
     let mut sides = ReachedSides::new(alloc);
     let mut marks = M::new(alloc);
@@ -85,6 +87,7 @@ fn fork_at<M: Marks, T: BuiltTop>(
     peak: &Peak<T>,
 ) -> Result<Option<ForkFound>, OutOfMemory>
     requires peak { HasSides peak.now }
+    requires rights { HasRightSides by_root.now.rules peak.now }
     requires sides { AreReached by_root.now.rules sides.old }
     requires marks { AreMarksOf M.has_mark M.of_pool by_root.now.rules sides.old marks.old }
     ensures fork { IfOk result (λ found. MatchOption found
@@ -95,8 +98,8 @@ fn fork_at<M: Marks, T: BuiltTop>(
         AreMarksOf M.has_mark M.of_pool by_root.now.rules sides.new marks.new) }
 {
     make_room(alloc, sides, marks);
-    let left = sides.list(alloc, by_root, peak.inner, peak.left.term(), marks)?;
-    let right = sides.list(alloc, by_root, peak.outer, peak.right.term(), marks)?;
+    let left = sides.list(alloc, by_root, peak, Hand::Left, marks)?;
+    let right = sides.list(alloc, by_root, peak, Hand::Right, marks)?;
     let lefts = sides.at(left);
     let rights = sides.at(right);
     fork_between(alloc, sides.pool(), by_root, peak, marks, lefts, rights)

@@ -1,19 +1,20 @@
 //! The sides of peaks, with what they reach in few steps.
 ghost use Rattle.std.specs.Prelude.{◌≡◌, ℕ, List, None, Some, is_some, IsTrue, IfOk, OnOk};
 ghost use Rattle.trs_defs.specs.System.{RewriteRule};
-ghost use Rattle.trs_core.specs.View.{tree};
 ghost use Rattle.term_pool.specs.Pooled.{Extends, StandsFor};
-ghost use Rattle.join_find.specs.Sides.{IsSide};
+ghost use Rattle.join_find.specs.RightSides.{HasRightSides};
+ghost use Rattle.join_find.specs.RightIds.{side_on, AreRightIds};
+ghost use Rattle.join_find.specs.Sides.{HasSides};
 ghost use Rattle.join_find.specs.KeptLists.{list_of};
 ghost use Rattle.conf_find.specs.ReachedSides.{AreReached, AreMarksOf};
 
 use crate::marks::{Marks, mark_all};
 use crate::reaching::reach;
-use join_find::{KeptLists, SideIds};
-use rewrite_core::PathStep;
+use join_find::{Hand, KeptLists, SideIds};
+use rewrite_core::{PathStep, Peak, Top};
 use std::alloc::Global;
 use term_pool::{Pool, RulesByRoot};
-use trs_core::{OutOfMemory, Term};
+use trs_core::OutOfMemory;
 
 /// The most ids that are kept from one peak to the next.
 const MOST_KEPT_IDS: u32 = 262_144;
@@ -32,7 +33,8 @@ pub(crate) struct ReachedSides {
 impl ReachedSides {
     /// No sides. It takes no memory.
     pub(crate) fn new(alloc: Global) -> ReachedSides
-        ensures { (id : ℕ) → list_of result.reached id ≡ None }
+        ensures lists { (id : ℕ) → list_of result.reached id ≡ None }
+        ensures rights { (rules : List RewriteRule) → AreRightIds rules result.pool result.ids }
     {
         ReachedSides {
             pool: Pool::new(alloc),
@@ -41,20 +43,20 @@ impl ReachedSides {
         }
     }
 
-    /// The id of a side that a rule gives. What it reaches is listed and marked, if it is not listed
-    /// yet.
-    pub(crate) fn list<M: Marks>(
+    /// The id of a side of a peak. What it reaches is listed and marked, if it is not listed yet.
+    pub(crate) fn list<M: Marks, T: Top>(
         &mut self,
         alloc: Global,
         by_root: &RulesByRoot,
-        rule: u32,
-        side: &Term,
+        peak: &Peak<T>,
+        hand: Hand,
         marks: &mut M,
     ) -> Result<u32, OutOfMemory>
-        requires side { IsSide (tree side.now) }
+        requires peak { HasSides peak.now }
+        requires rights { HasRightSides by_root.now.rules peak.now }
         requires sides { AreReached by_root.now.rules self.old }
         requires marks { AreMarksOf M.has_mark M.of_pool by_root.now.rules self.old marks.old }
-        ensures id { IfOk result (λ id. StandsFor self.new.pool id (tree side.now)) }
+        ensures id { IfOk result (λ id. StandsFor self.new.pool id (side_on hand peak.now)) }
         ensures listed { IfOk result (λ id. IsTrue (is_some (list_of self.new.reached id))) }
         ensures still { OnOk result ((i : ℕ) → IsTrue (is_some (list_of self.old.reached i))
             → IsTrue (is_some (list_of self.new.reached i))) }
@@ -64,7 +66,10 @@ impl ReachedSides {
         ensures kept { OnOk result (Extends self.old.pool self.new.pool) }
     {
         M::last();
-        let id = self.ids.intern(alloc, &mut self.pool, rule, side)?;
+        let rules = by_root.rules();
+        let id = self
+            .ids
+            .intern_side(alloc, &mut self.pool, rules, peak, hand)?;
         if self.reached.has(id) {
             return Ok(id);
         }

@@ -12,8 +12,8 @@ loop-peak-init g c =
     record {
       passed = none_passed (PartsNot g.M.Marks.never_meet rules) c.args.peaks.now;
       before = tt;
-      sides = none_reached rules c.new-sides.result c.new-sides.ensures;
-      marks = none_marked g.M.Marks.has_mark g.M.Marks.of_pool rules c.new-sides.result c.new-marks.result c.new-sides.ensures (c.new-marks.ensures rules c.new-sides.result.pool);
+      sides = none_reached rules c.new-sides.result c.new-sides.ensures.lists (c.new-sides.ensures.rights rules);
+      marks = none_marked g.M.Marks.has_mark g.M.Marks.of_pool rules c.new-sides.result c.new-marks.result c.new-sides.ensures.lists (c.new-marks.ensures rules c.new-sides.result.pool);
       continues = record { later = c.stopped.ensures.later; kept = c.stopped.ensures.kept };
     }
 
@@ -61,3 +61,8 @@ loop-peak-preserved-then-have_same_sides g c =
 
 pub returns-clause-answer : goal.returns-clause-answer
 returns-clause-answer g c = all_passed (PartsNot g.M.Marks.never_meet c.args.trs.now.rules) c.args.peaks.now c.loop-peak.peak-index c.loop-peak-test.false c.loop-peak.invariant.passed
+
+pub fork_at-requires-clause-rights : goal.fork_at-requires-clause-rights
+fork_at-requires-clause-rights g c =
+    rw c.in_ok-by_root.ensures (c.right_sides_are_sides.ensures c.args.trs.now.rules c.args.peaks.now c.requires.critical c.peak-item.result
+    (read_in c.args.peaks.now c.loop-peak.peak-index c.peak-item.result c.loop-peak-test.true c.peak-item.is))

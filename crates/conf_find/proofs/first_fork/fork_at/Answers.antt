@@ -1,8 +1,6 @@
-use Rattle.std.proofs.Common.{◌≡◌, ◌<◌, All, List, length, ap, sym, subst, ◌∙◌}
-use Rattle.trs_core.specs.View.{tree}
+use Rattle.std.proofs.Common.{◌<◌, All, List, length, refl, sym, subst}
 use Rattle.trs_defs.specs.Tree.{Tree}
 use Rattle.term_pool.specs.ListedIds.{listed_at}
-use Rattle.rewrite_core.specs.PlacedPeak.{PlacedPeak}
 use Rattle.join_find.specs.CommonIds.{Reached}
 use Rattle.join_find.proofs.KeptOfSides.{always_ok}
 use Rattle.conf_find.specs.ForkRows.{IsShortReach}
@@ -41,14 +39,12 @@ pub returns-clause-fork : goal.returns-clause-fork
 returns-clause-fork g c =
     let rules = c.args.by_root.now.rules in
     let peak = c.args.peak.now in
-    let left : tree c.term.result.now ≡ peak.left = c.term.ensures ∙ ap (λ (p : PlacedPeak). p.left) c.peak.view_is in
-    let right : tree c.term-2.result.now ≡ peak.right = c.term-2.ensures ∙ ap (λ (p : PlacedPeak). p.right) c.peak.view_is in
     let L : List Tree → Type 0 = λ pool. IsShortReach rules peak.left (listed_at pool c.at-lefts.result.now) in
     let R : List Tree → Type 0 = λ pool. IsShortReach rules peak.right (listed_at pool c.at-rights.result.now) in
-    let from_left = reach_from rules c.list-2.new.self c.in_ok-right.ensures.sides c.in_ok-left.left c.at-lefts.result.now c.at-lefts.ensures (tree c.term.result.now) peak.left
-    (c.in_ok-right.ensures.kept.kept c.in_ok-left.left (tree c.term.result.now) c.in_ok-left.ensures.id) left in
-    let from_right = reach_from rules c.list-2.new.self c.in_ok-right.ensures.sides c.in_ok-right.right c.at-rights.result.now c.at-rights.ensures (tree c.term-2.result.now) peak.right
-    c.in_ok-right.ensures.id right in
+    let from_left = reach_from rules c.list-2.new.self c.in_ok-right.ensures.sides c.in_ok-left.left c.at-lefts.result.now c.at-lefts.ensures peak.left peak.left
+    (c.in_ok-right.ensures.kept.kept c.in_ok-left.left peak.left c.in_ok-left.ensures.id) refl in
+    let from_right = reach_from rules c.list-2.new.self c.in_ok-right.ensures.sides c.in_ok-right.right c.at-rights.result.now c.at-rights.ensures peak.right peak.right
+    c.in_ok-right.ensures.id refl in
     of_peak g.M.Marks.never_meet rules peak (listed_at c.pool.result.now c.at-lefts.result.now) (listed_at c.pool.result.now c.at-rights.result.now) c.fork_between.result
     (subst L (sym c.pool.ensures.is) from_left) (subst R (sym c.pool.ensures.is) from_right) c.fork_between.ensures
 

@@ -2,8 +2,8 @@ use Rattle.conf_find.proofs.KeptReach.{none_reached, none_marked}
 use Rattle.conf_find.proofs.reached_sides.make_room.Goals as goal
 
 pub returns-clause-sides : goal.returns-clause-sides
-returns-clause-sides g c = λ rules sides. none_reached rules c.new.result c.new.ensures
+returns-clause-sides g c = λ rules sides. none_reached rules c.new.result c.new.ensures.lists (c.new.ensures.rights rules)
 
 pub returns-clause-marks : goal.returns-clause-marks
 returns-clause-marks g c = λ rules marks.
-    none_marked g.M.Marks.has_mark g.M.Marks.of_pool rules c.new.result c.new-2.result c.new.ensures (c.new-2.ensures rules c.new.result.pool)
+    none_marked g.M.Marks.has_mark g.M.Marks.of_pool rules c.new.result c.new-2.result c.new.ensures.lists (c.new-2.ensures rules c.new.result.pool)
