@@ -1,9 +1,8 @@
 //! The constraints of all peaks.
 ghost use Rattle.std.specs.Prelude.{◌≡◌, ◌<◌, IfOk, OnOk, MatchOption};
 ghost use Rattle.assign_search.specs.Continues.{Continues};
-ghost use Rattle.join_find.specs.RightSides.{HasRightSides};
 ghost use Rattle.join_find.specs.First.{Along};
-ghost use Rattle.join_find.specs.RightSides.{HaveRightSides};
+ghost use Rattle.join_find.specs.RightSides.{HasRightSides, HaveRightSides};
 ghost use Rattle.join_find.specs.Sides.{HasSides, HaveSides};
 ghost use Rattle.path_lists.specs.Growth.{GrowsBy};
 ghost use Rattle.label_find.specs.ConstraintPuzzle.{IsConstraintFor};
