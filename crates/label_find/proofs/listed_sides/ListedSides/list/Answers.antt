@@ -1,6 +1,6 @@
 use Rattle.std.proofs.Common.{refl, sym, ◌∙◌}
 use Rattle.join_find.specs.RightIds.{side_on, AreRightIds}
-use Rattle.join_find.proofs.RightIdLaws.{rights_grown}
+use Rattle.join_find.proofs.RightIdLaws.{rights_grown, side_is}
 use Rattle.term_pool.proofs.Extending.{extends_on}
 use Rattle.label_find.proofs.PathsOfSides.{listed_still, one_more_listed}
 use Rattle.label_find.proofs.NumberedSides.{numbered_still, numbered_with}
@@ -17,6 +17,12 @@ rights : (g : _) (c : In_ok-id g) → AreRightIds c.args.trs.now.rules c.intern_
 rights g c =
     let rules = c.args.trs.now.rules in
     (rw c.rules.ensures.rules at c.in_ok-id.ensures.rights) c.intern_side.new.pool (rights_grown rules c.args.self.now.pool c.intern_side.new.pool c.args.self.now.ids c.in_ok-id.ensures.kept c.requires.sides.rights) c.in_ok-id.ensures.id
+
+pub paths_from-requires-clause-small : goal.paths_from-requires-clause-small
+paths_from-requires-clause-small g c = rw c.side_on-side.ensures (side_is c.args.hand c.args.peak.now c.requires.peak).small
+
+pub paths_from-requires-clause-narrow : goal.paths_from-requires-clause-narrow
+paths_from-requires-clause-narrow g c = rw c.side_on-side.ensures (side_is c.args.hand c.args.peak.now c.requires.peak).narrow
 
 pub returns-then-has-clause-sides : goal.returns-then-has-clause-sides
 returns-then-has-clause-sides g c =
