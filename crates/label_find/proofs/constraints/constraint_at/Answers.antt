@@ -1,4 +1,4 @@
-use Rattle.std.proofs.Common.{List, IsTrue, is_some, IfOk, ap, sym, ◌∙◌, subst}
+use Rattle.std.proofs.Common.{List, IsTrue, is_some, IfOk, refl, ap, sym, ◌∙◌, subst}
 use Rattle.rewrite_core.specs.PlacedPeak.{PlacedPeak}
 use Rattle.join_find.specs.KeptLists.{list_of}
 use Rattle.join_find.specs.declared.kept_lists.KeptLists.{KeptLists}
@@ -25,10 +25,10 @@ number-requires-clause-numbers g c =
     c.in_ok-right_id.ensures.numbers table (c.in_ok-left_id.ensures.numbers table (c.make_room.ensures.numbers table c.requires.numbers))
 
 pub number-requires-clause-short : goal.number-requires-clause-short
-number-requires-clause-short c = short_paths c.args.trs.now.rules c.list-2.new.self c.in_ok-right_id.ensures.sides
+number-requires-clause-short g c = short_paths c.args.trs.now.rules c.list-2.new.self c.in_ok-right_id.ensures.sides
 
 pub number-requires-2-clause-short : goal.number-requires-2-clause-short
-number-requires-2-clause-short c =
+number-requires-2-clause-short g c =
     short_paths c.args.trs.now.rules c.number.new.self (listed_same c.args.trs.now.rules c.list-2.new.self c.number.new.self c.in_ok-left.ensures.same c.in_ok-right_id.ensures.sides)
 
 pub number-requires-2-clause-listed : goal.number-requires-2-clause-listed

@@ -16,3 +16,9 @@ returns-clause-answer g c =
 
 pub constraints_of-requires-clause-rights : goal.constraints_of-requires-clause-rights
 constraints_of-requires-clause-rights g c = c.right_sides_are_sides.ensures c.args.trs.now.rules c.args.peaks.now c.requires.critical
+
+pub search_ranks-requires-clause-rights : goal.search_ranks-requires-clause-rights
+search_ranks-requires-clause-rights g c = c.right_sides_are_sides.ensures c.args.trs.now.rules c.args.peaks.now c.requires.critical
+
+pub search_ranks-requires-clause-linear : goal.search_ranks-requires-clause-linear
+search_ranks-requires-clause-linear g c = c.are_linear.ensures.linear (cc (c.if-not-are_linear.false))
