@@ -5,6 +5,7 @@ use Rattle.rewrite_core.specs.ShiftedPath.{shifted_path}
 use Rattle.path_text.specs.Paths.{all_steps}
 use Rattle.path_text.specs.declared.pieces.Piece.{Piece, fold-Piece}
 use Rattle.path_text.specs.declared.pieces.Piece.TheOpen.{Piece-F}
+use Rattle.path_text.specs.declared.pieces.KeptPath.{KeptPath}
 
 -- the steps of a piece, whose shared pieces are seen as their steps
 abbrev pub steps_of_layer : Piece-F (List PlacedRule) → List PlacedRule
@@ -17,3 +18,8 @@ steps_of_piece = fold-Piece (List PlacedRule) steps_of_layer
 -- the steps of pieces, in order
 abbrev pub steps_of_pieces : List Piece → List PlacedRule
 steps_of_pieces pieces = all_steps (map steps_of_piece pieces)
+
+-- the steps of a path that is kept
+abbrev pub steps_of_path : KeptPath → List PlacedRule
+steps_of_path (KeptPath.Steps steps) = steps.items
+steps_of_path (KeptPath.Pieces pieces) = steps_of_pieces pieces.items

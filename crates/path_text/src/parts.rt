@@ -7,8 +7,9 @@ ghost use Rattle.text_reading.specs.Seen.{seen};
 ghost use Rattle.path_text.specs.Sharing.{path_weight, longest_place};
 ghost use Rattle.path_text.specs.Paths.{use_list, use_part, path_part, path_of_parts, all_steps, within_room, ◌then_read◌, begins_with as is_begun_with, is_word as is_the_word};
 ghost use Rattle.path_text.specs.Parts.{steps_of_part, room_left};
+ghost use Rattle.path_text.specs.Pieces.{steps_of_path, steps_of_pieces};
 
-use crate::pieces::Pieces;
+use crate::pieces::{FEWEST_SHARED, KeptPath, Piece, Pieces};
 use crate::reading::{read_placed_rule, read_position};
 use crate::sharing::{DefinedPath, Definitions};
 use rewrite_core::PathStep;
@@ -239,7 +240,7 @@ fn room_behind_step(room: u64, step: &PathStep) -> Option<u64>
     room.checked_sub(step.place.places().len() as u64)
 }
 
-/// The path of parts that weigh so much together, in pieces.
+/// The path of parts that weigh so much together, to be kept.
 pub fn defined_path(
     alloc: Global,
     parts: &[PathPart<'_>],
@@ -248,21 +249,32 @@ pub fn defined_path(
     requires { weight ≡ path_weight (all_steps (map steps_of_part parts.now)) }
     ensures { IfOk result (λ path. path ≡ all_steps (map steps_of_part parts.now)) }
 {
-    let pieces = pieces_of_parts(alloc, parts)?;
     let count = count_of_parts(parts);
+    let path = kept_path(alloc, parts, count)?;
     let longest = longest_of_parts(parts);
-    Ok(DefinedPath::new(pieces, count, longest, weight))
+    Ok(DefinedPath::new(path, count, longest, weight))
+}
+
+/// The path of parts, to be kept: steps if there are as few as it is said, or else pieces.
+fn kept_path(alloc: Global, parts: &[PathPart<'_>], count: usize) -> Result<KeptPath, OutOfMemory>
+    ensures { IfOk result (λ path. steps_of_path path ≡ all_steps (map steps_of_part parts.now)) }
+{
+    if count < FEWEST_SHARED {
+        return Ok(KeptPath::Steps(steps_of_parts(alloc, parts)?));
+    }
+    Ok(KeptPath::Pieces(pieces_of_parts(alloc, parts)?))
 }
 
 /// The steps of parts in pieces, in order.
-fn pieces_of_parts(alloc: Global, parts: &[PathPart<'_>]) -> Result<Pieces, OutOfMemory>
-    ensures { IfOk result (λ pieces. pieces ≡ all_steps (map steps_of_part parts.now)) }
+fn pieces_of_parts(alloc: Global, parts: &[PathPart<'_>]) -> Result<Vec<Piece>, OutOfMemory>
+    ensures { IfOk result (λ pieces.
+        steps_of_pieces pieces.items ≡ all_steps (map steps_of_part parts.now)) }
 {
     let mut pieces = Pieces::with_capacity(alloc, parts.len())?;
     for part in parts {
         append_part(alloc, &mut pieces, part)?;
     }
-    pieces.shared_if_long(alloc)
+    pieces.finish(alloc)
 }
 
 fn append_part(alloc: Global, pieces: &mut Pieces, part: &PathPart<'_>) -> Result<(), OutOfMemory>
@@ -270,7 +282,7 @@ fn append_part(alloc: Global, pieces: &mut Pieces, part: &PathPart<'_>) -> Resul
 {
     match part {
         PathPart::Step(step) => pieces.push(step.copy(alloc)?),
-        PathPart::Use(by, path) => pieces.append(alloc, path.pieces(), by),
+        PathPart::Use(by, path) => pieces.append(alloc, path.path(), by),
     }
 }
 

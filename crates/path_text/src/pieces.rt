@@ -1,6 +1,6 @@
 ghost use Rattle.std.specs.Prelude.{◌≡◌, ◌++◌, [], ◌∷◌, IfOk, OnOk};
 ghost use Rattle.rewrite_core.specs.ShiftedPath.{shifted_path};
-ghost use Rattle.path_text.specs.Pieces.{steps_of_piece, steps_of_pieces};
+ghost use Rattle.path_text.specs.Pieces.{steps_of_piece, steps_of_pieces, steps_of_path};
 
 use rewrite_core::{PathStep, push_shifted};
 use std::alloc::Global;
@@ -19,9 +19,17 @@ pub enum Piece {
 /// A path of fewer steps and shared pieces than this is put in place of its use, and a longer one is
 /// shared by the paths that use it. So a path is written out by way of less than one shared piece
 /// for 15 steps, and within the weight of a text at most 1,057 of these are inside each other.
-const FEWEST_SHARED: usize = 16;
+pub const FEWEST_SHARED: usize = 16;
 
-/// A path in pieces, with further steps after them. Contracts see the list of all steps.
+/// A path that is kept for its uses: its steps, if they are few, or else pieces.
+#[derive(Drop)]
+pub enum KeptPath {
+    Steps(Vec<PathStep>),
+    Pieces(Vec<Piece>),
+}
+
+/// A path that is being read, in pieces, with further steps after them. Contracts see the list of
+/// all steps.
 #[derive(Drop)]
 pub struct Pieces {
     pieces: Vec<Piece>,
@@ -62,13 +70,33 @@ impl Pieces {
     }
 
     /// Appends a path at a position. What it shares is shared once more.
-    pub fn append(&mut self, alloc: Global, path: &Pieces, by: &Position) -> Result<(), OutOfMemory>
-        ensures { OnOk result (self.new ≡ self.old ++ shifted_path by.now path.now) }
+    pub fn append(
+        &mut self,
+        alloc: Global,
+        path: &KeptPath,
+        by: &Position,
+    ) -> Result<(), OutOfMemory>
+        ensures { OnOk result (self.new ≡ self.old ++ shifted_path by.now (steps_of_path path.now)) }
     {
-        for piece in &path.pieces {
+        match path {
+            KeptPath::Steps(steps) => push_shifted(alloc, &mut self.last, steps, by),
+            KeptPath::Pieces(pieces) => self.append_pieces(alloc, pieces, by),
+        }
+    }
+
+    fn append_pieces(
+        &mut self,
+        alloc: Global,
+        pieces: &[Piece],
+        by: &Position,
+    ) -> Result<(), OutOfMemory>
+        ensures { OnOk result (self.new
+            ≡ self.old ++ shifted_path by.now (steps_of_pieces pieces.now)) }
+    {
+        for piece in pieces {
             self.append_piece(alloc, piece, by)?;
         }
-        push_shifted(alloc, &mut self.last, &path.last, by)
+        Ok(())
     }
 
     fn append_piece(
@@ -91,43 +119,20 @@ impl Pieces {
         }
     }
 
-    /// The same path. A long one becomes one piece, which others share.
-    pub fn shared_if_long(self, alloc: Global) -> Result<Pieces, OutOfMemory>
-        ensures { IfOk result (λ p. p ≡ self) }
+    /// The whole path in pieces. Where these are many, they become one, which others share.
+    pub fn finish(self, alloc: Global) -> Result<Vec<Piece>, OutOfMemory>
+        ensures { IfOk result (λ pieces. steps_of_pieces pieces.items ≡ self) }
     {
-        if self.size() < FEWEST_SHARED {
-            return Ok(self);
-        }
-        self.share(alloc)
-    }
-
-    fn share(self, alloc: Global) -> Result<Pieces, OutOfMemory>
-        ensures { IfOk result (λ p. p ≡ self) }
-    {
+        let is_long = self.size() >= FEWEST_SHARED;
         let Pieces {
             mut pieces,
             mut last,
         } = self;
         push_last(alloc, &mut pieces, &mut last)?;
-        let mut whole = Vec::with_capacity(alloc, 1)?;
-        whole.push(Piece::Shared(Position::new(alloc), Rc::new(alloc, pieces)?))?;
-        Ok(Pieces {
-            pieces: whole,
-            last,
-        })
-    }
-
-    /// Appends the steps to others, with a position in front of each place.
-    pub fn write_out(
-        &self,
-        alloc: Global,
-        steps: &mut Vec<PathStep>,
-        by: &Position,
-    ) -> Result<(), OutOfMemory>
-        ensures { OnOk result (steps.new.items ≡ steps.old.items ++ shifted_path by.now self.now) }
-    {
-        push_steps(alloc, steps, &self.pieces, by)?;
-        push_shifted(alloc, steps, &self.last, by)
+        if is_long {
+            return share(alloc, pieces);
+        }
+        Ok(pieces)
     }
 
     /// How many steps and shared pieces there are, those inside shared pieces not counted. It
@@ -142,6 +147,33 @@ impl Pieces {
         }
         size
     }
+}
+
+impl KeptPath {
+    /// Appends the steps to others, with a position in front of each place.
+    pub fn write_out(
+        &self,
+        alloc: Global,
+        steps: &mut Vec<PathStep>,
+        by: &Position,
+    ) -> Result<(), OutOfMemory>
+        ensures { OnOk result (steps.new.items
+            ≡ steps.old.items ++ shifted_path by.now (steps_of_path self.now)) }
+    {
+        match self {
+            KeptPath::Steps(more) => push_shifted(alloc, steps, more, by),
+            KeptPath::Pieces(pieces) => push_steps(alloc, steps, pieces, by),
+        }
+    }
+}
+
+/// One piece of several.
+fn share(alloc: Global, pieces: Vec<Piece>) -> Result<Vec<Piece>, OutOfMemory>
+    ensures { IfOk result (λ whole. steps_of_pieces whole.items ≡ steps_of_pieces pieces.items) }
+{
+    let mut whole = Vec::with_capacity(alloc, 1)?;
+    whole.push(Piece::Shared(Position::new(alloc), Rc::new(alloc, pieces)?))?;
+    Ok(whole)
 }
 
 /// Appends the steps of pieces, with a position in front of each place.

@@ -4,10 +4,11 @@ ghost use Rattle.text_reading.specs.Reading.{chosen};
 ghost use Rattle.path_text.specs.Sharing.{nothing_defined, path_weight, longest_place};
 ghost use Rattle.path_text.specs.Parts.{room_left};
 ghost use Rattle.path_text.specs.Measures.{AreMeasures};
+ghost use Rattle.path_text.specs.Pieces.{steps_of_path};
 ghost use Rattle.path_text.specs.Paths.{is_too_deep};
 ghost use Rattle.path_text.specs.Defining.{is_defined};
 
-use crate::pieces::Pieces;
+use crate::pieces::KeptPath;
 use names_text::Names;
 use rewrite_core::PathStep;
 use std::alloc::Global;
@@ -20,10 +21,10 @@ pub const MOST_WEIGHT: u64 = 8_388_608;
 /// The most numbers of a place behind a position.
 const LONGEST_PLACE: usize = 1_024;
 
-/// A path in pieces with its measures, so that those of its uses are known without its steps.
+/// A path with its measures, so that those of its uses are known without a look at its steps.
 #[derive(Drop)]
 pub struct DefinedPath {
-    pieces: Pieces,
+    path: KeptPath,
     /// The number of steps.
     count: usize,
     /// The numbers of the longest place.
@@ -41,10 +42,11 @@ impl Model for DefinedPath {
     ghost coded = { coded_list placed_code };
 
     ghost use Rattle.path_text.specs.Measures.{AreMeasures};
+    ghost use Rattle.path_text.specs.Pieces.{steps_of_path};
 
-    ghost view = { λ p. p.pieces };
+    ghost view = { λ p. steps_of_path p.path };
 
-    ghost invariant = { λ p. AreMeasures p.pieces p.count p.longest p.weight };
+    ghost invariant = { λ p. AreMeasures (steps_of_path p.path) p.count p.longest p.weight };
 }
 
 /// The words that are defined, each once, with their paths. Contracts see the list of the words
@@ -135,12 +137,12 @@ impl Definitions {
 }
 
 impl DefinedPath {
-    pub(crate) fn new(pieces: Pieces, count: usize, longest: usize, weight: u64) -> DefinedPath
-        requires { AreMeasures pieces count longest weight }
-        ensures { result ≡ pieces }
+    pub(crate) fn new(path: KeptPath, count: usize, longest: usize, weight: u64) -> DefinedPath
+        requires { AreMeasures (steps_of_path path) count longest weight }
+        ensures { result ≡ steps_of_path path }
     {
         DefinedPath {
-            pieces,
+            path,
             count,
             longest,
             weight,
@@ -156,13 +158,13 @@ impl DefinedPath {
     ) -> Result<(), OutOfMemory>
         ensures { OnOk result (steps.new.items ≡ steps.old.items ++ shifted_path by.now self.now) }
     {
-        self.pieces.write_out(alloc, steps, by)
+        self.path.write_out(alloc, steps, by)
     }
 
-    pub(crate) fn pieces(&self) -> &Pieces
-        ensures { result.now ≡ self.now }
+    pub(crate) fn path(&self) -> &KeptPath
+        ensures { steps_of_path result.now ≡ self.now }
     {
-        &self.pieces
+        &self.path
     }
 
     /// The number of steps.

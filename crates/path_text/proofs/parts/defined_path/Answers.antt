@@ -6,5 +6,5 @@ use Rattle.path_text.proofs.parts.defined_path.Goals as goal
 
 pub new-requires : goal.new-requires
 new-requires c =
-    measured (all_steps (map steps_of_part c.args.parts.now)) c.in_ok-pieces.pieces c.count_of_parts-count.result c.longest_of_parts-longest.result c.args.weight
-    c.in_ok-pieces.ensures c.ranges.weight.fits c.requires c.count_of_parts-count.ensures c.longest_of_parts-longest.ensures
+    measured (all_steps (map steps_of_part c.args.parts.now)) _ c.count_of_parts-count.result c.longest_of_parts-longest.result c.args.weight
+    c.in_ok-path.ensures c.ranges.weight.fits c.requires c.count_of_parts-count.ensures c.longest_of_parts-longest.ensures
