@@ -6,6 +6,7 @@ use Rattle.std.proofs.lemmas.List.{append-nil, take_all, take_more}
 use Rattle.std.proofs.lemmas.List.Elements.{All-more}
 use Rattle.std.proofs.lemmas.Bool.Decides.{Decides-eqb}
 use Rattle.std.proofs.lemmas.Option.{same_Some, slice_get_within}
+use Rattle.trs_defs.specs.Member.{In}
 use Rattle.trs_defs.specs.Tree.{Tree, Trees, var, app}
 use Rattle.trs_defs.specs.System.{RewriteRule, System, IsSystem, has_root}
 use Rattle.trs_defs.proofs.ListItems.{last_item, item_there}
@@ -24,9 +25,8 @@ use Rattle.trs_caps.proofs.MetRules.{root_of_met}
 use Rattle.pair_theory.specs.Marked.{Marked, marked, plain}
 use Rattle.pair_theory.specs.DependencyPair.{subterms, subterms_of_all}
 use Rattle.dp_graph.specs.GraphNodes.{IsEndOf}
-use Rattle.dp_graph.specs.ByRoot.{items_at}
 use Rattle.dp_graph.specs.SameLefts.{IsNoted, HaveSameLefts}
-use Rattle.dp_graph.specs.NotedRules.{Lists, HaveAllNoted}
+use Rattle.dp_graph.specs.NotedRules.{Lists, noted_at, HaveAllNoted}
 use Rattle.dp_graph.specs.WordRows.{HasWords, KeepWords}
 use Rattle.dp_graph.specs.FlagRows.{IsSet, IsMet, HasFlags, IsRow, MeetsOther, IsOther, LooksAtLeft}
 use Rattle.dp_graph.specs.CapRows.{Key, HaveNumbers, no_numbers, one_number, HasKey, AreCaps, KeepNumbers, AreMore, IsNumbered, AddsCap, AreEnds, no_ends, at_variable, not_defined, one_end, IsEnd, AddsEnds, IsCapped, Begins, with_end}
@@ -34,7 +34,7 @@ use Rattle.dp_graph.specs.declared.cap_rows.CapRows.{CapRows}
 use Rattle.dp_graph.specs.declared.cap_rows.End.{End}
 use Rattle.dp_graph.specs.declared.cap_rows.NumberedCap.{NumberedCap}
 use Rattle.dp_graph.proofs.FlagLaws.{none_set}
-use Rattle.dp_graph.proofs.ListPlaces.{each_of_all, last_or_there, still_there, length_set}
+use Rattle.dp_graph.proofs.ListPlaces.{each_of_all, all_of_each, last_or_there, still_there, length_set}
 
 -- ---- the row of a cap
 
@@ -66,7 +66,7 @@ module _ (rules : List RewriteRule) (lefts : List (Option ℕ)) (c : HoledTree) 
     ];
   }
 
-  pub all_flags : (system : System) (noted : Lists) (f : ℕ) (ks : List ℕ) (i : ℕ) (row : List ℕ) → system.rules ≡ rules → IsSystem system → HaveSameLefts rules lefts → HaveAllNoted rules lefts noted → HasRoot f c → ks ≡ items_at noted f → length ks ≤ i
+  pub all_flags : (system : System) (noted : Lists) (f : ℕ) (ks : List ℕ) (i : ℕ) (row : List ℕ) → system.rules ≡ rules → IsSystem system → HaveSameLefts rules lefts → HaveAllNoted rules lefts noted → HasRoot f c → ks ≡ noted_at rules noted f → length ks ≤ i
       → RowSoFar rules lefts c (take i ks) row → HasFlags rules lefts c row
   all_flags system noted f ks i row is valid same stand root all past so_far = record {
     met = so_far.met;
@@ -77,7 +77,9 @@ module _ (rules : List RewriteRule) (lefts : List (Option ℕ)) (c : HoledTree) 
         let rooted : IsTrue (has_root f q.left) = root_of_met f c q.left root proper also in
         let looked = subst (All (λ n. IsNoted lefts n n → IsMet rules c n → IsSet row n)) (take_all i ks past ∙ all) so_far.looked in
         let own = same.noted k j at in
-        each_of_all (λ n. IsNoted lefts n n → IsMet rules c n → IsSet row n) (items_at noted f) looked j (stand j q found f own rooted) own (q, found, also);
+        let member : In j (with_root f rules) =
+        each_number (λ (r : RewriteRule). has_root f r.left) (λ n. In n (with_root f rules)) q rooted j 0 rules (all_of_each (λ n. In n (with_root f rules)) (with_root f rules) (λ n i. i)) j found (omega arith) in
+        each_of_all (λ n. IsNoted lefts n n → IsMet rules c n → IsSet row n) (noted_at rules noted f) looked j (stand f j member own) own (q, found, also);
     some = so_far.some;
   }
 

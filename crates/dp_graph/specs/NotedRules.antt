@@ -1,28 +1,28 @@
 -- The rules that are noted for left sides, by the roots of these.
-use Rattle.std.specs.Prelude.{◌≡◌, ◌<◌, ℕ, List, Option, Some, IsTrue, Vec, slice_get}
+use Rattle.std.specs.Prelude.{ℕ, List, Option, Some, None, Vec}
 use Rattle.std.specs.declared.alloc.Global.{Global}
-use Rattle.std.specs.BTreeMap.{BTreeMap}
+use Rattle.std.specs.Ordering.{nat_cmp}
+use Rattle.std.specs.BTreeMap.{BTreeMap, get}
 use Rattle.trs_defs.specs.Member.{In}
-use Rattle.trs_defs.specs.Tree.{Tree}
-use Rattle.trs_defs.specs.System.{RewriteRule, has_root}
-use Rattle.dp_graph.specs.ByRoot.{items_at}
+use Rattle.trs_defs.specs.System.{RewriteRule}
+use Rattle.term_pool.specs.Roots.{with_root}
 use Rattle.dp_graph.specs.SameLefts.{IsNoted}
 
 abbrev pub Lists : Type 0
 Lists = BTreeMap ℕ (Vec ℕ Global)
 
--- rule number k stands in the list of the root of its left side, if it is noted for that
-abbrev pub StandsAtRoot : List (Option ℕ) → Lists → ℕ → Tree → Type 0
-StandsAtRoot lefts lists k left = (f : ℕ) → IsNoted lefts k k → IsTrue (has_root f left) → In k (items_at lists f)
+-- the numbers in the list of a root, or all if it has none
+abbrev pub listed_or : List ℕ → Option (Vec ℕ Global) → List ℕ
+listed_or all None = all
+listed_or all (Some listed) = listed.items
 
--- each rule does
+-- the rules that are looked at for a root
+abbrev pub noted_at : List RewriteRule → Lists → ℕ → List ℕ
+noted_at rules lists f = listed_or (with_root f rules) (get nat_cmp lists f)
+
+-- a rule with this root is looked at, if it is noted for its left side
+abbrev pub HasNoted : List RewriteRule → List (Option ℕ) → Lists → ℕ → Type 0
+HasNoted rules lefts lists f = (k : ℕ) → In k (with_root f rules) → IsNoted lefts k k → In k (noted_at rules lists f)
+
 abbrev pub HaveAllNoted : List RewriteRule → List (Option ℕ) → Lists → Type 0
-HaveAllNoted rules lefts lists = (k : ℕ) (rule : RewriteRule) → slice_get rules k ≡ Some rule → StandsAtRoot lefts lists k rule.left
-
--- each of the first n rules does
-abbrev pub HaveFirstNoted : List RewriteRule → List (Option ℕ) → ℕ → Lists → Type 0
-HaveFirstNoted rules lefts n lists = (k : ℕ) (rule : RewriteRule) → k < n → slice_get rules k ≡ Some rule → StandsAtRoot lefts lists k rule.left
-
--- what stands in a list stays there
-abbrev pub KeepItems : Lists → Lists → Type 0
-KeepItems old new = (f k : ℕ) → In k (items_at old f) → In k (items_at new f)
+HaveAllNoted rules lefts lists = (f : ℕ) → HasNoted rules lefts lists f

@@ -310,7 +310,7 @@ fn flags_of(
 {
     let rules = by_root.rules();
     let mut row = Vec::new(alloc);
-    for k in numbers_at(noted, f) {
+    for k in numbers_at(noted, by_root, f) {
         look_at(alloc, lefts, cap, rules, *k as usize, &mut row)?;
     }
     Ok(row)

@@ -33,7 +33,7 @@ impl Nodes {
         ensures { IfOk result (AreNodes by_root.now.rules lefts.now
             (dependency_pairs by_root.now.rules)) }
     {
-        let noted = noted_by_root(alloc, by_root.rules(), lefts)?;
+        let noted = noted_by_root(alloc, by_root, lefts)?;
         let mut nodes = Nodes {
             nodes: Vec::with_capacity(alloc, room)?,
             caps: CapRows::new(alloc, noted)?,

@@ -1,9 +1,10 @@
-use Rattle.std.proofs.Common.{ap}
-use Rattle.dp_graph.specs.ByRoot.{entry_items}
+use Rattle.std.proofs.Common.{ap, ◌∙◌}
+use Rattle.term_pool.specs.Roots.{with_root}
+use Rattle.dp_graph.specs.NotedRules.{listed_or}
 use Rattle.dp_graph.proofs.noted.numbers_at.Goals as goal
 
 pub returns-in-Some : goal.returns-in-Some
-returns-in-Some c = rw c.deref.ensures.value (ap entry_items c.in-Some.ensures.value)
+returns-in-Some c = rw c.deref.ensures.value (ap (listed_or (with_root c.args.f c.args.by_root.now.rules)) c.in-Some.ensures.value)
 
 pub returns-in-None : goal.returns-in-None
-returns-in-None c = ap entry_items c.in-None.ensures.value
+returns-in-None c = c.with_root.ensures.numbers ∙ ap (listed_or (with_root c.args.f c.args.by_root.now.rules)) c.in-None.ensures.value

@@ -4,7 +4,7 @@ use Rattle.dp_graph.proofs.PairNodeLaws.{no_rules, one_more_rule, all_rules}
 use Rattle.dp_graph.proofs.nodes.Nodes.of.Goals as goal
 
 pub loop-k-init : goal.loop-k-init
-loop-k-init c = no_rules c.args.by_root.now.rules c.args.lefts.now _ (c.in_ok-new.ensures c.args.by_root.now.rules c.args.lefts.now (rw c.rules.ensures.rules at c.in_ok-noted.ensures)) c.in_ok-with_capacity.ensures.items c.new-2.ensures.items
+loop-k-init c = no_rules c.args.by_root.now.rules c.args.lefts.now _ (c.in_ok-new.ensures c.args.by_root.now.rules c.args.lefts.now c.in_ok-noted.ensures) c.in_ok-with_capacity.ensures.items c.new-2.ensures.items
 
 pub bounds-lefts-k : goal.bounds-lefts-k
 bounds-lefts-k c = let n = c.requires.count in let same = ap length c.rules-rule-items.ensures.rules in omega (arith, c.loop-k-test.true, n, same)
