@@ -1,5 +1,5 @@
 -- Names that are numbered by 32 bits, and the slots and trees by which they are found.
-use Rattle.std.specs.Prelude.{◌≡◌, ◌<◌, ◌-◌, ◌^◌, ◌++◌, ◌∷◌, [], ◌⊎◌, ℕ, Bool, true, false, List, length, slice_get, take, Option, Some, None, Vec, bit_and, if◌then◌else◌}
+use Rattle.std.specs.Prelude.{◌≡◌, ◌<◌, ◌-◌, ◌^◌, ◌++◌, ◌∷◌, [], ◌⊎◌, ℕ, Bool, true, false, List, length, slice_get, take, Option, Some, None, Vec, bit_and, bit_xor, get_or, if◌then◌else◌}
 use Rattle.std.specs.Cmp.Lexicographic.{slice_cmp}
 use Rattle.std.specs.Global.{Global}
 use Rattle.std.specs.Hash.FoldHasher.{initial, write, finish}
@@ -17,8 +17,16 @@ use Rattle.names_text.specs.declared.trees.NameTrees.{NameTrees}
 abbrev pub front : List ℕ → List ℕ
 front name = take 256 name
 
+-- the last of some bytes, and 0 of none
+abbrev pub last_byte : List ℕ → ℕ
+last_byte bytes = get_or bytes (length bytes - 1) 0
+
+-- the others
+abbrev pub stem : List ℕ → List ℕ
+stem bytes = take (length bytes - 1) bytes
+
 abbrev pub hash_of : List ℕ → ℕ
-hash_of name = finish (write initial (front name))
+hash_of name = bit_xor (finish (write initial (stem (front name)))) (last_byte (front name))
 
 -- another hash
 abbrev pub second_hash_of : List ℕ → ℕ

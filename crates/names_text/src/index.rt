@@ -1,7 +1,7 @@
 //! An index of names: slots by their hashes, and trees for the names whose slots others have.
 ghost use Rattle.std.specs.Prelude.{◌≡◌, ◌↔◌, ◌<◌, ◌≤◌, ◌^◌, [], List, ℕ, length, map, slice_get, Option, Some, None, IfOk, OnOk, OnErr, IsTrue, true};
 ghost use Rattle.names_text.specs.Names.{number_among, are_distinct};
-ghost use Rattle.names_text.specs.NameTable.{Adds, IsIndex, free, front, hash_of, number_behind_slot, number_by_look, number_by_slot, second_hash_of, slot_for, slot_of};
+ghost use Rattle.names_text.specs.NameTable.{Adds, IsIndex, free, front, hash_of, last_byte, number_behind_slot, number_by_look, number_by_slot, second_hash_of, slot_for, slot_of};
 
 use crate::trees::NameTrees;
 use std::alloc::{AllocError, Global};
@@ -189,12 +189,25 @@ fn find_among_few(names: &[Vec<u8>], name: &[u8]) -> Option<u32>
     None
 }
 
+/// A hash that names have in common but for the low bits, where only the last bytes of their fronts
+/// differ: so those that are counted stand beside each other, and many are looked up in one place.
 fn hash(name: &[u8]) -> u64
     ensures { result ≡ hash_of name.now }
 {
+    let front = front(name);
     let mut hasher = FoldHasher::default();
-    hasher.write(front(name));
-    hasher.finish()
+    hasher.write(&front[..front.len().saturating_sub(1)]);
+    hasher.finish() ^ last_byte(front)
+}
+
+/// The last byte, or 0 where there is none.
+fn last_byte(bytes: &[u8]) -> u64
+    ensures { result ≡ last_byte bytes.now }
+{
+    match bytes.last() {
+        Some(byte) => u64::from(*byte),
+        None => 0,
+    }
 }
 
 /// Another hash, since names that have one hash seldom have this one in common too.
