@@ -1,5 +1,5 @@
 -- Lists of paths that end at 256, and what is added to them.
-use Rattle.std.specs.Prelude.{◌≡◌, ◌≢◌, ◌<◌, ◌≤◌, ℕ, ◌+◌, List, [], ◌∷◌, ◌++◌, All, Some, length, take, slice_get, IsTrue, refl}
+use Rattle.std.specs.Prelude.{◌≡◌, ◌<◌, ◌≤◌, ℕ, ◌+◌, List, [], ◌∷◌, ◌++◌, All, Some, length, take, slice_get, IsTrue, refl}
 use Rattle.std.specs.Global.{Vec}
 use Rattle.std.proofs.Common.{zero, suc, ap, sym, ◌∙◌, subst, get_or, drop, append_assoc, append-nil, length-append, arith}
 use Rattle.std.proofs.Math.Seq.{take-suc}
@@ -21,12 +21,8 @@ use Rattle.term_pool.specs.Reach.{AreReducts, no_step, kept, left_out, AreCandid
 use Rattle.term_pool.proofs.ListingLaws.{reducts_there, reducts_append, candidates_append, small_kept}
 use Rattle.term_pool.proofs.ReachedIds.{same_listed, length_listed}
 use Rattle.term_pool.proofs.PoolTrees.{stands_at}
-use Rattle.term_pool.proofs.Extending.{same_tree_at}
 use Rattle.path_lists.specs.PathList.{no_steps}
-use Rattle.path_lists.specs.Adding.{Entry, IsEntryAt, AddsPaths, AreNext, at_most_steps, all_redexes, IsKeptEnd, IsLeftOut}
-use Rattle.path_lists.specs.KnownEnds.{AreKnownEnds}
-use Rattle.path_lists.specs.declared.known_ends.KnownEnds.{KnownEnds}
-use Rattle.term_pool.proofs.KnownLaws.{known_on}
+use Rattle.path_lists.specs.Adding.{Entry, IsEntryAt, AddsPaths, IsKeptEnd, IsLeftOut}
 use Rattle.path_lists.proofs.PathLaws.{IsLookedAt, looked_paths_lead}
 
 pub take_again : {A : Type 0} (n : ℕ) (xs ys : List A) → take n (take n xs ++ ys) ≡ take n (xs ++ ys)
@@ -170,26 +166,6 @@ none_longer rules e pool paths near none below few = nothing_added (AreCandidate
 pub none_from_four : (rules : List RewriteRule) (e : Listed) (pool : List Tree) (paths : List Entry) → 4 ≤ length e.path → All (λ x. x.0 < length pool) paths → length paths ≤ 256
     → AddsPaths (AreCandidates rules 4 4096 (e ∷ [])) pool pool paths paths
 none_from_four rules e pool paths far below few = nothing_added (AreCandidates rules 4 4096 (e ∷ [])) pool paths below few (too_deep far no_entry)
-
-pub none_next : (rules : List RewriteRule) (e : Listed) (steps : List PlacedRule) (pool : List Tree) (paths : List Entry) → AreNext rules e steps → steps ≡ [] → All (λ x. x.0 < length pool) paths
-    → length paths ≤ 256 → AddsPaths (AreCandidates rules 4 4096 (e ∷ [])) pool pool paths paths
-none_next rules e steps pool paths (at_most_steps far none) empty below few = none_from_four rules e pool paths far below few
-none_next rules e steps pool paths (all_redexes near redexes) empty below few = none_longer rules e pool paths near (subst (HasRedexes rules e.term) empty redexes) below few
-
-pub next_short : (rules : List RewriteRule) (e : Listed) (steps : List PlacedRule) → AreNext rules e steps → steps ≢ [] → length e.path < 4
-next_short rules e steps (at_most_steps far none) some = absurd (some none)
-next_short rules e steps (all_redexes near redexes) some = near
-
-pub next_redexes : (rules : List RewriteRule) (e : Listed) (steps : List PlacedRule) → AreNext rules e steps → steps ≢ [] → HasRedexes rules e.term steps
-next_redexes rules e steps (at_most_steps far none) some = absurd (some none)
-next_redexes rules e steps (all_redexes near redexes) some = redexes
-
-pub still_known : (rules : List RewriteRule) (old new : List Tree) (ends : KnownEnds) → Extends old new → AreKnownEnds rules old ends → AreKnownEnds rules new ends
-still_known rules old new ends extends h = record {
-  there = λ id i. (let was = h.there id i in omega (arith, was, extends.longer));
-  none = λ id i. subst (λ t. HasRedexes rules t []) (sym (same_tree_at old new extends id (h.there id i))) (h.none id i);
-  known = known_on rules old new ends.known extends h.known;
-}
 
 -- ---- what is looked at
 

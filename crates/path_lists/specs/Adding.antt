@@ -1,5 +1,5 @@
 -- What adds paths to a list that ends at 256.
-use Rattle.std.specs.Prelude.{◌≡◌, ◌<◌, ◌≤◌, ℕ, ◌+◌, ◌-◌, ◌*◌, false, List, [], ◌++◌, All, Some, length, slice_get, take, IsTrue}
+use Rattle.std.specs.Prelude.{◌≡◌, ◌<◌, ◌≤◌, ℕ, ◌+◌, ◌-◌, ◌*◌, false, List, ◌++◌, All, Some, length, slice_get, take, IsTrue}
 use Rattle.std.specs.Global.{Vec}
 use Rattle.trs_defs.specs.Tree.{Tree}
 use Rattle.trs_defs.specs.Size.{size_of}
@@ -8,7 +8,7 @@ use Rattle.trs_defs.specs.Path.{PlacedRule, StepsAt, Follows}
 use Rattle.term_pool.specs.Pooled.{tree_at}
 use Rattle.term_pool.specs.Listed.{Listed}
 use Rattle.term_pool.specs.ListedIds.{listed, listed_at}
-use Rattle.term_pool.specs.Redexes.{IsNarrow, HasRedexes}
+use Rattle.term_pool.specs.Redexes.{IsNarrow}
 use Rattle.term_pool.specs.Reach.{is_kept}
 use Rattle.path_lists.specs.declared.room.Room.{Room}
 
@@ -51,11 +51,6 @@ pub record GoesOn (rules : List RewriteRule) (room : Room) (pool : List Tree) (e
   pub narrow : IsNarrow (tree_at pool e.0)
   pub sure : IsTrue room.is_sure → KeepsSmall rules (listed pool e)
   pub from : LeadsFrom rules room.start (listed pool e)
-
--- the steps that lead on from the end of a path: none where it has 4 steps
-pub data AreNext (rules : List RewriteRule) (e : Listed) (steps : List PlacedRule) : Type 0 where
-  at_most_steps : 4 ≤ length e.path → steps ≡ [] → AreNext rules e steps
-  all_redexes : length e.path < 4 → HasRedexes rules e.term steps → AreNext rules e steps
 
 -- the id is the result of the step, which is small enough; at most 4,096 ids were added
 pub record IsKeptEnd (rules : List RewriteRule) (s : PlacedRule) (t : Tree) (old new : List Tree) (id : ℕ) : Type 0 where

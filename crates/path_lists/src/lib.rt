@@ -7,8 +7,10 @@ mod growth;
 mod known_ends;
 mod laws;
 mod paths;
+mod reducts;
 mod room;
 
 pub use growth::growth_of;
+pub use known_ends::KnownEnds;
 pub use laws::{listed_paths_lead, path_lists_are_one};
-pub use paths::{MOST_OF_PATHS, paths_from};
+pub use paths::{MOST_OF_PATHS, paths_with};

@@ -1,20 +1,23 @@
 //! The paths of up to four steps from a term.
-ghost use Rattle.std.specs.Prelude.{◌≡◌, ◌<◌, ◌≤◌, ◌+◌, ◌++◌, [], ◌∷◌, All};
-ghost use Rattle.std.specs.Prelude.{length, IfOk, IfSome, IfNone, OnOk, IsTrue, ◌↔◌};
+ghost use Rattle.std.specs.Prelude.{◌≡◌, ◌<◌, ◌≤◌, ◌+◌, ◌++◌, List, [], ◌∷◌, All};
+ghost use Rattle.std.specs.Prelude.{length, drop, IfOk, IfSome, IfNone, OnOk, IsTrue, ◌↔◌};
 ghost use Rattle.trs_core.specs.View.{tree};
+ghost use Rattle.trs_defs.specs.Tree.{Tree};
+ghost use Rattle.trs_defs.specs.System.{RewriteRule};
 ghost use Rattle.trs_defs.specs.Size.{size_of, within_limits};
 ghost use Rattle.term_pool.specs.Pooled.{Extends, tree_at};
-ghost use Rattle.term_pool.specs.ListedIds.{listed, listed_at};
+ghost use Rattle.term_pool.specs.ListedIds.{listed, listed_at, ids_of};
 ghost use Rattle.term_pool.specs.Redexes.{IsNarrow, HasRedexes, IsRedexAt};
 ghost use Rattle.term_pool.specs.Reach.{AreReducts, AreCandidates};
 ghost use Rattle.path_lists.specs.PathList.{IsPathList};
 ghost use Rattle.path_lists.specs.Growth.{GrowsBy};
-ghost use Rattle.path_lists.specs.KnownEnds.{AreKnownEnds};
-ghost use Rattle.path_lists.specs.Adding.{Entry, AddsPaths, IsEntryAt, KeepsSmall, GoesOn, AreNext};
+ghost use Rattle.path_lists.specs.KnownEnds.{AreKnownEnds, LeadsOn};
+ghost use Rattle.path_lists.specs.Adding.{Entry, AddsPaths, IsEntryAt, KeepsSmall, GoesOn};
 ghost use Rattle.path_lists.specs.Adding.{LeadsFrom, IsKeptEnd, IsLeftOut};
 
 use crate::growth::stays_small;
 use crate::known_ends::KnownEnds;
+use crate::reducts::Reducts;
 use crate::room::Room;
 use rewrite_core::copy_path;
 use std::alloc::Global;
@@ -27,6 +30,9 @@ const MOST_PATHS: usize = 256;
 
 const MOST_NODES: u64 = 4_096;
 
+/// The fewest reducts that are noted of a term that has some. Fewer are made again in less time.
+const FEWEST_NOTED: usize = 4;
+
 /// The most ids that a term, and its paths, add to a pool.
 pub const MOST_OF_PATHS: u32 = 1_114_112;
 
@@ -35,18 +41,21 @@ pub const MOST_OF_PATHS: u32 = 1_114_112;
 /// 4,096 nodes or past a limit are left out; of the others the list has the first 256. `growth`
 /// is by how many nodes a step makes a term larger at most: where the ends must be small by that,
 /// or by the right sides of the rules along a path, their nodes are not counted.
-pub fn paths_from(
+/// What is known of ends in the pool is looked up, and what else is found out of them is noted.
+pub fn paths_with(
     alloc: Global,
     pool: &mut Pool,
     trs: &Trs,
     by_root: &RulesByRoot,
     start: &Term,
     growth: u64,
+    ends: &mut KnownEnds,
 ) -> Result<Vec<(u32, Vec<PathStep>)>, OutOfMemory>
     requires table { by_root.now ≡ trs.now }
     requires small { IsTrue (within_limits (tree start.now)) }
     requires narrow { IsNarrow (tree start.now) }
     requires grows { GrowsBy trs.now.rules growth }
+    requires ends { AreKnownEnds trs.now.rules pool.old ends.old }
     ensures list { IfOk result (λ found.
         IsPathList trs.now.rules (tree start.now) (listed_at pool.new found.items)) }
     ensures there { IfOk result (λ found. All (λ e. e.0 < length pool.new) found.items) }
@@ -54,6 +63,7 @@ pub fn paths_from(
     // The ids that were there keep their terms.
     ensures kept { Extends pool.old pool.new }
     ensures few { IfOk result (λ _. length pool.new ≤ length pool.old + MOST_OF_PATHS) }
+    ensures ends { OnOk result (AreKnownEnds trs.now.rules pool.new ends.new) }
 {
     paths_keep_narrow(trs);
     let is_sure = stays_small(start, growth);
@@ -65,10 +75,9 @@ pub fn paths_from(
     let id = pool.intern(alloc, start)?;
     let mut paths = Vec::new(alloc);
     paths.push((id, Vec::new(alloc)))?;
-    let mut ends = KnownEnds::new(alloc);
     let mut next = 0;
     while next < paths.len() && paths.len() < MOST_PATHS {
-        add_longer(alloc, pool, trs, by_root, room, next, &mut ends, &mut paths)?;
+        add_longer(alloc, pool, trs, by_root, room, next, ends, &mut paths)?;
         next += 1;
     }
     Ok(paths)
@@ -88,7 +97,7 @@ fn entry_at(
 }
 
 /// Adds the paths that are one step longer than the one at this place, as long as fewer than 256
-/// are listed. The path is copied only where steps lead on from it.
+/// are listed.
 fn add_longer(
     alloc: Global,
     pool: &mut Pool,
@@ -113,33 +122,132 @@ fn add_longer(
     ensures ends { OnOk result (AreKnownEnds trs.now.rules pool.new ends.new) }
     ensures kept { Extends pool.old pool.new }
 {
-    let steps = steps_from(alloc, pool, by_root, ends, &paths[place])?;
-    if steps.is_empty() {
+    let entry = &paths[place];
+    if entry.1.len() >= MOST_STEPS {
+        return Ok(());
+    }
+    let id = entry.0;
+    if let Some(reducts) = ends.reducts(id) {
+        add_known(alloc, reducts, place, paths)?;
+        return Ok(());
+    }
+    add_unknown(alloc, pool, trs, by_root, room, place, ends, paths)
+}
+
+/// The same, where these are the reducts of the path's end. The path is copied only where there are
+/// some.
+fn add_known(
+    alloc: Global,
+    reducts: &Reducts,
+    place: usize,
+    paths: &mut Vec<(u32, Vec<PathStep>)>,
+) -> Result<(), OutOfMemory>
+    requires place { place < length paths.old.items }
+    requires few { length paths.old.items ≤ 256 }
+    ensures adds { OnOk result ((rules : List RewriteRule) (pool : List Tree) (e : Entry)
+        → IsEntryAt paths.old.items place e
+        → LeadsOn rules pool paths.old.items (listed pool e) reducts.now
+        → AddsPaths (AreCandidates rules 4 4096 (listed pool e ∷ []))
+        pool pool paths.old.items paths.new.items) }
+{
+    if reducts.steps.is_empty() {
         return Ok(());
     }
     let entry = entry_at(alloc, paths, place)?;
-    add_steps(alloc, pool, trs, room, &entry, &steps, paths)
+    add_reducts(alloc, &entry, reducts, paths)?;
+    Ok(())
 }
 
-/// The steps that lead on from the end of a path: none where it has four steps.
-fn steps_from(
+/// Adds this path with one more step, for each of these.
+fn add_reducts(
     alloc: Global,
-    pool: &Pool,
-    by_root: &RulesByRoot,
-    ends: &mut KnownEnds,
     entry: &(u32, Vec<PathStep>),
-) -> Result<Vec<PathStep>, OutOfMemory>
-    requires there { entry.now.0 < length pool.now }
-    requires narrow { IsNarrow (tree_at pool.now entry.now.0) }
-    requires ends { AreKnownEnds by_root.now.rules pool.now ends.old }
-    ensures steps { IfOk result (λ steps.
-        AreNext by_root.now.rules (listed pool.now entry.now) steps.items) }
-    ensures ends { OnOk result (AreKnownEnds by_root.now.rules pool.now ends.new) }
+    reducts: &Reducts,
+    paths: &mut Vec<(u32, Vec<PathStep>)>,
+) -> Result<(), OutOfMemory>
+    requires few { length paths.old.items ≤ 256 }
+    ensures adds { OnOk result ((rules : List RewriteRule) (pool : List Tree)
+        → LeadsOn rules pool paths.old.items (listed pool entry.now) reducts.now
+        → AddsPaths (AreCandidates rules 4 4096 (listed pool entry.now ∷ []))
+        pool pool paths.old.items paths.new.items) }
 {
-    if entry.1.len() >= MOST_STEPS {
-        return Ok(Vec::new(alloc));
+    for (i, step) in reducts.steps.iter().enumerate() {
+        if paths.len() >= MOST_PATHS {
+            return Ok(());
+        }
+        let end = reducts.ends[i];
+        let path = longer(alloc, &entry.1, step)?;
+        paths.push((end, path))?;
     }
-    ends.redexes(alloc, pool, by_root, entry.0)
+    Ok(())
+}
+
+/// The same, where the path has fewer than four steps, and the reducts of its end are not known.
+/// They are noted, if there are none, or if there are many and all are added.
+fn add_unknown(
+    alloc: Global,
+    pool: &mut Pool,
+    trs: &Trs,
+    by_root: &RulesByRoot,
+    room: Room,
+    place: usize,
+    ends: &mut KnownEnds,
+    paths: &mut Vec<(u32, Vec<PathStep>)>,
+) -> Result<(), OutOfMemory>
+    requires table { by_root.now ≡ trs.now }
+    requires place { place < length paths.old.items }
+    requires short { (e : Entry) → IsEntryAt paths.old.items place e → length e.1.items < 4 }
+    requires on { (e : Entry) → IsEntryAt paths.old.items place e
+        → GoesOn trs.now.rules room pool.old e }
+    requires grows { GrowsBy trs.now.rules room.growth }
+    requires ends { AreKnownEnds trs.now.rules pool.old ends.old }
+    requires below { All (λ e. e.0 < length pool.old) paths.old.items }
+    requires few { length paths.old.items ≤ 256 }
+    ensures adds { OnOk result ((e : Entry) → IsEntryAt paths.old.items place e
+        → AddsPaths (AreCandidates trs.now.rules 4 4096 (listed pool.old e ∷ []))
+        pool.old pool.new paths.old.items paths.new.items) }
+    ensures ends { OnOk result (AreKnownEnds trs.now.rules pool.new ends.new) }
+    ensures kept { Extends pool.old pool.new }
+{
+    let id = paths[place].0;
+    let steps = ends.redexes(alloc, pool, by_root, id)?;
+    if steps.is_empty() {
+        let none = Reducts {
+            steps,
+            ends: Vec::new(alloc),
+        };
+        ends.note(id, none)?;
+        return Ok(());
+    }
+    let entry = entry_at(alloc, paths, place)?;
+    let first = paths.len();
+    add_steps(alloc, pool, trs, room, &entry, &steps, paths)?;
+    if steps.len() < FEWEST_NOTED || paths.len() < first + steps.len() {
+        return Ok(());
+    }
+    let reached = ids_from(alloc, paths, first)?;
+    let reducts = Reducts {
+        steps,
+        ends: reached,
+    };
+    ends.note(id, reducts)?;
+    Ok(())
+}
+
+/// The ids of the entries from a place on.
+fn ids_from(
+    alloc: Global,
+    paths: &[(u32, Vec<PathStep>)],
+    first: usize,
+) -> Result<Vec<u32>, OutOfMemory>
+    requires { first ≤ length paths.now }
+    ensures { IfOk result (λ ids. ids.items ≡ ids_of (drop first paths.now)) }
+{
+    let mut ids = Vec::new(alloc);
+    for entry in &paths[first..] {
+        ids.push(entry.0)?;
+    }
+    Ok(ids)
 }
 
 /// Adds the path with one more step, for each of these, as long as fewer than 256 are listed.

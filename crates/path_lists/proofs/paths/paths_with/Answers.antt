@@ -5,10 +5,11 @@ use Rattle.trs_core.specs.View.{tree}
 use Rattle.term_pool.specs.ListedIds.{listed, listed_at}
 use Rattle.term_pool.proofs.Extending.{extends_on}
 use Rattle.term_pool.proofs.ReachedIds.{length_listed}
+use Rattle.path_lists.proofs.KnownReducts.{still_known}
 use Rattle.path_lists.proofs.Growing.{short_paths_keep_small}
 use Rattle.path_lists.proofs.Longer.{begun, begun_below, entry_listed, entry_there, follows_there, looked_at_one_more, not_fewer}
-use Rattle.path_lists.proofs.paths.paths_from.Goals.{In_ok-push}
-use Rattle.path_lists.proofs.paths.paths_from.Goals as goal
+use Rattle.path_lists.proofs.paths.paths_with.Goals.{In_ok-push}
+use Rattle.path_lists.proofs.paths.paths_with.Goals as goal
 
 one : (c : In_ok-push) → c.push.new.self.items ≡ (c.in_ok-id.id, c.new.result) ∷ []
 one c = c.in_ok-push.ensures.items ∙ ap (λ l. l ++ (c.in_ok-id.id, c.new.result) ∷ []) c.new-paths.ensures.items
@@ -25,7 +26,7 @@ loop-next-init c =
       room = omega (arith, count, size, c.in_ok-id.ensures.few);
       next = omega arith;
       short = omega (arith, count);
-      ends = c.new-ends.ensures c.args.trs.now.rules c.intern.new.self;
+      ends = still_known c.args.trs.now.rules c.args.pool.now c.intern.new.self c.in_ok-id.ensures.kept c.args.ends.now c.requires.ends;
     }
 
 pub add_longer-requires-clause-on : goal.add_longer-requires-clause-on

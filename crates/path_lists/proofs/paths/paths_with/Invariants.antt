@@ -5,7 +5,7 @@ use Rattle.term_pool.specs.ListedIds.{listed_at}
 use Rattle.path_lists.specs.Adding.{most_ids}
 use Rattle.path_lists.specs.KnownEnds.{AreKnownEnds}
 use Rattle.path_lists.proofs.PathLaws.{IsLookedAt}
-use Rattle.path_lists.proofs.paths.paths_from.Given as goal
+use Rattle.path_lists.proofs.paths.paths_with.Given as goal
 
 abbrev pub decreases-loop-next : goal.decreases-loop-next
 decreases-loop-next l = 256 - l.next
