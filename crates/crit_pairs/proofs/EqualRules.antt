@@ -17,6 +17,7 @@ use Rattle.crit_pairs.specs.PeakList.{Spot, OverlapsAt, IsPeakAt}
 use Rattle.crit_pairs.specs.Walk.{IsPartOf}
 use Rattle.crit_pairs.specs.Sides.{DoNotMeet}
 use Rattle.crit_pairs.specs.EqualRules.{NameEqual}
+use Rattle.crit_pairs.specs.Repeated.{moved_to}
 use Rattle.crit_pairs.specs.MadePairs.{spot, IsMade}
 use Rattle.crit_pairs.specs.KnownPeaks.{HasPair, Knows, KnowsEach}
 use Rattle.crit_pairs.specs.declared.known_peak.KnownPeak.{KnownPeak}
@@ -26,10 +27,6 @@ use Rattle.crit_pairs.specs.declared.making.MadePair.{MadePair}
 use Rattle.crit_pairs.proofs.SpotWalk.{OverlapsUnify, small_of, none_there}
 
 -- ---- peaks
-
--- the peak, of another inner rule
-abbrev pub moved_to : ℕ → PlacedPeak → PlacedPeak
-moved_to k p = record { outer = p.outer; place = p.place; inner = k; top = p.top; left = p.left; right = p.right }
 
 pub peak_moved : (rules : List RewriteRule) (j i k : ℕ) (p : List ℕ) (peak : PlacedPeak) → slice_get rules k ≡ slice_get rules i → IsPeakAt rules (spot j p i) peak → IsPeakAt rules (spot j p k) (moved_to k peak)
 peak_moved rules j i k p peak same h =
@@ -74,7 +71,7 @@ pair_of_equal rules j i k p pool before size made same counted h = record {
 }
 
 -- a sum that keeps the limit is the whole sum
-whole_sum : (total sum : ℕ) → total ≡ min sum 18446744073709551615 → total ≤ 4194304 → total ≡ sum
+pub whole_sum : (total sum : ℕ) → total ≡ min sum 18446744073709551615 → total ≤ 4194304 → total ≡ sum
 whole_sum total sum e few = elim (dec_le sum 18446744073709551615) [
   | yes k ↦ e ∙ min-eq_left k
   | no k ↦

@@ -1,7 +1,7 @@
 -- Whole right sides as results: rules and sides come to them, they are counted by their numbers of nodes, and the top alone gets new numbers.
 use Rattle.std.proofs.Common.{◌≡◌, ◌<◌, ℕ, ◌+◌, List, [], ◌∷◌, ◌++◌, take, length, length-append, get_or, slice_get, Option, Some, None, IfSome, Result, Ok, Err, IfOk, IfErr, IsTrue, refl, ap, sym, ◌∙◌, subst, arith}
 use Rattle.std.proofs.lemmas.List.{take_more}
-use Rattle.std.proofs.lemmas.Option.{slice_get_read, same_Some}
+use Rattle.std.proofs.lemmas.Option.{slice_get_read, slice_get_within, same_Some}
 use Rattle.std.specs.Arc.{arc_value}
 use Rattle.std.specs.Borrow.{Bor}
 use Rattle.std.specs.Option.{option_copied}
@@ -10,6 +10,7 @@ use Rattle.trs_defs.specs.Tree.{Tree, var}
 use Rattle.trs_defs.specs.Position.{replaced_at}
 use Rattle.trs_defs.specs.Substitution.{apply}
 use Rattle.trs_defs.specs.System.{RewriteRule}
+use Rattle.trs_defs.proofs.ListItems.{item_there}
 use Rattle.trs_core.specs.View.{tree}
 use Rattle.term_pool.proofs.LeftSideLaws.{ground_stays}
 use Rattle.crit_pairs.specs.Apart.{renamed_apart}
@@ -40,6 +41,27 @@ one_whole_more rules k rule old new side less read some put h =
     let T : List RewriteRule → Type 0 = λ rs. AreWholeSides rs (old ++ side ∷ []) in
     subst N (sym put) (subst T (sym taken) (wholes_behind (take k rules) rule old side some h))
 
+-- the term of a side is what it stands for
+pub itself_whole : (t : Tree) (side : WholeSide) → IsWholeSide t side → IsWholeSide (tree (arc_value side.term)) side
+itself_whole t side h =
+    let W : Tree → Type 0 = λ u. IsWholeSide u side in
+    subst W (sym h.is) h
+
+pub sides_themselves : (rules : List RewriteRule) (sides : List (Option WholeSide)) → AreWholeSides rules sides → (k : ℕ) (side : WholeSide) → slice_get sides k ≡ Some (Some side)
+    → IsWholeSide (tree (arc_value side.term)) side
+sides_themselves rules sides h k side there =
+    let within = slice_get_within sides k (Some side) there in
+    let (r, numbered) = item_there rules k (omega (arith, within, h.count)) in
+    itself_whole r.right side (h.each k side r there numbered)
+
+-- an equal term has the same side
+pub same_side : (t : Tree) (side new : WholeSide) → IsWholeSide (tree (arc_value side.term)) side → tree (arc_value side.term) ≡ t → tree (arc_value new.term) ≡ tree (arc_value side.term) → new.size ≡ side.size
+    → IsWholeSide t new
+same_side t side new h same shared size =
+    let W : Tree → Type 0 = λ u. IsWholeSide u side in
+    let w : IsWholeSide t side = subst W same h in
+    record { is = shared ∙ same; ground = w.ground; small = w.small; size = size ∙ w.size }
+
 -- the side of a rule, as it is read
 pub side_read : (rules : List RewriteRule) (sides items : List (Option WholeSide)) (i : ℕ) (got : Option (Bor (Option WholeSide))) (side : Bor (Option WholeSide)) (result : Option (Bor WholeSide))
     → AreWholeSides rules sides → items ≡ sides → IsItemAt items i got → got ≡ Some side → option_copied result ≡ side.now → IfSome result (λ (s : Bor WholeSide). IsRightOf rules i s.now)
@@ -57,11 +79,6 @@ pub whole_reduct : (inner outer : RewriteRule) (place : List ℕ) (side : WholeS
     → replaced_at place outer.left (renamed_apart inner).right ≡ Some (tree (arc_value side.term))
 whole_reduct inner outer place side root h =
     ap (λ q. replaced_at q outer.left (renamed_apart inner).right) root ∙ ap (λ z. Some z) (ground_stays (λ v. var (65536 + v)) inner.right h.ground ∙ sym h.is)
-
-pub itself_whole : (t : Tree) (side : WholeSide) → IsWholeSide t side → IsWholeSide (tree (arc_value side.term)) side
-itself_whole t side h =
-    let W : Tree → Type 0 = λ u. IsWholeSide u side in
-    subst W (sym h.is) h
 
 -- the right sides of the rules, as they were looked up
 pub both_whole : (rules : List RewriteRule) (outer inner : RewriteRule) (r : RewriteRule) (place : List ℕ) (j i : ℕ) (left right : Bor WholeSide) → slice_get rules j ≡ Some outer → slice_get rules i ≡ Some r

@@ -6,16 +6,21 @@ ghost use Rattle.crit_pairs.specs.Apart.{renamed_apart, AreApart, HaveSkeletons}
 ghost use Rattle.crit_pairs.specs.Skeletons.{opened};
 ghost use Rattle.crit_pairs.specs.SkeletonView.{skeleton_view};
 ghost use Rattle.crit_pairs.specs.WholeSides.{IsRightOf};
+ghost use Rattle.crit_pairs.specs.EqualRules.{NameEqual};
 
 use crate::apart_rule::{ApartRule, apart_rules};
+use crate::equal_rules::EqualRules;
 use crate::occurrences::Occurrences;
 use crate::skeleton::Skeleton;
 use crate::whole_sides::{WholeSide, whole_sides};
 use std::alloc::Global;
 use std::marker::Model;
 use term_pool::RulesByRoot;
-use trs_core::{MOST_VARIABLES, OutOfMemory, Rule, Trs};
+use trs_core::{MOST_VARIABLES, OutOfMemory, Rule, Term, Trs};
 use trs_unify::rename_apart;
+
+/// From so many rules of one root on, equal rules are looked for.
+const MANY_OF_ONE_ROOT: usize = 16;
 
 /// A system with its rules by the roots of their left sides, with each rule renamed apart from all
 /// rules, with the skeletons of the left sides, with the right sides that peaks share, and with how
@@ -27,12 +32,15 @@ pub(crate) struct RulesApart<'a> {
     skeletons: Vec<Skeleton>,
     whole_sides: Vec<Option<WholeSide>>,
     occurrences: Occurrences,
+    /// Of no rules, where few have one root.
+    equal: EqualRules,
 }
 
 impl<'a> Model for RulesApart<'a> {
     ghost use Rattle.trs_defs.specs.System.{System, system_code};
     ghost use Rattle.crit_pairs.specs.Apart.{AreApart, HaveSkeletons};
     ghost use Rattle.crit_pairs.specs.WholeSides.{AreWholeSides};
+    ghost use Rattle.crit_pairs.specs.EqualRules.{NameEqual};
 
     ghost Value = { System };
 
@@ -42,7 +50,8 @@ impl<'a> Model for RulesApart<'a> {
 
     ghost invariant = { λ a. AreApart a.by_root.rules a.apart.items
         × (HaveSkeletons a.by_root.rules a.skeletons.items
-        × AreWholeSides a.by_root.rules a.whole_sides.items) };
+        × (AreWholeSides a.by_root.rules a.whole_sides.items
+        × NameEqual a.by_root.rules a.equal.firsts.items)) };
 }
 
 impl<'a> RulesApart<'a> {
@@ -53,12 +62,15 @@ impl<'a> RulesApart<'a> {
         let apart = apart_rules(alloc, trs.rules(), &skeletons)?;
         let mut occurrences = Occurrences::new(alloc);
         occurrences.count_apart(&apart)?;
+        let by_root = RulesByRoot::new(alloc, trs)?;
+        let equal = equal_of_one_root(alloc, &by_root)?;
         Ok(RulesApart {
-            by_root: RulesByRoot::new(alloc, trs)?,
+            by_root,
             apart,
             skeletons,
             whole_sides: whole_sides(alloc, trs.rules())?,
             occurrences,
+            equal,
         })
     }
 
@@ -98,6 +110,23 @@ impl<'a> RulesApart<'a> {
         }
     }
 
+    /// The number of a rule before rule `i` that is seen to equal it.
+    pub fn equal_before(&self, i: usize) -> Option<usize>
+        ensures { IfSome result (λ k.
+            slice_get self.now.rules k ≡ slice_get self.now.rules i) }
+    {
+        let first = *self.equal.firsts.get(i)?;
+        if first == i {
+            return None;
+        }
+        Some(first)
+    }
+
+    /// How many pairs of rules are seen to be equal.
+    pub fn equal_pairs(&self, alloc: Global) -> Result<u64, OutOfMemory> {
+        self.equal.pairs(alloc)
+    }
+
     /// How often variables occur in rules `i` and `j` together.
     pub fn occurrences(&self, i: usize, j: usize) -> u64 {
         self.occurrences.in_both(i, j)
@@ -111,6 +140,29 @@ impl<'a> RulesApart<'a> {
     {
         self.by_root.with_root(f)
     }
+}
+
+/// The equal rules, if many have one root. Where few have, to look for equal ones gains no time.
+fn equal_of_one_root(alloc: Global, by_root: &RulesByRoot) -> Result<EqualRules, OutOfMemory>
+    ensures { IfOk result (λ equal. NameEqual by_root.now.rules equal.firsts.items) }
+{
+    let mut equal = EqualRules::new(alloc);
+    if most_of_one_root(by_root) < MANY_OF_ONE_ROOT {
+        return Ok(equal);
+    }
+    equal.add(by_root.rules())?;
+    Ok(equal)
+}
+
+/// How many rules have the root that most have.
+fn most_of_one_root(by_root: &RulesByRoot) -> usize {
+    let mut most = 0;
+    for rule in by_root.rules() {
+        if let Term::App(f, _) = &rule.left {
+            most = most.max(by_root.with_root(*f).len());
+        }
+    }
+    most
 }
 
 /// Each rule, its variables renamed apart from those of all rules.

@@ -44,6 +44,20 @@ impl EqualRules {
         Ok(())
     }
 
+    /// How many pairs of rules are seen to be equal.
+    pub fn pairs(&self, alloc: Global) -> Result<u64, OutOfMemory> {
+        let mut pairs: u64 = 0;
+        let mut before: Vec<u64> = Vec::with_capacity(alloc, self.firsts.len())?;
+        for first in &self.firsts {
+            before.push(0)?;
+            if let Some(equal) = before.get_mut(*first) {
+                pairs = pairs.saturating_add(*equal);
+                *equal = equal.saturating_add(1);
+            }
+        }
+        Ok(pairs)
+    }
+
     /// The first rule that equals rule `k`, or this one.
     fn first_equal(&mut self, rules: &[Rule], k: usize) -> Result<usize, OutOfMemory>
         requires { k < length rules.now }

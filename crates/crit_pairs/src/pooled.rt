@@ -17,6 +17,9 @@ use trs_core::{OutOfMemory, Rule, Term, Trs, systems_are_valid};
 /// To look for an overlap at a position as often as this for each peak takes little time.
 const TRIES_FOR_A_PEAK: u64 = 256;
 
+/// So few peaks are listed at once: a pool gains nothing.
+const FEW_PEAKS: usize = 16;
+
 /// So many nodes of results take little time to build.
 const FEW_BUILT: u64 = 16_384;
 
@@ -120,8 +123,11 @@ impl PooledPeaks {
 
 /// Whether a pool may gain time: some right side has no variable, so that it gets its id but once, or
 /// rules are equal, so that their peaks are made but once; and there are few rules and few positions
-/// beside the peaks, since each rule is tried at each position.
+/// beside the peaks, which are many, since each rule is tried at each position.
 fn may_gain_time(alloc: Global, rules: &[Rule], most: usize) -> Result<bool, OutOfMemory> {
+    if most < FEW_PEAKS {
+        return Ok(false);
+    }
     let tries = TRIES_FOR_A_PEAK.saturating_mul(most as u64);
     let most_nodes = tries / (rules.len() as u64).max(1);
     let mut nodes: u64 = 0;

@@ -11,7 +11,7 @@ ghost use Rattle.crit_pairs.specs.UnbuiltTop.{seen_pair, bound_pair, seen_substi
 use crate::binding_table::{Binding, Bindings};
 use crate::names::Names;
 use crate::overlapping::OverlapUnifier;
-use crate::sides::{PeakTop, Sides};
+use crate::sides::{PeakTop, Sides, copied_shared};
 use crate::solved;
 use crate::whole_sides::WholeSide;
 use rewrite_core::{SharedSide, Top};
@@ -115,6 +115,14 @@ impl PeakTop for UnbuiltTop {
             left: SharedSide::Own(first),
             right: SharedSide::Own(second),
         })
+    }
+
+    fn copied(_alloc: Global, _top: &UnbuiltTop) -> Result<Option<UnbuiltTop>, OutOfMemory> {
+        Ok(None)
+    }
+
+    fn copied_side(alloc: Global, side: &SharedSide) -> Result<SharedSide, OutOfMemory> {
+        copied_shared(alloc, side)
     }
 
     fn whole(_alloc: Global, side: &WholeSide) -> Result<SharedSide, OutOfMemory> {

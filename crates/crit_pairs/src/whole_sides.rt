@@ -1,5 +1,6 @@
 //! Large right sides with no variable: peaks at the root have them whole, and share them.
-ghost use Rattle.std.specs.Prelude.{IfOk, IfSome};
+ghost use Rattle.std.specs.Prelude.{◌≡◌, ℕ, IfOk, IfSome, Some, slice_get};
+ghost use Rattle.std.specs.Arc.{arc_value};
 ghost use Rattle.trs_core.specs.View.{tree};
 ghost use Rattle.crit_pairs.specs.WholeSides.{IsWholeSide, AreWholeSides};
 
@@ -30,7 +31,7 @@ impl WholeSide {
     }
 }
 
-/// For each rule its right side, if peaks share it.
+/// For each rule its right side, if peaks share it. Equal ones behind each other share it too.
 pub(crate) fn whole_sides(
     alloc: Global,
     rules: &[Rule],
@@ -39,9 +40,31 @@ pub(crate) fn whole_sides(
 {
     let mut sides = Vec::with_capacity(alloc, rules.len())?;
     for rule in rules {
-        sides.push(whole_side(alloc, &rule.right)?)?;
+        let side = next_side(alloc, &sides, &rule.right)?;
+        sides.push(side)?;
     }
     Ok(sides)
+}
+
+/// The side behind others for a term. The last of them, if it is the same term.
+fn next_side(
+    alloc: Global,
+    sides: &[Option<WholeSide>],
+    t: &Term,
+) -> Result<Option<WholeSide>, OutOfMemory>
+    requires { (k : ℕ) (side : WholeSide) → slice_get sides.now k ≡ Some (Some side)
+        → IsWholeSide (tree (arc_value side.term)) side }
+    ensures { IfOk result (λ found. IfSome found (IsWholeSide (tree t.now))) }
+{
+    if let Some(Some(last)) = sides.last() {
+        if last.term.same(t) {
+            return Ok(Some(WholeSide {
+                term: Arc::try_clone(&last.term)?,
+                size: last.size,
+            }));
+        }
+    }
+    whole_side(alloc, t)
 }
 
 /// The term, if it is a large result and keeps the limits on computed terms.
