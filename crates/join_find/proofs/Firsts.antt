@@ -49,6 +49,22 @@ along_one_more {A} {B} related xs ys new i a b below is along h made =
 pub along_all : {A B : Type 0} (related : A → B → Type 0) (xs : List A) (ys : List B) (i : ℕ) → length xs ≤ i → Along related (take i xs) ys → Along related xs ys
 along_all {A} {B} related xs ys i all along = let X : List A → Type 0 = λ zs. Along related zs ys in subst X (take_all i xs all) along
 
+-- what stands at a place of the second list has one at its place in the first
+pub along_to : {A B : Type 0} {related : A → B → Type 0} {xs : List A} {ys : List B} → Along related xs ys → (i : ℕ) (b : B) → slice_get ys i ≡ Some b → (a : A) × (slice_get xs i ≡ Some a) × related a b
+along_to along_end i b there = absurd cc
+along_to {related = related} (along_item {a = a} {b = c} h rest) zero b there = (a, refl, subst (λ y. related a y) (same_Some c b there) h)
+along_to (along_item h rest) (suc i) b there = along_to rest i b there
+
+-- and the other way round
+pub along_from : {A B : Type 0} {related : A → B → Type 0} {xs : List A} {ys : List B} → Along related xs ys → (i : ℕ) (a : A) → slice_get xs i ≡ Some a → (b : B) × (slice_get ys i ≡ Some b) × related a b
+along_from along_end i a at = absurd cc
+along_from {related = related} (along_item {a = x} {b = y} h rest) zero a at = (y, refl, subst (λ z. related z y) (same_Some x a at) h)
+along_from (along_item h rest) (suc i) a at = along_from rest i a at
+
+pub along_weaker : {A B : Type 0} (related other : A → B → Type 0) {xs : List A} {ys : List B} → ((a : A) (b : B) → related a b → other a b) → Along related xs ys → Along other xs ys
+along_weaker related other weaker along_end = along_end
+along_weaker related other weaker (along_item {a = a} {b = b} h rest) = along_item (weaker a b h) (along_weaker related other weaker rest)
+
 pub read_in : {A : Type 0} (xs : List A) (i : ℕ) (a : A) → i < length xs → a ≡ get_or xs i a → In a xs
 read_in xs i a below is = in_of_get xs i a (slice_get_read xs (length xs) i a refl below is)
 

@@ -3,6 +3,7 @@ use Rattle.std.specs.Prelude.{◌≡◌, ◌≢◌, ◌<◌, ℕ, ◌+◌, lengt
 use Rattle.std.proofs.Common.{ap, sym, subst, ◌∙◌, get_or}
 use Rattle.std.specs.Global.{Vec}
 use Rattle.std.proofs.lemmas.List.{map-append}
+use Rattle.std.proofs.lemmas.Option.{same_Some}
 use Rattle.trs_defs.specs.Tree.{Tree}
 use Rattle.trs_defs.specs.System.{RewriteRule}
 use Rattle.trs_defs.specs.Path.{PlacedRule, Follows}
@@ -16,6 +17,7 @@ use Rattle.rewrite_core.specs.PlacedPeak.{PlacedPeak}
 use Rattle.closed_pairs.specs.ParallelClosed.{paths_of}
 use Rattle.join_find.specs.First.{Along}
 use Rattle.join_find.specs.ParallelRow.{IsParallelStep, IsParallelClosing, HasNoClosing, no_step}
+use Rattle.join_find.specs.RightIds.{AreSideIds}
 use Rattle.join_find.proofs.Firsts.{along_one_more}
 use Rattle.join_find.proofs.ParallelSteps.{one_parallel_step}
 
@@ -31,6 +33,12 @@ module _ (rules : List RewriteRule) (peak : PlacedPeak) where
   equal_sides_close steps same none =
       let here : IsParallelStep rules peak.left peak.right [] = subst (λ t. IsParallelStep rules peak.left t []) same no_step in
       subst (IsParallelClosing rules peak) (sym none) (record { parallel = here; follows = same })
+
+  -- sides with one id are equal
+  pub one_id_closes : (pool : List Tree) (ids : ℕ × ℕ) (steps : List PlacedRule) → AreSideIds pool peak ids → ids.0 ≡ ids.1 → steps ≡ [] → IsParallelClosing rules peak steps
+  one_id_closes pool ids steps are same none =
+      let L : ℕ → Type 0 = λ id. StandsFor pool id peak.left in
+      equal_sides_close steps (same_Some peak.left peak.right (sym (subst L same are.left) ∙ are.right)) none
 
   pub no_parallel_step : ((ss : List PlacedRule) → IsParallelStep rules peak.left peak.right ss → ⊥) → HasNoClosing rules peak
   no_parallel_step none = record { none = λ ss h. none ss h.parallel }

@@ -1,19 +1,21 @@
--- Ids of right sides: none, as they are looked up, as one more is put, and in a pool that has grown.
-use Rattle.std.proofs.Common.{◌≡◌, ◌<◌, ℕ, Bool, true, false, cond, nat_eq, List, [], Option, Some, None, IfSome, length, slice_get, refl, ap, sym, ◌∙◌, subst}
-use Rattle.std.proofs.lemmas.Option.{same_Some}
+-- Ids of right sides: none, as they are looked up, as one more is put, and in a pool that has grown; and as they are listed by rules.
+use Rattle.std.proofs.Common.{◌≡◌, ◌<◌, ◌+◌, ◌-◌, ℕ, Bool, true, false, cond, nat_eq, List, [], ◌∷◌, ◌++◌, Option, Some, None, IfSome, length, slice_get, take, refl, ap, sym, ◌∙◌, subst}
+use Rattle.std.proofs.lemmas.Option.{same_Some, IfSome_then, get_or_from_slice_get}
 use Rattle.indexmap.specs.IndexMap.{get}
 use Rattle.trs_defs.specs.Tree.{Tree}
 use Rattle.trs_defs.specs.System.{RewriteRule}
+use Rattle.trs_defs.proofs.ListItems.{item_there}
 use Rattle.term_pool.specs.LeftSides.{IsGround}
 use Rattle.term_pool.specs.Pooled.{Extends, StandsFor, tree_at}
-use Rattle.term_pool.proofs.PoolTrees.{stands}
+use Rattle.term_pool.proofs.PoolTrees.{stands, taken_item}
 use Rattle.rewrite_core.specs.PlacedPeak.{PlacedPeak}
 use Rattle.join_find.specs.RightSides.{HasRightSides}
-use Rattle.join_find.specs.RightIds.{side_on, IsRightId, AreRightIds, IsRightSide}
+use Rattle.join_find.specs.RightIds.{side_on, IsRightId, IsRightIdOf, AreRightIds, AreSideIds, IsRightSide, ListsRightIds}
 use Rattle.join_find.specs.Sides.{IsSide, HasSides}
 use Rattle.join_find.specs.declared.side_ids.SideIds.{SideIds}
 use Rattle.join_find.specs.declared.side_ids.Hand.{Hand}
 use Rattle.join_find.specs.declared.side_ids.Hand.TheVariants as hand
+use Rattle.join_find.proofs.Firsts.{along_to, along_one_more, along_weaker}
 use Rattle.join_find.proofs.KeptOfSides.{same_id, nothing_there}
 
 -- none is kept
@@ -25,10 +27,11 @@ pub rights_same : (rules : List RewriteRule) (pool : List Tree) (old new : SideI
 rights_same rules pool old new same h = record { each = λ k id rule is numbered. h.each k id rule (sym (ap (λ m. get nat_eq m k) same) ∙ is) numbered }
 
 -- the pool has grown
+right_grown : (a b : List Tree) (rule : RewriteRule) (id : ℕ) → Extends a b → IsRightId a rule id → IsRightId b rule id
+right_grown a b rule id extends r = record { ground = r.ground; stands = extends.kept id rule.right r.stands }
+
 pub rights_grown : (rules : List RewriteRule) (a b : List Tree) (ids : SideIds) → Extends a b → AreRightIds rules a ids → AreRightIds rules b ids
-rights_grown rules a b ids extends h = record {
-  each = λ k id rule is numbered. (let r = h.each k id rule is numbered in record { ground = r.ground; stands = extends.kept id rule.right r.stands });
-}
+rights_grown rules a b ids extends h = record { each = λ k id rule is numbered. right_grown a b rule id extends (h.each k id rule is numbered) }
 
 -- an id that was there before the pool has grown
 pub stands_before : (a b : List Tree) (id : ℕ) (t : Tree) → Extends a b → id < length a → StandsFor b id t → StandsFor a id t
@@ -37,13 +40,17 @@ stands_before a b id t extends less is =
     let S : Tree → Type 0 = λ u. StandsFor a id u in
     subst S (same_Some (tree_at a id) t (sym (extends.kept id (tree_at a id) there) ∙ is)) there
 
+-- a side that is a right side with this id
+side_stands : (rules : List RewriteRule) (pool : List Tree) (k id : ℕ) (t : Tree) → IsRightSide rules k t → IsRightIdOf rules pool k id → StandsFor pool id t
+side_stands rules pool k id t side h =
+    let r = h side.rule side.numbered in
+    let S : Tree → Type 0 = λ u. StandsFor pool id u in
+    subst S (sym (side.is r.ground)) r.stands
+
 -- a right side that is looked up
 pub right_stands : (rules : List RewriteRule) (pool : List Tree) (ids : SideIds) (k id : ℕ) (t : Tree) → AreRightIds rules pool ids → IsRightSide rules k t
     → get nat_eq ids.rights k ≡ Some (Some id) → StandsFor pool id t
-right_stands rules pool ids k id t h side is =
-    let r = h.each k id side.rule is side.numbered in
-    let S : Tree → Type 0 = λ u. StandsFor pool id u in
-    subst S (sym (side.is r.ground)) r.stands
+right_stands rules pool ids k id t h side is = side_stands rules pool k id t side (λ rule numbered. h.each k id rule is numbered)
 
 -- of one more right side the id is put, if it has no variable
 pub one_more_right : (rules : List RewriteRule) (pool : List Tree) (old new : SideIds) (k : ℕ) (right : Option ℕ) (t : Tree) (side : IsRightSide rules k t)
@@ -82,3 +89,46 @@ right_is_right rules peak h = record { rule = h.outer; numbered = h.outer_number
 pub side_is : (on : Hand) (peak : PlacedPeak) → HasSides peak → IsSide (side_on on peak)
 side_is hand.Left peak h = h.left
 side_is hand.Right peak h = h.right
+
+-- ---- ids that are listed by rules
+
+abbrev listed : List Tree → RewriteRule → Option ℕ → Type 0
+listed pool rule id = IfSome id (IsRightId pool rule)
+
+-- the id of a right side, by the number of its rule
+pub of_number : (rules : List RewriteRule) (pool : List Tree) (k : ℕ) (rule : RewriteRule) (id : Option ℕ) → slice_get rules k ≡ Some rule
+    → IfSome id (IsRightId pool rule) → IfSome id (IsRightIdOf rules pool k)
+of_number rules pool k rule id there h =
+    IfSome_then id h (λ i r other numbered. (let R : RewriteRule → Type 0 = λ q. IsRightId pool q i in subst R (same_Some rule other (sym there ∙ numbered)) r))
+
+-- an id that is looked up
+listed_at : (rules : List RewriteRule) (pool : List Tree) (ids : List (Option ℕ)) (k id : ℕ) → ListsRightIds rules pool ids → slice_get ids k ≡ Some (Some id) → IsRightIdOf rules pool k id
+listed_at rules pool ids k id lists at =
+    let (rule, there, h) = along_to lists k (Some id) at in
+    of_number rules pool k rule (Some id) there h
+
+-- of a right side that the rule before has too
+pub repeated : (rules : List RewriteRule) (pool : List Tree) (ids : List (Option ℕ)) (k : ℕ) → ListsRightIds (take k rules) pool ids
+    → ((earlier rule : RewriteRule) → slice_get rules (k - 1) ≡ Some earlier → slice_get rules k ≡ Some rule → earlier.right ≡ rule.right)
+    → (id : ℕ) → slice_get ids (k - 1) ≡ Some (Some id) → IsRightIdOf rules pool k id
+repeated rules pool ids k lists same_right id at rule numbered =
+    let (earlier, there, r) = along_to lists (k - 1) (Some id) at in
+    let same = same_right earlier rule (taken_item k rules (k - 1) earlier there) numbered in
+    let S : Tree → Type 0 = λ u. StandsFor pool id u in
+    record { ground = subst IsGround same r.ground; stands = subst S same r.stands }
+
+-- one more id, in a pool that has grown
+pub one_more_listed : (rules : List RewriteRule) (a b : List Tree) (old new : List (Option ℕ)) (k : ℕ) (id : Option ℕ) → Extends a b → k < length rules
+    → ListsRightIds (take k rules) a old → IfSome id (IsRightIdOf rules b k) → new ≡ old ++ id ∷ [] → ListsRightIds (take (k + 1) rules) b new
+one_more_listed rules a b old new k id extends below lists h made =
+    let (rule, there) = item_there rules k below in
+    let grown = along_weaker (listed a) (listed b) (λ r o kept. IfSome_then o kept (λ i. right_grown a b r i extends)) lists in
+    along_one_more (listed b) rules old new k rule id below (sym (get_or_from_slice_get rules k rule rule there)) grown (IfSome_then id h (λ i of. of rule there)) made
+
+-- the sides of a peak
+pub listed_sides : (rules : List RewriteRule) (pool : List Tree) (ids : List (Option ℕ)) (peak : PlacedPeak) (left right : ℕ) → ListsRightIds rules pool ids → HasRightSides rules peak
+    → peak.place ≡ [] → slice_get ids peak.inner ≡ Some (Some left) → slice_get ids peak.outer ≡ Some (Some right) → AreSideIds pool peak (left, right)
+listed_sides rules pool ids peak left right lists h root l r = record {
+  left = side_stands rules pool peak.inner left peak.left (left_is_right rules peak h root) (listed_at rules pool ids peak.inner left lists l);
+  right = side_stands rules pool peak.outer right peak.right (right_is_right rules peak h) (listed_at rules pool ids peak.outer right lists r);
+}

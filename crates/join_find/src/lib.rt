@@ -12,6 +12,7 @@ mod parallel;
 mod parallel_step;
 mod reached_sides;
 mod reaching;
+mod right_ids;
 mod root_rule;
 mod side_ids;
 mod sides;

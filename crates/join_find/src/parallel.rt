@@ -6,12 +6,15 @@ ghost use Rattle.closed_pairs.specs.crit_pairs.PeakList.{ListsPeaks};
 ghost use Rattle.closed_pairs.specs.ParallelClosed.{paths_of};
 ghost use Rattle.assign_search.specs.Continues.{Continues};
 ghost use Rattle.join_find.specs.Sides.{HasSides};
+ghost use Rattle.join_find.specs.RightSides.{HasRightSides};
+ghost use Rattle.join_find.specs.RightIds.{AreSideIds, ListsRightIds};
 ghost use Rattle.join_find.specs.ParallelRow.{AreLeftLinear, IsParallelClosing, HasNoClosing};
 ghost use Rattle.join_find.specs.ParallelRow.{FindsParallel, FailsParallel};
 ghost use Rattle.join_find.specs.Answers.{IsFinding};
 
 use crate::parallel_step::add_steps;
-use crate::sides::critical_peaks_have_sides;
+use crate::right_ids::{ids_of_rights, ids_of_sides};
+use crate::sides::{critical_peaks_have_sides, right_sides_are_sides};
 use assign_search::{Search, Stop};
 use closed_pairs::Peak;
 use rewrite_core::{PathStep, PeakSide, Top};
@@ -24,7 +27,7 @@ use trs_core::{OutOfMemory, Rule, Trs};
 /// step counts, and only where its places, run in order, pass no limit. It never answers `Spent`.
 ///
 /// `stop` is asked before the first peak and before each one. All terms of a peak stand in one
-/// pool, which is released after the peak.
+/// pool, which after the peak has only right sides with no variable.
 pub fn find_parallel<P: Stop, T: Top>(
     alloc: Global,
     trs: &Trs,
@@ -41,17 +44,20 @@ pub fn find_parallel<P: Stop, T: Top>(
         return Ok(Search::Stopped);
     }
     critical_peaks_have_sides(trs);
+    right_sides_are_sides();
     if !are_left_linear(trs) {
         return Ok(Search::NotThere);
     }
     let by_root = RulesByRoot::new(alloc, trs)?;
     let mut pool = Pool::new(alloc);
+    let rules = trs.rules();
+    let rights = ids_of_rights(alloc, &mut pool, rules, peaks)?;
     let mut steps = Vec::new(alloc);
     for peak in peaks {
         if stop.stopped() {
             return Ok(Search::Stopped);
         }
-        match closing(alloc, &mut pool, trs, &by_root, peak)? {
+        match closing(alloc, &mut pool, &rights, trs, &by_root, peak)? {
             Some(step) => steps.push(step)?,
             None => return Ok(Search::NotThere),
         }
@@ -78,8 +84,38 @@ fn has_linear_left(rule: &Rule) -> bool
     rule.left.is_linear()
 }
 
-/// The parallel step of one peak, if there is one. Equal sides need no pool. The pool is as before.
+/// The parallel step of one peak, if there is one. The pool is as before.
 fn closing<T: Top>(
+    alloc: Global,
+    pool: &mut Pool,
+    rights: &[Option<u32>],
+    trs: &Trs,
+    by_root: &RulesByRoot,
+    peak: &Peak<T>,
+) -> Result<Option<Vec<PathStep>>, OutOfMemory>
+    requires rules { by_root.now ≡ trs.now }
+    requires sides { HasSides peak.now }
+    requires peak { HasRightSides trs.now.rules peak.now }
+    requires rights { ListsRightIds trs.now.rules pool.old rights.now }
+    ensures step { IfOk result (λ found. MatchOption found
+        (HasNoClosing trs.now.rules peak.now)
+        (λ steps. IsParallelClosing trs.now.rules peak.now steps.items)) }
+    ensures released { OnOk result (pool.new ≡ pool.old) }
+{
+    let Some(ids) = ids_of_sides(rights, peak) else {
+        return closing_of_terms(alloc, pool, trs, by_root, peak);
+    };
+    if ids.0 == ids.1 {
+        return Ok(Some(Vec::new(alloc)));
+    }
+    let kept = pool.mark();
+    let step = closing_of_ids(alloc, pool, trs, by_root, peak, ids)?;
+    pool.release(kept);
+    Ok(step)
+}
+
+/// The same, where the sides have no ids yet. Equal sides get none.
+fn closing_of_terms<T: Top>(
     alloc: Global,
     pool: &mut Pool,
     trs: &Trs,
@@ -93,25 +129,31 @@ fn closing<T: Top>(
         (λ steps. IsParallelClosing trs.now.rules peak.now steps.items)) }
     ensures released { OnOk result (pool.new ≡ pool.old) }
 {
-    if peak.left.term().same(peak.right.term()) {
+    let left = peak.left.term();
+    let right = peak.right.term();
+    if left.same(right) {
         return Ok(Some(Vec::new(alloc)));
     }
     let mark = pool.mark();
-    let step = closing_within(alloc, pool, trs, by_root, peak)?;
+    let from = pool.intern(alloc, left)?;
+    let to = pool.intern(alloc, right)?;
+    let step = closing_of_ids(alloc, pool, trs, by_root, peak, (from, to))?;
     pool.release(mark);
     Ok(step)
 }
 
-/// The same. Both sides stay in the pool.
-fn closing_within<T: Top>(
+/// The same, where the sides have these ids. The pool may grow.
+fn closing_of_ids<T: Top>(
     alloc: Global,
     pool: &mut Pool,
     trs: &Trs,
     by_root: &RulesByRoot,
     peak: &Peak<T>,
+    ids: (u32, u32),
 ) -> Result<Option<Vec<PathStep>>, OutOfMemory>
     requires rules { by_root.now ≡ trs.now }
     requires sides { HasSides peak.now }
+    requires ids { AreSideIds pool.old peak.now ids }
     ensures step { IfOk result (λ found. MatchOption found
         (HasNoClosing trs.now.rules peak.now)
         (λ steps. IsParallelClosing trs.now.rules peak.now steps.items)) }
@@ -119,22 +161,19 @@ fn closing_within<T: Top>(
 {
     let from = peak.left.term();
     let to = peak.right.term();
-    let left = pool.intern(alloc, from)?;
-    let right = pool.intern(alloc, to)?;
     let mut place = Vec::new(alloc);
     let mut steps = Vec::new(alloc);
-    let ids = (left, right);
     if !add_steps(
         alloc, pool, trs, by_root, from, to, ids, &mut place, &mut steps,
     )? {
         return Ok(None);
     }
-    match pool.run_path(alloc, trs, left, &steps) {
+    match pool.run_path(alloc, trs, ids.0, &steps) {
         Err(PathFault::OutOfMemory) => Err(OutOfMemory),
         Err(PathFault::At(_, _)) => Ok(None),
         Ok(end) => {
             ids_are_distinct(pool);
-            if end == right {
+            if end == ids.1 {
                 Ok(Some(steps))
             } else {
                 Ok(None)

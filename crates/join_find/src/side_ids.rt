@@ -9,11 +9,12 @@ ghost use Rattle.term_pool.specs.Pooled.{Extends, StandsFor, tree_at};
 ghost use Rattle.join_find.specs.RightSides.{HasRightSides};
 ghost use Rattle.join_find.specs.RightIds.{side_on, AreRightIds, IsRightSide};
 
+use crate::right_ids::is_ground;
 use indexmap::IndexMap;
 use rewrite_core::{Peak, PeakSide, Top};
 use std::alloc::Global;
 use term_pool::Pool;
-use trs_core::{OutOfMemory, Rule, Term, least_variable};
+use trs_core::{OutOfMemory, Rule, Term};
 
 /// No id of a term, since it is past those of every pool.
 const NO_ID: u32 = u32::MAX;
@@ -193,11 +194,10 @@ impl SideIds {
 fn id_of_ground(t: &Term, id: u32) -> Option<u32>
     ensures { IfSome result (λ kept. (kept ≡ id) × IsGround (tree t.now)) }
 {
-    let least = least_variable(t, 0, None);
-    match least {
-        Some(_) => None,
-        None => Some(id),
+    if is_ground(t) {
+        return Some(id);
     }
+    None
 }
 
 /// Whether the term of an id is this one.

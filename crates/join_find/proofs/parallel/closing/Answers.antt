@@ -1,16 +1,20 @@
-use Rattle.std.proofs.Common.{◌≡◌, ◌∙◌, ap, sym, refl}
-use Rattle.trs_core.specs.View.{tree}
 use Rattle.term_pool.proofs.Extending.{undone}
-use Rattle.rewrite_core.specs.PlacedPeak.{PlacedPeak}
-use Rattle.join_find.proofs.ParallelPeaks.{equal_sides_close}
+use Rattle.join_find.specs.RightIds.{AreSideIds}
+use Rattle.join_find.proofs.ParallelPeaks.{one_id_closes}
+use Rattle.join_find.proofs.parallel.closing.Goals.{In-Some}
 use Rattle.join_find.proofs.parallel.closing.Goals as goal
 
-pub returns-then-same-clause-step : goal.returns-then-same-clause-step
-returns-then-same-clause-step g c =
-    let left : tree c.term.result.now ≡ c.args.peak.now.left = c.term.ensures ∙ ap (λ (p : PlacedPeak). p.left) c.peak.view_is in
-    let right : tree c.term-2.result.now ≡ c.args.peak.now.right = c.term-2.ensures ∙ ap (λ (p : PlacedPeak). p.right) c.peak.view_is in
-    equal_sides_close c.args.trs.now.rules c.args.peak.now c.new.result.items (sym left ∙ (c.if-same.ensures.0 refl ∙ right)) c.new.ensures.items
+side_ids : (g : _) (c : In-Some g) → AreSideIds c.args.pool.now c.args.peak.now c.in-Some.ids
+side_ids g c = rw c.in-Some.is at (c.ids_of_sides.ensures c.args.trs.now.rules c.args.pool.now c.requires.rights c.requires.peak)
+
+pub returns-then-ids-clause-step : goal.returns-then-ids-clause-step
+returns-then-ids-clause-step g c =
+    let a = (goal.at.returns-then-ids-clause-step g c).In-Some in
+    one_id_closes c.args.trs.now.rules c.args.peak.now c.args.pool.now c.in-Some.ids c.new.result.items (side_ids g a) c.if-ids.true c.new.ensures.items
+
+pub closing_of_ids-requires-clause-ids : goal.closing_of_ids-requires-clause-ids
+closing_of_ids-requires-clause-ids g c = side_ids g (goal.at.closing_of_ids-requires-clause-ids g c).In-Some
 
 pub returns-clause-released : goal.returns-clause-released
 returns-clause-released g c =
-    undone c.args.pool.now c.closing_within.new.pool c.release.new.self c.mark-mark.result c.mark-mark.ensures c.in_ok-step.ensures.kept c.release.ensures
+    undone c.args.pool.now c.closing_of_ids.new.pool c.release.new.self c.mark-kept.result c.mark-kept.ensures c.in_ok-step.ensures.kept c.release.ensures
