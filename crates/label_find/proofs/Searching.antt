@@ -1,9 +1,9 @@
 -- What the search over the constraints answers is so of the search over the paths.
 use Rattle.std.specs.Prelude.{◌≡◌, ◌<◌, ◌≤◌, ℕ, true, false, not, eqb, List, [], ◌∷◌, All, Ok, Err, Result, Some, None, IsTrue, IfOk, length, slice_get, get_or, refl}
 use Rattle.std.specs.Global.{Vec}
-use Rattle.std.proofs.Common.{zero, suc, ap, sym, ◌∙◌, subst, arith}
+use Rattle.std.proofs.Common.{ap, sym, ◌∙◌, subst, arith}
 use Rattle.std.proofs.lemmas.Bool.Decides.{nat_tests}
-use Rattle.std.proofs.lemmas.Option.{same_Some, slice_get_within, slice_get-get_or}
+use Rattle.std.proofs.lemmas.Option.{slice_get_within, slice_get-get_or}
 use Rattle.std.proofs.lemmas.Bool.{and_parts, not-true, not-false}
 use Rattle.trs_defs.specs.Member.{In}
 use Rattle.trs_defs.specs.System.{System, IsSystem, RewriteRule}
@@ -21,6 +21,7 @@ use Rattle.join_find.specs.crit_pairs.PeakList.{ListsPeaks}
 use Rattle.join_find.specs.First.{Along, along_end, along_item}
 use Rattle.join_find.specs.StrongRow.{AreLinear}
 use Rattle.join_find.specs.Answers.{IsFinding}
+use Rattle.join_find.proofs.Firsts.{along_from, along_to}
 use Rattle.join_find.proofs.NewmanLaw.{along_length}
 use Rattle.path_lists.proofs.PathsOnce.{path_lists_once}
 use Rattle.label_find.specs.declared.side_rules.SideRules.{SideRules}
@@ -33,9 +34,9 @@ use Rattle.label_find.specs.Closing.{CanAllBeClosed, IsJoinBy}
 use Rattle.label_find.proofs.ConstraintReads.{at_this}
 use Rattle.label_find.proofs.Numbers.{peak_numbers, used_below, few_peaks}
 
--- ---- lists side by side
+-- ---- the paths of the peaks
 
--- the paths of the peaks, and what the constraints say of them
+-- they, and what the constraints say of them
 pub record WithPaths (rules : List RewriteRule) (sides : List SideRules) (peaks : List PlacedPeak) (ds : List PeakConstraint) : Type 0 where
   pub paths : List PeakPaths
   pub are_paths : Along (ArePathsOf rules) peaks paths
@@ -46,16 +47,6 @@ with_paths rules sides along_end = record { paths = []; are_paths = along_end; s
 with_paths rules sides (along_item h rest) =
     let later = with_paths rules sides rest in
     record { paths = h.paths ∷ later.paths; are_paths = along_item h.are_paths later.are_paths; says = along_item h.says later.says }
-
-along_from : {A B : Type 0} {related : A → B → Type 0} {xs : List A} {ys : List B} → Along related xs ys → (i : ℕ) (a : A) → slice_get xs i ≡ Some a → (b : B) × (slice_get ys i ≡ Some b) × related a b
-along_from along_end i a at = absurd cc
-along_from {related = related} (along_item {a = x} {b = y} h rest) zero a at = (y, refl, subst (λ z. related z y) (same_Some x a at) h)
-along_from (along_item h rest) (suc i) a at = along_from rest i a at
-
-along_to : {A B : Type 0} {related : A → B → Type 0} {xs : List A} {ys : List B} → Along related xs ys → (i : ℕ) (b : B) → slice_get ys i ≡ Some b → (a : A) × (slice_get xs i ≡ Some a) × related a b
-along_to along_end i b at = absurd cc
-along_to {related = related} (along_item {a = x} {b = y} h rest) zero b at = (x, refl, subst (λ z. related x z) (same_Some y b at) h)
-along_to (along_item h rest) (suc i) b at = along_to rest i b at
 
 -- ---- the constraints
 

@@ -14,7 +14,7 @@ ghost use Rattle.label_find.specs.ListedSides.{HasSameLists, IsFrontOf};
 use crate::side_rules::SideRules;
 use indexmap::IndexMap;
 use join_find::{Hand, KeptLists, SideIds, side_on};
-use path_lists::paths_from;
+use path_lists::{KnownEnds, paths_with};
 use rewrite_core::{PathStep, Peak, Top};
 use std::alloc::Global;
 use term_pool::{Pool, RulesByRoot};
@@ -32,6 +32,7 @@ const MOST_KEPT_BYTES: u64 = 67_108_864;
 pub(crate) struct ListedSides {
     pool: Pool,
     ids: SideIds,
+    ends: KnownEnds,
     lists: KeptLists,
     numbers: IndexMap<u32, usize>,
 }
@@ -45,6 +46,7 @@ impl ListedSides {
         ListedSides {
             pool: Pool::new(alloc),
             ids: SideIds::new(alloc),
+            ends: KnownEnds::new(alloc),
             lists: KeptLists::new(alloc),
             numbers: IndexMap::new(alloc),
         }
@@ -63,6 +65,7 @@ impl ListedSides {
         }
         self.pool = Pool::new(alloc);
         self.ids = SideIds::new(alloc);
+        self.ends = KnownEnds::new(alloc);
         self.lists = KeptLists::new(alloc);
         self.numbers = IndexMap::new(alloc);
     }
@@ -98,7 +101,8 @@ impl ListedSides {
             return Ok(id);
         }
         let side = side_on(peak, hand);
-        let list = paths_from(alloc, &mut self.pool, trs, by_root, side, growth)?;
+        let ends = &mut self.ends;
+        let list = paths_with(alloc, &mut self.pool, trs, by_root, side, growth, ends)?;
         self.lists.put(id, list)?;
         Ok(id)
     }
