@@ -1,25 +1,10 @@
 -- The first pair of marks that are parted is that of the terms.
 use Rattle.std.specs.Prelude.{◌≡◌, ◌<◌, ◌↔◌, ℕ, List, Some, slice_get, refl}
-use Rattle.std.proofs.Common.{zero, suc, subst}
-use Rattle.std.proofs.lemmas.Option.{same_Some}
 use Rattle.trs_defs.proofs.Members.{in_of_get, get_of_in}
 use Rattle.term_pool.specs.Listed.{Listed}
-use Rattle.join_find.specs.First.{First, Some_in, None_in, Along, along_end, along_item}
-use Rattle.join_find.proofs.Firsts.{first_at}
+use Rattle.join_find.specs.First.{First, Some_in, None_in, Along}
+use Rattle.join_find.proofs.Firsts.{first_at, along_from, along_to}
 use Rattle.conf_find.specs.Parted.{IsFirstPair, HasNoPair}
-
--- what stands at a place of the second of two lists that lie along each other has one at its place in the first
-along_left : {A B : Type 0} (related : A → B → Type 0) {xs : List A} {ys : List B} → Along related xs ys → (i : ℕ) (b : B) → slice_get ys i ≡ Some b
-    → (a : A) × (slice_get xs i ≡ Some a) × related a b
-along_left related along_end i b e = absurd cc
-along_left related (along_item {a = a} {b = c} h rest) zero b e = (a, refl, subst (λ y. related a y) (same_Some c b e) h)
-along_left related (along_item h rest) (suc i) b e = along_left related rest i b e
-
-along_right : {A B : Type 0} (related : A → B → Type 0) {xs : List A} {ys : List B} → Along related xs ys → (i : ℕ) (a : A) → slice_get xs i ≡ Some a
-    → (b : B) × (slice_get ys i ≡ Some b) × related a b
-along_right related along_end i a e = absurd cc
-along_right related (along_item {a = c} {b = b} h rest) zero a e = (b, refl, subst (λ x. related x b) (same_Some c a e) h)
-along_right related (along_item h rest) (suc i) a e = along_right related rest i a e
 
 -- the first pair, by the numbers of its terms
 pub record IsFirstOfTerms (apart : Listed → Listed → Type 0) (es fs : List Listed) (pair : ℕ × ℕ) : Type 0 where
@@ -37,31 +22,31 @@ module _ {A : Type 0} (marked : Listed → A → Type 0) (parted : A → A → T
   some_of : (e : Listed) (a : A) → marked e a → Some_in (parted a) rs → Some_in (apart e) fs
   some_of e a m (b, i, h) =
       let (k, at) = get_of_in i in
-      let (f, there, n) = along_left marked right k b at in
+      let (f, there, n) = along_to right k b at in
       (f, in_of_get fs k f there, (same e f a b m n).0 h)
 
   some_back : (e : Listed) (a : A) → marked e a → Some_in (apart e) fs → Some_in (parted a) rs
   some_back e a m (f, i, h) =
       let (k, at) = get_of_in i in
-      let (b, there, n) = along_right marked right k f at in
+      let (b, there, n) = along_from right k f at in
       (b, in_of_get rs k b there, (same e f a b m n).1 h)
 
   pub no_pair : HasNoPair parted ls rs → None_in (λ (e : Listed). Some_in (apart e) fs) es
   no_pair h e i s =
       let (k, at) = get_of_in i in
-      let (a, there, m) = along_right marked left k e at in
+      let (a, there, m) = along_from left k e at in
       h.none a (in_of_get ls k a there) (some_back e a m s)
 
   pub first_terms : (pair : ℕ × ℕ) → IsFirstPair parted ls rs pair → IsFirstOfTerms apart es fs pair
   first_terms pair h =
       let a = h.first_left.item in
       let b = h.first_right.item in
-      let (u, at_u, m) = along_left marked left pair.0 a h.first_left.there in
-      let (v, at_v, n) = along_left marked right pair.1 b h.first_right.there in
+      let (u, at_u, m) = along_to left pair.0 a h.first_left.there in
+      let (v, at_v, n) = along_to right pair.1 b h.first_right.there in
       let before : (k : ℕ) (e : Listed) → k < pair.0 → slice_get es k ≡ Some e → Some_in (apart e) fs → ⊥ = λ k e l at s.
-      (let (c, there, o) = along_right marked left k e at in h.first_left.before k c l there (some_back e c o s)) in
+      (let (c, there, o) = along_from left k e at in h.first_left.before k c l there (some_back e c o s)) in
       let earlier : (k : ℕ) (f : Listed) → k < pair.1 → slice_get fs k ≡ Some f → apart u f → ⊥ = λ k f l at s.
-      (let (c, there, o) = along_right marked right k f at in h.first_right.before k c l there ((same u f a c m o).1 s)) in
+      (let (c, there, o) = along_from right k f at in h.first_right.before k c l there ((same u f a c m o).1 s)) in
       let together : apart u v = (same u v a b m n).0 h.first_right.holds in
       record {
         u = u;
