@@ -3,12 +3,13 @@ ghost use Rattle.pair_theory.specs.DependencyPair.{dependency_pairs};
 ghost use Rattle.rewrite_core.specs.Check.{RefusedFor};
 ghost use Rattle.cert_step.specs.ProofProblem.{ProofProblem, problem_of, Holds, IsWellMadeProblem};
 ghost use Rattle.cert_step.specs.ProofStep.{step_of, IsWellMade};
-ghost use Rattle.cert_step.specs.Applies.{Applies};
+ghost use Rattle.cert_step.specs.Applies.{Applies, DoesApply};
 ghost use Rattle.cert_step.specs.Refused.{IsStepRefused};
 ghost use Rattle.cert_step.specs.Subproblems.{AllHold, AreWellMadeProblems};
 ghost use Rattle.cert_step.specs.Subproblems.{GivesSubproblems, problems_of};
 
 use crate::apply::{check, keeps_system};
+use crate::known::left_by_known;
 use crate::table::Table;
 use crate::tables::Tables;
 use crate::{Problem, Step};
@@ -16,7 +17,7 @@ use dp_graph::{PairGraph, Pairs};
 use rewrite_core::CheckFault;
 use std::alloc::Global;
 use std::marker::Model;
-use trs_core::Trs;
+use trs_core::{OutOfMemory, Trs};
 
 /// A system, and what the steps of a proof look up in it: its dependency pairs and their graph,
 /// each lent, or made once for all steps. So a step on pairs costs in proportion to its own pairs,
@@ -95,5 +96,32 @@ impl<'t, 'a> Prepared<'t, 'a> {
     {
         keeps_system(self.trs);
         check(alloc, self.trs, &mut self.tables, problem, step)
+    }
+
+    /// The subproblems that a step leaves of a problem to which it applies, as one that a search
+    /// found. Its conditions on rules and on edges are not checked again.
+    pub fn apply_known(
+        &mut self,
+        alloc: Global,
+        problem: &Problem,
+        step: &Step,
+    ) -> Result<Vec<Problem>, OutOfMemory>
+        requires well_made_problem { IsWellMadeProblem self.old (problem_of problem.now) }
+        requires well_made_step { IsWellMade self.old (step_of step.now) }
+        requires applies { DoesApply self.old (problem_of problem.now) (step_of step.now) }
+        ensures system { self.new ≡ self.old }
+        ensures ok { IfOk result (λ subproblems. Applies self.old (problem_of problem.now)
+            (step_of step.now) (problems_of subproblems)) }
+        ensures sound { IfOk result (λ subproblems.
+            AllHold self.old (problems_of subproblems) → Holds self.old (problem_of problem.now)) }
+        ensures well_made { IfOk result (λ subproblems.
+            AreWellMadeProblems self.old (problems_of subproblems)) }
+    {
+        keeps_system(self.trs);
+        match left_by_known(alloc, self.trs, &mut self.tables, problem, step) {
+            Ok(left) => Ok(left),
+            Err(CheckFault::Refused(_)) => unreachable!(),
+            Err(CheckFault::OutOfMemory) => Err(OutOfMemory),
+        }
     }
 }
