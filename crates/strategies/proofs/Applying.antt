@@ -29,7 +29,8 @@ use Rattle.strategies.specs.declared.outcome.Findings.{Findings}
 use Rattle.strategies.specs.Rows.{AreComponentsOf}
 use Rattle.strategies.specs.Conditions.{Finds, Fails, confluence_is_found, newman_confluence_is_found}
 use Rattle.strategies.specs.Truth.{AreTrueFindings}
-use Rattle.strategies.specs.Endings.{AreTrueIfFound, DoesApply, FindsStep}
+use Rattle.cert_step.specs.Applies.{DoesApply}
+use Rattle.strategies.specs.Endings.{AreTrueIfFound, FindsStep}
 
 pub dp_applies : (system : System) → DoesApply system problem.sn step.dp
 dp_applies system = (problem.dp (numbers_from 0 (dependency_pairs system.rules)) ∷ [], goes_on tt _ (holds refl) returned)

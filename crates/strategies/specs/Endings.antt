@@ -4,7 +4,7 @@ use Rattle.trs_defs.specs.System.{System}
 use Rattle.trs_core.specs.declared.memory.OutOfMemory.{OutOfMemory}
 use Rattle.cert_step.specs.ProofProblem.{ProofProblem}
 use Rattle.cert_step.specs.ProofStep.{ProofStep, IsWellMade}
-use Rattle.cert_step.specs.Applies.{Applies}
+use Rattle.cert_step.specs.Applies.{DoesApply}
 use Rattle.assign_search.specs.declared.search.Search.{Search}
 use Rattle.order_find.specs.order_search.Outcome.{IsFinding}
 use Rattle.strategies.specs.declared.failure.Failure.TheVariants.{NotThere, Spent}
@@ -37,10 +37,6 @@ IsAnswer system budget strategy p rose searched.Stopped = rose
 abbrev pub AreTrueIfFound : System → ProofProblem → ProofStep → Findings → Type 0
 AreTrueIfFound system p step findings =
     (budget : ℕ) (strategy : Strategy) → Finds system budget strategy p step → IsTrueFound system budget strategy p (found_of findings)
-
--- the step applies to the problem
-abbrev pub DoesApply : System → ProofProblem → ProofStep → Type 0
-DoesApply system p step = (left : List ProofProblem) × Applies system p step left
 
 -- the strategy finds the step for the problem, and the step is well-made and applies
 pub record FindsStep (system : System) (budget : ℕ) (strategy : Strategy) (p : ProofProblem) (step : ProofStep) : Type 0 where

@@ -3,14 +3,14 @@ ghost use Rattle.conf_find.specs.Fork.{fork_of};
 ghost use Rattle.cert_step.specs.ProofProblem.{problem_of, IsWellMadeProblem};
 ghost use Rattle.cert_step.specs.ProofStep.{step_of, IsWellMade};
 ghost use Rattle.strategies.specs.Conditions.{fork_step};
-ghost use Rattle.strategies.specs.Endings.{AreTrueIfFound, DoesApply};
+ghost use Rattle.cert_step.specs.Applies.{DoesApply};
+ghost use Rattle.strategies.specs.Endings.{AreTrueIfFound};
 ghost use Rattle.strategies.specs.Runs.{found};
 ghost use Rattle.strategies.specs.Truth.{found_of};
 
 use crate::Findings;
 use cert_step::{Prepared, Problem, Step};
 use conf_find::ForkFound;
-use rewrite_core::CheckFault;
 use std::alloc::Global;
 use trs_core::OutOfMemory;
 
@@ -28,11 +28,8 @@ pub(crate) fn leaving(
         (AreTrueIfFound prepared.old (problem_of problem.now) (step_of step)) }
     ensures system { prepared.new ≡ prepared.old }
 {
-    match prepared.apply(alloc, problem, &step) {
-        Ok(left) => Ok(Findings::Found(step, left)),
-        Err(CheckFault::Refused(_)) => unreachable!(),
-        Err(CheckFault::OutOfMemory) => Err(OutOfMemory),
-    }
+    let left = prepared.apply_known(alloc, problem, &step)?;
+    Ok(Findings::Found(step, left))
 }
 
 /// A found step that leaves no problem.

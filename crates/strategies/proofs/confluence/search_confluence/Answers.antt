@@ -2,7 +2,7 @@ use Rattle.std.proofs.Common.{sym, subst}
 use Rattle.cert_step.specs.ProofProblem.{problem_of}
 use Rattle.cert_step.specs.ProofStep as step
 use Rattle.strategies.specs.declared.strategy.Strategy.TheVariants as strategy
-use Rattle.strategies.specs.Endings.{DoesApply}
+use Rattle.cert_step.specs.Applies.{DoesApply}
 use Rattle.strategies.proofs.Applying.{confluence_applies, confluence_found, found_always}
 use Rattle.strategies.proofs.confluence.search_confluence.Goals as goal
 

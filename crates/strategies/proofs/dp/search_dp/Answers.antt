@@ -3,7 +3,7 @@ use Rattle.cert_step.specs.ProofProblem.{problem_of}
 use Rattle.cert_step.specs.ProofStep as step
 use Rattle.strategies.specs.declared.strategy.Strategy.TheVariants as strategy
 use Rattle.strategies.specs.Conditions.{Finds, dp_is_found}
-use Rattle.strategies.specs.Endings.{DoesApply}
+use Rattle.cert_step.specs.Applies.{DoesApply}
 use Rattle.strategies.proofs.Applying.{dp_applies, found_always}
 use Rattle.strategies.proofs.dp.search_dp.Goals as goal
 
