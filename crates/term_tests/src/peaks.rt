@@ -59,18 +59,18 @@ fn tops_are_too_many(rt: HostRuntime) -> Result<(), Fail> {
     Ok(())
 }
 
-/// `a -> b` twice has two critical peaks.
+/// `a -> b` five times has 20 critical peaks.
 #[test]
 fn peaks_have_ids_where_there_are_no_more_than_asked_for(rt: HostRuntime) -> Result<(), Fail> {
-    let trs = constants(rt.alloc(), 2, &[(0, 1), (0, 1)])?;
-    let none = PooledPeaks::of(rt.alloc(), &trs, 1)?;
+    let trs = constants(rt.alloc(), 2, &[(0, 1), (0, 1), (0, 1), (0, 1), (0, 1)])?;
+    let none = PooledPeaks::of(rt.alloc(), &trs, 19)?;
     assert!(rt; none.is_none());
-    let found = PooledPeaks::of(rt.alloc(), &trs, 2)?;
+    let found = PooledPeaks::of(rt.alloc(), &trs, 20)?;
     assert!(rt; found.is_some());
     if let Some(mut peaks) = found {
-        assert!(rt; peaks.len() == 2);
+        assert!(rt; peaks.len() == 20);
         peaks.make_room();
-        assert!(rt; peaks.len() == 2);
+        assert!(rt; peaks.len() == 20);
     }
     Ok(())
 }
