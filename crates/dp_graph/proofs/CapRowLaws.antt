@@ -8,7 +8,7 @@ use Rattle.std.proofs.lemmas.Bool.Decides.{Decides-eqb}
 use Rattle.std.proofs.lemmas.Option.{same_Some, slice_get_within}
 use Rattle.trs_defs.specs.Member.{In}
 use Rattle.trs_defs.specs.Tree.{Tree, Trees, var, app}
-use Rattle.trs_defs.specs.System.{RewriteRule, System, IsSystem, has_root}
+use Rattle.trs_defs.specs.System.{RewriteRule, System, IsSystem, has_root, is_defined}
 use Rattle.trs_defs.proofs.ListItems.{last_item, item_there}
 use Rattle.trs_defs.proofs.Members.{in_of_get, get_of_in}
 use Rattle.trs_core.specs.declared.terms.Term.{Term}
@@ -211,6 +211,25 @@ subterms_more : (ts : List Term) (t : Term) → subterms_of_all (forest (ts ++ t
 subterms_more [] t = append-nil (subterms (tree t))
 subterms_more (u ∷ ts) t = ap (λ z. subterms (tree u) ++ z) (subterms_more ts t) ∙ sym (append_assoc (subterms (tree u)) (subterms_of_all (forest ts)) (subterms (tree t)))
 
+-- the ends in these terms are behind the others
+abbrev pub AddsEndsIn : List RewriteRule → Trees → List End → List End → List HoledTree → Type 0
+AddsEndsIn rules ts old new all = (added : List End) × (new ≡ old ++ added) × AreEnds rules all (subterms_of_all ts) added
+
+-- a variable has none
+no_end_in : (rules : List RewriteRule) (all : List HoledTree) (t : Tree) (v : ℕ) (ends : List End) → t ≡ var v → AddsEnds rules t ends ends all
+no_end_in rules all t v ends is = ([], sym (append-nil ends), subst (λ z. AreEnds rules all (subterms z) []) (sym is) (at_variable no_ends))
+
+-- the ends in one term more
+next_ends : (rules : List RewriteRule) (all grown : List HoledTree) (args : List Term) (k : ℕ) (arg : Term) (begun ends ends2 : List End) → k < length args → arg ≡ get_or args k arg → KeepNumbers all grown
+    → AddsEndsIn rules (forest (take k args)) begun ends all → AddsEnds rules (tree arg) ends ends2 grown → AddsEndsIn rules (forest (take (k + 1) args)) begun ends2 grown
+next_ends rules all grown args k arg begun ends ends2 lt is keeps (added, so_far, ended) (more_ends, ends_grown, here) =
+    let taken : take (k + 1) args ≡ take k args ++ arg ∷ [] = take_more args k arg lt ∙ ap (λ z. take k args ++ z ∷ []) (sym is) in
+    let below : subterms_of_all (forest (take (k + 1) args)) ≡ subterms_of_all (forest (take k args)) ++ subterms (tree arg) = ap (λ z. subterms_of_all (forest z)) taken ∙ subterms_more (take k args) arg in (
+      added ++ more_ends,
+      ends_grown ∙ (ap (λ z. z ++ more_ends) so_far ∙ append_assoc begun added more_ends),
+      subst (λ z. AreEnds rules grown z (added ++ more_ends)) (sym below) (both_ended (still_ended keeps ended) here),
+    )
+
 set_between : {A : Type 0} (xs ys : List A) (x y : A) → slice_set (xs ++ x ∷ ys) (length xs) y ≡ xs ++ y ∷ ys
 set_between [] ys x y = refl
 set_between (z ∷ xs) ys x y = ap (λ l. z ∷ l) (set_between xs ys x y)
@@ -349,9 +368,7 @@ module _ (rules : List RewriteRule) (lefts : List (Option ℕ)) where
     pub numbers : List ℕ
     pub key_is : key ≡ f ∷ numbers
     pub numbered : HaveNumbers all cs numbers
-    pub added : List End
-    pub grown : ends ≡ begun ++ added
-    pub ended : AreEnds rules all (subterms_of_all ts) added
+    pub ended : AddsEndsIn rules ts begun ends all
 
   pub no_parts : (table : CapRows) (all : List HoledTree) (f : ℕ) (args : List Term) (items : List Cap) (start key : List ℕ) (begun : List End) → AreCaps rules lefts table all → items ≡ [] → start ≡ [] → key ≡ start ++ f ∷ []
       → CapsSoFar table all f (forest (take 0 args)) (holed_all items) key begun begun
@@ -363,19 +380,14 @@ module _ (rules : List RewriteRule) (lefts : List (Option ℕ)) where
     numbers = [];
     key_is = pushed ∙ ap (λ z. z ++ f ∷ []) none;
     numbered = subst (λ z. HaveNumbers all (holed_all z) []) (sym empty) no_numbers;
-    added = [];
-    grown = sym (append-nil begun);
-    ended = no_ends;
+    ended = ([], sym (append-nil begun), no_ends);
   }
 
   pub one_more_part : (old new : CapRows) (first : List HoledTree) (f : ℕ) (args : List Term) (items items2 : List Cap) (key key2 : List ℕ) (begun ends ends2 : List End) (k : ℕ) (arg : Term) (found : NumberedCap)
       → k < length args → arg ≡ get_or args k arg → items2 ≡ items ++ found.cap ∷ [] → key2 ≡ key ++ found.number ∷ [] → (so_far : CapsSoFar old first f (forest (take k args)) (holed_all items) key begun ends)
       → AreMore rules lefts new so_far.all (IsCapped rules (tree arg) found ends ends2) → CapsSoFar new first f (forest (take (k + 1) args)) (holed_all items2) key2 begun ends2
   one_more_part old new first f args items items2 key key2 begun ends ends2 k arg found lt is pushed written so_far (all, keeps, are, capped) =
-      let (more_ends, ends_grown, ended) = capped.ends in
       let numbered = capped.numbered in
-      let taken : take (k + 1) args ≡ take k args ++ arg ∷ [] = take_more args k arg lt ∙ ap (λ z. take k args ++ z ∷ []) (sym is) in
-      let below : subterms_of_all (forest (take (k + 1) args)) ≡ subterms_of_all (forest (take k args)) ++ subterms (tree arg) = ap (λ z. subterms_of_all (forest z)) taken ∙ subterms_more (take k args) arg in
       record {
         all = all;
         keeps = λ n c h. keeps n c (so_far.keeps n c h);
@@ -385,9 +397,7 @@ module _ (rules : List RewriteRule) (lefts : List (Option ℕ)) where
         key_is = written ∙ ap (λ z. z ++ found.number ∷ []) so_far.key_is;
         numbered = subst (λ z. HaveNumbers all (holed_all z) (so_far.numbers ++ found.number ∷ [])) (sym pushed)
             (last_numbered all items found.cap so_far.numbers found.number (still_numbered keeps so_far.numbered) numbered.number);
-        added = so_far.added ++ more_ends;
-        grown = ends_grown ∙ (ap (λ z. z ++ more_ends) so_far.grown ∙ append_assoc begun so_far.added more_ends);
-        ended = subst (λ z. AreEnds rules all z (so_far.added ++ more_ends)) (sym below) (both_ended (still_ended keeps so_far.ended) ended);
+        ended = next_ends rules so_far.all all args k arg begun ends ends2 lt is keeps so_far.ended capped.ends;
       }
 
   pub parts_key : (table : CapRows) (first : List HoledTree) (f : ℕ) (ts : Trees) (cs : HoledTrees) (key : List ℕ) (begun ends : List End) → (so_far : CapsSoFar table first f ts cs key begun ends) → HasKey so_far.all (symbol f cs) key
@@ -408,20 +418,23 @@ module _ (rules : List RewriteRule) (lefts : List (Option ℕ)) where
           let (c, at, whole) = numbered.whole f (forest args) is in
           record { root = refl; cap = c; numbered = at; is = whole_end rules (marked f (forest args)) c (subst (λ z. IsWhole rules false z c) is whole) }
 
-      rest : AreEnds rules all (subterms_of_all (forest args)) so_far.added
-      rest = subst (λ z. AreEnds rules all (subterms_of_all (forest z)) so_far.added) (take_all k args past) (still_ended keeps so_far.ended)
+      added : List End
+      added = so_far.ended.0
+
+      rest : AreEnds rules all (subterms_of_all (forest args)) added
+      rest = subst (λ z. AreEnds rules all (subterms_of_all (forest z)) added) (take_all k args past) (still_ended keeps so_far.ended.2)
 
       ended : (p : Option ℕ) → Begins rules f start begun p → AddsEnds rules (app f (forest args)) start (with_end p f found.whole ends) all
-      ended None (unknown, same) = (so_far.added, so_far.grown ∙ ap (λ z. z ++ so_far.added) same, not_defined unknown rest)
+      ended None (unknown, same) = (added, so_far.ended.1 ∙ ap (λ z. z ++ added) same, not_defined unknown rest)
       ended (Some k) (known, last, pushed) =
           let kept : End = record { symbol = f; cap = 0 } in
-          let whole : ends ≡ start ++ kept ∷ so_far.added = so_far.grown ∙ (ap (λ z. z ++ so_far.added) pushed ∙ append_assoc start (kept ∷ []) so_far.added) in
-          (end ∷ so_far.added, ap₂ (λ z n. slice_set z n end) whole last ∙ set_between start so_far.added kept end, one_end known is_end rest)
+          let whole : ends ≡ start ++ kept ∷ added = so_far.ended.1 ∙ (ap (λ z. z ++ added) pushed ∙ append_assoc start (kept ∷ []) added) in
+          (end ∷ added, ap₂ (λ z n. slice_set z n end) whole last ∙ set_between start added kept end, one_end known is_end rest)
 
   -- a variable has a hole
   pub variable_numbered : (table : CapRows) (all : List HoledTree) (t : Tree) (v : ℕ) (found : NumberedCap) (ends : List End) → AreCaps rules lefts table all → t ≡ var v → holed found.cap ≡ hole → found.number ≡ 0
       → AreMore rules lefts table all (IsCapped rules t found ends ends)
-  variable_numbered table all t v found ends are is free none = (all, (λ n c h. h), are, record { numbered = numbered; ends = ([], sym (append-nil ends), subst (λ z. AreEnds rules all (subterms z) []) (sym is) (at_variable no_ends)) })
+  variable_numbered table all t v found ends are is free none = (all, (λ n c h. h), are, record { numbered = numbered; ends = no_end_in rules all t v ends is })
     where
       numbered : IsNumbered rules t found all
       numbered = record {
@@ -429,6 +442,33 @@ module _ (rules : List RewriteRule) (lefts : List (Option ℕ)) where
         number = subst (λ z. slice_get all found.number ≡ Some z) (sym free) (subst (λ z. slice_get all z ≡ Some hole) (sym none) are.hole_first);
         whole = λ f ts e. absurd (let d : var v ≡ app f ts = sym is ∙ e in cc);
       }
+
+  -- ---- the ends in a term
+
+  -- the ends in the first arguments are behind the others
+  abbrev pub EndsSoFar : CapRows → List HoledTree → Trees → List End → List End → Type 0
+  EndsSoFar table first ts begun ends = AreMore rules lefts table first (AddsEndsIn rules ts begun ends)
+
+  pub no_more_ends : (table : CapRows) (all : List HoledTree) (args : List Term) (ends : List End) → AreCaps rules lefts table all → EndsSoFar table all (forest (take 0 args)) ends ends
+  no_more_ends table all args ends are = (all, (λ n c h. h), are, ([], sym (append-nil ends), no_ends))
+
+  pub more_ends : (old new : CapRows) (first : List HoledTree) (args : List Term) (k : ℕ) (arg : Term) (begun ends ends2 : List End) → k < length args → arg ≡ get_or args k arg
+      → (so_far : EndsSoFar old first (forest (take k args)) begun ends) → AreMore rules lefts new so_far.0 (AddsEnds rules (tree arg) ends ends2) → EndsSoFar new first (forest (take (k + 1) args)) begun ends2
+  more_ends old new first args k arg begun ends ends2 lt is (all, keeps, are, ended) (grown, stay, now, here) =
+      (grown, (λ n c h. stay n c (keeps n c h)), now, next_ends rules all grown args k arg begun ends ends2 lt is stay ended here)
+
+  -- those in all arguments of a symbol that is not defined
+  pub ends_below : (table : CapRows) (first : List HoledTree) (t : Tree) (f : ℕ) (args : List Term) (k : ℕ) (begun ends : List End) → t ≡ app f (forest args) → is_defined rules f ≡ false → length args ≤ k
+      → EndsSoFar table first (forest (take k args)) begun ends → AreMore rules lefts table first (AddsEnds rules t begun ends)
+  ends_below table first t f args k begun ends is unknown past (all, keeps, are, (added, grown, ended)) =
+      let whole = subst (λ z. AreEnds rules all (subterms_of_all (forest z)) added) (take_all k args past) ended in
+      (all, keeps, are, (added, grown, subst (λ z. AreEnds rules all (subterms z) added) (sym is) (not_defined unknown whole)))
+
+  -- those in a variable
+  pub ends_of_variable : (table : CapRows) (all : List HoledTree) (t : Tree) (v : ℕ) (ends : List End) → AreCaps rules lefts table all → t ≡ var v → AreMore rules lefts table all (AddsEnds rules t ends ends)
+  ends_of_variable table all t v ends are is = (all, (λ n c h. h), are, no_end_in rules all t v ends is)
+
+  -- ---- after a look at the row of a cap
 
   pub kept_after : (new : CapRows) (first : List HoledTree) (t : Tree) (f : ℕ) (cs : HoledTrees) (n : ℕ) (b : Bool) (found : NumberedCap) → HaveSameLefts rules lefts
       → IsWhole rules false t (symbol f cs) → AreMore rules lefts new first (λ grown. slice_get grown n ≡ Some (symbol f cs))

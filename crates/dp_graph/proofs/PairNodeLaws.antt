@@ -14,7 +14,7 @@ use Rattle.trs_caps.specs.HoledTree.{HoledTree, hole, symbol}
 use Rattle.trs_caps.specs.HoledCap.{MeetsLeft}
 use Rattle.pair_theory.specs.Marked.{Marked, marked, plain}
 use Rattle.pair_theory.specs.DependencyPair.{DependencyPair, subterms, keep_if, pairs_to, pairs_of, pairs_of_each, dependency_pairs}
-use Rattle.dp_graph.specs.CapRows.{AreCaps, AreMore, IsCapped, AreEnds, no_ends, at_variable, not_defined, one_end, IsEnd}
+use Rattle.dp_graph.specs.CapRows.{AreCaps, AreMore, AddsEnds, AreEnds, no_ends, at_variable, not_defined, one_end, IsEnd}
 use Rattle.dp_graph.specs.Edge.{IsEdge}
 use Rattle.dp_graph.specs.WordRows.{HasWords, KeepWords}
 use Rattle.dp_graph.specs.FlagRows.{IsSet, IsRow}
@@ -23,7 +23,6 @@ use Rattle.dp_graph.specs.PairNodes.{IsNodeAt, AddsNode, AddsNodes, AreShared, A
 use Rattle.dp_graph.specs.SameLefts.{IsNoted, HaveSameLefts}
 use Rattle.dp_graph.specs.declared.cap_rows.CapRows.{CapRows}
 use Rattle.dp_graph.specs.declared.cap_rows.End.{End}
-use Rattle.dp_graph.specs.declared.cap_rows.NumberedCap.{NumberedCap}
 use Rattle.dp_graph.specs.declared.graph.Node.{Node}
 use Rattle.dp_graph.specs.declared.nodes.Nodes.{Nodes}
 use Rattle.dp_graph.proofs.Covering.{edge_by_caps}
@@ -149,11 +148,10 @@ module _ (rules : List RewriteRule) (lefts : List (Option ℕ)) (caps : CapRows)
       }
 
 -- after the caps of the right side of a rule are made
-pub caps_made : (rules : List RewriteRule) (lefts : List (Option ℕ)) (pairs : List DependencyPair) (old mid : Nodes) (new : CapRows) (t : Tree) (found : NumberedCap) (ends : List End) → mid.nodes ≡ old.nodes → mid.seen ≡ old.seen → mid.caps ≡ new
-    → (are : AreNodes rules lefts pairs old) → KeepWords old.caps.rows.rows.items new.rows.rows.items → AreMore rules lefts new are.caps (IsCapped rules t found [] ends)
+pub caps_made : (rules : List RewriteRule) (lefts : List (Option ℕ)) (pairs : List DependencyPair) (old mid : Nodes) (new : CapRows) (t : Tree) (ends : List End) → mid.nodes ≡ old.nodes → mid.seen ≡ old.seen → mid.caps ≡ new
+    → (are : AreNodes rules lefts pairs old) → KeepWords old.caps.rows.rows.items new.rows.rows.items → AreMore rules lefts new are.caps (AddsEnds rules t [] ends)
     → AreNodes rules lefts pairs mid × ((all : List HoledTree) × AreCaps rules lefts mid.caps all × AreEnds rules all (subterms t) ends)
-caps_made rules lefts pairs old mid new t found ends nodes seen caps are keeps (all, kept, now, capped) =
-    let (added, grown, ended) = capped.ends in
+caps_made rules lefts pairs old mid new t ends nodes seen caps are keeps (all, kept, now, (added, grown, ended)) =
     let here : AreCaps rules lefts mid.caps all = subst (λ z. AreCaps rules lefts z all) (sym caps) now in
     let stay : KeepWords old.caps.rows.rows.items mid.caps.rows.rows.items = subst (λ (z : CapRows). KeepWords old.caps.rows.rows.items z.rows.rows.items) (sym caps) keeps in (
       record {

@@ -11,7 +11,7 @@ ghost use Rattle.dp_graph.specs.WordRows.{HasWords, KeepWords};
 ghost use Rattle.dp_graph.specs.FlagRows.{HasFlags, IsMet, IsOther, IsRow, LooksAtLeft};
 ghost use Rattle.dp_graph.specs.SameLefts.{HaveSameLefts};
 ghost use Rattle.dp_graph.specs.NotedRules.{HaveAllNoted};
-ghost use Rattle.dp_graph.specs.CapRows.{AreCaps, AreMore, IsNumbered, IsCapped, HasKey, AddsCap, Begins, with_end};
+ghost use Rattle.dp_graph.specs.CapRows.{AreCaps, AreMore, IsNumbered, AddsEnds, IsCapped, HasKey, AddsCap, Begins, with_end};
 
 use crate::flag_rows::set;
 use crate::noted::{is_noted, numbers_at};
@@ -72,9 +72,38 @@ impl CapRows {
         })
     }
 
+    /// Puts the subterms of a term with a defined root behind the ends, in preorder: so the caps in a
+    /// right side are made once for all its pairs. What stands above all of them has no caps.
+    pub(crate) fn add_ends(
+        &mut self,
+        alloc: Global,
+        by_root: &RulesByRoot,
+        lefts: &[Option<usize>],
+        t: &Term,
+        ends: &mut Vec<End>,
+    ) -> Result<(), OutOfMemory>
+        requires { HaveSameLefts by_root.now.rules lefts.now }
+        ensures ends { (all : List HoledTree) → AreCaps by_root.now.rules lefts.now self.old all
+            → OnOk result (AreMore by_root.now.rules lefts.now self.new all (AddsEnds
+            by_root.now.rules (tree t.now) ends.old.items ends.new.items)) }
+        ensures kept { OnOk result (KeepWords self.old.rows.rows.items self.new.rows.rows.items) }
+    {
+        let Term::App(f, args) = t else {
+            return Ok(());
+        };
+        if by_root.with_root(*f).is_empty() {
+            for arg in &args.items {
+                self.add_ends(alloc, by_root, lefts, arg, ends)?;
+            }
+            return Ok(());
+        }
+        self.cap_of(alloc, by_root, lefts, t, ends)?;
+        Ok(())
+    }
+
     /// The cap of a term, whose variables are not fixed. The subterms with a defined root are put
-    /// behind the ends, in preorder: so the caps in a right side are made once for all its pairs.
-    pub(crate) fn cap_of(
+    /// behind the ends, in preorder.
+    fn cap_of(
         &mut self,
         alloc: Global,
         by_root: &RulesByRoot,

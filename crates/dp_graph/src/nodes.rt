@@ -63,7 +63,7 @@ impl Nodes {
         };
         let mut ends = Vec::new(alloc);
         self.caps
-            .cap_of(alloc, by_root, lefts, &rule.right, &mut ends)?;
+            .add_ends(alloc, by_root, lefts, &rule.right, &mut ends)?;
         match &rule.left {
             Term::Var(_) => Ok(()),
             Term::App(from, _) => {
