@@ -1,4 +1,4 @@
-use crate::checks::{PeakSide, SharedSide};
+use crate::checks::PeakSide;
 use std::marker::Model;
 use trs_core::{Position, Term};
 
@@ -18,42 +18,6 @@ impl Top for Term {
     type Side = Term;
 
     ghost top_tree = { tree };
-}
-
-/// A top that is built.
-pub trait BuiltTop: Top {
-    ghost use Rattle.std.specs.Prelude.{◌≡◌};
-    ghost use Rattle.trs_core.specs.View.{tree};
-
-    /// The term of the top.
-    fn top_term(&self) -> &Term
-        ensures { tree result.now ≡ Self.top_tree self.now };
-}
-
-impl BuiltTop for Term {
-    fn top_term(&self) -> &Term {
-        self
-    }
-}
-
-/// A top that is built, of a peak whose sides other peaks may share.
-#[derive(Drop)]
-pub struct TermTop {
-    pub term: Term,
-}
-
-impl Top for TermTop {
-    ghost use Rattle.rewrite_core.specs.SharedSide.{built_tree};
-
-    type Side = SharedSide;
-
-    ghost top_tree = { built_tree };
-}
-
-impl BuiltTop for TermTop {
-    fn top_term(&self) -> &Term {
-        &self.term
-    }
 }
 
 /// A peak of two rules, whose numbers count from 0: the inner rule leads from the top to the left,

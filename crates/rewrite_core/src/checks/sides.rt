@@ -1,4 +1,3 @@
-use std::sync::Arc;
 use trs_core::Term;
 
 /// A side of a peak: a term, or what stands for one. Contracts see its tree.
@@ -24,14 +23,14 @@ impl PeakSide for Term {
     }
 }
 
-/// A side that is a term of its own, or one that many peaks share.
+/// A side that is a term of its own, or one that is lent, so that many peaks share it.
 #[derive(Drop)]
-pub enum SharedSide {
-    Own(Term),
-    Shared(Arc<Term>),
+pub enum SharedSide<'a> {
+    Own(Box<Term>),
+    Shared(&'a Term),
 }
 
-impl PeakSide for SharedSide {
+impl<'a> PeakSide for SharedSide<'a> {
     ghost use Rattle.rewrite_core.specs.SharedSide.{shared_tree};
 
     ghost side_tree = { shared_tree };
