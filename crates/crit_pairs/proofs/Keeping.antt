@@ -13,10 +13,9 @@ use Rattle.term_pool.specs.Roots.{with_root}
 use Rattle.rewrite_core.specs.PlacedPeak.{PlacedPeak}
 use Rattle.crit_pairs.specs.PeakList.{Spot, spots_at, spots, spots_from, ListsPeaks}
 use Rattle.crit_pairs.specs.Sides.{KeepsLimits, nodes_of_three}
-use Rattle.crit_pairs.specs.Walk.{Moves, Stops, Keeps, Reaches, Adds, StopsWith, StopsAt, HasFirst, IsPartOf}
+use Rattle.crit_pairs.specs.Walk.{Moves, Stops, Keeps, Reaches, Adds, StopsWith, HasFirst, IsPartOf}
 use Rattle.crit_pairs.specs.declared.listing.Peaks.{Peaks}
 use Rattle.crit_pairs.specs.declared.faults.PeakFault.{PeakFault}
-use Rattle.crit_pairs.specs.declared.faults.PeakFault.TheVariants as peak
 use Rattle.crit_pairs.proofs.SpotWalk.{OverlapsUnify, stays, goes_on, stops_here, spots_by, moves_to_root, listed_all}
 
 -- nothing is done
@@ -122,10 +121,6 @@ none_kept rules peaks places spots before h moves = record {
   same_most = refl;
   moves = moves;
 }
-
--- want of memory says nothing
-pub memory_ends : {T S : Type 0} (rules : List RewriteRule) (peaks : Peaks T S) (spots : List Spot) → StopsAt rules peaks spots peak.OutOfMemory
-memory_ends rules peaks spots = λ other. absurd (other refl)
 
 -- no outer rule is left
 pub kept_all : {T S : Type 0} (rules : List RewriteRule) (most : ℕ) (found : Peaks T S) (j : ℕ) → length rules ≤ j → Reaches rules most [] 0 (spots rules) found (spots_from rules j (drop j rules)) → HasFirst rules most found

@@ -1,129 +1,169 @@
--- Peaks that are made, and those that equal inner rules have again.
-use Rattle.std.specs.Prelude.{◌↔◌, min, IfSome, is_some}
+-- Peaks that are added, and those that equal inner rules have again.
+use Rattle.std.specs.Prelude.{◌↔◌, min, IfSome}
 use Rattle.std.specs.Global.{Vec}
-use Rattle.std.proofs.Common.{◌≡◌, ◌<◌, ◌≤◌, inl, inr, ℕ, ◌+◌, List, [], ◌∷◌, ◌++◌, Option, Some, None, IsTrue, Err, length, slice_get, refl, sym, ◌∙◌, ap, subst, arith}
-use Rattle.std.proofs.Math.Decide.{dec_lt, dec_le}
-use Rattle.std.proofs.Math.Nat.{min-eq_left}
-use Rattle.std.proofs.lemmas.Option.{same_Some}
+use Rattle.std.proofs.Common.{◌≡◌, ◌<◌, ◌≤◌, inl, inr, ℕ, ◌+◌, ◌-◌, Bool, true, false, Option, List, [], ◌∷◌, ◌++◌, Some, None, IsTrue, Err, length, slice_get, refl, sym, ◌∙◌, ap, subst, arith, append-nil}
+use Rattle.std.proofs.Math.Decide.{dec_lt}
+use Rattle.std.proofs.lemmas.Option.{same_Some, IfSome_then}
+use Rattle.trs_defs.specs.Tree.{Tree}
 use Rattle.trs_defs.specs.System.{RewriteRule}
-use Rattle.trs_defs.proofs.ListItems.{item_of_more}
+use Rattle.trs_defs.proofs.ListItems.{item_of_more, kept_item, last_item}
 use Rattle.rewrite_core.specs.PlacedPeak.{PlacedPeak}
-use Rattle.crit_pairs.specs.PeakList.{Spot, nodes_of_peak, too_many}
+use Rattle.crit_pairs.specs.PeakList.{Spot, IsPeakAt, is_small, nodes_of_peak, too_many}
 use Rattle.crit_pairs.specs.MadePairs.{spot}
-use Rattle.crit_pairs.specs.Repeated.{moved_to, IsMadePeak, IsRepeated, AreRepeated}
+use Rattle.crit_pairs.specs.Repeated.{moved_to, IsAdded, IsRepeated, AreRepeated, IsLonger}
 use Rattle.crit_pairs.specs.Sides.{KeepsLimits, nodes_of_three}
-use Rattle.crit_pairs.specs.Walk.{Moves, Stops, Adds, StopsAt}
+use Rattle.crit_pairs.specs.Walk.{Moves, Stops, Adds, StopsAt, CountsOne, one_spot}
 use Rattle.crit_pairs.specs.declared.listing.Peaks.{Peaks}
-use Rattle.crit_pairs.specs.declared.made_peak.MadePeak.{MadePeak}
+use Rattle.crit_pairs.specs.declared.repeated.AddedPeak.{AddedPeak}
 use Rattle.crit_pairs.specs.declared.repeated.RepeatedPeak.{RepeatedPeak}
 use Rattle.crit_pairs.specs.declared.faults.PeakFault.{PeakFault}
 use Rattle.crit_pairs.specs.declared.faults.PeakFault.TheVariants as limit
 use Rattle.crit_pairs.proofs.SpotWalk.{moves_one}
 use Rattle.crit_pairs.proofs.Keeping.{only_counted, one_listed}
-use Rattle.crit_pairs.proofs.EqualRules.{peak_moved, whole_sum}
+use Rattle.crit_pairs.proofs.EqualRules.{peak_moved}
 
 -- ---- one peak more
 
-module _ {T S : Type 0} (rules : List RewriteRule) (s : Spot) (made : MadePeak T S) (is : IsMadePeak rules s made) (peaks : Peaks T S) where
-  module _ (new : Peaks T S) (same : new.most ≡ peaks.most) (count : new.count ≡ min (peaks.count + 1) 18446744073709551615)
-      (total : new.nodes ≡ min (peaks.nodes + made.nodes) 18446744073709551615) (few : new.nodes ≤ 4194304) where
-    limits : KeepsLimits peaks.nodes new.nodes is.peak.top is.peak.left is.peak.right
-    limits =
-        let whole = whole_sum new.nodes (peaks.nodes + made.nodes) total few in
-        let counted : made.nodes ≡ nodes_of_three is.peak.top is.peak.left is.peak.right = is.counted in
-        record { small = is.small; few = omega (arith, whole, counted, few); counted = omega (arith, whole, counted) }
+module _ {T S : Type 0} (rules : List RewriteRule) (s : Spot) (peaks new : Peaks T S) (p : PlacedPeak) (at : IsPeakAt rules s p) (same : new.most ≡ peaks.most)
+    (count : new.count ≡ min (peaks.count + 1) 18446744073709551615) (limits : KeepsLimits peaks.nodes new.nodes p.top p.left p.right) where
+  moves : (before : List PlacedPeak) → Moves rules before peaks.nodes (s ∷ []) (before ++ p ∷ []) new.nodes []
+  moves before = moves_one rules s p at before peaks.nodes limits.small limits.few new.nodes limits.counted
 
-    moves : (before : List PlacedPeak) → Moves rules before peaks.nodes (s ∷ []) (before ++ is.peak ∷ []) new.nodes []
-    moves before = moves_one rules s is.peak is.at before peaks.nodes limits.small limits.few new.nodes limits.counted
+  pub adds_counted : new.list.items ≡ peaks.list.items → peaks.most ≤ length peaks.list.items → Adds rules peaks (s ∷ []) new
+  adds_counted list full = λ before h. only_counted rules peaks new before h (s ∷ []) p same count limits (moves before) list full
 
-    pub adds_counted : new.list.items ≡ peaks.list.items → peaks.most ≤ length peaks.list.items → Adds rules peaks (s ∷ []) new
-    adds_counted list full = λ before h. only_counted rules peaks new before h (s ∷ []) is.peak same count limits (moves before) list full
+  pub adds_listed : new.list.items ≡ peaks.list.items ++ p ∷ [] → length peaks.list.items < peaks.most → Adds rules peaks (s ∷ []) new
+  adds_listed list room = λ before h. one_listed rules peaks new before h (s ∷ []) p same count limits (moves before) list room
 
-    pub adds_listed : (p : PlacedPeak) → made.peak ≡ Some p → new.list.items ≡ peaks.list.items ++ p ∷ [] → length peaks.list.items < peaks.most → Adds rules peaks (s ∷ []) new
-    adds_listed p there list room =
-        let same_list : new.list.items ≡ peaks.list.items ++ is.peak ∷ [] = list ∙ ap (λ q. peaks.list.items ++ q ∷ []) (is.is p there) in
-        λ before h. one_listed rules peaks new before h (s ∷ []) is.peak same count limits (moves before) same_list room
+-- what is known of it
+module _ (rules : List RewriteRule) (s : Spot) (p : PlacedPeak) (at : IsPeakAt rules s p) (before after nodes : ℕ) (limits : KeepsLimits before after p.top p.left p.right) (more : nodes ≡ after - before) where
+  pub is_counted : (list : List PlacedPeak) → IsAdded rules s list (record { nodes = nodes; number = None })
+  is_counted list = record {
+    peak = p;
+    at = at;
+    small = limits.small;
+    counted = omega (arith, more, limits.counted);
+    listed = λ n e. absurd cc;
+  }
 
-  pub too_many_made : (fault : PeakFault) (total : ℕ) → total ≡ min (peaks.nodes + made.nodes) 18446744073709551615 → fault ≡ limit.TooMany → 4194304 < total → StopsAt rules peaks (s ∷ []) fault
-  too_many_made fault total sum e many = λ ne before h.
-      let counted : made.nodes ≡ nodes_of_peak is.peak = is.counted in
-      let over : 4194304 < peaks.nodes + made.nodes =
-      elim (dec_le (peaks.nodes + made.nodes) 18446744073709551615) [
-        | yes k ↦ let whole : total ≡ peaks.nodes + made.nodes = sum ∙ min-eq_left k in omega (arith, whole, many)
-        | no k ↦ omega (arith, k)
-      ] in
-      let stop : Stops rules before peaks.nodes (s ∷ []) limit.TooMany =
-      record { stops = λ rest. record { tail = Err limit.TooMany; lists = too_many is.at is.small (omega (arith, over, counted)); is = refl } } in
-      subst (Stops rules before peaks.nodes (s ∷ [])) (sym e) stop
+  pub is_listed : (list : List PlacedPeak) (n : ℕ) → n ≡ length list → IsAdded rules s (list ++ p ∷ []) (record { nodes = nodes; number = Some n })
+  is_listed list n last = record {
+    peak = p;
+    at = at;
+    small = limits.small;
+    counted = omega (arith, more, limits.counted);
+    listed = λ m e. subst (λ k. slice_get (list ++ p ∷ []) k ≡ Some p) (sym last ∙ same_Some n m e) (last_item list p []);
+  }
 
-none_is_not : {X : Type 0} (o : Option X) → o ≡ None → IsTrue (is_some o) → ⊥
-none_is_not None e h = absurd cc
-none_is_not (Some x) e h = absurd cc
-
-some_is : {X : Type 0} (o : Option X) (x : X) → o ≡ Some x → IsTrue (is_some o)
-some_is None x e = absurd cc
-some_is (Some y) x e = refl
-
--- the list has room if the peak is there
-pub is_full : {X : Type 0} (o : Option X) (n most : ℕ) → IsTrue (is_some o) ↔ (n < most) → o ≡ None → most ≤ n
-is_full o n most listed none = elim (dec_lt n most) [ yes k ↦ absurd (none_is_not o none (listed.1 k)) | no k ↦ omega (arith, k) ]
-
-pub is_free : {X : Type 0} (o : Option X) (x : X) (n most : ℕ) → IsTrue (is_some o) ↔ (n < most) → o ≡ Some x → n < most
-is_free o x n most listed some = listed.0 (some_is o x some)
+counted_limits : {T S : Type 0} (mid new : Peaks T S) (nodes : ℕ) (p : PlacedPeak) → IsTrue (is_small p) → nodes ≡ nodes_of_peak p → CountsOne mid nodes new → KeepsLimits mid.nodes new.nodes p.top p.left p.right
+counted_limits mid new nodes p small counted one =
+    let three : nodes ≡ nodes_of_three p.top p.left p.right = counted in
+    record { small = small; few = omega (arith, one.total, one.few, three); counted = omega (arith, one.total, three) }
 
 -- where bindings stand says nothing of the peaks
 pub adds_too : {T S : Type 0} (rules : List RewriteRule) (peaks new : Peaks T S) (places : Vec ℕ) (spots : List Spot)
     → Adds {T = T} {S = S} rules (record { list = peaks.list; most = peaks.most; count = peaks.count; nodes = peaks.nodes; places = places }) spots new → Adds rules peaks spots new
 adds_too rules peaks new places spots adds = λ before h. adds before (record { kept = h.kept; counted = h.counted; few = h.few; within = h.within })
 
-pub stops_too : {T S : Type 0} (rules : List RewriteRule) (peaks : Peaks T S) (places : Vec ℕ) (spots : List Spot) (fault : PeakFault)
-    → StopsAt {T = T} {S = S} rules (record { list = peaks.list; most = peaks.most; count = peaks.count; nodes = peaks.nodes; places = places }) spots fault → StopsAt rules peaks spots fault
-stops_too rules peaks places spots fault stops = λ ne before h. stops ne before (record { kept = h.kept; counted = h.counted; few = h.few; within = h.within })
+pub adds_still : {T S : Type 0} (rules : List RewriteRule) (peaks new : Peaks T S) (places : Vec ℕ) (spots : List Spot)
+    → Adds rules peaks spots new → Adds {T = T} {S = S} rules peaks spots (record { list = new.list; most = new.most; count = new.count; nodes = new.nodes; places = places })
+adds_still rules peaks new places spots adds = λ before h.
+    let r = adds before h in
+    record { all = r.all; keeps = record { kept = r.keeps.kept; counted = r.keeps.counted; few = r.keeps.few; within = r.keeps.within }; same_most = r.same_most; moves = r.moves }
+
+not_both : (b : Bool) → b ≡ false → IsTrue b → ⊥
+not_both true e h = absurd cc
+not_both false e h = absurd cc
+
+-- a list without room
+pub is_full : (has_room : Bool) (n most : ℕ) → IsTrue has_room ↔ (n < most) → has_room ≡ false → most ≤ n
+is_full has_room n most room none = elim (dec_lt n most) [ yes k ↦ absurd (not_both has_room none (room.1 k)) | no k ↦ omega (arith, k) ]
 
 -- ---- the peak of a rule that equals another one
 
-module _ {T S : Type 0} (rules : List RewriteRule) (j k i : ℕ) (p : List ℕ) (made : MadePeak T S) (is : IsMadePeak rules (spot j p k) made) (same : slice_get rules i ≡ slice_get rules k) where
-  pub counted_again : (new : MadePeak T S) → new.nodes ≡ made.nodes → new.peak ≡ None → IsMadePeak rules (spot j p i) new
-  counted_again new nodes none = record {
-    peak = moved_to i is.peak;
-    at = peak_moved rules j k i p is.peak same is.at;
-    small = is.small;
-    counted = nodes ∙ is.counted;
-    is = λ x there. absurd (none_is_not new.peak none (some_is new.peak x there));
-  }
+-- a list that grew has the same peaks
+pub still_added : (rules : List RewriteRule) (s : Spot) (list new : List PlacedPeak) (added : AddedPeak) → IsLonger list new → IsAdded rules s list added → IsAdded rules s new added
+still_added rules s list new added longer h = record {
+  peak = h.peak;
+  at = h.at;
+  small = h.small;
+  counted = h.counted;
+  listed = λ n e. subst (λ xs. slice_get xs n ≡ Some h.peak) (sym longer.1) (kept_item list longer.0 n h.peak (h.listed n e));
+}
 
-  pub copied_again : (new : MadePeak T S) (x copy : PlacedPeak) → new.nodes ≡ made.nodes → made.peak ≡ Some x → copy ≡ moved_to i x → new.peak ≡ Some copy → IsMadePeak rules (spot j p i) new
-  copied_again new x copy nodes there e some = record {
-    peak = moved_to i is.peak;
-    at = peak_moved rules j k i p is.peak same is.at;
-    small = is.small;
-    counted = nodes ∙ is.counted;
-    is = λ y here. same_Some y copy (sym here ∙ some) ∙ (e ∙ ap (moved_to i) (is.is x there));
-  }
+pub still_repeated : (rules : List RewriteRule) (j : ℕ) (p : List ℕ) (list new : List PlacedPeak) (noted : List RepeatedPeak) → IsLonger list new → AreRepeated rules j p list noted → AreRepeated rules j p new noted
+still_repeated rules j p list new noted longer h = λ k found there.
+    let r = h k found there in
+    record { inner = r.inner; equal = r.equal; added = still_added rules (spot j p r.inner) list new found.added longer r.added }
 
-module _ {T S : Type 0} (noted : List (RepeatedPeak T S)) (found : RepeatedPeak T S) (first : Option ℕ) (i : ℕ) (made : MadePeak T S) (is_first : first ≡ Some found.first) where
-  named : (rules : List RewriteRule) → IfSome first (λ k. slice_get rules k ≡ slice_get rules i) → slice_get rules found.first ≡ slice_get rules i
-  named rules equal =
-      let E : Option ℕ → Type 0 = λ o. IfSome o (λ k. slice_get rules k ≡ slice_get rules i) in
-      subst E is_first equal
+pub same_longer : (list : List PlacedPeak) → IsLonger list list
+same_longer list = ([], sym (append-nil list))
 
-  -- a noted peak is there again
-  pub noted_again : (n : ℕ) → slice_get noted n ≡ Some found
-      → ((rules : List RewriteRule) (j k : ℕ) (p : List ℕ) → IsMadePeak rules (spot j p k) found.made → slice_get rules i ≡ slice_get rules k → IsMadePeak rules (spot j p i) made)
-      → (rules : List RewriteRule) (j : ℕ) (p : List ℕ) → AreRepeated rules j p noted → IfSome first (λ k. slice_get rules k ≡ slice_get rules i) → IsMadePeak rules (spot j p i) made
-  noted_again n there again rules j p repeated equal =
+module _ {T S : Type 0} (rules : List RewriteRule) (i j : ℕ) (p : List ℕ) (peaks : Peaks T S) (known : AddedPeak) (h : IsRepeated rules j p (slice_get rules i) peaks.list.items known) where
+  abbrev again : PlacedPeak
+  again = moved_to i h.added.peak
+
+  at_again : IsPeakAt rules (spot j p i) again
+  at_again = peak_moved rules j h.inner i p h.added.peak (sym h.equal) h.added.at
+
+  pub counts_again : (new : Peaks T S) → CountsOne peaks known.nodes new → peaks.most ≤ length peaks.list.items → Adds rules peaks (one_spot j p i) new
+  counts_again new one full =
+      adds_counted rules (spot j p i) peaks new again at_again one.same_most one.count (counted_limits peaks new known.nodes again h.added.small h.added.counted one) (ap (λ v. v.items) one.same_list) full
+
+  -- what is copied from the list is the peak
+  module _ (n : ℕ) (x : PlacedPeak) (q : List ℕ) (t l r : Tree) (number : known.number ≡ Some n) (there : slice_get peaks.list.items n ≡ Some x)
+      (place : q ≡ p) (top : t ≡ x.top) (left : l ≡ x.left) (right : r ≡ x.right) where
+    abbrev copy : PlacedPeak
+    copy = record { outer = x.outer; place = q; inner = i; top = t; left = l; right = r }
+
+    copied_again : copy ≡ again
+    copied_again =
+        let same : x ≡ h.added.peak = same_Some x h.added.peak (sym there ∙ h.added.listed n number) in
+        let outer : x.outer ≡ h.added.peak.outer = ap (λ (y : PlacedPeak). y.outer) same in
+        let placed : q ≡ h.added.peak.place = place ∙ sym h.added.at.is_place in
+        let is_top : t ≡ h.added.peak.top = top ∙ ap (λ (y : PlacedPeak). y.top) same in
+        let is_left : l ≡ h.added.peak.left = left ∙ ap (λ (y : PlacedPeak). y.left) same in
+        let is_right : r ≡ h.added.peak.right = right ∙ ap (λ (y : PlacedPeak). y.right) same in
+        cc
+
+    pub lists_again : (list : Vec PlacedPeak) (new : Peaks T S) → list.items ≡ peaks.list.items ++ copy ∷ []
+        → CountsOne {T = T} {S = S} (record { list = list; most = peaks.most; count = peaks.count; nodes = peaks.nodes; places = peaks.places }) known.nodes new → length peaks.list.items < peaks.most
+        → Adds rules peaks (one_spot j p i) new
+    lists_again list new put one room =
+        let mid : Peaks T S = record { list = list; most = peaks.most; count = peaks.count; nodes = peaks.nodes; places = peaks.places } in
+        let items : new.list.items ≡ peaks.list.items ++ again ∷ [] = ap (λ v. v.items) one.same_list ∙ put ∙ ap (λ y. peaks.list.items ++ y ∷ []) copied_again in
+        adds_listed rules (spot j p i) peaks new again at_again one.same_most one.count (counted_limits mid new known.nodes again h.added.small h.added.counted one) items room
+
+  pub too_many_again : (fault : PeakFault) → fault ≡ limit.TooMany → 4194304 < peaks.nodes + known.nodes → StopsAt rules peaks (one_spot j p i) fault
+  too_many_again fault e many = λ ne before kept.
+      let counted : known.nodes ≡ nodes_of_peak again = h.added.counted in
+      let stop : Stops rules before peaks.nodes (one_spot j p i) limit.TooMany =
+      record { stops = λ rest. record { tail = Err limit.TooMany; lists = too_many at_again h.added.small (omega (arith, many, counted)); is = refl } } in
+      subst (Stops rules before peaks.nodes (one_spot j p i)) (sym e) stop
+
+-- what is known of a rule is known of one that equals it
+pub known_again : (rules : List RewriteRule) (i j : ℕ) (p : List ℕ) (list : List PlacedPeak) (noted : List RepeatedPeak) (first : Option ℕ) (known : Option AddedPeak)
+    → AreRepeated rules j p list noted → IfSome first (λ k. slice_get rules k ≡ slice_get rules i)
+    → IfSome known (λ added. (rules : List RewriteRule) (i j : ℕ) (p : List ℕ) (list : List PlacedPeak) → AreRepeated rules j p list noted → IfSome first (λ k. slice_get rules k ≡ slice_get rules i)
+    → IsRepeated rules j p (slice_get rules i) list added)
+    → IfSome known (IsRepeated rules j p (slice_get rules i) list)
+known_again rules i j p list noted first known repeated equal is = IfSome_then known is (λ added f. f rules i j p list repeated equal)
+
+module _ (noted : List RepeatedPeak) (rules : List RewriteRule) (i j : ℕ) (p : List ℕ) (list : List PlacedPeak) (repeated : AreRepeated rules j p list noted) (k : ℕ) (equal : slice_get rules k ≡ slice_get rules i) where
+  -- a noted peak of a rule that equals this one
+  pub noted_peak : (n : ℕ) (found : RepeatedPeak) → slice_get noted n ≡ Some found → found.first ≡ k → IsRepeated rules j p (slice_get rules i) list found.added
+  noted_peak n found there first =
       let r = repeated n found there in
-      again rules j r.inner p r.made (sym (named rules equal) ∙ r.equal)
+      record { inner = r.inner; equal = r.equal ∙ ap (λ m. slice_get rules m) first ∙ equal; added = r.added }
 
   -- one peak more is noted
-  pub one_noted : (new : List (RepeatedPeak T S)) → new ≡ noted ++ found ∷ []
-      → ((rules : List RewriteRule) (j k : ℕ) (p : List ℕ) → IsMadePeak rules (spot j p k) made → slice_get rules i ≡ slice_get rules k → IsMadePeak rules (spot j p i) found.made)
-      → (rules : List RewriteRule) (j : ℕ) (p : List ℕ) → AreRepeated rules j p noted → IfSome first (λ k. slice_get rules k ≡ slice_get rules i) → IsMadePeak rules (spot j p i) made → AreRepeated rules j p new
-  one_noted new put again rules j p repeated equal is = λ k x there.
-      let N : List (RepeatedPeak T S) → Type 0 = λ xs. slice_get xs k ≡ Some x in
-      elim (item_of_more noted found x k (subst N put there)) [
-        | inl old ↦ repeated k x old
+  pub one_noted : (added : AddedPeak) (new : List RepeatedPeak) → new ≡ noted ++ record { first = k; added = added } ∷ [] → IsAdded rules (spot j p i) list added → AreRepeated rules j p list new
+  one_noted added new put is = λ n x there.
+      let N : List RepeatedPeak → Type 0 = λ xs. slice_get xs n ≡ Some x in
+      let last : RepeatedPeak = record { first = k; added = added } in
+      elim (item_of_more noted last x n (subst N put there)) [
+        | inl old ↦ repeated n x old
         | inr e ↦
-            let R : RepeatedPeak T S → Type 0 = IsRepeated rules j p in
-            subst R (sym e.1) (record { inner = i; equal = named rules equal; made = again rules j i p is refl })
+            let R : RepeatedPeak → Type 0 = λ y. IsRepeated rules j p (slice_get rules y.first) list y.added in
+            subst R (sym e.1) (record { inner = i; equal = sym equal; added = is })
       ]

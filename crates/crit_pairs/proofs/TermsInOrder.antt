@@ -9,7 +9,11 @@ use Rattle.trs_defs.specs.Substitution.{apply, apply_all}
 use Rattle.trs_defs.proofs.VariableLaws.{has_var_self}
 use Rattle.trs_unify.specs.Renamed.{IsRenamed, AreRenamed}
 use Rattle.trs_unify.proofs.NewNames.{known_at, new_at, none_renamed, one_renamed, symbol_renamed}
+use Rattle.trs_unify.proofs.ListedVariables.{listed_get}
+use Rattle.term_pool.specs.LeftSides.{IsGround}
 use Rattle.crit_pairs.specs.InOrder.{in_order}
+use Rattle.crit_pairs.specs.Sides.{IsDistinct, AreRenumbered}
+use Rattle.crit_pairs.proofs.Renumbering.{none_distinct, distinct_more, not_both, ground_renamed}
 
 -- the place of a variable among names
 abbrev place : List ℕ → ℕ → ℕ
@@ -72,3 +76,29 @@ mutual
 
 pub in_order_renamed : (t : Tree) → IsRenamed [] (variables_of t) t (in_order t)
 in_order_renamed t = subst (λ names. IsRenamed [] (variables_of t) t (placed names t)) (append-nil (variables_of t)) (term_placed t [] [])
+
+one_more_distinct : (v : ℕ) (known : List ℕ) (b : Bool) → is_listed v known ≡ b → IsDistinct known → IsDistinct (with_variables known (var v))
+one_more_distinct v known true h distinct = rw h distinct
+one_more_distinct v known false h distinct = rw h (distinct_more known v distinct (λ i e. not_both (is_listed v known) h (listed_get known i v e)))
+
+-- the variables of a term are listed once
+mutual
+  variables_distinct : (t : Tree) (known : List ℕ) → IsDistinct known → IsDistinct (with_variables known t)
+  variables_distinct (var v) known distinct = one_more_distinct v known (is_listed v known) refl distinct
+  variables_distinct (app f ts) known distinct = all_distinct ts known distinct
+
+  all_distinct : (ts : Trees) (known : List ℕ) → IsDistinct known → IsDistinct (with_variables_of_all known ts)
+  all_distinct nil known distinct = distinct
+  all_distinct (cons t ts) known distinct = all_distinct ts (with_variables known t) (variables_distinct t known distinct)
+
+-- beside results with no variable
+pub in_order_beside : (t left right : Tree) → IsGround left → IsGround right → AreRenumbered t left right (in_order t) left right
+in_order_beside t left right left_ground right_ground = record {
+  first = variables_of t;
+  second = variables_of t;
+  third = variables_of t;
+  top_renamed = in_order_renamed t;
+  left_renamed = ground_renamed (variables_of t) left left_ground;
+  right_renamed = ground_renamed (variables_of t) right right_ground;
+  distinct = variables_distinct t [] none_distinct;
+}

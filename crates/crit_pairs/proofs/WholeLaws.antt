@@ -1,8 +1,7 @@
 -- Whole right sides as results: rules and sides come to them, they are counted by their numbers of nodes, and the top alone gets new numbers.
 use Rattle.std.proofs.Common.{◌≡◌, ◌<◌, ℕ, ◌+◌, List, [], ◌∷◌, ◌++◌, take, length, length-append, get_or, slice_get, Option, Some, None, IfSome, Result, Ok, Err, IfOk, IfErr, IsTrue, refl, ap, sym, ◌∙◌, subst, arith}
 use Rattle.std.proofs.lemmas.List.{take_more}
-use Rattle.std.proofs.lemmas.Option.{slice_get_read, slice_get_within, same_Some}
-use Rattle.std.specs.Arc.{arc_value}
+use Rattle.std.proofs.lemmas.Option.{slice_get_read, same_Some}
 use Rattle.std.specs.Borrow.{Bor}
 use Rattle.std.specs.Option.{option_copied}
 use Rattle.std.specs.Slice.{IsItemAt}
@@ -10,8 +9,8 @@ use Rattle.trs_defs.specs.Tree.{Tree, var}
 use Rattle.trs_defs.specs.Position.{replaced_at}
 use Rattle.trs_defs.specs.Substitution.{apply}
 use Rattle.trs_defs.specs.System.{RewriteRule}
-use Rattle.trs_defs.proofs.ListItems.{item_there}
 use Rattle.trs_core.specs.View.{tree}
+use Rattle.term_pool.specs.LeftSides.{IsGround}
 use Rattle.term_pool.proofs.LeftSideLaws.{ground_stays}
 use Rattle.crit_pairs.specs.Apart.{renamed_apart}
 use Rattle.crit_pairs.specs.MadePairs.{CountsTop}
@@ -22,7 +21,6 @@ use Rattle.crit_pairs.specs.declared.faults.PeakFault.TheVariants as peak
 use Rattle.crit_pairs.specs.declared.results.Results.TheVariants as made
 use Rattle.crit_pairs.specs.declared.whole_sides.WholeSide.{WholeSide}
 use Rattle.crit_pairs.proofs.GroundRights.{item_behind}
-use Rattle.crit_pairs.proofs.Renumbering.{beside_ground}
 
 -- ---- the sides of all rules
 
@@ -42,25 +40,10 @@ one_whole_more rules k rule old new side less read some put h =
     subst N (sym put) (subst T (sym taken) (wholes_behind (take k rules) rule old side some h))
 
 -- the term of a side is what it stands for
-pub itself_whole : (t : Tree) (side : WholeSide) → IsWholeSide t side → IsWholeSide (tree (arc_value side.term)) side
+itself_whole : (t : Tree) (side : WholeSide) → IsWholeSide t side → IsWholeSide (tree side.term.now) side
 itself_whole t side h =
     let W : Tree → Type 0 = λ u. IsWholeSide u side in
     subst W (sym h.is) h
-
-pub sides_themselves : (rules : List RewriteRule) (sides : List (Option WholeSide)) → AreWholeSides rules sides → (k : ℕ) (side : WholeSide) → slice_get sides k ≡ Some (Some side)
-    → IsWholeSide (tree (arc_value side.term)) side
-sides_themselves rules sides h k side there =
-    let within = slice_get_within sides k (Some side) there in
-    let (r, numbered) = item_there rules k (omega (arith, within, h.count)) in
-    itself_whole r.right side (h.each k side r there numbered)
-
--- an equal term has the same side
-pub same_side : (t : Tree) (side new : WholeSide) → IsWholeSide (tree (arc_value side.term)) side → tree (arc_value side.term) ≡ t → tree (arc_value new.term) ≡ tree (arc_value side.term) → new.size ≡ side.size
-    → IsWholeSide t new
-same_side t side new h same shared size =
-    let W : Tree → Type 0 = λ u. IsWholeSide u side in
-    let w : IsWholeSide t side = subst W same h in
-    record { is = shared ∙ same; ground = w.ground; small = w.small; size = size ∙ w.size }
 
 -- the side of a rule, as it is read
 pub side_read : (rules : List RewriteRule) (sides items : List (Option WholeSide)) (i : ℕ) (got : Option (Bor (Option WholeSide))) (side : Bor (Option WholeSide)) (result : Option (Bor WholeSide))
@@ -76,7 +59,7 @@ side_read rules sides items i got side (Some s) h same at is copied =
 
 -- the inner right side, which has no variable, is the reduct
 pub whole_reduct : (inner outer : RewriteRule) (place : List ℕ) (side : WholeSide) → place ≡ [] → IsWholeSide inner.right side
-    → replaced_at place outer.left (renamed_apart inner).right ≡ Some (tree (arc_value side.term))
+    → replaced_at place outer.left (renamed_apart inner).right ≡ Some (tree side.term.now)
 whole_reduct inner outer place side root h =
     ap (λ q. replaced_at q outer.left (renamed_apart inner).right) root ∙ ap (λ z. Some z) (ground_stays (λ v. var (65536 + v)) inner.right h.ground ∙ sym h.is)
 
@@ -85,7 +68,7 @@ pub both_whole : (rules : List RewriteRule) (outer inner : RewriteRule) (r : Rew
     → inner ≡ renamed_apart r → HaveWholeResults rules place i j left.now right.now → AreResults outer inner place (made.Whole left right)
 both_whole rules outer inner r place j i left right outer_is inner_is renamed h =
     let l : IsWholeSide r.right left.now = h.left_side r inner_is in
-    let R : RewriteRule → Type 0 = λ z. replaced_at place outer.left z.right ≡ Some (tree (arc_value left.now.term)) in
+    let R : RewriteRule → Type 0 = λ z. replaced_at place outer.left z.right ≡ Some (tree left.now.term.now) in
     record {
       replaced = subst R (sym renamed) (whole_reduct r outer place left.now h.root l);
       whole = (itself_whole r.right left.now l, h.right_side outer outer_is);
@@ -128,14 +111,15 @@ module _ (unifier : ℕ → Tree) (top reduct outer_right : Tree) (left right : 
   whole_fault nodes (Ok total) passed = tt
   whole_fault nodes (Err fault) passed = whole_passes fault nodes passed
 
-  pub whole_renumbered : (x y t a b : Tree) → AreRenumbered top x y t a b
-      → AreRenumbered top (apply unifier reduct) (apply unifier outer_right) t (tree (arc_value left.term)) (tree (arc_value right.term))
-  whole_renumbered x y t a b h =
+  -- the top beside any results with no variable is that beside these
+  pub whole_renumbered : (t a b : Tree) → ((x y : Tree) → IsGround x → IsGround y → AreRenumbered top x y t x y) → a ≡ tree left.term.now → b ≡ tree right.term.now
+      → AreRenumbered top (apply unifier reduct) (apply unifier outer_right) t a b
+  whole_renumbered t a b beside first second =
       let A : Tree → Type 0 = λ z. AreRenumbered top z outer_right t reduct outer_right in
       let B : Tree → Type 0 = λ z. AreRenumbered top (apply unifier reduct) z t reduct outer_right in
       let C : Tree → Type 0 = λ z. AreRenumbered top (apply unifier reduct) (apply unifier outer_right) t z outer_right in
-      let D : Tree → Type 0 = λ z. AreRenumbered top (apply unifier reduct) (apply unifier outer_right) t (tree (arc_value left.term)) z in
-      subst D (sym r.is) (subst C (sym l.is) (subst B right_stays (subst A left_stays (beside_ground top x y t a b reduct outer_right h l.ground r.ground))))
+      let D : Tree → Type 0 = λ z. AreRenumbered top (apply unifier reduct) (apply unifier outer_right) t a z in
+      subst D (sym (second ∙ r.is)) (subst C (sym (first ∙ l.is)) (subst B right_stays (subst A left_stays (beside reduct outer_right l.ground r.ground))))
 
 -- what holds of one reduct holds of each
 module _ (place : List ℕ) (left by t : Tree) where

@@ -8,6 +8,9 @@ use Rattle.crit_pairs.specs.declared.binding_table.Binding.{Binding}
 use Rattle.crit_pairs.specs.declared.unbuilt.SeenBinding.{SeenBinding}
 use Rattle.crit_pairs.specs.declared.unbuilt.SeenUnifier.{SeenUnifier}
 use Rattle.crit_pairs.specs.declared.unbuilt.SeenUnifier.TheVariants as seen
+use Rattle.crit_pairs.specs.declared.unbuilt.SeenTop.{SeenTop}
+use Rattle.crit_pairs.specs.declared.unbuilt.Seen.{Seen}
+use Rattle.crit_pairs.specs.declared.unbuilt.Seen.TheVariants as top
 use Rattle.crit_pairs.specs.declared.unbuilt.UnbuiltTop.{UnbuiltTop}
 
 -- a variable with the term that it is bound to
@@ -27,5 +30,12 @@ seen_substitution (seen.Bound bindings) v = unwrap_or (paired_term (map seen_pai
 seen_substitution (seen.Shared found) v = bound found.value v
 
 -- the instance of the outer left side, with its variables numbered
+abbrev pub seen_tree : SeenTop → Tree
+seen_tree top = in_order (apply (seen_substitution top.unifier.value) (tree top.outer_left.value))
+
+abbrev pub tree_seen : Seen → Tree
+tree_seen (top.First first) = seen_tree first
+tree_seen (top.Again first) = seen_tree first.value
+
 abbrev pub unbuilt_tree : UnbuiltTop → Tree
-unbuilt_tree top = in_order (apply (seen_substitution top.unifier.value) (tree top.outer_left.value))
+unbuilt_tree top = tree_seen top.seen

@@ -1,6 +1,5 @@
--- Large right sides that are shared by the peaks that have them whole.
+-- Right sides with no variable, which are lent to the peaks that have them whole.
 use Rattle.std.specs.Prelude.{◌≡◌, ◌<◌, ℕ, ◌+◌, List, [], Option, Some, IsTrue, false, length, slice_get}
-use Rattle.std.specs.Arc.{arc_value}
 use Rattle.trs_defs.specs.Tree.{Tree}
 use Rattle.trs_defs.specs.Size.{size_of, within_limits}
 use Rattle.trs_defs.specs.Position.{replaced_at}
@@ -15,7 +14,7 @@ use Rattle.crit_pairs.specs.declared.results.Results.TheVariants as made
 
 -- the side is this term, which has no variable and keeps the limits, with its number of nodes
 pub record IsWholeSide (t : Tree) (side : WholeSide) : Type 0 where
-  pub is : tree (arc_value side.term) ≡ t
+  pub is : tree side.term.now ≡ t
   pub ground : IsGround t
   pub small : IsTrue (within_limits t)
   pub size : side.size ≡ size_of t
@@ -39,12 +38,12 @@ pub record HaveWholeResults (rules : List RewriteRule) (place : List ℕ) (inner
 -- the reduct of the outer left side, of which the left result is an instance
 abbrev pub reduct_of : Results → Tree
 reduct_of (made.Contracted reduct) = tree reduct
-reduct_of (made.Whole left right) = tree (arc_value left.now.term)
+reduct_of (made.Whole left right) = tree left.now.term.now
 
 -- where the results are whole, the second is this right side
 abbrev pub AreWhole : Tree → Results → Type 0
 AreWhole outer_right (made.Contracted reduct) = Unit {0}
-AreWhole outer_right (made.Whole left right) = IsWholeSide (tree (arc_value left.now.term)) left.now × IsWholeSide outer_right right.now
+AreWhole outer_right (made.Whole left right) = IsWholeSide (tree left.now.term.now) left.now × IsWholeSide outer_right right.now
 
 -- the results of the inner rule at the place of the outer left side, and of the outer rule
 pub record AreResults (outer inner : RewriteRule) (place : List ℕ) (results : Results) : Type 0 where

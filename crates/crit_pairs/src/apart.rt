@@ -23,14 +23,14 @@ use trs_unify::rename_apart;
 const MANY_OF_ONE_ROOT: usize = 16;
 
 /// A system with its rules by the roots of their left sides, with each rule renamed apart from all
-/// rules, with the skeletons of the left sides, with the right sides that peaks share, and with how
+/// rules, with the skeletons of the left sides, with the right sides that peaks have whole, and with how
 /// often variables occur. It is made once for all overlaps. Contracts see it as the system.
 #[derive(Drop)]
 pub(crate) struct RulesApart<'a> {
     by_root: RulesByRoot<'a>,
     apart: Vec<ApartRule<'a>>,
     skeletons: Vec<Skeleton>,
-    whole_sides: Vec<Option<WholeSide>>,
+    whole_sides: Vec<Option<WholeSide<'a>>>,
     occurrences: Occurrences,
     /// Of no rules, where few have one root.
     equal: EqualRules,
@@ -100,8 +100,8 @@ impl<'a> RulesApart<'a> {
         &self.skeletons[i]
     }
 
-    /// The right side of rule `i`, if peaks share it.
-    pub fn whole_side(&self, i: usize) -> Option<&WholeSide>
+    /// The right side of rule `i`, if peaks at the root have it whole.
+    pub fn whole_side(&self, i: usize) -> Option<&WholeSide<'a>>
         ensures { IfSome result (λ side. IsRightOf self.now.rules i side.now) }
     {
         match self.whole_sides.get(i) {
@@ -125,6 +125,17 @@ impl<'a> RulesApart<'a> {
     /// How many pairs of rules are seen to be equal.
     pub fn equal_pairs(&self, alloc: Global) -> Result<u64, OutOfMemory> {
         self.equal.pairs(alloc)
+    }
+
+    /// Whether peaks have all right sides whole: each has no variable, and rules overlap at the root
+    /// alone.
+    pub fn have_whole_results(&self) -> bool {
+        for (side, rule) in self.whole_sides.iter().zip(self.by_root.rules()) {
+            if side.is_none() || has_rule_below(&self.by_root, &rule.left) {
+                return false;
+            }
+        }
+        true
     }
 
     /// How often variables occur in rules `i` and `j` together.
@@ -163,6 +174,29 @@ fn most_of_one_root(by_root: &RulesByRoot) -> usize {
         }
     }
     most
+}
+
+/// Whether some rule has the root of a subterm other than the term itself.
+fn has_rule_below(by_root: &RulesByRoot, t: &Term) -> bool {
+    match t {
+        Term::Var(_) => false,
+        Term::App(_, args) => {
+            for arg in &args.items {
+                if has_rule_at(by_root, arg) || has_rule_below(by_root, arg) {
+                    return true;
+                }
+            }
+            false
+        }
+    }
+}
+
+/// Whether some rule has the root of the term.
+fn has_rule_at(by_root: &RulesByRoot, t: &Term) -> bool {
+    match t {
+        Term::Var(_) => false,
+        Term::App(f, _) => !by_root.with_root(*f).is_empty(),
+    }
 }
 
 /// Each rule, its variables renamed apart from those of all rules.

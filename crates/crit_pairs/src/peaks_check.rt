@@ -11,14 +11,18 @@ use trs_core::Trs;
 
 /// The first critical peaks of a system, and the number of all of them. Their tops are not built.
 #[derive(Drop)]
-pub struct FirstPeaks {
-    pub peaks: Vec<Peak<UnbuiltTop>>,
+pub struct FirstPeaks<'a> {
+    pub peaks: Vec<Peak<UnbuiltTop<'a>>>,
     pub count: u64,
 }
 
 /// The critical peaks, for a step that has `most` items: all are counted, and so many at most are
 /// listed.
-pub fn first_peaks(alloc: Global, trs: &Trs, most: usize) -> Result<FirstPeaks, CheckFault>
+pub fn first_peaks<'a>(
+    alloc: Global,
+    trs: &'a Trs,
+    most: usize,
+) -> Result<FirstPeaks<'a>, CheckFault>
     ensures first { IfOk result (AreFirst trs.now.rules most) }
     ensures refused { IfErr result (Refuses (ListsCriticalPeaks trs.now.rules)) }
 {

@@ -1,4 +1,4 @@
-//! The results of one critical peak: instances that are built, or whole right sides that are shared.
+//! The results of one critical peak: instances that are built, or whole right sides that are lent.
 ghost use Rattle.std.specs.Prelude.{◌≡◌, ◌≢◌, ◌<◌, All, IfOk, IfErr, IfSome, None, Some, slice_get};
 ghost use Rattle.trs_defs.specs.Tree.{Tree};
 ghost use Rattle.trs_defs.specs.Position.{subterm_at, replaced_at};
@@ -18,27 +18,27 @@ use crate::overlapping::OverlapUnifier;
 use crate::sides::{PeakTop, Sides, count_nodes, count_top};
 use crate::whole_sides::WholeSide;
 use std::alloc::Global;
-use trs_core::{Args, OutOfMemory, Rule, Term};
+use trs_core::{OutOfMemory, Rule, Term};
 
 /// The results of two rules, of which those of their peak are instances.
 #[derive(Drop)]
-pub(crate) enum Results<'a> {
+pub(crate) enum Results<'r, 'a> {
     /// The reduct of the outer left side, and the outer right side.
     Contracted(Term),
     /// Both right sides, which have no variable.
-    Whole(&'a WholeSide, &'a WholeSide),
+    Whole(&'r WholeSide<'a>, &'r WholeSide<'a>),
 }
 
 /// The results of rule `i` in rule `j` at a place.
-pub(crate) fn results_at<'a>(
+pub(crate) fn results_at<'r, 'a>(
     alloc: Global,
-    rules: &'a RulesApart,
+    rules: &'r RulesApart<'a>,
     j: usize,
     outer: &Rule,
     i: usize,
     inner: &Rule,
     place: &[u8],
-) -> Result<Results<'a>, OutOfMemory>
+) -> Result<Results<'r, 'a>, OutOfMemory>
     requires outer { slice_get rules.now.rules j ≡ Some outer.now }
     requires inner { (r : RewriteRule) × (slice_get rules.now.rules i ≡ Some r)
         × (inner.now ≡ renamed_apart r) }
@@ -52,13 +52,13 @@ pub(crate) fn results_at<'a>(
     }
 }
 
-/// The right sides of two rules, if this is the root and peaks share both.
-fn whole_results<'a>(
-    rules: &'a RulesApart,
+/// The right sides of two rules, if this is the root and peaks have both whole.
+fn whole_results<'r, 'a>(
+    rules: &'r RulesApart<'a>,
     j: usize,
     i: usize,
     place: &[u8],
-) -> Option<(&'a WholeSide, &'a WholeSide)>
+) -> Option<(&'r WholeSide<'a>, &'r WholeSide<'a>)>
     ensures { IfSome result (λ found.
         HaveWholeResults rules.now.rules place.now i j found.0.now found.1.now) }
 {
@@ -132,13 +132,12 @@ pub(crate) fn count_overlap(
     }
 }
 
-/// The three terms of the peak. A constant stands in for whole results, since it has no variable to
-/// be numbered either.
-pub(crate) fn peak_sides<T: PeakTop>(
+/// The three terms of the peak.
+pub(crate) fn peak_sides<'a, T: PeakTop<'a>>(
     alloc: Global,
     unifier: &OverlapUnifier,
     outer: &Rule,
-    results: &Results,
+    results: &Results<'_, 'a>,
 ) -> Result<Sides<T>, OutOfMemory>
     requires whole { AreWhole outer.now.right results.now }
     ensures { IfOk result (λ s. AreRenumbered
@@ -149,15 +148,10 @@ pub(crate) fn peak_sides<T: PeakTop>(
 {
     match results {
         Results::Contracted(reduct) => T::sides(alloc, unifier, &outer.left, reduct, &outer.right),
-        Results::Whole(left, right) => {
-            let items = Vec::new(alloc);
-            let constant = Term::App(0, Args { items });
-            let beside = T::sides(alloc, unifier, &outer.left, &constant, &constant)?;
-            Ok(Sides {
-                top: beside.top,
-                left: T::whole(alloc, left)?,
-                right: T::whole(alloc, right)?,
-            })
-        }
+        Results::Whole(left, right) => Ok(Sides {
+            top: T::beside_ground(alloc, unifier, &outer.left)?,
+            left: T::whole(alloc, left)?,
+            right: T::whole(alloc, right)?,
+        }),
     }
 }

@@ -6,7 +6,7 @@ ghost use Rattle.crit_pairs.specs.Meeting.{solution};
 ghost use Rattle.crit_pairs.specs.InOrder.{in_order};
 ghost use Rattle.crit_pairs.specs.Overlapping.{substitution};
 ghost use Rattle.crit_pairs.specs.Sides.{AreRenumbered};
-ghost use Rattle.crit_pairs.specs.UnbuiltTop.{seen_pair, bound_pair, seen_substitution};
+ghost use Rattle.crit_pairs.specs.UnbuiltTop.{seen_pair, bound_pair, seen_substitution, seen_tree};
 
 use crate::binding_table::{Binding, Bindings};
 use crate::names::Names;
@@ -16,6 +16,7 @@ use crate::solved;
 use crate::whole_sides::WholeSide;
 use rewrite_core::{SharedSide, Top};
 use std::alloc::Global;
+use std::marker::PhantomData;
 use std::snapshot::Snapshot;
 use trs_core::{OutOfMemory, Term};
 use trs_unify::{Unifier, no_names};
@@ -34,22 +35,61 @@ enum SeenUnifier {
     Shared(Snapshot<Unifier>),
 }
 
-/// The top of a critical peak that is not built: it takes no memory, and only proofs know the term.
+/// The instance of an outer left side by a unifier, as proofs see it. It takes no memory.
 #[derive(Drop)]
-pub struct UnbuiltTop {
+struct SeenTop {
     unifier: Snapshot<SeenUnifier>,
     outer_left: Snapshot<Term>,
 }
 
-impl Top for UnbuiltTop {
+impl SeenTop {
+    ghost use Rattle.std.specs.Prelude.{◌≡◌, IfOk};
+    ghost use Rattle.trs_defs.specs.Substitution.{apply};
+    ghost use Rattle.trs_core.specs.View.{tree};
+    ghost use Rattle.crit_pairs.specs.InOrder.{in_order};
+    ghost use Rattle.crit_pairs.specs.Overlapping.{substitution};
+    ghost use Rattle.crit_pairs.specs.UnbuiltTop.{seen_tree};
+
+    fn of(
+        alloc: Global,
+        unifier: &OverlapUnifier,
+        outer_left: &Term,
+    ) -> Result<SeenTop, OutOfMemory>
+        ensures { IfOk result (λ top. seen_tree top
+            ≡ in_order (apply (substitution unifier.now) (tree outer_left.now))) }
+    {
+        let seen = seen_unifier(alloc, unifier)?;
+        Ok(SeenTop {
+            unifier: Snapshot::of(&seen),
+            outer_left: Snapshot::of(outer_left),
+        })
+    }
+}
+
+/// The top of a critical peak that is not built, and only proofs know the term. Sides of the peak may
+/// be lent.
+#[derive(Drop)]
+pub struct UnbuiltTop<'a> {
+    seen: Seen,
+    sides: PhantomData<&'a Term>,
+}
+
+/// The term of a top, as it was first seen or seen again.
+#[derive(Drop)]
+enum Seen {
+    First(SeenTop),
+    Again(Snapshot<SeenTop>),
+}
+
+impl<'a> Top for UnbuiltTop<'a> {
     ghost use Rattle.crit_pairs.specs.UnbuiltTop.{unbuilt_tree};
 
-    type Side = SharedSide;
+    type Side = SharedSide<'a>;
 
     ghost top_tree = { unbuilt_tree };
 }
 
-impl UnbuiltTop {
+impl<'a> UnbuiltTop<'a> {
     ghost use Rattle.std.specs.Prelude.{◌≡◌, IfOk};
     ghost use Rattle.trs_defs.specs.Substitution.{apply};
     ghost use Rattle.trs_core.specs.View.{tree};
@@ -62,14 +102,14 @@ impl UnbuiltTop {
         alloc: Global,
         unifier: &OverlapUnifier,
         outer_left: &Term,
-    ) -> Result<UnbuiltTop, OutOfMemory>
+    ) -> Result<UnbuiltTop<'a>, OutOfMemory>
         ensures { IfOk result (λ top. unbuilt_tree top
             ≡ in_order (apply (substitution unifier.now) (tree outer_left.now))) }
     {
-        let seen = seen_unifier(alloc, unifier)?;
+        let first = SeenTop::of(alloc, unifier, outer_left)?;
         Ok(UnbuiltTop {
-            unifier: Snapshot::of(&seen),
-            outer_left: Snapshot::of(outer_left),
+            seen: Seen::First(first),
+            sides: PhantomData,
         })
     }
 }
@@ -101,32 +141,46 @@ fn seen_bindings(alloc: Global, bindings: &[Binding]) -> Result<Vec<SeenBinding>
 }
 
 /// The variables of the top get their numbers, and the other two terms are built.
-impl PeakTop for UnbuiltTop {
+impl<'a> PeakTop<'a> for UnbuiltTop<'a> {
     fn sides(
         alloc: Global,
         unifier: &OverlapUnifier,
         top: &Term,
         left: &Term,
         right: &Term,
-    ) -> Result<Sides<UnbuiltTop>, OutOfMemory> {
+    ) -> Result<Sides<UnbuiltTop<'a>>, OutOfMemory> {
         let (first, second) = results(alloc, unifier, top, left, right)?;
         Ok(Sides {
             top: UnbuiltTop::of(alloc, unifier, top)?,
-            left: SharedSide::Own(first),
-            right: SharedSide::Own(second),
+            left: SharedSide::Own(Box::new(alloc, first)?),
+            right: SharedSide::Own(Box::new(alloc, second)?),
         })
     }
 
-    fn copied(_alloc: Global, _top: &UnbuiltTop) -> Result<Option<UnbuiltTop>, OutOfMemory> {
-        Ok(None)
+    fn beside_ground(
+        alloc: Global,
+        unifier: &OverlapUnifier,
+        top: &Term,
+    ) -> Result<UnbuiltTop<'a>, OutOfMemory> {
+        UnbuiltTop::of(alloc, unifier, top)
     }
 
-    fn copied_side(alloc: Global, side: &SharedSide) -> Result<SharedSide, OutOfMemory> {
+    fn copied(_alloc: Global, top: &UnbuiltTop<'a>) -> Result<Option<UnbuiltTop<'a>>, OutOfMemory> {
+        match &top.seen {
+            Seen::First(first) => Ok(Some(UnbuiltTop {
+                seen: Seen::Again(Snapshot::of(first)),
+                sides: PhantomData,
+            })),
+            Seen::Again(_) => Ok(None),
+        }
+    }
+
+    fn copied_side(alloc: Global, side: &SharedSide<'a>) -> Result<SharedSide<'a>, OutOfMemory> {
         copied_shared(alloc, side)
     }
 
-    fn whole(_alloc: Global, side: &WholeSide) -> Result<SharedSide, OutOfMemory> {
-        side.share()
+    fn whole(_alloc: Global, side: &WholeSide<'a>) -> Result<SharedSide<'a>, OutOfMemory> {
+        Ok(SharedSide::Shared(side.term))
     }
 }
 

@@ -1,5 +1,4 @@
 use Rattle.std.proofs.Common.{◌≡◌, IfOk, IfErr, ℕ, ap, subst}
-use Rattle.std.specs.Arc.{arc_value}
 use Rattle.trs_core.specs.View.{tree}
 use Rattle.trs_defs.specs.Substitution.{apply}
 use Rattle.trs_defs.specs.System.{RewriteRule}
@@ -29,8 +28,8 @@ returns-in-Some-clause-limits c =
     let is : tree c.outer.inside.left ≡ outer.left = ap (λ (r : RewriteRule). r.left) c.outer.view_is in
     let C : Tree → Type 0 = λ t. IfOk c.count_top.result (CountsTop (apply unifier t) left.size right.size c.args.nodes) in
     let P : Tree → ℕ → Type 0 = λ u total. KeepsLimits c.args.nodes total (apply unifier outer.left) (apply unifier u) (apply unifier outer.right) in
-    of_the_reduct c.args.place.now outer.left c.args.inner.now.right (tree (arc_value left.term)) P c.count_top.result both.replaced
-    (whole_limits unifier (apply unifier outer.left) (tree (arc_value left.term)) outer.right left right both.whole.0 both.whole.1 c.args.nodes c.count_top.result
+    of_the_reduct c.args.place.now outer.left c.args.inner.now.right (tree left.term.now) P c.count_top.result both.replaced
+    (whole_limits unifier (apply unifier outer.left) (tree left.term.now) outer.right left right both.whole.0 both.whole.1 c.args.nodes c.count_top.result
     (subst C is c.count_top.ensures.counted))
 
 pub returns-in-Some-clause-fault : goal.returns-in-Some-clause-fault
@@ -43,6 +42,6 @@ returns-in-Some-clause-fault c =
     let is : tree c.outer.inside.left ≡ outer.left = ap (λ (r : RewriteRule). r.left) c.outer.view_is in
     let F : Tree → Type 0 = λ t. IfErr c.count_top.result (λ fault. TopPasses fault c.args.nodes (apply unifier t) left.size right.size) in
     let P : Tree → PeakFault → Type 0 = λ u fault. PassesLimit fault c.args.nodes (apply unifier outer.left) (apply unifier u) (apply unifier outer.right) in
-    fault_of_the_reduct c.args.place.now outer.left c.args.inner.now.right (tree (arc_value left.term)) P c.count_top.result both.replaced
-    (whole_fault unifier (apply unifier outer.left) (tree (arc_value left.term)) outer.right left right both.whole.0 both.whole.1 c.args.nodes c.count_top.result
+    fault_of_the_reduct c.args.place.now outer.left c.args.inner.now.right (tree left.term.now) P c.count_top.result both.replaced
+    (whole_fault unifier (apply unifier outer.left) (tree left.term.now) outer.right left right both.whole.0 both.whole.1 c.args.nodes c.count_top.result
     (subst F is c.count_top.ensures.fault))
