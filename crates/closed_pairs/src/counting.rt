@@ -8,11 +8,11 @@ use trs_core::Trs;
 
 /// The critical peaks, for a step with so many items: there must be as many. Otherwise they are only
 /// counted, and no more of them are made than there are items.
-pub(crate) fn peaks_for(
+pub(crate) fn peaks_for<'a>(
     alloc: Global,
-    trs: &Trs,
+    trs: &'a Trs,
     items: usize,
-) -> Result<Vec<Peak<UnbuiltTop>>, CheckFault>
+) -> Result<Vec<Peak<UnbuiltTop<'a>>>, CheckFault>
     ensures { AnswersBy (λ peaks. peaks.items) (peaks_for_items trs.now.rules items) result }
 {
     let found = first_peaks(alloc, trs, items)?;

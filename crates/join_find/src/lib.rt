@@ -18,6 +18,7 @@ mod side_ids;
 mod sides;
 mod strong;
 
+pub use closed_pairs::top_of;
 pub use kept_lists::KeptLists;
 pub use laws::{found_fours_join, found_joins_join, found_steps_close};
 pub use newman::find_newman;

@@ -1,5 +1,5 @@
 //! Right sides with no variable, which are sides of peaks as they are: each gets its id but once.
-ghost use Rattle.std.specs.Prelude.{◌≡◌, ◌<◌, ◌-◌, List, Some, IsTrue, IfOk, IfSome};
+ghost use Rattle.std.specs.Prelude.{◌≡◌, ◌<◌, ◌≤◌, ◌-◌, List, Some, IsTrue, IfOk, IfSome};
 ghost use Rattle.std.specs.Prelude.{length, slice_get, take};
 ghost use Rattle.trs_defs.specs.System.{RewriteRule};
 ghost use Rattle.trs_defs.specs.Tree.{Tree};
@@ -33,7 +33,8 @@ pub(crate) fn ids_of_rights<T: Top>(
     Ok(ids)
 }
 
-/// For each rule whether it gives a side of a peak at the root. Only time depends on it.
+/// For each rule whether it gives a side of a peak at the root. No more peaks are looked at than it
+/// takes to mark all rules. Only time depends on it.
 fn rules_at_root<T: Top>(
     alloc: Global,
     rules: &[Rule],
@@ -41,19 +42,32 @@ fn rules_at_root<T: Top>(
 ) -> Result<Vec<bool>, OutOfMemory> {
     let mut marks = Vec::new(alloc);
     marks.resize(rules.len(), false)?;
+    let mut left = rules.len() as u64;
     for peak in peaks {
+        if left == 0 {
+            return Ok(marks);
+        }
         if peak.place.places().is_empty() {
-            mark(&mut marks, peak.inner);
-            mark(&mut marks, peak.outer);
+            let inner = mark(&mut marks, peak.inner);
+            let outer = mark(&mut marks, peak.outer);
+            left = left.saturating_sub(inner + outer);
         }
     }
     Ok(marks)
 }
 
-fn mark(marks: &mut [bool], rule: u32) {
-    if let Some(marked) = marks.get_mut(rule as usize) {
-        *marked = true;
+/// Marks a rule. The answer is how many were not marked before, 0 or 1.
+fn mark(marks: &mut [bool], rule: u32) -> u64
+    ensures { result ≤ 1 }
+{
+    let Some(marked) = marks.get_mut(rule as usize) else {
+        return 0;
+    };
+    if *marked {
+        return 0;
     }
+    *marked = true;
+    1
 }
 
 /// The id of the right side of the next rule, if it is wanted. One that the rule before it has too
