@@ -4,7 +4,7 @@ ghost use Rattle.term_pool.specs.ListedIds.{listed_at};
 ghost use Rattle.term_pool.specs.Pooled.{tree_at};
 ghost use Rattle.assign_search.specs.Continues.{Continues};
 ghost use Rattle.join_find.specs.RightSides.{HasRightSides};
-ghost use Rattle.join_find.specs.crit_pairs.PeakList.{ListsPeaks};
+ghost use Rattle.join_find.specs.crit_pairs.PeakList.{ListsPeaks, IsListed};
 ghost use Rattle.join_find.specs.Sides.{HasSides};
 ghost use Rattle.join_find.specs.Answers.{IsFinding};
 ghost use Rattle.conf_find.specs.Fork.{fork_of};
@@ -20,8 +20,8 @@ use crate::parting::first_parted;
 use crate::reached_sides::{ReachedSides, make_room};
 use crate::reaching::entry;
 use assign_search::{Search, Stop};
-use join_find::{Hand, critical_peaks_have_sides, right_sides_are_sides};
-use rewrite_core::{BuiltTop, ForkTest, PathStep, Peak, PeakSide, Top};
+use join_find::{Hand, critical_peaks_have_sides, right_sides_are_sides, top_of};
+use rewrite_core::{ForkTest, PathStep, Peak, PeakSide, Top};
 use std::alloc::Global;
 use term_pool::{Pool, RulesByRoot, ids_are_distinct};
 use trs_core::{OutOfMemory, Trs};
@@ -33,7 +33,7 @@ use trs_core::{OutOfMemory, Trs};
 /// `stop` is asked before the first peak and before each one. What a side reaches is found once for
 /// all its peaks, as long as not too much is kept, and a peak with the sides of the one before it is
 /// passed over.
-pub(crate) fn first_fork<M: Marks, P: Stop, T: BuiltTop>(
+pub(crate) fn first_fork<M: Marks, P: Stop, T: Top>(
     alloc: Global,
     trs: &Trs,
     peaks: &[Peak<T>],
@@ -79,13 +79,14 @@ fn have_same_sides<T: Top>(a: &Peak<T>, b: &Peak<T>) -> bool
 }
 
 /// The fork of one peak, if there is one.
-fn fork_at<M: Marks, T: BuiltTop>(
+fn fork_at<M: Marks, T: Top>(
     alloc: Global,
     sides: &mut ReachedSides,
     marks: &mut M,
     by_root: &RulesByRoot,
     peak: &Peak<T>,
 ) -> Result<Option<ForkFound>, OutOfMemory>
+    requires listed { IsListed by_root.now.rules peak.now }
     requires peak { HasSides peak.now }
     requires rights { HasRightSides by_root.now.rules peak.now }
     requires sides { AreReached by_root.now.rules sides.old }
@@ -106,7 +107,7 @@ fn fork_at<M: Marks, T: BuiltTop>(
 }
 
 /// The fork to the first two terms of these lists that never meet.
-fn fork_between<M: Marks, T: BuiltTop>(
+fn fork_between<M: Marks, T: Top>(
     alloc: Global,
     pool: &Pool,
     by_root: &RulesByRoot,
@@ -115,6 +116,7 @@ fn fork_between<M: Marks, T: BuiltTop>(
     lefts: &[(u32, Vec<PathStep>)],
     rights: &[(u32, Vec<PathStep>)],
 ) -> Result<Option<ForkFound>, OutOfMemory>
+    requires listed { IsListed by_root.now.rules peak.now }
     requires lefts { All (λ e. e.0 < length pool.now) lefts.now }
     requires rights { All (λ e. e.0 < length pool.now) rights.now }
     requires marked_lefts { AreMarkedIds M.has_mark marks.now lefts.now }
@@ -132,7 +134,8 @@ fn fork_between<M: Marks, T: BuiltTop>(
             let left = entry(lefts, i);
             let right = entry(rights, j);
             let test = test_of(alloc, pool, by_root, left.0, right.0)?;
-            let found = fork_from(alloc, peak, &left.1, &right.1, test)?;
+            let start = top_of(alloc, by_root.trs(), peak)?;
+            let found = fork_from(alloc, start, peak, &left.1, &right.1, test)?;
             Ok(Some(found))
         }
     }

@@ -1,8 +1,9 @@
 //! What is found: a fork.
 ghost use Rattle.std.specs.Prelude.{◌≡◌, ◌∷◌, IfOk};
+ghost use Rattle.trs_core.specs.View.{tree};
 ghost use Rattle.conf_find.specs.Fork.{fork_of, fork_from};
 
-use rewrite_core::{BuiltTop, ForkTest, PathStep, Peak};
+use rewrite_core::{ForkTest, PathStep, Peak, Top};
 use std::alloc::Global;
 use trs_core::{OutOfMemory, Position, Term};
 
@@ -15,20 +16,23 @@ pub struct ForkFound {
     pub test: ForkTest,
 }
 
-/// The fork from the top of a peak, by its two steps and then these paths from its two sides.
-pub(crate) fn fork_from<T: BuiltTop>(
+/// The fork from the top of a peak, which is the start, by its two steps and then these paths from its
+/// two sides.
+pub(crate) fn fork_from<T: Top>(
     alloc: Global,
+    start: Term,
     peak: &Peak<T>,
     left: &[PathStep],
     right: &[PathStep],
     test: ForkTest,
 ) -> Result<ForkFound, OutOfMemory>
+    requires { tree start ≡ peak.now.top }
     ensures { IfOk result (λ found. fork_of found ≡ fork_from peak.now left.now right.now test) }
 {
     let inner = peak.place.copy(alloc)?;
     let outer = Position::new(alloc);
     Ok(ForkFound {
-        start: peak.top.top_term().copy(alloc)?,
+        start,
         left: behind(alloc, inner, peak.inner, left)?,
         right: behind(alloc, outer, peak.outer, right)?,
         test,

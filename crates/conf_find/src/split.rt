@@ -10,7 +10,7 @@ use crate::endings::Endings;
 use crate::first_fork::first_fork;
 use crate::forks::ForkFound;
 use assign_search::{Search, Stop};
-use rewrite_core::{BuiltTop, Peak};
+use rewrite_core::{Peak, Top};
 use std::alloc::Global;
 use trs_core::{OutOfMemory, Trs};
 
@@ -20,7 +20,7 @@ use trs_core::{OutOfMemory, Trs};
 ///
 /// `stop` is asked before the first peak and before each one. What a side reaches is found once for
 /// all its peaks, as long as not too much is kept.
-pub fn find_split<P: Stop, T: BuiltTop>(
+pub fn find_split<P: Stop, T: Top>(
     alloc: Global,
     trs: &Trs,
     peaks: &[Peak<T>],

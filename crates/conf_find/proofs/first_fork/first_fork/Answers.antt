@@ -1,5 +1,6 @@
 use Rattle.conf_find.specs.ForkRows.{PartsNot}
 use Rattle.assign_search.proofs.Continuing.{continues_on}
+use Rattle.join_find.specs.crit_pairs.PeakList.{IsListed}
 use Rattle.join_find.proofs.Firsts.{read_in}
 use Rattle.conf_find.proofs.ForkPeaks.{parts_not_either}
 use Rattle.conf_find.proofs.KeptReach.{none_reached, none_marked}
@@ -16,6 +17,16 @@ loop-peak-init g c =
       marks = none_marked g.M.Marks.has_mark g.M.Marks.of_pool rules c.new-sides.result c.new-marks.result c.new-sides.ensures.lists (c.new-marks.ensures rules c.new-sides.result.pool);
       continues = record { later = c.stopped.ensures.later; kept = c.stopped.ensures.kept };
     }
+
+pub fork_at-requires-clause-listed : goal.fork_at-requires-clause-listed
+fork_at-requires-clause-listed g c =
+    let rules = c.args.trs.now.rules in
+    let listed : IsListed rules c.peak-item.result = record {
+      peaks = c.args.peaks.now;
+      lists = c.requires.critical;
+      is_one = read_in c.args.peaks.now c.loop-peak.peak-index c.peak-item.result c.loop-peak-test.true c.peak-item.is;
+    } in
+    rw c.in_ok-by_root.ensures listed
 
 pub fork_at-requires-clause-peak : goal.fork_at-requires-clause-peak
 fork_at-requires-clause-peak g c =
