@@ -4,7 +4,8 @@ use crate::peak_search::SearchOnPeaks;
 use crate::{Findings, Strategy};
 use assign_search::{Search, Stop};
 use conf_find::{ForkFound, find_fork, found_forks_apply};
-use rewrite_core::{Peak, TermTop};
+use loop_find::UnbuiltTop;
+use rewrite_core::Peak;
 use std::alloc::Global;
 use trs_core::{OutOfMemory, Trs, systems_are_valid};
 
@@ -31,7 +32,7 @@ impl SearchOnPeaks for Forks {
     fn find<P: Stop>(
         alloc: Global,
         trs: &Trs,
-        peaks: &[Peak<TermTop>],
+        peaks: &[Peak<UnbuiltTop>],
         _budget: u64,
         stop: &mut P,
     ) -> Result<Search<ForkFound>, OutOfMemory> {

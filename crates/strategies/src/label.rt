@@ -5,7 +5,8 @@ use crate::{Findings, Strategy};
 use assign_search::{Search, Stop};
 use cert_step::Step;
 use conf_find::{Labelled, find_label, found_labels_apply};
-use rewrite_core::{Peak, TermTop};
+use loop_find::UnbuiltTop;
+use rewrite_core::Peak;
 use std::alloc::Global;
 use trs_core::{OutOfMemory, Trs};
 
@@ -32,7 +33,7 @@ impl SearchOnPeaks for Ranks {
     fn find<P: Stop>(
         alloc: Global,
         trs: &Trs,
-        peaks: &[Peak<TermTop>],
+        peaks: &[Peak<UnbuiltTop>],
         budget: u64,
         stop: &mut P,
     ) -> Result<Search<Labelled>, OutOfMemory> {

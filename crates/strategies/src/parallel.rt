@@ -5,7 +5,8 @@ use crate::{Findings, Strategy};
 use assign_search::{Search, Stop};
 use cert_step::Step;
 use conf_find::{find_parallel, found_steps_close};
-use rewrite_core::{PathStep, Peak, TermTop};
+use loop_find::UnbuiltTop;
+use rewrite_core::{PathStep, Peak};
 use std::alloc::Global;
 use trs_core::{OutOfMemory, Trs, systems_are_valid};
 
@@ -33,7 +34,7 @@ impl SearchOnPeaks for ParallelSteps {
     fn find<P: Stop>(
         alloc: Global,
         trs: &Trs,
-        peaks: &[Peak<TermTop>],
+        peaks: &[Peak<UnbuiltTop>],
         _budget: u64,
         stop: &mut P,
     ) -> Result<Search<Vec<Vec<PathStep>>>, OutOfMemory> {

@@ -10,7 +10,8 @@ use crate::Findings;
 use crate::peaks::KnownPeaks;
 use crate::searched::Searched;
 use assign_search::{Search, Stop};
-use rewrite_core::{Peak, TermTop};
+use loop_find::UnbuiltTop;
+use rewrite_core::Peak;
 use std::alloc::Global;
 use trs_core::{OutOfMemory, Trs};
 
@@ -39,7 +40,7 @@ pub(crate) trait SearchOnPeaks {
     fn find<P: Stop>(
         alloc: Global,
         trs: &Trs,
-        peaks: &[Peak<TermTop>],
+        peaks: &[Peak<UnbuiltTop>],
         budget: u64,
         stop: &mut P,
     ) -> Result<Search<Self::Evidence>, OutOfMemory>

@@ -5,7 +5,8 @@ use crate::{Findings, Strategy};
 use assign_search::{Search, Stop};
 use cert_step::{Four, Step};
 use conf_find::{find_strong, found_fours_join};
-use rewrite_core::{Peak, TermTop};
+use loop_find::UnbuiltTop;
+use rewrite_core::Peak;
 use std::alloc::Global;
 use trs_core::{OutOfMemory, Trs, systems_are_valid};
 
@@ -32,7 +33,7 @@ impl SearchOnPeaks for StrongJoins {
     fn find<P: Stop>(
         alloc: Global,
         trs: &Trs,
-        peaks: &[Peak<TermTop>],
+        peaks: &[Peak<UnbuiltTop>],
         _budget: u64,
         stop: &mut P,
     ) -> Result<Search<Vec<Four>>, OutOfMemory> {

@@ -15,7 +15,7 @@ pub struct Tables<'a> {
     trs: &'a Trs,
     pairs: Pairs<'a>,
     graph: PairGraph<'a>,
-    peaks: Option<KnownPeaks>,
+    peaks: Option<KnownPeaks<'a>>,
 }
 
 impl<'a> Model for Tables<'a> {
@@ -75,7 +75,7 @@ impl<'a> Tables<'a> {
     }
 
     /// The critical peaks, where they were asked for.
-    pub(crate) fn peaks(&self) -> Option<&KnownPeaks>
+    pub(crate) fn peaks(&self) -> Option<&KnownPeaks<'a>>
         ensures { IfSome result (λ peaks. AreKnownPeaks self.now peaks.now) }
     {
         self.peaks.as_ref()
