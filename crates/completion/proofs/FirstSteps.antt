@@ -1,5 +1,5 @@
 -- Steps at first redexes in a row.
-use Rattle.std.proofs.Common.{◌≡◌, ◌<◌, ℕ, ◌+◌, ◌-◌, suc, sym, subst, arith, ◌∙◌, List, Result, Ok, Err, IfOk, IsTrue, length}
+use Rattle.std.proofs.Common.{◌≡◌, ◌<◌, ℕ, ◌+◌, ◌-◌, suc, sym, subst, arith, ◌∙◌, List, [], Result, Ok, Err, IfOk, IsTrue, length}
 use Rattle.std.proofs.lemmas.Option.{same_Some}
 use Rattle.trs_defs.specs.Tree.{Tree}
 use Rattle.trs_defs.specs.Size.{within_limits}
@@ -11,7 +11,8 @@ use Rattle.trs_defs.specs.Path.{PlacedRule, StepsAt}
 use Rattle.trs_defs.specs.Step.{Step}
 use Rattle.trs_defs.specs.Run.{Stay, Go}
 use Rattle.trs_defs.specs.NormalForm.{IsNormalForm}
-use Rattle.trs_defs.proofs.Places.{step_of_place}
+use Rattle.trs_defs.proofs.Members.{in_of_get, no_in}
+use Rattle.trs_defs.proofs.Places.{place_of_step, step_of_place}
 use Rattle.term_pool.specs.Steps.{IsStepFault}
 use Rattle.completion.specs.declared.unfinished.Unfinished.{Unfinished}
 use Rattle.completion.specs.declared.unfinished.Unfinished.TheVariants as unfinished
@@ -34,6 +35,15 @@ leads_on : {rules : List RewriteRule} {n : ℕ} {t u : Tree} (v : Tree) (s : Pla
     → IsTrue (within_limits v) → Leads rules (suc n) t v
 leads_on v s at_once first steps small = by_first s first steps small at_once
 leads_on v s (by_first r first' steps' small' rest) first steps small = by_first r first' steps' small' (leads_on v s rest first steps small)
+
+-- without rules each term is its normal form
+pub its_own_form : (rules : List RewriteRule) (units : ℕ) (t : Tree) → rules ≡ [] → Normalizes rules units t (Ok (t, units))
+its_own_form rules units t none =
+    let N : List RewriteRule → Type 0 = λ rs. Normalizes rs units t (Ok (t, units)) in
+    subst N (sym none) (to_normal_form 0 units t at_once no_step (omega arith))
+  where
+    no_step : IsNormalForm (Step []) t
+    no_step u step = let at = place_of_step [] t u step in no_in (in_of_get [] at.number at.steps.rule at.steps.numbered)
 
 -- what the loop keeps: steps at first redexes led to the id's term, and so many units are left
 pub record IsOnTheWay (system : System) (units left : ℕ) (t : Tree) (pool : List Tree) (id : ℕ) : Type 0 where

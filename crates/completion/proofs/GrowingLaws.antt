@@ -1,5 +1,5 @@
 -- Systems to which rules are added: their rules, the numbers of these by their roots, and the steps by them.
-use Rattle.std.proofs.Common.{◌≡◌, ◌<◌, ◌≤◌, ℕ, zero, suc, ◌+◌, min, inl, inr, Bool, true, false, cond, append-nil, List, [], ◌∷◌, ◌++◌, length, get_or, map, Option, Some, None, Result, Ok, Err, OnOk, slice_get, slice_set, refl, sym, ap, subst, ◌∙◌, arith}
+use Rattle.std.proofs.Common.{◌≡◌, ◌<◌, ◌≤◌, ℕ, zero, suc, ◌+◌, min, inl, inr, Bool, true, false, cond, append-nil, List, [], ◌∷◌, ◌++◌, length, length-append, get_or, map, Option, Some, None, Result, Ok, Err, OnOk, slice_get, slice_set, refl, sym, ap, subst, ◌∙◌, arith}
 use Rattle.std.specs.Prelude.{IsSome, Vec}
 use Rattle.std.specs.declared.alloc.Global.{Global}
 use Rattle.std.specs.Option.{option_map}
@@ -87,6 +87,19 @@ module _ (arities : List ℕ) (rules : List RewriteRule) (singles : List System)
         numbers = numbers_grown new number last numbered;
         counted = omega (arith, total, counted, few, high, nodes_append rules (r ∷ []));
       })
+
+-- one rule as a system of its own is the system
+pub only_single : (arities : List ℕ) (rules : List RewriteRule) (singles : List System) (one : System) → singles ≡ map (single arities) rules → 1 ≤ length singles → length singles < 2
+    → one ≡ get_or singles 0 one → one ≡ system arities rules
+only_single arities [] singles one are some few first = absurd (let none = ap length are in omega (arith, none, some))
+only_single arities (r ∷ []) singles one are some few first = first ∙ ap (λ ss. get_or ss 0 one) are
+only_single arities (r ∷ q ∷ rules) singles one are some few first = absurd (let two = ap length are in omega (arith, two, few))
+
+-- the same of the last one, which is the only one
+pub last_single : (arities : List ℕ) (rules : List RewriteRule) (singles before : List System) (one : System) → singles ≡ map (single arities) rules → length singles ≡ 1
+    → singles ≡ before ++ one ∷ [] → one ≡ system arities rules
+last_single arities rules singles [] one are count last = only_single arities rules singles one are (omega (arith, count)) (omega (arith, count)) (sym (ap (λ ss. get_or ss 0 one) last))
+last_single arities rules singles (s ∷ before) one are count last = absurd (let more = ap length last in omega (arith, more, count, length-append before (one ∷ [])))
 
 -- ---- numbers
 

@@ -45,7 +45,7 @@ pub(crate) fn close(
         let Finding { found, known } = looked;
         match found {
             Outcome::Passed(_) => {
-                let trs = system.to_trs(alloc)?;
+                let trs = system.into_trs()?;
                 return Ok(Completion::Done(trs));
             }
             Outcome::Added(rule, units) => {
@@ -224,6 +224,9 @@ fn look_at_first(
     ensures kept { OnOk result (KeepsBase met.old met.new) }
     ensures met { OnOk result (IsMet system.now.rules met.new) }
 {
+    if let Some(trs) = system.as_single() {
+        return look_at_listed(alloc, order, system, trs, met, most, units);
+    }
     let trs = system.to_trs(alloc)?;
     look_at_listed(alloc, order, system, &trs, met, most, units)
 }

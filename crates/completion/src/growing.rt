@@ -1,8 +1,9 @@
-ghost use Rattle.std.specs.Prelude.{◌≡◌, ◌<◌, ◌↔◌, ◌+◌, ℕ, [], ◌∷◌, ◌++◌, min, All, IfErr, IfOk, IsTrue, OnOk, length};
+ghost use Rattle.std.specs.Prelude.{◌≡◌, ◌<◌, ◌↔◌, ◌+◌, ℕ, [], ◌∷◌, ◌++◌, min, All, IfErr, IfOk, IfSome, IsTrue, OnOk, length};
 ghost use Rattle.trs_defs.specs.Size.{size_of, within_limits};
 ghost use Rattle.trs_defs.specs.System.{IsSystem};
 ghost use Rattle.trs_defs.specs.Path.{StepsAt};
 ghost use Rattle.trs_core.specs.SystemLimits.{AreBytes, HaveSmallVariables, IsWithinLimits};
+ghost use Rattle.trs_core.specs.Valid.{system};
 ghost use Rattle.trs_core.specs.View.{tree};
 ghost use Rattle.term_pool.specs.Pooled.{Extends, tree_at};
 ghost use Rattle.term_pool.specs.Roots.{with_root};
@@ -113,15 +114,35 @@ impl GrowingTrs {
         self.rules.len() < MOST_RULES && with_nodes(self.nodes, rule) <= MOST_NODES
     }
 
+    /// The system, where it has one rule: that stands as a system of its own already.
+    pub(crate) fn as_single(&self) -> Option<&Trs>
+        ensures { IfSome result (λ trs. trs.now ≡ self.now) }
+    {
+        match self.singles.as_slice() {
+            [single] => Some(single),
+            _ => None,
+        }
+    }
+
     /// The system.
     pub(crate) fn to_trs(&self, alloc: Global) -> Result<Trs, OutOfMemory>
         ensures { IfOk result (λ trs. trs ≡ self.now) }
     {
         let arities = Vec::from_slice(alloc, &self.arities)?;
-        match Trs::new(arities, copied_rules(alloc, &self.rules)?) {
-            Ok(trs) => Ok(trs),
-            Err(_) => Err(OutOfMemory),
+        valid_system(arities, copied_rules(alloc, &self.rules)?)
+    }
+
+    /// The system, of which no rule is copied.
+    pub(crate) fn into_trs(self) -> Result<Trs, OutOfMemory>
+        ensures { IfOk result (λ trs. trs ≡ self) }
+    {
+        let mut singles = self.singles;
+        if singles.len() == 1 {
+            if let Some(single) = singles.pop() {
+                return Ok(single);
+            }
         }
+        valid_system(self.arities, self.rules)
     }
 
     /// The id of the term one step from that of the given id, by the rule of this number at this
@@ -167,7 +188,14 @@ fn single_rule(alloc: Global, arities: &[u8], rule: &Rule) -> Result<Trs, OutOfM
 {
     let mut rules = Vec::with_capacity(alloc, 1)?;
     rules.push(copied_rule(alloc, rule)?)?;
-    match Trs::new(Vec::from_slice(alloc, arities)?, rules) {
+    valid_system(Vec::from_slice(alloc, arities)?, rules)
+}
+
+/// The system of rules that are known to be one, so that only memory may be wanting.
+fn valid_system(arities: Vec<u8>, rules: Vec<Rule>) -> Result<Trs, OutOfMemory>
+    ensures { IfOk result (λ trs. trs ≡ system arities.items rules.items) }
+{
+    match Trs::new(arities, rules) {
         Ok(trs) => Ok(trs),
         Err(_) => Err(OutOfMemory),
     }

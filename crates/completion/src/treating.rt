@@ -28,7 +28,8 @@ pub(crate) enum Outcome {
     Ended(Completion),
 }
 
-/// A pair of terms, brought to normal form and oriented.
+/// A pair of terms, brought to normal form and oriented. Where there are no rules both are normal
+/// forms.
 pub(crate) fn treat(
     alloc: Global,
     order: &Lpo,
@@ -46,6 +47,9 @@ pub(crate) fn treat(
     ensures kept { OnOk result (KeepsBase met.old met.new) }
     ensures met { OnOk result (IsMet system.now.rules met.new) }
 {
+    if system.rules().is_empty() {
+        return compare(alloc, order, system, left, right, units);
+    }
     met.make_room();
     let s = met.intern(alloc, left)?;
     let t = met.intern(alloc, right)?;

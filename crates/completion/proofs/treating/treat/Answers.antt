@@ -1,14 +1,31 @@
-use Rattle.std.proofs.Common.{IfOk, subst}
+use Rattle.std.proofs.Common.{IfOk, subst, sym, ◌∙◌}
 use Rattle.trs_defs.specs.Tree.{Tree}
 use Rattle.trs_core.specs.View.{tree}
 use Rattle.term_pool.specs.Pooled.{tree_at}
 use Rattle.term_pool.proofs.PoolTrees.{stands_at}
+use Rattle.rewrite_core.proofs.PathLemmas.{is_empty}
 use Rattle.completion.specs.CompletionRun.{Treats}
 use Rattle.completion.specs.GreaterBy.{GreaterBy}
 use Rattle.completion.specs.Treating.{pair_of, IsOutcome}
-use Rattle.completion.proofs.MetLaws.{id_over, id_still_over, base_kept}
+use Rattle.completion.proofs.FirstSteps.{its_own_form}
+use Rattle.completion.proofs.SearchLaws.{when_ok}
+use Rattle.completion.proofs.TreatLaws.{treated_if_ok}
+use Rattle.completion.proofs.MetLaws.{base_itself, id_over, id_still_over, base_kept}
 use Rattle.completion.proofs.PairLaws.{keeps_on, keeps_then}
 use Rattle.completion.proofs.treating.treat.Goals as goal
+
+pub returns-then-is_empty-clause-outcome : goal.returns-then-is_empty-clause-outcome
+returns-then-is_empty-clause-outcome c =
+    let rules = c.args.system.now.rules in
+    let left = tree c.args.left.now in
+    let right = tree c.args.right.now in
+    let units = c.args.units in
+    let none = sym c.rules.ensures.rules ∙ is_empty c.rules.result.now c.is_empty.result c.is_empty.ensures c.if-is_empty.true in
+    treated_if_ok (GreaterBy c.args.order.now) c.args.system.now units left right left units (its_own_form rules units left none) right units (its_own_form rules units right none)
+    c.compare.result c.compare.ensures
+
+pub returns-then-is_empty-clause-kept : goal.returns-then-is_empty-clause-kept
+returns-then-is_empty-clause-kept c = when_ok c.compare.result _ (base_itself c.args.met.now)
 
 pub make_room-requires : goal.make_room-requires
 make_room-requires c = c.requires.met.within
