@@ -1,4 +1,4 @@
-ghost use Rattle.std.specs.Prelude.{◌≡◌, ◌++◌, map, OnOk, IfOk};
+ghost use Rattle.std.specs.Prelude.{◌≡◌, ◌++◌, ◌∷◌, map, OnOk, IfOk};
 ghost use Rattle.std.specs.List.{AllByRecursion};
 ghost use Rattle.sexp_core.specs.Items.{view, views, items_of};
 ghost use Rattle.sexp_core.specs.Printed.{text_of, spaced};
@@ -54,9 +54,23 @@ pub fn put_parallel_steps(out: &mut Vec<u8>, steps: &[Vec<PathStep>]) -> Result<
         (AllByRecursion (AllByRecursion IsPlacedInRange) (map (λ v. v.items) steps.now)) }
 {
     for step in steps {
-        put(out, b" (par")?;
-        put_placed_rules(out, step)?;
-        put(out, b")")?;
+        put_parallel_step(out, step)?;
     }
+    Ok(())
+}
+
+/// Appends the text of steps at parallel positions, behind a blank. Most often there are none.
+fn put_parallel_step(out: &mut Vec<u8>, step: &[PathStep]) -> Result<(), OutOfMemory>
+    ensures text { OnOk result (out.new.items
+        ≡ out.old.items ++ 32 ∷ text_of (par_item step.now)) }
+    ensures range { OnOk result (AllByRecursion IsPlacedInRange step.now) }
+{
+    if step.is_empty() {
+        put(out, b" (par)")?;
+        return Ok(());
+    }
+    put(out, b" (par")?;
+    put_placed_rules(out, step)?;
+    out.push(b')')?;
     Ok(())
 }
