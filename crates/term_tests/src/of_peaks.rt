@@ -7,11 +7,11 @@ use crate::lettered::constants;
 use crate::made::term;
 use crate::stops::{BUDGET, Ending, at_once, ending_of, never};
 use conf_find::{find_fork, find_split};
-use crit_pairs::{critical_pairs, shared_peaks};
+use crit_pairs::{UnbuiltTop, critical_pairs, shared_peaks, top_of};
 use finder_cases::StopAt;
 use join_find::{find_newman, find_parallel, find_strong};
 use label_find::find_label;
-use rewrite_core::{BuiltTop, Peak, SharedSide};
+use rewrite_core::{Peak, SharedSide, Top};
 use std::alloc::Global;
 use std::test::Fail;
 use trs_core::{OutOfMemory, Rule, Term, Trs};
@@ -49,6 +49,27 @@ fn large_system(alloc: Global, first: u32, second: u32) -> Result<Trs, Fail> {
     Ok(Trs::new(arities, rules)?)
 }
 
+/// `f(f(x)) -> x` and `f(f(x)) -> f(a)`: they overlap at the root and below it.
+fn overlapping_system(alloc: Global) -> Result<Trs, Fail> {
+    let mut rules = Vec::new(alloc);
+    rules.push(Rule {
+        left: twice(alloc, Term::Var(0))?,
+        right: Term::Var(0),
+    })?;
+    let a = term(alloc, 1, [])?;
+    rules.push(Rule {
+        left: twice(alloc, Term::Var(0))?,
+        right: term(alloc, 0, [a])?,
+    })?;
+    Ok(Trs::new(Vec::from_array(alloc, [1, 0])?, rules)?)
+}
+
+/// The symbol 0 on itself on a term.
+fn twice(alloc: Global, t: Term) -> Result<Term, OutOfMemory> {
+    let inside = term(alloc, 0, [t])?;
+    term(alloc, 0, [inside])
+}
+
 /// A finder of joins, of ranks or of what is not joined.
 #[derive(Debug)]
 enum Finder {
@@ -72,7 +93,7 @@ fn of_shared(alloc: Global, finder: &Finder, trs: &Trs) -> Result<Ending, Fail> 
     of_peaks(alloc, finder, trs, &peaks, &mut never())
 }
 
-fn of_peaks<T: BuiltTop>(
+fn of_peaks<T: Top>(
     alloc: Global,
     finder: &Finder,
     trs: &Trs,
@@ -127,11 +148,36 @@ fn finders_at_different_normal_forms(rt: HostRuntime) -> Result<(), Fail> {
 
 #[test]
 fn peaks_share_large_right_sides(rt: HostRuntime) -> Result<(), Fail> {
-    let peaks = shared_peaks(rt.alloc(), &large_system(rt.alloc(), 1, 2)?)?;
+    let trs = large_system(rt.alloc(), 1, 2)?;
+    let peaks = shared_peaks(rt.alloc(), &trs)?;
     assert!(rt; peaks.len() == 2);
     for peak in &peaks {
         assert!(rt; matches!(&peak.left, SharedSide::Shared(_)));
         assert!(rt; matches!(&peak.right, SharedSide::Shared(_)));
+    }
+    Ok(())
+}
+
+/// The tops of peaks that are not built.
+fn tops_of(alloc: Global, trs: &Trs, peaks: &[Peak<UnbuiltTop>]) -> Result<Vec<Term>, OutOfMemory>
+    requires { ListsPeaks trs.now.rules (Ok peaks.now) }
+{
+    let mut tops = Vec::new(alloc);
+    for peak in peaks {
+        tops.push(top_of(alloc, trs, peak)?)?;
+    }
+    Ok(tops)
+}
+
+#[test]
+fn tops_are_built_of_their_peaks(rt: HostRuntime) -> Result<(), Fail> {
+    let trs = overlapping_system(rt.alloc())?;
+    let listed = critical_pairs(rt.alloc(), &trs)?;
+    let tops = tops_of(rt.alloc(), &trs, &shared_peaks(rt.alloc(), &trs)?)?;
+    assert!(rt; tops.len() == 6);
+    assert!(rt; listed.len() == tops.len());
+    for (peak, top) in listed.iter().zip(&tops) {
+        assert!(rt; peak.top.same(top));
     }
     Ok(())
 }
