@@ -1,5 +1,5 @@
 //! Right sides with no variable, which are sides of peaks as they are: each gets its id but once.
-ghost use Rattle.std.specs.Prelude.{◌≡◌, ◌<◌, ◌≤◌, ◌-◌, List, Some, IsTrue, IfOk, IfSome};
+ghost use Rattle.std.specs.Prelude.{◌≡◌, ◌<◌, ◌-◌, List, Some, IsTrue, IfOk, IfSome};
 ghost use Rattle.std.specs.Prelude.{length, slice_get, take};
 ghost use Rattle.trs_defs.specs.System.{RewriteRule};
 ghost use Rattle.trs_defs.specs.Tree.{Tree};
@@ -33,8 +33,9 @@ pub(crate) fn ids_of_rights<T: Top>(
     Ok(ids)
 }
 
-/// For each rule whether it gives a side of a peak at the root. No more peaks are looked at than it
-/// takes to mark all rules. Only time depends on it.
+/// For each rule whether it gives a side of a peak at the root. It is enough to look at outer rules,
+/// since there is a peak with the rules exchanged too. No more peaks are looked at than it takes to
+/// mark all rules. Only time depends on it.
 fn rules_at_root<T: Top>(
     alloc: Global,
     rules: &[Rule],
@@ -48,18 +49,14 @@ fn rules_at_root<T: Top>(
             return Ok(marks);
         }
         if peak.place.places().is_empty() {
-            let inner = mark(&mut marks, peak.inner);
-            let outer = mark(&mut marks, peak.outer);
-            left = left.saturating_sub(inner + outer);
+            left = left.saturating_sub(mark(&mut marks, peak.outer));
         }
     }
     Ok(marks)
 }
 
 /// Marks a rule. The answer is how many were not marked before, 0 or 1.
-fn mark(marks: &mut [bool], rule: u32) -> u64
-    ensures { result ≤ 1 }
-{
+fn mark(marks: &mut [bool], rule: u32) -> u64 {
     let Some(marked) = marks.get_mut(rule as usize) else {
         return 0;
     };
