@@ -17,3 +17,4 @@ pub mod RootRules
 pub mod ParallelLaw
 pub mod ParallelWalk
 pub mod ParallelPeaks
+pub mod KeptSteps

@@ -18,6 +18,7 @@ use Rattle.closed_pairs.specs.ParallelClosed.{paths_of}
 use Rattle.join_find.specs.First.{Along}
 use Rattle.join_find.specs.ParallelRow.{IsParallelStep, IsParallelClosing, HasNoClosing, no_step}
 use Rattle.join_find.specs.RightIds.{AreSideIds}
+use Rattle.join_find.specs.LastSteps.{CloseSides}
 use Rattle.join_find.proofs.Firsts.{along_one_more}
 use Rattle.join_find.proofs.ParallelSteps.{one_parallel_step}
 
@@ -39,6 +40,18 @@ module _ (rules : List RewriteRule) (peak : PlacedPeak) where
   one_id_closes pool ids steps are same none =
       let L : ℕ → Type 0 = λ id. StandsFor pool id peak.left in
       equal_sides_close steps (same_Some peak.left peak.right (sym (subst L same are.left) ∙ are.right)) none
+
+  -- what closes a peak closes each peak whose sides have the same ids
+  pub closes_sides : (pool : List Tree) (ids : ℕ × ℕ) (steps : List PlacedRule) → AreSideIds pool peak ids → IsParallelClosing rules peak steps → CloseSides rules pool ids steps
+  closes_sides pool ids steps are h other others =
+      let left : peak.left ≡ other.left = same_Some peak.left other.left (sym are.left ∙ others.left) in
+      let right : peak.right ≡ other.right = same_Some peak.right other.right (sym are.right ∙ others.right) in
+      let P : Tree → Tree → Type 0 = λ s t. IsParallelStep rules s t steps in
+      let F : Tree → Tree → Type 0 = λ s t. Follows rules steps s t in
+      record {
+        parallel = subst (P other.left) right (subst (λ s. P s peak.right) left h.parallel);
+        follows = subst (F other.left) right (subst (λ s. F s peak.right) left h.follows);
+      }
 
   pub no_parallel_step : ((ss : List PlacedRule) → IsParallelStep rules peak.left peak.right ss → ⊥) → HasNoClosing rules peak
   no_parallel_step none = record { none = λ ss h. none ss h.parallel }

@@ -12,5 +12,6 @@ pub mod RightIds
 pub mod Laws
 pub mod Near
 pub mod ParallelRow
+pub mod LastSteps
 pub mod KeptLists
 pub mod ReachedSides

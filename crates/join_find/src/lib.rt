@@ -5,6 +5,7 @@
 
 mod common;
 mod kept_lists;
+mod last_steps;
 mod laws;
 mod near;
 mod newman;

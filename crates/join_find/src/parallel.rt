@@ -8,16 +8,18 @@ ghost use Rattle.assign_search.specs.Continues.{Continues};
 ghost use Rattle.join_find.specs.Sides.{HasSides};
 ghost use Rattle.join_find.specs.RightSides.{HasRightSides};
 ghost use Rattle.join_find.specs.RightIds.{AreSideIds, ListsRightIds};
+ghost use Rattle.join_find.specs.LastSteps.{AreLastSteps};
 ghost use Rattle.join_find.specs.ParallelRow.{AreLeftLinear, IsParallelClosing, HasNoClosing};
 ghost use Rattle.join_find.specs.ParallelRow.{FindsParallel, FailsParallel};
 ghost use Rattle.join_find.specs.Answers.{IsFinding};
 
+use crate::last_steps::LastSteps;
 use crate::parallel_step::add_steps;
 use crate::right_ids::{ids_of_rights, ids_of_sides};
 use crate::sides::{critical_peaks_have_sides, right_sides_are_sides};
 use assign_search::{Search, Stop};
 use closed_pairs::Peak;
-use rewrite_core::{PathStep, PeakSide, Top};
+use rewrite_core::{PathStep, PeakSide, Top, copy_path};
 use std::alloc::Global;
 use term_pool::{PathFault, Pool, RulesByRoot, ids_are_distinct};
 use trs_core::{OutOfMemory, Rule, Trs};
@@ -52,12 +54,13 @@ pub fn find_parallel<P: Stop, T: Top>(
     let mut pool = Pool::new(alloc);
     let rules = trs.rules();
     let rights = ids_of_rights(alloc, &mut pool, rules, peaks)?;
+    let mut last = LastSteps::new(alloc);
     let mut steps = Vec::new(alloc);
     for peak in peaks {
         if stop.stopped() {
             return Ok(Search::Stopped);
         }
-        match closing(alloc, &mut pool, &rights, trs, &by_root, peak)? {
+        match closing(alloc, &mut pool, &rights, &mut last, trs, &by_root, peak)? {
             Some(step) => steps.push(step)?,
             None => return Ok(Search::NotThere),
         }
@@ -89,6 +92,7 @@ fn closing<T: Top>(
     alloc: Global,
     pool: &mut Pool,
     rights: &[Option<u32>],
+    last: &mut LastSteps,
     trs: &Trs,
     by_root: &RulesByRoot,
     peak: &Peak<T>,
@@ -97,10 +101,12 @@ fn closing<T: Top>(
     requires sides { HasSides peak.now }
     requires peak { HasRightSides trs.now.rules peak.now }
     requires rights { ListsRightIds trs.now.rules pool.old rights.now }
+    requires last { AreLastSteps trs.now.rules pool.old last.old }
     ensures step { IfOk result (λ found. MatchOption found
         (HasNoClosing trs.now.rules peak.now)
         (λ steps. IsParallelClosing trs.now.rules peak.now steps.items)) }
     ensures released { OnOk result (pool.new ≡ pool.old) }
+    ensures last { OnOk result (AreLastSteps trs.now.rules pool.old last.new) }
 {
     let Some(ids) = ids_of_sides(rights, peak) else {
         return closing_of_terms(alloc, pool, trs, by_root, peak);
@@ -108,10 +114,41 @@ fn closing<T: Top>(
     if ids.0 == ids.1 {
         return Ok(Some(Vec::new(alloc)));
     }
+    closing_of_rights(alloc, pool, last, trs, by_root, peak, ids)
+}
+
+/// The same, where the sides are right sides with these ids. It is searched for only where it is not
+/// kept, and kept then.
+fn closing_of_rights<T: Top>(
+    alloc: Global,
+    pool: &mut Pool,
+    last: &mut LastSteps,
+    trs: &Trs,
+    by_root: &RulesByRoot,
+    peak: &Peak<T>,
+    ids: (u32, u32),
+) -> Result<Option<Vec<PathStep>>, OutOfMemory>
+    requires rules { by_root.now ≡ trs.now }
+    requires sides { HasSides peak.now }
+    requires ids { AreSideIds pool.old peak.now ids }
+    requires last { AreLastSteps trs.now.rules pool.old last.old }
+    ensures step { IfOk result (λ found. MatchOption found
+        (HasNoClosing trs.now.rules peak.now)
+        (λ steps. IsParallelClosing trs.now.rules peak.now steps.items)) }
+    ensures released { OnOk result (pool.new ≡ pool.old) }
+    ensures last { OnOk result (AreLastSteps trs.now.rules pool.old last.new) }
+{
+    if let Some(steps) = last.between(ids) {
+        return Ok(Some(copy_path(alloc, steps)?));
+    }
     let kept = pool.mark();
-    let step = closing_of_ids(alloc, pool, trs, by_root, peak, ids)?;
+    let found = closing_of_ids(alloc, pool, trs, by_root, peak, ids)?;
     pool.release(kept);
-    Ok(step)
+    let Some(steps) = found else {
+        return Ok(None);
+    };
+    last.keep(ids, copy_path(alloc, &steps)?)?;
+    Ok(Some(steps))
 }
 
 /// The same, where the sides have no ids yet. Equal sides get none.

@@ -1,4 +1,3 @@
-use Rattle.term_pool.proofs.Extending.{undone}
 use Rattle.join_find.specs.RightIds.{AreSideIds}
 use Rattle.join_find.proofs.ParallelPeaks.{one_id_closes}
 use Rattle.join_find.proofs.parallel.closing.Goals.{In-Some}
@@ -12,9 +11,5 @@ returns-then-ids-clause-step g c =
     let a = (goal.at.returns-then-ids-clause-step g c).In-Some in
     one_id_closes c.args.trs.now.rules c.args.peak.now c.args.pool.now c.in-Some.ids c.new.result.items (side_ids g a) c.if-ids.true c.new.ensures.items
 
-pub closing_of_ids-requires-clause-ids : goal.closing_of_ids-requires-clause-ids
-closing_of_ids-requires-clause-ids g c = side_ids g (goal.at.closing_of_ids-requires-clause-ids g c).In-Some
-
-pub returns-clause-released : goal.returns-clause-released
-returns-clause-released g c =
-    undone c.args.pool.now c.closing_of_ids.new.pool c.release.new.self c.mark-kept.result c.mark-kept.ensures c.in_ok-step.ensures.kept c.release.ensures
+pub closing_of_rights-requires-clause-ids : goal.closing_of_rights-requires-clause-ids
+closing_of_rights-requires-clause-ids g c = side_ids g (goal.at.closing_of_rights-requires-clause-ids g c).In-Some

@@ -8,13 +8,19 @@ use Rattle.join_find.proofs.ParallelPeaks.{one_more_closing}
 use Rattle.join_find.specs.First.{Along, along_end}
 use Rattle.join_find.specs.ParallelRow.{IsParallelClosing, not_closed}
 use Rattle.join_find.specs.RightIds.{ListsRightIds}
+use Rattle.join_find.specs.LastSteps.{AreLastSteps}
 use Rattle.join_find.proofs.Firsts.{along_all, read_in}
 use Rattle.join_find.proofs.parallel.find_parallel.Goals as goal
 
 pub loop-peak-init : goal.loop-peak-init
 loop-peak-init g c =
     let P : List (Vec PlacedRule) → Type 0 = λ xs. Along (IsParallelClosing c.args.trs.now.rules) [] (paths_of xs) in
-    record { joined = subst P (sym c.new-steps.ensures.items) along_end; rights = rw c.rules-rules.ensures.rules at c.in_ok-rights.ensures; continues = record { later = c.stopped.ensures.later; kept = c.stopped.ensures.kept } }
+    record {
+      joined = subst P (sym c.new-steps.ensures.items) along_end;
+      rights = rw c.rules-rules.ensures.rules at c.in_ok-rights.ensures;
+      last = c.new-last.ensures c.args.trs.now.rules c.ids_of_rights.new.pool;
+      continues = record { later = c.stopped.ensures.later; kept = c.stopped.ensures.kept };
+    }
 
 pub closing-requires-clause-sides : goal.closing-requires-clause-sides
 closing-requires-clause-sides g c =
@@ -43,6 +49,9 @@ loop-peak-preserved g c = record {
   rights = (
       let L : List Tree → Type 0 = λ pool. ListsRightIds c.args.trs.now.rules pool c.in_ok-rights.rights.items in
       subst L (sym c.in_ok-step.ensures.released) c.loop-peak.invariant.rights);
+  last = (
+      let L : List Tree → Type 0 = λ pool. AreLastSteps c.args.trs.now.rules pool c.closing.new.last in
+      subst L (sym c.in_ok-step.ensures.released) c.in_ok-step.ensures.last);
   continues = continues_on c.loop-peak.invariant.continues (record { later = c.stopped-in-loop-peak.ensures.later; kept = c.stopped-in-loop-peak.ensures.kept });
 }
 

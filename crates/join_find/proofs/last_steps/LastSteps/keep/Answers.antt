@@ -1,0 +1,11 @@
+use Rattle.std.proofs.Common.{refl}
+use Rattle.join_find.proofs.KeptSteps.{one_more_place, one_more_step}
+use Rattle.join_find.proofs.last_steps.LastSteps.keep.Goals as goal
+
+pub loop-self-preserved : goal.loop-self-preserved
+loop-self-preserved c = λ rules pool before.
+    one_more_place rules pool c.loop-self.self (record { by_left = c.push.new.self }) c.in_ok-push.ensures.items (c.loop-self.invariant rules pool before)
+
+pub returns : goal.returns
+returns c = λ rules pool before closes.
+    one_more_step rules pool c.loop-self.self _ c.args.sides.0 (record { sides = c.args.sides; steps = c.args.steps }) refl closes (c.loop-self.invariant rules pool before)
