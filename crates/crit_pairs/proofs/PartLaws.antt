@@ -1,18 +1,17 @@
 -- The parts of a term, as they are noted in preorder.
-use Rattle.std.proofs.Common.{All, IsTrue, subst, ◌≡◌, ◌<◌, ◌≤◌, ℕ, ◌+◌, List, [], ◌∷◌, ◌++◌, map, length, drop, get_or, Some, refl, ap, sym, ◌∙◌, append_assoc, append-nil}
-use Rattle.std.proofs.lemmas.Bool.{eq-eqb}
+use Rattle.std.specs.Prelude.{Bool}
+use Rattle.std.specs.List.{filter}
+use Rattle.std.proofs.Common.{All, subst, ◌≡◌, ◌<◌, ◌≤◌, ℕ, ◌+◌, List, [], ◌∷◌, ◌++◌, map, length, drop, get_or, Some, ap, sym, ◌∙◌, append_assoc, append-nil}
 use Rattle.std.proofs.lemmas.List.{drop_all, map-append}
-use Rattle.std.proofs.lemmas.List.Elements.{All-nil, All-push}
+use Rattle.std.proofs.lemmas.List.Elements.{All-nil, filter-append}
 use Rattle.trs_defs.specs.Tree.{Tree, Trees, app}
 use Rattle.trs_defs.specs.Position.{subterm_at}
-use Rattle.trs_defs.specs.System.{RewriteRule, has_root}
+use Rattle.trs_defs.specs.System.{RewriteRule}
 use Rattle.trs_defs.proofs.ArgumentLists.{cell}
 use Rattle.trs_core.specs.declared.terms.Term.{Term}
 use Rattle.trs_core.specs.View.{tree, forest}
 use Rattle.crit_pairs.specs.PeakList.{symbol_places, symbol_places_of_all, spots_at, spots_of}
-use Rattle.crit_pairs.specs.Parts.{IsPartIn, place_of_part}
-use Rattle.crit_pairs.specs.Skeletons.{opened}
-use Rattle.crit_pairs.specs.SkeletonView.{skeleton_view}
+use Rattle.crit_pairs.specs.Parts.{IsPartIn, place_of_part, has_rule_at, rooted_places}
 use Rattle.crit_pairs.specs.declared.parts.Part.{Part}
 use Rattle.crit_pairs.proofs.SpotWalk.{below_below, below_root}
 
@@ -21,27 +20,14 @@ abbrev pub places_below : List ℕ → ℕ → Trees → List (List ℕ)
 places_below p k ts = map (λ q. p ++ q) (symbol_places_of_all k ts)
 
 -- the term itself comes first
-pub itself_first : (p : List ℕ) (f : ℕ) (ts : Trees) (t : Tree) (old new : List Part) (part : Part) → t ≡ app f ts → new ≡ old ++ part ∷ [] → part.place ≡ p
-    → map place_of_part new ++ places_below p 1 ts ≡ map place_of_part old ++ map (λ q. p ++ q) (symbol_places t)
-itself_first p f ts t old new part is put same =
-    let places : List (List ℕ) = map place_of_part old in
-    ap (λ ps. map place_of_part ps ++ places_below p 1 ts) put
-    ∙ (ap (λ ps. ps ++ places_below p 1 ts) (map-append place_of_part old (part ∷ []))
-    ∙ (append_assoc places (part.place ∷ []) (places_below p 1 ts)
-    ∙ (ap (λ z. places ++ z ∷ places_below p 1 ts) (same ∙ sym (append-nil p))
-    ∙ ap (λ u. places ++ map (λ q. p ++ q) (symbol_places u)) (sym is))))
-
--- one part more
-pub one_noted : (whole : Tree) (p : List ℕ) (t : Tree) (f : ℕ) (ts : Trees) (old new : List Part) (part : Part) → subterm_at p whole ≡ Some t → t ≡ app f ts → new ≡ old ++ part ∷ []
-    → part.place ≡ p → part.root ≡ f → tree part.term.now ≡ t → skeleton_view part.skeleton.now ≡ opened t → All (IsPartIn whole) old → All (IsPartIn whole) new
-one_noted whole p t f ts old new part there is put place root term skeleton h =
-    let rooted : IsTrue (has_root part.root (tree part.term.now)) = rw (root, term, is) (eq-eqb f f refl) in
-    let one : IsPartIn whole part = record {
-      there = ap (λ q. subterm_at q whole) place ∙ (there ∙ ap (λ z. Some z) (sym term));
-      root = rooted;
-      skeleton = skeleton ∙ ap opened (sym term);
-    } in
-    subst (All (IsPartIn whole)) (sym put) (All-push (IsPartIn whole) old part h one)
+pub itself_first : (test : List ℕ → Bool) (p : List ℕ) (f : ℕ) (ts : Trees) (t : Tree) (old new : List (List ℕ)) → t ≡ app f ts → new ≡ old ++ filter test (p ∷ [])
+    → new ++ filter test (places_below p 1 ts) ≡ old ++ filter test (map (λ q. p ++ q) (symbol_places t))
+itself_first test p f ts t old new is noted =
+    ap (λ ps. ps ++ filter test (places_below p 1 ts)) noted
+    ∙ (append_assoc old (filter test (p ∷ [])) (filter test (places_below p 1 ts))
+    ∙ (ap (λ z. old ++ z) (sym (filter-append test (p ∷ []) (places_below p 1 ts)))
+    ∙ (ap (λ z. old ++ filter test (z ∷ places_below p 1 ts)) (sym (append-nil p))
+    ∙ ap (λ u. old ++ filter test (map (λ q. p ++ q) (symbol_places u))) (sym is))))
 
 -- the next argument
 pub argument_next : (p q : List ℕ) (ts : List Term) (i : ℕ) (t : Term) → i < length ts → t ≡ get_or ts i t → q ≡ p ++ (i + 1) ∷ []
@@ -53,24 +39,30 @@ argument_next p q ts i t h e is =
     ∙ (map-append (λ u. p ++ u) first rest
     ∙ ap (λ ps. ps ++ map (λ u. p ++ u) rest) (below_below p (i + 1) (symbol_places (tree t)) ∙ ap (λ z. map (λ u. z ++ u) (symbol_places (tree t))) (sym is)))
 
-pub one_argument_on : (p q : List ℕ) (ts : List Term) (i : ℕ) (t : Term) (now new whole : List (List ℕ)) → i < length ts → t ≡ get_or ts i t → q ≡ p ++ (i + 1) ∷ []
-    → new ≡ now ++ map (λ u. q ++ u) (symbol_places (tree t)) → now ++ places_below p (i + 1) (forest (drop i ts)) ≡ whole → new ++ places_below p (i + 1 + 1) (forest (drop (i + 1) ts)) ≡ whole
-one_argument_on p q ts i t now new whole h e is added was =
+pub one_argument_on : (test : List ℕ → Bool) (p q : List ℕ) (ts : List Term) (i : ℕ) (t : Term) (now new whole : List (List ℕ)) → i < length ts → t ≡ get_or ts i t → q ≡ p ++ (i + 1) ∷ []
+    → new ≡ now ++ filter test (map (λ u. q ++ u) (symbol_places (tree t))) → now ++ filter test (places_below p (i + 1) (forest (drop i ts))) ≡ whole
+    → new ++ filter test (places_below p (i + 1 + 1) (forest (drop (i + 1) ts))) ≡ whole
+one_argument_on test p q ts i t now new whole h e is added was =
+    let here : List (List ℕ) = map (λ u. q ++ u) (symbol_places (tree t)) in
     let rest : List (List ℕ) = places_below p (i + 1 + 1) (forest (drop (i + 1) ts)) in
-    ap (λ z. z ++ rest) added
-    ∙ (append_assoc now (map (λ u. q ++ u) (symbol_places (tree t))) rest
-    ∙ (ap (λ z. now ++ z) (sym (argument_next p q ts i t h e is)) ∙ was))
+    ap (λ z. z ++ filter test rest) added
+    ∙ (append_assoc now (filter test here) (filter test rest)
+    ∙ (ap (λ z. now ++ z) (sym (filter-append test here rest)) ∙ (ap (λ z. now ++ filter test z) (sym (argument_next p q ts i t h e is)) ∙ was)))
 
-pub no_argument_left : (p : List ℕ) (ts : List Term) (i : ℕ) (now whole : List (List ℕ)) → length ts ≤ i → now ++ places_below p (i + 1) (forest (drop i ts)) ≡ whole → now ≡ whole
-no_argument_left p ts i now whole h was =
-    sym (append-nil now) ∙ (sym (ap (λ us. now ++ places_below p (i + 1) (forest us)) (drop_all i ts h)) ∙ was)
+pub no_argument_left : (test : List ℕ → Bool) (p : List ℕ) (ts : List Term) (i : ℕ) (now whole : List (List ℕ)) → length ts ≤ i
+    → now ++ filter test (places_below p (i + 1) (forest (drop i ts))) ≡ whole → now ≡ whole
+no_argument_left test p ts i now whole h was =
+    sym (append-nil now) ∙ (sym (ap (λ us. now ++ filter test (places_below p (i + 1) (forest us))) (drop_all i ts h)) ∙ was)
 
 -- all parts, where none was noted before
-pub all_places : (p : List ℕ) (t : Tree) (old new : List Part) → p ≡ [] → old ≡ [] → map place_of_part new ≡ map place_of_part old ++ map (λ q. p ++ q) (symbol_places t)
-    → map place_of_part new ≡ symbol_places t
-all_places p t old new root none noted =
-    noted ∙ (ap (λ ps. map place_of_part ps ++ map (λ q. p ++ q) (symbol_places t)) none
-    ∙ (ap (λ z. map (λ q. z ++ q) (symbol_places t)) root ∙ below_root (symbol_places t)))
+pub all_places : (rules : List RewriteRule) (p : List ℕ) (t : Tree) (old new : List Part) → p ≡ [] → old ≡ []
+    → (subterm_at p t ≡ Some t → map place_of_part new ≡ map place_of_part old ++ filter (has_rule_at rules t) (map (λ q. p ++ q) (symbol_places t)))
+    → map place_of_part new ≡ rooted_places rules t
+all_places rules p t old new root none noted =
+    let test : List ℕ → Bool = has_rule_at rules t in
+    noted (ap (λ q. subterm_at q t) root)
+    ∙ (ap (λ ps. map place_of_part ps ++ filter test (map (λ q. p ++ q) (symbol_places t))) none
+    ∙ (ap (λ z. filter test (map (λ q. z ++ q) (symbol_places t))) root ∙ ap (filter test) (below_root (symbol_places t))))
 
 pub all_parts : (p : List ℕ) (t : Tree) (old new : List Part) → p ≡ [] → old ≡ [] → (subterm_at p t ≡ Some t → All (IsPartIn t) old → All (IsPartIn t) new) → All (IsPartIn t) new
 all_parts p t old new root none noted = noted (ap (λ q. subterm_at q t) root) (subst (All (IsPartIn t)) (sym none) (All-nil (IsPartIn t)))

@@ -79,6 +79,26 @@ not_both false e h = absurd cc
 pub is_full : (has_room : Bool) (n most : ℕ) → IsTrue has_room ↔ (n < most) → has_room ≡ false → most ≤ n
 is_full has_room n most room none = elim (dec_lt n most) [ yes k ↦ absurd (not_both has_room none (room.1 k)) | no k ↦ omega (arith, k) ]
 
+-- ---- a peak that is known to be at a spot
+
+module _ {T S : Type 0} (rules : List RewriteRule) (s : Spot) (peaks : Peaks T S) (p : PlacedPeak) (at : IsPeakAt rules s p) (small : IsTrue (is_small p)) (nodes : ℕ) (counted : nodes ≡ nodes_of_peak p) where
+  pub counts_known : (new : Peaks T S) → CountsOne peaks nodes new → peaks.most ≤ length peaks.list.items → Adds rules peaks (s ∷ []) new
+  counts_known new one full = adds_counted rules s peaks new p at one.same_most one.count (counted_limits peaks new nodes p small counted one) (ap (λ v. v.items) one.same_list) full
+
+  pub lists_known : (copy : PlacedPeak) → copy ≡ p → (list : Vec PlacedPeak) (new : Peaks T S) → list.items ≡ peaks.list.items ++ copy ∷ []
+      → CountsOne {T = T} {S = S} (record { list = list; most = peaks.most; count = peaks.count; nodes = peaks.nodes; places = peaks.places }) nodes new → length peaks.list.items < peaks.most
+      → Adds rules peaks (s ∷ []) new
+  lists_known copy same list new put one room =
+      let mid : Peaks T S = record { list = list; most = peaks.most; count = peaks.count; nodes = peaks.nodes; places = peaks.places } in
+      let items : new.list.items ≡ peaks.list.items ++ p ∷ [] = ap (λ v. v.items) one.same_list ∙ put ∙ ap (λ y. peaks.list.items ++ y ∷ []) same in
+      adds_listed rules s peaks new p at one.same_most one.count (counted_limits mid new nodes p small counted one) items room
+
+  pub too_many_known : (fault : PeakFault) → fault ≡ limit.TooMany → 4194304 < peaks.nodes + nodes → StopsAt rules peaks (s ∷ []) fault
+  too_many_known fault e many = λ ne before kept.
+      let stop : Stops rules before peaks.nodes (s ∷ []) limit.TooMany =
+      record { stops = λ rest. record { tail = Err limit.TooMany; lists = too_many at small (omega (arith, many, counted)); is = refl } } in
+      subst (Stops rules before peaks.nodes (s ∷ [])) (sym e) stop
+
 -- ---- the peak of a rule that equals another one
 
 -- a list that grew has the same peaks
@@ -107,8 +127,7 @@ module _ {T S : Type 0} (rules : List RewriteRule) (i j : ℕ) (p : List ℕ) (p
   at_again = peak_moved rules j h.inner i p h.added.peak (sym h.equal) h.added.at
 
   pub counts_again : (new : Peaks T S) → CountsOne peaks known.nodes new → peaks.most ≤ length peaks.list.items → Adds rules peaks (one_spot j p i) new
-  counts_again new one full =
-      adds_counted rules (spot j p i) peaks new again at_again one.same_most one.count (counted_limits peaks new known.nodes again h.added.small h.added.counted one) (ap (λ v. v.items) one.same_list) full
+  counts_again = counts_known rules (spot j p i) peaks again at_again h.added.small known.nodes h.added.counted
 
   -- what is copied from the list is the peak
   module _ (n : ℕ) (x : PlacedPeak) (q : List ℕ) (t l r : Tree) (number : known.number ≡ Some n) (there : slice_get peaks.list.items n ≡ Some x)
@@ -129,17 +148,10 @@ module _ {T S : Type 0} (rules : List RewriteRule) (i j : ℕ) (p : List ℕ) (p
     pub lists_again : (list : Vec PlacedPeak) (new : Peaks T S) → list.items ≡ peaks.list.items ++ copy ∷ []
         → CountsOne {T = T} {S = S} (record { list = list; most = peaks.most; count = peaks.count; nodes = peaks.nodes; places = peaks.places }) known.nodes new → length peaks.list.items < peaks.most
         → Adds rules peaks (one_spot j p i) new
-    lists_again list new put one room =
-        let mid : Peaks T S = record { list = list; most = peaks.most; count = peaks.count; nodes = peaks.nodes; places = peaks.places } in
-        let items : new.list.items ≡ peaks.list.items ++ again ∷ [] = ap (λ v. v.items) one.same_list ∙ put ∙ ap (λ y. peaks.list.items ++ y ∷ []) copied_again in
-        adds_listed rules (spot j p i) peaks new again at_again one.same_most one.count (counted_limits mid new known.nodes again h.added.small h.added.counted one) items room
+    lists_again = lists_known rules (spot j p i) peaks again at_again h.added.small known.nodes h.added.counted copy copied_again
 
   pub too_many_again : (fault : PeakFault) → fault ≡ limit.TooMany → 4194304 < peaks.nodes + known.nodes → StopsAt rules peaks (one_spot j p i) fault
-  too_many_again fault e many = λ ne before kept.
-      let counted : known.nodes ≡ nodes_of_peak again = h.added.counted in
-      let stop : Stops rules before peaks.nodes (one_spot j p i) limit.TooMany =
-      record { stops = λ rest. record { tail = Err limit.TooMany; lists = too_many at_again h.added.small (omega (arith, many, counted)); is = refl } } in
-      subst (Stops rules before peaks.nodes (one_spot j p i)) (sym e) stop
+  too_many_again = too_many_known rules (spot j p i) peaks again at_again h.added.small known.nodes h.added.counted
 
 -- what is known of a rule is known of one that equals it
 pub known_again : (rules : List RewriteRule) (i j : ℕ) (p : List ℕ) (list : List PlacedPeak) (noted : List RepeatedPeak) (first : Option ℕ) (known : Option AddedPeak)

@@ -14,7 +14,7 @@ use Rattle.rewrite_core.specs.PlacedPeak.{PlacedPeak}
 use Rattle.crit_pairs.specs.PeakList.{Spot, symbol_places, symbol_places_of_all, is_root, unless, spots_at, spots_of, spots_from, spots, OverlapsAt, IsPeakAt}
 
 -- a symbol stands at the position
-abbrev HasSymbolAt : List ℕ → Tree → Type 0
+abbrev pub HasSymbolAt : List ℕ → Tree → Type 0
 HasSymbolAt p t = (f : ℕ) × (us : Trees) × (subterm_at p t ≡ Some (app f us))
 
 -- the same below argument number n of those that are counted from k on
@@ -27,7 +27,7 @@ record HasSymbolBelow (k : ℕ) (ts : Trees) (p : List ℕ) : Type 0 where
   there : option_and_then (subterm_at below) (slice_get (items ts) index) ≡ Some (app symbol arguments)
 
 mutual
-  symbol_there : (t : Tree) (p : List ℕ) → In p (symbol_places t) → HasSymbolAt p t
+  pub symbol_there : (t : Tree) (p : List ℕ) → In p (symbol_places t) → HasSymbolAt p t
   symbol_there (var v) p h = absurd (no_in h)
   symbol_there (app f ts) p h = elim (in_or h) [
     | inl e ↦ (f, ts, rw e refl)

@@ -210,7 +210,7 @@ fn list_found<'a, T: PeakTop<'a>>(
 
 /// The position of these places. Most peaks are at the root, whose position has none.
 #[inline(always)]
-fn position_of(alloc: Global, place: &[u8]) -> Result<Position, OutOfMemory>
+pub(crate) fn position_of(alloc: Global, place: &[u8]) -> Result<Position, OutOfMemory>
     requires { All (λ n. 0 < n) place.now }
     ensures { IfOk result (λ p. p ≡ place.now) }
 {
@@ -222,7 +222,10 @@ fn position_of(alloc: Global, place: &[u8]) -> Result<Position, OutOfMemory>
 
 /// One more peak. Room is made first, since a push that may hand the peak back moves it twice.
 #[inline(always)]
-fn push_peak<'a, T: PeakTop<'a>>(list: &mut Vec<Peak<T>>, peak: Peak<T>) -> Result<(), OutOfMemory>
+pub(crate) fn push_peak<'a, T: PeakTop<'a>>(
+    list: &mut Vec<Peak<T>>,
+    peak: Peak<T>,
+) -> Result<(), OutOfMemory>
     ensures { OnOk result (list.new.items ≡ list.old.items ++ peak ∷ []) }
 {
     if list.len() == list.capacity() {

@@ -7,8 +7,10 @@ ghost use Rattle.crit_pairs.specs.Skeletons.{opened};
 ghost use Rattle.crit_pairs.specs.SkeletonView.{skeleton_view};
 ghost use Rattle.crit_pairs.specs.WholeSides.{IsRightOf};
 ghost use Rattle.crit_pairs.specs.EqualRules.{NameEqual};
+ghost use Rattle.crit_pairs.specs.EqualLefts.{left_side, NameEqualLefts};
 
 use crate::apart_rule::{ApartRule, apart_rules};
+use crate::equal_lefts::equal_lefts;
 use crate::equal_rules::EqualRules;
 use crate::occurrences::Occurrences;
 use crate::skeleton::Skeleton;
@@ -19,7 +21,7 @@ use term_pool::RulesByRoot;
 use trs_core::{MOST_VARIABLES, OutOfMemory, Rule, Term, Trs};
 use trs_unify::rename_apart;
 
-/// From so many rules of one root on, equal rules are looked for.
+/// From so many rules of one root on, equal rules and equal left sides are looked for.
 const MANY_OF_ONE_ROOT: usize = 16;
 
 /// A system with its rules by the roots of their left sides, with each rule renamed apart from all
@@ -34,6 +36,8 @@ pub(crate) struct RulesApart<'a> {
     occurrences: Occurrences,
     /// Of no rules, where few have one root.
     equal: EqualRules,
+    /// For each rule one with its left side. Of no rules, where few have one root.
+    lefts: Vec<usize>,
 }
 
 impl<'a> Model for RulesApart<'a> {
@@ -41,6 +45,7 @@ impl<'a> Model for RulesApart<'a> {
     ghost use Rattle.crit_pairs.specs.Apart.{AreApart, HaveSkeletons};
     ghost use Rattle.crit_pairs.specs.WholeSides.{AreWholeSides};
     ghost use Rattle.crit_pairs.specs.EqualRules.{NameEqual};
+    ghost use Rattle.crit_pairs.specs.EqualLefts.{NameEqualLefts};
 
     ghost Value = { System };
 
@@ -51,7 +56,8 @@ impl<'a> Model for RulesApart<'a> {
     ghost invariant = { λ a. AreApart a.by_root.rules a.apart.items
         × (HaveSkeletons a.by_root.rules a.skeletons.items
         × (AreWholeSides a.by_root.rules a.whole_sides.items
-        × NameEqual a.by_root.rules a.equal.firsts.items)) };
+        × (NameEqual a.by_root.rules a.equal.firsts.items
+        × NameEqualLefts a.by_root.rules a.lefts.items))) };
 }
 
 impl<'a> RulesApart<'a> {
@@ -63,7 +69,9 @@ impl<'a> RulesApart<'a> {
         let mut occurrences = Occurrences::new(alloc);
         occurrences.count_apart(&apart)?;
         let by_root = RulesByRoot::new(alloc, trs)?;
-        let equal = equal_of_one_root(alloc, &by_root)?;
+        let are_many = MANY_OF_ONE_ROOT <= most_of_one_root(&by_root);
+        let equal = equal_of_many(alloc, trs.rules(), are_many)?;
+        let lefts = lefts_of_many(alloc, trs.rules(), are_many)?;
         Ok(RulesApart {
             by_root,
             apart,
@@ -71,6 +79,7 @@ impl<'a> RulesApart<'a> {
             whole_sides: whole_sides(alloc, trs.rules())?,
             occurrences,
             equal,
+            lefts,
         })
     }
 
@@ -122,6 +131,18 @@ impl<'a> RulesApart<'a> {
         Some(first)
     }
 
+    /// The number of a rule before rule `i` that is seen to have its left side.
+    pub fn left_before(&self, i: usize) -> Option<usize>
+        ensures { IfSome result (λ k. left_side (slice_get self.now.rules k)
+            ≡ left_side (slice_get self.now.rules i)) }
+    {
+        let first = *self.lefts.get(i)?;
+        if first == i {
+            return None;
+        }
+        Some(first)
+    }
+
     /// How many pairs of rules are seen to be equal.
     pub fn equal_pairs(&self, alloc: Global) -> Result<u64, OutOfMemory> {
         self.equal.pairs(alloc)
@@ -154,15 +175,24 @@ impl<'a> RulesApart<'a> {
 }
 
 /// The equal rules, if many have one root. Where few have, to look for equal ones gains no time.
-fn equal_of_one_root(alloc: Global, by_root: &RulesByRoot) -> Result<EqualRules, OutOfMemory>
-    ensures { IfOk result (λ equal. NameEqual by_root.now.rules equal.firsts.items) }
+fn equal_of_many(alloc: Global, rules: &[Rule], are_many: bool) -> Result<EqualRules, OutOfMemory>
+    ensures { IfOk result (λ equal. NameEqual rules.now equal.firsts.items) }
 {
     let mut equal = EqualRules::new(alloc);
-    if most_of_one_root(by_root) < MANY_OF_ONE_ROOT {
-        return Ok(equal);
+    if are_many {
+        equal.add(rules)?;
     }
-    equal.add(by_root.rules())?;
     Ok(equal)
+}
+
+/// The same for equal left sides.
+fn lefts_of_many(alloc: Global, rules: &[Rule], are_many: bool) -> Result<Vec<usize>, OutOfMemory>
+    ensures { IfOk result (λ lefts. NameEqualLefts rules.now lefts.items) }
+{
+    if !are_many {
+        return Ok(Vec::new(alloc));
+    }
+    equal_lefts(alloc, rules)
 }
 
 /// How many rules have the root that most have.

@@ -111,7 +111,7 @@ fn hash_of(rule: &Rule) -> u64 {
 }
 
 /// The number for a term, behind others that have this one.
-fn hash_after(before: u64, t: &Term) -> u64 {
+pub(crate) fn hash_after(before: u64, t: &Term) -> u64 {
     match t {
         Term::Var(v) => mix(before, u64::from(*v) << 1),
         Term::App(f, args) => {

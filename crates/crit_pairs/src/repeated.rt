@@ -9,7 +9,7 @@ use std::alloc::Global;
 use trs_core::OutOfMemory;
 
 /// The most peaks that are noted at a position. They are looked for one by one.
-const MOST_NOTED: usize = 8;
+pub(crate) const MOST_NOTED: usize = 8;
 
 /// A critical peak that was added.
 #[derive(Clone, Copy)]

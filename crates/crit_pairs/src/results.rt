@@ -1,5 +1,5 @@
 //! The results of one critical peak: instances that are built, or whole right sides that are lent.
-ghost use Rattle.std.specs.Prelude.{◌≡◌, ◌≢◌, ◌<◌, All, IfOk, IfErr, IfSome, None, Some, slice_get};
+ghost use Rattle.std.specs.Prelude.{◌≡◌, ◌≢◌, ◌<◌, [], All, IfOk, IfErr, IfSome, None, Some, slice_get};
 ghost use Rattle.trs_defs.specs.Tree.{Tree};
 ghost use Rattle.trs_defs.specs.Position.{subterm_at, replaced_at};
 ghost use Rattle.trs_defs.specs.Substitution.{apply};
@@ -8,7 +8,7 @@ ghost use Rattle.trs_core.specs.View.{tree};
 ghost use Rattle.crit_pairs.specs.Apart.{renamed_apart};
 ghost use Rattle.crit_pairs.specs.Overlapping.{substitution};
 ghost use Rattle.crit_pairs.specs.Sides.{AreRenumbered, KeepsLimits, PassesLimit};
-ghost use Rattle.crit_pairs.specs.WholeSides.{HaveWholeResults, AreResults, AreWhole, reduct_of};
+ghost use Rattle.crit_pairs.specs.WholeSides.{IsRightOf, HaveWholeResults, AreResults, AreWhole, reduct_of};
 
 use crate::PeakFault;
 use crate::apart::RulesApart;
@@ -52,6 +52,21 @@ pub(crate) fn results_at<'r, 'a>(
     }
 }
 
+/// The right side of rule `i`, if this is the root and peaks have it whole.
+pub(crate) fn root_side<'r, 'a>(
+    rules: &'r RulesApart<'a>,
+    i: usize,
+    place: &[u8],
+) -> Option<&'r WholeSide<'a>>
+    ensures root { IfSome result (λ side. place.now ≡ []) }
+    ensures side { IfSome result (λ side. IsRightOf rules.now.rules i side.now) }
+{
+    if !place.is_empty() {
+        return None;
+    }
+    rules.whole_side(i)
+}
+
 /// The right sides of two rules, if this is the root and peaks have both whole.
 fn whole_results<'r, 'a>(
     rules: &'r RulesApart<'a>,
@@ -62,10 +77,7 @@ fn whole_results<'r, 'a>(
     ensures { IfSome result (λ found.
         HaveWholeResults rules.now.rules place.now i j found.0.now found.1.now) }
 {
-    if !place.is_empty() {
-        return None;
-    }
-    let left = rules.whole_side(i)?;
+    let left = root_side(rules, i, place)?;
     let right = rules.whole_side(j)?;
     Some((left, right))
 }

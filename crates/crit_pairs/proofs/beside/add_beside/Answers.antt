@@ -1,0 +1,48 @@
+use Rattle.std.proofs.Common.{◌≡◌, ◌<◌, ℕ, All, List, Some, length, slice_get, refl, sym, ap, ◌∙◌, subst}
+use Rattle.std.proofs.lemmas.Result.{err_from_is_err_and}
+use Rattle.std.proofs.lemmas.Option.{slice_get_read}
+use Rattle.std.proofs.lemmas.List.Elements.{All-nil}
+use Rattle.rewrite_core.specs.PlacedPeak.{PlacedPeak}
+use Rattle.crit_pairs.proofs.RepeatedPeaks.{is_full}
+use Rattle.crit_pairs.proofs.RepeatedTops.{counts_beside, lists_beside, too_many_beside}
+use Rattle.crit_pairs.proofs.beside.add_beside.Goals as goal
+
+pub returns-then-not-has_room-clause-moves : goal.returns-then-not-has_room-clause-moves
+returns-then-not-has_room-clause-moves g c = λ yes rules j right_of h.
+    counts_beside rules c.args.inner j c.args.place.now c.requires.root c.args.side.now right_of c.args.peaks.now c.in-Some.known (rw c.in-Some.is at h) _ c.saturating_add-nodes.ensures
+    _ c.in_ok-count_one.ensures.counted (is_full _ _ _ c.has_room.ensures c.if-not-has_room.true)
+
+pub position_of-requires : goal.position_of-requires
+position_of-requires g c =
+    let P : ℕ → Type 0 = λ n. 0 < n in
+    subst (All P) (sym c.requires.root) (All-nil P)
+
+pub returns-clause-moves : goal.returns-clause-moves
+returns-clause-moves g c = λ yes rules j right_of h.
+    let list = c.deref.result.now in
+    let number = c.in-Some-number.number in
+    let peak = c.in-Some-get.peak.now in
+    let read : slice_get list number ≡ Some peak = slice_get_read list (length list) number peak refl c.in-Some-get.ensures.lookup.3.0 c.in-Some-get.ensures.lookup.1 in
+    let N : List PlacedPeak → Type 0 = λ xs. slice_get xs number ≡ Some peak in
+    let there : slice_get c.args.peaks.now.list.items number ≡ Some peak = subst N c.deref.ensures.value read in
+    lists_beside rules c.args.inner j c.args.place.now c.requires.root c.args.side.now right_of c.args.peaks.now c.in-Some.known (rw c.in-Some.is at h) _ c.saturating_add-nodes.ensures
+    number _ _ _ _ _ c.in-Some-number.is (there ∙ ap (λ y. Some y) (sym c.peak.view_is))
+    c.in_ok-position_of.ensures (rw c.in-Some-2.is at c.in_ok-top.ensures) c.in_ok-whole.ensures c.in_ok-copied_side.ensures _ _ c.in_ok-push_peak.ensures c.in_ok-count_one-2.ensures.counted
+    (c.has_room.ensures.0 c.if-not-has_room.false)
+
+pub returns-clause-longer : goal.returns-clause-longer
+returns-clause-longer g c = (_, ap (λ v. v.items) c.in_ok-count_one-2.ensures.counted.same_list ∙ c.in_ok-push_peak.ensures)
+
+pub returns-in_err-count_one-clause-stops : goal.returns-in_err-count_one-clause-stops
+returns-in_err-count_one-clause-stops g c =
+    let p = err_from_is_err_and c.from_residual.result c.from_residual.ensures.1 in
+    rw (p.1, p.2) (λ rules j right_of h.
+    too_many_beside rules c.args.inner j c.args.place.now c.requires.root c.args.side.now right_of c.args.peaks.now c.in-Some.known (rw c.in-Some.is at h) _ c.saturating_add-nodes.ensures
+    _ c.in_err-count_one.ensures.many.0 c.in_err-count_one.ensures.many.1)
+
+pub returns-in_err-count_one-2-clause-stops : goal.returns-in_err-count_one-2-clause-stops
+returns-in_err-count_one-2-clause-stops g c =
+    let p = err_from_is_err_and c.from_residual-in_err-count_one-2.result c.from_residual-in_err-count_one-2.ensures.1 in
+    rw (p.1, p.2) (λ rules j right_of h.
+    too_many_beside rules c.args.inner j c.args.place.now c.requires.root c.args.side.now right_of c.args.peaks.now c.in-Some.known (rw c.in-Some.is at h) _ c.saturating_add-nodes.ensures
+    _ c.in_err-count_one-2.ensures.many.0 c.in_err-count_one-2.ensures.many.1)
