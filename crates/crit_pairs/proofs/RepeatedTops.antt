@@ -17,7 +17,7 @@ use Rattle.trs_defs.proofs.Limits.{limits_size}
 use Rattle.trs_defs.proofs.ListItems.{item_of_more, kept_item}
 use Rattle.trs_defs.proofs.NamedTerms.{size_named}
 use Rattle.trs_core.specs.View.{tree}
-use Rattle.confluence_theory.specs.CriticalPeak.{IsCriticalPeak, occurs_in_peak}
+use Rattle.confluence_theory.specs.CriticalPeak.{IsCriticalPeak}
 use Rattle.term_pool.specs.LeftSides.{IsGround}
 use Rattle.term_pool.proofs.LeftSideLaws.{ground_stays}
 use Rattle.rewrite_core.specs.PlacedPeak.{PlacedPeak}
