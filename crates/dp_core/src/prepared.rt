@@ -39,11 +39,14 @@ impl<'a> Model for Pairs<'a> {
 }
 
 impl<'a> Pairs<'a> {
-    /// The pairs of a system, for many steps: the left sides are made once.
+    /// The pairs of a system, for many steps: the left sides are made once, if there are pairs.
     pub fn new(alloc: Global, trs: &'a Trs) -> Result<Pairs<'a>, OutOfMemory>
         ensures { IfOk result (λ pairs. pairs ≡ dependency_pairs trs.now.rules) }
     {
         let all = dependency_pairs(alloc, trs)?;
+        if all.is_empty() {
+            return Pairs::of(alloc, trs, &all);
+        }
         let kept = marked_lefts(alloc, trs)?;
         Pairs::keeping(alloc, trs, &all, kept)
     }
