@@ -1,6 +1,6 @@
 ghost use Rattle.std.specs.Prelude.{◌≡◌, ◌<◌, Some, All, IfOk, IfSome, length, slice_get};
 ghost use Rattle.trs_defs.specs.System.{RewriteRule, IsSystem};
-ghost use Rattle.trs_core.specs.SystemLimits.{HasSmallVariables, HaveSmallVariables};
+ghost use Rattle.trs_core.specs.SystemLimits.{HaveSmallVariables};
 ghost use Rattle.term_pool.specs.Roots.{with_root};
 ghost use Rattle.crit_pairs.specs.Apart.{renamed_apart, AreApart, HaveSkeletons};
 ghost use Rattle.crit_pairs.specs.Skeletons.{opened};
@@ -18,8 +18,7 @@ use crate::whole_sides::{WholeSide, whole_sides};
 use std::alloc::Global;
 use std::marker::Model;
 use term_pool::RulesByRoot;
-use trs_core::{MOST_VARIABLES, OutOfMemory, Rule, Term, Trs};
-use trs_unify::rename_apart;
+use trs_core::{OutOfMemory, Rule, Term, Trs};
 
 /// From so many rules of one root on, equal rules and equal left sides are looked for.
 const MANY_OF_ONE_ROOT: usize = 16;
@@ -229,18 +228,6 @@ fn has_rule_at(by_root: &RulesByRoot, t: &Term) -> bool {
     }
 }
 
-/// Each rule, its variables renamed apart from those of all rules.
-pub fn renamed_rules(alloc: Global, rules: &[Rule]) -> Result<Vec<Rule>, OutOfMemory>
-    requires { HaveSmallVariables rules.now }
-    ensures { IfOk result (λ apart. AreApart rules.now apart.items) }
-{
-    let mut apart = Vec::with_capacity(alloc, rules.len())?;
-    for rule in rules {
-        apart.push(renamed_rule(alloc, rule)?)?;
-    }
-    Ok(apart)
-}
-
 /// The skeletons of left sides.
 fn left_skeletons(alloc: Global, rules: &[Rule]) -> Result<Vec<Skeleton>, OutOfMemory>
     ensures { IfOk result (λ skeletons. HaveSkeletons rules.now skeletons.items) }
@@ -250,15 +237,4 @@ fn left_skeletons(alloc: Global, rules: &[Rule]) -> Result<Vec<Skeleton>, OutOfM
         skeletons.push(Skeleton::of(alloc, &rule.left)?)?;
     }
     Ok(skeletons)
-}
-
-pub(crate) fn renamed_rule(alloc: Global, rule: &Rule) -> Result<Rule, OutOfMemory>
-    requires left { HasSmallVariables rule.now.left }
-    requires right { HasSmallVariables rule.now.right }
-    ensures { IfOk result (λ r. r ≡ renamed_apart rule.now) }
-{
-    Ok(Rule {
-        left: rename_apart(alloc, &rule.left, MOST_VARIABLES)?,
-        right: rename_apart(alloc, &rule.right, MOST_VARIABLES)?,
-    })
 }

@@ -1,20 +1,19 @@
 //! Rules whose variables are renamed apart. Only those that have variables are copied.
-ghost use Rattle.std.specs.Prelude.{◌≡◌, IfOk};
+ghost use Rattle.std.specs.Prelude.{◌≡◌, IfOk, IsTrue};
 ghost use Rattle.trs_core.specs.SystemLimits.{HasSmallVariables, HaveSmallVariables};
 ghost use Rattle.crit_pairs.specs.Apart.{renamed_apart, AreApart, HaveSkeletons};
-ghost use Rattle.crit_pairs.specs.Skeletons.{opened};
-ghost use Rattle.crit_pairs.specs.SkeletonView.{skeleton_view};
+ghost use Rattle.term_pool.specs.LeftSides.{IsGround};
 
-use crate::apart::renamed_rule;
 use crate::ground_sides::is_ground;
 use crate::skeleton::Skeleton;
 use std::alloc::Global;
 use std::marker::Model;
-use trs_core::{OutOfMemory, Rule};
+use trs_core::{MOST_VARIABLES, OutOfMemory, Rule};
+use trs_unify::rename_apart;
 
 /// A rule whose variables are renamed apart from those of all rules. Contracts see that rule.
 #[derive(Drop)]
-pub(crate) struct ApartRule<'a> {
+pub struct ApartRule<'a> {
     kept: KeptRule<'a>,
 }
 
@@ -48,12 +47,28 @@ impl<'a> ApartRule<'a> {
     }
 
     /// Whether it is seen that the rule has no variable.
-    pub fn is_ground(&self) -> bool {
+    pub(crate) fn is_ground(&self) -> bool {
         matches!(&self.kept, KeptRule::Ground(_))
     }
 }
 
-/// Each rule, with the skeleton of its left side, its variables renamed apart from those of all rules.
+/// Each rule, its variables renamed apart from those of all rules. Rules with no variable are lent.
+pub fn renamed_rules<'a>(
+    alloc: Global,
+    rules: &'a [Rule],
+) -> Result<Vec<ApartRule<'a>>, OutOfMemory>
+    requires { HaveSmallVariables rules.now }
+    ensures { IfOk result (λ apart. AreApart rules.now apart.items) }
+{
+    let mut apart = Vec::with_capacity(alloc, rules.len())?;
+    for rule in rules {
+        let may_lend = is_ground(&rule.left) && is_ground(&rule.right);
+        apart.push(apart_rule(alloc, rule, may_lend)?)?;
+    }
+    Ok(apart)
+}
+
+/// The same, where the skeletons of the left sides are known.
 pub(crate) fn apart_rules<'a>(
     alloc: Global,
     rules: &'a [Rule],
@@ -65,25 +80,39 @@ pub(crate) fn apart_rules<'a>(
 {
     let mut apart = Vec::with_capacity(alloc, rules.len())?;
     for (k, rule) in rules.iter().enumerate() {
-        apart.push(apart_rule(alloc, rule, &skeletons[k])?)?;
+        let may_lend = skeletons[k].is_ground() && is_ground(&rule.right);
+        apart.push(apart_rule(alloc, rule, may_lend)?)?;
     }
     Ok(apart)
 }
 
+/// A rule renamed apart. It may be lent where it has no variable.
 fn apart_rule<'a>(
     alloc: Global,
     rule: &'a Rule,
-    skeleton: &Skeleton,
+    may_lend: bool,
 ) -> Result<ApartRule<'a>, OutOfMemory>
     requires left { HasSmallVariables rule.now.left }
     requires right { HasSmallVariables rule.now.right }
-    requires skeleton { skeleton_view skeleton.now ≡ opened rule.now.left }
+    requires lent { IsTrue may_lend → IsGround rule.now.left × IsGround rule.now.right }
     ensures { IfOk result (λ r. r ≡ renamed_apart rule.now) }
 {
-    let kept = if skeleton.is_ground() && is_ground(&rule.right) {
+    let kept = if may_lend {
         KeptRule::Ground(rule)
     } else {
         KeptRule::Copied(renamed_rule(alloc, rule)?)
     };
     Ok(ApartRule { kept })
+}
+
+/// A copy of a rule, renamed apart.
+pub(crate) fn renamed_rule(alloc: Global, rule: &Rule) -> Result<Rule, OutOfMemory>
+    requires left { HasSmallVariables rule.now.left }
+    requires right { HasSmallVariables rule.now.right }
+    ensures { IfOk result (λ r. r ≡ renamed_apart rule.now) }
+{
+    Ok(Rule {
+        left: rename_apart(alloc, &rule.left, MOST_VARIABLES)?,
+        right: rename_apart(alloc, &rule.right, MOST_VARIABLES)?,
+    })
 }

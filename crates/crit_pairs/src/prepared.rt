@@ -6,7 +6,7 @@ ghost use Rattle.crit_pairs.specs.Skeletons.{opened};
 ghost use Rattle.crit_pairs.specs.SkeletonView.{skeleton_view};
 ghost use Rattle.crit_pairs.specs.Prepared.{ArePrepared, PreparesFirst};
 
-use crate::apart::renamed_rule;
+use crate::apart_rule::renamed_rule;
 use crate::equal_rules::EqualRules;
 use crate::occurrences::Occurrences;
 use crate::skeleton::Skeleton;

@@ -3,7 +3,7 @@ ghost use Rattle.std.specs.Prelude.{◌≡◌, IfOk};
 ghost use Rattle.trs_core.specs.View.{tree};
 ghost use Rattle.crit_pairs.specs.PeakList.{IsListed};
 
-use crate::apart::renamed_rule;
+use crate::apart_rule::renamed_rule;
 use crate::overlapping::overlap;
 use crate::sides::PeakTop;
 use confluence_theory::overlaps_unify;

@@ -18,9 +18,10 @@ use crate::found::LoopFound;
 use crate::narrowing::narrow;
 use crate::tokens::SideTokens;
 use assign_search::Stop;
+use crit_pairs::ApartRule;
 use rewrite_core::PathStep;
 use std::alloc::Global;
-use trs_core::{OutOfMemory, Position, Rule, Term, Trs, systems_are_valid};
+use trs_core::{OutOfMemory, Position, Term, Trs, systems_are_valid};
 
 /// How a part of the attempts ended: none of the closures that they gave loops, or one does, or the
 /// budget was spent, or the stop came.
@@ -48,7 +49,7 @@ impl Turn {
 pub(crate) struct Trial<'a> {
     pub trs: &'a Trs,
     /// The rules, renamed apart.
-    pub apart: &'a [Rule],
+    pub apart: &'a [ApartRule<'a>],
     pub number: usize,
     pub left: &'a Term,
     pub right: &'a Term,
@@ -61,7 +62,7 @@ pub(crate) struct Trial<'a> {
 pub(crate) fn expand<P: Stop>(
     alloc: Global,
     trs: &Trs,
-    apart: &[Rule],
+    apart: &[ApartRule],
     budget: u64,
     number: usize,
     closures: &mut Closures,
@@ -198,7 +199,7 @@ fn try_rule<P: Stop>(
         trial.right_size,
         part,
         place,
-        &trial.apart[k],
+        trial.apart[k].rule(),
     )? {
         None => Ok(Turn::Next),
         Some(sides) => {
