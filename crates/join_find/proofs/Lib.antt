@@ -18,3 +18,5 @@ pub mod ParallelLaw
 pub mod ParallelWalk
 pub mod ParallelPeaks
 pub mod KeptSteps
+pub mod ParallelFollowed
+pub mod FewNodes

@@ -17,10 +17,12 @@ use Rattle.rewrite_core.specs.PlacedPeak.{PlacedPeak}
 use Rattle.closed_pairs.specs.ParallelClosed.{paths_of}
 use Rattle.join_find.specs.First.{Along}
 use Rattle.join_find.specs.ParallelRow.{IsParallelStep, IsParallelClosing, HasNoClosing, no_step}
+use Rattle.join_find.specs.Sides.{HasSides, HasFewNodes}
 use Rattle.join_find.specs.RightIds.{AreSideIds}
 use Rattle.join_find.specs.LastSteps.{CloseSides}
 use Rattle.join_find.proofs.Firsts.{along_one_more}
 use Rattle.join_find.proofs.ParallelSteps.{one_parallel_step}
+use Rattle.join_find.proofs.ParallelFollowed.{parallel_step_followed}
 
 -- what was added to no steps, at the root
 pub all_steps : (rules : List RewriteRule) (s t : Tree) (old steps : List PlacedRule) (place : List ℕ) → place ≡ [] → old ≡ [] → Grows place (IsParallelStep rules s t) old steps → IsParallelStep rules s t steps
@@ -55,6 +57,10 @@ module _ (rules : List RewriteRule) (peak : PlacedPeak) where
 
   pub no_parallel_step : ((ss : List PlacedRule) → IsParallelStep rules peak.left peak.right ss → ⊥) → HasNoClosing rules peak
   no_parallel_step none = record { none = λ ss h. none ss h.parallel }
+
+  -- between sides that have few nodes the steps that were found are followed
+  pub few_nodes_close : (steps : List PlacedRule) → HasSides peak → HasFewNodes peak → IsParallelStep rules peak.left peak.right steps → IsParallelClosing rules peak steps
+  few_nodes_close steps sides few is = record { parallel = is; follows = parallel_step_followed rules is sides.left.small sides.right.small few }
 
   -- the steps that were found are the only ones; they are not followed
   pub not_followed : (steps : List PlacedRule) → IsParallelStep rules peak.left peak.right steps → (Follows rules steps peak.left peak.right → ⊥) → HasNoClosing rules peak

@@ -9,7 +9,7 @@ use Rattle.term_pool.specs.LeftSides.{IsGround}
 use Rattle.term_pool.specs.Pooled.{Extends, StandsFor, tree_at}
 use Rattle.term_pool.proofs.PoolTrees.{stands, taken_item}
 use Rattle.rewrite_core.specs.PlacedPeak.{PlacedPeak}
-use Rattle.join_find.specs.RightSides.{HasRightSides}
+use Rattle.join_find.specs.RightSides.{HasRightSides, HaveRights}
 use Rattle.join_find.specs.RightIds.{side_on, IsRightId, IsRightIdOf, AreRightIds, AreSideIds, IsRightSide, ListsRightIds}
 use Rattle.join_find.specs.Sides.{IsSide, HasSides}
 use Rattle.join_find.specs.declared.side_ids.SideIds.{SideIds}
@@ -131,4 +131,16 @@ pub listed_sides : (rules : List RewriteRule) (pool : List Tree) (ids : List (Op
 listed_sides rules pool ids peak left right lists h root l r = record {
   left = side_stands rules pool peak.inner left peak.left (left_is_right rules peak h root) (listed_at rules pool ids peak.inner left lists l);
   right = side_stands rules pool peak.outer right peak.right (right_is_right rules peak h) (listed_at rules pool ids peak.outer right lists r);
+}
+
+-- they are right sides as they are
+pub listed_rights : (rules : List RewriteRule) (pool : List Tree) (ids : List (Option ℕ)) (peak : PlacedPeak) (left right : ℕ) → ListsRightIds rules pool ids → HasRightSides rules peak
+    → peak.place ≡ [] → slice_get ids peak.inner ≡ Some (Some left) → slice_get ids peak.outer ≡ Some (Some right) → HaveRights rules peak
+listed_rights rules pool ids peak left right lists h root l r = record {
+  inner = h.inner;
+  inner_numbered = h.inner_numbered;
+  left = h.left root (listed_at rules pool ids peak.inner left lists l h.inner h.inner_numbered).ground;
+  outer = h.outer;
+  outer_numbered = h.outer_numbered;
+  right = h.right (listed_at rules pool ids peak.outer right lists r h.outer h.outer_numbered).ground;
 }

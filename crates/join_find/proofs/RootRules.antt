@@ -1,5 +1,5 @@
 -- Rules that lead from one term to another at the root.
-use Rattle.std.specs.Prelude.{◌≡◌, ◌<◌, ℕ, List, [], length, take, All, Some, IsTrue, slice_get}
+use Rattle.std.specs.Prelude.{◌≡◌, ◌<◌, ℕ, List, [], length, take, All, Some, None, IsTrue, slice_get}
 use Rattle.std.proofs.Common.{nat_eq, ap, sym, subst, ◌∙◌, arith}
 use Rattle.std.proofs.lemmas.Bool.Decides.{nat_tests}
 use Rattle.std.proofs.lemmas.Option.{same_Some}
@@ -8,8 +8,10 @@ use Rattle.trs_defs.specs.Size.{within_limits}
 use Rattle.trs_defs.specs.Substitution.{IsInstance, apply}
 use Rattle.trs_defs.specs.System.{System, IsSystem, RewriteRule, has_root}
 use Rattle.trs_defs.specs.Path.{StepsAt}
+use Rattle.term_pool.specs.LeftSides.{IsGround}
 use Rattle.term_pool.specs.Pooled.{AreDistinct, Extends, StandsFor, tree_at}
 use Rattle.term_pool.specs.Roots.{with_root}
+use Rattle.term_pool.proofs.LeftSideLaws.{ground_stays}
 use Rattle.term_pool.proofs.NumberLaws.{each_number, each_before}
 use Rattle.term_pool.proofs.RootRules.{root_of_instance, no_rule_at_variable}
 use Rattle.term_pool.proofs.PoolTrees.{stands}
@@ -37,6 +39,29 @@ module _ (rules : List RewriteRule) (p : List ℕ) (k id reduct target : ℕ) (o
       let made : StandsFor new reduct (tree_at old target) = only (tree_at old target) placed limits in
       let kept : StandsFor new target (tree_at old target) = extends.kept target (tree_at old target) (stands old target there) in
       ids_equal reduct target (distinct.same reduct target (tree_at old target) made kept)
+
+-- ---- a rule whose sides are matched
+
+module _ (rules : List RewriteRule) (k : ℕ) (s t : Tree) where
+  pub no_rule_leads : slice_get rules k ≡ None → StepsAt rules [] k s t → ⊥
+  no_rule_leads none step = let wrong : None ≡ Some step.rule = sym none ∙ step.numbered in absurd cc
+
+  module _ (rule : RewriteRule) (numbered : slice_get rules k ≡ Some rule) where
+    -- a step is from an instance of the left side to one of the right side
+    pub both_instances : StepsAt rules [] k s t → IsInstance rule.left s × IsInstance rule.right t
+    both_instances step =
+        let same : step.rule ≡ rule = same_Some step.rule rule (sym step.numbered ∙ numbered) in
+        let left : IsInstance step.rule.left s = (step.substitution, sym (same_Some s (apply step.substitution step.rule.left) step.from)) in
+        let right : IsInstance step.rule.right t = (step.substitution, same_Some (apply step.substitution step.rule.right) t step.to) in
+        let L : RewriteRule → Type 0 = λ r. IsInstance r.left s in
+        let R : RewriteRule → Type 0 = λ r. IsInstance r.right t in
+        (subst L same left, subst R same right)
+
+    -- where the right side has no variable, such terms are one step apart
+    pub ground_leads : IsGround rule.right → IsInstance rule.left s × IsInstance rule.right t → StepsAt rules [] k s t
+    ground_leads ground (left, right) =
+        let end : apply left.0 rule.right ≡ t = ground_stays left.0 rule.right ground ∙ (sym (ground_stays right.0 rule.right ground) ∙ right.1) in
+        record { rule = rule; numbered = numbered; substitution = left.0; from = ap (λ u. Some u) (sym left.1); to = ap (λ u. Some u) end }
 
 -- ---- rules with another root
 

@@ -22,3 +22,12 @@ HaveRightSides rules peaks = (peak : PlacedPeak) → In peak peaks → HasRightS
 -- each critical peak has them so
 abbrev pub RightSidesAreSides : Type 0
 RightSidesAreSides = (rules : List RewriteRule) (peaks : List PlacedPeak) → ListsPeaks rules (Ok peaks) → HaveRightSides rules peaks
+
+-- both sides are the right sides of its rules as they are
+pub record HaveRights (rules : List RewriteRule) (peak : PlacedPeak) : Type 0 where
+  pub inner : RewriteRule
+  pub inner_numbered : slice_get rules peak.inner ≡ Some inner
+  pub left : peak.left ≡ inner.right
+  pub outer : RewriteRule
+  pub outer_numbered : slice_get rules peak.outer ≡ Some outer
+  pub right : peak.right ≡ outer.right

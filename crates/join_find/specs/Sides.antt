@@ -1,8 +1,8 @@
 -- Sides of peaks that keep the limits on computed terms.
-use Rattle.std.specs.Prelude.{List, IsTrue}
+use Rattle.std.specs.Prelude.{◌≢◌, ◌≤◌, ◌+◌, List, IsTrue}
 use Rattle.trs_defs.specs.Member.{In}
 use Rattle.trs_defs.specs.Tree.{Tree}
-use Rattle.trs_defs.specs.Size.{within_limits}
+use Rattle.trs_defs.specs.Size.{size_of, within_limits}
 use Rattle.term_pool.specs.Redexes.{IsNarrow}
 use Rattle.rewrite_core.specs.PlacedPeak.{PlacedPeak}
 
@@ -18,3 +18,7 @@ pub record HasSides (peak : PlacedPeak) : Type 0 where
 -- each peak has such sides
 abbrev pub HaveSides : List PlacedPeak → Type 0
 HaveSides peaks = (peak : PlacedPeak) → In peak peaks → HasSides peak
+
+-- sides that differ have no more nodes together than a computed term may have
+abbrev pub HasFewNodes : PlacedPeak → Type 0
+HasFewNodes peak = peak.left ≢ peak.right → size_of peak.left + size_of peak.right ≤ 65536

@@ -1,15 +1,18 @@
 //! The strategy parallel.
-ghost use Rattle.std.specs.Prelude.{◌≡◌, ◌<◌, ◌↔◌, Ok, IsTrue, false, IfOk, OnOk, MatchOption};
+ghost use Rattle.std.specs.Prelude.{◌≡◌, ◌<◌, ◌↔◌, List, Ok, IsTrue, false, IfOk, OnOk, MatchOption};
+ghost use Rattle.trs_core.specs.SystemLimits.{IsWithinLimits};
+ghost use Rattle.trs_defs.specs.Path.{PlacedRule};
 ghost use Rattle.trs_defs.specs.Variable.{IsLinear};
 ghost use Rattle.term_pool.specs.Pooled.{Extends};
 ghost use Rattle.closed_pairs.specs.crit_pairs.PeakList.{ListsPeaks};
 ghost use Rattle.closed_pairs.specs.ParallelClosed.{paths_of};
 ghost use Rattle.assign_search.specs.Continues.{Continues};
-ghost use Rattle.join_find.specs.Sides.{HasSides};
+ghost use Rattle.join_find.specs.Sides.{HasSides, HasFewNodes};
 ghost use Rattle.join_find.specs.RightSides.{HasRightSides};
 ghost use Rattle.join_find.specs.RightIds.{AreSideIds, ListsRightIds};
 ghost use Rattle.join_find.specs.LastSteps.{AreLastSteps};
-ghost use Rattle.join_find.specs.ParallelRow.{AreLeftLinear, IsParallelClosing, HasNoClosing};
+ghost use Rattle.join_find.specs.ParallelRow.{AreLeftLinear, IsParallelStep};
+ghost use Rattle.join_find.specs.ParallelRow.{IsParallelClosing, HasNoClosing};
 ghost use Rattle.join_find.specs.ParallelRow.{FindsParallel, FailsParallel};
 ghost use Rattle.join_find.specs.Answers.{IsFinding};
 
@@ -22,11 +25,13 @@ use closed_pairs::Peak;
 use rewrite_core::{PathStep, PeakSide, Top, copy_path};
 use std::alloc::Global;
 use term_pool::{PathFault, Pool, RulesByRoot, ids_are_distinct};
-use trs_core::{OutOfMemory, Rule, Trs};
+use trs_core::{MOST_NODES, OutOfMemory, Rule, Trs, systems_are_valid};
 
 /// One parallel step from the left side of each peak to its right side: none where they are equal,
 /// else the least rule that leads there at the root, else the steps of the arguments. Only such a
 /// step counts, and only where its places, run in order, pass no limit. It never answers `Spent`.
+/// They are run only where both sides have more nodes together than a computed term may have, since
+/// no term on the way has more than that.
 ///
 /// `stop` is asked before the first peak and before each one. All terms of a peak stand in one
 /// pool, which after the peak has only right sides with no variable.
@@ -47,6 +52,7 @@ pub fn find_parallel<P: Stop, T: Top>(
     }
     critical_peaks_have_sides(trs);
     right_sides_are_sides();
+    systems_are_valid(trs);
     if !are_left_linear(trs) {
         return Ok(Search::NotThere);
     }
@@ -98,6 +104,7 @@ fn closing<T: Top>(
     peak: &Peak<T>,
 ) -> Result<Option<Vec<PathStep>>, OutOfMemory>
     requires rules { by_root.now ≡ trs.now }
+    requires limits { IsWithinLimits trs.now }
     requires sides { HasSides peak.now }
     requires peak { HasRightSides trs.now.rules peak.now }
     requires rights { ListsRightIds trs.now.rules pool.old rights.now }
@@ -117,8 +124,8 @@ fn closing<T: Top>(
     closing_of_rights(alloc, pool, last, trs, by_root, peak, ids)
 }
 
-/// The same, where the sides are right sides with these ids. It is searched for only where it is not
-/// kept, and kept then.
+/// The same, where the sides are right sides with these ids, which have few nodes. It is searched
+/// for only where it is not kept, and kept then.
 fn closing_of_rights<T: Top>(
     alloc: Global,
     pool: &mut Pool,
@@ -130,6 +137,7 @@ fn closing_of_rights<T: Top>(
 ) -> Result<Option<Vec<PathStep>>, OutOfMemory>
     requires rules { by_root.now ≡ trs.now }
     requires sides { HasSides peak.now }
+    requires few { HasFewNodes peak.now }
     requires ids { AreSideIds pool.old peak.now ids }
     requires last { AreLastSteps trs.now.rules pool.old last.old }
     ensures step { IfOk result (λ found. MatchOption found
@@ -141,10 +149,7 @@ fn closing_of_rights<T: Top>(
     if let Some(steps) = last.between(ids) {
         return Ok(Some(copy_path(alloc, steps)?));
     }
-    let kept = pool.mark();
-    let found = closing_of_ids(alloc, pool, trs, by_root, peak, ids)?;
-    pool.release(kept);
-    let Some(steps) = found else {
+    let Some(steps) = steps_between(alloc, pool, trs, by_root, peak, ids)? else {
         return Ok(None);
     };
     last.keep(ids, copy_path(alloc, &steps)?)?;
@@ -196,14 +201,11 @@ fn closing_of_ids<T: Top>(
         (λ steps. IsParallelClosing trs.now.rules peak.now steps.items)) }
     ensures kept { Extends pool.old pool.new }
 {
-    let from = peak.left.term();
-    let to = peak.right.term();
-    let mut place = Vec::new(alloc);
-    let mut steps = Vec::new(alloc);
-    if !add_steps(
-        alloc, pool, trs, by_root, from, to, ids, &mut place, &mut steps,
-    )? {
+    let Some(steps) = steps_between(alloc, pool, trs, by_root, peak, ids)? else {
         return Ok(None);
+    };
+    if has_few_nodes(peak) {
+        return Ok(Some(steps));
     }
     match pool.run_path(alloc, trs, ids.0, &steps) {
         Err(PathFault::OutOfMemory) => Err(OutOfMemory),
@@ -216,5 +218,46 @@ fn closing_of_ids<T: Top>(
                 Ok(None)
             }
         }
+    }
+}
+
+/// Whether both sides of the peak have no more nodes together than a computed term may have.
+fn has_few_nodes<T: Top>(peak: &Peak<T>) -> bool
+    ensures { IsTrue result → HasFewNodes peak.now }
+{
+    let left = peak.left.term().size();
+    let right = peak.right.term().size();
+    left.saturating_add(right) <= MOST_NODES
+}
+
+/// The steps of the parallel step between the sides of the peak, which have these ids. The pool is as
+/// before.
+fn steps_between<T: Top>(
+    alloc: Global,
+    pool: &mut Pool,
+    trs: &Trs,
+    by_root: &RulesByRoot,
+    peak: &Peak<T>,
+    ids: (u32, u32),
+) -> Result<Option<Vec<PathStep>>, OutOfMemory>
+    requires rules { by_root.now ≡ trs.now }
+    requires sides { HasSides peak.now }
+    requires ids { AreSideIds pool.old peak.now ids }
+    ensures steps { IfOk result (λ found. MatchOption found
+        ((ss : List PlacedRule)
+            → IsParallelStep trs.now.rules peak.now.left peak.now.right ss → ⊥)
+        (λ steps. IsParallelStep trs.now.rules peak.now.left peak.now.right steps.items)) }
+    ensures same { pool.new ≡ pool.old }
+{
+    let from = peak.left.term();
+    let to = peak.right.term();
+    let mut place = Vec::new(alloc);
+    let mut steps = Vec::new(alloc);
+    if add_steps(
+        alloc, pool, trs, by_root, from, to, ids, &mut place, &mut steps,
+    )? {
+        Ok(Some(steps))
+    } else {
+        Ok(None)
     }
 }

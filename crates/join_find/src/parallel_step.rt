@@ -1,5 +1,5 @@
 //! The parallel step from one term to another.
-ghost use Rattle.std.specs.Prelude.{◌≡◌, ◌<◌, ℕ, List, Some, All, false, [], ◌∷◌, length, IsTrue, IfOk};
+ghost use Rattle.std.specs.Prelude.{◌≡◌, ◌<◌, ℕ, List, Some, All, false, [], ◌∷◌, ◌+◌, length, IsTrue, IfOk};
 ghost use Rattle.trs_core.specs.View.{tree};
 ghost use Rattle.trs_defs.specs.Tree.{Tree};
 ghost use Rattle.trs_defs.specs.Size.{within_limits};
@@ -67,9 +67,8 @@ pub(crate) fn add_steps(
     }
     for (i, left) in lefts.iter().enumerate() {
         let right = &rights[i];
-        let n = i as u8 + 1;
-        let parts = (argument(pool, ids.0, n), argument(pool, ids.1, n));
-        place.push(n)?;
+        let parts = (argument(pool, ids.0, i), argument(pool, ids.1, i));
+        place.push(i as u8 + 1)?;
         if !add_steps(alloc, pool, trs, by_root, left, right, parts, place, steps)? {
             return Ok(false);
         }
@@ -78,14 +77,14 @@ pub(crate) fn add_steps(
     Ok(true)
 }
 
-/// The id of the argument at a place that the term has.
-fn argument(pool: &Pool, id: u32, place: u8) -> u32
+/// The id of the argument behind so many others, which the term has.
+fn argument(pool: &Pool, id: u32, count: usize) -> u32
     requires there { id < length pool.now }
-    requires place { (t : Tree) × (subterm_at (place ∷ []) (tree_at pool.now id) ≡ Some t) }
-    ensures { (t : Tree) → subterm_at (place ∷ []) (tree_at pool.now id) ≡ Some t
+    requires has { (t : Tree) × (subterm_at ((count + 1) ∷ []) (tree_at pool.now id) ≡ Some t) }
+    ensures { (t : Tree) → subterm_at ((count + 1) ∷ []) (tree_at pool.now id) ≡ Some t
         → StandsFor pool.now result t }
 {
-    match pool.at(id, &[place]) {
+    match pool.argument(id, count) {
         Some(part) => part,
         None => unreachable!(),
     }

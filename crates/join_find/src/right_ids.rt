@@ -6,7 +6,7 @@ ghost use Rattle.trs_defs.specs.Tree.{Tree};
 ghost use Rattle.trs_core.specs.View.{tree};
 ghost use Rattle.term_pool.specs.LeftSides.{IsGround};
 ghost use Rattle.term_pool.specs.Pooled.{Extends};
-ghost use Rattle.join_find.specs.RightSides.{HasRightSides};
+ghost use Rattle.join_find.specs.RightSides.{HasRightSides, HaveRights};
 ghost use Rattle.join_find.specs.RightIds.{IsRightId, IsRightIdOf, AreSideIds, ListsRightIds};
 
 use rewrite_core::{Peak, Top};
@@ -150,8 +150,10 @@ pub(crate) fn is_ground(t: &Term) -> bool
 
 /// The ids of both sides of a peak, where these are such right sides.
 pub(crate) fn ids_of_sides<T: Top>(ids: &[Option<u32>], peak: &Peak<T>) -> Option<(u32, u32)>
-    ensures { (rules : List RewriteRule) (pool : List Tree) → ListsRightIds rules pool ids.now
+    ensures ids { (rules : List RewriteRule) (pool : List Tree) → ListsRightIds rules pool ids.now
         → HasRightSides rules peak.now → IfSome result (AreSideIds pool peak.now) }
+    ensures sides { (rules : List RewriteRule) (pool : List Tree) → ListsRightIds rules pool ids.now
+        → HasRightSides rules peak.now → IfSome result (λ _. HaveRights rules peak.now) }
 {
     if !peak.place.places().is_empty() {
         return None;

@@ -3,12 +3,14 @@ ghost use Rattle.std.specs.Prelude.{◌≡◌, ◌<◌, ◌↔◌, [], length, I
 ghost use Rattle.trs_core.specs.View.{tree};
 ghost use Rattle.trs_defs.specs.Size.{within_limits};
 ghost use Rattle.trs_defs.specs.Path.{StepsAt};
+ghost use Rattle.trs_defs.specs.Substitution.{IsInstance};
 ghost use Rattle.term_pool.specs.Pooled.{StandsFor, tree_at};
 ghost use Rattle.join_find.specs.ParallelRow.{HasNoRootStep, IsRootStep};
 
+use crate::right_ids::is_ground;
 use std::alloc::Global;
 use term_pool::{Pool, RulesByRoot, ids_are_distinct};
-use trs_core::{OutOfMemory, Position, Term, Trs, systems_are_valid};
+use trs_core::{OutOfMemory, Position, Rule, Term, Trs, systems_are_valid};
 
 /// The least rule that leads at the root from the term of one id to that of another. Only rules
 /// with the root of the first term are tried. The pool is as before.
@@ -41,9 +43,54 @@ pub(crate) fn root_rule(
     Ok(None)
 }
 
-/// Whether rule `k` leads at the root from the term of one id to that of another. The pool is as
-/// before.
+/// Whether rule `k` leads at the root from the term of one id to that of another. A term is made only
+/// where both sides of the rule match, and the right one has variables. The pool is as before.
 fn leads(
+    alloc: Global,
+    pool: &mut Pool,
+    trs: &Trs,
+    ids: (u32, u32),
+    k: u32,
+) -> Result<bool, OutOfMemory>
+    requires from { ids.0 < length pool.old }
+    requires to { ids.1 < length pool.old }
+    requires limits { IsTrue (within_limits (tree_at pool.old ids.1)) }
+    ensures same { pool.new ≡ pool.old }
+    ensures leads { IfOk result (λ yes. IsTrue yes
+        ↔ StepsAt trs.now.rules [] k (tree_at pool.old ids.0) (tree_at pool.old ids.1)) }
+{
+    let Some(rule) = trs.rules().get(k as usize) else {
+        return Ok(false);
+    };
+    if !both_match(alloc, pool, rule, ids)? {
+        return Ok(false);
+    }
+    if is_ground(&rule.right) {
+        return Ok(true);
+    }
+    makes(alloc, pool, trs, ids, k)
+}
+
+/// Whether the left side of the rule matches the first term, and the right side the second.
+fn both_match(
+    alloc: Global,
+    pool: &Pool,
+    rule: &Rule,
+    ids: (u32, u32),
+) -> Result<bool, OutOfMemory>
+    requires from { ids.0 < length pool.now }
+    requires to { ids.1 < length pool.now }
+    ensures { IfOk result (λ yes. IsTrue yes ↔ IsInstance rule.now.left (tree_at pool.now ids.0)
+        × IsInstance rule.now.right (tree_at pool.now ids.1)) }
+{
+    if !pool.is_instance(alloc, rule, ids.0)? {
+        return Ok(false);
+    }
+    pool.is_instance_of(alloc, &rule.right, ids.1)
+}
+
+/// The same as `leads`, by the term that the rule makes of the first.
+fn makes(
     alloc: Global,
     pool: &mut Pool,
     trs: &Trs,

@@ -103,15 +103,15 @@ right_there t c e =
     subst P (sym c.loop-i.invariant.same)
     (argument_there (tree_at c.args.pool.now c.args.ids.1) c.in-App-to.g c.as_slice-rights.result.now c.loop-i.i c.index-rights-i.result is (within_other t c) c.index-rights-i.is)
 
-pub argument-requires-clause-place : goal.argument-requires-clause-place
-argument-requires-clause-place t c =
-    let a = (goal.at.argument-requires-clause-place t c).After-as_slice-rights in
-    (tree c.index-lefts-i.result, left_there t (goal.at.argument-requires-clause-place t c).After-index-rights-i a (left_is t a))
+pub argument-requires-clause-has : goal.argument-requires-clause-has
+argument-requires-clause-has t c =
+    let a = (goal.at.argument-requires-clause-has t c).After-as_slice-rights in
+    (tree c.index-lefts-i.result, left_there t (goal.at.argument-requires-clause-has t c).After-index-rights-i a (left_is t a))
 
-pub argument-requires-in-loop-i-clause-place : goal.argument-requires-in-loop-i-clause-place
-argument-requires-in-loop-i-clause-place t c =
-    let a = (goal.at.argument-requires-in-loop-i-clause-place t c).After-as_slice-rights in
-    (tree c.index-rights-i.result, right_there t (goal.at.argument-requires-in-loop-i-clause-place t c).After-index-rights-i (right_is t a))
+pub argument-requires-in-loop-i-clause-has : goal.argument-requires-in-loop-i-clause-has
+argument-requires-in-loop-i-clause-has t c =
+    let a = (goal.at.argument-requires-in-loop-i-clause-has t c).After-as_slice-rights in
+    (tree c.index-rights-i.result, right_there t (goal.at.argument-requires-in-loop-i-clause-has t c).After-index-rights-i (right_is t a))
 
 pub add_steps-requires : goal.add_steps-requires
 add_steps-requires t c =
