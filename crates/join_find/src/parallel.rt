@@ -149,7 +149,8 @@ fn closing_of_rights<T: Top>(
     if let Some(steps) = last.between(ids) {
         return Ok(Some(copy_path(alloc, steps)?));
     }
-    let Some(steps) = steps_between(alloc, pool, trs, by_root, peak, ids)? else {
+    let found = steps_between(alloc, pool, trs, by_root, peak, ids)?;
+    let Some(steps) = found else {
         return Ok(None);
     };
     last.keep(ids, copy_path(alloc, &steps)?)?;
@@ -201,7 +202,8 @@ fn closing_of_ids<T: Top>(
         (λ steps. IsParallelClosing trs.now.rules peak.now steps.items)) }
     ensures kept { Extends pool.old pool.new }
 {
-    let Some(steps) = steps_between(alloc, pool, trs, by_root, peak, ids)? else {
+    let found = steps_between(alloc, pool, trs, by_root, peak, ids)?;
+    let Some(steps) = found else {
         return Ok(None);
     };
     if has_few_nodes(peak) {
@@ -253,11 +255,10 @@ fn steps_between<T: Top>(
     let to = peak.right.term();
     let mut place = Vec::new(alloc);
     let mut steps = Vec::new(alloc);
-    if add_steps(
+    if !add_steps(
         alloc, pool, trs, by_root, from, to, ids, &mut place, &mut steps,
     )? {
-        Ok(Some(steps))
-    } else {
-        Ok(None)
+        return Ok(None);
     }
+    Ok(Some(steps))
 }
