@@ -14,4 +14,4 @@ CloseSides rules pool ids steps = (peak : PlacedPeak) → AreSideIds pool peak i
 
 -- all steps that are kept close the sides that they are kept for
 pub record AreLastSteps (rules : List RewriteRule) (pool : List Tree) (last : LastSteps) : Type 0 where
-  pub each : All (λ entry. IfSome entry (λ kept. CloseSides rules pool kept.sides kept.steps.items)) last.by_left.items
+  pub each : All (λ entry. IfSome entry (λ kept. IfSome kept.steps (λ steps. CloseSides rules pool kept.sides steps.items))) last.by_left.items

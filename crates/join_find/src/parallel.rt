@@ -153,7 +153,7 @@ fn closing_of_rights<T: Top>(
     let Some(steps) = found else {
         return Ok(None);
     };
-    last.keep(ids, copy_path(alloc, &steps)?)?;
+    last.keep(alloc, ids, &steps)?;
     Ok(Some(steps))
 }
 
@@ -247,7 +247,7 @@ fn steps_between<T: Top>(
     requires ids { AreSideIds pool.old peak.now ids }
     ensures steps { IfOk result (λ found. MatchOption found
         ((ss : List PlacedRule)
-            → IsParallelStep trs.now.rules peak.now.left peak.now.right ss → ⊥)
+        → IsParallelStep trs.now.rules peak.now.left peak.now.right ss → ⊥)
         (λ steps. IsParallelStep trs.now.rules peak.now.left peak.now.right steps.items)) }
     ensures same { pool.new ≡ pool.old }
 {

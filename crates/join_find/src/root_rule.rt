@@ -72,12 +72,7 @@ fn leads(
 }
 
 /// Whether the left side of the rule matches the first term, and the right side the second.
-fn both_match(
-    alloc: Global,
-    pool: &Pool,
-    rule: &Rule,
-    ids: (u32, u32),
-) -> Result<bool, OutOfMemory>
+fn both_match(alloc: Global, pool: &Pool, rule: &Rule, ids: (u32, u32)) -> Result<bool, OutOfMemory>
     requires from { ids.0 < length pool.now }
     requires to { ids.1 < length pool.now }
     ensures { IfOk result (λ yes. IsTrue yes ↔ IsInstance rule.now.left (tree_at pool.now ids.0)

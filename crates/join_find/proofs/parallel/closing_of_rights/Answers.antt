@@ -1,4 +1,4 @@
-use Rattle.std.proofs.Common.{List, sym, subst, ◌∙◌}
+use Rattle.std.proofs.Common.{List, sym, subst}
 use Rattle.trs_defs.specs.Path.{PlacedRule}
 use Rattle.trs_defs.specs.Tree.{Tree}
 use Rattle.join_find.specs.LastSteps.{CloseSides, AreLastSteps}
@@ -30,4 +30,4 @@ returns-clause-last g c =
     let rules = c.args.trs.now.rules in
     let closes = closes_sides rules c.args.peak.now c.args.pool.now c.args.ids c.in-Some-found.steps.items c.requires.ids (closing g (goal.at.returns-clause-last g c).In-Some-found) in
     let C : List PlacedRule → Type 0 = λ ss. CloseSides rules c.args.pool.now c.args.ids ss in
-    c.in_ok-keep.ensures rules c.args.pool.now c.requires.last (subst C (sym (c.in_ok-copy_path-2.ensures ∙ c.deref.ensures.value)) closes)
+    c.in_ok-keep.ensures rules c.args.pool.now c.requires.last (subst C (sym c.deref.ensures.value) closes)

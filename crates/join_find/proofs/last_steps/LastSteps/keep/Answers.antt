@@ -1,5 +1,5 @@
 use Rattle.std.proofs.Common.{refl}
-use Rattle.join_find.proofs.KeptSteps.{one_more_place, one_more_step}
+use Rattle.join_find.proofs.KeptSteps.{one_more_place, one_more_step, copy_closes}
 use Rattle.join_find.proofs.last_steps.LastSteps.keep.Goals as goal
 
 pub loop-self-preserved : goal.loop-self-preserved
@@ -8,4 +8,5 @@ loop-self-preserved c = λ rules pool before.
 
 pub returns : goal.returns
 returns c = λ rules pool before closes.
-    one_more_step rules pool c.loop-self.self _ c.args.sides.0 (record { sides = c.args.sides; steps = c.args.steps }) refl closes (c.loop-self.invariant rules pool before)
+    let kept = copy_closes rules pool c.args.sides c.args.steps.now c.in_ok-kept.kept c.in_ok-kept.ensures closes in
+    one_more_step rules pool c.loop-self.self _ c.args.sides.0 (record { sides = c.args.sides; steps = c.in_ok-kept.kept }) refl kept (c.loop-self.invariant rules pool before)
