@@ -65,10 +65,10 @@ impl LastSteps {
             → OnOk result (AreLastSteps rules pool self.new) }
     {
         let left = sides.0 as usize;
-        let kept = copy_if(alloc, steps, self.were_last(sides))?;
         while self.by_left.len() <= left {
             self.by_left.push(None)?;
         }
+        let kept = copy_if(alloc, steps, self.were_last(sides))?;
         self.by_left[left] = Some(KeptStep { sides, steps: kept });
         Ok(())
     }
