@@ -1,6 +1,6 @@
 -- Right sides of two rules have together no more nodes than a system has.
 use Rattle.std.specs.Prelude.{◌≡◌, ◌≢◌, ◌≤◌, ℕ, ◌+◌, List, [], ◌∷◌, Some, slice_get, refl}
-use Rattle.std.proofs.Common.{zero, suc, ap, sym, subst, ◌∙◌, arith}
+use Rattle.std.proofs.Common.{zero, suc, ap, sym, ◌∙◌, arith}
 use Rattle.std.proofs.lemmas.Option.{same_Some}
 use Rattle.std.proofs.Math.Decide.{ℕ_discrete}
 use Rattle.trs_defs.specs.Size.{size_of}

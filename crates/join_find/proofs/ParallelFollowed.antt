@@ -3,11 +3,11 @@ use Rattle.std.specs.Prelude.{◌≡◌, ◌≢◌, ◌≤◌, ℕ, ◌+◌, Lis
 use Rattle.std.specs.Option.{option_and_then, option_map}
 use Rattle.std.proofs.Common.{zero, suc, ap, sym, subst, ◌∙◌, append_assoc, append-nil, arith}
 use Rattle.std.proofs.lemmas.List.{map-append}
-use Rattle.trs_defs.specs.Tree.{Tree, Trees, app, nil, cons, trees, items, items_trees, trees_items}
+use Rattle.trs_defs.specs.Tree.{Tree, Trees, app, cons, trees, items, items_trees, trees_items}
 use Rattle.trs_defs.specs.Size.{size_of, size_of_all, depth_of, within_limits}
 use Rattle.trs_defs.specs.Position.{argument_at, subterm_at, with_argument, replaced_at}
 use Rattle.trs_defs.specs.System.{RewriteRule}
-use Rattle.trs_defs.specs.Path.{PlacedRule, StepsAt, Follows}
+use Rattle.trs_defs.specs.Path.{PlacedRule, Follows}
 use Rattle.trs_defs.proofs.Limits.{size_replaced, depth_there, depth_replaced_within, limits_depth, limits_kept}
 use Rattle.term_pool.specs.Redexes.{below}
 use Rattle.term_pool.proofs.RedexLists.{below_nothing}

@@ -1,4 +1,4 @@
-use Rattle.std.proofs.Common.{◌≡◌, ◌≢◌, ◌∙◌, List, ap, sym, subst}
+use Rattle.std.proofs.Common.{◌≡◌, ◌≢◌, ◌∙◌, List, sym, subst}
 use Rattle.trs_defs.specs.Tree.{Tree}
 use Rattle.term_pool.specs.Pooled.{StandsFor}
 use Rattle.term_pool.specs.declared.paths.PathFault.TheVariants as fault

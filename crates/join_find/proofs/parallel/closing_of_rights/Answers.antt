@@ -1,7 +1,6 @@
 use Rattle.std.proofs.Common.{List, sym, subst}
 use Rattle.trs_defs.specs.Path.{PlacedRule}
-use Rattle.trs_defs.specs.Tree.{Tree}
-use Rattle.join_find.specs.LastSteps.{CloseSides, AreLastSteps}
+use Rattle.join_find.specs.LastSteps.{CloseSides}
 use Rattle.join_find.specs.ParallelRow.{IsParallelClosing}
 use Rattle.join_find.proofs.ParallelPeaks.{closes_sides, no_parallel_step, few_nodes_close}
 use Rattle.join_find.proofs.parallel.closing_of_rights.Goals.{In-Some-found}

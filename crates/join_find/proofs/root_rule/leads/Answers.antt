@@ -1,4 +1,4 @@
-use Rattle.std.proofs.Common.{◌≡◌, ◌∙◌, List, Some, length, slice_get, refl, ap, sym, subst}
+use Rattle.std.proofs.Common.{◌≡◌, List, Some, length, slice_get, refl, subst}
 use Rattle.std.proofs.lemmas.Option.{slice_get_read}
 use Rattle.trs_defs.specs.System.{RewriteRule}
 use Rattle.term_pool.specs.LeftSides.{IsGround}
