@@ -1,4 +1,7 @@
 //! Variables that are bound to terms one after another.
+ghost use Rattle.std.specs.Prelude.{◌≡◌, IsTrue};
+ghost use Rattle.trs_defs.specs.Size.{size_of};
+ghost use Rattle.trs_core.specs.View.{tree};
 ghost use Rattle.crit_pairs.specs.Slots.{ArePlaced, bound_variable};
 
 use crate::slots::{note_place, slot};
@@ -72,6 +75,7 @@ impl<'a> Bindings<'a> {
     }
 
     /// What a term stands for: the end of the bindings that lead from a variable to others.
+    #[inline(always)]
     pub fn resolve(&self, t: &'a Term) -> &'a Term
         ensures { SameUnder self.now.list.items (tree t.now) (tree result.now) }
     {
@@ -115,10 +119,23 @@ impl<'a> Bindings<'a> {
 
     /// The number of nodes of the largest term that a variable is bound to.
     pub fn largest(&self) -> u64 {
-        let mut largest: u64 = 0;
+        let mut largest: u64 = 1;
         for binding in &self.list {
-            largest = largest.max(binding.term.size());
+            if !is_one_node(binding.term) {
+                largest = largest.max(binding.term.size());
+            }
         }
         largest
+    }
+}
+
+/// Whether a term has one node. Most that variables are bound to have.
+#[inline(always)]
+pub(crate) fn is_one_node(t: &Term) -> bool
+    ensures { IsTrue result → size_of (tree t.now) ≡ 1 }
+{
+    match t {
+        Term::Var(_) => true,
+        Term::App(_, args) => args.items.is_empty(),
     }
 }

@@ -9,7 +9,7 @@ ghost use Rattle.trs_unify.specs.Renamed.{IsRenamed};
 ghost use Rattle.crit_pairs.specs.Meeting.{solution};
 ghost use Rattle.crit_pairs.specs.Sides.{IsDistinct};
 
-use crate::binding_table::Bindings;
+use crate::binding_table::{Bindings, is_one_node};
 use crate::names::Names;
 use std::alloc::Global;
 use trs_core::{Args, GREATEST_DEPTH, MOST_NODES, OutOfMemory, Term};
@@ -40,16 +40,29 @@ fn size(bindings: &Bindings, t: &Term) -> u64
     ensures { result ≡ stopped_size (apply (solution bindings.now.list.items) (tree t.now)) }
 {
     match t {
-        Term::Var(v) => match bindings.find(*v) {
-            None => 1,
-            Some(bound) => bound.size(),
-        },
+        Term::Var(v) => variable_size(bindings, *v),
         Term::App(_, args) => {
             let mut total: u64 = 1;
             for arg in &args.items {
                 total = total.saturating_add(size(bindings, arg));
             }
             total
+        }
+    }
+}
+
+/// The number of nodes of what a variable stands for.
+#[inline(always)]
+fn variable_size(bindings: &Bindings, v: u32) -> u64
+    ensures { result ≡ stopped_size (solution bindings.now.list.items v) }
+{
+    match bindings.find(v) {
+        None => 1,
+        Some(bound) => {
+            if is_one_node(bound) {
+                return 1;
+            }
+            bound.size()
         }
     }
 }
