@@ -9,7 +9,7 @@ use Rattle.trs_defs.proofs.ListItems.{item_of_more, kept_item}
 use Rattle.trs_core.specs.View.{tree}
 use Rattle.crit_pairs.specs.declared.binding_table.Binding.{Binding}
 use Rattle.crit_pairs.specs.Meeting.{bound_term}
-use Rattle.crit_pairs.specs.Slots.{slot_of, bound_variable, ArePlaced, AreNoted, KeepsOthers}
+use Rattle.crit_pairs.specs.Slots.{slot_of, bound_variable, named_variable, ArePlaced, KeepsOthers}
 use Rattle.crit_pairs.proofs.Bindings.{bound_at, bound_here}
 
 -- ---- slots
@@ -120,36 +120,22 @@ placed_at places bs v k b h at here is = elim (bound_or_not (bound_term bs v)) a
 
 -- ---- names
 
-pub none_noted : (places names : List ℕ) → names ≡ [] → AreNoted places names
-none_noted places names none = record { noted = λ k v at many. absurd (empty k v (subst (λ z. slice_get z k ≡ Some v) none at)) }
-  where
-    empty : (k v : ℕ) → slice_get {X = ℕ} [] k ≡ Some v → ⊥
-    empty k v e = absurd cc
-
-pub still_noted : (places now names : List ℕ) (v : ℕ) → AreNoted places names → KeepsOthers (slot_of v) places now → ((k : ℕ) → slice_get names k ≡ Some v → ⊥) → AreNoted now names
-still_noted places now names v h keeps none = record {
-  noted = λ k w at many. keeps.kept (slot_of w) k (h.noted k w at many) (λ e. none k (subst (λ z. slice_get names k ≡ Some z) (same_slot w v e) at));
+-- a number that is noted for a variable that has no name
+pub still_named : (places now names : List ℕ) (v : ℕ) → ArePlaced named_variable places names → KeepsOthers (slot_of v) places now → ((k : ℕ) → slice_get names k ≡ Some v → ⊥) → ArePlaced named_variable now names
+still_named places now names v h keeps none = record {
+  placed = λ k w at. keeps.kept (slot_of w) k (h.placed k w at) (λ e. none k (subst (λ z. slice_get names k ≡ Some z) (same_slot w v e) at));
 }
 
--- one name more, whose number is noted, if it is not one of the first ones
-pub one_noted : (places names new : List ℕ) (v : ℕ) → AreNoted places names → (8 ≤ length names → slice_get places (slot_of v) ≡ Some (length names)) → new ≡ names ++ v ∷ [] → AreNoted places new
-one_noted places names new v h here is = record {
-  noted = λ k w at many. elim (item_of_more names v w k (subst (λ z. slice_get z k ≡ Some w) is at)) as (λ _. slice_get places (slot_of w) ≡ Some k) [
-    | inl old ↦ h.noted k w old many
-    | inr last ↦ rw (last.0, last.1) (here (omega (arith, many, last.0)))
+-- one name more, whose number is noted
+one_named : (places names new : List ℕ) (v : ℕ) → ArePlaced named_variable places names → slice_get places (slot_of v) ≡ Some (length names) → new ≡ names ++ v ∷ [] → ArePlaced named_variable places new
+one_named places names new v h here is = record {
+  placed = λ k w at. elim (item_of_more names v w k (subst (λ z. slice_get z k ≡ Some w) is at)) as (λ _. slice_get places (slot_of w) ≡ Some k) [
+    | inl old ↦ h.placed k w old
+    | inr last ↦ rw (last.0, last.1) here
   ];
 }
 
-pub one_noted_if : (pushed : Bool) (places names new : List ℕ) (v : ℕ) → AreNoted places names → (8 ≤ length names → slice_get places (slot_of v) ≡ Some (length names))
-    → new ≡ (if pushed then names ++ v ∷ [] else names) → AreNoted places new
-one_noted_if true places names new v h here is = one_noted places names new v h here is
-one_noted_if false places names new v h here is = subst (AreNoted places) (sym is) h
-
--- a name that is neither among the first ones nor noted
-pub not_named : (o : Option ℕ) (names : List ℕ) (v : ℕ) → ((k : ℕ) → 8 ≤ k → slice_get names k ≡ Some v → ⊥) → IfNone o ((k : ℕ) → k < 8 → slice_get names k ≡ Some v → ⊥)
-    → IfNone o ((k : ℕ) → slice_get names k ≡ Some v → ⊥)
-not_named None names v later first = λ k at. elim (dec_lt k 8) as (λ _. ⊥) [
-  | yes h ↦ first k h at
-  | no h ↦ later k (omega (arith, h)) at
-]
-not_named (Some p) names v later first = first
+pub one_named_if : (pushed : Bool) (places names new : List ℕ) (v : ℕ) → ArePlaced named_variable places names → slice_get places (slot_of v) ≡ Some (length names)
+    → new ≡ (if pushed then names ++ v ∷ [] else names) → ArePlaced named_variable places new
+one_named_if true places names new v h here is = one_named places names new v h here is
+one_named_if false places names new v h here is = subst (ArePlaced named_variable places) (sym is) h

@@ -18,7 +18,7 @@ abbrev pub bound_pair : Binding → ℕ × Tree
 bound_pair b = (b.variable, tree b.term.now)
 
 abbrev pub seen_pair : SeenBinding → ℕ × Tree
-seen_pair b = (b.variable, tree b.term.value)
+seen_pair b = (b.variable.value, tree b.term.value)
 
 -- the term of the first pair that has the variable
 abbrev pub paired_term : List (ℕ × Tree) → ℕ → Option Tree

@@ -191,7 +191,7 @@ fn list_found<'a, T: PeakTop<'a>>(
     let results = results_at(alloc, rules, j, outer, i as usize, inner, place)?;
     peaks.nodes = count_peak(unifier, outer, &results, before)?;
     peaks.count = peaks.count.saturating_add(1);
-    let sides = peak_sides::<T>(alloc, unifier, outer, &results)?;
+    let sides = peak_sides::<T>(alloc, unifier, outer, &results, &mut peaks.names)?;
     let peak = Peak {
         top: sides.top,
         left: sides.left,

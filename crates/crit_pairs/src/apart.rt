@@ -147,17 +147,6 @@ impl<'a> RulesApart<'a> {
         self.equal.pairs(alloc)
     }
 
-    /// Whether peaks have all right sides whole: each has no variable, and rules overlap at the root
-    /// alone.
-    pub fn have_whole_results(&self) -> bool {
-        for (side, rule) in self.whole_sides.iter().zip(self.by_root.rules()) {
-            if side.is_none() || has_rule_below(&self.by_root, &rule.left) {
-                return false;
-            }
-        }
-        true
-    }
-
     /// How often variables occur in rules `i` and `j` together.
     pub fn occurrences(&self, i: usize, j: usize) -> u64 {
         self.occurrences.in_both(i, j)
@@ -203,29 +192,6 @@ fn most_of_one_root(by_root: &RulesByRoot) -> usize {
         }
     }
     most
-}
-
-/// Whether some rule has the root of a subterm other than the term itself.
-fn has_rule_below(by_root: &RulesByRoot, t: &Term) -> bool {
-    match t {
-        Term::Var(_) => false,
-        Term::App(_, args) => {
-            for arg in &args.items {
-                if has_rule_at(by_root, arg) || has_rule_below(by_root, arg) {
-                    return true;
-                }
-            }
-            false
-        }
-    }
-}
-
-/// Whether some rule has the root of the term.
-fn has_rule_at(by_root: &RulesByRoot, t: &Term) -> bool {
-    match t {
-        Term::Var(_) => false,
-        Term::App(f, _) => !by_root.with_root(*f).is_empty(),
-    }
 }
 
 /// The skeletons of left sides.

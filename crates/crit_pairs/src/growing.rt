@@ -23,6 +23,7 @@ use crate::PeakFault;
 use crate::ground_sides::GroundSide;
 use crate::known_peak::{KnownPeak, KnownPeaks};
 use crate::making::{MadePair, make_pair};
+use crate::names::Names;
 use crate::overlapping::overlap;
 use crate::prepared::PreparedRules;
 use crate::room::Room;
@@ -45,6 +46,8 @@ pub(crate) struct Growth {
     pub room: Room,
     /// Where bindings stand while an overlap is looked for.
     pub places: Vec<usize>,
+    /// The names of variables while a peak is made.
+    pub names: Names,
 }
 
 /// Adds the peaks of the outer rules from `start` to `end` with the inner rules from `from` on.
@@ -356,7 +359,17 @@ fn grow_by_overlap(
         Some(unifier) => {
             let before = growth.nodes;
             let made = make_pair(
-                alloc, rules, prepared, rights, j, i, place, &unifier, pool, before,
+                alloc,
+                rules,
+                prepared,
+                rights,
+                j,
+                i,
+                place,
+                &unifier,
+                &mut growth.names,
+                pool,
+                before,
             )?;
             add_made(growth, &made)?;
             unifier.hand_back(&mut growth.places);

@@ -11,6 +11,7 @@ ghost use Rattle.crit_pairs.specs.MadePairs.{spot, UnifiesAt, IsMade};
 use crate::PeakFault;
 use crate::contracting::contract;
 use crate::ground_sides::{GroundSide, ground_results};
+use crate::names::Names;
 use crate::overlapping::OverlapUnifier;
 use crate::prepared::PreparedRules;
 use crate::sides::{count_nodes, count_top};
@@ -40,6 +41,7 @@ pub(crate) fn make_pair(
     i: usize,
     place: &[u8],
     unifier: &OverlapUnifier,
+    names: &mut Names,
     pool: &mut Pool,
     nodes: u64,
 ) -> Result<MadePair, PeakFault>
@@ -52,7 +54,9 @@ pub(crate) fn make_pair(
     ensures kept { Extends pool.old pool.new }
 {
     match ground_results(rights, place, i, j) {
-        None => build_pair(alloc, rules, prepared, j, i, place, unifier, pool, nodes),
+        None => build_pair(
+            alloc, rules, prepared, j, i, place, unifier, names, pool, nodes,
+        ),
         Some(found) => {
             let outer = &rules[j];
             let (left, right) = (found.left.size, found.right.size);
@@ -79,6 +83,7 @@ fn build_pair(
     i: usize,
     place: &[u8],
     unifier: &OverlapUnifier,
+    names: &mut Names,
     pool: &mut Pool,
     nodes: u64,
 ) -> Result<MadePair, PeakFault>
@@ -93,7 +98,7 @@ fn build_pair(
     let inner = &prepared.apart[i];
     let reduct = contract(alloc, outer, place, inner)?;
     let total = count_nodes(unifier, &outer.left, &reduct, &outer.right, nodes)?;
-    let sides = results(alloc, unifier, &outer.left, &reduct, &outer.right)?;
+    let sides = results(alloc, unifier, &outer.left, &reduct, &outer.right, names)?;
     let pair = intern_pair(alloc, pool, &sides.0, &sides.1)?;
     Ok(MadePair {
         pair,

@@ -14,6 +14,7 @@ use crate::PeakFault;
 use crate::apart::RulesApart;
 use crate::contracting::contract;
 use crate::counting::count_unmade;
+use crate::names::Names;
 use crate::overlapping::OverlapUnifier;
 use crate::sides::{PeakTop, Sides, count_nodes, count_top};
 use crate::whole_sides::WholeSide;
@@ -150,6 +151,7 @@ pub(crate) fn peak_sides<'a, T: PeakTop<'a>>(
     unifier: &OverlapUnifier,
     outer: &Rule,
     results: &Results<'_, 'a>,
+    names: &mut Names,
 ) -> Result<Sides<T>, OutOfMemory>
     requires whole { AreWhole outer.now.right results.now }
     ensures { IfOk result (λ s. AreRenumbered
@@ -159,7 +161,9 @@ pub(crate) fn peak_sides<'a, T: PeakTop<'a>>(
         (T.top_tree s.top) (T.Side.side_tree s.left) (T.Side.side_tree s.right)) }
 {
     match results {
-        Results::Contracted(reduct) => T::sides(alloc, unifier, &outer.left, reduct, &outer.right),
+        Results::Contracted(reduct) => {
+            T::sides(alloc, unifier, &outer.left, reduct, &outer.right, names)
+        }
         Results::Whole(left, right) => Ok(Sides {
             top: T::beside_ground(alloc, unifier, &outer.left)?,
             left: T::whole(alloc, left)?,

@@ -13,6 +13,7 @@ ghost use Rattle.crit_pairs.specs.Growing.{IsGrown};
 use crate::PeakFault;
 use crate::ground_sides::{GroundSide, add_ground_rights};
 use crate::growing::{Growth, grow_rules};
+use crate::names::Names;
 use crate::prepared::PreparedRules;
 use crate::room::Room;
 use std::alloc::Global;
@@ -93,6 +94,7 @@ impl PeakTable {
             nodes: self.nodes,
             room,
             places: Vec::new(alloc),
+            names: Names::none(alloc),
         };
         match grow_all(alloc, rules, &prepared, &rights, known, pool, &mut growth) {
             Ok(()) => Ok(Some(PeakTable {

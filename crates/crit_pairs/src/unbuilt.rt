@@ -21,10 +21,10 @@ use std::snapshot::Snapshot;
 use trs_core::{OutOfMemory, Term};
 use trs_unify::{Unifier, no_names};
 
-/// A binding as proofs see it.
+/// A binding as proofs see it. It takes no memory.
 #[derive(Drop)]
 struct SeenBinding {
-    variable: u32,
+    variable: Snapshot<u32>,
     term: Snapshot<Term>,
 }
 
@@ -133,7 +133,7 @@ fn seen_bindings(alloc: Global, bindings: &[Binding]) -> Result<Vec<SeenBinding>
     let mut seen = Vec::with_capacity(alloc, bindings.len())?;
     for binding in bindings {
         seen.push(SeenBinding {
-            variable: binding.variable,
+            variable: Snapshot::of(&binding.variable),
             term: Snapshot::of(binding.term),
         })?;
     }
@@ -148,8 +148,9 @@ impl<'a> PeakTop<'a> for UnbuiltTop<'a> {
         top: &Term,
         left: &Term,
         right: &Term,
+        names: &mut Names,
     ) -> Result<Sides<UnbuiltTop<'a>>, OutOfMemory> {
-        let (first, second) = results(alloc, unifier, top, left, right)?;
+        let (first, second) = results(alloc, unifier, top, left, right, names)?;
         Ok(Sides {
             top: UnbuiltTop::of(alloc, unifier, top)?,
             left: SharedSide::Own(Box::new(alloc, first)?),
@@ -185,13 +186,14 @@ impl<'a> PeakTop<'a> for UnbuiltTop<'a> {
 }
 
 /// The instances of the left and the right, with new numbers for their variables: those of the top
-/// come first.
+/// come first. Names that were given before are taken back.
 pub(crate) fn results(
     alloc: Global,
     unifier: &OverlapUnifier,
     top: &Term,
     left: &Term,
     right: &Term,
+    names: &mut Names,
 ) -> Result<(Term, Term), OutOfMemory>
     ensures { IfOk result (λ s. AreRenumbered
         (apply (substitution unifier.now) (tree top.now))
@@ -200,7 +202,7 @@ pub(crate) fn results(
         (in_order (apply (substitution unifier.now) (tree top.now))) (tree s.0) (tree s.1)) }
 {
     match unifier {
-        OverlapUnifier::Bound(bindings) => bound_results(alloc, bindings, top, left, right),
+        OverlapUnifier::Bound(bindings) => bound_results(alloc, bindings, top, left, right, names),
         OverlapUnifier::Shared(found) => shared_results(alloc, found, top, left, right),
     }
 }
@@ -211,6 +213,7 @@ fn bound_results(
     top: &Term,
     left: &Term,
     right: &Term,
+    names: &mut Names,
 ) -> Result<(Term, Term), OutOfMemory>
     ensures { IfOk result (λ s. AreRenumbered
         (apply (solution bindings.now.list.items) (tree top.now))
@@ -219,10 +222,10 @@ fn bound_results(
         (in_order (apply (solution bindings.now.list.items) (tree top.now)))
         (tree s.0) (tree s.1)) }
 {
-    let mut names = Names::none(alloc);
-    solved::name_instance(bindings, top, &mut names)?;
-    let first = solved::renumber(alloc, bindings, left, &mut names)?;
-    let second = solved::renumber(alloc, bindings, right, &mut names)?;
+    names.clear();
+    solved::name_instance(bindings, top, names)?;
+    let first = solved::renumber(alloc, bindings, left, names)?;
+    let second = solved::renumber(alloc, bindings, right, names)?;
     Ok((first, second))
 }
 

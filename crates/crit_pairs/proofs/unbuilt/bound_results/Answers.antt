@@ -10,12 +10,12 @@ use Rattle.crit_pairs.proofs.Renumbering.{none_distinct}
 use Rattle.crit_pairs.proofs.unbuilt.bound_results.Goals as goal
 
 pub name_instance-requires : goal.name_instance-requires
-name_instance-requires c = rw c.none-names.ensures none_distinct
+name_instance-requires c = rw c.clear.ensures none_distinct
 
 pub returns : goal.returns
 returns c =
     let top = apply (solution c.args.bindings.now.list.items) (tree c.args.top.now) in
-    let named : c.name_instance.new.names.order.items ≡ variables_of top = rw c.none-names.ensures at c.in_ok-name_instance.ensures.order in
+    let named : c.name_instance.new.names.order.items ≡ variables_of top = rw c.clear.ensures at c.in_ok-name_instance.ensures.order in
     record {
       first = c.name_instance.new.names.order.items;
       second = c.renumber.new.names.order.items;

@@ -1,0 +1,54 @@
+//! How many nodes the critical peaks of a system seem to have. Only time and memory depend on it.
+use crate::apart::RulesApart;
+use crate::meeting::clash;
+use trs_core::{Rule, Term};
+
+/// The peaks of about so many outer rules are looked at, and of fewer than twice as many.
+const SAMPLED: usize = 16;
+
+/// How many nodes all peaks seem to have, by those of some outer rules: wherever no symbols clash there
+/// seems to be one, of rules whose right sides are as large as those of the outer rule.
+pub(crate) fn expected_nodes(rules: &RulesApart) -> u64 {
+    let all = rules.rules();
+    let step = all.len() / SAMPLED + 1;
+    let mut total: u64 = 0;
+    for (j, outer) in all.iter().enumerate() {
+        if j % step == 0 {
+            total = total.saturating_add(nodes_from(rules, outer, &outer.left));
+        }
+    }
+    total.saturating_mul(step as u64)
+}
+
+/// Those of the peaks of an outer rule at a part of its left side and below.
+fn nodes_from(rules: &RulesApart, outer: &Rule, part: &Term) -> u64 {
+    match part {
+        Term::Var(_) => 0,
+        Term::App(f, args) => {
+            let mut total = nodes_at(rules, outer, part, *f);
+            for arg in &args.items {
+                total = total.saturating_add(nodes_from(rules, outer, arg));
+            }
+            total
+        }
+    }
+}
+
+/// Those of the peaks of an outer rule at a part of its left side, which has this root.
+fn nodes_at(rules: &RulesApart, outer: &Rule, part: &Term, root: u32) -> u64 {
+    let mut count: u64 = 0;
+    for i in rules.with_root(root) {
+        if let Some(inner) = rules.rules().get(*i as usize) {
+            if !clash(part, &inner.left) {
+                count = count.saturating_add(1);
+            }
+        }
+    }
+    if count == 0 {
+        return 0;
+    }
+    let top = outer.left.size();
+    let right = outer.right.size();
+    let left = top.saturating_sub(part.size()).saturating_add(right);
+    count.saturating_mul(top.saturating_add(left).saturating_add(right))
+}
