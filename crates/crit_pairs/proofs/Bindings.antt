@@ -17,7 +17,8 @@ use Rattle.trs_core.specs.View.{tree, forest}
 use Rattle.trs_core.proofs.Comparing.{count_forest}
 use Rattle.crit_pairs.specs.Sides.{DoNotMeet}
 use Rattle.crit_pairs.specs.declared.binding_table.Binding.{Binding}
-use Rattle.crit_pairs.specs.Meeting.{bound_term, solution, Solves, IsFree, AreEqualUnder}
+use Rattle.crit_pairs.specs.Meeting.{bound_term, bound_to, times, put_in, Solves, Ends, AllEnd, AreEqualUnder, AreEqualExactlyUnder}
+use Rattle.crit_pairs.proofs.PutIn.{put_in_bound, always_general}
 
 pub solves_nothing : (θ : ℕ → Tree) → Solves [] θ
 solves_nothing θ = record { solves = λ v t e. absurd cc }
@@ -84,7 +85,7 @@ unless_bound : (o : Option Tree) (v : ℕ) (θ : ℕ → Tree) → ((t : Tree) �
 unless_bound None v θ h = refl
 unless_bound (Some t) v θ h = h t refl
 
-general : (bs : List Binding) (θ : ℕ → Tree) → Solves bs θ → (v : ℕ) → θ v ≡ apply θ (solution bs v)
+general : (bs : List Binding) (θ : ℕ → Tree) → Solves bs θ → (v : ℕ) → θ v ≡ apply θ (bound_to bs v)
 general bs θ h v = unless_bound (bound_term bs v) v θ (λ t e. h.solves v t e)
 
 pub bound_at : (bs : List Binding) (v : ℕ) (t : Tree) → bound_term bs v ≡ Some t → (k : ℕ) × (b : Binding) × (slice_get bs k ≡ Some b) × (b.variable ≡ v) × (tree b.term.now ≡ t)
@@ -104,24 +105,25 @@ bound_here (a ∷ bs) v zero b at is e =
     absurd (cc (yes_here, not_here))
 bound_here (a ∷ bs) v (suc k) b at is e = bound_here bs v k b at is (none_both (a.variable == v) (tree a.term.now) (bound_term bs v) e).1
 
-solves_itself : (bs : List Binding) → All (λ b. IsFree bs (tree b.term.now)) bs → Solves bs (solution bs)
-solves_itself bs free = record {
+solves_itself : (levels : ℕ) (bs : List Binding) → AllEnd levels bs → Solves bs (put_in levels bs)
+solves_itself levels bs end = record {
   solves = λ v t e.
       let (k, b, at, _, is) = bound_at bs v t e in
       let read : get_or bs k b ≡ b = get_or_from_slice_get bs k b b at in
-      let b_free : IsFree bs (tree b.term.now) = subst (λ z. IsFree bs (tree z.term.now)) read (free k b (slice_get_within bs k b at)) in
-      let t_free : IsFree bs t = subst (λ z. IsFree bs z) is b_free in
-      ap (λ o. unwrap_or o (var v)) e ∙ sym (same_instance (solution bs) (λ w. var w) t (λ w has. ap (λ o. unwrap_or o (var w)) (t_free w has)) ∙ unchanged t);
+      let b_ends : Ends levels bs (tree b.term.now) = subst (λ z. Ends levels bs (tree z.term.now)) read (end k b (slice_get_within bs k b at)) in
+      let t_ends : Ends levels bs t = subst (Ends levels bs) is b_ends in
+      put_in_bound levels bs v t e ∙ same_instance (times levels (bound_to bs)) (times (suc levels) (bound_to bs)) t t_ends;
 }
 
-pub solution_found : (a b : Tree) (old bs : List Binding) → old ≡ [] → ((θ : ℕ → Tree) → (Solves old θ × (apply θ a ≡ apply θ b)) ↔ Solves bs θ) → All (λ x. IsFree bs (tree x.term.now)) bs
-    → IsMostGeneralUnifier a b (solution bs)
-solution_found a b old bs none h free =
-    let begins : (θ : ℕ → Tree) → Solves old θ = λ θ. subst (λ z. Solves z θ) (sym none) (solves_nothing θ) in
-    record {
-      unifies = ((h (solution bs)).1 (solves_itself bs free)).1;
-      most_general = λ σ e. (σ, general bs σ ((h σ).0 (begins σ, e)));
-    }
+pub solution_found : (a b : Tree) (bs : List Binding) (levels : ℕ) → AreEqualExactlyUnder bs a b → AllEnd levels bs → IsMostGeneralUnifier a b (put_in levels bs)
+solution_found a b bs levels h end = record {
+  unifies = (h (put_in levels bs)).1 (solves_itself levels bs end);
+  most_general = λ σ e. (σ, always_general (bound_to bs) σ (general bs σ ((h σ).0 e)) (suc levels));
+}
+
+-- terms that are equal exactly under the bindings
+pub equal_exactly : (a b : Tree) (old bs : List Binding) → old ≡ [] → ((θ : ℕ → Tree) → (Solves old θ × (apply θ a ≡ apply θ b)) ↔ Solves bs θ) → AreEqualExactlyUnder bs a b
+equal_exactly a b old bs none h θ = ((λ e. (h θ).0 (subst (λ z. Solves z θ) (sym none) (solves_nothing θ), e)), λ s. ((h θ).1 s).1)
 
 pub no_solution : (a b : Tree) (old : List Binding) → old ≡ [] → ((θ : ℕ → Tree) → Solves old θ → apply θ a ≡ apply θ b → ⊥) → DoNotMeet a b
 no_solution a b old none h σ e = h σ (subst (λ z. Solves z σ) (sym none) (solves_nothing σ)) e
@@ -241,17 +243,18 @@ all_meet old now fs gs i f g t u is_t is_u same long past says θ =
           (m.0, ap (apply θ) is_t ∙ (whole ∙ sym (ap (apply θ) is_u)))),
     )
 
--- no argument has a variable that is bound
-abbrev pub AreFree : List Binding → Trees → Type 0
-AreFree bs ts = (v : ℕ) → IsTrue (some_has_var v ts) → bound_term bs v ≡ None
+-- once so many are put in, putting in more changes none of the arguments
+abbrev pub ArgumentsEnd : ℕ → List Binding → Trees → Type 0
+ArgumentsEnd levels bs ts = (v : ℕ) → IsTrue (some_has_var v ts) → times levels (bound_to bs) v ≡ times (suc levels) (bound_to bs) v
 
-pub next_free : (bs : List Binding) (ts : List Term) (i : ℕ) (t : Term) → i < length ts → t ≡ get_or ts i t → IsFree bs (tree t) → AreFree bs (forest (drop (i + 1) ts)) → AreFree bs (forest (drop i ts))
-next_free bs ts i t h e one rest =
+pub next_ends : (levels : ℕ) (bs : List Binding) (ts : List Term) (i : ℕ) (t : Term) → i < length ts → t ≡ get_or ts i t → Ends levels bs (tree t)
+    → ArgumentsEnd levels bs (forest (drop (i + 1) ts)) → ArgumentsEnd levels bs (forest (drop i ts))
+next_ends levels bs ts i t h e one rest =
     let is : forest (drop i ts) ≡ cons (tree t) (forest (drop (i + 1) ts)) = ap forest (cell ts i t h e) in
-    subst (AreFree bs) (sym is) (λ v has. elim (has_var_cons v (tree t) (forest (drop (i + 1) ts)) has) as (λ _. bound_term bs v ≡ None) [
+    subst (ArgumentsEnd levels bs) (sym is) (λ v has. elim (has_var_cons v (tree t) (forest (drop (i + 1) ts)) has) as (λ _. times levels (bound_to bs) v ≡ times (suc levels) (bound_to bs) v) [
       | inl k ↦ one v k
       | inr k ↦ rest v k
     ])
 
-pub none_left_free : (bs : List Binding) (ts : List Term) (i : ℕ) → length ts ≤ i → AreFree bs (forest (drop i ts))
-none_left_free bs ts i h = subst (AreFree bs) (sym (ap forest (drop_all i ts h))) (λ v has. absurd cc)
+pub none_left_ends : (levels : ℕ) (bs : List Binding) (ts : List Term) (i : ℕ) → length ts ≤ i → ArgumentsEnd levels bs (forest (drop i ts))
+none_left_ends levels bs ts i h = subst (ArgumentsEnd levels bs) (sym (ap forest (drop_all i ts h))) (λ v has. absurd cc)

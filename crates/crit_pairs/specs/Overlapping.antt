@@ -7,5 +7,5 @@ use Rattle.crit_pairs.specs.declared.overlapping.OverlapUnifier.{OverlapUnifier}
 use Rattle.crit_pairs.specs.declared.overlapping.OverlapUnifier.TheVariants as unifier
 
 abbrev pub substitution : OverlapUnifier → ℕ → Tree
-substitution (unifier.Bound bindings) = solution bindings.list.items
+substitution (unifier.Bound bindings) = solution bindings
 substitution (unifier.Shared found) = bound found

@@ -1,9 +1,10 @@
 -- The tree of a top that is not built.
-use Rattle.std.specs.Prelude.{ℕ, ◌==◌, if◌then◌else◌, List, [], ◌∷◌, map, Option, Some, None, unwrap_or}
+use Rattle.std.specs.Prelude.{ℕ, suc, ◌==◌, if◌then◌else◌, List, [], ◌∷◌, map, Option, Some, None, unwrap_or}
 use Rattle.trs_defs.specs.Tree.{Tree, var}
 use Rattle.trs_defs.specs.Substitution.{apply, bound}
 use Rattle.trs_core.specs.View.{tree}
 use Rattle.crit_pairs.specs.InOrder.{in_order}
+use Rattle.crit_pairs.specs.Meeting.{times}
 use Rattle.crit_pairs.specs.declared.binding_table.Binding.{Binding}
 use Rattle.crit_pairs.specs.declared.unbuilt.SeenBinding.{SeenBinding}
 use Rattle.crit_pairs.specs.declared.unbuilt.SeenUnifier.{SeenUnifier}
@@ -25,8 +26,12 @@ abbrev pub paired_term : List (ℕ × Tree) → ℕ → Option Tree
 paired_term [] v = None
 paired_term (p ∷ ps) v = if p.0 == v then Some p.1 else paired_term ps v
 
+-- a variable that no pair has stays
+abbrev pub paired_to : List (ℕ × Tree) → ℕ → Tree
+paired_to ps v = unwrap_or (paired_term ps v) (var v)
+
 abbrev pub seen_substitution : SeenUnifier → ℕ → Tree
-seen_substitution (seen.Bound bindings) v = unwrap_or (paired_term (map seen_pair bindings.items) v) (var v)
+seen_substitution (seen.Bound levels bindings) v = times (suc levels) (paired_to (map seen_pair bindings.items)) v
 seen_substitution (seen.Shared found) v = bound found.value v
 
 -- the instance of the outer left side, with its variables numbered

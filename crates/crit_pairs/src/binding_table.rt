@@ -25,6 +25,10 @@ pub(crate) struct Bindings<'a> {
     /// At the slot of each variable that is bound stands the place of its binding. At the other slots
     /// stands whatever bindings before these left there, so that nothing has to be cleared.
     places: Vec<usize>,
+    /// The terms of variables in bound terms are put in too, through so many bindings.
+    pub levels: u32,
+    /// In all bound terms together that puts in so many nodes at most.
+    pub nodes_put_in: u64,
     ghost placed: { ArePlaced bound_variable places.items list.items },
 }
 
@@ -41,6 +45,8 @@ impl<'a> Bindings<'a> {
         Bindings {
             list: Vec::new(alloc),
             places,
+            levels: 0,
+            nodes_put_in: 0,
         }
     }
 
@@ -117,7 +123,16 @@ impl<'a> Bindings<'a> {
         Ok(())
     }
 
-    /// The number of nodes of the largest term that a variable is bound to.
+    /// The number of nodes of all terms that variables are bound to.
+    pub fn nodes(&self) -> u64 {
+        let mut total: u64 = 0;
+        for binding in &self.list {
+            total = total.saturating_add(binding.term.size());
+        }
+        total
+    }
+
+    /// The most nodes that the instance of a variable has.
     pub fn largest(&self) -> u64 {
         let mut largest: u64 = 1;
         for binding in &self.list {
@@ -125,7 +140,7 @@ impl<'a> Bindings<'a> {
                 largest = largest.max(binding.term.size());
             }
         }
-        largest
+        largest.saturating_add(self.nodes_put_in)
     }
 }
 

@@ -1,7 +1,8 @@
-ghost use Rattle.std.specs.Prelude.{◌↔◌, IfOk, IfNone, IsTrue, All};
+ghost use Rattle.std.specs.Prelude.{◌≡◌, ◌↔◌, IfOk, IfNone, IsTrue};
 ghost use Rattle.trs_defs.specs.Tree.{Tree, var};
 ghost use Rattle.trs_core.specs.View.{tree};
-ghost use Rattle.crit_pairs.specs.Meeting.{IsFree, IsSolution, AreEqualUnder, Meets};
+ghost use Rattle.crit_pairs.specs.Meeting.{Ends, AllEnd, IsSolution, AreEqualUnder, AreEqualExactlyUnder};
+ghost use Rattle.crit_pairs.specs.Meeting.{Meets};
 ghost use Rattle.crit_pairs.specs.Sides.{DoNotMeet};
 
 use crate::binding_table::{Binding, Bindings};
@@ -15,6 +16,10 @@ const MOST_RETURNS: u32 = 16;
 
 /// How many levels are walked down, through bindings too. Terms have no more.
 const MOST_LEVELS: u32 = 1_040;
+
+/// So many nodes are put into bound terms for each node that they have. It is as good as nothing beside
+/// what `unify` takes.
+const MOST_NODES_FOR_EACH: u64 = 16;
 
 /// What came of making two terms equal.
 pub(crate) enum Meeting {
@@ -37,9 +42,9 @@ pub(crate) enum Solution<'a> {
     Unclear,
 }
 
-/// A most general unifier, where each variable is met once: no variable that is bound occurs in a
-/// term that another one is bound to. The bindings use the places; where they are no unifier, they
-/// hand them back.
+/// A most general unifier, where no variable that is bound occurs in a term that another one is bound
+/// to, or bindings lead from there to terms without such variables. The bindings use the places; where
+/// they are no unifier, they hand them back.
 pub(crate) fn solve<'a>(
     alloc: Global,
     a: &'a Term,
@@ -56,20 +61,36 @@ pub(crate) fn solve<'a>(
             *places = bindings.into_places();
             Ok(Solution::None)
         }
-        Meeting::Unclear => Ok(refute(bindings, 0, places)),
-        Meeting::Met => match first_not_free(&bindings) {
+        Meeting::Unclear => Ok(refute(bindings, places)),
+        Meeting::Met => match first_not_free(&bindings, &mut 0) {
             None => Ok(Solution::Unifier(bindings)),
-            Some(first) => Ok(refute(bindings, first, places)),
+            Some(first) => Ok(follow(bindings, first, places)),
         },
     }
 }
 
-/// Terms that are equal under the bindings at most have no unifier where these have a cycle. None is
-/// looked for from the bindings before the first one.
-fn refute<'a>(bindings: Bindings, first: usize, places: &mut Vec<usize>) -> Solution<'a>
+/// What bindings tell of terms that are equal exactly where these are solved, if a variable that is
+/// bound occurs in a bound term, at the first one or later.
+fn follow<'a>(mut bindings: Bindings<'a>, first: usize, places: &mut Vec<usize>) -> Solution<'a>
+    ensures { (a b : Tree) → AreEqualExactlyUnder bindings.entry.list.items a b
+        → IsSolution a b result }
+{
+    if has_cycle(&bindings, first) {
+        *places = bindings.into_places();
+        return Solution::None;
+    }
+    if ends(&mut bindings) {
+        return Solution::Unifier(bindings);
+    }
+    *places = bindings.into_places();
+    Solution::Unclear
+}
+
+/// Terms that are equal under the bindings at most have no unifier where these have a cycle.
+fn refute<'a>(bindings: Bindings, places: &mut Vec<usize>) -> Solution<'a>
     ensures { (a b : Tree) → AreEqualUnder bindings.entry.list.items a b → IsSolution a b result }
 {
-    let is_refuted = has_cycle(&bindings, first);
+    let is_refuted = has_cycle(&bindings, 0);
     *places = bindings.into_places();
     if is_refuted {
         return Solution::None;
@@ -251,28 +272,58 @@ fn bind_to_left<'a>(
     bind(v, term, bindings)
 }
 
-/// The place of the first binding whose term has a variable that is bound.
-fn first_not_free(bindings: &Bindings) -> Option<usize>
-    ensures { IfNone result (All (λ b. IsFree bindings.now.list.items (tree b.term.now))
-        bindings.now.list.items) }
+/// Whether bindings lead from all bound terms to terms with no variable that is bound. Then those are
+/// put in.
+fn ends(bindings: &mut Bindings) -> bool
+    ensures list { bindings.new.list.items ≡ bindings.old.list.items }
+    ensures ends { IsTrue result → AllEnd bindings.new.levels bindings.new.list.items }
+{
+    bindings.levels = MOST_LEVELS;
+    let most = bindings.nodes().saturating_mul(MOST_NODES_FOR_EACH);
+    let mut left = most;
+    if first_not_free(bindings, &mut left).is_some() {
+        return false;
+    }
+    bindings.nodes_put_in = most.saturating_sub(left);
+    true
+}
+
+/// The place of the first binding whose term has a variable that is bound, when no more than so many
+/// nodes have been put in.
+fn first_not_free(bindings: &Bindings, nodes: &mut u64) -> Option<usize>
+    ensures { IfNone result (AllEnd bindings.now.levels bindings.now.list.items) }
 {
     for (place, binding) in bindings.list.iter().enumerate() {
-        if !is_free(binding.term, bindings) {
+        if !leads_out(binding.term, bindings, bindings.levels, MOST_LEVELS, nodes) {
             return Some(place);
         }
     }
     None
 }
 
-/// Whether the term has no variable that is bound.
-fn is_free(t: &Term, bindings: &Bindings) -> bool
-    ensures { IsTrue result → IsFree bindings.now.list.items (tree t.now) }
+/// Whether the term has no variable that is bound once the terms of such variables are put in through
+/// so many bindings. They have no more nodes than there are left, and are not deep.
+fn leads_out(t: &Term, bindings: &Bindings, levels: u32, depth: u32, nodes: &mut u64) -> bool
+    ensures { IsTrue result → Ends levels bindings.now.list.items (tree t.now) }
 {
+    if depth == 0 {
+        return false;
+    }
     match t {
-        Term::Var(v) => bindings.find(*v).is_none(),
+        Term::Var(v) => match bindings.find(*v) {
+            None => true,
+            Some(bound) => {
+                let size = bound.size();
+                if levels == 0 || *nodes < size {
+                    return false;
+                }
+                *nodes -= size;
+                leads_out(bound, bindings, levels - 1, depth - 1, nodes)
+            }
+        },
         Term::App(_, args) => {
             for arg in &args.items {
-                if !is_free(arg, bindings) {
+                if !leads_out(arg, bindings, levels, depth - 1, nodes) {
                     return false;
                 }
             }

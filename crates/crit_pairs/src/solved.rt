@@ -6,7 +6,7 @@ ghost use Rattle.trs_defs.specs.Variable.{with_variables};
 ghost use Rattle.trs_core.specs.View.{tree};
 ghost use Rattle.trs_unify.specs.Bindings.{stopped_size, stopped_depth};
 ghost use Rattle.trs_unify.specs.Renamed.{IsRenamed};
-ghost use Rattle.crit_pairs.specs.Meeting.{solution};
+ghost use Rattle.crit_pairs.specs.Meeting.{put_in, solution};
 ghost use Rattle.crit_pairs.specs.Sides.{IsDistinct};
 
 use crate::binding_table::{Bindings, is_one_node};
@@ -19,66 +19,74 @@ use trs_core::{Args, GREATEST_DEPTH, MOST_NODES, OutOfMemory, Term};
 #[tactic(auto, using(crate::proofs::CountedPeaks::few_are_small))]
 pub(crate) fn small_size(bindings: &Bindings, t: &Term) -> Option<u64>
     ensures large { IfNone result
-        (within_limits (apply (solution bindings.now.list.items) (tree t.now)) ≡ false) }
+        (within_limits (apply (solution bindings.now) (tree t.now)) ≡ false) }
     ensures small { IfSome result (λ _.
-        IsTrue (within_limits (apply (solution bindings.now.list.items) (tree t.now)))) }
+        IsTrue (within_limits (apply (solution bindings.now) (tree t.now)))) }
     ensures size { IfSome result (λ n.
-        n ≡ size_of (apply (solution bindings.now.list.items) (tree t.now))) }
+        n ≡ size_of (apply (solution bindings.now) (tree t.now))) }
 {
-    let size = size(bindings, t);
+    let size = size(bindings, t, bindings.levels);
     if size <= GREATEST_DEPTH {
         return Some(size);
     }
-    if size <= MOST_NODES && depth(bindings, t) <= GREATEST_DEPTH {
+    if size <= MOST_NODES && depth(bindings, t, bindings.levels) <= GREATEST_DEPTH {
         Some(size)
     } else {
         None
     }
 }
 
-fn size(bindings: &Bindings, t: &Term) -> u64
-    ensures { result ≡ stopped_size (apply (solution bindings.now.list.items) (tree t.now)) }
+fn size(bindings: &Bindings, t: &Term, levels: u32) -> u64
+    ensures { result ≡ stopped_size (apply (put_in levels bindings.now.list.items) (tree t.now)) }
 {
     match t {
-        Term::Var(v) => variable_size(bindings, *v),
+        Term::Var(v) => match bindings.find(*v) {
+            None => 1,
+            Some(bound) => {
+                if levels == 0 {
+                    return bound_size(bound);
+                }
+                size(bindings, bound, levels - 1)
+            }
+        },
         Term::App(_, args) => {
             let mut total: u64 = 1;
             for arg in &args.items {
-                total = total.saturating_add(size(bindings, arg));
+                total = total.saturating_add(size(bindings, arg, levels));
             }
             total
         }
     }
 }
 
-/// The number of nodes of what a variable stands for.
+/// The number of nodes of a term that a variable is bound to.
 #[inline(always)]
-fn variable_size(bindings: &Bindings, v: u32) -> u64
-    ensures { result ≡ stopped_size (solution bindings.now.list.items v) }
+fn bound_size(bound: &Term) -> u64
+    ensures { result ≡ stopped_size (tree bound.now) }
 {
-    match bindings.find(v) {
-        None => 1,
-        Some(bound) => {
-            if is_one_node(bound) {
-                return 1;
-            }
-            bound.size()
-        }
+    if is_one_node(bound) {
+        return 1;
     }
+    bound.size()
 }
 
-fn depth(bindings: &Bindings, t: &Term) -> u64
-    ensures { result ≡ stopped_depth (apply (solution bindings.now.list.items) (tree t.now)) }
+fn depth(bindings: &Bindings, t: &Term, levels: u32) -> u64
+    ensures { result ≡ stopped_depth (apply (put_in levels bindings.now.list.items) (tree t.now)) }
 {
     match t {
         Term::Var(v) => match bindings.find(*v) {
             None => 1,
-            Some(bound) => bound.depth(),
+            Some(bound) => {
+                if levels == 0 {
+                    return bound.depth();
+                }
+                depth(bindings, bound, levels - 1)
+            }
         },
         Term::App(_, args) => {
             let mut deepest: u64 = 0;
             for arg in &args.items {
-                deepest = deepest.max(depth(bindings, arg));
+                deepest = deepest.max(depth(bindings, arg, levels));
             }
             deepest.saturating_add(1)
         }
@@ -91,22 +99,28 @@ pub(crate) fn renumber(
     alloc: Global,
     bindings: &Bindings,
     t: &Term,
+    levels: u32,
     names: &mut Names,
 ) -> Result<Term, OutOfMemory>
     requires { IsDistinct names.old.order.items }
     ensures distinct { OnOk result (IsDistinct names.new.order.items) }
     ensures renamed { IfOk result (λ u. IsRenamed names.old.order.items names.new.order.items
-        (apply (solution bindings.now.list.items) (tree t.now)) (tree u)) }
+        (apply (put_in levels bindings.now.list.items) (tree t.now)) (tree u)) }
 {
     match t {
         Term::Var(v) => match bindings.find(*v) {
             None => number_variable(*v, names),
-            Some(bound) => number_variables(alloc, bound, names),
+            Some(bound) => {
+                if levels == 0 {
+                    return number_variables(alloc, bound, names);
+                }
+                renumber(alloc, bindings, bound, levels - 1, names)
+            }
         },
         Term::App(f, args) => {
             let mut built = Vec::with_capacity(alloc, args.items.len())?;
             for arg in &args.items {
-                built.push(renumber(alloc, bindings, arg, names)?)?;
+                built.push(renumber(alloc, bindings, arg, levels, names)?)?;
             }
             Ok(Term::App(*f, Args { items: built }))
         }
@@ -148,13 +162,14 @@ fn number_variable(v: u32, names: &mut Names) -> Result<Term, OutOfMemory>
 pub(crate) fn name_instance(
     bindings: &Bindings,
     t: &Term,
+    levels: u32,
     names: &mut Names,
 ) -> Result<(), OutOfMemory>
     requires { IsDistinct names.old.order.items }
     ensures distinct { OnOk result (IsDistinct names.new.order.items) }
     ensures order { OnOk result (names.new.order.items
         ≡ with_variables names.old.order.items
-        (apply (solution bindings.now.list.items) (tree t.now))) }
+        (apply (put_in levels bindings.now.list.items) (tree t.now))) }
 {
     match t {
         Term::Var(v) => match bindings.find(*v) {
@@ -162,11 +177,16 @@ pub(crate) fn name_instance(
                 number_of(*v, names)?;
                 Ok(())
             }
-            Some(bound) => name_variables(bound, names),
+            Some(bound) => {
+                if levels == 0 {
+                    return name_variables(bound, names);
+                }
+                name_instance(bindings, bound, levels - 1, names)
+            }
         },
         Term::App(_, args) => {
             for arg in &args.items {
-                name_instance(bindings, arg, names)?;
+                name_instance(bindings, arg, levels, names)?;
             }
             Ok(())
         }

@@ -31,7 +31,8 @@ struct SeenBinding {
 /// A most general unifier as proofs see it.
 #[derive(Drop)]
 enum SeenUnifier {
-    Bound(Vec<SeenBinding>),
+    /// With the number of bindings that terms are put in through.
+    Bound(u32, Vec<SeenBinding>),
     Shared(Snapshot<Unifier>),
 }
 
@@ -121,7 +122,7 @@ fn seen_unifier(alloc: Global, unifier: &OverlapUnifier) -> Result<SeenUnifier, 
     match unifier {
         OverlapUnifier::Bound(bindings) => {
             let seen = seen_bindings(alloc, &bindings.list)?;
-            Ok(SeenUnifier::Bound(seen))
+            Ok(SeenUnifier::Bound(bindings.levels, seen))
         }
         OverlapUnifier::Shared(found) => Ok(SeenUnifier::Shared(Snapshot::of(found))),
     }
@@ -216,16 +217,16 @@ fn bound_results(
     names: &mut Names,
 ) -> Result<(Term, Term), OutOfMemory>
     ensures { IfOk result (λ s. AreRenumbered
-        (apply (solution bindings.now.list.items) (tree top.now))
-        (apply (solution bindings.now.list.items) (tree left.now))
-        (apply (solution bindings.now.list.items) (tree right.now))
-        (in_order (apply (solution bindings.now.list.items) (tree top.now)))
+        (apply (solution bindings.now) (tree top.now))
+        (apply (solution bindings.now) (tree left.now))
+        (apply (solution bindings.now) (tree right.now))
+        (in_order (apply (solution bindings.now) (tree top.now)))
         (tree s.0) (tree s.1)) }
 {
     names.clear();
-    solved::name_instance(bindings, top, names)?;
-    let first = solved::renumber(alloc, bindings, left, names)?;
-    let second = solved::renumber(alloc, bindings, right, names)?;
+    solved::name_instance(bindings, top, bindings.levels, names)?;
+    let first = solved::renumber(alloc, bindings, left, bindings.levels, names)?;
+    let second = solved::renumber(alloc, bindings, right, bindings.levels, names)?;
     Ok((first, second))
 }
 

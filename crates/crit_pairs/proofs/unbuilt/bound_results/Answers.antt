@@ -14,7 +14,7 @@ name_instance-requires c = rw c.clear.ensures none_distinct
 
 pub returns : goal.returns
 returns c =
-    let top = apply (solution c.args.bindings.now.list.items) (tree c.args.top.now) in
+    let top = apply (solution c.args.bindings.now) (tree c.args.top.now) in
     let named : c.name_instance.new.names.order.items ≡ variables_of top = rw c.clear.ensures at c.in_ok-name_instance.ensures.order in
     record {
       first = c.name_instance.new.names.order.items;
