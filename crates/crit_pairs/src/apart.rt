@@ -99,6 +99,13 @@ impl<'a> RulesApart<'a> {
         self.apart[i].rule()
     }
 
+    /// The skeletons of the left sides.
+    pub fn skeletons(&self) -> &[Skeleton]
+        ensures { HaveSkeletons self.now.rules result.now }
+    {
+        &self.skeletons
+    }
+
     /// The skeleton of the left side of rule `i`.
     pub fn skeleton(&self, i: usize) -> &Skeleton
         requires { i < length self.now.rules }

@@ -1,6 +1,6 @@
 //! How many nodes the critical peaks of a system seem to have. Only time and memory depend on it.
 use crate::apart::RulesApart;
-use crate::meeting::clash;
+use crate::skeleton::Skeleton;
 use trs_core::{Rule, Term};
 
 /// The peaks of about so many outer rules are looked at, and of fewer than twice as many.
@@ -14,20 +14,22 @@ pub(crate) fn expected_nodes(rules: &RulesApart) -> u64 {
     let mut total: u64 = 0;
     for (j, outer) in all.iter().enumerate() {
         if j % step == 0 {
-            total = total.saturating_add(nodes_from(rules, outer, &outer.left));
+            if let Some(skeleton) = rules.skeletons().get(j) {
+                total = total.saturating_add(nodes_from(rules, outer, &outer.left, skeleton));
+            }
         }
     }
     total.saturating_mul(step as u64)
 }
 
 /// Those of the peaks of an outer rule at a part of its left side and below.
-fn nodes_from(rules: &RulesApart, outer: &Rule, part: &Term) -> u64 {
+fn nodes_from(rules: &RulesApart, outer: &Rule, part: &Term, skeleton: &Skeleton) -> u64 {
     match part {
         Term::Var(_) => 0,
         Term::App(f, args) => {
-            let mut total = nodes_at(rules, outer, part, *f);
-            for arg in &args.items {
-                total = total.saturating_add(nodes_from(rules, outer, arg));
+            let mut total = nodes_at(rules, outer, part, skeleton, *f);
+            for (arg, below) in args.items.iter().zip(skeleton.parts()) {
+                total = total.saturating_add(nodes_from(rules, outer, arg, below));
             }
             total
         }
@@ -35,11 +37,11 @@ fn nodes_from(rules: &RulesApart, outer: &Rule, part: &Term) -> u64 {
 }
 
 /// Those of the peaks of an outer rule at a part of its left side, which has this root.
-fn nodes_at(rules: &RulesApart, outer: &Rule, part: &Term, root: u32) -> u64 {
+fn nodes_at(rules: &RulesApart, outer: &Rule, part: &Term, skeleton: &Skeleton, root: u32) -> u64 {
     let mut count: u64 = 0;
     for i in rules.with_root(root) {
-        if let Some(inner) = rules.rules().get(*i as usize) {
-            if !clash(part, &inner.left) {
+        if let Some(inner) = rules.skeletons().get(*i as usize) {
+            if !skeleton.clashes(inner) {
                 count = count.saturating_add(1);
             }
         }
