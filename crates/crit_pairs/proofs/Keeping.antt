@@ -114,7 +114,7 @@ module _ {T S : Type 0} (rules : List RewriteRule) (peaks new : Peaks T S) (befo
 -- no peak is here
 pub none_kept : {T S : Type 0} (rules : List RewriteRule) (peaks : Peaks T S) (places : Vec ℕ) (spots : List Spot) (before : List PlacedPeak) → Keeps peaks before
     → Moves rules before peaks.nodes spots before peaks.nodes []
-    → Reaches {T = T} {S = S} rules peaks.most before peaks.nodes spots (record { list = peaks.list; most = peaks.most; count = peaks.count; nodes = peaks.nodes; places = places }) []
+    → Reaches {T = T} {S = S} rules peaks.most before peaks.nodes spots (record { list = peaks.list; most = peaks.most; count = peaks.count; nodes = peaks.nodes; places = places; names = peaks.names }) []
 none_kept rules peaks places spots before h moves = record {
   all = before;
   keeps = record { kept = h.kept; counted = h.counted; few = h.few; within = h.within };

@@ -62,11 +62,11 @@ counted_limits mid new nodes p small counted one =
 
 -- where bindings stand says nothing of the peaks
 pub adds_too : {T S : Type 0} (rules : List RewriteRule) (peaks new : Peaks T S) (places : Vec ℕ) (spots : List Spot)
-    → Adds {T = T} {S = S} rules (record { list = peaks.list; most = peaks.most; count = peaks.count; nodes = peaks.nodes; places = places }) spots new → Adds rules peaks spots new
+    → Adds {T = T} {S = S} rules (record { list = peaks.list; most = peaks.most; count = peaks.count; nodes = peaks.nodes; places = places; names = peaks.names }) spots new → Adds rules peaks spots new
 adds_too rules peaks new places spots adds = λ before h. adds before (record { kept = h.kept; counted = h.counted; few = h.few; within = h.within })
 
 pub adds_still : {T S : Type 0} (rules : List RewriteRule) (peaks new : Peaks T S) (places : Vec ℕ) (spots : List Spot)
-    → Adds rules peaks spots new → Adds {T = T} {S = S} rules peaks spots (record { list = new.list; most = new.most; count = new.count; nodes = new.nodes; places = places })
+    → Adds rules peaks spots new → Adds {T = T} {S = S} rules peaks spots (record { list = new.list; most = new.most; count = new.count; nodes = new.nodes; places = places; names = new.names })
 adds_still rules peaks new places spots adds = λ before h.
     let r = adds before h in
     record { all = r.all; keeps = record { kept = r.keeps.kept; counted = r.keeps.counted; few = r.keeps.few; within = r.keeps.within }; same_most = r.same_most; moves = r.moves }
@@ -86,10 +86,10 @@ module _ {T S : Type 0} (rules : List RewriteRule) (s : Spot) (peaks : Peaks T S
   counts_known new one full = adds_counted rules s peaks new p at one.same_most one.count (counted_limits peaks new nodes p small counted one) (ap (λ v. v.items) one.same_list) full
 
   pub lists_known : (copy : PlacedPeak) → copy ≡ p → (list : Vec PlacedPeak) (new : Peaks T S) → list.items ≡ peaks.list.items ++ copy ∷ []
-      → CountsOne {T = T} {S = S} (record { list = list; most = peaks.most; count = peaks.count; nodes = peaks.nodes; places = peaks.places }) nodes new → length peaks.list.items < peaks.most
+      → CountsOne {T = T} {S = S} (record { list = list; most = peaks.most; count = peaks.count; nodes = peaks.nodes; places = peaks.places; names = peaks.names }) nodes new → length peaks.list.items < peaks.most
       → Adds rules peaks (s ∷ []) new
   lists_known copy same list new put one room =
-      let mid : Peaks T S = record { list = list; most = peaks.most; count = peaks.count; nodes = peaks.nodes; places = peaks.places } in
+      let mid : Peaks T S = record { list = list; most = peaks.most; count = peaks.count; nodes = peaks.nodes; places = peaks.places; names = peaks.names } in
       let items : new.list.items ≡ peaks.list.items ++ p ∷ [] = ap (λ v. v.items) one.same_list ∙ put ∙ ap (λ y. peaks.list.items ++ y ∷ []) same in
       adds_listed rules s peaks new p at one.same_most one.count (counted_limits mid new nodes p small counted one) items room
 
@@ -146,7 +146,7 @@ module _ {T S : Type 0} (rules : List RewriteRule) (i j : ℕ) (p : List ℕ) (p
         cc
 
     pub lists_again : (list : Vec PlacedPeak) (new : Peaks T S) → list.items ≡ peaks.list.items ++ copy ∷ []
-        → CountsOne {T = T} {S = S} (record { list = list; most = peaks.most; count = peaks.count; nodes = peaks.nodes; places = peaks.places }) known.nodes new → length peaks.list.items < peaks.most
+        → CountsOne {T = T} {S = S} (record { list = list; most = peaks.most; count = peaks.count; nodes = peaks.nodes; places = peaks.places; names = peaks.names }) known.nodes new → length peaks.list.items < peaks.most
         → Adds rules peaks (one_spot j p i) new
     lists_again = lists_known rules (spot j p i) peaks again at_again h.added.small known.nodes h.added.counted copy copied_again
 

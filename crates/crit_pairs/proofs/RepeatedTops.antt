@@ -163,7 +163,7 @@ module _ {T S : Type 0} (rules : List RewriteRule) (i j : ℕ) (p : List ℕ) (r
         cc
 
     pub lists_beside : (list : Vec PlacedPeak) (new : Peaks T S) → list.items ≡ peaks.list.items ++ copy ∷ []
-        → CountsOne {T = T} {S = S} (record { list = list; most = peaks.most; count = peaks.count; nodes = peaks.nodes; places = peaks.places }) nodes new → length peaks.list.items < peaks.most
+        → CountsOne {T = T} {S = S} (record { list = list; most = peaks.most; count = peaks.count; nodes = peaks.nodes; places = peaks.places; names = peaks.names }) nodes new → length peaks.list.items < peaks.most
         → Adds rules peaks (one_spot j p i) new
     lists_beside = lists_known rules (spot j p i) peaks next at_next small_next nodes counted_next copy copied_next
 

@@ -1,7 +1,6 @@
 -- Places of variables that stand at their slots.
-use Rattle.std.specs.Prelude.{if◌then◌else◌, IfNone}
+use Rattle.std.specs.Prelude.{if◌then◌else◌}
 use Rattle.std.proofs.Common.{◌≡◌, ◌⊎◌, inl, inr, ℕ, zero, suc, ◌+◌, ◌-◌, ◌*◌, ◌<◌, ◌≤◌, Bool, true, false, ltb, List, [], ◌∷◌, ◌++◌, length, set, Option, Some, None, get_or, slice_get, refl, ap, sym, ◌∙◌, subst, arith}
-use native.Mathlib.Decide.{dec_lt}
 use Rattle.std.proofs.lemmas.Bool.{ltb-false, lt-ltb, le-ltb}
 use Rattle.std.proofs.lemmas.Option.{same_Some, slice_get_read}
 use Rattle.trs_defs.specs.Tree.{Tree}

@@ -1,5 +1,3 @@
-use Rattle.std.proofs.Common.{◌≡◌}
-use Rattle.crit_pairs.specs.Meeting.{AreEqualExactlyUnder}
 use Rattle.crit_pairs.proofs.Bindings.{solution_found}
 use Rattle.crit_pairs.proofs.meeting.follow.Goals as goal
 

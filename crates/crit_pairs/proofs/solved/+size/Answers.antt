@@ -4,8 +4,8 @@ use Rattle.trs_unify.specs.Bindings.{stopped_size}
 use Rattle.crit_pairs.proofs.PutIn.{unbound_instance, last_instance, further_instance, bound_measure}
 use Rattle.crit_pairs.proofs.solved.+size.Goals as goal
 
-pub size-requires-in-Some : goal.size-requires-in-Some
-size-requires-in-Some t c =
+pub size-requires : goal.size-requires
+size-requires t c =
     (omega (arith, bound_measure c.args.levels c.args.bindings.now.list.items c.in-Var.v (tree c.in-Some.bound.now) (tree c.args.t.now) c.if-levels-eq0.false (sym c.in-Some.ensures), c.decreases), tt)
 
 pub returns-in-None : goal.returns-in-None
@@ -14,12 +14,12 @@ returns-in-None t c =
 
 pub returns-then-levels-eq0 : goal.returns-then-levels-eq0
 returns-then-levels-eq0 t c =
-    subst (λ z. c.size.result ≡ stopped_size z)
+    subst (λ z. c.bound_size.result ≡ stopped_size z)
     (sym (last_instance c.args.levels c.args.bindings.now.list.items c.in-Var.v (tree c.args.t.now) (tree c.in-Some.bound.now) (ap tree c.in-Var.is) c.if-levels-eq0.true (sym c.in-Some.ensures)))
-    c.size.ensures
+    c.bound_size.ensures
 
 pub returns-else-levels-eq0 : goal.returns-else-levels-eq0
 returns-else-levels-eq0 t c =
-    subst (λ z. c.size-in-Some.result ≡ stopped_size z)
+    subst (λ z. c.size.result ≡ stopped_size z)
     (sym (further_instance c.args.levels c.args.bindings.now.list.items c.in-Var.v (tree c.args.t.now) (tree c.in-Some.bound.now) (ap tree c.in-Var.is) c.if-levels-eq0.false (sym c.in-Some.ensures)))
-    c.size-in-Some.ensures
+    c.size.ensures
