@@ -29,3 +29,6 @@ pub mod ReachLaws
 pub mod ReachOnce
 pub mod Refutations
 pub mod OutlineLaws
+pub mod TakenArguments
+pub mod CrossingLaws
+pub mod InstanceLaws

@@ -7,10 +7,10 @@ use Rattle.smallvec.specs.SmallVec.{SmallVec}
 use Rattle.term_pool.specs.declared.nodes.Node.{Node}
 use Rattle.term_pool.specs.declared.nodes.Node.TheVariants.{Var, App}
 use Rattle.std.proofs.lemmas.Option.{slice_get-map, slice_get_read, slice_get_past, same_Some}
-use Rattle.std.proofs.lemmas.List.{take_all}
+use Rattle.std.proofs.lemmas.List.{take_all, length-map}
 use Rattle.trs_defs.proofs.Positions.{IsReplacedInside, replaced_inside}
 use Rattle.trs_core.specs.declared.memory.OutOfMemory.{OutOfMemory}
-use Rattle.trs_defs.specs.Tree.{Tree, var, app, trees, items, trees_items, items_trees}
+use Rattle.trs_defs.specs.Tree.{Tree, Trees, var, app, trees, items, trees_items, items_trees}
 use Rattle.trs_defs.specs.Position.{argument_at, with_argument, replaced_at}
 use Rattle.term_pool.specs.Pooled.{StandsFor, Extends, tree_at}
 use Rattle.term_pool.specs.Placing.{HasPut}
@@ -34,6 +34,13 @@ id_tree pool id g n args xs stand is same = stands_at pool id (node_tree pool n)
 
 pub id_variable : (pool : List Tree) (id v : ℕ) (n : Node) → StandsFor pool id (node_tree pool n) → n ≡ Var v → tree_at pool id ≡ var v
 id_variable pool id v n stand is = stands_at pool id (node_tree pool n) stand ∙ ap (node_tree pool) is
+
+pub argument_count : (pool : List Tree) (id g : ℕ) (n : Node) (args : SmallVec ℕ) (xs : List ℕ) → StandsFor pool id (node_tree pool n) → n ≡ App g args → xs ≡ args.items
+    → (f : ℕ) (ts : Trees) → tree_at pool id ≡ app f ts → length xs ≡ length (items ts)
+argument_count pool id g n args xs stand is same f ts e =
+    let whole : app f ts ≡ app g (trees (map (tree_at pool) xs)) = sym e ∙ id_tree pool id g n args xs stand is same in
+    let list : ts ≡ trees (map (tree_at pool) xs) = cc in
+    sym (ap length (ap items list ∙ items_trees (map (tree_at pool) xs)) ∙ length-map xs (tree_at pool))
 
 pub argument_of : (pool : List Tree) (id g place i : ℕ) (n : Node) (args : SmallVec ℕ) (xs : List ℕ) (r : Option (Bor ℕ)) (o : Option ℕ)
     → StandsFor pool id (node_tree pool n) → n ≡ App g args → xs ≡ args.items → place ≢ 0 → i ≡ place - 1 → IsItemAt xs i r → o ≡ option_copied r

@@ -22,3 +22,5 @@ pub mod LeftSides
 pub mod Reaching
 pub mod Outlines
 pub mod Hashed
+pub mod Crossing
+pub mod Instances

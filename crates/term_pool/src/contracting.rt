@@ -1,5 +1,5 @@
-ghost use Rattle.std.specs.Prelude.{◌≡◌, ◌<◌, Some, length, IsTrue, IfOk, IfSome, IfNone};
-ghost use Rattle.trs_defs.specs.Size.{within_limits};
+ghost use Rattle.std.specs.Prelude.{◌≡◌, ◌<◌, false, Some, length, IsTrue, IfOk, IfSome, IfNone};
+ghost use Rattle.trs_defs.specs.Size.{size_of, within_limits};
 ghost use Rattle.trs_defs.specs.Position.{subterm_at};
 ghost use Rattle.trs_core.specs.View.{tree};
 ghost use Rattle.term_pool.specs.Pooled.{Extends, tree_at};
@@ -78,6 +78,20 @@ impl Pool {
             return Ok(None);
         }
         Ok(Some(new))
+    }
+
+    /// The number of nodes of an id's term. `None` where the term passes the limits.
+    pub fn small_size(&self, id: u32) -> Option<u64>
+        requires { id < length self.now }
+        ensures large { IfNone result (within_limits (tree_at self.now id) ≡ false) }
+        ensures small { IfSome result (λ _. IsTrue (within_limits (tree_at self.now id))) }
+        ensures size { IfSome result (λ n. n ≡ size_of (tree_at self.now id)) }
+    {
+        if self.keeps_limits(id) {
+            Some(self.size(id))
+        } else {
+            None
+        }
     }
 
     /// Whether the id's term keeps the limits.

@@ -1,5 +1,5 @@
-ghost use Rattle.std.specs.Prelude.{◌≡◌, ◌<◌, ◌≤◌, ◌+◌, length, IfOk, IfErr, IfSome, IfNone};
-ghost use Rattle.trs_defs.specs.Tree.{Trees, app};
+ghost use Rattle.std.specs.Prelude.{◌≡◌, ◌<◌, ◌≤◌, ◌+◌, ℕ, All, length, map, IfOk, IfErr, IfSome, IfNone};
+ghost use Rattle.trs_defs.specs.Tree.{Trees, app, items, trees, var};
 ghost use Rattle.trs_defs.specs.Size.{size_of};
 ghost use Rattle.trs_defs.specs.Variable.{IsVariable};
 ghost use Rattle.trs_core.specs.View.{tree};
@@ -76,5 +76,35 @@ impl Pool {
             Node::Var(_) => None,
             Node::App(f, _) => Some(*f),
         }
+    }
+
+    /// How many arguments the root of an id's term has.
+    pub fn arity(&self, id: u32) -> usize
+        requires { id < length self.now }
+        ensures { (f : ℕ) (ts : Trees) → tree_at self.now id ≡ app f ts
+            → result ≡ length (items ts) }
+    {
+        match self.node(id) {
+            Node::Var(_) => 0,
+            Node::App(_, args) => args.as_slice().len(),
+        }
+    }
+
+    /// The id of a variable.
+    pub fn variable(&mut self, v: u32) -> Result<u32, OutOfMemory>
+        ensures id { IfOk result (λ id. StandsFor self.new id (var v)) }
+        ensures kept { Extends self.old self.new }
+    {
+        self.add(Node::Var(v))
+    }
+
+    /// The id of the term of a symbol over the terms of these ids.
+    pub fn apply(&mut self, alloc: Global, f: u32, args: &[u32]) -> Result<u32, OutOfMemory>
+        requires { All (λ i. i < length self.old) args.now }
+        ensures id { IfOk result (λ id. StandsFor self.new id
+            (app f (trees (map (tree_at self.old) args.now)))) }
+        ensures kept { Extends self.old self.new }
+    {
+        self.add(Node::App(f, SmallVec::from_slice(alloc, args)?))
     }
 }

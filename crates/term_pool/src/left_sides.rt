@@ -61,7 +61,7 @@ impl Pool {
     }
 
     /// Of each id, whether its term has no variable.
-    fn ground_marks(&self, alloc: Global) -> Result<Vec<bool>, OutOfMemory>
+    pub fn ground_marks(&self, alloc: Global) -> Result<Vec<bool>, OutOfMemory>
         ensures { IfOk result (λ marks. AreGround self.now marks.items) }
     {
         let mut marks = Vec::with_capacity(alloc, self.len() as usize)?;
@@ -175,7 +175,7 @@ fn is_same(last: Option<u32>, id: u32) -> bool
 }
 
 /// Whether the id is marked.
-fn is_marked(marks: &[bool], id: u32) -> bool
+pub(crate) fn is_marked(marks: &[bool], id: u32) -> bool
     ensures { IsTrue result → slice_get marks.now id ≡ Some true }
 {
     match marks.get(id as usize) {

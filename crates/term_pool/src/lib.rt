@@ -6,6 +6,7 @@
 
 mod bindings;
 mod contracting;
+mod crossing;
 mod distinct;
 mod instances;
 mod interning;
@@ -17,6 +18,7 @@ mod matching;
 mod narrow;
 mod nodes;
 mod normal;
+mod noted_instances;
 mod outlines;
 mod outlining;
 mod paths;
@@ -28,9 +30,11 @@ mod roots;
 mod running;
 mod steps;
 
+pub use crossing::KnownIds;
 pub use distinct::ids_are_distinct;
 pub use known::Known;
 pub use narrow::paths_keep_narrow;
+pub use noted_instances::Instances;
 pub use paths::{PathFault, PathStep, one_longer};
 pub use pools::Pool;
 pub use roots::RulesByRoot;

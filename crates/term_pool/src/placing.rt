@@ -56,7 +56,7 @@ impl Pool {
 
     /// The id of a term with another subterm at a position. Only the nodes on the way to it are
     /// made, and none where it is the subterm that stands there.
-    pub(crate) fn put(
+    pub fn put(
         &mut self,
         alloc: Global,
         id: u32,

@@ -93,6 +93,14 @@ impl Pool {
         }
     }
 
+    /// The number of nodes of an id's term, shared or not. It stands still at the last `u32`.
+    pub fn size(&self, id: u32) -> u64
+        requires { id < length self.now }
+        ensures { result ≡ min (size_of (tree_at self.now id)) u32.MAX }
+    {
+        u64::from(self.measure(id).size)
+    }
+
     /// The id of a node's term, which is made if no id stands for it yet. Where all ids are taken,
     /// memory has run out.
     pub(crate) fn add(&mut self, node: Node) -> Result<u32, OutOfMemory>
