@@ -10,7 +10,7 @@ use crate::covering::joined_list_concludes;
 use crate::ends::{ItemPath, meet};
 use crate::pooled::pooled_peaks_are_joined;
 use crit_pairs::PooledPeaks;
-use rewrite_core::{CheckFault, Join, Peak, PeakSide, StepRefused, Top};
+use rewrite_core::{BuiltTop, CheckFault, Join, Peak, StepRefused};
 use std::alloc::Global;
 use trs_core::Trs;
 
@@ -51,7 +51,7 @@ pub fn join_check(
 }
 
 /// Sees that there is an item for each peak, and that its paths join the peak.
-fn peaks_are_joined<T: Top>(
+fn peaks_are_joined<T: BuiltTop>(
     alloc: Global,
     trs: &Trs,
     peaks: &[Peak<T>],
@@ -69,7 +69,7 @@ fn peaks_are_joined<T: Top>(
 }
 
 /// Sees that the two paths of item number `n` lead from the sides of a peak to one term.
-pub fn peak_is_joined<T: Top>(
+pub fn peak_is_joined<T: BuiltTop>(
     alloc: Global,
     trs: &Trs,
     n: u64,
@@ -79,12 +79,12 @@ pub fn peak_is_joined<T: Top>(
     ensures answers { Answers (joins trs.now.rules n peak.now join.now) result }
 {
     let left = ItemPath {
-        start: peak.left.term(),
+        start: T::term(&peak.left),
         steps: &join.left,
         number: 0,
     };
     let right = ItemPath {
-        start: peak.right.term(),
+        start: T::term(&peak.right),
         steps: &join.right,
         number: 1,
     };

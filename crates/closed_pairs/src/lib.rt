@@ -14,7 +14,9 @@ mod pooled;
 mod pooled_closings;
 mod strong;
 
-pub use crit_pairs::{first_peaks, listed_peaks_cover, peaks_are_listed_once, top_of};
+pub use crit_pairs::{
+    PeakPair, PeakPairs, first_peaks, listed_peaks_cover, peaks_are_listed_once, top_of,
+};
 pub use joined::{join_check, newman_check, peak_is_joined};
 pub use laws::{
     joined_peaks_conclude, parallel_closed_peaks_conclude, strongly_closed_peaks_conclude,

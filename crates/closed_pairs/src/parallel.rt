@@ -15,7 +15,7 @@ use crate::ends::{ItemPath, end_of, run, same_ends};
 use crate::linear::left_linear_check;
 use crate::pooled_closings::pooled_peaks_are_closed;
 use crit_pairs::PooledPeaks;
-use rewrite_core::{CheckFault, PathStep, Peak, PeakSide, StepRefused, Top};
+use rewrite_core::{BuiltTop, CheckFault, PathStep, Peak, StepRefused};
 use std::alloc::Global;
 use trs_core::Trs;
 
@@ -70,7 +70,7 @@ pub fn parallel_check(
 
 /// Sees that there is an item for each peak, which is one parallel step from its left side to its
 /// right one.
-fn peaks_are_closed<T: Top>(
+fn peaks_are_closed<T: BuiltTop>(
     alloc: Global,
     trs: &Trs,
     peaks: &[Peak<T>],
@@ -89,7 +89,7 @@ fn peaks_are_closed<T: Top>(
 }
 
 /// Sees that item number `n` is one parallel step from the left side of a peak to its right one.
-fn peak_is_closed<T: Top>(
+fn peak_is_closed<T: BuiltTop>(
     alloc: Global,
     trs: &Trs,
     n: u64,
@@ -101,14 +101,14 @@ fn peak_is_closed<T: Top>(
     if !is_parallel(path) {
         return Err(CheckFault::Refused(StepRefused::NotParallel(n)));
     }
-    let left = peak.left.term();
+    let left = T::term(&peak.left);
     let path = ItemPath {
         start: left,
         steps: path,
         number: 0,
     };
     let made = run(alloc, trs, n, &path)?;
-    same_ends(end_of(left, &made), peak.right.term(), n)
+    same_ends(end_of(left, &made), T::term(&peak.right), n)
 }
 
 /// Whether the path is one parallel step, written from the left: each position stands before the

@@ -12,7 +12,7 @@ use crate::counting::peaks_for;
 use crate::covering::strong_list_concludes;
 use crate::ends::{ItemPath, meet};
 use crate::linear_check;
-use rewrite_core::{CheckFault, PathStep, Peak, PeakSide, StepRefused, Top, copy_path};
+use rewrite_core::{BuiltTop, CheckFault, PathStep, Peak, StepRefused, copy_path};
 use std::alloc::Global;
 use std::marker::Model;
 use trs_core::{OutOfMemory, Trs};
@@ -82,7 +82,7 @@ pub fn strong_check(
 }
 
 /// Sees that there is an item for each peak, which joins it strongly.
-fn peaks_are_joined_strongly<T: Top>(
+fn peaks_are_joined_strongly<T: BuiltTop>(
     alloc: Global,
     trs: &Trs,
     peaks: &[Peak<T>],
@@ -100,7 +100,7 @@ fn peaks_are_joined_strongly<T: Top>(
 }
 
 /// Sees that item number `n` joins a peak strongly, from its left side and then from its right.
-fn peak_is_joined_strongly<T: Top>(
+fn peak_is_joined_strongly<T: BuiltTop>(
     alloc: Global,
     trs: &Trs,
     n: u64,
@@ -110,23 +110,23 @@ fn peak_is_joined_strongly<T: Top>(
     ensures { Answers (joins_strongly trs.now.rules n peak.now four.now) result }
 {
     let left_u = ItemPath {
-        start: peak.left.term(),
+        start: T::term(&peak.left),
         steps: &four.left_u,
         number: 0,
     };
     let right_u = ItemPath {
-        start: peak.right.term(),
+        start: T::term(&peak.right),
         steps: &four.right_u,
         number: 1,
     };
     half(alloc, trs, n, &left_u, &right_u)?;
     let right_v = ItemPath {
-        start: peak.right.term(),
+        start: T::term(&peak.right),
         steps: &four.right_v,
         number: 2,
     };
     let left_v = ItemPath {
-        start: peak.left.term(),
+        start: T::term(&peak.left),
         steps: &four.left_v,
         number: 3,
     };

@@ -15,7 +15,7 @@ use crit_pairs::{
     Peak, PeakFault, PeakPair, PeakTable, first_peaks, is_large_result, shared_peaks,
 };
 use path_lpo::Lpo;
-use rewrite_core::{CheckFault, PeakSide, Top};
+use rewrite_core::{BuiltTop, CheckFault};
 use std::alloc::Global;
 use trs_core::{OutOfMemory, Rule, Trs, systems_are_valid};
 
@@ -273,7 +273,7 @@ fn is_settled(found: &Outcome, count: u64, most: usize) -> bool
 }
 
 /// The first peak that is not passed over.
-fn find<T: Top>(
+fn find<T: BuiltTop>(
     alloc: Global,
     order: &Lpo,
     system: &GrowingTrs,
@@ -295,8 +295,8 @@ fn find<T: Top>(
             order,
             system,
             met,
-            peak.left.term(),
-            peak.right.term(),
+            T::term(&peak.left),
+            T::term(&peak.right),
             left,
         )? {
             Outcome::Passed(more) => left = more,

@@ -14,7 +14,7 @@ mod sides;
 pub use forks::ForkTest;
 pub use joins::{Join, copy_path};
 pub use path_check::{end_in_pool, end_of_path};
-pub use peaks::{Peak, Top};
+pub use peaks::{BuiltTop, Peak, Top};
 pub use reasons::RefusalFields;
 pub use refusals::{CheckFault, StepRefused};
 pub use sides::{PeakSide, SharedSide};

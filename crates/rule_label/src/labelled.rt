@@ -9,7 +9,7 @@ ghost use Rattle.rule_label.specs.Labelled.{label_conditions, labels_must_fit};
 use crate::covering::decreasing_list_concludes;
 use crate::fitting::{rank_of, ranks_fit};
 use closed_pairs::{first_peaks, linear_check, peak_is_joined};
-use rewrite_core::{CheckFault, Join, PathStep, Peak, StepRefused, Top};
+use rewrite_core::{BuiltTop, CheckFault, Join, PathStep, Peak, StepRefused};
 use std::alloc::Global;
 use trs_core::Trs;
 
@@ -53,7 +53,7 @@ pub fn label_check(
 
 /// Sees that there is a rank for each rule and an item for each peak, and that the paths of the
 /// item join the peak, with ranks that fit.
-fn peaks_are_decreasing<T: Top>(
+fn peaks_are_decreasing<T: BuiltTop>(
     alloc: Global,
     trs: &Trs,
     peaks: &[Peak<T>],
@@ -84,7 +84,7 @@ fn ranks_are_counted(trs: &Trs, ranks: &[u64]) -> Result<(), CheckFault>
 }
 
 /// Sees that the paths of item number `n` join a peak, with ranks that fit.
-fn peak_is_decreasing<T: Top>(
+fn peak_is_decreasing<T: BuiltTop>(
     alloc: Global,
     trs: &Trs,
     ranks: &[u64],

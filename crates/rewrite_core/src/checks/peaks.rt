@@ -20,6 +20,22 @@ impl Top for Term {
     ghost top_tree = { tree };
 }
 
+/// A top of a peak whose sides are terms.
+pub trait BuiltTop: Top {
+    ghost use Rattle.std.specs.Prelude.{◌≡◌};
+    ghost use Rattle.trs_core.specs.View.{tree};
+
+    /// The term of a side.
+    fn term<'s>(side: &'s Self::Side) -> &'s Term
+        ensures { tree result.now ≡ Self.Side.side_tree side.now };
+}
+
+impl BuiltTop for Term {
+    fn term<'s>(side: &'s Term) -> &'s Term {
+        side
+    }
+}
+
 /// A peak of two rules, whose numbers count from 0: the inner rule leads from the top to the left,
 /// at the place, and the outer rule at the root to the right. (Baader and Nipkow, section 6.2.)
 #[derive(Drop)]

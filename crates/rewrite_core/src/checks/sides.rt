@@ -2,25 +2,15 @@ use trs_core::Term;
 
 /// A side of a peak: a term, or what stands for one. Contracts see its tree.
 pub trait PeakSide: Drop {
-    ghost use Rattle.std.specs.Prelude.{◌≡◌};
     ghost use Rattle.trs_defs.specs.Tree.{Tree};
-    ghost use Rattle.trs_core.specs.View.{tree};
 
     ghost side_tree: { Self → Tree };
-
-    /// The term of the side.
-    fn term(&self) -> &Term
-        ensures { tree result.now ≡ Self.side_tree self.now };
 }
 
 impl PeakSide for Term {
     ghost use Rattle.trs_core.specs.View.{tree};
 
     ghost side_tree = { tree };
-
-    fn term(&self) -> &Term {
-        self
-    }
 }
 
 /// A side that is a term of its own, or one that is lent, so that many peaks share it.
@@ -34,8 +24,17 @@ impl<'a> PeakSide for SharedSide<'a> {
     ghost use Rattle.rewrite_core.specs.SharedSide.{shared_tree};
 
     ghost side_tree = { shared_tree };
+}
 
-    fn term(&self) -> &Term {
+impl<'a> SharedSide<'a> {
+    ghost use Rattle.std.specs.Prelude.{◌≡◌};
+    ghost use Rattle.trs_core.specs.View.{tree};
+    ghost use Rattle.rewrite_core.specs.SharedSide.{shared_tree};
+
+    /// The term of the side.
+    pub fn term(&self) -> &Term
+        ensures { tree result.now ≡ shared_tree self.now }
+    {
         match self {
             SharedSide::Own(t) => t,
             SharedSide::Shared(shared) => shared,
