@@ -1,10 +1,9 @@
 //! How much a step makes a term larger.
 ghost use Rattle.std.specs.Prelude.{◌≡◌, ◌≤◌, ◌+◌, ◌*◌, IsTrue};
 ghost use Rattle.trs_defs.specs.Size.{size_of};
-ghost use Rattle.trs_core.specs.View.{tree};
 ghost use Rattle.path_lists.specs.Growth.{GrowsBy, AreRightLinear};
 
-use trs_core::{Rule, Term, Trs};
+use trs_core::{Rule, Trs};
 
 const MOST_NODES: u64 = 4_096;
 
@@ -35,10 +34,10 @@ fn larger(a: u64, b: u64) -> u64
     if a < b { b } else { a }
 }
 
-/// Whether a term has at most 4,096 nodes even after four steps that each make it so much larger.
-pub(crate) fn stays_small(start: &Term, growth: u64) -> bool
-    ensures { IsTrue result → size_of (tree start.now) + 4 * growth ≤ 4096 }
+/// Whether a term of this size has at most 4,096 nodes even after four steps that each make it so
+/// much larger.
+pub(crate) fn stays_small(size: u64, growth: u64) -> bool
+    ensures { IsTrue result → size + 4 * growth ≤ 4096 }
 {
-    let size = start.size();
     size <= MOST_NODES && growth <= MOST_NODES && size + 4 * growth <= MOST_NODES
 }

@@ -13,4 +13,4 @@ mod room;
 pub use growth::growth_of;
 pub use known_ends::KnownEnds;
 pub use laws::{listed_paths_lead, path_lists_are_one};
-pub use paths::{MOST_OF_PATHS, paths_with};
+pub use paths::{MOST_OF_ENDS, MOST_OF_PATHS, paths_from, paths_with};

@@ -33,15 +33,61 @@ const MOST_NODES: u64 = 4_096;
 /// The fewest reducts that are noted of a term that has some. Fewer are made again in less time.
 const FEWEST_NOTED: usize = 4;
 
+/// The most ids that the paths from an id add to a pool.
+pub const MOST_OF_ENDS: u32 = 1_048_576;
+
 /// The most ids that a term, and its paths, add to a pool.
 pub const MOST_OF_PATHS: u32 = 1_114_112;
 
-/// The paths from a term, of up to 4 steps, with the ids of their ends: by their length, then by
-/// the order of the path without its last step, then by that of the redexes. Ends of more than
-/// 4,096 nodes or past a limit are left out; of the others the list has the first 256. `growth`
-/// is by how many nodes a step makes a term larger at most: where the ends must be small by that,
-/// or by the right sides of the rules along a path, their nodes are not counted.
+/// The paths from the term of an id, of up to 4 steps, with the ids of their ends: by their length,
+/// then by the order of the path without its last step, then by that of the redexes. Ends of more
+/// than 4,096 nodes or past a limit are left out; of the others the list has the first 256.
+/// `growth` is by how many nodes a step makes a term larger at most: where the ends must be small by
+/// that, or by the right sides of the rules along a path, their nodes are not counted.
 /// What is known of ends in the pool is looked up, and what else is found out of them is noted.
+pub fn paths_from(
+    alloc: Global,
+    pool: &mut Pool,
+    trs: &Trs,
+    by_root: &RulesByRoot,
+    start: u32,
+    growth: u64,
+    ends: &mut KnownEnds,
+) -> Result<Vec<(u32, Vec<PathStep>)>, OutOfMemory>
+    requires table { by_root.now ≡ trs.now }
+    requires there { start < length pool.old }
+    requires small { IsTrue (within_limits (tree_at pool.old start)) }
+    requires narrow { IsNarrow (tree_at pool.old start) }
+    requires grows { GrowsBy trs.now.rules growth }
+    requires ends { AreKnownEnds trs.now.rules pool.old ends.old }
+    ensures list { IfOk result (λ found.
+        IsPathList trs.now.rules (tree_at pool.old start) (listed_at pool.new found.items)) }
+    ensures there { IfOk result (λ found. All (λ e. e.0 < length pool.new) found.items) }
+
+    // The ids that were there keep their terms.
+    ensures kept { Extends pool.old pool.new }
+    ensures few { IfOk result (λ _. length pool.new ≤ length pool.old + MOST_OF_ENDS) }
+    ensures ends { OnOk result (AreKnownEnds trs.now.rules pool.new ends.new) }
+{
+    paths_keep_narrow(trs);
+    let nodes = pool.size(start);
+    let is_sure = stays_small(nodes, growth);
+    let room = Room {
+        start: nodes,
+        growth,
+        is_sure,
+    };
+    let mut paths = Vec::new(alloc);
+    paths.push((start, Vec::new(alloc)))?;
+    let mut next = 0;
+    while next < paths.len() && paths.len() < MOST_PATHS {
+        add_longer(alloc, pool, trs, by_root, room, next, ends, &mut paths)?;
+        next += 1;
+    }
+    Ok(paths)
+}
+
+/// The same paths, from a term that may have no id yet.
 pub fn paths_with(
     alloc: Global,
     pool: &mut Pool,
@@ -65,22 +111,8 @@ pub fn paths_with(
     ensures few { IfOk result (λ _. length pool.new ≤ length pool.old + MOST_OF_PATHS) }
     ensures ends { OnOk result (AreKnownEnds trs.now.rules pool.new ends.new) }
 {
-    paths_keep_narrow(trs);
-    let is_sure = stays_small(start, growth);
-    let room = Room {
-        start: start.size(),
-        growth,
-        is_sure,
-    };
     let id = pool.intern(alloc, start)?;
-    let mut paths = Vec::new(alloc);
-    paths.push((id, Vec::new(alloc)))?;
-    let mut next = 0;
-    while next < paths.len() && paths.len() < MOST_PATHS {
-        add_longer(alloc, pool, trs, by_root, room, next, ends, &mut paths)?;
-        next += 1;
-    }
-    Ok(paths)
+    paths_from(alloc, pool, trs, by_root, id, growth, ends)
 }
 
 /// An id of the list, with its path.

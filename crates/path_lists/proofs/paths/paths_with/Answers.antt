@@ -1,62 +1,47 @@
-use Rattle.std.proofs.Common.{◌≡◌, ◌++◌, [], ◌∷◌, ◌∙◌, ◌<◌, ap, length, arith}
-use Rattle.std.proofs.lemmas.Option.{slice_get_within}
+use Rattle.std.proofs.Common.{◌≡◌, ◌≤◌, ◌+◌, ℕ, IsTrue, Result, Ok, Err, IfOk, length, sym, subst, arith}
+use Rattle.trs_defs.specs.Tree.{Tree}
+use Rattle.trs_defs.specs.Size.{within_limits}
 use Rattle.trs_defs.proofs.Limits.{limits_size}
 use Rattle.trs_core.specs.View.{tree}
-use Rattle.term_pool.specs.ListedIds.{listed, listed_at}
+use Rattle.term_pool.specs.Pooled.{tree_at}
+use Rattle.term_pool.specs.ListedIds.{listed_at}
+use Rattle.term_pool.specs.Redexes.{IsNarrow}
+use Rattle.term_pool.proofs.PoolTrees.{stands_at, stands_within}
 use Rattle.term_pool.proofs.Extending.{extends_on}
-use Rattle.term_pool.proofs.ReachedIds.{length_listed}
+use Rattle.path_lists.specs.PathList.{IsPathList}
 use Rattle.path_lists.proofs.KnownReducts.{still_known}
-use Rattle.path_lists.proofs.Growing.{short_paths_keep_small}
-use Rattle.path_lists.proofs.Longer.{begun, begun_below, entry_listed, entry_there, follows_there, looked_at_one_more, not_fewer}
-use Rattle.path_lists.proofs.paths.paths_with.Goals.{In_ok-push}
+use Rattle.path_lists.proofs.paths.paths_with.Goals.{In_ok-id}
 use Rattle.path_lists.proofs.paths.paths_with.Goals as goal
 
-one : (c : In_ok-push) → c.push.new.self.items ≡ (c.in_ok-id.id, c.new.result) ∷ []
-one c = c.in_ok-push.ensures.items ∙ ap (λ l. l ++ (c.in_ok-id.id, c.new.result) ∷ []) c.new-paths.ensures.items
+same : (c : In_ok-id) → tree_at c.intern.new.self c.in_ok-id.id ≡ tree c.args.start.now
+same c = stands_at c.intern.new.self c.in_ok-id.id (tree c.args.start.now) c.in_ok-id.ensures.id
 
-pub loop-next-init : goal.loop-next-init
-loop-next-init c =
-    let is = one (goal.at.loop-next-init c).In_ok-push in
-    let count = ap length is in
+-- the term's own ids come to those of the ends
+few_in_all : {X E : Type 0} (r : Result X E) (first next last : ℕ) → next ≤ first + 65536 → IfOk r (λ _. last ≤ next + 1048576) → IfOk r (λ _. last ≤ first + 1114112)
+few_in_all (Ok found) first next last own ends = omega (arith, own, ends)
+few_in_all (Err e) first next last own ends = tt
+
+pub paths_from-requires-clause-there : goal.paths_from-requires-clause-there
+paths_from-requires-clause-there c = stands_within c.intern.new.self c.in_ok-id.id (tree c.args.start.now) c.in_ok-id.ensures.id
+
+pub paths_from-requires-clause-small : goal.paths_from-requires-clause-small
+paths_from-requires-clause-small c = subst (λ t. IsTrue (within_limits t)) (sym (same (goal.at.paths_from-requires-clause-small c).In_ok-id)) c.requires.small
+
+pub paths_from-requires-clause-narrow : goal.paths_from-requires-clause-narrow
+paths_from-requires-clause-narrow c = subst IsNarrow (sym (same (goal.at.paths_from-requires-clause-narrow c).In_ok-id)) c.requires.narrow
+
+pub paths_from-requires-clause-ends : goal.paths_from-requires-clause-ends
+paths_from-requires-clause-ends c = still_known c.args.trs.now.rules c.args.pool.now c.intern.new.self c.in_ok-id.ensures.kept c.args.ends.now c.requires.ends
+
+pub returns-clause-list : goal.returns-clause-list
+returns-clause-list c =
+    let P : Tree → Type 0 = λ t. IfOk c.paths_from.result (λ found. IsPathList c.args.trs.now.rules t (listed_at c.paths_from.new.pool found.items)) in
+    subst P (same (goal.at.returns-clause-list c).In_ok-id) c.paths_from.ensures.list
+
+pub returns-clause-kept : goal.returns-clause-kept
+returns-clause-kept c = extends_on c.args.pool.now c.intern.new.self c.paths_from.new.pool c.in_ok-id.ensures.kept c.paths_from.ensures.kept
+
+pub returns-clause-few : goal.returns-clause-few
+returns-clause-few c =
     let size = limits_size (tree c.args.start.now) c.requires.small in
-    record {
-      looked = begun c.args.trs.now.rules (tree c.args.start.now) c.intern.new.self c.in_ok-id.id c.new.result c.push.new.self.items is c.new.ensures.items c.in_ok-id.ensures.id;
-      below = begun_below (tree c.args.start.now) c.intern.new.self c.in_ok-id.id c.new.result c.push.new.self.items is c.in_ok-id.ensures.id;
-      kept = c.in_ok-id.ensures.kept;
-      room = omega (arith, count, size, c.in_ok-id.ensures.few);
-      next = omega arith;
-      short = omega (arith, count);
-      ends = still_known c.args.trs.now.rules c.args.pool.now c.intern.new.self c.in_ok-id.ensures.kept c.args.ends.now c.requires.ends;
-    }
-
-pub add_longer-requires-clause-on : goal.add_longer-requires-clause-on
-add_longer-requires-clause-on c = λ e at.
-    let follows = follows_there c.args.trs.now.rules (tree c.args.start.now) c.loop-next.pool c.loop-next.paths.items c.loop-next.next e c.loop-next.invariant.looked at in
-    let size = limits_size (tree c.args.start.now) c.requires.small in
-    record {
-      narrow = c.paths_keep_narrow.ensures e.1.items (tree c.args.start.now) (listed c.loop-next.pool e).term follows c.requires.narrow;
-      sure = λ sure. short_paths_keep_small c.args.trs.now.rules c.args.growth (tree c.args.start.now) (listed c.loop-next.pool e) c.requires.grows follows (c.stays_small-is_sure.ensures sure);
-      from = record { start = tree c.args.start.now; small = omega (arith, size, c.size.ensures); follows = follows };
-    }
-
-pub loop-next-preserved : goal.loop-next-preserved
-loop-next-preserved c =
-    let i = c.loop-next.invariant in
-    let (e, at) = entry_there c.loop-next.paths.items c.loop-next.next (omega (arith, c.loop-next-test.true, c.loop-next.paths.ok.0)) in
-    let found = listed_at c.loop-next.pool c.loop-next.paths.items in
-    let new = listed_at c.add_longer.new.pool c.add_longer.new.paths.items in
-    let adds = c.in_ok-add_longer.ensures.adds e at in
-    let there = entry_listed c.loop-next.pool c.loop-next.paths.items c.loop-next.next e at in
-    let below : c.loop-next.next < length found = slice_get_within found c.loop-next.next (listed c.loop-next.pool e) there in
-    let count = length_listed c.loop-next.pool c.loop-next.paths.items in
-    let longer = not_fewer _ c.loop-next.pool c.add_longer.new.pool c.loop-next.paths.items c.add_longer.new.paths.items adds i.short in
-    let room = adds.room in
-    record {
-      looked = looked_at_one_more c.args.trs.now.rules (tree c.args.start.now) c.loop-next.next found new adds.candidates (listed c.loop-next.pool e) there below (omega (arith, count, i.short)) i.looked adds.are_candidates adds.longer;
-      below = adds.below;
-      kept = extends_on c.args.pool.now c.loop-next.pool c.add_longer.new.pool i.kept c.in_ok-add_longer.ensures.kept;
-      room = (let was = i.room in omega (arith, room, was));
-      next = omega (arith, below, longer, count);
-      short = adds.few;
-      ends = c.in_ok-add_longer.ensures.ends;
-    }
+    few_in_all c.paths_from.result (length c.args.pool.now) (length c.intern.new.self) (length c.paths_from.new.pool) (omega (arith, size, c.in_ok-id.ensures.few)) c.paths_from.ensures.few
