@@ -18,7 +18,7 @@ peaks_not_listed rules fault.TooLarge h = too_large (h (λ e. absurd cc))
 peaks_not_listed rules fault.TooMany h = too_many (h (λ e. absurd cc))
 peaks_not_listed rules fault.OutOfMemory h = tt
 
-pub first_listed : {T S : Type 0} (rules : List RewriteRule) (most : ℕ) (walked : Peaks T S) (found : FirstPeaks) → found.peaks.items ≡ walked.list.items → found.count ≡ walked.count
+pub first_listed : {T M S : Type 0} (rules : List RewriteRule) (most : ℕ) (walked : Peaks T M S) (found : FirstPeaks) → found.peaks.items ≡ walked.list.items → found.count ≡ walked.count
     → HasFirst rules most walked → AreFirst rules most found
 first_listed rules most walked found same_list same_count h = record {
   all = h.all;

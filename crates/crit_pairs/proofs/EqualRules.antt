@@ -142,7 +142,7 @@ unknown_behind rules j p pool known new put h = λ k x there.
           subst K (sym e.1) tt
     ]
 
-item_of_set : {T : Type 0} (xs : List T) (n : ℕ) (x : T) (k : ℕ) (y : T) → slice_get (slice_set xs n x) k ≡ Some y → ((k ≡ n) × (y ≡ x)) ⊎ (slice_get xs k ≡ Some y)
+pub item_of_set : {T : Type 0} (xs : List T) (n : ℕ) (x : T) (k : ℕ) (y : T) → slice_get (slice_set xs n x) k ≡ Some y → ((k ≡ n) × (y ≡ x)) ⊎ (slice_get xs k ≡ Some y)
 item_of_set [] n x k y e = inr e
 item_of_set (z ∷ xs) zero x zero y e = inl (refl, same_Some y x (sym e))
 item_of_set (z ∷ xs) zero x (suc k) y e = inr e

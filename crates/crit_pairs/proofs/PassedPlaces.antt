@@ -30,7 +30,7 @@ behind rules from to lead [] total answer l = lead total answer l
 behind rules from to lead (s ∷ first) total answer l = after_spot rules (first ++ from) (first ++ to) (behind rules from to lead first) s total answer l
 
 -- what adds the peaks at the second spots, adds those at the first
-pub adds_as_well : {T S : Type 0} (rules : List RewriteRule) (from to : List Spot) (old new : Peaks T S) → LeadAsWell rules from to → Adds rules old to new → Adds rules old from new
+pub adds_as_well : {T M S : Type 0} (rules : List RewriteRule) (from to : List Spot) (old new : Peaks T M S) → LeadAsWell rules from to → Adds rules old to new → Adds rules old from new
 adds_as_well rules from to old new lead adds = λ before h.
     let r = adds before h in
     record {

@@ -3,7 +3,7 @@ use Rattle.std.proofs.Common.{◌≡◌, ◌<◌, ◌≤◌, ℕ, List, Some, If
 use Rattle.std.specs.Prelude.{◌↔◌, ◌==◌}
 use Rattle.std.proofs.lemmas.Bool.Decides.{nat_tests}
 use Rattle.std.proofs.lemmas.List.{take_all, take-take, length-take-le}
-use Rattle.std.proofs.lemmas.Option.{same_Some, slice_get_read}
+use Rattle.std.proofs.lemmas.Option.{slice_get_read}
 use Rattle.trs_defs.specs.Tree.{Tree}
 use Rattle.trs_defs.specs.System.{RewriteRule}
 use Rattle.term_pool.specs.Pooled.{AreDistinct, Extends, StandsFor, tree_at}
@@ -16,7 +16,7 @@ use Rattle.crit_pairs.specs.PooledPeaks.{HoldsPeaks, ArePooled, AreSides}
 use Rattle.crit_pairs.specs.declared.pooled.PooledPeaks.{PooledPeaks}
 use Rattle.crit_pairs.specs.declared.table.PeakPair.{PeakPair}
 use Rattle.crit_pairs.specs.declared.table.PeakTable.{PeakTable}
-use Rattle.crit_pairs.proofs.TableLaws.{pairs_count, peak_of_pair}
+use Rattle.crit_pairs.proofs.TableLaws.{pairs_count, pair_of_peak}
 
 -- ids below a mark in a longer pool
 pub kept_below : (n : ℕ) (pool next : List Tree) → Extends pool next → n ≤ length pool → take n next ≡ take n pool
@@ -76,13 +76,12 @@ same_ids pool a b distinct first second = (
 pub sides_there : (peaks : List PlacedPeak) (p : PlacedPeak) (held : PooledPeaks) (n : ℕ) (pair : PeakPair) → pair ≡ get_or held.pairs.items n pair → n < length held.pairs.items → HoldsPeaks peaks held
     → slice_get peaks n ≡ Some p → AreSides held pair p
 sides_there peaks p held n pair read less h there =
-    let (q, at, is) = peak_of_pair h.stand n pair (slice_get_read held.pairs.items (length held.pairs.items) n pair refl less read) in
-    let same : q ≡ p = same_Some q p (sym at ∙ there) in
-    let left : StandsFor held.pool pair.left q.left = taken_item held.base held.pool pair.left q.left is.0 in
-    let right : StandsFor held.pool pair.right q.right = taken_item held.base held.pool pair.right q.right is.1 in
+    let is = pair_of_peak h.stand n pair p (slice_get_read held.pairs.items (length held.pairs.items) n pair refl less read) there in
+    let left : StandsFor held.pool pair.left p.left = taken_item held.base held.pool pair.left p.left is.0 in
+    let right : StandsFor held.pool pair.right p.right = taken_item held.base held.pool pair.right p.right is.1 in
     record {
-      left_there = stands_within held.pool pair.left q.left left;
-      left = stands_at held.pool pair.left q.left left ∙ ap (λ (x : PlacedPeak). x.left) same;
-      right_there = stands_within held.pool pair.right q.right right;
-      right = stands_at held.pool pair.right q.right right ∙ ap (λ (x : PlacedPeak). x.right) same;
+      left_there = stands_within held.pool pair.left p.left left;
+      left = stands_at held.pool pair.left p.left left;
+      right_there = stands_within held.pool pair.right p.right right;
+      right = stands_at held.pool pair.right p.right right;
     }

@@ -24,7 +24,7 @@ use Rattle.crit_pairs.proofs.EqualRules.{peak_moved}
 
 -- ---- one peak more
 
-module _ {T S : Type 0} (rules : List RewriteRule) (s : Spot) (peaks new : Peaks T S) (p : PlacedPeak) (at : IsPeakAt rules s p) (same : new.most ≡ peaks.most)
+module _ {T M S : Type 0} (rules : List RewriteRule) (s : Spot) (peaks new : Peaks T M S) (p : PlacedPeak) (at : IsPeakAt rules s p) (same : new.most ≡ peaks.most)
     (count : new.count ≡ min (peaks.count + 1) 18446744073709551615) (limits : KeepsLimits peaks.nodes new.nodes p.top p.left p.right) where
   moves : (before : List PlacedPeak) → Moves rules before peaks.nodes (s ∷ []) (before ++ p ∷ []) new.nodes []
   moves before = moves_one rules s p at before peaks.nodes limits.small limits.few new.nodes limits.counted
@@ -55,18 +55,18 @@ module _ (rules : List RewriteRule) (s : Spot) (p : PlacedPeak) (at : IsPeakAt r
     listed = λ m e. subst (λ k. slice_get (list ++ p ∷ []) k ≡ Some p) (sym last ∙ same_Some n m e) (last_item list p []);
   }
 
-counted_limits : {T S : Type 0} (mid new : Peaks T S) (nodes : ℕ) (p : PlacedPeak) → IsTrue (is_small p) → nodes ≡ nodes_of_peak p → CountsOne mid nodes new → KeepsLimits mid.nodes new.nodes p.top p.left p.right
+counted_limits : {T M S : Type 0} (mid new : Peaks T M S) (nodes : ℕ) (p : PlacedPeak) → IsTrue (is_small p) → nodes ≡ nodes_of_peak p → CountsOne mid nodes new → KeepsLimits mid.nodes new.nodes p.top p.left p.right
 counted_limits mid new nodes p small counted one =
     let three : nodes ≡ nodes_of_three p.top p.left p.right = counted in
     record { small = small; few = omega (arith, one.total, one.few, three); counted = omega (arith, one.total, three) }
 
 -- where bindings stand says nothing of the peaks
-pub adds_too : {T S : Type 0} (rules : List RewriteRule) (peaks new : Peaks T S) (places : Vec ℕ) (spots : List Spot)
-    → Adds {T = T} {S = S} rules (record { list = peaks.list; most = peaks.most; count = peaks.count; nodes = peaks.nodes; places = places; names = peaks.names }) spots new → Adds rules peaks spots new
+pub adds_too : {T M S : Type 0} (rules : List RewriteRule) (peaks new : Peaks T M S) (places : Vec ℕ) (spots : List Spot)
+    → Adds {T = T} {M = M} {S = S} rules (record { list = peaks.list; most = peaks.most; count = peaks.count; nodes = peaks.nodes; places = places; names = peaks.names; terms = peaks.terms }) spots new → Adds rules peaks spots new
 adds_too rules peaks new places spots adds = λ before h. adds before (record { kept = h.kept; counted = h.counted; few = h.few; within = h.within })
 
-pub adds_still : {T S : Type 0} (rules : List RewriteRule) (peaks new : Peaks T S) (places : Vec ℕ) (spots : List Spot)
-    → Adds rules peaks spots new → Adds {T = T} {S = S} rules peaks spots (record { list = new.list; most = new.most; count = new.count; nodes = new.nodes; places = places; names = new.names })
+pub adds_still : {T M S : Type 0} (rules : List RewriteRule) (peaks new : Peaks T M S) (places : Vec ℕ) (spots : List Spot)
+    → Adds rules peaks spots new → Adds {T = T} {M = M} {S = S} rules peaks spots (record { list = new.list; most = new.most; count = new.count; nodes = new.nodes; places = places; names = new.names; terms = new.terms })
 adds_still rules peaks new places spots adds = λ before h.
     let r = adds before h in
     record { all = r.all; keeps = record { kept = r.keeps.kept; counted = r.keeps.counted; few = r.keeps.few; within = r.keeps.within }; same_most = r.same_most; moves = r.moves }
@@ -81,15 +81,15 @@ is_full has_room n most room none = elim (dec_lt n most) [ yes k ↦ absurd (not
 
 -- ---- a peak that is known to be at a spot
 
-module _ {T S : Type 0} (rules : List RewriteRule) (s : Spot) (peaks : Peaks T S) (p : PlacedPeak) (at : IsPeakAt rules s p) (small : IsTrue (is_small p)) (nodes : ℕ) (counted : nodes ≡ nodes_of_peak p) where
-  pub counts_known : (new : Peaks T S) → CountsOne peaks nodes new → peaks.most ≤ length peaks.list.items → Adds rules peaks (s ∷ []) new
+module _ {T M S : Type 0} (rules : List RewriteRule) (s : Spot) (peaks : Peaks T M S) (p : PlacedPeak) (at : IsPeakAt rules s p) (small : IsTrue (is_small p)) (nodes : ℕ) (counted : nodes ≡ nodes_of_peak p) where
+  pub counts_known : (new : Peaks T M S) → CountsOne peaks nodes new → peaks.most ≤ length peaks.list.items → Adds rules peaks (s ∷ []) new
   counts_known new one full = adds_counted rules s peaks new p at one.same_most one.count (counted_limits peaks new nodes p small counted one) (ap (λ v. v.items) one.same_list) full
 
-  pub lists_known : (copy : PlacedPeak) → copy ≡ p → (list : Vec PlacedPeak) (new : Peaks T S) → list.items ≡ peaks.list.items ++ copy ∷ []
-      → CountsOne {T = T} {S = S} (record { list = list; most = peaks.most; count = peaks.count; nodes = peaks.nodes; places = peaks.places; names = peaks.names }) nodes new → length peaks.list.items < peaks.most
+  pub lists_known : (copy : PlacedPeak) → copy ≡ p → (list : Vec PlacedPeak) (terms : M) (new : Peaks T M S) → list.items ≡ peaks.list.items ++ copy ∷ []
+      → CountsOne {T = T} {M = M} {S = S} (record { list = list; most = peaks.most; count = peaks.count; nodes = peaks.nodes; places = peaks.places; names = peaks.names; terms = terms }) nodes new → length peaks.list.items < peaks.most
       → Adds rules peaks (s ∷ []) new
-  lists_known copy same list new put one room =
-      let mid : Peaks T S = record { list = list; most = peaks.most; count = peaks.count; nodes = peaks.nodes; places = peaks.places; names = peaks.names } in
+  lists_known copy same list terms new put one room =
+      let mid : Peaks T M S = record { list = list; most = peaks.most; count = peaks.count; nodes = peaks.nodes; places = peaks.places; names = peaks.names; terms = terms } in
       let items : new.list.items ≡ peaks.list.items ++ p ∷ [] = ap (λ v. v.items) one.same_list ∙ put ∙ ap (λ y. peaks.list.items ++ y ∷ []) same in
       adds_listed rules s peaks new p at one.same_most one.count (counted_limits mid new nodes p small counted one) items room
 
@@ -119,14 +119,14 @@ still_repeated rules j p list new noted longer h = λ k found there.
 pub same_longer : (list : List PlacedPeak) → IsLonger list list
 same_longer list = ([], sym (append-nil list))
 
-module _ {T S : Type 0} (rules : List RewriteRule) (i j : ℕ) (p : List ℕ) (peaks : Peaks T S) (known : AddedPeak) (h : IsRepeated rules j p (slice_get rules i) peaks.list.items known) where
+module _ {T M S : Type 0} (rules : List RewriteRule) (i j : ℕ) (p : List ℕ) (peaks : Peaks T M S) (known : AddedPeak) (h : IsRepeated rules j p (slice_get rules i) peaks.list.items known) where
   abbrev again : PlacedPeak
   again = moved_to i h.added.peak
 
   at_again : IsPeakAt rules (spot j p i) again
   at_again = peak_moved rules j h.inner i p h.added.peak (sym h.equal) h.added.at
 
-  pub counts_again : (new : Peaks T S) → CountsOne peaks known.nodes new → peaks.most ≤ length peaks.list.items → Adds rules peaks (one_spot j p i) new
+  pub counts_again : (new : Peaks T M S) → CountsOne peaks known.nodes new → peaks.most ≤ length peaks.list.items → Adds rules peaks (one_spot j p i) new
   counts_again = counts_known rules (spot j p i) peaks again at_again h.added.small known.nodes h.added.counted
 
   -- what is copied from the list is the peak
@@ -145,8 +145,8 @@ module _ {T S : Type 0} (rules : List RewriteRule) (i j : ℕ) (p : List ℕ) (p
         let is_right : r ≡ h.added.peak.right = right ∙ ap (λ (y : PlacedPeak). y.right) same in
         cc
 
-    pub lists_again : (list : Vec PlacedPeak) (new : Peaks T S) → list.items ≡ peaks.list.items ++ copy ∷ []
-        → CountsOne {T = T} {S = S} (record { list = list; most = peaks.most; count = peaks.count; nodes = peaks.nodes; places = peaks.places; names = peaks.names }) known.nodes new → length peaks.list.items < peaks.most
+    pub lists_again : (list : Vec PlacedPeak) (terms : M) (new : Peaks T M S) → list.items ≡ peaks.list.items ++ copy ∷ []
+        → CountsOne {T = T} {M = M} {S = S} (record { list = list; most = peaks.most; count = peaks.count; nodes = peaks.nodes; places = peaks.places; names = peaks.names; terms = terms }) known.nodes new → length peaks.list.items < peaks.most
         → Adds rules peaks (one_spot j p i) new
     lists_again = lists_known rules (spot j p i) peaks again at_again h.added.small known.nodes h.added.counted copy copied_again
 

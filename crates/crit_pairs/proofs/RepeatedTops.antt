@@ -115,7 +115,7 @@ module _ (rules : List RewriteRule) (j i : ℕ) (p : List ℕ) (root : p ≡ [])
 
 -- ---- the peak beside a known one
 
-module _ {T S : Type 0} (rules : List RewriteRule) (i j : ℕ) (p : List ℕ) (root : p ≡ []) (side : WholeSide) (right_of : IsRightOf rules i side) (peaks : Peaks T S) (known : RepeatedTop)
+module _ {T M S : Type 0} (rules : List RewriteRule) (i j : ℕ) (p : List ℕ) (root : p ≡ []) (side : WholeSide) (right_of : IsRightOf rules i side) (peaks : Peaks T M S) (known : RepeatedTop)
     (h : IsTopAt rules j p (left_side (slice_get rules i)) peaks.list.items known) (nodes : ℕ) (sum : nodes ≡ min (known.nodes + side.size) 18446744073709551615) where
   abbrev next : PlacedPeak
   next = beside i (tree side.term.now) h.peak
@@ -144,7 +144,7 @@ module _ {T S : Type 0} (rules : List RewriteRule) (i j : ℕ) (p : List ℕ) (r
       omega (arith, h.counted, w.size, limits_size h.peak.top top.0, limits_size h.peak.right right, limits_size whole.0.right w.small) in
       omega (arith, sum, min-eq_left few, h.counted, size)
 
-  pub counts_beside : (new : Peaks T S) → CountsOne peaks nodes new → peaks.most ≤ length peaks.list.items → Adds rules peaks (one_spot j p i) new
+  pub counts_beside : (new : Peaks T M S) → CountsOne peaks nodes new → peaks.most ≤ length peaks.list.items → Adds rules peaks (one_spot j p i) new
   counts_beside = counts_known rules (spot j p i) peaks next at_next small_next nodes counted_next
 
   -- what is copied from the list, with the side
@@ -162,8 +162,8 @@ module _ {T S : Type 0} (rules : List RewriteRule) (i j : ℕ) (p : List ℕ) (r
         let is_right : r ≡ h.peak.right = right ∙ ap (λ (y : PlacedPeak). y.right) same in
         cc
 
-    pub lists_beside : (list : Vec PlacedPeak) (new : Peaks T S) → list.items ≡ peaks.list.items ++ copy ∷ []
-        → CountsOne {T = T} {S = S} (record { list = list; most = peaks.most; count = peaks.count; nodes = peaks.nodes; places = peaks.places; names = peaks.names }) nodes new → length peaks.list.items < peaks.most
+    pub lists_beside : (list : Vec PlacedPeak) (terms : M) (new : Peaks T M S) → list.items ≡ peaks.list.items ++ copy ∷ []
+        → CountsOne {T = T} {M = M} {S = S} (record { list = list; most = peaks.most; count = peaks.count; nodes = peaks.nodes; places = peaks.places; names = peaks.names; terms = terms }) nodes new → length peaks.list.items < peaks.most
         → Adds rules peaks (one_spot j p i) new
     lists_beside = lists_known rules (spot j p i) peaks next at_next small_next nodes counted_next copy copied_next
 

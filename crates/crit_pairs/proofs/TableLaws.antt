@@ -3,6 +3,7 @@ use Rattle.std.proofs.Common.{◌≡◌, ◌≤◌, ◌<◌, ◌⊎◌, inl, inr
 use Rattle.std.specs.Prelude.{◌&&◌, ◌==◌}
 use Rattle.std.specs.Global.{Vec}
 use Rattle.std.proofs.lemmas.List.{take_more}
+use Rattle.std.proofs.lemmas.Option.{same_Some}
 use Rattle.std.proofs.lemmas.Grind.{flat_map-append}
 use Rattle.trs_defs.specs.Member.{In, in_first, in_rest}
 use Rattle.trs_defs.proofs.Members.{no_in, in_or, in_either}
@@ -129,6 +130,20 @@ pub pairs_both : {pool : List Tree} {xs ys : List PeakPair} {ps qs : List Placed
 pairs_both no_pair k = k
 pairs_both (one_pair is h) k = one_pair is (pairs_both h k)
 
+-- one pair more, in a pool that has grown
+pub one_pair_more : {pool next : List Tree} {xs : List PeakPair} {ps : List PlacedPeak} (x : PeakPair) (p : PlacedPeak) → Extends pool next → ArePairs pool xs ps → IsPair next x p
+    → ArePairs next (xs ++ x ∷ []) (ps ++ p ∷ [])
+one_pair_more x p more h is = pairs_both (pairs_still more h) (one_pair is no_pair)
+
+-- the pair of the next peak
+pub pair_next : (peaks : List PlacedPeak) (i : ℕ) (p : PlacedPeak) (pool next : List Tree) (xs ys : List PeakPair) (x : PeakPair) → i < length peaks → p ≡ get_or peaks i p → ys ≡ xs ++ x ∷ [] → Extends pool next
+    → IsPair next x p → ArePairs pool xs (take i peaks) → ArePairs next ys (take (i + 1) peaks)
+pair_next peaks i p pool next xs ys x less read put more is h =
+    let taken : take (i + 1) peaks ≡ take i peaks ++ p ∷ [] = take_more peaks i p less ∙ ap (λ q. take i peaks ++ q ∷ []) (sym read) in
+    let Q : List PeakPair → Type 0 = λ zs. ArePairs next zs (take i peaks ++ p ∷ []) in
+    let P : List PlacedPeak → Type 0 = ArePairs next ys in
+    subst P (sym taken) (subst Q (sym put) (one_pair_more x p more h is))
+
 -- as many pairs as peaks
 pub pairs_count : {pool : List Tree} {xs : List PeakPair} {ps : List PlacedPeak} → ArePairs pool xs ps → length xs ≡ length ps
 pairs_count no_pair = refl
@@ -140,6 +155,13 @@ pub peak_of_pair : {pool : List Tree} {xs : List PeakPair} {ps : List PlacedPeak
 peak_of_pair no_pair k x e = absurd cc
 peak_of_pair {pool = pool} (one_pair {p = p} is h) zero x e = (p, refl, subst (λ z. IsPair pool z p) (cc (e)) is)
 peak_of_pair (one_pair is h) (suc k) x e = peak_of_pair h k x e
+
+-- the pair of a peak
+pub pair_of_peak : {pool : List Tree} {xs : List PeakPair} {ps : List PlacedPeak} → ArePairs pool xs ps → (k : ℕ) (x : PeakPair) (p : PlacedPeak) → slice_get xs k ≡ Some x → slice_get ps k ≡ Some p
+    → IsPair pool x p
+pair_of_peak {pool = pool} h k x p there is =
+    let found = peak_of_pair h k x there in
+    subst (IsPair pool x) (same_Some found.0 p (sym found.1 ∙ is)) found.2
 
 pub hold_still : {rules : List RewriteRule} {pool next : List Tree} {inner : List RewriteRule} {left : List Site} {lists : List (Vec PeakPair)} {ps : List PlacedPeak}
     → Extends pool next → HoldPairs rules pool inner left lists ps → HoldPairs rules next inner left lists ps

@@ -16,7 +16,7 @@ use Rattle.crit_pairs.specs.Sides.{IsDistinct, AreRenumbered}
 use Rattle.crit_pairs.proofs.Renumbering.{none_distinct, distinct_more, not_both, ground_renamed}
 
 -- the place of a variable among names
-abbrev place : List ℕ → ℕ → ℕ
+abbrev pub place : List ℕ → ℕ → ℕ
 place names v = position_or_len (λ n. n == v) names
 
 place_here : (n v : ℕ) (ns : List ℕ) → (n == v) ≡ true → place (n ∷ ns) v ≡ 0
@@ -32,7 +32,7 @@ listed_by n v ns more true e h rest =
     subst (λ i. slice_get (n ∷ ns) i ≡ Some v) (sym (place_here n v (ns ++ more) e)) (ap (λ z. Some z) same)
 listed_by n v ns more false e h rest = subst (λ i. slice_get (n ∷ ns) i ≡ Some v) (sym (place_later n v (ns ++ more) e)) (rest (rw e at h))
 
-place_listed : (known more : List ℕ) (v : ℕ) → is_listed v known ≡ true → slice_get known (place (known ++ more) v) ≡ Some v
+pub place_listed : (known more : List ℕ) (v : ℕ) → is_listed v known ≡ true → slice_get known (place (known ++ more) v) ≡ Some v
 place_listed [] more v h = absurd cc
 place_listed (n ∷ ns) more v h = listed_by n v ns more (n == v) refl h (place_listed ns more v)
 
@@ -43,7 +43,7 @@ place_new (n ∷ ns) more v h =
     place_later n v (ns ++ v ∷ more) parts.0 ∙ ap suc (place_new ns more v parts.1)
 
 -- the term with the places of its variables, where other names come first and later
-abbrev placed : List ℕ → Tree → Tree
+abbrev pub placed : List ℕ → Tree → Tree
 placed names t = apply (λ v. var (place names v)) t
 
 variable_placed : (v : ℕ) (known more : List ℕ) (b : Bool) → is_listed v known ≡ b
@@ -83,7 +83,7 @@ one_more_distinct v known false h distinct = rw h (distinct_more known v distinc
 
 -- the variables of a term are listed once
 mutual
-  variables_distinct : (t : Tree) (known : List ℕ) → IsDistinct known → IsDistinct (with_variables known t)
+  pub variables_distinct : (t : Tree) (known : List ℕ) → IsDistinct known → IsDistinct (with_variables known t)
   variables_distinct (var v) known distinct = one_more_distinct v known (is_listed v known) refl distinct
   variables_distinct (app f ts) known distinct = all_distinct ts known distinct
 

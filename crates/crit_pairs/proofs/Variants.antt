@@ -1,11 +1,12 @@
 -- Terms that differ in their variables alone, and whose variables are numbered in order of first occurrence, are equal.
-use Rattle.std.specs.Prelude.{◌≡◌, ◌≢◌, ℕ, Bool, true, false, ◌==◌, if◌then◌else◌, List, [], ◌∷◌, ◌++◌, Some, IsTrue, slice_get}
-use Rattle.std.proofs.Common.{zero, suc, sym, ◌∙◌, ap, subst, refl, arith}
+use Rattle.std.specs.Prelude.{◌≡◌, ◌≢◌, ℕ, ◌⊎◌, Bool, true, false, ◌==◌, if◌then◌else◌, List, [], ◌∷◌, ◌++◌, Some, IsTrue, slice_get}
+use Rattle.std.proofs.Common.{zero, suc, inl, inr, sym, ◌∙◌, ap, subst, refl, arith}
 use Rattle.std.proofs.Math.Decide.{ℕ_discrete}
 use Rattle.trs_defs.specs.Tree.{Tree, Trees, var, app, nil, cons}
 use Rattle.trs_defs.specs.Variable.{has_var, some_has_var, is_listed, with_variables, with_variables_of_all, variables_of}
 use Rattle.trs_defs.specs.Substitution.{apply, apply_all}
 use Rattle.trs_defs.proofs.VariableLaws.{has_var_self, has_var_first, has_var_rest}
+use Rattle.trs_defs.proofs.ListItems.{item_of_more}
 use Rattle.trs_unify.proofs.ListedVariables.{listed_at, listed_variable}
 use Rattle.crit_pairs.specs.PeakList.{IsCount}
 
@@ -133,3 +134,34 @@ module _ (R : ℕ → ℕ → Type 0) where
 -- a variable of the term is among its variables
 pub among_variables : (v : ℕ) (t : Tree) → IsTrue (has_var v t) → (i : ℕ) × (slice_get (variables_of t) i ≡ Some v)
 among_variables v t h = listed_at v (variables_of t) (listed_variable v t [] h)
+
+-- what is added to a list of variables occurs in the term
+occurs_next : (b : Bool) (i v n : ℕ) (known : List ℕ) → slice_get (if b then known else known ++ n ∷ []) i ≡ Some v → (slice_get known i ≡ Some v) ⊎ IsTrue (has_var v (var n))
+occurs_next true i v n known e = inl e
+occurs_next false i v n known e = elim (item_of_more known n v i e) as (λ _. (slice_get known i ≡ Some v) ⊎ IsTrue (has_var v (var n))) [
+  | inl h ↦ inl h
+  | inr h ↦ inr (subst (λ z. IsTrue (has_var z (var n))) (sym h.1) (has_var_self n))
+]
+
+mutual
+  occurs_added : (i v : ℕ) (t : Tree) (known : List ℕ) → slice_get (with_variables known t) i ≡ Some v → (slice_get known i ≡ Some v) ⊎ IsTrue (has_var v t)
+  occurs_added i v (var n) known e = occurs_next (is_listed n known) i v n known e
+  occurs_added i v (app f ts) known e = occurs_added_in_all i v ts known e
+
+  occurs_added_in_all : (i v : ℕ) (ts : Trees) (known : List ℕ) → slice_get (with_variables_of_all known ts) i ≡ Some v → (slice_get known i ≡ Some v) ⊎ IsTrue (some_has_var v ts)
+  occurs_added_in_all i v nil known e = inl e
+  occurs_added_in_all i v (cons t ts) known e =
+      elim (occurs_added_in_all i v ts (with_variables known t) e) as (λ _. (slice_get known i ≡ Some v) ⊎ IsTrue (some_has_var v (cons t ts))) [
+        | inl h ↦ elim (occurs_added i v t known h) as (λ _. (slice_get known i ≡ Some v) ⊎ IsTrue (some_has_var v (cons t ts))) [
+          | inl k ↦ inl k
+          | inr k ↦ inr (has_var_first v t ts k)
+        ]
+        | inr h ↦ inr (has_var_rest v t ts h)
+      ]
+
+-- and each of its variables is one of the term
+pub occurs_among : (v : ℕ) (t : Tree) (i : ℕ) → slice_get (variables_of t) i ≡ Some v → IsTrue (has_var v t)
+occurs_among v t i e = elim (occurs_added i v t [] e) as (λ _. IsTrue (has_var v t)) [
+  | inl h ↦ absurd cc
+  | inr h ↦ h
+]

@@ -16,7 +16,7 @@ use crate::apart::RulesApart;
 use crate::listing::Peaks;
 use crate::overlapping::{OverlapUnifier, overlap};
 use crate::repeated::AddedPeak;
-use crate::results::{count_overlap, count_peak, peak_sides, results_at};
+use crate::results::count_overlap;
 use crate::sides::PeakTop;
 use crate::{Peak, PeakFault};
 use confluence_theory::overlaps_unify;
@@ -30,9 +30,11 @@ pub(crate) fn add_again<'a, T: PeakTop<'a>>(
     known: Option<AddedPeak>,
     inner: u32,
     place: &[u8],
-    peaks: &mut Peaks<T>,
+    peaks: &mut Peaks<T, T::Terms>,
 ) -> Result<bool, PeakFault>
     requires positive { All (λ n. 0 < n) place.now }
+    requires held { (rules : List RewriteRule)
+        × T.holds peaks.old.terms rules peaks.old.list.items }
     ensures moves { IfOk result (λ is_added. IsTrue is_added → (rules : List RewriteRule) (j : ℕ)
         → IfSome known (IsRepeated rules j place.now (slice_get rules inner) peaks.old.list.items)
         → Adds rules peaks.old (one_spot j place.now inner) peaks.new) }
@@ -41,6 +43,9 @@ pub(crate) fn add_again<'a, T: PeakTop<'a>>(
     ensures stops { IfErr result (λ fault. (rules : List RewriteRule) (j : ℕ)
         → IfSome known (IsRepeated rules j place.now (slice_get rules inner) peaks.old.list.items)
         → StopsAt rules peaks.old (one_spot j place.now inner) fault) }
+    ensures held { (rules : List RewriteRule)
+        → T.holds peaks.old.terms rules peaks.old.list.items
+        → OnOk result (T.holds peaks.new.terms rules peaks.new.list.items) }
 {
     let Some(known) = known else {
         return Ok(false);
@@ -58,10 +63,12 @@ pub(crate) fn add_again<'a, T: PeakTop<'a>>(
     let Some(top) = T::copied(alloc, &peak.top)? else {
         return Ok(false);
     };
+    let terms = &mut peaks.terms;
+    let (left, right) = T::same_sides(alloc, number, &peak.left, &peak.right, terms)?;
     let copy = Peak {
         top,
-        left: T::copied_side(alloc, &peak.left)?,
-        right: T::copied_side(alloc, &peak.right)?,
+        left,
+        right,
         outer: peak.outer,
         inner,
         place: position_of(alloc, place)?,
@@ -79,13 +86,14 @@ pub(crate) fn add_new<'a, T: PeakTop<'a>>(
     part: &Term,
     place: &[u8],
     i: u32,
-    peaks: &mut Peaks<T>,
+    peaks: &mut Peaks<T, T::Terms>,
 ) -> Result<Option<AddedPeak>, PeakFault>
     requires outer { IsPartOf rules.now.rules j place.now (tree part.now) }
     requires inner { i < length rules.now.rules }
     requires positive { All (λ n. 0 < n) place.now }
     requires few { length rules.now.rules ≤ 4095 }
     requires small { HaveSmallVariables rules.now.rules }
+    requires held { T.holds peaks.old.terms rules.now.rules peaks.old.list.items }
     ensures moves { OnOk result
         (Adds rules.now.rules peaks.old (one_spot j place.now i) peaks.new) }
     ensures added { IfOk result (λ found. IfSome found
@@ -93,6 +101,8 @@ pub(crate) fn add_new<'a, T: PeakTop<'a>>(
     ensures longer { OnOk result (IsLonger peaks.old.list.items peaks.new.list.items) }
     ensures stops { IfErr result
         (StopsAt rules.now.rules peaks.old (one_spot j place.now i)) }
+    ensures held { OnOk result
+        (T.holds peaks.new.terms rules.now.rules peaks.new.list.items) }
 {
     let outer = &rules.rules()[j];
     let inner = rules.apart(i as usize);
@@ -120,7 +130,7 @@ fn add_found<'a, T: PeakTop<'a>>(
     place: &[u8],
     part: &Term,
     unifier: &OverlapUnifier,
-    peaks: &mut Peaks<T>,
+    peaks: &mut Peaks<T, T::Terms>,
 ) -> Result<AddedPeak, PeakFault>
     requires outer { slice_get rules.now.rules j ≡ Some outer.now }
     requires inner { (r : RewriteRule) × (slice_get rules.now.rules i ≡ Some r)
@@ -131,6 +141,7 @@ fn add_found<'a, T: PeakTop<'a>>(
     requires small { HasSmallVariables outer.now.left }
     requires unifier { IsMostGeneralUnifier (tree part.now) inner.now.left
         (substitution unifier.now) }
+    requires held { T.holds peaks.old.terms rules.now.rules peaks.old.list.items }
     ensures moves { OnOk result
         (Adds rules.now.rules peaks.old (one_spot j place.now i) peaks.new) }
     ensures added { IfOk result
@@ -138,6 +149,8 @@ fn add_found<'a, T: PeakTop<'a>>(
     ensures longer { OnOk result (IsLonger peaks.old.list.items peaks.new.list.items) }
     ensures stops { IfErr result
         (StopsAt rules.now.rules peaks.old (one_spot j place.now i)) }
+    ensures held { OnOk result
+        (T.holds peaks.new.terms rules.now.rules peaks.new.list.items) }
 {
     if peaks.has_room() {
         return list_found(
@@ -167,7 +180,7 @@ fn list_found<'a, T: PeakTop<'a>>(
     place: &[u8],
     part: &Term,
     unifier: &OverlapUnifier,
-    peaks: &mut Peaks<T>,
+    peaks: &mut Peaks<T, T::Terms>,
 ) -> Result<AddedPeak, PeakFault>
     requires room { length peaks.old.list.items < peaks.old.most }
     requires outer { slice_get rules.now.rules j ≡ Some outer.now }
@@ -179,6 +192,7 @@ fn list_found<'a, T: PeakTop<'a>>(
     requires small { HasSmallVariables outer.now.left }
     requires unifier { IsMostGeneralUnifier (tree part.now) inner.now.left
         (substitution unifier.now) }
+    requires held { T.holds peaks.old.terms rules.now.rules peaks.old.list.items }
     ensures moves { OnOk result
         (Adds rules.now.rules peaks.old (one_spot j place.now i) peaks.new) }
     ensures added { IfOk result
@@ -186,16 +200,21 @@ fn list_found<'a, T: PeakTop<'a>>(
     ensures longer { OnOk result (IsLonger peaks.old.list.items peaks.new.list.items) }
     ensures stops { IfErr result
         (StopsAt rules.now.rules peaks.old (one_spot j place.now i)) }
+    ensures held { OnOk result
+        (T.holds peaks.new.terms rules.now.rules peaks.new.list.items) }
 {
     let before = peaks.nodes;
-    let results = results_at(alloc, rules, j, outer, i as usize, inner, place)?;
-    peaks.nodes = count_peak(unifier, outer, &results, before)?;
+    let names = &mut peaks.names;
+    let terms = &mut peaks.terms;
+    let made = T::made(
+        alloc, rules, j, outer, i as usize, inner, place, part, unifier, before, names, terms,
+    )?;
+    peaks.nodes = made.nodes;
     peaks.count = peaks.count.saturating_add(1);
-    let sides = peak_sides::<T>(alloc, unifier, outer, &results, &mut peaks.names)?;
     let peak = Peak {
-        top: sides.top,
-        left: sides.left,
-        right: sides.right,
+        top: made.top,
+        left: made.left,
+        right: made.right,
         outer: j as u32,
         inner: i,
         place: position_of(alloc, place)?,

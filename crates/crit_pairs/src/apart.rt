@@ -86,8 +86,9 @@ impl<'a> RulesApart<'a> {
     pub fn rules(&self) -> &[Rule]
         ensures rules { result.now ≡ self.now.rules }
         ensures valid { IsSystem self.now }
+        ensures small { HaveSmallVariables self.now.rules }
     {
-        self.by_root.rules()
+        self.by_root.trs().rules()
     }
 
     /// Rule `i`, renamed apart.

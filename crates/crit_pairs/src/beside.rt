@@ -5,7 +5,7 @@ ghost use Rattle.crit_pairs.specs.EqualLefts.{left_side};
 ghost use Rattle.crit_pairs.specs.Repeated.{IsLonger};
 ghost use Rattle.crit_pairs.specs.RepeatedTops.{IsTopAt};
 ghost use Rattle.crit_pairs.specs.Walk.{Adds, StopsAt, one_spot};
-ghost use Rattle.crit_pairs.specs.WholeSides.{IsRightOf};
+ghost use Rattle.crit_pairs.specs.WholeSides.{IsRightOf, IsWholeSide};
 
 use crate::adding::{position_of, push_peak};
 use crate::listing::Peaks;
@@ -24,9 +24,12 @@ pub(crate) fn add_beside<'a, T: PeakTop<'a>>(
     inner: u32,
     side: &WholeSide<'a>,
     place: &[u8],
-    peaks: &mut Peaks<T>,
+    peaks: &mut Peaks<T, T::Terms>,
 ) -> Result<bool, PeakFault>
     requires root { place.now ≡ [] }
+    requires held { (rules : List RewriteRule) × (r : RewriteRule)
+        × T.holds peaks.old.terms rules peaks.old.list.items
+        × (slice_get rules inner ≡ Some r) × IsWholeSide r.right side.now }
     ensures moves { IfOk result (λ is_added. IsTrue is_added → (rules : List RewriteRule) (j : ℕ)
         → IsRightOf rules inner side.now → IfSome known (IsTopAt rules j place.now
         (left_side (slice_get rules inner)) peaks.old.list.items)
@@ -37,6 +40,9 @@ pub(crate) fn add_beside<'a, T: PeakTop<'a>>(
         → IsRightOf rules inner side.now → IfSome known (IsTopAt rules j place.now
         (left_side (slice_get rules inner)) peaks.old.list.items)
         → StopsAt rules peaks.old (one_spot j place.now inner) fault) }
+    ensures held { (rules : List RewriteRule)
+        → T.holds peaks.old.terms rules peaks.old.list.items
+        → OnOk result (T.holds peaks.new.terms rules peaks.new.list.items) }
 {
     let Some(known) = known else {
         return Ok(false);
@@ -55,10 +61,12 @@ pub(crate) fn add_beside<'a, T: PeakTop<'a>>(
     let Some(top) = T::copied(alloc, &peak.top)? else {
         return Ok(false);
     };
+    let terms = &mut peaks.terms;
+    let (left, right) = T::sides_beside(alloc, inner, side, number, &peak.right, terms)?;
     let next = Peak {
         top,
-        left: T::whole(alloc, side)?,
-        right: T::copied_side(alloc, &peak.right)?,
+        left,
+        right,
         outer: peak.outer,
         inner,
         place: position_of(alloc, place)?,

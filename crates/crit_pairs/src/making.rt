@@ -108,7 +108,7 @@ fn build_pair(
 }
 
 /// The ids of two terms.
-fn intern_pair(
+pub(crate) fn intern_pair(
     alloc: Global,
     pool: &mut Pool,
     left: &Term,

@@ -16,7 +16,7 @@ use crate::contracting::contract;
 use crate::counting::count_unmade;
 use crate::names::Names;
 use crate::overlapping::OverlapUnifier;
-use crate::sides::{PeakTop, Sides, count_nodes, count_top};
+use crate::sides::{BuiltSides, MadeSides, Sides, count_nodes, count_top};
 use crate::whole_sides::WholeSide;
 use std::alloc::Global;
 use trs_core::{OutOfMemory, Rule, Term};
@@ -146,7 +146,7 @@ pub(crate) fn count_overlap(
 }
 
 /// The three terms of the peak.
-pub(crate) fn peak_sides<'a, T: PeakTop<'a>>(
+pub(crate) fn peak_sides<'a, T: BuiltSides<'a>>(
     alloc: Global,
     unifier: &OverlapUnifier,
     outer: &Rule,
@@ -170,4 +170,49 @@ pub(crate) fn peak_sides<'a, T: PeakTop<'a>>(
             right: T::whole(alloc, right)?,
         }),
     }
+}
+
+/// The peak of rule `i` in rule `j` at this place, by a most general unifier. The peaks before have so
+/// many nodes.
+pub(crate) fn built_sides<'a, T: BuiltSides<'a>>(
+    alloc: Global,
+    rules: &RulesApart<'a>,
+    j: usize,
+    outer: &Rule,
+    i: usize,
+    inner: &Rule,
+    place: &[u8],
+    unifier: &OverlapUnifier,
+    nodes: u64,
+    names: &mut Names,
+) -> Result<MadeSides<T>, PeakFault>
+    requires outer { slice_get rules.now.rules j ≡ Some outer.now }
+    requires inner { (r : RewriteRule) × (slice_get rules.now.rules i ≡ Some r)
+        × (inner.now ≡ renamed_apart r) }
+    requires there { subterm_at place.now outer.now.left ≢ None }
+    requires positive { All (λ n. 0 < n) place.now }
+    ensures renumbered { IfOk result (λ made. (u : Tree)
+        → replaced_at place.now outer.now.left inner.now.right ≡ Some u → AreRenumbered
+        (apply (substitution unifier.now) outer.now.left) (apply (substitution unifier.now) u)
+        (apply (substitution unifier.now) outer.now.right)
+        (T.top_tree made.top) (T.Side.side_tree made.left) (T.Side.side_tree made.right)) }
+    ensures limits { IfOk result (λ made. (u : Tree)
+        → replaced_at place.now outer.now.left inner.now.right ≡ Some u
+        → KeepsLimits nodes made.nodes
+        (apply (substitution unifier.now) outer.now.left) (apply (substitution unifier.now) u)
+        (apply (substitution unifier.now) outer.now.right)) }
+    ensures fault { IfErr result (λ fault. (u : Tree)
+        → replaced_at place.now outer.now.left inner.now.right ≡ Some u → PassesLimit fault nodes
+        (apply (substitution unifier.now) outer.now.left) (apply (substitution unifier.now) u)
+        (apply (substitution unifier.now) outer.now.right)) }
+{
+    let results = results_at(alloc, rules, j, outer, i, inner, place)?;
+    let total = count_peak(unifier, outer, &results, nodes)?;
+    let sides = peak_sides::<T>(alloc, unifier, outer, &results, names)?;
+    Ok(MadeSides {
+        top: sides.top,
+        left: sides.left,
+        right: sides.right,
+        nodes: total,
+    })
 }

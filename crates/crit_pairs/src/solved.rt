@@ -194,7 +194,7 @@ pub(crate) fn name_instance(
 }
 
 /// Gives numbers to the variables of a term that have none yet, as they are met.
-fn name_variables(t: &Term, names: &mut Names) -> Result<(), OutOfMemory>
+pub(crate) fn name_variables(t: &Term, names: &mut Names) -> Result<(), OutOfMemory>
     requires { IsDistinct names.old.order.items }
     ensures distinct { OnOk result (IsDistinct names.new.order.items) }
     ensures order { OnOk result
@@ -215,7 +215,7 @@ fn name_variables(t: &Term, names: &mut Names) -> Result<(), OutOfMemory>
 }
 
 /// The number of a variable, or the next one. A list of 2^32 - 1 names is full.
-fn number_of(v: u32, names: &mut Names) -> Result<u32, OutOfMemory>
+pub(crate) fn number_of(v: u32, names: &mut Names) -> Result<u32, OutOfMemory>
     requires { IsDistinct names.old.order.items }
     ensures distinct { OnOk result (IsDistinct names.new.order.items) }
     ensures renamed { IfOk result (λ number.

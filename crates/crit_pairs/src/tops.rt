@@ -5,7 +5,7 @@ ghost use Rattle.crit_pairs.specs.PeakList.{IsListed};
 
 use crate::apart_rule::renamed_rule;
 use crate::overlapping::overlap;
-use crate::sides::PeakTop;
+use crate::sides::BuiltSides;
 use confluence_theory::overlaps_unify;
 use rewrite_core::{Peak, Top};
 use std::alloc::Global;
@@ -31,5 +31,5 @@ pub fn top_of<T: Top>(alloc: Global, trs: &Trs, peak: &Peak<T>) -> Result<Term, 
         overlaps_unify();
         unreachable!();
     };
-    <Term as PeakTop>::beside_ground(alloc, &unifier, &outer.left)
+    <Term as BuiltSides>::beside_ground(alloc, &unifier, &outer.left)
 }

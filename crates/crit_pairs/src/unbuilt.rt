@@ -8,17 +8,19 @@ ghost use Rattle.crit_pairs.specs.Overlapping.{substitution};
 ghost use Rattle.crit_pairs.specs.Sides.{AreRenumbered};
 ghost use Rattle.crit_pairs.specs.UnbuiltTop.{seen_pair, bound_pair, seen_substitution, seen_tree};
 
+use crate::apart::RulesApart;
 use crate::binding_table::{Binding, Bindings};
 use crate::names::Names;
 use crate::overlapping::OverlapUnifier;
-use crate::sides::{PeakTop, Sides, copied_shared};
-use crate::solved;
+use crate::results::built_sides;
+use crate::sides::{BuiltSides, MadeSides, NoTerms, PeakTop, Sides, copied_shared};
 use crate::whole_sides::WholeSide;
-use rewrite_core::{SharedSide, Top};
+use crate::{PeakFault, solved};
+use rewrite_core::{BuiltTop, SharedSide, Top};
 use std::alloc::Global;
 use std::marker::PhantomData;
 use std::snapshot::Snapshot;
-use trs_core::{OutOfMemory, Term};
+use trs_core::{OutOfMemory, Rule, Term};
 use trs_unify::{Unifier, no_names};
 
 /// A binding as proofs see it. It takes no memory.
@@ -90,16 +92,35 @@ impl<'a> Top for UnbuiltTop<'a> {
     ghost top_tree = { unbuilt_tree };
 }
 
+impl<'a> BuiltTop for UnbuiltTop<'a> {
+    fn term<'s>(side: &'s SharedSide<'a>) -> &'s Term {
+        side.term()
+    }
+}
+
 impl<'a> UnbuiltTop<'a> {
-    ghost use Rattle.std.specs.Prelude.{◌≡◌, IfOk};
+    ghost use Rattle.std.specs.Prelude.{◌≡◌, IfOk, IfSome};
     ghost use Rattle.trs_defs.specs.Substitution.{apply};
     ghost use Rattle.trs_core.specs.View.{tree};
     ghost use Rattle.crit_pairs.specs.InOrder.{in_order};
     ghost use Rattle.crit_pairs.specs.Overlapping.{substitution};
     ghost use Rattle.crit_pairs.specs.UnbuiltTop.{unbuilt_tree};
 
+    /// The same top once more, if it was not seen again itself.
+    pub(crate) fn again(&self) -> Option<UnbuiltTop<'a>>
+        ensures { IfSome result (λ copy. unbuilt_tree copy ≡ unbuilt_tree self.now) }
+    {
+        match &self.seen {
+            Seen::First(first) => Some(UnbuiltTop {
+                seen: Seen::Again(Snapshot::of(first)),
+                sides: PhantomData,
+            }),
+            Seen::Again(_) => None,
+        }
+    }
+
     /// The instance of the outer left side.
-    fn of(
+    pub(crate) fn of(
         alloc: Global,
         unifier: &OverlapUnifier,
         outer_left: &Term,
@@ -141,8 +162,65 @@ fn seen_bindings(alloc: Global, bindings: &[Binding]) -> Result<Vec<SeenBinding>
     Ok(seen)
 }
 
-/// The variables of the top get their numbers, and the other two terms are built.
 impl<'a> PeakTop<'a> for UnbuiltTop<'a> {
+    type Terms = NoTerms;
+
+    ghost holds = { λ _ _ _. Unit {0} };
+
+    fn no_terms(_alloc: Global, _rules: &RulesApart<'a>) -> Result<NoTerms, OutOfMemory> {
+        Ok(NoTerms)
+    }
+
+    fn made(
+        alloc: Global,
+        rules: &RulesApart<'a>,
+        j: usize,
+        outer: &Rule,
+        i: usize,
+        inner: &Rule,
+        place: &[u8],
+        _part: &Term,
+        unifier: &OverlapUnifier,
+        nodes: u64,
+        names: &mut Names,
+        _terms: &mut NoTerms,
+    ) -> Result<MadeSides<UnbuiltTop<'a>>, PeakFault> {
+        built_sides(
+            alloc, rules, j, outer, i, inner, place, unifier, nodes, names,
+        )
+    }
+
+    fn copied(_alloc: Global, top: &UnbuiltTop<'a>) -> Result<Option<UnbuiltTop<'a>>, OutOfMemory> {
+        Ok(top.again())
+    }
+
+    fn same_sides(
+        alloc: Global,
+        _n: usize,
+        left: &SharedSide<'a>,
+        right: &SharedSide<'a>,
+        _terms: &mut NoTerms,
+    ) -> Result<(SharedSide<'a>, SharedSide<'a>), OutOfMemory> {
+        let first = copied_shared(alloc, left)?;
+        let second = copied_shared(alloc, right)?;
+        Ok((first, second))
+    }
+
+    fn sides_beside(
+        alloc: Global,
+        _rule: u32,
+        side: &WholeSide<'a>,
+        _n: usize,
+        right: &SharedSide<'a>,
+        _terms: &mut NoTerms,
+    ) -> Result<(SharedSide<'a>, SharedSide<'a>), OutOfMemory> {
+        let second = copied_shared(alloc, right)?;
+        Ok((SharedSide::Shared(side.term), second))
+    }
+}
+
+/// The variables of the top get their numbers, and the other two terms are built.
+impl<'a> BuiltSides<'a> for UnbuiltTop<'a> {
     fn sides(
         alloc: Global,
         unifier: &OverlapUnifier,
@@ -165,20 +243,6 @@ impl<'a> PeakTop<'a> for UnbuiltTop<'a> {
         top: &Term,
     ) -> Result<UnbuiltTop<'a>, OutOfMemory> {
         UnbuiltTop::of(alloc, unifier, top)
-    }
-
-    fn copied(_alloc: Global, top: &UnbuiltTop<'a>) -> Result<Option<UnbuiltTop<'a>>, OutOfMemory> {
-        match &top.seen {
-            Seen::First(first) => Ok(Some(UnbuiltTop {
-                seen: Seen::Again(Snapshot::of(first)),
-                sides: PhantomData,
-            })),
-            Seen::Again(_) => Ok(None),
-        }
-    }
-
-    fn copied_side(alloc: Global, side: &SharedSide<'a>) -> Result<SharedSide<'a>, OutOfMemory> {
-        copied_shared(alloc, side)
     }
 
     fn whole(_alloc: Global, side: &WholeSide<'a>) -> Result<SharedSide<'a>, OutOfMemory> {

@@ -20,7 +20,10 @@ mod trying;
 mod unifying;
 mod writing;
 
-pub use crit_pairs::{PeakFault, UnbuiltTop, critical_pairs, shared_peaks};
+pub use crit_pairs::{
+    PeakFault, PeakPairs, PooledList, PooledTop, UnbuiltTop, critical_pairs, pooled_peaks,
+    shared_peaks,
+};
 pub use found::LoopFound;
 pub use laws::found_loops_are_loops;
 pub use loops::find_loop;

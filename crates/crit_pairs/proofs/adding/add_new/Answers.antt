@@ -51,4 +51,4 @@ add_found-requires g c =
     let rule = inner g a in
     let unifier = rw c.in-Some.is at c.in_ok-found.ensures.some in
     λ κs.
-    ((refl, tt), (outer_numbered g a, ((rule.0, rule.1, c.apart-inner.ensures rule.0 rule.1), (there g a, (c.requires.positive, (c.requires.few, (small g a, unifier)))))))
+    ((refl, tt), (outer_numbered g a, ((rule.0, rule.1, c.apart-inner.ensures rule.0 rule.1), (there g a, (c.requires.positive, (c.requires.few, (small g a, (unifier, c.requires.held))))))))

@@ -1,7 +1,8 @@
-use Rattle.std.proofs.Common.{◌≡◌, false, ap, subst}
-use Rattle.crit_pairs.specs.Repeated.{AreRepeated, IsLonger}
+use Rattle.std.proofs.Common.{◌≡◌, IfSome, false, slice_get, ap, subst}
+use Rattle.std.proofs.lemmas.Result.{err_from_is_err_and}
+use Rattle.crit_pairs.specs.Repeated.{AreRepeated, IsRepeated, IsLonger}
 use Rattle.crit_pairs.proofs.RepeatedPeaks.{known_again, still_repeated}
-use Rattle.crit_pairs.proofs.listing.add_repeated.Goals.{In_ok-added}
+use Rattle.crit_pairs.proofs.listing.add_repeated.Goals.{After-of, In_ok-added}
 use Rattle.crit_pairs.proofs.listing.add_repeated.Goals as goal
 
 -- the new list begins with the old one
@@ -15,10 +16,19 @@ still_known : (g : _) (c : In_ok-added g) → c.in_ok-add_again.field-0 ≡ fals
 still_known g c not_again =
     still_repeated c.args.rules.now.rules c.args.j c.args.place.now c.args.peaks.now.list.items _ c.args.known.now.noted.items (longer g c not_again) c.requires.known
 
+-- what is known of the peak of an equal rule
+known : (g : _) (c : After-of g) → IfSome c.of.result (IsRepeated c.args.rules.now.rules c.args.j c.args.place.now (slice_get c.args.rules.now.rules c.args.i) c.args.peaks.now.list.items)
+known g c =
+    known_again c.args.rules.now.rules c.args.i c.args.j c.args.place.now c.args.peaks.now.list.items c.args.known.now.noted.items c.equal_before-first.result c.of.result c.requires.known c.equal_before-first.ensures c.of.ensures
+
+pub returns-in_err-add_again-clause-stops : goal.returns-in_err-add_again-clause-stops
+returns-in_err-add_again-clause-stops g c =
+    let p = err_from_is_err_and c.from_residual.result c.from_residual.ensures.1 in
+    rw (p.1, p.2) (c.in_err-add_again.ensures.stops c.args.rules.now.rules c.args.j (known g (goal.at.returns-in_err-add_again-clause-stops g c).After-of))
+
 pub returns-then-branch-clause-moves : goal.returns-then-branch-clause-moves
 returns-then-branch-clause-moves g c =
-    c.in_ok-add_again.ensures.moves c.if-branch.true c.args.rules.now.rules c.args.j
-    (known_again c.args.rules.now.rules c.args.i c.args.j c.args.place.now c.args.peaks.now.list.items c.args.known.now.noted.items c.equal_before-first.result c.of.result c.requires.known c.equal_before-first.ensures c.of.ensures)
+    c.in_ok-add_again.ensures.moves c.if-branch.true c.args.rules.now.rules c.args.j (known g (goal.at.returns-then-branch-clause-moves g c).After-of)
 
 pub returns-then-branch-clause-known : goal.returns-then-branch-clause-known
 returns-then-branch-clause-known g c = still_repeated c.args.rules.now.rules c.args.j c.args.place.now c.args.peaks.now.list.items _ c.args.known.now.noted.items c.in_ok-add_again.ensures.longer c.requires.known

@@ -8,7 +8,7 @@ use Rattle.crit_pairs.specs.Overlapping.{substitution}
 use Rattle.crit_pairs.specs.Sides.{AreRenumbered}
 use Rattle.crit_pairs.specs.UnbuiltTop.{unbuilt_tree}
 use Rattle.crit_pairs.proofs.TermsInOrder.{in_order_beside}
-use Rattle.crit_pairs.proofs.unbuilt.UnbuiltTopPeakTop.beside_ground.Goals as goal
+use Rattle.crit_pairs.proofs.unbuilt.UnbuiltTopBuiltSides.beside_ground.Goals as goal
 
 beside : {E X : Type 0} (of : X → Tree) (made : Result X E) (t : Tree) → IfOk made (λ top. of top ≡ in_order t)
     → IfOk made (λ top. (left right : Tree) → IsGround left → IsGround right → AreRenumbered t left right (of top) left right)

@@ -1,0 +1,31 @@
+use Rattle.std.proofs.Common.{ap}
+use Rattle.std.proofs.lemmas.List.{drop_all}
+use Rattle.trs_defs.proofs.ArgumentLists.{cell}
+use Rattle.trs_core.specs.View.{forest}
+use Rattle.term_pool.proofs.Extending.{extends_on}
+use Rattle.trs_unify.proofs.NewNames.{renaming_goes_on, renaming_ends}
+use Rattle.crit_pairs.proofs.NumberedIds.{all_below, ids_more, renamed_id, id_there}
+use Rattle.crit_pairs.proofs.numbered.+number_in_pool.Goals as goal
+
+pub loop-arg-preserved : goal.loop-arg-preserved
+loop-arg-preserved t c =
+    let calls = c.in_ok-number_in_pool-in-App.ensures in
+    let pushed = c.in_ok-push-in-App.ensures.items in
+    record {
+      distinct = calls.distinct;
+      kept = extends_on c.args.pool.now c.loop-arg.pool c.number_in_pool.new.pool c.loop-arg.invariant.kept calls.kept;
+      below = all_below c.loop-arg.pool c.number_in_pool.new.pool c.loop-arg.ids.items c.push.new.self.items c.in_ok-number_in_pool-in-App.field-0 calls.kept c.loop-arg.invariant.below calls.there pushed;
+      renaming = renaming_goes_on c.args.names.now.order.items c.loop-arg.names.order.items c.number_in_pool.new.names.order.items c.in-App.f _ _ _ _ _ _ _
+          (ap forest (cell c.deref-arg-items.result.now c.loop-arg.arg-index c.arg-item.result c.loop-arg-test.true c.arg-item.is))
+          (ids_more c.loop-arg.pool c.number_in_pool.new.pool c.loop-arg.ids.items c.push.new.self.items c.in_ok-number_in_pool-in-App.field-0 calls.kept c.loop-arg.invariant.below calls.there pushed)
+          c.loop-arg.invariant.renaming calls.renamed;
+    }
+
+pub returns-after-loop-arg-clause-renamed : goal.returns-after-loop-arg-clause-renamed
+returns-after-loop-arg-clause-renamed t c =
+    renamed_id c.apply.result c.args.names.now.order.items c.loop-arg.names.order.items c.loop-arg.pool c.apply.new.self c.in-App.f c.loop-arg.ids.items c.deref.result.now _ c.deref.ensures.value c.apply.ensures.id
+    (renaming_ends c.args.names.now.order.items c.loop-arg.names.order.items c.in-App.f _ _ _
+    (ap forest (drop_all c.loop-arg.arg-index c.deref-arg-items.result.now c.loop-arg-test.false)) c.loop-arg.invariant.renaming)
+
+pub returns-after-loop-arg-clause-there : goal.returns-after-loop-arg-clause-there
+returns-after-loop-arg-clause-there t c = id_there c.apply.result c.apply.new.self _ c.apply.ensures.id

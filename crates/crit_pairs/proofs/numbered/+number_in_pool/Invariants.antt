@@ -1,0 +1,18 @@
+use Rattle.std.proofs.Common.{All, ◌<◌, length, map, drop}
+use Rattle.trs_defs.specs.Size.{size_of}
+use Rattle.trs_core.specs.View.{tree, forest}
+use Rattle.term_pool.specs.Pooled.{Extends, tree_at}
+use Rattle.trs_unify.proofs.NewNames.{AreRenaming}
+use Rattle.crit_pairs.specs.Sides.{IsDistinct}
+use Rattle.crit_pairs.proofs.numbered.+number_in_pool.Given as goal
+
+abbrev pub invariant-loop-arg : goal.invariant-loop-arg
+invariant-loop-arg l = record {
+  distinct : IsDistinct l.names.order.items;
+  kept : Extends l.fn.pool l.pool;
+  below : All (λ i. i < length l.pool) l.ids.items;
+  renaming : AreRenaming l.fn.names.order.items l.f (tree l.t) (map (tree_at l.pool) l.ids.items) l.names.order.items (forest (drop l.arg-index l.arg-items));
+}
+
+abbrev pub decreases-number_in_pool : goal.decreases-number_in_pool
+decreases-number_in_pool l = size_of (tree l.t.now)

@@ -1,0 +1,37 @@
+use Rattle.std.proofs.Common.{IfOk, sym, subst}
+use Rattle.trs_defs.specs.Tree.{Tree}
+use Rattle.term_pool.specs.Pooled.{tree_at}
+use Rattle.crit_pairs.specs.Numbered.{AreNamed, IsNumbered}
+use Rattle.crit_pairs.specs.PooledSide.{IsPooledSide}
+use Rattle.crit_pairs.proofs.PooledRuleLaws.{whatever_ok, right_read, right_small, pooled_still}
+use Rattle.crit_pairs.proofs.PooledSides.{of_own_tree, side_instance_is}
+use Rattle.crit_pairs.proofs.pooled_rules.PooledRules.right_instance.Goals.{After-index-side}
+use Rattle.crit_pairs.proofs.pooled_rules.PooledRules.right_instance.Goals as goal
+
+side_read : (c : After-index-side) → IsPooledSide c.args.pool.now c.requires.named.1.right c.index-side.result.now
+side_read c = right_read c.requires.named.0 c.args.pool.now c.args.self.now c.args.k c.requires.named.1 c.requires.named.2 c.requires.named.3 c.index-side.result.now c.index-side.ensures
+
+pub instance-requires-clause-side : goal.instance-requires-clause-side
+instance-requires-clause-side c = of_own_tree c.args.pool.now c.requires.named.1.right c.index-side.result.now (side_read (goal.at.instance-requires-clause-side c).After-index-side)
+
+pub instance-requires-clause-small : goal.instance-requires-clause-small
+instance-requires-clause-small c =
+    right_small c.requires.named.0 c.args.pool.now c.args.self.now c.args.k c.requires.named.1 c.requires.named.2 c.requires.named.3 c.index-side.result.now
+    (side_read (goal.at.instance-requires-clause-small c).After-index-side)
+
+pub instance-requires-clause-named : goal.instance-requires-clause-named
+instance-requires-clause-named c =
+    subst (AreNamed c.args.names.now.order.items)
+    (sym (side_instance_is c.args.bindings.now c.args.from c.args.pool.now c.requires.named.1.right c.index-side.result.now (side_read (goal.at.instance-requires-clause-named c).After-index-side)))
+    c.requires.named.4
+
+pub returns-clause-numbered : goal.returns-clause-numbered
+returns-clause-numbered c = λ rules r pooled numbered.
+    let names = c.args.names.now.order.items in
+    let N : Tree → Type 0 = λ t. IfOk c.instance.result (λ id. IsNumbered names t (tree_at c.instance.new.pool id)) in
+    subst N (side_instance_is c.args.bindings.now c.args.from c.args.pool.now r.right c.index-side.result.now
+    (right_read rules c.args.pool.now c.args.self.now c.args.k r pooled numbered c.index-side.result.now c.index-side.ensures)) c.instance.ensures.numbered
+
+pub returns-clause-pooled : goal.returns-clause-pooled
+returns-clause-pooled c = λ rules pooled.
+    whatever_ok c.instance.result _ (pooled_still rules c.args.pool.now c.instance.new.pool c.args.self.now c.instance.new.made c.instance.ensures.kept pooled)

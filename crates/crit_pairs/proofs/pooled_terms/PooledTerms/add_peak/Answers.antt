@@ -1,0 +1,24 @@
+use Rattle.std.proofs.Common.{◌≡◌, Some, subst}
+use Rattle.trs_defs.specs.Position.{replaced_at}
+use Rattle.trs_defs.specs.System.{RewriteRule}
+use Rattle.crit_pairs.specs.Overlapping.{substitution}
+use Rattle.crit_pairs.proofs.PooledResultLaws.{instances_at}
+use Rattle.crit_pairs.proofs.PooledTermLaws.{one_pair_more}
+use Rattle.crit_pairs.proofs.TableLaws.{pairs_still}
+use Rattle.crit_pairs.proofs.pooled_terms.PooledTerms.add_peak.Goals as goal
+
+pub returns-clause-limits : goal.returns-clause-limits
+returns-clause-limits c = λ u replaced.
+    let r = c.requires.inner.0 in
+    let I : RewriteRule → Type 0 = λ z. replaced_at c.args.place.now c.args.outer.now.left z.right ≡ Some u in
+    c.in_ok-added.ensures.limits _ _ _
+    (instances_at c.args.rules.now.rules c.args.j c.args.i c.args.place.now (substitution c.args.unifier.now) c.args.outer.now r c.requires.outer c.requires.inner.1 u (subst I c.requires.inner.2 replaced))
+
+pub returns-clause-holds : goal.returns-clause-holds
+returns-clause-holds c = λ peaks p holds left right.
+    let results = c.in_ok-added.ensures.results in
+    record {
+      pairs = one_pair_more c.make_results.new.pool c.args.self.now.pairs.items c.push.new.self.items peaks c.in_ok-added.added.pair p c.in_ok-push.ensures.items
+          (pairs_still c.in_ok-added.ensures.kept holds.pairs) results.left_there results.right_there left right;
+      sides = c.in_ok-added.ensures.pooled;
+    }

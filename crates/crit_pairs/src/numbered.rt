@@ -1,0 +1,93 @@
+//! The ids of instances, with new numbers for their variables.
+ghost use Rattle.std.specs.Prelude.{◌<◌, length, IfOk, OnOk};
+ghost use Rattle.trs_defs.specs.Tree.{var};
+ghost use Rattle.trs_defs.specs.Substitution.{apply};
+ghost use Rattle.trs_core.specs.View.{tree};
+ghost use Rattle.term_pool.specs.Pooled.{Extends, tree_at};
+ghost use Rattle.trs_unify.specs.Renamed.{IsRenamed};
+ghost use Rattle.crit_pairs.specs.Meeting.{put_in};
+ghost use Rattle.crit_pairs.specs.Sides.{IsDistinct};
+
+use crate::binding_table::Bindings;
+use crate::names::Names;
+use crate::solved::number_of;
+use std::alloc::Global;
+use term_pool::Pool;
+use trs_core::{OutOfMemory, Term};
+
+/// The id of a term's instance, with new numbers for its variables: those that are not yet among the
+/// names come behind them as they are met.
+pub(crate) fn renumber_in_pool(
+    alloc: Global,
+    bindings: &Bindings,
+    t: &Term,
+    levels: u32,
+    names: &mut Names,
+    pool: &mut Pool,
+) -> Result<u32, OutOfMemory>
+    requires { IsDistinct names.old.order.items }
+    ensures distinct { OnOk result (IsDistinct names.new.order.items) }
+    ensures renamed { IfOk result (λ id. IsRenamed names.old.order.items names.new.order.items
+        (apply (put_in levels bindings.now.list.items) (tree t.now)) (tree_at pool.new id)) }
+    ensures there { IfOk result (λ id. id < length pool.new) }
+    ensures kept { Extends pool.old pool.new }
+{
+    match t {
+        Term::Var(v) => match bindings.find(*v) {
+            None => number_variable_in_pool(*v, names, pool),
+            Some(bound) => {
+                if levels == 0 {
+                    return number_in_pool(alloc, bound, names, pool);
+                }
+                renumber_in_pool(alloc, bindings, bound, levels - 1, names, pool)
+            }
+        },
+        Term::App(f, args) => {
+            let mut ids = Vec::with_capacity(alloc, args.items.len())?;
+            for arg in &args.items {
+                ids.push(renumber_in_pool(alloc, bindings, arg, levels, names, pool)?)?;
+            }
+            pool.apply(alloc, *f, &ids)
+        }
+    }
+}
+
+/// The id of a term, with new numbers for its variables: those that are not yet among the names come
+/// behind them as they are met.
+fn number_in_pool(
+    alloc: Global,
+    t: &Term,
+    names: &mut Names,
+    pool: &mut Pool,
+) -> Result<u32, OutOfMemory>
+    requires { IsDistinct names.old.order.items }
+    ensures distinct { OnOk result (IsDistinct names.new.order.items) }
+    ensures renamed { IfOk result (λ id. IsRenamed names.old.order.items names.new.order.items
+        (tree t.now) (tree_at pool.new id)) }
+    ensures there { IfOk result (λ id. id < length pool.new) }
+    ensures kept { Extends pool.old pool.new }
+{
+    match t {
+        Term::Var(v) => number_variable_in_pool(*v, names, pool),
+        Term::App(f, args) => {
+            let mut ids = Vec::with_capacity(alloc, args.items.len())?;
+            for arg in &args.items {
+                ids.push(number_in_pool(alloc, arg, names, pool)?)?;
+            }
+            pool.apply(alloc, *f, &ids)
+        }
+    }
+}
+
+/// The id of the variable with its number, or with the next one.
+#[inline]
+fn number_variable_in_pool(v: u32, names: &mut Names, pool: &mut Pool) -> Result<u32, OutOfMemory>
+    requires { IsDistinct names.old.order.items }
+    ensures distinct { OnOk result (IsDistinct names.new.order.items) }
+    ensures renamed { IfOk result (λ id. IsRenamed names.old.order.items names.new.order.items
+        (var v) (tree_at pool.new id)) }
+    ensures there { IfOk result (λ id. id < length pool.new) }
+    ensures kept { Extends pool.old pool.new }
+{
+    pool.variable(number_of(v, names)?)
+}
