@@ -1,6 +1,7 @@
 -- Lists that are kept of the sides of peaks.
-use Rattle.std.proofs.Common.{◌≡◌, ◌<◌, ℕ, Bool, true, false, cond, nat_eq, List, All, length, Option, Some, None, is_some, IsTrue, refl, ap, sym, ◌∙◌, subst, arith}
+use Rattle.std.proofs.Common.{◌≡◌, ◌<◌, ◌≤◌, ℕ, Bool, true, false, cond, nat_eq, List, All, length, Option, Some, None, is_some, IsTrue, refl, ap, sym, ◌∙◌, subst, arith}
 use Rattle.std.proofs.lemmas.Option.{same_Some}
+use Rattle.std.proofs.lemmas.List.{take_all}
 use Rattle.std.proofs.lemmas.List.Elements.{All-weaker}
 use Rattle.std.specs.Prelude.{IfOk, OnOk, MatchOption, Result, Ok, Err}
 use Rattle.trs_defs.specs.Tree.{Tree}
@@ -10,11 +11,10 @@ use Rattle.term_pool.specs.Listed.{Listed}
 use Rattle.term_pool.specs.Redexes.{IsNarrow}
 use Rattle.term_pool.specs.ListedIds.{listed_at}
 use Rattle.term_pool.proofs.ReachedIds.{same_listed}
-use Rattle.term_pool.proofs.Extending.{same_tree_at}
+use Rattle.term_pool.proofs.Extending.{same_tree_at, cut_back}
 use Rattle.term_pool.proofs.PoolTrees.{stands_at, stands_within}
 use Rattle.rewrite_core.specs.PlacedPeak.{PlacedPeak}
 use Rattle.rewrite_core.specs.PathsOfJoin.{PathsOfJoin}
-use Rattle.join_find.specs.RightIds.{AreRightIds}
 use Rattle.join_find.specs.CommonIds.{Reached, HasNoCommonId, IsFirstCommonId}
 use Rattle.join_find.specs.NewmanRow.{IsReach, IsFirstJoin, HasNoJoin}
 use Rattle.join_find.specs.StrongRow.{IsFirstHalf, HasNoHalf}
@@ -23,7 +23,7 @@ use Rattle.join_find.specs.Sides.{IsSide}
 use Rattle.join_find.specs.KeptLists.{list_of, IsPut, AreOf}
 use Rattle.join_find.specs.ReachedSides.{IsNarrowAt, IsReachOf, IsNearOf, AreReached}
 use Rattle.join_find.specs.declared.kept_lists.KeptLists.{KeptLists}
-use Rattle.join_find.specs.declared.side_ids.SideIds.{SideIds}
+use Rattle.term_pool.specs.declared.crossing.KnownIds.{KnownIds}
 use Rattle.join_find.specs.declared.reached_sides.ReachedSides.{ReachedSides}
 use Rattle.join_find.proofs.Joining.{joined_within, halved_within}
 
@@ -74,6 +74,10 @@ still_there old new id list put i there = ap is_some (put i) ∙ there_still (na
 pub narrow_at : (pool : List Tree) (id : ℕ) (t : Tree) → StandsFor pool id t → IsSide t → IsNarrowAt pool id
 narrow_at pool id t is side = record { there = stands_within pool id t is; narrow = subst IsNarrow (sym (stands_at pool id t is)) side.narrow }
 
+pub narrow_too : (from pool : List Tree) (id own : ℕ) → StandsFor pool own (tree_at from id) → IsNarrowAt from id → IsNarrowAt pool own
+narrow_too from pool id own is h =
+    record { there = stands_within pool own (tree_at from id) is; narrow = subst IsNarrow (sym (stands_at pool own (tree_at from id) is)) h.narrow }
+
 pub narrow_still : (a b : List Tree) (id : ℕ) → Extends a b → IsNarrowAt a id → IsNarrowAt b id
 narrow_still a b id extends h = record { there = (let n = h.there in omega (arith, extends.longer, n)); narrow = subst IsNarrow (sym (same_tree_at a b extends id h.there)) h.narrow }
 
@@ -87,35 +91,40 @@ reach_still rules a b id found extends h =
       below = All-weaker (λ e. e.0 < length a) (λ e. e.0 < length b) (λ x k. omega (arith, k, extends.longer)) found h.below;
     }
 
+-- a pool that has no more ids is the same
+pub same_pool : (a b : List Tree) (mark : ℕ) → Extends a b → mark ≡ length a → length b ≡ mark → b ≡ a
+same_pool a b mark extends was is =
+    let few : length b ≤ length a = omega (arith, was, is) in
+    sym (take_all (length a) b few) ∙ cut_back a b extends
+
 -- ---- sides of which more is kept
 
-abbrev sides_of : List Tree → SideIds → KeptLists → KeptLists → ReachedSides
-sides_of pool ids reached near = record { pool = pool; ids = ids; reached = reached; near = near }
+abbrev sides_of : List Tree → KnownIds → KeptLists → KeptLists → ReachedSides
+sides_of pool known reached near = record { pool = pool; known = known; reached = reached; near = near }
 
 -- no sides
-pub none_reached : (rules : List RewriteRule) (pool : List Tree) (ids : SideIds) (reached near : KeptLists) → ((id : ℕ) → list_of reached id ≡ None) → ((id : ℕ) → list_of near id ≡ None)
-    → AreRightIds rules pool ids → AreReached rules (sides_of pool ids reached near)
-none_reached rules pool ids reached near none_there none_near rights =
-    record { reached = none_kept (IsReachOf rules pool) reached none_there; near = none_kept (IsNearOf rules pool) near none_near; rights = rights }
+pub none_reached : (rules : List RewriteRule) (pool : List Tree) (known : KnownIds) (reached near : KeptLists) → ((id : ℕ) → list_of reached id ≡ None) → ((id : ℕ) → list_of near id ≡ None)
+    → AreReached rules (sides_of pool known reached near)
+none_reached rules pool known reached near none_there none_near =
+    record { reached = none_kept (IsReachOf rules pool) reached none_there; near = none_kept (IsNearOf rules pool) near none_near }
 
-module _ (rules : List RewriteRule) (old : ReachedSides) (sides : AreReached rules old) (pool : List Tree) (ids : SideIds) (rights : AreRightIds rules pool ids) where
+module _ (rules : List RewriteRule) (old : ReachedSides) (sides : AreReached rules old) (pool : List Tree) (known : KnownIds) where
   -- the pool is as it was
-  pub same_still : pool ≡ old.pool → AreReached rules (sides_of pool ids old.reached old.near)
+  pub same_still : pool ≡ old.pool → AreReached rules (sides_of pool known old.reached old.near)
   same_still same =
       let R : List Tree → Type 0 = λ p. AreOf (IsReachOf rules p) old.reached in
       let N : List Tree → Type 0 = λ p. AreOf (IsNearOf rules p) old.near in
-      record { reached = subst R (sym same) sides.reached; near = subst N (sym same) sides.near; rights = rights }
+      record { reached = subst R (sym same) sides.reached; near = subst N (sym same) sides.near }
 
   -- what is near one more side is listed
   pub one_more_near : (near : KeptLists) (id : ℕ) (found : List Reached) → pool ≡ old.pool → IsPut id found old.near near → IsSiftedNear rules (tree_at old.pool id) old.pool found
-      → AreReached rules (sides_of pool ids old.reached near)
+      → AreReached rules (sides_of pool known old.reached near)
   one_more_near near id found same put is =
       let R : List Tree → Type 0 = λ p. AreOf (IsReachOf rules p) old.reached in
       let N : List Tree → Type 0 = λ p. AreOf (IsNearOf rules p) near in
       record {
         reached = subst R (sym same) sides.reached;
         near = subst N (sym same) (one_more_kept (IsNearOf rules old.pool) old.near near id found sides.near put (record { near = is }));
-        rights = rights;
       }
 
   module _ (extends : Extends old.pool pool) where
@@ -124,12 +133,12 @@ module _ (rules : List RewriteRule) (old : ReachedSides) (sides : AreReached rul
         of_weaker_kind (IsReachOf rules old.pool) (IsReachOf rules pool) old.reached (λ id found. reach_still rules old.pool pool id found extends) sides.reached
 
     -- the pool has grown, and nothing near is kept
-    pub grown_still : (near : KeptLists) → ((id : ℕ) → list_of near id ≡ None) → AreReached rules (sides_of pool ids old.reached near)
-    grown_still near none = record { reached = reaches_still; near = none_kept (IsNearOf rules pool) near none; rights = rights }
+    pub grown_still : (near : KeptLists) → ((id : ℕ) → list_of near id ≡ None) → AreReached rules (sides_of pool known old.reached near)
+    grown_still near none = record { reached = reaches_still; near = none_kept (IsNearOf rules pool) near none }
 
     -- what one more side reaches is listed
     pub one_more_reached : (reached near : KeptLists) (id : ℕ) (found : List Reached) → ((i : ℕ) → list_of near i ≡ None) → IsPut id found old.reached reached
-        → id < length old.pool → IsReach rules (tree_at old.pool id) (listed_at pool found) → All (λ e. e.0 < length pool) found → AreReached rules (sides_of pool ids reached near)
+        → id < length old.pool → IsReach rules (tree_at old.pool id) (listed_at pool found) → All (λ e. e.0 < length pool) found → AreReached rules (sides_of pool known reached near)
     one_more_reached reached near id found none put there reach below =
         let Q : Tree → Type 0 = λ t. IsReach rules t (listed_at pool found) in
         let is : IsReachOf rules pool id found = record {
@@ -140,7 +149,6 @@ module _ (rules : List RewriteRule) (old : ReachedSides) (sides : AreReached rul
         record {
           reached = one_more_kept (IsReachOf rules pool) old.reached reached id found reaches_still put is;
           near = none_kept (IsNearOf rules pool) near none;
-          rights = rights;
         }
 
 -- ---- answers

@@ -1,11 +1,10 @@
 -- what crates above name through this one
 pub use Rattle.closed_pairs.proofs.crit_pairs
 pub mod Firsts
+pub mod PairPlaces
 pub mod ArgumentReads
 pub mod SharedIds
 pub mod Joining
-pub mod RightSides
-pub mod RightIdLaws
 pub mod KeptOfSides
 pub mod NarrowPeaks
 pub mod NewmanLaw
@@ -19,4 +18,3 @@ pub mod ParallelWalk
 pub mod ParallelPeaks
 pub mod KeptSteps
 pub mod ParallelFollowed
-pub mod FewNodes

@@ -130,7 +130,7 @@ narrow_item nil i a narrow there = absurd cc
 narrow_item (cons t ts) zero a narrow there = subst IsNarrow (same_Some t a there) narrow.0
 narrow_item (cons t ts) (suc i) a narrow there = narrow_item ts i a narrow.1 there
 
-narrow_part : (p : List ℕ) (t part : Tree) → IsNarrow t → subterm_at p t ≡ Some part → IsNarrow part
+pub narrow_part : (p : List ℕ) (t part : Tree) → IsNarrow t → subterm_at p t ≡ Some part → IsNarrow part
 narrow_part [] t part narrow there = subst IsNarrow (same_Some t part there) narrow
 narrow_part (place ∷ p) (var n) part narrow there = absurd cc
 narrow_part (zero ∷ p) (app f ts) part narrow there = absurd cc

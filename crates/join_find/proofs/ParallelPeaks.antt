@@ -1,25 +1,24 @@
 -- A peak that is closed by a parallel step, or by none.
-use Rattle.std.specs.Prelude.{◌≡◌, ◌≢◌, ◌<◌, ℕ, ◌+◌, length, take, List, [], ◌∷◌, ◌++◌}
+use Rattle.std.specs.Prelude.{◌≡◌, ◌≢◌, ◌<◌, ◌≤◌, ℕ, ◌+◌, length, take, List, [], ◌∷◌, ◌++◌}
 use Rattle.std.proofs.Common.{ap, sym, subst, ◌∙◌, get_or}
 use Rattle.std.specs.Global.{Vec}
 use Rattle.std.proofs.lemmas.List.{map-append}
-use Rattle.std.proofs.lemmas.Option.{same_Some}
 use Rattle.trs_defs.specs.Tree.{Tree}
+use Rattle.trs_defs.specs.Size.{size_of}
 use Rattle.trs_defs.specs.System.{RewriteRule}
 use Rattle.trs_defs.specs.Path.{PlacedRule, Follows}
 use Rattle.term_pool.specs.Pooled.{AreDistinct, StandsFor, tree_at}
 use Rattle.term_pool.specs.Redexes.{Grows, below}
 use Rattle.term_pool.specs.declared.paths.PathFault.{PathFault}
 use Rattle.term_pool.specs.declared.paths.PathFault.TheVariants as fault
-use Rattle.term_pool.proofs.PoolTrees.{stands_at}
+use Rattle.term_pool.proofs.PoolTrees.{stands_at, stands_within}
 use Rattle.term_pool.proofs.RedexLists.{below_nothing}
 use Rattle.rewrite_core.specs.PlacedPeak.{PlacedPeak}
 use Rattle.closed_pairs.specs.ParallelClosed.{paths_of}
 use Rattle.join_find.specs.First.{Along}
 use Rattle.join_find.specs.ParallelRow.{IsParallelStep, IsParallelClosing, HasNoClosing, no_step}
-use Rattle.join_find.specs.Sides.{HasSides, HasFewNodes}
-use Rattle.join_find.specs.RightIds.{AreSideIds}
-use Rattle.join_find.specs.LastSteps.{CloseSides}
+use Rattle.join_find.specs.Sides.{IsSideAt}
+use Rattle.join_find.specs.LastSteps.{CloseSides, NoneClose}
 use Rattle.join_find.proofs.Firsts.{along_one_more}
 use Rattle.join_find.proofs.ParallelSteps.{one_parallel_step}
 use Rattle.join_find.proofs.ParallelFollowed.{parallel_step_followed}
@@ -30,42 +29,53 @@ all_steps rules s t old steps place root none g =
     let e : steps ≡ g.0 = g.2 ∙ rw (none, root) (below_nothing g.0) in
     subst (λ xs. IsParallelStep rules s t xs) (sym e) g.1
 
-module _ (rules : List RewriteRule) (peak : PlacedPeak) where
-  -- equal sides are closed with no step
-  pub equal_sides_close : (steps : List PlacedRule) → peak.left ≡ peak.right → steps ≡ [] → IsParallelClosing rules peak steps
-  equal_sides_close steps same none =
-      let here : IsParallelStep rules peak.left peak.right [] = subst (λ t. IsParallelStep rules peak.left t []) same no_step in
-      subst (IsParallelClosing rules peak) (sym none) (record { parallel = here; follows = same })
+module _ (rules : List RewriteRule) (pool : List Tree) (ids : ℕ × ℕ) where
+  -- sides with one id are closed with no step
+  pub one_id_closes : (steps : List PlacedRule) → ids.0 < length pool → ids.1 < length pool → ids.0 ≡ ids.1 → steps ≡ [] → CloseSides rules pool ids steps
+  one_id_closes steps left right same none =
+      let terms : tree_at pool ids.0 ≡ tree_at pool ids.1 = ap (tree_at pool) same in
+      let here : IsParallelStep rules (tree_at pool ids.0) (tree_at pool ids.1) [] = subst (λ t. IsParallelStep rules (tree_at pool ids.0) t []) terms no_step in
+      subst (CloseSides rules pool ids) (sym none) (record { left = left; right = right; parallel = here; follows = terms })
 
-  -- sides with one id are equal
-  pub one_id_closes : (pool : List Tree) (ids : ℕ × ℕ) (steps : List PlacedRule) → AreSideIds pool peak ids → ids.0 ≡ ids.1 → steps ≡ [] → IsParallelClosing rules peak steps
-  one_id_closes pool ids steps are same none =
-      let L : ℕ → Type 0 = λ id. StandsFor pool id peak.left in
-      equal_sides_close steps (same_Some peak.left peak.right (sym (subst L same are.left) ∙ are.right)) none
+  pub no_parallel_step : ((ss : List PlacedRule) → IsParallelStep rules (tree_at pool ids.0) (tree_at pool ids.1) ss → ⊥) → NoneClose rules pool ids
+  no_parallel_step none ss h = none ss h.parallel
 
-  -- what closes a peak closes each peak whose sides have the same ids
-  pub closes_sides : (pool : List Tree) (ids : ℕ × ℕ) (steps : List PlacedRule) → AreSideIds pool peak ids → IsParallelClosing rules peak steps → CloseSides rules pool ids steps
-  closes_sides pool ids steps are h other others =
-      let left : peak.left ≡ other.left = same_Some peak.left other.left (sym are.left ∙ others.left) in
-      let right : peak.right ≡ other.right = same_Some peak.right other.right (sym are.right ∙ others.right) in
+  module _ (steps : List PlacedRule) (is : IsParallelStep rules (tree_at pool ids.0) (tree_at pool ids.1) steps) where
+    -- between sides that have few nodes the steps that were found are followed
+    pub few_nodes_close : IsSideAt pool ids.0 → IsSideAt pool ids.1 → size_of (tree_at pool ids.0) + size_of (tree_at pool ids.1) ≤ 65536 → CloseSides rules pool ids steps
+    few_nodes_close left right few =
+        record { left = left.there; right = right.there; parallel = is; follows = parallel_step_followed rules is left.side.small right.side.small (λ _. few) }
+
+    -- the steps that were found are the only ones; they are not followed
+    pub not_followed : (Follows rules steps (tree_at pool ids.0) (tree_at pool ids.1) → ⊥) → NoneClose rules pool ids
+    not_followed not ss h = not (subst (λ xs. Follows rules xs (tree_at pool ids.0) (tree_at pool ids.1)) (one_parallel_step rules h.parallel is) h.follows)
+
+-- the sides of a peak
+module _ (rules : List RewriteRule) (pool : List Tree) (ids : ℕ × ℕ) (peak : PlacedPeak) (left : StandsFor pool ids.0 peak.left) (right : StandsFor pool ids.1 peak.right) where
+  pub closes_peak : (steps : List PlacedRule) → CloseSides rules pool ids steps → IsParallelClosing rules peak steps
+  closes_peak steps h =
       let P : Tree → Tree → Type 0 = λ s t. IsParallelStep rules s t steps in
       let F : Tree → Tree → Type 0 = λ s t. Follows rules steps s t in
+      let same_left = stands_at pool ids.0 peak.left left in
+      let same_right = stands_at pool ids.1 peak.right right in
       record {
-        parallel = subst (P other.left) right (subst (λ s. P s peak.right) left h.parallel);
-        follows = subst (F other.left) right (subst (λ s. F s peak.right) left h.follows);
+        parallel = subst (P peak.left) same_right (subst (λ s. P s (tree_at pool ids.1)) same_left h.parallel);
+        follows = subst (F peak.left) same_right (subst (λ s. F s (tree_at pool ids.1)) same_left h.follows);
       }
 
-  pub no_parallel_step : ((ss : List PlacedRule) → IsParallelStep rules peak.left peak.right ss → ⊥) → HasNoClosing rules peak
-  no_parallel_step none = record { none = λ ss h. none ss h.parallel }
-
-  -- between sides that have few nodes the steps that were found are followed
-  pub few_nodes_close : (steps : List PlacedRule) → HasSides peak → HasFewNodes peak → IsParallelStep rules peak.left peak.right steps → IsParallelClosing rules peak steps
-  few_nodes_close steps sides few is = record { parallel = is; follows = parallel_step_followed rules is sides.left.small sides.right.small few }
-
-  -- the steps that were found are the only ones; they are not followed
-  pub not_followed : (steps : List PlacedRule) → IsParallelStep rules peak.left peak.right steps → (Follows rules steps peak.left peak.right → ⊥) → HasNoClosing rules peak
-  not_followed steps is not = record {
-    none = λ ss h. not (subst (λ xs. Follows rules xs peak.left peak.right) (one_parallel_step rules h.parallel is) h.follows);
+  pub none_closes_peak : NoneClose rules pool ids → HasNoClosing rules peak
+  none_closes_peak none = record {
+    none = λ steps h.
+        (let P : Tree → Tree → Type 0 = λ s t. IsParallelStep rules s t steps in
+        let F : Tree → Tree → Type 0 = λ s t. Follows rules steps s t in
+        let same_left = sym (stands_at pool ids.0 peak.left left) in
+        let same_right = sym (stands_at pool ids.1 peak.right right) in
+        none steps (record {
+          left = stands_within pool ids.0 peak.left left;
+          right = stands_within pool ids.1 peak.right right;
+          parallel = subst (P (tree_at pool ids.0)) same_right (subst (λ s. P s peak.right) same_left h.parallel);
+          follows = subst (F (tree_at pool ids.0)) same_right (subst (λ s. F s peak.right) same_left h.follows);
+        }));
   }
 
 -- the end of a path that is followed is the term that it leads to

@@ -7,11 +7,10 @@ pub mod NewmanRow
 pub mod StrongRow
 pub mod Answers
 pub mod Sides
-pub mod RightSides
-pub mod RightIds
 pub mod Laws
 pub mod Near
 pub mod ParallelRow
+pub mod Alike
 pub mod LastSteps
 pub mod KeptLists
 pub mod ReachedSides

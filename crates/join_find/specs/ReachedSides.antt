@@ -5,11 +5,11 @@ use Rattle.trs_defs.specs.System.{RewriteRule}
 use Rattle.term_pool.specs.Pooled.{tree_at}
 use Rattle.term_pool.specs.Redexes.{IsNarrow}
 use Rattle.term_pool.specs.ListedIds.{listed_at}
+use Rattle.term_pool.specs.Crossing.{AreKnownIds}
 use Rattle.join_find.specs.CommonIds.{Reached}
 use Rattle.join_find.specs.NewmanRow.{IsReach}
 use Rattle.join_find.specs.Near.{IsSiftedNear}
 use Rattle.join_find.specs.KeptLists.{AreOf}
-use Rattle.join_find.specs.RightIds.{AreRightIds}
 use Rattle.join_find.specs.declared.reached_sides.ReachedSides.{ReachedSides}
 
 -- the id is there, and no symbol of its term has more than 255 arguments
@@ -27,8 +27,11 @@ pub record IsReachOf (rules : List RewriteRule) (pool : List Tree) (id : ℕ) (f
 pub record IsNearOf (rules : List RewriteRule) (pool : List Tree) (id : ℕ) (found : List Reached) : Type 0 where
   pub near : IsSiftedNear rules (tree_at pool id) pool found
 
--- the lists are those of the pool as it is, and so are the ids of right sides
+-- the lists are those of the pool as it is
 pub record AreReached (rules : List RewriteRule) (sides : ReachedSides) : Type 0 where
   pub reached : AreOf (IsReachOf rules sides.pool) sides.reached
   pub near : AreOf (IsNearOf rules sides.pool) sides.near
-  pub rights : AreRightIds rules sides.pool sides.ids
+
+-- what is known of ids of another pool is right
+abbrev pub AreKnown : List Tree → ReachedSides → Type 0
+AreKnown from sides = AreKnownIds from sides.pool sides.known

@@ -1,8 +1,9 @@
 -- Sides of peaks that keep the limits on computed terms.
-use Rattle.std.specs.Prelude.{◌≢◌, ◌≤◌, ◌+◌, List, IsTrue}
+use Rattle.std.specs.Prelude.{◌<◌, ℕ, List, IsTrue, length}
 use Rattle.trs_defs.specs.Member.{In}
 use Rattle.trs_defs.specs.Tree.{Tree}
-use Rattle.trs_defs.specs.Size.{size_of, within_limits}
+use Rattle.trs_defs.specs.Size.{within_limits}
+use Rattle.term_pool.specs.Pooled.{tree_at}
 use Rattle.term_pool.specs.Redexes.{IsNarrow}
 use Rattle.rewrite_core.specs.PlacedPeak.{PlacedPeak}
 
@@ -19,6 +20,7 @@ pub record HasSides (peak : PlacedPeak) : Type 0 where
 abbrev pub HaveSides : List PlacedPeak → Type 0
 HaveSides peaks = (peak : PlacedPeak) → In peak peaks → HasSides peak
 
--- sides that differ have no more nodes together than a computed term may have
-abbrev pub HasFewNodes : PlacedPeak → Type 0
-HasFewNodes peak = peak.left ≢ peak.right → size_of peak.left + size_of peak.right ≤ 65536
+-- the id is there, and its term is such a side
+pub record IsSideAt (pool : List Tree) (id : ℕ) : Type 0 where
+  pub there : id < length pool
+  pub side : IsSide (tree_at pool id)

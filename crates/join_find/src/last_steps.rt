@@ -8,6 +8,9 @@ use rewrite_core::{PathStep, copy_path};
 use std::alloc::Global;
 use trs_core::OutOfMemory;
 
+/// Of left sides with an id from here on no step is kept.
+const MOST_KEPT: usize = 65_536;
+
 /// Two sides, which are told by their ids. Where a parallel step between them was found more than
 /// once, its steps are there.
 #[derive(Drop)]
@@ -19,7 +22,7 @@ struct KeptStep {
 /// For left sides, by their ids, the last parallel step that was found from them. Rules with equal
 /// right sides give peaks with the same two sides. Since the peaks of one outer rule stand together,
 /// it is enough to keep the last one. Its steps are copied when it is found for the second time:
-/// most sides come but once.
+/// most sides come but once. So many sides may differ that large ids get none.
 #[derive(Drop)]
 pub(crate) struct LastSteps {
     by_left: Vec<Option<KeptStep>>,
@@ -53,7 +56,7 @@ impl LastSteps {
     }
 
     /// Keeps the parallel step between two sides. Where they are not those of last time, only the
-    /// sides are kept.
+    /// sides are kept, and nothing where the id of the left one is large.
     pub(crate) fn keep(
         &mut self,
         alloc: Global,
@@ -65,6 +68,9 @@ impl LastSteps {
             → OnOk result (AreLastSteps rules pool self.new) }
     {
         let left = sides.0 as usize;
+        if left >= MOST_KEPT {
+            return Ok(());
+        }
         while self.by_left.len() <= left {
             self.by_left.push(None)?;
         }

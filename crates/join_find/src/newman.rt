@@ -1,21 +1,22 @@
 //! The strategy newman.
-ghost use Rattle.std.specs.Prelude.{◌<◌, Ok, IfOk, OnOk, MatchOption};
-ghost use Rattle.join_find.specs.RightSides.{HasRightSides};
+ghost use Rattle.std.specs.Prelude.{◌<◌, List, Ok, IfOk, OnOk, MatchOption};
+ghost use Rattle.trs_defs.specs.Tree.{Tree};
+ghost use Rattle.rewrite_core.specs.PlacedPeak.{PlacedPeak};
 ghost use Rattle.closed_pairs.specs.crit_pairs.PeakList.{ListsPeaks};
 ghost use Rattle.assign_search.specs.Continues.{Continues};
-ghost use Rattle.join_find.specs.Sides.{HasSides};
+ghost use Rattle.closed_pairs.specs.crit_pairs.PeakPairs.{HoldPairsOf};
+ghost use Rattle.closed_pairs.specs.crit_pairs.Table.{IsPair};
 ghost use Rattle.join_find.specs.NewmanRow.{IsFirstJoin, HasNoJoin, FindsNewman, FailsNewman};
-ghost use Rattle.join_find.specs.ReachedSides.{AreReached};
+ghost use Rattle.join_find.specs.ReachedSides.{IsNarrowAt, AreKnown, AreReached};
 ghost use Rattle.join_find.specs.Answers.{IsFinding};
 
 use crate::reached_sides::ReachedSides;
-use crate::side_ids::Hand;
-use crate::sides::{critical_peaks_have_sides, right_sides_are_sides};
+use crate::sides::critical_peaks_have_sides;
 use assign_search::{Search, Stop};
-use closed_pairs::{Join, Peak};
-use rewrite_core::Top;
+use closed_pairs::{Join, Peak, PeakPair, PeakPairs};
+use rewrite_core::{BuiltTop, Top};
 use std::alloc::Global;
-use term_pool::RulesByRoot;
+use term_pool::{Pool, RulesByRoot};
 use trs_core::{OutOfMemory, Trs};
 
 /// Joins of all peaks: for each the first term that its left side reaches among those that its
@@ -23,7 +24,7 @@ use trs_core::{OutOfMemory, Trs};
 ///
 /// `stop` is asked before the first peak and before each one. What a side reaches is found once for
 /// all its peaks, as long as not too much is kept.
-pub fn find_newman<P: Stop, T: Top>(
+pub fn find_newman<P: Stop, T: BuiltTop>(
     alloc: Global,
     trs: &Trs,
     peaks: &[Peak<T>],
@@ -35,19 +36,38 @@ pub fn find_newman<P: Stop, T: Top>(
         (FailsNewman trs.now.rules peaks.now) (P.stops stop.old < P.stops stop.new)) }
     ensures continues { Continues P.Stop stop.old stop.new }
 {
+    let pairs = PeakPairs::of(alloc, peaks)?;
+    newman_among(alloc, trs, peaks, &pairs, stop)
+}
+
+/// The same as `find_newman`, of peaks whose sides stand in one pool.
+pub fn newman_among<P: Stop, T: Top>(
+    alloc: Global,
+    trs: &Trs,
+    peaks: &[Peak<T>],
+    pairs: &PeakPairs,
+    stop: &mut P,
+) -> Result<Search<Vec<Join>>, OutOfMemory>
+    requires critical { ListsPeaks trs.now.rules (Ok peaks.now) }
+    requires pairs { HoldPairsOf pairs.now peaks.now }
+    ensures answer { IfOk result (IsFinding
+        (λ joins. FindsNewman trs.now.rules peaks.now joins.items)
+        (FailsNewman trs.now.rules peaks.now) (P.stops stop.old < P.stops stop.new)) }
+    ensures continues { Continues P.Stop stop.old stop.new }
+{
     if stop.stopped() {
         return Ok(Search::Stopped);
     }
     critical_peaks_have_sides(trs);
-    right_sides_are_sides();
     let by_root = RulesByRoot::new(alloc, trs)?;
+    let from = pairs.pool();
     let mut sides = ReachedSides::new(alloc);
     let mut joins = Vec::new(alloc);
-    for peak in peaks {
+    for n in 0..peaks.len() {
         if stop.stopped() {
             return Ok(Search::Stopped);
         }
-        match first_join(alloc, &mut sides, &by_root, peak)? {
+        match first_join(alloc, &mut sides, &by_root, from, pairs.pair(n))? {
             Some(join) => joins.push(join)?,
             None => return Ok(Search::NotThere),
         }
@@ -55,22 +75,26 @@ pub fn find_newman<P: Stop, T: Top>(
     Ok(Search::Found(joins))
 }
 
-/// The join of one peak, if there is one.
-fn first_join<T: Top>(
+/// The join of the peak with these sides, which stand in another pool, if there is one.
+fn first_join(
     alloc: Global,
     sides: &mut ReachedSides,
     by_root: &RulesByRoot,
-    peak: &Peak<T>,
+    from: &Pool,
+    pair: PeakPair,
 ) -> Result<Option<Join>, OutOfMemory>
-    requires peak { HasSides peak.now }
-    requires rights { HasRightSides by_root.now.rules peak.now }
+    requires left { IsNarrowAt from.now pair.left }
+    requires right { IsNarrowAt from.now pair.right }
     requires sides { AreReached by_root.now.rules sides.old }
-    ensures join { IfOk result (λ found. MatchOption found
-        (HasNoJoin by_root.now.rules peak.now) (IsFirstJoin by_root.now.rules peak.now)) }
+    requires known { AreKnown from.now sides.old }
+    ensures join { (peak : PlacedPeak) → IsPair from.now pair peak
+        → IfOk result (λ found. MatchOption found
+        (HasNoJoin by_root.now.rules peak) (IsFirstJoin by_root.now.rules peak)) }
     ensures sides { OnOk result (AreReached by_root.now.rules sides.new) }
+    ensures known { OnOk result (AreKnown from.now sides.new) }
 {
     sides.make_room(alloc);
-    let left = sides.intern(alloc, by_root, peak, Hand::Left)?;
-    let right = sides.intern(alloc, by_root, peak, Hand::Right)?;
+    let left = sides.intern(alloc, from, pair.left)?;
+    let right = sides.intern(alloc, from, pair.right)?;
     sides.first_join(alloc, by_root, left, right)
 }

@@ -1,13 +1,12 @@
 //! The sides of peaks, with what they reach.
-ghost use Rattle.std.specs.Prelude.{◌≡◌, ◌<◌, ℕ, List, is_some, IsTrue, IfOk, OnOk, MatchOption};
+ghost use Rattle.std.specs.Prelude.{◌≡◌, ◌<◌, ℕ, List, length, is_some, IsTrue};
+ghost use Rattle.std.specs.Prelude.{IfOk, OnOk, MatchOption};
 ghost use Rattle.trs_defs.specs.Tree.{Tree};
 ghost use Rattle.trs_defs.specs.System.{RewriteRule};
-ghost use Rattle.term_pool.specs.Pooled.{Extends, StandsFor};
+ghost use Rattle.term_pool.specs.Pooled.{Extends, StandsFor, tree_at};
 ghost use Rattle.rewrite_core.specs.PlacedPeak.{PlacedPeak};
-ghost use Rattle.join_find.specs.RightSides.{HasRightSides};
-ghost use Rattle.join_find.specs.RightIds.{side_on};
 ghost use Rattle.join_find.specs.KeptLists.{list_of};
-ghost use Rattle.join_find.specs.ReachedSides.{IsNarrowAt, AreReached};
+ghost use Rattle.join_find.specs.ReachedSides.{IsNarrowAt, AreKnown, AreReached};
 ghost use Rattle.join_find.specs.NewmanRow.{IsFirstJoin, HasNoJoin};
 ghost use Rattle.join_find.specs.StrongRow.{IsFirstHalf, HasNoHalf};
 
@@ -15,11 +14,9 @@ use crate::common::first_common;
 use crate::kept_lists::KeptLists;
 use crate::near::near;
 use crate::reaching::reach;
-use crate::side_ids::{Hand, SideIds};
-use closed_pairs::{Join, Peak};
-use rewrite_core::Top;
+use closed_pairs::Join;
 use std::alloc::Global;
-use term_pool::{Pool, RulesByRoot, ids_are_distinct};
+use term_pool::{KnownIds, Pool, RulesByRoot, ids_are_distinct};
 use trs_core::OutOfMemory;
 
 /// The most ids that are kept from one peak to the next.
@@ -33,7 +30,7 @@ const MOST_KEPT_BYTES: u64 = 268_435_456;
 #[derive(Drop)]
 pub(crate) struct ReachedSides {
     pool: Pool,
-    ids: SideIds,
+    known: KnownIds,
     reached: KeptLists,
     near: KeptLists,
 }
@@ -42,10 +39,11 @@ impl ReachedSides {
     /// No sides. It takes no memory.
     pub(crate) fn new(alloc: Global) -> ReachedSides
         ensures sides { (rules : List RewriteRule) → AreReached rules result }
+        ensures known { (terms : List Tree) → AreKnown terms result }
     {
         ReachedSides {
             pool: Pool::new(alloc),
-            ids: SideIds::new(alloc),
+            known: KnownIds::new(alloc),
             reached: KeptLists::new(alloc),
             near: KeptLists::new(alloc),
         }
@@ -55,38 +53,36 @@ impl ReachedSides {
     pub(crate) fn make_room(&mut self, alloc: Global)
         ensures sides { (rules : List RewriteRule) → AreReached rules self.old
             → AreReached rules self.new }
+        ensures known { (terms : List Tree) → AreKnown terms self.old → AreKnown terms self.new }
     {
         let bytes = self.reached.bytes().saturating_add(self.near.bytes());
         if self.pool.len() <= MOST_KEPT_IDS && bytes <= MOST_KEPT_BYTES {
             return;
         }
         self.pool = Pool::new(alloc);
-        self.ids = SideIds::new(alloc);
+        self.known = KnownIds::new(alloc);
         self.reached = KeptLists::new(alloc);
         self.near = KeptLists::new(alloc);
     }
 
-    /// The id of a side of a peak.
-    pub(crate) fn intern<T: Top>(
+    /// The id of a side that has this id in another pool.
+    pub(crate) fn intern(
         &mut self,
         alloc: Global,
-        by_root: &RulesByRoot,
-        peak: &Peak<T>,
-        hand: Hand,
+        from: &Pool,
+        side: u32,
     ) -> Result<u32, OutOfMemory>
-        requires peak { HasRightSides by_root.now.rules peak.now }
-        requires sides { AreReached by_root.now.rules self.old }
-        ensures id { IfOk result (λ id. StandsFor self.new.pool id (side_on hand peak.now)) }
-        ensures sides { OnOk result (AreReached by_root.now.rules self.new) }
+        requires there { side < length from.now }
+        requires known { AreKnown from.now self.old }
+        ensures id { IfOk result (λ id. StandsFor self.new.pool id (tree_at from.now side)) }
+        ensures known { OnOk result (AreKnown from.now self.new) }
+        ensures sides { (rules : List RewriteRule) → AreReached rules self.old
+            → OnOk result (AreReached rules self.new) }
         ensures kept { OnOk result (Extends self.old.pool self.new.pool) }
     {
         let mark = self.pool.mark();
-        let rules = by_root.rules();
-        let id = self
-            .ids
-            .intern_side(alloc, &mut self.pool, rules, peak, hand)?;
-        if id < mark {
-            self.pool.release(mark);
+        let id = self.pool.take_over(alloc, from, side, &mut self.known)?;
+        if self.pool.len() == mark {
             return Ok(id);
         }
         self.near = KeptLists::new(alloc);
@@ -109,6 +105,8 @@ impl ReachedSides {
             → StandsFor self.old.pool right peak.right → IfOk result (λ found. MatchOption found
             (HasNoJoin by_root.now.rules peak) (IsFirstJoin by_root.now.rules peak)) }
         ensures sides { OnOk result (AreReached by_root.now.rules self.new) }
+        ensures known { (terms : List Tree) → AreKnown terms self.old
+            → OnOk result (AreKnown terms self.new) }
     {
         self.list_reached(alloc, by_root, left)?;
         self.list_reached(alloc, by_root, right)?;
@@ -132,6 +130,8 @@ impl ReachedSides {
             → StandsFor self.old.pool to t → IfOk result (λ found. MatchOption found
             (HasNoHalf by_root.now.rules s t) (IsFirstHalf by_root.now.rules s t)) }
         ensures sides { OnOk result (AreReached by_root.now.rules self.new) }
+        ensures known { (terms : List Tree) → AreKnown terms self.old
+            → OnOk result (AreKnown terms self.new) }
         ensures kept { OnOk result (Extends self.old.pool self.new.pool) }
     {
         self.list_reached(alloc, by_root, from)?;
@@ -153,6 +153,8 @@ impl ReachedSides {
         ensures still { OnOk result ((i : ℕ) → IsTrue (is_some (list_of self.old.reached i))
             → IsTrue (is_some (list_of self.new.reached i))) }
         ensures sides { OnOk result (AreReached by_root.now.rules self.new) }
+        ensures known { (terms : List Tree) → AreKnown terms self.old
+            → OnOk result (AreKnown terms self.new) }
         ensures kept { OnOk result (Extends self.old.pool self.new.pool) }
     {
         if self.reached.has(id) {
@@ -174,6 +176,8 @@ impl ReachedSides {
         requires sides { AreReached by_root.now.rules self.old }
         ensures listed { OnOk result (IsTrue (is_some (list_of self.new.near id))) }
         ensures sides { OnOk result (AreReached by_root.now.rules self.new) }
+        ensures known { (terms : List Tree) → AreKnown terms self.old
+            → OnOk result (AreKnown terms self.new) }
         ensures reached { OnOk result (self.new.reached ≡ self.old.reached) }
         ensures same { OnOk result (self.new.pool ≡ self.old.pool) }
     {

@@ -4,38 +4,39 @@ ghost use Rattle.trs_core.specs.View.{tree};
 ghost use Rattle.trs_defs.specs.Size.{within_limits};
 ghost use Rattle.trs_defs.specs.Path.{StepsAt};
 ghost use Rattle.trs_defs.specs.Substitution.{IsInstance};
-ghost use Rattle.term_pool.specs.Pooled.{StandsFor, tree_at};
+ghost use Rattle.term_pool.specs.LeftSides.{IsGround};
+ghost use Rattle.term_pool.specs.Pooled.{tree_at};
 ghost use Rattle.join_find.specs.ParallelRow.{HasNoRootStep, IsRootStep};
 
-use crate::right_ids::is_ground;
 use std::alloc::Global;
 use term_pool::{Pool, RulesByRoot, ids_are_distinct};
-use trs_core::{OutOfMemory, Position, Rule, Term, Trs, systems_are_valid};
+use trs_core::{OutOfMemory, Position, Rule, Term, Trs, least_variable, systems_are_valid};
 
 /// The least rule that leads at the root from the term of one id to that of another. Only rules
-/// with the root of the first term are tried. The pool is as before.
+/// with the root of the first term are tried. The pool is as before. It is not inlined, for the
+/// stack of deep terms.
+#[inline(never)]
 pub(crate) fn root_rule(
     alloc: Global,
     pool: &mut Pool,
     trs: &Trs,
     by_root: &RulesByRoot,
-    from: &Term,
     ids: (u32, u32),
 ) -> Result<Option<u32>, OutOfMemory>
     requires rules { by_root.now ≡ trs.now }
-    requires from { StandsFor pool.old ids.0 (tree from.now) }
+    requires from { ids.0 < length pool.old }
     requires to { ids.1 < length pool.old }
     requires limits { IsTrue (within_limits (tree_at pool.old ids.1)) }
     ensures same { pool.new ≡ pool.old }
     ensures rule { IfOk result (λ found. MatchOption found
-        (HasNoRootStep trs.now.rules (tree from.now) (tree_at pool.old ids.1))
-        (IsRootStep trs.now.rules (tree from.now) (tree_at pool.old ids.1))) }
+        (HasNoRootStep trs.now.rules (tree_at pool.old ids.0) (tree_at pool.old ids.1))
+        (IsRootStep trs.now.rules (tree_at pool.old ids.0) (tree_at pool.old ids.1))) }
 {
     systems_are_valid(trs);
-    let Term::App(f, _) = from else {
+    let Some(f) = pool.root(ids.0) else {
         return Ok(None);
     };
-    for k in by_root.with_root(*f) {
+    for k in by_root.with_root(f) {
         if leads(alloc, pool, trs, ids, *k)? {
             return Ok(Some(*k));
         }
@@ -111,5 +112,16 @@ fn makes(
             pool.release(mark);
             Ok(reduct == ids.1)
         }
+    }
+}
+
+/// Whether the term has no variable.
+fn is_ground(t: &Term) -> bool
+    ensures { IsTrue result → IsGround (tree t.now) }
+{
+    let least = least_variable(t, 0, None);
+    match least {
+        Some(_) => false,
+        None => true,
     }
 }

@@ -2,7 +2,6 @@ ghost use Rattle.std.specs.Prelude.{List, Ok};
 ghost use Rattle.rewrite_core.specs.PlacedPeak.{PlacedPeak};
 ghost use Rattle.closed_pairs.specs.crit_pairs.PeakList.{ListsPeaks};
 ghost use Rattle.join_find.specs.Sides.{HaveSides};
-ghost use Rattle.join_find.specs.RightSides.{RightSidesAreSides};
 
 use trs_core::{Trs, systems_are_valid};
 
@@ -13,8 +12,3 @@ pub fn critical_peaks_have_sides(trs: &Trs)
 {
     systems_are_valid(trs);
 }
-
-/// A law, with nothing to run: a right side with no variable is a side of its critical peaks as it is.
-pub fn right_sides_are_sides()
-    ensures { RightSidesAreSides }
-{}

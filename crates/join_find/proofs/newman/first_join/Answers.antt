@@ -1,30 +1,35 @@
-use Rattle.term_pool.specs.Pooled.{StandsFor}
-use Rattle.join_find.proofs.KeptOfSides.{narrow_at}
+use Rattle.term_pool.specs.Pooled.{StandsFor, tree_at}
+use Rattle.join_find.proofs.KeptOfSides.{narrow_too}
+use Rattle.join_find.proofs.PairPlaces.{stands_too}
 use Rattle.join_find.proofs.newman.first_join.Goals.{In_ok-right}
 use Rattle.join_find.proofs.newman.first_join.Goals as goal
 
-left_stands : (g : _) (c : In_ok-right g) → StandsFor c.intern-2.new.self.pool c.in_ok-left.left c.args.peak.now.left
-left_stands g c = c.in_ok-right.ensures.kept.kept c.in_ok-left.left c.args.peak.now.left c.in_ok-left.ensures.id
+left_stands : (c : In_ok-right) → StandsFor c.intern-2.new.self.pool c.in_ok-left.left (tree_at c.args.from.now c.args.pair.left)
+left_stands c = c.in_ok-right.ensures.kept.kept c.in_ok-left.left (tree_at c.args.from.now c.args.pair.left) c.in_ok-left.ensures.id
 
-right_stands : (g : _) (c : In_ok-right g) → StandsFor c.intern-2.new.self.pool c.in_ok-right.right c.args.peak.now.right
-right_stands g c = c.in_ok-right.ensures.id
-
-pub intern-requires-clause-sides : goal.intern-requires-clause-sides
-intern-requires-clause-sides g c = c.make_room.ensures.sides c.args.by_root.now.rules c.requires.sides
+pub intern-requires-clause-known : goal.intern-requires-clause-known
+intern-requires-clause-known c = c.make_room.ensures.known c.args.from.now c.requires.known
 
 pub first_join-requires-clause-left : goal.first_join-requires-clause-left
-first_join-requires-clause-left g c =
-    narrow_at c.intern-2.new.self.pool c.in_ok-left.left c.args.peak.now.left (left_stands g (goal.at.first_join-requires-clause-left g c).In_ok-right) c.requires.peak.left
+first_join-requires-clause-left c =
+    narrow_too c.args.from.now c.intern-2.new.self.pool c.args.pair.left c.in_ok-left.left (left_stands (goal.at.first_join-requires-clause-left c).In_ok-right) c.requires.left
 
 pub first_join-requires-clause-right : goal.first_join-requires-clause-right
-first_join-requires-clause-right g c =
-    narrow_at c.intern-2.new.self.pool c.in_ok-right.right c.args.peak.now.right (right_stands g (goal.at.first_join-requires-clause-right g c).In_ok-right) c.requires.peak.right
-
-pub returns-clause-join : goal.returns-clause-join
-returns-clause-join g c =
-    let a = (goal.at.returns-clause-join g c).In_ok-right in
-    c.first_join.ensures.join c.args.peak.now (left_stands g a) (right_stands g a)
+first_join-requires-clause-right c =
+    narrow_too c.args.from.now c.intern-2.new.self.pool c.args.pair.right c.in_ok-right.right c.in_ok-right.ensures.id c.requires.right
 
 pub first_join-requires-clause-sides : goal.first_join-requires-clause-sides
-first_join-requires-clause-sides g c =
-    c.in_ok-right.ensures.sides
+first_join-requires-clause-sides c =
+    let rules = c.args.by_root.now.rules in
+    c.in_ok-right.ensures.sides rules (c.in_ok-left.ensures.sides rules (c.make_room.ensures.sides rules c.requires.sides))
+
+pub returns-clause-join : goal.returns-clause-join
+returns-clause-join c = λ peak is.
+    let a = (goal.at.returns-clause-join c).In_ok-right in
+    let from = c.args.from.now in
+    let pool = c.intern-2.new.self.pool in
+    c.first_join.ensures.join peak (stands_too from pool c.args.pair.left c.in_ok-left.left peak.left is.0 (left_stands a))
+    (stands_too from pool c.args.pair.right c.in_ok-right.right peak.right is.1 c.in_ok-right.ensures.id)
+
+pub returns-clause-known : goal.returns-clause-known
+returns-clause-known c = c.first_join.ensures.known c.args.from.now c.in_ok-right.ensures.known

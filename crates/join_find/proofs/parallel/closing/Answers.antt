@@ -1,22 +1,37 @@
-use Rattle.join_find.specs.RightSides.{HaveRights}
-use Rattle.join_find.specs.RightIds.{AreSideIds}
-use Rattle.join_find.proofs.FewNodes.{rights_few}
+use Rattle.std.proofs.Common.{List, sym, subst}
+use Rattle.trs_defs.specs.Path.{PlacedRule}
+use Rattle.term_pool.proofs.Extending.{undone}
+use Rattle.join_find.specs.LastSteps.{CloseSides}
 use Rattle.join_find.proofs.ParallelPeaks.{one_id_closes}
-use Rattle.join_find.proofs.parallel.closing.Goals.{In-Some}
 use Rattle.join_find.proofs.parallel.closing.Goals as goal
 
-side_ids : (g : _) (c : In-Some g) → AreSideIds c.args.pool.now c.args.peak.now c.in-Some.ids
-side_ids g c = rw c.in-Some.is at (c.ids_of_sides.ensures.ids c.args.trs.now.rules c.args.pool.now c.requires.rights c.requires.peak)
-
 pub returns-then-ids-clause-step : goal.returns-then-ids-clause-step
-returns-then-ids-clause-step g c =
-    let a = (goal.at.returns-then-ids-clause-step g c).In-Some in
-    one_id_closes c.args.trs.now.rules c.args.peak.now c.args.pool.now c.in-Some.ids c.new.result.items (side_ids g a) c.if-ids.true c.new.ensures.items
+returns-then-ids-clause-step c =
+    one_id_closes c.args.trs.now.rules c.args.pool.now c.args.ids c.new.result.items c.requires.left.there c.requires.right.there c.if-ids.true c.new.ensures.items
 
-pub closing_of_rights-requires-clause-few : goal.closing_of_rights-requires-clause-few
-closing_of_rights-requires-clause-few g c =
-    let rights : HaveRights c.args.trs.now.rules c.args.peak.now = rw c.in-Some.is at (c.ids_of_sides.ensures.sides c.args.trs.now.rules c.args.pool.now c.requires.rights c.requires.peak) in
-    rights_few c.args.trs.now c.args.peak.now c.requires.limits rights
+pub returns-in-Some-clause-step : goal.returns-in-Some-clause-step
+returns-in-Some-clause-step c =
+    let kept : CloseSides c.args.trs.now.rules c.args.pool.now c.args.ids c.in-Some.steps.now = rw c.in-Some.is at (c.between.ensures c.args.trs.now.rules c.args.pool.now c.requires.last) in
+    let C : List PlacedRule → Type 0 = λ ss. CloseSides c.args.trs.now.rules c.args.pool.now c.args.ids ss in
+    subst C (sym c.in_ok-copy_path.ensures) kept
 
-pub closing_of_rights-requires-clause-ids : goal.closing_of_rights-requires-clause-ids
-closing_of_rights-requires-clause-ids g c = side_ids g (goal.at.closing_of_rights-requires-clause-ids g c).In-Some
+pub returns-in_default-found-clause-step : goal.returns-in_default-found-clause-step
+returns-in_default-found-clause-step c = rw c.in_default-found.is at c.in_ok-found.ensures.step
+
+pub returns-clause-step : goal.returns-clause-step
+returns-clause-step c = rw c.in-Some-found.is at c.in_ok-found.ensures.step
+
+pub returns-in_default-found-clause-released : goal.returns-in_default-found-clause-released
+returns-in_default-found-clause-released c =
+    undone c.args.pool.now c.closing_of_ids.new.pool c.release.new.self c.mark-mark.result c.mark-mark.ensures c.in_ok-found.ensures.kept c.release.ensures
+
+pub returns-clause-released : goal.returns-clause-released
+returns-clause-released c =
+    undone c.args.pool.now c.closing_of_ids.new.pool c.release.new.self c.mark-mark.result c.mark-mark.ensures c.in_ok-found.ensures.kept c.release.ensures
+
+pub returns-clause-last : goal.returns-clause-last
+returns-clause-last c =
+    let rules = c.args.trs.now.rules in
+    let closes : CloseSides rules c.args.pool.now c.args.ids c.in-Some-found.steps.items = rw c.in-Some-found.is at c.in_ok-found.ensures.step in
+    let C : List PlacedRule → Type 0 = λ ss. CloseSides rules c.args.pool.now c.args.ids ss in
+    c.in_ok-keep.ensures rules c.args.pool.now c.requires.last (subst C (sym c.deref.ensures.value) closes)

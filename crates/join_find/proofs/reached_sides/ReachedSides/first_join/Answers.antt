@@ -13,3 +13,7 @@ returns-clause-join c = λ peak left right.
 
 pub returns-clause-sides : goal.returns-clause-sides
 returns-clause-sides c = always_ok c.first_common.result c.in_ok-list_reached-2.ensures.sides
+
+pub returns-clause-known : goal.returns-clause-known
+returns-clause-known c = λ terms known.
+    always_ok c.first_common.result (c.in_ok-list_reached-2.ensures.known terms (c.in_ok-list_reached.ensures.known terms known))
