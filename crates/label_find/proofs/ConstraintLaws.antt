@@ -241,18 +241,18 @@ constraint_for rules pool sides lefts rights peak left right inner outer i j d d
     }
 
 -- the constraint of a peak, of sides that have numbers in the table
-pub constraint_of_numbered : (rules : List RewriteRule) (listed numbered : ListedSides) (table : List SideRules) (peak : PlacedPeak) (left_tree right_tree : Tree) (left_id right_id inner outer left right : ℕ)
-    (d : PeakConstraint) → numbered.lists ≡ listed.lists → AreListed rules listed → AreDistinct listed.pool → StandsFor listed.pool left_id left_tree → StandsFor listed.pool right_id right_tree
+pub constraint_of_numbered : (rules : List RewriteRule) (from : List Tree) (listed numbered : ListedSides) (table : List SideRules) (peak : PlacedPeak) (left_tree right_tree : Tree) (left_id right_id inner outer left right : ℕ)
+    (d : PeakConstraint) → numbered.lists ≡ listed.lists → AreListed rules from listed → AreDistinct listed.pool → StandsFor listed.pool left_id left_tree → StandsFor listed.pool right_id right_tree
     → left_tree ≡ peak.left → right_tree ≡ peak.right → inner ≡ peak.inner → outer ≡ peak.outer → IsNumbered numbered table left_id left → IsNumbered numbered table right_id right
     → IsConstraintOf inner outer left right table d → IsConstraintFor rules table peak d
-constraint_of_numbered rules listed numbered table peak left_tree right_tree left_id right_id inner outer left right d same sides distinct left_stands right_stands left_is right_is inner_is outer_is of_left of_right h =
+constraint_of_numbered rules from listed numbered table peak left_tree right_tree left_id right_id inner outer left right d same sides distinct left_stands right_stands left_is right_is inner_is outer_is of_left of_right h =
     let left_at : list_of listed.lists left_id ≡ Some of_left.paths = ap (λ (lists : KeptLists). list_of lists left_id) (sym same) ∙ of_left.listed in
     let right_at : list_of listed.lists right_id ≡ Some of_right.paths = ap (λ (lists : KeptLists). list_of lists right_id) (sym same) ∙ of_right.listed in
     let P : List Entry → Tree → Type 0 = λ paths t. IsPathList rules t (listed_at listed.pool paths) in
     constraint_for rules listed.pool table of_left.paths of_right.paths peak of_left.side of_right.side inner outer left right d distinct
-    (ends_below rules listed sides left_id left_tree of_left.paths left_at) (ends_below rules listed sides right_id right_tree of_right.paths right_at) inner_is outer_is
-    (subst (P of_left.paths) left_is (list_from rules listed sides left_id left_tree of_left.paths left_at left_stands))
-    (subst (P of_right.paths) right_is (list_from rules listed sides right_id right_tree of_right.paths right_at right_stands)) of_left.there of_right.there of_left.of_paths of_right.of_paths h
+    (ends_below rules from listed sides left_id left_tree of_left.paths left_at) (ends_below rules from listed sides right_id right_tree of_right.paths right_at) inner_is outer_is
+    (subst (P of_left.paths) left_is (list_from rules from listed sides left_id left_tree of_left.paths left_at left_stands))
+    (subst (P of_right.paths) right_is (list_from rules from listed sides right_id right_tree of_right.paths right_at right_stands)) of_left.there of_right.there of_left.of_paths of_right.of_paths h
 
 -- a constraint over a table that has grown
 pub constraint_still : (rules : List RewriteRule) (old new : List SideRules) (peak : PlacedPeak) (d : PeakConstraint) → IsFrontOf old new → IsConstraintFor rules old peak d → IsConstraintFor rules new peak d

@@ -98,8 +98,8 @@ few_paths rules pool id found h =
     omega (arith, count, listed, few)
 
 -- few paths, and so few groups
-pub small_side : (rules : List RewriteRule) (sides : ListedSides) (table : List SideRules) (id number : ℕ) → AreListed rules sides → IsNumbered sides table id number → IsSmallSide table number
-small_side rules sides table id number listed h =
+pub small_side : (rules : List RewriteRule) (from : List Tree) (sides : ListedSides) (table : List SideRules) (id number : ℕ) → AreListed rules from sides → IsNumbered sides table id number → IsSmallSide table number
+small_side rules from sides table id number listed h =
     let few = few_paths rules sides.pool id h.paths (listed.lists id h.paths h.listed) in
     let groups = h.of_paths.few in
     record { side = h.side; there = h.there; few = omega (arith, few, groups) }

@@ -34,8 +34,8 @@ listed_short rules t es is e i =
     ]
 
 -- the paths that are listed of sides
-pub short_paths : (rules : List RewriteRule) (sides : ListedSides) → AreListed rules sides → HaveShortPaths sides
-short_paths rules sides listed_all = record {
+pub short_paths : (rules : List RewriteRule) (from : List Tree) (sides : ListedSides) → AreListed rules from sides → HaveShortPaths sides
+short_paths rules from sides listed_all = record {
   each = λ id found at e i.
       listed_short rules (tree_at sides.pool id) (listed_at sides.pool found) (listed_all.lists id found at).list (listed sides.pool e) (in_map (listed sides.pool) i);
 }

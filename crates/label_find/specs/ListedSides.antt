@@ -6,7 +6,6 @@ use Rattle.trs_defs.specs.System.{RewriteRule}
 use Rattle.term_pool.specs.Pooled.{tree_at}
 use Rattle.term_pool.specs.ListedIds.{listed_at}
 use Rattle.join_find.specs.KeptLists.{list_of, AreOf}
-use Rattle.join_find.specs.RightIds.{AreRightIds}
 use Rattle.path_lists.specs.Adding.{Entry}
 use Rattle.path_lists.specs.PathList.{IsPathList}
 use Rattle.path_lists.specs.KnownEnds.{AreKnownEnds}
@@ -14,6 +13,7 @@ use Rattle.label_find.specs.declared.listed_sides.ListedSides.{ListedSides}
 use Rattle.label_find.specs.declared.side_rules.SideRules.{SideRules}
 use Rattle.label_find.specs.RuleList.{AreShort}
 use Rattle.label_find.specs.SideRules.{IsSideOf}
+use Rattle.term_pool.specs.Crossing.{AreKnownIds}
 
 -- the list is that of the paths from the id's term
 pub record IsPathsOf (rules : List RewriteRule) (pool : List Tree) (id : ℕ) (found : List Entry) : Type 0 where
@@ -21,10 +21,10 @@ pub record IsPathsOf (rules : List RewriteRule) (pool : List Tree) (id : ℕ) (f
   pub list : IsPathList rules (tree_at pool id) (listed_at pool found)
   pub below : All (λ e. e.0 < length pool) found
 
--- the lists are those of the pool as it is, and so are the ids of right sides, and what is known of ends
-pub record AreListed (rules : List RewriteRule) (sides : ListedSides) : Type 0 where
+-- the lists are those of the pool as it is, and so are the ids that are known for those of another pool, and what is known of ends
+pub record AreListed (rules : List RewriteRule) (from : List Tree) (sides : ListedSides) : Type 0 where
   pub lists : AreOf (IsPathsOf rules sides.pool) sides.lists
-  pub rights : AreRightIds rules sides.pool sides.ids
+  pub known : AreKnownIds from sides.pool sides.known
   pub ends : AreKnownEnds rules sides.pool sides.ends
 
 -- no path of the lists has more than 4 steps
@@ -46,10 +46,10 @@ pub record IsNumbered (sides : ListedSides) (table : List SideRules) (id number 
 pub record AreNumbered (sides : ListedSides) (table : List SideRules) : Type 0 where
   pub each : (id number : ℕ) → number_of sides id ≡ Some number → IsNumbered sides table id number
 
--- the pool, the ids, what is known of ends, and the lists are the same
+-- the pool, the known ids, what is known of ends, and the lists are the same
 pub record HasSameLists (old new : ListedSides) : Type 0 where
   pub pool : new.pool ≡ old.pool
-  pub ids : new.ids ≡ old.ids
+  pub known : new.known ≡ old.known
   pub ends : new.ends ≡ old.ends
   pub lists : new.lists ≡ old.lists
 

@@ -2,19 +2,20 @@
 ghost use Rattle.std.specs.Prelude.{◌≡◌, ◌<◌, IfOk, OnOk, MatchOption};
 ghost use Rattle.assign_search.specs.Continues.{Continues};
 ghost use Rattle.join_find.specs.First.{Along};
-ghost use Rattle.join_find.specs.RightSides.{HasRightSides, HaveRightSides};
 ghost use Rattle.join_find.specs.Sides.{HasSides, HaveSides};
 ghost use Rattle.path_lists.specs.Growth.{GrowsBy};
 ghost use Rattle.label_find.specs.Closing.{CanBeClosed, CanAllBeClosed, IsJoinBy};
 ghost use Rattle.label_find.specs.ListedSides.{AreListed};
+ghost use Rattle.join_find.specs.crit_pairs.Table.{IsPair};
+ghost use Rattle.join_find.specs.crit_pairs.PeakPairs.{HoldPairsOf};
 
 use crate::closing::first_closing;
 use crate::listed_sides::ListedSides;
 use assign_search::Stop;
-use join_find::Hand;
+use join_find::{PeakPair, PeakPairs};
 use rewrite_core::{Join, Peak, Top};
 use std::alloc::Global;
-use term_pool::RulesByRoot;
+use term_pool::{Pool, RulesByRoot};
 use trs_core::{OutOfMemory, Trs};
 
 /// For each peak the first two of its paths that close it by these ranks, or `None` where it was
@@ -25,6 +26,7 @@ pub(crate) fn joins_by<P: Stop, T: Top>(
     by_root: &RulesByRoot,
     growth: u64,
     peaks: &[Peak<T>],
+    pairs: &PeakPairs,
     ranks: &[u32],
     sides: &mut ListedSides,
     stop: &mut P,
@@ -32,8 +34,8 @@ pub(crate) fn joins_by<P: Stop, T: Top>(
     requires table { by_root.now ≡ trs.now }
     requires grows { GrowsBy trs.now.rules growth }
     requires sides { HaveSides peaks.now }
-    requires rights { HaveRightSides trs.now.rules peaks.now }
-    requires listed { AreListed trs.now.rules sides.old }
+    requires pairs { HoldPairsOf pairs.now peaks.now }
+    requires listed { AreListed trs.now.rules pairs.now.pool sides.old }
     requires can { CanAllBeClosed trs.now.rules ranks.now peaks.now }
     ensures joins { IfOk result (λ found. MatchOption found
         (P.stops stop.old < P.stops stop.new)
@@ -41,11 +43,13 @@ pub(crate) fn joins_by<P: Stop, T: Top>(
     ensures continues { Continues P.Stop stop.old stop.new }
 {
     let mut joins = Vec::new(alloc);
-    for peak in peaks {
+    for (n, peak) in peaks.iter().enumerate() {
         if stop.stopped() {
             return Ok(None);
         }
-        let join = join_at(alloc, sides, trs, by_root, growth, peak, ranks)?;
+        let pair = pairs.pair(n);
+        let from = pairs.pool();
+        let join = join_at(alloc, sides, trs, by_root, growth, peak, from, pair, ranks)?;
         joins.push(join)?;
     }
     Ok(Some(joins))
@@ -59,20 +63,22 @@ fn join_at<T: Top>(
     by_root: &RulesByRoot,
     growth: u64,
     peak: &Peak<T>,
+    from: &Pool,
+    pair: PeakPair,
     ranks: &[u32],
 ) -> Result<Join, OutOfMemory>
     requires table { by_root.now ≡ trs.now }
     requires grows { GrowsBy trs.now.rules growth }
     requires sides { HasSides peak.now }
-    requires rights { HasRightSides trs.now.rules peak.now }
-    requires listed { AreListed trs.now.rules sides.old }
+    requires pair { IsPair from.now pair peak.now }
+    requires listed { AreListed trs.now.rules from.now sides.old }
     requires can { CanBeClosed trs.now.rules ranks.now peak.now }
     ensures join { IfOk result (IsJoinBy trs.now.rules ranks.now peak.now) }
-    ensures listed { OnOk result (AreListed trs.now.rules sides.new) }
+    ensures listed { OnOk result (AreListed trs.now.rules from.now sides.new) }
 {
     sides.make_room(alloc);
-    let left = sides.list(alloc, trs, by_root, growth, peak, Hand::Left)?;
-    let right = sides.list(alloc, trs, by_root, growth, peak, Hand::Right)?;
+    let left = sides.list(alloc, trs, by_root, growth, from, pair.left)?;
+    let right = sides.list(alloc, trs, by_root, growth, from, pair.right)?;
     let numbers = (peak.inner, peak.outer);
     first_closing(
         alloc,

@@ -3,7 +3,6 @@ ghost use Rattle.std.specs.Prelude.{◌≡◌, ◌<◌, Ok, IfOk};
 ghost use Rattle.assign_search.specs.Continues.{Continues};
 ghost use Rattle.join_find.specs.crit_pairs.PeakList.{ListsPeaks};
 ghost use Rattle.join_find.specs.First.{Along};
-ghost use Rattle.join_find.specs.RightSides.{HaveRightSides};
 ghost use Rattle.join_find.specs.Sides.{HaveSides};
 ghost use Rattle.join_find.specs.StrongRow.{AreLinear};
 ghost use Rattle.join_find.specs.Answers.{IsFinding};
@@ -12,6 +11,7 @@ ghost use Rattle.label_find.specs.ConstraintPuzzle.{IsConstraintFor};
 ghost use Rattle.label_find.specs.Closing.{CanAllBeClosed};
 ghost use Rattle.label_find.specs.ListedSides.{AreListed};
 ghost use Rattle.label_find.specs.LabelAnswers.{IsLabelling, IsLabelledBy};
+ghost use Rattle.join_find.specs.crit_pairs.PeakPairs.{HoldPairsOf};
 
 use crate::constraint::PeakConstraint;
 use crate::constraints::constraints_of;
@@ -20,9 +20,9 @@ use crate::listed_sides::ListedSides;
 use crate::side_rules::SideRules;
 use crate::space::LabelSpace;
 use assign_search::{Search, Stop, first_solution};
-use join_find::{are_linear, critical_peaks_have_sides, right_sides_are_sides};
+use join_find::{PeakPairs, are_linear, critical_peaks_have_sides};
 use path_lists::{growth_of, path_lists_are_one};
-use rewrite_core::{Join, Peak, Top};
+use rewrite_core::{BuiltTop, Join, Peak, Top};
 use std::alloc::Global;
 use term_pool::RulesByRoot;
 use trs_core::{OutOfMemory, Trs};
@@ -44,7 +44,7 @@ pub struct Labelled {
 /// `stop` is asked first, before each peak and before each prefix of ranks, and before each peak
 /// again once ranks are found. A constraint is tested with no memory: for each end of paths from a
 /// side the lists of rules along them are kept, each once, and shared by the peaks with this side.
-pub fn find_label<P: Stop, T: Top>(
+pub fn find_label<P: Stop, T: BuiltTop>(
     alloc: Global,
     trs: &Trs,
     peaks: &[Peak<T>],
@@ -56,11 +56,29 @@ pub fn find_label<P: Stop, T: Top>(
         trs.now.rules peaks.now budget (P.stops stop.old < P.stops stop.new)) }
     ensures continues { Continues P.Stop stop.old stop.new }
 {
+    let pairs = PeakPairs::of(alloc, peaks)?;
+    label_among(alloc, trs, peaks, &pairs, budget, stop)
+}
+
+/// The same over peaks whose sides may stand elsewhere, as those of `pooled_peaks`.
+pub fn label_among<P: Stop, T: Top>(
+    alloc: Global,
+    trs: &Trs,
+    peaks: &[Peak<T>],
+    pairs: &PeakPairs,
+    budget: u64,
+    stop: &mut P,
+) -> Result<Search<Labelled>, OutOfMemory>
+    requires critical { ListsPeaks trs.now.rules (Ok peaks.now) }
+    requires pairs { HoldPairsOf pairs.now peaks.now }
+    ensures answer { IfOk result (IsLabelling
+        trs.now.rules peaks.now budget (P.stops stop.old < P.stops stop.new)) }
+    ensures continues { Continues P.Stop stop.old stop.new }
+{
     if stop.stopped() {
         return Ok(Search::Stopped);
     }
     critical_peaks_have_sides(trs);
-    right_sides_are_sides();
     if !are_linear(trs) {
         return Ok(Search::NotThere);
     }
@@ -69,7 +87,7 @@ pub fn find_label<P: Stop, T: Top>(
     let mut sides = ListedSides::new(alloc);
     let mut table = Vec::new(alloc);
     let found = constraints_of(
-        alloc, trs, &by_root, growth, peaks, &mut sides, &mut table, stop,
+        alloc, trs, &by_root, growth, peaks, pairs, &mut sides, &mut table, stop,
     )?;
     match found {
         None => Ok(Search::Stopped),
@@ -80,6 +98,7 @@ pub fn find_label<P: Stop, T: Top>(
                 &by_root,
                 growth,
                 peaks,
+                pairs,
                 table,
                 constraints,
                 budget,
@@ -97,6 +116,7 @@ fn search_ranks<P: Stop, T: Top>(
     by_root: &RulesByRoot,
     growth: u64,
     peaks: &[Peak<T>],
+    pairs: &PeakPairs,
     table: Vec<SideRules>,
     constraints: Vec<PeakConstraint>,
     budget: u64,
@@ -107,8 +127,8 @@ fn search_ranks<P: Stop, T: Top>(
     requires by_root { by_root.now ≡ trs.now }
     requires grows { GrowsBy trs.now.rules growth }
     requires sides { HaveSides peaks.now }
-    requires rights { HaveRightSides trs.now.rules peaks.now }
-    requires listed { AreListed trs.now.rules sides.old }
+    requires pairs { HoldPairsOf pairs.now peaks.now }
+    requires listed { AreListed trs.now.rules pairs.now.pool sides.old }
     requires linear { AreLinear trs.now.rules }
     requires constraints { Along (IsConstraintFor trs.now.rules table.items)
         peaks.now constraints.items }
@@ -126,7 +146,9 @@ fn search_ranks<P: Stop, T: Top>(
     match first_solution(alloc, &space, budget, stop) {
         Err(_) => Err(OutOfMemory),
         Ok(Search::Found(ranks)) => {
-            labelled_by(alloc, trs, by_root, growth, peaks, &ranks, sides, stop)
+            labelled_by(
+                alloc, trs, by_root, growth, peaks, pairs, &ranks, sides, stop,
+            )
         }
         Ok(Search::NotThere) => Ok(Search::NotThere),
         Ok(Search::Spent) => Ok(Search::Spent),
@@ -141,6 +163,7 @@ fn labelled_by<P: Stop, T: Top>(
     by_root: &RulesByRoot,
     growth: u64,
     peaks: &[Peak<T>],
+    pairs: &PeakPairs,
     ranks: &[u32],
     sides: &mut ListedSides,
     stop: &mut P,
@@ -148,14 +171,16 @@ fn labelled_by<P: Stop, T: Top>(
     requires table { by_root.now ≡ trs.now }
     requires grows { GrowsBy trs.now.rules growth }
     requires sides { HaveSides peaks.now }
-    requires rights { HaveRightSides trs.now.rules peaks.now }
-    requires listed { AreListed trs.now.rules sides.old }
+    requires pairs { HoldPairsOf pairs.now peaks.now }
+    requires listed { AreListed trs.now.rules pairs.now.pool sides.old }
     requires can { CanAllBeClosed trs.now.rules ranks.now peaks.now }
     ensures answer { IfOk result (IsFinding (IsLabelledBy trs.now.rules peaks.now ranks.now) ⊥
         (P.stops stop.old < P.stops stop.new)) }
     ensures continues { Continues P.Stop stop.old stop.new }
 {
-    match joins_by(alloc, trs, by_root, growth, peaks, ranks, sides, stop)? {
+    match joins_by(
+        alloc, trs, by_root, growth, peaks, pairs, ranks, sides, stop,
+    )? {
         None => Ok(Search::Stopped),
         Some(joins) => {
             let ranks = widen(alloc, ranks)?;

@@ -19,5 +19,5 @@ mod side_rules;
 mod space;
 mod used;
 
-pub use label::{Labelled, find_label};
+pub use label::{Labelled, find_label, label_among};
 pub use laws::found_labels_apply;

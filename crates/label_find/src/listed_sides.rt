@@ -1,10 +1,9 @@
 //! The sides of peaks, with the paths from them.
-ghost use Rattle.std.specs.Prelude.{◌≡◌, ◌<◌, ℕ, List, Some, is_some, IsTrue, IfOk, OnOk};
+ghost use Rattle.std.specs.Prelude.{◌≡◌, ◌<◌, ℕ, List, Some, is_some, length, IsTrue, IfOk, OnOk};
+ghost use Rattle.trs_defs.specs.Tree.{Tree};
 ghost use Rattle.trs_defs.specs.System.{RewriteRule};
-ghost use Rattle.term_pool.specs.Pooled.{Extends, StandsFor};
-ghost use Rattle.join_find.specs.RightSides.{HasRightSides};
-ghost use Rattle.join_find.specs.RightIds.{side_on};
-ghost use Rattle.join_find.specs.Sides.{HasSides};
+ghost use Rattle.term_pool.specs.Pooled.{Extends, StandsFor, tree_at};
+ghost use Rattle.join_find.specs.Sides.{IsSide};
 ghost use Rattle.join_find.specs.KeptLists.{list_of};
 ghost use Rattle.path_lists.specs.Growth.{GrowsBy};
 ghost use Rattle.label_find.specs.declared.side_rules.SideRules.{SideRules};
@@ -13,11 +12,11 @@ ghost use Rattle.label_find.specs.ListedSides.{HasSameLists, IsFrontOf};
 
 use crate::side_rules::SideRules;
 use indexmap::IndexMap;
-use join_find::{Hand, KeptLists, SideIds, side_on};
-use path_lists::{KnownEnds, paths_with};
-use rewrite_core::{PathStep, Peak, Top};
+use join_find::KeptLists;
+use path_lists::{KnownEnds, paths_from};
+use rewrite_core::PathStep;
 use std::alloc::Global;
-use term_pool::{Pool, RulesByRoot};
+use term_pool::{KnownIds, Pool, RulesByRoot};
 use trs_core::{OutOfMemory, Trs};
 
 /// The most ids that are kept from one peak to the next.
@@ -31,7 +30,7 @@ const MOST_KEPT_BYTES: u64 = 67_108_864;
 #[derive(Drop)]
 pub(crate) struct ListedSides {
     pool: Pool,
-    ids: SideIds,
+    known: KnownIds,
     ends: KnownEnds,
     lists: KeptLists,
     numbers: IndexMap<u32, usize>,
@@ -40,12 +39,13 @@ pub(crate) struct ListedSides {
 impl ListedSides {
     /// No sides. It takes no memory.
     pub(crate) fn new(alloc: Global) -> ListedSides
-        ensures sides { (rules : List RewriteRule) → AreListed rules result }
+        ensures sides { (rules : List RewriteRule) (from : List Tree)
+            → AreListed rules from result }
         ensures numbers { (table : List SideRules) → AreNumbered result table }
     {
         ListedSides {
             pool: Pool::new(alloc),
-            ids: SideIds::new(alloc),
+            known: KnownIds::new(alloc),
             ends: KnownEnds::new(alloc),
             lists: KeptLists::new(alloc),
             numbers: IndexMap::new(alloc),
@@ -55,8 +55,8 @@ impl ListedSides {
     /// Makes room for two sides. Where many ids or long lists are kept, all are given up, and the
     /// numbers with them.
     pub(crate) fn make_room(&mut self, alloc: Global)
-        ensures sides { (rules : List RewriteRule) → AreListed rules self.old
-            → AreListed rules self.new }
+        ensures sides { (rules : List RewriteRule) (from : List Tree)
+            → AreListed rules from self.old → AreListed rules from self.new }
         ensures numbers { (table : List SideRules) → AreNumbered self.old table
             → AreNumbered self.new table }
     {
@@ -64,45 +64,43 @@ impl ListedSides {
             return;
         }
         self.pool = Pool::new(alloc);
-        self.ids = SideIds::new(alloc);
+        self.known = KnownIds::new(alloc);
         self.ends = KnownEnds::new(alloc);
         self.lists = KeptLists::new(alloc);
         self.numbers = IndexMap::new(alloc);
     }
 
-    /// The id of a side of a peak. Its paths are listed, if they are not listed yet.
-    pub(crate) fn list<T: Top>(
+    /// The id of the side that has an id in another pool. Its paths are listed, if they are not
+    /// listed yet.
+    pub(crate) fn list(
         &mut self,
         alloc: Global,
         trs: &Trs,
         by_root: &RulesByRoot,
         growth: u64,
-        peak: &Peak<T>,
-        hand: Hand,
+        from: &Pool,
+        side: u32,
     ) -> Result<u32, OutOfMemory>
         requires table { by_root.now ≡ trs.now }
         requires grows { GrowsBy trs.now.rules growth }
-        requires peak { HasSides peak.now }
-        requires rights { HasRightSides trs.now.rules peak.now }
-        requires sides { AreListed trs.now.rules self.old }
-        ensures id { IfOk result (λ id. StandsFor self.new.pool id (side_on hand peak.now)) }
+        requires there { side < length from.now }
+        requires side { IsSide (tree_at from.now side) }
+        requires sides { AreListed trs.now.rules from.now self.old }
+        ensures id { IfOk result (λ id. StandsFor self.new.pool id (tree_at from.now side)) }
         ensures listed { IfOk result (λ id. IsTrue (is_some (list_of self.new.lists id))) }
         ensures still { OnOk result ((i : ℕ) → IsTrue (is_some (list_of self.old.lists i))
             → IsTrue (is_some (list_of self.new.lists i))) }
-        ensures sides { OnOk result (AreListed trs.now.rules self.new) }
+        ensures sides { OnOk result (AreListed trs.now.rules from.now self.new) }
         ensures kept { OnOk result (Extends self.old.pool self.new.pool) }
         ensures numbers { OnOk result ((table : List SideRules) → AreNumbered self.old table
             → AreNumbered self.new table) }
     {
-        let id = self
-            .ids
-            .intern_side(alloc, &mut self.pool, trs.rules(), peak, hand)?;
+        let id = self.pool.take_over(alloc, from, side, &mut self.known)?;
         if self.lists.has(id) {
             return Ok(id);
         }
-        let side = side_on(peak, hand);
         let ends = &mut self.ends;
-        let list = paths_with(alloc, &mut self.pool, trs, by_root, side, growth, ends)?;
+        let list = paths_from(alloc, &mut self.pool, trs, by_root, id, growth, ends)?;
         self.lists.put(id, list)?;
         Ok(id)
     }

@@ -3,6 +3,7 @@ use Rattle.trs_defs.specs.Tree.{Tree}
 use Rattle.rewrite_core.specs.PlacedPeak.{PlacedPeak}
 use Rattle.rewrite_core.specs.PathsOfJoin.{PathsOfJoin}
 use Rattle.term_pool.proofs.Extending.{extends_itself}
+use Rattle.term_pool.proofs.PoolTrees.{stands_within}
 use Rattle.path_lists.specs.Adding.{Entry}
 use Rattle.path_lists.specs.PathList.{IsPathList}
 use Rattle.term_pool.specs.ListedIds.{listed_at}
@@ -10,26 +11,41 @@ use Rattle.label_find.specs.Closing.{CanCloseIds, IsFirstClosingIds, IsJoinBy}
 use Rattle.label_find.proofs.ConstraintLaws.{ok_map}
 use Rattle.label_find.proofs.Closings.{can_close_read, join_by}
 use Rattle.label_find.proofs.PathsOfSides.{list_from, ends_below}
+use Rattle.join_find.proofs.PairPlaces.{side_at, stands_too}
 use Rattle.label_find.proofs.joining.join_at.Goals.{After-at-2}
 use Rattle.label_find.proofs.joining.join_at.Goals as goal
 
+pub list-requires-clause-there : goal.list-requires-clause-there
+list-requires-clause-there g c = stands_within c.args.from.now c.args.pair.left c.args.peak.now.left c.requires.pair.0
+
+pub list-requires-clause-side : goal.list-requires-clause-side
+list-requires-clause-side g c = (side_at c.args.from.now c.args.pair.left c.args.peak.now.left c.requires.pair.0 c.requires.sides.left).side
+
+pub list-requires-2-clause-there : goal.list-requires-2-clause-there
+list-requires-2-clause-there g c = stands_within c.args.from.now c.args.pair.right c.args.peak.now.right c.requires.pair.1
+
+pub list-requires-2-clause-side : goal.list-requires-2-clause-side
+list-requires-2-clause-side g c = (side_at c.args.from.now c.args.pair.right c.args.peak.now.right c.requires.pair.1 c.requires.sides.right).side
+
 pub list-requires-clause-sides : goal.list-requires-clause-sides
-list-requires-clause-sides g c = c.make_room.ensures.sides c.args.trs.now.rules c.requires.listed
+list-requires-clause-sides g c = c.make_room.ensures.sides c.args.trs.now.rules c.args.from.now c.requires.listed
 
 lefts_below : (g : _) (c : After-at-2 g) → All (λ (e : Entry). e.0 < length c.list-2.new.self.pool) c.at.result.now
-lefts_below g c = ends_below c.args.trs.now.rules c.list-2.new.self c.in_ok-right.ensures.sides c.in_ok-left.left c.args.peak.now.left c.at.result.now c.at.ensures
+lefts_below g c = ends_below c.args.trs.now.rules c.args.from.now c.list-2.new.self c.in_ok-right.ensures.sides c.in_ok-left.left c.args.peak.now.left c.at.result.now c.at.ensures
 
 rights_below : (g : _) (c : After-at-2 g) → All (λ (e : Entry). e.0 < length c.list-2.new.self.pool) c.at-2.result.now
-rights_below g c = ends_below c.args.trs.now.rules c.list-2.new.self c.in_ok-right.ensures.sides c.in_ok-right.right c.args.peak.now.right c.at-2.result.now c.at-2.ensures
+rights_below g c = ends_below c.args.trs.now.rules c.args.from.now c.list-2.new.self c.in_ok-right.ensures.sides c.in_ok-right.right c.args.peak.now.right c.at-2.result.now c.at-2.ensures
 
 from_left : (g : _) (c : After-at-2 g) → IsPathList c.args.trs.now.rules c.args.peak.now.left (listed_at c.list-2.new.self.pool c.at.result.now)
 from_left g c =
-    list_from c.args.trs.now.rules c.list-2.new.self c.in_ok-right.ensures.sides c.in_ok-left.left c.args.peak.now.left c.at.result.now c.at.ensures
-    (c.in_ok-right.ensures.kept.kept c.in_ok-left.left c.args.peak.now.left c.in_ok-left.ensures.id)
+    list_from c.args.trs.now.rules c.args.from.now c.list-2.new.self c.in_ok-right.ensures.sides c.in_ok-left.left c.args.peak.now.left c.at.result.now c.at.ensures
+    (c.in_ok-right.ensures.kept.kept c.in_ok-left.left c.args.peak.now.left
+    (stands_too c.args.from.now c.list.new.self.pool c.args.pair.left c.in_ok-left.left c.args.peak.now.left c.requires.pair.0 c.in_ok-left.ensures.id))
 
 from_right : (g : _) (c : After-at-2 g) → IsPathList c.args.trs.now.rules c.args.peak.now.right (listed_at c.list-2.new.self.pool c.at-2.result.now)
 from_right g c =
-    list_from c.args.trs.now.rules c.list-2.new.self c.in_ok-right.ensures.sides c.in_ok-right.right c.args.peak.now.right c.at-2.result.now c.at-2.ensures c.in_ok-right.ensures.id
+    list_from c.args.trs.now.rules c.args.from.now c.list-2.new.self c.in_ok-right.ensures.sides c.in_ok-right.right c.args.peak.now.right c.at-2.result.now c.at-2.ensures
+    (stands_too c.args.from.now c.list-2.new.self.pool c.args.pair.right c.in_ok-right.right c.args.peak.now.right c.requires.pair.1 c.in_ok-right.ensures.id)
 
 pub first_closing-requires-clause-lefts : goal.first_closing-requires-clause-lefts
 first_closing-requires-clause-lefts g c =

@@ -9,19 +9,19 @@ pub returns-in-Some-clause-grown : goal.returns-in-Some-clause-grown
 returns-in-Some-clause-grown c = record { more = []; is = sym (append-nil c.args.table.now.items) }
 
 pub returns-in-Some-clause-same : goal.returns-in-Some-clause-same
-returns-in-Some-clause-same c = record { pool = refl; ids = refl; ends = refl; lists = refl }
+returns-in-Some-clause-same c = record { pool = refl; known = refl; ends = refl; lists = refl }
 
 pub new-requires : goal.new-requires
 new-requires c = c.requires.short.each c.args.id c.at.result.now c.at.ensures
 
 pub returns-clause-number : goal.returns-clause-number
 returns-clause-number c =
-    side_numbered c.args.self.now (record { pool = c.args.self.now.pool; ids = c.args.self.now.ids; ends = c.args.self.now.ends; lists = c.args.self.now.lists; numbers = c.insert.new.self }) c.args.table.now.items c.push.new.self.items
+    side_numbered c.args.self.now (record { pool = c.args.self.now.pool; known = c.args.self.now.known; ends = c.args.self.now.ends; lists = c.args.self.now.lists; numbers = c.insert.new.self }) c.args.table.now.items c.push.new.self.items
     c.args.id c.in_ok-side.side c.at.result.now refl c.at.ensures c.in_ok-side.ensures c.in_ok-push.ensures.items c.len-number.result (c.len-number.ensures ∙ c.args.table.now.ok.0)
 
 pub returns-clause-numbers : goal.returns-clause-numbers
 returns-clause-numbers c =
-    sides_numbered c.args.self.now (record { pool = c.args.self.now.pool; ids = c.args.self.now.ids; ends = c.args.self.now.ends; lists = c.args.self.now.lists; numbers = c.insert.new.self }) c.args.table.now.items c.push.new.self.items
+    sides_numbered c.args.self.now (record { pool = c.args.self.now.pool; known = c.args.self.now.known; ends = c.args.self.now.ends; lists = c.args.self.now.lists; numbers = c.insert.new.self }) c.args.table.now.items c.push.new.self.items
     c.args.id c.in_ok-side.side c.at.result.now refl c.at.ensures c.in_ok-side.ensures c.in_ok-push.ensures.items c.len-number.result (c.len-number.ensures ∙ c.args.table.now.ok.0)
     c.in_ok-insert.ensures.updates.0 c.requires.numbers
 
@@ -29,4 +29,4 @@ pub returns-clause-grown : goal.returns-clause-grown
 returns-clause-grown c = record { more = c.in_ok-side.side ∷ []; is = c.in_ok-push.ensures.items }
 
 pub returns-clause-same : goal.returns-clause-same
-returns-clause-same c = record { pool = refl; ids = refl; ends = refl; lists = refl }
+returns-clause-same c = record { pool = refl; known = refl; ends = refl; lists = refl }
