@@ -17,7 +17,8 @@ use Rattle.join_find.specs.CommonIds.{Reached}
 use Rattle.conf_find.specs.Fork.{Fork, fork_from, fork_of}
 use Rattle.conf_find.specs.declared.forks.ForkFound.{ForkFound}
 use Rattle.conf_find.specs.ForkRows.{IsShortReach, IsTestOf, NothingParted, PartsLists, PartsNot, PartsBy}
-use Rattle.conf_find.specs.SameSides.{HaveSameSides}
+use Rattle.join_find.specs.crit_pairs.Table.{IsPair}
+use Rattle.join_find.specs.crit_pairs.declared.table.PeakPair.{PeakPair}
 use Rattle.conf_find.proofs.Pairs.{IsFirstOfTerms}
 
 pub listed_there : (pool : List Tree) (es : List Reached) (i : ℕ) (x : Reached) → slice_get es i ≡ Some x → slice_get (listed_at pool es) i ≡ Some (listed pool x)
@@ -52,6 +53,12 @@ step_behind path longer new first copy step i is same made below read =
 pub all_behind : (path longer : List PlacedRule) (first : PlacedRule) (i : ℕ) → longer ≡ first ∷ take i path → length path ≤ i → longer ≡ first ∷ path
 all_behind path longer first i is all = is ∙ ap (λ l. first ∷ l) (take_all i path all)
 
+-- the ids are those of a peak that was passed
+pub record IsOfPassed (parted : List RewriteRule → Tree → Tree → Type 0) (rules : List RewriteRule) (pool : List Tree) (pair : PeakPair) : Type 0 where
+  pub peak : PlacedPeak
+  pub stands : IsPair pool pair peak
+  pub passed : PartsNot parted rules peak
+
 module _ (parted : List RewriteRule → Tree → Tree → Type 0) (rules : List RewriteRule) (peak : PlacedPeak) where
   pub parted_by : (pool : List Tree) (lefts rights : List Reached) (pair : ℕ × ℕ) (terms : IsFirstOfTerms (λ (u v : Listed). parted rules u.term v.term) (listed_at pool lefts) (listed_at pool rights) pair)
       (x y : Reached) → slice_get lefts pair.0 ≡ Some x → slice_get rights pair.1 ≡ Some y → (how : ForkTest) → IsTestOf rules (tree_at pool x.0) (tree_at pool y.0) how
@@ -82,9 +89,12 @@ module _ (parted : List RewriteRule → Tree → Tree → Type 0) (rules : List 
   of_peak lefts rights (Ok (Some f)) from_left from_right h = record { lefts = lefts; rights = rights; from_left = from_left; from_right = from_right; parts = h }
   of_peak lefts rights (Err e) from_left from_right h = tt
 
-  -- a peak with the same sides
-  pub parts_not_either : (other : PlacedPeak) → HaveSameSides other peak → PartsNot parted rules other → PartsNot parted rules peak
-  parts_not_either other same h =
+  -- a peak with the same ids has the same sides
+  pub passed_again : (pool : List Tree) (before pair : PeakPair) → IsOfPassed parted rules pool before → (before.left ≡ pair.left) × (before.right ≡ pair.right) → IsPair pool pair peak → PartsNot parted rules peak
+  passed_again pool before pair old same stands =
+      let h = old.passed in
       let L : Tree → Type 0 = λ t. IsShortReach rules t h.lefts in
       let R : Tree → Type 0 = λ t. IsShortReach rules t h.rights in
-      record { lefts = h.lefts; rights = h.rights; from_left = subst L same.left h.from_left; from_right = subst R same.right h.from_right; none = h.none }
+      let left : old.peak.left ≡ peak.left = same_Some old.peak.left peak.left (sym old.stands.0 ∙ (ap (slice_get pool) same.0 ∙ stands.0)) in
+      let right : old.peak.right ≡ peak.right = same_Some old.peak.right peak.right (sym old.stands.1 ∙ (ap (slice_get pool) same.1 ∙ stands.1)) in
+      record { lefts = h.lefts; rights = h.rights; from_left = subst L left h.from_left; from_right = subst R right h.from_right; none = h.none }

@@ -19,14 +19,14 @@ use Rattle.term_pool.proofs.PoolTrees.{stands_at, stands_within}
 use Rattle.join_find.specs.CommonIds.{Reached}
 use Rattle.join_find.specs.KeptLists.{list_of, IsPut, AreOf}
 use Rattle.join_find.specs.ReachedSides.{IsNarrowAt}
-use Rattle.join_find.specs.RightIds.{AreRightIds}
 use Rattle.join_find.specs.declared.kept_lists.KeptLists.{KeptLists}
-use Rattle.join_find.specs.declared.side_ids.SideIds.{SideIds}
 use Rattle.join_find.proofs.KeptOfSides.{none_kept, one_more_kept, of_weaker_kind}
 use Rattle.conf_find.specs.ForkRows.{IsShortReach}
 use Rattle.conf_find.specs.Marks.{AreMarkedIds, Lasts}
 use Rattle.conf_find.specs.ReachedSides.{IsShortReachOf, AreReached, AreMarksOf}
 use Rattle.conf_find.specs.declared.reached_sides.ReachedSides.{ReachedSides}
+use Rattle.term_pool.specs.Crossing.{AreKnownIds}
+use Rattle.term_pool.specs.declared.crossing.KnownIds.{KnownIds}
 use Rattle.conf_find.proofs.ForkPeaks.{listed_there}
 
 -- what narrow terms reach is narrow
@@ -56,21 +56,21 @@ reach_still rules a b id found extends h =
       below = All-weaker (λ e. e.0 < length a) (λ e. e.0 < length b) (λ x k. omega (arith, k, extends.longer)) found h.below;
     }
 
-abbrev sides_of : List Tree → SideIds → KeptLists → ReachedSides
-sides_of pool ids reached = record { pool = pool; ids = ids; reached = reached }
+abbrev sides_of : List Tree → KnownIds → KeptLists → ReachedSides
+sides_of pool known reached = record { pool = pool; known = known; reached = reached }
 
 -- no sides
-pub none_reached : (rules : List RewriteRule) (sides : ReachedSides) → ((id : ℕ) → list_of sides.reached id ≡ None) → AreRightIds rules sides.pool sides.ids → AreReached rules sides
-none_reached rules sides none rights = record { reached = none_kept (IsShortReachOf rules sides.pool) sides.reached none; rights = rights }
+pub none_reached : (rules : List RewriteRule) (from : List Tree) (sides : ReachedSides) → ((id : ℕ) → list_of sides.reached id ≡ None) → AreKnownIds from sides.pool sides.known → AreReached rules from sides
+none_reached rules from sides none known = record { reached = none_kept (IsShortReachOf rules sides.pool) sides.reached none; known = known }
 
-module _ (rules : List RewriteRule) (old : ReachedSides) (sides : AreReached rules old) (pool : List Tree) (ids : SideIds) (rights : AreRightIds rules pool ids) (extends : Extends old.pool pool) where
+module _ (rules : List RewriteRule) (from : List Tree) (old : ReachedSides) (sides : AreReached rules from old) (pool : List Tree) (known : KnownIds) (are_known : AreKnownIds from pool known) (extends : Extends old.pool pool) where
   -- the pool has grown
-  pub reached_still : AreReached rules (sides_of pool ids old.reached)
-  reached_still = record { reached = of_weaker_kind (IsShortReachOf rules old.pool) (IsShortReachOf rules pool) old.reached (λ id found. reach_still rules old.pool pool id found extends) sides.reached; rights = rights }
+  pub reached_still : AreReached rules from (sides_of pool known old.reached)
+  reached_still = record { reached = of_weaker_kind (IsShortReachOf rules old.pool) (IsShortReachOf rules pool) old.reached (λ id found. reach_still rules old.pool pool id found extends) sides.reached; known = are_known }
 
   -- what one more side reaches is listed
   pub one_more_reached : (reached : KeptLists) (before : List Tree) (id : ℕ) (found : List Reached) (t : Tree) → IsPut id found old.reached reached → Extends before pool → StandsFor before id t
-      → IsShortReach rules (tree_at before id) (listed_at pool found) → All (λ e. e.0 < length pool) found → AreReached rules (sides_of pool ids reached)
+      → IsShortReach rules (tree_at before id) (listed_at pool found) → All (λ e. e.0 < length pool) found → AreReached rules from (sides_of pool known reached)
   one_more_reached reached before id found t put grown is reach below =
       let Q : Tree → Type 0 = λ u. IsShortReach rules u (listed_at pool found) in
       let one : IsShortReachOf rules pool id found = record {
@@ -78,21 +78,21 @@ module _ (rules : List RewriteRule) (old : ReachedSides) (sides : AreReached rul
         reach = subst Q (sym (same_tree_at before pool grown id (stands_within before id t is))) reach;
         below = below;
       } in
-      record { reached = one_more_kept (IsShortReachOf rules pool) old.reached reached id found reached_still.reached put one; rights = rights }
+      record { reached = one_more_kept (IsShortReachOf rules pool) old.reached reached id found reached_still.reached put one; known = are_known }
 
 module _ {A : Type 0} (has_mark : A → ℕ → Type 0) (of_pool : List RewriteRule → List Tree → A → Type 0) (rules : List RewriteRule) where
   -- no sides and no marks
   pub none_marked : (sides : ReachedSides) (marks : A) → ((id : ℕ) → list_of sides.reached id ≡ None) → of_pool rules sides.pool marks → AreMarksOf has_mark of_pool rules sides marks
   none_marked sides marks none are = record { are = are; each = none_kept (λ id found. AreMarkedIds has_mark marks found) sides.reached none }
 
-  module _ (old : ReachedSides) (marks : A) (marked : AreMarksOf has_mark of_pool rules old marks) (pool : List Tree) (ids : SideIds) where
+  module _ (old : ReachedSides) (marks : A) (marked : AreMarksOf has_mark of_pool rules old marks) (pool : List Tree) (known : KnownIds) where
     -- the pool has grown
-    pub marks_still : Lasts of_pool → Extends old.pool pool → AreMarksOf has_mark of_pool rules (sides_of pool ids old.reached) marks
+    pub marks_still : Lasts of_pool → Extends old.pool pool → AreMarksOf has_mark of_pool rules (sides_of pool known old.reached) marks
     marks_still lasts extends = record { are = lasts rules old.pool pool marks extends marked.are; each = marked.each }
 
     -- one more list is marked
     pub one_more_marked : (new : A) (reached : KeptLists) (id : ℕ) (found : List Reached) → ((i : ℕ) → has_mark marks i → has_mark new i) → of_pool rules pool new
-        → IsPut id found old.reached reached → AreMarkedIds has_mark new found → AreMarksOf has_mark of_pool rules (sides_of pool ids reached) new
+        → IsPut id found old.reached reached → AreMarkedIds has_mark new found → AreMarksOf has_mark of_pool rules (sides_of pool known reached) new
     one_more_marked new reached id found still are put these =
         let before : AreOf (λ i es. AreMarkedIds has_mark new es) old.reached =
         of_weaker_kind (λ i es. AreMarkedIds has_mark marks es) (λ i es. AreMarkedIds has_mark new es) old.reached
@@ -100,7 +100,7 @@ module _ {A : Type 0} (has_mark : A → ℕ → Type 0) (of_pool : List RewriteR
         record { are = are; each = one_more_kept (λ i es. AreMarkedIds has_mark new es) old.reached reached id found before put these }
 
 -- what the side of an id reaches, where that is listed
-module _ (rules : List RewriteRule) (sides : ReachedSides) (reached : AreReached rules sides) (id : ℕ) (found : List Reached) (at : list_of sides.reached id ≡ Some found) where
+module _ (rules : List RewriteRule) (from : List Tree) (sides : ReachedSides) (reached : AreReached rules from sides) (id : ℕ) (found : List Reached) (at : list_of sides.reached id ≡ Some found) where
   pub reach_from : (t u : Tree) → StandsFor sides.pool id t → t ≡ u → IsShortReach rules u (listed_at sides.pool found)
   reach_from t u is same =
       let Q : Tree → Type 0 = λ s. IsShortReach rules s (listed_at sides.pool found) in

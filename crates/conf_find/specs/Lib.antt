@@ -8,4 +8,3 @@ pub mod SharedCaps
 pub mod Marks
 pub mod Laws
 pub mod ReachedSides
-pub mod SameSides

@@ -6,9 +6,9 @@ use Rattle.term_pool.specs.Pooled.{tree_at}
 use Rattle.term_pool.specs.ListedIds.{listed_at}
 use Rattle.join_find.specs.CommonIds.{Reached}
 use Rattle.join_find.specs.KeptLists.{AreOf}
-use Rattle.join_find.specs.RightIds.{AreRightIds}
 use Rattle.conf_find.specs.ForkRows.{IsShortReach}
 use Rattle.conf_find.specs.Marks.{AreMarkedIds}
+use Rattle.term_pool.specs.Crossing.{AreKnownIds}
 use Rattle.conf_find.specs.declared.reached_sides.ReachedSides.{ReachedSides}
 
 -- the list is what the id's term reaches in few steps
@@ -17,10 +17,10 @@ pub record IsShortReachOf (rules : List RewriteRule) (pool : List Tree) (id : �
   pub reach : IsShortReach rules (tree_at pool id) (listed_at pool found)
   pub below : All (λ e. e.0 < length pool) found
 
--- the lists are those of the pool as it is, and so are the ids of right sides
-pub record AreReached (rules : List RewriteRule) (sides : ReachedSides) : Type 0 where
+-- the lists are those of the pool as it is, and so are the ids that are known for those of another pool
+pub record AreReached (rules : List RewriteRule) (from : List Tree) (sides : ReachedSides) : Type 0 where
   pub reached : AreOf (IsShortReachOf rules sides.pool) sides.reached
-  pub rights : AreRightIds rules sides.pool sides.ids
+  pub known : AreKnownIds from sides.pool sides.known
 
 -- the marks are those of the pool as it is, and each id of a list has one
 pub record AreMarksOf {A : Type 0} (has_mark : A → ℕ → Type 0) (of_pool : List RewriteRule → List Tree → A → Type 0) (rules : List RewriteRule) (sides : ReachedSides) (marks : A) : Type 0 where

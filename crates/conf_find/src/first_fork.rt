@@ -1,9 +1,8 @@
 //! The first fork among critical peaks to two terms that never meet.
-ghost use Rattle.std.specs.Prelude.{◌<◌, All, length, Ok, IsTrue, IfOk, OnOk, MatchOption};
+ghost use Rattle.std.specs.Prelude.{◌≡◌, ◌<◌, All, length, Ok, IsTrue, IfOk, OnOk, MatchOption};
 ghost use Rattle.term_pool.specs.ListedIds.{listed_at};
 ghost use Rattle.term_pool.specs.Pooled.{tree_at};
 ghost use Rattle.assign_search.specs.Continues.{Continues};
-ghost use Rattle.join_find.specs.RightSides.{HasRightSides};
 ghost use Rattle.join_find.specs.crit_pairs.PeakList.{ListsPeaks, IsListed};
 ghost use Rattle.join_find.specs.Sides.{HasSides};
 ghost use Rattle.join_find.specs.Answers.{IsFinding};
@@ -12,7 +11,8 @@ ghost use Rattle.conf_find.specs.ForkRows.{FindsParted, FailsParted, PartsNot, P
 ghost use Rattle.conf_find.specs.ForkRows.{NothingParted, PartsLists};
 ghost use Rattle.conf_find.specs.Marks.{AreMarkedIds};
 ghost use Rattle.conf_find.specs.ReachedSides.{AreReached, AreMarksOf};
-ghost use Rattle.conf_find.specs.SameSides.{HaveSameSides};
+ghost use Rattle.join_find.specs.crit_pairs.Table.{IsPair};
+ghost use Rattle.join_find.specs.crit_pairs.PeakPairs.{HoldPairsOf};
 
 use crate::forks::{ForkFound, fork_from};
 use crate::marks::Marks;
@@ -20,8 +20,8 @@ use crate::parting::first_parted;
 use crate::reached_sides::{ReachedSides, make_room};
 use crate::reaching::entry;
 use assign_search::{Search, Stop};
-use join_find::{Hand, critical_peaks_have_sides, right_sides_are_sides, top_of};
-use rewrite_core::{ForkTest, PathStep, Peak, PeakSide, Top};
+use join_find::{PeakPair, PeakPairs, critical_peaks_have_sides, top_of};
+use rewrite_core::{ForkTest, PathStep, Peak, Top};
 use std::alloc::Global;
 use term_pool::{Pool, RulesByRoot, ids_are_distinct};
 use trs_core::{OutOfMemory, Trs};
@@ -37,9 +37,11 @@ pub(crate) fn first_fork<M: Marks, P: Stop, T: Top>(
     alloc: Global,
     trs: &Trs,
     peaks: &[Peak<T>],
+    pairs: &PeakPairs,
     stop: &mut P,
 ) -> Result<Search<ForkFound>, OutOfMemory>
     requires critical { ListsPeaks trs.now.rules (Ok peaks.now) }
+    requires pairs { HoldPairsOf pairs.now peaks.now }
     ensures answer { IfOk result (IsFinding
         (λ found. FindsParted M.never_meet trs.now.rules peaks.now (fork_of found))
         (FailsParted M.never_meet trs.now.rules peaks.now) (P.stops stop.old < P.stops stop.new)) }
@@ -49,33 +51,34 @@ pub(crate) fn first_fork<M: Marks, P: Stop, T: Top>(
         return Ok(Search::Stopped);
     }
     critical_peaks_have_sides(trs);
-    right_sides_are_sides();
     let by_root = RulesByRoot::new(alloc, trs)?;
     let mut sides = ReachedSides::new(alloc);
     let mut marks = M::new(alloc);
-    let mut before: Option<&Peak<T>> = None;
-    for peak in peaks {
+    let mut before: Option<PeakPair> = None;
+    for (n, peak) in peaks.iter().enumerate() {
         if stop.stopped() {
             return Ok(Search::Stopped);
         }
+        let pair = pairs.pair(n);
         if let Some(other) = before {
-            if have_same_sides(other, peak) {
+            if have_same_ids(other, pair) {
                 continue;
             }
         }
-        match fork_at(alloc, &mut sides, &mut marks, &by_root, peak)? {
+        let from = pairs.pool();
+        match fork_at(alloc, &mut sides, &mut marks, &by_root, peak, from, pair)? {
             Some(found) => return Ok(Search::Found(found)),
-            None => before = Some(peak),
+            None => before = Some(pair),
         }
     }
     Ok(Search::NotThere)
 }
 
-/// Whether two peaks have the same sides.
-fn have_same_sides<T: Top>(a: &Peak<T>, b: &Peak<T>) -> bool
-    ensures { IsTrue result → HaveSameSides a.now b.now }
+/// Whether two pairs have the same ids.
+fn have_same_ids(a: PeakPair, b: PeakPair) -> bool
+    ensures { IsTrue result → (a.left ≡ b.left) × (a.right ≡ b.right) }
 {
-    a.left.term().same(b.left.term()) && a.right.term().same(b.right.term())
+    a.left == b.left && a.right == b.right
 }
 
 /// The fork of one peak, if there is one.
@@ -85,22 +88,24 @@ fn fork_at<M: Marks, T: Top>(
     marks: &mut M,
     by_root: &RulesByRoot,
     peak: &Peak<T>,
+    from: &Pool,
+    pair: PeakPair,
 ) -> Result<Option<ForkFound>, OutOfMemory>
     requires listed { IsListed by_root.now.rules peak.now }
     requires peak { HasSides peak.now }
-    requires rights { HasRightSides by_root.now.rules peak.now }
-    requires sides { AreReached by_root.now.rules sides.old }
+    requires pair { IsPair from.now pair peak.now }
+    requires sides { AreReached by_root.now.rules from.now sides.old }
     requires marks { AreMarksOf M.has_mark M.of_pool by_root.now.rules sides.old marks.old }
     ensures fork { IfOk result (λ found. MatchOption found
         (PartsNot M.never_meet by_root.now.rules peak.now)
         (λ f. PartsBy M.never_meet by_root.now.rules peak.now (fork_of f))) }
-    ensures sides { OnOk result (AreReached by_root.now.rules sides.new) }
+    ensures sides { OnOk result (AreReached by_root.now.rules from.now sides.new) }
     ensures marks { OnOk result (
         AreMarksOf M.has_mark M.of_pool by_root.now.rules sides.new marks.new) }
 {
     make_room(alloc, sides, marks);
-    let left = sides.list(alloc, by_root, peak, Hand::Left, marks)?;
-    let right = sides.list(alloc, by_root, peak, Hand::Right, marks)?;
+    let left = sides.list(alloc, by_root, from, pair.left, marks)?;
+    let right = sides.list(alloc, by_root, from, pair.right, marks)?;
     let lefts = sides.at(left);
     let rights = sides.at(right);
     fork_between(alloc, sides.pool(), by_root, peak, marks, lefts, rights)

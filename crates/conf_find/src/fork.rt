@@ -4,13 +4,15 @@ ghost use Rattle.assign_search.specs.Continues.{Continues};
 ghost use Rattle.join_find.specs.crit_pairs.PeakList.{ListsPeaks};
 ghost use Rattle.join_find.specs.Answers.{IsFinding};
 ghost use Rattle.conf_find.specs.Fork.{fork_of};
+ghost use Rattle.join_find.specs.crit_pairs.PeakPairs.{HoldPairsOf};
 ghost use Rattle.conf_find.specs.ForkRows.{FindsFork, FailsFork};
 
 use crate::caps::CapMarks;
 use crate::first_fork::first_fork;
 use crate::forks::ForkFound;
 use assign_search::{Search, Stop};
-use rewrite_core::{Peak, Top};
+use join_find::PeakPairs;
+use rewrite_core::{BuiltTop, Peak, Top};
 use std::alloc::Global;
 use trs_core::{OutOfMemory, Trs};
 
@@ -21,7 +23,7 @@ use trs_core::{OutOfMemory, Trs};
 ///
 /// `stop` is asked before the first peak and before each one. What a side reaches is found once for
 /// all its peaks, as long as not too much is kept.
-pub fn find_fork<P: Stop, T: Top>(
+pub fn find_fork<P: Stop, T: BuiltTop>(
     alloc: Global,
     trs: &Trs,
     peaks: &[Peak<T>],
@@ -33,5 +35,24 @@ pub fn find_fork<P: Stop, T: Top>(
         (FailsFork trs.now.rules peaks.now) (P.stops stop.old < P.stops stop.new)) }
     ensures continues { Continues P.Stop stop.old stop.new }
 {
-    first_fork::<CapMarks, P, T>(alloc, trs, peaks, stop)
+    let pairs = PeakPairs::of(alloc, peaks)?;
+    fork_among(alloc, trs, peaks, &pairs, stop)
+}
+
+/// The same over peaks whose sides may stand elsewhere, as those of `pooled_peaks`.
+pub fn fork_among<P: Stop, T: Top>(
+    alloc: Global,
+    trs: &Trs,
+    peaks: &[Peak<T>],
+    pairs: &PeakPairs,
+    stop: &mut P,
+) -> Result<Search<ForkFound>, OutOfMemory>
+    requires critical { ListsPeaks trs.now.rules (Ok peaks.now) }
+    requires pairs { HoldPairsOf pairs.now peaks.now }
+    ensures answer { IfOk result (IsFinding
+        (λ found. FindsFork trs.now.rules peaks.now (fork_of found))
+        (FailsFork trs.now.rules peaks.now) (P.stops stop.old < P.stops stop.new)) }
+    ensures continues { Continues P.Stop stop.old stop.new }
+{
+    first_fork::<CapMarks, P, T>(alloc, trs, peaks, pairs, stop)
 }

@@ -19,11 +19,12 @@ mod reaching;
 mod shared_caps;
 mod split;
 
-pub use fork::find_fork;
+pub use fork::{find_fork, fork_among};
 pub use forks::ForkFound;
 pub use join_find::{
     find_newman, find_parallel, find_strong, found_fours_join, found_joins_join, found_steps_close,
+    newman_among, parallel_among, strong_among,
 };
-pub use label_find::{Labelled, find_label, found_labels_apply};
+pub use label_find::{Labelled, find_label, found_labels_apply, label_among};
 pub use laws::{found_forks_apply, found_splits_apply};
-pub use split::find_split;
+pub use split::{find_split, split_among};

@@ -1,19 +1,19 @@
 //! The sides of peaks, with what they reach in few steps.
-ghost use Rattle.std.specs.Prelude.{◌≡◌, ℕ, List, None, Some, is_some, IsTrue, IfOk, OnOk};
+ghost use Rattle.std.specs.Prelude.{◌≡◌, ◌<◌, ℕ, List, None, Some, is_some, length, IsTrue, IfOk, OnOk};
+ghost use Rattle.trs_defs.specs.Tree.{Tree};
 ghost use Rattle.trs_defs.specs.System.{RewriteRule};
-ghost use Rattle.term_pool.specs.Pooled.{Extends, StandsFor};
-ghost use Rattle.join_find.specs.RightSides.{HasRightSides};
-ghost use Rattle.join_find.specs.RightIds.{side_on, AreRightIds};
-ghost use Rattle.join_find.specs.Sides.{HasSides};
+ghost use Rattle.term_pool.specs.Pooled.{Extends, StandsFor, tree_at};
+ghost use Rattle.join_find.specs.Sides.{IsSide};
 ghost use Rattle.join_find.specs.KeptLists.{list_of};
 ghost use Rattle.conf_find.specs.ReachedSides.{AreReached, AreMarksOf};
+ghost use Rattle.term_pool.specs.Crossing.{AreKnownIds};
 
 use crate::marks::{Marks, mark_all};
 use crate::reaching::reach;
-use join_find::{Hand, KeptLists, SideIds};
-use rewrite_core::{PathStep, Peak, Top};
+use join_find::KeptLists;
+use rewrite_core::PathStep;
 use std::alloc::Global;
-use term_pool::{Pool, RulesByRoot};
+use term_pool::{KnownIds, Pool, RulesByRoot};
 use trs_core::OutOfMemory;
 
 /// The most ids that are kept from one peak to the next.
@@ -26,7 +26,7 @@ const MOST_KEPT_BYTES: u64 = 67_108_864;
 #[derive(Drop)]
 pub(crate) struct ReachedSides {
     pool: Pool,
-    ids: SideIds,
+    known: KnownIds,
     reached: KeptLists,
 }
 
@@ -34,42 +34,40 @@ impl ReachedSides {
     /// No sides. It takes no memory.
     pub(crate) fn new(alloc: Global) -> ReachedSides
         ensures lists { (id : ℕ) → list_of result.reached id ≡ None }
-        ensures rights { (rules : List RewriteRule) → AreRightIds rules result.pool result.ids }
+        ensures known { (from : List Tree) → AreKnownIds from result.pool result.known }
     {
         ReachedSides {
             pool: Pool::new(alloc),
-            ids: SideIds::new(alloc),
+            known: KnownIds::new(alloc),
             reached: KeptLists::new(alloc),
         }
     }
 
-    /// The id of a side of a peak. What it reaches is listed and marked, if it is not listed yet.
-    pub(crate) fn list<M: Marks, T: Top>(
+    /// The id of the side that has an id in another pool. What it reaches is listed and marked, if
+    /// it is not listed yet.
+    pub(crate) fn list<M: Marks>(
         &mut self,
         alloc: Global,
         by_root: &RulesByRoot,
-        peak: &Peak<T>,
-        hand: Hand,
+        from: &Pool,
+        side: u32,
         marks: &mut M,
     ) -> Result<u32, OutOfMemory>
-        requires peak { HasSides peak.now }
-        requires rights { HasRightSides by_root.now.rules peak.now }
-        requires sides { AreReached by_root.now.rules self.old }
+        requires there { side < length from.now }
+        requires side { IsSide (tree_at from.now side) }
+        requires sides { AreReached by_root.now.rules from.now self.old }
         requires marks { AreMarksOf M.has_mark M.of_pool by_root.now.rules self.old marks.old }
-        ensures id { IfOk result (λ id. StandsFor self.new.pool id (side_on hand peak.now)) }
+        ensures id { IfOk result (λ id. StandsFor self.new.pool id (tree_at from.now side)) }
         ensures listed { IfOk result (λ id. IsTrue (is_some (list_of self.new.reached id))) }
         ensures still { OnOk result ((i : ℕ) → IsTrue (is_some (list_of self.old.reached i))
             → IsTrue (is_some (list_of self.new.reached i))) }
-        ensures sides { OnOk result (AreReached by_root.now.rules self.new) }
+        ensures sides { OnOk result (AreReached by_root.now.rules from.now self.new) }
         ensures marks { OnOk result (
             AreMarksOf M.has_mark M.of_pool by_root.now.rules self.new marks.new) }
         ensures kept { OnOk result (Extends self.old.pool self.new.pool) }
     {
         M::last();
-        let rules = by_root.rules();
-        let id = self
-            .ids
-            .intern_side(alloc, &mut self.pool, rules, peak, hand)?;
+        let id = self.pool.take_over(alloc, from, side, &mut self.known)?;
         if self.reached.has(id) {
             return Ok(id);
         }
@@ -102,8 +100,8 @@ impl ReachedSides {
 
 /// Makes room for two sides. Where many ids, long lists or many marks are kept, all are given up.
 pub(crate) fn make_room<M: Marks>(alloc: Global, sides: &mut ReachedSides, marks: &mut M)
-    ensures sides { (rules : List RewriteRule) → AreReached rules sides.old
-        → AreReached rules sides.new }
+    ensures sides { (rules : List RewriteRule) (from : List Tree)
+        → AreReached rules from sides.old → AreReached rules from sides.new }
     ensures marks { (rules : List RewriteRule)
         → AreMarksOf M.has_mark M.of_pool rules sides.old marks.old
         → AreMarksOf M.has_mark M.of_pool rules sides.new marks.new }
