@@ -3,8 +3,8 @@ use crate::found::{closing, fork_step};
 use crate::peak_search::SearchOnPeaks;
 use crate::{Findings, Strategy};
 use assign_search::{Search, Stop};
-use conf_find::{ForkFound, find_fork, found_forks_apply};
-use loop_find::UnbuiltTop;
+use conf_find::{ForkFound, fork_among, found_forks_apply};
+use loop_find::{PeakPairs, PooledTop};
 use rewrite_core::Peak;
 use std::alloc::Global;
 use trs_core::{OutOfMemory, Trs, systems_are_valid};
@@ -32,13 +32,14 @@ impl SearchOnPeaks for Forks {
     fn find<P: Stop>(
         alloc: Global,
         trs: &Trs,
-        peaks: &[Peak<UnbuiltTop>],
+        peaks: &[Peak<PooledTop>],
+        pairs: &PeakPairs,
         _budget: u64,
         stop: &mut P,
     ) -> Result<Search<ForkFound>, OutOfMemory> {
         systems_are_valid(trs);
         found_forks_apply();
-        find_fork(alloc, trs, peaks, stop)
+        fork_among(alloc, trs, peaks, pairs, stop)
     }
 
     fn findings(alloc: Global, found: ForkFound) -> Result<Findings, OutOfMemory> {

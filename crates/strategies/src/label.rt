@@ -4,8 +4,8 @@ use crate::peak_search::SearchOnPeaks;
 use crate::{Findings, Strategy};
 use assign_search::{Search, Stop};
 use cert_step::Step;
-use conf_find::{Labelled, find_label, found_labels_apply};
-use loop_find::UnbuiltTop;
+use conf_find::{Labelled, found_labels_apply, label_among};
+use loop_find::{PeakPairs, PooledTop};
 use rewrite_core::Peak;
 use std::alloc::Global;
 use trs_core::{OutOfMemory, Trs};
@@ -33,12 +33,13 @@ impl SearchOnPeaks for Ranks {
     fn find<P: Stop>(
         alloc: Global,
         trs: &Trs,
-        peaks: &[Peak<UnbuiltTop>],
+        peaks: &[Peak<PooledTop>],
+        pairs: &PeakPairs,
         budget: u64,
         stop: &mut P,
     ) -> Result<Search<Labelled>, OutOfMemory> {
         found_labels_apply();
-        find_label(alloc, trs, peaks, budget, stop)
+        label_among(alloc, trs, peaks, pairs, budget, stop)
     }
 
     fn findings(alloc: Global, found: Labelled) -> Result<Findings, OutOfMemory> {

@@ -3,8 +3,8 @@ use crate::peak_search::SearchOnPeaks;
 use crate::{Findings, Strategy};
 use assign_search::{Search, Stop};
 use cert_step::{Join, Problem, Step};
-use conf_find::{find_newman, found_joins_join};
-use loop_find::UnbuiltTop;
+use conf_find::{found_joins_join, newman_among};
+use loop_find::{PeakPairs, PooledTop};
 use rewrite_core::Peak;
 use std::alloc::Global;
 use trs_core::{OutOfMemory, Trs, systems_are_valid};
@@ -32,13 +32,14 @@ impl SearchOnPeaks for Joins {
     fn find<P: Stop>(
         alloc: Global,
         trs: &Trs,
-        peaks: &[Peak<UnbuiltTop>],
+        peaks: &[Peak<PooledTop>],
+        pairs: &PeakPairs,
         _budget: u64,
         stop: &mut P,
     ) -> Result<Search<Vec<Join>>, OutOfMemory> {
         systems_are_valid(trs);
         found_joins_join();
-        find_newman(alloc, trs, peaks, stop)
+        newman_among(alloc, trs, peaks, pairs, stop)
     }
 
     fn findings(alloc: Global, found: Vec<Join>) -> Result<Findings, OutOfMemory> {

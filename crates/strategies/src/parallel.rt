@@ -4,8 +4,8 @@ use crate::peak_search::SearchOnPeaks;
 use crate::{Findings, Strategy};
 use assign_search::{Search, Stop};
 use cert_step::Step;
-use conf_find::{find_parallel, found_steps_close};
-use loop_find::UnbuiltTop;
+use conf_find::{found_steps_close, parallel_among};
+use loop_find::{PeakPairs, PooledTop};
 use rewrite_core::{PathStep, Peak};
 use std::alloc::Global;
 use trs_core::{OutOfMemory, Trs, systems_are_valid};
@@ -34,13 +34,14 @@ impl SearchOnPeaks for ParallelSteps {
     fn find<P: Stop>(
         alloc: Global,
         trs: &Trs,
-        peaks: &[Peak<UnbuiltTop>],
+        peaks: &[Peak<PooledTop>],
+        pairs: &PeakPairs,
         _budget: u64,
         stop: &mut P,
     ) -> Result<Search<Vec<Vec<PathStep>>>, OutOfMemory> {
         systems_are_valid(trs);
         found_steps_close();
-        find_parallel(alloc, trs, peaks, stop)
+        parallel_among(alloc, trs, peaks, pairs, stop)
     }
 
     fn findings(alloc: Global, found: Vec<Vec<PathStep>>) -> Result<Findings, OutOfMemory> {

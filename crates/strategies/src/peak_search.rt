@@ -2,6 +2,7 @@
 ghost use Rattle.std.specs.Prelude.{◌≡◌, ◌<◌, Ok, IfOk};
 ghost use Rattle.assign_search.specs.Continues.{Continues};
 ghost use Rattle.loop_find.specs.crit_pairs.PeakList.{ListsPeaks};
+ghost use Rattle.loop_find.specs.crit_pairs.PeakPairs.{HoldPairsOf};
 ghost use Rattle.strategies.specs.Endings.{IsAnswer, IsSearchFor};
 ghost use Rattle.strategies.specs.Tables.{AreKnownPeaks};
 ghost use Rattle.strategies.specs.Truth.{found_of, IsTrueFound};
@@ -10,7 +11,7 @@ use crate::Findings;
 use crate::peaks::KnownPeaks;
 use crate::searched::Searched;
 use assign_search::{Search, Stop};
-use loop_find::UnbuiltTop;
+use loop_find::{PeakPairs, PooledTop};
 use rewrite_core::Peak;
 use std::alloc::Global;
 use trs_core::{OutOfMemory, Trs};
@@ -40,11 +41,13 @@ pub(crate) trait SearchOnPeaks {
     fn find<P: Stop>(
         alloc: Global,
         trs: &Trs,
-        peaks: &[Peak<UnbuiltTop>],
+        peaks: &[Peak<PooledTop>],
+        pairs: &PeakPairs,
         budget: u64,
         stop: &mut P,
     ) -> Result<Search<Self::Evidence>, OutOfMemory>
-        requires { ListsPeaks trs.now.rules (Ok peaks.now) }
+        requires peaks { ListsPeaks trs.now.rules (Ok peaks.now) }
+        requires pairs { HoldPairsOf pairs.now peaks.now }
         ensures answer { IfOk result (IsSearchFor trs.now budget strategy problem
             (λ found. IsTrueFound trs.now budget strategy problem (answer found))
             (P.stops stop.old < P.stops stop.new)) }
@@ -71,10 +74,10 @@ pub(crate) fn search_among<S: SearchOnPeaks, P: Stop>(
         (P.stops stop.old < P.stops stop.new)) }
     ensures continues { Continues P.Stop stop.old stop.new }
 {
-    let KnownPeaks::Listed(peaks) = peaks else {
+    let KnownPeaks::Listed(found) = peaks else {
         return Ok(Searched::Ended(Findings::NotThere));
     };
-    match S::find(alloc, trs, peaks, budget, stop)? {
+    match S::find(alloc, trs, &found.list, &found.pairs, budget, stop)? {
         Search::Found(found) => {
             let findings = S::findings(alloc, found)?;
             Ok(Searched::Ended(findings))

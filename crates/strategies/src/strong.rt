@@ -4,8 +4,8 @@ use crate::peak_search::SearchOnPeaks;
 use crate::{Findings, Strategy};
 use assign_search::{Search, Stop};
 use cert_step::{Four, Step};
-use conf_find::{find_strong, found_fours_join};
-use loop_find::UnbuiltTop;
+use conf_find::{found_fours_join, strong_among};
+use loop_find::{PeakPairs, PooledTop};
 use rewrite_core::Peak;
 use std::alloc::Global;
 use trs_core::{OutOfMemory, Trs, systems_are_valid};
@@ -33,13 +33,14 @@ impl SearchOnPeaks for StrongJoins {
     fn find<P: Stop>(
         alloc: Global,
         trs: &Trs,
-        peaks: &[Peak<UnbuiltTop>],
+        peaks: &[Peak<PooledTop>],
+        pairs: &PeakPairs,
         _budget: u64,
         stop: &mut P,
     ) -> Result<Search<Vec<Four>>, OutOfMemory> {
         systems_are_valid(trs);
         found_fours_join();
-        find_strong(alloc, trs, peaks, stop)
+        strong_among(alloc, trs, peaks, pairs, stop)
     }
 
     fn findings(alloc: Global, found: Vec<Four>) -> Result<Findings, OutOfMemory> {

@@ -15,6 +15,6 @@ returns-clause-answer g c =
     let system = c.args.trs.now in
     let peaks = c.args.peaks.now in
     let budget = c.args._budget in
-    answers_for_peaks c.find_fork.result system budget strategy.Fork problem.fork (λ it. FindsFork system.rules peaks (fork_of it)) (λ it. found (fork_step (fork_of it)) []) _ _
-    (λ it h. fork_true system budget (fork_of it) c.systems_are_valid.ensures.valid c.found_forks_apply.ensures (record { peaks = peaks; listed = c.requires; found = h }))
-    (λ h. fork_is_not_there (peaks_fail peaks c.requires h)) c.find_fork.ensures.answer
+    answers_for_peaks c.fork_among.result system budget strategy.Fork problem.fork (λ it. FindsFork system.rules peaks (fork_of it)) (λ it. found (fork_step (fork_of it)) []) _ _
+    (λ it h. fork_true system budget (fork_of it) c.systems_are_valid.ensures.valid c.found_forks_apply.ensures (record { peaks = peaks; listed = c.requires.peaks; found = h }))
+    (λ h. fork_is_not_there (peaks_fail peaks c.requires.peaks h)) c.fork_among.ensures.answer

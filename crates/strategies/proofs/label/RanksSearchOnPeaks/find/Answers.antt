@@ -9,7 +9,7 @@ returns-clause-answer g c =
     let system = c.args.trs.now in
     let peaks = c.args.peaks.now in
     let budget = c.args.budget in
-    answers_for_label c.find_label.result system peaks budget _
-    (λ it h. label_true system budget it.ranks.items it.joins.items c.found_labels_apply.ensures (record { peaks = peaks; listed = c.requires; found = h }))
-    (λ h. label_is_not_there (peaks_fail peaks c.requires h)) (λ h. label_is_spent (record { peaks = peaks; listed = c.requires; found = h }))
-    c.find_label.ensures.answer
+    answers_for_label c.label_among.result system peaks budget _
+    (λ it h. label_true system budget it.ranks.items it.joins.items c.found_labels_apply.ensures (record { peaks = peaks; listed = c.requires.peaks; found = h }))
+    (λ h. label_is_not_there (peaks_fail peaks c.requires.peaks h)) (λ h. label_is_spent (record { peaks = peaks; listed = c.requires.peaks; found = h }))
+    c.label_among.ensures.answer

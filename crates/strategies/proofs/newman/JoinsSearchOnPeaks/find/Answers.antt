@@ -15,6 +15,6 @@ returns-clause-answer g c =
     let system = c.args.trs.now in
     let peaks = c.args.peaks.now in
     let budget = c.args._budget in
-    answers_for_peaks c.find_newman.result system budget strategy.Newman problem.cr_newman (λ it. FindsNewman system.rules peaks it.items) (λ it. found (step.newman it.items) (problem.sn ∷ [])) _ _
-    (λ it h. newman_true system budget it.items c.found_joins_join.ensures (record { peaks = peaks; listed = c.requires; found = h }))
-    (λ h. newman_is_not_there (peaks_fail peaks c.requires h)) c.find_newman.ensures.answer
+    answers_for_peaks c.newman_among.result system budget strategy.Newman problem.cr_newman (λ it. FindsNewman system.rules peaks it.items) (λ it. found (step.newman it.items) (problem.sn ∷ [])) _ _
+    (λ it h. newman_true system budget it.items c.found_joins_join.ensures (record { peaks = peaks; listed = c.requires.peaks; found = h }))
+    (λ h. newman_is_not_there (peaks_fail peaks c.requires.peaks h)) c.newman_among.ensures.answer

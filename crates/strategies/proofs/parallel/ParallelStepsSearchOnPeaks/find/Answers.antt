@@ -16,6 +16,6 @@ returns-clause-answer g c =
     let system = c.args.trs.now in
     let peaks = c.args.peaks.now in
     let budget = c.args._budget in
-    answers_for_peaks c.find_parallel.result system budget strategy.Parallel problem.cr (λ it. FindsParallel system.rules peaks (paths_of it.items)) (λ it. found (step.parallel (paths_of it.items)) []) _ _
-    (λ it h. parallel_true system budget (paths_of it.items) c.found_steps_close.ensures (record { peaks = peaks; listed = c.requires; found = h }))
-    (λ h. parallel_is_not_there (peaks_fail peaks c.requires h)) c.find_parallel.ensures.answer
+    answers_for_peaks c.parallel_among.result system budget strategy.Parallel problem.cr (λ it. FindsParallel system.rules peaks (paths_of it.items)) (λ it. found (step.parallel (paths_of it.items)) []) _ _
+    (λ it h. parallel_true system budget (paths_of it.items) c.found_steps_close.ensures (record { peaks = peaks; listed = c.requires.peaks; found = h }))
+    (λ h. parallel_is_not_there (peaks_fail peaks c.requires.peaks h)) c.parallel_among.ensures.answer

@@ -15,6 +15,6 @@ returns-clause-answer g c =
     let system = c.args.trs.now in
     let peaks = c.args.peaks.now in
     let budget = c.args._budget in
-    answers_for_peaks c.find_split.result system budget strategy.Split problem.split (λ it. FindsSplit system.rules peaks (fork_of it)) (λ it. found (fork_step (fork_of it)) []) _ _
-    (λ it h. split_true system budget (fork_of it) c.systems_are_valid.ensures.valid c.found_splits_apply.ensures (record { peaks = peaks; listed = c.requires; found = h }))
-    (λ h. split_is_not_there (peaks_fail peaks c.requires h)) c.find_split.ensures.answer
+    answers_for_peaks c.split_among.result system budget strategy.Split problem.split (λ it. FindsSplit system.rules peaks (fork_of it)) (λ it. found (fork_step (fork_of it)) []) _ _
+    (λ it h. split_true system budget (fork_of it) c.systems_are_valid.ensures.valid c.found_splits_apply.ensures (record { peaks = peaks; listed = c.requires.peaks; found = h }))
+    (λ h. split_is_not_there (peaks_fail peaks c.requires.peaks h)) c.split_among.ensures.answer

@@ -15,6 +15,6 @@ returns-clause-answer g c =
     let system = c.args.trs.now in
     let peaks = c.args.peaks.now in
     let budget = c.args._budget in
-    answers_for_peaks c.find_strong.result system budget strategy.Strong problem.cr (λ it. FindsStrong system.rules peaks it.items) (λ it. found (step.strong it.items) []) _ _
-    (λ it h. strong_true system budget it.items c.found_fours_join.ensures (record { peaks = peaks; listed = c.requires; found = h }))
-    (λ h. strong_is_not_there (peaks_fail peaks c.requires h)) c.find_strong.ensures.answer
+    answers_for_peaks c.strong_among.result system budget strategy.Strong problem.cr (λ it. FindsStrong system.rules peaks it.items) (λ it. found (step.strong it.items) []) _ _
+    (λ it h. strong_true system budget it.items c.found_fours_join.ensures (record { peaks = peaks; listed = c.requires.peaks; found = h }))
+    (λ h. strong_is_not_there (peaks_fail peaks c.requires.peaks h)) c.strong_among.ensures.answer
