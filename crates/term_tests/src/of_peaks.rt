@@ -6,12 +6,14 @@ ghost use Rattle.crit_pairs.specs.PeakList.{ListsPeaks};
 use crate::lettered::constants;
 use crate::made::term;
 use crate::stops::{BUDGET, Ending, at_once, ending_of, never};
-use conf_find::{find_fork, find_split};
-use crit_pairs::{UnbuiltTop, critical_pairs, shared_peaks, top_of};
+use conf_find::{find_fork, find_split, fork_among, split_among};
+use crit_pairs::{UnbuiltTop, critical_pairs, pooled_peaks, shared_peaks, top_of};
 use finder_cases::StopAt;
-use join_find::{find_newman, find_parallel, find_strong};
-use label_find::find_label;
-use rewrite_core::{Peak, SharedSide, Top};
+use join_find::{
+    find_newman, find_parallel, find_strong, newman_among, parallel_among, strong_among,
+};
+use label_find::{find_label, label_among};
+use rewrite_core::{BuiltTop, Peak, SharedSide};
 use std::alloc::Global;
 use std::test::Fail;
 use trs_core::{OutOfMemory, Rule, Term, Trs};
@@ -93,7 +95,7 @@ fn of_shared(alloc: Global, finder: &Finder, trs: &Trs) -> Result<Ending, Fail> 
     of_peaks(alloc, finder, trs, &peaks, &mut never())
 }
 
-fn of_peaks<T: Top>(
+fn of_peaks<T: BuiltTop>(
     alloc: Global,
     finder: &Finder,
     trs: &Trs,
@@ -113,6 +115,22 @@ fn of_peaks<T: Top>(
     Ok(ending?)
 }
 
+/// The same, where the sides of peaks stand in one pool.
+fn of_pooled(alloc: Global, finder: &Finder, trs: &Trs) -> Result<Ending, Fail> {
+    let found = pooled_peaks(alloc, trs)?;
+    let (peaks, pairs) = (&found.list, &found.pairs);
+    let stop = &mut never();
+    let ending = match finder {
+        Finder::Joins => ending_of(newman_among(alloc, trs, peaks, pairs, stop)),
+        Finder::ParallelSteps => ending_of(parallel_among(alloc, trs, peaks, pairs, stop)),
+        Finder::StrongJoins => ending_of(strong_among(alloc, trs, peaks, pairs, stop)),
+        Finder::Ranks => ending_of(label_among(alloc, trs, peaks, pairs, BUDGET, stop)),
+        Finder::Forks => ending_of(fork_among(alloc, trs, peaks, pairs, stop)),
+        Finder::Splits => ending_of(split_among(alloc, trs, peaks, pairs, stop)),
+    };
+    Ok(ending?)
+}
+
 #[test]
 fn finders_at_closed_peaks(rt: HostRuntime) -> Result<(), Fail> {
     let trs = closed_system(rt.alloc())?;
@@ -128,6 +146,8 @@ fn finders_at_closed_peaks(rt: HostRuntime) -> Result<(), Fail> {
         assert!(rt; matches!(found, Ending::Found), "by {finder:?}");
         let same = of_shared(rt.alloc(), finder, &trs)?;
         assert!(rt; matches!(same, Ending::Found), "by {finder:?}");
+        let pooled = of_pooled(rt.alloc(), finder, &trs)?;
+        assert!(rt; matches!(pooled, Ending::Found), "by {finder:?}");
     }
     Ok(())
 }
@@ -142,7 +162,19 @@ fn finders_at_different_normal_forms(rt: HostRuntime) -> Result<(), Fail> {
         assert!(rt; matches!(found, Ending::Found), "by {finder:?}");
         let same = of_shared(rt.alloc(), finder, &trs)?;
         assert!(rt; matches!(same, Ending::Found), "by {finder:?}");
+        let pooled = of_pooled(rt.alloc(), finder, &trs)?;
+        assert!(rt; matches!(pooled, Ending::Found), "by {finder:?}");
     }
+    Ok(())
+}
+
+#[test]
+fn finders_at_sides_in_a_pool(rt: HostRuntime) -> Result<(), Fail> {
+    let trs = overlapping_system(rt.alloc())?;
+    let forked = of_pooled(rt.alloc(), &Finder::Splits, &trs)?;
+    let same = of_system(rt.alloc(), &Finder::Splits, &trs, &mut never())?;
+    assert!(rt; matches!(forked, Ending::Found));
+    assert!(rt; matches!(same, Ending::Found));
     Ok(())
 }
 
