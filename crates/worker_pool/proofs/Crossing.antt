@@ -15,7 +15,9 @@ use Rattle.tree_core.below.cert_step.proofs.problem.Problem.TheSendSync as probl
 use Rattle.tree_core.below.tree_state.proofs.node.Node.TheSendSync as node
 use Rattle.tree_core.below.tree_definitions.proofs.question.Question.TheSendSync as question
 use Rattle.tree_core.below.strategies.proofs.outcome.Limits.TheSendSync as limits
+use Rattle.tree_core.below.strategies.specs.contracts.peaks.KnownPeaks as KnownPeaks
 use Rattle.tree_core.below.strategies.specs.contracts.tables.Tables as Tables
+use Rattle.tree_core.below.crit_pairs.proofs.peak_pairs.PeakPairs.TheSendSync as pairs
 use Rattle.tree_core.below.cert_step.specs.contracts.step.Step as Step
 use Rattle.tree_core.below.tree_state.specs.contracts.entry.Event as Event
 use Rattle.tree_core.below.tree_state.specs.contracts.board.Board as Board
@@ -43,8 +45,11 @@ system_sync : IsSync Trs.the_row
 system_sync = search (crosses, terms.crosses, sendable) depth 60 fits 20000
 
 -- what strategies look up in the system is lent to all workers
+peaks_sync : (a : NamedLft) → IsSync (KnownPeaks.the_row a)
+peaks_sync a = search (pairs.the_sync, position.the_sync, crosses, terms.crosses, sendable) depth 60 fits 20000
+
 tables_sync : (a : NamedLft) → IsSync (Tables.the_row a)
-tables_sync a = search (system_sync, position.the_sync, crosses, terms.crosses, sendable) depth 60 fits 20000
+tables_sync a = search (peaks_sync, system_sync, position.the_sync, crosses, terms.crosses, sendable) depth 60 fits 20000
 
 tree_send : (a : NamedLft) → IsSend (Tree.the_row a)
 tree_send a = search (board_send, system_sync, crosses, sendable) depth 60 fits 20000
