@@ -18,6 +18,9 @@ from .reports import report_blocks
 # What an order text begins with, after comments.
 ORDER_TEXT = re.compile(rb"(\s|;[^\n]*(\n|$))*\(\s*order\b")
 
+# The lists of a certificate. No list of an order text begins with one of these words.
+CERTIFICATE_LIST = re.compile(rb"\(\s*(certificate|define|step)\b")
+
 KNOWN_LINE = re.compile(r"(ACCEPTED|REJECTED|problem refused|order refused|too long|UNORIENTABLE|SPENT|LIMIT|usage:)( |$)")
 
 
@@ -37,10 +40,15 @@ def explained(problem_text, text):
         return completion_blocks(facts, text), None
     if words.startswith("MAYBE\n(goal "):
         return system_blocks(facts) + report_blocks(facts, text), None
-    if ORDER_TEXT.match(text):
+    if is_order_text(text):
         found, line = order_blocks(facts, text)
         return system_blocks(facts) + found, line
     return certificate_blocks(facts, text)
+
+
+def is_order_text(text):
+    """Whether a text is meant for `complete`: a certificate with an order before it is a certificate that has a fault."""
+    return ORDER_TEXT.match(text) and not CERTIFICATE_LIST.search(text)
 
 
 # ---- a problem

@@ -70,20 +70,10 @@ class Definitions:
         check_end(item, 3)
 
     def path(self, item):
-        """A path, of which the weight is added."""
-        members = list_of(item, "path")
-        inner = None
-        parts = []
-        try:
-            for member in members:
-                parts.append(self.part(member))
-        except Bad as fault:
-            inner = fault
-        found = Path(parts)
+        """A path, of which the weight is added. A fault of a part is named before what all parts weigh."""
+        found = Path([self.part(member) for member in list_of(item, "path")])
         if self.weight + found.weight > MOST_WEIGHT:
             raise Bad(item.place)
-        if inner:
-            raise inner
         self.weight += found.weight
         return found
 
