@@ -10,8 +10,10 @@ use Rattle.term_pool.specs.Pooled.{AreDistinct, Extends, StandsFor, tree_at}
 use Rattle.term_pool.specs.Listed.{Listed}
 use Rattle.term_pool.specs.Redexes.{IsNarrow}
 use Rattle.term_pool.specs.ListedIds.{listed_at}
+use Rattle.term_pool.specs.Known.{IsKnown}
 use Rattle.term_pool.proofs.ReachedIds.{same_listed}
 use Rattle.term_pool.proofs.Extending.{same_tree_at, cut_back}
+use Rattle.term_pool.proofs.KnownLaws.{known_on}
 use Rattle.term_pool.proofs.PoolTrees.{stands_at, stands_within}
 use Rattle.rewrite_core.specs.PlacedPeak.{PlacedPeak}
 use Rattle.rewrite_core.specs.PathsOfJoin.{PathsOfJoin}
@@ -24,6 +26,7 @@ use Rattle.join_find.specs.KeptLists.{list_of, IsPut, AreOf}
 use Rattle.join_find.specs.ReachedSides.{IsNarrowAt, IsReachOf, IsNearOf, AreReached}
 use Rattle.join_find.specs.declared.kept_lists.KeptLists.{KeptLists}
 use Rattle.term_pool.specs.declared.crossing.KnownIds.{KnownIds}
+use Rattle.term_pool.specs.declared.known.Known.{Known}
 use Rattle.join_find.specs.declared.reached_sides.ReachedSides.{ReachedSides}
 use Rattle.join_find.proofs.Joining.{joined_within, halved_within}
 
@@ -99,32 +102,35 @@ same_pool a b mark extends was is =
 
 -- ---- sides of which more is kept
 
-abbrev sides_of : List Tree → KnownIds → KeptLists → KeptLists → ReachedSides
-sides_of pool known reached near = record { pool = pool; known = known; reached = reached; near = near }
+abbrev sides_of : List Tree → KnownIds → Known → KeptLists → KeptLists → ReachedSides
+sides_of pool known_ids known reached near = record { pool = pool; known_ids = known_ids; known = known; reached = reached; near = near }
 
 -- no sides
-pub none_reached : (rules : List RewriteRule) (pool : List Tree) (known : KnownIds) (reached near : KeptLists) → ((id : ℕ) → list_of reached id ≡ None) → ((id : ℕ) → list_of near id ≡ None)
-    → AreReached rules (sides_of pool known reached near)
-none_reached rules pool known reached near none_there none_near =
-    record { reached = none_kept (IsReachOf rules pool) reached none_there; near = none_kept (IsNearOf rules pool) near none_near }
+pub none_reached : (rules : List RewriteRule) (pool : List Tree) (known_ids : KnownIds) (known : Known) (reached near : KeptLists) → IsKnown rules pool known
+    → ((id : ℕ) → list_of reached id ≡ None) → ((id : ℕ) → list_of near id ≡ None) → AreReached rules (sides_of pool known_ids known reached near)
+none_reached rules pool known_ids known reached near is none_there none_near =
+    record { reached = none_kept (IsReachOf rules pool) reached none_there; near = none_kept (IsNearOf rules pool) near none_near; known = is }
 
-module _ (rules : List RewriteRule) (old : ReachedSides) (sides : AreReached rules old) (pool : List Tree) (known : KnownIds) where
+module _ (rules : List RewriteRule) (old : ReachedSides) (sides : AreReached rules old) (pool : List Tree) (known_ids : KnownIds) where
   -- the pool is as it was
-  pub same_still : pool ≡ old.pool → AreReached rules (sides_of pool known old.reached old.near)
+  pub same_still : pool ≡ old.pool → AreReached rules (sides_of pool known_ids old.known old.reached old.near)
   same_still same =
       let R : List Tree → Type 0 = λ p. AreOf (IsReachOf rules p) old.reached in
       let N : List Tree → Type 0 = λ p. AreOf (IsNearOf rules p) old.near in
-      record { reached = subst R (sym same) sides.reached; near = subst N (sym same) sides.near }
+      let K : List Tree → Type 0 = λ p. IsKnown rules p old.known in
+      record { reached = subst R (sym same) sides.reached; near = subst N (sym same) sides.near; known = subst K (sym same) sides.known }
 
   -- what is near one more side is listed
-  pub one_more_near : (near : KeptLists) (id : ℕ) (found : List Reached) → pool ≡ old.pool → IsPut id found old.near near → IsSiftedNear rules (tree_at old.pool id) old.pool found
-      → AreReached rules (sides_of pool known old.reached near)
-  one_more_near near id found same put is =
+  pub one_more_near : (known : Known) (near : KeptLists) (id : ℕ) (found : List Reached) → pool ≡ old.pool → IsPut id found old.near near → IsSiftedNear rules (tree_at old.pool id) old.pool found
+      → IsKnown rules old.pool known → AreReached rules (sides_of pool known_ids known old.reached near)
+  one_more_near known near id found same put is right =
       let R : List Tree → Type 0 = λ p. AreOf (IsReachOf rules p) old.reached in
       let N : List Tree → Type 0 = λ p. AreOf (IsNearOf rules p) near in
+      let K : List Tree → Type 0 = λ p. IsKnown rules p known in
       record {
         reached = subst R (sym same) sides.reached;
         near = subst N (sym same) (one_more_kept (IsNearOf rules old.pool) old.near near id found sides.near put (record { near = is }));
+        known = subst K (sym same) right;
       }
 
   module _ (extends : Extends old.pool pool) where
@@ -132,13 +138,16 @@ module _ (rules : List RewriteRule) (old : ReachedSides) (sides : AreReached rul
     reaches_still =
         of_weaker_kind (IsReachOf rules old.pool) (IsReachOf rules pool) old.reached (λ id found. reach_still rules old.pool pool id found extends) sides.reached
 
+    known_still : IsKnown rules pool old.known
+    known_still = known_on rules old.pool pool old.known extends sides.known
+
     -- the pool has grown, and nothing near is kept
-    pub grown_still : (near : KeptLists) → ((id : ℕ) → list_of near id ≡ None) → AreReached rules (sides_of pool known old.reached near)
-    grown_still near none = record { reached = reaches_still; near = none_kept (IsNearOf rules pool) near none }
+    pub grown_still : (near : KeptLists) → ((id : ℕ) → list_of near id ≡ None) → AreReached rules (sides_of pool known_ids old.known old.reached near)
+    grown_still near none = record { reached = reaches_still; near = none_kept (IsNearOf rules pool) near none; known = known_still }
 
     -- what one more side reaches is listed
     pub one_more_reached : (reached near : KeptLists) (id : ℕ) (found : List Reached) → ((i : ℕ) → list_of near i ≡ None) → IsPut id found old.reached reached
-        → id < length old.pool → IsReach rules (tree_at old.pool id) (listed_at pool found) → All (λ e. e.0 < length pool) found → AreReached rules (sides_of pool known reached near)
+        → id < length old.pool → IsReach rules (tree_at old.pool id) (listed_at pool found) → All (λ e. e.0 < length pool) found → AreReached rules (sides_of pool known_ids old.known reached near)
     one_more_reached reached near id found none put there reach below =
         let Q : Tree → Type 0 = λ t. IsReach rules t (listed_at pool found) in
         let is : IsReachOf rules pool id found = record {
@@ -149,6 +158,7 @@ module _ (rules : List RewriteRule) (old : ReachedSides) (sides : AreReached rul
         record {
           reached = one_more_kept (IsReachOf rules pool) old.reached reached id found reaches_still put is;
           near = none_kept (IsNearOf rules pool) near none;
+          known = known_still;
         }
 
 -- ---- answers

@@ -6,6 +6,7 @@ use Rattle.term_pool.specs.Pooled.{tree_at}
 use Rattle.term_pool.specs.Redexes.{IsNarrow}
 use Rattle.term_pool.specs.ListedIds.{listed_at}
 use Rattle.term_pool.specs.Crossing.{AreKnownIds}
+use Rattle.term_pool.specs.Known.{IsKnown}
 use Rattle.join_find.specs.CommonIds.{Reached}
 use Rattle.join_find.specs.NewmanRow.{IsReach}
 use Rattle.join_find.specs.Near.{IsSiftedNear}
@@ -27,11 +28,12 @@ pub record IsReachOf (rules : List RewriteRule) (pool : List Tree) (id : ℕ) (f
 pub record IsNearOf (rules : List RewriteRule) (pool : List Tree) (id : ℕ) (found : List Reached) : Type 0 where
   pub near : IsSiftedNear rules (tree_at pool id) pool found
 
--- the lists are those of the pool as it is
+-- the lists are those of the pool as it is, and what is known of its ids is right
 pub record AreReached (rules : List RewriteRule) (sides : ReachedSides) : Type 0 where
   pub reached : AreOf (IsReachOf rules sides.pool) sides.reached
   pub near : AreOf (IsNearOf rules sides.pool) sides.near
+  pub known : IsKnown rules sides.pool sides.known
 
 -- what is known of ids of another pool is right
-abbrev pub AreKnown : List Tree → ReachedSides → Type 0
-AreKnown from sides = AreKnownIds from sides.pool sides.known
+abbrev pub HasKnownIds : List Tree → ReachedSides → Type 0
+HasKnownIds from sides = AreKnownIds from sides.pool sides.known_ids

@@ -6,7 +6,7 @@ ghost use Rattle.trs_defs.specs.System.{RewriteRule};
 ghost use Rattle.term_pool.specs.Pooled.{Extends, StandsFor, tree_at};
 ghost use Rattle.rewrite_core.specs.PlacedPeak.{PlacedPeak};
 ghost use Rattle.join_find.specs.KeptLists.{list_of};
-ghost use Rattle.join_find.specs.ReachedSides.{IsNarrowAt, AreKnown, AreReached};
+ghost use Rattle.join_find.specs.ReachedSides.{IsNarrowAt, AreReached, HasKnownIds};
 ghost use Rattle.join_find.specs.NewmanRow.{IsFirstJoin, HasNoJoin};
 ghost use Rattle.join_find.specs.StrongRow.{IsFirstHalf, HasNoHalf};
 
@@ -16,7 +16,7 @@ use crate::near::near;
 use crate::reaching::reach;
 use closed_pairs::Join;
 use std::alloc::Global;
-use term_pool::{KnownIds, Pool, RulesByRoot, ids_are_distinct};
+use term_pool::{Known, KnownIds, Pool, RulesByRoot, ids_are_distinct};
 use trs_core::OutOfMemory;
 
 /// The most ids that are kept from one peak to the next.
@@ -30,7 +30,10 @@ const MOST_KEPT_BYTES: u64 = 268_435_456;
 #[derive(Drop)]
 pub(crate) struct ReachedSides {
     pool: Pool,
-    known: KnownIds,
+    /// The ids of sides, by those that they have in another pool.
+    known_ids: KnownIds,
+    /// What was found out about ids of the pool.
+    known: Known,
     reached: KeptLists,
     near: KeptLists,
 }
@@ -39,11 +42,12 @@ impl ReachedSides {
     /// No sides. It takes no memory.
     pub(crate) fn new(alloc: Global) -> ReachedSides
         ensures sides { (rules : List RewriteRule) → AreReached rules result }
-        ensures known { (terms : List Tree) → AreKnown terms result }
+        ensures ids { (terms : List Tree) → HasKnownIds terms result }
     {
         ReachedSides {
             pool: Pool::new(alloc),
-            known: KnownIds::new(alloc),
+            known_ids: KnownIds::new(alloc),
+            known: Known::new(alloc),
             reached: KeptLists::new(alloc),
             near: KeptLists::new(alloc),
         }
@@ -53,14 +57,16 @@ impl ReachedSides {
     pub(crate) fn make_room(&mut self, alloc: Global)
         ensures sides { (rules : List RewriteRule) → AreReached rules self.old
             → AreReached rules self.new }
-        ensures known { (terms : List Tree) → AreKnown terms self.old → AreKnown terms self.new }
+        ensures ids { (terms : List Tree) → HasKnownIds terms self.old
+            → HasKnownIds terms self.new }
     {
         let bytes = self.reached.bytes().saturating_add(self.near.bytes());
         if self.pool.len() <= MOST_KEPT_IDS && bytes <= MOST_KEPT_BYTES {
             return;
         }
         self.pool = Pool::new(alloc);
-        self.known = KnownIds::new(alloc);
+        self.known_ids = KnownIds::new(alloc);
+        self.known = Known::new(alloc);
         self.reached = KeptLists::new(alloc);
         self.near = KeptLists::new(alloc);
     }
@@ -73,15 +79,15 @@ impl ReachedSides {
         side: u32,
     ) -> Result<u32, OutOfMemory>
         requires there { side < length from.now }
-        requires known { AreKnown from.now self.old }
+        requires ids { HasKnownIds from.now self.old }
         ensures id { IfOk result (λ id. StandsFor self.new.pool id (tree_at from.now side)) }
-        ensures known { OnOk result (AreKnown from.now self.new) }
+        ensures ids { OnOk result (HasKnownIds from.now self.new) }
         ensures sides { (rules : List RewriteRule) → AreReached rules self.old
             → OnOk result (AreReached rules self.new) }
         ensures kept { OnOk result (Extends self.old.pool self.new.pool) }
     {
         let mark = self.pool.mark();
-        let id = self.pool.take_over(alloc, from, side, &mut self.known)?;
+        let id = self.pool.take_over(alloc, from, side, &mut self.known_ids)?;
         if self.pool.len() == mark {
             return Ok(id);
         }
@@ -105,8 +111,8 @@ impl ReachedSides {
             → StandsFor self.old.pool right peak.right → IfOk result (λ found. MatchOption found
             (HasNoJoin by_root.now.rules peak) (IsFirstJoin by_root.now.rules peak)) }
         ensures sides { OnOk result (AreReached by_root.now.rules self.new) }
-        ensures known { (terms : List Tree) → AreKnown terms self.old
-            → OnOk result (AreKnown terms self.new) }
+        ensures ids { (terms : List Tree) → HasKnownIds terms self.old
+            → OnOk result (HasKnownIds terms self.new) }
     {
         self.list_reached(alloc, by_root, left)?;
         self.list_reached(alloc, by_root, right)?;
@@ -130,8 +136,8 @@ impl ReachedSides {
             → StandsFor self.old.pool to t → IfOk result (λ found. MatchOption found
             (HasNoHalf by_root.now.rules s t) (IsFirstHalf by_root.now.rules s t)) }
         ensures sides { OnOk result (AreReached by_root.now.rules self.new) }
-        ensures known { (terms : List Tree) → AreKnown terms self.old
-            → OnOk result (AreKnown terms self.new) }
+        ensures ids { (terms : List Tree) → HasKnownIds terms self.old
+            → OnOk result (HasKnownIds terms self.new) }
         ensures kept { OnOk result (Extends self.old.pool self.new.pool) }
     {
         self.list_reached(alloc, by_root, from)?;
@@ -153,8 +159,8 @@ impl ReachedSides {
         ensures still { OnOk result ((i : ℕ) → IsTrue (is_some (list_of self.old.reached i))
             → IsTrue (is_some (list_of self.new.reached i))) }
         ensures sides { OnOk result (AreReached by_root.now.rules self.new) }
-        ensures known { (terms : List Tree) → AreKnown terms self.old
-            → OnOk result (AreKnown terms self.new) }
+        ensures ids { (terms : List Tree) → HasKnownIds terms self.old
+            → OnOk result (HasKnownIds terms self.new) }
         ensures kept { OnOk result (Extends self.old.pool self.new.pool) }
     {
         if self.reached.has(id) {
@@ -176,15 +182,15 @@ impl ReachedSides {
         requires sides { AreReached by_root.now.rules self.old }
         ensures listed { OnOk result (IsTrue (is_some (list_of self.new.near id))) }
         ensures sides { OnOk result (AreReached by_root.now.rules self.new) }
-        ensures known { (terms : List Tree) → AreKnown terms self.old
-            → OnOk result (AreKnown terms self.new) }
+        ensures ids { (terms : List Tree) → HasKnownIds terms self.old
+            → OnOk result (HasKnownIds terms self.new) }
         ensures reached { OnOk result (self.new.reached ≡ self.old.reached) }
         ensures same { OnOk result (self.new.pool ≡ self.old.pool) }
     {
         if self.near.has(id) {
             return Ok(());
         }
-        let list = near(alloc, &mut self.pool, by_root, id)?;
+        let list = near(alloc, &mut self.pool, by_root, id, &mut self.known)?;
         self.near.put(id, list)
     }
 }

@@ -6,7 +6,7 @@ ghost use Rattle.closed_pairs.specs.crit_pairs.PeakList.{ListsPeaks};
 ghost use Rattle.assign_search.specs.Continues.{Continues};
 ghost use Rattle.closed_pairs.specs.crit_pairs.PeakPairs.{HoldPairsOf};
 ghost use Rattle.closed_pairs.specs.crit_pairs.Table.{IsPair};
-ghost use Rattle.join_find.specs.ReachedSides.{IsNarrowAt, AreKnown, AreReached};
+ghost use Rattle.join_find.specs.ReachedSides.{IsNarrowAt, AreReached, HasKnownIds};
 ghost use Rattle.join_find.specs.StrongRow.{AreLinear, IsFirstFour, HasNoFour};
 ghost use Rattle.join_find.specs.StrongRow.{FindsStrong, FailsStrong};
 ghost use Rattle.join_find.specs.Answers.{IsFinding};
@@ -110,12 +110,12 @@ fn first_four(
     requires left { IsNarrowAt from.now pair.left }
     requires right { IsNarrowAt from.now pair.right }
     requires sides { AreReached by_root.now.rules sides.old }
-    requires known { AreKnown from.now sides.old }
+    requires ids { HasKnownIds from.now sides.old }
     ensures four { (peak : PlacedPeak) → IsPair from.now pair peak
         → IfOk result (λ found. MatchOption found
         (HasNoFour by_root.now.rules peak) (IsFirstFour by_root.now.rules peak)) }
     ensures sides { OnOk result (AreReached by_root.now.rules sides.new) }
-    ensures known { OnOk result (AreKnown from.now sides.new) }
+    ensures ids { OnOk result (HasKnownIds from.now sides.new) }
 {
     sides.make_room(alloc);
     let left = sides.intern(alloc, from, pair.left)?;

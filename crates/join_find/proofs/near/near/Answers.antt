@@ -10,7 +10,7 @@ use Rattle.join_find.proofs.near.near.Goals.{After-deref-step-items}
 use Rattle.join_find.proofs.near.near.Goals as goal
 
 redexes : (c : After-deref-step-items) → HasRedexes c.args.by_root.now.rules (tree_at c.args.pool.now c.args.id) c.deref-step-items.result.now
-redexes c = rw c.deref-step-items.ensures.value c.in_ok-steps.ensures
+redexes c = rw c.deref-step-items.ensures.value c.in_ok-steps.ensures.redexes
 
 pub loop-step-init : goal.loop-step-init
 loop-step-init c = record {

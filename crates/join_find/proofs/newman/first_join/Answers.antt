@@ -7,8 +7,8 @@ use Rattle.join_find.proofs.newman.first_join.Goals as goal
 left_stands : (c : In_ok-right) → StandsFor c.intern-2.new.self.pool c.in_ok-left.left (tree_at c.args.from.now c.args.pair.left)
 left_stands c = c.in_ok-right.ensures.kept.kept c.in_ok-left.left (tree_at c.args.from.now c.args.pair.left) c.in_ok-left.ensures.id
 
-pub intern-requires-clause-known : goal.intern-requires-clause-known
-intern-requires-clause-known c = c.make_room.ensures.known c.args.from.now c.requires.known
+pub intern-requires-clause-ids : goal.intern-requires-clause-ids
+intern-requires-clause-ids c = c.make_room.ensures.ids c.args.from.now c.requires.ids
 
 pub first_join-requires-clause-left : goal.first_join-requires-clause-left
 first_join-requires-clause-left c =
@@ -31,5 +31,5 @@ returns-clause-join c = λ peak is.
     c.first_join.ensures.join peak (stands_too from pool c.args.pair.left c.in_ok-left.left peak.left is.0 (left_stands a))
     (stands_too from pool c.args.pair.right c.in_ok-right.right peak.right is.1 c.in_ok-right.ensures.id)
 
-pub returns-clause-known : goal.returns-clause-known
-returns-clause-known c = c.first_join.ensures.known c.args.from.now c.in_ok-right.ensures.known
+pub returns-clause-ids : goal.returns-clause-ids
+returns-clause-ids c = c.first_join.ensures.ids c.args.from.now c.in_ok-right.ensures.ids

@@ -20,7 +20,7 @@ loop-n-init g c =
     record {
       joined = subst P (sym c.new-joins.ensures.items) along_end;
       sides = c.new-sides.ensures.sides c.args.trs.now.rules;
-      known = c.new-sides.ensures.known c.args.pairs.now.pool;
+      ids = c.new-sides.ensures.ids c.args.pairs.now.pool;
       continues = record { later = c.stopped.ensures.later; kept = c.stopped.ensures.kept };
     }
 
@@ -56,8 +56,8 @@ first_join-requires-clause-right g c =
 pub first_join-requires-clause-sides : goal.first_join-requires-clause-sides
 first_join-requires-clause-sides g c = rw c.in_ok-by_root.ensures c.loop-n.invariant.sides
 
-pub first_join-requires-clause-known : goal.first_join-requires-clause-known
-first_join-requires-clause-known g c = rw c.pool-from.ensures c.loop-n.invariant.known
+pub first_join-requires-clause-ids : goal.first_join-requires-clause-ids
+first_join-requires-clause-ids g c = rw c.pool-from.ensures c.loop-n.invariant.ids
 
 pub returns-in-None-clause-answer : goal.returns-in-None-clause-answer
 returns-in-None-clause-answer g c =
@@ -71,7 +71,7 @@ loop-n-preserved g c =
       joined = along_one_more (IsFirstJoin c.args.trs.now.rules) c.args.peaks.now c.loop-n.joins.items c.push.new.self.items c.loop-n.n p.peak _
           c.loop-n-test.true p.read c.loop-n.invariant.joined ((rw (c.in-Some.is, c.in_ok-by_root.ensures) at c.in_ok-join.ensures.join) p.peak (stands_from g (goal.at.loop-n-preserved g c).After-pair)) c.in_ok-push-in-Some.ensures.items;
       sides = rw c.in_ok-by_root.ensures at c.in_ok-join.ensures.sides;
-      known = rw c.pool-from.ensures at c.in_ok-join.ensures.known;
+      ids = rw c.pool-from.ensures at c.in_ok-join.ensures.ids;
       continues = continues_on c.loop-n.invariant.continues (record { later = c.stopped-in-loop-n.ensures.later; kept = c.stopped-in-loop-n.ensures.kept });
     }
 

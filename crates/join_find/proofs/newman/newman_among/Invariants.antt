@@ -2,13 +2,13 @@ use Rattle.std.proofs.Common.{take}
 use Rattle.assign_search.specs.Continues.{Continues}
 use Rattle.join_find.specs.First.{Along}
 use Rattle.join_find.specs.NewmanRow.{IsFirstJoin}
-use Rattle.join_find.specs.ReachedSides.{AreKnown, AreReached}
+use Rattle.join_find.specs.ReachedSides.{AreReached, HasKnownIds}
 use Rattle.join_find.proofs.newman.newman_among.Given as goal
 
 abbrev pub invariant-loop-n : goal.invariant-loop-n
 invariant-loop-n g l = record {
   joined : Along (IsFirstJoin l.trs.rules) (take l.n l.peaks) l.joins.items;
   sides : AreReached l.trs.rules l.sides;
-  known : AreKnown l.pairs.pool l.sides;
+  ids : HasKnownIds l.pairs.pool l.sides;
   continues : Continues g.P.Stop l.fn.stop l.stop;
 }

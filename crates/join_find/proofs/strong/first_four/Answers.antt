@@ -10,8 +10,8 @@ use Rattle.join_find.proofs.strong.first_four.Goals as goal
 left_stands : (c : In_ok-right) → StandsFor c.intern-2.new.self.pool c.in_ok-left.left (tree_at c.args.from.now c.args.pair.left)
 left_stands c = c.in_ok-right.ensures.kept.kept c.in_ok-left.left (tree_at c.args.from.now c.args.pair.left) c.in_ok-left.ensures.id
 
-pub intern-requires-clause-known : goal.intern-requires-clause-known
-intern-requires-clause-known c = c.make_room.ensures.known c.args.from.now c.requires.known
+pub intern-requires-clause-ids : goal.intern-requires-clause-ids
+intern-requires-clause-ids c = c.make_room.ensures.ids c.args.from.now c.requires.ids
 
 pub first_half-requires-clause-from : goal.first_half-requires-clause-from
 first_half-requires-clause-from c =
@@ -63,7 +63,7 @@ returns-clause-four c = λ peak is.
     rw c.in-Some-2.is at (c.in_ok-v.ensures.half peak.right peak.left (kept c.in_ok-right.right peak.right right) (kept c.in_ok-left.left peak.left left)) in
     record { from_left = subst L (sym c.u.view_is) from_left; from_right = subst R (sym c.v.view_is) from_right }
 
-pub returns-clause-known : goal.returns-clause-known
-returns-clause-known c =
+pub returns-clause-ids : goal.returns-clause-ids
+returns-clause-ids c =
     let terms = c.args.from.now in
-    c.in_ok-v.ensures.known terms (c.in_ok-u.ensures.known terms c.in_ok-right.ensures.known)
+    c.in_ok-v.ensures.ids terms (c.in_ok-u.ensures.ids terms c.in_ok-right.ensures.ids)

@@ -31,6 +31,6 @@ returns-clause-sides c = always_ok c.first_common.result c.in_ok-list_near.ensur
 pub returns-clause-kept : goal.returns-clause-kept
 returns-clause-kept c = always_ok c.first_common.result (extends (goal.at.returns-clause-kept c).In_ok-list_near)
 
-pub returns-clause-known : goal.returns-clause-known
-returns-clause-known c = λ terms known.
-    always_ok c.first_common.result (c.in_ok-list_near.ensures.known terms (c.in_ok-list_reached.ensures.known terms known))
+pub returns-clause-ids : goal.returns-clause-ids
+returns-clause-ids c = λ terms ids.
+    always_ok c.first_common.result (c.in_ok-list_near.ensures.ids terms (c.in_ok-list_reached.ensures.ids terms ids))

@@ -14,6 +14,6 @@ returns-clause-join c = λ peak left right.
 pub returns-clause-sides : goal.returns-clause-sides
 returns-clause-sides c = always_ok c.first_common.result c.in_ok-list_reached-2.ensures.sides
 
-pub returns-clause-known : goal.returns-clause-known
-returns-clause-known c = λ terms known.
-    always_ok c.first_common.result (c.in_ok-list_reached-2.ensures.known terms (c.in_ok-list_reached.ensures.known terms known))
+pub returns-clause-ids : goal.returns-clause-ids
+returns-clause-ids c = λ terms ids.
+    always_ok c.first_common.result (c.in_ok-list_reached-2.ensures.ids terms (c.in_ok-list_reached.ensures.ids terms ids))

@@ -5,11 +5,11 @@ use Rattle.join_find.proofs.reached_sides.ReachedSides.list_reached.Goals as goa
 pub returns-clause-sides : goal.returns-clause-sides
 returns-clause-sides c =
     then_ok c.put.result
-    (λ put. one_more_reached c.args.by_root.now.rules c.args.self.now c.requires.sides c.reach.new.pool c.args.self.now.known
+    (λ put. one_more_reached c.args.by_root.now.rules c.args.self.now c.requires.sides c.reach.new.pool c.args.self.now.known_ids
     c.in_ok-list.ensures.kept c.put.new.self c.new.result c.args.id c.in_ok-list.list.items
     c.new.ensures put c.requires.narrow.there c.in_ok-list.ensures.list c.in_ok-list.ensures.there)
     c.put.ensures
 
-pub returns-clause-known : goal.returns-clause-known
-returns-clause-known c = λ terms known.
-    always_ok c.put.result (known_ids_on terms c.args.self.now.pool c.reach.new.pool c.args.self.now.known c.in_ok-list.ensures.kept known)
+pub returns-clause-ids : goal.returns-clause-ids
+returns-clause-ids c = λ terms ids.
+    always_ok c.put.result (known_ids_on terms c.args.self.now.pool c.reach.new.pool c.args.self.now.known_ids c.in_ok-list.ensures.kept ids)
