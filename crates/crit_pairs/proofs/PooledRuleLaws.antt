@@ -12,13 +12,16 @@ use Rattle.trs_defs.proofs.ListItems.{item_of_more}
 use Rattle.trs_core.specs.SystemLimits.{HasSmallVariables}
 use Rattle.term_pool.specs.LeftSides.{IsGround}
 use Rattle.term_pool.specs.Pooled.{Extends}
+use Rattle.crit_pairs.specs.NumberedVariables.{AreVariableIds}
 use Rattle.crit_pairs.specs.PooledSide.{IsPooledSide, side_tree}
 use Rattle.crit_pairs.specs.PooledTerms.{ArePooledRights, ArePooledLefts, ArePooledRules}
+use Rattle.crit_pairs.specs.declared.numbered_variables.NumberedVariables.{NumberedVariables}
 use Rattle.crit_pairs.specs.declared.pooled_rules.PooledRules.{PooledRules}
 use Rattle.crit_pairs.specs.declared.pooled_side.PooledSide.{PooledSide}
 use Rattle.term_pool.specs.declared.noted_instances.Instances.{Instances}
 use Rattle.crit_pairs.proofs.EqualRules.{item_of_set}
 use Rattle.term_pool.proofs.InstanceLaws.{ground_on}
+use Rattle.crit_pairs.proofs.VariableIds.{variable_ids_on}
 use Rattle.crit_pairs.proofs.PooledSides.{side_still, small_side, occurring_listed}
 use Rattle.crit_pairs.proofs.SpotWalk.{small_of}
 
@@ -51,17 +54,17 @@ module _ (rules : List RewriteRule) (pool : List Tree) (sides : PooledRules) (k 
   pub left_small : (now : List Tree) (side : PooledSide) → IsPooledSide now r.left side → HasSmallVariables (side_tree now side)
   left_small now side h = small_side now r.left side h (small_of rules k r pooled.small numbered).0
 
--- ---- a pool that has grown
+-- ---- a pool that has grown, after an instance was made
 
-module _ (rules : List RewriteRule) (pool next : List Tree) (sides : PooledRules) (made : Instances) (more : Extends pool next) (pooled : ArePooledRules rules pool sides) where
+module _ (rules : List RewriteRule) (pool next : List Tree) (sides : PooledRules) (made : Instances) (numbered : NumberedVariables) (more : Extends pool next) (pooled : ArePooledRules rules pool sides) (are : AreVariableIds next numbered) where
   rights_grown : ArePooledRights rules next sides.rights.items
   rights_grown = record {
     count = pooled.rights.count;
     each = λ k side r at there. side_still pool next r.right side more (pooled.rights.each k side r at there);
   }
 
-  pub pooled_still : ArePooledRules rules next (record { rights = sides.rights; lefts = sides.lefts; ground = sides.ground; made = made })
-  pooled_still = record {
+  pub pooled_instance : ArePooledRules rules next (record { rights = sides.rights; lefts = sides.lefts; ground = sides.ground; made = made; numbered = numbered })
+  pooled_instance = record {
     small = pooled.small;
     rights = rights_grown;
     lefts = record {
@@ -69,12 +72,13 @@ module _ (rules : List RewriteRule) (pool next : List Tree) (sides : PooledRules
       each = λ k side r at there. side_still pool next r.left side more (pooled.lefts.each k side r at there);
     };
     ground = ground_on pool next sides.ground.items more pooled.ground;
+    numbered = are;
   }
 
   -- a left side comes to it
   pub pooled_with_left : (n : ℕ) (new : PooledSide) (rule : RewriteRule) → slice_get rules n ≡ Some rule → IsPooledSide next rule.left new
-      → ArePooledRules rules next (record { rights = sides.rights; lefts = with_item sides.lefts n (Some new); ground = sides.ground; made = made })
-  pooled_with_left n new rule numbered is = record {
+      → ArePooledRules rules next (record { rights = sides.rights; lefts = with_item sides.lefts n (Some new); ground = sides.ground; made = made; numbered = numbered })
+  pooled_with_left n new rule numbered_rule is = record {
     small = pooled.small;
     rights = rights_grown;
     lefts = record {
@@ -82,13 +86,18 @@ module _ (rules : List RewriteRule) (pool next : List Tree) (sides : PooledRules
       each = λ k side r at there. elim (item_of_set sides.lefts.items n (Some new) k (Some side) at) as (λ _. IsPooledSide next r.left side) [
         | inl h ↦
             let same_side : side ≡ new = same_Some side new h.1 in
-            let same_rule : r ≡ rule = same_Some r rule (sym there ∙ (ap (slice_get rules) h.0 ∙ numbered)) in
+            let same_rule : r ≡ rule = same_Some r rule (sym there ∙ (ap (slice_get rules) h.0 ∙ numbered_rule)) in
             rw (same_side, same_rule) is
         | inr old ↦ side_still pool next r.left side more (pooled.lefts.each k side r old there)
       ];
     };
     ground = ground_on pool next sides.ground.items more pooled.ground;
+    numbered = are;
   }
+
+pub pooled_still : (rules : List RewriteRule) (pool next : List Tree) (sides : PooledRules) (made : Instances) → Extends pool next → ArePooledRules rules pool sides
+    → ArePooledRules rules next (record { rights = sides.rights; lefts = sides.lefts; ground = sides.ground; made = made; numbered = sides.numbered })
+pooled_still rules pool next sides made more pooled = pooled_instance rules pool next sides made sides.numbered more pooled (variable_ids_on pool next sides.numbered more pooled.numbered)
 
 -- ---- all rules
 

@@ -10,6 +10,7 @@ use Rattle.term_pool.specs.Pooled.{tree_at}
 use Rattle.rewrite_core.specs.PlacedPeak.{PlacedPeak}
 use Rattle.crit_pairs.specs.Apart.{renamed_apart}
 use Rattle.crit_pairs.specs.InOrder.{in_order}
+use Rattle.crit_pairs.specs.NumberedVariables.{AreVariableIds}
 use Rattle.crit_pairs.specs.PeakList.{Spot}
 use Rattle.crit_pairs.specs.PooledSide.{IsPooledSide}
 use Rattle.crit_pairs.specs.Sides.{AreRenumbered}
@@ -29,12 +30,13 @@ pub record ArePooledLefts (rules : List RewriteRule) (pool : List Tree) (sides :
   pub count : length sides ≡ length rules
   pub each : (k : ℕ) (side : PooledSide) (r : RewriteRule) → slice_get sides k ≡ Some (Some side) → slice_get rules k ≡ Some r → IsPooledSide pool r.left side
 
--- these are the rules, and marked ids are ground
+-- these are the rules, marked ids are ground, and known variables have their ids
 pub record ArePooledRules (rules : List RewriteRule) (pool : List Tree) (sides : PooledRules) : Type 0 where
   pub small : HaveSmallVariables rules
   pub rights : ArePooledRights rules pool sides.rights.items
   pub lefts : ArePooledLefts rules pool sides.lefts.items
   pub ground : AreGround pool sides.ground.items
+  pub numbered : AreVariableIds pool sides.numbered
 
 -- the pairs are those of the peaks, and they are made of these rules
 pub record HoldSides (rules : List RewriteRule) (peaks : List PlacedPeak) (terms : PooledTerms) : Type 0 where

@@ -47,7 +47,6 @@ impl Names {
     }
 
     /// Gives the next number to a variable that has none.
-    #[inline(always)]
     pub fn add(&mut self, v: u32) -> Result<(), OutOfMemory>
         requires { (k : ℕ) → slice_get self.old.order.items k ≡ Some v → ⊥ }
         ensures { OnOk result (self.new.order.items ≡ self.old.order.items ++ v ∷ []) }

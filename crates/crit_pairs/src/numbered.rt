@@ -1,19 +1,61 @@
 //! The ids of instances, with new numbers for their variables.
-ghost use Rattle.std.specs.Prelude.{◌<◌, length, IfOk, OnOk};
+ghost use Rattle.std.specs.Prelude.{◌≡◌, ◌<◌, length, IfOk, IfSome, OnOk};
 ghost use Rattle.trs_defs.specs.Tree.{var};
 ghost use Rattle.trs_defs.specs.Substitution.{apply};
 ghost use Rattle.trs_core.specs.View.{tree};
 ghost use Rattle.term_pool.specs.Pooled.{Extends, tree_at};
 ghost use Rattle.trs_unify.specs.Renamed.{IsRenamed};
-ghost use Rattle.crit_pairs.specs.Meeting.{put_in};
+ghost use Rattle.crit_pairs.specs.Meeting.{put_in, solution};
+ghost use Rattle.crit_pairs.specs.NumberedVariables.{AreVariableIds};
 ghost use Rattle.crit_pairs.specs.Sides.{IsDistinct};
 
 use crate::binding_table::Bindings;
 use crate::names::Names;
+use crate::numbered_variables::NumberedVariables;
 use crate::solved::number_of;
 use std::alloc::Global;
 use term_pool::Pool;
 use trs_core::{OutOfMemory, Term};
+
+/// The id of a variable's instance, with new numbers for its variables. Mostly it is a variable itself.
+#[inline(always)]
+pub(crate) fn renumber_variable_in_pool(
+    alloc: Global,
+    bindings: &Bindings,
+    v: u32,
+    names: &mut Names,
+    numbered: &mut NumberedVariables,
+    pool: &mut Pool,
+) -> Result<u32, OutOfMemory>
+    requires distinct { IsDistinct names.old.order.items }
+    requires ids { AreVariableIds pool.old numbered.old }
+    ensures distinct { OnOk result (IsDistinct names.new.order.items) }
+    ensures renamed { IfOk result (λ id. IsRenamed names.old.order.items names.new.order.items
+        (solution bindings.now v) (tree_at pool.new id)) }
+    ensures there { IfOk result (λ id. id < length pool.new) }
+    ensures kept { Extends pool.old pool.new }
+    ensures ids { OnOk result (AreVariableIds pool.new numbered.new) }
+{
+    match instance_variable(bindings, v) {
+        Some(w) => number_variable_in_pool(w, names, numbered, pool),
+        None => {
+            let t = Term::Var(v);
+            renumber_in_pool(alloc, bindings, &t, bindings.levels, names, numbered, pool)
+        }
+    }
+}
+
+/// The variable that is a variable's instance. `None` where the instance may be another term.
+#[inline(always)]
+fn instance_variable(bindings: &Bindings, v: u32) -> Option<u32>
+    ensures { IfSome result (λ w. solution bindings.now v ≡ var w) }
+{
+    match bindings.find(v) {
+        None => Some(v),
+        Some(Term::Var(w)) if bindings.levels == 0 => Some(*w),
+        Some(_) => None,
+    }
+}
 
 /// The id of a term's instance, with new numbers for its variables: those that are not yet among the
 /// names come behind them as they are met.
@@ -23,29 +65,33 @@ pub(crate) fn renumber_in_pool(
     t: &Term,
     levels: u32,
     names: &mut Names,
+    numbered: &mut NumberedVariables,
     pool: &mut Pool,
 ) -> Result<u32, OutOfMemory>
-    requires { IsDistinct names.old.order.items }
+    requires distinct { IsDistinct names.old.order.items }
+    requires ids { AreVariableIds pool.old numbered.old }
     ensures distinct { OnOk result (IsDistinct names.new.order.items) }
     ensures renamed { IfOk result (λ id. IsRenamed names.old.order.items names.new.order.items
         (apply (put_in levels bindings.now.list.items) (tree t.now)) (tree_at pool.new id)) }
     ensures there { IfOk result (λ id. id < length pool.new) }
     ensures kept { Extends pool.old pool.new }
+    ensures ids { OnOk result (AreVariableIds pool.new numbered.new) }
 {
     match t {
         Term::Var(v) => match bindings.find(*v) {
-            None => number_variable_in_pool(*v, names, pool),
+            None => number_variable_in_pool(*v, names, numbered, pool),
             Some(bound) => {
                 if levels == 0 {
-                    return number_in_pool(alloc, bound, names, pool);
+                    return number_in_pool(alloc, bound, names, numbered, pool);
                 }
-                renumber_in_pool(alloc, bindings, bound, levels - 1, names, pool)
+                renumber_in_pool(alloc, bindings, bound, levels - 1, names, numbered, pool)
             }
         },
         Term::App(f, args) => {
             let mut ids = Vec::with_capacity(alloc, args.items.len())?;
             for arg in &args.items {
-                ids.push(renumber_in_pool(alloc, bindings, arg, levels, names, pool)?)?;
+                let id = renumber_in_pool(alloc, bindings, arg, levels, names, numbered, pool)?;
+                ids.push(id)?;
             }
             pool.apply(alloc, *f, &ids)
         }
@@ -58,21 +104,24 @@ fn number_in_pool(
     alloc: Global,
     t: &Term,
     names: &mut Names,
+    numbered: &mut NumberedVariables,
     pool: &mut Pool,
 ) -> Result<u32, OutOfMemory>
-    requires { IsDistinct names.old.order.items }
+    requires distinct { IsDistinct names.old.order.items }
+    requires ids { AreVariableIds pool.old numbered.old }
     ensures distinct { OnOk result (IsDistinct names.new.order.items) }
     ensures renamed { IfOk result (λ id. IsRenamed names.old.order.items names.new.order.items
         (tree t.now) (tree_at pool.new id)) }
     ensures there { IfOk result (λ id. id < length pool.new) }
     ensures kept { Extends pool.old pool.new }
+    ensures ids { OnOk result (AreVariableIds pool.new numbered.new) }
 {
     match t {
-        Term::Var(v) => number_variable_in_pool(*v, names, pool),
+        Term::Var(v) => number_variable_in_pool(*v, names, numbered, pool),
         Term::App(f, args) => {
             let mut ids = Vec::with_capacity(alloc, args.items.len())?;
             for arg in &args.items {
-                ids.push(number_in_pool(alloc, arg, names, pool)?)?;
+                ids.push(number_in_pool(alloc, arg, names, numbered, pool)?)?;
             }
             pool.apply(alloc, *f, &ids)
         }
@@ -80,14 +129,21 @@ fn number_in_pool(
 }
 
 /// The id of the variable with its number, or with the next one.
-#[inline]
-fn number_variable_in_pool(v: u32, names: &mut Names, pool: &mut Pool) -> Result<u32, OutOfMemory>
-    requires { IsDistinct names.old.order.items }
+#[inline(always)]
+fn number_variable_in_pool(
+    v: u32,
+    names: &mut Names,
+    numbered: &mut NumberedVariables,
+    pool: &mut Pool,
+) -> Result<u32, OutOfMemory>
+    requires distinct { IsDistinct names.old.order.items }
+    requires ids { AreVariableIds pool.old numbered.old }
     ensures distinct { OnOk result (IsDistinct names.new.order.items) }
     ensures renamed { IfOk result (λ id. IsRenamed names.old.order.items names.new.order.items
         (var v) (tree_at pool.new id)) }
     ensures there { IfOk result (λ id. id < length pool.new) }
     ensures kept { Extends pool.old pool.new }
+    ensures ids { OnOk result (AreVariableIds pool.new numbered.new) }
 {
-    pool.variable(number_of(v, names)?)
+    numbered.id(number_of(v, names)?, pool)
 }

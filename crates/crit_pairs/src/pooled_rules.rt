@@ -16,6 +16,7 @@ ghost use Rattle.crit_pairs.specs.PooledTerms.{ArePooledRights, ArePooledRules};
 use crate::apart::RulesApart;
 use crate::binding_table::Bindings;
 use crate::names::Names;
+use crate::numbered_variables::NumberedVariables;
 use crate::pooled_side::PooledSide;
 use std::alloc::Global;
 use term_pool::{Instances, Pool};
@@ -31,6 +32,8 @@ pub(crate) struct PooledRules {
     pub ground: Vec<bool>,
     /// The parts of one instance.
     pub made: Instances,
+    /// The ids of the variables of instances.
+    pub numbered: NumberedVariables,
 }
 
 impl PooledRules {
@@ -51,6 +54,7 @@ impl PooledRules {
             lefts,
             ground,
             made: Instances::new(alloc),
+            numbered: NumberedVariables::new(alloc),
         })
     }
 
@@ -104,6 +108,7 @@ impl PooledRules {
             names,
             &self.ground,
             &mut self.made,
+            &mut self.numbered,
             pool,
         )
     }
@@ -141,6 +146,7 @@ impl PooledRules {
                 names,
                 &self.ground,
                 &mut self.made,
+                &mut self.numbered,
                 pool,
             );
         }
@@ -152,6 +158,7 @@ impl PooledRules {
             names,
             &self.ground,
             &mut self.made,
+            &mut self.numbered,
             pool,
         )?;
         self.lefts[k] = Some(side);

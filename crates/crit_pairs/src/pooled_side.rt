@@ -6,11 +6,13 @@ ghost use Rattle.term_pool.specs.Pooled.{Extends, tree_at};
 ghost use Rattle.term_pool.specs.LeftSides.{AreGround};
 ghost use Rattle.crit_pairs.specs.Sides.{IsDistinct};
 ghost use Rattle.crit_pairs.specs.Numbered.{AreNamed, IsNumbered};
+ghost use Rattle.crit_pairs.specs.NumberedVariables.{AreVariableIds};
 ghost use Rattle.crit_pairs.specs.PooledSide.{IsPooledSide, side_tree, side_instance};
 
 use crate::binding_table::Bindings;
 use crate::names::Names;
-use crate::numbered::renumber_in_pool;
+use crate::numbered::renumber_variable_in_pool;
+use crate::numbered_variables::NumberedVariables;
 use crate::solved::name_variables;
 use std::alloc::Global;
 use term_pool::{Instances, Pool};
@@ -66,6 +68,7 @@ impl PooledSide {
         names: &mut Names,
         ground: &[bool],
         made: &mut Instances,
+        numbered: &mut NumberedVariables,
         pool: &mut Pool,
     ) -> Result<u32, OutOfMemory>
         requires side { IsPooledSide pool.old (side_tree pool.old self.now) self.now }
@@ -75,19 +78,21 @@ impl PooledSide {
         requires named { AreNamed names.old.order.items
             (side_instance bindings.now from pool.old self.now) }
         requires ground { AreGround pool.old ground.now }
+        requires ids { AreVariableIds pool.old numbered.old }
         ensures names { OnOk result (names.new.order.items ≡ names.old.order.items) }
         ensures numbered { IfOk result (λ id. IsNumbered names.old.order.items
             (side_instance bindings.now from pool.old self.now) (tree_at pool.new id)) }
         ensures there { IfOk result (λ id. id < length pool.new) }
         ensures kept { Extends pool.old pool.new }
+        ensures ids { OnOk result (AreVariableIds pool.new numbered.new) }
     {
         if self.variables.is_empty() {
             return Ok(self.id);
         }
         made.clear();
         for x in &self.variables {
-            let v = Term::Var(from + x.number);
-            let id = renumber_in_pool(alloc, bindings, &v, bindings.levels, names, pool)?;
+            let v = from + x.number;
+            let id = renumber_variable_in_pool(alloc, bindings, v, names, numbered, pool)?;
             made.note(x.id, id)?;
         }
         pool.instance_by(alloc, self.id, ground, made)

@@ -215,6 +215,7 @@ pub(crate) fn name_variables(t: &Term, names: &mut Names) -> Result<(), OutOfMem
 }
 
 /// The number of a variable, or the next one. A list of 2^32 - 1 names is full.
+#[inline(always)]
 pub(crate) fn number_of(v: u32, names: &mut Names) -> Result<u32, OutOfMemory>
     requires { IsDistinct names.old.order.items }
     ensures distinct { OnOk result (IsDistinct names.new.order.items) }

@@ -3,7 +3,9 @@ use Rattle.std.proofs.lemmas.List.{drop_all}
 use Rattle.trs_defs.proofs.ArgumentLists.{cell}
 use Rattle.trs_core.specs.View.{forest}
 use Rattle.term_pool.proofs.Extending.{extends_on}
+use Rattle.term_pool.proofs.KnownLaws.{on_ok}
 use Rattle.trs_unify.proofs.NewNames.{renaming_goes_on, renaming_ends}
+use Rattle.crit_pairs.proofs.VariableIds.{variable_ids_on}
 use Rattle.crit_pairs.proofs.NumberedIds.{all_below, ids_more, renamed_id, id_there}
 use Rattle.crit_pairs.proofs.numbered.+number_in_pool.Goals as goal
 
@@ -14,6 +16,7 @@ loop-arg-preserved t c =
     record {
       distinct = calls.distinct;
       kept = extends_on c.args.pool.now c.loop-arg.pool c.number_in_pool.new.pool c.loop-arg.invariant.kept calls.kept;
+      ids = calls.ids;
       below = all_below c.loop-arg.pool c.number_in_pool.new.pool c.loop-arg.ids.items c.push.new.self.items c.in_ok-number_in_pool-in-App.field-0 calls.kept c.loop-arg.invariant.below calls.there pushed;
       renaming = renaming_goes_on c.args.names.now.order.items c.loop-arg.names.order.items c.number_in_pool.new.names.order.items c.in-App.f _ _ _ _ _ _ _
           (ap forest (cell c.deref-arg-items.result.now c.loop-arg.arg-index c.arg-item.result c.loop-arg-test.true c.arg-item.is))
@@ -29,3 +32,7 @@ returns-after-loop-arg-clause-renamed t c =
 
 pub returns-after-loop-arg-clause-there : goal.returns-after-loop-arg-clause-there
 returns-after-loop-arg-clause-there t c = id_there c.apply.result c.apply.new.self _ c.apply.ensures.id
+
+pub returns-after-loop-arg-clause-ids : goal.returns-after-loop-arg-clause-ids
+returns-after-loop-arg-clause-ids t c =
+    on_ok c.apply.result (variable_ids_on c.loop-arg.pool c.apply.new.self c.loop-arg.numbered c.apply.ensures.kept c.loop-arg.invariant.ids)

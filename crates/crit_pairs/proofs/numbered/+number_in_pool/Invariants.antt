@@ -3,6 +3,7 @@ use Rattle.trs_defs.specs.Size.{size_of}
 use Rattle.trs_core.specs.View.{tree, forest}
 use Rattle.term_pool.specs.Pooled.{Extends, tree_at}
 use Rattle.trs_unify.proofs.NewNames.{AreRenaming}
+use Rattle.crit_pairs.specs.NumberedVariables.{AreVariableIds}
 use Rattle.crit_pairs.specs.Sides.{IsDistinct}
 use Rattle.crit_pairs.proofs.numbered.+number_in_pool.Given as goal
 
@@ -10,6 +11,7 @@ abbrev pub invariant-loop-arg : goal.invariant-loop-arg
 invariant-loop-arg l = record {
   distinct : IsDistinct l.names.order.items;
   kept : Extends l.fn.pool l.pool;
+  ids : AreVariableIds l.pool l.numbered;
   below : All (λ i. i < length l.pool) l.ids.items;
   renaming : AreRenaming l.fn.names.order.items l.f (tree l.t) (map (tree_at l.pool) l.ids.items) l.names.order.items (forest (drop l.arg-index l.arg-items));
 }

@@ -3,36 +3,39 @@ use Rattle.trs_defs.specs.Tree.{app}
 use Rattle.trs_core.specs.View.{tree, forest}
 use Rattle.term_pool.specs.Pooled.{tree_at}
 use Rattle.term_pool.proofs.Extending.{extends_on}
+use Rattle.term_pool.proofs.KnownLaws.{on_ok}
 use Rattle.trs_unify.specs.Renamed.{IsRenamed}
 use Rattle.trs_unify.proofs.Rooms.{argument_smaller}
 use Rattle.trs_unify.proofs.NewNames.{renaming_goes_on, renaming_ends, next_instance, no_instance_left}
 use Rattle.crit_pairs.specs.Meeting.{put_in}
 use Rattle.crit_pairs.proofs.PutIn.{unbound_instance, last_instance, further_instance, bound_measure, argument_measure}
+use Rattle.crit_pairs.proofs.VariableIds.{variable_ids_on}
 use Rattle.crit_pairs.proofs.NumberedIds.{all_below, ids_more, renamed_id, id_there}
 use Rattle.crit_pairs.proofs.numbered.+renumber_in_pool.Goals as goal
 
 pub renumber_in_pool-requires : goal.renumber_in_pool-requires
 renumber_in_pool-requires t c =
-    (omega (arith, bound_measure c.args.levels c.args.bindings.now.list.items c.in-Var.v (tree c.in-Some.bound.now) (tree c.args.t.now) c.if-levels-eq0.false (sym c.in-Some.ensures), c.decreases), c.requires)
+    (omega (arith, bound_measure c.args.levels c.args.bindings.now.list.items c.in-Var.v (tree c.in-Some.bound.now) (tree c.args.t.now) c.if-levels-eq0.false (sym c.in-Some.ensures), c.decreases), (c.requires.distinct, c.requires.ids))
 
 pub renumber_in_pool-requires-in-loop-arg : goal.renumber_in_pool-requires-in-loop-arg
 renumber_in_pool-requires-in-loop-arg t c =
     let is : tree c.args.t.now ≡ app c.in-App.f (forest c.deref-arg-items.result.now) = rw (c.in-App.is, ← c.args-in-App.view_is, c.deref-arg-items.ensures.value) refl in
     let smaller = argument_smaller c.in-App.f (tree c.args.t.now) c.deref-arg-items.result.now c.loop-arg.arg-index c.arg-item.result is c.loop-arg-test.true c.arg-item.is in
-    (omega (arith, argument_measure c.args.levels c.args.bindings.now.list.items (tree c.arg-item.result) (tree c.args.t.now) smaller, c.decreases), c.loop-arg.invariant.distinct)
+    (omega (arith, argument_measure c.args.levels c.args.bindings.now.list.items (tree c.arg-item.result) (tree c.args.t.now) smaller, c.decreases), (c.loop-arg.invariant.distinct, c.loop-arg.invariant.ids))
 
 pub loop-arg-preserved : goal.loop-arg-preserved
 loop-arg-preserved t c =
-    let calls = c.in_ok-renumber_in_pool-in-App.ensures in
+    let calls = c.in_ok-id-in-App.ensures in
     let pushed = c.in_ok-push-in-App.ensures.items in
     let next = c.renumber_in_pool-in-loop-arg.new in
     record {
       distinct = calls.distinct;
       kept = extends_on c.args.pool.now c.loop-arg.pool next.pool c.loop-arg.invariant.kept calls.kept;
-      below = all_below c.loop-arg.pool next.pool c.loop-arg.ids.items c.push.new.self.items c.in_ok-renumber_in_pool-in-App.field-0 calls.kept c.loop-arg.invariant.below calls.there pushed;
+      ids = calls.ids;
+      below = all_below c.loop-arg.pool next.pool c.loop-arg.ids.items c.push.new.self.items c.in_ok-id-in-App.id calls.kept c.loop-arg.invariant.below calls.there pushed;
       renaming = renaming_goes_on c.args.names.now.order.items c.loop-arg.names.order.items next.names.order.items c.in-App.f _ _ _ _ _ _ _
           (next_instance (put_in c.args.levels c.args.bindings.now.list.items) c.deref-arg-items.result.now c.loop-arg.arg-index c.arg-item.result c.loop-arg-test.true c.arg-item.is)
-          (ids_more c.loop-arg.pool next.pool c.loop-arg.ids.items c.push.new.self.items c.in_ok-renumber_in_pool-in-App.field-0 calls.kept c.loop-arg.invariant.below calls.there pushed)
+          (ids_more c.loop-arg.pool next.pool c.loop-arg.ids.items c.push.new.self.items c.in_ok-id-in-App.id calls.kept c.loop-arg.invariant.below calls.there pushed)
           c.loop-arg.invariant.renaming calls.renamed;
     }
 
@@ -62,3 +65,7 @@ returns-else-levels-eq0-clause-renamed t c =
     subst (λ z. IfOk c.renumber_in_pool.result (λ id. IsRenamed c.args.names.now.order.items c.renumber_in_pool.new.names.order.items z (tree_at c.renumber_in_pool.new.pool id)))
     (sym (further_instance c.args.levels c.args.bindings.now.list.items c.in-Var.v (tree c.args.t.now) (tree c.in-Some.bound.now) (ap tree c.in-Var.is) c.if-levels-eq0.false (sym c.in-Some.ensures)))
     c.renumber_in_pool.ensures.renamed
+
+pub returns-after-loop-arg-clause-ids : goal.returns-after-loop-arg-clause-ids
+returns-after-loop-arg-clause-ids t c =
+    on_ok c.apply.result (variable_ids_on c.loop-arg.pool c.apply.new.self c.loop-arg.numbered c.apply.ensures.kept c.loop-arg.invariant.ids)

@@ -4,6 +4,7 @@ use Rattle.trs_core.specs.View.{tree, forest}
 use Rattle.term_pool.specs.Pooled.{Extends, tree_at}
 use Rattle.trs_unify.proofs.NewNames.{AreRenaming}
 use Rattle.crit_pairs.specs.Meeting.{put_in}
+use Rattle.crit_pairs.specs.NumberedVariables.{AreVariableIds}
 use Rattle.crit_pairs.specs.Sides.{IsDistinct}
 use Rattle.crit_pairs.proofs.PutIn.{measure}
 use Rattle.crit_pairs.proofs.numbered.+renumber_in_pool.Given as goal
@@ -12,6 +13,7 @@ abbrev pub invariant-loop-arg : goal.invariant-loop-arg
 invariant-loop-arg l = record {
   distinct : IsDistinct l.names.order.items;
   kept : Extends l.fn.pool l.pool;
+  ids : AreVariableIds l.pool l.numbered;
   below : All (λ i. i < length l.pool) l.ids.items;
   renaming : AreRenaming l.fn.names.order.items l.f (apply (put_in l.levels l.bindings.list.items) (tree l.t)) (map (tree_at l.pool) l.ids.items) l.names.order.items (apply_all (put_in l.levels l.bindings.list.items) (forest (drop l.arg-index l.arg-items)));
 }

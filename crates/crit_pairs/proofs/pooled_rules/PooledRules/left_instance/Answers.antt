@@ -1,4 +1,5 @@
 use Rattle.std.proofs.Common.{◌≡◌, ap, sym, subst, ◌∙◌, IfOk, arith}
+use Rattle.std.proofs.lemmas.Result.{on_ok_weaker}
 use Rattle.trs_defs.specs.Tree.{Tree}
 use Rattle.trs_defs.specs.Substitution.{apply}
 use Rattle.trs_core.specs.View.{tree}
@@ -8,7 +9,8 @@ use Rattle.crit_pairs.specs.Meeting.{solution}
 use Rattle.crit_pairs.specs.Numbered.{AreNamed, IsNumbered}
 use Rattle.crit_pairs.specs.PooledSide.{IsPooledSide, side_instance}
 use Rattle.term_pool.proofs.InstanceLaws.{ground_on}
-use Rattle.crit_pairs.proofs.PooledRuleLaws.{whatever_ok, left_read, left_number, left_small, pooled_still, pooled_with_left}
+use Rattle.crit_pairs.proofs.PooledRuleLaws.{left_read, left_number, left_small, pooled_instance, pooled_with_left}
+use Rattle.crit_pairs.proofs.VariableIds.{variable_ids_on}
 use Rattle.crit_pairs.proofs.PooledSides.{of_own_tree, own_instance_is, side_still}
 use Rattle.crit_pairs.proofs.pooled_rules.PooledRules.left_instance.Goals.{After-deref, In-Some, In_ok-side}
 use Rattle.crit_pairs.proofs.pooled_rules.PooledRules.left_instance.Goals as goal
@@ -46,7 +48,9 @@ returns-in-Some-clause-numbered c =
 
 pub returns-in-Some-clause-pooled : goal.returns-in-Some-clause-pooled
 returns-in-Some-clause-pooled c = λ rules r pooled numbered is.
-    whatever_ok c.instance.result _ (pooled_still rules c.args.pool.now c.instance.new.pool c.args.self.now c.instance.new.made c.instance.ensures.kept pooled)
+    let sides = c.instance.new in
+    on_ok_weaker c.instance.result
+    (pooled_instance rules c.args.pool.now sides.pool c.args.self.now sides.made sides.numbered c.instance.ensures.kept pooled) c.instance.ensures.ids
 
 pub instance-requires-2-clause-side : goal.instance-requires-2-clause-side
 instance-requires-2-clause-side c = of_own_tree c.of.new.pool _ c.in_ok-side.side c.in_ok-side.ensures.side
@@ -78,5 +82,9 @@ pub returns-clause-pooled : goal.returns-clause-pooled
 returns-clause-pooled c = λ rules r pooled numbered is.
     let more : Extends c.args.pool.now c.instance-2.new.pool = extends_on c.args.pool.now c.of.new.pool c.instance-2.new.pool c.in_ok-side.ensures.kept c.in_ok-id.ensures.kept in
     let here : IsPooledSide c.of.new.pool r.left c.in_ok-side.side = subst (λ t. IsPooledSide c.of.new.pool t c.in_ok-side.side) (sym is) c.in_ok-side.ensures.side in
-    pooled_with_left rules c.args.pool.now c.instance-2.new.pool c.args.self.now c.instance-2.new.made more pooled c.args.k c.in_ok-side.side r numbered
+    pooled_with_left rules c.args.pool.now c.instance-2.new.pool c.args.self.now c.instance-2.new.made c.instance-2.new.numbered more pooled c.in_ok-id.ensures.ids c.args.k c.in_ok-side.side r numbered
     (side_still c.of.new.pool c.instance-2.new.pool r.left c.in_ok-side.side c.in_ok-id.ensures.kept here)
+
+pub instance-requires-2-clause-ids : goal.instance-requires-2-clause-ids
+instance-requires-2-clause-ids c =
+    variable_ids_on c.args.pool.now c.of.new.pool c.args.self.now.numbered c.in_ok-side.ensures.kept c.requires.left.2.numbered

@@ -1,9 +1,10 @@
 use Rattle.std.proofs.Common.{IfOk, sym, subst}
+use Rattle.std.proofs.lemmas.Result.{on_ok_weaker}
 use Rattle.trs_defs.specs.Tree.{Tree}
 use Rattle.term_pool.specs.Pooled.{tree_at}
 use Rattle.crit_pairs.specs.Numbered.{AreNamed, IsNumbered}
 use Rattle.crit_pairs.specs.PooledSide.{IsPooledSide}
-use Rattle.crit_pairs.proofs.PooledRuleLaws.{whatever_ok, right_read, right_small, pooled_still}
+use Rattle.crit_pairs.proofs.PooledRuleLaws.{right_read, right_small, pooled_instance}
 use Rattle.crit_pairs.proofs.PooledSides.{of_own_tree, side_instance_is}
 use Rattle.crit_pairs.proofs.pooled_rules.PooledRules.right_instance.Goals.{After-index-side}
 use Rattle.crit_pairs.proofs.pooled_rules.PooledRules.right_instance.Goals as goal
@@ -34,4 +35,6 @@ returns-clause-numbered c = λ rules r pooled numbered.
 
 pub returns-clause-pooled : goal.returns-clause-pooled
 returns-clause-pooled c = λ rules pooled.
-    whatever_ok c.instance.result _ (pooled_still rules c.args.pool.now c.instance.new.pool c.args.self.now c.instance.new.made c.instance.ensures.kept pooled)
+    let sides = c.instance.new in
+    on_ok_weaker c.instance.result
+    (pooled_instance rules c.args.pool.now sides.pool c.args.self.now sides.made sides.numbered c.instance.ensures.kept pooled) c.instance.ensures.ids

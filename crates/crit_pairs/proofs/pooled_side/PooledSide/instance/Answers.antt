@@ -3,12 +3,14 @@ use Rattle.trs_defs.specs.Tree.{Tree, var}
 use Rattle.term_pool.specs.Pooled.{StandsFor, Extends, tree_at}
 use Rattle.term_pool.proofs.PoolTrees.{stands, stands_within}
 use Rattle.term_pool.proofs.Extending.{extends_itself, extends_on}
+use Rattle.term_pool.proofs.KnownLaws.{on_ok}
 use Rattle.crit_pairs.specs.declared.pooled_side.PooledVariable.{PooledVariable}
 use Rattle.crit_pairs.specs.Meeting.{solution}
 use Rattle.crit_pairs.specs.Numbered.{AreNamed}
 use Rattle.crit_pairs.specs.PooledSide.{side_tree}
 use Rattle.crit_pairs.proofs.NumberedIds.{id_there}
 use Rattle.term_pool.proofs.InstanceLaws.{instances_on, ground_on}
+use Rattle.crit_pairs.proofs.VariableIds.{variable_ids_on}
 use Rattle.crit_pairs.proofs.PooledSides.{value_of, side_still, of_own_tree, listed_occurs, own_id, noted_more, each_noted, variable_named, value_known, side_alone, instance_numbered}
 use Rattle.crit_pairs.proofs.pooled_side.PooledSide.instance.Goals as goal
 
@@ -31,12 +33,13 @@ loop-x-init c = record {
   kept = extends_itself c.args.pool.now;
   same = refl;
   made = c.clear.ensures (value_of c.args.bindings.now c.args.from c.args.names.now.order.items) c.args.pool.now;
+  ids = c.requires.ids;
   noted = λ k x below at. absurd (omega (arith, below));
 }
 
 pub loop-x-preserved : goal.loop-x-preserved
 loop-x-preserved c =
-    let pool = c.renumber_in_pool.new.pool in
+    let pool = c.renumber_variable_in_pool.new.pool in
     let names = c.args.names.now.order.items in
     let bindings = c.args.bindings.now in
     let from = c.args.from in
@@ -48,7 +51,7 @@ loop-x-preserved c =
     let kept : Extends c.args.pool.now pool = extends_on c.args.pool.now c.loop-x.pool pool c.loop-x.invariant.kept c.in_ok-id.ensures.kept in
     let occurs = listed_occurs c.args.pool.now _ c.args.self.now side xs c.deref-x-items.ensures.value k none within in
     let are : AreNamed names (solution bindings (from + x.number)) = variable_named names (solution bindings) from (side_tree c.args.pool.now c.args.self.now) x.number c.requires.named occurs in
-    let (same, is) = value_known names c.loop-x.names.order.items c.renumber_in_pool.new.names.order.items (solution bindings (from + x.number)) (tree_at pool c.in_ok-id.id)
+    let (same, is) = value_known names c.loop-x.names.order.items c.renumber_variable_in_pool.new.names.order.items (solution bindings (from + x.number)) (tree_at pool c.in_ok-id.id)
     c.requires.distinct c.loop-x.invariant.same c.in_ok-id.ensures.distinct c.in_ok-id.ensures.renamed are in
     let value : ℕ → Tree = value_of bindings from names in
     let stand : StandsFor pool c.in_ok-id.id (value x.number) = subst (StandsFor pool c.in_ok-id.id) is (stands pool c.in_ok-id.id c.in_ok-id.ensures.there) in
@@ -57,6 +60,7 @@ loop-x-preserved c =
       same = same;
       made = c.in_ok-note.ensures.right value pool (var x.number) (instances_on value c.loop-x.pool pool c.loop-x.made c.in_ok-id.ensures.kept c.loop-x.invariant.made)
           (own_id c.args.pool.now _ c.args.self.now side xs c.deref-x-items.ensures.value pool k none kept within) stand;
+      ids = c.in_ok-id.ensures.ids;
       noted = noted_more c.loop-x.made c.note.new.self xs k none within c.loop-x.invariant.noted c.in_ok-note.ensures.kept c.in_ok-note.ensures.noted;
     }
 
@@ -84,3 +88,7 @@ returns-clause-numbered c =
 pub returns-clause-there : goal.returns-clause-there
 returns-clause-there c =
     id_there c.instance_by.result c.instance_by.new.self _ (c.instance_by.ensures.id (value_of c.args.bindings.now c.args.from c.args.names.now.order.items) c.loop-x.invariant.made)
+
+pub returns-clause-ids : goal.returns-clause-ids
+returns-clause-ids c =
+    on_ok c.instance_by.result (variable_ids_on c.loop-x.pool c.instance_by.new.self c.loop-x.numbered c.instance_by.ensures.kept c.loop-x.invariant.ids)
