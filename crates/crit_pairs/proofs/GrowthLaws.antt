@@ -1,7 +1,7 @@
 -- Lists of pairs that grow: at a site inner rule by inner rule, and then site by site.
 use Rattle.std.proofs.Common.{◌≡◌, ◌≤◌, ◌<◌, inl, inr, ℕ, ◌+◌, zero, suc, List, [], ◌∷◌, ◌++◌, map, take, drop, length, get_or, Option, Some, Result, Ok, Err, OnOk, slice_get, slice_set, refl, ap, sym, ◌∙◌, subst, arith, append_assoc, append-nil, length-append}
 use Rattle.std.specs.Global.{Vec}
-use Rattle.std.proofs.lemmas.List.{take_all, drop_all, take_more, map-append, length-map}
+use Rattle.std.proofs.lemmas.List.{take_all, drop_all, take_more, map-append, length-map, get_or-map}
 use Rattle.std.proofs.lemmas.Option.{same_Some, slice_get_read}
 use Rattle.trs_defs.specs.Tree.{Tree, Trees, app}
 use Rattle.trs_defs.specs.System.{RewriteRule}
@@ -365,10 +365,11 @@ pub first_prepared : (rules : List RewriteRule) (pool : List Tree) (table : Peak
 first_prepared rules pool table h = record { first = h.first; more = h.more; are = h.are; prepared_first = h.has.prepared }
 
 -- as many copies as there are rules
-pub known_rules : (first : List RewriteRule) (prepared : PreparedRules) → ArePrepared first prepared → length prepared.apart.items ≡ length first
-known_rules first prepared h = ap length h.apart ∙ length-map first renamed_apart
+pub known_rules : (first : List RewriteRule) (prepared : PreparedRules) → ArePrepared first prepared → length prepared.apart_lefts.items ≡ length first
+known_rules first prepared h =
+    sym (length-map prepared.apart_lefts.items tree) ∙ (ap length h.apart_lefts ∙ length-map first (λ (r : RewriteRule). (renamed_apart r).left))
 
-pub first_taken : (rules first more : List RewriteRule) (prepared : PreparedRules) (known : ℕ) → rules ≡ first ++ more → ArePrepared first prepared → known ≡ length prepared.apart.items
+pub first_taken : (rules first more : List RewriteRule) (prepared : PreparedRules) (known : ℕ) → rules ≡ first ++ more → ArePrepared first prepared → known ≡ length prepared.apart_lefts.items
     → take known rules ≡ first
 first_taken rules first more prepared known are h count =
     ap (λ n. take n rules) (count ∙ known_rules first prepared h) ∙ (ap (take (length first)) are ∙ take_first first more)
@@ -397,11 +398,15 @@ pub image_read : {T : Type 0} (f : RewriteRule → T) (rules : List RewriteRule)
     → slice_get rules i ≡ Some r → x ≡ f r
 image_read f rules xs i r x h below is there = same_Some x (f r) (sym (slice_get_read xs (length xs) i x refl below is) ∙ (ap (λ ys. slice_get ys i) h ∙ image_item f rules i r there))
 
--- the copy of a rule
+-- the copy of a left side
 pub apart_there : (rules : List RewriteRule) (prepared : PreparedRules) (i : ℕ) → ArePrepared rules prepared → i < length rules
-    → (i < length prepared.apart.items) × ((r copy : RewriteRule) → slice_get rules i ≡ Some r → copy ≡ get_or prepared.apart.items i copy → copy ≡ renamed_apart r)
+    → (i < length prepared.apart_lefts.items)
+    × ((r : RewriteRule) (left : Term) → slice_get rules i ≡ Some r → left ≡ get_or prepared.apart_lefts.items i left → tree left ≡ (renamed_apart r).left)
 apart_there rules prepared i h less =
-    let below : i < length prepared.apart.items = omega (arith, less, known_rules rules prepared h) in (
+    let lefts = prepared.apart_lefts.items in
+    let below : i < length lefts = omega (arith, less, known_rules rules prepared h) in (
       below,
-      λ r copy there is. image_read renamed_apart rules prepared.apart.items i r copy h.apart below is there,
+      λ r left there is.
+          image_read (λ (z : RewriteRule). (renamed_apart z).left) rules (map tree lefts) i r (tree left) h.apart_lefts
+          (omega (arith, below, length-map lefts tree)) (ap tree is ∙ sym (get_or-map tree lefts i left (tree left) below)) there,
     )

@@ -78,5 +78,5 @@ module _ (system : System) (valid : IsSystem system) (small : HaveSmallVariables
         let alone = beside constant constant (λ v. refl) (λ v. refl) in
         let (u, replaced) = replaced_somehow p.place outer.left part (renamed_apart inner).right there in
         let (l, r, renumbered) = beside_others (apply unifier outer.left) constant constant t constant constant (apply unifier u) (apply unifier outer.right) alone in
-        let made = found_peak system.rules p.outer p.inner p.place part (renamed_apart inner) outer outer_is (inner, inner_is, refl) there outer_small unifier most_general u replaced t l r renumbered in
+        let made = found_peak system.rules p.outer p.inner p.place part inner outer outer_is inner_is there small unifier most_general u replaced t l r renumbered in
         ap (λ (q : PlacedPeak). q.top) (peak_once system valid (spot p.outer p.place p.inner) (record { outer = p.outer; place = p.place; inner = p.inner; top = t; left = l; right = r }) p made own.at)

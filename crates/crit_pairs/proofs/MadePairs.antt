@@ -38,20 +38,20 @@ module _ (rules : List RewriteRule) (j i : ℕ) (p : List ℕ) (unifier : ℕ �
         few = omega (arith, k.counted, k.few);
       }
 
-  -- the same, as the code has it: the outer rule is opened
-  pub pair_opened : (apart outer : RewriteRule) (first second reduct t l r : Tree) → apart ≡ renamed_apart u.inner → outer ≡ u.outer → record { left = first; right = second } ≡ outer
-      → replaced_at p outer.left apart.right ≡ Some reduct → AreRenumbered (apply unifier first) (apply unifier reduct) (apply unifier second) t l r → (pool : List Tree) (nodes : ℕ) (made : MadePair)
+  -- the same, as the code has it: both rules are read, and the outer one is opened
+  pub pair_opened : (inner outer : RewriteRule) (first second reduct t l r : Tree) → inner ≡ u.inner → outer ≡ u.outer → record { left = first; right = second } ≡ outer
+      → replaced_at p outer.left (renamed_apart inner).right ≡ Some reduct → AreRenumbered (apply unifier first) (apply unifier reduct) (apply unifier second) t l r → (pool : List Tree) (nodes : ℕ) (made : MadePair)
       → KeepsLimits nodes made.nodes (apply unifier first) (apply unifier reduct) (apply unifier second) → StandsFor pool made.pair.left l → StandsFor pool made.pair.right r → IsMade rules (spot j p i) pool nodes made
-  pair_opened apart outer first second reduct t l r renamed same opened replaced a pool nodes made limits left right =
+  pair_opened inner outer first second reduct t l r same_inner same opened replaced a pool nodes made limits left right =
       let left_is : first ≡ u.outer.left = ap (λ (z : RewriteRule). z.left) (opened ∙ same) in
       let right_is : second ≡ u.outer.right = ap (λ (z : RewriteRule). z.right) (opened ∙ same) in
-      let O : RewriteRule → Type 0 = λ z. replaced_at p z.left apart.right ≡ Some reduct in
-      let I : RewriteRule → Type 0 = λ z. replaced_at p u.outer.left z.right ≡ Some reduct in
+      let O : RewriteRule → Type 0 = λ z. replaced_at p z.left (renamed_apart inner).right ≡ Some reduct in
+      let I : RewriteRule → Type 0 = λ z. replaced_at p u.outer.left (renamed_apart z).right ≡ Some reduct in
       let A : Tree → Type 0 = λ z. AreRenumbered (apply unifier z) (apply unifier reduct) (apply unifier second) t l r in
       let B : Tree → Type 0 = λ z. AreRenumbered (apply unifier u.outer.left) (apply unifier reduct) (apply unifier z) t l r in
       let K : Tree → Type 0 = λ z. KeepsLimits nodes made.nodes (apply unifier z) (apply unifier reduct) (apply unifier second) in
       let M : Tree → Type 0 = λ z. KeepsLimits nodes made.nodes (apply unifier u.outer.left) (apply unifier reduct) (apply unifier z) in
-      pair_built reduct t l r (subst I renamed (subst O same replaced)) (subst B right_is (subst A left_is a)) pool nodes made (subst M right_is (subst K left_is limits)) left right
+      pair_built reduct t l r (subst I same_inner (subst O same replaced)) (subst B right_is (subst A left_is a)) pool nodes made (subst M right_is (subst K left_is limits)) left right
 
   pub pair_there : (sides : List (Option GroundSide)) (pool : List Tree) (left right : GroundSide) → AreGroundRights rules pool sides → HaveGroundResults p i j sides left right → (nodes : ℕ) (made : MadePair)
       → made.pair.left ≡ left.id → made.pair.right ≡ right.id → CountsTop (apply unifier u.outer.left) left.size right.size nodes made.nodes → IsMade rules (spot j p i) pool nodes made

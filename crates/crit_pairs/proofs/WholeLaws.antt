@@ -64,15 +64,11 @@ whole_reduct inner outer place side root h =
     ap (λ q. replaced_at q outer.left (renamed_apart inner).right) root ∙ ap (λ z. Some z) (ground_stays (λ v. var (65536 + v)) inner.right h.ground ∙ sym h.is)
 
 -- the right sides of the rules, as they were looked up
-pub both_whole : (rules : List RewriteRule) (outer inner : RewriteRule) (r : RewriteRule) (place : List ℕ) (j i : ℕ) (left right : Bor WholeSide) → slice_get rules j ≡ Some outer → slice_get rules i ≡ Some r
-    → inner ≡ renamed_apart r → HaveWholeResults rules place i j left.now right.now → AreResults outer inner place (made.Whole left right)
-both_whole rules outer inner r place j i left right outer_is inner_is renamed h =
-    let l : IsWholeSide r.right left.now = h.left_side r inner_is in
-    let R : RewriteRule → Type 0 = λ z. replaced_at place outer.left z.right ≡ Some (tree left.now.term.now) in
-    record {
-      replaced = subst R (sym renamed) (whole_reduct r outer place left.now h.root l);
-      whole = (itself_whole r.right left.now l, h.right_side outer outer_is);
-    }
+pub both_whole : (rules : List RewriteRule) (outer inner : RewriteRule) (place : List ℕ) (j i : ℕ) (left right : Bor WholeSide) → slice_get rules j ≡ Some outer → slice_get rules i ≡ Some inner
+    → HaveWholeResults rules place i j left.now right.now → AreResults outer inner place (made.Whole left right)
+both_whole rules outer inner place j i left right outer_is inner_is h =
+    let l : IsWholeSide inner.right left.now = h.left_side inner inner_is in
+    record { replaced = whole_reduct inner outer place left.now h.root l; whole = (itself_whole inner.right left.now l, h.right_side outer outer_is) }
 
 module _ (unifier : ℕ → Tree) (top reduct outer_right : Tree) (left right : WholeSide) (l : IsWholeSide reduct left) (r : IsWholeSide outer_right right) where
   left_stays : reduct ≡ apply unifier reduct

@@ -1,5 +1,6 @@
 -- Rules whose variables are renamed apart from those of all rules of a system.
 use Rattle.std.specs.Prelude.{◌≡◌, ℕ, List, Option, map}
+use Rattle.trs_defs.specs.Tree.{Tree}
 use Rattle.trs_defs.specs.Renaming.{shifted}
 use Rattle.trs_defs.specs.System.{RewriteRule}
 use Rattle.crit_pairs.specs.Skeletons.{opened, root_symbol}
@@ -13,6 +14,10 @@ renamed_apart rule = record { left = shifted 65536 rule.left; right = shifted 65
 -- these are the rules, each renamed apart
 abbrev pub AreApart : List RewriteRule → List RewriteRule → Type 0
 AreApart rules apart = apart ≡ map renamed_apart rules
+
+-- these are the left sides of the rules, each renamed apart
+abbrev pub AreApartLefts : List RewriteRule → List Tree → Type 0
+AreApartLefts rules lefts = lefts ≡ map (λ (r : RewriteRule). (renamed_apart r).left) rules
 
 -- these are the skeletons of the left sides of the rules
 abbrev pub HaveSkeletons : List RewriteRule → List Skeleton → Type 0

@@ -1,13 +1,14 @@
 -- Rules with what their overlaps are looked for by.
-use Rattle.std.specs.Prelude.{◌≡◌, List, ◌++◌, length}
+use Rattle.std.specs.Prelude.{◌≡◌, List, ◌++◌, length, map}
 use Rattle.trs_defs.specs.System.{RewriteRule}
-use Rattle.crit_pairs.specs.Apart.{AreApart, HaveSkeletons, HaveRoots}
+use Rattle.trs_core.specs.View.{tree}
+use Rattle.crit_pairs.specs.Apart.{AreApartLefts, HaveSkeletons, HaveRoots}
 use Rattle.crit_pairs.specs.EqualRules.{NameEqual}
 use Rattle.crit_pairs.specs.declared.prepared.PreparedRules.{PreparedRules}
 
--- each rule has a copy that is renamed apart and the number of an equal one, and its left side a skeleton and the root of this
+-- each rule has the number of an equal one, and its left side a copy that is renamed apart, a skeleton and the root of this
 pub record ArePrepared (rules : List RewriteRule) (prepared : PreparedRules) : Type 0 where
-  pub apart : AreApart rules prepared.apart.items
+  pub apart_lefts : AreApartLefts rules (map tree prepared.apart_lefts.items)
   pub skeletons : HaveSkeletons rules prepared.skeletons.items
   pub roots : HaveRoots rules prepared.roots.items
   pub numbered : length prepared.equal.firsts.items ≡ length rules

@@ -6,6 +6,7 @@ use Rattle.trs_defs.specs.Position.{replaced_at}
 use Rattle.trs_defs.specs.System.{RewriteRule}
 use Rattle.trs_core.specs.View.{tree}
 use Rattle.term_pool.specs.LeftSides.{IsGround}
+use Rattle.crit_pairs.specs.Apart.{renamed_apart}
 use Rattle.crit_pairs.specs.declared.faults.PeakFault.{PeakFault}
 use Rattle.crit_pairs.specs.declared.faults.PeakFault.TheVariants as peak
 use Rattle.crit_pairs.specs.declared.whole_sides.WholeSide.{WholeSide}
@@ -45,9 +46,9 @@ abbrev pub AreWhole : Tree → Results → Type 0
 AreWhole outer_right (made.Contracted reduct) = Unit {0}
 AreWhole outer_right (made.Whole left right) = IsWholeSide (tree left.now.term.now) left.now × IsWholeSide outer_right right.now
 
--- the results of the inner rule at the place of the outer left side, and of the outer rule
+-- the results of the inner rule, renamed apart, at the place of the outer left side, and of the outer rule
 pub record AreResults (outer inner : RewriteRule) (place : List ℕ) (results : Results) : Type 0 where
-  pub replaced : replaced_at place outer.left inner.right ≡ Some (reduct_of results)
+  pub replaced : replaced_at place outer.left (renamed_apart inner).right ≡ Some (reduct_of results)
   pub whole : AreWhole outer.right results
 
 -- the limit that the fault names is passed, where the results keep the limits on computed terms and have so many nodes

@@ -4,7 +4,7 @@ ghost use Rattle.std.specs.Prelude.{IfOk, IfErr, OnOk, IfSome, length, slice_get
 ghost use Rattle.trs_defs.specs.Position.{subterm_at};
 ghost use Rattle.trs_defs.specs.System.{RewriteRule};
 ghost use Rattle.trs_defs.specs.Unifier.{IsMostGeneralUnifier};
-ghost use Rattle.trs_core.specs.SystemLimits.{HasSmallVariables, HaveSmallVariables};
+ghost use Rattle.trs_core.specs.SystemLimits.{HaveSmallVariables};
 ghost use Rattle.trs_core.specs.View.{tree};
 ghost use Rattle.crit_pairs.specs.Apart.{renamed_apart};
 ghost use Rattle.crit_pairs.specs.MadePairs.{spot};
@@ -105,9 +105,10 @@ pub(crate) fn add_new<'a, T: PeakTop<'a>>(
         (T.holds peaks.new.terms rules.now.rules peaks.new.list.items) }
 {
     let outer = &rules.rules()[j];
-    let inner = rules.apart(i as usize);
+    let inner = &rules.rules()[i as usize];
+    let inner_left = rules.apart_left(i as usize);
     let occurrences = rules.occurrences(i as usize, j);
-    let found = overlap(alloc, part, inner, occurrences, &mut peaks.places)?;
+    let found = overlap(alloc, part, inner_left, occurrences, &mut peaks.places)?;
     let Some(unifier) = found else {
         overlaps_unify();
         return Ok(None);
@@ -133,13 +134,12 @@ fn add_found<'a, T: PeakTop<'a>>(
     peaks: &mut Peaks<T, T::Terms>,
 ) -> Result<AddedPeak, PeakFault>
     requires outer { slice_get rules.now.rules j ≡ Some outer.now }
-    requires inner { (r : RewriteRule) × (slice_get rules.now.rules i ≡ Some r)
-        × (inner.now ≡ renamed_apart r) }
+    requires inner { slice_get rules.now.rules i ≡ Some inner.now }
     requires there { subterm_at place.now outer.now.left ≡ Some (tree part.now) }
     requires positive { All (λ n. 0 < n) place.now }
     requires few { length rules.now.rules ≤ 4095 }
-    requires small { HasSmallVariables outer.now.left }
-    requires unifier { IsMostGeneralUnifier (tree part.now) inner.now.left
+    requires small { HaveSmallVariables rules.now.rules }
+    requires unifier { IsMostGeneralUnifier (tree part.now) (renamed_apart inner.now).left
         (substitution unifier.now) }
     requires held { T.holds peaks.old.terms rules.now.rules peaks.old.list.items }
     ensures moves { OnOk result
@@ -184,13 +184,12 @@ fn list_found<'a, T: PeakTop<'a>>(
 ) -> Result<AddedPeak, PeakFault>
     requires room { length peaks.old.list.items < peaks.old.most }
     requires outer { slice_get rules.now.rules j ≡ Some outer.now }
-    requires inner { (r : RewriteRule) × (slice_get rules.now.rules i ≡ Some r)
-        × (inner.now ≡ renamed_apart r) }
+    requires inner { slice_get rules.now.rules i ≡ Some inner.now }
     requires there { subterm_at place.now outer.now.left ≡ Some (tree part.now) }
     requires positive { All (λ n. 0 < n) place.now }
     requires few { length rules.now.rules ≤ 4095 }
-    requires small { HasSmallVariables outer.now.left }
-    requires unifier { IsMostGeneralUnifier (tree part.now) inner.now.left
+    requires small { HaveSmallVariables rules.now.rules }
+    requires unifier { IsMostGeneralUnifier (tree part.now) (renamed_apart inner.now).left
         (substitution unifier.now) }
     requires held { T.holds peaks.old.terms rules.now.rules peaks.old.list.items }
     ensures moves { OnOk result

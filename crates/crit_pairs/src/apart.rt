@@ -1,18 +1,21 @@
 ghost use Rattle.std.specs.Prelude.{◌≡◌, ◌<◌, Some, All, IfOk, IfSome, length, slice_get};
 ghost use Rattle.trs_defs.specs.System.{RewriteRule, IsSystem};
 ghost use Rattle.trs_core.specs.SystemLimits.{HaveSmallVariables};
+ghost use Rattle.trs_core.specs.View.{tree};
 ghost use Rattle.term_pool.specs.Roots.{with_root};
-ghost use Rattle.crit_pairs.specs.Apart.{renamed_apart, AreApart, HaveSkeletons};
+ghost use Rattle.crit_pairs.specs.Apart.{renamed_apart, HaveSkeletons};
 ghost use Rattle.crit_pairs.specs.Skeletons.{opened};
 ghost use Rattle.crit_pairs.specs.SkeletonView.{skeleton_view};
+ghost use Rattle.crit_pairs.specs.SideSizes.{IsSizeOf};
 ghost use Rattle.crit_pairs.specs.WholeSides.{IsRightOf};
 ghost use Rattle.crit_pairs.specs.EqualRules.{NameEqual};
 ghost use Rattle.crit_pairs.specs.EqualLefts.{left_side, NameEqualLefts};
 
-use crate::apart_rule::{ApartRule, apart_rules};
+use crate::apart_left::{ApartLeft, apart_lefts};
 use crate::equal_lefts::equal_lefts;
 use crate::equal_rules::EqualRules;
 use crate::occurrences::Occurrences;
+use crate::side_sizes::{SideSize, side_sizes};
 use crate::skeleton::Skeleton;
 use crate::whole_sides::{WholeSide, whole_sides};
 use std::alloc::Global;
@@ -23,13 +26,14 @@ use trs_core::{OutOfMemory, Rule, Term, Trs};
 /// From so many rules of one root on, equal rules and equal left sides are looked for.
 const MANY_OF_ONE_ROOT: usize = 16;
 
-/// A system with its rules by the roots of their left sides, with each rule renamed apart from all
-/// rules, with the skeletons of the left sides, with the right sides that peaks have whole, and with how
-/// often variables occur. It is made once for all overlaps. Contracts see it as the system.
+/// A system with its rules by the roots of their left sides, with each left side renamed apart from all
+/// rules, with the skeletons of the left sides, with the right sides that peaks have whole, with how
+/// often variables occur, and with the sizes of the right sides. It is made once for all overlaps.
+/// Contracts see it as the system.
 #[derive(Drop)]
 pub(crate) struct RulesApart<'a> {
     by_root: RulesByRoot<'a>,
-    apart: Vec<ApartRule<'a>>,
+    apart_lefts: Vec<ApartLeft<'a>>,
     skeletons: Vec<Skeleton>,
     whole_sides: Vec<Option<WholeSide<'a>>>,
     occurrences: Occurrences,
@@ -37,11 +41,13 @@ pub(crate) struct RulesApart<'a> {
     equal: EqualRules,
     /// For each rule one with its left side. Of no rules, where few have one root.
     lefts: Vec<usize>,
+    sizes: Vec<SideSize>,
 }
 
 impl<'a> Model for RulesApart<'a> {
     ghost use Rattle.trs_defs.specs.System.{System, system_code};
-    ghost use Rattle.crit_pairs.specs.Apart.{AreApart, HaveSkeletons};
+    ghost use Rattle.crit_pairs.specs.Apart.{AreApartLefts, HaveSkeletons};
+    ghost use Rattle.crit_pairs.specs.SideSizes.{AreSizes};
     ghost use Rattle.crit_pairs.specs.WholeSides.{AreWholeSides};
     ghost use Rattle.crit_pairs.specs.EqualRules.{NameEqual};
     ghost use Rattle.crit_pairs.specs.EqualLefts.{NameEqualLefts};
@@ -52,11 +58,12 @@ impl<'a> Model for RulesApart<'a> {
 
     ghost view = { λ a. a.by_root };
 
-    ghost invariant = { λ a. AreApart a.by_root.rules a.apart.items
+    ghost invariant = { λ a. AreApartLefts a.by_root.rules a.apart_lefts.items
         × (HaveSkeletons a.by_root.rules a.skeletons.items
         × (AreWholeSides a.by_root.rules a.whole_sides.items
         × (NameEqual a.by_root.rules a.equal.firsts.items
-        × NameEqualLefts a.by_root.rules a.lefts.items))) };
+        × (NameEqualLefts a.by_root.rules a.lefts.items
+        × AreSizes a.by_root.rules a.sizes.items)))) };
 }
 
 impl<'a> RulesApart<'a> {
@@ -64,21 +71,23 @@ impl<'a> RulesApart<'a> {
         ensures { IfOk result (λ rules. rules ≡ trs.now) }
     {
         let skeletons = left_skeletons(alloc, trs.rules())?;
-        let apart = apart_rules(alloc, trs.rules(), &skeletons)?;
+        let apart_lefts = apart_lefts(alloc, trs.rules(), &skeletons)?;
+        let sizes = side_sizes(alloc, trs.rules())?;
         let mut occurrences = Occurrences::new(alloc);
-        occurrences.count_apart(&apart)?;
+        occurrences.count_sides(trs.rules(), &sizes)?;
         let by_root = RulesByRoot::new(alloc, trs)?;
         let are_many = MANY_OF_ONE_ROOT <= most_of_one_root(&by_root);
         let equal = equal_of_many(alloc, trs.rules(), are_many)?;
         let lefts = lefts_of_many(alloc, trs.rules(), are_many)?;
         Ok(RulesApart {
             by_root,
-            apart,
+            apart_lefts,
             skeletons,
-            whole_sides: whole_sides(alloc, trs.rules())?,
+            whole_sides: whole_sides(alloc, trs.rules(), &sizes)?,
             occurrences,
             equal,
             lefts,
+            sizes,
         })
     }
 
@@ -91,13 +100,13 @@ impl<'a> RulesApart<'a> {
         self.by_root.trs().rules()
     }
 
-    /// Rule `i`, renamed apart.
-    pub fn apart(&self, i: usize) -> &Rule
+    /// The left side of rule `i`, renamed apart.
+    pub fn apart_left(&self, i: usize) -> &Term
         requires { i < length self.now.rules }
         ensures { (r : RewriteRule) → slice_get self.now.rules i ≡ Some r
-            → result.now ≡ renamed_apart r }
+            → tree result.now ≡ (renamed_apart r).left }
     {
-        self.apart[i].rule()
+        self.apart_lefts[i].term()
     }
 
     /// The skeletons of the left sides.
@@ -114,6 +123,15 @@ impl<'a> RulesApart<'a> {
             → skeleton_view result.now ≡ opened r.left }
     {
         &self.skeletons[i]
+    }
+
+    /// The size of the right side of rule `i`.
+    pub fn right_size(&self, i: usize) -> &SideSize
+        requires { i < length self.now.rules }
+        ensures { (r : RewriteRule) → slice_get self.now.rules i ≡ Some r
+            → IsSizeOf r.right result.now }
+    {
+        &self.sizes[i]
     }
 
     /// The right side of rule `i`, if peaks at the root have it whole.

@@ -1,11 +1,10 @@
 //! Rules whose variables are renamed apart. Only those that have variables are copied.
 ghost use Rattle.std.specs.Prelude.{◌≡◌, IfOk, IsTrue};
 ghost use Rattle.trs_core.specs.SystemLimits.{HasSmallVariables, HaveSmallVariables};
-ghost use Rattle.crit_pairs.specs.Apart.{renamed_apart, AreApart, HaveSkeletons};
+ghost use Rattle.crit_pairs.specs.Apart.{renamed_apart, AreApart};
 ghost use Rattle.term_pool.specs.LeftSides.{IsGround};
 
 use crate::ground_sides::is_ground;
-use crate::skeleton::Skeleton;
 use std::alloc::Global;
 use std::marker::Model;
 use trs_core::{MOST_VARIABLES, OutOfMemory, Rule};
@@ -45,11 +44,6 @@ impl<'a> ApartRule<'a> {
             KeptRule::Copied(rule) => rule,
         }
     }
-
-    /// Whether it is seen that the rule has no variable.
-    pub(crate) fn is_ground(&self) -> bool {
-        matches!(&self.kept, KeptRule::Ground(_))
-    }
 }
 
 /// Each rule, its variables renamed apart from those of all rules. Rules with no variable are lent.
@@ -63,24 +57,6 @@ pub fn renamed_rules<'a>(
     let mut apart = Vec::with_capacity(alloc, rules.len())?;
     for rule in rules {
         let may_lend = is_ground(&rule.left) && is_ground(&rule.right);
-        apart.push(apart_rule(alloc, rule, may_lend)?)?;
-    }
-    Ok(apart)
-}
-
-/// The same, where the skeletons of the left sides are known.
-pub(crate) fn apart_rules<'a>(
-    alloc: Global,
-    rules: &'a [Rule],
-    skeletons: &[Skeleton],
-) -> Result<Vec<ApartRule<'a>>, OutOfMemory>
-    requires small { HaveSmallVariables rules.now }
-    requires skeletons { HaveSkeletons rules.now skeletons.now }
-    ensures { IfOk result (λ apart. AreApart rules.now apart.items) }
-{
-    let mut apart = Vec::with_capacity(alloc, rules.len())?;
-    for (k, rule) in rules.iter().enumerate() {
-        let may_lend = skeletons[k].is_ground() && is_ground(&rule.right);
         apart.push(apart_rule(alloc, rule, may_lend)?)?;
     }
     Ok(apart)
@@ -106,7 +82,7 @@ fn apart_rule<'a>(
 }
 
 /// A copy of a rule, renamed apart.
-pub(crate) fn renamed_rule(alloc: Global, rule: &Rule) -> Result<Rule, OutOfMemory>
+fn renamed_rule(alloc: Global, rule: &Rule) -> Result<Rule, OutOfMemory>
     requires left { HasSmallVariables rule.now.left }
     requires right { HasSmallVariables rule.now.right }
     ensures { IfOk result (λ r. r ≡ renamed_apart rule.now) }

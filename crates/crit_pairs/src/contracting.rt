@@ -1,13 +1,16 @@
 //! The reduct of an outer left side by the inner rule.
 ghost use Rattle.std.specs.Prelude.{◌≡◌, ◌≢◌, ◌<◌, ◌++◌, All, IfOk, OnOk, Some, None};
 ghost use Rattle.trs_defs.specs.Position.{subterm_at, replaced_at};
+ghost use Rattle.trs_core.specs.SystemLimits.{HasSmallVariables};
 ghost use Rattle.trs_core.specs.View.{tree};
+ghost use Rattle.crit_pairs.specs.Apart.{renamed_apart};
 ghost use Rattle.crit_pairs.specs.Around.{IsSameAround};
 
 use std::alloc::Global;
-use trs_core::{Args, OutOfMemory, Position, Rule, Term};
+use trs_core::{Args, MOST_VARIABLES, OutOfMemory, Position, Rule, Term};
+use trs_unify::rename_apart;
 
-/// The outer left side with the inner right side at the place.
+/// The outer left side with the inner right side, renamed apart, at the place.
 pub(crate) fn contract(
     alloc: Global,
     outer: &Rule,
@@ -16,14 +19,16 @@ pub(crate) fn contract(
 ) -> Result<Term, OutOfMemory>
     requires there { subterm_at place.now outer.now.left ≢ None }
     requires positive { All (λ n. 0 < n) place.now }
-    ensures { IfOk result (λ u.
-        replaced_at place.now outer.now.left inner.now.right ≡ Some (tree u)) }
+    requires small { HasSmallVariables inner.now.right }
+    ensures { IfOk result (λ u. replaced_at place.now outer.now.left
+        (renamed_apart inner.now).right ≡ Some (tree u)) }
 {
+    let right = rename_apart(alloc, &inner.right, MOST_VARIABLES)?;
     if place.is_empty() {
-        return inner.right.copy(alloc);
+        return Ok(right);
     }
     let mut reduct = copy_around(alloc, &outer.left, place)?;
-    reduct.put(&Position::of(alloc, place)?, inner.right.copy(alloc)?);
+    reduct.put(&Position::of(alloc, place)?, right);
     Ok(reduct)
 }
 

@@ -348,9 +348,9 @@ fn grow_by_overlap(
     ensures done { OnOk result (growth.new.done ≡ growth.old.done) }
     ensures inside { OnOk result (growth.new.done < length growth.new.lists.items) }
 {
-    let inner = &prepared.apart[i];
+    let inner_left = &prepared.apart_lefts[i];
     let occurrences = prepared.occurrences.in_both(i, j);
-    let found = overlap(alloc, part, inner, occurrences, &mut growth.places)?;
+    let found = overlap(alloc, part, inner_left, occurrences, &mut growth.places)?;
     match found {
         None => {
             overlaps_unify();
@@ -361,7 +361,6 @@ fn grow_by_overlap(
             let made = make_pair(
                 alloc,
                 rules,
-                prepared,
                 rights,
                 j,
                 i,

@@ -4,7 +4,6 @@ ghost use Rattle.trs_core.specs.SystemLimits.{HaveSmallVariables};
 ghost use Rattle.trs_core.specs.View.{tree};
 ghost use Rattle.term_pool.specs.Pooled.{Extends, StandsFor};
 ghost use Rattle.crit_pairs.specs.Overlapping.{substitution};
-ghost use Rattle.crit_pairs.specs.Prepared.{ArePrepared};
 ghost use Rattle.crit_pairs.specs.GroundSides.{AreGroundRights};
 ghost use Rattle.crit_pairs.specs.MadePairs.{spot, UnifiesAt, IsMade};
 
@@ -13,7 +12,6 @@ use crate::contracting::contract;
 use crate::ground_sides::{GroundSide, ground_results};
 use crate::names::Names;
 use crate::overlapping::OverlapUnifier;
-use crate::prepared::PreparedRules;
 use crate::sides::{count_nodes, count_top};
 use crate::table::PeakPair;
 use crate::unbuilt::results;
@@ -35,7 +33,6 @@ pub(crate) struct MadePair {
 pub(crate) fn make_pair(
     alloc: Global,
     rules: &[Rule],
-    prepared: &PreparedRules,
     rights: &[Option<GroundSide>],
     j: usize,
     i: usize,
@@ -45,7 +42,6 @@ pub(crate) fn make_pair(
     pool: &mut Pool,
     nodes: u64,
 ) -> Result<MadePair, PeakFault>
-    requires prepared { ArePrepared rules.now prepared.now }
     requires rights { AreGroundRights rules.now pool.old rights.now }
     requires small { HaveSmallVariables rules.now }
     requires positive { All (λ n. 0 < n) place.now }
@@ -54,9 +50,7 @@ pub(crate) fn make_pair(
     ensures kept { Extends pool.old pool.new }
 {
     match ground_results(rights, place, i, j) {
-        None => build_pair(
-            alloc, rules, prepared, j, i, place, unifier, names, pool, nodes,
-        ),
+        None => build_pair(alloc, rules, j, i, place, unifier, names, pool, nodes),
         Some(found) => {
             let outer = &rules[j];
             let (left, right) = (found.left.size, found.right.size);
@@ -78,7 +72,6 @@ pub(crate) fn make_pair(
 fn build_pair(
     alloc: Global,
     rules: &[Rule],
-    prepared: &PreparedRules,
     j: usize,
     i: usize,
     place: &[u8],
@@ -87,7 +80,6 @@ fn build_pair(
     pool: &mut Pool,
     nodes: u64,
 ) -> Result<MadePair, PeakFault>
-    requires prepared { ArePrepared rules.now prepared.now }
     requires small { HaveSmallVariables rules.now }
     requires positive { All (λ n. 0 < n) place.now }
     requires unifier { UnifiesAt rules.now (spot j place.now i) (substitution unifier.now) }
@@ -95,7 +87,7 @@ fn build_pair(
     ensures kept { Extends pool.old pool.new }
 {
     let outer = &rules[j];
-    let inner = &prepared.apart[i];
+    let inner = &rules[i];
     let reduct = contract(alloc, outer, place, inner)?;
     let total = count_nodes(unifier, &outer.left, &reduct, &outer.right, nodes)?;
     let sides = results(alloc, unifier, &outer.left, &reduct, &outer.right, names)?;

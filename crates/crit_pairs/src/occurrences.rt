@@ -1,5 +1,5 @@
 //! How often variables occur in rules. Only time depends on it.
-use crate::apart_rule::ApartRule;
+use crate::side_sizes::SideSize;
 use std::alloc::Global;
 use trs_core::{OutOfMemory, Rule, Term};
 
@@ -26,15 +26,11 @@ impl Occurrences {
         Ok(())
     }
 
-    /// Counts those in rules that are renamed apart, which are as many. A rule with none is not walked.
-    pub fn count_apart(&mut self, rules: &[ApartRule]) -> Result<(), OutOfMemory> {
-        for apart in rules {
-            let count = if apart.is_ground() {
-                0
-            } else {
-                occurrences_in(apart.rule())
-            };
-            self.counts.push(count)?;
+    /// Counts those in rules whose right sides have these sizes.
+    pub fn count_sides(&mut self, rules: &[Rule], sizes: &[SideSize]) -> Result<(), OutOfMemory> {
+        for (rule, right) in rules.iter().zip(sizes) {
+            let left = variables_in(&rule.left);
+            self.counts.push(left.saturating_add(right.occurrences()))?;
         }
         Ok(())
     }

@@ -4,9 +4,9 @@ ghost use Rattle.trs_defs.specs.Position.{subterm_at};
 ghost use Rattle.trs_defs.specs.Substitution.{apply};
 ghost use Rattle.trs_defs.specs.System.{RewriteRule};
 ghost use Rattle.trs_defs.specs.Tree.{Tree};
+ghost use Rattle.trs_core.specs.SystemLimits.{HaveSmallVariables};
 ghost use Rattle.trs_core.specs.View.{tree};
 ghost use Rattle.term_pool.specs.Pooled.{Extends, StandsFor, tree_at};
-ghost use Rattle.crit_pairs.specs.Apart.{renamed_apart};
 ghost use Rattle.crit_pairs.specs.MadePairs.{spot, UnifiesAt};
 ghost use Rattle.crit_pairs.specs.Meeting.{solution};
 ghost use Rattle.crit_pairs.specs.Overlapping.{substitution};
@@ -50,8 +50,7 @@ pub(crate) fn make_results(
 ) -> Result<AddedPair, PeakFault>
     requires pooled { ArePooledRules rules.now.rules pool.old sides.old }
     requires outer { slice_get rules.now.rules j ≡ Some outer.now }
-    requires inner { (r : RewriteRule) × (slice_get rules.now.rules i ≡ Some r)
-        × (inner.now ≡ renamed_apart r) }
+    requires inner { slice_get rules.now.rules i ≡ Some inner.now }
     requires there { subterm_at place.now outer.now.left ≡ Some (tree part.now) }
     requires positive { All (λ n. 0 < n) place.now }
     requires unifier { UnifiesAt rules.now.rules (spot j place.now i) (substitution unifier.now) }
@@ -124,10 +123,10 @@ fn make_built(
     pool: &mut Pool,
 ) -> Result<AddedPair, PeakFault>
     requires outer { slice_get rules.now.rules j ≡ Some outer.now }
-    requires inner { (r : RewriteRule) × (slice_get rules.now.rules i ≡ Some r)
-        × (inner.now ≡ renamed_apart r) }
+    requires inner { slice_get rules.now.rules i ≡ Some inner.now }
     requires there { subterm_at place.now outer.now.left ≡ Some (tree part.now) }
     requires positive { All (λ n. 0 < n) place.now }
+    requires small { HaveSmallVariables rules.now.rules }
     ensures results { IfOk result (λ added. ArePooledResults rules.now.rules (spot j place.now i)
         (substitution unifier.now) pool.new added.pair) }
     ensures limits { IfOk result (λ added. (top left right : Tree)

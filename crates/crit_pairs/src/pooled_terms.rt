@@ -74,26 +74,26 @@ impl PooledTerms {
         names: &mut Names,
     ) -> Result<AddedPair, PeakFault>
         requires outer { slice_get rules.now.rules j ≡ Some outer.now }
-        requires inner { (r : RewriteRule) × (slice_get rules.now.rules i ≡ Some r)
-            × (inner.now ≡ renamed_apart r) }
+        requires inner { slice_get rules.now.rules i ≡ Some inner.now }
         requires there { subterm_at place.now outer.now.left ≡ Some (tree part.now) }
         requires positive { All (λ n. 0 < n) place.now }
-        requires unifier { IsMostGeneralUnifier (tree part.now) inner.now.left
+        requires unifier { IsMostGeneralUnifier (tree part.now) (renamed_apart inner.now).left
             (substitution unifier.now) }
         requires holds { (peaks : List PlacedPeak) × HoldSides rules.now.rules peaks self.old }
         ensures renumbered { IfOk result (λ added. (u : Tree)
-            → replaced_at place.now outer.now.left inner.now.right ≡ Some u → AreRenumbered
+            → replaced_at place.now outer.now.left (renamed_apart inner.now).right ≡ Some u
+            → AreRenumbered
             (apply (substitution unifier.now) outer.now.left) (apply (substitution unifier.now) u)
             (apply (substitution unifier.now) outer.now.right)
             (in_order (apply (substitution unifier.now) outer.now.left))
             (tree_at self.new.pool added.pair.left) (tree_at self.new.pool added.pair.right)) }
         ensures limits { IfOk result (λ added. (u : Tree)
-            → replaced_at place.now outer.now.left inner.now.right ≡ Some u
+            → replaced_at place.now outer.now.left (renamed_apart inner.now).right ≡ Some u
             → KeepsLimits nodes added.nodes
             (apply (substitution unifier.now) outer.now.left) (apply (substitution unifier.now) u)
             (apply (substitution unifier.now) outer.now.right)) }
         ensures fault { IfErr result (λ fault. (u : Tree)
-            → replaced_at place.now outer.now.left inner.now.right ≡ Some u
+            → replaced_at place.now outer.now.left (renamed_apart inner.now).right ≡ Some u
             → PassesLimit fault nodes
             (apply (substitution unifier.now) outer.now.left) (apply (substitution unifier.now) u)
             (apply (substitution unifier.now) outer.now.right)) }

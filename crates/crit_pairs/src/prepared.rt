@@ -6,18 +6,18 @@ ghost use Rattle.crit_pairs.specs.Skeletons.{opened};
 ghost use Rattle.crit_pairs.specs.SkeletonView.{skeleton_view};
 ghost use Rattle.crit_pairs.specs.Prepared.{ArePrepared, PreparesFirst};
 
-use crate::apart_rule::renamed_rule;
 use crate::equal_rules::EqualRules;
 use crate::occurrences::Occurrences;
 use crate::skeleton::Skeleton;
 use std::alloc::Global;
-use trs_core::{OutOfMemory, Rule};
+use trs_core::{MOST_VARIABLES, OutOfMemory, Rule, Term};
+use trs_unify::rename_apart;
 
-/// What overlaps of rules are looked for by: a copy of each rule whose variables are renamed apart
+/// What overlaps of rules are looked for by: a copy of each left side whose variables are renamed apart
 /// from those of all rules, the skeletons of the left sides, and how often variables occur.
 #[derive(Drop)]
 pub(crate) struct PreparedRules {
-    pub apart: Vec<Rule>,
+    pub apart_lefts: Vec<Term>,
     pub skeletons: Vec<Skeleton>,
     /// The roots of the skeletons. They lie close together, and mostly tell them apart.
     pub roots: Vec<Option<u32>>,
@@ -31,7 +31,7 @@ impl PreparedRules {
         ensures { ArePrepared [] result }
     {
         PreparedRules {
-            apart: Vec::new(alloc),
+            apart_lefts: Vec::new(alloc),
             skeletons: Vec::new(alloc),
             roots: Vec::new(alloc),
             equal: EqualRules::new(alloc),
@@ -45,8 +45,8 @@ impl PreparedRules {
         requires first { PreparesFirst rules.now self }
         ensures { IfOk result (ArePrepared rules.now) }
     {
-        let known = self.apart.len();
-        let mut apart = self.apart;
+        let known = self.apart_lefts.len();
+        let mut apart_lefts = self.apart_lefts;
         let mut skeletons = self.skeletons;
         let mut roots = self.roots;
         let mut equal = self.equal;
@@ -55,14 +55,14 @@ impl PreparedRules {
         occurrences.count(rules)?;
         for k in known..rules.len() {
             let rule = &rules[k];
-            apart.push(renamed_rule(alloc, rule)?)?;
+            apart_lefts.push(rename_apart(alloc, &rule.left, MOST_VARIABLES)?)?;
             let skeleton = Skeleton::of(alloc, &rule.left)?;
             let root = skeleton.root();
             skeletons.push(skeleton)?;
             roots.push(root)?;
         }
         Ok(PreparedRules {
-            apart,
+            apart_lefts,
             skeletons,
             roots,
             equal,

@@ -3,7 +3,7 @@ ghost use Rattle.std.specs.Prelude.{◌≡◌, ◌≢◌, ◌<◌, [], All, IfOk
 ghost use Rattle.trs_defs.specs.Tree.{Tree};
 ghost use Rattle.trs_defs.specs.Position.{subterm_at, replaced_at};
 ghost use Rattle.trs_defs.specs.Substitution.{apply};
-ghost use Rattle.trs_defs.specs.System.{RewriteRule};
+ghost use Rattle.trs_core.specs.SystemLimits.{HaveSmallVariables};
 ghost use Rattle.trs_core.specs.View.{tree};
 ghost use Rattle.crit_pairs.specs.Apart.{renamed_apart};
 ghost use Rattle.crit_pairs.specs.Overlapping.{substitution};
@@ -41,10 +41,10 @@ pub(crate) fn results_at<'r, 'a>(
     place: &[u8],
 ) -> Result<Results<'r, 'a>, OutOfMemory>
     requires outer { slice_get rules.now.rules j ≡ Some outer.now }
-    requires inner { (r : RewriteRule) × (slice_get rules.now.rules i ≡ Some r)
-        × (inner.now ≡ renamed_apart r) }
+    requires inner { slice_get rules.now.rules i ≡ Some inner.now }
     requires there { subterm_at place.now outer.now.left ≢ None }
     requires positive { All (λ n. 0 < n) place.now }
+    requires small { HaveSmallVariables rules.now.rules }
     ensures { IfOk result (AreResults outer.now inner.now place.now) }
 {
     match whole_results(rules, j, i, place) {
@@ -126,22 +126,34 @@ pub(crate) fn count_overlap(
     nodes: u64,
 ) -> Result<u64, PeakFault>
     requires outer { slice_get rules.now.rules j ≡ Some outer.now }
-    requires inner { (r : RewriteRule) × (slice_get rules.now.rules i ≡ Some r)
-        × (inner.now ≡ renamed_apart r) }
+    requires inner { slice_get rules.now.rules i ≡ Some inner.now }
     requires there { subterm_at place.now outer.now.left ≡ Some (tree part.now) }
     requires positive { All (λ n. 0 < n) place.now }
+    requires small { HaveSmallVariables rules.now.rules }
     ensures limits { IfOk result (λ total. (u : Tree)
-        → replaced_at place.now outer.now.left inner.now.right ≡ Some u → KeepsLimits nodes total
+        → replaced_at place.now outer.now.left (renamed_apart inner.now).right ≡ Some u
+        → KeepsLimits nodes total
         (apply (substitution unifier.now) outer.now.left) (apply (substitution unifier.now) u)
         (apply (substitution unifier.now) outer.now.right)) }
     ensures fault { IfErr result (λ fault. (u : Tree)
-        → replaced_at place.now outer.now.left inner.now.right ≡ Some u → PassesLimit fault nodes
+        → replaced_at place.now outer.now.left (renamed_apart inner.now).right ≡ Some u
+        → PassesLimit fault nodes
         (apply (substitution unifier.now) outer.now.left) (apply (substitution unifier.now) u)
         (apply (substitution unifier.now) outer.now.right)) }
 {
     match whole_results(rules, j, i, place) {
         Some((left, right)) => count_top(unifier, &outer.left, left.size, right.size, nodes),
-        None => count_unmade(alloc, unifier, outer, place, part, inner, nodes),
+        None => count_unmade(
+            alloc,
+            unifier,
+            outer,
+            rules.right_size(j),
+            place,
+            part,
+            inner,
+            rules.right_size(i),
+            nodes,
+        ),
     }
 }
 
@@ -187,22 +199,24 @@ pub(crate) fn built_sides<'a, T: BuiltSides<'a>>(
     names: &mut Names,
 ) -> Result<MadeSides<T>, PeakFault>
     requires outer { slice_get rules.now.rules j ≡ Some outer.now }
-    requires inner { (r : RewriteRule) × (slice_get rules.now.rules i ≡ Some r)
-        × (inner.now ≡ renamed_apart r) }
+    requires inner { slice_get rules.now.rules i ≡ Some inner.now }
     requires there { subterm_at place.now outer.now.left ≢ None }
     requires positive { All (λ n. 0 < n) place.now }
+    requires small { HaveSmallVariables rules.now.rules }
     ensures renumbered { IfOk result (λ made. (u : Tree)
-        → replaced_at place.now outer.now.left inner.now.right ≡ Some u → AreRenumbered
+        → replaced_at place.now outer.now.left (renamed_apart inner.now).right ≡ Some u
+        → AreRenumbered
         (apply (substitution unifier.now) outer.now.left) (apply (substitution unifier.now) u)
         (apply (substitution unifier.now) outer.now.right)
         (T.top_tree made.top) (T.Side.side_tree made.left) (T.Side.side_tree made.right)) }
     ensures limits { IfOk result (λ made. (u : Tree)
-        → replaced_at place.now outer.now.left inner.now.right ≡ Some u
+        → replaced_at place.now outer.now.left (renamed_apart inner.now).right ≡ Some u
         → KeepsLimits nodes made.nodes
         (apply (substitution unifier.now) outer.now.left) (apply (substitution unifier.now) u)
         (apply (substitution unifier.now) outer.now.right)) }
     ensures fault { IfErr result (λ fault. (u : Tree)
-        → replaced_at place.now outer.now.left inner.now.right ≡ Some u → PassesLimit fault nodes
+        → replaced_at place.now outer.now.left (renamed_apart inner.now).right ≡ Some u
+        → PassesLimit fault nodes
         (apply (substitution unifier.now) outer.now.left) (apply (substitution unifier.now) u)
         (apply (substitution unifier.now) outer.now.right)) }
 {

@@ -36,7 +36,8 @@ pub(crate) fn small_size(bindings: &Bindings, t: &Term) -> Option<u64>
     }
 }
 
-fn size(bindings: &Bindings, t: &Term, levels: u32) -> u64
+/// The number of nodes of an instance. It stands still at the last `u64`.
+pub(crate) fn size(bindings: &Bindings, t: &Term, levels: u32) -> u64
     ensures { result ≡ stopped_size (apply (put_in levels bindings.now.list.items) (tree t.now)) }
 {
     match t {
@@ -70,7 +71,8 @@ fn bound_size(bound: &Term) -> u64
     bound.size()
 }
 
-fn depth(bindings: &Bindings, t: &Term, levels: u32) -> u64
+/// The number of nodes on the longest branch of an instance. It stands still at the last `u64`.
+pub(crate) fn depth(bindings: &Bindings, t: &Term, levels: u32) -> u64
     ensures { result ≡ stopped_depth (apply (put_in levels bindings.now.list.items) (tree t.now)) }
 {
     match t {

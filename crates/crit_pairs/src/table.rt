@@ -85,7 +85,7 @@ impl PeakTable {
         ensures peaks { IfOk result (λ grown. IfSome grown (HasPeaks rules.now pool.new)) }
         ensures kept { Extends pool.old pool.new }
     {
-        let known = self.prepared.apart.len();
+        let known = self.prepared.apart_lefts.len();
         let prepared = self.prepared.prepare(alloc, rules)?;
         let rights = add_ground_rights(alloc, rules, self.rights, pool)?;
         let mut growth = Growth {

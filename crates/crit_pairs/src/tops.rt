@@ -3,13 +3,13 @@ ghost use Rattle.std.specs.Prelude.{◌≡◌, IfOk};
 ghost use Rattle.trs_core.specs.View.{tree};
 ghost use Rattle.crit_pairs.specs.PeakList.{IsListed};
 
-use crate::apart_rule::renamed_rule;
 use crate::overlapping::overlap;
 use crate::sides::BuiltSides;
 use confluence_theory::overlaps_unify;
 use rewrite_core::{Peak, Top};
 use std::alloc::Global;
-use trs_core::{OutOfMemory, Term, Trs, systems_are_valid};
+use trs_core::{MOST_VARIABLES, OutOfMemory, Term, Trs, systems_are_valid};
+use trs_unify::rename_apart;
 
 /// The top of a critical peak of the system. It is built anew from the peak's two rules, without the
 /// results.
@@ -20,13 +20,14 @@ pub fn top_of<T: Top>(alloc: Global, trs: &Trs, peak: &Peak<T>) -> Result<Term, 
     systems_are_valid(trs);
     let rules = trs.rules();
     let outer = &rules[peak.outer as usize];
-    let inner = renamed_rule(alloc, &rules[peak.inner as usize])?;
+    let inner = &rules[peak.inner as usize];
+    let inner_left = rename_apart(alloc, &inner.left, MOST_VARIABLES)?;
     let Some(part) = outer.left.at(&peak.place) else {
         unreachable!();
     };
     let mut places = Vec::new(alloc);
     // No variable is counted: the largest number takes the way that suits all terms.
-    let found = overlap(alloc, part, &inner, u64::MAX, &mut places)?;
+    let found = overlap(alloc, part, &inner_left, u64::MAX, &mut places)?;
     let Some(unifier) = found else {
         overlaps_unify();
         unreachable!();

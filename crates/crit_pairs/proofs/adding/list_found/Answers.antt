@@ -2,6 +2,7 @@ use Rattle.std.proofs.Common.{arith, refl}
 use Rattle.std.proofs.lemmas.Result.{err_from_is_err_and}
 use Rattle.trs_defs.proofs.Contexts.{replaced_somehow}
 use Rattle.trs_core.specs.View.{tree}
+use Rattle.crit_pairs.specs.Apart.{renamed_apart}
 use Rattle.crit_pairs.specs.MadePairs.{spot}
 use Rattle.crit_pairs.specs.Overlapping.{substitution}
 use Rattle.crit_pairs.proofs.FoundPeaks.{found_peak, limit_passed}
@@ -12,7 +13,7 @@ use Rattle.crit_pairs.proofs.adding.list_found.Goals as goal
 
 pub returns-clause-moves : goal.returns-clause-moves
 returns-clause-moves g c =
-    let (u, replaced) = replaced_somehow c.args.place.now c.args.outer.now.left (tree c.args.part.now) c.args.inner.now.right c.requires.there in
+    let (u, replaced) = replaced_somehow c.args.place.now c.args.outer.now.left (tree c.args.part.now) (renamed_apart c.args.inner.now).right c.requires.there in
     let renumbered = c.in_ok-made.ensures.renumbered u replaced in
     let at = found_peak c.args.rules.now.rules c.args.j c.args.i c.args.place.now (tree c.args.part.now) c.args.inner.now c.args.outer.now c.requires.outer c.requires.inner c.requires.there c.requires.small
     (substitution c.args.unifier.now) c.requires.unifier u replaced _ _ _ renumbered in
@@ -21,7 +22,7 @@ returns-clause-moves g c =
 
 pub returns-clause-added : goal.returns-clause-added
 returns-clause-added g c =
-    let (u, replaced) = replaced_somehow c.args.place.now c.args.outer.now.left (tree c.args.part.now) c.args.inner.now.right c.requires.there in
+    let (u, replaced) = replaced_somehow c.args.place.now c.args.outer.now.left (tree c.args.part.now) (renamed_apart c.args.inner.now).right c.requires.there in
     let renumbered = c.in_ok-made.ensures.renumbered u replaced in
     let at = found_peak c.args.rules.now.rules c.args.j c.args.i c.args.place.now (tree c.args.part.now) c.args.inner.now c.args.outer.now c.requires.outer c.requires.inner c.requires.there c.requires.small
     (substitution c.args.unifier.now) c.requires.unifier u replaced _ _ _ renumbered in
@@ -41,7 +42,7 @@ returns-clause-held g c =
 pub returns-in_err-made-clause-stops : goal.returns-in_err-made-clause-stops
 returns-in_err-made-clause-stops g c =
     let p = err_from_is_err_and c.from_residual.result c.from_residual.ensures.1 in
-    let (u, replaced) = replaced_somehow c.args.place.now c.args.outer.now.left (tree c.args.part.now) c.args.inner.now.right c.requires.there in
+    let (u, replaced) = replaced_somehow c.args.place.now c.args.outer.now.left (tree c.args.part.now) (renamed_apart c.args.inner.now).right c.requires.there in
     rw (p.1, p.2) (λ ne before h.
     limit_passed c.args.rules.now.rules c.args.j c.args.i c.args.place.now (tree c.args.part.now) c.args.inner.now c.args.outer.now c.requires.outer c.requires.inner c.requires.there c.requires.small
     (substitution c.args.unifier.now) c.requires.unifier u replaced c.in_err-made.field-0.0 c.args.peaks.now.nodes ne (c.in_err-made.ensures.fault u replaced) before)

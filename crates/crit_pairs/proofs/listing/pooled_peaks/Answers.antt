@@ -14,3 +14,8 @@ pub returns-in_err-peaks-clause-fault : goal.returns-in_err-peaks-clause-fault
 returns-in_err-peaks-clause-fault c =
     let p = err_from_is_err_and c.from_residual-in_err-peaks.result c.from_residual-in_err-peaks.ensures.1 in
     rw (p.1, p.2) c.in_err-peaks.ensures.fault
+
+pub returns-in_err-list_by-clause-fault : goal.returns-in_err-list_by-clause-fault
+returns-in_err-list_by-clause-fault c =
+    let p = err_from_is_err_and c.from_residual-in_err-list_by.result c.from_residual-in_err-list_by.ensures.1 in
+    rw (p.1, p.2) c.in_err-list_by.ensures.fault

@@ -1,4 +1,4 @@
-use Rattle.std.proofs.Common.{◌≡◌, ◌<◌, ℕ, List, length, Some, slice_get, get_or, refl, sym, ap, subst}
+use Rattle.std.proofs.Common.{◌≡◌, ◌<◌, ℕ, List, length, Some, slice_get, get_or, refl, sym, ap, subst, ◌∙◌}
 use Rattle.std.proofs.lemmas.Option.{slice_get_read, slice_get_within}
 use Rattle.std.proofs.lemmas.Result.{IfOk-weaker}
 use Rattle.trs_defs.specs.System.{RewriteRule}
@@ -6,11 +6,13 @@ use Rattle.trs_defs.specs.Tree.{Tree}
 use Rattle.trs_defs.specs.Position.{subterm_at}
 use Rattle.trs_defs.specs.Unifier.{IsMostGeneralUnifier}
 use Rattle.trs_core.specs.View.{tree}
+use Rattle.trs_unify.specs.Room.{HasRoom}
+use Rattle.crit_pairs.specs.Apart.{renamed_apart}
 use Rattle.crit_pairs.specs.Overlapping.{substitution}
 use Rattle.crit_pairs.specs.Sides.{DoNotMeet}
 use Rattle.rewrite_core.specs.PlacedPeak.{PlacedPeak}
 use Rattle.crit_pairs.proofs.Listed.{listed_own, part_there, meets, same_top}
-use Rattle.crit_pairs.proofs.SpotWalk.{small_of}
+use Rattle.crit_pairs.proofs.SpotWalk.{small_of, small_room}
 use Rattle.crit_pairs.proofs.tops.top_of.Goals.{After-index-rules-peak-2}
 use Rattle.crit_pairs.proofs.tops.top_of.Goals as goal
 
@@ -47,15 +49,12 @@ inner_is g c =
     read c.args.trs.now.rules c.rules-rules.result.now c.rules-rules.ensures.rules c.peak.inside.inner c.args.peak.now.inner (ap (λ (p : PlacedPeak). p.inner) c.peak.view_is) own.at.inner own.at.inner_numbered
     c.index-rules-peak-2.result c.index-rules-peak-2.is
 
-pub renamed_rule-requires-clause-left : goal.renamed_rule-requires-clause-left
-renamed_rule-requires-clause-left g c =
-    let a = (goal.at.renamed_rule-requires-clause-left g c).After-index-rules-peak-2 in
-    (small_of c.args.trs.now.rules c.args.peak.now.inner c.index-rules-peak-2.result c.systems_are_valid.ensures.variables (inner_is g a)).0
-
-pub renamed_rule-requires-clause-right : goal.renamed_rule-requires-clause-right
-renamed_rule-requires-clause-right g c =
-    let a = (goal.at.renamed_rule-requires-clause-right g c).After-index-rules-peak-2 in
-    (small_of c.args.trs.now.rules c.args.peak.now.inner c.index-rules-peak-2.result c.systems_are_valid.ensures.variables (inner_is g a)).1
+pub rename_apart-requires : goal.rename_apart-requires
+rename_apart-requires g c =
+    let a = (goal.at.rename_apart-requires g c).After-index-rules-peak-2 in
+    let left_is : tree c.inner.inside.left ≡ c.index-rules-peak-2.result.left = ap (λ (r : RewriteRule). r.left) c.inner.view_is in
+    let small = (small_of c.args.trs.now.rules c.args.peak.now.inner c.index-rules-peak-2.result c.systems_are_valid.ensures.variables (inner_is g a)).0 in
+    subst (HasRoom 65536) (sym left_is) (small_room c.index-rules-peak-2.result.left small)
 
 pub unreachable-requires : goal.unreachable-requires
 unreachable-requires g c =
@@ -77,9 +76,10 @@ unreachable-requires-in_default-found g c =
     let there = same_part c.peak.inside.place c.args.peak.now.place (tree c.outer.inside.left) c.index-rules-peak.result.left (tree c.in-Some.part.now) (ap (λ (p : PlacedPeak). p.place) c.peak.view_is)
     (ap (λ (r : RewriteRule). r.left) c.outer.view_is) c.in-Some.ensures in
     let own = listed_own c.args.trs.now.rules c.args.peak.now c.requires.listed in
-    let none : DoNotMeet (tree c.in-Some.part.now) c.in_ok-inner.inner.left = rw c.in_default-found.is at c.in_ok-found.ensures.none in
+    let renamed : tree c.in_ok-inner_left.inner_left ≡ (renamed_apart c.index-rules-peak-2.result).left = c.in_ok-inner_left.ensures ∙ ap (λ (r : RewriteRule). (renamed_apart r).left) c.inner.view_is in
+    let none : DoNotMeet (tree c.in-Some.part.now) (tree c.in_ok-inner_left.inner_left) = rw c.in_default-found.is at c.in_ok-found.ensures.none in
     meets c.args.trs.now c.systems_are_valid.ensures.valid c.systems_are_valid.ensures.variables c.args.peak.now own c.index-rules-peak.result c.index-rules-peak-2.result (outer_is g a) (inner_is g a)
-    (tree c.in-Some.part.now) there c.overlaps_unify.ensures.unified (subst (λ (r : RewriteRule). DoNotMeet (tree c.in-Some.part.now) r.left) c.in_ok-inner.ensures none)
+    (tree c.in-Some.part.now) there c.overlaps_unify.ensures.unified (subst (DoNotMeet (tree c.in-Some.part.now)) renamed none)
 
 pub returns : goal.returns
 returns g c =
@@ -87,10 +87,12 @@ returns g c =
     let own = listed_own c.args.trs.now.rules c.args.peak.now c.requires.listed in
     let left : tree c.outer.inside.left ≡ c.index-rules-peak.result.left = ap (λ (r : RewriteRule). r.left) c.outer.view_is in
     let there = same_part c.peak.inside.place c.args.peak.now.place (tree c.outer.inside.left) c.index-rules-peak.result.left (tree c.in-Some.part.now) (ap (λ (p : PlacedPeak). p.place) c.peak.view_is) left c.in-Some.ensures in
-    let most_general : IsMostGeneralUnifier (tree c.in-Some.part.now) c.in_ok-inner.inner.left (substitution c.in-Some-found.unifier) = rw c.in-Some-found.is at c.in_ok-found.ensures.some in
+    let renamed : tree c.in_ok-inner_left.inner_left ≡ (renamed_apart c.index-rules-peak-2.result).left = c.in_ok-inner_left.ensures ∙ ap (λ (r : RewriteRule). (renamed_apart r).left) c.inner.view_is in
+    let M : Tree → Type 0 = λ t. IsMostGeneralUnifier (tree c.in-Some.part.now) t (substitution c.in-Some-found.unifier) in
+    let most_general = subst M renamed (rw c.in-Some-found.is at c.in_ok-found.ensures.some) in
     record {
       top = IfOk-weaker c.beside_ground.result _ _
           (λ t beside. same_top c.args.trs.now c.systems_are_valid.ensures.valid c.systems_are_valid.ensures.variables c.args.peak.now own c.index-rules-peak.result c.index-rules-peak-2.result
-          (outer_is g a) (inner_is g a) (tree c.in-Some.part.now) there (substitution c.in-Some-found.unifier) (rw c.in_ok-inner.ensures at most_general) (tree t) (rw left at beside))
+          (outer_is g a) (inner_is g a) (tree c.in-Some.part.now) there (substitution c.in-Some-found.unifier) most_general (tree t) (rw left at beside))
           c.beside_ground.ensures;
     }

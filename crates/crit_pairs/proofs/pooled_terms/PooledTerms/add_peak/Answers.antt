@@ -1,6 +1,3 @@
-use Rattle.std.proofs.Common.{◌≡◌, Some, subst}
-use Rattle.trs_defs.specs.Position.{replaced_at}
-use Rattle.trs_defs.specs.System.{RewriteRule}
 use Rattle.crit_pairs.specs.Overlapping.{substitution}
 use Rattle.crit_pairs.proofs.PooledResultLaws.{instances_at}
 use Rattle.crit_pairs.proofs.PooledTermLaws.{one_pair_more}
@@ -9,10 +6,8 @@ use Rattle.crit_pairs.proofs.pooled_terms.PooledTerms.add_peak.Goals as goal
 
 pub returns-clause-limits : goal.returns-clause-limits
 returns-clause-limits c = λ u replaced.
-    let r = c.requires.inner.0 in
-    let I : RewriteRule → Type 0 = λ z. replaced_at c.args.place.now c.args.outer.now.left z.right ≡ Some u in
     c.in_ok-added.ensures.limits _ _ _
-    (instances_at c.args.rules.now.rules c.args.j c.args.i c.args.place.now (substitution c.args.unifier.now) c.args.outer.now r c.requires.outer c.requires.inner.1 u (subst I c.requires.inner.2 replaced))
+    (instances_at c.args.rules.now.rules c.args.j c.args.i c.args.place.now (substitution c.args.unifier.now) c.args.outer.now c.args.inner.now c.requires.outer c.requires.inner u replaced)
 
 pub returns-clause-holds : goal.returns-clause-holds
 returns-clause-holds c = λ peaks p holds left right.

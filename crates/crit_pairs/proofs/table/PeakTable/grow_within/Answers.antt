@@ -10,7 +10,7 @@ use Rattle.crit_pairs.proofs.table.PeakTable.grow_within.Goals as goal
 
 -- as many rules are known as the table has
 known_first : (c : After-len-known) → c.len-known.result ≡ length c.requires.first.first
-known_first c = omega (arith, c.len-known.ensures, c.args.self.prepared.apart.ok.0, known_rules c.requires.first.first c.args.self.prepared c.requires.first.has.prepared)
+known_first c = omega (arith, c.len-known.ensures, c.args.self.prepared.apart_lefts.ok.0, known_rules c.requires.first.first c.args.self.prepared c.requires.first.has.prepared)
 
 pub prepare-requires-clause-first : goal.prepare-requires-clause-first
 prepare-requires-clause-first c = first_prepared c.args.rules.now c.args.pool.now c.args.self c.requires.first
