@@ -3,7 +3,7 @@ ghost use Rattle.trs_defs.specs.System.{RewriteRule, IsSystem};
 ghost use Rattle.trs_core.specs.SystemLimits.{HaveSmallVariables};
 ghost use Rattle.trs_core.specs.View.{tree};
 ghost use Rattle.term_pool.specs.Roots.{with_root};
-ghost use Rattle.crit_pairs.specs.Apart.{renamed_apart, HaveSkeletons};
+ghost use Rattle.crit_pairs.specs.Apart.{renamed_apart, AreApartLefts, HaveSkeletons};
 ghost use Rattle.crit_pairs.specs.Skeletons.{opened};
 ghost use Rattle.crit_pairs.specs.SkeletonView.{skeleton_view};
 ghost use Rattle.crit_pairs.specs.SideSizes.{IsSizeOf};
@@ -107,6 +107,13 @@ impl<'a> RulesApart<'a> {
             → tree result.now ≡ (renamed_apart r).left }
     {
         self.apart_lefts[i].term()
+    }
+
+    /// The left sides, renamed apart.
+    pub fn apart_lefts(&self) -> &[ApartLeft<'a>]
+        ensures { AreApartLefts self.now.rules result.now }
+    {
+        &self.apart_lefts
     }
 
     /// The skeletons of the left sides.
