@@ -1,20 +1,15 @@
 -- A term and its arity table.
-use Rattle.std.proofs.Common.{◌≡◌, ◌≢◌, ℕ, ◌<◌, ◌↔◌, false, List, length, get_or, Some, IsTrue, slice_get, refl}
-use Rattle.std.proofs.lemmas.Option.{slice_get_read}
+use Rattle.std.proofs.Common.{◌≡◌, ℕ, ◌↔◌, false, List, map, length, Some, IsTrue, slice_get}
 use Rattle.trs_core.specs.declared.terms.Term.{Term}
 use Rattle.trs_core.specs.View.{tree, forest}
-use Rattle.trs_defs.specs.Tree.{Trees, app}
+use Rattle.trs_defs.specs.Tree.{Tree, trees, app}
 use Rattle.trs_defs.specs.WellFormed.{IsWellFormed, AreWellFormed}
-use Rattle.trs_core.proofs.Comparing.{count_forest}
+use Rattle.trs_defs.proofs.ArgumentLists.{count_trees}
 
-pub well_formed_app : (arities : List ℕ) (f arity : ℕ) (ts : List Term) (args : Trees) (t : Term) → forest ts ≡ args → tree t ≡ app f args
-    → f < length arities → arity ≡ get_or arities f arity → arity ≡ length ts → AreWellFormed arities (forest ts) ↔ IsWellFormed arities (tree t)
-well_formed_app arities f arity ts args t listed is h read e =
-    let there : slice_get arities f ≡ Some arity = slice_get_read arities (length arities) f arity refl h read in
-    rw (is, ← listed, count_forest ts) (λ k. (rw (← e) there, k), λ k. k.1)
+-- an application to these arguments
+module _ (arities : List ℕ) (f : ℕ) (args : List Tree) (t : Tree) (is : t ≡ app f (trees args)) where
+  pub well_formed_app : (ts : List Term) → map tree ts ≡ args → slice_get arities f ≡ Some (length args) → AreWellFormed arities (forest ts) ↔ IsWellFormed arities t
+  well_formed_app ts listed there = rw (is, listed, count_trees args) (λ k. (there, k), λ k. k.1)
 
-pub wrong_count : (arities : List ℕ) (f arity : ℕ) (ts : List Term) (args : Trees) (t : Term) → forest ts ≡ args → tree t ≡ app f args
-    → f < length arities → arity ≡ get_or arities f arity → arity ≢ length ts → IsTrue false ↔ IsWellFormed arities (tree t)
-wrong_count arities f arity ts args t listed is h read e =
-    let there : slice_get arities f ≡ Some arity = slice_get_read arities (length arities) f arity refl h read in
-    rw (is, ← listed, count_forest ts) (λ k. absurd cc, λ k. let same : arity ≡ length ts = cc (k.0, there) in absurd (e same))
+  pub wrong_count : (slice_get arities f ≡ Some (length args) → ⊥) → IsTrue false ↔ IsWellFormed arities t
+  wrong_count other = rw (is, count_trees args) (λ k. absurd cc, λ k. absurd (other k.0))

@@ -6,6 +6,7 @@ pub mod FirstPlaces
 pub mod Linearity
 pub mod Lookups
 pub mod MatchSteps
+pub mod PlainRules
 pub mod Putting
 pub mod RuleLists
 pub mod Unknown

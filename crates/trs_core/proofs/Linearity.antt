@@ -1,12 +1,12 @@
 -- No variable occurs twice: walk by walk, each for some variables.
-use Rattle.std.proofs.Common.{◌≡◌, ℕ, ◌+◌, ◌-◌, ◌≤◌, ◌<◌, ◌↔◌, inl, inr, refl, sym, subst, cond, arith, true, false, Bool, IsTrue, Option, Some, None, List, get_or}
+use Rattle.std.proofs.Common.{◌≡◌, ℕ, ◌+◌, ◌-◌, ◌^◌, ◌≤◌, ◌<◌, ◌↔◌, inl, inr, refl, subst, cond, arith, true, false, Bool, IsTrue, Option, Some, None, List, get_or}
 use Rattle.std.specs.Prelude.{replicate}
 use Rattle.std.proofs.lemmas.Bool.{cases_lt}
 use Rattle.std.proofs.lemmas.List.{get_or-replicate}
 use Rattle.trs_defs.specs.Tree.{Tree, var}
 use Rattle.trs_defs.specs.LeastVariable.{least_variable, IsBelow}
-use Rattle.trs_defs.specs.Variable.{occurrences, IsLinear}
-use Rattle.trs_defs.proofs.LeastVariables.{none_below_least}
+use Rattle.trs_defs.specs.Variable.{occurrences}
+use Rattle.trs_defs.proofs.LeastVariables.{least_is_from, none_below_least}
 use Rattle.trs_defs.proofs.VariableLaws.{has_var_self}
 use Rattle.trs_core.specs.Marked.{times_met, Marks, OccurOnce}
 
@@ -36,25 +36,31 @@ module _ (size from : ℕ) (t : Tree) (before after : List Bool) (none : (i : �
     λ once. absurd (omega (arith, again, none i small, once i small)),
   )
 
-abbrev pub OnceBelow : ℕ → Tree → Type 0
-OnceBelow from t = (v : ℕ) → v < from → occurrences v t ≤ 1
+-- no variable that is less occurs twice
+abbrev pub OnceBelow : Option ℕ → Tree → Type 0
+OnceBelow next t = (v : ℕ) → IsBelow v next → occurrences v t ≤ 1
 
-module _ (from : ℕ) (t : Tree) (below : OnceBelow from t) (o : Option ℕ) (found : o ≡ least_variable from None t) where
-  -- what is behind the variables that were looked for, and below the least found
-  once_between : (v : ℕ) → IsBelow v o → occurrences v t ≤ 1
-  once_between v less = elim (cases_lt v from) [
+-- how many variables are left from this one on
+abbrev pub room_behind : Option ℕ → ℕ
+room_behind None = 0
+room_behind (Some x) = 2 ^ 32 - x
+
+-- a walk for so many variables from x on, which finds the least one behind them
+module _ (size x : ℕ) (t : Tree) (next : Option ℕ) (found : next ≡ least_variable (x + size) None t) where
+  pub once_more : OnceBelow (Some x) t → OccurOnce size x t → OnceBelow next t
+  once_more below once v less = elim (cases_lt v x) [
     | inl k ↦ below v k
-    | inr le ↦ omega (arith, none_below_least from t o found v le less)
+    | inr le ↦ elim (cases_lt v (x + size)) [
+      | inl within ↦
+          let there : x + (v - x) ≡ v = omega arith in
+          subst (λ z. occurrences z t ≤ 1) there (once (v - x) (omega arith))
+      | inr behind ↦ omega (arith, none_below_least (x + size) t next found v behind less)
+    ]
   ]
 
-  pub once_more : (size x : ℕ) → o ≡ Some x → OccurOnce size x t → OnceBelow (x + size) t
-  once_more size x is once v small = elim (cases_lt v x) [
-    | inl less ↦ once_between v (subst (IsBelow v) (sym is) less)
-    | inr le ↦
-        let there : x + (v - x) ≡ v = omega arith in
-        let within : v - x < size = omega arith in
-        subst (λ z. occurrences z t ≤ 1) there (once (v - x) within)
-  ]
-
-  pub all_once : o ≡ None → IsLinear t
-  all_once is v = once_between v (subst (IsBelow v) (sym is) tt)
+  pub less_room : 0 < size → x < 2 ^ 32 → room_behind next < room_behind (Some x)
+  less_room some small = go next found
+    where
+      go : (o : Option ℕ) → o ≡ least_variable (x + size) None t → room_behind o < room_behind (Some x)
+      go None is = omega arith
+      go (Some y) is = let le = least_is_from (x + size) t (Some y) is y refl in omega arith

@@ -174,7 +174,7 @@ pub first_fault : (arities : List ℕ) (rules : List RewriteRule) (i : ℕ) (r :
 first_fault arities rules i r before h read limits fault is some =
     at_rule arities rules i r before (slice_get_read rules (length rules) i r refl h read) limits fault is some
 
-valid_no_fault : (s : System) → IsValid s → (fault : TrsFault) → HasSystemFault s fault → ⊥
+pub valid_no_fault : (s : System) → IsValid s → (fault : TrsFault) → HasSystemFault s fault → ⊥
 valid_no_fault s h (LeftIsVariable k) (r, there, is) = (h.is_system.each k r there).left_no_variable is
 valid_no_fault s h (ExtraVariable k v) (r, there, is) =
     let extra = is_extra r.left r.right v is in

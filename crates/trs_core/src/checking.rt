@@ -1,4 +1,4 @@
-ghost use Rattle.std.specs.Prelude.{◌≡◌, ◌↔◌, ℕ, IsTrue, IfOk, IfErr};
+ghost use Rattle.std.specs.Prelude.{◌≡◌, ◌↔◌, ℕ, Some, length, slice_get, IsTrue, IfOk, IfErr};
 ghost use Rattle.trs_defs.specs.Variable.{IsVariable};
 ghost use Rattle.trs_defs.specs.WellFormed.{IsWellFormed};
 ghost use Rattle.trs_core.specs.SystemLimits.{HasSmallVariables};
@@ -6,7 +6,7 @@ ghost use Rattle.trs_core.specs.RuleChecks.{IsFaultless, IsFirstRuleFault};
 ghost use Rattle.trs_core.specs.View.{tree};
 
 use crate::extra::extra_variable;
-use crate::{MOST_VARIABLES, Rule, Term, TrsFault};
+use crate::{Args, MOST_VARIABLES, Rule, Term, TrsFault};
 use std::alloc::Global;
 
 /// Whether each symbol is declared, and has as many arguments as the table says.
@@ -16,13 +16,8 @@ fn is_well_formed(t: &Term, arities: &[u8]) -> bool
     match t {
         Term::Var(_) => true,
         Term::App(f, args) => {
-            match arities.get(*f as usize) {
-                None => return false,
-                Some(arity) => {
-                    if usize::from(*arity) != args.items.len() {
-                        return false;
-                    }
-                }
+            if !has_arity(arities, *f, args) {
+                return false;
             }
             for arg in &args.items {
                 if !is_well_formed(arg, arities) {
@@ -31,6 +26,16 @@ fn is_well_formed(t: &Term, arities: &[u8]) -> bool
             }
             true
         }
+    }
+}
+
+/// Whether the symbol is declared with so many arguments.
+pub(crate) fn has_arity(arities: &[u8], f: u32, args: &Args) -> bool
+    ensures { IsTrue result ↔ (slice_get arities.now f ≡ Some (length args.now)) }
+{
+    match arities.get(f as usize) {
+        None => false,
+        Some(arity) => usize::from(*arity) == args.len(),
     }
 }
 
@@ -50,7 +55,7 @@ fn has_small_variables(t: &Term) -> bool
     }
 }
 
-fn is_variable(t: &Term) -> bool
+pub(crate) fn is_variable(t: &Term) -> bool
     ensures { IsTrue result ↔ IsVariable (tree t.now) }
 {
     matches!(t, Term::Var(_))

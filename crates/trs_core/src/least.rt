@@ -21,7 +21,8 @@ pub fn least_variable(t: &Term, from: u64, best: Option<u32>) -> Option<u32>
     }
 }
 
-fn better(from: u64, best: Option<u32>, x: u32) -> Option<u32>
+/// The better one of the best so far and a variable.
+pub(crate) fn better(from: u64, best: Option<u32>, x: u32) -> Option<u32>
     ensures { result ≡ better from best x }
 {
     if from <= u64::from(x) && is_less(x, best) {

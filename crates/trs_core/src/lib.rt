@@ -14,6 +14,7 @@ mod limits;
 mod linear;
 mod matching;
 mod memory;
+mod plain;
 mod positions;
 mod replacing;
 mod rules;

@@ -7,6 +7,7 @@ ghost use Rattle.trs_core.specs.declared.faults.TrsFault.{TrsFault as Fault};
 
 use crate::checking::check_rule;
 use crate::limits::are_within_limits;
+use crate::plain::are_plain;
 use crate::{Term, TrsFault};
 use std::marker::Model;
 
@@ -64,6 +65,9 @@ impl Trs {
         ensures only { IsValid (system arities.items rules.items)
             → IsOkUnless result TrsFault.OutOfMemory }
     {
+        if are_plain(&arities, &rules) {
+            return Ok(Trs { arities, rules });
+        }
         if !are_within_limits(&arities, &rules) {
             return Err(TrsFault::TooMany);
         }

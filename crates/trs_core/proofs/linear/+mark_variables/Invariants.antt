@@ -1,4 +1,5 @@
 use Rattle.std.proofs.Common.{◌≡◌, ◌+◌, ◌<◌, ℕ, length, drop}
+use Rattle.trs_defs.specs.LeastVariable.{least_variable, least_of_all}
 use Rattle.trs_defs.specs.Variable.{occurrences, occurrences_in_all}
 use Rattle.trs_core.specs.Marked.{times_met}
 use Rattle.trs_core.specs.View.{tree, forest}
@@ -11,4 +12,5 @@ invariant-loop-arg l = record {
   met : (i : ℕ) → i < WINDOW
       → times_met l.marks i + occurrences_in_all (l.from + i) (forest (drop l.arg-index l.arg-items))
       ≡ times_met l.fn.marks i + occurrences (l.from + i) (tree l.t);
+  next : least_of_all (l.from + WINDOW) l.next (forest (drop l.arg-index l.arg-items)) ≡ least_variable (l.from + WINDOW) l.fn.next (tree l.t);
 }

@@ -1,32 +1,24 @@
-use Rattle.std.proofs.Common.{◌<◌, ◌+◌, ◌-◌, ◌^◌, refl, sym, subst, arith}
-use Rattle.trs_defs.proofs.LeastVariables.{least_is_from}
+use Rattle.std.proofs.Common.{◌+◌, subst, arith}
 use Rattle.trs_core.specs.View.{tree}
 use Rattle.trs_core.specs.declared.linear.TheConstants.{WINDOW}
-use Rattle.trs_core.proofs.Linearity.{OnceBelow, once_more, all_once}
+use Rattle.trs_core.proofs.Linearity.{OnceBelow, once_more, less_room}
 use Rattle.trs_core.proofs.terms.Term.is_linear.Goals as goal
 
 pub returns-then-not-occur_once : goal.returns-then-not-occur_once
 returns-then-not-occur_once c = (
   λ no. absurd cc,
   λ linear.
-      let once = c.occur_once.ensures.1 (λ i small. linear (c.in-Some.x + i)) in
+      let once = c.occur_once.ensures.once.1 (λ i small. linear (c.in-Some.from + i)) in
       let other = c.if-not-occur_once.true in
       absurd cc,
 )
 
-pub loop-x-smaller : goal.loop-x-smaller
-loop-x-smaller c =
-    let from_le = least_is_from c.loop-x.from (tree c.args.self.now) c.least_variable.result c.least_variable.ensures c.in-Some.x c.in-Some.is in
-    let less : 2 ^ 64 - (c.from.result + WINDOW) < 2 ^ 64 - c.loop-x.from = omega arith in less
+pub loop-next-preserved : goal.loop-next-preserved
+loop-next-preserved c =
+    once_more WINDOW c.in-Some.from (tree c.args.self.now) _ (c.occur_once.ensures.next c.if-not-occur_once.false)
+    (subst (λ o. OnceBelow o (tree c.args.self.now)) c.in-Some.is c.loop-next.invariant) (c.occur_once.ensures.once.0 c.if-not-occur_once.false)
 
-pub loop-x-preserved : goal.loop-x-preserved
-loop-x-preserved c =
-    let once = c.occur_once.ensures.0 (cc c.if-not-occur_once.false) in
-    subst (λ n. OnceBelow (n + WINDOW) (tree c.args.self.now)) (sym c.from.ensures)
-    (once_more c.loop-x.from (tree c.args.self.now) c.loop-x.invariant c.least_variable.result c.least_variable.ensures WINDOW c.in-Some.x c.in-Some.is once)
-
-pub returns : goal.returns
-returns c = (
-  λ _. all_once c.loop-x.from (tree c.args.self.now) c.loop-x.invariant c.least_variable.result c.least_variable.ensures c.in_default.is,
-  λ _. refl,
-)
+pub loop-next-smaller : goal.loop-next-smaller
+loop-next-smaller c =
+    rw c.in-Some.is
+    (less_room WINDOW c.in-Some.from (tree c.args.self.now) _ (c.occur_once.ensures.next c.if-not-occur_once.false) (omega arith) (omega arith))

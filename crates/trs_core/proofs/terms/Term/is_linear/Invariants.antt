@@ -1,10 +1,9 @@
-use Rattle.std.proofs.Common.{◌-◌, ◌^◌}
 use Rattle.trs_core.specs.View.{tree}
-use Rattle.trs_core.proofs.Linearity.{OnceBelow}
+use Rattle.trs_core.proofs.Linearity.{OnceBelow, room_behind}
 use Rattle.trs_core.proofs.terms.Term.is_linear.Given as goal
 
-abbrev pub invariant-loop-x : goal.invariant-loop-x
-invariant-loop-x l = OnceBelow l.from (tree l.self)
+abbrev pub invariant-loop-next : goal.invariant-loop-next
+invariant-loop-next l = OnceBelow l.next (tree l.self)
 
-abbrev pub decreases-loop-x : goal.decreases-loop-x
-decreases-loop-x l = 2 ^ 64 - l.from
+abbrev pub decreases-loop-next : goal.decreases-loop-next
+decreases-loop-next l = room_behind l.next
