@@ -1,7 +1,8 @@
 -- The least fault of several items.
-use Rattle.std.proofs.Common.{◌≡◌, sym, ap, ◌∙◌, ℕ, suc, List, ◌∷◌, ◌++◌, Bor, Option, Some, None, refl}
-use Rattle.sexp_core.specs.declared.sexp.Sexp.{Sexp, List as list_of}
-use Rattle.sexp_core.proofs.Viewing.{view_list}
+use Rattle.std.proofs.Common.{◌≡◌, sym, ap, ◌∙◌, ℕ, zero, suc, List, [], ◌∷◌, ◌++◌, Bor, Option, Some, None, refl}
+use Rattle.sexp_core.specs.declared.sexp.Sexp.{Sexp, List as list_of, Word as word_of}
+use Rattle.sexp_core.specs.declared.sexp.Word.{Word}
+use Rattle.sexp_core.proofs.Viewing.{view_list, view_word}
 use Rattle.sexp_core.specs.Items.{a_list, view, views}
 use Rattle.names_text.specs.Symbols.{Declared}
 use Rattle.ari_text.specs.declared.fault.AriFault.{AriFault}
@@ -19,6 +20,11 @@ noted_next least l1 l2 cs ds rest e f = rw (f, e) (sym (noted_append least (cs +
 pub side_faults_aside : (symbols : List Declared) (s : Saying) (attribute : Option ℕ) → side_faults symbols (with_attribute s attribute) ≡ side_faults symbols s
 side_faults_aside symbols s None = refl
 side_faults_aside symbols s (Some at) = refl
+
+-- nothing stands deeper in a word
+pub word_is_shallow : (n at : ℕ) (w : Word) → (n ≡ 0 → ⊥) → deep_faults n (view (word_of at w)) ≡ []
+word_is_shallow zero at w h = absurd (h refl)
+word_is_shallow (suc n) at w h = ap (deep_faults (suc n)) (view_word at w)
 
 -- what stands deeper in a list
 pub deep_list : (n below at : ℕ) (v : Bor (List Sexp)) (x : Sexp) (args : List Sexp) → n ≡ suc below → v.now ≡ x ∷ args

@@ -1,4 +1,4 @@
-ghost use Rattle.std.specs.Prelude.{◌≡◌, ◌≢◌, ◌+◌, ◌++◌, [], None, Some, Ok, OnOk, IfOk, IfErr};
+ghost use Rattle.std.specs.Prelude.{◌≡◌, ◌≢◌, ◌+◌, ◌++◌, [], None, Some, Ok, OnOk, IfOk, IfErr, false};
 ghost use Rattle.sexp_core.specs.Items.{view, views};
 ghost use Rattle.ari_text.specs.Entries.{entry_of};
 ghost use Rattle.ari_text.specs.EntryView.{entry_view, saying_view};
@@ -18,6 +18,17 @@ use std::alloc::{AllocError, Global};
 use term_text::{Judged, Refusal};
 use text_reading::place;
 use trs_core::Rule;
+
+// Whether anything may stand so many levels deeper: in a word only the word itself does.
+#[tactic(auto, using(crate::proofs::Noting::word_is_shallow))]
+fn may_be_deep(levels: u32, term: &Sexp) -> bool
+    ensures { result ≡ false → deep_faults levels (view term.now) ≡ [] }
+{
+    match term {
+        Sexp::Word(_, _) => levels == 0,
+        Sexp::List(_, _) => true,
+    }
+}
 
 // Each subterm that stands so many levels deeper.
 #[cycle(deep)]
@@ -44,7 +55,9 @@ fn note_all_deep(least: &mut Option<AriFault>, levels: u32, args: &[Sexp])
     ensures { least.new ≡ noted least.old (all_deep_faults levels (views args.now)) }
 {
     for arg in args {
-        note_deep(least, levels, arg);
+        if may_be_deep(levels, arg) {
+            note_deep(least, levels, arg);
+        }
     }
 }
 

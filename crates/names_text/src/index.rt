@@ -1,5 +1,5 @@
 //! An index of names: slots by their hashes, and trees for the names whose slots others have.
-ghost use Rattle.std.specs.Prelude.{◌≡◌, ◌↔◌, ◌<◌, ◌≤◌, ◌^◌, [], List, ℕ, length, map, slice_get, Option, Some, None, IfOk, OnOk, OnErr, IsTrue, true};
+ghost use Rattle.std.specs.Prelude.{◌≡◌, ◌↔◌, ◌<◌, ◌≤◌, ◌^◌, [], List, ℕ, length, map, slice_get, Option, Some, None, IfOk, OnOk, OnErr, IsTrue, true, bytes_eq};
 ghost use Rattle.names_text.specs.Names.{number_among, are_distinct};
 ghost use Rattle.names_text.specs.NameTable.{Adds, IsIndex, free, front, hash_of, last_byte, number_behind_slot, number_by_look, number_by_slot, second_hash_of, slot_for, slot_of};
 
@@ -131,7 +131,7 @@ impl Index {
         };
         match names.get(*number as usize) {
             None => Look::Free,
-            Some(other) if other.as_slice() == name => Look::Own(*number),
+            Some(other) if is_same(other, name) => Look::Own(*number),
             Some(_) => Look::Taken,
         }
     }
@@ -182,11 +182,25 @@ fn find_among_few(names: &[Vec<u8>], name: &[u8]) -> Option<u32>
     ensures { result ≡ number_among (map (λ n. n.items) names.now) name.now }
 {
     for (number, other) in names.iter().enumerate() {
-        if name == other.as_slice() {
+        if is_same(name, other) {
             return Some(number as u32);
         }
     }
     None
+}
+
+/// Whether two names are the same. Most are told apart by their lengths and first bytes, and the
+/// others are compared where they have more bytes than one.
+fn is_same(name: &[u8], other: &[u8]) -> bool
+    ensures { result ≡ bytes_eq name.now other.now }
+{
+    if name.len() != other.len() {
+        return false;
+    }
+    let Some(first) = name.first() else {
+        return true;
+    };
+    *first == other[0] && (name.len() == 1 || name == other)
 }
 
 /// A hash that names have in common but for the low bits, where only the last bytes of their fronts

@@ -6,20 +6,27 @@ ghost use Rattle.term_text.specs.Limits.{nodes_left, nodes_of, nodes_of_all, dep
 use sexp_core::Sexp;
 use trs_core::{GREATEST_DEPTH, MOST_NODES};
 
+// How many nodes are left of so many behind one.
+fn node_left_behind(room: Option<u32>) -> Option<u32>
+    ensures { result ≡ nodes_left 1 room }
+{
+    room?.checked_sub(1)
+}
+
 /// How many nodes are left of so many behind those of a term, as it is written.
 #[cycle(nodes)]
 #[tactic(auto, using(crate::proofs::NodesLeft::nodes_left_sum, crate::proofs::NodesLeft::nodes_left_nothing, std::proofs::lemmas::Grind::common_steps))]
 pub fn nodes_left_behind(term: &Sexp, room: Option<u32>) -> Option<u32>
     ensures { result ≡ nodes_left (nodes_of (view term.now)) room }
 {
-    let room = room?.checked_sub(1)?;
+    let room = node_left_behind(room);
     match term {
-        Sexp::Word(_, _) => Some(room),
+        Sexp::Word(_, _) => room,
         Sexp::List(_, members) => {
             let Some((_, args)) = members.split_first() else {
-                return Some(room);
+                return room;
             };
-            nodes_left_behind_all(args, Some(room))
+            nodes_left_behind_all(args, room)
         }
     }
 }
@@ -30,7 +37,10 @@ fn nodes_left_behind_all(terms: &[Sexp], room: Option<u32>) -> Option<u32>
 {
     let mut room = room;
     for term in terms {
-        room = nodes_left_behind(term, room);
+        room = match term {
+            Sexp::Word(_, _) => node_left_behind(room),
+            Sexp::List(_, _) => nodes_left_behind(term, room),
+        };
     }
     room
 }

@@ -6,15 +6,23 @@ use Rattle.names_text.proofs.Loops.{one_more}
 use Rattle.ari_text.proofs.Leasts.{noted_append}
 use Rattle.ari_text.proofs.Noting.{deep_list}
 use Rattle.ari_text.proofs.checking.+deep.Goals as goal
+use Rattle.ari_text.proofs.checking.+deep.Goals.{note_all_deep-then-may_be_deep, note_all_deep-else-may_be_deep}
 
 pub note_all_deep-loop-arg-preserved : goal.note_all_deep-loop-arg-preserved
 note_all_deep-loop-arg-preserved t c =
     let n = c.args.levels in
     let least = c.loop-arg.least in
-    rw c.note_deep.ensures
-    (sym (noted_append least (deep_faults n (view c.arg-item.result)) (all_deep_faults n (views (drop (c.loop-arg.arg-index + 1) c.args.args.now))))
-    ∙ one_more (λ xs. noted least (all_deep_faults n (views xs))) c.args.args.now c.loop-arg.arg-index c.arg-item.result c.loop-arg-test.true c.arg-item.is
-    ∙ c.loop-arg.invariant)
+    let arg = c.arg-item.result in
+    let more = all_deep_faults n (views (drop (c.loop-arg.arg-index + 1) c.args.args.now)) in
+    let whole =
+    sym (noted_append least (deep_faults n (view arg)) more)
+    ∙ one_more (λ xs. noted least (all_deep_faults n (views xs))) c.args.args.now c.loop-arg.arg-index arg c.loop-arg-test.true c.arg-item.is
+    ∙ c.loop-arg.invariant in
+    elim c.if-may_be_deep.branch [
+      | note_all_deep-then-may_be_deep w ↦ rw (w.least-is, w.note_deep.ensures) whole
+      | note_all_deep-else-may_be_deep w ↦
+          rw w.least-is (sym (ap (λ fs. noted (noted least fs) more) (c.may_be_deep.ensures w.if-may_be_deep.false)) ∙ whole)
+    ]
 
 pub note_deep-returns-in-Some-split_first : goal.note_deep-returns-in-Some-split_first
 note_deep-returns-in-Some-split_first t c =
