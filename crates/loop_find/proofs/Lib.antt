@@ -14,3 +14,4 @@ pub mod Extensions
 pub mod LoopsFound
 pub mod Walked
 pub mod LoopSteps
+pub mod RuleClosures

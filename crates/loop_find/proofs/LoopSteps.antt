@@ -80,7 +80,7 @@ rule_nodes system limits i r e =
     let few = limits.nodes in
     (omega (arith, counted, few), omega (arith, counted, few))
 
-rule_shallow : (rules : List RewriteRule) → All IsShallow rules → (i : ℕ) (r : RewriteRule) → slice_get rules i ≡ Some r → IsShallow r
+pub rule_shallow : (rules : List RewriteRule) → All IsShallow rules → (i : ℕ) (r : RewriteRule) → slice_get rules i ≡ Some r → IsShallow r
 rule_shallow rules all i r e = subst IsShallow (get_or_from_slice_get rules i r r e) (all i r (slice_get_within rules i r e))
 
 -- ---- closures of a list

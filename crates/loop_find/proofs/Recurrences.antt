@@ -7,7 +7,6 @@ use Rattle.trs_defs.specs.Tree.{Tree, var, app, items, count}
 use Rattle.trs_defs.specs.Substitution.{apply, apply_all, IsInstance}
 use Rattle.trs_defs.specs.Position.{argument_at, subterm_at}
 use Rattle.trs_defs.proofs.ArgumentLists.{count_apply_all}
-use Rattle.trs_defs.proofs.NamedTerms.{unchanged}
 use Rattle.trs_core.specs.declared.terms.Term.{Term}
 use Rattle.trs_core.specs.View.{tree, forest}
 use Rattle.trs_core.proofs.Lookups.{items_forest, slice_get_map}
@@ -39,9 +38,6 @@ other_argument f g fs gs i x y t u is_t is_u a b differ σ τ e =
     let whole : app f (apply_all σ (forest fs)) ≡ app g (apply_all τ (forest gs)) = sym (ap (apply σ) is_t) ∙ (e ∙ ap (apply τ) is_u) in
     let args : apply_all σ (forest fs) ≡ apply_all τ (forest gs) = cc (whole) in
     differ σ τ (same_Some (apply σ (tree x)) (apply τ (tree y)) (sym (item_image σ fs i x a) ∙ (ap (λ z. slice_get (items z) i) args ∙ item_image τ gs i y b)))
-
-pub no_instance : (pattern t : Tree) → Differ pattern t → IsInstance pattern t → ⊥
-no_instance pattern t differ (s, is) = differ s (λ v. var v) (is ∙ sym (unchanged t))
 
 -- ---- places
 

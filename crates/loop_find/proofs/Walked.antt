@@ -1,21 +1,18 @@
 -- The closures one after another: what the attempts at those before one leave.
-use Rattle.std.proofs.Common.{◌≡◌, ℕ, ◌+◌, ◌-◌, ◌<◌, ◌≤◌, List, [], ◌∷◌, ◌++◌, length, drop, Some, refl, ap, sym, ◌∙◌, subst, zero, suc, arith, slice_get, length-append, append_assoc, append-nil}
-use Rattle.std.proofs.lemmas.Option.{same_Some, slice_get_within, get_or_from_slice_get}
-use Rattle.trs_defs.proofs.ArgumentLists.{cell}
-use Rattle.trs_defs.specs.Tree.{Tree}
+use Rattle.std.proofs.Common.{◌≡◌, ℕ, ◌+◌, ◌-◌, ◌<◌, ◌≤◌, List, [], ◌∷◌, ◌++◌, length, Some, refl, ap, sym, ◌∙◌, subst, zero, suc, arith, slice_get, length-append, append_assoc, append-nil}
+use Rattle.std.proofs.lemmas.Option.{same_Some}
 use Rattle.trs_defs.specs.System.{RewriteRule}
 use Rattle.trs_defs.proofs.Members.{each_of_both}
-use Rattle.trs_defs.proofs.ListItems.{last_item}
 use Rattle.trs_core.specs.View.{tree}
 use Rattle.crit_pairs.specs.PeakList.{symbol_places}
-use Rattle.loop_find.specs.Closures.{Closure, Attempt, Give, no_attempt, attempts_of, attempts_in, rule_closure, rule_closures, IsClosureList}
+use Rattle.loop_find.specs.Closures.{Closure, Attempt, Give, no_attempt, attempts_of, attempts_in, rule_closures, IsClosureList}
 use Rattle.loop_find.specs.LoopRow.{LoopsNot, LoopNone, FindsLoop, LoopNotThere, LoopSpent}
 use Rattle.loop_find.specs.Links.{closures_of}
-use Rattle.loop_find.specs.Tries.{IsFoundOf, Tries, TriesTo, TriesAll}
+use Rattle.loop_find.specs.Tries.{Tries, TriesTo, TriesAll}
 use Rattle.loop_find.specs.declared.closures.Closures.{Closures}
 use Rattle.loop_find.specs.declared.found.LoopFound.{LoopFound}
 use Rattle.loop_find.proofs.LinkLists.{length_of}
-use Rattle.loop_find.proofs.Tried.{give_both, give_few, none_loops, one_loops_not}
+use Rattle.loop_find.proofs.Tried.{give_both, give_few}
 
 module _ (rules : List RewriteRule) where
   attempts_in_both : (cs ds : List Closure) → attempts_in rules (cs ++ ds) ≡ attempts_in rules cs ++ attempts_in rules ds
@@ -179,83 +176,3 @@ module _ (rules : List RewriteRule) where
 
     pub just_spent : (budget : ℕ) → k.attempts ≤ budget → budget ≤ k.attempts → LoopSpent rules budget
     just_spent budget a b = record { closures = closures_of k; listed = let e : k.attempts ≡ budget = omega (arith, a, b) in subst (λ m. IsClosureList rules m (closures_of k)) e whole_list; none = walked.none }
-
-  -- ---- the rules
-
-  -- the rules before number i are closures, none of which loops
-  pub record HasRules (i : ℕ) (k : Closures) : Type 0 where
-    pub ahead : List Closure
-    pub split : rule_closures 0 rules ≡ ahead ++ rule_closures i (drop i rules)
-    pub long : length ahead ≡ i
-    pub is : closures_of k ≡ ahead
-    pub none : LoopNone rules ahead
-
-  pub no_rules : (k : Closures) → closures_of k ≡ [] → HasRules 0 k
-  no_rules k none = record { ahead = []; split = refl; long = refl; is = none; none = none_loops rules }
-
-  module _ (i : ℕ) (r : RewriteRule) (at : slice_get rules i ≡ Some r) (old new : Closures) (before : HasRules i old)
-      (added : closures_of new ≡ closures_of old ++ rule_closure i r ∷ []) where
-    next_split : rule_closures 0 rules ≡ before.ahead ++ rule_closure i r ∷ rule_closures (i + 1) (drop (i + 1) rules)
-    next_split = before.split ∙ ap (λ rs. before.ahead ++ rule_closures i rs) (cell rules i r (slice_get_within rules i r at) (sym (get_or_from_slice_get rules i r r at)))
-
-    pub rule_at_end : slice_get (closures_of new) i ≡ Some (rule_closure i r)
-    rule_at_end =
-        let place : length (closures_of old) ≡ i = ap length before.is ∙ before.long in
-        ap (λ cs. slice_get cs i) added ∙ subst (λ n. slice_get (closures_of old ++ rule_closure i r ∷ []) n ≡ Some (rule_closure i r)) place (last_item (closures_of old) (rule_closure i r) [])
-
-    pub rule_there : i < length new.links.items
-    rule_there = let e = ap length added in let place = ap length before.is ∙ before.long in omega (arith, e, place, length-append (closures_of old) (rule_closure i r ∷ []), length_of new)
-
-    pub rule_sides : (left right : Tree) → ◌≡◌ {A = RewriteRule} (record { left = left; right = right }) r → (c : Closure) → slice_get (closures_of new) i ≡ Some c → (left ≡ c.left) × (right ≡ c.right)
-    rule_sides left right view c e =
-        let same : rule_closure i r ≡ c = same_Some (rule_closure i r) c (sym rule_at_end ∙ e) in
-        (ap (λ (z : RewriteRule). z.left) view ∙ ap (λ (z : Closure). z.left) same, ap (λ (z : RewriteRule). z.right) view ∙ ap (λ (z : Closure). z.right) same)
-
-    pub one_more_rule : LoopsNot rules (rule_closure i r) → HasRules (i + 1) new
-    one_more_rule none = record {
-      ahead = before.ahead ++ rule_closure i r ∷ [];
-      split = next_split ∙ sym (append_assoc before.ahead (rule_closure i r ∷ []) (rule_closures (i + 1) (drop (i + 1) rules)));
-      long = let b = before.long in omega (arith, b, length-append before.ahead (rule_closure i r ∷ []));
-      is = added ∙ ap (λ cs. cs ++ rule_closure i r ∷ []) before.is;
-      none = each_of_both (LoopsNot rules) before.ahead (rule_closure i r ∷ []) before.none (one_loops_not rules (rule_closure i r) none);
-    }
-
-    pub rule_loops : (found : LoopFound) → IsFoundOf rules (rule_closure i r) found → (budget : ℕ) → FindsLoop rules budget (tree found.start) found.path.items found.place
-    rule_loops found h budget = record {
-      attempts = 0;
-      in_budget = omega arith;
-      before = before.ahead;
-      closure = rule_closure i r;
-      after = rule_closures (i + 1) (drop (i + 1) rules);
-      listed = subst (IsClosureList rules 0) next_split (record {
-        tried = [];
-        later = attempts_in rules (rule_closures 0 rules);
-        split = refl;
-        counted = refl;
-        made = [];
-        give = no_attempt;
-        listed = sym (append-nil (rule_closures 0 rules));
-      });
-      none_before = before.none;
-      loop = h;
-    }
-
-  drop_past : (rs : List RewriteRule) (i : ℕ) → length rs ≤ i → drop i rs ≡ []
-  drop_past [] zero h = refl
-  drop_past [] (suc i) h = refl
-  drop_past (x ∷ rs) zero h = absurd (omega (arith, h))
-  drop_past (x ∷ rs) (suc i) h = drop_past rs i (omega (arith, h))
-
-  pub all_rules : (i : ℕ) (k : Closures) → HasRules i k → length rules ≤ i → (closures_of k ≡ rule_closures 0 rules) × LoopNone rules (rule_closures 0 rules)
-  all_rules i k h past =
-      let e : rule_closures 0 rules ≡ h.ahead = h.split ∙ (ap (λ rs. h.ahead ++ rule_closures i rs) (drop_past rules i past) ∙ append-nil h.ahead) in
-      (h.is ∙ sym e, subst (LoopNone rules) (sym e) h.none)
-
-abbrev one_step : Tree → Tree → ℕ → List ℕ → Closure
-one_step l r n p = record { left = l; right = r; path = record { place = p; rule = n } ∷ [] }
-
--- the rule as the code has it: opened, and with a step whose place is made
-pub closure_of_rule : (left right : Tree) (r : RewriteRule) (k : ℕ) (place : List ℕ) → ◌≡◌ {A = RewriteRule} (record { left = left; right = right }) r → place ≡ []
-    → ◌≡◌ {A = Closure} (record { left = left; right = right; path = record { place = place; rule = k } ∷ [] }) (rule_closure k r)
-closure_of_rule left right r k place view none =
-    ap (one_step left right k) none ∙ ap (rule_closure k) view

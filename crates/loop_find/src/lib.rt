@@ -14,6 +14,7 @@ mod laws;
 mod loops;
 mod narrowing;
 mod recurring;
+mod rule_loops;
 mod running;
 mod tokens;
 mod trying;

@@ -1,20 +1,21 @@
 //! The strategy loop.
-ghost use Rattle.std.specs.Prelude.{◌≡◌, ◌<◌, ℕ, [], None, IfOk, OnOk, MatchOption};
+ghost use Rattle.std.specs.Prelude.{◌≡◌, ◌<◌, IfOk};
 ghost use Rattle.trs_core.specs.View.{tree};
 ghost use Rattle.assign_search.specs.Continues.{Continues};
 ghost use Rattle.loop_find.specs.Closures.{rule_closures};
-ghost use Rattle.loop_find.specs.LoopRow.{LoopNone, FindsLoop, IsLoopAnswer};
+ghost use Rattle.loop_find.specs.LoopRow.{IsLoopAnswer};
 ghost use Rattle.loop_find.specs.Links.{closures_of, IsSound};
 
 use crate::closures::{Closures, no_closures};
 use crate::found::LoopFound;
+use crate::rule_loops::loop_of_rules;
 use crate::tokens::{SideTokens, term_tokens};
 use crate::trying::{Turn, expand};
 use assign_search::{Search, Stop};
 use crit_pairs::renamed_rules;
 use rewrite_core::PathStep;
 use std::alloc::Global;
-use trs_core::{OutOfMemory, Position, Trs, systems_are_valid};
+use trs_core::{OutOfMemory, Position, Trs};
 
 /// The first forward closure that loops. The closures begin with the rules. An attempt is a place of
 /// a closure's right side, at which a symbol stands, with a rule: places in preorder, and at each
@@ -35,11 +36,11 @@ pub fn find_loop<P: Stop>(
         (P.stops stop.old < P.stops stop.new)) }
     ensures continues { Continues P.Stop stop.old stop.new }
 {
-    let apart = renamed_rules(alloc, trs.rules())?;
-    let mut closures = no_closures(alloc);
-    if let Some(found) = loop_of_rules(alloc, trs, &mut closures)? {
+    if let Some(found) = loop_of_rules(alloc, trs)? {
         return Ok(Search::Found(found));
     }
+    let apart = renamed_rules(alloc, trs.rules())?;
+    let mut closures = rules_as_closures(alloc, trs)?;
     let mut next = 0;
     while next < closures.links.len() {
         match expand(alloc, trs, &apart, budget, next, &mut closures, stop)? {
@@ -55,22 +56,14 @@ pub fn find_loop<P: Stop>(
     Ok(Search::NotThere)
 }
 
-/// Adds the rules as closures, up to the first one that loops.
-fn loop_of_rules(
-    alloc: Global,
-    trs: &Trs,
-    closures: &mut Closures,
-) -> Result<Option<LoopFound>, OutOfMemory>
-    requires none { closures_of closures.old ≡ [] }
-    requires sound { IsSound trs.now.arities closures.old }
-    ensures found { IfOk result (λ found. MatchOption found (LoopNone trs.now.rules (rule_closures 0 trs.now.rules))
-        (λ l. (budget : ℕ) → FindsLoop trs.now.rules budget (tree l.start) l.path.items l.place)) }
-    ensures closures { IfOk result (λ found. found ≡ None
-        → closures_of closures.new ≡ rule_closures 0 trs.now.rules) }
-    ensures sound { OnOk result (IsSound trs.now.arities closures.new) }
-    ensures attempts { OnOk result (closures.new.attempts ≡ closures.old.attempts) }
+/// The rules as closures.
+fn rules_as_closures(alloc: Global, trs: &Trs) -> Result<Closures, OutOfMemory>
+    ensures rules { IfOk result (λ closures.
+        closures_of closures ≡ rule_closures 0 trs.now.rules) }
+    ensures sound { IfOk result (λ closures. IsSound trs.now.arities closures) }
+    ensures attempts { IfOk result (λ closures. closures.attempts ≡ 0) }
 {
-    systems_are_valid(trs);
+    let mut closures = no_closures(alloc);
     for (k, rule) in trs.rules().iter().enumerate() {
         let step = PathStep {
             place: Position::new(alloc),
@@ -81,9 +74,6 @@ fn loop_of_rules(
             right: term_tokens(alloc, &rule.right)?,
         };
         closures.add(&sides, None, step)?;
-        if let Some(found) = closures.loop_of(alloc, trs, k)? {
-            return Ok(Some(found));
-        }
     }
-    Ok(None)
+    Ok(closures)
 }

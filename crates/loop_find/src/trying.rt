@@ -1,12 +1,12 @@
 //! Attempts to extend a closure.
-ghost use Rattle.std.specs.Prelude.{◌≡◌, ◌<◌, ◌≤◌, ◌↔◌, ◌++◌, [], ◌∷◌, Some, All, IsTrue, map, length, slice_get, IfOk, OnOk};
+ghost use Rattle.std.specs.Prelude.{◌≡◌, ◌<◌, ◌≤◌, ◌↔◌, ◌++◌, [], ◌∷◌, List, Some, All, IsTrue, map, length, slice_get, IfOk, OnOk};
 ghost use Rattle.trs_defs.specs.Position.{subterm_at};
 ghost use Rattle.trs_defs.specs.System.{RewriteRule};
 ghost use Rattle.trs_core.specs.View.{tree};
 ghost use Rattle.term_pool.specs.Redexes.{IsNarrow};
 ghost use Rattle.crit_pairs.specs.PeakList.{symbol_places};
 ghost use Rattle.assign_search.specs.Continues.{Continues};
-ghost use Rattle.loop_find.specs.Closures.{Closure, attempts_at, attempts_of};
+ghost use Rattle.loop_find.specs.Closures.{Closure, rule_closures, attempts_at, attempts_of};
 ghost use Rattle.loop_find.specs.Links.{closures_of, IsSound};
 ghost use Rattle.loop_find.specs.Tries.{Ends};
 ghost use Rattle.crit_pairs.specs.Apart.{AreApart};
@@ -58,7 +58,8 @@ pub(crate) struct Trial<'a> {
     pub budget: u64,
 }
 
-/// Makes the attempts at the closure of this number.
+/// Makes the attempts at the closure of this number. The first closures are the rules, which lend
+/// their sides.
 pub(crate) fn expand<P: Stop>(
     alloc: Global,
     trs: &Trs,
@@ -69,6 +70,8 @@ pub(crate) fn expand<P: Stop>(
     stop: &mut P,
 ) -> Result<Turn, OutOfMemory>
     requires apart { AreApart trs.now.rules apart.now }
+    requires rules { (made : List Closure)
+        × (closures_of closures.old ≡ rule_closures 0 trs.now.rules ++ made) }
     requires sound { IsSound trs.now.arities closures.old }
     requires there { number < length closures.old.links.items }
     requires within { closures.old.attempts ≤ budget }
@@ -81,18 +84,53 @@ pub(crate) fn expand<P: Stop>(
     ensures continues { Continues P.Stop stop.old stop.new }
 {
     systems_are_valid(trs);
-    let sides = closures.sides(alloc, number)?;
-    let trial = Trial {
-        trs,
-        apart,
-        number,
-        left: &sides.left,
-        right: &sides.right,
-        right_size: sides.right.size(),
-        budget,
-    };
+    match trs.rules().get(number) {
+        Some(rule) => {
+            let trial = Trial {
+                trs,
+                apart,
+                number,
+                left: &rule.left,
+                right: &rule.right,
+                right_size: rule.right.size(),
+                budget,
+            };
+            try_closure(alloc, &trial, closures, stop)
+        }
+        None => {
+            let sides = closures.sides(alloc, number)?;
+            let trial = Trial {
+                trs,
+                apart,
+                number,
+                left: &sides.left,
+                right: &sides.right,
+                right_size: sides.right.size(),
+                budget,
+            };
+            try_closure(alloc, &trial, closures, stop)
+        }
+    }
+}
+
+/// Makes the attempts at the closure of a trial.
+fn try_closure<P: Stop>(
+    alloc: Global,
+    trial: &Trial,
+    closures: &mut Closures,
+    stop: &mut P,
+) -> Result<Turn, OutOfMemory>
+    requires trial { IsTrial trial.now closures.old }
+    ensures turn { IfOk result (λ turn. (c : Closure)
+        → slice_get (closures_of closures.old) trial.now.number ≡ Some c
+        → Ends trial.now.trs.now.rules trial.now.budget
+        (attempts_of trial.now.trs.now.rules c (symbol_places c.right))
+        closures.old closures.new (P.stops stop.old < P.stops stop.new) turn) }
+    ensures trial { IfOk result (λ _. IsTrial trial.now closures.new) }
+    ensures continues { Continues P.Stop stop.old stop.new }
+{
     let mut place = Vec::new(alloc);
-    let turn = try_below(alloc, &trial, &sides.right, &mut place, closures, stop)?;
+    let turn = try_below(alloc, trial, trial.right, &mut place, closures, stop)?;
     Ok(turn)
 }
 

@@ -1,7 +1,4 @@
-use Rattle.std.proofs.Common.{refl}
-use Rattle.trs_core.specs.View.{tree}
-use Rattle.loop_find.proofs.Recurrences.{no_instance}
 use Rattle.loop_find.proofs.instances.is_instance.Goals as goal
 
-pub returns-then-clash : goal.returns-then-clash
-returns-then-clash c = (λ e. absurd cc, λ h. absurd (no_instance (tree c.args.pattern.now) (tree c.args.t.now) (c.if-clash.ensures refl) h))
+pub returns-then-not-may_match : goal.returns-then-not-may_match
+returns-then-not-may_match c = (λ e. absurd cc, λ h. absurd (c.may_match.ensures c.if-not-may_match.true h))

@@ -1,18 +1,19 @@
-use Rattle.std.proofs.Common.{◌∙◌, arith}
+use Rattle.std.proofs.Common.{arith}
 use Rattle.assign_search.proofs.Continuing.{continues_itself, continues_on}
 use Rattle.loop_find.proofs.LinkLists.{closure_of_number}
 use Rattle.loop_find.proofs.Walked.{walk_begins, walks_on, found_here, spent_here, falls, not_there, just_spent}
 use Rattle.loop_find.proofs.loops.find_loop.Goals as goal
 
 pub loop-next-init : goal.loop-next-init
-loop-next-init g c =
-    let start = c.in_ok-found.ensures.attempts ∙ c.no_closures-closures.ensures.attempts in
-    record {
-      walked = walk_begins c.args.trs.now.rules c.loop_of_rules.new.closures (c.in_ok-found.ensures.closures c.in_default.is) start (rw c.in_default.is at c.in_ok-found.ensures.found);
-      sound = c.in_ok-found.ensures.sound;
-      within = omega (arith, start);
-      continues = continues_itself g.P.Stop c.args.stop.now;
-    }
+loop-next-init g c = record {
+  walked = walk_begins c.args.trs.now.rules c.in_ok-closures.closures c.in_ok-closures.ensures.rules c.in_ok-closures.ensures.attempts (rw c.in_default.is at c.in_ok-found.ensures);
+  sound = c.in_ok-closures.ensures.sound;
+  within = omega (arith, c.in_ok-closures.ensures.attempts);
+  continues = continues_itself g.P.Stop c.args.stop.now;
+}
+
+pub expand-requires-clause-rules : goal.expand-requires-clause-rules
+expand-requires-clause-rules g c = (c.loop-next.invariant.walked.made, c.loop-next.invariant.walked.listed)
 
 pub returns-in-Found-clause-answer : goal.returns-in-Found-clause-answer
 returns-in-Found-clause-answer g c =
