@@ -1,6 +1,9 @@
 -- Caps with numbers, one after another, and the rows of the left sides that they meet.
 use Rattle.std.specs.Prelude.{◌≡◌, ◌<◌, ◌≤◌, ◌↔◌, ◌⊎◌, ℕ, ◌+◌, ◌++◌, ◌==◌, Bool, true, false, not, List, [], ◌∷◌, length, take, get_or, All, Option, Some, None, IfSome, IsTrue, Result, Ok, Err, IfOk, OnOk, Vec, slice_get, slice_set, slice_index, refl}
 use Rattle.std.specs.declared.alloc.Global.{Global}
+use Rattle.std.specs.Ordering.{nat_cmp}
+use Rattle.std.specs.BTreeMap.{get, is_at}
+use Rattle.std.specs.Map.{lookup}
 use Rattle.std.proofs.Common.{inl, inr, sym, ap, ap₂, subst, arith, ◌∙◌, append_assoc, length-append}
 use Rattle.std.proofs.lemmas.List.{append-nil, take_all, take_more}
 use Rattle.std.proofs.lemmas.List.Elements.{All-more}
@@ -256,8 +259,8 @@ with_end_long (Some k) f n ends = length_set ends k (record { symbol = f; cap = 
 -- ---- caps that are added
 
 pub hole_alone : (rules : List RewriteRule) (lefts : List (Option ℕ)) (table : CapRows) (n : ℕ) (key : Key) → HaveAllNoted rules lefts table.noted → table.caps.items ≡ n ∷ [] → table.keys.rows.items ≡ key ∷ [] → key.items ≡ []
-    → AreCaps rules lefts table (hole ∷ [])
-hole_alone rules lefts table n key noted one keys empty = record {
+    → table.parts.entries ≡ [] → AreCaps rules lefts table (hole ∷ [])
+hole_alone rules lefts table n key noted one keys empty no_parts = record {
   count = ap length one;
   hole_first = refl;
   rows = λ m r f cs at there. absurd (not_hole m f cs at);
@@ -267,6 +270,7 @@ hole_alone rules lefts table n key noted one keys empty = record {
     | inr e ↦ sym is ∙ (ap (λ (z : Key). z.items) (sym e.1) ∙ empty)
   ]);
   noted = noted;
+  parts = λ hash known at. absurd (let none : get nat_cmp table.parts hash ≡ None = ap (λ es. lookup (is_at (nat_cmp hash)) es) no_parts in let d : None ≡ Some known = sym none ∙ at in cc);
 }
   where
     not_hole : (m f : ℕ) (cs : HoledTrees) → slice_get (hole ∷ []) m ≡ Some (symbol f cs) → ⊥
@@ -322,6 +326,7 @@ module _ (rules : List RewriteRule) (lefts : List (Option ℕ)) where
         numbered = ap length adds.key.rows ∙ (length-append old.keys.rows.items (key ∷ []) ∙ (ap (λ z. z + 1) are.numbered ∙ sym (length-append all (c ∷ []))));
         keys = key_of;
         noted = subst (HaveAllNoted rules lefts) (sym adds.noted) are.noted;
+        parts = λ hash known at. still_ended keeps (are.parts hash known (subst (λ z. get nat_cmp z hash ≡ Some known) adds.parts at));
       }
 
   -- a cap whose key is known

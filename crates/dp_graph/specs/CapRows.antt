@@ -2,8 +2,11 @@
 -- numbers of its parts.
 use Rattle.std.specs.Prelude.{◌≡◌, ◌⊎◌, ◌++◌, ℕ, true, false, List, [], ◌∷◌, length, Option, Some, None, Vec, slice_get, slice_set}
 use Rattle.std.specs.declared.alloc.Global.{Global}
+use Rattle.std.specs.Ordering.{nat_cmp}
+use Rattle.std.specs.BTreeMap.{get}
 use Rattle.trs_defs.specs.Tree.{Tree, Trees, var, app}
 use Rattle.trs_defs.specs.System.{RewriteRule, is_defined}
+use Rattle.trs_core.specs.View.{tree}
 use Rattle.trs_caps.specs.HoledTree.{HoledTree, HoledTrees, hole, symbol, none, more}
 use Rattle.trs_caps.specs.HoledCap.{IsHoledCap}
 use Rattle.trs_caps.specs.KnownCaps.{IsWhole}
@@ -17,6 +20,7 @@ use Rattle.dp_graph.specs.GraphNodes.{IsEndOf}
 use Rattle.dp_graph.specs.declared.cap_rows.CapRows.{CapRows}
 use Rattle.dp_graph.specs.declared.cap_rows.NumberedCap.{NumberedCap}
 use Rattle.dp_graph.specs.declared.cap_rows.End.{End}
+use Rattle.dp_graph.specs.declared.cap_rows.KnownPart.{KnownPart}
 
 -- ---- caps by their numbers
 
@@ -38,7 +42,27 @@ pub record HasKey (all : List HoledTree) (c : HoledTree) (key : List ℕ) : Type
   pub key_is : key ≡ root ∷ numbers
   pub numbered : HaveNumbers all parts numbers
 
--- These are the caps that have numbers. Each but the hole has its row and its key.
+-- ---- the right sides of pairs in terms
+
+-- the side has this symbol, and its symbol over the caps of its arguments this number
+pub record IsEnd (rules : List RewriteRule) (all : List HoledTree) (side : Marked) (end : End) : Type 0 where
+  pub root : end.symbol ≡ side.symbol
+  pub cap : HoledTree
+  pub numbered : slice_get all end.cap ≡ Some cap
+  pub is : IsEndOf rules side cap
+
+-- the ends are those of the terms that have a defined root
+pub data AreEnds (rules : List RewriteRule) (all : List HoledTree) : List Tree → List End → Type 0 where
+  no_ends : AreEnds rules all [] []
+  at_variable : {x : ℕ} {ts : List Tree} {ends : List End} → AreEnds rules all ts ends → AreEnds rules all (var x ∷ ts) ends
+  not_defined : {f : ℕ} {us : Trees} {ts : List Tree} {ends : List End} → is_defined rules f ≡ false → AreEnds rules all ts ends
+      → AreEnds rules all (app f us ∷ ts) ends
+  one_end : {f : ℕ} {us : Trees} {ts : List Tree} {end : End} {ends : List End} → is_defined rules f ≡ true → IsEnd rules all (marked f us) end
+      → AreEnds rules all ts ends → AreEnds rules all (app f us ∷ ts) (end ∷ ends)
+
+-- ---- all caps, one after another
+
+-- These are the caps that have numbers. Each but the hole has its row and its key, and the parts that were looked at have their ends.
 pub record AreCaps (rules : List RewriteRule) (lefts : List (Option ℕ)) (table : CapRows) (all : List HoledTree) : Type 0 where
   pub count : length table.caps.items ≡ length all
   pub hole_first : slice_get all 0 ≡ Some hole
@@ -47,6 +71,8 @@ pub record AreCaps (rules : List RewriteRule) (lefts : List (Option ℕ)) (table
   pub numbered : length table.keys.rows.items ≡ length all
   pub keys : (n : ℕ) (key : List ℕ) → HasWords table.keys.rows.items n key → (key ≡ []) ⊎ ((c : HoledTree) × (slice_get all n ≡ Some c) × HasKey all c key)
   pub noted : HaveAllNoted rules lefts table.noted
+  pub parts : (hash : ℕ) (known : KnownPart) → get nat_cmp table.parts hash ≡ Some known
+      → AreEnds rules all (subterms (tree known.part.now)) known.ends.items
 
 -- the caps keep their numbers
 abbrev pub KeepNumbers : List HoledTree → List HoledTree → Type 0
@@ -64,30 +90,15 @@ pub record AddsCap (cap_key : Key) (flags : List ℕ) (n : ℕ) (old new : CapRo
   pub here : HasWords new.rows.rows.items row flags
   pub kept : KeepWords old.rows.rows.items new.rows.rows.items
   pub noted : new.noted ≡ old.noted
+  pub parts : new.parts ≡ old.parts
 
--- ---- the caps of terms, and of the right sides of pairs in them
+-- ---- the caps of terms, and the right sides of pairs in them
 
 -- the cap of the term with its number, and that of its symbol over the caps of its arguments
 pub record IsNumbered (rules : List RewriteRule) (t : Tree) (found : NumberedCap) (all : List HoledTree) : Type 0 where
   pub cap : IsHoledCap rules false t (holed found.cap)
   pub number : slice_get all found.number ≡ Some (holed found.cap)
   pub whole : (f : ℕ) (ts : Trees) → t ≡ app f ts → (c : HoledTree) × (slice_get all found.whole ≡ Some c) × IsWhole rules false t c
-
--- the side has this symbol, and its symbol over the caps of its arguments this number
-pub record IsEnd (rules : List RewriteRule) (all : List HoledTree) (side : Marked) (end : End) : Type 0 where
-  pub root : end.symbol ≡ side.symbol
-  pub cap : HoledTree
-  pub numbered : slice_get all end.cap ≡ Some cap
-  pub is : IsEndOf rules side cap
-
--- the ends are those of the terms that have a defined root
-pub data AreEnds (rules : List RewriteRule) (all : List HoledTree) : List Tree → List End → Type 0 where
-  no_ends : AreEnds rules all [] []
-  at_variable : {x : ℕ} {ts : List Tree} {ends : List End} → AreEnds rules all ts ends → AreEnds rules all (var x ∷ ts) ends
-  not_defined : {f : ℕ} {us : Trees} {ts : List Tree} {ends : List End} → is_defined rules f ≡ false → AreEnds rules all ts ends
-      → AreEnds rules all (app f us ∷ ts) ends
-  one_end : {f : ℕ} {us : Trees} {ts : List Tree} {end : End} {ends : List End} → is_defined rules f ≡ true → IsEnd rules all (marked f us) end
-      → AreEnds rules all ts ends → AreEnds rules all (app f us ∷ ts) (end ∷ ends)
 
 -- the ends of the subterms are behind the others, in preorder
 abbrev pub AddsEnds : List RewriteRule → Tree → List End → List End → List HoledTree → Type 0

@@ -7,14 +7,16 @@ ghost use Rattle.trs_caps.specs.HoledCap.{HasRoot, MeetsLeft};
 ghost use Rattle.trs_caps.specs.HoledTree.{HoledTree, hole, symbol};
 ghost use Rattle.trs_caps.specs.KnownCaps.{IsWhole};
 ghost use Rattle.trs_caps.specs.View.{holed, holed_all};
+ghost use Rattle.pair_theory.specs.DependencyPair.{subterms};
 ghost use Rattle.dp_graph.specs.WordRows.{HasWords, KeepWords};
 ghost use Rattle.dp_graph.specs.FlagRows.{HasFlags, IsMet, IsOther, IsRow, LooksAtLeft};
 ghost use Rattle.dp_graph.specs.SameLefts.{HaveSameLefts};
 ghost use Rattle.dp_graph.specs.NotedRules.{HaveAllNoted};
-ghost use Rattle.dp_graph.specs.CapRows.{AreCaps, AreMore, IsNumbered, AddsEnds, IsCapped, HasKey, AddsCap, Begins, with_end};
+ghost use Rattle.dp_graph.specs.CapRows.{AreCaps, AreEnds, AreMore, IsNumbered, AddsEnds, IsCapped, HasKey, AddsCap, Begins, with_end};
 
 use crate::flag_rows::set;
 use crate::noted::{is_noted, numbers_at};
+use crate::term_hash::TermHash;
 use crate::word_rows::WordRows;
 use std::alloc::Global;
 use std::collections::BTreeMap;
@@ -22,10 +24,13 @@ use term_pool::RulesByRoot;
 use trs_caps::{Cap, Parts};
 use trs_core::{OutOfMemory, Rule, Term};
 
+/// A part of a right side with so few nodes is not kept for later ones.
+const FEW_NODES: u32 = 16;
+
 /// Caps by their numbers. Equal ones have one number, and are put beside the left sides once. Number
 /// 0 is that of a hole.
 #[derive(Drop)]
-pub(crate) struct CapRows {
+pub(crate) struct CapRows<'t> {
     /// For each cap the number of the row of the left sides that it meets. That of a hole stands for
     /// nothing.
     caps: Vec<u32>,
@@ -34,6 +39,15 @@ pub(crate) struct CapRows {
     keys: WordRows,
     /// The rules that are noted for left sides, by the roots of these.
     noted: BTreeMap<u32, Vec<u32>>,
+    /// By its hash a part of a right side that was looked at.
+    parts: BTreeMap<u64, KnownPart<'t>>,
+}
+
+/// A part of a right side, with the ends in it.
+#[derive(Drop)]
+pub(crate) struct KnownPart<'t> {
+    part: &'t Term,
+    ends: Vec<End>,
 }
 
 /// The cap of a term, with its number.
@@ -48,15 +62,18 @@ pub(crate) struct NumberedCap {
 
 /// The right side of a pair: its root without the mark, and the number of this root over the caps of
 /// the arguments.
-#[derive(Drop)]
+#[derive(Clone, Copy)]
 pub(crate) struct End {
     pub(crate) symbol: u32,
     pub(crate) cap: u32,
 }
 
-impl CapRows {
+impl<'t> CapRows<'t> {
     /// The hole alone, and the rules that are noted for left sides.
-    pub(crate) fn new(alloc: Global, noted: BTreeMap<u32, Vec<u32>>) -> Result<CapRows, OutOfMemory>
+    pub(crate) fn new(
+        alloc: Global,
+        noted: BTreeMap<u32, Vec<u32>>,
+    ) -> Result<CapRows<'t>, OutOfMemory>
         ensures { IfOk result (λ caps. (rules : List RewriteRule) (lefts : List (Option ℕ)) →
             HaveAllNoted rules lefts noted → AreCaps rules lefts caps (hole ∷ [])) }
     {
@@ -69,6 +86,7 @@ impl CapRows {
             rows: WordRows::new(alloc),
             keys,
             noted,
+            parts: BTreeMap::new(alloc),
         })
     }
 
@@ -79,7 +97,7 @@ impl CapRows {
         alloc: Global,
         by_root: &RulesByRoot,
         lefts: &[Option<usize>],
-        t: &Term,
+        t: &'t Term,
         ends: &mut Vec<End>,
     ) -> Result<(), OutOfMemory>
         requires { HaveSameLefts by_root.now.rules lefts.now }
@@ -97,8 +115,54 @@ impl CapRows {
             }
             return Ok(());
         }
-        self.cap_of(alloc, by_root, lefts, t, ends)?;
+        self.add_part(alloc, by_root, lefts, t, ends)
+    }
+
+    /// The same for a part with a defined root. Equal parts are looked at once, if they are not small.
+    /// It is not inlined, so that the recursion above it has little on the stack at each level.
+    #[inline(never)]
+    fn add_part(
+        &mut self,
+        alloc: Global,
+        by_root: &RulesByRoot,
+        lefts: &[Option<usize>],
+        part: &'t Term,
+        ends: &mut Vec<End>,
+    ) -> Result<(), OutOfMemory>
+        requires { HaveSameLefts by_root.now.rules lefts.now }
+        ensures ends { (all : List HoledTree) → AreCaps by_root.now.rules lefts.now self.old all
+            → OnOk result (AreMore by_root.now.rules lefts.now self.new all (AddsEnds
+            by_root.now.rules (tree part.now) ends.old.items ends.new.items)) }
+        ensures kept { OnOk result (KeepWords self.old.rows.rows.items self.new.rows.rows.items) }
+    {
+        let TermHash { hash, nodes } = TermHash::of(part);
+        if nodes <= FEW_NODES {
+            self.cap_of(alloc, by_root, lefts, part, ends)?;
+            return Ok(());
+        }
+        if let Some(known) = self.known_ends(hash, part) {
+            ends.extend_from_slice(known)?;
+            return Ok(());
+        }
+        let mut found = Vec::new(alloc);
+        self.cap_of(alloc, by_root, lefts, part, &mut found)?;
+        ends.extend_from_slice(&found)?;
+        self.parts.insert(hash, KnownPart { part, ends: found })?;
         Ok(())
+    }
+
+    /// The ends in a part like one that was looked at.
+    fn known_ends(&self, hash: u64, part: &Term) -> Option<&[End]>
+        ensures { (rules : List RewriteRule) (lefts : List (Option ℕ)) (all : List HoledTree)
+            → AreCaps rules lefts self.now all
+            → IfSome result (λ ends. AreEnds rules all (subterms (tree part.now)) ends.now) }
+    {
+        let known = self.parts.get(&hash)?;
+        if known.part.same(part) {
+            Some(&known.ends)
+        } else {
+            None
+        }
     }
 
     /// The cap of a term, whose variables are not fixed. The subterms with a defined root are put

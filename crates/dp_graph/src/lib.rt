@@ -27,6 +27,7 @@ mod places;
 mod reversed;
 mod rows;
 mod singles;
+mod term_hash;
 mod unnamed;
 mod waiting;
 mod word_rows;

@@ -14,21 +14,21 @@ use trs_core::{OutOfMemory, Rule, Term};
 
 /// The nodes of pairs, with what is known of caps.
 #[derive(Drop)]
-pub(crate) struct Nodes {
+pub(crate) struct Nodes<'t> {
     pub(crate) nodes: Vec<Node>,
-    pub(crate) caps: CapRows,
+    pub(crate) caps: CapRows<'t>,
     /// By the numbers of rows the first pair with each.
     seen: Vec<Option<usize>>,
 }
 
-impl Nodes {
+impl<'t> Nodes<'t> {
     /// The nodes of all pairs, by the rules that are noted for left sides. There is room for so many.
     pub(crate) fn of(
         alloc: Global,
-        by_root: &RulesByRoot,
+        by_root: &'t RulesByRoot,
         lefts: &[Option<usize>],
         room: usize,
-    ) -> Result<Nodes, OutOfMemory>
+    ) -> Result<Nodes<'t>, OutOfMemory>
         requires { HaveSameLefts by_root.now.rules lefts.now }
         ensures { IfOk result (AreNodes by_root.now.rules lefts.now
             (dependency_pairs by_root.now.rules)) }
@@ -52,7 +52,7 @@ impl Nodes {
         alloc: Global,
         by_root: &RulesByRoot,
         lefts: &[Option<usize>],
-        rule: &Rule,
+        rule: &'t Rule,
         first: Option<usize>,
     ) -> Result<(), OutOfMemory>
         requires { HaveSameLefts by_root.now.rules lefts.now }

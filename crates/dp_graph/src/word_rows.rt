@@ -173,10 +173,15 @@ fn slot(hash: u64, tried: usize, slots: usize) -> usize {
 fn hash_of(row: &[u64]) -> u64 {
     let mut hash: u64 = 1;
     for word in row {
-        hash = (hash ^ *word).wrapping_mul(0x9E37_79B9_7F4A_7C15);
-        hash ^= hash >> 29;
+        hash = mixed(hash, *word);
     }
     hash >> 24
+}
+
+/// The hash of some words and one more.
+pub(crate) fn mixed(hash: u64, word: u64) -> u64 {
+    let more = (hash ^ word).wrapping_mul(0x9E37_79B9_7F4A_7C15);
+    more ^ (more >> 29)
 }
 
 fn are_equal(xs: &[u64], ys: &[u64]) -> bool

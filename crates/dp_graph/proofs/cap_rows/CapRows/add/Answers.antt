@@ -9,4 +9,5 @@ returns c = record {
   here = c.in_ok-row.ensures.there;
   kept = c.in_ok-row.ensures.kept;
   noted = refl;
+  parts = refl;
 }
