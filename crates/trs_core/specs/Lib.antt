@@ -1,4 +1,5 @@
 pub mod Faults
+pub mod InOrder
 pub mod Limits
 pub mod Marked
 pub mod Matching

@@ -8,6 +8,7 @@ mod bindings;
 mod checking;
 mod extra;
 mod faults;
+mod in_order;
 mod laws;
 mod least;
 mod limits;

@@ -1,4 +1,5 @@
-//! Whether no variable occurs twice. Each walk over a term looks for some variables, the window.
+//! Whether no variable occurs twice. Where variables are not numbered in order, each walk over a term
+//! looks for some of them, the window.
 ghost use Rattle.std.specs.Prelude.{◌≡◌, ◌↔◌, ◌<◌, ℕ, ◌+◌, length, IsTrue, None};
 ghost use Rattle.trs_defs.specs.Tree.{var};
 ghost use Rattle.trs_defs.specs.LeastVariable.{least_variable};
@@ -7,6 +8,7 @@ ghost use Rattle.trs_core.specs.View.{tree};
 ghost use Rattle.trs_core.specs.Marked.{times_met, Marks, OccurOnce};
 
 use crate::Term;
+use crate::in_order::{Disorder, count_in_order};
 use crate::least::better;
 
 /// How many variables one walk looks for.
@@ -14,8 +16,19 @@ const WINDOW: usize = 1_024;
 
 impl Term {
     /// Whether no variable occurs twice. (Baader and Nipkow, definition 6.3.1.) It takes no memory,
-    /// and one walk over the term for a thousand variables.
+    /// and one walk over the term where the variables are numbered in the order in which they stand,
+    /// otherwise one for a thousand variables.
     pub fn is_linear(&self) -> bool
+        ensures { IsTrue result ↔ IsLinear (tree self.now) }
+    {
+        match count_in_order(self, &mut 0) {
+            Ok(()) => true,
+            Err(Disorder::Twice) => false,
+            Err(Disorder::OutOfOrder) => self.is_linear_by_windows(),
+        }
+    }
+
+    fn is_linear_by_windows(&self) -> bool
         ensures { IsTrue result ↔ IsLinear (tree self.now) }
     {
         let mut next = Some(0);

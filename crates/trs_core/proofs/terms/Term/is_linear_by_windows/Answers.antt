@@ -2,7 +2,7 @@ use Rattle.std.proofs.Common.{◌+◌, subst, arith}
 use Rattle.trs_core.specs.View.{tree}
 use Rattle.trs_core.specs.declared.linear.TheConstants.{WINDOW}
 use Rattle.trs_core.proofs.Linearity.{OnceBelow, once_more, less_room}
-use Rattle.trs_core.proofs.terms.Term.is_linear.Goals as goal
+use Rattle.trs_core.proofs.terms.Term.is_linear_by_windows.Goals as goal
 
 pub returns-then-not-occur_once : goal.returns-then-not-occur_once
 returns-then-not-occur_once c = (
