@@ -18,6 +18,7 @@ pub mod PoolPlaces
 pub mod Rooms
 pub mod Contracta
 pub mod KnownLaws
+pub mod LargeReducts
 pub mod LeftSideLaws
 pub mod StepLemmas
 pub mod PathLemmas

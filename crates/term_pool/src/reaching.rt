@@ -192,7 +192,7 @@ impl Pool {
     }
 
     /// The id of the reduct by one step, or `None` where it is too large or its id is in the set.
-    /// Then nothing is kept of it.
+    /// Then nothing is kept of it; and where the right side alone is too large, nothing is made.
     fn new_reduct(
         &mut self,
         alloc: Global,
@@ -215,6 +215,10 @@ impl Pool {
         ensures known { OnOk result (IsKnown trs.now.rules self.new known.new) }
         ensures kept { Extends self.old self.new }
     {
+        let rule = &trs.rules()[step.rule as usize];
+        if rule.right.size() > size {
+            return Ok(None);
+        }
         let mark = self.mark();
         let Some(reduct) = self.reduct(alloc, trs, id, step, known)? else {
             return Ok(None);

@@ -1,16 +1,32 @@
-use Rattle.std.proofs.Common.{◌≡◌, ◌∙◌, ap, inr, Some, IsTrue, sym}
+use Rattle.std.proofs.Common.{◌≡◌, ◌<◌, ◌∙◌, ap, inr, Some, IsTrue, sym, arith}
+use Rattle.std.proofs.lemmas.Option.{get_or_from_slice_get}
+use Rattle.trs_defs.specs.Size.{size_of}
+use Rattle.trs_core.specs.View.{tree}
 use Rattle.std.specs.BTreeSet.{contains}
 use Rattle.std.proofs.Common.{nat_cmp}
 use Rattle.term_pool.specs.Pooled.{tree_at}
 use Rattle.term_pool.specs.Reaching.{IsReduct}
 use Rattle.term_pool.proofs.Extending.{extends_itself, same_tree_at, undone}
 use Rattle.term_pool.proofs.KnownLaws.{known_on}
+use Rattle.term_pool.proofs.LargeReducts.{passed_over}
 use Rattle.term_pool.proofs.PoolTrees.{stands}
 use Rattle.term_pool.proofs.pools.Pool.new_reduct.Goals.{In-Some, After-release, After-release-then-contains, Then-contains}
 use Rattle.term_pool.proofs.pools.Pool.new_reduct.Goals as goal
 
 made : (c : In-Some) → IsReduct c.args.trs.now.rules c.args.step.now (tree_at c.args.self.now c.args.id) c.args.self.now c.reduct.new.self c.in-Some.reduct
 made c = rw c.in-Some.is at c.in_ok-reduct.ensures.reduct
+
+-- where the right side alone is too large
+pub returns-then-size-clause-none : goal.returns-then-size-clause-none
+returns-then-size-clause-none c =
+    let rules = c.args.trs.now.rules in
+    let read = get_or_from_slice_get rules c.args.step.now.rule c.requires.redex.rule c.index-rules-step.result c.requires.redex.numbered in
+    let number : c.step.inside.rule ≡ c.args.step.now.rule = ap (λ s. s.rule) c.step.view_is in
+    let is = rw (c.rules.ensures.rules, number) at c.index-rules-step.is in
+    let same : c.index-rules-step.result ≡ c.requires.redex.rule = is ∙ read in
+    let nodes : size_of (tree c.rule.inside.right) ≡ size_of c.requires.redex.rule.right = ap (λ r. size_of r.right) (c.rule.view_is ∙ same) in
+    let large : c.args.size < size_of c.requires.redex.rule.right = omega (arith, c.if-size.true, c.size.ensures, nodes) in
+    passed_over rules (tree_at c.args.self.now c.args.id) c.args.step.now c.args.size c.requires.redex large c.args.ids.now c.args.self.now
 
 -- nothing is kept of what is too large
 unchanged : (c : After-release) → c.release.new.self ≡ c.args.self.now
