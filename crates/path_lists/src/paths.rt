@@ -357,7 +357,7 @@ fn longer(alloc: Global, path: &[PathStep], step: &PathStep) -> Result<Vec<PathS
 }
 
 /// The id of the path's end after one more step, or `None` where that is too large. Then nothing
-/// is kept of it.
+/// is kept of it; and where the right side alone is too large, nothing is made.
 fn small_end(
     alloc: Global,
     pool: &mut Pool,
@@ -379,6 +379,10 @@ fn small_end(
     ensures unchanged { IfOk result (λ found. IfNone found (pool.new ≡ pool.old)) }
     ensures kept { Extends pool.old pool.new }
 {
+    let rule = &trs.rules()[step.rule as usize];
+    if rule.right.size() > MOST_NODES {
+        return Ok(None);
+    }
     let mark = pool.mark();
     let end = match pool.step_at(alloc, trs, entry.0, &step.place, step.rule) {
         Ok(end) => end,
