@@ -1,5 +1,5 @@
 -- Steps of reading terms.
-use Rattle.std.proofs.Common.{◌≡◌, ℕ, zero, suc, ◌==◌, Bool, cond, List, [], ◌∷◌, ◌++◌, length, Option, Some, None, Result, Ok, Err, Vec, Global, refl, sym, ap, ap₂, ◌∙◌}
+use Rattle.std.proofs.Common.{◌≡◌, ℕ, zero, suc, ◌==◌, Bool, cond, List, [], ◌∷◌, ◌++◌, length, Option, Some, None, Result, Ok, Err, refl, sym, ap, ◌∙◌}
 use Rattle.std.specs.Prelude.{slice_get}
 use Rattle.std.proofs.Math.Dec.{eqb-zero-suc, eqb-suc-suc}
 use Rattle.sexp_core.specs.declared.sexp.Sexp.{Sexp}
@@ -11,9 +11,9 @@ use Rattle.text_reading.specs.Reading.{place_of}
 use Rattle.term_text.specs.declared.fault.TermFault.{TermFault}
 use Rattle.term_text.specs.declared.fault.TermFault.TheVariants.{ArgumentLacks, ArgumentExtra}
 use Rattle.term_text.specs.Checked.{Checked, a_fault, ◌<*>◌, judged}
-use Rattle.term_text.specs.Viewed.{viewed, both_viewed}
+use Rattle.term_text.specs.Viewed.{viewed, unless_refused, read_behind}
 use Rattle.term_text.specs.Terms.{taking}
-use Rattle.term_text.proofs.BuiltTerms.{behind, behind_push, behind_none}
+use Rattle.term_text.proofs.BuiltTerms.{behind, behind_none, behind_one, forest_push}
 
 -- ---- the number of arguments
 
@@ -27,6 +27,12 @@ taking_by_extra symbol at zero [] = refl
 taking_by_extra symbol at zero (x ∷ xs) = refl
 taking_by_extra symbol at (suc n) [] = rw (eqb-zero-suc n) refl
 taking_by_extra symbol at (suc n) (x ∷ xs) = rw (eqb-suc-suc (length xs) n) (taking_by_extra symbol at n xs)
+
+-- ---- what was read, and what is refused of it
+
+viewed_unless : {X A F : Type 0} (view : X → A) (refused : Option F) (x : X) → viewed view (unless_refused refused x) ≡ unless_refused refused (view x)
+viewed_unless view None x = refl
+viewed_unless view (Some p) x = refl
 
 -- ---- terms one by one
 
@@ -50,44 +56,30 @@ module _ {F : Type 0} (one_of : TermFault → F) (both_of : F → F → F) where
   judged_cons (Err p) (Ok ts) = refl
   judged_cons (Err p) (Err q) = refl
 
-  abbrev pub pushed_one : Result (List Term) F → Result Term F → Result (List Term) F
-  pushed_one (Ok ts) (Ok t) = Ok (ts ++ t ∷ [])
-  pushed_one (Ok ts) (Err q) = Err q
-  pushed_one (Err p) (Ok t) = Err p
-  pushed_one (Err p) (Err q) = Err (both_of p q)
-
-  together_one : (r : Result (List Term) F) (s : Result Term F) (rest : Result Trees F) → ((p q r : F) → both_of (both_of p q) r ≡ both_of p (both_of q r))
-      → together (viewed forest (pushed_one r s)) rest ≡ together (viewed forest r) (one_before (viewed tree s) rest)
-  together_one (Ok ts) (Ok t) (Ok us) assoc = ap Ok (behind_push ts t us)
-  together_one (Ok ts) (Ok t) (Err q) assoc = refl
-  together_one (Ok ts) (Err p) (Ok us) assoc = refl
-  together_one (Ok ts) (Err p) (Err q) assoc = refl
-  together_one (Err p) (Ok t) (Ok us) assoc = refl
-  together_one (Err p) (Ok t) (Err q) assoc = refl
-  together_one (Err p) (Err q) (Ok us) assoc = refl
-  together_one (Err p) (Err q) (Err r) assoc = ap Err (assoc p q r)
-
-  items_forest : (r : Result (Vec Term Global) F) → viewed (λ v. forest v.items) r ≡ viewed forest (viewed (λ v. v.items) r)
-  items_forest (Ok v) = refl
-  items_forest (Err p) = refl
-
-  pushed_is : (r : Result (Vec Term Global) F) (s : Result Term F) → viewed (λ p. p.0.items ++ p.1 ∷ []) (both_viewed both_of r s) ≡ pushed_one (viewed (λ v. v.items) r) s
-  pushed_is (Ok v) (Ok t) = refl
-  pushed_is (Ok v) (Err q) = refl
-  pushed_is (Err p) (Ok t) = refl
-  pushed_is (Err p) (Err q) = refl
+  together_one : (before : Option F) (ts : Trees) (s : Result Tree F) (rest : Result Trees F) → ((p q r : F) → both_of (both_of p q) r ≡ both_of p (both_of q r))
+      → together (viewed (λ t. behind ts (cons t nil)) (read_behind both_of before s)) rest ≡ together (unless_refused before ts) (one_before s rest)
+  together_one None ts (Ok t) (Ok us) assoc = ap Ok (behind_one ts t us)
+  together_one None ts (Ok t) (Err q) assoc = refl
+  together_one None ts (Err p) (Ok us) assoc = refl
+  together_one None ts (Err p) (Err q) assoc = refl
+  together_one (Some b) ts (Ok t) (Ok us) assoc = refl
+  together_one (Some b) ts (Ok t) (Err q) assoc = refl
+  together_one (Some b) ts (Err p) (Ok us) assoc = refl
+  together_one (Some b) ts (Err p) (Err q) assoc = ap Err (assoc b p q)
 
   -- one more term, and those behind it
-  pub one_more_term : (r all : Result (Vec Term Global) F) (s : Result Term F) (t : Checked Tree) (rest : Checked Trees) → ((p q r : F) → both_of (both_of p q) r ≡ both_of p (both_of q r))
-      → viewed tree s ≡ judged one_of both_of t → viewed (λ v. v.items) all ≡ viewed (λ p. p.0.items ++ p.1 ∷ []) (both_viewed both_of r s)
-      → together (viewed (λ v. forest v.items) all) (judged one_of both_of rest)
-      ≡ together (viewed (λ v. forest v.items) r) (judged one_of both_of (Ok (λ x xs. cons x xs) <*> t <*> rest))
-  one_more_term r all s t rest assoc e f =
+  pub one_more_term : (before now : Option F) (ts all : List Term) (t : Term) (r : Checked Tree) (rest : Checked Trees) → ((p q r : F) → both_of (both_of p q) r ≡ both_of p (both_of q r))
+      → unless_refused now (tree t) ≡ read_behind both_of before (judged one_of both_of r) → all ≡ ts ++ t ∷ []
+      → together (unless_refused now (forest all)) (judged one_of both_of rest)
+      ≡ together (unless_refused before (forest ts)) (judged one_of both_of (Ok (λ x xs. cons x xs) <*> r <*> rest))
+  one_more_term before now ts all t r rest assoc e f =
       let right = judged one_of both_of rest in
-      ap (λ x. together x right) (items_forest all ∙ ap (viewed forest) (f ∙ pushed_is r s))
-      ∙ together_one (viewed (λ v. v.items) r) s right assoc
-      ∙ ap (λ x. together (viewed forest (viewed (λ v. v.items) r)) (one_before x right)) e
-      ∙ ap₂ together (sym (items_forest r)) (sym (judged_cons t rest))
+      let pushed : Tree → Trees = λ x. behind (forest ts) (cons x nil) in
+      ap (λ x. together (unless_refused now x) right) (ap forest f ∙ forest_push ts t)
+      ∙ ap (λ x. together x right) (sym (viewed_unless pushed now (tree t)))
+      ∙ ap (λ x. together (viewed pushed x) right) e
+      ∙ together_one before (forest ts) (judged one_of both_of r) right assoc
+      ∙ ap (together (unless_refused before (forest ts))) (sym (judged_cons r rest))
 
   -- no further term
   pub no_more_terms : (r : Result Trees F) → together r (Ok nil) ≡ r
