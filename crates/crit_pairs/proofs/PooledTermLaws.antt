@@ -1,5 +1,5 @@
 -- Pairs of peaks in a pool: they are read, and one more comes to them.
-use Rattle.std.proofs.Common.{◌≡◌, ◌<◌, ℕ, List, [], ◌∷◌, ◌++◌, length, get_or, slice_get, Some, sym, ap, ◌∙◌, subst, arith}
+use Rattle.std.proofs.Common.{◌≡◌, ◌≢◌, ◌<◌, ℕ, List, [], ◌∷◌, ◌++◌, length, get_or, slice_get, Some, None, IfSome, sym, ap, ◌∙◌, subst, arith}
 use Rattle.std.proofs.lemmas.Option.{same_Some, slice_get_within, slice_get-get_or}
 use Rattle.trs_defs.specs.Tree.{Tree}
 use Rattle.trs_defs.specs.System.{RewriteRule}
@@ -7,7 +7,8 @@ use Rattle.term_pool.specs.Pooled.{StandsFor, tree_at}
 use Rattle.term_pool.proofs.PoolTrees.{stands}
 use Rattle.rewrite_core.specs.PlacedPeak.{PlacedPeak}
 use Rattle.crit_pairs.specs.Table.{IsPair, ArePairs, no_pair, one_pair}
-use Rattle.crit_pairs.specs.PooledTerms.{HoldSides}
+use Rattle.crit_pairs.specs.PooledTerms.{ArePooledRules, HoldSides}
+use Rattle.crit_pairs.specs.declared.pooled_rules.PooledRules.{PooledRules}
 use Rattle.crit_pairs.specs.declared.pooled_terms.PooledTerms.{PooledTerms}
 use Rattle.crit_pairs.specs.declared.table.PeakPair.{PeakPair}
 use Rattle.crit_pairs.proofs.TableLaws.{pairs_both, pairs_count, peak_of_pair}
@@ -24,6 +25,14 @@ pair_read rules peaks terms n p x holds at read =
 
 pub pair_there : (rules : List RewriteRule) (peaks : List PlacedPeak) (terms : PooledTerms) (n : ℕ) (p : PlacedPeak) → HoldSides rules peaks terms → slice_get peaks n ≡ Some p → n < length terms.pairs.items
 pair_there rules peaks terms n p holds at = omega (arith, slice_get_within peaks n p at, pairs_count holds.pairs)
+
+-- where there is a peak, the sides of the rules are there
+pub sides_there : (rules : List RewriteRule) (peaks : List PlacedPeak) (terms : PooledTerms) (n : ℕ) (p : PlacedPeak) → HoldSides rules peaks terms → slice_get peaks n ≡ Some p → terms.sides ≢ None
+sides_there rules peaks terms n p holds at none = absurd (omega (arith, slice_get_within peaks n p at, ap length (holds.none none)))
+
+pub sides_read : (rules : List RewriteRule) (peaks : List PlacedPeak) (terms : PooledTerms) (sides : PooledRules) → HoldSides rules peaks terms → terms.sides ≡ Some sides
+    → ArePooledRules rules terms.pool sides
+sides_read rules peaks terms sides holds is = subst (λ o. IfSome o (ArePooledRules rules terms.pool)) is holds.sides
 
 -- the id stands for this term too
 pub stands_as : (pool : List Tree) (id : ℕ) (t : Tree) → id < length pool → t ≡ tree_at pool id → StandsFor pool id t

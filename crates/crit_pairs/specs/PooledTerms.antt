@@ -1,5 +1,5 @@
 -- The sides of rules and of critical peaks in one pool.
-use Rattle.std.specs.Prelude.{◌≡◌, ◌<◌, ℕ, List, Option, Some, length, slice_get}
+use Rattle.std.specs.Prelude.{◌≡◌, ◌<◌, ℕ, List, [], Option, Some, None, IfSome, length, slice_get}
 use Rattle.trs_defs.specs.Tree.{Tree}
 use Rattle.trs_defs.specs.Substitution.{apply}
 use Rattle.trs_defs.specs.Position.{replaced_at}
@@ -38,10 +38,11 @@ pub record ArePooledRules (rules : List RewriteRule) (pool : List Tree) (sides :
   pub ground : AreGround pool sides.ground.items
   pub numbered : AreVariableIds pool sides.numbered
 
--- the pairs are those of the peaks, and they are made of these rules
+-- the pairs are those of the peaks, and they are made of these rules, which are there before the first peak
 pub record HoldSides (rules : List RewriteRule) (peaks : List PlacedPeak) (terms : PooledTerms) : Type 0 where
   pub pairs : ArePairs terms.pool terms.pairs.items peaks
-  pub sides : ArePooledRules rules terms.pool terms.sides
+  pub sides : IfSome terms.sides (ArePooledRules rules terms.pool)
+  pub none : terms.sides ≡ None → peaks ≡ []
 
 -- the terms of the peak at the spot, before their variables get new numbers
 pub record ArePeakInstances (rules : List RewriteRule) (s : Spot) (unifier : ℕ → Tree) (top left right : Tree) : Type 0 where

@@ -74,7 +74,7 @@ impl<'a> RulesApart<'a> {
         let apart_lefts = apart_lefts(alloc, trs.rules(), &skeletons)?;
         let sizes = side_sizes(alloc, trs.rules())?;
         let mut occurrences = Occurrences::new(alloc);
-        occurrences.count_sides(trs.rules(), &sizes)?;
+        occurrences.count_sides(trs.rules(), &skeletons, &sizes)?;
         let by_root = RulesByRoot::new(alloc, trs)?;
         let are_many = MANY_OF_ONE_ROOT <= most_of_one_root(&by_root);
         let equal = equal_of_many(alloc, trs.rules(), are_many)?;

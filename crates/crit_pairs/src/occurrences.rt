@@ -1,5 +1,6 @@
 //! How often variables occur in rules. Only time depends on it.
 use crate::side_sizes::SideSize;
+use crate::skeleton::Skeleton;
 use std::alloc::Global;
 use trs_core::{OutOfMemory, Rule, Term};
 
@@ -26,10 +27,15 @@ impl Occurrences {
         Ok(())
     }
 
-    /// Counts those in rules whose right sides have these sizes.
-    pub fn count_sides(&mut self, rules: &[Rule], sizes: &[SideSize]) -> Result<(), OutOfMemory> {
-        for (rule, right) in rules.iter().zip(sizes) {
-            let left = variables_in(&rule.left);
+    /// Counts those in rules whose left sides have these skeletons, and whose right sides these sizes.
+    pub fn count_sides(
+        &mut self,
+        rules: &[Rule],
+        skeletons: &[Skeleton],
+        sizes: &[SideSize],
+    ) -> Result<(), OutOfMemory> {
+        for ((rule, skeleton), right) in rules.iter().zip(skeletons).zip(sizes) {
+            let left = occurrences_on_left(&rule.left, skeleton);
             self.counts.push(left.saturating_add(right.occurrences()))?;
         }
         Ok(())
@@ -47,6 +53,14 @@ impl Occurrences {
 fn occurrences_in(rule: &Rule) -> u64 {
     let left = variables_in(&rule.left);
     left.saturating_add(variables_in(&rule.right))
+}
+
+/// Those in a left side, which is not walked where its skeleton shows that there are none.
+fn occurrences_on_left(left: &Term, skeleton: &Skeleton) -> u64 {
+    if skeleton.is_ground() {
+        return 0;
+    }
+    variables_in(left)
 }
 
 fn variables_in(t: &Term) -> u64 {

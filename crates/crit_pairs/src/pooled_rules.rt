@@ -43,7 +43,8 @@ impl PooledRules {
         rules: &RulesApart,
         pool: &mut Pool,
     ) -> Result<PooledRules, OutOfMemory>
-        ensures { IfOk result (ArePooledRules rules.now.rules pool.new) }
+        ensures sides { IfOk result (ArePooledRules rules.now.rules pool.new) }
+        ensures kept { Extends pool.old pool.new }
     {
         let all = rules.rules();
         let rights = right_sides(alloc, all, pool)?;

@@ -1,5 +1,5 @@
 //! The sides of critical peaks as ids in one pool, as they are made.
-ghost use Rattle.std.specs.Prelude.{◌≡◌, ◌<◌, ◌++◌, List, [], ◌∷◌, All, Some, IfOk, IfErr, slice_get};
+ghost use Rattle.std.specs.Prelude.{◌≡◌, ◌<◌, ◌++◌, List, [], ◌∷◌, All, Some, IfOk, IfErr, IfSome, slice_get};
 ghost use Rattle.trs_defs.specs.Tree.{Tree};
 ghost use Rattle.trs_defs.specs.Position.{subterm_at, replaced_at};
 ghost use Rattle.trs_defs.specs.Substitution.{apply};
@@ -7,11 +7,12 @@ ghost use Rattle.trs_defs.specs.System.{RewriteRule};
 ghost use Rattle.trs_defs.specs.Unifier.{IsMostGeneralUnifier};
 ghost use Rattle.trs_core.specs.View.{tree};
 ghost use Rattle.term_pool.specs.LeftSides.{IsGround};
-ghost use Rattle.term_pool.specs.Pooled.{tree_at};
+ghost use Rattle.term_pool.specs.Pooled.{Extends, tree_at};
 ghost use Rattle.rewrite_core.specs.PlacedPeak.{PlacedPeak};
 ghost use Rattle.crit_pairs.specs.Apart.{renamed_apart};
 ghost use Rattle.crit_pairs.specs.InOrder.{in_order};
 ghost use Rattle.crit_pairs.specs.Overlapping.{substitution};
+ghost use Rattle.crit_pairs.specs.PooledTerms.{ArePooledRules};
 ghost use Rattle.crit_pairs.specs.Sides.{AreRenumbered, KeepsLimits, PassesLimit};
 
 use crate::PeakFault;
@@ -31,7 +32,8 @@ use trs_core::{OutOfMemory, Rule, Term};
 pub(crate) struct PooledTerms {
     pub pool: Pool,
     pub pairs: Vec<PeakPair>,
-    pub sides: PooledRules,
+    /// They are put into the pool before the first peak: many systems have none.
+    pub sides: Option<PooledRules>,
 }
 
 /// The pair of a peak that was added, and the number of nodes of all peaks.
@@ -45,16 +47,15 @@ impl PooledTerms {
     ghost use Rattle.crit_pairs.specs.PeakPairs.{HoldPairsOf};
     ghost use Rattle.crit_pairs.specs.PooledTerms.{HoldSides};
 
-    pub fn new(alloc: Global, rules: &RulesApart) -> Result<PooledTerms, OutOfMemory>
-        ensures { IfOk result (HoldSides rules.now.rules []) }
+    /// No peak was added. It takes no memory.
+    pub fn new(alloc: Global) -> PooledTerms
+        ensures { (rules : List RewriteRule) → HoldSides rules [] result }
     {
-        let mut pool = Pool::new(alloc);
-        let sides = PooledRules::new(alloc, rules, &mut pool)?;
-        Ok(PooledTerms {
-            pool,
+        PooledTerms {
+            pool: Pool::new(alloc),
             pairs: Vec::new(alloc),
-            sides,
-        })
+            sides: None,
+        }
     }
 
     /// Adds the sides of the peak of rule `i` in rule `j` at a place, by a most general unifier. The
@@ -103,6 +104,8 @@ impl PooledTerms {
             → p.right ≡ tree_at self.new.pool added.pair.right
             → HoldSides rules.now.rules (peaks ++ p ∷ []) self.new) }
     {
+        let known = self.sides.take();
+        let mut sides = sides_in_pool(alloc, rules, known, &mut self.pool)?;
         let added = make_results(
             alloc,
             rules,
@@ -115,9 +118,10 @@ impl PooledTerms {
             unifier,
             nodes,
             names,
-            &mut self.sides,
+            &mut sides,
             &mut self.pool,
         )?;
+        self.sides = Some(sides);
         self.pairs.push(added.pair)?;
         Ok(added)
     }
@@ -159,8 +163,11 @@ impl PooledTerms {
             p.left ≡ tree_at self.new.pool pair.left → p.right ≡ tree_at self.new.pool pair.right
             → HoldSides rules (peaks ++ p ∷ []) self.new) }
     {
+        let Some(sides) = &self.sides else {
+            unreachable!();
+        };
         let pair = PeakPair {
-            left: self.sides.rights[rule as usize].id,
+            left: sides.rights[rule as usize].id,
             right: self.pairs[n].right,
         };
         self.pairs.push(pair)?;
@@ -176,5 +183,22 @@ impl PooledTerms {
             pool: self.pool,
             pairs: self.pairs,
         }
+    }
+}
+
+/// The sides of the rules, which are put into the pool if they are not known.
+fn sides_in_pool(
+    alloc: Global,
+    rules: &RulesApart,
+    known: Option<PooledRules>,
+    pool: &mut Pool,
+) -> Result<PooledRules, OutOfMemory>
+    requires { IfSome known (ArePooledRules rules.now.rules pool.old) }
+    ensures sides { IfOk result (ArePooledRules rules.now.rules pool.new) }
+    ensures kept { Extends pool.old pool.new }
+{
+    match known {
+        Some(sides) => Ok(sides),
+        None => PooledRules::new(alloc, rules, pool),
     }
 }

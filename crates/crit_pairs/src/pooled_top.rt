@@ -44,8 +44,8 @@ impl<'a> PeakTop<'a> for PooledTop<'a> {
 
     ghost holds = { λ terms rules peaks. HoldSides rules peaks terms };
 
-    fn no_terms(alloc: Global, rules: &RulesApart<'a>) -> Result<PooledTerms, OutOfMemory> {
-        PooledTerms::new(alloc, rules)
+    fn no_terms(alloc: Global, _rules: &RulesApart<'a>) -> Result<PooledTerms, OutOfMemory> {
+        Ok(PooledTerms::new(alloc))
     }
 
     fn made(

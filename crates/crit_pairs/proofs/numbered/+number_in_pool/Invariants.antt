@@ -1,4 +1,4 @@
-use Rattle.std.proofs.Common.{All, ◌<◌, length, map, drop}
+use Rattle.std.proofs.Common.{◌≡◌, All, ◌<◌, ◌≤◌, length, map, take, drop}
 use Rattle.trs_defs.specs.Size.{size_of}
 use Rattle.trs_core.specs.View.{tree, forest}
 use Rattle.term_pool.specs.Pooled.{Extends, tree_at}
@@ -12,8 +12,10 @@ invariant-loop-arg l = record {
   distinct : IsDistinct l.names.order.items;
   kept : Extends l.fn.pool l.pool;
   ids : AreVariableIds l.pool l.numbered;
-  below : All (λ i. i < length l.pool) l.ids.items;
-  renaming : AreRenaming l.fn.names.order.items l.f (tree l.t) (map (tree_at l.pool) l.ids.items) l.names.order.items (forest (drop l.arg-index l.arg-items));
+  behind : l.start ≤ length l.arguments.items;
+  before : take l.start l.arguments.items ≡ l.fn.arguments.items;
+  below : All (λ i. i < length l.pool) (drop l.start l.arguments.items);
+  renaming : AreRenaming l.fn.names.order.items l.f (tree l.t) (map (tree_at l.pool) (drop l.start l.arguments.items)) l.names.order.items (forest (drop l.arg-index l.arg-items));
 }
 
 abbrev pub decreases-number_in_pool : goal.decreases-number_in_pool

@@ -1,4 +1,4 @@
-use Rattle.std.proofs.Common.{◌≡◌, IfOk, ap, subst, sym, arith, refl}
+use Rattle.std.proofs.Common.{◌≡◌, IfOk, drop, ap, subst, sym, ◌∙◌, arith, refl}
 use Rattle.trs_defs.specs.Tree.{app}
 use Rattle.trs_core.specs.View.{tree, forest}
 use Rattle.term_pool.specs.Pooled.{tree_at}
@@ -10,7 +10,7 @@ use Rattle.trs_unify.proofs.NewNames.{renaming_goes_on, renaming_ends, next_inst
 use Rattle.crit_pairs.specs.Meeting.{put_in}
 use Rattle.crit_pairs.proofs.PutIn.{unbound_instance, last_instance, further_instance, bound_measure, argument_measure}
 use Rattle.crit_pairs.proofs.VariableIds.{variable_ids_on}
-use Rattle.crit_pairs.proofs.NumberedIds.{all_below, ids_more, renamed_id, id_there}
+use Rattle.crit_pairs.proofs.NumberedIds.{id_behind, all_below, ids_more, renamed_id, id_there}
 use Rattle.crit_pairs.proofs.numbered.+renumber_in_pool.Goals as goal
 
 pub renumber_in_pool-requires : goal.renumber_in_pool-requires
@@ -26,27 +26,31 @@ renumber_in_pool-requires-in-loop-arg t c =
 pub loop-arg-preserved : goal.loop-arg-preserved
 loop-arg-preserved t c =
     let calls = c.in_ok-id-in-App.ensures in
-    let pushed = c.in_ok-push-in-App.ensures.items in
     let next = c.renumber_in_pool-in-loop-arg.new in
+    let ids = drop c.len-start.result c.loop-arg.arguments.items in
+    let more = drop c.len-start.result c.push.new.self.items in
+    let pushed = id_behind c.len-start.result c.loop-arg.arguments.items next.arguments.items c.push.new.self.items c.in_ok-id-in-App.id c.loop-arg.invariant.behind calls.arguments c.in_ok-push-in-App.ensures.items in
     record {
       distinct = calls.distinct;
       kept = extends_on c.args.pool.now c.loop-arg.pool next.pool c.loop-arg.invariant.kept calls.kept;
       ids = calls.ids;
-      below = all_below c.loop-arg.pool next.pool c.loop-arg.ids.items c.push.new.self.items c.in_ok-id-in-App.id calls.kept c.loop-arg.invariant.below calls.there pushed;
+      behind = pushed.behind;
+      before = pushed.before ∙ c.loop-arg.invariant.before;
+      below = all_below c.loop-arg.pool next.pool ids more c.in_ok-id-in-App.id calls.kept c.loop-arg.invariant.below calls.there pushed.last;
       renaming = renaming_goes_on c.args.names.now.order.items c.loop-arg.names.order.items next.names.order.items c.in-App.f _ _ _ _ _ _ _
           (next_instance (put_in c.args.levels c.args.bindings.now.list.items) c.deref-arg-items.result.now c.loop-arg.arg-index c.arg-item.result c.loop-arg-test.true c.arg-item.is)
-          (ids_more c.loop-arg.pool next.pool c.loop-arg.ids.items c.push.new.self.items c.in_ok-id-in-App.id calls.kept c.loop-arg.invariant.below calls.there pushed)
+          (ids_more c.loop-arg.pool next.pool ids more c.in_ok-id-in-App.id calls.kept c.loop-arg.invariant.below calls.there pushed.last)
           c.loop-arg.invariant.renaming calls.renamed;
     }
 
 pub returns-after-loop-arg-clause-renamed : goal.returns-after-loop-arg-clause-renamed
 returns-after-loop-arg-clause-renamed t c =
-    renamed_id c.apply.result c.args.names.now.order.items c.loop-arg.names.order.items c.loop-arg.pool c.apply.new.self c.in-App.f c.loop-arg.ids.items c.deref.result.now _ c.deref.ensures.value c.apply.ensures.id
+    renamed_id c.apply_from.result c.args.names.now.order.items c.loop-arg.names.order.items c.apply_from.new.pool _ _ c.apply_from.ensures.id
     (renaming_ends c.args.names.now.order.items c.loop-arg.names.order.items c.in-App.f _ _ _
     (no_instance_left (put_in c.args.levels c.args.bindings.now.list.items) c.deref-arg-items.result.now c.loop-arg.arg-index c.loop-arg-test.false) c.loop-arg.invariant.renaming)
 
 pub returns-after-loop-arg-clause-there : goal.returns-after-loop-arg-clause-there
-returns-after-loop-arg-clause-there t c = id_there c.apply.result c.apply.new.self _ c.apply.ensures.id
+returns-after-loop-arg-clause-there t c = id_there c.apply_from.result c.apply_from.new.pool _ c.apply_from.ensures.id
 
 pub returns-in-None-clause-renamed : goal.returns-in-None-clause-renamed
 returns-in-None-clause-renamed t c =
@@ -68,4 +72,4 @@ returns-else-levels-eq0-clause-renamed t c =
 
 pub returns-after-loop-arg-clause-ids : goal.returns-after-loop-arg-clause-ids
 returns-after-loop-arg-clause-ids t c =
-    on_ok c.apply.result (variable_ids_on c.loop-arg.pool c.apply.new.self c.loop-arg.numbered c.apply.ensures.kept c.loop-arg.invariant.ids)
+    on_ok c.apply_from.result (variable_ids_on c.loop-arg.pool c.apply_from.new.pool c.loop-arg.numbered c.apply_from.ensures.kept c.loop-arg.invariant.ids)

@@ -1,6 +1,6 @@
 use Rattle.std.proofs.Common.{arith}
 use Rattle.term_pool.proofs.PoolTrees.{stands_at, stands_within}
-use Rattle.crit_pairs.proofs.PooledTermLaws.{pair_read, pair_there, one_pair_more}
+use Rattle.crit_pairs.proofs.PooledTermLaws.{pair_read, pair_there, sides_there, one_pair_more}
 use Rattle.crit_pairs.proofs.pooled_terms.PooledTerms.add_again.Goals as goal
 
 pub index-pair-requires : goal.index-pair-requires
@@ -27,4 +27,5 @@ returns-clause-holds c = λ rules peaks p holds left right.
       pairs = one_pair_more pool c.args.self.now.pairs.items c.push.new.self.items peaks x p c.in_ok-push.ensures.items holds.pairs (stands_within pool x.left h.2.left is.0)
           (stands_within pool x.right h.2.right is.1) left right;
       sides = holds.sides;
+      none = λ none. absurd (sides_there h.0 h.1 c.args.self.now c.args.n h.2 h.3 h.4 none);
     }
