@@ -3,6 +3,7 @@ pub use Rattle.pair_order.proofs as pair_order
 pub mod PlacedLaws
 pub mod PairWalk
 pub mod DefinedSymbols
+pub mod DefinedBelow
 pub mod PairSides
 pub mod LeftNumbering
 pub mod Collecting

@@ -42,6 +42,13 @@ next_below rules k p q ts i t h e is =
     ∙ (map-append (λ u. record { place = p ++ u; rule = k }) first rest
     ∙ ap (λ ps. ps ++ placed_below k p rest) (pushed_below k (i + 1) p (defined_places rules (tree t)) ∙ ap (λ z. placed_below k z (defined_places rules (tree t))) (sym is)))
 
+-- an argument without pairs is passed over
+pub argument_passed : (rules : List RewriteRule) (k : ℕ) (p : List ℕ) (ts : List Term) (i : ℕ) (t : Term) → i < length ts → t ≡ get_or ts i t → defined_places rules (tree t) ≡ []
+    → below_arguments rules k p (i + 1) (forest (drop i ts)) ≡ below_arguments rules k p (i + 1 + 1) (forest (drop (i + 1) ts))
+argument_passed rules k p ts i t h e none =
+    let q : List ℕ = p ++ (i + 1) ∷ [] in
+    next_below rules k p q ts i t h e refl ∙ ap (λ places. placed_below k q places ++ below_arguments rules k p (i + 1 + 1) (forest (drop (i + 1) ts))) none
+
 pub no_argument_left : (rules : List RewriteRule) (k : ℕ) (p : List ℕ) (ts : List Term) (i : ℕ) → length ts ≤ i → below_arguments rules k p (i + 1) (forest (drop i ts)) ≡ []
 no_argument_left rules k p ts i h = ap (λ us. below_arguments rules k p (i + 1) (forest us)) (drop_all i ts h)
 
@@ -52,6 +59,9 @@ Whole all listed left = all ≡ listed ++ left
 pub one_part_more : (all listed new left part rest : List PlacedRule) → Whole all listed left → left ≡ part ++ rest → new ≡ listed ++ part → Whole all new rest
 one_part_more all listed new left part rest whole e grown =
     whole ∙ (ap (λ l. listed ++ l) e ∙ (sym (append_assoc listed part rest) ∙ ap (λ l. l ++ rest) (sym grown)))
+
+pub passed_over : (all listed left rest : List PlacedRule) → Whole all listed left → left ≡ rest → Whole all listed rest
+passed_over all listed left rest whole e = whole ∙ ap (λ l. listed ++ l) e
 
 pub nothing_left : (all listed left : List PlacedRule) → Whole all listed left → left ≡ [] → listed ≡ all
 nothing_left all listed left whole none = sym (whole ∙ (ap (λ l. listed ++ l) none ∙ append-nil listed))
@@ -64,6 +74,12 @@ next_rule rules k rule place t none is e =
     ap (λ z. placed_below k z (defined_places rules t)) none ∙ ap (λ u. placed_below k [] (defined_places rules u)) is in
     ap (placed_pairs_from rules k) (cell rules k rule (slice_get_within rules k rule e) (sym (get_or_from_slice_get rules k rule rule e)))
     ∙ ap (λ ps. ps ++ placed_pairs_from rules (k + 1) (drop (k + 1) rules)) (sym same)
+
+-- a rule without pairs is passed over
+pub rule_passed : (rules : List RewriteRule) (k : ℕ) (rule : RewriteRule) (t : Tree) → t ≡ rule.right → slice_get rules k ≡ Some rule → defined_places rules t ≡ []
+    → placed_pairs_from rules k (drop k rules) ≡ placed_pairs_from rules (k + 1) (drop (k + 1) rules)
+rule_passed rules k rule t is e none =
+    next_rule rules k rule [] t refl is e ∙ ap (λ places. placed_below k [] places ++ placed_pairs_from rules (k + 1) (drop (k + 1) rules)) none
 
 pub no_rule_left : (rules : List RewriteRule) (k : ℕ) → length rules ≤ k → placed_pairs_from rules k (drop k rules) ≡ []
 no_rule_left rules k h = ap (placed_pairs_from rules k) (drop_all k rules h)

@@ -18,6 +18,7 @@ mod sides;
 mod subterm;
 
 pub use contained::{Containment, containment_in};
+pub use defined::has_defined;
 pub use entries::{lacking_in_rules, least_lacking};
 pub use laws::{
     all_pairs_conclude, pair_steps_conclude, placed_pairs_are_the_pairs, subterm_steps_conclude,

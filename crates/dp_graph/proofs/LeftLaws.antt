@@ -1,13 +1,15 @@
 -- Rules with the same left side, one after another.
-use Rattle.std.proofs.Common.{◌≡◌, ◌<◌, ℕ, ◌+◌, Bool, true, false, inl, inr, List, [], ◌∷◌, ◌++◌, Option, Some, None, length, slice_get, slice_set, refl, ap, sym, ◌∙◌, subst, length-append}
+use Rattle.std.proofs.Common.{◌≡◌, ◌<◌, ℕ, ◌+◌, inl, inr, List, [], ◌∷◌, ◌++◌, Option, Some, None, length, slice_get, slice_set, refl, ap, sym, ◌∙◌, subst, length-append}
 use Rattle.std.proofs.lemmas.Option.{same_Some}
 use native.Mathlib.Decide.{ℕ_discrete}
-use Rattle.trs_defs.specs.Tree.{Tree, Trees, var, app}
-use Rattle.trs_defs.specs.System.{RewriteRule, is_defined}
+use Rattle.trs_defs.specs.Tree.{Tree, var, app}
+use Rattle.trs_defs.specs.System.{RewriteRule}
 use Rattle.trs_defs.proofs.ListItems.{last_item}
-use Rattle.pair_theory.specs.Marked.{Marked, marked}
-use Rattle.pair_theory.specs.DependencyPair.{keep_if, pairs_to, pairs_of, subterms}
+use Rattle.pair_theory.specs.Marked.{marked}
+use Rattle.pair_theory.specs.DependencyPair.{pairs_of}
 use Rattle.term_pool.specs.Pooled.{Extends, StandsFor}
+use Rattle.dp_core.specs.PlacedPairs.{defined_places}
+use Rattle.dp_core.proofs.DefinedBelow.{no_pairs_in}
 use Rattle.dp_graph.specs.SameLefts.{HasLeft, HaveSameLefts, IsNoted, IsNotedOr, NotesAt, NotesStay}
 use Rattle.dp_graph.proofs.ListPlaces.{last_or_there, still_there, set_here, set_elsewhere}
 
@@ -35,24 +37,9 @@ none_new old new id first stay i j at = inl ((stay i j).0 at)
 
 -- ---- rules without pairs
 
-module _ (rules : List RewriteRule) (l : Marked) where
-  pub no_pairs_both : (ts us : List Tree) → pairs_to rules l ts ≡ [] → pairs_to rules l us ≡ [] → pairs_to rules l (ts ++ us) ≡ []
-  no_pairs_both [] us h also = also
-  no_pairs_both (var x ∷ ts) us h also = no_pairs_both ts us h also
-  no_pairs_both (app g vs ∷ ts) us h also = go (is_defined rules g) h (λ e. no_pairs_both ts us e also)
-    where
-      go : (b : Bool) → keep_if b (record { from = l; to = marked g vs }) (pairs_to rules l ts) ≡ [] → (pairs_to rules l ts ≡ [] → pairs_to rules l (ts ++ us) ≡ [])
-          → keep_if b (record { from = l; to = marked g vs }) (pairs_to rules l (ts ++ us)) ≡ []
-      go true e rest = absurd cc
-      go false e rest = rest e
-
-  -- below a symbol that is not defined
-  pub no_pair_at : (f : ℕ) (ts : List Tree) (vs : Trees) → is_defined rules f ≡ false → pairs_to rules l ts ≡ [] → pairs_to rules l (app f vs ∷ ts) ≡ []
-  no_pair_at f ts vs unknown h = subst (λ b. keep_if b (record { from = l; to = marked f vs }) (pairs_to rules l ts) ≡ []) (sym unknown) h
-
-pub no_pairs_of : (rules : List RewriteRule) (left right : Tree) → ((l : Marked) → pairs_to rules l (subterms right) ≡ []) → pairs_of rules left right ≡ []
+pub no_pairs_of : (rules : List RewriteRule) (left right : Tree) → defined_places rules right ≡ [] → pairs_of rules left right ≡ []
 no_pairs_of rules (var x) right none = refl
-no_pairs_of rules (app f ls) right none = none (marked f ls)
+no_pairs_of rules (app f ls) right none = no_pairs_in rules (marked f ls) right none
 
 -- ---- rules one after another
 

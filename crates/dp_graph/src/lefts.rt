@@ -1,10 +1,8 @@
 //! Rules with the same left side.
-ghost use Rattle.std.specs.Prelude.{◌≡◌, ◌<◌, [], false, IfOk, OnOk, length};
-ghost use Rattle.trs_core.specs.View.{tree};
-ghost use Rattle.pair_theory.specs.Marked.{Marked};
-ghost use Rattle.pair_theory.specs.DependencyPair.{pairs_to, subterms};
+ghost use Rattle.std.specs.Prelude.{◌≡◌, ◌<◌, IfOk, OnOk, length};
 ghost use Rattle.dp_graph.specs.SameLefts.{HaveSameLefts, IsNotedOr, NotesAt, NotesStay};
 
+use dp_core::has_defined;
 use std::alloc::Global;
 use term_pool::{Pool, RulesByRoot};
 use trs_core::{OutOfMemory, Rule, Term};
@@ -35,27 +33,6 @@ pub(crate) fn first_with_left(
         firsts.push(Some(noted_or(&mut seen, id, k)?))?;
     }
     Ok(firsts)
-}
-
-/// Whether a subterm has a defined root.
-fn has_defined(by_root: &RulesByRoot, t: &Term) -> bool
-    ensures { (l : Marked) → result ≡ false
-        → pairs_to by_root.now.rules l (subterms (tree t.now)) ≡ [] }
-{
-    match t {
-        Term::Var(_) => false,
-        Term::App(f, args) => {
-            if !by_root.with_root(*f).is_empty() {
-                return true;
-            }
-            for arg in &args.items {
-                if has_defined(by_root, arg) {
-                    return true;
-                }
-            }
-            false
-        }
-    }
 }
 
 /// Whether no other rule has the root of its left side.

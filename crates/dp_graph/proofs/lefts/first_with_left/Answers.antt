@@ -1,8 +1,7 @@
 use Rattle.std.proofs.Common.{◌≡◌, [], length, ap, sym, subst, arith, refl}
 use Rattle.std.proofs.lemmas.Option.{slice_get_read}
 use Rattle.trs_defs.specs.System.{RewriteRule}
-use Rattle.pair_theory.specs.Marked.{Marked}
-use Rattle.pair_theory.specs.DependencyPair.{pairs_to, subterms}
+use Rattle.dp_core.specs.PlacedPairs.{defined_places}
 use Rattle.dp_graph.proofs.LeftLaws.{no_lefts, one_more_left, one_more_own, one_more_other, no_pairs_of, all_lefts}
 use Rattle.dp_graph.proofs.lefts.first_with_left.Goals as goal
 
@@ -22,12 +21,12 @@ loop-k-preserved c = record {
 
 pub loop-k-preserved-then-not-has_defined : goal.loop-k-preserved-then-not-has_defined
 loop-k-preserved-then-not-has_defined c =
-    let free : (m : Marked) → pairs_to c.args.rules.now m (subterms c.index-rules-k.result.right) ≡ [] =
-    λ m. subst (λ z. pairs_to z m (subterms c.index-rules-k.result.right) ≡ []) (sym c.requires) (rw (ap (λ (r : RewriteRule). r.right) c.rule.view_is) at (c.has_defined.ensures m c.if-not-has_defined.true)) in
+    let none : defined_places c.args.rules.now c.index-rules-k.result.right ≡ [] =
+    subst (λ z. defined_places z c.index-rules-k.result.right ≡ []) (sym c.requires) (rw (ap (λ (r : RewriteRule). r.right) c.rule.view_is) at (c.has_defined.ensures.0 c.if-not-has_defined.true)) in
     record {
       low = omega (arith, c.loop-k-test.true);
       same = one_more_other c.args.rules.now c.loop-k.pool c.loop-k.seen.items c.loop-k.firsts.items c.push.new.self.items c.loop-k.k c.index-rules-k.result c.loop-k.invariant.same
-          (slice_get_read c.args.rules.now (length c.args.rules.now) c.loop-k.k c.index-rules-k.result refl c.loop-k-test.true c.index-rules-k.is) (no_pairs_of c.args.rules.now c.index-rules-k.result.left c.index-rules-k.result.right free) c.in_ok-push.ensures.items;
+          (slice_get_read c.args.rules.now (length c.args.rules.now) c.loop-k.k c.index-rules-k.result refl c.loop-k-test.true c.index-rules-k.is) (no_pairs_of c.args.rules.now c.index-rules-k.result.left c.index-rules-k.result.right none) c.in_ok-push.ensures.items;
     }
 
 pub loop-k-preserved-then-has_own_root : goal.loop-k-preserved-then-has_own_root
