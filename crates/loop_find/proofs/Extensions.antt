@@ -1,20 +1,19 @@
 -- A closure that is extended, and those that are added.
 use Rattle.std.proofs.Common.{◌≡◌, ℕ, ◌+◌, ◌<◌, ◌≤◌, All, List, [], ◌∷◌, ◌++◌, length, map, get_or, Some, refl, ap, sym, ◌∙◌, subst, arith, slice_get, length-append}
 use Rattle.std.proofs.lemmas.Option.{same_Some, slice_get_within, get_or_from_slice_get}
-use Rattle.std.proofs.lemmas.List.{length-map}
 use Rattle.trs_defs.specs.Tree.{Tree, app}
 use Rattle.trs_defs.specs.System.{RewriteRule}
 use Rattle.trs_defs.specs.Position.{subterm_at}
 use Rattle.trs_defs.specs.Path.{PlacedRule}
-use Rattle.trs_defs.proofs.ListItems.{last_item, image_item, item_of_longer}
+use Rattle.trs_defs.proofs.ListItems.{last_item, item_of_longer}
 use Rattle.trs_core.specs.declared.terms.Term.{Term}
 use Rattle.trs_core.specs.View.{tree, forest}
 use Rattle.term_pool.specs.Redexes.{IsNarrow}
 use Rattle.term_pool.proofs.NarrowLaws.{narrow_of_well_formed}
-use Rattle.crit_pairs.specs.Apart.{renamed_apart, AreApart}
 use Rattle.crit_pairs.specs.PeakList.{symbol_places}
 use Rattle.crit_pairs.proofs.SpotWalk.{part_below}
 use Rattle.loop_find.proofs.Tried.{from_the_root}
+use Rattle.loop_find.specs.ApartRules.{AreCopies}
 use Rattle.loop_find.specs.Closures.{Closure, IsNarrowing, IsNarrowed, IsSmall, attempts_of}
 use Rattle.loop_find.specs.Links.{closures_of, path_to, path_of_found, IsFit, IsLink, IsSound}
 use Rattle.loop_find.specs.Narrowed.{NarrowsTo, NarrowsNot}
@@ -27,14 +26,10 @@ use Rattle.loop_find.specs.declared.trying.Turn.{Turn}
 use Rattle.loop_find.proofs.LinkLists.{length_of}
 use Rattle.loop_find.proofs.WellFormedSides.{narrowing_well_formed}
 
--- ---- rules renamed apart, by their numbers
+-- ---- rules by their numbers
 
-pub as_many : (rules apart : List RewriteRule) → AreApart rules apart → length apart ≡ length rules
-as_many rules apart is = ap length is ∙ length-map rules renamed_apart
-
-pub apart_at : (rules apart : List RewriteRule) → AreApart rules apart → (i : ℕ) (x rule : RewriteRule) → x ≡ get_or apart i x → slice_get rules i ≡ Some rule → x ≡ renamed_apart rule
-apart_at rules apart is i x rule e at =
-    e ∙ get_or_from_slice_get apart i (renamed_apart rule) x (ap (λ z. slice_get z i) is ∙ image_item renamed_apart rules i rule at)
+pub rule_read : (rules read : List RewriteRule) → read ≡ rules → (k : ℕ) (x rule : RewriteRule) → x ≡ get_or read k x → slice_get rules k ≡ Some rule → x ≡ rule
+rule_read rules read same k x rule e at = e ∙ get_or_from_slice_get read k rule x (ap (λ z. slice_get z k) same ∙ at)
 
 pub placed : (p q : List ℕ) (k : ℕ) → p ≡ q → ◌≡◌ {A = PlacedRule} (record { place = p; rule = k }) (record { place = q; rule = k })
 placed p q k e = ap (λ z. record { place = z; rule = k }) e
@@ -56,12 +51,13 @@ module _ (t : Trial) (k : Closures) (trial : IsTrial t k) where
       let sides = trial.sides c at in
       (none n.rule n.numbered).none new.left new.right (narrowing_from n.rule p (tree t.left.now) (tree t.right.now) c.left c.right new.left new.right sides.0 sides.1 n.narrowing) small.0 small.1
 
-  pub trial_counted : (new : Closures) → new.tokens ≡ k.tokens → new.links ≡ k.links → new.attempts ≡ k.attempts + 1 → k.attempts < t.budget → IsTrial t new
-  trial_counted new a b counted h = record {
+  pub trial_counted : (new : Closures) → new.tokens ≡ k.tokens → new.links ≡ k.links → new.attempts ≡ k.attempts + 1 → k.attempts < t.budget
+      → AreCopies t.trs.now.rules new.copies.items → IsTrial t new
+  trial_counted new a b counted h copies = record {
     system = trial.system;
     arities = trial.arities;
     few = trial.few;
-    apart = trial.apart;
+    copies = copies;
     sound = record { each = λ i l e. subst (λ z. IsLink t.trs.now.arities z.items i l) (sym a) (trial.sound.each i l (subst (λ z. slice_get z.items i ≡ Some l) b e)) };
     there = subst (λ z. t.number < length z.items) (sym b) trial.there;
     sides = λ c e. trial.sides c (subst (λ cs. slice_get cs t.number ≡ Some c) (same_closures new a b) e);
@@ -106,12 +102,12 @@ module _ (t : Trial) (k : Closures) (trial : IsTrial t k) where
           let same : extension ≡ c = same_Some extension c (sym (at_end n e) ∙ h) in
           (ap (λ (z : Closure). z.left) same, ap (λ (z : Closure). z.right) same)
 
-      pub trial_on : IsSound t.trs.now.arities new → new.attempts ≡ k.attempts → IsTrial t new
-      trial_on sound counted = record {
+      pub trial_on : IsSound t.trs.now.arities new → new.attempts ≡ k.attempts → new.copies ≡ k.copies → IsTrial t new
+      trial_on sound counted same = record {
         system = trial.system;
         arities = trial.arities;
         few = trial.few;
-        apart = trial.apart;
+        copies = subst (λ z. AreCopies t.trs.now.rules z.items) (sym same) trial.copies;
         sound = sound;
         there = let before = trial.there in omega (arith, before, one_longer);
         sides = λ c e. trial.sides c (item_of_longer (closures_of k) (extension ∷ []) t.number c (let before = trial.there in omega (arith, before, length_of k)) (subst (λ cs. slice_get cs t.number ≡ Some c) added e));

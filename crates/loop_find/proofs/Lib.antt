@@ -11,6 +11,7 @@ pub mod LinkLists
 pub mod Recurrences
 pub mod Tried
 pub mod Extensions
+pub mod Copies
 pub mod LoopsFound
 pub mod Walked
 pub mod LoopSteps

@@ -16,7 +16,7 @@ use Rattle.trs_defs.proofs.Substitutions.{apply_apply, same_instance}
 use Rattle.trs_defs.proofs.ArgumentLists.{depth_le_size}
 use Rattle.trs_defs.proofs.NamedTerms.{size_named}
 use Rattle.trs_defs.proofs.Contexts.{replaced_somehow}
-use Rattle.trs_defs.proofs.Limits.{size_replaced}
+use Rattle.trs_defs.proofs.Limits.{size_replaced, size_there}
 use Rattle.term_pool.proofs.KnownLaws.{size_instance}
 use Rattle.trs_core.specs.SystemLimits.{HasSmallVariables}
 use Rattle.trs_core.specs.View.{tree}
@@ -47,20 +47,31 @@ no_smaller t u h large small = let few = small.nodes in large (small_of_few t (o
 
 -- ---- any narrowing at the place
 
+-- the instance of what it makes has all nodes of it
+result_kept : (rule : RewriteRule) (place : List ℕ) (left right l r : Tree) (h : IsNarrowing rule place left right l r) → size_of h.result ≤ size_of r
+result_kept rule place left right l r h =
+    let e : size_of (apply h.unifier h.result) ≡ size_of r = ap size_of h.right_is ∙ size_named h.names r in
+    omega (arith, size_instance h.unifier h.result, e)
+
 -- it keeps the nodes of the right side but for those of the part, and these are too many
 pub large_without : (rule : RewriteRule) (place : List ℕ) (left right part : Tree) → subterm_at place right ≡ Some part → 256 + size_of part < size_of right
     → NarrowsNot rule place left right
-large_without rule place left right part there many = record { none = λ l r h a b. no_smaller h.result r (right_kept r h) (large h) b }
+large_without rule place left right part there many = record { none = λ l r h a b. no_smaller h.result r (result_kept rule place left right l r h) (large h) b }
   where
-    right_kept : {l : Tree} (r : Tree) (h : IsNarrowing rule place left right l r) → size_of h.result ≤ size_of r
-    right_kept r h =
-        let e : size_of (apply h.unifier h.result) ≡ size_of r = ap size_of h.right_is ∙ size_named h.names r in
-        omega (arith, size_instance h.unifier h.result, e)
-
     large : {l r : Tree} (h : IsNarrowing rule place left right l r) → IsSmallSide h.result → ⊥
     large h small =
         let few = small.nodes in
         omega (arith, size_replaced place right part (shifted h.offset rule.right) h.result there h.replaced, few, many)
+
+-- it has the nodes of the rule's right side, and these are too many
+pub large_alone : (rule : RewriteRule) (place : List ℕ) (left right part : Tree) → subterm_at place right ≡ Some part → 256 < size_of rule.right → NarrowsNot rule place left right
+large_alone rule place left right part there many = record { none = λ l r h a b. no_smaller h.result r (result_kept rule place left right l r h) (large h) b }
+  where
+    large : {l r : Tree} (h : IsNarrowing rule place left right l r) → IsSmallSide h.result → ⊥
+    large h small =
+        let few = small.nodes in
+        let same : size_of (shifted h.offset rule.right) ≡ size_of rule.right = size_named (λ v. h.offset + v) rule.right in
+        omega (arith, size_replaced place right part (shifted h.offset rule.right) h.result there h.replaced, size_there place right part there, same, few, many)
 
 module _ (rule : RewriteRule) (place : List ℕ) (left right part : Tree) (there : subterm_at place right ≡ Some part)
     (left_low : HasSmallVariables left) (right_low : HasSmallVariables right) where
@@ -106,6 +117,9 @@ module _ (rule : RewriteRule) (place : List ℕ) (left right part : Tree) (there
 
   none_unified : ((σ : ℕ → Tree) → apply σ part ≡ apply σ (shifted 65536 rule.left) → ⊥) → NarrowsNot rule place left right
   none_unified none = record { none = λ l r h a b. none (moved l r h) (moved_unifies l r h) }
+
+  pub clashing : ((σ τ : ℕ → Tree) → apply σ part ≡ apply τ rule.left → ⊥) → NarrowsNot rule place left right
+  clashing none = none_unified (λ σ e. none σ (λ v. σ (65536 + v)) (e ∙ apply_apply σ (λ v. var (65536 + v)) rule.left))
 
   left_too_large : (m : ℕ → Tree) → IsMostGeneralUnifier part (shifted 65536 rule.left) m → (IsSmallSide (apply m left) → ⊥) → NarrowsNot rule place left right
   left_too_large m most large = record { none = λ l r h a b. no_smaller (apply m left) l (left_larger l r h m most) large a }

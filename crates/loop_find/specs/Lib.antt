@@ -1,5 +1,6 @@
 -- what crates above name through this one
 pub use Rattle.crit_pairs.specs as crit_pairs
+pub mod ApartRules
 pub mod Closures
 pub mod LoopRow
 pub mod Laws

@@ -7,7 +7,7 @@ use Rattle.trs_core.specs.SystemLimits.{AreBytes}
 use Rattle.trs_core.specs.View.{tree}
 use Rattle.trs_unify.specs.Bindings.{stopped_size}
 use Rattle.term_pool.specs.Redexes.{IsNarrow}
-use Rattle.crit_pairs.specs.Apart.{AreApart}
+use Rattle.loop_find.specs.ApartRules.{AreCopies}
 use Rattle.loop_find.specs.Closures.{Closure, Attempt, IsNarrowed, IsSmall}
 use Rattle.loop_find.specs.LoopRow.{LoopsNot}
 use Rattle.loop_find.specs.Links.{closures_of, IsFit, IsSound}
@@ -17,13 +17,12 @@ use Rattle.loop_find.specs.declared.trying.Trial.{Trial}
 use Rattle.loop_find.specs.declared.trying.Turn.{Turn}
 use Rattle.loop_find.specs.declared.trying.Turn.TheVariants.{Next, Found, Spent, Stopped}
 
--- The closure of this number is there, with these sides, and the nodes of the right one are counted. The rules are renamed
--- apart.
+-- The closure of this number is there, with these sides, and the nodes of the right one are counted.
 pub record IsTrial (t : Trial) (k : Closures) : Type 0 where
   pub system : IsSystem t.trs.now
   pub arities : AreBytes t.trs.now.arities
   pub few : length t.trs.now.rules ≤ 4095
-  pub apart : AreApart t.trs.now.rules t.apart.now
+  pub copies : AreCopies t.trs.now.rules k.copies.items
   pub sound : IsSound t.trs.now.arities k
   pub there : t.number < length k.links.items
   pub sides : (c : Closure) → slice_get (closures_of k) t.number ≡ Some c → (tree t.left.now ≡ c.left) × (tree t.right.now ≡ c.right)

@@ -15,10 +15,10 @@ use crate::found::LoopFound;
 use crate::instances::first_instance;
 use crate::recurring::may_recur;
 use crate::running::leads;
-use crate::tokens::{SideTokens, Token, part};
+use crate::tokens::{SideTokens, Token, part, put_tokens};
 use rewrite_core::PathStep;
 use std::alloc::Global;
-use trs_core::{OutOfMemory, Position, Term, Trs};
+use trs_core::{OutOfMemory, Position, Rule, Term, Trs};
 
 /// A closure: the places of the tokens of its sides, where the last ones end, the number of the
 /// closure that it extends, if it extends one, and the last step of its path.
@@ -32,12 +32,14 @@ pub(crate) struct Link {
 }
 
 /// The closures so far, by their numbers from 0, with the tokens of their sides, and how many
-/// attempts were made.
+/// attempts were made; and what rules were renamed apart for them.
 #[derive(Drop)]
 pub(crate) struct Closures {
     pub tokens: Vec<Token>,
     pub links: Vec<Link>,
     pub attempts: u64,
+    /// The rules that were needed, renamed apart, by their numbers.
+    pub copies: Vec<Option<Rule>>,
 }
 
 /// The sides of a closure.
@@ -47,15 +49,17 @@ pub(crate) struct Sides {
     pub right: Term,
 }
 
-pub(crate) fn no_closures(alloc: Global) -> Closures
+pub(crate) fn no_closures(alloc: Global, copies: Vec<Option<Rule>>) -> Closures
     ensures none { closures_of result ≡ [] }
     ensures sound { (arities : List ℕ) → IsSound arities result }
     ensures attempts { result.attempts ≡ 0 }
+    ensures copies { result.copies ≡ copies }
 {
     Closures {
         tokens: Vec::new(alloc),
         links: Vec::new(alloc),
         attempts: 0,
+        copies,
     }
 }
 
@@ -79,6 +83,7 @@ impl Closures {
             → IsSound arities self.old → IsFit arities l → IsFit arities r
             → IsSound arities self.new) }
         ensures attempts { self.new.attempts ≡ self.old.attempts }
+        ensures copies { self.new.copies ≡ self.old.copies }
     {
         let left = self.tokens.len();
         self.tokens.extend_from_slice(&sides.left)?;
@@ -90,6 +95,40 @@ impl Closures {
             right,
             end,
             before,
+            step,
+        })?;
+        Ok(())
+    }
+
+    /// Adds a closure that extends none, and whose path is one step.
+    pub fn add_first(
+        &mut self,
+        left: &Term,
+        right: &Term,
+        step: PathStep,
+    ) -> Result<(), OutOfMemory>
+        requires sound { (arities : List ℕ) × IsSound arities self.old }
+        ensures added { OnOk result (closures_of self.new ≡ closures_of self.old ++ (record {
+          left = tree left.now;
+          right = tree right.now;
+          path = step ∷ [];
+        }) ∷ []) }
+        ensures sound { OnOk result ((arities : List ℕ) → IsSound arities self.old
+            → IsFit arities (tree left.now) → IsFit arities (tree right.now)
+            → IsSound arities self.new) }
+        ensures attempts { self.new.attempts ≡ self.old.attempts }
+        ensures copies { self.new.copies ≡ self.old.copies }
+    {
+        let start = self.tokens.len();
+        put_tokens(left, &mut self.tokens)?;
+        let middle = self.tokens.len();
+        put_tokens(right, &mut self.tokens)?;
+        let end = self.tokens.len();
+        self.links.push(Link {
+            left: start,
+            right: middle,
+            end,
+            before: None,
             step,
         })?;
         Ok(())

@@ -17,6 +17,13 @@ pub(crate) fn is_large_without(size: u64, part: &Term) -> bool
     room_after(part, room).is_some()
 }
 
+/// Whether a term has more nodes than a side of a new closure may have.
+pub(crate) fn is_large(t: &Term) -> bool
+    ensures { IsTrue result → 256 < size_of (tree t.now) }
+{
+    room_after(t, MOST_NODES as u64).is_none()
+}
+
 /// How many of so many nodes are left after those of a term. `None` where the term has more.
 fn room_after(t: &Term, room: u64) -> Option<u64>
     ensures some { IfSome result (λ left. left + size_of (tree t.now) ≡ room) }

@@ -3,6 +3,7 @@
 //! rewriting, 1987.)
 #![tactic(auto)]
 
+mod apart_rules;
 mod binding;
 mod clashing;
 mod closures;

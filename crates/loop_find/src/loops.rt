@@ -2,17 +2,17 @@
 ghost use Rattle.std.specs.Prelude.{◌≡◌, ◌<◌, IfOk};
 ghost use Rattle.trs_core.specs.View.{tree};
 ghost use Rattle.assign_search.specs.Continues.{Continues};
+ghost use Rattle.loop_find.specs.ApartRules.{AreCopies};
 ghost use Rattle.loop_find.specs.Closures.{rule_closures};
 ghost use Rattle.loop_find.specs.LoopRow.{IsLoopAnswer};
 ghost use Rattle.loop_find.specs.Links.{closures_of, IsSound};
 
+use crate::apart_rules::no_copies;
 use crate::closures::{Closures, no_closures};
 use crate::found::LoopFound;
 use crate::rule_loops::loop_of_rules;
-use crate::tokens::{SideTokens, term_tokens};
 use crate::trying::{Turn, expand};
 use assign_search::{Search, Stop};
-use crit_pairs::renamed_rules;
 use rewrite_core::PathStep;
 use std::alloc::Global;
 use trs_core::{OutOfMemory, Position, Trs};
@@ -39,11 +39,10 @@ pub fn find_loop<P: Stop>(
     if let Some(found) = loop_of_rules(alloc, trs)? {
         return Ok(Search::Found(found));
     }
-    let apart = renamed_rules(alloc, trs.rules())?;
     let mut closures = rules_as_closures(alloc, trs)?;
     let mut next = 0;
     while next < closures.links.len() {
-        match expand(alloc, trs, &apart, budget, next, &mut closures, stop)? {
+        match expand(alloc, trs, budget, next, &mut closures, stop)? {
             Turn::Next => next += 1,
             Turn::Found(found) => return Ok(Search::Found(found)),
             Turn::Spent => return Ok(Search::Spent),
@@ -62,18 +61,16 @@ fn rules_as_closures(alloc: Global, trs: &Trs) -> Result<Closures, OutOfMemory>
         closures_of closures ≡ rule_closures 0 trs.now.rules) }
     ensures sound { IfOk result (λ closures. IsSound trs.now.arities closures) }
     ensures attempts { IfOk result (λ closures. closures.attempts ≡ 0) }
+    ensures copies { IfOk result (λ closures. AreCopies trs.now.rules closures.copies.items) }
 {
-    let mut closures = no_closures(alloc);
+    let copies = no_copies(alloc, trs.rules().len())?;
+    let mut closures = no_closures(alloc, copies);
     for (k, rule) in trs.rules().iter().enumerate() {
         let step = PathStep {
             place: Position::new(alloc),
             rule: k as u32,
         };
-        let sides = SideTokens {
-            left: term_tokens(alloc, &rule.left)?,
-            right: term_tokens(alloc, &rule.right)?,
-        };
-        closures.add(&sides, None, step)?;
+        closures.add_first(&rule.left, &rule.right, step)?;
     }
     Ok(closures)
 }

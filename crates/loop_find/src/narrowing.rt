@@ -1,5 +1,6 @@
 //! Narrowing: a rule is applied to a most general instance of a term.
-ghost use Rattle.std.specs.Prelude.{◌≡◌, ◌<◌, Some, All, IfOk, MatchOption};
+ghost use Rattle.std.specs.Prelude.{◌≡◌, ◌<◌, ℕ, List, Some, All, IsTrue, IfOk, MatchOption};
+ghost use Rattle.trs_defs.specs.Tree.{Tree};
 ghost use Rattle.trs_defs.specs.Position.{subterm_at};
 ghost use Rattle.trs_defs.specs.System.{RewriteRule};
 ghost use Rattle.trs_core.specs.SystemLimits.{HasSmallVariables};
@@ -13,27 +14,42 @@ ghost use Rattle.loop_find.specs.Narrowed.{NarrowsTo, NarrowsNot, IsMade, IsLarg
 use crate::binding::{Binding, quick_bindings};
 use crate::clashing::clash;
 use crate::closures::Sides;
-use crate::counting::is_large_without;
+use crate::counting::{is_large, is_large_without};
 use crate::tokens::{SideTokens, term_tokens};
 use crate::unifying::narrow_by_unifier;
 use crate::writing::{write, write_replaced};
 use std::alloc::Global;
 use trs_core::{OutOfMemory, Rule, Term};
 
+/// Whether it is seen at once that the rule gives no small closure at a place of the right side,
+/// where `part` stands: symbols differ, or what is not replaced is too large, or what is put there.
+/// It takes no memory.
+pub(crate) fn is_refused(right_size: u64, part: &Term, rule: &Rule) -> bool
+    ensures { IsTrue result → (place : List ℕ) (left right : Tree)
+        → right_size ≡ stopped_size right → subterm_at place right ≡ Some (tree part.now)
+        → HasSmallVariables left → HasSmallVariables right
+        → NarrowsNot rule.now place left right }
+{
+    if clash(part, &rule.left) {
+        return true;
+    }
+    if is_large_without(right_size, part) {
+        return true;
+    }
+    is_large(&rule.right)
+}
+
 /// The sides of the closure that the rule, which is renamed apart, gives at a place of the right
-/// side, where `part` stands. `None` where there is none, or it would not be small. Where symbols
-/// differ, or the right side is too large without the part, it takes no memory; and mostly only
-/// what it gives.
+/// side, where `part` stands. `None` where there is none, or it would not be small. Mostly it takes
+/// only the memory of what it gives.
 pub(crate) fn narrow(
     alloc: Global,
     left: &Term,
     right: &Term,
-    right_size: u64,
     part: &Term,
     place: &[u8],
     apart: &Rule,
 ) -> Result<Option<SideTokens>, OutOfMemory>
-    requires size { right_size ≡ stopped_size (tree right.now) }
     requires there { subterm_at place.now (tree right.now) ≡ Some (tree part.now) }
     requires positive { All (λ n. 0 < n) place.now }
     requires left { HasSmallVariables (tree left.now) }
@@ -43,12 +59,6 @@ pub(crate) fn narrow(
         (NarrowsNot rule place.now (tree left.now) (tree right.now))
         (NarrowsTo rule place.now (tree left.now) (tree right.now))) }
 {
-    if clash(part, &apart.left) {
-        return Ok(None);
-    }
-    if is_large_without(right_size, part) {
-        return Ok(None);
-    }
     match quick_bindings(alloc, part, &apart.left)? {
         Some(found) => {
             let made = narrow_by(alloc, &found, left, right, place, &apart.right)?;

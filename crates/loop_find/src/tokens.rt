@@ -41,7 +41,7 @@ pub(crate) fn term_tokens(alloc: Global, t: &Term) -> Result<Vec<Token>, OutOfMe
 }
 
 /// Adds the tokens of a term. A list of 2^32 - 1 arguments is full.
-fn put_tokens(t: &Term, tokens: &mut Vec<Token>) -> Result<(), OutOfMemory>
+pub(crate) fn put_tokens(t: &Term, tokens: &mut Vec<Token>) -> Result<(), OutOfMemory>
     ensures { OnOk result (tokens.new.items ≡ tokens.old.items ++ tokens_of (tree t.now)) }
 {
     match t {

@@ -9,16 +9,16 @@ ghost use Rattle.assign_search.specs.Continues.{Continues};
 ghost use Rattle.loop_find.specs.Closures.{Closure, rule_closures, attempts_at, attempts_of};
 ghost use Rattle.loop_find.specs.Links.{closures_of, IsSound};
 ghost use Rattle.loop_find.specs.Tries.{Ends};
-ghost use Rattle.crit_pairs.specs.Apart.{AreApart};
+ghost use Rattle.loop_find.specs.ApartRules.{AreCopies};
 ghost use Rattle.loop_find.specs.Narrowed.{NarrowsTo};
 ghost use Rattle.loop_find.specs.Trials.{IsTrial, IsPart, Extended, one_attempt};
 
+use crate::apart_rules::narrow_with;
 use crate::closures::Closures;
 use crate::found::LoopFound;
-use crate::narrowing::narrow;
+use crate::narrowing::is_refused;
 use crate::tokens::SideTokens;
 use assign_search::Stop;
-use crit_pairs::ApartRule;
 use rewrite_core::PathStep;
 use std::alloc::Global;
 use trs_core::{OutOfMemory, Position, Term, Trs, systems_are_valid};
@@ -48,8 +48,6 @@ impl Turn {
 #[derive(Drop)]
 pub(crate) struct Trial<'a> {
     pub trs: &'a Trs,
-    /// The rules, renamed apart.
-    pub apart: &'a [ApartRule<'a>],
     pub number: usize,
     pub left: &'a Term,
     pub right: &'a Term,
@@ -63,24 +61,24 @@ pub(crate) struct Trial<'a> {
 pub(crate) fn expand<P: Stop>(
     alloc: Global,
     trs: &Trs,
-    apart: &[ApartRule],
     budget: u64,
     number: usize,
     closures: &mut Closures,
     stop: &mut P,
 ) -> Result<Turn, OutOfMemory>
-    requires apart { AreApart trs.now.rules apart.now }
     requires rules { (made : List Closure)
         × (closures_of closures.old ≡ rule_closures 0 trs.now.rules ++ made) }
     requires sound { IsSound trs.now.arities closures.old }
     requires there { number < length closures.old.links.items }
     requires within { closures.old.attempts ≤ budget }
+    requires copies { AreCopies trs.now.rules closures.old.copies.items }
     ensures turn { IfOk result (λ turn. (c : Closure)
         → slice_get (closures_of closures.old) number ≡ Some c
         → Ends trs.now.rules budget (attempts_of trs.now.rules c (symbol_places c.right))
         closures.old closures.new (P.stops stop.old < P.stops stop.new) turn) }
     ensures sound { OnOk result (IsSound trs.now.arities closures.new) }
     ensures within { OnOk result (closures.new.attempts ≤ budget) }
+    ensures copies { OnOk result (AreCopies trs.now.rules closures.new.copies.items) }
     ensures continues { Continues P.Stop stop.old stop.new }
 {
     systems_are_valid(trs);
@@ -88,7 +86,6 @@ pub(crate) fn expand<P: Stop>(
         Some(rule) => {
             let trial = Trial {
                 trs,
-                apart,
                 number,
                 left: &rule.left,
                 right: &rule.right,
@@ -101,7 +98,6 @@ pub(crate) fn expand<P: Stop>(
             let sides = closures.sides(alloc, number)?;
             let trial = Trial {
                 trs,
-                apart,
                 number,
                 left: &sides.left,
                 right: &sides.right,
@@ -194,7 +190,7 @@ fn try_rules<P: Stop>(
     ensures trial { IfOk result (λ _. IsTrial trial.now closures.new) }
     ensures continues { Continues P.Stop stop.old stop.new }
 {
-    for k in 0..trial.apart.len() {
+    for k in 0..trial.trs.rules().len() {
         let turn = try_rule(alloc, trial, part, place, k, closures, stop)?;
         if !turn.is_next() {
             return Ok(turn);
@@ -215,7 +211,7 @@ fn try_rule<P: Stop>(
 ) -> Result<Turn, OutOfMemory>
     requires trial { IsTrial trial.now closures.old }
     requires part { IsPart trial.now place.now (tree part.now) }
-    requires rule { k < length trial.now.apart.now }
+    requires rule { k < length trial.now.trs.now.rules }
     ensures turn { IfOk result (λ turn. (c : Closure)
         → slice_get (closures_of closures.old) trial.now.number ≡ Some c
         → Ends trial.now.trs.now.rules trial.now.budget (one_attempt c place.now k)
@@ -230,15 +226,10 @@ fn try_rule<P: Stop>(
         return Ok(Turn::Stopped);
     }
     closures.attempts += 1;
-    match narrow(
-        alloc,
-        trial.left,
-        trial.right,
-        trial.right_size,
-        part,
-        place,
-        trial.apart[k].rule(),
-    )? {
+    if is_refused(trial.right_size, part, &trial.trs.rules()[k]) {
+        return Ok(Turn::Next);
+    }
+    match narrow_with(alloc, trial, part, place, k, &mut closures.copies)? {
         None => Ok(Turn::Next),
         Some(sides) => {
             let turn = extend(alloc, trial, place, k, &sides, closures)?;

@@ -9,6 +9,7 @@ loop-next-init g c = record {
   walked = walk_begins c.args.trs.now.rules c.in_ok-closures.closures c.in_ok-closures.ensures.rules c.in_ok-closures.ensures.attempts (rw c.in_default.is at c.in_ok-found.ensures);
   sound = c.in_ok-closures.ensures.sound;
   within = omega (arith, c.in_ok-closures.ensures.attempts);
+  copies = c.in_ok-closures.ensures.copies;
   continues = continues_itself g.P.Stop c.args.stop.now;
 }
 
@@ -47,6 +48,7 @@ loop-next-preserved g c =
           ((rw c.in-Next.is at c.in_ok-expand.ensures.turn) here.0 here.1);
       sound = c.in_ok-expand.ensures.sound;
       within = c.in_ok-expand.ensures.within;
+      copies = c.in_ok-expand.ensures.copies;
       continues = continues_on c.loop-next.invariant.continues c.expand.ensures.continues;
     }
 

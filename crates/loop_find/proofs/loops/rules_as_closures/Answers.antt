@@ -4,6 +4,7 @@ use Rattle.trs_defs.specs.System.{RewriteRule}
 use Rattle.trs_core.specs.View.{tree}
 use Rattle.loop_find.specs.Closures.{rule_closure}
 use Rattle.loop_find.specs.Links.{closures_of, IsFit}
+use Rattle.loop_find.proofs.Copies.{no_copy}
 use Rattle.loop_find.proofs.LoopSteps.{rule_fit}
 use Rattle.loop_find.proofs.RuleClosures.{AreAhead, none_ahead, one_more_ahead, all_ahead, closure_of_rule}
 use Rattle.loop_find.proofs.loops.rules_as_closures.Goals as goal
@@ -13,6 +14,10 @@ loop-k-init c = record {
   rules = none_ahead c.args.trs.now.rules _ c.no_closures-closures.ensures.none;
   sound = c.no_closures-closures.ensures.sound c.args.trs.now.arities;
   attempts = c.no_closures-closures.ensures.attempts;
+  copies =
+      let rules = c.args.trs.now.rules in
+      let count : length c.in_ok-copies.copies.items ≡ length rules = c.in_ok-copies.ensures.count ∙ ap length c.rules.ensures.rules in
+      rw c.no_closures-closures.ensures.copies (no_copy rules c.in_ok-copies.copies.items count c.in_ok-copies.ensures.none);
 }
 
 pub loop-k-preserved : goal.loop-k-preserved
@@ -24,14 +29,15 @@ loop-k-preserved c =
     let fit = rule_fit c.args.trs.now c.rules-rule-items.ensures.valid c.rules-rule-items.ensures.variables c.loop-k.k c.rule-item.result at in
     let l : tree c.rule.inside.left ≡ c.rule-item.result.left = ap (λ (r : RewriteRule). r.left) c.rule.view_is in
     let r : tree c.rule.inside.right ≡ c.rule-item.result.right = ap (λ (r : RewriteRule). r.right) c.rule.view_is in
-    let added : closures_of c.add.new.self ≡ closures_of c.loop-k.closures ++ rule_closure c.loop-k.k c.rule-item.result ∷ [] =
-    c.in_ok-add.ensures.added (tree c.rule.inside.left) (tree c.rule.inside.right) (record { left_is = c.in_ok-term_tokens.ensures; right_is = c.in_ok-term_tokens-2.ensures })
+    let added : closures_of c.add_first.new.self ≡ closures_of c.loop-k.closures ++ rule_closure c.loop-k.k c.rule-item.result ∷ [] =
+    c.in_ok-add_first.ensures.added
     ∙ ap (λ x. closures_of c.loop-k.closures ++ x ∷ []) (closure_of_rule (tree c.rule.inside.left) (tree c.rule.inside.right) c.rule-item.result c.loop-k.k c.new.result c.rule.view_is c.new.ensures) in
     record {
       rules = subst (AreAhead rules (c.loop-k.k + 1)) (sym added) (one_more_ahead rules c.loop-k.k c.rule-item.result at (closures_of c.loop-k.closures) c.loop-k.invariant.rules);
-      sound = c.in_ok-add.ensures.sound c.args.trs.now.arities (tree c.rule.inside.left) (tree c.rule.inside.right) (record { left_is = c.in_ok-term_tokens.ensures; right_is = c.in_ok-term_tokens-2.ensures }) c.loop-k.invariant.sound
+      sound = c.in_ok-add_first.ensures.sound c.args.trs.now.arities c.loop-k.invariant.sound
           (subst (IsFit c.args.trs.now.arities) (sym l) fit.0) (subst (IsFit c.args.trs.now.arities) (sym r) fit.1);
-      attempts = c.in_ok-add.ensures.attempts ∙ c.loop-k.invariant.attempts;
+      attempts = c.in_ok-add_first.ensures.attempts ∙ c.loop-k.invariant.attempts;
+      copies = rw c.in_ok-add_first.ensures.copies c.loop-k.invariant.copies;
     }
 
 pub returns-clause-rules : goal.returns-clause-rules

@@ -1,19 +1,8 @@
-use Rattle.std.proofs.Common.{arith, refl}
 use Rattle.trs_core.specs.View.{tree}
 use Rattle.confluence_theory.proofs.Apart.{part_variable}
 use Rattle.loop_find.specs.Bindings.{resolved}
-use Rattle.loop_find.proofs.Narrowings.{not_unified, large_without, made_answer}
+use Rattle.loop_find.proofs.Narrowings.{made_answer}
 use Rattle.loop_find.proofs.narrowing.narrow.Goals as goal
-
-pub returns-then-clash : goal.returns-then-clash
-returns-then-clash c = λ rule is.
-    not_unified (tree c.apart.inside.left) (tree c.apart.inside.right) c.args.apart.now rule c.apart.view_is is c.args.place.now (tree c.args.left.now) (tree c.args.right.now) (tree c.args.part.now)
-    c.requires.there c.requires.left c.requires.right (λ σ e. c.if-clash.ensures refl σ σ e)
-
-pub returns-then-is_large_without : goal.returns-then-is_large_without
-returns-then-is_large_without c = λ rule is.
-    large_without rule c.args.place.now (tree c.args.left.now) (tree c.args.right.now) (tree c.args.part.now) c.requires.there
-    (let counted = c.requires.size in let more = c.if-is_large_without.ensures refl in omega (arith, more, counted))
 
 pub quick_bindings-requires : goal.quick_bindings-requires
 quick_bindings-requires c = λ v k. c.requires.right v (part_variable c.args.place.now (tree c.args.right.now) (tree c.args.part.now) v c.requires.there k)

@@ -50,7 +50,7 @@ on_again : (c : After-loop_of) → IsTrial c.args.trial.now c.add.new.self
 on_again c =
     let n = c.requires.narrowed in
     trial_on c.args.trial.now c.args.closures.now c.requires.trial c.args.place.now c.args.k n.0 n.1 c.args.sides.now n.2 c.add.new.self _
-    (placed _ _ c.args.k c.in_ok-at.ensures) (c.in_ok-add.ensures.added n.2.new_left n.2.new_right n.2.tokens) (sound_on c) c.in_ok-add.ensures.attempts
+    (placed _ _ c.args.k c.in_ok-at.ensures) (c.in_ok-add.ensures.added n.2.new_left n.2.new_right n.2.tokens) (sound_on c) c.in_ok-add.ensures.attempts c.in_ok-add.ensures.copies
 
 pub returns-in-None-clause-trial : goal.returns-in-None-clause-trial
 returns-in-None-clause-trial c = on_again (goal.at.returns-in-None-clause-trial c).After-loop_of
