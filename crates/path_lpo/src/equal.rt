@@ -16,11 +16,26 @@ pub(crate) fn are_equal(a: &Term, b: &Term, room: &mut u64) -> bool
             }
             *room -= 1;
             for (i, x) in fs.items.iter().enumerate() {
-                if !are_equal(x, &gs.items[i], room) {
+                let y = &gs.items[i];
+                if !are_one_leaf(x, y) && !are_equal(x, y, room) {
                     return false;
                 }
             }
             true
+        }
+        _ => false,
+    }
+}
+
+/// Whether two terms are the same variable, or the same constant.
+#[inline(always)]
+fn are_one_leaf(a: &Term, b: &Term) -> bool
+    ensures { IsTrue result → tree a.now ≡ tree b.now }
+{
+    match (a, b) {
+        (Term::Var(x), Term::Var(y)) => *x == *y,
+        (Term::App(f, fs), Term::App(g, gs)) => {
+            *f == *g && fs.items.is_empty() && gs.items.is_empty()
         }
         _ => false,
     }
