@@ -11,10 +11,6 @@ use Rattle.crit_pairs.specs.declared.skeleton.Skeleton.{Skeleton}
 abbrev pub renamed_apart : RewriteRule → RewriteRule
 renamed_apart rule = record { left = shifted 65536 rule.left; right = shifted 65536 rule.right }
 
--- these are the rules, each renamed apart
-abbrev pub AreApart : List RewriteRule → List RewriteRule → Type 0
-AreApart rules apart = apart ≡ map renamed_apart rules
-
 -- these are the left sides of the rules, each renamed apart
 abbrev pub AreApartLefts : List RewriteRule → List Tree → Type 0
 AreApartLefts rules lefts = lefts ≡ map (λ (r : RewriteRule). (renamed_apart r).left) rules
