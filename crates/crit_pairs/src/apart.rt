@@ -14,7 +14,7 @@ ghost use Rattle.crit_pairs.specs.EqualLefts.{left_side, NameEqualLefts};
 use crate::apart_left::{ApartLeft, apart_lefts};
 use crate::equal_lefts::equal_lefts;
 use crate::equal_rules::EqualRules;
-use crate::occurrences::Occurrences;
+use crate::occurrences::{Occurrences, OccurrencesInBoth};
 use crate::side_sizes::{SideSize, side_sizes};
 use crate::skeleton::Skeleton;
 use crate::whole_sides::{WholeSide, whole_sides};
@@ -180,8 +180,8 @@ impl<'a> RulesApart<'a> {
         self.equal.pairs(alloc)
     }
 
-    /// How often variables occur in rules `i` and `j` together.
-    pub fn occurrences(&self, i: usize, j: usize) -> u64 {
+    /// How often variables occur in rules `i` and `j`, the inner and the outer one.
+    pub fn occurrences(&self, i: usize, j: usize) -> OccurrencesInBoth {
         self.occurrences.in_both(i, j)
     }
 

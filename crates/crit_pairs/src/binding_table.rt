@@ -2,11 +2,13 @@
 ghost use Rattle.std.specs.Prelude.{◌≡◌, IsTrue};
 ghost use Rattle.trs_defs.specs.Size.{size_of};
 ghost use Rattle.trs_core.specs.View.{tree};
+ghost use Rattle.trs_unify.specs.Bindings.{stopped_size};
 ghost use Rattle.crit_pairs.specs.Slots.{ArePlaced, bound_variable};
 
+use crate::occurrences::OccurrencesInBoth;
 use crate::slots::{note_place, slot};
 use std::alloc::Global;
-use trs_core::{OutOfMemory, Term};
+use trs_core::{MOST_VARIABLES, OutOfMemory, Term};
 
 /// For how many bindings room is made at once.
 const ROOM: usize = 16;
@@ -132,21 +134,38 @@ impl<'a> Bindings<'a> {
         total
     }
 
-    /// The most nodes that the instance of a variable has.
-    pub fn largest(&self) -> u64 {
-        let mut largest: u64 = 1;
+    /// The most nodes that instances of all occurrences of variables have.
+    pub fn most_steps(&self, occurrences: OccurrencesInBoth) -> u64 {
+        let mut inner: u64 = 1;
+        let mut outer: u64 = 1;
         for binding in &self.list {
-            if !is_one_node(binding.term) {
-                largest = largest.max(binding.term.size());
+            if binding.variable < MOST_VARIABLES {
+                outer = outer.max(bound_size(binding.term));
+            } else {
+                inner = inner.max(bound_size(binding.term));
             }
         }
-        largest.saturating_add(self.nodes_put_in)
+        let in_inner = inner.saturating_add(self.nodes_put_in);
+        let in_outer = outer.saturating_add(self.nodes_put_in);
+        let steps = occurrences.outer.saturating_mul(in_outer);
+        steps.saturating_add(occurrences.inner.saturating_mul(in_inner))
     }
+}
+
+/// The number of nodes of a term that a variable is bound to.
+#[inline(always)]
+pub(crate) fn bound_size(bound: &Term) -> u64
+    ensures { result ≡ stopped_size (tree bound.now) }
+{
+    if is_one_node(bound) {
+        return 1;
+    }
+    bound.size()
 }
 
 /// Whether a term has one node. Most that variables are bound to have.
 #[inline(always)]
-pub(crate) fn is_one_node(t: &Term) -> bool
+fn is_one_node(t: &Term) -> bool
     ensures { IsTrue result → size_of (tree t.now) ≡ 1 }
 {
     match t {

@@ -10,6 +10,21 @@ pub(crate) struct Occurrences {
     counts: Vec<u64>,
 }
 
+/// How often variables occur in the sides of two rules that may overlap.
+#[derive(Clone, Copy)]
+pub(crate) struct OccurrencesInBoth {
+    pub inner: u64,
+    pub outer: u64,
+}
+
+impl OccurrencesInBoth {
+    /// As many as can be, where none is counted.
+    pub const MOST: OccurrencesInBoth = OccurrencesInBoth {
+        inner: u64::MAX,
+        outer: u64::MAX,
+    };
+}
+
 impl Occurrences {
     /// Those in no rules. It takes no memory.
     pub fn new(alloc: Global) -> Occurrences {
@@ -41,11 +56,14 @@ impl Occurrences {
         Ok(())
     }
 
-    /// How often variables occur in two rules together.
-    pub fn in_both(&self, i: usize, j: usize) -> u64 {
+    /// How often variables occur in rules `i` and `j`, the inner and the outer one.
+    pub fn in_both(&self, i: usize, j: usize) -> OccurrencesInBoth {
         match (self.counts.get(i), self.counts.get(j)) {
-            (Some(inner), Some(outer)) => inner.saturating_add(*outer),
-            _ => u64::MAX,
+            (Some(inner), Some(outer)) => OccurrencesInBoth {
+                inner: *inner,
+                outer: *outer,
+            },
+            _ => OccurrencesInBoth::MOST,
         }
     }
 }

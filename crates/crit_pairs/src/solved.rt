@@ -9,7 +9,7 @@ ghost use Rattle.trs_unify.specs.Renamed.{IsRenamed};
 ghost use Rattle.crit_pairs.specs.Meeting.{put_in, solution};
 ghost use Rattle.crit_pairs.specs.Sides.{IsDistinct};
 
-use crate::binding_table::{Bindings, is_one_node};
+use crate::binding_table::{Bindings, bound_size};
 use crate::names::Names;
 use std::alloc::Global;
 use trs_core::{Args, GREATEST_DEPTH, MOST_NODES, OutOfMemory, Term};
@@ -58,17 +58,6 @@ pub(crate) fn size(bindings: &Bindings, t: &Term, levels: u32) -> u64
             total
         }
     }
-}
-
-/// The number of nodes of a term that a variable is bound to.
-#[inline(always)]
-fn bound_size(bound: &Term) -> u64
-    ensures { result ≡ stopped_size (tree bound.now) }
-{
-    if is_one_node(bound) {
-        return 1;
-    }
-    bound.size()
 }
 
 /// The number of nodes on the longest branch of an instance. It stands still at the last `u64`.

@@ -3,6 +3,7 @@ ghost use Rattle.std.specs.Prelude.{◌≡◌, IfOk};
 ghost use Rattle.trs_core.specs.View.{tree};
 ghost use Rattle.crit_pairs.specs.PeakList.{IsListed};
 
+use crate::occurrences::OccurrencesInBoth;
 use crate::overlapping::overlap;
 use crate::sides::BuiltSides;
 use confluence_theory::overlaps_unify;
@@ -26,8 +27,9 @@ pub fn top_of<T: Top>(alloc: Global, trs: &Trs, peak: &Peak<T>) -> Result<Term, 
         unreachable!();
     };
     let mut places = Vec::new(alloc);
-    // No variable is counted: the largest number takes the way that suits all terms.
-    let found = overlap(alloc, part, &inner_left, u64::MAX, &mut places)?;
+    // No variable is counted: the largest numbers take the way that suits all terms.
+    let most = OccurrencesInBoth::MOST;
+    let found = overlap(alloc, part, &inner_left, most, &mut places)?;
     let Some(unifier) = found else {
         overlaps_unify();
         unreachable!();
