@@ -27,6 +27,9 @@ use Rattle.conf_find.specs.ReachedSides.{IsShortReachOf, AreReached, AreMarksOf}
 use Rattle.conf_find.specs.declared.reached_sides.ReachedSides.{ReachedSides}
 use Rattle.term_pool.specs.Crossing.{AreKnownIds}
 use Rattle.term_pool.specs.declared.crossing.KnownIds.{KnownIds}
+use Rattle.term_pool.specs.Known.{IsKnown}
+use Rattle.term_pool.specs.declared.known.Known.{Known}
+use Rattle.term_pool.proofs.KnownLaws.{known_on}
 use Rattle.conf_find.proofs.ForkPeaks.{listed_there}
 
 -- what narrow terms reach is narrow
@@ -56,44 +59,46 @@ reach_still rules a b id found extends h =
       below = All-weaker (λ e. e.0 < length a) (λ e. e.0 < length b) (λ x k. omega (arith, k, extends.longer)) found h.below;
     }
 
-abbrev sides_of : List Tree → KnownIds → KeptLists → ReachedSides
-sides_of pool known reached = record { pool = pool; known = known; reached = reached }
+abbrev sides_of : List Tree → KnownIds → Known → KeptLists → ReachedSides
+sides_of pool known_ids known reached = record { pool = pool; known_ids = known_ids; known = known; reached = reached }
 
 -- no sides
-pub none_reached : (rules : List RewriteRule) (from : List Tree) (sides : ReachedSides) → ((id : ℕ) → list_of sides.reached id ≡ None) → AreKnownIds from sides.pool sides.known → AreReached rules from sides
-none_reached rules from sides none known = record { reached = none_kept (IsShortReachOf rules sides.pool) sides.reached none; known = known }
+pub none_reached : (rules : List RewriteRule) (from : List Tree) (sides : ReachedSides) → ((id : ℕ) → list_of sides.reached id ≡ None) → AreKnownIds from sides.pool sides.known_ids → IsKnown rules sides.pool sides.known
+    → AreReached rules from sides
+none_reached rules from sides none ids known = record { reached = none_kept (IsShortReachOf rules sides.pool) sides.reached none; ids = ids; known = known }
 
-module _ (rules : List RewriteRule) (from : List Tree) (old : ReachedSides) (sides : AreReached rules from old) (pool : List Tree) (known : KnownIds) (are_known : AreKnownIds from pool known) (extends : Extends old.pool pool) where
+module _ (rules : List RewriteRule) (from : List Tree) (old : ReachedSides) (sides : AreReached rules from old) (pool : List Tree) (known_ids : KnownIds) (are_known : AreKnownIds from pool known_ids) (extends : Extends old.pool pool) where
   -- the pool has grown
-  pub reached_still : AreReached rules from (sides_of pool known old.reached)
-  reached_still = record { reached = of_weaker_kind (IsShortReachOf rules old.pool) (IsShortReachOf rules pool) old.reached (λ id found. reach_still rules old.pool pool id found extends) sides.reached; known = are_known }
+  pub reached_still : AreReached rules from (sides_of pool known_ids old.known old.reached)
+  reached_still = record { reached = of_weaker_kind (IsShortReachOf rules old.pool) (IsShortReachOf rules pool) old.reached (λ id found. reach_still rules old.pool pool id found extends) sides.reached; ids = are_known; known = known_on rules old.pool pool old.known extends sides.known }
 
   -- what one more side reaches is listed
-  pub one_more_reached : (reached : KeptLists) (before : List Tree) (id : ℕ) (found : List Reached) (t : Tree) → IsPut id found old.reached reached → Extends before pool → StandsFor before id t
-      → IsShortReach rules (tree_at before id) (listed_at pool found) → All (λ e. e.0 < length pool) found → AreReached rules from (sides_of pool known reached)
-  one_more_reached reached before id found t put grown is reach below =
+  pub one_more_reached : (known : Known) (reached : KeptLists) (before : List Tree) (id : ℕ) (found : List Reached) (t : Tree) → IsPut id found old.reached reached → Extends before pool → StandsFor before id t
+      → IsShortReach rules (tree_at before id) (listed_at pool found) → All (λ e. e.0 < length pool) found → IsKnown rules pool known
+      → AreReached rules from (sides_of pool known_ids known reached)
+  one_more_reached known reached before id found t put grown is reach below right =
       let Q : Tree → Type 0 = λ u. IsShortReach rules u (listed_at pool found) in
       let one : IsShortReachOf rules pool id found = record {
         there = stands_within pool id t (grown.kept id t is);
         reach = subst Q (sym (same_tree_at before pool grown id (stands_within before id t is))) reach;
         below = below;
       } in
-      record { reached = one_more_kept (IsShortReachOf rules pool) old.reached reached id found reached_still.reached put one; known = are_known }
+      record { reached = one_more_kept (IsShortReachOf rules pool) old.reached reached id found reached_still.reached put one; ids = are_known; known = right }
 
 module _ {A : Type 0} (has_mark : A → ℕ → Type 0) (of_pool : List RewriteRule → List Tree → A → Type 0) (rules : List RewriteRule) where
   -- no sides and no marks
   pub none_marked : (sides : ReachedSides) (marks : A) → ((id : ℕ) → list_of sides.reached id ≡ None) → of_pool rules sides.pool marks → AreMarksOf has_mark of_pool rules sides marks
   none_marked sides marks none are = record { are = are; each = none_kept (λ id found. AreMarkedIds has_mark marks found) sides.reached none }
 
-  module _ (old : ReachedSides) (marks : A) (marked : AreMarksOf has_mark of_pool rules old marks) (pool : List Tree) (known : KnownIds) where
+  module _ (old : ReachedSides) (marks : A) (marked : AreMarksOf has_mark of_pool rules old marks) (pool : List Tree) (known_ids : KnownIds) where
     -- the pool has grown
-    pub marks_still : Lasts of_pool → Extends old.pool pool → AreMarksOf has_mark of_pool rules (sides_of pool known old.reached) marks
+    pub marks_still : Lasts of_pool → Extends old.pool pool → AreMarksOf has_mark of_pool rules (sides_of pool known_ids old.known old.reached) marks
     marks_still lasts extends = record { are = lasts rules old.pool pool marks extends marked.are; each = marked.each }
 
     -- one more list is marked
-    pub one_more_marked : (new : A) (reached : KeptLists) (id : ℕ) (found : List Reached) → ((i : ℕ) → has_mark marks i → has_mark new i) → of_pool rules pool new
-        → IsPut id found old.reached reached → AreMarkedIds has_mark new found → AreMarksOf has_mark of_pool rules (sides_of pool known reached) new
-    one_more_marked new reached id found still are put these =
+    pub one_more_marked : (known : Known) (new : A) (reached : KeptLists) (id : ℕ) (found : List Reached) → ((i : ℕ) → has_mark marks i → has_mark new i) → of_pool rules pool new
+        → IsPut id found old.reached reached → AreMarkedIds has_mark new found → AreMarksOf has_mark of_pool rules (sides_of pool known_ids known reached) new
+    one_more_marked known new reached id found still are put these =
         let before : AreOf (λ i es. AreMarkedIds has_mark new es) old.reached =
         of_weaker_kind (λ i es. AreMarkedIds has_mark marks es) (λ i es. AreMarkedIds has_mark new es) old.reached
         (λ i es. All-weaker (λ (e : Reached). has_mark marks e.0) (λ (e : Reached). has_mark new e.0) (λ x k. still x.0 k) es) marked.each in

@@ -7,13 +7,14 @@ ghost use Rattle.join_find.specs.Sides.{IsSide};
 ghost use Rattle.join_find.specs.KeptLists.{list_of};
 ghost use Rattle.conf_find.specs.ReachedSides.{AreReached, AreMarksOf};
 ghost use Rattle.term_pool.specs.Crossing.{AreKnownIds};
+ghost use Rattle.term_pool.specs.Known.{IsKnown};
 
 use crate::marks::{Marks, mark_all};
 use crate::reaching::reach;
 use join_find::KeptLists;
 use rewrite_core::PathStep;
 use std::alloc::Global;
-use term_pool::{KnownIds, Pool, RulesByRoot};
+use term_pool::{Known, KnownIds, Pool, RulesByRoot};
 use trs_core::OutOfMemory;
 
 /// The most ids that are kept from one peak to the next.
@@ -26,7 +27,10 @@ const MOST_KEPT_BYTES: u64 = 67_108_864;
 #[derive(Drop)]
 pub(crate) struct ReachedSides {
     pool: Pool,
-    known: KnownIds,
+    /// The ids of sides, by those that they have in another pool.
+    known_ids: KnownIds,
+    /// What was found out about ids of the pool.
+    known: Known,
     reached: KeptLists,
 }
 
@@ -34,11 +38,13 @@ impl ReachedSides {
     /// No sides. It takes no memory.
     pub(crate) fn new(alloc: Global) -> ReachedSides
         ensures lists { (id : ℕ) → list_of result.reached id ≡ None }
-        ensures known { (from : List Tree) → AreKnownIds from result.pool result.known }
+        ensures ids { (from : List Tree) → AreKnownIds from result.pool result.known_ids }
+        ensures known { (rules : List RewriteRule) → IsKnown rules result.pool result.known }
     {
         ReachedSides {
             pool: Pool::new(alloc),
-            known: KnownIds::new(alloc),
+            known_ids: KnownIds::new(alloc),
+            known: Known::new(alloc),
             reached: KeptLists::new(alloc),
         }
     }
@@ -67,11 +73,11 @@ impl ReachedSides {
         ensures kept { OnOk result (Extends self.old.pool self.new.pool) }
     {
         M::last();
-        let id = self.pool.take_over(alloc, from, side, &mut self.known)?;
+        let id = self.pool.take_over(alloc, from, side, &mut self.known_ids)?;
         if self.reached.has(id) {
             return Ok(id);
         }
-        let list = reach(alloc, &mut self.pool, by_root, id)?;
+        let list = reach(alloc, &mut self.pool, by_root, id, &mut self.known)?;
         mark_all(alloc, &self.pool, by_root, &list, marks)?;
         self.reached.put(id, list)?;
         Ok(id)

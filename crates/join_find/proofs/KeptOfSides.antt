@@ -146,9 +146,9 @@ module _ (rules : List RewriteRule) (old : ReachedSides) (sides : AreReached rul
     grown_still near none = record { reached = reaches_still; near = none_kept (IsNearOf rules pool) near none; known = known_still }
 
     -- what one more side reaches is listed
-    pub one_more_reached : (reached near : KeptLists) (id : ℕ) (found : List Reached) → ((i : ℕ) → list_of near i ≡ None) → IsPut id found old.reached reached
-        → id < length old.pool → IsReach rules (tree_at old.pool id) (listed_at pool found) → All (λ e. e.0 < length pool) found → AreReached rules (sides_of pool known_ids old.known reached near)
-    one_more_reached reached near id found none put there reach below =
+    pub one_more_reached : (known : Known) (reached near : KeptLists) (id : ℕ) (found : List Reached) → ((i : ℕ) → list_of near i ≡ None) → IsPut id found old.reached reached
+        → id < length old.pool → IsReach rules (tree_at old.pool id) (listed_at pool found) → All (λ e. e.0 < length pool) found → IsKnown rules pool known → AreReached rules (sides_of pool known_ids known reached near)
+    one_more_reached known reached near id found none put there reach below right =
         let Q : Tree → Type 0 = λ t. IsReach rules t (listed_at pool found) in
         let is : IsReachOf rules pool id found = record {
           there = omega (arith, extends.longer, there);
@@ -158,7 +158,7 @@ module _ (rules : List RewriteRule) (old : ReachedSides) (sides : AreReached rul
         record {
           reached = one_more_kept (IsReachOf rules pool) old.reached reached id found reaches_still put is;
           near = none_kept (IsNearOf rules pool) near none;
-          known = known_still;
+          known = right;
         }
 
 -- ---- answers

@@ -166,7 +166,7 @@ impl ReachedSides {
         if self.reached.has(id) {
             return Ok(());
         }
-        let list = reach(alloc, &mut self.pool, by_root, id)?;
+        let list = reach(alloc, &mut self.pool, by_root, id, &mut self.known)?;
         self.near = KeptLists::new(alloc);
         self.reached.put(id, list)
     }

@@ -1,13 +1,14 @@
 //! What the sides of a peak reach.
-ghost use Rattle.std.specs.Prelude.{◌<◌, All, length, IfOk};
+ghost use Rattle.std.specs.Prelude.{◌<◌, All, length, IfOk, OnOk};
 ghost use Rattle.term_pool.specs.Pooled.{Extends, tree_at};
 ghost use Rattle.term_pool.specs.ListedIds.{listed_at};
+ghost use Rattle.term_pool.specs.Known.{IsKnown};
 ghost use Rattle.join_find.specs.NewmanRow.{IsReach};
 ghost use Rattle.join_find.specs.ReachedSides.{IsNarrowAt};
 
 use rewrite_core::PathStep;
 use std::alloc::Global;
-use term_pool::{Pool, RulesByRoot};
+use term_pool::{Known, Pool, RulesByRoot};
 use trs_core::OutOfMemory;
 
 const MOST_STEPS: u32 = 16;
@@ -17,17 +18,21 @@ const MOST_TERMS: u32 = 256;
 const MOST_NODES: u64 = 4_096;
 
 /// The terms that the term of an id reaches, in up to 16 steps, up to 256 of up to 4,096 nodes.
+/// What is found out of redexes is added to what is known, for later calls.
 pub(crate) fn reach(
     alloc: Global,
     pool: &mut Pool,
     by_root: &RulesByRoot,
     id: u32,
+    known: &mut Known,
 ) -> Result<Vec<(u32, Vec<PathStep>)>, OutOfMemory>
     requires narrow { IsNarrowAt pool.old id }
+    requires known { IsKnown by_root.now.rules pool.old known.old }
     ensures list { IfOk result (λ found.
         IsReach by_root.now.rules (tree_at pool.old id) (listed_at pool.new found.items)) }
     ensures there { IfOk result (λ found. All (λ e. e.0 < length pool.new) found.items) }
+    ensures known { OnOk result (IsKnown by_root.now.rules pool.new known.new) }
     ensures kept { Extends pool.old pool.new }
 {
-    pool.reach_by_root(alloc, by_root, id, MOST_STEPS, MOST_TERMS, MOST_NODES)
+    pool.reach_knowing(alloc, by_root, id, MOST_STEPS, MOST_TERMS, MOST_NODES, known)
 }

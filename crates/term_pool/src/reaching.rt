@@ -83,8 +83,37 @@ impl Pool {
         ensures few { length self.new ≤ length self.old + count * size }
         ensures unchanged { IfErr result (λ _. self.new ≡ self.old) }
     {
+        let mut known = Known::new(alloc);
+        self.reach_knowing(alloc, by_root, id, depth, count, size, &mut known)
+    }
+
+    /// The same list, and what is found out on the way is added to what is known. Where memory or
+    /// the ids run out, what is known may be of ids that are released.
+    pub fn reach_knowing(
+        &mut self,
+        alloc: Global,
+        by_root: &RulesByRoot,
+        id: u32,
+        depth: u32,
+        count: u32,
+        size: u64,
+        known: &mut Known,
+    ) -> Result<Vec<(u32, Vec<PathStep>)>, OutOfMemory>
+        requires there { id < length self.old }
+        requires narrow { IsNarrow (tree_at self.old id) }
+        requires known { IsKnown by_root.now.rules self.old known.old }
+        ensures list { IfOk result (λ found. IsReachList by_root.now.rules (tree_at self.old id)
+            depth count size (listed_at self.new found.items)) }
+        ensures there { IfOk result (λ found. All (λ e. e.0 < length self.new) found.items) }
+        ensures follow { IfOk result (λ found. (e : Listed) → In e (listed_at self.new found.items)
+            → Follows by_root.now.rules e.path (tree_at self.old id) e.term) }
+        ensures known { OnOk result (IsKnown by_root.now.rules self.new known.new) }
+        ensures kept { Extends self.old self.new }
+        ensures few { length self.new ≤ length self.old + count * size }
+        ensures unchanged { IfErr result (λ _. self.new ≡ self.old) }
+    {
         let mark = self.mark();
-        match self.search(alloc, by_root, id, depth, count, size) {
+        match self.search(alloc, by_root, id, depth, count, size, known) {
             Ok(found) => Ok(found),
             Err(e) => {
                 self.release(mark);
@@ -102,14 +131,17 @@ impl Pool {
         depth: u32,
         count: u32,
         size: u64,
+        known: &mut Known,
     ) -> Result<Vec<(u32, Vec<PathStep>)>, OutOfMemory>
         requires there { id < length self.old }
         requires narrow { IsNarrow (tree_at self.old id) }
+        requires known { IsKnown by_root.now.rules self.old known.old }
         ensures list { IfOk result (λ found. IsReachList by_root.now.rules (tree_at self.old id)
             depth count size (listed_at self.new found.items)) }
         ensures there { IfOk result (λ found. All (λ e. e.0 < length self.new) found.items) }
         ensures follow { IfOk result (λ found. (e : Listed) → In e (listed_at self.new found.items)
             → Follows by_root.now.rules e.path (tree_at self.old id) e.term) }
+        ensures known { OnOk result (IsKnown by_root.now.rules self.new known.new) }
         ensures kept { Extends self.old self.new }
         ensures few { IfOk result (λ _. length self.new ≤ length self.old + count * size) }
     {
@@ -119,12 +151,11 @@ impl Pool {
             limit: count.max(1) as usize,
             size,
         };
-        let mut known = Known::new(alloc);
         let mut reached = Reached::new(alloc, id)?;
         let mut next = 0;
         while next < reached.list.len() && reached.list.len() < bounds.limit {
             let entry = reached.entry(alloc, next)?;
-            self.look_at(alloc, by_root, bounds, &entry, &mut known, &mut reached)?;
+            self.look_at(alloc, by_root, bounds, &entry, known, &mut reached)?;
             next += 1;
         }
         Ok(reached.list)

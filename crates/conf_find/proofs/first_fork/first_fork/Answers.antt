@@ -21,7 +21,7 @@ loop-n-init g c =
     record {
       passed = none_passed (PartsNot g.M.Marks.never_meet rules) c.args.peaks.now;
       before = tt;
-      sides = none_reached rules c.args.pairs.now.pool c.new-sides.result c.new-sides.ensures.lists (c.new-sides.ensures.known c.args.pairs.now.pool);
+      sides = none_reached rules c.args.pairs.now.pool c.new-sides.result c.new-sides.ensures.lists (c.new-sides.ensures.ids c.args.pairs.now.pool) (c.new-sides.ensures.known rules);
       marks = none_marked g.M.Marks.has_mark g.M.Marks.of_pool rules c.new-sides.result c.new-marks.result c.new-sides.ensures.lists (c.new-marks.ensures rules c.new-sides.result.pool);
       continues = record { later = c.stopped.ensures.later; kept = c.stopped.ensures.kept };
     }

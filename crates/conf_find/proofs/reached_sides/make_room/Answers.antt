@@ -2,7 +2,7 @@ use Rattle.conf_find.proofs.KeptReach.{none_reached, none_marked}
 use Rattle.conf_find.proofs.reached_sides.make_room.Goals as goal
 
 pub returns-clause-sides : goal.returns-clause-sides
-returns-clause-sides g c = λ rules from sides. none_reached rules from c.new.result c.new.ensures.lists (c.new.ensures.known from)
+returns-clause-sides g c = λ rules from sides. none_reached rules from c.new.result c.new.ensures.lists (c.new.ensures.ids from) (c.new.ensures.known rules)
 
 pub returns-clause-marks : goal.returns-clause-marks
 returns-clause-marks g c = λ rules marks.
