@@ -58,7 +58,7 @@ impl Instances {
     }
 
     /// The id of the instance that is noted for an id.
-    fn of(&self, id: u32) -> Option<u32>
+    pub fn of(&self, id: u32) -> Option<u32>
         ensures some { IfSome result (HasNoted self.now id) }
         ensures none { IfNone result (IsNoted self.now id → ⊥) }
     {
