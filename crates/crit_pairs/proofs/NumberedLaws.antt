@@ -23,10 +23,10 @@ use Rattle.trs_unify.proofs.NewNames.{length_first}
 use Rattle.crit_pairs.specs.Apart.{renamed_apart}
 use Rattle.crit_pairs.specs.InOrder.{in_order}
 use Rattle.crit_pairs.specs.Sides.{IsDistinct, AreRenumbered}
-use Rattle.crit_pairs.specs.Numbered.{AreNamed, IsNumbered}
+use Rattle.crit_pairs.specs.Numbered.{AreNamed, IsNumbered, place, placed}
 use Rattle.crit_pairs.proofs.InstanceVariables.{into_instance, of_instance, replaced_variable}
 use Rattle.crit_pairs.proofs.Renumbering.{first_count, none_distinct}
-use Rattle.crit_pairs.proofs.TermsInOrder.{place, place_listed, placed, in_order_renamed, variables_distinct}
+use Rattle.crit_pairs.proofs.TermsInOrder.{place_listed, in_order_renamed, variables_distinct}
 
 -- the variable that a number stands for, as a term
 abbrev named : List ℕ → ℕ → Tree

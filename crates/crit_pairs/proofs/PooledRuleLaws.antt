@@ -56,14 +56,14 @@ module _ (rules : List RewriteRule) (pool : List Tree) (sides : PooledRules) (k 
 
 -- ---- a pool that has grown, after an instance was made
 
-module _ (rules : List RewriteRule) (pool next : List Tree) (sides : PooledRules) (made : Instances) (numbered : NumberedVariables) (more : Extends pool next) (pooled : ArePooledRules rules pool sides) (are : AreVariableIds next numbered) where
+module _ (rules : List RewriteRule) (pool next : List Tree) (sides : PooledRules) (outer inner : Instances) (numbered : NumberedVariables) (more : Extends pool next) (pooled : ArePooledRules rules pool sides) (are : AreVariableIds next numbered) where
   rights_grown : ArePooledRights rules next sides.rights.items
   rights_grown = record {
     count = pooled.rights.count;
     each = λ k side r at there. side_still pool next r.right side more (pooled.rights.each k side r at there);
   }
 
-  pub pooled_instance : ArePooledRules rules next (record { rights = sides.rights; lefts = sides.lefts; ground = sides.ground; made = made; numbered = numbered })
+  pub pooled_instance : ArePooledRules rules next (record { rights = sides.rights; lefts = sides.lefts; ground = sides.ground; outer = outer; inner = inner; numbered = numbered })
   pooled_instance = record {
     small = pooled.small;
     rights = rights_grown;
@@ -77,7 +77,7 @@ module _ (rules : List RewriteRule) (pool next : List Tree) (sides : PooledRules
 
   -- a left side comes to it
   pub pooled_with_left : (n : ℕ) (new : PooledSide) (rule : RewriteRule) → slice_get rules n ≡ Some rule → IsPooledSide next rule.left new
-      → ArePooledRules rules next (record { rights = sides.rights; lefts = with_item sides.lefts n (Some new); ground = sides.ground; made = made; numbered = numbered })
+      → ArePooledRules rules next (record { rights = sides.rights; lefts = with_item sides.lefts n (Some new); ground = sides.ground; outer = outer; inner = inner; numbered = numbered })
   pooled_with_left n new rule numbered_rule is = record {
     small = pooled.small;
     rights = rights_grown;
@@ -95,9 +95,9 @@ module _ (rules : List RewriteRule) (pool next : List Tree) (sides : PooledRules
     numbered = are;
   }
 
-pub pooled_still : (rules : List RewriteRule) (pool next : List Tree) (sides : PooledRules) (made : Instances) → Extends pool next → ArePooledRules rules pool sides
-    → ArePooledRules rules next (record { rights = sides.rights; lefts = sides.lefts; ground = sides.ground; made = made; numbered = sides.numbered })
-pooled_still rules pool next sides made more pooled = pooled_instance rules pool next sides made sides.numbered more pooled (variable_ids_on pool next sides.numbered more pooled.numbered)
+pub pooled_still : (rules : List RewriteRule) (pool next : List Tree) (sides : PooledRules) (outer inner : Instances) → Extends pool next → ArePooledRules rules pool sides
+    → ArePooledRules rules next (record { rights = sides.rights; lefts = sides.lefts; ground = sides.ground; outer = outer; inner = inner; numbered = sides.numbered })
+pooled_still rules pool next sides outer inner more pooled = pooled_instance rules pool next sides outer inner sides.numbered more pooled (variable_ids_on pool next sides.numbered more pooled.numbered)
 
 -- ---- all rules
 

@@ -22,11 +22,10 @@ use Rattle.term_pool.specs.declared.noted_instances.Instances.{Instances}
 use Rattle.crit_pairs.specs.Meeting.{solution}
 use Rattle.crit_pairs.specs.Sides.{IsDistinct}
 use Rattle.term_pool.specs.Instances.{IsNoted, HasVariable}
-use Rattle.crit_pairs.specs.Numbered.{AreNamed, IsNumbered}
-use Rattle.crit_pairs.specs.PooledSide.{HasOwnId, numbers_of, IsPooledSide, side_tree, side_instance}
+use Rattle.crit_pairs.specs.Numbered.{AreNamed, IsNumbered, placed}
+use Rattle.crit_pairs.specs.PooledSide.{HasOwnId, numbers_of, IsPooledSide, side_tree, side_instance, value_of}
 use Rattle.crit_pairs.proofs.InstanceVariables.{into_instance}
 use Rattle.crit_pairs.proofs.Variants.{among_variables, occurs_among}
-use Rattle.crit_pairs.proofs.TermsInOrder.{placed}
 use Rattle.crit_pairs.proofs.NumberedLaws.{numbered_by, numbered_only, numbered_instance, renamed_known}
 
 -- ---- a side in a pool that has grown, and its own term
@@ -87,10 +86,6 @@ occurring_listed pool t side v h occurs =
     (k, x, is, same)
 
 -- ---- their instances
-
--- the instance of a variable of the side, with the numbers of the names
-abbrev pub value_of : Bindings → ℕ → List ℕ → ℕ → Tree
-value_of bindings from names v = placed names (solution bindings (from + v))
 
 -- the instances of the first variables are noted
 abbrev pub AreNoted : Instances → List PooledVariable → ℕ → Type 0

@@ -12,12 +12,9 @@ use Rattle.trs_unify.proofs.NewNames.{known_at, new_at, none_renamed, one_rename
 use Rattle.trs_unify.proofs.ListedVariables.{listed_get}
 use Rattle.term_pool.specs.LeftSides.{IsGround}
 use Rattle.crit_pairs.specs.InOrder.{in_order}
+use Rattle.crit_pairs.specs.Numbered.{place, placed}
 use Rattle.crit_pairs.specs.Sides.{IsDistinct, AreRenumbered}
 use Rattle.crit_pairs.proofs.Renumbering.{none_distinct, distinct_more, not_both, ground_renamed}
-
--- the place of a variable among names
-abbrev pub place : List ℕ → ℕ → ℕ
-place names v = position_or_len (λ n. n == v) names
 
 place_here : (n v : ℕ) (ns : List ℕ) → (n == v) ≡ true → place (n ∷ ns) v ≡ 0
 place_here n v ns e = rw e refl
@@ -41,10 +38,6 @@ place_new [] more v h = place_here v v more (has_var_self v)
 place_new (n ∷ ns) more v h =
     let parts = or_parts (n == v) (is_listed v ns) h in
     place_later n v (ns ++ v ∷ more) parts.0 ∙ ap suc (place_new ns more v parts.1)
-
--- the term with the places of its variables, where other names come first and later
-abbrev pub placed : List ℕ → Tree → Tree
-placed names t = apply (λ v. var (place names v)) t
 
 variable_placed : (v : ℕ) (known more : List ℕ) (b : Bool) → is_listed v known ≡ b
     → IsRenamed known (with_variables known (var v)) (var v) (placed (with_variables known (var v) ++ more) (var v))

@@ -29,7 +29,7 @@ use crate::table::PeakPair;
 use crate::unbuilt::results;
 use std::alloc::Global;
 use term_pool::{Instances, Pool};
-use trs_core::{MOST_VARIABLES, OutOfMemory, Rule, Term};
+use trs_core::{OutOfMemory, Rule, Term};
 
 /// The pair of the peak of rule `i` in rule `j` at a place, by a most general unifier, and the number of
 /// nodes of all peaks, where those before have so many.
@@ -171,12 +171,12 @@ fn bound_results(
     let outer = &rules.rules()[j];
     names.clear();
     name_instance(bindings, &outer.left, bindings.levels, names)?;
-    let right = sides.right_instance(alloc, bindings, j, 0, names, pool)?;
-    let by = sides.right_instance(alloc, bindings, i, MOST_VARIABLES, names, pool)?;
+    let right = sides.outer_right(alloc, bindings, j, names, pool)?;
+    let by = sides.inner_right(alloc, bindings, i, names, pool)?;
     if place.is_empty() {
         return Ok(PeakPair { left: by, right });
     }
-    let top = sides.left_instance(alloc, bindings, j, &outer.left, names, pool)?;
+    let top = sides.outer_left(alloc, bindings, j, &outer.left, names, pool)?;
     let left = pool.put(alloc, top, place, by)?;
     Ok(PeakPair { left, right })
 }

@@ -6,11 +6,13 @@ ghost use Rattle.trs_defs.specs.System.{RewriteRule};
 ghost use Rattle.trs_defs.specs.Tree.{Tree};
 ghost use Rattle.trs_core.specs.View.{tree};
 ghost use Rattle.term_pool.specs.Pooled.{Extends, StandsFor, tree_at};
+ghost use Rattle.term_pool.specs.Instances.{AreInstances};
 ghost use Rattle.term_pool.specs.LeftSides.{IsGround};
 ghost use Rattle.crit_pairs.specs.Meeting.{solution};
 ghost use Rattle.crit_pairs.specs.Numbered.{AreNamed, IsNumbered};
 ghost use Rattle.crit_pairs.specs.Sides.{IsDistinct};
 ghost use Rattle.crit_pairs.specs.declared.pooled_side.PooledSide.{PooledSide};
+ghost use Rattle.crit_pairs.specs.PooledSide.{value_of};
 ghost use Rattle.crit_pairs.specs.PooledTerms.{ArePooledRights, ArePooledRules};
 
 use crate::apart::RulesApart;
@@ -20,7 +22,7 @@ use crate::numbered_variables::NumberedVariables;
 use crate::pooled_side::PooledSide;
 use std::alloc::Global;
 use term_pool::{Instances, Pool};
-use trs_core::{OutOfMemory, Rule, Term};
+use trs_core::{MOST_VARIABLES, OutOfMemory, Rule, Term};
 
 /// The sides of the rules of a system in a pool, by the numbers of the rules.
 #[derive(Drop)]
@@ -30,8 +32,10 @@ pub(crate) struct PooledRules {
     pub lefts: Vec<Option<PooledSide>>,
     /// Of ids, whether their terms have no variable.
     pub ground: Vec<bool>,
-    /// The parts of one instance.
-    pub made: Instances,
+    /// The instances of parts of the outer rule's sides, for one peak.
+    pub outer: Instances,
+    /// Those of the inner rule's.
+    pub inner: Instances,
     /// The ids of the variables of instances.
     pub numbered: NumberedVariables,
 }
@@ -54,7 +58,8 @@ impl PooledRules {
             rights,
             lefts,
             ground,
-            made: Instances::new(alloc),
+            outer: Instances::new(alloc),
+            inner: Instances::new(alloc),
             numbered: NumberedVariables::new(alloc),
         })
     }
@@ -76,46 +81,86 @@ impl PooledRules {
         }
     }
 
-    /// The id of the instance of the right side of rule `k`, whose variables behind `from` are meant.
-    pub fn right_instance(
+    /// The id of the instance of the right side of rule `k`, the outer one.
+    pub fn outer_right(
         &mut self,
         alloc: Global,
         bindings: &Bindings,
         k: usize,
-        from: u32,
         names: &mut Names,
         pool: &mut Pool,
     ) -> Result<u32, OutOfMemory>
         requires named { (rules : List RewriteRule) × (r : RewriteRule)
             × ArePooledRules rules pool.old self.old × (slice_get rules k ≡ Some r)
-            × AreNamed names.old.order.items (apply (solution bindings.now) (shifted from r.right)) }
-        requires from { from ≤ 65536 }
+            × AreNamed names.old.order.items (apply (solution bindings.now) (shifted 0 r.right)) }
         requires distinct { IsDistinct names.old.order.items }
         ensures names { OnOk result (names.new.order.items ≡ names.old.order.items) }
         ensures numbered { (rules : List RewriteRule) (r : RewriteRule)
             → ArePooledRules rules pool.old self.old → slice_get rules k ≡ Some r
             → IfOk result (λ id. IsNumbered names.old.order.items
-            (apply (solution bindings.now) (shifted from r.right)) (tree_at pool.new id)) }
+            (apply (solution bindings.now) (shifted 0 r.right)) (tree_at pool.new id)) }
         ensures there { IfOk result (λ id. id < length pool.new) }
         ensures pooled { (rules : List RewriteRule) → ArePooledRules rules pool.old self.old
             → OnOk result (ArePooledRules rules pool.new self.new) }
         ensures kept { Extends pool.old pool.new }
+        ensures outer { OnOk result (AreInstances
+            (value_of bindings.now 0 names.old.order.items) pool.new self.new.outer) }
     {
+        self.outer.clear();
         let side = &self.rights[k];
         side.instance(
             alloc,
             bindings,
-            from,
+            0,
             names,
             &self.ground,
-            &mut self.made,
+            &mut self.outer,
             &mut self.numbered,
             pool,
         )
     }
 
-    /// The id of the instance of the left side of rule `k`, which is this term.
-    pub fn left_instance(
+    /// The id of the instance of the right side of rule `k`, the inner one, renamed apart.
+    pub fn inner_right(
+        &mut self,
+        alloc: Global,
+        bindings: &Bindings,
+        k: usize,
+        names: &mut Names,
+        pool: &mut Pool,
+    ) -> Result<u32, OutOfMemory>
+        requires named { (rules : List RewriteRule) × (r : RewriteRule)
+            × ArePooledRules rules pool.old self.old × (slice_get rules k ≡ Some r)
+            × AreNamed names.old.order.items (apply (solution bindings.now) (shifted 65536 r.right)) }
+        requires distinct { IsDistinct names.old.order.items }
+        ensures names { OnOk result (names.new.order.items ≡ names.old.order.items) }
+        ensures numbered { (rules : List RewriteRule) (r : RewriteRule)
+            → ArePooledRules rules pool.old self.old → slice_get rules k ≡ Some r
+            → IfOk result (λ id. IsNumbered names.old.order.items
+            (apply (solution bindings.now) (shifted 65536 r.right)) (tree_at pool.new id)) }
+        ensures there { IfOk result (λ id. id < length pool.new) }
+        ensures pooled { (rules : List RewriteRule) → ArePooledRules rules pool.old self.old
+            → OnOk result (ArePooledRules rules pool.new self.new) }
+        ensures kept { Extends pool.old pool.new }
+        ensures outer { OnOk result (self.new.outer ≡ self.old.outer) }
+    {
+        self.inner.clear();
+        let side = &self.rights[k];
+        side.instance(
+            alloc,
+            bindings,
+            MOST_VARIABLES,
+            names,
+            &self.ground,
+            &mut self.inner,
+            &mut self.numbered,
+            pool,
+        )
+    }
+
+    /// The id of the instance of the left side of rule `k`, the outer one, which is this term. What is
+    /// noted of instances of its parts is not made again.
+    pub fn outer_left(
         &mut self,
         alloc: Global,
         bindings: &Bindings,
@@ -129,6 +174,8 @@ impl PooledRules {
             × (r.left ≡ tree left.now) }
         requires named { AreNamed names.old.order.items
             (apply (solution bindings.now) (tree left.now)) }
+        requires outer { AreInstances
+            (value_of bindings.now 0 names.old.order.items) pool.old self.old.outer }
         requires distinct { IsDistinct names.old.order.items }
         ensures names { OnOk result (names.new.order.items ≡ names.old.order.items) }
         ensures numbered { IfOk result (λ id. IsNumbered names.old.order.items
@@ -146,7 +193,7 @@ impl PooledRules {
                 0,
                 names,
                 &self.ground,
-                &mut self.made,
+                &mut self.outer,
                 &mut self.numbered,
                 pool,
             );
@@ -158,7 +205,7 @@ impl PooledRules {
             0,
             names,
             &self.ground,
-            &mut self.made,
+            &mut self.outer,
             &mut self.numbered,
             pool,
         )?;

@@ -7,7 +7,8 @@ ghost use Rattle.term_pool.specs.LeftSides.{AreGround};
 ghost use Rattle.crit_pairs.specs.Sides.{IsDistinct};
 ghost use Rattle.crit_pairs.specs.Numbered.{AreNamed, IsNumbered};
 ghost use Rattle.crit_pairs.specs.NumberedVariables.{AreVariableIds};
-ghost use Rattle.crit_pairs.specs.PooledSide.{IsPooledSide, side_tree, side_instance};
+ghost use Rattle.crit_pairs.specs.PooledSide.{IsPooledSide, side_tree, side_instance, value_of};
+ghost use Rattle.term_pool.specs.Instances.{AreInstances};
 
 use crate::binding_table::Bindings;
 use crate::names::Names;
@@ -59,7 +60,8 @@ impl PooledSide {
     }
 
     /// The id of the instance of the side, whose variables behind `from` are meant: 0, or the number
-    /// by which inner rules are renamed apart. The instance has the numbers of the names.
+    /// by which inner rules are renamed apart. The instance has the numbers of the names. What is
+    /// noted of instances by the same bindings and names is not made again.
     pub fn instance(
         &self,
         alloc: Global,
@@ -78,22 +80,27 @@ impl PooledSide {
         requires named { AreNamed names.old.order.items
             (side_instance bindings.now from pool.old self.now) }
         requires ground { AreGround pool.old ground.now }
+        requires made { AreInstances (value_of bindings.now from names.old.order.items)
+            pool.old made.old }
         requires ids { AreVariableIds pool.old numbered.old }
         ensures names { OnOk result (names.new.order.items ≡ names.old.order.items) }
         ensures numbered { IfOk result (λ id. IsNumbered names.old.order.items
             (side_instance bindings.now from pool.old self.now) (tree_at pool.new id)) }
         ensures there { IfOk result (λ id. id < length pool.new) }
         ensures kept { Extends pool.old pool.new }
+        ensures made { OnOk result (AreInstances (value_of bindings.now from names.old.order.items)
+            pool.new made.new) }
         ensures ids { OnOk result (AreVariableIds pool.new numbered.new) }
     {
         if self.variables.is_empty() {
             return Ok(self.id);
         }
-        made.clear();
         for x in &self.variables {
-            let v = from + x.number;
-            let id = renumber_variable_in_pool(alloc, bindings, v, names, numbered, pool)?;
-            made.note(x.id, id)?;
+            if made.of(x.id).is_none() {
+                let v = from + x.number;
+                let id = renumber_variable_in_pool(alloc, bindings, v, names, numbered, pool)?;
+                made.note(x.id, id)?;
+            }
         }
         pool.instance_by(alloc, self.id, ground, made)
     }

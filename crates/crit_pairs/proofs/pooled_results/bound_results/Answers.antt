@@ -9,6 +9,8 @@ use Rattle.trs_core.specs.View.{tree}
 use Rattle.term_pool.specs.Pooled.{tree_at}
 use Rattle.crit_pairs.specs.Meeting.{solution}
 use Rattle.crit_pairs.specs.Numbered.{AreNamed, IsNumbered}
+use Rattle.crit_pairs.specs.PooledSide.{value_of}
+use Rattle.term_pool.proofs.InstanceLaws.{instances_on}
 use Rattle.crit_pairs.proofs.SpotPeaks.{no_places}
 use Rattle.crit_pairs.proofs.NumberedLaws.{can_be_put}
 use Rattle.crit_pairs.proofs.PooledResultLaws.{left_named, outer_named, inner_named, root_results, below_results}
@@ -31,26 +33,26 @@ named c =
     let opened : c.name_instance.new.names.order.items ≡ variables_of (apply σ (tree c.outer.inside.left)) = rw c.clear.ensures at c.in_ok-name_instance.ensures.order in
     opened ∙ ap (λ t. variables_of (apply σ t)) (left_is c)
 
-pub right_instance-requires-clause-named : goal.right_instance-requires-clause-named
-right_instance-requires-clause-named c =
+pub outer_right-requires-clause-named : goal.outer_right-requires-clause-named
+outer_right-requires-clause-named c =
     let u = c.requires.unifier in (
       c.args.rules.now.rules,
       u.outer,
       c.requires.pooled,
       u.outer_numbered,
       outer_named c.args.rules.now c.rules.ensures.valid c.args.j c.args.i c.args.place.now (solution c.args.bindings.now) u
-          c.name_instance.new.names.order.items (named (goal.at.right_instance-requires-clause-named c).In_ok-name_instance),
+          c.name_instance.new.names.order.items (named (goal.at.outer_right-requires-clause-named c).In_ok-name_instance),
     )
 
-pub right_instance-requires-2-clause-named : goal.right_instance-requires-2-clause-named
-right_instance-requires-2-clause-named c =
+pub inner_right-requires-clause-named : goal.inner_right-requires-clause-named
+inner_right-requires-clause-named c =
     let u = c.requires.unifier in (
       c.args.rules.now.rules,
       u.inner,
       c.in_ok-right.ensures.pooled c.args.rules.now.rules c.requires.pooled,
       u.inner_numbered,
       inner_named c.args.rules.now c.rules.ensures.valid c.args.j c.args.i c.args.place.now
-          (solution c.args.bindings.now) u c.right_instance.new.names.order.items (c.in_ok-right.ensures.names ∙ named (goal.at.right_instance-requires-2-clause-named c).In_ok-name_instance),
+          (solution c.args.bindings.now) u c.outer_right.new.names.order.items (c.in_ok-right.ensures.names ∙ named (goal.at.inner_right-requires-clause-named c).In_ok-name_instance),
     )
 
 pub returns-then-is_empty-clause-results : goal.returns-then-is_empty-clause-results
@@ -59,24 +61,24 @@ returns-then-is_empty-clause-results c =
     let rules = c.args.rules.now.rules in
     let pooled = c.in_ok-right.ensures.pooled rules c.requires.pooled in
     root_results rules c.args.j c.args.i c.args.place.now (solution c.args.bindings.now) u c.name_instance.new.names.order.items (named (goal.at.returns-then-is_empty-clause-results c).In_ok-name_instance)
-    c.right_instance.new.names.order.items c.right_instance.new.pool c.right_instance-2.new.pool c.in_ok-by.by c.in_ok-right.right
+    c.outer_right.new.names.order.items c.outer_right.new.pool c.inner_right.new.pool c.in_ok-by.by c.in_ok-right.right
     (no_places c.args.place.now c.is_empty.result c.is_empty.ensures c.if-is_empty.true) c.in_ok-right.ensures.names c.in_ok-by.ensures.kept c.in_ok-right.ensures.there c.in_ok-by.ensures.there
     (c.in_ok-right.ensures.numbered rules u.outer c.requires.pooled u.outer_numbered) (c.in_ok-by.ensures.numbered rules u.inner pooled u.inner_numbered)
 
-pub left_instance-requires-clause-left : goal.left_instance-requires-clause-left
-left_instance-requires-clause-left c =
+pub outer_left-requires-clause-left : goal.outer_left-requires-clause-left
+outer_left-requires-clause-left c =
     let rules = c.args.rules.now.rules in (
       rules,
       c.requires.unifier.outer,
       c.in_ok-by.ensures.pooled rules (c.in_ok-right.ensures.pooled rules c.requires.pooled),
       c.requires.unifier.outer_numbered,
-      sym (left_is (goal.at.left_instance-requires-clause-left c).In_ok-name_instance),
+      sym (left_is (goal.at.outer_left-requires-clause-left c).In_ok-name_instance),
     )
 
-pub left_instance-requires-clause-named : goal.left_instance-requires-clause-named
-left_instance-requires-clause-named c =
-    let at = (goal.at.left_instance-requires-clause-named c).In_ok-name_instance in
-    let names = c.right_instance-2.new.names.order.items in
+pub outer_left-requires-clause-named : goal.outer_left-requires-clause-named
+outer_left-requires-clause-named c =
+    let at = (goal.at.outer_left-requires-clause-named c).In_ok-name_instance in
+    let names = c.inner_right.new.names.order.items in
     let σ = solution c.args.bindings.now in
     let same = c.in_ok-by.ensures.names ∙ (c.in_ok-right.ensures.names ∙ named at) in
     subst (λ t. AreNamed names (apply σ t)) (sym (left_is at)) (left_named c.args.rules.now c.rules.ensures.valid c.args.j c.args.i c.args.place.now σ c.requires.unifier names same)
@@ -87,7 +89,7 @@ put-requires-clause-put c =
     let σ = solution c.args.bindings.now in
     let place = c.args.place.now in
     let there = subterm_image σ place (tree c.outer.inside.left) u.part (subst (λ t. subterm_at place t ≡ Some u.part) (sym (left_is (goal.at.put-requires-clause-put c).In_ok-name_instance)) u.there) in
-    can_be_put c.right_instance-2.new.names.order.items place (apply σ (tree c.outer.inside.left)) (apply σ u.part) c.left_instance.new.pool c.in_ok-top.top c.in_ok-by.by c.in_ok-top.ensures.numbered there
+    can_be_put c.inner_right.new.names.order.items place (apply σ (tree c.outer.inside.left)) (apply σ u.part) c.outer_left.new.pool c.in_ok-top.top c.in_ok-by.by c.in_ok-top.ensures.numbered there
 
 pub returns-clause-results : goal.returns-clause-results
 returns-clause-results c =
@@ -96,11 +98,11 @@ returns-clause-results c =
     let rules = c.args.rules.now.rules in
     let σ = solution c.args.bindings.now in
     let pooled = c.in_ok-right.ensures.pooled rules c.requires.pooled in
-    let later = c.right_instance-2.new.names.order.items in
-    let top : IsNumbered later (apply σ u.outer.left) (tree_at c.left_instance.new.pool c.in_ok-top.top) =
-    subst (λ t. IsNumbered later (apply σ t) (tree_at c.left_instance.new.pool c.in_ok-top.top)) (left_is at) c.in_ok-top.ensures.numbered in
-    below_results rules c.args.j c.args.i c.args.place.now σ u c.name_instance.new.names.order.items (named at) c.right_instance.new.names.order.items later c.right_instance.new.pool c.right_instance-2.new.pool
-    c.left_instance.new.pool c.put.new.self c.in_ok-by.by c.in_ok-right.right c.in_ok-top.top c.in_ok-left.left c.in_ok-right.ensures.names (c.in_ok-by.ensures.names ∙ c.in_ok-right.ensures.names)
+    let later = c.inner_right.new.names.order.items in
+    let top : IsNumbered later (apply σ u.outer.left) (tree_at c.outer_left.new.pool c.in_ok-top.top) =
+    subst (λ t. IsNumbered later (apply σ t) (tree_at c.outer_left.new.pool c.in_ok-top.top)) (left_is at) c.in_ok-top.ensures.numbered in
+    below_results rules c.args.j c.args.i c.args.place.now σ u c.name_instance.new.names.order.items (named at) c.outer_right.new.names.order.items later c.outer_right.new.pool c.inner_right.new.pool
+    c.outer_left.new.pool c.put.new.self c.in_ok-by.by c.in_ok-right.right c.in_ok-top.top c.in_ok-left.left c.in_ok-right.ensures.names (c.in_ok-by.ensures.names ∙ c.in_ok-right.ensures.names)
     c.in_ok-by.ensures.kept c.in_ok-top.ensures.kept c.in_ok-left.ensures.kept c.in_ok-right.ensures.there c.in_ok-by.ensures.there c.in_ok-left.ensures.there
     (c.in_ok-right.ensures.numbered rules u.outer c.requires.pooled u.outer_numbered) (c.in_ok-by.ensures.numbered rules u.inner pooled u.inner_numbered) top c.in_ok-left.ensures.id
 
@@ -109,4 +111,10 @@ returns-clause-pooled c =
     let rules = c.args.rules.now.rules in
     let pooled = c.in_ok-by.ensures.pooled rules (c.in_ok-right.ensures.pooled rules c.requires.pooled) in
     let left = c.in_ok-top.ensures.pooled rules c.requires.unifier.outer pooled c.requires.unifier.outer_numbered (sym (left_is (goal.at.returns-clause-pooled c).In_ok-name_instance)) in
-    pooled_still rules c.left_instance.new.pool c.put.new.self c.left_instance.new.self c.left_instance.new.self.made c.in_ok-left.ensures.kept left
+    pooled_still rules c.outer_left.new.pool c.put.new.self c.outer_left.new.self c.outer_left.new.self.outer c.outer_left.new.self.inner c.in_ok-left.ensures.kept left
+
+pub outer_left-requires-clause-outer : goal.outer_left-requires-clause-outer
+outer_left-requires-clause-outer c =
+    let value = value_of c.args.bindings.now 0 c.name_instance.new.names.order.items in
+    let noted = instances_on value c.outer_right.new.pool c.inner_right.new.pool c.outer_right.new.self.outer c.in_ok-by.ensures.kept c.in_ok-right.ensures.outer in
+    rw (c.in_ok-by.ensures.outer, c.in_ok-by.ensures.names, c.in_ok-right.ensures.names) noted

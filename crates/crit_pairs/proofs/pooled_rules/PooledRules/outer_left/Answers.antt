@@ -7,13 +7,13 @@ use Rattle.term_pool.specs.Pooled.{Extends, tree_at}
 use Rattle.term_pool.proofs.Extending.{extends_on}
 use Rattle.crit_pairs.specs.Meeting.{solution}
 use Rattle.crit_pairs.specs.Numbered.{AreNamed, IsNumbered}
-use Rattle.crit_pairs.specs.PooledSide.{IsPooledSide, side_instance}
-use Rattle.term_pool.proofs.InstanceLaws.{ground_on}
+use Rattle.crit_pairs.specs.PooledSide.{IsPooledSide, side_instance, value_of}
+use Rattle.term_pool.proofs.InstanceLaws.{ground_on, instances_on}
 use Rattle.crit_pairs.proofs.PooledRuleLaws.{left_read, left_number, left_small, pooled_instance, pooled_with_left}
 use Rattle.crit_pairs.proofs.VariableIds.{variable_ids_on}
 use Rattle.crit_pairs.proofs.PooledSides.{of_own_tree, own_instance_is, side_still}
-use Rattle.crit_pairs.proofs.pooled_rules.PooledRules.left_instance.Goals.{After-deref, In-Some, In_ok-side}
-use Rattle.crit_pairs.proofs.pooled_rules.PooledRules.left_instance.Goals as goal
+use Rattle.crit_pairs.proofs.pooled_rules.PooledRules.outer_left.Goals.{After-deref, In-Some, In_ok-side}
+use Rattle.crit_pairs.proofs.pooled_rules.PooledRules.outer_left.Goals as goal
 
 -- the side that was there, and the one that is made
 known_side : (c : In-Some) → IsPooledSide c.args.pool.now c.requires.left.1.left c.in-Some.side
@@ -50,7 +50,7 @@ pub returns-in-Some-clause-pooled : goal.returns-in-Some-clause-pooled
 returns-in-Some-clause-pooled c = λ rules r pooled numbered is.
     let sides = c.instance.new in
     on_ok_weaker c.instance.result
-    (pooled_instance rules c.args.pool.now sides.pool c.args.self.now sides.made sides.numbered c.instance.ensures.kept pooled) c.instance.ensures.ids
+    (pooled_instance rules c.args.pool.now sides.pool c.args.self.now sides.made c.args.self.now.inner sides.numbered c.instance.ensures.kept pooled) c.instance.ensures.ids
 
 pub instance-requires-2-clause-side : goal.instance-requires-2-clause-side
 instance-requires-2-clause-side c = of_own_tree c.of.new.pool _ c.in_ok-side.side c.in_ok-side.ensures.side
@@ -82,9 +82,13 @@ pub returns-clause-pooled : goal.returns-clause-pooled
 returns-clause-pooled c = λ rules r pooled numbered is.
     let more : Extends c.args.pool.now c.instance-2.new.pool = extends_on c.args.pool.now c.of.new.pool c.instance-2.new.pool c.in_ok-side.ensures.kept c.in_ok-id.ensures.kept in
     let here : IsPooledSide c.of.new.pool r.left c.in_ok-side.side = subst (λ t. IsPooledSide c.of.new.pool t c.in_ok-side.side) (sym is) c.in_ok-side.ensures.side in
-    pooled_with_left rules c.args.pool.now c.instance-2.new.pool c.args.self.now c.instance-2.new.made c.instance-2.new.numbered more pooled c.in_ok-id.ensures.ids c.args.k c.in_ok-side.side r numbered
+    pooled_with_left rules c.args.pool.now c.instance-2.new.pool c.args.self.now c.instance-2.new.made c.args.self.now.inner c.instance-2.new.numbered more pooled c.in_ok-id.ensures.ids c.args.k c.in_ok-side.side r numbered
     (side_still c.of.new.pool c.instance-2.new.pool r.left c.in_ok-side.side c.in_ok-id.ensures.kept here)
 
 pub instance-requires-2-clause-ids : goal.instance-requires-2-clause-ids
 instance-requires-2-clause-ids c =
     variable_ids_on c.args.pool.now c.of.new.pool c.args.self.now.numbered c.in_ok-side.ensures.kept c.requires.left.2.numbered
+
+pub instance-requires-2-clause-made : goal.instance-requires-2-clause-made
+instance-requires-2-clause-made c =
+    instances_on (value_of c.args.bindings.now 0 c.args.names.now.order.items) c.args.pool.now c.of.new.pool c.args.self.now.outer c.in_ok-side.ensures.kept c.requires.outer
