@@ -56,11 +56,11 @@ fn compare_roots<T: Terms, E: Effort>(
                 Ok(Comparison::greater_if(reaches))
             }
             Root::Symbol(g, ts) => {
-                if terms.rank(g) < terms.rank(f) {
-                    let exceeds = exceeds_all(terms, memory, effort, s, ts)?;
-                    return Ok(Comparison::greater_if(exceeds));
-                }
                 if f != g {
+                    if terms.rank(g) < terms.rank(f) {
+                        let exceeds = exceeds_all(terms, memory, effort, s, ts)?;
+                        return Ok(Comparison::greater_if(exceeds));
+                    }
                     let reaches = some_reaches(terms, memory, effort, ss, t)?;
                     return Ok(Comparison::greater_if(reaches));
                 }

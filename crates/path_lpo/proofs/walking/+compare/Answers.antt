@@ -29,7 +29,7 @@ pub compare_roots-returns-then-not-are_as_many-clause-comparison : goal.compare_
 compare_roots-returns-then-not-are_as_many-clause-comparison g t c =
     let r = g.T.Terms.ranks c.args.terms.now in
     let w = g.T.Terms.walked c.args.terms.now in
-    let le : r c.in-Symbol.f ≤ r c.in-Symbol-root-2.g = omega (arith, c.rank.ensures, c.rank-in-Symbol-root-2.ensures, c.if-rank.false) in
+    let le : r c.in-Symbol.f ≤ r c.in-Symbol-root-2.g = omega (arith, ap r c.if-f-g.false) in
     other_count r c.in-Symbol.f (w.trees c.in-Symbol.ss) (w.tree c.args.s) (w.tree c.args.t) c.in-Symbol.ensures.whole c.in_ok-reaches-in-Symbol-root-2-2.reaches c.greater_if-then-not-are_as_many.result c.greater_if-then-not-are_as_many.ensures c.in-Symbol-root-2.g (w.trees c.in-Symbol-root-2.ts) c.in-Symbol-root-2.ensures.whole le
     (λ n. let yes : IsTrue c.are_as_many.result = c.are_as_many.ensures.1 n in absurd (cc (yes, c.if-not-are_as_many.true)))
     c.in_ok-reaches-in-Symbol-root-2-2.ensures.reaches
