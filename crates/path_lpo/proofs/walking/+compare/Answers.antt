@@ -15,14 +15,14 @@ pub compare_roots-returns-then-rank-clause-comparison : goal.compare_roots-retur
 compare_roots-returns-then-rank-clause-comparison g t c =
     let r = g.T.Terms.ranks c.args.terms.now in
     let w = g.T.Terms.walked c.args.terms.now in
-    let less : r c.in-Symbol-root-2.g < r c.in-Symbol.f = omega (arith, c.rank.ensures, c.rank-in-Symbol-root-2.ensures, c.if-rank.true) in
+    let less : r c.in-Symbol-root-2.g < r c.in-Symbol.f = omega (arith, c.rank.ensures, c.rank-then-f-g.ensures, c.if-rank.true) in
     greater_rank r c.in-Symbol.f (w.trees c.in-Symbol.ss) (w.tree c.args.s) (w.tree c.args.t) c.in-Symbol.ensures.whole c.in_ok-exceeds-in-Symbol-root-2.exceeds c.greater_if-then-rank.result c.greater_if-then-rank.ensures c.in-Symbol-root-2.g (w.trees c.in-Symbol-root-2.ts) c.in-Symbol-root-2.ensures.whole less c.in_ok-exceeds-in-Symbol-root-2.ensures.exceeds
 
 pub compare_roots-returns-then-f-g-clause-comparison : goal.compare_roots-returns-then-f-g-clause-comparison
 compare_roots-returns-then-f-g-clause-comparison g t c =
     let r = g.T.Terms.ranks c.args.terms.now in
     let w = g.T.Terms.walked c.args.terms.now in
-    let le : r c.in-Symbol.f ≤ r c.in-Symbol-root-2.g = omega (arith, c.rank.ensures, c.rank-in-Symbol-root-2.ensures, c.if-rank.false) in
+    let le : r c.in-Symbol.f ≤ r c.in-Symbol-root-2.g = omega (arith, c.rank.ensures, c.rank-then-f-g.ensures, c.if-rank.false) in
     other_root r c.in-Symbol.f (w.trees c.in-Symbol.ss) (w.tree c.args.s) (w.tree c.args.t) c.in-Symbol.ensures.whole c.in_ok-reaches-in-Symbol-root-2.reaches c.greater_if-then-f-g.result c.greater_if-then-f-g.ensures c.in-Symbol-root-2.g (w.trees c.in-Symbol-root-2.ts) c.in-Symbol-root-2.ensures.whole le c.if-f-g.true c.in_ok-reaches-in-Symbol-root-2.ensures.reaches
 
 pub compare_roots-returns-then-not-are_as_many-clause-comparison : goal.compare_roots-returns-then-not-are_as_many-clause-comparison
