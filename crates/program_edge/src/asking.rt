@@ -10,6 +10,7 @@ use command_line::Question;
 use conclusion::{Gate, answer_question, answer_question_with};
 use names_text::NamedTrs;
 use std::alloc::{AllocError, Global};
+use std::mem::forget;
 use std::sync::Wait;
 use std::thread::Threads;
 
@@ -47,6 +48,29 @@ pub fn conclude(
 {
     match read_problem(alloc, problem) {
         Ok(system) => conclude_about(alloc, &system, question, budget),
+        Err(AriFault::OutOfMemory) => Err(AllocError),
+        Err(fault) => Ok(Conclusion::Refused(fault)),
+    }
+}
+
+/// The same for the last question of a process. The memory of the system is not given back: it goes
+/// as a whole where the process ends.
+pub fn conclude_last(
+    alloc: Global,
+    problem: &[u8],
+    question: Question,
+    budget: u64,
+) -> Result<Conclusion, AllocError>
+    requires { length problem.now ≤ most_problem_bytes }
+    ensures { IfOk result (λ c.
+        IsConclusion problem.now question 1 budget (conclusion_status c) (conclusion_text c)) }
+{
+    match read_problem(alloc, problem) {
+        Ok(system) => {
+            let conclusion = conclude_about(alloc, &system, question, budget);
+            forget(system);
+            conclusion
+        }
         Err(AriFault::OutOfMemory) => Err(AllocError),
         Err(fault) => Ok(Conclusion::Refused(fault)),
     }

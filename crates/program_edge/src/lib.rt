@@ -10,7 +10,7 @@ mod pieces;
 mod status;
 mod words;
 
-pub use asking::{Conclusion, conclude, conclude_with};
+pub use asking::{Conclusion, conclude, conclude_last, conclude_with};
 pub use conclusion::{Gate, OpenGate, fits_version_two, print_version_two};
 pub use fetching::{MOST_PROBLEM_BYTES, Unfetched, name_fault};
 pub use lines::put_refused;

@@ -9,7 +9,7 @@ ghost use Rattle.trsprove.specs.Answers.{status_of, text_of};
 use crate::answer::{Answer, not_fetched};
 use command_line::Question;
 use io_edge::Shelf;
-use program_edge::{Conclusion, Gate, MOST_PROBLEM_BYTES, conclude, conclude_with};
+use program_edge::{Conclusion, Gate, MOST_PROBLEM_BYTES, conclude_last, conclude_with};
 use std::alloc::{AllocError, Global};
 use std::sync::Wait;
 use std::thread::Threads;
@@ -65,7 +65,7 @@ fn ask_about<'a>(
     ensures { IfOk result (λ a.
         IsConclusion problem.now question 1 budget (status_of a) (text_of a)) }
 {
-    let conclusion = conclude(alloc, problem, question, budget)?;
+    let conclusion = conclude_last(alloc, problem, question, budget)?;
     Ok(answer_of(conclusion))
 }
 

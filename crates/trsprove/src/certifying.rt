@@ -16,6 +16,7 @@ use command_line::Wanted;
 use io_edge::Shelf;
 use program_edge::{MOST_PROBLEM_BYTES, fits_version_two, print_version_two};
 use std::alloc::{AllocError, Global};
+use std::mem::forget;
 
 /// The most bytes of a certificate text.
 const MOST_CERTIFICATE_BYTES: u64 = 8_388_608;
@@ -53,7 +54,12 @@ fn judge<'a>(
         Verdict problem.now certificate.now wanted (status_of a) (text_of a)) }
 {
     match accepted_proof(alloc, problem, certificate) {
-        Ok(proof) => write_proof(alloc, wanted, &proof),
+        Ok(proof) => {
+            let answer = write_proof(alloc, wanted, &proof);
+            // Its memory goes as a whole where the process ends.
+            forget(proof);
+            answer
+        }
         Err(Rejected::Problem(fault)) => Ok(Answer::Refused(fault)),
         Err(Rejected::OutOfMemory) => Err(AllocError),
         Err(rejected) => Ok(Answer::Rejected(rejected_line(alloc, &rejected)?)),
