@@ -1,11 +1,10 @@
 -- Terms whose variables are numbered in order of first occurrence.
 use Rattle.std.proofs.Common.{◌≡◌, ℕ, suc, Bool, true, false, List, [], ◌∷◌, ◌++◌, length, Some, refl, ap, sym, ◌∙◌, subst, arith, slice_get, append_assoc, append-nil}
 use Rattle.std.specs.Prelude.{◌==◌}
-use Rattle.std.specs.List.{position_or_len}
 use Rattle.std.proofs.lemmas.Bool.{or_parts}
 use Rattle.trs_defs.specs.Tree.{Tree, Trees, var, app, nil, cons}
 use Rattle.trs_defs.specs.Variable.{is_listed, with_variables, with_variables_of_all, variables_of}
-use Rattle.trs_defs.specs.Substitution.{apply, apply_all}
+use Rattle.trs_defs.specs.Substitution.{apply_all}
 use Rattle.trs_defs.proofs.VariableLaws.{has_var_self}
 use Rattle.trs_unify.specs.Renamed.{IsRenamed, AreRenamed}
 use Rattle.trs_unify.proofs.NewNames.{known_at, new_at, none_renamed, one_renamed, symbol_renamed}

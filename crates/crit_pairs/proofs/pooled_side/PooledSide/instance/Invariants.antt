@@ -2,7 +2,8 @@ use Rattle.std.proofs.Common.{◌≡◌}
 use Rattle.term_pool.specs.Pooled.{Extends}
 use Rattle.term_pool.specs.Instances.{AreInstances}
 use Rattle.crit_pairs.specs.NumberedVariables.{AreVariableIds}
-use Rattle.crit_pairs.proofs.PooledSides.{value_of, AreNoted}
+use Rattle.crit_pairs.specs.PooledSide.{value_of}
+use Rattle.crit_pairs.proofs.PooledSides.{AreNoted}
 use Rattle.crit_pairs.proofs.pooled_side.PooledSide.instance.Given as goal
 
 abbrev pub invariant-loop-x : goal.invariant-loop-x
