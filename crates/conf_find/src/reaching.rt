@@ -36,7 +36,9 @@ pub(crate) fn reach(
     ensures kept { Extends pool.old pool.new }
 {
     paths_keep_narrow(by_root.trs());
-    pool.reach_knowing(alloc, by_root, id, MOST_STEPS, MOST_TERMS, MOST_NODES, known)
+    pool.reach_knowing(
+        alloc, by_root, id, MOST_STEPS, MOST_TERMS, MOST_NODES, known,
+    )
 }
 
 /// An entry of a list, by its number.

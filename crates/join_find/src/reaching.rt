@@ -34,5 +34,7 @@ pub(crate) fn reach(
     ensures known { OnOk result (IsKnown by_root.now.rules pool.new known.new) }
     ensures kept { Extends pool.old pool.new }
 {
-    pool.reach_knowing(alloc, by_root, id, MOST_STEPS, MOST_TERMS, MOST_NODES, known)
+    pool.reach_knowing(
+        alloc, by_root, id, MOST_STEPS, MOST_TERMS, MOST_NODES, known,
+    )
 }
